@@ -1,0 +1,117 @@
+-- What an operation of one side does to the chip, and what it answers.
+use Rattle.std.specs.Prelude.{ℕ, ◌+◌, ◌/◌, ◌%◌, ◌^◌, ◌<◌, ◌==◌, ◌&&◌, nat_lt, Bool, not, if◌then◌else◌}
+use Rattle.beeb_bits.specs.Bits.{bit}
+use Rattle.beeb_bits.specs.declared.Side.{Side}
+use Rattle.beeb_bits.specs.declared.Side.TheVariants.{Host, Para}
+use Rattle.tube_chip.specs.declared.Op.{Op}
+use Rattle.tube_chip.specs.declared.Op.TheVariants.{Read, Write}
+use Rattle.tube_chip.specs.declared.Answer.{Answer}
+use Rattle.tube_chip.specs.declared.Answer.TheVariants.{Byte, Seen}
+use Rattle.tube_chip.specs.Register.{count, front_of, taken, written}
+use Rattle.tube_chip.specs.State.{State, Flags, register, with_register, incoming, outgoing, with_incoming, with_outgoing, capacity, is_empty, is_ready, wants_service, asks_nmi, lines_of, cleared}
+
+-- A side may do this operation: the number is one of the eight.
+abbrev pub MayDo : Side → Op → Type 0
+MayDo side (Read number) = number < 8
+MayDo side (Write number byte) = number < 8
+
+-- Numbers 0, 2, 4, 6 are the status of registers 1 to 4, and 1, 3, 5, 7 their byte.
+abbrev pub is_status : ℕ → Bool
+is_status number = number % 2 == 0
+
+abbrev pub register_number : ℕ → ℕ
+register_number number = number / 2 + 1
+
+-- a bit of this weight, where it is set
+abbrev pub weight : ℕ → Bool → ℕ
+weight n b = if b then n else 0
+
+-- P V M J I Q, from bit 5 to bit 0
+abbrev pub flags_byte : Flags → ℕ
+flags_byte f = weight 32 f.p + weight 16 f.v + weight 8 f.m + weight 4 f.j + weight 2 f.i + weight 1 f.q
+
+-- Bit 7 of a status: the register holds what the side may read. For register 3 the parasite sees N.
+abbrev pub is_available : Side → ℕ → State → Bool
+is_available Host k c = if k == 3 then is_ready c.flags.v c.to_host.r3 else not (is_empty (register k c.to_host))
+is_available Para k c = if k == 3 then wants_service c else not (is_empty (register k c.to_para))
+
+-- Bit 6 of a status: the register has room for what the side writes.
+abbrev pub is_not_full : Side → ℕ → State → Bool
+is_not_full side k c = nat_lt (count (register k (outgoing side c))) (capacity side k c.flags)
+
+-- The status of a register: the low six bits are the flags for register 1, and ones for the others.
+abbrev pub status : Side → ℕ → State → ℕ
+status side k c = weight 128 (is_available side k c) + weight 64 (is_not_full side k c) + (if k == 1 then flags_byte c.flags else 63)
+
+-- What an operation answers: 00 for a write.
+abbrev pub answer_of : State → Side → Op → ℕ
+answer_of c side (Read number) =
+    if is_status number then status side (register_number number) c
+    else front_of (register (register_number number) (incoming side c))
+answer_of c side (Write number byte) = 0
+
+-- a flag, set to `set` where its bit of the byte marks it
+abbrev pub marked : ℕ → ℕ → Bool → Bool → Bool
+marked byte n set flag = if bit byte n then set else flag
+
+-- The flags after a write to the control register: those marked become set where S (bit 7) is, else clear.
+abbrev pub flags_after : ℕ → Flags → Flags
+flags_after byte f = record {
+  p = marked byte 5 (bit byte 7) f.p;
+  v = marked byte 4 (bit byte 7) f.v;
+  m = marked byte 3 (bit byte 7) f.m;
+  j = marked byte 2 (bit byte 7) f.j;
+  i = marked byte 1 (bit byte 7) f.i;
+  q = marked byte 0 (bit byte 7) f.q;
+}
+
+-- A write to the control register. T (bit 6) clears the registers where S is set. (That T acts once, and only then, is this project's profile.)
+abbrev pub controlled : ℕ → State → State
+controlled byte c =
+    if bit byte 7 && bit byte 6 then cleared (record c { flags = flags_after byte c.flags })
+    else record c { flags = flags_after byte c.flags }
+
+-- The byte of a register read by a side.
+abbrev pub read_by : Side → ℕ → State → State
+read_by side k c = with_incoming side (with_register k (taken (register k (incoming side c))) (incoming side c)) c
+
+-- The byte of a register written by a side.
+abbrev pub written_by : Side → ℕ → ℕ → State → State
+written_by side k byte c =
+    with_outgoing side (with_register k (written (capacity side k c.flags) byte (register k (outgoing side c))) (outgoing side c)) c
+
+-- a write to a status number: only the host's to number 0 does something
+abbrev pub status_written : Side → ℕ → ℕ → State → State
+status_written Host number byte c = if number == 0 then controlled byte c else c
+status_written Para number byte c = c
+
+-- What an operation does, but for the counts.
+abbrev pub done : State → Side → Op → State
+done c side (Read number) = if is_status number then c else read_by side (register_number number) c
+done c side (Write number byte) =
+    if is_status number then status_written side number byte c else written_by side (register_number number) byte c
+
+-- one more, where something holds now that did not before; the counts have 32 bits
+abbrev pub risen : Bool → Bool → ℕ → ℕ
+risen before now n = if not before && now then (n + 1) % 2 ^ 32 else n
+
+-- with the two counts, of the rises of "M and N" and of P
+abbrev pub counted : State → State → State
+counted old new = record new {
+  nmis = risen (asks_nmi old) (asks_nmi new) old.nmis;
+  resets = risen old.flags.p new.flags.p old.resets;
+}
+
+-- The chip after an operation.
+abbrev pub chip_after : State → Side → Op → State
+chip_after c side op = counted c (done c side op)
+
+-- What a step asks of the chip: an access, or a look at the lines.
+pub data Query : Type 0 where
+  access : Op → Query
+  look : Query
+
+-- The new chip and the answer; a look changes nothing.
+abbrev pub act : State → Side → Query → State × Answer
+act c side (access op) = (chip_after c side op, Byte (answer_of c side op))
+act c side look = (c, Seen (lines_of c))

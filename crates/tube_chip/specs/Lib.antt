@@ -1,0 +1,6 @@
+pub mod Register
+pub mod State
+pub mod Act
+pub mod Events
+pub mod Laws
+pub mod Code

@@ -1,0 +1,42 @@
+-- One direction of one of the four registers of the Tube: a list of bytes, oldest first.
+use Rattle.std.specs.Prelude.{ℕ, List, [], ◌∷◌, ◌++◌, ◌==◌, nat_lt, length, if◌then◌else◌}
+
+-- An empty one remembers the byte last taken from it. One that holds bytes remembers nothing besides them.
+-- (Application Note 004 has the lists; what an empty one answers is this project's profile.)
+pub data Register : Type 0 where
+  empty : (remembered : ℕ) → Register
+  holds : (front : ℕ) (rest : List ℕ) → Register
+
+-- the bytes that it holds
+abbrev pub held : Register → List ℕ
+held (empty remembered) = []
+held (holds front rest) = front ∷ rest
+
+-- how many bytes it holds
+abbrev pub count : Register → ℕ
+count r = length (held r)
+
+-- the byte that a read answers: the front one, or the remembered one
+abbrev pub front_of : Register → ℕ
+front_of (empty remembered) = remembered
+front_of (holds front rest) = front
+
+-- what a read leaves: the front byte is taken
+abbrev pub taken : Register → Register
+taken (empty remembered) = empty remembered
+taken (holds front []) = empty front
+taken (holds front (next ∷ rest)) = holds next rest
+
+-- the byte joins the end of the list, and is ignored where the list has its capacity already
+abbrev pub added : ℕ → ℕ → Register → Register
+added capacity byte (empty remembered) = holds byte []
+added capacity byte (holds front rest) = if nat_lt (length (front ∷ rest)) capacity then holds front (rest ++ byte ∷ []) else holds front rest
+
+-- What a write leaves: in a register for one byte the list becomes that byte, in a longer one the byte is added.
+abbrev pub written : ℕ → ℕ → Register → Register
+written capacity byte r = if capacity == 1 then holds byte [] else added capacity byte r
+
+-- the register that holds these bytes, and remembers this one where there are none
+abbrev pub register_of : List ℕ → ℕ → Register
+register_of [] remembered = empty remembered
+register_of (front ∷ rest) remembered = holds front rest

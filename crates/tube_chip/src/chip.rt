@@ -1,0 +1,297 @@
+//! The chip.
+ghost use Rattle.std.specs.Prelude.{◌≡◌, ◌<◌, ◌+◌, nat_lt, if◌then◌else◌};
+ghost use Rattle.beeb_bits.specs.declared.Side.TheVariants.{Host, Para};
+ghost use Rattle.tube_chip.specs.Register.{count, written};
+ghost use Rattle.tube_chip.specs.State.{power_on, lines_of, is_empty, is_ready, wants_service, asks_nmi, cleared};
+ghost use Rattle.tube_chip.specs.Act.{MayDo, weight, status, answer_of, controlled, done, risen, chip_after};
+ghost use Rattle.tube_chip.specs.declared.Op.TheVariants.{Read, Write};
+
+use crate::flags::{Flags, flags_after, flags_byte, weight};
+use crate::register::Register;
+use crate::{Lines, Op};
+use beeb_bits::{Side, bit};
+use std::marker::Model;
+
+/// The registers to the host.
+#[derive(Drop)]
+struct ToHost {
+    r1: Register<24>,
+    r2: Register<1>,
+    r3: Register<2>,
+    r4: Register<1>,
+}
+
+/// The registers to the parasite.
+#[derive(Drop)]
+struct ToPara {
+    r1: Register<1>,
+    r2: Register<1>,
+    r3: Register<2>,
+    r4: Register<1>,
+}
+
+/// The Tube chip.
+#[derive(Drop)]
+pub struct Chip {
+    flags: Flags,
+    to_host: ToHost,
+    to_para: ToPara,
+    nmis: u32,
+    resets: u32,
+}
+
+impl Model for Chip {
+    ghost use Rattle.tube_chip.specs.State.{State};
+    ghost use Rattle.tube_chip.specs.Code.{flags_of};
+
+    ghost Value = { State };
+
+    ghost view = { λ c. record {
+      flags = flags_of c.flags;
+      to_host = record { r1 = c.to_host.r1; r2 = c.to_host.r2; r3 = c.to_host.r3; r4 = c.to_host.r4 };
+      to_para = record { r1 = c.to_para.r1; r2 = c.to_para.r2; r3 = c.to_para.r3; r4 = c.to_para.r4 };
+      nmis = c.nmis;
+      resets = c.resets;
+    } };
+}
+
+// Empty registers to the host, but for the one byte 00 in register 3.
+fn clear_to_host() -> ToHost
+    ensures { result ≡ record { r1 = power_on.to_host.r1; r2 = power_on.to_host.r2; r3 = power_on.to_host.r3; r4 = power_on.to_host.r4 } }
+{
+    let mut r3 = Register::new();
+    r3.replace(0);
+    ToHost {
+        r1: Register::new(),
+        r2: Register::new(),
+        r3,
+        r4: Register::new(),
+    }
+}
+
+// Empty registers to the parasite.
+fn clear_to_para() -> ToPara
+    ensures { result ≡ record { r1 = power_on.to_para.r1; r2 = power_on.to_para.r2; r3 = power_on.to_para.r3; r4 = power_on.to_para.r4 } }
+{
+    ToPara {
+        r1: Register::new(),
+        r2: Register::new(),
+        r3: Register::new(),
+        r4: Register::new(),
+    }
+}
+
+// Register 3 has what its reader waits for.
+fn is_ready(v: bool, r3: &Register<2>) -> bool
+    ensures { result ≡ is_ready v r3.now }
+{
+    if v { r3.count() == 2 } else { !r3.is_empty() }
+}
+
+// Register 3 has room: for a second byte where V is set, else only where it is empty.
+fn has_room(v: bool, r3: &Register<2>) -> bool
+    ensures { result ≡ nat_lt (count r3.now) (if v then 2 else 1) }
+{
+    if v { r3.count() < 2 } else { r3.is_empty() }
+}
+
+// A byte for register 3: added where V is set, else alone.
+fn send(v: bool, byte: u8, r3: &mut Register<2>)
+    ensures { r3.new ≡ written (if v then 2 else 1) byte r3.old }
+{
+    if v {
+        r3.add(byte);
+    } else {
+        r3.replace(byte);
+    }
+}
+
+fn status_byte(is_available: bool, is_not_full: bool, low: u8) -> u8
+    requires { low < 64 }
+    ensures { result ≡ weight 128 is_available + weight 64 is_not_full + low }
+{
+    weight(128, is_available) + weight(64, is_not_full) + low
+}
+
+// One more, where something holds now that did not before.
+fn risen(before: bool, now: bool, count: u32) -> u32
+    ensures { result ≡ risen before now count }
+{
+    if !before && now {
+        count.wrapping_add(1)
+    } else {
+        count
+    }
+}
+
+impl Chip {
+    /// The chip at power-on: no flag set, counts at zero, all registers empty with the byte 00 last taken,
+    /// save that register 3 to the host holds one byte 00.
+    pub fn new() -> Chip
+        ensures { result ≡ power_on }
+    {
+        Chip {
+            flags: Flags {
+                p: false,
+                v: false,
+                m: false,
+                j: false,
+                i: false,
+                q: false,
+            },
+            to_host: clear_to_host(),
+            to_para: clear_to_para(),
+            nmis: 0,
+            resets: 0,
+        }
+    }
+
+    // N: register 3 has what the parasite waits for, or room for what it sends.
+    fn wants_service(&self) -> bool
+        ensures { result ≡ wants_service self.now }
+    {
+        is_ready(self.flags.v, &self.to_para.r3) || self.to_host.r3.is_empty()
+    }
+
+    fn asks_nmi(&self) -> bool
+        ensures { result ≡ asks_nmi self.now }
+    {
+        self.flags.m && self.wants_service()
+    }
+
+    /// Does an operation of a side, and answers it: the byte of a read, or 00 (Application Note 004, registers and control).
+    pub fn apply(&mut self, side: Side, op: Op) -> u8
+        requires { MayDo side op }
+        ensures chip { self.new ≡ chip_after self.old side op }
+        ensures answer { result ≡ answer_of self.old side op }
+    {
+        let asked = self.asks_nmi();
+        let was_reset = self.flags.p;
+        let answer = self.operate(side, op);
+        self.nmis = risen(asked, self.asks_nmi(), self.nmis);
+        self.resets = risen(was_reset, self.flags.p, self.resets);
+        answer
+    }
+
+    // An operation but for the counts.
+    fn operate(&mut self, side: Side, op: Op) -> u8
+        requires { MayDo side op }
+        ensures chip { self.new ≡ done self.old side op }
+        ensures answer { result ≡ answer_of self.old side op }
+    {
+        match (side, op) {
+            (Side::Host, Op::Read(number)) => self.host_reads(number),
+            (Side::Para, Op::Read(number)) => self.para_reads(number),
+            (Side::Host, Op::Write(number, byte)) => {
+                self.host_writes(number, byte);
+                0
+            }
+            (Side::Para, Op::Write(number, byte)) => {
+                self.para_writes(number, byte);
+                0
+            }
+        }
+    }
+
+    fn host_reads(&mut self, number: u8) -> u8
+        requires { number < 8 }
+        ensures chip { self.new ≡ done self.old Host (Read number) }
+        ensures answer { result ≡ answer_of self.old Host (Read number) }
+    {
+        match number {
+            0 => status_byte(
+                !self.to_host.r1.is_empty(),
+                self.to_para.r1.is_empty(),
+                flags_byte(self.flags),
+            ),
+            1 => self.to_host.r1.take(),
+            2 => status_byte(!self.to_host.r2.is_empty(), self.to_para.r2.is_empty(), 63),
+            3 => self.to_host.r2.take(),
+            4 => status_byte(
+                is_ready(self.flags.v, &self.to_host.r3),
+                has_room(self.flags.v, &self.to_para.r3),
+                63,
+            ),
+            5 => self.to_host.r3.take(),
+            6 => status_byte(!self.to_host.r4.is_empty(), self.to_para.r4.is_empty(), 63),
+            _ => self.to_host.r4.take(),
+        }
+    }
+
+    fn para_reads(&mut self, number: u8) -> u8
+        requires { number < 8 }
+        ensures chip { self.new ≡ done self.old Para (Read number) }
+        ensures answer { result ≡ answer_of self.old Para (Read number) }
+    {
+        match number {
+            0 => status_byte(
+                !self.to_para.r1.is_empty(),
+                self.to_host.r1.count() < 24,
+                flags_byte(self.flags),
+            ),
+            1 => self.to_para.r1.take(),
+            2 => status_byte(!self.to_para.r2.is_empty(), self.to_host.r2.is_empty(), 63),
+            3 => self.to_para.r2.take(),
+            4 => status_byte(
+                self.wants_service(),
+                has_room(self.flags.v, &self.to_host.r3),
+                63,
+            ),
+            5 => self.to_para.r3.take(),
+            6 => status_byte(!self.to_para.r4.is_empty(), self.to_host.r4.is_empty(), 63),
+            _ => self.to_para.r4.take(),
+        }
+    }
+
+    fn host_writes(&mut self, number: u8, byte: u8)
+        requires { number < 8 }
+        ensures { self.new ≡ done self.old Host (Write number byte) }
+    {
+        match number {
+            0 => self.control(byte),
+            1 => self.to_para.r1.replace(byte),
+            3 => self.to_para.r2.replace(byte),
+            5 => send(self.flags.v, byte, &mut self.to_para.r3),
+            7 => self.to_para.r4.replace(byte),
+            _ => {}
+        }
+    }
+
+    fn para_writes(&mut self, number: u8, byte: u8)
+        requires { number < 8 }
+        ensures { self.new ≡ done self.old Para (Write number byte) }
+    {
+        match number {
+            1 => self.to_host.r1.add(byte),
+            3 => self.to_host.r2.replace(byte),
+            5 => send(self.flags.v, byte, &mut self.to_host.r3),
+            7 => self.to_host.r4.replace(byte),
+            _ => {}
+        }
+    }
+
+    // A write to the control register.
+    fn control(&mut self, byte: u8)
+        ensures { self.new ≡ controlled byte self.old }
+    {
+        self.flags = flags_after(byte, self.flags);
+        if bit(byte, 7) && bit(byte, 6) {
+            self.to_host = clear_to_host();
+            self.to_para = clear_to_para();
+        }
+    }
+
+    /// The lines and the counts, as a look sees them (Application Note 004, interrupts and reset).
+    pub fn lines(&self) -> Lines
+        ensures { result ≡ lines_of self.now }
+    {
+        Lines {
+            prst: self.flags.p,
+            resets: self.resets,
+            nmis: self.nmis,
+            pirq: (self.flags.i && !self.to_para.r1.is_empty())
+                || (self.flags.j && !self.to_para.r4.is_empty()),
+            hirq: self.flags.q && !self.to_host.r4.is_empty(),
+        }
+    }
+}

@@ -1,0 +1,61 @@
+//! The flags of the control register.
+ghost use Rattle.std.specs.Prelude.{◌≡◌, ◌≤◌};
+ghost use Rattle.tube_chip.specs.Act.{weight, flags_byte, flags_after, marked};
+ghost use Rattle.tube_chip.specs.Code.{flags_of};
+
+use beeb_bits::bit;
+
+/// P V M J I Q, by their letters in Application Note 004.
+#[derive(Clone, Copy)]
+pub(crate) struct Flags {
+    pub(crate) p: bool,
+    pub(crate) v: bool,
+    pub(crate) m: bool,
+    pub(crate) j: bool,
+    pub(crate) i: bool,
+    pub(crate) q: bool,
+}
+
+/// A bit of this weight, where it is set.
+pub(crate) fn weight(n: u8, is_set: bool) -> u8
+    ensures value { result ≡ weight n is_set }
+    ensures bound { result ≤ n }
+{
+    if is_set { n } else { 0 }
+}
+
+// A flag, set to `set` where bit `n` of the byte marks it.
+fn marked(byte: u8, n: u8, set: bool, flag: bool) -> bool
+    requires { n ≤ 7 }
+    ensures { result ≡ marked byte n set flag }
+{
+    if bit(byte, n) { set } else { flag }
+}
+
+/// The low six bits of the status of register 1.
+pub(crate) fn flags_byte(flags: Flags) -> u8
+    ensures value { result ≡ flags_byte (flags_of flags) }
+    ensures bound { result ≤ 63 }
+{
+    weight(32, flags.p)
+        + weight(16, flags.v)
+        + weight(8, flags.m)
+        + weight(4, flags.j)
+        + weight(2, flags.i)
+        + weight(1, flags.q)
+}
+
+/// The flags after a write of this byte to the control register.
+pub(crate) fn flags_after(byte: u8, flags: Flags) -> Flags
+    ensures { flags_of result ≡ flags_after byte (flags_of flags) }
+{
+    let set = bit(byte, 7);
+    Flags {
+        p: marked(byte, 5, set, flags.p),
+        v: marked(byte, 4, set, flags.v),
+        m: marked(byte, 3, set, flags.m),
+        j: marked(byte, 2, set, flags.j),
+        i: marked(byte, 1, set, flags.i),
+        q: marked(byte, 0, set, flags.q),
+    }
+}

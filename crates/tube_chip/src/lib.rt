@@ -1,0 +1,44 @@
+//! The Tube chip, which joins the host and the parasite (Acorn Application Note 004), and the order of what is done at it.
+#![tactic(auto)]
+
+mod chip;
+mod flags;
+mod law;
+mod register;
+
+pub use chip::Chip;
+pub use law::rising_list_is_merge;
+
+/// An operation at one of the eight Tube addresses of a side, by its low three address bits.
+#[derive(Clone, Copy, Debug, PartialEq, Eq)]
+pub enum Op {
+    /// A read of a number below 8.
+    Read(u8),
+    /// A write to a number below 8, and the byte.
+    Write(u8, u8),
+}
+
+/// The lines that the chip drives, and the counts of two of them, as a machine sees them when it looks.
+#[derive(Clone, Copy, Debug, PartialEq, Eq)]
+pub struct Lines {
+    /// The parasite's reset line is active.
+    pub prst: bool,
+    /// How often it became active, modulo 2^32.
+    pub resets: u32,
+    /// How often the parasite's NMI was asked for, modulo 2^32.
+    pub nmis: u32,
+    /// The parasite's IRQ.
+    pub pirq: bool,
+    /// The host's IRQ.
+    pub hirq: bool,
+}
+
+/// What the chip answers: a byte to an operation, the lines to a look.
+#[derive(Clone, Copy, Debug, PartialEq, Eq)]
+pub enum Answer {
+    Byte(u8),
+    Seen(Lines),
+}
+
+#[cfg(test)]
+mod tests;
