@@ -1,0 +1,164 @@
+-- What a line in form has at its places, and how a text falls into lines.
+use Rattle.std.proofs.Common.{◌≡◌, ◌≢◌, sym, refl, subst, ℕ, zero, suc, ◌-◌, ◌<◌, ◌≤◌, List, [], ◌∷◌, length, take, drop, Bool, true, false, ◌&&◌, ◌==◌, IsTrue, cond, Option, Some, None, arith, below_more, lit≤}
+use Rattle.std.specs.Prelude.{slice_index, slice_range, IfSome}
+use Rattle.std.specs.List.{list_all}
+use Rattle.std.proofs.lemmas.Bool.Decides.{nat_tests}
+use Rattle.std.proofs.lemmas.Grind.{common_steps}
+use Rattle.beeb_bits.specs.declared.Side.{Side}
+use Rattle.tube_chip.specs.declared.Op.{Op}
+use Rattle.tube_chip.specs.declared.Op.TheVariants.{Read, Write}
+use Rattle.tube_chip.specs.Act.{MayDo}
+use Rattle.tube_trace.specs.declared.Entry.{Entry}
+use Rattle.tube_trace.specs.Digits.{is_hex, value_of}
+use Rattle.tube_trace.specs.Line.{is_space, is_octal, side_of, op_of, answer_in, entry_from, is_formed, entry_in, entry_of}
+use Rattle.tube_trace.specs.Trace.{lines_of}
+use Rattle.tube_trace.specs.Entries.{IsEntry}
+use Rattle.tube_trace.proofs.DigitLemmas.{digit-at}
+
+and_left : (a b : Bool) → IsTrue (a && b) → IsTrue a
+and_left true b h = refl
+and_left false b h = h
+
+and_right : (a b : Bool) → IsTrue (a && b) → IsTrue b
+and_right true b h = h
+and_right false b h = cc
+
+-- the tests of the form, one by one
+pub record IsFormed (line : List ℕ) : Type 0 where
+  pub tick : IsTrue (list_all is_hex (slice_range line 0 10))
+  pub spaces : IsTrue (list_all is_space (slice_index line 10 ∷ slice_index line 12 ∷ slice_index line 14 ∷ slice_index line 16 ∷ []))
+  pub number : IsTrue (is_octal (slice_index line 15))
+  pub byte : IsTrue (list_all is_hex (slice_range line 17 19))
+  pub feed : IsTrue (slice_index line 19 == 10)
+
+pub formed_parts : (line : List ℕ) → IsTrue (is_formed line) → IsFormed line
+formed_parts line h =
+    let a = and_left _ _ h in
+    let b = and_left _ _ a in
+    let c = and_left _ _ b in record {
+      tick = and_left _ _ c;
+      spaces = and_right _ _ c;
+      number = and_right _ _ b;
+      byte = and_right _ _ a;
+      feed = and_right _ _ h;
+    }
+
+pub octal_low : (b : ℕ) → IsTrue (is_octal b) → 48 ≤ b
+octal_low b h = grind (arith, nat_tests)
+
+-- no test of the form passes a line feed
+
+hex_other : (b : ℕ) → IsTrue (is_hex b) → b ≢ 10
+hex_other b h = λ e. grind (arith, nat_tests)
+
+octal_other : (b : ℕ) → IsTrue (is_octal b) → b ≢ 10
+octal_other b h = λ e. grind (arith, nat_tests)
+
+space_other : (b : ℕ) → IsTrue (is_space b) → b ≢ 10
+space_other b h = λ e. grind (arith, nat_tests)
+
+spaces_each : (a b c d : ℕ) → IsTrue (list_all is_space (a ∷ b ∷ c ∷ d ∷ [])) → (a ≢ 10) × (b ≢ 10) × (c ≢ 10) × (d ≢ 10)
+spaces_each a b c d h = (λ e. grind (arith, nat_tests), λ e. grind (arith, nat_tests), λ e. grind (arith, nat_tests), λ e. grind (arith, nat_tests))
+
+hex_range_other : (line : List ℕ) (i j k : ℕ) → i ≤ k → k < j → j ≤ length line → IsTrue (list_all is_hex (slice_range line i j)) → slice_index line k ≢ 10
+hex_range_other line i j k low high fits all =
+    let within : k - i < length (slice_range line i j) = grind (arith, common_steps) in
+    let at : slice_index (slice_range line i j) (k - i) ≡ slice_index line k = grind (arith, common_steps) in
+    hex_other (slice_index line k) (rw (← at) (digit-at (slice_range line i j) (k - i) within all))
+
+-- the letters of a line that has an entry
+letters_other : (tick byte side letter number : ℕ) (e : Entry) → entry_from tick byte (side_of side) (op_of letter number byte) ≡ Some e → (side ≢ 10) × (letter ≢ 10)
+letters_other tick byte side letter number e is = (λ s. grind (arith, nat_tests), λ l. grind (arith, nat_tests))
+
+-- a line that has an entry is twenty bytes in form
+pub record HasEntry (line : List ℕ) (e : Entry) : Type 0 where
+  pub long : length line ≡ 20
+  pub formed : IsTrue (is_formed line)
+  pub entry : entry_in line ≡ Some e
+
+has_entry_when : (b : Bool) (o : Option Entry) (e : Entry) → cond b o None ≡ Some e → IsTrue b × (o ≡ Some e)
+has_entry_when true o e h = (refl, h)
+has_entry_when false o e h = cc
+
+pub has_entry : (line : List ℕ) (e : Entry) → entry_of line ≡ Some e → HasEntry line e
+unfolding entry_of
+has_entry line e h =
+    let both = has_entry_when (length line == 20 && is_formed line) (entry_in line) e h in record {
+      long = let t : IsTrue (length line == 20) = and_left _ _ both.0 in grind (arith, nat_tests);
+      formed = and_right _ _ both.0;
+      entry = both.1;
+    }
+
+spaces : (line : List ℕ) → IsFormed line → (slice_index line 10 ≢ 10) × (slice_index line 12 ≢ 10) × (slice_index line 14 ≢ 10) × (slice_index line 16 ≢ 10)
+spaces line parts = spaces_each (slice_index line 10) (slice_index line 12) (slice_index line 14) (slice_index line 16) parts.spaces
+
+letters : (line : List ℕ) (e : Entry) → HasEntry line e → (slice_index line 11 ≢ 10) × (slice_index line 13 ≢ 10)
+letters line e has = letters_other _ (value_of (slice_range line 17 19)) (slice_index line 11) (slice_index line 13) (slice_index line 15 - 48) e has.entry
+
+-- the only line feed of a line that has an entry is its last byte
+pub other_before : (line : List ℕ) (e : Entry) → HasEntry line e → (k : ℕ) → k < 19 → slice_index line k ≢ 10
+other_before line e has =
+    let parts = formed_parts line has.formed in
+    let P : ℕ → Type 0 = λ k. slice_index line k ≢ 10 in
+    let long : length line ≡ 20 = has.long in
+    let fits : 10 ≤ length line = rw long (lit≤ tt) in
+    let digits : (k : ℕ) → k < 10 → P k = λ k h. hex_range_other line 0 10 k (omega arith) h fits parts.tick in
+    below_more P 18
+    (below_more P 17
+    (below_more P 16
+    (below_more P 15
+    (below_more P 14
+    (below_more P 13
+    (below_more P 12
+    (below_more P 11
+    (below_more P 10 digits (spaces line parts).0)
+    (letters line e has).0) (spaces line parts).1) (letters line e has).1) (spaces line parts).2) (octal_other _ parts.number)) (spaces line parts).3)
+    (hex_range_other line 17 19 17 (omega arith) (omega arith) (omega arith) parts.byte))
+    (hex_range_other line 17 19 18 (omega arith) (omega arith) (omega arith) parts.byte)
+
+eqb_false : (b : ℕ) → b ≢ 10 → (b == 10) ≡ false
+eqb_false b h = grind (arith, nat_tests)
+
+-- a text whose first line feed is at place n begins with the line up to it
+pub first_line : (n : ℕ) (text : List ℕ) → n < length text → ((k : ℕ) → k < n → slice_index text k ≢ 10) → slice_index text n ≡ 10 →
+    lines_of text ≡ take (suc n) text ∷ lines_of (drop (suc n) text)
+first_line n [] h others at = absurd (omega arith)
+first_line zero (b ∷ text) h others at = rw at refl
+first_line (suc n) (b ∷ text) h others at =
+    let rest : lines_of text ≡ take (suc n) text ∷ lines_of (drop (suc n) text) =
+    first_line n text (omega arith) (λ k le. others (suc k) (omega arith)) at in
+    rw (eqb_false b (others zero (omega arith)), rest) refl
+
+octal_below : (b : ℕ) → IsTrue (is_octal b) → b - 48 < 8
+octal_below b h = grind (arith, nat_tests)
+
+from_cond : (b : Bool) (x y : Option Op) (P : Op → Type 0) (op : Op) →
+    (x ≡ Some op → P op) → (y ≡ Some op → P op) → cond b x y ≡ Some op → P op
+from_cond true x y P op f g e = f e
+from_cond false x y P op f g e = g e
+
+same_may : (side : Side) (a b : Op) → Some a ≡ Some b → MayDo side a → MayDo side b
+same_may side a b e may = let same : a ≡ b = cc in subst (MayDo side) same may
+
+op_may : (side : Side) (letter number byte : ℕ) (op : Op) → number < 8 → op_of letter number byte ≡ Some op → MayDo side op
+op_may side letter number byte op below is =
+    from_cond (letter == 82) (Some (Read number)) _ (MayDo side) op (λ e. same_may side (Read number) op e below)
+    (λ other. from_cond (letter == 87) (Some (Write number byte)) None (MayDo side) op (λ e. same_may side (Write number byte) op e below) (λ e. cc) other) is
+
+entry_may : (tick byte : ℕ) (side : Option Side) (op : Option Op) (e : Entry) → ((s : Side) (o : Op) → op ≡ Some o → MayDo s o) → entry_from tick byte side op ≡ Some e → IsEntry e
+entry_may tick byte None op e may is = cc
+entry_may tick byte (Some side) None e may is = cc
+entry_may tick byte (Some side) (Some op) e may is =
+    let made : Entry = record { tick = record { 0 = tick }; side = side; op = op; answer = answer_in op byte } in
+    let same : made ≡ e = cc in
+    subst IsEntry same (may side op refl)
+
+-- an entry is of an operation that its side may do
+pub entry_below : (line : List ℕ) (e : Entry) → HasEntry line e → IsEntry e
+entry_below line e has =
+    let below : slice_index line 15 - 48 < 8 = octal_below (slice_index line 15) (formed_parts line has.formed).number in
+    entry_may _ _ _ _ e (λ s o is. op_may s (slice_index line 13) (slice_index line 15 - 48) (value_of (slice_range line 17 19)) o below is) has.entry
+
+pub entry_in_below : (line : List ℕ) → length line ≡ 20 → IsTrue (is_formed line) → (o : Option Entry) → o ≡ entry_in line → IfSome o IsEntry
+entry_in_below line long formed None is = tt
+entry_in_below line long formed (Some e) is = entry_below line e (record { long = long; formed = formed; entry = sym is })

@@ -1,0 +1,51 @@
+-- The entries of a trace rise.
+use Rattle.std.proofs.Common.{◌≡◌, refl, subst, ℕ, ◌+◌, List, [], ◌∷◌, map, Bool, true, false, cond, Option, Some, None, Result, Ok, Err}
+use Rattle.tube_chip.specs.Events.{Event, Rises, RisesAfter}
+use Rattle.tube_trace.specs.declared.Entry.{Entry}
+use Rattle.tube_trace.specs.declared.TraceError.{TraceError}
+use Rattle.tube_trace.specs.declared.TraceError.TheVariants.{BadOrder}
+use Rattle.tube_trace.specs.Line.{entry_of}
+use Rattle.tube_trace.specs.Trace.{lines_of, follows, in_front, reading}
+use Rattle.tube_trace.specs.Entries.{event_of, events_of}
+
+-- the events rise, behind an entry if there is one
+RisesBehind : Option Entry → List Event → Type 0
+RisesBehind None events = Rises events
+RisesBehind (Some e) events = RisesAfter (event_of e) events
+
+-- an entry that follows, and then others
+RisesBehind-cons : (last : Option Entry) (e : Entry) (events : List Event) → follows last e ≡ true → RisesAfter (event_of e) events → RisesBehind last (event_of e ∷ events)
+unfolding RisesBehind
+RisesBehind-cons None e events is rises = rises
+RisesBehind-cons (Some d) e events is rises = (is, rises)
+
+RisesBehind-nil : (last : Option Entry) → RisesBehind last []
+unfolding RisesBehind
+RisesBehind-nil None = tt
+RisesBehind-nil (Some e) = tt
+
+same_entries : (a b : List Entry) → ◌≡◌ {A = Result (List Entry) TraceError} (Ok a) (Ok b) → a ≡ b
+same_entries a b h = cc
+
+taken_apart : (last : Option Entry) (e : Entry) (line : ℕ) (b : Bool) (r : Result (List Entry) TraceError) (entries : List Entry) → follows last e ≡ b →
+    ((more : List Entry) → r ≡ Ok more → RisesAfter (event_of e) (events_of more)) →
+    cond b (in_front (e ∷ []) r) (Err (BadOrder line)) ≡ Ok entries → RisesBehind last (events_of entries)
+taken_apart last e line true (Ok more) entries is rest h =
+    let same : e ∷ more ≡ entries = same_entries (e ∷ more) entries h in
+    subst (λ (es : List Entry). RisesBehind last (events_of es)) same (RisesBehind-cons last e (events_of more) is (rest more refl))
+taken_apart last e line true (Err error) entries is rest h = cc
+taken_apart last e line false r entries is rest h = cc
+
+reading-rises : (line : ℕ) (last : Option Entry) (lines : List (Option Entry)) (entries : List Entry) → reading line last lines ≡ Ok entries → RisesBehind last (events_of entries)
+unfolding RisesBehind
+reading-rises line last [] entries h =
+    subst (λ (es : List Entry). RisesBehind last (events_of es)) (same_entries [] entries h) (RisesBehind-nil last)
+reading-rises line last (None ∷ lines) entries h = cc
+reading-rises line last (Some e ∷ lines) entries h =
+    taken_apart last e line (follows last e) (reading (line + 1) (Some e) lines) entries refl
+    (λ more is. reading-rises (line + 1) (Some e) lines more is) h
+
+-- what a text means as a trace rises
+pub trace-rises : (text : List ℕ) (entries : List Entry) → reading 1 None (map entry_of (lines_of text)) ≡ Ok entries → Rises (events_of entries)
+unfolding RisesBehind
+trace-rises text entries h = reading-rises 1 None (map entry_of (lines_of text)) entries h

@@ -1,0 +1,44 @@
+use Rattle.std.proofs.Common.{rules, ◌≡◌, ◌∙◌, sym, inr, take, drop, min, Some, None, length, ◌<◌, [], ◌∷◌, ◌++◌}
+use Rattle.std.proofs.lemmas.List.Elements.{All-push}
+use Rattle.tube_trace.specs.Entries.{IsEntry}
+use Rattle.tube_trace.specs.Line.{entry_of}
+use Rattle.tube_trace.specs.Trace.{trace}
+use Rattle.tube_trace.proofs.TextLemmas.{read_more, read_all, read_bad_line, read_bad_order, take_least, drop_least}
+use Rattle.tube_trace.proofs.RiseLemmas.{trace-rises}
+use Rattle.tube_trace.proofs.trace.read.Goals as goal
+
+pub returns-in_default-entry_of-clause-value : goal.returns-in_default-entry_of-clause-value
+unfolding trace
+returns-in_default-entry_of-clause-value c =
+    let least : c.min.result ≡ min (length c.loop-rest.rest.now) 20 = search rules in
+    let front : c.split_at.result.0.now ≡ take 20 c.loop-rest.rest.now = c.split_at.ensures.front ∙ rw least (take_least c.loop-rest.rest.now) in
+    let none : entry_of (take 20 c.loop-rest.rest.now) ≡ None = rw (← front) (sym c.in_default-entry_of.ensures.value) in
+    let lines : c.len.result ≡ length c.loop-rest.entries.items = search rules in
+    let some : 0 < length c.loop-rest.rest.now = search rules in
+    inr (rw lines (read_bad_line _ _ _ _ c.loop-rest.invariant.so_far some none))
+
+pub returns-then-not-follows-clause-value : goal.returns-then-not-follows-clause-value
+unfolding trace
+returns-then-not-follows-clause-value c =
+    let least : c.min.result ≡ min (length c.loop-rest.rest.now) 20 = search rules in
+    let front : c.split_at.result.0.now ≡ take 20 c.loop-rest.rest.now = c.split_at.ensures.front ∙ rw least (take_least c.loop-rest.rest.now) in
+    let here : entry_of (take 20 c.loop-rest.rest.now) ≡ Some c.in-Some.entry = rw (← front) (sym c.in-Some.ensures.value) in
+    let lines : c.len.result ≡ length c.loop-rest.entries.items = search rules in
+    inr (rw lines (read_bad_order _ _ _ _ c.in-Some.entry c.loop-rest.invariant.so_far here (sym c.follows.ensures ∙ c.if-not-follows.true)))
+
+pub loop-rest-preserved : goal.loop-rest-preserved
+loop-rest-preserved c =
+    let least : c.min.result ≡ min (length c.loop-rest.rest.now) 20 = search rules in
+    let front : c.split_at.result.0.now ≡ take 20 c.loop-rest.rest.now = c.split_at.ensures.front ∙ rw least (take_least c.loop-rest.rest.now) in
+    let back : c.split_at.result.1.now ≡ drop 20 c.loop-rest.rest.now = c.split_at.ensures.back ∙ rw least (drop_least c.loop-rest.rest.now) in
+    let here : entry_of (take 20 c.loop-rest.rest.now) ≡ Some c.in-Some.entry = rw (← front) (sym c.in-Some.ensures.value) in
+    let pushed : c.push.new.self.items ≡ c.loop-rest.entries.items ++ c.in-Some.entry ∷ [] = search rules in
+    record {
+      so_far = rw (pushed, back) (read_more _ _ _ _ c.in-Some.entry c.loop-rest.invariant.so_far here (sym c.follows.ensures ∙ c.if-not-follows.false));
+      entries = rw pushed (All-push IsEntry c.loop-rest.entries.items c.in-Some.entry c.loop-rest.invariant.entries c.in-Some.ensures.may);
+    }
+
+pub returns-clause-rises : goal.returns-clause-rises
+returns-clause-rises c =
+    let end : length c.loop-rest.rest.now ≡ 0 = search rules in
+    trace-rises c.args.bytes.now c.loop-rest.entries.items (read_all _ _ _ _ c.loop-rest.invariant.so_far end)

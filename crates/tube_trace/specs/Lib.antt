@@ -1,0 +1,5 @@
+pub mod Digits
+pub mod Line
+pub mod Trace
+pub mod Entries
+pub mod Wrong

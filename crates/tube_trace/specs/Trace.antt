@@ -1,0 +1,39 @@
+-- The text of a trace: its entries, or its first offending line.
+use Rattle.std.specs.Prelude.{ℕ, ◌+◌, ◌==◌, Bool, true, List, [], ◌∷◌, ◌++◌, map, Option, Some, None, Result, Ok, Err, if◌then◌else◌}
+use Rattle.beeb_bits.specs.Order.{before}
+use Rattle.tube_trace.specs.declared.Entry.{Entry}
+use Rattle.tube_trace.specs.declared.TraceError.{TraceError}
+use Rattle.tube_trace.specs.declared.TraceError.TheVariants.{BadLine, BadOrder}
+use Rattle.tube_trace.specs.Line.{entry_of}
+
+-- a byte in front of the first line
+abbrev pub begin_with : ℕ → List (List ℕ) → List (List ℕ)
+begin_with b [] = (b ∷ []) ∷ []
+begin_with b (line ∷ lines) = (b ∷ line) ∷ lines
+
+-- The lines of a text, each with its line feed, which the last may lack.
+abbrev pub lines_of : List ℕ → List (List ℕ)
+lines_of [] = []
+lines_of (b ∷ text) = if b == 10 then (b ∷ []) ∷ lines_of text else begin_with b (lines_of text)
+
+-- the entry comes after the one before it, if there is one
+abbrev pub follows : Option Entry → Entry → Bool
+follows None e = true
+follows (Some d) e = before (d.tick).0 d.side (e.tick).0 e.side
+
+-- these entries in front of what is read
+abbrev pub in_front : List Entry → Result (List Entry) TraceError → Result (List Entry) TraceError
+in_front front (Ok entries) = Ok (front ++ entries)
+in_front front (Err e) = Err e
+
+-- What lines mean that count from a number, behind an entry: their entries, or the first line that is outside the form or not after
+-- the one before it. The last line of a text without its line feed is outside the form, as any line that lacks something.
+abbrev pub reading : ℕ → Option Entry → List (Option Entry) → Result (List Entry) TraceError
+reading line last [] = Ok []
+reading line last (None ∷ lines) = Err (BadLine line)
+reading line last (Some e ∷ lines) =
+    if follows last e then in_front (e ∷ []) (reading (line + 1) (Some e) lines) else Err (BadOrder line)
+
+-- What a text means as a trace. Lines count from 1.
+unfoldable pub trace : List ℕ → Result (List Entry) TraceError
+trace text = reading 1 None (map entry_of (lines_of text))

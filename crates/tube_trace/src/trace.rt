@@ -1,0 +1,55 @@
+//! Reading a trace.
+ghost use Rattle.std.specs.Prelude.{◌≡◌, ◌⊎◌, Ok, Err, IfOk, MatchResult, All};
+ghost use Rattle.tube_chip.specs.Events.{Rises};
+ghost use Rattle.tube_trace.specs.declared.TraceError.TheVariants.{NoMemory};
+ghost use Rattle.tube_trace.specs.Trace.{follows, trace};
+ghost use Rattle.tube_trace.specs.Entries.{IsEntry, events_of};
+
+use crate::line::{LENGTH, entry_of};
+use crate::{Entry, TraceError};
+use beeb_bits::before;
+use std::alloc::Global;
+
+fn follows(last: Option<Entry>, entry: Entry) -> bool
+    ensures { result ≡ follows last entry }
+{
+    match last {
+        None => true,
+        Some(last) => before(last.tick, last.side, entry.tick, entry.side),
+    }
+}
+
+/// The entries of a trace's text. Each line is the tick in ten upper-case hexadecimal digits, `H` or `P`, `R` or `W`, the
+/// number from 0 to 7 and a byte in two digits, parted by spaces and ended by a line feed; lines rise by tick, the host's
+/// first. A write's byte is the one written, and its answer is 00.
+///
+/// # Errors
+/// The first line that is outside this form, or not after the one before it; a last line without its line feed is outside it.
+#[tactic(auto, unfolding(crate::specs::Trace::trace))]
+pub fn read(alloc: Global, bytes: &[u8]) -> Result<Vec<Entry>, TraceError>
+    ensures value { MatchResult result (λ v. trace bytes.now ≡ Ok v.items) (λ e. (e ≡ NoMemory) ⊎ (trace bytes.now ≡ Err e)) }
+    ensures entries { IfOk result (λ v. All IsEntry v.items) }
+    ensures rises { IfOk result (λ v. Rises (events_of v.items)) }
+{
+    let Ok(mut entries) = Vec::with_capacity(alloc, bytes.len() / LENGTH) else {
+        return Err(TraceError::NoMemory);
+    };
+    let mut last = None;
+    let mut rest = bytes;
+    while !rest.is_empty() {
+        let line = entries.len() as u64 + 1;
+        let (first, others) = rest.split_at(rest.len().min(LENGTH));
+        let Some(entry) = entry_of(first) else {
+            return Err(TraceError::BadLine { line });
+        };
+        if !follows(last, entry) {
+            return Err(TraceError::BadOrder { line });
+        }
+        if entries.push(entry).is_err() {
+            return Err(TraceError::NoMemory);
+        }
+        last = Some(entry);
+        rest = others;
+    }
+    Ok(entries)
+}
