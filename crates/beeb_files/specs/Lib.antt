@@ -1,0 +1,6 @@
+pub mod Files
+pub mod Counts
+pub mod Shelf
+pub mod Outlet
+pub mod Memory
+pub mod Folder

@@ -1,0 +1,93 @@
+-- The shelf and the outlet in memory: what contracts see of them, which of their calls fail, and what a call leaves.
+use Rattle.std.specs.Prelude.{ℕ, ◌-◌, ◌^◌, ◌==◌, ◌||◌, ◌≢◌, Bool, List, ◌++◌, map, Some, is_none, string_bytes, if◌then◌else◌, AllPairs, refl}
+use Rattle.std.specs.List.{list_any}
+use Rattle.std.specs.FinMap as files
+use Rattle.std.specs.Coded.{Coded, code_by, coded×, coded_ℕ, coded_list}
+use Rattle.std.specs.declared.string.String.{String}
+use Rattle.std.specs.declared.vec.Vec.{Vec}
+use Rattle.std.specs.declared.alloc.Global.{Global}
+use Rattle.beeb_files.specs.Files.{Files, bytes_of}
+use Rattle.beeb_files.specs.Counts.{counted}
+use Rattle.beeb_files.specs.Shelf.{ShelfState}
+use Rattle.beeb_files.specs.Outlet.{OutletState}
+
+-- a name and its bytes
+abbrev pub entry : String Global × Vec ℕ Global → List ℕ × List ℕ
+entry e = (string_bytes e.0, e.1.items)
+
+-- the files of a list, where the first entry of a name tells
+abbrev pub files_of : List (String Global × Vec ℕ Global) → Files
+files_of es = files.from_entries (map entry es)
+
+-- no name stands twice
+abbrev pub NamesDiffer : List (String Global × Vec ℕ Global) → Type 0
+NamesDiffer es = AllPairs (λ a b. string_bytes a.0 ≢ string_bytes b.0) es
+
+-- the files, the numbers of the calls that are to fail, how many calls there were, and how many failed
+pub record MemShelfState : Type 0 where
+  pub files : Files
+  pub failing : List ℕ
+  pub calls : ℕ
+  pub faults : ℕ
+
+-- the same of an outlet, with all bytes said
+pub record MemOutletState : Type 0 where
+  pub files : Files
+  pub said : List ℕ
+  pub failing : List ℕ
+  pub calls : ℕ
+  pub faults : ℕ
+
+abbrev pub files_code : Coded Files
+files_code = files.code (coded_list coded_ℕ) (coded_list coded_ℕ)
+
+abbrev pub mem_shelf_code : Coded MemShelfState
+mem_shelf_code =
+    code_by (Files × (List ℕ × (ℕ × ℕ))) (coded× files_code (coded× (coded_list coded_ℕ) (coded× coded_ℕ coded_ℕ)))
+    (λ s. (s.files, (s.failing, (s.calls, s.faults))))
+    (λ p. record { files = p.0; failing = p.1.0; calls = p.1.1.0; faults = p.1.1.1 })
+    (λ _. refl)
+
+abbrev pub mem_outlet_code : Coded MemOutletState
+mem_outlet_code =
+    code_by (Files × (List ℕ × (List ℕ × (ℕ × ℕ))))
+    (coded× files_code (coded× (coded_list coded_ℕ) (coded× (coded_list coded_ℕ) (coded× coded_ℕ coded_ℕ))))
+    (λ o. (o.files, (o.said, (o.failing, (o.calls, o.faults)))))
+    (λ p. record { files = p.0; said = p.1.0; failing = p.1.1.0; calls = p.1.1.1.0; faults = p.1.1.1.1 })
+    (λ _. refl)
+
+-- one counter serves every name
+abbrev pub mem_shelf_state : MemShelfState → ShelfState
+mem_shelf_state s = record { files = Some s.files; faults = λ _. s.faults }
+
+-- one counter serves every name and what is said
+abbrev pub mem_outlet_state : MemOutletState → OutletState
+mem_outlet_state o = record { files = Some o.files; said = Some o.said; faults = λ _. o.faults; say_faults = o.faults }
+
+-- the call of this number fails, by the list of the numbers or since the count of faults stands at its last value
+abbrev pub fails_at : List ℕ → ℕ → ℕ → Bool
+fails_at failing call faults = (faults == 2 ^ 64 - 1) || list_any (λ n. n == call) failing
+
+-- the next `get` of this name fails
+abbrev pub get_fails : MemShelfState → List ℕ → Bool
+get_fails s name = fails_at s.failing s.calls s.faults || is_none (bytes_of s.files name)
+
+-- the next `put` or `say` fails
+abbrev pub write_fails : MemOutletState → Bool
+write_fails o = fails_at o.failing o.calls o.faults
+
+-- the shelf after a `get` of this name
+abbrev pub after_get : List ℕ → MemShelfState → MemShelfState
+after_get name s = record s { calls = counted s.calls; faults = (if get_fails s name then counted s.faults else s.faults) }
+
+-- the outlet after a `put` or a `say` that wrote nothing
+abbrev pub after_write : MemOutletState → MemOutletState
+after_write o = record o { calls = counted o.calls; faults = (if write_fails o then counted o.faults else o.faults) }
+
+-- the outlet where the name holds these bytes
+abbrev pub with_file : List ℕ → List ℕ → MemOutletState → MemOutletState
+with_file name bytes o = record o { files = files.insert o.files name bytes }
+
+-- the outlet after these bytes were said too
+abbrev pub with_said : List ℕ → MemOutletState → MemOutletState
+with_said bytes o = record o { said = o.said ++ bytes }
