@@ -1,0 +1,164 @@
+//! The working folder as a shelf and an outlet, and standard output.
+ghost use Rattle.std.specs.Prelude.{◌≡◌, ◌≢◌, ◌≤◌, IfOk, IfErr, Err, IsErrOf, OnOk, OnErr};
+ghost use Rattle.beeb_files.specs.Counts.{NoneFell, Rose, counted};
+ghost use Rattle.beeb_files.specs.Shelf.{IsFound, IsGetCause, SaysTooLong};
+ghost use Rattle.beeb_files.specs.Files.{put, say, IsPartPut, IsPartSaid};
+ghost use Rattle.beeb_files.specs.Outlet.{NoCountFell};
+ghost use Rattle.beeb_files.specs.Folder.{dir_shelf_state, dir_outlet_state};
+
+use crate::outlet::{Outlet, PutError};
+use crate::shelf::{Shelf, ShelfError};
+use std::alloc::Global;
+use std::fs::OpenFile;
+use std::io::{ErrorKind, Read, Write};
+use std::marker::Model;
+use std::rt::Files;
+use std::{fs, io};
+
+/// The files of the working folder. Contracts see the count of faults alone, which stops at
+/// 2^64 - 1.
+#[derive(Drop)]
+pub struct DirShelf<'a, R: Files> {
+    rt: &'a R,
+    faults: u64,
+}
+
+impl<'a, R: Files> Model for DirShelf<'a, R> {
+    ghost use Rattle.std.specs.Prelude.{ℕ};
+
+    ghost Value = { ℕ };
+
+    ghost view = { λ s. s.faults };
+}
+
+impl<'a, R: Files> DirShelf<'a, R> {
+    /// A shelf that has counted no fault.
+    pub fn make(rt: &'a R) -> DirShelf<'a, R>
+        ensures { result ≡ 0 }
+    {
+        DirShelf { rt, faults: 0 }
+    }
+}
+
+// The file's bytes, at most `cap` and one more. Room for all of them, and for the read that finds the
+// end, is taken at once, so that the bytes are never moved. A length that turns out to be wrong only
+// costs time or room.
+fn read_up_to<R: Files>(rt: &R, alloc: Global, name: &str, cap: u64) -> io::Result<Vec<u8>> {
+    let most = cap.saturating_add(1);
+    let file = fs::open(rt, name)?;
+    let length = file.metadata()?.len();
+    let mut bytes = Vec::new(alloc);
+    bytes.reserve_exact(length.saturating_add(1).min(most) as usize)?;
+    file.take(most).read_to_end(&mut bytes)?;
+    Ok(bytes)
+}
+
+impl<'a, R: Files> Shelf for DirShelf<'a, R> {
+    ghost shelf = { dir_shelf_state };
+
+    /// Fails, and counts, where the file is not there or the system refuses to read it.
+    fn get(&mut self, alloc: Global, name: &str, cap: u64) -> Result<Vec<u8>, ShelfError>
+        ensures files { (dir_shelf_state self.new).files ≡ (dir_shelf_state self.old).files }
+        ensures counts { NoneFell (dir_shelf_state self.old).faults (dir_shelf_state self.new).faults }
+        ensures found { IfOk result (λ v. IsFound (dir_shelf_state self.old) (dir_shelf_state self.new) name.now cap v.items) }
+        ensures cause { IfErr result (λ e. IsGetCause (dir_shelf_state self.old) (dir_shelf_state self.new) name.now cap e) }
+        ensures too_long { SaysTooLong (dir_shelf_state self.old) (dir_shelf_state self.new) name.now cap result }
+        // It counts exactly where it fails.
+        ensures counted { IsErrOf result ShelfError.Failed → self.new ≡ counted self.old }
+        ensures not_counted { result ≢ Err ShelfError.Failed → self.new ≡ self.old }
+    {
+        match read_up_to(self.rt, alloc, name, cap) {
+            Ok(bytes) => {
+                if bytes.len() as u64 > cap {
+                    Err(ShelfError::TooLong { cap })
+                } else {
+                    Ok(bytes)
+                }
+            }
+            Err(error) => {
+                if error.kind() == ErrorKind::OutOfMemory {
+                    Err(ShelfError::NoMemory)
+                } else {
+                    self.faults = self.faults.saturating_add(1);
+                    Err(ShelfError::Failed)
+                }
+            }
+        }
+    }
+}
+
+/// The working folder's files, and standard output for what is said. Contracts see the count of
+/// faults alone, which stops at 2^64 - 1.
+#[derive(Drop)]
+pub struct DirOutlet<'a, R: Files + Print> {
+    rt: &'a R,
+    faults: u64,
+}
+
+impl<'a, R: Files + Print> Model for DirOutlet<'a, R> {
+    ghost use Rattle.std.specs.Prelude.{ℕ};
+
+    ghost Value = { ℕ };
+
+    ghost view = { λ o. o.faults };
+}
+
+impl<'a, R: Files + Print> DirOutlet<'a, R> {
+    /// An outlet that has counted no fault.
+    pub fn make(rt: &'a R) -> DirOutlet<'a, R>
+        ensures { result ≡ 0 }
+    {
+        DirOutlet { rt, faults: 0 }
+    }
+
+    // The answer after an attempt, which counts where it failed.
+    fn answer(&mut self, done: io::Result<()>) -> Result<(), PutError>
+        ensures ok { OnOk result (self.new ≡ self.old) }
+        ensures err { OnErr result (self.new ≡ counted self.old) }
+        ensures grows { self.old ≤ self.new }
+        ensures rose { OnErr result (Rose self.old self.new) }
+    {
+        match done {
+            Ok(()) => Ok(()),
+            Err(_) => {
+                self.faults = self.faults.saturating_add(1);
+                Err(PutError::Failed)
+            }
+        }
+    }
+}
+
+impl<'a, R: Files + Print> Outlet for DirOutlet<'a, R> {
+    ghost outlet = { dir_outlet_state };
+
+    /// Fails, and counts, where the system refuses to write the whole file.
+    fn put(&mut self, name: &str, bytes: &[u8]) -> Result<(), PutError>
+        ensures ok { OnOk result ((dir_outlet_state self.new).files ≡ put name.now bytes.now (dir_outlet_state self.old).files) }
+        ensures part { OnErr result (IsPartPut name.now bytes.now (dir_outlet_state self.old).files (dir_outlet_state self.new).files) }
+        ensures said { (dir_outlet_state self.new).said ≡ (dir_outlet_state self.old).said }
+        ensures counts { NoCountFell (dir_outlet_state self.old) (dir_outlet_state self.new) }
+        ensures cause { IsErrOf result PutError.Failed → Rose ((dir_outlet_state self.old).faults name.now) ((dir_outlet_state self.new).faults name.now) }
+        // It counts exactly where it refuses.
+        ensures not_counted { OnOk result (self.new ≡ self.old) }
+        ensures counted { OnErr result (self.new ≡ counted self.old) }
+    {
+        let done = fs::write(self.rt, name, bytes);
+        self.answer(done)
+    }
+
+    /// Fails, and counts, where standard output does not take all bytes. The bytes have left the
+    /// program when the call returns.
+    fn say(&mut self, bytes: &[u8]) -> Result<(), PutError>
+        ensures ok { OnOk result ((dir_outlet_state self.new).said ≡ say bytes.now (dir_outlet_state self.old).said) }
+        ensures part { OnErr result (IsPartSaid bytes.now (dir_outlet_state self.old).said (dir_outlet_state self.new).said) }
+        ensures files { (dir_outlet_state self.new).files ≡ (dir_outlet_state self.old).files }
+        ensures counts { NoCountFell (dir_outlet_state self.old) (dir_outlet_state self.new) }
+        ensures cause { IsErrOf result PutError.Failed → Rose (dir_outlet_state self.old).say_faults (dir_outlet_state self.new).say_faults }
+        // It counts exactly where it refuses.
+        ensures not_counted { OnOk result (self.new ≡ self.old) }
+        ensures counted { OnErr result (self.new ≡ counted self.old) }
+    {
+        let done = io::writer(self.rt).write_all(bytes);
+        self.answer(done)
+    }
+}
