@@ -1,5 +1,5 @@
 //! The working folder as a shelf and an outlet, and standard output.
-ghost use Rattle.std.specs.Prelude.{◌≡◌, ◌≢◌, ◌≤◌, IfOk, IfErr, Err, IsErrOf, OnOk, OnErr};
+ghost use Rattle.std.specs.Prelude.{◌≡◌, ◌≢◌, ◌≤◌, ◌↔◌, IsOk, IfOk, IfErr, Err, IsErrOf, OnOk, OnErr, IsOkUnless};
 ghost use Rattle.beeb_files.specs.Counts.{NoneFell, Rose, counted};
 ghost use Rattle.beeb_files.specs.Shelf.{IsFound, IsGetCause, SaysTooLong};
 ghost use Rattle.beeb_files.specs.Files.{put, say, IsPartPut, IsPartSaid};
@@ -40,16 +40,15 @@ impl<'a, R: Files> DirShelf<'a, R> {
     }
 }
 
-// The file's bytes, at most `cap` and one more. Room for all of them, and for the read that finds the
-// end, is taken at once, so that the bytes are never moved. A length that turns out to be wrong only
-// costs time or room.
+// The file's bytes, at most `cap` and one more. Room for all of them is taken before the first read,
+// with one byte to spare for the read that finds the end, so that the bytes are never moved. Where
+// the system tells a wrong length, that costs room or time alone.
 fn read_up_to<R: Files>(rt: &R, alloc: Global, name: &str, cap: u64) -> io::Result<Vec<u8>> {
-    let most = cap.saturating_add(1);
     let file = fs::open(rt, name)?;
-    let length = file.metadata()?.len();
+    let expected = file.metadata()?.len().min(cap);
     let mut bytes = Vec::new(alloc);
-    bytes.reserve_exact(length.saturating_add(1).min(most) as usize)?;
-    file.take(most).read_to_end(&mut bytes)?;
+    bytes.reserve_exact(expected.saturating_add(2) as usize)?;
+    file.take(cap.saturating_add(1)).read_to_end(&mut bytes)?;
     Ok(bytes)
 }
 
@@ -113,10 +112,12 @@ impl<'a, R: Files + Print> DirOutlet<'a, R> {
 
     // The answer after an attempt, which counts where it failed.
     fn answer(&mut self, done: io::Result<()>) -> Result<(), PutError>
+        ensures same { IsOk result ↔ IsOk done }
         ensures ok { OnOk result (self.new ≡ self.old) }
         ensures err { OnErr result (self.new ≡ counted self.old) }
         ensures grows { self.old ≤ self.new }
         ensures rose { OnErr result (Rose self.old self.new) }
+        ensures refusal { IsOkUnless result PutError.Failed }
     {
         match done {
             Ok(()) => Ok(()),
@@ -141,6 +142,7 @@ impl<'a, R: Files + Print> Outlet for DirOutlet<'a, R> {
         // It counts exactly where it refuses.
         ensures not_counted { OnOk result (self.new ≡ self.old) }
         ensures counted { OnErr result (self.new ≡ counted self.old) }
+        ensures refusal { IsOkUnless result PutError.Failed }
     {
         let done = fs::write(self.rt, name, bytes);
         self.answer(done)
@@ -157,6 +159,7 @@ impl<'a, R: Files + Print> Outlet for DirOutlet<'a, R> {
         // It counts exactly where it refuses.
         ensures not_counted { OnOk result (self.new ≡ self.old) }
         ensures counted { OnErr result (self.new ≡ counted self.old) }
+        ensures refusal { IsOkUnless result PutError.Failed }
     {
         let done = io::writer(self.rt).write_all(bytes);
         self.answer(done)
