@@ -59,9 +59,12 @@ impl<'a, R: Files> Shelf for DirShelf<'a, R> {
     fn get(&mut self, alloc: Global, name: &str, cap: u64) -> Result<Vec<u8>, ShelfError>
         ensures files { (dir_shelf_state self.new).files ≡ (dir_shelf_state self.old).files }
         ensures counts { NoneFell (dir_shelf_state self.old).faults (dir_shelf_state self.new).faults }
-        ensures found { IfOk result (λ v. IsFound (dir_shelf_state self.old) (dir_shelf_state self.new) name.now cap v.items) }
-        ensures cause { IfErr result (λ e. IsGetCause (dir_shelf_state self.old) (dir_shelf_state self.new) name.now cap e) }
-        ensures too_long { SaysTooLong (dir_shelf_state self.old) (dir_shelf_state self.new) name.now cap result }
+        ensures found { IfOk result (λ v.
+            IsFound (dir_shelf_state self.old) (dir_shelf_state self.new) name.now cap v.items) }
+        ensures cause { IfErr result (λ e.
+            IsGetCause (dir_shelf_state self.old) (dir_shelf_state self.new) name.now cap e) }
+        ensures too_long { SaysTooLong (dir_shelf_state self.old) (dir_shelf_state self.new)
+            name.now cap result }
         // It counts exactly where it fails.
         ensures counted { IsErrOf result ShelfError.Failed → self.new ≡ counted self.old }
         ensures not_counted { result ≢ Err ShelfError.Failed → self.new ≡ self.old }
@@ -134,11 +137,14 @@ impl<'a, R: Files + Print> Outlet for DirOutlet<'a, R> {
 
     /// Fails, and counts, where the system refuses to write the whole file.
     fn put(&mut self, name: &str, bytes: &[u8]) -> Result<(), PutError>
-        ensures ok { OnOk result ((dir_outlet_state self.new).files ≡ put name.now bytes.now (dir_outlet_state self.old).files) }
-        ensures part { OnErr result (IsPartPut name.now bytes.now (dir_outlet_state self.old).files (dir_outlet_state self.new).files) }
+        ensures ok { OnOk result
+            ((dir_outlet_state self.new).files ≡ put name.now bytes.now (dir_outlet_state self.old).files) }
+        ensures part { OnErr result
+            (IsPartPut name.now bytes.now (dir_outlet_state self.old).files (dir_outlet_state self.new).files) }
         ensures said { (dir_outlet_state self.new).said ≡ (dir_outlet_state self.old).said }
         ensures counts { NoCountFell (dir_outlet_state self.old) (dir_outlet_state self.new) }
-        ensures cause { IsErrOf result PutError.Failed → Rose ((dir_outlet_state self.old).faults name.now) ((dir_outlet_state self.new).faults name.now) }
+        ensures cause { IsErrOf result PutError.Failed →
+            Rose ((dir_outlet_state self.old).faults name.now) ((dir_outlet_state self.new).faults name.now) }
         // It counts exactly where it refuses.
         ensures not_counted { OnOk result (self.new ≡ self.old) }
         ensures counted { OnErr result (self.new ≡ counted self.old) }
@@ -151,11 +157,14 @@ impl<'a, R: Files + Print> Outlet for DirOutlet<'a, R> {
     /// Fails, and counts, where standard output does not take all bytes. The bytes have left the
     /// program when the call returns.
     fn say(&mut self, bytes: &[u8]) -> Result<(), PutError>
-        ensures ok { OnOk result ((dir_outlet_state self.new).said ≡ say bytes.now (dir_outlet_state self.old).said) }
-        ensures part { OnErr result (IsPartSaid bytes.now (dir_outlet_state self.old).said (dir_outlet_state self.new).said) }
+        ensures ok { OnOk result
+            ((dir_outlet_state self.new).said ≡ say bytes.now (dir_outlet_state self.old).said) }
+        ensures part { OnErr result
+            (IsPartSaid bytes.now (dir_outlet_state self.old).said (dir_outlet_state self.new).said) }
         ensures files { (dir_outlet_state self.new).files ≡ (dir_outlet_state self.old).files }
         ensures counts { NoCountFell (dir_outlet_state self.old) (dir_outlet_state self.new) }
-        ensures cause { IsErrOf result PutError.Failed → Rose (dir_outlet_state self.old).say_faults (dir_outlet_state self.new).say_faults }
+        ensures cause { IsErrOf result PutError.Failed →
+            Rose (dir_outlet_state self.old).say_faults (dir_outlet_state self.new).say_faults }
         // It counts exactly where it refuses.
         ensures not_counted { OnOk result (self.new ≡ self.old) }
         ensures counted { OnErr result (self.new ≡ counted self.old) }

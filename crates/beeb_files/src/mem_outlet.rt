@@ -7,7 +7,7 @@ ghost use Rattle.beeb_files.specs.Files.{bytes_of, put, say, IsPartPut, IsPartSa
 ghost use Rattle.beeb_files.specs.Outlet.{NoCountFell};
 ghost use Rattle.beeb_files.specs.Memory.{files_of, mem_outlet_state, write_fails, after_write, with_file, with_said};
 
-use crate::mem_shelf::fails;
+use crate::mem_shelf::is_to_fail;
 use crate::outlet::{Outlet, PutError};
 use std::alloc::{AllocError, Global};
 use std::collections::VecDeque;
@@ -34,14 +34,26 @@ impl Model for MemOutlet {
 
     ghost coded = { mem_outlet_code };
 
-    ghost view = { λ o. record { files = files_of o.files.items; said = o.said.items; failing = o.fail.items; calls = o.calls; faults = o.faults } };
+    ghost view = { λ o. record {
+      files = files_of o.files.items;
+      said = o.said.items;
+      failing = o.fail.items;
+      calls = o.calls;
+      faults = o.faults;
+    } };
 }
 
 impl MemOutlet {
     /// An outlet that holds nothing and has said nothing, and whose calls of these numbers fail,
     /// where the first call has the number 0.
     pub fn make(alloc: Global, fail: Vec<u32>) -> MemOutlet
-        ensures { result ≡ record { files = files.empty; said = []; failing = fail.items; calls = 0; faults = 0 } }
+        ensures { result ≡ record {
+          files = files.empty;
+          said = [];
+          failing = fail.items;
+          calls = 0;
+          faults = 0;
+        } }
     {
         MemOutlet {
             alloc,
@@ -78,7 +90,7 @@ impl MemOutlet {
         ensures grows { self.old.faults ≤ self.new.faults }
         ensures state { self.new ≡ after_write self.old }
     {
-        let fails = fails(&self.fail, self.calls, self.faults);
+        let fails = is_to_fail(&self.fail, self.calls, self.faults);
         self.calls = self.calls.saturating_add(1);
         if fails {
             self.faults = self.faults.saturating_add(1);
@@ -94,7 +106,8 @@ fn add(
     name: &str,
     bytes: &[u8],
 ) -> Result<(), AllocError>
-    ensures ok { OnOk result (files_of log.new.items ≡ files.insert (files_of log.old.items) name.now bytes.now) }
+    ensures ok { OnOk result
+        (files_of log.new.items ≡ files.insert (files_of log.old.items) name.now bytes.now) }
     ensures err { OnErr result (log.new.items ≡ log.old.items) }
 {
     let entry = (String::from_str(alloc, name)?, bytes.to_vec(alloc)?);
@@ -107,11 +120,14 @@ impl Outlet for MemOutlet {
 
     /// Fails where the call's number is listed, or the count of faults stands at its last value.
     fn put(&mut self, name: &str, bytes: &[u8]) -> Result<(), PutError>
-        ensures ok { OnOk result ((mem_outlet_state self.new).files ≡ put name.now bytes.now (mem_outlet_state self.old).files) }
-        ensures part { OnErr result (IsPartPut name.now bytes.now (mem_outlet_state self.old).files (mem_outlet_state self.new).files) }
+        ensures ok { OnOk result
+            ((mem_outlet_state self.new).files ≡ put name.now bytes.now (mem_outlet_state self.old).files) }
+        ensures part { OnErr result
+            (IsPartPut name.now bytes.now (mem_outlet_state self.old).files (mem_outlet_state self.new).files) }
         ensures said { (mem_outlet_state self.new).said ≡ (mem_outlet_state self.old).said }
         ensures counts { NoCountFell (mem_outlet_state self.old) (mem_outlet_state self.new) }
-        ensures cause { IsErrOf result PutError.Failed → Rose ((mem_outlet_state self.old).faults name.now) ((mem_outlet_state self.new).faults name.now) }
+        ensures cause { IsErrOf result PutError.Failed →
+            Rose ((mem_outlet_state self.old).faults name.now) ((mem_outlet_state self.new).faults name.now) }
         // Exactly when it fails, and all that it leaves.
         ensures failed { IsErrOf result PutError.Failed ↔ IsTrue (write_fails self.old) }
         ensures state_ok { OnOk result (self.new ≡ with_file name.now bytes.now (after_write self.old)) }
@@ -128,11 +144,14 @@ impl Outlet for MemOutlet {
 
     /// Fails where the call's number is listed, or the count of faults stands at its last value.
     fn say(&mut self, bytes: &[u8]) -> Result<(), PutError>
-        ensures ok { OnOk result ((mem_outlet_state self.new).said ≡ say bytes.now (mem_outlet_state self.old).said) }
-        ensures part { OnErr result (IsPartSaid bytes.now (mem_outlet_state self.old).said (mem_outlet_state self.new).said) }
+        ensures ok { OnOk result
+            ((mem_outlet_state self.new).said ≡ say bytes.now (mem_outlet_state self.old).said) }
+        ensures part { OnErr result
+            (IsPartSaid bytes.now (mem_outlet_state self.old).said (mem_outlet_state self.new).said) }
         ensures files { (mem_outlet_state self.new).files ≡ (mem_outlet_state self.old).files }
         ensures counts { NoCountFell (mem_outlet_state self.old) (mem_outlet_state self.new) }
-        ensures cause { IsErrOf result PutError.Failed → Rose (mem_outlet_state self.old).say_faults (mem_outlet_state self.new).say_faults }
+        ensures cause { IsErrOf result PutError.Failed →
+            Rose (mem_outlet_state self.old).say_faults (mem_outlet_state self.new).say_faults }
         // Exactly when it fails, and all that it leaves.
         ensures failed { IsErrOf result PutError.Failed ↔ IsTrue (write_fails self.old) }
         ensures state_ok { OnOk result (self.new ≡ with_said bytes.now (after_write self.old)) }

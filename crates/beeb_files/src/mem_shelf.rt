@@ -28,7 +28,12 @@ impl Model for MemShelf {
 
     ghost coded = { mem_shelf_code };
 
-    ghost view = { λ s. record { files = files_of s.files.items; failing = s.fail.items; calls = s.calls; faults = s.faults } };
+    ghost view = { λ s. record {
+      files = files_of s.files.items;
+      failing = s.fail.items;
+      calls = s.calls;
+      faults = s.faults;
+    } };
 }
 
 impl MemShelf {
@@ -36,7 +41,12 @@ impl MemShelf {
     /// has the number 0.
     pub fn make(files: Vec<(String, Vec<u8>)>, fail: Vec<u32>) -> MemShelf
         requires { NamesDiffer files.items }
-        ensures { result ≡ record { files = files_of files.items; failing = fail.items; calls = 0; faults = 0 } }
+        ensures { result ≡ record {
+          files = files_of files.items;
+          failing = fail.items;
+          calls = 0;
+          faults = 0;
+        } }
     {
         MemShelf {
             files,
@@ -47,21 +57,21 @@ impl MemShelf {
     }
 }
 
-// The call of this number is to fail.
-pub(crate) fn fails(fail: &[u32], call: u64, faults: u64) -> bool
+/// The call of this number is to fail: it is listed, or the count of faults stands at its last value.
+pub(crate) fn is_to_fail(fail: &[u32], call: u64, faults: u64) -> bool
     ensures { result ≡ fails_at fail.now call faults }
 {
-    faults == u64::MAX || lists(fail, call)
+    faults == u64::MAX || is_listed(fail, call)
 }
 
-fn lists(fail: &[u32], call: u64) -> bool
+fn is_listed(fail: &[u32], call: u64) -> bool
     ensures { result ≡ list_any (λ n. n == call) fail.now }
 {
     fail.iter().any(|n| u64::from(*n) == call)
 }
 
 // The bytes of the first entry of this name.
-pub(crate) fn find<'a>(files: &'a [(String, Vec<u8>)], name: &str) -> Option<&'a [u8]>
+fn find<'a>(files: &'a [(String, Vec<u8>)], name: &str) -> Option<&'a [u8]>
     ensures { option_copied result ≡ bytes_of (files_of files.now) name.now }
 {
     for (held, bytes) in files {
@@ -80,16 +90,19 @@ impl Shelf for MemShelf {
     fn get(&mut self, alloc: Global, name: &str, cap: u64) -> Result<Vec<u8>, ShelfError>
         ensures files { (mem_shelf_state self.new).files ≡ (mem_shelf_state self.old).files }
         ensures counts { NoneFell (mem_shelf_state self.old).faults (mem_shelf_state self.new).faults }
-        ensures found { IfOk result (λ v. IsFound (mem_shelf_state self.old) (mem_shelf_state self.new) name.now cap v.items) }
-        ensures cause { IfErr result (λ e. IsGetCause (mem_shelf_state self.old) (mem_shelf_state self.new) name.now cap e) }
-        ensures too_long { SaysTooLong (mem_shelf_state self.old) (mem_shelf_state self.new) name.now cap result }
+        ensures found { IfOk result (λ v.
+            IsFound (mem_shelf_state self.old) (mem_shelf_state self.new) name.now cap v.items) }
+        ensures cause { IfErr result (λ e.
+            IsGetCause (mem_shelf_state self.old) (mem_shelf_state self.new) name.now cap e) }
+        ensures too_long { SaysTooLong (mem_shelf_state self.old) (mem_shelf_state self.new)
+            name.now cap result }
         // Exactly when it fails, and all that it leaves.
         ensures failed { IsErrOf result ShelfError.Failed ↔ IsTrue (get_fails self.old name.now) }
         ensures state { self.new ≡ after_get name.now self.old }
     {
         let call = self.calls;
         self.calls = call.saturating_add(1);
-        if fails(&self.fail, call, self.faults) {
+        if is_to_fail(&self.fail, call, self.faults) {
             self.faults = self.faults.saturating_add(1);
             return Err(ShelfError::Failed);
         }

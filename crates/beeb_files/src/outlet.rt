@@ -25,17 +25,23 @@ pub trait Outlet {
     /// Puts these bytes under the name, in place of what it held. After a refusal the name holds
     /// what it held, or a first part of the bytes.
     fn put(&mut self, name: &str, bytes: &[u8]) -> Result<(), PutError>
-        ensures ok { OnOk result ((outlet self.new).files ≡ put name.now bytes.now (outlet self.old).files) }
-        ensures part { OnErr result (IsPartPut name.now bytes.now (outlet self.old).files (outlet self.new).files) }
+        ensures ok { OnOk result
+            ((outlet self.new).files ≡ put name.now bytes.now (outlet self.old).files) }
+        ensures part { OnErr result
+            (IsPartPut name.now bytes.now (outlet self.old).files (outlet self.new).files) }
         ensures said { (outlet self.new).said ≡ (outlet self.old).said }
         ensures counts { NoCountFell (outlet self.old) (outlet self.new) }
-        ensures cause { IsErrOf result PutError.Failed → Rose ((outlet self.old).faults name.now) ((outlet self.new).faults name.now) };
+        ensures cause { IsErrOf result PutError.Failed →
+            Rose ((outlet self.old).faults name.now) ((outlet self.new).faults name.now) };
 
     /// Says these bytes after those said before. After a refusal a first part of them may be said.
     fn say(&mut self, bytes: &[u8]) -> Result<(), PutError>
-        ensures ok { OnOk result ((outlet self.new).said ≡ say bytes.now (outlet self.old).said) }
-        ensures part { OnErr result (IsPartSaid bytes.now (outlet self.old).said (outlet self.new).said) }
+        ensures ok { OnOk result
+            ((outlet self.new).said ≡ say bytes.now (outlet self.old).said) }
+        ensures part { OnErr result
+            (IsPartSaid bytes.now (outlet self.old).said (outlet self.new).said) }
         ensures files { (outlet self.new).files ≡ (outlet self.old).files }
         ensures counts { NoCountFell (outlet self.old) (outlet self.new) }
-        ensures cause { IsErrOf result PutError.Failed → Rose (outlet self.old).say_faults (outlet self.new).say_faults };
+        ensures cause { IsErrOf result PutError.Failed →
+            Rose (outlet self.old).say_faults (outlet self.new).say_faults };
 }

@@ -33,7 +33,9 @@ pub trait Shelf {
     fn get(&mut self, alloc: Global, name: &str, cap: u64) -> Result<Vec<u8>, ShelfError>
         ensures files { (shelf self.new).files ≡ (shelf self.old).files }
         ensures counts { NoneFell (shelf self.old).faults (shelf self.new).faults }
-        ensures found { IfOk result (λ v. IsFound (shelf self.old) (shelf self.new) name.now cap v.items) }
-        ensures cause { IfErr result (λ e. IsGetCause (shelf self.old) (shelf self.new) name.now cap e) }
+        ensures found { IfOk result (λ v.
+            IsFound (shelf self.old) (shelf self.new) name.now cap v.items) }
+        ensures cause { IfErr result (λ e.
+            IsGetCause (shelf self.old) (shelf self.new) name.now cap e) }
         ensures too_long { SaysTooLong (shelf self.old) (shelf self.new) name.now cap result };
 }

@@ -21,6 +21,14 @@ fn two_files(alloc: Global) -> Result<Vec<(String, Vec<u8>)>, AllocError>
     Ok(vec![in alloc; program, empty]?)
 }
 
+// The answer, to be compared with one that is written out.
+fn in_slices(answer: &Result<Vec<u8>, ShelfError>) -> Result<&[u8], ShelfError> {
+    match answer {
+        Ok(bytes) => Ok(bytes.as_slice()),
+        Err(error) => Err(*error),
+    }
+}
+
 #[test]
 fn a_memory_shelf_fails_at_the_listed_calls(rt: HostRuntime) -> Result<(), Fail> {
     let alloc = rt.alloc();
@@ -39,11 +47,7 @@ fn a_memory_shelf_fails_at_the_listed_calls(rt: HostRuntime) -> Result<(), Fail>
     ];
     for (call, (name, cap, want)) in rows.into_iter().enumerate() {
         let got = shelf.get(alloc, name, cap);
-        match (got, want) {
-            (Ok(bytes), Ok(want)) => assert_eq!(rt; bytes.as_slice(), want, "call {call}"),
-            (Err(error), Err(want)) => assert_eq!(rt; error, want, "call {call}"),
-            (_, _) => assert!(rt; false, "call {call}"),
-        }
+        assert_eq!(rt; in_slices(&got), want, "call {call}");
     }
     Ok(())
 }
@@ -100,11 +104,7 @@ fn the_working_folder_gives_back_what_was_put(rt: HostRuntime) -> Result<(), Fai
     ];
     for (name, cap, want) in rows {
         let got = shelf.get(alloc, name, cap);
-        match (got, want) {
-            (Ok(bytes), Ok(want)) => assert_eq!(rt; bytes.as_slice(), want, "{name} {cap}"),
-            (Err(error), Err(want)) => assert_eq!(rt; error, want, "{name} {cap}"),
-            (_, _) => assert!(rt; false, "{name} {cap}"),
-        }
+        assert_eq!(rt; in_slices(&got), want, "{name} {cap}");
     }
     fs::remove_file(&rt, WRITTEN)?;
     Ok(())

@@ -1,4 +1,4 @@
-use Rattle.std.proofs.Common.{◌∙◌, sym, ◌+◌, drop}
+use Rattle.std.proofs.Common.{◌∙◌, sym}
 use Rattle.beeb_files.proofs.Held.{bytes_of-first, bytes_of-later, bytes_of-past, drop-here}
 use Rattle.beeb_files.proofs.mem_shelf.find.Goals as goal
 
