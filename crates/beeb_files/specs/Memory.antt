@@ -1,4 +1,5 @@
--- The shelf and the outlet in memory: what contracts see of them, which of their calls fail, and what a call leaves.
+-- The shelf and the outlet in memory: what contracts see of them, which of their calls fail, and what
+-- a call leaves.
 use Rattle.std.specs.Prelude.{ℕ, ◌-◌, ◌^◌, ◌==◌, ◌||◌, ◌≢◌, Bool, List, ◌++◌, map, Some, is_none, string_bytes, if◌then◌else◌, AllPairs, refl}
 use Rattle.std.specs.List.{list_any}
 use Rattle.std.specs.FinMap as files
@@ -11,19 +12,23 @@ use Rattle.beeb_files.specs.Counts.{counted}
 use Rattle.beeb_files.specs.Shelf.{ShelfState}
 use Rattle.beeb_files.specs.Outlet.{OutletState}
 
--- a name and its bytes
-abbrev pub entry : String Global × Vec ℕ Global → List ℕ × List ℕ
-entry e = (string_bytes e.0, e.1.items)
+-- a name and its bytes, as the program holds them
+abbrev pub Entry : Type 0
+Entry = String Global × Vec ℕ Global
+
+-- the same as lists of bytes
+abbrev pub entry_bytes : Entry → List ℕ × List ℕ
+entry_bytes e = (string_bytes e.0, e.1.items)
 
 -- the files of a list, where the first entry of a name tells
-abbrev pub files_of : List (String Global × Vec ℕ Global) → Files
-files_of es = files.from_entries (map entry es)
+abbrev pub files_of : List Entry → Files
+files_of es = files.from_entries (map entry_bytes es)
 
 -- no name stands twice
-abbrev pub NamesDiffer : List (String Global × Vec ℕ Global) → Type 0
+abbrev pub NamesDiffer : List Entry → Type 0
 NamesDiffer es = AllPairs (λ a b. string_bytes a.0 ≢ string_bytes b.0) es
 
--- the files, the numbers of the calls that are to fail, how many calls there were, and how many failed
+-- the files, the numbers of the calls that are to fail, and the counts of calls and of failed calls
 pub record MemShelfState : Type 0 where
   pub files : Files
   pub failing : List ℕ
@@ -43,7 +48,8 @@ files_code = files.code (coded_list coded_ℕ) (coded_list coded_ℕ)
 
 abbrev pub mem_shelf_code : Coded MemShelfState
 mem_shelf_code =
-    code_by (Files × (List ℕ × (ℕ × ℕ))) (coded× files_code (coded× (coded_list coded_ℕ) (coded× coded_ℕ coded_ℕ)))
+    code_by (Files × (List ℕ × (ℕ × ℕ)))
+    (coded× files_code (coded× (coded_list coded_ℕ) (coded× coded_ℕ coded_ℕ)))
     (λ s. (s.files, (s.failing, (s.calls, s.faults))))
     (λ p. record { files = p.0; failing = p.1.0; calls = p.1.1.0; faults = p.1.1.1 })
     (λ _. refl)
@@ -62,9 +68,14 @@ mem_shelf_state s = record { files = Some s.files; faults = λ _. s.faults }
 
 -- one counter serves every name and what is said
 abbrev pub mem_outlet_state : MemOutletState → OutletState
-mem_outlet_state o = record { files = Some o.files; said = Some o.said; faults = λ _. o.faults; say_faults = o.faults }
+mem_outlet_state o = record {
+  files = Some o.files;
+  said = Some o.said;
+  faults = λ _. o.faults;
+  say_faults = o.faults;
+}
 
--- the call of this number fails, by the list of the numbers or since the count of faults stands at its last value
+-- the call of this number fails: it is listed, or the count of faults stands at its last value
 abbrev pub fails_at : List ℕ → ℕ → ℕ → Bool
 fails_at failing call faults = (faults == 2 ^ 64 - 1) || list_any (λ n. n == call) failing
 
@@ -78,11 +89,17 @@ write_fails o = fails_at o.failing o.calls o.faults
 
 -- the shelf after a `get` of this name
 abbrev pub after_get : List ℕ → MemShelfState → MemShelfState
-after_get name s = record s { calls = counted s.calls; faults = (if get_fails s name then counted s.faults else s.faults) }
+after_get name s = record s {
+  calls = counted s.calls;
+  faults = (if get_fails s name then counted s.faults else s.faults);
+}
 
 -- the outlet after a `put` or a `say` that wrote nothing
 abbrev pub after_write : MemOutletState → MemOutletState
-after_write o = record o { calls = counted o.calls; faults = (if write_fails o then counted o.faults else o.faults) }
+after_write o = record o {
+  calls = counted o.calls;
+  faults = (if write_fails o then counted o.faults else o.faults);
+}
 
 -- the outlet where the name holds these bytes
 abbrev pub with_file : List ℕ → List ℕ → MemOutletState → MemOutletState

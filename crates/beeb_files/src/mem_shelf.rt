@@ -57,7 +57,7 @@ impl MemShelf {
     }
 }
 
-/// The call of this number is to fail: it is listed, or the count of faults stands at its last value.
+// The call of this number is to fail: it is listed, or the count of faults stands at its last value.
 pub(crate) fn is_to_fail(fail: &[u32], call: u64, faults: u64) -> bool
     ensures { result ≡ fails_at fail.now call faults }
 {
