@@ -1,0 +1,4 @@
+pub mod ReadLemmas
+pub mod WriteLemmas
+pub mod RanLemmas
+pub mod EndLemmas

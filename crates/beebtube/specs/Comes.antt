@@ -1,0 +1,28 @@
+-- What each command reads and writes, and what it comes to. A new command has a line in each of the first three.
+use Rattle.std.specs.Prelude.{◌≡◌, ℕ, List, [], ◌∷◌, Option, Some, None, Result}
+use Rattle.beeb_files.specs.Files.{Files}
+use Rattle.beebtube.specs.declared.status.Status.{Status}
+use Rattle.beebtube.specs.Command.{Command, check}
+use Rattle.beebtube.specs.Verdict.{Verdict, read_all, ended, ◌>>=◌}
+use Rattle.beebtube.specs.Check.{check_after}
+
+-- the files that a command reads, in order, each with the most bytes that it takes
+abbrev pub reads : Command → List (List ℕ × ℕ)
+reads (check trace) = (trace, 100663296) ∷ []
+
+-- the names that a command may write
+abbrev pub MayWrite : Command → List ℕ → Type 0
+MayWrite (check trace) name = ⊥
+
+-- what follows once its files are read
+abbrev pub after_reading : Command → List (List ℕ) → Result Verdict Status
+after_reading (check trace) read = check_after read
+
+-- what a command comes to on these files
+abbrev pub verdict : Command → Files → Verdict
+verdict c files = ended (read_all files (reads c) >>= after_reading c)
+
+-- The command comes to v: on the files, where the shelf tells them, and else on some bytes that it may have given.
+abbrev pub ComesTo : Command → Option Files → Verdict → Type 0
+ComesTo c (Some files) v = verdict c files ≡ v
+ComesTo c None v = (read : List (List ℕ)) × (ended (after_reading c read) ≡ v)

@@ -1,0 +1,10 @@
+pub mod Status
+pub mod Kind
+pub mod Command
+pub mod Words
+pub mod Verdict
+pub mod Check
+pub mod Comes
+pub mod Ran
+pub mod Stages
+pub mod Seen

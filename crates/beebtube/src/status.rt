@@ -1,0 +1,80 @@
+//! How the program ends.
+ghost use Rattle.std.specs.Prelude.{◌≡◌, ◌++◌, IfOk};
+ghost use Rattle.std.specs.Fmt.{decimal};
+ghost use Rattle.beebtube.specs.Status.{number, text};
+
+use crate::name::Name;
+use beeb_bits::NoMemory;
+use std::alloc::{AllocError, Global};
+
+/// What a command ends with.
+#[derive(Debug, Drop)]
+pub enum Status {
+    /// The outputs stand.
+    Done,
+    /// The words spell no command.
+    Usage,
+    /// The file of this name could not be read.
+    ReadFault { name: Name },
+    /// The file of this name is longer than the command takes.
+    TooLong { name: Name },
+    /// The trace's first line, counted from 1, that is outside its form (kind 1) or its order (kind 2).
+    BadTrace { line: u64, kind: u8 },
+    /// The file of this name could not be written, or, for `-`, the text not said.
+    WriteFault { name: Name },
+    /// There was no memory.
+    NoMemory,
+    /// The trace's first line, counted from 1, whose answer the chip would not give, and the byte that it would.
+    Wrong { line: u64, byte: u8 },
+}
+
+fn joined(alloc: Global, front: &str, back: &[u8]) -> Result<Vec<u8>, AllocError>
+    ensures { IfOk result (λ v. v.items ≡ front.now ++ back.now) }
+{
+    let mut bytes = front.as_bytes().to_vec(alloc)?;
+    bytes.extend_from_slice(back)?;
+    Ok(bytes)
+}
+
+fn numbered(alloc: Global, front: &str, n: u64) -> Result<Vec<u8>, AllocError>
+    ensures { IfOk result (λ v. v.items ≡ front.now ++ decimal n) }
+{
+    let digits = format!(in alloc; "{n}")?;
+    joined(alloc, front, digits.as_bytes())
+}
+
+impl Status {
+    /// The number that the program ends with, from 0 to 8.
+    pub fn number(&self) -> u8
+        ensures { result ≡ number self.now }
+    {
+        match self {
+            Status::Done => 0,
+            Status::Usage => 1,
+            Status::ReadFault { .. } | Status::TooLong { .. } => 2,
+            Status::BadTrace { .. } => 4,
+            Status::WriteFault { .. } => 5,
+            Status::NoMemory => 7,
+            Status::Wrong { .. } => 8,
+        }
+    }
+
+    /// The text for standard error, without a line feed: no bytes for `Done` and `Wrong`.
+    pub fn text(&self, alloc: Global) -> Result<Vec<u8>, NoMemory>
+        ensures { IfOk result (λ v. v.items ≡ text self.now) }
+    {
+        let bytes = match self {
+            Status::Done | Status::Wrong { .. } => Ok(Vec::new(alloc)),
+            Status::Usage => joined(alloc, "usage", &[]),
+            Status::ReadFault { name } => joined(alloc, "cannot read ", name.as_bytes()),
+            Status::TooLong { name } => joined(alloc, "too long ", name.as_bytes()),
+            Status::BadTrace { line, .. } => numbered(alloc, "bad trace ", *line),
+            Status::WriteFault { name } => joined(alloc, "cannot write ", name.as_bytes()),
+            Status::NoMemory => joined(alloc, "no memory", &[]),
+        };
+        match bytes {
+            Ok(bytes) => Ok(bytes),
+            Err(_) => Err(NoMemory),
+        }
+    }
+}
