@@ -58,3 +58,6 @@ fn main(rt: HostRuntime) -> ExitCode {
     }
     ExitCode::from(number)
 }
+
+#[cfg(test)]
+mod tests;
