@@ -1,0 +1,227 @@
+-- The forms of a part and the rows of its opcodes lead to one another.
+use Rattle.std.proofs.Common.{◌≡◌, ℕ, ◌<◌, ◌↔◌, List, [], ◌∷◌, ◌++◌, refl, ap, sym, subst, ◌∙◌, arith, Option, Some, None, Bool, true, false, cond, eqb, ltb, ◌&&◌, MatchOption, IsTrue, IsSome, Any, eqb-true, is_some, eq-eqb, ◌==◌, option_map, find, filter}
+use Rattle.std.specs.List.{list_all, list_any}
+use Rattle.std.proofs.lemmas.Bool.{agree_below_at, ltb-true}
+use Rattle.std.proofs.lemmas.List.Folds.{Any-from_list_any, list_any-from_Any}
+use denote.Enum.Bare.{same_true}
+use Rattle.op_table.specs.contracts.names.Mnemonic.{the_type as mnemonics}
+use Rattle.op_table.specs.contracts.names.Mode.{the_type as modes}
+use Rattle.op_table.specs.declared.names.Part.{Part}
+use Rattle.op_table.specs.declared.names.Part.TheVariants.{Nmos, Cmos}
+use Rattle.op_table.specs.declared.names.Mnemonic.{Mnemonic}
+use Rattle.op_table.specs.declared.names.Mode.{Mode}
+use Rattle.op_table.specs.declared.rows.Row.{Row}
+use Rattle.op_table.specs.Names.{same_mnemonic, same_mode}
+use Rattle.op_table.specs.Forms.{Form, forms, nmos_forms, form_at, find_form}
+use Rattle.op_table.specs.Rows.{nmos_row, cmos_row, row_of, documented_row, Names}
+
+-- a fact of a row, of which there is one
+abbrev Fits : Mnemonic → Mode → Row → Type 0
+Fits name way r = (r.mnemonic ≡ name) × (r.mode ≡ way)
+
+-- ---- from a form to the row of its opcode
+
+abbrev same_row : Mnemonic → Mode → Option Row → Bool
+same_row name way None = false
+same_row name way (Some r) = same_mnemonic r.mnemonic name && same_mode r.mode way
+
+abbrev has_row : Part → Form → Bool
+has_row part f = ltb f.opcode 256 && same_row f.mnemonic f.mode (documented_row part f.opcode)
+
+all_have_rows : (part : Part) → list_all (has_row part) (forms part) ≡ true
+unfolding cmos_row nmos_row
+all_have_rows Nmos = refl
+all_have_rows Cmos = refl
+
+both : (a b : Bool) → (a && b) ≡ true → (a ≡ true) × (b ≡ true)
+both true true e = (refl, refl)
+both true false e = cc
+both false b e = cc
+
+row_fits : (name : Mnemonic) (way : Mode) (o : Option Row) → same_row name way o ≡ true → MatchOption o ⊥ (Fits name way)
+row_fits name way None e = cc
+row_fits name way (Some r) e =
+    let parts = both (same_mnemonic r.mnemonic name) (same_mode r.mode way) e in
+    (same_true mnemonics tt r.mnemonic name parts.0, same_true modes tt r.mode way parts.1)
+
+Names-form : (part : Part) (f : Form) → has_row part f ≡ true → Names part f.mnemonic f.mode f.opcode
+Names-form part f e =
+    let parts = both (ltb f.opcode 256) (same_row f.mnemonic f.mode (documented_row part f.opcode)) e in
+    (ltb-true f.opcode 256 parts.0, row_fits f.mnemonic f.mode (documented_row part f.opcode) parts.1)
+
+-- the opcode that `find_form` gives, among any forms
+abbrev found : Mnemonic → Mode → List Form → Option ℕ
+found name way fs = option_map (λ f. f.opcode) (find (λ f. same_mode f.mode way) (filter (λ f. same_mnemonic f.mnemonic name) fs))
+
+named_by : (part : Part) (name : Mnemonic) (way : Mode) (f : Form) (op : ℕ)
+    → has_row part f ≡ true → same_mnemonic f.mnemonic name ≡ true → same_mode f.mode way ≡ true → f.opcode ≡ op
+    → Names part name way op
+named_by part name way f op h same_name same_way e =
+    let n = subst (λ (k : ℕ). Names part f.mnemonic f.mode k) e (Names-form part f h) in
+    let m = subst (λ (x : Mnemonic). Names part x f.mode op) (same_true mnemonics tt f.mnemonic name same_name) n in
+    subst (λ (w : Mode). Names part name w op) (same_true modes tt f.mode way same_way) m
+
+-- what is found, where the first form is another's, is in another mode, or is the one
+found-other : (name : Mnemonic) (way : Mode) (f : Form) (fs : List Form) → same_mnemonic f.mnemonic name ≡ false → found name way (f ∷ fs) ≡ found name way fs
+found-other name way f fs e = rw e refl
+
+found-mode : (name : Mnemonic) (way : Mode) (f : Form) (fs : List Form) → same_mnemonic f.mnemonic name ≡ true → same_mode f.mode way ≡ false → found name way (f ∷ fs) ≡ found name way fs
+found-mode name way f fs e d = rw (e, d) refl
+
+found-here : (name : Mnemonic) (way : Mode) (f : Form) (fs : List Form) → same_mnemonic f.mnemonic name ≡ true → same_mode f.mode way ≡ true → found name way (f ∷ fs) ≡ Some f.opcode
+found-here name way f fs e d = rw (e, d) refl
+
+Names-found : (part : Part) (name : Mnemonic) (way : Mode) (op : ℕ) (fs : List Form)
+    → list_all (has_row part) fs ≡ true → found name way fs ≡ Some op → Names part name way op
+Names-found part name way op [] h e = cc
+Names-found part name way op (f ∷ fs) h e =
+    let parts = both (has_row part f) (list_all (has_row part) fs) h in
+    first part name way op f fs parts.0 (Names-found part name way op fs parts.1) e (same_mnemonic f.mnemonic name) (same_mode f.mode way) refl refl
+  where
+    first : (part : Part) (name : Mnemonic) (way : Mode) (op : ℕ) (f : Form) (fs : List Form)
+        → has_row part f ≡ true → (found name way fs ≡ Some op → Names part name way op) → found name way (f ∷ fs) ≡ Some op
+        → (a b : Bool) → same_mnemonic f.mnemonic name ≡ a → same_mode f.mode way ≡ b → Names part name way op
+    first part name way op f fs h rest e true true p q =
+        let same : f.opcode ≡ op = (let here = found-here name way f fs p q in cc) in named_by part name way f op h p q same
+    first part name way op f fs h rest e true false p q = rest (sym (found-mode name way f fs p q) ∙ e)
+    first part name way op f fs h rest e false b p q = rest (sym (found-other name way f fs p) ∙ e)
+
+-- ---- from the row of an opcode to its form
+
+abbrev gives : Option ℕ → ℕ → Bool
+gives None op = false
+gives (Some k) op = eqb k op
+
+gives-true : (o : Option ℕ) (op : ℕ) → gives o op ≡ true → o ≡ Some op
+gives-true None op e = cc
+gives-true (Some k) op e = ap Some (eqb-true k op e)
+
+abbrev leads_back : Part → Option Row → ℕ → Bool
+leads_back part None op = true
+leads_back part (Some r) op = gives (find_form part r.mnemonic r.mode) op
+
+all_lead_back : (part : Part) (op : ℕ) → op < 256 → leads_back part (documented_row part op) op ≡ true
+unfolding cmos_row nmos_row find_form
+all_lead_back Nmos op h = agree_below_at (λ k. leads_back Nmos (documented_row Nmos k) k) (λ _. true) 256 op refl h
+all_lead_back Cmos op h = agree_below_at (λ k. leads_back Cmos (documented_row Cmos k) k) (λ _. true) 256 op refl h
+
+from_row : (part : Part) (name : Mnemonic) (way : Mode) (o : Option Row) (op : ℕ)
+    → MatchOption o ⊥ (Fits name way) → leads_back part o op ≡ true → find_form part name way ≡ Some op
+from_row part name way None op m e = absurd m
+from_row part name way (Some r) op m e =
+    let at_name = subst (λ (n : Mnemonic). find_form part n r.mode ≡ Some op) m.0 (gives-true _ op e) in
+    subst (λ (w : Mode). find_form part name w ≡ Some op) m.1 at_name
+
+pub find_form-Names : (part : Part) (name : Mnemonic) (way : Mode) (op : ℕ) → Names part name way op → find_form part name way ≡ Some op
+find_form-Names part name way op n =
+    from_row part name way (documented_row part op) op n.1 (all_lead_back part op n.0)
+
+pub Names-find_form : (part : Part) (name : Mnemonic) (way : Mode) (op : ℕ) → find_form part name way ≡ Some op → Names part name way op
+unfolding find_form
+Names-find_form part name way op e = Names-found part name way op (forms part) (all_have_rows part) e
+
+pub find_form-iff : (part : Part) (name : Mnemonic) (way : Mode) (op : ℕ) → (find_form part name way ≡ Some op) ↔ Names part name way op
+find_form-iff part name way op = (Names-find_form part name way op, find_form-Names part name way op)
+
+-- what a call that gave this form's opcode has named
+pub find_form-named : (part p : Part) (name : Mnemonic) (way : Mode) (r : Option ℕ)
+    → part ≡ p → r ≡ find_form p name way → (op : ℕ) → (r ≡ Some op) ↔ Names part name way op
+find_form-named part p name way r same e op =
+    let law = find_form-iff part name way op in
+    let given : r ≡ find_form part name way = cc in
+    (λ q. law.0 (sym given ∙ q), λ n. given ∙ law.1 n)
+
+-- ---- the opcodes of the NMOS part are those of the 65C02 that it has
+
+abbrev is_same : Option Row → Option Row → Bool
+is_same None o = true
+is_same (Some r) o = same_row r.mnemonic r.mode o
+
+all_same : (op : ℕ) → op < 256 → is_same (documented_row Nmos op) (documented_row Cmos op) ≡ true
+unfolding cmos_row nmos_row
+all_same op h = agree_below_at (λ k. is_same (documented_row Nmos k) (documented_row Cmos k)) (λ _. true) 256 op refl h
+
+same_fits : (name : Mnemonic) (way : Mode) (a b : Option Row)
+    → is_same a b ≡ true → MatchOption a ⊥ (Fits name way) → MatchOption b ⊥ (Fits name way)
+same_fits name way None b e m = absurd m
+same_fits name way (Some r) b e m =
+    let fits : MatchOption b ⊥ (Fits r.mnemonic r.mode) = row_fits r.mnemonic r.mode b e in
+    let named = subst (λ (n : Mnemonic). MatchOption b ⊥ (Fits n r.mode)) m.0 fits in
+    subst (λ (w : Mode). MatchOption b ⊥ (Fits name w)) m.1 named
+
+Names-Cmos : (name : Mnemonic) (way : Mode) (op : ℕ) → Names Nmos name way op → Names Cmos name way op
+Names-Cmos name way op n = (n.0, same_fits name way (documented_row Nmos op) (documented_row Cmos op) (all_same op n.0) n.1)
+
+same_back : (name : Mnemonic) (way : Mode) (r : Row) (b : Option Row)
+    → is_same (Some r) b ≡ true → MatchOption b ⊥ (Fits name way) → Fits name way r
+same_back name way r None e m = absurd m
+same_back name way r (Some s) e m =
+    let fits = row_fits r.mnemonic r.mode (Some s) e in
+    (sym fits.0 ∙ m.0, sym fits.1 ∙ m.1)
+
+Names-Nmos : (name : Mnemonic) (way : Mode) (op : ℕ) (o : Option Row) → nmos_row op ≡ o → true ≡ is_some o → Names Cmos name way op → Names Nmos name way op
+Names-Nmos name way op None e s n = cc
+Names-Nmos name way op (Some r) e s n =
+    let same = subst (λ (o : Option Row). is_same o (documented_row Cmos op) ≡ true) e (all_same op n.0) in
+    (n.0, subst (λ (o : Option Row). MatchOption o ⊥ (Fits name way)) (sym e) (same_back name way r (documented_row Cmos op) same n.1))
+
+row_is_some : (name : Mnemonic) (way : Mode) (o : Option Row) → MatchOption o ⊥ (Fits name way) → true ≡ is_some o
+row_is_some name way None m = absurd m
+row_is_some name way (Some r) m = refl
+
+none_if : (o : Option ℕ) → ((k : ℕ) → o ≡ Some k → ⊥) → None ≡ o
+none_if None h = refl
+none_if (Some k) h = absurd (h k refl)
+
+-- what is found for the NMOS part is found for the 65C02, and the NMOS part has a row there
+Nmos-found : (name : Mnemonic) (way : Mode) (k : ℕ) → find_form Nmos name way ≡ Some k
+    → (Some k ≡ find_form Cmos name way) × (true ≡ is_some (nmos_row k))
+Nmos-found name way k e =
+    let n = Names-find_form Nmos name way k e in
+    (sym (find_form-Names Cmos name way k (Names-Cmos name way k n)), row_is_some name way (nmos_row k) n.1)
+
+-- and the other way round
+
+pub find_form-Nmos : (name : Mnemonic) (way : Mode) (op : ℕ) (r : Option Row)
+    → Some op ≡ find_form Cmos name way → r ≡ nmos_row op → true ≡ is_some r → Some op ≡ find_form Nmos name way
+find_form-Nmos name way op r e at_op s =
+    sym (find_form-Names Nmos name way op (Names-Nmos name way op r (sym at_op) s (Names-find_form Cmos name way op (sym e))))
+
+pub find_form-Nmos_lacks : (name : Mnemonic) (way : Mode) (op : ℕ) (r : Option Row)
+    → Some op ≡ find_form Cmos name way → r ≡ nmos_row op → false ≡ is_some r → None ≡ find_form Nmos name way
+find_form-Nmos_lacks name way op r e at_op s =
+    none_if (find_form Nmos name way) (λ k at_k.
+        let both_parts = Nmos-found name way k at_k in
+        let same : op ≡ k = cc (e, both_parts.0) in
+        cc (at_op, s, both_parts.1, same))
+
+pub find_form-Nmos_none : (name : Mnemonic) (way : Mode) → None ≡ find_form Cmos name way → None ≡ find_form Nmos name way
+find_form-Nmos_none name way e =
+    none_if (find_form Nmos name way) (λ k at_k. let found_k = (Nmos-found name way k at_k).0 in cc)
+
+-- ---- an opcode has a row where a form has it
+
+is_some-find : (p : Form → Bool) (fs : List Form) → is_some (find p fs) ≡ list_any p fs
+is_some-find p [] = refl
+is_some-find p (f ∷ fs) = head p f fs (is_some-find p fs) (p f) refl
+  where
+    head : (p : Form → Bool) (f : Form) (fs : List Form) → is_some (find p fs) ≡ list_any p fs
+        → (b : Bool) → p f ≡ b → is_some (find p (f ∷ fs)) ≡ list_any p (f ∷ fs)
+    head p f fs rest true e = rw e refl
+    head p f fs rest false e = rw e rest
+
+mapped_some : (o : Option Form) → IsSome (option_map (row_of Nmos) o) ↔ (is_some o ≡ true)
+mapped_some None = (λ s. cc, λ e. cc)
+mapped_some (Some f) = (λ s. refl, λ e. refl)
+
+pub row_of-Any : (fs : List Form) (op : ℕ) → IsSome (option_map (row_of Nmos) (form_at fs op)) ↔ Any (λ form. form.opcode ≡ op) fs
+row_of-Any fs op =
+    let has = λ (f : Form). f.opcode == op in
+    ( (λ s. let found_at = Any-from_list_any has fs (sym (is_some-find has fs) ∙ (mapped_some (find has fs)).0 s) in
+        (found_at.0, found_at.1, found_at.2, found_at.3, eqb-true _ _ found_at.4))
+    , (λ a. (mapped_some (find has fs)).1
+        (is_some-find has fs ∙ list_any-from_Any has fs (a.0, a.1, a.2, a.3, eq-eqb _ _ a.4))) )
+
+pub nmos_row-Any : (op : ℕ) → IsSome (nmos_row op) ↔ Any (λ form. form.opcode ≡ op) nmos_forms
+unfolding nmos_row
+nmos_row-Any op = row_of-Any nmos_forms op

@@ -1,0 +1,5 @@
+pub mod Numbers
+pub mod RowTables
+pub mod FormLemmas
+pub mod OpcodeTable
+pub mod NameLemmas

@@ -1,0 +1,10 @@
+//! The instruction tables of the NMOS 6502 and of the plain 65C02.
+#![tactic(auto)]
+
+mod names;
+mod opcodes;
+mod rows;
+
+pub use names::{Mnemonic, Mode, Part};
+pub use opcodes::{find, forms_and_rows_agree};
+pub use rows::{Row, cmos, nmos};
