@@ -1,5 +1,5 @@
 -- The forms of a part and the rows of its opcodes lead to one another.
-use Rattle.std.proofs.Common.{◌≡◌, ℕ, ◌<◌, ◌↔◌, List, [], ◌∷◌, ◌++◌, refl, ap, sym, subst, ◌∙◌, arith, Option, Some, None, Bool, true, false, cond, eqb, ltb, ◌&&◌, MatchOption, IsTrue, IsSome, Any, eqb-true, is_some, eq-eqb, ◌==◌, option_map, find, filter}
+use Rattle.std.proofs.Common.{◌≡◌, ℕ, ◌<◌, ◌↔◌, List, [], ◌∷◌, refl, ap, sym, subst, ◌∙◌, Option, Some, None, Bool, true, false, eqb, ltb, ◌&&◌, MatchOption, IsSome, Any, eqb-true, is_some, eq-eqb, ◌==◌, option_map, find, filter}
 use Rattle.std.specs.List.{list_all, list_any}
 use Rattle.std.proofs.lemmas.Bool.{agree_below_at, ltb-true}
 use Rattle.std.proofs.lemmas.List.Folds.{Any-from_list_any, list_any-from_Any}
@@ -12,10 +12,11 @@ use Rattle.op_table.specs.declared.names.Mnemonic.{Mnemonic}
 use Rattle.op_table.specs.declared.names.Mode.{Mode}
 use Rattle.op_table.specs.declared.rows.Row.{Row}
 use Rattle.op_table.specs.Names.{same_mnemonic, same_mode}
-use Rattle.op_table.specs.Forms.{Form, forms, nmos_forms, form_at, find_form}
+use Rattle.op_table.proofs.RowTables.{both}
+use Rattle.op_table.specs.Forms.{Form, forms, IsDocumented, form_at, find_form}
 use Rattle.op_table.specs.Rows.{nmos_row, cmos_row, row_of, documented_row, Names}
 
--- a fact of a row, of which there is one
+-- a row of this mnemonic in this mode
 abbrev Fits : Mnemonic → Mode → Row → Type 0
 Fits name way r = (r.mnemonic ≡ name) × (r.mode ≡ way)
 
@@ -28,22 +29,21 @@ same_row name way (Some r) = same_mnemonic r.mnemonic name && same_mode r.mode w
 abbrev has_row : Part → Form → Bool
 has_row part f = ltb f.opcode 256 && same_row f.mnemonic f.mode (documented_row part f.opcode)
 
+-- the row of a form's opcode has the form's mnemonic and mode
 all_have_rows : (part : Part) → list_all (has_row part) (forms part) ≡ true
 unfolding cmos_row nmos_row
 all_have_rows Nmos = refl
 all_have_rows Cmos = refl
 
-both : (a b : Bool) → (a && b) ≡ true → (a ≡ true) × (b ≡ true)
-both true true e = (refl, refl)
-both true false e = cc
-both false b e = cc
-
-row_fits : (name : Mnemonic) (way : Mode) (o : Option Row) → same_row name way o ≡ true → MatchOption o ⊥ (Fits name way)
+-- what the test of a row has told
+row_fits : (name : Mnemonic) (way : Mode) (o : Option Row)
+    → same_row name way o ≡ true → MatchOption o ⊥ (Fits name way)
 row_fits name way None e = cc
 row_fits name way (Some r) e =
     let parts = both (same_mnemonic r.mnemonic name) (same_mode r.mode way) e in
     (same_true mnemonics tt r.mnemonic name parts.0, same_true modes tt r.mode way parts.1)
 
+-- a form with such a row is named by it
 Names-form : (part : Part) (f : Form) → has_row part f ≡ true → Names part f.mnemonic f.mode f.opcode
 Names-form part f e =
     let parts = both (ltb f.opcode 256) (same_row f.mnemonic f.mode (documented_row part f.opcode)) e in
@@ -51,7 +51,8 @@ Names-form part f e =
 
 -- the opcode that `find_form` gives, among any forms
 abbrev found : Mnemonic → Mode → List Form → Option ℕ
-found name way fs = option_map (λ f. f.opcode) (find (λ f. same_mode f.mode way) (filter (λ f. same_mnemonic f.mnemonic name) fs))
+found name way fs =
+    option_map (λ f. f.opcode) (find (λ f. same_mode f.mode way) (filter (λ f. same_mnemonic f.mnemonic name) fs))
 
 named_by : (part : Part) (name : Mnemonic) (way : Mode) (f : Form) (op : ℕ)
     → has_row part f ≡ true → same_mnemonic f.mnemonic name ≡ true → same_mode f.mode way ≡ true → f.opcode ≡ op
@@ -62,13 +63,16 @@ named_by part name way f op h same_name same_way e =
     subst (λ (w : Mode). Names part name w op) (same_true modes tt f.mode way same_way) m
 
 -- what is found, where the first form is another's, is in another mode, or is the one
-found-other : (name : Mnemonic) (way : Mode) (f : Form) (fs : List Form) → same_mnemonic f.mnemonic name ≡ false → found name way (f ∷ fs) ≡ found name way fs
+found-other : (name : Mnemonic) (way : Mode) (f : Form) (fs : List Form)
+    → same_mnemonic f.mnemonic name ≡ false → found name way (f ∷ fs) ≡ found name way fs
 found-other name way f fs e = rw e refl
 
-found-mode : (name : Mnemonic) (way : Mode) (f : Form) (fs : List Form) → same_mnemonic f.mnemonic name ≡ true → same_mode f.mode way ≡ false → found name way (f ∷ fs) ≡ found name way fs
+found-mode : (name : Mnemonic) (way : Mode) (f : Form) (fs : List Form)
+    → same_mnemonic f.mnemonic name ≡ true → same_mode f.mode way ≡ false → found name way (f ∷ fs) ≡ found name way fs
 found-mode name way f fs e d = rw (e, d) refl
 
-found-here : (name : Mnemonic) (way : Mode) (f : Form) (fs : List Form) → same_mnemonic f.mnemonic name ≡ true → same_mode f.mode way ≡ true → found name way (f ∷ fs) ≡ Some f.opcode
+found-here : (name : Mnemonic) (way : Mode) (f : Form) (fs : List Form)
+    → same_mnemonic f.mnemonic name ≡ true → same_mode f.mode way ≡ true → found name way (f ∷ fs) ≡ Some f.opcode
 found-here name way f fs e d = rw (e, d) refl
 
 Names-found : (part : Part) (name : Mnemonic) (way : Mode) (op : ℕ) (fs : List Form)
@@ -76,13 +80,16 @@ Names-found : (part : Part) (name : Mnemonic) (way : Mode) (op : ℕ) (fs : List
 Names-found part name way op [] h e = cc
 Names-found part name way op (f ∷ fs) h e =
     let parts = both (has_row part f) (list_all (has_row part) fs) h in
-    first part name way op f fs parts.0 (Names-found part name way op fs parts.1) e (same_mnemonic f.mnemonic name) (same_mode f.mode way) refl refl
+    first part name way op f fs parts.0 (Names-found part name way op fs parts.1) e
+    (same_mnemonic f.mnemonic name) (same_mode f.mode way) refl refl
   where
     first : (part : Part) (name : Mnemonic) (way : Mode) (op : ℕ) (f : Form) (fs : List Form)
-        → has_row part f ≡ true → (found name way fs ≡ Some op → Names part name way op) → found name way (f ∷ fs) ≡ Some op
+        → has_row part f ≡ true → (found name way fs ≡ Some op → Names part name way op)
+        → found name way (f ∷ fs) ≡ Some op
         → (a b : Bool) → same_mnemonic f.mnemonic name ≡ a → same_mode f.mode way ≡ b → Names part name way op
     first part name way op f fs h rest e true true p q =
-        let same : f.opcode ≡ op = (let here = found-here name way f fs p q in cc) in named_by part name way f op h p q same
+        let same : f.opcode ≡ op = (let here = found-here name way f fs p q in cc) in
+        named_by part name way f op h p q same
     first part name way op f fs h rest e true false p q = rest (sym (found-mode name way f fs p q) ∙ e)
     first part name way op f fs h rest e false b p q = rest (sym (found-other name way f fs p) ∙ e)
 
@@ -100,6 +107,7 @@ abbrev leads_back : Part → Option Row → ℕ → Bool
 leads_back part None op = true
 leads_back part (Some r) op = gives (find_form part r.mnemonic r.mode) op
 
+-- the form of an opcode's row has that opcode
 all_lead_back : (part : Part) (op : ℕ) → op < 256 → leads_back part (documented_row part op) op ≡ true
 unfolding cmos_row nmos_row find_form
 all_lead_back Nmos op h = agree_below_at (λ k. leads_back Nmos (documented_row Nmos k) k) (λ _. true) 256 op refl h
@@ -112,15 +120,18 @@ from_row part name way (Some r) op m e =
     let at_name = subst (λ (n : Mnemonic). find_form part n r.mode ≡ Some op) m.0 (gives-true _ op e) in
     subst (λ (w : Mode). find_form part name w ≡ Some op) m.1 at_name
 
-pub find_form-Names : (part : Part) (name : Mnemonic) (way : Mode) (op : ℕ) → Names part name way op → find_form part name way ≡ Some op
+find_form-Names : (part : Part) (name : Mnemonic) (way : Mode) (op : ℕ)
+    → Names part name way op → find_form part name way ≡ Some op
 find_form-Names part name way op n =
     from_row part name way (documented_row part op) op n.1 (all_lead_back part op n.0)
 
-pub Names-find_form : (part : Part) (name : Mnemonic) (way : Mode) (op : ℕ) → find_form part name way ≡ Some op → Names part name way op
+Names-find_form : (part : Part) (name : Mnemonic) (way : Mode) (op : ℕ)
+    → find_form part name way ≡ Some op → Names part name way op
 unfolding find_form
 Names-find_form part name way op e = Names-found part name way op (forms part) (all_have_rows part) e
 
-pub find_form-iff : (part : Part) (name : Mnemonic) (way : Mode) (op : ℕ) → (find_form part name way ≡ Some op) ↔ Names part name way op
+pub find_form-iff : (part : Part) (name : Mnemonic) (way : Mode) (op : ℕ)
+    → (find_form part name way ≡ Some op) ↔ Names part name way op
 find_form-iff part name way op = (Names-find_form part name way op, find_form-Names part name way op)
 
 -- what a call that gave this form's opcode has named
@@ -137,6 +148,7 @@ abbrev is_same : Option Row → Option Row → Bool
 is_same None o = true
 is_same (Some r) o = same_row r.mnemonic r.mode o
 
+-- an opcode of the NMOS part stands for the same on the 65C02
 all_same : (op : ℕ) → op < 256 → is_same (documented_row Nmos op) (documented_row Cmos op) ≡ true
 unfolding cmos_row nmos_row
 all_same op h = agree_below_at (λ k. is_same (documented_row Nmos k) (documented_row Cmos k)) (λ _. true) 256 op refl h
@@ -150,7 +162,8 @@ same_fits name way (Some r) b e m =
     subst (λ (w : Mode). MatchOption b ⊥ (Fits name w)) m.1 named
 
 Names-Cmos : (name : Mnemonic) (way : Mode) (op : ℕ) → Names Nmos name way op → Names Cmos name way op
-Names-Cmos name way op n = (n.0, same_fits name way (documented_row Nmos op) (documented_row Cmos op) (all_same op n.0) n.1)
+Names-Cmos name way op n =
+    (n.0, same_fits name way (documented_row Nmos op) (documented_row Cmos op) (all_same op n.0) n.1)
 
 same_back : (name : Mnemonic) (way : Mode) (r : Row) (b : Option Row)
     → is_same (Some r) b ≡ true → MatchOption b ⊥ (Fits name way) → Fits name way r
@@ -159,11 +172,13 @@ same_back name way r (Some s) e m =
     let fits = row_fits r.mnemonic r.mode (Some s) e in
     (sym fits.0 ∙ m.0, sym fits.1 ∙ m.1)
 
-Names-Nmos : (name : Mnemonic) (way : Mode) (op : ℕ) (o : Option Row) → nmos_row op ≡ o → true ≡ is_some o → Names Cmos name way op → Names Nmos name way op
+Names-Nmos : (name : Mnemonic) (way : Mode) (op : ℕ) (o : Option Row)
+    → nmos_row op ≡ o → true ≡ is_some o → Names Cmos name way op → Names Nmos name way op
 Names-Nmos name way op None e s n = cc
 Names-Nmos name way op (Some r) e s n =
     let same = subst (λ (o : Option Row). is_same o (documented_row Cmos op) ≡ true) e (all_same op n.0) in
-    (n.0, subst (λ (o : Option Row). MatchOption o ⊥ (Fits name way)) (sym e) (same_back name way r (documented_row Cmos op) same n.1))
+    let fits = same_back name way r (documented_row Cmos op) same n.1 in
+    (n.0, subst (λ (o : Option Row). MatchOption o ⊥ (Fits name way)) (sym e) fits)
 
 row_is_some : (name : Mnemonic) (way : Mode) (o : Option Row) → MatchOption o ⊥ (Fits name way) → true ≡ is_some o
 row_is_some name way None m = absurd m
@@ -185,17 +200,19 @@ Nmos-found name way k e =
 pub find_form-Nmos : (name : Mnemonic) (way : Mode) (op : ℕ) (r : Option Row)
     → Some op ≡ find_form Cmos name way → r ≡ nmos_row op → true ≡ is_some r → Some op ≡ find_form Nmos name way
 find_form-Nmos name way op r e at_op s =
-    sym (find_form-Names Nmos name way op (Names-Nmos name way op r (sym at_op) s (Names-find_form Cmos name way op (sym e))))
+    let n = Names-find_form Cmos name way op (sym e) in
+    sym (find_form-Names Nmos name way op (Names-Nmos name way op r (sym at_op) s n))
 
 pub find_form-Nmos_lacks : (name : Mnemonic) (way : Mode) (op : ℕ) (r : Option Row)
     → Some op ≡ find_form Cmos name way → r ≡ nmos_row op → false ≡ is_some r → None ≡ find_form Nmos name way
 find_form-Nmos_lacks name way op r e at_op s =
     none_if (find_form Nmos name way) (λ k at_k.
-        let both_parts = Nmos-found name way k at_k in
-        let same : op ≡ k = cc (e, both_parts.0) in
-        cc (at_op, s, both_parts.1, same))
+    let both_parts = Nmos-found name way k at_k in
+    let same : op ≡ k = cc (e, both_parts.0) in
+    cc (at_op, s, both_parts.1, same))
 
-pub find_form-Nmos_none : (name : Mnemonic) (way : Mode) → None ≡ find_form Cmos name way → None ≡ find_form Nmos name way
+pub find_form-Nmos_none : (name : Mnemonic) (way : Mode)
+    → None ≡ find_form Cmos name way → None ≡ find_form Nmos name way
 find_form-Nmos_none name way e =
     none_if (find_form Nmos name way) (λ k at_k. let found_k = (Nmos-found name way k at_k).0 in cc)
 
@@ -214,14 +231,16 @@ mapped_some : (o : Option Form) → IsSome (option_map (row_of Nmos) o) ↔ (is_
 mapped_some None = (λ s. cc, λ e. cc)
 mapped_some (Some f) = (λ s. refl, λ e. refl)
 
-pub row_of-Any : (fs : List Form) (op : ℕ) → IsSome (option_map (row_of Nmos) (form_at fs op)) ↔ Any (λ form. form.opcode ≡ op) fs
+row_of-Any : (fs : List Form) (op : ℕ)
+    → IsSome (option_map (row_of Nmos) (form_at fs op)) ↔ Any (λ f. f.opcode ≡ op) fs
 row_of-Any fs op =
-    let has = λ (f : Form). f.opcode == op in
-    ( (λ s. let found_at = Any-from_list_any has fs (sym (is_some-find has fs) ∙ (mapped_some (find has fs)).0 s) in
-        (found_at.0, found_at.1, found_at.2, found_at.3, eqb-true _ _ found_at.4))
-    , (λ a. (mapped_some (find has fs)).1
-        (is_some-find has fs ∙ list_any-from_Any has fs (a.0, a.1, a.2, a.3, eq-eqb _ _ a.4))) )
+    let has = λ (f : Form). f.opcode == op in (
+      (λ s. let found_at = Any-from_list_any has fs (sym (is_some-find has fs) ∙ (mapped_some (find has fs)).0 s) in
+          (found_at.0, found_at.1, found_at.2, found_at.3, eqb-true _ _ found_at.4)),
+      (λ a. (mapped_some (find has fs)).1
+          (is_some-find has fs ∙ list_any-from_Any has fs (a.0, a.1, a.2, a.3, eq-eqb _ _ a.4))),
+    )
 
-pub nmos_row-Any : (op : ℕ) → IsSome (nmos_row op) ↔ Any (λ form. form.opcode ≡ op) nmos_forms
-unfolding nmos_row
-nmos_row-Any op = row_of-Any nmos_forms op
+pub nmos_row-IsDocumented : (op : ℕ) → IsSome (nmos_row op) ↔ IsDocumented Nmos op
+unfolding nmos_row IsDocumented
+nmos_row-IsDocumented op = row_of-Any (forms Nmos) op

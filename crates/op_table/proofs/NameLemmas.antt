@@ -1,6 +1,7 @@
 -- A name belongs to one mnemonic, and a text leads to it.
-use Rattle.std.proofs.Common.{◌≡◌, ◌↔◌, ℕ, ◌<◌, ◌≤◌, List, [], ◌∷◌, length, map, refl, ap, sym, ◌∙◌, subst, slice_index_or, Option, Some, None, Bool, true, false, eqb, eqb-true, nat_eq, find, arith}
-use Rattle.std.specs.Char.{to_ascii_uppercase}
+use Rattle.std.proofs.Common.{◌≡◌, ◌↔◌, ℕ, ◌<◌, ◌≤◌, List, [], ◌∷◌, length, map, refl, ap, sym, ◌∙◌, subst, slice_index_or, Option, Some, None, Bool, true, false, eqb, eqb-true, nat_eq, find, arith, IsTrue}
+use Rattle.std.specs.List.{list_all}
+use Rattle.std.specs.Char.{to_ascii_uppercase, is_ascii_uppercase}
 use Rattle.std.specs.Cmp.Lexicographic.{pointwise, same_text, other_text}
 use Rattle.std.proofs.lemmas.List.{get_or-map, length-map}
 use denote.Enum.Declared.{tag_of}
@@ -44,9 +45,10 @@ name_of-one a b e =
 pub mnemonic_of-iff : (text : List ℕ) (name : Mnemonic) → (mnemonic_of text ≡ Some name) ↔ (map to_ascii_uppercase text ≡ name_of name)
 unfolding mnemonic_of
 mnemonic_of-iff text name =
-    let upper = map to_ascii_uppercase text in
-    ( (λ e. same_text upper (name_of name) (sym (find-passes (has_name upper) all_mnemonics name e)))
-    , (λ e. ap (λ (t : List ℕ). find (has_name t) all_mnemonics) e ∙ finds_itself name) )
+    let upper = map to_ascii_uppercase text in (
+      (λ e. same_text upper (name_of name) (sym (find-passes (has_name upper) all_mnemonics name e))),
+      (λ e. ap (λ (t : List ℕ). find (has_name t) all_mnemonics) e ∙ finds_itself name),
+    )
 
 one_answer : (a b : Option Mnemonic) → ((n : Mnemonic) → (a ≡ Some n) ↔ (b ≡ Some n)) → a ≡ b
 one_answer None None h = refl
@@ -57,6 +59,15 @@ pub named-mnemonic_of : (text : List ℕ) (r : Option Mnemonic)
     → ((name : Mnemonic) → (r ≡ Some name) ↔ (map to_ascii_uppercase text ≡ name_of name)) → r ≡ mnemonic_of text
 named-mnemonic_of text r h =
     one_answer r (mnemonic_of text) (λ n. (λ e. (mnemonic_of-iff text n).1 ((h n).0 e), λ e. (h n).1 ((mnemonic_of-iff text n).0 e)))
+
+-- ---- what holds of each name
+
+pub mnemonic_of-name_of : (name : Mnemonic) → mnemonic_of (name_of name) ≡ Some name
+unfolding mnemonic_of
+mnemonic_of-name_of name = is_at-true _ name (test_all (λ n. is_at (mnemonic_of (name_of n)) n) refl name)
+
+pub name_of-letters : (name : Mnemonic) → IsTrue (list_all is_ascii_uppercase (name_of name))
+name_of-letters name = test_all (λ n. list_all is_ascii_uppercase (name_of n)) refl name
 
 -- ---- the table of names in the code
 
@@ -79,9 +90,10 @@ is_named k d upper h t name =
     let at_k = NAMES-at k d h in
     let first = ap (λ (e : Mnemonic × List ℕ). e.0) at_k in
     let second = ap (λ (e : Mnemonic × List ℕ). e.1) at_k in
-    let text = same_text (slice_index_or NAMES k d).1 upper t in
-    ( (λ e. let one : slice_index_or all_mnemonics k Adc ≡ name = cc in sym text ∙ second ∙ ap name_of one)
-    , (λ e. ap Some (first ∙ name_of-one (slice_index_or all_mnemonics k Adc) name (sym second ∙ text ∙ e))) )
+    let text = same_text (slice_index_or NAMES k d).1 upper t in (
+      (λ e. let one : slice_index_or all_mnemonics k Adc ≡ name = cc in sym text ∙ second ∙ ap name_of one),
+      (λ e. ap Some (first ∙ name_of-one (slice_index_or all_mnemonics k Adc) name (sym second ∙ text ∙ e))),
+    )
 
 pub not_named : (k : ℕ) (d : Mnemonic × List ℕ) (upper : List ℕ) → k < 64
     → false ≡ pointwise nat_eq (slice_index_or NAMES k d).1 upper
@@ -95,9 +107,10 @@ pub none_named : (n : ℕ) (upper : List ℕ) → 64 ≤ n
     → ((k : ℕ) → k < n → name_of (slice_index_or all_mnemonics k Adc) ≡ upper → ⊥)
     → (name : Mnemonic) → (None ≡ Some name) ↔ (upper ≡ name_of name)
 none_named n upper h none name =
-    let below : tag_of mnemonics name < n = (let small = below_64 name in omega arith) in
-    ( (λ e. cc)
-    , (λ e. absurd (none (tag_of mnemonics name) below (ap name_of (all_mnemonics-at name) ∙ sym e))) )
+    let below : tag_of mnemonics name < n = (let small = below_64 name in omega arith) in (
+      (λ e. cc),
+      (λ e. absurd (none (tag_of mnemonics name) below (ap name_of (all_mnemonics-at name) ∙ sym e))),
+    )
 
 -- ---- a text of another length, and one of three letters
 
@@ -106,9 +119,10 @@ name_of-length name = eqb-true _ _ (test_all (λ n. eqb (length (name_of n)) 3) 
 
 pub none_of_length : (text : List ℕ) → (length text ≡ 3 → ⊥)
     → (name : Mnemonic) → (None ≡ Some name) ↔ (map to_ascii_uppercase text ≡ name_of name)
-none_of_length text other name =
-    ( (λ e. cc)
-    , (λ e. absurd (let long : length (map to_ascii_uppercase text) ≡ length text = simp length-map in other (sym long ∙ ap length e ∙ name_of-length name))) )
+none_of_length text other name = (
+  (λ e. cc),
+  (λ e. absurd (let long : length (map to_ascii_uppercase text) ≡ length text = simp length-map in other (sym long ∙ ap length e ∙ name_of-length name))),
+)
 
 pub three_letters : (text : List ℕ) (a b d : ℕ) → length text ≡ 3
     → a ≡ to_ascii_uppercase (slice_index_or text 0 0)

@@ -27,7 +27,7 @@ pub test_all : (p : Mnemonic → Bool) → agree_below (λ k. p (slice_index_or 
     → (name : Mnemonic) → p name ≡ true
 test_all p h name =
     subst (λ (n : Mnemonic). p n ≡ true) (all_mnemonics-at name)
-        (agree_below_at (λ k. p (slice_index_or all_mnemonics k Adc)) (λ _. true) 64 (tag_of mnemonics name) h (below_64 name))
+    (agree_below_at (λ k. p (slice_index_or all_mnemonics k Adc)) (λ _. true) 64 (tag_of mnemonics name) h (below_64 name))
 
 abbrev pub all_modes : List Mode
 all_modes =

@@ -1,12 +1,12 @@
--- The documented instructions of both parts, as the opcode matrix of the MCS6500 Programming Manual (appendix B) and
--- of the 65C02's data sheet print them.
-use Rattle.std.specs.Prelude.{ℕ, nat_lt, List, [], ◌∷◌, ◌++◌, if◌then◌else◌, ◌==◌, Option, option_map, find, filter}
+-- The documented instructions of both parts, line by line as the MCS6500 Programming Manual and the 65C02's data sheet
+-- list them.
+use Rattle.std.specs.Prelude.{◌≡◌, ℕ, nat_lt, List, [], ◌∷◌, ◌++◌, if◌then◌else◌, ◌==◌, Option, option_map, find, filter, Any}
 use Rattle.op_table.specs.declared.names.Part.{Part}
 use Rattle.op_table.specs.declared.names.Part.TheVariants.{Nmos, Cmos}
 use Rattle.op_table.specs.declared.names.Mnemonic.{Mnemonic}
 use Rattle.op_table.specs.declared.names.Mnemonic.TheVariants.{Adc, And, Asl, Bcc, Bcs, Beq, Bit, Bmi, Bne, Bpl, Bra, Brk, Bvc, Bvs, Clc, Cld, Cli, Clv, Cmp, Cpx, Cpy, Dec, Dex, Dey, Eor, Inc, Inx, Iny, Jmp, Jsr, Lda, Ldx, Ldy, Lsr, Nop, Ora, Pha, Php, Phx, Phy, Pla, Plp, Plx, Ply, Rol, Ror, Rti, Rts, Sbc, Sec, Sed, Sei, Sta, Stx, Sty, Stz, Tax, Tay, Trb, Tsb, Tsx, Txa, Txs, Tya}
 use Rattle.op_table.specs.declared.names.Mode.{Mode}
-use Rattle.op_table.specs.declared.names.Mode.TheVariants.{Imp, Acc, Imm, Zp, ZpX, ZpY, Abs, AbsX, AbsY, IndX, IndY, IndZp, Rel, Ind, IndAbsX, Spare}
+use Rattle.op_table.specs.declared.names.Mode.TheVariants.{Imp, Acc, Imm, Zp, ZpX, ZpY, Abs, AbsX, AbsY, IndX, IndY, IndZp, Rel, Ind, IndAbsX}
 use Rattle.op_table.specs.Names.{same_mnemonic, same_mode}
 
 -- an instruction in one of its modes
@@ -93,6 +93,10 @@ added_forms =
 abbrev pub forms : Part → List Form
 forms Nmos = nmos_forms
 forms Cmos = nmos_forms ++ added_forms
+
+-- some documented instruction has this opcode
+unfoldable pub IsDocumented : Part → ℕ → Type 0
+IsDocumented part op = Any (λ f. f.opcode ≡ op) (forms part)
 
 -- the form of an opcode
 abbrev pub form_at : List Form → ℕ → Option Form

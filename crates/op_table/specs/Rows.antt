@@ -1,10 +1,10 @@
 -- The bytes and the cycles of each instruction, and the rows of both tables. The cycles are those that each execution
--- takes: MCS6500 Hardware Manual, appendix A, and the 65C02's data sheet.
+-- takes: MCS6500 Hardware Manual, summary of single cycle execution, and the 65C02's data sheet.
 use Rattle.std.specs.Prelude.{◌≡◌, ℕ, ◌<◌, ◌%◌, ◌==◌, ◌||◌, if◌then◌else◌, Option, Some, None, option_map, MatchOption}
 use Rattle.op_table.specs.declared.names.Part.{Part}
 use Rattle.op_table.specs.declared.names.Part.TheVariants.{Nmos, Cmos}
 use Rattle.op_table.specs.declared.names.Mnemonic.{Mnemonic}
-use Rattle.op_table.specs.declared.names.Mnemonic.TheVariants.{Adc, And, Asl, Bcc, Bcs, Beq, Bit, Bmi, Bne, Bpl, Bra, Brk, Bvc, Bvs, Clc, Cld, Cli, Clv, Cmp, Cpx, Cpy, Dec, Dex, Dey, Eor, Inc, Inx, Iny, Jmp, Jsr, Lda, Ldx, Ldy, Lsr, Nop, Ora, Pha, Php, Phx, Phy, Pla, Plp, Plx, Ply, Rol, Ror, Rti, Rts, Sbc, Sec, Sed, Sei, Sta, Stx, Sty, Stz, Tax, Tay, Trb, Tsb, Tsx, Txa, Txs, Tya}
+use Rattle.op_table.specs.declared.names.Mnemonic.TheVariants.{Asl, Bcc, Bcs, Beq, Bmi, Bne, Bpl, Bra, Brk, Bvc, Bvs, Dec, Inc, Jmp, Jsr, Lsr, Nop, Pha, Php, Phx, Phy, Pla, Plp, Plx, Ply, Rol, Ror, Rti, Rts, Sta, Stx, Sty, Stz, Trb, Tsb}
 use Rattle.op_table.specs.declared.names.Mode.{Mode}
 use Rattle.op_table.specs.declared.names.Mode.TheVariants.{Imp, Acc, Imm, Zp, ZpX, ZpY, Abs, AbsX, AbsY, IndX, IndY, IndZp, Rel, Ind, IndAbsX, Spare}
 use Rattle.op_table.specs.declared.rows.Row.{Row}
@@ -71,6 +71,7 @@ use_of Bvc = Branches
 use_of Bvs = Branches
 use_of _ = Reads
 
+-- the last case is that of implied, accumulator and immediate
 abbrev pub read_cycles : Mode → ℕ
 read_cycles Zp = 3
 read_cycles ZpX = 4
@@ -103,6 +104,7 @@ abbrev pub shift_cycles : Part → Mode → ℕ
 shift_cycles Cmos AbsX = 6
 shift_cycles _ way = modify_cycles way
 
+-- an indirect jump takes the 65C02 one cycle more
 abbrev pub jump_cycles : Part → Mode → ℕ
 jump_cycles _ Abs = 3
 jump_cycles Nmos _ = 5
@@ -117,6 +119,7 @@ cycles_by _ Pushes _ = 3
 cycles_by _ Pulls _ = 4
 cycles_by _ Branches _ = 2
 
+-- one for the opcode and one for each further access that is always made
 abbrev pub cycles_of : Part → Mnemonic → Mode → ℕ
 cycles_of _ Brk _ = 7
 cycles_of _ Jsr _ = 6
@@ -126,7 +129,7 @@ cycles_of _ Bra _ = 3
 cycles_of part Jmp way = jump_cycles part way
 cycles_of part name way = cycles_by part (use_of name) way
 
--- the bytes and the cycles of an opcode of the 65C02 that does nothing
+-- the bytes and the cycles of an opcode of the 65C02 that does nothing: first those whose low digit is 3, 7, B or F
 abbrev pub spare : ℕ → ℕ × ℕ
 spare op =
     if op % 4 == 3 then (1, 1) else
@@ -141,8 +144,10 @@ row_of part f = record {
   mnemonic = f.mnemonic;
   mode = f.mode;
   bytes = bytes_of f.mode;
-  cycles = cycles_of part f.mnemonic f.mode }
+  cycles = cycles_of part f.mnemonic f.mode;
+}
 
+-- an opcode without a form does nothing
 abbrev pub row_or_spare : ℕ → Option Form → Row
 row_or_spare op (Some f) = row_of Cmos f
 row_or_spare op None = record { mnemonic = Nop; mode = Spare; bytes = (spare op).0; cycles = (spare op).1 }

@@ -5,6 +5,9 @@ mod names;
 mod opcodes;
 mod rows;
 
-pub use names::{Mnemonic, Mode, Part};
+pub use names::{Mnemonic, Mode, Part, names_lead_back};
 pub use opcodes::{find, forms_and_rows_agree};
 pub use rows::{Row, cmos, nmos};
+
+#[cfg(test)]
+mod tests;

@@ -1,6 +1,7 @@
 //! The two parts, the addressing modes and the mnemonics.
-ghost use Rattle.std.specs.Prelude.{◌≡◌, ◌↔◌, map};
-ghost use Rattle.std.specs.Char.{to_ascii_uppercase};
+ghost use Rattle.std.specs.Prelude.{◌≡◌, ◌↔◌, ℕ, List, map, IsTrue};
+ghost use Rattle.std.specs.List.{list_all};
+ghost use Rattle.std.specs.Char.{to_ascii_uppercase, is_ascii_uppercase};
 ghost use Rattle.op_table.specs.Names.{name_of, mnemonic_of};
 
 /// A part of the 6502 family.
@@ -285,3 +286,11 @@ fn named(upper: [u8; 3]) -> Option<Mnemonic>
     }
     None
 }
+
+/// A law of the names: a text names a mnemonic by its letters in either case, a name leads back to its mnemonic, and
+/// consists of capital letters.
+pub fn names_lead_back()
+    ensures read { (text : List ℕ) (m : Mnemonic) → (mnemonic_of text ≡ Some m) ↔ (map to_ascii_uppercase text ≡ name_of m) }
+    ensures back { (m : Mnemonic) → mnemonic_of (name_of m) ≡ Some m }
+    ensures letters { (m : Mnemonic) → IsTrue (list_all is_ascii_uppercase (name_of m)) }
+{}

@@ -22,6 +22,7 @@ macro_rules! opcodes {
 // The opcodes of the 65C02: a line for each mnemonic and a column for each mode, both in the order of their
 // declaration. The NMOS part has the same, without those that the 65C02 added.
 static OPCODES: [[Option<u8>; 16]; 64] = opcodes![
+    //    Imp  Acc  Imm   Zp  ZpX  ZpY  Abs AbsX AbsY IndX IndY IndZp Rel  Ind IndAbsX Spare
     Adc [   -    - 0x69 0x65 0x75    - 0x6D 0x7D 0x79 0x61 0x71 0x72    -    -    -    -]
     And [   -    - 0x29 0x25 0x35    - 0x2D 0x3D 0x39 0x21 0x31 0x32    -    -    -    -]
     Asl [   - 0x0A    - 0x06 0x16    - 0x0E 0x1E    -    -    -    -    -    -    -    -]
@@ -117,5 +118,4 @@ pub fn find(part: Part, mnemonic: Mnemonic, mode: Mode) -> Option<u8>
 /// A law of both tables, for all parts: the forms of the opcode matrix and the rows of the opcodes lead to one another.
 pub fn forms_and_rows_agree()
     ensures { (part : Part) (name : Mnemonic) (way : Mode) (op : ℕ) → (find_form part name way ≡ Some op) ↔ Names part name way op }
-{
-}
+{}

@@ -1,6 +1,7 @@
 //! What the tables tell of each opcode.
-ghost use Rattle.std.specs.Prelude.{◌≡◌, ◌↔◌, IsSome, Any};
-ghost use Rattle.op_table.specs.Forms.{nmos_forms};
+ghost use Rattle.std.specs.Prelude.{◌≡◌, ◌↔◌, ◌<◌, ◌≤◌, IsSome, IfSome};
+ghost use Rattle.op_table.specs.declared.names.Part.TheVariants.{Nmos, Cmos};
+ghost use Rattle.op_table.specs.Forms.{IsDocumented};
 ghost use Rattle.op_table.specs.Rows.{cmos_row, nmos_row};
 
 use crate::names::{Mnemonic, Mode};
@@ -179,19 +180,22 @@ static CMOS: [Row; 256] = rows![
     /* FC */ [Nop Spare 3 4] [Sbc AbsX 3 4]  [Inc AbsX 3 7]  [Nop Spare 1 1]
 ];
 
-/// The row of an opcode of the NMOS 6502; None where no documented instruction has it (MCS6500 Programming Manual,
-/// appendix B).
+/// The row of an opcode of the NMOS 6502; None where no documented instruction has it.
+/// Source: the MCS6500 Programming Manual.
 pub fn nmos(op: u8) -> Option<Row>
     ensures row { result ≡ nmos_row op }
-    ensures documented { IsSome result ↔ Any (λ form. form.opcode ≡ op) nmos_forms }
+    ensures documented { IsSome result ↔ IsDocumented Nmos op }
+    ensures within { IfSome result (λ row. (0 < row.bytes) × (row.bytes ≤ 3) × (0 < row.cycles) × (row.cycles ≤ 7)) }
 {
     NMOS[op as usize]
 }
 
-/// The row of an opcode of the 65C02. An opcode that does nothing is a `Nop` of mode `Spare` (W65C02S data sheet,
-/// the table of opcodes and that of enhancements).
+/// The row of an opcode of the 65C02. An opcode that does nothing is a `Nop` of mode `Spare`.
+/// Source: the W65C02S data sheet, without its instructions for single bits, WAI and STP.
 pub fn cmos(op: u8) -> Row
     ensures row { result ≡ cmos_row op }
+    ensures spare { (result.mode ≡ Mode.Spare) ↔ (¬ IsDocumented Cmos op) }
+    ensures within { (0 < result.bytes) × (result.bytes ≤ 3) × (0 < result.cycles) × (result.cycles ≤ 8) }
 {
     CMOS[op as usize]
 }

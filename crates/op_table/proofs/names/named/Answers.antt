@@ -8,7 +8,7 @@ returns-then-eq c = is_named c.loop-mnemonic.mnemonic-index _ c.args.upper c.loo
 pub loop-mnemonic-preserved : goal.loop-mnemonic-preserved
 loop-mnemonic-preserved c =
     below_more _ _ c.loop-mnemonic.invariant
-        (not_named c.loop-mnemonic.mnemonic-index _ c.args.upper c.loop-mnemonic-test.true c.if-eq.ensures)
+    (not_named c.loop-mnemonic.mnemonic-index _ c.args.upper c.loop-mnemonic-test.true c.if-eq.ensures)
 
 pub returns : goal.returns
 returns c = none_named c.loop-mnemonic.mnemonic-index c.args.upper c.loop-mnemonic-test.false c.loop-mnemonic.invariant

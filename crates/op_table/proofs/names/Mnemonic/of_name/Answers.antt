@@ -1,5 +1,4 @@
-use Rattle.std.proofs.Common.{◌≡◌, ◌↔◌, ℕ, List, [], ◌∷◌, map, subst, arith, Option, Some, None}
-use Rattle.std.specs.Char.{to_ascii_uppercase}
+use Rattle.std.proofs.Common.{◌≡◌, ◌↔◌, ℕ, List, subst, arith, Some, None}
 use Rattle.op_table.specs.declared.names.Mnemonic.{Mnemonic}
 use Rattle.op_table.specs.Names.{name_of}
 use Rattle.op_table.proofs.NameLemmas.{named-mnemonic_of, none_of_length, three_letters}
@@ -17,8 +16,8 @@ pub returns-clause-named : goal.returns-clause-named
 returns-clause-named c =
     let text = c.args.text.now in
     subst (λ (upper : List ℕ). (m : Mnemonic) → (c.named.result ≡ Some m) ↔ (upper ≡ name_of m))
-        (three_letters text _ _ _ (omega arith) c.to_ascii_uppercase.ensures.value c.to_ascii_uppercase-2.ensures.value c.to_ascii_uppercase-3.ensures.value)
-        c.named.ensures
+    (three_letters text _ _ _ (omega arith) c.to_ascii_uppercase.ensures.value c.to_ascii_uppercase-2.ensures.value c.to_ascii_uppercase-3.ensures.value)
+    c.named.ensures
 
 pub returns-clause-value : goal.returns-clause-value
 returns-clause-value c = named-mnemonic_of c.args.text.now c.named.result (returns-clause-named c)
