@@ -35,6 +35,47 @@ fn a_rise_of_the_nmi_condition_counts(rt: HostRuntime) {
 }
 
 #[test]
+fn the_counts_rise_with_their_conditions(rt: HostRuntime) {
+    let mut chip = Chip::new();
+    let rows = [
+        // M set: register 3 to the host holds its byte of power-on, so that N does not hold.
+        (Side::Host, Op::Write(0, 0x88), 0, 0),
+        // The host empties it: N.
+        (Side::Host, Op::Read(5), 1, 0),
+        (Side::Para, Op::Write(5, 0x66), 1, 0),
+        (Side::Host, Op::Read(5), 2, 0),
+        // N holds already, for one reason and then for the other.
+        (Side::Host, Op::Write(5, 0x11), 2, 0),
+        (Side::Para, Op::Write(5, 0x77), 2, 0),
+        // The parasite takes its byte, and gets another.
+        (Side::Para, Op::Read(5), 2, 0),
+        (Side::Host, Op::Write(5, 0x22), 3, 0),
+        // M off and on again over N.
+        (Side::Host, Op::Write(0, 0x08), 3, 0),
+        (Side::Host, Op::Write(0, 0x88), 4, 0),
+        // Clearing ends N. With V one byte is too few.
+        (Side::Host, Op::Write(0, 0xc0), 4, 0),
+        (Side::Host, Op::Write(0, 0x90), 4, 0),
+        (Side::Host, Op::Write(5, 0x11), 4, 0),
+        (Side::Host, Op::Write(5, 0x22), 5, 0),
+        // V off over two bytes leaves N as it is.
+        (Side::Host, Op::Write(0, 0x10), 5, 0),
+        // P, again with T while it is set, and after it was clear.
+        (Side::Host, Op::Write(0, 0xa0), 5, 1),
+        (Side::Host, Op::Write(0, 0xe0), 5, 1),
+        (Side::Host, Op::Write(0, 0x20), 5, 1),
+        (Side::Host, Op::Write(0, 0xe0), 5, 2),
+        // Reads and the parasite's writes never reset.
+        (Side::Para, Op::Write(0, 0xa0), 5, 2),
+    ];
+    for (side, op, nmis, resets) in rows {
+        let _ = chip.apply(side, op);
+        assert_eq!(rt; chip.lines().nmis, nmis, "after {side:?} {op:?}");
+        assert_eq!(rt; chip.lines().resets, resets, "after {side:?} {op:?}");
+    }
+}
+
+#[test]
 fn each_line_follows_its_flag_and_register(rt: HostRuntime) {
     let idle = Lines {
         prst: false,
