@@ -1,0 +1,10 @@
+use Rattle.std.proofs.Common.{sym, subst}
+use Rattle.cpu65c02.specs.declared.machine.Machine.{Machine}
+use Rattle.cpu65c02.specs.Ties.{GoesOn}
+use Rattle.cpu65c02.proofs.Entry.{stores_go_on}
+use Rattle.cpu65c02.proofs.machine.Machine.decode_store.Goals as goal
+
+pub returns : goal.returns
+returns c =
+    subst (λ (m : Machine). GoesOn c.args.self.now c.args.op m) (sym c.enter.ensures)
+    (stores_go_on c.args.self.now c.args.op c.requires.phase c.requires.row c.requires.way)

@@ -1,0 +1,34 @@
+-- Addresses, which wrap at 65,536, in the zero page or in the stack's page: MCS6500 Programming Manual, chapters 5 to 8.
+use Rattle.std.specs.Prelude.{ℕ, ◌+◌, ◌*◌, ◌%◌, Bool, cond, leb}
+use Rattle.cpu_alu.specs.declared.Regs.{Regs}
+
+-- two bytes as an address
+abbrev pub word : ℕ → ℕ → ℕ
+word low high = low + high * 256
+
+abbrev pub wrap : ℕ → ℕ
+wrap at = at % 65536
+
+-- the address of byte n of the instruction, its opcode being byte 0
+abbrev pub place : Regs → ℕ → ℕ
+place r n = wrap (r.pc + n)
+
+-- the address k above the stack pointer, in its page
+abbrev pub stack : Regs → ℕ → ℕ
+stack r k = 0x100 + (r.s + k) % 256
+
+-- the stack pointer moved k up, in its page
+abbrev pub stacked : Regs → ℕ → Regs
+stacked r k = record r { s = (r.s + k) % 256 }
+
+-- the registers with PC behind an instruction of so many bytes
+abbrev pub past : Regs → ℕ → Regs
+past r bytes = record r { pc = place r bytes }
+
+-- whether the address with an index added is in another page than that without: low is its low byte
+abbrev pub crosses_page : ℕ → ℕ → Bool
+crosses_page low index = leb 256 (low % 256 + index)
+
+-- where a branch of two bytes goes, by its signed operand
+abbrev pub target : Regs → ℕ → ℕ
+target r by = wrap (place r 2 + by + cond (leb 128 by) 0xFF00 0)

@@ -1,0 +1,4 @@
+pub mod Arithmetic
+pub mod Flags
+pub mod Addresses
+pub mod Instructions

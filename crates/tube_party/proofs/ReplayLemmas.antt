@@ -1,0 +1,188 @@
+-- A replay, step by step.
+use Rattle.std.proofs.Common.{◌≡◌, ◌∙◌, sym, refl, ap, subst, ℕ, zero, suc, ◌+◌, ◌-◌, ◌<◌, ◌≤◌, List, [], ◌∷◌, length, true, false, nat_lt, Option, Some, None, MatchOption, arith}
+use Rattle.std.proofs.lemmas.Bool.Decides.{nat_tests}
+use Rattle.beeb_bits.specs.declared.Tick.{Tick}
+use Rattle.beeb_bits.specs.declared.Side.{Side}
+use Rattle.beeb_bits.specs.declared.Side.TheVariants.{Host}
+use Rattle.tube_chip.specs.declared.Op.{Op}
+use Rattle.tube_chip.specs.declared.Answer.{Answer}
+use Rattle.tube_chip.specs.declared.Answer.TheVariants.{Byte, Seen}
+use Rattle.tube_chip.specs.State.{lines_of, power_on}
+use Rattle.tube_chip.specs.Act.{Query, access, look, MayDo}
+use Rattle.tube_trace.specs.declared.Entry.{Entry}
+use Rattle.tube_party.specs.declared.party.Ask.{Ask}
+use Rattle.tube_party.specs.declared.party.Ask.TheVariants.{Nothing, Access, Look}
+use Rattle.tube_party.specs.Moves.{Moves, IsLawful, Runs, Heads, Advances, IsAsk, IsAskedFor, FitsAnswer, shut}
+use Rattle.tube_party.specs.Replay.{Numbered, Ended, own_from, finished, differs, access_step, one_step, replay_from, replayed, chip_before}
+use Rattle.tube_party.specs.Tape.{Takes, Misses}
+
+low_true : (a n : ℕ) → a < n → nat_lt a n ≡ true
+low_true a n h = grind (arith, nat_tests)
+
+low_false : (a n : ℕ) → n ≤ a → nat_lt a n ≡ false
+low_false a n h = grind (arith, nat_tests)
+
+-- what a replay still has to do, with steps enough for it
+pub record Goes {S : Type 0} (m : Moves S) (side : Side) (trace : List Entry) (n : ℕ) (whole : Ended S) (s : S) (own : List Numbered) : Type 0 where
+  pub steps : ℕ
+  pub enough : n ≤ m.due s + steps
+  pub same : whole ≡ replay_from m side trace n steps s own
+
+module _ {S : Type 0} (m : Moves S) (side : Side) (trace : List Entry) (n : ℕ) where
+  -- at or past n nothing is done
+  at_end : (steps : ℕ) (s : S) (own : List Numbered) → n ≤ m.due s → replay_from m side trace n steps s own ≡ finished m n s own
+  at_end zero s own h = refl
+  at_end (suc k) s own h = rw (low_false (m.due s) n h) refl
+
+  pub goes_end : (whole : Ended S) (s : S) (own : List Numbered) → Goes m side trace n whole s own → n ≤ m.due s → whole ≡ finished m n s own
+  goes_end whole s own goes h = goes.same ∙ at_end goes.steps s own h
+
+  -- below n one step is done
+  step_of : (steps : ℕ) (s : S) (own : List Numbered) (q : Option Query) → m.due s < n → n ≤ m.due s + steps → m.asks s ≡ q →
+      (k : ℕ) × (n ≤ m.due s + suc k) × (replay_from m side trace n steps s own ≡ one_step m side trace s own q (replay_from m side trace n k))
+  step_of zero s own q low enough is = absurd (omega arith)
+  step_of (suc k) s own q low enough is = (k, enough, rw (low_true (m.due s) n low, is) refl)
+
+  later : IsLawful m → (s : S) (a : Option Answer) (k : ℕ) → n ≤ m.due s + suc k → n ≤ m.due (m.next s a) + k
+  later lawful s a k h = let rise : m.due s < m.due (m.next s a) = lawful.rises s a in omega arith
+
+  -- one step that asks nothing, and what holds of those after it
+  goes_past : IsLawful m → (whole : Ended S) (own : List Numbered) (k : ℕ) (s last : S) → Goes m side trace n whole s own → m.due s < n → (q : Option Query) → m.asks s ≡ q →
+      (Goes m side trace n whole (m.next s None) own → Runs m Host n k (m.next s None) [] last → Goes m side trace n whole last own) →
+      MatchOption q (Runs m Host n k (m.next s None) [] last) (λ p. Heads [] (λ e rest. (e.tick ≡ m.due s) × (e.side ≡ Host) × (e.query ≡ p) × Runs m Host n k (m.next s (Some e.answer)) rest last)) →
+      Goes m side trace n whole last own
+  goes_past lawful whole own k s last goes low None is on runs =
+      let step = step_of goes.steps s own None low goes.enough is in
+      on (record { steps = step.0; enough = later lawful s None step.0 step.1; same = goes.same ∙ step.2 }) runs
+  goes_past lawful whole own k s last goes low (Some q) is on runs = absurd runs
+
+  -- steps that ask nothing
+  pub goes_silent : IsLawful m → (whole : Ended S) (own : List Numbered) (k : ℕ) (s last : S) → Goes m side trace n whole s own → Runs m Host n k s [] last → Goes m side trace n whole last own
+  goes_silent lawful whole own zero s last goes runs = subst (λ (x : S). Goes m side trace n whole x own) runs.1 goes
+  goes_silent lawful whole own (suc k) s last goes runs =
+      goes_past lawful whole own k s last goes runs.0 (m.asks s) refl (λ on rest. goes_silent lawful whole own k (m.next s None) last on rest) runs.1
+
+  -- a look
+  pub goes_look : IsLawful m → (whole : Ended S) (s : S) (own : List Numbered) → Goes m side trace n whole s own → m.due s < n → m.asks s ≡ Some look →
+      Goes m side trace n whole (m.next s (Some (Seen (lines_of (chip_before side (m.due s) power_on trace))))) own
+  goes_look lawful whole s own goes low is =
+      let step = step_of goes.steps s own (Some look) low goes.enough is in
+      record { steps = step.0; enough = later lawful s _ step.0 step.1; same = goes.same ∙ step.2 }
+
+  -- an access that is the side's next entry
+  pub goes_access : IsLawful m → (whole : Ended S) (s : S) (own others : List Numbered) (op : Op) (byte : ℕ) → Goes m side trace n whole s own → m.due s < n → m.asks s ≡ Some (access op) →
+      Takes own others (m.due s) op byte → Goes m side trace n whole (m.next s (Some (Byte byte))) others
+  goes_access lawful whole s own others op byte goes low is takes =
+      let step = step_of goes.steps s own (Some (access op)) low goes.enough is in
+      let taken : access_step m side (length trace) s op own (replay_from m side trace n step.0) ≡ replay_from m side trace n step.0 (m.next s (Some (Byte byte))) others =
+      rw (takes.split, takes.that, takes.answer) refl in
+      record { steps = step.0; enough = later lawful s _ step.0 step.1; same = goes.same ∙ step.2 ∙ taken }
+
+  missed : (s : S) (own : List Numbered) (op : Op) (line : ℕ) (go : S → List Numbered → Ended S) → Misses own (length trace) (m.due s) op line →
+      access_step m side (length trace) s op own go ≡ differs m side s op line
+  missed s [] op line go h = ap (differs m side s op) (sym h)
+  missed s (x ∷ own) op line go h = rw (h.1, h.0) refl
+
+  -- an access that is not
+  pub goes_differs : (whole : Ended S) (s : S) (own : List Numbered) (op : Op) (line : ℕ) → Goes m side trace n whole s own → m.due s < n → m.asks s ≡ Some (access op) →
+      Misses own (length trace) (m.due s) op line → whole ≡ differs m side s op line
+  goes_differs whole s own op line goes low is h =
+      let step = step_of goes.steps s own (Some (access op)) low goes.enough is in
+      goes.same ∙ step.2 ∙ missed s own op line (replay_from m side trace n step.0) h
+
+-- the whole replay, before its first step
+pub goes_all : {S : Type 0} (m : Moves S) (side : Side) (trace : List Entry) (n : ℕ) (s : S) → Goes m side trace n (replayed m side trace n s) s (own_from side n 1 trace)
+unfolding replayed
+goes_all m side trace n s = record { steps = n; enough = omega arith; same = refl }
+
+-- what `advance` told
+
+abbrev Asked : {S : Type 0} → Moves S → ℕ → S → Ask → S → Type 0
+Asked m n old ask new = Advances m n old ask new
+
+-- it asks for nothing below n
+pub record RanOut {S : Type 0} (m : Moves S) (n : ℕ) (old new : S) : Type 0 where
+  pub steps : ℕ
+  pub last : S
+  pub runs : Runs m Host n steps old [] last
+  pub over : n ≤ m.due last
+  pub shut_is : new ≡ shut m last n
+
+pub ran_out : {S : Type 0} (m : Moves S) (n : ℕ) (old new : S) (ask : Ask) → Advances m n old ask new → ask ≡ Nothing → RanOut m n old new
+ran_out m n old new ask told is =
+    let asked : (n ≤ m.due told.last) × (new ≡ shut m told.last n) = subst (λ (a : Ask). IsAsk m Host n told.last a new) is (told.asked Host) in
+    record { steps = told.steps; last = told.last; runs = told.runs; over = asked.0; shut_is = asked.1 }
+
+-- it asks this of the Tube at its next step
+pub record Stands {S : Type 0} (m : Moves S) (n : ℕ) (old new : S) (tick : ℕ) (q : Query) : Type 0 where
+  pub steps : ℕ
+  pub runs : Runs m Host n steps old [] new
+  pub tick_is : tick ≡ m.due new
+  pub below : m.due new < n
+  pub asks : m.asks new ≡ Some q
+
+pub stands_access : {S : Type 0} (m : Moves S) (n : ℕ) (old new : S) (ask : Ask) (t : Tick) (op : Op) → Advances m n old ask new → ask ≡ Access t op → Stands m n old new t.0 (access op)
+stands_access {S} m n old new ask t op told is =
+    let asked : (t.0 ≡ m.due told.last) × (t.0 < n) × (m.asks told.last ≡ Some (access op)) × MayDo Host op × (new ≡ told.last) =
+    subst (λ (a : Ask). IsAsk m Host n told.last a new) is (told.asked Host) in
+    let same : told.last ≡ new = sym asked.4 in
+    let due : t.0 ≡ m.due new = subst (λ (x : S). t.0 ≡ m.due x) same asked.0 in
+    record {
+      steps = told.steps;
+      runs = subst (λ (x : S). Runs m Host n told.steps old [] x) same told.runs;
+      tick_is = due;
+      below = rw (← due) asked.1;
+      asks = subst (λ (x : S). m.asks x ≡ Some (access op)) same asked.2;
+    }
+
+pub stands_look : {S : Type 0} (m : Moves S) (n : ℕ) (old new : S) (ask : Ask) (t : Tick) → Advances m n old ask new → ask ≡ Look t → Stands m n old new t.0 look
+stands_look {S} m n old new ask t told is =
+    let asked : (t.0 ≡ m.due told.last) × (t.0 < n) × (m.asks told.last ≡ Some look) × (new ≡ told.last) =
+    subst (λ (a : Ask). IsAsk m Host n told.last a new) is (told.asked Host) in
+    let same : told.last ≡ new = sym asked.3 in
+    let due : t.0 ≡ m.due new = subst (λ (x : S). t.0 ≡ m.due x) same asked.0 in
+    record {
+      steps = told.steps;
+      runs = subst (λ (x : S). Runs m Host n told.steps old [] x) same told.runs;
+      tick_is = due;
+      below = rw (← due) asked.1;
+      asks = subst (λ (x : S). m.asks x ≡ Some look) same asked.2;
+    }
+
+-- steps that ask nothing only raise the tick
+pub due_rises : {S : Type 0} (m : Moves S) (n k : ℕ) (s last : S) → IsLawful m → Runs m Host n k s [] last → m.due s ≤ m.due last
+due_rises {S} m n zero s last lawful runs = subst (λ (x : S). m.due s ≤ m.due x) runs.1 (let d : ℕ = m.due s in omega arith)
+due_rises {S} m n (suc k) s last lawful runs = due_past m n k s last lawful (m.asks s) (λ rest. due_rises m n k (m.next s None) last lawful rest) runs.1
+  where
+    due_past : {S : Type 0} (m : Moves S) (n k : ℕ) (s last : S) → IsLawful m → (q : Option Query) → (Runs m Host n k (m.next s None) [] last → m.due (m.next s None) ≤ m.due last) →
+        MatchOption q (Runs m Host n k (m.next s None) [] last) (λ p. Heads [] (λ e rest. (e.tick ≡ m.due s) × (e.side ≡ Host) × (e.query ≡ p) × Runs m Host n k (m.next s (Some e.answer)) rest last)) →
+        m.due s ≤ m.due last
+    due_past m n k s last lawful None on runs = let a : m.due s < m.due (m.next s None) = lawful.rises s None in let b : m.due (m.next s None) ≤ m.due last = on runs in omega arith
+    due_past m n k s last lawful (Some q) on runs = absurd runs
+
+-- an answer to what is asked
+pub asked_for : {S : Type 0} (m : Moves S) (most : ℕ) (s : S) (q : Query) (a : Answer) → m.due s < most → m.asks s ≡ Some q → FitsAnswer q a → IsAskedFor m most s a
+asked_for m most s q a low is fits = record { below = low; kind = subst (λ (o : Option Query). MatchOption o ⊥ (λ p. FitsAnswer p a)) (sym is) fits }
+
+-- where a party stands at a step that asks, and answers it
+
+pub smaller : {S : Type 0} (m : Moves S) (n : ℕ) (old at new : S) (tick : ℕ) (q : Query) {a : Option Answer} → IsLawful m → Stands m n old at tick q → new ≡ m.next at a → n - m.due new < n - m.due old
+smaller {S} m n old at new tick q {a} lawful stands is =
+    let x : m.due old ≤ m.due at = due_rises m n stands.steps old at lawful stands.runs in
+    let y : m.due at < m.due (m.next at a) = lawful.rises at a in
+    let z : m.due new ≡ m.due (m.next at a) = ap m.due is in
+    let w : m.due at < n = stands.below in
+    omega arith
+
+pub earlier : {S : Type 0} (m : Moves S) (n : ℕ) (old at new : S) (tick : ℕ) (q : Query) {a : Option Answer} → IsLawful m → Stands m n old at tick q → new ≡ m.next at a → (t : ℕ) → m.due new ≤ t → m.due old ≤ t
+earlier {S} m n old at new tick q {a} lawful stands is t h =
+    let x : m.due old ≤ m.due at = due_rises m n stands.steps old at lawful stands.runs in
+    let y : m.due at < m.due (m.next at a) = lawful.rises at a in
+    let z : m.due new ≡ m.due (m.next at a) = ap m.due is in
+    omega arith
+
+pub after_look : {S : Type 0} (m : Moves S) (n : ℕ) (old at new : S) (tick : ℕ) (q : Query) {a : Option Answer} → IsLawful m → Stands m n old at tick q → new ≡ m.next at a → (t : ℕ) → m.due new ≤ t → m.due at ≤ t
+after_look {S} m n old at new tick q {a} lawful stands is t h =
+    let y : m.due at < m.due (m.next at a) = lawful.rises at a in
+    let z : m.due new ≡ m.due (m.next at a) = ap m.due is in
+    omega arith

@@ -1,0 +1,87 @@
+-- A party at the Tube: the steps of a machine as functions of its state, and what it means that they use up a list of events.
+use Rattle.std.specs.Prelude.{ℕ, zero, suc, ◌≡◌, ◌<◌, ◌≤◌, max, Option, None, Some, MatchOption, List, [], ◌∷◌}
+use Rattle.beeb_bits.specs.declared.Side.{Side}
+use Rattle.beeb_bits.specs.declared.Side.TheVariants.{Host}
+use Rattle.tube_chip.specs.declared.Answer.{Answer}
+use Rattle.tube_chip.specs.declared.Answer.TheVariants.{Byte, Seen}
+use Rattle.tube_chip.specs.Act.{Query, access, look, MayDo}
+use Rattle.tube_chip.specs.Events.{Event}
+use Rattle.tube_party.specs.declared.party.Ask.{Ask}
+use Rattle.tube_party.specs.declared.party.Ask.TheVariants.{Nothing, Access, Look}
+
+-- The steps of a party whose states are S.
+pub record Moves (S : Type 0) : Type 0 where
+  -- the tick of the next step
+  pub due : S → ℕ
+  -- what that step asks of the Tube, if it asks
+  pub asks : S → Option Query
+  -- the state after that step, with the answer where it asks
+  pub next : S → Option Answer → S
+  -- the state holds all device steps below this tick
+  pub closed : S → ℕ
+  -- the state with the device steps below a tick done too
+  pub close : S → ℕ → S
+
+-- Closing a state at a tick changes nothing of its next step, and closing it further is the same as closing it so far at once.
+pub record IsClosing {S : Type 0} (m : Moves S) (s : S) (t : ℕ) : Type 0 where
+  pub closed : m.closed (m.close s t) ≡ t
+  pub due : m.due (m.close s t) ≡ m.due s
+  pub asks : m.asks (m.close s t) ≡ m.asks s
+  pub next : (a : Option Answer) → m.next (m.close s t) a ≡ m.next s a
+  pub again : (u : ℕ) → t ≤ u → u ≤ m.due s → m.close (m.close s t) u ≡ m.close s u
+
+-- The laws of a party: ticks rise from step to step, and states may be closed up to their next step.
+pub record IsLawful {S : Type 0} (m : Moves S) : Type 0 where
+  pub rises : (s : S) (a : Option Answer) → m.due s < m.due (m.next s a)
+  pub closing : (s : S) (t : ℕ) → m.closed s ≤ t → t ≤ m.due s → IsClosing m s t
+
+-- closed at n, or as far as it is closed already if that is further
+abbrev pub shut : {S : Type 0} → Moves S → S → ℕ → S
+shut m s n = m.close s (max n (m.closed s))
+
+-- the first event, and what holds of it and the rest
+abbrev pub Heads : List Event → (Event → List Event → Type 0) → Type 0
+Heads [] P = ⊥
+Heads (e ∷ events) P = P e events
+
+-- k steps from s to last, each below n, are these events of the side in order: a step that asks nothing is no event
+abbrev pub Runs : {S : Type 0} → Moves S → Side → ℕ → ℕ → S → List Event → S → Type 0
+Runs m side n zero s events last = (events ≡ []) × (s ≡ last)
+Runs m side n (suc k) s events last =
+    (m.due s < n)
+    × MatchOption (m.asks s)
+    (Runs m side n k (m.next s None) events last)
+    (λ q. Heads events (λ e rest. (e.tick ≡ m.due s) × (e.side ≡ side) × (e.query ≡ q) × Runs m side n k (m.next s (Some e.answer)) rest last))
+
+-- The steps from s below n use up the events, and ended is the state after them, closed.
+pub record Follows {S : Type 0} (m : Moves S) (side : Side) (s : S) (events : List Event) (n : ℕ) (ended : S) : Type 0 where
+  pub steps : ℕ
+  pub last : S
+  pub runs : Runs m side n steps s events last
+  pub over : n ≤ m.due last
+  pub ends : ended ≡ shut m last n
+
+-- what is told of last, the first state whose step asks or is not below n
+abbrev pub IsAsk : {S : Type 0} → Moves S → Side → ℕ → S → Ask → S → Type 0
+IsAsk m side n last Nothing new = (n ≤ m.due last) × (new ≡ shut m last n)
+IsAsk m side n last (Access t op) new = (t.0 ≡ m.due last) × (t.0 < n) × (m.asks last ≡ Some (access op)) × MayDo side op × (new ≡ last)
+IsAsk m side n last (Look t) new = (t.0 ≡ m.due last) × (t.0 < n) × (m.asks last ≡ Some look) × (new ≡ last)
+
+-- The steps below n that ask nothing were done, and this is asked next. A party does not know its side, and asks what either may do.
+pub record Advances {S : Type 0} (m : Moves S) (n : ℕ) (old : S) (ask : Ask) (new : S) : Type 0 where
+  pub steps : ℕ
+  pub last : S
+  pub runs : Runs m Host n steps old [] last
+  pub asked : (side : Side) → IsAsk m side n last ask new
+
+-- a byte for an access, lines for a look
+abbrev pub FitsAnswer : Query → Answer → Type 0
+FitsAnswer (access op) (Byte b) = Unit {0}
+FitsAnswer look (Seen l) = Unit {0}
+FitsAnswer (access op) (Seen l) = ⊥
+FitsAnswer look (Byte b) = ⊥
+
+-- The next step is below `most`, asks, and this is an answer of its kind.
+pub record IsAskedFor {S : Type 0} (m : Moves S) (most : ℕ) (s : S) (a : Answer) : Type 0 where
+  pub below : m.due s < most
+  pub kind : MatchOption (m.asks s) ⊥ (λ q. FitsAnswer q a)

@@ -1,0 +1,49 @@
+//! What a machine at the Tube is.
+ghost use Rattle.std.specs.Prelude.{◌≡◌, ◌≤◌, Some};
+ghost use Rattle.tube_party.specs.Moves.{Moves, IsLawful, Advances, IsAskedFor};
+
+use beeb_bits::Tick;
+use tube_chip::{Answer, Op};
+
+/// What the next step below a tick asks of the Tube.
+#[derive(Clone, Copy, Debug, PartialEq, Eq)]
+pub enum Ask {
+    /// No step below the tick asks.
+    Nothing,
+    /// An access at this tick.
+    Access(Tick, Op),
+    /// A look at the lines at this tick.
+    Look(Tick),
+}
+
+/// The most ticks of a run.
+pub const MOST: u64 = 1_073_741_824;
+
+/// A machine with a clock, whose steps are bus accesses and looks at the Tube's lines. Contracts see its state, and its steps as functions
+/// of that state.
+pub trait Party: Drop {
+    /// What contracts see of a party.
+    ghost State: { Type 0 };
+
+    ghost state: { Self → State };
+
+    /// The party's steps.
+    ghost moves: { Moves State };
+
+    /// The tick of the next step.
+    fn due(&self) -> Tick
+        ensures { result.0 ≡ moves.due (state self.now) };
+
+    /// Does the steps below `until` that ask nothing, up to the first that asks. After `Nothing` all steps below `until` are done, and the
+    /// state is closed at `until`, or as far as it is closed already if that is further.
+    fn advance(&mut self, until: Tick) -> Ask
+        requires { until.0 ≤ MOST }
+        ensures { Advances moves until.0 (state self.old) result (state self.new) };
+
+    /// Does the step that asks.
+    fn answer(&mut self, answer: Answer)
+        requires { IsAskedFor moves MOST (state self.old) answer }
+        ensures { state self.new ≡ moves.next (state self.old) (Some answer) };
+
+    ghost lawful: { IsLawful moves };
+}

@@ -1,0 +1,158 @@
+//! A party of two kinds of step, against traces that fit it and traces that don't.
+
+use crate::{Ask, Doing, MOST, Party, replay};
+use beeb_bits::{Side, Tick};
+use std::test::Fail;
+use tube_chip::{Answer, Op};
+use tube_trace::read;
+
+/// Looks at tick 5 and every 10 ticks, and reads register 0 five ticks after each look.
+#[derive(Drop)]
+pub struct Probe {
+    at: u64,
+    looks: bool,
+    closed: u64,
+    last: Option<Answer>,
+}
+
+impl Party for Probe {
+    ghost use Rattle.std.specs.Prelude.{◌+◌, not, Some, refl, if◌then◌else◌};
+    ghost use Rattle.std.proofs.Common.{arith};
+    ghost use Rattle.tube_party.specs.declared.tests.Probe.{Probe};
+    ghost use Rattle.tube_chip.specs.declared.Op.TheVariants as op;
+    ghost use Rattle.tube_chip.specs.Act.{access, look};
+
+    ghost State = { Probe };
+
+    ghost state = { λ m. m };
+
+    ghost moves = { record {
+      due = λ s. s.at;
+      asks = λ s. if s.looks then Some look else Some (access (op.Read 0));
+      next = λ s a. record { at = s.at + 5; looks = not s.looks; closed = s.at + 1; last = a };
+      closed = λ s. s.closed;
+      close = λ s t. record s { closed = t };
+    } };
+
+    ghost lawful = { record {
+      rises = λ s a. omega arith;
+      closing = λ s t low high. record { closed = refl; due = refl; asks = refl; next = λ a. refl; again = λ u low2 high2. refl };
+    } };
+
+    fn due(&self) -> Tick {
+        Tick(self.at)
+    }
+
+    fn advance(&mut self, until: Tick) -> Ask {
+        if self.at < until.0 {
+            if self.looks {
+                return Ask::Look(Tick(self.at));
+            }
+            return Ask::Access(Tick(self.at), Op::Read(0));
+        }
+        self.closed = self.closed.max(until.0);
+        Ask::Nothing
+    }
+
+    fn answer(&mut self, answer: Answer) {
+        self.last = Some(answer);
+        self.looks = !self.looks;
+        self.closed = self.at + 1;
+        self.at += 5;
+    }
+}
+
+fn at_power_on() -> Probe {
+    Probe {
+        at: 5,
+        looks: true,
+        closed: 0,
+        last: None,
+    }
+}
+
+#[test]
+fn the_first_place_that_differs_is_told(rt: HostRuntime) -> Result<(), Fail> {
+    let does = |tick| {
+        Some(Doing {
+            tick: Tick(tick),
+            side: Side::Para,
+            op: Op::Read(0),
+        })
+    };
+    // The entries, the ticks of the replay, the place and the tick at which the party stands.
+    let rows: [(&str, u64, Option<(u64, Option<Doing>)>, u64); 12] = [
+        // Each read fits.
+        ("000000000A P R 0 01\n0000000014 P R 0 02\n", 30, None, 30),
+        // Entries from the end of the replay on are not asked for, and neither are the other side's.
+        ("000000000A P R 0 01\n0000000014 P R 0 02\n", 20, None, 20),
+        ("0000000003 H W 0 01\n000000000A P R 0 01\n", 20, None, 20),
+        ("", 10, None, 10),
+        ("", 0, None, 5),
+        // An entry of another register, of another kind, and at another tick.
+        (
+            "000000000A P R 0 01\n0000000014 P R 1 00\n",
+            30,
+            Some((2, does(20))),
+            20,
+        ),
+        (
+            "000000000A P R 0 01\n0000000014 P W 0 00\n",
+            30,
+            Some((2, does(20))),
+            20,
+        ),
+        (
+            "000000000A P R 0 01\n000000000F H W 0 00\n0000000015 P R 0 00\n",
+            30,
+            Some((3, does(20))),
+            20,
+        ),
+        ("0000000009 P R 0 01\n", 30, Some((1, does(10))), 10),
+        // No entry where the party reads.
+        ("000000000A P R 0 01\n", 30, Some((2, does(20))), 20),
+        ("0000000003 H W 0 01\n", 30, Some((2, does(10))), 10),
+        // An entry where the party does nothing more.
+        (
+            "0000000003 H W 0 01\n000000000A P R 0 01\n000000000B P R 0 02\n",
+            15,
+            Some((3, None)),
+            15,
+        ),
+    ];
+    for (text, ticks, place, at) in rows {
+        let entries = read(rt.alloc(), text.as_bytes())?;
+        let (party, found) = replay(at_power_on(), Side::Para, &entries, Tick(ticks));
+        assert_eq!(rt; found, place);
+        assert_eq!(rt; party.at, at);
+    }
+    Ok(())
+}
+
+#[test]
+fn a_look_sees_the_entries_before_it(rt: HostRuntime) -> Result<(), Fail> {
+    // P is set and cleared again: one reset. What the host does at the tick of the look comes before it, and what it does later
+    // doesn't.
+    let rows: [(&str, u32); 5] = [
+        ("", 0),
+        ("0000000004 H W 0 A0\n0000000005 H W 0 20\n", 1),
+        ("0000000005 H W 0 A0\n", 1),
+        ("0000000006 H W 0 A0\n", 0),
+        (
+            "0000000001 H W 0 A0\n0000000002 H W 0 20\n0000000003 H W 0 A0\n0000000004 H W 0 20\n",
+            2,
+        ),
+    ];
+    for (text, resets) in rows {
+        let entries = read(rt.alloc(), text.as_bytes())?;
+        let (party, place) = replay(at_power_on(), Side::Para, &entries, Tick(10));
+        assert_eq!(rt; place, None);
+        assert!(rt;
+            match party.last {
+                Some(Answer::Seen(lines)) => lines.resets == resets,
+                _ => false,
+            }
+        );
+    }
+    Ok(())
+}
