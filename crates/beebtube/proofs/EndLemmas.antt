@@ -1,14 +1,21 @@
 -- What a command comes to once its files are read ends with outputs, and writes only what the command may write.
-use Rattle.std.proofs.Common.{◌≡◌, refl, subst, ℕ, ◌<◌, List, [], Option, Some, None, Result, Ok, Err, Contains, arith}
+use Rattle.std.proofs.Common.{◌≡◌, refl, subst, ℕ, ◌<◌, List, [], ◌∷◌, sym, zero, suc, Option, Some, None, Result, Ok, Err, Contains, arith, length, ◌+◌, Bool, true, false, cond, nat_lt}
 use Rattle.tube_trace.specs.declared.Entry.{Entry}
 use Rattle.tube_trace.specs.declared.TraceError.{TraceError}
 use Rattle.tube_trace.specs.Trace.{trace}
 use Rattle.tube_trace.specs.Wrong.{wrong}
 use Rattle.beebtube.specs.declared.status.Status.{Status}
 use Rattle.beebtube.specs.Kind.{end, kind}
-use Rattle.beebtube.specs.Command.{Command, check}
+use Rattle.op_table.specs.declared.Part.{Part}
+use Rattle.asm65.specs.declared.AsmError.{AsmError}
+use Rattle.asm65.specs.Source.{Program, source}
+use Rattle.dis65.specs.Listing.{decode}
+use Rattle.beebtube.specs.declared.status.Which.TheVariants.{Image}
+use Rattle.beebtube.specs.declared.status.Status.TheVariants.{BadImage}
+use Rattle.beebtube.specs.Command.{Command, check, asm, dis}
 use Rattle.beebtube.specs.Verdict.{Verdict, ◌>>=◌}
 use Rattle.beebtube.specs.Check.{entries_of, judged, first_of}
+use Rattle.beebtube.specs.Asm.{one_file, program_of}
 use Rattle.beebtube.specs.Comes.{after_reading, MayWrite}
 use Rattle.beebtube.specs.Ran.{names}
 
@@ -31,6 +38,26 @@ check-ends : (t : List ℕ) (r : Result (List Entry) TraceError) (v : Verdict) �
 check-ends t (Ok entries) v is = subst (Ends (check t)) (same_verdict _ v is) (judged-ends t entries (wrong entries))
 check-ends t (Err e) v is = cc
 
+-- one file under the name that the command was given
+contains_one : (out name : List ℕ) → Contains (out ∷ []) name → name ≡ out
+contains_one out name (zero, low, is) = sym is
+contains_one out name (suc k, low, is) = let none : suc k < 1 = low in absurd (omega arith)
+
+one_file-ends : (c : Command) (out bytes : List ℕ) → ((name : List ℕ) → name ≡ out → MayWrite c name) → Ends c (one_file out bytes)
+one_file-ends c out bytes may = record { status = refl; may = λ name has. may name (contains_one out name has) }
+
+asm-ends : (part : Part) (s out : List ℕ) (r : Result Program AsmError) (v : Verdict) → (program_of r >>= λ program. Ok (one_file out program.1)) ≡ Ok v → Ends (asm part s out) v
+asm-ends part s out (Ok program) v is = subst (Ends (asm part s out)) (same_verdict _ v is) (one_file-ends (asm part s out) out program.1 (λ name same. same))
+asm-ends part s out (Err e) v is = cc
+
+dis-ends : (part : Part) (image : List ℕ) (origin : ℕ) (out text : List ℕ) (len : ℕ) (past : Bool) (v : Verdict) →
+    cond past (Err (BadImage Image len)) (Ok (one_file out text)) ≡ Ok v → Ends (dis part image origin out) v
+dis-ends part image origin out text len true v is = cc
+dis-ends part image origin out text len false v is = subst (Ends (dis part image origin out)) (same_verdict _ v is) (one_file-ends (dis part image origin out) out text (λ name same. same))
+
 -- each command's outcome
 pub ends : (c : Command) (read : List (List ℕ)) (v : Verdict) → after_reading c read ≡ Ok v → Ends c v
 ends (check t) read v is = check-ends t (trace (first_of read)) v is
+ends (asm part s out) read v is = asm-ends part s out (source part (first_of read)) v is
+ends (dis part image origin out) read v is =
+    dis-ends part image origin out (decode part (first_of read) origin) (length (first_of read)) (nat_lt 65536 (origin + length (first_of read))) v is

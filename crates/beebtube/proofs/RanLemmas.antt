@@ -4,7 +4,7 @@ use Rattle.beeb_files.specs.Files.{Files}
 use Rattle.beeb_files.specs.Counts.{Rose, Stayed, NoneFell}
 use Rattle.beeb_files.specs.Outlet.{OutletState, NoCountFell}
 use Rattle.beebtube.specs.declared.status.Status.{Status}
-use Rattle.beebtube.specs.declared.status.Status.TheVariants.{Done, Usage, ReadFault, TooLong, BadTrace, WriteFault, NoMemory, Wrong}
+use Rattle.beebtube.specs.declared.status.Status.TheVariants.{Done, Usage, ReadFault, TooLong, BadImage, BadTrace, BadSource, WriteFault, NoMemory, Wrong}
 use Rattle.beebtube.specs.Kind.{Kind, end, usage, refusal, unread, too_long, unwritten, no_memory, kind}
 use Rattle.beebtube.specs.Command.{Command}
 use Rattle.beebtube.specs.Verdict.{Verdict, reached, read_all, ended}
@@ -22,7 +22,9 @@ memory_is Done h = cc
 memory_is Usage h = cc
 memory_is (ReadFault name) h = cc
 memory_is (TooLong name) h = cc
+memory_is (BadImage which len) h = cc
 memory_is (BadTrace line cause) h = cc
+memory_is (BadSource line cause) h = cc
 memory_is (WriteFault name) h = cc
 memory_is (Wrong line byte) h = cc
 

@@ -46,5 +46,5 @@ abbrev pub first_of : List (List ℕ) → List ℕ
 first_of [] = []
 first_of (bytes ∷ more) = bytes
 
-abbrev pub check_after : List (List ℕ) → Result Verdict Status
-check_after read = entries_of (trace (first_of read)) >>= λ entries. Ok (judged entries (wrong entries))
+abbrev pub check_after : List ℕ → Result Verdict Status
+check_after bytes = entries_of (trace bytes) >>= λ entries. Ok (judged entries (wrong entries))

@@ -1,7 +1,7 @@
 -- The kinds of statuses, by which the promises of a command go: a new status has its kind, and no line of its own in them.
 use Rattle.std.specs.Prelude.{ℕ, List}
 use Rattle.beebtube.specs.declared.status.Status.{Status}
-use Rattle.beebtube.specs.declared.status.Status.TheVariants.{Done, Usage, ReadFault, TooLong, BadTrace, WriteFault, NoMemory, Wrong}
+use Rattle.beebtube.specs.declared.status.Status.TheVariants.{Done, Usage, ReadFault, TooLong, BadImage, BadTrace, BadSource, WriteFault, NoMemory, Wrong}
 
 pub data Kind : Type 0 where
   -- the outputs stand as they are defined
@@ -23,7 +23,9 @@ abbrev pub kind : Status → Kind
 kind Done = end
 kind (Wrong line byte) = end
 kind Usage = usage
+kind (BadImage which len) = refusal
 kind (BadTrace line cause) = refusal
+kind (BadSource line cause) = refusal
 kind (ReadFault name) = unread name
 kind (TooLong name) = too_long name
 kind (WriteFault name) = unwritten name

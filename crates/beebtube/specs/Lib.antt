@@ -4,6 +4,7 @@ pub mod Command
 pub mod Words
 pub mod Verdict
 pub mod Check
+pub mod Asm
 pub mod Comes
 pub mod Ran
 pub mod Stages

@@ -1,5 +1,5 @@
 //! `check TRACE`.
-ghost use Rattle.std.specs.Prelude.{◌≡◌, ◌∷◌, [], ◌<◌, IfOk, IfErr};
+ghost use Rattle.std.specs.Prelude.{◌≡◌, ◌<◌, IfOk, IfErr};
 ghost use Rattle.beebtube.specs.Kind.{kind};
 ghost use Rattle.beebtube.specs.Check.{check_after, ok_text, wrong_text, hex_digit};
 ghost use Rattle.beebtube.specs.Seen.{seen_outcome};
@@ -40,7 +40,7 @@ fn wrong_text(alloc: Global, line: u64, byte: u8) -> Result<Vec<u8>, AllocError>
 
 /// What comes of checking the bytes of a trace.
 pub(crate) fn check_outcome(alloc: Global, bytes: &[u8]) -> Result<Outcome, Status>
-    ensures told { Gives seen_outcome result (check_after (bytes.now ∷ [])) }
+    ensures told { Gives seen_outcome result (check_after bytes.now) }
     ensures pure { IfErr result (λ status. IsPureRefusal (kind status)) }
 {
     let entries = match read(alloc, bytes) {

@@ -7,6 +7,7 @@ ghost use Rattle.beebtube.specs.Ran.{Ran, world};
 ghost use Rattle.beebtube.specs.Seen.{seen, planned, items, seen_outcome};
 ghost use Rattle.beebtube.specs.Stages.{Gives, IsPureRefusal};
 
+use crate::asm::{IMAGE_CAP, SOURCE_CAP, asm_outcome, dis_outcome};
 use crate::check::{TRACE_CAP, check_outcome};
 use crate::outcome::Outcome;
 use crate::reading::read_all;
@@ -20,13 +21,14 @@ use std::alloc::{AllocError, Global};
 fn plan(alloc: Global, command: Command<'_>) -> Result<Vec<(&str, u64)>, AllocError>
     ensures { IfOk result (λ v. map planned v.items ≡ reads (seen command.entry)) }
 {
-    match command {
-        Command::Check { trace } => {
-            let mut plan = Vec::new(alloc);
-            plan.push((trace, TRACE_CAP))?;
-            Ok(plan)
-        }
-    }
+    let file = match command {
+        Command::Check { trace } => (trace, TRACE_CAP),
+        Command::Asm { source, .. } => (source, SOURCE_CAP),
+        Command::Dis { image, .. } => (image, IMAGE_CAP),
+    };
+    let mut plan = Vec::new(alloc);
+    plan.push(file)?;
+    Ok(plan)
 }
 
 // The bytes of the one file.
@@ -46,6 +48,13 @@ fn outcome(alloc: Global, command: Command<'_>, bytes: &[Vec<u8>]) -> Result<Out
 {
     match command {
         Command::Check { .. } => check_outcome(alloc, first_of(bytes)),
+        Command::Asm { part, out, .. } => asm_outcome(alloc, part, out, first_of(bytes)),
+        Command::Dis {
+            part,
+            origin,
+            out,
+            ..
+        } => dis_outcome(alloc, part, origin, out, first_of(bytes)),
     }
 }
 

@@ -1,6 +1,7 @@
 //! beebtube: two whole computers at once, the BBC Micro Model B and its 6502 Second Processor, and tools for their Tube.
 #![tactic(auto)]
 
+mod asm;
 mod check;
 mod drive;
 mod name;

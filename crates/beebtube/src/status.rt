@@ -1,11 +1,28 @@
 //! How the program ends.
-ghost use Rattle.std.specs.Prelude.{◌≡◌, ◌++◌, IfOk};
+ghost use Rattle.std.specs.Prelude.{◌≡◌, ◌++◌, IfOk, codes};
 ghost use Rattle.std.specs.Fmt.{decimal};
-ghost use Rattle.beebtube.specs.Status.{number, text};
+ghost use Rattle.beebtube.specs.Status.{number, which_text, text};
 
 use crate::name::Name;
 use beeb_bits::NoMemory;
 use std::alloc::{AllocError, Global};
+
+/// An image, by its place among those that a command reads.
+#[derive(Clone, Copy, Debug, PartialEq, Eq)]
+pub enum Which {
+    /// The host's operating system.
+    Os,
+    /// The parasite's boot ROM.
+    Tube,
+    /// The paged ROM of a slot from 0 to 15.
+    Rom(u8),
+    /// The teletext font.
+    Font,
+    /// The disc of drive 0 or 1.
+    Disc(u8),
+    /// The image to be disassembled.
+    Image,
+}
 
 /// What a command ends with.
 #[derive(Debug, Drop)]
@@ -18,8 +35,13 @@ pub enum Status {
     ReadFault { name: Name },
     /// The file of this name is longer than the command takes.
     TooLong { name: Name },
+    /// The image has a length outside its set.
+    BadImage { which: Which, len: u64 },
     /// The trace's first line, counted from 1, that is outside its form (kind 1) or its order (kind 2).
     BadTrace { line: u64, kind: u8 },
+    /// The source text's first offending line, counted from 1: syntax (kind 1), no such form (2), unknown label (3), repeated
+    /// label (4), out of range (5), past the end of memory (6).
+    BadSource { line: u64, kind: u8 },
     /// The file of this name could not be written, or, for `-`, the text not said.
     WriteFault { name: Name },
     /// There was no memory.
@@ -43,6 +65,28 @@ fn numbered(alloc: Global, front: &str, n: u64) -> Result<Vec<u8>, AllocError>
     joined(alloc, front, digits.as_bytes())
 }
 
+fn which_text(alloc: Global, which: Which) -> Result<Vec<u8>, AllocError>
+    ensures { IfOk result (λ v. v.items ≡ which_text which) }
+{
+    match which {
+        Which::Os => joined(alloc, "os", &[]),
+        Which::Tube => joined(alloc, "tube", &[]),
+        Which::Rom(slot) => numbered(alloc, "rom", u64::from(slot)),
+        Which::Font => joined(alloc, "font", &[]),
+        Which::Disc(drive) => numbered(alloc, "disc", u64::from(drive)),
+        Which::Image => joined(alloc, "image", &[]),
+    }
+}
+
+fn bad_image(alloc: Global, which: Which, len: u64) -> Result<Vec<u8>, AllocError>
+    ensures { IfOk result (λ v. v.items ≡ codes "bad image " ++ which_text which ++ codes " " ++ decimal len) }
+{
+    let mut bytes = joined(alloc, "bad image ", &[])?;
+    bytes.extend_from_slice(&which_text(alloc, which)?)?;
+    bytes.extend_from_slice(&numbered(alloc, " ", len)?)?;
+    Ok(bytes)
+}
+
 impl Status {
     /// The number that the program ends with, from 0 to 8.
     pub fn number(&self) -> u8
@@ -52,7 +96,8 @@ impl Status {
             Status::Done => 0,
             Status::Usage => 1,
             Status::ReadFault { .. } | Status::TooLong { .. } => 2,
-            Status::BadTrace { .. } => 4,
+            Status::BadImage { .. } => 3,
+            Status::BadTrace { .. } | Status::BadSource { .. } => 4,
             Status::WriteFault { .. } => 5,
             Status::NoMemory => 7,
             Status::Wrong { .. } => 8,
@@ -68,7 +113,9 @@ impl Status {
             Status::Usage => joined(alloc, "usage", &[]),
             Status::ReadFault { name } => joined(alloc, "cannot read ", name.as_bytes()),
             Status::TooLong { name } => joined(alloc, "too long ", name.as_bytes()),
+            Status::BadImage { which, len } => bad_image(alloc, *which, *len),
             Status::BadTrace { line, .. } => numbered(alloc, "bad trace ", *line),
+            Status::BadSource { line, .. } => numbered(alloc, "bad source ", *line),
             Status::WriteFault { name } => joined(alloc, "cannot write ", name.as_bytes()),
             Status::NoMemory => joined(alloc, "no memory", &[]),
         };

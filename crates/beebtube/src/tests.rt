@@ -1,4 +1,4 @@
-//! The command `check`, over a shelf and an outlet in memory.
+//! The commands, over a shelf and an outlet in memory.
 use crate::status::Status;
 use crate::top::plain;
 use beeb_files::{MemOutlet, MemShelf};
@@ -6,6 +6,7 @@ use std::alloc::{AllocError, Global};
 use std::test::Fail;
 
 mod refusals;
+mod sources;
 mod traces;
 
 // One file of this name and these bytes, and the numbers of the calls that fail.

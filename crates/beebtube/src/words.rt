@@ -1,13 +1,30 @@
 //! The grammar of the words.
-ghost use Rattle.std.specs.Prelude.{◌≡◌, map, option_map, string_bytes};
-ghost use Rattle.beebtube.specs.Words.{is_name, check_words, command};
+ghost use Rattle.std.specs.Prelude.{◌≡◌, ◌≤◌, map, option_map, string_bytes, IsTrue};
+ghost use Rattle.beebtube.specs.Words.{is_name, part_of, is_hex, hex_value, origin_of, check_words, asm_words, dis_words, command};
 ghost use Rattle.beebtube.specs.Seen.{seen};
+
+use op_table::Part;
 
 /// A command, with the words that it came from.
 #[derive(Clone, Copy)]
 pub(crate) enum Command<'a> {
     /// `check TRACE`
-    Check { trace: &'a str },
+    Check {
+        trace: &'a str,
+    },
+    /// `asm PART SOURCE OUT`
+    Asm {
+        part: Part,
+        source: &'a str,
+        out: &'a str,
+    },
+    /// `dis PART IMAGE ORIGIN OUT`
+    Dis {
+        part: Part,
+        image: &'a str,
+        origin: u16,
+        out: &'a str,
+    },
 }
 
 // A word that isn't empty and doesn't begin with `-`.
@@ -31,6 +48,86 @@ fn check_words(words: &[String]) -> Option<Command<'_>>
     }
 }
 
+fn part_of(word: &str) -> Option<Part>
+    ensures { result ≡ part_of word.now }
+{
+    if word == "6502" {
+        Some(Part::Nmos)
+    } else if word == "65c02" {
+        Some(Part::Cmos)
+    } else {
+        None
+    }
+}
+
+fn is_hex(b: u8) -> bool
+    ensures { result ≡ is_hex b }
+{
+    b.is_ascii_digit() || (b'A' <= b && b <= b'F')
+}
+
+fn hex_value(b: u8) -> u16
+    requires { IsTrue (is_hex b) }
+    ensures value { result ≡ hex_value b }
+    ensures bound { result ≤ 15 }
+{
+    u16::from(if b < b'A' { b - b'0' } else { b - (b'A' - 10) })
+}
+
+// Four upper-case hexadecimal digits.
+fn origin_of(word: &str) -> Option<u16>
+    ensures { result ≡ origin_of word.now }
+{
+    match word.as_bytes() {
+        [a, b, c, d] if is_hex(*a) && is_hex(*b) && is_hex(*c) && is_hex(*d) => Some(
+            4096 * hex_value(*a) + 256 * hex_value(*b) + 16 * hex_value(*c) + hex_value(*d),
+        ),
+        _ => None,
+    }
+}
+
+fn asm_words(words: &[String]) -> Option<Command<'_>>
+    ensures { option_map seen result ≡ asm_words (map string_bytes words.now) }
+{
+    match words {
+        [part, source, out] => {
+            let part = part_of(part.as_str())?;
+            if is_name(source.as_str()) && is_name(out.as_str()) {
+                Some(Command::Asm {
+                    part,
+                    source: source.as_str(),
+                    out: out.as_str(),
+                })
+            } else {
+                None
+            }
+        }
+        _ => None,
+    }
+}
+
+fn dis_words(words: &[String]) -> Option<Command<'_>>
+    ensures { option_map seen result ≡ dis_words (map string_bytes words.now) }
+{
+    match words {
+        [part, image, origin, out] => {
+            let part = part_of(part.as_str())?;
+            let origin = origin_of(origin.as_str())?;
+            if is_name(image.as_str()) && is_name(out.as_str()) {
+                Some(Command::Dis {
+                    part,
+                    image: image.as_str(),
+                    origin,
+                    out: out.as_str(),
+                })
+            } else {
+                None
+            }
+        }
+        _ => None,
+    }
+}
+
 /// The command that the words spell.
 #[tactic(auto, unfolding(crate::specs::Words::command))]
 pub(crate) fn command_of(words: &[String]) -> Option<Command<'_>>
@@ -39,6 +136,10 @@ pub(crate) fn command_of(words: &[String]) -> Option<Command<'_>>
     let (word, rest) = words.split_first()?;
     if word.as_str() == "check" {
         check_words(rest)
+    } else if word.as_str() == "asm" {
+        asm_words(rest)
+    } else if word.as_str() == "dis" {
+        dis_words(rest)
     } else {
         None
     }

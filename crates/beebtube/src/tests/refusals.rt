@@ -1,5 +1,6 @@
 //! Refusals, and what they leave.
 use super::*;
+use crate::status::Which;
 
 // The text of a status, with its number.
 fn shown(alloc: Global, status: &Status) -> Result<(u8, String), Fail> {
@@ -147,6 +148,47 @@ fn each_status_has_its_number_and_text(rt: HostRuntime) -> Result<(), Fail> {
             4,
             "bad trace 18446744073709551615",
         ),
+        (
+            Status::BadImage {
+                which: Which::Os,
+                len: 16_383,
+            },
+            3,
+            "bad image os 16383",
+        ),
+        (
+            Status::BadImage {
+                which: Which::Tube,
+                len: 0,
+            },
+            3,
+            "bad image tube 0",
+        ),
+        (
+            Status::BadImage {
+                which: Which::Rom(15),
+                len: 16_385,
+            },
+            3,
+            "bad image rom15 16385",
+        ),
+        (
+            Status::BadImage {
+                which: Which::Font,
+                len: 1,
+            },
+            3,
+            "bad image font 1",
+        ),
+        (
+            Status::BadImage {
+                which: Which::Disc(0),
+                len: 204_801,
+            },
+            3,
+            "bad image disc0 204801",
+        ),
+        (Status::BadSource { line: 7, kind: 3 }, 4, "bad source 7"),
         (Status::WriteFault { name: name("-")? }, 5, "cannot write -"),
         (Status::NoMemory, 7, "no memory"),
         (

@@ -1,0 +1,10 @@
+pub mod TokenLemmas
+pub mod NumberLemmas
+pub mod ValueLemmas
+pub mod LabelLemmas
+pub mod PlacementLemmas
+pub mod EmitLemmas
+pub mod PassLemmas
+pub mod EncodeLemmas
+pub mod SameLabels
+pub mod SourceLemmas

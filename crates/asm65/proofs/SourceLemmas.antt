@@ -1,0 +1,69 @@
+-- What the passes have found is what the source means.
+use Rattle.std.proofs.Common.{◌≡◌, ◌∙◌, sym, refl, ℕ, ◌+◌, ◌≤◌, List, [], ◌∷◌, false, ◌||◌, nat_lt, Option, Some, None, Ok, Err, arith}
+use Rattle.std.specs.Borrow.{Bor}
+use Rattle.std.specs.BTreeMap.{BTreeMap}
+use Rattle.std.proofs.lemmas.Bool.Decides.{nat_tests}
+use Rattle.op_table.specs.declared.Part.{Part}
+use Rattle.asm65.specs.declared.AsmError.{AsmError}
+use Rattle.asm65.specs.Syntax.{Line, Statement, instruction, org, bytes, words, parsed}
+use Rattle.asm65.specs.Placement.{origin_of, first_origin, is_past, placed_from, first_pass, first_fault, after_line}
+use Rattle.asm65.specs.Source.{labels_of, second_pass, source}
+use Rattle.asm65.specs.SeenLabels.{labels_in}
+use Rattle.asm65.specs.Passes.{IsLabelled, IsProgram}
+use Rattle.asm65.proofs.EmitLemmas.{neither}
+use Rattle.asm65.proofs.PassLemmas.{clear_line}
+use Rattle.asm65.proofs.EncodeLemmas.{no_fault}
+use Rattle.asm65.proofs.SameLabels.{second_pass-same, program_bytes-same}
+
+-- ---- the origin
+
+org_small : (at n : ℕ) → (nat_lt n at || (nat_lt 65535 n || false)) ≡ false → n ≤ 65535
+org_small at n e =
+    let a = neither (nat_lt n at) (nat_lt 65535 n || false) e in
+    let b = neither (nat_lt 65535 n) false a.1 in
+    let large : nat_lt 65535 n ≡ false = b.0 in
+    grind (arith, nat_tests)
+
+origin_behind : (at later : ℕ) (s : Option Statement) → is_past at s ≡ false → later ≤ 65535 → first_origin s later ≤ 65535
+origin_behind at later None e h = h
+origin_behind at later (Some (org n)) e h = org_small at n.value e
+origin_behind at later (Some (instruction name operand)) e h = omega arith
+origin_behind at later (Some (bytes values)) e h = omega arith
+origin_behind at later (Some (words values)) e h = omega arith
+
+-- lines that the first pass has nothing against have an origin in memory
+pub origin_small : (part : Part) (row : ℕ) (names : List (List ℕ)) (at : ℕ) (lines : List (Option Line))
+    → first_pass part row names (placed_from part at lines) ≡ None → origin_of lines ≤ 65535
+origin_small part row names at [] e = omega arith
+origin_small part row names at (None ∷ lines) e = cc
+origin_small part row names at (Some line ∷ lines) e =
+    let faults = no_fault (first_fault part row names at (Some line)) _ e in
+    let clear = clear_line part row names at line faults.0 in
+    let later = origin_small part (row + 1) _ (after_line part at (Some line)) lines faults.1 in
+    origin_behind at (origin_of lines) line.statement clear.within later
+
+-- ---- the whole
+
+module _ (part : Part) (text : List ℕ) (origin : ℕ) (is : origin ≡ origin_of (parsed text)) where
+  pub source_first : (e : AsmError) → first_pass part 1 [] (placed_from part origin (parsed text)) ≡ Some e → source part text ≡ Err e
+  unfolding source
+  source_first e fault = let here = rw is at fault in rw here refl
+
+  module _ (labels : BTreeMap (Bor (List ℕ)) ℕ) (labelled : IsLabelled part (placed_from part origin (parsed text)) labels) where
+    pub source_second : (e : AsmError) → second_pass part 1 (labels_in labels) (placed_from part origin (parsed text)) ≡ Some e → source part text ≡ Err e
+    unfolding source
+    source_second e fault =
+        let clear = rw is at labelled.clear in
+        let same = sym (second_pass-same (labels_in labels) (labels_of (placed_from part origin (parsed text))) labelled.labelled part 1 (placed_from part origin (parsed text))) ∙ fault in
+        let here = rw is at same in
+        rw (clear, here) refl
+
+    pub source_program : (made : List ℕ) → IsProgram part (labels_in labels) origin (placed_from part origin (parsed text)) made → source part text ≡ Ok (origin, made)
+    unfolding source
+    source_program made program =
+        let clear = rw is at labelled.clear in
+        let same = sym (second_pass-same (labels_in labels) (labels_of (placed_from part origin (parsed text))) labelled.labelled part 1 (placed_from part origin (parsed text))) ∙ program.clear in
+        let here = rw is at same in
+        let its_bytes = program.made ∙ program_bytes-same (labels_in labels) (labels_of (placed_from part origin (parsed text))) labelled.labelled part (placed_from part origin (parsed text)) in
+        let done = rw is at its_bytes in
+        rw (clear, here, done, is) refl

@@ -1,0 +1,266 @@
+-- What a line of tokens means: an optional label and an optional statement.
+use Rattle.std.specs.Prelude.{ℕ, ◌+◌, ◌-◌, ◌*◌, ◌==◌, ◌&&◌, ◌||◌, nat_le, nat_lt, Bool, false, not, List, [], ◌∷◌, length, map, Option, Some, None, option_map, option_and_then, if◌then◌else◌, codes}
+use Rattle.std.specs.List.{list_all}
+use Rattle.std.specs.Str.{bytes_eq}
+use Rattle.std.specs.Char.{to_ascii_uppercase}
+use Rattle.op_table.specs.declared.Mnemonic.{Mnemonic}
+use Rattle.op_table.specs.Names.{mnemonic_of}
+use Rattle.asm65.specs.Tokens.{Token, word, hex, colon, comma, hash, left, right, low, high, plus, other, is_letter, is_digit, lines_of, code_of, tokens_of}
+
+-- Numbers. A byte-sized one takes one byte where the form allows it.
+pub record Number : Type 0 where
+  pub value : ℕ
+  pub byte_sized : Bool
+
+-- the value of decimal digits behind a number
+abbrev pub decimal_from : ℕ → List ℕ → ℕ
+decimal_from n [] = n
+decimal_from n (b ∷ digits) = decimal_from (10 * n + (b - 48)) digits
+
+-- a digit, `A` to `F` or `a` to `f`
+abbrev pub is_hex : ℕ → Bool
+is_hex b = is_digit b || (nat_le 65 b && nat_le b 70) || (nat_le 97 b && nat_le b 102)
+
+abbrev pub hex_value : ℕ → ℕ
+hex_value b = if nat_lt b 65 then b - 48 else if nat_lt b 97 then b - 55 else b - 87
+
+-- the value of hexadecimal digits behind a number
+abbrev pub hex_from : ℕ → List ℕ → ℕ
+hex_from n [] = n
+hex_from n (b ∷ digits) = hex_from (16 * n + hex_value b) digits
+
+-- a decimal number of at most 5 digits, byte-sized below 256
+abbrev pub decimal_number : List ℕ → Option Number
+decimal_number run =
+    if list_all is_digit run && nat_le 1 (length run) && nat_le (length run) 5
+    then Some (record { value = decimal_from 0 run; byte_sized = nat_lt (decimal_from 0 run) 256 })
+    else None
+
+-- a hexadecimal number of 1 to 4 digits, byte-sized with 1 or 2
+abbrev pub hex_number : List ℕ → Option Number
+hex_number run =
+    if list_all is_hex run && nat_le 1 (length run) && nat_le (length run) 4
+    then Some (record { value = hex_from 0 run; byte_sized = nat_le (length run) 2 })
+    else None
+
+-- the number of a token
+abbrev pub number_of : Token → Option Number
+number_of (word run) = decimal_number run
+number_of (hex run) = hex_number run
+number_of colon = None
+number_of comma = None
+number_of hash = None
+number_of left = None
+number_of right = None
+number_of low = None
+number_of high = None
+number_of plus = None
+number_of other = None
+
+-- a word is this one, in either case
+abbrev pub is_named : List ℕ → List ℕ → Bool
+is_named name run = bytes_eq (map to_ascii_uppercase run) name
+
+abbrev pub is_register : List ℕ → Bool
+is_register run = is_named (codes "A") run || is_named (codes "X") run || is_named (codes "Y") run
+
+-- a letter or `_` stands first
+abbrev pub begins_name : List ℕ → Bool
+begins_name [] = false
+begins_name (b ∷ run) = is_letter b || b == 95
+
+-- A label: its case counts, and A, X and Y are none in either case.
+abbrev pub is_label : List ℕ → Bool
+is_label run = begins_name run && not (is_register run)
+
+-- What a value is taken of.
+pub data Base : Type 0 where
+  -- a number
+  number : (n : Number) → Base
+  -- the value of a label
+  label : (name : List ℕ) → Base
+  -- `label + number`
+  beyond : (name : List ℕ) (n : Number) → Base
+
+-- Which part of it is taken.
+pub data Portion : Type 0 where
+  whole : Portion
+  -- `<`
+  low_byte : Portion
+  -- `>`
+  high_byte : Portion
+
+pub record Value : Type 0 where
+  pub portion : Portion
+  pub base : Base
+
+-- a label, and `+` and a number where they stand behind it
+abbrev pub label_at : List ℕ → List Token → Option (Base × List Token)
+label_at name [] = Some (label name, [])
+label_at name (plus ∷ []) = None
+label_at name (plus ∷ t ∷ tokens) = option_map (λ n. (beyond name n, tokens)) (number_of t)
+label_at name (word run ∷ tokens) = Some (label name, word run ∷ tokens)
+label_at name (hex run ∷ tokens) = Some (label name, hex run ∷ tokens)
+label_at name (colon ∷ tokens) = Some (label name, colon ∷ tokens)
+label_at name (comma ∷ tokens) = Some (label name, comma ∷ tokens)
+label_at name (hash ∷ tokens) = Some (label name, hash ∷ tokens)
+label_at name (left ∷ tokens) = Some (label name, left ∷ tokens)
+label_at name (right ∷ tokens) = Some (label name, right ∷ tokens)
+label_at name (low ∷ tokens) = Some (label name, low ∷ tokens)
+label_at name (high ∷ tokens) = Some (label name, high ∷ tokens)
+label_at name (other ∷ tokens) = Some (label name, other ∷ tokens)
+
+-- a word as a number, or else as a label with what stands behind it
+abbrev pub word_at : List ℕ → List Token → Option Number → Option (Base × List Token)
+word_at run tokens (Some n) = Some (number n, tokens)
+word_at run tokens None = if is_label run then label_at run tokens else None
+
+-- a value's base at the front of tokens, and the tokens behind it
+abbrev pub base_at : List Token → Option (Base × List Token)
+base_at [] = None
+base_at (word run ∷ tokens) = word_at run tokens (decimal_number run)
+base_at (hex run ∷ tokens) = option_map (λ n. (number n, tokens)) (hex_number run)
+base_at (colon ∷ tokens) = None
+base_at (comma ∷ tokens) = None
+base_at (hash ∷ tokens) = None
+base_at (left ∷ tokens) = None
+base_at (right ∷ tokens) = None
+base_at (low ∷ tokens) = None
+base_at (high ∷ tokens) = None
+base_at (plus ∷ tokens) = None
+base_at (other ∷ tokens) = None
+
+abbrev pub portion_of : Portion → Option (Base × List Token) → Option (Value × List Token)
+portion_of portion read = option_map (λ b. (record { portion = portion; base = b.0 }, b.1)) read
+
+-- a value at the front of tokens, and the tokens behind it
+abbrev pub value_at : List Token → Option (Value × List Token)
+value_at (low ∷ tokens) = portion_of low_byte (base_at tokens)
+value_at (high ∷ tokens) = portion_of high_byte (base_at tokens)
+value_at tokens = portion_of whole (base_at tokens)
+
+-- Operands, by their written forms.
+pub data Operand : Type 0 where
+  -- none
+  nothing : Operand
+  -- `A`
+  accumulator : Operand
+  -- `#E`
+  immediate : (v : Value) → Operand
+  -- `E`
+  direct : (v : Value) → Operand
+  -- `E,X`
+  direct_x : (v : Value) → Operand
+  -- `E,Y`
+  direct_y : (v : Value) → Operand
+  -- `(E)`
+  indirect : (v : Value) → Operand
+  -- `(E,X)`
+  indirect_x : (v : Value) → Operand
+  -- `(E),Y`
+  indirect_y : (v : Value) → Operand
+
+-- behind `#E`
+abbrev pub after_hash : Value × List Token → Option Operand
+after_hash (v, []) = Some (immediate v)
+after_hash (v, t ∷ tokens) = None
+
+-- behind `E`, where a register may stand
+abbrev pub indexed : Value → List ℕ → Option Operand
+indexed v run = if is_named (codes "X") run then Some (direct_x v) else if is_named (codes "Y") run then Some (direct_y v) else None
+
+abbrev pub after_value : Value → List Token → Option Operand
+after_value v [] = Some (direct v)
+after_value v (comma ∷ word run ∷ []) = indexed v run
+after_value v tokens = None
+
+-- behind `(E`
+abbrev pub after_left : Value → List Token → Option Operand
+after_left v (right ∷ []) = Some (indirect v)
+after_left v (right ∷ comma ∷ word run ∷ []) = if is_named (codes "Y") run then Some (indirect_y v) else None
+after_left v (comma ∷ word run ∷ right ∷ []) = if is_named (codes "X") run then Some (indirect_x v) else None
+after_left v tokens = None
+
+-- an operand that begins with its value
+abbrev pub plain_operand : List Token → Option Operand
+plain_operand tokens = option_and_then (λ r. after_value r.0 r.1) (value_at tokens)
+
+abbrev pub operand_of : List Token → Option Operand
+operand_of [] = Some nothing
+operand_of (hash ∷ tokens) = option_and_then (λ r. after_hash r) (value_at tokens)
+operand_of (left ∷ tokens) = option_and_then (λ r. after_left r.0 r.1) (value_at tokens)
+operand_of (word run ∷ []) = if is_named (codes "A") run then Some accumulator else plain_operand (word run ∷ [])
+operand_of tokens = plain_operand tokens
+
+pub data Statement : Type 0 where
+  -- a mnemonic with its operand
+  instruction : (name : Mnemonic) (operand : Operand) → Statement
+  -- `org N`
+  org : (n : Number) → Statement
+  -- `byte E, E`
+  bytes : (values : List Value) → Statement
+  -- `word E, E`
+  words : (values : List Value) → Statement
+
+-- a token in front of the first group
+abbrev pub group_with : Token → List (List Token) → List (List Token)
+group_with t [] = (t ∷ []) ∷ []
+group_with t (group ∷ groups) = (t ∷ group) ∷ groups
+
+-- the tokens between commas
+abbrev pub groups_of : List Token → List (List Token)
+groups_of [] = [] ∷ []
+groups_of (comma ∷ tokens) = [] ∷ groups_of tokens
+groups_of (t ∷ tokens) = group_with t (groups_of tokens)
+
+-- a value and nothing behind it
+abbrev pub only_value : Option (Value × List Token) → Option Value
+only_value (Some (v, [])) = Some v
+only_value (Some (v, t ∷ tokens)) = None
+only_value None = None
+
+-- all of them, if there is none that is none
+abbrev pub all_of : {X : Type 0} → List (Option X) → Option (List X)
+all_of [] = Some []
+all_of (None ∷ os) = None
+all_of (Some x ∷ os) = option_map (λ xs. x ∷ xs) (all_of os)
+
+-- one or more values, parted by commas
+abbrev pub values_of : List Token → Option (List Value)
+values_of tokens = all_of (map (λ group. only_value (value_at group)) (groups_of tokens))
+
+abbrev pub org_of : List Token → Option Statement
+org_of (t ∷ []) = option_map org (number_of t)
+org_of tokens = None
+
+-- an instruction, if the word is a mnemonic of either part
+abbrev pub instruction_of : List Token → Option Mnemonic → Option Statement
+instruction_of tokens None = None
+instruction_of tokens (Some name) = option_map (instruction name) (operand_of tokens)
+
+abbrev pub statement_of : List Token → Option Statement
+statement_of (word run ∷ tokens) =
+    if is_named (codes "ORG") run then org_of tokens
+    else if is_named (codes "BYTE") run then option_map bytes (values_of tokens)
+    else if is_named (codes "WORD") run then option_map words (values_of tokens)
+    else instruction_of tokens (mnemonic_of run)
+statement_of tokens = None
+
+pub record Line : Type 0 where
+  pub label : Option (List ℕ)
+  pub statement : Option Statement
+
+-- what stands behind a label, or without one
+abbrev pub rest_of : List Token → Option (Option Statement)
+rest_of [] = Some None
+rest_of (t ∷ tokens) = option_map Some (statement_of (t ∷ tokens))
+
+-- The line that tokens mean, or none where they are outside the syntax.
+abbrev pub line_of : List Token → Option Line
+line_of (word run ∷ colon ∷ tokens) =
+    if is_label run then option_map (λ s. record { label = Some run; statement = s }) (rest_of tokens) else None
+line_of tokens = option_map (λ s. record { label = None; statement = s }) (rest_of tokens)
+
+-- The lines of a text.
+abbrev pub parsed : List ℕ → List (Option Line)
+parsed text = map (λ line. line_of (tokens_of (code_of line))) (lines_of text)

@@ -1,0 +1,96 @@
+-- The lines of a source text, and the tokens of a line.
+use Rattle.std.specs.Prelude.{ℕ, ◌==◌, ◌&&◌, ◌||◌, nat_le, Bool, not, List, [], ◌∷◌, take_while, if◌then◌else◌}
+
+-- a byte in front of the first line
+abbrev pub begin_with : ℕ → List (List ℕ) → List (List ℕ)
+begin_with b [] = (b ∷ []) ∷ []
+begin_with b (line ∷ lines) = (b ∷ line) ∷ lines
+
+-- The lines of a text, each without its line feed, which the last may lack.
+abbrev pub lines_of : List ℕ → List (List ℕ)
+lines_of [] = []
+lines_of (b ∷ text) = if b == 10 then [] ∷ lines_of text else begin_with b (lines_of text)
+
+-- a line up to its comment, which begins with `;`
+abbrev pub code_of : List ℕ → List ℕ
+code_of line = take_while (λ b. not (b == 59)) line
+
+abbrev pub is_letter : ℕ → Bool
+is_letter b = (nat_le 65 b && nat_le b 90) || (nat_le 97 b && nat_le b 122)
+
+abbrev pub is_digit : ℕ → Bool
+is_digit b = nat_le 48 b && nat_le b 57
+
+-- a letter, a digit or `_`
+abbrev pub is_word_byte : ℕ → Bool
+is_word_byte b = is_letter b || is_digit b || b == 95
+
+-- a space or a tab
+abbrev pub is_blank : ℕ → Bool
+is_blank b = b == 32 || b == 9
+
+pub data Token : Type 0 where
+  -- a run of letters, digits and `_`
+  word : (run : List ℕ) → Token
+  -- `&` and the run that touches it, if one does
+  hex : (run : List ℕ) → Token
+  -- `:`
+  colon : Token
+  -- `,`
+  comma : Token
+  -- `#`
+  hash : Token
+  -- `(`
+  left : Token
+  -- `)`
+  right : Token
+  -- `<`
+  low : Token
+  -- `>`
+  high : Token
+  -- `+`
+  plus : Token
+  -- a byte of no token
+  other : Token
+
+-- the token of a byte that stands for itself
+abbrev pub mark : ℕ → Token
+mark b =
+    if b == 58 then colon
+    else if b == 44 then comma
+    else if b == 35 then hash
+    else if b == 40 then left
+    else if b == 41 then right
+    else if b == 60 then low
+    else if b == 62 then high
+    else if b == 43 then plus
+    else other
+
+-- Bytes as a run at their beginning, which may be empty, and the tokens behind it.
+pub record Cut : Type 0 where
+  pub run : List ℕ
+  pub tokens : List Token
+
+-- the run as a word, if it has a byte
+abbrev pub word_before : List ℕ → List Token → List Token
+word_before [] tokens = tokens
+word_before (b ∷ run) tokens = word (b ∷ run) ∷ tokens
+
+abbrev pub joined : Cut → List Token
+joined c = word_before c.run c.tokens
+
+-- a byte in front of what was cut
+abbrev pub cut_with : ℕ → Cut → Cut
+cut_with b c =
+    if is_word_byte b then record { run = b ∷ c.run; tokens = c.tokens }
+    else if b == 38 then record { run = []; tokens = hex c.run ∷ c.tokens }
+    else if is_blank b then record { run = []; tokens = joined c }
+    else record { run = []; tokens = mark b ∷ joined c }
+
+abbrev pub cut : List ℕ → Cut
+cut [] = record { run = []; tokens = [] }
+cut (b ∷ bytes) = cut_with b (cut bytes)
+
+-- The tokens of the code of a line. Blanks part words, and stand anywhere between tokens.
+abbrev pub tokens_of : List ℕ → List Token
+tokens_of bytes = joined (cut bytes)

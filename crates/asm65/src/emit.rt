@@ -1,0 +1,117 @@
+//! The bytes that a statement makes, behind those that were made before it.
+ghost use Rattle.std.specs.Prelude.{◌≡◌, ◌<◌, ◌≤◌, ◌-◌, ◌++◌, ◌∷◌, [], false, map, replicate, option_map, vec_len, OnOk};
+ghost use Rattle.std.specs.List.{list_any, concat};
+ghost use Rattle.asm65.specs.Placement.{mode_of};
+ghost use Rattle.asm65.specs.Source.{value_in, is_out, operand_out, statement_out, word_bytes, operand_bytes, instruction_bytes, statement_bytes};
+ghost use Rattle.asm65.specs.Seen.{seen_values, seen_operand, seen_statement};
+ghost use Rattle.asm65.specs.SeenLabels.{labels_in, room_of};
+
+use crate::encode::{distance, value_in};
+use crate::labels::Labels;
+use crate::placement::{mode_of, operand_values, value_of};
+use crate::syntax::{Operand, Statement, Value};
+use op_table::{Mnemonic, Mode, Part, find};
+use std::alloc::AllocError;
+
+// The low byte first.
+fn push_word(bytes: &mut Vec<u8>, value: u64) -> Result<(), AllocError>
+    requires { value < 65536 }
+    ensures { OnOk result (bytes.new.items ≡ bytes.old.items ++ word_bytes value) }
+{
+    bytes.push((value % 256) as u8)?;
+    bytes.push((value / 256) as u8)?;
+    Ok(())
+}
+
+fn push_operand(bytes: &mut Vec<u8>, address: u32, mode: Mode, value: u64) -> Result<(), AllocError>
+    requires { value < room_of mode }
+    ensures { OnOk result (bytes.new.items ≡ bytes.old.items ++ operand_bytes address mode (value ∷ [])) }
+{
+    match mode {
+        Mode::Rel => bytes.push((distance(address, value) % 256) as u8)?,
+        Mode::Abs | Mode::AbsX | Mode::AbsY | Mode::Ind | Mode::IndAbsX => push_word(bytes, value)?,
+        _ => bytes.push(value as u8)?,
+    }
+    Ok(())
+}
+
+fn push_instruction<'a>(
+    bytes: &mut Vec<u8>,
+    part: Part,
+    labels: &Labels<'a>,
+    address: u32,
+    mnemonic: Mnemonic,
+    operand: &Operand<'a>,
+) -> Result<(), AllocError>
+    requires { operand_out (labels_in labels.now) address (mode_of part mnemonic (seen_operand operand.now)) (seen_operand operand.now) ≡ false }
+    ensures { OnOk result (bytes.new.items ≡ bytes.old.items
+        ++ instruction_bytes part (labels_in labels.now) address mnemonic (seen_operand operand.now) (mode_of part mnemonic (seen_operand operand.now))) }
+{
+    let Some(mode) = mode_of(part, mnemonic, operand) else {
+        return Ok(());
+    };
+    bytes.push(find(part, mnemonic, mode).unwrap_or(0))?;
+    if let Some(value) = operand_values(operand).first() {
+        push_operand(bytes, address, mode, value_in(labels, value))?;
+    }
+    Ok(())
+}
+
+fn push_bytes<'a>(
+    bytes: &mut Vec<u8>,
+    labels: &Labels<'a>,
+    values: &[Value<'a>],
+) -> Result<(), AllocError>
+    requires { list_any (is_out (labels_in labels.now) 256) (seen_values values.now) ≡ false }
+    ensures { OnOk result (bytes.new.items ≡ bytes.old.items ++ map (value_in (labels_in labels.now)) (seen_values values.now)) }
+{
+    for value in values {
+        bytes.push(value_in(labels, value) as u8)?;
+    }
+    Ok(())
+}
+
+fn push_words<'a>(
+    bytes: &mut Vec<u8>,
+    labels: &Labels<'a>,
+    values: &[Value<'a>],
+) -> Result<(), AllocError>
+    requires { list_any (is_out (labels_in labels.now) 65536) (seen_values values.now) ≡ false }
+    ensures { OnOk result (bytes.new.items ≡ bytes.old.items ++ concat (map (λ v. word_bytes (value_in (labels_in labels.now) v)) (seen_values values.now))) }
+{
+    for value in values {
+        push_word(bytes, value_in(labels, value))?;
+    }
+    Ok(())
+}
+
+// Fills with 00 up to an address.
+fn fill(bytes: &mut Vec<u8>, address: u32, up_to: u32) -> Result<(), AllocError>
+    requires { vec_len bytes.old ≤ 65536 }
+    ensures { OnOk result (bytes.new.items ≡ bytes.old.items ++ replicate (up_to - address) 0) }
+{
+    bytes.resize(bytes.len() + up_to.saturating_sub(address) as usize, 0)
+}
+
+/// The bytes of a statement at an address. An `org` fills with 00 up to its own.
+pub(crate) fn push_statement<'a>(
+    bytes: &mut Vec<u8>,
+    part: Part,
+    labels: &Labels<'a>,
+    address: u32,
+    statement: &Option<Statement<'a>>,
+) -> Result<(), AllocError>
+    requires room { vec_len bytes.old ≤ 65536 }
+    requires in_range { statement_out part (labels_in labels.now) address (option_map seen_statement statement.now) ≡ false }
+    ensures { OnOk result (bytes.new.items ≡ bytes.old.items ++ statement_bytes part (labels_in labels.now) address (option_map seen_statement statement.now)) }
+{
+    match statement {
+        Some(Statement::Instruction(mnemonic, operand)) => push_instruction(
+            bytes, part, labels, address, *mnemonic, operand,
+        ),
+        Some(Statement::Org(number)) => fill(bytes, address, value_of(*number)),
+        Some(Statement::Bytes(values)) => push_bytes(bytes, labels, values),
+        Some(Statement::Words(values)) => push_words(bytes, labels, values),
+        None => Ok(()),
+    }
+}

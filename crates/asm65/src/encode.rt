@@ -1,0 +1,191 @@
+//! The second pass over one line: what values come to, and the bytes that statements make.
+ghost use Rattle.std.specs.Prelude.{◌≡◌, ◌+◌, ◌^◌, ◌<◌, ◌≤◌, if◌then◌else◌, ◌++◌, ◌∷◌, [], false, true, Some, option_map, IfSome, OnOk};
+ghost use Rattle.std.specs.List.{list_any, list_all};
+ghost use Rattle.op_table.specs.declared.Mode.TheVariants.{Rel};
+ghost use Rattle.asm65.specs.Placement.{is_byte_base, is_byte, mode_of};
+ghost use Rattle.asm65.specs.Source.{base_value, portion_in, value_in, is_unknown, is_out, distance, is_near, operand_out, values_in, statement_out, second_fault};
+ghost use Rattle.asm65.specs.Seen.{seen_portion, seen_base, seen_value, seen_values, seen_operand, seen_statement, seen_line};
+ghost use Rattle.asm65.specs.SeenLabels.{labels_in, base_or_zero};
+
+use crate::AsmError;
+use crate::labels::{Labels, address_of};
+use crate::placement::{mode_of, operand_values, value_of};
+use crate::syntax::{Base, Line, Operand, Portion, Statement, Value};
+use op_table::{Mnemonic, Mode, Part, find};
+use std::alloc::AllocError;
+
+// What a value is taken of, if its label is known.
+fn base_value<'a>(labels: &Labels<'a>, base: &Base<'a>) -> Option<u64>
+    ensures value { result ≡ base_value (labels_in labels.now) (seen_base base.now) }
+    ensures bound { IfSome result (λ n. n < 2 ^ 33) }
+    ensures byte { is_byte_base (seen_base base.now) ≡ true → IfSome result (λ n. n < 256) }
+{
+    match *base {
+        Base::Number(number) => Some(u64::from(value_of(number))),
+        Base::Label(name) => Some(u64::from(address_of(labels, name)?)),
+        Base::Beyond(name, number) => {
+            let address = address_of(labels, name)?;
+            Some(u64::from(address) + u64::from(value_of(number)))
+        }
+    }
+}
+
+// The same, and 0 where the label is unknown.
+fn base_or_zero<'a>(labels: &Labels<'a>, value: &Value<'a>) -> u64
+    ensures value { result ≡ base_or_zero (labels_in labels.now) (seen_value value.now) }
+    ensures bound { result < 2 ^ 33 }
+    ensures byte { is_byte_base (seen_base value.now.base) ≡ true → result < 256 }
+{
+    base_value(labels, &value.base).unwrap_or(0)
+}
+
+fn portion_in(portion: Portion, value: u64) -> u64
+    ensures value { result ≡ portion_in (seen_portion portion) value }
+    ensures bound { result ≤ value }
+{
+    match portion {
+        Portion::Whole => value,
+        Portion::Low => value % 256,
+        Portion::High => value / 256,
+    }
+}
+
+/// The number that a value comes to.
+pub(crate) fn value_in<'a>(labels: &Labels<'a>, value: &Value<'a>) -> u64
+    ensures value { result ≡ value_in (labels_in labels.now) (seen_value value.now) }
+    ensures bound { result < 2 ^ 33 }
+    ensures byte { is_byte (seen_value value.now) ≡ true → base_or_zero (labels_in labels.now) (seen_value value.now) < 65536 → result < 256 }
+{
+    portion_in(value.portion, base_or_zero(labels, value))
+}
+
+fn is_unknown<'a>(labels: &Labels<'a>, value: &Value<'a>) -> bool
+    ensures { result ≡ is_unknown (labels_in labels.now) (seen_value value.now) }
+{
+    base_value(labels, &value.base).is_none()
+}
+
+fn any_unknown<'a>(labels: &Labels<'a>, values: &[Value<'a>]) -> bool
+    ensures { result ≡ list_any (is_unknown (labels_in labels.now)) (seen_values values.now) }
+{
+    for value in values {
+        if is_unknown(labels, value) {
+            return true;
+        }
+    }
+    false
+}
+
+fn is_out<'a>(labels: &Labels<'a>, limit: u64, value: &Value<'a>) -> bool
+    ensures { result ≡ is_out (labels_in labels.now) limit (seen_value value.now) }
+{
+    base_or_zero(labels, value) >= 65_536 || value_in(labels, value) >= limit
+}
+
+fn any_out<'a>(labels: &Labels<'a>, limit: u64, values: &[Value<'a>]) -> bool
+    ensures { result ≡ list_any (is_out (labels_in labels.now) limit) (seen_values values.now) }
+{
+    for value in values {
+        if is_out(labels, limit, value) {
+            return true;
+        }
+    }
+    false
+}
+
+/// How far a branch at this address goes, modulo 65,536.
+pub(crate) fn distance(address: u32, target: u64) -> u64
+    requires { target < 2 ^ 33 }
+    ensures value { result ≡ distance address target }
+    ensures bound { result < 65536 }
+{
+    (65_536 + target - (u64::from(address) + 2) % 65_536) % 65_536
+}
+
+fn is_near(distance: u64) -> bool
+    ensures { result ≡ is_near distance }
+{
+    distance < 128 || 65_408 <= distance
+}
+
+fn is_far<'a>(labels: &Labels<'a>, address: u32, value: &Value<'a>) -> bool
+    ensures { result ≡ (if is_near (distance address (value_in (labels_in labels.now) (seen_value value.now))) then false else true) }
+{
+    !is_near(distance(address, value_in(labels, value)))
+}
+
+fn any_far<'a>(labels: &Labels<'a>, address: u32, values: &[Value<'a>]) -> bool
+    ensures { result ≡ list_any (λ v. if is_near (distance address (value_in (labels_in labels.now) v)) then false else true) (seen_values values.now) }
+{
+    for value in values {
+        if is_far(labels, address, value) {
+            return true;
+        }
+    }
+    false
+}
+
+fn operand_out<'a>(
+    labels: &Labels<'a>,
+    address: u32,
+    mode: Option<Mode>,
+    operand: &Operand<'a>,
+) -> bool
+    ensures { result ≡ operand_out (labels_in labels.now) address mode (seen_operand operand.now) }
+{
+    let values = operand_values(operand);
+    match mode {
+        Some(Mode::Imm) => any_out(labels, 256, values),
+        Some(Mode::Rel) => any_out(labels, 65_536, values) || any_far(labels, address, values),
+        _ => any_out(labels, 65_536, values),
+    }
+}
+
+fn statement_out<'a>(
+    part: Part,
+    labels: &Labels<'a>,
+    address: u32,
+    statement: &Option<Statement<'a>>,
+) -> bool
+    ensures { result ≡ statement_out part (labels_in labels.now) address (option_map seen_statement statement.now) }
+{
+    match statement {
+        Some(Statement::Instruction(mnemonic, operand)) => {
+            operand_out(labels, address, mode_of(part, *mnemonic, operand), operand)
+        }
+        Some(Statement::Bytes(values)) => any_out(labels, 256, values),
+        Some(Statement::Words(values)) => any_out(labels, 65_536, values),
+        _ => false,
+    }
+}
+
+fn names_unknown<'a>(labels: &Labels<'a>, statement: &Option<Statement<'a>>) -> bool
+    ensures { result ≡ list_any (is_unknown (labels_in labels.now)) (values_in (option_map seen_statement statement.now)) }
+{
+    match statement {
+        Some(Statement::Instruction(_, operand)) => any_unknown(labels, operand_values(operand)),
+        Some(Statement::Bytes(values)) | Some(Statement::Words(values)) => any_unknown(
+            labels, values,
+        ),
+        _ => false,
+    }
+}
+
+/// What the second pass has against a line: an unknown label before a value out of range.
+pub(crate) fn second_fault<'a>(
+    part: Part,
+    line_number: u64,
+    labels: &Labels<'a>,
+    address: u32,
+    line: &Line<'a>,
+) -> Option<AsmError>
+    ensures { result ≡ second_fault part line_number (labels_in labels.now) address (Some (seen_line line.now)) }
+{
+    if names_unknown(labels, &line.statement) {
+        Some(AsmError::UnknownLabel { line: line_number })
+    } else if statement_out(part, labels, address, &line.statement) {
+        Some(AsmError::OutOfRange { line: line_number })
+    } else {
+        None
+    }
+}

@@ -1,0 +1,64 @@
+//! The disassembler: bytes of the NMOS 6502 and the 65C02 to a source text.
+#![tactic(auto)]
+
+ghost use Rattle.std.specs.Prelude.{◌≡◌, ◌+◌, ◌≤◌, IfOk, length};
+ghost use Rattle.asm65.specs.Source.{source};
+ghost use Rattle.dis65.specs.Listing.{decode};
+ghost use Rattle.dis65.specs.Meaning.{DecodeMeansItsBytes};
+
+mod digits;
+mod line;
+
+use crate::digits::push_word;
+use crate::line::push_line;
+use beeb_bits::NoMemory;
+use op_table::Part;
+use std::alloc::{AllocError, Global};
+
+#[tactic(auto, unfolding(crate::specs::Listing::decode))]
+fn listing(alloc: Global, part: Part, bytes: &[u8], origin: u16) -> Result<Vec<u8>, AllocError>
+    requires { origin + length bytes.now ≤ 65536 }
+    ensures { IfOk result (λ v. v.items ≡ decode part bytes.now origin) }
+{
+    let mut text = Vec::new(alloc);
+    push_word(&mut text, b"org &", origin, b"\n")?;
+    let mut at = usize::from(origin);
+    let mut rest = bytes;
+    while let Some((op, behind)) = rest.split_first() {
+        let passed = push_line(&mut text, part, at as u16, *op, behind)?;
+        at += 1 + passed;
+        rest = &behind[passed..];
+    }
+    Ok(text)
+}
+
+/// The source text of bytes that stand from an origin on: `org` with the origin, and then a line for each instruction, or
+/// `byte` with a byte whose opcode isn't documented for the part, or whose instruction passes the end.
+///
+/// # Errors
+/// Memory for the text can be wanting.
+pub fn disassemble(
+    alloc: Global,
+    part: Part,
+    bytes: &[u8],
+    origin: u16,
+) -> Result<Vec<u8>, NoMemory>
+    requires { origin + length bytes.now ≤ 65536 }
+    ensures text { IfOk result (λ v. v.items ≡ decode part bytes.now origin) }
+    // In words: assembled for the same part, the text is that origin and those bytes.
+    ensures meaning { IfOk result (λ v. source part v.items ≡ Ok (origin, bytes.now)) }
+{
+    match listing(alloc, part, bytes, origin) {
+        Ok(text) => Ok(text),
+        Err(_) => Err(NoMemory),
+    }
+}
+
+/// A law of disassemblies, for every list of bytes and for both parts: assembled for the same part, the text of a
+/// disassembly is its origin and its bytes.
+pub fn decode_means_its_bytes()
+    ensures { DecodeMeansItsBytes }
+{}
+
+#[cfg(test)]
+mod tests;

@@ -1,0 +1,4 @@
+pub mod State
+pub mod Step
+pub mod Lawful
+pub mod Told

@@ -1,0 +1,51 @@
+-- The second processor: a 65C02 with 65,536 bytes of RAM, a boot ROM over the top of it, and the Tube in eight of its addresses.
+use Rattle.std.specs.Prelude.{ℕ, List, Bool, true, false, replicate}
+use Rattle.cpu_alu.specs.declared.Regs.{Regs}
+use Rattle.cpu65c02.specs.State as cpu
+use Rattle.cpu65c02.specs.Sequences as sequences
+
+pub record ParaState : Type 0 where
+  pub cpu : cpu.State
+  -- 65,536 bytes
+  pub ram : List ℕ
+  -- 2,048 bytes, which lie over F800 to FFFF for reads while rom_in is set
+  pub rom : List ℕ
+  pub rom_in : Bool
+  -- how many resets and NMIs of the Tube's counts it has taken
+  pub resets : ℕ
+  pub nmis : ℕ
+  -- it was held at its last look, since the reset line stood
+  pub is_held : Bool
+  -- the tick of its next step, and whether that is a look
+  pub at : ℕ
+  pub looks : Bool
+  -- it has no devices, so that it may count as closed at any tick up to its next step
+  pub closed : ℕ
+
+-- 65,536 bytes 00
+unfoldable pub clear_ram : List ℕ
+clear_ram = replicate 65536 0
+
+-- the power-on state, with this boot ROM
+abbrev pub power_on : List ℕ → ParaState
+power_on rom = record {
+  cpu = sequences.power_on;
+  ram = clear_ram;
+  rom = rom;
+  rom_in = true;
+  resets = 0;
+  nmis = 0;
+  is_held = false;
+  at = 0;
+  looks = false;
+  closed = 0;
+}
+
+-- the registers that are shown: those at the start of the instruction or sequence of the next step, and while it is held those
+-- after the one before
+abbrev pub shown_regs : ParaState → Regs
+shown_regs s = regs_by s.cpu s.is_held
+  where
+    regs_by : cpu.State → Bool → Regs
+    regs_by c true = sequences.after c
+    regs_by c false = c.regs

@@ -1,0 +1,50 @@
+-- The lines of a report.
+use Rattle.std.specs.Prelude.{ℕ, ◌+◌, ◌/◌, ◌%◌, nat_lt, List, [], ◌∷◌, ◌++◌, Option, Some, None, bit_and, bit_or, decimal, codes, if◌then◌else◌}
+use Rattle.cpu_alu.specs.declared.Regs.{Regs}
+use Rattle.report.specs.declared.Line.{Line}
+
+-- upper-case hexadecimal digits: of a digit, of a byte and of a word
+abbrev pub hex_digit : ℕ → ℕ
+hex_digit d = if nat_lt d 10 then 48 + d else 55 + d
+
+abbrev pub two_digits : ℕ → List ℕ
+two_digits n = hex_digit (n / 16) ∷ hex_digit (n % 16) ∷ []
+
+abbrev pub four_digits : ℕ → List ℕ
+four_digits n = two_digits (n / 256) ++ two_digits (n % 256)
+
+-- P with bit 5 set and bit 4 clear
+abbrev pub shown_flags : ℕ → ℕ
+shown_flags p = bit_or (bit_and p 0xCF) 0x20
+
+abbrev pub regs_text : Regs → List ℕ
+regs_text r =
+    codes " PC=" ++ four_digits r.pc
+    ++ codes " A=" ++ two_digits r.a
+    ++ codes " X=" ++ two_digits r.x
+    ++ codes " Y=" ++ two_digits r.y
+    ++ codes " S=" ++ two_digits r.s
+    ++ codes " P=" ++ two_digits (shown_flags r.p)
+
+-- a machine's line: its name, its registers and, where it has stopped, how
+abbrev pub line_text : List ℕ → List ℕ → Option Line → List ℕ
+line_text name stop None = []
+line_text name stop (Some line) = name ++ regs_text line.regs ++ (if line.stopped then stop else []) ++ codes "\n"
+
+-- a count, with its name before it
+abbrev pub count_text : List ℕ → ℕ → List ℕ
+count_text name n = name ++ decimal n ++ codes "\n"
+
+abbrev pub option_text : List ℕ → Option ℕ → List ℕ
+option_text name None = []
+option_text name (Some n) = count_text name n
+
+-- n ticks, the lines of the machines that are there, the number of Tube accesses, and the counts that are told
+abbrev pub text : ℕ → Option Line → Option Line → ℕ → Option ℕ → Option ℕ → List ℕ
+text n host para tube kept frames =
+    count_text (codes "ticks ") n
+    ++ line_text (codes "host") (codes " halted") host
+    ++ line_text (codes "para") (codes " held") para
+    ++ count_text (codes "tube ") tube
+    ++ option_text (codes "kept ") kept
+    ++ option_text (codes "frames ") frames

@@ -1,0 +1,149 @@
+//! The text of what a run came to.
+#![tactic(auto)]
+
+ghost use Rattle.std.specs.Prelude.{◌≡◌, ◌<◌, ◌++◌, IfOk, decimal};
+ghost use Rattle.report.specs.Text.{hex_digit, two_digits, four_digits, shown_flags, regs_text, line_text, count_text, option_text, text};
+
+use beeb_bits::{NoMemory, Tick};
+use cpu_alu::Regs;
+use std::alloc::{AllocError, Global};
+
+/// A machine's line: its registers, and whether it has stopped, the host by an opcode that halts it, the parasite by the Tube's reset
+/// line that holds it.
+#[derive(Clone, Copy, Debug, PartialEq, Eq)]
+pub struct Line {
+    pub regs: Regs,
+    pub stopped: bool,
+}
+
+fn hex_digit(d: u8) -> u8
+    requires { d < 16 }
+    ensures { result ≡ hex_digit d }
+{
+    if d < 10 { b'0' + d } else { b'A' - 10 + d }
+}
+
+fn two_digits(n: u8) -> [u8; 2]
+    ensures { result ≡ two_digits n }
+{
+    [hex_digit(n / 16), hex_digit(n % 16)]
+}
+
+// Appends a byte in two digits behind its name.
+fn push_byte(text: &mut Vec<u8>, name: &[u8], n: u8) -> Result<(), AllocError>
+    ensures { IfOk result (λ _. text.new.items ≡ text.old.items ++ (name.now ++ two_digits n)) }
+{
+    text.extend_from_slice(name)?;
+    text.extend_from_slice(&two_digits(n))
+}
+
+// Appends a word in four digits behind its name.
+fn push_word(text: &mut Vec<u8>, name: &[u8], n: u16) -> Result<(), AllocError>
+    ensures { IfOk result (λ _. text.new.items ≡ text.old.items ++ (name.now ++ four_digits n)) }
+{
+    let high = (n / 256) as u8;
+    let low = (n % 256) as u8;
+    text.extend_from_slice(name)?;
+    text.extend_from_slice(&two_digits(high))?;
+    text.extend_from_slice(&two_digits(low))
+}
+
+fn push_regs(text: &mut Vec<u8>, regs: Regs) -> Result<(), AllocError>
+    ensures { IfOk result (λ _. text.new.items ≡ text.old.items ++ regs_text regs) }
+{
+    push_word(text, b" PC=", regs.pc)?;
+    push_byte(text, b" A=", regs.a)?;
+    push_byte(text, b" X=", regs.x)?;
+    push_byte(text, b" Y=", regs.y)?;
+    push_byte(text, b" S=", regs.s)?;
+    push_byte(text, b" P=", (regs.p & 0xcf) | 0x20)
+}
+
+fn push_line(
+    text: &mut Vec<u8>,
+    name: &[u8],
+    stop: &[u8],
+    line: Option<Line>,
+) -> Result<(), AllocError>
+    ensures { IfOk result (λ _. text.new.items ≡ text.old.items ++ line_text name.now stop.now line) }
+{
+    let Some(line) = line else {
+        return Ok(());
+    };
+    text.extend_from_slice(name)?;
+    push_regs(text, line.regs)?;
+    if line.stopped {
+        text.extend_from_slice(stop)?;
+    }
+    text.push(b'\n')?;
+    Ok(())
+}
+
+fn push_count(alloc: Global, text: &mut Vec<u8>, name: &[u8], n: u64) -> Result<(), AllocError>
+    ensures { IfOk result (λ _. text.new.items ≡ text.old.items ++ count_text name.now n) }
+{
+    text.extend_from_slice(name)?;
+    text.extend_from_slice(format!(in alloc; "{n}")?.as_bytes())?;
+    text.push(b'\n')?;
+    Ok(())
+}
+
+fn push_option(
+    alloc: Global,
+    text: &mut Vec<u8>,
+    name: &[u8],
+    n: Option<u64>,
+) -> Result<(), AllocError>
+    ensures { IfOk result (λ _. text.new.items ≡ text.old.items ++ option_text name.now n) }
+{
+    match n {
+        Some(n) => push_count(alloc, text, name, n),
+        None => Ok(()),
+    }
+}
+
+fn lines(
+    alloc: Global,
+    n: Tick,
+    host: Option<Line>,
+    para: Option<Line>,
+    tube: u64,
+    kept: Option<u64>,
+    frames: Option<u64>,
+) -> Result<Vec<u8>, AllocError>
+    ensures { IfOk result (λ v. v.items ≡ text n.0 host para tube kept frames) }
+{
+    let mut text = Vec::new(alloc);
+    push_count(alloc, &mut text, b"ticks ", n.0)?;
+    push_line(&mut text, b"host", b" halted", host)?;
+    push_line(&mut text, b"para", b" held", para)?;
+    push_count(alloc, &mut text, b"tube ", tube)?;
+    push_option(alloc, &mut text, b"kept ", kept)?;
+    push_option(alloc, &mut text, b"frames ", frames)?;
+    Ok(text)
+}
+
+/// The report of `n` ticks: a line for each machine that is there, the number of its Tube accesses, how many of them are kept, and how many
+/// frames were taken. What is none is left out. P is told with bit 5 set and bit 4 clear.
+///
+/// # Errors
+/// Memory for the text can be wanting.
+pub fn text(
+    alloc: Global,
+    n: Tick,
+    host: Option<Line>,
+    para: Option<Line>,
+    tube: u64,
+    kept: Option<u64>,
+    frames: Option<u64>,
+) -> Result<Vec<u8>, NoMemory>
+    ensures { IfOk result (λ v. v.items ≡ text n.0 host para tube kept frames) }
+{
+    match lines(alloc, n, host, para, tube, kept, frames) {
+        Ok(text) => Ok(text),
+        Err(_) => Err(NoMemory),
+    }
+}
+
+#[cfg(test)]
+mod tests;
