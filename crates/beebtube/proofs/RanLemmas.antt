@@ -4,7 +4,7 @@ use Rattle.beeb_files.specs.Files.{Files}
 use Rattle.beeb_files.specs.Counts.{Rose, Stayed, NoneFell}
 use Rattle.beeb_files.specs.Outlet.{OutletState, NoCountFell}
 use Rattle.beebtube.specs.declared.status.Status.{Status}
-use Rattle.beebtube.specs.declared.status.Status.TheVariants.{Done, Usage, ReadFault, TooLong, BadImage, BadTrace, BadSource, WriteFault, NoMemory, Wrong}
+use Rattle.beebtube.specs.declared.status.Status.TheVariants.{Done, Usage, ReadFault, TooLong, BadImage, BadTrace, BadSource, WriteFault, NoMemory, Wrong, Differs}
 use Rattle.beebtube.specs.Kind.{Kind, end, usage, refusal, unread, too_long, unwritten, no_memory, kind}
 use Rattle.beebtube.specs.Command.{Command}
 use Rattle.beebtube.specs.Verdict.{Verdict, reached, read_all, ended}
@@ -27,6 +27,7 @@ memory_is (BadTrace line cause) h = cc
 memory_is (BadSource line cause) h = cc
 memory_is (WriteFault name) h = cc
 memory_is (Wrong line byte) h = cc
+memory_is (Differs line doing) h = cc
 
 told_map : {P Q : Files → Type 0} (o : Option Files) → IfSome o P → ((files : Files) → P files → Q files) → IfSome o Q
 told_map None p f = tt

@@ -32,16 +32,16 @@ ok_text n = codes "ok " ++ decimal n ++ codes "\n"
 abbrev pub wrong_text : ℕ → ℕ → List ℕ
 wrong_text line byte = codes "wrong " ++ decimal line ++ codes " " ++ (hex_digit (byte / 16) ∷ hex_digit (byte % 16) ∷ []) ++ codes "\n"
 
+-- the chip would not give the answer of a line, but this byte
+abbrev pub wrong_verdict : ℕ → ℕ → Verdict
+wrong_verdict line byte = record { status = Wrong line byte; files = []; said = wrong_text line byte }
+
 -- What the chip says of the entries: the number of lines, or the first line whose answer it would not give, and its byte.
 abbrev pub judged : List Entry → Option (ℕ × ℕ) → Verdict
 judged entries None = record { status = Done; files = []; said = ok_text (length entries) }
-judged entries (Some w) = record {
-  status = Wrong (w.0 + 1) w.1;
-  files = [];
-  said = wrong_text (w.0 + 1) w.1;
-}
+judged entries (Some w) = wrong_verdict (w.0 + 1) w.1
 
--- the bytes of the one file
+-- the bytes of the first file
 abbrev pub first_of : List (List ℕ) → List ℕ
 first_of [] = []
 first_of (bytes ∷ more) = bytes

@@ -1,7 +1,7 @@
 -- The kinds of statuses, by which the promises of a command go: a new status has its kind, and no line of its own in them.
 use Rattle.std.specs.Prelude.{ℕ, List}
 use Rattle.beebtube.specs.declared.status.Status.{Status}
-use Rattle.beebtube.specs.declared.status.Status.TheVariants.{Done, Usage, ReadFault, TooLong, BadImage, BadTrace, BadSource, WriteFault, NoMemory, Wrong}
+use Rattle.beebtube.specs.declared.status.Status.TheVariants.{Done, Usage, ReadFault, TooLong, BadImage, BadTrace, BadSource, WriteFault, NoMemory, Wrong, Differs}
 
 pub data Kind : Type 0 where
   -- the outputs stand as they are defined
@@ -22,6 +22,7 @@ pub data Kind : Type 0 where
 abbrev pub kind : Status → Kind
 kind Done = end
 kind (Wrong line byte) = end
+kind (Differs line doing) = end
 kind Usage = usage
 kind (BadImage which len) = refusal
 kind (BadTrace line cause) = refusal

@@ -1,10 +1,13 @@
 pub mod Status
 pub mod Kind
 pub mod Command
+pub mod Options
+pub mod Numbers
 pub mod Words
 pub mod Verdict
 pub mod Check
 pub mod Asm
+pub mod Replay
 pub mod Comes
 pub mod Ran
 pub mod Stages

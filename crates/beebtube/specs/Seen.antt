@@ -5,7 +5,7 @@ use Rattle.std.specs.declared.vec.Vec.{Vec}
 use Rattle.std.specs.declared.alloc.Global.{Global}
 use Rattle.std.specs.Borrow.{Bor}
 use Rattle.beebtube.specs.declared.words.Command.{Command}
-use Rattle.beebtube.specs.declared.words.Command.TheVariants.{Check, Asm, Dis}
+use Rattle.beebtube.specs.declared.words.Command.TheVariants.{Check, Asm, Dis, ReplayPara}
 use Rattle.beebtube.specs.declared.outcome.Outcome.{Outcome}
 use Rattle.beebtube.specs.Command as commands
 use Rattle.beebtube.specs.Verdict.{Verdict}
@@ -14,6 +14,7 @@ abbrev pub seen : Command → commands.Command
 seen (Check trace) = commands.check trace.now
 seen (Asm part source out) = commands.asm part source.now out.now
 seen (Dis part image origin out) = commands.dis part image.now origin out.now
+seen (ReplayPara trace ticks out tube) = commands.replay_para trace.now ticks out.now tube.now
 
 -- a name and its cap
 abbrev pub planned : Bor (List ℕ) × ℕ → List ℕ × ℕ

@@ -2,7 +2,7 @@
 use Rattle.std.specs.Prelude.{ℕ, List, [], ◌++◌, codes}
 use Rattle.std.specs.Fmt.{decimal}
 use Rattle.beebtube.specs.declared.status.Status.{Status}
-use Rattle.beebtube.specs.declared.status.Status.TheVariants.{Done, Usage, ReadFault, TooLong, BadImage, BadTrace, BadSource, WriteFault, NoMemory, Wrong}
+use Rattle.beebtube.specs.declared.status.Status.TheVariants.{Done, Usage, ReadFault, TooLong, BadImage, BadTrace, BadSource, WriteFault, NoMemory, Wrong, Differs}
 use Rattle.beebtube.specs.declared.status.Which.{Which}
 use Rattle.beebtube.specs.declared.status.Which.TheVariants.{Os, Tube, Rom, Font, Disc, Image}
 
@@ -17,6 +17,7 @@ number (BadSource line kind) = 4
 number (WriteFault name) = 5
 number NoMemory = 7
 number (Wrong line byte) = 8
+number (Differs line doing) = 8
 
 -- which image it is, as it is printed
 abbrev pub which_text : Which → List ℕ
@@ -38,3 +39,4 @@ text (BadSource line kind) = codes "bad source " ++ decimal line
 text (WriteFault name) = codes "cannot write " ++ name
 text NoMemory = codes "no memory"
 text (Wrong line byte) = []
+text (Differs line doing) = []

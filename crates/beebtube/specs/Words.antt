@@ -1,15 +1,12 @@
 -- The grammar of the words.
-use Rattle.std.specs.Prelude.{ℕ, ◌+◌, ◌-◌, ◌*◌, ◌==◌, ◌&&◌, ◌||◌, nat_le, nat_lt, Bool, false, not, List, [], ◌∷◌, length, Option, Some, None, if◌then◌else◌, codes}
+use Rattle.std.specs.Prelude.{ℕ, ◌+◌, ◌-◌, ◌*◌, ◌==◌, ◌&&◌, ◌||◌, nat_le, nat_lt, Bool, false, List, [], ◌∷◌, length, Option, Some, None, option_map, option_and_then, if◌then◌else◌, codes}
 use Rattle.std.specs.List.{list_all}
 use Rattle.std.specs.Str.{bytes_eq}
 use Rattle.op_table.specs.declared.Part.{Part}
 use Rattle.op_table.specs.declared.Part.TheVariants.{Nmos, Cmos}
-use Rattle.beebtube.specs.Command.{Command, check, asm, dis}
-
--- a word that isn't empty and doesn't begin with `-`
-abbrev pub is_name : List ℕ → Bool
-is_name [] = false
-is_name (b ∷ word) = not (b == 45)
+use Rattle.beebtube.specs.Command.{Command, check, asm, dis, replay_para}
+use Rattle.beebtube.specs.Options.{is_name, options, alone, is_closed, value_of, all_fit}
+use Rattle.beebtube.specs.Numbers.{number}
 
 -- the words after `check`: TRACE
 abbrev pub check_words : List (List ℕ) → Option Command
@@ -62,6 +59,32 @@ dis_words (part ∷ image ∷ origin ∷ []) = None
 dis_words (part ∷ image ∷ origin ∷ out ∷ []) = dis_with (part_of part) image (origin_of origin) out
 dis_words (part ∷ image ∷ origin ∷ out ∷ more ∷ words) = None
 
+-- the options of a replay of the second processor
+abbrev pub fits_para : List ℕ → List ℕ → Bool
+fits_para key value = bytes_eq key (codes "--tube") && is_name value
+
+-- the four words that stand alone
+abbrev pub four : List (List ℕ) → Option (List ℕ × List ℕ × List ℕ × List ℕ)
+four [] = None
+four (a ∷ []) = None
+four (a ∷ b ∷ []) = None
+four (a ∷ b ∷ c ∷ []) = None
+four (a ∷ b ∷ c ∷ d ∷ []) = Some (a, b, c, d)
+four (a ∷ b ∷ c ∷ d ∷ e ∷ ws) = None
+
+-- SIDE TRACE TICKS OUT, where the option's value is given
+abbrev pub para_with : List ℕ → List ℕ × List ℕ × List ℕ × List ℕ → Option Command
+para_with tube w =
+    if bytes_eq w.0 (codes "para") && is_name w.1 && is_name w.3 then option_map (λ n. replay_para w.1 n w.3 tube) (number 1073741824 w.2) else None
+
+abbrev pub para_by : Option (List ℕ) → List (List ℕ) → Option Command
+para_by None ws = None
+para_by (Some tube) ws = option_and_then (para_with tube) (four (alone false ws))
+
+-- the words after `replay`: para TRACE TICKS OUT, with --tube ROM in any place among them
+abbrev pub replay_words : List (List ℕ) → Option Command
+replay_words ws = if is_closed false ws && all_fit fits_para (options None ws) then para_by (value_of (codes "--tube") (options None ws)) ws else None
+
 -- the command that the words spell, if any
 unfoldable pub command : List (List ℕ) → Option Command
 command [] = None
@@ -69,4 +92,5 @@ command (word ∷ words) =
     if bytes_eq word (codes "check") then check_words words
     else if bytes_eq word (codes "asm") then asm_words words
     else if bytes_eq word (codes "dis") then dis_words words
+    else if bytes_eq word (codes "replay") then replay_words words
     else None

@@ -2,6 +2,8 @@
 ghost use Rattle.std.specs.Prelude.{◌≡◌, IfOk, IfErr, map};
 ghost use Rattle.beebtube.specs.Kind.{kind};
 ghost use Rattle.beebtube.specs.Check.{first_of};
+ghost use Rattle.beebtube.specs.Replay.{second_of};
+ghost use Rattle.beebtube.specs.Command.{IsWithin};
 ghost use Rattle.beebtube.specs.Comes.{reads, after_reading};
 ghost use Rattle.beebtube.specs.Ran.{Ran, world};
 ghost use Rattle.beebtube.specs.Seen.{seen, planned, items, seen_outcome};
@@ -11,6 +13,7 @@ use crate::asm::{IMAGE_CAP, SOURCE_CAP, asm_outcome, dis_outcome};
 use crate::check::{TRACE_CAP, check_outcome};
 use crate::outcome::Outcome;
 use crate::reading::read_all;
+use crate::replay::replay_outcome;
 use crate::status::Status;
 use crate::words::Command;
 use crate::writing::write;
@@ -21,13 +24,16 @@ use std::alloc::{AllocError, Global};
 fn plan(alloc: Global, command: Command<'_>) -> Result<Vec<(&str, u64)>, AllocError>
     ensures { IfOk result (λ v. map planned v.items ≡ reads (seen command.entry)) }
 {
-    let file = match command {
-        Command::Check { trace } => (trace, TRACE_CAP),
-        Command::Asm { source, .. } => (source, SOURCE_CAP),
-        Command::Dis { image, .. } => (image, IMAGE_CAP),
-    };
     let mut plan = Vec::new(alloc);
-    plan.push(file)?;
+    match command {
+        Command::Check { trace } => plan.push((trace, TRACE_CAP))?,
+        Command::Asm { source, .. } => plan.push((source, SOURCE_CAP))?,
+        Command::Dis { image, .. } => plan.push((image, IMAGE_CAP))?,
+        Command::ReplayPara { trace, tube, .. } => {
+            plan.push((trace, TRACE_CAP))?;
+            plan.push((tube, IMAGE_CAP))?;
+        }
+    }
     Ok(plan)
 }
 
@@ -41,8 +47,19 @@ fn first_of(bytes: &[Vec<u8>]) -> &[u8]
     }
 }
 
+// The bytes of the second file.
+fn second_of(bytes: &[Vec<u8>]) -> &[u8]
+    ensures { result.now ≡ second_of (items bytes.now) }
+{
+    match bytes {
+        [_, second, ..] => second.as_slice(),
+        _ => &[],
+    }
+}
+
 /// What a command comes to, once its files are read.
 fn outcome(alloc: Global, command: Command<'_>, bytes: &[Vec<u8>]) -> Result<Outcome, Status>
+    requires { IsWithin (seen command) }
     ensures told { Gives seen_outcome result (after_reading (seen command.entry) (items bytes.now)) }
     ensures pure { IfErr result (λ status. IsPureRefusal (kind status)) }
 {
@@ -55,6 +72,9 @@ fn outcome(alloc: Global, command: Command<'_>, bytes: &[Vec<u8>]) -> Result<Out
             out,
             ..
         } => dis_outcome(alloc, part, origin, out, first_of(bytes)),
+        Command::ReplayPara { ticks, out, .. } => {
+            replay_outcome(alloc, ticks, out, first_of(bytes), second_of(bytes))
+        }
     }
 }
 
@@ -65,6 +85,7 @@ pub(crate) fn drive<S: Shelf, O: Outlet>(
     shelf: &mut S,
     out: &mut O,
 ) -> Status
+    requires { IsWithin (seen command) }
     ensures { Ran (seen command.entry) (world (S.shelf shelf.old) (O.outlet out.old)) (world (S.shelf shelf.new) (O.outlet out.new)) result }
 {
     let Ok(plan) = plan(alloc, command) else {

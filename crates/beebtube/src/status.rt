@@ -6,6 +6,7 @@ ghost use Rattle.beebtube.specs.Status.{number, which_text, text};
 use crate::name::Name;
 use beeb_bits::NoMemory;
 use std::alloc::{AllocError, Global};
+use tube_party::Doing;
 
 /// An image, by its place among those that a command reads.
 #[derive(Clone, Copy, Debug, PartialEq, Eq)]
@@ -48,6 +49,9 @@ pub enum Status {
     NoMemory,
     /// The trace's first line, counted from 1, whose answer the chip would not give, and the byte that it would.
     Wrong { line: u64, byte: u8 },
+    /// The line of the trace, counted from 1, that the replayed machine does not do, and what it does there, if it does something.
+    /// Where the trace has no more lines of its side, it is one past the last line.
+    Differs { line: u64, doing: Option<Doing> },
 }
 
 fn joined(alloc: Global, front: &str, back: &[u8]) -> Result<Vec<u8>, AllocError>
@@ -100,16 +104,16 @@ impl Status {
             Status::BadTrace { .. } | Status::BadSource { .. } => 4,
             Status::WriteFault { .. } => 5,
             Status::NoMemory => 7,
-            Status::Wrong { .. } => 8,
+            Status::Wrong { .. } | Status::Differs { .. } => 8,
         }
     }
 
-    /// The text for standard error, without a line feed: no bytes for `Done` and `Wrong`.
+    /// The text for standard error, without a line feed: no bytes for `Done`, `Wrong` and `Differs`.
     pub fn text(&self, alloc: Global) -> Result<Vec<u8>, NoMemory>
         ensures { IfOk result (λ v. v.items ≡ text self.now) }
     {
         let bytes = match self {
-            Status::Done | Status::Wrong { .. } => Ok(Vec::new(alloc)),
+            Status::Done | Status::Wrong { .. } | Status::Differs { .. } => Ok(Vec::new(alloc)),
             Status::Usage => joined(alloc, "usage", &[]),
             Status::ReadFault { name } => joined(alloc, "cannot read ", name.as_bytes()),
             Status::TooLong { name } => joined(alloc, "too long ", name.as_bytes()),

@@ -6,6 +6,7 @@ use std::alloc::{AllocError, Global};
 use std::test::Fail;
 
 mod refusals;
+mod replays;
 mod sources;
 mod traces;
 

@@ -1,8 +1,11 @@
 //! The grammar of the words.
-ghost use Rattle.std.specs.Prelude.{◌≡◌, ◌≤◌, map, option_map, string_bytes, IsTrue};
-ghost use Rattle.beebtube.specs.Words.{is_name, part_of, is_hex, hex_value, origin_of, check_words, asm_words, dis_words, command};
+ghost use Rattle.std.specs.Prelude.{◌≡◌, ◌≤◌, map, option_map, string_bytes, IsTrue, IfSome};
+ghost use Rattle.beebtube.specs.Command.{IsWithin};
+ghost use Rattle.beebtube.specs.Words.{part_of, is_hex, hex_value, origin_of, check_words, asm_words, dis_words, replay_words, command};
 ghost use Rattle.beebtube.specs.Seen.{seen};
 
+use crate::numbers::number;
+use crate::options::{all_fit_para, four_alone, is_closed, is_name, value};
 use op_table::Part;
 
 /// A command, with the words that it came from.
@@ -25,20 +28,18 @@ pub(crate) enum Command<'a> {
         origin: u16,
         out: &'a str,
     },
-}
-
-// A word that isn't empty and doesn't begin with `-`.
-fn is_name(word: &str) -> bool
-    ensures { result ≡ is_name word.now }
-{
-    match word.as_bytes().first() {
-        Some(b) => *b != b'-',
-        None => false,
-    }
+    /// `replay para TRACE TICKS OUT --tube ROM`
+    ReplayPara {
+        trace: &'a str,
+        ticks: u32,
+        out: &'a str,
+        tube: &'a str,
+    },
 }
 
 fn check_words(words: &[String]) -> Option<Command<'_>>
-    ensures { option_map seen result ≡ check_words (map string_bytes words.now) }
+    ensures command { option_map seen result ≡ check_words (map string_bytes words.now) }
+    ensures within { IfSome result (λ c. IsWithin (seen c)) }
 {
     match words {
         [trace] if is_name(trace.as_str()) => Some(Command::Check {
@@ -87,7 +88,8 @@ fn origin_of(word: &str) -> Option<u16>
 }
 
 fn asm_words(words: &[String]) -> Option<Command<'_>>
-    ensures { option_map seen result ≡ asm_words (map string_bytes words.now) }
+    ensures command { option_map seen result ≡ asm_words (map string_bytes words.now) }
+    ensures within { IfSome result (λ c. IsWithin (seen c)) }
 {
     match words {
         [part, source, out] => {
@@ -107,7 +109,8 @@ fn asm_words(words: &[String]) -> Option<Command<'_>>
 }
 
 fn dis_words(words: &[String]) -> Option<Command<'_>>
-    ensures { option_map seen result ≡ dis_words (map string_bytes words.now) }
+    ensures command { option_map seen result ≡ dis_words (map string_bytes words.now) }
+    ensures within { IfSome result (λ c. IsWithin (seen c)) }
 {
     match words {
         [part, image, origin, out] => {
@@ -128,10 +131,32 @@ fn dis_words(words: &[String]) -> Option<Command<'_>>
     }
 }
 
+fn replay_words(words: &[String]) -> Option<Command<'_>>
+    ensures command { option_map seen result ≡ replay_words (map string_bytes words.now) }
+    ensures within { IfSome result (λ c. IsWithin (seen c)) }
+{
+    if !is_closed(words) || !all_fit_para(words) {
+        return None;
+    }
+    let tube = value(words, "--tube")?;
+    let (side, trace, ticks, out) = four_alone(words)?;
+    if side != "para" || !is_name(trace) || !is_name(out) {
+        return None;
+    }
+    let ticks = number(ticks, 1_073_741_824)?;
+    Some(Command::ReplayPara {
+        trace,
+        ticks,
+        out,
+        tube,
+    })
+}
+
 /// The command that the words spell.
 #[tactic(auto, unfolding(crate::specs::Words::command))]
 pub(crate) fn command_of(words: &[String]) -> Option<Command<'_>>
-    ensures { option_map seen result ≡ command (map string_bytes words.now) }
+    ensures command { option_map seen result ≡ command (map string_bytes words.now) }
+    ensures within { IfSome result (λ c. IsWithin (seen c)) }
 {
     let (word, rest) = words.split_first()?;
     if word.as_str() == "check" {
@@ -140,6 +165,8 @@ pub(crate) fn command_of(words: &[String]) -> Option<Command<'_>>
         asm_words(rest)
     } else if word.as_str() == "dis" {
         dis_words(rest)
+    } else if word.as_str() == "replay" {
+        replay_words(rest)
     } else {
         None
     }
