@@ -1,2 +1,9 @@
 pub mod TapeLemmas
 pub mod ReplayLemmas
+pub mod Ticks
+pub mod Meet
+pub mod Turns
+pub mod First
+pub mod UnderWay
+pub mod Kept
+pub mod Both

@@ -1,10 +1,15 @@
-//! Parties at the Tube: what a machine with a clock is, and a machine against a trace.
+//! Parties at the Tube: what a machine with a clock is, two of them at one chip, and one against a trace.
 #![tactic(auto)]
 
+mod law;
+mod log;
+mod one_thread;
 mod party;
 mod replaying;
 mod tape;
 
+pub use law::legal_merge_is_reference;
+pub use one_thread::{Done, solo};
 pub use party::{Ask, MOST, Party};
 pub use replaying::{Doing, replay};
 

@@ -1,6 +1,8 @@
-//! A party of two kinds of step, against traces that fit it and traces that don't.
+//! A party of two kinds of step, against traces that fit it and traces that don't, and beside another at one chip.
 
-use crate::{Ask, Doing, MOST, Party, replay};
+ghost use Rattle.std.specs.Prelude.{◌≡◌};
+
+use crate::{Ask, Doing, MOST, Party, legal_merge_is_reference, replay, solo};
 use beeb_bits::{Side, Tick};
 use std::test::Fail;
 use tube_chip::{Answer, Op};
@@ -62,7 +64,9 @@ impl Party for Probe {
     }
 }
 
-fn at_power_on() -> Probe {
+fn at_power_on() -> Probe
+    ensures { result.closed ≡ 0 }
+{
     Probe {
         at: 5,
         looks: true,
@@ -154,5 +158,117 @@ fn a_look_sees_the_entries_before_it(rt: HostRuntime) -> Result<(), Fail> {
             }
         );
     }
+    Ok(())
+}
+
+/// Writes to register 1 at tick `at` and every ten ticks, one byte after another.
+#[derive(Drop)]
+pub struct Writer {
+    at: u64,
+    byte: u8,
+    closed: u64,
+}
+
+impl Party for Writer {
+    ghost use Rattle.std.specs.Prelude.{◌+◌, ◌%◌, Some, refl};
+    ghost use Rattle.std.proofs.Common.{arith};
+    ghost use Rattle.tube_party.specs.declared.tests.Writer.{Writer};
+    ghost use Rattle.tube_chip.specs.declared.Op.TheVariants as op;
+    ghost use Rattle.tube_chip.specs.Act.{access};
+
+    ghost State = { Writer };
+
+    ghost state = { λ m. m };
+
+    ghost moves = { record {
+      due = λ s. s.at;
+      asks = λ s. Some (access (op.Write 1 s.byte));
+      next = λ s a. record { at = s.at + 10; byte = (s.byte + 1) % 256; closed = s.at + 1 };
+      closed = λ s. s.closed;
+      close = λ s t. record s { closed = t };
+    } };
+
+    ghost lawful = { record {
+      rises = λ s a. omega arith;
+      closing = λ s t low high. record { closed = refl; due = refl; asks = refl; next = λ a. refl; again = λ u low2 high2. refl };
+    } };
+
+    fn due(&self) -> Tick {
+        Tick(self.at)
+    }
+
+    fn advance(&mut self, until: Tick) -> Ask {
+        if self.at < until.0 {
+            return Ask::Access(Tick(self.at), Op::Write(1, self.byte));
+        }
+        self.closed = self.closed.max(until.0);
+        Ask::Nothing
+    }
+
+    fn answer(&mut self, _answer: Answer) {
+        self.byte = self.byte.wrapping_add(1);
+        self.closed = self.at + 1;
+        self.at += 10;
+    }
+}
+
+#[test]
+fn two_parties_share_one_chip(rt: HostRuntime) -> Result<(), Fail> {
+    // The tick of the writer's first write, the ticks of the run, how many accesses are kept, those of each side as a trace, and their
+    // whole numbers. The probe reads the status of register 1 at ticks 10, 20 and 30; bit 7 says that a byte came.
+    let rows: [(u16, u16, u32, &str, &str, u8, u8); 6] = [
+        // At equal ticks the host's write comes first.
+        (
+            10,
+            36,
+            9,
+            "000000000A H W 1 01\n0000000014 H W 1 02\n000000001E H W 1 03\n",
+            "000000000A P R 0 C0\n0000000014 P R 0 C0\n000000001E P R 0 C0\n",
+            3,
+            3,
+        ),
+        (
+            11,
+            30,
+            9,
+            "000000000B H W 1 01\n0000000015 H W 1 02\n",
+            "000000000A P R 0 40\n0000000014 P R 0 C0\n",
+            2,
+            2,
+        ),
+        (9, 10, 9, "0000000009 H W 1 01\n", "", 1, 0),
+        // Only the first accesses are kept.
+        (
+            10,
+            36,
+            1,
+            "000000000A H W 1 01\n",
+            "000000000A P R 0 C0\n",
+            3,
+            3,
+        ),
+        (10, 36, 0, "", "", 3, 3),
+        (10, 0, 9, "", "", 0, 0),
+    ];
+    for (first, ticks, keep, host_text, para_text, host_count, para_count) in rows {
+        let writer = Writer {
+            at: first as u64,
+            byte: 1,
+            closed: 0,
+        };
+        let Ok(done) = solo(rt.alloc(), writer, at_power_on(), Tick(ticks as u64), keep) else {
+            return Err(Fail::from("no memory"));
+        };
+        assert_eq!(rt; done.host_list, read(rt.alloc(), host_text.as_bytes())?);
+        assert_eq!(rt; done.para_list, read(rt.alloc(), para_text.as_bytes())?);
+        assert_eq!(rt; done.host_count, host_count as u64);
+        assert_eq!(rt; done.para_count, para_count as u64);
+        assert_eq!(rt; done.host.closed, ticks as u64);
+        assert_eq!(rt; done.para.closed, ticks as u64);
+        // The last byte written is at the chip.
+        let mut chip = done.chip;
+        assert_eq!(rt; chip.apply(Side::Para, Op::Read(1)), host_count);
+    }
+    legal_merge_is_reference::<Writer, Probe>();
     Ok(())
 }

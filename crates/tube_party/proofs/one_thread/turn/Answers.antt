@@ -1,0 +1,21 @@
+use Rattle.std.proofs.Common.{◌∙◌, ap}
+use Rattle.tube_party.proofs.one_thread.turn.Goals as goal
+use Rattle.tube_party.proofs.one_thread.turn.Goals.{in-Access, in-Look}
+use Rattle.tube_party.proofs.Turns.{turn_access, turn_look}
+
+pub returns-clause-turns : goal.returns-clause-turns
+returns-clause-turns g c = elim c.match-ask.branch [
+  | in-Access w ↦
+      turn_access _ _ _ _ _ _ _ _ (g.M.Party.state c.match-ask.machine) _ _ _ _ c.args.ask _ w.in-Access.tick w.in-Access.op w.apply-answer.result
+      w.in-Access.is c.requires.pending
+      (w.chip-is ∙ w.apply-answer.ensures.chip) w.apply-answer.ensures.answer
+      (ap g.M.Party.state w.machine-is ∙ w.answer.ensures)
+      (ap (λ x. x.list.items) w.log-is ∙ w.note.ensures.list) (ap (λ x. x.count) w.log-is ∙ w.note.ensures.count)
+      c.advance.ensures
+  | in-Look w ↦
+      turn_look _ _ _ _ _ _ _ _ (g.M.Party.state c.match-ask.machine) _ _ _ _ c.args.ask _ w.in-Look.field-0 w.lines-lines.result
+      w.in-Look.is c.requires.pending
+      w.lines-lines.ensures w.chip-is (ap (λ x. x.list.items) w.log-is) (ap (λ x. x.count) w.log-is)
+      (ap g.M.Party.state w.machine-is ∙ w.answer-in-Look.ensures)
+      c.advance.ensures
+]

@@ -1,0 +1,73 @@
+-- The reference run of two parties: one clock, one chip, one list of events.
+use Rattle.std.specs.Prelude.{ℕ, zero, suc, ◌≡◌, ◌+◌, nat_eq, Option, None, Some, List, [], ◌∷◌, ◌++◌, if◌then◌else◌}
+use Rattle.beeb_bits.specs.declared.Side.{Side}
+use Rattle.beeb_bits.specs.declared.Side.TheVariants.{Host, Para}
+use Rattle.tube_chip.specs.State.{State, power_on}
+use Rattle.tube_chip.specs.Act.{Query, act}
+use Rattle.tube_chip.specs.Events.{Event, merge, after, IsLegal}
+use Rattle.tube_party.specs.Moves.{Moves, Follows, shut}
+
+-- One party at the chip, with the list of what was done there.
+pub record Seat (S : Type 0) : Type 0 where
+  pub state : S
+  pub chip : State
+  pub list : List Event
+
+-- The step of this side done, which asks this: the chip answers, and the event joins the end of the list.
+abbrev pub stepped : {S : Type 0} → Moves S → Side → Seat S → Option Query → Seat S
+stepped m side x None = record { state = m.next x.state None; chip = x.chip; list = x.list }
+stepped m side x (Some q) =
+    record {
+      state = m.next x.state (Some (act x.chip side q).1);
+      chip = (act x.chip side q).0;
+      list = x.list ++ record { tick = m.due x.state; side = side; query = q; answer = (act x.chip side q).1 } ∷ [];
+    }
+
+-- the step of this side done, if it is due at tick k
+abbrev pub step_at : {S : Type 0} → Moves S → Side → ℕ → Seat S → Seat S
+step_at m side k x = if nat_eq (m.due x.state) k then stepped m side x (m.asks x.state) else x
+
+-- Both parties, the chip between them and the list of what was done there.
+pub record World (S T : Type 0) : Type 0 where
+  pub host : S
+  pub para : T
+  pub chip : State
+  pub list : List Event
+
+-- a host, with the parasite at the chip
+abbrev pub with_host : {S T : Type 0} → S → Seat T → World S T
+with_host s y = record { host = s; para = y.state; chip = y.chip; list = y.list }
+
+-- the parasite's part of tick k, after the host's
+abbrev pub para_part : {S T : Type 0} → Moves T → ℕ → Seat S → T → World S T
+para_part p k x t = with_host x.state (step_at p Para k (record { state = t; chip = x.chip; list = x.list }))
+
+-- Tick k: the host's step, if it is due, and then the parasite's.
+abbrev pub tick : {S T : Type 0} → Moves S → Moves T → ℕ → World S T → World S T
+tick h p k w = para_part p k (step_at h Host k (record { state = w.host; chip = w.chip; list = w.list })) w.para
+
+-- so many ticks, from tick k on
+abbrev pub ticks : {S T : Type 0} → Moves S → Moves T → ℕ → ℕ → World S T → World S T
+ticks h p zero k w = w
+ticks h p (suc j) k w = ticks h p j (k + 1) (tick h p k w)
+
+-- both parties at the power-on chip, before anything was done there
+abbrev pub start : {S T : Type 0} → S → T → World S T
+start s t = record { host = s; para = t; chip = power_on; list = [] }
+
+-- each party closed at n, or as far as it is closed already if that is further
+abbrev pub shut_both : {S T : Type 0} → Moves S → Moves T → ℕ → World S T → World S T
+shut_both h p n w = record { host = shut h w.host n; para = shut p w.para n; chip = w.chip; list = w.list }
+
+-- The reference run of a host and a parasite for n ticks.
+abbrev pub reference : {S T : Type 0} → Moves S → Moves T → S → T → ℕ → World S T
+reference h p s t n = shut_both h p n (ticks h p n 0 (start s t))
+
+-- Two parties that follow lists whose merge is legal are the reference run.
+abbrev pub LegalMergeIsReference : {S T : Type 0} → Moves S → Moves T → Type 0
+LegalMergeIsReference {S} {T} h p =
+    (s u : S) (t v : T) (a b : List Event) (n : ℕ) →
+    Follows h Host s a n u →
+    Follows p Para t b n v →
+    IsLegal (merge a b) →
+    reference h p s t n ≡ record { host = u; para = v; chip = after (merge a b); list = merge a b }

@@ -1,0 +1,56 @@
+-- One turn of a party at the chip, and whose turn is next.
+use Rattle.std.specs.Prelude.{ℕ, ◌≡◌, ◌+◌, ◌-◌, ◌<◌, nat_lt, Option, None, Some, List, [], ◌∷◌, ◌++◌, length, if◌then◌else◌}
+use Rattle.beeb_bits.specs.declared.Side.{Side}
+use Rattle.beeb_bits.specs.declared.Side.TheVariants.{Host, Para}
+use Rattle.tube_chip.specs.State.{State}
+use Rattle.tube_chip.specs.Act.{Query, access, look, act, MayDo}
+use Rattle.tube_trace.specs.declared.Entry.{Entry}
+use Rattle.tube_party.specs.declared.party.Ask.{Ask}
+use Rattle.tube_party.specs.declared.party.Ask.TheVariants.{Nothing, Access, Look}
+use Rattle.tube_party.specs.Moves.{Moves, Advances}
+use Rattle.tube_party.specs.Played.{entry_of}
+
+-- one more entry, while there are fewer than `keep`
+abbrev pub noted : ℕ → List Entry → Entry → List Entry
+noted keep list entry = if nat_lt (length list) keep then list ++ entry ∷ [] else list
+
+abbrev pub noted_all : ℕ → List Entry → List Entry → List Entry
+noted_all keep list [] = list
+noted_all keep list (x ∷ xs) = noted_all keep (noted keep list x) xs
+
+-- this is asked by the next step, which is below n
+abbrev pub IsPending : {S : Type 0} → Moves S → Side → ℕ → S → Ask → Type 0
+IsPending m side n s Nothing = ⊥
+IsPending m side n s (Access t op) = (t.0 ≡ m.due s) × (t.0 < n) × (m.asks s ≡ Some (access op)) × MayDo side op
+IsPending m side n s (Look t) = (t.0 ≡ m.due s) × (t.0 < n) × (m.asks s ≡ Some look)
+
+-- The step that asks was done at the chip, and all after it that ask nothing.
+pub record Turns {S : Type 0} (m : Moves S) (side : Side) (n keep : ℕ) (s : S) (c : State) (list : List Entry) (count : ℕ) (s2 : S) (c2 : State) (list2 : List Entry) (count2 : ℕ) (ask2 : Ask) : Type 0 where
+  pub query : Query
+  pub asks : m.asks s ≡ Some query
+  pub chip_is : c2 ≡ (act c side query).0
+  pub list_is : list2 ≡ noted_all keep list (entry_of (m.due s) side query (act c side query).1)
+  pub count_is : count2 ≡ count + length (entry_of (m.due s) side query (act c side query).1)
+  pub advances : Advances m n (m.next s (Some (act c side query).1)) ask2 s2
+
+-- whose step comes first: the host's, unless the parasite's is at a smaller tick
+abbrev pub first_at : ℕ → ℕ → Side
+first_at t u = if nat_lt u t then Para else Host
+
+-- whose ask comes first, if there is one
+abbrev pub first_of : Ask → Ask → Option Side
+first_of Nothing Nothing = None
+first_of Nothing (Access u op) = Some Para
+first_of Nothing (Look u) = Some Para
+first_of (Access t op) Nothing = Some Host
+first_of (Look t) Nothing = Some Host
+first_of (Access t op) (Access u po) = Some (first_at t.0 u.0)
+first_of (Access t op) (Look u) = Some (first_at t.0 u.0)
+first_of (Look t) (Access u po) = Some (first_at t.0 u.0)
+first_of (Look t) (Look u) = Some (first_at t.0 u.0)
+
+-- how far an ask is from n
+abbrev pub left : ℕ → Ask → ℕ
+left n Nothing = 0
+left n (Access t op) = n - t.0
+left n (Look t) = n - t.0

@@ -1,0 +1,44 @@
+//! What is kept of a side's accesses.
+ghost use Rattle.std.specs.Prelude.{◌≡◌, ◌≤◌, ◌<◌, ◌+◌, ◌^◌, [], IfOk, vec_capacity};
+ghost use Rattle.tube_party.specs.Turn.{noted};
+
+use std::alloc::{AllocError, Global};
+use tube_trace::Entry;
+
+/// The first `keep` accesses of a side, with room for them all, and the number of all.
+#[derive(Drop)]
+pub(crate) struct Log {
+    pub(crate) list: Vec<Entry>,
+    pub(crate) keep: u32,
+    pub(crate) count: u64,
+    ghost room: { keep ≤ vec_capacity list },
+}
+
+impl Log {
+    /// A log of nothing yet.
+    pub(crate) fn new(alloc: Global, keep: u32) -> Result<Log, AllocError>
+        ensures list { IfOk result (λ log. log.list.items ≡ []) }
+        ensures count { IfOk result (λ log. log.count ≡ 0) }
+        ensures keep { IfOk result (λ log. log.keep ≡ keep) }
+    {
+        let list = Vec::with_capacity(alloc, keep as usize)?;
+        Ok(Log {
+            list,
+            keep,
+            count: 0,
+        })
+    }
+
+    /// One more access.
+    pub(crate) fn note(&mut self, entry: Entry)
+        requires { self.old.count < 2 ^ 63 }
+        ensures list { self.new.list.items ≡ noted self.old.keep self.old.list.items entry }
+        ensures count { self.new.count ≡ self.old.count + 1 }
+        ensures keep { self.new.keep ≡ self.old.keep }
+    {
+        if self.list.len() < self.keep as usize {
+            self.list.push_reserved(entry);
+        }
+        self.count += 1;
+    }
+}
