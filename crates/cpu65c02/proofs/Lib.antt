@@ -1,4 +1,4 @@
+pub mod Shown
 pub mod Steps
 pub mod Entry
-pub mod Turns
 pub mod Lengths

@@ -1,6 +1,7 @@
 //! The processor: it says which access it wants, and is given the byte.
 ghost use Rattle.std.specs.Prelude.{◌≡◌, ◌<◌, ◌∷◌, ◌++◌, [], length, ◌↔◌, IsTrue, IsSome, IsNone, ◌≢◌};
 ghost use Rattle.cpu65c02.specs.Sequences.{next, shown, given, after, looked, fresh, power_on, result_of};
+ghost use Rattle.cpu65c02.specs.Shown.{all_shown};
 ghost use Rattle.cpu65c02.specs.Phases.{wants};
 ghost use Rattle.cpu65c02.specs.Ties.{Tied, GoesOn};
 ghost use Rattle.cpu65c02.specs.declared.machine.Machine.{Machine};
@@ -20,20 +21,22 @@ pub struct Cpu {
     machine: Machine,
     sequence: Sequence,
     start: Regs,
-    seen: [Option<u8>; 8],
+    // The bytes of the cycles done, of which `count` are there. They are kept for what contracts see alone.
+    bytes: [u8; 8],
     count: usize,
 }
 
 impl Model for Cpu {
     ghost use Rattle.std.specs.Prelude.{take, ◌≤◌, ◌≡◌, length};
     ghost use Rattle.cpu65c02.specs.State.{State};
+    ghost use Rattle.cpu65c02.specs.Shown.{all_shown};
     ghost use Rattle.cpu65c02.specs.Ties.{Tied};
 
     ghost Value = { State };
 
-    ghost view = { λ c. record { sequence = c.sequence; regs = c.start; seen = take c.count c.seen } };
+    ghost view = { λ c. record { sequence = c.sequence; regs = c.start; seen = all_shown c.sequence c.start (take c.count c.bytes) } };
 
-    ghost invariant = { λ c. (c.count ≤ 8) × (length c.seen ≡ 8) × Tied c.machine c.sequence c.start (take c.count c.seen) };
+    ghost invariant = { λ c. (c.count ≤ 8) × (length c.bytes ≡ 8) × Tied c.machine c.sequence c.start (all_shown c.sequence c.start (take c.count c.bytes)) };
 }
 
 fn first_machine(regs: Regs) -> Machine
@@ -96,37 +99,30 @@ fn looked(nmi: bool, irq: bool, r: &Regs) -> Sequence
 
 /// What begins at a look.
 #[inline(always)]
-fn look(
-    nmi: bool,
-    irq: bool,
-    m: &Machine,
-    sequence: Sequence,
-    regs: Regs,
-    seen: &[Option<u8>],
-) -> Sequence
-    requires tied { Tied m.now sequence regs seen.now }
-    requires over { IsNone (next (record { sequence = sequence; regs = regs; seen = seen.now })) }
-    ensures { result ≡ looked nmi irq (result_of sequence regs seen.now) }
+fn look(nmi: bool, irq: bool, m: &Machine, sequence: Sequence, regs: Regs, bytes: &[u8]) -> Sequence
+    requires tied { Tied m.now sequence regs (all_shown sequence regs bytes.now) }
+    requires over { IsNone (next (record { sequence = sequence; regs = regs; seen = (all_shown sequence regs bytes.now) })) }
+    ensures { result ≡ looked nmi irq (result_of sequence regs (all_shown sequence regs bytes.now)) }
 {
     looked(nmi, irq, &m.work)
 }
 
 /// Another sequence begins where one is over.
 #[inline(always)]
-fn follow(
-    m: &mut Machine,
-    start: &mut Regs,
-    sequence: Sequence,
-    then: Sequence,
-    seen: &[Option<u8>],
-)
-    requires tied { Tied m.old sequence start.old seen.now }
-    requires over { IsNone (next (record { sequence = sequence; regs = start.old; seen = seen.now })) }
+fn follow(m: &mut Machine, start: &mut Regs, sequence: Sequence, then: Sequence, bytes: &[u8])
+    requires tied { Tied m.old sequence start.old (all_shown sequence start.old bytes.now) }
+    requires over { IsNone (next (record { sequence = sequence; regs = start.old; seen = (all_shown sequence start.old bytes.now) })) }
     ensures tied { Tied m.new then start.new [] }
-    ensures start { start.new ≡ result_of sequence start.old seen.now }
+    ensures start { start.new ≡ result_of sequence start.old (all_shown sequence start.old bytes.now) }
 {
     set_off(m, then);
-    *start = m.work;
+    // Field by field: one wide load would wait for the narrow stores before it.
+    start.pc = m.work.pc;
+    start.a = m.work.a;
+    start.x = m.work.x;
+    start.y = m.work.y;
+    start.s = m.work.s;
+    start.p = m.work.p;
 }
 
 #[inline(always)]
@@ -152,54 +148,38 @@ fn in_progress(m: &Machine) -> Cycle
 }
 
 #[inline(always)]
-fn show_by(m: &Machine, byte: u8) -> Option<u8>
-    requires { m.now.phase ≢ Phase.Over }
-    ensures { result ≡ shown (wants m.now) byte }
-{
-    if m.writes { None } else { Some(byte) }
-}
-
-#[inline(always)]
-fn is_over(m: &Machine, sequence: Sequence, regs: Regs, seen: &[Option<u8>]) -> bool
-    requires { Tied m.now sequence regs seen.now }
-    ensures { IsTrue result ↔ IsNone (next (record { sequence = sequence; regs = regs; seen = seen.now })) }
+fn is_over(m: &Machine, sequence: Sequence, regs: Regs, bytes: &[u8]) -> bool
+    requires { Tied m.now sequence regs (all_shown sequence regs bytes.now) }
+    ensures { IsTrue result ↔ IsNone (next (record { sequence = sequence; regs = regs; seen = (all_shown sequence regs bytes.now) })) }
 {
     is_last(m.phase)
 }
 
 #[inline(always)]
-fn access_of(m: &Machine, sequence: Sequence, regs: Regs, seen: &[Option<u8>]) -> Cycle
-    requires tied { Tied m.now sequence regs seen.now }
-    requires more { IsSome (next (record { sequence = sequence; regs = regs; seen = seen.now })) }
-    ensures { next (record { sequence = sequence; regs = regs; seen = seen.now }) ≡ Some result }
+fn access_of(m: &Machine, sequence: Sequence, regs: Regs, bytes: &[u8]) -> Cycle
+    requires tied { Tied m.now sequence regs (all_shown sequence regs bytes.now) }
+    requires more { IsSome (next (record { sequence = sequence; regs = regs; seen = (all_shown sequence regs bytes.now) })) }
+    ensures { next (record { sequence = sequence; regs = regs; seen = (all_shown sequence regs bytes.now) }) ≡ Some result }
 {
     in_progress(m)
 }
 
-/// What the cycle in progress shows, after which a step keeps the tie.
+/// No work: the cycle in progress shows one more byte, or nothing, and a step after it keeps the tie.
 #[inline(always)]
-fn show_now(
-    m: &Machine,
-    sequence: Sequence,
-    regs: Regs,
-    seen: &[Option<u8>],
-    byte: u8,
-) -> Option<u8>
-    requires tied { Tied m.now sequence regs seen.now }
-    requires more { IsSome (next (record { sequence = sequence; regs = regs; seen = seen.now })) }
-    ensures value { result ≡ shown (next (record { sequence = sequence; regs = regs; seen = seen.now })) byte }
-    ensures tied { (then : Machine) → GoesOn m.now byte then → Tied then sequence regs (seen.now ++ result ∷ []) }
-    ensures room { length seen.now < 8 }
+fn show_now(m: &Machine, sequence: Sequence, regs: Regs, bytes: &[u8], byte: u8)
+    requires tied { Tied m.now sequence regs (all_shown sequence regs bytes.now) }
+    requires more { IsSome (next (record { sequence = sequence; regs = regs; seen = all_shown sequence regs bytes.now })) }
+    ensures shown { all_shown sequence regs (bytes.now ++ byte ∷ []) ≡ all_shown sequence regs bytes.now ++ shown (next (record { sequence = sequence; regs = regs; seen = all_shown sequence regs bytes.now })) byte ∷ [] }
+    ensures tied { (then : Machine) → GoesOn m.now byte then → Tied then sequence regs (all_shown sequence regs (bytes.now ++ byte ∷ [])) }
+    ensures room { length bytes.now < 8 }
     ensures going { m.now.phase ≢ Phase.Over }
-{
-    show_by(m, byte)
-}
+{}
 
 #[inline(always)]
-fn end_of(m: &Machine, sequence: Sequence, regs: Regs, seen: &[Option<u8>]) -> Regs
-    requires tied { Tied m.now sequence regs seen.now }
-    requires over { IsNone (next (record { sequence = sequence; regs = regs; seen = seen.now })) }
-    ensures { result ≡ result_of sequence regs seen.now }
+fn end_of(m: &Machine, sequence: Sequence, regs: Regs, bytes: &[u8]) -> Regs
+    requires tied { Tied m.now sequence regs (all_shown sequence regs bytes.now) }
+    requires over { IsNone (next (record { sequence = sequence; regs = regs; seen = (all_shown sequence regs bytes.now) })) }
+    ensures { result ≡ result_of sequence regs (all_shown sequence regs bytes.now) }
 {
     m.work
 }
@@ -221,7 +201,7 @@ impl Cpu {
             machine: first_machine(regs),
             sequence: Sequence::Reset,
             start: regs,
-            seen: [None; 8],
+            bytes: [0; 8],
             count: 0,
         }
     }
@@ -236,14 +216,14 @@ impl Cpu {
             &mut self.start,
             self.sequence,
             sequence,
-            &self.seen[..self.count],
+            &self.bytes[..self.count],
         );
         self.sequence = sequence;
         self.count = 0;
     }
 
     /// The access of the cycle in progress.
-    #[inline]
+    #[inline(always)]
     pub fn want(&self) -> Cycle
         requires { IsSome (next self.now) }
         ensures { next self.now ≡ Some result }
@@ -252,30 +232,30 @@ impl Cpu {
             &self.machine,
             self.sequence,
             self.start,
-            &self.seen[..self.count],
+            &self.bytes[..self.count],
         )
     }
 
     /// The cycle in progress is done, with the byte that was read. After a write the byte does not matter.
-    #[inline]
+    #[inline(always)]
     pub fn give(&mut self, byte: u8)
         requires { IsSome (next self.old) }
         ensures { self.new ≡ given self.old byte }
     {
-        let shows = show_now(
+        show_now(
             &self.machine,
             self.sequence,
             self.start,
-            &self.seen[..self.count],
+            &self.bytes[..self.count],
             byte,
         );
-        self.seen[self.count] = shows;
+        self.bytes[self.count] = byte;
         self.count += 1;
         self.machine.step(byte);
     }
 
     /// Whether the cycle just given was the last of its sequence.
-    #[inline]
+    #[inline(always)]
     pub fn last(&self) -> bool
         ensures { IsTrue result ↔ IsNone (next self.now) }
     {
@@ -283,12 +263,12 @@ impl Cpu {
             &self.machine,
             self.sequence,
             self.start,
-            &self.seen[..self.count],
+            &self.bytes[..self.count],
         )
     }
 
     /// The look at the lines: an NMI begins, else an IRQ if the flag I is clear, else the next instruction.
-    #[inline]
+    #[inline(always)]
     pub fn take_lines(&mut self, nmi: bool, irq: bool)
         requires { IsNone (next self.old) }
         ensures { self.new ≡ fresh (looked nmi irq (after self.old)) (after self.old) }
@@ -299,7 +279,7 @@ impl Cpu {
             &self.machine,
             self.sequence,
             self.start,
-            &self.seen[..self.count],
+            &self.bytes[..self.count],
         );
         self.begin(sequence);
     }
@@ -329,7 +309,7 @@ impl Cpu {
             &self.machine,
             self.sequence,
             self.start,
-            &self.seen[..self.count],
+            &self.bytes[..self.count],
         )
     }
 }

@@ -2,7 +2,7 @@
 ghost use Rattle.std.specs.Prelude.{◌≡◌, ◌≢◌, ◌≤◌};
 ghost use Rattle.cpu65c02.specs.Accesses.{last_place};
 ghost use Rattle.cpu65c02.specs.Results.{to_vector};
-ghost use Rattle.cpu65c02.specs.Phases.{turn};
+ghost use Rattle.cpu65c02.specs.Phases.{group};
 ghost use Rattle.cpu65c02.specs.Ties.{GoesOn};
 
 use crate::machine::{Access, Machine, Phase};
@@ -204,7 +204,8 @@ impl Machine {
         requires { self.old.phase ≢ Phase.Over }
         ensures { GoesOn self.old byte self.new }
     {
-        match self.phase {
+        let phase = self.phase;
+        match phase {
             Phase::Over => {}
             Phase::Opcode => self.decode(byte),
             Phase::Implied => self.after_implied(byte),
@@ -215,17 +216,79 @@ impl Machine {
             Phase::Decimal => self.after_decimal(byte),
             Phase::SpareSecond => self.read_place(Phase::SpareLast, 2),
             Phase::SpareLast => self.after_spare_last(byte),
-            _ => self.step_address(byte),
+            Phase::ZeroPage
+            | Phase::ZeroPageBase
+            | Phase::ZeroPageIndex
+            | Phase::AbsoluteLow
+            | Phase::AbsoluteHigh
+            | Phase::IndexedLow
+            | Phase::IndexedHigh
+            | Phase::IndexedPage => self.step_address(phase, byte),
+            Phase::Pointer
+            | Phase::PointerLow
+            | Phase::PointerHigh
+            | Phase::PointerBase
+            | Phase::PointerIndex
+            | Phase::PointerIndexedLow
+            | Phase::IndexedPointer
+            | Phase::IndexedPointerLow
+            | Phase::IndexedPointerHigh => self.step_pointer(phase, byte),
+            Phase::Branch
+            | Phase::BranchTaken
+            | Phase::BranchCrossed
+            | Phase::JumpLow
+            | Phase::JumpHigh => self.step_jump(phase, byte),
+            Phase::IndirectLow
+            | Phase::IndirectHigh
+            | Phase::IndirectIndexedLow
+            | Phase::IndirectIndexedHigh
+            | Phase::IndirectAgain
+            | Phase::IndirectTargetLow
+            | Phase::IndirectTargetHigh => self.step_indirect(phase, byte),
+            Phase::Break
+            | Phase::InterruptFirst
+            | Phase::InterruptSecond
+            | Phase::InterruptPushHigh
+            | Phase::InterruptPushLow
+            | Phase::InterruptPushFlags
+            | Phase::VectorLow
+            | Phase::VectorHigh => self.step_interrupt(phase, byte),
+            Phase::ResetFirst
+            | Phase::ResetSecond
+            | Phase::ResetThird
+            | Phase::ResetFourth
+            | Phase::ResetFifth => self.step_reset(phase, byte),
+            Phase::Push
+            | Phase::PushByte
+            | Phase::Pull
+            | Phase::PullStack
+            | Phase::PullByte
+            | Phase::Return
+            | Phase::ReturnStack
+            | Phase::ReturnLow
+            | Phase::ReturnHigh
+            | Phase::ReturnTarget => self.step_stack(phase, byte),
+            Phase::CallLow
+            | Phase::CallStack
+            | Phase::CallPushHigh
+            | Phase::CallPushLow
+            | Phase::CallHigh
+            | Phase::Resume
+            | Phase::ResumeStack
+            | Phase::ResumeFlags
+            | Phase::ResumeLow
+            | Phase::ResumeHigh => self.step_call(phase, byte),
         }
     }
 
     /// A step on the way to the operand.
     #[inline(always)]
-    fn step_address(&mut self, byte: u8)
-        requires { 1 ≤ turn self.old.phase }
+    fn step_address(&mut self, phase: Phase, byte: u8)
+        requires same { self.old.phase ≡ phase }
+        requires group { group phase ≡ 1 }
         ensures { GoesOn self.old byte self.new }
     {
-        match self.phase {
+        match phase {
             Phase::ZeroPage => self.reach(byte as u16),
             Phase::ZeroPageBase => {
                 self.to = in_zero_page(byte, self.index as u16);
@@ -243,17 +306,18 @@ impl Machine {
             }
             Phase::IndexedHigh => self.after_indexed_high(byte),
             Phase::IndexedPage => self.reach(self.to),
-            _ => self.step_pointer(byte),
+            _ => unreachable!(),
         }
     }
 
     /// A step on the way to an operand at a pointer.
     #[inline(always)]
-    fn step_pointer(&mut self, byte: u8)
-        requires { 2 ≤ turn self.old.phase }
+    fn step_pointer(&mut self, phase: Phase, byte: u8)
+        requires same { self.old.phase ≡ phase }
+        requires group { group phase ≡ 2 }
         ensures { GoesOn self.old byte self.new }
     {
-        match self.phase {
+        match phase {
             Phase::Pointer => {
                 self.low = byte;
                 self.read(Phase::PointerLow, byte as u16);
@@ -285,17 +349,18 @@ impl Machine {
                 self.low = byte;
             }
             Phase::IndexedPointerHigh => self.after_indexed_pointer_high(byte),
-            _ => self.step_jump(byte),
+            _ => unreachable!(),
         }
     }
 
-    /// A step of a branch or of JMP.
+    /// A step of a branch or of a direct JMP.
     #[inline(always)]
-    fn step_jump(&mut self, byte: u8)
-        requires { 3 ≤ turn self.old.phase }
+    fn step_jump(&mut self, phase: Phase, byte: u8)
+        requires same { self.old.phase ≡ phase }
+        requires group { group phase ≡ 3 }
         ensures { GoesOn self.old byte self.new }
     {
-        match self.phase {
+        match phase {
             Phase::Branch => self.after_branch(byte),
             Phase::BranchTaken => self.after_branch_taken(byte),
             Phase::BranchCrossed => self.jump(self.to),
@@ -304,6 +369,18 @@ impl Machine {
                 self.read_place(Phase::JumpHigh, 2);
             }
             Phase::JumpHigh => self.jump(word(self.low, byte)),
+            _ => unreachable!(),
+        }
+    }
+
+    /// A step of an indirect JMP.
+    #[inline(always)]
+    fn step_indirect(&mut self, phase: Phase, byte: u8)
+        requires same { self.old.phase ≡ phase }
+        requires group { group phase ≡ 4 }
+        ensures { GoesOn self.old byte self.new }
+    {
+        match phase {
             Phase::IndirectLow => {
                 self.low = byte;
                 self.read_place(Phase::IndirectHigh, 2);
@@ -326,17 +403,18 @@ impl Machine {
                 self.read(Phase::IndirectTargetHigh, wrapping_sum(self.to, 1));
             }
             Phase::IndirectTargetHigh => self.jump(word(self.low, byte)),
-            _ => self.step_interrupt(byte),
+            _ => unreachable!(),
         }
     }
 
     /// A step of an interrupt or of BRK, or the vector of a reset.
     #[inline(always)]
-    fn step_interrupt(&mut self, byte: u8)
-        requires { 4 ≤ turn self.old.phase }
+    fn step_interrupt(&mut self, phase: Phase, byte: u8)
+        requires same { self.old.phase ≡ phase }
+        requires group { group phase ≡ 5 }
         ensures { GoesOn self.old byte self.new }
     {
-        match self.phase {
+        match phase {
             Phase::Break => {
                 self.to = 0xFFFE;
                 let back = self.work.place(2);
@@ -359,6 +437,18 @@ impl Machine {
                 go_to_vector(&mut self.work, self.low, byte);
                 self.phase = Phase::Over;
             }
+            _ => unreachable!(),
+        }
+    }
+
+    /// A step of a reset, as far as its vector.
+    #[inline(always)]
+    fn step_reset(&mut self, phase: Phase, byte: u8)
+        requires same { self.old.phase ≡ phase }
+        requires group { group phase ≡ 6 }
+        ensures { GoesOn self.old byte self.new }
+    {
+        match phase {
             Phase::ResetFirst => self.read(Phase::ResetSecond, self.work.pc),
             Phase::ResetSecond => self.read_stack(Phase::ResetThird, 0),
             Phase::ResetThird => self.read_stack(Phase::ResetFourth, 255),
@@ -367,17 +457,18 @@ impl Machine {
                 self.to = 0xFFFC;
                 self.read(Phase::VectorLow, 0xFFFC);
             }
-            _ => self.step_stack(byte),
+            _ => unreachable!(),
         }
     }
 
     /// A step of a push, a pull or RTS.
     #[inline(always)]
-    fn step_stack(&mut self, byte: u8)
-        requires { 5 ≤ turn self.old.phase }
+    fn step_stack(&mut self, phase: Phase, byte: u8)
+        requires same { self.old.phase ≡ phase }
+        requires group { group phase ≡ 7 }
         ensures { GoesOn self.old byte self.new }
     {
-        match self.phase {
+        match phase {
             Phase::Push => {
                 let value = self.work.pushed(self.row.mnemonic);
                 self.write_stack(Phase::PushByte, 0, value);
@@ -401,17 +492,18 @@ impl Machine {
                 self.work.move_stack(2);
                 self.jump(wrapping_sum(self.at, 1));
             }
-            _ => self.step_call(byte),
+            _ => unreachable!(),
         }
     }
 
     /// A step of JSR or RTI.
     #[inline(always)]
-    fn step_call(&mut self, byte: u8)
-        requires { 6 ≤ turn self.old.phase }
+    fn step_call(&mut self, phase: Phase, byte: u8)
+        requires same { self.old.phase ≡ phase }
+        requires group { group phase ≡ 8 }
         ensures { GoesOn self.old byte self.new }
     {
-        match self.phase {
+        match phase {
             Phase::CallLow => {
                 self.low = byte;
                 self.read_stack(Phase::CallStack, 0);
@@ -444,7 +536,7 @@ impl Machine {
                 self.work.move_stack(3);
                 self.jump(word(self.low, byte));
             }
-            _ => {}
+            _ => unreachable!(),
         }
     }
 }

@@ -1,19 +1,30 @@
--- What one step of the code tells: it was done, or it asks this.
-use Rattle.std.specs.Prelude.{◌≡◌, Some, None, MatchOption}
-use Rattle.tube_chip.specs.Act.{access, look}
+-- What an access comes to: it is done, or the Tube is asked.
+use Rattle.std.specs.Prelude.{ℕ, List, Bool, true, false, ◌≡◌, ◌%◌, Some, None, Option, MatchOption, Result, Ok, Err}
+use Rattle.cpu_alu.specs.declared.Cycle.{Cycle}
+use Rattle.tube_chip.specs.Act.{access, MayDo}
 use Rattle.tube_chip.specs.declared.Answer.TheVariants.{Byte}
+use Rattle.tube_chip.specs.declared.Op.{Op}
+use Rattle.tube_chip.specs.declared.Op.TheVariants as op
 use Rattle.tube_party.specs.Moves.{FitsAnswer}
-use Rattle.tube_party.specs.declared.Ask.{Ask}
-use Rattle.tube_party.specs.declared.Ask.TheVariants.{Nothing, Access, Look}
-use Rattle.tube_chip.specs.Act.{MayDo}
 use Rattle.beeb_bits.specs.declared.Side.{Side}
 use Rattle.para_mach.specs.State.{ParaState}
-use Rattle.para_mach.specs.Step.{asks, next_state}
+use Rattle.para_mach.specs.Step.{asks, asks_by, is_tube, memory, byte_of, ram_after, rom_in_after, accessed}
 
-abbrev pub IsTold : ParaState → Ask → ParaState → Type 0
-IsTold old Nothing new = (asks old ≡ None) × (new ≡ next_state old None)
-IsTold old (Access t op) new = (t.0 ≡ old.at) × (asks old ≡ Some (access op)) × ((side : Side) → MayDo side op) × (new ≡ old)
-IsTold old (Look t) new = (t.0 ≡ old.at) × (asks old ≡ Some look) × (new ≡ old)
+-- a read gives the byte of its address, or asks the Tube for it
+abbrev pub IsRead : List ℕ → List ℕ → Bool → ℕ → Result ℕ Op → Type 0
+IsRead ram rom rom_in at (Ok byte) = (is_tube at ≡ false) × (byte ≡ memory ram rom rom_in at)
+IsRead ram rom rom_in at (Err o) = (is_tube at ≡ true) × (o ≡ op.Read (at % 8))
+
+-- an access is done, or asks the Tube
+abbrev pub IsExchanged : List ℕ → List ℕ → Bool → Cycle → Result ℕ Op → List ℕ → Type 0
+IsExchanged ram rom rom_in c (Ok byte) new =
+    (asks_by (Some c) ≡ None) × (byte ≡ byte_of ram rom rom_in None (Some c)) × (new ≡ ram_after ram (Some c)) × (rom_in ≡ rom_in_after rom_in (Some c))
+IsExchanged ram rom rom_in c (Err o) new = (asks_by (Some c) ≡ Some (access o)) × ((side : Side) → MayDo side o) × (new ≡ ram)
+
+-- the access of the next step is done, without its ticks, or it asks the Tube
+abbrev pub IsDone : ParaState → Option Op → ParaState → Type 0
+IsDone old None new = (asks old ≡ None) × (new ≡ record (accessed old None) { at = old.at; closed = old.closed })
+IsDone old (Some o) new = (asks old ≡ Some (access o)) × ((side : Side) → MayDo side o) × (new ≡ old)
 
 -- the next step is an access to the Tube
 abbrev pub IsAskedByte : ParaState → Type 0

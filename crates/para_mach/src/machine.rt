@@ -1,10 +1,12 @@
 //! The machine.
-ghost use Rattle.std.specs.Prelude.{◌≡◌, ◌≢◌, ◌↔◌, ◌⊎◌, ◌<◌, ◌%◌, ◌^◌, IfOk, IfErr, IsErrOf, length, Err, Some, None, MatchOption, IsSome, IsNone, false, true, max};
+ghost use Rattle.std.specs.Prelude.{◌≡◌, ◌≤◌, if◌then◌else◌, ◌≢◌, ◌↔◌, ◌⊎◌, ◌<◌, ◌%◌, ◌^◌, IfOk, IfErr, IsErrOf, length, Err, Some, None, MatchOption, IsSome, IsNone, false, true, max};
 ghost use Rattle.tube_chip.specs.declared.Answer.TheVariants.{Byte, Seen};
+ghost use Rattle.beeb_bits.specs.declared.Side.{Side};
+ghost use Rattle.tube_party.specs.Moves.{IsAsk};
 ghost use Rattle.para_mach.specs.State.{clear_ram, power_on, shown_regs};
 ghost use Rattle.para_mach.specs.Step.{para_moves, is_tube, memory, asks, next_state, after_look};
 ghost use Rattle.para_mach.specs.Lawful.{para_lawful};
-ghost use Rattle.para_mach.specs.Told.{IsTold, IsAskedByte};
+ghost use Rattle.para_mach.specs.Told.{IsRead, IsExchanged, IsDone, IsAskedByte};
 
 use beeb_bits::Tick;
 use cpu_alu::{Cycle, Regs};
@@ -51,7 +53,7 @@ pub struct ParaMachine {
 }
 
 impl Model for ParaMachine {
-    ghost use Rattle.std.specs.Prelude.{◌≡◌, length, is_none, true};
+    ghost use Rattle.std.specs.Prelude.{◌≡◌, ◌≤◌, if◌then◌else◌, length, is_none, true};
     ghost use Rattle.cpu65c02.specs.Sequences.{next};
     ghost use Rattle.para_mach.specs.State.{ParaState};
 
@@ -100,17 +102,54 @@ fn tube_number(at: u16) -> u8
     (at % 8) as u8
 }
 
-/// The byte of an address that is not the Tube's.
+/// The byte of an address from F800 on that is not the Tube's.
 #[inline(always)]
-fn load(ram: &[u8], rom: &[u8], rom_in: bool, at: u16) -> u8
+fn load_high(ram: &[u8], rom: &[u8], rom_in: bool, at: u16) -> u8
     requires ram { length ram.now ≡ RAM_SIZE }
     requires rom { length rom.now ≡ ROM_SIZE }
+    requires high { ROM_START ≤ at }
     ensures { result ≡ memory ram.now rom.now rom_in at }
 {
-    if rom_in && at >= ROM_START {
+    if rom_in {
         rom[(at - ROM_START) as usize]
     } else {
         ram[at as usize]
+    }
+}
+
+/// What a read gives, or what it asks of the Tube. Most reads are below F800, where nothing but RAM can be.
+#[inline(always)]
+fn load(ram: &[u8], rom: &[u8], rom_in: bool, at: u16) -> Result<u8, Op>
+    requires ram { length ram.now ≡ RAM_SIZE }
+    requires rom { length rom.now ≡ ROM_SIZE }
+    ensures { IsRead ram.now rom.now rom_in at result }
+{
+    if at < ROM_START {
+        Ok(ram[at as usize])
+    } else if is_tube(at) {
+        Err(Op::Read(tube_number(at)))
+    } else {
+        Ok(load_high(ram, rom, rom_in, at))
+    }
+}
+
+/// Does an access, or tells what it asks of the Tube. The byte of a write is 0.
+#[inline(always)]
+fn exchange(ram: &mut [u8], rom: &[u8], rom_in: bool, cycle: Cycle) -> Result<u8, Op>
+    requires ram { length ram.old ≡ RAM_SIZE }
+    requires rom { length rom.now ≡ ROM_SIZE }
+    ensures done { IsExchanged ram.old rom.now rom_in cycle result ram.new }
+    ensures length { length ram.new ≡ RAM_SIZE }
+{
+    match cycle {
+        Cycle::Read(at) => load(ram, rom, rom_in, at),
+        Cycle::Write(at, byte) => {
+            if is_tube(at) {
+                return Err(Op::Write(tube_number(at), byte));
+            }
+            ram[at as usize] = byte;
+            Ok(0)
+        }
     }
 }
 
@@ -179,39 +218,47 @@ impl ParaMachine {
         &self.ram
     }
 
-    // The next step, if it asks nothing; else what it asks.
+    // The next access, without its ticks, if it asks nothing; else what it asks.
     #[inline(always)]
-    fn step(&mut self) -> Ask
-        requires { self.old.at < 2 ^ 40 }
-        ensures { IsTold self.old result self.new }
+    fn access(&mut self) -> Option<Op>
+        requires { self.old.looks ≡ false }
+        ensures { IsDone self.old result self.new }
     {
-        if self.cpu.last() {
+        match exchange(&mut self.ram, &self.rom, self.rom_in, self.cpu.want()) {
+            Ok(byte) => {
+                self.cpu.give(byte);
+                None
+            }
+            Err(op) => Some(op),
+        }
+    }
+
+    // The look of the next step, or none where its tick is not below `until`.
+    #[inline(always)]
+    fn look(&mut self, until: Tick) -> Ask
+        requires { self.old.looks ≡ true }
+        ensures { (side : Side) → IsAsk para_moves side until.0 self.old result self.new }
+    {
+        if self.at < until.0 {
             return Ask::Look(Tick(self.at));
         }
-        match self.cpu.want() {
-            Cycle::Read(at) => {
-                if is_tube(at) {
-                    return Ask::Access(Tick(self.at), Op::Read(tube_number(at)));
-                }
-                let byte = load(&self.ram, &self.rom, self.rom_in, at);
-                self.cpu.give(byte);
-            }
-            Cycle::Write(at, byte) => {
-                if is_tube(at) {
-                    return Ask::Access(Tick(self.at), Op::Write(tube_number(at), byte));
-                }
-                self.ram[at as usize] = byte;
-                self.cpu.give(0);
-            }
-        }
-        self.closed = self.at + 1;
-        self.at += if self.cpu.last() { 1 } else { 2 };
+        self.closed = self.closed.max(until.0);
         Ask::Nothing
+    }
+
+    // The tick of the next step, and how far it is closed.
+    #[inline(always)]
+    fn stop(&mut self, at: u64, closed: u64)
+        ensures { self.new ≡ record self.old { at = at; closed = closed } }
+    {
+        self.at = at;
+        self.closed = closed;
     }
 }
 
 impl ParaMachine {
     // The Tube's answer to an access.
+    #[inline(never)]
     fn take_byte(&mut self, byte: u8)
         requires room { self.old.at < 2 ^ 40 }
         requires asked { IsAskedByte self.old }
@@ -223,14 +270,8 @@ impl ParaMachine {
         self.at += if self.cpu.last() { 1 } else { 2 };
     }
 
-    // Closed at a tick, or as far as it is closed already if that is further.
-    fn close(&mut self, until: Tick)
-        ensures { self.new ≡ record self.old { closed = max until.0 self.old.closed } }
-    {
-        self.closed = self.closed.max(until.0);
-    }
-
     // The Tube's lines at a look.
+    #[inline(always)]
     fn take_lines(&mut self, lines: Lines)
         requires room { self.old.at < 2 ^ 40 }
         requires looks { self.old.looks ≡ true }
@@ -275,18 +316,32 @@ impl Party for ParaMachine {
         Tick(self.at)
     }
 
+    // The tick is kept beside the machine, and written back where the run stops. In the caller's frame the compiler would load
+    // fields wider than they were stored, and each such load waits: so it is never inlined.
+    #[inline(never)]
     fn advance(&mut self, until: Tick) -> Ask {
-        while self.at < until.0 {
-            match self.step() {
-                Ask::Nothing => {}
-                Ask::Access(tick, op) => return Ask::Access(tick, op),
-                Ask::Look(tick) => return Ask::Look(tick),
-            }
+        if self.cpu.last() {
+            return self.look(until);
         }
-        self.close(until);
+        let mut at = self.at;
+        let mut closed = self.closed;
+        while at < until.0 {
+            if let Some(op) = self.access() {
+                self.stop(at, closed);
+                return Ask::Access(Tick(at), op);
+            }
+            closed = at + 1;
+            if self.cpu.last() {
+                self.stop(closed, closed);
+                return self.look(until);
+            }
+            at += 2;
+        }
+        self.stop(at, closed.max(until.0));
         Ask::Nothing
     }
 
+    #[inline(always)]
     fn answer(&mut self, answer: Answer) {
         match answer {
             Answer::Byte(byte) => self.take_byte(byte),
