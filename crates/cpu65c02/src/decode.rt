@@ -137,7 +137,7 @@ impl Machine {
     }
 
     /// The opcode is read.
-    #[inline(never)]
+    #[inline(always)]
     pub(crate) fn decode(&mut self, op: u8)
         requires { self.old.phase ≡ Phase.Opcode }
         ensures { GoesOn self.old op self.new }

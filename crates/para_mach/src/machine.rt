@@ -316,9 +316,8 @@ impl Party for ParaMachine {
         Tick(self.at)
     }
 
-    // The tick is kept beside the machine, and written back where the run stops. In the caller's frame the compiler would load
-    // fields wider than they were stored, and each such load waits: so it is never inlined.
-    #[inline(never)]
+    // The tick is kept beside the machine, and written back where the run stops.
+    #[inline(always)]
     fn advance(&mut self, until: Tick) -> Ask {
         if self.cpu.last() {
             return self.look(until);

@@ -6,7 +6,7 @@ ghost use Rattle.tube_party.specs.Replay.{next_line, replayed};
 ghost use Rattle.tube_party.specs.Tape.{own_left, IsOwnAt};
 
 use crate::party::{Ask, MOST, Party};
-use crate::tape::{catch_up, next_own, take};
+use crate::tape::{lines_at, next_own, take};
 use beeb_bits::{Side, Tick};
 use tube_chip::{Answer, Chip, Op};
 use tube_trace::Entry;
@@ -37,6 +37,8 @@ fn next_line(trace: &[Entry], at: usize) -> Option<(u64, Option<Doing>)>
 /// 1, or one past the trace where it has none, and what the party does there, if it does something. The party stops before that step,
 /// or, if it does nothing more, as it is at `n`.
 #[tactic(auto, unfolding(crate::specs::Replay::replayed))]
+// Kept out of its caller, so that the loop has the registers to itself.
+#[inline(never)]
 pub fn replay<M: Party>(
     mut machine: M,
     side: Side,
@@ -49,6 +51,7 @@ pub fn replay<M: Party>(
     ensures place { result.1 ≡ (replayed M.moves side trace.now n.0 (M.state machine)).place }
 {
     let mut chip = Chip::new();
+    let mut lines = chip.lines();
     let mut seen = 0;
     let mut at = 0;
     'steps: loop {
@@ -64,8 +67,8 @@ pub fn replay<M: Party>(
                 Err(line) => return (machine, Some((line, Some(Doing { tick, side, op })))),
             },
             Ask::Look(tick) => {
-                seen = catch_up(&mut chip, trace, seen, side, tick);
-                machine.answer(Answer::Seen(chip.lines()));
+                seen = lines_at(&mut chip, &mut lines, trace, seen, side, tick);
+                machine.answer(Answer::Seen(lines));
             }
         }
     }

@@ -1,13 +1,14 @@
 //! A trace as one side's machine meets it.
-ghost use Rattle.std.specs.Prelude.{◌≡◌, ◌≤◌, ◌<◌, ◌+◌, ℕ, length, drop, All, MatchResult, ◌&&◌, nat_lt};
+ghost use Rattle.std.specs.Prelude.{◌≡◌, ◌≤◌, ◌<◌, ◌+◌, ◌⊎◌, ℕ, length, drop, All, MatchResult, ◌&&◌, nat_lt};
 ghost use Rattle.beeb_bits.specs.declared.Side.{Side};
 ghost use Rattle.tube_chip.specs.Events.{is_side};
+ghost use Rattle.tube_chip.specs.State.{lines_of};
 ghost use Rattle.tube_trace.specs.Entries.{IsEntry};
 ghost use Rattle.tube_party.specs.Replay.{chip_before, same_op, is_that};
 ghost use Rattle.tube_party.specs.Tape.{own_left, IsOwnAt, Takes, Misses};
 
 use beeb_bits::{Side, Tick, before};
-use tube_chip::{Chip, Op};
+use tube_chip::{Chip, Lines, Op};
 use tube_trace::Entry;
 
 fn same_op(a: Op, b: Op) -> bool
@@ -64,9 +65,30 @@ pub(crate) fn take(trace: &[Entry], at: usize, tick: Tick, op: Op) -> Result<u8,
     }
 }
 
-/// Does the entries that come before a look of the side at a tick, from a place on, and gives the place of the first that doesn't.
-pub(crate) fn catch_up(
+// Does the entries that come before a look of the side at a tick, from a place on, and gives the place of the first that doesn't.
+fn catch_up(chip: &mut Chip, trace: &[Entry], seen: usize, side: Side, tick: Tick) -> usize
+    requires within { seen ≤ length trace.now }
+    requires entries { All IsEntry trace.now }
+    ensures within { result ≤ length trace.now }
+    ensures chip { chip.new ≡ chip_before side tick.0 chip.old (drop seen trace.now) }
+    ensures later { (t : ℕ) → tick.0 ≤ t → chip_before side t chip.old (drop seen trace.now) ≡ chip_before side t chip.new (drop result trace.now) }
+    ensures still { (chip.new ≡ chip.old) ⊎ (seen < result) }
+{
+    let mut at = seen;
+    while at < trace.len() && before(trace[at].tick, trace[at].side, tick, side) {
+        let entry = trace[at];
+        let _ = chip.apply(entry.side, entry.op);
+        at += 1;
+    }
+    at
+}
+
+/// The lines at a look of the side at a tick: the entries that come before it are done, from a place on, and the lines kept up with
+/// the chip. Gives the place of the first entry that does not come before it.
+#[inline(always)]
+pub(crate) fn lines_at(
     chip: &mut Chip,
+    lines: &mut Lines,
     trace: &[Entry],
     seen: usize,
     side: Side,
@@ -74,15 +96,15 @@ pub(crate) fn catch_up(
 ) -> usize
     requires within { seen ≤ length trace.now }
     requires entries { All IsEntry trace.now }
+    requires kept { lines.old ≡ lines_of chip.old }
     ensures within { result ≤ length trace.now }
     ensures chip { chip.new ≡ chip_before side tick.0 chip.old (drop seen trace.now) }
     ensures later { (t : ℕ) → tick.0 ≤ t → chip_before side t chip.old (drop seen trace.now) ≡ chip_before side t chip.new (drop result trace.now) }
+    ensures lines { lines.new ≡ lines_of chip.new }
 {
-    let mut at = seen;
-    while at < trace.len() && before(trace[at].tick, trace[at].side, tick, side) {
-        let entry = trace[at];
-        let _ = chip.apply(entry.side, entry.op);
-        at += 1;
+    let at = catch_up(chip, trace, seen, side, tick);
+    if at != seen {
+        *lines = chip.lines();
     }
     at
 }

@@ -57,7 +57,7 @@ answer-requires-in-Look g c =
     stands_look g.M.Party.moves c.args.n.0 _ _ c.advance-ask.result c.in-Look.tick c.advance-ask.ensures c.in-Look.is in
     let low : c.args.n.0 ≤ 1073741824 = c.requires.ticks in
     let below : g.M.Party.moves.due (g.M.Party.state c.advance-ask.new.self) < c.args.n.0 = stands.below in
-    asked_for g.M.Party.moves _ _ look (Seen c.lines.result) (omega arith) stands.asks tt
+    asked_for g.M.Party.moves _ _ look (Seen c.lines_at-seen.new.lines) (omega arith) stands.asks tt
 
 pub steps-smaller-in-Ok : goal.steps-smaller-in-Ok
 steps-smaller-in-Ok g c =
@@ -90,6 +90,7 @@ steps-preserved-in-Ok g c =
       goes = rw answered on;
       within = omega (arith, told.0);
       seen_within = c.steps.invariant.seen_within;
+      lines = c.steps.invariant.lines;
       chip = λ t h. c.steps.invariant.chip t (earlier m c.args.n.0 _ _ _ _ (access c.in-Access.op) g.met.M.Party.lawful stands answered t h);
     }
 
@@ -106,14 +107,15 @@ steps-preserved g c =
     goes_silent m c.args.side c.args.trace.now c.args.n.0 g.met.M.Party.lawful whole own stands.steps (g.M.Party.state c.steps.machine) _ before stands.runs in
     let at_look : m.due (g.M.Party.state c.steps.machine) ≤ m.due (g.M.Party.state c.advance-ask.new.self) = due_rises m c.args.n.0 stands.steps _ _ g.met.M.Party.lawful stands.runs in
     let due : ℕ = m.due (g.M.Party.state c.advance-ask.new.self) in
-    let chip_is : c.catch_up-seen.new.chip ≡ chip_before c.args.side due power_on c.args.trace.now =
-    rw stands.tick_is at c.catch_up-seen.ensures.chip ∙ sym (c.steps.invariant.chip due at_look) in
+    let chip_is : c.lines_at-seen.new.chip ≡ chip_before c.args.side due power_on c.args.trace.now =
+    rw stands.tick_is at c.lines_at-seen.ensures.chip ∙ sym (c.steps.invariant.chip due at_look) in
     let answered : g.M.Party.state c.answer-in-Look.new.self ≡ m.next (g.M.Party.state c.advance-ask.new.self) (Some (Seen (lines_of (chip_before c.args.side due power_on c.args.trace.now)))) =
-    c.answer-in-Look.ensures ∙ ap (λ l. m.next (g.M.Party.state c.advance-ask.new.self) (Some (Seen l))) (c.lines.ensures ∙ ap lines_of chip_is) in
+    c.answer-in-Look.ensures ∙ ap (λ l. m.next (g.M.Party.state c.advance-ask.new.self) (Some (Seen l))) (c.lines_at-seen.ensures.lines ∙ ap lines_of chip_is) in
     let on = goes_look m c.args.side c.args.trace.now c.args.n.0 g.met.M.Party.lawful whole _ own goes stands.below stands.asks in record {
       goes = rw answered on;
       within = c.next_own-at.ensures.within;
-      seen_within = c.catch_up-seen.ensures.within;
+      seen_within = c.lines_at-seen.ensures.within;
+      lines = c.lines_at-seen.ensures.lines;
       chip = λ t h. c.steps.invariant.chip t (earlier m c.args.n.0 _ _ _ _ look g.met.M.Party.lawful stands answered t h)
-          ∙ c.catch_up-seen.ensures.later t (rw stands.tick_is (after_look m c.args.n.0 _ _ _ _ look g.met.M.Party.lawful stands answered t h));
+          ∙ c.lines_at-seen.ensures.later t (rw stands.tick_is (after_look m c.args.n.0 _ _ _ _ look g.met.M.Party.lawful stands answered t h));
     }

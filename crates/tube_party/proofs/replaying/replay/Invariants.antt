@@ -1,5 +1,5 @@
 use Rattle.std.proofs.Common.{◌≡◌, ◌≤◌, ◌-◌, ℕ, length, drop}
-use Rattle.tube_chip.specs.State.{power_on}
+use Rattle.tube_chip.specs.State.{power_on, lines_of}
 use Rattle.tube_party.specs.Replay.{chip_before, replayed}
 use Rattle.tube_party.specs.Tape.{own_left}
 use Rattle.tube_party.proofs.ReplayLemmas.{Goes}
@@ -11,6 +11,7 @@ invariant-steps g l = record {
   goes : Goes g.M.Party.moves l.side l.trace l.n.0 (replayed g.M.Party.moves l.side l.trace l.n.0 (g.M.Party.state l.fn.machine)) (g.M.Party.state l.machine) (own_left l.trace l.side l.n.0 l.at);
   within : l.at ≤ length l.trace;
   seen_within : l.seen ≤ length l.trace;
+  lines : l.lines ≡ lines_of l.chip;
   -- the chip stands for the entries before a look from here on
   chip : (t : ℕ) → g.M.Party.moves.due (g.M.Party.state l.machine) ≤ t → chip_before l.side t power_on l.trace ≡ chip_before l.side t l.chip (drop l.seen l.trace);
 }
