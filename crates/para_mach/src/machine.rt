@@ -1,5 +1,5 @@
 //! The machine.
-ghost use Rattle.std.specs.Prelude.{◌≡◌, ◌≤◌, if◌then◌else◌, ◌≢◌, ◌↔◌, ◌⊎◌, ◌<◌, ◌%◌, ◌^◌, IfOk, IfErr, IsErrOf, length, Err, Some, None, MatchOption, IsSome, IsNone, false, true, max};
+ghost use Rattle.std.specs.Prelude.{◌≡◌, ◌≤◌, if◌then◌else◌, ◌≢◌, ◌↔◌, ◌⊎◌, ◌<◌, ◌%◌, ◌^◌, IfOk, IfErr, IsErrOf, length, Err, Some, None, MatchOption, IsSome, IsNone, false, true, max, slice_index};
 ghost use Rattle.tube_chip.specs.declared.Answer.TheVariants.{Byte, Seen};
 ghost use Rattle.beeb_bits.specs.declared.Side.{Side};
 ghost use Rattle.tube_party.specs.Moves.{IsAsk};
@@ -102,6 +102,15 @@ fn tube_number(at: u16) -> u8
     (at % 8) as u8
 }
 
+/// The byte of the RAM under the ROM. It stands alone so that the reads of the ROM need not wait for the choice.
+#[inline(never)]
+fn under_rom(ram: &[u8], at: u16) -> u8
+    requires { length ram.now ≡ RAM_SIZE }
+    ensures { result ≡ slice_index ram.now at }
+{
+    ram[at as usize]
+}
+
 /// The byte of an address from F800 on that is not the Tube's.
 #[inline(always)]
 fn load_high(ram: &[u8], rom: &[u8], rom_in: bool, at: u16) -> u8
@@ -113,7 +122,7 @@ fn load_high(ram: &[u8], rom: &[u8], rom_in: bool, at: u16) -> u8
     if rom_in {
         rom[(at - ROM_START) as usize]
     } else {
-        ram[at as usize]
+        under_rom(ram, at)
     }
 }
 

@@ -55,17 +55,21 @@ pub fn replay<M: Party>(
     let mut seen = 0;
     let mut at = 0;
     'steps: loop {
-        let ask = machine.advance(n);
-        at = next_own(trace, side, n, at);
-        match ask {
-            Ask::Nothing => return (machine, next_line(trace, at)),
-            Ask::Access(tick, op) => match take(trace, at, tick, op) {
-                Ok(byte) => {
-                    machine.answer(Answer::Byte(byte));
-                    at += 1;
+        match machine.advance(n) {
+            Ask::Nothing => {
+                let next = next_own(trace, side, n, at);
+                return (machine, next_line(trace, next));
+            }
+            Ask::Access(tick, op) => {
+                at = next_own(trace, side, n, at);
+                match take(trace, at, tick, op) {
+                    Ok(byte) => {
+                        machine.answer(Answer::Byte(byte));
+                        at += 1;
+                    }
+                    Err(line) => return (machine, Some((line, Some(Doing { tick, side, op })))),
                 }
-                Err(line) => return (machine, Some((line, Some(Doing { tick, side, op })))),
-            },
+            }
             Ask::Look(tick) => {
                 seen = lines_at(&mut chip, &mut lines, trace, seen, side, tick);
                 machine.answer(Answer::Seen(lines));
