@@ -17,23 +17,8 @@ use Rattle.tube_party.proofs.Ticks.{world, host_done, rest, host_next, host_sile
 use Rattle.tube_party.proofs.Meet.{event, First, Over, Silent, Asking, first_of_runs}
 use Rattle.tube_party.proofs.Kept.{kept_own, kept_host_by_para, kept_para_by_host, at_most_one}
 use Rattle.tube_party.proofs.UnderWay.{IsUnderWay}
+use Rattle.tube_party.proofs.ReplayLemmas.{due_rises}
 use Rattle.tube_party.proofs.First.{HostFirst, ParaFirst, host_first, para_first, none_left}
-
-silent_by : {S : Type 0} (r : Moves S) → IsLawful r → (side : Side) (n k : ℕ) (s m : S)
-    → ((u : S) → Runs r side n k u [] m → r.due u ≤ r.due m)
-    → First r side n (suc k) s [] m → r.due s ≤ r.due m
-silent_by r lr side n k s m on (Over e es) = let d : r.due s ≡ r.due m = ap r.due es in omega arith
-silent_by {S} r lr side n k s m on (Silent i ei low none runs) =
-    let same : suc i ≡ suc k = sym ei in
-    let again : r.due (r.next s None) ≤ r.due m = on (r.next s None) (subst (λ (x : ℕ). Runs r side n x (r.next s None) [] m) (omega arith) runs) in
-    omega (arith, lr.rises s None)
-silent_by r lr side n k s m on (Asking i q a others ei low is e runs) = cc
-
--- steps that ask nothing never go back
-pub silent_due : {S : Type 0} (r : Moves S) → IsLawful r → (side : Side) (n k : ℕ) (s m : S) → Runs r side n k s [] m → r.due s ≤ r.due m
-silent_due r lr side n zero s m h = let e : r.due s ≡ r.due m = ap r.due h.1 in omega arith
-silent_due r lr side n (suc k) s m h =
-    silent_by r lr side n k s m (λ u. silent_due r lr side n k u m) (first_of_runs r side n (suc k) s [] m h)
 
 -- a party after its step that asked, and then after those that ask nothing
 pub tick_of_pending : {S : Type 0} (r : Moves S) (side : Side) (n : ℕ) (s : S) (ask : Ask) → IsPending r side n s ask → left n ask + r.due s ≡ n
@@ -56,7 +41,7 @@ pub turn_smaller : {S : Type 0} (r : Moves S) → IsLawful r → (side : Side) (
 turn_smaller r lr side n keep s c list count s2 c2 list2 count2 ask ask2 pending t =
     let a : Answer = (act c side t.query).1 in
     let up : r.due s < r.due (r.next s (Some a)) = lr.rises s (Some a) in
-    let on : r.due (r.next s (Some a)) ≤ r.due t.advances.last = silent_due r lr Host n t.advances.steps (r.next s (Some a)) t.advances.last t.advances.runs in
+    let on : r.due (r.next s (Some a)) ≤ r.due t.advances.last = due_rises r n t.advances.steps (r.next s (Some a)) t.advances.last lr t.advances.runs in
     let low : r.due s < n = due_of_pending r side n s ask pending in
     omega (arith, tick_of_pending r side n s ask pending, left_of_ask r side n t.advances.last s2 ask2 (r.due s) (t.advances.asked side) low (omega arith))
 
@@ -128,7 +113,7 @@ module _ {S T : Type 0} (h : Moves S) (p : Moves T) (lh : IsLawful h) (lp : IsLa
       let a : Answer = (act c Host d.query).1 in
       let same_due : h.due s ≡ h.due w.host_last = ap h.due f.here in
       let up : h.due s < h.due (h.next s (Some a)) = lh.rises s (Some a) in
-      let on : h.due (h.next s (Some a)) ≤ h.due d.advances.last = silent_due h lh Host n d.advances.steps (h.next s (Some a)) d.advances.last d.advances.runs in
+      let on : h.due (h.next s (Some a)) ≤ h.due d.advances.last = due_rises h n d.advances.steps (h.next s (Some a)) d.advances.last lh d.advances.runs in
       let one : length (entry_of (h.due s) Host d.query a) ≤ 1 = at_most_one (h.due s) Host d.query a in
       record {
         host_last = d.advances.last;
@@ -159,7 +144,7 @@ module _ {S T : Type 0} (h : Moves S) (p : Moves T) (lh : IsLawful h) (lp : IsLa
       let a : Answer = (act c Para d.query).1 in
       let same_due : p.due t ≡ p.due w.para_last = ap p.due f.here in
       let up : p.due t < p.due (p.next t (Some a)) = lp.rises t (Some a) in
-      let on : p.due (p.next t (Some a)) ≤ p.due d.advances.last = silent_due p lp Host n d.advances.steps (p.next t (Some a)) d.advances.last d.advances.runs in
+      let on : p.due (p.next t (Some a)) ≤ p.due d.advances.last = due_rises p n d.advances.steps (p.next t (Some a)) d.advances.last lp d.advances.runs in
       let one : length (entry_of (p.due t) Para d.query a) ≤ 1 = at_most_one (p.due t) Para d.query a in
       record {
         host_last = w.host_last;
