@@ -1,6 +1,6 @@
 -- What is in range fits the bytes that it goes to.
-use Rattle.std.proofs.Common.{◌≡◌, ◌∙◌, sym, refl, ap, subst, ℕ, ◌+◌, ◌<◌, List, [], ◌∷◌, length, map, Bool, true, false, ◌||◌, ◌⊎◌, inl, inr, nat_le, Option, Some, None, if◌then◌else◌, arith, ◌&&◌}
-use Rattle.std.specs.List.{list_any, slice_get}
+use Rattle.std.proofs.Common.{◌≡◌, sym, refl, subst, ℕ, ◌+◌, ◌<◌, List, [], ◌∷◌, length, map, Bool, true, false, ◌||◌, ◌⊎◌, inl, inr, nat_le, Option, Some, None, if◌then◌else◌, arith, ◌&&◌}
+use Rattle.std.specs.List.{list_any}
 use Rattle.std.proofs.lemmas.Bool.Decides.{nat_tests}
 use Rattle.op_table.specs.declared.Part.{Part}
 use Rattle.op_table.specs.declared.Mnemonic.{Mnemonic}
@@ -10,7 +10,7 @@ use Rattle.op_table.specs.declared.Mode.TheVariants.{Imp, Acc, Imm, Zp, ZpX, ZpY
 use Rattle.op_table.specs.Names.{same_mnemonic}
 use Rattle.op_table.specs.Rows.{bytes_of}
 use Rattle.asm65.specs.declared.syntax.Value as code
-use Rattle.asm65.specs.Seen.{seen_value, seen_values}
+use Rattle.asm65.specs.Seen.{seen_value}
 use Rattle.asm65.specs.Syntax.{Value, Operand, nothing, accumulator, immediate, direct, direct_x, direct_y, indirect, indirect_x, indirect_y}
 use Rattle.asm65.specs.Placement.{is_byte, has_form, if_formed, shorter, parenthesized, mode_of, operand_values}
 use Rattle.asm65.specs.Source.{Labels, value_in, is_out, operand_out, operand_bytes}
@@ -150,18 +150,15 @@ fits_mode part name (indirect_y w) labels at way v vs m out e small =
     subst (λ (x : Mode). value_in labels v < room_of x) byte.0 fits
 
 -- the same of what the code holds
-pub operand_fits : (part : Part) (name : Mnemonic) (operand : Operand) (labels : Labels) (at : ℕ) (way : Mode) (values : List code.Value) (v : code.Value) (n : ℕ)
+pub operand_fits : (part : Part) (name : Mnemonic) (operand : Operand) (labels : Labels) (at : ℕ) (way : Mode) (v : code.Value) (n : ℕ)
     → Some way ≡ mode_of part name operand → operand_out labels at (mode_of part name operand) operand ≡ false
-    → seen_values values ≡ operand_values operand → Some v ≡ slice_get values 0
+    → seen_value v ∷ [] ≡ operand_values operand
     → n ≡ value_in labels (seen_value v) → (is_byte (seen_value v) ≡ true → base_or_zero labels (seen_value v) < 65536 → n < 256)
     → n < room_of way
-operand_fits part name operand labels at way [] v n m out e first is small = cc
-operand_fits part name operand labels at way (w ∷ values) v n m out e first is small =
-    let same : w ≡ v = cc in
-    let here : operand_values operand ≡ seen_value v ∷ seen_values values = sym e ∙ ap (λ (x : code.Value). seen_value x ∷ seen_values values) same in
+operand_fits part name operand labels at way v n m out e is small =
     let out_here = subst (λ (o : Option Mode). operand_out labels at o operand ≡ false) (sym m) out in
     let byte : FitsByte labels (seen_value v) = λ b h. subst (λ (k : ℕ). k < 256) is (small b h) in
-    subst (λ (k : ℕ). k < room_of way) (sym is) (fits_mode part name operand labels at way (seen_value v) (seen_values values) (sym m) out_here here byte)
+    subst (λ (k : ℕ). k < room_of way) (sym is) (fits_mode part name operand labels at way (seen_value v) [] (sym m) out_here (sym e) byte)
 
 -- ---- how many bytes an instruction has
 

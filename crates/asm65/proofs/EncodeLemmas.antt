@@ -1,6 +1,6 @@
 -- The second pass line by line.
-use Rattle.std.proofs.Common.{◌≡◌, ◌∙◌, sym, refl, ℕ, ◌+◌, ◌-◌, ◌*◌, ◌≤◌, List, [], ◌∷◌, ◌++◌, length, map, replicate, false, ◌||◌, nat_lt, Option, Some, None, append_assoc, append-nil, length-append, add-zero, arith}
-use Rattle.std.specs.List.{concat}
+use Rattle.std.proofs.Common.{◌≡◌, ◌∙◌, sym, refl, ℕ, ◌+◌, ◌-◌, ◌*◌, ◌≤◌, List, [], ◌∷◌, ◌++◌, length, map, replicate, Bool, true, false, ◌||◌, nat_lt, Option, Some, None, append_assoc, append-nil, length-append, add-zero, arith}
+use Rattle.std.specs.List.{concat, list_any}
 use Rattle.std.proofs.lemmas.List.{length-map, length-replicate}
 use Rattle.std.proofs.lemmas.Bool.Decides.{nat_tests}
 use Rattle.op_table.specs.declared.Part.{Part}
@@ -13,6 +13,14 @@ use Rattle.asm65.specs.Source.{Labels, value_in, word_bytes, instruction_bytes, 
 use Rattle.asm65.specs.Passes.{IsEncoded, IsProgram, line_is_long, program_bytes}
 use Rattle.asm65.proofs.EmitLemmas.{neither, length-encoded}
 use Rattle.asm65.proofs.PassLemmas.{Clear, clear_line}
+
+-- a test of one value
+pub any_one : (p : Value → Bool) (v : Value) → list_any p (v ∷ []) ≡ p v
+any_one p v = by_test (p v)
+  where
+    by_test : (b : Bool) → (b || false) ≡ b
+    by_test true = refl
+    by_test false = refl
 
 -- ---- how many bytes a line makes
 

@@ -1,5 +1,5 @@
 -- The passes line by line.
-use Rattle.std.proofs.Common.{◌≡◌, ◌∙◌, sym, refl, ap, ℕ, ◌+◌, List, [], ◌∷◌, ◌++◌, map, Bool, true, false, Option, Some, None, is_some, option_to_list, if◌then◌else◌, append_assoc, append-nil, ◌⊎◌, inl, inr}
+use Rattle.std.proofs.Common.{◌≡◌, ◌∙◌, sym, refl, ap, ℕ, ◌+◌, List, [], ◌∷◌, ◌++◌, map, Bool, true, false, not, Option, Some, None, is_some, option_to_list, if◌then◌else◌, append_assoc, append-nil, ◌⊎◌, inl, inr}
 use Rattle.std.specs.Borrow.{Bor}
 use Rattle.std.specs.BTreeMap.{BTreeMap}
 use Rattle.std.specs.List.{list_any}
@@ -34,6 +34,18 @@ clear_line part number names at line e =
     let c = not_this (is_past at line.statement) (OutOfRange number) _ b.1 in
     let d = not_this (is_long part at line.statement) (TooLong number) None c.1 in
     record { formed = a.0; new = b.0; within = c.0; short = d.0 }
+
+-- what the first pass has against a line whose statement has its form, and whose label is new
+pub fault_behind : (part : Part) (number : ℕ) (names : List (List ℕ)) (at : ℕ) (line : Line) (e : AsmError)
+    → formless part line.statement ≡ false → list_any (is_among names) (option_to_list line.label) ≡ false
+    → or_else (is_past at line.statement) (OutOfRange number) (or_else (is_long part at line.statement) (TooLong number) None) ≡ Some e
+    → first_fault part number names at (Some line) ≡ Some e
+fault_behind part number names at line e formed new fault = rw (formed, new) fault
+
+-- no other label has the name of one that is new
+pub none_among : (new among : Bool) → new ≡ true → new ≡ not among → among ≡ false
+none_among new true is e = cc
+none_among new false is e = refl
 
 -- want of memory, or a fault
 pub at_fault : {P Q R : Type 0} → (Q → R) → P ⊎ Q → P ⊎ R

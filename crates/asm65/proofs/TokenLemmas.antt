@@ -1,10 +1,8 @@
 -- A text by its first line, and the code of a line from its end.
-use Rattle.std.proofs.Common.{◌≡◌, ◌∙◌, sym, refl, ap, ℕ, ◌+◌, ◌-◌, ◌<◌, ◌≤◌, List, [], ◌∷◌, length, get_or, take, drop, not, Bool, true, false, ◌==◌, arith, one-add, suc}
+use Rattle.std.proofs.Common.{◌≡◌, ◌∙◌, sym, refl, ap, ℕ, ◌+◌, ◌-◌, ◌<◌, ◌≤◌, List, [], ◌∷◌, length, take, drop, not, Bool, true, false, ◌==◌, arith, one-add}
 use Rattle.std.specs.List.{prefix_len}
-use Rattle.std.proofs.lemmas.List.{take_all, drop_all, drop_more, length-drop}
-use Rattle.asm65.specs.declared.tokens.Token.{Token}
-use Rattle.asm65.specs.Tokens.{lines_of, cut, cut_with, is_word_byte}
-use Rattle.asm65.specs.Seen.{seen_cut}
+use Rattle.std.proofs.lemmas.List.{take_all, drop_all, length-drop}
+use Rattle.asm65.specs.Tokens.{lines_of, Cut, cut, cut_with, joined, tokens_of, is_word_byte, is_blank}
 
 -- how many bytes stand before the first line feed
 abbrev pub before_feed : List ℕ → ℕ
@@ -37,22 +35,47 @@ line_to_end text n h e end =
     let past : drop (1 + before_feed text) text ≡ [] = drop_all (1 + before_feed text) text (omega arith) in
     rw (none, e) (first_line_of text h ∙ rw past refl)
 
--- one byte more to the front: of a run, or of none
-pub cut_run : (code : List ℕ) (i j end : ℕ) (ts : List Token) → i ≡ j + 1 → i ≤ end → j < length code
-    → cut (drop i code) ≡ seen_cut (take (end - i) (drop i code)) ts → is_word_byte (get_or code j 0) ≡ true
-    → cut (drop j code) ≡ seen_cut (take (end - j) (drop j code)) ts
-cut_run code i j end ts e h k so_far is =
-    let more : drop j code ≡ get_or code j 0 ∷ drop (j + 1) code = drop_more code j 0 k in
-    let size : end - j ≡ suc (end - (j + 1)) = omega arith in
-    let before = rw e at so_far in
-    rw (more, size, before, is) refl
+-- ---- the run at the front of code, and the tokens behind it
 
-pub cut_byte : (code : List ℕ) (i j end : ℕ) (ts us : List Token) → i ≡ j + 1 → j < length code
-    → cut (drop i code) ≡ seen_cut (take (end - i) (drop i code)) ts
-    → seen_cut [] us ≡ cut_with (get_or code j 0) (seen_cut (take (end - (j + 1)) (drop (j + 1) code)) ts)
-    → cut (drop j code) ≡ seen_cut (take (j - j) (drop j code)) us
-cut_byte code i j end ts us e k so_far put =
-    let more : drop j code ≡ get_or code j 0 ∷ drop (j + 1) code = drop_more code j 0 k in
-    let none : j - j ≡ 0 = omega arith in
-    let before = rw e at so_far in
-    rw (none, more) (ap (cut_with (get_or code j 0)) before ∙ sym put)
+-- a byte of no run ends it
+no_run : (b : ℕ) (c : Cut) → is_word_byte b ≡ false → (cut_with b c).run ≡ []
+no_run b c e = by_tests (b == 38) (is_blank b) refl refl
+  where
+    by_tests : (h k : Bool) → (b == 38) ≡ h → is_blank b ≡ k → (cut_with b c).run ≡ []
+    by_tests true k p q = rw (e, p) refl
+    by_tests false true p q = rw (e, p, q) refl
+    by_tests false false p q = rw (e, p, q) refl
+
+no_word : (c : Cut) → c.run ≡ [] → c.tokens ≡ joined c
+no_word c e = rw e refl
+
+-- the run is the longest that stands in front, and the other tokens are those of what is behind it
+abbrev RunIs : List ℕ → ℕ → Type 0
+RunIs code n = ((cut code).run ≡ take n code) × ((cut code).tokens ≡ tokens_of (drop n code))
+
+run_in : (b : ℕ) (code : List ℕ) (t : Bool) → is_word_byte b ≡ t → RunIs code (prefix_len is_word_byte code)
+    → RunIs (b ∷ code) (prefix_len is_word_byte (b ∷ code))
+run_in b code true e rest = rw (e, one-add (prefix_len is_word_byte code)) (ap (λ run. b ∷ run) rest.0, rest.1)
+run_in b code false e rest =
+    let none : prefix_len is_word_byte (b ∷ code) ≡ 0 = rw e refl in
+    rw none (no_run b (cut code) e, no_word (cut_with b (cut code)) (no_run b (cut code) e))
+
+pub run_is : (code : List ℕ) (n : ℕ) → n ≡ prefix_len is_word_byte code → RunIs code n
+run_is code n e = rw e (all code)
+  where
+    all : (code : List ℕ) → RunIs code (prefix_len is_word_byte code)
+    all [] = (refl, refl)
+    all (b ∷ code) = run_in b code (is_word_byte b) refl (all code)
+
+pub run_rest : (code : List ℕ) (n : ℕ) → n ≡ prefix_len is_word_byte code → n ≤ length code
+    → (cut code).tokens ≡ tokens_of (take (length code - n) (drop n code))
+run_rest code n e within =
+    let all : take (length code - n) (drop n code) ≡ drop n code = take_all _ _ (omega (arith, length-drop n code)) in
+    rw all (run_is code n e).1
+
+-- the run of a word has a byte
+pub word_has_byte : (first : ℕ) (behind code run : List ℕ) → code ≡ first ∷ behind → true ≡ is_word_byte first → (cut code).run ≡ run → 0 < length run
+word_has_byte first behind code run e is r =
+    let begins : (cut code).run ≡ first ∷ (cut behind).run = rw (e, sym is) refl in
+    let front : run ≡ first ∷ (cut behind).run = sym r ∙ begins in
+    rw front (omega arith)

@@ -1,125 +1,173 @@
--- Tokens by their groups, and values one by one.
-use Rattle.std.proofs.Common.{◌≡◌, refl, ℕ, ◌+◌, ◌<◌, Bool, true, false, List, [], ◌∷◌, ◌++◌, length, take, drop, Option, Some, None, option_map, arith, one-add, suc, ◌≤◌, ◌-◌, option_and_then, if◌then◌else◌}
-use Rattle.std.specs.Borrow.{Bor}
-use Rattle.std.specs.List.{prefix_len}
-use Rattle.std.proofs.lemmas.List.{take_all, length-drop}
-use Rattle.asm65.specs.declared.tokens.Token.{Token}
-use Rattle.asm65.specs.declared.tokens.Token.TheVariants.{Word, Hex, Colon, Comma, Hash, Left, Right, Low, High, Plus, Other}
-use Rattle.asm65.specs.Tokens as tokens
-use Rattle.asm65.specs.declared.syntax.Value.{Value}
+-- A list of values by its first one, and a line by its label.
+use Rattle.std.proofs.Common.{◌≡◌, ◌∙◌, sym, refl, ap, ℕ, Bool, true, false, List, [], ◌∷◌, map, Option, Some, None, option_map, if◌then◌else◌, is_some}
+use Rattle.asm65.specs.Tokens.{Token, word, hex, colon, comma, low, high, plus}
 use Rattle.asm65.specs.Syntax as syntax
-use Rattle.asm65.specs.Seen.{seen_token, seen_tokens, seen_values, is_no_comma, label_in_front, behind_hash, behind_left, bare_operand}
-
--- the values that were read, and those of the tokens that are left
-abbrev pub values_behind : List Value → Option (Bor (List Token)) → Option (List syntax.Value)
-values_behind values None = Some (seen_values values)
-values_behind values (Some rest) = option_map (λ more. seen_values values ++ more) (syntax.values_of (seen_tokens rest.now))
-
-abbrev pub length_left : Option (Bor (List Token)) → ℕ
-length_left None = 0
-length_left (Some rest) = 1 + length rest.now
-
--- ---- groups
-
-group_of_other : (t : Token) (ts : List tokens.Token) → is_no_comma t ≡ true
-    → syntax.groups_of (seen_token t ∷ ts) ≡ syntax.group_with (seen_token t) (syntax.groups_of ts)
-group_of_other (Word run) ts e = refl
-group_of_other (Hex run) ts e = refl
-group_of_other Colon ts e = refl
-group_of_other Comma ts e = cc
-group_of_other Hash ts e = refl
-group_of_other Left ts e = refl
-group_of_other Right ts e = refl
-group_of_other Low ts e = refl
-group_of_other High ts e = refl
-group_of_other Plus ts e = refl
-group_of_other Other ts e = refl
-
-group_of_comma : (t : Token) (ts : List tokens.Token) → is_no_comma t ≡ false → syntax.groups_of (seen_token t ∷ ts) ≡ [] ∷ syntax.groups_of ts
-group_of_comma (Word run) ts e = cc
-group_of_comma (Hex run) ts e = cc
-group_of_comma Colon ts e = cc
-group_of_comma Comma ts e = refl
-group_of_comma Hash ts e = cc
-group_of_comma Left ts e = cc
-group_of_comma Right ts e = cc
-group_of_comma Low ts e = cc
-group_of_comma High ts e = cc
-group_of_comma Plus ts e = cc
-group_of_comma Other ts e = cc
-
--- how many tokens stand before the first comma
-abbrev before_comma : List Token → ℕ
-before_comma ts = prefix_len is_no_comma ts
-
-first_group_in : (t : Token) (ts : List Token) (b : Bool) → is_no_comma t ≡ b
-    → (before_comma ts < length ts → syntax.groups_of (seen_tokens ts) ≡ seen_tokens (take (before_comma ts) ts) ∷ syntax.groups_of (seen_tokens (drop (1 + before_comma ts) ts)))
-    → before_comma (t ∷ ts) < length (t ∷ ts)
-    → syntax.groups_of (seen_tokens (t ∷ ts)) ≡ seen_tokens (take (before_comma (t ∷ ts)) (t ∷ ts)) ∷ syntax.groups_of (seen_tokens (drop (1 + before_comma (t ∷ ts)) (t ∷ ts)))
-first_group_in t ts true e rest h =
-    let size : before_comma (t ∷ ts) ≡ suc (before_comma ts) = rw e (one-add (before_comma ts)) in
-    let some : before_comma ts < length ts = omega arith in
-    rw (size, group_of_other t (seen_tokens ts) e, rest some) (simp one-add)
-first_group_in t ts false e rest h =
-    let size : before_comma (t ∷ ts) ≡ 0 = rw e refl in
-    rw (size, group_of_comma t (seen_tokens ts) e) refl
-
-first_group_of : (ts : List Token) → before_comma ts < length ts
-    → syntax.groups_of (seen_tokens ts) ≡ seen_tokens (take (before_comma ts) ts) ∷ syntax.groups_of (seen_tokens (drop (1 + before_comma ts) ts))
-first_group_of [] h = absurd (omega arith)
-first_group_of (t ∷ ts) h = first_group_in t ts (is_no_comma t) refl (first_group_of ts) h
-
-pub group_before_comma : (ts : List Token) (n : ℕ) → n ≡ before_comma ts → n < length ts
-    → syntax.groups_of (seen_tokens ts) ≡ seen_tokens (take n ts) ∷ syntax.groups_of (seen_tokens (take (length ts - (n + 1)) (drop (n + 1) ts)))
-group_before_comma ts n e h =
-    let all : take (length ts - (n + 1)) (drop (n + 1) ts) ≡ drop (n + 1) ts = take_all _ _ (omega (arith, length-drop (n + 1) ts)) in
-    let swap : n + 1 ≡ 1 + before_comma ts = omega arith in
-    rw (all, swap, e) (first_group_of ts (omega arith))
-
-group_to_end_in : (t : Token) (ts : List Token) (b : Bool) → is_no_comma t ≡ b
-    → (length ts ≤ before_comma ts → syntax.groups_of (seen_tokens ts) ≡ seen_tokens ts ∷ [])
-    → length (t ∷ ts) ≤ before_comma (t ∷ ts)
-    → syntax.groups_of (seen_tokens (t ∷ ts)) ≡ seen_tokens (t ∷ ts) ∷ []
-group_to_end_in t ts true e rest h =
-    let size : before_comma (t ∷ ts) ≡ suc (before_comma ts) = rw e (one-add (before_comma ts)) in
-    let none : length ts ≤ before_comma ts = omega arith in
-    rw (group_of_other t (seen_tokens ts) e, rest none) refl
-group_to_end_in t ts false e rest h =
-    let size : before_comma (t ∷ ts) ≡ 0 = rw e refl in
-    absurd (omega arith)
-
-pub group_to_end : (ts : List Token) (n : ℕ) → n ≡ before_comma ts → length ts ≤ n → syntax.groups_of (seen_tokens ts) ≡ seen_tokens ts ∷ []
-group_to_end ts n e h = go ts (omega arith)
-  where
-    go : (ts : List Token) → length ts ≤ before_comma ts → syntax.groups_of (seen_tokens ts) ≡ seen_tokens ts ∷ []
-    go [] h = refl
-    go (t ∷ ts) h = group_to_end_in t ts (is_no_comma t) refl (go ts) h
+use Rattle.asm65.specs.Seen.{label_in_front, values_until, listed}
 
 -- ---- lines
 
 -- a line by the label in front
-abbrev pub line_behind : List tokens.Token → Option (List ℕ × List tokens.Token) → Option syntax.Line
+abbrev pub line_behind : List Token → Option (List ℕ × List Token) → Option syntax.Line
 line_behind ts None = option_map (λ s. record { label = None; statement = s }) (syntax.rest_of ts)
 line_behind ts (Some r) =
     if syntax.is_label r.0 then option_map (λ s. record { label = Some r.0; statement = s }) (syntax.rest_of r.1) else None
 
-pub line_of_front : (ts : List tokens.Token) → syntax.line_of ts ≡ line_behind ts (label_in_front ts)
+pub line_of_front : (ts : List Token) → syntax.line_of ts ≡ line_behind ts (label_in_front ts)
 line_of_front [] = refl
-line_of_front (tokens.word run ∷ tokens.colon ∷ ts) = refl
+line_of_front (word run ∷ colon ∷ ts) = refl
 line_of_front ts = refl
 
--- ---- operands
+-- ---- the first group of tokens, and the groups behind it
 
--- an operand by the mark in front
-abbrev pub operand_behind : List tokens.Token → Option (List tokens.Token) → Option (List tokens.Token) → Option syntax.Operand
-operand_behind ts (Some rest) left = option_and_then (λ r. syntax.after_hash r) (syntax.value_at rest)
-operand_behind ts None (Some rest) = option_and_then (λ r. syntax.after_left r.0 r.1) (syntax.value_at rest)
-operand_behind ts None None = bare_operand ts
+front : List Token → List Token
+front [] = []
+front (comma ∷ ts) = []
+front (t ∷ ts) = t ∷ front ts
 
-pub operand_of_mark : (ts : List tokens.Token) → syntax.operand_of ts ≡ operand_behind ts (behind_hash ts) (behind_left ts)
-operand_of_mark [] = refl
-operand_of_mark (tokens.hash ∷ ts) = refl
-operand_of_mark (tokens.left ∷ ts) = refl
-operand_of_mark (tokens.word run ∷ []) = refl
-operand_of_mark (tokens.word run ∷ t ∷ ts) = refl
-operand_of_mark ts = refl
+behind : List Token → List (List Token)
+behind [] = []
+behind (comma ∷ ts) = syntax.groups_of ts
+behind (t ∷ ts) = behind ts
+
+groups_by_front : (ts : List Token) → syntax.groups_of ts ≡ front ts ∷ behind ts
+unfolding front behind
+groups_by_front [] = refl
+groups_by_front (comma ∷ ts) = refl
+groups_by_front (t ∷ ts) = rw (groups_by_front ts) refl
+
+-- What is read at the front of tokens ends before the first comma.
+abbrev fronted : {X : Type 0} → Option (X × List Token) → Option (X × List Token)
+fronted None = None
+fronted (Some r) = Some (r.0, front r.1)
+
+abbrev SameBehind : {X : Type 0} → Option (X × List Token) → List (List Token) → Type 0
+SameBehind None groups = Unit {0}
+SameBehind (Some r) groups = behind r.1 ≡ groups
+
+-- It is what is read there of those tokens, with the same groups behind it.
+abbrev InFront : {X : Type 0} → Option (X × List Token) → Option (X × List Token) → List (List Token) → Type 0
+InFront read in_front groups = (fronted read ≡ in_front) × SameBehind read groups
+
+beyond_front : (name : List ℕ) (ts : List Token) (o : Option syntax.Number)
+    → InFront (option_map (λ n. (syntax.beyond name n, ts)) o) (option_map (λ n. (syntax.beyond name n, front ts)) o) (behind ts)
+beyond_front name ts None = (refl, tt)
+beyond_front name ts (Some n) = (refl, refl)
+
+label_front : (name : List ℕ) (ts : List Token) → InFront (syntax.label_at name ts) (syntax.label_at name (front ts)) (behind ts)
+unfolding front behind
+label_front name [] = (refl, refl)
+label_front name (plus ∷ []) = (refl, tt)
+label_front name (plus ∷ word run ∷ ts) = beyond_front name ts (syntax.decimal_number run)
+label_front name (plus ∷ hex run ∷ ts) = beyond_front name ts (syntax.hex_number run)
+label_front name (plus ∷ t ∷ ts) = (refl, tt)
+label_front name (t ∷ ts) = (refl, refl)
+
+word_front : (run : List ℕ) (ts : List Token) (o : Option syntax.Number) → InFront (syntax.word_at run ts o) (syntax.word_at run (front ts) o) (behind ts)
+word_front run ts (Some n) = (refl, refl)
+word_front run ts None = by_test (syntax.is_label run)
+  where
+    by_test : (b : Bool) → InFront (if b then syntax.label_at run ts else None) (if b then syntax.label_at run (front ts) else None) (behind ts)
+    by_test true = label_front run ts
+    by_test false = (refl, tt)
+
+hex_front : (ts : List Token) (o : Option syntax.Number)
+    → InFront (option_map (λ n. (syntax.number n, ts)) o) (option_map (λ n. (syntax.number n, front ts)) o) (behind ts)
+hex_front ts None = (refl, tt)
+hex_front ts (Some n) = (refl, refl)
+
+base_front : (ts : List Token) → InFront (syntax.base_at ts) (syntax.base_at (front ts)) (behind ts)
+unfolding front behind
+base_front [] = (refl, tt)
+base_front (word run ∷ ts) = word_front run ts (syntax.decimal_number run)
+base_front (hex run ∷ ts) = hex_front ts (syntax.hex_number run)
+base_front (t ∷ ts) = (refl, tt)
+
+portion_front : (portion : syntax.Portion) (read in_front : Option (syntax.Base × List Token)) (groups : List (List Token))
+    → InFront read in_front groups → InFront (syntax.portion_of portion read) (syntax.portion_of portion in_front) groups
+portion_front portion None in_front groups h = (ap (syntax.portion_of portion) h.0, tt)
+portion_front portion (Some r) in_front groups h = (ap (syntax.portion_of portion) h.0, h.1)
+
+value_front : (ts : List Token) → InFront (syntax.value_at ts) (syntax.value_at (front ts)) (behind ts)
+unfolding front behind
+value_front [] = (refl, tt)
+value_front (low ∷ ts) = portion_front syntax.low_byte (syntax.base_at ts) (syntax.base_at (front ts)) (behind ts) (base_front ts)
+value_front (high ∷ ts) = portion_front syntax.high_byte (syntax.base_at ts) (syntax.base_at (front ts)) (behind ts) (base_front ts)
+value_front (comma ∷ ts) = (refl, tt)
+value_front (t ∷ ts) = portion_front syntax.whole (syntax.base_at (t ∷ ts)) (syntax.base_at (front (t ∷ ts))) (behind (t ∷ ts)) (base_front (t ∷ ts))
+
+-- ---- a list by its first value
+
+-- a value and the tokens behind its comma, if one stands there, or none
+abbrev pub first_of : Option (syntax.Value × List Token) → Option (syntax.Value × Option (List Token))
+first_of None = None
+first_of (Some (v, [])) = Some (v, None)
+first_of (Some (v, comma ∷ ts)) = Some (v, Some ts)
+first_of (Some (v, t ∷ ts)) = None
+
+-- what is read of each group
+abbrev pub read : List Token → List (Option syntax.Value)
+read ts = map (λ group. syntax.only_value (syntax.value_at group)) (syntax.groups_of ts)
+
+abbrev read_behind : List Token → List (Option syntax.Value)
+read_behind ts = map (λ group. syntax.only_value (syntax.value_at group)) (behind ts)
+
+abbrev by_first : List Token → Option (syntax.Value × Option (List Token)) → List (Option syntax.Value)
+by_first ts None = None ∷ read_behind ts
+by_first ts (Some (v, None)) = Some v ∷ []
+by_first ts (Some (v, Some rest)) = Some v ∷ read rest
+
+read_first : (ts : List Token) (o : Option (syntax.Value × List Token)) → SameBehind o (behind ts)
+    → syntax.only_value (fronted o) ∷ read_behind ts ≡ by_first ts (first_of o)
+unfolding front behind
+read_first ts None h = refl
+read_first ts (Some (v, [])) h = ap (λ (groups : List (List Token)). Some v ∷ map (λ group. syntax.only_value (syntax.value_at group)) groups) (sym h)
+read_first ts (Some (v, comma ∷ rest)) h = ap (λ (groups : List (List Token)). Some v ∷ map (λ group. syntax.only_value (syntax.value_at group)) groups) (sym h)
+read_first ts (Some (v, t ∷ rest)) h = refl
+
+read_by_first : (ts : List Token) → read ts ≡ by_first ts (first_of (syntax.value_at ts))
+read_by_first ts =
+    let value = value_front ts in
+    rw (groups_by_front ts, sym value.0) (read_first ts (syntax.value_at ts) value.1)
+
+abbrev pub listed_by : Option (syntax.Value × Option (List Token)) → List syntax.Value
+listed_by None = []
+listed_by (Some (v, None)) = v ∷ []
+listed_by (Some (v, Some rest)) = v ∷ listed rest
+
+pub listed_first : (ts : List Token) → listed ts ≡ listed_by (first_of (syntax.value_at ts))
+unfolding listed
+listed_first ts = ap values_until (read_by_first ts) ∙ by_cases (first_of (syntax.value_at ts))
+  where
+    by_cases : (o : Option (syntax.Value × Option (List Token))) → values_until (by_first ts o) ≡ listed_by o
+    by_cases None = refl
+    by_cases (Some (v, None)) = refl
+    by_cases (Some (v, Some rest)) = refl
+
+abbrev pub values_by : Option (syntax.Value × Option (List Token)) → Option (List syntax.Value)
+values_by None = None
+values_by (Some (v, None)) = Some (v ∷ [])
+values_by (Some (v, Some rest)) = option_map (λ values. v ∷ values) (syntax.values_of rest)
+
+pub values_first : (ts : List Token) → syntax.values_of ts ≡ values_by (first_of (syntax.value_at ts))
+values_first ts = ap syntax.all_of (read_by_first ts) ∙ by_cases (first_of (syntax.value_at ts))
+  where
+    by_cases : (o : Option (syntax.Value × Option (List Token))) → syntax.all_of (by_first ts o) ≡ values_by o
+    by_cases None = refl
+    by_cases (Some (v, None)) = refl
+    by_cases (Some (v, Some rest)) = refl
+
+-- ---- a whole list
+
+until_all : (os : List (Option syntax.Value)) → is_some (syntax.all_of os) ≡ true → syntax.all_of os ≡ Some (values_until os)
+until_all [] e = refl
+until_all (None ∷ os) e = cc
+until_all (Some v ∷ os) e = more (syntax.all_of os) e (until_all os)
+  where
+    more : (o : Option (List syntax.Value)) → is_some (option_map (λ vs. v ∷ vs) o) ≡ true → (is_some o ≡ true → o ≡ Some (values_until os))
+        → option_map (λ vs. v ∷ vs) o ≡ Some (v ∷ values_until os)
+    more None e h = cc
+    more (Some vs) e h = ap (option_map (λ ws. v ∷ ws)) (h refl)
+
+pub listed_all : (ts : List Token) → is_some (syntax.values_of ts) ≡ true → syntax.values_of ts ≡ Some (listed ts)
+unfolding listed
+listed_all ts e = until_all (read ts) e

@@ -1,46 +1,31 @@
 -- What a line of tokens means: an optional label and an optional statement.
-use Rattle.std.specs.Prelude.{ℕ, ◌+◌, ◌-◌, ◌*◌, ◌==◌, ◌&&◌, ◌||◌, nat_le, nat_lt, Bool, false, not, List, [], ◌∷◌, length, map, Option, Some, None, option_map, option_and_then, if◌then◌else◌, codes}
+use Rattle.std.specs.Prelude.{ℕ, ◌==◌, ◌&&◌, ◌||◌, nat_le, nat_lt, Bool, false, not, List, [], ◌∷◌, length, map, Option, Some, None, option_map, option_and_then, if◌then◌else◌, codes}
 use Rattle.std.specs.List.{list_all}
 use Rattle.std.specs.Str.{bytes_eq}
 use Rattle.std.specs.Char.{to_ascii_uppercase}
 use Rattle.op_table.specs.declared.Mnemonic.{Mnemonic}
 use Rattle.op_table.specs.Names.{mnemonic_of}
-use Rattle.asm65.specs.Tokens.{Token, word, hex, colon, comma, hash, left, right, low, high, plus, other, is_letter, is_digit, lines_of, code_of, tokens_of}
+use Rattle.digits.specs.Decimal.{is_digit, decimal_value}
+use Rattle.digits.specs.Hexadecimal.{is_hex_any_case, hex_number as hex_value}
+use Rattle.asm65.specs.Tokens.{Token, word, hex, colon, comma, hash, left, right, low, high, plus, other, is_letter, lines_of, code_of, tokens_of}
 
 -- Numbers. A byte-sized one takes one byte where the form allows it.
 pub record Number : Type 0 where
   pub value : ℕ
   pub byte_sized : Bool
 
--- the value of decimal digits behind a number
-abbrev pub decimal_from : ℕ → List ℕ → ℕ
-decimal_from n [] = n
-decimal_from n (b ∷ digits) = decimal_from (10 * n + (b - 48)) digits
-
--- a digit, `A` to `F` or `a` to `f`
-abbrev pub is_hex : ℕ → Bool
-is_hex b = is_digit b || (nat_le 65 b && nat_le b 70) || (nat_le 97 b && nat_le b 102)
-
-abbrev pub hex_value : ℕ → ℕ
-hex_value b = if nat_lt b 65 then b - 48 else if nat_lt b 97 then b - 55 else b - 87
-
--- the value of hexadecimal digits behind a number
-abbrev pub hex_from : ℕ → List ℕ → ℕ
-hex_from n [] = n
-hex_from n (b ∷ digits) = hex_from (16 * n + hex_value b) digits
-
 -- a decimal number of at most 5 digits, byte-sized below 256
 abbrev pub decimal_number : List ℕ → Option Number
 decimal_number run =
     if list_all is_digit run && nat_le 1 (length run) && nat_le (length run) 5
-    then Some (record { value = decimal_from 0 run; byte_sized = nat_lt (decimal_from 0 run) 256 })
+    then Some (record { value = decimal_value run; byte_sized = nat_lt (decimal_value run) 256 })
     else None
 
 -- a hexadecimal number of 1 to 4 digits, byte-sized with 1 or 2
 abbrev pub hex_number : List ℕ → Option Number
 hex_number run =
-    if list_all is_hex run && nat_le 1 (length run) && nat_le (length run) 4
-    then Some (record { value = hex_from 0 run; byte_sized = nat_le (length run) 2 })
+    if list_all is_hex_any_case run && nat_le 1 (length run) && nat_le (length run) 4
+    then Some (record { value = hex_value run; byte_sized = nat_le (length run) 2 })
     else None
 
 -- the number of a token
@@ -160,37 +145,71 @@ pub data Operand : Type 0 where
   -- `(E),Y`
   indirect_y : (v : Value) → Operand
 
--- behind `#E`
-abbrev pub after_hash : Value × List Token → Option Operand
-after_hash (v, []) = Some (immediate v)
-after_hash (v, t ∷ tokens) = None
+-- What an operand is, or what stands in front of its value.
+pub data Opening : Type 0 where
+  no_operand : Opening
+  -- `A`
+  register_a : Opening
+  -- `#`
+  hashed : Opening
+  -- `(`
+  parenthesized : Opening
+  bare : Opening
 
--- behind `E`, where a register may stand
-abbrev pub indexed : Value → List ℕ → Option Operand
-indexed v run = if is_named (codes "X") run then Some (direct_x v) else if is_named (codes "Y") run then Some (direct_y v) else None
+-- What stands behind its value.
+pub data Closing : Type 0 where
+  ends : Closing
+  -- `,X`
+  comma_x : Closing
+  -- `,Y`
+  comma_y : Closing
+  -- `)`
+  closed : Closing
+  -- `,X)`
+  comma_x_closed : Closing
+  -- `),Y`
+  closed_comma_y : Closing
 
-abbrev pub after_value : Value → List Token → Option Operand
-after_value v [] = Some (direct v)
-after_value v (comma ∷ word run ∷ []) = indexed v run
-after_value v tokens = None
+abbrev pub opening_of : List Token → Opening
+opening_of [] = no_operand
+opening_of (hash ∷ tokens) = hashed
+opening_of (left ∷ tokens) = parenthesized
+opening_of (word run ∷ []) = if is_named (codes "A") run then register_a else bare
+opening_of tokens = bare
 
--- behind `(E`
-abbrev pub after_left : Value → List Token → Option Operand
-after_left v (right ∷ []) = Some (indirect v)
-after_left v (right ∷ comma ∷ word run ∷ []) = if is_named (codes "Y") run then Some (indirect_y v) else None
-after_left v (comma ∷ word run ∷ right ∷ []) = if is_named (codes "X") run then Some (indirect_x v) else None
-after_left v tokens = None
+-- the tokens from the value on
+abbrev pub from_value : List Token → List Token
+from_value (hash ∷ tokens) = tokens
+from_value (left ∷ tokens) = tokens
+from_value tokens = tokens
 
--- an operand that begins with its value
-abbrev pub plain_operand : List Token → Option Operand
-plain_operand tokens = option_and_then (λ r. after_value r.0 r.1) (value_at tokens)
+abbrev pub closing_of : List Token → Option Closing
+closing_of [] = Some ends
+closing_of (comma ∷ word run ∷ []) = if is_named (codes "X") run then Some comma_x else if is_named (codes "Y") run then Some comma_y else None
+closing_of (right ∷ []) = Some closed
+closing_of (comma ∷ word run ∷ right ∷ []) = if is_named (codes "X") run then Some comma_x_closed else None
+closing_of (right ∷ comma ∷ word run ∷ []) = if is_named (codes "Y") run then Some closed_comma_y else None
+closing_of tokens = None
+
+-- a value and what stands behind it
+abbrev pub value_and_closing : List Token → Option (Value × Closing)
+value_and_closing tokens = option_and_then (λ r. option_map (λ closing. (r.0, closing)) (closing_of r.1)) (value_at tokens)
+
+-- The nine forms of an operand.
+abbrev pub operand_by : Opening → Option (Value × Closing) → Option Operand
+operand_by no_operand read = Some nothing
+operand_by register_a read = Some accumulator
+operand_by hashed (Some (v, ends)) = Some (immediate v)
+operand_by bare (Some (v, ends)) = Some (direct v)
+operand_by bare (Some (v, comma_x)) = Some (direct_x v)
+operand_by bare (Some (v, comma_y)) = Some (direct_y v)
+operand_by parenthesized (Some (v, closed)) = Some (indirect v)
+operand_by parenthesized (Some (v, comma_x_closed)) = Some (indirect_x v)
+operand_by parenthesized (Some (v, closed_comma_y)) = Some (indirect_y v)
+operand_by opening read = None
 
 abbrev pub operand_of : List Token → Option Operand
-operand_of [] = Some nothing
-operand_of (hash ∷ tokens) = option_and_then (λ r. after_hash r) (value_at tokens)
-operand_of (left ∷ tokens) = option_and_then (λ r. after_left r.0 r.1) (value_at tokens)
-operand_of (word run ∷ []) = if is_named (codes "A") run then Some accumulator else plain_operand (word run ∷ [])
-operand_of tokens = plain_operand tokens
+operand_of tokens = operand_by (opening_of tokens) (value_and_closing (from_value tokens))
 
 pub data Statement : Type 0 where
   -- a mnemonic with its operand

@@ -1,5 +1,6 @@
 -- The lines of a source text, and the tokens of a line.
 use Rattle.std.specs.Prelude.{ℕ, ◌==◌, ◌&&◌, ◌||◌, nat_le, Bool, not, List, [], ◌∷◌, take_while, if◌then◌else◌}
+use Rattle.digits.specs.Decimal.{is_digit}
 
 -- a byte in front of the first line
 abbrev pub begin_with : ℕ → List (List ℕ) → List (List ℕ)
@@ -17,9 +18,6 @@ code_of line = take_while (λ b. not (b == 59)) line
 
 abbrev pub is_letter : ℕ → Bool
 is_letter b = (nat_le 65 b && nat_le b 90) || (nat_le 97 b && nat_le b 122)
-
-abbrev pub is_digit : ℕ → Bool
-is_digit b = nat_le 48 b && nat_le b 57
 
 -- a letter, a digit or `_`
 abbrev pub is_word_byte : ℕ → Bool

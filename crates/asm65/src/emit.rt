@@ -3,34 +3,41 @@ ghost use Rattle.std.specs.Prelude.{◌≡◌, ◌<◌, ◌≤◌, ◌-◌, ◌+
 ghost use Rattle.std.specs.List.{list_any, concat};
 ghost use Rattle.asm65.specs.Placement.{mode_of};
 ghost use Rattle.asm65.specs.Source.{value_in, is_out, operand_out, statement_out, word_bytes, operand_bytes, instruction_bytes, statement_bytes};
-ghost use Rattle.asm65.specs.Seen.{seen_values, seen_operand, seen_statement};
+ghost use Rattle.asm65.specs.Seen.{seen_list, seen_operand, seen_statement};
 ghost use Rattle.asm65.specs.SeenLabels.{labels_in, room_of};
 
-use crate::encode::{distance, value_in};
+use crate::encode::{distance, evaluate};
 use crate::labels::Labels;
-use crate::placement::{mode_of, operand_values, value_of};
-use crate::syntax::{Operand, Statement, Value};
+use crate::placement::{mode_of, operand_value};
+use crate::syntax::{Operand, Statement, ValueList};
 use op_table::{Mnemonic, Mode, Part, find};
 use std::alloc::AllocError;
 
 // The low byte first.
-fn push_word(bytes: &mut Vec<u8>, value: u64) -> Result<(), AllocError>
-    requires { value < 65536 }
-    ensures { OnOk result (bytes.new.items ≡ bytes.old.items ++ word_bytes value) }
+fn push_word(bytes: &mut Vec<u8>, word: u64) -> Result<(), AllocError>
+    requires { word < 65536 }
+    ensures { OnOk result (bytes.new.items ≡ bytes.old.items ++ word_bytes word) }
 {
-    bytes.push((value % 256) as u8)?;
-    bytes.push((value / 256) as u8)?;
+    bytes.push((word % 256) as u8)?;
+    bytes.push((word / 256) as u8)?;
     Ok(())
 }
 
-fn push_operand(bytes: &mut Vec<u8>, address: u32, mode: Mode, value: u64) -> Result<(), AllocError>
-    requires { value < room_of mode }
-    ensures { OnOk result (bytes.new.items ≡ bytes.old.items ++ operand_bytes address mode (value ∷ [])) }
+fn push_operand(
+    bytes: &mut Vec<u8>,
+    address: u32,
+    mode: Mode,
+    number: u64,
+) -> Result<(), AllocError>
+    requires { number < room_of mode }
+    ensures { OnOk result (bytes.new.items ≡ bytes.old.items ++ operand_bytes address mode (number ∷ [])) }
 {
     match mode {
-        Mode::Rel => bytes.push((distance(address, value) % 256) as u8)?,
-        Mode::Abs | Mode::AbsX | Mode::AbsY | Mode::Ind | Mode::IndAbsX => push_word(bytes, value)?,
-        _ => bytes.push(value as u8)?,
+        Mode::Rel => bytes.push((distance(address, number) % 256) as u8)?,
+        Mode::Abs | Mode::AbsX | Mode::AbsY | Mode::Ind | Mode::IndAbsX => push_word(
+            bytes, number,
+        )?,
+        _ => bytes.push(number as u8)?,
     }
     Ok(())
 }
@@ -51,8 +58,8 @@ fn push_instruction<'a>(
         return Ok(());
     };
     bytes.push(find(part, mnemonic, mode).unwrap_or(0))?;
-    if let Some(value) = operand_values(operand).first() {
-        push_operand(bytes, address, mode, value_in(labels, value))?;
+    if let Some(value) = operand_value(operand) {
+        push_operand(bytes, address, mode, evaluate(labels, &value))?;
     }
     Ok(())
 }
@@ -60,13 +67,15 @@ fn push_instruction<'a>(
 fn push_bytes<'a>(
     bytes: &mut Vec<u8>,
     labels: &Labels<'a>,
-    values: &[Value<'a>],
+    values: ValueList<'a>,
 ) -> Result<(), AllocError>
-    requires { list_any (is_out (labels_in labels.now) 256) (seen_values values.now) ≡ false }
-    ensures { OnOk result (bytes.new.items ≡ bytes.old.items ++ map (value_in (labels_in labels.now)) (seen_values values.now)) }
+    requires { list_any (is_out (labels_in labels.now) 256) (seen_list values) ≡ false }
+    ensures { OnOk result (bytes.new.items ≡ bytes.old.items ++ map (value_in (labels_in labels.now)) (seen_list values.entry)) }
 {
-    for value in values {
-        bytes.push(value_in(labels, value) as u8)?;
+    let mut rest = values;
+    while let Some((value, others)) = rest.next() {
+        bytes.push(evaluate(labels, &value) as u8)?;
+        rest = others;
     }
     Ok(())
 }
@@ -74,13 +83,15 @@ fn push_bytes<'a>(
 fn push_words<'a>(
     bytes: &mut Vec<u8>,
     labels: &Labels<'a>,
-    values: &[Value<'a>],
+    values: ValueList<'a>,
 ) -> Result<(), AllocError>
-    requires { list_any (is_out (labels_in labels.now) 65536) (seen_values values.now) ≡ false }
-    ensures { OnOk result (bytes.new.items ≡ bytes.old.items ++ concat (map (λ v. word_bytes (value_in (labels_in labels.now) v)) (seen_values values.now))) }
+    requires { list_any (is_out (labels_in labels.now) 65536) (seen_list values) ≡ false }
+    ensures { OnOk result (bytes.new.items ≡ bytes.old.items ++ concat (map (λ v. word_bytes (value_in (labels_in labels.now) v)) (seen_list values.entry))) }
 {
-    for value in values {
-        push_word(bytes, value_in(labels, value))?;
+    let mut rest = values;
+    while let Some((value, others)) = rest.next() {
+        push_word(bytes, evaluate(labels, &value))?;
+        rest = others;
     }
     Ok(())
 }
@@ -109,9 +120,9 @@ pub(crate) fn push_statement<'a>(
         Some(Statement::Instruction(mnemonic, operand)) => push_instruction(
             bytes, part, labels, address, *mnemonic, operand,
         ),
-        Some(Statement::Org(number)) => fill(bytes, address, value_of(*number)),
-        Some(Statement::Bytes(values)) => push_bytes(bytes, labels, values),
-        Some(Statement::Words(values)) => push_words(bytes, labels, values),
+        Some(Statement::Org(number)) => fill(bytes, address, number.value()),
+        Some(Statement::Bytes(values)) => push_bytes(bytes, labels, *values),
+        Some(Statement::Words(values)) => push_words(bytes, labels, *values),
         None => Ok(()),
     }
 }

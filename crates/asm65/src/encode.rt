@@ -2,30 +2,29 @@
 ghost use Rattle.std.specs.Prelude.{◌≡◌, ◌+◌, ◌^◌, ◌<◌, ◌≤◌, if◌then◌else◌, ◌++◌, ◌∷◌, [], false, true, Some, option_map, IfSome, OnOk};
 ghost use Rattle.std.specs.List.{list_any, list_all};
 ghost use Rattle.op_table.specs.declared.Mode.TheVariants.{Rel};
-ghost use Rattle.asm65.specs.Placement.{is_byte_base, is_byte, mode_of};
+ghost use Rattle.asm65.specs.Placement.{is_byte_base, is_byte, mode_of, operand_values};
 ghost use Rattle.asm65.specs.Source.{base_value, portion_in, value_in, is_unknown, is_out, distance, is_near, operand_out, values_in, statement_out, second_fault};
-ghost use Rattle.asm65.specs.Seen.{seen_portion, seen_base, seen_value, seen_values, seen_operand, seen_statement, seen_line};
+ghost use Rattle.asm65.specs.Seen.{seen_portion, seen_base, seen_value, seen_list, seen_operand, seen_statement, seen_line};
 ghost use Rattle.asm65.specs.SeenLabels.{labels_in, base_or_zero};
 
 use crate::AsmError;
 use crate::labels::{Labels, address_of};
-use crate::placement::{mode_of, operand_values, value_of};
-use crate::syntax::{Base, Line, Operand, Portion, Statement, Value};
-use op_table::{Mnemonic, Mode, Part, find};
-use std::alloc::AllocError;
+use crate::placement::{mode_of, operand_value};
+use crate::syntax::{Base, Line, Operand, Portion, Statement, Value, ValueList};
+use op_table::{Mode, Part};
 
 // What a value is taken of, if its label is known.
-fn base_value<'a>(labels: &Labels<'a>, base: &Base<'a>) -> Option<u64>
+fn evaluate_base<'a>(labels: &Labels<'a>, base: &Base<'a>) -> Option<u64>
     ensures value { result ≡ base_value (labels_in labels.now) (seen_base base.now) }
     ensures bound { IfSome result (λ n. n < 2 ^ 33) }
     ensures byte { is_byte_base (seen_base base.now) ≡ true → IfSome result (λ n. n < 256) }
 {
     match *base {
-        Base::Number(number) => Some(u64::from(value_of(number))),
+        Base::Number(number) => Some(u64::from(number.value())),
         Base::Label(name) => Some(u64::from(address_of(labels, name)?)),
         Base::Beyond(name, number) => {
             let address = address_of(labels, name)?;
-            Some(u64::from(address) + u64::from(value_of(number)))
+            Some(u64::from(address) + u64::from(number.value()))
         }
     }
 }
@@ -36,42 +35,44 @@ fn base_or_zero<'a>(labels: &Labels<'a>, value: &Value<'a>) -> u64
     ensures bound { result < 2 ^ 33 }
     ensures byte { is_byte_base (seen_base value.now.base) ≡ true → result < 256 }
 {
-    base_value(labels, &value.base).unwrap_or(0)
+    evaluate_base(labels, &value.base).unwrap_or(0)
 }
 
-fn portion_in(portion: Portion, value: u64) -> u64
-    ensures value { result ≡ portion_in (seen_portion portion) value }
-    ensures bound { result ≤ value }
+fn portion_of(portion: Portion, number: u64) -> u64
+    ensures value { result ≡ portion_in (seen_portion portion) number }
+    ensures bound { result ≤ number }
 {
     match portion {
-        Portion::Whole => value,
-        Portion::Low => value % 256,
-        Portion::High => value / 256,
+        Portion::Whole => number,
+        Portion::Low => number % 256,
+        Portion::High => number / 256,
     }
 }
 
 /// The number that a value comes to.
-pub(crate) fn value_in<'a>(labels: &Labels<'a>, value: &Value<'a>) -> u64
+pub(crate) fn evaluate<'a>(labels: &Labels<'a>, value: &Value<'a>) -> u64
     ensures value { result ≡ value_in (labels_in labels.now) (seen_value value.now) }
     ensures bound { result < 2 ^ 33 }
     ensures byte { is_byte (seen_value value.now) ≡ true → base_or_zero (labels_in labels.now) (seen_value value.now) < 65536 → result < 256 }
 {
-    portion_in(value.portion, base_or_zero(labels, value))
+    portion_of(value.portion, base_or_zero(labels, value))
 }
 
 fn is_unknown<'a>(labels: &Labels<'a>, value: &Value<'a>) -> bool
     ensures { result ≡ is_unknown (labels_in labels.now) (seen_value value.now) }
 {
-    base_value(labels, &value.base).is_none()
+    evaluate_base(labels, &value.base).is_none()
 }
 
-fn any_unknown<'a>(labels: &Labels<'a>, values: &[Value<'a>]) -> bool
-    ensures { result ≡ list_any (is_unknown (labels_in labels.now)) (seen_values values.now) }
+fn any_unknown<'a>(labels: &Labels<'a>, values: ValueList<'a>) -> bool
+    ensures { result ≡ list_any (is_unknown (labels_in labels.now)) (seen_list values.entry) }
 {
-    for value in values {
-        if is_unknown(labels, value) {
+    let mut rest = values;
+    while let Some((value, others)) = rest.next() {
+        if is_unknown(labels, &value) {
             return true;
         }
+        rest = others;
     }
     false
 }
@@ -79,16 +80,18 @@ fn any_unknown<'a>(labels: &Labels<'a>, values: &[Value<'a>]) -> bool
 fn is_out<'a>(labels: &Labels<'a>, limit: u64, value: &Value<'a>) -> bool
     ensures { result ≡ is_out (labels_in labels.now) limit (seen_value value.now) }
 {
-    base_or_zero(labels, value) >= 65_536 || value_in(labels, value) >= limit
+    base_or_zero(labels, value) >= 65_536 || evaluate(labels, value) >= limit
 }
 
-fn any_out<'a>(labels: &Labels<'a>, limit: u64, values: &[Value<'a>]) -> bool
-    ensures { result ≡ list_any (is_out (labels_in labels.now) limit) (seen_values values.now) }
+fn any_out<'a>(labels: &Labels<'a>, limit: u64, values: ValueList<'a>) -> bool
+    ensures { result ≡ list_any (is_out (labels_in labels.now) limit) (seen_list values.entry) }
 {
-    for value in values {
-        if is_out(labels, limit, value) {
+    let mut rest = values;
+    while let Some((value, others)) = rest.next() {
+        if is_out(labels, limit, &value) {
             return true;
         }
+        rest = others;
     }
     false
 }
@@ -111,20 +114,10 @@ fn is_near(distance: u64) -> bool
 fn is_far<'a>(labels: &Labels<'a>, address: u32, value: &Value<'a>) -> bool
     ensures { result ≡ (if is_near (distance address (value_in (labels_in labels.now) (seen_value value.now))) then false else true) }
 {
-    !is_near(distance(address, value_in(labels, value)))
+    !is_near(distance(address, evaluate(labels, value)))
 }
 
-fn any_far<'a>(labels: &Labels<'a>, address: u32, values: &[Value<'a>]) -> bool
-    ensures { result ≡ list_any (λ v. if is_near (distance address (value_in (labels_in labels.now) v)) then false else true) (seen_values values.now) }
-{
-    for value in values {
-        if is_far(labels, address, value) {
-            return true;
-        }
-    }
-    false
-}
-
+#[tactic(auto, using(crate::proofs::EncodeLemmas::any_one))]
 fn operand_out<'a>(
     labels: &Labels<'a>,
     address: u32,
@@ -133,11 +126,13 @@ fn operand_out<'a>(
 ) -> bool
     ensures { result ≡ operand_out (labels_in labels.now) address mode (seen_operand operand.now) }
 {
-    let values = operand_values(operand);
+    let Some(value) = operand_value(operand) else {
+        return false;
+    };
     match mode {
-        Some(Mode::Imm) => any_out(labels, 256, values),
-        Some(Mode::Rel) => any_out(labels, 65_536, values) || any_far(labels, address, values),
-        _ => any_out(labels, 65_536, values),
+        Some(Mode::Imm) => is_out(labels, 256, &value),
+        Some(Mode::Rel) => is_out(labels, 65_536, &value) || is_far(labels, address, &value),
+        _ => is_out(labels, 65_536, &value),
     }
 }
 
@@ -153,9 +148,19 @@ fn statement_out<'a>(
         Some(Statement::Instruction(mnemonic, operand)) => {
             operand_out(labels, address, mode_of(part, *mnemonic, operand), operand)
         }
-        Some(Statement::Bytes(values)) => any_out(labels, 256, values),
-        Some(Statement::Words(values)) => any_out(labels, 65_536, values),
+        Some(Statement::Bytes(values)) => any_out(labels, 256, *values),
+        Some(Statement::Words(values)) => any_out(labels, 65_536, *values),
         _ => false,
+    }
+}
+
+#[tactic(auto, using(crate::proofs::EncodeLemmas::any_one))]
+fn operand_unknown<'a>(labels: &Labels<'a>, operand: &Operand<'a>) -> bool
+    ensures { result ≡ list_any (is_unknown (labels_in labels.now)) (operand_values (seen_operand operand.now)) }
+{
+    match operand_value(operand) {
+        Some(value) => is_unknown(labels, &value),
+        None => false,
     }
 }
 
@@ -163,9 +168,9 @@ fn names_unknown<'a>(labels: &Labels<'a>, statement: &Option<Statement<'a>>) -> 
     ensures { result ≡ list_any (is_unknown (labels_in labels.now)) (values_in (option_map seen_statement statement.now)) }
 {
     match statement {
-        Some(Statement::Instruction(_, operand)) => any_unknown(labels, operand_values(operand)),
+        Some(Statement::Instruction(_, operand)) => operand_unknown(labels, operand),
         Some(Statement::Bytes(values)) | Some(Statement::Words(values)) => any_unknown(
-            labels, values,
+            labels, *values,
         ),
         _ => false,
     }

@@ -85,9 +85,7 @@ pub fn assemble(alloc: Global, part: Part, text: &[u8]) -> Result<Image, AsmErro
         (λ e. (e ≡ NoMemory) ⊎ (source part text.now ≡ Err e)) }
     ensures fits { IfOk result (λ image. image.origin + length image.bytes.items ≤ 65536) }
 {
-    let Ok(origin) = passes::origin_of(alloc, text) else {
-        return Err(AsmError::NoMemory);
-    };
+    let origin = passes::origin_of(text);
     let labels = match passes::first_pass(alloc, part, origin, text) {
         Ok(labels) => labels,
         Err(error) => return Err(error),

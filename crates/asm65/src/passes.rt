@@ -1,5 +1,5 @@
 //! Both passes over the lines of a text.
-ghost use Rattle.std.specs.Prelude.{◌≡◌, ◌≤◌, false, [], ◌⊎◌, None, Some, option_map, vec_len, IfOk, MatchResult};
+ghost use Rattle.std.specs.Prelude.{◌≡◌, ◌≤◌, false, [], ◌⊎◌, None, Some, option_map, vec_len, MatchResult};
 ghost use Rattle.asm65.specs.declared.AsmError.TheVariants.{NoMemory};
 ghost use Rattle.asm65.specs.Syntax.{parsed};
 ghost use Rattle.asm65.specs.Placement.{origin_of, placed_from, first_fault, first_pass};
@@ -12,10 +12,10 @@ use crate::AsmError;
 use crate::emit::push_statement;
 use crate::encode::second_fault;
 use crate::labels::{Labels, define};
-use crate::placement::{address_behind, is_formless, statement_fault, value_of};
+use crate::placement::{address_behind, is_formless, statement_fault};
 use crate::syntax::{Line, Statement, next_line};
 use op_table::Part;
-use std::alloc::{AllocError, Global};
+use std::alloc::Global;
 use std::collections::BTreeMap;
 
 // The origin of a text that begins with this line, if the line settles it.
@@ -24,7 +24,7 @@ fn line_origin(line: &Option<Line<'_>>) -> Option<u32>
 {
     match line {
         Some(line) => match &line.statement {
-            Some(Statement::Org(number)) => Some(value_of(*number)),
+            Some(Statement::Org(number)) => Some(number.value()),
             Some(_) => Some(0),
             None => None,
         },
@@ -33,18 +33,18 @@ fn line_origin(line: &Option<Line<'_>>) -> Option<u32>
 }
 
 /// The origin: that of the first statement where it is `org`, else 0.
-pub(crate) fn origin_of(alloc: Global, text: &[u8]) -> Result<u32, AllocError>
-    ensures { IfOk result (λ origin. origin ≡ origin_of (parsed text.now)) }
+pub(crate) fn origin_of(text: &[u8]) -> u32
+    ensures { result ≡ origin_of (parsed text.now) }
 {
     let mut rest = text;
     while !rest.is_empty() {
-        let (line, others) = next_line(alloc, rest)?;
+        let (line, others) = next_line(rest);
         if let Some(origin) = line_origin(&line) {
-            return Ok(origin);
+            return origin;
         }
         rest = others;
     }
-    Ok(0)
+    0
 }
 
 // The first pass over one line: the address behind it.
@@ -93,9 +93,7 @@ pub(crate) fn first_pass<'a>(
     let mut line_number = 0;
     let mut rest = text;
     while !rest.is_empty() {
-        let Ok((line, others)) = next_line(alloc, rest) else {
-            return Err(AsmError::NoMemory);
-        };
+        let (line, others) = next_line(rest);
         line_number += 1;
         match place(part, line_number, &mut labels, address, line) {
             Ok(next) => address = next,
@@ -152,9 +150,7 @@ pub(crate) fn second_pass<'a>(
     let mut line_number = 0;
     let mut rest = text;
     while !rest.is_empty() {
-        let Ok((line, others)) = next_line(alloc, rest) else {
-            return Err(AsmError::NoMemory);
-        };
+        let (line, others) = next_line(rest);
         line_number += 1;
         match encode(part, line_number, labels, address, line, &mut bytes) {
             Ok(next) => address = next,

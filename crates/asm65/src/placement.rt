@@ -1,31 +1,18 @@
 //! Where the lines lie: which form of its mnemonic an instruction takes, and the address of each line.
-ghost use Rattle.std.specs.Prelude.{◌≡◌, ◌+◌, ◌-◌, ◌^◌, ◌≤◌, ◌<◌, min, nat_lt, false, true, None, option_map, ◌∷◌, []};
+ghost use Rattle.std.specs.Prelude.{◌≡◌, ◌+◌, ◌-◌, ◌^◌, ◌≤◌, ◌<◌, nat_lt, false, None, option_map, option_to_list, length};
 ghost use Rattle.std.specs.List.{list_any};
-ghost use Rattle.op_table.specs.Rows as rows;
 ghost use Rattle.asm65.specs.Placement.{is_byte_base, is_byte, has_form, if_formed, shorter, parenthesized, mode_of, size_of, after_statement, base_numbers, values_numbers, statement_numbers, formless, is_past, is_long, or_else, operand_values};
 ghost use Rattle.asm65.specs.declared.AsmError.TheVariants.{OutOfRange, TooLong};
-ghost use Rattle.asm65.specs.Seen.{seen_number, seen_base, seen_value, seen_values, seen_operand, seen_statement};
+ghost use Rattle.asm65.specs.Seen.{seen_base, seen_value, seen_list, seen_operand, seen_statement};
 
 use crate::AsmError;
-use crate::syntax::{Base, Number, Operand, Portion, Statement, Value};
+use crate::syntax::{Base, Number, Operand, Portion, Statement, Value, ValueList};
 use op_table::{Mnemonic, Mode, Part, find};
-use std::slice;
 
 // How many bytes there are in the memory.
 const MEMORY: usize = 65_536;
 
-/// The value of a number.
-pub(crate) fn value_of(number: Number) -> u32
-    ensures value { result ≡ (seen_number number).value }
-    ensures byte { (seen_number number).byte_sized ≡ true → result < 256 }
-{
-    match number {
-        Number::Byte(value) => u32::from(value),
-        Number::Word(value) => value,
-    }
-}
-
-fn is_byte_base(base: &Base<'_>) -> bool
+fn is_byte_sized_base(base: &Base<'_>) -> bool
     ensures { result ≡ is_byte_base (seen_base base.now) }
 {
     match base {
@@ -34,12 +21,12 @@ fn is_byte_base(base: &Base<'_>) -> bool
     }
 }
 
-/// Whether a value takes one byte.
-pub(crate) fn is_byte(value: &Value<'_>) -> bool
+// Whether a value takes one byte.
+fn is_byte_sized(value: &Value<'_>) -> bool
     ensures { result ≡ is_byte (seen_value value.now) }
 {
     match value.portion {
-        Portion::Whole => is_byte_base(&value.base),
+        Portion::Whole => is_byte_sized_base(&value.base),
         _ => true,
     }
 }
@@ -70,7 +57,7 @@ fn shorter(
 ) -> Option<Mode>
     ensures { result ≡ shorter part mnemonic (seen_value value.now) zero_page absolute }
 {
-    if is_byte(value) && has_form(part, mnemonic, zero_page) {
+    if is_byte_sized(value) && has_form(part, mnemonic, zero_page) {
         Some(zero_page)
     } else {
         if_formed(part, mnemonic, absolute)
@@ -89,7 +76,7 @@ fn parenthesized(
 {
     if mnemonic == Mnemonic::Jmp {
         if_formed(part, mnemonic, absolute)
-    } else if is_byte(value) {
+    } else if is_byte_sized(value) {
         if_formed(part, mnemonic, zero_page)
     } else {
         None
@@ -122,7 +109,7 @@ pub(crate) fn mode_of(part: Part, mnemonic: Mnemonic, operand: &Operand<'_>) -> 
             Mode::IndAbsX,
         ),
         Operand::IndirectY(value) => {
-            if is_byte(value) {
+            if is_byte_sized(value) {
                 if_formed(part, mnemonic, Mode::IndY)
             } else {
                 None
@@ -131,40 +118,47 @@ pub(crate) fn mode_of(part: Part, mnemonic: Mnemonic, operand: &Operand<'_>) -> 
     }
 }
 
-fn bytes_of(mode: Mode) -> usize
-    ensures { result ≡ rows.bytes_of mode }
+// How many values there are; where there are more than bytes in the memory, one more than these.
+fn value_count(values: ValueList<'_>) -> usize
+    ensures exact { result ≤ 65536 → result ≡ length (seen_list values.entry) }
+    ensures more { 65536 < result → 65536 < length (seen_list values.entry) }
+    ensures most { result ≤ 65537 }
 {
-    match mode {
-        Mode::Imp | Mode::Acc => 1,
-        Mode::Abs | Mode::AbsX | Mode::AbsY | Mode::Ind | Mode::IndAbsX => 3,
-        _ => 2,
+    let mut count = 0;
+    let mut rest = values;
+    while let Some((_, others)) = rest.next() {
+        count += 1;
+        if count > MEMORY {
+            return count;
+        }
+        rest = others;
     }
+    count
 }
 
-// How many bytes a statement makes, `org` aside.
-fn size_of(part: Part, statement: &Statement<'_>) -> usize
-    ensures { result ≡ min (size_of part (seen_statement statement.now)) (2 ^ 64 - 1) }
+// How many bytes a statement makes, `org` aside. A size above that of the memory need not be exact.
+fn size_in_bytes(part: Part, statement: &Statement<'_>) -> usize
+    ensures exact { result ≤ 65536 → result ≡ size_of part (seen_statement statement.now) }
+    ensures more { 65536 < result → 65536 < size_of part (seen_statement statement.now) }
+    ensures most { result < 2 ^ 32 }
 {
     match statement {
         Statement::Instruction(mnemonic, operand) => match mode_of(part, *mnemonic, operand) {
-            Some(mode) => bytes_of(mode),
+            Some(mode) => usize::from(mode.length()),
             None => 0,
         },
         Statement::Org(_) => 0,
-        Statement::Bytes(values) => values.len(),
-        Statement::Words(values) => values.len().saturating_mul(2),
+        Statement::Bytes(values) => value_count(*values),
+        Statement::Words(values) => 2 * value_count(*values),
     }
 }
 
-/// Whether a statement has bytes past the end of memory.
+// Whether a statement has bytes past the end of memory.
 fn is_long(part: Part, address: u32, statement: &Option<Statement<'_>>) -> bool
     ensures { result ≡ is_long part address (option_map seen_statement statement.now) }
 {
     match statement {
-        Some(statement) => {
-            let size = size_of(part, statement);
-            size > MEMORY || address as usize + size > MEMORY
-        }
+        Some(statement) => address as usize + size_in_bytes(part, statement) > MEMORY,
         None => false,
     }
 }
@@ -175,25 +169,25 @@ pub(crate) fn address_behind(part: Part, address: u32, statement: &Option<Statem
     ensures { result ≡ after_statement part address (option_map seen_statement statement.now) }
 {
     match statement {
-        Some(Statement::Org(number)) => value_of(*number),
-        Some(statement) => address + size_of(part, statement) as u32,
+        Some(Statement::Org(number)) => number.value(),
+        Some(statement) => address + size_in_bytes(part, statement) as u32,
         None => address,
     }
 }
 
-/// The values of an operand.
-pub(crate) fn operand_values<'s, 'a>(operand: &'s Operand<'a>) -> &'s [Value<'a>]
-    ensures { seen_values result.now ≡ operand_values (seen_operand operand.now) }
+/// The value of an operand, if it has one.
+pub(crate) fn operand_value<'a>(operand: &Operand<'a>) -> Option<Value<'a>>
+    ensures { option_to_list (option_map seen_value result) ≡ operand_values (seen_operand operand.now) }
 {
-    match operand {
-        Operand::Nothing | Operand::Accumulator => &[],
+    match *operand {
+        Operand::Nothing | Operand::Accumulator => None,
         Operand::Immediate(value)
         | Operand::Direct(value)
         | Operand::DirectX(value)
         | Operand::DirectY(value)
         | Operand::Indirect(value)
         | Operand::IndirectX(value)
-        | Operand::IndirectY(value) => slice::from_ref(value),
+        | Operand::IndirectY(value) => Some(value),
     }
 }
 
@@ -214,19 +208,31 @@ fn has_large_number(value: &Value<'_>) -> bool
     ensures { result ≡ list_any (λ n. nat_lt 65535 n) (base_numbers (seen_base value.now.base)) }
 {
     match value.base {
-        Base::Number(number) | Base::Beyond(_, number) => value_of(number) > 65_535,
+        Base::Number(number) | Base::Beyond(_, number) => number.value() > 65_535,
         Base::Label(_) => false,
     }
 }
 
-#[tactic(auto, using(crate::proofs::PlacementLemmas::any_number_more))]
-fn has_large_numbers(values: &[Value<'_>]) -> bool
-    ensures { result ≡ list_any (λ n. nat_lt 65535 n) (values_numbers (seen_values values.now)) }
+#[tactic(auto, using(crate::proofs::PlacementLemmas::any_number_of))]
+fn operand_has_large_number(operand: &Operand<'_>) -> bool
+    ensures { result ≡ list_any (λ n. nat_lt 65535 n) (values_numbers (operand_values (seen_operand operand.now))) }
 {
-    for value in values {
-        if has_large_number(value) {
+    match operand_value(operand) {
+        Some(value) => has_large_number(&value),
+        None => false,
+    }
+}
+
+#[tactic(auto, using(crate::proofs::PlacementLemmas::any_number_more))]
+fn any_large_number(values: ValueList<'_>) -> bool
+    ensures { result ≡ list_any (λ n. nat_lt 65535 n) (values_numbers (seen_list values.entry)) }
+{
+    let mut rest = values;
+    while let Some((value, others)) = rest.next() {
+        if has_large_number(&value) {
             return true;
         }
+        rest = others;
     }
     false
 }
@@ -236,10 +242,10 @@ fn is_past(address: u32, statement: &Option<Statement<'_>>) -> bool
     ensures { result ≡ is_past address (option_map seen_statement statement.now) }
 {
     match statement {
-        Some(Statement::Instruction(_, operand)) => has_large_numbers(operand_values(operand)),
-        Some(Statement::Org(number)) => value_of(*number) < address || value_of(*number) > 65_535,
-        Some(Statement::Bytes(values)) | Some(Statement::Words(values)) => has_large_numbers(
-            values,
+        Some(Statement::Instruction(_, operand)) => operand_has_large_number(operand),
+        Some(Statement::Org(number)) => number.value() < address || number.value() > 65_535,
+        Some(Statement::Bytes(values)) | Some(Statement::Words(values)) => any_large_number(
+            *values,
         ),
         None => false,
     }

@@ -1,20 +1,33 @@
-//! What a line of tokens means: an optional label and an optional statement.
-ghost use Rattle.std.specs.Prelude.{◌≡◌, ◌≤◌, ◌<◌, ◌^◌, nat_lt, nat_le, IsTrue, length, ◌∷◌, if◌then◌else◌, codes, option_map, option_and_then, IfOk, IfSome};
-ghost use Rattle.std.specs.List.{list_all, prefix_len};
+//! What a line means: an optional label and an optional statement.
+ghost use Rattle.std.specs.Prelude.{◌≡◌, ◌≤◌, ◌<◌, ◌^◌, nat_lt, nat_le, IsTrue, length, ◌∷◌, [], true, is_some, option_map, option_and_then, IfSome};
+ghost use Rattle.std.specs.List.{list_all};
 ghost use Rattle.op_table.specs.Names.{mnemonic_of};
-ghost use Rattle.asm65.specs.Tokens.{is_letter, is_digit};
-ghost use Rattle.asm65.specs.Syntax.{decimal_from, is_hex, hex_value, hex_from, decimal_number, hex_number, number_of, is_named, is_register, begins_name, is_label, label_at, word_at, base_at, portion_of, value_at, after_hash, indexed, after_value, after_left, plain_operand, operand_of, groups_of, only_value, values_of, org_of, instruction_of, statement_of, rest_of, line_of, parsed, bytes, words};
-ghost use Rattle.asm65.specs.Seen.{seen_token, seen_tokens, seen_number, seen_base_and_rest, seen_portion, seen_value, seen_value_and_rest, seen_operand, seen_values, seen_statement, seen_line, seen_groups, is_no_comma, seen_label_and_rest, word_statement, label_in_front, seen_rest, behind_hash, behind_left, is_accumulator, bare_operand};
+ghost use Rattle.digits.specs.Hexadecimal.{is_hex_any_case, hex_number as hex_value};
+ghost use Rattle.asm65.specs.Tokens.{comma, right, word, tokens_of};
+ghost use Rattle.asm65.specs.Syntax.{decimal_number, hex_number, number_of, is_named, is_register, begins_name, is_label, label_at, word_at, base_at, portion_of, value_at, opening_of, from_value, closing_of, value_and_closing, operand_of, values_of, org_of, instruction_of, rest_of, line_of, parsed};
+ghost use Rattle.asm65.specs.Seen.{seen_token, seen_number, seen_base_and_rest, seen_portion, seen_value_and_rest, seen_opening, seen_closing, seen_value_and_closing, seen_operand, listed, length_left, seen_list, seen_first, seen_next_value, values_by_first, seen_statement, seen_line, seen_label_and_rest, word_statement, label_in_front};
 
-use crate::tokens::{Token, code_of, first_line, tokens_of};
+use crate::tokens::{Token, code_of, first_line, next_token};
+use digits::{all_digits, all_hex_any_case, decimal_value};
 use op_table::Mnemonic;
-use std::alloc::{AllocError, Global};
 
-/// A number. One that is written in a byte takes one byte where the form allows it.
+/// A number by its size: a byte-sized one takes one byte where the form allows it.
 #[derive(Clone, Copy)]
 pub(crate) enum Number {
     Byte(u8),
     Word(u32),
+}
+
+impl Number {
+    pub(crate) fn value(self) -> u32
+        ensures value { result ≡ (seen_number self).value }
+        ensures byte_sized { (seen_number self).byte_sized ≡ true → result < 256 }
+    {
+        match self {
+            Number::Byte(value) => u32::from(value),
+            Number::Word(value) => value,
+        }
+    }
 }
 
 /// What a value is taken of.
@@ -36,10 +49,40 @@ pub(crate) enum Portion {
     High,
 }
 
+/// `E`
 #[derive(Clone, Copy)]
 pub(crate) struct Value<'a> {
     pub portion: Portion,
     pub base: Base<'a>,
+}
+
+/// What an operand is, or what stands in front of its value.
+#[derive(Clone, Copy)]
+enum Opening {
+    NoOperand,
+    /// `A`
+    RegisterA,
+    /// `#`
+    Hashed,
+    /// `(`
+    Parenthesized,
+    Bare,
+}
+
+/// What stands behind its value.
+#[derive(Clone, Copy)]
+enum Closing {
+    Ends,
+    /// `,X`
+    CommaX,
+    /// `,Y`
+    CommaY,
+    /// `)`
+    Closed,
+    /// `,X)`
+    CommaXClosed,
+    /// `),Y`
+    ClosedCommaY,
 }
 
 /// Operands, by their written forms.
@@ -64,47 +107,36 @@ pub(crate) enum Operand<'a> {
     IndirectY(Value<'a>),
 }
 
-#[derive(Drop)]
+/// The values of a `byte` or a `word`, which are read from the code of their line one by one.
+#[derive(Clone, Copy)]
+pub(crate) struct ValueList<'a> {
+    /// The code from the next value on, if there is one.
+    rest: Option<&'a [u8]>,
+}
+
+#[derive(Clone, Copy)]
 pub(crate) enum Statement<'a> {
     Instruction(Mnemonic, Operand<'a>),
     Org(Number),
-    Bytes(Vec<Value<'a>>),
-    Words(Vec<Value<'a>>),
+    Bytes(ValueList<'a>),
+    Words(ValueList<'a>),
 }
 
-#[derive(Drop)]
+#[derive(Clone, Copy)]
 pub(crate) struct Line<'a> {
     pub label: Option<&'a [u8]>,
     pub statement: Option<Statement<'a>>,
 }
 
-// The value of at most five decimal digits.
-fn decimal_value(digits: &[u8]) -> u32
-    requires few { length digits.now ≤ 5 }
-    requires decimal { IsTrue (list_all is_digit digits.now) }
-    ensures { result ≡ decimal_from 0 digits.now }
-{
-    let mut value = 0;
-    for b in digits {
-        value = 10 * value + u32::from(*b - b'0');
-    }
-    value
-}
-
-fn all_digits(run: &[u8]) -> bool
-    ensures { result ≡ list_all is_digit run.now }
-{
-    run.iter().all(|b| b.is_ascii_digit())
-}
-
-// A number, which is byte-sized where it is below 256.
-fn number_below(value: u32) -> Number
+// A decimal number, which is byte-sized where it is below 256.
+fn decimal_of_value(value: u64) -> Number
+    requires { value < 2 ^ 32 }
     ensures { seen_number result ≡ record { value = value; byte_sized = nat_lt value 256 } }
 {
     if value < 256 {
         Number::Byte(value as u8)
     } else {
-        Number::Word(value)
+        Number::Word(value as u32)
     }
 }
 
@@ -112,71 +144,31 @@ fn decimal_number(run: &[u8]) -> Option<Number>
     ensures { option_map seen_number result ≡ decimal_number run.now }
 {
     if all_digits(run) && 1 <= run.len() && run.len() <= 5 {
-        Some(number_below(decimal_value(run)))
+        Some(decimal_of_value(decimal_value(run)))
     } else {
         None
     }
 }
 
-fn hex_value(b: u8) -> u8
-    requires { IsTrue (is_hex b) }
-    ensures value { result ≡ hex_value b }
-    ensures bound { result < 16 }
-{
-    if b < b'A' {
-        b - b'0'
-    } else if b < b'a' {
-        b - (b'A' - 10)
-    } else {
-        b - (b'a' - 10)
-    }
-}
-
-fn is_hex(b: u8) -> bool
-    ensures { result ≡ is_hex b }
-{
-    b.is_ascii_digit() || (b'A' <= b && b <= b'F') || (b'a' <= b && b <= b'f')
-}
-
-// The value of at most four hexadecimal digits.
-fn hex_from(digits: &[u8]) -> u32
-    requires few { length digits.now ≤ 4 }
-    requires hexadecimal { IsTrue (list_all is_hex digits.now) }
-    ensures value { result ≡ hex_from 0 digits.now }
-    ensures bound { result < 16 ^ length digits.now }
-{
-    let mut value = 0;
-    for b in digits {
-        value = 16 * value + u32::from(hex_value(*b));
-    }
-    value
-}
-
-fn all_hex(run: &[u8]) -> bool
-    ensures { result ≡ list_all is_hex run.now }
-{
-    run.iter().all(|b| is_hex(*b))
-}
-
 // The number of one to four hexadecimal digits, which is byte-sized with one or two.
-fn number_of_digits(digits: &[u8]) -> Number
+fn hex_of_digits(digits: &[u8]) -> Number
     requires few { length digits.now ≤ 4 }
-    requires hexadecimal { IsTrue (list_all is_hex digits.now) }
-    ensures { seen_number result ≡ record { value = hex_from 0 digits.now; byte_sized = nat_le (length digits.now) 2 } }
+    requires hexadecimal { IsTrue (list_all is_hex_any_case digits.now) }
+    ensures { seen_number result ≡ record { value = hex_value digits.now; byte_sized = nat_le (length digits.now) 2 } }
 {
-    let value = hex_from(digits);
+    let value = digits::hex_number(digits);
     if digits.len() <= 2 {
         Number::Byte(value as u8)
     } else {
-        Number::Word(value)
+        Number::Word(value as u32)
     }
 }
 
 fn hex_number(run: &[u8]) -> Option<Number>
     ensures { option_map seen_number result ≡ hex_number run.now }
 {
-    if all_hex(run) && 1 <= run.len() && run.len() <= 4 {
-        Some(number_of_digits(run))
+    if all_hex_any_case(run) && 1 <= run.len() && run.len() <= 4 {
+        Some(hex_of_digits(run))
     } else {
         None
     }
@@ -228,41 +220,44 @@ fn is_label(run: &[u8]) -> bool
     begins_name(run) && !is_register(run)
 }
 
-// A label, and `+` and a number where they stand behind it, with the tokens behind that.
-fn label_at<'a, 't>(name: &'a [u8], tokens: &'t [Token<'a>]) -> Option<(Base<'a>, &'t [Token<'a>])>
-    ensures { option_map seen_base_and_rest result ≡ label_at name.now (seen_tokens tokens.now) }
+// A label, and `+` and a number where they stand behind it, with the code behind that.
+fn label_at<'a>(name: &'a [u8], code: &'a [u8]) -> Option<(Base<'a>, &'a [u8])>
+    ensures value { option_map seen_base_and_rest result ≡ label_at name.now (tokens_of code.now) }
+    ensures shorter { IfSome result (λ r. length r.1.now ≤ length code.now) }
 {
-    match tokens {
-        [Token::Plus] => None,
-        [Token::Plus, token, rest @ ..] => {
-            let number = number_of(*token)?;
+    match next_token(code) {
+        Some((Token::Plus, behind)) => {
+            let (token, rest) = next_token(behind)?;
+            let number = number_of(token)?;
             Some((Base::Beyond(name, number), rest))
         }
-        _ => Some((Base::Label(name), tokens)),
+        _ => Some((Base::Label(name), code)),
     }
 }
 
 // A word as a number, or else as a label with what stands behind it.
-fn word_at<'a, 't>(run: &'a [u8], tokens: &'t [Token<'a>]) -> Option<(Base<'a>, &'t [Token<'a>])>
-    ensures { option_map seen_base_and_rest result ≡ word_at run.now (seen_tokens tokens.now) (decimal_number run.now) }
+fn word_at<'a>(run: &'a [u8], code: &'a [u8]) -> Option<(Base<'a>, &'a [u8])>
+    ensures value { option_map seen_base_and_rest result ≡ word_at run.now (tokens_of code.now) (decimal_number run.now) }
+    ensures shorter { IfSome result (λ r. length r.1.now ≤ length code.now) }
 {
     if let Some(number) = decimal_number(run) {
-        Some((Base::Number(number), tokens))
+        Some((Base::Number(number), code))
     } else if is_label(run) {
-        label_at(run, tokens)
+        label_at(run, code)
     } else {
         None
     }
 }
 
-// What a value is taken of, at the front of tokens, and the tokens behind it.
-fn base_at<'a, 't>(tokens: &'t [Token<'a>]) -> Option<(Base<'a>, &'t [Token<'a>])>
-    ensures { option_map seen_base_and_rest result ≡ base_at (seen_tokens tokens.now) }
+// What a value is taken of, at the front of code, and the code behind it.
+fn base_at<'a>(code: &'a [u8]) -> Option<(Base<'a>, &'a [u8])>
+    ensures value { option_map seen_base_and_rest result ≡ base_at (tokens_of code.now) }
+    ensures shorter { IfSome result (λ r. length r.1.now < length code.now) }
 {
-    match tokens {
-        [Token::Word(run), rest @ ..] => word_at(*run, rest),
-        [Token::Hex(run), rest @ ..] => {
-            let number = hex_number(*run)?;
+    match next_token(code) {
+        Some((Token::Word(run), rest)) => word_at(run, rest),
+        Some((Token::Hex(run), rest)) => {
+            let number = hex_number(run)?;
             Some((Base::Number(number), rest))
         }
         _ => None,
@@ -270,351 +265,291 @@ fn base_at<'a, 't>(tokens: &'t [Token<'a>]) -> Option<(Base<'a>, &'t [Token<'a>]
 }
 
 // A value whose portion has been read.
-fn portion_at<'a, 't>(
-    portion: Portion,
-    tokens: &'t [Token<'a>],
-) -> Option<(Value<'a>, &'t [Token<'a>])>
-    ensures { option_map seen_value_and_rest result ≡ portion_of (seen_portion portion) (base_at (seen_tokens tokens.now)) }
+fn portion_at<'a>(portion: Portion, code: &'a [u8]) -> Option<(Value<'a>, &'a [u8])>
+    ensures value { option_map seen_value_and_rest result ≡ portion_of (seen_portion portion) (base_at (tokens_of code.now)) }
+    ensures shorter { IfSome result (λ r. length r.1.now < length code.now) }
 {
-    let (base, rest) = base_at(tokens)?;
+    let (base, rest) = base_at(code)?;
     Some((Value { portion, base }, rest))
 }
 
-// A value at the front of tokens, and the tokens behind it.
-fn value_at<'a, 't>(tokens: &'t [Token<'a>]) -> Option<(Value<'a>, &'t [Token<'a>])>
-    ensures { option_map seen_value_and_rest result ≡ value_at (seen_tokens tokens.now) }
+// A value at the front of code, and the code behind it.
+fn value_at<'a>(code: &'a [u8]) -> Option<(Value<'a>, &'a [u8])>
+    ensures value { option_map seen_value_and_rest result ≡ value_at (tokens_of code.now) }
+    ensures shorter { IfSome result (λ r. length r.1.now < length code.now) }
 {
-    match tokens {
-        [Token::Low, rest @ ..] => portion_at(Portion::Low, rest),
-        [Token::High, rest @ ..] => portion_at(Portion::High, rest),
-        _ => portion_at(Portion::Whole, tokens),
+    match next_token(code) {
+        Some((Token::Low, rest)) => portion_at(Portion::Low, rest),
+        Some((Token::High, rest)) => portion_at(Portion::High, rest),
+        _ => portion_at(Portion::Whole, code),
     }
 }
 
-// Behind `#E`.
-fn after_hash<'a>(value: Value<'a>, rest: &[Token<'a>]) -> Option<Operand<'a>>
-    ensures { option_map seen_operand result ≡ after_hash (seen_value value.entry, seen_tokens rest.now) }
+// What an operand is, or what stands in front of its value, and the code from the value on.
+fn opening_of<'a>(code: &'a [u8]) -> (Opening, &'a [u8])
+    ensures opening { seen_opening result.0 ≡ opening_of (tokens_of code.now) }
+    ensures rest { tokens_of result.1.now ≡ from_value (tokens_of code.now) }
 {
-    match rest {
-        [] => Some(Operand::Immediate(value)),
-        _ => None,
+    match next_token(code) {
+        None => (Opening::NoOperand, code),
+        Some((Token::Hash, rest)) => (Opening::Hashed, rest),
+        Some((Token::Left, rest)) => (Opening::Parenthesized, rest),
+        Some((Token::Word(run), rest)) => (word_opening(run, rest), code),
+        Some(_) => (Opening::Bare, code),
     }
 }
 
-// Behind `E`, where a register may stand.
-fn indexed<'a>(value: Value<'a>, run: &[u8]) -> Option<Operand<'a>>
-    ensures { option_map seen_operand result ≡ indexed (seen_value value.entry) run.now }
+// What an operand that begins with a word is.
+fn word_opening(run: &[u8], rest: &[u8]) -> Opening
+    ensures { seen_opening result ≡ opening_of (word run.now ∷ tokens_of rest.now) }
+{
+    if is_named(b"A", run) && next_token(rest).is_none() {
+        Opening::RegisterA
+    } else {
+        Opening::Bare
+    }
+}
+
+// What stands behind the value of an operand, if an operand may have it.
+fn closing_of(code: &[u8]) -> Option<Closing>
+    ensures { option_map seen_closing result ≡ closing_of (tokens_of code.now) }
+{
+    match next_token(code) {
+        None => Some(Closing::Ends),
+        Some((Token::Comma, rest)) => closing_by_comma(rest),
+        Some((Token::Right, rest)) => closing_by_right(rest),
+        Some(_) => None,
+    }
+}
+
+// Behind a `,` that stands behind the value.
+fn closing_by_comma(code: &[u8]) -> Option<Closing>
+    ensures { option_map seen_closing result ≡ closing_of (comma ∷ tokens_of code.now) }
+{
+    let (token, rest) = next_token(code)?;
+    let Token::Word(run) = token else {
+        return None;
+    };
+    match next_token(rest) {
+        None => index_of(run),
+        Some((Token::Right, behind)) => {
+            if is_named(b"X", run) && next_token(behind).is_none() {
+                Some(Closing::CommaXClosed)
+            } else {
+                None
+            }
+        }
+        Some(_) => None,
+    }
+}
+
+fn index_of(run: &[u8]) -> Option<Closing>
+    ensures { option_map seen_closing result ≡ closing_of (comma ∷ word run.now ∷ []) }
 {
     if is_named(b"X", run) {
-        Some(Operand::DirectX(value))
+        Some(Closing::CommaX)
     } else if is_named(b"Y", run) {
-        Some(Operand::DirectY(value))
+        Some(Closing::CommaY)
     } else {
         None
     }
 }
 
-fn after_value<'a>(value: Value<'a>, rest: &[Token<'a>]) -> Option<Operand<'a>>
-    ensures { option_map seen_operand result ≡ after_value (seen_value value.entry) (seen_tokens rest.now) }
+// Behind a `)` that stands behind the value.
+fn closing_by_right(code: &[u8]) -> Option<Closing>
+    ensures { option_map seen_closing result ≡ closing_of (right ∷ tokens_of code.now) }
 {
-    match rest {
-        [] => Some(Operand::Direct(value)),
-        [Token::Comma, Token::Word(run)] => indexed(value, *run),
+    match next_token(code) {
+        None => Some(Closing::Closed),
+        Some((Token::Comma, behind)) => match next_token(behind) {
+            Some((Token::Word(run), rest)) => {
+                if is_named(b"Y", run) && next_token(rest).is_none() {
+                    Some(Closing::ClosedCommaY)
+                } else {
+                    None
+                }
+            }
+            _ => None,
+        },
+        Some(_) => None,
+    }
+}
+
+fn value_and_closing<'a>(code: &'a [u8]) -> Option<(Value<'a>, Closing)>
+    ensures { option_map seen_value_and_closing result ≡ value_and_closing (tokens_of code.now) }
+{
+    let (value, rest) = value_at(code)?;
+    let closing = closing_of(rest)?;
+    Some((value, closing))
+}
+
+// The nine forms of an operand.
+fn operand_of<'a>(code: &'a [u8]) -> Option<Operand<'a>>
+    ensures { option_map seen_operand result ≡ operand_of (tokens_of code.now) }
+{
+    let (opening, rest) = opening_of(code);
+    match (opening, value_and_closing(rest)) {
+        (Opening::NoOperand, _) => Some(Operand::Nothing),
+        (Opening::RegisterA, _) => Some(Operand::Accumulator),
+        (Opening::Hashed, Some((value, Closing::Ends))) => Some(Operand::Immediate(value)),
+        (Opening::Bare, Some((value, Closing::Ends))) => Some(Operand::Direct(value)),
+        (Opening::Bare, Some((value, Closing::CommaX))) => Some(Operand::DirectX(value)),
+        (Opening::Bare, Some((value, Closing::CommaY))) => Some(Operand::DirectY(value)),
+        (Opening::Parenthesized, Some((value, Closing::Closed))) => Some(Operand::Indirect(value)),
+        (Opening::Parenthesized, Some((value, Closing::CommaXClosed))) => {
+            Some(Operand::IndirectX(value))
+        }
+        (Opening::Parenthesized, Some((value, Closing::ClosedCommaY))) => {
+            Some(Operand::IndirectY(value))
+        }
         _ => None,
     }
 }
 
-// An operand, if the word in it is this register.
-fn if_named<'a>(name: &[u8], run: &[u8], operand: Operand<'a>) -> Option<Operand<'a>>
-    ensures { option_map seen_operand result ≡ (if is_named name.now run.now then Some (seen_operand operand.entry) else None) }
+// The first of values that commas part, and the code behind its comma, if one stands there.
+#[tactic(auto, using(crate::proofs::ValueLemmas::listed_first, crate::proofs::ValueLemmas::values_first))]
+fn first_value<'a>(code: &'a [u8]) -> Option<(Value<'a>, Option<&'a [u8]>)>
+    ensures listed { listed (tokens_of code.now) ≡ seen_first result }
+    ensures values { values_of (tokens_of code.now) ≡ values_by_first result }
+    ensures shorter { IfSome result (λ r. IfSome r.1 (λ rest. length rest.now < length code.now)) }
 {
-    if is_named(name, run) {
-        Some(operand)
-    } else {
-        None
+    let Some((value, rest)) = value_at(code) else {
+        return None;
+    };
+    match next_token(rest) {
+        None => Some((value, None)),
+        Some((Token::Comma, behind)) => Some((value, Some(behind))),
+        Some(_) => None,
     }
 }
 
-// Behind `(E`.
-fn after_left<'a>(value: Value<'a>, rest: &[Token<'a>]) -> Option<Operand<'a>>
-    ensures { option_map seen_operand result ≡ after_left (seen_value value.entry) (seen_tokens rest.now) }
+// Whether code is one or more values, parted by commas.
+fn are_values(code: &[u8]) -> bool
+    ensures { result ≡ is_some (values_of (tokens_of code.now)) }
 {
-    match rest {
-        [Token::Right] => Some(Operand::Indirect(value)),
-        [Token::Right, Token::Comma, Token::Word(run)] => if_named(
-            b"Y",
-            *run,
-            Operand::IndirectY(value),
-        ),
-        [Token::Comma, Token::Word(run), Token::Right] => if_named(
-            b"X",
-            *run,
-            Operand::IndirectX(value),
-        ),
-        _ => None,
-    }
-}
-
-// An operand that begins with its value.
-fn plain_operand<'a>(tokens: &[Token<'a>]) -> Option<Operand<'a>>
-    ensures { option_map seen_operand result ≡ plain_operand (seen_tokens tokens.now) }
-{
-    let (value, rest) = value_at(tokens)?;
-    after_value(value, rest)
-}
-
-// What stands behind `#`.
-fn hash_operand<'a>(tokens: &[Token<'a>]) -> Option<Operand<'a>>
-    ensures { option_map seen_operand result ≡ option_and_then (λ r. after_hash r) (value_at (seen_tokens tokens.now)) }
-{
-    let (value, rest) = value_at(tokens)?;
-    after_hash(value, rest)
-}
-
-// What stands behind `(`.
-fn left_operand<'a>(tokens: &[Token<'a>]) -> Option<Operand<'a>>
-    ensures { option_map seen_operand result ≡ option_and_then (λ r. after_left r.0 r.1) (value_at (seen_tokens tokens.now)) }
-{
-    let (value, rest) = value_at(tokens)?;
-    after_left(value, rest)
-}
-
-// Whether the tokens are the operand `A`.
-fn is_accumulator(tokens: &[Token<'_>]) -> bool
-    ensures { result ≡ is_accumulator (seen_tokens tokens.now) }
-{
-    match tokens {
-        [Token::Word(run)] => is_named(b"A", *run),
-        _ => false,
-    }
-}
-
-// An operand without `#` or `(` in front.
-fn bare_operand<'a>(tokens: &[Token<'a>]) -> Option<Operand<'a>>
-    ensures { option_map seen_operand result ≡ bare_operand (seen_tokens tokens.now) }
-{
-    if tokens.is_empty() {
-        Some(Operand::Nothing)
-    } else if is_accumulator(tokens) {
-        Some(Operand::Accumulator)
-    } else {
-        plain_operand(tokens)
-    }
-}
-
-// The tokens behind a `#` in front.
-fn behind_hash<'a, 't>(tokens: &'t [Token<'a>]) -> Option<&'t [Token<'a>]>
-    ensures { option_map seen_rest result ≡ behind_hash (seen_tokens tokens.now) }
-{
-    match tokens {
-        [Token::Hash, rest @ ..] => Some(rest),
-        _ => None,
-    }
-}
-
-// The tokens behind a `(` in front.
-fn behind_left<'a, 't>(tokens: &'t [Token<'a>]) -> Option<&'t [Token<'a>]>
-    ensures { option_map seen_rest result ≡ behind_left (seen_tokens tokens.now) }
-{
-    match tokens {
-        [Token::Left, rest @ ..] => Some(rest),
-        _ => None,
-    }
-}
-
-// An operand is told apart by what it begins with.
-#[tactic(auto, using(crate::proofs::ValueLemmas::operand_of_mark))]
-fn operand_of<'a>(tokens: &[Token<'a>]) -> Option<Operand<'a>>
-    ensures { option_map seen_operand result ≡ operand_of (seen_tokens tokens.now) }
-{
-    if let Some(rest) = behind_hash(tokens) {
-        return hash_operand(rest);
-    }
-    if let Some(rest) = behind_left(tokens) {
-        return left_operand(rest);
-    }
-    bare_operand(tokens)
-}
-
-// How many tokens stand before the first comma.
-fn length_before_comma(tokens: &[Token<'_>]) -> usize
-    ensures value { result ≡ prefix_len is_no_comma tokens.now }
-    ensures within { result ≤ length tokens.now }
-{
-    tokens
-        .iter()
-        .take_while(|token| !matches!(token, Token::Comma))
-        .count()
-}
-
-// The tokens before the first comma, and those behind it, if there is one.
-fn first_group<'a, 't>(tokens: &'t [Token<'a>]) -> (&'t [Token<'a>], Option<&'t [Token<'a>]>)
-    ensures groups { groups_of (seen_tokens tokens.now) ≡ seen_groups result.0.now result.1 }
-    ensures shorter { IfSome result.1 (λ rest. length rest.now < length tokens.now) }
-{
-    let end = length_before_comma(tokens);
-    if end < tokens.len() {
-        (&tokens[..end], Some(&tokens[end + 1..]))
-    } else {
-        (tokens, None)
-    }
-}
-
-// A value and nothing behind it.
-fn only_value<'a>(tokens: &[Token<'a>]) -> Option<Value<'a>>
-    ensures { option_map seen_value result ≡ only_value (value_at (seen_tokens tokens.now)) }
-{
-    let (value, rest) = value_at(tokens)?;
-    if rest.is_empty() { Some(value) } else { None }
-}
-
-// One or more values, parted by commas.
-fn values_of<'a>(alloc: Global, tokens: &[Token<'a>]) -> Result<Option<Vec<Value<'a>>>, AllocError>
-    ensures { IfOk result (λ values. option_map (λ v. seen_values v.items) values ≡ values_of (seen_tokens tokens.now)) }
-{
-    let mut values = Vec::new(alloc);
-    let mut rest = Some(tokens);
-    while let Some(tokens) = rest {
-        let (group, others) = first_group(tokens);
-        let Some(value) = only_value(group) else {
-            return Ok(None);
+    let mut rest = Some(code);
+    while let Some(code) = rest {
+        let Some((_, behind)) = first_value(code) else {
+            return false;
         };
-        values.push(value)?;
-        rest = others;
+        rest = behind;
     }
-    Ok(Some(values))
+    true
+}
+
+// The values that code is, if each of them is one.
+#[tactic(auto, using(crate::proofs::ValueLemmas::listed_all))]
+fn values_of<'a>(code: &'a [u8]) -> Option<ValueList<'a>>
+    ensures { option_map seen_list result ≡ values_of (tokens_of code.now) }
+{
+    if are_values(code) {
+        Some(ValueList { rest: Some(code) })
+    } else {
+        None
+    }
+}
+
+impl<'a> ValueList<'a> {
+    /// The first value, and the others; none where no value is left.
+    pub(crate) fn next(self) -> Option<(Value<'a>, ValueList<'a>)>
+        ensures values { seen_list self.entry ≡ seen_next_value result }
+        ensures shorter { IfSome result (λ r. length_left r.1 < length_left self.entry) }
+    {
+        let code = self.rest?;
+        let (value, rest) = first_value(code)?;
+        Some((value, ValueList { rest }))
+    }
 }
 
 // `org N`
-fn org_of<'a>(tokens: &[Token<'a>]) -> Option<Statement<'a>>
-    ensures { option_map seen_statement result ≡ org_of (seen_tokens tokens.now) }
+fn org_of<'a>(code: &'a [u8]) -> Option<Statement<'a>>
+    ensures { option_map seen_statement result ≡ org_of (tokens_of code.now) }
 {
-    match tokens {
-        [token] => Some(Statement::Org(number_of(*token)?)),
-        _ => None,
-    }
-}
-
-// `byte E, E`
-fn bytes_of<'a>(alloc: Global, tokens: &[Token<'a>]) -> Result<Option<Statement<'a>>, AllocError>
-    ensures { IfOk result (λ s. option_map seen_statement s ≡ option_map bytes (values_of (seen_tokens tokens.now))) }
-{
-    match values_of(alloc, tokens)? {
-        Some(values) => Ok(Some(Statement::Bytes(values))),
-        None => Ok(None),
-    }
-}
-
-// `word E, E`
-fn words_of<'a>(alloc: Global, tokens: &[Token<'a>]) -> Result<Option<Statement<'a>>, AllocError>
-    ensures { IfOk result (λ s. option_map seen_statement s ≡ option_map words (values_of (seen_tokens tokens.now))) }
-{
-    match values_of(alloc, tokens)? {
-        Some(values) => Ok(Some(Statement::Words(values))),
-        None => Ok(None),
+    let (token, rest) = next_token(code)?;
+    if next_token(rest).is_none() {
+        Some(Statement::Org(number_of(token)?))
+    } else {
+        None
     }
 }
 
 // An instruction, if the word is a mnemonic of either part.
-fn instruction_of<'a>(run: &[u8], tokens: &[Token<'a>]) -> Option<Statement<'a>>
-    ensures { option_map seen_statement result ≡ instruction_of (seen_tokens tokens.now) (mnemonic_of run.now) }
+fn instruction_of<'a>(run: &[u8], code: &'a [u8]) -> Option<Statement<'a>>
+    ensures { option_map seen_statement result ≡ instruction_of (tokens_of code.now) (mnemonic_of run.now) }
 {
     let mnemonic = Mnemonic::of_name(run)?;
-    let operand = operand_of(tokens)?;
+    let operand = operand_of(code)?;
     Some(Statement::Instruction(mnemonic, operand))
 }
 
 // A statement that begins with this word.
-fn word_statement<'a>(
-    alloc: Global,
-    run: &[u8],
-    tokens: &[Token<'a>],
-) -> Result<Option<Statement<'a>>, AllocError>
-    ensures { IfOk result (λ s. option_map seen_statement s ≡ word_statement run.now (seen_tokens tokens.now)) }
+fn word_statement<'a>(run: &[u8], code: &'a [u8]) -> Option<Statement<'a>>
+    ensures { option_map seen_statement result ≡ word_statement run.now (tokens_of code.now) }
 {
     if is_named(b"ORG", run) {
-        Ok(org_of(tokens))
+        org_of(code)
     } else if is_named(b"BYTE", run) {
-        bytes_of(alloc, tokens)
+        Some(Statement::Bytes(values_of(code)?))
     } else if is_named(b"WORD", run) {
-        words_of(alloc, tokens)
+        Some(Statement::Words(values_of(code)?))
     } else {
-        Ok(instruction_of(run, tokens))
-    }
-}
-
-fn statement_of<'a>(
-    alloc: Global,
-    tokens: &[Token<'a>],
-) -> Result<Option<Statement<'a>>, AllocError>
-    ensures { IfOk result (λ s. option_map seen_statement s ≡ statement_of (seen_tokens tokens.now)) }
-{
-    match tokens {
-        [Token::Word(run), rest @ ..] => word_statement(alloc, *run, rest),
-        _ => Ok(None),
+        instruction_of(run, code)
     }
 }
 
 // What stands behind a label, or without one.
-fn rest_of<'a>(
-    alloc: Global,
-    label: Option<&'a [u8]>,
-    tokens: &[Token<'a>],
-) -> Result<Option<Line<'a>>, AllocError>
-    ensures { IfOk result (λ line. option_map seen_line line ≡ option_map (λ s. record { label = option_map (λ name. name.now) label.entry; statement = s }) (rest_of (seen_tokens tokens.now))) }
+fn rest_of<'a>(label: Option<&'a [u8]>, code: &'a [u8]) -> Option<Line<'a>>
+    ensures { option_map seen_line result ≡ option_map (λ s. record { label = option_map (λ name. name.now) label.entry; statement = s }) (rest_of (tokens_of code.now)) }
 {
-    if tokens.is_empty() {
-        return Ok(Some(Line {
+    match next_token(code) {
+        None => Some(Line {
             label,
             statement: None,
-        }));
-    }
-    match statement_of(alloc, tokens)? {
-        Some(statement) => Ok(Some(Line {
+        }),
+        Some((Token::Word(run), rest)) => Some(Line {
             label,
-            statement: Some(statement),
-        })),
-        None => Ok(None),
+            statement: Some(word_statement(run, rest)?),
+        }),
+        Some(_) => None,
     }
 }
 
-// The word in front of a colon at the front of tokens, and the tokens behind it.
-fn label_in_front<'a, 't>(tokens: &'t [Token<'a>]) -> Option<(&'a [u8], &'t [Token<'a>])>
-    ensures { option_map seen_label_and_rest result ≡ label_in_front (seen_tokens tokens.now) }
+// The word in front of a colon at the front of code, and the code behind it.
+fn label_in_front<'a>(code: &'a [u8]) -> Option<(&'a [u8], &'a [u8])>
+    ensures { option_map seen_label_and_rest result ≡ label_in_front (tokens_of code.now) }
 {
-    match tokens {
-        [Token::Word(run), Token::Colon, rest @ ..] => Some((*run, rest)),
+    match next_token(code) {
+        Some((Token::Word(run), rest)) => match next_token(rest) {
+            Some((Token::Colon, behind)) => Some((run, behind)),
+            _ => None,
+        },
         _ => None,
     }
 }
 
-// The line that tokens mean, or none where they are outside the syntax.
+// The line that code means, or none where it is outside the syntax.
 #[tactic(auto, using(crate::proofs::ValueLemmas::line_of_front))]
-fn line_of<'a>(alloc: Global, tokens: &[Token<'a>]) -> Result<Option<Line<'a>>, AllocError>
-    ensures { IfOk result (λ line. option_map seen_line line ≡ line_of (seen_tokens tokens.now)) }
+fn line_of<'a>(code: &'a [u8]) -> Option<Line<'a>>
+    ensures { option_map seen_line result ≡ line_of (tokens_of code.now) }
 {
-    match label_in_front(tokens) {
-        None => rest_of(alloc, None, tokens),
+    match label_in_front(code) {
+        None => rest_of(None, code),
         Some((name, rest)) => {
             if is_label(name) {
-                rest_of(alloc, Some(name), rest)
+                rest_of(Some(name), rest)
             } else {
-                Ok(None)
+                None
             }
         }
     }
 }
 
 /// The first line of a text that has a byte, or none where it is outside the syntax, and the text behind it.
-pub(crate) fn next_line<'a>(
-    alloc: Global,
-    text: &'a [u8],
-) -> Result<(Option<Line<'a>>, &'a [u8]), AllocError>
+pub(crate) fn next_line<'a>(text: &'a [u8]) -> (Option<Line<'a>>, &'a [u8])
     requires { 0 < length text.now }
-    ensures lines { IfOk result (λ r. parsed text.now ≡ option_map seen_line r.0 ∷ parsed r.1.now) }
-    ensures shorter { IfOk result (λ r. length r.1.now < length text.now) }
+    ensures lines { parsed text.now ≡ option_map seen_line result.0 ∷ parsed result.1.now }
+    ensures shorter { length result.1.now < length text.now }
 {
     let (first, rest) = first_line(text);
-    let tokens = tokens_of(alloc, code_of(first))?;
-    Ok((line_of(alloc, &tokens)?, rest))
+    (line_of(code_of(first)), rest)
 }

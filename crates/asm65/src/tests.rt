@@ -1,6 +1,7 @@
 //! Source texts with their bytes, and with their first offending line.
 use crate::{AsmError, assemble};
 use op_table::Part::{self, Cmos, Nmos};
+use op_table::{Mode, documented};
 use std::test::Fail;
 
 #[test]
@@ -189,4 +190,132 @@ fn the_first_offending_line_is_told(rt: HostRuntime) {
             Err(told) => assert_eq!(rt; told, error, "{text}"),
         }
     }
+}
+
+// The operand that stands for a mode in a source text, and its bytes at address 0.
+fn operand_of(mode: Mode) -> (&'static str, &'static [u8]) {
+    match mode {
+        Mode::Imp | Mode::Spare => ("", &[]),
+        Mode::Acc => (" A", &[]),
+        Mode::Imm => (" #&12", &[0x12]),
+        Mode::Zp => (" &12", &[0x12]),
+        Mode::ZpX => (" &12,X", &[0x12]),
+        Mode::ZpY => (" &12,Y", &[0x12]),
+        Mode::Abs => (" &1234", &[0x34, 0x12]),
+        Mode::AbsX => (" &1234,X", &[0x34, 0x12]),
+        Mode::AbsY => (" &1234,Y", &[0x34, 0x12]),
+        Mode::IndX => (" (&12,X)", &[0x12]),
+        Mode::IndY => (" (&12),Y", &[0x12]),
+        Mode::IndZp => (" (&12)", &[0x12]),
+        Mode::Rel => (" &0012", &[0x10]),
+        Mode::Ind => (" (&1234)", &[0x34, 0x12]),
+        Mode::IndAbsX => (" (&1234,X)", &[0x34, 0x12]),
+    }
+}
+
+#[test]
+fn each_documented_form_has_its_opcode(rt: HostRuntime) -> Result<(), Fail> {
+    for part in [Nmos, Cmos] {
+        for op in 0..=255u8 {
+            if let Some(row) = documented(part, op) {
+                let (operand, bytes) = operand_of(row.mode);
+                let mut text = Vec::from_array(rt.alloc(), row.mnemonic.name())?;
+                text.extend_from_slice(operand.as_bytes())?;
+                let mut want = Vec::from_array(rt.alloc(), [op])?;
+                want.extend_from_slice(bytes)?;
+                let image = assemble(rt.alloc(), part, &text)?;
+                assert_eq!(rt; image.bytes, want, "{part:?} {op:02X}");
+            }
+        }
+    }
+    Ok(())
+}
+
+#[test]
+fn images_fill_the_memory_and_no_more(rt: HostRuntime) -> Result<(), Fail> {
+    let long = |line| AsmError::TooLong { line };
+    // A text that fills the memory: its beginning, a piece and how often it stands, and its end; then what is too much.
+    let rows: [(&str, &str, usize, &str, &str, AsmError); 8] = [
+        ("", "LDA &1234,X\n", 21_845, "NOP\n", "NOP", long(21_847)),
+        (
+            "",
+            "byte 1,2,3,4, 5,6,7,8 ; eight bytes\n",
+            8_192,
+            "\n",
+            "NOP",
+            long(8_194),
+        ),
+        ("word 1,2\norg 65535\n", "", 0, "byte 0\n", "NOP", long(4)),
+        (
+            "BRK:BRK\norg 65532\n",
+            "",
+            0,
+            "word BRK,1\n\n",
+            "byte 1",
+            long(5),
+        ),
+        // One line of as many values.
+        ("byte 1", ",1", 65_535, "", ",1", long(1)),
+        ("byte 1", ",1", 65_535, "", ",q", long(1)),
+        (
+            "byte 1",
+            ",1",
+            65_535,
+            "",
+            ",65536",
+            AsmError::OutOfRange { line: 1 },
+        ),
+        (
+            "word <1",
+            ", >1",
+            32_767,
+            "",
+            ",",
+            AsmError::Syntax { line: 1 },
+        ),
+    ];
+    for part in [Nmos, Cmos] {
+        for (head, piece, count, tail, more, error) in rows {
+            let mut text = Vec::new(rt.alloc());
+            text.extend_from_slice(head.as_bytes())?;
+            for _ in 0..count {
+                text.extend_from_slice(piece.as_bytes())?;
+            }
+            text.extend_from_slice(tail.as_bytes())?;
+            let image = assemble(rt.alloc(), part, &text)?;
+            assert_eq!(rt; image.bytes.len(), 65_536, "{head}{piece}");
+            text.extend_from_slice(more.as_bytes())?;
+            match assemble(rt.alloc(), part, &text) {
+                Ok(_) => assert!(rt; false, "{head}{piece}{more}"),
+                Err(told) => assert_eq!(rt; told, error, "{head}{piece}{more}"),
+            }
+        }
+    }
+    Ok(())
+}
+
+#[test]
+fn errors_have_their_texts(rt: HostRuntime) -> Result<(), Fail> {
+    let rows = [
+        (AsmError::Syntax { line: 1 }, "line 1: syntax"),
+        (
+            AsmError::NoSuchForm { line: 20 },
+            "line 20: no such form of the instruction",
+        ),
+        (AsmError::UnknownLabel { line: 3 }, "line 3: unknown label"),
+        (
+            AsmError::Repeated { line: 400 },
+            "line 400: the label stands at an earlier line",
+        ),
+        (AsmError::OutOfRange { line: 5 }, "line 5: out of range"),
+        (
+            AsmError::TooLong { line: 65_536 },
+            "line 65536: past the end of memory",
+        ),
+        (AsmError::NoMemory, "no memory"),
+    ];
+    for (error, text) in rows {
+        assert_eq!(rt; format!(in rt.alloc(); "{error}")?.as_str(), text);
+    }
+    Ok(())
 }

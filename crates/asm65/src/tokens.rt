@@ -1,12 +1,10 @@
-//! The lines of a source text, and the tokens of a line.
-ghost use Rattle.std.specs.Prelude.{◌≡◌, ◌<◌, ◌≤◌, ◌==◌, not, false, length, IfOk, OnOk, ◌∷◌, []};
+//! The lines of a source text, and the tokens of a line, one after another.
+ghost use Rattle.std.specs.Prelude.{◌≡◌, ◌+◌, ◌<◌, ◌≤◌, ◌==◌, not, false, length, IfSome, ◌∷◌};
 ghost use Rattle.std.specs.List.{prefix_len};
-ghost use Rattle.asm65.specs.Tokens.{is_word_byte, is_blank, mark, code_of, lines_of, tokens_of, word_before, cut_with};
-ghost use Rattle.asm65.specs.Seen.{seen_token, seen_tokens, seen_backwards, seen_cut};
+ghost use Rattle.asm65.specs.Tokens.{is_word_byte, is_blank, mark, code_of, lines_of, tokens_of, cut};
+ghost use Rattle.asm65.specs.Seen.{seen_token, seen_next};
 
-use std::alloc::{AllocError, Global};
-
-/// A token of a line. What it was read from lives on in the text.
+/// A token of a line.
 #[derive(Clone, Copy)]
 pub(crate) enum Token<'a> {
     /// A run of letters, digits and `_`.
@@ -84,48 +82,52 @@ fn mark<'a>(b: u8) -> Token<'a>
     }
 }
 
-// Puts a run behind the tokens as a word, if it has a byte.
-fn push_word<'a>(tokens: &mut Vec<Token<'a>>, run: &'a [u8]) -> Result<(), AllocError>
-    ensures { OnOk result (seen_backwards tokens.new.items ≡ word_before run.now (seen_backwards tokens.old.items)) }
+fn run_length(code: &[u8]) -> usize
+    ensures value { result ≡ prefix_len is_word_byte code.now }
+    ensures within { result ≤ length code.now }
 {
-    if !run.is_empty() {
-        tokens.push(Token::Word(run))?;
-    }
-    Ok(())
+    code.iter().take_while(|b| is_word_byte(**b)).count()
 }
 
-// Puts behind the tokens what a byte that is in no run makes with the run that stands behind it in the line.
-fn push_byte<'a>(tokens: &mut Vec<Token<'a>>, b: u8, run: &'a [u8]) -> Result<(), AllocError>
-    requires { is_word_byte b ≡ false }
-    ensures { OnOk result (seen_cut [] tokens.new.items ≡ cut_with b (seen_cut run.now tokens.old.items)) }
+// The run at the front of code, which may be empty, and the code behind it.
+fn run_and_rest(code: &[u8]) -> (&[u8], &[u8])
+    ensures run { (cut code.now).run ≡ result.0.now }
+    ensures rest { (cut code.now).tokens ≡ tokens_of result.1.now }
+    ensures split { length result.0.now + length result.1.now ≡ length code.now }
 {
-    if b == b'&' {
-        tokens.push(Token::Hex(run))?;
-        return Ok(());
-    }
-    push_word(tokens, run)?;
-    if !is_blank(b) {
-        tokens.push(mark(b))?;
-    }
-    Ok(())
+    let end = run_length(code);
+    (&code[..end], &code[end..])
 }
 
-/// The tokens of the code of a line.
-pub(crate) fn tokens_of<'a>(alloc: Global, code: &'a [u8]) -> Result<Vec<Token<'a>>, AllocError>
-    ensures { IfOk result (λ v. seen_tokens v.items ≡ tokens_of code.now) }
+// The token at the front of code that begins with this byte, and the code behind it.
+fn token_at<'a>(first: u8, behind: &'a [u8], code: &'a [u8]) -> (Token<'a>, &'a [u8])
+    requires front { code.now ≡ first ∷ behind.now }
+    requires not_blank { is_blank first ≡ false }
+    ensures tokens { tokens_of code.now ≡ seen_token result.0 ∷ tokens_of result.1.now }
+    ensures shorter { length result.1.now < length code.now }
 {
-    let mut tokens = Vec::new(alloc);
+    if is_word_byte(first) {
+        let (run, rest) = run_and_rest(code);
+        (Token::Word(run), rest)
+    } else if first == b'&' {
+        let (run, rest) = run_and_rest(behind);
+        (Token::Hex(run), rest)
+    } else {
+        (mark(first), behind)
+    }
+}
 
-    // From the end: a run is whole when the byte in front of it is reached.
-    let mut end = code.len();
-    for i in (0..code.len()).rev() {
-        let b = code[i];
-        if !is_word_byte(b) {
-            push_byte(&mut tokens, b, &code[i + 1..end])?;
-            end = i;
+/// The first token of code, and the code behind it; none where no token is left.
+pub(crate) fn next_token<'a>(code: &'a [u8]) -> Option<(Token<'a>, &'a [u8])>
+    ensures tokens { tokens_of code.now ≡ seen_next result }
+    ensures shorter { IfSome result (λ r. length r.1.now < length code.now) }
+{
+    let mut rest = code;
+    while let [first, behind @ ..] = rest {
+        if !is_blank(*first) {
+            return Some(token_at(*first, behind, rest));
         }
+        rest = behind;
     }
-    push_word(&mut tokens, &code[..end])?;
-    tokens.reverse();
-    Ok(tokens)
+    None
 }

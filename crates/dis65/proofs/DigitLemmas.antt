@@ -3,8 +3,8 @@ use Rattle.std.proofs.Common.{◌≡◌, ℕ, ◌+◌, ◌*◌, ◌/◌, ◌%◌
 use Rattle.std.specs.List.{list_all}
 use Rattle.std.proofs.lemmas.Bool.{agree_below_at}
 use Rattle.asm65.specs.Tokens.{is_word_byte}
-use Rattle.asm65.specs.Syntax.{is_hex, hex_value, hex_number}
-use Rattle.dis65.specs.Listing.{hex_digit, two_digits, four_digits}
+use Rattle.asm65.specs.Syntax.{hex_number}
+use Rattle.digits.specs.Hexadecimal.{hex_digit, hex_digits, is_hex_any_case, hex_value}
 
 -- neither a line feed nor the beginning of a comment
 abbrev pub is_inner : ℕ → Bool
@@ -17,8 +17,8 @@ digit_is_word d h = agree_below_at (λ k. is_word_byte (hex_digit k)) (λ _. tru
 pub digit_is_inner : (d : ℕ) → d < 16 → is_inner (hex_digit d) ≡ true
 digit_is_inner d h = agree_below_at (λ k. is_inner (hex_digit k)) (λ _. true) 16 d refl h
 
-digit_is_hex : (d : ℕ) → d < 16 → is_hex (hex_digit d) ≡ true
-digit_is_hex d h = agree_below_at (λ k. is_hex (hex_digit k)) (λ _. true) 16 d refl h
+digit_is_hex : (d : ℕ) → d < 16 → is_hex_any_case (hex_digit d) ≡ true
+digit_is_hex d h = agree_below_at (λ k. is_hex_any_case (hex_digit k)) (λ _. true) 16 d refl h
 
 digit_value : (d : ℕ) → d < 16 → hex_value (hex_digit d) ≡ d
 digit_value d h = eqb-true _ _ (agree_below_at (λ k. eqb (hex_value (hex_digit k)) k) (λ _. true) 16 d refl h)
@@ -47,13 +47,15 @@ four a b c d h i j k = record {
 }
 
 -- a byte in two digits
-pub two_spell : (n : ℕ) → n < 256 → Spells (two_digits n) n true
+pub two_spell : (n : ℕ) → n < 256 → Spells (hex_digits 2 n) n true
+unfolding hex_digits
 two_spell n h =
-    let e : 16 * (n / 16) + n % 16 ≡ n = omega arith in
-    rw e at (two (n / 16) (n % 16) (omega arith) (omega arith))
+    let e : 16 * (n / 16 % 16) + n / 1 % 16 ≡ n = omega arith in
+    rw e at (two (n / 16 % 16) (n / 1 % 16) (omega arith) (omega arith))
 
 -- a word in four
-pub four_spell : (n : ℕ) → n < 65536 → Spells (four_digits n) n false
+pub four_spell : (n : ℕ) → n < 65536 → Spells (hex_digits 4 n) n false
+unfolding hex_digits
 four_spell n h =
-    let e : 16 * (16 * (16 * (n / 256 / 16) + n / 256 % 16) + n % 256 / 16) + n % 256 % 16 ≡ n = omega arith in
-    rw e at (four (n / 256 / 16) (n / 256 % 16) (n % 256 / 16) (n % 256 % 16) (omega arith) (omega arith) (omega arith) (omega arith))
+    let e : 16 * (16 * (16 * (n / 4096 % 16) + n / 256 % 16) + n / 16 % 16) + n / 1 % 16 ≡ n = omega arith in
+    rw e at (four (n / 4096 % 16) (n / 256 % 16) (n / 16 % 16) (n / 1 % 16) (omega arith) (omega arith) (omega arith) (omega arith))

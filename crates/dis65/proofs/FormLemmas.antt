@@ -1,18 +1,17 @@
 -- What the forms of a part have in common is true of the one that is found.
-use Rattle.std.proofs.Common.{◌≡◌, ℕ, List, [], ◌∷◌, refl, ap, sym, ◌∙◌, subst, Option, Some, None, Bool, true, false, not, ◌&&◌, ◌==◌, ◌-◌, ◌<◌, ◌≤◌, nat_le, cond, arith, lit≤, ◌++◌, codes, option_map, find}
+use Rattle.std.proofs.Common.{◌≡◌, ℕ, List, [], ◌∷◌, refl, ap, sym, ◌∙◌, subst, Option, Some, None, Bool, true, false, not, ◌&&◌, ◌-◌, ◌<◌, ◌≤◌, nat_le, cond, arith, lit≤, ◌++◌, codes, option_map, find}
 use Rattle.std.specs.List.{list_all}
 use Rattle.std.specs.Prelude.{slice_index}
 use Rattle.std.proofs.lemmas.Bool.{leb-true}
 use Rattle.std.proofs.lemmas.Bool.Decides.{nat_tests}
 use Rattle.op_table.specs.declared.Part.{Part}
-use Rattle.op_table.specs.declared.Part.TheVariants.{Nmos, Cmos}
 use Rattle.op_table.specs.declared.Mode.{Mode}
 use Rattle.op_table.specs.declared.Mnemonic.{Mnemonic}
-use Rattle.op_table.specs.declared.Mode.TheVariants.{Imp, Spare}
+use Rattle.op_table.specs.declared.Mode.TheVariants.{Imp}
 use Rattle.op_table.specs.declared.Row.{Row}
-use Rattle.op_table.specs.Names.{same_mode, name_of}
-use Rattle.op_table.specs.Forms.{Form, forms, form_at}
-use Rattle.op_table.specs.Rows.{nmos_row, cmos_row, row_of, row_or_spare, bytes_of}
+use Rattle.op_table.specs.Names.{name_of}
+use Rattle.op_table.specs.Forms.{Form}
+use Rattle.op_table.specs.Rows.{row_of, bytes_of}
 use Rattle.dis65.specs.Listing.{if_whole, line_text, passed, operand_text}
 
 -- the line of an instruction, by the bytes behind its opcode
@@ -48,54 +47,6 @@ found_passes p q (g ∷ fs) f h e =
     first p q g fs f h rest false at e =
         let there : find p (g ∷ fs) ≡ find p fs = rw at refl in
         rest (sym there ∙ e)
-
--- ---- the rows of the opcodes that are documented
-
-abbrev is_used : Form → Bool
-is_used f = not (same_mode f.mode Spare)
-
--- no documented form is spare
-all_used : list_all is_used (forms Cmos) ≡ true
-all_used = refl
-
--- nor is the one that is found
-found_used : (op : ℕ) (f : Form) → form_at (forms Cmos) op ≡ Some f → is_used f ≡ true
-found_used op f e = (found_passes (λ x. x.opcode == op) is_used (forms Cmos) f all_used e).1
-
--- the row of an opcode of the NMOS part
-pub nmos_documented : (part : Part) (op : ℕ) (r : Option Row) → part ≡ Nmos → r ≡ nmos_row op
-    → r ≡ option_map (row_of part) (form_at (forms part) op)
-unfolding nmos_row
-nmos_documented part op r at e = rw at e
-
--- an opcode with a spare row has no form
-spare_or : (op : ℕ) (r : Row) (o : Option Form) → form_at (forms Cmos) op ≡ o → r ≡ row_or_spare op o
-    → same_mode r.mode Spare ≡ true → None ≡ option_map (row_of Cmos) o
-spare_or op r None at e s = refl
-spare_or op r (Some f) at e s =
-    let used = found_used op f at in
-    let same : same_mode f.mode Spare ≡ true = subst (λ (x : Row). same_mode x.mode Spare ≡ true) e s in
-    let never : false ≡ true = rw same at used in
-    cc
-
--- any other row is that of a form
-used_or : (op : ℕ) (r : Row) (o : Option Form) → r ≡ row_or_spare op o
-    → same_mode r.mode Spare ≡ false → Some r ≡ option_map (row_of Cmos) o
-used_or op r None e s =
-    let same : same_mode Spare Spare ≡ false = subst (λ (x : Row). same_mode x.mode Spare ≡ false) e s in
-    cc
-used_or op r (Some f) e s = ap Some e
-
--- the row of an opcode of the 65C02, where it is spare and where it is not
-pub cmos_spare : (part : Part) (op : ℕ) (r : Row) → part ≡ Cmos → r ≡ cmos_row op → same_mode r.mode Spare ≡ true
-    → None ≡ option_map (row_of part) (form_at (forms part) op)
-unfolding cmos_row
-cmos_spare part op r at e s = rw at (spare_or op r (form_at (forms Cmos) op) refl e s)
-
-pub cmos_documented : (part : Part) (op : ℕ) (r : Row) → part ≡ Cmos → r ≡ cmos_row op → same_mode r.mode Spare ≡ false
-    → Some r ≡ option_map (row_of part) (form_at (forms part) op)
-unfolding cmos_row
-cmos_documented part op r at e s = rw at (used_or op r (form_at (forms Cmos) op) e s)
 
 -- ---- the rows of the instructions whose bytes are all there
 

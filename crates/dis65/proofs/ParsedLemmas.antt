@@ -8,7 +8,8 @@ use Rattle.op_table.specs.Names.{name_of}
 use Rattle.op_table.specs.Forms.{Form}
 use Rattle.asm65.specs.Tokens.{lines_of, code_of, tokens_of}
 use Rattle.asm65.specs.Syntax.{Statement, instruction, org, bytes, Line, line_of, parsed}
-use Rattle.dis65.specs.Listing.{lines_from, line_text, form_here, passed, decode, operand_text, four_digits, two_digits}
+use Rattle.digits.specs.Hexadecimal.{hex_digits}
+use Rattle.dis65.specs.Listing.{lines_from, line_text, form_here, passed, decode, operand_text}
 use Rattle.dis65.proofs.FormLemmas.{both, not_true}
 use Rattle.dis65.proofs.DigitLemmas.{is_inner}
 use Rattle.dis65.proofs.ModeLemmas.{plain, is_small, number_at, operand_by}
@@ -83,7 +84,8 @@ listed part at zero (op ∷ xs) =
 -- that line is read as its statement
 first_line : (at op : ℕ) (behind rest : List ℕ) (o : Option Form) → op < 256 → AreBytes behind
     → parsed (line_text at op behind o ++ rest) ≡ unlabelled (statement_at at op behind o) ∷ parsed rest
-first_line at op behind rest None h all = parsed_line (codes "byte &" ++ two_digits op) rest _ (byte_line op h)
+unfolding hex_digits
+first_line at op behind rest None h all = parsed_line (codes "byte &" ++ hex_digits 2 op) rest _ (byte_line op h)
 first_line at op behind rest (Some f) h all =
     let line = name_of f.mnemonic ++ operand_text at f.mode (slice_index behind 0) (slice_index behind 1) in
     ap parsed (append_assoc line (codes "\n") rest)
@@ -101,7 +103,7 @@ parsed_lines part at zero (op ∷ xs) all =
 -- the whole text
 pub parsed_decode : (part : Part) (origin : ℕ) (xs : List ℕ) → origin < 65536 → AreBytes xs
     → parsed (decode part xs origin) ≡ unlabelled (org (record { value = origin; byte_sized = false })) ∷ listed part origin 0 xs
-unfolding decode
+unfolding decode hex_digits
 parsed_decode part origin xs h all =
-    parsed_line (codes "org &" ++ four_digits origin) (lines_from part origin 0 xs) _ (org_line origin h)
+    parsed_line (codes "org &" ++ hex_digits 4 origin) (lines_from part origin 0 xs) _ (org_line origin h)
     ∙ ap (λ ls. unlabelled (org (record { value = origin; byte_sized = false })) ∷ ls) (parsed_lines part origin 0 xs all)

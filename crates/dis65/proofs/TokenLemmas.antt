@@ -9,7 +9,8 @@ use Rattle.op_table.specs.declared.Mode.TheVariants.{Imp, Acc, Imm, Zp, ZpX, ZpY
 use Rattle.op_table.specs.Names.{name_of, mnemonic_of}
 use Rattle.asm65.specs.Tokens.{Token, word, hex, colon, comma, hash, left, right, is_word_byte, cut, tokens_of, word_before, joined}
 use Rattle.asm65.specs.Syntax.{is_named, Operand, nothing, accumulator, immediate, direct, direct_x, direct_y, indirect, indirect_x, indirect_y, Statement, instruction, org, bytes, operand_of, line_of, rest_of}
-use Rattle.dis65.specs.Listing.{operand_text, two_digits, four_digits, target}
+use Rattle.digits.specs.Hexadecimal.{hex_digits}
+use Rattle.dis65.specs.Listing.{operand_text, target}
 use Rattle.dis65.proofs.FormLemmas.{both}
 use Rattle.dis65.proofs.DigitLemmas.{is_inner, Spells, two_spell, four_spell}
 use Rattle.dis65.proofs.BranchLemmas.{target_fits}
@@ -168,19 +169,19 @@ operand_is : (at : ℕ) (way : Mode) (l h : ℕ) → l < 256 → h < 256
     → IsOperand (operand_text at way l h) (operand_by way (plain (number_at at way l h) (is_small way)))
 operand_is at Imp l h low_fits high_fits = as_nothing
 operand_is at Acc l h low_fits high_fits = as_accumulator
-operand_is at Imm l h low_fits high_fits = as_immediate (two_digits l) l true (two_spell l low_fits)
-operand_is at Zp l h low_fits high_fits = as_direct (two_digits l) l true (two_spell l low_fits)
-operand_is at ZpX l h low_fits high_fits = as_direct_x (two_digits l) l true (two_spell l low_fits)
-operand_is at ZpY l h low_fits high_fits = as_direct_y (two_digits l) l true (two_spell l low_fits)
-operand_is at Abs l h low_fits high_fits = as_direct (four_digits (l + 256 * h)) _ false (four_spell (l + 256 * h) (omega arith))
-operand_is at AbsX l h low_fits high_fits = as_direct_x (four_digits (l + 256 * h)) _ false (four_spell (l + 256 * h) (omega arith))
-operand_is at AbsY l h low_fits high_fits = as_direct_y (four_digits (l + 256 * h)) _ false (four_spell (l + 256 * h) (omega arith))
-operand_is at IndX l h low_fits high_fits = as_indirect_x (two_digits l) l true (two_spell l low_fits)
-operand_is at IndY l h low_fits high_fits = as_indirect_y (two_digits l) l true (two_spell l low_fits)
-operand_is at IndZp l h low_fits high_fits = as_indirect (two_digits l) l true (two_spell l low_fits)
-operand_is at Rel l h low_fits high_fits = as_direct (four_digits (target at l)) _ false (four_spell (target at l) (target_fits at l))
-operand_is at Ind l h low_fits high_fits = as_indirect (four_digits (l + 256 * h)) _ false (four_spell (l + 256 * h) (omega arith))
-operand_is at IndAbsX l h low_fits high_fits = as_indirect_x (four_digits (l + 256 * h)) _ false (four_spell (l + 256 * h) (omega arith))
+operand_is at Imm l h low_fits high_fits = as_immediate (hex_digits 2 l) l true (two_spell l low_fits)
+operand_is at Zp l h low_fits high_fits = as_direct (hex_digits 2 l) l true (two_spell l low_fits)
+operand_is at ZpX l h low_fits high_fits = as_direct_x (hex_digits 2 l) l true (two_spell l low_fits)
+operand_is at ZpY l h low_fits high_fits = as_direct_y (hex_digits 2 l) l true (two_spell l low_fits)
+operand_is at Abs l h low_fits high_fits = as_direct (hex_digits 4 (l + 256 * h)) _ false (four_spell (l + 256 * h) (omega arith))
+operand_is at AbsX l h low_fits high_fits = as_direct_x (hex_digits 4 (l + 256 * h)) _ false (four_spell (l + 256 * h) (omega arith))
+operand_is at AbsY l h low_fits high_fits = as_direct_y (hex_digits 4 (l + 256 * h)) _ false (four_spell (l + 256 * h) (omega arith))
+operand_is at IndX l h low_fits high_fits = as_indirect_x (hex_digits 2 l) l true (two_spell l low_fits)
+operand_is at IndY l h low_fits high_fits = as_indirect_y (hex_digits 2 l) l true (two_spell l low_fits)
+operand_is at IndZp l h low_fits high_fits = as_indirect (hex_digits 2 l) l true (two_spell l low_fits)
+operand_is at Rel l h low_fits high_fits = as_direct (hex_digits 4 (target at l)) _ false (four_spell (target at l) (target_fits at l))
+operand_is at Ind l h low_fits high_fits = as_indirect (hex_digits 4 (l + 256 * h)) _ false (four_spell (l + 256 * h) (omega arith))
+operand_is at IndAbsX l h low_fits high_fits = as_indirect_x (hex_digits 4 (l + 256 * h)) _ false (four_spell (l + 256 * h) (omega arith))
 operand_is at Spare l h low_fits high_fits = as_nothing
 
 -- ---- lines
@@ -215,8 +216,8 @@ byte_means run n small s =
     record { inner = s.inner; reads = ap (λ c. line_of (joined c)) cuts ∙ rw s.number refl }
 
 -- and over those that are written
-pub org_line : (n : ℕ) → n < 65536 → Means (codes "org &" ++ four_digits n) (org (record { value = n; byte_sized = false }))
-org_line n h = org_means (four_digits n) n false (four_spell n h)
+pub org_line : (n : ℕ) → n < 65536 → Means (codes "org &" ++ hex_digits 4 n) (org (record { value = n; byte_sized = false }))
+org_line n h = org_means (hex_digits 4 n) n false (four_spell n h)
 
-pub byte_line : (n : ℕ) → n < 256 → Means (codes "byte &" ++ two_digits n) (bytes (plain n true ∷ []))
-byte_line n h = byte_means (two_digits n) n true (two_spell n h)
+pub byte_line : (n : ℕ) → n < 256 → Means (codes "byte &" ++ hex_digits 2 n) (bytes (plain n true ∷ []))
+byte_line n h = byte_means (hex_digits 2 n) n true (two_spell n h)

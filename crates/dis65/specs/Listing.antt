@@ -1,23 +1,12 @@
 -- The text of a disassembly.
-use Rattle.std.specs.Prelude.{ℕ, zero, suc, ◌+◌, ◌-◌, ◌*◌, ◌/◌, ◌%◌, nat_lt, nat_le, List, [], ◌∷◌, ◌++◌, length, slice_index, Option, Some, None, if◌then◌else◌, codes}
+use Rattle.std.specs.Prelude.{ℕ, zero, suc, ◌+◌, ◌-◌, ◌*◌, ◌%◌, nat_lt, nat_le, List, [], ◌∷◌, ◌++◌, length, slice_index, Option, Some, None, if◌then◌else◌, codes}
+use Rattle.digits.specs.Hexadecimal.{hex_digits}
 use Rattle.op_table.specs.declared.Part.{Part}
 use Rattle.op_table.specs.declared.Mode.{Mode}
 use Rattle.op_table.specs.declared.Mode.TheVariants.{Imp, Acc, Imm, Zp, ZpX, ZpY, Abs, AbsX, AbsY, IndX, IndY, IndZp, Rel, Ind, IndAbsX, Spare}
 use Rattle.op_table.specs.Names.{name_of}
 use Rattle.op_table.specs.Forms.{Form, forms, form_at}
 use Rattle.op_table.specs.Rows.{bytes_of}
-
--- an upper-case hexadecimal digit
-abbrev pub hex_digit : ℕ → ℕ
-hex_digit d = if nat_lt d 10 then 48 + d else 55 + d
-
--- a byte in two digits
-abbrev pub two_digits : ℕ → List ℕ
-two_digits n = hex_digit (n / 16) ∷ hex_digit (n % 16) ∷ []
-
--- a word in four
-abbrev pub four_digits : ℕ → List ℕ
-four_digits n = two_digits (n / 256) ++ two_digits (n % 256)
 
 -- where a branch at this address goes that goes this far
 abbrev pub target : ℕ → ℕ → ℕ
@@ -27,19 +16,19 @@ target at far = (at + 2 + (if nat_lt far 128 then far else 65280 + far)) % 65536
 abbrev pub operand_text : ℕ → Mode → ℕ → ℕ → List ℕ
 operand_text at Imp low high = []
 operand_text at Acc low high = codes " A"
-operand_text at Imm low high = codes " #&" ++ two_digits low
-operand_text at Zp low high = codes " &" ++ two_digits low
-operand_text at ZpX low high = codes " &" ++ two_digits low ++ codes ",X"
-operand_text at ZpY low high = codes " &" ++ two_digits low ++ codes ",Y"
-operand_text at Abs low high = codes " &" ++ four_digits (low + 256 * high)
-operand_text at AbsX low high = codes " &" ++ four_digits (low + 256 * high) ++ codes ",X"
-operand_text at AbsY low high = codes " &" ++ four_digits (low + 256 * high) ++ codes ",Y"
-operand_text at IndX low high = codes " (&" ++ two_digits low ++ codes ",X)"
-operand_text at IndY low high = codes " (&" ++ two_digits low ++ codes "),Y"
-operand_text at IndZp low high = codes " (&" ++ two_digits low ++ codes ")"
-operand_text at Rel low high = codes " &" ++ four_digits (target at low)
-operand_text at Ind low high = codes " (&" ++ four_digits (low + 256 * high) ++ codes ")"
-operand_text at IndAbsX low high = codes " (&" ++ four_digits (low + 256 * high) ++ codes ",X)"
+operand_text at Imm low high = codes " #&" ++ hex_digits 2 low
+operand_text at Zp low high = codes " &" ++ hex_digits 2 low
+operand_text at ZpX low high = codes " &" ++ hex_digits 2 low ++ codes ",X"
+operand_text at ZpY low high = codes " &" ++ hex_digits 2 low ++ codes ",Y"
+operand_text at Abs low high = codes " &" ++ hex_digits 4 (low + 256 * high)
+operand_text at AbsX low high = codes " &" ++ hex_digits 4 (low + 256 * high) ++ codes ",X"
+operand_text at AbsY low high = codes " &" ++ hex_digits 4 (low + 256 * high) ++ codes ",Y"
+operand_text at IndX low high = codes " (&" ++ hex_digits 2 low ++ codes ",X)"
+operand_text at IndY low high = codes " (&" ++ hex_digits 2 low ++ codes "),Y"
+operand_text at IndZp low high = codes " (&" ++ hex_digits 2 low ++ codes ")"
+operand_text at Rel low high = codes " &" ++ hex_digits 4 (target at low)
+operand_text at Ind low high = codes " (&" ++ hex_digits 4 (low + 256 * high) ++ codes ")"
+operand_text at IndAbsX low high = codes " (&" ++ hex_digits 4 (low + 256 * high) ++ codes ",X)"
 operand_text at Spare low high = []
 
 -- the form, where all its bytes are there
@@ -53,7 +42,7 @@ form_here part op behind = if_whole (length behind + 1) (form_at (forms part) op
 
 -- the line of an instruction, or of a byte that is none
 abbrev pub line_text : ℕ → ℕ → List ℕ → Option Form → List ℕ
-line_text at op behind None = codes "byte &" ++ two_digits op ++ codes "\n"
+line_text at op behind None = codes "byte &" ++ hex_digits 2 op ++ codes "\n"
 line_text at op behind (Some f) = name_of f.mnemonic ++ operand_text at f.mode (slice_index behind 0) (slice_index behind 1) ++ codes "\n"
 
 -- how many bytes behind its first a line takes
@@ -70,4 +59,4 @@ lines_from part at zero (op ∷ bytes) =
 
 -- The text of bytes from an origin on.
 unfoldable pub decode : Part → List ℕ → ℕ → List ℕ
-decode part bytes origin = codes "org &" ++ four_digits origin ++ codes "\n" ++ lines_from part origin 0 bytes
+decode part bytes origin = codes "org &" ++ hex_digits 4 origin ++ codes "\n" ++ lines_from part origin 0 bytes

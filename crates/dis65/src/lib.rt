@@ -6,11 +6,11 @@ ghost use Rattle.asm65.specs.Source.{source};
 ghost use Rattle.dis65.specs.Listing.{decode};
 ghost use Rattle.dis65.specs.Meaning.{DecodeMeansItsBytes};
 
-mod digits;
 mod line;
+mod number;
 
-use crate::digits::push_word;
 use crate::line::push_line;
+use crate::number::push_word;
 use beeb_bits::NoMemory;
 use op_table::Part;
 use std::alloc::{AllocError, Global};

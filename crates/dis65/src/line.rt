@@ -5,8 +5,8 @@ ghost use Rattle.op_table.specs.Rows.{row_of};
 ghost use Rattle.op_table.specs.Names.{name_of};
 ghost use Rattle.dis65.specs.Listing.{target, operand_text, if_whole, form_here, line_text, passed};
 
-use crate::digits::{push_byte, push_word};
-use op_table::{Mode, Part, Row, cmos, nmos};
+use crate::number::{push_byte, push_word};
+use op_table::{Mode, Part, Row, documented};
 use std::alloc::AllocError;
 
 // Where a branch at an address goes: from the next instruction on, as far as its signed operand says.
@@ -47,24 +47,7 @@ fn push_operand(
     }
 }
 
-// The row of an opcode, if it is documented for the part.
-fn documented(part: Part, op: u8) -> Option<Row>
-    ensures { result ≡ option_map (row_of part) (form_at (forms part) op) }
-{
-    match part {
-        Part::Nmos => nmos(op),
-        Part::Cmos => {
-            let row = cmos(op);
-            if row.mode == Mode::Spare {
-                None
-            } else {
-                Some(row)
-            }
-        }
-    }
-}
-
-// The same, if as many bytes are available, its own included, as the instruction takes.
+// The row of an opcode, if it is documented for the part and as many bytes are available, its own included, as the instruction takes.
 fn whole(part: Part, op: u8, available: usize) -> Option<Row>
     ensures { result ≡ option_map (row_of part) (if_whole available (form_at (forms part) op)) }
 {

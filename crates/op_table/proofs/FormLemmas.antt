@@ -1,5 +1,5 @@
 -- The forms of a part and the rows of its opcodes lead to one another.
-use Rattle.std.proofs.Common.{◌≡◌, ℕ, ◌<◌, ◌↔◌, List, [], ◌∷◌, refl, ap, sym, subst, ◌∙◌, Option, Some, None, Bool, true, false, eqb, ltb, ◌&&◌, MatchOption, IsSome, Any, eqb-true, is_some, eq-eqb, ◌==◌, option_map, find, filter}
+use Rattle.std.proofs.Common.{◌≡◌, ℕ, ◌<◌, ◌↔◌, List, [], ◌∷◌, refl, ap, sym, subst, ◌∙◌, Option, Some, None, Bool, true, false, eqb, ltb, ◌&&◌, MatchOption, IsSome, Any, eqb-true, is_some, eq-eqb, ◌==◌, not, option_map, find, filter, IfSome}
 use Rattle.std.specs.List.{list_all, list_any}
 use Rattle.std.proofs.lemmas.Bool.{agree_below_at, ltb-true}
 use Rattle.std.proofs.lemmas.List.Folds.{Any-from_list_any, list_any-from_Any}
@@ -10,11 +10,12 @@ use Rattle.op_table.specs.declared.names.Part.{Part}
 use Rattle.op_table.specs.declared.names.Part.TheVariants.{Nmos, Cmos}
 use Rattle.op_table.specs.declared.names.Mnemonic.{Mnemonic}
 use Rattle.op_table.specs.declared.names.Mode.{Mode}
+use Rattle.op_table.specs.declared.names.Mode.TheVariants.{Spare}
 use Rattle.op_table.specs.declared.rows.Row.{Row}
 use Rattle.op_table.specs.Names.{same_mnemonic, same_mode}
 use Rattle.op_table.proofs.RowTables.{both}
 use Rattle.op_table.specs.Forms.{Form, forms, IsDocumented, form_at, find_form}
-use Rattle.op_table.specs.Rows.{nmos_row, cmos_row, row_of, documented_row, Names}
+use Rattle.op_table.specs.Rows.{nmos_row, cmos_row, row_of, row_or_spare, unless_spare, documented_row, Names}
 
 -- a row of this mnemonic in this mode
 abbrev Fits : Mnemonic → Mode → Row → Type 0
@@ -227,20 +228,76 @@ is_some-find p (f ∷ fs) = head p f fs (is_some-find p fs) (p f) refl
     head p f fs rest true e = rw e refl
     head p f fs rest false e = rw e rest
 
-mapped_some : (o : Option Form) → IsSome (option_map (row_of Nmos) o) ↔ (is_some o ≡ true)
-mapped_some None = (λ s. cc, λ e. cc)
-mapped_some (Some f) = (λ s. refl, λ e. refl)
+mapped_some : (part : Part) (o : Option Form) → IsSome (option_map (row_of part) o) ↔ (is_some o ≡ true)
+mapped_some part None = (λ s. cc, λ e. cc)
+mapped_some part (Some f) = (λ s. refl, λ e. refl)
 
-row_of-Any : (fs : List Form) (op : ℕ)
-    → IsSome (option_map (row_of Nmos) (form_at fs op)) ↔ Any (λ f. f.opcode ≡ op) fs
-row_of-Any fs op =
+row_of-Any : (part : Part) (fs : List Form) (op : ℕ)
+    → IsSome (option_map (row_of part) (form_at fs op)) ↔ Any (λ f. f.opcode ≡ op) fs
+row_of-Any part fs op =
     let has = λ (f : Form). f.opcode == op in (
-      (λ s. let found_at = Any-from_list_any has fs (sym (is_some-find has fs) ∙ (mapped_some (find has fs)).0 s) in
+      (λ s. let found_at = Any-from_list_any has fs (sym (is_some-find has fs) ∙ (mapped_some part (find has fs)).0 s) in
           (found_at.0, found_at.1, found_at.2, found_at.3, eqb-true _ _ found_at.4)),
-      (λ a. (mapped_some (find has fs)).1
+      (λ a. (mapped_some part (find has fs)).1
           (is_some-find has fs ∙ list_any-from_Any has fs (a.0, a.1, a.2, a.3, eq-eqb _ _ a.4))),
     )
 
+pub form_row-IsDocumented : (part : Part) (op : ℕ) → IsSome (option_map (row_of part) (form_at (forms part) op)) ↔ IsDocumented part op
+unfolding IsDocumented
+form_row-IsDocumented part op = row_of-Any part (forms part) op
+
 pub nmos_row-IsDocumented : (op : ℕ) → IsSome (nmos_row op) ↔ IsDocumented Nmos op
-unfolding nmos_row IsDocumented
-nmos_row-IsDocumented op = row_of-Any (forms Nmos) op
+unfolding nmos_row
+nmos_row-IsDocumented op = form_row-IsDocumented Nmos op
+
+-- ---- the row of a documented opcode is that of its form
+
+is_used : Form → Bool
+is_used f = not (same_mode f.mode Spare)
+
+-- no form is spare
+all_used : list_all is_used (forms Cmos) ≡ true
+unfolding is_used
+all_used = refl
+
+-- nor is one that is found
+found_used : (p : Form → Bool) (fs : List Form) → list_all is_used fs ≡ true → IfSome (find p fs) (λ f. is_used f ≡ true)
+found_used p [] h = tt
+found_used p (f ∷ fs) h = let parts = both (is_used f) (list_all is_used fs) h in first p f fs parts.0 (found_used p fs parts.1) (p f) refl
+  where
+    first : (p : Form → Bool) (f : Form) (fs : List Form) → is_used f ≡ true → IfSome (find p fs) (λ g. is_used g ≡ true)
+        → (b : Bool) → p f ≡ b → IfSome (find p (f ∷ fs)) (λ g. is_used g ≡ true)
+    first p f fs used rest true e = rw e used
+    first p f fs used rest false e = rw e rest
+
+used_row : (r : Row) (way : Mode) → not (same_mode way Spare) ≡ true → unless_spare r way ≡ Some r
+used_row r Spare h = cc
+used_row r way h = refl
+
+unless_spare-form : (op : ℕ) (o : Option Form) → IfSome o (λ f. is_used f ≡ true)
+    → unless_spare (row_or_spare op o) (row_or_spare op o).mode ≡ option_map (row_of Cmos) o
+unfolding is_used
+unless_spare-form op None h = refl
+unless_spare-form op (Some f) h = used_row (row_of Cmos f) f.mode h
+
+pub documented_row-form : (part : Part) (op : ℕ) → documented_row part op ≡ option_map (row_of part) (form_at (forms part) op)
+unfolding nmos_row cmos_row
+documented_row-form Nmos op = refl
+documented_row-form Cmos op = unless_spare-form op (form_at (forms Cmos) op) (found_used (λ f. f.opcode == op) (forms Cmos) all_used)
+
+-- what a row of the 65C02 that is spare, or another, is as that of the opcode's form
+pub spare_row-form : (part : Part) (op : ℕ) (r : Row) → part ≡ Cmos → r ≡ cmos_row op → same_mode r.mode Spare ≡ true
+    → None ≡ option_map (row_of part) (form_at (forms part) op)
+spare_row-form part op r at e s = rw at (by_mode r r.mode (same_true modes tt r.mode Spare s) ∙ ap (λ (x : Row). unless_spare x x.mode) e ∙ documented_row-form Cmos op)
+  where
+    by_mode : (r : Row) (way : Mode) → way ≡ Spare → None ≡ unless_spare r way
+    by_mode r way at = rw at refl
+
+pub other_row-form : (part : Part) (op : ℕ) (r : Row) → part ≡ Cmos → r ≡ cmos_row op → same_mode r.mode Spare ≡ false
+    → Some r ≡ option_map (row_of part) (form_at (forms part) op)
+other_row-form part op r at e s = rw at (sym (used_row r r.mode (ap not s)) ∙ ap (λ (x : Row). unless_spare x x.mode) e ∙ documented_row-form Cmos op)
+
+-- an opcode that is given the row of its form is documented
+pub form_row-documented : (part : Part) (op : ℕ) (o : Option Row) → o ≡ option_map (row_of part) (form_at (forms part) op)
+    → IsSome o ↔ IsDocumented part op
+form_row-documented part op o e = rw e (form_row-IsDocumented part op)

@@ -1,8 +1,9 @@
 //! The two parts, the addressing modes and the mnemonics.
-ghost use Rattle.std.specs.Prelude.{◌≡◌, ◌↔◌, ℕ, List, map, IsTrue};
+ghost use Rattle.std.specs.Prelude.{◌≡◌, ◌↔◌, ◌<◌, ◌≤◌, ℕ, List, map, IsTrue};
 ghost use Rattle.std.specs.List.{list_all};
 ghost use Rattle.std.specs.Char.{to_ascii_uppercase, is_ascii_uppercase};
 ghost use Rattle.op_table.specs.Names.{name_of, mnemonic_of};
+ghost use Rattle.op_table.specs.Rows.{bytes_of};
 
 /// A part of the 6502 family.
 #[derive(Clone, Copy, Debug, PartialEq, Eq)]
@@ -250,6 +251,29 @@ static NAMES: [(Mnemonic, [u8; 3]); 64] = [
     (Mnemonic::Txs, *b"TXS"),
     (Mnemonic::Tya, *b"TYA"),
 ];
+
+impl Mode {
+    /// How many bytes an instruction of this mode takes, its opcode included: 1 to 3. The opcodes of mode `Spare` differ,
+    /// and `cmos` tells how many each takes; here they count as two.
+    pub fn length(self) -> u8
+        ensures value { result ≡ bytes_of self }
+        ensures within { (0 < result) × (result ≤ 3) }
+    {
+        match self {
+            Mode::Imp | Mode::Acc => 1,
+            Mode::Abs | Mode::AbsX | Mode::AbsY | Mode::Ind | Mode::IndAbsX => 3,
+            Mode::Imm
+            | Mode::Zp
+            | Mode::ZpX
+            | Mode::ZpY
+            | Mode::IndX
+            | Mode::IndY
+            | Mode::IndZp
+            | Mode::Rel
+            | Mode::Spare => 2,
+        }
+    }
+}
 
 impl Mnemonic {
     /// The three letters of the name, in upper case.

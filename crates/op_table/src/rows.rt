@@ -1,10 +1,10 @@
 //! What the tables tell of each opcode.
-ghost use Rattle.std.specs.Prelude.{◌≡◌, ◌↔◌, ◌<◌, ◌≤◌, IsSome, IfSome};
+ghost use Rattle.std.specs.Prelude.{◌≡◌, ◌↔◌, ◌<◌, ◌≤◌, IsSome, IfSome, option_map};
 ghost use Rattle.op_table.specs.declared.names.Part.TheVariants.{Nmos, Cmos};
-ghost use Rattle.op_table.specs.Forms.{IsDocumented};
-ghost use Rattle.op_table.specs.Rows.{cmos_row, nmos_row};
+ghost use Rattle.op_table.specs.Forms.{IsDocumented, forms, form_at};
+ghost use Rattle.op_table.specs.Rows.{cmos_row, nmos_row, row_of, documented_row};
 
-use crate::names::{Mnemonic, Mode};
+use crate::names::{Mnemonic, Mode, Part};
 
 /// What a table tells of one opcode.
 #[derive(Clone, Copy, Debug, PartialEq, Eq)]
@@ -198,4 +198,24 @@ pub fn cmos(op: u8) -> Row
     ensures within { (0 < result.bytes) × (result.bytes ≤ 3) × (0 < result.cycles) × (result.cycles ≤ 8) }
 {
     CMOS[op as usize]
+}
+
+/// The row of an opcode where the part documents it: None for the opcodes of the NMOS 6502 outside its 151, and for those of
+/// the 65C02 that do nothing.
+pub fn documented(part: Part, op: u8) -> Option<Row>
+    ensures row { result ≡ documented_row part op }
+    ensures form { result ≡ option_map (row_of part) (form_at (forms part) op) }
+    ensures documented { IsSome result ↔ IsDocumented part op }
+{
+    match part {
+        Part::Nmos => nmos(op),
+        Part::Cmos => {
+            let row = cmos(op);
+            if row.mode == Mode::Spare {
+                None
+            } else {
+                Some(row)
+            }
+        }
+    }
 }

@@ -107,6 +107,7 @@ fn rows_are_those_of_the_manuals(rt: HostRuntime) {
             cycles,
         };
         assert_eq!(rt; nmos(op), Some(row), "{op:02X} of the NMOS 6502");
+        assert_eq!(rt; mode.length(), bytes, "{mode:?}");
     }
     for (op, mnemonic, mode, bytes, cycles) in CMOS_ROWS {
         let row = Row {
@@ -120,35 +121,26 @@ fn rows_are_those_of_the_manuals(rt: HostRuntime) {
 }
 
 #[test]
-fn the_tables_have_as_many_instructions_as_the_manuals(rt: HostRuntime) {
-    assert_eq!(rt; (0..=255u8).filter(|op| nmos(*op).is_some()).count(), 151);
-    assert_eq!(rt;
-        (0..=255u8)
-            .filter(|op| cmos(*op).mode == Mode::Spare)
-            .count(),
-        78
-    );
-}
-
-#[test]
-fn find_leads_back_to_each_opcode(rt: HostRuntime) {
+fn documented_instructions_are_those_of_the_manuals(rt: HostRuntime) {
     forms_and_rows_agree();
-    for op in 0..=255u8 {
-        if let Some(row) = nmos(op) {
-            assert_eq!(rt;
-                find(Part::Nmos, row.mnemonic, row.mode),
-                Some(op),
-                "{op:02X}"
-            );
+    for (part, count) in [(Part::Nmos, 151), (Part::Cmos, 178)] {
+        assert_eq!(rt;
+            (0..=255u8)
+                .filter(|op| documented(part, *op).is_some())
+                .count(),
+            count,
+            "{part:?}"
+        );
+        for op in 0..=255u8 {
+            if let Some(row) = documented(part, op) {
+                assert_eq!(rt; find(part, row.mnemonic, row.mode), Some(op), "{op:02X}");
+                assert_eq!(rt; row.mode.length(), row.bytes, "{op:02X}");
+            }
         }
-        let row = cmos(op);
-        let want = if row.mode == Mode::Spare {
-            None
-        } else {
-            Some(op)
-        };
-        assert_eq!(rt; find(Part::Cmos, row.mnemonic, row.mode), want, "{op:02X}");
     }
+    assert_eq!(rt; documented(Part::Nmos, 0x80), None);
+    assert_eq!(rt; documented(Part::Cmos, 0x80), Some(cmos(0x80)));
+    assert_eq!(rt; documented(Part::Cmos, 0x5C), None);
     let missing = [
         (Part::Nmos, Mnemonic::Bra, Mode::Rel),
         (Part::Nmos, Mnemonic::Lda, Mode::IndZp),

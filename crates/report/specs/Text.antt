@@ -1,30 +1,21 @@
 -- The lines of a report.
-use Rattle.std.specs.Prelude.{ℕ, ◌+◌, ◌/◌, ◌%◌, nat_lt, List, [], ◌∷◌, ◌++◌, Option, Some, None, bit_and, bit_or, decimal, codes, if◌then◌else◌}
+use Rattle.std.specs.Prelude.{ℕ, List, [], ◌++◌, Option, Some, None, bit_and, bit_or, decimal, codes, if◌then◌else◌}
+use Rattle.digits.specs.Hexadecimal.{hex_digits}
 use Rattle.cpu_alu.specs.declared.Regs.{Regs}
 use Rattle.report.specs.declared.Line.{Line}
-
--- upper-case hexadecimal digits: of a digit, of a byte and of a word
-abbrev pub hex_digit : ℕ → ℕ
-hex_digit d = if nat_lt d 10 then 48 + d else 55 + d
-
-abbrev pub two_digits : ℕ → List ℕ
-two_digits n = hex_digit (n / 16) ∷ hex_digit (n % 16) ∷ []
-
-abbrev pub four_digits : ℕ → List ℕ
-four_digits n = two_digits (n / 256) ++ two_digits (n % 256)
 
 -- P with bit 5 set and bit 4 clear
 abbrev pub shown_flags : ℕ → ℕ
 shown_flags p = bit_or (bit_and p 0xCF) 0x20
 
-abbrev pub regs_text : Regs → List ℕ
+unfoldable pub regs_text : Regs → List ℕ
 regs_text r =
-    codes " PC=" ++ four_digits r.pc
-    ++ codes " A=" ++ two_digits r.a
-    ++ codes " X=" ++ two_digits r.x
-    ++ codes " Y=" ++ two_digits r.y
-    ++ codes " S=" ++ two_digits r.s
-    ++ codes " P=" ++ two_digits (shown_flags r.p)
+    codes " PC=" ++ hex_digits 4 r.pc
+    ++ codes " A=" ++ hex_digits 2 r.a
+    ++ codes " X=" ++ hex_digits 2 r.x
+    ++ codes " Y=" ++ hex_digits 2 r.y
+    ++ codes " S=" ++ hex_digits 2 r.s
+    ++ codes " P=" ++ hex_digits 2 (shown_flags r.p)
 
 -- a machine's line: its name, its registers and, where it has stopped, how
 abbrev pub line_text : List ℕ → List ℕ → Option Line → List ℕ

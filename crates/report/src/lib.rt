@@ -1,11 +1,13 @@
 //! The text of what a run came to.
 #![tactic(auto)]
 
-ghost use Rattle.std.specs.Prelude.{◌≡◌, ◌<◌, ◌++◌, IfOk, decimal};
-ghost use Rattle.report.specs.Text.{hex_digit, two_digits, four_digits, shown_flags, regs_text, line_text, count_text, option_text, text};
+ghost use Rattle.std.specs.Prelude.{◌≡◌, ◌++◌, IfOk, decimal};
+ghost use Rattle.digits.specs.Hexadecimal.{hex_digits};
+ghost use Rattle.report.specs.Text.{shown_flags, regs_text, line_text, count_text, option_text, text};
 
 use beeb_bits::{NoMemory, Tick};
 use cpu_alu::Regs;
+use digits::{four_digits, two_digits};
 use std::alloc::{AllocError, Global};
 
 /// A machine's line: its registers, and whether it has stopped, the host by an opcode that halts it, the parasite by the Tube's reset
@@ -16,22 +18,9 @@ pub struct Line {
     pub stopped: bool,
 }
 
-fn hex_digit(d: u8) -> u8
-    requires { d < 16 }
-    ensures { result ≡ hex_digit d }
-{
-    if d < 10 { b'0' + d } else { b'A' - 10 + d }
-}
-
-fn two_digits(n: u8) -> [u8; 2]
-    ensures { result ≡ two_digits n }
-{
-    [hex_digit(n / 16), hex_digit(n % 16)]
-}
-
 // Appends a byte in two digits behind its name.
 fn push_byte(text: &mut Vec<u8>, name: &[u8], n: u8) -> Result<(), AllocError>
-    ensures { IfOk result (λ _. text.new.items ≡ text.old.items ++ (name.now ++ two_digits n)) }
+    ensures { IfOk result (λ _. text.new.items ≡ text.old.items ++ (name.now ++ hex_digits 2 n)) }
 {
     text.extend_from_slice(name)?;
     text.extend_from_slice(&two_digits(n))
@@ -39,15 +28,13 @@ fn push_byte(text: &mut Vec<u8>, name: &[u8], n: u8) -> Result<(), AllocError>
 
 // Appends a word in four digits behind its name.
 fn push_word(text: &mut Vec<u8>, name: &[u8], n: u16) -> Result<(), AllocError>
-    ensures { IfOk result (λ _. text.new.items ≡ text.old.items ++ (name.now ++ four_digits n)) }
+    ensures { IfOk result (λ _. text.new.items ≡ text.old.items ++ (name.now ++ hex_digits 4 n)) }
 {
-    let high = (n / 256) as u8;
-    let low = (n % 256) as u8;
     text.extend_from_slice(name)?;
-    text.extend_from_slice(&two_digits(high))?;
-    text.extend_from_slice(&two_digits(low))
+    text.extend_from_slice(&four_digits(n))
 }
 
+#[tactic(auto, unfolding(crate::specs::Text::regs_text))]
 fn push_regs(text: &mut Vec<u8>, regs: Regs) -> Result<(), AllocError>
     ensures { IfOk result (λ _. text.new.items ≡ text.old.items ++ regs_text regs) }
 {

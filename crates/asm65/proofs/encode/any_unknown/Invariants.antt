@@ -1,10 +1,13 @@
-use Rattle.std.proofs.Common.{◌≡◌, drop}
+use Rattle.std.proofs.Common.{◌≡◌}
 use Rattle.std.specs.List.{list_any}
 use Rattle.asm65.specs.Source.{is_unknown}
-use Rattle.asm65.specs.Seen.{seen_values}
+use Rattle.asm65.specs.Seen.{seen_list, length_left}
 use Rattle.asm65.specs.SeenLabels.{labels_in}
 use Rattle.asm65.proofs.encode.any_unknown.Given as goal
 
 abbrev pub invariant-loop-value : goal.invariant-loop-value
 invariant-loop-value l =
-    list_any (is_unknown (labels_in l.labels)) (seen_values l.values) ≡ list_any (is_unknown (labels_in l.labels)) (seen_values (drop l.value-index l.values))
+    list_any (is_unknown (labels_in l.labels)) (seen_list l.values) ≡ list_any (is_unknown (labels_in l.labels)) (seen_list l.rest)
+
+abbrev pub decreases-loop-value : goal.decreases-loop-value
+decreases-loop-value l = length_left l.rest

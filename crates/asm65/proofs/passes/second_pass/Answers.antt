@@ -5,18 +5,18 @@ use Rattle.asm65.proofs.passes.second_pass.Goals as goal
 
 pub encode-requires-clause-short : goal.encode-requires-clause-short
 encode-requires-clause-short c =
-    let lines = c.in-Ok.ensures.lines in
+    let lines = c.next_line.ensures.lines in
     encoded_short c.args.part _ _ c.loop-rest.line_number c.args.origin c.loop-rest.address c.loop-rest.bytes.items _ _ (rw lines at c.loop-rest.invariant.encoded)
 
 pub returns-in-Err : goal.returns-in-Err
 returns-in-Err c =
-    let lines = c.in-Ok.ensures.lines in
+    let lines = c.next_line.ensures.lines in
     at_fault (λ fault. encoded_fault c.args.part _ _ c.loop-rest.line_number c.args.origin c.loop-rest.address c.loop-rest.bytes.items _ _ c.in-Err.error (rw lines at c.loop-rest.invariant.encoded) fault) c.in-Err.ensures
 
 pub loop-rest-preserved : goal.loop-rest-preserved
 loop-rest-preserved c =
-    let lines = c.in-Ok.ensures.lines in
+    let lines = c.next_line.ensures.lines in
     record {
-      encoded = encoded_more c.args.part _ _ c.loop-rest.line_number c.args.origin c.loop-rest.address c.in-Ok-encode.next c.loop-rest.bytes.items c.encode.new.bytes.items _ _ (rw lines at c.loop-rest.invariant.encoded) c.in-Ok-encode.ensures;
-      count = let shorter = c.in-Ok.ensures.shorter in let count = c.loop-rest.invariant.count in omega (arith, shorter, count);
+      encoded = encoded_more c.args.part _ _ c.loop-rest.line_number c.args.origin c.loop-rest.address c.in-Ok.next c.loop-rest.bytes.items c.encode.new.bytes.items _ _ (rw lines at c.loop-rest.invariant.encoded) c.in-Ok.ensures;
+      count = let shorter = c.next_line.ensures.shorter in let count = c.loop-rest.invariant.count in omega (arith, shorter, count);
     }

@@ -1,0 +1,4 @@
+pub mod HexLemmas
+pub mod HexLaws
+pub mod DecimalLemmas
+pub mod DecimalLaws

@@ -1,0 +1,16 @@
+//! Numbers as hexadecimal and decimal digits, written and read.
+#![tactic(auto)]
+
+mod decimal;
+mod hexadecimal;
+mod law;
+
+pub use decimal::{all_digits, decimal_number, decimal_value, is_digit};
+pub use hexadecimal::{
+    all_hex, all_hex_any_case, four_digits, hex_digit, hex_number, is_hex, is_hex_any_case,
+    ten_digits, two_digits,
+};
+pub use law::{decimal_reads_back, hex_reads_back};
+
+#[cfg(test)]
+mod tests;
