@@ -1,6 +1,11 @@
 //! What both processors share: sums and shifts, the registers and their flags, and one access to the bus.
 #![tactic(auto)]
 
+ghost use Rattle.std.specs.Prelude.{ℕ, ◌≡◌, ◌<◌, ◌%◌, true, leb, Bool};
+ghost use Rattle.op_table.specs.declared.Part.{Part};
+ghost use Rattle.cpu_alu.specs.Arithmetic.{adc, sbc};
+ghost use Rattle.cpu_alu.specs.Decimal.{digits, plus, less};
+
 mod addresses;
 mod arithmetic;
 mod flags;
@@ -58,3 +63,13 @@ pub enum Cycle {
     /// A byte is written to an address.
     Write(u16, u8),
 }
+
+/// A law and no work: in decimal mode, on both parts, a sum or a difference of bytes of two decimal digits is that of the
+/// numbers below 100 that they show. The carry is set where a sum has its hundred, and where a difference needs none.
+/// Source: the MCS6500 Programming Manual, section 2.2.
+pub fn decimal_mode_is_arithmetic()
+    ensures sum { (part : Part) (c : Bool) (x y : ℕ) → x < 100 → y < 100 → (adc part true (digits x) (digits y) c).value ≡ digits (plus x y c % 100) }
+    ensures sum_carry { (part : Part) (c : Bool) (x y : ℕ) → x < 100 → y < 100 → (adc part true (digits x) (digits y) c).c ≡ leb 100 (plus x y c) }
+    ensures difference { (part : Part) (c : Bool) (x y : ℕ) → x < 100 → y < 100 → (sbc part true (digits x) (digits y) c).value ≡ digits (less x y c % 100) }
+    ensures difference_carry { (part : Part) (c : Bool) (x y : ℕ) → x < 100 → y < 100 → (sbc part true (digits x) (digits y) c).c ≡ leb 100 (less x y c) }
+{}

@@ -1,36 +1,91 @@
 ghost use Rattle.std.specs.Prelude.{◌<◌};
 
 use crate::{
-    BusUse, Regs, adc, asl, bus_use, compare, crosses_page, has_flag, in_zero_page, lsr, rol, ror,
-    sbc, with_flag, word, wrapping_sum,
+    BusUse, Regs, Sum, adc, asl, bus_use, compare, crosses_page, has_flag, in_zero_page, lsr, rol,
+    ror, sbc, with_flag, word, wrapping_sum,
 };
 use op_table::{Mnemonic, Mode, Part};
 
-/// A number below 100 as its two decimal digits.
-fn digits(n: u8) -> u8
-    requires { n < 100 }
+/// A sum in decimal mode, digit by digit: the byte, C, V and N1, which is N on the NMOS part.
+fn sum_by_digits(a: u8, m: u8, c: bool) -> (u8, bool, bool, bool) {
+    let low = a % 16 + m % 16 + c as u8;
+    let (low, half) = if low > 9 {
+        ((low + 6) % 16, 1)
+    } else {
+        (low, 0)
+    };
+    let high = a / 16 + m / 16 + half;
+    let n = high & 8 != 0;
+    let v = a & 0x80 == m & 0x80 && (a & 0x80 != 0) != n;
+    let (high, c) = if high > 9 {
+        ((high + 6) % 16, true)
+    } else {
+        (high, false)
+    };
+    (high * 16 + low, c, v, n)
+}
+
+/// One digit of a difference in decimal mode, and what it borrows.
+fn digit_less(a: u8, m: u8, borrow: u8) -> (u8, u8)
+    requires digits { a < 16 }
+    requires other { m < 16 }
+    requires one { borrow < 2 }
+    ensures digit { result.0 < 16 }
+    ensures borrow { result.1 < 2 }
 {
-    n / 10 * 16 + n % 10
+    if a >= m + borrow {
+        (a - m - borrow, 0)
+    } else {
+        ((a + 10 + 16 - m - borrow) % 16, 1)
+    }
+}
+
+/// The byte of a difference in decimal mode: the NMOS part sets its digits right one by one, the 65C02 the whole byte.
+fn difference_by_digits(part: Part, a: u8, m: u8, c: bool) -> u8 {
+    let borrow = !c as u8;
+    let (low, half) = digit_less(a % 16, m % 16, borrow);
+    match part {
+        Part::Nmos => digit_less(a / 16, m / 16, half).0 * 16 + low,
+        Part::Cmos => {
+            let whole = a.wrapping_sub(m).wrapping_sub(borrow);
+            let tens = if (a as u16) < m as u16 + borrow as u16 {
+                0x60
+            } else {
+                0
+            };
+            whole.wrapping_sub(tens).wrapping_sub(half * 6)
+        }
+    }
 }
 
 #[test]
-fn decimal_digits_add_and_subtract_as_numbers_do(rt: HostRuntime) {
+fn decimal_mode_goes_digit_by_digit(rt: HostRuntime) {
     for part in [Part::Nmos, Part::Cmos] {
         for carry in [false, true] {
-            for a in 0..100u8 {
-                for m in 0..100u8 {
-                    let sum = a as u16 + m as u16 + carry as u16;
-                    let found = adc(part, true, digits(a), digits(m), carry);
-                    assert_eq!(rt; found.value, digits((sum % 100) as u8), "{a} plus {m}");
-                    assert_eq!(rt; found.c, sum >= 100, "{a} plus {m}");
-                    let difference = 99 + a as u16 - m as u16 + carry as u16;
-                    let found = sbc(part, true, digits(a), digits(m), carry);
+            for a in 0..=255u8 {
+                for m in 0..=255u8 {
+                    let binary = a as u16 + m as u16 + carry as u16;
+                    let (value, c, v, n1) = sum_by_digits(a, m, carry);
+                    let (z, n) = match part {
+                        Part::Nmos => (binary % 256 == 0, n1),
+                        Part::Cmos => (value == 0, value >= 0x80),
+                    };
+                    assert_eq!(rt; adc(part, true, a, m, carry), Sum { value, c, z, v, n });
+                    let binary = sbc(part, false, a, m, carry);
+                    let value = difference_by_digits(part, a, m, carry);
+                    let (z, n) = match part {
+                        Part::Nmos => (binary.z, binary.n),
+                        Part::Cmos => (value == 0, value >= 0x80),
+                    };
                     assert_eq!(rt;
-                        found.value,
-                        digits((difference % 100) as u8),
-                        "{a} less {m}"
+                        sbc(part, true, a, m, carry),
+                        Sum {
+                            value,
+                            z,
+                            n,
+                            ..binary
+                        }
                     );
-                    assert_eq!(rt; found.c, difference >= 100, "{a} less {m}");
                 }
             }
         }

@@ -1,0 +1,35 @@
+-- What the NMOS 6502 does from one look at its lines to the next: the definitions of both parts, for this one.
+use Rattle.std.specs.Prelude.{ℕ, Bool, Option}
+use Rattle.op_table.specs.declared.names.Part.TheVariants.{Nmos}
+use Rattle.cpu_alu.specs.declared.Regs.{Regs}
+use Rattle.cpu_alu.specs.declared.Cycle.{Cycle}
+use Rattle.cpu_core.specs.State.{State}
+use Rattle.cpu_core.specs.Sequences as both
+pub use Rattle.cpu_core.specs.Sequences.{starting, looked, fresh, power_on}
+
+-- the access of the cycle in progress, or None where the sequence is over
+abbrev pub next : State → Option Cycle
+next s = both.next Nmos s
+
+-- one cycle later
+abbrev pub given : State → ℕ → State
+given s byte = both.given Nmos s byte
+
+-- whether an opcode outside the 151 was read: the address of that opcode is read again until a reset
+abbrev pub halted : State → Bool
+halted s = both.halted Nmos s
+
+-- the registers after a sequence that is over, or halted
+abbrev pub after : State → Regs
+after s = both.after Nmos s
+
+abbrev pub HasEnded : State → Type 0
+HasEnded s = both.HasEnded Nmos s
+
+-- the instruction table's cycles of an opcode are the fewest accesses that it ever makes
+abbrev pub TakesAtLeast : ℕ → Type 0
+TakesAtLeast op = both.TakesAtLeast Nmos op
+
+-- and for some registers it makes just as many
+abbrev pub MayTakeJust : ℕ → Type 0
+MayTakeJust op = both.MayTakeJust Nmos op

@@ -1,0 +1,20 @@
+//! The NMOS 6502, one bus access at a time.
+#![tactic(auto)]
+
+ghost use Rattle.std.specs.Prelude.{ℕ, ◌<◌};
+ghost use Rattle.cpu6502.specs.Sequences.{TakesAtLeast, MayTakeJust};
+
+mod cpu;
+#[cfg(test)]
+mod tests;
+
+pub use cpu::Cpu;
+
+/// A law and no work: the instruction table's cycles are the fewest that an opcode ever takes. It takes more only where
+/// a branch is taken, where an indexed address or a branch crosses a page.
+pub fn cycles_of_the_table()
+    ensures least { (op : ℕ) → op < 256 → TakesAtLeast op }
+    ensures reached { (op : ℕ) → op < 256 → MayTakeJust op }
+{
+    cpu_core::cycles_of_the_table();
+}

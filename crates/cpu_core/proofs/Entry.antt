@@ -1,0 +1,369 @@
+-- An instruction goes on from its opcode to the first cycle after it.
+use Rattle.std.proofs.Common.{◌≡◌, ◌<◌, ◌≤◌, ℕ, ◌+◌, ◌%◌, List, [], ◌∷◌, ◌++◌, length, Bool, true, false, cond, ◌||◌, Option, Some, None, refl, sym, subst, ap, arith, ◌∙◌}
+use Rattle.std.proofs.lemmas.Bool.{agree_below_at}
+use Rattle.op_table.specs.declared.names.Part.{Part}
+use Rattle.op_table.specs.declared.names.Part.TheVariants.{Nmos, Cmos}
+use Rattle.op_table.specs.declared.names.Mode.{Mode}
+use Rattle.op_table.specs.declared.names.Mode.TheVariants.{Acc, Zp, ZpX, ZpY, Abs, AbsX, AbsY, IndX, IndY, IndZp, Ind, IndAbsX, Spare}
+use Rattle.op_table.specs.declared.rows.Row.{Row}
+use Rattle.op_table.specs.Rows.{nmos_row, cmos_row}
+use Rattle.cpu_alu.specs.declared.Regs.{Regs}
+use Rattle.cpu_alu.specs.declared.Cycle.{Cycle}
+use Rattle.cpu_alu.specs.declared.Cycle.TheVariants.{Read}
+use Rattle.cpu_alu.specs.declared.uses.BusUse.{BusUse}
+use Rattle.cpu_alu.specs.declared.uses.BusUse.TheVariants.{Implied, Reads, Stores, Shifts, Modifies, Pushes, Pulls, Branches, Jumps, Calls, Returns, Resumes, Breaks}
+use Rattle.cpu_alu.specs.Addresses.{place, crosses_page}
+use Rattle.cpu_alu.specs.Instructions.{bus_use, taken}
+use Rattle.cpu_core.specs.declared.machine.Access.{Access}
+use Rattle.cpu_core.specs.declared.machine.Access.TheVariants.{Load, Store, Change}
+use Rattle.cpu_core.specs.declared.machine.Machine.{Machine}
+use Rattle.cpu_core.specs.declared.machine.Phase.TheVariants as phase
+use Rattle.cpu_core.specs.declared.machine.Start.{Start}
+use Rattle.cpu_core.specs.Accesses.{byte, row_at, waits, reach, address, operand, modify_form, branch_form}
+use Rattle.cpu_core.specs.Phases.{at_operand, done, indexed, left, outcome, most, wants, is_fetch, is_stuck}
+use Rattle.cpu_core.specs.Starts.{in_memory, start_by, start_change, start_implied, start_jump, start_in, start_at, started}
+use Rattle.cpu_core.specs.Ties.{GoesOn, first}
+
+-- the operand's byte comes one cycle later where the page is crossed
+operand_at : (c : Bool) (a b q : Cycle) (o : Option ℕ) (f : List (Option ℕ))
+    → byte (o ∷ f) (1 + length (a ∷ b ∷ cond c (q ∷ []) [])) ≡ cond c (byte f 3) (byte f 2)
+operand_at true a b q o f = refl
+operand_at false a b q o f = refl
+
+operand_by : (c : Bool) (a b d q : Cycle) (o : Option ℕ) (f : List (Option ℕ))
+    → byte (o ∷ f) (1 + length (a ∷ b ∷ d ∷ cond c (q ∷ []) [])) ≡ cond c (byte f 4) (byte f 3)
+operand_by true a b d q o f = refl
+operand_by false a b d q o f = refl
+
+-- the accesses left are those of the form
+started-left : (part : Part) (w : Mode) (k : Access) (always : Bool) (m : Machine) (o : Option ℕ) (f : List (Option ℕ))
+    → reach part w always m.work (o ∷ f) ++ at_operand part k m.row (address w m.work (o ∷ f)) m.work (operand part w always m.work (o ∷ f))
+    ≡ left part (started (in_memory k always w) m) f
+started-left part AbsX k always m o f =
+    let r : Regs = m.work in
+    let F : ℕ → List Cycle = λ n. Read (place r 1) ∷ Read (place r 2) ∷ indexed part k m.row r.x always (byte f 0) (byte f 1) (place r 2) r n in
+    ap F (operand_at (always || crosses_page (byte f 0) r.x) (Read (place r 1)) (Read (place r 2)) _ o f)
+started-left part AbsY k always m o f =
+    let r : Regs = m.work in
+    let F : ℕ → List Cycle = λ n. Read (place r 1) ∷ Read (place r 2) ∷ indexed part k m.row r.y always (byte f 0) (byte f 1) (place r 2) r n in
+    ap F (operand_at (always || crosses_page (byte f 0) r.y) (Read (place r 1)) (Read (place r 2)) _ o f)
+started-left part IndY k always m o f =
+    let r : Regs = m.work in
+    let F : ℕ → List Cycle = λ n. Read (place r 1) ∷ Read (byte f 0) ∷ Read ((byte f 0 + 1) % 256) ∷ indexed part k m.row r.y always (byte f 1) (byte f 2) (place r 1) r n in
+    ap F (operand_by (always || crosses_page (byte f 1) r.y) (Read (place r 1)) (Read (byte f 0)) (Read ((byte f 0 + 1) % 256)) _ o f)
+started-left part _ k always m o f = refl
+
+-- and so are the registers at the end
+started-outcome : (part : Part) (w : Mode) (k : Access) (always : Bool) (m : Machine) (o : Option ℕ) (f : List (Option ℕ))
+    → done part k m.row m.work (operand part w always m.work (o ∷ f)) ≡ outcome part (started (in_memory k always w) m) f
+started-outcome part AbsX k always m o f =
+    let r : Regs = m.work in
+    ap (done part k m.row r) (operand_at (always || crosses_page (byte f 0) r.x) (Read (place r 1)) (Read (place r 2)) _ o f)
+started-outcome part AbsY k always m o f =
+    let r : Regs = m.work in
+    ap (done part k m.row r) (operand_at (always || crosses_page (byte f 0) r.y) (Read (place r 1)) (Read (place r 2)) _ o f)
+started-outcome part IndY k always m o f =
+    let r : Regs = m.work in
+    ap (done part k m.row r) (operand_by (always || crosses_page (byte f 1) r.y) (Read (place r 1)) (Read (byte f 0)) (Read ((byte f 0 + 1) % 256)) _ o f)
+started-outcome part _ k always m o f = refl
+
+started-most : (w : Mode) (k : Access) (always : Bool) (m : Machine) → most (started (in_memory k always w) m) + 1 ≤ 8
+started-most Zp k always m = omega arith
+started-most _ k always m = omega arith
+
+-- a store needs an operand in memory, so that its first cycle reads
+abbrev is_memory : Mode → Bool
+is_memory Zp = true
+is_memory ZpX = true
+is_memory ZpY = true
+is_memory Abs = true
+is_memory AbsX = true
+is_memory AbsY = true
+is_memory IndX = true
+is_memory IndY = true
+is_memory IndZp = true
+is_memory _ = false
+
+abbrev fits : Access → Mode → Bool
+fits Store w = is_memory w
+fits _ w = true
+
+at_once : (part : Part) (k : Access) (w : Mode) (a : ℕ) (m : Machine) → fits k w ≡ true → is_memory w ≡ false → Some (Read a) ≡ first (at_operand part k m.row a m.work 0)
+at_once part Store w a m e n = cc
+at_once part _ w a m e n = refl
+
+started-wanted : (part : Part) (w : Mode) (k : Access) (always : Bool) (m : Machine) → fits k w ≡ true
+    → wants (started (in_memory k always w) m) ≡ first (left part (started (in_memory k always w) m) [])
+started-wanted part Zp k always m e = refl
+started-wanted part ZpX k always m e = refl
+started-wanted part ZpY k always m e = refl
+started-wanted part Abs k always m e = refl
+started-wanted part AbsX k always m e = refl
+started-wanted part AbsY k always m e = refl
+started-wanted part IndX k always m e = refl
+started-wanted part IndY k always m e = refl
+started-wanted part IndZp k always m e = refl
+started-wanted part w k always m e = at_once part k w (place m.work 1) m e refl
+
+-- it reads no opcode, and is not halted
+started-fetch : (w : Mode) (k : Access) (always : Bool) (m : Machine) → is_fetch (started (in_memory k always w) m).phase ≡ false
+started-fetch Zp k always m = refl
+started-fetch _ k always m = refl
+
+started-stuck : (w : Mode) (k : Access) (always : Bool) (m : Machine) → is_stuck (started (in_memory k always w) m).phase ≡ false
+started-stuck Zp k always m = refl
+started-stuck _ k always m = refl
+
+-- a modify form, but for that of A
+modify_form-entered : (part : Part) (w : Mode) → (w ≡ Acc → ⊥) → (row : Row) (always : Bool) (r : Regs) (seen : List (Option ℕ))
+    → modify_form part row w always r seen ≡ reach part w always r seen ++ at_operand part Change row (address w r seen) r (operand part w always r seen)
+modify_form-entered part Acc n row always r seen = absurd (n refl)
+modify_form-entered part _ n row always r seen = refl
+
+-- the phase that the machine has there
+abbrev at_opcode : Machine → Machine
+at_opcode m = record m { phase = phase.Opcode }
+
+reads_go_on : (part : Part) (m : Machine) (op : ℕ) → m.phase ≡ phase.Opcode → row_at part op ≡ Some m.row → bus_use m.row.mnemonic ≡ Reads → GoesOn part m op (started (in_memory Load (waits part Reads) m.row.mode) m)
+reads_go_on part m op p e u = record {
+  accesses_left = λ f. rw (p, e, u) (started-left part m.row.mode Load (waits part Reads) (at_opcode m) (Some op) f);
+  end = λ f. rw (p, e, u) (started-outcome part m.row.mode Load (waits part Reads) (at_opcode m) (Some op) f);
+  room = rw p (started-most m.row.mode Load (waits part Reads) (at_opcode m));
+  wanted = started-wanted part m.row.mode Load (waits part Reads) m refl;
+  fetch = started-fetch m.row.mode Load (waits part Reads) m;
+  stuck = rw (p, e) (started-stuck m.row.mode Load (waits part Reads) (at_opcode m));
+}
+
+stores_go_on : (part : Part) (m : Machine) (op : ℕ) → m.phase ≡ phase.Opcode → row_at part op ≡ Some m.row → bus_use m.row.mnemonic ≡ Stores → fits Store m.row.mode ≡ true → GoesOn part m op (started (in_memory Store (waits part Stores) m.row.mode) m)
+stores_go_on part m op p e u n = record {
+  accesses_left = λ f. rw (p, e, u) (started-left part m.row.mode Store (waits part Stores) (at_opcode m) (Some op) f);
+  end = λ f. rw (p, e, u) (started-outcome part m.row.mode Store (waits part Stores) (at_opcode m) (Some op) f);
+  room = rw p (started-most m.row.mode Store (waits part Stores) (at_opcode m));
+  wanted = started-wanted part m.row.mode Store (waits part Stores) m n;
+  fetch = started-fetch m.row.mode Store (waits part Stores) m;
+  stuck = rw (p, e) (started-stuck m.row.mode Store (waits part Stores) (at_opcode m));
+}
+
+shifts_go_on : (part : Part) (m : Machine) (op : ℕ) → m.phase ≡ phase.Opcode → row_at part op ≡ Some m.row → bus_use m.row.mnemonic ≡ Shifts → (m.row.mode ≡ Acc → ⊥) → GoesOn part m op (started (in_memory Change (waits part Shifts) m.row.mode) m)
+shifts_go_on part m op p e u n = record {
+  accesses_left = λ f.
+      let g = modify_form-entered part m.row.mode n m.row (waits part Shifts) m.work (Some op ∷ f) in
+      rw (p, e, u, g) (started-left part m.row.mode Change (waits part Shifts) (at_opcode m) (Some op) f);
+  end = λ f. rw (p, e, u) (started-outcome part m.row.mode Change (waits part Shifts) (at_opcode m) (Some op) f);
+  room = rw p (started-most m.row.mode Change (waits part Shifts) (at_opcode m));
+  wanted = started-wanted part m.row.mode Change (waits part Shifts) m refl;
+  fetch = started-fetch m.row.mode Change (waits part Shifts) m;
+  stuck = rw (p, e) (started-stuck m.row.mode Change (waits part Shifts) (at_opcode m));
+}
+
+modifies_go_on : (part : Part) (m : Machine) (op : ℕ) → m.phase ≡ phase.Opcode → row_at part op ≡ Some m.row → bus_use m.row.mnemonic ≡ Modifies → (m.row.mode ≡ Acc → ⊥) → GoesOn part m op (started (in_memory Change (waits part Modifies) m.row.mode) m)
+modifies_go_on part m op p e u n = record {
+  accesses_left = λ f.
+      let g = modify_form-entered part m.row.mode n m.row (waits part Modifies) m.work (Some op ∷ f) in
+      rw (p, e, u, g) (started-left part m.row.mode Change (waits part Modifies) (at_opcode m) (Some op) f);
+  end = λ f. rw (p, e, u) (started-outcome part m.row.mode Change (waits part Modifies) (at_opcode m) (Some op) f);
+  room = rw p (started-most m.row.mode Change (waits part Modifies) (at_opcode m));
+  wanted = started-wanted part m.row.mode Change (waits part Modifies) m refl;
+  fetch = started-fetch m.row.mode Change (waits part Modifies) m;
+  stuck = rw (p, e) (started-stuck m.row.mode Change (waits part Modifies) (at_opcode m));
+}
+
+-- the modes of a jump, and those of a store
+abbrev known_by : BusUse → Mode → Bool
+known_by Jumps Abs = true
+known_by Jumps Ind = true
+known_by Jumps IndAbsX = true
+known_by Jumps _ = false
+known_by Stores w = fits Store w
+known_by _ w = true
+
+abbrev known_in : Option Row → Bool
+known_in (Some row) = known_by (bus_use row.mnemonic) row.mode
+known_in None = true
+
+known_at : (part : Part) (op : ℕ) → op < 256 → known_in (row_at part op) ≡ true
+unfolding nmos_row cmos_row
+known_at Nmos op h = agree_below_at (λ k. known_in (row_at Nmos k)) (λ _. true) 256 op refl h
+known_at Cmos op h = agree_below_at (λ k. known_in (row_at Cmos k)) (λ _. true) 256 op refl h
+
+-- a shift, INC or DEC, of A or in memory
+shifts_by : (part : Part) (m : Machine) (op : ℕ) (w : Mode) → m.phase ≡ phase.Opcode → row_at part op ≡ Some m.row → bus_use m.row.mnemonic ≡ Shifts → m.row.mode ≡ w → GoesOn part m op (started (start_change (waits part Shifts) w) m)
+shifts_by part m op Acc p e b v = record {
+  accesses_left = λ f. rw (p, e, b, v) refl;
+  end = λ f. rw (p, e, b, v) refl;
+  room = rw p (omega arith);
+  wanted = refl;
+  fetch = refl;
+  stuck = rw (p, e) refl;
+}
+shifts_by part m op w p e b v = subst (λ (x : Mode). GoesOn part m op (started (in_memory Change (waits part Shifts) x) m)) v (shifts_go_on part m op p e b (λ a. cc))
+
+modifies_by : (part : Part) (m : Machine) (op : ℕ) (w : Mode) → m.phase ≡ phase.Opcode → row_at part op ≡ Some m.row → bus_use m.row.mnemonic ≡ Modifies → m.row.mode ≡ w → GoesOn part m op (started (start_change (waits part Modifies) w) m)
+modifies_by part m op Acc p e b v = record {
+  accesses_left = λ f. rw (p, e, b, v) refl;
+  end = λ f. rw (p, e, b, v) refl;
+  room = rw p (omega arith);
+  wanted = refl;
+  fetch = refl;
+  stuck = rw (p, e) refl;
+}
+modifies_by part m op w p e b v = subst (λ (x : Mode). GoesOn part m op (started (in_memory Change (waits part Modifies) x) m)) v (modifies_go_on part m op p e b (λ a. cc))
+
+-- an instruction without an operand
+implied_by : (part : Part) (m : Machine) (op : ℕ) (w : Mode) → m.phase ≡ phase.Opcode → row_at part op ≡ Some m.row → bus_use m.row.mnemonic ≡ Implied → m.row.mode ≡ w → ((start_implied w).phase ≡ phase.Opcode → ⊥) → GoesOn part m op (started (start_implied w) m)
+implied_by part m op Spare p e b v n = absurd (n refl)
+implied_by part m op _ p e b v n = record {
+  accesses_left = λ f. rw (p, e, b, v) refl;
+  end = λ f. rw (p, e, b) refl;
+  room = rw p (omega arith);
+  wanted = refl;
+  fetch = refl;
+  stuck = rw (p, e) refl;
+}
+
+-- JMP
+jumps_by : (part : Part) (m : Machine) (op : ℕ) (w : Mode) → m.phase ≡ phase.Opcode → row_at part op ≡ Some m.row → bus_use m.row.mnemonic ≡ Jumps → m.row.mode ≡ w → known_by Jumps w ≡ true → GoesOn part m op (started (start_jump w) m)
+jumps_by part m op Abs p e b v k = record {
+  accesses_left = λ f. rw (p, e, b, v) refl;
+  end = λ f. rw (p, e, b, v) refl;
+  room = rw p (omega arith);
+  wanted = refl;
+  fetch = refl;
+  stuck = rw (p, e) refl;
+}
+jumps_by part m op Ind p e b v k = record {
+  accesses_left = λ f. rw (p, e, b, v) refl;
+  end = λ f. rw (p, e, b, v) refl;
+  room = rw p (omega arith);
+  wanted = refl;
+  fetch = refl;
+  stuck = rw (p, e) refl;
+}
+jumps_by part m op IndAbsX p e b v k = record {
+  accesses_left = λ f. rw (p, e, b, v) refl;
+  end = λ f. rw (p, e, b, v) refl;
+  room = rw p (omega arith);
+  wanted = refl;
+  fetch = refl;
+  stuck = rw (p, e) refl;
+}
+jumps_by part m op _ p e b v k = cc
+
+branch-seen : (part : Part) (c : Bool) (r : Regs) (o d : Option ℕ) (f : List (Option ℕ)) → branch_form part c r (o ∷ f) ≡ branch_form part c r (d ∷ f)
+branch-seen part true r o d f = refl
+branch-seen part false r o d f = refl
+
+branch-first : (part : Part) (c : Bool) (r : Regs) (seen : List (Option ℕ)) → Some (Read (place r 1)) ≡ first (branch_form part c r seen)
+branch-first part true r seen = refl
+branch-first part false r seen = refl
+
+-- each opcode but those that do nothing
+goes_by : (part : Part) (m : Machine) (op : ℕ) (u : BusUse) (w : Mode) → m.phase ≡ phase.Opcode → row_at part op ≡ Some m.row → bus_use m.row.mnemonic ≡ u → m.row.mode ≡ w
+    → ((start_by part u w).phase ≡ phase.Opcode → ⊥) → known_by u w ≡ true → GoesOn part m op (started (start_by part u w) m)
+goes_by part m op Implied w p e b v n k = implied_by part m op w p e b v n
+goes_by part m op Reads w p e b v n k = subst (λ (x : Mode). GoesOn part m op (started (in_memory Load (waits part Reads) x) m)) v (reads_go_on part m op p e b)
+goes_by part m op Stores w p e b v n k =
+    subst (λ (x : Mode). GoesOn part m op (started (in_memory Store (waits part Stores) x) m)) v (stores_go_on part m op p e b (ap (fits Store) v ∙ k))
+goes_by part m op Shifts w p e b v n k = shifts_by part m op w p e b v
+goes_by part m op Modifies w p e b v n k = modifies_by part m op w p e b v
+goes_by part m op Jumps w p e b v n k = jumps_by part m op w p e b v k
+goes_by part m op Branches w p e b v n k = record {
+  accesses_left = λ f. rw (p, e, b) (branch-seen part (taken m.row.mnemonic m.work) m.work (Some op) None f);
+  end = λ f. rw (p, e, b) refl;
+  room = rw p (omega arith);
+  wanted = branch-first part (taken m.row.mnemonic m.work) m.work (None ∷ []);
+  fetch = refl;
+  stuck = rw (p, e) refl;
+}
+goes_by part m op Pushes w p e b v n k = record {
+  accesses_left = λ f. rw (p, e, b) refl;
+  end = λ f. rw (p, e, b) refl;
+  room = rw p (omega arith);
+  wanted = refl;
+  fetch = refl;
+  stuck = rw (p, e) refl;
+}
+goes_by part m op Pulls w p e b v n k = record {
+  accesses_left = λ f. rw (p, e, b) refl;
+  end = λ f. rw (p, e, b) refl;
+  room = rw p (omega arith);
+  wanted = refl;
+  fetch = refl;
+  stuck = rw (p, e) refl;
+}
+goes_by part m op Calls w p e b v n k = record {
+  accesses_left = λ f. rw (p, e, b) refl;
+  end = λ f. rw (p, e, b) refl;
+  room = rw p (omega arith);
+  wanted = refl;
+  fetch = refl;
+  stuck = rw (p, e) refl;
+}
+goes_by part m op Returns w p e b v n k = record {
+  accesses_left = λ f. rw (p, e, b) refl;
+  end = λ f. rw (p, e, b) refl;
+  room = rw p (omega arith);
+  wanted = refl;
+  fetch = refl;
+  stuck = rw (p, e) refl;
+}
+goes_by part m op Resumes w p e b v n k = record {
+  accesses_left = λ f. rw (p, e, b) refl;
+  end = λ f. rw (p, e, b) refl;
+  room = rw p (omega arith);
+  wanted = refl;
+  fetch = refl;
+  stuck = rw (p, e) refl;
+}
+goes_by part m op Breaks w p e b v n k = record {
+  accesses_left = λ f. rw (p, e, b) refl;
+  end = λ f. rw (p, e, b) refl;
+  room = rw p (omega arith);
+  wanted = refl;
+  fetch = refl;
+  stuck = rw (p, e) refl;
+}
+
+start_is : (part : Part) (m : Machine) (op : ℕ) → row_at part op ≡ Some m.row → start_at part op ≡ start_by part (bus_use m.row.mnemonic) m.row.mode
+start_is part m op e = ap (start_in part) e
+
+pub goes_on : (part : Part) (m : Machine) (op : ℕ) (s : Start) → op < 256 → m.phase ≡ phase.Opcode → row_at part op ≡ Some m.row → s ≡ start_at part op → (s.phase ≡ phase.Opcode → ⊥)
+    → GoesOn part m op (started s m)
+goes_on part m op s h p e is n =
+    let same : s ≡ start_by part (bus_use m.row.mnemonic) m.row.mode = is ∙ start_is part m op e in
+    let k : known_by (bus_use m.row.mnemonic) m.row.mode ≡ true = ap known_in (sym e) ∙ known_at part op h in
+    subst (λ (x : Start). GoesOn part m op (started x m)) (sym same)
+    (goes_by part m op (bus_use m.row.mnemonic) m.row.mode p e refl refl (λ o. n (ap (λ (x : Start). x.phase) same ∙ o)) k)
+
+-- what begins with no cycle of its own does nothing
+apart_implied : (w : Mode) → (start_implied w).phase ≡ phase.Opcode → w ≡ Spare
+apart_implied Spare o = refl
+apart_implied _ o = cc
+
+no_change : (always : Bool) (w : Mode) → (start_change always w).phase ≡ phase.Opcode → ⊥
+no_change always Acc o = cc
+no_change always Zp o = cc
+no_change always _ o = cc
+
+no_memory : (k : Access) (always : Bool) (w : Mode) → (in_memory k always w).phase ≡ phase.Opcode → ⊥
+no_memory k always Zp o = cc
+no_memory k always _ o = cc
+
+no_jump : (w : Mode) → (start_jump w).phase ≡ phase.Opcode → ⊥
+no_jump Ind o = cc
+no_jump _ o = cc
+
+apart_by : (part : Part) (u : BusUse) (w : Mode) → (start_by part u w).phase ≡ phase.Opcode → (u ≡ Implied) × (w ≡ Spare)
+apart_by part Implied w o = (refl, apart_implied w o)
+apart_by part Reads w o = absurd (no_memory Load (waits part Reads) w o)
+apart_by part Stores w o = absurd (no_memory Store (waits part Stores) w o)
+apart_by part Shifts w o = absurd (no_change (waits part Shifts) w o)
+apart_by part Modifies w o = absurd (no_change (waits part Modifies) w o)
+apart_by part Jumps w o = absurd (no_jump w o)
+apart_by part _ w o = cc
+
+pub apart : (part : Part) (m : Machine) (op : ℕ) (s : Start) → row_at part op ≡ Some m.row → s ≡ start_at part op → s.phase ≡ phase.Opcode
+    → (bus_use m.row.mnemonic ≡ Implied) × (m.row.mode ≡ Spare)
+apart part m op s e is o =
+    let same : s ≡ start_by part (bus_use m.row.mnemonic) m.row.mode = is ∙ start_is part m op e in
+    apart_by part (bus_use m.row.mnemonic) m.row.mode (ap (λ (x : Start). x.phase) (sym same) ∙ o)

@@ -1,0 +1,100 @@
+-- What either processor does from one look at its lines to the next, as a list of accesses and the registers after them: an
+-- instruction, a reset, an NMI or an IRQ. MCS6500 Hardware Manual, summary of single cycle execution, and the 65C02's
+-- data sheet.
+use Rattle.std.specs.Prelude.{◌≡◌, ◌≤◌, ℕ, ◌+◌, ◌/◌, ◌%◌, List, [], ◌∷◌, ◌++◌, length, Bool, true, false, cond, not, ◌&&◌, ◌⊎◌, IsTrue, IsNone, Option, Some, None, is_none, IfSome, slice_get, bit_or}
+use Rattle.op_table.specs.declared.names.Part.{Part}
+use Rattle.op_table.specs.declared.names.Part.TheVariants.{Nmos, Cmos}
+use Rattle.op_table.specs.declared.rows.Row.{Row}
+use Rattle.cpu_alu.specs.declared.Regs.{Regs}
+use Rattle.cpu_alu.specs.declared.Cycle.{Cycle}
+use Rattle.cpu_alu.specs.declared.Cycle.TheVariants.{Read, Write}
+use Rattle.cpu_alu.specs.declared.flags.TheConstants.{INTERRUPT, PUSHED_BY_INTERRUPT}
+use Rattle.cpu_alu.specs.Flags.{has_flag}
+use Rattle.cpu_alu.specs.Addresses.{stack}
+use Rattle.cpu_core.specs.declared.Sequence.{Sequence}
+use Rattle.cpu_core.specs.declared.Sequence.TheVariants.{Instruction, Reset, Nmi, Irq}
+use Rattle.cpu_core.specs.State.{State}
+use Rattle.cpu_core.specs.Accesses.{byte, row_at, form_of}
+use Rattle.cpu_core.specs.Results.{executed_of, vectored}
+
+-- an interrupt pushes PC and the flags
+abbrev pub interrupt : ℕ → Regs → List Cycle
+interrupt vector r =
+    Read r.pc ∷ Read r.pc ∷ Write (stack r 0) (r.pc / 256) ∷ Write (stack r 255) (r.pc % 256)
+    ∷ Write (stack r 254) (bit_or r.p PUSHED_BY_INTERRUPT) ∷ Read vector ∷ Read (vector + 1) ∷ []
+
+-- a reset reads where an interrupt pushes
+abbrev pub reset : Regs → List Cycle
+reset r =
+    Read r.pc ∷ Read r.pc ∷ Read (stack r 0) ∷ Read (stack r 255) ∷ Read (stack r 254) ∷ Read 0xFFFC ∷ Read 0xFFFD ∷ []
+
+-- All accesses of a sequence. What was seen settles them up to the next one.
+abbrev pub accesses : Part → Sequence → Regs → List (Option ℕ) → List Cycle
+accesses part Instruction r seen = Read r.pc ∷ form_of part (row_at part (byte seen 0)) r seen
+accesses part Reset r seen = reset r
+accesses part Nmi r seen = interrupt 0xFFFA r
+accesses part Irq r seen = interrupt 0xFFFE r
+
+-- the registers after a sequence that is over
+abbrev pub result_of : Part → Sequence → Regs → List (Option ℕ) → Regs
+result_of part Instruction r seen = executed_of part (row_at part (byte seen 0)) r seen
+result_of part _ r seen = vectored part r seen
+
+-- the access of the cycle in progress, or None where the sequence is over
+abbrev pub next : Part → State → Option Cycle
+next part s = slice_get (accesses part s.sequence s.regs s.seen) (length s.seen)
+
+-- what a cycle shows: the byte for a read, nothing for a write
+abbrev pub shown : Option Cycle → ℕ → Option ℕ
+shown (Some (Read at)) byte = Some byte
+shown _ byte = None
+
+-- whether the NMOS part has read an opcode without an instruction
+abbrev pub halts : List (Option ℕ) → Part → Sequence → Bool
+halts (Some op ∷ []) Nmos Instruction = is_none (row_at Nmos op)
+halts _ part sequence = false
+
+abbrev pub halted : Part → State → Bool
+halted Nmos s = halts s.seen Nmos s.sequence
+halted Cmos s = false
+
+-- whether nothing was seen yet of an instruction, so that its opcode is read next
+abbrev pub is_start : List (Option ℕ) → Sequence → Bool
+is_start [] Instruction = true
+is_start _ sequence = false
+
+-- whether the next cycle is the first of an instruction, and not of a reset or an interrupt
+abbrev pub starting : State → Bool
+starting s = is_start s.seen s.sequence
+
+-- one cycle later: halted, the part reads the opcode's address again and again
+abbrev pub given : Part → State → ℕ → State
+given part s byte = cond (halted part s) s (record s { seen = s.seen ++ shown (next part s) byte ∷ [] })
+
+abbrev pub after : Part → State → Regs
+after part s = result_of part s.sequence s.regs s.seen
+
+-- what begins at a look at the lines: NMI, else IRQ where I is clear, else the next instruction
+abbrev pub looked : Bool → Bool → Regs → Sequence
+looked nmi irq r = cond nmi Nmi (cond (irq && not (has_flag r.p INTERRUPT)) Irq Instruction)
+
+-- a sequence that begins
+abbrev pub fresh : Sequence → Regs → State
+fresh sequence r = record { sequence = sequence; regs = r; seen = [] }
+
+-- all registers and flags are clear, and a reset begins
+abbrev pub power_on : State
+power_on = fresh Reset (record { pc = 0; a = 0; x = 0; y = 0; s = 0; p = 0 })
+
+-- an opcode makes at least as many accesses as the instruction table has cycles for it, whatever it reads
+abbrev pub TakesAtLeast : Part → ℕ → Type 0
+TakesAtLeast part op = IfSome (row_at part op) (λ (row : Row).
+    (r : Regs) (seen : List (Option ℕ)) → row.cycles ≤ length (accesses part Instruction r (Some op ∷ seen)))
+
+-- and for some registers just as many
+abbrev pub MayTakeJust : Part → ℕ → Type 0
+MayTakeJust part op = IfSome (row_at part op) (λ (row : Row). (r : Regs) × (length (accesses part Instruction r (Some op ∷ [])) ≡ row.cycles))
+
+-- it is over, or halted for good but for a reset
+abbrev pub HasEnded : Part → State → Type 0
+HasEnded part s = IsNone (next part s) ⊎ IsTrue (halted part s)
