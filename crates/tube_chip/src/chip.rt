@@ -14,30 +14,30 @@ use std::marker::Model;
 
 /// The registers to the host.
 #[derive(Drop)]
-struct ToHost {
-    r1: Register<24>,
-    r2: Register<1>,
-    r3: Register<2>,
-    r4: Register<1>,
+pub(crate) struct ToHost {
+    pub(crate) r1: Register<24>,
+    pub(crate) r2: Register<1>,
+    pub(crate) r3: Register<2>,
+    pub(crate) r4: Register<1>,
 }
 
 /// The registers to the parasite.
 #[derive(Drop)]
-struct ToPara {
-    r1: Register<1>,
-    r2: Register<1>,
-    r3: Register<2>,
-    r4: Register<1>,
+pub(crate) struct ToPara {
+    pub(crate) r1: Register<1>,
+    pub(crate) r2: Register<1>,
+    pub(crate) r3: Register<2>,
+    pub(crate) r4: Register<1>,
 }
 
 /// The Tube chip.
 #[derive(Drop)]
 pub struct Chip {
-    flags: Flags,
-    to_host: ToHost,
-    to_para: ToPara,
-    nmis: u32,
-    resets: u32,
+    pub(crate) flags: Flags,
+    pub(crate) to_host: ToHost,
+    pub(crate) to_para: ToPara,
+    pub(crate) nmis: u32,
+    pub(crate) resets: u32,
 }
 
 impl Model for Chip {

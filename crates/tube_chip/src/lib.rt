@@ -4,10 +4,11 @@
 mod chip;
 mod flags;
 mod law;
+mod packing;
 mod register;
 
 pub use chip::Chip;
-pub use law::rising_list_is_merge;
+pub use law::{packing_is_one_to_one, rising_list_is_merge};
 
 /// An operation at one of the eight Tube addresses of a side, by its low three address bits.
 #[derive(Clone, Copy, Debug, PartialEq, Eq)]

@@ -1,7 +1,9 @@
 //! One direction of a register of the Tube.
-ghost use Rattle.std.specs.Prelude.{◌≡◌, ◌<◌, ◌≤◌, []};
+ghost use Rattle.std.specs.Prelude.{◌≡◌, ◌+◌, ◌<◌, ◌≤◌, []};
+ghost use Rattle.std.specs.List.{All};
 ghost use Rattle.tube_chip.specs.Register.{holds, empty, count, front_of, taken, added};
 ghost use Rattle.tube_chip.specs.State.{is_empty};
+ghost use Rattle.tube_chip.specs.Packing.{IsRegister, place, places, word, register_from};
 
 use std::marker::Model;
 
@@ -23,6 +25,15 @@ impl<const ROOM: usize> Model for Register<ROOM> {
     ghost invariant = { λ r. (0 < ROOM) × (r.held ≤ ROOM) };
 }
 
+// A count of bytes as a byte.
+fn short(_bytes: &[u8], held: usize) -> u8
+    requires { held < 256 }
+    ensures count { result ≡ held }
+    ensures bytes { All (λ b. b < 256) _bytes.now }
+{
+    held as u8
+}
+
 impl<const ROOM: usize> Register<ROOM> {
     pub(crate) fn new() -> Register<ROOM>
         requires { 0 < ROOM }
@@ -38,6 +49,55 @@ impl<const ROOM: usize> Register<ROOM> {
         ensures { result ≡ count self.now }
     {
         self.held
+    }
+
+    /// How many bytes it holds, as a byte. Tells its bounds, too.
+    pub(crate) fn short_count(&self) -> u8
+        requires { ROOM < 256 }
+        ensures count { result ≡ count self.now }
+        ensures bounds { IsRegister ROOM self.now }
+    {
+        short(&self.bytes, self.held)
+    }
+
+    /// The byte in a place: 00 behind those that it holds, or behind the one that it remembers.
+    pub(crate) fn place(&self, index: usize) -> u8
+        requires { index < ROOM }
+        ensures { result ≡ place self.now index }
+    {
+        if index == 0 || index < self.held {
+            self.bytes[index]
+        } else {
+            0
+        }
+    }
+
+    /// Eight places as a word, the first in its lowest bits.
+    pub(crate) fn word(&self, first: usize) -> u64
+        requires { first + 8 ≤ ROOM }
+        ensures { result ≡ word (places self.now first) }
+    {
+        u64::from_le_bytes([
+            self.place(first),
+            self.place(first + 1),
+            self.place(first + 2),
+            self.place(first + 3),
+            self.place(first + 4),
+            self.place(first + 5),
+            self.place(first + 6),
+            self.place(first + 7),
+        ])
+    }
+
+    /// The register with these places, of which it holds the first so many.
+    pub(crate) fn of(bytes: [u8; ROOM], held: u8) -> Register<ROOM>
+        requires { 0 < ROOM }
+        ensures { result ≡ register_from bytes.entry held }
+    {
+        Register {
+            bytes,
+            held: ROOM.min(held as usize),
+        }
     }
 
     pub(crate) fn is_empty(&self) -> bool

@@ -1,5 +1,5 @@
 //! The chip by its calls.
-use crate::{Answer, Chip, Lines, Op, rising_list_is_merge};
+use crate::{Answer, Chip, Lines, Op, packing_is_one_to_one, rising_list_is_merge};
 use beeb_bits::Side;
 
 #[test]
@@ -138,7 +138,92 @@ fn each_line_follows_its_flag_and_register(rt: HostRuntime) {
     }
 }
 
+// A chip with so many bytes in register 1 to the host and, where they are not 0, so many in register 3 both ways, and these counts.
+fn filled(queue: u8, third: u8, counts: u64) -> Option<Chip> {
+    let mut chip = Chip::new();
+    chip.apply(Side::Host, Op::Write(0, 0x90));
+    chip.apply(Side::Host, Op::Read(5));
+    for byte in 0..queue {
+        chip.apply(Side::Para, Op::Write(1, 0xe0 | byte % 32));
+    }
+    for byte in 0..third {
+        chip.apply(Side::Para, Op::Write(5, 0x70 | byte % 16));
+        chip.apply(Side::Host, Op::Write(5, 0x90 | byte % 16));
+    }
+    let mut words = chip.pack();
+    words[0] = counts;
+    Chip::unpack(words)
+}
+
 #[test]
-fn the_law_of_merging_is_a_call() {
+fn a_chip_is_read_back_from_its_words(rt: HostRuntime) {
+    let rows = [
+        (0, 0, 0),
+        (1, 1, 0xffff_ffff_ffff_fffe),
+        (23, 2, 0xffff_fffe_ffff_ffff),
+        (24, 2, 0xffff_ffff_ffff_ffff),
+    ];
+    for (queue, third, counts) in rows {
+        for byte in 0..256u16 {
+            let mut chip = filled(queue, third, counts).expect(&rt, "counts of 32 bits");
+            chip.apply(Side::Host, Op::Write(0, (byte % 256) as u8));
+            let mut again = Chip::unpack(chip.pack()).expect(&rt, "the words of a chip");
+            assert_eq!(rt; again.pack(), chip.pack(), "after {byte:x}");
+            assert_eq!(rt; again.lines(), chip.lines(), "after {byte:x}");
+            for read in 0..200u8 {
+                let op = Op::Read(read % 8);
+                assert_eq!(rt;
+                    again.apply(Side::Host, op),
+                    chip.apply(Side::Host, op),
+                    "{op:?}"
+                );
+                assert_eq!(rt;
+                    again.apply(Side::Para, op),
+                    chip.apply(Side::Para, op),
+                    "{op:?}"
+                );
+            }
+        }
+    }
+}
+
+#[test]
+fn the_words_are_as_described(rt: HostRuntime) {
+    assert_eq!(rt; Chip::new().pack(), [0, 0, 0, 0, 0x10_0000, 0]);
+    let mut chip = filled(9, 2, 0x0000_0002_0000_0001).expect(&rt, "counts of 32 bits");
+    chip.apply(Side::Host, Op::Write(7, 0x55));
+    let counts = 0x0000_0002_0000_0001;
+    let front = 0xe7e6_e5e4_e3e2_e1e0;
+    let host = 0x71_70_00_20_09_10;
+    let para = 0x55_91_90_00_00_60;
+    assert_eq!(rt; chip.pack(), [counts, front, 0xe8, 0, host, para]);
+    // Words 2, 4 and 5, of which one is in place of what the chip has.
+    let strangers = [
+        // 25 bytes in register 1 to the host, or a byte behind its ninth.
+        (0xe8, 0x71_70_00_20_19_10, para),
+        (0xe7e8, host, para),
+        // A seventh flag, three bytes in register 3, two in register 2, a count for register 1, a byte too many.
+        (0xe8, 0x71_70_00_20_09_50, para),
+        (0xe8, 0x71_70_00_30_09_10, para),
+        (0xe8, 0x71_70_00_28_09_10, para),
+        (0xe8, 0x71_70_00_21_09_10, para),
+        (0xe8, 0x01_00_71_70_00_20_09_10, para),
+        (0xe8, host, 0x01_55_91_90_00_00_60),
+        // A byte remembered beside a list that is not empty: two places where one byte is held.
+        (0xe8, 0x71_70_00_10_09_10, para),
+        (0xe8, host, 0x55_91_90_00_00_50),
+    ];
+    for (queue, host, para) in strangers {
+        let words = [counts, front, queue, 0, host, para];
+        assert!(rt;
+            Chip::unpack(words).is_none(),
+            "{queue:x} {host:x} {para:x}"
+        );
+    }
+}
+
+#[test]
+fn the_laws_are_calls() {
     rising_list_is_merge();
+    packing_is_one_to_one();
 }

@@ -11,39 +11,40 @@ use Rattle.tube_party.specs.declared.party.Ask.{Ask}
 use Rattle.tube_party.specs.declared.party.Ask.TheVariants.{Nothing, Access, Look}
 use Rattle.tube_party.specs.Moves.{Moves, IsLawful, IsAsk, Advances, Runs, shut}
 use Rattle.tube_party.specs.Reference.{World, ticks, start, reference, stepped, with_host}
-use Rattle.tube_party.specs.Played.{IsKept, IsPlayed, entry_of}
+use Rattle.tube_trace.specs.Entries.{entry_of}
+use Rattle.tube_party.specs.Played.{IsKept, IsPlayed}
 use Rattle.tube_party.specs.Turn.{IsPending, Turns, first_of, left, noted_all}
 use Rattle.tube_party.proofs.Ticks.{world, host_done, rest, host_next, host_silent, para_next, para_silent}
-use Rattle.tube_party.proofs.Meet.{event, First, Over, Silent, Asking, first_of_runs}
+use Rattle.tube_party.proofs.Runs.{event, First, Over, Silent, Asking, first_of_runs}
 use Rattle.tube_party.proofs.Kept.{kept_own, kept_host_by_para, kept_para_by_host, at_most_one}
 use Rattle.tube_party.proofs.UnderWay.{IsUnderWay}
 use Rattle.tube_party.proofs.ReplayLemmas.{due_rises}
 use Rattle.tube_party.proofs.First.{HostFirst, ParaFirst, host_first, para_first, none_left}
 
 -- a party after its step that asked, and then after those that ask nothing
-pub tick_of_pending : {S : Type 0} (r : Moves S) (side : Side) (n : ℕ) (s : S) (ask : Ask) → IsPending r side n s ask → left n ask + r.due s ≡ n
-tick_of_pending r side n s Nothing h = absurd h
-tick_of_pending r side n s (Access t op) h = omega (arith, h.0, h.1)
-tick_of_pending r side n s (Look t) h = omega (arith, h.0, h.1)
+pub tick_of_pending : {S : Type 0} (r : Moves S) (n : ℕ) (s : S) (ask : Ask) → IsPending r n s ask → left n ask + r.due s ≡ n
+tick_of_pending r n s Nothing h = absurd h
+tick_of_pending r n s (Access t op) h = omega (arith, h.0, h.1)
+tick_of_pending r n s (Look t) h = omega (arith, h.0, h.1)
 
-pub due_of_pending : {S : Type 0} (r : Moves S) (side : Side) (n : ℕ) (s : S) (ask : Ask) → IsPending r side n s ask → r.due s < n
-due_of_pending r side n s Nothing h = absurd h
-due_of_pending r side n s (Access t op) h = omega (arith, h.0, h.1)
-due_of_pending r side n s (Look t) h = omega (arith, h.0, h.1)
+pub due_of_pending : {S : Type 0} (r : Moves S) (n : ℕ) (s : S) (ask : Ask) → IsPending r n s ask → r.due s < n
+due_of_pending r n s Nothing h = absurd h
+due_of_pending r n s (Access t op) h = omega (arith, h.0, h.1)
+due_of_pending r n s (Look t) h = omega (arith, h.0, h.1)
 
-left_of_ask : {S : Type 0} (r : Moves S) (side : Side) (n : ℕ) (last s : S) (ask : Ask) (d : ℕ) → IsAsk r side n last ask s → d < n → d < r.due last → left n ask + d < n
-left_of_ask r side n last s Nothing d h lt up = omega arith
-left_of_ask r side n last s (Access t op) d h lt up = omega (arith, h.0, h.1)
-left_of_ask r side n last s (Look t) d h lt up = omega (arith, h.0, h.1)
+left_of_ask : {S : Type 0} (r : Moves S) (n : ℕ) (last s : S) (ask : Ask) (d : ℕ) → IsAsk r n last ask s → d < n → d < r.due last → left n ask + d < n
+left_of_ask r n last s Nothing d h lt up = omega arith
+left_of_ask r n last s (Access t op) d h lt up = omega (arith, h.0, h.1)
+left_of_ask r n last s (Look t) d h lt up = omega (arith, h.0, h.1)
 
 pub turn_smaller : {S : Type 0} (r : Moves S) → IsLawful r → (side : Side) (n keep : ℕ) (s : S) (c : State) (list : List Entry) (count : ℕ) (s2 : S) (c2 : State) (list2 : List Entry) (count2 : ℕ) (ask ask2 : Ask)
-    → IsPending r side n s ask → Turns r side n keep s c list count s2 c2 list2 count2 ask2 → left n ask2 < left n ask
+    → IsPending r n s ask → Turns r side n keep s c list count s2 c2 list2 count2 ask2 → left n ask2 < left n ask
 turn_smaller r lr side n keep s c list count s2 c2 list2 count2 ask ask2 pending t =
     let a : Answer = (act c side t.query).1 in
     let up : r.due s < r.due (r.next s (Some a)) = lr.rises s (Some a) in
     let on : r.due (r.next s (Some a)) ≤ r.due t.advances.last = due_rises r n t.advances.steps (r.next s (Some a)) t.advances.last lr t.advances.runs in
-    let low : r.due s < n = due_of_pending r side n s ask pending in
-    omega (arith, tick_of_pending r side n s ask pending, left_of_ask r side n t.advances.last s2 ask2 (r.due s) (t.advances.asked side) low (omega arith))
+    let low : r.due s < n = due_of_pending r n s ask pending in
+    omega (arith, tick_of_pending r n s ask pending, left_of_ask r n t.advances.last s2 ask2 (r.due s) t.advances.asked low (omega arith))
 
 nothing_taken : (keep : ℕ) → take keep (let e : List Entry = [] in e) ≡ []
 nothing_taken zero = refl
@@ -91,8 +92,8 @@ module _ {S T : Type 0} (h : Moves S) (p : Moves T) (lh : IsLawful h) (lp : IsLa
         host_last = ah.last;
         para_last = ap'.last;
         events = [];
-        host_asked = ah.asked Host;
-        para_asked = ap'.asked Para;
+        host_asked = ah.asked;
+        para_asked = ap'.asked;
         same =
             silent_host Host ah.steps s0 ah.last t0 power_on [] ah.runs
             ∙ silent_para Host ap'.steps ah.last t0 ap'.last power_on [] ap'.runs
@@ -119,7 +120,7 @@ module _ {S T : Type 0} (h : Moves S) (p : Moves T) (lh : IsLawful h) (lp : IsLa
         host_last = d.advances.last;
         para_last = w.para_last;
         events = w.events ++ event (h.due s) Host d.query a ∷ [];
-        host_asked = d.advances.asked Host;
+        host_asked = d.advances.asked;
         para_asked = w.para_asked;
         same =
             w.same
@@ -151,7 +152,7 @@ module _ {S T : Type 0} (h : Moves S) (p : Moves T) (lh : IsLawful h) (lp : IsLa
         para_last = d.advances.last;
         events = w.events ++ event (p.due t) Para d.query a ∷ [];
         host_asked = w.host_asked;
-        para_asked = d.advances.asked Para;
+        para_asked = d.advances.asked;
         same =
             w.same
             ∙ ap (λ (x : T). ticks h p n 0 (world w.host_last x c w.events)) (sym f.here)
@@ -170,8 +171,8 @@ module _ {S T : Type 0} (h : Moves S) (p : Moves T) (lh : IsLawful h) (lp : IsLa
       → (ask_h ≡ Nothing) × (ask_p ≡ Nothing)
       → IsPlayed (reference h p s0 t0 n) keep s t c hl pl hc pc
   finish_by keep s0 s t0 t c ask_h ask_p hl pl hc pc w none =
-      let ah : IsAsk h Host n w.host_last Nothing s = subst (λ (x : Ask). IsAsk h Host n w.host_last x s) none.0 w.host_asked in
-      let ap' : IsAsk p Para n w.para_last Nothing t = subst (λ (x : Ask). IsAsk p Para n w.para_last x t) none.1 w.para_asked in
+      let ah : IsAsk h n w.host_last Nothing s = subst (λ (x : Ask). IsAsk h n w.host_last x s) none.0 w.host_asked in
+      let ap' : IsAsk p n w.para_last Nothing t = subst (λ (x : Ask). IsAsk p n w.para_last x t) none.1 w.para_asked in
       let e : ticks h p n 0 (start s0 t0) ≡ world w.host_last w.para_last c w.events =
       w.same ∙ rest h p lh lp n 0 w.host_last w.para_last c w.events (omega (arith, ah.0)) (omega (arith, ap'.0)) in
       record {

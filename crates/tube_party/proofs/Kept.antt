@@ -1,7 +1,7 @@
 -- What is kept as the list of events grows.
-use Rattle.std.proofs.Common.{ℕ, ◌≡◌, ◌+◌, ◌<◌, ◌≤◌, ◌⊎◌, inl, inr, refl, sym, ◌∙◌, ap, subst, arith, List, [], ◌∷◌, ◌++◌, length, take, if◌then◌else◌, length-append, append_assoc}
+use Rattle.std.proofs.Common.{ℕ, ◌≡◌, ◌+◌, ◌≤◌, inl, inr, refl, sym, ◌∙◌, ap, subst, arith, List, [], ◌∷◌, ◌++◌, length, take, if◌then◌else◌, length-append, append_assoc}
 use Rattle.std.proofs.lemmas.List.{append-nil, take_all, take-append-le, length-take-le}
-use Rattle.std.proofs.lemmas.Bool.{lt-ltb, le-ltb}
+use Rattle.std.proofs.lemmas.Bool.{lt-ltb, le-ltb, cases_lt}
 use Rattle.tube_chip.specs.Act.{Query, access, look}
 use Rattle.tube_chip.specs.Events.{Event, of_side, is_side}
 use Rattle.tube_chip.specs.declared.Answer.{Answer}
@@ -9,9 +9,10 @@ use Rattle.tube_chip.specs.declared.Answer.TheVariants.{Byte, Seen}
 use Rattle.tube_trace.specs.declared.Entry.{Entry}
 use Rattle.beeb_bits.specs.declared.Side.{Side}
 use Rattle.beeb_bits.specs.declared.Side.TheVariants.{Host, Para}
-use Rattle.tube_party.specs.Played.{IsKept, accesses, entry_of}
+use Rattle.tube_trace.specs.Entries.{accesses, entry_of}
+use Rattle.tube_party.specs.Played.{IsKept}
 use Rattle.tube_party.specs.Turn.{noted, noted_all}
-use Rattle.tube_party.proofs.Meet.{event}
+use Rattle.tube_party.proofs.Runs.{event}
 
 accesses-append : (xs ys : List Event) → accesses (xs ++ ys) ≡ accesses xs ++ accesses ys
 accesses-append [] ys = refl
@@ -25,19 +26,16 @@ by_side Para Para x xs ys zs e = ap (λ z. x ∷ z) e
 by_side Host Para x xs ys zs e = e
 by_side Para Host x xs ys zs e = e
 
-of_side-append : (side : Side) (xs ys : List Event) → of_side side (xs ++ ys) ≡ of_side side xs ++ of_side side ys
+pub of_side-append : (side : Side) (xs ys : List Event) → of_side side (xs ++ ys) ≡ of_side side xs ++ of_side side ys
 of_side-append side [] ys = refl
 of_side-append side (x ∷ xs) ys = by_side side x.side x (of_side side (xs ++ ys)) (of_side side xs) (of_side side ys) (of_side-append side xs ys)
-
-same_or_above : (a k : ℕ) → (a < k) ⊎ (k ≤ a)
-same_or_above a k = grind arith
 
 -- every one of fewer than keep is taken
 take_few : (keep : ℕ) (xs : List Entry) → length xs ≤ keep → take keep xs ≡ xs
 take_few keep xs h = take_all keep xs h
 
 noted_take : (keep : ℕ) (xs : List Entry) (x : Entry) → noted keep (take keep xs) x ≡ take keep (xs ++ x ∷ [])
-noted_take keep xs x = elim (same_or_above (length xs) keep) [
+noted_take keep xs x = elim (cases_lt (length xs) keep) [
   | inl lt ↦
       let few : length xs ≤ keep = omega arith in
       let all : take keep xs ≡ xs = take_few keep xs few in

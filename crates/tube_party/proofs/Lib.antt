@@ -1,7 +1,13 @@
 pub mod TapeLemmas
 pub mod ReplayLemmas
+pub mod FollowingLemmas
+pub mod Runs
 pub mod Ticks
 pub mod Meet
+pub mod Listed
+pub mod Followed
+pub mod Replayed
+pub mod TraceLemmas
 pub mod Turns
 pub mod First
 pub mod UnderWay

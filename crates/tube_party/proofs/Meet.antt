@@ -1,5 +1,5 @@
 -- Two parties whose steps use up a merge that the chip answers leave what the reference leaves.
-use Rattle.std.proofs.Common.{ℕ, zero, suc, ◌≡◌, ◌+◌, ◌<◌, ◌≤◌, ◌⊎◌, inl, inr, refl, sym, ◌∙◌, ap, subst, arith, List, [], ◌∷◌, ◌++◌, Option, None, Some, MatchOption}
+use Rattle.std.proofs.Common.{ℕ, zero, suc, ◌≡◌, ◌+◌, ◌<◌, ◌≤◌, ◌⊎◌, inl, inr, refl, sym, ◌∙◌, ap, subst, arith, List, [], ◌∷◌, ◌++◌, Option, None, Some}
 use Rattle.std.proofs.lemmas.Bool.{lt-ltb, le-ltb}
 use Rattle.std.proofs.lemmas.List.{append-nil}
 use Rattle.std.proofs.Math.Seq.{append_snoc}
@@ -7,50 +7,11 @@ use Rattle.tube_chip.specs.State.{State, power_on}
 use Rattle.tube_chip.specs.Act.{Query, act}
 use Rattle.tube_chip.specs.Events.{Event, merge, after, after_from, IsAnsweredFrom}
 use Rattle.tube_chip.specs.declared.Answer.{Answer}
-use Rattle.beeb_bits.specs.declared.Side.{Side}
 use Rattle.beeb_bits.specs.declared.Side.TheVariants.{Host, Para}
-use Rattle.tube_party.specs.Moves.{Moves, IsLawful, Runs, Heads, shut}
+use Rattle.tube_party.specs.Moves.{Moves, IsLawful, Runs, shut}
 use Rattle.tube_party.specs.Reference.{World, stepped, ticks, shut_both, LegalMergeIsReference}
+use Rattle.tube_party.proofs.Runs.{event, First, Over, Silent, Asking, first_of_runs}
 use Rattle.tube_party.proofs.Ticks.{world, rest, host_next, host_silent, para_next, para_silent}
-
-abbrev pub event : ℕ → Side → Query → Answer → Event
-event t side q a = record { tick = t; side = side; query = q; answer = a }
-
--- what the first of some steps does
-pub data First {S : Type 0} (r : Moves S) (side : Side) (n k : ℕ) (s : S) (events : List Event) (m : S) : Type 0 where
-  Over : events ≡ [] → s ≡ m → First r side n k s events m
-  Silent : (i : ℕ) → k ≡ suc i → r.due s < n → r.asks s ≡ None → Runs r side n i (r.next s None) events m → First r side n k s events m
-  Asking : (i : ℕ) (q : Query) (a : Answer) (others : List Event) → k ≡ suc i → r.due s < n → r.asks s ≡ Some q → events ≡ event (r.due s) side q a ∷ others → Runs r side n i (r.next s (Some a)) others m → First r side n k s events m
-
-abbrev Then : {S : Type 0} → Moves S → Side → ℕ → ℕ → S → List Event → S → Option Query → Type 0
-Then r side n k s events m o =
-    MatchOption o
-    (Runs r side n k (r.next s None) events m)
-    (λ q. Heads events (λ e others. (e.tick ≡ r.due s) × (e.side ≡ side) × (e.query ≡ q) × Runs r side n k (r.next s (Some e.answer)) others m))
-
--- an event is known by its parts
-same_event : (e : Event) (t : ℕ) (side : Side) (q : Query) → e.tick ≡ t → e.side ≡ side → e.query ≡ q → e ≡ event t side q e.answer
-same_event e t side q et es eq =
-    ap (λ (x : ℕ). event x e.side e.query e.answer) et
-    ∙ ap (λ (x : Side). event t x e.query e.answer) es
-    ∙ ap (λ (x : Query). event t side x e.answer) eq
-
-then_asking : {S : Type 0} (r : Moves S) (side : Side) (n i : ℕ) (s : S) (events : List Event) (m : S) (q : Query) → r.due s < n → r.asks s ≡ Some q
-    → Heads events (λ e others. (e.tick ≡ r.due s) × (e.side ≡ side) × (e.query ≡ q) × Runs r side n i (r.next s (Some e.answer)) others m)
-    → First r side n (suc i) s events m
-then_asking r side n i s [] m q lt is h = absurd h
-then_asking r side n i s (e ∷ others) m q lt is h =
-    Asking i q e.answer others refl lt is (ap (λ (x : Event). x ∷ others) (same_event e (r.due s) side q h.0 h.1 h.2)) h.3
-
-by_ask : {S : Type 0} (r : Moves S) (side : Side) (n i : ℕ) (s : S) (events : List Event) (m : S) (o : Option Query) → r.due s < n → r.asks s ≡ o
-    → Then r side n i s events m o
-    → First r side n (suc i) s events m
-by_ask r side n i s events m None lt is h = Silent i refl lt is h
-by_ask r side n i s events m (Some q) lt is h = then_asking r side n i s events m q lt is h
-
-pub first_of_runs : {S : Type 0} (r : Moves S) (side : Side) (n k : ℕ) (s : S) (events : List Event) (m : S) → Runs r side n k s events m → First r side n k s events m
-first_of_runs r side n zero s events m h = Over h.0 h.1
-first_of_runs r side n (suc i) s events m h = by_ask r side n i s events m (r.asks s) h.0 refl h.1
 
 -- the merge begins with the host's where no parasite's is at a smaller tick
 merge_host : (a : Event) (host para : List Event) → merge (a ∷ host) [] ≡ a ∷ merge host []

@@ -8,7 +8,7 @@ use Rattle.tube_chip.specs.declared.Op.{Op}
 use Rattle.tube_chip.specs.declared.Answer.{Answer}
 use Rattle.tube_chip.specs.declared.Answer.TheVariants.{Byte, Seen}
 use Rattle.tube_chip.specs.State.{lines_of, power_on}
-use Rattle.tube_chip.specs.Act.{Query, access, look, MayDo}
+use Rattle.tube_chip.specs.Act.{Query, access, look}
 use Rattle.tube_trace.specs.declared.Entry.{Entry}
 use Rattle.tube_party.specs.declared.party.Ask.{Ask}
 use Rattle.tube_party.specs.declared.party.Ask.TheVariants.{Nothing, Access, Look}
@@ -16,7 +16,7 @@ use Rattle.tube_party.specs.Moves.{Moves, IsLawful, Runs, Heads, Advances, IsAsk
 use Rattle.tube_party.specs.Replay.{Numbered, Ended, own_from, finished, differs, access_step, one_step, replay_from, replayed, chip_before}
 use Rattle.tube_party.specs.Tape.{Takes, Misses}
 
-low_true : (a n : ℕ) → a < n → nat_lt a n ≡ true
+pub low_true : (a n : ℕ) → a < n → nat_lt a n ≡ true
 low_true a n h = grind (arith, nat_tests)
 
 low_false : (a n : ℕ) → n ≤ a → nat_lt a n ≡ false
@@ -30,7 +30,7 @@ pub record Goes {S : Type 0} (m : Moves S) (side : Side) (trace : List Entry) (n
 
 module _ {S : Type 0} (m : Moves S) (side : Side) (trace : List Entry) (n : ℕ) where
   -- at or past n nothing is done
-  at_end : (steps : ℕ) (s : S) (own : List Numbered) → n ≤ m.due s → replay_from m side trace n steps s own ≡ finished m n s own
+  pub at_end : (steps : ℕ) (s : S) (own : List Numbered) → n ≤ m.due s → replay_from m side trace n steps s own ≡ finished m n s own
   at_end zero s own h = refl
   at_end (suc k) s own h = rw (low_false (m.due s) n h) refl
 
@@ -38,22 +38,30 @@ module _ {S : Type 0} (m : Moves S) (side : Side) (trace : List Entry) (n : ℕ)
   goes_end whole s own goes h = goes.same ∙ at_end goes.steps s own h
 
   -- below n one step is done
-  step_of : (steps : ℕ) (s : S) (own : List Numbered) (q : Option Query) → m.due s < n → n ≤ m.due s + steps → m.asks s ≡ q →
+  pub step_now : (k : ℕ) (s : S) (own : List Numbered) → m.due s < n → replay_from m side trace n (suc k) s own ≡ one_step m side trace s own (m.asks s) (replay_from m side trace n k)
+  step_now k s own low = rw (low_true (m.due s) n low) refl
+
+  pub step_of : (steps : ℕ) (s : S) (own : List Numbered) (q : Option Query) → m.due s < n → n ≤ m.due s + steps → m.asks s ≡ q →
       (k : ℕ) × (n ≤ m.due s + suc k) × (replay_from m side trace n steps s own ≡ one_step m side trace s own q (replay_from m side trace n k))
   step_of zero s own q low enough is = absurd (omega arith)
   step_of (suc k) s own q low enough is = (k, enough, rw (low_true (m.due s) n low, is) refl)
 
-  later : IsLawful m → (s : S) (a : Option Answer) (k : ℕ) → n ≤ m.due s + suc k → n ≤ m.due (m.next s a) + k
+  pub later : IsLawful m → (s : S) (a : Option Answer) (k : ℕ) → n ≤ m.due s + suc k → n ≤ m.due (m.next s a) + k
   later lawful s a k h = let rise : m.due s < m.due (m.next s a) = lawful.rises s a in omega arith
 
-  -- one step that asks nothing, and what holds of those after it
+  -- one step that asks nothing
+  pub goes_none : IsLawful m → (whole : Ended S) (s : S) (own : List Numbered) → Goes m side trace n whole s own → m.due s < n → m.asks s ≡ None →
+      Goes m side trace n whole (m.next s None) own
+  goes_none lawful whole s own goes low is =
+      let step = step_of goes.steps s own None low goes.enough is in
+      record { steps = step.0; enough = later lawful s None step.0 step.1; same = goes.same ∙ step.2 }
+
+  -- such a step, and what holds of those after it
   goes_past : IsLawful m → (whole : Ended S) (own : List Numbered) (k : ℕ) (s last : S) → Goes m side trace n whole s own → m.due s < n → (q : Option Query) → m.asks s ≡ q →
       (Goes m side trace n whole (m.next s None) own → Runs m Host n k (m.next s None) [] last → Goes m side trace n whole last own) →
       MatchOption q (Runs m Host n k (m.next s None) [] last) (λ p. Heads [] (λ e rest. (e.tick ≡ m.due s) × (e.side ≡ Host) × (e.query ≡ p) × Runs m Host n k (m.next s (Some e.answer)) rest last)) →
       Goes m side trace n whole last own
-  goes_past lawful whole own k s last goes low None is on runs =
-      let step = step_of goes.steps s own None low goes.enough is in
-      on (record { steps = step.0; enough = later lawful s None step.0 step.1; same = goes.same ∙ step.2 }) runs
+  goes_past lawful whole own k s last goes low None is on runs = on (goes_none lawful whole s own goes low is) runs
   goes_past lawful whole own k s last goes low (Some q) is on runs = absurd runs
 
   -- steps that ask nothing
@@ -110,7 +118,7 @@ pub record RanOut {S : Type 0} (m : Moves S) (n : ℕ) (old new : S) : Type 0 wh
 
 pub ran_out : {S : Type 0} (m : Moves S) (n : ℕ) (old new : S) (ask : Ask) → Advances m n old ask new → ask ≡ Nothing → RanOut m n old new
 ran_out m n old new ask told is =
-    let asked : (n ≤ m.due told.last) × (new ≡ shut m told.last n) = subst (λ (a : Ask). IsAsk m Host n told.last a new) is (told.asked Host) in
+    let asked : (n ≤ m.due told.last) × (new ≡ shut m told.last n) = subst (λ (a : Ask). IsAsk m n told.last a new) is told.asked in
     record { steps = told.steps; last = told.last; runs = told.runs; over = asked.0; shut_is = asked.1 }
 
 -- it asks this of the Tube at its next step
@@ -123,9 +131,9 @@ pub record Stands {S : Type 0} (m : Moves S) (n : ℕ) (old new : S) (tick : ℕ
 
 pub stands_access : {S : Type 0} (m : Moves S) (n : ℕ) (old new : S) (ask : Ask) (t : Tick) (op : Op) → Advances m n old ask new → ask ≡ Access t op → Stands m n old new t.0 (access op)
 stands_access {S} m n old new ask t op told is =
-    let asked : (t.0 ≡ m.due told.last) × (t.0 < n) × (m.asks told.last ≡ Some (access op)) × MayDo Host op × (new ≡ told.last) =
-    subst (λ (a : Ask). IsAsk m Host n told.last a new) is (told.asked Host) in
-    let same : told.last ≡ new = sym asked.4 in
+    let asked : (t.0 ≡ m.due told.last) × (t.0 < n) × (m.asks told.last ≡ Some (access op)) × (new ≡ told.last) =
+    subst (λ (a : Ask). IsAsk m n told.last a new) is told.asked in
+    let same : told.last ≡ new = sym asked.3 in
     let due : t.0 ≡ m.due new = subst (λ (x : S). t.0 ≡ m.due x) same asked.0 in
     record {
       steps = told.steps;
@@ -138,7 +146,7 @@ stands_access {S} m n old new ask t op told is =
 pub stands_look : {S : Type 0} (m : Moves S) (n : ℕ) (old new : S) (ask : Ask) (t : Tick) → Advances m n old ask new → ask ≡ Look t → Stands m n old new t.0 look
 stands_look {S} m n old new ask t told is =
     let asked : (t.0 ≡ m.due told.last) × (t.0 < n) × (m.asks told.last ≡ Some look) × (new ≡ told.last) =
-    subst (λ (a : Ask). IsAsk m Host n told.last a new) is (told.asked Host) in
+    subst (λ (a : Ask). IsAsk m n told.last a new) is told.asked in
     let same : told.last ≡ new = sym asked.3 in
     let due : t.0 ≡ m.due new = subst (λ (x : S). t.0 ≡ m.due x) same asked.0 in
     record {

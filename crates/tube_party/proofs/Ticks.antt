@@ -7,7 +7,7 @@ use Rattle.tube_chip.specs.Events.{Event}
 use Rattle.beeb_bits.specs.declared.Side.{Side}
 use Rattle.beeb_bits.specs.declared.Side.TheVariants.{Host, Para}
 use Rattle.tube_party.specs.Moves.{Moves, IsLawful}
-use Rattle.tube_party.specs.Reference.{Seat, World, stepped, step_at, with_host, para_part, tick, ticks}
+use Rattle.tube_party.specs.Reference.{Seat, World, stepped, step_if_due, with_host, para_part, tick, ticks}
 
 abbrev pub seat : {S : Type 0} → S → State → List Event → Seat S
 seat s c l = record { state = s; chip = c; list = l }
@@ -18,17 +18,17 @@ world s t c l = record { host = s; para = t; chip = c; list = l }
 abbrev pub host_done : {S T : Type 0} → Seat S → T → World S T
 host_done x t = record { host = x.state; para = t; chip = x.chip; list = x.list }
 
-still : {S : Type 0} (r : Moves S) (side : Side) (k : ℕ) (x : Seat S) → (r.due x.state ≡ k → ⊥) → step_at r side k x ≡ x
+pub still : {S : Type 0} (r : Moves S) (side : Side) (k : ℕ) (x : Seat S) → (r.due x.state ≡ k → ⊥) → step_if_due r side k x ≡ x
 still r side k x ne = rw (ne_eqb (r.due x.state) k ne) refl
 
-now : {S : Type 0} (r : Moves S) (side : Side) (k : ℕ) (x : Seat S) → r.due x.state ≡ k → step_at r side k x ≡ stepped r side x (r.asks x.state)
+pub now : {S : Type 0} (r : Moves S) (side : Side) (k : ℕ) (x : Seat S) → r.due x.state ≡ k → step_if_due r side k x ≡ stepped r side x (r.asks x.state)
 now r side k x e = rw (eq-eqb (r.due x.state) k e) refl
 
 later : {S : Type 0} (r : Moves S) → IsLawful r → (side : Side) (x : Seat S) (o : Option Query) → r.due x.state < r.due (stepped r side x o).state
 later r lr side x None = lr.rises x.state None
 later r lr side x (Some q) = lr.rises x.state (Some (act x.chip side q).1)
 
-same_or_above : (a k : ℕ) → k ≤ a → (a ≡ k) ⊎ (k < a)
+pub same_or_above : (a k : ℕ) → k ≤ a → (a ≡ k) ⊎ (k < a)
 same_or_above a k h = grind arith
 
 module _ {S T : Type 0} (h : Moves S) (p : Moves T) (lh : IsLawful h) (lp : IsLawful p) where
@@ -95,7 +95,7 @@ module _ {S T : Type 0} (h : Moves S) (p : Moves T) (lh : IsLawful h) (lp : IsLa
             let rise : h.due s < h.due (h.next s None) = lh.rises s None in
             let ns : h.due s ≡ k → ⊥ = λ e. omega arith in
             let nx : h.due (h.next s None) ≡ k → ⊥ = λ e. omega arith in
-            let y : Seat T = step_at p Para k (seat t c l) in
+            let y : Seat T = step_if_due p Para k (seat t c l) in
             ap (λ (x : Seat S). ticks h p j (k + 1) (para_part p k x t)) (still h Host k (seat s c l) ns)
             ∙ host_silent j (k + 1) s y.state y.chip y.list (omega arith) (omega arith) none
             ∙ sym (ap (λ (x : Seat S). ticks h p j (k + 1) (para_part p k x t)) (still h Host k (seat (h.next s None) c l) nx))
@@ -103,7 +103,7 @@ module _ {S T : Type 0} (h : Moves S) (p : Moves T) (lh : IsLawful h) (lp : IsLa
 
   -- at k, the parasite being due there, and x being what the host's part of the tick leaves
   para_here : (k : ℕ) (s : S) (t : T) (c : State) (l : List Event) → p.due t ≡ k
-      → with_host s (step_at p Para k (seat t c l)) ≡ with_host s (step_at p Para k (stepped p Para (seat t c l) (p.asks t)))
+      → with_host s (step_if_due p Para k (seat t c l)) ≡ with_host s (step_if_due p Para k (stepped p Para (seat t c l) (p.asks t)))
   para_here k s t c l e =
       let rise : p.due t < p.due (stepped p Para (seat t c l) (p.asks t)).state = later p lp Para (seat t c l) (p.asks t) in
       let nx : p.due (stepped p Para (seat t c l) (p.asks t)).state ≡ k → ⊥ = λ d. omega (arith, rise) in
@@ -136,12 +136,12 @@ module _ {S T : Type 0} (h : Moves S) (p : Moves T) (lh : IsLawful h) (lp : IsLa
       → ticks h p j k (world s t c l) ≡ ticks h p j k (world s (p.next t None) c l)
   para_silent zero k s t c l lo hi none = absurd (omega arith)
   para_silent (suc j) k s t c l lo hi none =
-      let x : Seat S = step_at h Host k (seat s c l) in
+      let x : Seat S = step_if_due h Host k (seat s c l) in
       elim (same_or_above (p.due t) k lo) [
         | inl e ↦
             ap (λ (w : World S T). ticks h p j (k + 1) w)
             (para_here k x.state t x.chip x.list e
-            ∙ ap (λ (o : Option Query). with_host x.state (step_at p Para k (stepped p Para (seat t x.chip x.list) o))) none)
+            ∙ ap (λ (o : Option Query). with_host x.state (step_if_due p Para k (stepped p Para (seat t x.chip x.list) o))) none)
         | inr up ↦
             let rise : p.due t < p.due (p.next t None) = lp.rises t None in
             let nt : p.due t ≡ k → ⊥ = λ e. omega arith in

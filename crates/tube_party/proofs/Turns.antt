@@ -17,13 +17,13 @@ abbrev pub entry : ℕ → Side → Op → ℕ → Entry
 entry t side op a = record { tick = record { 0 = t }; side = side; op = op; answer = a }
 
 pub turn_access : {S : Type 0} (r : Moves S) (side : Side) (n keep : ℕ) (s : S) (c : State) (list : List Entry) (count : ℕ) (s1 s2 : S) (c1 : State) (list1 : List Entry) (count1 : ℕ) (ask ask2 : Ask) (t : Tick) (op : Op) (a : ℕ)
-    → ask ≡ Access t op → IsPending r side n s ask
+    → ask ≡ Access t op → IsPending r n s ask
     → c1 ≡ chip_after c side op → a ≡ answer_of c side op
     → s1 ≡ r.next s (Some (Byte a)) → list1 ≡ noted keep list (record { tick = t; side = side; op = op; answer = a }) → count1 ≡ count + 1
     → Advances r n s1 ask2 s2
     → Turns r side n keep s c list count s2 c1 list1 count1 ask2
 turn_access {S = S} r side n keep s c list count s1 s2 c1 list1 count1 ask ask2 t op a is pending ec ea es el en ad =
-    let q : IsPending r side n s (Access t op) = subst (IsPending r side n s) is pending in
+    let q : IsPending r n s (Access t op) = subst (IsPending r n s) is pending in
     record {
       query = access op;
       asks = q.2;
@@ -34,14 +34,14 @@ turn_access {S = S} r side n keep s c list count s1 s2 c1 list1 count1 ask ask2 
     }
 
 pub turn_look : {S : Type 0} (r : Moves S) (side : Side) (n keep : ℕ) (s : S) (c : State) (list : List Entry) (count : ℕ) (s1 s2 : S) (c2 : State) (list2 : List Entry) (count2 : ℕ) (ask ask2 : Ask) (t : Tick) (l : Lines)
-    → ask ≡ Look t → IsPending r side n s ask
+    → ask ≡ Look t → IsPending r n s ask
     → l ≡ lines_of c
     → c2 ≡ c → list2 ≡ list → count2 ≡ count
     → s1 ≡ r.next s (Some (Seen l))
     → Advances r n s1 ask2 s2
     → Turns r side n keep s c list count s2 c2 list2 count2 ask2
 turn_look {S = S} r side n keep s c list count s1 s2 c2 list2 count2 ask ask2 t l is pending el ec eli eco es ad =
-    let q : IsPending r side n s (Look t) = subst (IsPending r side n s) is pending in
+    let q : IsPending r n s (Look t) = subst (IsPending r n s) is pending in
     record {
       query = look;
       asks = q.2;

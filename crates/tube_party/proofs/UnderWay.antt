@@ -15,8 +15,8 @@ pub record IsUnderWay {S T : Type 0} (h : Moves S) (p : Moves T) (n keep : ℕ) 
   pub host_last : S
   pub para_last : T
   pub events : List Event
-  pub host_asked : IsAsk h Host n host_last ask_h s
-  pub para_asked : IsAsk p Para n para_last ask_p t
+  pub host_asked : IsAsk h n host_last ask_h s
+  pub para_asked : IsAsk p n para_last ask_p t
   pub same : ticks h p n 0 (start s0 t0) ≡ ticks h p n 0 (world host_last para_last c events)
   pub host_kept : IsKept Host events keep hl hc
   pub para_kept : IsKept Para events keep pl pc

@@ -1,6 +1,8 @@
 pub mod Moves
+pub mod Shut
 pub mod Steps
 pub mod Replay
+pub mod Following
 pub mod Tape
 pub mod Reference
 pub mod Played

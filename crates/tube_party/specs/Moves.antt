@@ -1,5 +1,5 @@
 -- A party at the Tube: the steps of a machine as functions of its state, and what it means that they use up a list of events.
-use Rattle.std.specs.Prelude.{ℕ, zero, suc, ◌≡◌, ◌<◌, ◌≤◌, max, Option, None, Some, MatchOption, List, [], ◌∷◌}
+use Rattle.std.specs.Prelude.{ℕ, zero, suc, ◌≡◌, ◌<◌, ◌≤◌, max, Bool, IsTrue, Option, None, Some, MatchOption, List, [], ◌∷◌}
 use Rattle.beeb_bits.specs.declared.Side.{Side}
 use Rattle.beeb_bits.specs.declared.Side.TheVariants.{Host}
 use Rattle.tube_chip.specs.declared.Answer.{Answer}
@@ -30,10 +30,21 @@ pub record IsClosing {S : Type 0} (m : Moves S) (s : S) (t : ℕ) : Type 0 where
   pub next : (a : Option Answer) → m.next (m.close s t) a ≡ m.next s a
   pub again : (u : ℕ) → t ≤ u → u ≤ m.due s → m.close (m.close s t) u ≡ m.close s u
 
--- The laws of a party: ticks rise from step to step, and states may be closed up to their next step.
+-- The laws of a party: ticks rise from step to step, no state holds a device step past its next step, and it may be closed up to there.
 pub record IsLawful {S : Type 0} (m : Moves S) : Type 0 where
   pub rises : (s : S) (a : Option Answer) → m.due s < m.due (m.next s a)
+  pub within : (s : S) → m.closed s ≤ m.due s
   pub closing : (s : S) (t : ℕ) → m.closed s ≤ t → t ≤ m.due s → IsClosing m s t
+
+-- a side may ask this of the Tube
+abbrev pub MayAsk : Side → Option Query → Type 0
+MayAsk side None = Unit {0}
+MayAsk side (Some look) = Unit {0}
+MayAsk side (Some (access op)) = MayDo side op
+
+-- Whatever its state, a party asks only what each side that it may play may ask.
+abbrev pub IsPermitted : {S : Type 0} → Moves S → (Side → Bool) → Type 0
+IsPermitted {S} m plays = (s : S) (side : Side) → IsTrue (plays side) → MayAsk side (m.asks s)
 
 -- closed at n, or as far as it is closed already if that is further
 abbrev pub shut : {S : Type 0} → Moves S → S → ℕ → S
@@ -62,17 +73,17 @@ pub record Follows {S : Type 0} (m : Moves S) (side : Side) (s : S) (events : Li
   pub ends : ended ≡ shut m last n
 
 -- what is told of last, the first state whose step asks or is not below n
-abbrev pub IsAsk : {S : Type 0} → Moves S → Side → ℕ → S → Ask → S → Type 0
-IsAsk m side n last Nothing new = (n ≤ m.due last) × (new ≡ shut m last n)
-IsAsk m side n last (Access t op) new = (t.0 ≡ m.due last) × (t.0 < n) × (m.asks last ≡ Some (access op)) × MayDo side op × (new ≡ last)
-IsAsk m side n last (Look t) new = (t.0 ≡ m.due last) × (t.0 < n) × (m.asks last ≡ Some look) × (new ≡ last)
+abbrev pub IsAsk : {S : Type 0} → Moves S → ℕ → S → Ask → S → Type 0
+IsAsk m n last Nothing new = (n ≤ m.due last) × (new ≡ shut m last n)
+IsAsk m n last (Access t op) new = (t.0 ≡ m.due last) × (t.0 < n) × (m.asks last ≡ Some (access op)) × (new ≡ last)
+IsAsk m n last (Look t) new = (t.0 ≡ m.due last) × (t.0 < n) × (m.asks last ≡ Some look) × (new ≡ last)
 
--- The steps below n that ask nothing were done, and this is asked next. A party does not know its side, and asks what either may do.
+-- The steps below n that ask nothing were done, and this is asked next. A party does not know its side: the steps are no events of either.
 pub record Advances {S : Type 0} (m : Moves S) (n : ℕ) (old : S) (ask : Ask) (new : S) : Type 0 where
   pub steps : ℕ
   pub last : S
   pub runs : Runs m Host n steps old [] last
-  pub asked : (side : Side) → IsAsk m side n last ask new
+  pub asked : IsAsk m n last ask new
 
 -- a byte for an access, lines for a look
 abbrev pub FitsAnswer : Query → Answer → Type 0

@@ -1,25 +1,12 @@
 -- What a run of two parties on one thread keeps of the reference run.
-use Rattle.std.specs.Prelude.{ℕ, ◌≡◌, List, [], ◌∷◌, ◌++◌, length, take}
+use Rattle.std.specs.Prelude.{ℕ, ◌≡◌, List, length, take}
 use Rattle.beeb_bits.specs.declared.Side.{Side}
 use Rattle.beeb_bits.specs.declared.Side.TheVariants.{Host, Para}
-use Rattle.tube_chip.specs.declared.Answer.{Answer}
-use Rattle.tube_chip.specs.declared.Answer.TheVariants.{Byte, Seen}
 use Rattle.tube_chip.specs.State.{State}
-use Rattle.tube_chip.specs.Act.{Query, access, look}
 use Rattle.tube_chip.specs.Events.{Event, of_side}
 use Rattle.tube_trace.specs.declared.Entry.{Entry}
+use Rattle.tube_trace.specs.Entries.{accesses}
 use Rattle.tube_party.specs.Reference.{World}
-
--- the entry of an event, if it is an access
-abbrev pub entry_of : ℕ → Side → Query → Answer → List Entry
-entry_of tick side (access op) (Byte b) = record { tick = record { 0 = tick }; side = side; op = op; answer = b } ∷ []
-entry_of tick side (access op) (Seen l) = []
-entry_of tick side look a = []
-
--- the accesses of a list of events
-abbrev pub accesses : List Event → List Entry
-accesses [] = []
-accesses (e ∷ events) = entry_of e.tick e.side e.query e.answer ++ accesses events
 
 -- The list holds the first `keep` accesses of a side, and the count is the number of all of them.
 pub record IsKept (side : Side) (events : List Event) (keep : ℕ) (list : List Entry) (count : ℕ) : Type 0 where

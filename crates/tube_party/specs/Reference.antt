@@ -1,10 +1,12 @@
 -- The reference run of two parties: one clock, one chip, one list of events.
-use Rattle.std.specs.Prelude.{ℕ, zero, suc, ◌≡◌, ◌+◌, nat_eq, Option, None, Some, List, [], ◌∷◌, ◌++◌, if◌then◌else◌}
+use Rattle.std.specs.Prelude.{ℕ, zero, suc, ◌≡◌, ◌<◌, ◌+◌, nat_eq, All, Option, None, Some, List, [], ◌∷◌, ◌++◌, if◌then◌else◌}
 use Rattle.beeb_bits.specs.declared.Side.{Side}
 use Rattle.beeb_bits.specs.declared.Side.TheVariants.{Host, Para}
 use Rattle.tube_chip.specs.State.{State, power_on}
 use Rattle.tube_chip.specs.Act.{Query, act}
-use Rattle.tube_chip.specs.Events.{Event, merge, after, IsLegal}
+use Rattle.tube_chip.specs.Events.{Event, merge, after, of_side, IsLegal, Rises, IsAnsweredFrom}
+use Rattle.tube_trace.specs.declared.Entry.{Entry}
+use Rattle.tube_trace.specs.Entries.{IsEntry, accesses, events_of}
 use Rattle.tube_party.specs.Moves.{Moves, Follows, shut}
 
 -- One party at the chip, with the list of what was done there.
@@ -24,8 +26,8 @@ stepped m side x (Some q) =
     }
 
 -- the step of this side done, if it is due at tick k
-abbrev pub step_at : {S : Type 0} → Moves S → Side → ℕ → Seat S → Seat S
-step_at m side k x = if nat_eq (m.due x.state) k then stepped m side x (m.asks x.state) else x
+abbrev pub step_if_due : {S : Type 0} → Moves S → Side → ℕ → Seat S → Seat S
+step_if_due m side k x = if nat_eq (m.due x.state) k then stepped m side x (m.asks x.state) else x
 
 -- Both parties, the chip between them and the list of what was done there.
 pub record World (S T : Type 0) : Type 0 where
@@ -40,11 +42,11 @@ with_host s y = record { host = s; para = y.state; chip = y.chip; list = y.list 
 
 -- the parasite's part of tick k, after the host's
 abbrev pub para_part : {S T : Type 0} → Moves T → ℕ → Seat S → T → World S T
-para_part p k x t = with_host x.state (step_at p Para k (record { state = t; chip = x.chip; list = x.list }))
+para_part p k x t = with_host x.state (step_if_due p Para k (record { state = t; chip = x.chip; list = x.list }))
 
 -- Tick k: the host's step, if it is due, and then the parasite's.
 abbrev pub tick : {S T : Type 0} → Moves S → Moves T → ℕ → World S T → World S T
-tick h p k w = para_part p k (step_at h Host k (record { state = w.host; chip = w.chip; list = w.list })) w.para
+tick h p k w = para_part p k (step_if_due h Host k (record { state = w.host; chip = w.chip; list = w.list })) w.para
 
 -- so many ticks, from tick k on
 abbrev pub ticks : {S T : Type 0} → Moves S → Moves T → ℕ → ℕ → World S T → World S T
@@ -71,3 +73,25 @@ LegalMergeIsReference {S} {T} h p =
     Follows p Para t b n v →
     IsLegal (merge a b) →
     reference h p s t n ≡ record { host = u; para = v; chip = after (merge a b); list = merge a b }
+
+-- A world that the reference run of these ends as: each party follows its side of the list, the list is legal, and the chip is what it leaves.
+pub record IsFollowed {S T : Type 0} (h : Moves S) (p : Moves T) (s : S) (t : T) (n : ℕ) (w : World S T) : Type 0 where
+  pub host : Follows h Host s (of_side Host w.list) n w.host
+  pub para : Follows p Para t (of_side Para w.list) n w.para
+  pub legal : IsLegal w.list
+  pub chip : w.chip ≡ after w.list
+
+-- The reference run is two followers of a legal list.
+abbrev pub ReferenceIsFollowed : {S T : Type 0} → Moves S → Moves T → Type 0
+ReferenceIsFollowed {S} {T} h p = (s : S) (t : T) (n : ℕ) → IsFollowed h p s t n (reference h p s t n)
+
+-- Entries of operations that their sides may do, each before the next and all below n, with the answers of the chip.
+pub record IsTraceBelow (n : ℕ) (trace : List Entry) : Type 0 where
+  pub entries : All IsEntry trace
+  pub rises : Rises (events_of trace)
+  pub below : All (λ e. (e.tick).0 < n) trace
+  pub answered : IsAnsweredFrom power_on (events_of trace)
+
+-- The accesses of the reference run make a trace.
+abbrev pub ReferenceIsTrace : {S T : Type 0} → Moves S → Moves T → Type 0
+ReferenceIsTrace {S} {T} h p = (s : S) (t : T) (n : ℕ) → IsTraceBelow n (accesses (reference h p s t n).list)

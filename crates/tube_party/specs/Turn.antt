@@ -3,12 +3,12 @@ use Rattle.std.specs.Prelude.{ℕ, ◌≡◌, ◌+◌, ◌-◌, ◌<◌, nat_lt,
 use Rattle.beeb_bits.specs.declared.Side.{Side}
 use Rattle.beeb_bits.specs.declared.Side.TheVariants.{Host, Para}
 use Rattle.tube_chip.specs.State.{State}
-use Rattle.tube_chip.specs.Act.{Query, access, look, act, MayDo}
+use Rattle.tube_chip.specs.Act.{Query, access, look, act}
 use Rattle.tube_trace.specs.declared.Entry.{Entry}
+use Rattle.tube_trace.specs.Entries.{entry_of}
 use Rattle.tube_party.specs.declared.party.Ask.{Ask}
 use Rattle.tube_party.specs.declared.party.Ask.TheVariants.{Nothing, Access, Look}
 use Rattle.tube_party.specs.Moves.{Moves, Advances}
-use Rattle.tube_party.specs.Played.{entry_of}
 
 -- one more entry, while there are fewer than `keep`
 abbrev pub noted : ℕ → List Entry → Entry → List Entry
@@ -19,10 +19,10 @@ noted_all keep list [] = list
 noted_all keep list (x ∷ xs) = noted_all keep (noted keep list x) xs
 
 -- this is asked by the next step, which is below n
-abbrev pub IsPending : {S : Type 0} → Moves S → Side → ℕ → S → Ask → Type 0
-IsPending m side n s Nothing = ⊥
-IsPending m side n s (Access t op) = (t.0 ≡ m.due s) × (t.0 < n) × (m.asks s ≡ Some (access op)) × MayDo side op
-IsPending m side n s (Look t) = (t.0 ≡ m.due s) × (t.0 < n) × (m.asks s ≡ Some look)
+abbrev pub IsPending : {S : Type 0} → Moves S → ℕ → S → Ask → Type 0
+IsPending m n s Nothing = ⊥
+IsPending m n s (Access t op) = (t.0 ≡ m.due s) × (t.0 < n) × (m.asks s ≡ Some (access op))
+IsPending m n s (Look t) = (t.0 ≡ m.due s) × (t.0 < n) × (m.asks s ≡ Some look)
 
 -- The step that asks was done at the chip, and all after it that ask nothing.
 pub record Turns {S : Type 0} (m : Moves S) (side : Side) (n keep : ℕ) (s : S) (c : State) (list : List Entry) (count : ℕ) (s2 : S) (c2 : State) (list2 : List Entry) (count2 : ℕ) (ask2 : Ask) : Type 0 where
@@ -34,8 +34,8 @@ pub record Turns {S : Type 0} (m : Moves S) (side : Side) (n keep : ℕ) (s : S)
   pub advances : Advances m n (m.next s (Some (act c side query).1)) ask2 s2
 
 -- whose step comes first: the host's, unless the parasite's is at a smaller tick
-abbrev pub first_at : ℕ → ℕ → Side
-first_at t u = if nat_lt u t then Para else Host
+abbrev pub first_due : ℕ → ℕ → Side
+first_due t u = if nat_lt u t then Para else Host
 
 -- whose ask comes first, if there is one
 abbrev pub first_of : Ask → Ask → Option Side
@@ -44,10 +44,10 @@ first_of Nothing (Access u op) = Some Para
 first_of Nothing (Look u) = Some Para
 first_of (Access t op) Nothing = Some Host
 first_of (Look t) Nothing = Some Host
-first_of (Access t op) (Access u po) = Some (first_at t.0 u.0)
-first_of (Access t op) (Look u) = Some (first_at t.0 u.0)
-first_of (Look t) (Access u po) = Some (first_at t.0 u.0)
-first_of (Look t) (Look u) = Some (first_at t.0 u.0)
+first_of (Access t op) (Access u po) = Some (first_due t.0 u.0)
+first_of (Access t op) (Look u) = Some (first_due t.0 u.0)
+first_of (Look t) (Access u po) = Some (first_due t.0 u.0)
+first_of (Look t) (Look u) = Some (first_due t.0 u.0)
 
 -- how far an ask is from n
 abbrev pub left : ℕ → Ask → ℕ

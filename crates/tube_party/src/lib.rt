@@ -8,10 +8,14 @@ mod party;
 mod replaying;
 mod tape;
 
-pub use law::legal_merge_is_reference;
+pub use law::{
+    legal_merge_is_reference, party_goes_on, reference_is_followed, reference_is_replayed,
+    reference_is_trace, replay_is_following,
+};
 pub use one_thread::{Done, solo};
 pub use party::{Ask, MOST, Party};
 pub use replaying::{Doing, replay};
+pub use tube_chip::Answer;
 
 #[cfg(test)]
 mod tests;

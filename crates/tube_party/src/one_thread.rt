@@ -1,5 +1,6 @@
 //! Two parties on one thread.
-ghost use Rattle.std.specs.Prelude.{◌≡◌, ◌≤◌, ◌<◌, ◌^◌, [], IfOk, IfErr};
+ghost use Rattle.std.specs.Prelude.{◌≡◌, ◌≤◌, ◌<◌, ◌^◌, [], IfOk, IfErr, IsTrue};
+ghost use Rattle.beeb_bits.specs.declared.Side.TheVariants.{Host, Para};
 ghost use Rattle.tube_party.specs.Played.{IsPlayed};
 ghost use Rattle.tube_party.specs.Turn.{IsPending, Turns, first_of};
 ghost use Rattle.tube_party.specs.Reference.{reference};
@@ -55,7 +56,8 @@ fn turn<M: Party>(
     ask: Ask,
 ) -> Ask
     requires ticks { n.0 ≤ MOST }
-    requires pending { IsPending M.moves side n.0 (M.state machine.old) ask }
+    requires plays { IsTrue (M.plays side) }
+    requires pending { IsPending M.moves n.0 (M.state machine.old) ask }
     requires count { log.old.count < 2 ^ 63 }
     ensures turns { Turns M.moves side n.0 log.old.keep (M.state machine.old) chip.old log.old.list.items log.old.count (M.state machine.new) chip.new log.new.list.items log.new.count result }
     ensures keep { log.new.keep ≡ log.old.keep }
@@ -89,6 +91,8 @@ fn both<H: Party, P: Party>(
     mut para_log: Log,
 ) -> Done<H, P>
     requires ticks { n.0 ≤ MOST }
+    requires host_plays { IsTrue (H.plays Host) }
+    requires para_plays { IsTrue (P.plays Para) }
     requires host_none { (host_log.list.items ≡ []) × (host_log.count ≡ 0) }
     requires para_none { (para_log.list.items ≡ []) × (para_log.count ≡ 0) }
     requires one_keep { para_log.keep ≡ host_log.keep }
@@ -131,6 +135,8 @@ pub fn solo<H: Party, P: Party>(
     keep: u32,
 ) -> Result<Done<H, P>, (H, P)>
     requires ticks { n.0 ≤ MOST }
+    requires host_plays { IsTrue (H.plays Host) }
+    requires para_plays { IsTrue (P.plays Para) }
     requires host_open { H.moves.closed (H.state host) ≤ n.0 }
     requires para_open { P.moves.closed (P.state para) ≤ n.0 }
     ensures played { IfOk result (λ d. IsPlayed (reference H.moves P.moves (H.state host) (P.state para) n.0) keep (H.state d.host) (P.state d.para) d.chip d.host_list.items d.para_list.items d.host_count d.para_count) }

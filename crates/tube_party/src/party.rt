@@ -1,6 +1,7 @@
 //! What a machine at the Tube is.
-ghost use Rattle.std.specs.Prelude.{◌≡◌, ◌≤◌, Some};
-ghost use Rattle.tube_party.specs.Moves.{Moves, IsLawful, Advances, IsAskedFor};
+ghost use Rattle.std.specs.Prelude.{◌≡◌, ◌≤◌, Bool, Some};
+ghost use Rattle.beeb_bits.specs.declared.Side.{Side};
+ghost use Rattle.tube_party.specs.Moves.{Moves, IsLawful, IsPermitted, Advances, IsAskedFor};
 
 use beeb_bits::Tick;
 use tube_chip::{Answer, Op};
@@ -30,6 +31,9 @@ pub trait Party: Drop {
     /// The party's steps.
     ghost moves: { Moves State };
 
+    /// Which sides it may play: some operations are of one side alone.
+    ghost plays: { Side → Bool };
+
     /// The tick of the next step.
     fn due(&self) -> Tick
         ensures { result.0 ≡ moves.due (state self.now) };
@@ -46,4 +50,6 @@ pub trait Party: Drop {
         ensures { state self.new ≡ moves.next (state self.old) (Some answer) };
 
     ghost lawful: { IsLawful moves };
+
+    ghost permitted: { IsPermitted moves plays };
 }

@@ -1,5 +1,5 @@
 //! A party against its side of a trace.
-ghost use Rattle.std.specs.Prelude.{◌≡◌, ◌≤◌, ℕ, length, All};
+ghost use Rattle.std.specs.Prelude.{◌≡◌, ◌≤◌, ℕ, length, All, IsTrue};
 ghost use Rattle.beeb_bits.specs.declared.Side.{Side};
 ghost use Rattle.tube_trace.specs.Entries.{IsEntry};
 ghost use Rattle.tube_party.specs.Replay.{next_line, replayed};
@@ -46,6 +46,7 @@ pub fn replay<M: Party>(
     n: Tick,
 ) -> (M, Option<(u64, Option<Doing>)>)
     requires ticks { n.0 ≤ MOST }
+    requires plays { IsTrue (M.plays side) }
     requires entries { All IsEntry trace.now }
     ensures machine { M.state result.0 ≡ (replayed M.moves side trace.now n.0 (M.state machine)).machine }
     ensures place { result.1 ≡ (replayed M.moves side trace.now n.0 (M.state machine)).place }

@@ -2,24 +2,30 @@
 
 ghost use Rattle.std.specs.Prelude.{◌≡◌};
 
-use crate::{Ask, Doing, MOST, Party, legal_merge_is_reference, replay, solo};
+use crate::{
+    Answer, Ask, Doing, MOST, Party, legal_merge_is_reference, party_goes_on,
+    reference_is_followed, reference_is_replayed, reference_is_trace, replay, replay_is_following,
+    solo,
+};
 use beeb_bits::{Side, Tick};
 use std::test::Fail;
-use tube_chip::{Answer, Op};
+use tube_chip::Op;
 use tube_trace::read;
 
 /// Looks at tick 5 and every 10 ticks, and reads register 0 five ticks after each look.
 #[derive(Drop)]
 pub struct Probe {
-    at: u64,
+    due: u64,
     looks: bool,
-    closed: u64,
+    // How far it is closed, in ticks before the next step.
+    lag: u64,
     last: Option<Answer>,
 }
 
 impl Party for Probe {
-    ghost use Rattle.std.specs.Prelude.{◌+◌, not, Some, refl, if◌then◌else◌};
+    ghost use Rattle.std.specs.Prelude.{◌+◌, ◌-◌, not, true, false, Some, refl, if◌then◌else◌};
     ghost use Rattle.std.proofs.Common.{arith};
+    ghost use Rattle.tube_party.specs.Moves.{MayAsk};
     ghost use Rattle.tube_party.specs.declared.tests.Probe.{Probe};
     ghost use Rattle.tube_chip.specs.declared.Op.TheVariants as op;
     ghost use Rattle.tube_chip.specs.Act.{access, look};
@@ -29,48 +35,53 @@ impl Party for Probe {
     ghost state = { λ m. m };
 
     ghost moves = { record {
-      due = λ s. s.at;
+      due = λ s. s.due;
       asks = λ s. if s.looks then Some look else Some (access (op.Read 0));
-      next = λ s a. record { at = s.at + 5; looks = not s.looks; closed = s.at + 1; last = a };
-      closed = λ s. s.closed;
-      close = λ s t. record s { closed = t };
+      next = λ s a. record { due = s.due + 5; looks = not s.looks; lag = 4; last = a };
+      closed = λ s. s.due - s.lag;
+      close = λ s t. record s { lag = s.due - t };
     } };
+
+    ghost plays = { λ side. true };
 
     ghost lawful = { record {
       rises = λ s a. omega arith;
-      closing = λ s t low high. record { closed = refl; due = refl; asks = refl; next = λ a. refl; again = λ u low2 high2. refl };
+      within = λ s. omega arith;
+      closing = λ s t low high. record { closed = omega arith; due = refl; asks = refl; next = λ a. refl; again = λ u low2 high2. refl };
     } };
 
+    ghost permitted = { λ s side plays. elim s.looks as (λ looks. MayAsk side (if looks then Some look else Some (access (op.Read 0)))) [ true ↦ tt | false ↦ omega arith ] };
+
     fn due(&self) -> Tick {
-        Tick(self.at)
+        Tick(self.due)
     }
 
     fn advance(&mut self, until: Tick) -> Ask {
-        if self.at < until.0 {
+        if self.due < until.0 {
             if self.looks {
-                return Ask::Look(Tick(self.at));
+                return Ask::Look(Tick(self.due));
             }
-            return Ask::Access(Tick(self.at), Op::Read(0));
+            return Ask::Access(Tick(self.due), Op::Read(0));
         }
-        self.closed = self.closed.max(until.0);
+        self.lag = self.lag.min(self.due - until.0);
         Ask::Nothing
     }
 
     fn answer(&mut self, answer: Answer) {
         self.last = Some(answer);
         self.looks = !self.looks;
-        self.closed = self.at + 1;
-        self.at += 5;
+        self.lag = 4;
+        self.due += 5;
     }
 }
 
 fn at_power_on() -> Probe
-    ensures { result.closed ≡ 0 }
+    ensures { (result.due ≡ 5) × (result.lag ≡ 5) }
 {
     Probe {
-        at: 5,
+        due: 5,
         looks: true,
-        closed: 0,
+        lag: 5,
         last: None,
     }
 }
@@ -84,7 +95,7 @@ fn the_first_place_that_differs_is_told(rt: HostRuntime) -> Result<(), Fail> {
             op: Op::Read(0),
         })
     };
-    // The entries, the ticks of the replay, the place and the tick at which the party stands.
+    // The entries, the ticks of the replay, the place and the tick of the step at which the party stands.
     let rows: [(&str, u64, Option<(u64, Option<Doing>)>, u64); 12] = [
         // Each read fits.
         ("000000000A P R 0 01\n0000000014 P R 0 02\n", 30, None, 30),
@@ -124,54 +135,93 @@ fn the_first_place_that_differs_is_told(rt: HostRuntime) -> Result<(), Fail> {
             15,
         ),
     ];
-    for (text, ticks, place, at) in rows {
+    for (text, ticks, place, due) in rows {
         let entries = read(rt.alloc(), text.as_bytes())?;
         let (party, found) = replay(at_power_on(), Side::Para, &entries, Tick(ticks));
         assert_eq!(rt; found, place);
-        assert_eq!(rt; party.at, at);
+        assert_eq!(rt; party.due, due);
     }
     Ok(())
 }
 
 #[test]
 fn a_look_sees_the_entries_before_it(rt: HostRuntime) -> Result<(), Fail> {
-    // P is set and cleared again: one reset. What the host does at the tick of the look comes before it, and what it does later
-    // doesn't.
-    let rows: [(&str, u32); 5] = [
-        ("", 0),
-        ("0000000004 H W 0 A0\n0000000005 H W 0 20\n", 1),
-        ("0000000005 H W 0 A0\n", 1),
-        ("0000000006 H W 0 A0\n", 0),
+    // The side of the party, the trace, the place of its side's first entry, which the party has not made, the resets and the host's
+    // IRQ line that the look at tick 5 sees.
+    let rows: [(Side, &str, Option<u64>, u32, bool); 10] = [
+        (Side::Para, "", None, 0, false),
+        // P is set and cleared again: one reset. What the host does at the tick of the look comes before it, and what it does later
+        // doesn't.
         (
-            "0000000001 H W 0 A0\n0000000002 H W 0 20\n0000000003 H W 0 A0\n0000000004 H W 0 20\n",
-            2,
+            Side::Para,
+            "0000000004 H W 0 A0\n0000000005 H W 0 20\n",
+            None,
+            1,
+            false,
         ),
+        (Side::Para, "0000000005 H W 0 A0\n", None, 1, false),
+        (Side::Para, "0000000006 H W 0 A0\n", None, 0, false),
+        (
+            Side::Para,
+            "0000000001 H W 0 A0\n0000000002 H W 0 20\n0000000003 H W 0 A0\n0000000004 H W 0 20\n",
+            None,
+            2,
+            false,
+        ),
+        // Entries of its own side that it has not made are seen too: those before the look, and no others.
+        (
+            Side::Para,
+            "0000000001 H W 0 81\n0000000004 P W 7 41\n",
+            Some(2),
+            0,
+            true,
+        ),
+        (
+            Side::Para,
+            "0000000001 H W 0 81\n0000000005 P W 7 41\n",
+            Some(2),
+            0,
+            false,
+        ),
+        (
+            Side::Para,
+            "0000000001 H W 0 81\n0000000004 P W 7 41\n0000000005 H W 0 A0\n",
+            Some(2),
+            1,
+            true,
+        ),
+        (Side::Host, "0000000004 H W 0 A0\n", Some(1), 1, false),
+        (Side::Host, "0000000005 H W 0 A0\n", Some(1), 0, false),
     ];
-    for (text, resets) in rows {
+    for (side, text, line, resets, hirq) in rows {
         let entries = read(rt.alloc(), text.as_bytes())?;
-        let (party, place) = replay(at_power_on(), Side::Para, &entries, Tick(10));
-        assert_eq!(rt; place, None);
+        let (party, place) = replay(at_power_on(), side, &entries, Tick(10));
+        assert_eq!(rt; place, line.map(|line| (line, None)));
         assert!(rt;
             match party.last {
-                Some(Answer::Seen(lines)) => lines.resets == resets,
+                Some(Answer::Seen(lines)) => lines.resets == resets && lines.hirq == hirq,
                 _ => false,
             }
         );
     }
+    replay_is_following::<Probe>();
     Ok(())
 }
 
-/// Writes to register 1 at tick `at` and every ten ticks, one byte after another.
+/// Writes to register 1 at tick `due` and every ten ticks, one byte after another, as the host.
 #[derive(Drop)]
 pub struct Writer {
-    at: u64,
+    due: u64,
     byte: u8,
-    closed: u64,
+    // How far it is closed, in ticks before the next step.
+    lag: u64,
 }
 
 impl Party for Writer {
-    ghost use Rattle.std.specs.Prelude.{◌+◌, ◌%◌, Some, refl};
+    ghost use Rattle.std.specs.Prelude.{◌+◌, ◌-◌, ◌%◌, Some, refl};
     ghost use Rattle.std.proofs.Common.{arith};
+    ghost use Rattle.beeb_bits.specs.declared.Side.TheVariants.{Host};
+    ghost use Rattle.tube_chip.specs.Events.{is_side};
     ghost use Rattle.tube_party.specs.declared.tests.Writer.{Writer};
     ghost use Rattle.tube_chip.specs.declared.Op.TheVariants as op;
     ghost use Rattle.tube_chip.specs.Act.{access};
@@ -181,34 +231,39 @@ impl Party for Writer {
     ghost state = { λ m. m };
 
     ghost moves = { record {
-      due = λ s. s.at;
+      due = λ s. s.due;
       asks = λ s. Some (access (op.Write 1 s.byte));
-      next = λ s a. record { at = s.at + 10; byte = (s.byte + 1) % 256; closed = s.at + 1 };
-      closed = λ s. s.closed;
-      close = λ s t. record s { closed = t };
+      next = λ s a. record { due = s.due + 10; byte = (s.byte + 1) % 256; lag = 9 };
+      closed = λ s. s.due - s.lag;
+      close = λ s t. record s { lag = s.due - t };
     } };
+
+    ghost plays = { is_side Host };
 
     ghost lawful = { record {
       rises = λ s a. omega arith;
-      closing = λ s t low high. record { closed = refl; due = refl; asks = refl; next = λ a. refl; again = λ u low2 high2. refl };
+      within = λ s. omega arith;
+      closing = λ s t low high. record { closed = omega arith; due = refl; asks = refl; next = λ a. refl; again = λ u low2 high2. refl };
     } };
 
+    ghost permitted = { λ s side plays. omega arith };
+
     fn due(&self) -> Tick {
-        Tick(self.at)
+        Tick(self.due)
     }
 
     fn advance(&mut self, until: Tick) -> Ask {
-        if self.at < until.0 {
-            return Ask::Access(Tick(self.at), Op::Write(1, self.byte));
+        if self.due < until.0 {
+            return Ask::Access(Tick(self.due), Op::Write(1, self.byte));
         }
-        self.closed = self.closed.max(until.0);
+        self.lag = self.lag.min(self.due - until.0);
         Ask::Nothing
     }
 
     fn answer(&mut self, _answer: Answer) {
         self.byte = self.byte.wrapping_add(1);
-        self.closed = self.at + 1;
-        self.at += 10;
+        self.lag = 9;
+        self.due += 10;
     }
 }
 
@@ -252,9 +307,9 @@ fn two_parties_share_one_chip(rt: HostRuntime) -> Result<(), Fail> {
     ];
     for (first, ticks, keep, host_text, para_text, host_count, para_count) in rows {
         let writer = Writer {
-            at: first as u64,
+            due: first as u64,
             byte: 1,
-            closed: 0,
+            lag: first as u64,
         };
         let Ok(done) = solo(rt.alloc(), writer, at_power_on(), Tick(ticks as u64), keep) else {
             return Err(Fail::from("no memory"));
@@ -263,12 +318,25 @@ fn two_parties_share_one_chip(rt: HostRuntime) -> Result<(), Fail> {
         assert_eq!(rt; done.para_list, read(rt.alloc(), para_text.as_bytes())?);
         assert_eq!(rt; done.host_count, host_count as u64);
         assert_eq!(rt; done.para_count, para_count as u64);
-        assert_eq!(rt; done.host.closed, ticks as u64);
-        assert_eq!(rt; done.para.closed, ticks as u64);
+        assert_eq!(rt; done.host.due - done.host.lag, ticks as u64);
+        assert_eq!(rt; done.para.due - done.para.lag, ticks as u64);
         // The last byte written is at the chip.
         let mut chip = done.chip;
         assert_eq!(rt; chip.apply(Side::Para, Op::Read(1)), host_count);
+        // Both may be run on, since neither is closed past its next step.
+        let due = done.host.due.max(done.para.due);
+        if due >= MOST {
+            return Err(Fail::from("too late"));
+        }
+        let Ok(more) = solo(rt.alloc(), done.host, done.para, Tick(due + 1), 0) else {
+            return Err(Fail::from("no memory"));
+        };
+        assert_eq!(rt; (more.host_count, more.para_count), (1, 1));
     }
+    party_goes_on::<Writer>();
     legal_merge_is_reference::<Writer, Probe>();
+    reference_is_followed::<Writer, Probe>();
+    reference_is_replayed::<Writer, Probe>();
+    reference_is_trace::<Writer, Probe>();
     Ok(())
 }

@@ -1,7 +1,8 @@
 -- What a line in form has at its places, and how a text falls into lines.
-use Rattle.std.proofs.Common.{◌≡◌, ◌≢◌, sym, refl, subst, ℕ, zero, suc, ◌-◌, ◌<◌, ◌≤◌, List, [], ◌∷◌, length, take, drop, Bool, true, false, ◌&&◌, ◌==◌, IsTrue, cond, Option, Some, None, arith, below_more, lit≤}
+use Rattle.std.proofs.Common.{◌≡◌, ◌≢◌, sym, refl, subst, ℕ, zero, suc, ◌-◌, ◌<◌, ◌≤◌, List, [], ◌∷◌, length, get_or, take, drop, Bool, true, false, ◌&&◌, ◌==◌, IsTrue, cond, Option, Some, None, arith, below_more, lit≤}
 use Rattle.std.specs.Prelude.{slice_index, slice_range, IfSome}
 use Rattle.std.specs.List.{list_all}
+use Rattle.std.proofs.lemmas.List.Folds.{list_all_at}
 use Rattle.std.proofs.lemmas.Bool.Decides.{nat_tests}
 use Rattle.std.proofs.lemmas.Grind.{common_steps}
 use Rattle.beeb_bits.specs.declared.Side.{Side}
@@ -9,19 +10,27 @@ use Rattle.tube_chip.specs.declared.Op.{Op}
 use Rattle.tube_chip.specs.declared.Op.TheVariants.{Read, Write}
 use Rattle.tube_chip.specs.Act.{MayDo}
 use Rattle.tube_trace.specs.declared.Entry.{Entry}
-use Rattle.tube_trace.specs.Digits.{is_hex, value_of}
+use Rattle.digits.specs.Hexadecimal.{is_hex, hex_number}
 use Rattle.tube_trace.specs.Line.{is_space, is_octal, side_of, op_of, answer_in, entry_from, is_formed, entry_in, entry_of}
 use Rattle.tube_trace.specs.Trace.{lines_of}
 use Rattle.tube_trace.specs.Entries.{IsEntry}
-use Rattle.tube_trace.proofs.DigitLemmas.{digit-at}
 
-and_left : (a b : Bool) → IsTrue (a && b) → IsTrue a
+pub and_left : (a b : Bool) → IsTrue (a && b) → IsTrue a
 and_left true b h = refl
 and_left false b h = h
 
-and_right : (a b : Bool) → IsTrue (a && b) → IsTrue b
+pub and_right : (a b : Bool) → IsTrue (a && b) → IsTrue b
 and_right true b h = h
 and_right false b h = cc
+
+by_other : (b : Bool) → (b ≡ false → IsTrue b) → IsTrue b
+by_other true f = refl
+by_other false f = f refl
+
+-- one of the digits is a digit
+digit-at : (digits : List ℕ) (i : ℕ) → i < length digits → IsTrue (list_all is_hex digits) → IsTrue (is_hex (get_or digits i 0))
+digit-at digits i h all =
+    by_other (is_hex (get_or digits i 0)) (λ e. let none : list_all is_hex digits ≡ false = list_all_at is_hex digits i 0 h e in cc)
 
 -- the tests of the form, one by one
 pub record IsFormed (line : List ℕ) : Type 0 where
@@ -93,7 +102,7 @@ spaces : (line : List ℕ) → IsFormed line → (slice_index line 10 ≢ 10) ×
 spaces line parts = spaces_each (slice_index line 10) (slice_index line 12) (slice_index line 14) (slice_index line 16) parts.spaces
 
 letters : (line : List ℕ) (e : Entry) → HasEntry line e → (slice_index line 11 ≢ 10) × (slice_index line 13 ≢ 10)
-letters line e has = letters_other _ (value_of (slice_range line 17 19)) (slice_index line 11) (slice_index line 13) (slice_index line 15 - 48) e has.entry
+letters line e has = letters_other _ (hex_number (slice_range line 17 19)) (slice_index line 11) (slice_index line 13) (slice_index line 15 - 48) e has.entry
 
 -- the only line feed of a line that has an entry is its last byte
 pub other_before : (line : List ℕ) (e : Entry) → HasEntry line e → (k : ℕ) → k < 19 → slice_index line k ≢ 10
@@ -157,7 +166,7 @@ entry_may tick byte (Some side) (Some op) e may is =
 pub entry_below : (line : List ℕ) (e : Entry) → HasEntry line e → IsEntry e
 entry_below line e has =
     let below : slice_index line 15 - 48 < 8 = octal_below (slice_index line 15) (formed_parts line has.formed).number in
-    entry_may _ _ _ _ e (λ s o is. op_may s (slice_index line 13) (slice_index line 15 - 48) (value_of (slice_range line 17 19)) o below is) has.entry
+    entry_may _ _ _ _ e (λ s o is. op_may s (slice_index line 13) (slice_index line 15 - 48) (hex_number (slice_range line 17 19)) o below is) has.entry
 
 pub entry_in_below : (line : List ℕ) → length line ≡ 20 → IsTrue (is_formed line) → (o : Option Entry) → o ≡ entry_in line → IfSome o IsEntry
 entry_in_below line long formed None is = tt

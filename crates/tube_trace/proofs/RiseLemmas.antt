@@ -1,5 +1,5 @@
 -- The entries of a trace rise.
-use Rattle.std.proofs.Common.{◌≡◌, refl, subst, ℕ, ◌+◌, List, [], ◌∷◌, map, Bool, true, false, cond, Option, Some, None, Result, Ok, Err}
+use Rattle.std.proofs.Common.{◌≡◌, ◌∙◌, ap, refl, subst, ℕ, ◌+◌, List, [], ◌∷◌, map, Bool, true, false, cond, Option, Some, None, Result, Ok, Err}
 use Rattle.tube_chip.specs.Events.{Event, Rises, RisesAfter}
 use Rattle.tube_trace.specs.declared.Entry.{Entry}
 use Rattle.tube_trace.specs.declared.TraceError.{TraceError}
@@ -49,3 +49,37 @@ reading-rises line last (Some e ∷ lines) entries h =
 pub trace-rises : (text : List ℕ) (entries : List Entry) → reading 1 None (map entry_of (lines_of text)) ≡ Ok entries → Rises (events_of entries)
 unfolding RisesBehind
 trace-rises text entries h = reading-rises 1 None (map entry_of (lines_of text)) entries h
+
+-- ---- and rising entries are read
+
+follows_behind : (last : Option Entry) (e : Entry) (events : List Event) → RisesBehind last (event_of e ∷ events) → (follows last e ≡ true) × RisesAfter (event_of e) events
+unfolding RisesBehind
+follows_behind None e events rises = (refl, rises)
+follows_behind (Some d) e events rises = (rises.0, rises.1)
+
+reading-some : (line : ℕ) (last : Option Entry) (entries : List Entry) → RisesBehind last (events_of entries) → reading line last (map Some entries) ≡ Ok entries
+unfolding RisesBehind
+reading-some line last [] rises = refl
+reading-some line last (e ∷ entries) rises =
+    let here = follows_behind last e (events_of entries) rises in
+    rw (here.0, reading-some (line + 1) (Some e) entries here.1) refl
+
+pub rising_read : (entries : List Entry) → Rises (events_of entries) → reading 1 None (map Some entries) ≡ Ok entries
+unfolding RisesBehind
+rising_read entries rises = reading-some 1 None entries rises
+
+-- entries were read of lines that have them
+each_taken : (last : Option Entry) (e : Entry) (lines : List (Option Entry)) (line : ℕ) (b : Bool) (r : Result (List Entry) TraceError) (entries : List Entry) →
+    ((more : List Entry) → r ≡ Ok more → lines ≡ map Some more) →
+    cond b (in_front (e ∷ []) r) (Err (BadOrder line)) ≡ Ok entries → (Some e ∷ lines) ≡ map Some entries
+each_taken last e lines line true (Ok more) entries rest h =
+    let same : e ∷ more ≡ entries = same_entries (e ∷ more) entries h in
+    ap (λ (ls : List (Option Entry)). Some e ∷ ls) (rest more refl) ∙ ap (map Some) same
+each_taken last e lines line true (Err error) entries rest h = cc
+each_taken last e lines line false r entries rest h = cc
+
+pub each_read : (line : ℕ) (last : Option Entry) (lines : List (Option Entry)) (entries : List Entry) → reading line last lines ≡ Ok entries → lines ≡ map Some entries
+each_read line last [] entries h = ap (map Some) (same_entries [] entries h)
+each_read line last (None ∷ lines) entries h = cc
+each_read line last (Some e ∷ lines) entries h =
+    each_taken last e lines line (follows last e) (reading (line + 1) (Some e) lines) entries (λ more is. each_read (line + 1) (Some e) lines more is) h

@@ -1,5 +1,7 @@
-pub mod Digits
 pub mod Line
 pub mod Trace
 pub mod Entries
 pub mod Wrong
+pub mod Text
+pub mod Laws
+pub mod Merge

@@ -7,7 +7,7 @@ use Rattle.beeb_bits.specs.declared.Side.TheVariants.{Host, Para}
 use Rattle.tube_chip.specs.declared.Op.{Op}
 use Rattle.tube_chip.specs.declared.Op.TheVariants.{Read, Write}
 use Rattle.tube_trace.specs.declared.Entry.{Entry}
-use Rattle.tube_trace.specs.Digits.{is_hex, value_of}
+use Rattle.digits.specs.Hexadecimal.{is_hex, hex_number}
 
 -- a space
 abbrev pub is_space : ℕ → Bool
@@ -47,8 +47,8 @@ is_formed line =
 
 abbrev pub entry_in : List ℕ → Option Entry
 entry_in line =
-    entry_from (value_of (slice_range line 0 10)) (value_of (slice_range line 17 19)) (side_of (slice_index line 11))
-    (op_of (slice_index line 13) (slice_index line 15 - 48) (value_of (slice_range line 17 19)))
+    entry_from (hex_number (slice_range line 0 10)) (hex_number (slice_range line 17 19)) (side_of (slice_index line 11))
+    (op_of (slice_index line 13) (slice_index line 15 - 48) (hex_number (slice_range line 17 19)))
 
 -- The entry of a line with its line feed, or none where the bytes are outside the form.
 unfoldable pub entry_of : List ℕ → Option Entry

@@ -1,15 +1,21 @@
 //! The text of a list of Tube accesses, and whether the chip would give its answers.
 #![tactic(auto)]
 
-mod digits;
+mod law;
 mod line;
+mod merging;
 mod trace;
+mod writing;
 mod wrong;
 
 use beeb_bits::{Side, Tick};
+pub use law::text_reads_back;
+pub use line::push_access;
+pub use merging::merge;
 use thiserror::Error;
 pub use trace::read;
 use tube_chip::Op;
+pub use writing::write;
 pub use wrong::first_wrong;
 
 /// One access of a side to the Tube.

@@ -1,5 +1,5 @@
 //! Texts of traces, in form and out of it.
-use crate::{Entry, TraceError, first_wrong, read};
+use crate::{Entry, TraceError, first_wrong, merge, push_access, read, write};
 use beeb_bits::{Side, Tick};
 use std::test::Fail;
 use tube_chip::Op;
@@ -39,7 +39,44 @@ fn a_line_tells_of_one_access(rt: HostRuntime) -> Result<(), Fail> {
         let entries = read(rt.alloc(), text)?;
         assert_eq!(rt; entries.len(), 1);
         assert_eq!(rt; entries[0], entry);
+        let again = write(rt.alloc(), &entries)?;
+        assert_eq!(rt; again.as_slice(), text.as_slice());
     }
+    Ok(())
+}
+
+// Two equal ticks, and a side that ends before the other.
+#[test]
+fn two_sides_are_merged_by_tick_and_the_host_first(rt: HostRuntime) -> Result<(), Fail> {
+    let entry = |tick, side, number| Entry {
+        tick: Tick(tick),
+        side,
+        op: Op::Read(number),
+        answer: 0x3f,
+    };
+    let host = [
+        entry(6, Side::Host, 0),
+        entry(9, Side::Host, 1),
+        entry(12, Side::Host, 2),
+    ];
+    let para = [entry(3, Side::Para, 3), entry(9, Side::Para, 4)];
+    let all = [para[0], host[0], host[1], para[1], host[2]];
+    for (keep, length) in [(0, 0), (1, 1), (3, 3), (9, 5)] {
+        let entries = merge(rt.alloc(), &host, &para, keep)?;
+        assert_eq!(rt; entries.as_slice(), &all[..length]);
+    }
+    Ok(())
+}
+
+#[test]
+fn an_access_that_asks_has_no_byte_to_read(rt: HostRuntime) -> Result<(), Fail> {
+    let mut text = Vec::new(rt.alloc());
+    push_access(&mut text, Tick(0x3a6), Side::Para, Op::Write(1, 0x49))?;
+    push_access(&mut text, Tick(0), Side::Host, Op::Read(7))?;
+    assert_eq!(rt;
+        text.as_slice(),
+        b"00000003A6 P W 1 490000000000 H R 7 --".as_slice()
+    );
     Ok(())
 }
 

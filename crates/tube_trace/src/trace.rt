@@ -4,7 +4,9 @@ ghost use Rattle.tube_chip.specs.Events.{Rises};
 ghost use Rattle.tube_trace.specs.declared.TraceError.TheVariants.{NoMemory};
 ghost use Rattle.tube_trace.specs.Trace.{follows, trace};
 ghost use Rattle.tube_trace.specs.Entries.{IsEntry, events_of};
+ghost use Rattle.tube_trace.specs.Text.{HasLine};
 
+use crate::law::text_reads_back;
 use crate::line::{LENGTH, entry_of};
 use crate::{Entry, TraceError};
 use beeb_bits::before;
@@ -29,8 +31,11 @@ fn follows(last: Option<Entry>, entry: Entry) -> bool
 pub fn read(alloc: Global, bytes: &[u8]) -> Result<Vec<Entry>, TraceError>
     ensures value { MatchResult result (λ v. trace bytes.now ≡ Ok v.items) (λ e. (e ≡ NoMemory) ⊎ (trace bytes.now ≡ Err e)) }
     ensures entries { IfOk result (λ v. All IsEntry v.items) }
+    // What is read can be written again.
+    ensures lines { IfOk result (λ v. All HasLine v.items) }
     ensures rises { IfOk result (λ v. Rises (events_of v.items)) }
 {
+    text_reads_back();
     let Ok(mut entries) = Vec::with_capacity(alloc, bytes.len() / LENGTH) else {
         return Err(TraceError::NoMemory);
     };

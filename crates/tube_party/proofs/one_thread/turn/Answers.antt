@@ -1,4 +1,8 @@
-use Rattle.std.proofs.Common.{◌∙◌, ap}
+use Rattle.std.proofs.Common.{◌∙◌, ap, subst, Option}
+use Rattle.tube_chip.specs.Act.{Query}
+use Rattle.tube_party.specs.declared.party.Ask.TheVariants.{Access}
+use Rattle.tube_party.specs.Moves.{MayAsk}
+use Rattle.tube_party.specs.Turn.{IsPending}
 use Rattle.tube_party.proofs.one_thread.turn.Goals as goal
 use Rattle.tube_party.proofs.one_thread.turn.Goals.{in-Access, in-Look}
 use Rattle.tube_party.proofs.Turns.{turn_access, turn_look}
@@ -19,3 +23,9 @@ returns-clause-turns g c = elim c.match-ask.branch [
       (ap g.M.Party.state w.machine-is ∙ w.answer-in-Look.ensures)
       c.advance.ensures
 ]
+
+pub apply-answer-requires : goal.apply-answer-requires
+apply-answer-requires g c =
+    let pending : IsPending g.M.Party.moves c.args.n.0 (g.M.Party.state c.args.machine.now) (Access c.in-Access.tick c.in-Access.op) =
+    subst (IsPending g.M.Party.moves c.args.n.0 (g.M.Party.state c.args.machine.now)) c.in-Access.is c.requires.pending in
+    subst (λ (o : Option Query). MayAsk c.args.side o) pending.2 (g.met.M.Party.permitted (g.M.Party.state c.args.machine.now) c.args.side c.requires.plays)

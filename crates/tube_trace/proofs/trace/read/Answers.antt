@@ -42,3 +42,9 @@ pub returns-clause-rises : goal.returns-clause-rises
 returns-clause-rises c =
     let end : length c.loop-rest.rest.now ≡ 0 = search rules in
     trace-rises c.args.bytes.now c.loop-rest.entries.items (read_all _ _ _ _ c.loop-rest.invariant.so_far end)
+
+pub returns-clause-lines : goal.returns-clause-lines
+unfolding trace
+returns-clause-lines c =
+    let end : length c.loop-rest.rest.now ≡ 0 = search rules in
+    (c.text_reads_back.ensures.only_text c.args.bytes.now c.loop-rest.entries.items (read_all _ _ _ _ c.loop-rest.invariant.so_far end)).2

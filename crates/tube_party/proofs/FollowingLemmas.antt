@@ -1,0 +1,385 @@
+-- A replay that meets no difference follows the trace, and the other way round.
+use Rattle.std.proofs.Common.{ℕ, zero, suc, ◌≡◌, ◌+◌, ◌<◌, ◌≤◌, inl, inr, ◌&&◌, ◌==◌, nat_lt, refl, sym, ◌∙◌, ap, subst, arith, Bool, true, false, if◌then◌else◌, List, [], ◌∷◌, ◌++◌, length, map, Option, None, Some}
+use Rattle.std.specs.Prelude.{All}
+use Rattle.std.proofs.lemmas.List.{append-nil}
+use Rattle.std.proofs.lemmas.List.Elements.{All-nil, All-cons, All-head, All-tail}
+use Rattle.std.proofs.lemmas.Bool.{cases_lt}
+use Rattle.std.proofs.lemmas.Bool.Decides.{nat_tests}
+use Rattle.beeb_bits.specs.declared.Side.{Side}
+use Rattle.beeb_bits.specs.declared.Side.TheVariants.{Host, Para}
+use Rattle.tube_chip.specs.declared.Op.{Op}
+use Rattle.tube_chip.specs.declared.Op.TheVariants.{Read, Write}
+use Rattle.tube_chip.specs.declared.Answer.{Answer}
+use Rattle.tube_chip.specs.declared.Answer.TheVariants.{Byte, Seen}
+use Rattle.tube_chip.specs.State.{power_on, lines_of}
+use Rattle.tube_chip.specs.Act.{Query, access, look}
+use Rattle.tube_chip.specs.Events.{Event, is_side}
+use Rattle.tube_trace.specs.declared.Entry.{Entry}
+use Rattle.tube_trace.specs.Entries.{accesses}
+use Rattle.tube_party.specs.declared.replaying.Doing.{Doing}
+use Rattle.tube_party.specs.Moves.{Moves, IsLawful, Runs}
+use Rattle.tube_party.specs.Replay.{Numbered, Ended, own_from, same_op, is_that, next_line, finished, differs, doing, one_step, replay_from, replayed, chip_before}
+use Rattle.tube_party.specs.Tape.{Misses}
+use Rattle.tube_party.specs.Following.{own_below, IsAnsweredBy, FollowsTrace, ReplayIsFollowing, IsDifference, DiffersAt, ReplayTellsDifference}
+use Rattle.tube_party.proofs.Runs.{event, First, Over, Silent, Asking, first_of_runs, runs_silent, runs_asking}
+use Rattle.tube_party.proofs.Turns.{entry}
+use Rattle.tube_party.proofs.ReplayLemmas.{Goes, goes_all, goes_end, goes_none, goes_look, goes_access, goes_differs, at_end, step_now}
+
+-- the entries of numbered ones
+abbrev pub entries : List Numbered → List Entry
+entries own = map (λ (x : Numbered). x.entry) own
+
+-- they are the side's
+abbrev pub AreOf : Side → List Numbered → Type 0
+AreOf side own = All (λ (x : Numbered). x.entry.side ≡ side) own
+
+same_side : (a b : Side) → is_side a b ≡ true → b ≡ a
+same_side Host Host e = refl
+same_side Para Para e = refl
+same_side Host Para e = cc
+same_side Para Host e = cc
+
+both_true : (a b : Bool) → (a && b) ≡ true → (a ≡ true) × (b ≡ true)
+both_true true true e = (refl, refl)
+both_true true false e = cc
+both_true false b e = cc
+
+own_by : (side : Side) (n line : ℕ) (x : Entry) (trace : List Entry) (b : Bool) → (is_side side x.side && nat_lt (x.tick).0 n) ≡ b
+    → (entries (own_from side n (line + 1) trace) ≡ own_below side n trace) × AreOf side (own_from side n (line + 1) trace)
+    → (entries (own_from side n line (x ∷ trace)) ≡ own_below side n (x ∷ trace)) × AreOf side (own_from side n line (x ∷ trace))
+own_by side n line x trace true is on =
+    rw is (ap (λ (l : List Entry). x ∷ l) on.0, All-cons (λ (y : Numbered). y.entry.side ≡ side) _ _ (same_side side x.side (both_true _ _ is).0) on.1)
+own_by side n line x trace false is on = rw is on
+
+pub own_entries : (side : Side) (n line : ℕ) (trace : List Entry) → (entries (own_from side n line trace) ≡ own_below side n trace) × AreOf side (own_from side n line trace)
+own_entries side n line [] = (refl, All-nil (λ (y : Numbered). y.entry.side ≡ side))
+own_entries side n line (x ∷ trace) = own_by side n line x trace _ refl (own_entries side n (line + 1) trace)
+
+same_by_op : (a b : Op) → same_op a b ≡ true → a ≡ b
+same_by_op (Read r) (Read q) e = let same : r ≡ q = grind (arith, nat_tests) in ap (λ (x : ℕ). Read x) same
+same_by_op (Write r v) (Write q w) e =
+    let same = both_true (r == q) (v == w) e in
+    let one : r ≡ q = let t : (r == q) ≡ true = same.0 in grind (arith, nat_tests) in
+    let two : v ≡ w = let t : (v == w) ≡ true = same.1 in grind (arith, nat_tests) in
+    ap (λ (x : ℕ). Write x v) one ∙ ap (λ (x : ℕ). Write q x) two
+same_by_op (Read r) (Write q w) e = cc
+same_by_op (Write r v) (Read q) e = cc
+
+op_same : (a : Op) → same_op a a ≡ true
+op_same (Read r) = grind (arith, nat_tests)
+op_same (Write r v) = grind (arith, nat_tests)
+
+-- an entry is known by its parts
+same_entry : (x : Entry) (t : ℕ) (side : Side) (op : Op) → is_that x t op ≡ true → x.side ≡ side → entry t side op x.answer ≡ x
+same_entry x t side op is on =
+    let parts = both_true ((x.tick).0 == t) (same_op x.op op) is in
+    let tick : (x.tick).0 ≡ t = let e : ((x.tick).0 == t) ≡ true = parts.0 in grind (arith, nat_tests) in
+    sym (
+    ap (λ (n : ℕ). entry n x.side x.op x.answer) tick
+    ∙ ap (λ (y : Side). entry t y x.op x.answer) on
+    ∙ ap (λ (o : Op). entry t side o x.answer) (same_by_op x.op op parts.1))
+
+that_entry : (t : ℕ) (side : Side) (op : Op) (a : ℕ) → is_that (entry t side op a) t op ≡ true
+that_entry t side op a = let same : same_op op op ≡ true = op_same op in grind (arith, nat_tests)
+
+abbrev ending : {S : Type 0} → S → Ended S
+ending s = record { machine = s; place = None }
+
+-- what is told of the machine at a place, if there is one
+abbrev told_of : Option (ℕ × Option Doing) → Option Doing
+told_of None = None
+told_of (Some place) = place.1
+
+abbrev line_of : Option (ℕ × Option Doing) → ℕ
+line_of None = 0
+line_of (Some place) = place.0
+
+nothing_told : (left : List Numbered) → told_of (next_line left) ≡ None
+nothing_told [] = refl
+nothing_told (x ∷ left) = refl
+
+no_line : (left : List Numbered) → next_line left ≡ None → left ≡ []
+no_line [] e = refl
+no_line (x ∷ left) e = cc
+
+differs_not : {X : Type 0} (place : ℕ × Option Doing) → Some place ≡ None → X
+differs_not place e = cc
+
+entries_none : (own : List Numbered) → (let l : List Entry = [] in l) ≡ entries own → own ≡ []
+entries_none [] e = refl
+entries_none (x ∷ own) e = cc
+
+-- an access is the first of these entries
+record IsFirstOf (t : ℕ) (op : Op) (b : ℕ) (rest : List Entry) (own : List Numbered) : Type 0 where
+  pub next : Numbered
+  pub others : List Numbered
+  pub split : own ≡ next ∷ others
+  pub that : is_that next.entry t op ≡ true
+  pub answer : next.entry.answer ≡ b
+  pub rest_is : rest ≡ entries others
+
+first_of_own : (t : ℕ) (side : Side) (op : Op) (b : ℕ) (rest : List Entry) (own : List Numbered) → entry t side op b ∷ rest ≡ entries own → IsFirstOf t op b rest own
+first_of_own t side op b rest [] e = cc
+first_of_own t side op b rest (x ∷ own) e =
+    let head : x.entry ≡ entry t side op b = cc in
+    let tail : rest ≡ entries own = cc in
+    record {
+      next = x;
+      others = own;
+      split = refl;
+      that = ap (λ (y : Entry). is_that y t op) head ∙ that_entry t side op b;
+      answer = ap (λ (y : Entry). y.answer) head;
+      rest_is = tail;
+    }
+
+module _ {S : Type 0} (m : Moves S) (lawful : IsLawful m) (side : Side) (trace : List Entry) (n : ℕ) where
+  abbrev Told : Event → Type 0
+  Told e = IsAnsweredBy trace e.tick e.side e.query e.answer
+
+  abbrev Answered : List Event → Type 0
+  Answered events = All Told events
+
+  -- how a replay ends with the side's entries that are left
+  data Ending (last : S) (left : List Numbered) (e : Ended S) : Type 0 where
+    Finishes : n ≤ m.due last → e ≡ finished m n last left → Ending last left e
+    Parts : (op : Op) (line : ℕ) → m.due last < n → m.asks last ≡ Some (access op) → Misses left (length trace) (m.due last) op line → e ≡ differs m side last op line → Ending last left e
+
+  -- the machine and the side's entries agree so far, and how it ends there
+  record Comes (s : S) (own : List Numbered) (e : Ended S) : Type 0 where
+    pub events : List Event
+    pub steps : ℕ
+    pub last : S
+    pub runs : Runs m side n steps s events last
+    pub answered : Answered events
+    pub agreed : List Numbered
+    pub left : List Numbered
+    pub own_is : own ≡ agreed ++ left
+    pub agrees : accesses events ≡ entries agreed
+    pub ends : Ending last left e
+
+  comes_here : (s : S) (own : List Numbered) (e : Ended S) → Ending s own e → Comes s own e
+  comes_here s own e ends =
+      record { events = []; steps = zero; last = s; runs = (refl, refl); answered = All-nil Told; agreed = []; left = own; own_is = refl; agrees = refl; ends = ends }
+
+  comes_none : (s : S) (own : List Numbered) (e : Ended S) → m.due s < n → m.asks s ≡ None → Comes (m.next s None) own e → Comes s own e
+  comes_none s own e low none c =
+      record {
+        events = c.events;
+        steps = suc c.steps;
+        last = c.last;
+        runs = runs_silent m side n c.steps s c.events c.last low none c.runs;
+        answered = c.answered;
+        agreed = c.agreed;
+        left = c.left;
+        own_is = c.own_is;
+        agrees = c.agrees;
+        ends = c.ends;
+      }
+
+  comes_look : (s : S) (own : List Numbered) (e : Ended S) (a : Answer) → m.due s < n → m.asks s ≡ Some look → IsAnsweredBy trace (m.due s) side look a → Comes (m.next s (Some a)) own e → Comes s own e
+  comes_look s own e a low is told c =
+      record {
+        events = event (m.due s) side look a ∷ c.events;
+        steps = suc c.steps;
+        last = c.last;
+        runs = runs_asking m side n c.steps s look a c.events c.last low is c.runs;
+        answered = All-cons Told (event (m.due s) side look a) c.events told c.answered;
+        agreed = c.agreed;
+        left = c.left;
+        own_is = c.own_is;
+        agrees = c.agrees;
+        ends = c.ends;
+      }
+
+  comes_access : (s : S) (x : Numbered) (own : List Numbered) (e : Ended S) (op : Op) → m.due s < n → m.asks s ≡ Some (access op) → is_that x.entry (m.due s) op ≡ true → x.entry.side ≡ side →
+      Comes (m.next s (Some (Byte x.entry.answer))) own e → Comes s (x ∷ own) e
+  comes_access s x own e op low is that of c =
+      record {
+        events = event (m.due s) side (access op) (Byte x.entry.answer) ∷ c.events;
+        steps = suc c.steps;
+        last = c.last;
+        runs = runs_asking m side n c.steps s (access op) (Byte x.entry.answer) c.events c.last low is c.runs;
+        answered = All-cons Told (event (m.due s) side (access op) (Byte x.entry.answer)) c.events tt c.answered;
+        agreed = x ∷ c.agreed;
+        left = c.left;
+        own_is = ap (λ (l : List Numbered). x ∷ l) c.own_is;
+        agrees =
+            ap (λ (l : List Entry). entry (m.due s) side op x.entry.answer ∷ l) c.agrees
+            ∙ ap (λ (y : Entry). y ∷ entries c.agreed) (same_entry x.entry (m.due s) side op that of);
+        ends = c.ends;
+      }
+
+  -- an access of the machine, and the test of the side's next entry
+  comes_test : (s : S) (x : Numbered) (own : List Numbered) (e : Ended S) (op : Op) (go : S → List Numbered → Ended S) (b : Bool) → is_that x.entry (m.due s) op ≡ b
+      → m.due s < n → m.asks s ≡ Some (access op) → x.entry.side ≡ side
+      → ((u : S) → e ≡ go u own → m.due s < m.due u → Comes u own e)
+      → e ≡ (if b then go (m.next s (Some (Byte x.entry.answer))) own else differs m side s op x.line)
+      → Comes s (x ∷ own) e
+  comes_test s x own e op go true is low asks of on same =
+      comes_access s x own e op low asks is of (on (m.next s (Some (Byte x.entry.answer))) same (lawful.rises s (Some (Byte x.entry.answer))))
+  comes_test s x own e op go false is low asks of on same = comes_here s (x ∷ own) e (Parts op x.line low asks (refl, is) same)
+
+  -- one step of the replay
+  comes_step : (s : S) (own : List Numbered) (e : Ended S) (go : S → List Numbered → Ended S) (o : Option Query) → m.asks s ≡ o → m.due s < n → AreOf side own
+      → ((u : S) (l : List Numbered) → AreOf side l → e ≡ go u l → m.due s < m.due u → Comes u l e)
+      → e ≡ one_step m side trace s own o go
+      → Comes s own e
+  comes_step s own e go None is low of on same = comes_none s own e low is (on (m.next s None) own of same (lawful.rises s None))
+  comes_step s own e go (Some look) is low of on same =
+      let a : Answer = Seen (lines_of (chip_before side (m.due s) power_on trace)) in
+      comes_look s own e a low is refl (on (m.next s (Some a)) own of same (lawful.rises s (Some a)))
+  comes_step s [] e go (Some (access op)) is low of on same = comes_here s [] e (Parts op (length trace + 1) low is refl same)
+  comes_step s (x ∷ own) e go (Some (access op)) is low of on same =
+      comes_test s x own e op go _ refl low is (All-head (λ (y : Numbered). y.entry.side ≡ side) x own of)
+      (λ u. on u own (All-tail (λ (y : Numbered). y.entry.side ≡ side) x own of)) same
+
+  comes : (k : ℕ) (s : S) (own : List Numbered) (e : Ended S) → n ≤ m.due s + k → AreOf side own → e ≡ replay_from m side trace n k s own → Comes s own e
+  comes zero s own e enough of same = comes_here s own e (Finishes (omega arith) same)
+  comes (suc k) s own e enough of same = elim (cases_lt (m.due s) n) [
+    | inl low ↦
+        comes_step s own e (replay_from m side trace n k) (m.asks s) refl low of
+        (λ u l of_l on up. comes k u l e (omega arith) of_l on)
+        (same ∙ step_now m side trace n k s own low)
+    | inr over ↦ comes_here s own e (Finishes over (same ∙ at_end m side trace n (suc k) s own over))
+  ]
+
+  comes_all : (s : S) → Comes s (own_from side n 1 trace) (replayed m side trace n s)
+  comes_all s =
+      let goes : Goes m side trace n (replayed m side trace n s) s (own_from side n 1 trace) = goes_all m side trace n s in
+      comes goes.steps s (own_from side n 1 trace) (replayed m side trace n s) goes.enough (own_entries side n 1 trace).1 goes.same
+
+  -- with no place, nothing is left
+
+  follows_by : (s ended : S) (c : Comes s (own_from side n 1 trace) (replayed m side trace n s)) → Ending c.last c.left (replayed m side trace n s) → replayed m side trace n s ≡ ending ended → FollowsTrace m side trace n s ended
+  follows_by s ended c (Finishes over same) e =
+      let ends : ending ended ≡ finished m n c.last c.left = sym e ∙ same in
+      let none : c.left ≡ [] = no_line c.left (sym (ap (λ (y : Ended S). y.place) ends)) in
+      let all : own_from side n 1 trace ≡ c.agreed = c.own_is ∙ ap (λ (l : List Numbered). c.agreed ++ l) none ∙ append-nil c.agreed in
+      record {
+        events = c.events;
+        follows = record { steps = c.steps; last = c.last; runs = c.runs; over = over; ends = ap (λ (y : Ended S). y.machine) ends };
+        own = c.agrees ∙ sym (ap entries all) ∙ (own_entries side n 1 trace).0;
+        answered = c.answered;
+      }
+  follows_by s ended c (Parts op line low asks misses same) e =
+      differs_not (line, Some (doing (m.due c.last) side op)) (sym (ap (λ (y : Ended S). y.place) (sym e ∙ same)))
+
+  -- with a place, they differ there
+
+  abbrev At : S → Ended S → ℕ → Option Doing → Type 0
+  At stopped e line what = e ≡ record { machine = stopped; place = Some (line, what) }
+
+  abbrev Whole : S → List Numbered → ℕ → Option Doing → S → Type 0
+  Whole last left line what stopped = IsDifference m side n (length trace) last left line what stopped
+
+  difference_by : (last stopped : S) (left : List Numbered) (e : Ended S) (line : ℕ) (what : Option Doing) → Ending last left e → At stopped e line what → Whole last left line what stopped
+  difference_by last stopped left e line what (Finishes over same) at =
+      let place : next_line left ≡ Some (line, what) = ap (λ (y : Ended S). y.place) (sym same ∙ at) in
+      let nothing : what ≡ None = sym (ap told_of place) ∙ nothing_told left in
+      subst (λ (w : Option Doing). Whole last left line w stopped) (sym nothing)
+      (over, place ∙ ap (λ (w : Option Doing). Some (line, w)) nothing, ap (λ (y : Ended S). y.machine) (sym at ∙ same))
+  difference_by last stopped left e line what (Parts op l low asks misses same) at =
+      let place : Some (l, Some (doing (m.due last) side op)) ≡ Some (line, what) = ap (λ (y : Ended S). y.place) (sym same ∙ at) in
+      subst (λ (w : Option Doing). Whole last left line w stopped) (ap told_of place)
+      (op, low, asks, refl, subst (λ (i : ℕ). Misses left (length trace) (m.due last) op i) (ap line_of place) misses, ap (λ (y : Ended S). y.machine) (sym at ∙ same))
+
+  differs_of : (s stopped : S) (line : ℕ) (what : Option Doing) → At stopped (replayed m side trace n s) line what → DiffersAt m side trace n s line what stopped
+  differs_of s stopped line what at =
+      let c : Comes s (own_from side n 1 trace) (replayed m side trace n s) = comes_all s in
+      record {
+        events = c.events;
+        steps = c.steps;
+        last = c.last;
+        runs = c.runs;
+        answered = c.answered;
+        agreed = c.agreed;
+        left = c.left;
+        own = c.own_is;
+        agrees = c.agrees;
+        differs = difference_by c.last stopped c.left (replayed m side trace n s) line what c.ends at;
+      }
+
+  -- the other way round: the replay takes the entries that agree
+
+  abbrev Takes_all : ℕ → Type 0
+  Takes_all i =
+      (s last : S) (own agreed left : List Numbered) (events : List Event) (whole : Ended S)
+      → Goes m side trace n whole s own → Runs m side n i s events last → own ≡ agreed ++ left
+      → accesses events ≡ entries agreed → Answered events
+      → Goes m side trace n whole last left
+
+  all_here : (s last : S) (own agreed left : List Numbered) (events : List Event) (whole : Ended S) → Goes m side trace n whole s own → events ≡ [] → s ≡ last → own ≡ agreed ++ left
+      → accesses events ≡ entries agreed → Goes m side trace n whole last left
+  all_here s last own agreed left events whole goes ee es own_is agrees =
+      let none : agreed ≡ [] = entries_none agreed (ap accesses (sym ee) ∙ agrees) in
+      subst (λ (x : S). Goes m side trace n whole x left) es
+      (subst (λ (l : List Numbered). Goes m side trace n whole s l) (own_is ∙ ap (λ (l : List Numbered). l ++ left) none) goes)
+
+  all_some : (i : ℕ) → Takes_all i → (s last : S) (own agreed left : List Numbered) (q : Query) (a : Answer) (others : List Event) (whole : Ended S)
+      → Goes m side trace n whole s own → Runs m side n i (m.next s (Some a)) others last → m.due s < n → m.asks s ≡ Some q → own ≡ agreed ++ left
+      → accesses (event (m.due s) side q a ∷ others) ≡ entries agreed → IsAnsweredBy trace (m.due s) side q a → Answered others
+      → Goes m side trace n whole last left
+  all_some i on s last own agreed left look a others whole goes runs low is own_is agrees told answered =
+      on (m.next s (Some a)) last own agreed left others whole
+      (subst (λ (x : Answer). Goes m side trace n whole (m.next s (Some x)) own) (sym told) (goes_look m side trace n lawful whole s own goes low is))
+      runs own_is agrees answered
+  all_some i on s last own agreed left (access op) (Seen l) others whole goes runs low is own_is agrees told answered = absurd told
+  all_some i on s last own agreed left (access op) (Byte b) others whole goes runs low is own_is agrees told answered =
+      let first : IsFirstOf (m.due s) op b (accesses others) agreed = first_of_own (m.due s) side op b (accesses others) agreed agrees in
+      let split : own ≡ first.next ∷ (first.others ++ left) = own_is ∙ ap (λ (l : List Numbered). l ++ left) first.split in
+      on (m.next s (Some (Byte b))) last (first.others ++ left) first.others left others whole
+      (goes_access m side trace n lawful whole s own (first.others ++ left) op b goes low is (record { next = first.next; split = split; that = first.that; answer = first.answer }))
+      runs refl first.rest_is answered
+
+  all_by : (i : ℕ) → Takes_all i → (s last : S) (own agreed left : List Numbered) (events : List Event) (whole : Ended S)
+      → Goes m side trace n whole s own → First m side n (suc i) s events last → own ≡ agreed ++ left
+      → accesses events ≡ entries agreed → Answered events
+      → Goes m side trace n whole last left
+  all_by i on s last own agreed left events whole goes (Over ee es) own_is agrees answered = all_here s last own agreed left events whole goes ee es own_is agrees
+  all_by i on s last own agreed left events whole goes (Silent i' ei low none runs) own_is agrees answered =
+      on (m.next s None) last own agreed left events whole (goes_none m side trace n lawful whole s own goes low none)
+      (subst (λ (x : ℕ). Runs m side n x (m.next s None) events last) (omega arith) runs) own_is agrees answered
+  all_by i on s last own agreed left events whole goes (Asking i' q a others ei low is ee runs) own_is agrees answered =
+      let told : Answered (event (m.due s) side q a ∷ others) = subst Answered ee answered in
+      all_some i on s last own agreed left q a others whole goes
+      (subst (λ (x : ℕ). Runs m side n x (m.next s (Some a)) others last) (omega arith) runs) low is own_is
+      (ap accesses (sym ee) ∙ agrees)
+      (All-head Told (event (m.due s) side q a) others told)
+      (All-tail Told (event (m.due s) side q a) others told)
+
+  takes_all : (i : ℕ) → Takes_all i
+  takes_all zero s last own agreed left events whole goes runs own_is agrees answered = all_here s last own agreed left events whole goes runs.0 runs.1 own_is agrees
+  takes_all (suc i) s last own agreed left events whole goes runs own_is agrees answered =
+      all_by i (takes_all i) s last own agreed left events whole goes (first_of_runs m side n (suc i) s events last runs) own_is agrees answered
+
+  replayed_of : (s ended : S) → FollowsTrace m side trace n s ended → replayed m side trace n s ≡ ending ended
+  replayed_of s ended f =
+      let own : List Numbered = own_from side n 1 trace in
+      goes_end m side trace n (replayed m side trace n s) f.follows.last []
+      (takes_all f.follows.steps s f.follows.last own own [] f.events (replayed m side trace n s) (goes_all m side trace n s)
+      f.follows.runs (sym (append-nil own)) (f.own ∙ sym (own_entries side n 1 trace).0) f.answered)
+      f.follows.over
+      ∙ ap ending (sym f.follows.ends)
+
+  place_by : (whole : Ended S) (last stopped : S) (left : List Numbered) (line : ℕ) (what : Option Doing) → Goes m side trace n whole last left → Whole last left line what stopped → At stopped whole line what
+  place_by whole last stopped left line None goes d =
+      goes_end m side trace n whole last left goes d.0
+      ∙ ap (λ (x : S). record { machine = x; place = next_line left }) (sym d.2)
+      ∙ ap (λ (o : Option (ℕ × Option Doing)). record { machine = stopped; place = o }) d.1
+  place_by whole last stopped left line (Some doings) goes d =
+      goes_differs m side trace n whole last left d.0 line goes d.1 d.2 d.4
+      ∙ ap (λ (x : S). record { machine = x; place = Some (line, Some (doing (m.due last) side d.0)) }) (sym d.5)
+      ∙ ap (λ (x : Doing). record { machine = stopped; place = Some (line, Some x) }) (sym d.3)
+
+  place_of : (s stopped : S) (line : ℕ) (what : Option Doing) → DiffersAt m side trace n s line what stopped → At stopped (replayed m side trace n s) line what
+  place_of s stopped line what d =
+      place_by (replayed m side trace n s) d.last stopped d.left line what
+      (takes_all d.steps s d.last (own_from side n 1 trace) d.agreed d.left d.events (replayed m side trace n s) (goes_all m side trace n s) d.runs d.own d.agrees d.answered)
+      d.differs
+
+pub replay_following : {S : Type 0} (m : Moves S) → IsLawful m → ReplayIsFollowing m
+replay_following m lawful side trace n s ended =
+    (λ e. let c = comes_all m lawful side trace n s in follows_by m lawful side trace n s ended c c.ends e, replayed_of m lawful side trace n s ended)
+
+pub replay_differs : {S : Type 0} (m : Moves S) → IsLawful m → ReplayTellsDifference m
+replay_differs m lawful side trace n s line what stopped = (differs_of m lawful side trace n s stopped line what, place_of m lawful side trace n s stopped line what)

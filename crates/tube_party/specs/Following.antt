@@ -1,0 +1,78 @@
+-- What a replay says in terms of lists of events.
+use Rattle.std.specs.Prelude.{ℕ, ◌≡◌, ◌<◌, ◌≤◌, ◌↔◌, ◌&&◌, nat_lt, List, ◌++◌, length, map, filter, All, Option, None, Some}
+use Rattle.beeb_bits.specs.declared.Side.{Side}
+use Rattle.beeb_bits.specs.declared.Side.TheVariants.{Host, Para}
+use Rattle.tube_chip.specs.declared.Op.{Op}
+use Rattle.tube_chip.specs.declared.Answer.{Answer}
+use Rattle.tube_chip.specs.declared.Answer.TheVariants.{Seen}
+use Rattle.tube_chip.specs.State.{power_on, lines_of}
+use Rattle.tube_chip.specs.Act.{Query, access, look}
+use Rattle.tube_chip.specs.Events.{Event, is_side}
+use Rattle.tube_trace.specs.declared.Entry.{Entry}
+use Rattle.tube_trace.specs.Entries.{accesses}
+use Rattle.tube_party.specs.declared.replaying.Doing.{Doing}
+use Rattle.tube_party.specs.Moves.{Moves, Runs, Follows, FitsAnswer, shut}
+use Rattle.tube_party.specs.Replay.{Numbered, own_from, doing, next_line, chip_before, replayed}
+use Rattle.tube_party.specs.Tape.{Misses}
+use Rattle.tube_party.specs.Reference.{World, reference}
+
+-- the side's entries below n, in their order
+abbrev pub own_below : Side → ℕ → List Entry → List Entry
+own_below side n trace = filter (λ x. is_side side x.side && nat_lt (x.tick).0 n) trace
+
+-- An access is answered by a byte, and a look by the lines of the chip after the entries of the trace that come before it.
+abbrev pub IsAnsweredBy : List Entry → ℕ → Side → Query → Answer → Type 0
+IsAnsweredBy trace t side (access op) a = FitsAnswer (access op) a
+IsAnsweredBy trace t side look a = a ≡ Seen (lines_of (chip_before side t power_on trace))
+
+-- The machine follows a list up to n whose accesses are the side's entries of the trace below n, and whose looks the trace answers.
+pub record FollowsTrace {S : Type 0} (m : Moves S) (side : Side) (trace : List Entry) (n : ℕ) (s ended : S) : Type 0 where
+  pub events : List Event
+  pub follows : Follows m side s events n ended
+  pub own : accesses events ≡ own_below side n trace
+  pub answered : All (λ e. IsAnsweredBy trace e.tick e.side e.query e.answer) events
+
+-- A replay ends without a place that differs exactly where the machine follows the trace, and in that state.
+abbrev pub ReplayIsFollowing : {S : Type 0} → Moves S → Type 0
+ReplayIsFollowing {S} m =
+    (side : Side) (trace : List Entry) (n : ℕ) (s ended : S) →
+    (replayed m side trace n s ≡ record { machine = ended; place = None }) ↔ FollowsTrace m side trace n s ended
+
+-- What the machine does next below n and the side's entries that are left differ: it makes an access that the next of them is not, or
+-- none is left; or it does nothing more, and one is left.
+abbrev pub IsDifference : {S : Type 0} → Moves S → Side → ℕ → ℕ → S → List Numbered → ℕ → Option Doing → S → Type 0
+IsDifference m side n lines last left line (Some does) stopped =
+    (op : Op)
+    × (m.due last < n)
+    × (m.asks last ≡ Some (access op))
+    × (does ≡ doing (m.due last) side op)
+    × Misses left lines (m.due last) op line
+    × (stopped ≡ last)
+IsDifference m side n lines last left line None stopped = (n ≤ m.due last) × (next_line left ≡ Some (line, None)) × (stopped ≡ shut m last n)
+
+-- The machine makes the first of the side's entries below n, its looks answered by the trace, and then they differ at this place.
+pub record DiffersAt {S : Type 0} (m : Moves S) (side : Side) (trace : List Entry) (n : ℕ) (s : S) (line : ℕ) (what : Option Doing) (stopped : S) : Type 0 where
+  pub events : List Event
+  pub steps : ℕ
+  pub last : S
+  pub runs : Runs m side n steps s events last
+  pub answered : All (λ e. IsAnsweredBy trace e.tick e.side e.query e.answer) events
+  pub agreed : List Numbered
+  pub left : List Numbered
+  pub own : own_from side n 1 trace ≡ agreed ++ left
+  pub agrees : accesses events ≡ map (λ x. x.entry) agreed
+  pub differs : IsDifference m side n (length trace) last left line what stopped
+
+-- A replay ends at a place exactly where that is the first difference, and with the machine before it.
+abbrev pub ReplayTellsDifference : {S : Type 0} → Moves S → Type 0
+ReplayTellsDifference {S} m =
+    (side : Side) (trace : List Entry) (n : ℕ) (s : S) (line : ℕ) (what : Option Doing) (stopped : S) →
+    (replayed m side trace n s ≡ record { machine = stopped; place = Some (line, what) }) ↔ DiffersAt m side trace n s line what stopped
+
+-- The replay of each party against the reference run's own list meets no difference, and ends as the reference run does.
+abbrev pub ReferenceIsReplayed : {S T : Type 0} → Moves S → Moves T → Type 0
+ReferenceIsReplayed {S} {T} h p =
+    (s : S) (t : T) (n : ℕ) →
+    let w : World S T = reference h p s t n in
+    (replayed h Host (accesses w.list) n s ≡ record { machine = w.host; place = None })
+    × (replayed p Para (accesses w.list) n t ≡ record { machine = w.para; place = None })

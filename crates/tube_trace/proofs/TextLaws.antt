@@ -1,0 +1,95 @@
+-- The text of rising entries is read as those entries, and no other text is.
+use Rattle.std.proofs.Common.{◌≡◌, ◌∙◌, sym, refl, ap, ℕ, ◌+◌, ◌<◌, ◌≤◌, length, get_or, take, drop, List, [], ◌∷◌, ◌++◌, map, true, false, ◌==◌, All, Option, Some, None, append-nil, arith}
+use Rattle.std.specs.List.{flat_map}
+use Rattle.std.proofs.lemmas.List.{take_more, take_all, take-append-le, drop-append-le}
+use Rattle.std.proofs.lemmas.List.Elements.{All-nil, All-cons, All-head, All-tail}
+use Rattle.std.proofs.lemmas.List.Concat.{flat_map-append}
+use Rattle.std.proofs.Math.ListN.{drop_of_length-le}
+use Rattle.tube_trace.specs.declared.Entry.{Entry}
+use Rattle.tube_trace.specs.Line.{entry_of}
+use Rattle.tube_trace.specs.Trace.{begin_with, lines_of, trace}
+use Rattle.tube_trace.specs.Text.{line_text, text_of, HasLine}
+use Rattle.tube_trace.specs.Laws.{IsOfByte, LineReadsBack, OnlyLineReads, TextReadsBack, OnlyTextReads}
+use Rattle.tube_trace.proofs.LineLemmas.{has_entry}
+use Rattle.tube_trace.proofs.TextLemmas.{line_reads}
+use Rattle.tube_trace.proofs.RiseLemmas.{trace-rises, rising_read, each_read}
+
+-- a line in front of a text, taken off again
+take_line : (line rest : List ℕ) → length line ≡ 20 → take 20 (line ++ rest) ≡ line
+take_line line rest long = let le : 20 ≤ length line = omega arith in rw take-append-le (take_all 20 line (omega arith))
+
+drop_line : (line rest : List ℕ) → length line ≡ 20 → drop 20 (line ++ rest) ≡ rest
+drop_line line rest long =
+    let le : 20 ≤ length line = omega arith in
+    let past : length line ≤ 20 = omega arith in
+    drop-append-le 20 line rest le ∙ rw (drop_of_length-le line past) refl
+
+lines_read : LineReadsBack → (entries : List Entry) → All HasLine entries → All IsOfByte entries → map entry_of (lines_of (text_of entries)) ≡ map Some entries
+lines_read line_read [] lines bytes = refl
+lines_read line_read (e ∷ entries) lines bytes =
+    let rest : List ℕ = text_of entries in
+    let is : entry_of (line_text e) ≡ Some e = line_read e (All-head HasLine e entries lines) (All-head IsOfByte e entries bytes) in
+    let long : length (line_text e) ≡ 20 = (has_entry (line_text e) e is).long in
+    let front : take 20 (line_text e ++ rest) ≡ line_text e = take_line (line_text e) rest long in
+    let back : drop 20 (line_text e ++ rest) ≡ rest = drop_line (line_text e) rest long in
+    line_reads (line_text e ++ rest) e (ap entry_of front ∙ is)
+    ∙ ap (λ (t : List ℕ). Some e ∷ map entry_of (lines_of t)) back
+    ∙ ap (λ (ls : List (Option Entry)). Some e ∷ ls) (lines_read line_read entries (All-tail HasLine e entries lines) (All-tail IsOfByte e entries bytes))
+
+pub text_read : LineReadsBack → TextReadsBack
+unfolding trace
+text_read line_read entries rises lines bytes = rw (lines_read line_read entries lines bytes) (rising_read entries rises)
+
+-- one line more is written
+pub text-more : (entries : List Entry) (i : ℕ) (d : Entry) (old new : List ℕ) → i < length entries → old ≡ text_of (take i entries) →
+    new ≡ old ++ line_text (get_or entries i d) → new ≡ text_of (take (i + 1) entries)
+text-more entries i d old new h so_far is =
+    let more : take (i + 1) entries ≡ take i entries ++ get_or entries i d ∷ [] = take_more entries i d h in
+    is ∙ rw (so_far, more, flat_map-append line_text (take i entries) (get_or entries i d ∷ [])) (ap (λ (t : List ℕ). text_of (take i entries) ++ t) (sym (append-nil (line_text (get_or entries i d)))))
+
+-- ---- the lines of a text are the text
+
+joined : List (List ℕ) → List ℕ
+joined lines = flat_map (λ line. line) lines
+
+begin_joined : (b : ℕ) (lines : List (List ℕ)) → joined (begin_with b lines) ≡ b ∷ joined lines
+unfolding joined
+begin_joined b [] = refl
+begin_joined b (line ∷ lines) = refl
+
+lines_joined : (text : List ℕ) → joined (lines_of text) ≡ text
+unfolding joined
+lines_joined [] = refl
+lines_joined (b ∷ text) =
+    elim (b == 10) as (λ t. (b == 10) ≡ t → joined (lines_of (b ∷ text)) ≡ b ∷ text) [
+      | true ↦ λ e. rw e (ap (λ (t : List ℕ). b ∷ t) (lines_joined text))
+      | false ↦ λ e. rw e (begin_joined b (lines_of text) ∙ ap (λ (t : List ℕ). b ∷ t) (lines_joined text))
+    ] refl
+
+-- lines that have these entries are the lines of these entries
+record AreLines (lines : List (List ℕ)) (entries : List Entry) : Type 0 where
+  text : joined lines ≡ text_of entries
+  each : All HasLine entries
+  bytes : All IsOfByte entries
+
+lines_only : OnlyLineReads → (lines : List (List ℕ)) (entries : List Entry) → map entry_of lines ≡ map Some entries → AreLines lines entries
+unfolding joined
+lines_only only [] [] h = record { text = refl; each = All-nil HasLine; bytes = All-nil IsOfByte }
+lines_only only [] (e ∷ entries) h = cc
+lines_only only (line ∷ lines) [] h = cc
+lines_only only (line ∷ lines) (e ∷ entries) h =
+    let here : entry_of line ≡ Some e = cc in
+    let others : map entry_of lines ≡ map Some entries = cc in
+    let one = only line e here in
+    let rest : AreLines lines entries = lines_only only lines entries others in
+    record {
+      text = ap (λ (t : List ℕ). t ++ joined lines) one.0 ∙ ap (λ (t : List ℕ). line_text e ++ t) rest.text;
+      each = All-cons HasLine e entries one.1 rest.each;
+      bytes = All-cons IsOfByte e entries one.2 rest.bytes;
+    }
+
+pub text_only : OnlyLineReads → OnlyTextReads
+unfolding trace
+text_only only text entries h =
+    let parts : AreLines (lines_of text) entries = lines_only only (lines_of text) entries (each_read 1 None _ entries h) in
+    (sym (lines_joined text) ∙ parts.text, trace-rises text entries h, parts.each, parts.bytes)

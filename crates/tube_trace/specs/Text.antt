@@ -1,0 +1,57 @@
+-- What is written: the text of an access, the line of an entry and the lines of many.
+use Rattle.std.specs.Prelude.{ℕ, ◌+◌, ◌%◌, ◌^◌, ◌≡◌, ◌<◌, List, ◌∷◌, ◌++◌, codes}
+use Rattle.std.specs.List.{flat_map}
+use Rattle.digits.specs.Hexadecimal.{hex_digits}
+use Rattle.beeb_bits.specs.declared.Side.{Side}
+use Rattle.beeb_bits.specs.declared.Side.TheVariants.{Host, Para}
+use Rattle.tube_chip.specs.declared.Op.{Op}
+use Rattle.tube_chip.specs.declared.Op.TheVariants.{Read, Write}
+use Rattle.tube_trace.specs.declared.Entry.{Entry}
+use Rattle.tube_trace.specs.Entries.{IsEntry}
+
+-- `H` or `P`
+abbrev pub side_letter : Side → ℕ
+side_letter Host = 72
+side_letter Para = 80
+
+-- `R` or `W`
+abbrev pub op_letter : Op → ℕ
+op_letter (Read number) = 82
+op_letter (Write number byte) = 87
+
+abbrev pub number_of : Op → ℕ
+number_of (Read number) = number
+number_of (Write number byte) = number
+
+-- An access in a line's form: the tick in ten digits, the letters of its side and its operation, the number, and a text for the byte.
+unfoldable pub access_text : ℕ → Side → Op → List ℕ → List ℕ
+access_text tick side op byte =
+    hex_digits 10 tick ++ (32 ∷ side_letter side ∷ 32 ∷ op_letter op ∷ 32 ∷ (48 + number_of op % 8) ∷ 32 ∷ byte)
+
+-- The text for the byte of an access that has no answer yet: `--` for a read, and the byte that is written.
+abbrev pub asked_byte : Op → List ℕ
+asked_byte (Read number) = codes "--"
+asked_byte (Write number byte) = hex_digits 2 byte
+
+-- the byte of a line: the one answered or written
+abbrev pub line_byte : Op → ℕ → ℕ
+line_byte (Read number) answer = answer
+line_byte (Write number byte) answer = byte
+
+-- The line of an entry, with its line feed.
+abbrev pub line_text : Entry → List ℕ
+line_text e = access_text (e.tick).0 e.side e.op (hex_digits 2 (line_byte e.op e.answer)) ++ codes "\n"
+
+abbrev pub text_of : List Entry → List ℕ
+text_of entries = flat_map line_text entries
+
+-- a write answers 00
+abbrev pub IsAnswer : Op → ℕ → Type 0
+IsAnswer (Read number) answer = Unit {0}
+IsAnswer (Write number byte) answer = answer ≡ 0
+
+-- An entry that a line tells whole.
+pub record HasLine (e : Entry) : Type 0 where
+  pub may : IsEntry e
+  pub tick : (e.tick).0 < 2 ^ 40
+  pub answer : IsAnswer e.op e.answer

@@ -1,0 +1,42 @@
+//! Writing a trace.
+ghost use Rattle.std.specs.Prelude.{◌≡◌, Ok, All, IfOk};
+ghost use Rattle.tube_chip.specs.Events.{Rises};
+ghost use Rattle.tube_trace.specs.Entries.{events_of};
+ghost use Rattle.tube_trace.specs.Laws.{IsOfByte};
+ghost use Rattle.tube_trace.specs.Text.{HasLine, text_of};
+ghost use Rattle.tube_trace.specs.Trace.{trace};
+
+use crate::Entry;
+use crate::law::text_reads_back;
+use crate::line::{LENGTH, push_line};
+use beeb_bits::NoMemory;
+use std::alloc::{AllocError, Global};
+
+fn lines(alloc: Global, entries: &[Entry]) -> Result<Vec<u8>, AllocError>
+    ensures text { IfOk result (λ v. v.items ≡ text_of entries.now) }
+    ensures bytes { IfOk result (λ _. All IsOfByte entries.now) }
+{
+    let mut text = Vec::with_capacity(alloc, entries.len().saturating_mul(LENGTH))?;
+    for entry in entries {
+        push_line(&mut text, *entry)?;
+    }
+    Ok(text)
+}
+
+/// The text of a trace: a line for each entry, in the form that `read` takes.
+///
+/// # Errors
+/// Memory for the text can be wanting.
+pub fn write(alloc: Global, entries: &[Entry]) -> Result<Vec<u8>, NoMemory>
+    requires rises { Rises (events_of entries.now) }
+    requires lines { All HasLine entries.now }
+    ensures text { IfOk result (λ v. v.items ≡ text_of entries.now) }
+    // In words: `read` gives these entries of it.
+    ensures back { IfOk result (λ v. trace v.items ≡ Ok entries.now) }
+{
+    text_reads_back();
+    match lines(alloc, entries) {
+        Ok(text) => Ok(text),
+        Err(_) => Err(NoMemory),
+    }
+}
