@@ -1,0 +1,4 @@
+mod Law
+mod Grows
+mod Keeps
+mod Calls

@@ -1,0 +1,100 @@
+//! The eight words of the cell: the six of the chip, then the host's horizon and the parasite's.
+ghost use Rattle.std.specs.Prelude.{◌≡◌};
+ghost use Rattle.tube_chip.specs.State.{State};
+ghost use Rattle.tube_chip.specs.Packing.{IsChip, packed};
+ghost use Rattle.tube_cell.specs.Views.{Known, words_of, new_known, other, known_with, admits};
+ghost use Rattle.tube_cell.specs.Steps.{Local};
+
+use beeb_bits::Side;
+use tube_chip::{Chip, packing_is_one_to_one};
+
+/// The words with this chip, and a side's own horizon and the other's.
+pub(crate) fn next_words(side: Side, chip: &Chip, mine: u64, theirs: u64) -> [u64; 8]
+    ensures words { result ≡ words_of (known_with side chip.now mine theirs) }
+    ensures bounds { IsChip chip.now }
+{
+    let chip = chip.pack();
+    let (host, para) = match side {
+        Side::Host => (mine, theirs),
+        Side::Para => (theirs, mine),
+    };
+    [
+        chip[0], chip[1], chip[2], chip[3], chip[4], chip[5], host, para,
+    ]
+}
+
+/// The words at power-on.
+pub(crate) fn power_on() -> [u64; 8]
+    ensures { result ≡ words_of new_known }
+{
+    next_words(Side::Host, &Chip::new(), 0, 0)
+}
+
+/// The other side's horizon.
+pub(crate) fn word_of(side: Side, words: &[u64; 8]) -> u64
+    ensures { (k : Known) → words.now ≡ words_of k → result ≡ other side k }
+{
+    match side {
+        Side::Host => words[7],
+        Side::Para => words[6],
+    }
+}
+
+/// The other side's horizon admits a side at this tick: the host up to it, and the parasite below it.
+pub(crate) fn is_admitted(side: Side, word: u64, tick: u64) -> bool
+    ensures { result ≡ admits side word tick }
+{
+    match side {
+        Side::Host => tick <= word,
+        Side::Para => tick < word,
+    }
+}
+
+// The six words of the chip.
+fn chip_words(words: &[u64; 8]) -> [u64; 6]
+    ensures { (k : Known) → words.now ≡ words_of k → result ≡ packed k.chip }
+{
+    [words[0], words[1], words[2], words[3], words[4], words[5]]
+}
+
+fn unpacked(words: [u64; 6]) -> Chip
+    requires { (c : State) × IsChip c × (words ≡ packed c) }
+    ensures { (c : State) → IsChip c → words ≡ packed c → result ≡ c }
+{
+    match Chip::unpack(words) {
+        Some(chip) => chip,
+        None => unreachable!(),
+    }
+}
+
+/// The chip of these words.
+pub(crate) fn chip_of(words: &[u64; 8]) -> Chip
+    requires { (k : Known) × IsChip k.chip × (words.now ≡ words_of k) }
+    ensures { (k : Known) → IsChip k.chip → words.now ≡ words_of k → result ≡ k.chip }
+{
+    unpacked(chip_words(words))
+}
+
+/// The words found are known, and the local chip is theirs.
+pub(crate) fn renew(words: &mut [u64; 8], local: &mut Chip, found: [u64; 8])
+    requires { (k : Known) × IsChip k.chip × (found ≡ words_of k) }
+    ensures words { words.new ≡ found }
+    ensures local { (k : Known) → IsChip k.chip → found ≡ words_of k → local.new ≡ k.chip }
+{
+    *local = chip_of(&found);
+    *words = found;
+}
+
+/// The words found are known. The local chip stays where the chip is the one that was known, and else it is theirs.
+pub(crate) fn settle(words: &mut [u64; 8], local: &mut Chip, found: [u64; 8])
+    requires { (k : Known) × IsChip k.chip × (found ≡ words_of k) }
+    ensures words { words.new ≡ found }
+    ensures local { (j k : Known) → IsChip j.chip → IsChip k.chip → words.old ≡ words_of j → found ≡ words_of k → Local j.chip local.old k.chip local.new }
+{
+    packing_is_one_to_one();
+    let chip = chip_words(&found);
+    if chip != chip_words(words) {
+        *local = unpacked(chip);
+    }
+    *words = found;
+}
