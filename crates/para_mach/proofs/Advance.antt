@@ -1,27 +1,41 @@
 -- One more silent step.
-use Rattle.std.proofs.Common.{◌≡◌, ◌∙◌, sym, ap, subst, ℕ, suc, ◌+◌, ◌<◌, [], None, Bool, false, if◌then◌else◌}
+use Rattle.std.proofs.Common.{◌≡◌, ◌∙◌, sym, ap, subst, ℕ, suc, ◌+◌, ◌<◌, ◌≤◌, [], None, Bool, true, false, if◌then◌else◌, ltb, arith}
+use Rattle.std.proofs.lemmas.Bool.{lt-ltb}
 use Rattle.beeb_bits.specs.declared.Side.TheVariants.{Host}
 use Rattle.tube_party.specs.Moves.{Runs}
 use Rattle.tube_party.specs.Steps.{runs_more}
 use Rattle.para_mach.specs.State.{ParaState}
-use Rattle.para_mach.specs.Step.{para_moves, next_state, after_look, lines_in, accessed}
-use Rattle.para_mach.specs.Told.{IsDone}
+use Rattle.para_mach.specs.Step.{para_moves, looks, next_state, after_look, lines_in, accessed}
+use Rattle.para_mach.specs.Told.{IsDone, lag_by}
 
 -- a state at another tick
 abbrev pub timed : ParaState → ℕ → ℕ → ParaState
-timed s at closed = record s { at = at; closed = closed }
+timed s due lag = record s { due = due; lag = lag }
 
-accesses : (s : ParaState) → s.looks ≡ false → next_state s None ≡ accessed s None
+accesses : (s : ParaState) → looks s ≡ false → next_state s None ≡ accessed s None
 accesses s on = ap (λ (b : Bool). if b then after_look s (lines_in None) else accessed s None) on
 
--- the access with its ticks is the next step
-whole_step : (s new : ParaState) (at closed later : ℕ) → s.looks ≡ false → new ≡ timed (accessed s None) s.at s.closed → later ≡ (if new.looks then at + 1 else at + 2) →
-    timed new later (at + 1) ≡ next_state (timed s at closed) None
-whole_step s new at closed later on done ticks =
-    ap (λ (n : ℕ). timed new n (at + 1)) ticks
-    ∙ (ap (λ (x : ParaState). timed x (if x.looks then at + 1 else at + 2) (at + 1)) done ∙ sym (accesses (timed s at closed) on))
+-- the ticks of an access that was done: whether a look comes next
+abbrev pub ticked : ParaState → ℕ → Bool → ParaState
+ticked s due over = timed s (if over then due + 1 else due + 2) (if over then 0 else 1)
 
-pub more : (n k : ℕ) (start s new : ParaState) (at closed later : ℕ) → Runs para_moves Host n k start [] (timed s at closed) → at < n → s.looks ≡ false → IsDone s None new → later ≡ (if new.looks then at + 1 else at + 2) →
-    Runs para_moves Host n (suc k) start [] (timed new later (at + 1))
-more n k start s new at closed later runs low on done ticks =
-    subst (λ (x : ParaState). Runs para_moves Host n (suc k) start [] x) (sym (whole_step s new at closed later on done.1 ticks)) (runs_more para_moves Host n k start (timed s at closed) runs low done.0)
+-- the access with its ticks is the next step
+whole_step : (s new : ParaState) (due lag : ℕ) → looks s ≡ false → new ≡ timed (accessed s None) s.due s.lag
+    → ticked new due (looks new) ≡ next_state (timed s due lag) None
+whole_step s new due lag on done =
+    ap (λ (x : ParaState). ticked x due (looks x)) done ∙ sym (accesses (timed s due lag) on)
+
+pub more : (n k : ℕ) (start s new : ParaState) (due lag : ℕ) (over : Bool) → Runs para_moves Host n k start [] (timed s due lag) → due < n → looks s ≡ false → IsDone s None new → looks new ≡ over
+    → Runs para_moves Host n (suc k) start [] (ticked new due over)
+more n k start s new due lag over runs low on done is =
+    let step : ticked new due over ≡ next_state (timed s due lag) None = ap (ticked new due) (sym is) ∙ whole_step s new due lag on done.1 in
+    subst (λ (x : ParaState). Runs para_moves Host n (suc k) start [] x) (sym step) (runs_more para_moves Host n k start (timed s due lag) runs low done.0)
+
+pub lag_past : (began lag due : ℕ) → began ≤ due → lag_by began lag (due + 2) ≡ 1
+lag_past began lag due low =
+    let past : ltb began (due + 2) ≡ true = lt-ltb began (due + 2) (omega (arith, low)) in
+    ap (λ (b : Bool). if b then 1 else lag) past
+
+-- an access leaves the ticks
+pub same_due : (s new : ParaState) → IsDone s None new → new.due ≡ s.due
+same_due s new done = ap (λ (x : ParaState). x.due) done.1

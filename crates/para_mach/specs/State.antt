@@ -4,6 +4,12 @@ use Rattle.cpu_alu.specs.declared.Regs.{Regs}
 use Rattle.cpu65c02.specs.State as cpu
 use Rattle.cpu65c02.specs.Sequences as sequences
 
+-- 65,536 bytes of RAM, and 2,048 of boot ROM, which lie over F800 to FFFF for reads while rom_in is set
+pub record MemoryState : Type 0 where
+  pub ram : List ℕ
+  pub rom : List ℕ
+  pub rom_in : Bool
+
 pub record ParaState : Type 0 where
   pub cpu : cpu.State
   -- 65,536 bytes
@@ -16,11 +22,10 @@ pub record ParaState : Type 0 where
   pub nmis : ℕ
   -- it was held at its last look, since the reset line stood
   pub is_held : Bool
-  -- the tick of its next step, and whether that is a look
-  pub at : ℕ
-  pub looks : Bool
-  -- it has no devices, so that it may count as closed at any tick up to its next step
-  pub closed : ℕ
+  -- the tick of its next step
+  pub due : ℕ
+  -- it has no devices, so that it may count as closed at any tick up to there: so many ticks before
+  pub lag : ℕ
 
 -- 65,536 bytes 00
 unfoldable pub clear_ram : List ℕ
@@ -36,9 +41,8 @@ power_on rom = record {
   resets = 0;
   nmis = 0;
   is_held = false;
-  at = 0;
-  looks = false;
-  closed = 0;
+  due = 0;
+  lag = 0;
 }
 
 -- the registers that are shown: those at the start of the instruction or sequence of the next step, and while it is held those

@@ -3,7 +3,7 @@
 use Rattle.std.specs.Prelude.{ℕ, List, ◌+◌, ◌-◌, ◌%◌, ◌==◌, ◌&&◌, nat_le, Bool, true, false, not, Option, Some, None, is_none, slice_index, slice_set, if◌then◌else◌}
 use Rattle.cpu_alu.specs.declared.Cycle.{Cycle}
 use Rattle.cpu_alu.specs.declared.Cycle.TheVariants.{Read, Write}
-use Rattle.cpu65c02.specs.declared.Sequence.TheVariants.{Reset, Nmi}
+use Rattle.cpu_core.specs.declared.Sequence.TheVariants.{Reset, Nmi}
 use Rattle.cpu65c02.specs.State as cpu
 use Rattle.cpu65c02.specs.Sequences.{next, given, after, looked, fresh}
 use Rattle.tube_chip.specs.declared.Op.TheVariants as op
@@ -18,14 +18,14 @@ use Rattle.para_mach.specs.State.{ParaState}
 abbrev pub is_tube : ℕ → Bool
 is_tube at = nat_le 0xFEF8 at && nat_le at 0xFEFF
 
--- what an access asks of the Tube
+-- what a step asks of the Tube: an access where its address is the Tube's, and where the sequence is over a look
 abbrev pub asks_by : Option Cycle → Option Query
-asks_by None = None
+asks_by None = Some look
 asks_by (Some (Read at)) = if is_tube at then Some (access (op.Read (at % 8))) else None
 asks_by (Some (Write at byte)) = if is_tube at then Some (access (op.Write (at % 8) byte)) else None
 
 abbrev pub asks : ParaState → Option Query
-asks s = if s.looks then Some look else asks_by (next s.cpu)
+asks s = asks_by (next s.cpu)
 
 -- the byte of an address that is not the Tube's: the boot ROM lies over the top while it is switched in
 abbrev pub memory : List ℕ → List ℕ → Bool → ℕ → ℕ
@@ -62,9 +62,8 @@ accessed_with s c on =
       cpu = on;
       ram = ram_after s.ram c;
       rom_in = rom_in_after s.rom_in c;
-      looks = is_none (next on);
-      at = (if is_none (next on) then s.at + 1 else s.at + 2);
-      closed = s.at + 1;
+      due = (if is_none (next on) then s.due + 1 else s.due + 2);
+      lag = (if is_none (next on) then 0 else 1);
     }
 
 abbrev pub accessed : ParaState → Option Answer → ParaState
@@ -78,11 +77,11 @@ lines_in (Some (Seen l)) = l
 
 -- held: a cycle of two ticks without an access, which looks again
 abbrev pub held_on : ParaState → ParaState
-held_on s = record s { is_held = true; at = s.at + 2; closed = s.at + 1 }
+held_on s = record s { is_held = true; due = s.due + 2; lag = 1 }
 
 -- a sequence begins in the next cycle
 abbrev pub begun : ParaState → cpu.State → ParaState
-begun s c = record s { cpu = c; is_held = false; looks = false; at = s.at + 1; closed = s.at + 1 }
+begun s c = record s { cpu = c; is_held = false; due = s.due + 1; lag = 0 }
 
 -- A look: a reset or hold by the count of resets, then an NMI by its count, then an IRQ by its line, else the next instruction.
 abbrev pub after_look : ParaState → Lines → ParaState
@@ -93,15 +92,19 @@ after_look s l =
     else if not (l.nmis == s.nmis) then begun (record s { nmis = l.nmis }) (fresh Nmi (after s.cpu))
     else begun s (fresh (looked false l.pirq (after s.cpu)) (after s.cpu))
 
+-- whether the next step is a look: the sequence is over
+abbrev pub looks : ParaState → Bool
+looks s = is_none (next s.cpu)
+
 abbrev pub next_state : ParaState → Option Answer → ParaState
-next_state s answer = if s.looks then after_look s (lines_in answer) else accessed s answer
+next_state s answer = if looks s then after_look s (lines_in answer) else accessed s answer
 
 -- The steps of the second processor.
 abbrev pub para_moves : Moves ParaState
 para_moves = record {
-  due = λ s. s.at;
+  due = λ s. s.due;
   asks = asks;
   next = next_state;
-  closed = λ s. s.closed;
-  close = λ s t. record s { closed = t };
+  closed = λ s. s.due - s.lag;
+  close = λ s t. record s { lag = s.due - t };
 }

@@ -1,12 +1,11 @@
 -- What an access comes to: it is done, or the Tube is asked.
-use Rattle.std.specs.Prelude.{ℕ, List, Bool, true, false, ◌≡◌, ◌%◌, Some, None, Option, MatchOption, Result, Ok, Err}
+use Rattle.std.specs.Prelude.{ℕ, List, Bool, true, false, ◌≡◌, ◌%◌, ◌-◌, ltb, if◌then◌else◌, Some, None, Option, MatchOption, Result, Ok, Err}
 use Rattle.cpu_alu.specs.declared.Cycle.{Cycle}
-use Rattle.tube_chip.specs.Act.{access, MayDo}
+use Rattle.tube_chip.specs.Act.{access}
 use Rattle.tube_chip.specs.declared.Answer.TheVariants.{Byte}
 use Rattle.tube_chip.specs.declared.Op.{Op}
 use Rattle.tube_chip.specs.declared.Op.TheVariants as op
 use Rattle.tube_party.specs.Moves.{FitsAnswer}
-use Rattle.beeb_bits.specs.declared.Side.{Side}
 use Rattle.para_mach.specs.State.{ParaState}
 use Rattle.para_mach.specs.Step.{asks, asks_by, is_tube, memory, byte_of, ram_after, rom_in_after, accessed}
 
@@ -19,13 +18,17 @@ IsRead ram rom rom_in at (Err o) = (is_tube at ≡ true) × (o ≡ op.Read (at %
 abbrev pub IsExchanged : List ℕ → List ℕ → Bool → Cycle → Result ℕ Op → List ℕ → Type 0
 IsExchanged ram rom rom_in c (Ok byte) new =
     (asks_by (Some c) ≡ None) × (byte ≡ byte_of ram rom rom_in None (Some c)) × (new ≡ ram_after ram (Some c)) × (rom_in ≡ rom_in_after rom_in (Some c))
-IsExchanged ram rom rom_in c (Err o) new = (asks_by (Some c) ≡ Some (access o)) × ((side : Side) → MayDo side o) × (new ≡ ram)
+IsExchanged ram rom rom_in c (Err o) new = (asks_by (Some c) ≡ Some (access o)) × (new ≡ ram)
 
 -- the access of the next step is done, without its ticks, or it asks the Tube
 abbrev pub IsDone : ParaState → Option Op → ParaState → Type 0
-IsDone old None new = (asks old ≡ None) × (new ≡ record (accessed old None) { at = old.at; closed = old.closed })
-IsDone old (Some o) new = (asks old ≡ Some (access o)) × ((side : Side) → MayDo side o) × (new ≡ old)
+IsDone old None new = (asks old ≡ None) × (new ≡ record (accessed old None) { due = old.due; lag = old.lag })
+IsDone old (Some o) new = (asks old ≡ Some (access o)) × (new ≡ old)
 
 -- the next step is an access to the Tube
 abbrev pub IsAskedByte : ParaState → Type 0
 IsAskedByte s = MatchOption (asks s) ⊥ (λ q. FitsAnswer q (Byte 0))
+
+-- how many ticks before its next step, an access at the tick due, the machine is closed, if it set out at the tick began with this lag
+abbrev pub lag_by : ℕ → ℕ → ℕ → ℕ
+lag_by began lag due = if ltb began due then 1 else lag

@@ -2,8 +2,9 @@
 #![tactic(auto)]
 
 mod machine;
+mod memory;
 
-pub use machine::{ParaError, ParaMachine, crosses};
+pub use machine::{Crosses, ParaError, ParaMachine};
 
 #[cfg(test)]
 mod tests;

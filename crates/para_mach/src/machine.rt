@@ -1,30 +1,22 @@
 //! The machine.
 ghost use Rattle.std.specs.Prelude.{◌≡◌, ◌≤◌, if◌then◌else◌, ◌≢◌, ◌↔◌, ◌⊎◌, ◌<◌, ◌%◌, ◌^◌, IfOk, IfErr, IsErrOf, length, Err, Some, None, MatchOption, IsSome, IsNone, false, true, max, slice_index};
 ghost use Rattle.tube_chip.specs.declared.Answer.TheVariants.{Byte, Seen};
-ghost use Rattle.beeb_bits.specs.declared.Side.{Side};
 ghost use Rattle.tube_party.specs.Moves.{IsAsk};
-ghost use Rattle.para_mach.specs.State.{clear_ram, power_on, shown_regs};
-ghost use Rattle.para_mach.specs.Step.{para_moves, is_tube, memory, asks, next_state, after_look};
-ghost use Rattle.para_mach.specs.Lawful.{para_lawful};
-ghost use Rattle.para_mach.specs.Told.{IsRead, IsExchanged, IsDone, IsAskedByte};
+ghost use Rattle.para_mach.specs.State.{power_on, shown_regs};
+ghost use Rattle.cpu65c02.specs.Sequences.{starting};
+ghost use Rattle.para_mach.specs.Step.{para_moves, looks, next_state};
+ghost use Rattle.para_mach.specs.Lawful.{para_lawful, para_permitted};
+ghost use Rattle.para_mach.specs.Told.{IsDone, IsAskedByte, lag_by};
 
+use crate::memory::{Memory, ROM_SIZE};
 use beeb_bits::Tick;
-use cpu_alu::{Cycle, Regs};
+use cpu_alu::Regs;
 use cpu65c02::Cpu;
-use std::alloc::{AllocError, Global};
+use std::alloc::Global;
 use std::marker::Model;
 use thiserror::Error;
 use tube_chip::{Answer, Lines, Op};
 use tube_party::{Ask, Party};
-
-/// How many bytes the RAM has.
-const RAM_SIZE: usize = 65_536;
-
-/// How many bytes the boot ROM has.
-const ROM_SIZE: usize = 2_048;
-
-/// Where the boot ROM begins.
-const ROM_START: u16 = 0xf800;
 
 /// Why no second processor can be made.
 #[derive(Clone, Copy, Debug, PartialEq, Eq, Error)]
@@ -41,19 +33,18 @@ pub enum ParaError {
 #[derive(Drop)]
 pub struct ParaMachine {
     cpu: Cpu,
-    ram: Vec<u8>,
-    rom: Vec<u8>,
-    rom_in: bool,
+    memory: Memory,
     // The Tube's counts as far as they were taken.
     resets: u32,
     nmis: u32,
     is_held: bool,
-    at: u64,
-    closed: u64,
+    // The tick of the next step, and how many ticks before it the machine is closed.
+    due: u64,
+    lag: u64,
 }
 
 impl Model for ParaMachine {
-    ghost use Rattle.std.specs.Prelude.{◌≡◌, ◌≤◌, if◌then◌else◌, length, is_none, true};
+    ghost use Rattle.std.specs.Prelude.{◌≡◌, if◌then◌else◌, length, is_none, true};
     ghost use Rattle.cpu65c02.specs.Sequences.{next};
     ghost use Rattle.para_mach.specs.State.{ParaState};
 
@@ -61,113 +52,23 @@ impl Model for ParaMachine {
 
     ghost view = { λ m. record {
       cpu = m.cpu;
-      ram = m.ram.items;
-      rom = m.rom.items;
-      rom_in = m.rom_in;
+      ram = m.memory.ram;
+      rom = m.memory.rom;
+      rom_in = m.memory.rom_in;
       resets = m.resets;
       nmis = m.nmis;
       is_held = m.is_held;
-      at = m.at;
-      looks = is_none (next m.cpu);
-      closed = m.closed;
+      due = m.due;
+      lag = m.lag;
     } };
 
-    ghost invariant = { λ m. (length m.ram.items ≡ 65536) × (length m.rom.items ≡ 2048) × (m.is_held ≡ true → is_none (next m.cpu) ≡ true) };
+    ghost invariant = { λ m. m.is_held ≡ true → is_none (next m.cpu) ≡ true };
 }
 
-// The RAM at power-on. The size is an argument so that no proof writes the list out.
-#[tactic(none)]
-fn clear_ram(alloc: Global, size: usize) -> Result<Vec<u8>, AllocError>
-    requires { size ≡ RAM_SIZE }
-    ensures items { IfOk result (λ v. v.items ≡ clear_ram) }
-    ensures length { IfOk result (λ v. length v.items ≡ RAM_SIZE) }
-{
-    vec![in alloc; 0; size]
-}
+/// What can be sent to a thread of its own.
+pub trait Crosses: Send {}
 
-/// FEF8 to FEFF.
-#[inline(always)]
-fn is_tube(at: u16) -> bool
-    ensures { result ≡ is_tube at }
-{
-    0xfef8 <= at && at <= 0xfeff
-}
-
-/// The Tube's number of an address, by its low three bits.
-#[inline(always)]
-fn tube_number(at: u16) -> u8
-    ensures value { result ≡ at % 8 }
-    ensures bound { result < 8 }
-{
-    (at % 8) as u8
-}
-
-/// The byte of the RAM under the ROM. It stands alone so that the reads of the ROM need not wait for the choice.
-#[inline(never)]
-fn under_rom(ram: &[u8], at: u16) -> u8
-    requires { length ram.now ≡ RAM_SIZE }
-    ensures { result ≡ slice_index ram.now at }
-{
-    ram[at as usize]
-}
-
-/// The byte of an address from F800 on that is not the Tube's.
-#[inline(always)]
-fn load_high(ram: &[u8], rom: &[u8], rom_in: bool, at: u16) -> u8
-    requires ram { length ram.now ≡ RAM_SIZE }
-    requires rom { length rom.now ≡ ROM_SIZE }
-    requires high { ROM_START ≤ at }
-    ensures { result ≡ memory ram.now rom.now rom_in at }
-{
-    if rom_in {
-        rom[(at - ROM_START) as usize]
-    } else {
-        under_rom(ram, at)
-    }
-}
-
-/// What a read gives, or what it asks of the Tube. Most reads are below F800, where nothing but RAM can be.
-#[inline(always)]
-fn load(ram: &[u8], rom: &[u8], rom_in: bool, at: u16) -> Result<u8, Op>
-    requires ram { length ram.now ≡ RAM_SIZE }
-    requires rom { length rom.now ≡ ROM_SIZE }
-    ensures { IsRead ram.now rom.now rom_in at result }
-{
-    if at < ROM_START {
-        Ok(ram[at as usize])
-    } else if is_tube(at) {
-        Err(Op::Read(tube_number(at)))
-    } else {
-        Ok(load_high(ram, rom, rom_in, at))
-    }
-}
-
-/// Does an access, or tells what it asks of the Tube. The byte of a write is 0.
-#[inline(always)]
-fn exchange(ram: &mut [u8], rom: &[u8], rom_in: bool, cycle: Cycle) -> Result<u8, Op>
-    requires ram { length ram.old ≡ RAM_SIZE }
-    requires rom { length rom.now ≡ ROM_SIZE }
-    ensures done { IsExchanged ram.old rom.now rom_in cycle result ram.new }
-    ensures length { length ram.new ≡ RAM_SIZE }
-{
-    match cycle {
-        Cycle::Read(at) => load(ram, rom, rom_in, at),
-        Cycle::Write(at, byte) => {
-            if is_tube(at) {
-                return Err(Op::Write(tube_number(at), byte));
-            }
-            ram[at as usize] = byte;
-            Ok(0)
-        }
-    }
-}
-
-fn is_sent<T: Send>() {}
-
-/// The machine can be sent to a thread of its own.
-pub fn crosses() {
-    is_sent::<ParaMachine>();
-}
+impl Crosses for ParaMachine {}
 
 impl ParaMachine {
     /// The machine at power-on, before the first cycle of a reset sequence.
@@ -185,19 +86,17 @@ impl ParaMachine {
                 len: rom.len() as u64,
             });
         }
-        let Ok(ram) = clear_ram(alloc, RAM_SIZE) else {
+        let Ok(memory) = Memory::new(alloc, rom) else {
             return Err(ParaError::NoMemory);
         };
         Ok(ParaMachine {
             cpu: Cpu::new(),
-            ram,
-            rom,
-            rom_in: true,
+            memory,
             resets: 0,
             nmis: 0,
             is_held: false,
-            at: 0,
-            closed: 0,
+            due: 0,
+            lag: 0,
         })
     }
 
@@ -224,16 +123,24 @@ impl ParaMachine {
     pub fn ram(&self) -> &[u8]
         ensures { result.now ≡ self.now.ram }
     {
-        &self.ram
+        self.memory.ram()
+    }
+
+    /// Whether the next step is the first cycle of an instruction: not of a reset or an interrupt, nor one in which it is held.
+    #[inline]
+    pub fn starting(&self) -> bool
+        ensures { result ≡ starting self.now.cpu }
+    {
+        self.cpu.starting()
     }
 
     // The next access, without its ticks, if it asks nothing; else what it asks.
     #[inline(always)]
     fn access(&mut self) -> Option<Op>
-        requires { self.old.looks ≡ false }
+        requires { looks self.old ≡ false }
         ensures { IsDone self.old result self.new }
     {
-        match exchange(&mut self.ram, &self.rom, self.rom_in, self.cpu.want()) {
+        match self.memory.exchange(self.cpu.want()) {
             Ok(byte) => {
                 self.cpu.give(byte);
                 None
@@ -245,55 +152,69 @@ impl ParaMachine {
     // The look of the next step, or none where its tick is not below `until`.
     #[inline(always)]
     fn look(&mut self, until: Tick) -> Ask
-        requires { self.old.looks ≡ true }
-        ensures { (side : Side) → IsAsk para_moves side until.0 self.old result self.new }
+        requires { looks self.old ≡ true }
+        ensures { IsAsk para_moves until.0 self.old result self.new }
     {
-        if self.at < until.0 {
-            return Ask::Look(Tick(self.at));
+        if self.due < until.0 {
+            return Ask::Look(Tick(self.due));
         }
-        self.closed = self.closed.max(until.0);
+        self.lag = self.lag.min(self.due - until.0);
         Ask::Nothing
     }
 
-    // The tick of the next step, and how far it is closed.
+    // The next step is an access at this tick: the one before it closed the machine at the tick before.
     #[inline(always)]
-    fn stop(&mut self, at: u64, closed: u64)
-        ensures { self.new ≡ record self.old { at = at; closed = closed } }
+    fn stop(&mut self, due: u64)
+        ensures { self.new ≡ record self.old { due = due; lag = lag_by self.old.due self.old.lag due } }
     {
-        self.at = at;
-        self.closed = closed;
+        if self.due < due {
+            self.lag = 1;
+        }
+        self.due = due;
     }
-}
 
-impl ParaMachine {
+    // The next step is a look at this tick, at which the last access closed the machine.
+    #[inline(always)]
+    fn end(&mut self, due: u64)
+        ensures { self.new ≡ record self.old { due = due; lag = 0 } }
+    {
+        self.due = due;
+        self.lag = 0;
+    }
+
     // The Tube's answer to an access.
     #[inline(never)]
     fn take_byte(&mut self, byte: u8)
-        requires room { self.old.at < 2 ^ 40 }
+        requires room { self.old.due < 2 ^ 40 }
         requires asked { IsAskedByte self.old }
         ensures { self.new ≡ next_state self.old (Some (Byte byte)) }
     {
-        self.rom_in = false;
+        self.memory.switch_out();
         self.cpu.give(byte);
-        self.closed = self.at + 1;
-        self.at += if self.cpu.last() { 1 } else { 2 };
+        if self.cpu.last() {
+            self.due += 1;
+            self.lag = 0;
+        } else {
+            self.due += 2;
+            self.lag = 1;
+        }
     }
 
     // The Tube's lines at a look.
     #[inline(always)]
     fn take_lines(&mut self, lines: Lines)
-        requires room { self.old.at < 2 ^ 40 }
-        requires looks { self.old.looks ≡ true }
+        requires room { self.old.due < 2 ^ 40 }
+        requires looks { looks self.old ≡ true }
         ensures { self.new ≡ next_state self.old (Some (Seen lines)) }
     {
         if lines.resets != self.resets {
             if lines.prst {
                 self.is_held = true;
-                self.closed = self.at + 1;
-                self.at += 2;
+                self.due += 2;
+                self.lag = 1;
                 return;
             }
-            self.rom_in = true;
+            self.memory.switch_in();
             self.resets = lines.resets;
             self.nmis = lines.nmis;
             self.cpu.begin_reset();
@@ -304,12 +225,13 @@ impl ParaMachine {
             self.cpu.take_lines(false, lines.pirq);
         }
         self.is_held = false;
-        self.closed = self.at + 1;
-        self.at += 1;
+        self.due += 1;
+        self.lag = 0;
     }
 }
 
 impl Party for ParaMachine {
+    ghost use Rattle.std.specs.Prelude.{true};
     ghost use Rattle.para_mach.specs.State.{ParaState};
 
     ghost State = { ParaState };
@@ -318,34 +240,37 @@ impl Party for ParaMachine {
 
     ghost moves = { para_moves };
 
+    ghost plays = { λ side. true };
+
     ghost lawful = { para_lawful };
+
+    ghost permitted = { para_permitted };
 
     #[inline]
     fn due(&self) -> Tick {
-        Tick(self.at)
+        Tick(self.due)
     }
 
-    // The tick is kept beside the machine, and written back where the run stops.
+    // The tick is kept beside the machine, and written back where the run stops. How far the machine is closed follows from it.
     #[inline(always)]
     fn advance(&mut self, until: Tick) -> Ask {
         if self.cpu.last() {
             return self.look(until);
         }
-        let mut at = self.at;
-        let mut closed = self.closed;
-        while at < until.0 {
+        let mut due = self.due;
+        while due < until.0 {
             if let Some(op) = self.access() {
-                self.stop(at, closed);
-                return Ask::Access(Tick(at), op);
+                self.stop(due);
+                return Ask::Access(Tick(due), op);
             }
-            closed = at + 1;
             if self.cpu.last() {
-                self.stop(closed, closed);
+                self.end(due + 1);
                 return self.look(until);
             }
-            at += 2;
+            due += 2;
         }
-        self.stop(at, closed.max(until.0));
+        self.stop(due);
+        self.lag = self.lag.min(self.due - until.0);
         Ask::Nothing
     }
 

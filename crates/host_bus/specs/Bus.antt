@@ -1,0 +1,58 @@
+-- The bus of the host: the board, and the plugged devices on FRED and JIM.
+use Rattle.std.specs.Prelude.{ℕ, Bool, true, false, List, if◌then◌else◌}
+use Rattle.bus_plug.specs.Plug.{Plug}
+use Rattle.rom_set.specs.Roms.{Roms}
+use Rattle.host_bus.specs.declared.map.Place.{Place}
+use Rattle.host_bus.specs.declared.map.Place.TheVariants.{Plugs}
+use Rattle.host_bus.specs.Map.{place_of}
+use Rattle.host_bus.specs.Board.{BoardState, board_closed, answer_at, read_at, written_at, board_irq, board_nmis, first_board}
+use Rattle.host_bus.specs.Plugs.{plugs_answer, plugs_after_read, plugs_after_write}
+
+pub record BusState : Type 0 where
+  pub board : BoardState
+  pub plugs : List Plug
+
+-- all device steps below tick t are done, and those that were done already
+abbrev pub bus_closed : BusState → ℕ → BusState
+bus_closed b t = record b { board = board_closed b.board t }
+
+-- the tick below which all are done
+abbrev pub closed_at : BusState → ℕ
+closed_at b = b.board.closed
+
+abbrev pub is_plugs : Place → Bool
+is_plugs Plugs = true
+is_plugs _ = false
+
+-- an access of the plugged devices is one call of the first that owns the address, and every other access is the board's
+abbrev pub answer_of : Place → BusState → ℕ → ℕ → ℕ
+answer_of place b t at = if is_plugs place then plugs_answer b.plugs at else answer_at place b.board t at
+
+abbrev pub after_read_of : Place → BusState → ℕ → BusState
+after_read_of place b at =
+    if is_plugs place then record b { plugs = plugs_after_read b.plugs at } else record b { board = read_at place at b.board }
+
+abbrev pub after_write_of : Place → BusState → ℕ → ℕ → BusState
+after_write_of place b at v =
+    if is_plugs place then record b { plugs = plugs_after_write b.plugs at v } else record b { board = written_at place at v b.board }
+
+-- what a read at tick t answers, and the bus after an access
+abbrev pub bus_answer : BusState → ℕ → ℕ → ℕ
+bus_answer b t at = answer_of (place_of at) b t at
+
+abbrev pub bus_after_read : BusState → ℕ → BusState
+bus_after_read b at = after_read_of (place_of at) b at
+
+abbrev pub bus_after_write : BusState → ℕ → ℕ → BusState
+bus_after_write b at v = after_write_of (place_of at) b at v
+
+-- the lines to the processor: whether a device asks for an interrupt, and how often the NMI line has risen
+abbrev pub bus_irq : BusState → Bool
+bus_irq b = board_irq b.board
+
+abbrev pub bus_nmis : BusState → ℕ
+bus_nmis b = board_nmis b.board
+
+-- the bus at power-on, with these images and these plugged devices
+abbrev pub bus_power_on : Roms → List Plug → BusState
+bus_power_on roms plugs = record { board = first_board roms; plugs = plugs }

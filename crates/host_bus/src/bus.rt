@@ -1,0 +1,167 @@
+//! The bus.
+ghost use Rattle.std.specs.Prelude.{◌≡◌, ◌≤◌, ◌<◌, ◌+◌, ◌^◌, ◌⊎◌, ℕ, IfOk, map};
+ghost use Rattle.host_bus.specs.Map.{stretch};
+ghost use Rattle.host_bus.specs.Bus.{bus_closed, closed_at, bus_answer, bus_after_read, bus_after_write, bus_irq, bus_nmis, bus_power_on};
+ghost use Rattle.host_bus.specs.View.{bus_seen};
+
+use crate::board::Board;
+use crate::plugged::{read_first, write_first};
+use beeb_bits::{NoMemory, Tick};
+use bus_plug::BusDevice;
+use rom_set::RomSet;
+use std::alloc::Global;
+
+/// The host's bus: the board, and the plugged devices on FRED and JIM.
+#[derive(Drop)]
+pub struct Bus<D = Box<dyn BusDevice + Send>> {
+    board: Board,
+    plugs: Vec<D>,
+}
+
+impl<D: BusDevice> Bus<D> {
+    /// The bus at power-on. Where memory is wanting, all is dropped.
+    pub fn make(alloc: Global, roms: RomSet, plugs: Vec<D>) -> Result<Bus<D>, NoMemory>
+        ensures { IfOk result (λ b. bus_seen D.plug b ≡ bus_power_on roms (map D.plug plugs.items)) }
+    {
+        let board = Board::make(alloc, roms)?;
+        Ok(Bus { board, plugs })
+    }
+
+    /// All ticks below this one are done.
+    #[inline(always)]
+    pub fn closed(&self) -> u64
+        ensures { result ≡ closed_at (bus_seen D.plug self.now) }
+    {
+        self.board.closed()
+    }
+
+    /// Does all device steps below `t`.
+    #[inline(always)]
+    pub fn close(&mut self, t: u64)
+        requires { closed_at (bus_seen D.plug self.old) ≤ t }
+        ensures { bus_seen D.plug self.new ≡ bus_closed (bus_seen D.plug self.old) t }
+    {
+        self.board.close(t);
+    }
+
+    /// The byte of the RAM or of a ROM, which no device step changes.
+    #[inline(always)]
+    pub fn memory(&self, at: u16) -> u8
+        requires { (at < 0xfc00) ⊎ (0xff00 ≤ at) }
+        ensures answer { (t : ℕ) → result ≡ bus_answer (bus_seen D.plug self.now) t at }
+        ensures still { bus_after_read (bus_seen D.plug self.now) at ≡ bus_seen D.plug self.now }
+        ensures fast { (cycle : ℕ) → stretch at cycle ≡ 1 }
+    {
+        self.board.memory(at)
+    }
+
+    /// A write to the RAM.
+    #[inline(always)]
+    pub fn store(&mut self, at: u16, v: u8)
+        requires { at < 0x8000 }
+        ensures after { bus_seen D.plug self.new ≡ bus_after_write (bus_seen D.plug self.old) at v }
+        ensures fast { (cycle : ℕ) → stretch at cycle ≡ 1 }
+    {
+        self.board.store(at, v);
+    }
+
+    // A read at the last tick that is done.
+    fn read_now(&mut self, at: u16) -> u8
+        ensures answer { (t : ℕ) → closed_at (bus_seen D.plug self.old) ≡ t + 1 → result ≡ bus_answer (bus_seen D.plug self.old) t at }
+        ensures after { bus_seen D.plug self.new ≡ bus_after_read (bus_seen D.plug self.old) at }
+        ensures closed { closed_at (bus_seen D.plug self.new) ≡ closed_at (bus_seen D.plug self.old) }
+    {
+        if at < 0xfc00 || at >= 0xff00 {
+            self.memory(at)
+        } else if at <= 0xfdff {
+            read_first(&mut self.plugs, at)
+        } else {
+            self.board.read(at)
+        }
+    }
+
+    // A write at the last tick that is done.
+    fn write_now(&mut self, at: u16, v: u8)
+        ensures after { bus_seen D.plug self.new ≡ bus_after_write (bus_seen D.plug self.old) at v }
+        ensures closed { closed_at (bus_seen D.plug self.new) ≡ closed_at (bus_seen D.plug self.old) }
+    {
+        if at < 0x8000 {
+            self.store(at, v);
+        } else if 0xfc00 <= at && at <= 0xfdff {
+            write_first(&mut self.plugs, at, v);
+        } else if 0xfe00 <= at && at <= 0xfeff {
+            self.board.write(at, v);
+        }
+    }
+
+    /// A read of any address at tick `t`: first the devices are closed at `t` + 1.
+    pub fn read(&mut self, t: Tick, at: u16) -> u8
+        requires later { closed_at (bus_seen D.plug self.old) ≤ t.0 + 1 }
+        requires room { t.0 < 2 ^ 40 }
+        ensures answer { result ≡ bus_answer (bus_closed (bus_seen D.plug self.old) (t.0 + 1)) t.0 at }
+        ensures after { bus_seen D.plug self.new ≡ bus_after_read (bus_closed (bus_seen D.plug self.old) (t.0 + 1)) at }
+        ensures closed { closed_at (bus_seen D.plug self.new) ≡ t.0 + 1 }
+    {
+        self.close(t.0 + 1);
+        self.read_now(at)
+    }
+
+    /// A write to any address at tick `t`: first the devices are closed at `t` + 1.
+    pub fn write(&mut self, t: Tick, at: u16, v: u8)
+        requires later { closed_at (bus_seen D.plug self.old) ≤ t.0 + 1 }
+        requires room { t.0 < 2 ^ 40 }
+        ensures after { bus_seen D.plug self.new ≡ bus_after_write (bus_closed (bus_seen D.plug self.old) (t.0 + 1)) at v }
+        ensures closed { closed_at (bus_seen D.plug self.new) ≡ t.0 + 1 }
+    {
+        self.close(t.0 + 1);
+        self.write_now(at, v);
+    }
+
+    /// Whether a device asks for an interrupt at tick `t`: first the devices are closed at `t` + 1.
+    #[inline(always)]
+    pub fn irq(&mut self, t: Tick) -> bool
+        requires later { closed_at (bus_seen D.plug self.old) ≤ t.0 + 1 }
+        requires room { t.0 < 2 ^ 40 }
+        ensures answer { result ≡ bus_irq (bus_closed (bus_seen D.plug self.old) (t.0 + 1)) }
+        ensures after { bus_seen D.plug self.new ≡ bus_closed (bus_seen D.plug self.old) (t.0 + 1) }
+    {
+        self.close(t.0 + 1);
+        self.board.irq()
+    }
+
+    /// How often the NMI line has risen by tick `t`: first the devices are closed at `t` + 1.
+    #[inline(always)]
+    pub fn nmis(&mut self, t: Tick) -> u64
+        requires later { closed_at (bus_seen D.plug self.old) ≤ t.0 + 1 }
+        requires room { t.0 < 2 ^ 40 }
+        ensures answer { result ≡ bus_nmis (bus_closed (bus_seen D.plug self.old) (t.0 + 1)) }
+        ensures after { bus_seen D.plug self.new ≡ bus_closed (bus_seen D.plug self.old) (t.0 + 1) }
+    {
+        self.close(t.0 + 1);
+        self.board.nmis()
+    }
+
+    /// Closes the bus at `n`, or leaves it closed as far as it is.
+    pub fn finish(&mut self, n: Tick)
+        requires { n.0 < 2 ^ 40 }
+        ensures { bus_seen D.plug self.new ≡ bus_closed (bus_seen D.plug self.old) n.0 }
+    {
+        if self.closed() < n.0 {
+            self.close(n.0);
+        }
+    }
+
+    /// The RAM.
+    pub fn ram(&self) -> &[u8]
+        ensures { result.now ≡ (bus_seen D.plug self.now).board.ram }
+    {
+        self.board.ram()
+    }
+
+    /// The plugged devices.
+    pub fn plugs(&self) -> &[D]
+        ensures { map D.plug result.now ≡ (bus_seen D.plug self.now).plugs }
+    {
+        &self.plugs
+    }
+}

@@ -1,0 +1,110 @@
+//! The memory map.
+ghost use Rattle.std.specs.Prelude.{◌≡◌, ◌≤◌};
+ghost use Rattle.host_bus.specs.Map.{place_of, stretch, memory_map, stretched_in, IsInSheila};
+
+/// What answers at an address. (Acorn, BBC Microcomputer Advanced User Guide, memory map and Sheila.)
+#[derive(Clone, Copy, Debug, PartialEq, Eq)]
+pub enum Place {
+    /// 32 KB of RAM.
+    Ram,
+    /// The ROM of the slot in the latch.
+    PagedRom,
+    /// The operating system's ROM.
+    OsRom,
+    /// FRED and JIM: the plugged devices.
+    Plugs,
+    /// The 6845.
+    Crtc,
+    /// A stub of the serial interface.
+    Acia,
+    /// A stub of the serial ULA.
+    SerialUla,
+    /// The video ULA.
+    VideoUla,
+    /// The latch of the paged ROM.
+    RomLatch,
+    /// The system's 6522.
+    SystemVia,
+    /// The user's 6522.
+    UserVia,
+    /// The latch of the disc drives.
+    DiscLatch,
+    /// The WD1770.
+    DiscController,
+    /// Nothing, Econet included.
+    Absent,
+    /// A stub of the analogue converter.
+    Adc,
+    /// The Tube.
+    Tube,
+}
+
+// What answers from FE00 to FE7F.
+fn place_in_lower_half(at: u16) -> Place
+    requires low { 0xfe00 ≤ at }
+    requires high { at ≤ 0xfe7f }
+    ensures place { result ≡ place_of at }
+    ensures device { IsInSheila result }
+{
+    if at <= 0xfe07 {
+        Place::Crtc
+    } else if at <= 0xfe0f {
+        Place::Acia
+    } else if at <= 0xfe1f {
+        Place::SerialUla
+    } else if at <= 0xfe2f {
+        Place::VideoUla
+    } else if at <= 0xfe3f {
+        Place::RomLatch
+    } else if at <= 0xfe5f {
+        Place::SystemVia
+    } else {
+        Place::UserVia
+    }
+}
+
+/// What answers in SHEILA, from FE00 to FEFF.
+pub(crate) fn place_in_sheila(at: u16) -> Place
+    requires low { 0xfe00 ≤ at }
+    requires high { at ≤ 0xfeff }
+    ensures place { result ≡ place_of at }
+    ensures device { IsInSheila result }
+{
+    if at <= 0xfe7f {
+        place_in_lower_half(at)
+    } else if at <= 0xfe83 {
+        Place::DiscLatch
+    } else if at <= 0xfe87 {
+        Place::DiscController
+    } else if at <= 0xfebf {
+        Place::Absent
+    } else if at <= 0xfedf {
+        Place::Adc
+    } else {
+        Place::Tube
+    }
+}
+
+/// Whether an access waits for the 1 MHz clock.
+fn is_stretched(at: u16) -> bool
+    ensures { result ≡ stretched_in memory_map at }
+{
+    (0xfc00 <= at && at <= 0xfe1f)
+        || (0xfe40 <= at && at <= 0xfe7f)
+        || (0xfec0 <= at && at <= 0xfedf)
+}
+
+/// How many cycles of 2 MHz an access takes that begins at this cycle, by the number of the cycle from power-on.
+pub fn stretch(at: u16, cycle: u64) -> u8
+    ensures value { result ≡ stretch at cycle }
+    ensures some { 1 ≤ result }
+    ensures bound { result ≤ 3 }
+{
+    if !is_stretched(at) {
+        1
+    } else if cycle % 2 == 0 {
+        2
+    } else {
+        3
+    }
+}

@@ -1,0 +1,64 @@
+-- The host is a party that plays the host's side.
+use Rattle.std.specs.Prelude.{ℕ, ◌≡◌, ◌≤◌, ◌<◌, ◌+◌, ◌-◌, ◌*◌, ◌/◌, ◌%◌, ◌==◌, Bool, true, false, is_none, Option, None, Some, refl, if◌then◌else◌}
+use Rattle.std.proofs.Common.{arith, ap}
+use Rattle.beeb_bits.specs.declared.Side.{Side}
+use Rattle.beeb_bits.specs.declared.Side.TheVariants.{Host}
+use Rattle.cpu_alu.specs.declared.Cycle.{Cycle}
+use Rattle.cpu_alu.specs.declared.Cycle.TheVariants.{Read, Write}
+use Rattle.cpu6502.specs.Sequences.{next, given}
+use Rattle.tube_chip.specs.declared.Op.{Op}
+use Rattle.tube_chip.specs.declared.Op.TheVariants as op
+use Rattle.tube_chip.specs.declared.Answer.{Answer}
+use Rattle.tube_chip.specs.Act.{access, MayDo}
+use Rattle.tube_chip.specs.Events.{is_side}
+use Rattle.tube_party.specs.Moves.{IsLawful, IsPermitted, MayAsk}
+use Rattle.host_bus.specs.Map.{stretch, stretched_in, memory_map}
+use Rattle.host_bus.specs.Bus.{BusState}
+use Rattle.host_bus.specs.Closing.{closed-again}
+use Rattle.host_mach.specs.State.{HostState}
+use Rattle.host_mach.specs.Step.{host_moves, host_closed, stepped, byte_of, address, is_tube, asks_by}
+
+-- a cycle takes at least one third of three ticks
+some-cycle : (slow even : Bool) → 1 ≤ (if slow then (if even then 2 else 3) else 1)
+some-cycle true true = omega arith
+some-cycle true false = omega arith
+some-cycle false even = omega arith
+
+later : (over : Bool) (t k : ℕ) → 1 ≤ k → t < (if over then t + (3 * k - 1) else t + 3 * k)
+later true t k some = omega (arith, some)
+later false t k some = omega (arith, some)
+
+rises : (c : Option Cycle) (s : HostState) (a : Option Answer) → s.due < (stepped c s a).due
+rises None s a = omega arith
+rises (Some c) s a =
+    later (is_none (next (given s.cpu (byte_of s.bus s.due a c)))) s.due (stretch (address c) (s.due / 3)) (some-cycle (stretched_in memory_map (address c)) (s.due / 3 % 2 == 0))
+
+-- closing a host so far and then further is closing it further at once
+pub host-again : (s : HostState) (t u : ℕ) → t ≤ u → host_closed (host_closed s t) u ≡ host_closed s u
+host-again s t u high = ap (λ (b : BusState). record s { bus = b }) (closed-again s.bus t u high)
+
+pub host_lawful : IsLawful host_moves
+host_lawful = record {
+  rises = λ s a. rises (next s.cpu) (host_closed s (s.due + 1)) a;
+  within = λ s. omega arith;
+  closing = λ s t low high. record {
+    closed = omega (arith, low, high);
+    due = refl;
+    asks = refl;
+    next = λ a. ap (λ (x : HostState). stepped (next s.cpu) x a) (host-again s t (s.due + 1) (omega (arith, high)));
+    again = λ u low2 high2. host-again s t u low2;
+  };
+}
+
+-- a number below 8, where it asks
+may-ask : (b : Bool) (side : Side) (o : Op) → MayDo side o → MayAsk side (if b then Some (access o) else None)
+may-ask true side o may = may
+may-ask false side o may = tt
+
+permitted : (side : Side) (c : Option Cycle) → MayAsk side (asks_by c)
+permitted side None = tt
+permitted side (Some (Read at)) = may-ask (is_tube at) side (op.Read (at % 8)) (omega arith)
+permitted side (Some (Write at byte)) = may-ask (is_tube at) side (op.Write (at % 8) byte) (omega arith)
+
+pub host_permitted : IsPermitted host_moves (is_side Host)
+host_permitted s side plays = permitted side (next s.cpu)

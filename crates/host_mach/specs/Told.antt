@@ -1,0 +1,45 @@
+-- What an access comes to: it is done, or the Tube is asked.
+use Rattle.std.specs.Prelude.{ℕ, ◌≡◌, ◌+◌, Bool, true, false, is_none, if◌then◌else◌, Option, Some, None, MatchOption, Result, Ok, Err}
+use Rattle.cpu_alu.specs.declared.Cycle.{Cycle}
+use Rattle.cpu6502.specs.Sequences.{next}
+use Rattle.tube_chip.specs.Act.{access}
+use Rattle.tube_chip.specs.declared.Answer.TheVariants.{Byte}
+use Rattle.tube_chip.specs.declared.Op.{Op}
+use Rattle.tube_party.specs.Moves.{FitsAnswer}
+use Rattle.host_bus.specs.Bus.{BusState, bus_closed}
+use Rattle.host_mach.specs.declared.exchange.Done.{Done}
+use Rattle.host_mach.specs.State.{HostState}
+use Rattle.host_mach.specs.Step.{asks, asks_by, byte_of, bus_after, cycle_ticks, next_state}
+
+-- an access at tick t is done, with the devices closed before it, or it asks the Tube
+abbrev pub IsExchanged : BusState → ℕ → Cycle → Result Done Op → BusState → Type 0
+IsExchanged b t c (Ok done) new =
+    (asks_by (Some c) ≡ None)
+    × (done.byte ≡ byte_of (bus_closed b (t + 1)) t None c)
+    × (new ≡ bus_after (bus_closed b (t + 1)) c)
+    × (done.ticks ≡ cycle_ticks t c)
+IsExchanged b t c (Err o) new = (asks_by (Some c) ≡ Some (access o)) × (new ≡ b)
+
+-- an access of the memory at tick t is done in three ticks, or nothing has changed
+abbrev pub IsMemory : BusState → ℕ → Cycle → Option ℕ → BusState → Type 0
+IsMemory b t c None new = new ≡ b
+IsMemory b t c (Some byte) new =
+    (asks_by (Some c) ≡ None)
+    × (byte ≡ byte_of (bus_closed b (t + 1)) t None c)
+    × (new ≡ bus_after (bus_closed b (t + 1)) c)
+    × (cycle_ticks t c ≡ 3)
+
+-- the next step is done but for its ticks, or nothing has changed
+abbrev pub IsQuick : HostState → Bool → HostState → Type 0
+IsQuick old false new = new ≡ old
+IsQuick old true new =
+    (asks old ≡ None) × (record new { due = (if is_none (next new.cpu) then old.due + 2 else old.due + 3) } ≡ next_state old None)
+
+-- the next step is done, or it asks the Tube
+abbrev pub IsDone : HostState → Option Op → HostState → Type 0
+IsDone old None new = (asks old ≡ None) × (new ≡ next_state old None)
+IsDone old (Some o) new = (asks old ≡ Some (access o)) × (new ≡ old)
+
+-- the next step is an access to the Tube
+abbrev pub IsAskedByte : HostState → Type 0
+IsAskedByte s = MatchOption (asks s) ⊥ (λ q. FitsAnswer q (Byte 0))

@@ -1,0 +1,10 @@
+//! The BBC Micro as a party at the Tube.
+#![tactic(auto)]
+
+mod exchange;
+mod machine;
+
+pub use machine::{Crosses, HostMachine};
+
+#[cfg(test)]
+mod tests;

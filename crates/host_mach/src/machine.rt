@@ -1,0 +1,228 @@
+//! The machine.
+ghost use Rattle.std.specs.Prelude.{◌≡◌, ◌≤◌, ◌<◌, ◌+◌, ◌^◌, IfOk, IsSome, None, Some, false, map};
+ghost use Rattle.tube_chip.specs.declared.Answer.TheVariants.{Byte, Seen};
+ghost use Rattle.tube_party.specs.Moves.{IsAsk, shut};
+ghost use Rattle.cpu6502.specs.Sequences.{next, halted};
+ghost use Rattle.host_mach.specs.State.{power_on};
+ghost use Rattle.host_mach.specs.Step.{host_moves, next_state};
+
+use crate::exchange::{exchange, exchange_memory};
+use beeb_bits::{NoMemory, Tick};
+use bus_plug::BusDevice;
+use cpu_alu::Regs;
+use cpu6502::Cpu;
+use host_bus::Bus;
+use rom_set::RomSet;
+use std::alloc::Global;
+use tube_chip::{Answer, Lines, Op};
+use tube_party::{Ask, Party};
+
+/// The BBC Micro: a 6502 at 2 MHz and its bus, with the Tube at FEE0 to FEFF.
+#[derive(Drop)]
+pub struct HostMachine<D = Box<dyn BusDevice + Send>> {
+    cpu: Cpu,
+    bus: Bus<D>,
+    // How many rises of the NMI line it has taken.
+    nmis: u64,
+    // The tick of the next step.
+    due: u64,
+    ghost before: { bus.board.closed ≤ due + 1 },
+}
+
+/// What can be sent to a thread of its own.
+pub trait Crosses: Send {}
+
+// Where its plugged devices can, as boxed ones.
+impl<D: BusDevice + Send> Crosses for HostMachine<D> {}
+
+impl<D: BusDevice> HostMachine<D> {
+    ghost use Rattle.host_mach.specs.View.{host_seen};
+    ghost use Rattle.host_mach.specs.Told.{IsDone, IsQuick, IsAskedByte};
+
+    /// The machine at power-on, before the first cycle of a reset. Where memory is wanting, all is dropped.
+    pub fn make(alloc: Global, roms: RomSet, plugs: Vec<D>) -> Result<HostMachine<D>, NoMemory>
+        ensures { IfOk result (λ m. host_seen D.plug m ≡ power_on roms (map D.plug plugs.items)) }
+    {
+        let bus = Bus::make(alloc, roms, plugs)?;
+        Ok(HostMachine {
+            cpu: Cpu::new(),
+            bus,
+            nmis: 0,
+            due: 0,
+        })
+    }
+
+    /// The registers at the start of the instruction, or of the reset or interrupt, to which the next step belongs.
+    pub fn regs(&self) -> Regs
+        ensures { result ≡ (host_seen D.plug self.now).cpu.regs }
+    {
+        self.cpu.at_start()
+    }
+
+    /// Whether an opcode without an instruction has halted the processor.
+    pub fn halted(&self) -> bool
+        ensures { result ≡ halted (host_seen D.plug self.now).cpu }
+    {
+        self.cpu.halted()
+    }
+
+    /// The 32,768 bytes of the RAM.
+    pub fn ram(&self) -> &[u8]
+        ensures { result.now ≡ (host_seen D.plug self.now).bus.board.ram }
+    {
+        self.bus.ram()
+    }
+
+    /// The plugged devices.
+    pub fn plugs(&self) -> &[D]
+        ensures { map D.plug result.now ≡ (host_seen D.plug self.now).bus.plugs }
+    {
+        self.bus.plugs()
+    }
+
+    // An access of the memory, without its ticks, if that is the next step.
+    #[inline(always)]
+    fn quick(&mut self) -> bool
+        requires room { self.old.due < 2 ^ 40 }
+        requires goes_on { IsSome (next self.old.cpu) }
+        ensures due { self.new.due ≡ self.old.due }
+        ensures left { result ≡ false → IsSome (next self.new.cpu) }
+        ensures done { IsQuick (host_seen D.plug self.old) result (host_seen D.plug self.new) }
+    {
+        match exchange_memory(&mut self.bus, self.due, self.cpu.want()) {
+            Some(byte) => {
+                self.cpu.give(byte);
+                true
+            }
+            None => false,
+        }
+    }
+
+    // Any access of the next step, if it asks nothing; else what it asks. Kept out of the loop, whose frame has no room for it.
+    #[inline(never)]
+    fn access(&mut self) -> Option<Op>
+        requires room { self.old.due < 2 ^ 40 }
+        requires goes_on { IsSome (next self.old.cpu) }
+        ensures done { IsDone (host_seen D.plug self.old) result (host_seen D.plug self.new) }
+    {
+        match exchange(&mut self.bus, self.due, self.cpu.want()) {
+            Ok(done) => {
+                self.cpu.give(done.byte);
+                self.due += if self.cpu.last() {
+                    done.ticks - 1
+                } else {
+                    done.ticks
+                };
+                None
+            }
+            Err(op) => Some(op),
+        }
+    }
+
+    // The look of the next step, or none where its tick is not below `until`.
+    #[inline(always)]
+    fn look(&mut self, until: Tick) -> Ask
+        requires room { until.0 < 2 ^ 40 }
+        requires over { next self.old.cpu ≡ None }
+        ensures { IsAsk host_moves until.0 (host_seen D.plug self.old) result (host_seen D.plug self.new) }
+    {
+        if self.due < until.0 {
+            return Ask::Look(Tick(self.due));
+        }
+        self.shut(until);
+        Ask::Nothing
+    }
+
+    // Closes the bus at a tick that is not above the next step's, or leaves it closed as far as it is.
+    fn shut(&mut self, until: Tick)
+        requires room { until.0 < 2 ^ 40 }
+        requires low { until.0 ≤ self.old.due }
+        ensures shut { host_seen D.plug self.new ≡ shut host_moves (host_seen D.plug self.old) until.0 }
+    {
+        self.bus.finish(until);
+    }
+
+    // The Tube's answer to an access.
+    #[inline(never)]
+    fn take_byte(&mut self, byte: u8)
+        requires room { self.old.due < 2 ^ 40 }
+        requires asked { IsAskedByte (host_seen D.plug self.old) }
+        ensures { host_seen D.plug self.new ≡ next_state (host_seen D.plug self.old) (Some (Byte byte)) }
+    {
+        self.bus.close(self.due + 1);
+        self.cpu.give(byte);
+        self.due += if self.cpu.last() { 2 } else { 3 };
+    }
+
+    // The Tube's lines at a look.
+    #[inline(always)]
+    fn take_lines(&mut self, lines: Lines)
+        requires room { self.old.due < 2 ^ 40 }
+        requires over { next self.old.cpu ≡ None }
+        ensures { host_seen D.plug self.new ≡ next_state (host_seen D.plug self.old) (Some (Seen lines)) }
+    {
+        let nmis = self.bus.nmis(Tick(self.due));
+        let irq = self.bus.irq(Tick(self.due)) || lines.hirq;
+        self.cpu.take_lines(nmis != self.nmis, irq);
+        self.nmis = nmis;
+        self.due += 1;
+    }
+}
+
+impl<D: BusDevice> Party for HostMachine<D> {
+    ghost use Rattle.host_mach.specs.State.{HostState};
+    ghost use Rattle.beeb_bits.specs.declared.Side.TheVariants.{Host};
+    ghost use Rattle.tube_chip.specs.Events.{is_side};
+    ghost use Rattle.host_mach.specs.Lawful.{host_lawful, host_permitted};
+    ghost use Rattle.host_mach.specs.View.{host_seen};
+
+    ghost State = { HostState };
+
+    ghost state = { λ m. host_seen D.plug m };
+
+    ghost moves = { host_moves };
+
+    ghost plays = { is_side Host };
+
+    ghost lawful = { host_lawful };
+
+    ghost permitted = { host_permitted };
+
+    #[inline]
+    fn due(&self) -> Tick {
+        Tick(self.due)
+    }
+
+    #[inline(always)]
+    fn advance(&mut self, until: Tick) -> Ask {
+        if self.cpu.last() {
+            return self.look(until);
+        }
+        while self.due < until.0 {
+            if self.quick() {
+                if self.cpu.last() {
+                    self.due += 2;
+                    return self.look(until);
+                }
+                self.due += 3;
+            } else {
+                if let Some(op) = self.access() {
+                    return Ask::Access(Tick(self.due), op);
+                }
+                if self.cpu.last() {
+                    return self.look(until);
+                }
+            }
+        }
+        self.shut(until);
+        Ask::Nothing
+    }
+
+    #[inline(always)]
+    fn answer(&mut self, answer: Answer) {
+        match answer {
+            Answer::Byte(byte) => self.take_byte(byte),
+            Answer::Seen(lines) => self.take_lines(lines),
+        }
+    }
+}

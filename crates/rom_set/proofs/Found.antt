@@ -1,0 +1,102 @@
+-- The ROM of a slot is at the place that is kept.
+use Rattle.std.proofs.Common.{ℕ, zero, suc, ◌≡◌, ◌≤◌, ◌<◌, ◌+◌, ◌-◌, refl, ap, sym, ◌∙◌, Bool, true, false, not, cond, List, [], ◌∷◌, Option, Some, None, length, get_or, ◌==◌, ◌||◌, ◌⊎◌, if◌then◌else◌, arith}
+use Rattle.std.proofs.lemmas.Grind.{common_steps}
+use Rattle.std.specs.Prelude.{Vec, find, slice_index}
+use Rattle.std.specs.List.{position_from}
+use Rattle.std.specs.declared.alloc.Global.{Global}
+use Rattle.rom_set.specs.declared.RomError.TheVariants.{BadOs, BadSlot}
+use Rattle.rom_set.specs.Roms.{Rom, rom_seen, roms_seen, in_slot, byte_in, rom_byte, fits, bad_slot, first_refused, refusal}
+use Rattle.rom_set.specs.Places.{in_this}
+
+-- What a place says of the list from its number i on.
+pub record IsAt (t : Rom → Bool) (roms : List Rom) (i place : ℕ) : Type 0 where
+  pub low : i ≤ place
+  pub within : place - i < length roms
+  pub found : (d : Rom) → find t roms ≡ Some (get_or roms (place - i) d)
+
+one-more : (t : Rom → Bool) (r : Rom) (roms : List Rom) (i place : ℕ) (b : Bool) → t r ≡ b → cond b (Some i) (position_from t (i + 1) roms) ≡ Some place →
+    (position_from t (i + 1) roms ≡ Some place → IsAt t roms (i + 1) place) → IsAt t (r ∷ roms) i place
+one-more t r roms i place true is e later =
+    let same : i ≡ place = cc in
+    let none : place - i ≡ 0 = omega (arith, same) in
+    record {
+      low = omega (arith, same);
+      within = omega (arith, same);
+      found = λ d. ap (λ b. cond b (Some r) (find t roms)) is ∙ ap (λ k. Some (get_or (r ∷ roms) k d)) (sym none);
+    }
+one-more t r roms i place false is e later =
+    let h : IsAt t roms (i + 1) place = later e in
+    let next : suc (place - (i + 1)) ≡ place - i = omega (arith, h.low) in
+    record {
+      low = omega (arith, h.low);
+      within = omega (arith, h.low, h.within);
+      found = λ d. ap (λ b. cond b (Some r) (find t roms)) is ∙ h.found d ∙ ap (λ k. Some (get_or (r ∷ roms) k d)) next;
+    }
+
+pub found : (t : Rom → Bool) (roms : List Rom) (i place : ℕ) → position_from t i roms ≡ Some place → IsAt t roms i place
+found t [] i place e = let no : None ≡ Some place = e in cc
+found t (r ∷ roms) i place e = one-more t r roms i place (t r) refl e (found t roms (i + 1) place)
+
+absent-more : (t : Rom → Bool) (r : Rom) (roms : List Rom) (i : ℕ) (b : Bool) → t r ≡ b → cond b (Some i) (position_from t (i + 1) roms) ≡ None →
+    (position_from t (i + 1) roms ≡ None → find t roms ≡ None) → find t (r ∷ roms) ≡ None
+absent-more t r roms i true is e later = let no : Some i ≡ None = e in cc
+absent-more t r roms i false is e later = ap (λ b. cond b (Some r) (find t roms)) is ∙ later e
+
+pub absent : (t : Rom → Bool) (roms : List Rom) (i : ℕ) → position_from t i roms ≡ None → find t roms ≡ None
+absent t [] i e = refl
+absent t (r ∷ roms) i e = absent-more t r roms i (t r) refl e (absent t roms (i + 1))
+
+-- where none passes, each fails
+all-more : (t : Rom → Bool) (r : Rom) (roms : List Rom) (b : Bool) → t r ≡ b → cond b (Some r) (find t roms) ≡ None → (b ≡ false) × (find t roms ≡ None)
+all-more t r roms true is e = let no : Some r ≡ None = e in cc
+all-more t r roms false is e = (refl, e)
+
+pub none-passes : (t : Rom → Bool) (roms : List Rom) (k : ℕ) (d : Rom) → find t roms ≡ None → k < length roms → t (get_or roms k d) ≡ false
+none-passes t [] k d e low = absurd (omega (arith, low))
+none-passes t (r ∷ roms) zero d e low = (all-more t r roms (t r) refl e).0
+none-passes t (r ∷ roms) (suc k) d e low = none-passes t roms k d (all-more t r roms (t r) refl e).1 (omega (arith, low))
+
+-- the bytes of the ROM at the place that is kept
+rom-at : (slots : List (ℕ × Vec ℕ Global)) (place : ℕ) (d : ℕ × Vec ℕ Global) → place < length slots → get_or (roms_seen slots) place (rom_seen d) ≡ rom_seen (get_or slots place d)
+rom-at [] place d low = absurd (omega (arith, low))
+rom-at (s ∷ slots) zero d low = refl
+rom-at (s ∷ slots) (suc place) d low = rom-at slots place d (omega (arith, low))
+
+as-long : (slots : List (ℕ × Vec ℕ Global)) → length (roms_seen slots) ≡ length slots
+as-long [] = refl
+as-long (s ∷ slots) = ap suc (as-long slots)
+
+-- it has one of both lengths
+long-by : (n : ℕ) → not (n == 8192 || n == 16384) ≡ false → (n ≡ 8192) ⊎ (n ≡ 16384)
+long-by n e = grind (arith, common_steps)
+
+fits-by : (os : List ℕ) (roms : List Rom) → refusal os roms ≡ None → find (λ rom. not (fits rom)) roms ≡ None
+fits-by os roms e = by-length (length os == 16384) e
+  where
+    by-found : (o : Option Rom) → bad_slot o ≡ None → o ≡ None
+    by-found None e = refl
+    by-found (Some rom) e = let no : Some (BadSlot rom.slot (length rom.bytes)) ≡ None = e in cc
+
+    by-length : (b : Bool) → (if b then first_refused roms else Some (BadOs (length os))) ≡ None → find (λ rom. not (fits rom)) roms ≡ None
+    by-length true e = by-found (find (λ rom. not (fits rom)) roms) e
+    by-length false e = let no : Some (BadOs (length os)) ≡ None = e in cc
+
+pub long : (os : List ℕ) (slots : List (ℕ × Vec ℕ Global)) (t : Rom → Bool) (place : ℕ) (d : ℕ × Vec ℕ Global) (bytes : List ℕ) → refusal os (roms_seen slots) ≡ None → IsAt t (roms_seen slots) 0 place → d ≡ get_or slots place d → bytes ≡ d.1.items →
+    (length bytes ≡ 8192) ⊎ (length bytes ≡ 16384)
+long os slots t place d bytes none here is value =
+    let low : place < length slots = omega (arith, here.within, as-long slots) in
+    let same : get_or (roms_seen slots) place (rom_seen d) ≡ rom_seen d = rom-at slots place d low ∙ ap rom_seen (sym is) in
+    let test : not (fits (rom_seen d)) ≡ false = ap (λ rom. not (fits rom)) (sym same) ∙ none-passes (λ rom. not (fits rom)) (roms_seen slots) place (rom_seen d) (fits-by os (roms_seen slots) none) (omega (arith, here.within)) in
+    long-by (length bytes) (ap (λ xs. not (length xs == 8192 || length xs == 16384)) value ∙ test)
+
+pub shown : (slots : List (ℕ × Vec ℕ Global)) (slot at place : ℕ) (d : ℕ × Vec ℕ Global) (bytes : List ℕ) → IsAt (in_this slot) (roms_seen slots) 0 place → d ≡ get_or slots place d → bytes ≡ d.1.items →
+    slice_index (in_slot bytes) at ≡ rom_byte (roms_seen slots) slot at
+shown slots slot at place d bytes here is value =
+    let low : place < length slots = omega (arith, here.within, as-long slots) in
+    let same : get_or (roms_seen slots) place (rom_seen d) ≡ rom_seen d = rom-at slots place d low ∙ ap rom_seen (sym is) in
+    let whole : place - 0 ≡ place = omega arith in
+    ap (λ xs. slice_index (in_slot xs) at) value
+    ∙ sym (ap (λ o. byte_in o at) (here.found (rom_seen d) ∙ ap (λ k. Some (get_or (roms_seen slots) k (rom_seen d))) whole ∙ ap Some same))
+
+pub held : (slots : List (ℕ × Vec ℕ Global)) (t : Rom → Bool) (place : ℕ) → IsAt t (roms_seen slots) 0 place → place < length slots
+held slots t place here = omega (arith, here.within, as-long slots)

@@ -1,0 +1,2 @@
+pub mod Roms
+pub mod Places
