@@ -1,0 +1,110 @@
+-- Events pushed one by one, and the rules that they keep.
+use Rattle.std.proofs.Common.{◌≡◌, ◌≢◌, ◌∙◌, sym, refl, ap, ℕ, ◌+◌, ◌<◌, ◌≤◌, ◌==◌, ◌&&◌, Bool, true, false, List, [], ◌∷◌, ◌++◌, length, length-append, zero-add, Some, None, Ok, Err, nat_lt, cond, arith}
+use Rattle.std.proofs.lemmas.Bool.Decides.{nat_tests}
+use Rattle.std.proofs.lemmas.List.Elements.{All-push}
+use Rattle.std.proofs.lemmas.List.Sums.{sum_by-append}
+use Rattle.key_script.specs.declared.Event.{Event}
+use Rattle.key_script.specs.declared.ScriptError.{ScriptError}
+use Rattle.key_script.specs.declared.ScriptError.TheVariants.{BadLine, BadOrder, TooManyShots}
+use Rattle.key_script.specs.Events.{tick_of, is_shot, shots, last_tick_from, last_tick, NeverFallsFrom, IsEvent, IsScript}
+use Rattle.key_script.specs.Text.{fault, reading, events_of, BeginsBadly, script}
+
+last_behind : (t : ℕ) (events : List Event) (e : Event) → last_tick_from t (events ++ e ∷ []) ≡ tick_of e
+last_behind t [] e = refl
+last_behind t (d ∷ events) e = last_behind (tick_of d) events e
+
+order_behind : (t : ℕ) (events : List Event) (e : Event) → NeverFallsFrom t events → last_tick_from t events ≤ tick_of e → NeverFallsFrom t (events ++ e ∷ [])
+order_behind t [] e order h = (h, tt)
+order_behind t (d ∷ events) e order h = (order.0, order_behind (tick_of d) events e order.1 h)
+
+-- What was read of a text, with what is left of it: the caches are right, and the rules are kept.
+pub record ReadSoFar (text : List ℕ) (events : List Event) (last taken : ℕ) (rest : List ℕ) : Type 0 where
+  pub whole : script text ≡ reading events (events_of rest)
+  pub last_is : last ≡ last_tick events
+  pub taken_is : taken ≡ shots events
+  pub rules : IsScript events
+  pub size : length events + length rest ≤ length text
+
+pub read_none : (text : List ℕ) → ReadSoFar text [] 0 0 text
+unfolding script
+read_none text = record {
+  whole = refl;
+  last_is = refl;
+  taken_is = refl;
+  rules = record { order = tt; each = λ k d h. absurd (omega arith); few = omega arith };
+  size = omega arith;
+}
+
+falls : (line last taken : ℕ) (e : Event) → nat_lt (tick_of e) last ≡ true → fault line last taken e ≡ None → ⊥
+falls line last taken e h none = let no : Some (BadOrder line) ≡ None = rw h at none in cc
+
+-- what goes with the events before it does not fall, and is no shot too many
+fits_order : (line last taken : ℕ) (e : Event) → fault line last taken e ≡ None → last ≤ tick_of e
+fits_order line last taken e none =
+    elim (nat_lt (tick_of e) last) as (λ t. nat_lt (tick_of e) last ≡ t → last ≤ tick_of e) [
+      | true ↦ λ h. absurd (falls line last taken e h none)
+      | false ↦ λ h. grind (arith, nat_tests)
+    ] refl
+
+too_many : (line last taken : ℕ) (e : Event) → (is_shot e && taken == 256) ≡ true → last ≤ tick_of e → fault line last taken e ≡ None → ⊥
+too_many line last taken e h order none =
+    let holds : nat_lt (tick_of e) last ≡ false = grind (arith, nat_tests) in
+    let no : Some (TooManyShots line) ≡ None = rw (holds, h) at none in cc
+
+fits_shots : (line last taken : ℕ) (e : Event) → fault line last taken e ≡ None → (is_shot e && taken == 256) ≡ false
+fits_shots line last taken e none =
+    elim (is_shot e && taken == 256) as (λ t. (is_shot e && taken == 256) ≡ t → t ≡ false) [
+      | true ↦ λ h. absurd (too_many line last taken e h (fits_order line last taken e none) none)
+      | false ↦ λ h. refl
+    ] refl
+
+-- one shot more, if the event is one
+counted : (taken more : ℕ) (shot : Bool) → more ≡ cond shot 1 0 → taken ≤ 256 → (shot && taken == 256) ≡ false → taken + more ≤ 256
+counted taken more true is few h = let other : taken ≢ 256 = λ e. cc in omega arith
+counted taken more false is few h = omega arith
+
+shots_behind : (events : List Event) (e : Event) → shots (events ++ e ∷ []) ≡ shots events + cond (is_shot e) 1 0
+shots_behind events e =
+    sum_by-append (λ (x : Event). cond (is_shot x) 1 0) events (e ∷ []) ∙ ap (λ n. shots events + n) (zero-add (cond (is_shot e) 1 0))
+
+-- an event that goes with those before it
+pub read_more : (text : List ℕ) (events : List Event) (last taken more : ℕ) (rest others : List ℕ) (e : Event) →
+    ReadSoFar text events last taken rest → events_of rest ≡ Some e ∷ events_of others → IsEvent e → length others < length rest →
+    fault (length events + 1) last taken e ≡ None → more ≡ cond (is_shot e) 1 0 →
+    ReadSoFar text (events ++ e ∷ []) (tick_of e) (taken + more) others
+read_more text events last taken more rest others e so_far next event shorter clear counts =
+    let last_is : last ≡ last_tick events = so_far.last_is in
+    let taken_is : taken ≡ shots events = so_far.taken_is in
+    let few : taken ≤ 256 = rw taken_is so_far.rules.few in
+    let step : reading events (events_of rest) ≡ reading (events ++ e ∷ []) (events_of others) = rw (next, ← last_is, ← taken_is, clear) refl in
+    let behind : taken + more ≡ shots (events ++ e ∷ []) = rw (shots_behind events e, counts, taken_is) refl in
+    let order : last_tick_from 0 events ≤ tick_of e = rw (← last_is) (fits_order (length events + 1) last taken e clear) in
+    let fits : taken + more ≤ 256 = counted taken more (is_shot e) counts few (fits_shots (length events + 1) last taken e clear) in
+    record {
+      whole = so_far.whole ∙ step;
+      last_is = sym (last_behind 0 events e);
+      taken_is = behind;
+      rules = record {
+        order = order_behind 0 events e so_far.rules.order order;
+        each = All-push IsEvent events e so_far.rules.each event;
+        few = rw (← behind) fits;
+      };
+      size = let more_is : length (events ++ e ∷ []) ≡ length events + 1 = length-append events (e ∷ []) in omega (arith, more_is, so_far.size);
+    }
+
+-- no line is left
+pub read_all : (text : List ℕ) (events : List Event) (last taken : ℕ) (rest : List ℕ) → ReadSoFar text events last taken rest → length rest ≡ 0 → script text ≡ Ok events
+read_all text events last taken [] so_far none = so_far.whole
+read_all text events last taken (b ∷ rest) so_far none = absurd (omega arith)
+
+pub read_bad_line : (text : List ℕ) (events : List Event) (last taken : ℕ) (rest : List ℕ) → ReadSoFar text events last taken rest → BeginsBadly rest →
+    script text ≡ Err (BadLine (length events + 1))
+read_bad_line text events last taken rest so_far bad = so_far.whole ∙ rw bad.1 refl
+
+pub read_fault : (text : List ℕ) (events : List Event) (last taken : ℕ) (rest others : List ℕ) (e : Event) (error : ScriptError) →
+    ReadSoFar text events last taken rest → events_of rest ≡ Some e ∷ events_of others → fault (length events + 1) last taken e ≡ Some error →
+    script text ≡ Err error
+read_fault text events last taken rest others e error so_far next fails =
+    let last_is : last ≡ last_tick events = so_far.last_is in
+    let taken_is : taken ≡ shots events = so_far.taken_is in
+    so_far.whole ∙ rw (next, ← last_is, ← taken_is, fails) refl

@@ -1,0 +1,5 @@
+use Rattle.key_script.proofs.CutLemmas.{word_or_whole}
+use Rattle.key_script.proofs.line.split_word.Goals as goal
+
+pub returns : goal.returns
+returns c = word_or_whole c.args.line.now c.split_at_first.result c.split_at_first.ensures.none c.split_at_first.ensures.parts

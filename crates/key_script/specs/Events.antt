@@ -1,0 +1,51 @@
+-- The events of a key script, and the rules that they keep.
+use Rattle.std.specs.Prelude.{ℕ, ◌≤◌, ◌<◌, Bool, true, false, List, [], ◌∷◌, All, count_by}
+use Rattle.key_script.specs.declared.Event.{Event}
+use Rattle.key_script.specs.declared.What.{What}
+use Rattle.key_script.specs.declared.What.TheVariants.{Down, Up, Shot}
+
+abbrev pub tick_of : Event → ℕ
+tick_of e = (e.tick).0
+
+abbrev pub takes_frame : What → Bool
+takes_frame Shot = true
+takes_frame (Down key) = false
+takes_frame (Up key) = false
+
+abbrev pub is_shot : Event → Bool
+is_shot e = takes_frame e.what
+
+-- how many shots events have
+abbrev pub shots : List Event → ℕ
+shots events = count_by is_shot events
+
+-- the tick of the last event behind one at tick t, or t
+abbrev pub last_tick_from : ℕ → List Event → ℕ
+last_tick_from t [] = t
+last_tick_from t (e ∷ events) = last_tick_from (tick_of e) events
+
+-- the tick of the last event, or 0
+abbrev pub last_tick : List Event → ℕ
+last_tick events = last_tick_from 0 events
+
+-- ticks that are at least t, and never fall
+abbrev pub NeverFallsFrom : ℕ → List Event → Type 0
+NeverFallsFrom t [] = Unit {0}
+NeverFallsFrom t (e ∷ events) = (t ≤ tick_of e) × NeverFallsFrom (tick_of e) events
+
+-- a key has a number below 80 hexadecimal
+abbrev pub IsKeyed : What → Type 0
+IsKeyed (Down key) = key < 128
+IsKeyed (Up key) = key < 128
+IsKeyed Shot = Unit {0}
+
+-- an event by itself: its tick is at most the longest run's, and its key is one
+pub record IsEvent (e : Event) : Type 0 where
+  pub tick : tick_of e ≤ 1073741824
+  pub key : IsKeyed e.what
+
+-- The rules of a script.
+pub record IsScript (events : List Event) : Type 0 where
+  pub order : NeverFallsFrom 0 events
+  pub each : All IsEvent events
+  pub few : shots events ≤ 256

@@ -1,0 +1,5 @@
+pub mod Lines
+pub mod Events
+pub mod Line
+pub mod Text
+pub mod Keys

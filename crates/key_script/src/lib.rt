@@ -1,0 +1,45 @@
+//! The text of a key script: which keys are put down and up at which ticks, and when a frame is taken.
+#![tactic(auto)]
+
+mod line;
+mod script;
+mod text;
+
+use beeb_bits::Tick;
+pub use script::Script;
+pub use text::read;
+use thiserror::Error;
+
+/// What happens at one tick.
+#[derive(Clone, Copy, Debug, PartialEq, Eq)]
+pub enum What {
+    /// A key goes down. Its number is 16 times its row plus its column, below 80 hexadecimal.
+    Down(u8),
+    /// A key goes up.
+    Up(u8),
+    /// The last finished frame is taken.
+    Shot,
+}
+
+/// One line of a script.
+#[derive(Clone, Copy, Debug, PartialEq, Eq)]
+pub struct Event {
+    pub tick: Tick,
+    pub what: What,
+}
+
+/// Why a text is no script. Lines count from 1.
+#[derive(Clone, Copy, Debug, PartialEq, Eq, Error)]
+pub enum ScriptError {
+    #[error("line {line} is outside the form of a script")]
+    BadLine { line: u64 },
+    #[error("line {line} has a tick below that of the line before it")]
+    BadOrder { line: u64 },
+    #[error("line {line} has the 257th shot")]
+    TooManyShots { line: u64 },
+    #[error("no memory")]
+    NoMemory,
+}
+
+#[cfg(test)]
+mod tests;

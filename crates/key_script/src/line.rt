@@ -1,0 +1,104 @@
+//! One line of a script.
+ghost use Rattle.std.specs.Prelude.{◌≡◌, ◌<◌, ◌∷◌, [], ◌++◌, All, ◌≢◌, IfSome, MatchOption};
+ghost use Rattle.std.specs.Str.{bytes_eq};
+ghost use Rattle.key_script.specs.Lines.{words_of};
+ghost use Rattle.key_script.specs.Events.{IsEvent, IsKeyed};
+ghost use Rattle.key_script.specs.Line.{key_of, what_alone, what_with, what_of, event_of_words};
+
+use crate::{Event, What};
+use beeb_bits::Tick;
+use digits::{all_hex, decimal_number, hex_number};
+
+/// The tick of the longest run.
+const LAST_TICK: u64 = 1_073_741_824;
+
+/// What stands before the first byte of this value, and behind it.
+pub(crate) fn split_at_first(end: u8, bytes: &[u8]) -> Option<(&[u8], &[u8])>
+    ensures none { MatchOption result (All (λ b. b ≢ end) bytes.now) (λ parts. All (λ b. b ≢ end) parts.0.now) }
+    ensures parts { IfSome result (λ parts. bytes.now ≡ parts.0.now ++ end ∷ parts.1.now) }
+{
+    let place = bytes.iter().position(|b| *b == end)?;
+    Some((&bytes[..place], &bytes[place + 1..]))
+}
+
+// The first word of a line and what stands behind the space, if more words do.
+fn split_word(line: &[u8]) -> Option<(&[u8], &[u8])>
+    ensures { MatchOption result (words_of line.now ≡ line.now ∷ []) (λ parts. words_of line.now ≡ parts.0.now ∷ words_of parts.1.now) }
+{
+    split_at_first(b' ', line)
+}
+
+fn is_word(word: &[u8], want: &[u8]) -> bool
+    ensures { result ≡ bytes_eq word.now want.now }
+{
+    word == want
+}
+
+fn key_of(word: &[u8]) -> Option<u8>
+    ensures value { result ≡ key_of word.now }
+    ensures bound { IfSome result (λ key. key < 128) }
+{
+    if word.len() == 2 && all_hex(word) {
+        let key = hex_number(word);
+        if key < 128 {
+            return Some(key as u8);
+        }
+    }
+    None
+}
+
+fn what_alone(word: &[u8]) -> Option<What>
+    ensures value { result ≡ what_alone word.now }
+    ensures keyed { IfSome result IsKeyed }
+{
+    if is_word(word, b"shot") {
+        Some(What::Shot)
+    } else {
+        None
+    }
+}
+
+fn what_with(word: &[u8], key: &[u8]) -> Option<What>
+    ensures value { result ≡ what_with word.now key.now }
+    ensures keyed { IfSome result IsKeyed }
+{
+    if is_word(word, b"down") {
+        Some(What::Down(key_of(key)?))
+    } else if is_word(word, b"up") {
+        Some(What::Up(key_of(key)?))
+    } else {
+        None
+    }
+}
+
+// What the words behind the tick say.
+fn what_of(words: &[u8]) -> Option<What>
+    ensures value { result ≡ what_of (words_of words.now) }
+    ensures keyed { IfSome result IsKeyed }
+{
+    match split_word(words) {
+        None => what_alone(words),
+        Some((word, rest)) => match split_word(rest) {
+            None => what_with(word, rest),
+            Some(_) => None,
+        },
+    }
+}
+
+/// The event of a line without its line feed, or none where the bytes are outside the form.
+pub(crate) fn event_of(line: &[u8]) -> Option<Event>
+    ensures value { result ≡ event_of_words (words_of line.now) }
+    ensures event { IfSome result IsEvent }
+{
+    let (first, rest) = split_word(line)?;
+    let (tick, words) = split_word(rest)?;
+    if !is_word(first, b"at") {
+        return None;
+    }
+    let tick = decimal_number(tick, LAST_TICK)?;
+    let what = what_of(words)?;
+    Some(Event {
+        tick: Tick(tick),
+        what,
+    })
+}

@@ -1,0 +1,46 @@
+//! The addressable latch of the system VIA.
+ghost use Rattle.std.specs.Prelude.{◌≡◌, false, replicate};
+ghost use Rattle.keyboard.specs.Latch.{latch_after, scans_itself, screen_size};
+
+use beeb_bits::bit;
+
+/// The latch's eight bits.
+#[derive(Clone, Copy, Debug, PartialEq, Eq)]
+pub struct Latch {
+    pub bits: [bool; 8],
+}
+
+impl Latch {
+    /// The latch at power-on: all bits are 0.
+    pub fn new() -> Latch
+        ensures { result.bits ≡ replicate 8 false }
+    {
+        Latch { bits: [false; 8] }
+    }
+
+    /// A write to register 0 or 2 of the system VIA leaves port B with these pins: bit `p AND 7` becomes bit 3 of `p`.
+    pub fn write(&mut self, p: u8)
+        ensures { self.new.bits ≡ latch_after p self.old.bits }
+    {
+        self.bits[usize::from(p % 8)] = bit(p, 3);
+    }
+
+    /// Bit 3, keyboard write enable, is set: the keyboard is not asked for one key, and scans its columns by itself.
+    pub fn scans_itself(&self) -> bool
+        ensures { result ≡ scans_itself self.now.bits }
+    {
+        self.bits[3]
+    }
+
+    /// How many bytes the screen has, by bits 5 and 4.
+    pub fn screen_size(&self) -> u16
+        ensures { result ≡ screen_size self.now.bits }
+    {
+        match (self.bits[5], self.bits[4]) {
+            (false, false) => 16_384,
+            (false, true) => 8_192,
+            (true, false) => 20_480,
+            (true, true) => 10_240,
+        }
+    }
+}

@@ -1,0 +1,39 @@
+-- Counters that go down, and numbers of steps.
+use Rattle.std.proofs.Common.{◌≡◌, ◌≢◌, refl, ℕ, ◌+◌, ◌%◌, ◌<◌, ◌==◌, true, false, arith}
+use Rattle.std.proofs.lemmas.Bool.Decides.{nat_tests}
+use Rattle.std.proofs.Math.Nat.{add-mod_left, mod_self, mod-eq_of_lt}
+use Rattle.via6522.specs.Timers.{word, one_less, runs_out}
+
+pub test_true : (a b : ℕ) → a ≡ b → (a == b) ≡ true
+test_true a b h = grind (arith, nat_tests)
+
+pub test_false : (a b : ℕ) → a ≢ b → (a == b) ≡ false
+test_false a b h = grind (arith, nat_tests)
+
+pub one_less_is : (counter : ℕ) → 0 < counter → counter < 65536 → one_less counter + 1 ≡ counter
+one_less_is counter some small = omega arith
+
+-- a counter above 0 does not run out
+pub counts_on : (counter : ℕ) → 0 < counter → counter < 65536 → runs_out counter ≡ false
+counts_on counter some small = test_false (one_less counter) 65535 (λ e. omega (arith, one_less_is counter some small, e))
+
+pub at_zero : (counter : ℕ) → counter ≡ 0 → runs_out counter ≡ true
+at_zero counter none = rw none refl
+
+pub word_small : (high low : ℕ) → high < 256 → low < 256 → word high low < 65536
+word_small high low h l = omega arith
+
+-- in a period of v + 2 steps, the step after the k-th is no multiple, save the last
+pub within_period : (v k : ℕ) → k < v + 1 → ((k + 1) % (v + 2) == 0) ≡ false
+within_period v k h =
+    let below : k + 1 < v + 2 = omega arith in
+    let same : (k + 1) % (v + 2) ≡ k + 1 = mod-eq_of_lt below in
+    test_false _ _ (λ e. omega (arith, e, same))
+
+pub ends_period : (v k : ℕ) → k ≡ v + 1 → ((k + 1) % (v + 2) == 0) ≡ true
+ends_period v k h =
+    let whole : k + 1 ≡ v + 2 = omega arith in
+    test_true _ _ (rw whole (mod_self (v + 2)))
+
+pub next_period : (v k n : ℕ) → k ≡ v + 1 → (k + n + 1) % (v + 2) ≡ n % (v + 2)
+next_period v k n h = let e : k + n + 1 ≡ (v + 2) + n = omega arith in rw e (add-mod_left (v + 2) n)

@@ -1,0 +1,4 @@
+pub mod Runs
+pub mod Counting
+pub mod Timer1Lemmas
+pub mod OneShotLemmas

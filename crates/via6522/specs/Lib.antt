@@ -1,0 +1,6 @@
+pub mod State
+pub mod Timers
+pub mod Lines
+pub mod Registers
+pub mod Step
+pub mod Laws

@@ -1,0 +1,26 @@
+//! The 6522, or Versatile Interface Adapter, a microsecond at a time (6522 data sheet).
+#![tactic(auto)]
+
+mod causes;
+mod law;
+mod levels;
+mod timer1;
+mod timer2;
+mod via;
+
+pub use law::{timer1_fires_once, timer1_runs_free, timer2_fires_once};
+pub use via::Via;
+
+/// What is put on the pins from outside: the bits of both ports, of which the inputs count, and the levels of the control lines.
+#[derive(Clone, Copy, Debug, PartialEq, Eq)]
+pub struct Pins {
+    pub a: u8,
+    pub b: u8,
+    pub ca1: bool,
+    pub ca2: bool,
+    pub cb1: bool,
+    pub cb2: bool,
+}
+
+#[cfg(test)]
+mod tests;
