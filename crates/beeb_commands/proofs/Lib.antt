@@ -1,0 +1,5 @@
+pub mod ReplayLemmas
+pub mod AsmLemmas
+pub mod FileLemmas
+pub mod KeptLemmas
+pub mod SlotLemmas

@@ -1,0 +1,11 @@
+pub mod Status
+pub mod Verdicts
+pub mod Inputs
+pub mod Check
+pub mod Asm
+pub mod Replay
+pub mod Para
+pub mod Host
+pub mod Solo
+pub mod Seen
+pub mod Commands

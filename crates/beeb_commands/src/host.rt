@@ -1,0 +1,132 @@
+//! `replay host TRACE TICKS OUT --os NAME` and paged ROMs.
+ghost use Rattle.std.specs.Prelude.{◌≡◌, ◌<◌, ◌≤◌, All, map, IfOk, slice_index_or};
+ghost use Rattle.beeb_bits.specs.declared.Side.TheVariants.{Host};
+ghost use Rattle.tube_trace.specs.Entries.{IsEntry};
+ghost use Rattle.tube_party.specs.Replay.{replayed};
+ghost use Rattle.rom_set.specs.Roms.{Roms, roms_seen};
+ghost use Rattle.host_mach.specs.State.{power_on};
+ghost use Rattle.host_mach.specs.Step.{host_moves};
+ghost use Rattle.host_mach.specs.View.{host_seen};
+ghost use Rattle.beeb_run.specs.Seen.{Gives, seen_file};
+ghost use Rattle.beeb_commands.specs.Replay.{side_count, ended};
+ghost use Rattle.beeb_commands.specs.Host.{host_line, host_files, host_verdict, rom_cause, roms_of, host_after};
+ghost use Rattle.beeb_commands.specs.Seen.{seen_inputs, verdict_of};
+
+use crate::check::{entries_of, wrong_product};
+use crate::inputs::Inputs;
+use crate::product::Product;
+use crate::replay::{differs_product, memory_file, report_file, side_count};
+use crate::status::{Cause, Which};
+use beeb_bits::{Side, Tick};
+use beeb_run::Refusal;
+use bus_plug::BusDevice;
+use host_mach::HostMachine;
+use report::Line;
+use rom_set::{RomError, RomSet};
+use std::alloc::{AllocError, Global};
+use tube_party::{MOST, replay};
+use tube_trace::{Entry, first_wrong};
+
+fn rom_cause(error: RomError) -> Cause
+    ensures { result ≡ rom_cause error }
+{
+    match error {
+        RomError::BadOs { len } => Cause::BadImage {
+            which: Which::Os,
+            len,
+        },
+        RomError::BadSlot { slot, len } => Cause::BadImage {
+            which: Which::Rom(slot),
+            len,
+        },
+    }
+}
+
+/// The images, if each has a length that it may have.
+pub(crate) fn roms_of(os: Vec<u8>, slots: Vec<(u8, Vec<u8>)>) -> Result<RomSet, Refusal<Cause>>
+    requires { All (λ slot. slot.0 < 16) slots.items }
+    ensures { Gives (λ (roms : Roms). roms) result (roms_of (record { os = os.items; slots = roms_seen slots.items })) }
+{
+    match RomSet::read(os, slots) {
+        Ok(roms) => Ok(roms),
+        Err(error) => Err(Refusal::Cause(rom_cause(error))),
+    }
+}
+
+/// The host's line in a report.
+pub(crate) fn host_line<D: BusDevice>(machine: &HostMachine<D>) -> Line
+    ensures { result ≡ host_line (host_seen D.plug machine.now) }
+{
+    Line {
+        regs: machine.regs(),
+        stopped: machine.halted(),
+    }
+}
+
+/// The report, or the memory, which is file 1.
+pub(crate) fn host_file<D: BusDevice>(
+    alloc: Global,
+    n: Tick,
+    tube: u64,
+    out: &str,
+    machine: &HostMachine<D>,
+    i: usize,
+) -> Result<(String, Vec<u8>), AllocError>
+    requires { i < 2 }
+    ensures { IfOk result (λ f. slice_index_or (host_files n.0 tube out.now (host_seen D.plug machine.now)) i (seen_file f) ≡ seen_file f) }
+{
+    if i == 0 {
+        let line = host_line(machine);
+        return report_file(alloc, out, n, Some(line), None, tube, None, Some(0));
+    }
+    memory_file(alloc, out, ".host", machine.ram())
+}
+
+// What comes of the machine against a trace.
+fn ran<'a, D: BusDevice>(
+    alloc: Global,
+    machine: HostMachine<D>,
+    ticks: u64,
+    out: &'a str,
+    entries: &[Entry],
+) -> Result<Product<'a, D>, AllocError>
+    requires entries { All IsEntry entries.now }
+    requires ticks { ticks ≤ MOST }
+    ensures { IfOk result (λ product. verdict_of D.plug product ≡ ended (host_verdict ticks (side_count Host ticks entries.now) out.now) (replayed host_moves Host entries.now ticks (host_seen D.plug machine))) }
+{
+    let n = Tick(ticks);
+    let (machine, place) = replay(machine, Side::Host, entries, n);
+    match place {
+        None => Ok(Product::Host {
+            out,
+            ticks: n,
+            tube: side_count(Side::Host, entries, n),
+            machine,
+        }),
+        Some((line, doing)) => differs_product(alloc, line, doing),
+    }
+}
+
+/// What comes of a replay of the host with these plugged devices.
+pub(crate) fn host_product<'a, D: BusDevice>(
+    alloc: Global,
+    ticks: u64,
+    out: &'a str,
+    inputs: Inputs,
+    plugs: Vec<D>,
+) -> Result<Product<'a, D>, Refusal<Cause>>
+    requires ticks { ticks ≤ MOST }
+    requires slots { All (λ slot. slot.0 < 16) inputs.roms.items }
+    ensures { Gives (verdict_of D.plug) result (host_after (map D.plug plugs.items) ticks out.now (seen_inputs inputs)) }
+{
+    let roms = roms_of(inputs.os, inputs.roms)?;
+    let entries = entries_of(alloc, &inputs.trace)?;
+    let product = match first_wrong(&entries) {
+        Some((i, byte)) => wrong_product(alloc, i as u64 + 1, byte)?,
+        None => {
+            let machine = HostMachine::make(alloc, roms, plugs)?;
+            ran(alloc, machine, ticks, out, &entries)?
+        }
+    };
+    Ok(product)
+}

@@ -1,0 +1,87 @@
+//! A command as whoever carries it out sees it.
+ghost use Rattle.std.specs.Prelude.{◌≡◌, map, IfOk};
+ghost use Rattle.beeb_run.specs.Seen.{Gives, seen_want, seen_input};
+ghost use Rattle.beeb_commands.specs.Commands.{plan};
+ghost use Rattle.beeb_commands.specs.Seen.{verdict_of};
+ghost use Rattle.beeb_run.specs.Plan.{AreWithin};
+ghost use Rattle.beeb_words.specs.Reads.{IsWithin};
+ghost use Rattle.beeb_words.specs.Seen.{seen};
+
+use crate::asm::{asm_product, dis_product};
+use crate::check::check_product;
+use crate::host::host_product;
+use crate::inputs::Inputs;
+use crate::para::para_product;
+use crate::product::Product;
+use crate::solo::solo_product;
+use crate::status::{Cause, Ending};
+use beeb_bits::Side;
+use beeb_run::Refusal;
+use beeb_words::{Command, Slot};
+use bus_plug::BusDevice;
+use std::alloc::{AllocError, Global};
+
+/// A command whose numbers are within their limits, and the devices that are plugged where the host is there.
+#[derive(Drop)]
+pub(crate) struct Job<'a, D> {
+    pub(crate) command: Command<'a>,
+    pub(crate) plugs: Vec<D>,
+    ghost within: { IsWithin (seen command) },
+}
+
+impl<'a, D: BusDevice> beeb_run::Command for Job<'a, D> {
+    type Slot = Slot;
+
+    type Cause = Cause;
+
+    type Ending = Ending;
+
+    type Outcome = Product<'a, D>;
+
+    ghost plan = { λ job. plan (map D.plug job.plugs.items) (seen job.command) };
+
+    fn wants(&self, alloc: Global) -> Result<Vec<(Slot, &str, u64)>, AllocError>
+        ensures { IfOk result (λ v. map seen_want v.items ≡ (plan (map D.plug self.now.plugs.items) (seen self.now.command)).reads) }
+    {
+        self.command.reads(alloc)
+    }
+
+    fn outcome(
+        self,
+        alloc: Global,
+        inputs: Vec<(Slot, Vec<u8>)>,
+    ) -> Result<Product<'a, D>, Refusal<Cause>>
+        requires { AreWithin (plan (map D.plug self.plugs.items) (seen self.command)).reads (map seen_input inputs.items) }
+        ensures { Gives (verdict_of D.plug) result ((plan (map D.plug self.entry.plugs.items) (seen self.entry.command)).after (map seen_input inputs.items)) }
+    {
+        let inputs = Inputs::of(alloc, inputs)?;
+        match self.command {
+            Command::Check { .. } => check_product(alloc, &inputs.trace),
+            Command::Asm { part, out, .. } => asm_product(alloc, part, out, &inputs.source),
+            Command::Dis {
+                part,
+                origin,
+                out,
+                ..
+            } => dis_product(alloc, part, origin, out, &inputs.image),
+            Command::Replay {
+                side: Side::Host,
+                ticks,
+                out,
+                ..
+            } => host_product(alloc, ticks, out, inputs, self.plugs),
+            Command::Replay {
+                side: Side::Para,
+                ticks,
+                out,
+                ..
+            } => para_product(alloc, ticks, out, inputs),
+            Command::Solo {
+                ticks,
+                out,
+                keep,
+                ..
+            } => solo_product(alloc, ticks, keep, out, inputs, self.plugs),
+        }
+    }
+}

@@ -1,0 +1,113 @@
+//! What a command came to, before it is written.
+ghost use Rattle.std.specs.Prelude.{◌≡◌, ◌<◌, length, get_or, IfOk};
+ghost use Rattle.beeb_run.specs.Seen.{seen_file};
+ghost use Rattle.beeb_commands.specs.Seen.{verdict_of};
+
+use crate::host::host_file;
+use crate::para::para_file;
+use crate::solo::solo_file;
+use crate::status::Ending;
+use beeb_bits::Tick;
+use beeb_run::Outcome;
+use bus_plug::BusDevice;
+use host_mach::HostMachine;
+use para_mach::ParaMachine;
+use std::alloc::{AllocError, Global};
+
+/// What a command came to.
+#[derive(Drop)]
+pub(crate) enum Product<'a, D> {
+    /// A text alone.
+    Text {
+        ending: Ending,
+        text: Vec<u8>,
+    },
+    /// One file with these bytes.
+    File {
+        name: &'a str,
+        bytes: Vec<u8>,
+    },
+    /// The host where its replay ended, and how many accesses it had.
+    Host {
+        out: &'a str,
+        ticks: Tick,
+        tube: u64,
+        machine: HostMachine<D>,
+    },
+    /// The second processor where its replay ended, and how many accesses it had.
+    Para {
+        out: &'a str,
+        ticks: Tick,
+        tube: u64,
+        machine: ParaMachine,
+    },
+    /// Both machines where their run ended, how many accesses they had, and the trace of those that are kept.
+    Solo {
+        out: &'a str,
+        ticks: Tick,
+        tube: u64,
+        kept: u64,
+        host: HostMachine<D>,
+        para: ParaMachine,
+        trace: Vec<u8>,
+    },
+}
+
+impl<'a, D: BusDevice> Outcome for Product<'a, D> {
+    type Ending = Ending;
+
+    ghost verdict = { λ p. verdict_of D.plug p };
+
+    fn count(&self) -> usize {
+        match self {
+            Product::Text { .. } => 0,
+            Product::File { .. } => 1,
+            Product::Host { .. } | Product::Para { .. } => 2,
+            Product::Solo { .. } => 4,
+        }
+    }
+
+    fn file(&self, alloc: Global, i: usize) -> Result<(String, Vec<u8>), AllocError> {
+        match self {
+            Product::Text { .. } => unreachable!(),
+            Product::File { name, bytes } => {
+                Ok((String::from_str(alloc, name)?, bytes.to_vec(alloc)?))
+            }
+            Product::Host {
+                out,
+                ticks,
+                tube,
+                machine,
+            } => host_file(alloc, *ticks, *tube, out, machine, i),
+            Product::Para {
+                out,
+                ticks,
+                tube,
+                machine,
+            } => para_file(alloc, *ticks, *tube, out, machine, i),
+            Product::Solo {
+                out,
+                ticks,
+                tube,
+                kept,
+                host,
+                para,
+                trace,
+            } => solo_file(alloc, *ticks, *tube, *kept, out, host, para, trace, i),
+        }
+    }
+
+    fn said(&self) -> &[u8] {
+        match self {
+            Product::Text { text, .. } => text,
+            _ => &[],
+        }
+    }
+
+    fn ending(self) -> Ending {
+        match self {
+            Product::Text { ending, .. } => ending,
+            _ => Ending::Done,
+        }
+    }
+}

@@ -1,0 +1,4 @@
+pub mod KeyLemmas
+pub mod GivenLemmas
+pub mod SlotLemmas
+pub mod OrderLemmas

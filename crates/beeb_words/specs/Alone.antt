@@ -1,0 +1,34 @@
+-- The words that stand alone among the options.
+use Rattle.std.specs.Prelude.{ℕ, ◌==◌, Bool, true, false, not, List, [], ◌∷◌, Option, Some, None, if◌then◌else◌}
+
+-- a word that begins with `-`
+abbrev pub is_dashed : List ℕ → Bool
+is_dashed [] = false
+is_dashed (b ∷ bs) = b == 45
+
+-- a word that isn't empty and doesn't begin with `-`
+abbrev pub is_name : List ℕ → Bool
+is_name [] = false
+is_name (b ∷ bs) = not (b == 45)
+
+-- the words that stand alone, where the first may be the value of a key before it
+abbrev pub alone : Bool → List (List ℕ) → List (List ℕ)
+alone skip [] = []
+alone false (w ∷ ws) = if is_dashed w then alone true ws else w ∷ alone false ws
+alone true (v ∷ ws) = alone false ws
+
+-- the two words that stand alone
+abbrev pub two : List (List ℕ) → Option (List ℕ × List ℕ)
+two [] = None
+two (a ∷ []) = None
+two (a ∷ b ∷ []) = Some (a, b)
+two (a ∷ b ∷ c ∷ ws) = None
+
+-- the four words that stand alone
+abbrev pub four : List (List ℕ) → Option (List ℕ × List ℕ × List ℕ × List ℕ)
+four [] = None
+four (a ∷ []) = None
+four (a ∷ b ∷ []) = None
+four (a ∷ b ∷ c ∷ []) = None
+four (a ∷ b ∷ c ∷ d ∷ []) = Some (a, b, c, d)
+four (a ∷ b ∷ c ∷ d ∷ e ∷ ws) = None

@@ -1,0 +1,26 @@
+-- The commands, as the words tell them.
+use Rattle.std.specs.Prelude.{ℕ, List}
+use Rattle.op_table.specs.declared.Part.{Part}
+use Rattle.beeb_bits.specs.declared.Side.{Side}
+use Rattle.beeb_words.specs.Given.{Values}
+
+-- names are lists of bytes
+pub data Command : Type 0 where
+  -- `check TRACE`
+  check : (trace : List ℕ) → Command
+  -- `asm PART SOURCE OUT`
+  asm : (part : Part) (source : List ℕ) (out : List ℕ) → Command
+  -- `dis PART IMAGE ORIGIN OUT`
+  dis : (part : Part) (image : List ℕ) (origin : ℕ) (out : List ℕ) → Command
+  -- `replay SIDE TRACE TICKS OUT` and options
+  replay : (side : Side) (trace : List ℕ) (ticks : ℕ) (out : List ℕ) (given : Values) → Command
+  -- `solo TICKS OUT` and options, with the number of accesses that are kept
+  solo : (ticks : ℕ) (out : List ℕ) (keep : ℕ) (given : Values) → Command
+
+-- the ticks that it asks for
+abbrev pub ticks_of : Command → ℕ
+ticks_of (check trace) = 0
+ticks_of (asm part source out) = 0
+ticks_of (dis part image origin out) = 0
+ticks_of (replay side trace ticks out given) = ticks
+ticks_of (solo ticks out keep given) = ticks

@@ -1,0 +1,8 @@
+pub mod Alone
+pub mod Keys
+pub mod Given
+pub mod Command
+pub mod Words
+pub mod Reads
+pub mod Seen
+pub mod Order

@@ -1,0 +1,39 @@
+-- What the code holds, as the definitions see it.
+use Rattle.std.specs.Prelude.{ℕ, List, [], Option, map, option_map, option_and_then, slice_get, slice_index_or, string_bytes}
+use Rattle.std.specs.Borrow.{Bor}
+use Rattle.std.specs.declared.string.String.{String}
+use Rattle.std.specs.declared.alloc.Global.{Global}
+use Rattle.beeb_words.specs.declared.command.Command.{Command}
+use Rattle.beeb_words.specs.declared.command.Command.TheVariants.{Check, Asm, Dis, Replay, Solo}
+use Rattle.beeb_words.specs.declared.given.Given.{Given}
+use Rattle.beeb_words.specs.declared.keys.Key.{Key}
+use Rattle.beeb_words.specs.declared.keys.Slot.{Slot}
+use Rattle.beeb_words.specs.Command as commands
+use Rattle.beeb_words.specs.Given.{Values}
+use Rattle.beeb_words.specs.Keys as keys
+
+-- the bytes of a word
+abbrev pub word_at : List (String Global) → ℕ → List ℕ
+word_at words i = slice_index_or (map string_bytes words) i []
+
+-- the word at a place that may be there
+abbrev pub value_of : List (String Global) → Option ℕ → Option (List ℕ)
+value_of words at = option_map string_bytes (option_and_then (slice_get words) at)
+
+-- the values of the options
+abbrev pub seen_given : Given → Values
+seen_given g = map (value_of g.words.now) g.places
+
+abbrev pub seen : Command → commands.Command
+seen (Check trace) = commands.check trace.now
+seen (Asm part source out) = commands.asm part source.now out.now
+seen (Dis part image origin out) = commands.dis part image.now origin out.now
+seen (Replay side trace ticks out given) = commands.replay side trace.now ticks out.now (seen_given given)
+seen (Solo ticks out keep given) = commands.solo ticks out.now keep (seen_given given)
+
+abbrev pub seen_key : Key → keys.Key
+seen_key k = keys.key k.word.now k.machines k.value k.built
+
+-- what a file is, its name and its cap
+abbrev pub seen_want : Slot × Bor (List ℕ) × ℕ → Slot × List ℕ × ℕ
+seen_want w = (w.0, w.1.now, w.2)

@@ -1,0 +1,41 @@
+//! The commands.
+use crate::given::Given;
+use beeb_bits::Side;
+use op_table::Part;
+
+/// A command, with the words that it came from.
+#[derive(Clone, Copy)]
+pub enum Command<'a> {
+    /// `check TRACE`
+    Check {
+        trace: &'a str,
+    },
+    /// `asm PART SOURCE OUT`
+    Asm {
+        part: Part,
+        source: &'a str,
+        out: &'a str,
+    },
+    /// `dis PART IMAGE ORIGIN OUT`
+    Dis {
+        part: Part,
+        image: &'a str,
+        origin: u16,
+        out: &'a str,
+    },
+    /// `replay SIDE TRACE TICKS OUT` and options
+    Replay {
+        side: Side,
+        trace: &'a str,
+        ticks: u64,
+        out: &'a str,
+        given: Given<'a>,
+    },
+    /// `solo TICKS OUT` and options, with the number of accesses that are kept
+    Solo {
+        ticks: u64,
+        out: &'a str,
+        keep: u32,
+        given: Given<'a>,
+    },
+}

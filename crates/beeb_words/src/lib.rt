@@ -1,0 +1,16 @@
+//! The words of beebtube: the grammar, and the files that a command reads.
+#![tactic(auto)]
+
+mod alone;
+mod command;
+mod files;
+mod given;
+mod keys;
+mod law;
+mod words;
+
+pub use command::Command;
+pub use given::Given;
+pub use keys::{Machines, Slot};
+pub use law::options_are_order_free;
+pub use words::command_of;
