@@ -1,6 +1,7 @@
 #!/usr/bin/env bash
 # Times `asm` on a source text of 4,194,304 bytes, with 60,000 labels, 20,000 instructions that name them and comments, against
-# `sha256sum` of the same file.
+# `sha256sum` of the same file. Then the peak memory for two texts of as many bytes that are one line: a comment, and a `byte` with
+# more values than the memory has bytes, which is refused.
 . "$(dirname "$0")/common.sh"
 
 python3 - <<'PY'
@@ -16,6 +17,15 @@ line = "; " + "a line of comment " * 4 + "\n"
 text += line * ((size - len(text)) // len(line))
 text += ";" * (size - len(text))
 open("source", "w").write(text)
+open("comment", "w").write(";" * size)
+open("list", "w").write("byte 1" + ",1" * ((size - 6) // 2))
 PY
 
 against_sha256sum source 'a ratio of at most 20' asm 6502 source image
+
+for file in comment list; do
+    /usr/bin/time -f '%M' -o one "$program" asm 6502 "$file" image >said || true
+    awk -v name="$file" -v memory="$(tail -n 1 one)" -v size="$(stat -c %s "$file")" 'BEGIN {
+        printf "a line of %d bytes, %s: %d kB, %.2f times the file (goal: at most 3)\n", size, name, memory, memory * 1024 / size
+    }'
+done
