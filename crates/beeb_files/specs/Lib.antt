@@ -4,3 +4,4 @@ pub mod Shelf
 pub mod Outlet
 pub mod Memory
 pub mod Folder
+pub mod Crew

@@ -1,10 +1,14 @@
-//! The answers of the memory forms call by call, the working folder, and the texts of the errors.
-ghost use Rattle.std.specs.Prelude.{◌≡◌, IfOk, string_bytes};
+//! The answers of the memory forms call by call, the working folder, crews, and the texts of the errors.
+ghost use Rattle.std.specs.Prelude.{◌≡◌, ◌+◌, ◌<◌, IfOk, string_bytes};
 ghost use Rattle.beeb_files.specs.Memory.{NamesDiffer};
 
-use crate::{DirOutlet, DirShelf, MemOutlet, MemShelf, Outlet, PutError, Shelf, ShelfError};
+use crate::{
+    Crew, DirOutlet, DirShelf, FailCrew, Job, MemOutlet, MemShelf, Outlet, PutError, Shelf,
+    ShelfError, ThreadCrew,
+};
 use std::alloc::{AllocError, Global};
 use std::fs;
+use std::sync::Wait;
 use std::test::Fail;
 
 fn entry(alloc: Global, name: &str, bytes: &[u8]) -> Result<(String, Vec<u8>), AllocError>
@@ -108,6 +112,37 @@ fn the_working_folder_gives_back_what_was_put(rt: HostRuntime) -> Result<(), Fai
     }
     fs::remove_file(&rt, WRITTEN)?;
     Ok(())
+}
+
+// Adds one.
+#[derive(Drop)]
+struct Next(u8);
+
+impl Job for Next {
+    type Done = u8;
+
+    ghost may_work = { λ j. j.0 < 255 };
+
+    ghost gives = { λ j r. r ≡ j.0 + 1 };
+
+    fn work<R: Wait>(self, _rt: &R) -> u8 {
+        self.0 + 1
+    }
+}
+
+#[test]
+fn a_crew_works_both_jobs_or_counts_a_fault(rt: HostRuntime) {
+    let mut threads = ThreadCrew::make();
+    let mut refusing = FailCrew::make();
+    for k in 0..3u8 {
+        assert_eq!(rt;
+            threads.pair(&rt, Next(k), Next(k + 7)),
+            Some((k + 1, k + 8))
+        );
+        assert_eq!(rt; (threads.faults(), threads.pairs()), (0, k as u64 + 1));
+        assert_eq!(rt; refusing.pair(&rt, Next(k), Next(k + 7)), None);
+        assert_eq!(rt; (refusing.faults(), refusing.pairs()), (k as u64 + 1, 0));
+    }
 }
 
 #[test]

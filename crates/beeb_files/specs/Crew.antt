@@ -1,0 +1,19 @@
+-- The counts of a crew.
+use Rattle.std.specs.Prelude.{ℕ}
+use Rattle.beeb_files.specs.Counts.{counted}
+
+-- the faults, and the pairs of jobs that were worked
+pub record Counts : Type 0 where
+  pub faults : ℕ
+  pub pairs : ℕ
+
+abbrev pub no_counts : Counts
+no_counts = record { faults = 0; pairs = 0 }
+
+-- one more fault, up to the last value
+abbrev pub with_fault : Counts → Counts
+with_fault c = record c { faults = counted c.faults }
+
+-- one more pair worked
+abbrev pub with_pair : Counts → Counts
+with_pair c = record c { pairs = counted c.pairs }
