@@ -1,4 +1,4 @@
-use crate::Cpu;
+use crate::{Cpu, cycles_of_the_table};
 use cpu_alu::Cycle::{Read, Write};
 use cpu_alu::{Cycle, Regs};
 use op_table::nmos;
@@ -108,6 +108,7 @@ fn all_other_opcodes_halt(rt: HostRuntime) {
         assert!(rt; !cpu.halted());
     }
     assert_eq!(rt; halting, 105);
+    cycles_of_the_table();
 }
 
 /// The lines at a look, the accesses of the sequence that begins, and PC, A, S and P after it.

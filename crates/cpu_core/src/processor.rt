@@ -176,25 +176,9 @@ impl Core {
         ensures state { self.new.state ≡ fresh sequence (after self.old.part self.old.state) }
     {
         set_off(self.part, &mut self.machine, sequence);
-        // Field by field: one wide load would wait for the narrow stores before it.
-        self.start.pc = self.machine.work.pc;
-        self.start.a = self.machine.work.a;
-        self.start.x = self.machine.work.x;
-        self.start.y = self.machine.work.y;
-        self.start.s = self.machine.work.s;
-        self.start.p = self.machine.work.p;
+        self.start = self.machine.work;
         self.sequence = sequence;
         self.count = 0;
-    }
-
-    // Kept apart, so that the next instruction begins with constants.
-    #[inline(never)]
-    fn begin_apart(&mut self, sequence: Sequence)
-        requires { HasEnded self.old.part self.old.state }
-        ensures part { self.new.part ≡ self.old.part }
-        ensures state { self.new.state ≡ fresh sequence (after self.old.part self.old.state) }
-    {
-        self.begin(sequence);
     }
 
     /// The access of the cycle in progress.
@@ -276,16 +260,29 @@ impl Core {
         looked(nmi, irq, &self.machine.work)
     }
 
+    // A look at lines of which one at least asks.
+    #[inline(never)]
+    fn take_asked(&mut self, nmi: bool, irq: bool)
+        requires { IsNone (next self.old.part self.old.state) }
+        ensures part { self.new.part ≡ self.old.part }
+        ensures state { self.new.state ≡ fresh (looked nmi irq (after self.old.part self.old.state)) (after self.old.part self.old.state) }
+    {
+        let sequence = self.look(nmi, irq);
+        self.begin(sequence);
+    }
+
     /// The look at the lines: an NMI begins, else an IRQ if the flag I is clear, else the next instruction.
+    // Where nothing is asked for, the next instruction begins with constants.
     #[inline(always)]
     pub fn take_lines(&mut self, nmi: bool, irq: bool)
         requires { IsNone (next self.old.part self.old.state) }
         ensures part { self.new.part ≡ self.old.part }
         ensures state { self.new.state ≡ fresh (looked nmi irq (after self.old.part self.old.state)) (after self.old.part self.old.state) }
     {
-        match self.look(nmi, irq) {
-            Sequence::Instruction => self.begin(Sequence::Instruction),
-            sequence => self.begin_apart(sequence),
+        if nmi || irq {
+            self.take_asked(nmi, irq);
+        } else {
+            self.begin(Sequence::Instruction);
         }
     }
 

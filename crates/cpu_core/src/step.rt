@@ -397,95 +397,101 @@ impl Machine {
     }
 
     /// From one of the phases that are not the most frequent.
-    #[inline(never)]
+    #[inline(always)]
     fn step_later(&mut self, part: Part, byte: u8)
         requires going { self.old.phase ≢ Phase.Over }
         requires running { self.old.phase ≢ Phase.Halted }
         requires later { is_later self.old.phase ≡ true }
         ensures { GoesOn part self.old byte self.new }
     {
-        if (self.phase as u8) < Phase::PullStack as u8 {
-            match self.phase {
-                Phase::Push => {
-                    let value = self.work.pushed(self.row.mnemonic);
-                    self.write_stack(Phase::PushByte, 0, value);
+        if (self.phase as u8) < Phase::CallPushLow as u8 {
+            if (self.phase as u8) < Phase::PullStack as u8 {
+                match self.phase {
+                    Phase::Push => {
+                        let value = self.work.pushed(self.row.mnemonic);
+                        self.write_stack(Phase::PushByte, 0, value);
+                    }
+                    Phase::PushByte => {
+                        self.work.move_past(self.row.bytes);
+                        self.work.move_stack(255);
+                        self.phase = Phase::Over;
+                    }
+                    // Pull
+                    _ => self.read_stack(Phase::PullStack, 0),
                 }
-                Phase::PushByte => {
-                    self.work.move_past(self.row.bytes);
-                    self.work.move_stack(255);
-                    self.phase = Phase::Over;
+            } else if (self.phase as u8) < Phase::CallLow as u8 {
+                match self.phase {
+                    Phase::PullStack => self.read_stack(Phase::PullByte, 1),
+                    Phase::PullByte => self.after_pull_byte(part, byte),
+                    // Accumulator
+                    _ => self.after_accumulator(part, byte),
                 }
-                // Pull
-                _ => self.read_stack(Phase::PullStack, 0),
-            }
-        } else if (self.phase as u8) < Phase::CallLow as u8 {
-            match self.phase {
-                Phase::PullStack => self.read_stack(Phase::PullByte, 1),
-                Phase::PullByte => self.after_pull_byte(part, byte),
-                // Accumulator
-                _ => self.after_accumulator(part, byte),
-            }
-        } else if (self.phase as u8) < Phase::CallPushLow as u8 {
-            match self.phase {
-                Phase::CallLow => {
-                    self.low = byte;
-                    self.read_stack(Phase::CallStack, 0);
+            } else {
+                match self.phase {
+                    Phase::CallLow => {
+                        self.low = byte;
+                        self.read_stack(Phase::CallStack, 0);
+                    }
+                    Phase::CallStack => {
+                        let high = (self.work.place(2) / 256) as u8;
+                        self.write_stack(Phase::CallPushHigh, 0, high);
+                    }
+                    // CallPushHigh
+                    _ => {
+                        let low = (self.work.place(2) % 256) as u8;
+                        self.write_stack(Phase::CallPushLow, 255, low);
+                    }
                 }
-                Phase::CallStack => {
-                    let high = (self.work.place(2) / 256) as u8;
-                    self.write_stack(Phase::CallPushHigh, 0, high);
-                }
-                // CallPushHigh
-                _ => {
-                    let low = (self.work.place(2) % 256) as u8;
-                    self.write_stack(Phase::CallPushLow, 255, low);
-                }
-            }
-        } else if (self.phase as u8) < Phase::ReturnStack as u8 {
-            match self.phase {
-                Phase::CallPushLow => self.read_place(Phase::CallHigh, 2),
-                Phase::CallHigh => {
-                    self.work.move_stack(254);
-                    self.jump(word(self.low, byte));
-                }
-                // Return
-                _ => self.read_stack(Phase::ReturnStack, 0),
             }
         } else if (self.phase as u8) < Phase::ReturnTarget as u8 {
-            match self.phase {
-                Phase::ReturnStack => self.read_stack(Phase::ReturnLow, 1),
-                Phase::ReturnLow => {
-                    self.low = byte;
-                    self.read_stack(Phase::ReturnHigh, 2);
+            if (self.phase as u8) < Phase::ReturnStack as u8 {
+                match self.phase {
+                    Phase::CallPushLow => self.read_place(Phase::CallHigh, 2),
+                    Phase::CallHigh => {
+                        self.work.move_stack(254);
+                        self.jump(word(self.low, byte));
+                    }
+                    // Return
+                    _ => self.read_stack(Phase::ReturnStack, 0),
                 }
-                // ReturnHigh
-                _ => self.read(Phase::ReturnTarget, word(self.low, byte)),
-            }
-        } else if (self.phase as u8) < Phase::IndexedPointer as u8 {
-            match self.phase {
-                Phase::ReturnTarget => {
-                    self.work.move_stack(2);
-                    self.jump(wrapping_sum(self.at, 1));
+            } else {
+                match self.phase {
+                    Phase::ReturnStack => self.read_stack(Phase::ReturnLow, 1),
+                    Phase::ReturnLow => {
+                        self.low = byte;
+                        self.read_stack(Phase::ReturnHigh, 2);
+                    }
+                    // ReturnHigh
+                    _ => self.read(Phase::ReturnTarget, word(self.low, byte)),
                 }
-                Phase::JumpLow => {
-                    self.low = byte;
-                    self.read_place(Phase::JumpHigh, 2);
-                }
-                // JumpHigh
-                _ => self.jump(word(self.low, byte)),
             }
         } else if (self.phase as u8) < Phase::ModifyAgain as u8 {
-            match self.phase {
-                Phase::IndexedPointer => {
-                    self.low = byte;
-                    self.read(Phase::IndexedPointerLow, byte as u16);
+            if (self.phase as u8) < Phase::IndexedPointer as u8 {
+                match self.phase {
+                    Phase::ReturnTarget => {
+                        self.work.move_stack(2);
+                        self.jump(wrapping_sum(self.at, 1));
+                    }
+                    Phase::JumpLow => {
+                        self.low = byte;
+                        self.read_place(Phase::JumpHigh, 2);
+                    }
+                    // JumpHigh
+                    _ => self.jump(word(self.low, byte)),
                 }
-                Phase::IndexedPointerLow => {
-                    self.read(Phase::IndexedPointerHigh, in_zero_page(self.low, 1));
-                    self.low = byte;
+            } else {
+                match self.phase {
+                    Phase::IndexedPointer => {
+                        self.low = byte;
+                        self.read(Phase::IndexedPointerLow, byte as u16);
+                    }
+                    Phase::IndexedPointerLow => {
+                        self.read(Phase::IndexedPointerHigh, in_zero_page(self.low, 1));
+                        self.low = byte;
+                    }
+                    // IndexedPointerHigh
+                    _ => self.after_indexed_pointer_high(part, byte),
                 }
-                // IndexedPointerHigh
-                _ => self.after_indexed_pointer_high(part, byte),
             }
         } else if (self.phase as u8) < Phase::BranchCrossed as u8 {
             match self.phase {

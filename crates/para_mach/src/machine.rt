@@ -1,5 +1,5 @@
 //! The machine.
-ghost use Rattle.std.specs.Prelude.{◌≡◌, ◌≤◌, if◌then◌else◌, ◌≢◌, ◌↔◌, ◌⊎◌, ◌<◌, ◌%◌, ◌^◌, IfOk, IfErr, IsErrOf, length, Err, Some, None, MatchOption, IsSome, IsNone, false, true, max, slice_index};
+ghost use Rattle.std.specs.Prelude.{Bool, ◌≡◌, ◌≤◌, if◌then◌else◌, ◌≢◌, ◌↔◌, ◌⊎◌, ◌<◌, ◌%◌, ◌^◌, IfOk, IfErr, IsErrOf, length, Err, Some, None, MatchOption, IsSome, IsNone, false, true, max, slice_index};
 ghost use Rattle.tube_chip.specs.declared.Answer.TheVariants.{Byte, Seen};
 ghost use Rattle.tube_party.specs.Moves.{IsAsk};
 ghost use Rattle.para_mach.specs.State.{power_on, shown_regs};
@@ -134,9 +134,9 @@ impl ParaMachine {
         self.cpu.starting()
     }
 
-    // The next access, without its ticks, if it asks nothing; else what it asks.
-    #[inline(always)]
-    fn access(&mut self) -> Option<Op>
+    // The next access, without its ticks, if it asks nothing; else what it asks. Kept apart, for any address.
+    #[inline(never)]
+    fn access_any(&mut self) -> Option<Op>
         requires { looks self.old ≡ false }
         ensures { IsDone self.old result self.new }
     {
@@ -146,6 +146,21 @@ impl ParaMachine {
                 None
             }
             Err(op) => Some(op),
+        }
+    }
+
+    // The same, in the loop, where most addresses are low.
+    #[inline(always)]
+    fn access(&mut self) -> Option<Op>
+        requires { looks self.old ≡ false }
+        ensures { IsDone self.old result self.new }
+    {
+        match self.memory.exchange_low(self.cpu.want()) {
+            Some(byte) => {
+                self.cpu.give(byte);
+                None
+            }
+            None => self.access_any(),
         }
     }
 
@@ -200,6 +215,35 @@ impl ParaMachine {
         }
     }
 
+    // The Tube's lines at a look that finds one more reset or NMI. Kept apart, so that every other look is short; and told the lines one
+    // by one, which none of these looks then puts into memory.
+    #[inline(never)]
+    fn take_counts(&mut self, prst: bool, resets: u32, nmis: u32)
+        requires room { self.old.due < 2 ^ 40 }
+        requires looks { looks self.old ≡ true }
+        requires counted { (resets ≢ self.old.resets) ⊎ (nmis ≢ self.old.nmis) }
+        ensures { (pirq : Bool) (hirq : Bool) → self.new ≡ next_state self.old (Some (Seen (record { prst = prst; resets = resets; nmis = nmis; pirq = pirq; hirq = hirq }))) }
+    {
+        if resets != self.resets {
+            if prst {
+                self.is_held = true;
+                self.due += 2;
+                self.lag = 1;
+                return;
+            }
+            self.memory.switch_in();
+            self.resets = resets;
+            self.nmis = nmis;
+            self.cpu.begin_reset();
+        } else {
+            self.nmis = nmis;
+            self.cpu.take_lines(true, false);
+        }
+        self.is_held = false;
+        self.due += 1;
+        self.lag = 0;
+    }
+
     // The Tube's lines at a look.
     #[inline(always)]
     fn take_lines(&mut self, lines: Lines)
@@ -207,26 +251,14 @@ impl ParaMachine {
         requires looks { looks self.old ≡ true }
         ensures { self.new ≡ next_state self.old (Some (Seen lines)) }
     {
-        if lines.resets != self.resets {
-            if lines.prst {
-                self.is_held = true;
-                self.due += 2;
-                self.lag = 1;
-                return;
-            }
-            self.memory.switch_in();
-            self.resets = lines.resets;
-            self.nmis = lines.nmis;
-            self.cpu.begin_reset();
-        } else if lines.nmis != self.nmis {
-            self.nmis = lines.nmis;
-            self.cpu.take_lines(true, false);
-        } else {
+        if lines.resets == self.resets && lines.nmis == self.nmis {
             self.cpu.take_lines(false, lines.pirq);
+            self.is_held = false;
+            self.due += 1;
+            self.lag = 0;
+        } else {
+            self.take_counts(lines.prst, lines.resets, lines.nmis);
         }
-        self.is_held = false;
-        self.due += 1;
-        self.lag = 0;
     }
 }
 

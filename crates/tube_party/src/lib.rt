@@ -12,6 +12,7 @@ pub use law::{
     legal_merge_is_reference, party_goes_on, reference_is_followed, reference_is_replayed,
     reference_is_trace, replay_is_following,
 };
+pub use log::note;
 pub use one_thread::{Done, solo};
 pub use party::{Ask, MOST, Party};
 pub use replaying::{Doing, replay};

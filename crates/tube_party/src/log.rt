@@ -5,6 +5,20 @@ ghost use Rattle.tube_party.specs.Turn.{noted};
 use std::alloc::{AllocError, Global};
 use tube_trace::Entry;
 
+/// One more access of a side: it is counted, and joins the list while that has fewer than `keep`. Takes no memory.
+pub fn note(list: &mut Vec<Entry>, count: &mut u64, keep: u32, entry: Entry)
+    requires room { keep ≤ vec_capacity list.old }
+    requires count { count.old < 2 ^ 63 }
+    ensures list { list.new.items ≡ noted keep list.old.items entry }
+    ensures count { count.new ≡ count.old + 1 }
+    ensures room { vec_capacity list.new ≡ vec_capacity list.old }
+{
+    if list.len() < keep as usize {
+        list.push_reserved(entry);
+    }
+    *count += 1;
+}
+
 /// The first `keep` accesses of a side, with room for them all, and the number of all.
 #[derive(Drop)]
 pub(crate) struct Log {
@@ -36,9 +50,6 @@ impl Log {
         ensures count { self.new.count ≡ self.old.count + 1 }
         ensures keep { self.new.keep ≡ self.old.keep }
     {
-        if self.list.len() < self.keep as usize {
-            self.list.push_reserved(entry);
-        }
-        self.count += 1;
+        note(&mut self.list, &mut self.count, self.keep, entry);
     }
 }

@@ -1,6 +1,7 @@
 //! Two parties on one thread.
 ghost use Rattle.std.specs.Prelude.{◌≡◌, ◌≤◌, ◌<◌, ◌^◌, [], IfOk, IfErr, IsTrue};
 ghost use Rattle.beeb_bits.specs.declared.Side.TheVariants.{Host, Para};
+ghost use Rattle.tube_chip.specs.State.{lines_of};
 ghost use Rattle.tube_party.specs.Played.{IsPlayed};
 ghost use Rattle.tube_party.specs.Turn.{IsPending, Turns, first_of};
 ghost use Rattle.tube_party.specs.Reference.{reference};
@@ -9,7 +10,7 @@ use crate::log::Log;
 use crate::party::{Ask, MOST, Party};
 use beeb_bits::{Side, Tick};
 use std::alloc::Global;
-use tube_chip::{Answer, Chip};
+use tube_chip::{Answer, Chip, Lines};
 use tube_trace::Entry;
 
 /// Two parties after a run, with the chip between them. A list holds the first accesses of its side, as many as were to be kept, and
@@ -46,11 +47,12 @@ fn first_of(host: Ask, para: Ask) -> Option<Side>
     }
 }
 
-/// Does the step that asks, and all after it that ask nothing.
+/// Does the step that asks, and all after it that ask nothing. The lines are kept up with the chip, which a look leaves alone.
 fn turn<M: Party>(
     machine: &mut M,
     side: Side,
     chip: &mut Chip,
+    lines: &mut Lines,
     log: &mut Log,
     n: Tick,
     ask: Ask,
@@ -59,6 +61,8 @@ fn turn<M: Party>(
     requires plays { IsTrue (M.plays side) }
     requires pending { IsPending M.moves n.0 (M.state machine.old) ask }
     requires count { log.old.count < 2 ^ 63 }
+    requires kept { lines.old ≡ lines_of chip.old }
+    ensures kept { lines.new ≡ lines_of chip.new }
     ensures turns { Turns M.moves side n.0 log.old.keep (M.state machine.old) chip.old log.old.list.items log.old.count (M.state machine.new) chip.new log.new.list.items log.new.count result }
     ensures keep { log.new.keep ≡ log.old.keep }
 {
@@ -66,6 +70,7 @@ fn turn<M: Party>(
         Ask::Nothing => unreachable!(),
         Ask::Access(tick, op) => {
             let answer = chip.apply(side, op);
+            *lines = chip.lines();
             machine.answer(Answer::Byte(answer));
             log.note(Entry {
                 tick,
@@ -74,10 +79,7 @@ fn turn<M: Party>(
                 answer,
             });
         }
-        Ask::Look(_) => {
-            let lines = chip.lines();
-            machine.answer(Answer::Seen(lines));
-        }
+        Ask::Look(_) => machine.answer(Answer::Seen(*lines)),
     }
     machine.advance(n)
 }
@@ -99,15 +101,32 @@ fn both<H: Party, P: Party>(
     ensures { IsPlayed (reference H.moves P.moves (H.state host) (P.state para) n.0) host_log.keep (H.state result.host) (P.state result.para) result.chip result.host_list.items result.para_list.items result.host_count result.para_count }
 {
     let mut chip = Chip::new();
+    let mut lines = chip.lines();
     let mut host_ask = host.advance(n);
     let mut para_ask = para.advance(n);
     while let Some(side) = first_of(host_ask, para_ask) {
         match side {
             Side::Host => {
-                host_ask = turn(&mut host, Side::Host, &mut chip, &mut host_log, n, host_ask);
+                host_ask = turn(
+                    &mut host,
+                    Side::Host,
+                    &mut chip,
+                    &mut lines,
+                    &mut host_log,
+                    n,
+                    host_ask,
+                );
             }
             Side::Para => {
-                para_ask = turn(&mut para, Side::Para, &mut chip, &mut para_log, n, para_ask);
+                para_ask = turn(
+                    &mut para,
+                    Side::Para,
+                    &mut chip,
+                    &mut lines,
+                    &mut para_log,
+                    n,
+                    para_ask,
+                );
             }
         }
     }

@@ -1,5 +1,5 @@
 //! A trace as one side's machine meets it.
-ghost use Rattle.std.specs.Prelude.{◌≡◌, ◌≤◌, ◌<◌, ◌+◌, ◌⊎◌, ℕ, length, drop, All, MatchResult, ◌&&◌, nat_lt};
+ghost use Rattle.std.specs.Prelude.{◌≡◌, ◌≤◌, ◌<◌, ◌+◌, ℕ, length, drop, All, MatchResult, ◌&&◌, nat_lt};
 ghost use Rattle.beeb_bits.specs.declared.Side.{Side};
 ghost use Rattle.tube_chip.specs.Events.{is_side};
 ghost use Rattle.tube_chip.specs.State.{lines_of};
@@ -66,13 +66,13 @@ pub(crate) fn take(trace: &[Entry], at: usize, tick: Tick, op: Op) -> Result<u8,
 }
 
 // Does the entries that come before a look of the side at a tick, from a place on, and gives the place of the first that doesn't.
+#[inline(never)]
 fn catch_up(chip: &mut Chip, trace: &[Entry], seen: usize, side: Side, tick: Tick) -> usize
     requires within { seen ≤ length trace.now }
     requires entries { All IsEntry trace.now }
     ensures within { result ≤ length trace.now }
     ensures chip { chip.new ≡ chip_before side tick.0 chip.old (drop seen trace.now) }
     ensures later { (t : ℕ) → tick.0 ≤ t → chip_before side t chip.old (drop seen trace.now) ≡ chip_before side t chip.new (drop result trace.now) }
-    ensures still { (chip.new ≡ chip.old) ⊎ (seen < result) }
 {
     let mut at = seen;
     while at < trace.len() && before(trace[at].tick, trace[at].side, tick, side) {
@@ -102,9 +102,11 @@ pub(crate) fn lines_at(
     ensures later { (t : ℕ) → tick.0 ≤ t → chip_before side t chip.old (drop seen trace.now) ≡ chip_before side t chip.new (drop result trace.now) }
     ensures lines { lines.new ≡ lines_of chip.new }
 {
-    let at = catch_up(chip, trace, seen, side, tick);
-    if at != seen {
+    if seen < trace.len() && before(trace[seen].tick, trace[seen].side, tick, side) {
+        let at = catch_up(chip, trace, seen, side, tick);
         *lines = chip.lines();
+        at
+    } else {
+        seen
     }
-    at
 }

@@ -9,6 +9,7 @@ pub loop-side-init : goal.loop-side-init
 loop-side-init g c = record {
   way = begins g.H.Party.moves g.P.Party.moves g.met.H.Party.lawful g.met.P.Party.lawful _ _ _ _ _ _ _ _ _ _ _ _ _
       c.advance-host_ask.ensures c.advance-para_ask.ensures c.new-chip.ensures c.requires.host_none c.requires.para_none;
+  lines = c.lines-lines.ensures;
   host_keep = refl;
   para_keep = c.requires.one_keep;
 }
@@ -26,6 +27,7 @@ loop-side-preserved-in-Host g c =
     record {
       way = host_turn g.H.Party.moves g.P.Party.moves g.met.H.Party.lawful g.met.P.Party.lawful _ _ _ _ _ _ _ _ _ _ _ _ _ _ _ _ _ _
           c.loop-side.invariant.way e (turns_keep c.loop-side.invariant.host_keep c.turn-host_ask.ensures.turns);
+      lines = c.turn-host_ask.ensures.kept;
       host_keep = c.turn-host_ask.ensures.keep ∙ c.loop-side.invariant.host_keep;
       para_keep = c.loop-side.invariant.para_keep;
     }
@@ -43,6 +45,7 @@ loop-side-preserved g c =
     record {
       way = para_turn g.H.Party.moves g.P.Party.moves g.met.H.Party.lawful g.met.P.Party.lawful _ _ _ _ _ _ _ _ _ _ _ _ _ _ _ _ _ _
           c.loop-side.invariant.way e (turns_keep c.loop-side.invariant.para_keep c.turn-para_ask.ensures.turns);
+      lines = c.turn-para_ask.ensures.kept;
       host_keep = c.loop-side.invariant.host_keep;
       para_keep = c.turn-para_ask.ensures.keep ∙ c.loop-side.invariant.para_keep;
     }

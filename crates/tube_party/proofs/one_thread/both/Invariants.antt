@@ -1,4 +1,5 @@
 use Rattle.std.proofs.Common.{◌≡◌, ◌+◌}
+use Rattle.tube_chip.specs.State.{lines_of}
 use Rattle.tube_party.specs.Turn.{left}
 use Rattle.tube_party.proofs.UnderWay.{IsUnderWay}
 use Rattle.tube_party.proofs.one_thread.both.Given as goal
@@ -6,6 +7,7 @@ use Rattle.tube_party.proofs.one_thread.both.Given as goal
 abbrev pub invariant-loop-side : goal.invariant-loop-side
 invariant-loop-side g l = record {
   way : IsUnderWay g.H.Party.moves g.P.Party.moves l.n.0 l.fn.host_log.keep (g.H.Party.state l.fn.host) (g.P.Party.state l.fn.para) (g.H.Party.state l.host) (g.P.Party.state l.para) l.chip l.host_ask l.para_ask l.host_log.list.items l.para_log.list.items l.host_log.count l.para_log.count;
+  lines : l.lines ≡ lines_of l.chip;
   host_keep : l.host_log.keep ≡ l.fn.host_log.keep;
   para_keep : l.para_log.keep ≡ l.fn.host_log.keep;
 }

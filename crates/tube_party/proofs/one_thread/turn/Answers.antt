@@ -17,9 +17,9 @@ returns-clause-turns g c = elim c.match-ask.branch [
       (ap (λ x. x.list.items) w.log-is ∙ w.note.ensures.list) (ap (λ x. x.count) w.log-is ∙ w.note.ensures.count)
       c.advance.ensures
   | in-Look w ↦
-      turn_look _ _ _ _ _ _ _ _ (g.M.Party.state c.match-ask.machine) _ _ _ _ c.args.ask _ w.in-Look.field-0 w.lines-lines.result
+      turn_look _ _ _ _ _ _ _ _ (g.M.Party.state c.match-ask.machine) _ _ _ _ c.args.ask _ w.in-Look.field-0 c.args.lines.now
       w.in-Look.is c.requires.pending
-      w.lines-lines.ensures w.chip-is (ap (λ x. x.list.items) w.log-is) (ap (λ x. x.count) w.log-is)
+      c.requires.kept w.chip-is (ap (λ x. x.list.items) w.log-is) (ap (λ x. x.count) w.log-is)
       (ap g.M.Party.state w.machine-is ∙ w.answer-in-Look.ensures)
       c.advance.ensures
 ]

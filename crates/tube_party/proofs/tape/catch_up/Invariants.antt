@@ -1,4 +1,4 @@
-use Rattle.std.proofs.Common.{length, ◌-◌, ◌≡◌, ◌≤◌, ◌<◌, ◌⊎◌, ℕ, drop}
+use Rattle.std.proofs.Common.{length, ◌-◌, ◌≡◌, ◌≤◌, ℕ, drop}
 use Rattle.tube_party.specs.Replay.{chip_before}
 use Rattle.tube_party.proofs.tape.catch_up.Given as goal
 
@@ -6,8 +6,6 @@ use Rattle.tube_party.proofs.tape.catch_up.Given as goal
 abbrev pub invariant-loop-at : goal.invariant-loop-at
 invariant-loop-at l = record {
   within : l.at ≤ length l.trace;
-  since : l.seen ≤ l.at;
-  still : (l.chip ≡ l.initial.chip) ⊎ (l.seen < l.at);
   later : (t : ℕ) → l.tick.0 ≤ t → chip_before l.side t l.initial.chip (drop l.seen l.trace) ≡ chip_before l.side t l.chip (drop l.at l.trace);
 }
 
