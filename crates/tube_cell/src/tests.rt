@@ -12,6 +12,7 @@ use std::alloc::Global;
 use std::sync::Wait;
 use std::thread::{Threads, join};
 use tube_chip::{Chip, Lines, Op};
+use tube_trace::{first_wrong, read};
 
 const IDLE: Lines = Lines {
     prst: false,
@@ -245,16 +246,41 @@ fn pair<R: Threads + Wait + Sync>(
     Some((host_list, para_list, cell.join(rt, host, para)))
 }
 
-// The access of a side at this tick, if it has one there, is answered as it was on two threads.
-fn is_same(chip: &mut Chip, side: Side, list: &[Entry], place: &mut usize, tick: u64) -> bool {
-    match list.get(*place) {
-        Some(entry) if entry.tick == tick => {
-            *place = place.wrapping_add(1);
-            let op = op_of(entry.number, entry.byte, entry.is_write);
-            chip.apply(side, op) == entry.answer
+// The line of an access of a side, in a trace.
+fn push_line(alloc: Global, text: &mut Vec<u8>, side: char, entry: &Entry) -> Option<()> {
+    let (kind, byte) = if entry.is_write {
+        ('W', entry.byte)
+    } else {
+        ('R', entry.answer)
+    };
+    let number = entry.number % 8;
+    let line = format!(in alloc; "{:010X} {side} {kind} {number} {byte:02X}\n", entry.tick).ok()?;
+    text.extend_from_slice(line.as_bytes()).ok()
+}
+
+// The trace of both sides' accesses: by tick, and at one tick the host's first.
+fn trace_text(alloc: Global, host: &[Entry], para: &[Entry]) -> Option<Vec<u8>> {
+    let mut text = Vec::new(alloc);
+    let mut mine = host;
+    let mut theirs = para;
+    for _ in 0..2 * ACCESSES {
+        match (mine, theirs) {
+            ([a, rest @ ..], [b, ..]) if a.tick <= b.tick => {
+                push_line(alloc, &mut text, 'H', a)?;
+                mine = rest;
+            }
+            (_, [b, rest @ ..]) => {
+                push_line(alloc, &mut text, 'P', b)?;
+                theirs = rest;
+            }
+            ([a, rest @ ..], []) => {
+                push_line(alloc, &mut text, 'H', a)?;
+                mine = rest;
+            }
+            ([], []) => return None,
         }
-        _ => true,
     }
+    Some(text)
 }
 
 #[test]
@@ -265,20 +291,15 @@ fn two_threads_make_a_legal_history(rt: HostRuntime) {
             &rt,
             "both get on",
         );
+        let text = trace_text(rt.alloc(), &host, &para).expect(&rt, "ample memory");
+        // What is read rises as the trace of a Tube does.
+        let entries = read(rt.alloc(), &text).expect(&rt, "a trace");
+        assert_eq!(rt; entries.len(), 20_000);
+        assert_eq!(rt; first_wrong(&entries), None, "{seed}");
         let mut chip = Chip::new();
-        let mut host_place = 0;
-        let mut para_place = 0;
-        for tick in 0..10_100_000u64 {
-            assert!(rt;
-                is_same(&mut chip, Side::Host, &host, &mut host_place, tick),
-                "{seed} {tick}"
-            );
-            assert!(rt;
-                is_same(&mut chip, Side::Para, &para, &mut para_place, tick),
-                "{seed} {tick}"
-            );
+        for entry in &entries {
+            chip.apply(entry.side, entry.op);
         }
-        assert_eq!(rt; (host_place, para_place), (host.len(), para.len()));
         assert_eq!(rt; chip.pack(), end.pack());
     }
 }
