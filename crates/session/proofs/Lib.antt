@@ -1,0 +1,5 @@
+pub mod Runs
+pub mod Kept
+pub mod Merged
+pub mod UnderWay
+pub mod Ends

@@ -1,0 +1,4 @@
+pub mod Steps
+pub mod Talking
+pub mod Turned
+pub mod Work

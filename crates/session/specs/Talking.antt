@@ -1,0 +1,33 @@
+-- What the talkers of the tests ask, and what they hear.
+use Rattle.std.specs.Prelude.{ℕ, ◌+◌, ◌*◌, ◌%◌, Bool, true, false, Option, None, Some}
+use Rattle.std.proofs.Common.{arith}
+use Rattle.beeb_bits.specs.declared.Side.{Side}
+use Rattle.tube_chip.specs.declared.Op.TheVariants.{Read, Write}
+use Rattle.tube_chip.specs.declared.Answer.{Answer}
+use Rattle.tube_chip.specs.declared.Answer.TheVariants.{Byte, Seen}
+use Rattle.tube_chip.specs.declared.Lines.{Lines}
+use Rattle.tube_chip.specs.Act.{Query, access, look, weight}
+use Rattle.tube_party.specs.Moves.{MayAsk}
+
+-- a look, or an access to the register that what it heard picks
+abbrev pub asks : Bool → Bool → ℕ → Query
+asks true writes heard = look
+asks false true heard = access (Write (heard % 8) heard)
+asks false false heard = access (Read (heard % 8))
+
+pub may_ask : (looks writes : Bool) (heard : ℕ) (side : Side) → MayAsk side (Some (asks looks writes heard))
+may_ask true writes heard side = tt
+may_ask false true heard side = omega arith
+may_ask false false heard side = omega arith
+
+abbrev pub heard_lines : Lines → ℕ
+heard_lines l = l.nmis % 8 + l.resets % 8 + (weight 16 l.prst + weight 32 l.pirq + weight 64 l.hirq)
+
+abbrev pub heard_of : Option Answer → ℕ
+heard_of None = 0
+heard_of (Some (Byte b)) = b
+heard_of (Some (Seen l)) = heard_lines l
+
+-- what was heard so far, and this answer
+abbrev pub heard_after : ℕ → Option Answer → ℕ
+heard_after heard a = (((heard * 5) % 256 + heard_of a) % 256 + 1) % 256

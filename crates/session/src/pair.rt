@@ -1,0 +1,165 @@
+//! Both machines beside each other.
+ghost use Rattle.std.specs.Prelude.{◌≡◌, ◌≤◌, ℕ, true, [], Err, IfOk, IfSome, IsErr, IsTrue, vec_capacity};
+ghost use Rattle.std.specs.Arc.{arc_value};
+ghost use Rattle.beeb_bits.specs.declared.Side.TheVariants.{Host, Para};
+ghost use Rattle.beeb_files.specs.Counts.{Rose};
+ghost use Rattle.tube_cell.specs.Passes.{Carried};
+ghost use Rattle.tube_party.specs.Played.{IsPlayed};
+ghost use Rattle.tube_party.specs.Reference.{reference};
+ghost use Rattle.session.specs.Work.{HasWorked};
+ghost use Rattle.session.specs.declared.pair.PairError.TheVariants.{NoThread, NoMemory};
+
+use crate::half::Half;
+use crate::side_job::SideJob;
+use beeb_bits::Tick;
+use beeb_files::Crew;
+use std::alloc::Global;
+use std::sync::{Arc, Wait};
+use std::thread::Threads;
+use tube_cell::{Pass, TubeCell, Whole};
+use tube_party::{Done, MOST, Party, legal_merge_is_reference};
+use tube_trace::Entry;
+
+/// Why two parties were not run.
+#[derive(Drop)]
+pub enum PairError<H, P> {
+    /// The crew started no thread. Both parties are dropped.
+    NoThread,
+    /// There was no memory. No step was done, and both parties are handed back as they were.
+    NoMemory { host: H, para: P },
+}
+
+type Shared = Arc<TubeCell, Global>;
+
+// All memory of a run: the cell, held by each side and by the caller, and room for what is kept of each side.
+#[derive(Drop)]
+struct Supplies {
+    cell: Shared,
+    host_cell: Shared,
+    para_cell: Shared,
+    whole: Whole,
+    host_list: Vec<Entry>,
+    para_list: Vec<Entry>,
+}
+
+fn take_supplies(alloc: Global, keep: u32) -> Option<Supplies>
+    ensures cells { IfSome result (λ s. (arc_value s.host_cell ≡ arc_value s.cell) × (arc_value s.para_cell ≡ arc_value s.cell)) }
+    ensures whole { IfSome result (λ s. s.whole ≡ arc_value s.cell) }
+    ensures lists { IfSome result (λ s. (s.host_list.items ≡ []) × (s.para_list.items ≡ [])) }
+    ensures room { IfSome result (λ s. (keep ≤ vec_capacity s.host_list) × (keep ≤ vec_capacity s.para_list)) }
+{
+    let (cell, whole) = TubeCell::make(alloc).ok()?;
+    let cell = Arc::new(alloc, cell).ok()?;
+    let host_cell = Arc::try_clone(&cell).ok()?;
+    let para_cell = Arc::try_clone(&cell).ok()?;
+    let host_list = Vec::with_capacity(alloc, keep as usize).ok()?;
+    let para_list = Vec::with_capacity(alloc, keep as usize).ok()?;
+    Some(Supplies {
+        cell,
+        host_cell,
+        para_cell,
+        whole,
+        host_list,
+        para_list,
+    })
+}
+
+/// Runs two parties at one chip for the ticks below `n`, each in a thread of its own, with what `solo` gives of the same two: what the
+/// reference run does, however the threads take turns. Of each side's accesses the first `keep` are kept. All memory is taken before the
+/// threads start. May wait for a thread, and what is promised holds if it returns.
+///
+/// # Errors
+/// `NoThread` where the crew counted a fault, and `NoMemory` before any step.
+pub fn run_pair<C: Crew, H: Party + Send, P: Party + Send, R: Threads + Wait + Sync>(
+    rt: &R,
+    alloc: Global,
+    crew: &mut C,
+    host: H,
+    para: P,
+    n: Tick,
+    keep: u32,
+) -> Result<Done<H, P>, PairError<H, P>>
+    requires ticks { n.0 ≤ MOST }
+    requires host_plays { IsTrue (H.plays Host) }
+    requires para_plays { IsTrue (P.plays Para) }
+    requires host_open { H.moves.closed (H.state host) ≤ n.0 }
+    requires para_open { P.moves.closed (P.state para) ≤ n.0 }
+    ensures played { IfOk result (λ d. IsPlayed (reference H.moves P.moves (H.state host) (P.state para) n.0) keep (H.state d.host) (P.state d.para) d.chip d.host_list.items d.para_list.items d.host_count d.para_count) }
+    ensures worked { IfOk result (λ _. Rose (C.pairs crew.old) (C.pairs crew.new)) }
+    ensures no_thread { result ≡ Err NoThread → Rose (C.faults crew.old) (C.faults crew.new) }
+    ensures no_memory { (h : H) (p : P) → result ≡ Err (NoMemory h p) → (h ≡ host) × (p ≡ para) × (crew.new ≡ crew.old) }
+    ensures refusing { C.refuses crew.old ≡ true → IsErr result }
+    ensures faults { C.faults crew.old ≤ C.faults crew.new }
+    ensures pairs { C.pairs crew.old ≤ C.pairs crew.new }
+{
+    let Some(
+        Supplies {
+            cell,
+            host_cell,
+            para_cell,
+            whole,
+            host_list,
+            para_list,
+        },
+    ) = take_supplies(alloc, keep)
+    else {
+        return Err(PairError::NoMemory { host, para });
+    };
+    let (host_pass, para_pass) = cell.split(rt, whole);
+    let host_job = job(host, host_pass, host_list, host_cell, n, keep);
+    let para_job = job(para, para_pass, para_list, para_cell, n, keep);
+    match crew.pair(rt, host_job, para_job) {
+        Some((host, para)) => Ok(joined(rt, &cell, host, para)),
+        None => Err(PairError::NoThread),
+    }
+}
+
+// The work of one side.
+fn job<M>(machine: M, pass: Pass, list: Vec<Entry>, cell: Shared, n: Tick, keep: u32) -> SideJob<M>
+    ensures machine { result.half.machine ≡ machine }
+    ensures pass { result.half.pass ≡ pass }
+    ensures list { result.half.list ≡ list }
+    ensures count { result.half.count ≡ 0 }
+    ensures cell { result.cell ≡ cell }
+    ensures limits { (result.n ≡ n) × (result.keep ≡ keep) }
+{
+    SideJob {
+        half: Half {
+            machine,
+            pass,
+            list,
+            count: 0,
+        },
+        cell,
+        n,
+        keep,
+    }
+}
+
+// Both sides at their end: since the merge of their lists is legal, they are what the reference run leaves.
+fn joined<H: Party, P: Party, R: Wait>(
+    rt: &R,
+    cell: &TubeCell,
+    host: Half<H>,
+    para: Half<P>,
+) -> Done<H, P>
+    requires cell { (host.pass.cell ≡ cell.now) × (para.pass.cell ≡ cell.now) }
+    requires sides { (host.pass.side ≡ Host) × (para.pass.side ≡ Para) }
+    requires published { (host.pass.ahead ≡ []) × (para.pass.ahead ≡ []) }
+    ensures { (s : H.State) (t : P.State) (n : ℕ) (keep : ℕ) (p q : Carried) → (p.side ≡ Host) × (p.events ≡ []) → (q.side ≡ Para) × (q.events ≡ []) →
+        HasWorked H.moves n keep s p (H.state host.machine) host.pass host.list.items host.count →
+        HasWorked P.moves n keep t q (P.state para.machine) para.pass para.list.items para.count →
+        IsPlayed (reference H.moves P.moves s t n) keep (H.state result.host) (P.state result.para) result.chip result.host_list.items result.para_list.items result.host_count result.para_count }
+{
+    legal_merge_is_reference::<H, P>();
+    let chip = cell.join(rt, host.pass, para.pass);
+    Done {
+        host: host.machine,
+        para: para.machine,
+        chip,
+        host_list: host.list,
+        para_list: para.list,
+        host_count: host.count,
+        para_count: para.count,
+    }
+}
