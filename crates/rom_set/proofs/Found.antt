@@ -3,9 +3,10 @@ use Rattle.std.proofs.Common.{ℕ, zero, suc, ◌≡◌, ◌≤◌, ◌<◌, ◌
 use Rattle.std.proofs.lemmas.Grind.{common_steps}
 use Rattle.std.specs.Prelude.{Vec, find, slice_index}
 use Rattle.std.specs.List.{position_from}
+use Rattle.std.specs.Option.{option_or}
 use Rattle.std.specs.declared.alloc.Global.{Global}
 use Rattle.rom_set.specs.declared.RomError.TheVariants.{BadOs, BadSlot}
-use Rattle.rom_set.specs.Roms.{Rom, rom_seen, roms_seen, in_slot, byte_in, rom_byte, fits, bad_slot, first_refused, refusal}
+use Rattle.rom_set.specs.Roms.{Rom, rom_seen, roms_seen, in_slot, byte_in, rom_byte, fits, bad_slot, first_refused, bad_font, refusal}
 use Rattle.rom_set.specs.Places.{in_this}
 
 -- What a place says of the list from its number i on.
@@ -70,23 +71,23 @@ as-long (s ∷ slots) = ap suc (as-long slots)
 long-by : (n : ℕ) → not (n == 8192 || n == 16384) ≡ false → (n ≡ 8192) ⊎ (n ≡ 16384)
 long-by n e = grind (arith, common_steps)
 
-fits-by : (os : List ℕ) (roms : List Rom) → refusal os roms ≡ None → find (λ rom. not (fits rom)) roms ≡ None
-fits-by os roms e = by-length (length os == 16384) e
+fits-by : (os : List ℕ) (roms : List Rom) (font : Option (List ℕ)) → refusal os roms font ≡ None → find (λ rom. not (fits rom)) roms ≡ None
+fits-by os roms font e = by-length (length os == 16384) e
   where
-    by-found : (o : Option Rom) → bad_slot o ≡ None → o ≡ None
+    by-found : (o : Option Rom) → option_or (bad_slot o) (bad_font font) ≡ None → o ≡ None
     by-found None e = refl
     by-found (Some rom) e = let no : Some (BadSlot rom.slot (length rom.bytes)) ≡ None = e in cc
 
-    by-length : (b : Bool) → (if b then first_refused roms else Some (BadOs (length os))) ≡ None → find (λ rom. not (fits rom)) roms ≡ None
+    by-length : (b : Bool) → (if b then option_or (first_refused roms) (bad_font font) else Some (BadOs (length os))) ≡ None → find (λ rom. not (fits rom)) roms ≡ None
     by-length true e = by-found (find (λ rom. not (fits rom)) roms) e
     by-length false e = let no : Some (BadOs (length os)) ≡ None = e in cc
 
-pub long : (os : List ℕ) (slots : List (ℕ × Vec ℕ Global)) (t : Rom → Bool) (place : ℕ) (d : ℕ × Vec ℕ Global) (bytes : List ℕ) → refusal os (roms_seen slots) ≡ None → IsAt t (roms_seen slots) 0 place → d ≡ get_or slots place d → bytes ≡ d.1.items →
+pub long : (os : List ℕ) (slots : List (ℕ × Vec ℕ Global)) (font : Option (List ℕ)) (t : Rom → Bool) (place : ℕ) (d : ℕ × Vec ℕ Global) (bytes : List ℕ) → refusal os (roms_seen slots) font ≡ None → IsAt t (roms_seen slots) 0 place → d ≡ get_or slots place d → bytes ≡ d.1.items →
     (length bytes ≡ 8192) ⊎ (length bytes ≡ 16384)
-long os slots t place d bytes none here is value =
+long os slots font t place d bytes none here is value =
     let low : place < length slots = omega (arith, here.within, as-long slots) in
     let same : get_or (roms_seen slots) place (rom_seen d) ≡ rom_seen d = rom-at slots place d low ∙ ap rom_seen (sym is) in
-    let test : not (fits (rom_seen d)) ≡ false = ap (λ rom. not (fits rom)) (sym same) ∙ none-passes (λ rom. not (fits rom)) (roms_seen slots) place (rom_seen d) (fits-by os (roms_seen slots) none) (omega (arith, here.within)) in
+    let test : not (fits (rom_seen d)) ≡ false = ap (λ rom. not (fits rom)) (sym same) ∙ none-passes (λ rom. not (fits rom)) (roms_seen slots) place (rom_seen d) (fits-by os (roms_seen slots) font none) (omega (arith, here.within)) in
     long-by (length bytes) (ap (λ xs. not (length xs == 8192 || length xs == 16384)) value ∙ test)
 
 pub shown : (slots : List (ℕ × Vec ℕ Global)) (slot at place : ℕ) (d : ℕ × Vec ℕ Global) (bytes : List ℕ) → IsAt (in_this slot) (roms_seen slots) 0 place → d ≡ get_or slots place d → bytes ≡ d.1.items →

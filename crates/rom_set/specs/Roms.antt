@@ -1,19 +1,22 @@
--- The images of the host's ROMs. (Acorn, BBC Microcomputer Advanced User Guide, paged ROMs; sixteen separate slots, and FF where one
--- is empty, are this project's profile.)
-use Rattle.std.specs.Prelude.{ℕ, ◌==◌, ◌||◌, Bool, not, List, ◌++◌, Option, None, Some, Vec, length, find, map, slice_index, if◌then◌else◌}
+-- The images of the host's ROMs and of its teletext font. (Acorn, BBC Microcomputer Advanced User Guide, paged ROMs; sixteen separate
+-- slots, and FF where one is empty, are this project's profile, as is the layout of the font's image.)
+use Rattle.std.specs.Prelude.{ℕ, ◌+◌, ◌-◌, ◌*◌, ◌==◌, ◌||◌, Bool, not, List, ◌++◌, Option, None, Some, option_map, Vec, length, find, map, slice_index, if◌then◌else◌}
+use Rattle.std.specs.Option.{option_or}
 use Rattle.std.specs.declared.alloc.Global.{Global}
 use Rattle.rom_set.specs.declared.RomError.{RomError}
-use Rattle.rom_set.specs.declared.RomError.TheVariants.{BadOs, BadSlot}
+use Rattle.rom_set.specs.declared.RomError.TheVariants.{BadOs, BadSlot, BadFont}
 
 -- The ROM of a slot.
 pub record Rom : Type 0 where
   pub slot : ℕ
   pub bytes : List ℕ
 
--- What contracts see of a set: the operating system's ROM, and those of the slots in the order in which they were handed in.
+-- What contracts see of a set: the operating system's ROM, those of the slots in the order in which they were handed in, and the
+-- image of the teletext font, if there is one.
 pub record Roms : Type 0 where
   pub os : List ℕ
   pub slots : List Rom
+  pub font : Option (List ℕ)
 
 abbrev pub rom_seen : ℕ × Vec ℕ Global → Rom
 rom_seen rom = record { slot = rom.0; bytes = rom.1.items }
@@ -34,8 +37,16 @@ byte_in (Some rom) at = slice_index (in_slot rom.bytes) at
 abbrev pub rom_byte : List Rom → ℕ → ℕ → ℕ
 rom_byte roms slot at = byte_in (find (λ rom. rom.slot == slot) roms) at
 
+abbrev pub font_seen : Option (Vec ℕ Global) → Option (List ℕ)
+font_seen font = option_map (λ bytes. bytes.items) font
+
+-- A row of a character's shape, the rows from the top: the font has ten bytes a code, from code 20 on. Without a font all is blank.
+abbrev pub font_shape : Option (List ℕ) → ℕ → ℕ → ℕ
+font_shape None code row = 0
+font_shape (Some font) code row = slice_index font ((code - 0x20) * 10 + row)
+
 -- Which images are refused: an operating system of another length than 16,384 bytes, or else the first ROM that has neither 8,192 nor
--- 16,384 of them.
+-- 16,384 of them, or else a font of another length than 960 bytes.
 abbrev pub fits : Rom → Bool
 fits rom = length rom.bytes == 8192 || length rom.bytes == 16384
 
@@ -46,5 +57,9 @@ bad_slot (Some rom) = Some (BadSlot rom.slot (length rom.bytes))
 abbrev pub first_refused : List Rom → Option RomError
 first_refused roms = bad_slot (find (λ rom. not (fits rom)) roms)
 
-abbrev pub refusal : List ℕ → List Rom → Option RomError
-refusal os roms = if length os == 16384 then first_refused roms else Some (BadOs (length os))
+abbrev pub bad_font : Option (List ℕ) → Option RomError
+bad_font None = None
+bad_font (Some font) = if length font == 960 then None else Some (BadFont (length font))
+
+abbrev pub refusal : List ℕ → List Rom → Option (List ℕ) → Option RomError
+refusal os roms font = if length os == 16384 then option_or (first_refused roms) (bad_font font) else Some (BadOs (length os))

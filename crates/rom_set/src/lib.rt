@@ -1,8 +1,9 @@
-//! The images of the host's ROMs.
+//! The images of the host's ROMs, and of its teletext font.
 #![tactic(auto)]
 
-ghost use Rattle.std.specs.Prelude.{◌≡◌, ◌<◌, ◌⊎◌, length, None, Some, All, MatchResult, IfOk, slice_index};
-ghost use Rattle.rom_set.specs.Roms.{roms_seen, rom_byte, refusal, first_refused, in_slot};
+ghost use Rattle.std.specs.Prelude.{◌≡◌, ◌<◌, ◌≤◌, ◌⊎◌, length, None, Some, All, MatchResult, IfOk, slice_index};
+ghost use Rattle.std.specs.Option.{ForSome};
+ghost use Rattle.rom_set.specs.Roms.{roms_seen, font_seen, rom_byte, font_shape, refusal, first_refused, bad_font, in_slot};
 ghost use Rattle.rom_set.specs.Places.{IsPlaced};
 
 use std::marker::Model;
@@ -20,6 +21,15 @@ const HALF_SIZE: usize = 8_192;
 /// How many slots there are.
 const SLOTS: usize = 16;
 
+/// How many bytes the font has: ten rows for each code from 20 to 7F.
+const FONT_SIZE: usize = 960;
+
+/// How many rows the shape of a character has.
+const FONT_ROWS: usize = 10;
+
+/// The code whose shape stands first in the font.
+const FIRST_CODE: u8 = 0x20;
+
 /// Why a set of images is refused.
 #[derive(Clone, Copy, Debug, PartialEq, Eq, Error)]
 pub enum RomError {
@@ -29,27 +39,32 @@ pub enum RomError {
     /// A slot's ROM has neither 8,192 nor 16,384 bytes.
     #[error("the ROM of slot {slot} has {len} bytes")]
     BadSlot { slot: u8, len: u64 },
+    /// The font has another length than 960 bytes.
+    #[error("the font has {len} bytes")]
+    BadFont { len: u64 },
 }
 
-/// The operating system's ROM, and those of the sixteen slots. (Acorn, BBC Microcomputer Advanced User Guide, paged ROMs.)
+/// The operating system's ROM, and those of the sixteen slots (Acorn, BBC Microcomputer Advanced User Guide, paged ROMs), and the
+/// font of the teletext characters, if there is one.
 #[derive(Drop)]
 pub struct RomSet {
     os: Vec<u8>,
     slots: Vec<(u8, Vec<u8>)>,
     // Where in the list the ROM of each slot is.
     places: [Option<usize>; SLOTS],
+    font: Option<Vec<u8>>,
 }
 
 impl Model for RomSet {
     ghost use Rattle.std.specs.Prelude.{◌≡◌, None};
-    ghost use Rattle.rom_set.specs.Roms.{Roms, roms_seen, refusal};
+    ghost use Rattle.rom_set.specs.Roms.{Roms, roms_seen, font_seen, refusal};
     ghost use Rattle.rom_set.specs.Places.{IsPlaced};
 
     ghost Value = { Roms };
 
-    ghost view = { λ r. record { os = r.os.items; slots = roms_seen r.slots.items } };
+    ghost view = { λ r. record { os = r.os.items; slots = roms_seen r.slots.items; font = font_seen r.font } };
 
-    ghost invariant = { λ r. (refusal r.os.items (roms_seen r.slots.items) ≡ None) × IsPlaced r.slots.items r.places };
+    ghost invariant = { λ r. (refusal r.os.items (roms_seen r.slots.items) (font_seen r.font) ≡ None) × IsPlaced r.slots.items r.places };
 }
 
 /// The first ROM that has neither of both lengths, as the reason.
@@ -97,17 +112,34 @@ fn byte_of(bytes: &[u8], at: u16) -> u8
     }
 }
 
+/// A font has ten bytes for each of its codes.
+fn test_font(font: &Option<Vec<u8>>) -> Result<(), RomError>
+    ensures { MatchResult result (λ _. bad_font (font_seen font.now) ≡ None) (λ e. bad_font (font_seen font.now) ≡ Some e) }
+{
+    match font {
+        Some(bytes) if bytes.len() != FONT_SIZE => Err(RomError::BadFont {
+            len: bytes.len() as u64,
+        }),
+        _ => Ok(()),
+    }
+}
+
 impl RomSet {
-    /// The set of an operating system's ROM and the ROMs of some slots, each with the number of its slot, below 16. A ROM of 8,192
-    /// bytes stands twice in its slot, and of two for one slot the first is in it.
+    /// The set of an operating system's ROM, the ROMs of some slots, each with the number of its slot, below 16, and perhaps a font. A
+    /// ROM of 8,192 bytes stands twice in its slot, and of two for one slot the first is in it. A font has ten bytes for each code
+    /// from 20 on.
     ///
     /// # Errors
     /// `BadOs` exactly where the operating system is not 16,384 bytes long, and else `BadSlot` exactly at the first ROM that is
-    /// neither 8,192 nor 16,384 bytes long.
-    pub fn read(os: Vec<u8>, slots: Vec<(u8, Vec<u8>)>) -> Result<RomSet, RomError>
+    /// neither 8,192 nor 16,384 bytes long, and else `BadFont` exactly where the font is not 960 bytes long.
+    pub fn read(
+        os: Vec<u8>,
+        slots: Vec<(u8, Vec<u8>)>,
+        font: Option<Vec<u8>>,
+    ) -> Result<RomSet, RomError>
         requires { All (λ slot. slot.0 < 16) slots.items }
-        ensures set { IfOk result (λ roms. roms ≡ record { os = os.items; slots = roms_seen slots.items }) }
-        ensures refused { MatchResult result (λ _. refusal os.items (roms_seen slots.items) ≡ None) (λ e. refusal os.items (roms_seen slots.items) ≡ Some e) }
+        ensures set { IfOk result (λ roms. roms ≡ record { os = os.items; slots = roms_seen slots.items; font = font_seen font }) }
+        ensures refused { MatchResult result (λ _. refusal os.items (roms_seen slots.items) (font_seen font) ≡ None) (λ e. refusal os.items (roms_seen slots.items) (font_seen font) ≡ Some e) }
     {
         if os.len() != ROM_SIZE {
             return Err(RomError::BadOs {
@@ -115,8 +147,14 @@ impl RomSet {
             });
         }
         test_slots(&slots)?;
+        test_font(&font)?;
         let places = places(&slots);
-        Ok(RomSet { os, slots, places })
+        Ok(RomSet {
+            os,
+            slots,
+            places,
+            font,
+        })
     }
 
     /// A byte of a slot below 16, `at` from the slot's start on, below 16,384; FF where the slot is empty.
@@ -139,5 +177,19 @@ impl RomSet {
         ensures { result ≡ slice_index self.now.os at }
     {
         self.os[at as usize]
+    }
+
+    /// A row of the shape of a code from 20 to 7F, the rows from 0 at the top to 9: bit 5 is the leftmost of six dots. Without a font
+    /// all shapes are blank.
+    #[inline(always)]
+    pub fn shape(&self, code: u8, row: u8) -> u8
+        requires code { (0x20 ≤ code) × (code ≤ 0x7F) }
+        requires row { row < 10 }
+        ensures { result ≡ font_shape self.now.font code row }
+    {
+        match &self.font {
+            Some(font) => font[usize::from(code - FIRST_CODE) * FONT_ROWS + usize::from(row)],
+            None => 0,
+        }
     }
 }

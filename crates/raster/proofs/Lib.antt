@@ -1,0 +1,4 @@
+pub mod Blacks
+pub mod Drawing
+pub mod Marks
+pub mod Runs

@@ -1,0 +1,6 @@
+pub mod Frame
+pub mod Beam
+pub mod Text
+pub mod State
+pub mod Clock
+pub mod Lending

@@ -1,0 +1,76 @@
+//! What the beam meets: the byte that is shown, and the cursor's marks.
+ghost use Rattle.std.specs.Prelude.{◌≡◌, ◌<◌};
+ghost use Rattle.raster.specs.Beam.{IsScreenSize, byte_address, cursor_past, is_marked};
+ghost use Rattle.raster.specs.State.{first_cursor};
+
+use beeb_bits::bit;
+use std::marker::Model;
+
+/// Where the byte that is shown stands in the RAM.
+#[inline(always)]
+pub(crate) fn byte_address(ma: u16, ra: u8, size: u16) -> usize
+    requires { IsScreenSize size }
+    ensures value { result ≡ byte_address ma ra size }
+    ensures bound { result < 32768 }
+{
+    if ma / 0x2000 % 2 == 1 {
+        let page = if ma / 0x800 % 2 == 1 { 0x7c00 } else { 0x3c00 };
+        page + usize::from(ma % 1024)
+    } else {
+        let at = ma % 0x2000 * 8 + u16::from(ra % 8);
+        let at = if at >= 0x8000 { at - size } else { at };
+        usize::from(at % 0x8000)
+    }
+}
+
+/// On which of the last three characters the cursor was.
+#[derive(Drop)]
+pub(crate) struct Cursor {
+    one_ago: bool,
+    two_ago: bool,
+    three_ago: bool,
+}
+
+impl Model for Cursor {
+    ghost use Rattle.raster.specs.Beam.{Cursor};
+
+    ghost Value = { Cursor };
+
+    ghost view = { λ c. record { one_ago = c.one_ago; two_ago = c.two_ago; three_ago = c.three_ago } };
+}
+
+impl Cursor {
+    pub(crate) fn first() -> Cursor
+        ensures { result ≡ first_cursor }
+    {
+        Cursor {
+            one_ago: false,
+            two_ago: false,
+            three_ago: false,
+        }
+    }
+
+    /// The cursor marks the character that the beam is on.
+    #[inline(always)]
+    pub(crate) fn is_marked(&self, control: u8, here: bool) -> bool
+        ensures { result ≡ is_marked control here self.now }
+    {
+        if bit(control, 1) {
+            here && (bit(control, 5) || bit(control, 6) || bit(control, 7))
+        } else {
+            (bit(control, 7) && here)
+                || (bit(control, 6) && self.one_ago)
+                || (bit(control, 5) && (self.two_ago || self.three_ago))
+        }
+    }
+
+    /// The beam leaves the character.
+    #[inline(always)]
+    pub(crate) fn pass(&mut self, here: bool)
+        ensures { self.new ≡ cursor_past here self.old }
+    {
+        self.three_ago = self.two_ago;
+        self.two_ago = self.one_ago;
+        self.one_ago = here;
+    }
+}

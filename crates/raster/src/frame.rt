@@ -1,0 +1,77 @@
+//! A frame.
+ghost use Rattle.std.specs.Prelude.{◌≡◌, ◌+◌, ◌≤◌, ◌++◌, length, take, drop, IfOk};
+ghost use Rattle.raster.specs.Frame.{black};
+
+use beeb_bits::NoMemory;
+use std::alloc::{AllocError, Global};
+use std::marker::Model;
+
+/// How many dots a frame has: 256 lines of 640.
+const FRAME_SIZE: usize = 163_840;
+
+/// A frame of 256 lines of 640 dots, by lines from the top. Each dot is a colour from 0 to 7: bit 0 is red, bit 1 green and bit 2 blue.
+#[derive(Drop)]
+pub struct Frame {
+    /// The colours, 163,840 of them.
+    pub colours: Vec<u8>,
+}
+
+impl Model for Frame {
+    ghost use Rattle.std.specs.Prelude.{◌≡◌, ℕ, List, length};
+
+    ghost Value = { List ℕ };
+
+    ghost view = { λ f. f.colours.items };
+
+    ghost invariant = { λ f. length f.colours.items ≡ 163840 };
+}
+
+// The colours of a black frame. The size is an argument so that no proof writes the list out.
+#[tactic(none)]
+fn all_black(alloc: Global, size: usize) -> Result<Vec<u8>, AllocError>
+    requires { size ≡ FRAME_SIZE }
+    ensures items { IfOk result (λ v. v.items ≡ black) }
+    ensures length { IfOk result (λ v. length v.items ≡ FRAME_SIZE) }
+{
+    vec![in alloc; 0; size]
+}
+
+impl Frame {
+    /// A black frame.
+    ///
+    /// # Errors
+    /// Want of memory.
+    pub fn black(alloc: Global) -> Result<Frame, NoMemory>
+        ensures { IfOk result (λ f. f ≡ black) }
+    {
+        let Ok(colours) = all_black(alloc, FRAME_SIZE) else {
+            return Err(NoMemory);
+        };
+        Ok(Frame { colours })
+    }
+
+    /// Becomes a copy of another frame. It takes no memory.
+    pub fn copy_from(&mut self, other: &Frame)
+        ensures { self.new ≡ other.now }
+    {
+        self.colours.copy_from_slice(&other.colours);
+    }
+
+    /// Becomes black.
+    pub(crate) fn clear(&mut self)
+        ensures { self.new ≡ black }
+    {
+        self.colours.fill(0);
+    }
+
+    /// Sets eight dots, from `at` on.
+    #[inline(always)]
+    pub(crate) fn put_eight(&mut self, at: usize, dots: &[u8])
+        requires within { at + 8 ≤ FRAME_SIZE }
+        requires eight { length dots.now ≡ 8 }
+        ensures size { length self.old ≡ FRAME_SIZE }
+        ensures put { self.new ≡ take at self.old ++ (dots.now ++ drop (at + 8) self.old) }
+    {
+        self.colours[at..at + 8].copy_from_slice(dots);
+    }
+}

@@ -1,0 +1,15 @@
+//! The picture: the beam of the 6845 over the colours of the video ULA and of the teletext chip, frame after frame.
+#![tactic(auto)]
+
+mod beam;
+mod frame;
+mod picture;
+mod place;
+mod raster;
+mod text;
+
+pub use frame::Frame;
+pub use raster::Raster;
+
+#[cfg(test)]
+mod tests;

@@ -1,0 +1,97 @@
+//! A frame that is drawn or shown, and whether it is still black.
+ghost use Rattle.std.specs.Prelude.{◌≡◌, ◌≤◌, ◌%◌, length, take, IfOk, if◌then◌else◌};
+ghost use Rattle.raster.specs.Frame.{black, is_in_frame, dots_set};
+
+use crate::frame::Frame;
+use crate::place::Place;
+use beeb_bits::NoMemory;
+use std::alloc::Global;
+use std::marker::Model;
+
+/// How many lines above the frame the beam meets after vertical sync.
+const TOP: u16 = 40;
+
+/// How many lines a frame has.
+const LINES: u16 = 256;
+
+/// How many dots a line of the frame has.
+const WIDTH: u16 = 640;
+
+/// A frame that is not cleared again while nothing is drawn: a 6845 without a program finishes one every few microseconds.
+#[derive(Drop)]
+pub(crate) struct Picture {
+    pub(crate) frame: Frame,
+    // Nothing was drawn since it was cleared.
+    is_clear: bool,
+}
+
+impl Model for Picture {
+    ghost use Rattle.std.specs.Prelude.{◌≡◌, ℕ, List, true};
+    ghost use Rattle.raster.specs.Frame.{black};
+
+    ghost Value = { List ℕ };
+
+    ghost view = { λ p. p.frame };
+
+    ghost invariant = { λ p. p.is_clear ≡ true → p.frame ≡ black };
+}
+
+/// A dot lies in the frame.
+#[inline(always)]
+fn is_in_frame(left: u16, x: u16, y: u16) -> bool
+    requires { left ≤ 240 }
+    ensures { result ≡ is_in_frame left x y }
+{
+    left <= x && x < left + WIDTH && TOP <= y && y < TOP + LINES
+}
+
+impl Picture {
+    pub(crate) fn make(alloc: Global) -> Result<Picture, NoMemory>
+        ensures { IfOk result (λ p. p ≡ black) }
+    {
+        let frame = Frame::black(alloc)?;
+        Ok(Picture {
+            frame,
+            is_clear: true,
+        })
+    }
+
+    /// Becomes black.
+    pub(crate) fn clear(&mut self)
+        ensures { self.new ≡ black }
+    {
+        if !self.is_clear {
+            self.frame.clear();
+            self.is_clear = true;
+        }
+    }
+
+    /// Draws eight dots, the first of them at `x` and `y`, as far as they lie in the frame, whose left edge is at `left`. Both are
+    /// multiples of eight, so that all of them lie in it or none.
+    #[inline(always)]
+    fn draw_eight(&mut self, left: u16, x: u16, y: u16, dots: &[u8])
+        requires left { (left ≤ 240) × (left % 8 ≡ 0) }
+        requires x { x % 8 ≡ 0 }
+        requires eight { length dots.now ≡ 8 }
+        ensures { self.new ≡ dots_set left x y dots.now self.old }
+    {
+        if is_in_frame(left, x, y) {
+            let at = WIDTH as usize * usize::from(y - TOP) + usize::from(x - left);
+            self.is_clear = false;
+            self.frame.put_eight(at, dots);
+        }
+    }
+
+    /// Draws the 8 or 16 dots of a character.
+    #[inline(always)]
+    pub(crate) fn draw(&mut self, left: u16, place: &Place, dots: &[u8; 16], narrow: bool)
+        requires { (left ≤ 240) × (left % 8 ≡ 0) }
+        ensures { self.new ≡ dots_set left place.now.x place.now.y (take (if narrow then 8 else 16) dots.now) self.old }
+    {
+        let x = 8 * place.eights;
+        self.draw_eight(left, x, place.y, &dots[..8]);
+        if !narrow {
+            self.draw_eight(left, x + 8, place.y, &dots[8..]);
+        }
+    }
+}

@@ -1,0 +1,64 @@
+//! The place of the beam.
+ghost use Rattle.std.specs.Prelude.{◌≡◌, if◌then◌else◌};
+ghost use Rattle.raster.specs.Beam.{place_at, place_past};
+ghost use Rattle.raster.specs.State.{first_place};
+
+use crtc6845::Beam;
+use std::marker::Model;
+
+/// A number of lines that the beam's count does not pass.
+const MOST_LINES: u16 = 1023;
+
+/// A number of times eight dots that its count does not pass.
+const MOST_EIGHTS: u16 = 512;
+
+#[derive(Drop)]
+pub(crate) struct Place {
+    // The dots since the beginning of horizontal sync, in eights: each character has 8 or 16.
+    pub(crate) eights: u16,
+    // The lines since the beginning of vertical sync.
+    pub(crate) y: u16,
+}
+
+impl Model for Place {
+    ghost use Rattle.std.specs.Prelude.{◌*◌, ◌≤◌, min};
+    ghost use Rattle.raster.specs.Beam.{Place};
+
+    ghost Value = { Place };
+
+    ghost view = { λ p. record { x = min (8 * p.eights) 4095; y = p.y } };
+
+    ghost invariant = { λ p. (p.eights ≤ 512) × (p.y ≤ 1023) };
+}
+
+impl Place {
+    pub(crate) fn first() -> Place
+        ensures { result ≡ first_place }
+    {
+        Place { eights: 0, y: 0 }
+    }
+
+    /// The beam comes to a character.
+    #[inline(always)]
+    pub(crate) fn meet(&mut self, beam: &Beam)
+        ensures { self.new ≡ place_at beam.now self.old }
+    {
+        if beam.frame_end {
+            self.y = 0;
+        } else if beam.line_start {
+            self.y = (self.y + 1).min(MOST_LINES);
+        }
+        if beam.sync_start {
+            self.eights = 0;
+        }
+    }
+
+    /// It leaves a character of 8 or 16 dots.
+    #[inline(always)]
+    pub(crate) fn pass(&mut self, narrow: bool)
+        ensures { self.new ≡ place_past (if narrow then 8 else 16) self.old }
+    {
+        let eights = if narrow { 1 } else { 2 };
+        self.eights = (self.eights + eights).min(MOST_EIGHTS);
+    }
+}

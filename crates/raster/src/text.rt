@@ -1,0 +1,73 @@
+//! Teletext rows.
+ghost use Rattle.std.specs.Prelude.{◌≡◌, ◌<◌};
+ghost use Rattle.raster.specs.Text.{first_text, text_at, cell_of, text_after, text_past};
+
+use crtc6845::Beam;
+use rom_set::RomSet;
+use saa5050::RowState;
+use std::marker::Model;
+
+#[derive(Drop)]
+pub(crate) struct Text {
+    codes: RowState,
+    // The row shows the lower halves of characters of double height.
+    bottom: bool,
+    // One of its lines so far has had a code for double height.
+    doubled: bool,
+}
+
+impl Model for Text {
+    ghost use Rattle.raster.specs.Text.{Text};
+
+    ghost Value = { Text };
+
+    ghost view = { λ t. record { codes = t.codes; bottom = t.bottom; doubled = t.doubled } };
+}
+
+impl Text {
+    pub(crate) fn first() -> Text
+        ensures { result ≡ first_text }
+    {
+        Text {
+            codes: RowState::start(),
+            bottom: false,
+            doubled: false,
+        }
+    }
+
+    /// The beam comes to a character: the codes are taken from the start of each line.
+    #[inline(always)]
+    pub(crate) fn meet(&mut self, beam: &Beam)
+        ensures { self.new ≡ text_at beam.now self.old }
+    {
+        if beam.line_start {
+            self.codes = RowState::start();
+        }
+    }
+
+    /// Takes the code of a character that is shown, and gives its sixteen colours.
+    #[tactic(auto, unfolding(crate::specs::Text::codes_after, crate::specs::Text::cell_of))]
+    pub(crate) fn put(&mut self, font: &RomSet, code: u8, beam: &Beam, to: &mut [u8; 16])
+        requires { code < 128 }
+        ensures state { self.new ≡ text_after code self.old }
+        ensures colours { to.new ≡ cell_of font.now.font code beam.now self.old }
+    {
+        self.codes
+            .put(font, code, beam.ra, self.bottom, beam.fields, to);
+        self.doubled = self.doubled || self.codes.had_double();
+    }
+
+    /// The beam leaves the character, and the row or the frame may end with it.
+    #[inline(always)]
+    pub(crate) fn pass(&mut self, beam: &Beam)
+        ensures { self.new ≡ text_past beam.now self.old }
+    {
+        if beam.restart {
+            self.bottom = false;
+            self.doubled = false;
+        } else if beam.row_end {
+            self.bottom = !self.bottom && self.doubled;
+            self.doubled = false;
+        }
+    }
+}

@@ -1,0 +1,5 @@
+pub mod Controls
+pub mod Shapes
+pub mod Row
+pub mod Dots
+pub mod Laws

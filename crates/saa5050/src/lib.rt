@@ -1,0 +1,14 @@
+//! The SAA5050, the character generator of teletext (SAA5050 data sheet): the codes of a row one after another, and the pixels of each
+//! on a line.
+#![tactic(auto)]
+
+mod dots;
+mod law;
+mod row;
+mod style;
+
+pub use law::row_is_fold;
+pub use row::RowState;
+
+#[cfg(test)]
+mod tests;

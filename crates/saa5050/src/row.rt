@@ -1,0 +1,84 @@
+//! A row of codes.
+ghost use Rattle.std.specs.Prelude.{◌≡◌, ◌<◌};
+ghost use Rattle.saa5050.specs.Row.{row_start, row_after, cell, styled_cell};
+
+use crate::dots::{half_dots, pixels};
+use crate::style::{Style, holds_at_once};
+use rom_set::RomSet;
+use std::marker::Model;
+
+/// What the codes of a teletext row so far leave for its cells to come.
+#[derive(Drop)]
+pub struct RowState {
+    style: Style,
+    had_double: bool,
+}
+
+impl Model for RowState {
+    ghost use Rattle.saa5050.specs.Row.{Row};
+
+    ghost Value = { Row };
+
+    ghost view = { λ s. record { style = s.style; had_double = s.had_double } };
+}
+
+// The pixels of the cell of a code, in its style there.
+#[inline(always)]
+fn styled_cell(
+    style: &Style,
+    font: &RomSet,
+    code: u8,
+    ra: u8,
+    bottom: bool,
+    fields: u32,
+) -> [u8; 16]
+    requires { code < 0x80 }
+    ensures { result ≡ styled_cell font.now.font code ra bottom fields style.now }
+{
+    let dots = half_dots(style, font, code, ra, bottom, fields);
+    pixels(dots, style.foreground, style.background)
+}
+
+impl RowState {
+    /// The state at a row's start: white letters on black, steady, shown, of normal height.
+    pub fn start() -> RowState
+        ensures { result ≡ row_start }
+    {
+        RowState {
+            style: Style::plain(),
+            had_double: false,
+        }
+    }
+
+    /// Takes the next code of the row, below 80, and gives the sixteen colours of its cell on the scan line `ra`, the leftmost first.
+    /// `bottom` says that the row has the lower halves of the row above, and flashing goes by the number of fields.
+    pub fn put(
+        &mut self,
+        font: &RomSet,
+        code: u8,
+        ra: u8,
+        bottom: bool,
+        fields: u32,
+        to: &mut [u8; 16],
+    )
+        requires { code < 0x80 }
+        ensures row { self.new ≡ row_after code self.old }
+        ensures cell { to.new ≡ cell font.now.font code ra bottom fields self.old }
+    {
+        if holds_at_once(code) {
+            self.style.obey(code);
+            *to = styled_cell(&self.style, font, code, ra, bottom, fields);
+        } else {
+            *to = styled_cell(&self.style, font, code, ra, bottom, fields);
+            self.style.take(code);
+        }
+        self.had_double = self.had_double || code == 0x0d;
+    }
+
+    /// Whether one of the codes so far was 0D, double height.
+    pub fn had_double(&self) -> bool
+        ensures { result ≡ self.now.had_double }
+    {
+        self.had_double
+    }
+}

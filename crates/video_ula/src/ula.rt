@@ -1,0 +1,125 @@
+//! The chip.
+ghost use Rattle.std.specs.Prelude.{◌≡◌, ◌++◌, drop};
+ghost use Rattle.beeb_bits.specs.Bits.{bit};
+ghost use Rattle.video_ula.specs.State.{power_on, control_leaves, palette_leaves};
+ghost use Rattle.video_ula.specs.Pixels.{dots_of, pixel_width, colour_of, colours};
+ghost use Rattle.video_ula.specs.Colours.{entry_colours, dots_in};
+
+use crate::dots::{eight_wide, four_wide, one_wide, two_wide};
+use beeb_bits::bit;
+use std::marker::Model;
+
+/// A video ULA.
+#[derive(Drop)]
+pub struct Ula {
+    control: u8,
+    palette: [u8; 16],
+    // The colours of the palette's entries, while the control byte's bit 0 is clear and while it is set.
+    steady: [u8; 16],
+    flashed: [u8; 16],
+}
+
+impl Model for Ula {
+    ghost use Rattle.std.specs.Prelude.{◌≡◌, true, false};
+    ghost use Rattle.video_ula.specs.State.{State};
+    ghost use Rattle.video_ula.specs.Colours.{entry_colours};
+
+    ghost Value = { State };
+
+    ghost view = { λ u. record { control = u.control; palette = u.palette } };
+
+    ghost invariant = { λ u. (u.steady ≡ entry_colours false u.palette) × (u.flashed ≡ entry_colours true u.palette) };
+}
+
+/// The colour of a palette's value.
+fn colour_of(flash: bool, value: u8) -> u8
+    ensures { result ≡ colour_of flash value }
+{
+    (value % 8) ^ (if bit(value, 3) && flash { 7 } else { 0 })
+}
+
+impl Ula {
+    /// The chip at power-on: all is 0, the palette's values too.
+    pub fn new() -> Ula
+        ensures { result ≡ power_on }
+    {
+        Ula {
+            control: 0,
+            palette: [0; 16],
+            steady: [0; 16],
+            flashed: [0; 16],
+        }
+    }
+
+    /// Writes the control byte.
+    pub fn control(&mut self, v: u8)
+        ensures { self.new ≡ control_leaves v self.old }
+    {
+        self.control = v;
+    }
+
+    /// Writes the palette: the high digit is the entry, and the low digit XOR 7 its value.
+    pub fn palette(&mut self, v: u8)
+        ensures { self.new ≡ palette_leaves v self.old }
+    {
+        let entry = (v / 16) as usize;
+        let value = (v % 16) ^ 7;
+        self.palette[entry] = value;
+        self.steady[entry] = colour_of(false, value);
+        self.flashed[entry] = colour_of(true, value);
+    }
+
+    /// The control byte last written, 00 at power-on.
+    #[inline(always)]
+    pub fn mode(&self) -> u8
+        ensures { result ≡ self.now.control }
+    {
+        self.control
+    }
+
+    /// Writes the colours of a byte's 8 or 16 dots, and gives their number. `cursor` is whether the character is marked by the cursor.
+    #[inline(always)]
+    pub fn pixels(&self, byte: u8, cursor: bool, to: &mut [u8; 16]) -> u8
+        ensures number { result ≡ dots_of self.now.control }
+        ensures dots { to.new ≡ colours self.now byte cursor ++ drop (dots_of self.now.control) to.old }
+    {
+        let dots = self.dots(byte, cursor);
+        if bit(self.control, 4) {
+            to[..8].copy_from_slice(&dots[..8]);
+            8
+        } else {
+            *to = dots;
+            16
+        }
+    }
+
+    // The colours of the entries, as the control byte's bit 0 says.
+    #[inline(always)]
+    fn entries(&self) -> &[u8; 16]
+        ensures { result.now ≡ entry_colours (bit self.now.control 0) self.now.palette }
+    {
+        if bit(self.control, 0) {
+            &self.flashed
+        } else {
+            &self.steady
+        }
+    }
+
+    // Sixteen dots of a byte.
+    #[inline(always)]
+    fn dots(&self, byte: u8, cursor: bool) -> [u8; 16]
+        ensures { result ≡ dots_in (entry_colours (bit self.now.control 0) self.now.palette) byte cursor (pixel_width self.now.control) }
+    {
+        let entries = self.entries();
+        let width = self.control / 4 % 4;
+        if width == 0 {
+            eight_wide(entries, byte, cursor)
+        } else if width == 1 {
+            four_wide(entries, byte, cursor)
+        } else if width == 2 {
+            two_wide(entries, byte, cursor)
+        } else {
+            one_wide(entries, byte, cursor)
+        }
+    }
+}
