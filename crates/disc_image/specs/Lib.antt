@@ -1,0 +1,3 @@
+pub mod Image
+pub mod Whole
+pub mod Laws

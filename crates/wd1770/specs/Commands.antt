@@ -1,0 +1,45 @@
+-- The writing of a command.
+use Rattle.std.specs.Prelude.{ℕ, ◌/◌, ◌==◌, ◌||◌, nat_lt, false, not, if◌then◌else◌}
+use Rattle.beeb_bits.specs.Bits.{bit}
+use Rattle.wd1770.specs.declared.command.Command.{Command}
+use Rattle.wd1770.specs.declared.command.Command.TheVariants.{Refusing}
+use Rattle.wd1770.specs.State.{State}
+use Rattle.wd1770.specs.Select.{is_reset}
+use Rattle.wd1770.specs.Ends.{is_busy, ended}
+use Rattle.wd1770.specs.Motion.{motion_of}
+use Rattle.wd1770.specs.Sectors.{sectors_of}
+use Rattle.wd1770.specs.Addresses.{address_of}
+
+-- 0x to 7x are type I, 8x to Bx type II. Ex and Fx, whose data is left out, are refused.
+abbrev pub command_of : ℕ → State → Command
+command_of v s =
+    if nat_lt v 0x80 then motion_of v s
+    else if nat_lt v 0xC0 then sectors_of v s
+    else if nat_lt v 0xD0 then address_of s
+    else Refusing
+
+-- A command clears record not found, lost data, DRQ and INTRQ.
+abbrev pub cleared : State → State
+cleared s = record s { record_not_found = false; lost_data = false; drq = false; intrq = false }
+
+abbrev pub begun : ℕ → State → State
+begun v s = record (cleared s) { command = command_of v s; type_one = nat_lt v 0x80 }
+
+-- Dx, force interrupt, ends the command at once. D8 to DF raise INTRQ. While idle it makes the status that of type I.
+abbrev pub forced : ℕ → State → State
+forced v s = record (ended (cleared s)) { intrq = bit v 3; type_one = s.type_one || not (is_busy s.command) }
+
+-- Commands are ignored in reset, and all but Dx while busy.
+abbrev pub command_written : ℕ → State → State
+command_written v s =
+    if is_reset s.latch then s
+    else if v / 16 == 0xD then forced v s
+    else if is_busy s.command then s
+    else begun v s
+
+-- A latch whose bit 5 is clear ends the command, and clears busy, DRQ and INTRQ.
+abbrev pub stopped : State → State
+stopped s = record (if is_busy s.command then ended s else s) { drq = false; intrq = false }
+
+abbrev pub latch_leaves : ℕ → State → State
+latch_leaves v s = if is_reset v then stopped (record s { latch = v }) else record s { latch = v }

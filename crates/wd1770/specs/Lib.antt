@@ -1,0 +1,11 @@
+pub mod State
+pub mod Select
+pub mod Ends
+pub mod Motion
+pub mod Sectors
+pub mod Addresses
+pub mod Commands
+pub mod Registers
+pub mod Step
+pub mod Laws
+pub mod History

@@ -1,0 +1,95 @@
+//! The drives, and what the latch selects.
+ghost use Rattle.std.specs.Prelude.{◌≡◌, ◌≤◌};
+ghost use Rattle.wd1770.specs.Select.{drive_selected, side_selected, drive_or_0};
+ghost use Rattle.wd1770.specs.Sectors.{disc_written, is_on_disc, byte_on_disc};
+
+use beeb_bits::bit;
+use disc_image::Disc;
+
+/// One of the two drives.
+#[derive(Clone, Copy)]
+pub(crate) enum DriveNumber {
+    Drive0,
+    Drive1,
+}
+
+/// What a command works on, as the latch selected it when the command was written.
+#[derive(Clone, Copy)]
+pub(crate) struct Target {
+    pub(crate) drive: Option<DriveNumber>,
+    pub(crate) side: u8,
+    /// The track that the head is at.
+    pub(crate) head: u8,
+}
+
+/// A drive.
+#[derive(Drop)]
+pub(crate) struct Drive {
+    /// The track that the head is at.
+    pub(crate) head: u8,
+    pub(crate) disc: Option<Disc>,
+}
+
+/// The drive that a latch selects: drive 0 where it selects both.
+pub(crate) fn drive_selected(latch: u8) -> Option<DriveNumber>
+    ensures { result ≡ drive_selected latch }
+{
+    if bit(latch, 0) {
+        Some(DriveNumber::Drive0)
+    } else if bit(latch, 1) {
+        Some(DriveNumber::Drive1)
+    } else {
+        None
+    }
+}
+
+/// The side that a latch selects.
+pub(crate) fn side_selected(latch: u8) -> u8
+    ensures { result ≡ side_selected latch }
+{
+    if bit(latch, 2) { 1 } else { 0 }
+}
+
+/// Where no drive is selected the head is drive 0's.
+pub(crate) fn drive_or_0(drive: Option<DriveNumber>) -> DriveNumber
+    ensures { result ≡ drive_or_0 drive }
+{
+    match drive {
+        None => DriveNumber::Drive0,
+        Some(number) => number,
+    }
+}
+
+impl Drive {
+    /// A disc in the drive has this sector.
+    pub(crate) fn has(&self, target: Target, sector: u8) -> bool
+        ensures { result ≡ is_on_disc self.now.disc target sector }
+    {
+        match &self.disc {
+            None => false,
+            Some(disc) => disc.sector(target.side, target.head, sector).is_some(),
+        }
+    }
+
+    /// A byte of a sector.
+    pub(crate) fn byte(&self, target: Target, sector: u8, at: u8) -> u8
+        ensures { result ≡ byte_on_disc self.now.disc target sector at }
+    {
+        let Some(disc) = &self.disc else {
+            return 0;
+        };
+        match disc.sector(target.side, target.head, sector) {
+            None => 0,
+            Some(bytes) => bytes[usize::from(at)],
+        }
+    }
+
+    /// Writes a byte of a sector.
+    pub(crate) fn put(&mut self, target: Target, sector: u8, at: u8, v: u8)
+        ensures { self.new ≡ disc_written target sector at v self.old }
+    {
+        if let Some(disc) = &mut self.disc {
+            let _has = disc.put_byte(target.side, target.head, sector, at, v);
+        }
+    }
+}
