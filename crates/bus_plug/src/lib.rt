@@ -4,7 +4,12 @@
 ghost use Rattle.std.specs.Prelude.{◌≡◌, ◌++◌, MatchResult};
 ghost use Rattle.bus_plug.specs.Plug.{Plug, IsPlugAddress, plug_owns, plug_answer, after_read, after_write, plug_spills};
 
+mod printer_latch;
+mod ram_card;
+
 use beeb_bits::NoMemory;
+pub use printer_latch::PrinterLatch;
+pub use ram_card::RamCard;
 
 #[cfg(test)]
 mod tests;

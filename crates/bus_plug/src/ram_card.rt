@@ -1,0 +1,91 @@
+//! The RAM card.
+ghost use Rattle.std.specs.Prelude.{◌≡◌, ◌≤◌, ◌<◌, IfOk, length};
+ghost use Rattle.bus_plug.specs.RamCard.{card_rules, clear, new_card, card_place};
+
+use crate::BusDevice;
+use beeb_bits::NoMemory;
+use std::alloc::{AllocError, Global};
+
+/// How many bytes the card has.
+const SIZE: usize = 65_536;
+
+/// How many bytes a page has.
+const PAGE: usize = 256;
+
+/// The address of the page register.
+const PAGE_REGISTER: u16 = 0xfcff;
+
+/// The first address of the page.
+const FIRST: u16 = 0xfd00;
+
+/// 65,536 bytes of memory, of which FD00 to FDFF show one page: that of the page register at FCFF.
+///
+/// Contracts see the page register and then the bytes. It spills the bytes.
+#[derive(Drop)]
+pub struct RamCard {
+    page: u8,
+    bytes: Vec<u8>,
+    ghost full: { length bytes.items ≡ 65536 },
+}
+
+// The memory at power-on. The size is an argument so that no proof writes the list out.
+#[tactic(none)]
+fn clear(alloc: Global, size: usize) -> Result<Vec<u8>, AllocError>
+    requires { size ≡ SIZE }
+    ensures items { IfOk result (λ v. v.items ≡ clear) }
+    ensures length { IfOk result (λ v. length v.items ≡ SIZE) }
+{
+    vec![in alloc; 0; size]
+}
+
+impl RamCard {
+    /// A card at power-on, all of it 00.
+    pub fn make(alloc: Global) -> Result<RamCard, NoMemory>
+        ensures { IfOk result (λ card. ⟦<RamCard as BusDevice>⟧.plug card ≡ new_card) }
+    {
+        let bytes = clear(alloc, SIZE).map_err(|_| NoMemory)?;
+        Ok(RamCard { page: 0, bytes })
+    }
+
+    // Where in the memory an address of the page is.
+    fn place(&self, at: u16) -> usize
+        requires { (0xFD00 ≤ at) × (at ≤ 0xFDFF) }
+        ensures place { result ≡ card_place self.now.page at }
+        ensures bound { result < 65536 }
+    {
+        usize::from(self.page) * PAGE + usize::from(at - FIRST)
+    }
+}
+
+impl BusDevice for RamCard {
+    ghost use Rattle.std.specs.Prelude.{◌∷◌};
+
+    ghost plug = { λ card. record { rules = card_rules; state = card.page ∷ card.bytes.items } };
+
+    fn owns(&self, at: u16) -> bool {
+        at == PAGE_REGISTER || at >= FIRST
+    }
+
+    fn read(&mut self, at: u16) -> u8 {
+        if at == PAGE_REGISTER {
+            self.page
+        } else if at >= FIRST {
+            self.bytes[self.place(at)]
+        } else {
+            0xff
+        }
+    }
+
+    fn write(&mut self, at: u16, v: u8) {
+        if at == PAGE_REGISTER {
+            self.page = v;
+        } else if at >= FIRST {
+            let place = self.place(at);
+            self.bytes[place] = v;
+        }
+    }
+
+    fn spill(&self, to: &mut Vec<u8>) -> Result<(), NoMemory> {
+        to.extend_from_slice(&self.bytes).map_err(|_| NoMemory)
+    }
+}
