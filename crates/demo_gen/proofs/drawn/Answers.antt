@@ -1,0 +1,14 @@
+use Rattle.std.proofs.Common.{rules, arith}
+use Rattle.demo_gen.specs.Demo.{drawn}
+use Rattle.demo_gen.proofs.WordLemmas.{next_left, none_left}
+use Rattle.demo_gen.proofs.drawn.Goals as goal
+
+pub loop-preserved : goal.loop-preserved
+loop-preserved c = (
+  next_left c.loop.generator c.next_word.new.self c.next_word.result c.loop.bytes.items c.push.new.self.items (drawn c.args.seed)
+      c.loop-test.true c.next_word.ensures (search rules) c.loop.invariant.0,
+  omega (arith, c.loop-test.true),
+)
+
+pub returns : goal.returns
+returns c = search (rules, none_left c.loop.generator c.loop-test.false)

@@ -1,0 +1,157 @@
+//! The demonstration pair: two programs that send 4,096 bytes through the Tube.
+#![tactic(auto)]
+
+ghost use Rattle.std.specs.Prelude.{◌≡◌, Ok, IfOk, take, drop};
+ghost use Rattle.asm65.specs.Source.{source};
+ghost use Rattle.demo_gen.specs.Demo.{host_text, tube_text, drawn, holding, image_of, image_holding};
+
+use asm65::{Image, assemble};
+use beeb_bits::NoMemory;
+use op_table::Part;
+use rand_core::utils::NextWord;
+use rand_pcg::Lcg64Xsh32;
+use std::alloc::{AllocError, Global};
+
+#[cfg(test)]
+mod tests;
+
+/// The images of the pair.
+#[derive(Debug, Drop)]
+pub struct Demo {
+    /// The host's operating system, 16,384 bytes: it takes bytes from the Tube's register 1, keeps them from 2000 on, and their sum
+    /// at 0070 and 0071.
+    pub os: Vec<u8>,
+    /// The second processor's boot ROM, 2,048 bytes: it sends the 256 bytes at F900 sixteen times to the Tube's register 1.
+    pub tube: Vec<u8>,
+}
+
+/// The host's source text.
+const HOST: &str = "org &C000
+start: LDX #0
+STX &70
+STX &71
+wait: BIT &FEE0
+BPL wait
+LDA &FEE1
+STA &2000,X
+CLC
+ADC &70
+STA &70
+BCC next
+INC &71
+next: INX
+JMP wait
+org &FFFA
+word start, start, start
+";
+
+/// The second processor's source text.
+const TUBE: &str = "org &F800
+start: LDX #0
+copy: LDA &F800,X
+STA &F800,X
+LDA &F900,X
+STA &F900,X
+INX
+BNE copy
+LDY #16
+send: BIT &FEF8
+BVC send
+LDA &F900,X
+STA &FEF9
+INX
+BNE send
+DEY
+BNE send
+stop: JMP stop
+org &FFFA
+word start, start, start
+";
+
+/// The pair of a seed: the images of both programs, with 256 bytes at F900 to F9FF of the second processor's. They are the low bytes of the
+/// first 256 words of the PCG generator (XSH RR 64/32) of the seed and stream 0.
+pub fn pair(alloc: Global, seed: u64) -> Result<Demo, NoMemory>
+    ensures os { IfOk result (λ demo. image_of (source Part.Nmos host_text) ≡ Ok demo.os.items) }
+    ensures tube { IfOk result (λ demo. image_holding (drawn seed) (source Part.Cmos tube_text) ≡ Ok demo.tube.items) }
+{
+    let os = host_image(alloc)?;
+    let tube = tube_image(alloc, seed)?;
+    Ok(Demo { os, tube })
+}
+
+#[tactic(auto, unfolding(crate::specs::Demo::host_text))]
+fn host_image(alloc: Global) -> Result<Vec<u8>, NoMemory>
+    ensures { IfOk result (λ image. image_of (source Part.Nmos host_text) ≡ Ok image.items) }
+{
+    match assemble(alloc, Part::Nmos, HOST.as_bytes()) {
+        Ok(image) => Ok(image.bytes),
+        Err(_) => Err(NoMemory),
+    }
+}
+
+#[tactic(auto, unfolding(crate::specs::Demo::tube_text))]
+fn tube_program(alloc: Global) -> Result<Image, NoMemory>
+    ensures { IfOk result (λ image. source Part.Cmos tube_text ≡ Ok (image.origin, image.bytes.items)) }
+{
+    match assemble(alloc, Part::Cmos, TUBE.as_bytes()) {
+        Ok(image) => Ok(image),
+        Err(_) => Err(NoMemory),
+    }
+}
+
+fn tube_image(alloc: Global, seed: u64) -> Result<Vec<u8>, NoMemory>
+    ensures { IfOk result (λ image. image_holding (drawn seed) (source Part.Cmos tube_text) ≡ Ok image.items) }
+{
+    let program = tube_program(alloc)?;
+    let Ok(bytes) = drawn(alloc, seed) else {
+        return Err(NoMemory);
+    };
+    match holding(alloc, &program.bytes, &bytes) {
+        Ok(image) => Ok(image),
+        Err(_) => Err(NoMemory),
+    }
+}
+
+// The low bytes of the generator's first 256 words.
+fn drawn(alloc: Global, seed: u64) -> Result<Vec<u8>, AllocError>
+    ensures { IfOk result (λ bytes. bytes.items ≡ drawn seed) }
+{
+    let mut generator = Lcg64Xsh32::new(seed, 0);
+    let mut bytes = Vec::new(alloc);
+    for _ in 0..256u16 {
+        bytes.push((generator.next_word() % 256) as u8)?;
+    }
+    Ok(bytes)
+}
+
+// The first page of an image.
+fn front(image: &[u8]) -> &[u8]
+    ensures { result.now ≡ take 256 image.now }
+{
+    if image.len() < 256 {
+        image
+    } else {
+        &image[..256]
+    }
+}
+
+// What lies behind the second page of an image.
+fn behind(image: &[u8]) -> &[u8]
+    ensures { result.now ≡ drop 512 image.now }
+{
+    if image.len() < 512 {
+        &[]
+    } else {
+        &image[512..]
+    }
+}
+
+// The image with these bytes as its second page.
+fn holding(alloc: Global, image: &[u8], bytes: &[u8]) -> Result<Vec<u8>, AllocError>
+    ensures { IfOk result (λ held. held.items ≡ holding bytes.now image.now) }
+{
+    let mut held = front(image).to_vec(alloc)?;
+    held.extend_from_slice(bytes)?;
+    held.extend_from_slice(behind(image))?;
+    Ok(held)
+}
