@@ -1,3 +1,5 @@
 pub mod Owners
 pub mod Ram
 pub mod Places
+pub mod Played
+pub mod Closed

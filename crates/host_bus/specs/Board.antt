@@ -1,38 +1,36 @@
--- The board of the host: memory, its clock, and its accesses but for those of the plugged devices.
-use Rattle.std.specs.Prelude.{ℕ, zero, suc, ◌+◌, ◌-◌, ◌%◌, ◌==◌, max, Bool, false, List, slice_index, slice_set, replicate, if◌then◌else◌}
+-- The board of the host: memory, devices and script, its clock, and its accesses but for those of the plugged devices.
+use Rattle.std.specs.Prelude.{ℕ, zero, suc, ◌+◌, ◌-◌, ◌%◌, ◌==◌, max, Bool, List, Option, slice_index, slice_set, replicate, if◌then◌else◌}
 use Rattle.rom_set.specs.Roms.{Roms, rom_byte}
+use Rattle.disc_image.specs.Image.{Image}
+use Rattle.key_script.specs.declared.Event.{Event}
 use Rattle.host_bus.specs.declared.map.Place.{Place}
 use Rattle.host_bus.specs.declared.map.Place.TheVariants.{Ram, PagedRom, OsRom, Plugs, Crtc, Acia, SerialUla, VideoUla, RomLatch, SystemVia, UserVia, DiscLatch, DiscController, Absent, Adc, Tube}
-
--- What ticks change: nothing yet, since no device is there that goes by microseconds.
-abbrev pub Devices : Type 0
-Devices = Unit {0}
+use Rattle.host_bus.specs.Devices.{Devices, keys_at, microsecond, system_answer, system_read, system_written, user_answer, user_read, user_written, disc_latched, disc_answer, disc_read, disc_written, devices_ask, first_devices}
 
 pub record BoardState : Type 0 where
   pub ram : List ℕ
   pub roms : Roms
   -- the slot of the paged ROM
   pub latch : ℕ
+  -- what is typed, and when
+  pub script : List Event
+  -- what ticks change
   pub devices : Devices
   -- all ticks below this one are done
   pub closed : ℕ
 
--- One microsecond of all devices, in order.
-abbrev pub microsecond : List ℕ → Devices → Devices
-microsecond ram d = d
-
--- Tick k: every sixth tick is a microsecond.
-abbrev pub tick : List ℕ → ℕ → Devices → Devices
-tick ram k d = if k % 6 == 0 then microsecond ram d else d
+-- Tick k: every sixth tick is a microsecond, with the keys of that tick.
+abbrev pub tick : List Event → ℕ → Devices → Devices
+tick script k d = if k % 6 == 0 then microsecond (keys_at k script) d else d
 
 -- so many ticks, from tick k on
-abbrev pub ticks : List ℕ → ℕ → ℕ → Devices → Devices
-ticks ram zero k d = d
-ticks ram (suc n) k d = ticks ram n (k + 1) (tick ram k d)
+abbrev pub ticks : List Event → ℕ → ℕ → Devices → Devices
+ticks script zero k d = d
+ticks script (suc n) k d = ticks script n (k + 1) (tick script k d)
 
 -- All ticks below t are done, and those that were done already.
 abbrev pub board_closed : BoardState → ℕ → BoardState
-board_closed b t = record b { devices = ticks b.ram (t - b.closed) b.closed b.devices; closed = max t b.closed }
+board_closed b t = record b { devices = ticks b.script (t - b.closed) b.closed b.devices; closed = max t b.closed }
 
 -- What a read at tick t answers. FE is what the map does not give: of addresses that are only written, of absent devices, and of devices
 -- that are not built yet.
@@ -46,35 +44,44 @@ answer_at Acia b t at = if at % 2 == 0 then 0x02 else 0x00
 answer_at SerialUla b t at = 0xFE
 answer_at VideoUla b t at = 0xFE
 answer_at RomLatch b t at = 0xFE
-answer_at SystemVia b t at = 0xFE
-answer_at UserVia b t at = 0xFE
+answer_at SystemVia b t at = system_answer (at % 16) (keys_at t b.script) b.devices
+answer_at UserVia b t at = user_answer (at % 16) b.devices
 answer_at DiscLatch b t at = 0xFE
-answer_at DiscController b t at = 0xFE
+answer_at DiscController b t at = disc_answer (at % 4) b.devices
 answer_at Absent b t at = 0xFE
 answer_at Adc b t at = if at == 0xFEC0 then 0x40 else 0xFE
 answer_at Tube b t at = 0xFE
 
 -- the board after a read
 abbrev pub read_at : Place → ℕ → BoardState → BoardState
-read_at place at b = b
+read_at SystemVia at b = record b { devices = system_read (at % 16) b.devices }
+read_at UserVia at b = record b { devices = user_read (at % 16) b.devices }
+read_at DiscController at b = record b { devices = disc_read (at % 4) b.devices }
+read_at _ at b = b
 
 -- The board after a write. ROMs, stubs, absent devices and those that are not built yet ignore it.
 abbrev pub written_at : Place → ℕ → ℕ → BoardState → BoardState
 written_at Ram at v b = record b { ram = slice_set b.ram at v }
 written_at RomLatch at v b = record b { latch = v % 16 }
+written_at SystemVia at v b = record b { devices = system_written (at % 16) v b.devices }
+written_at UserVia at v b = record b { devices = user_written (at % 16) v b.devices }
+written_at DiscLatch at v b = record b { devices = disc_latched v b.devices }
+written_at DiscController at v b = record b { devices = disc_written (at % 4) v b.devices }
 written_at _ at v b = b
 
--- The lines to the processor: whether a device asks for an interrupt, and how often the NMI line has risen. No device does yet.
+-- The lines to the processor: whether a device asks for an interrupt, and how often the NMI line, the disc controller's "DRQ or INTRQ", has
+-- risen in microseconds and in accesses.
 abbrev pub board_irq : BoardState → Bool
-board_irq b = false
+board_irq b = devices_ask b.devices
 
 abbrev pub board_nmis : BoardState → ℕ
-board_nmis b = 0
+board_nmis b = b.devices.disc.nmis
 
 -- 32,768 bytes 00
 unfoldable pub clear_ram : List ℕ
 clear_ram = replicate 32768 0
 
--- the board at power-on, with these images
-abbrev pub first_board : Roms → BoardState
-first_board roms = record { ram = clear_ram; roms = roms; latch = 0; devices = tt; closed = 0 }
+-- the board at power-on, with these images, the discs of both drives, and this script
+abbrev pub first_board : Roms → Option Image → Option Image → List Event → BoardState
+first_board roms d0 d1 script =
+    record { ram = clear_ram; roms = roms; latch = 0; script = script; devices = first_devices d0 d1; closed = 0 }

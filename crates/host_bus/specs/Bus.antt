@@ -1,7 +1,10 @@
 -- The bus of the host: the board, and the plugged devices on FRED and JIM.
-use Rattle.std.specs.Prelude.{ℕ, Bool, true, false, List, if◌then◌else◌}
+use Rattle.std.specs.Prelude.{ℕ, Bool, true, false, List, Option, if◌then◌else◌}
 use Rattle.bus_plug.specs.Plug.{Plug}
 use Rattle.rom_set.specs.Roms.{Roms}
+use Rattle.disc_image.specs.Image.{Image}
+use Rattle.wd1770.specs.Select.{disc_of}
+use Rattle.key_script.specs.declared.Event.{Event}
 use Rattle.host_bus.specs.declared.map.Place.{Place}
 use Rattle.host_bus.specs.declared.map.Place.TheVariants.{Plugs}
 use Rattle.host_bus.specs.Map.{place_of}
@@ -53,6 +56,10 @@ bus_irq b = board_irq b.board
 abbrev pub bus_nmis : BusState → ℕ
 bus_nmis b = board_nmis b.board
 
--- the bus at power-on, with these images and these plugged devices
-abbrev pub bus_power_on : Roms → List Plug → BusState
-bus_power_on roms plugs = record { board = first_board roms; plugs = plugs }
+-- the disc in a drive
+abbrev pub bus_disc : ℕ → BusState → Option Image
+bus_disc drive b = disc_of drive b.board.devices.disc
+
+-- the bus at power-on, with these images, the discs of both drives, this script and these plugged devices
+abbrev pub bus_power_on : Roms → Option Image → Option Image → List Event → List Plug → BusState
+bus_power_on roms d0 d1 script plugs = record { board = first_board roms d0 d1 script; plugs = plugs }

@@ -1,7 +1,10 @@
 pub mod Map
+pub mod Devices
 pub mod Board
 pub mod Plugs
 pub mod Bus
+pub mod OnTime
+pub mod BoardView
 pub mod View
 pub mod Closing
 pub mod AtTube

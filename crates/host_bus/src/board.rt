@@ -1,10 +1,15 @@
 //! The board: memory, and what answers beside it.
-ghost use Rattle.std.specs.Prelude.{◌≡◌, ◌≤◌, ◌<◌, ◌+◌, ◌⊎◌, ℕ, length, IfOk, slice_set};
+ghost use Rattle.std.specs.Prelude.{◌≡◌, ◌≤◌, ◌<◌, ◌+◌, ◌^◌, ◌⊎◌, ℕ, length, IfOk, None, Some, MatchOption, slice_set};
+ghost use Rattle.wd1770.specs.Select.{disc_of};
 ghost use Rattle.host_bus.specs.Map.{place_of};
 ghost use Rattle.host_bus.specs.Board.{board_closed, answer_at, read_at, written_at, board_irq, board_nmis, first_board, clear_ram};
 
+use crate::devices::Devices;
 use crate::map::{Place, place_in_sheila};
+use crate::playback::Playback;
 use beeb_bits::NoMemory;
+use disc_image::Disc;
+use key_script::Script;
 use rom_set::RomSet;
 use std::alloc::{AllocError, Global};
 use std::marker::Model;
@@ -18,18 +23,23 @@ pub struct Board {
     ram: Vec<u8>,
     roms: RomSet,
     latch: u8,
+    devices: Devices,
+    playback: Playback,
     closed: u64,
+    // The tick of the next microsecond, and one before which no microsecond and no event comes.
+    micro: u64,
+    next: u64,
 }
 
 impl Model for Board {
-    ghost use Rattle.std.specs.Prelude.{◌≡◌, ◌<◌, length};
     ghost use Rattle.host_bus.specs.Board.{BoardState};
+    ghost use Rattle.host_bus.specs.BoardView.{board_seen, IsSound};
 
     ghost Value = { BoardState };
 
-    ghost view = { λ b. record { ram = b.ram.items; roms = b.roms; latch = b.latch; devices = tt; closed = b.closed } };
+    ghost view = { board_seen };
 
-    ghost invariant = { λ b. (length b.ram.items ≡ 32768) × (b.latch < 16) };
+    ghost invariant = { IsSound };
 }
 
 // The RAM at power-on. The size is an argument so that no proof writes the list out.
@@ -43,9 +53,15 @@ fn clear_ram(alloc: Global, size: usize) -> Result<Vec<u8>, AllocError>
 }
 
 impl Board {
-    /// The board at power-on, with these images.
-    pub fn make(alloc: Global, roms: RomSet) -> Result<Board, NoMemory>
-        ensures { IfOk result (λ b. b ≡ first_board roms) }
+    /// The board at power-on, with these images, the discs of both drives, and this script.
+    pub fn make(
+        alloc: Global,
+        roms: RomSet,
+        d0: Option<Disc>,
+        d1: Option<Disc>,
+        script: Script,
+    ) -> Result<Board, NoMemory>
+        ensures { IfOk result (λ b. b ≡ first_board roms d0 d1 script) }
     {
         let Ok(ram) = clear_ram(alloc, RAM_SIZE) else {
             return Err(NoMemory);
@@ -54,7 +70,11 @@ impl Board {
             ram,
             roms,
             latch: 0,
+            devices: Devices::new(d0, d1),
+            playback: Playback::new(script),
             closed: 0,
+            micro: 0,
+            next: 0,
         })
     }
 
@@ -66,13 +86,47 @@ impl Board {
         self.closed
     }
 
-    /// Does all ticks below `t`. No device needs them yet, so this is one number.
-    #[inline(always)]
-    pub fn close(&mut self, t: u64)
-        requires { self.old.closed ≤ t }
+    // Does some of the ticks below `t`: those up to the next microsecond or event.
+    fn go_on(&mut self, t: u64)
+        requires low { self.old.closed < t }
+        requires room { t < 2 ^ 48 }
+        ensures { (u : ℕ) × (self.old.closed < u) × (u ≤ t) × (self.new ≡ board_closed self.old u) }
+    {
+        let k = self.next;
+        if t <= k {
+            self.closed = t;
+            return;
+        }
+        self.playback.tick(k);
+        self.micro = self.devices.tick(&self.playback.keys, self.micro, k);
+        self.closed = k + 1;
+        self.next = self.micro.min(self.playback.event);
+    }
+
+    // Does all ticks below `t`.
+    #[inline(never)]
+    fn catch_up(&mut self, t: u64)
+        requires low { self.old.closed ≤ t }
+        requires room { t < 2 ^ 48 }
         ensures { self.new ≡ board_closed self.old t }
     {
-        self.closed = t;
+        while self.closed() < t {
+            self.go_on(t);
+        }
+    }
+
+    /// Does all ticks below `t`. Where nothing comes there, this is one number.
+    #[inline(always)]
+    pub fn close(&mut self, t: u64)
+        requires low { self.old.closed ≤ t }
+        requires room { t < 2 ^ 48 }
+        ensures { self.new ≡ board_closed self.old t }
+    {
+        if t <= self.next {
+            self.closed = t;
+        } else {
+            self.catch_up(t);
+        }
     }
 
     /// The byte of the RAM or of a ROM.
@@ -111,8 +165,12 @@ impl Board {
             Place::Acia => { if at % 2 == 0 { 0x02 } else { 0x00 } }
             Place::Adc => { if at == 0xfec0 { 0x40 } else { 0xfe } }
             Place::Crtc | Place::SerialUla | Place::VideoUla | Place::RomLatch => 0xfe,
-            Place::SystemVia | Place::UserVia | Place::DiscLatch | Place::DiscController => 0xfe,
-            Place::Absent | Place::Tube => 0xfe,
+            Place::DiscLatch | Place::Absent | Place::Tube => 0xfe,
+            Place::SystemVia => self
+                .devices
+                .read_system((at % 16) as u8, &self.playback.keys),
+            Place::UserVia => self.devices.read_user((at % 16) as u8),
+            Place::DiscController => self.devices.read_disc((at % 4) as u8),
             Place::Ram | Place::PagedRom | Place::OsRom | Place::Plugs => unreachable!(),
         }
     }
@@ -124,25 +182,39 @@ impl Board {
         ensures after { self.new ≡ written_at (place_of at) at v self.old }
         ensures closed { (self.new).closed ≡ (self.old).closed }
     {
-        if place_in_sheila(at) == Place::RomLatch {
-            self.latch = v % 16;
+        match place_in_sheila(at) {
+            Place::RomLatch => self.latch = v % 16,
+            Place::SystemVia => self.devices.write_system((at % 16) as u8, v),
+            Place::UserVia => self.devices.write_user((at % 16) as u8, v),
+            Place::DiscLatch => self.devices.latch_disc(v),
+            Place::DiscController => self.devices.write_disc((at % 4) as u8, v),
+            Place::Crtc | Place::Acia | Place::SerialUla | Place::VideoUla => {}
+            Place::Absent | Place::Adc | Place::Tube => {}
+            Place::Ram | Place::PagedRom | Place::OsRom | Place::Plugs => unreachable!(),
         }
     }
 
-    /// Whether a device asks for an interrupt: none does yet.
+    /// Whether a device asks for an interrupt.
     #[inline(always)]
     pub fn irq(&self) -> bool
         ensures { result ≡ board_irq self.now }
     {
-        false
+        self.devices.ask()
     }
 
-    /// How often the NMI line has risen: no device drives it yet.
+    /// How often the NMI line has risen.
     #[inline(always)]
     pub fn nmis(&self) -> u64
         ensures { result ≡ board_nmis self.now }
     {
-        0
+        self.devices.nmis()
+    }
+
+    /// The disc in a drive.
+    pub fn disc(&self, drive: u8) -> Option<&Disc>
+        ensures { MatchOption result (disc_of drive (self.now).devices.disc ≡ None) (λ disc. disc_of drive (self.now).devices.disc ≡ Some disc.now) }
+    {
+        self.devices.disc(drive)
     }
 
     /// The RAM.

@@ -1,13 +1,15 @@
 //! The bus.
-ghost use Rattle.std.specs.Prelude.{◌≡◌, ◌≤◌, ◌<◌, ◌+◌, ◌^◌, ◌⊎◌, ℕ, IfOk, map};
+ghost use Rattle.std.specs.Prelude.{◌≡◌, ◌≤◌, ◌<◌, ◌+◌, ◌^◌, ◌⊎◌, ℕ, IfOk, None, Some, MatchOption, map};
 ghost use Rattle.host_bus.specs.Map.{stretch};
-ghost use Rattle.host_bus.specs.Bus.{bus_closed, closed_at, bus_answer, bus_after_read, bus_after_write, bus_irq, bus_nmis, bus_power_on};
+ghost use Rattle.host_bus.specs.Bus.{bus_closed, closed_at, bus_answer, bus_after_read, bus_after_write, bus_irq, bus_nmis, bus_disc, bus_power_on};
 ghost use Rattle.host_bus.specs.View.{bus_seen};
 
 use crate::board::Board;
 use crate::plugged::{read_first, write_first};
 use beeb_bits::{NoMemory, Tick};
 use bus_plug::BusDevice;
+use disc_image::Disc;
+use key_script::Script;
 use rom_set::RomSet;
 use std::alloc::Global;
 
@@ -20,10 +22,17 @@ pub struct Bus<D = Box<dyn BusDevice + Send>> {
 
 impl<D: BusDevice> Bus<D> {
     /// The bus at power-on. Where memory is wanting, all is dropped.
-    pub fn make(alloc: Global, roms: RomSet, plugs: Vec<D>) -> Result<Bus<D>, NoMemory>
-        ensures { IfOk result (λ b. bus_seen D.plug b ≡ bus_power_on roms (map D.plug plugs.items)) }
+    pub fn make(
+        alloc: Global,
+        roms: RomSet,
+        d0: Option<Disc>,
+        d1: Option<Disc>,
+        script: Script,
+        plugs: Vec<D>,
+    ) -> Result<Bus<D>, NoMemory>
+        ensures { IfOk result (λ b. bus_seen D.plug b ≡ bus_power_on roms d0 d1 script (map D.plug plugs.items)) }
     {
-        let board = Board::make(alloc, roms)?;
+        let board = Board::make(alloc, roms, d0, d1, script)?;
         Ok(Bus { board, plugs })
     }
 
@@ -38,7 +47,8 @@ impl<D: BusDevice> Bus<D> {
     /// Does all device steps below `t`.
     #[inline(always)]
     pub fn close(&mut self, t: u64)
-        requires { closed_at (bus_seen D.plug self.old) ≤ t }
+        requires low { closed_at (bus_seen D.plug self.old) ≤ t }
+        requires room { t < 2 ^ 48 }
         ensures { bus_seen D.plug self.new ≡ bus_closed (bus_seen D.plug self.old) t }
     {
         self.board.close(t);
@@ -122,8 +132,8 @@ impl<D: BusDevice> Bus<D> {
     pub fn irq(&mut self, t: Tick) -> bool
         requires later { closed_at (bus_seen D.plug self.old) ≤ t.0 + 1 }
         requires room { t.0 < 2 ^ 40 }
-        ensures answer { result ≡ bus_irq (bus_closed (bus_seen D.plug self.old) (t.0 + 1)) }
         ensures after { bus_seen D.plug self.new ≡ bus_closed (bus_seen D.plug self.old) (t.0 + 1) }
+        ensures answer { result ≡ bus_irq (bus_closed (bus_seen D.plug self.old) (t.0 + 1)) }
     {
         self.close(t.0 + 1);
         self.board.irq()
@@ -156,6 +166,13 @@ impl<D: BusDevice> Bus<D> {
         ensures { result.now ≡ (bus_seen D.plug self.now).board.ram }
     {
         self.board.ram()
+    }
+
+    /// The disc in drive 0 or 1. None where the drive has none, and for any other number.
+    pub fn disc(&self, drive: u8) -> Option<&Disc>
+        ensures { MatchOption result (bus_disc drive (bus_seen D.plug self.now) ≡ None) (λ disc. bus_disc drive (bus_seen D.plug self.now) ≡ Some disc.now) }
+    {
+        self.board.disc(drive)
     }
 
     /// The plugged devices.

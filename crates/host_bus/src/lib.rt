@@ -1,9 +1,11 @@
-//! The host's bus: its memory map, stretched accesses, and the plugged devices on FRED and JIM.
+//! The host's bus: its memory map, stretched accesses, the devices that go by microseconds, and the plugged devices on FRED and JIM.
 #![tactic(auto)]
 
 mod board;
 mod bus;
+mod devices;
 mod map;
+mod playback;
 mod plugged;
 
 pub use bus::Bus;

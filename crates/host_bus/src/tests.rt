@@ -1,7 +1,9 @@
-//! The memory map, address by address.
+//! The memory map, address by address, and the devices on the bus.
 use crate::{Bus, stretch};
 use beeb_bits::{NoMemory, Tick};
 use bus_plug::BusDevice;
+use disc_image::{Disc, Kind};
+use key_script::read;
 use rom_set::RomSet;
 use std::alloc::Global;
 use std::test::Fail;
@@ -21,22 +23,71 @@ fn roms(alloc: Global) -> Result<RomSet, Fail> {
             *at = byte;
         }
     }
-    Ok(RomSet::read(os, vec![in alloc; (5, rom)]?)?)
+    Ok(RomSet::read(os, vec![in alloc; (5, rom)]?, None)?)
 }
 
-// What an address reads at power-on, and after a write of A5 to it.
-fn reads(alloc: Global, at: u16) -> Result<(u8, u8), Fail> {
-    let mut bus: Bus = Bus::make(alloc, roms(alloc)?, Vec::new(alloc))?;
-    let first = bus.read(Tick(30), at);
-    bus.write(Tick(33), at, 0xa5);
-    Ok((first, bus.read(Tick(39), at)))
+// Ten sectors; byte i of sector n is n + i.
+fn disc(alloc: Global) -> Result<Disc, Fail> {
+    let mut bytes = vec![in alloc; 0; 2_560]?;
+    for (place, byte) in bytes.iter_mut().enumerate() {
+        *byte = ((place / 256 + place % 256) % 256) as u8;
+    }
+    Ok(Disc::make(alloc, Kind::Ssd, bytes)?)
+}
+
+// It has that disc in drive 0.
+fn bus_with(alloc: Global, script: &str) -> Result<Bus, Fail> {
+    let script = read(alloc, script.as_bytes())?;
+    Ok(Bus::make(
+        alloc,
+        roms(alloc)?,
+        Some(disc(alloc)?),
+        None,
+        script,
+        Vec::new(alloc),
+    )?)
+}
+
+// What is done to the bus at a tick: a write, a read with its answer, a look with the level of the interrupt line, or one with the count of
+// the NMI line's rises.
+#[derive(Clone, Copy)]
+enum Act {
+    Write(u16, u8),
+    Read(u16, u8),
+    Look(bool),
+    Rises(u64),
+}
+
+use Act::{Look, Read, Rises, Write};
+
+// Does these one after the other, and answers the place of the first that is not as it should be, if there is one.
+fn first_wrong(bus: &mut Bus, acts: &[(u64, Act)]) -> Option<usize> {
+    for (i, (t, act)) in acts.iter().enumerate() {
+        if bus.closed() > t % (1 << 40) + 1 {
+            return Some(i);
+        }
+        let t = Tick(t % (1 << 40));
+        let is_right = match act {
+            Write(at, v) => {
+                bus.write(t, *at, *v);
+                true
+            }
+            Read(at, want) => bus.read(t, *at) == *want,
+            Look(want) => bus.irq(t) == *want,
+            Rises(want) => bus.nmis(t) == *want,
+        };
+        if !is_right {
+            return Some(i);
+        }
+    }
+    None
 }
 
 #[test]
 fn each_address_is_that_of_the_map(rt: HostRuntime) -> Result<(), Fail> {
     // The first and the last address of an area, or of those of one kind in it, what both read first and after a write of A5, and
     // whether they are stretched.
-    let rows: [(u16, u16, u8, u8, bool); 30] = [
+    let rows: [(u16, u16, u8, u8, bool); 37] = [
         (0x0000, 0x7fff, 0x00, 0xa5, false),
         (0x8000, 0xbfff, 0xff, 0xff, false),
         (0xc000, 0xc000, 0x12, 0x12, false),
@@ -51,10 +102,20 @@ fn each_address_is_that_of_the_map(rt: HostRuntime) -> Result<(), Fail> {
         (0xfe10, 0xfe1f, 0xfe, 0xfe, true),
         (0xfe20, 0xfe2f, 0xfe, 0xfe, false),
         (0xfe30, 0xfe3f, 0xfe, 0xfe, false),
-        (0xfe40, 0xfe5f, 0xfe, 0xfe, true),
-        (0xfe60, 0xfe7f, 0xfe, 0xfe, true),
+        // Both 6522s by the low four bits: port B, whose pins are all 1, port A, the control registers, and the enabled interrupts.
+        (0xfe40, 0xfe50, 0xff, 0xff, true),
+        (0xfe4f, 0xfe5f, 0x7f, 0x7f, true),
+        (0xfe4b, 0xfe5c, 0x00, 0xa5, true),
+        (0xfe4e, 0xfe5e, 0x80, 0xa5, true),
+        (0xfe60, 0xfe70, 0xff, 0xff, true),
+        (0xfe6f, 0xfe7f, 0xff, 0xff, true),
+        (0xfe6b, 0xfe7c, 0x00, 0xa5, true),
+        (0xfe6e, 0xfe7e, 0x80, 0xa5, true),
         (0xfe80, 0xfe83, 0xfe, 0xfe, false),
-        (0xfe84, 0xfe87, 0xfe, 0xfe, false),
+        // The controller's status, whose commands are ignored while its latch is 00, and its other registers.
+        (0xfe84, 0xfe84, 0x06, 0x06, false),
+        (0xfe85, 0xfe87, 0x00, 0xa5, false),
+        (0xfe86, 0xfe86, 0x00, 0xa5, false),
         (0xfe88, 0xfebf, 0xfe, 0xfe, false),
         (0xfec0, 0xfec0, 0x40, 0x40, true),
         (0xfec1, 0xfedf, 0xfe, 0xfe, true),
@@ -66,13 +127,21 @@ fn each_address_is_that_of_the_map(rt: HostRuntime) -> Result<(), Fail> {
         (0x9fff, 0xa000, 0xff, 0xff, false),
         (0xfe0a, 0xfe0c, 0x02, 0x02, true),
         (0xfe0b, 0xfe0d, 0x00, 0x00, true),
-        (0xfe4f, 0xfe50, 0xfe, 0xfe, true),
         (0xfea0, 0xfea3, 0xfe, 0xfe, false),
     ];
     for (first, last, before, after, stretched) in rows {
         let cycles = if stretched { (2, 3) } else { (1, 1) };
         for at in [first, last] {
-            assert_eq!(rt; reads(rt.alloc(), at)?, (before, after), "{at}");
+            let acts = [
+                (30, Read(at, before)),
+                (33, Write(at, 0xa5)),
+                (39, Read(at, after)),
+            ];
+            assert_eq!(rt;
+                first_wrong(&mut bus_with(rt.alloc(), "")?, &acts),
+                None,
+                "{at}"
+            );
             assert_eq!(rt; (stretch(at, 10), stretch(at, 13)), cycles, "{at}");
         }
     }
@@ -93,20 +162,20 @@ fn the_latch_takes_the_low_four_bits(rt: HostRuntime) -> Result<(), Fail> {
         (0xfe2f, 0x05, [0xff; 4]),
         (0xfe40, 0x05, [0xff; 4]),
     ];
-    for (at, v, want) in rows {
-        let mut bus: Bus = Bus::make(rt.alloc(), roms(rt.alloc())?, Vec::new(rt.alloc()))?;
-        bus.write(Tick(0), at, v);
+    for (at, v, [first, half, behind, last]) in rows {
+        let mut bus = bus_with(rt.alloc(), "")?;
         // A write to the ROM is ignored.
-        bus.write(Tick(3), 0x8000, 0xa5);
-        let bytes = [
-            bus.read(Tick(6), 0x8000),
-            bus.read(Tick(9), 0x9fff),
-            bus.read(Tick(12), 0xa000),
-            bus.read(Tick(15), 0xbfff),
+        let acts = [
+            (0, Write(at, v)),
+            (3, Write(0x8000, 0xa5)),
+            (6, Read(0x8000, first)),
+            (9, Read(0x9fff, half)),
+            (12, Read(0xa000, behind)),
+            (15, Read(0xbfff, last)),
+            (17, Look(false)),
+            (17, Rises(0)),
         ];
-        assert_eq!(rt; bytes, want);
-        assert!(rt; !bus.irq(Tick(17)));
-        assert_eq!(rt; bus.nmis(Tick(17)), 0);
+        assert_eq!(rt; first_wrong(&mut bus, &acts), None, "{at} {v}");
         bus.finish(Tick(60));
         assert_eq!(rt; bus.ram().len(), 32_768);
     }
@@ -158,7 +227,14 @@ impl BusDevice for Counter {
 fn the_first_owner_answers_and_no_other(rt: HostRuntime) -> Result<(), Fail> {
     let device = |first, last, byte| Counter { first, last, byte };
     let plugs = vec![in rt.alloc(); device(0xfc10, 0xfcff, 10), device(0xfc00, 0xfdfe, 20)]?;
-    let mut bus = Bus::make(rt.alloc(), roms(rt.alloc())?, plugs)?;
+    let mut bus = Bus::make(
+        rt.alloc(),
+        roms(rt.alloc())?,
+        None,
+        None,
+        read(rt.alloc(), b"")?,
+        plugs,
+    )?;
     // Each access is one call.
     let reads = [
         bus.read(Tick(0), 0xfc0f),
@@ -177,5 +253,215 @@ fn the_first_owner_answers_and_no_other(rt: HostRuntime) -> Result<(), Fail> {
     );
     let bytes = bus.plugs().iter().map(|device| device.byte);
     assert!(rt; bytes.eq([0x78, 24]));
+    Ok(())
+}
+
+#[test]
+fn a_key_is_seen_at_port_a_and_ca2(rt: HostRuntime) -> Result<(), Fail> {
+    // Register 3 of the system's 6522 has 7F and register F has 41; register C has 04, so that CA2 is noticed where it rises.
+    let begin = [
+        (0, Write(0xfe43, 0x7f)),
+        (0, Write(0xfe4f, 0x41)),
+        (0, Write(0xfe4c, 0x04)),
+    ];
+    let rows: [(&str, &[(u64, Act)]); 8] = [
+        // The key is down from tick 60 on, and CA2 is 1 from microsecond 10 on.
+        (
+            "at 60 down 41\n",
+            &[
+                (54, Read(0xfe4f, 0x41)),
+                (59, Read(0xfe4f, 0x41)),
+                (59, Read(0xfe4d, 0x00)),
+                (60, Read(0xfe4f, 0xc1)),
+                (60, Read(0xfe4d, 0x01)),
+            ],
+        ),
+        // A read sees the key at its tick, and CA2 that of its microsecond.
+        (
+            "at 61 down 41\nat 64 up 41\nat 65 down 41\n",
+            &[
+                (60, Read(0xfe4f, 0x41)),
+                (61, Read(0xfe4f, 0xc1)),
+                (64, Read(0xfe4f, 0x41)),
+                (65, Read(0xfe4f, 0xc1)),
+                (65, Read(0xfe4d, 0x00)),
+                (66, Read(0xfe4d, 0x01)),
+            ],
+        ),
+        // A key that is up again at the microsecond was never on CA2.
+        (
+            "at 61 down 41\nat 66 up 41\n",
+            &[(66, Read(0xfe4d, 0x00)), (72, Read(0xfe4d, 0x00))],
+        ),
+        // Another key of the column, one of row 0, and one of another column.
+        (
+            "at 0 down 71\n",
+            &[(6, Read(0xfe4f, 0x41)), (6, Read(0xfe4d, 0x01))],
+        ),
+        (
+            "at 0 down 01\nat 0 down 42\n",
+            &[(6, Read(0xfe4f, 0x41)), (6, Read(0xfe4d, 0x00))],
+        ),
+        // Latch bit 3 is set: bit 7 is low, and CA2 is of all columns.
+        (
+            "at 60 down 41\n",
+            &[
+                (54, Write(0xfe42, 0x0f)),
+                (54, Write(0xfe40, 0x0b)),
+                (60, Read(0xfe4f, 0x41)),
+                (60, Read(0xfe4d, 0x01)),
+                (61, Write(0xfe40, 0x03)),
+                (61, Read(0xfe4f, 0xc1)),
+            ],
+        ),
+        (
+            "at 60 down 42\n",
+            &[
+                (54, Write(0xfe42, 0x0f)),
+                (54, Write(0xfe40, 0x0b)),
+                (60, Read(0xfe4d, 0x01)),
+            ],
+        ),
+        // The last tick that a script can have.
+        (
+            "at 1073741824 down 41\n",
+            &[
+                (1_073_741_823, Read(0xfe4f, 0x41)),
+                (1_073_741_824, Read(0xfe4f, 0xc1)),
+                (1_073_741_825, Read(0xfe4d, 0x00)),
+                (1_073_741_826, Read(0xfe4d, 0x01)),
+            ],
+        ),
+    ];
+    for (script, acts) in rows {
+        let mut bus = bus_with(rt.alloc(), script)?;
+        assert_eq!(rt; first_wrong(&mut bus, &begin), None, "{script}");
+        assert_eq!(rt; first_wrong(&mut bus, acts), None, "{script}");
+    }
+    Ok(())
+}
+
+#[test]
+fn the_latch_and_the_timers_go_by_the_bus(rt: HostRuntime) -> Result<(), Fail> {
+    let rows: [(&str, &[(u64, Act)]); 5] = [
+        // The pins of port B go to the latch after a write to its direction and after one to it, and not after one to port A. Key 7F is down,
+        // whose number port A has where it is not written.
+        (
+            "at 0 down 7F\n",
+            &[
+                (6, Read(0xfe41, 0xff)),
+                (6, Write(0xfe40, 0x03)),
+                (6, Read(0xfe41, 0xff)),
+                (7, Write(0xfe42, 0x07)),
+                (7, Read(0xfe41, 0x7f)),
+                (8, Write(0xfe42, 0x0f)),
+                (8, Read(0xfe41, 0xff)),
+                (9, Write(0xfe41, 0x0b)),
+                (9, Read(0xfe41, 0xff)),
+                (10, Write(0xfe40, 0x0b)),
+                (10, Read(0xfe41, 0x7f)),
+                (11, Write(0xfe60, 0x03)),
+                (11, Read(0xfe41, 0x7f)),
+                (12, Write(0xfe40, 0xf3)),
+                (12, Read(0xfe41, 0xff)),
+            ],
+        ),
+        // Timer 1 of the system's, written between the microseconds 0 and 1, sets its flag in microsecond 7, and again in 14.
+        (
+            "",
+            &[
+                (2, Write(0xfe4b, 0x40)),
+                (2, Write(0xfe44, 0x05)),
+                (2, Write(0xfe45, 0x00)),
+                (41, Read(0xfe4d, 0x00)),
+                (42, Read(0xfe4d, 0x40)),
+                (42, Look(false)),
+                (42, Write(0xfe4e, 0xc0)),
+                (42, Look(true)),
+                (43, Read(0xfe44, 0xff)),
+                (83, Read(0xfe4d, 0x00)),
+                (83, Look(false)),
+                (84, Look(true)),
+                (84, Read(0xfe4d, 0xc0)),
+            ],
+        ),
+        // Timer 2 of the user's asks by itself.
+        (
+            "",
+            &[
+                (0, Write(0xfe6e, 0xa0)),
+                (0, Write(0xfe68, 0x05)),
+                (0, Write(0xfe69, 0x00)),
+                (41, Look(false)),
+                (42, Look(true)),
+                (42, Read(0xfe6d, 0xa0)),
+                (43, Read(0xfe4d, 0x00)),
+                (44, Read(0xfe68, 0xff)),
+                (44, Look(false)),
+            ],
+        ),
+        // The user's pins are 1: CA1 and CA2 rise in microsecond 0, and CB1 and CB2 never.
+        ("", &[(0, Write(0xfe6c, 0x55)), (6, Read(0xfe6d, 0x00))]),
+        // Vertical sync, on the system's CA1, is low.
+        ("", &[(0, Write(0xfe4c, 0x01)), (60, Read(0xfe4d, 0x00))]),
+    ];
+    for (i, (script, acts)) in rows.into_iter().enumerate() {
+        let mut bus = bus_with(rt.alloc(), script)?;
+        assert_eq!(rt; first_wrong(&mut bus, acts), None, "{i}");
+    }
+    Ok(())
+}
+
+#[test]
+fn the_disc_controller_goes_by_the_bus(rt: HostRuntime) -> Result<(), Fail> {
+    // Between the microseconds 0 and 1: drive 0, track 0, sector 1, and a read.
+    let begin = [
+        (2, Write(0xfe80, 0x29)),
+        (2, Write(0xfe85, 0x00)),
+        (2, Write(0xfe86, 0x01)),
+        (2, Write(0xfe84, 0x80)),
+    ];
+    let rows: [&[(u64, Act)]; 3] = [
+        // No byte is read: the line rises with the first byte in microsecond 21,952, and stays up past the end in 38,400.
+        &[
+            (131_711, Rises(0)),
+            (131_711, Read(0xfe84, 0x81)),
+            (131_712, Read(0xfe84, 0x83)),
+            (131_712, Rises(1)),
+            (132_096, Read(0xfe84, 0x87)),
+            (230_399, Read(0xfe84, 0x87)),
+            (230_400, Read(0xfe84, 0x86)),
+            (230_400, Rises(1)),
+        ],
+        // Each byte that is read lets it fall, and the next one rises. A write to the data register does the same.
+        &[
+            (131_712, Read(0xfe87, 0x01)),
+            (131_713, Read(0xfe84, 0x81)),
+            (132_095, Rises(1)),
+            (132_096, Rises(2)),
+            (132_097, Read(0xfe87, 0x02)),
+            (132_480, Rises(3)),
+            (132_481, Write(0xfe87, 0x00)),
+            (132_864, Rises(4)),
+        ],
+        // A command D8 raises it in the access, and the latch lets it fall. The latch has four addresses.
+        &[
+            (100, Write(0xfe84, 0xd8)),
+            (100, Rises(1)),
+            (101, Write(0xfe83, 0x00)),
+            (102, Write(0xfe82, 0x29)),
+            (103, Write(0xfe84, 0xd8)),
+            (103, Rises(2)),
+            (104, Write(0xfe84, 0xd8)),
+            (104, Rises(2)),
+        ],
+    ];
+    for (i, acts) in rows.into_iter().enumerate() {
+        let mut bus = bus_with(rt.alloc(), "")?;
+        assert_eq!(rt; first_wrong(&mut bus, &begin), None, "{i}");
+        assert_eq!(rt; first_wrong(&mut bus, acts), None, "{i}");
+        assert_eq!(rt; bus.disc(0).map(|disc| disc.bytes().len()), Some(2_560));
+        assert!(rt; bus.disc(1).is_none() && bus.disc(2).is_none());
+    }
     Ok(())
 }

@@ -1,7 +1,9 @@
 -- The host: a 6502 at its bus.
-use Rattle.std.specs.Prelude.{ℕ, List}
+use Rattle.std.specs.Prelude.{ℕ, List, Option}
 use Rattle.bus_plug.specs.Plug.{Plug}
 use Rattle.rom_set.specs.Roms.{Roms}
+use Rattle.disc_image.specs.Image.{Image}
+use Rattle.key_script.specs.declared.Event.{Event}
 use Rattle.cpu6502.specs.State as cpu
 use Rattle.cpu6502.specs.Sequences as sequences
 use Rattle.host_bus.specs.Bus.{BusState, bus_power_on}
@@ -14,6 +16,6 @@ pub record HostState : Type 0 where
   -- the tick of its next step
   pub due : ℕ
 
--- the power-on state, with these images and these plugged devices
-abbrev pub power_on : Roms → List Plug → HostState
-power_on roms plugs = record { cpu = sequences.power_on; bus = bus_power_on roms plugs; nmis = 0; due = 0 }
+-- the power-on state, with these images, the discs of both drives, this script and these plugged devices
+abbrev pub power_on : Roms → Option Image → Option Image → List Event → List Plug → HostState
+power_on roms d0 d1 script plugs = record { cpu = sequences.power_on; bus = bus_power_on roms d0 d1 script plugs; nmis = 0; due = 0 }

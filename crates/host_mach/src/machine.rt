@@ -1,5 +1,6 @@
 //! The machine.
-ghost use Rattle.std.specs.Prelude.{◌≡◌, ◌≤◌, ◌<◌, ◌+◌, ◌^◌, IfOk, IsSome, None, Some, false, map};
+ghost use Rattle.std.specs.Prelude.{◌≡◌, ◌≤◌, ◌<◌, ◌+◌, ◌^◌, IfOk, IsSome, None, Some, MatchOption, false, map};
+ghost use Rattle.host_bus.specs.Bus.{bus_disc};
 ghost use Rattle.tube_chip.specs.declared.Answer.TheVariants.{Byte, Seen};
 ghost use Rattle.tube_party.specs.Moves.{IsAsk, shut};
 ghost use Rattle.cpu6502.specs.Sequences.{next, halted};
@@ -11,7 +12,9 @@ use beeb_bits::{NoMemory, Tick};
 use bus_plug::BusDevice;
 use cpu_alu::Regs;
 use cpu6502::Cpu;
+use disc_image::Disc;
 use host_bus::Bus;
+use key_script::Script;
 use rom_set::RomSet;
 use std::alloc::Global;
 use tube_chip::{Answer, Lines, Op};
@@ -40,10 +43,17 @@ impl<D: BusDevice> HostMachine<D> {
     ghost use Rattle.host_mach.specs.Told.{IsDone, IsQuick, IsAskedByte};
 
     /// The machine at power-on, before the first cycle of a reset. Where memory is wanting, all is dropped.
-    pub fn make(alloc: Global, roms: RomSet, plugs: Vec<D>) -> Result<HostMachine<D>, NoMemory>
-        ensures { IfOk result (λ m. host_seen D.plug m ≡ power_on roms (map D.plug plugs.items)) }
+    pub fn make(
+        alloc: Global,
+        roms: RomSet,
+        d0: Option<Disc>,
+        d1: Option<Disc>,
+        script: Script,
+        plugs: Vec<D>,
+    ) -> Result<HostMachine<D>, NoMemory>
+        ensures { IfOk result (λ m. host_seen D.plug m ≡ power_on roms d0 d1 script (map D.plug plugs.items)) }
     {
-        let bus = Bus::make(alloc, roms, plugs)?;
+        let bus = Bus::make(alloc, roms, d0, d1, script, plugs)?;
         Ok(HostMachine {
             cpu: Cpu::new(),
             bus,
@@ -71,6 +81,13 @@ impl<D: BusDevice> HostMachine<D> {
         ensures { result.now ≡ (host_seen D.plug self.now).bus.board.ram }
     {
         self.bus.ram()
+    }
+
+    /// The disc in drive 0 or 1. None where the drive has none, and for any other number.
+    pub fn disc(&self, drive: u8) -> Option<&Disc>
+        ensures { MatchOption result (bus_disc drive (host_seen D.plug self.now).bus ≡ None) (λ disc. bus_disc drive (host_seen D.plug self.now).bus ≡ Some disc.now) }
+    {
+        self.bus.disc(drive)
     }
 
     /// The plugged devices.

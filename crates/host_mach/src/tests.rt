@@ -5,6 +5,7 @@ use crate::{Crosses, HostMachine};
 use beeb_bits::{NoMemory, Side, Tick};
 use bus_plug::BusDevice;
 use cpu_alu::Regs;
+use disc_image::{Disc, Kind};
 use rom_set::RomSet;
 use std::alloc::Global;
 use std::test::Fail;
@@ -23,19 +24,35 @@ fn put(os: &mut [u8], at: usize, part: &[u8])
     }
 }
 
-// An operating system with code at C000, JMP C200 at C200 and JMP C300 at C300, NMI to C200, reset to C000 and IRQ to C300; the slots
-// are empty.
-fn roms(alloc: Global, code: &[u8]) -> Result<RomSet, Fail> {
+// An operating system with code at C000, JMP C200 at C200 and what interrupts do at C300, NMI to C200, reset to C000 and IRQ to C300; the
+// slots are empty.
+fn roms_with(alloc: Global, code: &[u8], interrupt: &[u8]) -> Result<RomSet, Fail> {
     let mut os = vec![in alloc; 0; 16_384]?;
     put(&mut os, 0xc000, code);
     put(&mut os, 0xc200, &[0x4c, 0x00, 0xc2]);
-    put(&mut os, 0xc300, &[0x4c, 0x00, 0xc3]);
+    put(&mut os, 0xc300, interrupt);
     put(&mut os, 0xfffa, &[0x00, 0xc2, 0x00, 0xc0, 0x00, 0xc3]);
-    Ok(RomSet::read(os, Vec::new(alloc))?)
+    Ok(RomSet::read(os, Vec::new(alloc), None)?)
+}
+
+// The same with JMP C300 at C300.
+fn roms(alloc: Global, code: &[u8]) -> Result<RomSet, Fail> {
+    roms_with(alloc, code, &[0x4c, 0x00, 0xc3])
+}
+
+fn typed_host(
+    alloc: Global,
+    code: &[u8],
+    interrupt: &[u8],
+    script: &str,
+) -> Result<HostMachine, Fail> {
+    let script = key_script::read(alloc, script.as_bytes())?;
+    let roms = roms_with(alloc, code, interrupt)?;
+    Ok(HostMachine::make(alloc, roms, None, None, script, Vec::new(alloc))?)
 }
 
 fn host(alloc: Global, code: &[u8]) -> Result<HostMachine, Fail> {
-    Ok(HostMachine::make(alloc, roms(alloc, code)?, Vec::new(alloc))?)
+    typed_host(alloc, code, &[0x4c, 0x00, 0xc3], "")
 }
 
 // P without bits 4 and 5, which are not flags.
@@ -73,7 +90,7 @@ fn it_runs_against_its_side_of_a_trace(rt: HostRuntime) -> Result<(), Fail> {
             &[0xad, 0x40, 0xfe],
             "",
             36,
-            regs(0xc003, 0xfe, 0xfd, 0x84),
+            regs(0xc003, 0xff, 0xfd, 0x84),
             false,
         ),
         // LDA 70 before it: its access at cycle 13 takes three, and the next opcode is read at tick 48.
@@ -88,7 +105,7 @@ fn it_runs_against_its_side_of_a_trace(rt: HostRuntime) -> Result<(), Fail> {
             &[0xa5, 0x70, 0xad, 0x40, 0xfe],
             "",
             48,
-            regs(0xc005, 0xfe, 0xfd, 0x84),
+            regs(0xc005, 0xff, 0xfd, 0x84),
             false,
         ),
         // An opcode without an instruction: halted as soon as it is read.
@@ -324,7 +341,15 @@ fn a_stretched_access_is_one_call_of_a_device(rt: HostRuntime) -> Result<(), Fai
     // LDA #41, STA FC10 with its access at cycle 12, LDA FD20 with its access at cycle 17
     let code = [0xa9, 0x41, 0x8d, 0x10, 0xfc, 0xad, 0x20, 0xfd];
     let plugs = vec![in rt.alloc(); Counter { byte: 5 }, Counter { byte: 7 }]?;
-    let machine = HostMachine::make(rt.alloc(), roms(rt.alloc(), &code)?, plugs)?;
+    let script = key_script::read(rt.alloc(), b"")?;
+    let machine = HostMachine::make(
+        rt.alloc(),
+        roms(rt.alloc(), &code)?,
+        None,
+        None,
+        script,
+        plugs,
+    )?;
     let (machine, place) = replay(machine, Side::Host, &[], Tick(60));
     assert_eq!(rt; place, None);
     assert_eq!(rt; machine.regs(), regs(0xc008, 0x41, 0xfd, 0x04));
@@ -340,10 +365,122 @@ fn a_stretched_access_is_one_call_of_a_device(rt: HostRuntime) -> Result<(), Fai
     let machine: HostMachine = HostMachine::make(
         rt.alloc(),
         roms(rt.alloc(), &code)?,
+        None,
+        None,
+        key_script::read(rt.alloc(), b"")?,
         vec![in rt.alloc(); boxed]?,
     )?;
     assert!(rt; can_cross(&machine));
     let (machine, _) = replay(machine, Side::Host, &[], Tick(60));
     assert_eq!(rt; machine.regs().a, 0x41);
+    Ok(())
+}
+
+#[test]
+fn it_counts_interrupts_of_a_timer_and_reads_a_key(rt: HostRuntime) -> Result<(), Fail> {
+    // At C000: LDA #7F, STA FE43; LDA #41, STA FE4F; LDA #40, STA FE4B; LDA #62, STA FE44; LDA #0, STA FE45 with its access at cycle 43, so
+    // at tick 129 behind microsecond 21; LDA #C0, STA FE4E; CLI; JMP to itself, with looks at the ticks 176, 185 and so on. The timer runs
+    // free, and sets its flag in the microseconds 121, 221 and so on, at the ticks 726, 1326 and so on.
+    let code = [
+        0xa9, 0x7f, 0x8d, 0x43, 0xfe, 0xa9, 0x41, 0x8d, 0x4f, 0xfe, 0xa9, 0x40, 0x8d, 0x4b, 0xfe,
+        0xa9, 0x62, 0x8d, 0x44, 0xfe, 0xa9, 0x00, 0x8d, 0x45, 0xfe, 0xa9, 0xc0, 0x8d, 0x4e, 0xfe,
+        0x58, 0x4c, 0x1f, 0xc0,
+    ];
+    // At C300: INC 70, LDA FE44, LDA FE4F, STA 71, RTI
+    let interrupt = [
+        0xe6, 0x70, 0xad, 0x44, 0xfe, 0xad, 0x4f, 0xfe, 0x85, 0x71, 0x40,
+    ];
+    // The script, the ticks, how many interrupts came, and port A at the last of them, which has key 41 in bit 7.
+    let rows: [(&str, u16, u8, u8); 6] = [
+        ("", 726, 0, 0x00),
+        ("", 6426, 10, 0x41),
+        ("at 3000 down 41\n", 2826, 4, 0x41),
+        ("at 3000 down 41\n", 6426, 10, 0xc1),
+        ("at 3000 down 41\nat 5000 up 41\n", 6426, 10, 0x41),
+        ("at 0 down 31\nat 6000 shot\n", 6426, 10, 0x41),
+    ];
+    for (script, ticks, count, key) in rows {
+        let machine = typed_host(rt.alloc(), &code, &interrupt, script)?;
+        let (machine, place) = replay(machine, Side::Host, &[], Tick(u64::from(ticks)));
+        assert_eq!(rt; place, None);
+        let bytes = [machine.ram().get(0x70), machine.ram().get(0x71)];
+        assert_eq!(rt; bytes, [Some(&count), Some(&key)], "{ticks} ticks");
+    }
+    // The first interrupt is taken at the look of tick 734, and is over after 21 ticks.
+    let rows: [(u16, Regs); 2] = [
+        (755, regs(0xc01f, 0xc0, 0xfd, 0x80)),
+        (756, regs(0xc300, 0xc0, 0xfa, 0x84)),
+    ];
+    for (ticks, shown) in rows {
+        let machine = typed_host(rt.alloc(), &code, &interrupt, "")?;
+        let (machine, _) = replay(machine, Side::Host, &[], Tick(u64::from(ticks)));
+        assert_eq!(rt; machine.regs(), shown, "{ticks} ticks");
+    }
+    Ok(())
+}
+
+// Ten sectors; byte i of sector n is n + i.
+fn disc(alloc: Global) -> Result<Disc, Fail> {
+    let mut bytes = vec![in alloc; 0; 2_560]?;
+    for (place, byte) in bytes.iter_mut().enumerate() {
+        *byte = ((place / 256 + place % 256) % 256) as u8;
+    }
+    Ok(Disc::make(alloc, Kind::Ssd, bytes)?)
+}
+
+// A host with that disc in drive 0. At C000: LDA #29, STA FE80; LDA #1, STA FE86; LDA #80, STA FE84; JMP to itself. At C200, where an NMI
+// goes: LDA FE84, AND #2, BEQ over the next three; LDA FE87, STA 1000,X, INX; INC 70, RTI.
+fn disc_host(alloc: Global) -> Result<HostMachine, Fail> {
+    let code = [
+        0xa9, 0x29, 0x8d, 0x80, 0xfe, 0xa9, 0x01, 0x8d, 0x86, 0xfe, 0xa9, 0x80, 0x8d, 0x84, 0xfe,
+        0x4c, 0x0f, 0xc0,
+    ];
+    let interrupt = [
+        0xad, 0x84, 0xfe, 0x29, 0x02, 0xf0, 0x07, 0xad, 0x87, 0xfe, 0x9d, 0x00, 0x10, 0xe8, 0xe6,
+        0x70, 0x40,
+    ];
+    let mut os = vec![in alloc; 0; 16_384]?;
+    put(&mut os, 0xc000, &code);
+    put(&mut os, 0xc200, &interrupt);
+    put(&mut os, 0xfffa, &[0x00, 0xc2, 0x00, 0xc0]);
+    let roms = RomSet::read(os, Vec::new(alloc), None)?;
+    let script = key_script::read(alloc, b"")?;
+    Ok(HostMachine::make(
+        alloc,
+        roms,
+        Some(disc(alloc)?),
+        None,
+        script,
+        Vec::new(alloc),
+    )?)
+}
+
+#[test]
+fn it_reads_a_sector_by_its_interrupts(rt: HostRuntime) -> Result<(), Fail> {
+    // Tens of ticks, how often the interrupt came, mod 256, and the first and last two bytes. Byte i comes in microsecond 21,952 + 64 i, so the
+    // first at tick 131,712 and the last at tick 229,632, and the end is at tick 230,400.
+    let rows: [(u16, u8, [u8; 4]); 5] = [
+        (13_171, 0, [0x00, 0x00, 0x00, 0x00]),
+        (13_190, 1, [0x01, 0x00, 0x00, 0x00]),
+        (22_990, 0, [0x01, 0x02, 0xff, 0x00]),
+        (23_060, 1, [0x01, 0x02, 0xff, 0x00]),
+        (40_000, 1, [0x01, 0x02, 0xff, 0x00]),
+    ];
+    for (tens, count, [first, second, third, last]) in rows {
+        let n = Tick(10 * u64::from(tens));
+        let (machine, place) = replay(disc_host(rt.alloc())?, Side::Host, &[], n);
+        assert_eq!(rt; place, None);
+        let ram = machine.ram();
+        assert_eq!(rt; ram.get(0x70), Some(&count), "{tens}");
+        let bytes = [
+            ram.get(0x1000),
+            ram.get(0x1001),
+            ram.get(0x10fe),
+            ram.get(0x10ff),
+        ];
+        let want = [Some(&first), Some(&second), Some(&third), Some(&last)];
+        assert_eq!(rt; bytes, want, "{tens}");
+        assert!(rt; machine.disc(0).is_some() && machine.disc(1).is_none());
+    }
     Ok(())
 }

@@ -1,0 +1,16 @@
+use Rattle.std.proofs.Common.{sym, ap, arith}
+use Rattle.std.specs.Prelude.{unwrap_or}
+use Rattle.keyboard.specs.Keys.{Keys}
+use Rattle.key_script.specs.Keys.{last_made}
+use Rattle.host_bus.proofs.playback.Playback.new.Goals as goal
+
+pub returns-clause-played : goal.returns-clause-played
+returns-clause-played c =
+    let event = rw c.events.ensures.events at c.event_tick-event.ensures in
+    let order = c.events.ensures.rules.order in
+    record {
+      within = omega arith;
+      is_left = λ k key late. ap (λ (f : Keys). unwrap_or (last_made key k c.args.script) (f key)) (sym c.new.ensures);
+      later = event.later 0 order;
+      early = event.above 0 (omega arith) order;
+    }

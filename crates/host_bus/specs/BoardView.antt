@@ -1,0 +1,21 @@
+-- What contracts see of the board's fields, and what the fields keep.
+use Rattle.std.specs.Prelude.{◌≡◌, ◌<◌, length}
+use Rattle.host_bus.specs.declared.board.Board.TheInside.{Inside}
+use Rattle.host_bus.specs.Board.{BoardState}
+use Rattle.host_bus.specs.OnTime.{IsPlayed, IsOnTime}
+
+abbrev pub board_seen : Inside → BoardState
+board_seen b = record {
+  ram = b.ram.items;
+  roms = b.roms;
+  latch = b.latch;
+  script = b.playback.script;
+  devices = b.devices;
+  closed = b.closed;
+}
+
+pub record IsSound (b : Inside) : Type 0 where
+  pub memory : length b.ram.items ≡ 32768
+  pub slot : b.latch < 16
+  pub played : IsPlayed b.playback b.closed
+  pub on_time : IsOnTime b.closed b.micro b.playback.event b.next

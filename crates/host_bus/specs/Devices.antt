@@ -1,0 +1,99 @@
+-- The devices of the host that go by microseconds, and how they are wired: the disc controller, and the two 6522s, with the keyboard and
+-- the addressable latch at the system's. (Acorn, BBC Microcomputer Advanced User Guide, The system VIA and The user/printer VIA.)
+use Rattle.std.specs.Prelude.{ℕ, ◌==◌, ◌||◌, Bool, true, false, List, replicate, Option, if◌then◌else◌}
+use Rattle.disc_image.specs.Image.{Image}
+use Rattle.wd1770.specs.State as disc
+use Rattle.wd1770.specs.Commands.{latch_leaves}
+use Rattle.wd1770.specs.Registers as controller
+use Rattle.wd1770.specs.Step as turn
+use Rattle.via6522.specs.declared.Pins.{Pins}
+use Rattle.via6522.specs.State as via
+use Rattle.via6522.specs.Registers.{answer_of, read_leaves, write_leaves, asks, out_a, out_b}
+use Rattle.via6522.specs.Step.{step}
+use Rattle.keyboard.specs.Keys.{Keys}
+use Rattle.keyboard.specs.Latch as keyboard
+use Rattle.key_script.specs.declared.Event.{Event}
+use Rattle.key_script.specs.Keys.{is_down}
+
+pub record Devices : Type 0 where
+  pub disc : disc.State
+  -- the addressable latch's bits, bit 0 first
+  pub latch : List Bool
+  pub system : via.State
+  pub user : via.State
+
+-- which keys are down at tick t, by a script
+abbrev pub keys_at : ℕ → List Event → Keys
+keys_at t script = λ key. is_down key t script
+
+-- The system's: bit 7 of port A and CA2 come from the keyboard, and CA1 is vertical sync. All other pins are 1.
+abbrev pub system_pins : Bool → Keys → Devices → Pins
+system_pins vsync keys d = record {
+  a = if keyboard.port_a_bit_7 d.latch (out_a d.system) keys then 0xFF else 0x7F;
+  b = 0xFF;
+  ca1 = vsync;
+  ca2 = keyboard.ca2 d.latch (out_a d.system) keys;
+  cb1 = true;
+  cb2 = true;
+}
+
+-- the user's: all pins are 1
+abbrev pub user_pins : Pins
+user_pins = record { a = 0xFF; b = 0xFF; ca1 = true; ca2 = true; cb1 = true; cb2 = true }
+
+-- Vertical sync: false, since there is no video yet.
+abbrev pub vsync : Devices → Bool
+vsync d = false
+
+-- One microsecond of all devices, in order: the disc controller, the keyboard's level, the system's 6522, the user's.
+unfoldable pub microsecond : Keys → Devices → Devices
+microsecond keys d = record d {
+  disc = turn.step d.disc;
+  system = step (system_pins (vsync d) keys d) d.system;
+  user = step user_pins d.user;
+}
+
+-- a write to the disc latch, and an access to the disc controller
+unfoldable pub disc_latched : ℕ → Devices → Devices
+disc_latched v d = record d { disc = latch_leaves v d.disc }
+
+unfoldable pub disc_answer : ℕ → Devices → ℕ
+disc_answer reg d = controller.answer_of reg d.disc
+
+unfoldable pub disc_read : ℕ → Devices → Devices
+disc_read reg d = record d { disc = controller.read_leaves reg d.disc }
+
+unfoldable pub disc_written : ℕ → ℕ → Devices → Devices
+disc_written reg v d = record d { disc = controller.write_leaves reg v d.disc }
+
+-- an access to the system's 6522: the answer of a read, and what it leaves
+unfoldable pub system_answer : ℕ → Keys → Devices → ℕ
+system_answer reg keys d = answer_of reg (system_pins (vsync d) keys d) d.system
+
+unfoldable pub system_read : ℕ → Devices → Devices
+system_read reg d = record d { system = read_leaves reg d.system }
+
+-- After a write to register 0 or 2 the pins of port B go to the addressable latch.
+unfoldable pub latched : ℕ → Devices → Devices
+latched reg d = if reg == 0 || reg == 2 then record d { latch = keyboard.latch_after (out_b d.system) d.latch } else d
+
+unfoldable pub system_written : ℕ → ℕ → Devices → Devices
+system_written reg v d = latched reg (record d { system = write_leaves reg v d.system })
+
+-- an access to the user's 6522
+unfoldable pub user_answer : ℕ → Devices → ℕ
+user_answer reg d = answer_of reg user_pins d.user
+
+unfoldable pub user_read : ℕ → Devices → Devices
+user_read reg d = record d { user = read_leaves reg d.user }
+
+unfoldable pub user_written : ℕ → ℕ → Devices → Devices
+user_written reg v d = record d { user = write_leaves reg v d.user }
+
+-- one of both 6522s asks for an interrupt
+unfoldable pub devices_ask : Devices → Bool
+devices_ask d = asks d.system || asks d.user
+
+-- the devices at power-on, with the discs of both drives
+unfoldable pub first_devices : Option Image → Option Image → Devices
+first_devices d0 d1 = record { disc = disc.power_on d0 d1; latch = replicate 8 false; system = via.power_on; user = via.power_on }

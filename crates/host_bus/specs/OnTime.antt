@@ -1,0 +1,33 @@
+-- What the board's code keeps beside what contracts see: a table of keys with a place in the script, and the ticks at which something comes next.
+use Rattle.std.specs.Prelude.{ℕ, ◌≡◌, ◌≤◌, ◌<◌, ◌+◌, ◌%◌, min, true, false, List, length, drop, unwrap_or}
+use Rattle.keyboard.specs.Keys.{Keys, keys_of, with_key}
+use Rattle.key_script.specs.declared.Event.{Event}
+use Rattle.key_script.specs.declared.What.{What}
+use Rattle.key_script.specs.declared.What.TheVariants.{Down, Up, Shot}
+use Rattle.key_script.specs.Events.{NeverFallsFrom}
+use Rattle.key_script.specs.Keys.{last_made, is_down}
+use Rattle.host_bus.specs.declared.playback.Playback.{Playback}
+
+-- the keys after an event
+abbrev pub key_turned : What → Keys → Keys
+key_turned (Down key) keys = with_key key true keys
+key_turned (Up key) keys = with_key key false keys
+key_turned Shot keys = keys
+
+-- From tick t - 1 on the state of a key is what the rest of the script makes of it, or, where that has no event for it, what the table says.
+abbrev pub IsLeft : List Event → List Event → Keys → ℕ → Type 0
+IsLeft script left keys t = (k key : ℕ) → t ≤ k + 1 → is_down key k script ≡ unwrap_or (last_made key k left) (keys key)
+
+-- All events below tick t are done, and the next one is not before the tick that is kept for it.
+pub record IsPlayed (p : Playback) (t : ℕ) : Type 0 where
+  pub within : p.place ≤ length p.script
+  pub is_left : IsLeft p.script (drop p.place p.script) (keys_of p.keys) t
+  pub later : NeverFallsFrom p.event (drop p.place p.script)
+  pub early : t ≤ p.event
+
+-- The next microsecond is known, and a tick before which nothing comes.
+pub record IsOnTime (closed micro event next : ℕ) : Type 0 where
+  pub sixth : micro % 6 ≡ 0
+  pub first : closed ≤ micro
+  pub near : micro < closed + 6
+  pub least : next ≡ min micro event

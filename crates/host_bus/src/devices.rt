@@ -1,0 +1,205 @@
+//! The devices that go by microseconds, and how they are wired.
+ghost use Rattle.std.specs.Prelude.{◌≡◌, ◌≤◌, ◌<◌, ◌+◌, ◌%◌, ◌^◌, ◌==◌, None, Some, MatchOption, if◌then◌else◌};
+ghost use Rattle.wd1770.specs.Select.{disc_of};
+ghost use Rattle.keyboard.specs.Keys.{keys_of};
+ghost use Rattle.host_bus.specs.Devices.{vsync, system_pins, microsecond, system_answer, system_read, system_written, latched, user_answer, user_read, user_written, disc_latched, disc_answer, disc_read, disc_written, devices_ask, first_devices};
+
+use disc_image::Disc;
+use keyboard::{Keys, Latch};
+use std::marker::Model;
+use via6522::{Pins, Via};
+use wd1770::Fdc;
+
+/// The pins of the user's 6522.
+const USER_PINS: Pins = Pins {
+    a: 0xff,
+    b: 0xff,
+    ca1: true,
+    ca2: true,
+    cb1: true,
+    cb2: true,
+};
+
+/// The disc controller, the two 6522s, and the addressable latch behind the system's.
+#[derive(Drop)]
+pub(crate) struct Devices {
+    disc: Fdc,
+    latch: Latch,
+    system: Via,
+    user: Via,
+}
+
+impl Model for Devices {
+    ghost use Rattle.host_bus.specs.Devices.{Devices};
+
+    ghost Value = { Devices };
+
+    ghost view = { λ d. record { disc = d.disc; latch = d.latch.bits; system = d.system; user = d.user } };
+}
+
+impl Devices {
+    /// The devices at power-on, with the discs of both drives.
+    #[tactic(auto, unfolding(crate::specs::Devices::first_devices))]
+    pub(crate) fn new(d0: Option<Disc>, d1: Option<Disc>) -> Devices
+        ensures { result ≡ first_devices d0 d1 }
+    {
+        Devices {
+            disc: Fdc::new(d0, d1),
+            latch: Latch::new(),
+            system: Via::new(),
+            user: Via::new(),
+        }
+    }
+
+    // The pins of the system's 6522. CA1 is vertical sync, and there is no video yet.
+    #[inline(always)]
+    fn system_pins(&self, keys: &Keys) -> Pins
+        ensures { result ≡ system_pins (vsync self.now) (keys_of keys.now) self.now }
+    {
+        let port_a = self.system.out_a();
+        Pins {
+            a: if keys.port_a_bit_7(&self.latch, port_a) {
+                0xff
+            } else {
+                0x7f
+            },
+            b: 0xff,
+            ca1: false,
+            ca2: keys.ca2(&self.latch, port_a),
+            cb1: true,
+            cb2: true,
+        }
+    }
+
+    /// One microsecond.
+    #[inline(always)]
+    #[tactic(auto, unfolding(crate::specs::Devices::microsecond))]
+    pub(crate) fn step(&mut self, keys: &Keys)
+        ensures { self.new ≡ microsecond (keys_of keys.now) self.old }
+    {
+        self.disc.step();
+        let pins = self.system_pins(keys);
+        self.system.step(pins);
+        self.user.step(USER_PINS);
+    }
+
+    /// Tick `k`, where `micro` is the next microsecond's. Answers that of the next one after it.
+    #[inline(always)]
+    pub(crate) fn tick(&mut self, keys: &Keys, micro: u64, k: u64) -> u64
+        requires room { k < 2 ^ 48 }
+        requires sixth { micro % 6 ≡ 0 }
+        requires first { k ≤ micro }
+        requires near { micro < k + 6 }
+        ensures devices { self.new ≡ (if k % 6 == 0 then microsecond (keys_of keys.now) self.old else self.old) }
+        ensures sixth { result % 6 ≡ 0 }
+        ensures first { k + 1 ≤ result }
+        ensures near { result < k + 7 }
+    {
+        if micro != k {
+            return micro;
+        }
+        self.step(keys);
+        micro + 6
+    }
+
+    /// A read of the system's 6522.
+    #[tactic(auto, unfolding(crate::specs::Devices::system_answer, crate::specs::Devices::system_read))]
+    pub(crate) fn read_system(&mut self, reg: u8, keys: &Keys) -> u8
+        requires { reg < 16 }
+        ensures answer { result ≡ system_answer reg (keys_of keys.now) self.old }
+        ensures after { self.new ≡ system_read reg self.old }
+    {
+        let pins = self.system_pins(keys);
+        self.system.read(reg, pins)
+    }
+
+    /// A write to the system's 6522.
+    #[tactic(auto, unfolding(crate::specs::Devices::system_written))]
+    pub(crate) fn write_system(&mut self, reg: u8, v: u8)
+        requires { reg < 16 }
+        ensures { self.new ≡ system_written reg v self.old }
+    {
+        self.system.write(reg, v);
+        self.latch_port_b(reg);
+    }
+
+    // A write to register 0 or 2 puts the pins of port B into the addressable latch.
+    #[tactic(auto, unfolding(crate::specs::Devices::latched))]
+    fn latch_port_b(&mut self, reg: u8)
+        ensures { self.new ≡ latched reg self.old }
+    {
+        if reg == 0 || reg == 2 {
+            self.latch.write(self.system.out_b());
+        }
+    }
+
+    /// A read of the user's 6522.
+    #[tactic(auto, unfolding(crate::specs::Devices::user_answer, crate::specs::Devices::user_read))]
+    pub(crate) fn read_user(&mut self, reg: u8) -> u8
+        requires { reg < 16 }
+        ensures answer { result ≡ user_answer reg self.old }
+        ensures after { self.new ≡ user_read reg self.old }
+    {
+        self.user.read(reg, USER_PINS)
+    }
+
+    /// A write to the user's 6522.
+    #[tactic(auto, unfolding(crate::specs::Devices::user_written))]
+    pub(crate) fn write_user(&mut self, reg: u8, v: u8)
+        requires { reg < 16 }
+        ensures { self.new ≡ user_written reg v self.old }
+    {
+        self.user.write(reg, v);
+    }
+
+    /// A write to the disc latch.
+    #[tactic(auto, unfolding(crate::specs::Devices::disc_latched))]
+    pub(crate) fn latch_disc(&mut self, v: u8)
+        ensures { self.new ≡ disc_latched v self.old }
+    {
+        self.disc.latch(v);
+    }
+
+    /// A read of the disc controller.
+    #[tactic(auto, unfolding(crate::specs::Devices::disc_answer, crate::specs::Devices::disc_read))]
+    pub(crate) fn read_disc(&mut self, reg: u8) -> u8
+        requires { reg < 4 }
+        ensures answer { result ≡ disc_answer reg self.old }
+        ensures after { self.new ≡ disc_read reg self.old }
+    {
+        self.disc.read(reg)
+    }
+
+    /// A write to the disc controller.
+    #[tactic(auto, unfolding(crate::specs::Devices::disc_written))]
+    pub(crate) fn write_disc(&mut self, reg: u8, v: u8)
+        requires { reg < 4 }
+        ensures { self.new ≡ disc_written reg v self.old }
+    {
+        self.disc.write(reg, v);
+    }
+
+    /// The disc in a drive.
+    pub(crate) fn disc(&self, drive: u8) -> Option<&Disc>
+        ensures { MatchOption result (disc_of drive (self.now).disc ≡ None) (λ disc. disc_of drive (self.now).disc ≡ Some disc.now) }
+    {
+        self.disc.disc(drive)
+    }
+
+    /// How often the disc controller's "DRQ or INTRQ" has risen.
+    #[inline(always)]
+    pub(crate) fn nmis(&self) -> u64
+        ensures { result ≡ (self.now).disc.nmis }
+    {
+        self.disc.nmis()
+    }
+
+    /// Whether one of both 6522s asks for an interrupt.
+    #[inline(always)]
+    #[tactic(auto, unfolding(crate::specs::Devices::devices_ask))]
+    pub(crate) fn ask(&self) -> bool
+        ensures { result ≡ devices_ask self.now }
+    {
+        self.system.irq() || self.user.irq()
+    }
+}
