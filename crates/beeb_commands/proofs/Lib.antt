@@ -3,3 +3,5 @@ pub mod AsmLemmas
 pub mod FileLemmas
 pub mod KeptLemmas
 pub mod SlotLemmas
+pub mod CrewLemmas
+pub mod StageLemmas

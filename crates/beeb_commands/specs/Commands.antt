@@ -1,11 +1,13 @@
 -- What each command reads and comes to. A new command has its line in `after`.
-use Rattle.std.specs.Prelude.{ℕ, List, [], Result, IsSomeAnd}
+use Rattle.std.specs.Prelude.{ℕ, List, [], Option, Some, None, Result, IsSomeAnd, if◌then◌else◌}
 use Rattle.beeb_run.specs.Plan.{Verdict, Plan}
 use Rattle.beeb_run.specs.Promise.{World, CarriesOut}
 use Rattle.beeb_run.specs.declared.stop.Refusal.{Refusal}
 use Rattle.beeb_words.specs.declared.keys.Slot.{Slot}
-use Rattle.beeb_words.specs.Command.{Command, check, asm, dis, replay, solo}
+use Rattle.beeb_words.specs.Command.{Command, check, asm, dis, replay, solo, run, is_paired}
 use Rattle.beeb_words.specs.Reads.{reads}
+use Rattle.beeb_words.specs.Discs.{kinds_of}
+use Rattle.disc_image.specs.declared.Kind.{Kind}
 use Rattle.beeb_commands.specs.declared.status.Ending.{Ending}
 use Rattle.beeb_commands.specs.declared.status.Cause.{Cause}
 use Rattle.beeb_commands.specs.declared.status.Status.{Status}
@@ -20,20 +22,27 @@ use Rattle.bus_plug.specs.Plug.{Plug}
 use Rattle.beeb_bits.specs.declared.Side.{Side}
 use Rattle.beeb_bits.specs.declared.Side.TheVariants.{Host, Para}
 
-abbrev pub replay_after : List Plug → Side → ℕ → List ℕ → Inputs → Result (Verdict Ending) (Refusal Cause)
-replay_after plugs Host ticks out i = host_after plugs ticks out i
-replay_after plugs Para ticks out i = para_after ticks out i
+abbrev pub replay_after : List Plug → Kind × Kind → Side → ℕ → List ℕ → Inputs → Result (Verdict Ending) (Refusal Cause)
+replay_after plugs kinds Host ticks out i = host_after plugs kinds ticks out i
+replay_after plugs kinds Para ticks out i = para_after ticks out i
 
 -- what a command comes to by what it read, with these devices plugged where the host is there
 abbrev pub after : List Plug → Command → Inputs → Result (Verdict Ending) (Refusal Cause)
 after plugs (check trace) i = check_after i.trace
 after plugs (asm part source out) i = asm_after part out i.source
 after plugs (dis part image origin out) i = dis_after part origin out i.image
-after plugs (replay side trace ticks out given) i = replay_after plugs side ticks out i
-after plugs (solo ticks out keep given) i = solo_after plugs ticks keep out i
+after plugs (replay side trace ticks out given) i = replay_after plugs (kinds_of given) side ticks out i
+after plugs (solo ticks out keep given) i = solo_after plugs (kinds_of given) ticks keep out i
+-- the two threads of `run` come to what one thread comes to
+after plugs (run ticks out keep given) i = solo_after plugs (kinds_of given) ticks keep out i
 
 abbrev pub plan : List Plug → Command → Plan Slot Ending Cause
-plan plugs c = record { reads = reads c; after = λ list. after plugs c (inputs_of list) }
+plan plugs c = record { reads = reads c; paired = is_paired c; after = λ list. after plugs c (inputs_of list) }
+
+-- the command that the words spell, if it needs no crew
+abbrev pub unpaired : Option Command → Option Command
+unpaired None = None
+unpaired (Some c) = if is_paired c then None else Some c
 
 -- the command was carried out, with no plugged devices, and ended as this status says
 abbrev pub EndsWith : Command → World → World → Status → Type 0

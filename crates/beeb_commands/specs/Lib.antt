@@ -2,6 +2,8 @@ pub mod Status
 pub mod Verdicts
 pub mod Inputs
 pub mod Check
+pub mod Script
+pub mod Discs
 pub mod Asm
 pub mod Replay
 pub mod Para
@@ -9,3 +11,4 @@ pub mod Host
 pub mod Solo
 pub mod Seen
 pub mod Commands
+pub mod Headline

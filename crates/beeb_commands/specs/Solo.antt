@@ -1,9 +1,10 @@
--- `solo TICKS OUT --os NAME --tube NAME` and paged ROMs: both machines at the Tube, by the reference run.
+-- `solo TICKS OUT --os NAME --tube NAME` and `run` with the same words, and options: both machines at the Tube, by the reference run.
 use Rattle.std.specs.Prelude.{ℕ, ◌==◌, List, [], ◌∷◌, ◌++◌, length, take, Some, Result, Ok, Err, codes, if◌then◌else◌}
 use Rattle.tube_trace.specs.Entries.{accesses}
 use Rattle.tube_trace.specs.Text.{text_of}
 use Rattle.tube_party.specs.Reference.{World, reference}
 use Rattle.bus_plug.specs.Plug.{Plug}
+use Rattle.disc_image.specs.declared.Kind.{Kind}
 use Rattle.host_mach.specs.State as host
 use Rattle.host_mach.specs.Step.{host_moves}
 use Rattle.para_mach.specs.State as para
@@ -21,17 +22,20 @@ use Rattle.beeb_commands.specs.Inputs.{Inputs}
 use Rattle.beeb_commands.specs.Verdicts.{report_file}
 use Rattle.beeb_commands.specs.Para.{para_line, para_memory, rom_of}
 use Rattle.beeb_commands.specs.Host.{host_line, host_memory, roms_of}
+use Rattle.beeb_commands.specs.Script.{script_of}
+use Rattle.beeb_commands.specs.Discs.{discs_of, disc_files}
 
 abbrev pub trace_file : List ℕ → List ℕ → List (List ℕ × List ℕ)
 trace_file out trace = (out ++ codes ".trace", trace) ∷ []
 
 -- Both machines where they ended: the report with the number of all accesses to the Tube and of those that are kept, in which no frame was
--- taken; the memories, the host's first; and the trace of what is kept.
+-- taken; the memories, the host's first; the discs; and the trace of what is kept.
 abbrev pub solo_files : ℕ → ℕ → ℕ → List ℕ → host.HostState → para.ParaState → List ℕ → List (List ℕ × List ℕ)
 solo_files ticks tube kept out s p trace =
     report_file out (text ticks (Some (host_line s)) (Some (para_line p)) tube (Some kept) (Some 0))
     ++ host_memory out s
     ++ para_memory out p
+    ++ disc_files out s
     ++ trace_file out trace
 
 abbrev pub solo_verdict : ℕ → ℕ → ℕ → List ℕ → host.HostState → para.ParaState → List ℕ → Verdict Ending
@@ -46,10 +50,18 @@ kept_verdict ticks keep out w =
 abbrev pub os_of : List ℕ → Result (List ℕ) (Refusal Cause)
 os_of bytes = if length bytes == 16384 then Ok bytes else Err (refusals.Cause (BadImage Os (length bytes)))
 
--- the lengths of the images, in the order in which they are read, and the reference run of both machines, the host with these plugged devices
-abbrev pub solo_after : List Plug → ℕ → ℕ → List ℕ → Inputs → Result (Verdict Ending) (Refusal Cause)
-solo_after plugs ticks keep out i =
+-- Both machines at power-on, the host with these plugged devices and discs of these kinds, if the images have their lengths, tested in the order
+-- in which they are read, and then the script its form.
+abbrev pub machines_of : List Plug → Kind × Kind → Inputs → Result (host.HostState × para.ParaState) (Refusal Cause)
+machines_of plugs kinds i =
     os_of i.os
     >>= λ os. rom_of i.tube
-    >>= λ rom. roms_of (record { os = os; slots = i.roms })
-    >>= λ roms. Ok (kept_verdict ticks keep out (reference host_moves para_moves (host.power_on roms plugs) (para.power_on rom) ticks))
+    >>= λ rom. roms_of (record { os = os; slots = i.roms; font = i.font })
+    >>= λ roms. discs_of kinds i.disc0 i.disc1
+    >>= λ discs. script_of i.keys
+    >>= λ script. Ok (host.power_on roms discs.0 discs.1 script plugs, para.power_on rom)
+
+-- the reference run of both machines from power-on
+abbrev pub solo_after : List Plug → Kind × Kind → ℕ → ℕ → List ℕ → Inputs → Result (Verdict Ending) (Refusal Cause)
+solo_after plugs kinds ticks keep out i =
+    machines_of plugs kinds i >>= λ m. Ok (kept_verdict ticks keep out (reference host_moves para_moves m.0 m.1 ticks))

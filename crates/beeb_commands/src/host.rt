@@ -1,9 +1,9 @@
-//! `replay host TRACE TICKS OUT --os NAME` and paged ROMs.
-ghost use Rattle.std.specs.Prelude.{◌≡◌, ◌<◌, ◌≤◌, All, map, IfOk, slice_index_or};
+//! `replay host TRACE TICKS OUT --os NAME` and options.
+ghost use Rattle.std.specs.Prelude.{◌≡◌, ◌<◌, ◌≤◌, All, length, map, IfOk, slice_index_or};
 ghost use Rattle.beeb_bits.specs.declared.Side.TheVariants.{Host};
 ghost use Rattle.tube_trace.specs.Entries.{IsEntry};
 ghost use Rattle.tube_party.specs.Replay.{replayed};
-ghost use Rattle.rom_set.specs.Roms.{Roms, roms_seen};
+ghost use Rattle.rom_set.specs.Roms.{Roms, roms_seen, font_seen};
 ghost use Rattle.host_mach.specs.State.{power_on};
 ghost use Rattle.host_mach.specs.Step.{host_moves};
 ghost use Rattle.host_mach.specs.View.{host_seen};
@@ -13,13 +13,16 @@ ghost use Rattle.beeb_commands.specs.Host.{host_line, host_files, host_verdict, 
 ghost use Rattle.beeb_commands.specs.Seen.{seen_inputs, verdict_of};
 
 use crate::check::{entries_of, wrong_product};
+use crate::discs::{disc_file, discs_of};
 use crate::inputs::Inputs;
 use crate::product::Product;
 use crate::replay::{differs_product, memory_file, report_file, side_count};
+use crate::script::script_of;
 use crate::status::{Cause, Which};
 use beeb_bits::{Side, Tick};
 use beeb_run::Refusal;
 use bus_plug::BusDevice;
+use disc_image::Kind;
 use host_mach::HostMachine;
 use report::Line;
 use rom_set::{RomError, RomSet};
@@ -39,15 +42,23 @@ fn rom_cause(error: RomError) -> Cause
             which: Which::Rom(slot),
             len,
         },
+        RomError::BadFont { len } => Cause::BadImage {
+            which: Which::Font,
+            len,
+        },
     }
 }
 
 /// The images, if each has a length that it may have.
-pub(crate) fn roms_of(os: Vec<u8>, slots: Vec<(u8, Vec<u8>)>) -> Result<RomSet, Refusal<Cause>>
+pub(crate) fn roms_of(
+    os: Vec<u8>,
+    slots: Vec<(u8, Vec<u8>)>,
+    font: Option<Vec<u8>>,
+) -> Result<RomSet, Refusal<Cause>>
     requires { All (λ slot. slot.0 < 16) slots.items }
-    ensures { Gives (λ (roms : Roms). roms) result (roms_of (record { os = os.items; slots = roms_seen slots.items })) }
+    ensures { Gives (λ (roms : Roms). roms) result (roms_of (record { os = os.items; slots = roms_seen slots.items; font = font_seen font })) }
 {
-    match RomSet::read(os, slots) {
+    match RomSet::read(os, slots, font) {
         Ok(roms) => Ok(roms),
         Err(error) => Err(Refusal::Cause(rom_cause(error))),
     }
@@ -63,7 +74,7 @@ pub(crate) fn host_line<D: BusDevice>(machine: &HostMachine<D>) -> Line
     }
 }
 
-/// The report, or the memory, which is file 1.
+/// The report, the memory, which is file 1, or a disc.
 pub(crate) fn host_file<D: BusDevice>(
     alloc: Global,
     n: Tick,
@@ -72,14 +83,17 @@ pub(crate) fn host_file<D: BusDevice>(
     machine: &HostMachine<D>,
     i: usize,
 ) -> Result<(String, Vec<u8>), AllocError>
-    requires { i < 2 }
+    requires { i < length (host_files n.0 tube out.now (host_seen D.plug machine.now)) }
     ensures { IfOk result (λ f. slice_index_or (host_files n.0 tube out.now (host_seen D.plug machine.now)) i (seen_file f) ≡ seen_file f) }
 {
-    if i == 0 {
-        let line = host_line(machine);
-        return report_file(alloc, out, n, Some(line), None, tube, None, Some(0));
+    match i {
+        0 => {
+            let line = host_line(machine);
+            report_file(alloc, out, n, Some(line), None, tube, None, Some(0))
+        }
+        1 => memory_file(alloc, out, ".host", machine.ram()),
+        _ => disc_file(alloc, out, machine, i - 2),
     }
-    memory_file(alloc, out, ".host", machine.ram())
 }
 
 // What comes of the machine against a trace.
@@ -107,9 +121,10 @@ fn ran<'a, D: BusDevice>(
     }
 }
 
-/// What comes of a replay of the host with these plugged devices.
+/// What comes of a replay of the host with these plugged devices and discs of these kinds.
 pub(crate) fn host_product<'a, D: BusDevice>(
     alloc: Global,
+    kinds: (Kind, Kind),
     ticks: u64,
     out: &'a str,
     inputs: Inputs,
@@ -117,14 +132,16 @@ pub(crate) fn host_product<'a, D: BusDevice>(
 ) -> Result<Product<'a, D>, Refusal<Cause>>
     requires ticks { ticks ≤ MOST }
     requires slots { All (λ slot. slot.0 < 16) inputs.roms.items }
-    ensures { Gives (verdict_of D.plug) result (host_after (map D.plug plugs.items) ticks out.now (seen_inputs inputs)) }
+    ensures { Gives (verdict_of D.plug) result (host_after (map D.plug plugs.items) kinds ticks out.now (seen_inputs inputs)) }
 {
-    let roms = roms_of(inputs.os, inputs.roms)?;
+    let roms = roms_of(inputs.os, inputs.roms, inputs.font)?;
+    let (d0, d1) = discs_of(alloc, kinds, inputs.disc0, inputs.disc1)?;
     let entries = entries_of(alloc, &inputs.trace)?;
+    let script = script_of(alloc, inputs.keys)?;
     let product = match first_wrong(&entries) {
         Some((i, byte)) => wrong_product(alloc, i as u64 + 1, byte)?,
         None => {
-            let machine = HostMachine::make(alloc, roms, plugs)?;
+            let machine = HostMachine::make(alloc, roms, d0, d1, script, plugs)?;
             ran(alloc, machine, ticks, out, &entries)?
         }
     };

@@ -1,9 +1,10 @@
-//! A command as whoever carries it out sees it.
-ghost use Rattle.std.specs.Prelude.{◌≡◌, map, IfOk};
+//! A command on one thread as whoever carries it out sees it.
+ghost use Rattle.std.specs.Prelude.{◌≡◌, map, IfOk, false};
 ghost use Rattle.beeb_run.specs.Seen.{Gives, seen_want, seen_input};
 ghost use Rattle.beeb_commands.specs.Commands.{plan};
 ghost use Rattle.beeb_commands.specs.Seen.{verdict_of};
 ghost use Rattle.beeb_run.specs.Plan.{AreWithin};
+ghost use Rattle.beeb_words.specs.Command.{is_paired};
 ghost use Rattle.beeb_words.specs.Reads.{IsWithin};
 ghost use Rattle.beeb_words.specs.Seen.{seen};
 
@@ -21,12 +22,13 @@ use beeb_words::{Command, Slot};
 use bus_plug::BusDevice;
 use std::alloc::{AllocError, Global};
 
-/// A command whose numbers are within their limits, and the devices that are plugged where the host is there.
+/// A command that needs no crew, whose numbers are within their limits, and the devices that are plugged where the host is there.
 #[derive(Drop)]
 pub(crate) struct Job<'a, D> {
     pub(crate) command: Command<'a>,
     pub(crate) plugs: Vec<D>,
     ghost within: { IsWithin (seen command) },
+    ghost unpaired: { is_paired (seen command) ≡ false },
 }
 
 impl<'a, D: BusDevice> beeb_run::Command for Job<'a, D> {
@@ -68,8 +70,9 @@ impl<'a, D: BusDevice> beeb_run::Command for Job<'a, D> {
                 side: Side::Host,
                 ticks,
                 out,
+                given,
                 ..
-            } => host_product(alloc, ticks, out, inputs, self.plugs),
+            } => host_product(alloc, given.disc_kinds(), ticks, out, inputs, self.plugs),
             Command::Replay {
                 side: Side::Para,
                 ticks,
@@ -80,8 +83,17 @@ impl<'a, D: BusDevice> beeb_run::Command for Job<'a, D> {
                 ticks,
                 out,
                 keep,
-                ..
-            } => solo_product(alloc, ticks, keep, out, inputs, self.plugs),
+                given,
+            } => solo_product(
+                alloc,
+                given.disc_kinds(),
+                ticks,
+                keep,
+                out,
+                inputs,
+                self.plugs,
+            ),
+            Command::Run { .. } => unreachable!(),
         }
     }
 }

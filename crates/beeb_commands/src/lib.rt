@@ -2,21 +2,21 @@
 #![tactic(auto)]
 
 mod asm;
+mod calls;
 mod check;
 mod differing;
+mod discs;
 mod host;
 mod inputs;
 mod job;
 mod para;
 mod product;
 mod replay;
+mod run;
+mod script;
 mod solo;
 mod status;
-mod top;
 
 pub use beeb_run::Name;
+pub use calls::{plain, top};
 pub use status::{Status, Which};
-pub use top::plain;
-
-#[cfg(test)]
-mod tests;

@@ -3,6 +3,7 @@ ghost use Rattle.std.specs.Prelude.{◌≡◌, ◌<◌, length, get_or, IfOk};
 ghost use Rattle.beeb_run.specs.Seen.{seen_file};
 ghost use Rattle.beeb_commands.specs.Seen.{verdict_of};
 
+use crate::discs::disc_count;
 use crate::host::host_file;
 use crate::para::para_file;
 use crate::solo::solo_file;
@@ -42,7 +43,7 @@ pub(crate) enum Product<'a, D> {
         machine: ParaMachine,
     },
     /// Both machines where their run ended, how many accesses they had, and the trace of those that are kept.
-    Solo {
+    Both {
         out: &'a str,
         ticks: Tick,
         tube: u64,
@@ -62,8 +63,9 @@ impl<'a, D: BusDevice> Outcome for Product<'a, D> {
         match self {
             Product::Text { .. } => 0,
             Product::File { .. } => 1,
-            Product::Host { .. } | Product::Para { .. } => 2,
-            Product::Solo { .. } => 4,
+            Product::Host { machine, .. } => 2 + disc_count(machine),
+            Product::Para { .. } => 2,
+            Product::Both { host, .. } => 4 + disc_count(host),
         }
     }
 
@@ -85,7 +87,7 @@ impl<'a, D: BusDevice> Outcome for Product<'a, D> {
                 tube,
                 machine,
             } => para_file(alloc, *ticks, *tube, out, machine, i),
-            Product::Solo {
+            Product::Both {
                 out,
                 ticks,
                 tube,

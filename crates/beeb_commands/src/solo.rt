@@ -1,27 +1,32 @@
-//! `solo TICKS OUT --os NAME --tube NAME` and paged ROMs.
-ghost use Rattle.std.specs.Prelude.{◌≡◌, ◌<◌, ◌≤◌, All, List, ℕ, Ok, map, IfOk, slice_index_or};
+//! `solo TICKS OUT --os NAME --tube NAME` and options, and what `run` shares with it.
+ghost use Rattle.std.specs.Prelude.{◌≡◌, ◌<◌, ◌≤◌, All, List, ℕ, length, map, IfOk, slice_index_or};
 ghost use Rattle.tube_party.specs.Reference.{reference};
 ghost use Rattle.host_mach.specs.Step.{host_moves};
 ghost use Rattle.host_mach.specs.View.{host_seen};
 ghost use Rattle.para_mach.specs.Step.{para_moves};
 ghost use Rattle.beeb_run.specs.Seen.{Gives, seen_file};
-ghost use Rattle.beeb_commands.specs.Solo.{trace_file, solo_files, kept_verdict, os_of, solo_after};
-ghost use Rattle.beeb_commands.specs.Seen.{seen_inputs, verdict_of};
+ghost use Rattle.beeb_commands.specs.Solo.{trace_file, solo_files, kept_verdict, os_of, machines_of, solo_after};
+ghost use Rattle.beeb_commands.specs.Seen.{seen_inputs, verdict_of, IsRun};
+ghost use Rattle.host_mach.specs.State.{HostState};
+ghost use Rattle.para_mach.specs.State.{ParaState};
 
+use crate::discs::{disc_count, disc_file, discs_of};
 use crate::host::{host_line, roms_of};
 use crate::inputs::Inputs;
 use crate::para::{machine_of, para_line};
 use crate::product::Product;
 use crate::replay::{memory_file, report_file};
+use crate::script::script_of;
 use crate::status::{Cause, Which};
 use beeb_bits::Tick;
 use beeb_run::Refusal;
 use bus_plug::BusDevice;
+use disc_image::Kind;
 use host_mach::HostMachine;
 use para_mach::ParaMachine;
 use std::alloc::{AllocError, Global};
 use tube_chip::rising_list_is_merge;
-use tube_party::{MOST, reference_is_trace, solo};
+use tube_party::{Done, MOST, reference_is_trace, solo};
 use tube_trace::{merge, write};
 
 /// The bytes of the operating system's image.
@@ -34,7 +39,7 @@ fn trace_file(alloc: Global, out: &str, trace: &[u8]) -> Result<(String, Vec<u8>
     Ok((format!(in alloc; "{out}.trace")?, trace.to_vec(alloc)?))
 }
 
-/// The report, the memory of the host, that of the second processor, or the trace, which is file 3.
+/// The report, the memory of the host, that of the second processor, which is file 2, a disc, or the trace.
 pub(crate) fn solo_file<D: BusDevice>(
     alloc: Global,
     n: Tick,
@@ -46,7 +51,7 @@ pub(crate) fn solo_file<D: BusDevice>(
     trace: &[u8],
     i: usize,
 ) -> Result<(String, Vec<u8>), AllocError>
-    requires { i < 4 }
+    requires { i < length (solo_files n.0 tube kept out.now (host_seen D.plug host.now) para.now trace.now) }
     ensures { IfOk result (λ f. slice_index_or (solo_files n.0 tube kept out.now (host_seen D.plug host.now) para.now trace.now) i (seen_file f) ≡ seen_file f) }
 {
     match i {
@@ -57,30 +62,25 @@ pub(crate) fn solo_file<D: BusDevice>(
         }
         1 => memory_file(alloc, out, ".host", host.ram()),
         2 => memory_file(alloc, out, ".para", para.ram()),
+        _ if i - 3 < disc_count(host) => disc_file(alloc, out, host, i - 3),
         _ => trace_file(alloc, out, trace),
     }
 }
 
-// What comes of both machines, run from power-on.
-fn ran<'a, D: BusDevice>(
+/// What comes of both machines where their run ended, of whose accesses the first `keep` are kept.
+pub(crate) fn kept_product<'a, D: BusDevice>(
     alloc: Global,
-    host: HostMachine<D>,
-    para: ParaMachine,
+    done: Done<HostMachine<D>, ParaMachine>,
     ticks: u64,
     keep: u32,
     out: &'a str,
 ) -> Result<Product<'a, D>, AllocError>
     requires ticks { ticks ≤ MOST }
-    requires host_open { host_moves.closed (host_seen D.plug host) ≤ ticks }
-    requires para_open { para_moves.closed para ≤ ticks }
-    ensures { IfOk result (λ product. verdict_of D.plug product ≡ kept_verdict ticks keep out.now (reference host_moves para_moves (host_seen D.plug host) para ticks)) }
+    requires run { (s : HostState) × (t : ParaState) × IsRun D.plug s t ticks keep done }
+    ensures { IfOk result (λ product. (s : HostState) (t : ParaState) → IsRun D.plug s t ticks keep done → verdict_of D.plug product ≡ kept_verdict ticks keep out.now (reference host_moves para_moves s t ticks)) }
 {
     reference_is_trace::<HostMachine<D>, ParaMachine>();
     rising_list_is_merge();
-    let n = Tick(ticks);
-    let Ok(done) = solo(alloc, host, para, n, keep) else {
-        return Err(AllocError);
-    };
     let Ok(kept) = merge(alloc, &done.host_list, &done.para_list, keep) else {
         return Err(AllocError);
     };
@@ -88,9 +88,9 @@ fn ran<'a, D: BusDevice>(
         return Err(AllocError);
     };
     let tube = done.host_count + done.para_count;
-    Ok(Product::Solo {
+    Ok(Product::Both {
         out,
-        ticks: n,
+        ticks: Tick(ticks),
         tube,
         kept: kept.len() as u64,
         host: done.host,
@@ -113,9 +113,31 @@ fn test_os(os: &[u8]) -> Result<(), Refusal<Cause>>
     }
 }
 
-/// What comes of both machines, the host with these plugged devices, where the first `keep` accesses are kept.
+/// Both machines at power-on, the host with these plugged devices and discs of these kinds.
+pub(crate) fn machines_of<D: BusDevice>(
+    alloc: Global,
+    kinds: (Kind, Kind),
+    inputs: Inputs,
+    plugs: Vec<D>,
+) -> Result<(HostMachine<D>, ParaMachine), Refusal<Cause>>
+    requires { All (λ slot. slot.0 < 16) inputs.roms.items }
+    ensures machines { Gives (λ m. (host_seen D.plug m.0, m.1)) result (machines_of (map D.plug plugs.items) kinds (seen_inputs inputs)) }
+    ensures start { IfOk result (λ m. (host_moves.closed (host_seen D.plug m.0) ≡ 0) × (para_moves.closed m.1 ≡ 0)) }
+{
+    test_os(&inputs.os)?;
+    let para = machine_of(alloc, inputs.tube)?;
+    let roms = roms_of(inputs.os, inputs.roms, inputs.font)?;
+    let (d0, d1) = discs_of(alloc, kinds, inputs.disc0, inputs.disc1)?;
+    let script = script_of(alloc, inputs.keys)?;
+    let host = HostMachine::make(alloc, roms, d0, d1, script, plugs)?;
+    Ok((host, para))
+}
+
+/// What comes of both machines on one thread, the host with these plugged devices and discs of these kinds, where the first `keep` accesses
+/// are kept.
 pub(crate) fn solo_product<'a, D: BusDevice>(
     alloc: Global,
+    kinds: (Kind, Kind),
     ticks: u64,
     keep: u32,
     out: &'a str,
@@ -124,12 +146,12 @@ pub(crate) fn solo_product<'a, D: BusDevice>(
 ) -> Result<Product<'a, D>, Refusal<Cause>>
     requires ticks { ticks ≤ MOST }
     requires slots { All (λ slot. slot.0 < 16) inputs.roms.items }
-    ensures { Gives (verdict_of D.plug) result (solo_after (map D.plug plugs.items) ticks keep out.now (seen_inputs inputs)) }
+    ensures { Gives (verdict_of D.plug) result (solo_after (map D.plug plugs.items) kinds ticks keep out.now (seen_inputs inputs)) }
 {
-    test_os(&inputs.os)?;
-    let para = machine_of(alloc, inputs.tube)?;
-    let roms = roms_of(inputs.os, inputs.roms)?;
-    let host = HostMachine::make(alloc, roms, plugs)?;
-    let product = ran(alloc, host, para, ticks, keep, out)?;
+    let (host, para) = machines_of(alloc, kinds, inputs, plugs)?;
+    let Ok(done) = solo(alloc, host, para, Tick(ticks), keep) else {
+        return Err(Refusal::NoMemory);
+    };
+    let product = kept_product(alloc, done, ticks, keep, out)?;
     Ok(product)
 }

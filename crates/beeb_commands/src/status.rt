@@ -38,6 +38,8 @@ pub enum Status {
     TooLong { name: Name },
     /// The image has a length outside its set.
     BadImage { which: Which, len: u64 },
+    /// The key script's first line, counted from 1, that is outside its form (kind 1) or its order (kind 2), or has the 257th shot (kind 3).
+    BadScript { line: u64, kind: u8 },
     /// The trace's first line, counted from 1, that is outside its form (kind 1) or its order (kind 2).
     BadTrace { line: u64, kind: u8 },
     /// The source text's first offending line, counted from 1: syntax (kind 1), no such form (2), unknown label (3), repeated
@@ -45,6 +47,8 @@ pub enum Status {
     BadSource { line: u64, kind: u8 },
     /// The file of this name could not be written, or, for `-`, the text not said.
     WriteFault { name: Name },
+    /// No thread could be started.
+    NoThread,
     /// There was no memory.
     NoMemory,
     /// The trace's first line, counted from 1, whose answer the chip would not give, and the byte that it would.
@@ -70,6 +74,8 @@ pub enum Ending {
 pub enum Cause {
     /// The image has a length outside its set.
     BadImage { which: Which, len: u64 },
+    /// The key script's first offending line, counted from 1, and the kind of its offence.
+    BadScript { line: u64, kind: u8 },
     /// The trace's first line, counted from 1, that is outside its form (kind 1) or its order (kind 2).
     BadTrace { line: u64, kind: u8 },
     /// The source text's first offending line, counted from 1, and the kind of its offence.
@@ -85,11 +91,13 @@ pub(crate) fn status_of(end: Result<Ending, Stop<Cause>>) -> Status
         Ok(Ending::Wrong { line, byte }) => Status::Wrong { line, byte },
         Ok(Ending::Differs { line, doing }) => Status::Differs { line, doing },
         Err(Stop::Refused(Cause::BadImage { which, len })) => Status::BadImage { which, len },
+        Err(Stop::Refused(Cause::BadScript { line, kind })) => Status::BadScript { line, kind },
         Err(Stop::Refused(Cause::BadTrace { line, kind })) => Status::BadTrace { line, kind },
         Err(Stop::Refused(Cause::BadSource { line, kind })) => Status::BadSource { line, kind },
         Err(Stop::ReadFault(name)) => Status::ReadFault { name },
         Err(Stop::TooLong(name)) => Status::TooLong { name },
         Err(Stop::WriteFault(name)) => Status::WriteFault { name },
+        Err(Stop::NoThread) => Status::NoThread,
         Err(Stop::NoMemory) => Status::NoMemory,
     }
 }
@@ -141,8 +149,9 @@ impl Status {
             Status::Usage => 1,
             Status::ReadFault { .. } | Status::TooLong { .. } => 2,
             Status::BadImage { .. } => 3,
-            Status::BadTrace { .. } | Status::BadSource { .. } => 4,
+            Status::BadScript { .. } | Status::BadTrace { .. } | Status::BadSource { .. } => 4,
             Status::WriteFault { .. } => 5,
+            Status::NoThread => 6,
             Status::NoMemory => 7,
             Status::Wrong { .. } | Status::Differs { .. } => 8,
         }
@@ -158,9 +167,11 @@ impl Status {
             Status::ReadFault { name } => joined(alloc, "cannot read ", name.as_bytes()),
             Status::TooLong { name } => joined(alloc, "too long ", name.as_bytes()),
             Status::BadImage { which, len } => bad_image(alloc, *which, *len),
+            Status::BadScript { line, .. } => numbered(alloc, "bad script ", *line),
             Status::BadTrace { line, .. } => numbered(alloc, "bad trace ", *line),
             Status::BadSource { line, .. } => numbered(alloc, "bad source ", *line),
             Status::WriteFault { name } => joined(alloc, "cannot write ", name.as_bytes()),
+            Status::NoThread => joined(alloc, "no thread", &[]),
             Status::NoMemory => joined(alloc, "no memory", &[]),
         };
         match bytes {

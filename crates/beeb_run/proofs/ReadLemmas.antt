@@ -10,7 +10,7 @@ use Rattle.beeb_run.specs.Promise.{read_names}
 use Rattle.beeb_run.specs.Seen.{seen_want}
 use Rattle.beeb_run.specs.Stages.{ReadsOne, ReadsAll}
 use Rattle.beeb_files.specs.Shelf.{ShelfState}
-use Rattle.beeb_run.specs.declared.stop.Stop.TheVariants.{Refused, ReadFault, TooLong, WriteFault, NoMemory}
+use Rattle.beeb_run.specs.declared.stop.Stop.TheVariants.{Refused, ReadFault, TooLong, WriteFault, NoThread, NoMemory}
 
 -- an answer whose error is this one
 pub err_is : {A C : Type 0} (r : Result A C) (e : C) → IsErrAnd r (λ given. given ≡ e) → r ≡ Err e
@@ -91,6 +91,7 @@ module _ {K C : Type 0} where
     told = told_both old.files before (rw files at one.1) (λ told read t. (rw (one.0, ← faults) t.0, rw (one.0) (stop_at told (take i ws ++ w ∷ drop (i + 1) ws) ws (TooLong w.1) (want_split ws i w h is) (read_stop told (take i ws) w (drop (i + 1) ws) got (TooLong w.1) read t.1))));
   }
   read_stopped ws i w got old mid new h is files faults before (WriteFault who) one = absurd one
+  read_stopped ws i w got old mid new h is files faults before NoThread one = absurd one
   read_stopped ws i w got old mid new h is files faults before NoMemory one = tt
 
 pub within_more : {K : Type 0} (ws : List (Want K)) (got : Inputs K) (w : Want K) (bytes : List ℕ) → AreWithin ws got → length bytes ≤ w.2 →

@@ -6,7 +6,7 @@ use Rattle.beeb_files.specs.Files.{Files, put, IsPartPut}
 use Rattle.beeb_files.specs.Counts.{Rose}
 use Rattle.beeb_files.specs.Outlet.{OutletState, NoCountFell}
 use Rattle.beeb_run.specs.declared.stop.Stop.{Stop}
-use Rattle.beeb_run.specs.declared.stop.Stop.TheVariants.{Refused, ReadFault, TooLong, WriteFault, NoMemory}
+use Rattle.beeb_run.specs.declared.stop.Stop.TheVariants.{Refused, ReadFault, TooLong, WriteFault, NoThread, NoMemory}
 use Rattle.beeb_run.specs.Stages.{PutsOne, PutsAll}
 use Rattle.beeb_run.specs.Promise.{names, put_all, IsCutAtFile}
 
@@ -59,6 +59,7 @@ puts_stopped fs i f old mid new h is files said fell (ReadFault who) one = absur
 puts_stopped fs i f old mid new h is files said fell (TooLong who) one = absurd one
 puts_stopped fs i f old mid new h is files said fell (WriteFault who) one =
     rw one.0 (file_contains fs i f h is, rose_since _ (mid.faults f.0) _ (fell.names f.0) one.1, cut_at fs i f old mid new h is files said one.2 one.3)
+puts_stopped fs i f old mid new h is files said fell NoThread one = absurd one
 puts_stopped fs i f old mid new h is files said fell NoMemory one = (f.0, cut_at fs i f old mid new h is files said one.0 one.1)
 
 -- memory was wanting for a file before it was put

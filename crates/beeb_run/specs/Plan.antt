@@ -1,5 +1,5 @@
 -- What a command reads and comes to, on the files that a shelf tells, where no fault is counted and memory isn't wanting.
-use Rattle.std.specs.Prelude.{◌≡◌, ◌≤◌, ⊤, ℕ, nat_lt, List, [], ◌∷◌, length, Option, Some, None, Result, Ok, Err, if◌then◌else◌}
+use Rattle.std.specs.Prelude.{◌≡◌, ◌≤◌, ⊤, ℕ, nat_lt, Bool, List, [], ◌∷◌, length, Option, Some, None, Result, Ok, Err, if◌then◌else◌}
 use Rattle.beeb_files.specs.Files.{Files, bytes_of}
 use Rattle.beeb_run.specs.declared.stop.Stop.{Stop}
 use Rattle.beeb_run.specs.declared.stop.Stop.TheVariants.{Refused, ReadFault, TooLong, NoMemory}
@@ -20,10 +20,11 @@ Want K = K × List ℕ × ℕ
 abbrev pub Inputs : Type 0 → Type 0
 Inputs K = List (K × List ℕ)
 
--- The files that a command reads, in their order, and what comes of them. That memory is wanting is no answer of its own here: it is the
+-- The files that a command reads, in their order, whether it has a crew work a pair of jobs, and what comes of the files. That memory is wanting is no answer of its own here: it is the
 -- answer where a definition below has it for an error that never comes.
 pub record Plan (K E C : Type 0) : Type 0 where
   pub reads : List (Want K)
+  pub paired : Bool
   pub after : Inputs K → Result (Verdict E) (Refusal C)
 
 -- what follows, where there was no stop

@@ -1,20 +1,50 @@
 -- What a call that carries out a command promises.
-use Rattle.std.specs.Prelude.{◌≡◌, ◌⊎◌, ◌<◌, ℕ, List, [], ◌∷◌, ◌++◌, map, length, Option, IfSome, Result, Ok, Err, Contains, codes}
+use Rattle.std.specs.Prelude.{◌≡◌, ◌⊎◌, ◌<◌, ◌≤◌, ⊤, ℕ, Bool, true, false, List, [], ◌∷◌, ◌++◌, map, length, Option, IfSome, Result, Ok, Err, Contains, codes}
 use Rattle.beeb_files.specs.Files.{Files, put, say, IsPartPut, IsPartSaid}
 use Rattle.beeb_files.specs.Counts.{Rose, Stayed, NoneFell}
+use Rattle.beeb_files.specs.Crew.{Counts}
 use Rattle.beeb_files.specs.Shelf.{ShelfState}
 use Rattle.beeb_files.specs.Outlet.{OutletState, NoCountFell}
 use Rattle.beeb_run.specs.declared.stop.Stop.{Stop}
-use Rattle.beeb_run.specs.declared.stop.Stop.TheVariants.{Refused, ReadFault, TooLong, WriteFault, NoMemory}
+use Rattle.beeb_run.specs.declared.stop.Stop.TheVariants.{Refused, ReadFault, TooLong, WriteFault, NoThread, NoMemory}
 use Rattle.beeb_run.specs.Plan.{Verdict, Want, Inputs, Plan, read_all, verdict, ComesTo}
 
--- the shelf and the outlet at a moment
+-- the counts of a crew: its faults, and the pairs of jobs that it worked
+abbrev pub crew_of : ℕ → ℕ → Counts
+crew_of faults pairs = record { faults = faults; pairs = pairs }
+
+-- no crew is there
+abbrev pub nobody : Counts
+nobody = crew_of 0 0
+
+-- the shelf, the outlet and the crew at a moment
 pub record World : Type 0 where
   pub shelf : ShelfState
   pub outlet : OutletState
+  pub crew : Counts
 
-abbrev pub world : ShelfState → OutletState → World
-world shelf outlet = record { shelf = shelf; outlet = outlet }
+abbrev pub world : ShelfState → OutletState → Counts → World
+world shelf outlet crew = record { shelf = shelf; outlet = outlet; crew = crew }
+
+-- a pair was worked, where the command has one
+abbrev pub HasPaired : Bool → Counts → Counts → Type 0
+HasPaired true old new = Rose old.pairs new.pairs
+HasPaired false old new = ⊤
+
+-- no thread could be started: that comes only of a command with a pair, and where the crew's count of faults rose
+abbrev pub HasNoThread : Bool → Counts → Counts → Type 0
+HasNoThread true old new = Rose old.faults new.faults
+HasNoThread false old new = ⊥
+
+-- no fault of the crew counted, where the command has a pair
+abbrev pub HasCrewStayed : Bool → Counts → Counts → Type 0
+HasCrewStayed true old new = Stayed old.faults new.faults
+HasCrewStayed false old new = ⊤
+
+-- no count of the crew fell, and a command without a pair leaves both
+abbrev pub IsCrewAfter : Bool → Counts → Counts → Type 0
+IsCrewAfter true old new = (old.faults ≤ new.faults) × (old.pairs ≤ new.pairs)
+IsCrewAfter false old new = new ≡ old
 
 abbrev pub read_names : {K : Type 0} → List (Want K) → List (List ℕ)
 read_names ws = map (λ w. w.1) ws
@@ -82,24 +112,31 @@ IsUnwritten v name old new =
 abbrev pub IsCutShort : {E : Type 0} → Verdict E → OutletState → OutletState → Type 0
 IsCutShort v old new = ((name : List ℕ) × IsCutAtFile name v.files old new) ⊎ IsCutAtText v old new
 
+-- The command comes to this verdict, and its pair was worked, if it has one. Only then is anything written.
+abbrev pub ComesOut : {K E C : Type 0} → Plan K E C → World → World → Verdict E → Type 0
+ComesOut p old new v = ComesTo p old.shelf.files (Ok v) × HasPaired p.paired old.crew new.crew
+
 -- How the command ends, why, and what stands then.
 abbrev pub EndsAs : {K E C : Type 0} → Plan K E C → World → World → Result E (Stop C) → Type 0
 EndsAs {E = E} p old new (Ok ending) =
-    (v : Verdict E) × ComesTo p old.shelf.files (Ok v) × (ending ≡ v.ending) × IsWhole v old.outlet new.outlet
+    (v : Verdict E) × ComesOut p old new v × (ending ≡ v.ending) × IsWhole v old.outlet new.outlet
 EndsAs p old new (Err (Refused cause)) = ComesTo p old.shelf.files (Err (Refused cause)) × IsUntouched old.outlet new.outlet
 EndsAs {C = C} p old new (Err (ReadFault name)) = IsUnread C p.reads name old.shelf new.shelf × IsUntouched old.outlet new.outlet
 EndsAs {C = C} p old new (Err (TooLong name)) = IsTooLong C p.reads name old.shelf new.shelf × IsUntouched old.outlet new.outlet
 EndsAs {E = E} p old new (Err (WriteFault name)) =
-    (v : Verdict E) × ComesTo p old.shelf.files (Ok v) × IsUnwritten v name old.outlet new.outlet
+    (v : Verdict E) × ComesOut p old new v × IsUnwritten v name old.outlet new.outlet
+EndsAs {E = E} p old new (Err NoThread) =
+    (v : Verdict E) × ComesTo p old.shelf.files (Ok v) × HasNoThread p.paired old.crew new.crew × IsUntouched old.outlet new.outlet
 EndsAs {E = E} p old new (Err NoMemory) =
-    IsUntouched old.outlet new.outlet ⊎ ((v : Verdict E) × ComesTo p old.shelf.files (Ok v) × IsCutShort v old.outlet new.outlet)
+    IsUntouched old.outlet new.outlet ⊎ ((v : Verdict E) × ComesOut p old new v × IsCutShort v old.outlet new.outlet)
 
--- no fault counted, under a name that the command reads or writes, nor for saying
+-- no fault counted, under a name that the command reads or writes, nor for saying, nor by the crew, if the command has a pair
 pub record NoFaultCounted {K E C : Type 0} (p : Plan K E C) (files : Files) (old new : World) : Type 0 where
   pub read : (name : List ℕ) → Contains (read_names p.reads) name → Stayed (old.shelf.faults name) (new.shelf.faults name)
   pub written : (v : Verdict E) → verdict p files ≡ Ok v → (name : List ℕ) → Contains (names v.files) name →
       Stayed (old.outlet.faults name) (new.outlet.faults name)
   pub said : Stayed old.outlet.say_faults new.outlet.say_faults
+  pub crew : HasCrewStayed p.paired old.crew new.crew
 
 abbrev pub ending_of : {E C : Type 0} → Result (Verdict E) (Stop C) → Result E (Stop C)
 ending_of (Ok v) = Ok v.ending
@@ -113,6 +150,6 @@ IsComplete p old new result files = NoFaultCounted p files old new → (result �
 pub record CarriesOut {K E C : Type 0} (p : Plan K E C) (old new : World) (result : Result E (Stop C)) : Type 0 where
   pub ends : EndsAs p old new result
   pub complete : IfSome old.shelf.files (IsComplete p old new result)
-  pub counts : NoneFell old.shelf.faults new.shelf.faults × NoCountFell old.outlet new.outlet
+  pub counts : NoneFell old.shelf.faults new.shelf.faults × NoCountFell old.outlet new.outlet × IsCrewAfter p.paired old.crew new.crew
   -- the files that are read stay
   pub shelf : new.shelf.files ≡ old.shelf.files

@@ -29,8 +29,8 @@ fn read_one<C: Drop, S: Shelf>(
     }
 }
 
-// The bytes of each file that is wanted, or why the first is refused that is refused.
-fn read_all<K: Copy, C: Drop, S: Shelf>(
+/// The bytes of each file that is wanted, in their order, or why the first is refused that is refused.
+pub fn read_all<K: Copy, C: Drop, S: Shelf>(
     alloc: Global,
     shelf: &mut S,
     wants: &[(K, &str, u64)],

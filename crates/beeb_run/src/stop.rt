@@ -28,6 +28,8 @@ pub enum Stop<C> {
     TooLong(Name),
     /// The file of this name could not be written, or, for `-`, the text not said.
     WriteFault(Name),
+    /// No thread could be started.
+    NoThread,
     /// There was no memory.
     NoMemory,
 }

@@ -58,7 +58,7 @@ fn say<C: Drop, O: Outlet>(alloc: Global, text: &[u8], out: &mut O) -> Result<()
 }
 
 /// Puts the files, says the text, and tells how the command ends.
-pub(crate) fn write<C: Drop, W: Outcome, O: Outlet>(
+pub fn write_outcome<C: Drop, W: Outcome, O: Outlet>(
     alloc: Global,
     outcome: W,
     out: &mut O,

@@ -1,5 +1,5 @@
 -- The commands, as the words tell them.
-use Rattle.std.specs.Prelude.{ℕ, List}
+use Rattle.std.specs.Prelude.{ℕ, Bool, true, false, List}
 use Rattle.op_table.specs.declared.Part.{Part}
 use Rattle.beeb_bits.specs.declared.Side.{Side}
 use Rattle.beeb_words.specs.Given.{Values}
@@ -16,6 +16,8 @@ pub data Command : Type 0 where
   replay : (side : Side) (trace : List ℕ) (ticks : ℕ) (out : List ℕ) (given : Values) → Command
   -- `solo TICKS OUT` and options, with the number of accesses that are kept
   solo : (ticks : ℕ) (out : List ℕ) (keep : ℕ) (given : Values) → Command
+  -- `run TICKS OUT` and options, with the number of accesses that are kept
+  run : (ticks : ℕ) (out : List ℕ) (keep : ℕ) (given : Values) → Command
 
 -- the ticks that it asks for
 abbrev pub ticks_of : Command → ℕ
@@ -24,3 +26,13 @@ ticks_of (asm part source out) = 0
 ticks_of (dis part image origin out) = 0
 ticks_of (replay side trace ticks out given) = ticks
 ticks_of (solo ticks out keep given) = ticks
+ticks_of (run ticks out keep given) = ticks
+
+-- the command has a crew work a pair of jobs
+abbrev pub is_paired : Command → Bool
+is_paired (check trace) = false
+is_paired (asm part source out) = false
+is_paired (dis part image origin out) = false
+is_paired (replay side trace ticks out given) = false
+is_paired (solo ticks out keep given) = false
+is_paired (run ticks out keep given) = true

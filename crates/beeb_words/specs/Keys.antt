@@ -42,9 +42,9 @@ keys =
     ∷ key (codes "--rom14") Host (File (Rom 14)) true
     ∷ key (codes "--rom15") Host (File (Rom 15)) true
     ∷ key (codes "--font") Host (File Font) false
-    ∷ key (codes "--disc0") Host (File (Disc 0)) false
-    ∷ key (codes "--disc1") Host (File (Disc 1)) false
-    ∷ key (codes "--keys") Host (File Keys) false
+    ∷ key (codes "--disc0") Host (File (Disc 0)) true
+    ∷ key (codes "--disc1") Host (File (Disc 1)) true
+    ∷ key (codes "--keys") Host (File Keys) true
     ∷ key (codes "--plugs") Host (Number 8) false
     ∷ key (codes "--keep") Both (Number 4194304) true
     ∷ []

@@ -1,6 +1,7 @@
 pub mod Alone
 pub mod Keys
 pub mod Given
+pub mod Discs
 pub mod Command
 pub mod Words
 pub mod Reads

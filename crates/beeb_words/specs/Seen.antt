@@ -4,13 +4,15 @@ use Rattle.std.specs.Borrow.{Bor}
 use Rattle.std.specs.declared.string.String.{String}
 use Rattle.std.specs.declared.alloc.Global.{Global}
 use Rattle.beeb_words.specs.declared.command.Command.{Command}
-use Rattle.beeb_words.specs.declared.command.Command.TheVariants.{Check, Asm, Dis, Replay, Solo}
+use Rattle.beeb_words.specs.declared.command.Command.TheVariants.{Check, Asm, Dis, Replay, Solo, Run}
 use Rattle.beeb_words.specs.declared.given.Given.{Given}
 use Rattle.beeb_words.specs.declared.keys.Key.{Key}
+use Rattle.beeb_words.specs.declared.words.Both.{Both}
 use Rattle.beeb_words.specs.declared.keys.Slot.{Slot}
 use Rattle.beeb_words.specs.Command as commands
 use Rattle.beeb_words.specs.Given.{Values}
 use Rattle.beeb_words.specs.Keys as keys
+use Rattle.beeb_words.specs.Words as words
 
 -- the bytes of a word
 abbrev pub word_at : List (String Global) → ℕ → List ℕ
@@ -30,6 +32,7 @@ seen (Asm part source out) = commands.asm part source.now out.now
 seen (Dis part image origin out) = commands.dis part image.now origin out.now
 seen (Replay side trace ticks out given) = commands.replay side trace.now ticks out.now (seen_given given)
 seen (Solo ticks out keep given) = commands.solo ticks out.now keep (seen_given given)
+seen (Run ticks out keep given) = commands.run ticks out.now keep (seen_given given)
 
 abbrev pub seen_key : Key → keys.Key
 seen_key k = keys.key k.word.now k.machines k.value k.built
@@ -37,3 +40,6 @@ seen_key k = keys.key k.word.now k.machines k.value k.built
 -- what a file is, its name and its cap
 abbrev pub seen_want : Slot × Bor (List ℕ) × ℕ → Slot × List ℕ × ℕ
 seen_want w = (w.0, w.1.now, w.2)
+
+abbrev pub seen_both : Both → words.Both
+seen_both b = record { ticks = b.ticks; out = b.out.now; keep = b.keep; given = seen_given b.given }

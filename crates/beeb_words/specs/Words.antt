@@ -8,7 +8,7 @@ use Rattle.beeb_bits.specs.declared.Side.{Side}
 use Rattle.beeb_bits.specs.declared.Side.TheVariants.{Host, Para}
 use Rattle.beeb_words.specs.declared.keys.Machines.{Machines}
 use Rattle.beeb_words.specs.declared.keys.Machines.TheVariants as machines
-use Rattle.beeb_words.specs.Command.{Command, check, asm, dis, replay, solo}
+use Rattle.beeb_words.specs.Command.{Command, check, asm, dis, replay, solo, run}
 use Rattle.beeb_words.specs.Alone.{is_name, alone, two, four}
 use Rattle.beeb_words.specs.Given.{given, keep_of, Values}
 use Rattle.digits.specs.Decimal.{decimal_number}
@@ -74,19 +74,32 @@ replay_by words w = option_and_then (λ side. option_and_then (replay_with w.1 w
 abbrev pub replay_words : List (List ℕ) → Option Command
 replay_words words = option_and_then (replay_by words) (four (alone false words))
 
-abbrev pub solo_given : ℕ → List ℕ → Values → Command
-solo_given ticks out given = solo ticks out (keep_of given) given
+-- what `solo` and `run` are told: the ticks, the name of the outputs, the number of accesses that are kept, and the options
+pub record Both : Type 0 where
+  pub ticks : ℕ
+  pub out : List ℕ
+  pub keep : ℕ
+  pub given : Values
 
-abbrev pub solo_with : List ℕ → List (List ℕ) → ℕ → Option Command
-solo_with out words ticks = if is_name out then option_map (solo_given ticks out) (given machines.Both words) else None
+abbrev pub both_given : ℕ → List ℕ → Values → Both
+both_given ticks out given = record { ticks = ticks; out = out; keep = keep_of given; given = given }
+
+abbrev pub both_with : List ℕ → List (List ℕ) → ℕ → Option Both
+both_with out words ticks = if is_name out then option_map (both_given ticks out) (given machines.Both words) else None
 
 -- TICKS OUT
-abbrev pub solo_by : List (List ℕ) → List ℕ × List ℕ → Option Command
-solo_by words w = option_and_then (solo_with w.1 words) (decimal_number 1073741824 w.0)
+abbrev pub both_by : List (List ℕ) → List ℕ × List ℕ → Option Both
+both_by words w = option_and_then (both_with w.1 words) (decimal_number 1073741824 w.0)
 
--- the words after `solo`: TICKS OUT, with the options of both machines in any place among them
+-- the words after `solo` and after `run`: TICKS OUT, with the options of both machines in any place among them
+abbrev pub both_words : List (List ℕ) → Option Both
+both_words words = option_and_then (both_by words) (two (alone false words))
+
 abbrev pub solo_words : List (List ℕ) → Option Command
-solo_words words = option_and_then (solo_by words) (two (alone false words))
+solo_words words = option_map (λ (b : Both). solo b.ticks b.out b.keep b.given) (both_words words)
+
+abbrev pub run_words : List (List ℕ) → Option Command
+run_words words = option_map (λ (b : Both). run b.ticks b.out b.keep b.given) (both_words words)
 
 -- the command that the words spell, if any
 unfoldable pub command : List (List ℕ) → Option Command
@@ -97,4 +110,5 @@ command (word ∷ words) =
     else if bytes_eq word (codes "dis") then dis_words words
     else if bytes_eq word (codes "replay") then replay_words words
     else if bytes_eq word (codes "solo") then solo_words words
+    else if bytes_eq word (codes "run") then run_words words
     else None

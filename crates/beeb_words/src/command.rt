@@ -1,4 +1,8 @@
 //! The commands.
+ghost use Rattle.std.specs.Prelude.{◌≡◌};
+ghost use Rattle.beeb_words.specs.Command.{is_paired};
+ghost use Rattle.beeb_words.specs.Seen.{seen};
+
 use crate::given::Given;
 use beeb_bits::Side;
 use op_table::Part;
@@ -38,4 +42,20 @@ pub enum Command<'a> {
         keep: u32,
         given: Given<'a>,
     },
+    /// `run TICKS OUT` and options, with the number of accesses that are kept
+    Run {
+        ticks: u64,
+        out: &'a str,
+        keep: u32,
+        given: Given<'a>,
+    },
+}
+
+impl<'a> Command<'a> {
+    /// Whether the command has a crew work a pair of jobs.
+    pub fn is_paired(&self) -> bool
+        ensures { result ≡ is_paired (seen self.now) }
+    {
+        matches!(self, Command::Run { .. })
+    }
 }

@@ -74,7 +74,9 @@ impl<'a> Command<'a> {
             Command::Replay { trace, given, .. } => {
                 with_options(one(alloc, (Slot::Trace, *trace, TRACE_CAP))?, *given)
             }
-            Command::Solo { given, .. } => with_options(Vec::new(alloc), *given),
+            Command::Solo { given, .. } | Command::Run { given, .. } => {
+                with_options(Vec::new(alloc), *given)
+            }
         }
     }
 }

@@ -3,6 +3,7 @@
 
 mod alone;
 mod command;
+mod discs;
 mod files;
 mod given;
 mod keys;

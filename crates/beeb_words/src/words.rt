@@ -1,13 +1,13 @@
 //! The grammar of the words.
 ghost use Rattle.std.specs.Prelude.{◌≡◌, ◌≤◌, map, option_map, string_bytes, IsTrue, IfSome};
 ghost use Rattle.beeb_words.specs.Command.{ticks_of};
-ghost use Rattle.beeb_words.specs.Words.{part_of, origin_of, side_of, machines_of, check_words, asm_words, dis_words, replay_words, solo_words, command};
+ghost use Rattle.beeb_words.specs.Words.{part_of, origin_of, side_of, machines_of, check_words, asm_words, dis_words, replay_words, both_words, solo_words, run_words, command};
 ghost use Rattle.beeb_words.specs.Reads.{IsWithin};
-ghost use Rattle.beeb_words.specs.Seen.{seen};
+ghost use Rattle.beeb_words.specs.Seen.{seen, seen_both};
 
 use crate::alone::{four_alone, is_name, two_alone};
 use crate::command::Command;
-use crate::given::options_among;
+use crate::given::{Given, options_among};
 use crate::keys::Machines;
 use beeb_bits::Side;
 use digits::{all_hex, decimal_number, hex_number};
@@ -137,9 +137,18 @@ fn replay_words(words: &[String]) -> Option<Command<'_>>
     })
 }
 
-fn solo_words(words: &[String]) -> Option<Command<'_>>
-    ensures command { option_map seen result ≡ solo_words (map string_bytes words.now) }
-    ensures ticks { IfSome result (λ c. ticks_of (seen c) ≤ MOST_TICKS) }
+// What `solo` and `run` are told.
+#[derive(Clone, Copy)]
+struct Both<'a> {
+    ticks: u64,
+    out: &'a str,
+    keep: u32,
+    given: Given<'a>,
+}
+
+fn both_words(words: &[String]) -> Option<Both<'_>>
+    ensures told { option_map seen_both result ≡ both_words (map string_bytes words.now) }
+    ensures ticks { IfSome result (λ b. b.ticks ≤ MOST_TICKS) }
 {
     let (ticks, out) = two_alone(words)?;
     let ticks = decimal_number(ticks.as_bytes(), MOST_TICKS)?;
@@ -147,11 +156,37 @@ fn solo_words(words: &[String]) -> Option<Command<'_>>
         return None;
     }
     let given = options_among(words, Machines::Both)?;
-    Some(Command::Solo {
+    Some(Both {
         ticks,
         out,
         keep: given.keep(),
         given,
+    })
+}
+
+fn solo_words(words: &[String]) -> Option<Command<'_>>
+    ensures command { option_map seen result ≡ solo_words (map string_bytes words.now) }
+    ensures ticks { IfSome result (λ c. ticks_of (seen c) ≤ MOST_TICKS) }
+{
+    let told = both_words(words)?;
+    Some(Command::Solo {
+        ticks: told.ticks,
+        out: told.out,
+        keep: told.keep,
+        given: told.given,
+    })
+}
+
+fn run_words(words: &[String]) -> Option<Command<'_>>
+    ensures command { option_map seen result ≡ run_words (map string_bytes words.now) }
+    ensures ticks { IfSome result (λ c. ticks_of (seen c) ≤ MOST_TICKS) }
+{
+    let told = both_words(words)?;
+    Some(Command::Run {
+        ticks: told.ticks,
+        out: told.out,
+        keep: told.keep,
+        given: told.given,
     })
 }
 
@@ -171,6 +206,8 @@ fn command_within(words: &[String]) -> Option<Command<'_>>
         replay_words(rest)
     } else if word.as_str() == "solo" {
         solo_words(rest)
+    } else if word.as_str() == "run" {
+        run_words(rest)
     } else {
         None
     }

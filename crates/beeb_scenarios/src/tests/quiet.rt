@@ -1,8 +1,11 @@
 //! A shelf and an outlet that tell nothing.
 ghost use Rattle.beeb_files.specs.Folder.{dir_shelf_state, dir_outlet_state};
 
-use super::*;
+use super::scene::words_of;
+use beeb_commands::plain;
 use beeb_files::{Outlet, PutError, Shelf, ShelfError};
+use std::alloc::{AllocError, Global};
+use std::test::Fail;
 
 // Under each name the same bytes; how often it was asked.
 #[derive(Drop)]
@@ -46,27 +49,31 @@ impl Outlet for QuietOutlet {
     }
 }
 
+// The bytes under each name, the words, and then the status, how often the shelf was asked, and how many bytes the outlet took.
+const ROWS: &str = "\
+-check t-0 1 5
+NOP-asm 6502 t out-0 1 1
+NOP-run 7 demo-1 0 0
+-replay para t 7 o --tube rom-3 2 0
+-replay host --rom7 a t 7 o --os os --rom0 b-3 4 0
+";
+
+// What words over these bytes come to.
+fn counts(alloc: Global, bytes: &str, words: &str) -> Result<String, AllocError> {
+    let bytes = bytes.as_bytes().to_vec(alloc)?;
+    let mut shelf = QuietShelf { bytes, asked: 0 };
+    let mut out = QuietOutlet { taken: 0 };
+    let status = plain(alloc, &words_of(alloc, words)?, &mut shelf, &mut out);
+    format!(in alloc; "{} {} {}", status.number(), shelf.asked, out.taken)
+}
+
 #[test]
 fn each_file_is_read_once_and_each_output_written_once(rt: HostRuntime) -> Result<(), Fail> {
-    let alloc = rt.alloc();
-    // The bytes under each name, the words, the status, how often the shelf was asked, and how many bytes the outlet took.
-    let rows: [(&[u8], &str, u8, u64, u64); 5] = [
-        (b"", "check|t", 0, 1, 5),
-        (b"NOP", "asm|6502|t|out", 0, 1, 1),
-        (b"NOP", "run|7|demo", 1, 0, 0),
-        (b"", "replay|para|t|7|o|--tube|rom", 3, 2, 0),
-        (b"", "replay|host|--rom7|a|t|7|o|--os|os|--rom0|b", 3, 4, 0),
-    ];
-    for (bytes, row, number, asked, taken) in rows {
-        let mut shelf = QuietShelf {
-            bytes: bytes.to_vec(alloc)?,
-            asked: 0,
-        };
-        let mut out = QuietOutlet { taken: 0 };
-        let status = plain(alloc, &words(alloc, row)?, &mut shelf, &mut out);
-        assert_eq!(rt; status.number(), number);
-        assert_eq!(rt; shelf.asked, asked);
-        assert_eq!(rt; out.taken, taken);
+    for row in ROWS.lines() {
+        let (bytes, rest) = row.split_once('-').unwrap_or(("", ""));
+        let (words, wanted) = rest.rsplit_once('-').unwrap_or(("", ""));
+        let got = counts(rt.alloc(), bytes, words)?;
+        assert!(rt; got.as_str() == wanted, "{row}: {got}");
     }
     Ok(())
 }

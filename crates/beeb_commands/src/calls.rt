@@ -1,0 +1,70 @@
+//! The top calls.
+ghost use Rattle.std.specs.Prelude.{◌≡◌, ◌↔◌, None, IfSome, IfNone, map, string_bytes};
+ghost use Rattle.beeb_words.specs.Words.{command};
+ghost use Rattle.beeb_run.specs.Promise.{world, crew_of, nobody};
+ghost use Rattle.beeb_commands.specs.Commands.{EndsWith, unpaired};
+ghost use Rattle.beeb_commands.specs.Headline.{Headline};
+
+use crate::job::Job;
+use crate::run::run_command;
+use crate::status::{Status, status_of};
+use beeb_files::{Crew, Outlet, Shelf};
+use beeb_run::carry_out;
+use beeb_words::command_of;
+use bus_plug::BusDevice;
+use std::alloc::Global;
+use std::sync::Wait;
+use std::thread::Threads;
+
+/// Carries out the command that the words spell, on the files of the shelf, and writes what comes of it to the outlet. It has no crew, so it
+/// takes no words of `run`.
+pub fn plain<S: Shelf, O: Outlet>(
+    alloc: Global,
+    words: &[String],
+    shelf: &mut S,
+    out: &mut O,
+) -> Status
+    // `Usage` comes exactly where the words are outside the grammar or spell `run`, and then shelf and outlet are as they were.
+    ensures usage { (result ≡ Status.Usage) ↔ (unpaired (command (map string_bytes words.now)) ≡ None) }
+    ensures refused { IfNone (unpaired (command (map string_bytes words.now))) (world (S.shelf shelf.new) (O.outlet out.new) nobody ≡ world (S.shelf shelf.old) (O.outlet out.old) nobody) }
+    // Else the command is carried out.
+    ensures ran { IfSome (unpaired (command (map string_bytes words.now))) (λ c. EndsWith c (world (S.shelf shelf.old) (O.outlet out.old) nobody) (world (S.shelf shelf.new) (O.outlet out.new) nobody) result) }
+{
+    let Some(command) = command_of(words) else {
+        return Status::Usage;
+    };
+    if command.is_paired() {
+        return Status::Usage;
+    }
+    let plugs: Vec<Box<dyn BusDevice + Send>> = Vec::new(alloc);
+    status_of(carry_out(alloc, Job { command, plugs }, shelf, out))
+}
+
+/// Carries out the command that the words spell, on the files of the shelf, and writes what comes of it to the outlet. `run` has the crew work
+/// its two machines; every other command goes to `plain`.
+pub fn top<S: Shelf, O: Outlet, C: Crew, R: Threads + Wait + Sync>(
+    rt: &R,
+    alloc: Global,
+    words: &[String],
+    shelf: &mut S,
+    out: &mut O,
+    crew: &mut C,
+) -> Status
+    // `Usage` comes exactly where the words are outside the grammar, and then shelf, outlet and the crew's counts are as they were.
+    ensures usage { (result ≡ Status.Usage) ↔ (command (map string_bytes words.now) ≡ None) }
+    ensures refused { IfNone (command (map string_bytes words.now)) (world (S.shelf shelf.new) (O.outlet out.new) (crew_of (C.faults crew.new) (C.pairs crew.new)) ≡ world (S.shelf shelf.old) (O.outlet out.old) (crew_of (C.faults crew.old) (C.pairs crew.old))) }
+    // The headline: where `run` ends with `Done`, what is written is what the reference run of both machines leaves.
+    ensures headline { result ≡ Status.Done → Headline (command (map string_bytes words.now)) (world (S.shelf shelf.old) (O.outlet out.old) (crew_of (C.faults crew.old) (C.pairs crew.old))) (world (S.shelf shelf.new) (O.outlet out.new) (crew_of (C.faults crew.new) (C.pairs crew.new))) }
+    // Each command is carried out, `run` as `solo` with a crew: no clause names an order in which the steps of the two threads fell.
+    ensures ran { IfSome (command (map string_bytes words.now)) (λ c. EndsWith c (world (S.shelf shelf.old) (O.outlet out.old) (crew_of (C.faults crew.old) (C.pairs crew.old))) (world (S.shelf shelf.new) (O.outlet out.new) (crew_of (C.faults crew.new) (C.pairs crew.new))) result) }
+{
+    let Some(command) = command_of(words) else {
+        return Status::Usage;
+    };
+    if command.is_paired() {
+        let plugs: Vec<Box<dyn BusDevice + Send>> = Vec::new(alloc);
+        status_of(run_command(rt, alloc, command, plugs, shelf, out, crew))
+    } else {
+        plain(alloc, words, shelf, out)
+    }
+}

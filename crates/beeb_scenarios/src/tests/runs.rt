@@ -1,0 +1,193 @@
+//! Both machines in two threads: two letters from the second processor to the host.
+ghost use Rattle.std.specs.Prelude.{false};
+
+use super::scene::{failing, told, words_of};
+use asm65::assemble;
+use beeb_commands::top;
+use beeb_files::{Crew, FailCrew, MemOutlet, MemShelf, Pairing, ThreadCrew};
+use op_table::Part;
+use std::alloc::Global;
+use std::hint;
+use std::sync::Wait;
+use std::sync::atomic::{AtomicBool, Ordering};
+use std::test::Fail;
+use std::thread::Threads;
+
+// The host waits for two bytes in register 1, and keeps them at 0070.
+const WAITING: &str = "\
+org &C000
+LDX #0
+wait: LDA &FEE0
+BPL wait
+LDA &FEE1
+STA &70,X
+INX
+CPX #2
+BNE wait
+here: JMP here
+org &FFFC
+word &C000, 0
+";
+
+const LETTERS: &str = "\
+org &F800
+start: LDX #31
+copy: LDA &F800,X
+STA &F800,X
+DEX
+BPL copy
+LDA #&48
+STA &FEF9
+LDA #&49
+STA &FEF9
+stop: JMP stop
+org &FFFC
+word start, 0
+";
+
+const SOLO: &str = "solo 2000 o --os os --tube tube";
+
+const RUN: &str = "run 2000 o --os os --tube tube";
+
+// What words come to over the two images, where this call of the outlet fails, and what they leave.
+fn ended<C: Crew, R: Threads + Wait + Sync>(
+    rt: &R,
+    alloc: Global,
+    words: &str,
+    put_fails: Option<u32>,
+    crew: &mut C,
+) -> Result<(Vec<u8>, MemOutlet), Fail> {
+    let os = assemble(alloc, Part::Nmos, WAITING.as_bytes())?.bytes;
+    let tube = assemble(alloc, Part::Cmos, LETTERS.as_bytes())?.bytes;
+    let mut files = Vec::new(alloc);
+    files.push((String::from_str(alloc, "os")?, os))?;
+    files.push((String::from_str(alloc, "tube")?, tube))?;
+    let mut shelf = MemShelf::make(files, Vec::new(alloc));
+    let mut out = MemOutlet::make(alloc, failing(alloc, put_fails)?);
+    let words = words_of(alloc, words)?;
+    let status = top(rt, alloc, &words, &mut shelf, &mut out, crew);
+    let told = told(alloc, &status, out.said())?;
+    Ok((told, out))
+}
+
+// The file of a name is there in both, or in neither, with the same bytes.
+fn is_same(a: &MemOutlet, b: &MemOutlet, name: &str) -> bool {
+    match (a.file(name), b.file(name)) {
+        (Some(one), Some(other)) => one == other,
+        (None, None) => true,
+        _ => false,
+    }
+}
+
+fn are_same(a: &MemOutlet, b: &MemOutlet) -> bool {
+    is_same(a, b, "o.report")
+        && is_same(a, b, "o.host")
+        && is_same(a, b, "o.para")
+        && is_same(a, b, "o.trace")
+}
+
+// Both end with `Done`, and write the same files, byte for byte. The trace has this many bytes.
+fn agree<R: Threads + Wait + Sync>(
+    rt: &R,
+    alloc: Global,
+    solo: &str,
+    run: &str,
+    len: usize,
+) -> Result<bool, Fail> {
+    let mut crew = ThreadCrew::make();
+    let (told, alone) = ended(rt, alloc, solo, None, &mut crew)?;
+    let is_done = told.as_slice() == b"0".as_slice() && crew.pairs() == 0;
+    let (told, both) = ended(rt, alloc, run, None, &mut crew)?;
+    let is_paired = told.as_slice() == b"0".as_slice() && crew.pairs() == 1;
+    let trace = both.file("o.trace").unwrap_or(&[]);
+    Ok(is_done && is_paired && are_same(&alone, &both) && trace.len() == len)
+}
+
+#[test]
+fn run_writes_the_files_of_solo(rt: HostRuntime) -> Result<(), Fail> {
+    let alloc = rt.alloc();
+    // 49 and 3 lines of the trace, of 20 bytes for a read or a write.
+    assert!(rt; agree(&rt, alloc, SOLO, RUN, 980)?);
+    let solo = "solo --keep 3 2000 o --os os --tube tube";
+    let run = "run --keep 3 2000 o --os os --tube tube";
+    assert!(rt; agree(&rt, alloc, solo, run, 60)?);
+    Ok(())
+}
+
+#[test]
+fn a_run_without_a_thread_writes_nothing(rt: HostRuntime) -> Result<(), Fail> {
+    let alloc = rt.alloc();
+    let mut crew = FailCrew::make();
+    let (told, out) = ended(&rt, alloc, RUN, None, &mut crew)?;
+    assert!(rt; told.as_slice() == b"6 no thread".as_slice());
+    assert!(rt; are_same(&out, &MemOutlet::make(alloc, Vec::new(alloc))));
+    assert!(rt; crew.faults() == 1);
+    Ok(())
+}
+
+#[test]
+fn the_files_before_a_put_that_fails_are_whole(rt: HostRuntime) -> Result<(), Fail> {
+    let alloc = rt.alloc();
+    let mut crew = ThreadCrew::make();
+    let (_, alone) = ended(&rt, alloc, SOLO, None, &mut crew)?;
+    let (told, out) = ended(&rt, alloc, RUN, Some(2), &mut crew)?;
+    assert!(rt; told.as_slice() == b"5 cannot write o.para".as_slice());
+    assert!(rt; out.file("o.report").is_some() && is_same(&alone, &out, "o.report"));
+    assert!(rt; out.file("o.host").is_some() && is_same(&alone, &out, "o.host"));
+    assert!(rt; out.file("o.para").is_none() && out.file("o.trace").is_none());
+    Ok(())
+}
+
+// A crew that spins between the start of the first job and the second.
+#[derive(Drop)]
+struct SlowCrew {
+    faults: u64,
+    pairs: u64,
+    // Whether the first job had ended when the spinning was over: true until then.
+    early: AtomicBool,
+}
+
+impl Crew for SlowCrew {
+    ghost faults = { λ c. c.faults };
+
+    ghost pairs = { λ c. c.pairs };
+
+    ghost refuses = { λ _. false };
+
+    fn starts(&mut self, _call: &Pairing) -> bool {
+        true
+    }
+
+    fn between(&self, _call: &Pairing, ended: &AtomicBool) {
+        for _ in 0..10_000_000u32 {
+            hint::spin_loop();
+        }
+        self.early
+            .store(ended.load(Ordering::SeqCst), Ordering::SeqCst);
+    }
+
+    fn count_fault(&mut self, _call: &Pairing) {
+        self.faults = self.faults.saturating_add(1);
+    }
+
+    fn count_pair(&mut self, _call: &Pairing) {
+        self.pairs = self.pairs.saturating_add(1);
+    }
+}
+
+#[test]
+fn first_job_waits(rt: HostRuntime) -> Result<(), Fail> {
+    let alloc = rt.alloc();
+    let mut crew = SlowCrew {
+        faults: 0,
+        pairs: 0,
+        early: AtomicBool::new(true),
+    };
+    let (told, out) = ended(&rt, alloc, RUN, None, &mut crew)?;
+    assert!(rt; told.as_slice() == b"0".as_slice());
+    assert!(rt; !crew.early.load(Ordering::SeqCst));
+    assert!(rt; crew.pairs == 1 && crew.faults == 0);
+    let host = out.file("o.host").unwrap_or(&[]);
+    assert!(rt; host.get(0x70..0x72) == Some(b"\x48\x49".as_slice()));
+    Ok(())
+}

@@ -1,0 +1,317 @@
+//! Scenes: texts that say which files lie on the shelf, which words are carried out, and what must come of them.
+//!
+//! A line is a step. What it speaks of stands in the lines below it:
+//!
+//! - `| TEXT` is the text and a line feed, and `+ TEXT` the text alone,
+//! - `x 4C 00` are bytes, and `* N LINE` is one of these N times.
+//!
+//! The steps:
+//!
+//! - `# TITLE` begins a scene: nothing lies on the shelf, and no call fails.
+//! - `t`: the files `t` and `t.dsd` have these bytes. `os` and `tube`: the files of these names are the images of these source texts, for
+//!   the 6502 and the 65C02. `ticks A, B`: the file `t` is a trace of these accesses, one at each tick from 0.
+//! - `fails N M`: the shelf's call N and the outlet's call M fail, where `-` is none.
+//! - `$ WORDS`: the words are carried out, where `''` is a word of no letters.
+//! - `= STATUS`: they ended with this number and text, the kind of the offence where there is one, and what was said behind a
+//!   colon. `! WORDS` carries out words that are outside the grammar.
+//! - `file NAME`: the file was written with these bytes. `none NAME`: it was not written. `line NAME TEXT`: this is one of
+//!   its lines. `size NAME N` is its length, and `at NAME ADDRESS BYTES` are its bytes from an address on.
+//! - `trace`: the file `o.trace` becomes the file `t`, the chip gives all its answers, and the outputs are kept. `same NAME`:
+//!   the file is the same as in the outputs that were kept. `take NAME`: the file becomes the file `t`.
+use asm65::assemble;
+use beeb_commands::{Status, plain};
+use beeb_files::{MemOutlet, MemShelf};
+use op_table::Part;
+use std::alloc::{AllocError, Global};
+use std::test::Fail;
+
+/// What lies on the shelf, which calls fail, and what the last words left.
+#[derive(Drop)]
+struct Scene {
+    alloc: Global,
+    t: Vec<u8>,
+    os: Vec<u8>,
+    tube: Vec<u8>,
+    get_fails: Option<u32>,
+    put_fails: Option<u32>,
+    told: Vec<u8>,
+    out: MemOutlet,
+    kept: MemOutlet,
+}
+
+/// The first step of the scenes that does not hold, and what the last words ended with.
+pub(crate) fn first_wrong(alloc: Global, scenes: &str) -> Result<Option<String>, Fail> {
+    let mut scene = Scene::empty(alloc);
+    let mut step = "";
+    let mut bytes = Vec::new(alloc);
+    for line in scenes.lines() {
+        if is_more(line) {
+            add(alloc, &mut bytes, line)?;
+        } else {
+            if !scene.holds(step, &bytes)? {
+                return scene.tell(step);
+            }
+            step = line;
+            bytes.clear();
+        }
+    }
+    if scene.holds(step, &bytes)? {
+        Ok(None)
+    } else {
+        scene.tell(step)
+    }
+}
+
+// The line belongs to the step above it.
+fn is_more(line: &str) -> bool {
+    matches!(line.as_bytes().first(), Some(b'|' | b'+' | b'x' | b'*'))
+}
+
+// Adds the bytes of a line below a step.
+fn add(alloc: Global, bytes: &mut Vec<u8>, line: &str) -> Result<(), Fail> {
+    let (mark, rest) = line.split_once(' ').unwrap_or((line, ""));
+    if mark != "*" {
+        return add_once(bytes, mark, rest);
+    }
+    let (count, line) = rest.split_once(' ').unwrap_or((rest, ""));
+    let (mark, rest) = line.split_once(' ').unwrap_or((line, ""));
+    let mut once = Vec::new(alloc);
+    add_once(&mut once, mark, rest)?;
+    for _ in 0..number(count) {
+        bytes.extend_from_slice(&once)?;
+    }
+    Ok(())
+}
+
+fn add_once(bytes: &mut Vec<u8>, mark: &str, rest: &str) -> Result<(), Fail> {
+    if mark == "x" {
+        for byte in rest.split(' ') {
+            bytes.push((hex(byte) % 256) as u8)?;
+        }
+    } else {
+        bytes.extend_from_slice(rest.as_bytes())?;
+        if mark == "|" {
+            bytes.push(b'\n')?;
+        }
+    }
+    Ok(())
+}
+
+fn number(digits: &str) -> u32 {
+    digits.parse().unwrap_or(0)
+}
+
+fn hex(digits: &str) -> u32 {
+    u32::from_str_radix(digits, 16).unwrap_or(0)
+}
+
+impl Scene {
+    fn empty(alloc: Global) -> Scene {
+        Scene {
+            alloc,
+            t: Vec::new(alloc),
+            os: Vec::new(alloc),
+            tube: Vec::new(alloc),
+            get_fails: None,
+            put_fails: None,
+            told: Vec::new(alloc),
+            out: MemOutlet::make(alloc, Vec::new(alloc)),
+            kept: MemOutlet::make(alloc, Vec::new(alloc)),
+        }
+    }
+
+    fn tell(&self, step: &str) -> Result<Option<String>, Fail> {
+        let told = text_of(&self.told);
+        Ok(Some(format!(in self.alloc; "{step} .. {told}")?))
+    }
+
+    // Does a step with the bytes below it, and answers whether it holds.
+    fn holds(&mut self, step: &str, bytes: &[u8]) -> Result<bool, Fail> {
+        let (word, rest) = step.split_once(' ').unwrap_or((step, ""));
+        match word {
+            "" | "#" | "t" | "os" | "tube" | "ticks" | "fails" | "take" => self.lay(
+                word, rest, bytes,
+            ),
+            "$" | "!" | "trace" => self.act(word, rest),
+            _ => self.is_left(word, rest, bytes),
+        }
+    }
+
+    // What lies on the shelf, and which calls fail.
+    fn lay(&mut self, word: &str, rest: &str, bytes: &[u8]) -> Result<bool, Fail> {
+        let alloc = self.alloc;
+        match word {
+            "#" => *self = Scene::empty(alloc),
+            "t" => self.t = bytes.to_vec(alloc)?,
+            "os" => self.os = assemble(alloc, Part::Nmos, bytes)?.bytes,
+            "tube" => self.tube = assemble(alloc, Part::Cmos, bytes)?.bytes,
+            "ticks" => self.t = trace(alloc, rest)?,
+            "take" => self.t = self.out.file(rest).unwrap_or(b"nothing").to_vec(alloc)?,
+            "fails" => {
+                let (get, put) = rest.split_once(' ').unwrap_or((rest, ""));
+                self.get_fails = get.parse().ok();
+                self.put_fails = put.parse().ok();
+            }
+            _ => {}
+        }
+        Ok(true)
+    }
+
+    fn act(&mut self, word: &str, rest: &str) -> Result<bool, Fail> {
+        match word {
+            "$" => {
+                self.carry_out(rest)?;
+                Ok(true)
+            }
+            "!" => {
+                self.carry_out(rest)?;
+                Ok(self.told.as_slice() == b"1 usage".as_slice())
+            }
+            _ => self.follow(),
+        }
+    }
+
+    fn carry_out(&mut self, words: &str) -> Result<(), Fail> {
+        let alloc = self.alloc;
+        let mut shelf = self.shelf()?;
+        let mut out = MemOutlet::make(alloc, failing(alloc, self.put_fails)?);
+        let status = plain(alloc, &words_of(alloc, words)?, &mut shelf, &mut out);
+        self.told = told(alloc, &status, out.said())?;
+        self.out = out;
+        Ok(())
+    }
+
+    fn shelf(&self) -> Result<MemShelf, AllocError> {
+        let alloc = self.alloc;
+        let mut files = Vec::new(alloc);
+        files.push((
+            String::from_str(alloc, "t")?,
+            self.t.as_slice().to_vec(alloc)?,
+        ))?;
+        files.push((
+            String::from_str(alloc, "t.dsd")?,
+            self.t.as_slice().to_vec(alloc)?,
+        ))?;
+        files.push((
+            String::from_str(alloc, "os")?,
+            self.os.as_slice().to_vec(alloc)?,
+        ))?;
+        files.push((
+            String::from_str(alloc, "tube")?,
+            self.tube.as_slice().to_vec(alloc)?,
+        ))?;
+        Ok(MemShelf::make(files, failing(alloc, self.get_fails)?))
+    }
+
+    // The trace of a run is one that the chip gives, line by line; it and the other outputs are kept.
+    fn follow(&mut self) -> Result<bool, Fail> {
+        let alloc = self.alloc;
+        let mut run = MemOutlet::make(alloc, Vec::new(alloc));
+        std::mem::swap(&mut run, &mut self.out);
+        self.t = run.file("o.trace").unwrap_or(b"nothing").to_vec(alloc)?;
+        self.kept = run;
+        let lines = text_of(&self.t).lines().count();
+        self.carry_out("check t")?;
+        let wanted = format!(in alloc; "0: ok {lines}")?;
+        Ok(self.told.as_slice() == wanted.as_bytes())
+    }
+
+    // What the last words ended with, and what they left.
+    fn is_left(&self, word: &str, rest: &str, bytes: &[u8]) -> Result<bool, Fail> {
+        if word == "=" {
+            return Ok(self.told.as_slice() == rest.as_bytes());
+        }
+        let (name, rest) = rest.split_once(' ').unwrap_or((rest, ""));
+        let Some(file) = self.out.file(name) else {
+            return Ok(word == "none");
+        };
+        Ok(match word {
+            "file" => file == bytes,
+            "line" => has_line(file, rest),
+            "size" => file.len() as u64 == u64::from(number(rest)),
+            "at" => has_bytes(file, rest),
+            "same" => self.kept.file(name) == Some(file),
+            _ => false,
+        })
+    }
+}
+
+// The file as a text, of no lines where it is none.
+fn text_of(file: &[u8]) -> &str {
+    std::str::from_utf8(file).unwrap_or("")
+}
+
+fn has_line(file: &[u8], line: &str) -> bool {
+    for it in text_of(file).lines() {
+        if it == line {
+            return true;
+        }
+    }
+    false
+}
+
+// An address, and the bytes from there on.
+fn has_bytes(file: &[u8], row: &str) -> bool {
+    let (address, bytes) = row.split_once(' ').unwrap_or((row, ""));
+    let mut at = hex(address) as usize;
+    for byte in bytes.split(' ') {
+        match file.get(at) {
+            Some(held) if u32::from(*held) == hex(byte) => at = at.saturating_add(1),
+            _ => return false,
+        }
+    }
+    true
+}
+
+// The text of a trace: accesses parted by commas, one at each tick from 0.
+fn trace(alloc: Global, accesses: &str) -> Result<Vec<u8>, AllocError> {
+    let mut text = Vec::new(alloc);
+    for (tick, access) in accesses.split(',').enumerate() {
+        let line = format!(in alloc; "{:010X} {}\n", tick, access.trim())?;
+        text.extend_from_slice(line.as_bytes())?;
+    }
+    Ok(text)
+}
+
+/// The numbers of the calls that fail: this one, if any.
+pub(crate) fn failing(alloc: Global, call: Option<u32>) -> Result<Vec<u32>, AllocError> {
+    let mut fail = Vec::new(alloc);
+    if let Some(number) = call {
+        fail.push(number)?;
+    }
+    Ok(fail)
+}
+
+/// The words of a row.
+pub(crate) fn words_of(alloc: Global, row: &str) -> Result<Vec<String>, AllocError> {
+    let mut words = Vec::new(alloc);
+    if row.is_empty() {
+        return Ok(words);
+    }
+    for word in row.split(' ') {
+        let word = if word == "''" { "" } else { word };
+        words.push(String::from_str(alloc, word)?)?;
+    }
+    Ok(words)
+}
+
+/// The number and the text of a status, its kind, and what was said.
+pub(crate) fn told(alloc: Global, status: &Status, said: &[u8]) -> Result<Vec<u8>, Fail> {
+    let mut told = format!(in alloc; "{}", status.number())?.into_bytes();
+    let text = status.text(alloc)?;
+    if !text.is_empty() {
+        told.push(b' ')?;
+        told.extend_from_slice(&text)?;
+    }
+    if let Status::BadScript { kind, .. }
+    | Status::BadTrace { kind, .. }
+    | Status::BadSource { kind, .. } = status
+    {
+        told.extend_from_slice(format!(in alloc; " kind {kind}")?.as_bytes())?;
+    }
+    if !said.is_empty() {
+        told.extend_from_slice(b": ")?;
+        told.extend_from_slice(said.strip_suffix(b"\n").unwrap_or(b"no line feed"))?;
+    }
+    Ok(told)
+}
