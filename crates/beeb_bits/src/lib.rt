@@ -26,6 +26,9 @@ pub enum Side {
 #[error("no memory")]
 pub struct NoMemory;
 
+/// What can be sent to a thread of its own.
+pub trait Crosses: Send {}
+
 /// Bit `n` of `v`, where bit 0 is the lowest.
 pub fn bit(v: u8, n: u8) -> bool
     requires { n < 8 }

@@ -4,7 +4,7 @@
 mod machine;
 mod memory;
 
-pub use machine::{Crosses, ParaError, ParaMachine};
+pub use machine::{ParaError, ParaMachine};
 
 #[cfg(test)]
 mod tests;

@@ -9,7 +9,7 @@ ghost use Rattle.para_mach.specs.Lawful.{para_lawful, para_permitted};
 ghost use Rattle.para_mach.specs.Told.{IsDone, IsAskedByte, lag_by};
 
 use crate::memory::{Memory, ROM_SIZE};
-use beeb_bits::Tick;
+use beeb_bits::{Crosses, Tick};
 use cpu_alu::Regs;
 use cpu65c02::Cpu;
 use std::alloc::Global;
@@ -64,9 +64,6 @@ impl Model for ParaMachine {
 
     ghost invariant = { λ m. m.is_held ≡ true → is_none (next m.cpu) ≡ true };
 }
-
-/// What can be sent to a thread of its own.
-pub trait Crosses: Send {}
 
 impl Crosses for ParaMachine {}
 

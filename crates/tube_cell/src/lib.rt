@@ -5,10 +5,8 @@ mod cell;
 mod rule;
 mod words;
 
+use beeb_bits::Crosses;
 pub use cell::{Pass, TubeCell, Whole};
-
-/// What can be sent to a thread of its own.
-pub trait Crosses: Send {}
 
 impl Crosses for TubeCell {}
 
