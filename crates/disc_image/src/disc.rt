@@ -116,6 +116,7 @@ impl Disc {
 
     /// Writes byte `at` of a sector, and answers whether the kind has that sector. The first byte that is written to a sector past the
     /// image's end makes the image as long as that sector's end.
+    #[tactic(auto, using(crate::proofs::Shown::put_is))]
     pub fn put_byte(&mut self, side: u8, track: u8, sector: u8, at: u8, v: u8) -> bool
         ensures has { result ≡ has_sector self.old.kind side track sector }
         ensures disc { self.new ≡ byte_put side track sector at v self.old }

@@ -15,19 +15,21 @@ const KEYS: usize = 128;
 #[derive(Drop)]
 pub struct Keys {
     down: [bool; 128],
-    // A key of rows 1 to 7 is down: it is asked for in each microsecond.
+    // A key of rows 1 to 7 is down, in each column and in any: it is asked for in each microsecond.
+    columns: [bool; 16],
     is_any_down: bool,
 }
 
 impl Model for Keys {
     ghost use Rattle.std.specs.Prelude.{◌≡◌, Bool, List, None};
     ghost use Rattle.keyboard.specs.Keys.{keys_of, any};
+    ghost use Rattle.keyboard.specs.Columns.{AreColumns};
 
     ghost Value = { List Bool };
 
     ghost view = { λ s. s.down };
 
-    ghost invariant = { λ s. s.is_any_down ≡ any None (keys_of s.down) };
+    ghost invariant = { λ s. (s.is_any_down ≡ any None (keys_of s.down)) × AreColumns s.columns (keys_of s.down) };
 }
 
 // A key of rows 1 to 7 is down in this column.
@@ -61,6 +63,7 @@ impl Keys {
     {
         Keys {
             down: [false; 128],
+            columns: [false; 16],
             is_any_down: false,
         }
     }
@@ -71,6 +74,8 @@ impl Keys {
         ensures { keys_of self.new ≡ with_key key down (keys_of self.old) }
     {
         self.down[usize::from(key)] = down;
+        let column = key % 16;
+        self.columns[usize::from(column)] = is_any_in(&self.down, column);
         self.is_any_down = is_any(&self.down);
     }
 
@@ -88,7 +93,7 @@ impl Keys {
         ensures { result ≡ any column (keys_of self.now) }
     {
         match column {
-            Some(column) => is_any_in(&self.down, column),
+            Some(column) => self.columns[usize::from(column)],
             None => self.is_any_down,
         }
     }
@@ -106,6 +111,9 @@ impl Keys {
     pub fn ca2(&self, latch: &Latch, port_a: u8) -> bool
         ensures { result ≡ ca2 latch.now.bits port_a (keys_of self.now) }
     {
+        if !self.is_any_down {
+            return false;
+        }
         if latch.scans_itself() {
             self.any(None)
         } else {

@@ -1,25 +1,26 @@
 //! The levels of the control lines, and their edges.
 ghost use Rattle.std.specs.Prelude.{◌≡◌};
 ghost use Rattle.via6522.specs.Lines.{is_edge, levels_of};
+ghost use Rattle.via6522.specs.Quiet.{levels_in};
 
 use crate::Pins;
+use crate::causes::weight;
 use std::marker::Model;
 
 /// The levels that the four lines had in a step.
 #[derive(Drop)]
 pub(crate) struct Levels {
-    pub(crate) ca1: bool,
-    pub(crate) ca2: bool,
-    pub(crate) cb1: bool,
-    pub(crate) cb2: bool,
+    // CA1, CA2, CB1 and CB2 from bit 0 up, so that all are compared at once.
+    pub(crate) lines: u8,
 }
 
 impl Model for Levels {
     ghost use Rattle.via6522.specs.State.{Levels};
+    ghost use Rattle.via6522.specs.Quiet.{levels_in};
 
     ghost Value = { Levels };
 
-    ghost view = { λ s. record { ca1 = s.ca1; ca2 = s.ca2; cb1 = s.cb1; cb2 = s.cb2 } };
+    ghost view = { λ s. levels_in s.lines };
 }
 
 /// The line rose, where its active edge is up, or fell, where it is down.
@@ -29,14 +30,10 @@ pub(crate) fn is_edge(up: bool, before: bool, now: bool) -> bool
     if up { !before && now } else { before && !now }
 }
 
-/// The levels of the pins.
-pub(crate) fn levels_of(pins: Pins) -> Levels
-    ensures { result ≡ levels_of pins }
+/// The levels of the pins, a bit each.
+#[inline(always)]
+pub(crate) fn lines_of(pins: Pins) -> u8
+    ensures { levels_in result ≡ levels_of pins }
 {
-    Levels {
-        ca1: pins.ca1,
-        ca2: pins.ca2,
-        cb1: pins.cb1,
-        cb2: pins.cb2,
-    }
+    weight(1, pins.ca1) + weight(2, pins.ca2) + weight(4, pins.cb1) + weight(8, pins.cb2)
 }

@@ -2,8 +2,10 @@
 #![tactic(auto)]
 
 mod causes;
+mod chip;
 mod law;
 mod levels;
+mod quiet;
 mod timer1;
 mod timer2;
 mod via;

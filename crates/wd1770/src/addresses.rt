@@ -3,8 +3,8 @@ ghost use Rattle.std.specs.Prelude.{◌≡◌, ◌≤◌, ◌<◌, Some};
 ghost use Rattle.wd1770.specs.Addresses.{is_address, address_search_step, address_at, address_step, address_of};
 
 use crate::command::Command;
+use crate::controller::Controller;
 use crate::drive::Target;
-use crate::fdc::Fdc;
 use crate::sectors::{PLACE_TIME, SECTOR_PLACES, places_into};
 use beeb_bits::bit;
 
@@ -22,7 +22,7 @@ const LAST_PLACE: u32 = 12;
 /// The place of a sector at which the command ends.
 const END_PLACE: u32 = 14;
 
-impl Fdc {
+impl Controller {
     pub(crate) fn address_of(&self) -> Command
         ensures { result ≡ address_of self.now }
     {

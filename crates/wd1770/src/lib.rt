@@ -6,8 +6,10 @@
 
 mod addresses;
 mod command;
+mod controller;
 mod drive;
 mod fdc;
+mod lapse;
 mod law;
 mod motion;
 mod sectors;

@@ -3,8 +3,8 @@ ghost use Rattle.std.specs.Prelude.{◌≡◌, ◌≤◌, ◌<◌};
 ghost use Rattle.wd1770.specs.Motion.{step_time, moving, restore, difference, seek, step_once, motion_of, head_after, track_after, moved, motion_step};
 
 use crate::command::{Command, Motion, TrackChange};
+use crate::controller::Controller;
 use crate::drive::{drive_or_0, drive_selected};
-use crate::fdc::Fdc;
 use beeb_bits::bit;
 
 /// The innermost track that a head can reach.
@@ -30,7 +30,7 @@ fn difference(a: u8, b: u8) -> u8
     a.max(b) - a.min(b)
 }
 
-impl Fdc {
+impl Controller {
     /// The type I command that is written.
     pub(crate) fn motion_of(&self, v: u8) -> Command
         ensures { result ≡ motion_of v self.now }

@@ -3,8 +3,8 @@ ghost use Rattle.std.specs.Prelude.{◌≡◌, ◌<◌, ◌-◌, true, false, So
 ghost use Rattle.wd1770.specs.Sectors.{searching, transfer_of, sectors_of, settle_step, is_found, search_step, places_into, is_byte_place, sector_ended, byte_came, written_in, byte_written, reading_at, writing_at, transfer_step};
 
 use crate::command::{Command, Transfer};
+use crate::controller::Controller;
 use crate::drive::{DriveNumber, Target};
-use crate::fdc::Fdc;
 use beeb_bits::bit;
 
 /// How many microseconds a place takes to pass.
@@ -65,7 +65,7 @@ fn byte_place(first: u32, place: u32) -> Option<u8>
     }
 }
 
-impl Fdc {
+impl Controller {
     /// The type II command that is written.
     pub(crate) fn sectors_of(&self, v: u8) -> Command
         ensures { result ≡ sectors_of v self.now }

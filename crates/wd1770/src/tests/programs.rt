@@ -129,8 +129,8 @@ pub(crate) const PROGRAMS: [&str; 106] = [
     "empty L=29 2=02 0=A0 +40705 3=5A +1151 d0#0 +1 d0#768 d0:5A@512 d0:00@767 0=D0 d0#768",
     "empty L=29 2=02 0=A0 +41345 int 0?86 d0#0",
     "empty L=29 2=02 0=80 +41985 drq 3?00 d0#0",
-    // A write on side 1 of drive 1.
-    "both L=2E 0=A0 +769 3=77 +1152 d1:77@2560 d0:0A@2560",
+    // A write on side 1 of drive 1, a read of it back, and a read of side 0, which is as before.
+    "both L=2E 0=A0 +769 3=77 +1152 d1:77@2560 d0:0A@2560 w78 +192 int 0=80 +183551 no-drq +1 drq r77 +64 int L=2A 0=80 +183551 no-drq +1 drq r00 +64 int 0?80",
     // Read address: the next sector, its six bytes, and the sector register at the end.
     "ssd +1 L=29 2=44 0=C0 +20415 no-drq +1 drq 3?00 +64 3?00 +64 3?01 +64 3?01 +64 3?00 +64 3?00 no-drq +127 2?44 0?81 +1 int 2?00 0?80 n7",
     "both L=2E 3=02 0=10 +12000 0=C4 +8416 no-drq +1 drq 3?02 +64 3?01 +64 3?01 +64 3?01 +64 3?00 +64 3?00 +128 int 2?02 0?80",

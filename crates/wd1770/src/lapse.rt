@@ -1,0 +1,97 @@
+//! Steps at which nothing comes but that the discs turn and time passes.
+ghost use Rattle.std.specs.Prelude.{◌≡◌, ◌≤◌, ◌<◌};
+ghost use Rattle.wd1770.specs.Quiet.{angle_later, command_later, motor_later, later, steps_between, quiet_steps};
+
+use crate::command::Command;
+use crate::controller::{Controller, TURN_TIME, next_angle};
+use crate::sectors::PLACE_TIME;
+
+/// The angle `n` steps later.
+pub(crate) fn angle_later(n: u32, angle: Option<u32>) -> Option<u32>
+    ensures { result ≡ angle_later n angle }
+{
+    if n == 0 {
+        return angle;
+    }
+    let turned = u64::from(next_angle(angle)) + u64::from(n - 1);
+    Some((turned % u64::from(TURN_TIME)) as u32)
+}
+
+/// How many steps there are before the next place passes.
+fn steps_between(angle: Option<u32>) -> u32
+    ensures { result ≡ steps_between angle }
+{
+    match angle {
+        None => 0,
+        Some(angle) => PLACE_TIME - 1 - angle % PLACE_TIME,
+    }
+}
+
+impl Command {
+    /// The command `n` steps later, where nothing came.
+    fn later(self, n: u32) -> Command
+        ensures { result ≡ command_later n self }
+    {
+        match self {
+            Command::Moving(motion, left) => Command::Moving(motion, left.saturating_sub(n)),
+            Command::Settling(transfer, left) => Command::Settling(
+                transfer,
+                left.saturating_sub(n),
+            ),
+            Command::Searching(transfer, left) => {
+                Command::Searching(transfer, left.saturating_sub(n))
+            }
+            Command::SeekingAddress(target, left) => {
+                Command::SeekingAddress(target, left.saturating_sub(n))
+            }
+            Command::Idle
+            | Command::Transferring(..)
+            | Command::GivingAddress(..)
+            | Command::Refusing => self,
+        }
+    }
+
+    /// The motor's time `n` steps later.
+    fn motor_later(self, n: u32, motor: u32) -> u32
+        ensures { result ≡ motor_later n self motor }
+    {
+        if self.is_busy() {
+            motor
+        } else {
+            motor.saturating_sub(n)
+        }
+    }
+
+    /// A number of steps at which nothing comes.
+    fn quiet_steps(self, angle: Option<u32>) -> u32
+        ensures { result ≡ quiet_steps self angle }
+    {
+        match self {
+            Command::Idle => u32::MAX,
+            Command::Moving(_, left) | Command::Settling(_, left) => left.saturating_sub(1),
+            Command::Searching(_, left) | Command::SeekingAddress(_, left) => {
+                left.saturating_sub(1).min(steps_between(angle))
+            }
+            Command::Transferring(..) | Command::GivingAddress(..) => steps_between(angle),
+            Command::Refusing => 0,
+        }
+    }
+}
+
+impl Controller {
+    /// Does `n` steps at which nothing comes.
+    pub(crate) fn pass(&mut self, n: u32)
+        ensures { self.new ≡ later n self.old }
+    {
+        self.angle = angle_later(n, self.angle);
+        self.motor = self.command.motor_later(n, self.motor);
+        self.command = self.command.later(n);
+    }
+
+    /// A number of steps from here on at which nothing comes.
+    pub(crate) fn quiet_steps(&self) -> u32
+        ensures { result ≡ quiet_steps (self.now).command (self.now).angle }
+    {
+        self.command.quiet_steps(self.angle)
+    }
+}
