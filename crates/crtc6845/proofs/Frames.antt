@@ -8,7 +8,7 @@ use Rattle.crtc6845.specs.Clock.{started, ends_line, is_row_done, is_last_line, 
 use Rattle.crtc6845.specs.Laws.{clocks, line_characters, row_lines, frame_lines, frame_clocks, HaveTheirBits, BeginsFrame}
 use Rattle.crtc6845.proofs.Lines.{test_true, test_false, started-kept, started-character, started-registers, counted-registers, clocked-inner, clocked-last}
 
-mul_more : (a b : ℕ) → (a + 1) * b ≡ a * b + b
+pub mul_more : (a b : ℕ) → (a + 1) * b ≡ a * b + b
 mul_more a b = grind arith
 
 -- What the registers make of a row: its rasters go in these steps to the last one.
@@ -77,19 +77,19 @@ restarts_at : (r : Registers) (l : ℕ) (last : Bool) (d e : State) → l + 1 �
 restarts_at r l last d e end done is at = inr (end, done, subst (λ (s : State). IsAt r 0 s) (sym is) at)
 
 -- which of the ends of a line it is
-raster_line : (c : State) → is_row_done c ≡ false → row_line_ended c ≡ raster_begun c
+pub raster_line : (c : State) → is_row_done c ≡ false → row_line_ended c ≡ raster_begun c
 raster_line c h = rw h refl
 
 raster_last : (c : State) → is_row_done c ≡ false → is_last_line_in None c ≡ false
 raster_last c h = rw h refl
 
-row_line : (c : State) → is_row_done c ≡ true → (c.row == c.registers.vertical_total) ≡ false → row_line_ended c ≡ row_begun c
+pub row_line : (c : State) → is_row_done c ≡ true → (c.row == c.registers.vertical_total) ≡ false → row_line_ended c ≡ row_begun c
 row_line c h g = rw (h, g) refl
 
 row_last : (c : State) → is_row_done c ≡ true → (c.row == c.registers.vertical_total) ≡ false → is_last_line_in None c ≡ false
 row_last c h g = rw (h, g) refl
 
-rows_line : (c : State) (b : Bool) → is_row_done c ≡ true → (c.row == c.registers.vertical_total) ≡ true → (c.registers.vertical_adjust == 0) ≡ b →
+pub rows_line : (c : State) (b : Bool) → is_row_done c ≡ true → (c.row == c.registers.vertical_total) ≡ true → (c.registers.vertical_adjust == 0) ≡ b →
     row_line_ended c ≡ (if b then frame_begun c else adjust_begun c)
 rows_line c b h g z = rw (h, g, z) refl
 
@@ -158,7 +158,7 @@ rows_end c l k steps at end last =
           (0, first_line r)
     ]
 
-adjust_line : (c : State) (a : ℕ) (b : Bool) → ((a + 1) % 32 == c.registers.vertical_adjust) ≡ b →
+pub adjust_line : (c : State) (a : ℕ) (b : Bool) → ((a + 1) % 32 == c.registers.vertical_adjust) ≡ b →
     adjust_line_ended a c ≡ (if b then frame_begun c else record c { adjust = Some ((a + 1) % 32) })
 adjust_line c a b h = rw h refl
 
@@ -198,7 +198,7 @@ line_ends_in (Some a) c l none bits steps at = adjust_on c l a at bits.vertical_
 pub line_ends : (c : State) (l : ℕ) → HaveTheirBits c.registers → IsAt c.registers l c → Outcome c.registers l (is_last_line c) (line_ended c)
 line_ends c l bits at = line_ends_in c.adjust c l refl bits (steps_by (is_interlaced c.registers) c.registers refl bits.maximum_raster) at
 
-more_mul : (a b : ℕ) → a * (b + 1) ≡ a * b + a
+pub more_mul : (a b : ℕ) → a * (b + 1) ≡ a * b + a
 more_mul a b = grind arith
 
 and_false : (b x : Bool) → b ≡ false → (b && x) ≡ false
@@ -231,7 +231,7 @@ Next r j c =
     ((ends_frame (started c) ≡ false) × (j + 1 < frame_clocks r) × ((l : ℕ) × ((h : ℕ) × ((line_characters r * l + h ≡ j + 1) × IsClock r l h (clocked c)))))
     ⊎ ((ends_frame (started c) ≡ true) × (j + 1 ≡ frame_clocks r) × IsClock r 0 0 (clocked c))
 
-next_inner : (r : Registers) (l h : ℕ) (c : State) → HaveTheirBits r → IsClock r l h c → h < r.horizontal_total → Next r (line_characters r * l + h) c
+pub next_inner : (r : Registers) (l h : ℕ) (c : State) → HaveTheirBits r → IsClock r l h c → h < r.horizontal_total → Next r (line_characters r * l + h) c
 next_inner r l h c bits at inner =
     let total : c.registers.horizontal_total ≡ r.horizontal_total = ap (λ (q : Registers). q.horizontal_total) at.regs in
     let same : (started c).registers.horizontal_total ≡ c.registers.horizontal_total = ap (λ (q : Registers). q.horizontal_total) (started-registers c) in
@@ -264,7 +264,7 @@ next_inner r l h c bits at inner =
       ),
     )
 
-next_last : (r : Registers) (l h : ℕ) (c : State) → HaveTheirBits r → IsClock r l h c → h ≡ r.horizontal_total → Next r (line_characters r * l + h) c
+pub next_last : (r : Registers) (l h : ℕ) (c : State) → HaveTheirBits r → IsClock r l h c → h ≡ r.horizontal_total → Next r (line_characters r * l + h) c
 next_last r l h c bits at end =
     let total : c.registers.horizontal_total ≡ r.horizontal_total = ap (λ (q : Registers). q.horizontal_total) at.regs in
     let same : (started c).registers.horizontal_total ≡ c.registers.horizontal_total = ap (λ (q : Registers). q.horizontal_total) (started-registers c) in

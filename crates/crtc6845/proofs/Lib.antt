@@ -1,2 +1,7 @@
 pub mod Lines
 pub mod Frames
+pub mod Places
+pub mod SyncLines
+pub mod Sync
+pub mod Addresses
+pub mod SyncHeight

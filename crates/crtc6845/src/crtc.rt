@@ -1,7 +1,8 @@
 //! The chip.
-ghost use Rattle.std.specs.Prelude.{◌≡◌, ◌<◌, ◌==◌, if◌then◌else◌};
+ghost use Rattle.std.specs.Prelude.{◌≡◌, ◌<◌, ◌==◌, ◌||◌, false, if◌then◌else◌};
 ghost use Rattle.crtc6845.specs.State.{power_on};
 ghost use Rattle.crtc6845.specs.Registers.{select_leaves, set_leaves, answer_of};
+ghost use Rattle.crtc6845.specs.Steps.{cursor_is_on, ends_row_line};
 ghost use Rattle.crtc6845.specs.Clock.{starts_line, begins_sync, sync_counted, line_started, is_shown, blinks_on, has_cursor, address, ends_row, ends_frame, ends_line, is_row_done, are_rows_done, is_last_line, row_line_ended, adjust_line_ended, frame_begun, adjust_begun, line_ended, counted, clocked, beam_of, is_in_sync};
 
 use crate::Beam;
@@ -101,8 +102,8 @@ impl Crtc {
         match self.selected {
             12 => self.registers.start_high,
             13 => self.registers.start_low,
-            14 => self.registers.cursor_high,
-            15 => self.registers.cursor_low,
+            14 => self.registers.cursor_high(),
+            15 => self.registers.cursor_low(),
             _ => 0,
         }
     }
@@ -121,7 +122,20 @@ impl Crtc {
         ensures beam { result ≡ beam_of self.old }
         ensures state { self.new ≡ clocked self.old }
     {
-        let line_start = self.character == 0;
+        if self.is_edge() {
+            self.clock_at_edge()
+        } else {
+            self.clock_inside()
+        }
+    }
+
+    // The first or the last clock of a line.
+    #[inline(never)]
+    fn clock_at_edge(&mut self) -> Beam
+        ensures beam { result ≡ beam_of self.old }
+        ensures state { self.new ≡ clocked self.old }
+    {
+        let line_start = self.starts_line();
         let frame_end = line_start && self.start_line();
         let beam = Beam {
             shown: self.is_shown(),
@@ -139,7 +153,48 @@ impl Crtc {
         beam
     }
 
+    /// Does one character clock, and tells it, where `is_edge` is false.
+    #[inline(always)]
+    pub fn clock_inside(&mut self) -> Beam
+        requires start { starts_line self.old ≡ false }
+        requires end { ends_line self.old ≡ false }
+        ensures beam { result ≡ beam_of self.old }
+        ensures state { self.new ≡ clocked self.old }
+        ensures inside { (result.line_start ≡ false) × (result.frame_end ≡ false) × (result.row_end ≡ false) × (result.restart ≡ false) }
+    {
+        let beam = Beam {
+            shown: self.is_shown(),
+            ma: self.address(),
+            ra: self.raster,
+            cursor: self.has_cursor(),
+            line_start: false,
+            sync_start: self.character == self.registers.horizontal_sync_position,
+            frame_end: false,
+            fields: self.fields,
+            row_end: false,
+            restart: false,
+        };
+        self.character = self.character.wrapping_add(1);
+        beam
+    }
+
+    /// The next character is the first or the last of its line: a line, a row or a frame may begin or end with it.
+    #[inline(always)]
+    pub fn is_edge(&self) -> bool
+        ensures { result ≡ (starts_line self.now || ends_line self.now) }
+    {
+        self.starts_line() || self.ends_line()
+    }
+
+    #[inline(always)]
+    fn starts_line(&self) -> bool
+        ensures { result ≡ starts_line self.now }
+    {
+        self.character == 0
+    }
+
     // At the start of a line: vertical sync goes on, or begins.
+    #[inline(never)]
     fn start_line(&mut self) -> bool
         ensures begins { result ≡ begins_sync (sync_counted self.old) }
         ensures state { self.new ≡ line_started self.old }
@@ -182,9 +237,15 @@ impl Crtc {
     fn has_cursor(&self) -> bool
         ensures { result ≡ has_cursor self.now }
     {
-        self.is_shown()
-            && self.address() == self.registers.cursor_address()
-            && self.registers.cursor_start % 32 <= self.raster
+        self.is_shown() && self.address() == self.registers.cursor_address() && self.cursor_is_on()
+    }
+
+    // The cursor is on this raster, and blinks on.
+    #[inline(never)]
+    fn cursor_is_on(&self) -> bool
+        ensures { result ≡ cursor_is_on self.now }
+    {
+        self.registers.cursor_start % 32 <= self.raster
             && self.raster <= self.registers.cursor_end
             && blinks_on(self.registers.cursor_start, self.fields)
     }
@@ -201,7 +262,15 @@ impl Crtc {
     fn ends_row(&self) -> bool
         ensures { result ≡ ends_row self.now }
     {
-        self.ends_line() && self.adjust.is_none() && self.is_row_done() && !self.is_last_line()
+        self.ends_line() && self.ends_row_line()
+    }
+
+    // The line is the last of its row, and another row follows.
+    #[inline(never)]
+    fn ends_row_line(&self) -> bool
+        ensures { result ≡ ends_row_line self.now }
+    {
+        self.adjust.is_none() && self.is_row_done() && !self.is_last_line()
     }
 
     // A new frame begins after this character.
@@ -213,6 +282,7 @@ impl Crtc {
     }
 
     // The line is the last of its frame.
+    #[inline(never)]
     fn is_last_line(&self) -> bool
         ensures { result ≡ is_last_line self.now }
     {
@@ -246,6 +316,7 @@ impl Crtc {
         }
     }
 
+    #[inline(never)]
     fn end_line(&mut self)
         ensures { self.new ≡ line_ended self.old }
     {

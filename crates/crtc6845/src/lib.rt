@@ -6,7 +6,11 @@ mod law;
 mod registers;
 
 pub use crtc::Crtc;
-pub use law::{frames_have_their_clocks, lines_have_their_characters, sync_comes_in_each_line};
+pub use law::{
+    frames_have_their_clocks, lines_have_their_characters, no_sync_beyond_the_rows,
+    shown_addresses_count, sync_comes_in_each_line, vertical_sync_comes_in_each_frame,
+    vertical_sync_has_its_lines,
+};
 
 /// What one character clock tells.
 #[derive(Clone, Copy, Debug, PartialEq, Eq)]

@@ -23,12 +23,12 @@ pub(crate) struct Registers {
     pub(crate) cursor_end: u8,
     pub(crate) start_high: u8,
     pub(crate) start_low: u8,
-    pub(crate) cursor_high: u8,
-    pub(crate) cursor_low: u8,
+    // R14 and R15, as the address that is compared with each character's.
+    pub(crate) cursor: u16,
 }
 
 impl Model for Registers {
-    ghost use Rattle.std.specs.Prelude.{◌<◌};
+    ghost use Rattle.std.specs.Prelude.{◌<◌, ◌/◌, ◌%◌};
     ghost use Rattle.crtc6845.specs.State.{Registers};
 
     ghost Value = { Registers };
@@ -48,11 +48,11 @@ impl Model for Registers {
       cursor_end = r.cursor_end;
       start_high = r.start_high;
       start_low = r.start_low;
-      cursor_high = r.cursor_high;
-      cursor_low = r.cursor_low;
+      cursor_high = r.cursor / 256;
+      cursor_low = r.cursor % 256;
     } };
 
-    ghost invariant = { λ r. (r.vertical_total < 128) × (r.start_high < 64) × (r.cursor_high < 64) };
+    ghost invariant = { λ r. (r.vertical_total < 128) × (r.start_high < 64) × (r.cursor < 16384) };
 }
 
 impl Registers {
@@ -74,8 +74,7 @@ impl Registers {
             cursor_end: 0,
             start_high: 0,
             start_low: 0,
-            cursor_high: 0,
-            cursor_low: 0,
+            cursor: 0,
         }
     }
 
@@ -98,8 +97,8 @@ impl Registers {
             11 => self.cursor_end = v % 32,
             12 => self.start_high = v % 64,
             13 => self.start_low = v,
-            14 => self.cursor_high = v % 64,
-            15 => self.cursor_low = v,
+            14 => self.cursor = 256 * u16::from(v % 64) + self.cursor % 256,
+            15 => self.cursor = 256 * (self.cursor / 256) + u16::from(v),
             _ => {}
         }
     }
@@ -117,7 +116,19 @@ impl Registers {
     pub(crate) fn cursor_address(&self) -> u16
         ensures { result ≡ cursor_address self.now }
     {
-        256 * u16::from(self.cursor_high) + u16::from(self.cursor_low)
+        self.cursor
+    }
+
+    pub(crate) fn cursor_high(&self) -> u8
+        ensures { result ≡ self.now.cursor_high }
+    {
+        (self.cursor / 256) as u8
+    }
+
+    pub(crate) fn cursor_low(&self) -> u8
+        ensures { result ≡ self.now.cursor_low }
+    {
+        (self.cursor % 256) as u8
     }
 
     /// How many lines vertical sync has.

@@ -1,6 +1,8 @@
 //! Whole frames, counted character by character, beside a computation from the registers.
 use crate::{
-    Beam, Crtc, frames_have_their_clocks, lines_have_their_characters, sync_comes_in_each_line,
+    Beam, Crtc, frames_have_their_clocks, lines_have_their_characters, no_sync_beyond_the_rows,
+    shown_addresses_count, sync_comes_in_each_line, vertical_sync_comes_in_each_frame,
+    vertical_sync_has_its_lines,
 };
 use std::process::Abort;
 
@@ -173,6 +175,10 @@ fn frames_are_as_the_registers_say(rt: HostRuntime) {
     lines_have_their_characters();
     sync_comes_in_each_line();
     frames_have_their_clocks();
+    vertical_sync_comes_in_each_frame();
+    no_sync_beyond_the_rows();
+    shown_addresses_count();
+    vertical_sync_has_its_lines();
     for registers in &SCREENS {
         let (clocks, want) = computed(registers);
         let mut crtc = chip(registers);

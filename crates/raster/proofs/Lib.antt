@@ -2,3 +2,5 @@ pub mod Blacks
 pub mod Drawing
 pub mod Marks
 pub mod Runs
+pub mod Eights
+pub mod Told

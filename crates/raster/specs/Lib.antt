@@ -4,3 +4,4 @@ pub mod Text
 pub mod State
 pub mod Clock
 pub mod Lending
+pub mod Steps

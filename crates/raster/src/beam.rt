@@ -29,14 +29,19 @@ pub(crate) struct Cursor {
     one_ago: bool,
     two_ago: bool,
     three_ago: bool,
+    // It was on one of them, which is seldom.
+    is_near: bool,
 }
 
 impl Model for Cursor {
+    ghost use Rattle.std.specs.Prelude.{◌≡◌, ◌||◌};
     ghost use Rattle.raster.specs.Beam.{Cursor};
 
     ghost Value = { Cursor };
 
     ghost view = { λ c. record { one_ago = c.one_ago; two_ago = c.two_ago; three_ago = c.three_ago } };
+
+    ghost invariant = { λ c. c.is_near ≡ (c.one_ago || c.two_ago || c.three_ago) };
 }
 
 impl Cursor {
@@ -47,12 +52,20 @@ impl Cursor {
             one_ago: false,
             two_ago: false,
             three_ago: false,
+            is_near: false,
         }
     }
 
     /// The cursor marks the character that the beam is on.
     #[inline(always)]
     pub(crate) fn is_marked(&self, control: u8, here: bool) -> bool
+        ensures { result ≡ is_marked control here self.now }
+    {
+        (here || self.is_near) && self.marks(control, here)
+    }
+
+    #[inline(never)]
+    fn marks(&self, control: u8, here: bool) -> bool
         ensures { result ≡ is_marked control here self.now }
     {
         if bit(control, 1) {
@@ -69,6 +82,16 @@ impl Cursor {
     pub(crate) fn pass(&mut self, here: bool)
         ensures { self.new ≡ cursor_past here self.old }
     {
+        if here || self.is_near {
+            self.shift(here);
+        }
+    }
+
+    #[inline(never)]
+    fn shift(&mut self, here: bool)
+        ensures { self.new ≡ cursor_past here self.old }
+    {
+        self.is_near = here || self.one_ago || self.two_ago;
         self.three_ago = self.two_ago;
         self.two_ago = self.one_ago;
         self.one_ago = here;

@@ -1,5 +1,5 @@
 //! A frame that is drawn or shown, and whether it is still black.
-ghost use Rattle.std.specs.Prelude.{◌≡◌, ◌≤◌, ◌%◌, length, take, IfOk, if◌then◌else◌};
+ghost use Rattle.std.specs.Prelude.{◌≡◌, ◌≤◌, ◌%◌, ◌++◌, length, take, IfOk, if◌then◌else◌};
 ghost use Rattle.raster.specs.Frame.{black, is_in_frame, dots_set};
 
 use crate::frame::Frame;
@@ -80,6 +80,26 @@ impl Picture {
             self.is_clear = false;
             self.frame.put_eight(at, dots);
         }
+    }
+
+    /// Draws the 8 dots of a character.
+    #[inline(always)]
+    pub(crate) fn draw_narrow(&mut self, left: u16, place: &Place, dots: &[u8; 8])
+        requires { (left ≤ 240) × (left % 8 ≡ 0) }
+        ensures { self.new ≡ dots_set left place.now.x place.now.y dots.now self.old }
+    {
+        self.draw_eight(left, 8 * place.eights, place.y, dots);
+    }
+
+    /// Draws the 16 dots of a character.
+    #[inline(always)]
+    pub(crate) fn draw_wide(&mut self, left: u16, place: &Place, first: &[u8; 8], last: &[u8; 8])
+        requires { (left ≤ 240) × (left % 8 ≡ 0) }
+        ensures { self.new ≡ dots_set left place.now.x place.now.y (first.now ++ last.now) self.old }
+    {
+        let x = 8 * place.eights;
+        self.draw_eight(left, x, place.y, first);
+        self.draw_eight(left, x + 8, place.y, last);
     }
 
     /// Draws the 8 or 16 dots of a character.

@@ -39,7 +39,6 @@ impl Place {
     }
 
     /// The beam comes to a character.
-    #[inline(always)]
     pub(crate) fn meet(&mut self, beam: &Beam)
         ensures { self.new ≡ place_at beam.now self.old }
     {
@@ -49,8 +48,16 @@ impl Place {
             self.y = (self.y + 1).min(MOST_LINES);
         }
         if beam.sync_start {
-            self.eights = 0;
+            self.start_sync();
         }
+    }
+
+    /// Horizontal sync begins.
+    #[inline(always)]
+    pub(crate) fn start_sync(&mut self)
+        ensures { self.new ≡ record self.old { x = 0 } }
+    {
+        self.eights = 0;
     }
 
     /// It leaves a character of 8 or 16 dots.

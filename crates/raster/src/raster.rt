@@ -1,12 +1,14 @@
 //! The raster.
-ghost use Rattle.std.specs.Prelude.{◌≡◌, ◌<◌, ◌%◌, length, map, take, IfOk, if◌then◌else◌};
+ghost use Rattle.std.specs.Prelude.{◌≡◌, ◌<◌, ◌%◌, false, length, map, take, IfOk, if◌then◌else◌};
 ghost use Rattle.std.specs.Borrow.{sem};
 ghost use Rattle.beeb_bits.specs.Bits.{bit};
-ghost use Rattle.video_ula.specs.Pixels.{dots_of, under_cursor};
+ghost use Rattle.video_ula.specs.Pixels.{dots_of, under_cursor, colours};
+ghost use Rattle.crtc6845.specs.Clock.{starts_line, ends_line};
 ghost use Rattle.raster.specs.Beam.{IsScreenSize};
 ghost use Rattle.raster.specs.Frame.{black};
 ghost use Rattle.raster.specs.State.{power_on};
 ghost use Rattle.raster.specs.Lending.{LendsCrtc, LendsUla};
+ghost use Rattle.raster.specs.Steps.{eight_of, dots_drawn, cell_drawn_on};
 ghost use Rattle.raster.specs.Clock.{begun, byte_dots, byte_drawn, cell_dots, cell_drawn, drawn, shown, passed, told, char_clocked, microsecond, microseconds, vsync_of};
 
 use crate::beam::{Cursor, byte_address};
@@ -55,16 +57,26 @@ impl Model for Raster {
     } };
 }
 
-// The dots of a byte: its first 8 where the character is narrow, else 16.
-#[inline(always)]
-fn byte_dots(ula: &Ula, byte: u8, ra: u8, marked: bool) -> [u8; 16]
-    ensures { take (dots_of ula.now.control) result ≡ byte_dots ula.now byte ra marked }
+// The first eight dots of a byte.
+fn first_dots(ula: &Ula, byte: u8, ra: u8, marked: bool) -> [u8; 8]
+    ensures { result ≡ eight_of 0 ula.now byte ra marked }
 {
-    let mut dots = [if marked { 7 } else { 0 }; 16];
-    if !bit(ra, 3) {
-        ula.pixels(byte, marked, &mut dots);
+    if bit(ra, 3) {
+        [if marked { 7 } else { 0 }; 8]
+    } else {
+        ula.first_eight(byte, marked)
     }
-    dots
+}
+
+// The last eight of sixteen.
+fn last_dots(ula: &Ula, byte: u8, ra: u8, marked: bool) -> [u8; 8]
+    ensures { result ≡ eight_of 8 ula.now byte ra marked }
+{
+    if bit(ra, 3) {
+        [if marked { 7 } else { 0 }; 8]
+    } else {
+        ula.last_eight(byte, marked)
+    }
 }
 
 // The colours of a cell, inverted where the cursor marks it.
@@ -137,14 +149,55 @@ impl Raster {
         requires size { IsScreenSize size }
         ensures { self.new ≡ char_clocked ram.now size font.now.font self.old }
     {
+        if self.crtc.is_edge() {
+            self.clock_at_edge(ram, size, font);
+        } else {
+            self.clock_inside(ram, size, font);
+        }
+    }
+
+    // Any character clock.
+    #[inline(never)]
+    fn clock_at_edge(&mut self, ram: &[u8], size: u16, font: &RomSet)
+        requires ram { length ram.now ≡ 32768 }
+        requires size { IsScreenSize size }
+        ensures { self.new ≡ char_clocked ram.now size font.now.font self.old }
+    {
         let beam = self.crtc.clock();
         self.begin(&beam);
         self.show(ram, size, font, &beam);
         self.pass(&beam);
     }
 
-    // The beam comes to a character.
+    // One inside a line.
     #[inline(always)]
+    fn clock_inside(&mut self, ram: &[u8], size: u16, font: &RomSet)
+        requires ram { length ram.now ≡ 32768 }
+        requires size { IsScreenSize size }
+        requires inside { (starts_line self.old.crtc ≡ false) × (ends_line self.old.crtc ≡ false) }
+        ensures { self.new ≡ char_clocked ram.now size font.now.font self.old }
+    {
+        let beam = self.crtc.clock_inside();
+        self.tell_inside(ram, size, font, &beam);
+    }
+
+    // The beam goes past a character with which neither a line nor a row nor a frame begins or ends.
+    #[inline(always)]
+    fn tell_inside(&mut self, ram: &[u8], size: u16, font: &RomSet, beam: &Beam)
+        requires ram { length ram.now ≡ 32768 }
+        requires size { IsScreenSize size }
+        requires inside { (beam.now.line_start ≡ false) × (beam.now.frame_end ≡ false) × (beam.now.row_end ≡ false) × (beam.now.restart ≡ false) }
+        ensures { self.new ≡ told ram.now size font.now.font beam.now self.old }
+    {
+        if beam.sync_start {
+            self.place.start_sync();
+        }
+        self.show(ram, size, font, beam);
+        self.place.pass(bit(self.ula.mode(), 4));
+        self.cursor.pass(beam.cursor);
+    }
+
+    // The beam comes to a character.
     fn begin(&mut self, beam: &Beam)
         ensures { self.new ≡ begun beam.now self.old }
     {
@@ -184,7 +237,8 @@ impl Raster {
     {
         let byte = ram[byte_address(beam.ma, beam.ra, size)];
         if bit(self.ula.mode(), 1) {
-            self.draw_cell(font, beam, byte % 128);
+            let marked = self.cursor.is_marked(self.ula.mode(), beam.cursor);
+            self.draw_cell(font, byte % 128, beam.ra, beam.fields, marked);
         } else {
             self.draw_byte(beam, byte);
         }
@@ -194,26 +248,59 @@ impl Raster {
     fn draw_byte(&mut self, beam: &Beam, byte: u8)
         ensures { self.new ≡ byte_drawn beam.now byte self.old }
     {
-        let control = self.ula.mode();
-        let marked = self.cursor.is_marked(control, beam.cursor);
-        let dots = byte_dots(&self.ula, byte, beam.ra, marked);
-        self.working.draw(LEFT, &self.place, &dots, bit(control, 4));
+        let marked = self.cursor.is_marked(self.ula.mode(), beam.cursor);
+        if marked || bit(beam.ra, 3) || !self.draw_ready(byte) {
+            self.draw_by_itself(byte, beam.ra, marked);
+        }
     }
 
-    fn draw_cell(&mut self, font: &RomSet, beam: &Beam, code: u8)
-        requires { code < 128 }
-        ensures { self.new ≡ cell_drawn font.now.font beam.now code self.old }
+    // Draws a byte that the cursor does not mark, if its dots are ready.
+    #[inline(always)]
+    fn draw_ready(&mut self, byte: u8) -> bool
+        ensures { self.new ≡ (if result then dots_drawn (colours self.old.ula byte false) self.old else self.old) }
     {
-        let control = self.ula.mode();
+        let Some(first) = self.ula.first_ready(byte) else {
+            return false;
+        };
+        if bit(self.ula.mode(), 4) {
+            self.working.draw_narrow(LEFT, &self.place, first);
+            return true;
+        }
+        let Some(last) = self.ula.last_ready(byte) else {
+            return false;
+        };
+        self.working.draw_wide(LEFT, &self.place, first, last);
+        true
+    }
+
+    // Draws any byte.
+    #[inline(never)]
+    fn draw_by_itself(&mut self, byte: u8, ra: u8, marked: bool)
+        ensures { self.new ≡ dots_drawn (byte_dots self.old.ula byte ra marked) self.old }
+    {
+        self.ula.prepare();
+        let first = first_dots(&self.ula, byte, ra, marked);
+        if bit(self.ula.mode(), 4) {
+            self.working.draw_narrow(LEFT, &self.place, &first);
+        } else {
+            let last = last_dots(&self.ula, byte, ra, marked);
+            self.working.draw_wide(LEFT, &self.place, &first, &last);
+        }
+    }
+
+    #[inline(never)]
+    fn draw_cell(&mut self, font: &RomSet, code: u8, ra: u8, fields: u32, marked: bool)
+        requires { code < 128 }
+        ensures { self.new ≡ cell_drawn_on font.now.font code ra fields marked self.old }
+    {
         let mut dots = [0; 16];
-        self.text.put(font, code, beam, &mut dots);
-        mark(&mut dots, self.cursor.is_marked(control, beam.cursor));
+        self.text.put(font, code, ra, fields, &mut dots);
+        mark(&mut dots, marked);
         self.working
-            .draw(TEXT_LEFT, &self.place, &dots, bit(control, 4));
+            .draw(TEXT_LEFT, &self.place, &dots, bit(self.ula.mode(), 4));
     }
 
     // The beam leaves the character.
-    #[inline(always)]
     fn pass(&mut self, beam: &Beam)
         ensures { self.new ≡ passed beam.now self.old }
     {
@@ -222,9 +309,10 @@ impl Raster {
         self.text.pass(beam);
     }
 
-    // One microsecond: two character clocks at 2 MHz, else one.
+    /// Does one microsecond: two character clocks where the ULA has set the clock of 2 MHz as it begins, else one. `ram` and `size` are as
+    /// at `char_clock`.
     #[inline(always)]
-    fn step(&mut self, ram: &[u8], size: u16, font: &RomSet)
+    pub fn step(&mut self, ram: &[u8], size: u16, font: &RomSet)
         requires ram { length ram.now ≡ 32768 }
         requires size { IsScreenSize size }
         ensures { self.new ≡ microsecond ram.now size font.now.font self.old }

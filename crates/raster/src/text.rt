@@ -1,6 +1,7 @@
 //! Teletext rows.
 ghost use Rattle.std.specs.Prelude.{◌≡◌, ◌<◌};
-ghost use Rattle.raster.specs.Text.{first_text, text_at, cell_of, text_after, text_past};
+ghost use Rattle.raster.specs.Text.{first_text, text_at, text_after, text_past};
+ghost use Rattle.raster.specs.Steps.{cell_on};
 
 use crtc6845::Beam;
 use rom_set::RomSet;
@@ -36,7 +37,6 @@ impl Text {
     }
 
     /// The beam comes to a character: the codes are taken from the start of each line.
-    #[inline(always)]
     pub(crate) fn meet(&mut self, beam: &Beam)
         ensures { self.new ≡ text_at beam.now self.old }
     {
@@ -46,19 +46,17 @@ impl Text {
     }
 
     /// Takes the code of a character that is shown, and gives its sixteen colours.
-    #[tactic(auto, unfolding(crate::specs::Text::codes_after, crate::specs::Text::cell_of))]
-    pub(crate) fn put(&mut self, font: &RomSet, code: u8, beam: &Beam, to: &mut [u8; 16])
+    #[tactic(auto, unfolding(crate::specs::Text::codes_after, crate::specs::Steps::cell_on))]
+    pub(crate) fn put(&mut self, font: &RomSet, code: u8, ra: u8, fields: u32, to: &mut [u8; 16])
         requires { code < 128 }
         ensures state { self.new ≡ text_after code self.old }
-        ensures colours { to.new ≡ cell_of font.now.font code beam.now self.old }
+        ensures colours { to.new ≡ cell_on font.now.font code ra fields self.old }
     {
-        self.codes
-            .put(font, code, beam.ra, self.bottom, beam.fields, to);
+        self.codes.put(font, code, ra, self.bottom, fields, to);
         self.doubled = self.doubled || self.codes.had_double();
     }
 
     /// The beam leaves the character, and the row or the frame may end with it.
-    #[inline(always)]
     pub(crate) fn pass(&mut self, beam: &Beam)
         ensures { self.new ≡ text_past beam.now self.old }
     {

@@ -1,8 +1,12 @@
 -- A row by the list of its codes.
-use Rattle.std.proofs.Common.{ℕ, ◌≡◌, ◌==◌, refl, ◌∙◌, Bool, true, false, ◌||◌, List, [], ◌∷◌, ◌++◌}
-use Rattle.std.specs.Prelude.{fold}
+use Rattle.std.proofs.Common.{ℕ, ◌≡◌, ◌==◌, ◌<◌, refl, ◌∙◌, Bool, true, false, not, ◌||◌, List, [], ◌∷◌, ◌++◌}
+use Rattle.std.specs.Prelude.{fold, nat_lt}
+use Rattle.std.proofs.lemmas.Bool.{agree_below_at}
+use Rattle.saa5050.specs.declared.style.Style.{Style}
+use Rattle.saa5050.specs.Controls.{controls, holds_at_once}
+use Rattle.saa5050.specs.Steps.{style_past}
 use Rattle.std.specs.List.{list_any}
-use Rattle.saa5050.specs.Row.{Row, row_after, row_start}
+use Rattle.saa5050.specs.Row.{Row, row_after, row_start, style_at, style_after}
 use Rattle.saa5050.specs.Laws.{OneCodeMore, DoubleIsAmongCodes}
 
 more-from : (row : Row) (codes : List ℕ) (code : ℕ) → fold (λ row code. row_after code row) row (codes ++ code ∷ []) ≡ row_after code (fold (λ row code. row_after code row) row codes)
@@ -26,3 +30,28 @@ double-from row (c ∷ codes) = double-from (row_after c row) codes ∙ or-assoc
 
 pub double_is_among_codes : DoubleIsAmongCodes
 double_is_among_codes codes = double-from row_start codes
+
+-- a code that holds for its own cell is a control code
+implied : Bool → Bool → Bool
+implied a b = not a || b
+
+follows_from : (a b : Bool) → implied a b ≡ true → a ≡ true → b ≡ true
+unfolding implied
+follows_from true true h e = refl
+follows_from true false h e = cc
+follows_from false b h e = cc
+
+at_once_below : (code : ℕ) → code < 128 → implied (holds_at_once controls code) (nat_lt code 0x20) ≡ true
+unfolding implied
+at_once_below code low = agree_below_at (λ k. implied (holds_at_once controls k) (nat_lt k 0x20)) (λ _. true) 128 code refl low
+
+two_parts : (code : ℕ) (s : Style) (b low : Bool) → holds_at_once controls code ≡ b → nat_lt code 0x20 ≡ low → (b ≡ true → low ≡ true) →
+    style_past code (style_at code s) ≡ style_after code s
+two_parts code s true true h l both = rw (h, l) refl
+two_parts code s true false h l both = cc (both refl)
+two_parts code s false low h l both = rw h refl
+
+-- what holds in the code's own cell, and what is left after it, are all of it
+pub in_two_parts : (code : ℕ) (s : Style) → code < 128 → style_past code (style_at code s) ≡ style_after code s
+in_two_parts code s low =
+    two_parts code s (holds_at_once controls code) (nat_lt code 0x20) refl refl (follows_from (holds_at_once controls code) (nat_lt code 0x20) (at_once_below code low))

@@ -3,3 +3,4 @@ pub mod Shapes
 pub mod Row
 pub mod Dots
 pub mod Laws
+pub mod Steps

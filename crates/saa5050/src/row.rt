@@ -3,7 +3,7 @@ ghost use Rattle.std.specs.Prelude.{◌≡◌, ◌<◌};
 ghost use Rattle.saa5050.specs.Row.{row_start, row_after, cell, styled_cell};
 
 use crate::dots::{half_dots, pixels};
-use crate::style::{Style, holds_at_once};
+use crate::style::Style;
 use rom_set::RomSet;
 use std::marker::Model;
 
@@ -52,6 +52,7 @@ impl RowState {
 
     /// Takes the next code of the row, below 80, and gives the sixteen colours of its cell on the scan line `ra`, the leftmost first.
     /// `bottom` says that the row has the lower halves of the row above, and flashing goes by the number of fields.
+    #[tactic(auto, using(crate::proofs::Codes::in_two_parts))]
     pub fn put(
         &mut self,
         font: &RomSet,
@@ -65,13 +66,9 @@ impl RowState {
         ensures row { self.new ≡ row_after code self.old }
         ensures cell { to.new ≡ cell font.now.font code ra bottom fields self.old }
     {
-        if holds_at_once(code) {
-            self.style.obey(code);
-            *to = styled_cell(&self.style, font, code, ra, bottom, fields);
-        } else {
-            *to = styled_cell(&self.style, font, code, ra, bottom, fields);
-            self.style.take(code);
-        }
+        self.style.come_to(code);
+        *to = styled_cell(&self.style, font, code, ra, bottom, fields);
+        self.style.leave(code);
         self.had_double = self.had_double || code == 0x0d;
     }
 

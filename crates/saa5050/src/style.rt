@@ -1,7 +1,8 @@
 //! What the control codes of a row make of the cells to come.
 ghost use Rattle.std.specs.Prelude.{◌≡◌, ◌<◌};
 ghost use Rattle.saa5050.specs.Controls.{plain, letters, graphics, normal_height, double_height, controls, obeyed, holds_at_once};
-ghost use Rattle.saa5050.specs.Row.{is_sixel, sixel_of, held_shape, style_after, shape_of, shape_line, is_blank};
+ghost use Rattle.saa5050.specs.Row.{is_sixel, sixel_of, held_shape, style_at, style_after, shape_of, shape_line, is_blank};
+ghost use Rattle.saa5050.specs.Steps.{style_past};
 ghost use Rattle.saa5050.specs.Dots.{IsInFont};
 
 /// How many lines a cell has.
@@ -46,7 +47,7 @@ pub struct Style {
 
 /// A code of the table that holds for its own cell already.
 #[inline(always)]
-pub(crate) fn holds_at_once(code: u8) -> bool
+fn holds_at_once(code: u8) -> bool
     ensures { result ≡ holds_at_once controls code }
 {
     matches!(code, 0x09 | 0x0c | 0x18 | 0x19 | 0x1a | 0x1c | 0x1d | 0x1e)
@@ -126,8 +127,9 @@ impl Style {
         }
     }
 
-    /// What a control code makes of the style.
-    pub(crate) fn obey(&mut self, code: u8)
+    // What a control code makes of the style.
+    #[inline(never)]
+    fn obey(&mut self, code: u8)
         ensures { self.new ≡ obeyed controls code self.old }
     {
         match code {
@@ -159,15 +161,35 @@ impl Style {
         }
     }
 
-    /// What any code leaves for the cells after it.
+    // What any code leaves for the cells after it.
     #[inline(always)]
-    pub(crate) fn take(&mut self, code: u8)
+    fn take(&mut self, code: u8)
         ensures { self.new ≡ style_after code self.old }
     {
         if code < 0x20 {
             self.obey(code);
         } else if self.graphics && is_sixel(code) {
             self.held = Some(self.sixel(code));
+        }
+    }
+
+    /// The style of a code's own cell.
+    #[inline(always)]
+    pub(crate) fn come_to(&mut self, code: u8)
+        ensures { self.new ≡ style_at code self.old }
+    {
+        if holds_at_once(code) {
+            self.obey(code);
+        }
+    }
+
+    /// After its own cell, a code that did not hold there holds for the cells to come.
+    #[inline(always)]
+    pub(crate) fn leave(&mut self, code: u8)
+        ensures { self.new ≡ style_past code self.old }
+    {
+        if !holds_at_once(code) {
+            self.take(code);
         }
     }
 

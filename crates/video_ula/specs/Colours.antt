@@ -1,8 +1,10 @@
 -- What the code keeps and computes for the pixels: the colours of the palette's entries, and sixteen dots of a byte by the width of a
 -- pixel.
-use Rattle.std.specs.Prelude.{ℕ, ◌/◌, Bool, List, map, slice_index}
+use Rattle.std.specs.Prelude.{ℕ, ◌/◌, ◌≡◌, Bool, false, List, map, slice_index}
 use Rattle.std.specs.List.{range_with_len}
-use Rattle.video_ula.specs.Pixels.{shifted, entry_of, under_cursor, colour_of}
+use Rattle.video_ula.specs.State.{State}
+use Rattle.video_ula.specs.Pixels.{shifted, entry_of, under_cursor, colour_of, dot_colour}
+use Rattle.video_ula.specs.declared.ready.Ready.{Ready}
 
 -- the colours of all entries
 abbrev pub entry_colours : Bool → List ℕ → List ℕ
@@ -15,3 +17,18 @@ pixel_of entries byte cursor k = under_cursor cursor (slice_index entries (entry
 -- sixteen dots, with pixels of this width
 abbrev pub dots_in : List ℕ → ℕ → Bool → ℕ → List ℕ
 dots_in entries byte cursor width = map (λ d. pixel_of entries byte cursor (d / width)) (range_with_len 0 16)
+
+-- eight dots of a byte, from the first one named on
+abbrev pub eight_dots : ℕ → State → ℕ → Bool → List ℕ
+eight_dots first u byte cursor = map (dot_colour u byte cursor) (range_with_len first 8)
+
+-- the first eight, with pixels of this width, and those of all bytes
+abbrev pub eight_in : List ℕ → ℕ → Bool → ℕ → List ℕ
+eight_in entries byte cursor width = map (λ d. pixel_of entries byte cursor (d / width)) (range_with_len 0 8)
+
+unfoldable pub table_of : List ℕ → ℕ → List (List ℕ)
+table_of entries width = map (λ byte. eight_in entries byte false width) (range_with_len 0 256)
+
+-- the table is right, or said not to be
+abbrev pub IsReady : List ℕ → ℕ → Ready → Type 0
+IsReady entries width r = r.waits ≡ 0 → r.table ≡ table_of entries width

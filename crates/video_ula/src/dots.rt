@@ -1,14 +1,14 @@
 //! The sixteen dots of a byte, by the width of a pixel.
-ghost use Rattle.std.specs.Prelude.{◌≡◌, ◌<◌, ◌/◌, slice_index, map};
+ghost use Rattle.std.specs.Prelude.{◌≡◌, ◌<◌, ◌/◌, ◌-◌, ◌^◌, false, slice_index, map};
 ghost use Rattle.std.specs.List.{range_with_len};
 ghost use Rattle.video_ula.specs.Pixels.{shifted, entry_of, under_cursor};
-ghost use Rattle.video_ula.specs.Colours.{pixel_of, dots_in};
+ghost use Rattle.video_ula.specs.Colours.{pixel_of, dots_in, eight_in};
 
 use crate::entries::entry_of;
 
 /// The byte as pixel `k` finds it.
 #[inline(always)]
-fn shifted(byte: u8, k: u32) -> u8
+pub(crate) fn shifted(byte: u8, k: u32) -> u8
     requires { k < 16 }
     ensures { result ≡ shifted byte k }
 {
@@ -26,8 +26,34 @@ fn pixel(colours: &[u8; 16], byte: u8, cursor: bool, k: u32) -> u8
     colour ^ (if cursor { 7 } else { 0 })
 }
 
+/// The sixteen dots of a byte, where a pixel is 8, 4, 2 or 1 dots wide for `width` 0 to 3.
+#[inline(always)]
+pub(crate) fn sixteen(colours: &[u8; 16], byte: u8, cursor: bool, width: u8) -> [u8; 16]
+    requires { width < 4 }
+    ensures { result ≡ dots_in colours.now byte cursor (2 ^ (3 - width)) }
+{
+    if width == 0 {
+        eight_wide(colours, byte, cursor)
+    } else if width == 1 {
+        four_wide(colours, byte, cursor)
+    } else if width == 2 {
+        two_wide(colours, byte, cursor)
+    } else {
+        one_wide(colours, byte, cursor)
+    }
+}
+
+/// The first eight of them, without the cursor.
+pub(crate) fn eight(colours: &[u8; 16], byte: u8, width: u8) -> [u8; 8]
+    requires { width < 4 }
+    ensures { result ≡ eight_in colours.now byte false (2 ^ (3 - width)) }
+{
+    let [a, b, c, d, e, f, g, h, ..] = sixteen(colours, byte, false, width);
+    [a, b, c, d, e, f, g, h]
+}
+
 /// Where a pixel is 8 dots wide.
-pub(crate) fn eight_wide(colours: &[u8; 16], byte: u8, cursor: bool) -> [u8; 16]
+fn eight_wide(colours: &[u8; 16], byte: u8, cursor: bool) -> [u8; 16]
     ensures { result ≡ dots_in colours.now byte cursor 8 }
 {
     let a = pixel(colours, byte, cursor, 0);
@@ -36,7 +62,7 @@ pub(crate) fn eight_wide(colours: &[u8; 16], byte: u8, cursor: bool) -> [u8; 16]
 }
 
 /// Where a pixel is 4 dots wide.
-pub(crate) fn four_wide(colours: &[u8; 16], byte: u8, cursor: bool) -> [u8; 16]
+fn four_wide(colours: &[u8; 16], byte: u8, cursor: bool) -> [u8; 16]
     ensures { result ≡ dots_in colours.now byte cursor 4 }
 {
     let a = pixel(colours, byte, cursor, 0);
@@ -47,7 +73,7 @@ pub(crate) fn four_wide(colours: &[u8; 16], byte: u8, cursor: bool) -> [u8; 16]
 }
 
 /// Where a pixel is 2 dots wide.
-pub(crate) fn two_wide(colours: &[u8; 16], byte: u8, cursor: bool) -> [u8; 16]
+fn two_wide(colours: &[u8; 16], byte: u8, cursor: bool) -> [u8; 16]
     ensures { result ≡ dots_in colours.now byte cursor 2 }
 {
     let a = pixel(colours, byte, cursor, 0);
@@ -62,7 +88,7 @@ pub(crate) fn two_wide(colours: &[u8; 16], byte: u8, cursor: bool) -> [u8; 16]
 }
 
 /// Where a pixel is 1 dot wide. From the ninth on all bits that are shifted in are ones.
-pub(crate) fn one_wide(colours: &[u8; 16], byte: u8, cursor: bool) -> [u8; 16]
+fn one_wide(colours: &[u8; 16], byte: u8, cursor: bool) -> [u8; 16]
     ensures { result ≡ dots_in colours.now byte cursor 1 }
 {
     let a = pixel(colours, byte, cursor, 0);

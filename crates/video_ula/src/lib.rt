@@ -3,6 +3,7 @@
 
 mod dots;
 mod entries;
+mod ready;
 mod ula;
 
 pub use ula::Ula;

@@ -1,11 +1,12 @@
 //! The chip.
-ghost use Rattle.std.specs.Prelude.{◌≡◌, ◌++◌, drop};
+ghost use Rattle.std.specs.Prelude.{◌≡◌, ◌++◌, false, drop, IfSome};
 ghost use Rattle.beeb_bits.specs.Bits.{bit};
 ghost use Rattle.video_ula.specs.State.{power_on, control_leaves, palette_leaves};
 ghost use Rattle.video_ula.specs.Pixels.{dots_of, pixel_width, colour_of, colours};
-ghost use Rattle.video_ula.specs.Colours.{entry_colours, dots_in};
+ghost use Rattle.video_ula.specs.Colours.{entry_colours, dots_in, eight_dots};
 
-use crate::dots::{eight_wide, four_wide, one_wide, two_wide};
+use crate::dots::{shifted, sixteen};
+use crate::ready::Ready;
 use beeb_bits::bit;
 use std::marker::Model;
 
@@ -17,18 +18,23 @@ pub struct Ula {
     // The colours of the palette's entries, while the control byte's bit 0 is clear and while it is set.
     steady: [u8; 16],
     flashed: [u8; 16],
+    // The dots of all bytes.
+    ready: Ready,
 }
 
 impl Model for Ula {
     ghost use Rattle.std.specs.Prelude.{◌≡◌, true, false};
+    ghost use Rattle.beeb_bits.specs.Bits.{bit};
     ghost use Rattle.video_ula.specs.State.{State};
-    ghost use Rattle.video_ula.specs.Colours.{entry_colours};
+    ghost use Rattle.video_ula.specs.Pixels.{pixel_width};
+    ghost use Rattle.video_ula.specs.Colours.{entry_colours, IsReady};
 
     ghost Value = { State };
 
     ghost view = { λ u. record { control = u.control; palette = u.palette } };
 
-    ghost invariant = { λ u. (u.steady ≡ entry_colours false u.palette) × (u.flashed ≡ entry_colours true u.palette) };
+    ghost invariant = { λ u. (u.steady ≡ entry_colours false u.palette) × (u.flashed ≡ entry_colours true u.palette)
+        × IsReady (entry_colours (bit u.control 0) u.palette) (pixel_width u.control) u.ready };
 }
 
 /// The colour of a palette's value.
@@ -48,6 +54,7 @@ impl Ula {
             palette: [0; 16],
             steady: [0; 16],
             flashed: [0; 16],
+            ready: Ready::nothing(),
         }
     }
 
@@ -56,6 +63,7 @@ impl Ula {
         ensures { self.new ≡ control_leaves v self.old }
     {
         self.control = v;
+        self.ready.forget();
     }
 
     /// Writes the palette: the high digit is the entry, and the low digit XOR 7 its value.
@@ -67,6 +75,7 @@ impl Ula {
         self.palette[entry] = value;
         self.steady[entry] = colour_of(false, value);
         self.flashed[entry] = colour_of(true, value);
+        self.ready.forget();
     }
 
     /// The control byte last written, 00 at power-on.
@@ -93,6 +102,63 @@ impl Ula {
         }
     }
 
+    /// The colours of the first eight dots of a byte.
+    #[inline(never)]
+    pub fn first_eight(&self, byte: u8, cursor: bool) -> [u8; 8]
+        ensures { result ≡ eight_dots 0 self.now byte cursor }
+    {
+        let [a, b, c, d, e, f, g, h, ..] = self.dots(byte, cursor);
+        [a, b, c, d, e, f, g, h]
+    }
+
+    /// The colours of the last eight dots of a byte that has sixteen.
+    #[inline(never)]
+    pub fn last_eight(&self, byte: u8, cursor: bool) -> [u8; 8]
+        ensures { result ≡ eight_dots 8 self.now byte cursor }
+    {
+        let [.., a, b, c, d, e, f, g, h] = self.dots(byte, cursor);
+        [a, b, c, d, e, f, g, h]
+    }
+
+    /// A byte was asked for that was not ready. Some time after the palette or the control byte is written, all are made ready. Nothing
+    /// that is seen changes.
+    pub fn prepare(&mut self)
+        ensures { self.new ≡ self.old }
+    {
+        if self.ready.wait() {
+            let entries = if bit(self.control, 0) {
+                self.flashed
+            } else {
+                self.steady
+            };
+            self.ready.compute(&entries, self.control / 4 % 4);
+        }
+    }
+
+    /// The colours of the first eight dots of a byte that the cursor does not mark, where they are ready.
+    #[inline(always)]
+    pub fn first_ready(&self, byte: u8) -> Option<&[u8; 8]>
+        ensures { IfSome result (λ dots. dots.now ≡ eight_dots 0 self.now byte false) }
+    {
+        if self.ready.is_ready() {
+            Some(self.ready.dots(byte))
+        } else {
+            None
+        }
+    }
+
+    /// The colours of the last eight dots of a byte that has sixteen, likewise.
+    #[inline(always)]
+    pub fn last_ready(&self, byte: u8) -> Option<&[u8; 8]>
+        ensures { IfSome result (λ dots. dots.now ≡ eight_dots 8 self.now byte false) }
+    {
+        if self.ready.is_ready() {
+            Some(self.ready.dots(shifted(byte, 1 << (self.control / 4 % 4))))
+        } else {
+            None
+        }
+    }
+
     // The colours of the entries, as the control byte's bit 0 says.
     #[inline(always)]
     fn entries(&self) -> &[u8; 16]
@@ -110,16 +176,6 @@ impl Ula {
     fn dots(&self, byte: u8, cursor: bool) -> [u8; 16]
         ensures { result ≡ dots_in (entry_colours (bit self.now.control 0) self.now.palette) byte cursor (pixel_width self.now.control) }
     {
-        let entries = self.entries();
-        let width = self.control / 4 % 4;
-        if width == 0 {
-            eight_wide(entries, byte, cursor)
-        } else if width == 1 {
-            four_wide(entries, byte, cursor)
-        } else if width == 2 {
-            two_wide(entries, byte, cursor)
-        } else {
-            one_wide(entries, byte, cursor)
-        }
+        sixteen(self.entries(), byte, cursor, self.control / 4 % 4)
     }
 }

@@ -2,5 +2,4 @@ use Rattle.std.proofs.Common.{refl}
 use Rattle.raster.proofs.raster.Raster.draw_cell.Goals as goal
 
 pub returns : goal.returns
-returns c =
-    rw (← c.self.view_is, c.put.ensures.state, c.draw.ensures, c.bit.ensures, c.mark.ensures, c.is_marked.ensures, c.put.ensures.colours, c.mode-control.ensures) refl
+returns c = rw (← c.self.view_is, c.put.ensures.state, c.draw.ensures, c.bit.ensures, c.mark.ensures, c.put.ensures.colours, c.mode.ensures) refl

@@ -1,0 +1,81 @@
+//! The first eight dots of all bytes, computed once for many.
+ghost use Rattle.std.specs.Prelude.{◌≡◌, ◌<◌, ◌≤◌, ◌==◌, ◌-◌, ◌^◌, ◌⊎◌, true, slice_index_or, []};
+ghost use Rattle.video_ula.specs.Colours.{eight_in, table_of, IsReady};
+
+use crate::dots::eight;
+
+/// How many bytes are computed each by itself before all are computed: as many as cost about as much.
+const PATIENCE: u8 = 100;
+
+#[derive(Drop)]
+pub(crate) struct Ready {
+    // The dots of each byte that the cursor does not mark.
+    table: [[u8; 8]; 256],
+    // For so many bytes more each is computed by itself: with 0 the table is right.
+    waits: u8,
+}
+
+// Puts all bytes into the table.
+fn fill(table: &mut [[u8; 8]; 256], entries: &[u8; 16], width: u8)
+    requires { width < 4 }
+    ensures { table.new ≡ table_of entries.now (2 ^ (3 - width)) }
+{
+    for byte in 0..256usize {
+        table[byte] = eight(entries, byte as u8, width);
+    }
+}
+
+impl Ready {
+    /// Nothing is computed.
+    pub(crate) fn nothing() -> Ready
+        ensures { result.waits ≡ PATIENCE }
+    {
+        Ready {
+            table: [[0; 8]; 256],
+            waits: PATIENCE,
+        }
+    }
+
+    /// What was computed is right no more.
+    pub(crate) fn forget(&mut self)
+        ensures { self.new.waits ≡ PATIENCE }
+    {
+        self.waits = PATIENCE;
+    }
+
+    /// The table is right.
+    #[inline(always)]
+    pub(crate) fn is_ready(&self) -> bool
+        ensures { result ≡ (self.now.waits == 0) }
+    {
+        self.waits == 0
+    }
+
+    /// One more byte is asked for: whether it is time to compute all.
+    pub(crate) fn wait(&mut self) -> bool
+        ensures right { (result ≡ true) ⊎ (0 < self.new.waits) }
+    {
+        if self.waits > 1 {
+            self.waits -= 1;
+            return false;
+        }
+        true
+    }
+
+    /// Computes all.
+    pub(crate) fn compute(&mut self, entries: &[u8; 16], width: u8)
+        requires { width < 4 }
+        ensures { IsReady entries.now (2 ^ (3 - width)) self.new }
+    {
+        fill(&mut self.table, entries, width);
+        self.waits = 0;
+    }
+
+    /// The dots of a byte by the table.
+    #[inline(always)]
+    pub(crate) fn dots(&self, byte: u8) -> &[u8; 8]
+        ensures { result.now ≡ slice_index_or self.now.table byte [] }
+    {
+        &self.table[byte as usize]
+    }
+}
