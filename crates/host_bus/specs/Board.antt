@@ -1,11 +1,13 @@
 -- The board of the host: memory, devices and script, its clock, and its accesses but for those of the plugged devices.
-use Rattle.std.specs.Prelude.{ℕ, zero, suc, ◌+◌, ◌-◌, ◌%◌, ◌==◌, max, Bool, List, Option, slice_index, slice_set, replicate, if◌then◌else◌}
+use Rattle.std.specs.Prelude.{ℕ, zero, suc, ◌+◌, ◌-◌, ◌%◌, ◌==◌, max, Bool, List, [], Option, slice_index, slice_set, replicate, if◌then◌else◌}
+use Rattle.saa5050.specs.Shapes.{Font}
 use Rattle.rom_set.specs.Roms.{Roms, rom_byte}
 use Rattle.disc_image.specs.Image.{Image}
 use Rattle.key_script.specs.declared.Event.{Event}
 use Rattle.host_bus.specs.declared.map.Place.{Place}
 use Rattle.host_bus.specs.declared.map.Place.TheVariants.{Ram, PagedRom, OsRom, Plugs, Crtc, Acia, SerialUla, VideoUla, RomLatch, SystemVia, UserVia, DiscLatch, DiscController, Absent, Adc, Tube}
-use Rattle.host_bus.specs.Devices.{Devices, keys_at, microsecond, system_answer, system_read, system_written, user_answer, user_read, user_written, disc_latched, disc_answer, disc_read, disc_written, devices_ask, first_devices}
+use Rattle.host_bus.specs.Shots.{shot_at}
+use Rattle.host_bus.specs.Devices.{Devices, keys_at, microsecond, last_frame, crtc_answer, crtc_written, ula_written, system_answer, system_read, system_written, user_answer, user_read, user_written, disc_latched, disc_answer, disc_read, disc_written, devices_ask, first_devices}
 
 pub record BoardState : Type 0 where
   pub ram : List ℕ
@@ -14,32 +16,61 @@ pub record BoardState : Type 0 where
   pub latch : ℕ
   -- what is typed, and when
   pub script : List Event
-  -- what ticks change
+  -- what ticks change: the devices, and the frames that shots took, the oldest first
   pub devices : Devices
+  pub shots : List (List ℕ)
   -- all ticks below this one are done
   pub closed : ℕ
 
--- Tick k: every sixth tick is a microsecond, with the keys of that tick.
-abbrev pub tick : List Event → ℕ → Devices → Devices
-tick script k d = if k % 6 == 0 then microsecond (keys_at k script) d else d
+-- What a tick goes by: the RAM, the teletext font, and the script.
+pub record Around : Type 0 where
+  pub ram : List ℕ
+  pub font : Font
+  pub script : List Event
+
+-- What a tick changes.
+pub record Moving : Type 0 where
+  pub devices : Devices
+  pub shots : List (List ℕ)
+
+-- The shots at tick k take the last finished frame.
+abbrev pub shot : ℕ → List Event → Moving → Moving
+shot k script m = record m { shots = shot_at k script (last_frame m.devices) m.shots }
+
+-- every sixth tick is a microsecond, with the keys of that tick
+abbrev pub beat : Around → ℕ → Devices → Devices
+beat a k d = if k % 6 == 0 then microsecond a.ram a.font (keys_at k a.script) d else d
+
+-- Tick k: its shots are taken, and then comes the microsecond.
+abbrev pub tick : Around → ℕ → Moving → Moving
+tick a k m = let taken = shot k a.script m in record taken { devices = beat a k taken.devices }
 
 -- so many ticks, from tick k on
-abbrev pub ticks : List Event → ℕ → ℕ → Devices → Devices
-ticks script zero k d = d
-ticks script (suc n) k d = ticks script n (k + 1) (tick script k d)
+abbrev pub ticks : Around → ℕ → ℕ → Moving → Moving
+ticks a zero k m = m
+ticks a (suc n) k m = ticks a n (k + 1) (tick a k m)
+
+abbrev pub around : BoardState → Around
+around b = record { ram = b.ram; font = b.roms.font; script = b.script }
+
+abbrev pub moving : BoardState → Moving
+moving b = record { devices = b.devices; shots = b.shots }
+
+-- the board closed at t, with what ticks left
+abbrev pub moved : BoardState → ℕ → Moving → BoardState
+moved b t m = record b { devices = m.devices; shots = m.shots; closed = t }
 
 -- All ticks below t are done, and those that were done already.
 abbrev pub board_closed : BoardState → ℕ → BoardState
-board_closed b t = record b { devices = ticks b.script (t - b.closed) b.closed b.devices; closed = max t b.closed }
+board_closed b t = moved b (max t b.closed) (ticks (around b) (t - b.closed) b.closed (moving b))
 
--- What a read at tick t answers. FE is what the map does not give: of addresses that are only written, of absent devices, and of devices
--- that are not built yet.
+-- What a read at tick t answers. FE is what the map does not give: of addresses that are only written, and of absent devices.
 abbrev pub answer_at : Place → BoardState → ℕ → ℕ → ℕ
 answer_at Ram b t at = slice_index b.ram at
 answer_at PagedRom b t at = rom_byte b.roms.slots b.latch (at - 0x8000)
 answer_at OsRom b t at = slice_index b.roms.os (at - 0xC000)
 answer_at Plugs b t at = 0xFF
-answer_at Crtc b t at = 0xFE
+answer_at Crtc b t at = crtc_answer at b.devices
 answer_at Acia b t at = if at % 2 == 0 then 0x02 else 0x00
 answer_at SerialUla b t at = 0xFE
 answer_at VideoUla b t at = 0xFE
@@ -59,9 +90,11 @@ read_at UserVia at b = record b { devices = user_read (at % 16) b.devices }
 read_at DiscController at b = record b { devices = disc_read (at % 4) b.devices }
 read_at _ at b = b
 
--- The board after a write. ROMs, stubs, absent devices and those that are not built yet ignore it.
+-- The board after a write. ROMs, stubs and absent devices ignore it.
 abbrev pub written_at : Place → ℕ → ℕ → BoardState → BoardState
 written_at Ram at v b = record b { ram = slice_set b.ram at v }
+written_at Crtc at v b = record b { devices = crtc_written at v b.devices }
+written_at VideoUla at v b = record b { devices = ula_written at v b.devices }
 written_at RomLatch at v b = record b { latch = v % 16 }
 written_at SystemVia at v b = record b { devices = system_written (at % 16) v b.devices }
 written_at UserVia at v b = record b { devices = user_written (at % 16) v b.devices }
@@ -84,4 +117,4 @@ clear_ram = replicate 32768 0
 -- the board at power-on, with these images, the discs of both drives, and this script
 abbrev pub first_board : Roms → Option Image → Option Image → List Event → BoardState
 first_board roms d0 d1 script =
-    record { ram = clear_ram; roms = roms; latch = 0; script = script; devices = first_devices d0 d1; closed = 0 }
+    record { ram = clear_ram; roms = roms; latch = 0; script = script; devices = first_devices d0 d1; shots = []; closed = 0 }

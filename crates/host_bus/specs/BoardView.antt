@@ -11,6 +11,7 @@ board_seen b = record {
   latch = b.latch;
   script = b.playback.script;
   devices = b.devices;
+  shots = b.playback.shots.frames;
   closed = b.closed;
 }
 

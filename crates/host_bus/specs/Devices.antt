@@ -1,6 +1,12 @@
--- The devices of the host that go by microseconds, and how they are wired: the disc controller, and the two 6522s, with the keyboard and
--- the addressable latch at the system's. (Acorn, BBC Microcomputer Advanced User Guide, The system VIA and The user/printer VIA.)
-use Rattle.std.specs.Prelude.{ℕ, ◌==◌, ◌||◌, Bool, true, false, List, replicate, Option, if◌then◌else◌}
+-- The devices of the host that go by microseconds, and how they are wired: the picture, the disc controller, and the two 6522s, with the
+-- keyboard and the addressable latch at the system's. (Acorn, BBC Microcomputer Advanced User Guide, The system VIA and The user/printer VIA.)
+use Rattle.std.specs.Prelude.{ℕ, ◌==◌, ◌||◌, ◌%◌, Bool, true, false, List, replicate, Option, if◌then◌else◌}
+use Rattle.saa5050.specs.Shapes.{Font}
+use Rattle.crtc6845.specs.Registers as crtc
+use Rattle.video_ula.specs.State as ula
+use Rattle.raster.specs.State as picture
+use Rattle.raster.specs.Lending.{with_crtc, with_ula}
+use Rattle.raster.specs.Clock as beam
 use Rattle.disc_image.specs.Image.{Image}
 use Rattle.wd1770.specs.State as disc
 use Rattle.wd1770.specs.Commands.{latch_leaves}
@@ -16,6 +22,8 @@ use Rattle.key_script.specs.declared.Event.{Event}
 use Rattle.key_script.specs.Keys.{is_down}
 
 pub record Devices : Type 0 where
+  -- the 6845, the video ULA and the teletext chip, and what the beam draws
+  pub video : picture.State
   pub disc : disc.State
   -- the addressable latch's bits, bit 0 first
   pub latch : List Bool
@@ -41,17 +49,36 @@ system_pins vsync keys d = record {
 abbrev pub user_pins : Pins
 user_pins = record { a = 0xFF; b = 0xFF; ca1 = true; ca2 = true; cb1 = true; cb2 = true }
 
--- Vertical sync: false, since there is no video yet.
-abbrev pub vsync : Devices → Bool
-vsync d = false
+-- One microsecond of all devices, in order: the picture, from the RAM and by the screen size of the latch; the disc controller; the
+-- keyboard's level; the system's 6522, which sees vertical sync as the picture left it; the user's.
+abbrev pub pictured : List ℕ → Font → Devices → picture.State
+pictured ram font d = beam.microsecond ram (keyboard.screen_size d.latch) font d.video
 
--- One microsecond of all devices, in order: the disc controller, the keyboard's level, the system's 6522, the user's.
-unfoldable pub microsecond : Keys → Devices → Devices
-microsecond keys d = record d {
+unfoldable pub microsecond : List ℕ → Font → Keys → Devices → Devices
+microsecond ram font keys d = record d {
+  video = pictured ram font d;
   disc = turn.step d.disc;
-  system = step (system_pins (vsync d) keys d) d.system;
+  system = step (system_pins (beam.vsync_of (pictured ram font d)) keys d) d.system;
   user = step user_pins d.user;
 }
+
+-- the last frame that was finished, or a black one
+unfoldable pub last_frame : Devices → List ℕ
+last_frame d = d.video.finished
+
+-- A write to the 6845: an even address selects a register, and an odd one is its value. A read of an odd address gives the register, as far
+-- as it can be read.
+unfoldable pub crtc_written : ℕ → ℕ → Devices → Devices
+crtc_written at v d =
+    record d { video = with_crtc d.video (if at % 2 == 0 then crtc.select_leaves v d.video.crtc else crtc.set_leaves v d.video.crtc) }
+
+unfoldable pub crtc_answer : ℕ → Devices → ℕ
+crtc_answer at d = if at % 2 == 0 then 0xFE else crtc.answer_of d.video.crtc
+
+-- a write to the video ULA: an even address is its control byte, and an odd one its palette
+unfoldable pub ula_written : ℕ → ℕ → Devices → Devices
+ula_written at v d =
+    record d { video = with_ula d.video (if at % 2 == 0 then ula.control_leaves v d.video.ula else ula.palette_leaves v d.video.ula) }
 
 -- a write to the disc latch, and an access to the disc controller
 unfoldable pub disc_latched : ℕ → Devices → Devices
@@ -68,7 +95,7 @@ disc_written reg v d = record d { disc = controller.write_leaves reg v d.disc }
 
 -- an access to the system's 6522: the answer of a read, and what it leaves
 unfoldable pub system_answer : ℕ → Keys → Devices → ℕ
-system_answer reg keys d = answer_of reg (system_pins (vsync d) keys d) d.system
+system_answer reg keys d = answer_of reg (system_pins (beam.vsync_of d.video) keys d) d.system
 
 unfoldable pub system_read : ℕ → Devices → Devices
 system_read reg d = record d { system = read_leaves reg d.system }
@@ -96,4 +123,10 @@ devices_ask d = asks d.system || asks d.user
 
 -- the devices at power-on, with the discs of both drives
 unfoldable pub first_devices : Option Image → Option Image → Devices
-first_devices d0 d1 = record { disc = disc.power_on d0 d1; latch = replicate 8 false; system = via.power_on; user = via.power_on }
+first_devices d0 d1 = record {
+  video = picture.power_on;
+  disc = disc.power_on d0 d1;
+  latch = replicate 8 false;
+  system = via.power_on;
+  user = via.power_on;
+}

@@ -1,5 +1,6 @@
 pub mod Map
 pub mod Devices
+pub mod Shots
 pub mod Board
 pub mod Plugs
 pub mod Bus

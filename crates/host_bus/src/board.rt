@@ -1,7 +1,11 @@
 //! The board: memory, and what answers beside it.
-ghost use Rattle.std.specs.Prelude.{◌≡◌, ◌≤◌, ◌<◌, ◌+◌, ◌^◌, ◌⊎◌, ℕ, length, IfOk, None, Some, MatchOption, slice_set};
+ghost use Rattle.std.specs.Prelude.{◌≡◌, ◌≤◌, ◌<◌, ◌+◌, ◌%◌, ◌^◌, ◌==◌, ◌⊎◌, ℕ, length, IfOk, None, Some, MatchOption, slice_set, if◌then◌else◌};
+ghost use Rattle.keyboard.specs.Keys.{keys_of};
 ghost use Rattle.wd1770.specs.Select.{disc_of};
 ghost use Rattle.host_bus.specs.Map.{place_of};
+ghost use Rattle.host_bus.specs.Shots.{shot_at};
+ghost use Rattle.host_bus.specs.OnTime.{IsPlayed};
+ghost use Rattle.host_bus.specs.Devices.{microsecond, last_frame};
 ghost use Rattle.host_bus.specs.Board.{board_closed, answer_at, read_at, written_at, board_irq, board_nmis, first_board, clear_ram};
 
 use crate::devices::Devices;
@@ -10,6 +14,7 @@ use crate::playback::Playback;
 use beeb_bits::NoMemory;
 use disc_image::Disc;
 use key_script::Script;
+use raster::Frame;
 use rom_set::RomSet;
 use std::alloc::{AllocError, Global};
 use std::marker::Model;
@@ -52,8 +57,37 @@ fn clear_ram(alloc: Global, size: usize) -> Result<Vec<u8>, AllocError>
     vec![in alloc; 0; size]
 }
 
+// Tick `k`: its shots are taken, and then comes the microsecond, if `micro`, the tick of the next one, is `k`. Answers that of the next one
+// after it.
+#[inline(always)]
+fn tick(
+    devices: &mut Devices,
+    playback: &mut Playback,
+    ram: &[u8],
+    roms: &RomSet,
+    micro: u64,
+    k: u64,
+) -> u64
+    requires ram { length ram.now ≡ RAM_SIZE }
+    requires room { k < 2 ^ 48 }
+    requires played { IsPlayed playback.old k }
+    requires sixth { micro % 6 ≡ 0 }
+    requires first { k ≤ micro }
+    requires near { micro < k + 6 }
+    ensures script { playback.new.script ≡ playback.old.script }
+    ensures shots { playback.new.shots.frames ≡ shot_at k playback.old.script (last_frame devices.old) playback.old.shots.frames }
+    ensures played { IsPlayed playback.new (k + 1) }
+    ensures devices { devices.new ≡ (if k % 6 == 0 then microsecond ram.now roms.now.font (keys_of playback.new.keys) devices.old else devices.old) }
+    ensures sixth { result % 6 ≡ 0 }
+    ensures first { k + 1 ≤ result }
+    ensures near { result < k + 7 }
+{
+    playback.tick(devices.last_frame(), k);
+    devices.tick(ram, roms, &playback.keys, micro, k)
+}
+
 impl Board {
-    /// The board at power-on, with these images, the discs of both drives, and this script.
+    /// The board at power-on, with these images, the discs of both drives, and this script. It takes the memory of all shots of the script.
     pub fn make(
         alloc: Global,
         roms: RomSet,
@@ -66,12 +100,14 @@ impl Board {
         let Ok(ram) = clear_ram(alloc, RAM_SIZE) else {
             return Err(NoMemory);
         };
+        let devices = Devices::make(alloc, d0, d1)?;
+        let playback = Playback::make(alloc, script)?;
         Ok(Board {
             ram,
             roms,
             latch: 0,
-            devices: Devices::new(d0, d1),
-            playback: Playback::new(script),
+            devices,
+            playback,
             closed: 0,
             micro: 0,
             next: 0,
@@ -97,8 +133,14 @@ impl Board {
             self.closed = t;
             return;
         }
-        self.playback.tick(k);
-        self.micro = self.devices.tick(&self.playback.keys, self.micro, k);
+        self.micro = tick(
+            &mut self.devices,
+            &mut self.playback,
+            &self.ram,
+            &self.roms,
+            self.micro,
+            k,
+        );
         self.closed = k + 1;
         self.next = self.micro.min(self.playback.event);
     }
@@ -164,7 +206,8 @@ impl Board {
         match place_in_sheila(at) {
             Place::Acia => { if at % 2 == 0 { 0x02 } else { 0x00 } }
             Place::Adc => { if at == 0xfec0 { 0x40 } else { 0xfe } }
-            Place::Crtc | Place::SerialUla | Place::VideoUla | Place::RomLatch => 0xfe,
+            Place::Crtc => self.devices.read_crtc(at),
+            Place::SerialUla | Place::VideoUla | Place::RomLatch => 0xfe,
             Place::DiscLatch | Place::Absent | Place::Tube => 0xfe,
             Place::SystemVia => self
                 .devices
@@ -183,13 +226,14 @@ impl Board {
         ensures closed { (self.new).closed ≡ (self.old).closed }
     {
         match place_in_sheila(at) {
+            Place::Crtc => self.devices.write_crtc(at, v),
+            Place::VideoUla => self.devices.write_ula(at, v),
             Place::RomLatch => self.latch = v % 16,
             Place::SystemVia => self.devices.write_system((at % 16) as u8, v),
             Place::UserVia => self.devices.write_user((at % 16) as u8, v),
             Place::DiscLatch => self.devices.latch_disc(v),
             Place::DiscController => self.devices.write_disc((at % 4) as u8, v),
-            Place::Crtc | Place::Acia | Place::SerialUla | Place::VideoUla => {}
-            Place::Absent | Place::Adc | Place::Tube => {}
+            Place::Acia | Place::SerialUla | Place::Absent | Place::Adc | Place::Tube => {}
             Place::Ram | Place::PagedRom | Place::OsRom | Place::Plugs => unreachable!(),
         }
     }
@@ -215,6 +259,13 @@ impl Board {
         ensures { MatchOption result (disc_of drive (self.now).devices.disc ≡ None) (λ disc. disc_of drive (self.now).devices.disc ≡ Some disc.now) }
     {
         self.devices.disc(drive)
+    }
+
+    /// The frames that shots took so far, the oldest first.
+    pub fn frames(&self) -> &[Frame]
+        ensures { result.now ≡ (self.now).shots }
+    {
+        self.playback.shots.frames()
     }
 
     /// The RAM.

@@ -10,6 +10,7 @@ use beeb_bits::{NoMemory, Tick};
 use bus_plug::BusDevice;
 use disc_image::Disc;
 use key_script::Script;
+use raster::Frame;
 use rom_set::RomSet;
 use std::alloc::Global;
 
@@ -21,7 +22,7 @@ pub struct Bus<D = Box<dyn BusDevice + Send>> {
 }
 
 impl<D: BusDevice> Bus<D> {
-    /// The bus at power-on. Where memory is wanting, all is dropped.
+    /// The bus at power-on. It takes the memory of all shots of the script. Where memory is wanting, all is dropped.
     pub fn make(
         alloc: Global,
         roms: RomSet,
@@ -123,7 +124,8 @@ impl<D: BusDevice> Bus<D> {
         ensures after { bus_seen D.plug self.new ≡ bus_after_write (bus_closed (bus_seen D.plug self.old) (t.0 + 1)) at v }
         ensures closed { closed_at (bus_seen D.plug self.new) ≡ t.0 + 1 }
     {
-        self.close(t.0 + 1);
+        let next = t.0 + 1;
+        self.close(next);
         self.write_now(at, v);
     }
 
@@ -166,6 +168,14 @@ impl<D: BusDevice> Bus<D> {
         ensures { result.now ≡ (bus_seen D.plug self.now).board.ram }
     {
         self.board.ram()
+    }
+
+    /// The frames that shots took so far, the oldest first. A shot takes the last frame that was finished, or a black one, before the
+    /// device step at its tick.
+    pub fn frames(&self) -> &[Frame]
+        ensures { result.now ≡ (bus_seen D.plug self.now).board.shots }
+    {
+        self.board.frames()
     }
 
     /// The disc in drive 0 or 1. None where the drive has none, and for any other number.

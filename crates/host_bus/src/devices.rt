@@ -1,11 +1,16 @@
 //! The devices that go by microseconds, and how they are wired.
-ghost use Rattle.std.specs.Prelude.{◌≡◌, ◌≤◌, ◌<◌, ◌+◌, ◌%◌, ◌^◌, ◌==◌, None, Some, MatchOption, if◌then◌else◌};
+ghost use Rattle.std.specs.Prelude.{◌≡◌, ◌≤◌, ◌<◌, ◌+◌, ◌%◌, ◌^◌, ◌==◌, Bool, None, Some, MatchOption, IfOk, length, if◌then◌else◌};
+ghost use Rattle.raster.specs.Clock.{vsync_of};
 ghost use Rattle.wd1770.specs.Select.{disc_of};
 ghost use Rattle.keyboard.specs.Keys.{keys_of};
-ghost use Rattle.host_bus.specs.Devices.{vsync, system_pins, microsecond, system_answer, system_read, system_written, latched, user_answer, user_read, user_written, disc_latched, disc_answer, disc_read, disc_written, devices_ask, first_devices};
+ghost use Rattle.host_bus.specs.Devices.{system_pins, pictured, microsecond, last_frame, crtc_answer, crtc_written, ula_written, system_answer, system_read, system_written, latched, user_answer, user_read, user_written, disc_latched, disc_answer, disc_read, disc_written, devices_ask, first_devices};
 
+use beeb_bits::NoMemory;
 use disc_image::Disc;
 use keyboard::{Keys, Latch};
+use raster::{Frame, Raster};
+use rom_set::RomSet;
+use std::alloc::Global;
 use std::marker::Model;
 use via6522::{Pins, Via};
 use wd1770::Fdc;
@@ -20,9 +25,10 @@ const USER_PINS: Pins = Pins {
     cb2: true,
 };
 
-/// The disc controller, the two 6522s, and the addressable latch behind the system's.
+/// The picture, the disc controller, the two 6522s, and the addressable latch behind the system's.
 #[derive(Drop)]
 pub(crate) struct Devices {
+    video: Raster,
     disc: Fdc,
     latch: Latch,
     system: Via,
@@ -34,27 +40,33 @@ impl Model for Devices {
 
     ghost Value = { Devices };
 
-    ghost view = { λ d. record { disc = d.disc; latch = d.latch.bits; system = d.system; user = d.user } };
+    ghost view = { λ d. record { video = d.video; disc = d.disc; latch = d.latch.bits; system = d.system; user = d.user } };
 }
 
 impl Devices {
     /// The devices at power-on, with the discs of both drives.
     #[tactic(auto, unfolding(crate::specs::Devices::first_devices))]
-    pub(crate) fn new(d0: Option<Disc>, d1: Option<Disc>) -> Devices
-        ensures { result ≡ first_devices d0 d1 }
+    pub(crate) fn make(
+        alloc: Global,
+        d0: Option<Disc>,
+        d1: Option<Disc>,
+    ) -> Result<Devices, NoMemory>
+        ensures { IfOk result (λ d. d ≡ first_devices d0 d1) }
     {
-        Devices {
+        let video = Raster::make(alloc)?;
+        Ok(Devices {
+            video,
             disc: Fdc::new(d0, d1),
             latch: Latch::new(),
             system: Via::new(),
             user: Via::new(),
-        }
+        })
     }
 
-    // The pins of the system's 6522. CA1 is vertical sync, and there is no video yet.
+    // The pins of the system's 6522. CA1 is vertical sync.
     #[inline(always)]
     fn system_pins(&self, keys: &Keys) -> Pins
-        ensures { result ≡ system_pins (vsync self.now) (keys_of keys.now) self.now }
+        ensures { result ≡ system_pins (vsync_of (self.now).video) (keys_of keys.now) self.now }
     {
         let port_a = self.system.out_a();
         Pins {
@@ -64,19 +76,30 @@ impl Devices {
                 0x7f
             },
             b: 0xff,
-            ca1: false,
+            ca1: self.video.vsync(),
             ca2: keys.ca2(&self.latch, port_a),
             cb1: true,
             cb2: true,
         }
     }
 
-    /// One microsecond.
+    // One microsecond of the picture.
+    #[inline(always)]
+    fn draw(&mut self, ram: &[u8], roms: &RomSet)
+        requires { length ram.now ≡ 32768 }
+        ensures { self.new ≡ record self.old { video = pictured ram.now roms.now.font self.old } }
+    {
+        self.video.advance(ram, self.latch.screen_size(), roms, 1);
+    }
+
+    /// One microsecond, over this RAM and with the font of these ROMs.
     #[inline(always)]
     #[tactic(auto, unfolding(crate::specs::Devices::microsecond))]
-    pub(crate) fn step(&mut self, keys: &Keys)
-        ensures { self.new ≡ microsecond (keys_of keys.now) self.old }
+    pub(crate) fn step(&mut self, ram: &[u8], roms: &RomSet, keys: &Keys)
+        requires { length ram.now ≡ 32768 }
+        ensures { self.new ≡ microsecond ram.now roms.now.font (keys_of keys.now) self.old }
     {
+        self.draw(ram, roms);
         self.disc.step();
         let pins = self.system_pins(keys);
         self.system.step(pins);
@@ -85,12 +108,13 @@ impl Devices {
 
     /// Tick `k`, where `micro` is the next microsecond's. Answers that of the next one after it.
     #[inline(always)]
-    pub(crate) fn tick(&mut self, keys: &Keys, micro: u64, k: u64) -> u64
+    pub(crate) fn tick(&mut self, ram: &[u8], roms: &RomSet, keys: &Keys, micro: u64, k: u64) -> u64
+        requires ram { length ram.now ≡ 32768 }
         requires room { k < 2 ^ 48 }
         requires sixth { micro % 6 ≡ 0 }
         requires first { k ≤ micro }
         requires near { micro < k + 6 }
-        ensures devices { self.new ≡ (if k % 6 == 0 then microsecond (keys_of keys.now) self.old else self.old) }
+        ensures devices { self.new ≡ (if k % 6 == 0 then microsecond ram.now roms.now.font (keys_of keys.now) self.old else self.old) }
         ensures sixth { result % 6 ≡ 0 }
         ensures first { k + 1 ≤ result }
         ensures near { result < k + 7 }
@@ -98,8 +122,53 @@ impl Devices {
         if micro != k {
             return micro;
         }
-        self.step(keys);
+        self.step(ram, roms, keys);
         micro + 6
+    }
+
+    /// The last frame that was finished, or a black one.
+    #[tactic(auto, unfolding(crate::specs::Devices::last_frame))]
+    pub(crate) fn last_frame(&self) -> &Frame
+        ensures { result.now ≡ last_frame self.now }
+    {
+        self.video.frame()
+    }
+
+    /// A read of the 6845.
+    #[tactic(auto, unfolding(crate::specs::Devices::crtc_answer))]
+    pub(crate) fn read_crtc(&mut self, at: u16) -> u8
+        ensures answer { result ≡ crtc_answer at self.old }
+        ensures after { self.new ≡ self.old }
+    {
+        if at % 2 == 0 {
+            0xfe
+        } else {
+            self.video.crtc().get()
+        }
+    }
+
+    /// A write to the 6845.
+    #[tactic(auto, unfolding(crate::specs::Devices::crtc_written))]
+    pub(crate) fn write_crtc(&mut self, at: u16, v: u8)
+        ensures { self.new ≡ crtc_written at v self.old }
+    {
+        if at % 2 == 0 {
+            self.video.crtc().select(v);
+        } else {
+            self.video.crtc().set(v);
+        }
+    }
+
+    /// A write to the video ULA.
+    #[tactic(auto, unfolding(crate::specs::Devices::ula_written))]
+    pub(crate) fn write_ula(&mut self, at: u16, v: u8)
+        ensures { self.new ≡ ula_written at v self.old }
+    {
+        if at % 2 == 0 {
+            self.video.ula().control(v);
+        } else {
+            self.video.ula().palette(v);
+        }
     }
 
     /// A read of the system's 6522.

@@ -7,6 +7,7 @@ mod devices;
 mod map;
 mod playback;
 mod plugged;
+mod shots;
 
 pub use bus::Bus;
 pub use map::stretch;

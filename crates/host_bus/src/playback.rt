@@ -1,46 +1,67 @@
 //! A key script as it is played.
-ghost use Rattle.std.specs.Prelude.{◌≡◌, ◌≤◌, ◌<◌, ◌+◌, ◌^◌, ℕ, length, drop, All};
+ghost use Rattle.std.specs.Prelude.{◌≡◌, ◌≤◌, ◌<◌, ◌+◌, ◌++◌, ◌^◌, ℕ, [], ◌∷◌, length, drop, All, IfOk, if◌then◌else◌};
 ghost use Rattle.keyboard.specs.Keys.{keys_of};
-ghost use Rattle.key_script.specs.Events.{IsEvent, IsKeyed, NeverFallsFrom};
-ghost use Rattle.host_bus.specs.OnTime.{IsLeft, IsPlayed, key_turned};
+ghost use Rattle.key_script.specs.Events.{IsEvent, IsKeyed, NeverFallsFrom, is_shot, shots};
+ghost use Rattle.host_bus.specs.Shots.{shot_at};
+ghost use Rattle.host_bus.specs.OnTime.{IsLeft, HasLeft, IsPlayed, key_turned};
 
+use crate::shots::Shots;
+use beeb_bits::NoMemory;
 use key_script::{Event, Script, What};
 use keyboard::Keys;
+use raster::Frame;
+use std::alloc::Global;
 
-/// A script, the keys by its events so far, and the place and tick of the next one.
+/// A script, the keys and the shots by its events so far, and the place and tick of the next one.
 #[derive(Drop)]
 pub(crate) struct Playback {
     pub(crate) script: Script,
     pub(crate) keys: Keys,
+    pub(crate) shots: Shots,
     pub(crate) place: usize,
     /// No event comes before this tick.
     pub(crate) event: u64,
 }
 
-// What an event does to the keys.
-fn turn(keys: &mut Keys, what: What)
-    requires { IsKeyed what }
-    ensures { keys_of keys.new ≡ key_turned what (keys_of keys.old) }
+// What an event does to the keys, or which frame a shot takes.
+fn turn(keys: &mut Keys, taken: &mut Shots, frame: &Frame, event: Event)
+    requires keyed { IsKeyed event.what }
+    requires room { shots (event ∷ []) ≤ (taken.old).room }
+    ensures keys { keys_of keys.new ≡ key_turned event.what (keys_of keys.old) }
+    ensures frames { (taken.new).frames ≡ (if is_shot event then (taken.old).frames ++ frame.now ∷ [] else (taken.old).frames) }
+    ensures room { (taken.new).room + shots (event ∷ []) ≡ (taken.old).room }
 {
-    match what {
+    match event.what {
         What::Down(key) => keys.set(key, true),
         What::Up(key) => keys.set(key, false),
-        What::Shot => {}
+        What::Shot => taken.take(frame),
     }
 }
 
-// The events of tick `k`.
-fn happen(events: &[Event], place: &mut usize, keys: &mut Keys, k: u64)
+// The events of tick `k`, at which this is the last finished frame.
+fn happen(
+    events: &[Event],
+    place: &mut usize,
+    keys: &mut Keys,
+    taken: &mut Shots,
+    frame: &Frame,
+    k: u64,
+)
     requires rules { All IsEvent events.now }
     requires within { place.old ≤ length events.now }
+    requires room { shots (drop place.old events.now) ≤ (taken.old).room }
     requires is_left { IsLeft events.now (drop place.old events.now) (keys_of keys.old) k }
+    requires has_left { HasLeft events.now (drop place.old events.now) k }
     requires later { NeverFallsFrom k (drop place.old events.now) }
     ensures within { place.new ≤ length events.now }
+    ensures room { shots (drop place.new events.now) ≤ (taken.new).room }
     ensures is_left { IsLeft events.now (drop place.new events.now) (keys_of keys.new) (k + 1) }
+    ensures has_left { HasLeft events.now (drop place.new events.now) (k + 1) }
     ensures later { NeverFallsFrom (k + 1) (drop place.new events.now) }
+    ensures taken { (taken.new).frames ≡ shot_at k events.now frame.now (taken.old).frames }
 {
     while *place < events.len() && events[*place].tick.0 == k {
-        turn(keys, events[*place].what);
+        turn(keys, taken, frame, events[*place]);
         *place += 1;
     }
 }
@@ -59,44 +80,67 @@ fn event_tick(events: &[Event], place: usize) -> u64
 }
 
 impl Playback {
-    /// A script before its first event.
-    pub(crate) fn new(script: Script) -> Playback
+    // A script before its first event.
+    fn new(script: Script, taken: Shots) -> Playback
+        requires none { taken.frames ≡ [] }
+        requires room { taken.room ≡ shots script }
         ensures script { result.script ≡ script }
+        ensures shots { result.shots.frames ≡ [] }
         ensures played { IsPlayed result 0 }
     {
         let event = event_tick(script.events(), 0);
         Playback {
             script,
             keys: Keys::new(),
+            shots: taken,
             place: 0,
             event,
         }
     }
 
-    /// Tick `k`.
+    /// A script before its first event, with memory for all of its shots.
+    pub(crate) fn make(alloc: Global, script: Script) -> Result<Playback, NoMemory>
+        ensures script { IfOk result (λ p. p.script ≡ script) }
+        ensures shots { IfOk result (λ p. p.shots.frames ≡ []) }
+        ensures played { IfOk result (λ p. IsPlayed p 0) }
+    {
+        let taken = Shots::make(alloc, script.events())?;
+        Ok(Playback::new(script, taken))
+    }
+
+    /// Tick `k`, at which this is the last finished frame.
     #[inline(always)]
-    pub(crate) fn tick(&mut self, k: u64)
+    pub(crate) fn tick(&mut self, frame: &Frame, k: u64)
         requires room { k < 2 ^ 48 }
         requires played { IsPlayed self.old k }
         ensures script { self.new.script ≡ self.old.script }
+        ensures shots { self.new.shots.frames ≡ shot_at k self.old.script frame.now self.old.shots.frames }
         ensures played { IsPlayed self.new (k + 1) }
     {
         if k < self.event {
             return;
         }
-        self.play(k);
+        self.play(frame, k);
     }
 
     // The events of tick `k`, and the tick of the next.
     #[inline(never)]
-    fn play(&mut self, k: u64)
+    fn play(&mut self, frame: &Frame, k: u64)
         requires room { k < 2 ^ 48 }
         requires played { IsPlayed self.old k }
         ensures script { self.new.script ≡ self.old.script }
+        ensures shots { self.new.shots.frames ≡ shot_at k self.old.script frame.now self.old.shots.frames }
         ensures played { IsPlayed self.new (k + 1) }
     {
         let events = self.script.events();
-        happen(events, &mut self.place, &mut self.keys, k);
+        happen(
+            events,
+            &mut self.place,
+            &mut self.keys,
+            &mut self.shots,
+            frame,
+            k,
+        );
         self.event = event_tick(events, self.place);
     }
 }

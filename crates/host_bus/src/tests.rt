@@ -4,6 +4,7 @@ use beeb_bits::{NoMemory, Tick};
 use bus_plug::BusDevice;
 use disc_image::{Disc, Kind};
 use key_script::read;
+use raster::Frame;
 use rom_set::RomSet;
 use std::alloc::Global;
 use std::test::Fail;
@@ -61,7 +62,7 @@ enum Act {
 use Act::{Look, Read, Rises, Write};
 
 // Does these one after the other, and answers the place of the first that is not as it should be, if there is one.
-fn first_wrong(bus: &mut Bus, acts: &[(u64, Act)]) -> Option<usize> {
+fn first_wrong<D: BusDevice>(bus: &mut Bus<D>, acts: &[(u64, Act)]) -> Option<usize> {
     for (i, (t, act)) in acts.iter().enumerate() {
         if bus.closed() > t % (1 << 40) + 1 {
             return Some(i);
@@ -83,6 +84,11 @@ fn first_wrong(bus: &mut Bus, acts: &[(u64, Act)]) -> Option<usize> {
     None
 }
 
+// How many cycles an access takes that begins at an even cycle, and at an odd one.
+fn cycles_at(at: u16) -> (u8, u8) {
+    (stretch(at, 10), stretch(at, 13))
+}
+
 #[test]
 fn each_address_is_that_of_the_map(rt: HostRuntime) -> Result<(), Fail> {
     // The first and the last address of an area, or of those of one kind in it, what both read first and after a write of A5, and
@@ -95,8 +101,9 @@ fn each_address_is_that_of_the_map(rt: HostRuntime) -> Result<(), Fail> {
         (0xfbff, 0xfbff, 0x13, 0x13, false),
         (0xfc00, 0xfdff, 0xff, 0xff, true),
         (0xfcff, 0xfd00, 0xff, 0xff, true),
-        (0xfe00, 0xfe07, 0xfe, 0xfe, true),
-        (0xfe01, 0xfe06, 0xfe, 0xfe, true),
+        // The 6845's register that is selected, which cannot be read.
+        (0xfe00, 0xfe06, 0xfe, 0xfe, true),
+        (0xfe01, 0xfe07, 0x00, 0x00, true),
         (0xfe08, 0xfe0e, 0x02, 0x02, true),
         (0xfe09, 0xfe0f, 0x00, 0x00, true),
         (0xfe10, 0xfe1f, 0xfe, 0xfe, true),
@@ -142,11 +149,11 @@ fn each_address_is_that_of_the_map(rt: HostRuntime) -> Result<(), Fail> {
                 None,
                 "{at}"
             );
-            assert_eq!(rt; (stretch(at, 10), stretch(at, 13)), cycles, "{at}");
+            assert_eq!(rt; cycles_at(at), cycles, "{at}");
         }
     }
     for at in [0xfee0, 0xfeff] {
-        assert_eq!(rt; (stretch(at, 10), stretch(at, 13)), (1, 1), "{at}");
+        assert_eq!(rt; cycles_at(at), (1, 1), "{at}");
     }
     Ok(())
 }
@@ -236,21 +243,19 @@ fn the_first_owner_answers_and_no_other(rt: HostRuntime) -> Result<(), Fail> {
         plugs,
     )?;
     // Each access is one call.
-    let reads = [
-        bus.read(Tick(0), 0xfc0f),
-        bus.read(Tick(3), 0xfc10),
-        bus.read(Tick(6), 0xfcff),
-        bus.read(Tick(9), 0xfd00),
-        bus.read(Tick(12), 0xfdfe),
-        bus.read(Tick(15), 0xfdff),
+    let acts = [
+        (0, Read(0xfc0f, 20)),
+        (3, Read(0xfc10, 10)),
+        (6, Read(0xfcff, 11)),
+        (9, Read(0xfd00, 21)),
+        (12, Read(0xfdfe, 22)),
+        (15, Read(0xfdff, 0xff)),
+        (18, Write(0xfc10, 0x77)),
+        (21, Write(0xfdff, 0x55)),
+        (24, Read(0xfc20, 0x77)),
+        (27, Read(0xfc00, 23)),
     ];
-    assert_eq!(rt; reads, [20, 10, 11, 21, 22, 0xff]);
-    bus.write(Tick(18), 0xfc10, 0x77);
-    bus.write(Tick(21), 0xfdff, 0x55);
-    assert_eq!(rt;
-        (bus.read(Tick(24), 0xfc20), bus.read(Tick(27), 0xfc00)),
-        (0x77, 23)
-    );
+    assert_eq!(rt; first_wrong(&mut bus, &acts), None);
     let bytes = bus.plugs().iter().map(|device| device.byte);
     assert!(rt; bytes.eq([0x78, 24]));
     Ok(())
@@ -322,14 +327,14 @@ fn a_key_is_seen_at_port_a_and_ca2(rt: HostRuntime) -> Result<(), Fail> {
                 (60, Read(0xfe4d, 0x01)),
             ],
         ),
-        // The last tick that a script can have.
+        // A late tick.
         (
-            "at 1073741824 down 41\n",
+            "at 10000000 down 41\n",
             &[
-                (1_073_741_823, Read(0xfe4f, 0x41)),
-                (1_073_741_824, Read(0xfe4f, 0xc1)),
-                (1_073_741_825, Read(0xfe4d, 0x00)),
-                (1_073_741_826, Read(0xfe4d, 0x01)),
+                (9_999_999, Read(0xfe4f, 0x41)),
+                (10_000_000, Read(0xfe4f, 0xc1)),
+                (10_000_001, Read(0xfe4d, 0x00)),
+                (10_000_002, Read(0xfe4d, 0x01)),
             ],
         ),
     ];
@@ -343,7 +348,7 @@ fn a_key_is_seen_at_port_a_and_ca2(rt: HostRuntime) -> Result<(), Fail> {
 
 #[test]
 fn the_latch_and_the_timers_go_by_the_bus(rt: HostRuntime) -> Result<(), Fail> {
-    let rows: [(&str, &[(u64, Act)]); 5] = [
+    let rows: [(&str, &[(u64, Act)]); 4] = [
         // The pins of port B go to the latch after a write to its direction and after one to it, and not after one to port A. Key 7F is down,
         // whose number port A has where it is not written.
         (
@@ -402,12 +407,112 @@ fn the_latch_and_the_timers_go_by_the_bus(rt: HostRuntime) -> Result<(), Fail> {
         ),
         // The user's pins are 1: CA1 and CA2 rise in microsecond 0, and CB1 and CB2 never.
         ("", &[(0, Write(0xfe6c, 0x55)), (6, Read(0xfe6d, 0x00))]),
-        // Vertical sync, on the system's CA1, is low.
-        ("", &[(0, Write(0xfe4c, 0x01)), (60, Read(0xfe4d, 0x00))]),
     ];
     for (i, (script, acts)) in rows.into_iter().enumerate() {
         let mut bus = bus_with(rt.alloc(), script)?;
         assert_eq!(rt; first_wrong(&mut bus, acts), None, "{i}");
+    }
+    Ok(())
+}
+
+// Before microsecond 1: 39 rows of 8 lines of 64 characters, of which 32 rows of 40 characters are shown, of sixteen dots each, from the
+// address with this high byte on; two dots a pixel, black or white. Vertical sync begins in microsecond 17,409, and each 19,968 later.
+fn show(bus: &mut Bus, high: u8) -> bool {
+    let registers = [
+        0x3f, 0x28, 0x31, 0x24, 0x26, 0x00, 0x20, 0x22, 0x00, 0x07, 0x00, 0x00, high, 0x00,
+    ];
+    let mut wrong = None;
+    for (n, v) in registers.into_iter().enumerate() {
+        let even = 0xfe00 + (n % 4 * 2) as u16;
+        let acts = [(0, Write(even, n as u8)), (0, Write(even + 1, v))];
+        wrong = wrong.or(first_wrong(bus, &acts));
+    }
+    for n in 0..16 {
+        let v = 16 * n + if n < 8 { 7 } else { 0 };
+        let odd = 0xfe21 + u16::from(n / 2 * 2);
+        wrong = wrong.or(first_wrong(bus, &[(0, Write(odd, v))]));
+    }
+    wrong
+        .or(first_wrong(bus, &[(0, Write(0xfe2e, 0x08))]))
+        .is_none()
+}
+
+// How many dots of each frame are not black.
+fn lit(frames: &[Frame]) -> [Option<usize>; 4] {
+    [0, 1, 2, 3].map(|i| {
+        frames.get(i).map(|frame| frame.colours.iter().filter(|colour| **colour > 0).count())
+    })
+}
+
+#[test]
+fn a_shot_takes_the_last_finished_frame(rt: HostRuntime) -> Result<(), Fail> {
+    // A5 in white and black
+    let dots = [7, 7, 0, 0, 7, 7, 0, 0, 0, 0, 7, 7, 0, 0, 7, 7];
+    // The high byte of the address; what sets bits 4 and 5 of the latch; when A5 is written, and where; and whether it is in the frame that
+    // is finished in microsecond 37,377, whose first byte was read in 19,969, so at tick 119,814.
+    let rows: [(u8, [u8; 2], u64, u16, bool); 7] = [
+        (0x0b, [0x04, 0x05], 1, 0x5800, true),
+        (0x0b, [0x04, 0x05], 119_813, 0x5800, true),
+        (0x0b, [0x04, 0x05], 119_814, 0x5800, false),
+        // An address past the RAM's end, by the size of the screen.
+        (0x10, [0x04, 0x05], 1, 0x4000, true),
+        (0x10, [0x0c, 0x05], 1, 0x6000, true),
+        (0x10, [0x04, 0x0d], 1, 0x3000, true),
+        (0x10, [0x0c, 0x0d], 1, 0x5800, true),
+    ];
+    for (high, [four, five], t, at, is_shown) in rows {
+        let script = "at 1 shot\nat 224262 shot\nat 224263 shot\nat 224263 shot\n";
+        let mut bus = bus_with(rt.alloc(), script)?;
+        let begin = [
+            (1, Write(0xfe42, 0x0f)),
+            (1, Write(0xfe40, four)),
+            (1, Write(0xfe40, five)),
+            (1, Write(0xfe00, 0x0c)),
+            (1, Read(0xfe05, high)),
+            (1, Read(0xfe04, 0xfe)),
+            (t, Write(at, 0xa5)),
+        ];
+        assert!(rt; show(&mut bus, high));
+        assert_eq!(rt; first_wrong(&mut bus, &begin), None);
+        // Each is taken before the microsecond of its tick.
+        for (n, taken) in [(224_262, 1), (224_263, 2), (224_264, 4)] {
+            bus.finish(Tick(n));
+            assert_eq!(rt; bus.frames().len(), taken, "{n}");
+        }
+        let count = if is_shown { 8 } else { 0 };
+        let counts = [Some(0), Some(0), Some(count), Some(count)];
+        assert_eq!(rt; lit(bus.frames()), counts, "{t} {at}");
+        let is_there = bus
+            .frames()
+            .get(3)
+            .map(|frame| frame.colours.starts_with(&dots));
+        assert_eq!(rt; is_there, Some(is_shown), "{t} {at}");
+    }
+    Ok(())
+}
+
+#[test]
+fn vertical_sync_is_seen_at_ca1(rt: HostRuntime) -> Result<(), Fail> {
+    // It rises in microsecond 17,409, at tick 104,454, and is two lines long.
+    let rows: [&[(u64, Act)]; 2] = [
+        &[
+            (1, Write(0xfe4c, 0x01)),
+            (1, Write(0xfe4e, 0x82)),
+            (104_453, Read(0xfe4d, 0x00)),
+            (104_453, Look(false)),
+            (104_454, Look(true)),
+            (104_454, Read(0xfe4d, 0x82)),
+        ],
+        &[
+            (104_454, Write(0xfe4d, 0x7f)),
+            (105_221, Read(0xfe4d, 0x00)),
+            (105_222, Read(0xfe4d, 0x02)),
+        ],
+    ];
+    for acts in rows {
+        let mut bus = bus_with(rt.alloc(), "")?;
+        assert!(rt; show(&mut bus, 0x0b));
+        assert_eq!(rt; first_wrong(&mut bus, acts), None);
     }
     Ok(())
 }

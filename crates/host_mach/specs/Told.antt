@@ -1,7 +1,7 @@
 -- What an access comes to: it is done, or the Tube is asked.
-use Rattle.std.specs.Prelude.{ℕ, ◌≡◌, ◌+◌, Bool, true, false, is_none, if◌then◌else◌, Option, Some, None, MatchOption, Result, Ok, Err}
+use Rattle.std.specs.Prelude.{ℕ, ◌≡◌, ◌+◌, ◌==◌, Bool, true, false, not, is_none, if◌then◌else◌, Option, Some, None, MatchOption, Result, Ok, Err}
 use Rattle.cpu_alu.specs.declared.Cycle.{Cycle}
-use Rattle.cpu6502.specs.Sequences.{next}
+use Rattle.cpu6502.specs.Sequences.{next, after, looked, fresh}
 use Rattle.tube_chip.specs.Act.{access}
 use Rattle.tube_chip.specs.declared.Answer.TheVariants.{Byte}
 use Rattle.tube_chip.specs.declared.Op.{Op}
@@ -43,3 +43,7 @@ IsDone old (Some o) new = (asks old ≡ Some (access o)) × (new ≡ old)
 -- the next step is an access to the Tube
 abbrev pub IsAskedByte : HostState → Type 0
 IsAskedByte s = MatchOption (asks s) ⊥ (λ q. FitsAnswer q (Byte 0))
+
+-- what follows a look, by the count of the NMI line's rises and whether an interrupt is asked for
+abbrev pub begun : HostState → ℕ → Bool → HostState
+begun s nmis irq = record s { cpu = fresh (looked (not (nmis == s.nmis)) irq (after s.cpu)) (after s.cpu); nmis = nmis; due = s.due + 1 }

@@ -4,7 +4,4 @@
 mod exchange;
 mod machine;
 
-pub use machine::{Crosses, HostMachine};
-
-#[cfg(test)]
-mod tests;
+pub use machine::HostMachine;

@@ -8,13 +8,14 @@ ghost use Rattle.host_mach.specs.State.{power_on};
 ghost use Rattle.host_mach.specs.Step.{host_moves, next_state};
 
 use crate::exchange::{exchange, exchange_memory};
-use beeb_bits::{NoMemory, Tick};
+use beeb_bits::{Crosses, NoMemory, Tick};
 use bus_plug::BusDevice;
 use cpu_alu::Regs;
 use cpu6502::Cpu;
 use disc_image::Disc;
 use host_bus::Bus;
 use key_script::Script;
+use raster::Frame;
 use rom_set::RomSet;
 use std::alloc::Global;
 use tube_chip::{Answer, Lines, Op};
@@ -32,17 +33,15 @@ pub struct HostMachine<D = Box<dyn BusDevice + Send>> {
     ghost before: { bus.board.closed ≤ due + 1 },
 }
 
-/// What can be sent to a thread of its own.
-pub trait Crosses: Send {}
-
 // Where its plugged devices can, as boxed ones.
 impl<D: BusDevice + Send> Crosses for HostMachine<D> {}
 
 impl<D: BusDevice> HostMachine<D> {
     ghost use Rattle.host_mach.specs.View.{host_seen};
-    ghost use Rattle.host_mach.specs.Told.{IsDone, IsQuick, IsAskedByte};
+    ghost use Rattle.host_mach.specs.Told.{IsDone, IsQuick, IsAskedByte, begun};
 
-    /// The machine at power-on, before the first cycle of a reset. Where memory is wanting, all is dropped.
+    /// The machine at power-on, before the first cycle of a reset. It takes the memory of all shots of the script. Where memory is wanting,
+    /// all is dropped.
     pub fn make(
         alloc: Global,
         roms: RomSet,
@@ -81,6 +80,14 @@ impl<D: BusDevice> HostMachine<D> {
         ensures { result.now ≡ (host_seen D.plug self.now).bus.board.ram }
     {
         self.bus.ram()
+    }
+
+    /// The frames that shots took so far, the oldest first. A shot takes the last frame that was finished, or a black one, before the
+    /// device step at its tick.
+    pub fn frames(&self) -> &[Frame]
+        ensures { result.now ≡ (host_seen D.plug self.now).bus.board.shots }
+    {
+        self.bus.frames()
     }
 
     /// The disc in drive 0 or 1. None where the drive has none, and for any other number.
@@ -180,6 +187,17 @@ impl<D: BusDevice> HostMachine<D> {
     {
         let nmis = self.bus.nmis(Tick(self.due));
         let irq = self.bus.irq(Tick(self.due)) || lines.hirq;
+        self.begin(nmis, irq);
+    }
+
+    // What follows a look: an NMI, where the count of its line's rises is not the one taken, an IRQ, if one asks for it and it is not
+    // disabled, or the next instruction.
+    #[inline(always)]
+    fn begin(&mut self, nmis: u64, irq: bool)
+        requires room { self.old.due < 2 ^ 40 }
+        requires over { next self.old.cpu ≡ None }
+        ensures { host_seen D.plug self.new ≡ begun (host_seen D.plug self.old) nmis irq }
+    {
         self.cpu.take_lines(nmis != self.nmis, irq);
         self.nmis = nmis;
         self.due += 1;

@@ -1,4 +1,4 @@
-use Rattle.std.proofs.Common.{sym, ap, arith}
+use Rattle.std.proofs.Common.{sym, ap, refl, arith}
 use Rattle.std.specs.Prelude.{unwrap_or}
 use Rattle.keyboard.specs.Keys.{Keys}
 use Rattle.key_script.specs.Keys.{last_made}
@@ -10,6 +10,8 @@ returns-clause-played c =
     let order = c.events.ensures.rules.order in
     record {
       within = omega arith;
+      room = omega (arith, c.requires.room);
+      has_left = λ k late. refl;
       is_left = λ k key late. ap (λ (f : Keys). unwrap_or (last_made key k c.args.script) (f key)) (sym c.new.ensures);
       later = event.later 0 order;
       early = event.above 0 (omega arith) order;

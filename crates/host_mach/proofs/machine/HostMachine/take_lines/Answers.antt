@@ -18,4 +18,5 @@ returns g c =
       | then-irq w ↦ w.irq-is ∙ w.if-irq.true ∙ sym (ap (λ (x : Bool). x || hirq) w.if-irq.true)
       | else-irq w ↦ w.irq-is ∙ sym (ap (λ (x : Bool). x || hirq) w.if-irq.false)
     ] in
-    looked_at-is old c.args.lines (bus_seen plug c.irq.new.self) c.nmis-nmis.result c.if-irq.irq c.take_lines.new.self c.requires.over c.nmis-nmis.ensures.answer (either ∙ ap (λ (x : Bool). x || hirq) (c.irq.ensures.answer ∙ ap bus_irq again)) (c.irq.ensures.after ∙ again) c.take_lines.ensures
+    c.begin.ensures
+    ∙ looked_at-is old c.args.lines (bus_seen plug c.irq.new.self) c.nmis-nmis.result c.if-irq.irq c.requires.over c.nmis-nmis.ensures.answer (either ∙ ap (λ (x : Bool). x || hirq) (c.irq.ensures.answer ∙ ap bus_irq again)) (c.irq.ensures.after ∙ again)
