@@ -1,16 +1,13 @@
--- The discs in drive 0 and drive 1, from the files that are read to the files that are written.
-use Rattle.std.specs.Prelude.{ℕ, nat_lt, List, [], ◌++◌, length, Option, Some, None, Result, Ok, Err, codes, if◌then◌else◌}
+-- The discs in drive 0 and drive 1, of the files that are read.
+use Rattle.std.specs.Prelude.{ℕ, nat_lt, List, length, Option, Some, None, Result, Ok, Err, if◌then◌else◌}
 use Rattle.disc_image.specs.declared.Kind.{Kind}
 use Rattle.disc_image.specs.Image.{Image, largest}
-use Rattle.host_bus.specs.Bus.{bus_disc}
-use Rattle.host_mach.specs.State.{HostState}
 use Rattle.beeb_run.specs.Plan.{◌>>=◌}
 use Rattle.beeb_run.specs.declared.stop.Refusal.{Refusal}
 use Rattle.beeb_run.specs.declared.stop.Refusal.TheVariants as refusals
 use Rattle.beeb_commands.specs.declared.status.Which.TheVariants.{Disc}
 use Rattle.beeb_commands.specs.declared.status.Cause.{Cause}
 use Rattle.beeb_commands.specs.declared.status.Cause.TheVariants.{BadImage}
-use Rattle.beeb_commands.specs.Verdicts.{memory_file}
 
 -- The disc in a drive, if one is given. Its image may have any length up to the largest of its kind.
 abbrev pub disc_of : ℕ → Kind → Option (List ℕ) → Result (Option Image) (Refusal Cause)
@@ -21,12 +18,3 @@ disc_of drive kind (Some bytes) =
 -- the discs of both drives, by their kinds and their images
 abbrev pub discs_of : Kind × Kind → Option (List ℕ) → Option (List ℕ) → Result (Option Image × Option Image) (Refusal Cause)
 discs_of kinds disc0 disc1 = disc_of 0 kinds.0 disc0 >>= λ d0. disc_of 1 kinds.1 disc1 >>= λ d1. Ok (d0, d1)
-
--- the file of a disc, if there is one: exactly its bytes
-abbrev pub disc_file : List ℕ → List ℕ → Option Image → List (List ℕ × List ℕ)
-disc_file out drive None = []
-disc_file out drive (Some disc) = memory_file out drive disc.bytes
-
--- the discs as the machine leaves them
-abbrev pub disc_files : List ℕ → HostState → List (List ℕ × List ℕ)
-disc_files out s = disc_file out (codes ".d0") (bus_disc 0 s.bus) ++ disc_file out (codes ".d1") (bus_disc 1 s.bus)

@@ -1,9 +1,8 @@
 -- `replay host TRACE TICKS OUT --os NAME` and options: the BBC Micro against a trace.
-use Rattle.std.specs.Prelude.{ℕ, List, [], ◌++◌, Option, Some, None, Result, Ok, Err, codes}
+use Rattle.std.specs.Prelude.{ℕ, List, Option, Some, None, Result, Ok, Err}
 use Rattle.beeb_bits.specs.declared.Side.TheVariants.{Host}
 use Rattle.tube_trace.specs.Wrong.{wrong}
 use Rattle.tube_party.specs.Replay.{replayed}
-use Rattle.cpu6502.specs.Sequences.{halted}
 use Rattle.disc_image.specs.declared.Kind.{Kind}
 use Rattle.rom_set.specs.Roms.{Roms, refusal}
 use Rattle.rom_set.specs.declared.RomError.{RomError}
@@ -11,39 +10,24 @@ use Rattle.rom_set.specs.declared.RomError.TheVariants.{BadOs, BadSlot, BadFont}
 use Rattle.bus_plug.specs.Plug.{Plug}
 use Rattle.host_mach.specs.State.{HostState, power_on}
 use Rattle.host_mach.specs.Step.{host_moves}
-use Rattle.report.specs.declared.Line.{Line}
-use Rattle.report.specs.Text.{text}
+use Rattle.machine_files.specs.Host.{host_files}
 use Rattle.beeb_run.specs.Plan.{Verdict, ◌>>=◌}
 use Rattle.beeb_run.specs.declared.stop.Refusal.{Refusal}
 use Rattle.beeb_run.specs.declared.stop.Refusal.TheVariants as refusals
 use Rattle.beeb_commands.specs.declared.status.Which.TheVariants.{Os, Rom, Font}
 use Rattle.beeb_commands.specs.declared.status.Ending.{Ending}
-use Rattle.beeb_commands.specs.declared.status.Ending.TheVariants.{Done}
 use Rattle.beeb_commands.specs.declared.status.Cause.{Cause}
 use Rattle.beeb_commands.specs.declared.status.Cause.TheVariants.{BadImage}
 use Rattle.beeb_commands.specs.Inputs.{Inputs}
-use Rattle.beeb_commands.specs.Verdicts.{report_file, memory_file}
+use Rattle.beeb_commands.specs.Verdicts.{files_verdict}
 use Rattle.beeb_commands.specs.Check.{entries_of}
 use Rattle.beeb_commands.specs.Script.{script_of}
-use Rattle.beeb_commands.specs.Discs.{discs_of, disc_files}
+use Rattle.beeb_commands.specs.Discs.{discs_of}
 use Rattle.beeb_commands.specs.Replay.{side_count, ended, checked}
 
--- the host's line in a report
-abbrev pub host_line : HostState → Line
-host_line s = record { regs = s.cpu.regs; stopped = halted s.cpu }
-
-abbrev pub host_memory : List ℕ → HostState → List (List ℕ × List ℕ)
-host_memory out s = memory_file out (codes ".host") s.bus.board.ram
-
--- The machine where it ended: its report, in which no frame was taken, its memory, and its discs.
-abbrev pub host_files : ℕ → ℕ → List ℕ → HostState → List (List ℕ × List ℕ)
-host_files ticks tube out s =
-    report_file out (text ticks (Some (host_line s)) None tube None (Some 0))
-    ++ host_memory out s
-    ++ disc_files out s
-
+-- what the machine leaves where it ended
 abbrev pub host_verdict : ℕ → ℕ → List ℕ → HostState → Verdict Ending
-host_verdict ticks tube out s = record { ending = Done; files = host_files ticks tube out s; said = [] }
+host_verdict ticks tube out s = files_verdict (host_files ticks tube out s)
 
 -- the image of another length than it has to have
 abbrev pub rom_cause : RomError → Cause

@@ -9,6 +9,7 @@ pub mod Replay
 pub mod Para
 pub mod Host
 pub mod Solo
+pub mod Gen
 pub mod Seen
 pub mod Commands
 pub mod Headline

@@ -1,39 +1,26 @@
 -- `replay para TRACE TICKS OUT --tube NAME`: the second processor against a trace.
-use Rattle.std.specs.Prelude.{ℕ, ◌==◌, List, [], ◌++◌, length, Some, None, Result, Ok, Err, if◌then◌else◌, codes}
+use Rattle.std.specs.Prelude.{ℕ, ◌==◌, List, length, Result, Ok, Err, if◌then◌else◌}
 use Rattle.beeb_bits.specs.declared.Side.TheVariants.{Para}
 use Rattle.tube_trace.specs.Wrong.{wrong}
 use Rattle.tube_party.specs.Replay.{replayed}
-use Rattle.para_mach.specs.State.{ParaState, power_on, shown_regs}
+use Rattle.para_mach.specs.State.{ParaState, power_on}
 use Rattle.para_mach.specs.Step.{para_moves}
-use Rattle.report.specs.declared.Line.{Line}
-use Rattle.report.specs.Text.{text}
+use Rattle.machine_files.specs.Para.{para_files}
 use Rattle.beeb_run.specs.Plan.{Verdict, ◌>>=◌}
 use Rattle.beeb_run.specs.declared.stop.Refusal.{Refusal}
 use Rattle.beeb_run.specs.declared.stop.Refusal.TheVariants as refusals
 use Rattle.beeb_commands.specs.declared.status.Which.TheVariants.{Tube}
 use Rattle.beeb_commands.specs.declared.status.Ending.{Ending}
-use Rattle.beeb_commands.specs.declared.status.Ending.TheVariants.{Done}
 use Rattle.beeb_commands.specs.declared.status.Cause.{Cause}
 use Rattle.beeb_commands.specs.declared.status.Cause.TheVariants.{BadImage}
 use Rattle.beeb_commands.specs.Inputs.{Inputs}
-use Rattle.beeb_commands.specs.Verdicts.{report_file, memory_file}
+use Rattle.beeb_commands.specs.Verdicts.{files_verdict}
 use Rattle.beeb_commands.specs.Check.{entries_of}
 use Rattle.beeb_commands.specs.Replay.{side_count, ended, checked}
 
--- the second processor's line in a report
-abbrev pub para_line : ParaState → Line
-para_line s = record { regs = shown_regs s; stopped = s.is_held }
-
-abbrev pub para_memory : List ℕ → ParaState → List (List ℕ × List ℕ)
-para_memory out s = memory_file out (codes ".para") s.ram
-
--- the machine where it ended: its report, and its memory
-abbrev pub para_files : ℕ → ℕ → List ℕ → ParaState → List (List ℕ × List ℕ)
-para_files ticks tube out s =
-    report_file out (text ticks None (Some (para_line s)) tube None None) ++ para_memory out s
-
+-- what the machine leaves where it ended
 abbrev pub para_verdict : ℕ → ℕ → List ℕ → ParaState → Verdict Ending
-para_verdict ticks tube out s = record { ending = Done; files = para_files ticks tube out s; said = [] }
+para_verdict ticks tube out s = files_verdict (para_files ticks tube out s)
 
 abbrev pub rom_of : List ℕ → Result (List ℕ) (Refusal Cause)
 rom_of bytes = if length bytes == 2048 then Ok bytes else Err (refusals.Cause (BadImage Tube (length bytes)))

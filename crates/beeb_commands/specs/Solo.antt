@@ -1,5 +1,5 @@
 -- `solo TICKS OUT --os NAME --tube NAME` and `run` with the same words, and options: both machines at the Tube, by the reference run.
-use Rattle.std.specs.Prelude.{ℕ, ◌==◌, List, [], ◌∷◌, ◌++◌, length, take, Some, Result, Ok, Err, codes, if◌then◌else◌}
+use Rattle.std.specs.Prelude.{ℕ, ◌==◌, List, length, take, Result, Ok, Err, if◌then◌else◌}
 use Rattle.tube_trace.specs.Entries.{accesses}
 use Rattle.tube_trace.specs.Text.{text_of}
 use Rattle.tube_party.specs.Reference.{World, reference}
@@ -9,37 +9,24 @@ use Rattle.host_mach.specs.State as host
 use Rattle.host_mach.specs.Step.{host_moves}
 use Rattle.para_mach.specs.State as para
 use Rattle.para_mach.specs.Step.{para_moves}
-use Rattle.report.specs.Text.{text}
+use Rattle.machine_files.specs.Both.{both_files}
 use Rattle.beeb_run.specs.Plan.{Verdict, ◌>>=◌}
 use Rattle.beeb_run.specs.declared.stop.Refusal.{Refusal}
 use Rattle.beeb_run.specs.declared.stop.Refusal.TheVariants as refusals
 use Rattle.beeb_commands.specs.declared.status.Which.TheVariants.{Os}
 use Rattle.beeb_commands.specs.declared.status.Ending.{Ending}
-use Rattle.beeb_commands.specs.declared.status.Ending.TheVariants.{Done}
 use Rattle.beeb_commands.specs.declared.status.Cause.{Cause}
 use Rattle.beeb_commands.specs.declared.status.Cause.TheVariants.{BadImage}
 use Rattle.beeb_commands.specs.Inputs.{Inputs}
-use Rattle.beeb_commands.specs.Verdicts.{report_file}
-use Rattle.beeb_commands.specs.Para.{para_line, para_memory, rom_of}
-use Rattle.beeb_commands.specs.Host.{host_line, host_memory, roms_of}
+use Rattle.beeb_commands.specs.Verdicts.{files_verdict}
+use Rattle.beeb_commands.specs.Para.{rom_of}
+use Rattle.beeb_commands.specs.Host.{roms_of}
 use Rattle.beeb_commands.specs.Script.{script_of}
-use Rattle.beeb_commands.specs.Discs.{discs_of, disc_files}
+use Rattle.beeb_commands.specs.Discs.{discs_of}
 
-abbrev pub trace_file : List ℕ → List ℕ → List (List ℕ × List ℕ)
-trace_file out trace = (out ++ codes ".trace", trace) ∷ []
-
--- Both machines where they ended: the report with the number of all accesses to the Tube and of those that are kept, in which no frame was
--- taken; the memories, the host's first; the discs; and the trace of what is kept.
-abbrev pub solo_files : ℕ → ℕ → ℕ → List ℕ → host.HostState → para.ParaState → List ℕ → List (List ℕ × List ℕ)
-solo_files ticks tube kept out s p trace =
-    report_file out (text ticks (Some (host_line s)) (Some (para_line p)) tube (Some kept) (Some 0))
-    ++ host_memory out s
-    ++ para_memory out p
-    ++ disc_files out s
-    ++ trace_file out trace
-
+-- what both machines leave where they ended
 abbrev pub solo_verdict : ℕ → ℕ → ℕ → List ℕ → host.HostState → para.ParaState → List ℕ → Verdict Ending
-solo_verdict ticks tube kept out s p trace = record { ending = Done; files = solo_files ticks tube kept out s p trace; said = [] }
+solo_verdict ticks tube kept out s p trace = files_verdict (both_files ticks tube kept out s p trace)
 
 -- The world after a run, of whose accesses in their one order the first `keep` are kept.
 abbrev pub kept_verdict : ℕ → ℕ → List ℕ → World host.HostState para.ParaState → Verdict Ending

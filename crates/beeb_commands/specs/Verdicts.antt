@@ -1,5 +1,5 @@
 -- The verdicts that several commands have.
-use Rattle.std.specs.Prelude.{ℕ, List, [], ◌∷◌, ◌++◌, codes}
+use Rattle.std.specs.Prelude.{ℕ, List, [], ◌∷◌}
 use Rattle.beeb_run.specs.Plan.{Verdict}
 use Rattle.beeb_commands.specs.declared.status.Ending.{Ending}
 use Rattle.beeb_commands.specs.declared.status.Ending.TheVariants.{Done}
@@ -12,9 +12,6 @@ said_verdict ending text = record { ending = ending; files = []; said = text }
 abbrev pub file_verdict : List ℕ → List ℕ → Verdict Ending
 file_verdict out bytes = record { ending = Done; files = (out, bytes) ∷ []; said = [] }
 
--- the report, and the memory of a machine
-abbrev pub report_file : List ℕ → List ℕ → List (List ℕ × List ℕ)
-report_file out report = (out ++ codes ".report", report) ∷ []
-
-abbrev pub memory_file : List ℕ → List ℕ → List ℕ → List (List ℕ × List ℕ)
-memory_file out machine memory = (out ++ machine, memory) ∷ []
+-- what the machines leave
+abbrev pub files_verdict : List (List ℕ × List ℕ) → Verdict Ending
+files_verdict files = record { ending = Done; files = files; said = [] }

@@ -17,18 +17,20 @@ use std::sync::Wait;
 use std::thread::Threads;
 
 /// Carries out the command that the words spell, on the files of the shelf, and writes what comes of it to the outlet. It has no crew, so it
-/// takes no words of `run`.
+/// takes no words of `run`. The first of the devices are plugged where the host is there, as many as the words say. All are dropped at the
+/// return.
 pub fn plain<S: Shelf, O: Outlet>(
     alloc: Global,
     words: &[String],
     shelf: &mut S,
     out: &mut O,
+    plugs: Vec<Box<dyn BusDevice + Send>>,
 ) -> Status
     // `Usage` comes exactly where the words are outside the grammar or spell `run`, and then shelf and outlet are as they were.
     ensures usage { (result ≡ Status.Usage) ↔ (unpaired (command (map string_bytes words.now)) ≡ None) }
     ensures refused { IfNone (unpaired (command (map string_bytes words.now))) (world (S.shelf shelf.new) (O.outlet out.new) nobody ≡ world (S.shelf shelf.old) (O.outlet out.old) nobody) }
-    // Else the command is carried out.
-    ensures ran { IfSome (unpaired (command (map string_bytes words.now))) (λ c. EndsWith c (world (S.shelf shelf.old) (O.outlet out.old) nobody) (world (S.shelf shelf.new) (O.outlet out.new) nobody) result) }
+    // Else the command is carried out, with the devices as they were handed in.
+    ensures ran { IfSome (unpaired (command (map string_bytes words.now))) (λ c. EndsWith (map ⟦<Box<dyn BusDevice + Send> as BusDevice>⟧.plug plugs.items) c (world (S.shelf shelf.old) (O.outlet out.old) nobody) (world (S.shelf shelf.new) (O.outlet out.new) nobody) result) }
 {
     let Some(command) = command_of(words) else {
         return Status::Usage;
@@ -36,12 +38,12 @@ pub fn plain<S: Shelf, O: Outlet>(
     if command.is_paired() {
         return Status::Usage;
     }
-    let plugs: Vec<Box<dyn BusDevice + Send>> = Vec::new(alloc);
     status_of(carry_out(alloc, Job { command, plugs }, shelf, out))
 }
 
 /// Carries out the command that the words spell, on the files of the shelf, and writes what comes of it to the outlet. `run` has the crew work
-/// its two machines; every other command goes to `plain`.
+/// its two machines; every other command goes to `plain`. The first of the devices are plugged where the host is there, as many as the words
+/// say. All are dropped at the return.
 pub fn top<S: Shelf, O: Outlet, C: Crew, R: Threads + Wait + Sync>(
     rt: &R,
     alloc: Global,
@@ -49,22 +51,22 @@ pub fn top<S: Shelf, O: Outlet, C: Crew, R: Threads + Wait + Sync>(
     shelf: &mut S,
     out: &mut O,
     crew: &mut C,
+    plugs: Vec<Box<dyn BusDevice + Send>>,
 ) -> Status
     // `Usage` comes exactly where the words are outside the grammar, and then shelf, outlet and the crew's counts are as they were.
     ensures usage { (result ≡ Status.Usage) ↔ (command (map string_bytes words.now) ≡ None) }
     ensures refused { IfNone (command (map string_bytes words.now)) (world (S.shelf shelf.new) (O.outlet out.new) (crew_of (C.faults crew.new) (C.pairs crew.new)) ≡ world (S.shelf shelf.old) (O.outlet out.old) (crew_of (C.faults crew.old) (C.pairs crew.old))) }
     // The headline: where `run` ends with `Done`, what is written is what the reference run of both machines leaves.
-    ensures headline { result ≡ Status.Done → Headline (command (map string_bytes words.now)) (world (S.shelf shelf.old) (O.outlet out.old) (crew_of (C.faults crew.old) (C.pairs crew.old))) (world (S.shelf shelf.new) (O.outlet out.new) (crew_of (C.faults crew.new) (C.pairs crew.new))) }
+    ensures headline { result ≡ Status.Done → Headline (map ⟦<Box<dyn BusDevice + Send> as BusDevice>⟧.plug plugs.items) (command (map string_bytes words.now)) (world (S.shelf shelf.old) (O.outlet out.old) (crew_of (C.faults crew.old) (C.pairs crew.old))) (world (S.shelf shelf.new) (O.outlet out.new) (crew_of (C.faults crew.new) (C.pairs crew.new))) }
     // Each command is carried out, `run` as `solo` with a crew: no clause names an order in which the steps of the two threads fell.
-    ensures ran { IfSome (command (map string_bytes words.now)) (λ c. EndsWith c (world (S.shelf shelf.old) (O.outlet out.old) (crew_of (C.faults crew.old) (C.pairs crew.old))) (world (S.shelf shelf.new) (O.outlet out.new) (crew_of (C.faults crew.new) (C.pairs crew.new))) result) }
+    ensures ran { IfSome (command (map string_bytes words.now)) (λ c. EndsWith (map ⟦<Box<dyn BusDevice + Send> as BusDevice>⟧.plug plugs.items) c (world (S.shelf shelf.old) (O.outlet out.old) (crew_of (C.faults crew.old) (C.pairs crew.old))) (world (S.shelf shelf.new) (O.outlet out.new) (crew_of (C.faults crew.new) (C.pairs crew.new))) result) }
 {
     let Some(command) = command_of(words) else {
         return Status::Usage;
     };
     if command.is_paired() {
-        let plugs: Vec<Box<dyn BusDevice + Send>> = Vec::new(alloc);
         status_of(run_command(rt, alloc, command, plugs, shelf, out, crew))
     } else {
-        plain(alloc, words, shelf, out)
+        plain(alloc, words, shelf, out, plugs)
     }
 }

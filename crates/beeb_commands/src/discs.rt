@@ -1,18 +1,14 @@
-//! The discs in drive 0 and drive 1, from the files that are read to the files that are written.
-ghost use Rattle.std.specs.Prelude.{◌≡◌, ◌<◌, ◌≤◌, ℕ, List, Option, length, option_map, IfOk, slice_index_or};
+//! The discs in drive 0 and drive 1, of the files that are read.
+ghost use Rattle.std.specs.Prelude.{Option, option_map};
 ghost use Rattle.disc_image.specs.Image.{Image};
-ghost use Rattle.host_mach.specs.View.{host_seen};
-ghost use Rattle.beeb_run.specs.Seen.{Gives, seen_file};
-ghost use Rattle.beeb_commands.specs.Discs.{disc_of, discs_of, disc_files};
+ghost use Rattle.beeb_run.specs.Seen.{Gives};
+ghost use Rattle.beeb_commands.specs.Discs.{disc_of, discs_of};
 ghost use Rattle.beeb_commands.specs.Seen.{items};
 
-use crate::replay::memory_file;
 use crate::status::{Cause, Which};
 use beeb_run::Refusal;
-use bus_plug::BusDevice;
 use disc_image::{Disc, DiscError, Kind};
-use host_mach::HostMachine;
-use std::alloc::{AllocError, Global};
+use std::alloc::Global;
 
 // The disc in a drive, if one is given.
 fn disc_of(
@@ -48,33 +44,4 @@ pub(crate) fn discs_of(
     let d0 = disc_of(alloc, 0, kinds.0, disc0)?;
     let d1 = disc_of(alloc, 1, kinds.1, disc1)?;
     Ok((d0, d1))
-}
-
-/// How many discs there are.
-pub(crate) fn disc_count<D: BusDevice>(machine: &HostMachine<D>) -> usize
-    ensures value { (out : List ℕ) → result ≡ length (disc_files out (host_seen D.plug machine.now)) }
-    ensures bound { result ≤ 2 }
-{
-    match (machine.disc(0), machine.disc(1)) {
-        (None, None) => 0,
-        (Some(_), None) | (None, Some(_)) => 1,
-        (Some(_), Some(_)) => 2,
-    }
-}
-
-/// The file of a disc, drive 0's before drive 1's.
-pub(crate) fn disc_file<D: BusDevice>(
-    alloc: Global,
-    out: &str,
-    machine: &HostMachine<D>,
-    i: usize,
-) -> Result<(String, Vec<u8>), AllocError>
-    requires { i < length (disc_files out.now (host_seen D.plug machine.now)) }
-    ensures { IfOk result (λ f. slice_index_or (disc_files out.now (host_seen D.plug machine.now)) i (seen_file f) ≡ seen_file f) }
-{
-    match (machine.disc(0), machine.disc(1)) {
-        (Some(disc), _) if i == 0 => memory_file(alloc, out, ".d0", disc.bytes()),
-        (_, Some(disc)) => memory_file(alloc, out, ".d1", disc.bytes()),
-        (_, None) => unreachable!(),
-    }
 }

@@ -1,5 +1,5 @@
 //! `replay host TRACE TICKS OUT --os NAME` and options.
-ghost use Rattle.std.specs.Prelude.{◌≡◌, ◌<◌, ◌≤◌, All, length, map, IfOk, slice_index_or};
+ghost use Rattle.std.specs.Prelude.{◌≡◌, ◌<◌, ◌≤◌, All, map, IfOk};
 ghost use Rattle.beeb_bits.specs.declared.Side.TheVariants.{Host};
 ghost use Rattle.tube_trace.specs.Entries.{IsEntry};
 ghost use Rattle.tube_party.specs.Replay.{replayed};
@@ -7,16 +7,16 @@ ghost use Rattle.rom_set.specs.Roms.{Roms, roms_seen, font_seen};
 ghost use Rattle.host_mach.specs.State.{power_on};
 ghost use Rattle.host_mach.specs.Step.{host_moves};
 ghost use Rattle.host_mach.specs.View.{host_seen};
-ghost use Rattle.beeb_run.specs.Seen.{Gives, seen_file};
+ghost use Rattle.beeb_run.specs.Seen.{Gives};
 ghost use Rattle.beeb_commands.specs.Replay.{side_count, ended};
-ghost use Rattle.beeb_commands.specs.Host.{host_line, host_files, host_verdict, rom_cause, roms_of, host_after};
+ghost use Rattle.beeb_commands.specs.Host.{host_verdict, rom_cause, roms_of, host_after};
 ghost use Rattle.beeb_commands.specs.Seen.{seen_inputs, verdict_of};
 
 use crate::check::{entries_of, wrong_product};
-use crate::discs::{disc_file, discs_of};
+use crate::discs::discs_of;
 use crate::inputs::Inputs;
 use crate::product::Product;
-use crate::replay::{differs_product, memory_file, report_file, side_count};
+use crate::replay::{differs_product, side_count};
 use crate::script::script_of;
 use crate::status::{Cause, Which};
 use beeb_bits::{Side, Tick};
@@ -24,7 +24,6 @@ use beeb_run::Refusal;
 use bus_plug::BusDevice;
 use disc_image::Kind;
 use host_mach::HostMachine;
-use report::Line;
 use rom_set::{RomError, RomSet};
 use std::alloc::{AllocError, Global};
 use tube_party::{MOST, replay};
@@ -61,38 +60,6 @@ pub(crate) fn roms_of(
     match RomSet::read(os, slots, font) {
         Ok(roms) => Ok(roms),
         Err(error) => Err(Refusal::Cause(rom_cause(error))),
-    }
-}
-
-/// The host's line in a report.
-pub(crate) fn host_line<D: BusDevice>(machine: &HostMachine<D>) -> Line
-    ensures { result ≡ host_line (host_seen D.plug machine.now) }
-{
-    Line {
-        regs: machine.regs(),
-        stopped: machine.halted(),
-    }
-}
-
-/// The report, the memory, which is file 1, or a disc.
-pub(crate) fn host_file<D: BusDevice>(
-    alloc: Global,
-    n: Tick,
-    tube: u64,
-    out: &str,
-    machine: &HostMachine<D>,
-    i: usize,
-) -> Result<(String, Vec<u8>), AllocError>
-    requires { i < length (host_files n.0 tube out.now (host_seen D.plug machine.now)) }
-    ensures { IfOk result (λ f. slice_index_or (host_files n.0 tube out.now (host_seen D.plug machine.now)) i (seen_file f) ≡ seen_file f) }
-{
-    match i {
-        0 => {
-            let line = host_line(machine);
-            report_file(alloc, out, n, Some(line), None, tube, None, Some(0))
-        }
-        1 => memory_file(alloc, out, ".host", machine.ram()),
-        _ => disc_file(alloc, out, machine, i - 2),
     }
 }
 

@@ -23,7 +23,7 @@ pub(crate) struct Inputs {
 }
 
 impl Inputs {
-    fn none(alloc: Global) -> Inputs
+    pub(crate) fn none(alloc: Global) -> Inputs
         ensures { seen_inputs result ≡ no_inputs }
     {
         Inputs {

@@ -10,9 +10,11 @@ ghost use Rattle.beeb_words.specs.Seen.{seen};
 
 use crate::asm::{asm_product, dis_product};
 use crate::check::check_product;
+use crate::demo::gen_product;
 use crate::host::host_product;
 use crate::inputs::Inputs;
 use crate::para::para_product;
+use crate::plugs::plugged;
 use crate::product::Product;
 use crate::solo::solo_product;
 use crate::status::{Cause, Ending};
@@ -22,7 +24,7 @@ use beeb_words::{Command, Slot};
 use bus_plug::BusDevice;
 use std::alloc::{AllocError, Global};
 
-/// A command that needs no crew, whose numbers are within their limits, and the devices that are plugged where the host is there.
+/// A command that needs no crew, whose numbers are within their limits, and the devices that are handed in.
 #[derive(Drop)]
 pub(crate) struct Job<'a, D> {
     pub(crate) command: Command<'a>,
@@ -72,7 +74,10 @@ impl<'a, D: BusDevice> beeb_run::Command for Job<'a, D> {
                 out,
                 given,
                 ..
-            } => host_product(alloc, given.disc_kinds(), ticks, out, inputs, self.plugs),
+            } => {
+                let plugs = plugged(&given, self.plugs);
+                host_product(alloc, given.disc_kinds(), ticks, out, inputs, plugs)
+            }
             Command::Replay {
                 side: Side::Para,
                 ticks,
@@ -84,15 +89,11 @@ impl<'a, D: BusDevice> beeb_run::Command for Job<'a, D> {
                 out,
                 keep,
                 given,
-            } => solo_product(
-                alloc,
-                given.disc_kinds(),
-                ticks,
-                keep,
-                out,
-                inputs,
-                self.plugs,
-            ),
+            } => {
+                let plugs = plugged(&given, self.plugs);
+                solo_product(alloc, given.disc_kinds(), ticks, keep, out, inputs, plugs)
+            }
+            Command::Gen { seed } => gen_product(alloc, seed),
             Command::Run { .. } => unreachable!(),
         }
     }

@@ -4,12 +4,14 @@
 mod asm;
 mod calls;
 mod check;
+mod demo;
 mod differing;
 mod discs;
 mod host;
 mod inputs;
 mod job;
 mod para;
+mod plugs;
 mod product;
 mod replay;
 mod run;

@@ -1,25 +1,24 @@
 //! `replay para TRACE TICKS OUT --tube NAME`.
-ghost use Rattle.std.specs.Prelude.{◌≡◌, ◌<◌, ◌≤◌, All, Ok, Err, List, ℕ, IfOk, MatchResult, slice_index_or};
+ghost use Rattle.std.specs.Prelude.{◌≡◌, ◌≤◌, All, Ok, Err, List, ℕ, IfOk, MatchResult};
 ghost use Rattle.beeb_bits.specs.declared.Side.TheVariants.{Para};
 ghost use Rattle.tube_trace.specs.Entries.{IsEntry};
 ghost use Rattle.tube_party.specs.Replay.{replayed};
 ghost use Rattle.para_mach.specs.State.{power_on};
 ghost use Rattle.para_mach.specs.Step.{para_moves};
-ghost use Rattle.beeb_run.specs.Seen.{Gives, seen_file};
+ghost use Rattle.beeb_run.specs.Seen.{Gives};
 ghost use Rattle.beeb_commands.specs.Replay.{side_count, ended};
-ghost use Rattle.beeb_commands.specs.Para.{para_line, para_files, para_verdict, rom_of, para_after};
+ghost use Rattle.beeb_commands.specs.Para.{para_verdict, rom_of, para_after};
 ghost use Rattle.beeb_commands.specs.Seen.{seen_inputs, verdict_of};
 
 use crate::check::{entries_of, wrong_product};
 use crate::inputs::Inputs;
 use crate::product::Product;
-use crate::replay::{differs_product, memory_file, report_file, side_count};
+use crate::replay::{differs_product, side_count};
 use crate::status::{Cause, Which};
 use beeb_bits::{Side, Tick};
 use beeb_run::Refusal;
 use bus_plug::BusDevice;
 use para_mach::{ParaError, ParaMachine};
-use report::Line;
 use std::alloc::{AllocError, Global};
 use tube_party::{MOST, replay};
 use tube_trace::{Entry, first_wrong};
@@ -36,35 +35,6 @@ pub(crate) fn machine_of(alloc: Global, rom: Vec<u8>) -> Result<ParaMachine, Ref
         })),
         Err(ParaError::NoMemory) => Err(Refusal::NoMemory),
     }
-}
-
-/// The second processor's line in a report.
-pub(crate) fn para_line(machine: &ParaMachine) -> Line
-    ensures { result ≡ para_line machine.now }
-{
-    Line {
-        regs: machine.regs(),
-        stopped: machine.held(),
-    }
-}
-
-/// The report, or the memory, which is file 1.
-pub(crate) fn para_file(
-    alloc: Global,
-    n: Tick,
-    tube: u64,
-    out: &str,
-    machine: &ParaMachine,
-    i: usize,
-) -> Result<(String, Vec<u8>), AllocError>
-    requires { i < 2 }
-    ensures { IfOk result (λ f. slice_index_or (para_files n.0 tube out.now machine.now) i (seen_file f) ≡ seen_file f) }
-{
-    if i == 0 {
-        let line = para_line(machine);
-        return report_file(alloc, out, n, None, Some(line), tube, None, None);
-    }
-    memory_file(alloc, out, ".para", machine.ram())
 }
 
 // What comes of the machine against a trace.

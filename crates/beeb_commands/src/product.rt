@@ -3,15 +3,12 @@ ghost use Rattle.std.specs.Prelude.{◌≡◌, ◌<◌, length, get_or, IfOk};
 ghost use Rattle.beeb_run.specs.Seen.{seen_file};
 ghost use Rattle.beeb_commands.specs.Seen.{verdict_of};
 
-use crate::discs::disc_count;
-use crate::host::host_file;
-use crate::para::para_file;
-use crate::solo::solo_file;
 use crate::status::Ending;
 use beeb_bits::Tick;
 use beeb_run::Outcome;
 use bus_plug::BusDevice;
 use host_mach::HostMachine;
+use machine_files::{both_count, both_file, host_count, host_file, para_count, para_file};
 use para_mach::ParaMachine;
 use std::alloc::{AllocError, Global};
 
@@ -59,17 +56,17 @@ impl<'a, D: BusDevice> Outcome for Product<'a, D> {
 
     ghost verdict = { λ p. verdict_of D.plug p };
 
-    fn count(&self) -> usize {
+    fn count(&self) -> u128 {
         match self {
             Product::Text { .. } => 0,
             Product::File { .. } => 1,
-            Product::Host { machine, .. } => 2 + disc_count(machine),
-            Product::Para { .. } => 2,
-            Product::Both { host, .. } => 4 + disc_count(host),
+            Product::Host { machine, .. } => host_count(machine),
+            Product::Para { machine, .. } => para_count(machine),
+            Product::Both { host, para, .. } => both_count(host, para),
         }
     }
 
-    fn file(&self, alloc: Global, i: usize) -> Result<(String, Vec<u8>), AllocError> {
+    fn file(&self, alloc: Global, i: u128) -> Result<(String, Vec<u8>), AllocError> {
         match self {
             Product::Text { .. } => unreachable!(),
             Product::File { name, bytes } => {
@@ -95,7 +92,7 @@ impl<'a, D: BusDevice> Outcome for Product<'a, D> {
                 host,
                 para,
                 trace,
-            } => solo_file(alloc, *ticks, *tube, *kept, out, host, para, trace, i),
+            } => both_file(alloc, *ticks, *tube, *kept, out, host, para, trace, i),
         }
     }
 

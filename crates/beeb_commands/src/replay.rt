@@ -1,9 +1,7 @@
 //! What the replays of both sides share.
-ghost use Rattle.std.specs.Prelude.{◌≡◌, None, IfOk, slice_index_or};
-ghost use Rattle.report.specs.Text.{text};
-ghost use Rattle.beeb_run.specs.Seen.{seen_file};
+ghost use Rattle.std.specs.Prelude.{◌≡◌, IfOk};
 ghost use Rattle.beeb_commands.specs.Replay.{side_count, differs_text};
-ghost use Rattle.beeb_commands.specs.Verdicts.{said_verdict, report_file, memory_file};
+ghost use Rattle.beeb_commands.specs.Verdicts.{said_verdict};
 ghost use Rattle.beeb_commands.specs.Seen.{verdict_of};
 ghost use Rattle.beeb_commands.specs.declared.status.Ending.TheVariants.{Differs};
 
@@ -12,7 +10,6 @@ use crate::product::Product;
 use crate::status::Ending;
 use beeb_bits::{Side, Tick};
 use bus_plug::BusDevice;
-use report::{Line, text};
 use std::alloc::{AllocError, Global};
 use tube_party::Doing;
 use tube_trace::Entry;
@@ -42,33 +39,4 @@ pub(crate) fn differs_product<'a, D: BusDevice>(
         ending: Ending::Differs { line, doing },
         text: differs_text(alloc, line, doing)?,
     })
-}
-
-/// The file of a report.
-pub(crate) fn report_file(
-    alloc: Global,
-    out: &str,
-    n: Tick,
-    host: Option<Line>,
-    para: Option<Line>,
-    tube: u64,
-    kept: Option<u64>,
-    frames: Option<u64>,
-) -> Result<(String, Vec<u8>), AllocError>
-    ensures { IfOk result (λ f. slice_index_or (report_file out.now (text n.0 host para tube kept frames)) 0 (seen_file f) ≡ seen_file f) }
-{
-    let report = text(alloc, n, host, para, tube, kept, frames).map_err(|_| AllocError)?;
-    Ok((format!(in alloc; "{out}.report")?, report))
-}
-
-/// The file of a machine's memory.
-pub(crate) fn memory_file(
-    alloc: Global,
-    out: &str,
-    machine: &str,
-    memory: &[u8],
-) -> Result<(String, Vec<u8>), AllocError>
-    ensures { IfOk result (λ f. slice_index_or (memory_file out.now machine.now memory.now) 0 (seen_file f) ≡ seen_file f) }
-{
-    Ok((format!(in alloc; "{out}{machine}")?, memory.to_vec(alloc)?))
 }

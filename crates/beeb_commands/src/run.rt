@@ -12,6 +12,7 @@ ghost use Rattle.beeb_commands.specs.Seen.{seen_inputs, verdict_of};
 ghost use Rattle.beeb_commands.specs.Solo.{solo_after};
 
 use crate::inputs::Inputs;
+use crate::plugs::plugged;
 use crate::product::Product;
 use crate::solo::{kept_product, machines_of};
 use crate::status::{Cause, Ending};
@@ -56,7 +57,7 @@ fn run_product<'a, D: BusDevice + Send, C: Crew, R: Threads + Wait + Sync>(
     }
 }
 
-// What comes of the bytes that `run` read, with these plugged devices.
+// What comes of the bytes that `run` read, where these devices are handed in.
 fn outcome<'a, D: BusDevice + Send, C: Crew, R: Threads + Wait + Sync>(
     rt: &R,
     alloc: Global,
@@ -82,10 +83,11 @@ fn outcome<'a, D: BusDevice + Send, C: Crew, R: Threads + Wait + Sync>(
     };
     let inputs = Inputs::of(alloc, inputs)?;
     let kinds = given.disc_kinds();
+    let plugs = plugged(&given, plugs);
     run_product(rt, alloc, crew, kinds, ticks, keep, out, inputs, plugs)
 }
 
-/// Reads the files of `run`, has the crew work both machines, the host with these plugged devices, and writes what comes of them.
+/// Reads the files of `run`, has the crew work both machines, the host with the first of these devices, and writes what comes of them.
 pub(crate) fn run_command<
     S: Shelf,
     O: Outlet,

@@ -1,21 +1,20 @@
 //! `solo TICKS OUT --os NAME --tube NAME` and options, and what `run` shares with it.
-ghost use Rattle.std.specs.Prelude.{◌≡◌, ◌<◌, ◌≤◌, All, List, ℕ, length, map, IfOk, slice_index_or};
+ghost use Rattle.std.specs.Prelude.{◌≡◌, ◌<◌, ◌≤◌, All, map, IfOk};
 ghost use Rattle.tube_party.specs.Reference.{reference};
 ghost use Rattle.host_mach.specs.Step.{host_moves};
 ghost use Rattle.host_mach.specs.View.{host_seen};
 ghost use Rattle.para_mach.specs.Step.{para_moves};
-ghost use Rattle.beeb_run.specs.Seen.{Gives, seen_file};
-ghost use Rattle.beeb_commands.specs.Solo.{trace_file, solo_files, kept_verdict, os_of, machines_of, solo_after};
+ghost use Rattle.beeb_run.specs.Seen.{Gives};
+ghost use Rattle.beeb_commands.specs.Solo.{kept_verdict, os_of, machines_of, solo_after};
 ghost use Rattle.beeb_commands.specs.Seen.{seen_inputs, verdict_of, IsRun};
 ghost use Rattle.host_mach.specs.State.{HostState};
 ghost use Rattle.para_mach.specs.State.{ParaState};
 
-use crate::discs::{disc_count, disc_file, discs_of};
-use crate::host::{host_line, roms_of};
+use crate::discs::discs_of;
+use crate::host::roms_of;
 use crate::inputs::Inputs;
-use crate::para::{machine_of, para_line};
+use crate::para::machine_of;
 use crate::product::Product;
-use crate::replay::{memory_file, report_file};
 use crate::script::script_of;
 use crate::status::{Cause, Which};
 use beeb_bits::Tick;
@@ -31,41 +30,6 @@ use tube_trace::{merge, write};
 
 /// The bytes of the operating system's image.
 const OS_SIZE: usize = 16_384;
-
-// The file of a trace.
-fn trace_file(alloc: Global, out: &str, trace: &[u8]) -> Result<(String, Vec<u8>), AllocError>
-    ensures { IfOk result (λ f. slice_index_or (trace_file out.now trace.now) 0 (seen_file f) ≡ seen_file f) }
-{
-    Ok((format!(in alloc; "{out}.trace")?, trace.to_vec(alloc)?))
-}
-
-/// The report, the memory of the host, that of the second processor, which is file 2, a disc, or the trace.
-pub(crate) fn solo_file<D: BusDevice>(
-    alloc: Global,
-    n: Tick,
-    tube: u64,
-    kept: u64,
-    out: &str,
-    host: &HostMachine<D>,
-    para: &ParaMachine,
-    trace: &[u8],
-    i: usize,
-) -> Result<(String, Vec<u8>), AllocError>
-    requires { i < length (solo_files n.0 tube kept out.now (host_seen D.plug host.now) para.now trace.now) }
-    ensures { IfOk result (λ f. slice_index_or (solo_files n.0 tube kept out.now (host_seen D.plug host.now) para.now trace.now) i (seen_file f) ≡ seen_file f) }
-{
-    match i {
-        0 => {
-            let host = Some(host_line(host));
-            let para = Some(para_line(para));
-            report_file(alloc, out, n, host, para, tube, Some(kept), Some(0))
-        }
-        1 => memory_file(alloc, out, ".host", host.ram()),
-        2 => memory_file(alloc, out, ".para", para.ram()),
-        _ if i - 3 < disc_count(host) => disc_file(alloc, out, host, i - 3),
-        _ => trace_file(alloc, out, trace),
-    }
-}
 
 /// What comes of both machines where their run ended, of whose accesses the first `keep` are kept.
 pub(crate) fn kept_product<'a, D: BusDevice>(

@@ -12,12 +12,12 @@ pub trait Outcome: Drop {
 
     ghost verdict: { Self → Verdict Self.Ending };
 
-    /// The number of files.
-    fn count(&self) -> usize
+    /// The number of files. It may be a sum of lengths, for which a `usize` may be too narrow.
+    fn count(&self) -> u128
         ensures { result ≡ length (verdict self.now).files };
 
     /// The name and the bytes of one of the files, counted from 0.
-    fn file(&self, alloc: Global, i: usize) -> Result<(String, Vec<u8>), AllocError>
+    fn file(&self, alloc: Global, i: u128) -> Result<(String, Vec<u8>), AllocError>
         requires { i < length (verdict self.now).files }
         ensures { IfOk result (λ f. get_or (verdict self.now).files i (seen_file f) ≡ seen_file f) };
 

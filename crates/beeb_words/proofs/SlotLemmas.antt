@@ -7,7 +7,7 @@ use Rattle.beeb_words.specs.declared.keys.Value.{Value}
 use Rattle.beeb_words.specs.declared.keys.Value.TheVariants.{File, Number}
 use Rattle.beeb_words.specs.Keys.{Key, keys}
 use Rattle.beeb_words.specs.Given.{Values}
-use Rattle.beeb_words.specs.Command.{Command, check, asm, dis, replay, solo, run, ticks_of}
+use Rattle.beeb_words.specs.Command.{Command, check, asm, dis, replay, solo, run, gen, ticks_of}
 use Rattle.beeb_words.specs.Reads.{reads, file_of, files_of, rom_slot, rise_from, HaveRomSlots, IsWithin}
 
 -- numbers that rise from one number on rise from a smaller one on
@@ -60,6 +60,7 @@ have_rom_slots (dis part image origin out) = refl
 have_rom_slots (replay side trace ticks out given) = files_rise keys given 0 keys_rise
 have_rom_slots (solo ticks out keep given) = files_rise keys given 0 keys_rise
 have_rom_slots (run ticks out keep given) = files_rise keys given 0 keys_rise
+have_rom_slots (gen seed) = refl
 
 pub is_within : (c : Command) → ticks_of c ≤ 1073741824 → IsWithin c
 is_within c few = record { ticks = few; roms = have_rom_slots c }

@@ -18,6 +18,8 @@ pub data Command : Type 0 where
   solo : (ticks : ℕ) (out : List ℕ) (keep : ℕ) (given : Values) → Command
   -- `run TICKS OUT` and options, with the number of accesses that are kept
   run : (ticks : ℕ) (out : List ℕ) (keep : ℕ) (given : Values) → Command
+  -- `gen SEED`
+  gen : (seed : ℕ) → Command
 
 -- the ticks that it asks for
 abbrev pub ticks_of : Command → ℕ
@@ -27,6 +29,7 @@ ticks_of (dis part image origin out) = 0
 ticks_of (replay side trace ticks out given) = ticks
 ticks_of (solo ticks out keep given) = ticks
 ticks_of (run ticks out keep given) = ticks
+ticks_of (gen seed) = 1000000
 
 -- the command has a crew work a pair of jobs
 abbrev pub is_paired : Command → Bool
@@ -36,3 +39,4 @@ is_paired (dis part image origin out) = false
 is_paired (replay side trace ticks out given) = false
 is_paired (solo ticks out keep given) = false
 is_paired (run ticks out keep given) = true
+is_paired (gen seed) = false

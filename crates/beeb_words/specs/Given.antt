@@ -52,6 +52,15 @@ keep_in (Some word) = unwrap_or (decimal_number 4194304 word) 1048576
 abbrev pub keep_of : Values → ℕ
 keep_of values = keep_in (value_at values 23)
 
+-- the number of plugged devices, by the value of its key
+abbrev pub plugs_in : Option (List ℕ) → ℕ
+plugs_in None = 0
+plugs_in (Some word) = unwrap_or (decimal_number 8 word) 0
+
+-- the number of plugged devices, at most 8
+abbrev pub plugs_of : Values → ℕ
+plugs_of values = plugs_in (value_at values 22)
+
 -- the machines that are there have their image: `--os` the host, `--tube` the parasite
 abbrev pub has_images : Machines → Values → Bool
 has_images Host values = is_some (value_at values 0)

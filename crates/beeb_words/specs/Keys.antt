@@ -9,48 +9,46 @@ use Rattle.beeb_words.specs.declared.keys.Value.TheVariants.{File, Number}
 use Rattle.beeb_words.specs.Alone.{is_name}
 use Rattle.digits.specs.Decimal.{decimal_number}
 
--- A key: its word, the machines that have to be there, what its value is, and whether its part is built. An option whose part isn't is
--- outside the grammar.
+-- a key: its word, the machines that have to be there, and what its value is
 pub record Key : Type 0 where
   pub word : List ℕ
   pub machines : Machines
   pub value : Value
-  pub built : Bool
 
-abbrev pub key : List ℕ → Machines → Value → Bool → Key
-key word machines value built = record { word = word; machines = machines; value = value; built = built }
+abbrev pub key : List ℕ → Machines → Value → Key
+key word machines value = record { word = word; machines = machines; value = value }
 
 -- The keys. Those of files stand in the order in which the files are read.
 unfoldable pub keys : List Key
 keys =
-    key (codes "--os") Host (File Os) true
-    ∷ key (codes "--tube") Para (File Tube) true
-    ∷ key (codes "--rom0") Host (File (Rom 0)) true
-    ∷ key (codes "--rom1") Host (File (Rom 1)) true
-    ∷ key (codes "--rom2") Host (File (Rom 2)) true
-    ∷ key (codes "--rom3") Host (File (Rom 3)) true
-    ∷ key (codes "--rom4") Host (File (Rom 4)) true
-    ∷ key (codes "--rom5") Host (File (Rom 5)) true
-    ∷ key (codes "--rom6") Host (File (Rom 6)) true
-    ∷ key (codes "--rom7") Host (File (Rom 7)) true
-    ∷ key (codes "--rom8") Host (File (Rom 8)) true
-    ∷ key (codes "--rom9") Host (File (Rom 9)) true
-    ∷ key (codes "--rom10") Host (File (Rom 10)) true
-    ∷ key (codes "--rom11") Host (File (Rom 11)) true
-    ∷ key (codes "--rom12") Host (File (Rom 12)) true
-    ∷ key (codes "--rom13") Host (File (Rom 13)) true
-    ∷ key (codes "--rom14") Host (File (Rom 14)) true
-    ∷ key (codes "--rom15") Host (File (Rom 15)) true
-    ∷ key (codes "--font") Host (File Font) false
-    ∷ key (codes "--disc0") Host (File (Disc 0)) true
-    ∷ key (codes "--disc1") Host (File (Disc 1)) true
-    ∷ key (codes "--keys") Host (File Keys) true
-    ∷ key (codes "--plugs") Host (Number 8) false
-    ∷ key (codes "--keep") Both (Number 4194304) true
+    key (codes "--os") Host (File Os)
+    ∷ key (codes "--tube") Para (File Tube)
+    ∷ key (codes "--rom0") Host (File (Rom 0))
+    ∷ key (codes "--rom1") Host (File (Rom 1))
+    ∷ key (codes "--rom2") Host (File (Rom 2))
+    ∷ key (codes "--rom3") Host (File (Rom 3))
+    ∷ key (codes "--rom4") Host (File (Rom 4))
+    ∷ key (codes "--rom5") Host (File (Rom 5))
+    ∷ key (codes "--rom6") Host (File (Rom 6))
+    ∷ key (codes "--rom7") Host (File (Rom 7))
+    ∷ key (codes "--rom8") Host (File (Rom 8))
+    ∷ key (codes "--rom9") Host (File (Rom 9))
+    ∷ key (codes "--rom10") Host (File (Rom 10))
+    ∷ key (codes "--rom11") Host (File (Rom 11))
+    ∷ key (codes "--rom12") Host (File (Rom 12))
+    ∷ key (codes "--rom13") Host (File (Rom 13))
+    ∷ key (codes "--rom14") Host (File (Rom 14))
+    ∷ key (codes "--rom15") Host (File (Rom 15))
+    ∷ key (codes "--font") Host (File Font)
+    ∷ key (codes "--disc0") Host (File (Disc 0))
+    ∷ key (codes "--disc1") Host (File (Disc 1))
+    ∷ key (codes "--keys") Host (File Keys)
+    ∷ key (codes "--plugs") Host (Number 8)
+    ∷ key (codes "--keep") Both (Number 4194304)
     ∷ []
 
 abbrev pub key_at : ℕ → Key
-key_at place = slice_index_or keys place (key [] Both (Number 0) false)
+key_at place = slice_index_or keys place (key [] Both (Number 0))
 
 -- the place of a word among some keys
 abbrev pub place_in : List Key → List ℕ → Option ℕ
@@ -85,4 +83,4 @@ is_value (Number most) word = is_some (decimal_number most word)
 
 -- an option of the key at a place may have this value where these machines are there
 abbrev pub fits : Machines → ℕ → List ℕ → Bool
-fits there place value = (key_at place).built && takes there (key_at place).machines && is_value (key_at place).value value
+fits there place value = takes there (key_at place).machines && is_value (key_at place).value value

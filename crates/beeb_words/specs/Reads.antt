@@ -7,7 +7,7 @@ use Rattle.beeb_words.specs.declared.keys.Value.{Value}
 use Rattle.beeb_words.specs.declared.keys.Value.TheVariants.{File, Number}
 use Rattle.beeb_words.specs.Keys.{Key, keys}
 use Rattle.beeb_words.specs.Given.{Values}
-use Rattle.beeb_words.specs.Command.{Command, check, asm, dis, replay, solo, run, ticks_of}
+use Rattle.beeb_words.specs.Command.{Command, check, asm, dis, replay, solo, run, gen, ticks_of}
 
 -- the file that an option gives
 abbrev pub file_of : Value → Option (List ℕ) → List (Slot × List ℕ × ℕ)
@@ -29,6 +29,7 @@ reads (dis part image origin out) = (Image, image, 1048576) ∷ []
 reads (replay side trace ticks out given) = (Trace, trace, 100663296) ∷ files_of keys given
 reads (solo ticks out keep given) = files_of keys given
 reads (run ticks out keep given) = files_of keys given
+reads (gen seed) = []
 
 -- the number of a paged ROM's slot
 abbrev pub rom_slot : Slot → Option ℕ

@@ -4,7 +4,7 @@ use Rattle.std.specs.Borrow.{Bor}
 use Rattle.std.specs.declared.string.String.{String}
 use Rattle.std.specs.declared.alloc.Global.{Global}
 use Rattle.beeb_words.specs.declared.command.Command.{Command}
-use Rattle.beeb_words.specs.declared.command.Command.TheVariants.{Check, Asm, Dis, Replay, Solo, Run}
+use Rattle.beeb_words.specs.declared.command.Command.TheVariants.{Check, Asm, Dis, Replay, Solo, Run, Gen}
 use Rattle.beeb_words.specs.declared.given.Given.{Given}
 use Rattle.beeb_words.specs.declared.keys.Key.{Key}
 use Rattle.beeb_words.specs.declared.words.Both.{Both}
@@ -33,9 +33,10 @@ seen (Dis part image origin out) = commands.dis part image.now origin out.now
 seen (Replay side trace ticks out given) = commands.replay side trace.now ticks out.now (seen_given given)
 seen (Solo ticks out keep given) = commands.solo ticks out.now keep (seen_given given)
 seen (Run ticks out keep given) = commands.run ticks out.now keep (seen_given given)
+seen (Gen seed) = commands.gen seed
 
 abbrev pub seen_key : Key → keys.Key
-seen_key k = keys.key k.word.now k.machines k.value k.built
+seen_key k = keys.key k.word.now k.machines k.value
 
 -- what a file is, its name and its cap
 abbrev pub seen_want : Slot × Bor (List ℕ) × ℕ → Slot × List ℕ × ℕ

@@ -8,7 +8,7 @@ use Rattle.beeb_bits.specs.declared.Side.{Side}
 use Rattle.beeb_bits.specs.declared.Side.TheVariants.{Host, Para}
 use Rattle.beeb_words.specs.declared.keys.Machines.{Machines}
 use Rattle.beeb_words.specs.declared.keys.Machines.TheVariants as machines
-use Rattle.beeb_words.specs.Command.{Command, check, asm, dis, replay, solo, run}
+use Rattle.beeb_words.specs.Command.{Command, check, asm, dis, replay, solo, run, gen}
 use Rattle.beeb_words.specs.Alone.{is_name, alone, two, four}
 use Rattle.beeb_words.specs.Given.{given, keep_of, Values}
 use Rattle.digits.specs.Decimal.{decimal_number}
@@ -101,6 +101,12 @@ solo_words words = option_map (λ (b : Both). solo b.ticks b.out b.keep b.given)
 abbrev pub run_words : List (List ℕ) → Option Command
 run_words words = option_map (λ (b : Both). run b.ticks b.out b.keep b.given) (both_words words)
 
+-- the words after `gen`: SEED, below 2^64
+abbrev pub gen_words : List (List ℕ) → Option Command
+gen_words [] = None
+gen_words (seed ∷ []) = option_map gen (decimal_number 18446744073709551615 seed)
+gen_words (seed ∷ more ∷ words) = None
+
 -- the command that the words spell, if any
 unfoldable pub command : List (List ℕ) → Option Command
 command [] = None
@@ -111,4 +117,5 @@ command (word ∷ words) =
     else if bytes_eq word (codes "replay") then replay_words words
     else if bytes_eq word (codes "solo") then solo_words words
     else if bytes_eq word (codes "run") then run_words words
+    else if bytes_eq word (codes "gen") then gen_words words
     else None

@@ -49,6 +49,10 @@ pub enum Command<'a> {
         keep: u32,
         given: Given<'a>,
     },
+    /// `gen SEED`
+    Gen {
+        seed: u64,
+    },
 }
 
 impl<'a> Command<'a> {

@@ -77,6 +77,7 @@ impl<'a> Command<'a> {
             Command::Solo { given, .. } | Command::Run { given, .. } => {
                 with_options(Vec::new(alloc), *given)
             }
+            Command::Gen { .. } => Ok(Vec::new(alloc)),
         }
     }
 }

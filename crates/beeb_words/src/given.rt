@@ -1,6 +1,6 @@
 //! Options among the words.
-ghost use Rattle.std.specs.Prelude.{◌≡◌, ◌<◌, map, length, option_map, option_copied, IfSome, string_bytes};
-ghost use Rattle.beeb_words.specs.Given.{given, closed_options, value_at, put_at, put_option, keep_in, keep_of, has_images};
+ghost use Rattle.std.specs.Prelude.{◌≡◌, ◌<◌, ◌≤◌, map, length, option_map, option_copied, IfSome, string_bytes};
+ghost use Rattle.beeb_words.specs.Given.{given, closed_options, value_at, put_at, put_option, keep_in, keep_of, plugs_in, plugs_of, has_images};
 ghost use Rattle.beeb_words.specs.Seen.{seen_given, word_at};
 
 use crate::alone::is_dashed;
@@ -12,6 +12,9 @@ pub(crate) const OS: usize = 0;
 
 /// The place of the key `--tube`.
 pub(crate) const TUBE: usize = 1;
+
+/// The place of the key `--plugs`.
+const PLUGS: usize = 22;
 
 /// The place of the key `--keep`.
 const KEEP: usize = 23;
@@ -32,6 +35,23 @@ fn keep_in(value: Option<&str>) -> u32
     match decimal_number(word.as_bytes(), MOST_KEEP) {
         Some(keep) => keep as u32,
         None => DEFAULT_KEEP,
+    }
+}
+
+/// The most devices that can be plugged.
+const MOST_PLUGS: u64 = 8;
+
+// The number of plugged devices, by the value of its key.
+fn plugs_in(value: Option<&str>) -> usize
+    ensures number { result ≡ plugs_in (option_copied value.entry) }
+    ensures bound { result ≤ 8 }
+{
+    let Some(word) = value else {
+        return 0;
+    };
+    match decimal_number(word.as_bytes(), MOST_PLUGS) {
+        Some(plugs) => plugs as usize,
+        None => 0,
     }
 }
 
@@ -59,6 +79,14 @@ impl<'a> Given<'a> {
         ensures { result ≡ keep_of (seen_given self.now) }
     {
         keep_in(self.value(KEEP))
+    }
+
+    /// The number of devices that are to be plugged, 0 where the words do not say it. Where fewer devices are handed in, all are plugged.
+    pub fn plugs(&self) -> usize
+        ensures number { result ≡ plugs_of (seen_given self.now) }
+        ensures bound { result ≤ 8 }
+    {
+        plugs_in(self.value(PLUGS))
     }
 
     // The machines that are there have their image.

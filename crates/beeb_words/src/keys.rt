@@ -52,23 +52,21 @@ pub(crate) enum Value {
 /// The number of keys.
 pub(crate) const COUNT: usize = 24;
 
-/// A key: its word, the machines that have to be there, what its value is, and whether its part is built.
+/// A key: its word, the machines that have to be there, and what its value is.
 #[derive(Clone, Copy)]
 struct Key {
     word: &'static str,
     machines: Machines,
     value: Value,
-    built: bool,
 }
 
-fn row(word: &'static str, machines: Machines, value: Value, built: bool) -> Key
-    ensures { seen_key result ≡ keys.key word.now machines value built }
+fn row(word: &'static str, machines: Machines, value: Value) -> Key
+    ensures { seen_key result ≡ keys.key word.now machines value }
 {
     Key {
         word,
         machines,
         value,
-        built,
     }
 }
 
@@ -78,31 +76,31 @@ fn key_at(place: usize) -> Key
     ensures { seen_key result ≡ key_at place }
 {
     match place {
-        0 => row("--os", Machines::Host, Value::File(Slot::Os), true),
-        1 => row("--tube", Machines::Para, Value::File(Slot::Tube), true),
-        2 => row("--rom0", Machines::Host, Value::File(Slot::Rom(0)), true),
-        3 => row("--rom1", Machines::Host, Value::File(Slot::Rom(1)), true),
-        4 => row("--rom2", Machines::Host, Value::File(Slot::Rom(2)), true),
-        5 => row("--rom3", Machines::Host, Value::File(Slot::Rom(3)), true),
-        6 => row("--rom4", Machines::Host, Value::File(Slot::Rom(4)), true),
-        7 => row("--rom5", Machines::Host, Value::File(Slot::Rom(5)), true),
-        8 => row("--rom6", Machines::Host, Value::File(Slot::Rom(6)), true),
-        9 => row("--rom7", Machines::Host, Value::File(Slot::Rom(7)), true),
-        10 => row("--rom8", Machines::Host, Value::File(Slot::Rom(8)), true),
-        11 => row("--rom9", Machines::Host, Value::File(Slot::Rom(9)), true),
-        12 => row("--rom10", Machines::Host, Value::File(Slot::Rom(10)), true),
-        13 => row("--rom11", Machines::Host, Value::File(Slot::Rom(11)), true),
-        14 => row("--rom12", Machines::Host, Value::File(Slot::Rom(12)), true),
-        15 => row("--rom13", Machines::Host, Value::File(Slot::Rom(13)), true),
-        16 => row("--rom14", Machines::Host, Value::File(Slot::Rom(14)), true),
-        17 => row("--rom15", Machines::Host, Value::File(Slot::Rom(15)), true),
-        18 => row("--font", Machines::Host, Value::File(Slot::Font), false),
-        19 => row("--disc0", Machines::Host, Value::File(Slot::Disc(0)), true),
-        20 => row("--disc1", Machines::Host, Value::File(Slot::Disc(1)), true),
-        21 => row("--keys", Machines::Host, Value::File(Slot::Keys), true),
-        22 => row("--plugs", Machines::Host, Value::Number(8), false),
-        23 => row("--keep", Machines::Both, Value::Number(4_194_304), true),
-        _ => row("", Machines::Both, Value::Number(0), false),
+        0 => row("--os", Machines::Host, Value::File(Slot::Os)),
+        1 => row("--tube", Machines::Para, Value::File(Slot::Tube)),
+        2 => row("--rom0", Machines::Host, Value::File(Slot::Rom(0))),
+        3 => row("--rom1", Machines::Host, Value::File(Slot::Rom(1))),
+        4 => row("--rom2", Machines::Host, Value::File(Slot::Rom(2))),
+        5 => row("--rom3", Machines::Host, Value::File(Slot::Rom(3))),
+        6 => row("--rom4", Machines::Host, Value::File(Slot::Rom(4))),
+        7 => row("--rom5", Machines::Host, Value::File(Slot::Rom(5))),
+        8 => row("--rom6", Machines::Host, Value::File(Slot::Rom(6))),
+        9 => row("--rom7", Machines::Host, Value::File(Slot::Rom(7))),
+        10 => row("--rom8", Machines::Host, Value::File(Slot::Rom(8))),
+        11 => row("--rom9", Machines::Host, Value::File(Slot::Rom(9))),
+        12 => row("--rom10", Machines::Host, Value::File(Slot::Rom(10))),
+        13 => row("--rom11", Machines::Host, Value::File(Slot::Rom(11))),
+        14 => row("--rom12", Machines::Host, Value::File(Slot::Rom(12))),
+        15 => row("--rom13", Machines::Host, Value::File(Slot::Rom(13))),
+        16 => row("--rom14", Machines::Host, Value::File(Slot::Rom(14))),
+        17 => row("--rom15", Machines::Host, Value::File(Slot::Rom(15))),
+        18 => row("--font", Machines::Host, Value::File(Slot::Font)),
+        19 => row("--disc0", Machines::Host, Value::File(Slot::Disc(0))),
+        20 => row("--disc1", Machines::Host, Value::File(Slot::Disc(1))),
+        21 => row("--keys", Machines::Host, Value::File(Slot::Keys)),
+        22 => row("--plugs", Machines::Host, Value::Number(8)),
+        23 => row("--keep", Machines::Both, Value::Number(4_194_304)),
+        _ => row("", Machines::Both, Value::Number(0)),
     }
 }
 
@@ -148,5 +146,5 @@ pub(crate) fn fits(there: Machines, place: usize, value: &str) -> bool
     ensures { result ≡ fits there place value.now }
 {
     let key = key_at(place);
-    key.built && takes(there, key.machines) && is_value(key.value, value)
+    takes(there, key.machines) && is_value(key.value, value)
 }

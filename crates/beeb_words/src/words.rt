@@ -1,7 +1,7 @@
 //! The grammar of the words.
 ghost use Rattle.std.specs.Prelude.{◌≡◌, ◌≤◌, map, option_map, string_bytes, IsTrue, IfSome};
 ghost use Rattle.beeb_words.specs.Command.{ticks_of};
-ghost use Rattle.beeb_words.specs.Words.{part_of, origin_of, side_of, machines_of, check_words, asm_words, dis_words, replay_words, both_words, solo_words, run_words, command};
+ghost use Rattle.beeb_words.specs.Words.{part_of, origin_of, side_of, machines_of, check_words, asm_words, dis_words, replay_words, both_words, solo_words, run_words, gen_words, command};
 ghost use Rattle.beeb_words.specs.Reads.{IsWithin};
 ghost use Rattle.beeb_words.specs.Seen.{seen, seen_both};
 
@@ -190,6 +190,19 @@ fn run_words(words: &[String]) -> Option<Command<'_>>
     })
 }
 
+fn gen_words(words: &[String]) -> Option<Command<'_>>
+    ensures command { option_map seen result ≡ gen_words (map string_bytes words.now) }
+    ensures ticks { IfSome result (λ c. ticks_of (seen c) ≤ MOST_TICKS) }
+{
+    match words {
+        [seed] => {
+            let seed = decimal_number(seed.as_bytes(), u64::MAX)?;
+            Some(Command::Gen { seed })
+        }
+        _ => None,
+    }
+}
+
 #[tactic(auto, unfolding(crate::specs::Words::command))]
 fn command_within(words: &[String]) -> Option<Command<'_>>
     ensures command { option_map seen result ≡ command (map string_bytes words.now) }
@@ -208,6 +221,8 @@ fn command_within(words: &[String]) -> Option<Command<'_>>
         solo_words(rest)
     } else if word.as_str() == "run" {
         run_words(rest)
+    } else if word.as_str() == "gen" {
+        gen_words(rest)
     } else {
         None
     }

@@ -21,10 +21,8 @@ none_left {n} g all =
     rw none refl
 
 -- what was drawn and what is left stay the same together
-pub next_left : {n : ℕ} (g h : Lcg) (w : ℕ) (bytes more all : List ℕ) → n < 256 → (w, h) ≡ pcg32 g → more ≡ bytes ++ w % 256 ∷ [] → bytes ++ left n g ≡ all →
+pub next_left : {n : ℕ} (g h : Lcg) (b : ℕ) (bytes more all : List ℕ) → n < 256 → b ≡ (pcg32 g).0 % 256 → h ≡ (pcg32 g).1 → more ≡ bytes ++ b ∷ [] → bytes ++ left n g ≡ all →
     more ++ left (n + 1) h ≡ all
-next_left {n} g h w bytes more all less is pushed before =
-    let byte : w ≡ (pcg32 g).0 = ap (λ p. p.0) is in
-    let after : h ≡ (pcg32 g).1 = ap (λ p. p.1) is in
-    let one : w % 256 ∷ left (n + 1) h ≡ left n g = rw (byte, after) (sym (one_left g less)) in
-    rw pushed (append_assoc bytes (w % 256 ∷ []) (left (n + 1) h) ∙ (ap (λ t. bytes ++ t) one ∙ before))
+next_left {n} g h b bytes more all less byte after pushed before =
+    let one : b ∷ left (n + 1) h ≡ left n g = rw (byte, after) (sym (one_left g less)) in
+    rw pushed (append_assoc bytes (b ∷ []) (left (n + 1) h) ∙ (ap (λ t. bytes ++ t) one ∙ before))

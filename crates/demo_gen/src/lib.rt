@@ -1,8 +1,9 @@
 //! The demonstration pair: two programs that send 4,096 bytes through the Tube.
 #![tactic(auto)]
 
-ghost use Rattle.std.specs.Prelude.{◌≡◌, Ok, IfOk, take, drop};
+ghost use Rattle.std.specs.Prelude.{◌≡◌, ◌%◌, Ok, IfOk, take, drop};
 ghost use Rattle.asm65.specs.Source.{source};
+ghost use Rattle.rand_pcg.specs.Pcg.{pcg32};
 ghost use Rattle.demo_gen.specs.Demo.{host_text, tube_text, drawn, holding, image_of, image_holding};
 
 use asm65::{Image, assemble};
@@ -112,6 +113,14 @@ fn tube_image(alloc: Global, seed: u64) -> Result<Vec<u8>, NoMemory>
     }
 }
 
+// The low byte of the generator's next word.
+fn next_byte(generator: &mut Lcg64Xsh32) -> u8
+    ensures byte { result ≡ (pcg32 generator.old).0 % 256 }
+    ensures after { generator.new ≡ (pcg32 generator.old).1 }
+{
+    (generator.next_word() % 256) as u8
+}
+
 // The low bytes of the generator's first 256 words.
 fn drawn(alloc: Global, seed: u64) -> Result<Vec<u8>, AllocError>
     ensures { IfOk result (λ bytes. bytes.items ≡ drawn seed) }
@@ -119,7 +128,7 @@ fn drawn(alloc: Global, seed: u64) -> Result<Vec<u8>, AllocError>
     let mut generator = Lcg64Xsh32::new(seed, 0);
     let mut bytes = Vec::new(alloc);
     for _ in 0..256u16 {
-        bytes.push((generator.next_word() % 256) as u8)?;
+        bytes.push(next_byte(&mut generator))?;
     }
     Ok(bytes)
 }

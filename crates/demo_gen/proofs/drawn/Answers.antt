@@ -5,8 +5,8 @@ use Rattle.demo_gen.proofs.drawn.Goals as goal
 
 pub loop-preserved : goal.loop-preserved
 loop-preserved c = (
-  next_left c.loop.generator c.next_word.new.self c.next_word.result c.loop.bytes.items c.push.new.self.items (drawn c.args.seed)
-      c.loop-test.true c.next_word.ensures (search rules) c.loop.invariant.0,
+  next_left c.loop.generator c.next_byte.new.generator c.next_byte.result c.loop.bytes.items c.push.new.self.items (drawn c.args.seed)
+      c.loop-test.true c.next_byte.ensures.byte c.next_byte.ensures.after (search rules) c.loop.invariant.0,
   omega (arith, c.loop-test.true),
 )
 

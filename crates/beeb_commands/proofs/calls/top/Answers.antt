@@ -7,7 +7,7 @@ use Rattle.beeb_commands.proofs.calls.top.Goals as goal
 
 pub returns-then-is_paired-clause-headline : goal.returns-then-is_paired-clause-headline
 returns-then-is_paired-clause-headline g c =
-    headline_of (seen c.in-Some.command) (command (map string_bytes c.args.words.now))
+    headline_of _ (seen c.in-Some.command) (command (map string_bytes c.args.words.now))
     (world (g.S.Shelf.shelf c.args.shelf.now) (g.O.Outlet.outlet c.args.out.now) (crew_of (g.C.Crew.faults c.args.crew.now) (g.C.Crew.pairs c.args.crew.now)))
     (world (g.S.Shelf.shelf c.run_command.new.shelf) (g.O.Outlet.outlet c.run_command.new.out) (crew_of (g.C.Crew.faults c.run_command.new.crew) (g.C.Crew.pairs c.run_command.new.crew)))
-    c.status_of.result c.run_command.result c.in-Some.ensures.command c.status_of.ensures (rw c.new-plugs.ensures.items at c.run_command.ensures)
+    c.status_of.result c.run_command.result c.in-Some.ensures.command c.status_of.ensures c.run_command.ensures

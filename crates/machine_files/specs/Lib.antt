@@ -1,0 +1,4 @@
+pub mod Files
+pub mod Para
+pub mod Host
+pub mod Both
