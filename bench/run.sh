@@ -1,7 +1,8 @@
 #!/usr/bin/env bash
 # Times `run` beside `solo` by the clock on the wall, on a pair that leaves the Tube alone and on one that uses it all the time: with all
 # processors, and with both threads on one, where it has to end too. The fastest of five runs each. That both write the same files is
-# compared beside it.
+# compared beside it. Two threads that wait for each other every microsecond or two of machine time need two processors of their own: beside
+# other work they are timed with it.
 . "$(dirname "$0")/common.sh"
 
 "$top/beebtube" asm 6502 "$top/examples/demo-os.asm" demo-os
@@ -18,7 +19,7 @@ fastest() {
 }
 
 echo "processors: $(nproc)"
-for pair in 'busy 120000000' 'demo 20000000'; do
+for pair in 'busy 30000000' 'demo 6000000'; do
     set -- $pair
     words="--os $1-os --tube $1-tube --keep 4194304"
     one=$(fastest "$program" solo "$2" one $words)
@@ -34,3 +35,4 @@ for pair in 'busy 120000000' 'demo 20000000'; do
             name, time, one, time / one, two, time / two, pinned, time / pinned
     }'
 done
+echo 'goal: more than 4 times real time for both pairs, on two processors or more'

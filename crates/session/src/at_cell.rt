@@ -13,7 +13,14 @@ use tube_cell::{Pass, TubeCell};
 use tube_chip::{Lines, Op};
 
 /// Does the access at this tick once it is admitted, and gives the byte that the chip answers.
-pub(crate) fn access<R: Wait>(rt: &R, cell: &TubeCell, pass: &mut Pass, t: Tick, op: Op) -> u8
+pub(crate) fn access<R: Wait>(
+    rt: &R,
+    cell: &TubeCell,
+    pass: &mut Pass,
+    t: Tick,
+    op: Op,
+    pause: &mut Pause,
+) -> u8
     requires cell { pass.old.cell ≡ cell.now }
     requires published { pass.old.ahead ≡ [] }
     requires operation { MayDo pass.old.side op }
@@ -21,14 +28,15 @@ pub(crate) fn access<R: Wait>(rt: &R, cell: &TubeCell, pass: &mut Pass, t: Tick,
     requires bounded { t.0 < 2 ^ 40 }
     ensures { HasDone t.0 (access op) (Byte result) pass.old pass.new }
 {
-    let mut waiting = Waiting::new();
+    let mut is_raised = false;
     for _ in rt.forever() {
         if is_admitted(cell, pass, t) {
             if let Some(byte) = cell.commit(rt, pass, t, op) {
+                pause.end();
                 return byte;
             }
         } else {
-            give_way(rt, cell, pass, t, &mut waiting);
+            is_raised = give_way(rt, cell, pass, t, is_raised, pause);
             cell.learn(rt, pass);
         }
     }
@@ -36,18 +44,25 @@ pub(crate) fn access<R: Wait>(rt: &R, cell: &TubeCell, pass: &mut Pass, t: Tick,
 }
 
 /// Does the look at this tick once it is admitted, and gives the lines of the chip.
-pub(crate) fn look<R: Wait>(rt: &R, cell: &TubeCell, pass: &mut Pass, t: Tick) -> Lines
+pub(crate) fn look<R: Wait>(
+    rt: &R,
+    cell: &TubeCell,
+    pass: &mut Pass,
+    t: Tick,
+    pause: &mut Pause,
+) -> Lines
     requires cell { pass.old.cell ≡ cell.now }
     requires published { pass.old.ahead ≡ [] }
     requires later { own_horizon pass.old ≤ t.0 }
     ensures { HasDone t.0 look (Seen result) pass.old pass.new }
 {
-    let mut waiting = Waiting::new();
+    let mut is_raised = come_near(rt, cell, pass, t, pause);
     for _ in rt.forever() {
         if let Some(lines) = cell.look(rt, pass, t) {
+            pause.end();
             return lines;
         }
-        give_way(rt, cell, pass, t, &mut waiting);
+        is_raised = give_way(rt, cell, pass, t, is_raised, pause);
     }
     unreachable!()
 }
@@ -67,35 +82,45 @@ pub(crate) fn finish<R: Wait>(rt: &R, cell: &TubeCell, pass: &mut Pass, n: Tick)
     unreachable!()
 }
 
-// What a side has tried of a step that is not admitted yet.
-#[derive(Drop)]
-struct Waiting {
-    is_raised: bool,
-    pause: Pause,
-}
-
-impl Waiting {
-    fn new() -> Waiting {
-        Waiting {
-            is_raised: false,
-            pause: Pause::new(),
-        }
-    }
-}
-
-// Lets the other side get on: the own horizon is raised to the tick of the step that waits, once, and after that the side rests.
-fn give_way<R: Wait>(rt: &R, cell: &TubeCell, pass: &mut Pass, t: Tick, waiting: &mut Waiting)
+// Gives way before the first try where the known horizon of the other side does not admit the step: the load would be in vain.
+fn come_near<R: Wait>(rt: &R, cell: &TubeCell, pass: &mut Pass, t: Tick, pause: &mut Pause) -> bool
     requires cell { pass.old.cell ≡ cell.now }
     requires published { pass.old.ahead ≡ [] }
     requires later { own_horizon pass.old ≤ t.0 }
     ensures waited { HasWaited pass.old pass.new }
     ensures later { own_horizon pass.new ≤ t.0 }
 {
-    if !waiting.is_raised {
-        waiting.is_raised = cell.raise(rt, pass, t);
-    } else {
-        waiting.pause.rest();
+    if is_admitted(cell, pass, t) {
+        return false;
     }
+    give_way(rt, cell, pass, t, false, pause)
+}
+
+// Lets the other side get on: the own horizon is raised to the tick of the step that waits, once, and then the side rests. False where
+// it is not raised yet.
+fn give_way<R: Wait>(
+    rt: &R,
+    cell: &TubeCell,
+    pass: &mut Pass,
+    t: Tick,
+    is_raised: bool,
+    pause: &mut Pause,
+) -> bool
+    requires cell { pass.old.cell ≡ cell.now }
+    requires published { pass.old.ahead ≡ [] }
+    requires later { own_horizon pass.old ≤ t.0 }
+    ensures waited { HasWaited pass.old pass.new }
+    ensures later { own_horizon pass.new ≤ t.0 }
+{
+    if is_raised {
+        pause.rest();
+        return true;
+    }
+    if cell.raise(rt, pass, t) {
+        pause.rest();
+        return true;
+    }
+    false
 }
 
 // The horizon of the other side, as the pass knows it, admits a step at this tick: the host's up to it, the parasite's below it.

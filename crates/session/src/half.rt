@@ -6,6 +6,7 @@ ghost use Rattle.session.specs.Turned.{Turned};
 ghost use Rattle.session.specs.Work.{MayWork, HasWorked};
 
 use crate::at_cell::{access, finish, look};
+use crate::pause::Pause;
 use beeb_bits::Tick;
 use std::sync::Wait;
 use tube_cell::{Pass, TubeCell};
@@ -34,8 +35,9 @@ pub(crate) fn drive<M: Party, R: Wait>(
     ensures { HasWorked M.moves n.0 keep (M.state half.old.machine) half.old.pass (M.state half.new.machine) half.new.pass half.new.list.items half.new.count }
 {
     let mut ask = half.machine.advance(n);
+    let mut pause = Pause::new();
     while ask != Ask::Nothing {
-        ask = turn(rt, cell, half, n, keep, ask);
+        ask = turn(rt, cell, half, n, keep, ask, &mut pause);
     }
     finish(rt, cell, &mut half.pass, n);
 }
@@ -48,6 +50,7 @@ fn turn<M: Party, R: Wait>(
     n: Tick,
     keep: u32,
     ask: Ask,
+    pause: &mut Pause,
 ) -> Ask
     requires ticks { n.0 ≤ MOST }
     requires cell { half.old.pass.cell ≡ cell.now }
@@ -63,7 +66,7 @@ fn turn<M: Party, R: Wait>(
     match ask {
         Ask::Nothing => unreachable!(),
         Ask::Access(tick, op) => {
-            let answer = access(rt, cell, &mut half.pass, tick, op);
+            let answer = access(rt, cell, &mut half.pass, tick, op, pause);
             half.machine.answer(Answer::Byte(answer));
             let side = half.pass.side();
             note(
@@ -79,7 +82,7 @@ fn turn<M: Party, R: Wait>(
             );
         }
         Ask::Look(tick) => {
-            let lines = look(rt, cell, &mut half.pass, tick);
+            let lines = look(rt, cell, &mut half.pass, tick, pause);
             half.machine.answer(Answer::Seen(lines));
         }
     }
