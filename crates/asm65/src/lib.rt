@@ -98,6 +98,3 @@ pub fn assemble(alloc: Global, part: Part, text: &[u8]) -> Result<Image, AsmErro
         Err(error) => Err(error),
     }
 }
-
-#[cfg(test)]
-mod tests;

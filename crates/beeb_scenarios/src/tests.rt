@@ -1,6 +1,11 @@
 //! The commands, over shelves and outlets in memory.
+mod devices;
 mod discs;
+mod hosts;
 mod keys;
+mod ordinary;
+mod pictures;
+mod plugs;
 mod quiet;
 mod refusals;
 mod replays;

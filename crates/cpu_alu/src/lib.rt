@@ -10,8 +10,6 @@ mod addresses;
 mod arithmetic;
 mod flags;
 mod instructions;
-#[cfg(test)]
-mod tests;
 mod uses;
 
 pub use addresses::{crosses_page, in_zero_page, word, wrapping_sum};

@@ -152,7 +152,7 @@ line o.report frames 0
 
 #[test]
 fn keys_are_typed_by_a_script(rt: HostRuntime) -> Result<(), Fail> {
-    let wrong = first_wrong(rt.alloc(), SCENES)?;
+    let wrong = first_wrong(&rt, rt.alloc(), SCENES)?;
     assert!(rt;
         wrong.is_none(),
         "{}",

@@ -63,7 +63,8 @@ fn counts(alloc: Global, bytes: &str, words: &str) -> Result<String, AllocError>
     let bytes = bytes.as_bytes().to_vec(alloc)?;
     let mut shelf = QuietShelf { bytes, asked: 0 };
     let mut out = QuietOutlet { taken: 0 };
-    let status = plain(alloc, &words_of(alloc, words)?, &mut shelf, &mut out);
+    let words = words_of(alloc, words)?;
+    let status = plain(alloc, &words, &mut shelf, &mut out, Vec::new(alloc));
     format!(in alloc; "{} {} {}", status.number(), shelf.asked, out.taken)
 }
 

@@ -405,7 +405,7 @@ size o.trace 0
 
 #[test]
 fn each_call_that_fails_and_each_first_cause_is_told(rt: HostRuntime) -> Result<(), Fail> {
-    let wrong = first_wrong(rt.alloc(), SCENES)?;
+    let wrong = first_wrong(&rt, rt.alloc(), SCENES)?;
     assert!(rt;
         wrong.is_none(),
         "{}",

@@ -337,7 +337,7 @@ none o.host
 
 #[test]
 fn one_machine_is_replayed_against_a_trace(rt: HostRuntime) -> Result<(), Fail> {
-    let wrong = first_wrong(rt.alloc(), SCENES)?;
+    let wrong = first_wrong(&rt, rt.alloc(), SCENES)?;
     assert!(rt;
         wrong.is_none(),
         "{}",

@@ -65,7 +65,8 @@ fn ended<C: Crew, R: Threads + Wait + Sync>(
     let mut shelf = MemShelf::make(files, Vec::new(alloc));
     let mut out = MemOutlet::make(alloc, failing(alloc, put_fails)?);
     let words = words_of(alloc, words)?;
-    let status = top(rt, alloc, &words, &mut shelf, &mut out, crew);
+    let plugs = Vec::new(alloc);
+    let status = top(rt, alloc, &words, &mut shelf, &mut out, crew, plugs);
     let told = told(alloc, &status, out.said())?;
     Ok((told, out))
 }

@@ -8,22 +8,29 @@
 //! The steps:
 //!
 //! - `# TITLE` begins a scene: nothing lies on the shelf, and no call fails.
-//! - `t`: the files `t` and `t.dsd` have these bytes. `os` and `tube`: the files of these names are the images of these source texts, for
-//!   the 6502 and the 65C02. `ticks A, B`: the file `t` is a trace of these accesses, one at each tick from 0.
+//! - `t`: the files `t` and `t.dsd` have these bytes, and with `keys` the file `keys`. `os`, `lang` and `dfs`, and `tube`: the files of these
+//!   names are the images of these source texts, for the 6502 and the 65C02. `ticks A, B`: the file `t` is a trace of these accesses, one at
+//!   each tick from 0.
 //! - `fails N M`: the shelf's call N and the outlet's call M fail, where `-` is none.
-//! - `$ WORDS`: the words are carried out, where `''` is a word of no letters.
+//! - `$ WORDS`: the words are carried out, where `''` is a word of no letters. `run ..`: these very words are carried out, in two threads, and
+//!   `alone WORDS` by a crew that starts no thread.
 //! - `= STATUS`: they ended with this number and text, the kind of the offence where there is one, and what was said behind a
-//!   colon. `! WORDS` carries out words that are outside the grammar.
+//!   colon, or below. `! WORDS` carries out words that are outside the grammar.
 //! - `file NAME`: the file was written with these bytes. `none NAME`: it was not written. `line NAME TEXT`: this is one of
 //!   its lines. `size NAME N` is its length, and `at NAME ADDRESS BYTES` are its bytes from an address on.
-//! - `trace`: the file `o.trace` becomes the file `t`, the chip gives all its answers, and the outputs are kept. `same NAME`:
-//!   the file is the same as in the outputs that were kept. `take NAME`: the file becomes the file `t`.
+//! - `trace`: the file `o.trace` becomes the file `t`, the chip gives all its answers, and the outputs are kept. `keep`: the outputs are
+//!   kept, and nothing else. `same NAME`: the file is the same as in the outputs that were kept. `take NAME`: the file becomes the file `t`.
+ghost use Rattle.std.specs.Prelude.{◌≡◌, IfOk, string_bytes};
+
 use asm65::assemble;
-use beeb_commands::{Status, plain};
-use beeb_files::{MemOutlet, MemShelf};
+use beeb_commands::{Status, plain, top};
+use beeb_files::{Crew, FailCrew, MemOutlet, MemShelf, ThreadCrew};
+use bus_plug::{BusDevice, PrinterLatch, RamCard};
 use op_table::Part;
 use std::alloc::{AllocError, Global};
+use std::sync::Wait;
 use std::test::Fail;
+use std::thread::Threads;
 
 /// What lies on the shelf, which calls fail, and what the last words left.
 #[derive(Drop)]
@@ -32,6 +39,9 @@ struct Scene {
     t: Vec<u8>,
     os: Vec<u8>,
     tube: Vec<u8>,
+    lang: Vec<u8>,
+    dfs: Vec<u8>,
+    keys: Vec<u8>,
     get_fails: Option<u32>,
     put_fails: Option<u32>,
     told: Vec<u8>,
@@ -40,7 +50,11 @@ struct Scene {
 }
 
 /// The first step of the scenes that does not hold, and what the last words ended with.
-pub(crate) fn first_wrong(alloc: Global, scenes: &str) -> Result<Option<String>, Fail> {
+pub(crate) fn first_wrong<R: Threads + Wait + Sync>(
+    rt: &R,
+    alloc: Global,
+    scenes: &str,
+) -> Result<Option<String>, Fail> {
     let mut scene = Scene::empty(alloc);
     let mut step = "";
     let mut bytes = Vec::new(alloc);
@@ -48,14 +62,14 @@ pub(crate) fn first_wrong(alloc: Global, scenes: &str) -> Result<Option<String>,
         if is_more(line) {
             add(alloc, &mut bytes, line)?;
         } else {
-            if !scene.holds(step, &bytes)? {
+            if !scene.holds(rt, step, &bytes)? {
                 return scene.tell(step);
             }
             step = line;
             bytes.clear();
         }
     }
-    if scene.holds(step, &bytes)? {
+    if scene.holds(rt, step, &bytes)? {
         Ok(None)
     } else {
         scene.tell(step)
@@ -112,6 +126,9 @@ impl Scene {
             t: Vec::new(alloc),
             os: Vec::new(alloc),
             tube: Vec::new(alloc),
+            lang: Vec::new(alloc),
+            dfs: Vec::new(alloc),
+            keys: Vec::new(alloc),
             get_fails: None,
             put_fails: None,
             told: Vec::new(alloc),
@@ -126,25 +143,28 @@ impl Scene {
     }
 
     // Does a step with the bytes below it, and answers whether it holds.
-    fn holds(&mut self, step: &str, bytes: &[u8]) -> Result<bool, Fail> {
+    fn holds<R: Threads + Wait + Sync>(
+        &mut self,
+        rt: &R,
+        step: &str,
+        bytes: &[u8],
+    ) -> Result<bool, Fail> {
         let (word, rest) = step.split_once(' ').unwrap_or((step, ""));
         match word {
-            "" | "#" | "t" | "os" | "tube" | "ticks" | "fails" | "take" => self.lay(
-                word, rest, bytes,
-            ),
-            "$" | "!" | "trace" => self.act(word, rest),
+            "" | "#" | "ticks" | "fails" | "take" => self.lay(word, rest),
+            "t" | "keys" | "os" | "lang" | "dfs" | "tube" => self.lay_file(word, bytes),
+            "run" => self.share(rt, step, &mut ThreadCrew::make()),
+            "alone" => self.share(rt, rest, &mut FailCrew::make()),
+            "$" | "!" | "trace" | "keep" => self.act(word, rest),
             _ => self.is_left(word, rest, bytes),
         }
     }
 
     // What lies on the shelf, and which calls fail.
-    fn lay(&mut self, word: &str, rest: &str, bytes: &[u8]) -> Result<bool, Fail> {
+    fn lay(&mut self, word: &str, rest: &str) -> Result<bool, Fail> {
         let alloc = self.alloc;
         match word {
             "#" => *self = Scene::empty(alloc),
-            "t" => self.t = bytes.to_vec(alloc)?,
-            "os" => self.os = assemble(alloc, Part::Nmos, bytes)?.bytes,
-            "tube" => self.tube = assemble(alloc, Part::Cmos, bytes)?.bytes,
             "ticks" => self.t = trace(alloc, rest)?,
             "take" => self.t = self.out.file(rest).unwrap_or(b"nothing").to_vec(alloc)?,
             "fails" => {
@@ -153,6 +173,19 @@ impl Scene {
                 self.put_fails = put.parse().ok();
             }
             _ => {}
+        }
+        Ok(true)
+    }
+
+    fn lay_file(&mut self, name: &str, bytes: &[u8]) -> Result<bool, Fail> {
+        let alloc = self.alloc;
+        match name {
+            "t" => self.t = bytes.to_vec(alloc)?,
+            "keys" => self.keys = bytes.to_vec(alloc)?,
+            "tube" => self.tube = assemble(alloc, Part::Cmos, bytes)?.bytes,
+            "os" => self.os = assemble(alloc, Part::Nmos, bytes)?.bytes,
+            "lang" => self.lang = assemble(alloc, Part::Nmos, bytes)?.bytes,
+            _ => self.dfs = assemble(alloc, Part::Nmos, bytes)?.bytes,
         }
         Ok(true)
     }
@@ -167,6 +200,10 @@ impl Scene {
                 self.carry_out(rest)?;
                 Ok(self.told.as_slice() == b"1 usage".as_slice())
             }
+            "keep" => {
+                std::mem::swap(&mut self.kept, &mut self.out);
+                Ok(true)
+            }
             _ => self.follow(),
         }
     }
@@ -175,31 +212,41 @@ impl Scene {
         let alloc = self.alloc;
         let mut shelf = self.shelf()?;
         let mut out = MemOutlet::make(alloc, failing(alloc, self.put_fails)?);
-        let status = plain(alloc, &words_of(alloc, words)?, &mut shelf, &mut out);
+        let words = words_of(alloc, words)?;
+        let status = plain(alloc, &words, &mut shelf, &mut out, devices(alloc)?);
         self.told = told(alloc, &status, out.said())?;
         self.out = out;
         Ok(())
     }
 
+    // The words by the call that has a crew.
+    fn share<C: Crew, R: Threads + Wait + Sync>(
+        &mut self,
+        rt: &R,
+        words: &str,
+        crew: &mut C,
+    ) -> Result<bool, Fail> {
+        let alloc = self.alloc;
+        let mut shelf = self.shelf()?;
+        let mut out = MemOutlet::make(alloc, failing(alloc, self.put_fails)?);
+        let words = words_of(alloc, words)?;
+        let plugs = devices(alloc)?;
+        let status = top(rt, alloc, &words, &mut shelf, &mut out, crew, plugs);
+        self.told = told(alloc, &status, out.said())?;
+        self.out = out;
+        Ok(true)
+    }
+
     fn shelf(&self) -> Result<MemShelf, AllocError> {
         let alloc = self.alloc;
-        let mut files = Vec::new(alloc);
-        files.push((
-            String::from_str(alloc, "t")?,
-            self.t.as_slice().to_vec(alloc)?,
-        ))?;
-        files.push((
-            String::from_str(alloc, "t.dsd")?,
-            self.t.as_slice().to_vec(alloc)?,
-        ))?;
-        files.push((
-            String::from_str(alloc, "os")?,
-            self.os.as_slice().to_vec(alloc)?,
-        ))?;
-        files.push((
-            String::from_str(alloc, "tube")?,
-            self.tube.as_slice().to_vec(alloc)?,
-        ))?;
+        let t = entry(alloc, "t", &self.t)?;
+        let dsd = entry(alloc, "t.dsd", &self.t)?;
+        let os = entry(alloc, "os", &self.os)?;
+        let tube = entry(alloc, "tube", &self.tube)?;
+        let lang = entry(alloc, "lang", &self.lang)?;
+        let dfs = entry(alloc, "dfs", &self.dfs)?;
+        let keys = entry(alloc, "keys", &self.keys)?;
+        let files = vec![in alloc; t, dsd, os, tube, lang, dfs, keys]?;
         Ok(MemShelf::make(files, failing(alloc, self.get_fails)?))
     }
 
@@ -216,10 +263,19 @@ impl Scene {
         Ok(self.told.as_slice() == wanted.as_bytes())
     }
 
+    // The last words ended with this, and said this.
+    fn is_told(&self, status: &str, said: &[u8]) -> bool {
+        match self.told.strip_prefix(status.as_bytes()) {
+            None => false,
+            Some(rest) if said.is_empty() => rest.is_empty(),
+            Some(rest) => rest.strip_prefix(b": ") == said.strip_suffix(b"\n"),
+        }
+    }
+
     // What the last words ended with, and what they left.
     fn is_left(&self, word: &str, rest: &str, bytes: &[u8]) -> Result<bool, Fail> {
         if word == "=" {
-            return Ok(self.told.as_slice() == rest.as_bytes());
+            return Ok(self.is_told(rest, bytes));
         }
         let (name, rest) = rest.split_once(' ').unwrap_or((rest, ""));
         let Some(file) = self.out.file(name) else {
@@ -234,6 +290,21 @@ impl Scene {
             _ => false,
         })
     }
+}
+
+// A file on the shelf.
+fn entry(alloc: Global, name: &str, bytes: &[u8]) -> Result<(String, Vec<u8>), AllocError>
+    ensures { IfOk result (λ e. string_bytes e.0 ≡ name.now) }
+{
+    Ok((String::from_str(alloc, name)?, bytes.to_vec(alloc)?))
+}
+
+/// The program's devices: a RAM card and a printer's latch.
+fn devices(alloc: Global) -> Result<Vec<Box<dyn BusDevice + Send>>, Fail> {
+    let mut plugs: Vec<Box<dyn BusDevice + Send>> = Vec::new(alloc);
+    plugs.push(Box::new(alloc, RamCard::make(alloc)?)?)?;
+    plugs.push(Box::new(alloc, PrinterLatch::make(alloc)?)?)?;
+    Ok(plugs)
 }
 
 // The file as a text, of no lines where it is none.

@@ -327,7 +327,7 @@ same o.para
 
 #[test]
 fn both_machines_on_one_thread_are_checked_and_replayed(rt: HostRuntime) -> Result<(), Fail> {
-    let wrong = first_wrong(rt.alloc(), SCENES)?;
+    let wrong = first_wrong(&rt, rt.alloc(), SCENES)?;
     assert!(rt;
         wrong.is_none(),
         "{}",

@@ -163,7 +163,7 @@ file out
 
 #[test]
 fn source_texts_and_images_are_made_and_told(rt: HostRuntime) -> Result<(), Fail> {
-    let wrong = first_wrong(rt.alloc(), SCENES)?;
+    let wrong = first_wrong(&rt, rt.alloc(), SCENES)?;
     assert!(rt;
         wrong.is_none(),
         "{}",

@@ -104,7 +104,8 @@ fn made(alloc: Global, row: &str, bytes: &[u8]) -> Result<(u8, Vec<u8>), Fail> {
     let entry = (String::from_str(alloc, "in")?, bytes.to_vec(alloc)?);
     let mut shelf = MemShelf::make(vec![in alloc; entry]?, Vec::new(alloc));
     let mut out = MemOutlet::make(alloc, Vec::new(alloc));
-    let status = plain(alloc, &words_of(alloc, row)?, &mut shelf, &mut out);
+    let words = words_of(alloc, row)?;
+    let status = plain(alloc, &words, &mut shelf, &mut out, Vec::new(alloc));
     let file = out.file("out").unwrap_or(b"no file").to_vec(alloc)?;
     Ok((status.number(), file))
 }

@@ -270,7 +270,7 @@ $ check t
 
 #[test]
 fn the_chip_answers_as_the_application_note_says(rt: HostRuntime) -> Result<(), Fail> {
-    let wrong = first_wrong(rt.alloc(), SCENES)?;
+    let wrong = first_wrong(&rt, rt.alloc(), SCENES)?;
     assert!(rt;
         wrong.is_none(),
         "{}",

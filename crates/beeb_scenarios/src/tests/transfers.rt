@@ -215,7 +215,7 @@ same o.para
 
 #[test]
 fn transfers_by_polling_and_by_interrupts_end_as_worked_out(rt: HostRuntime) -> Result<(), Fail> {
-    let wrong = first_wrong(rt.alloc(), SCENES)?;
+    let wrong = first_wrong(&rt, rt.alloc(), SCENES)?;
     assert!(rt;
         wrong.is_none(),
         "{}",

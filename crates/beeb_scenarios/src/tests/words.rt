@@ -84,12 +84,22 @@ $ replay host n 7 o --os rom --rom10 n --rom1 n
 ! replay host n 7 o --os rom --tube rom
 $ replay host n 7 o --os rom --disc1 rom --disc0 rom.dsd
 = 2 cannot read n
-! replay host n 7 o --os rom --font rom
+$ replay host n 7 o --os rom --font rom --plugs 0
+= 2 cannot read n
+$ replay host n 7 o --plugs 8 --os rom
+= 2 cannot read n
+! replay host n 7 o --os rom --font rom --font rom
+! replay host n 7 o --os rom --font ''
+! replay host n 7 o --os rom --plugs 9
+! replay host n 7 o --os rom --plugs 00
+! replay host n 7 o --os rom --plugs
+! replay host n 7 o --os rom --plugs 1 --plugs 1
+! replay para n 7 o --tube rom --font rom
+! replay para n 7 o --tube rom --plugs 0
 ! replay host n 7 o --os rom --disc rom
 ! replay host n 7 o --os rom --disc2 rom
 ! replay host n 7 o --os rom --disc0 rom --disc0 rom
 ! replay para n 7 o --tube rom --disc0 rom
-! replay host n 7 o --os rom --plugs 0
 ! replay host n 7 o --os rom --keep 1
 ! replay host n 7 o --os rom more
 # Words of a run of both machines.
@@ -113,8 +123,17 @@ $ solo 7 o --os n --tube n --rom15 os
 = 2 cannot read n
 $ solo 7 o --os n --tube n --disc1 os
 = 2 cannot read n
-! solo 7 o --os n --tube n --font os
-! solo 7 o --os n --tube n --plugs 0
+$ solo 7 o --os n --tube n --plugs 0 --font os
+= 2 cannot read n
+! solo 7 o --os n --tube n --plugs -1
+# Words of the demonstration.
+! gen
+! gen ''
+! gen 01
+! gen +1
+! gen 1 2
+! gen 1 --plugs 0
+! gen 18446744073709551616
 # Words of a run in two threads, which this call does not take.
 ! run 2000 o --os os --tube tube
 ! run 7 o --keep 3 --rom0 os --os os --tube tube
@@ -123,7 +142,7 @@ $ solo 7 o --os n --tube n --disc1 os
 #[test]
 fn words_outside_the_grammar_are_usage(rt: HostRuntime) -> Result<(), Fail> {
     options_are_order_free();
-    let wrong = first_wrong(rt.alloc(), SCENES)?;
+    let wrong = first_wrong(&rt, rt.alloc(), SCENES)?;
     assert!(rt;
         wrong.is_none(),
         "{}",

@@ -4,7 +4,7 @@ use Rattle.beeb_scenarios.proofs.tests.scene.first_wrong.Given as goal
 
 -- each `&str` that the loop changes is text
 abbrev pub invariant-loop-line : goal.invariant-loop-line
-invariant-loop-line l =
-    (goal.iterator-loop-line).can_next l.line-iterator
-    × (goal.iterator-loop-line).is_finite l.line-iterator
+invariant-loop-line g l =
+    (goal.iterator-loop-line g).can_next l.line-iterator
+    × (goal.iterator-loop-line g).is_finite l.line-iterator
     × shadow (Utf8 l.step)

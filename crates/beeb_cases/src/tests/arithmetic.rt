@@ -1,6 +1,7 @@
+//! Sums, shifts, addresses and flags, against a calculation digit by digit and the manual.
 ghost use Rattle.std.specs.Prelude.{◌<◌};
 
-use crate::{
+use cpu_alu::{
     BusUse, Regs, Sum, adc, asl, bus_use, compare, crosses_page, has_flag, in_zero_page, lsr, rol,
     ror, sbc, with_flag, word, wrapping_sum,
 };

@@ -1,0 +1,250 @@
+//! Source texts with their bytes, and with their first offending line.
+use asm65::{AsmError, assemble};
+use op_table::Part::{self, Cmos, Nmos};
+use op_table::{Mode, documented};
+use std::alloc::{AllocError, Global};
+use std::test::Fail;
+
+// A line is a case: the part and what a source text comes to, and behind `@` the text, in which `|` ends a line. It comes to its origin
+// and its bytes, or to its first offending line.
+const TEXTS: &str = "\
+6502 C000 A9 41 8D 70 00 D0 F9@org &C000|start: LDA #&41|STA &0070|BNE start
+65C02 0000 B2 12@LDA (&12)|
+6502 0000@
+6502 0000@||
+# Blanks, comments and cases.
+6502 0000 A9 01@ \t; org 5: #||\tlda\t# 1 ;x|
+6502 0000 0A 0A 2A@asl a|ASL A|rOl\tA ; A
+6502 0000 A1 12 B1 12@lda(&12,x)|LDA ( &12 ) , Y|
+# Labels take a word, before their line and behind it, and their case counts.
+6502 0000 AD 03 00 AD 03 00@LDA later|later: LDA later|
+6502 0000 01 02 01 00 02 00@_a: byte 1|A1: byte 2|a1: word A1,a1
+6502 0000 AD 00 00@LDA: LDA LDA
+6502 1234 A9 34 A9 12 8D 44 12 A5 34 B1 12@org &1234|x1: LDA #<x1|LDA #>x1 + 1|STA x1 + &10|LDA <x1|LDA (>x1),Y
+# Numbers of one byte and of two.
+6502 0000 A5 07 A5 07 AD 07 00 A5 FF@LDA &7|LDA &07|LDA &007|LDA &fF
+6502 0000 A5 07 A5 FF AD 00 01 A5 07@LDA 7|LDA 255|LDA 256|LDA 00007
+6502 0000 01 02 FF 04 01 00 34 12 04 00 FF FF@byte 1, 2,&fF,<x1|x1: WORD 1,&1234, x1 , 65535
+# The form in the zero page where there is one.
+6502 0000 B9 12 00 96 12 BE 34 12@LDA &12,Y|STX &12,Y|LDX &1234,Y
+65C02 0000 4C 12 00 6C 12 00 7C 12 00 20 34 12@JMP &12|JMP (&12)|JMP (&12,X)|JSR &1234
+# `org` fills with 00, and a label in front of it keeps the address before.
+6502 0004 01 00 00 00 00 00 08 00@org 4|byte 1|org 8|end: org 10|word end
+6502 2000 00 20@first: org &2000|word first
+6502 0000 01 00 00 02@byte 1|org 3|byte 2
+6502 0000 01 02@byte 1|org 1|byte 2
+6502 FFFF@org 65535
+# The farthest branches, also past either end of memory.
+6502 1000 D0 80@org &1000|BNE &0F82
+6502 1000 D0 7F@org &1000|BNE &1081
+6502 0000 D0 8E@BNE &FF90
+6502 FFF0 D0 1E@org &FFF0|BNE &0010
+65C02 0000 80 FE@here: bra here
+# The last bytes of memory, and a label behind them.
+6502 FFFE 01 02@org 65534|byte 1,2
+6502 FFFD 6C FC FF@org &FFFD|JMP (&FFFC)
+6502 FFFF 01@org 65535|byte 1|end:
+6502 0000 FF FF@x1: word x1 + 65535
+6502 0000 FF A9 FF@byte 255|LDA #255
+# Outside the syntax, and no such form.
+6502 line 3: syntax@lda #1||foo bar|
+6502 line 1: syntax@A: byte 1
+6502 line 1: syntax@x:
+6502 line 1: syntax@Y:
+6502 line 1: syntax@1a: byte 1
+6502 line 1: syntax@a1: b1: byte 1
+6502 line 1: syntax@LDA #1\r|
+6502 line 1: syntax@LDA 123456
+6502 line 1: syntax@LDA &12345
+6502 line 1: syntax@LDA &
+6502 line 1: syntax@LDA #
+6502 line 1: syntax@LDA x
+6502 line 1: syntax@LDA #1 2
+6502 line 1: syntax@LDA (1),X
+6502 line 1: syntax@LDA (1,Y)
+6502 line 1: syntax@LDA 1,Z
+6502 line 1: syntax@LDA 1 + 1
+6502 line 1: syntax@LDA <
+6502 line 1: syntax@byte
+6502 line 1: syntax@byte 1,
+6502 line 1: syntax@org start
+6502 line 1: syntax@org 1,2
+6502 line 1: no such form of the instruction@LDA (&12)
+6502 line 1: no such form of the instruction@BRA 0
+6502 line 1: no such form of the instruction@INX 1
+6502 line 1: no such form of the instruction@ASL
+6502 line 1: no such form of the instruction@STA #1
+6502 line 1: no such form of the instruction@STX &1234,Y
+6502 line 1: no such form of the instruction@LDA (&1234),Y
+6502 line 1: no such form of the instruction@LDA (&1234,X)
+6502 line 1: no such form of the instruction@JMP (&1234,X)
+65C02 line 1: no such form of the instruction@LDA (x1)|x1:
+6502 line 3: the label stands at an earlier line@a1:|A1:|a1: inx
+6502 line 2: out of range@org 5|org 4
+6502 line 2: out of range@byte 1|org 0
+6502 line 1: out of range@org 65536
+6502 line 1: out of range@LDA 99999
+6502 line 1: out of range@x1: byte <x1 + 65536
+6502 line 2: past the end of memory@org 65535|word 1
+6502 line 2: past the end of memory@org 65534|LDA &1234
+6502 line 3: past the end of memory@org 65535|byte 1|byte 2
+6502 line 1: unknown label@byte q
+6502 line 1: unknown label@q: LDA Q + 1
+6502 line 1: out of range@byte 256
+6502 line 1: out of range@LDA #256
+6502 line 2: out of range@org &1000|BNE &1082
+6502 line 2: out of range@org &1000|BNE &0F81
+6502 line 2: out of range@byte 0|x1: word x1 + 65535
+6502 line 2: out of range@org 65533|word end|byte 0|end:
+6502 line 2: out of range@org 65534|byte <end,0|end:
+# Of several things on one line.
+6502 line 2: syntax@a1:|a1: foo
+6502 line 2: no such form of the instruction@a1:|a1: INX 1
+6502 line 2: the label stands at an earlier line@a1:|a1: byte 99999
+6502 line 2: out of range@org 65535|word 99999
+6502 line 1: unknown label@byte 256,q
+# Of several lines, and of a line of either pass.
+6502 line 1: no such form of the instruction@INX 1|foo
+6502 line 1: out of range@byte 256|byte q
+6502 line 2: syntax@byte q|foo
+6502 line 2: out of range@byte q,256|org 1
+";
+
+// A line is a text that fills the memory, in which `|` ends a line: its beginning, a piece and how often it stands, and its end; then
+// what is too much, and what that comes to.
+const FULL: &str = "\
+@LDA &1234,X|@21845@NOP|@NOP@line 21847: past the end of memory
+@byte 1,2,3,4, 5,6,7,8 ; eight bytes|@8192@|@NOP@line 8194: past the end of memory
+word 1,2|org 65535|@@0@byte 0|@NOP@line 4: past the end of memory
+BRK:BRK|org 65532|@@0@word BRK,1||@byte 1@line 5: past the end of memory
+byte 1@,1@65535@@,1@line 1: past the end of memory
+byte 1@,1@65535@@,q@line 1: past the end of memory
+byte 1@,1@65535@@,65536@line 1: out of range
+word <1@, >1@32767@@,@line 1: syntax
+";
+
+// Adds a piece of a source text, in which `|` ends a line.
+fn add(text: &mut Vec<u8>, piece: &str) -> Result<(), AllocError> {
+    for byte in piece.as_bytes() {
+        text.push(if *byte == b'|' { b'\n' } else { *byte })?;
+    }
+    Ok(())
+}
+
+// What a source text comes to.
+fn told(alloc: Global, part: Part, text: &[u8]) -> Result<String, Fail> {
+    match assemble(alloc, part, text) {
+        Ok(image) => {
+            let mut told = format!(in alloc; "{:04X}", image.origin)?;
+            for byte in image.bytes.iter() {
+                told.push_str(format!(in alloc; " {byte:02X}")?.as_str())?;
+            }
+            Ok(told)
+        }
+        Err(error) => Ok(format!(in alloc; "{error}")?),
+    }
+}
+
+#[test]
+fn texts_come_to_their_bytes_or_to_their_first_offending_line(rt: HostRuntime) -> Result<(), Fail> {
+    for line in TEXTS.lines() {
+        if let Some((case, source)) = line.split_once('@') {
+            let (part, want) = case.split_once(' ').unwrap_or((case, ""));
+            let part = if part == "65C02" { Cmos } else { Nmos };
+            let mut text = Vec::new(rt.alloc());
+            add(&mut text, source)?;
+            let told = told(rt.alloc(), part, &text)?;
+            assert_eq!(rt; told.as_str(), want, "{line}");
+        }
+    }
+    Ok(())
+}
+
+// The operand that stands for a mode in a source text, and its bytes at address 0.
+fn operand_of(mode: Mode) -> (&'static str, &'static [u8]) {
+    match mode {
+        Mode::Imp | Mode::Spare => ("", &[]),
+        Mode::Acc => (" A", &[]),
+        Mode::Imm => (" #&12", &[0x12]),
+        Mode::Zp => (" &12", &[0x12]),
+        Mode::ZpX => (" &12,X", &[0x12]),
+        Mode::ZpY => (" &12,Y", &[0x12]),
+        Mode::Abs => (" &1234", &[0x34, 0x12]),
+        Mode::AbsX => (" &1234,X", &[0x34, 0x12]),
+        Mode::AbsY => (" &1234,Y", &[0x34, 0x12]),
+        Mode::IndX => (" (&12,X)", &[0x12]),
+        Mode::IndY => (" (&12),Y", &[0x12]),
+        Mode::IndZp => (" (&12)", &[0x12]),
+        Mode::Rel => (" &0012", &[0x10]),
+        Mode::Ind => (" (&1234)", &[0x34, 0x12]),
+        Mode::IndAbsX => (" (&1234,X)", &[0x34, 0x12]),
+    }
+}
+
+#[test]
+fn each_documented_form_has_its_opcode(rt: HostRuntime) -> Result<(), Fail> {
+    for part in [Nmos, Cmos] {
+        for op in 0..=255u8 {
+            if let Some(row) = documented(part, op) {
+                let (operand, bytes) = operand_of(row.mode);
+                let mut text = Vec::from_array(rt.alloc(), row.mnemonic.name())?;
+                text.extend_from_slice(operand.as_bytes())?;
+                let mut want = Vec::from_array(rt.alloc(), [op])?;
+                want.extend_from_slice(bytes)?;
+                let image = assemble(rt.alloc(), part, &text)?;
+                assert_eq!(rt; image.bytes, want, "{part:?} {op:02X}");
+            }
+        }
+    }
+    Ok(())
+}
+
+#[test]
+fn images_fill_the_memory_and_no_more(rt: HostRuntime) -> Result<(), Fail> {
+    for line in FULL.lines() {
+        let mut fields = line.split('@');
+        let mut text = Vec::new(rt.alloc());
+        add(&mut text, fields.next().unwrap_or(""))?;
+        let piece = fields.next().unwrap_or("");
+        for _ in 0..fields.next().unwrap_or("").parse().unwrap_or(0u32) {
+            add(&mut text, piece)?;
+        }
+        add(&mut text, fields.next().unwrap_or(""))?;
+        for part in [Nmos, Cmos] {
+            let image = assemble(rt.alloc(), part, &text)?;
+            assert_eq!(rt; image.bytes.len(), 65_536, "{line}");
+        }
+        add(&mut text, fields.next().unwrap_or(""))?;
+        let want = fields.next().unwrap_or("");
+        for part in [Nmos, Cmos] {
+            assert_eq!(rt; told(rt.alloc(), part, &text)?.as_str(), want, "{line}");
+        }
+    }
+    Ok(())
+}
+
+#[test]
+fn errors_have_their_texts(rt: HostRuntime) -> Result<(), Fail> {
+    let rows = [
+        (AsmError::Syntax { line: 1 }, "line 1: syntax"),
+        (
+            AsmError::NoSuchForm { line: 20 },
+            "line 20: no such form of the instruction",
+        ),
+        (AsmError::UnknownLabel { line: 3 }, "line 3: unknown label"),
+        (
+            AsmError::Repeated { line: 400 },
+            "line 400: the label stands at an earlier line",
+        ),
+        (AsmError::OutOfRange { line: 5 }, "line 5: out of range"),
+        (
+            AsmError::TooLong { line: 65_536 },
+            "line 65536: past the end of memory",
+        ),
+        (AsmError::NoMemory, "no memory"),
+    ];
+    for (error, text) in rows {
+        assert_eq!(rt; format!(in rt.alloc(); "{error}")?.as_str(), text);
+    }
+    Ok(())
+}

@@ -1,0 +1,103 @@
+//! Devices that are plugged into the 1 MHz bus.
+use super::scene::first_wrong;
+use std::test::Fail;
+
+const SCENES: &str = "\
+# The RAM card's page register, a byte of its page, and a byte to the printer.
+os
+| org &C000
+| LDA #5
+| STA &FCFF
+| LDA #&77
+| STA &FD00
+| LDA #&41
+| STA &FC10
+| LDA &FD00
+| STA &70
+| LDA &FCFF
+| STA &71
+| LDA &FC10
+| STA &72
+| LDA &FC20
+| STA &73
+| here: JMP here
+| org &FFFC
+| word &C000, 0
+tube
+| org &F800
+| loop: JMP loop
+| org &FFFC
+| word loop, 0
+t
+$ solo 1000 o --plugs 2 --os os --tube tube
+= 0
+at o.host 0070 77 05 01 FF
+size o.plug0 65536
+at o.plug0 04FF 00 77 00
+file o.plug1
+x 41
+none o.plug2
+keep
+run 1000 o --plugs 8 --os os --tube tube
+= 0
+same o.report
+same o.host
+same o.para
+same o.trace
+same o.plug0
+same o.plug1
+$ replay host t 1000 o --os os --plugs 2
+= 0
+same o.host
+same o.plug0
+same o.plug1
+$ replay host t 1000 o --os os --plugs 1
+= 0
+at o.host 0070 77 05 FF FF
+same o.plug0
+none o.plug1
+$ replay host t 1000 o --os os --plugs 0
+= 0
+at o.host 0070 FF FF FF FF
+none o.plug0
+$ solo 1000 o --os os --tube tube
+= 0
+at o.host 0070 FF FF FF FF
+none o.plug0
+$ solo 0 o --os os --tube tube --plugs 2
+= 0
+size o.plug0 65536
+size o.plug1 0
+# They are written last.
+os
+| org &C000
+| here: JMP here
+| org &FFFC
+| word here, 0
+tube
+| org &F800
+| loop: JMP loop
+| org &FFFC
+| word loop, 0
+fails - 4
+$ solo 7 o --os os --tube tube --plugs 2
+= 5 cannot write o.plug0
+size o.trace 0
+none o.plug1
+fails - 5
+$ solo 7 o --os os --tube tube --plugs 2
+= 5 cannot write o.plug1
+size o.plug0 65536
+none o.plug1
+";
+
+#[test]
+fn plugged_devices_keep_what_is_written(rt: HostRuntime) -> Result<(), Fail> {
+    let wrong = first_wrong(&rt, rt.alloc(), SCENES)?;
+    assert!(rt;
+        wrong.is_none(),
+        "{}",
+        wrong.unwrap_or(String::new(rt.alloc()))
+    );
+    Ok(())
+}
