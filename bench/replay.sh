@@ -1,6 +1,8 @@
 #!/usr/bin/env bash
 # Times `replay` of each machine against an empty trace: a loop for 1,073,741,824 ticks, about 179 s of machine time, and a busy program
-# for 100,000,000, the host's also with both timers of the system's 6522 asking for interrupts, five times each. Prints how many times faster than the machine the fastest and the slowest run were.
+# for 100,000,000, five times each. The host's busy program also runs with both timers of the system's 6522 asking for interrupts, with a screen of 80 characters a
+# line, with a page of teletext, and with a disc that turns while the controller looks for a sector. Prints how many times faster than the machine the fastest and
+# the slowest run were, and what such a device costs: how many per cent longer the busy program took than without it.
 . "$(dirname "$0")/common.sh"
 
 : >empty.trace
@@ -8,25 +10,95 @@
 "$top/beebtube" asm 65c02 "$top/bench/busy-tube.asm" busy-tube
 "$top/beebtube" asm 6502 "$top/bench/loop-os.asm" loop-os
 "$top/beebtube" asm 6502 "$top/bench/busy-os.asm" busy-os
+"$top/beebtube" asm 6502 "$top/examples/font.asm" font
+head -c 204800 /dev/zero >disc
 
-# The busy program of the host behind what starts both timers, with a handler that starts timer 2 anew.
+# busy_behind NAME HANDLERS: the busy program of the host behind the lines of standard input, and before these lines
+busy_behind() {
+    {
+        printf '        org &C000\nstart:  NOP\n'
+        cat
+        sed -e '1,/org/d' -e 's/^start:/again: /' -e '/org &FFFC/,$d' "$top/bench/busy-os.asm"
+        printf '%s\n' "$2" '        org &FFFA' '        word nmi, start, irq'
+    } >"$1.asm"
+    "$top/beebtube" asm 6502 "$1.asm" "$1"
+}
+
+none='nmi:    RTI
+irq:    RTI'
+
+# put BYTE ADDRESS ..: lines that store hexadecimal bytes
+put() {
+    while [ $# -gt 0 ]; do
+        printf '        LDA #&%s\n        STA &%s\n' "$1" "$2"
+        shift 2
+    done
+}
+
+# screen CONTROL BYTE..: lines that set the video ULA's control byte and the registers of the 6845 from 0 on
+screen() {
+    local number=0 byte
+    put "$1" FE20
+    shift
+    for byte; do
+        put "$(printf '%02X' "$number")" FE00 "$byte" FE01
+        number=$((number + 1))
+    done
+}
+
 {
-    printf '%s\n' '        org &C000' 'start:  LDA #&40' '        STA &FE4B' '        LDA #&E0' '        STA &FE4E' '        LDA #&E6' '        STA &FE44' '        STA &FE48' '        LDA #3' '        STA &FE45' '        STA &FE49' '        CLI'
-    sed -e '1,/org/d' -e 's/^start:/again: /' -e '/org &FFFC/,$d' "$top/bench/busy-os.asm"
-    printf '%s\n' 'tick:   PHA' '        LDA &FE44' '        LDA #3' '        STA &FE49' '        PLA' '        RTI' '        org &FFFC' '        word start, tick'
-} >timers-os.asm
-"$top/beebtube" asm 6502 timers-os.asm timers-os
+    put 40 FE4B E0 FE4E E6 FE44 E6 FE48 03 FE45 03 FE49
+    echo '        CLI'
+} | busy_behind timers-os 'nmi:    RTI
+irq:    PHA
+        LDA &FE44
+        LDA #3
+        STA &FE49
+        PLA
+        RTI'
 
-# The side, the option and name of its program, the ticks of a run, and those of a bus cycle.
-for run in 'para tube loop-tube 1073741824 2' 'para tube busy-tube 100000000 2' \
-    'host os loop-os 1073741824 3' 'host os busy-os 100000000 3' 'host os timers-os 100000000 3'; do
-    set -- $run
+screen 9C 7F 50 62 28 26 00 20 22 01 07 67 08 06 00 | busy_behind screen-os "$none"
+
+# Its page has all codes.
+{
+    printf '%s\n' '        LDX #0' 'fill:   TXA' '        STA &7C00,X' '        STA &7D00,X' '        STA &7E00,X' '        STA &7F00,X' '        INX' '        BNE fill'
+    screen 4B 3F 28 33 24 1E 02 19 1B 93 12 72 13 28 00
+} | busy_behind teletext-os "$none"
+
+# There is no such sector: each command ends after a second, and its interrupt begins the next one.
+put 29 FE80 14 FE86 80 FE84 | busy_behind disc-os 'nmi:    PHA
+        LDA &FE84
+        LDA #&80
+        STA &FE84
+        PLA
+        RTI
+irq:    RTI'
+
+# The side, the option and name of its program, the ticks of a run, those of a bus cycle, and what else is said.
+while read -r side option name ticks cycle more; do
     for _ in 1 2 3 4 5; do
-        /usr/bin/time -f '%e %M' -o one "$program" replay "$1" empty.trace "$4" out "--$2" "$3"
+        /usr/bin/time -f '%e %M' -o one "$program" replay "$side" empty.trace "$ticks" out "--$option" "$name" $more
         cat one
-    done | sort -n | awk -v name="$3" -v ticks="$4" -v cycle="$5" '
+    done | sort -n >times
+    base=0
+    [ ! -e without ] || base=$(head -n 1 without | cut -d' ' -f1)
+    [ "$name" != busy-os ] || cp times without
+    awk -v name="$name" -v ticks="$ticks" -v cycle="$cycle" -v base="$base" '
         function told(s) { return sprintf("%.2f s, %.0f times real time, %.1f ns a bus cycle", s, ticks / 6000000 / s, s * cycle * 1000000000 / ticks) }
         { time[NR] = $1; memory = $2 }
-        END { printf "%s: %d ticks are %.1f s; fastest of 5: %s; slowest: %s; %d kB\n", name, ticks, ticks / 6000000, told(time[1]), told(time[NR]), memory }'
-done
+        END {
+            printf "%s: %d ticks are %.1f s; fastest of 5: %s; slowest: %s; %d kB", name, ticks, ticks / 6000000, told(time[1]), told(time[NR]), memory
+            if (base > 0) printf "; %.0f %% longer than without", 100 * (time[1] / base - 1)
+            printf "\n"
+        }' times
+done <<'RUNS'
+para tube loop-tube 1073741824 2
+para tube busy-tube 100000000 2
+host os loop-os 1073741824 3
+host os busy-os 100000000 3
+host os timers-os 100000000 3
+host os screen-os 100000000 3
+host os teletext-os 100000000 3 --font font
+host os disc-os 100000000 3 --disc0 disc
+RUNS
 echo 'goals: over 40 times real time for the second processor, over 30 for the host'
