@@ -11,9 +11,6 @@ use beeb_bits::NoMemory;
 pub use printer_latch::PrinterLatch;
 pub use ram_card::RamCard;
 
-#[cfg(test)]
-mod tests;
-
 /// A device on the 1 MHz bus, at addresses of FRED and JIM. (Acorn, BBC Microcomputer Advanced User Guide, the 1 MHz bus.)
 ///
 /// Contracts see its rules, which no call changes, and its state, a list of bytes, which a call may change.

@@ -13,9 +13,6 @@ use rand_core::utils::NextWord;
 use rand_pcg::Lcg64Xsh32;
 use std::alloc::{AllocError, Global};
 
-#[cfg(test)]
-mod tests;
-
 /// The images of the pair.
 #[derive(Debug, Drop)]
 pub struct Demo {

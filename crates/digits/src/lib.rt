@@ -11,6 +11,3 @@ pub use hexadecimal::{
     ten_digits, two_digits,
 };
 pub use law::{decimal_reads_back, hex_reads_back};
-
-#[cfg(test)]
-mod tests;

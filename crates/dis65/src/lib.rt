@@ -59,6 +59,3 @@ pub fn disassemble(
 pub fn decode_means_its_bytes()
     ensures { DecodeMeansItsBytes }
 {}
-
-#[cfg(test)]
-mod tests;

@@ -26,6 +26,3 @@ pub enum DiscError {
     #[error("no memory")]
     NoMemory,
 }
-
-#[cfg(test)]
-mod tests;

@@ -40,6 +40,3 @@ pub enum ScriptError {
     #[error("no memory")]
     NoMemory,
 }
-
-#[cfg(test)]
-mod tests;

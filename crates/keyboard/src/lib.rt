@@ -6,6 +6,3 @@ mod latch;
 
 pub use keys::Keys;
 pub use latch::Latch;
-
-#[cfg(test)]
-mod tests;

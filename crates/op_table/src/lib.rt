@@ -8,6 +8,3 @@ mod rows;
 pub use names::{Mnemonic, Mode, Part, names_lead_back};
 pub use opcodes::{find, forms_and_rows_agree};
 pub use rows::{Row, cmos, documented, nmos};
-
-#[cfg(test)]
-mod tests;

@@ -131,6 +131,3 @@ pub fn text(
         Err(_) => Err(NoMemory),
     }
 }
-
-#[cfg(test)]
-mod tests;

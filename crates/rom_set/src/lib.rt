@@ -9,9 +9,6 @@ ghost use Rattle.rom_set.specs.Places.{IsPlaced};
 use std::marker::Model;
 use thiserror::Error;
 
-#[cfg(test)]
-mod tests;
-
 /// How many bytes the operating system's ROM has, and how many a slot has room for.
 const ROM_SIZE: usize = 16_384;
 

@@ -9,6 +9,3 @@ mod style;
 
 pub use law::row_is_fold;
 pub use row::RowState;
-
-#[cfg(test)]
-mod tests;

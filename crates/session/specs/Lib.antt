@@ -1,4 +1,3 @@
 pub mod Steps
-pub mod Talking
 pub mod Turned
 pub mod Work

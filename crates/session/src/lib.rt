@@ -8,6 +8,3 @@ mod pause;
 mod side_job;
 
 pub use pair::{PairError, run_pair};
-
-#[cfg(test)]
-mod tests;

@@ -16,6 +16,3 @@ impl Crosses for Pass {}
 pub trait Shared: Sync {}
 
 impl Shared for TubeCell {}
-
-#[cfg(test)]
-mod tests;

@@ -40,6 +40,3 @@ pub enum Answer {
     Byte(u8),
     Seen(Lines),
 }
-
-#[cfg(test)]
-mod tests;

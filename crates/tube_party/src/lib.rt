@@ -17,6 +17,3 @@ pub use one_thread::{Done, solo};
 pub use party::{Ask, MOST, Party};
 pub use replaying::{Doing, replay};
 pub use tube_chip::Answer;
-
-#[cfg(test)]
-mod tests;

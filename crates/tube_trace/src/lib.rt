@@ -38,6 +38,3 @@ pub enum TraceError {
     #[error("no memory")]
     NoMemory,
 }
-
-#[cfg(test)]
-mod tests;

@@ -23,6 +23,3 @@ pub struct Pins {
     pub cb1: bool,
     pub cb2: bool,
 }
-
-#[cfg(test)]
-mod tests;

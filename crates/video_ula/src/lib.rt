@@ -7,6 +7,3 @@ mod ready;
 mod ula;
 
 pub use ula::Ula;
-
-#[cfg(test)]
-mod tests;

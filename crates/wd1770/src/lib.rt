@@ -18,6 +18,3 @@ pub use fdc::Fdc;
 pub use law::{
     a_controller_stays_sound, a_motion_takes_its_time, an_idle_controller_stays, the_discs_turn,
 };
-
-#[cfg(test)]
-mod tests;

@@ -1,0 +1,5 @@
+//! Cases of the picture.
+#![tactic(auto)]
+
+#[cfg(test)]
+mod tests;
