@@ -1,5 +1,5 @@
 use op_table::{
-    Mnemonic, Mode, Part, cmos, documented, find, forms_and_rows_agree, names_lead_back, nmos,
+    Mnemonic, Mode, Part, Row, cmos, documented, find, forms_and_rows_agree, names_lead_back, nmos,
 };
 
 // Opcode, mnemonic, mode, bytes and cycles, from the MCS6500 Programming Manual.
