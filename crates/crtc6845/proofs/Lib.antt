@@ -5,3 +5,4 @@ pub mod SyncLines
 pub mod Sync
 pub mod Addresses
 pub mod SyncHeight
+pub mod Rest

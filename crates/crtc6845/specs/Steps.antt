@@ -1,7 +1,8 @@
 -- Tests that the code makes apart.
-use Rattle.std.specs.Prelude.{◌%◌, ◌&&◌, nat_le, Bool, not, is_none}
+use Rattle.std.specs.Prelude.{◌%◌, ◌==◌, ◌&&◌, nat_le, Bool, not, is_none}
 use Rattle.crtc6845.specs.State.{State}
-use Rattle.crtc6845.specs.Clock.{blinks_on, is_row_done, is_last_line}
+use Rattle.crtc6845.specs.Registers.{start_address}
+use Rattle.crtc6845.specs.Clock.{starts_line, blinks_on, ends_line, is_row_done, is_last_line}
 
 -- the cursor is on this raster, and blinks on
 abbrev pub cursor_is_on : State → Bool
@@ -11,3 +12,9 @@ cursor_is_on c =
 -- the line is the last of its row, and another row follows
 abbrev pub ends_row_line : State → Bool
 ends_row_line c = is_none c.adjust && is_row_done c && not (is_last_line c)
+
+-- Each character is a line and the whole frame, and is not shown: the next one finds all as this one does, but for vertical sync.
+abbrev pub is_at_rest : State → Bool
+is_at_rest c =
+    starts_line c && ends_line c && c.registers.horizontal_displayed == 0 && c.row == 0 && c.raster == 0 && is_none c.adjust
+    && is_last_line c && c.base == start_address c.registers

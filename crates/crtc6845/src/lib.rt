@@ -1,6 +1,7 @@
 //! The 6845, or cathode ray tube controller, a character clock at a time (6845 data sheet).
 #![tactic(auto)]
 
+mod chip;
 mod crtc;
 mod law;
 mod registers;
