@@ -1,5 +1,5 @@
 -- The sixteen dots of a byte are its first eight and its last eight.
-use Rattle.std.proofs.Common.{◌≡◌, refl, ℕ, Bool, true, false, List, ◌++◌, replicate}
+use Rattle.std.proofs.Common.{◌≡◌, refl, ℕ, Bool, true, false, ◌++◌, replicate}
 use Rattle.std.specs.Prelude.{if◌then◌else◌}
 use Rattle.beeb_bits.specs.Bits.{bit}
 use Rattle.video_ula.specs.State.{State as UlaState}

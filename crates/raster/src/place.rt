@@ -44,8 +44,8 @@ impl Place {
     {
         if beam.frame_end {
             self.y = 0;
-        } else if beam.line_start {
-            self.y = (self.y + 1).min(MOST_LINES);
+        } else if beam.line_start && self.y < MOST_LINES {
+            self.y += 1;
         }
         if beam.sync_start {
             self.start_sync();

@@ -1,9 +1,11 @@
 //! The raster.
-ghost use Rattle.std.specs.Prelude.{◌≡◌, ◌<◌, ◌%◌, false, length, map, take, IfOk, if◌then◌else◌};
+ghost use Rattle.std.specs.Prelude.{◌≡◌, ◌<◌, ◌%◌, ℕ, List, false, true, length, map, take, IfOk, if◌then◌else◌};
 ghost use Rattle.std.specs.Borrow.{sem};
 ghost use Rattle.beeb_bits.specs.Bits.{bit};
 ghost use Rattle.video_ula.specs.Pixels.{dots_of, under_cursor, colours};
 ghost use Rattle.crtc6845.specs.Clock.{starts_line, ends_line};
+ghost use Rattle.crtc6845.specs.Steps.{is_at_rest};
+ghost use Rattle.saa5050.specs.Shapes.{Font};
 ghost use Rattle.raster.specs.Beam.{IsScreenSize};
 ghost use Rattle.raster.specs.Frame.{black};
 ghost use Rattle.raster.specs.State.{power_on};
@@ -149,11 +151,24 @@ impl Raster {
         requires size { IsScreenSize size }
         ensures { self.new ≡ char_clocked ram.now size font.now.font self.old }
     {
-        if self.crtc.is_edge() {
-            self.clock_at_edge(ram, size, font);
-        } else {
+        if !self.crtc.is_edge() {
             self.clock_inside(ram, size, font);
+        } else if self.crtc.is_at_rest() {
+            self.clock_at_rest();
+        } else {
+            self.clock_at_edge(ram, size, font);
         }
+    }
+
+    // A character clock of a 6845 that is at rest.
+    #[inline(never)]
+    fn clock_at_rest(&mut self)
+        requires { is_at_rest self.old.crtc ≡ true }
+        ensures { (ram : List ℕ) (size : ℕ) (font : Font) → self.new ≡ char_clocked ram size font self.old }
+    {
+        let beam = self.crtc.clock_at_rest();
+        self.begin(&beam);
+        self.pass(&beam);
     }
 
     // Any character clock.
@@ -209,6 +224,7 @@ impl Raster {
     }
 
     // The working frame becomes the finished one, and a black one is begun.
+    #[inline(never)]
     fn finish(&mut self)
         ensures { self.new ≡ record self.old { working = black; finished = self.old.working } }
     {

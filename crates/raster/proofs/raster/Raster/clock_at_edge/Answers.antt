@@ -1,6 +1,5 @@
-use Rattle.std.proofs.Common.{◌≡◌, ◌∙◌, ap}
-use Rattle.raster.specs.State.{State}
-use Rattle.raster.specs.Clock.{begun, shown, passed}
+use Rattle.std.proofs.Common.{◌∙◌, ap}
+use Rattle.raster.specs.Clock.{shown, passed}
 use Rattle.raster.specs.contracts.raster.Raster.{the_view}
 use Rattle.raster.proofs.Told.{told_after}
 use Rattle.raster.proofs.raster.Raster.clock_at_edge.Goals as goal
