@@ -1,7 +1,8 @@
 -- A row by the list of its codes.
-use Rattle.std.proofs.Common.{ℕ, ◌≡◌, ◌==◌, ◌<◌, refl, ◌∙◌, Bool, true, false, not, ◌||◌, List, [], ◌∷◌, ◌++◌}
+use Rattle.std.proofs.Common.{ℕ, ◌≡◌, ◌==◌, ◌<◌, ◌≤◌, refl, sym, ◌∙◌, Bool, true, false, not, ◌||◌, List, [], ◌∷◌, ◌++◌, arith}
 use Rattle.std.specs.Prelude.{fold, nat_lt}
 use Rattle.std.proofs.lemmas.Bool.{agree_below_at}
+use Rattle.std.proofs.lemmas.Bool.Decides.{nat_tests}
 use Rattle.saa5050.specs.declared.style.Style.{Style}
 use Rattle.saa5050.specs.Controls.{controls, holds_at_once}
 use Rattle.saa5050.specs.Steps.{style_past}
@@ -55,3 +56,25 @@ two_parts code s false low h l both = rw h refl
 pub in_two_parts : (code : ℕ) (s : Style) → code < 128 → style_past code (style_at code s) ≡ style_after code s
 in_two_parts code s low =
     two_parts code s (holds_at_once controls code) (nat_lt code 0x20) refl refl (follows_from (holds_at_once controls code) (nat_lt code 0x20) (at_once_below code low))
+
+-- a code that is no control code changes nothing of its own cell's style, and is none for double height
+kept_by : (code : ℕ) (s : Style) (b : Bool) → holds_at_once controls code ≡ b → (b ≡ true → nat_lt code 0x20 ≡ true) → nat_lt code 0x20 ≡ false → style_at code s ≡ s
+kept_by code s true h low not_low = cc (low refl)
+kept_by code s false h low not_low = rw h refl
+
+no_control : (code : ℕ) → 0x20 ≤ code → nat_lt code 0x20 ≡ false
+no_control code above = grind (arith, nat_tests)
+
+no_double : (code : ℕ) → 0x20 ≤ code → (code == 0x0D) ≡ false
+no_double code above = grind (arith, nat_tests)
+
+pub kept_in_its_cell : (code : ℕ) (s : Style) → 0x20 ≤ code → code < 128 → s ≡ style_at code s
+kept_in_its_cell code s above low =
+    sym (kept_by code s (holds_at_once controls code) refl (follows_from (holds_at_once controls code) (nat_lt code 0x20) (at_once_below code low)) (no_control code above))
+
+or_false : (a b : Bool) → b ≡ false → a ≡ (a || b)
+or_false true b h = refl
+or_false false b h = sym h
+
+pub none_for_double : (code : ℕ) (had : Bool) → 0x20 ≤ code → had ≡ (had || code == 0x0D)
+none_for_double code had above = or_false had (code == 0x0D) (no_double code above)

@@ -117,7 +117,17 @@ fn sixel(code: u8, separated: bool, line: u8) -> u16
     }
 }
 
-/// The half dots of the cell of a code on a line of the row, in its style there: the leftmost is bit 11.
+// A line of a letter.
+#[inline(always)]
+fn letter(font: &RomSet, code: u8, line: u8) -> u16
+    requires code { (0x20 ≤ code) × (code ≤ 0x7F) }
+    ensures { IsLine result (letter_dot font.now.font code line) }
+{
+    rounded(letter_row(font, code, line / 2), near_row(font, code, line))
+}
+
+/// The half dots of the cell of a code on a line of the row, in its style there: the leftmost is bit 11. Most are those of letters of
+/// normal height that are shown.
 #[inline(always)]
 pub(crate) fn half_dots(
     style: &Style,
@@ -130,16 +140,26 @@ pub(crate) fn half_dots(
     requires { code < 0x80 }
     ensures { IsLine result (cell_dot font.now.font code ra bottom fields style.now) }
 {
+    if style.is_special(code, ra, bottom) {
+        special_dots(style, font, code, ra, bottom, fields)
+    } else {
+        letter(font, code, ra)
+    }
+}
+
+// The half dots of any cell.
+#[inline(always)]
+fn special_dots(style: &Style, font: &RomSet, code: u8, ra: u8, bottom: bool, fields: u32) -> u16
+    requires { code < 0x80 }
+    ensures { IsLine result (cell_dot font.now.font code ra bottom fields style.now) }
+{
     if style.is_blank(ra, bottom, fields) {
         return 0;
     }
     let line = style.line(ra, bottom);
     match style.shape(code) {
         Shape::Blank => 0,
-        Shape::Letter(code) => rounded(
-            letter_row(font, code, line / 2),
-            near_row(font, code, line),
-        ),
+        Shape::Letter(code) => letter(font, code, line),
         Shape::Graphic(block) => sixel(block.code, block.separated, line),
     }
 }

@@ -2,7 +2,7 @@
 ghost use Rattle.std.specs.Prelude.{◌≡◌, ◌<◌};
 ghost use Rattle.saa5050.specs.Controls.{plain, letters, graphics, normal_height, double_height, controls, obeyed, holds_at_once};
 ghost use Rattle.saa5050.specs.Row.{is_sixel, sixel_of, held_shape, style_at, style_after, shape_of, shape_line, is_blank};
-ghost use Rattle.saa5050.specs.Steps.{style_past};
+ghost use Rattle.saa5050.specs.Steps.{style_past, is_special};
 ghost use Rattle.saa5050.specs.Dots.{IsInFont};
 
 /// How many lines a cell has.
@@ -54,6 +54,7 @@ fn holds_at_once(code: u8) -> bool
 }
 
 /// In graphics the code is a block of six parts.
+#[inline(always)]
 fn is_sixel(code: u8) -> bool
     ensures { result ≡ is_sixel code }
 {
@@ -161,9 +162,9 @@ impl Style {
         }
     }
 
-    // What any code leaves for the cells after it.
+    /// What any code leaves for the cells after it.
     #[inline(always)]
-    fn take(&mut self, code: u8)
+    pub(crate) fn take(&mut self, code: u8)
         ensures { self.new ≡ style_after code self.old }
     {
         if code < 0x20 {
@@ -211,6 +212,20 @@ impl Style {
         } else {
             Shape::Blank
         }
+    }
+
+    /// The cell of a code may show something else than a letter, or a letter in another way than most.
+    #[inline(always)]
+    pub(crate) fn is_special(&self, code: u8, ra: u8, bottom: bool) -> bool
+        ensures { result ≡ is_special code ra bottom self.now }
+    {
+        code < 0x20
+            || ra >= LINES
+            || bottom
+            || self.graphics
+            || self.flashing
+            || self.concealed
+            || self.double
     }
 
     /// The line of the shape that is shown on a line of the row.
