@@ -2,7 +2,7 @@
 use Rattle.std.proofs.Common.{◌≡◌, ◌∙◌, sym, ap, refl, ℕ, suc, ◌+◌, ◌-◌, ◌*◌, ◌%◌, ◌<◌, ◌≤◌, ◌&&◌, Bool, true, false, min, List, [], ◌∷◌, ◌++◌, length, take, drop, append_assoc, add-zero, arith, ltb, leb, inl, inr}
 use Rattle.std.specs.Prelude.{slice_set}
 use Rattle.std.proofs.lemmas.Bool.{leb-true, ltb-true, le-leb, lt-ltb, cases_lt}
-use Rattle.std.proofs.lemmas.List.{take-append-drop, take_more_set, drop-set-lt}
+use Rattle.std.proofs.lemmas.List.{take-append-drop, take_all, length-drop, take_more_set, drop-set-lt}
 use Rattle.std.proofs.Math.ListN.{length-set}
 use Rattle.raster.specs.Frame.{is_in_frame, dot_set, dots_set}
 
@@ -83,18 +83,6 @@ pub eight_outside : (left x y : ℕ) (dots frame : List ℕ) → left % 8 ≡ 0 
 eight_outside left x y dots frame l r eight out =
     sym (all_outside left x y dots frame (λ k h. outside_together left x y k l r (omega arith) out))
 
-pub eight_inside : (left x y at : ℕ) (dots frame new : List ℕ) → length dots ≡ 8 → length frame ≡ 163840 → left % 8 ≡ 0 → x % 8 ≡ 0 → is_in_frame left x y ≡ true →
-    at ≡ 640 * (y - 40) + (x - left) → new ≡ take at frame ++ (dots ++ drop (at + 8) frame) → new ≡ dots_set left x y dots frame
-eight_inside left x y at dots frame new eight whole l r inside place is =
-    let h = inside_tells left x y inside in
-    let from = h.from in
-    let to = h.to in
-    let top = h.top in
-    let bottom = h.bottom in
-    let end : x + length dots ≤ left + 640 = omega arith in
-    let count : at + 8 ≡ at + length dots = omega arith in
-    is ∙ ap (λ k. take at frame ++ (dots ++ drop k frame)) count ∙ sym (all_inside left x y at dots frame from end top bottom place (omega arith))
-
 -- some dots and then others
 pub dots_set-append : (left x y : ℕ) (dots more frame : List ℕ) →
     dots_set left x y (dots ++ more) frame ≡ dots_set left (x + length dots) y more (dots_set left x y dots frame)
@@ -103,6 +91,12 @@ dots_set-append left x y (d ∷ dots) more frame =
     let e : x + 1 + length dots ≡ x + suc (length dots) = omega arith in
     dots_set-append left (x + 1) y dots more (dot_set left x y d frame)
     ∙ ap (λ k. dots_set left k y more (dots_set left (x + 1) y dots (dot_set left x y d frame))) e
+
+-- sixteen dots are their first eight and their last
+pub halves : (dots : List ℕ) → length dots ≡ 16 → take 8 dots ++ take 8 (drop 8 dots) ≡ dots
+halves dots sixteen =
+    let few = length-drop 8 dots in
+    ap (λ last. take 8 dots ++ last) (take_all 8 (drop 8 dots) (omega (arith, few, sixteen))) ∙ take-append-drop 8 dots
 
 -- where the count of dots has come to its end, all of them are outside
 pub past_the_end : (left x y : ℕ) (dots frame : List ℕ) → left + 640 ≤ x → dots_set left x y dots frame ≡ frame

@@ -64,14 +64,13 @@ impl Frame {
         self.colours.fill(0);
     }
 
-    /// Sets eight dots, from `at` on.
+    /// Sets dots, from `at` on.
     #[inline(always)]
-    pub(crate) fn put_eight(&mut self, at: usize, dots: &[u8])
-        requires within { at + 8 ≤ FRAME_SIZE }
-        requires eight { length dots.now ≡ 8 }
+    pub(crate) fn put(&mut self, at: usize, dots: &[u8])
+        requires within { at + length dots.now ≤ FRAME_SIZE }
         ensures size { length self.old ≡ FRAME_SIZE }
-        ensures put { self.new ≡ take at self.old ++ (dots.now ++ drop (at + 8) self.old) }
+        ensures put { self.new ≡ take at self.old ++ (dots.now ++ drop (at + length dots.now) self.old) }
     {
-        self.colours[at..at + 8].copy_from_slice(dots);
+        self.colours[at..at + dots.len()].copy_from_slice(dots);
     }
 }

@@ -1,5 +1,5 @@
 //! A frame that is drawn or shown, and whether it is still black.
-ghost use Rattle.std.specs.Prelude.{◌≡◌, ◌≤◌, ◌%◌, ◌++◌, length, take, IfOk, if◌then◌else◌};
+ghost use Rattle.std.specs.Prelude.{◌≡◌, ◌≤◌, ◌<◌, ◌+◌, ◌%◌, ◌++◌, length, take, IfOk, if◌then◌else◌};
 ghost use Rattle.raster.specs.Frame.{black, is_in_frame, dots_set};
 
 use crate::frame::Frame;
@@ -66,6 +66,18 @@ impl Picture {
         }
     }
 
+    // Draws dots that lie in the frame, one beside the other, the first of them at `x` and `y`.
+    #[inline(always)]
+    fn put(&mut self, left: u16, x: u16, y: u16, dots: &[u8])
+        requires along { (left ≤ x) × (x + length dots.now ≤ left + 640) }
+        requires down { (40 ≤ y) × (y < 296) }
+        ensures { self.new ≡ dots_set left x y dots.now self.old }
+    {
+        let at = WIDTH as usize * usize::from(y - TOP) + usize::from(x - left);
+        self.is_clear = false;
+        self.frame.put(at, dots);
+    }
+
     /// Draws eight dots, the first of them at `x` and `y`, as far as they lie in the frame, whose left edge is at `left`. Both are
     /// multiples of eight, so that all of them lie in it or none.
     #[inline(always)]
@@ -76,10 +88,33 @@ impl Picture {
         ensures { self.new ≡ dots_set left x y dots.now self.old }
     {
         if is_in_frame(left, x, y) {
-            let at = WIDTH as usize * usize::from(y - TOP) + usize::from(x - left);
-            self.is_clear = false;
-            self.frame.put_eight(at, dots);
+            self.put(left, x, y, dots);
         }
+    }
+
+    // Draws sixteen dots, as far as they lie in the frame.
+    #[inline(always)]
+    fn draw_sixteen(&mut self, left: u16, x: u16, y: u16, dots: &[u8; 16])
+        requires left { (left ≤ 240) × (left % 8 ≡ 0) }
+        requires x { (x % 8 ≡ 0) × (x ≤ 4096) }
+        ensures { self.new ≡ dots_set left x y dots.now self.old }
+    {
+        if left <= x && x <= left + (WIDTH - 16) && TOP <= y && y < TOP + LINES {
+            self.put(left, x, y, dots);
+        } else {
+            self.draw_apart(left, x, y, dots);
+        }
+    }
+
+    // Draws them eight and eight.
+    #[inline(always)]
+    fn draw_apart(&mut self, left: u16, x: u16, y: u16, dots: &[u8; 16])
+        requires left { (left ≤ 240) × (left % 8 ≡ 0) }
+        requires x { (x % 8 ≡ 0) × (x ≤ 4096) }
+        ensures { self.new ≡ dots_set left x y dots.now self.old }
+    {
+        self.draw_eight(left, x, y, &dots[..8]);
+        self.draw_eight(left, x + 8, y, &dots[8..]);
     }
 
     /// Draws the 8 dots of a character.
@@ -109,9 +144,10 @@ impl Picture {
         ensures { self.new ≡ dots_set left place.now.x place.now.y (take (if narrow then 8 else 16) dots.now) self.old }
     {
         let x = 8 * place.eights;
-        self.draw_eight(left, x, place.y, &dots[..8]);
-        if !narrow {
-            self.draw_eight(left, x + 8, place.y, &dots[8..]);
+        if narrow {
+            self.draw_eight(left, x, place.y, &dots[..8]);
+        } else {
+            self.draw_sixteen(left, x, place.y, dots);
         }
     }
 }

@@ -309,6 +309,27 @@ impl Raster {
         requires { code < 128 }
         ensures { self.new ≡ cell_drawn_on font.now.font code ra fields marked self.old }
     {
+        if code < 32 {
+            self.draw_control(font, code, ra, fields, marked);
+        } else {
+            self.draw_code(font, code, ra, fields, marked);
+        }
+    }
+
+    // The cell of a control code, out of the way of the others.
+    #[inline(never)]
+    fn draw_control(&mut self, font: &RomSet, code: u8, ra: u8, fields: u32, marked: bool)
+        requires { code < 128 }
+        ensures { self.new ≡ cell_drawn_on font.now.font code ra fields marked self.old }
+    {
+        self.draw_code(font, code, ra, fields, marked);
+    }
+
+    #[inline(always)]
+    fn draw_code(&mut self, font: &RomSet, code: u8, ra: u8, fields: u32, marked: bool)
+        requires { code < 128 }
+        ensures { self.new ≡ cell_drawn_on font.now.font code ra fields marked self.old }
+    {
         let mut dots = [0; 16];
         self.text.put(font, code, ra, fields, &mut dots);
         mark(&mut dots, marked);

@@ -46,6 +46,7 @@ impl Text {
     }
 
     /// Takes the code of a character that is shown, and gives its sixteen colours.
+    #[inline(always)]
     #[tactic(auto, unfolding(crate::specs::Text::codes_after, crate::specs::Steps::cell_on))]
     pub(crate) fn put(&mut self, font: &RomSet, code: u8, ra: u8, fields: u32, to: &mut [u8; 16])
         requires { code < 128 }
@@ -53,7 +54,9 @@ impl Text {
         ensures colours { to.new ≡ cell_on font.now.font code ra fields self.old }
     {
         self.codes.put(font, code, ra, self.bottom, fields, to);
-        self.doubled = self.doubled || self.codes.had_double();
+        if self.codes.had_double() {
+            self.doubled = true;
+        }
     }
 
     /// The beam leaves the character, and the row or the frame may end with it.
