@@ -1,7 +1,7 @@
 //! Finished frames, with the BBC Micro's registers of the 6845.
 use crate::{Frame, Raster};
 use rom_set::RomSet;
-use std::alloc::{AllocError, Global};
+use std::alloc::Global;
 use std::process::Abort;
 use std::test::Fail;
 
@@ -18,36 +18,12 @@ const TELETEXT: [u8; 16] = [
 /// The microseconds of three frames, or a little more.
 const FRAMES: u64 = 60_000;
 
-fn memory(alloc: Global, size: usize) -> Result<Vec<u8>, AllocError> {
-    vec![in alloc; 0; size]
-}
-
-fn poke(ram: &mut [u8], at: usize, bytes: &[u8]) {
-    for (i, byte) in bytes.iter().enumerate() {
-        let place = at.wrapping_add(i);
-        if place < ram.len() {
-            ram[place] = *byte;
-        }
-    }
-}
-
-/// Does microseconds with a screen of so many kilobytes.
-fn advance(raster: &mut Raster, ram: &[u8], kilobytes: u8, roms: &RomSet, n: u64) {
-    if ram.len() != 32_768 {
-        return;
-    }
-    match kilobytes {
-        16 => raster.advance(ram, 16_384, roms, n),
-        8 => raster.advance(ram, 8_192, roms, n),
-        20 => raster.advance(ram, 20_480, roms, n),
-        _ => raster.advance(ram, 10_240, roms, n),
-    }
-}
-
-fn char_clock(raster: &mut Raster, ram: &[u8], roms: &RomSet) {
-    if ram.len() == 32_768 {
-        raster.char_clock(ram, 16_384, roms);
-    }
+/// What a test draws with.
+#[derive(Drop)]
+struct Scene {
+    raster: Raster,
+    ram: Vec<u8>,
+    roms: RomSet,
 }
 
 fn roms(alloc: Global) -> Result<RomSet, Fail> {
@@ -63,22 +39,78 @@ fn program(raster: &mut Raster, registers: &[u8; 16], control: u8) {
     raster.ula().control(control);
 }
 
-/// Entries 0 to 7 of the palette are one colour, and the others another.
-fn two_colours(raster: &mut Raster, low: u8, high: u8) {
-    for entry in 0..16u8 {
-        let colour = if entry < 8 { low } else { high };
-        raster.ula().palette(16 * entry + (colour % 8 ^ 7));
+impl Scene {
+    /// A raster with these registers of the 6845 and this control byte, over a RAM of zeros.
+    fn make(alloc: Global, registers: &[u8; 16], control: u8) -> Result<Scene, Fail> {
+        let roms = roms(alloc)?;
+        let ram = vec![in alloc; 0; 32_768]?;
+        let mut raster = Raster::make(alloc)?;
+        program(&mut raster, registers, control);
+        Ok(Scene { raster, ram, roms })
     }
-}
 
-/// The frame has these colours, as digits, from a place on.
-fn shows(frame: &Frame, at: usize, want: &[u8]) -> bool {
-    for (i, digit) in want.iter().enumerate() {
-        if frame.colours.get(at.wrapping_add(i)) != Some(&digit.wrapping_sub(b'0')) {
-            return false;
+    fn poke(&mut self, at: usize, bytes: &[u8]) {
+        for (i, byte) in bytes.iter().enumerate() {
+            let place = at.wrapping_add(i);
+            if place < self.ram.len() {
+                self.ram[place] = *byte;
+            }
         }
     }
-    true
+
+    /// Entries 0 to 7 of the palette are one colour, and the others another.
+    fn two_colours(&mut self, low: u8, high: u8) {
+        for entry in 0..16u8 {
+            let colour = if entry < 8 { low } else { high };
+            self.raster.ula().palette(16 * entry + (colour % 8 ^ 7));
+        }
+    }
+
+    fn control(&mut self, v: u8) {
+        self.raster.ula().control(v);
+    }
+
+    /// Does microseconds with a screen of so many kilobytes.
+    fn advance(&mut self, kilobytes: u8, n: u64) {
+        let size = match kilobytes {
+            16 => 16_384,
+            8 => 8_192,
+            20 => 20_480,
+            _ => 10_240,
+        };
+        if self.ram.len() == 32_768 {
+            self.raster.advance(&self.ram, size, &self.roms, n);
+        }
+    }
+
+    fn char_clock(&mut self) {
+        if self.ram.len() == 32_768 {
+            self.raster.char_clock(&self.ram, 16_384, &self.roms);
+        }
+    }
+
+    /// The finished frame has these colours, as digits, `step` dots from one to the next.
+    fn shows_each(&self, at: usize, step: usize, want: &[u8]) -> bool {
+        let colours = &self.raster.frame().colours;
+        let mut place = at;
+        for digit in want {
+            if colours.get(place) != Some(&digit.wrapping_sub(b'0')) {
+                return false;
+            }
+            place = place.wrapping_add(step);
+        }
+        true
+    }
+
+    /// They are side by side.
+    fn shows(&self, at: usize, want: &[u8]) -> bool {
+        self.shows_each(at, 1, want)
+    }
+
+    /// How many dots of the finished frame have a colour.
+    fn count(&self, colour: u8) -> u32 {
+        count(self.raster.frame(), colour)
+    }
 }
 
 fn count(frame: &Frame, colour: u8) -> u32 {
@@ -91,26 +123,34 @@ fn count(frame: &Frame, colour: u8) -> u32 {
 
 #[test]
 fn a_byte_of_a_bit_mapped_screen_is_in_its_place(rt: HostRuntime) -> Result<(), Fail> {
-    let roms = roms(rt.alloc())?;
-    let mut ram = memory(rt.alloc(), 32_768)?;
-    poke(&mut ram, 0x5800, &[0xa5]);
-    let mut raster = Raster::make(rt.alloc())?;
-    program(&mut raster, &GRAPHICS, 0x08);
-    two_colours(&mut raster, 0, 7);
-    assert_eq!(rt; count(raster.frame(), 0), 163_840);
+    let mut scene = Scene::make(rt.alloc(), &GRAPHICS, 0x08)?;
+    scene.poke(0x5800, &[0xa5]);
+    scene.two_colours(0, 7);
+    assert_eq!(rt; scene.count(0), 163_840);
     // The frame is drawn, but not yet finished.
-    advance(&mut raster, &ram, 16, &roms, 30_000);
-    assert_eq!(rt; count(raster.frame(), 0), 163_840);
-    advance(&mut raster, &ram, 16, &roms, FRAMES - 30_000);
-    assert!(rt; shows(raster.frame(), 0, b"7700770000770077"));
-    assert_eq!(rt; count(raster.frame(), 7), 8);
-    assert_eq!(rt; count(raster.frame(), 0), 163_832);
+    scene.advance(16, 30_000);
+    assert_eq!(rt; scene.count(0), 163_840);
+    scene.advance(16, FRAMES - 30_000);
+    assert!(rt; scene.shows(0, b"7700770000770077"));
+    assert_eq!(rt; scene.count(7), 8);
+    assert_eq!(rt; scene.count(0), 163_832);
     Ok(())
+}
+
+/// A screen that begins at this address, of so many kilobytes, shows the byte at this place first.
+fn shows_first(alloc: Global, high: u8, low: u8, kilobytes: u8, at: usize) -> Result<bool, Fail> {
+    let mut registers = GRAPHICS;
+    registers[12] = high;
+    registers[13] = low;
+    let mut scene = Scene::make(alloc, &registers, 0x08)?;
+    scene.poke(at, &[0xa5]);
+    scene.two_colours(0, 7);
+    scene.advance(kilobytes, FRAMES);
+    Ok(scene.shows(0, b"7700770000770077"))
 }
 
 #[test]
 fn addresses_wrap_by_the_size_of_the_screen(rt: HostRuntime) -> Result<(), Fail> {
-    let roms = roms(rt.alloc())?;
     // The start address in R12 and R13, the kilobytes of the screen, and where its first byte is.
     let rows = [
         (0x0f, 0xff, 16, 0x7ff8),
@@ -128,92 +168,99 @@ fn addresses_wrap_by_the_size_of_the_screen(rt: HostRuntime) -> Result<(), Fail>
         (0x37, 0xff, 16, 0x3fff),
     ];
     for (high, low, kilobytes, at) in rows {
-        let mut ram = memory(rt.alloc(), 32_768)?;
-        poke(&mut ram, at, &[0xa5]);
-        let mut raster = Raster::make(rt.alloc())?;
-        let mut registers = GRAPHICS;
-        registers[12] = high;
-        registers[13] = low;
-        program(&mut raster, &registers, 0x08);
-        two_colours(&mut raster, 0, 7);
-        advance(&mut raster, &ram, kilobytes, &roms, FRAMES);
-        assert!(rt; shows(raster.frame(), 0, b"7700770000770077"), "{at}");
+        assert!(rt; shows_first(rt.alloc(), high, low, kilobytes, at)?, "{at}");
     }
     Ok(())
+}
+
+/// A white screen with this control byte, R1, R2, R6 and R7.
+fn white(
+    alloc: Global,
+    control: u8,
+    [shown, sync, height, sync_row]: [u8; 4],
+) -> Result<Scene, Fail> {
+    let mut registers = GRAPHICS;
+    registers[1] = shown;
+    registers[2] = sync;
+    registers[6] = height;
+    registers[7] = sync_row;
+    let mut scene = Scene::make(alloc, &registers, control)?;
+    scene.two_colours(7, 7);
+    scene.advance(16, FRAMES);
+    Ok(scene)
 }
 
 #[test]
 fn dots_beyond_the_frame_are_not_drawn(rt: HostRuntime) -> Result<(), Fail> {
-    let roms = roms(rt.alloc())?;
-    let ram = memory(rt.alloc(), 32_768)?;
     // The control byte, R1, R2, R6 and R7: what is shown of a line and where it begins, and the same of a frame; then how many dots are
     // white, and the first of them.
     let rows = [
-        (0x00, 40, 49, 32, 34, 640 * 256, 0),
-        (0x00, 1, 49, 32, 34, 16 * 256, 0),
-        (0x00, 2, 50, 32, 34, 16 * 256, 0),
-        (0x00, 1, 50, 32, 34, 0, 0),
-        (0x00, 1, 48, 32, 34, 16 * 256, 16),
-        (0x00, 42, 49, 32, 34, 640 * 256, 0),
-        (0x00, 1, 49, 32, 35, 16 * 248, 0),
-        (0x00, 1, 49, 32, 33, 16 * 248, 640 * 8),
-        (0x00, 1, 49, 1, 35, 0, 0),
-        (0x00, 0, 49, 32, 34, 0, 0),
+        (0x00, [40, 49, 32, 34], 640 * 256, 0),
+        (0x00, [1, 49, 32, 34], 16 * 256, 0),
+        (0x00, [2, 50, 32, 34], 16 * 256, 0),
+        (0x00, [1, 50, 32, 34], 0, 0),
+        (0x00, [1, 48, 32, 34], 16 * 256, 16),
+        (0x00, [42, 49, 32, 34], 640 * 256, 0),
+        (0x00, [1, 49, 32, 35], 16 * 248, 0),
+        (0x00, [1, 49, 32, 33], 16 * 248, 640 * 8),
+        (0x00, [1, 49, 1, 35], 0, 0),
+        (0x00, [0, 49, 32, 34], 0, 0),
         // At 2 MHz characters are 8 dots wide.
-        (0x10, 30, 34, 32, 34, 240 * 256, 0),
-        (0x10, 2, 35, 32, 34, 8 * 256, 0),
+        (0x10, [30, 34, 32, 34], 240 * 256, 0),
+        (0x10, [2, 35, 32, 34], 8 * 256, 0),
         // In teletext mode the frame's left edge is elsewhere; without a code it shows black.
-        (0x02, 40, 49, 32, 34, 0, 0),
+        (0x02, [40, 49, 32, 34], 0, 0),
     ];
-    for (control, shown, sync, height, sync_row, white, first) in rows {
-        let mut raster = Raster::make(rt.alloc())?;
-        let mut registers = GRAPHICS;
-        registers[1] = shown;
-        registers[2] = sync;
-        registers[6] = height;
-        registers[7] = sync_row;
-        program(&mut raster, &registers, control);
-        two_colours(&mut raster, 7, 7);
-        advance(&mut raster, &ram, 16, &roms, FRAMES);
-        assert_eq!(rt;
-            count(raster.frame(), 7),
-            white,
-            "{control} {shown} {sync} {height} {sync_row}"
-        );
-        assert!(rt; white == 0 || shows(raster.frame(), first, b"7777777"));
-        assert!(rt; first == 0 || shows(raster.frame(), first - 1, b"07"));
+    for (control, registers, dots, first) in rows {
+        let scene = white(rt.alloc(), control, registers)?;
+        assert_eq!(rt; scene.count(7), dots, "{control} {registers:?}");
+        assert!(rt; dots == 0 || scene.shows(first, b"7777777"));
+        assert!(rt; first == 0 || scene.shows(first - 1, b"07"));
     }
     Ok(())
+}
+
+/// In each line one character between sync and the first that is shown is 8 dots wide.
+fn draw_with_a_narrow_one(scene: &mut Scene) {
+    for n in 0..60_000u32 {
+        scene.control(if n % 64 == 60 { 0x10 } else { 0 });
+        scene.char_clock();
+    }
 }
 
 #[test]
 fn half_a_character_is_drawn_at_either_edge(rt: HostRuntime) -> Result<(), Fail> {
-    let roms = roms(rt.alloc())?;
-    let mut ram = memory(rt.alloc(), 32_768)?;
-    // The byte 55 is a red pixel and a green one, each 8 dots wide.
-    for place in 0..4_096usize {
-        poke(&mut ram, 0x5800 + place, &[0x55]);
-    }
-    let mut raster = Raster::make(rt.alloc())?;
     let mut registers = GRAPHICS;
     registers[1] = 41;
-    program(&mut raster, &registers, 0);
-    two_colours(&mut raster, 1, 2);
-    // In each line one character between sync and the first that is shown is 8 dots wide.
-    for n in 0..60_000u32 {
-        raster.ula().control(if n % 64 == 60 { 0x10 } else { 0 });
-        char_clock(&mut raster, &ram, &roms);
+    let mut scene = Scene::make(rt.alloc(), &registers, 0)?;
+    // The byte 55 is a red pixel and a green one, each 8 dots wide.
+    scene.poke(0x5800, &[0x55; 4_096]);
+    scene.two_colours(1, 2);
+    draw_with_a_narrow_one(&mut scene);
+    for at in [0, 624, 640] {
+        assert!(rt; scene.shows(at, b"2222222211111111"), "{at}");
     }
-    assert!(rt; shows(raster.frame(), 0, b"2222222211111111"));
-    assert!(rt; shows(raster.frame(), 624, b"2222222211111111"));
-    assert!(rt; shows(raster.frame(), 640, b"2222222211111111"));
     Ok(())
+}
+
+/// A black screen of rows of 16 rasters, with this control byte and the cursor on the second character.
+fn black_with_cursor(alloc: Global, control: u8) -> Result<Scene, Fail> {
+    let mut registers = GRAPHICS;
+    registers[9] = 15;
+    registers[4] = 19;
+    registers[6] = 16;
+    registers[7] = 17;
+    registers[10] = 8;
+    registers[11] = 8;
+    registers[14] = 0x0b;
+    registers[15] = 0x01;
+    let mut scene = Scene::make(alloc, &registers, control)?;
+    scene.advance(16, FRAMES);
+    Ok(scene)
 }
 
 #[test]
 fn the_cursor_marks_as_the_control_byte_says(rt: HostRuntime) -> Result<(), Fail> {
-    let roms = roms(rt.alloc())?;
-    let ram = memory(rt.alloc(), 32_768)?;
     // The control byte's cursor bits, and the first five characters of raster 8: it is black, and the cursor is on the second one.
     let rows: [(u8, &[u8; 5]); 6] = [
         (0x00, b"00000"),
@@ -225,44 +272,24 @@ fn the_cursor_marks_as_the_control_byte_says(rt: HostRuntime) -> Result<(), Fail
         (0x22, b"00070"),
     ];
     for (control, want) in rows {
-        let mut raster = Raster::make(rt.alloc())?;
-        let mut registers = GRAPHICS;
-        registers[9] = 15;
-        registers[4] = 19;
-        registers[6] = 16;
-        registers[7] = 17;
-        registers[10] = 8;
-        registers[11] = 8;
-        registers[14] = 0x0b;
-        registers[15] = 0x01;
-        program(&mut raster, &registers, control);
-        advance(&mut raster, &ram, 16, &roms, FRAMES);
-        for (i, digit) in want.iter().enumerate() {
-            // Raster 8 of the row is 56 lines below the beginning of sync, so line 16 of the frame.
-            assert!(rt;
-                shows(raster.frame(), 640 * 16 + 16 * i + 8, &[*digit]),
-                "{control} {i}"
-            );
-        }
+        let scene = black_with_cursor(rt.alloc(), control)?;
+        // Raster 8 of the row is 56 lines below the beginning of sync, so line 16 of the frame.
+        assert!(rt; scene.shows_each(640 * 16 + 8, 16, want), "{control}");
     }
     Ok(())
 }
 
 #[test]
 fn a_teletext_row_below_double_height_is_a_bottom_row(rt: HostRuntime) -> Result<(), Fail> {
-    let roms = roms(rt.alloc())?;
-    let mut ram = memory(rt.alloc(), 32_768)?;
+    let mut scene = Scene::make(rt.alloc(), &TELETEXT, 0x4b)?;
     // Three rows of double height: red separated graphics, held, and a green background.
     for row in 0..3usize {
-        poke(
-            &mut ram,
+        scene.poke(
             0x7c00 + 40 * row,
             &[0x0d, 0x11, 0x1a, 0x7f, 0x1e, 0x12, 0x9d],
         );
     }
-    let mut raster = Raster::make(rt.alloc())?;
-    program(&mut raster, &TELETEXT, 0x4b);
-    advance(&mut raster, &ram, 16, &roms, FRAMES);
+    scene.advance(16, FRAMES);
     let dots: &[u8; 112] =
         b"0000000000000000000000000000000000000000000000000001111100011111000111110001111100011111000111112222222222222222";
     let gap: &[u8; 112] =
@@ -284,41 +311,45 @@ fn a_teletext_row_below_double_height_is_a_bottom_row(rt: HostRuntime) -> Result
         (26, gap),
     ];
     for (line, want) in rows {
-        assert!(rt; shows(raster.frame(), 640 * line, want), "line {line}");
+        assert!(rt; scene.shows(640 * line, want), "line {line}");
+    }
+    Ok(())
+}
+
+/// Both do the same: one a microsecond at a time, and the other a character clock at a time, of which a microsecond has one or two. Vertical
+/// sync ends after two lines, and no later than in the same microsecond.
+fn agree(one: &mut Scene, other: &mut Scene, clocks: u8) -> bool {
+    for _ in 0..20_000u32 {
+        if one.raster.vsync() != other.raster.vsync() {
+            return false;
+        }
+        one.advance(16, 1);
+        for _ in 0..clocks {
+            other.char_clock();
+        }
+    }
+    true
+}
+
+#[test]
+fn microseconds_at_once_are_microseconds_one_by_one(rt: HostRuntime) -> Result<(), Fail> {
+    for (control, clocks) in [(0x00, 1), (0x10, 2)] {
+        let mut at_once = Scene::make(rt.alloc(), &GRAPHICS, control)?;
+        let mut one_by_one = Scene::make(rt.alloc(), &GRAPHICS, control)?;
+        at_once.advance(16, 1_000);
+        for _ in 0..1_000u32 {
+            one_by_one.advance(16, 1);
+        }
+        assert!(rt; agree(&mut at_once, &mut one_by_one, clocks), "{control}");
     }
     Ok(())
 }
 
 #[test]
-fn microseconds_at_once_are_microseconds_one_by_one(rt: HostRuntime) -> Result<(), Fail> {
-    let roms = roms(rt.alloc())?;
-    let ram = memory(rt.alloc(), 32_768)?;
-    for control in [0x00, 0x10] {
-        let mut at_once = Raster::make(rt.alloc())?;
-        let mut one_by_one = Raster::make(rt.alloc())?;
-        program(&mut at_once, &GRAPHICS, control);
-        program(&mut one_by_one, &GRAPHICS, control);
-        advance(&mut at_once, &ram, 16, &roms, 1_000);
-        for _ in 0..1_000u32 {
-            advance(&mut one_by_one, &ram, 16, &roms, 1);
-        }
-        // Vertical sync ends after two lines, and no later than in the same microsecond.
-        for n in 0..20_000u32 {
-            assert_eq!(rt; at_once.vsync(), one_by_one.vsync(), "{n}");
-            advance(&mut at_once, &ram, 16, &roms, 1);
-            char_clock(&mut one_by_one, &ram, &roms);
-            if control == 0x10 {
-                char_clock(&mut one_by_one, &ram, &roms);
-            }
-        }
-    }
-    // A frame can be copied.
+fn a_frame_can_be_copied(rt: HostRuntime) -> Result<(), Fail> {
     let mut copy = Frame::black(rt.alloc())?;
-    let mut raster = Raster::make(rt.alloc())?;
-    program(&mut raster, &GRAPHICS, 0);
-    two_colours(&mut raster, 7, 7);
-    advance(&mut raster, &ram, 16, &roms, FRAMES);
-    copy.copy_from(raster.frame());
+    let scene = white(rt.alloc(), 0, [40, 49, 32, 34])?;
+    copy.copy_from(scene.raster.frame());
     assert_eq!(rt; count(&copy, 7), 163_840);
     Ok(())
 }
