@@ -1,4 +1,6 @@
 //! Finished frames, with the BBC Micro's registers of the 6845.
+ghost use Rattle.raster.specs.Beam.{IsScreenSize};
+
 use crate::{Frame, Raster};
 use rom_set::RomSet;
 use std::alloc::Global;
@@ -17,6 +19,28 @@ const TELETEXT: [u8; 16] = [
 
 /// The microseconds of three frames, or a little more.
 const FRAMES: u64 = 60_000;
+
+/// The registers, with some of them changed.
+fn changed(registers: &[u8; 16], changes: &[(usize, u8)]) -> [u8; 16] {
+    let mut changed = *registers;
+    for (n, v) in changes {
+        if *n < 16 {
+            changed[*n] = *v;
+        }
+    }
+    changed
+}
+
+fn screen_size(kilobytes: u8) -> u16
+    ensures { IsScreenSize result }
+{
+    match kilobytes {
+        16 => 16_384,
+        8 => 8_192,
+        20 => 20_480,
+        _ => 10_240,
+    }
+}
 
 /// What a test draws with.
 #[derive(Drop)]
@@ -72,14 +96,9 @@ impl Scene {
 
     /// Does microseconds with a screen of so many kilobytes.
     fn advance(&mut self, kilobytes: u8, n: u64) {
-        let size = match kilobytes {
-            16 => 16_384,
-            8 => 8_192,
-            20 => 20_480,
-            _ => 10_240,
-        };
         if self.ram.len() == 32_768 {
-            self.raster.advance(&self.ram, size, &self.roms, n);
+            self.raster
+                .advance(&self.ram, screen_size(kilobytes), &self.roms, n);
         }
     }
 
@@ -126,22 +145,20 @@ fn a_byte_of_a_bit_mapped_screen_is_in_its_place(rt: HostRuntime) -> Result<(), 
     let mut scene = Scene::make(rt.alloc(), &GRAPHICS, 0x08)?;
     scene.poke(0x5800, &[0xa5]);
     scene.two_colours(0, 7);
-    assert_eq!(rt; scene.count(0), 163_840);
+    assert!(rt; scene.count(0) == 163_840);
     // The frame is drawn, but not yet finished.
     scene.advance(16, 30_000);
-    assert_eq!(rt; scene.count(0), 163_840);
+    assert!(rt; scene.count(0) == 163_840);
     scene.advance(16, FRAMES - 30_000);
     assert!(rt; scene.shows(0, b"7700770000770077"));
-    assert_eq!(rt; scene.count(7), 8);
-    assert_eq!(rt; scene.count(0), 163_832);
+    assert!(rt; scene.count(7) == 8);
+    assert!(rt; scene.count(0) == 163_832);
     Ok(())
 }
 
 /// A screen that begins at this address, of so many kilobytes, shows the byte at this place first.
 fn shows_first(alloc: Global, high: u8, low: u8, kilobytes: u8, at: usize) -> Result<bool, Fail> {
-    let mut registers = GRAPHICS;
-    registers[12] = high;
-    registers[13] = low;
+    let registers = changed(&GRAPHICS, &[(12, high), (13, low)]);
     let mut scene = Scene::make(alloc, &registers, 0x08)?;
     scene.poke(at, &[0xa5]);
     scene.two_colours(0, 7);
@@ -179,15 +196,28 @@ fn white(
     control: u8,
     [shown, sync, height, sync_row]: [u8; 4],
 ) -> Result<Scene, Fail> {
-    let mut registers = GRAPHICS;
-    registers[1] = shown;
-    registers[2] = sync;
-    registers[6] = height;
-    registers[7] = sync_row;
+    let registers = changed(
+        &GRAPHICS,
+        &[(1, shown), (2, sync), (6, height), (7, sync_row)],
+    );
     let mut scene = Scene::make(alloc, &registers, control)?;
     scene.two_colours(7, 7);
     scene.advance(16, FRAMES);
     Ok(scene)
+}
+
+/// So many dots of it are white, and the first of them is at this place.
+fn is_white(
+    alloc: Global,
+    control: u8,
+    registers: [u8; 4],
+    dots: u32,
+    first: usize,
+) -> Result<bool, Fail> {
+    let scene = white(alloc, control, registers)?;
+    let begins = dots == 0 || scene.shows(first, b"7777777");
+    let no_earlier = first == 0 || scene.shows(first - 1, b"07");
+    Ok(scene.count(7) == dots && begins && no_earlier)
 }
 
 #[test]
@@ -212,10 +242,10 @@ fn dots_beyond_the_frame_are_not_drawn(rt: HostRuntime) -> Result<(), Fail> {
         (0x02, [40, 49, 32, 34], 0, 0),
     ];
     for (control, registers, dots, first) in rows {
-        let scene = white(rt.alloc(), control, registers)?;
-        assert_eq!(rt; scene.count(7), dots, "{control} {registers:?}");
-        assert!(rt; dots == 0 || scene.shows(first, b"7777777"));
-        assert!(rt; first == 0 || scene.shows(first - 1, b"07"));
+        assert!(rt;
+            is_white(rt.alloc(), control, registers, dots, first)?,
+            "{control}: {dots} from {first}"
+        );
     }
     Ok(())
 }
@@ -230,8 +260,7 @@ fn draw_with_a_narrow_one(scene: &mut Scene) {
 
 #[test]
 fn half_a_character_is_drawn_at_either_edge(rt: HostRuntime) -> Result<(), Fail> {
-    let mut registers = GRAPHICS;
-    registers[1] = 41;
+    let registers = changed(&GRAPHICS, &[(1, 41)]);
     let mut scene = Scene::make(rt.alloc(), &registers, 0)?;
     // The byte 55 is a red pixel and a green one, each 8 dots wide.
     scene.poke(0x5800, &[0x55; 4_096]);
@@ -245,15 +274,19 @@ fn half_a_character_is_drawn_at_either_edge(rt: HostRuntime) -> Result<(), Fail>
 
 /// A black screen of rows of 16 rasters, with this control byte and the cursor on the second character.
 fn black_with_cursor(alloc: Global, control: u8) -> Result<Scene, Fail> {
-    let mut registers = GRAPHICS;
-    registers[9] = 15;
-    registers[4] = 19;
-    registers[6] = 16;
-    registers[7] = 17;
-    registers[10] = 8;
-    registers[11] = 8;
-    registers[14] = 0x0b;
-    registers[15] = 0x01;
+    let registers = changed(
+        &GRAPHICS,
+        &[
+            (4, 19),
+            (6, 16),
+            (7, 17),
+            (9, 15),
+            (10, 8),
+            (11, 8),
+            (14, 0x0b),
+            (15, 0x01),
+        ],
+    );
     let mut scene = Scene::make(alloc, &registers, control)?;
     scene.advance(16, FRAMES);
     Ok(scene)
@@ -331,16 +364,25 @@ fn agree(one: &mut Scene, other: &mut Scene, clocks: u8) -> bool {
     true
 }
 
+fn one_by_one(scene: &mut Scene, n: u32) {
+    for _ in 0..n {
+        scene.advance(16, 1);
+    }
+}
+
+/// They do, too, after one has done 1,000 microseconds at once.
+fn agree_after(alloc: Global, control: u8, clocks: u8) -> Result<bool, Fail> {
+    let mut one = Scene::make(alloc, &GRAPHICS, control)?;
+    let mut other = Scene::make(alloc, &GRAPHICS, control)?;
+    one.advance(16, 1_000);
+    one_by_one(&mut other, 1_000);
+    Ok(agree(&mut one, &mut other, clocks))
+}
+
 #[test]
 fn microseconds_at_once_are_microseconds_one_by_one(rt: HostRuntime) -> Result<(), Fail> {
     for (control, clocks) in [(0x00, 1), (0x10, 2)] {
-        let mut at_once = Scene::make(rt.alloc(), &GRAPHICS, control)?;
-        let mut one_by_one = Scene::make(rt.alloc(), &GRAPHICS, control)?;
-        at_once.advance(16, 1_000);
-        for _ in 0..1_000u32 {
-            one_by_one.advance(16, 1);
-        }
-        assert!(rt; agree(&mut at_once, &mut one_by_one, clocks), "{control}");
+        assert!(rt; agree_after(rt.alloc(), control, clocks)?, "{control}");
     }
     Ok(())
 }
@@ -350,6 +392,6 @@ fn a_frame_can_be_copied(rt: HostRuntime) -> Result<(), Fail> {
     let mut copy = Frame::black(rt.alloc())?;
     let scene = white(rt.alloc(), 0, [40, 49, 32, 34])?;
     copy.copy_from(scene.raster.frame());
-    assert_eq!(rt; count(&copy, 7), 163_840);
+    assert!(rt; count(&copy, 7) == 163_840);
     Ok(())
 }
