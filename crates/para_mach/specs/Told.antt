@@ -1,5 +1,5 @@
 -- What an access comes to: it is done, or the Tube is asked.
-use Rattle.std.specs.Prelude.{ℕ, List, Bool, true, false, ◌≡◌, ◌%◌, ◌-◌, ltb, if◌then◌else◌, Some, None, Option, MatchOption, Result, Ok, Err}
+use Rattle.std.specs.Prelude.{ℕ, List, Bool, true, false, ◌≡◌, ◌%◌, ltb, if◌then◌else◌, Some, None, Option, MatchOption, Result, Ok, Err}
 use Rattle.cpu_alu.specs.declared.Cycle.{Cycle}
 use Rattle.tube_chip.specs.Act.{access}
 use Rattle.tube_chip.specs.declared.Answer.TheVariants.{Byte}
@@ -24,6 +24,11 @@ IsExchanged ram rom rom_in c (Err o) new = (asks_by (Some c) ≡ Some (access o)
 abbrev pub IsDone : ParaState → Option Op → ParaState → Type 0
 IsDone old None new = (asks old ≡ None) × (new ≡ record (accessed old None) { due = old.due; lag = old.lag })
 IsDone old (Some o) new = (asks old ≡ Some (access o)) × (new ≡ old)
+
+-- the access of the next step is done, without its ticks, or nothing has changed
+abbrev pub IsQuick : ParaState → Bool → ParaState → Type 0
+IsQuick old true new = IsDone old None new
+IsQuick old false new = new ≡ old
 
 -- the next step is an access to the Tube
 abbrev pub IsAskedByte : ParaState → Type 0

@@ -1,12 +1,12 @@
 //! The machine.
 ghost use Rattle.std.specs.Prelude.{Bool, ◌≡◌, ◌≤◌, if◌then◌else◌, ◌≢◌, ◌↔◌, ◌⊎◌, ◌<◌, ◌%◌, ◌^◌, IfOk, IfErr, IsErrOf, length, Err, Some, None, MatchOption, IsSome, IsNone, false, true, max, slice_index};
 ghost use Rattle.tube_chip.specs.declared.Answer.TheVariants.{Byte, Seen};
-ghost use Rattle.tube_party.specs.Moves.{IsAsk};
+ghost use Rattle.tube_party.specs.Moves.{IsAsk, Advances, shut};
 ghost use Rattle.para_mach.specs.State.{power_on, shown_regs};
 ghost use Rattle.cpu65c02.specs.Sequences.{starting};
 ghost use Rattle.para_mach.specs.Step.{para_moves, looks, next_state};
 ghost use Rattle.para_mach.specs.Lawful.{para_lawful, para_permitted};
-ghost use Rattle.para_mach.specs.Told.{IsDone, IsAskedByte, lag_by};
+ghost use Rattle.para_mach.specs.Told.{IsDone, IsQuick, IsAskedByte, lag_by};
 
 use crate::memory::{Memory, ROM_SIZE};
 use beeb_bits::{Crosses, Tick};
@@ -38,9 +38,9 @@ pub struct ParaMachine {
     resets: u32,
     nmis: u32,
     is_held: bool,
-    // The tick of the next step, and how many ticks before it the machine is closed.
+    // How many ticks before its next step the machine is closed, and that step's tick.
+    lag: u8,
     due: u64,
-    lag: u64,
 }
 
 impl Model for ParaMachine {
@@ -92,8 +92,8 @@ impl ParaMachine {
             resets: 0,
             nmis: 0,
             is_held: false,
-            due: 0,
             lag: 0,
+            due: 0,
         })
     }
 
@@ -146,18 +146,39 @@ impl ParaMachine {
         }
     }
 
-    // The same, in the loop, where most addresses are low.
+    // The same. The place for what it asks is this function's, so that a loop in which it is called clears none.
     #[inline(always)]
     fn access(&mut self) -> Option<Op>
         requires { looks self.old ≡ false }
         ensures { IsDone self.old result self.new }
     {
+        self.access_any()
+    }
+
+    // The next access, without its ticks, if its address is low, as most are. Any other is left.
+    #[inline(always)]
+    fn quick(&mut self) -> bool
+        requires { looks self.old ≡ false }
+        ensures { IsQuick self.old result self.new }
+    {
         match self.memory.exchange_low(self.cpu.want()) {
             Some(byte) => {
                 self.cpu.give(byte);
-                None
+                true
             }
-            None => self.access_any(),
+            None => false,
+        }
+    }
+
+    // Closes the machine at a tick that is not above the next step's, or leaves it closed as far as it is.
+    #[inline(always)]
+    fn shut(&mut self, until: Tick)
+        requires { until.0 ≤ self.old.due }
+        ensures { self.new ≡ shut para_moves self.old until.0 }
+    {
+        let lag = self.due - until.0;
+        if lag < self.lag as u64 {
+            self.lag = lag as u8;
         }
     }
 
@@ -170,7 +191,7 @@ impl ParaMachine {
         if self.due < until.0 {
             return Ask::Look(Tick(self.due));
         }
-        self.lag = self.lag.min(self.due - until.0);
+        self.shut(until);
         Ask::Nothing
     }
 
@@ -192,6 +213,40 @@ impl ParaMachine {
     {
         self.due = due;
         self.lag = 0;
+    }
+
+    // Goes on from an access at this tick. The tick is kept beside the machine, and written back where the run stops. How far the
+    // machine is closed follows from it.
+    #[inline(always)]
+    fn run(&mut self, from: u64, until: Tick) -> Ask
+        requires room { until.0 ≤ 2 ^ 30 }
+        requires goes_on { looks self.old ≡ false }
+        requires from { self.old.due ≤ from }
+        ensures { Advances para_moves until.0 (record self.old { due = from; lag = lag_by self.old.due self.old.lag from }) result self.new }
+    {
+        let mut due = from;
+        while due < until.0 {
+            if self.quick() {
+                if self.cpu.last() {
+                    self.end(due + 1);
+                    return self.look(until);
+                }
+                due += 2;
+            } else {
+                if let Some(op) = self.access() {
+                    self.stop(due);
+                    return Ask::Access(Tick(due), op);
+                }
+                if self.cpu.last() {
+                    self.end(due + 1);
+                    return self.look(until);
+                }
+                due += 2;
+            }
+        }
+        self.stop(due);
+        self.shut(until);
+        Ask::Nothing
     }
 
     // The Tube's answer to an access.
@@ -280,27 +335,24 @@ impl Party for ParaMachine {
         Tick(self.due)
     }
 
-    // The tick is kept beside the machine, and written back where the run stops. How far the machine is closed follows from it.
+    // An opcode is read before the run, which so seldom finds one first: its phase needs no search.
     #[inline(always)]
     fn advance(&mut self, until: Tick) -> Ask {
-        if self.cpu.last() {
+        let mut due = self.due;
+        if self.cpu.starting() {
+            if due < until.0 {
+                if self.quick() {
+                    if self.cpu.last() {
+                        self.end(due + 1);
+                        return self.look(until);
+                    }
+                    due += 2;
+                }
+            }
+        } else if self.cpu.last() {
             return self.look(until);
         }
-        let mut due = self.due;
-        while due < until.0 {
-            if let Some(op) = self.access() {
-                self.stop(due);
-                return Ask::Access(Tick(due), op);
-            }
-            if self.cpu.last() {
-                self.end(due + 1);
-                return self.look(until);
-            }
-            due += 2;
-        }
-        self.stop(due);
-        self.lag = self.lag.min(self.due - until.0);
-        Ask::Nothing
+        self.run(due, until)
     }
 
     #[inline(always)]
