@@ -12,41 +12,41 @@ use Rattle.host_bus.specs.declared.playback.Playback.{Playback}
 use Rattle.host_bus.proofs.Played.{HasNone, none-between}
 
 -- before anything comes there is no shot
-pub quiet : (p : Playback) (closed micro next : ℕ) → IsPlayed p closed → IsOnTime closed micro p.event next → HasNone p.script closed next
-quiet p closed micro next played h = none-between p.script (drop p.place p.script) closed p.event next played.has_left played.later (omega (arith, h.least))
+pub quiet : (p : Playback) (closed next : ℕ) → IsPlayed p closed → IsOnTime closed p.event next → HasNone p.script closed next
+quiet p closed next played h = none-between p.script (drop p.place p.script) closed p.event next played.has_left played.later (omega (arith, h.least))
 
 -- a tick that is no microsecond and has no shot
-idle-tick : (a : Around) (k closed micro event next : ℕ) (m : Moving) → IsOnTime closed micro event next → HasNone a.script closed next → closed ≤ k → k < next → tick a k m ≡ m
-idle-tick a k closed micro event next m h none low high =
+idle-tick : (a : Around) (k closed event next : ℕ) (m : Moving) → IsOnTime closed event next → HasNone a.script closed next → closed ≤ k → k < next → tick a k m ≡ m
+idle-tick a k closed event next m h none low high =
     ap (λ (n : ℕ). let s : Moving = record { devices = beat a k m.devices; shots = m.shots ++ replicate n (last_frame m.devices) } in s) (none k low high)
     ∙ ap (λ (l : List (List ℕ)). let s : Moving = record { devices = beat a k m.devices; shots = l } in s) (append-nil m.shots)
     ∙ ap (λ (b : Bool). record m { devices = if b then microsecond a.ram a.font (keys_at k a.script) m.devices else m.devices })
     (ne_eqb (k % 6) 0 (λ z. omega (arith, z, h.sixth, h.near, h.least, low, high)))
 
 -- nothing happens in ticks before the next microsecond and the next event
-pub idle : (a : Around) (n k closed micro event next : ℕ) (m : Moving) → IsOnTime closed micro event next → HasNone a.script closed next → closed ≤ k → k + n ≤ next → ticks a n k m ≡ m
-idle a zero k closed micro event next m h none low high = refl
-idle a (suc n) k closed micro event next m h none low high =
-    ap (λ (x : Moving). ticks a n (k + 1) x) (idle-tick a k closed micro event next m h none low (omega (arith, high)))
-    ∙ idle a n (k + 1) closed micro event next m h none (omega (arith, low)) (omega (arith, high))
+pub idle : (a : Around) (n k closed event next : ℕ) (m : Moving) → IsOnTime closed event next → HasNone a.script closed next → closed ≤ k → k + n ≤ next → ticks a n k m ≡ m
+idle a zero k closed event next m h none low high = refl
+idle a (suc n) k closed event next m h none low high =
+    ap (λ (x : Moving). ticks a n (k + 1) x) (idle-tick a k closed event next m h none low (omega (arith, high)))
+    ∙ idle a n (k + 1) closed event next m h none (omega (arith, low)) (omega (arith, high))
 
 -- a board that is closed before anything comes
-pub still-closed : (b : BoardState) (micro event next t : ℕ) → IsOnTime b.closed micro event next → HasNone b.script b.closed next → b.closed ≤ t → t ≤ next → record b { closed = t } ≡ board_closed b t
-still-closed b micro event next t h none low high =
+pub still-closed : (b : BoardState) (event next t : ℕ) → IsOnTime b.closed event next → HasNone b.script b.closed next → b.closed ≤ t → t ≤ next → record b { closed = t } ≡ board_closed b t
+still-closed b event next t h none low high =
     let most : t ≡ max t b.closed = omega (arith, low) in
     ap (λ (n : ℕ). record b { closed = n }) most
-    ∙ ap (λ (m : Moving). moved b (max t b.closed) m) (sym (idle (around b) (t - b.closed) b.closed b.closed micro event next (moving b) h none (omega arith) (omega (arith, low, high))))
+    ∙ ap (λ (m : Moving). moved b (max t b.closed) m) (sym (idle (around b) (t - b.closed) b.closed b.closed event next (moving b) h none (omega arith) (omega (arith, low, high))))
 
-pub still-on-time : (closed micro event next t : ℕ) → IsOnTime closed micro event next → closed ≤ t → t ≤ next → IsOnTime t micro event next
-still-on-time closed micro event next t h low high =
-    record { sixth = h.sixth; first = omega (arith, h.least, high); near = omega (arith, low, h.near); least = h.least }
+pub still-on-time : (closed event next t : ℕ) → IsOnTime closed event next → closed ≤ t → t ≤ next → IsOnTime t event next
+still-on-time closed event next t h low high =
+    record { micro = h.micro; sixth = h.sixth; first = omega (arith, h.least, high); near = omega (arith, low, h.near); least = h.least }
 
 -- a board after the tick at which something comes
-pub ticked : (b : BoardState) (keys : Keys) (micro event next : ℕ) (d : Devices) (shots : List (List ℕ)) → IsOnTime b.closed micro event next → HasNone b.script b.closed next → b.closed ≤ next → keys ≡ keys_at next b.script →
+ticked : (b : BoardState) (keys : Keys) (event next : ℕ) (d : Devices) (shots : List (List ℕ)) → IsOnTime b.closed event next → HasNone b.script b.closed next → b.closed ≤ next → keys ≡ keys_at next b.script →
     d ≡ (if next % 6 == 0 then microsecond b.ram b.roms.font keys b.devices else b.devices) → shots ≡ shot_at next b.script (last_frame b.devices) b.shots →
     record b { devices = d; shots = shots; closed = next + 1 } ≡ board_closed b (next + 1)
-ticked b keys micro event next d shots h none low are is took =
-    let still : record b { closed = next } ≡ board_closed b next = still-closed b micro event next next h none low (omega arith) in
+ticked b keys event next d shots h none low are is took =
+    let still : record b { closed = next } ≡ board_closed b next = still-closed b event next next h none low (omega arith) in
     let one : 1 ≡ (next + 1) - next = omega arith in
     let most : next + 1 ≡ max (next + 1) next = omega arith in
     ap (λ (x : Devices). record b { devices = x; shots = shots; closed = next + 1 }) (is ∙ ap (λ (f : Keys). if next % 6 == 0 then microsecond b.ram b.roms.font f b.devices else b.devices) are)
@@ -55,6 +55,16 @@ ticked b keys micro event next d shots h none low are is took =
     ∙ ap (λ (n : ℕ). moved b n (ticks (around b) ((next + 1) - next) next (moving b))) most
     ∙ ap (λ (s : BoardState). board_closed s (next + 1)) still
     ∙ board-again b next (next + 1) (omega arith)
+
+-- and on to a tick before which nothing comes again
+pub ticked-on : (b : BoardState) (keys : Keys) (event next event_on next_on u : ℕ) (d : Devices) (shots : List (List ℕ)) → IsOnTime b.closed event next → HasNone b.script b.closed next → b.closed ≤ next → keys ≡ keys_at next b.script →
+    d ≡ (if next % 6 == 0 then microsecond b.ram b.roms.font keys b.devices else b.devices) → shots ≡ shot_at next b.script (last_frame b.devices) b.shots →
+    IsOnTime (next + 1) event_on next_on → HasNone b.script (next + 1) next_on → next + 1 ≤ u → u ≤ next_on →
+    record b { devices = d; shots = shots; closed = u } ≡ board_closed b u
+ticked-on b keys event next event_on next_on u d shots h none low are is took on none_on past high =
+    still-closed (record b { devices = d; shots = shots; closed = next + 1 }) event_on next_on u on none_on past high
+    ∙ ap (λ (s : BoardState). board_closed s u) (ticked b keys event next d shots h none low are is took)
+    ∙ board-again b (next + 1) u past
 
 -- a board that was closed on the way to t
 pub caught : (b x all : BoardState) (u t : ℕ) → x ≡ board_closed b u → u ≤ t → board_closed b t ≡ all → board_closed x t ≡ all

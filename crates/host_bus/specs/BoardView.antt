@@ -19,4 +19,4 @@ pub record IsSound (b : Inside) : Type 0 where
   pub memory : length b.ram.items ≡ 32768
   pub slot : b.latch < 16
   pub played : IsPlayed b.playback b.closed
-  pub on_time : IsOnTime b.closed b.micro b.playback.event b.next
+  pub on_time : IsOnTime b.closed b.playback.event b.next

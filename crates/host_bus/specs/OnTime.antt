@@ -33,8 +33,10 @@ pub record IsPlayed (p : Playback) (t : ℕ) : Type 0 where
   pub later : NeverFallsFrom p.event (drop p.place p.script)
   pub early : t ≤ p.event
 
--- The next microsecond is known, and a tick before which nothing comes.
-pub record IsOnTime (closed micro event next : ℕ) : Type 0 where
+-- The next tick at which something comes, a microsecond or an event, is known.
+pub record IsOnTime (closed event next : ℕ) : Type 0 where
+  -- the tick of the next microsecond
+  pub micro : ℕ
   pub sixth : micro % 6 ≡ 0
   pub first : closed ≤ micro
   pub near : micro < closed + 6

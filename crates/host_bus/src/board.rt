@@ -4,7 +4,7 @@ ghost use Rattle.keyboard.specs.Keys.{keys_of};
 ghost use Rattle.wd1770.specs.Select.{disc_of};
 ghost use Rattle.host_bus.specs.Map.{place_of};
 ghost use Rattle.host_bus.specs.Shots.{shot_at};
-ghost use Rattle.host_bus.specs.OnTime.{IsPlayed};
+ghost use Rattle.host_bus.specs.OnTime.{IsPlayed, IsOnTime};
 ghost use Rattle.host_bus.specs.Devices.{microsecond, last_frame};
 ghost use Rattle.host_bus.specs.Board.{board_closed, answer_at, read_at, written_at, board_irq, board_nmis, first_board, clear_ram};
 
@@ -31,8 +31,7 @@ pub struct Board {
     devices: Devices,
     playback: Playback,
     closed: u64,
-    // The tick of the next microsecond, and one before which no microsecond and no event comes.
-    micro: u64,
+    // The tick of the next microsecond or event, whichever comes first.
     next: u64,
 }
 
@@ -57,33 +56,50 @@ fn clear_ram(alloc: Global, size: usize) -> Result<Vec<u8>, AllocError>
     vec![in alloc; 0; size]
 }
 
-// Tick `k`: its shots are taken, and then comes the microsecond, if `micro`, the tick of the next one, is `k`. Answers that of the next one
-// after it.
+// Tick `k`, the next one at which something comes: its shots are taken, and then comes the microsecond, if it is one. Answers the tick behind
+// it at which something comes next. Most ticks at which something comes are microseconds with no event.
 #[inline(always)]
-fn tick(
+fn tick(devices: &mut Devices, playback: &mut Playback, ram: &[u8], roms: &RomSet, k: u64) -> u64
+    requires ram { length ram.now ≡ RAM_SIZE }
+    requires room { k < 2 ^ 48 }
+    requires played { IsPlayed playback.old k }
+    requires due { k < playback.old.event → k % 6 ≡ 0 }
+    ensures script { playback.new.script ≡ playback.old.script }
+    ensures shots { playback.new.shots.frames ≡ shot_at k playback.old.script (last_frame devices.old) playback.old.shots.frames }
+    ensures played { IsPlayed playback.new (k + 1) }
+    ensures devices { devices.new ≡ (if k % 6 == 0 then microsecond ram.now roms.now.font (keys_of playback.new.keys) devices.old else devices.old) }
+    ensures next { IsOnTime (k + 1) playback.new.event result }
+{
+    if k < playback.event {
+        devices.step(ram, roms, &playback.keys);
+        (k + 6).min(playback.event)
+    } else {
+        tick_with_events(devices, playback, ram, roms, k)
+    }
+}
+
+// The same for any tick `k`.
+#[cold]
+#[inline(never)]
+fn tick_with_events(
     devices: &mut Devices,
     playback: &mut Playback,
     ram: &[u8],
     roms: &RomSet,
-    micro: u64,
     k: u64,
 ) -> u64
     requires ram { length ram.now ≡ RAM_SIZE }
     requires room { k < 2 ^ 48 }
     requires played { IsPlayed playback.old k }
-    requires sixth { micro % 6 ≡ 0 }
-    requires first { k ≤ micro }
-    requires near { micro < k + 6 }
     ensures script { playback.new.script ≡ playback.old.script }
     ensures shots { playback.new.shots.frames ≡ shot_at k playback.old.script (last_frame devices.old) playback.old.shots.frames }
     ensures played { IsPlayed playback.new (k + 1) }
     ensures devices { devices.new ≡ (if k % 6 == 0 then microsecond ram.now roms.now.font (keys_of playback.new.keys) devices.old else devices.old) }
-    ensures sixth { result % 6 ≡ 0 }
-    ensures first { k + 1 ≤ result }
-    ensures near { result < k + 7 }
+    ensures next { IsOnTime (k + 1) playback.new.event result }
 {
-    playback.tick(devices.last_frame(), k);
-    devices.tick(ram, roms, &playback.keys, micro, k)
+    playback.play(devices.last_frame(), k);
+    devices.tick(ram, roms, &playback.keys, k);
+    (k + 6 - k % 6).min(playback.event)
 }
 
 impl Board {
@@ -109,7 +125,6 @@ impl Board {
             devices,
             playback,
             closed: 0,
-            micro: 0,
             next: 0,
         })
     }
@@ -122,7 +137,8 @@ impl Board {
         self.closed
     }
 
-    // Does some of the ticks below `t`: those up to the next microsecond or event.
+    // Does some of the ticks below `t`: the next one at which something comes, and all behind it at which nothing does.
+    #[inline(always)]
     fn go_on(&mut self, t: u64)
         requires low { self.old.closed < t }
         requires room { t < 2 ^ 48 }
@@ -133,16 +149,15 @@ impl Board {
             self.closed = t;
             return;
         }
-        self.micro = tick(
+        let next = tick(
             &mut self.devices,
             &mut self.playback,
             &self.ram,
             &self.roms,
-            self.micro,
             k,
         );
-        self.closed = k + 1;
-        self.next = self.micro.min(self.playback.event);
+        self.next = next;
+        self.closed = next.min(t);
     }
 
     // Does all ticks below `t`.
@@ -179,10 +194,10 @@ impl Board {
     {
         if at < 0x8000 {
             self.ram[at as usize]
-        } else if at < 0xc000 {
-            self.roms.byte(self.latch, at - 0x8000)
-        } else {
+        } else if at >= 0xc000 {
             self.roms.os(at - 0xc000)
+        } else {
+            self.roms.byte(self.latch, at - 0x8000)
         }
     }
 

@@ -31,16 +31,22 @@ pub(crate) struct Devices {
     video: Raster,
     disc: Fdc,
     latch: Latch,
+    // The size of the screen by the latch, which is asked for in each microsecond.
+    size: u16,
     system: Via,
     user: Via,
 }
 
 impl Model for Devices {
+    ghost use Rattle.std.specs.Prelude.{◌≡◌};
+    ghost use Rattle.keyboard.specs.Latch.{screen_size};
     ghost use Rattle.host_bus.specs.Devices.{Devices};
 
     ghost Value = { Devices };
 
     ghost view = { λ d. record { video = d.video; disc = d.disc; latch = d.latch.bits; system = d.system; user = d.user } };
+
+    ghost invariant = { λ d. d.size ≡ screen_size d.latch.bits };
 }
 
 impl Devices {
@@ -54,10 +60,12 @@ impl Devices {
         ensures { IfOk result (λ d. d ≡ first_devices d0 d1) }
     {
         let video = Raster::make(alloc)?;
+        let latch = Latch::new();
         Ok(Devices {
             video,
             disc: Fdc::new(d0, d1),
-            latch: Latch::new(),
+            latch,
+            size: latch.screen_size(),
             system: Via::new(),
             user: Via::new(),
         })
@@ -89,7 +97,7 @@ impl Devices {
         requires { length ram.now ≡ 32768 }
         ensures { self.new ≡ record self.old { video = pictured ram.now roms.now.font self.old } }
     {
-        self.video.advance(ram, self.latch.screen_size(), roms, 1);
+        self.video.step(ram, self.size, roms);
     }
 
     /// One microsecond, over this RAM and with the font of these ROMs.
@@ -106,24 +114,14 @@ impl Devices {
         self.user.step(USER_PINS);
     }
 
-    /// Tick `k`, where `micro` is the next microsecond's. Answers that of the next one after it.
-    #[inline(always)]
-    pub(crate) fn tick(&mut self, ram: &[u8], roms: &RomSet, keys: &Keys, micro: u64, k: u64) -> u64
-        requires ram { length ram.now ≡ 32768 }
-        requires room { k < 2 ^ 48 }
-        requires sixth { micro % 6 ≡ 0 }
-        requires first { k ≤ micro }
-        requires near { micro < k + 6 }
-        ensures devices { self.new ≡ (if k % 6 == 0 then microsecond ram.now roms.now.font (keys_of keys.now) self.old else self.old) }
-        ensures sixth { result % 6 ≡ 0 }
-        ensures first { k + 1 ≤ result }
-        ensures near { result < k + 7 }
+    /// Tick `k`, which is a microsecond or not.
+    pub(crate) fn tick(&mut self, ram: &[u8], roms: &RomSet, keys: &Keys, k: u64)
+        requires { length ram.now ≡ 32768 }
+        ensures { self.new ≡ (if k % 6 == 0 then microsecond ram.now roms.now.font (keys_of keys.now) self.old else self.old) }
     {
-        if micro != k {
-            return micro;
+        if k % 6 == 0 {
+            self.step(ram, roms, keys);
         }
-        self.step(ram, roms, keys);
-        micro + 6
     }
 
     /// The last frame that was finished, or a black one.
@@ -199,6 +197,7 @@ impl Devices {
     {
         if reg == 0 || reg == 2 {
             self.latch.write(self.system.out_b());
+            self.size = self.latch.screen_size();
         }
     }
 

@@ -108,24 +108,8 @@ impl Playback {
         Ok(Playback::new(script, taken))
     }
 
-    /// Tick `k`, at which this is the last finished frame.
-    #[inline(always)]
-    pub(crate) fn tick(&mut self, frame: &Frame, k: u64)
-        requires room { k < 2 ^ 48 }
-        requires played { IsPlayed self.old k }
-        ensures script { self.new.script ≡ self.old.script }
-        ensures shots { self.new.shots.frames ≡ shot_at k self.old.script frame.now self.old.shots.frames }
-        ensures played { IsPlayed self.new (k + 1) }
-    {
-        if k < self.event {
-            return;
-        }
-        self.play(frame, k);
-    }
-
-    // The events of tick `k`, and the tick of the next.
-    #[inline(never)]
-    fn play(&mut self, frame: &Frame, k: u64)
+    /// The events of tick `k`, at which this is the last finished frame, and the tick of the next.
+    pub(crate) fn play(&mut self, frame: &Frame, k: u64)
         requires room { k < 2 ^ 48 }
         requires played { IsPlayed self.old k }
         ensures script { self.new.script ≡ self.old.script }
