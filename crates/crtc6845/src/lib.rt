@@ -37,6 +37,3 @@ pub struct Beam {
     /// It is the last of its frame.
     pub restart: bool,
 }
-
-#[cfg(test)]
-mod tests;

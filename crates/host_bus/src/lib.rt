@@ -11,6 +11,3 @@ mod shots;
 
 pub use bus::Bus;
 pub use map::stretch;
-
-#[cfg(test)]
-mod tests;

@@ -5,6 +5,3 @@ mod machine;
 mod memory;
 
 pub use machine::{ParaError, ParaMachine};
-
-#[cfg(test)]
-mod tests;

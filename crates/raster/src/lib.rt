@@ -10,6 +10,3 @@ mod text;
 
 pub use frame::Frame;
 pub use raster::Raster;
-
-#[cfg(test)]
-mod tests;

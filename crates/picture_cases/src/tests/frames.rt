@@ -1,7 +1,7 @@
 //! Finished frames, with the BBC Micro's registers of the 6845.
 ghost use Rattle.raster.specs.Beam.{IsScreenSize};
 
-use crate::{Frame, Raster};
+use raster::{Frame, Raster};
 use rom_set::RomSet;
 use std::alloc::Global;
 use std::process::Abort;

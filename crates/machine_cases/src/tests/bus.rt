@@ -1,8 +1,8 @@
 //! The memory map, address by address, and the devices on the bus.
-use crate::{Bus, stretch};
 use beeb_bits::{NoMemory, Tick};
 use bus_plug::BusDevice;
 use disc_image::{Disc, Kind};
+use host_bus::{Bus, stretch};
 use key_script::read;
 use raster::Frame;
 use rom_set::RomSet;

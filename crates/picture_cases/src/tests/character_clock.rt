@@ -1,5 +1,5 @@
 //! Whole frames, counted character by character, beside a computation from the registers.
-use crate::{
+use crtc6845::{
     Beam, Crtc, frames_have_their_clocks, lines_have_their_characters, no_sync_beyond_the_rows,
     shown_addresses_count, sync_comes_in_each_line, vertical_sync_comes_in_each_frame,
     vertical_sync_has_its_lines,

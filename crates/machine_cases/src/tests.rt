@@ -1,0 +1,3 @@
+//! Tables of cases, by the public calls of each crate.
+mod bus;
+mod second_processor;
