@@ -53,3 +53,6 @@ pub fn ppm(alloc: Global, frame: &Frame) -> Result<Vec<u8>, NoMemory>
 {
     pixmap(alloc, &frame.colours).map_err(|_| NoMemory)
 }
+
+#[cfg(test)]
+mod tests;

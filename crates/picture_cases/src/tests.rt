@@ -1,6 +1,5 @@
 //! Tables of cases, by the public calls of each crate.
 mod character_clock;
-mod frame_files;
 mod frames;
 mod pixels;
 mod teletext;

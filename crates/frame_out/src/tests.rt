@@ -1,5 +1,5 @@
 //! Colours, and their bytes.
-use frame_out::{pixmap, ppm};
+use crate::{pixmap, ppm};
 use raster::Frame;
 use std::test::Fail;
 
@@ -15,6 +15,8 @@ fn a_frame_is_its_header_and_its_pixels(rt: HostRuntime) -> Result<(), Fail> {
     ];
     assert_eq!(rt; bytes.as_slice(), want.as_slice());
     let bytes = ppm(alloc, &Frame::black(alloc)?)?;
-    assert_eq!(rt; bytes.len(), 491_535);
+    let black = bytes.iter().filter(|byte| **byte == 0).count();
+    assert!(rt; bytes.starts_with(b"P6\n640 256\n255\n"));
+    assert_eq!(rt; (black, bytes.len()), (491_520, 491_535));
     Ok(())
 }
