@@ -23,16 +23,19 @@ use Rattle.host_mach.specs.State.{HostState}
 use Rattle.host_mach.specs.Step.{host_moves}
 use Rattle.para_mach.specs.State.{ParaState}
 use Rattle.para_mach.specs.Step.{para_moves}
-use Rattle.beeb_commands.specs.declared.status.Ending.{Ending}
-use Rattle.beeb_commands.specs.declared.status.Ending.TheVariants as endings
-use Rattle.beeb_commands.specs.declared.status.Cause.{Cause}
-use Rattle.beeb_commands.specs.declared.status.Status.{Status}
-use Rattle.beeb_commands.specs.declared.status.Status.TheVariants.{Done}
-use Rattle.beeb_commands.specs.Status.{end_of}
-use Rattle.beeb_commands.specs.Commands.{plan, plugged, EndsWith}
+use Rattle.beeb_status.specs.declared.status.Ending.{Ending}
+use Rattle.beeb_status.specs.declared.status.Ending.TheVariants as endings
+use Rattle.beeb_status.specs.declared.status.Cause.{Cause}
+use Rattle.beeb_status.specs.declared.status.Status.{Status}
+use Rattle.beeb_status.specs.declared.status.Status.TheVariants.{Done}
+use Rattle.beeb_status.specs.Status.{end_of}
+use Rattle.beeb_jobs.specs.Commands.{plan}
+use Rattle.beeb_products.specs.Plugs.{plugged}
+use Rattle.beeb_commands.specs.Commands.{EndsWith}
 use Rattle.beeb_commands.specs.Headline.{IsReferenceRun, Headline}
-use Rattle.beeb_commands.specs.Inputs.{Inputs, inputs_of}
-use Rattle.beeb_commands.specs.Solo.{machines_of, kept_verdict, solo_after}
+use Rattle.beeb_start.specs.Inputs.{Inputs, inputs_of}
+use Rattle.beeb_start.specs.Machines.{machines_of}
+use Rattle.beeb_products.specs.Solo.{kept_verdict, solo_after}
 
 -- ---- a command without a pair, beside a crew
 
@@ -99,6 +102,7 @@ module _ (plugs : List Plug) (ticks keep : ℕ) (out : List ℕ) (given : Values
   is_reference : (files : Files) (v : Verdict Ending) → verdict (plan plugs (run ticks out keep given)) files ≡ Ok v →
       new.outlet.files ≡ put_all v.files old.outlet.files → new.outlet.said ≡ say v.said old.outlet.said →
       HasPaired true old.crew new.crew → IsReferenceRun plugs ticks keep out given old new files
+  unfolding solo_after
   is_reference files v is written said worked =
       let run_of : HostState × ParaState → Verdict Ending = λ m. kept_verdict ticks keep out (reference host_moves para_moves m.0 m.1 ticks) in
       let after : plans.Inputs Slot → Result (Verdict Ending) (Stop Cause) = λ list. or_stop (solo_after (plugged given plugs) (kinds_of given) ticks keep out (inputs_of list)) in
@@ -125,6 +129,7 @@ module _ (plugs : List Plug) (ticks keep : ℕ) (out : List ℕ) (given : Values
   run_done c = told_reference c.ends.0 old.shelf.files c.ends.1.0 c.ends.3.files c.ends.3.said c.ends.1.1
 
 done_headline : (plugs : List Plug) (c : Command) (old new : World) → EndsWith plugs c old new Done → Headline plugs (Some c) old new
+unfolding EndsWith Headline
 done_headline plugs (check trace) old new e = tt
 done_headline plugs (asm part source out) old new e = tt
 done_headline plugs (dis part image origin out) old new e = tt
@@ -135,12 +140,14 @@ done_headline plugs (gen seed) old new e = tt
 
 pub headline : (plugs : List Plug) (c : Option Command) (old new : World) (status : Status) → IfSome c (λ command. EndsWith plugs command old new status) → status ≡ Done →
     Headline plugs c old new
+unfolding Headline
 headline plugs None old new status e is = tt
 headline plugs (Some c) old new status e is = done_headline plugs c old new (rw is at e)
 
 -- a command that was carried out as its status says
 pub headline_of : (plugs : List Plug) (c : Command) (o : Option Command) (old new : World) (status : Status) (end : Result Ending (Stop Cause)) → Some c ≡ o →
     end_of status ≡ Some end → CarriesOut (plan plugs c) old new end → status ≡ Done → Headline plugs o old new
+unfolding EndsWith
 headline_of plugs c o old new status end is ended carried done =
     let ends : EndsWith plugs c old new status = rw ended carried in
     rw (← is) (done_headline plugs c old new (rw done at ends))

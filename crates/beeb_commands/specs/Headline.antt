@@ -16,10 +16,11 @@ use Rattle.host_mach.specs.State.{HostState}
 use Rattle.host_mach.specs.Step.{host_moves}
 use Rattle.para_mach.specs.State.{ParaState}
 use Rattle.para_mach.specs.Step.{para_moves}
-use Rattle.beeb_commands.specs.declared.status.Cause.{Cause}
-use Rattle.beeb_commands.specs.Inputs.{inputs_of}
-use Rattle.beeb_commands.specs.Commands.{plugged}
-use Rattle.beeb_commands.specs.Solo.{machines_of, kept_verdict}
+use Rattle.beeb_status.specs.declared.status.Cause.{Cause}
+use Rattle.beeb_start.specs.Inputs.{inputs_of}
+use Rattle.beeb_products.specs.Plugs.{plugged}
+use Rattle.beeb_start.specs.Machines.{machines_of}
+use Rattle.beeb_products.specs.Solo.{kept_verdict}
 
 -- What was written is what the reference run leaves. It names no order in which the steps of two threads fell.
 pub record IsReferenceRun (plugs : List Plug) (ticks keep : ℕ) (out : List ℕ) (given : Values) (old new : World) (files : Files) : Type 0 where
@@ -39,7 +40,7 @@ pub record IsReferenceRun (plugs : List Plug) (ticks keep : ℕ) (out : List ℕ
   -- the crew worked a pair of jobs
   pub worked : Rose old.crew.pairs new.crew.pairs
 
-abbrev pub Headline : List Plug → Option Command → World → World → Type 0
+unfoldable pub Headline : List Plug → Option Command → World → World → Type 0
 Headline plugs None old new = ⊤
 Headline plugs (Some (check trace)) old new = ⊤
 Headline plugs (Some (asm part source out)) old new = ⊤

@@ -1,15 +1,2 @@
-pub mod Status
-pub mod Verdicts
-pub mod Inputs
-pub mod Check
-pub mod Script
-pub mod Discs
-pub mod Asm
-pub mod Replay
-pub mod Para
-pub mod Host
-pub mod Solo
-pub mod Gen
-pub mod Seen
 pub mod Commands
 pub mod Headline

@@ -5,11 +5,9 @@ ghost use Rattle.beeb_run.specs.Promise.{world, crew_of, nobody};
 ghost use Rattle.beeb_commands.specs.Commands.{EndsWith, unpaired};
 ghost use Rattle.beeb_commands.specs.Headline.{Headline};
 
-use crate::job::Job;
-use crate::run::run_command;
-use crate::status::{Status, status_of};
 use beeb_files::{Crew, Outlet, Shelf};
-use beeb_run::carry_out;
+use beeb_jobs::{run_command, single_command};
+use beeb_status::{Status, status_of};
 use beeb_words::command_of;
 use bus_plug::BusDevice;
 use std::alloc::Global;
@@ -19,6 +17,7 @@ use std::thread::Threads;
 /// Carries out the command that the words spell, on the files of the shelf, and writes what comes of it to the outlet. It has no crew, so it
 /// takes no words of `run`. The first of the devices are plugged where the host is there, as many as the words say. All are dropped at the
 /// return.
+#[tactic(auto, unfolding(crate::specs::Commands::EndsWith))]
 pub fn plain<S: Shelf, O: Outlet>(
     alloc: Global,
     words: &[String],
@@ -38,12 +37,13 @@ pub fn plain<S: Shelf, O: Outlet>(
     if command.is_paired() {
         return Status::Usage;
     }
-    status_of(carry_out(alloc, Job { command, plugs }, shelf, out))
+    status_of(single_command(alloc, command, plugs, shelf, out))
 }
 
 /// Carries out the command that the words spell, on the files of the shelf, and writes what comes of it to the outlet. `run` has the crew work
 /// its two machines; every other command goes to `plain`. The first of the devices are plugged where the host is there, as many as the words
 /// say. All are dropped at the return.
+#[tactic(auto, unfolding(crate::specs::Commands::EndsWith, crate::specs::Headline::Headline))]
 pub fn top<S: Shelf, O: Outlet, C: Crew, R: Threads + Wait + Sync>(
     rt: &R,
     alloc: Global,

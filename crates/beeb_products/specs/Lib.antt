@@ -1,0 +1,5 @@
+pub mod Verdicts
+pub mod Check
+pub mod Solo
+pub mod Seen
+pub mod Plugs

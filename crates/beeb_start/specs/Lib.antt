@@ -1,0 +1,6 @@
+pub mod Inputs
+pub mod Script
+pub mod Discs
+pub mod Roms
+pub mod Machines
+pub mod Seen
