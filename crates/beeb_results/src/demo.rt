@@ -5,6 +5,7 @@ ghost use Rattle.beeb_results.specs.Gen.{pair_inputs, before_sum, behind_sum, su
 ghost use Rattle.beeb_start.specs.Seen.{seen_inputs};
 ghost use Rattle.beeb_products.specs.Seen.{verdict_of};
 
+use crate::alone::run_alone;
 use beeb_bits::Tick;
 use beeb_products::Product;
 use beeb_run::Refusal;
@@ -15,7 +16,7 @@ use demo_gen::{Demo, pair};
 use digits::two_digits;
 use disc_image::Kind;
 use std::alloc::{AllocError, Global};
-use tube_party::{MOST, solo};
+use tube_party::MOST;
 
 /// Where the host keeps the low byte and the high byte of the sum.
 const SUM: (usize, usize) = (0x70, 0x71);
@@ -86,12 +87,8 @@ pub fn gen_product<'a, D: BusDevice>(
     let inputs = pair_inputs(alloc, pair(alloc, seed)?);
     let plugs: Vec<D> = Vec::new(alloc);
     let (host, para) = machines_of(alloc, (Kind::Ssd, Kind::Ssd), inputs, plugs)?;
-    let Ok(done) = solo(alloc, host, para, Tick(gen_ticks()), 0) else {
-        return Err(Refusal::NoMemory);
-    };
-    let Ok(text) = summary(alloc, seed, done.host.ram()) else {
-        return Err(Refusal::NoMemory);
-    };
+    let done = run_alone(alloc, host, para, Tick(gen_ticks()), 0)?;
+    let text = summary(alloc, seed, done.host.ram())?;
     Ok(Product::Text {
         ending: Ending::Done,
         text,

@@ -1,6 +1,7 @@
 //! What each command comes to by what it read, before it is written.
 #![tactic(auto)]
 
+mod alone;
 mod asm;
 mod demo;
 mod differing;

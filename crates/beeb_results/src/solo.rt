@@ -1,11 +1,11 @@
 //! `solo TICKS OUT --os NAME --tube NAME` and options, and what `run` shares with it.
 ghost use Rattle.std.specs.Prelude.{◌<◌, ◌≤◌, All, map};
 ghost use Rattle.beeb_run.specs.Seen.{Gives};
-ghost use Rattle.beeb_start.specs.Machines.{machines_of};
 ghost use Rattle.beeb_products.specs.Solo.{solo_after};
 ghost use Rattle.beeb_start.specs.Seen.{seen_inputs};
 ghost use Rattle.beeb_products.specs.Seen.{verdict_of};
 
+use crate::alone::run_alone;
 use beeb_bits::Tick;
 use beeb_products::{Product, kept_product};
 use beeb_run::Refusal;
@@ -14,7 +14,7 @@ use beeb_status::Cause;
 use bus_plug::BusDevice;
 use disc_image::Kind;
 use std::alloc::Global;
-use tube_party::{MOST, solo};
+use tube_party::MOST;
 
 /// What comes of both machines on one thread, the host with these plugged devices and discs of these kinds, where the first `keep` accesses
 /// are kept.
@@ -33,9 +33,7 @@ pub fn solo_product<'a, D: BusDevice>(
     ensures { Gives (verdict_of D.plug) result (solo_after (map D.plug plugs.items) kinds ticks keep out.now (seen_inputs inputs)) }
 {
     let (host, para) = machines_of(alloc, kinds, inputs, plugs)?;
-    let Ok(done) = solo(alloc, host, para, Tick(ticks), keep) else {
-        return Err(Refusal::NoMemory);
-    };
+    let done = run_alone(alloc, host, para, Tick(ticks), keep)?;
     let product = kept_product(alloc, done, ticks, keep, out)?;
     Ok(product)
 }

@@ -1,0 +1,30 @@
+//! A run of two parties on one thread.
+ghost use Rattle.std.specs.Prelude.{◌≤◌, IfOk, IsTrue};
+ghost use Rattle.beeb_bits.specs.declared.Side.TheVariants.{Host, Para};
+ghost use Rattle.tube_party.specs.Reference.{reference};
+ghost use Rattle.tube_party.specs.Played.{IsPlayed};
+
+use beeb_bits::Tick;
+use std::alloc::{AllocError, Global};
+use tube_party::{Done, MOST, Party, solo};
+
+/// Two parties where their run ended. It stands apart from the machines, since a proof over any two parties goes through no machine's parts.
+pub(crate) fn run_alone<H: Party, P: Party>(
+    alloc: Global,
+    host: H,
+    para: P,
+    n: Tick,
+    keep: u32,
+) -> Result<Done<H, P>, AllocError>
+    requires ticks { n.0 ≤ MOST }
+    requires host_plays { IsTrue (H.plays Host) }
+    requires para_plays { IsTrue (P.plays Para) }
+    requires host_open { H.moves.closed (H.state host) ≤ n.0 }
+    requires para_open { P.moves.closed (P.state para) ≤ n.0 }
+    ensures { IfOk result (λ d. IsPlayed (reference H.moves P.moves (H.state host) (P.state para) n.0) keep (H.state d.host) (P.state d.para) d.chip d.host_list.items d.para_list.items d.host_count d.para_count) }
+{
+    match solo(alloc, host, para, n, keep) {
+        Ok(done) => Ok(done),
+        Err(_) => Err(AllocError),
+    }
+}
