@@ -2,8 +2,8 @@ use Rattle.std.proofs.Common.{map}
 use Rattle.beeb_run.specs.Seen.{seen_input}
 use Rattle.beeb_words.specs.Reads.{reads}
 use Rattle.beeb_words.specs.Seen.{seen}
-use Rattle.beeb_commands.proofs.SlotLemmas.{slots_below}
-use Rattle.beeb_commands.proofs.job.JobCommand.outcome.Goals as goal
+use Rattle.beeb_jobs.proofs.SlotLemmas.{slots_below}
+use Rattle.beeb_jobs.proofs.job.JobCommand.outcome.Goals as goal
 
 pub host_product-requires-clause-slots : goal.host_product-requires-clause-slots
 host_product-requires-clause-slots g c =
