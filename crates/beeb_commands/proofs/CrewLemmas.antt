@@ -36,6 +36,7 @@ use Rattle.beeb_commands.specs.Headline.{IsReferenceRun, Headline}
 use Rattle.beeb_start.specs.Inputs.{Inputs, inputs_of}
 use Rattle.beeb_start.specs.Machines.{machines_of}
 use Rattle.beeb_products.specs.Solo.{kept_verdict, solo_after}
+use Rattle.beeb_products.specs.Verdicts.{solo_verdict}
 
 -- ---- a command without a pair, beside a crew
 
@@ -102,7 +103,7 @@ module _ (plugs : List Plug) (ticks keep : ℕ) (out : List ℕ) (given : Values
   is_reference : (files : Files) (v : Verdict Ending) → verdict (plan plugs (run ticks out keep given)) files ≡ Ok v →
       new.outlet.files ≡ put_all v.files old.outlet.files → new.outlet.said ≡ say v.said old.outlet.said →
       HasPaired true old.crew new.crew → IsReferenceRun plugs ticks keep out given old new files
-  unfolding solo_after
+  unfolding solo_after kept_verdict solo_verdict
   is_reference files v is written said worked =
       let run_of : HostState × ParaState → Verdict Ending = λ m. kept_verdict ticks keep out (reference host_moves para_moves m.0 m.1 ticks) in
       let after : plans.Inputs Slot → Result (Verdict Ending) (Stop Cause) = λ list. or_stop (solo_after (plugged given plugs) (kinds_of given) ticks keep out (inputs_of list)) in
