@@ -335,24 +335,12 @@ impl Party for ParaMachine {
         Tick(self.due)
     }
 
-    // An opcode is read before the run, which so seldom finds one first: its phase needs no search.
     #[inline(always)]
     fn advance(&mut self, until: Tick) -> Ask {
-        let mut due = self.due;
-        if self.cpu.starting() {
-            if due < until.0 {
-                if self.quick() {
-                    if self.cpu.last() {
-                        self.end(due + 1);
-                        return self.look(until);
-                    }
-                    due += 2;
-                }
-            }
-        } else if self.cpu.last() {
+        if self.cpu.last() {
             return self.look(until);
         }
-        self.run(due, until)
+        self.run(self.due, until)
     }
 
     #[inline(always)]
