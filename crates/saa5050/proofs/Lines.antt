@@ -25,24 +25,24 @@ cases-12 P a b c d e f g h i j k l (suc (suc (suc (suc (suc (suc (suc (suc (suc 
 
 -- ---- the half dot to the right, and that to the left
 
-to-right : (w row x : ℕ) → IsLine w (doubled row) → x < 12 → bit (w * 2) (11 - x) ≡ doubled row (x + 1)
-to-right w row x line low = ⊎_elim
+to-right : (w own x : ℕ) → IsLine w (doubled own) → x < 12 → bit (w * 2) (11 - x) ≡ doubled own (x + 1)
+to-right w own x line low = ⊎_elim
     (λ under.
     let next : 11 - x ≡ suc (11 - (x + 1)) = omega (arith, under) in
     ap (bit (w * 2)) next ∙ twice-bit w (11 - (x + 1)) ∙ line (x + 1) (omega (arith, under)))
     (λ over.
     let last : 11 ≡ x = omega (arith, over, low) in
-    subst (λ (n : ℕ). bit (w * 2) (11 - n) ≡ doubled row (n + 1)) last (twice-lowest w))
+    subst (λ (n : ℕ). bit (w * 2) (11 - n) ≡ doubled own (n + 1)) last (twice-lowest w))
     (cases_lt x 11)
 
 before : ℕ → ℕ → Bool
-before row zero = false
-before row (suc y) = doubled row y
+before own zero = false
+before own (suc y) = doubled own y
 
-to-left : (w row x : ℕ) → IsLine w (doubled row) → w < 4096 → x < 12 → bit (w / 2) (11 - x) ≡ before row x
+to-left : (w own x : ℕ) → IsLine w (doubled own) → w < 4096 → x < 12 → bit (w / 2) (11 - x) ≡ before own x
 unfolding before
-to-left w row zero line low within = half-highest w low
-to-left w row (suc y) line low within =
+to-left w own zero line low within = half-highest w low
+to-left w own (suc y) line low within =
     let next : suc (11 - suc y) ≡ 11 - y = omega (arith, within) in
     half-bit w (11 - suc y) ∙ ap (bit w) next ∙ line y (omega (arith, within))
 
@@ -65,33 +65,33 @@ odd false false true t = refl
 odd false false false t = refl
 
 both-sides : ℕ → ℕ → ℕ → Bool
-both-sides row near x =
-    (doubled row x || (doubled row (x + 1) && (doubled near x && not (doubled near (x + 1)))))
-    || (before row x && (doubled near x && not (before near x)))
+both-sides own near x =
+    (doubled own x || (doubled own (x + 1) && (doubled near x && not (doubled near (x + 1)))))
+    || (before own x && (doubled near x && not (before near x)))
 
-sides : (row near x : ℕ) → x < 12 → both-sides row near x ≡ rounded row near x
+sides : (own near x : ℕ) → x < 12 → both-sides own near x ≡ rounded own near x
 unfolding both-sides before
-sides row near = cases-12 (λ x. both-sides row near x ≡ rounded row near x)
-    (even (dot row 0) (dot near 0) false false)
-    (odd (dot row 0) (dot near 0) (dot row 1) (dot near 1))
-    (even (dot row 1) (dot near 1) (dot row 0) (dot near 0))
-    (odd (dot row 1) (dot near 1) (dot row 2) (dot near 2))
-    (even (dot row 2) (dot near 2) (dot row 1) (dot near 1))
-    (odd (dot row 2) (dot near 2) (dot row 3) (dot near 3))
-    (even (dot row 3) (dot near 3) (dot row 2) (dot near 2))
-    (odd (dot row 3) (dot near 3) (dot row 4) (dot near 4))
-    (even (dot row 4) (dot near 4) (dot row 3) (dot near 3))
-    (odd (dot row 4) (dot near 4) (dot row 5) (dot near 5))
-    (even (dot row 5) (dot near 5) (dot row 4) (dot near 4))
-    (odd (dot row 5) (dot near 5) (dot row 6) (dot near 6))
+sides own near = cases-12 (λ x. both-sides own near x ≡ rounded own near x)
+    (even (dot own 0) (dot near 0) false false)
+    (odd (dot own 0) (dot near 0) (dot own 1) (dot near 1))
+    (even (dot own 1) (dot near 1) (dot own 0) (dot near 0))
+    (odd (dot own 1) (dot near 1) (dot own 2) (dot near 2))
+    (even (dot own 2) (dot near 2) (dot own 1) (dot near 1))
+    (odd (dot own 2) (dot near 2) (dot own 3) (dot near 3))
+    (even (dot own 3) (dot near 3) (dot own 2) (dot near 2))
+    (odd (dot own 3) (dot near 3) (dot own 4) (dot near 4))
+    (even (dot own 4) (dot near 4) (dot own 3) (dot near 3))
+    (odd (dot own 4) (dot near 4) (dot own 5) (dot near 5))
+    (even (dot own 5) (dot near 5) (dot own 4) (dot near 4))
+    (odd (dot own 5) (dot near 5) (dot own 6) (dot near 6))
 
 pass : (a b c i : ℕ) → bit (bit_and a (bit_xor b (bit_and b c))) i ≡ (bit a i && (bit b i && not (bit c i)))
 pass a b c i = and-bit a (bit_xor b (bit_and b c)) i ∙ ap (λ x. bit a i && x) (without-bit b c i)
 
-pub letter-line : (a b row near : ℕ) → IsLine a (doubled row) → IsLine b (doubled near) → a < 4096 → b < 4096 →
-    IsLine (bit_or (bit_or a (bit_and (a * 2) (bit_xor b (bit_and b (b * 2))))) (bit_and (a / 2) (bit_xor b (bit_and b (b / 2))))) (rounded row near)
+pub letter-line : (a b own near : ℕ) → IsLine a (doubled own) → IsLine b (doubled near) → a < 4096 → b < 4096 →
+    IsLine (bit_or (bit_or a (bit_and (a * 2) (bit_xor b (bit_and b (b * 2))))) (bit_and (a / 2) (bit_xor b (bit_and b (b / 2))))) (rounded own near)
 unfolding both-sides
-letter-line a b row near la lb fa fb = λ x low.
+letter-line a b own near la lb fa fb = λ x low.
     let i = 11 - x in
     let right = bit_and (a * 2) (bit_xor b (bit_and b (b * 2))) in
     let left = bit_and (a / 2) (bit_xor b (bit_and b (b / 2))) in
@@ -100,9 +100,9 @@ letter-line a b row near la lb fa fb = λ x low.
     ∙ ap (λ y. (bit a i || y) || bit left i) (pass (a * 2) b (b * 2) i)
     ∙ ap (λ y. (bit a i || (bit (a * 2) i && (bit b i && not (bit (b * 2) i)))) || y) (pass (a / 2) b (b / 2) i)
     ∙ ap (λ y. (y || (bit (a * 2) i && (bit b i && not (bit (b * 2) i)))) || (bit (a / 2) i && (bit b i && not (bit (b / 2) i)))) (la x low)
-    ∙ ap (λ y. (doubled row x || (y && (bit b i && not (bit (b * 2) i)))) || (bit (a / 2) i && (bit b i && not (bit (b / 2) i)))) (to-right a row x la low)
-    ∙ ap (λ y. (doubled row x || (doubled row (x + 1) && (y && not (bit (b * 2) i)))) || (bit (a / 2) i && (y && not (bit (b / 2) i)))) (lb x low)
-    ∙ ap (λ y. (doubled row x || (doubled row (x + 1) && (doubled near x && not y))) || (bit (a / 2) i && (doubled near x && not (bit (b / 2) i)))) (to-right b near x lb low)
-    ∙ ap (λ y. (doubled row x || (doubled row (x + 1) && (doubled near x && not (doubled near (x + 1))))) || (y && (doubled near x && not (bit (b / 2) i)))) (to-left a row x la fa low)
-    ∙ ap (λ y. (doubled row x || (doubled row (x + 1) && (doubled near x && not (doubled near (x + 1))))) || (before row x && (doubled near x && not y))) (to-left b near x lb fb low)
-    ∙ sides row near x low
+    ∙ ap (λ y. (doubled own x || (y && (bit b i && not (bit (b * 2) i)))) || (bit (a / 2) i && (bit b i && not (bit (b / 2) i)))) (to-right a own x la low)
+    ∙ ap (λ y. (doubled own x || (doubled own (x + 1) && (y && not (bit (b * 2) i)))) || (bit (a / 2) i && (y && not (bit (b / 2) i)))) (lb x low)
+    ∙ ap (λ y. (doubled own x || (doubled own (x + 1) && (doubled near x && not y))) || (bit (a / 2) i && (doubled near x && not (bit (b / 2) i)))) (to-right b near x lb low)
+    ∙ ap (λ y. (doubled own x || (doubled own (x + 1) && (doubled near x && not (doubled near (x + 1))))) || (y && (doubled near x && not (bit (b / 2) i)))) (to-left a own x la fa low)
+    ∙ ap (λ y. (doubled own x || (doubled own (x + 1) && (doubled near x && not (doubled near (x + 1))))) || (before own x && (doubled near x && not y))) (to-left b near x lb fb low)
+    ∙ sides own near x low
