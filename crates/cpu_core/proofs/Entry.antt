@@ -1,5 +1,5 @@
 -- An instruction goes on from its opcode to the first cycle after it.
-use Rattle.std.proofs.Common.{◌≡◌, ◌<◌, ◌≤◌, ℕ, ◌+◌, ◌%◌, List, [], ◌∷◌, ◌++◌, length, Bool, true, false, cond, ◌||◌, Option, Some, None, refl, sym, subst, ap, arith, ◌∙◌}
+use Rattle.std.proofs.Common.{◌≡◌, ◌<◌, ℕ, ◌+◌, ◌%◌, List, [], ◌∷◌, ◌++◌, length, Bool, true, false, cond, ◌||◌, Option, Some, None, refl, sym, subst, ap, ◌∙◌}
 use Rattle.std.proofs.lemmas.Bool.{agree_below_at}
 use Rattle.op_table.specs.declared.names.Part.{Part}
 use Rattle.op_table.specs.declared.names.Part.TheVariants.{Nmos, Cmos}
@@ -20,7 +20,7 @@ use Rattle.cpu_core.specs.declared.machine.Machine.{Machine}
 use Rattle.cpu_core.specs.declared.machine.Phase.TheVariants as phase
 use Rattle.cpu_core.specs.declared.machine.Start.{Start}
 use Rattle.cpu_core.specs.Accesses.{byte, row_at, waits, reach, address, operand, modify_form, branch_form}
-use Rattle.cpu_core.specs.Phases.{at_operand, done, indexed, left, outcome, most, wants, is_fetch, is_stuck}
+use Rattle.cpu_core.specs.Phases.{at_operand, done, indexed, left, outcome, wants, is_fetch, is_stuck}
 use Rattle.cpu_core.specs.Starts.{in_memory, start_by, start_change, start_implied, start_jump, start_in, start_at, started}
 use Rattle.cpu_core.specs.Ties.{GoesOn, first}
 
@@ -66,10 +66,6 @@ started-outcome part IndY k always m o f =
     let r : Regs = m.work in
     ap (done part k m.row r) (operand_by (always || crosses_page (byte f 1) r.y) (Read (place r 1)) (Read (byte f 0)) (Read ((byte f 0 + 1) % 256)) _ o f)
 started-outcome part _ k always m o f = refl
-
-started-most : (w : Mode) (k : Access) (always : Bool) (m : Machine) → most (started (in_memory k always w) m) + 1 ≤ 8
-started-most Zp k always m = omega arith
-started-most _ k always m = omega arith
 
 -- a store needs an operand in memory, so that its first cycle reads
 abbrev is_memory : Mode → Bool
@@ -128,7 +124,6 @@ reads_go_on : (part : Part) (m : Machine) (op : ℕ) → m.phase ≡ phase.Opcod
 reads_go_on part m op p e u = record {
   accesses_left = λ f. rw (p, e, u) (started-left part m.row.mode Load (waits part Reads) (at_opcode m) (Some op) f);
   end = λ f. rw (p, e, u) (started-outcome part m.row.mode Load (waits part Reads) (at_opcode m) (Some op) f);
-  room = rw p (started-most m.row.mode Load (waits part Reads) (at_opcode m));
   wanted = started-wanted part m.row.mode Load (waits part Reads) m refl;
   fetch = started-fetch m.row.mode Load (waits part Reads) m;
   stuck = rw (p, e) (started-stuck m.row.mode Load (waits part Reads) (at_opcode m));
@@ -138,7 +133,6 @@ stores_go_on : (part : Part) (m : Machine) (op : ℕ) → m.phase ≡ phase.Opco
 stores_go_on part m op p e u n = record {
   accesses_left = λ f. rw (p, e, u) (started-left part m.row.mode Store (waits part Stores) (at_opcode m) (Some op) f);
   end = λ f. rw (p, e, u) (started-outcome part m.row.mode Store (waits part Stores) (at_opcode m) (Some op) f);
-  room = rw p (started-most m.row.mode Store (waits part Stores) (at_opcode m));
   wanted = started-wanted part m.row.mode Store (waits part Stores) m n;
   fetch = started-fetch m.row.mode Store (waits part Stores) m;
   stuck = rw (p, e) (started-stuck m.row.mode Store (waits part Stores) (at_opcode m));
@@ -150,7 +144,6 @@ shifts_go_on part m op p e u n = record {
       let g = modify_form-entered part m.row.mode n m.row (waits part Shifts) m.work (Some op ∷ f) in
       rw (p, e, u, g) (started-left part m.row.mode Change (waits part Shifts) (at_opcode m) (Some op) f);
   end = λ f. rw (p, e, u) (started-outcome part m.row.mode Change (waits part Shifts) (at_opcode m) (Some op) f);
-  room = rw p (started-most m.row.mode Change (waits part Shifts) (at_opcode m));
   wanted = started-wanted part m.row.mode Change (waits part Shifts) m refl;
   fetch = started-fetch m.row.mode Change (waits part Shifts) m;
   stuck = rw (p, e) (started-stuck m.row.mode Change (waits part Shifts) (at_opcode m));
@@ -162,7 +155,6 @@ modifies_go_on part m op p e u n = record {
       let g = modify_form-entered part m.row.mode n m.row (waits part Modifies) m.work (Some op ∷ f) in
       rw (p, e, u, g) (started-left part m.row.mode Change (waits part Modifies) (at_opcode m) (Some op) f);
   end = λ f. rw (p, e, u) (started-outcome part m.row.mode Change (waits part Modifies) (at_opcode m) (Some op) f);
-  room = rw p (started-most m.row.mode Change (waits part Modifies) (at_opcode m));
   wanted = started-wanted part m.row.mode Change (waits part Modifies) m refl;
   fetch = started-fetch m.row.mode Change (waits part Modifies) m;
   stuck = rw (p, e) (started-stuck m.row.mode Change (waits part Modifies) (at_opcode m));
@@ -191,7 +183,6 @@ shifts_by : (part : Part) (m : Machine) (op : ℕ) (w : Mode) → m.phase ≡ ph
 shifts_by part m op Acc p e b v = record {
   accesses_left = λ f. rw (p, e, b, v) refl;
   end = λ f. rw (p, e, b, v) refl;
-  room = rw p (omega arith);
   wanted = refl;
   fetch = refl;
   stuck = rw (p, e) refl;
@@ -202,7 +193,6 @@ modifies_by : (part : Part) (m : Machine) (op : ℕ) (w : Mode) → m.phase ≡ 
 modifies_by part m op Acc p e b v = record {
   accesses_left = λ f. rw (p, e, b, v) refl;
   end = λ f. rw (p, e, b, v) refl;
-  room = rw p (omega arith);
   wanted = refl;
   fetch = refl;
   stuck = rw (p, e) refl;
@@ -215,7 +205,6 @@ implied_by part m op Spare p e b v n = absurd (n refl)
 implied_by part m op _ p e b v n = record {
   accesses_left = λ f. rw (p, e, b, v) refl;
   end = λ f. rw (p, e, b) refl;
-  room = rw p (omega arith);
   wanted = refl;
   fetch = refl;
   stuck = rw (p, e) refl;
@@ -226,7 +215,6 @@ jumps_by : (part : Part) (m : Machine) (op : ℕ) (w : Mode) → m.phase ≡ pha
 jumps_by part m op Abs p e b v k = record {
   accesses_left = λ f. rw (p, e, b, v) refl;
   end = λ f. rw (p, e, b, v) refl;
-  room = rw p (omega arith);
   wanted = refl;
   fetch = refl;
   stuck = rw (p, e) refl;
@@ -234,7 +222,6 @@ jumps_by part m op Abs p e b v k = record {
 jumps_by part m op Ind p e b v k = record {
   accesses_left = λ f. rw (p, e, b, v) refl;
   end = λ f. rw (p, e, b, v) refl;
-  room = rw p (omega arith);
   wanted = refl;
   fetch = refl;
   stuck = rw (p, e) refl;
@@ -242,7 +229,6 @@ jumps_by part m op Ind p e b v k = record {
 jumps_by part m op IndAbsX p e b v k = record {
   accesses_left = λ f. rw (p, e, b, v) refl;
   end = λ f. rw (p, e, b, v) refl;
-  room = rw p (omega arith);
   wanted = refl;
   fetch = refl;
   stuck = rw (p, e) refl;
@@ -270,7 +256,6 @@ goes_by part m op Jumps w p e b v n k = jumps_by part m op w p e b v k
 goes_by part m op Branches w p e b v n k = record {
   accesses_left = λ f. rw (p, e, b) (branch-seen part (taken m.row.mnemonic m.work) m.work (Some op) None f);
   end = λ f. rw (p, e, b) refl;
-  room = rw p (omega arith);
   wanted = branch-first part (taken m.row.mnemonic m.work) m.work (None ∷ []);
   fetch = refl;
   stuck = rw (p, e) refl;
@@ -278,7 +263,6 @@ goes_by part m op Branches w p e b v n k = record {
 goes_by part m op Pushes w p e b v n k = record {
   accesses_left = λ f. rw (p, e, b) refl;
   end = λ f. rw (p, e, b) refl;
-  room = rw p (omega arith);
   wanted = refl;
   fetch = refl;
   stuck = rw (p, e) refl;
@@ -286,7 +270,6 @@ goes_by part m op Pushes w p e b v n k = record {
 goes_by part m op Pulls w p e b v n k = record {
   accesses_left = λ f. rw (p, e, b) refl;
   end = λ f. rw (p, e, b) refl;
-  room = rw p (omega arith);
   wanted = refl;
   fetch = refl;
   stuck = rw (p, e) refl;
@@ -294,7 +277,6 @@ goes_by part m op Pulls w p e b v n k = record {
 goes_by part m op Calls w p e b v n k = record {
   accesses_left = λ f. rw (p, e, b) refl;
   end = λ f. rw (p, e, b) refl;
-  room = rw p (omega arith);
   wanted = refl;
   fetch = refl;
   stuck = rw (p, e) refl;
@@ -302,7 +284,6 @@ goes_by part m op Calls w p e b v n k = record {
 goes_by part m op Returns w p e b v n k = record {
   accesses_left = λ f. rw (p, e, b) refl;
   end = λ f. rw (p, e, b) refl;
-  room = rw p (omega arith);
   wanted = refl;
   fetch = refl;
   stuck = rw (p, e) refl;
@@ -310,7 +291,6 @@ goes_by part m op Returns w p e b v n k = record {
 goes_by part m op Resumes w p e b v n k = record {
   accesses_left = λ f. rw (p, e, b) refl;
   end = λ f. rw (p, e, b) refl;
-  room = rw p (omega arith);
   wanted = refl;
   fetch = refl;
   stuck = rw (p, e) refl;
@@ -318,7 +298,6 @@ goes_by part m op Resumes w p e b v n k = record {
 goes_by part m op Breaks w p e b v n k = record {
   accesses_left = λ f. rw (p, e, b) refl;
   end = λ f. rw (p, e, b) refl;
-  room = rw p (omega arith);
   wanted = refl;
   fetch = refl;
   stuck = rw (p, e) refl;

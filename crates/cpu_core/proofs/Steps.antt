@@ -1,5 +1,5 @@
 -- A phase that is tied to the cycles seen, and goes on, stays tied.
-use Rattle.std.proofs.Common.{◌≡◌, ◌<◌, ◌↔◌, IsSome, IsNone, ℕ, zero, suc, List, [], ◌∷◌, ◌++◌, length, drop, Bool, true, false, ◌&&◌, Option, Some, None, is_none, cond, slice_get, inl, inr, refl, sym, subst, ap, ◌∙◌, arith, append_assoc, length-append}
+use Rattle.std.proofs.Common.{◌≡◌, ◌↔◌, IsSome, IsNone, ℕ, zero, suc, List, [], ◌∷◌, ◌++◌, length, drop, Bool, true, false, ◌&&◌, Option, Some, None, is_none, cond, slice_get, inl, inr, refl, sym, subst, ap, ◌∙◌, arith, append_assoc, length-append}
 use Rattle.std.proofs.lemmas.List.{append-nil}
 use Rattle.op_table.specs.declared.names.Part.{Part}
 use Rattle.op_table.specs.declared.names.Part.TheVariants.{Nmos, Cmos}
@@ -9,15 +9,14 @@ use Rattle.cpu_core.specs.declared.Sequence.{Sequence}
 use Rattle.cpu_core.specs.declared.Sequence.TheVariants.{Instruction, Reset, Nmi, Irq}
 use Rattle.cpu_core.specs.State.{State}
 use Rattle.cpu_core.specs.Accesses.{row_at}
-use Rattle.cpu_core.specs.Sequences.{accesses, result_of, next, shown, halts, halted, is_start, after, HasEnded}
-use Rattle.cpu_core.specs.Shown.{one_more}
+use Rattle.cpu_core.specs.Sequences.{accesses, result_of, next, shown, halts, halted, given, is_start, after, HasEnded}
 use Rattle.cpu_core.specs.declared.machine.Machine.{Machine}
 use Rattle.cpu_core.specs.declared.machine.Access.{Access}
 use Rattle.cpu_core.specs.declared.machine.Access.TheVariants.{Store}
 use Rattle.cpu_core.specs.declared.machine.Phase.{Phase}
 use Rattle.cpu_core.specs.declared.machine.Phase.TheVariants.{Opcode, Halted, Over}
-use Rattle.cpu_core.specs.Phases.{left, left_in, outcome, most, most_in, wants, wants_in, at_operand, reached, is_store, value_by, is_fetch, is_stuck}
-use Rattle.cpu_core.specs.Ties.{Tied, GoesOn, first}
+use Rattle.cpu_core.specs.Phases.{left, left_in, outcome, wants, wants_in, at_operand, reached, is_store, value_by, is_fetch, is_stuck}
+use Rattle.cpu_core.specs.Ties.{Tied, GoesOn, StepsWhere, Steps, first}
 
 -- the n-th element is the first of what is left from n on
 slice_get-first : (l : List Cycle) (n : ℕ) → slice_get l n ≡ first (drop n l)
@@ -80,6 +79,10 @@ halts-step [] part sequence x b false e h = halts-no sequence part x (sym e)
 halts-step (y ∷ []) part sequence x b start e h = rw e (halts-more y x [] part sequence)
 halts-step (y ∷ z ∷ seen) part sequence x b start e h = rw e (halts-more y z (seen ++ x ∷ []) part sequence)
 
+-- one more cycle: a write shows nothing, whatever byte it was given
+abbrev pub one_more : Part → State → ℕ → State
+one_more part s byte = record s { seen = s.seen ++ shown (next part s) byte ∷ [] }
+
 -- a phase that goes on keeps the tie
 pub tied-step : (part : Part) (m then : Machine) (s : State) (b : ℕ) → Tied part m s → GoesOn part m b then → Tied part then (one_more part s b)
 tied-step part m then s b t g =
@@ -92,7 +95,6 @@ tied-step part m then s b t g =
           ∙ (drop-suc (accesses part s.sequence s.regs (seen ++ x ∷ f)) (length seen)
           ∙ (ap (drop 1) (t.accesses_left (x ∷ f)) ∙ g.accesses_left f)));
       end = λ f. ap (result_of part s.sequence s.regs) (after_one seen f x) ∙ (t.end (x ∷ f) ∙ g.end f);
-      room = omega (arith, longer seen x, t.room, g.room);
       wanted = g.wanted;
       fetch = g.fetch ∙ sym (not_start seen x s.sequence);
       stuck = g.stuck ∙ sym (halts-step seen part s.sequence x b (is_fetch m.phase) t.fetch (fetch-shows m.phase part m b));
@@ -142,10 +144,25 @@ stuck-is : (k : Phase) → is_stuck k ≡ true → k ≡ Halted
 stuck-is Halted e = refl
 stuck-is other e = cc
 
-pub not_stuck : (part : Part) (m : Machine) (s : State) → Tied part m s → halted part s ≡ false → m.phase ≡ Halted → ⊥
-not_stuck part m s t n e =
-    let y : is_stuck m.phase ≡ true = rw e refl in
-    let f : is_stuck m.phase ≡ false = stuck-tied part m s t ∙ n in cc
+-- a step keeps it too: a halted part stays as it is
+tied-by : (stuck : Bool) (part : Part) (m then : Machine) (s : State) (b : ℕ) → Tied part m s → stuck ≡ halted part s → StepsWhere stuck part m b then → Tied part then (given part s b)
+tied-by true part m then s b t e stays =
+    let h : halted part s ≡ true = sym e in
+    rw stays (rw h t)
+tied-by false part m then s b t e goes_on =
+    let h : halted part s ≡ false = sym e in
+    rw h (tied-step part m then s b t goes_on)
+
+pub tied-given : (part : Part) (m then : Machine) (s : State) (b : ℕ) → Tied part m s → Steps part m b then → Tied part then (given part s b)
+tied-given part m then s b t g = tied-by (is_stuck m.phase) part m then s b t (stuck-tied part m s t) g
+
+given-regs : (h : Bool) (part : Part) (s : State) (b : ℕ) → (cond h s (one_more part s b)).regs ≡ s.regs
+given-regs true part s b = refl
+given-regs false part s b = refl
+
+-- a cycle leaves the registers at the start alone
+pub regs-given : (part : Part) (s : State) (b : ℕ) → (given part s b).regs ≡ s.regs
+regs-given part s b = given-regs (halted part s) part s b
 
 -- the registers at the end are those that are worked on
 work-over : (part : Part) (m : Machine) (s : State) → Tied part m s → outcome part m [] ≡ m.work → m.work ≡ after part s
@@ -158,14 +175,6 @@ end-tied part m s t (inl n) =
 end-tied part m s t (inr h) =
     let k : m.phase ≡ Halted = stuck-is m.phase (stuck-tied part m s t ∙ h) in
     work-over part m s t (rw k refl)
-
-most-positive : (k : Phase) (m : Machine) → (k ≡ Over → ⊥) → 0 < most_in k m
-most-positive Over m n = absurd (n refl)
-most-positive other m n = omega arith
-
--- where an access is left, there is room for what it shows
-pub has_room : (part : Part) (m : Machine) (s : State) → Tied part m s → (m.phase ≡ Over → ⊥) → length s.seen < 8
-has_room part m s t n = let p : 0 < most m = most-positive m.phase m n in omega (arith, t.room, p)
 
 wanted_by : (part : Part) (k : Access) (m : Machine) (a : ℕ) → Some (cond (is_store k) (Write a (value_by k m)) (Read a)) ≡ first (at_operand part k m.row a m.work 0)
 wanted_by part Store m a = refl

@@ -267,87 +267,11 @@ outcome_in part ResumeHigh m f = resumed m.work m.index (word m.low (byte f 0))
 outcome_in part Halted m f = m.work
 outcome_in part Over m f = m.work
 
--- how many cycles may be left
-abbrev pub most_in : Phase → Machine → ℕ
-most_in Opcode m = 8
-most_in Implied m = 1
-most_in Accumulator m = 1
-most_in BranchCrossed m = 1
-most_in ZeroPage m = 4
-most_in ZeroPageBase m = 5
-most_in AbsoluteLow m = 5
-most_in AddressHigh m = 4
-most_in IndexedLow m = 6
-most_in IndexedHigh m = 5
-most_in IndexAdded m = 4
-most_in Pointer m = 6
-most_in PointerLow m = 5
-most_in PointerBase m = 7
-most_in PointerIndex m = 6
-most_in PointerIndexedLow m = 5
-most_in IndexedPointer m = 7
-most_in IndexedPointerLow m = 6
-most_in IndexedPointerHigh m = 5
-most_in Operand m = 3
-most_in ModifyAgain m = 2
-most_in ModifyWrite m = 1
-most_in Decimal m = 1
-most_in Branch m = 3
-most_in BranchTaken m = 2
-most_in JumpLow m = 2
-most_in JumpHigh m = 1
-most_in IndirectLow m = 5
-most_in IndirectHigh m = 4
-most_in IndirectIndexedLow m = 5
-most_in IndirectIndexedHigh m = 4
-most_in IndirectAgain m = 3
-most_in IndirectTargetLow m = 2
-most_in Break m = 6
-most_in InterruptPushHigh m = 5
-most_in InterruptPushLow m = 4
-most_in InterruptPushFlags m = 3
-most_in VectorLow m = 2
-most_in VectorHigh m = 1
-most_in InterruptFirst m = 7
-most_in InterruptSecond m = 6
-most_in ResetFirst m = 7
-most_in ResetSecond m = 6
-most_in ResetThird m = 5
-most_in ResetFourth m = 4
-most_in ResetFifth m = 3
-most_in Return m = 5
-most_in ReturnStack m = 4
-most_in ReturnLow m = 3
-most_in ReturnHigh m = 2
-most_in ReturnTarget m = 1
-most_in SpareSecond m = m.low + 2
-most_in SpareLast m = m.low + 1
-most_in Push m = 2
-most_in PushByte m = 1
-most_in Pull m = 3
-most_in PullStack m = 2
-most_in PullByte m = 1
-most_in CallLow m = 5
-most_in CallStack m = 4
-most_in CallPushHigh m = 3
-most_in CallPushLow m = 2
-most_in CallHigh m = 1
-most_in Resume m = 5
-most_in ResumeStack m = 4
-most_in ResumeFlags m = 3
-most_in ResumeLow m = 2
-most_in ResumeHigh m = 1
-most_in Halted m = 1
-most_in Over m = 0
-
 abbrev pub left : Part → Machine → List (Option ℕ) → List Cycle
 left part m f = left_in part m.phase m f
 
 abbrev pub outcome : Part → Machine → List (Option ℕ) → Regs
 outcome part m f = outcome_in part m.phase m f
-
-abbrev pub most : Machine → ℕ
-most m = most_in m.phase m
 
 -- the access of the cycle in progress
 abbrev pub wants_in : Phase → Machine → Option Cycle

@@ -1,12 +1,12 @@
 -- A phase with its latches stands for what was seen so far.
-use Rattle.std.specs.Prelude.{◌≡◌, ◌≤◌, ℕ, ◌+◌, List, [], ◌∷◌, ◌++◌, length, drop, false, ◌&&◌, Option, Some, None, is_none}
+use Rattle.std.specs.Prelude.{◌≡◌, ℕ, List, [], ◌∷◌, ◌++◌, length, drop, Bool, true, false, ◌&&◌, Option, Some, None, is_none}
 use Rattle.op_table.specs.declared.names.Part.{Part}
 use Rattle.cpu_alu.specs.declared.Cycle.{Cycle}
 use Rattle.cpu_core.specs.declared.machine.Machine.{Machine}
 use Rattle.cpu_core.specs.State.{State}
 use Rattle.cpu_core.specs.Accesses.{row_at}
 use Rattle.cpu_core.specs.Sequences.{accesses, result_of, shown, halts, is_start}
-use Rattle.cpu_core.specs.Phases.{left, outcome, most, wants, is_fetch, is_stuck}
+use Rattle.cpu_core.specs.Phases.{left, outcome, wants, is_fetch, is_stuck}
 
 abbrev pub first : List Cycle → Option Cycle
 first [] = None
@@ -17,7 +17,6 @@ first (a ∷ rest) = Some a
 pub record Tied (part : Part) (m : Machine) (s : State) : Type 0 where
   pub accesses_left : (f : List (Option ℕ)) → drop (length s.seen) (accesses part s.sequence s.regs (s.seen ++ f)) ≡ left part m f
   pub end : (f : List (Option ℕ)) → result_of part s.sequence s.regs (s.seen ++ f) ≡ outcome part m f
-  pub room : length s.seen + most m ≤ 8
   pub wanted : wants m ≡ first (left part m [])
   pub fetch : is_fetch m.phase ≡ is_start s.seen s.sequence
   pub stuck : is_stuck m.phase ≡ halts s.seen part s.sequence
@@ -26,7 +25,14 @@ pub record Tied (part : Part) (m : Machine) (s : State) : Type 0 where
 pub record GoesOn (part : Part) (m : Machine) (byte : ℕ) (then : Machine) : Type 0 where
   pub accesses_left : (f : List (Option ℕ)) → drop 1 (left part m (shown (first (left part m [])) byte ∷ f)) ≡ left part then f
   pub end : (f : List (Option ℕ)) → outcome part m (shown (first (left part m [])) byte ∷ f) ≡ outcome part then f
-  pub room : most then + 1 ≤ most m
   pub wanted : wants then ≡ first (left part then [])
   pub fetch : is_fetch then.phase ≡ false
   pub stuck : is_stuck then.phase ≡ (is_fetch m.phase && is_none (row_at part byte))
+
+-- a step: a halted part stays as it is
+abbrev pub StepsWhere : Bool → Part → Machine → ℕ → Machine → Type 0
+StepsWhere true part m byte then = then ≡ m
+StepsWhere false part m byte then = GoesOn part m byte then
+
+abbrev pub Steps : Part → Machine → ℕ → Machine → Type 0
+Steps part m byte then = StepsWhere (is_stuck m.phase) part m byte then

@@ -1,13 +1,13 @@
 //! A processor of either part: it says which access it wants, and is given the byte.
-ghost use Rattle.std.specs.Prelude.{◌≡◌, ◌≢◌, ◌<◌, ◌∷◌, ◌++◌, [], length, ◌↔◌, ◌⊎◌, IsTrue, IsSome, IsNone, Some, false};
+ghost use Rattle.std.specs.Prelude.{◌≡◌, ◌≢◌, ◌↔◌, ◌⊎◌, IsTrue, IsSome, IsNone, Some};
 ghost use Rattle.cpu_core.specs.Sequences.{next, given, halted, starting, after, looked, fresh, power_on, HasEnded};
-ghost use Rattle.cpu_core.specs.Shown.{in_cycle, one_more};
 ghost use Rattle.cpu_core.specs.Phases.{wants, is_fetch, is_stuck};
-ghost use Rattle.cpu_core.specs.Ties.{Tied, GoesOn};
+ghost use Rattle.cpu_core.specs.Ties.{Tied};
 ghost use Rattle.cpu_core.specs.declared.machine.Machine.{Machine};
 
 use crate::Sequence;
 use crate::machine::{Access, Machine, Phase, Start};
+use crate::trail::{Trail, Turn};
 use cpu_alu::{Cycle, INTERRUPT, Regs, has_flag};
 use op_table::{Mnemonic, Mode, Part, Row};
 use std::marker::Model;
@@ -20,25 +20,22 @@ use std::marker::Model;
 #[derive(Drop)]
 pub struct Core {
     machine: Machine,
-    sequence: Sequence,
     start: Regs,
-    // The bytes of the cycles done, of which `count` are there, and the part. They are kept for what contracts see alone.
-    bytes: [u8; 8],
-    count: usize,
     part: Part,
+    // What contracts see, which takes no memory.
+    trail: Trail,
 }
 
 impl Model for Core {
-    ghost use Rattle.std.specs.Prelude.{take, ◌≤◌, ◌≡◌, length};
+    ghost use Rattle.std.specs.Prelude.{◌≡◌};
     ghost use Rattle.cpu_core.specs.State.{CoreState};
-    ghost use Rattle.cpu_core.specs.Shown.{in_cycle};
     ghost use Rattle.cpu_core.specs.Ties.{Tied};
 
     ghost Value = { CoreState };
 
-    ghost view = { λ c. record { part = c.part; state = in_cycle c.part c.sequence c.start (take c.count c.bytes) } };
+    ghost view = { λ c. record { part = c.part; state = c.trail.state } };
 
-    ghost invariant = { λ c. (c.count ≤ 8) × (length c.bytes ≡ 8) × Tied c.part c.machine (in_cycle c.part c.sequence c.start (take c.count c.bytes)) };
+    ghost invariant = { λ c. (c.start ≡ c.trail.state.regs) × Tied c.part c.machine c.trail.state };
 }
 
 fn first_machine(part: Part, regs: Regs) -> Machine
@@ -161,11 +158,9 @@ impl Core {
         };
         Core {
             machine: first_machine(part, regs),
-            sequence: Sequence::Reset,
             start: regs,
-            bytes: [0; 8],
-            count: 0,
             part,
+            trail: Trail::new(),
         }
     }
 
@@ -177,8 +172,7 @@ impl Core {
     {
         set_off(self.part, &mut self.machine, sequence);
         self.start = self.machine.work;
-        self.sequence = sequence;
-        self.count = 0;
+        self.trail = self.trail.after(&Turn::Begins(sequence, self.start));
     }
 
     /// The access of the cycle in progress.
@@ -190,19 +184,6 @@ impl Core {
         in_progress(&self.machine)
     }
 
-    #[inline(always)]
-    fn advance(&mut self, part: Part, byte: u8)
-        requires part { self.old.part ≡ part }
-        requires more { IsSome (next part self.old.state) }
-        requires running { halted part self.old.state ≡ false }
-        ensures part { self.new.part ≡ part }
-        ensures state { self.new.state ≡ given part self.old.state byte }
-    {
-        self.bytes[self.count] = byte;
-        self.count += 1;
-        self.machine.step(part, byte);
-    }
-
     /// The cycle in progress is done, with the byte that was read. After a write the byte does not matter.
     #[inline(always)]
     pub fn give(&mut self, part: Part, byte: u8)
@@ -211,10 +192,8 @@ impl Core {
         ensures part { self.new.part ≡ part }
         ensures state { self.new.state ≡ given part self.old.state byte }
     {
-        let stays = self.is_halted(part);
-        if !stays {
-            self.advance(part, byte);
-        }
+        self.trail = self.trail.after(&Turn::Given(part, byte));
+        self.machine.step(part, byte);
     }
 
     /// Whether the cycle just given was the last of its sequence.

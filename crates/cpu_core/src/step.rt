@@ -3,7 +3,7 @@ ghost use Rattle.std.specs.Prelude.{◌≡◌, ◌≢◌, ◌≤◌, true};
 ghost use Rattle.cpu_core.specs.Accesses.{idle, with_low, second, lasts_longer, last_place};
 ghost use Rattle.cpu_core.specs.Results.{masked, to_vector};
 ghost use Rattle.cpu_core.specs.Phases.{is_later, is_rare};
-ghost use Rattle.cpu_core.specs.Ties.{GoesOn};
+ghost use Rattle.cpu_core.specs.Ties.{GoesOn, Steps};
 
 use crate::machine::{Access, Machine, Phase};
 use cpu_alu::{
@@ -301,9 +301,8 @@ impl Machine {
     #[inline(never)]
     fn step_rare(&mut self, part: Part, byte: u8)
         requires going { self.old.phase ≢ Phase.Over }
-        requires running { self.old.phase ≢ Phase.Halted }
         requires rare { is_rare self.old.phase ≡ true }
-        ensures { GoesOn part self.old byte self.new }
+        ensures { Steps part self.old byte self.new }
     {
         match self.phase {
             Phase::BranchCrossed => self.jump(self.to),
@@ -387,12 +386,13 @@ impl Machine {
                 self.low = byte;
                 self.read_stack(Phase::ResumeHigh, 3);
             }
-            // ResumeHigh
-            _ => {
+            Phase::ResumeHigh => {
                 self.work.p = self.index;
                 self.work.move_stack(3);
                 self.jump(word(self.low, byte));
             }
+            // Halted
+            _ => {}
         }
     }
 
@@ -400,9 +400,8 @@ impl Machine {
     #[inline(always)]
     fn step_later(&mut self, part: Part, byte: u8)
         requires going { self.old.phase ≢ Phase.Over }
-        requires running { self.old.phase ≢ Phase.Halted }
         requires later { is_later self.old.phase ≡ true }
-        ensures { GoesOn part self.old byte self.new }
+        ensures { Steps part self.old byte self.new }
     {
         if (self.phase as u8) < Phase::CallPushLow as u8 {
             if (self.phase as u8) < Phase::PullStack as u8 {
@@ -515,8 +514,7 @@ impl Machine {
     #[inline(always)]
     pub(crate) fn step(&mut self, part: Part, byte: u8)
         requires going { self.old.phase ≢ Phase.Over }
-        requires running { self.old.phase ≢ Phase.Halted }
-        ensures { GoesOn part self.old byte self.new }
+        ensures { Steps part self.old byte self.new }
     {
         if (self.phase as u8) < Phase::ZeroPage as u8 {
             match self.phase {

@@ -1,0 +1,53 @@
+//! What the cycles of a sequence showed. Only contracts see it: it takes no memory, and its methods do nothing at run time. What ties it to
+//! the machine is the invariant of `Core`.
+ghost use Rattle.std.specs.Prelude.{◌≡◌};
+ghost use Rattle.std.specs.Borrow.{ftrue};
+ghost use Rattle.cpu_core.specs.State.{State};
+ghost use Rattle.cpu_core.specs.StoredState.{state_coded};
+
+use crate::Sequence;
+use cpu_alu::Regs;
+use op_table::Part;
+use std::marker::Model;
+
+/// The processor's state as contracts see it.
+#[derive(Drop)]
+pub(crate) struct Trail {
+    pub ghost state: { State } by { state_coded },
+}
+
+impl Model for Trail {
+    ghost also_owns = { λ _. ftrue };
+}
+
+// It owns nothing.
+unsafe impl Send for Trail {}
+
+/// What happens to the processor.
+#[derive(Clone, Copy, Drop)]
+pub(crate) enum Turn {
+    /// A sequence begins with these registers.
+    Begins(Sequence, Regs),
+    /// A cycle is done, with the byte that was read.
+    Given(Part, u8),
+}
+
+impl Trail {
+    ghost use Rattle.cpu_core.specs.Sequences.{power_on};
+    ghost use Rattle.cpu_core.specs.Turns.{turned};
+
+    /// Power-on.
+    pub(crate) fn new() -> Trail
+        ensures { result.state ≡ power_on }
+    {
+        Trail {}
+    }
+
+    /// The trail after one more turn.
+    #[inline(always)]
+    pub(crate) fn after(&self, _turn: &Turn) -> Trail
+        ensures { result.state ≡ turned self.now.state _turn.now }
+    {
+        Trail {}
+    }
+}
