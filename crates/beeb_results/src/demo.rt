@@ -88,9 +88,11 @@ pub fn gen_product<'a, D: BusDevice>(
     let plugs: Vec<D> = Vec::new(alloc);
     let (host, para) = machines_of(alloc, (Kind::Ssd, Kind::Ssd), inputs, plugs)?;
     let done = run_alone(alloc, host, para, Tick(gen_ticks()), 0)?;
-    let text = summary(alloc, seed, done.host.ram())?;
+    let text = summary(alloc, seed, done.host.ram());
+    // Here, so that both machines are dropped in one place.
+    drop(done);
     Ok(Product::Text {
         ending: Ending::Done,
-        text,
+        text: text?,
     })
 }
