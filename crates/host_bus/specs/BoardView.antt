@@ -2,6 +2,7 @@
 use Rattle.std.specs.Prelude.{◌≡◌, ◌<◌, length}
 use Rattle.host_bus.specs.declared.board.Board.TheInside.{Inside}
 use Rattle.host_bus.specs.Board.{BoardState}
+use Rattle.host_bus.specs.Shows.{Shows}
 use Rattle.host_bus.specs.OnTime.{IsPlayed, IsOnTime}
 
 abbrev pub board_seen : Inside → BoardState
@@ -17,6 +18,8 @@ board_seen b = record {
 
 pub record IsSound (b : Inside) : Type 0 where
   pub memory : length b.ram.items ≡ 32768
+  pub addresses : length b.shown.items ≡ 65536
+  pub shows : Shows b.ram.items b.roms.os b.shown.items
   pub slot : b.latch < 16
   pub played : IsPlayed b.playback b.closed
   pub on_time : IsOnTime b.closed b.playback.event b.next

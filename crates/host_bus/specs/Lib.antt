@@ -5,6 +5,7 @@ pub mod Board
 pub mod Plugs
 pub mod Bus
 pub mod OnTime
+pub mod Shows
 pub mod BoardView
 pub mod View
 pub mod Closing

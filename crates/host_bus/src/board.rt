@@ -1,5 +1,5 @@
 //! The board: memory, and what answers beside it.
-ghost use Rattle.std.specs.Prelude.{◌≡◌, ◌≤◌, ◌<◌, ◌+◌, ◌%◌, ◌^◌, ◌==◌, ◌⊎◌, ℕ, length, IfOk, None, Some, MatchOption, slice_set, if◌then◌else◌};
+ghost use Rattle.std.specs.Prelude.{◌≡◌, ◌≤◌, ◌<◌, ◌+◌, ◌%◌, ◌^◌, ◌==◌, ◌⊎◌, ℕ, length, IfOk, None, Some, MatchOption, slice_index, slice_set, if◌then◌else◌};
 ghost use Rattle.keyboard.specs.Keys.{keys_of};
 ghost use Rattle.wd1770.specs.Select.{disc_of};
 ghost use Rattle.host_bus.specs.Map.{place_of};
@@ -7,6 +7,7 @@ ghost use Rattle.host_bus.specs.Shots.{shot_at};
 ghost use Rattle.host_bus.specs.OnTime.{IsPlayed, IsOnTime};
 ghost use Rattle.host_bus.specs.Devices.{microsecond, last_frame};
 ghost use Rattle.host_bus.specs.Board.{board_closed, answer_at, read_at, written_at, board_irq, board_nmis, first_board, clear_ram};
+ghost use Rattle.host_bus.specs.Shows.{Covered, Shows};
 
 use crate::devices::Devices;
 use crate::map::{Place, place_in_sheila};
@@ -22,10 +23,21 @@ use std::marker::Model;
 /// How many bytes the RAM has.
 const RAM_SIZE: usize = 32_768;
 
+/// How many addresses there are.
+const ADDRESSES: usize = 65_536;
+
+/// Where the operating system begins.
+const OS_START: usize = 0xc000;
+
+/// How many bytes the operating system has.
+const OS_SIZE: u16 = 16_384;
+
 /// All of the host's bus but the plugged devices. Every tick below `closed` is done.
 #[derive(Drop)]
 pub struct Board {
     ram: Vec<u8>,
+    // What a read shows of the RAM and the operating system, so that it takes one load. The bytes of the paged ROM are not read here.
+    shown: Vec<u8>,
     roms: RomSet,
     latch: u8,
     devices: Devices,
@@ -54,6 +66,37 @@ fn clear_ram(alloc: Global, size: usize) -> Result<Vec<u8>, AllocError>
     ensures length { IfOk result (λ v. length v.items ≡ RAM_SIZE) }
 {
     vec![in alloc; 0; size]
+}
+
+// As many bytes as there are addresses, all 00. The size is an argument here too.
+#[tactic(none)]
+fn clear_shown(alloc: Global, size: usize) -> Result<Vec<u8>, AllocError>
+    requires { size ≡ ADDRESSES }
+    ensures items { IfOk result (λ v. (at : ℕ) → slice_index v.items at ≡ 0) }
+    ensures length { IfOk result (λ v. length v.items ≡ ADDRESSES) }
+{
+    vec![in alloc; 0; size]
+}
+
+// Copies the operating system to where it is read.
+fn cover(shown: &mut [u8], roms: &RomSet)
+    requires { length shown.old ≡ ADDRESSES }
+    ensures length { length shown.new ≡ ADDRESSES }
+    ensures covered { Covered shown.old roms.now.os OS_SIZE shown.new }
+{
+    for i in 0..OS_SIZE {
+        shown[OS_START + usize::from(i)] = roms.os(i);
+    }
+}
+
+// What a read shows at power-on: clear RAM, and the operating system.
+fn first_shown(alloc: Global, roms: &RomSet) -> Result<Vec<u8>, AllocError>
+    ensures length { IfOk result (λ v. length v.items ≡ ADDRESSES) }
+    ensures shows { IfOk result (λ v. Shows clear_ram roms.now.os v.items) }
+{
+    let mut shown = clear_shown(alloc, ADDRESSES)?;
+    cover(&mut shown, roms);
+    Ok(shown)
 }
 
 // Tick `k`, the next one at which something comes: its shots are taken, and then comes the microsecond, if it is one. Answers the tick behind
@@ -116,10 +159,14 @@ impl Board {
         let Ok(ram) = clear_ram(alloc, RAM_SIZE) else {
             return Err(NoMemory);
         };
+        let Ok(shown) = first_shown(alloc, &roms) else {
+            return Err(NoMemory);
+        };
         let devices = Devices::make(alloc, d0, d1)?;
         let playback = Playback::make(alloc, script)?;
         Ok(Board {
             ram,
+            shown,
             roms,
             latch: 0,
             devices,
@@ -192,12 +239,10 @@ impl Board {
         requires { (at < 0xfc00) ⊎ (0xff00 ≤ at) }
         ensures { (t : ℕ) → result ≡ answer_at (place_of at) self.now t at }
     {
-        if at < 0x8000 {
-            self.ram[at as usize]
-        } else if at >= 0xc000 {
-            self.roms.os(at - 0xc000)
-        } else {
+        if 0x8000 <= at && at < 0xc000 {
             self.roms.byte(self.latch, at - 0x8000)
+        } else {
+            self.shown[at as usize]
         }
     }
 
@@ -208,6 +253,7 @@ impl Board {
         ensures { self.new ≡ record self.old { ram = slice_set (self.old).ram at v } }
     {
         self.ram[at as usize] = v;
+        self.shown[at as usize] = v;
     }
 
     /// A read in SHEILA at the last tick that is done.

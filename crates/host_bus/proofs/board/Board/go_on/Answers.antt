@@ -16,6 +16,8 @@ invariant_of-self c =
     let low : b.closed ≤ c.args.t = omega (arith, same, c.requires.low) in
     record {
       memory = c.self.invariant.memory;
+      addresses = c.self.invariant.addresses;
+      shows = c.self.invariant.shows;
       slot = c.self.invariant.slot;
       played = played-later b.playback b.closed c.args.t c.self.invariant.played low (omega (arith, c.self.invariant.on_time.least, c.if-t-k.true));
       on_time = still-on-time b.closed b.playback.event b.next c.args.t c.self.invariant.on_time low c.if-t-k.true;
