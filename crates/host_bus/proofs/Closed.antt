@@ -6,10 +6,12 @@ use Rattle.keyboard.specs.Keys.{Keys}
 use Rattle.host_bus.specs.Devices.{Devices, keys_at, microsecond, last_frame}
 use Rattle.host_bus.specs.Shots.{shot_at}
 use Rattle.host_bus.specs.Board.{BoardState, Around, Moving, around, moving, moved, beat, tick, ticks, board_closed}
+use Rattle.host_bus.specs.BoardView.{board_seen, IsSound}
 use Rattle.host_bus.specs.OnTime.{IsPlayed, IsOnTime}
 use Rattle.host_bus.specs.Closing.{board-again}
+use Rattle.host_bus.specs.declared.board.Board.TheInside.{Inside}
 use Rattle.host_bus.specs.declared.playback.Playback.{Playback}
-use Rattle.host_bus.proofs.Played.{HasNone, none-between}
+use Rattle.host_bus.proofs.Played.{HasNone, none-between, played-later}
 
 -- before anything comes there is no shot
 pub quiet : (p : Playback) (closed next : ℕ) → IsPlayed p closed → IsOnTime closed p.event next → HasNone p.script closed next
@@ -40,6 +42,21 @@ still-closed b event next t h none low high =
 pub still-on-time : (closed event next t : ℕ) → IsOnTime closed event next → closed ≤ t → t ≤ next → IsOnTime t event next
 still-on-time closed event next t h low high =
     record { micro = h.micro; sixth = h.sixth; first = omega (arith, h.least, high); near = omega (arith, low, h.near); least = h.least }
+
+-- the board that is closed before anything comes is sound, and is what contracts see of closing it
+pub sound-later : (b : Inside) (t : ℕ) → IsSound b → b.closed ≤ t → t ≤ b.next → IsSound (record b { closed = t })
+sound-later b t h low high = record {
+  memory = h.memory;
+  addresses = h.addresses;
+  shows = h.shows;
+  slot = h.slot;
+  played = played-later b.playback b.closed t h.played low (omega (arith, h.on_time.least, high));
+  on_time = still-on-time b.closed b.playback.event b.next t h.on_time low high;
+}
+
+pub seen-later : (b : Inside) (t : ℕ) → IsSound b → b.closed ≤ t → t ≤ b.next → board_seen (record b { closed = t }) ≡ board_closed (board_seen b) t
+seen-later b t h low high =
+    still-closed (board_seen b) b.playback.event b.next t h.on_time (quiet b.playback b.closed b.next h.played h.on_time) low high
 
 -- a board after the tick at which something comes
 ticked : (b : BoardState) (keys : Keys) (event next : ℕ) (d : Devices) (shots : List (List ℕ)) → IsOnTime b.closed event next → HasNone b.script b.closed next → b.closed ≤ next → keys ≡ keys_at next b.script →

@@ -184,39 +184,25 @@ impl Board {
         self.closed
     }
 
-    // Does some of the ticks below `t`: the next one at which something comes, and all behind it at which nothing does.
-    #[inline(always)]
-    fn go_on(&mut self, t: u64)
-        requires low { self.old.closed < t }
-        requires room { t < 2 ^ 48 }
-        ensures { (u : ℕ) × (self.old.closed < u) × (u ≤ t) × (self.new ≡ board_closed self.old u) }
-    {
-        let k = self.next;
-        if t <= k {
-            self.closed = t;
-            return;
-        }
-        let next = tick(
-            &mut self.devices,
-            &mut self.playback,
-            &self.ram,
-            &self.roms,
-            k,
-        );
-        self.next = next;
-        self.closed = next.min(t);
-    }
-
-    // Does all ticks below `t`.
+    // Does all ticks below `t`. The fields that say how far it came are written once, behind the loop.
     #[inline(never)]
     fn catch_up(&mut self, t: u64)
         requires low { self.old.closed ≤ t }
         requires room { t < 2 ^ 48 }
         ensures { self.new ≡ board_closed self.old t }
     {
-        while self.closed() < t {
-            self.go_on(t);
+        let mut next = self.next;
+        while next < t {
+            next = tick(
+                &mut self.devices,
+                &mut self.playback,
+                &self.ram,
+                &self.roms,
+                next,
+            );
         }
+        self.next = next;
+        self.closed = t;
     }
 
     /// Does all ticks below `t`. Where nothing comes there, this is one number.
