@@ -1,8 +1,9 @@
 -- Tests that the code makes apart.
-use Rattle.std.specs.Prelude.{◌%◌, ◌==◌, ◌&&◌, nat_le, Bool, not, is_none}
+use Rattle.std.specs.Prelude.{◌%◌, ◌==◌, ◌&&◌, nat_le, Bool, true, false, not, is_none}
+use Rattle.crtc6845.specs.declared.Beam.{Beam}
 use Rattle.crtc6845.specs.State.{State}
 use Rattle.crtc6845.specs.Registers.{start_address}
-use Rattle.crtc6845.specs.Clock.{starts_line, blinks_on, ends_line, is_row_done, is_last_line}
+use Rattle.crtc6845.specs.Clock.{starts_line, begins_horizontal_sync, address, blinks_on, ends_line, is_row_done, is_last_line}
 
 -- the cursor is on this raster, and blinks on
 abbrev pub cursor_is_on : State → Bool
@@ -18,3 +19,18 @@ abbrev pub is_at_rest : State → Bool
 is_at_rest c =
     starts_line c && ends_line c && c.registers.horizontal_displayed == 0 && c.row == 0 && c.raster == 0 && is_none c.adjust
     && is_last_line c && c.base == start_address c.registers
+
+-- What the character clock tells that leaves this chip at rest: whether a frame is finished, and what is the same for each of them.
+abbrev pub rest_told : Bool → State → Beam
+rest_told finishes c = record {
+  shown = false;
+  ma = address c;
+  ra = c.raster;
+  cursor = false;
+  line_start = true;
+  sync_start = begins_horizontal_sync c;
+  frame_end = finishes;
+  fields = c.fields;
+  row_end = false;
+  restart = true;
+}

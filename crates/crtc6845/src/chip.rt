@@ -2,7 +2,7 @@
 ghost use Rattle.std.specs.Prelude.{◌≡◌, ◌<◌, ◌==◌, ◌||◌, false, true, if◌then◌else◌};
 ghost use Rattle.crtc6845.specs.State.{power_on};
 ghost use Rattle.crtc6845.specs.Registers.{select_leaves, set_leaves, answer_of};
-ghost use Rattle.crtc6845.specs.Steps.{cursor_is_on, ends_row_line, is_at_rest};
+ghost use Rattle.crtc6845.specs.Steps.{cursor_is_on, ends_row_line, is_at_rest, rest_told};
 ghost use Rattle.crtc6845.specs.Clock.{starts_line, begins_sync, sync_counted, sync_begun, line_started, is_shown, blinks_on, has_cursor, address, ends_row, ends_frame, ends_line, is_row_done, are_rows_done, is_last_line, row_line_ended, adjust_line_ended, frame_begun, adjust_begun, line_ended, counted, clocked, beam_of, is_in_sync};
 
 use crate::Beam;
@@ -145,6 +145,7 @@ impl Chip {
         requires { is_at_rest self.old ≡ true }
         ensures beam { result ≡ beam_of self.old }
         ensures state { self.new ≡ clocked self.old }
+        ensures told { result ≡ rest_told result.frame_end self.new }
         ensures rest { is_at_rest self.new ≡ true }
         ensures not_shown { result.shown ≡ false }
     {
@@ -161,6 +162,24 @@ impl Chip {
             row_end: false,
             restart: true,
         }
+    }
+
+    /// Does one character clock where the chip is at rest, if vertical sync goes on past it.
+    #[inline(always)]
+    pub(crate) fn clock_within_sync(&mut self) -> bool
+        requires { is_at_rest self.old ≡ true }
+        ensures beam { result ≡ true → beam_of self.old ≡ rest_told false self.new }
+        ensures state { result ≡ true → self.new ≡ clocked self.old }
+        ensures counts { result ≡ true → self.new ≡ sync_counted self.old }
+        ensures sync { result ≡ true → is_in_sync self.new ≡ true }
+        ensures stays { result ≡ false → self.new ≡ self.old }
+        ensures rest { is_at_rest self.new ≡ true }
+    {
+        if self.sync_lines > 1 {
+            self.sync_lines -= 1;
+            return true;
+        }
+        false
     }
 
     /// Does one character clock, and tells it, where `is_edge` is false.

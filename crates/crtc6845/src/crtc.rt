@@ -2,8 +2,8 @@
 ghost use Rattle.std.specs.Prelude.{◌≡◌, ◌||◌, false, true};
 ghost use Rattle.crtc6845.specs.State.{power_on};
 ghost use Rattle.crtc6845.specs.Registers.{select_leaves, set_leaves, answer_of};
-ghost use Rattle.crtc6845.specs.Clock.{starts_line, clocked, ends_line, beam_of, is_in_sync};
-ghost use Rattle.crtc6845.specs.Steps.{is_at_rest};
+ghost use Rattle.crtc6845.specs.Clock.{starts_line, sync_counted, clocked, ends_line, beam_of, is_in_sync};
+ghost use Rattle.crtc6845.specs.Steps.{is_at_rest, rest_told};
 
 use crate::Beam;
 use crate::chip::Chip;
@@ -112,9 +112,26 @@ impl Crtc {
         requires { is_at_rest self.old ≡ true }
         ensures beam { result ≡ beam_of self.old }
         ensures state { self.new ≡ clocked self.old }
+        ensures told { result ≡ rest_told result.frame_end self.new }
+        ensures rest { is_at_rest self.new ≡ true }
         ensures not_shown { result.shown ≡ false }
     {
         self.chip.clock_at_rest()
+    }
+
+    /// Does one character clock, where `is_at_rest` is true, if vertical sync goes on past it: then it has one line less left, and nothing
+    /// else changes.
+    #[inline(always)]
+    pub fn clock_within_sync(&mut self) -> bool
+        requires { is_at_rest self.old ≡ true }
+        ensures beam { result ≡ true → beam_of self.old ≡ rest_told false self.new }
+        ensures state { result ≡ true → self.new ≡ clocked self.old }
+        ensures counts { result ≡ true → self.new ≡ sync_counted self.old }
+        ensures sync { result ≡ true → is_in_sync self.new ≡ true }
+        ensures stays { result ≡ false → self.new ≡ self.old }
+        ensures rest { is_at_rest self.new ≡ true }
+    {
+        self.chip.clock_within_sync()
     }
 
     /// Each character is known to be a whole frame of which nothing is shown, until a register is written.

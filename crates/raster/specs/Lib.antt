@@ -5,3 +5,4 @@ pub mod State
 pub mod Clock
 pub mod Lending
 pub mod Steps
+pub mod Settled

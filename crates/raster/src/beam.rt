@@ -1,5 +1,5 @@
 //! What the beam meets: the byte that is shown, and the cursor's marks.
-ghost use Rattle.std.specs.Prelude.{◌≡◌, ◌<◌};
+ghost use Rattle.std.specs.Prelude.{◌≡◌, ◌<◌, true};
 ghost use Rattle.raster.specs.Beam.{IsScreenSize, byte_address, cursor_past, is_marked};
 ghost use Rattle.raster.specs.State.{first_cursor};
 
@@ -75,6 +75,13 @@ impl Cursor {
                 || (bit(control, 6) && self.one_ago)
                 || (bit(control, 5) && (self.two_ago || self.three_ago))
         }
+    }
+
+    /// It was on none of them.
+    pub(crate) fn is_clear(&self) -> bool
+        ensures { result ≡ true → self.now ≡ first_cursor }
+    {
+        !self.is_near
     }
 
     /// The beam leaves the character.

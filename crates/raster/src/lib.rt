@@ -6,6 +6,7 @@ mod frame;
 mod picture;
 mod place;
 mod raster;
+mod screen;
 mod text;
 
 pub use frame::Frame;

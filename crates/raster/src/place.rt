@@ -1,5 +1,5 @@
 //! The place of the beam.
-ghost use Rattle.std.specs.Prelude.{◌≡◌, if◌then◌else◌};
+ghost use Rattle.std.specs.Prelude.{◌≡◌, ◌+◌, min, if◌then◌else◌};
 ghost use Rattle.raster.specs.Beam.{place_at, place_past};
 ghost use Rattle.raster.specs.State.{first_place};
 
@@ -11,6 +11,9 @@ const MOST_LINES: u16 = 1023;
 
 /// A number of times eight dots that its count does not pass.
 const MOST_EIGHTS: u16 = 512;
+
+/// A number of dots that the beam's place does not pass.
+const MOST_DOTS: u16 = 4095;
 
 #[derive(Drop)]
 pub(crate) struct Place {
@@ -38,6 +41,14 @@ impl Place {
         Place { eights: 0, y: 0 }
     }
 
+    /// The dots since the beginning of horizontal sync, as far as they are counted.
+    #[inline(always)]
+    pub(crate) fn x(&self) -> u16
+        ensures { result ≡ self.now.x }
+    {
+        (8 * self.eights).min(MOST_DOTS)
+    }
+
     /// The beam comes to a character.
     pub(crate) fn meet(&mut self, beam: &Beam)
         ensures { self.new ≡ place_at beam.now self.old }
@@ -49,6 +60,16 @@ impl Place {
         }
         if beam.sync_start {
             self.start_sync();
+        }
+    }
+
+    /// It goes down a line.
+    #[inline(always)]
+    pub(crate) fn fall(&mut self)
+        ensures { self.new ≡ record self.old { y = min (self.old.y + 1) 1023 } }
+    {
+        if self.y < MOST_LINES {
+            self.y += 1;
         }
     }
 

@@ -1,95 +1,39 @@
-//! The raster.
-ghost use Rattle.std.specs.Prelude.{◌≡◌, ◌<◌, ◌%◌, ℕ, List, false, true, length, map, take, IfOk, if◌then◌else◌};
+//! The raster, with a short way for where the beam goes down a line and nothing else changes.
+ghost use Rattle.std.specs.Prelude.{◌≡◌, List, ℕ, true, false, length, IfOk};
 ghost use Rattle.std.specs.Borrow.{sem};
-ghost use Rattle.beeb_bits.specs.Bits.{bit};
-ghost use Rattle.video_ula.specs.Pixels.{dots_of, under_cursor, colours};
-ghost use Rattle.crtc6845.specs.Clock.{starts_line, ends_line};
-ghost use Rattle.crtc6845.specs.Steps.{is_at_rest};
-ghost use Rattle.saa5050.specs.Shapes.{Font};
 ghost use Rattle.raster.specs.Beam.{IsScreenSize};
-ghost use Rattle.raster.specs.Frame.{black};
+ghost use Rattle.saa5050.specs.Shapes.{Font};
 ghost use Rattle.raster.specs.State.{power_on};
 ghost use Rattle.raster.specs.Lending.{LendsCrtc, LendsUla};
-ghost use Rattle.raster.specs.Steps.{eight_of, dots_drawn, cell_drawn_on};
-ghost use Rattle.raster.specs.Clock.{begun, byte_dots, byte_drawn, cell_dots, cell_drawn, drawn, shown, passed, told, char_clocked, microsecond, microseconds, vsync_of};
+ghost use Rattle.raster.specs.Clock.{char_clocked, microsecond, microseconds, vsync_of};
 
-use crate::beam::{Cursor, byte_address};
 use crate::frame::Frame;
-use crate::picture::Picture;
-use crate::place::Place;
-use crate::text::Text;
+use crate::screen::Screen;
 use beeb_bits::{NoMemory, bit};
-use crtc6845::{Beam, Crtc};
+use crtc6845::Crtc;
 use rom_set::RomSet;
 use std::alloc::Global;
 use std::marker::Model;
-use std::mem::swap;
 use video_ula::Ula;
-
-/// Where the frame's left edge is, in dots from the beginning of horizontal sync: without teletext, and in it.
-const LEFT: u16 = 240;
-
-const TEXT_LEFT: u16 = 208;
 
 /// The 6845, the video ULA and the teletext chip, the beam that they lead, and the frames that it draws.
 #[derive(Drop)]
 pub struct Raster {
-    crtc: Crtc,
-    ula: Ula,
-    place: Place,
-    cursor: Cursor,
-    text: Text,
-    working: Picture,
-    finished: Picture,
+    screen: Screen,
+    // It is known to be settled, as that of a 6845 at rest is soon.
+    settled: bool,
 }
 
 impl Model for Raster {
+    ghost use Rattle.std.specs.Prelude.{◌≡◌, true};
     ghost use Rattle.raster.specs.State.{State};
+    ghost use Rattle.raster.specs.Settled.{IsSettled};
 
     ghost Value = { State };
 
-    ghost view = { λ r. record {
-      crtc = r.crtc;
-      ula = r.ula;
-      place = r.place;
-      cursor = r.cursor;
-      text = r.text;
-      working = r.working;
-      finished = r.finished;
-    } };
-}
+    ghost view = { λ r. r.screen };
 
-// The first eight dots of a byte.
-fn first_dots(ula: &Ula, byte: u8, ra: u8, marked: bool) -> [u8; 8]
-    ensures { result ≡ eight_of 0 ula.now byte ra marked }
-{
-    if bit(ra, 3) {
-        [if marked { 7 } else { 0 }; 8]
-    } else {
-        ula.first_eight(byte, marked)
-    }
-}
-
-// The last eight of sixteen.
-fn last_dots(ula: &Ula, byte: u8, ra: u8, marked: bool) -> [u8; 8]
-    ensures { result ≡ eight_of 8 ula.now byte ra marked }
-{
-    if bit(ra, 3) {
-        [if marked { 7 } else { 0 }; 8]
-    } else {
-        ula.last_eight(byte, marked)
-    }
-}
-
-// The colours of a cell, inverted where the cursor marks it.
-#[inline(always)]
-fn mark(dots: &mut [u8; 16], marked: bool)
-    ensures { dots.new ≡ map (under_cursor marked) dots.old }
-{
-    let ink = if marked { 7 } else { 0 };
-    for i in 0..16 {
-        dots[i] ^= ink;
-    }
+    ghost invariant = { λ r. r.settled ≡ true → IsSettled r.screen };
 }
 
 impl Raster {
@@ -100,16 +44,10 @@ impl Raster {
     pub fn make(alloc: Global) -> Result<Raster, NoMemory>
         ensures { IfOk result (λ r. r ≡ power_on) }
     {
-        let working = Picture::make(alloc)?;
-        let finished = Picture::make(alloc)?;
+        let screen = Screen::make(alloc)?;
         Ok(Raster {
-            crtc: Crtc::new(),
-            ula: Ula::new(),
-            place: Place::first(),
-            cursor: Cursor::first(),
-            text: Text::first(),
-            working,
-            finished,
+            screen,
+            settled: false,
         })
     }
 
@@ -118,7 +56,8 @@ impl Raster {
         ensures* lends { sem 𝓛 (LendsCrtc self.entry result) }
         ensures value { result.now ≡ self.old.crtc }
     {
-        &mut self.crtc
+        self.settled = false;
+        &mut self.screen.crtc
     }
 
     /// The video ULA. What the caller leaves there is the new chip, and all else stays.
@@ -126,14 +65,15 @@ impl Raster {
         ensures* lends { sem 𝓛 (LendsUla self.entry result) }
         ensures value { result.now ≡ self.old.ula }
     {
-        &mut self.ula
+        self.settled = false;
+        &mut self.screen.ula
     }
 
     /// The last frame that was finished, a black one at power-on.
     pub fn frame(&self) -> &Frame
         ensures { result.now ≡ self.now.finished }
     {
-        &self.finished.frame
+        self.screen.frame()
     }
 
     /// Vertical sync is on.
@@ -141,7 +81,7 @@ impl Raster {
     pub fn vsync(&self) -> bool
         ensures { result ≡ vsync_of self.now }
     {
-        self.crtc.vsync()
+        self.screen.crtc.vsync()
     }
 
     /// Does one character clock. `ram` has 32,768 bytes, and `size` is that of the screen: 16384, 8192, 20480 or 10240 bytes.
@@ -151,199 +91,14 @@ impl Raster {
         requires size { IsScreenSize size }
         ensures { self.new ≡ char_clocked ram.now size font.now.font self.old }
     {
-        if !self.crtc.is_edge() {
-            self.clock_inside(ram, size, font);
-        } else if self.crtc.is_at_rest() {
-            self.clock_at_rest();
+        if !self.screen.crtc.is_edge() {
+            self.screen.clock_inside(ram, size, font);
+        } else if self.screen.crtc.is_at_rest() {
+            self.settled = self.screen.clock_at_rest();
         } else {
-            self.clock_at_edge(ram, size, font);
+            self.settled = false;
+            self.screen.clock_at_edge(ram, size, font);
         }
-    }
-
-    // A character clock of a 6845 that is at rest.
-    #[inline(never)]
-    fn clock_at_rest(&mut self)
-        requires { is_at_rest self.old.crtc ≡ true }
-        ensures { (ram : List ℕ) (size : ℕ) (font : Font) → self.new ≡ char_clocked ram size font self.old }
-    {
-        let beam = self.crtc.clock_at_rest();
-        self.begin(&beam);
-        self.pass(&beam);
-    }
-
-    // Any character clock.
-    #[inline(never)]
-    fn clock_at_edge(&mut self, ram: &[u8], size: u16, font: &RomSet)
-        requires ram { length ram.now ≡ 32768 }
-        requires size { IsScreenSize size }
-        ensures { self.new ≡ char_clocked ram.now size font.now.font self.old }
-    {
-        let beam = self.crtc.clock();
-        self.begin(&beam);
-        self.show(ram, size, font, &beam);
-        self.pass(&beam);
-    }
-
-    // One inside a line.
-    #[inline(always)]
-    fn clock_inside(&mut self, ram: &[u8], size: u16, font: &RomSet)
-        requires ram { length ram.now ≡ 32768 }
-        requires size { IsScreenSize size }
-        requires inside { (starts_line self.old.crtc ≡ false) × (ends_line self.old.crtc ≡ false) }
-        ensures { self.new ≡ char_clocked ram.now size font.now.font self.old }
-    {
-        let beam = self.crtc.clock_inside();
-        self.tell_inside(ram, size, font, &beam);
-    }
-
-    // The beam goes past a character with which neither a line nor a row nor a frame begins or ends.
-    #[inline(always)]
-    fn tell_inside(&mut self, ram: &[u8], size: u16, font: &RomSet, beam: &Beam)
-        requires ram { length ram.now ≡ 32768 }
-        requires size { IsScreenSize size }
-        requires inside { (beam.now.line_start ≡ false) × (beam.now.frame_end ≡ false) × (beam.now.row_end ≡ false) × (beam.now.restart ≡ false) }
-        ensures { self.new ≡ told ram.now size font.now.font beam.now self.old }
-    {
-        if beam.sync_start {
-            self.place.start_sync();
-        }
-        self.show(ram, size, font, beam);
-        self.place.pass(bit(self.ula.mode(), 4));
-        self.cursor.pass(beam.cursor);
-    }
-
-    // The beam comes to a character.
-    fn begin(&mut self, beam: &Beam)
-        ensures { self.new ≡ begun beam.now self.old }
-    {
-        self.place.meet(beam);
-        self.text.meet(beam);
-        if beam.frame_end {
-            self.finish();
-        }
-    }
-
-    // The working frame becomes the finished one, and a black one is begun.
-    #[inline(never)]
-    fn finish(&mut self)
-        ensures { self.new ≡ record self.old { working = black; finished = self.old.working } }
-    {
-        swap(&mut self.working, &mut self.finished);
-        self.working.clear();
-    }
-
-    // A character that is not shown draws nothing.
-    #[inline(always)]
-    fn show(&mut self, ram: &[u8], size: u16, font: &RomSet, beam: &Beam)
-        requires ram { length ram.now ≡ 32768 }
-        requires size { IsScreenSize size }
-        ensures { self.new ≡ shown ram.now size font.now.font beam.now self.old }
-    {
-        if beam.shown {
-            self.draw(ram, size, font, beam);
-        }
-    }
-
-    // Draws a character that is shown.
-    #[inline(always)]
-    fn draw(&mut self, ram: &[u8], size: u16, font: &RomSet, beam: &Beam)
-        requires ram { length ram.now ≡ 32768 }
-        requires size { IsScreenSize size }
-        ensures { self.new ≡ drawn ram.now size font.now.font beam.now self.old }
-    {
-        let byte = ram[byte_address(beam.ma, beam.ra, size)];
-        if bit(self.ula.mode(), 1) {
-            let marked = self.cursor.is_marked(self.ula.mode(), beam.cursor);
-            self.draw_cell(font, byte % 128, beam.ra, beam.fields, marked);
-        } else {
-            self.draw_byte(beam, byte);
-        }
-    }
-
-    #[inline(always)]
-    fn draw_byte(&mut self, beam: &Beam, byte: u8)
-        ensures { self.new ≡ byte_drawn beam.now byte self.old }
-    {
-        let marked = self.cursor.is_marked(self.ula.mode(), beam.cursor);
-        if marked || bit(beam.ra, 3) || !self.draw_ready(byte) {
-            self.draw_by_itself(byte, beam.ra, marked);
-        }
-    }
-
-    // Draws a byte that the cursor does not mark, if its dots are ready.
-    #[inline(always)]
-    fn draw_ready(&mut self, byte: u8) -> bool
-        ensures { self.new ≡ (if result then dots_drawn (colours self.old.ula byte false) self.old else self.old) }
-    {
-        let Some(first) = self.ula.first_ready(byte) else {
-            return false;
-        };
-        if bit(self.ula.mode(), 4) {
-            self.working.draw_narrow(LEFT, &self.place, first);
-            return true;
-        }
-        let Some(last) = self.ula.last_ready(byte) else {
-            return false;
-        };
-        self.working.draw_wide(LEFT, &self.place, first, last);
-        true
-    }
-
-    // Draws any byte.
-    #[inline(never)]
-    fn draw_by_itself(&mut self, byte: u8, ra: u8, marked: bool)
-        ensures { self.new ≡ dots_drawn (byte_dots self.old.ula byte ra marked) self.old }
-    {
-        self.ula.prepare();
-        let first = first_dots(&self.ula, byte, ra, marked);
-        if bit(self.ula.mode(), 4) {
-            self.working.draw_narrow(LEFT, &self.place, &first);
-        } else {
-            let last = last_dots(&self.ula, byte, ra, marked);
-            self.working.draw_wide(LEFT, &self.place, &first, &last);
-        }
-    }
-
-    #[inline(never)]
-    fn draw_cell(&mut self, font: &RomSet, code: u8, ra: u8, fields: u32, marked: bool)
-        requires { code < 128 }
-        ensures { self.new ≡ cell_drawn_on font.now.font code ra fields marked self.old }
-    {
-        if code < 32 {
-            self.draw_control(font, code, ra, fields, marked);
-        } else {
-            self.draw_code(font, code, ra, fields, marked);
-        }
-    }
-
-    // The cell of a control code, out of the way of the others.
-    #[inline(never)]
-    fn draw_control(&mut self, font: &RomSet, code: u8, ra: u8, fields: u32, marked: bool)
-        requires { code < 128 }
-        ensures { self.new ≡ cell_drawn_on font.now.font code ra fields marked self.old }
-    {
-        self.draw_code(font, code, ra, fields, marked);
-    }
-
-    #[inline(always)]
-    fn draw_code(&mut self, font: &RomSet, code: u8, ra: u8, fields: u32, marked: bool)
-        requires { code < 128 }
-        ensures { self.new ≡ cell_drawn_on font.now.font code ra fields marked self.old }
-    {
-        let mut dots = [0; 16];
-        self.text.put(font, code, ra, fields, &mut dots);
-        mark(&mut dots, marked);
-        self.working
-            .draw(TEXT_LEFT, &self.place, &dots, bit(self.ula.mode(), 4));
-    }
-
-    // The beam leaves the character.
-    fn pass(&mut self, beam: &Beam)
-        ensures { self.new ≡ passed beam.now self.old }
-    {
-        self.place.pass(bit(self.ula.mode(), 4));
-        self.cursor.pass(beam.cursor);
-        self.text.pass(beam);
     }
 
     /// Does one microsecond: two character clocks where the ULA has set the clock of 2 MHz as it begins, else one. `ram` and `size` are as
@@ -354,7 +109,28 @@ impl Raster {
         requires size { IsScreenSize size }
         ensures { self.new ≡ microsecond ram.now size font.now.font self.old }
     {
-        let both = bit(self.ula.mode(), 4);
+        if !self.fall() {
+            self.step_in_full(ram, size, font);
+        }
+    }
+
+    // Does one microsecond by the short way, if it can.
+    #[inline(always)]
+    fn fall(&mut self) -> bool
+        ensures falls { result ≡ true → (ram : List ℕ) (size : ℕ) (font : Font) → self.new ≡ microsecond ram size font self.old }
+        ensures stays { result ≡ false → self.new ≡ self.old }
+    {
+        self.settled && self.screen.fall()
+    }
+
+    // Does one microsecond in any case.
+    #[inline(never)]
+    fn step_in_full(&mut self, ram: &[u8], size: u16, font: &RomSet)
+        requires ram { length ram.now ≡ 32768 }
+        requires size { IsScreenSize size }
+        ensures { self.new ≡ microsecond ram.now size font.now.font self.old }
+    {
+        let both = bit(self.screen.ula.mode(), 4);
         self.char_clock(ram, size, font);
         if both {
             self.char_clock(ram, size, font);

@@ -1,6 +1,6 @@
-use Rattle.raster.specs.contracts.raster.Raster.{the_view}
+use Rattle.raster.specs.contracts.screen.Screen.{the_view}
 use Rattle.raster.proofs.Told.{told_after}
-use Rattle.raster.proofs.raster.Raster.clock_inside.Goals as goal
+use Rattle.raster.proofs.screen.Screen.clock_inside.Goals as goal
 
 pub returns : goal.returns
 returns c =

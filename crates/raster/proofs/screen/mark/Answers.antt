@@ -1,7 +1,7 @@
 use Rattle.std.proofs.Common.{◌∙◌, ap, ℕ, List, arith}
 use Rattle.std.specs.Prelude.{bit_xor, slice_index, slice_set}
 use Rattle.raster.proofs.Marks.{replaced-more}
-use Rattle.raster.proofs.raster.mark.Goals as goal
+use Rattle.raster.proofs.screen.mark.Goals as goal
 
 pub loop-i-preserved : goal.loop-i-preserved
 loop-i-preserved c =

@@ -1,9 +1,9 @@
 use Rattle.std.proofs.Common.{rules, ◌≡◌, ap, sym, false, List, ℕ}
 use Rattle.beeb_bits.specs.Bits.{bit}
 use Rattle.raster.specs.Steps.{dots_drawn}
-use Rattle.raster.specs.contracts.raster.Raster.{the_view}
+use Rattle.raster.specs.contracts.screen.Screen.{the_view}
 use Rattle.raster.proofs.Eights.{sixteen}
-use Rattle.raster.proofs.raster.Raster.draw_by_itself.Goals as goal
+use Rattle.raster.proofs.screen.Screen.draw_by_itself.Goals as goal
 
 pub returns-else-bit : goal.returns-else-bit
 returns-else-bit c =

@@ -1,9 +1,9 @@
 use Rattle.std.proofs.Common.{rules, ◌≡◌, ap, sym, false, List, ℕ}
 use Rattle.beeb_bits.specs.Bits.{bit}
 use Rattle.raster.specs.Steps.{dots_drawn}
-use Rattle.raster.specs.contracts.raster.Raster.{the_view}
+use Rattle.raster.specs.contracts.screen.Screen.{the_view}
 use Rattle.raster.proofs.Eights.{both}
-use Rattle.raster.proofs.raster.Raster.draw_ready.Goals as goal
+use Rattle.raster.proofs.screen.Screen.draw_ready.Goals as goal
 
 pub returns : goal.returns
 returns c =

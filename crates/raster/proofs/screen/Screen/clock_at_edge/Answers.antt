@@ -1,8 +1,8 @@
 use Rattle.std.proofs.Common.{◌∙◌, ap}
 use Rattle.raster.specs.Clock.{shown, passed}
-use Rattle.raster.specs.contracts.raster.Raster.{the_view}
+use Rattle.raster.specs.contracts.screen.Screen.{the_view}
 use Rattle.raster.proofs.Told.{told_after}
-use Rattle.raster.proofs.raster.Raster.clock_at_edge.Goals as goal
+use Rattle.raster.proofs.screen.Screen.clock_at_edge.Goals as goal
 
 pub returns : goal.returns
 returns c =

@@ -1,9 +1,9 @@
 use Rattle.std.proofs.Common.{rules, ◌≡◌, ◌∙◌, ap, true, ℕ}
 use Rattle.beeb_bits.specs.Bits.{bit}
 use Rattle.raster.specs.Beam.{is_marked}
-use Rattle.raster.specs.contracts.raster.Raster.{the_view}
+use Rattle.raster.specs.contracts.screen.Screen.{the_view}
 use Rattle.raster.proofs.Told.{drawn_cell}
-use Rattle.raster.proofs.raster.Raster.draw.Goals as goal
+use Rattle.raster.proofs.screen.Screen.draw.Goals as goal
 
 pub returns-then-bit : goal.returns-then-bit
 returns-then-bit c =

@@ -1,0 +1,335 @@
+//! The picture's chips, and the beam over their frames.
+ghost use Rattle.std.specs.Prelude.{◌≡◌, ◌<◌, ◌%◌, ℕ, List, false, true, length, map, take, IfOk, if◌then◌else◌};
+ghost use Rattle.beeb_bits.specs.Bits.{bit};
+ghost use Rattle.video_ula.specs.Pixels.{dots_of, under_cursor, colours};
+ghost use Rattle.crtc6845.specs.Clock.{starts_line, ends_line};
+ghost use Rattle.crtc6845.specs.Steps.{is_at_rest};
+ghost use Rattle.saa5050.specs.Shapes.{Font};
+ghost use Rattle.raster.specs.Beam.{IsScreenSize};
+ghost use Rattle.raster.specs.Frame.{black};
+ghost use Rattle.raster.specs.State.{power_on, first_cursor};
+ghost use Rattle.raster.specs.Settled.{IsSettled};
+ghost use Rattle.raster.specs.Steps.{eight_of, dots_drawn, cell_drawn_on};
+ghost use Rattle.raster.specs.Clock.{begun, byte_dots, byte_drawn, cell_dots, cell_drawn, drawn, shown, passed, told, char_clocked, microsecond};
+
+use crate::beam::{Cursor, byte_address};
+use crate::frame::Frame;
+use crate::picture::Picture;
+use crate::place::Place;
+use crate::text::Text;
+use beeb_bits::{NoMemory, bit};
+use crtc6845::{Beam, Crtc};
+use rom_set::RomSet;
+use std::alloc::Global;
+use std::marker::Model;
+use std::mem::swap;
+use video_ula::Ula;
+
+/// Where the frame's left edge is, in dots from the beginning of horizontal sync: without teletext, and in it.
+const LEFT: u16 = 240;
+
+const TEXT_LEFT: u16 = 208;
+
+/// The chips, the beam and the frames of a raster.
+#[derive(Drop)]
+pub(crate) struct Screen {
+    pub(crate) crtc: Crtc,
+    pub(crate) ula: Ula,
+    place: Place,
+    cursor: Cursor,
+    text: Text,
+    working: Picture,
+    finished: Picture,
+}
+
+impl Model for Screen {
+    ghost use Rattle.raster.specs.State.{State};
+
+    ghost Value = { State };
+
+    ghost view = { λ s. record {
+      crtc = s.crtc;
+      ula = s.ula;
+      place = s.place;
+      cursor = s.cursor;
+      text = s.text;
+      working = s.working;
+      finished = s.finished;
+    } };
+}
+
+// The first eight dots of a byte.
+fn first_dots(ula: &Ula, byte: u8, ra: u8, marked: bool) -> [u8; 8]
+    ensures { result ≡ eight_of 0 ula.now byte ra marked }
+{
+    if bit(ra, 3) {
+        [if marked { 7 } else { 0 }; 8]
+    } else {
+        ula.first_eight(byte, marked)
+    }
+}
+
+// The last eight of sixteen.
+fn last_dots(ula: &Ula, byte: u8, ra: u8, marked: bool) -> [u8; 8]
+    ensures { result ≡ eight_of 8 ula.now byte ra marked }
+{
+    if bit(ra, 3) {
+        [if marked { 7 } else { 0 }; 8]
+    } else {
+        ula.last_eight(byte, marked)
+    }
+}
+
+// The colours of a cell, inverted where the cursor marks it.
+#[inline(always)]
+fn mark(dots: &mut [u8; 16], marked: bool)
+    ensures { dots.new ≡ map (under_cursor marked) dots.old }
+{
+    let ink = if marked { 7 } else { 0 };
+    for i in 0..16 {
+        dots[i] ^= ink;
+    }
+}
+
+impl Screen {
+    /// Both chips at power-on, with two black frames.
+    ///
+    /// # Errors
+    /// Want of memory. No other call takes any.
+    pub(crate) fn make(alloc: Global) -> Result<Screen, NoMemory>
+        ensures { IfOk result (λ s. s ≡ power_on) }
+    {
+        let working = Picture::make(alloc)?;
+        let finished = Picture::make(alloc)?;
+        Ok(Screen {
+            crtc: Crtc::new(),
+            ula: Ula::new(),
+            place: Place::first(),
+            cursor: Cursor::first(),
+            text: Text::first(),
+            working,
+            finished,
+        })
+    }
+
+    /// The last frame that was finished.
+    pub(crate) fn frame(&self) -> &Frame
+        ensures { result.now ≡ self.now.finished }
+    {
+        &self.finished.frame
+    }
+
+    /// Does the microsecond of a settled screen, if no frame ends in it: the beam goes down a line, and no more.
+    #[inline(always)]
+    pub(crate) fn fall(&mut self) -> bool
+        requires { IsSettled self.old }
+        ensures falls { result ≡ true → (ram : List ℕ) (size : ℕ) (font : Font) → self.new ≡ microsecond ram size font self.old }
+        ensures stays { result ≡ false → self.new ≡ self.old }
+        ensures settled { IsSettled self.new }
+    {
+        if self.crtc.clock_within_sync() {
+            self.place.fall();
+            return true;
+        }
+        false
+    }
+
+    /// Does one character clock of a 6845 that is at rest. It tells whether the screen is settled then.
+    #[inline(never)]
+    pub(crate) fn clock_at_rest(&mut self) -> bool
+        requires { is_at_rest self.old.crtc ≡ true }
+        ensures state { (ram : List ℕ) (size : ℕ) (font : Font) → self.new ≡ char_clocked ram size font self.old }
+        ensures settled { result ≡ true → IsSettled self.new }
+    {
+        let before = self.place.x();
+        let beam = self.crtc.clock_at_rest();
+        self.begin(&beam);
+        self.pass(&beam);
+        self.stays_at(before)
+    }
+
+    // The beam is at `x` again, and no cursor and no second character clock makes a difference.
+    #[inline(always)]
+    fn stays_at(&self, x: u16) -> bool
+        ensures back { result ≡ true → self.now.place.x ≡ x }
+        ensures far { result ≡ true → self.now.cursor ≡ first_cursor }
+        ensures clock { result ≡ true → bit self.now.ula.control 4 ≡ false }
+    {
+        self.place.x() == x && self.cursor.is_clear() && !bit(self.ula.mode(), 4)
+    }
+
+    /// Does any character clock.
+    #[inline(never)]
+    pub(crate) fn clock_at_edge(&mut self, ram: &[u8], size: u16, font: &RomSet)
+        requires ram { length ram.now ≡ 32768 }
+        requires size { IsScreenSize size }
+        ensures { self.new ≡ char_clocked ram.now size font.now.font self.old }
+    {
+        let beam = self.crtc.clock();
+        self.begin(&beam);
+        self.show(ram, size, font, &beam);
+        self.pass(&beam);
+    }
+
+    /// Does one inside a line.
+    #[inline(always)]
+    pub(crate) fn clock_inside(&mut self, ram: &[u8], size: u16, font: &RomSet)
+        requires ram { length ram.now ≡ 32768 }
+        requires size { IsScreenSize size }
+        requires inside { (starts_line self.old.crtc ≡ false) × (ends_line self.old.crtc ≡ false) }
+        ensures { self.new ≡ char_clocked ram.now size font.now.font self.old }
+    {
+        let beam = self.crtc.clock_inside();
+        self.tell_inside(ram, size, font, &beam);
+    }
+
+    // The beam goes past a character with which neither a line nor a row nor a frame begins or ends.
+    #[inline(always)]
+    fn tell_inside(&mut self, ram: &[u8], size: u16, font: &RomSet, beam: &Beam)
+        requires ram { length ram.now ≡ 32768 }
+        requires size { IsScreenSize size }
+        requires inside { (beam.now.line_start ≡ false) × (beam.now.frame_end ≡ false) × (beam.now.row_end ≡ false) × (beam.now.restart ≡ false) }
+        ensures { self.new ≡ told ram.now size font.now.font beam.now self.old }
+    {
+        if beam.sync_start {
+            self.place.start_sync();
+        }
+        self.show(ram, size, font, beam);
+        self.place.pass(bit(self.ula.mode(), 4));
+        self.cursor.pass(beam.cursor);
+    }
+
+    // The beam comes to a character.
+    fn begin(&mut self, beam: &Beam)
+        ensures { self.new ≡ begun beam.now self.old }
+    {
+        self.place.meet(beam);
+        self.text.meet(beam);
+        if beam.frame_end {
+            self.finish();
+        }
+    }
+
+    // The working frame becomes the finished one, and a black one is begun.
+    #[inline(never)]
+    fn finish(&mut self)
+        ensures { self.new ≡ record self.old { working = black; finished = self.old.working } }
+    {
+        swap(&mut self.working, &mut self.finished);
+        self.working.clear();
+    }
+
+    // A character that is not shown draws nothing.
+    #[inline(always)]
+    fn show(&mut self, ram: &[u8], size: u16, font: &RomSet, beam: &Beam)
+        requires ram { length ram.now ≡ 32768 }
+        requires size { IsScreenSize size }
+        ensures { self.new ≡ shown ram.now size font.now.font beam.now self.old }
+    {
+        if beam.shown {
+            self.draw(ram, size, font, beam);
+        }
+    }
+
+    // Draws a character that is shown.
+    #[inline(always)]
+    fn draw(&mut self, ram: &[u8], size: u16, font: &RomSet, beam: &Beam)
+        requires ram { length ram.now ≡ 32768 }
+        requires size { IsScreenSize size }
+        ensures { self.new ≡ drawn ram.now size font.now.font beam.now self.old }
+    {
+        let byte = ram[byte_address(beam.ma, beam.ra, size)];
+        if bit(self.ula.mode(), 1) {
+            let marked = self.cursor.is_marked(self.ula.mode(), beam.cursor);
+            self.draw_cell(font, byte % 128, beam.ra, beam.fields, marked);
+        } else {
+            self.draw_byte(beam, byte);
+        }
+    }
+
+    #[inline(always)]
+    fn draw_byte(&mut self, beam: &Beam, byte: u8)
+        ensures { self.new ≡ byte_drawn beam.now byte self.old }
+    {
+        let marked = self.cursor.is_marked(self.ula.mode(), beam.cursor);
+        if marked || bit(beam.ra, 3) || !self.draw_ready(byte) {
+            self.draw_by_itself(byte, beam.ra, marked);
+        }
+    }
+
+    // Draws a byte that the cursor does not mark, if its dots are ready.
+    #[inline(always)]
+    fn draw_ready(&mut self, byte: u8) -> bool
+        ensures { self.new ≡ (if result then dots_drawn (colours self.old.ula byte false) self.old else self.old) }
+    {
+        let Some(first) = self.ula.first_ready(byte) else {
+            return false;
+        };
+        if bit(self.ula.mode(), 4) {
+            self.working.draw_narrow(LEFT, &self.place, first);
+            return true;
+        }
+        let Some(last) = self.ula.last_ready(byte) else {
+            return false;
+        };
+        self.working.draw_wide(LEFT, &self.place, first, last);
+        true
+    }
+
+    // Draws any byte.
+    #[inline(never)]
+    fn draw_by_itself(&mut self, byte: u8, ra: u8, marked: bool)
+        ensures { self.new ≡ dots_drawn (byte_dots self.old.ula byte ra marked) self.old }
+    {
+        self.ula.prepare();
+        let first = first_dots(&self.ula, byte, ra, marked);
+        if bit(self.ula.mode(), 4) {
+            self.working.draw_narrow(LEFT, &self.place, &first);
+        } else {
+            let last = last_dots(&self.ula, byte, ra, marked);
+            self.working.draw_wide(LEFT, &self.place, &first, &last);
+        }
+    }
+
+    #[inline(never)]
+    fn draw_cell(&mut self, font: &RomSet, code: u8, ra: u8, fields: u32, marked: bool)
+        requires { code < 128 }
+        ensures { self.new ≡ cell_drawn_on font.now.font code ra fields marked self.old }
+    {
+        if code < 32 {
+            self.draw_control(font, code, ra, fields, marked);
+        } else {
+            self.draw_code(font, code, ra, fields, marked);
+        }
+    }
+
+    // The cell of a control code, out of the way of the others.
+    #[inline(never)]
+    fn draw_control(&mut self, font: &RomSet, code: u8, ra: u8, fields: u32, marked: bool)
+        requires { code < 128 }
+        ensures { self.new ≡ cell_drawn_on font.now.font code ra fields marked self.old }
+    {
+        self.draw_code(font, code, ra, fields, marked);
+    }
+
+    #[inline(always)]
+    fn draw_code(&mut self, font: &RomSet, code: u8, ra: u8, fields: u32, marked: bool)
+        requires { code < 128 }
+        ensures { self.new ≡ cell_drawn_on font.now.font code ra fields marked self.old }
+    {
+        let mut dots = [0; 16];
+        self.text.put(font, code, ra, fields, &mut dots);
+        mark(&mut dots, marked);
+        self.working
+            .draw(TEXT_LEFT, &self.place, &dots, bit(self.ula.mode(), 4));
+    }
+
+    // The beam leaves the character.
+    fn pass(&mut self, beam: &Beam)
+        ensures { self.new ≡ passed beam.now self.old }
+    {
+        self.place.pass(bit(self.ula.mode(), 4));
+        self.cursor.pass(beam.cursor);
+        self.text.pass(beam);
+    }
+}
