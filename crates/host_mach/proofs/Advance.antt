@@ -1,5 +1,5 @@
 -- Steps that the machine has done.
-use Rattle.std.proofs.Common.{◌≡◌, ◌∙◌, refl, sym, ap, subst, ℕ, suc, ◌+◌, ◌<◌, ◌↔◌, [], Bool, true, false, IsTrue, Option, Some, None, is_none, IsNone, if◌then◌else◌}
+use Rattle.std.proofs.Common.{◌≡◌, ◌∙◌, refl, sym, ap, subst, ℕ, suc, ◌+◌, ◌<◌, ◌↔◌, [], Bool, true, false, IsTrue, Option, Some, None, is_none, IsNone, IsSome, if◌then◌else◌}
 use Rattle.beeb_bits.specs.declared.Side.TheVariants.{Host}
 use Rattle.cpu_alu.specs.declared.Cycle.{Cycle}
 use Rattle.cpu6502.specs.Sequences.{next}
@@ -8,7 +8,7 @@ use Rattle.tube_party.specs.Moves.{Runs, Advances}
 use Rattle.tube_party.specs.declared.party.Ask.TheVariants.{Access}
 use Rattle.tube_party.specs.Steps.{runs_more}
 use Rattle.host_mach.specs.State.{HostState}
-use Rattle.host_mach.specs.Step.{host_moves}
+use Rattle.host_mach.specs.Step.{host_moves, host_closed}
 use Rattle.host_mach.specs.Lawful.{host_lawful}
 use Rattle.host_mach.specs.Told.{IsDone, IsQuick}
 
@@ -41,9 +41,18 @@ next-in None false at over = let no : IsTrue false = over.1 refl in cc
 next-in (Some c) true at over = let no : IsNone (Some c) = over.0 refl in cc
 next-in (Some c) false at over = refl
 
--- a quick step with its ticks
-pub ticked : (old new : HostState) (last : Bool) → IsQuick old true new → new.due ≡ old.due → (IsTrue last ↔ IsNone (next new.cpu)) → IsDone old None (record new { due = new.due + (if last then 2 else 3) })
+-- where the sequence is not over, it goes on
+pub goes-on : (o : Option Cycle) (last : Bool) → (IsTrue last ↔ IsNone o) → last ≡ false → IsSome o
+goes-on None true over is = cc
+goes-on None false over is = let no : IsTrue false = over.1 refl in cc
+goes-on (Some c) last over is = refl
+
+-- a quick step with its ticks, and closed
+pub ticked : (old new : HostState) (last : Bool) → IsQuick old true new → new.due ≡ old.due → (IsTrue last ↔ IsNone (next new.cpu)) →
+    IsDone old None (record (host_closed new (new.due + 1)) { due = new.due + (if last then 2 else 3) })
 ticked old new last done at over = (
   done.0,
-  ap (λ (n : ℕ). record new { due = n }) (next-in (next new.cpu) last new.due over ∙ ap (λ (n : ℕ). if is_none (next new.cpu) then n + 2 else n + 3) at) ∙ done.1,
+  ap (λ (n : ℕ). record (host_closed new (new.due + 1)) { due = n }) (next-in (next new.cpu) last new.due over ∙ ap (λ (n : ℕ). if is_none (next new.cpu) then n + 2 else n + 3) at)
+      ∙ ap (λ (n : ℕ). record (host_closed new (n + 1)) { due = (if is_none (next new.cpu) then old.due + 2 else old.due + 3) }) at
+      ∙ done.1,
 )

@@ -1,11 +1,11 @@
 //! The machine.
 ghost use Rattle.std.specs.Prelude.{◌≡◌, ◌≤◌, ◌<◌, ◌+◌, ◌^◌, IfOk, IsSome, None, Some, MatchOption, false, map};
-ghost use Rattle.host_bus.specs.Bus.{bus_disc};
+ghost use Rattle.host_bus.specs.Bus.{bus_disc, closed_at};
 ghost use Rattle.tube_chip.specs.declared.Answer.TheVariants.{Byte, Seen};
 ghost use Rattle.tube_party.specs.Moves.{IsAsk, shut};
 ghost use Rattle.cpu6502.specs.Sequences.{next, halted};
 ghost use Rattle.host_mach.specs.State.{power_on};
-ghost use Rattle.host_mach.specs.Step.{host_moves, next_state};
+ghost use Rattle.host_mach.specs.Step.{host_moves, host_closed, next_state};
 
 use crate::exchange::{exchange, exchange_memory};
 use beeb_bits::{Crosses, NoMemory, Tick};
@@ -104,7 +104,7 @@ impl<D: BusDevice> HostMachine<D> {
         self.bus.plugs()
     }
 
-    // An access of the memory, without its ticks, if that is the next step.
+    // An access of the memory, without its ticks, if that is the next step. A read leaves the device steps before it for later.
     #[inline(always)]
     fn quick(&mut self) -> bool
         requires room { self.old.due < 2 ^ 40 }
@@ -120,6 +120,17 @@ impl<D: BusDevice> HostMachine<D> {
             }
             None => false,
         }
+    }
+
+    // Does the device steps below `owed`, which reads of the memory left for later.
+    #[inline(always)]
+    fn catch_up(&mut self, owed: u64)
+        requires low { closed_at (host_seen D.plug self.old).bus ≤ owed }
+        requires high { owed ≤ self.old.due + 1 }
+        requires room { self.old.due < 2 ^ 40 }
+        ensures { host_seen D.plug self.new ≡ host_closed (host_seen D.plug self.old) owed }
+    {
+        self.bus.close(owed);
     }
 
     // Any access of the next step, if it asks nothing; else what it asks. Kept out of the loop, whose frame has no room for it.
@@ -233,17 +244,23 @@ impl<D: BusDevice> Party for HostMachine<D> {
         if self.cpu.last() {
             return self.look(until);
         }
+        // Reads of the memory leave device steps for later. Those below this tick come before anything that can tell.
+        let mut owed = self.bus.closed();
         while self.due < until.0 {
             if self.quick() {
+                owed = self.due + 1;
                 if self.cpu.last() {
+                    self.catch_up(owed);
                     self.due += 2;
                     return self.look(until);
                 }
                 self.due += 3;
             } else {
                 if let Some(op) = self.access() {
+                    self.catch_up(owed);
                     return Ask::Access(Tick(self.due), op);
                 }
+                owed = self.bus.closed();
                 if self.cpu.last() {
                     return self.look(until);
                 }
