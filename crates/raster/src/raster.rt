@@ -1,8 +1,7 @@
 //! The raster, with a short way for where the beam goes down a line and nothing else changes.
-ghost use Rattle.std.specs.Prelude.{◌≡◌, List, ℕ, true, false, length, IfOk};
+ghost use Rattle.std.specs.Prelude.{◌≡◌, length, IfOk};
 ghost use Rattle.std.specs.Borrow.{sem};
 ghost use Rattle.raster.specs.Beam.{IsScreenSize};
-ghost use Rattle.saa5050.specs.Shapes.{Font};
 ghost use Rattle.raster.specs.State.{power_on};
 ghost use Rattle.raster.specs.Lending.{LendsCrtc, LendsUla};
 ghost use Rattle.raster.specs.Clock.{char_clocked, microsecond, microseconds, vsync_of};
@@ -109,22 +108,16 @@ impl Raster {
         requires size { IsScreenSize size }
         ensures { self.new ≡ microsecond ram.now size font.now.font self.old }
     {
-        if !self.fall() {
+        if self.settled && self.screen.crtc.clock_within_sync() {
+            // Nothing else goes on then.
+            self.screen.place.fall();
+        } else {
             self.step_in_full(ram, size, font);
         }
     }
 
-    // Does one microsecond by the short way, if it can.
+    // Does any microsecond.
     #[inline(always)]
-    fn fall(&mut self) -> bool
-        ensures falls { result ≡ true → (ram : List ℕ) (size : ℕ) (font : Font) → self.new ≡ microsecond ram size font self.old }
-        ensures stays { result ≡ false → self.new ≡ self.old }
-    {
-        self.settled && self.screen.fall()
-    }
-
-    // Does one microsecond in any case.
-    #[inline(never)]
     fn step_in_full(&mut self, ram: &[u8], size: u16, font: &RomSet)
         requires ram { length ram.now ≡ 32768 }
         requires size { IsScreenSize size }

@@ -10,7 +10,7 @@ ghost use Rattle.raster.specs.Frame.{black};
 ghost use Rattle.raster.specs.State.{power_on, first_cursor};
 ghost use Rattle.raster.specs.Settled.{IsSettled};
 ghost use Rattle.raster.specs.Steps.{eight_of, dots_drawn, cell_drawn_on};
-ghost use Rattle.raster.specs.Clock.{begun, byte_dots, byte_drawn, cell_dots, cell_drawn, drawn, shown, passed, told, char_clocked, microsecond};
+ghost use Rattle.raster.specs.Clock.{begun, byte_dots, byte_drawn, cell_dots, cell_drawn, drawn, shown, passed, told, char_clocked};
 
 use crate::beam::{Cursor, byte_address};
 use crate::frame::Frame;
@@ -35,7 +35,7 @@ const TEXT_LEFT: u16 = 208;
 pub(crate) struct Screen {
     pub(crate) crtc: Crtc,
     pub(crate) ula: Ula,
-    place: Place,
+    pub(crate) place: Place,
     cursor: Cursor,
     text: Text,
     working: Picture,
@@ -117,21 +117,6 @@ impl Screen {
         ensures { result.now ≡ self.now.finished }
     {
         &self.finished.frame
-    }
-
-    /// Does the microsecond of a settled screen, if no frame ends in it: the beam goes down a line, and no more.
-    #[inline(always)]
-    pub(crate) fn fall(&mut self) -> bool
-        requires { IsSettled self.old }
-        ensures falls { result ≡ true → (ram : List ℕ) (size : ℕ) (font : Font) → self.new ≡ microsecond ram size font self.old }
-        ensures stays { result ≡ false → self.new ≡ self.old }
-        ensures settled { IsSettled self.new }
-    {
-        if self.crtc.clock_within_sync() {
-            self.place.fall();
-            return true;
-        }
-        false
     }
 
     /// Does one character clock of a 6845 that is at rest. It tells whether the screen is settled then.
