@@ -1,24 +1,26 @@
 -- The loop over both parties.
-use Rattle.std.proofs.Common.{ℕ, zero, suc, ◌≡◌, ◌+◌, ◌<◌, ◌≤◌, refl, sym, ◌∙◌, ap, subst, arith, List, [], ◌∷◌, ◌++◌, length, take, Option, None, Some}
-use Rattle.tube_chip.specs.State.{State, power_on}
-use Rattle.tube_chip.specs.Act.{Query, act}
+use Rattle.std.proofs.Common.{ℕ, zero, suc, ◌≡◌, ◌+◌, ◌<◌, ◌≤◌, refl, sym, ◌∙◌, ap, subst, arith, List, [], ◌∷◌, ◌++◌, length, take, Option, None, Some, MatchOption}
+use Rattle.tube_chip.specs.State.{State, power_on, lines_of}
+use Rattle.tube_chip.specs.declared.Lines.{Lines}
+use Rattle.tube_chip.specs.Act.{Query, look, act}
 use Rattle.tube_chip.specs.Events.{Event}
 use Rattle.tube_chip.specs.declared.Answer.{Answer}
+use Rattle.tube_chip.specs.declared.Answer.TheVariants.{Seen}
 use Rattle.tube_trace.specs.declared.Entry.{Entry}
 use Rattle.beeb_bits.specs.declared.Side.{Side}
 use Rattle.beeb_bits.specs.declared.Side.TheVariants.{Host, Para}
 use Rattle.tube_party.specs.declared.party.Ask.{Ask}
 use Rattle.tube_party.specs.declared.party.Ask.TheVariants.{Nothing, Access, Look}
-use Rattle.tube_party.specs.Moves.{Moves, IsLawful, IsAsk, Advances, Runs, shut}
+use Rattle.tube_party.specs.Moves.{Moves, IsLawful, IsAsk, Advances, Looks, Runs, shut}
 use Rattle.tube_party.specs.Reference.{World, ticks, start, reference, stepped, with_host}
 use Rattle.tube_trace.specs.Entries.{entry_of}
 use Rattle.tube_party.specs.Played.{IsKept, IsPlayed}
-use Rattle.tube_party.specs.Turn.{IsPending, Turns, first_of, left, noted_all}
+use Rattle.tube_party.specs.Turn.{IsPending, Turns, first_of, left, noted_all, sure_by}
 use Rattle.tube_party.proofs.Ticks.{world, host_done, rest, host_next, host_silent, para_next, para_silent}
 use Rattle.tube_party.proofs.Runs.{event, First, Over, Silent, Asking, first_of_runs}
 use Rattle.tube_party.proofs.Kept.{kept_own, kept_host_by_para, kept_para_by_host, at_most_one}
 use Rattle.tube_party.proofs.UnderWay.{IsUnderWay}
-use Rattle.tube_party.proofs.ReplayLemmas.{due_rises}
+use Rattle.tube_party.proofs.Seeing.{due_rises}
 use Rattle.tube_party.proofs.First.{HostFirst, ParaFirst, host_first, para_first, none_left}
 
 -- a party after its step that asked, and then after those that ask nothing
@@ -37,14 +39,14 @@ left_of_ask r n last s Nothing d h lt up = omega arith
 left_of_ask r n last s (Access t op) d h lt up = omega (arith, h.0, h.1)
 left_of_ask r n last s (Look t) d h lt up = omega (arith, h.0, h.1)
 
-pub turn_smaller : {S : Type 0} (r : Moves S) → IsLawful r → (side : Side) (n keep : ℕ) (s : S) (c : State) (list : List Entry) (count : ℕ) (s2 : S) (c2 : State) (list2 : List Entry) (count2 : ℕ) (ask ask2 : Ask)
-    → IsPending r n s ask → Turns r side n keep s c list count s2 c2 list2 count2 ask2 → left n ask2 < left n ask
-turn_smaller r lr side n keep s c list count s2 c2 list2 count2 ask ask2 pending t =
+pub turn_smaller : {S : Type 0} (r : Moves S) → IsLawful r → (side : Side) (n keep sure : ℕ) (s : S) (c : State) (list : List Entry) (count : ℕ) (s2 : S) (c2 : State) (list2 : List Entry) (count2 : ℕ) (ask ask2 : Ask)
+    → IsPending r n s ask → Turns r side n keep sure s c list count s2 c2 list2 count2 ask2 → left n ask2 < left n ask
+turn_smaller r lr side n keep sure s c list count s2 c2 list2 count2 ask ask2 pending t =
     let a : Answer = (act c side t.query).1 in
     let up : r.due s < r.due (r.next s (Some a)) = lr.rises s (Some a) in
-    let on : r.due (r.next s (Some a)) ≤ r.due t.advances.last = due_rises r n t.advances.steps (r.next s (Some a)) t.advances.last lr t.advances.runs in
+    let on : r.due (r.next s (Some a)) ≤ r.due t.sees.last = due_rises r n (lines_of c2) sure t.sees.steps (r.next s (Some a)) t.sees.last lr t.sees.looks in
     let low : r.due s < n = due_of_pending r n s ask pending in
-    omega (arith, tick_of_pending r n s ask pending, left_of_ask r n t.advances.last s2 ask2 (r.due s) t.advances.asked low (omega arith))
+    omega (arith, tick_of_pending r n s ask pending, left_of_ask r n t.sees.last s2 ask2 (r.due s) t.sees.asked low (omega arith))
 
 nothing_taken : (keep : ℕ) → take keep (let e : List Entry = [] in e) ≡ []
 nothing_taken zero = refl
@@ -104,33 +106,142 @@ module _ {S T : Type 0} (h : Moves S) (p : Moves T) (lh : IsLawful h) (lp : IsLa
         para_few = omega (arith, ep.1);
       }
 
+  -- what the reference has done once a party's looks saw their lines, and that all is kept
+  record HostSaw (keep : ℕ) (u last : S) (t : T) (c : State) (l : List Event) (hl pl : List Entry) (hc pc : ℕ) : Type 0 where
+    events : List Event
+    same : ticks h p n 0 (world u t c l) ≡ ticks h p n 0 (world last t c events)
+    host_kept : IsKept Host events keep hl hc
+    para_kept : IsKept Para events keep pl pc
+
+  record ParaSaw (keep : ℕ) (s : S) (u last : T) (c : State) (l : List Event) (hl pl : List Entry) (hc pc : ℕ) : Type 0 where
+    events : List Event
+    same : ticks h p n 0 (world s u c l) ≡ ticks h p n 0 (world s last c events)
+    host_kept : IsKept Host events keep hl hc
+    para_kept : IsKept Para events keep pl pc
+
+  -- the host's looks come up to the parasite's next step, or below n where that is past it
+  host_saw_by : (keep sure k : ℕ) (u last : S) (t : T) (c : State) (l : List Event) (hl pl : List Entry) (hc pc : ℕ)
+      → ((x : ℕ) → x < n → x < sure → x ≤ p.due t) → h.due u < n → (o : Option Query) → h.asks u ≡ o
+      → ((v : S) (k2 : List Event) → Looks h n (lines_of c) sure k v last → IsKept Host k2 keep hl hc → IsKept Para k2 keep pl pc → HostSaw keep v last t c k2 hl pl hc pc)
+      → MatchOption o (Looks h n (lines_of c) sure k (h.next u None) last) (λ q. (q ≡ look) × (h.due u < sure) × Looks h n (lines_of c) sure k (h.next u (Some (Seen (lines_of c)))) last)
+      → IsKept Host l keep hl hc → IsKept Para l keep pl pc
+      → HostSaw keep u last t c l hl pl hc pc
+  host_saw_by keep sure k u last t c l hl pl hc pc first low None is on looks kh kp =
+      let rest : HostSaw keep (h.next u None) last t c l hl pl hc pc = on (h.next u None) l looks kh kp in
+      record {
+        events = rest.events;
+        same = host_silent h p lh lp n 0 u t c l (omega arith) (omega arith) is ∙ rest.same;
+        host_kept = rest.host_kept;
+        para_kept = rest.para_kept;
+      }
+  host_saw_by keep sure k u last t c l hl pl hc pc first low (Some q) is on looks kh kp =
+      let a : Answer = Seen (lines_of c) in
+      let more : List Event = l ++ event (h.due u) Host look a ∷ [] in
+      let asks : h.asks u ≡ Some look = is ∙ ap (λ (x : Query). Some x) looks.0 in
+      let kept : IsKept Host more keep hl hc = moved_kept Host more keep hl hl hc (hc + 0) refl (omega arith) (kept_own Host l keep hl hc (h.due u) look a kh) in
+      let rest : HostSaw keep (h.next u (Some a)) last t c more hl pl hc pc =
+      on (h.next u (Some a)) more looks.2 kept (kept_para_by_host l keep pl pc (h.due u) look a kp) in
+      record {
+        events = rest.events;
+        same =
+            host_next h p lh lp n 0 u t c l (omega arith) (omega arith) (first (h.due u) low looks.1)
+            ∙ ap (λ (o : Option Query). ticks h p n 0 (host_done (stepped h Host (record { state = u; chip = c; list = l }) o) t)) asks
+            ∙ rest.same;
+        host_kept = rest.host_kept;
+        para_kept = rest.para_kept;
+      }
+
+  host_saw : (keep sure k : ℕ) (u last : S) (t : T) (c : State) (l : List Event) (hl pl : List Entry) (hc pc : ℕ)
+      → ((x : ℕ) → x < n → x < sure → x ≤ p.due t) → Looks h n (lines_of c) sure k u last → IsKept Host l keep hl hc → IsKept Para l keep pl pc
+      → HostSaw keep u last t c l hl pl hc pc
+  host_saw keep sure zero u last t c l hl pl hc pc first looks kh kp =
+      record { events = l; same = ap (λ (x : S). ticks h p n 0 (world x t c l)) looks; host_kept = kh; para_kept = kp }
+  host_saw keep sure (suc k) u last t c l hl pl hc pc first looks kh kp = host_saw_by keep sure k u last t c l hl pl hc pc first looks.0 (h.asks u) refl
+      (λ v more on a b. host_saw keep sure k v last t c more hl pl hc pc first on a b) looks.1 kh kp
+
+  -- the parasite's looks come before the host's next step, or below n where that is past it
+  para_saw_by : (keep sure k : ℕ) (s : S) (u last : T) (c : State) (l : List Event) (hl pl : List Entry) (hc pc : ℕ)
+      → ((x : ℕ) → x < n → x < sure → x < h.due s) → p.due u < n → (o : Option Query) → p.asks u ≡ o
+      → ((v : T) (k2 : List Event) → Looks p n (lines_of c) sure k v last → IsKept Host k2 keep hl hc → IsKept Para k2 keep pl pc → ParaSaw keep s v last c k2 hl pl hc pc)
+      → MatchOption o (Looks p n (lines_of c) sure k (p.next u None) last) (λ q. (q ≡ look) × (p.due u < sure) × Looks p n (lines_of c) sure k (p.next u (Some (Seen (lines_of c)))) last)
+      → IsKept Host l keep hl hc → IsKept Para l keep pl pc
+      → ParaSaw keep s u last c l hl pl hc pc
+  para_saw_by keep sure k s u last c l hl pl hc pc first low None is on looks kh kp =
+      let rest : ParaSaw keep s (p.next u None) last c l hl pl hc pc = on (p.next u None) l looks kh kp in
+      record {
+        events = rest.events;
+        same = para_silent h p lh lp n 0 s u c l (omega arith) (omega arith) is ∙ rest.same;
+        host_kept = rest.host_kept;
+        para_kept = rest.para_kept;
+      }
+  para_saw_by keep sure k s u last c l hl pl hc pc first low (Some q) is on looks kh kp =
+      let a : Answer = Seen (lines_of c) in
+      let more : List Event = l ++ event (p.due u) Para look a ∷ [] in
+      let asks : p.asks u ≡ Some look = is ∙ ap (λ (x : Query). Some x) looks.0 in
+      let kept : IsKept Para more keep pl pc = moved_kept Para more keep pl pl pc (pc + 0) refl (omega arith) (kept_own Para l keep pl pc (p.due u) look a kp) in
+      let rest : ParaSaw keep s (p.next u (Some a)) last c more hl pl hc pc =
+      on (p.next u (Some a)) more looks.2 (kept_host_by_para l keep hl hc (p.due u) look a kh) kept in
+      record {
+        events = rest.events;
+        same =
+            para_next h p lh lp n 0 s u c l (omega arith) (omega arith) (first (p.due u) low looks.1)
+            ∙ ap (λ (o : Option Query). ticks h p n 0 (with_host s (stepped p Para (record { state = u; chip = c; list = l }) o))) asks
+            ∙ rest.same;
+        host_kept = rest.host_kept;
+        para_kept = rest.para_kept;
+      }
+
+  para_saw : (keep sure k : ℕ) (s : S) (u last : T) (c : State) (l : List Event) (hl pl : List Entry) (hc pc : ℕ)
+      → ((x : ℕ) → x < n → x < sure → x < h.due s) → Looks p n (lines_of c) sure k u last → IsKept Host l keep hl hc → IsKept Para l keep pl pc
+      → ParaSaw keep s u last c l hl pl hc pc
+  para_saw keep sure zero s u last c l hl pl hc pc first looks kh kp =
+      record { events = l; same = ap (λ (x : T). ticks h p n 0 (world s x c l)) looks; host_kept = kh; para_kept = kp }
+  para_saw keep sure (suc k) s u last c l hl pl hc pc first looks kh kp = para_saw_by keep sure k s u last c l hl pl hc pc first looks.0 (p.asks u) refl
+      (λ v more on a b. para_saw keep sure k s v last c more hl pl hc pc first on a b) looks.1 kh kp
+
+  -- which looks are sure, by the other party's ask
+  host_sure : (s : T) (last : T) (ask : Ask) → IsAsk p n last ask s → (x : ℕ) → x < n → x < sure_by 1 ask → x ≤ p.due last
+  host_sure s last Nothing is x low early = omega (arith, is.0)
+  host_sure s last (Access t op) is x low early = omega (arith, is.0)
+  host_sure s last (Look t) is x low early = omega (arith, is.0)
+
+  para_sure : (s : S) (last : S) (ask : Ask) → IsAsk h n last ask s → (x : ℕ) → x < n → x < sure_by 0 ask → x < h.due last
+  para_sure s last Nothing is x low early = omega (arith, is.0)
+  para_sure s last (Access t op) is x low early = omega (arith, is.0)
+  para_sure s last (Look t) is x low early = omega (arith, is.0)
+
   pub host_turn : (keep : ℕ) (s0 s s2 : S) (t0 t : T) (c c2 : State) (ask_h ask_p ask2 : Ask) (hl pl hl2 : List Entry) (hc pc hc2 : ℕ)
       → IsUnderWay h p n keep s0 t0 s t c ask_h ask_p hl pl hc pc
       → first_of ask_h ask_p ≡ Some Host
-      → Turns h Host n keep s c hl hc s2 c2 hl2 hc2 ask2
+      → Turns h Host n keep (sure_by 1 ask_p) s c hl hc s2 c2 hl2 hc2 ask2
       → IsUnderWay h p n keep s0 t0 s2 t c2 ask2 ask_p hl2 pl hc2 pc
   host_turn keep s0 s s2 t0 t c c2 ask_h ask_p ask2 hl pl hl2 hc pc hc2 w e d =
       let f : HostFirst h p n s w.host_last w.para_last ask_h = host_first h p n s w.host_last t w.para_last ask_h ask_p w.host_asked w.para_asked e in
       let a : Answer = (act c Host d.query).1 in
       let same_due : h.due s ≡ h.due w.host_last = ap h.due f.here in
       let up : h.due s < h.due (h.next s (Some a)) = lh.rises s (Some a) in
-      let on : h.due (h.next s (Some a)) ≤ h.due d.advances.last = due_rises h n d.advances.steps (h.next s (Some a)) d.advances.last lh d.advances.runs in
+      let on : h.due (h.next s (Some a)) ≤ h.due d.sees.last = due_rises h n (lines_of c2) (sure_by 1 ask_p) d.sees.steps (h.next s (Some a)) d.sees.last lh d.sees.looks in
       let one : length (entry_of (h.due s) Host d.query a) ≤ 1 = at_most_one (h.due s) Host d.query a in
+      let done : List Event = w.events ++ event (h.due s) Host d.query a ∷ [] in
+      let saw : HostSaw keep (h.next s (Some a)) d.sees.last w.para_last c2 done hl2 pl hc2 pc =
+      host_saw keep (sure_by 1 ask_p) d.sees.steps (h.next s (Some a)) d.sees.last w.para_last c2 done hl2 pl hc2 pc (host_sure t w.para_last ask_p w.para_asked) d.sees.looks
+      (moved_kept Host done keep _ _ _ _ d.list_is d.count_is (kept_own Host w.events keep hl hc (h.due s) d.query a w.host_kept))
+      (kept_para_by_host w.events keep pl pc (h.due s) d.query a w.para_kept) in
       record {
-        host_last = d.advances.last;
+        host_last = d.sees.last;
         para_last = w.para_last;
-        events = w.events ++ event (h.due s) Host d.query a ∷ [];
-        host_asked = d.advances.asked;
+        events = saw.events;
+        host_asked = d.sees.asked;
         para_asked = w.para_asked;
         same =
             w.same
             ∙ ap (λ (x : S). ticks h p n 0 (world x w.para_last c w.events)) (sym f.here)
             ∙ host_next h p lh lp n 0 s w.para_last c w.events (omega arith) (omega (arith, f.below)) (omega (arith, f.first))
             ∙ ap (λ (o : Option Query). ticks h p n 0 (host_done (stepped h Host (record { state = s; chip = c; list = w.events }) o) w.para_last)) d.asks
-            ∙ silent_host Host d.advances.steps (h.next s (Some a)) d.advances.last w.para_last (act c Host d.query).0 (w.events ++ event (h.due s) Host d.query a ∷ []) d.advances.runs
-            ∙ ap (λ (x : State). ticks h p n 0 (world d.advances.last w.para_last x (w.events ++ event (h.due s) Host d.query a ∷ []))) (sym d.chip_is);
-        host_kept = moved_kept Host (w.events ++ event (h.due s) Host d.query a ∷ []) keep _ _ _ _ d.list_is d.count_is (kept_own Host w.events keep hl hc (h.due s) d.query a w.host_kept);
-        para_kept = kept_para_by_host w.events keep pl pc (h.due s) d.query a w.para_kept;
+            ∙ ap (λ (x : State). ticks h p n 0 (world (h.next s (Some a)) w.para_last x done)) (sym d.chip_is)
+            ∙ saw.same;
+        host_kept = saw.host_kept;
+        para_kept = saw.para_kept;
         host_few = omega (arith, w.host_few, d.count_is);
         para_few = w.para_few;
       }
@@ -138,30 +249,35 @@ module _ {S T : Type 0} (h : Moves S) (p : Moves T) (lh : IsLawful h) (lp : IsLa
   pub para_turn : (keep : ℕ) (s0 s : S) (t0 t t2 : T) (c c2 : State) (ask_h ask_p ask2 : Ask) (hl pl pl2 : List Entry) (hc pc pc2 : ℕ)
       → IsUnderWay h p n keep s0 t0 s t c ask_h ask_p hl pl hc pc
       → first_of ask_h ask_p ≡ Some Para
-      → Turns p Para n keep t c pl pc t2 c2 pl2 pc2 ask2
+      → Turns p Para n keep (sure_by 0 ask_h) t c pl pc t2 c2 pl2 pc2 ask2
       → IsUnderWay h p n keep s0 t0 s t2 c2 ask_h ask2 hl pl2 hc pc2
   para_turn keep s0 s t0 t t2 c c2 ask_h ask_p ask2 hl pl pl2 hc pc pc2 w e d =
       let f : ParaFirst h p n t w.para_last w.host_last ask_p = para_first h p n s w.host_last t w.para_last ask_h ask_p w.host_asked w.para_asked e in
       let a : Answer = (act c Para d.query).1 in
       let same_due : p.due t ≡ p.due w.para_last = ap p.due f.here in
       let up : p.due t < p.due (p.next t (Some a)) = lp.rises t (Some a) in
-      let on : p.due (p.next t (Some a)) ≤ p.due d.advances.last = due_rises p n d.advances.steps (p.next t (Some a)) d.advances.last lp d.advances.runs in
+      let on : p.due (p.next t (Some a)) ≤ p.due d.sees.last = due_rises p n (lines_of c2) (sure_by 0 ask_h) d.sees.steps (p.next t (Some a)) d.sees.last lp d.sees.looks in
       let one : length (entry_of (p.due t) Para d.query a) ≤ 1 = at_most_one (p.due t) Para d.query a in
+      let done : List Event = w.events ++ event (p.due t) Para d.query a ∷ [] in
+      let saw : ParaSaw keep w.host_last (p.next t (Some a)) d.sees.last c2 done hl pl2 hc pc2 =
+      para_saw keep (sure_by 0 ask_h) d.sees.steps w.host_last (p.next t (Some a)) d.sees.last c2 done hl pl2 hc pc2 (para_sure s w.host_last ask_h w.host_asked) d.sees.looks
+      (kept_host_by_para w.events keep hl hc (p.due t) d.query a w.host_kept)
+      (moved_kept Para done keep _ _ _ _ d.list_is d.count_is (kept_own Para w.events keep pl pc (p.due t) d.query a w.para_kept)) in
       record {
         host_last = w.host_last;
-        para_last = d.advances.last;
-        events = w.events ++ event (p.due t) Para d.query a ∷ [];
+        para_last = d.sees.last;
+        events = saw.events;
         host_asked = w.host_asked;
-        para_asked = d.advances.asked;
+        para_asked = d.sees.asked;
         same =
             w.same
             ∙ ap (λ (x : T). ticks h p n 0 (world w.host_last x c w.events)) (sym f.here)
             ∙ para_next h p lh lp n 0 w.host_last t c w.events (omega arith) (omega (arith, f.below)) (omega (arith, f.first))
             ∙ ap (λ (o : Option Query). ticks h p n 0 (with_host w.host_last (stepped p Para (record { state = t; chip = c; list = w.events }) o))) d.asks
-            ∙ silent_para Host d.advances.steps w.host_last (p.next t (Some a)) d.advances.last (act c Para d.query).0 (w.events ++ event (p.due t) Para d.query a ∷ []) d.advances.runs
-            ∙ ap (λ (x : State). ticks h p n 0 (world w.host_last d.advances.last x (w.events ++ event (p.due t) Para d.query a ∷ []))) (sym d.chip_is);
-        host_kept = kept_host_by_para w.events keep hl hc (p.due t) d.query a w.host_kept;
-        para_kept = moved_kept Para (w.events ++ event (p.due t) Para d.query a ∷ []) keep _ _ _ _ d.list_is d.count_is (kept_own Para w.events keep pl pc (p.due t) d.query a w.para_kept);
+            ∙ ap (λ (x : State). ticks h p n 0 (world w.host_last (p.next t (Some a)) x done)) (sym d.chip_is)
+            ∙ saw.same;
+        host_kept = saw.host_kept;
+        para_kept = saw.para_kept;
         host_few = w.host_few;
         para_few = omega (arith, w.para_few, d.count_is);
       }
@@ -189,8 +305,8 @@ module _ {S T : Type 0} (h : Moves S) (p : Moves T) (lh : IsLawful h) (lp : IsLa
       → IsPlayed (reference h p s0 t0 n) keep s t c hl pl hc pc
   finishes keep s0 s t0 t c ask_h ask_p hl pl hc pc w e = finish_by keep s0 s t0 t c ask_h ask_p hl pl hc pc w (none_left ask_h ask_p e)
 
-pub turns_keep : {S : Type 0} {r : Moves S} {side : Side} {n k k2 : ℕ} {s : S} {c : State} {list : List Entry} {count : ℕ} {s2 : S} {c2 : State} {list2 : List Entry} {count2 : ℕ} {ask2 : Ask}
-    → k ≡ k2 → Turns r side n k s c list count s2 c2 list2 count2 ask2 → Turns r side n k2 s c list count s2 c2 list2 count2 ask2
+pub turns_keep : {S : Type 0} {r : Moves S} {side : Side} {n k k2 sure : ℕ} {s : S} {c : State} {list : List Entry} {count : ℕ} {s2 : S} {c2 : State} {list2 : List Entry} {count2 : ℕ} {ask2 : Ask}
+    → k ≡ k2 → Turns r side n k sure s c list count s2 c2 list2 count2 ask2 → Turns r side n k2 sure s c list count s2 c2 list2 count2 ask2
 turns_keep {r = r} {side = side} {s = s} {c = c} {list = list} e t =
     record {
       query = t.query;
@@ -198,5 +314,5 @@ turns_keep {r = r} {side = side} {s = s} {c = c} {list = list} e t =
       chip_is = t.chip_is;
       list_is = t.list_is ∙ ap (λ (x : ℕ). noted_all x list (entry_of (r.due s) side t.query (act c side t.query).1)) e;
       count_is = t.count_is;
-      advances = t.advances;
+      sees = t.sees;
     }

@@ -1,5 +1,6 @@
 pub mod TapeLemmas
 pub mod ReplayLemmas
+pub mod Seeing
 pub mod FollowingLemmas
 pub mod Runs
 pub mod Ticks

@@ -3,18 +3,19 @@ use Rattle.std.proofs.Common.{◌≡◌, ◌∙◌, sym, refl, ap, subst, ℕ, z
 use Rattle.std.proofs.lemmas.Bool.Decides.{nat_tests}
 use Rattle.beeb_bits.specs.declared.Tick.{Tick}
 use Rattle.beeb_bits.specs.declared.Side.{Side}
-use Rattle.beeb_bits.specs.declared.Side.TheVariants.{Host}
 use Rattle.tube_chip.specs.declared.Op.{Op}
 use Rattle.tube_chip.specs.declared.Answer.{Answer}
 use Rattle.tube_chip.specs.declared.Answer.TheVariants.{Byte, Seen}
 use Rattle.tube_chip.specs.State.{lines_of, power_on}
+use Rattle.tube_chip.specs.declared.Lines.{Lines}
 use Rattle.tube_chip.specs.Act.{Query, access, look}
 use Rattle.tube_trace.specs.declared.Entry.{Entry}
 use Rattle.tube_party.specs.declared.party.Ask.{Ask}
 use Rattle.tube_party.specs.declared.party.Ask.TheVariants.{Nothing, Access, Look}
-use Rattle.tube_party.specs.Moves.{Moves, IsLawful, Runs, Heads, Advances, IsAsk, IsAskedFor, FitsAnswer, shut}
+use Rattle.tube_party.specs.Moves.{Moves, IsLawful, Looks, Sees, IsAsk, IsAskedFor, FitsAnswer, shut}
 use Rattle.tube_party.specs.Replay.{Numbered, Ended, own_from, finished, differs, access_step, one_step, replay_from, replayed, chip_before}
 use Rattle.tube_party.specs.Tape.{Takes, Misses}
+use Rattle.tube_party.proofs.Seeing.{due_rises}
 
 pub low_true : (a n : ℕ) → a < n → nat_lt a n ≡ true
 low_true a n h = grind (arith, nat_tests)
@@ -56,26 +57,33 @@ module _ {S : Type 0} (m : Moves S) (side : Side) (trace : List Entry) (n : ℕ)
       let step = step_of goes.steps s own None low goes.enough is in
       record { steps = step.0; enough = later lawful s None step.0 step.1; same = goes.same ∙ step.2 }
 
-  -- such a step, and what holds of those after it
-  goes_past : IsLawful m → (whole : Ended S) (own : List Numbered) (k : ℕ) (s last : S) → Goes m side trace n whole s own → m.due s < n → (q : Option Query) → m.asks s ≡ q →
-      (Goes m side trace n whole (m.next s None) own → Runs m Host n k (m.next s None) [] last → Goes m side trace n whole last own) →
-      MatchOption q (Runs m Host n k (m.next s None) [] last) (λ p. Heads [] (λ e rest. (e.tick ≡ m.due s) × (e.side ≡ Host) × (e.query ≡ p) × Runs m Host n k (m.next s (Some e.answer)) rest last)) →
-      Goes m side trace n whole last own
-  goes_past lawful whole own k s last goes low None is on runs = on (goes_none lawful whole s own goes low is) runs
-  goes_past lawful whole own k s last goes low (Some q) is on runs = absurd runs
-
-  -- steps that ask nothing
-  pub goes_silent : IsLawful m → (whole : Ended S) (own : List Numbered) (k : ℕ) (s last : S) → Goes m side trace n whole s own → Runs m Host n k s [] last → Goes m side trace n whole last own
-  goes_silent lawful whole own zero s last goes runs = subst (λ (x : S). Goes m side trace n whole x own) runs.1 goes
-  goes_silent lawful whole own (suc k) s last goes runs =
-      goes_past lawful whole own k s last goes runs.0 (m.asks s) refl (λ on rest. goes_silent lawful whole own k (m.next s None) last on rest) runs.1
-
   -- a look
   pub goes_look : IsLawful m → (whole : Ended S) (s : S) (own : List Numbered) → Goes m side trace n whole s own → m.due s < n → m.asks s ≡ Some look →
       Goes m side trace n whole (m.next s (Some (Seen (lines_of (chip_before side (m.due s) power_on trace))))) own
   goes_look lawful whole s own goes low is =
       let step = step_of goes.steps s own (Some look) low goes.enough is in
       record { steps = step.0; enough = later lawful s _ step.0 step.1; same = goes.same ∙ step.2 }
+
+  -- steps among which looks see what the entries before them leave
+  goes_seeing_by : IsLawful m → (whole : Ended S) (own : List Numbered) (lines : Lines) (sure k : ℕ) (s last : S) → Goes m side trace n whole s own →
+      ((t : ℕ) → m.due s ≤ t → t < sure → lines_of (chip_before side t power_on trace) ≡ lines) → m.due s < n → (o : Option Query) → m.asks s ≡ o →
+      ((u : S) → Goes m side trace n whole u own → m.due s < m.due u → Looks m n lines sure k u last → Goes m side trace n whole last own) →
+      MatchOption o (Looks m n lines sure k (m.next s None) last) (λ q. (q ≡ look) × (m.due s < sure) × Looks m n lines sure k (m.next s (Some (Seen lines))) last) →
+      Goes m side trace n whole last own
+  goes_seeing_by lawful whole own lines sure k s last goes same low None is on h =
+      on (m.next s None) (goes_none lawful whole s own goes low is) (lawful.rises s None) h
+  goes_seeing_by lawful whole own lines sure k s last goes same low (Some q) is on h =
+      let asks : m.asks s ≡ Some look = is ∙ ap (λ (x : Query). Some x) h.0 in
+      let seen : Goes m side trace n whole (m.next s (Some (Seen lines))) own =
+      subst (λ (l : Lines). Goes m side trace n whole (m.next s (Some (Seen l))) own) (same (m.due s) (omega arith) h.1) (goes_look lawful whole s own goes low asks) in
+      on (m.next s (Some (Seen lines))) seen (lawful.rises s (Some (Seen lines))) h.2
+
+  pub goes_seeing : IsLawful m → (whole : Ended S) (own : List Numbered) (lines : Lines) (sure k : ℕ) (s last : S) → Goes m side trace n whole s own →
+      ((t : ℕ) → m.due s ≤ t → t < sure → lines_of (chip_before side t power_on trace) ≡ lines) → Looks m n lines sure k s last → Goes m side trace n whole last own
+  goes_seeing lawful whole own lines sure zero s last goes same looks = subst (λ (x : S). Goes m side trace n whole x own) looks goes
+  goes_seeing lawful whole own lines sure (suc k) s last goes same looks =
+      goes_seeing_by lawful whole own lines sure k s last goes same looks.0 (m.asks s) refl
+      (λ u on up rest. goes_seeing lawful whole own lines sure k u last on (λ t a b. same t (omega (arith, up, a)) b) rest) looks.1
 
   -- an access that is the side's next entry
   pub goes_access : IsLawful m → (whole : Ended S) (s : S) (own others : List Numbered) (op : Op) (byte : ℕ) → Goes m side trace n whole s own → m.due s < n → m.asks s ≡ Some (access op) →
@@ -103,70 +111,58 @@ pub goes_all : {S : Type 0} (m : Moves S) (side : Side) (trace : List Entry) (n 
 unfolding replayed
 goes_all m side trace n s = record { steps = n; enough = omega arith; same = refl }
 
--- what `advance` told
-
-abbrev Asked : {S : Type 0} → Moves S → ℕ → S → Ask → S → Type 0
-Asked m n old ask new = Advances m n old ask new
+-- what `advance_seeing` told
 
 -- it asks for nothing below n
-pub record RanOut {S : Type 0} (m : Moves S) (n : ℕ) (old new : S) : Type 0 where
+pub record RanOut {S : Type 0} (m : Moves S) (n : ℕ) (lines : Lines) (sure : ℕ) (old new : S) : Type 0 where
   pub steps : ℕ
   pub last : S
-  pub runs : Runs m Host n steps old [] last
+  pub looks : Looks m n lines sure steps old last
   pub over : n ≤ m.due last
   pub shut_is : new ≡ shut m last n
 
-pub ran_out : {S : Type 0} (m : Moves S) (n : ℕ) (old new : S) (ask : Ask) → Advances m n old ask new → ask ≡ Nothing → RanOut m n old new
-ran_out m n old new ask told is =
+pub ran_out : {S : Type 0} (m : Moves S) (n : ℕ) (lines : Lines) (sure : ℕ) (old new : S) (ask : Ask) → Sees m n lines sure old ask new → ask ≡ Nothing → RanOut m n lines sure old new
+ran_out m n lines sure old new ask told is =
     let asked : (n ≤ m.due told.last) × (new ≡ shut m told.last n) = subst (λ (a : Ask). IsAsk m n told.last a new) is told.asked in
-    record { steps = told.steps; last = told.last; runs = told.runs; over = asked.0; shut_is = asked.1 }
+    record { steps = told.steps; last = told.last; looks = told.looks; over = asked.0; shut_is = asked.1 }
 
 -- it asks this of the Tube at its next step
-pub record Stands {S : Type 0} (m : Moves S) (n : ℕ) (old new : S) (tick : ℕ) (q : Query) : Type 0 where
+pub record Stands {S : Type 0} (m : Moves S) (n : ℕ) (lines : Lines) (sure : ℕ) (old new : S) (tick : ℕ) (q : Query) : Type 0 where
   pub steps : ℕ
-  pub runs : Runs m Host n steps old [] new
+  pub looks : Looks m n lines sure steps old new
   pub tick_is : tick ≡ m.due new
   pub below : m.due new < n
   pub asks : m.asks new ≡ Some q
 
-pub stands_access : {S : Type 0} (m : Moves S) (n : ℕ) (old new : S) (ask : Ask) (t : Tick) (op : Op) → Advances m n old ask new → ask ≡ Access t op → Stands m n old new t.0 (access op)
-stands_access {S} m n old new ask t op told is =
+pub stands_access : {S : Type 0} (m : Moves S) (n : ℕ) (lines : Lines) (sure : ℕ) (old new : S) (ask : Ask) (t : Tick) (op : Op) → Sees m n lines sure old ask new → ask ≡ Access t op →
+    Stands m n lines sure old new t.0 (access op)
+stands_access {S} m n lines sure old new ask t op told is =
     let asked : (t.0 ≡ m.due told.last) × (t.0 < n) × (m.asks told.last ≡ Some (access op)) × (new ≡ told.last) =
     subst (λ (a : Ask). IsAsk m n told.last a new) is told.asked in
     let same : told.last ≡ new = sym asked.3 in
     let due : t.0 ≡ m.due new = subst (λ (x : S). t.0 ≡ m.due x) same asked.0 in
     record {
       steps = told.steps;
-      runs = subst (λ (x : S). Runs m Host n told.steps old [] x) same told.runs;
+      looks = subst (λ (x : S). Looks m n lines sure told.steps old x) same told.looks;
       tick_is = due;
       below = rw (← due) asked.1;
       asks = subst (λ (x : S). m.asks x ≡ Some (access op)) same asked.2;
     }
 
-pub stands_look : {S : Type 0} (m : Moves S) (n : ℕ) (old new : S) (ask : Ask) (t : Tick) → Advances m n old ask new → ask ≡ Look t → Stands m n old new t.0 look
-stands_look {S} m n old new ask t told is =
+pub stands_look : {S : Type 0} (m : Moves S) (n : ℕ) (lines : Lines) (sure : ℕ) (old new : S) (ask : Ask) (t : Tick) → Sees m n lines sure old ask new → ask ≡ Look t →
+    Stands m n lines sure old new t.0 look
+stands_look {S} m n lines sure old new ask t told is =
     let asked : (t.0 ≡ m.due told.last) × (t.0 < n) × (m.asks told.last ≡ Some look) × (new ≡ told.last) =
     subst (λ (a : Ask). IsAsk m n told.last a new) is told.asked in
     let same : told.last ≡ new = sym asked.3 in
     let due : t.0 ≡ m.due new = subst (λ (x : S). t.0 ≡ m.due x) same asked.0 in
     record {
       steps = told.steps;
-      runs = subst (λ (x : S). Runs m Host n told.steps old [] x) same told.runs;
+      looks = subst (λ (x : S). Looks m n lines sure told.steps old x) same told.looks;
       tick_is = due;
       below = rw (← due) asked.1;
       asks = subst (λ (x : S). m.asks x ≡ Some look) same asked.2;
     }
-
--- steps that ask nothing only raise the tick
-pub due_rises : {S : Type 0} (m : Moves S) (n k : ℕ) (s last : S) → IsLawful m → Runs m Host n k s [] last → m.due s ≤ m.due last
-due_rises {S} m n zero s last lawful runs = subst (λ (x : S). m.due s ≤ m.due x) runs.1 (let d : ℕ = m.due s in omega arith)
-due_rises {S} m n (suc k) s last lawful runs = due_past m n k s last lawful (m.asks s) (λ rest. due_rises m n k (m.next s None) last lawful rest) runs.1
-  where
-    due_past : {S : Type 0} (m : Moves S) (n k : ℕ) (s last : S) → IsLawful m → (q : Option Query) → (Runs m Host n k (m.next s None) [] last → m.due (m.next s None) ≤ m.due last) →
-        MatchOption q (Runs m Host n k (m.next s None) [] last) (λ p. Heads [] (λ e rest. (e.tick ≡ m.due s) × (e.side ≡ Host) × (e.query ≡ p) × Runs m Host n k (m.next s (Some e.answer)) rest last)) →
-        m.due s ≤ m.due last
-    due_past m n k s last lawful None on runs = let a : m.due s < m.due (m.next s None) = lawful.rises s None in let b : m.due (m.next s None) ≤ m.due last = on runs in omega arith
-    due_past m n k s last lawful (Some q) on runs = absurd runs
 
 -- an answer to what is asked
 pub asked_for : {S : Type 0} (m : Moves S) (most : ℕ) (s : S) (q : Query) (a : Answer) → m.due s < most → m.asks s ≡ Some q → FitsAnswer q a → IsAskedFor m most s a
@@ -174,23 +170,26 @@ asked_for m most s q a low is fits = record { below = low; kind = subst (λ (o :
 
 -- where a party stands at a step that asks, and answers it
 
-pub smaller : {S : Type 0} (m : Moves S) (n : ℕ) (old at new : S) (tick : ℕ) (q : Query) {a : Option Answer} → IsLawful m → Stands m n old at tick q → new ≡ m.next at a → n - m.due new < n - m.due old
-smaller {S} m n old at new tick q {a} lawful stands is =
-    let x : m.due old ≤ m.due at = due_rises m n stands.steps old at lawful stands.runs in
+pub smaller : {S : Type 0} (m : Moves S) (n : ℕ) (lines : Lines) (sure : ℕ) (old at new : S) (tick : ℕ) (q : Query) {a : Option Answer} → IsLawful m → Stands m n lines sure old at tick q → new ≡ m.next at a →
+    n - m.due new < n - m.due old
+smaller {S} m n lines sure old at new tick q {a} lawful stands is =
+    let x : m.due old ≤ m.due at = due_rises m n lines sure stands.steps old at lawful stands.looks in
     let y : m.due at < m.due (m.next at a) = lawful.rises at a in
     let z : m.due new ≡ m.due (m.next at a) = ap m.due is in
     let w : m.due at < n = stands.below in
     omega arith
 
-pub earlier : {S : Type 0} (m : Moves S) (n : ℕ) (old at new : S) (tick : ℕ) (q : Query) {a : Option Answer} → IsLawful m → Stands m n old at tick q → new ≡ m.next at a → (t : ℕ) → m.due new ≤ t → m.due old ≤ t
-earlier {S} m n old at new tick q {a} lawful stands is t h =
-    let x : m.due old ≤ m.due at = due_rises m n stands.steps old at lawful stands.runs in
+pub earlier : {S : Type 0} (m : Moves S) (n : ℕ) (lines : Lines) (sure : ℕ) (old at new : S) (tick : ℕ) (q : Query) {a : Option Answer} → IsLawful m → Stands m n lines sure old at tick q → new ≡ m.next at a →
+    (t : ℕ) → m.due new ≤ t → m.due old ≤ t
+earlier {S} m n lines sure old at new tick q {a} lawful stands is t h =
+    let x : m.due old ≤ m.due at = due_rises m n lines sure stands.steps old at lawful stands.looks in
     let y : m.due at < m.due (m.next at a) = lawful.rises at a in
     let z : m.due new ≡ m.due (m.next at a) = ap m.due is in
     omega arith
 
-pub after_look : {S : Type 0} (m : Moves S) (n : ℕ) (old at new : S) (tick : ℕ) (q : Query) {a : Option Answer} → IsLawful m → Stands m n old at tick q → new ≡ m.next at a → (t : ℕ) → m.due new ≤ t → m.due at ≤ t
-after_look {S} m n old at new tick q {a} lawful stands is t h =
+pub after_look : {S : Type 0} (m : Moves S) (n : ℕ) (lines : Lines) (sure : ℕ) (old at new : S) (tick : ℕ) (q : Query) {a : Option Answer} → IsLawful m → Stands m n lines sure old at tick q → new ≡ m.next at a →
+    (t : ℕ) → m.due new ≤ t → m.due at ≤ t
+after_look {S} m n lines sure old at new tick q {a} lawful stands is t h =
     let y : m.due at < m.due (m.next at a) = lawful.rises at a in
     let z : m.due new ≡ m.due (m.next at a) = ap m.due is in
     omega arith

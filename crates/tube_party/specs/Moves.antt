@@ -3,6 +3,7 @@ use Rattle.std.specs.Prelude.{ℕ, zero, suc, ◌≡◌, ◌<◌, ◌≤◌, max
 use Rattle.beeb_bits.specs.declared.Side.{Side}
 use Rattle.beeb_bits.specs.declared.Side.TheVariants.{Host}
 use Rattle.tube_chip.specs.declared.Answer.{Answer}
+use Rattle.tube_chip.specs.declared.Lines.{Lines}
 use Rattle.tube_chip.specs.declared.Answer.TheVariants.{Byte, Seen}
 use Rattle.tube_chip.specs.Act.{Query, access, look, MayDo}
 use Rattle.tube_chip.specs.Events.{Event}
@@ -84,6 +85,29 @@ pub record Advances {S : Type 0} (m : Moves S) (n : ℕ) (old : S) (ask : Ask) (
   pub last : S
   pub runs : Runs m Host n steps old [] last
   pub asked : IsAsk m n last ask new
+
+-- k steps from s to last, each below n: each asks nothing, or is a look below `sure` that sees these lines
+abbrev pub Looks : {S : Type 0} → Moves S → ℕ → Lines → ℕ → ℕ → S → S → Type 0
+Looks m n lines sure zero s last = s ≡ last
+Looks m n lines sure (suc k) s last =
+    (m.due s < n)
+    × MatchOption (m.asks s)
+    (Looks m n lines sure k (m.next s None) last)
+    (λ q. (q ≡ look) × (m.due s < sure) × Looks m n lines sure k (m.next s (Some (Seen lines))) last)
+
+-- it is not a look below `sure`
+abbrev pub IsUnsure : ℕ → Ask → Type 0
+IsUnsure sure Nothing = Unit {0}
+IsUnsure sure (Access t op) = Unit {0}
+IsUnsure sure (Look t) = sure ≤ t.0
+
+-- The steps below n that ask nothing were done, and with them the looks below `sure`, each of which saw these lines; and this is asked next.
+pub record Sees {S : Type 0} (m : Moves S) (n : ℕ) (lines : Lines) (sure : ℕ) (old : S) (ask : Ask) (new : S) : Type 0 where
+  pub steps : ℕ
+  pub last : S
+  pub looks : Looks m n lines sure steps old last
+  pub asked : IsAsk m n last ask new
+  pub unsure : IsUnsure sure ask
 
 -- a byte for an access, lines for a look
 abbrev pub FitsAnswer : Query → Answer → Type 0

@@ -1,9 +1,14 @@
 -- Laws about runs that machines use.
-use Rattle.std.specs.Prelude.{ℕ, zero, suc, ◌≡◌, ◌<◌, Option, None, Some, MatchOption, [], refl}
-use Rattle.std.proofs.Common.{sym, ◌∙◌, ap, subst}
+use Rattle.std.specs.Prelude.{ℕ, zero, suc, ◌≡◌, ◌<◌, ◌≤◌, Option, None, Some, MatchOption, [], refl}
+use Rattle.std.proofs.Common.{sym, ◌∙◌, ap, subst, arith}
 use Rattle.beeb_bits.specs.declared.Side.{Side}
-use Rattle.tube_chip.specs.Act.{Query}
-use Rattle.tube_party.specs.Moves.{Moves, Runs}
+use Rattle.beeb_bits.specs.declared.Side.TheVariants.{Host}
+use Rattle.tube_chip.specs.Act.{Query, look}
+use Rattle.tube_chip.specs.declared.Answer.{Answer}
+use Rattle.tube_chip.specs.declared.Answer.TheVariants.{Seen}
+use Rattle.tube_chip.specs.declared.Lines.{Lines}
+use Rattle.tube_party.specs.declared.party.Ask.{Ask}
+use Rattle.tube_party.specs.Moves.{Moves, Runs, Looks, Advances, Sees}
 
 silent_here : {S : Type 0} (m : Moves S) (side : Side) (n k : ℕ) (s last : S) (o : Option Query) →
     m.asks s ≡ o → o ≡ None → Runs m side n k (m.next s None) [] last → m.due s < n → Runs m side n (suc k) s [] last
@@ -27,3 +32,76 @@ runs_more {S} m side n zero s last h low none =
     silent_here m side n zero s (m.next last None) (m.asks s) refl none2 (refl, ap (λ (x : S). m.next x None) h.1) low2
 runs_more m side n (suc k) s last h low none =
     (h.0, runs_by m side n k s last (m.asks s) h.1 (λ rest. runs_more m side n k (m.next s None) last rest low none))
+
+-- ---- Steps among which looks see their lines
+
+module _ {S : Type 0} (m : Moves S) (n : ℕ) (lines : Lines) (sure : ℕ) where
+  -- what follows the first of k + 1 steps, by what it asks
+  abbrev After : ℕ → S → S → Option Query → Type 0
+  After k s last o =
+      MatchOption o (Looks m n lines sure k (m.next s None) last) (λ q. (q ≡ look) × (m.due s < sure) × Looks m n lines sure k (m.next s (Some (Seen lines))) last)
+
+  -- one step in front that asks nothing
+  pub silent_first : (k : ℕ) (s last : S) → m.due s < n → m.asks s ≡ None → Looks m n lines sure k (m.next s None) last → Looks m n lines sure (suc k) s last
+  silent_first k s last low none looks = (low, subst (After k s last) (sym none) looks)
+
+  -- one look in front
+  pub look_first : (k : ℕ) (s last : S) → m.due s < n → m.asks s ≡ Some look → m.due s < sure → Looks m n lines sure k (m.next s (Some (Seen lines))) last → Looks m n lines sure (suc k) s last
+  look_first k s last low asks early looks = (low, subst (After k s last) (sym asks) (refl, early, looks))
+
+  -- steps after the first of them
+  after_by : (j k : ℕ) (s mid last : S) (o : Option Query) → ((u : S) → Looks m n lines sure j u mid → Looks m n lines sure k u last) → After j s mid o → After k s last o
+  after_by j k s mid last None on h = on (m.next s None) h
+  after_by j k s mid last (Some q) on h = (h.0, h.1, on (m.next s (Some (Seen lines))) h.2)
+
+  -- one more step that asks nothing
+  pub silent_last : (k : ℕ) (s last : S) → Looks m n lines sure k s last → m.due last < n → m.asks last ≡ None → Looks m n lines sure (suc k) s (m.next last None)
+  silent_last zero s last h low none =
+      silent_first zero s (m.next last None) (subst (λ (x : S). m.due x < n) (sym h) low) (ap m.asks h ∙ none) (ap (λ (x : S). m.next x None) h)
+  silent_last (suc k) s last h low none =
+      (h.0, after_by k (suc k) s last (m.next last None) (m.asks s) (λ u on. silent_last k u last on low none) h.1)
+
+  -- one more look
+  pub look_last : (k : ℕ) (s last : S) → Looks m n lines sure k s last → m.due last < n → m.asks last ≡ Some look → m.due last < sure → Looks m n lines sure (suc k) s (m.next last (Some (Seen lines)))
+  look_last zero s last h low asks early =
+      look_first zero s (m.next last (Some (Seen lines))) (subst (λ (x : S). m.due x < n) (sym h) low) (ap m.asks h ∙ asks) (subst (λ (x : S). m.due x < sure) (sym h) early)
+      (ap (λ (x : S). m.next x (Some (Seen lines))) h)
+  look_last (suc k) s last h low asks early =
+      (h.0, after_by k (suc k) s last (m.next last (Some (Seen lines))) (m.asks s) (λ u on. look_last k u last on low asks early) h.1)
+
+  -- steps after steps
+  looks_on_by : (j k : ℕ) (s mid last : S) (o : Option Query) → ((u : S) → Looks m n lines sure j u mid → (i : ℕ) × Looks m n lines sure i u last) → m.asks s ≡ o → m.due s < n → After j s mid o →
+      (i : ℕ) × Looks m n lines sure i s last
+  looks_on_by j k s mid last None on is low h = let more = on (m.next s None) h in (suc more.0, silent_first more.0 s last low is more.1)
+  looks_on_by j k s mid last (Some q) on is low h =
+      let more = on (m.next s (Some (Seen lines))) h.2 in
+      (suc more.0, look_first more.0 s last low (is ∙ ap (λ (x : Query). Some x) h.0) h.1 more.1)
+
+  pub looks_on : (j k : ℕ) (s mid last : S) → Looks m n lines sure j s mid → Looks m n lines sure k mid last → (i : ℕ) × Looks m n lines sure i s last
+  looks_on zero k s mid last h more = (k, subst (λ (x : S). Looks m n lines sure k x last) (sym h) more)
+  looks_on (suc j) k s mid last h more = looks_on_by j k s mid last (m.asks s) (λ u on. looks_on j k u mid last on more) refl h.0 h.1
+
+  -- steps that ask nothing are some of them
+  silent_by : (j k : ℕ) (s mid last : S) (o : Option Query) → ((u : S) → Runs m Host n j u [] mid → Looks m n lines sure k u last) →
+      MatchOption o (Runs m Host n j (m.next s None) [] mid) (λ q. ⊥) → After k s last o
+  silent_by j k s mid last None on h = on (m.next s None) h
+  silent_by j k s mid last (Some q) on h = absurd h
+
+  pub silent_all : (k : ℕ) (s last : S) → Runs m Host n k s [] last → Looks m n lines sure k s last
+  silent_all zero s last h = h.1
+  silent_all (suc k) s last h = (h.0, silent_by k k s last last (m.asks s) (λ u on. silent_all k u last on) h.1)
+
+-- where no look is sure, all steps ask nothing
+module _ {S : Type 0} (m : Moves S) (n : ℕ) (lines : Lines) where
+  runs_by_looks : (k : ℕ) (s last : S) (o : Option Query) → ((u : S) → Looks m n lines 0 k u last → Runs m Host n k u [] last) →
+      After m n lines 0 k s last o → MatchOption o (Runs m Host n k (m.next s None) [] last) (λ q. ⊥)
+  runs_by_looks k s last None on h = on (m.next s None) h
+  runs_by_looks k s last (Some q) on h = omega (arith, h.1)
+
+  pub none_seen : (k : ℕ) (s last : S) → Looks m n lines 0 k s last → Runs m Host n k s [] last
+  none_seen zero s last h = (refl, h)
+  none_seen (suc k) s last h = (h.0, runs_by_looks k s last (m.asks s) (λ u on. none_seen k u last on) h.1)
+
+  -- to advance is to see no look
+  pub advances_of : (s new : S) (ask : Ask) → Sees m n lines 0 s ask new → Advances m n s ask new
+  advances_of s new ask sees = record { steps = sees.steps; last = sees.last; runs = none_seen sees.steps s sees.last sees.looks; asked = sees.asked }

@@ -2,13 +2,13 @@
 use Rattle.std.specs.Prelude.{ℕ, ◌≡◌, ◌+◌, ◌-◌, ◌<◌, nat_lt, Option, None, Some, List, [], ◌∷◌, ◌++◌, length, if◌then◌else◌}
 use Rattle.beeb_bits.specs.declared.Side.{Side}
 use Rattle.beeb_bits.specs.declared.Side.TheVariants.{Host, Para}
-use Rattle.tube_chip.specs.State.{State}
+use Rattle.tube_chip.specs.State.{State, lines_of}
 use Rattle.tube_chip.specs.Act.{Query, access, look, act}
 use Rattle.tube_trace.specs.declared.Entry.{Entry}
 use Rattle.tube_trace.specs.Entries.{entry_of}
 use Rattle.tube_party.specs.declared.party.Ask.{Ask}
 use Rattle.tube_party.specs.declared.party.Ask.TheVariants.{Nothing, Access, Look}
-use Rattle.tube_party.specs.Moves.{Moves, Advances}
+use Rattle.tube_party.specs.Moves.{Moves, Sees}
 
 -- one more entry, while there are fewer than `keep`
 abbrev pub noted : ℕ → List Entry → Entry → List Entry
@@ -24,14 +24,14 @@ IsPending m n s Nothing = ⊥
 IsPending m n s (Access t op) = (t.0 ≡ m.due s) × (t.0 < n) × (m.asks s ≡ Some (access op))
 IsPending m n s (Look t) = (t.0 ≡ m.due s) × (t.0 < n) × (m.asks s ≡ Some look)
 
--- The step that asks was done at the chip, and all after it that ask nothing.
-pub record Turns {S : Type 0} (m : Moves S) (side : Side) (n keep : ℕ) (s : S) (c : State) (list : List Entry) (count : ℕ) (s2 : S) (c2 : State) (list2 : List Entry) (count2 : ℕ) (ask2 : Ask) : Type 0 where
+-- The step that asks was done at the chip, and all after it that ask nothing or are looks below `sure`.
+pub record Turns {S : Type 0} (m : Moves S) (side : Side) (n keep sure : ℕ) (s : S) (c : State) (list : List Entry) (count : ℕ) (s2 : S) (c2 : State) (list2 : List Entry) (count2 : ℕ) (ask2 : Ask) : Type 0 where
   pub query : Query
   pub asks : m.asks s ≡ Some query
   pub chip_is : c2 ≡ (act c side query).0
   pub list_is : list2 ≡ noted_all keep list (entry_of (m.due s) side query (act c side query).1)
   pub count_is : count2 ≡ count + length (entry_of (m.due s) side query (act c side query).1)
-  pub advances : Advances m n (m.next s (Some (act c side query).1)) ask2 s2
+  pub sees : Sees m n (lines_of c2) sure (m.next s (Some (act c side query).1)) ask2 s2
 
 -- whose step comes first: the host's, unless the parasite's is at a smaller tick
 abbrev pub first_due : ℕ → ℕ → Side
@@ -54,3 +54,15 @@ abbrev pub left : ℕ → Ask → ℕ
 left n Nothing = 0
 left n (Access t op) = n - t.0
 left n (Look t) = n - t.0
+
+-- its tick is below this one
+abbrev pub IsBelow : ℕ → Ask → Type 0
+IsBelow n Nothing = Unit {0}
+IsBelow n (Access t op) = t.0 < n
+IsBelow n (Look t) = t.0 < n
+
+-- the first tick at which a look of the other side comes after the step that asks this
+abbrev pub sure_by : ℕ → Ask → ℕ
+sure_by slack Nothing = 1073741824
+sure_by slack (Access t op) = t.0 + slack
+sure_by slack (Look t) = t.0 + slack

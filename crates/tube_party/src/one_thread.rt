@@ -3,7 +3,7 @@ ghost use Rattle.std.specs.Prelude.{◌≡◌, ◌≤◌, ◌<◌, ◌^◌, [], 
 ghost use Rattle.beeb_bits.specs.declared.Side.TheVariants.{Host, Para};
 ghost use Rattle.tube_chip.specs.State.{lines_of};
 ghost use Rattle.tube_party.specs.Played.{IsPlayed};
-ghost use Rattle.tube_party.specs.Turn.{IsPending, Turns, first_of};
+ghost use Rattle.tube_party.specs.Turn.{IsPending, Turns, first_of, sure_by, IsBelow};
 ghost use Rattle.tube_party.specs.Reference.{reference};
 
 use crate::log::Log;
@@ -47,7 +47,22 @@ fn first_of(host: Ask, para: Ask) -> Option<Side>
     }
 }
 
-/// Does the step that asks, and all after it that ask nothing. The lines are kept up with the chip, which a look leaves alone.
+/// The first tick at which a look of the other side comes after the step that asks this, which stays `slack` ticks behind: up to there
+/// looks see the chip as it is. The last tick of a run where nothing is asked.
+#[inline(always)]
+fn sure(ask: Ask, slack: u64) -> Tick
+    requires slack { slack ≤ 1 }
+    requires below { IsBelow MOST ask }
+    ensures { result.0 ≡ sure_by slack ask }
+{
+    match ask {
+        Ask::Nothing => Tick(MOST),
+        Ask::Access(tick, _) | Ask::Look(tick) => Tick(tick.0 + slack),
+    }
+}
+
+/// Does the step that asks, and all after it that ask nothing or are looks below tick `sure`. The lines are kept up with the chip, which a
+/// look leaves alone.
 fn turn<M: Party>(
     machine: &mut M,
     side: Side,
@@ -56,6 +71,7 @@ fn turn<M: Party>(
     log: &mut Log,
     n: Tick,
     ask: Ask,
+    sure: Tick,
 ) -> Ask
     requires ticks { n.0 ≤ MOST }
     requires plays { IsTrue (M.plays side) }
@@ -63,7 +79,7 @@ fn turn<M: Party>(
     requires count { log.old.count < 2 ^ 63 }
     requires kept { lines.old ≡ lines_of chip.old }
     ensures kept { lines.new ≡ lines_of chip.new }
-    ensures turns { Turns M.moves side n.0 log.old.keep (M.state machine.old) chip.old log.old.list.items log.old.count (M.state machine.new) chip.new log.new.list.items log.new.count result }
+    ensures turns { Turns M.moves side n.0 log.old.keep sure.0 (M.state machine.old) chip.old log.old.list.items log.old.count (M.state machine.new) chip.new log.new.list.items log.new.count result }
     ensures keep { log.new.keep ≡ log.old.keep }
 {
     match ask {
@@ -81,10 +97,10 @@ fn turn<M: Party>(
         }
         Ask::Look(_) => machine.answer(Answer::Seen(*lines)),
     }
-    machine.advance(n)
+    machine.advance_seeing(n, lines, sure)
 }
 
-/// Both parties in turn, each as far as its next ask, and then the earlier ask, again and again.
+/// Both parties in turn, each as far as its next ask that comes after the other's, and then the earlier ask, again and again.
 fn both<H: Party, P: Party>(
     mut host: H,
     mut para: P,
@@ -115,6 +131,7 @@ fn both<H: Party, P: Party>(
                     &mut host_log,
                     n,
                     host_ask,
+                    sure(para_ask, 1),
                 );
             }
             Side::Para => {
@@ -126,6 +143,7 @@ fn both<H: Party, P: Party>(
                     &mut para_log,
                     n,
                     para_ask,
+                    sure(host_ask, 0),
                 );
             }
         }

@@ -1,10 +1,10 @@
 //! What a machine at the Tube is.
 ghost use Rattle.std.specs.Prelude.{◌≡◌, ◌≤◌, Bool, Some};
 ghost use Rattle.beeb_bits.specs.declared.Side.{Side};
-ghost use Rattle.tube_party.specs.Moves.{Moves, IsLawful, IsPermitted, Advances, IsAskedFor};
+ghost use Rattle.tube_party.specs.Moves.{Moves, IsLawful, IsPermitted, Advances, Sees, IsAskedFor};
 
 use beeb_bits::Tick;
-use tube_chip::{Answer, Op};
+use tube_chip::{Answer, Lines, Op};
 
 /// What the next step below a tick asks of the Tube.
 #[derive(Clone, Copy, Debug, PartialEq, Eq)]
@@ -43,6 +43,26 @@ pub trait Party: Drop {
     fn advance(&mut self, until: Tick) -> Ask
         requires { until.0 ≤ MOST }
         ensures { Advances moves until.0 (state self.old) result (state self.new) };
+
+    /// Does the steps below `until` that ask nothing, and with them each look below tick `sure`, which sees these lines; up to the first step
+    /// that asks for more. It is `advance` and `answer` in turn, and a machine may do it without leaving off at each look.
+    fn advance_seeing(&mut self, until: Tick, lines: &Lines, sure: Tick) -> Ask
+        requires { until.0 ≤ MOST }
+        ensures { Sees moves until.0 lines.now sure.0 (state self.old) result (state self.new) }
+    {
+        loop {
+            match self.advance(until) {
+                Ask::Nothing => return Ask::Nothing,
+                Ask::Access(tick, op) => return Ask::Access(tick, op),
+                Ask::Look(tick) => {
+                    if sure.0 <= tick.0 {
+                        return Ask::Look(tick);
+                    }
+                    self.answer(Answer::Seen(*lines));
+                }
+            }
+        }
+    }
 
     /// Does the step that asks.
     fn answer(&mut self, answer: Answer)

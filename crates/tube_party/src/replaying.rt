@@ -6,7 +6,7 @@ ghost use Rattle.tube_party.specs.Replay.{next_line, replayed};
 ghost use Rattle.tube_party.specs.Tape.{own_left, IsOwnAt};
 
 use crate::party::{Ask, MOST, Party};
-use crate::tape::{lines_at, next_own, take};
+use crate::tape::{lines_at, next_own, sure, take};
 use beeb_bits::{Side, Tick};
 use tube_chip::{Answer, Chip, Op};
 use tube_trace::Entry;
@@ -56,7 +56,7 @@ pub fn replay<M: Party>(
     let mut seen = 0;
     let mut at = 0;
     'steps: loop {
-        match machine.advance(n) {
+        match machine.advance_seeing(n, &lines, sure(trace, seen, side)) {
             Ask::Nothing => {
                 let next = next_own(trace, side, n, at);
                 return (machine, next_line(trace, next));

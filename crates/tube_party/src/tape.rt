@@ -2,11 +2,12 @@
 ghost use Rattle.std.specs.Prelude.{◌≡◌, ◌≤◌, ◌<◌, ◌+◌, ℕ, length, drop, All, MatchResult, ◌&&◌, nat_lt};
 ghost use Rattle.beeb_bits.specs.declared.Side.{Side};
 ghost use Rattle.tube_chip.specs.Events.{is_side};
-ghost use Rattle.tube_chip.specs.State.{lines_of};
+ghost use Rattle.tube_chip.specs.State.{State, lines_of};
 ghost use Rattle.tube_trace.specs.Entries.{IsEntry};
 ghost use Rattle.tube_party.specs.Replay.{chip_before, same_op, is_that};
 ghost use Rattle.tube_party.specs.Tape.{own_left, IsOwnAt, Takes, Misses};
 
+use crate::party::MOST;
 use beeb_bits::{Side, Tick, before};
 use tube_chip::{Chip, Lines, Op};
 use tube_trace::Entry;
@@ -81,6 +82,24 @@ fn catch_up(chip: &mut Chip, trace: &[Entry], seen: usize, side: Side, tick: Tic
         at += 1;
     }
     at
+}
+
+/// The first tick at which a look of the side comes after the entry at a place: looks below it see the chip as it is. The last tick of a
+/// run where there is no such entry.
+#[inline(always)]
+pub(crate) fn sure(trace: &[Entry], seen: usize, side: Side) -> Tick
+    requires { seen ≤ length trace.now }
+    ensures { (t : ℕ) (c : State) → t < result.0 → chip_before side t c (drop seen trace.now) ≡ c }
+{
+    if seen >= trace.len() {
+        return Tick(MOST);
+    }
+    let entry = trace[seen];
+    if before(entry.tick, entry.side, entry.tick, side) {
+        entry.tick
+    } else {
+        Tick(entry.tick.0.saturating_add(1))
+    }
 }
 
 /// The lines at a look of the side at a tick: the entries that come before it are done, from a place on, and the lines kept up with
