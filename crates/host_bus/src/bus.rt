@@ -138,6 +138,14 @@ impl<D: BusDevice> Bus<D> {
         ensures answer { result ≡ bus_irq (bus_closed (bus_seen D.plug self.old) (t.0 + 1)) }
     {
         self.close(t.0 + 1);
+        self.irq_now()
+    }
+
+    /// The same at the last tick that is done.
+    #[inline(always)]
+    pub fn irq_now(&self) -> bool
+        ensures { result ≡ bus_irq (bus_seen D.plug self.now) }
+    {
         self.board.irq()
     }
 
@@ -150,6 +158,14 @@ impl<D: BusDevice> Bus<D> {
         ensures after { bus_seen D.plug self.new ≡ bus_closed (bus_seen D.plug self.old) (t.0 + 1) }
     {
         self.close(t.0 + 1);
+        self.nmis_now()
+    }
+
+    /// The same by the last tick that is done.
+    #[inline(always)]
+    pub fn nmis_now(&self) -> u64
+        ensures { result ≡ bus_nmis (bus_seen D.plug self.now) }
+    {
         self.board.nmis()
     }
 

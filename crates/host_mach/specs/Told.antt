@@ -1,15 +1,18 @@
 -- What an access comes to: it is done, or the Tube is asked.
-use Rattle.std.specs.Prelude.{ℕ, ◌≡◌, ◌+◌, ◌==◌, Bool, true, false, not, is_none, if◌then◌else◌, Option, Some, None, MatchOption, Result, Ok, Err}
+use Rattle.std.specs.Prelude.{ℕ, ◌≡◌, ◌≤◌, ◌<◌, ◌+◌, ◌-◌, min, nat_lt, if◌then◌else◌, Option, Some, None, IsSome, MatchOption, Result, Ok, Err}
 use Rattle.cpu_alu.specs.declared.Cycle.{Cycle}
-use Rattle.cpu6502.specs.Sequences.{next, after, looked, fresh}
+use Rattle.cpu6502.specs.State as cpu
+use Rattle.cpu6502.specs.Sequences.{next}
 use Rattle.tube_chip.specs.Act.{access}
 use Rattle.tube_chip.specs.declared.Answer.TheVariants.{Byte}
 use Rattle.tube_chip.specs.declared.Op.{Op}
 use Rattle.tube_party.specs.Moves.{FitsAnswer}
 use Rattle.host_bus.specs.Bus.{BusState, bus_closed}
 use Rattle.host_mach.specs.declared.exchange.Done.{Done}
+use Rattle.host_mach.specs.declared.run.Stop.{Stop}
+use Rattle.host_mach.specs.declared.run.Stop.TheVariants.{Look, Access, End}
 use Rattle.host_mach.specs.State.{HostState}
-use Rattle.host_mach.specs.Step.{asks, asks_by, byte_of, bus_after, cycle_ticks, host_closed, next_state}
+use Rattle.host_mach.specs.Step.{asks, asks_by, byte_of, bus_after, cycle_ticks, next_state}
 
 -- an access at tick t is done, with the devices closed before it, or it asks the Tube
 abbrev pub IsExchanged : BusState → ℕ → Cycle → Result Done Op → BusState → Type 0
@@ -29,12 +32,6 @@ IsMemory b t c (Some byte) new =
     × (bus_closed new (t + 1) ≡ bus_after (bus_closed b (t + 1)) c)
     × (cycle_ticks t c ≡ 3)
 
--- The next step is done but for its ticks and for the closing; or nothing has changed.
-abbrev pub IsQuick : HostState → Bool → HostState → Type 0
-IsQuick old false new = new ≡ old
-IsQuick old true new =
-    (asks old ≡ None) × (record (host_closed new (old.due + 1)) { due = (if is_none (next new.cpu) then old.due + 2 else old.due + 3) } ≡ next_state old None)
-
 -- the next step is done, or it asks the Tube
 abbrev pub IsDone : HostState → Option Op → HostState → Type 0
 IsDone old None new = (asks old ≡ None) × (new ≡ next_state old None)
@@ -44,6 +41,16 @@ IsDone old (Some o) new = (asks old ≡ Some (access o)) × (new ≡ old)
 abbrev pub IsAskedByte : HostState → Type 0
 IsAskedByte s = MatchOption (asks s) ⊥ (λ q. FitsAnswer q (Byte 0))
 
--- what follows a look, by the count of the NMI line's rises and whether an interrupt is asked for
-abbrev pub begun : HostState → ℕ → Bool → HostState
-begun s nmis irq = record s { cpu = fresh (looked (not (nmis == s.nmis)) irq (after s.cpu)) (after s.cpu); nmis = nmis; due = s.due + 1 }
+-- the host of these parts
+abbrev pub host_of : cpu.State → BusState → ℕ → ℕ → HostState
+host_of c b n t = record { cpu = c; bus = b; nmis = n; due = t }
+
+-- how far the devices count as closed before a step at the tick due: up to the access of the cycle before, if there was one since another tick
+abbrev pub owed_at : ℕ → ℕ → ℕ → ℕ
+owed_at since due closed = if nat_lt since due then due - 2 else closed
+
+-- where steps leave off: at a look that is not sure, or at an access that is none of the memory, or past the end
+abbrev pub IsStop : ℕ → ℕ → Stop → HostState → Type 0
+IsStop until sure Look s = (next s.cpu ≡ None) × (min until sure ≤ s.due)
+IsStop until sure Access s = IsSome (next s.cpu) × (s.due < until)
+IsStop until sure End s = until ≤ s.due

@@ -3,5 +3,6 @@
 
 mod exchange;
 mod machine;
+mod run;
 
 pub use machine::HostMachine;

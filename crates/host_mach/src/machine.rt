@@ -1,13 +1,14 @@
 //! The machine.
-ghost use Rattle.std.specs.Prelude.{◌≡◌, ◌≤◌, ◌<◌, ◌+◌, ◌^◌, IfOk, IsSome, None, Some, MatchOption, false, map};
-ghost use Rattle.host_bus.specs.Bus.{bus_disc, closed_at};
+ghost use Rattle.std.specs.Prelude.{◌≡◌, ◌≤◌, ◌<◌, ◌+◌, ◌^◌, ℕ, IfOk, IsSome, None, Some, MatchOption, false, map};
+ghost use Rattle.host_bus.specs.Bus.{bus_disc};
 ghost use Rattle.tube_chip.specs.declared.Answer.TheVariants.{Byte, Seen};
-ghost use Rattle.tube_party.specs.Moves.{IsAsk, shut};
+ghost use Rattle.tube_party.specs.Moves.{Looks, IsAsk, shut};
 ghost use Rattle.cpu6502.specs.Sequences.{next, halted};
 ghost use Rattle.host_mach.specs.State.{power_on};
-ghost use Rattle.host_mach.specs.Step.{host_moves, host_closed, next_state};
+ghost use Rattle.host_mach.specs.Step.{host_moves, next_state};
 
-use crate::exchange::{exchange, exchange_memory};
+use crate::exchange::exchange;
+use crate::run::{Stop, go_on, see};
 use beeb_bits::{Crosses, NoMemory, Tick};
 use bus_plug::BusDevice;
 use cpu_alu::Regs;
@@ -20,6 +21,14 @@ use rom_set::RomSet;
 use std::alloc::Global;
 use tube_chip::{Answer, Lines, Op};
 use tube_party::{Ask, Party};
+
+const NO_LINES: Lines = Lines {
+    prst: false,
+    resets: 0,
+    nmis: 0,
+    pirq: false,
+    hirq: false,
+};
 
 /// The BBC Micro: a 6502 at 2 MHz and its bus, with the Tube at FEE0 to FEFF.
 #[derive(Drop)]
@@ -38,7 +47,7 @@ impl<D: BusDevice + Send> Crosses for HostMachine<D> {}
 
 impl<D: BusDevice> HostMachine<D> {
     ghost use Rattle.host_mach.specs.View.{host_seen};
-    ghost use Rattle.host_mach.specs.Told.{IsDone, IsQuick, IsAskedByte, begun};
+    ghost use Rattle.host_mach.specs.Told.{IsDone, IsAskedByte, IsStop};
 
     /// The machine at power-on, before the first cycle of a reset. It takes the memory of all shots of the script. Where memory is wanting,
     /// all is dropped.
@@ -104,35 +113,6 @@ impl<D: BusDevice> HostMachine<D> {
         self.bus.plugs()
     }
 
-    // An access of the memory, without its ticks, if that is the next step. A read leaves the device steps before it for later.
-    #[inline(always)]
-    fn quick(&mut self) -> bool
-        requires room { self.old.due < 2 ^ 40 }
-        requires goes_on { IsSome (next self.old.cpu) }
-        ensures due { self.new.due ≡ self.old.due }
-        ensures left { result ≡ false → IsSome (next self.new.cpu) }
-        ensures done { IsQuick (host_seen D.plug self.old) result (host_seen D.plug self.new) }
-    {
-        match exchange_memory(&mut self.bus, self.due, self.cpu.want()) {
-            Some(byte) => {
-                self.cpu.give(byte);
-                true
-            }
-            None => false,
-        }
-    }
-
-    // Does the device steps below `owed`, which reads of the memory left for later.
-    #[inline(always)]
-    fn catch_up(&mut self, owed: u64)
-        requires low { closed_at (host_seen D.plug self.old).bus ≤ owed }
-        requires high { owed ≤ self.old.due + 1 }
-        requires room { self.old.due < 2 ^ 40 }
-        ensures { host_seen D.plug self.new ≡ host_closed (host_seen D.plug self.old) owed }
-    {
-        self.bus.close(owed);
-    }
-
     // Any access of the next step, if it asks nothing; else what it asks. Kept out of the loop, whose frame has no room for it.
     #[inline(never)]
     fn access(&mut self) -> Option<Op>
@@ -196,22 +176,34 @@ impl<D: BusDevice> HostMachine<D> {
         requires over { next self.old.cpu ≡ None }
         ensures { host_seen D.plug self.new ≡ next_state (host_seen D.plug self.old) (Some (Seen lines)) }
     {
-        let nmis = self.bus.nmis(Tick(self.due));
-        let irq = self.bus.irq(Tick(self.due)) || lines.hirq;
-        self.begin(nmis, irq);
+        see(
+            &mut self.cpu,
+            &mut self.bus,
+            &mut self.nmis,
+            self.due,
+            lines.hirq,
+        );
+        self.due += 1;
     }
 
-    // What follows a look: an NMI, where the count of its line's rises is not the one taken, an IRQ, if one asks for it and it is not
-    // disabled, or the next instruction.
+    // The steps in a row, and where they leave off.
     #[inline(always)]
-    fn begin(&mut self, nmis: u64, irq: bool)
-        requires room { self.old.due < 2 ^ 40 }
-        requires over { next self.old.cpu ≡ None }
-        ensures { host_seen D.plug self.new ≡ begun (host_seen D.plug self.old) nmis irq }
+    fn run(&mut self, until: Tick, lines: &Lines, sure: Tick) -> Stop
+        requires room { until.0 ≤ 2 ^ 30 }
+        ensures looks { (k : ℕ) × Looks host_moves until.0 lines.now sure.0 k (host_seen D.plug self.old) (host_seen D.plug self.new) }
+        ensures stops { IsStop until.0 sure.0 result (host_seen D.plug self.new) }
     {
-        self.cpu.take_lines(nmis != self.nmis, irq);
-        self.nmis = nmis;
-        self.due += 1;
+        let (due, stop) = go_on(
+            &mut self.cpu,
+            &mut self.bus,
+            &mut self.nmis,
+            self.due,
+            until.0,
+            sure.0,
+            lines,
+        );
+        self.due = due;
+        stop
     }
 }
 
@@ -241,33 +233,26 @@ impl<D: BusDevice> Party for HostMachine<D> {
 
     #[inline(always)]
     fn advance(&mut self, until: Tick) -> Ask {
-        if self.cpu.last() {
-            return self.look(until);
-        }
-        // Reads of the memory leave device steps for later. Those below this tick come before anything that can tell.
-        let mut owed = self.bus.closed();
-        while self.due < until.0 {
-            if self.quick() {
-                owed = self.due + 1;
-                if self.cpu.last() {
-                    self.catch_up(owed);
-                    self.due += 2;
-                    return self.look(until);
+        // No look is below tick 0, so that none sees these lines.
+        self.advance_seeing(until, &NO_LINES, Tick(0))
+    }
+
+    #[inline(always)]
+    fn advance_seeing(&mut self, until: Tick, lines: &Lines, sure: Tick) -> Ask {
+        loop {
+            match self.run(until, lines, sure) {
+                Stop::Look => return self.look(until),
+                Stop::Access => {
+                    if let Some(op) = self.access() {
+                        return Ask::Access(Tick(self.due), op);
+                    }
                 }
-                self.due += 3;
-            } else {
-                if let Some(op) = self.access() {
-                    self.catch_up(owed);
-                    return Ask::Access(Tick(self.due), op);
-                }
-                owed = self.bus.closed();
-                if self.cpu.last() {
-                    return self.look(until);
+                Stop::End => {
+                    self.shut(until);
+                    return Ask::Nothing;
                 }
             }
         }
-        self.shut(until);
-        Ask::Nothing
     }
 
     #[inline(always)]

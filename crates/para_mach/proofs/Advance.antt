@@ -1,13 +1,20 @@
--- One more silent step.
-use Rattle.std.proofs.Common.{◌≡◌, ◌∙◌, sym, ap, subst, ℕ, suc, ◌+◌, ◌<◌, ◌≤◌, [], None, Option, Bool, true, false, if◌then◌else◌, ltb, arith}
-use Rattle.std.proofs.lemmas.Bool.{lt-ltb}
-use Rattle.beeb_bits.specs.declared.Side.TheVariants.{Host}
-use Rattle.tube_party.specs.Moves.{Runs}
-use Rattle.tube_party.specs.Steps.{runs_more}
-use Rattle.para_mach.specs.State.{ParaState}
-use Rattle.para_mach.specs.Step.{para_moves, looks, next_state, after_look, lines_in, accessed}
-use Rattle.para_mach.specs.Told.{IsDone, IsQuick, lag_by}
+-- Steps among which looks see their lines.
+use Rattle.std.proofs.Common.{◌≡◌, ◌∙◌, sym, refl, ap, subst, ℕ, suc, ◌+◌, ◌<◌, ◌≤◌, ◌==◌, not, None, Some, Option, Bool, true, false, is_none, if◌then◌else◌, ltb, arith}
+use Rattle.std.proofs.lemmas.Bool.{lt-ltb, le-ltb, eq-eqb}
+use Rattle.cpu_alu.specs.declared.Cycle.{Cycle}
+use Rattle.cpu_alu.specs.declared.Regs.{Regs}
+use Rattle.cpu_core.specs.declared.Sequence.{Sequence}
+use Rattle.cpu_core.specs.declared.Sequence.TheVariants.{Instruction, Reset, Nmi, Irq}
+use Rattle.cpu65c02.specs.Sequences.{next, after, looked, fresh}
 use Rattle.tube_chip.specs.declared.Op.{Op}
+use Rattle.tube_chip.specs.declared.Answer.TheVariants.{Seen}
+use Rattle.tube_chip.specs.declared.Lines.{Lines}
+use Rattle.tube_chip.specs.Act.{look}
+use Rattle.tube_party.specs.Moves.{Looks}
+use Rattle.tube_party.specs.Steps.{silent_last, look_last}
+use Rattle.para_mach.specs.State.{ParaState}
+use Rattle.para_mach.specs.Step.{para_moves, asks, asks_by, looks, next_state, after_look, begun, held_on, lines_in, accessed}
+use Rattle.para_mach.specs.Told.{IsDone, IsQuick, IsPassed, IsRun, lag_by}
 
 -- a state at another tick
 abbrev pub timed : ParaState → ℕ → ℕ → ParaState
@@ -26,21 +33,128 @@ whole_step : (s new : ParaState) (due lag : ℕ) → looks s ≡ false → new �
 whole_step s new due lag on done =
     ap (λ (x : ParaState). ticked x due (looks x)) done ∙ sym (accesses (timed s due lag) on)
 
-pub more : (n k : ℕ) (start s new : ParaState) (due lag : ℕ) (over : Bool) → Runs para_moves Host n k start [] (timed s due lag) → due < n → looks s ≡ false → IsDone s None new → looks new ≡ over
-    → Runs para_moves Host n (suc k) start [] (ticked new due over)
-more n k start s new due lag over runs low on done is =
-    let step : ticked new due over ≡ next_state (timed s due lag) None = ap (ticked new due) (sym is) ∙ whole_step s new due lag on done.1 in
-    subst (λ (x : ParaState). Runs para_moves Host n (suc k) start [] x) (sym step) (runs_more para_moves Host n k start (timed s due lag) runs low done.0)
+-- a look finds the counts as they were taken
+same_counts : (s : ParaState) (l : Lines) → looks s ≡ true → l.resets ≡ s.resets → l.nmis ≡ s.nmis → begun s (fresh (looked false l.pirq (after s.cpu)) (after s.cpu)) ≡ next_state s (Some (Seen l))
+same_counts s l on resets nmis =
+    let on_by : ParaState = begun s (fresh (looked false l.pirq (after s.cpu)) (after s.cpu)) in
+    sym
+    (ap (λ (b : Bool). if b then after_look s l else accessed s (Some (Seen l))) on
+    ∙ ap (λ (b : Bool).
+        if not b then (if l.prst then held_on s else begun (record s { rom_in = true; resets = l.resets; nmis = l.nmis }) (fresh Reset (after s.cpu)))
+        else if not (l.nmis == s.nmis) then begun (record s { nmis = l.nmis }) (fresh Nmi (after s.cpu)) else on_by) (eq-eqb l.resets s.resets resets)
+    ∙ ap (λ (b : Bool). if not b then begun (record s { nmis = l.nmis }) (fresh Nmi (after s.cpu)) else on_by) (eq-eqb l.nmis s.nmis nmis))
+
+-- where a look is the next step, it is asked for
+pub asks_look : (s : ParaState) → looks s ≡ true → asks s ≡ Some look
+asks_look s on = by (next s.cpu) on
+  where
+    by : (o : Option Cycle) → is_none o ≡ true → asks_by o ≡ Some look
+    by None h = refl
+    by (Some c) h = absurd (cc)
+
+-- a sequence that begins has a first access
+begins : (sequence : Sequence) (r : Regs) → is_none (next (fresh sequence r)) ≡ false
+begins Instruction r = refl
+begins Reset r = refl
+begins Nmi r = refl
+begins Irq r = refl
+
+module _ (n : ℕ) (lines : Lines) (sure : ℕ) (start : ParaState) where
+  -- so many steps, of which each asked nothing or saw the lines
+  abbrev pub Came : ParaState → Type 0
+  Came s = (k : ℕ) × Looks para_moves n lines sure k start s
+
+  -- one more access
+  pub more : (s new : ParaState) (due lag : ℕ) (over : Bool) → Came (timed s due lag) → due < n → looks s ≡ false → IsDone s None new → looks new ≡ over → Came (ticked new due over)
+  more s new due lag over came low on done is =
+      let step : ticked new due over ≡ next_state (timed s due lag) None = ap (ticked new due) (sym is) ∙ whole_step s new due lag on done.1 in
+      (suc came.0, subst (λ (x : ParaState). Looks para_moves n lines sure (suc came.0) start x) (sym step) (silent_last para_moves n lines sure came.0 start (timed s due lag) came.1 low done.0))
+
+  -- one more look
+  pub more_look : (s new : ParaState) → Came s → s.due < n → looks s ≡ true → s.due < sure → new ≡ next_state s (Some (Seen lines)) → Came new
+  more_look s new came low on early is =
+      (suc came.0, subst (λ (x : ParaState). Looks para_moves n lines sure (suc came.0) start x) (sym is) (look_last para_moves n lines sure came.0 start s came.1 low (asks_look s on) early))
 
 pub lag_past : (began lag due : ℕ) → began ≤ due → lag_by began lag (due + 2) ≡ 1
 lag_past began lag due low =
     let past : ltb began (due + 2) ≡ true = lt-ltb began (due + 2) (omega (arith, low)) in
     ap (λ (b : Bool). if b then 1 else lag) past
 
--- an access leaves the ticks
+pub lag_here : (at lag : ℕ) → lag_by at lag at ≡ lag
+lag_here at lag = ap (λ (b : Bool). if b then 1 else lag) (le-ltb at at (omega arith))
+
+-- an access leaves the ticks and the counts
 pub same_due : (s new : ParaState) → IsDone s None new → new.due ≡ s.due
 same_due s new done = ap (λ (x : ParaState). x.due) done.1
+
+pub same_resets : (s new : ParaState) → IsDone s None new → new.resets ≡ s.resets
+same_resets s new done = ap (λ (x : ParaState). x.resets) done.1
+
+pub same_nmis : (s new : ParaState) → IsDone s None new → new.nmis ≡ s.nmis
+same_nmis s new done = ap (λ (x : ParaState). x.nmis) done.1
 
 -- a step that was left is done by a slower call
 pub unmoved : (s left new : ParaState) (o : Option Op) → IsQuick s false left → IsDone left o new → IsDone s o new
 unmoved s left new o same done = subst (λ (x : ParaState). IsDone x o new) same done
+
+-- The steps of a run so far asked nothing or saw the lines; the next one is an access at this tick, and the counts are as they were.
+pub record IsUnderWay (n : ℕ) (lines : Lines) (sure : ℕ) (start s : ParaState) (due : ℕ) : Type 0 where
+  pub goes_on : looks s ≡ false
+  pub low : s.due ≤ due
+  pub from : start.due ≤ due
+  pub resets : s.resets ≡ start.resets
+  pub nmis : s.nmis ≡ start.nmis
+  pub came : Came n lines sure start (timed s due (lag_by s.due s.lag due))
+
+module _ (n : ℕ) (lines : Lines) (sure : ℕ) (start s new : ParaState) (due : ℕ) (way : IsUnderWay n lines sure start s due) (below : due < n) (done : IsDone s None new) where
+  -- after an access comes another
+  pub way_on : looks new ≡ false → IsUnderWay n lines sure start new (due + 2)
+  way_on on =
+      let low : new.due ≤ due = omega (arith, same_due s new done, way.low) in
+      let came : Came n lines sure start (ticked new due false) = more n lines sure start s new due _ false way.came below way.goes_on done on in
+      record {
+        goes_on = on;
+        low = omega (arith, low);
+        from = omega (arith, way.from);
+        resets = same_resets s new done ∙ way.resets;
+        nmis = same_nmis s new done ∙ way.nmis;
+        came = (came.0, subst (λ (k : ℕ). Looks para_moves n lines sure came.0 start (timed new (due + 2) k)) (sym (lag_past new.due new.lag due low)) came.1);
+      }
+
+  -- or a look, which sees the lines
+  pub way_past : looks new ≡ true → (bound : ℕ) → bound ≤ n → bound ≤ sure → (0 < bound → (lines.resets ≡ start.resets) × (lines.nmis ≡ start.nmis)) → (seen : ParaState) →
+      IsPassed (due + 1) bound lines.pirq new true seen → IsUnderWay n lines sure start seen (due + 2)
+  way_past over bound in_run in_sure same seen passed =
+      let at : ParaState = timed new (due + 1) 0 in
+      let on : ParaState = begun at (fresh (looked false lines.pirq (after new.cpu)) (after new.cpu)) in
+      let counts : (lines.resets ≡ start.resets) × (lines.nmis ≡ start.nmis) = same (omega (arith, passed.0)) in
+      let resets : new.resets ≡ start.resets = same_resets s new done ∙ way.resets in
+      let nmis : new.nmis ≡ start.nmis = same_nmis s new done ∙ way.nmis in
+      let first : Came n lines sure start at = more n lines sure start s new due _ true way.came below way.goes_on done over in
+      let came : Came n lines sure start on =
+      more_look n lines sure start at on first (omega (arith, passed.0, in_run)) over (omega (arith, passed.0, in_sure)) (same_counts at lines over (counts.0 ∙ sym resets) (counts.1 ∙ sym nmis)) in
+      let due_is : seen.due ≡ due + 2 = ap (λ (x : ParaState). x.due) passed.1 ∙ omega arith in
+      let lag_is : lag_by seen.due seen.lag (due + 2) ≡ 0 =
+      ap (λ (k : ℕ). lag_by k seen.lag (due + 2)) due_is ∙ lag_here (due + 2) seen.lag ∙ ap (λ (x : ParaState). x.lag) passed.1 in
+      let saw : timed seen (due + 2) (lag_by seen.due seen.lag (due + 2)) ≡ on =
+      ap (timed seen (due + 2)) lag_is ∙ ap (λ (x : ParaState). timed x (due + 2) 0) passed.1 ∙ ap (λ (k : ℕ). timed on k 0) (omega arith) in
+      record {
+        goes_on = ap looks passed.1 ∙ begins (looked false lines.pirq (after new.cpu)) (after new.cpu);
+        low = omega (arith, due_is);
+        from = omega (arith, way.from);
+        resets = ap (λ (x : ParaState). x.resets) passed.1 ∙ resets;
+        nmis = ap (λ (x : ParaState). x.nmis) passed.1 ∙ nmis;
+        came = (came.0, subst (λ (x : ParaState). Looks para_moves n lines sure came.0 start x) (sym saw) came.1);
+      }
+
+  -- or one that is left
+  pub way_left : looks new ≡ true → (bound : ℕ) (left : ParaState) → IsPassed (due + 1) bound lines.pirq new false left → IsRun n lines sure start None left
+  way_left over bound left passed =
+      let first : Came n lines sure start (timed new (due + 1) 0) = more n lines sure start s new due _ true way.came below way.goes_on done over in
+      let due_is : left.due ≡ due + 1 = ap (λ (x : ParaState). x.due) passed.1 in
+      (
+        (first.0, subst (λ (x : ParaState). Looks para_moves n lines sure first.0 start x) (sym passed.1) first.1),
+        ap looks passed.1 ∙ over,
+        omega (arith, due_is, way.from),
+        omega (arith, below, way.from),
+      )

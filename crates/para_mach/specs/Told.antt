@@ -1,13 +1,16 @@
 -- What an access comes to: it is done, or the Tube is asked.
-use Rattle.std.specs.Prelude.{ℕ, List, Bool, true, false, ◌≡◌, ◌%◌, ltb, if◌then◌else◌, Some, None, Option, MatchOption, Result, Ok, Err}
+use Rattle.std.specs.Prelude.{ℕ, List, Bool, true, false, ◌≡◌, ◌<◌, ◌≤◌, ◌%◌, ltb, if◌then◌else◌, Some, None, Option, MatchOption, Result, Ok, Err}
 use Rattle.cpu_alu.specs.declared.Cycle.{Cycle}
+use Rattle.cpu65c02.specs.Sequences.{after, looked, fresh}
 use Rattle.tube_chip.specs.Act.{access}
 use Rattle.tube_chip.specs.declared.Answer.TheVariants.{Byte}
 use Rattle.tube_chip.specs.declared.Op.{Op}
 use Rattle.tube_chip.specs.declared.Op.TheVariants as op
-use Rattle.tube_party.specs.Moves.{FitsAnswer}
+use Rattle.tube_chip.specs.declared.Lines.{Lines}
+use Rattle.tube_party.specs.declared.party.Ask.{Ask}
+use Rattle.tube_party.specs.Moves.{FitsAnswer, Looks, Sees}
 use Rattle.para_mach.specs.State.{ParaState}
-use Rattle.para_mach.specs.Step.{asks, asks_by, is_tube, memory, byte_of, ram_after, rom_in_after, accessed}
+use Rattle.para_mach.specs.Step.{asks, asks_by, is_tube, memory, byte_of, ram_after, rom_in_after, accessed, looks, begun, para_moves}
 
 -- a read gives the byte of its address, or asks the Tube for it
 abbrev pub IsRead : List ℕ → List ℕ → Bool → ℕ → Result ℕ Op → Type 0
@@ -29,6 +32,16 @@ IsDone old (Some o) new = (asks old ≡ Some (access o)) × (new ≡ old)
 abbrev pub IsQuick : ParaState → Bool → ParaState → Type 0
 IsQuick old true new = IsDone old None new
 IsQuick old false new = new ≡ old
+
+-- a look at a tick, at which the last access closed the machine: it is below a bound and finds the counts as they were taken, or it is left
+abbrev pub IsPassed : ℕ → ℕ → Bool → ParaState → Bool → ParaState → Type 0
+IsPassed due bound pirq old true new = (due < bound) × (new ≡ begun (record old { due = due }) (fresh (looked false pirq (after old.cpu)) (after old.cpu)))
+IsPassed due bound pirq old false new = (bound ≤ due) × (new ≡ record old { due = due; lag = 0 })
+
+-- Steps that asked nothing or saw these lines, up to a look, which may see them or not; or with them what is asked.
+abbrev pub IsRun : ℕ → Lines → ℕ → ParaState → Option Ask → ParaState → Type 0
+IsRun until lines sure old (Some ask) new = Sees para_moves until lines sure old ask new
+IsRun until lines sure old None new = ((k : ℕ) × Looks para_moves until lines sure k old new) × (looks new ≡ true) × (old.due < new.due) × (old.due < until)
 
 -- the next step is an access to the Tube
 abbrev pub IsAskedByte : ParaState → Type 0

@@ -1,12 +1,12 @@
 //! The machine.
 ghost use Rattle.std.specs.Prelude.{Bool, ◌≡◌, ◌≤◌, if◌then◌else◌, ◌≢◌, ◌↔◌, ◌⊎◌, ◌<◌, ◌%◌, ◌^◌, IfOk, IfErr, IsErrOf, length, Err, Some, None, MatchOption, IsSome, IsNone, false, true, max, slice_index};
 ghost use Rattle.tube_chip.specs.declared.Answer.TheVariants.{Byte, Seen};
-ghost use Rattle.tube_party.specs.Moves.{IsAsk, Advances, shut};
+ghost use Rattle.tube_party.specs.Moves.{IsAsk, shut};
 ghost use Rattle.para_mach.specs.State.{power_on, shown_regs};
-ghost use Rattle.cpu65c02.specs.Sequences.{starting};
-ghost use Rattle.para_mach.specs.Step.{para_moves, looks, next_state};
+ghost use Rattle.cpu65c02.specs.Sequences.{starting, after, looked, fresh};
+ghost use Rattle.para_mach.specs.Step.{para_moves, looks, begun, next_state};
 ghost use Rattle.para_mach.specs.Lawful.{para_lawful, para_permitted};
-ghost use Rattle.para_mach.specs.Told.{IsDone, IsQuick, IsAskedByte, lag_by};
+ghost use Rattle.para_mach.specs.Told.{IsDone, IsQuick, IsPassed, IsRun, IsAskedByte, lag_by};
 
 use crate::memory::{Memory, ROM_SIZE};
 use beeb_bits::{Crosses, Tick};
@@ -27,6 +27,14 @@ pub enum ParaError {
     #[error("no memory")]
     NoMemory,
 }
+
+const NO_LINES: Lines = Lines {
+    prst: false,
+    resets: 0,
+    nmis: 0,
+    pirq: false,
+    hirq: false,
+};
 
 /// The 6502 Second Processor: a 65C02 at 3 MHz, 65,536 bytes of RAM, a boot ROM of 2,048 bytes over F800 to FFFF until the first
 /// access to the Tube, and the Tube at FEF8 to FEFF.
@@ -146,15 +154,6 @@ impl ParaMachine {
         }
     }
 
-    // The same. The place for what it asks is this function's, so that a loop in which it is called clears none.
-    #[inline(always)]
-    fn access(&mut self) -> Option<Op>
-        requires { looks self.old ≡ false }
-        ensures { IsDone self.old result self.new }
-    {
-        self.access_any()
-    }
-
     // The next access, without its ticks, if its address is low, as most are. Any other is left.
     #[inline(always)]
     fn quick(&mut self) -> bool
@@ -168,6 +167,15 @@ impl ParaMachine {
             }
             None => false,
         }
+    }
+
+    // The same. The place for what it asks is this function's, so that a loop in which it is called clears none.
+    #[inline(always)]
+    fn access(&mut self) -> Option<Op>
+        requires { looks self.old ≡ false }
+        ensures { IsDone self.old result self.new }
+    {
+        self.access_any()
     }
 
     // Closes the machine at a tick that is not above the next step's, or leaves it closed as far as it is.
@@ -215,38 +223,87 @@ impl ParaMachine {
         self.lag = 0;
     }
 
-    // Goes on from an access at this tick. The tick is kept beside the machine, and written back where the run stops. How far the
-    // machine is closed follows from it.
+    // A look at this tick that finds the counts as they were taken: an IRQ, if one is asked for and it is not disabled, or the next instruction.
     #[inline(always)]
-    fn run(&mut self, from: u64, until: Tick) -> Ask
+    fn see(&mut self, due: u64, pirq: bool)
+        requires room { due < 2 ^ 40 }
+        requires looks { looks self.old ≡ true }
+        ensures { self.new ≡ begun (record self.old { due = due }) (fresh (looked false pirq (after (self.old).cpu)) (after (self.old).cpu)) }
+    {
+        self.cpu.take_lines(false, pirq);
+        self.is_held = false;
+        self.due = due + 1;
+        self.lag = 0;
+    }
+
+    // The same, if it is below this bound; else the machine stops at it.
+    #[inline(always)]
+    fn pass(&mut self, due: u64, bound: u64, pirq: bool) -> bool
+        requires room { bound ≤ 2 ^ 30 }
+        requires looks { looks self.old ≡ true }
+        ensures { IsPassed due bound pirq self.old result self.new }
+    {
+        if due >= bound {
+            self.end(due);
+            return false;
+        }
+        self.see(due, pirq);
+        true
+    }
+
+    // The tick below which each look sees these lines and finds the counts as they were taken. Called, so that a loop compares with one number.
+    #[inline(never)]
+    fn bound(&self, until: Tick, lines: &Lines, sure: Tick) -> u64
+        ensures until { result ≤ until.0 }
+        ensures sure { result ≤ sure.0 }
+        ensures same { 0 < result → ((lines.now).resets ≡ (self.now).resets) × ((lines.now).nmis ≡ (self.now).nmis) }
+    {
+        if self.resets == lines.resets && self.nmis == lines.nmis {
+            until.0.min(sure.0)
+        } else {
+            0
+        }
+    }
+
+    // Goes on from an access, and past the looks that see these lines and find the counts as they were taken. None at any other look, else what
+    // is asked. The tick is kept beside the machine, and written back where the run stops and at a look. How far the machine is closed follows
+    // from it.
+    #[inline(always)]
+    fn run(&mut self, until: Tick, lines: &Lines, sure: Tick) -> Option<Ask>
         requires room { until.0 ≤ 2 ^ 30 }
         requires goes_on { looks self.old ≡ false }
-        requires from { self.old.due ≤ from }
-        ensures { Advances para_moves until.0 (record self.old { due = from; lag = lag_by self.old.due self.old.lag from }) result self.new }
+        ensures { IsRun until.0 lines.now sure.0 self.old result self.new }
     {
-        let mut due = from;
+        let bound = self.bound(until, lines, sure);
+        let mut due = self.due;
         while due < until.0 {
             if self.quick() {
                 if self.cpu.last() {
-                    self.end(due + 1);
-                    return self.look(until);
+                    if !self.pass(due + 1, bound, lines.pirq) {
+                        return None;
+                    }
+                    due += 2;
+                } else {
+                    due += 2;
                 }
-                due += 2;
             } else {
                 if let Some(op) = self.access() {
                     self.stop(due);
-                    return Ask::Access(Tick(due), op);
+                    return Some(Ask::Access(Tick(due), op));
                 }
                 if self.cpu.last() {
-                    self.end(due + 1);
-                    return self.look(until);
+                    if !self.pass(due + 1, bound, lines.pirq) {
+                        return None;
+                    }
+                    due += 2;
+                } else {
+                    due += 2;
                 }
-                due += 2;
             }
         }
         self.stop(due);
         self.shut(until);
-        Ask::Nothing
+        Some(Ask::Nothing)
     }
 
     // The Tube's answer to an access.
@@ -304,10 +361,7 @@ impl ParaMachine {
         ensures { self.new ≡ next_state self.old (Some (Seen lines)) }
     {
         if lines.resets == self.resets && lines.nmis == self.nmis {
-            self.cpu.take_lines(false, lines.pirq);
-            self.is_held = false;
-            self.due += 1;
-            self.lag = 0;
+            self.see(self.due, lines.pirq);
         } else {
             self.take_counts(lines.prst, lines.resets, lines.nmis);
         }
@@ -337,10 +391,22 @@ impl Party for ParaMachine {
 
     #[inline(always)]
     fn advance(&mut self, until: Tick) -> Ask {
-        if self.cpu.last() {
-            return self.look(until);
+        // No look is below tick 0, so that none sees these lines.
+        self.advance_seeing(until, &NO_LINES, Tick(0))
+    }
+
+    #[inline(always)]
+    fn advance_seeing(&mut self, until: Tick, lines: &Lines, sure: Tick) -> Ask {
+        loop {
+            if self.cpu.last() {
+                if self.due >= until.0.min(sure.0) {
+                    return self.look(until);
+                }
+                self.take_lines(*lines);
+            } else if let Some(ask) = self.run(until, lines, sure) {
+                return ask;
+            }
         }
-        self.run(self.due, until)
     }
 
     #[inline(always)]

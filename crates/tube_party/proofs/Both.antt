@@ -20,7 +20,7 @@ use Rattle.tube_party.proofs.Ticks.{world, host_done, rest, host_next, host_sile
 use Rattle.tube_party.proofs.Runs.{event, First, Over, Silent, Asking, first_of_runs}
 use Rattle.tube_party.proofs.Kept.{kept_own, kept_host_by_para, kept_para_by_host, at_most_one}
 use Rattle.tube_party.proofs.UnderWay.{IsUnderWay}
-use Rattle.tube_party.proofs.Seeing.{due_rises}
+use Rattle.tube_party.specs.Steps.{due_rises}
 use Rattle.tube_party.proofs.First.{HostFirst, ParaFirst, host_first, para_first, none_left}
 
 -- a party after its step that asked, and then after those that ask nothing

@@ -15,7 +15,7 @@ use Rattle.tube_party.specs.declared.party.Ask.TheVariants.{Nothing, Access, Loo
 use Rattle.tube_party.specs.Moves.{Moves, IsLawful, Looks, Sees, IsAsk, IsAskedFor, FitsAnswer, shut}
 use Rattle.tube_party.specs.Replay.{Numbered, Ended, own_from, finished, differs, access_step, one_step, replay_from, replayed, chip_before}
 use Rattle.tube_party.specs.Tape.{Takes, Misses}
-use Rattle.tube_party.proofs.Seeing.{due_rises}
+use Rattle.tube_party.specs.Steps.{due_rises}
 
 pub low_true : (a n : ℕ) → a < n → nat_lt a n ≡ true
 low_true a n h = grind (arith, nat_tests)

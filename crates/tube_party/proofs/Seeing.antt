@@ -7,25 +7,9 @@ use Rattle.tube_chip.specs.Act.{Query, look}
 use Rattle.tube_party.specs.declared.party.Ask.{Ask}
 use Rattle.tube_party.specs.declared.party.Ask.TheVariants.{Nothing, Access, Look}
 use Rattle.tube_party.specs.Moves.{Moves, IsLawful, Looks, IsUnsure, Advances, Sees, IsAsk}
-use Rattle.tube_party.specs.Steps.{silent_all, looks_on, look_last}
+use Rattle.tube_party.specs.Steps.{due_rises, silent_all, looks_on, look_last}
 
 module _ {S : Type 0} (m : Moves S) (n : ℕ) (lines : Lines) (sure : ℕ) where
-  -- the tick rises
-  due_past : (k : ℕ) (s last : S) → IsLawful m → (o : Option Query) → ((u : S) → Looks m n lines sure k u last → m.due u ≤ m.due last) →
-      MatchOption o (Looks m n lines sure k (m.next s None) last) (λ q. (q ≡ look) × (m.due s < sure) × Looks m n lines sure k (m.next s (Some (Seen lines))) last) → m.due s ≤ m.due last
-  due_past k s last lawful None on h =
-      let a : m.due s < m.due (m.next s None) = lawful.rises s None in
-      let b : m.due (m.next s None) ≤ m.due last = on (m.next s None) h in
-      omega arith
-  due_past k s last lawful (Some q) on h =
-      let a : m.due s < m.due (m.next s (Some (Seen lines))) = lawful.rises s (Some (Seen lines)) in
-      let b : m.due (m.next s (Some (Seen lines))) ≤ m.due last = on (m.next s (Some (Seen lines))) h.2 in
-      omega arith
-
-  pub due_rises : (k : ℕ) (s last : S) → IsLawful m → Looks m n lines sure k s last → m.due s ≤ m.due last
-  due_rises zero s last lawful looks = subst (λ (x : S). m.due s ≤ m.due x) looks (let d : ℕ = m.due s in omega arith)
-  due_rises (suc k) s last lawful looks = due_past k s last lawful (m.asks s) (λ u on. due_rises k u last lawful on) looks.1
-
   -- after some of them the party advanced, and stopped at a step that is no sure look
   pub stops_there : (old cur new : S) (ask : Ask) → (k : ℕ) × Looks m n lines sure k old cur → Advances m n cur ask new → IsUnsure sure ask → Sees m n lines sure old ask new
   stops_there old cur new ask so_far told unsure =
@@ -45,7 +29,7 @@ module _ {S : Type 0} (m : Moves S) (n : ℕ) (lines : Lines) (sure : ℕ) where
   pub rises_past : (cur at new : S) (ask : Ask) (t : Tick) → IsLawful m → Advances m n cur ask at → ask ≡ Look t → new ≡ m.next at (Some (Seen lines)) → (m.due cur < m.due new) × (m.due cur < n)
   rises_past cur at new ask t lawful told is answered =
       let asked : (t.0 ≡ m.due told.last) × (t.0 < n) × (m.asks told.last ≡ Some look) × (at ≡ told.last) = subst (λ (a : Ask). IsAsk m n told.last a at) is told.asked in
-      let x : m.due cur ≤ m.due told.last = due_rises told.steps cur told.last lawful (silent_all m n lines sure told.steps cur told.last told.runs) in
+      let x : m.due cur ≤ m.due told.last = due_rises m n lines sure told.steps cur told.last lawful (silent_all m n lines sure told.steps cur told.last told.runs) in
       let y : m.due at < m.due (m.next at (Some (Seen lines))) = lawful.rises at (Some (Seen lines)) in
       let z : m.due new ≡ m.due (m.next at (Some (Seen lines))) = ap m.due answered in
       let w : m.due at ≡ m.due told.last = ap m.due asked.3 in

@@ -8,7 +8,7 @@ use Rattle.tube_chip.specs.declared.Answer.{Answer}
 use Rattle.tube_chip.specs.declared.Answer.TheVariants.{Seen}
 use Rattle.tube_chip.specs.declared.Lines.{Lines}
 use Rattle.tube_party.specs.declared.party.Ask.{Ask}
-use Rattle.tube_party.specs.Moves.{Moves, Runs, Looks, Advances, Sees}
+use Rattle.tube_party.specs.Moves.{Moves, IsLawful, Runs, Looks, Advances, Sees}
 
 silent_here : {S : Type 0} (m : Moves S) (side : Side) (n k : ℕ) (s last : S) (o : Option Query) →
     m.asks s ≡ o → o ≡ None → Runs m side n k (m.next s None) [] last → m.due s < n → Runs m side n (suc k) s [] last
@@ -80,6 +80,28 @@ module _ {S : Type 0} (m : Moves S) (n : ℕ) (lines : Lines) (sure : ℕ) where
   pub looks_on : (j k : ℕ) (s mid last : S) → Looks m n lines sure j s mid → Looks m n lines sure k mid last → (i : ℕ) × Looks m n lines sure i s last
   looks_on zero k s mid last h more = (k, subst (λ (x : S). Looks m n lines sure k x last) (sym h) more)
   looks_on (suc j) k s mid last h more = looks_on_by j k s mid last (m.asks s) (λ u on. looks_on j k u mid last on more) refl h.0 h.1
+
+  -- the tick rises
+  due_past : (k : ℕ) (s last : S) → IsLawful m → (o : Option Query) → ((u : S) → Looks m n lines sure k u last → m.due u ≤ m.due last) →
+      After k s last o → m.due s ≤ m.due last
+  due_past k s last lawful None on h =
+      let a : m.due s < m.due (m.next s None) = lawful.rises s None in
+      let b : m.due (m.next s None) ≤ m.due last = on (m.next s None) h in
+      omega arith
+  due_past k s last lawful (Some q) on h =
+      let a : m.due s < m.due (m.next s (Some (Seen lines))) = lawful.rises s (Some (Seen lines)) in
+      let b : m.due (m.next s (Some (Seen lines))) ≤ m.due last = on (m.next s (Some (Seen lines))) h.2 in
+      omega arith
+
+  pub due_rises : (k : ℕ) (s last : S) → IsLawful m → Looks m n lines sure k s last → m.due s ≤ m.due last
+  due_rises zero s last lawful looks = subst (λ (x : S). m.due s ≤ m.due x) looks (let d : ℕ = m.due s in omega arith)
+  due_rises (suc k) s last lawful looks = due_past k s last lawful (m.asks s) (λ u on. due_rises k u last lawful on) looks.1
+
+  -- and what they come to
+  pub sees_after : (s mid new : S) (ask : Ask) → (k : ℕ) × Looks m n lines sure k s mid → Sees m n lines sure mid ask new → Sees m n lines sure s ask new
+  sees_after s mid new ask so_far sees =
+      let all : (i : ℕ) × Looks m n lines sure i s sees.last = looks_on so_far.0 sees.steps s mid sees.last so_far.1 sees.looks in
+      record { steps = all.0; last = sees.last; looks = all.1; asked = sees.asked; unsure = sees.unsure }
 
   -- steps that ask nothing are some of them
   silent_by : (j k : ℕ) (s mid last : S) (o : Option Query) → ((u : S) → Runs m Host n j u [] mid → Looks m n lines sure k u last) →

@@ -6,7 +6,7 @@ use Rattle.tube_party.specs.Moves.{Moves}
 use Rattle.tube_party.specs.Replay.{Numbered, Ended, replayed, chip_before, finished, differs}
 use Rattle.tube_party.specs.Tape.{own_left, Takes, Misses}
 use Rattle.tube_party.proofs.ReplayLemmas.{Goes, goes_seeing, goes_end, goes_access, goes_look, goes_differs, RanOut, ran_out, Stands, stands_access, stands_look, asked_for, smaller, earlier, after_look}
-use Rattle.tube_party.proofs.Seeing.{due_rises}
+use Rattle.tube_party.specs.Steps.{due_rises}
 use Rattle.tube_chip.specs.State.{State}
 use Rattle.tube_chip.specs.declared.Lines.{Lines}
 use Rattle.tube_party.proofs.replaying.replay.Goals as goal
