@@ -16,13 +16,16 @@ use Rattle.host_bus.specs.Map.{stretch, stretched_in, memory_map}
 use Rattle.host_bus.specs.Bus.{BusState}
 use Rattle.host_bus.specs.Closing.{closed-again}
 use Rattle.host_mach.specs.State.{HostState}
-use Rattle.host_mach.specs.Step.{host_moves, host_closed, stepped, byte_of, address, is_tube, asks_by}
+use Rattle.host_mach.specs.Step.{host_moves, host_closed, stepped, byte_of, address, cycle_ticks, is_tube, asks_by}
 
 -- a cycle takes at least one third of three ticks
 some-cycle : (slow even : Bool) → 1 ≤ (if slow then (if even then 2 else 3) else 1)
 some-cycle true true = omega arith
 some-cycle true false = omega arith
 some-cycle false even = omega arith
+
+pub cycle-ticks : (t : ℕ) (c : Cycle) → 3 ≤ cycle_ticks t c
+cycle-ticks t c = omega (arith, some-cycle (stretched_in memory_map (address c)) (t / 3 % 2 == 0))
 
 later : (over : Bool) (t k : ℕ) → 1 ≤ k → t < (if over then t + (3 * k - 1) else t + 3 * k)
 later true t k some = omega (arith, some)

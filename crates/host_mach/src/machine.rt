@@ -7,7 +7,7 @@ ghost use Rattle.cpu6502.specs.Sequences.{next, halted};
 ghost use Rattle.host_mach.specs.State.{power_on};
 ghost use Rattle.host_mach.specs.Step.{host_moves, next_state};
 
-use crate::exchange::exchange;
+use crate::exchange::{exchange, is_tube};
 use crate::run::{Stop, go_on, see};
 use beeb_bits::{Crosses, NoMemory, Tick};
 use bus_plug::BusDevice;
@@ -229,6 +229,17 @@ impl<D: BusDevice> Party for HostMachine<D> {
     #[inline]
     fn due(&self) -> Tick {
         Tick(self.due)
+    }
+
+    // At a look the next access is that of the next opcode, or of an interrupt, at PC, a tick later; and the one after it comes in the next
+    // cycle at the earliest.
+    #[inline(always)]
+    fn accesses_from(&self) -> Tick {
+        if self.cpu.last() && !is_tube(self.cpu.at_end().pc) {
+            Tick(self.due.saturating_add(4))
+        } else {
+            Tick(self.due)
+        }
     }
 
     #[inline(always)]

@@ -8,7 +8,7 @@ ghost use Rattle.para_mach.specs.Step.{para_moves, looks, begun, next_state};
 ghost use Rattle.para_mach.specs.Lawful.{para_lawful, para_permitted};
 ghost use Rattle.para_mach.specs.Told.{IsDone, IsQuick, IsPassed, IsRun, IsAskedByte, lag_by};
 
-use crate::memory::{Memory, ROM_SIZE};
+use crate::memory::{Memory, ROM_SIZE, is_tube};
 use beeb_bits::{Crosses, Tick};
 use cpu_alu::Regs;
 use cpu65c02::Cpu;
@@ -387,6 +387,17 @@ impl Party for ParaMachine {
     #[inline]
     fn due(&self) -> Tick {
         Tick(self.due)
+    }
+
+    // At a look the next access is that of the next opcode, or of a reset or an interrupt, at PC, a tick later; and the one after it comes in the
+    // next cycle at the earliest.
+    #[inline(always)]
+    fn accesses_from(&self) -> Tick {
+        if self.cpu.last() && !is_tube(self.cpu.at_end().pc) {
+            Tick(self.due.saturating_add(3))
+        } else {
+            Tick(self.due)
+        }
     }
 
     #[inline(always)]

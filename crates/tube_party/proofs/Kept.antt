@@ -57,7 +57,7 @@ noted_all_take keep xs (y ∷ ys) =
     ∙ ap (take keep) (append_assoc xs (y ∷ []) ys)
 
 -- the accesses of a side grow by those of the new events
-grows : (side : Side) (events more : List Event) → accesses (of_side side (events ++ more)) ≡ accesses (of_side side events) ++ accesses (of_side side more)
+pub grows : (side : Side) (events more : List Event) → accesses (of_side side (events ++ more)) ≡ accesses (of_side side events) ++ accesses (of_side side more)
 grows side events more = ap accesses (of_side-append side events more) ∙ accesses-append (of_side side events) (of_side side more)
 
 kept_more : (side : Side) (events more : List Event) (keep : ℕ) (list : List Entry) (count : ℕ)

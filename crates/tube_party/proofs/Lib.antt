@@ -11,6 +11,7 @@ pub mod Replayed
 pub mod TraceLemmas
 pub mod Turns
 pub mod First
-pub mod UnderWay
 pub mod Kept
+pub mod Early
+pub mod UnderWay
 pub mod Both

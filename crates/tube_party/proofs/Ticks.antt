@@ -58,7 +58,7 @@ module _ {S T : Type 0} (h : Moves S) (p : Moves T) (lh : IsLawful h) (lp : IsLa
       ap (λ (w : World S T). ticks h p j (k + 1) w) (idle k s t c l us ut) ∙ rest j (k + 1) s t c l (omega arith) (omega arith)
 
   -- at k, the host being due there
-  host_here : (j k : ℕ) (s : S) (t : T) (c : State) (l : List Event) → h.due s ≡ k
+  pub host_here : (j k : ℕ) (s : S) (t : T) (c : State) (l : List Event) → h.due s ≡ k
       → ticks h p (suc j) k (world s t c l) ≡ ticks h p (suc j) k (host_done (stepped h Host (seat s c l) (h.asks s)) t)
   host_here j k s t c l e =
       let rise : h.due s < h.due (stepped h Host (seat s c l) (h.asks s)).state = later h lh Host (seat s c l) (h.asks s) in
@@ -102,7 +102,7 @@ module _ {S T : Type 0} (h : Moves S) (p : Moves T) (lh : IsLawful h) (lp : IsLa
       ]
 
   -- at k, the parasite being due there, and x being what the host's part of the tick leaves
-  para_here : (k : ℕ) (s : S) (t : T) (c : State) (l : List Event) → p.due t ≡ k
+  pub para_here : (k : ℕ) (s : S) (t : T) (c : State) (l : List Event) → p.due t ≡ k
       → with_host s (step_if_due p Para k (seat t c l)) ≡ with_host s (step_if_due p Para k (stepped p Para (seat t c l) (p.asks t)))
   para_here k s t c l e =
       let rise : p.due t < p.due (stepped p Para (seat t c l) (p.asks t)).state = later p lp Para (seat t c l) (p.asks t) in

@@ -9,15 +9,17 @@ use Rattle.tube_party.specs.Moves.{Moves, IsAsk}
 use Rattle.tube_party.specs.Reference.{ticks, start}
 use Rattle.tube_party.specs.Played.{IsKept}
 use Rattle.tube_party.proofs.Ticks.{world}
+use Rattle.tube_party.proofs.Early.{IsLike}
 
--- the reference goes on from where the parties are, and what was kept is what it has done
+-- The reference goes on from where the parties are, of which one may have made looks that come later than the other's; and what was kept is what
+-- it has done.
 pub record IsUnderWay {S T : Type 0} (h : Moves S) (p : Moves T) (n keep : ℕ) (s0 : S) (t0 : T) (s : S) (t : T) (c : State) (ask_h ask_p : Ask) (hl pl : List Entry) (hc pc : ℕ) : Type 0 where
   pub host_last : S
   pub para_last : T
   pub events : List Event
   pub host_asked : IsAsk h n host_last ask_h s
   pub para_asked : IsAsk p n para_last ask_p t
-  pub same : ticks h p n 0 (start s0 t0) ≡ ticks h p n 0 (world host_last para_last c events)
+  pub same : IsLike (ticks h p n 0 (start s0 t0)) (ticks h p n 0 (world host_last para_last c events))
   pub host_kept : IsKept Host events keep hl hc
   pub para_kept : IsKept Para events keep pl pc
   pub host_few : hc ≤ h.due host_last

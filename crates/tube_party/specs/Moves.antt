@@ -109,6 +109,17 @@ pub record Sees {S : Type 0} (m : Moves S) (n : ℕ) (lines : Lines) (sure : ℕ
   pub asked : IsAsk m n last ask new
   pub unsure : IsUnsure sure ask
 
+-- by what is asked: one thing of a look, another of an access
+abbrev pub WhenAsked : Query → Type 0 → Type 0 → Type 0
+WhenAsked look P Q = P
+WhenAsked (access op) P Q = Q
+
+-- no access among k steps comes before tick t, whatever the looks see
+abbrev pub IsClear : {S : Type 0} → Moves S → ℕ → ℕ → S → Type 0
+IsClear m t zero s = Unit {0}
+IsClear m t (suc k) s =
+    MatchOption (m.asks s) (IsClear m t k (m.next s None)) (λ q. WhenAsked q ((l : Lines) → IsClear m t k (m.next s (Some (Seen l)))) (t ≤ m.due s))
+
 -- a byte for an access, lines for a look
 abbrev pub FitsAnswer : Query → Answer → Type 0
 FitsAnswer (access op) (Byte b) = Unit {0}

@@ -1,5 +1,5 @@
 -- One turn of a party at the chip, and whose turn is next.
-use Rattle.std.specs.Prelude.{ℕ, ◌≡◌, ◌+◌, ◌-◌, ◌<◌, nat_lt, Option, None, Some, List, [], ◌∷◌, ◌++◌, length, if◌then◌else◌}
+use Rattle.std.specs.Prelude.{ℕ, ◌≡◌, ◌+◌, ◌-◌, ◌<◌, ◌≤◌, nat_lt, Option, None, Some, List, [], ◌∷◌, ◌++◌, length, if◌then◌else◌}
 use Rattle.beeb_bits.specs.declared.Side.{Side}
 use Rattle.beeb_bits.specs.declared.Side.TheVariants.{Host, Para}
 use Rattle.tube_chip.specs.State.{State, lines_of}
@@ -8,7 +8,7 @@ use Rattle.tube_trace.specs.declared.Entry.{Entry}
 use Rattle.tube_trace.specs.Entries.{entry_of}
 use Rattle.tube_party.specs.declared.party.Ask.{Ask}
 use Rattle.tube_party.specs.declared.party.Ask.TheVariants.{Nothing, Access, Look}
-use Rattle.tube_party.specs.Moves.{Moves, Sees}
+use Rattle.tube_party.specs.Moves.{Moves, Sees, IsClear}
 
 -- one more entry, while there are fewer than `keep`
 abbrev pub noted : ℕ → List Entry → Entry → List Entry
@@ -55,14 +55,9 @@ left n Nothing = 0
 left n (Access t op) = n - t.0
 left n (Look t) = n - t.0
 
--- its tick is below this one
-abbrev pub IsBelow : ℕ → Ask → Type 0
-IsBelow n Nothing = Unit {0}
-IsBelow n (Access t op) = t.0 < n
-IsBelow n (Look t) = t.0 < n
-
--- the first tick at which a look of the other side comes after the step that asks this
-abbrev pub sure_by : ℕ → Ask → ℕ
-sure_by slack Nothing = 1073741824
-sure_by slack (Access t op) = t.0 + slack
-sure_by slack (Look t) = t.0 + slack
+-- Looks of the other side below this tick see the chip as it is, where they may come so many ticks behind a step of this one: this party's next
+-- step is an access, or no access comes before a tick, or none comes at all.
+abbrev pub IsSure : {S : Type 0} → Moves S → ℕ → S → Ask → ℕ → Type 0
+IsSure m slack s Nothing sure = Unit {0}
+IsSure m slack s (Access t op) sure = sure ≤ t.0 + slack
+IsSure m slack s (Look t) sure = (far : ℕ) × (sure ≤ far + slack) × ((k : ℕ) → IsClear m far k s)

@@ -3,7 +3,7 @@ ghost use Rattle.std.specs.Prelude.{◌≡◌, ◌≤◌, ◌<◌, ◌^◌, [], 
 ghost use Rattle.beeb_bits.specs.declared.Side.TheVariants.{Host, Para};
 ghost use Rattle.tube_chip.specs.State.{lines_of};
 ghost use Rattle.tube_party.specs.Played.{IsPlayed};
-ghost use Rattle.tube_party.specs.Turn.{IsPending, Turns, first_of, sure_by, IsBelow};
+ghost use Rattle.tube_party.specs.Turn.{IsPending, Turns, first_of, IsSure};
 ghost use Rattle.tube_party.specs.Reference.{reference};
 
 use crate::log::Log;
@@ -47,17 +47,16 @@ fn first_of(host: Ask, para: Ask) -> Option<Side>
     }
 }
 
-/// The first tick at which a look of the other side comes after the step that asks this, which stays `slack` ticks behind: up to there
-/// looks see the chip as it is. The last tick of a run where nothing is asked.
+/// A tick below which each look of the other side sees the chip as it is, by what this party asks next: none of its accesses comes before
+/// that look, which may come `slack` ticks behind a step of this party. The last tick of a run where it asks nothing.
 #[inline(always)]
-fn sure(ask: Ask, slack: u64) -> Tick
-    requires slack { slack ≤ 1 }
-    requires below { IsBelow MOST ask }
-    ensures { result.0 ≡ sure_by slack ask }
+fn sure<M: Party>(party: &M, ask: Ask, slack: u64) -> Tick
+    ensures { IsSure M.moves slack (M.state party.now) ask result.0 }
 {
     match ask {
         Ask::Nothing => Tick(MOST),
-        Ask::Access(tick, _) | Ask::Look(tick) => Tick(tick.0 + slack),
+        Ask::Access(tick, _) => Tick(tick.0.saturating_add(slack)),
+        Ask::Look(_) => Tick(party.accesses_from().0.saturating_add(slack)),
     }
 }
 
@@ -131,7 +130,7 @@ fn both<H: Party, P: Party>(
                     &mut host_log,
                     n,
                     host_ask,
-                    sure(para_ask, 1),
+                    sure(&para, para_ask, 1),
                 );
             }
             Side::Para => {
@@ -143,7 +142,7 @@ fn both<H: Party, P: Party>(
                     &mut para_log,
                     n,
                     para_ask,
-                    sure(host_ask, 0),
+                    sure(&host, host_ask, 0),
                 );
             }
         }

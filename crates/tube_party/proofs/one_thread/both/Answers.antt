@@ -25,8 +25,8 @@ pub loop-side-preserved-in-Host : goal.loop-side-preserved-in-Host
 loop-side-preserved-in-Host g c =
     let e : first_of c.loop-side.host_ask c.loop-side.para_ask ≡ Some Host = sym c.first_of.ensures ∙ c.in-Some.is ∙ ap (λ x. Some x) c.in-Host.is in
     record {
-      way = host_turn g.H.Party.moves g.P.Party.moves g.met.H.Party.lawful g.met.P.Party.lawful _ _ _ _ _ _ _ _ _ _ _ _ _ _ _ _ _ _
-          c.loop-side.invariant.way e (turns_keep c.loop-side.invariant.host_keep (rw c.sure.ensures at c.turn-host_ask.ensures.turns));
+      way = host_turn g.H.Party.moves g.P.Party.moves g.met.H.Party.lawful g.met.P.Party.lawful _ _ _ _ _ _ _ _ _ _ _ _ _ _ _ _ _ _ _
+          c.loop-side.invariant.way e c.sure.ensures (turns_keep c.loop-side.invariant.host_keep c.turn-host_ask.ensures.turns);
       lines = c.turn-host_ask.ensures.kept;
       host_keep = c.turn-host_ask.ensures.keep ∙ c.loop-side.invariant.host_keep;
       para_keep = c.loop-side.invariant.para_keep;
@@ -43,8 +43,8 @@ pub loop-side-preserved : goal.loop-side-preserved
 loop-side-preserved g c =
     let e : first_of c.loop-side.host_ask c.loop-side.para_ask ≡ Some Para = sym c.first_of.ensures ∙ c.in-Some.is ∙ ap (λ x. Some x) c.in-Para.is in
     record {
-      way = para_turn g.H.Party.moves g.P.Party.moves g.met.H.Party.lawful g.met.P.Party.lawful _ _ _ _ _ _ _ _ _ _ _ _ _ _ _ _ _ _
-          c.loop-side.invariant.way e (turns_keep c.loop-side.invariant.para_keep (rw c.sure-in-Para.ensures at c.turn-para_ask.ensures.turns));
+      way = para_turn g.H.Party.moves g.P.Party.moves g.met.H.Party.lawful g.met.P.Party.lawful _ _ _ _ _ _ _ _ _ _ _ _ _ _ _ _ _ _ _
+          c.loop-side.invariant.way e c.sure-in-Para.ensures (turns_keep c.loop-side.invariant.para_keep c.turn-para_ask.ensures.turns);
       lines = c.turn-para_ask.ensures.kept;
       host_keep = c.loop-side.invariant.host_keep;
       para_keep = c.turn-para_ask.ensures.keep ∙ c.loop-side.invariant.para_keep;
