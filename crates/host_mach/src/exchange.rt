@@ -1,5 +1,5 @@
 //! One access to the bus.
-ghost use Rattle.std.specs.Prelude.{◌≡◌, ◌≤◌, ◌<◌, ◌+◌, ◌^◌, IfOk};
+ghost use Rattle.std.specs.Prelude.{◌≡◌, ◌≤◌, ◌<◌, ◌+◌, ◌%◌, ◌^◌, true, false, IfOk};
 ghost use Rattle.host_bus.specs.Bus.{closed_at};
 ghost use Rattle.host_bus.specs.View.{bus_seen};
 ghost use Rattle.host_mach.specs.Step.{is_tube};
@@ -20,10 +20,18 @@ pub(crate) struct Done {
 
 /// FEE0 to FEFF.
 #[inline(always)]
-pub(crate) fn is_tube(at: u16) -> bool
+fn is_tube(at: u16) -> bool
     ensures { result ≡ is_tube at }
 {
     0xfee0 <= at && at <= 0xfeff
+}
+
+/// An address that is not the Tube's, nor is the one after it.
+#[inline(always)]
+pub(crate) fn is_apart(at: u16) -> bool
+    ensures { result ≡ true → (is_tube at ≡ false) × (is_tube ((at + 1) % 65536) ≡ false) }
+{
+    !is_tube(at) && !is_tube(at.wrapping_add(1))
 }
 
 /// Does an access of the memory at tick `t`, and gives its byte, or 0 for a write. Any other access is left. A read leaves the bus as far as

@@ -8,7 +8,7 @@ ghost use Rattle.para_mach.specs.Step.{para_moves, looks, begun, next_state};
 ghost use Rattle.para_mach.specs.Lawful.{para_lawful, para_permitted};
 ghost use Rattle.para_mach.specs.Told.{IsDone, IsQuick, IsPassed, IsRun, IsAskedByte, lag_by};
 
-use crate::memory::{Memory, ROM_SIZE, is_tube};
+use crate::memory::{Memory, ROM_SIZE, is_apart};
 use beeb_bits::{Crosses, Tick};
 use cpu_alu::Regs;
 use cpu65c02::Cpu;
@@ -389,12 +389,12 @@ impl Party for ParaMachine {
         Tick(self.due)
     }
 
-    // At a look the next access is that of the next opcode, or of a reset or an interrupt, at PC, a tick later; and the one after it comes in the
-    // next cycle at the earliest.
+    // At a look the next accesses are that of the next opcode, or of a reset or an interrupt, at PC, a tick later, and then one there again or of
+    // the byte after it. What comes in the third cycle may be anywhere.
     #[inline(always)]
     fn accesses_from(&self) -> Tick {
-        if self.cpu.last() && !is_tube(self.cpu.at_end().pc) {
-            Tick(self.due.saturating_add(3))
+        if self.cpu.last() && is_apart(self.cpu.at_end().pc) {
+            Tick(self.due.saturating_add(5))
         } else {
             Tick(self.due)
         }
