@@ -243,7 +243,7 @@ opcode_nmos r byte = inr (second_nmos r byte (form_at (forms Nmos) byte) (found_
 
 opcode_cmos : (r : Regs) (byte : ℕ) → IsSecond Cmos r (given Cmos (fresh Instruction r) byte)
 unfolding cmos_row
-opcode_cmos r byte = elim (second_cmos r byte (form_at (forms Cmos) byte) (found_whole (λ f. f.opcode == byte) (forms Cmos) all_cmos)) [ | inl e ↦ inl e | inr e ↦ inr (inl e) ]
+opcode_cmos r byte = elim (second_cmos r byte (form_at (forms Cmos) byte) (found_whole (λ f. f.opcode == byte) (forms Cmos) all_cmos)) [ inl e ↦ inl e | inr e ↦ inr (inl e) ]
 
 pub second_access : (part : Part) (sequence : Sequence) (r : Regs) (byte : ℕ) → IsSecond part r (given part (fresh sequence r) byte)
 second_access Nmos Instruction r byte = opcode_nmos r byte

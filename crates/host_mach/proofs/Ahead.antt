@@ -1,5 +1,5 @@
 -- From a look on, the host makes no access to the Tube before the cycle after the next one, if PC is not at the Tube.
-use Rattle.std.proofs.Common.{◌≡◌, ◌≤◌, ◌+◌, ◌-◌, ◌*◌, ◌/◌, ◌%◌, ◌⊎◌, inl, inr, refl, sym, ap, subst, ◌∙◌, ℕ, zero, suc, Bool, true, false, is_none, Option, Some, None, if◌then◌else◌, arith}
+use Rattle.std.proofs.Common.{◌≡◌, ◌≤◌, ◌+◌, ◌-◌, ◌%◌, ◌⊎◌, inl, inr, refl, sym, ap, subst, ◌∙◌, ℕ, zero, suc, Bool, true, false, is_none, Option, Some, None, if◌then◌else◌, arith}
 use Rattle.cpu_alu.specs.declared.Cycle.{Cycle}
 use Rattle.cpu_alu.specs.declared.Cycle.TheVariants.{Read, Write}
 use Rattle.cpu_alu.specs.declared.Regs.{Regs}
@@ -42,7 +42,7 @@ clear-after t at x low is apart zero = tt
 clear-after t at x low is apart (suc k) =
     let y : IsSpaced x.due (next_state x None) = spaced x (Read at) is in
     clear_silent host_moves t k x (silent at (next x.cpu) is apart)
-    (clear_soon host_moves t k (next_state x None) host_lawful (elim y.0 [ | inl e ↦ inl e | inr e ↦ inr (omega (arith, low, e)) ]) (omega (arith, low, y.1)))
+    (clear_soon host_moves t k (next_state x None) host_lawful (elim y.0 [ inl e ↦ inl e | inr e ↦ inr (omega (arith, low, e)) ]) (omega (arith, low, y.1)))
 
 -- so that a look is clear up to the cycle after the next one
 ahead-one : (s : HostState) (t : ℕ) → t ≤ s.due + 4 → next s.cpu ≡ None → is_tube (after s.cpu).pc ≡ false → (k : ℕ) → IsClear host_moves t k s
@@ -92,7 +92,7 @@ clear-twice t r sequence x low at apart (suc k) =
   where
     -- an access is three ticks later
     beyond : (x : HostState) (at : ℕ) → next (next_state x None).cpu ≡ Some (Read at) → IsSpaced x.due (next_state x None) → x.due + 3 ≤ (next_state x None).due
-    beyond x at f y = elim y.0 [ | inl e ↦ absurd (no-look (next (next_state x None).cpu) (Read at) f e) | inr e ↦ e ]
+    beyond x at f y = elim y.0 [ inl e ↦ absurd (no-look (next (next_state x None).cpu) (Read at) f e) | inr e ↦ e ]
 
 pub ahead : (s : HostState) (t : ℕ) → t ≤ s.due + 7 → next s.cpu ≡ None → IsApart (after s.cpu) → (k : ℕ) → IsClear host_moves t k s
 ahead s t low over apart zero = tt

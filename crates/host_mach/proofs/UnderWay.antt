@@ -1,5 +1,5 @@
 -- The host, of which device steps are owed: it stands for the one in which they are done.
-use Rattle.std.proofs.Common.{◌≡◌, ◌≤◌, ◌<◌, ◌∙◌, ◌+◌, ◌-◌, ◌*◌, ◌⊎◌, inl, inr, refl, sym, ap, subst, ℕ, suc, max, min, nat_lt, Bool, true, false, is_none, Option, Some, None, IsSome, IsNone, arith, if◌then◌else◌}
+use Rattle.std.proofs.Common.{◌≡◌, ◌≤◌, ◌<◌, ◌∙◌, ◌+◌, ◌-◌, ◌⊎◌, inl, inr, refl, sym, ap, subst, ℕ, suc, Bool, is_none, Option, Some, None, IsSome, arith, if◌then◌else◌}
 use Rattle.std.proofs.lemmas.Bool.{lt-ltb, le-ltb}
 use Rattle.cpu_alu.specs.declared.Cycle.{Cycle}
 use Rattle.cpu_alu.specs.declared.Regs.{Regs}
@@ -7,18 +7,16 @@ use Rattle.cpu_core.specs.declared.Sequence.{Sequence}
 use Rattle.cpu_core.specs.declared.Sequence.TheVariants.{Instruction, Reset, Nmi, Irq}
 use Rattle.cpu6502.specs.State as cpu
 use Rattle.cpu6502.specs.Sequences.{next, given, fresh}
-use Rattle.tube_chip.specs.declared.Op.{Op}
 use Rattle.tube_chip.specs.declared.Lines.{Lines}
 use Rattle.tube_chip.specs.declared.Answer.TheVariants.{Seen}
-use Rattle.tube_chip.specs.Act.{look}
 use Rattle.tube_party.specs.Moves.{Looks}
 use Rattle.tube_party.specs.Steps.{silent_last, look_last}
 use Rattle.host_bus.specs.Bus.{BusState, bus_closed, closed_at}
 use Rattle.host_bus.specs.Closing.{closed-again, closed-still}
 use Rattle.host_mach.specs.State.{HostState}
-use Rattle.host_mach.specs.Step.{host_moves, host_closed, asks, asks_by, byte_of, bus_after, cycle_ticks, cycled, stepped, next_state, looked_at}
+use Rattle.host_mach.specs.Step.{host_moves, host_closed, asks, asks_by, byte_of, bus_after, cycled, stepped, next_state, looked_at}
 use Rattle.host_mach.specs.Lawful.{host-again}
-use Rattle.host_mach.specs.Told.{IsDone, IsMemory, host_of, owed_at}
+use Rattle.host_mach.specs.Told.{IsMemory, host_of, owed_at}
 
 -- up to where the device steps are owed
 
@@ -85,16 +83,19 @@ module _ (until : ℕ) (lines : Lines) (sure : ℕ) (start : HostState) where
       IsMemory s.bus s.due c (Some byte) b → on ≡ given s.cpu byte → closed_at b ≤ s.due + 1 → IsSome (next on) → IsUnderWay until lines sure start (host_of on b s.nmis (s.due + 3)) since
   memory-more s since byte c on b way low is done gave before more =
       let came = memory-on s since byte c on b way low is done gave in
-      let gone : since < s.due + 3 = elim way.since_then [ | inl e ↦ omega (arith, e) | inr e ↦ omega (arith, e.0) ] in
+      let gone : since < s.due + 3 = elim way.since_then [ inl e ↦ omega (arith, e) | inr e ↦ omega (arith, e.0) ] in
       let owed : owed_at since (s.due + 3) (closed_at b) ≡ s.due + 1 = owed-some since (s.due + 3) (closed_at b) gone ∙ omega arith in
       let due : (if is_none (next on) then s.due + 2 else s.due + 3) ≡ s.due + 3 = on-by (next on) s.due more in
       record {
         goes_on = more;
-        looks = (came.0, subst (λ (x : HostState). Looks host_moves until lines sure came.0 start x)
-            (ap (λ (n : ℕ). host_of on (bus_closed b (s.due + 1)) s.nmis n) due ∙ ap (λ (n : ℕ). host_of on (bus_closed b n) s.nmis (s.due + 3)) (sym owed)) came.1);
+        looks = (
+          came.0,
+          subst (λ (x : HostState). Looks host_moves until lines sure came.0 start x)
+              (ap (λ (n : ℕ). host_of on (bus_closed b (s.due + 1)) s.nmis n) due ∙ ap (λ (n : ℕ). host_of on (bus_closed b n) s.nmis (s.due + 3)) (sym owed)) came.1,
+        );
         low = omega (arith, owed, before);
         high = omega (arith, owed);
-        since_then = inr (elim way.since_then [ | inl e ↦ omega (arith, e) | inr e ↦ omega (arith, e.0) ], omega (arith, low));
+        since_then = inr (elim way.since_then [ inl e ↦ omega (arith, e) | inr e ↦ omega (arith, e.0) ], omega (arith, low));
       }
     where
       on-by : (o : Option Cycle) (t : ℕ) → IsSome o → (if is_none o then t + 2 else t + 3) ≡ t + 3
@@ -105,9 +106,11 @@ module _ (until : ℕ) (lines : Lines) (sure : ℕ) (start : HostState) where
   pub memory-last : (s : HostState) (since byte : ℕ) (c : Cycle) (on : cpu.State) (b : BusState) → IsUnderWay until lines sure start s since → s.due < until → next s.cpu ≡ Some c →
       IsMemory s.bus s.due c (Some byte) b → on ≡ given s.cpu byte → next on ≡ None → Came (host_of on (bus_closed b (s.due + 1)) s.nmis (s.due + 2))
   memory-last s since byte c on b way low is done gave over =
-      let came = memory-on s since byte c on b way low is done gave in
-      (came.0, subst (λ (x : HostState). Looks host_moves until lines sure came.0 start x)
-          (ap (λ (o : Option Cycle). host_of on (bus_closed b (s.due + 1)) s.nmis (if is_none o then s.due + 2 else s.due + 3)) over) came.1)
+      let came = memory-on s since byte c on b way low is done gave in (
+        came.0,
+        subst (λ (x : HostState). Looks host_moves until lines sure came.0 start x)
+            (ap (λ (o : Option Cycle). host_of on (bus_closed b (s.due + 1)) s.nmis (if is_none o then s.due + 2 else s.due + 3)) over) came.1,
+      )
 
   -- a look that sees the lines, of a host that stands for one closed further
   pub sees-on : (c : cpu.State) (b : BusState) (n t u : ℕ) (new : HostState) → Came (host_of c (bus_closed b u) n t) → u ≤ t + 1 → next c ≡ None → t < until → t < sure →
@@ -139,8 +142,7 @@ begins Irq r = refl
 -- after a look the devices are closed up to the next step, which is an access
 pub after-look : (s new : HostState) (t : ℕ) (hirq : Bool) → closed_at s.bus ≤ t → new ≡ looked_at (host_closed s t) hirq → IsSome (next new.cpu) × (closed_at new.bus ≡ t)
 after-look s new t hirq low is =
-    let at : HostState = looked_at (host_closed s t) hirq in
-    (
+    let at : HostState = looked_at (host_closed s t) hirq in (
       subst (λ (x : HostState). IsSome (next x.cpu)) (sym is) (begins at.cpu.sequence at.cpu.regs),
       ap (λ (x : HostState). closed_at x.bus) is ∙ omega (arith, low),
     )

@@ -28,13 +28,7 @@ pub(crate) enum Stop {
 /// A look at tick `t`: an NMI, where the count of its line's rises is not the one taken, an IRQ, if one asks for it and it is not disabled, or
 /// the next instruction.
 #[inline(always)]
-pub(crate) fn see<D: BusDevice>(
-    cpu: &mut Cpu,
-    bus: &mut Bus<D>,
-    nmis: &mut u64,
-    t: u64,
-    hirq: bool,
-)
+pub(crate) fn see<D: BusDevice>(cpu: &mut Cpu, bus: &mut Bus<D>, nmis: &mut u64, t: u64, hirq: bool)
     requires room { t < 2 ^ 40 }
     requires before { closed_at (bus_seen D.plug bus.old) ≤ t + 1 }
     requires over { next cpu.old ≡ None }

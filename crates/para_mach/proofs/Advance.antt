@@ -40,8 +40,8 @@ same_counts s l on resets nmis =
     sym
     (ap (λ (b : Bool). if b then after_look s l else accessed s (Some (Seen l))) on
     ∙ ap (λ (b : Bool).
-        if not b then (if l.prst then held_on s else begun (record s { rom_in = true; resets = l.resets; nmis = l.nmis }) (fresh Reset (after s.cpu)))
-        else if not (l.nmis == s.nmis) then begun (record s { nmis = l.nmis }) (fresh Nmi (after s.cpu)) else on_by) (eq-eqb l.resets s.resets resets)
+    if not b then (if l.prst then held_on s else begun (record s { rom_in = true; resets = l.resets; nmis = l.nmis }) (fresh Reset (after s.cpu)))
+    else if not (l.nmis == s.nmis) then begun (record s { nmis = l.nmis }) (fresh Nmi (after s.cpu)) else on_by) (eq-eqb l.resets s.resets resets)
     ∙ ap (λ (b : Bool). if not b then begun (record s { nmis = l.nmis }) (fresh Nmi (after s.cpu)) else on_by) (eq-eqb l.nmis s.nmis nmis))
 
 -- where a look is the next step, it is asked for
@@ -151,8 +151,7 @@ module _ (n : ℕ) (lines : Lines) (sure : ℕ) (start s new : ParaState) (due :
   pub way_left : looks new ≡ true → (bound : ℕ) (left : ParaState) → IsPassed (due + 1) bound lines.pirq new false left → IsRun n lines sure start None left
   way_left over bound left passed =
       let first : Came n lines sure start (timed new (due + 1) 0) = more n lines sure start s new due _ true way.came below way.goes_on done over in
-      let due_is : left.due ≡ due + 1 = ap (λ (x : ParaState). x.due) passed.1 in
-      (
+      let due_is : left.due ≡ due + 1 = ap (λ (x : ParaState). x.due) passed.1 in (
         (first.0, subst (λ (x : ParaState). Looks para_moves n lines sure first.0 start x) (sym passed.1) first.1),
         ap looks passed.1 ∙ over,
         omega (arith, due_is, way.from),

@@ -43,7 +43,7 @@ clear-after t at x low is apart zero = tt
 clear-after t at x low is apart (suc k) =
     let y : IsSpaced x.due (next_state x None) = spaced x (ap is_none is) in
     clear_silent para_moves t k x (silent at (next x.cpu) is apart)
-    (clear_soon para_moves t k (next_state x None) para_lawful (elim y.0 [ | inl e ↦ inl e | inr e ↦ inr (omega (arith, low, e)) ]) (omega (arith, low, y.1)))
+    (clear_soon para_moves t k (next_state x None) para_lawful (elim y.0 [ inl e ↦ inl e | inr e ↦ inr (omega (arith, low, e)) ]) (omega (arith, low, y.1)))
 
 -- what follows a look: held or not
 by-look : (P : ParaState → Type 0) (s : ParaState) (l : Lines) (resets nmis : Bool) → P (held_on s)
@@ -51,7 +51,7 @@ by-look : (P : ParaState → Type 0) (s : ParaState) (l : Lines) (resets nmis : 
     → P (begun (record s { nmis = l.nmis }) (fresh Nmi (after s.cpu)))
     → P (begun s (fresh (looked false l.pirq (after s.cpu)) (after s.cpu)))
     → P (if not resets then (if l.prst then held_on s else begun (record s { rom_in = true; resets = l.resets; nmis = l.nmis }) (fresh Reset (after s.cpu)))
-      else if not nmis then begun (record s { nmis = l.nmis }) (fresh Nmi (after s.cpu)) else begun s (fresh (looked false l.pirq (after s.cpu)) (after s.cpu)))
+    else if not nmis then begun (record s { nmis = l.nmis }) (fresh Nmi (after s.cpu)) else begun s (fresh (looked false l.pirq (after s.cpu)) (after s.cpu)))
 by-look P s l false nmis a b c d = by l.prst
   where
     by : (prst : Bool) → P (if prst then held_on s else begun (record s { rom_in = true; resets = l.resets; nmis = l.nmis }) (fresh Reset (after s.cpu)))

@@ -1,7 +1,6 @@
 -- The loop over both parties.
 use Rattle.std.proofs.Common.{ℕ, zero, suc, ◌≡◌, ◌+◌, ◌<◌, ◌≤◌, refl, sym, ◌∙◌, ap, subst, arith, List, [], ◌∷◌, ◌++◌, length, take, Option, None, Some, MatchOption}
 use Rattle.tube_chip.specs.State.{State, power_on, lines_of}
-use Rattle.tube_chip.specs.declared.Lines.{Lines}
 use Rattle.tube_chip.specs.Act.{Query, look, act}
 use Rattle.tube_chip.specs.Events.{Event, of_side}
 use Rattle.tube_chip.specs.declared.Answer.{Answer}
@@ -12,7 +11,7 @@ use Rattle.beeb_bits.specs.declared.Side.TheVariants.{Host, Para}
 use Rattle.tube_party.specs.declared.party.Ask.{Ask}
 use Rattle.tube_party.specs.declared.party.Ask.TheVariants.{Nothing, Access, Look}
 use Rattle.tube_party.specs.Moves.{Moves, IsLawful, IsAsk, Advances, Looks, Runs, IsClear, shut}
-use Rattle.tube_party.specs.Reference.{World, ticks, start, reference, stepped, with_host}
+use Rattle.tube_party.specs.Reference.{ticks, start, reference, stepped, with_host}
 use Rattle.tube_trace.specs.Entries.{accesses, entry_of}
 use Rattle.tube_party.specs.Played.{IsKept, IsPlayed}
 use Rattle.tube_party.specs.Turn.{IsPending, Turns, first_of, left, noted_all, IsSure}

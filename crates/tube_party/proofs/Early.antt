@@ -1,12 +1,11 @@
 -- A look before which the other party makes no access may come early: the reference goes on alike, but for where the look stands in the list.
-use Rattle.std.proofs.Common.{ℕ, zero, suc, ◌≡◌, ◌+◌, ◌<◌, ◌≤◌, ◌==◌, nat_eq, inl, inr, refl, sym, ◌∙◌, ap, subst, arith, Bool, true, false, List, [], ◌∷◌, ◌++◌, append_assoc, Option, None, Some, if◌then◌else◌}
+use Rattle.std.proofs.Common.{ℕ, zero, suc, ◌≡◌, ◌+◌, ◌<◌, ◌≤◌, nat_eq, inl, inr, refl, sym, ◌∙◌, ap, arith, Bool, true, false, List, [], ◌∷◌, ◌++◌, append_assoc, Option, None, Some}
 use Rattle.std.proofs.lemmas.List.{append-nil}
 use Rattle.std.proofs.lemmas.Bool.{eqb-true}
 use Rattle.tube_chip.specs.State.{State, lines_of}
 use Rattle.tube_chip.specs.Act.{Query, access, look, act}
 use Rattle.tube_chip.specs.Events.{Event, of_side}
 use Rattle.tube_chip.specs.declared.Answer.TheVariants.{Seen}
-use Rattle.tube_chip.specs.declared.Op.{Op}
 use Rattle.beeb_bits.specs.declared.Side.{Side}
 use Rattle.beeb_bits.specs.declared.Side.TheVariants.{Host, Para}
 use Rattle.tube_trace.specs.declared.Entry.{Entry}
@@ -14,7 +13,7 @@ use Rattle.tube_trace.specs.Entries.{accesses}
 use Rattle.tube_party.specs.Moves.{Moves, IsLawful, IsClear}
 use Rattle.tube_party.specs.Steps.{silent_clear, look_clear, access_clear}
 use Rattle.tube_party.specs.Reference.{Seat, World, stepped, step_if_due, with_host, para_part, tick, ticks}
-use Rattle.tube_party.proofs.Ticks.{seat, world, host_done, still, now, same_or_above, host_here, para_here}
+use Rattle.tube_party.proofs.Ticks.{seat, world, host_done, still, now, same_or_above, host_here}
 use Rattle.tube_party.proofs.Runs.{event}
 use Rattle.tube_party.proofs.Kept.{grows}
 

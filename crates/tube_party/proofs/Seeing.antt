@@ -1,11 +1,11 @@
 -- Steps among which looks see their lines.
-use Rattle.std.proofs.Common.{◌≡◌, sym, ap, subst, ℕ, zero, suc, ◌<◌, ◌≤◌, Option, Some, None, MatchOption, arith}
+use Rattle.std.proofs.Common.{◌≡◌, sym, ap, subst, ℕ, suc, ◌<◌, ◌≤◌, Some, arith}
 use Rattle.beeb_bits.specs.declared.Tick.{Tick}
 use Rattle.tube_chip.specs.declared.Answer.TheVariants.{Seen}
 use Rattle.tube_chip.specs.declared.Lines.{Lines}
-use Rattle.tube_chip.specs.Act.{Query, look}
+use Rattle.tube_chip.specs.Act.{look}
 use Rattle.tube_party.specs.declared.party.Ask.{Ask}
-use Rattle.tube_party.specs.declared.party.Ask.TheVariants.{Nothing, Access, Look}
+use Rattle.tube_party.specs.declared.party.Ask.TheVariants.{Look}
 use Rattle.tube_party.specs.Moves.{Moves, IsLawful, Looks, IsUnsure, Advances, Sees, IsAsk}
 use Rattle.tube_party.specs.Steps.{due_rises, silent_all, looks_on, look_last}
 

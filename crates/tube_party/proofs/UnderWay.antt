@@ -1,5 +1,5 @@
 -- What the loop over both parties keeps.
-use Rattle.std.proofs.Common.{ℕ, ◌≡◌, ◌≤◌, List}
+use Rattle.std.proofs.Common.{ℕ, ◌≤◌, List}
 use Rattle.tube_chip.specs.State.{State}
 use Rattle.tube_chip.specs.Events.{Event}
 use Rattle.tube_trace.specs.declared.Entry.{Entry}

@@ -4,7 +4,7 @@ ghost use Rattle.std.specs.Prelude.{◌≡◌};
 
 use beeb_bits::{Side, Tick};
 use std::test::Fail;
-use tube_chip::Op;
+use tube_chip::{Chip, Op};
 use tube_party::{
     Answer, Ask, Doing, MOST, Party, legal_merge_is_reference, party_goes_on,
     reference_is_followed, reference_is_replayed, reference_is_trace, replay, replay_is_following,
@@ -205,6 +205,39 @@ fn a_look_sees_the_entries_before_it(rt: HostRuntime) -> Result<(), Fail> {
         );
     }
     replay_is_following::<Probe>();
+    Ok(())
+}
+
+#[test]
+fn looks_below_a_tick_see_these_lines(rt: HostRuntime) -> Result<(), Fail> {
+    // The end of the run, the tick below which looks are sure, what is asked, and whether the look at tick 5 saw the lines.
+    let rows: [(u8, u8, Ask, bool); 6] = [
+        (30, 5, Ask::Look(Tick(5)), false),
+        (30, 0, Ask::Look(Tick(5)), false),
+        (30, 6, Ask::Access(Tick(10), Op::Read(0)), true),
+        (10, 30, Ask::Nothing, true),
+        (6, 30, Ask::Nothing, true),
+        (5, 30, Ask::Nothing, false),
+    ];
+    let mut chip = Chip::new();
+    // P is set: one reset.
+    let _ = chip.apply(Side::Host, Op::Write(0, 0xa0));
+    let lines = chip.lines();
+    for (until, sure, ask, saw) in rows {
+        let mut party = at_power_on();
+        assert_eq!(rt; party.accesses_from(), Tick(5));
+        assert_eq!(rt;
+            party.advance_seeing(Tick(until as u64), &lines, Tick(sure as u64)),
+            ask
+        );
+        assert_eq!(rt; party.due, if saw { 10 } else { 5 });
+        assert!(rt;
+            match party.last {
+                Some(Answer::Seen(seen)) => saw && seen.resets == 1 && seen.prst,
+                _ => !saw,
+            }
+        );
+    }
     Ok(())
 }
 

@@ -1,7 +1,7 @@
-use Rattle.std.proofs.Common.{rules, ◌≡◌, ◌≤◌, ◌+◌, ◌∙◌, Some, None, IsSome, sym, ap, subst, arith}
+use Rattle.std.proofs.Common.{rules, ◌≡◌, ◌+◌, None, IsSome, sym, subst, arith}
 use Rattle.cpu6502.specs.Sequences.{next}
 use Rattle.tube_party.specs.Moves.{Looks}
-use Rattle.host_bus.specs.Bus.{BusState, closed_at, bus_closed}
+use Rattle.host_bus.specs.Bus.{BusState}
 use Rattle.host_bus.specs.View.{bus_seen}
 use Rattle.host_mach.specs.State.{HostState}
 use Rattle.host_mach.specs.Step.{host_moves}

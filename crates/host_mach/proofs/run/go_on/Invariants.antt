@@ -1,4 +1,4 @@
-use Rattle.std.proofs.Common.{◌-◌, ◌≤◌}
+use Rattle.std.proofs.Common.{◌-◌}
 use Rattle.host_bus.specs.View.{bus_seen}
 use Rattle.host_mach.specs.Told.{host_of}
 use Rattle.host_mach.proofs.UnderWay.{IsUnderWay}

@@ -1,5 +1,4 @@
-use Rattle.std.proofs.Common.{rules, ◌≡◌, sym, subst, None, true, arith}
-use Rattle.cpu_alu.specs.declared.Regs.{Regs}
+use Rattle.std.proofs.Common.{rules, ◌≡◌, subst, None, true, arith}
 use Rattle.cpu6502.specs.Sequences.{next, after}
 use Rattle.tube_party.specs.Steps.{clear_late}
 use Rattle.host_mach.specs.State.{HostState}

@@ -1,6 +1,5 @@
-use Rattle.std.proofs.Common.{rules, ◌≡◌, ◌<◌, Option, Some, None, true, ap, subst, arith, ℕ}
+use Rattle.std.proofs.Common.{rules, ◌≡◌, Option, None, true, ap, subst, arith}
 use Rattle.tube_party.specs.declared.party.Ask.{Ask}
-use Rattle.tube_party.specs.Moves.{Looks, Sees}
 use Rattle.tube_party.specs.Steps.{looks_on, sees_after}
 use Rattle.para_mach.specs.State.{ParaState}
 use Rattle.para_mach.specs.Step.{para_moves, looks}

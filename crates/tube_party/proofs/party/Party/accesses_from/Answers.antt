@@ -1,4 +1,4 @@
-use Rattle.std.proofs.Common.{◌≤◌, arith}
+use Rattle.std.proofs.Common.{arith}
 use Rattle.tube_party.specs.Steps.{clear_late}
 use Rattle.tube_party.proofs.party.Party.accesses_from.Goals as goal
 

@@ -1,5 +1,5 @@
 use Rattle.std.proofs.Common.{ℕ, ◌-◌}
-use Rattle.tube_party.specs.Moves.{Moves, Looks}
+use Rattle.tube_party.specs.Moves.{Looks}
 use Rattle.tube_party.proofs.party.Party.advance_seeing.Given as goal
 
 -- of the steps so far each asked nothing, or was a sure look
