@@ -89,13 +89,12 @@ pub(crate) fn go_on<D: BusDevice>(
             Some(byte) => {
                 cpu.give(byte);
                 if cpu.last() {
-                    let look = due + 2;
-                    if look >= bound {
-                        bus.close(due + 1);
-                        return (look, Stop::Look);
-                    }
-                    see(cpu, bus, nmis, look, lines.hirq);
                     due += 3;
+                    if due > bound {
+                        bus.close(due - 2);
+                        return (due - 1, Stop::Look);
+                    }
+                    see(cpu, bus, nmis, due - 1, lines.hirq);
                     caught_up = due;
                 } else {
                     due += 3;
