@@ -20,15 +20,7 @@ use raster::Frame;
 use rom_set::RomSet;
 use std::alloc::Global;
 use tube_chip::{Answer, Lines, Op};
-use tube_party::{Ask, Party};
-
-const NO_LINES: Lines = Lines {
-    prst: false,
-    resets: 0,
-    nmis: 0,
-    pirq: false,
-    hirq: false,
-};
+use tube_party::{Ask, NO_LINES, Party};
 
 /// The BBC Micro: a 6502 at 2 MHz and its bus, with the Tube at FEE0 to FEFF.
 #[derive(Drop)]

@@ -16,7 +16,7 @@ use std::alloc::Global;
 use std::marker::Model;
 use thiserror::Error;
 use tube_chip::{Answer, Lines, Op};
-use tube_party::{Ask, Party};
+use tube_party::{Ask, NO_LINES, Party};
 
 /// Why no second processor can be made.
 #[derive(Clone, Copy, Debug, PartialEq, Eq, Error)]
@@ -27,14 +27,6 @@ pub enum ParaError {
     #[error("no memory")]
     NoMemory,
 }
-
-const NO_LINES: Lines = Lines {
-    prst: false,
-    resets: 0,
-    nmis: 0,
-    pirq: false,
-    hirq: false,
-};
 
 /// The 6502 Second Processor: a 65C02 at 3 MHz, 65,536 bytes of RAM, a boot ROM of 2,048 bytes over F800 to FFFF until the first
 /// access to the Tube, and the Tube at FEF8 to FEFF.

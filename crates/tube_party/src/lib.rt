@@ -14,6 +14,6 @@ pub use law::{
 };
 pub use log::note;
 pub use one_thread::{Done, solo};
-pub use party::{Ask, MOST, Party};
+pub use party::{Ask, MOST, NO_LINES, Party};
 pub use replaying::{Doing, replay};
 pub use tube_chip::Answer;

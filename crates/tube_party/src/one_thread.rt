@@ -99,7 +99,7 @@ fn turn<M: Party>(
     machine.advance_seeing(n, lines, sure)
 }
 
-/// Both parties in turn, each as far as its next ask that comes after the other's, and then the earlier ask, again and again.
+/// Both parties in turn: the one whose ask comes first does that step, and goes on past the looks before which the other makes no access.
 fn both<H: Party, P: Party>(
     mut host: H,
     mut para: P,

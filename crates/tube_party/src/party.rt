@@ -20,6 +20,15 @@ pub enum Ask {
 /// The most ticks of a run.
 pub const MOST: u64 = 1_073_741_824;
 
+/// Lines for a run in which no look is sure of its own, so that none sees these.
+pub const NO_LINES: Lines = Lines {
+    prst: false,
+    resets: 0,
+    nmis: 0,
+    pirq: false,
+    hirq: false,
+};
+
 /// A machine with a clock, whose steps are bus accesses and looks at the Tube's lines. Contracts see its state, and its steps as functions
 /// of that state.
 pub trait Party: Drop {
