@@ -6,10 +6,10 @@ ghost use Rattle.tube_party.specs.Played.{IsPlayed};
 
 use beeb_bits::Tick;
 use std::alloc::{AllocError, Global};
-use tube_party::{Done, MOST, Party, solo};
+use tube_party::{Done, MOST, Party, Rewinds, solo};
 
 /// Two parties where their run ended. It stands apart from the machines, since a proof over any two parties goes through no machine's parts.
-pub(crate) fn run_alone<H: Party, P: Party>(
+pub(crate) fn run_alone<H: Party, P: Rewinds>(
     alloc: Global,
     host: H,
     para: P,

@@ -39,6 +39,16 @@ impl Cpu {
         }
     }
 
+    /// The processor once more, as it stands.
+    #[inline]
+    pub fn copy(&self) -> Cpu
+        ensures { result ≡ self.now }
+    {
+        Cpu {
+            core: self.core.copy(),
+        }
+    }
+
     /// The access of the cycle in progress.
     #[inline(always)]
     pub fn want(&self) -> Cycle

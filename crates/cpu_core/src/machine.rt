@@ -177,7 +177,7 @@ pub(crate) struct Start {
 
 /// The cycle in progress, with its access and the latches. Small plain fields, changed in place, are what makes a cycle
 /// fast.
-#[derive(Drop)]
+#[derive(Clone, Copy, Drop)]
 pub(crate) struct Machine {
     /// The cycle in progress.
     pub phase: Phase,

@@ -164,6 +164,19 @@ impl Core {
         }
     }
 
+    /// The processor once more, as it stands.
+    #[inline]
+    pub fn copy(&self) -> Core
+        ensures { result ≡ self.now }
+    {
+        Core {
+            machine: self.machine,
+            start: self.start,
+            part: self.part,
+            trail: self.trail.after(&Turn::Rests),
+        }
+    }
+
     #[inline(always)]
     fn begin(&mut self, sequence: Sequence)
         requires { HasEnded self.old.part self.old.state }

@@ -30,6 +30,8 @@ pub(crate) enum Turn {
     Begins(Sequence, Regs),
     /// A cycle is done, with the byte that was read.
     Given(Part, u8),
+    /// Nothing.
+    Rests,
 }
 
 impl Trail {

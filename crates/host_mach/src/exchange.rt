@@ -26,14 +26,6 @@ fn is_tube(at: u16) -> bool
     0xfee0 <= at && at <= 0xfeff
 }
 
-/// An address that is not the Tube's, nor is the one after it.
-#[inline(always)]
-pub(crate) fn is_apart(at: u16) -> bool
-    ensures { result ≡ true → (is_tube at ≡ false) × (is_tube ((at + 1) % 65536) ≡ false) }
-{
-    !is_tube(at) && !is_tube(at.wrapping_add(1))
-}
-
 /// Does an access of the memory at tick `t`, and gives its byte, or 0 for a write. Any other access is left. A read leaves the bus as far as
 /// it is closed: no device step changes what it gives.
 #[inline(always)]

@@ -7,7 +7,7 @@ ghost use Rattle.cpu6502.specs.Sequences.{next, halted};
 ghost use Rattle.host_mach.specs.State.{power_on};
 ghost use Rattle.host_mach.specs.Step.{host_moves, next_state};
 
-use crate::exchange::{exchange, is_apart};
+use crate::exchange::exchange;
 use crate::run::{Stop, go_on, see};
 use beeb_bits::{Crosses, NoMemory, Tick};
 use bus_plug::BusDevice;
@@ -221,17 +221,6 @@ impl<D: BusDevice> Party for HostMachine<D> {
     #[inline]
     fn due(&self) -> Tick {
         Tick(self.due)
-    }
-
-    // At a look the next accesses are that of the next opcode, or of an interrupt, at PC, a tick later, and then one there again or of the byte
-    // after it. What comes in the third cycle may be anywhere.
-    #[inline(always)]
-    fn accesses_from(&self) -> Tick {
-        if self.cpu.last() && is_apart(self.cpu.at_end().pc) {
-            Tick(self.due.saturating_add(7))
-        } else {
-            Tick(self.due)
-        }
     }
 
     #[inline(always)]

@@ -6,12 +6,13 @@ use Rattle.cpu_alu.specs.declared.Regs.{Regs}
 use Rattle.cpu_core.specs.declared.Sequence.{Sequence}
 use Rattle.cpu_core.specs.declared.Sequence.TheVariants.{Instruction, Reset, Nmi, Irq}
 use Rattle.cpu65c02.specs.Sequences.{next, after, looked, fresh}
-use Rattle.tube_chip.specs.declared.Op.{Op}
 use Rattle.tube_chip.specs.declared.Answer.TheVariants.{Seen}
 use Rattle.tube_chip.specs.declared.Lines.{Lines}
 use Rattle.tube_chip.specs.Act.{look}
 use Rattle.tube_party.specs.Moves.{Looks}
 use Rattle.tube_party.specs.Steps.{silent_last, look_last}
+use Rattle.para_mach.specs.declared.memory.Stop.{Stop}
+use Rattle.para_mach.specs.declared.machine.Left.TheVariants.{Look}
 use Rattle.para_mach.specs.State.{ParaState}
 use Rattle.para_mach.specs.Step.{para_moves, asks, asks_by, looks, next_state, after_look, begun, held_on, lines_in, accessed}
 use Rattle.para_mach.specs.Told.{IsDone, IsQuick, IsPassed, IsRun, lag_by}
@@ -34,7 +35,7 @@ whole_step s new due lag on done =
     ap (λ (x : ParaState). ticked x due (looks x)) done ∙ sym (accesses (timed s due lag) on)
 
 -- a look finds the counts as they were taken
-same_counts : (s : ParaState) (l : Lines) → looks s ≡ true → l.resets ≡ s.resets → l.nmis ≡ s.nmis → begun s (fresh (looked false l.pirq (after s.cpu)) (after s.cpu)) ≡ next_state s (Some (Seen l))
+pub same_counts : (s : ParaState) (l : Lines) → looks s ≡ true → l.resets ≡ s.resets → l.nmis ≡ s.nmis → begun s (fresh (looked false l.pirq (after s.cpu)) (after s.cpu)) ≡ next_state s (Some (Seen l))
 same_counts s l on resets nmis =
     let on_by : ParaState = begun s (fresh (looked false l.pirq (after s.cpu)) (after s.cpu)) in
     sym
@@ -94,7 +95,7 @@ pub same_nmis : (s new : ParaState) → IsDone s None new → new.nmis ≡ s.nmi
 same_nmis s new done = ap (λ (x : ParaState). x.nmis) done.1
 
 -- a step that was left is done by a slower call
-pub unmoved : (s left new : ParaState) (o : Option Op) → IsQuick s false left → IsDone left o new → IsDone s o new
+pub unmoved : (s left new : ParaState) (o : Option Stop) → IsQuick s false left → IsDone left o new → IsDone s o new
 unmoved s left new o same done = subst (λ (x : ParaState). IsDone x o new) same done
 
 -- The steps of a run so far asked nothing or saw the lines; the next one is an access at this tick, and the counts are as they were.
@@ -148,7 +149,7 @@ module _ (n : ℕ) (lines : Lines) (sure : ℕ) (start s new : ParaState) (due :
       }
 
   -- or one that is left
-  pub way_left : looks new ≡ true → (bound : ℕ) (left : ParaState) → IsPassed (due + 1) bound lines.pirq new false left → IsRun n lines sure start None left
+  pub way_left : looks new ≡ true → (bound : ℕ) (left : ParaState) → IsPassed (due + 1) bound lines.pirq new false left → IsRun n lines sure start Look left
   way_left over bound left passed =
       let first : Came n lines sure start (timed new (due + 1) 0) = more n lines sure start s new due _ true way.came below way.goes_on done over in
       let due_is : left.due ≡ due + 1 = ap (λ (x : ParaState). x.due) passed.1 in (

@@ -4,29 +4,34 @@ use Rattle.cpu_alu.specs.declared.Cycle.{Cycle}
 use Rattle.cpu65c02.specs.Sequences.{after, looked, fresh}
 use Rattle.tube_chip.specs.Act.{access}
 use Rattle.tube_chip.specs.declared.Answer.TheVariants.{Byte}
-use Rattle.tube_chip.specs.declared.Op.{Op}
 use Rattle.tube_chip.specs.declared.Op.TheVariants as op
 use Rattle.tube_chip.specs.declared.Lines.{Lines}
-use Rattle.tube_party.specs.declared.party.Ask.{Ask}
 use Rattle.tube_party.specs.Moves.{FitsAnswer, Looks, Sees}
+use Rattle.para_mach.specs.declared.memory.Stop.{Stop}
+use Rattle.para_mach.specs.declared.memory.Stop.TheVariants.{Tube, Full}
+use Rattle.para_mach.specs.declared.machine.Left.{Left}
+use Rattle.para_mach.specs.declared.machine.Left.TheVariants as left
 use Rattle.para_mach.specs.State.{ParaState}
 use Rattle.para_mach.specs.Step.{asks, asks_by, is_tube, memory, byte_of, ram_after, rom_in_after, accessed, looks, begun, para_moves}
 
 -- a read gives the byte of its address, or asks the Tube for it
-abbrev pub IsRead : List ℕ → List ℕ → Bool → ℕ → Result ℕ Op → Type 0
+abbrev pub IsRead : List ℕ → List ℕ → Bool → ℕ → Result ℕ Stop → Type 0
 IsRead ram rom rom_in at (Ok byte) = (is_tube at ≡ false) × (byte ≡ memory ram rom rom_in at)
-IsRead ram rom rom_in at (Err o) = (is_tube at ≡ true) × (o ≡ op.Read (at % 8))
+IsRead ram rom rom_in at (Err (Tube o)) = (is_tube at ≡ true) × (o ≡ op.Read (at % 8))
+IsRead ram rom rom_in at (Err Full) = ⊥
 
 -- an access is done, or asks the Tube
-abbrev pub IsExchanged : List ℕ → List ℕ → Bool → Cycle → Result ℕ Op → List ℕ → Type 0
+abbrev pub IsExchanged : List ℕ → List ℕ → Bool → Cycle → Result ℕ Stop → List ℕ → Type 0
 IsExchanged ram rom rom_in c (Ok byte) new =
     (asks_by (Some c) ≡ None) × (byte ≡ byte_of ram rom rom_in None (Some c)) × (new ≡ ram_after ram (Some c)) × (rom_in ≡ rom_in_after rom_in (Some c))
-IsExchanged ram rom rom_in c (Err o) new = (asks_by (Some c) ≡ Some (access o)) × (new ≡ ram)
+IsExchanged ram rom rom_in c (Err (Tube o)) new = (asks_by (Some c) ≡ Some (access o)) × (new ≡ ram)
+IsExchanged ram rom rom_in c (Err Full) new = new ≡ ram
 
--- the access of the next step is done, without its ticks, or it asks the Tube
-abbrev pub IsDone : ParaState → Option Op → ParaState → Type 0
+-- the access of the next step is done, without its ticks, or it asks the Tube, or it cannot be noted
+abbrev pub IsDone : ParaState → Option Stop → ParaState → Type 0
 IsDone old None new = (asks old ≡ None) × (new ≡ record (accessed old None) { due = old.due; lag = old.lag })
-IsDone old (Some o) new = (asks old ≡ Some (access o)) × (new ≡ old)
+IsDone old (Some (Tube o)) new = (asks old ≡ Some (access o)) × (new ≡ old)
+IsDone old (Some Full) new = new ≡ old
 
 -- the access of the next step is done, without its ticks, or nothing has changed
 abbrev pub IsQuick : ParaState → Bool → ParaState → Type 0
@@ -38,10 +43,16 @@ abbrev pub IsPassed : ℕ → ℕ → Bool → ParaState → Bool → ParaState 
 IsPassed due bound pirq old true new = (due < bound) × (new ≡ begun (record old { due = due }) (fresh (looked false pirq (after old.cpu)) (after old.cpu)))
 IsPassed due bound pirq old false new = (bound ≤ due) × (new ≡ record old { due = due; lag = 0 })
 
--- Steps that asked nothing or saw these lines, up to a look, which may see them or not; or with them what is asked.
-abbrev pub IsRun : ℕ → Lines → ℕ → ParaState → Option Ask → ParaState → Type 0
-IsRun until lines sure old (Some ask) new = Sees para_moves until lines sure old ask new
-IsRun until lines sure old None new = ((k : ℕ) × Looks para_moves until lines sure k old new) × (looks new ≡ true) × (old.due < new.due) × (old.due < until)
+-- Steps that asked nothing or saw these lines, up to a look, which may see them or not; or with them what is asked. Of a run that cannot be
+-- noted nothing is told.
+abbrev pub IsRun : ℕ → Lines → ℕ → ParaState → Left → ParaState → Type 0
+IsRun until lines sure old left.Full new = Unit {0}
+IsRun until lines sure old (left.Asked ask) new = Sees para_moves until lines sure old ask new
+IsRun until lines sure old left.Look new = ((k : ℕ) × Looks para_moves until lines sure k old new) × (looks new ≡ true) × (old.due < new.due) × (old.due < until)
+
+-- a run leaves the boot ROM and the counts
+abbrev pub IsKin : ParaState → ParaState → Type 0
+IsKin old new = (new.rom ≡ old.rom) × (new.rom_in ≡ old.rom_in) × (new.resets ≡ old.resets) × (new.nmis ≡ old.nmis)
 
 -- the next step is an access to the Tube
 abbrev pub IsAskedByte : ParaState → Type 0

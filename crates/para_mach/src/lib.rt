@@ -3,5 +3,6 @@
 
 mod machine;
 mod memory;
+mod notes;
 
 pub use machine::{ParaError, ParaMachine};

@@ -6,17 +6,18 @@ ghost use Rattle.para_mach.specs.State.{power_on, shown_regs};
 ghost use Rattle.cpu65c02.specs.Sequences.{starting, after, looked, fresh};
 ghost use Rattle.para_mach.specs.Step.{para_moves, looks, begun, next_state};
 ghost use Rattle.para_mach.specs.Lawful.{para_lawful, para_permitted};
-ghost use Rattle.para_mach.specs.Told.{IsDone, IsQuick, IsPassed, IsRun, IsAskedByte, lag_by};
+ghost use Rattle.para_mach.specs.Told.{IsDone, IsQuick, IsPassed, IsRun, IsKin, IsAskedByte, lag_by};
 
-use crate::memory::{Memory, ROM_SIZE, is_apart};
+use crate::memory::{Memory, ROM_SIZE, Stop};
+use crate::notes::{Journal, NoNotes, Notes};
 use beeb_bits::{Crosses, Tick};
 use cpu_alu::Regs;
 use cpu65c02::Cpu;
-use std::alloc::Global;
+use std::alloc::{AllocError, Global};
 use std::marker::Model;
 use thiserror::Error;
 use tube_chip::{Answer, Lines, Op};
-use tube_party::{Ask, NO_LINES, Party};
+use tube_party::{Ask, NO_LINES, Party, Rewinds};
 
 /// Why no second processor can be made.
 #[derive(Clone, Copy, Debug, PartialEq, Eq, Error)]
@@ -41,6 +42,26 @@ pub struct ParaMachine {
     // How many ticks before its next step the machine is closed, and that step's tick.
     lag: u8,
     due: u64,
+}
+
+/// Where a run leaves off.
+#[derive(Clone, Copy, Debug, PartialEq, Eq)]
+enum Left {
+    /// At what is asked.
+    Asked(Ask),
+    /// At a look, which may be sure or not.
+    Look,
+    /// At a write that cannot be noted.
+    Full,
+}
+
+/// Where a second processor was when it began to note, and what it has written since.
+#[derive(Drop)]
+pub struct Past {
+    cpu: Cpu,
+    due: u64,
+    lag: u8,
+    journal: Journal,
 }
 
 impl Model for ParaMachine {
@@ -133,26 +154,29 @@ impl ParaMachine {
 
     // The next access, without its ticks, if it asks nothing; else what it asks. Kept apart, for any address.
     #[inline(never)]
-    fn access_any(&mut self) -> Option<Op>
+    fn access_any<N: Notes>(&mut self, notes: &mut N) -> Option<Stop>
         requires { looks self.old ≡ false }
-        ensures { IsDone self.old result self.new }
+        ensures done { IsDone self.old result self.new }
+        ensures noted { N.before notes.new (self.new).ram ≡ N.before notes.old (self.old).ram }
+        ensures full { result ≡ Some Stop.Full → N.endless ≡ false }
     {
-        match self.memory.exchange(self.cpu.want()) {
+        match self.memory.exchange(self.cpu.want(), notes) {
             Ok(byte) => {
                 self.cpu.give(byte);
                 None
             }
-            Err(op) => Some(op),
+            Err(stop) => Some(stop),
         }
     }
 
     // The next access, without its ticks, if its address is low, as most are. Any other is left.
     #[inline(always)]
-    fn quick(&mut self) -> bool
+    fn quick<N: Notes>(&mut self, notes: &mut N) -> bool
         requires { looks self.old ≡ false }
-        ensures { IsQuick self.old result self.new }
+        ensures done { IsQuick self.old result self.new }
+        ensures noted { N.before notes.new (self.new).ram ≡ N.before notes.old (self.old).ram }
     {
-        match self.memory.exchange_low(self.cpu.want()) {
+        match self.memory.exchange_low(self.cpu.want(), notes) {
             Some(byte) => {
                 self.cpu.give(byte);
                 true
@@ -163,11 +187,13 @@ impl ParaMachine {
 
     // The same. The place for what it asks is this function's, so that a loop in which it is called clears none.
     #[inline(always)]
-    fn access(&mut self) -> Option<Op>
+    fn access<N: Notes>(&mut self, notes: &mut N) -> Option<Stop>
         requires { looks self.old ≡ false }
-        ensures { IsDone self.old result self.new }
+        ensures done { IsDone self.old result self.new }
+        ensures noted { N.before notes.new (self.new).ram ≡ N.before notes.old (self.old).ram }
+        ensures full { result ≡ Some Stop.Full → N.endless ≡ false }
     {
-        self.access_any()
+        self.access_any(notes)
     }
 
     // Closes the machine at a tick that is not above the next step's, or leaves it closed as far as it is.
@@ -261,31 +287,38 @@ impl ParaMachine {
     // is asked. The tick is kept beside the machine, and written back where the run stops and at a look. How far the machine is closed follows
     // from it.
     #[inline(always)]
-    fn run(&mut self, until: Tick, lines: &Lines, sure: Tick) -> Option<Ask>
+    fn run<N: Notes>(&mut self, until: Tick, lines: &Lines, sure: Tick, notes: &mut N) -> Left
         requires room { until.0 ≤ 2 ^ 30 }
         requires goes_on { looks self.old ≡ false }
-        ensures { IsRun until.0 lines.now sure.0 self.old result self.new }
+        ensures ran { IsRun until.0 lines.now sure.0 self.old result self.new }
+        ensures kin { IsKin self.old self.new }
+        ensures noted { N.before notes.new (self.new).ram ≡ N.before notes.old (self.old).ram }
+        ensures full { result ≡ Left.Full → N.endless ≡ false }
     {
         let bound = self.bound(until, lines, sure);
         let mut due = self.due;
         while due < until.0 {
-            if self.quick() {
+            if self.quick(notes) {
                 if self.cpu.last() {
                     if !self.pass(due + 1, bound, lines.pirq) {
-                        return None;
+                        return Left::Look;
                     }
                     due += 2;
                 } else {
                     due += 2;
                 }
             } else {
-                if let Some(op) = self.access() {
-                    self.stop(due);
-                    return Some(Ask::Access(Tick(due), op));
+                match self.access(notes) {
+                    None => (),
+                    Some(Stop::Tube(op)) => {
+                        self.stop(due);
+                        return Left::Asked(Ask::Access(Tick(due), op));
+                    }
+                    Some(Stop::Full) => return Left::Full,
                 }
                 if self.cpu.last() {
                     if !self.pass(due + 1, bound, lines.pirq) {
-                        return None;
+                        return Left::Look;
                     }
                     due += 2;
                 } else {
@@ -295,7 +328,7 @@ impl ParaMachine {
         }
         self.stop(due);
         self.shut(until);
-        Some(Ask::Nothing)
+        Left::Asked(Ask::Nothing)
     }
 
     // The Tube's answer to an access.
@@ -381,17 +414,6 @@ impl Party for ParaMachine {
         Tick(self.due)
     }
 
-    // At a look the next accesses are that of the next opcode, or of a reset or an interrupt, at PC, a tick later, and then one there again or of
-    // the byte after it. What comes in the third cycle may be anywhere.
-    #[inline(always)]
-    fn accesses_from(&self) -> Tick {
-        if self.cpu.last() && is_apart(self.cpu.at_end().pc) {
-            Tick(self.due.saturating_add(5))
-        } else {
-            Tick(self.due)
-        }
-    }
-
     #[inline(always)]
     fn advance(&mut self, until: Tick) -> Ask {
         // No look is below tick 0, so that none sees these lines.
@@ -406,8 +428,12 @@ impl Party for ParaMachine {
                     return self.look(until);
                 }
                 self.take_lines(*lines);
-            } else if let Some(ask) = self.run(until, lines, sure) {
-                return ask;
+            } else {
+                match self.run(until, lines, sure, &mut NoNotes) {
+                    Left::Asked(ask) => return ask,
+                    Left::Look => (),
+                    Left::Full => unreachable!(),
+                }
             }
         }
     }
@@ -418,5 +444,64 @@ impl Party for ParaMachine {
             Answer::Byte(byte) => self.take_byte(byte),
             Answer::Seen(lines) => self.take_lines(lines),
         }
+    }
+}
+
+impl Rewinds for ParaMachine {
+    ghost use Rattle.para_mach.specs.Noted.{taken_back};
+
+    type Past = Past;
+
+    ghost before = { λ past. taken_back past.cpu past.due past.lag past.journal.stood.items };
+
+    fn past(alloc: Global) -> Result<Past, AllocError> {
+        let journal = Journal::new(alloc)?;
+        Ok(Past {
+            cpu: Cpu::new(),
+            due: 0,
+            lag: 0,
+            journal,
+        })
+    }
+
+    #[inline(always)]
+    fn advance_noting(
+        &mut self,
+        until: Tick,
+        lines: &Lines,
+        sure: Tick,
+        past: &mut Past,
+    ) -> Option<Ask> {
+        // A reset line that stands is no run of accesses.
+        if self.is_held {
+            return None;
+        }
+        past.cpu = self.cpu.copy();
+        past.due = self.due;
+        past.lag = self.lag;
+        past.journal.clear();
+        if self.cpu.last() {
+            if self.due >= self.bound(until, lines, sure) {
+                return Some(self.look(until));
+            }
+            self.see(self.due, lines.pirq);
+        }
+        match self.run(until, lines, sure, &mut past.journal) {
+            Left::Asked(ask) => Some(ask),
+            Left::Look => Some(self.look(until)),
+            Left::Full => {
+                self.rewind(past);
+                None
+            }
+        }
+    }
+
+    #[inline(never)]
+    fn rewind(&mut self, past: &mut Past) {
+        self.memory.take_back(&mut past.journal);
+        self.cpu = past.cpu.copy();
+        self.is_held = false;
+        self.due = past.due;
+        self.lag = past.lag;
     }
 }

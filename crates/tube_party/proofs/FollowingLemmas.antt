@@ -22,8 +22,10 @@ use Rattle.tube_party.specs.Replay.{Numbered, Ended, own_from, same_op, is_that,
 use Rattle.tube_party.specs.Tape.{Misses}
 use Rattle.tube_party.specs.Following.{own_below, IsAnsweredBy, FollowsTrace, ReplayIsFollowing, IsDifference, DiffersAt, ReplayTellsDifference}
 use Rattle.tube_party.proofs.Runs.{event, First, Over, Silent, Asking, first_of_runs, runs_silent, runs_asking}
-use Rattle.tube_party.proofs.Turns.{entry}
 use Rattle.tube_party.proofs.ReplayLemmas.{Goes, goes_all, goes_end, goes_none, goes_look, goes_access, goes_differs, at_end, step_now}
+
+abbrev entry : ℕ → Side → Op → ℕ → Entry
+entry t side op a = record { tick = record { 0 = t }; side = side; op = op; answer = a }
 
 -- the entries of numbered ones
 abbrev pub entries : List Numbered → List Entry

@@ -9,9 +9,9 @@ pub mod Listed
 pub mod Followed
 pub mod Replayed
 pub mod TraceLemmas
-pub mod Turns
 pub mod First
 pub mod Kept
+pub mod Calm
 pub mod Early
 pub mod UnderWay
 pub mod Both

@@ -1,11 +1,11 @@
 -- What the loop over both parties keeps.
-use Rattle.std.proofs.Common.{ℕ, ◌≤◌, List}
-use Rattle.tube_chip.specs.State.{State}
+use Rattle.std.proofs.Common.{ℕ, ◌≤◌, List, Bool, true, false}
+use Rattle.tube_chip.specs.State.{State, lines_of}
 use Rattle.tube_chip.specs.Events.{Event}
 use Rattle.tube_trace.specs.declared.Entry.{Entry}
 use Rattle.beeb_bits.specs.declared.Side.TheVariants.{Host, Para}
 use Rattle.tube_party.specs.declared.party.Ask.{Ask}
-use Rattle.tube_party.specs.Moves.{Moves, IsAsk}
+use Rattle.tube_party.specs.Moves.{Moves, IsAsk, Goes}
 use Rattle.tube_party.specs.Reference.{ticks, start}
 use Rattle.tube_party.specs.Played.{IsKept}
 use Rattle.tube_party.proofs.Ticks.{world}
@@ -24,3 +24,20 @@ pub record IsUnderWay {S T : Type 0} (h : Moves S) (p : Moves T) (n keep : ℕ) 
   pub para_kept : IsKept Para events keep pl pc
   pub host_few : hc ≤ h.due host_last
   pub para_few : pc ≤ p.due para_last
+
+-- The same, with the parasite in a state that may ask or not.
+pub record IsAt {S T : Type 0} (h : Moves S) (p : Moves T) (n keep : ℕ) (s0 : S) (t0 : T) (s : S) (t : T) (c : State) (ask_h : Ask) (hl pl : List Entry) (hc pc : ℕ) : Type 0 where
+  pub host_last : S
+  pub events : List Event
+  pub host_asked : IsAsk h n host_last ask_h s
+  pub same : IsLike (ticks h p n 0 (start s0 t0)) (ticks h p n 0 (world host_last t c events))
+  pub host_kept : IsKept Host events keep hl hc
+  pub para_kept : IsKept Para events keep pl pc
+  pub host_few : hc ≤ h.due host_last
+  pub para_few : pc ≤ p.due t
+
+-- The reference goes on from where the parties are; or, where the parasite is ahead, from where it can be taken back to, from which it went on as
+-- if the host changed none of its lines.
+abbrev pub IsGoing : {S T : Type 0} → Moves S → Moves T → ℕ → ℕ → S → T → Bool → S → T → T → State → Ask → Ask → List Entry → List Entry → ℕ → ℕ → Type 0
+IsGoing h p n keep s0 t0 false s mark t c ask_h ask_p hl pl hc pc = IsUnderWay h p n keep s0 t0 s t c ask_h ask_p hl pl hc pc
+IsGoing h p n keep s0 t0 true s mark t c ask_h ask_p hl pl hc pc = IsAt h p n keep s0 t0 s mark c ask_h hl pl hc pc × ((far : ℕ) × Goes p n (lines_of c) far mark ask_p t)

@@ -109,16 +109,12 @@ pub record Sees {S : Type 0} (m : Moves S) (n : ℕ) (lines : Lines) (sure : ℕ
   pub asked : IsAsk m n last ask new
   pub unsure : IsUnsure sure ask
 
--- by what is asked: one thing of a look, another of an access
-abbrev pub WhenAsked : Query → Type 0 → Type 0 → Type 0
-WhenAsked look P Q = P
-WhenAsked (access op) P Q = Q
-
--- no access among k steps comes before tick t, whatever the looks see
-abbrev pub IsClear : {S : Type 0} → Moves S → ℕ → ℕ → S → Type 0
-IsClear m t zero s = Unit {0}
-IsClear m t (suc k) s =
-    MatchOption (m.asks s) (IsClear m t k (m.next s None)) (λ q. WhenAsked q ((l : Lines) → IsClear m t k (m.next s (Some (Seen l)))) (t ≤ m.due s))
+-- The same, but that it may be a sure look that is asked next.
+pub record Goes {S : Type 0} (m : Moves S) (n : ℕ) (lines : Lines) (sure : ℕ) (old : S) (ask : Ask) (new : S) : Type 0 where
+  pub steps : ℕ
+  pub last : S
+  pub looks : Looks m n lines sure steps old last
+  pub asked : IsAsk m n last ask new
 
 -- a byte for an access, lines for a look
 abbrev pub FitsAnswer : Query → Answer → Type 0

@@ -1,14 +1,13 @@
 -- Laws about runs that machines use.
-use Rattle.std.specs.Prelude.{ℕ, zero, suc, ◌≡◌, ◌<◌, ◌≤◌, ◌+◌, ◌⊎◌, Option, None, Some, MatchOption, [], refl}
-use Rattle.std.proofs.Common.{sym, ◌∙◌, ap, subst, inl, inr, arith}
+use Rattle.std.specs.Prelude.{ℕ, zero, suc, ◌≡◌, ◌<◌, ◌≤◌, Option, None, Some, MatchOption, [], refl}
+use Rattle.std.proofs.Common.{sym, ◌∙◌, ap, subst, arith}
 use Rattle.beeb_bits.specs.declared.Side.{Side}
 use Rattle.beeb_bits.specs.declared.Side.TheVariants.{Host}
-use Rattle.tube_chip.specs.Act.{Query, access, look}
+use Rattle.tube_chip.specs.Act.{Query, look}
 use Rattle.tube_chip.specs.declared.Answer.TheVariants.{Seen}
 use Rattle.tube_chip.specs.declared.Lines.{Lines}
-use Rattle.tube_chip.specs.declared.Op.{Op}
 use Rattle.tube_party.specs.declared.party.Ask.{Ask}
-use Rattle.tube_party.specs.Moves.{Moves, IsLawful, Runs, Looks, Advances, Sees, WhenAsked, IsClear}
+use Rattle.tube_party.specs.Moves.{Moves, IsLawful, Runs, Looks, Advances, Sees}
 
 silent_here : {S : Type 0} (m : Moves S) (side : Side) (n k : ℕ) (s last : S) (o : Option Query) →
     m.asks s ≡ o → o ≡ None → Runs m side n k (m.next s None) [] last → m.due s < n → Runs m side n (suc k) s [] last
@@ -37,7 +36,7 @@ runs_more m side n (suc k) s last h low none =
 
 module _ {S : Type 0} (m : Moves S) (n : ℕ) (lines : Lines) (sure : ℕ) where
   -- what follows the first of k + 1 steps, by what it asks
-  abbrev After : ℕ → S → S → Option Query → Type 0
+  abbrev pub After : ℕ → S → S → Option Query → Type 0
   After k s last o =
       MatchOption o (Looks m n lines sure k (m.next s None) last) (λ q. (q ≡ look) × (m.due s < sure) × Looks m n lines sure k (m.next s (Some (Seen lines))) last)
 
@@ -127,44 +126,3 @@ module _ {S : Type 0} (m : Moves S) (n : ℕ) (lines : Lines) where
   -- to advance is to see no look
   pub advances_of : (s new : S) (ask : Ask) → Sees m n lines 0 s ask new → Advances m n s ask new
   advances_of s new ask sees = record { steps = sees.steps; last = sees.last; runs = none_seen sees.steps s sees.last sees.looks; asked = sees.asked }
-
--- ---- Steps among which no access comes before a tick
-
-module _ {S : Type 0} (m : Moves S) (t : ℕ) where
-  abbrev ClearAfter : ℕ → S → Option Query → Type 0
-  ClearAfter k s o = MatchOption o (IsClear m t k (m.next s None)) (λ q. WhenAsked q ((l : Lines) → IsClear m t k (m.next s (Some (Seen l)))) (t ≤ m.due s))
-
-  -- a step that asks nothing
-  pub clear_silent : (k : ℕ) (s : S) → m.asks s ≡ None → IsClear m t k (m.next s None) → IsClear m t (suc k) s
-  clear_silent k s is h = subst (ClearAfter k s) (sym is) h
-
-  -- a look
-  pub clear_look : (k : ℕ) (s : S) → m.asks s ≡ Some look → ((l : Lines) → IsClear m t k (m.next s (Some (Seen l)))) → IsClear m t (suc k) s
-  clear_look k s is h = subst (ClearAfter k s) (sym is) h
-
-  -- and what is left of them after a step
-  pub silent_clear : (k : ℕ) (s : S) → m.asks s ≡ None → IsClear m t (suc k) s → IsClear m t k (m.next s None)
-  silent_clear k s is h = subst (ClearAfter k s) is h
-
-  pub look_clear : (k : ℕ) (s : S) → m.asks s ≡ Some look → IsClear m t (suc k) s → (l : Lines) → IsClear m t k (m.next s (Some (Seen l)))
-  look_clear k s is h = subst (ClearAfter k s) is h
-
-  pub access_clear : (s : S) (op : Op) → m.asks s ≡ Some (access op) → IsClear m t 1 s → t ≤ m.due s
-  access_clear s op is h = subst (ClearAfter zero s) is h
-
-  -- from the tick on, all are clear, since ticks rise
-  clear_late_by : (k : ℕ) (s : S) → IsLawful m → t ≤ m.due s → (o : Option Query) → ((u : S) → t ≤ m.due u → IsClear m t k u) → ClearAfter k s o
-  clear_late_by k s lawful late None on = let up : m.due s < m.due (m.next s None) = lawful.rises s None in on (m.next s None) (omega arith)
-  clear_late_by k s lawful late (Some look) on = λ l. let up : m.due s < m.due (m.next s (Some (Seen l))) = lawful.rises s (Some (Seen l)) in on (m.next s (Some (Seen l))) (omega arith)
-  clear_late_by k s lawful late (Some (access op)) on = late
-
-  pub clear_late : (k : ℕ) (s : S) → IsLawful m → t ≤ m.due s → IsClear m t k s
-  clear_late zero s lawful late = tt
-  clear_late (suc k) s lawful late = clear_late_by k s lawful late (m.asks s) (λ u on. clear_late k u lawful on)
-
-  -- nor does one come before the tick after a look
-  pub clear_soon : (k : ℕ) (s : S) → IsLawful m → (m.asks s ≡ Some look) ⊎ (t ≤ m.due s) → t ≤ m.due s + 1 → IsClear m t k s
-  clear_soon zero s lawful next soon = tt
-  clear_soon (suc k) s lawful (inl is) soon =
-      clear_look k s is (λ l. let up : m.due s < m.due (m.next s (Some (Seen l))) = lawful.rises s (Some (Seen l)) in clear_late k (m.next s (Some (Seen l))) lawful (omega arith))
-  clear_soon (suc k) s lawful (inr late) soon = clear_late (suc k) s lawful late

@@ -6,6 +6,7 @@ mod log;
 mod one_thread;
 mod party;
 mod replaying;
+mod rewinds;
 mod tape;
 
 pub use law::{
@@ -16,4 +17,5 @@ pub use log::note;
 pub use one_thread::{Done, solo};
 pub use party::{Ask, MOST, NO_LINES, Party};
 pub use replaying::{Doing, replay};
+pub use rewinds::Rewinds;
 pub use tube_chip::Answer;

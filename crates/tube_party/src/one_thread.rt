@@ -3,11 +3,12 @@ ghost use Rattle.std.specs.Prelude.{◌≡◌, ◌≤◌, ◌<◌, ◌^◌, [], 
 ghost use Rattle.beeb_bits.specs.declared.Side.TheVariants.{Host, Para};
 ghost use Rattle.tube_chip.specs.State.{lines_of};
 ghost use Rattle.tube_party.specs.Played.{IsPlayed};
-ghost use Rattle.tube_party.specs.Turn.{IsPending, Turns, first_of, IsSure};
+ghost use Rattle.tube_party.specs.Turn.{IsPending, Acts, IsGone, IsSettled, first_of, tick_of, IsSure};
 ghost use Rattle.tube_party.specs.Reference.{reference};
 
 use crate::log::Log;
 use crate::party::{Ask, MOST, Party};
+use crate::rewinds::Rewinds;
 use beeb_bits::{Side, Tick};
 use std::alloc::Global;
 use tube_chip::{Answer, Chip, Lines};
@@ -47,22 +48,32 @@ fn first_of(host: Ask, para: Ask) -> Option<Side>
     }
 }
 
-/// A tick below which each look of the other side sees the chip as it is, by what this party asks next: none of its accesses comes before
-/// that look, which may come `slack` ticks behind a step of this party. The last tick of a run where it asks nothing.
+/// A tick below which each look of the other side sees the chip as it is, by what this party asks next: that look may come `slack` ticks behind
+/// a step of this party. The last tick of a run where it asks nothing.
 #[inline(always)]
-fn sure<M: Party>(party: &M, ask: Ask, slack: u64) -> Tick
-    ensures { IsSure M.moves slack (M.state party.now) ask result.0 }
+fn sure(ask: Ask, slack: u64) -> Tick
+    ensures { IsSure slack ask result.0 }
 {
     match ask {
         Ask::Nothing => Tick(MOST),
-        Ask::Access(tick, _) => Tick(tick.0.saturating_add(slack)),
-        Ask::Look(_) => Tick(party.accesses_from().0.saturating_add(slack)),
+        Ask::Access(tick, _) | Ask::Look(tick) => Tick(tick.0.saturating_add(slack)),
     }
 }
 
-/// Does the step that asks, and all after it that ask nothing or are looks below tick `sure`. The lines are kept up with the chip, which a
-/// look leaves alone.
-fn turn<M: Party>(
+/// The tick of what is asked.
+#[inline(always)]
+fn tick_of(ask: Ask) -> Tick
+    ensures { result.0 ≡ tick_of ask }
+{
+    match ask {
+        Ask::Nothing => Tick(0),
+        Ask::Access(tick, _) | Ask::Look(tick) => tick,
+    }
+}
+
+/// Does the step that asks. The lines are kept up with the chip, which a look leaves alone.
+#[inline(always)]
+fn act<M: Party>(
     machine: &mut M,
     side: Side,
     chip: &mut Chip,
@@ -70,15 +81,14 @@ fn turn<M: Party>(
     log: &mut Log,
     n: Tick,
     ask: Ask,
-    sure: Tick,
-) -> Ask
+)
     requires ticks { n.0 ≤ MOST }
     requires plays { IsTrue (M.plays side) }
     requires pending { IsPending M.moves n.0 (M.state machine.old) ask }
     requires count { log.old.count < 2 ^ 63 }
     requires kept { lines.old ≡ lines_of chip.old }
     ensures kept { lines.new ≡ lines_of chip.new }
-    ensures turns { Turns M.moves side n.0 log.old.keep sure.0 (M.state machine.old) chip.old log.old.list.items log.old.count (M.state machine.new) chip.new log.new.list.items log.new.count result }
+    ensures acts { Acts M.moves side log.old.keep (M.state machine.old) chip.old log.old.list.items log.old.count (M.state machine.new) chip.new log.new.list.items log.new.count }
     ensures keep { log.new.keep ≡ log.old.keep }
 {
     match ask {
@@ -96,33 +106,87 @@ fn turn<M: Party>(
         }
         Ask::Look(_) => machine.answer(Answer::Seen(*lines)),
     }
-    machine.advance_seeing(n, lines, sure)
 }
 
-/// Both parties in turn: the one whose ask comes first does that step, and goes on past the looks before which the other makes no access.
-fn both<H: Party, P: Party>(
+/// Goes on from there: ahead past all looks below `ahead` that its notes allow, or past those below `sure` alone. True if it is ahead.
+#[inline(always)]
+fn go_on<M: Rewinds>(
+    machine: &mut M,
+    past: &mut M::Past,
+    n: Tick,
+    lines: &Lines,
+    ahead: Tick,
+    sure: Tick,
+) -> (bool, Ask)
+    requires { n.0 ≤ MOST }
+    ensures { IsGone M.Party.moves n.0 lines.now sure.0 (M.Party.state machine.old) result.0 result.1 (M.Party.state (M.before past.new machine.new)) (M.Party.state machine.new) }
+{
+    match machine.advance_noting(n, lines, ahead, past) {
+        Some(ask) => (true, ask),
+        None => (false, machine.advance_seeing(n, lines, sure)),
+    }
+}
+
+/// After an access of the other side at tick `at`: a party that is ahead, and saw lines that are no longer so, is taken back, and goes on to
+/// where the access was. Whether it is still ahead, and what it asks.
+#[inline(always)]
+fn settle<M: Rewinds>(
+    machine: &mut M,
+    past: &mut M::Past,
+    n: Tick,
+    seen: &Lines,
+    lines: &Lines,
+    at: Tick,
+    is_ahead: bool,
+    ask: Ask,
+) -> (bool, Ask)
+    requires { n.0 ≤ MOST }
+    ensures { IsSettled M.Party.moves n.0 seen.now lines.now at.0 is_ahead ask (M.Party.state (M.before past.old machine.old)) (M.Party.state machine.old) result.0 result.1 (M.Party.state (M.before past.new machine.new)) (M.Party.state machine.new) }
+{
+    if is_ahead && *lines != *seen {
+        machine.rewind(past);
+        (false, machine.advance_seeing(n, seen, at))
+    } else {
+        (is_ahead, ask)
+    }
+}
+
+/// The fewest ticks that the parasite goes ahead.
+const FEWEST: u64 = 16;
+
+/// The most of them.
+const FURTHEST: u64 = 4_096;
+
+/// Both parties in turn: the one whose ask comes first does that step, and goes on. The host goes on past the looks before which the parasite
+/// makes no access. The parasite goes ahead of the host, as if the host changed none of its lines, and is taken back where it does.
+fn both<H: Party, P: Rewinds>(
     mut host: H,
     mut para: P,
     n: Tick,
     mut host_log: Log,
     mut para_log: Log,
+    mut past: P::Past,
 ) -> Done<H, P>
     requires ticks { n.0 ≤ MOST }
     requires host_plays { IsTrue (H.plays Host) }
-    requires para_plays { IsTrue (P.plays Para) }
+    requires para_plays { IsTrue (P.Party.plays Para) }
     requires host_none { (host_log.list.items ≡ []) × (host_log.count ≡ 0) }
     requires para_none { (para_log.list.items ≡ []) × (para_log.count ≡ 0) }
     requires one_keep { para_log.keep ≡ host_log.keep }
-    ensures { IsPlayed (reference H.moves P.moves (H.state host) (P.state para) n.0) host_log.keep (H.state result.host) (P.state result.para) result.chip result.host_list.items result.para_list.items result.host_count result.para_count }
+    ensures { IsPlayed (reference H.moves P.Party.moves (H.state host) (P.Party.state para) n.0) host_log.keep (H.state result.host) (P.Party.state result.para) result.chip result.host_list.items result.para_list.items result.host_count result.para_count }
 {
     let mut chip = Chip::new();
     let mut lines = chip.lines();
     let mut host_ask = host.advance(n);
     let mut para_ask = para.advance(n);
+    let mut is_ahead = false;
+    let mut stride = FEWEST;
     while let Some(side) = first_of(host_ask, para_ask) {
         match side {
             Side::Host => {
-                host_ask = turn(
+                let seen = lines;
+                let at = tick_of(host_ask);
+                act(
                     &mut host,
                     Side::Host,
                     &mut chip,
@@ -130,11 +194,19 @@ fn both<H: Party, P: Party>(
                     &mut host_log,
                     n,
                     host_ask,
-                    sure(&para, para_ask, 1),
                 );
+                let was_ahead = is_ahead;
+                (is_ahead, para_ask) = settle(
+                    &mut para, &mut past, n, &seen, &lines, at, is_ahead, para_ask,
+                );
+                if was_ahead && !is_ahead {
+                    stride = (stride / 8).max(FEWEST);
+                }
+                host_ask = host.advance_seeing(n, &lines, sure(para_ask, 1));
             }
             Side::Para => {
-                para_ask = turn(
+                let ahead = Tick(tick_of(para_ask).0.saturating_add(stride));
+                act(
                     &mut para,
                     Side::Para,
                     &mut chip,
@@ -142,8 +214,16 @@ fn both<H: Party, P: Party>(
                     &mut para_log,
                     n,
                     para_ask,
-                    sure(&host, host_ask, 0),
                 );
+                (is_ahead, para_ask) = go_on(
+                    &mut para,
+                    &mut past,
+                    n,
+                    &lines,
+                    ahead,
+                    sure(host_ask, 0),
+                );
+                stride = stride.saturating_add(stride / 4).min(FURTHEST);
             }
         }
     }
@@ -163,7 +243,7 @@ fn both<H: Party, P: Party>(
 ///
 /// # Errors
 /// Want of memory: both parties are handed back as they were.
-pub fn solo<H: Party, P: Party>(
+pub fn solo<H: Party, P: Rewinds>(
     alloc: Global,
     host: H,
     para: P,
@@ -172,10 +252,10 @@ pub fn solo<H: Party, P: Party>(
 ) -> Result<Done<H, P>, (H, P)>
     requires ticks { n.0 ≤ MOST }
     requires host_plays { IsTrue (H.plays Host) }
-    requires para_plays { IsTrue (P.plays Para) }
+    requires para_plays { IsTrue (P.Party.plays Para) }
     requires host_open { H.moves.closed (H.state host) ≤ n.0 }
-    requires para_open { P.moves.closed (P.state para) ≤ n.0 }
-    ensures played { IfOk result (λ d. IsPlayed (reference H.moves P.moves (H.state host) (P.state para) n.0) keep (H.state d.host) (P.state d.para) d.chip d.host_list.items d.para_list.items d.host_count d.para_count) }
+    requires para_open { P.Party.moves.closed (P.Party.state para) ≤ n.0 }
+    ensures played { IfOk result (λ d. IsPlayed (reference H.moves P.Party.moves (H.state host) (P.Party.state para) n.0) keep (H.state d.host) (P.Party.state d.para) d.chip d.host_list.items d.para_list.items d.host_count d.para_count) }
     ensures back { IfErr result (λ b. (b.0 ≡ host) × (b.1 ≡ para)) }
 {
     let Ok(host_log) = Log::new(alloc, keep) else {
@@ -184,5 +264,8 @@ pub fn solo<H: Party, P: Party>(
     let Ok(para_log) = Log::new(alloc, keep) else {
         return Err((host, para));
     };
-    Ok(both(host, para, n, host_log, para_log))
+    let Ok(past) = P::past(alloc) else {
+        return Err((host, para));
+    };
+    Ok(both(host, para, n, host_log, para_log, past))
 }

@@ -1,7 +1,7 @@
 //! What a machine at the Tube is.
 ghost use Rattle.std.specs.Prelude.{◌≡◌, ◌≤◌, ℕ, Bool, Some};
 ghost use Rattle.beeb_bits.specs.declared.Side.{Side};
-ghost use Rattle.tube_party.specs.Moves.{Moves, IsLawful, IsPermitted, Advances, Sees, IsClear, IsAskedFor};
+ghost use Rattle.tube_party.specs.Moves.{Moves, IsLawful, IsPermitted, Advances, Sees, IsAskedFor};
 
 use beeb_bits::Tick;
 use tube_chip::{Answer, Lines, Op};
@@ -46,13 +46,6 @@ pub trait Party: Drop {
     /// The tick of the next step.
     fn due(&self) -> Tick
         ensures { result.0 ≡ moves.due (state self.now) };
-
-    /// A tick before which no access to the Tube comes, whatever the looks before it see. A machine may look ahead.
-    fn accesses_from(&self) -> Tick
-        ensures { (k : ℕ) → IsClear moves result.0 k (state self.now) }
-    {
-        self.due()
-    }
 
     /// Does the steps below `until` that ask nothing, up to the first that asks. After `Nothing` all steps below `until` are done, and the
     /// state is closed at `until`, or as far as it is closed already if that is further.

@@ -11,10 +11,10 @@ use std::sync::Arc;
 use std::sync::atomic::{AtomicBool, Ordering};
 use std::test::Fail;
 use tube_chip::{Lines, Op};
-use tube_party::{Answer, Ask, Party, solo};
+use tube_party::{Answer, Ask, Party, Rewinds, solo};
 
 /// A talker's next step: a look, or an access to a register that all answers so far decide.
-#[derive(Clone, Copy, Debug, PartialEq, Eq)]
+#[derive(Clone, Copy, Debug, Drop, PartialEq, Eq)]
 pub struct Talk {
     due: u64,
     // How far it is closed, in ticks before the next step.
@@ -123,6 +123,32 @@ impl Party for Talker {
     }
 }
 
+// It goes ahead as far as it may, and is taken back by a copy of what it was.
+impl Rewinds for Talker {
+    type Past = Talk;
+
+    ghost before = { λ past m. record m { talk = past } };
+
+    fn past(_alloc: Global) -> Result<Talk, AllocError> {
+        Ok(first_talk(0, 0))
+    }
+
+    fn advance_noting(
+        &mut self,
+        until: Tick,
+        lines: &Lines,
+        sure: Tick,
+        past: &mut Talk,
+    ) -> Option<Ask> {
+        *past = self.talk;
+        Some(self.advance_seeing(until, lines, sure))
+    }
+
+    fn rewind(&mut self, past: &mut Talk) {
+        self.talk = *past;
+    }
+}
+
 /// Two meet where each sets its flag and sees the other's.
 #[derive(Drop)]
 pub struct Meeting {
@@ -150,18 +176,25 @@ fn flag(alloc: Global) -> Result<Flag, AllocError> {
     Ok(Arc::new(alloc, AtomicBool::new(false))?)
 }
 
-// A talker whose first step is due at this tick, and that is closed at tick 0.
+// A first step at this tick, before which nothing is closed.
+fn first_talk(due: u8, heard: u8) -> Talk
+    ensures { result.lag ≡ result.due }
+{
+    Talk {
+        due: due as u64,
+        lag: due as u64,
+        looks: false,
+        writes: true,
+        heard,
+    }
+}
+
+// A talker that begins so.
 fn at_start(due: u8, heard: u8, meeting: Option<Meeting>) -> Talker
     ensures { result.talk.lag ≡ result.talk.due }
 {
     Talker {
-        talk: Talk {
-            due: due as u64,
-            lag: due as u64,
-            looks: false,
-            writes: true,
-            heard,
-        },
+        talk: first_talk(due, heard),
         meeting,
     }
 }

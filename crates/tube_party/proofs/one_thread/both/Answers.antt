@@ -1,8 +1,7 @@
-use Rattle.std.proofs.Common.{◌≡◌, ◌∙◌, sym, ap, refl, arith, Some}
+use Rattle.std.proofs.Common.{◌≡◌, ◌∙◌, sym, ap, refl, arith, Some, None}
 use Rattle.beeb_bits.specs.declared.Side.TheVariants.{Host, Para}
 use Rattle.tube_party.specs.Turn.{first_of}
-use Rattle.tube_party.proofs.Both.{begins, host_turn, para_turn, finishes, turn_smaller, turns_keep}
-use Rattle.tube_party.proofs.First.{host_first, para_first}
+use Rattle.tube_party.proofs.Both.{begins, host_goes, para_turn, finishes, settled, host_smaller, para_smaller, para_count, acts_keep, host_or_none, gone_seeing, sees_seeing, settled_seeing}
 use Rattle.tube_party.proofs.one_thread.both.Goals as goal
 
 pub loop-side-init : goal.loop-side-init
@@ -17,40 +16,50 @@ loop-side-init g c = record {
 pub loop-side-smaller-in-Host : goal.loop-side-smaller-in-Host
 loop-side-smaller-in-Host g c =
     let e : first_of c.loop-side.host_ask c.loop-side.para_ask ≡ Some Host = sym c.first_of.ensures ∙ c.in-Some.is ∙ ap (λ x. Some x) c.in-Host.is in
-    let w = c.loop-side.invariant.way in
-    let f = host_first g.H.Party.moves g.P.Party.moves _ _ _ _ _ _ _ w.host_asked w.para_asked e in
-    omega (arith, turn_smaller g.H.Party.moves g.met.H.Party.lawful Host _ _ _ _ _ _ _ _ _ _ _ _ _ f.pending c.turn-host_ask.ensures.turns)
+    host_smaller g.H.Party.moves g.P.Party.moves g.met.H.Party.lawful g.met.P.Party.lawful _ _ _ _ _ _ _ _ _ _ _ _ _ _ _ _ _ _ _ _ _ _ _ _ _ _
+    c.loop-side.invariant.way e (acts_keep c.loop-side.invariant.host_keep c.act.ensures.acts)
+    (settled_seeing c.loop-side.invariant.lines c.act.ensures.kept c.tick_of-at.ensures c.settle.ensures)
+    (sees_seeing c.act.ensures.kept c.advance_seeing-host_ask.ensures)
 
 pub loop-side-preserved-in-Host : goal.loop-side-preserved-in-Host
 loop-side-preserved-in-Host g c =
     let e : first_of c.loop-side.host_ask c.loop-side.para_ask ≡ Some Host = sym c.first_of.ensures ∙ c.in-Some.is ∙ ap (λ x. Some x) c.in-Host.is in
     record {
-      way = host_turn g.H.Party.moves g.P.Party.moves g.met.H.Party.lawful g.met.P.Party.lawful _ _ _ _ _ _ _ _ _ _ _ _ _ _ _ _ _ _ _
-          c.loop-side.invariant.way e c.sure.ensures (turns_keep c.loop-side.invariant.host_keep c.turn-host_ask.ensures.turns);
-      lines = c.turn-host_ask.ensures.kept;
-      host_keep = c.turn-host_ask.ensures.keep ∙ c.loop-side.invariant.host_keep;
+      way = host_goes g.H.Party.moves g.P.Party.moves g.met.H.Party.lawful g.met.P.Party.lawful _ _ _ _ _ _ _ _ _ _ _ _ _ _ _ _ _ _ _ _ _ _ _ _ _ _
+          c.loop-side.invariant.way e (acts_keep c.loop-side.invariant.host_keep c.act.ensures.acts)
+          (settled_seeing c.loop-side.invariant.lines c.act.ensures.kept c.tick_of-at.ensures c.settle.ensures)
+          c.sure.ensures (sees_seeing c.act.ensures.kept c.advance_seeing-host_ask.ensures);
+      lines = c.act.ensures.kept;
+      host_keep = c.act.ensures.keep ∙ c.loop-side.invariant.host_keep;
       para_keep = c.loop-side.invariant.para_keep;
     }
+
+pub act-requires-in-Para-clause-count : goal.act-requires-in-Para-clause-count
+act-requires-in-Para-clause-count g c =
+    let e : first_of c.loop-side.host_ask c.loop-side.para_ask ≡ Some Para = sym c.first_of.ensures ∙ c.in-Some.is ∙ ap (λ x. Some x) c.in-Para.is in
+    omega (arith, c.requires.ticks, para_count g.H.Party.moves g.P.Party.moves g.met.H.Party.lawful g.met.P.Party.lawful _ _ _ _ _ _ _ _ _ _ _ _ _ _ _ c.loop-side.invariant.way e)
 
 pub loop-side-smaller : goal.loop-side-smaller
 loop-side-smaller g c =
     let e : first_of c.loop-side.host_ask c.loop-side.para_ask ≡ Some Para = sym c.first_of.ensures ∙ c.in-Some.is ∙ ap (λ x. Some x) c.in-Para.is in
-    let w = c.loop-side.invariant.way in
-    let f = para_first g.H.Party.moves g.P.Party.moves _ _ _ _ _ _ _ w.host_asked w.para_asked e in
-    omega (arith, turn_smaller g.P.Party.moves g.met.P.Party.lawful Para _ _ _ _ _ _ _ _ _ _ _ _ _ f.pending c.turn-para_ask.ensures.turns)
+    para_smaller g.H.Party.moves g.P.Party.moves g.met.H.Party.lawful g.met.P.Party.lawful _ _ _ _ _ _ _ _ _ _ _ _ _ _ _ _ _ _ _ _ _ _ _ _
+    c.loop-side.invariant.way e (acts_keep c.loop-side.invariant.para_keep c.act-in-Para.ensures.acts)
+    (gone_seeing _ _ _ _ _ _ _ _ c.act-in-Para.ensures.kept c.go_on.ensures)
 
 pub loop-side-preserved : goal.loop-side-preserved
 loop-side-preserved g c =
     let e : first_of c.loop-side.host_ask c.loop-side.para_ask ≡ Some Para = sym c.first_of.ensures ∙ c.in-Some.is ∙ ap (λ x. Some x) c.in-Para.is in
     record {
-      way = para_turn g.H.Party.moves g.P.Party.moves g.met.H.Party.lawful g.met.P.Party.lawful _ _ _ _ _ _ _ _ _ _ _ _ _ _ _ _ _ _ _
-          c.loop-side.invariant.way e c.sure-in-Para.ensures (turns_keep c.loop-side.invariant.para_keep c.turn-para_ask.ensures.turns);
-      lines = c.turn-para_ask.ensures.kept;
+      way = para_turn g.H.Party.moves g.P.Party.moves g.met.H.Party.lawful g.met.P.Party.lawful _ _ _ _ _ _ _ _ _ _ _ _ _ _ _ _ _ _ _ _ _ _ _ _
+          c.loop-side.invariant.way e (acts_keep c.loop-side.invariant.para_keep c.act-in-Para.ensures.acts) c.sure-in-Para.ensures
+          (gone_seeing _ _ _ _ _ _ _ _ c.act-in-Para.ensures.kept c.go_on.ensures);
+      lines = c.act-in-Para.ensures.kept;
       host_keep = c.loop-side.invariant.host_keep;
-      para_keep = c.turn-para_ask.ensures.keep ∙ c.loop-side.invariant.para_keep;
+      para_keep = c.act-in-Para.ensures.keep ∙ c.loop-side.invariant.para_keep;
     }
 
 pub returns : goal.returns
 returns g c =
+    let e : first_of c.loop-side.host_ask c.loop-side.para_ask ≡ None = sym c.first_of.ensures ∙ c.in_default.is in
     finishes g.H.Party.moves g.P.Party.moves g.met.H.Party.lawful g.met.P.Party.lawful _ _ _ _ _ _ _ _ _ _ _ _ _
-    c.loop-side.invariant.way (sym c.first_of.ensures ∙ c.in_default.is)
+    (settled g.H.Party.moves g.P.Party.moves g.met.H.Party.lawful g.met.P.Party.lawful _ _ _ _ _ _ _ _ _ _ _ _ _ _ _ c.loop-side.invariant.way (λ x. host_or_none (sym x ∙ e))) e

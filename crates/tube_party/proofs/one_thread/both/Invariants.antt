@@ -1,16 +1,17 @@
 use Rattle.std.proofs.Common.{◌≡◌, ◌+◌}
 use Rattle.tube_chip.specs.State.{lines_of}
 use Rattle.tube_party.specs.Turn.{left}
-use Rattle.tube_party.proofs.UnderWay.{IsUnderWay}
+use Rattle.tube_party.proofs.UnderWay.{IsGoing}
+use Rattle.tube_party.proofs.Both.{rest_of}
 use Rattle.tube_party.proofs.one_thread.both.Given as goal
 
 abbrev pub invariant-loop-side : goal.invariant-loop-side
 invariant-loop-side g l = record {
-  way : IsUnderWay g.H.Party.moves g.P.Party.moves l.n.0 l.fn.host_log.keep (g.H.Party.state l.fn.host) (g.P.Party.state l.fn.para) (g.H.Party.state l.host) (g.P.Party.state l.para) l.chip l.host_ask l.para_ask l.host_log.list.items l.para_log.list.items l.host_log.count l.para_log.count;
+  way : IsGoing g.H.Party.moves g.P.Party.moves l.n.0 l.fn.host_log.keep (g.H.Party.state l.fn.host) (g.P.Party.state l.fn.para) l.is_ahead (g.H.Party.state l.host) (g.P.Party.state (g.P.Rewinds.before l.past l.para)) (g.P.Party.state l.para) l.chip l.host_ask l.para_ask l.host_log.list.items l.para_log.list.items l.host_log.count l.para_log.count;
   lines : l.lines ≡ lines_of l.chip;
   host_keep : l.host_log.keep ≡ l.fn.host_log.keep;
   para_keep : l.para_log.keep ≡ l.fn.host_log.keep;
 }
 
 abbrev pub decreases-loop-side : goal.decreases-loop-side
-decreases-loop-side g l = left l.n.0 l.host_ask + left l.n.0 l.para_ask
+decreases-loop-side g l = left l.n.0 l.host_ask + rest_of g.H.Party.moves g.P.Party.moves g.met.H.Party.lawful g.met.P.Party.lawful l.n.0 l.is_ahead (g.P.Party.state (g.P.Rewinds.before l.past l.para)) l.para_ask

@@ -1,56 +1,79 @@
-use Rattle.std.proofs.Common.{rules, ◌≡◌, ◌+◌, Bool, Option, None, true, false, subst}
-use Rattle.tube_chip.specs.declared.Op.{Op}
+use Rattle.std.proofs.Common.{rules, ◌≡◌, ◌∙◌, ap, ◌+◌, Bool, Option, None, true, false, subst}
+use Rattle.para_mach.specs.declared.memory.Stop.{Stop}
 use Rattle.para_mach.specs.Step.{looks}
 use Rattle.para_mach.specs.Told.{IsDone, IsQuick, IsPassed}
 use Rattle.para_mach.proofs.Advance.{unmoved, way_on, way_past, way_left}
+use Rattle.para_mach.proofs.Noted.{kin_more, kin_past, ram_past}
 use Rattle.para_mach.proofs.machine.ParaMachine.run.Goals as goal
 
-pub returns-then-not-pass : goal.returns-then-not-pass
-returns-then-not-pass c =
+pub returns-then-not-pass-clause-ran : goal.returns-then-not-pass-clause-ran
+returns-then-not-pass-clause-ran g c =
     let over : looks c.quick.new.self ≡ true = search rules in
-    let done : IsDone c.loop-due.self None c.quick.new.self = subst (λ (b : Bool). IsQuick c.loop-due.self b c.quick.new.self) c.if-quick.true c.quick.ensures in
+    let done : IsDone c.loop-due.self None c.quick.new.self = subst (λ (b : Bool). IsQuick c.loop-due.self b c.quick.new.self) c.if-quick.true c.quick.ensures.done in
     let is : c.pass.result ≡ false = search rules in
-    way_left _ _ _ _ _ _ _ c.loop-due.invariant c.loop-due-test.true done over c.bound-bound.result c.pass.new.self
+    way_left _ _ _ _ _ _ _ c.loop-due.invariant.way c.loop-due-test.true done over c.bound-bound.result c.pass.new.self
     (subst (λ (b : Bool). IsPassed (c.loop-due.due + 1) c.bound-bound.result c.args.lines.now.pirq c.quick.new.self b c.pass.new.self) is c.pass.ensures)
 
 pub loop-due-preserved-then-last : goal.loop-due-preserved-then-last
-loop-due-preserved-then-last c =
+loop-due-preserved-then-last g c =
     let over : looks c.quick.new.self ≡ true = search rules in
-    let done : IsDone c.loop-due.self None c.quick.new.self = subst (λ (b : Bool). IsQuick c.loop-due.self b c.quick.new.self) c.if-quick.true c.quick.ensures in
+    let done : IsDone c.loop-due.self None c.quick.new.self = subst (λ (b : Bool). IsQuick c.loop-due.self b c.quick.new.self) c.if-quick.true c.quick.ensures.done in
     let is : c.pass.result ≡ true = search rules in
-    way_past _ _ _ _ _ _ _ c.loop-due.invariant c.loop-due-test.true done over c.bound-bound.result c.bound-bound.ensures.until c.bound-bound.ensures.sure c.bound-bound.ensures.same c.pass.new.self
-    (subst (λ (b : Bool). IsPassed (c.loop-due.due + 1) c.bound-bound.result c.args.lines.now.pirq c.quick.new.self b c.pass.new.self) is c.pass.ensures)
+    let passed : IsPassed (c.loop-due.due + 1) c.bound-bound.result c.args.lines.now.pirq c.quick.new.self true c.pass.new.self =
+    subst (λ (b : Bool). IsPassed (c.loop-due.due + 1) c.bound-bound.result c.args.lines.now.pirq c.quick.new.self b c.pass.new.self) is c.pass.ensures in
+    record {
+      way = way_past _ _ _ _ _ _ _ c.loop-due.invariant.way c.loop-due-test.true done over c.bound-bound.result c.bound-bound.ensures.until c.bound-bound.ensures.sure c.bound-bound.ensures.same c.pass.new.self passed;
+      kin = kin_past _ _ _ c.args.self.now c.loop-due.self c.quick.new.self c.pass.new.self c.loop-due.invariant.kin done passed;
+      noted = ap (g.N.Notes.before c.quick.new.notes) (ram_past _ _ _ c.quick.new.self c.pass.new.self passed) ∙ c.quick.ensures.noted ∙ c.loop-due.invariant.noted;
+    }
 
 pub loop-due-preserved-else-last : goal.loop-due-preserved-else-last
-loop-due-preserved-else-last c =
+loop-due-preserved-else-last g c =
     let on : looks c.quick.new.self ≡ false = search rules in
-    let done : IsDone c.loop-due.self None c.quick.new.self = subst (λ (b : Bool). IsQuick c.loop-due.self b c.quick.new.self) c.if-quick.true c.quick.ensures in
-    way_on _ _ _ _ _ _ _ c.loop-due.invariant c.loop-due-test.true done on
+    let done : IsDone c.loop-due.self None c.quick.new.self = subst (λ (b : Bool). IsQuick c.loop-due.self b c.quick.new.self) c.if-quick.true c.quick.ensures.done in
+    record {
+      way = way_on _ _ _ _ _ _ _ c.loop-due.invariant.way c.loop-due-test.true done on;
+      kin = kin_more c.args.self.now c.loop-due.self c.quick.new.self c.loop-due.invariant.kin done;
+      noted = c.quick.ensures.noted ∙ c.loop-due.invariant.noted;
+    }
 
-pub returns-then-not-pass-2 : goal.returns-then-not-pass-2
-returns-then-not-pass-2 c =
+pub returns-then-not-pass-2-clause-ran : goal.returns-then-not-pass-2-clause-ran
+returns-then-not-pass-2-clause-ran g c =
     let over : looks c.access.new.self ≡ true = search rules in
     let none : c.access.result ≡ None = search rules in
-    let left : IsQuick c.loop-due.self false c.quick.new.self = subst (λ (b : Bool). IsQuick c.loop-due.self b c.quick.new.self) c.if-quick.false c.quick.ensures in
-    let done : IsDone c.loop-due.self None c.access.new.self = unmoved c.loop-due.self c.quick.new.self c.access.new.self None left (subst (λ (o : Option Op). IsDone c.quick.new.self o c.access.new.self) none c.access.ensures) in
+    let left : IsQuick c.loop-due.self false c.quick.new.self = subst (λ (b : Bool). IsQuick c.loop-due.self b c.quick.new.self) c.if-quick.false c.quick.ensures.done in
+    let done : IsDone c.loop-due.self None c.access.new.self = unmoved c.loop-due.self c.quick.new.self c.access.new.self None left (subst (λ (o : Option Stop). IsDone c.quick.new.self o c.access.new.self) none c.access.ensures.done) in
     let is : c.pass-then-last-2.result ≡ false = search rules in
-    way_left _ _ _ _ _ _ _ c.loop-due.invariant c.loop-due-test.true done over c.bound-bound.result c.pass-then-last-2.new.self
+    way_left _ _ _ _ _ _ _ c.loop-due.invariant.way c.loop-due-test.true done over c.bound-bound.result c.pass-then-last-2.new.self
     (subst (λ (b : Bool). IsPassed (c.loop-due.due + 1) c.bound-bound.result c.args.lines.now.pirq c.access.new.self b c.pass-then-last-2.new.self) is c.pass-then-last-2.ensures)
 
 pub loop-due-preserved-then-last-2 : goal.loop-due-preserved-then-last-2
-loop-due-preserved-then-last-2 c =
+loop-due-preserved-then-last-2 g c =
     let over : looks c.access.new.self ≡ true = search rules in
     let none : c.access.result ≡ None = search rules in
-    let left : IsQuick c.loop-due.self false c.quick.new.self = subst (λ (b : Bool). IsQuick c.loop-due.self b c.quick.new.self) c.if-quick.false c.quick.ensures in
-    let done : IsDone c.loop-due.self None c.access.new.self = unmoved c.loop-due.self c.quick.new.self c.access.new.self None left (subst (λ (o : Option Op). IsDone c.quick.new.self o c.access.new.self) none c.access.ensures) in
+    let left : IsQuick c.loop-due.self false c.quick.new.self = subst (λ (b : Bool). IsQuick c.loop-due.self b c.quick.new.self) c.if-quick.false c.quick.ensures.done in
+    let done : IsDone c.loop-due.self None c.access.new.self = unmoved c.loop-due.self c.quick.new.self c.access.new.self None left (subst (λ (o : Option Stop). IsDone c.quick.new.self o c.access.new.self) none c.access.ensures.done) in
     let is : c.pass-then-last-2.result ≡ true = search rules in
-    way_past _ _ _ _ _ _ _ c.loop-due.invariant c.loop-due-test.true done over c.bound-bound.result c.bound-bound.ensures.until c.bound-bound.ensures.sure c.bound-bound.ensures.same c.pass-then-last-2.new.self
-    (subst (λ (b : Bool). IsPassed (c.loop-due.due + 1) c.bound-bound.result c.args.lines.now.pirq c.access.new.self b c.pass-then-last-2.new.self) is c.pass-then-last-2.ensures)
+    let passed : IsPassed (c.loop-due.due + 1) c.bound-bound.result c.args.lines.now.pirq c.access.new.self true c.pass-then-last-2.new.self =
+    subst (λ (b : Bool). IsPassed (c.loop-due.due + 1) c.bound-bound.result c.args.lines.now.pirq c.access.new.self b c.pass-then-last-2.new.self) is c.pass-then-last-2.ensures in
+    record {
+      way = way_past _ _ _ _ _ _ _ c.loop-due.invariant.way c.loop-due-test.true done over c.bound-bound.result c.bound-bound.ensures.until c.bound-bound.ensures.sure c.bound-bound.ensures.same c.pass-then-last-2.new.self passed;
+      kin = kin_past _ _ _ c.args.self.now c.loop-due.self c.access.new.self c.pass-then-last-2.new.self c.loop-due.invariant.kin done passed;
+      noted =
+          ap (g.N.Notes.before c.access.new.notes) (ram_past _ _ _ c.access.new.self c.pass-then-last-2.new.self passed)
+          ∙ c.access.ensures.noted
+          ∙ c.quick.ensures.noted
+          ∙ c.loop-due.invariant.noted;
+    }
 
 pub loop-due-preserved : goal.loop-due-preserved
-loop-due-preserved c =
+loop-due-preserved g c =
     let on : looks c.access.new.self ≡ false = search rules in
     let none : c.access.result ≡ None = search rules in
-    let left : IsQuick c.loop-due.self false c.quick.new.self = subst (λ (b : Bool). IsQuick c.loop-due.self b c.quick.new.self) c.if-quick.false c.quick.ensures in
-    let done : IsDone c.loop-due.self None c.access.new.self = unmoved c.loop-due.self c.quick.new.self c.access.new.self None left (subst (λ (o : Option Op). IsDone c.quick.new.self o c.access.new.self) none c.access.ensures) in
-    way_on _ _ _ _ _ _ _ c.loop-due.invariant c.loop-due-test.true done on
+    let left : IsQuick c.loop-due.self false c.quick.new.self = subst (λ (b : Bool). IsQuick c.loop-due.self b c.quick.new.self) c.if-quick.false c.quick.ensures.done in
+    let done : IsDone c.loop-due.self None c.access.new.self = unmoved c.loop-due.self c.quick.new.self c.access.new.self None left (subst (λ (o : Option Stop). IsDone c.quick.new.self o c.access.new.self) none c.access.ensures.done) in
+    record {
+      way = way_on _ _ _ _ _ _ _ c.loop-due.invariant.way c.loop-due-test.true done on;
+      kin = kin_more c.args.self.now c.loop-due.self c.access.new.self c.loop-due.invariant.kin done;
+      noted = c.access.ensures.noted ∙ c.quick.ensures.noted ∙ c.loop-due.invariant.noted;
+    }

@@ -1,9 +1,14 @@
-use Rattle.std.proofs.Common.{◌-◌}
+use Rattle.std.proofs.Common.{◌≡◌, ◌-◌}
+use Rattle.para_mach.specs.Told.{IsKin}
 use Rattle.para_mach.proofs.Advance.{IsUnderWay}
 use Rattle.para_mach.proofs.machine.ParaMachine.run.Given as goal
 
 abbrev pub invariant-loop-due : goal.invariant-loop-due
-invariant-loop-due l = IsUnderWay l.until.0 l.lines l.fn.sure.0 l.initial.self l.self l.due
+invariant-loop-due g l = record {
+  way : IsUnderWay l.until.0 l.lines l.fn.sure.0 l.initial.self l.self l.due;
+  kin : IsKin l.initial.self l.self;
+  noted : g.N.Notes.before l.notes (l.self).ram ≡ g.N.Notes.before l.initial.notes (l.initial.self).ram;
+}
 
 abbrev pub decreases-loop-due : goal.decreases-loop-due
-decreases-loop-due l = l.until.0 - l.due
+decreases-loop-due g l = l.until.0 - l.due

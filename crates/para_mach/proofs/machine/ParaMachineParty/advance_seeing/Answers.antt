@@ -1,5 +1,6 @@
-use Rattle.std.proofs.Common.{rules, ◌≡◌, Option, None, true, ap, subst, arith}
-use Rattle.tube_party.specs.declared.party.Ask.{Ask}
+use Rattle.std.proofs.Common.{rules, ◌≡◌, true, ap, subst, arith}
+use Rattle.para_mach.specs.declared.machine.Left.{Left}
+use Rattle.para_mach.specs.declared.machine.Left.TheVariants.{Look}
 use Rattle.tube_party.specs.Steps.{looks_on, sees_after}
 use Rattle.para_mach.specs.State.{ParaState}
 use Rattle.para_mach.specs.Step.{para_moves, looks}
@@ -14,13 +15,13 @@ loop-sure-preserved-then-last c =
     more_look c.args.until.0 c.args.lines.now c.args.sure.0 c.args.self.now c.loop-sure.self c.take_lines.new.self c.loop-sure.invariant
     (omega (arith, due, c.if-self-min.false)) over (omega (arith, due, c.if-self-min.false)) c.take_lines.ensures
 
-pub returns-in-Some : goal.returns-in-Some
-returns-in-Some c =
-    sees_after para_moves c.args.until.0 c.args.lines.now c.args.sure.0 c.args.self.now c.loop-sure.self c.run.new.self c.in-Some.ask c.loop-sure.invariant
-    (subst (λ (o : Option Ask). IsRun c.args.until.0 c.args.lines.now c.args.sure.0 c.loop-sure.self o c.run.new.self) c.in-Some.is c.run.ensures)
+pub returns-in-Asked : goal.returns-in-Asked
+returns-in-Asked c =
+    sees_after para_moves c.args.until.0 c.args.lines.now c.args.sure.0 c.args.self.now c.loop-sure.self c.run.new.self c.in-Asked.ask c.loop-sure.invariant
+    (subst (λ (o : Left). IsRun c.args.until.0 c.args.lines.now c.args.sure.0 c.loop-sure.self o c.run.new.self) c.in-Asked.is c.run.ensures.ran)
 
 pub loop-sure-preserved : goal.loop-sure-preserved
 loop-sure-preserved c =
-    let ran : IsRun c.args.until.0 c.args.lines.now c.args.sure.0 c.loop-sure.self None c.run.new.self =
-    subst (λ (o : Option Ask). IsRun c.args.until.0 c.args.lines.now c.args.sure.0 c.loop-sure.self o c.run.new.self) c.in_default.is c.run.ensures in
+    let ran : IsRun c.args.until.0 c.args.lines.now c.args.sure.0 c.loop-sure.self Look c.run.new.self =
+    subst (λ (o : Left). IsRun c.args.until.0 c.args.lines.now c.args.sure.0 c.loop-sure.self o c.run.new.self) c.in-Look.is c.run.ensures.ran in
     looks_on para_moves c.args.until.0 c.args.lines.now c.args.sure.0 c.loop-sure.invariant.0 ran.0.0 c.args.self.now c.loop-sure.self c.run.new.self c.loop-sure.invariant.1 ran.0.1

@@ -1,0 +1,81 @@
+//! What is noted of the writes to the RAM, so that they can be taken back.
+ghost use Rattle.std.specs.Prelude.{ℕ, List, [], Bool, ◌≡◌, ◌<◌, length, slice_index, slice_set, true, false, IfOk};
+ghost use Rattle.para_mach.specs.Noted.{put_back};
+
+use std::alloc::{AllocError, Global};
+
+/// What is told of each write to the RAM, before it is done.
+pub(crate) trait Notes {
+    /// The RAM before the writes, by the RAM after them.
+    ghost before: { Self → List ℕ → List ℕ };
+
+    /// There is always room.
+    ghost endless: { Bool };
+
+    /// Notes the byte that stands at an address. False, and nothing is noted, where there is no room.
+    fn note(&mut self, at: u16, byte: u8) -> bool
+        ensures noted { result ≡ true → (ram : List ℕ) (x : ℕ) → slice_index ram at ≡ byte → before self.new (slice_set ram at x) ≡ before self.old ram }
+        ensures full { result ≡ false → (self.new ≡ self.old) × (endless ≡ false) };
+}
+
+/// Nothing is noted.
+#[derive(Drop)]
+pub(crate) struct NoNotes;
+
+impl Notes for NoNotes {
+    ghost before = { λ notes ram. [] };
+
+    ghost endless = { true };
+
+    #[inline(always)]
+    fn note(&mut self, _at: u16, _byte: u8) -> bool {
+        true
+    }
+}
+
+/// A byte that stood at an address.
+#[derive(Clone, Copy, Drop)]
+pub(crate) struct Stood {
+    pub(crate) at: u16,
+    pub(crate) byte: u8,
+}
+
+/// How many writes can be noted.
+const ROOM: usize = 4_096;
+
+/// The bytes that stood where the RAM was written, the oldest first.
+#[derive(Drop)]
+pub(crate) struct Journal {
+    pub(crate) stood: Vec<Stood>,
+}
+
+impl Journal {
+    /// Room for notes.
+    pub(crate) fn new(alloc: Global) -> Result<Journal, AllocError> {
+        let stood = Vec::with_capacity(alloc, ROOM)?;
+        Ok(Journal { stood })
+    }
+
+    /// Nothing is noted yet.
+    #[inline(always)]
+    pub(crate) fn clear(&mut self)
+        ensures { self.new.stood.items ≡ [] }
+    {
+        self.stood.clear();
+    }
+}
+
+impl Notes for Journal {
+    ghost before = { λ notes. put_back notes.stood.items };
+
+    ghost endless = { false };
+
+    #[inline(always)]
+    fn note(&mut self, at: u16, byte: u8) -> bool {
+        if self.stood.len() >= self.stood.capacity() {
+            return false;
+        }
+        self.stood.push_reserved(Stood { at, byte });
+        true
+    }
+}
