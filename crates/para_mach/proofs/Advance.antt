@@ -54,7 +54,7 @@ asks_look s on = by (next s.cpu) on
     by (Some c) h = absurd (cc)
 
 -- a sequence that begins has a first access
-begins : (sequence : Sequence) (r : Regs) → is_none (next (fresh sequence r)) ≡ false
+pub begins : (sequence : Sequence) (r : Regs) → is_none (next (fresh sequence r)) ≡ false
 begins Instruction r = refl
 begins Reset r = refl
 begins Nmi r = refl

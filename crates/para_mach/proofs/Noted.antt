@@ -16,8 +16,8 @@ use Rattle.cpu65c02.specs.Sequences.{next, after, looked, fresh}
 use Rattle.para_mach.specs.State.{ParaState}
 use Rattle.para_mach.specs.Step.{para_moves, asks_by, is_tube, rom_in_after, looks, begun, next_state}
 use Rattle.para_mach.specs.Told.{IsDone, IsPassed, IsKin}
-use Rattle.para_mach.specs.Noted.{put_back, taken_back}
-use Rattle.para_mach.proofs.Advance.{same_counts, more_look}
+use Rattle.para_mach.specs.Noted.{put_back, taken_back, IsNoted, SetOut}
+use Rattle.para_mach.proofs.Advance.{same_counts, more_look, begins}
 
 -- the newest is put back first
 pub put_back_last : (xs : List Stood) (x : Stood) (ram : List ℕ) → put_back (xs ++ x ∷ []) ram ≡ put_back xs (slice_set ram x.at x.byte)
@@ -86,7 +86,7 @@ made : cpu.State → List ℕ → List ℕ → Bool → ℕ → ℕ → Bool →
 made c ram rom rom_in resets nmis held due lag =
     record { cpu = c; ram = ram; rom = rom; rom_in = rom_in; resets = resets; nmis = nmis; is_held = held; due = due; lag = lag }
 
-pub taken_is : (old new : ParaState) (c : cpu.State) (due lag : ℕ) (stood : List Stood) → c ≡ old.cpu → due ≡ old.due → lag ≡ old.lag → old.is_held ≡ false → put_back stood new.ram ≡ old.ram → IsKin old new →
+taken_is : (old new : ParaState) (c : cpu.State) (due lag : ℕ) (stood : List Stood) → c ≡ old.cpu → due ≡ old.due → lag ≡ old.lag → old.is_held ≡ false → put_back stood new.ram ≡ old.ram → IsKin old new →
     taken_back c due lag stood new ≡ old
 unfolding made
 taken_is old new c due lag stood ec ed el eh er kin =
@@ -100,19 +100,6 @@ taken_is old new c due lag stood ec ed el eh er kin =
     ∙ ap (λ x. made old.cpu old.ram old.rom old.rom_in old.resets old.nmis old.is_held x lag) ed
     ∙ ap (λ x. made old.cpu old.ram old.rom old.rom_in old.resets old.nmis old.is_held old.due x) el
 
--- what a machine that noted where it was has done before a run: nothing, or a look that saw the lines
-pub record SetOut (n : ℕ) (lines : Lines) (sure : ℕ) (old mid : ParaState) : Type 0 where
-  pub came : (k : ℕ) × Looks para_moves n lines sure k old mid
-  pub ram : mid.ram ≡ old.ram
-  pub kin : IsKin old mid
-
-pub sets_out : (n : ℕ) (lines : Lines) (sure : ℕ) (old mid : ParaState) → mid ≡ old → SetOut n lines sure old mid
-sets_out n lines sure old mid e = record {
-  came = (0, sym e);
-  ram = ap (λ (x : ParaState). x.ram) e;
-  kin = kin_of old mid e;
-}
-
 pub sets_out_seeing : (n : ℕ) (lines : Lines) (sure due at bound : ℕ) (old mid : ParaState) → due ≡ old.due → at ≡ old.due → due < bound → bound ≤ n → bound ≤ sure → looks old ≡ true
     → (0 < bound → (lines.resets ≡ old.resets) × (lines.nmis ≡ old.nmis))
     → mid ≡ begun (record old { due = at }) (fresh (looked false lines.pirq (after old.cpu)) (after old.cpu))
@@ -125,9 +112,10 @@ sets_out_seeing n lines sure due at bound old mid here there low in_run in_sure 
       came = more_look n lines sure old old mid (0, refl) (omega (arith, here, low, in_run)) over (omega (arith, here, low, in_sure)) step;
       ram = ap (λ (x : ParaState). x.ram) is;
       kin = (ap (λ (x : ParaState). x.rom) is, ap (λ (x : ParaState). x.rom_in) is, ap (λ (x : ParaState). x.resets) is, ap (λ (x : ParaState). x.nmis) is);
+      goes_on = ap looks is ∙ begins (looked false lines.pirq (after old.cpu)) (after old.cpu);
     }
 
--- the steps of a run behind it
+-- the steps of a run behind it, and what is asked then
 pub goes_out : (n : ℕ) (lines : Lines) (sure : ℕ) (old mid last new : ParaState) (ask : Ask) → SetOut n lines sure old mid → (k : ℕ) × Looks para_moves n lines sure k mid last → IsAsk para_moves n last ask new →
     Goes para_moves n lines sure old ask new
 goes_out n lines sure old mid last new ask out ran asked =
@@ -135,7 +123,7 @@ goes_out n lines sure old mid last new ask out ran asked =
     record { steps = all.0; last = last; looks = all.1; asked = asked }
 
 -- what is asked changes the lag alone
-pub asked_kin : (n : ℕ) (last new : ParaState) (ask : Ask) → IsAsk para_moves n last ask new → (new.ram ≡ last.ram) × IsKin last new
+asked_kin : (n : ℕ) (last new : ParaState) (ask : Ask) → IsAsk para_moves n last ask new → (new.ram ≡ last.ram) × IsKin last new
 asked_kin n last new Nothing h = of_same h.1
   where
     of_same : new ≡ shut para_moves last n → (new.ram ≡ last.ram) × IsKin last new
@@ -145,3 +133,16 @@ asked_kin n last new Nothing h = of_same h.1
     )
 asked_kin n last new (Access t op) h = (ap (λ (x : ParaState). x.ram) h.3, kin_of last new h.3)
 asked_kin n last new (Look t) h = (ap (λ (x : ParaState). x.ram) h.3, kin_of last new h.3)
+
+-- a run that was noted is taken back
+pub back_from : (old mid new : ParaState) (c : cpu.State) (due lag : ℕ) (none stood : List Stood) → IsNoted old c due lag none → old.is_held ≡ false → mid.ram ≡ old.ram → IsKin old mid →
+    put_back stood new.ram ≡ put_back none mid.ram → IsKin mid new → taken_back c due lag stood new ≡ old
+back_from old mid new c due lag none stood noted free ram kin same more =
+    taken_is old new c due lag stood noted.0 noted.1 noted.2 free (same ∙ ap (λ (l : List Stood). put_back l mid.ram) noted.3 ∙ ram) (kin_on old mid new kin more)
+
+-- also where it then told what it asks
+pub back_from_ask : (n : ℕ) (old mid last new : ParaState) (ask : Ask) (c : cpu.State) (due lag : ℕ) (none stood : List Stood) → IsNoted old c due lag none → old.is_held ≡ false → mid.ram ≡ old.ram → IsKin old mid →
+    put_back stood last.ram ≡ put_back none mid.ram → IsKin mid last → IsAsk para_moves n last ask new → taken_back c due lag stood new ≡ old
+back_from_ask n old mid last new ask c due lag none stood noted free ram kin same more asked =
+    let k : (new.ram ≡ last.ram) × IsKin last new = asked_kin n last new ask asked in
+    back_from old mid new c due lag none stood noted free ram kin (ap (put_back stood) k.0 ∙ same) (kin_on mid last new more k.1)

@@ -1,8 +1,12 @@
 -- What was noted of writes takes them back.
-use Rattle.std.specs.Prelude.{ℕ, List, [], ◌∷◌, false, slice_set}
+use Rattle.std.specs.Prelude.{ℕ, List, [], ◌∷◌, ◌≡◌, Bool, true, false, slice_set}
 use Rattle.cpu65c02.specs.State as cpu
 use Rattle.para_mach.specs.declared.notes.Stood.{Stood}
+use Rattle.tube_chip.specs.declared.Lines.{Lines}
+use Rattle.tube_party.specs.Moves.{Looks}
 use Rattle.para_mach.specs.State.{ParaState}
+use Rattle.para_mach.specs.Step.{para_moves, looks}
+use Rattle.para_mach.specs.Told.{IsKin}
 
 -- the RAM before writes, by the RAM after them and the bytes that stood where they went, the oldest first
 abbrev pub put_back : List Stood → List ℕ → List ℕ
@@ -12,3 +16,19 @@ put_back (x ∷ xs) ram = slice_set (put_back xs ram) x.at x.byte
 -- the machine before accesses and looks that found the counts as they were taken, where it was not held
 abbrev pub taken_back : cpu.State → ℕ → ℕ → List Stood → ParaState → ParaState
 taken_back c due lag stood s = record s { cpu = c; ram = put_back stood s.ram; is_held = false; due = due; lag = lag }
+
+-- what is noted of where the machine is, and no write yet
+abbrev pub IsNoted : ParaState → cpu.State → ℕ → ℕ → List Stood → Type 0
+IsNoted s c due lag stood = (c ≡ s.cpu) × (due ≡ s.due) × (lag ≡ s.lag) × (stood ≡ [])
+
+-- a machine set out: it did nothing, or a look that saw the lines, and left what is no processor
+pub record SetOut (n : ℕ) (lines : Lines) (sure : ℕ) (old mid : ParaState) : Type 0 where
+  pub came : (k : ℕ) × Looks para_moves n lines sure k old mid
+  pub ram : mid.ram ≡ old.ram
+  pub kin : IsKin old mid
+  pub goes_on : looks mid ≡ false
+
+-- or it did not, at a look
+abbrev pub IsSetOut : ℕ → Lines → ℕ → ParaState → Bool → ParaState → Type 0
+IsSetOut n lines sure old true mid = SetOut n lines sure old mid
+IsSetOut n lines sure old false mid = (mid ≡ old) × (looks old ≡ true)

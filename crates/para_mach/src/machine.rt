@@ -5,6 +5,7 @@ ghost use Rattle.tube_party.specs.Moves.{IsAsk, shut};
 ghost use Rattle.para_mach.specs.State.{power_on, shown_regs};
 ghost use Rattle.cpu65c02.specs.Sequences.{starting, after, looked, fresh};
 ghost use Rattle.para_mach.specs.Step.{para_moves, looks, begun, next_state};
+ghost use Rattle.para_mach.specs.Noted.{IsNoted, IsSetOut};
 ghost use Rattle.para_mach.specs.Lawful.{para_lawful, para_permitted};
 ghost use Rattle.para_mach.specs.Told.{IsDone, IsQuick, IsPassed, IsRun, IsKin, IsAskedByte, lag_by};
 
@@ -331,6 +332,26 @@ impl ParaMachine {
         Left::Asked(Ask::Nothing)
     }
 
+    // Notes where the machine is, and passes a look that is next, if it is sure. False if it is not: then nothing was done.
+    #[inline(always)]
+    fn set_out(&mut self, until: Tick, lines: &Lines, sure: Tick, past: &mut Past) -> bool
+        requires room { until.0 ≤ 2 ^ 30 }
+        ensures noted { IsNoted self.old past.new.cpu past.new.due past.new.lag past.new.journal.stood.items }
+        ensures out { IsSetOut until.0 lines.now sure.0 self.old result self.new }
+    {
+        past.cpu = self.cpu.copy();
+        past.due = self.due;
+        past.lag = self.lag;
+        past.journal.clear();
+        if self.cpu.last() {
+            if self.due >= self.bound(until, lines, sure) {
+                return false;
+            }
+            self.see(self.due, lines.pirq);
+        }
+        true
+    }
+
     // The Tube's answer to an access.
     #[inline(never)]
     fn take_byte(&mut self, byte: u8)
@@ -476,15 +497,8 @@ impl Rewinds for ParaMachine {
         if self.is_held {
             return None;
         }
-        past.cpu = self.cpu.copy();
-        past.due = self.due;
-        past.lag = self.lag;
-        past.journal.clear();
-        if self.cpu.last() {
-            if self.due >= self.bound(until, lines, sure) {
-                return Some(self.look(until));
-            }
-            self.see(self.due, lines.pirq);
+        if !self.set_out(until, lines, sure, past) {
+            return Some(self.look(until));
         }
         match self.run(until, lines, sure, &mut past.journal) {
             Left::Asked(ask) => Some(ask),

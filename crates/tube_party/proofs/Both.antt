@@ -119,19 +119,21 @@ module _ {S T : Type 0} (h : Moves S) (p : Moves T) (lh : IsLawful h) (lp : IsLa
       → IsUnderWay h p n keep s0 t0 s t c ask_h ask_p hl pl hc pc
   begins keep s0 s t0 t c ask_h ask_p hl pl hc pc ah ap' ec eh ep =
       record {
-        host_last = ah.last;
         para_last = ap'.last;
-        events = [];
-        host_asked = ah.asked;
+        at = record {
+          host_last = ah.last;
+          events = [];
+          host_asked = ah.asked;
+          same = alike _ _ (
+              silent_host Host ah.steps s0 ah.last t0 power_on [] ah.runs
+              ∙ silent_para Host ap'.steps ah.last t0 ap'.last power_on [] ap'.runs
+              ∙ ap (λ (x : State). ticks h p n 0 (world ah.last ap'.last x [])) (sym ec));
+          host_kept = record { list_is = eh.0 ∙ sym (nothing_taken keep); count_is = eh.1 };
+          para_kept = record { list_is = ep.0 ∙ sym (nothing_taken keep); count_is = ep.1 };
+          host_few = omega (arith, eh.1);
+          para_few = omega (arith, ep.1);
+        };
         para_asked = ap'.asked;
-        same = alike _ _ (
-            silent_host Host ah.steps s0 ah.last t0 power_on [] ah.runs
-            ∙ silent_para Host ap'.steps ah.last t0 ap'.last power_on [] ap'.runs
-            ∙ ap (λ (x : State). ticks h p n 0 (world ah.last ap'.last x [])) (sym ec));
-        host_kept = record { list_is = eh.0 ∙ sym (nothing_taken keep); count_is = eh.1 };
-        para_kept = record { list_is = ep.0 ∙ sym (nothing_taken keep); count_is = ep.1 };
-        host_few = omega (arith, eh.1);
-        para_few = omega (arith, ep.1);
       }
 
   -- what the reference has done once a party's looks saw their lines, and that all is kept
@@ -224,85 +226,66 @@ module _ {S T : Type 0} (h : Moves S) (p : Moves T) (lh : IsLawful h) (lp : IsLa
   para_saw keep sure far (suc k) s u last c l hl pl hc pc first calm looks kh kp = para_saw_by keep sure far k s u last c l hl pl hc pc first calm looks.0 (p.asks u) refl
       (λ v more on a b. para_saw keep sure far k s v last c more hl pl hc pc first calm on a b) looks.1 kh kp
 
-  -- the looks of the host after a step, below a tick before which the parasite makes no access
-  record HostWent (keep : ℕ) (s0 : S) (t0 : T) (s3 : S) (t : T) (c : State) (ask2 : Ask) (hl pl : List Entry) (hc pc : ℕ) : Type 0 where
-    last : S
-    events : List Event
-    asked : IsAsk h n last ask2 s3
-    same : IsLike (ticks h p n 0 (start s0 t0)) (ticks h p n 0 (world last t c events))
-    host_kept : IsKept Host events keep hl hc
-    para_kept : IsKept Para events keep pl pc
-    few : hc ≤ h.due last
-
-  host_went : (keep sure far : ℕ) (s0 : S) (t0 : T) (s2 s3 : S) (t : T) (c : State) (l : List Event) (ask2 : Ask) (hl pl : List Entry) (hc pc : ℕ)
-      → ((x : ℕ) → x < n → x < sure → x < far + 1) → ((i : ℕ) → IsCalm p (lines_of c) far i t)
-      → Sees h n (lines_of c) sure s2 ask2 s3
-      → IsLike (ticks h p n 0 (start s0 t0)) (ticks h p n 0 (world s2 t c l))
-      → IsKept Host l keep hl hc → IsKept Para l keep pl pc → hc ≤ h.due s2
-      → HostWent keep s0 t0 s3 t c ask2 hl pl hc pc
-  host_went keep sure far s0 t0 s2 s3 t c l ask2 hl pl hc pc first calm sees same kh kp few =
-      let saw : HostSaw keep s2 sees.last t c l hl pl hc pc = host_saw keep sure far sees.steps s2 sees.last t c l hl pl hc pc first calm sees.looks kh kp in
-      let on : h.due s2 ≤ h.due sees.last = due_rises h n (lines_of c) sure sees.steps s2 sees.last lh sees.looks in
-      record { last = sees.last; events = saw.events; asked = sees.asked; same = like_on _ _ _ same saw.same; host_kept = saw.host_kept; para_kept = saw.para_kept; few = omega (arith, few) }
-
-  -- what is kept once the host did a step, and how many accesses there may be
-  record HostDid (keep : ℕ) (s s2 : S) (l : List Event) (c : State) (q : Query) (hl2 pl : List Entry) (hc2 pc : ℕ) : Type 0 where
-    host_kept : IsKept Host (l ++ event (h.due s) Host q (act c Host q).1 ∷ []) keep hl2 hc2
-    para_kept : IsKept Para (l ++ event (h.due s) Host q (act c Host q).1 ∷ []) keep pl pc
-    few : hc2 ≤ h.due s2
-
-  host_did : (keep : ℕ) (s last s2 : S) (c c2 : State) (l : List Event) (hl pl hl2 : List Entry) (hc pc hc2 : ℕ) → s ≡ last → hc ≤ h.due last → (d : Acts h Host keep s c hl hc s2 c2 hl2 hc2)
-      → IsKept Host l keep hl hc → IsKept Para l keep pl pc → HostDid keep s s2 l c d.query hl2 pl hc2 pc
-  host_did keep s last s2 c c2 l hl pl hl2 hc pc hc2 here few d kh kp =
+  -- the host's step, which the reference does too, and its looks below a tick before which the parasite makes no access
+  host_does : (keep sure far : ℕ) (s0 s s2 s3 : S) (t0 t : T) (c c2 : State) (ask_h ask2 : Ask) (hl pl hl2 : List Entry) (hc pc hc2 : ℕ)
+      → (w : IsAt h p n keep s0 t0 s t c ask_h hl pl hc pc) → s ≡ w.host_last
+      → (d : Acts h Host keep s c hl hc s2 c2 hl2 hc2)
+      → IsLike (ticks h p n 0 (world s t c w.events)) (ticks h p n 0 (world (h.next s (Some (act c Host d.query).1)) t (act c Host d.query).0 (w.events ++ event (h.due s) Host d.query (act c Host d.query).1 ∷ [])))
+      → ((x : ℕ) → x < n → x < sure → x < far + 1) → ((i : ℕ) → IsCalm p (lines_of c2) far i t)
+      → Sees h n (lines_of c2) sure s2 ask2 s3
+      → IsAt h p n keep s0 t0 s3 t c2 ask2 hl2 pl hc2 pc
+  host_does keep sure far s0 s s2 s3 t0 t c c2 ask_h ask2 hl pl hl2 hc pc hc2 w here d does first calm sees =
       let a : Answer = (act c Host d.query).1 in
-      let same_due : h.due s ≡ h.due last = ap h.due here in
+      let done : List Event = w.events ++ event (h.due s) Host d.query a ∷ [] in
+      let same_due : h.due s ≡ h.due w.host_last = ap h.due here in
       let up : h.due s < h.due (h.next s (Some a)) = lh.rises s (Some a) in
       let to : h.due s2 ≡ h.due (h.next s (Some a)) = ap h.due d.state_is in
+      let on : h.due s2 ≤ h.due sees.last = due_rises h n (lines_of c2) sure sees.steps s2 sees.last lh sees.looks in
       let one : length (entry_of (h.due s) Host d.query a) ≤ 1 = at_most_one (h.due s) Host d.query a in
+      let saw : HostSaw keep s2 sees.last t c2 done hl2 pl hc2 pc =
+      host_saw keep sure far sees.steps s2 sees.last t c2 done hl2 pl hc2 pc first calm sees.looks
+      (moved_kept Host done keep _ _ _ _ d.list_is d.count_is (kept_own Host w.events keep hl hc (h.due s) d.query a w.host_kept))
+      (kept_para_by_host w.events keep pl pc (h.due s) d.query a w.para_kept) in
       record {
-        host_kept = moved_kept Host (l ++ event (h.due s) Host d.query a ∷ []) keep _ _ _ _ d.list_is d.count_is (kept_own Host l keep hl hc (h.due s) d.query a kh);
-        para_kept = kept_para_by_host l keep pl pc (h.due s) d.query a kp;
-        few = omega (arith, d.count_is);
+        host_last = sees.last;
+        events = saw.events;
+        host_asked = sees.asked;
+        same =
+            like_on _ _ _ w.same
+            (like_on _ _ _ (alike _ _ (ap (λ (x : S). ticks h p n 0 (world x t c w.events)) (sym here)))
+            (like_on _ _ _ does
+            (like_on _ _ _ (alike _ _ (
+            ap (λ (x : State). ticks h p n 0 (world (h.next s (Some a)) t x done)) (sym d.chip_is)
+            ∙ ap (λ (x : S). ticks h p n 0 (world x t c2 done)) (sym d.state_is)))
+            saw.same)));
+        host_kept = saw.host_kept;
+        para_kept = saw.para_kept;
+        host_few = omega (arith, w.host_few, d.count_is);
+        para_few = w.para_few;
       }
 
   -- the host's turn
-  pub host_turn : (keep sure : ℕ) (s0 s s2 s3 : S) (t0 t : T) (c c2 : State) (ask_h ask_p ask2 : Ask) (hl pl hl2 : List Entry) (hc pc hc2 : ℕ)
+  host_turn : (keep sure : ℕ) (s0 s s2 s3 : S) (t0 t : T) (c c2 : State) (ask_h ask_p ask2 : Ask) (hl pl hl2 : List Entry) (hc pc hc2 : ℕ)
       → (w : IsUnderWay h p n keep s0 t0 s t c ask_h ask_p hl pl hc pc)
-      → HostFirst h p n s w.host_last w.para_last ask_h
+      → HostFirst h p n s w.at.host_last w.para_last ask_h
       → Acts h Host keep s c hl hc s2 c2 hl2 hc2
       → IsSure 1 ask_p sure
       → Sees h n (lines_of c2) sure s2 ask2 s3
       → IsUnderWay h p n keep s0 t0 s3 t c2 ask2 ask_p hl2 pl hc2 pc
   host_turn keep sure s0 s s2 s3 t0 t c c2 ask_h ask_p ask2 hl pl hl2 hc pc hc2 w f d told sees =
-      let a : Answer = (act c Host d.query).1 in
-      let done : List Event = w.events ++ event (h.due s) Host d.query a ∷ [] in
-      let same_due : h.due s ≡ h.due w.host_last = ap h.due f.here in
-      let did : HostDid keep s s2 w.events c d.query hl2 pl hc2 pc = host_did keep s w.host_last s2 c c2 w.events hl pl hl2 hc pc hc2 f.here w.host_few d w.host_kept w.para_kept in
-      let went : HostWent keep s0 t0 s3 w.para_last c2 ask2 hl2 pl hc2 pc =
-      host_went keep sure (p.due w.para_last) s0 t0 s2 s3 w.para_last c2 done ask2 hl2 pl hc2 pc (in_time p n 1 sure t w.para_last ask_p w.para_asked told)
-      (λ i. calm_late p (lines_of c2) (p.due w.para_last) i w.para_last lp (omega arith)) sees
-      (like_on _ _ _ w.same (alike _ _ (
-      ap (λ (x : S). ticks h p n 0 (world x w.para_last c w.events)) (sym f.here)
-      ∙ host_next h p lh lp n 0 s w.para_last c w.events (omega arith) (omega (arith, f.below)) (omega (arith, f.first))
-      ∙ ap (λ (o : Option Query). ticks h p n 0 (host_done (stepped h Host (record { state = s; chip = c; list = w.events }) o) w.para_last)) d.asks
-      ∙ ap (λ (x : State). ticks h p n 0 (world (h.next s (Some a)) w.para_last x done)) (sym d.chip_is)
-      ∙ ap (λ (x : S). ticks h p n 0 (world x w.para_last c2 done)) (sym d.state_is))))
-      did.host_kept did.para_kept did.few in
+      let same_due : h.due s ≡ h.due w.at.host_last = ap h.due f.here in
       record {
-        host_last = went.last;
         para_last = w.para_last;
-        events = went.events;
-        host_asked = went.asked;
+        at = host_does keep sure (p.due w.para_last) s0 s s2 s3 t0 w.para_last c c2 ask_h ask2 hl pl hl2 hc pc hc2 w.at f.here d
+            (alike _ _ (
+            host_next h p lh lp n 0 s w.para_last c w.at.events (omega arith) (omega (arith, f.below)) (omega (arith, f.first))
+            ∙ ap (λ (o : Option Query). ticks h p n 0 (host_done (stepped h Host (record { state = s; chip = c; list = w.at.events }) o) w.para_last)) d.asks))
+            (in_time p n 1 sure t w.para_last ask_p w.para_asked told) (λ i. calm_late p (lines_of c2) (p.due w.para_last) i w.para_last lp (omega arith)) sees;
         para_asked = w.para_asked;
-        same = went.same;
-        host_kept = went.host_kept;
-        para_kept = went.para_kept;
-        host_few = went.few;
-        para_few = w.para_few;
       }
 
   -- the host's turn while the parasite is ahead, where it leaves the lines
-  pub host_meanwhile : (keep sure far : ℕ) (s0 s s2 s3 : S) (t0 mark t : T) (c c2 : State) (ask_h ask_p ask2 : Ask) (hl pl hl2 : List Entry) (hc pc hc2 : ℕ)
+  host_meanwhile : (keep sure far : ℕ) (s0 s s2 s3 : S) (t0 mark t : T) (c c2 : State) (ask_h ask_p ask2 : Ask) (hl pl hl2 : List Entry) (hc pc hc2 : ℕ)
       → (w : IsAt h p n keep s0 t0 s mark c ask_h hl pl hc pc)
       → (g : Goes p n (lines_of c) far mark ask_p t)
       → HostFirst h p n s w.host_last g.last ask_h
@@ -312,63 +295,42 @@ module _ {S T : Type 0} (h : Moves S) (p : Moves T) (lh : IsLawful h) (lp : IsLa
       → Sees h n (lines_of c2) sure s2 ask2 s3
       → IsAt h p n keep s0 t0 s3 mark c2 ask2 hl2 pl hc2 pc
   host_meanwhile keep sure far s0 s s2 s3 t0 mark t c c2 ask_h ask_p ask2 hl pl hl2 hc pc hc2 w g f d lines told sees =
-      let a : Answer = (act c Host d.query).1 in
-      let done : List Event = w.events ++ event (h.due s) Host d.query a ∷ [] in
       let same_due : h.due s ≡ h.due w.host_last = ap h.due f.here in
-      let did : HostDid keep s s2 w.events c d.query hl2 pl hc2 pc = host_did keep s w.host_last s2 c c2 w.events hl pl hl2 hc pc hc2 f.here w.host_few d w.host_kept w.para_kept in
       let calm : (i : ℕ) → IsCalm p (lines_of c) (p.due g.last) i mark =
       calm_before p (lines_of c) (p.due g.last) n far g.steps mark g.last g.looks (λ i. calm_late p (lines_of c) (p.due g.last) i g.last lp (omega arith)) in
-      let went : HostWent keep s0 t0 s3 mark c2 ask2 hl2 pl hc2 pc =
-      host_went keep sure (p.due g.last) s0 t0 s2 s3 mark c2 done ask2 hl2 pl hc2 pc (in_time p n 1 sure t g.last ask_p g.asked told)
-      (λ i. subst (λ (x : Lines). IsCalm p x (p.due g.last) i mark) (sym lines) (calm i)) sees
-      (like_on _ _ _ w.same
-      (like_on _ _ _ (alike _ _ (ap (λ (x : S). ticks h p n 0 (world x mark c w.events)) (sym f.here)))
-      (like_on _ _ _
+      host_does keep sure (p.due g.last) s0 s s2 s3 t0 mark c c2 ask_h ask2 hl pl hl2 hc pc hc2 w f.here d
       (early_host h p lh lp n 0 s mark c d.query w.events (p.due g.last) (omega arith) (omega (arith, f.below)) (omega (arith, f.first)) calm d.asks (ap lines_of (sym d.chip_is) ∙ lines))
-      (alike _ _ (
-      ap (λ (x : State). ticks h p n 0 (world (h.next s (Some a)) mark x done)) (sym d.chip_is)
-      ∙ ap (λ (x : S). ticks h p n 0 (world x mark c2 done)) (sym d.state_is))))))
-      did.host_kept did.para_kept did.few in
-      record {
-        host_last = went.last;
-        events = went.events;
-        host_asked = went.asked;
-        same = went.same;
-        host_kept = went.host_kept;
-        para_kept = went.para_kept;
-        host_few = went.few;
-        para_few = w.para_few;
-      }
+      (in_time p n 1 sure t g.last ask_p g.asked told) (λ i. subst (λ (x : Lines). IsCalm p x (p.due g.last) i mark) (sym lines) (calm i)) sees
 
   -- the parasite's step
-  pub para_step : (keep : ℕ) (s0 s : S) (t0 t t2 : T) (c c2 : State) (ask_h ask_p : Ask) (hl pl pl2 : List Entry) (hc pc pc2 : ℕ)
+  para_step : (keep : ℕ) (s0 s : S) (t0 t t2 : T) (c c2 : State) (ask_h ask_p : Ask) (hl pl pl2 : List Entry) (hc pc pc2 : ℕ)
       → IsUnderWay h p n keep s0 t0 s t c ask_h ask_p hl pl hc pc
       → first_of ask_h ask_p ≡ Some Para
       → Acts p Para keep t c pl pc t2 c2 pl2 pc2
       → IsAt h p n keep s0 t0 s t2 c2 ask_h hl pl2 hc pc2
   para_step keep s0 s t0 t t2 c c2 ask_h ask_p hl pl pl2 hc pc pc2 w e d =
-      let f : ParaFirst h p n t w.para_last w.host_last ask_p = para_first h p n s w.host_last t w.para_last ask_h ask_p w.host_asked w.para_asked e in
+      let f : ParaFirst h p n t w.para_last w.at.host_last ask_p = para_first h p n s w.at.host_last t w.para_last ask_h ask_p w.at.host_asked w.para_asked e in
       let a : Answer = (act c Para d.query).1 in
       let same_due : p.due t ≡ p.due w.para_last = ap p.due f.here in
       let up : p.due t < p.due (p.next t (Some a)) = lp.rises t (Some a) in
       let to : p.due t2 ≡ p.due (p.next t (Some a)) = ap p.due d.state_is in
       let one : length (entry_of (p.due t) Para d.query a) ≤ 1 = at_most_one (p.due t) Para d.query a in
-      let done : List Event = w.events ++ event (p.due t) Para d.query a ∷ [] in
+      let done : List Event = w.at.events ++ event (p.due t) Para d.query a ∷ [] in
       record {
-        host_last = w.host_last;
+        host_last = w.at.host_last;
         events = done;
-        host_asked = w.host_asked;
+        host_asked = w.at.host_asked;
         same =
-            like_on _ _ _ w.same (alike _ _ (
-            ap (λ (x : T). ticks h p n 0 (world w.host_last x c w.events)) (sym f.here)
-            ∙ para_next h p lh lp n 0 w.host_last t c w.events (omega arith) (omega (arith, f.below)) (omega (arith, f.first))
-            ∙ ap (λ (o : Option Query). ticks h p n 0 (with_host w.host_last (stepped p Para (record { state = t; chip = c; list = w.events }) o))) d.asks
-            ∙ ap (λ (x : State). ticks h p n 0 (world w.host_last (p.next t (Some a)) x done)) (sym d.chip_is)
-            ∙ ap (λ (x : T). ticks h p n 0 (world w.host_last x c2 done)) (sym d.state_is)));
-        host_kept = kept_host_by_para w.events keep hl hc (p.due t) d.query a w.host_kept;
-        para_kept = moved_kept Para done keep _ _ _ _ d.list_is d.count_is (kept_own Para w.events keep pl pc (p.due t) d.query a w.para_kept);
-        host_few = w.host_few;
-        para_few = omega (arith, w.para_few, d.count_is);
+            like_on _ _ _ w.at.same (alike _ _ (
+            ap (λ (x : T). ticks h p n 0 (world w.at.host_last x c w.at.events)) (sym f.here)
+            ∙ para_next h p lh lp n 0 w.at.host_last t c w.at.events (omega arith) (omega (arith, f.below)) (omega (arith, f.first))
+            ∙ ap (λ (o : Option Query). ticks h p n 0 (with_host w.at.host_last (stepped p Para (record { state = t; chip = c; list = w.at.events }) o))) d.asks
+            ∙ ap (λ (x : State). ticks h p n 0 (world w.at.host_last (p.next t (Some a)) x done)) (sym d.chip_is)
+            ∙ ap (λ (x : T). ticks h p n 0 (world w.at.host_last x c2 done)) (sym d.state_is)));
+        host_kept = kept_host_by_para w.at.events keep hl hc (p.due t) d.query a w.at.host_kept;
+        para_kept = moved_kept Para done keep _ _ _ _ d.list_is d.count_is (kept_own Para w.at.events keep pl pc (p.due t) d.query a w.at.para_kept);
+        host_few = w.at.host_few;
+        para_few = omega (arith, w.at.para_few, d.count_is);
       }
 
   -- the parasite's looks are the reference's where the host makes no access before them
@@ -382,16 +344,18 @@ module _ {S T : Type 0} (h : Moves S) (p : Moves T) (lh : IsLawful h) (lp : IsLa
       para_saw keep sure (h.due w.host_last) k w.host_last mark last c w.events hl pl hc pc first (λ i. calm_late h (lines_of c) (h.due w.host_last) i w.host_last lh (omega arith)) looks w.host_kept w.para_kept in
       let on : p.due mark ≤ p.due last = due_rises p n (lines_of c) sure k mark last lp looks in
       record {
-        host_last = w.host_last;
         para_last = last;
-        events = saw.events;
-        host_asked = w.host_asked;
+        at = record {
+          host_last = w.host_last;
+          events = saw.events;
+          host_asked = w.host_asked;
+          same = like_on _ _ _ w.same saw.same;
+          host_kept = saw.host_kept;
+          para_kept = saw.para_kept;
+          host_few = w.host_few;
+          para_few = omega (arith, w.para_few);
+        };
         para_asked = asked;
-        same = like_on _ _ _ w.same saw.same;
-        host_kept = saw.host_kept;
-        para_kept = saw.para_kept;
-        host_few = w.host_few;
-        para_few = omega (arith, w.para_few);
       }
 
   -- the host's next step does not come before what the parasite asks
@@ -485,7 +449,7 @@ module _ {S T : Type 0} (h : Moves S) (p : Moves T) (lh : IsLawful h) (lp : IsLa
       by : (b : Bool) → IsGoing h p n keep s0 t0 b s mark t c ask_h ask_p hl pl hc pc → (b ≡ true → lines_of c2 ≡ lines_of c)
           → IsSure 1 ask_p sure → IsGoing h p n keep s0 t0 b s3 mark t c2 ask2 ask_p hl2 pl hc2 pc
       by false w lines told =
-          host_turn keep sure s0 s s2 s3 t0 t c c2 ask_h ask_p ask2 hl pl hl2 hc pc hc2 w (host_first h p n s w.host_last t w.para_last ask_h ask_p w.host_asked w.para_asked e) d told sees
+          host_turn keep sure s0 s s2 s3 t0 t c c2 ask_h ask_p ask2 hl pl hl2 hc pc hc2 w (host_first h p n s w.at.host_last t w.para_last ask_h ask_p w.at.host_asked w.para_asked e) d told sees
       by true w lines told =
           let g : Goes p n (lines_of c) w.1.0 mark ask_p t = w.1.1 in (
             host_meanwhile keep sure w.1.0 s0 s s2 s3 t0 mark t c c2 ask_h ask_p ask2 hl pl hl2 hc pc hc2 w.0 g (host_first h p n s w.0.host_last t g.last ask_h ask_p w.0.host_asked g.asked e) d (lines refl) told sees,
@@ -512,8 +476,8 @@ module _ {S T : Type 0} (h : Moves S) (p : Moves T) (lh : IsLawful h) (lp : IsLa
       → IsGoing h p n keep s0 t0 ahead s mark t c ask_h ask_p hl pl hc pc → first_of ask_h ask_p ≡ Some Para → pc < n
   para_count keep s0 s t0 mark t c ask_h ask_p hl pl hc pc ahead w e =
       let way : IsUnderWay h p n keep s0 t0 s t c ask_h ask_p hl pl hc pc = settled keep s0 s t0 mark t c ask_h ask_p hl pl hc pc ahead w (λ x. host_or_para (sym x ∙ e)) in
-      let f : ParaFirst h p n t way.para_last way.host_last ask_p = para_first h p n s way.host_last t way.para_last ask_h ask_p way.host_asked way.para_asked e in
-      omega (arith, way.para_few, f.below)
+      let f : ParaFirst h p n t way.para_last way.at.host_last ask_p = para_first h p n s way.at.host_last t way.para_last ask_h ask_p way.at.host_asked way.para_asked e in
+      omega (arith, way.at.para_few, f.below)
 
   -- what is left of the ticks of the parasite's ask, or of where it can be taken back to
   abbrev pub rest_of : Bool → T → Ask → ℕ
@@ -544,7 +508,7 @@ module _ {S T : Type 0} (h : Moves S) (p : Moves T) (lh : IsLawful h) (lp : IsLa
           omega (arith, tick_of_pending h n s ask_h pending, left_after h lh n (lines_of c2) sure sees.steps s2 sees.last s3 ask2 (h.due s) sees.looks sees.asked low (omega arith))
 
       by_ahead : (b : Bool) → IsGoing h p n keep s0 t0 b s mark t c ask_h ask_p hl pl hc pc → left n ask2 < left n ask_h
-      by_ahead false v = by_pending (host_first h p n s v.host_last t v.para_last ask_h ask_p v.host_asked v.para_asked e).pending
+      by_ahead false v = by_pending (host_first h p n s v.at.host_last t v.para_last ask_h ask_p v.at.host_asked v.para_asked e).pending
       by_ahead true v = by_pending (host_first h p n s v.0.host_last t v.1.1.last ask_h ask_p v.0.host_asked v.1.1.asked e).pending
 
       back_by : (b b2 : Bool) → b ≡ true → b2 ≡ false → Sees p n (lines_of c) (tick_of ask_h) mark ask_p2 t2 → rest_of b2 mark2 ask_p2 ≤ rest_of b mark ask_p
@@ -574,8 +538,8 @@ module _ {S T : Type 0} (h : Moves S) (p : Moves T) (lh : IsLawful h) (lp : IsLa
       way : IsUnderWay h p n keep s0 t0 s t c ask_h ask_p hl pl hc pc
       way = settled keep s0 s t0 mark t c ask_h ask_p hl pl hc pc ahead w (λ x. host_or_para (sym x ∙ e))
 
-      first : ParaFirst h p n t way.para_last way.host_last ask_p
-      first = para_first h p n s way.host_last t way.para_last ask_h ask_p way.host_asked way.para_asked e
+      first : ParaFirst h p n t way.para_last way.at.host_last ask_p
+      first = para_first h p n s way.at.host_last t way.para_last ask_h ask_p way.at.host_asked way.para_asked e
 
       up : p.due t < p.due t2
       up =
@@ -603,16 +567,16 @@ module _ {S T : Type 0} (h : Moves S) (p : Moves T) (lh : IsLawful h) (lp : IsLa
       → (ask_h ≡ Nothing) × (ask_p ≡ Nothing)
       → IsPlayed (reference h p s0 t0 n) keep s t c hl pl hc pc
   finish_by keep s0 s t0 t c ask_h ask_p hl pl hc pc w none =
-      let ah : IsAsk h n w.host_last Nothing s = subst (λ (x : Ask). IsAsk h n w.host_last x s) none.0 w.host_asked in
+      let ah : IsAsk h n w.at.host_last Nothing s = subst (λ (x : Ask). IsAsk h n w.at.host_last x s) none.0 w.at.host_asked in
       let ap' : IsAsk p n w.para_last Nothing t = subst (λ (x : Ask). IsAsk p n w.para_last x t) none.1 w.para_asked in
-      let e : IsLike (ticks h p n 0 (start s0 t0)) (world w.host_last w.para_last c w.events) =
-      like_on _ _ _ w.same (alike _ _ (rest h p lh lp n 0 w.host_last w.para_last c w.events (omega (arith, ah.0)) (omega (arith, ap'.0)))) in
+      let e : IsLike (ticks h p n 0 (start s0 t0)) (world w.at.host_last w.para_last c w.at.events) =
+      like_on _ _ _ w.at.same (alike _ _ (rest h p lh lp n 0 w.at.host_last w.para_last c w.at.events (omega (arith, ah.0)) (omega (arith, ap'.0)))) in
       record {
         host_is = ah.1 ∙ ap (λ (x : S). shut h x n) (sym e.host);
         para_is = ap'.1 ∙ ap (λ (x : T). shut p x n) (sym e.para);
         chip_is = sym e.chip;
-        host_kept = kept_alike Host _ _ keep hl hc (λ side. sym (e.listed side)) w.host_kept;
-        para_kept = kept_alike Para _ _ keep pl pc (λ side. sym (e.listed side)) w.para_kept;
+        host_kept = kept_alike Host _ _ keep hl hc (λ side. sym (e.listed side)) w.at.host_kept;
+        para_kept = kept_alike Para _ _ keep pl pc (λ side. sym (e.listed side)) w.at.para_kept;
       }
 
   pub finishes : (keep : ℕ) (s0 s : S) (t0 t : T) (c : State) (ask_h ask_p : Ask) (hl pl : List Entry) (hc pc : ℕ)

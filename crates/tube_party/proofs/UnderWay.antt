@@ -11,21 +11,8 @@ use Rattle.tube_party.specs.Played.{IsKept}
 use Rattle.tube_party.proofs.Ticks.{world}
 use Rattle.tube_party.proofs.Early.{IsLike}
 
--- The reference goes on from where the parties are, of which one may have made looks that come later than the other's; and what was kept is what
--- it has done.
-pub record IsUnderWay {S T : Type 0} (h : Moves S) (p : Moves T) (n keep : ℕ) (s0 : S) (t0 : T) (s : S) (t : T) (c : State) (ask_h ask_p : Ask) (hl pl : List Entry) (hc pc : ℕ) : Type 0 where
-  pub host_last : S
-  pub para_last : T
-  pub events : List Event
-  pub host_asked : IsAsk h n host_last ask_h s
-  pub para_asked : IsAsk p n para_last ask_p t
-  pub same : IsLike (ticks h p n 0 (start s0 t0)) (ticks h p n 0 (world host_last para_last c events))
-  pub host_kept : IsKept Host events keep hl hc
-  pub para_kept : IsKept Para events keep pl pc
-  pub host_few : hc ≤ h.due host_last
-  pub para_few : pc ≤ p.due para_last
-
--- The same, with the parasite in a state that may ask or not.
+-- The reference goes on from where the parties are, of which one may have made looks that come later than the other's, and the host accesses that
+-- come later than the parasite's looks; and what was kept is what it has done.
 pub record IsAt {S T : Type 0} (h : Moves S) (p : Moves T) (n keep : ℕ) (s0 : S) (t0 : T) (s : S) (t : T) (c : State) (ask_h : Ask) (hl pl : List Entry) (hc pc : ℕ) : Type 0 where
   pub host_last : S
   pub events : List Event
@@ -36,8 +23,13 @@ pub record IsAt {S T : Type 0} (h : Moves S) (p : Moves T) (n keep : ℕ) (s0 : 
   pub host_few : hc ≤ h.due host_last
   pub para_few : pc ≤ p.due t
 
--- The reference goes on from where the parties are; or, where the parasite is ahead, from where it can be taken back to, from which it went on as
--- if the host changed none of its lines.
+-- The parasite's step asks too.
+pub record IsUnderWay {S T : Type 0} (h : Moves S) (p : Moves T) (n keep : ℕ) (s0 : S) (t0 : T) (s : S) (t : T) (c : State) (ask_h ask_p : Ask) (hl pl : List Entry) (hc pc : ℕ) : Type 0 where
+  pub para_last : T
+  pub at : IsAt h p n keep s0 t0 s para_last c ask_h hl pl hc pc
+  pub para_asked : IsAsk p n para_last ask_p t
+
+-- Or it is ahead, and went on from where it can be taken back to as if the host changed none of its lines.
 abbrev pub IsGoing : {S T : Type 0} → Moves S → Moves T → ℕ → ℕ → S → T → Bool → S → T → T → State → Ask → Ask → List Entry → List Entry → ℕ → ℕ → Type 0
 IsGoing h p n keep s0 t0 false s mark t c ask_h ask_p hl pl hc pc = IsUnderWay h p n keep s0 t0 s t c ask_h ask_p hl pl hc pc
 IsGoing h p n keep s0 t0 true s mark t c ask_h ask_p hl pl hc pc = IsAt h p n keep s0 t0 s mark c ask_h hl pl hc pc × ((far : ℕ) × Goes p n (lines_of c) far mark ask_p t)
