@@ -1,0 +1,57 @@
+-- Steps one after the other, up to the end of a conversion and past it.
+use Rattle.std.proofs.Common.{◌≡◌, ◌≢◌, ◌∙◌, ap, refl, ℕ, zero, suc, ◌+◌, ◌-◌, ◌<◌, ◌≤◌, ◌==◌, true, false, List, [], ◌∷◌, length, slice_index, arith, inl, inr}
+use Rattle.std.proofs.lemmas.Bool.{cases_eq}
+use Rattle.std.proofs.lemmas.Bool.Decides.{nat_tests}
+use Rattle.adc7002.specs.State.{State}
+use Rattle.adc7002.specs.Registers.{channel}
+use Rattle.adc7002.specs.Step.{ended, step, after_steps, steps}
+
+test_true : (a b : ℕ) → a ≡ b → (a == b) ≡ true
+test_true a b h = grind (arith, nat_tests)
+
+pub test_false : (a b : ℕ) → a ≢ b → (a == b) ≡ false
+test_false a b h = grind (arith, nat_tests)
+
+-- a step at which no conversion is going on, one inside a conversion, and its last
+step_at_rest : (levels : List ℕ) (a : State) → a.left ≡ 0 → step levels a ≡ a
+step_at_rest levels a none = rw (test_true a.left 0 none) refl
+
+step_inside : (levels : List ℕ) (a : State) → 1 < a.left → step levels a ≡ record a { left = a.left - 1 }
+step_inside levels a more = rw (test_false a.left 0 (λ e. omega (arith, e)), test_false a.left 1 (λ e. omega (arith, e))) refl
+
+pub step_last : (levels : List ℕ) (a : State) → a.left ≡ 1 → step levels a ≡ ended (slice_index levels (channel a.kept)) a
+step_last levels a last = rw (test_false a.left 0 (λ e. omega (arith, e)), test_true a.left 1 last) refl
+
+-- the converter with so many steps left
+with_left : ℕ → State → State
+with_left n a = record a { left = n }
+
+pub after_at_rest : (levels : List (List ℕ)) (a : State) → a.left ≡ 0 → after_steps levels a ≡ a
+after_at_rest [] a none = refl
+after_at_rest (l ∷ levels) a none = ap (after_steps levels) (step_at_rest l a none) ∙ after_at_rest levels a none
+
+pub after_inside : (levels : List (List ℕ)) (a : State) (n : ℕ) → n + length levels ≡ a.left → 0 < n → after_steps levels a ≡ record a { left = n }
+unfolding with_left
+after_inside [] a n all some = let e : a.left ≡ n = omega arith in ap (λ k. with_left k a) e
+after_inside (l ∷ levels) a n all some =
+    ap (after_steps levels) (step_inside l a (omega arith)) ∙ after_inside levels (record a { left = a.left - 1 }) n (omega arith) some
+
+pub no_steps_left : (levels : List ℕ) (n : ℕ) (a : State) → a.left ≡ 0 → steps levels n a ≡ a
+unfolding steps
+no_steps_left levels zero a none = refl
+no_steps_left levels (suc n) a none = ap (steps levels n) (step_at_rest levels a none) ∙ no_steps_left levels n a none
+
+pub steps_inside : (levels : List ℕ) (n left : ℕ) (a : State) → left + n ≡ a.left → 0 < left → steps levels n a ≡ record a { left = left }
+unfolding steps with_left
+steps_inside levels zero left a all some = let e : a.left ≡ left = omega arith in ap (λ k. with_left k a) e
+steps_inside levels (suc n) left a all some =
+    ap (steps levels n) (step_inside levels a (omega arith)) ∙ steps_inside levels n left (record a { left = a.left - 1 }) (omega arith) some
+
+pub steps_to_end : (levels : List ℕ) (n : ℕ) (a : State) → 0 < a.left → a.left ≤ n → steps levels n a ≡ ended (slice_index levels (channel a.kept)) a
+unfolding steps
+steps_to_end levels zero a some enough = absurd (omega arith)
+steps_to_end levels (suc n) a some enough =
+    elim (cases_eq a.left 1) [
+      | inl last ↦ ap (steps levels n) (step_last levels a last) ∙ no_steps_left levels n (ended (slice_index levels (channel a.kept)) a) refl
+      | inr more ↦ ap (steps levels n) (step_inside levels a (omega arith)) ∙ steps_to_end levels n (record a { left = a.left - 1 }) (omega arith) (omega arith)
+    ]

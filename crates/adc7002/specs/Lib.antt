@@ -1,0 +1,4 @@
+pub mod State
+pub mod Registers
+pub mod Step
+pub mod Laws

@@ -1,0 +1,125 @@
+//! The converter.
+ghost use Rattle.std.specs.Prelude.{◌≡◌, ◌<◌};
+ghost use Rattle.adc7002.specs.State.{power_on};
+ghost use Rattle.adc7002.specs.Registers.{status, answer_of, write_leaves, cb1};
+ghost use Rattle.adc7002.specs.Step.{low_byte, ended, steps};
+
+use beeb_bits::bit;
+use std::marker::Model;
+
+/// How many steps a conversion takes to 8 bits, and to 12.
+const SHORT: u16 = 4_000;
+
+const LONG: u16 = 10_000;
+
+/// A uPD7002.
+#[derive(Drop)]
+pub struct Adc {
+    // The four bits that the last write to register 0 left: the channel in bits 1 and 0, and 12 bits of result where bit 3 is set.
+    kept: u8,
+    // How many steps the conversion still takes, and 0 where none is going on.
+    left: u16,
+    // The result's two bytes.
+    high: u8,
+    low: u8,
+    // A conversion has ended since the last write to register 0.
+    has_ended: bool,
+}
+
+impl Model for Adc {
+    ghost use Rattle.std.specs.Prelude.{◌<◌};
+    ghost use Rattle.adc7002.specs.State.{State};
+
+    ghost Value = { State };
+
+    ghost view = { λ a. record { kept = a.kept; left = a.left; high = a.high; low = a.low; has_ended = a.has_ended } };
+
+    ghost invariant = { λ a. a.kept < 16 };
+}
+
+// The low byte of the result of a conversion of this level.
+fn low_byte(kept: u8, level: u16) -> u8
+    ensures { result ≡ low_byte kept level }
+{
+    if bit(kept, 3) {
+        (level % 256) as u8 & 0xf0
+    } else {
+        0x00
+    }
+}
+
+impl Adc {
+    /// The converter at power-on: all is 0, and no conversion is going on.
+    pub fn new() -> Adc
+        ensures { result ≡ power_on }
+    {
+        Adc {
+            kept: 0,
+            left: 0,
+            high: 0,
+            low: 0,
+            has_ended: false,
+        }
+    }
+
+    /// Writes a register. A write to register 0 begins a conversion, and gives one up that is going on; no other one does anything.
+    pub fn write(&mut self, reg: u8, v: u8)
+        ensures { self.new ≡ write_leaves reg v self.old }
+    {
+        if reg == 0 {
+            self.kept = v % 16;
+            self.left = if bit(v, 3) { LONG } else { SHORT };
+            self.has_ended = false;
+        }
+    }
+
+    /// The byte of a register, 0 to 3: the status, the result's high byte, its low byte, and FE.
+    pub fn read(&self, reg: u8) -> u8
+        requires { reg < 4 }
+        ensures { result ≡ answer_of reg self.now }
+    {
+        match reg {
+            0 => self.status(),
+            1 => self.high,
+            2 => self.low,
+            _ => 0xfe,
+        }
+    }
+
+    // Bit 7 where a conversion is going on, else bit 6; the result's two highest bits; and the bits that were kept.
+    fn status(&self) -> u8
+        ensures { result ≡ status self.now }
+    {
+        let goes_on = if self.left == 0 { 0x40 } else { 0x80 };
+        goes_on + 16 * (self.high / 64) + self.kept
+    }
+
+    /// Does `n` steps, with these levels on the four channels.
+    pub fn advance(&mut self, levels: [u16; 4], n: u64)
+        ensures { self.new ≡ steps levels n self.old }
+    {
+        let left = u64::from(self.left);
+        if n < left {
+            self.left = (left - n) as u16;
+        } else if left != 0 {
+            self.end(levels[usize::from(self.kept % 4)]);
+        }
+    }
+
+    // The end of a conversion, at which its channel has this level.
+    fn end(&mut self, level: u16)
+        ensures { self.new ≡ ended level self.old }
+    {
+        self.left = 0;
+        self.high = (level / 256) as u8;
+        self.low = low_byte(self.kept, level);
+        self.has_ended = true;
+    }
+
+    /// The line to the system VIA's CB1: low from a conversion's end to the next write to register 0.
+    pub fn cb1(&self) -> bool
+        ensures { result ≡ cb1 self.now }
+    {
+        !self.has_ended
+    }
+}

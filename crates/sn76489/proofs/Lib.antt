@@ -1,0 +1,9 @@
+pub mod Runs
+pub mod Joins
+pub mod Catching
+pub mod Playing
+pub mod Sampling
+pub mod Cycle
+pub mod Tones
+pub mod Shifting
+pub mod Silence

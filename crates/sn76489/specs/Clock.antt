@@ -1,0 +1,53 @@
+-- One clock of the SN76489AN: tones 1, 2 and 3, and then the noise. (SN76489AN data sheet, Tone Generators and Noise Generator. The taps and the
+-- clock of a tone of period 0 are this project's profile.)
+use Rattle.std.specs.Prelude.{ℕ, zero, suc, ◌+◌, ◌-◌, ◌*◌, ◌/◌, ◌%◌, ◌==◌, ◌&&◌, nat_le, Bool, not, if◌then◌else◌}
+use Rattle.beeb_bits.specs.Bits.{bit}
+use Rattle.sn76489.specs.State.{State, Tone, Noise}
+
+-- how many clocks a period is
+abbrev pub period_clocks : ℕ → ℕ
+period_clocks period = if period == 0 then 1024 else period
+
+-- A counter that is at most 1 runs out: the output turns over, and the counter begins again.
+abbrev pub tone_clocked : Tone → Tone
+tone_clocked t =
+    if nat_le t.counter 1 then record t { output = not t.output; counter = period_clocks t.period }
+    else record t { counter = t.counter - 1 }
+
+-- a tone's output becomes 1 in the next clock
+abbrev pub rises : Tone → Bool
+rises t = not t.output && (tone_clocked t).output
+
+-- how many clocks there are from one shift to the next, at rates 0, 1 and 2
+abbrev pub shift_clocks : ℕ → ℕ
+shift_clocks rate = if rate == 0 then 32 else if rate == 1 then 64 else 128
+
+abbrev pub is_white : Noise → Bool
+is_white n = bit n.control 2
+
+-- A shift to the right: bit 14 becomes what bit 0 was, or for white noise bits 0 and 1 by exclusive or.
+abbrev pub shifted : Bool → ℕ → ℕ
+shifted white register = register / 2 + 0x4000 * (if white then (register + register / 2) % 2 else register % 2)
+
+-- the noise shifts in the clock of this number, counted from the chip's first, in which tone 3 rises or not
+abbrev pub shifts_at : ℕ → Bool → Noise → Bool
+shifts_at number tone3_rises n = if n.control % 4 == 3 then tone3_rises else number % shift_clocks (n.control % 4) == 0
+
+abbrev pub noise_clocked : ℕ → Bool → Noise → Noise
+noise_clocked number tone3_rises n =
+    if shifts_at number tone3_rises n then record n { register = shifted (is_white n) n.register } else n
+
+-- One clock.
+abbrev pub clocked : State → State
+clocked c = record c {
+  tone1 = tone_clocked c.tone1;
+  tone2 = tone_clocked c.tone2;
+  tone3 = tone_clocked c.tone3;
+  noise = noise_clocked ((c.count + 1) % 128) (rises c.tone3) c.noise;
+  count = (c.count + 1) % 128;
+}
+
+-- n clocks
+unfoldable pub clocks : ℕ → State → State
+clocks zero c = c
+clocks (suc n) c = clocked (clocks n c)

@@ -1,0 +1,8 @@
+pub mod State
+pub mod Writes
+pub mod Clock
+pub mod Level
+pub mod Samples
+pub mod Wav
+pub mod Pending
+pub mod Laws

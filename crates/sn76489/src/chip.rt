@@ -1,0 +1,113 @@
+//! The chip.
+ghost use Rattle.std.specs.Prelude.{◌≡◌, ◌<◌, pos};
+ghost use Rattle.sn76489.specs.State.{power_on};
+ghost use Rattle.sn76489.specs.Writes.{register_written, write_leaves};
+ghost use Rattle.sn76489.specs.Clock.{clocked, clocks};
+ghost use Rattle.sn76489.specs.Level.{level};
+
+use crate::noise::Noise;
+use crate::tone::Tone;
+use beeb_bits::bit;
+use std::marker::Model;
+
+/// An SN76489AN.
+#[derive(Drop)]
+pub struct Sound {
+    tone1: Tone,
+    tone2: Tone,
+    tone3: Tone,
+    noise: Noise,
+    // Which register a byte with bit 7 clear is for.
+    latched: u8,
+    // How many clocks there were, modulo 128.
+    count: u8,
+}
+
+impl Model for Sound {
+    ghost use Rattle.std.specs.Prelude.{◌<◌};
+    ghost use Rattle.sn76489.specs.State.{State};
+
+    ghost Value = { State };
+
+    ghost view = { λ s. record {
+      tone1 = s.tone1;
+      tone2 = s.tone2;
+      tone3 = s.tone3;
+      noise = s.noise;
+      latched = s.latched;
+      count = s.count;
+    } };
+
+    ghost invariant = { λ s. (s.latched < 8) × (s.count < 128) };
+}
+
+impl Sound {
+    /// The chip at power-on: it is silent, with all volumes 15.
+    pub fn new() -> Sound
+        ensures { result ≡ power_on }
+    {
+        Sound {
+            tone1: Tone::new(),
+            tone2: Tone::new(),
+            tone3: Tone::new(),
+            noise: Noise::new(),
+            latched: 0,
+            count: 0,
+        }
+    }
+
+    /// Writes a byte. Where bit 7 is set it latches a register and sets its low bits; else it is for the latched register, of a period the
+    /// upper six bits.
+    pub fn write(&mut self, v: u8)
+        ensures { self.new ≡ write_leaves v self.old }
+    {
+        if bit(v, 7) {
+            self.latched = v / 16 % 8;
+        }
+        self.write_register(self.latched, v);
+    }
+
+    // A byte for this register.
+    fn write_register(&mut self, register: u8, v: u8)
+        ensures { self.new ≡ register_written register v self.old }
+    {
+        match register {
+            0 => self.tone1.set_period(v),
+            1 => self.tone1.set_volume(v),
+            2 => self.tone2.set_period(v),
+            3 => self.tone2.set_volume(v),
+            4 => self.tone3.set_period(v),
+            5 => self.tone3.set_volume(v),
+            6 => self.noise.set_control(v),
+            _ => self.noise.set_volume(v),
+        }
+    }
+
+    /// Does one clock: tones 1, 2 and 3, and then the noise.
+    pub fn clock(&mut self)
+        ensures { self.new ≡ clocked self.old }
+    {
+        self.tone1.clock();
+        self.tone2.clock();
+        let tone3_rises = self.tone3.clock();
+        self.count = (self.count + 1) % 128;
+        self.noise.clock(self.count, tone3_rises);
+    }
+
+    /// Does `n` clocks.
+    pub fn advance(&mut self, n: u64)
+        ensures { self.new ≡ clocks n self.old }
+    {
+        for _ in 0..n {
+            self.clock();
+        }
+    }
+
+    /// The level that is heard: the sum, over the outputs that are 1, of the amplitudes of their volumes.
+    pub fn level(&self) -> i16
+        ensures { result ≡ pos (level self.now) }
+    {
+        let tones = self.tone1.loudness() + self.tone2.loudness() + self.tone3.loudness();
+        (tones + self.noise.loudness()) as i16
+    }
+}

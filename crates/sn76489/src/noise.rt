@@ -1,0 +1,112 @@
+//! The noise.
+ghost use Rattle.std.specs.Prelude.{◌≡◌, ◌<◌, ◌≤◌};
+ghost use Rattle.sn76489.specs.State.{power_on};
+ghost use Rattle.sn76489.specs.Writes.{noise_with_control, noise_with_volume};
+ghost use Rattle.sn76489.specs.Clock.{shift_clocks, shifts_at, shifted, noise_clocked};
+ghost use Rattle.sn76489.specs.Level.{noise_output, loudness};
+
+use crate::tone::loudness;
+use beeb_bits::bit;
+use std::marker::Model;
+
+/// What the shift register begins with.
+const START: u16 = 0x4000;
+
+#[derive(Drop)]
+pub(crate) struct Noise {
+    control: u8,
+    register: u16,
+    volume: u8,
+}
+
+impl Model for Noise {
+    ghost use Rattle.std.specs.Prelude.{◌<◌};
+    ghost use Rattle.sn76489.specs.State.{Noise};
+
+    ghost Value = { Noise };
+
+    ghost view = { λ n. record { control = n.control; register = n.register; volume = n.volume } };
+
+    ghost invariant = { λ n. (n.control < 8) × (n.register < 32768) × (n.volume < 16) };
+}
+
+// How many clocks there are from one shift to the next, at rates 0, 1 and 2.
+fn shift_clocks(rate: u8) -> u8
+    ensures value { result ≡ shift_clocks rate }
+    ensures some { 0 < result }
+{
+    match rate {
+        0 => 32,
+        1 => 64,
+        _ => 128,
+    }
+}
+
+// The register after a shift.
+fn shifted(white: bool, register: u16) -> u16
+    requires { register < 32768 }
+    ensures value { result ≡ shifted white register }
+    ensures bound { result < 32768 }
+{
+    let entering = if white {
+        (register + register / 2) % 2
+    } else {
+        register % 2
+    };
+    register / 2 + START * entering
+}
+
+impl Noise {
+    /// The noise at power-on.
+    pub(crate) fn new() -> Noise
+        ensures { result ≡ power_on.noise }
+    {
+        Noise {
+            control: 0,
+            register: START,
+            volume: 15,
+        }
+    }
+
+    // The clock of this number is one of a shift.
+    fn shifts_at(&self, number: u8, tone3_rises: bool) -> bool
+        ensures { result ≡ shifts_at number tone3_rises self.now }
+    {
+        match self.control % 4 {
+            3 => tone3_rises,
+            rate => number % shift_clocks(rate) == 0,
+        }
+    }
+
+    /// Does the clock of this number, in which tone 3 rises or not.
+    pub(crate) fn clock(&mut self, number: u8, tone3_rises: bool)
+        ensures { self.new ≡ noise_clocked number tone3_rises self.old }
+    {
+        if self.shifts_at(number, tone3_rises) {
+            self.register = shifted(bit(self.control, 2), self.register);
+        }
+    }
+
+    /// A byte that is written to the control: the register begins anew.
+    pub(crate) fn set_control(&mut self, v: u8)
+        ensures { self.new ≡ noise_with_control v self.old }
+    {
+        self.control = v % 8;
+        self.register = START;
+    }
+
+    /// A byte that is written to the volume.
+    pub(crate) fn set_volume(&mut self, v: u8)
+        ensures { self.new ≡ noise_with_volume v self.old }
+    {
+        self.volume = v % 16;
+    }
+
+    /// What is heard of the noise.
+    pub(crate) fn loudness(&self) -> u16
+        ensures value { result ≡ loudness (noise_output self.now) (self.now).volume }
+        ensures bound { result ≤ 8191 }
+    {
+        loudness(self.register % 2 == 1, self.volume)
+    }
+}

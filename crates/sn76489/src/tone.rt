@@ -1,0 +1,107 @@
+//! A tone, and what is heard of a voice.
+ghost use Rattle.std.specs.Prelude.{◌≡◌, ◌<◌, ◌≤◌};
+ghost use Rattle.sn76489.specs.State.{silent_tone};
+ghost use Rattle.sn76489.specs.Writes.{tone_with_period, tone_with_volume};
+ghost use Rattle.sn76489.specs.Clock.{tone_clocked, rises, period_clocks};
+ghost use Rattle.sn76489.specs.Level.{loudness};
+
+use beeb_bits::bit;
+use std::marker::Model;
+
+/// The amplitudes of volumes 0 to 15.
+const AMPLITUDES: [u16; 16] = [
+    8191, 6506, 5168, 4105, 3261, 2590, 2057, 1634, 1298, 1031, 819, 650, 517, 410, 326, 0,
+];
+
+/// What is heard of an output at a volume.
+pub(crate) fn loudness(output: bool, volume: u8) -> u16
+    requires { volume < 16 }
+    ensures value { result ≡ loudness output volume }
+    ensures bound { result ≤ 8191 }
+{
+    if output {
+        AMPLITUDES[usize::from(volume)]
+    } else {
+        0
+    }
+}
+
+#[derive(Drop)]
+pub(crate) struct Tone {
+    period: u16,
+    counter: u16,
+    output: bool,
+    volume: u8,
+}
+
+impl Model for Tone {
+    ghost use Rattle.std.specs.Prelude.{◌<◌};
+    ghost use Rattle.sn76489.specs.State.{Tone};
+
+    ghost Value = { Tone };
+
+    ghost view = { λ t. record { period = t.period; counter = t.counter; output = t.output; volume = t.volume } };
+
+    ghost invariant = { λ t. (t.period < 1024) × (t.volume < 16) };
+}
+
+// How many clocks a period is.
+fn period_clocks(period: u16) -> u16
+    ensures { result ≡ period_clocks period }
+{
+    if period == 0 { 1024 } else { period }
+}
+
+impl Tone {
+    /// A tone at power-on.
+    pub(crate) fn new() -> Tone
+        ensures { result ≡ silent_tone }
+    {
+        Tone {
+            period: 0,
+            counter: 0,
+            output: false,
+            volume: 15,
+        }
+    }
+
+    /// Does a clock, and answers whether the output became 1.
+    pub(crate) fn clock(&mut self) -> bool
+        ensures tone { self.new ≡ tone_clocked self.old }
+        ensures rises { result ≡ rises self.old }
+    {
+        if self.counter > 1 {
+            self.counter -= 1;
+            return false;
+        }
+        self.counter = period_clocks(self.period);
+        self.output = !self.output;
+        self.output
+    }
+
+    /// A byte that is written to the period.
+    pub(crate) fn set_period(&mut self, v: u8)
+        ensures { self.new ≡ tone_with_period v self.old }
+    {
+        self.period = if bit(v, 7) {
+            16 * (self.period / 16) + u16::from(v % 16)
+        } else {
+            16 * u16::from(v % 64) + self.period % 16
+        };
+    }
+
+    /// A byte that is written to the volume.
+    pub(crate) fn set_volume(&mut self, v: u8)
+        ensures { self.new ≡ tone_with_volume v self.old }
+    {
+        self.volume = v % 16;
+    }
+
+    /// What is heard of the tone.
+    pub(crate) fn loudness(&self) -> u16
+        ensures value { result ≡ loudness (self.now).output (self.now).volume }
+        ensures bound { result ≤ 8191 }
+    {
+        loudness(self.output, self.volume)
+    }
+}

@@ -1,0 +1,4 @@
+//! Tables of cases, by the public calls of both crates.
+mod converter;
+mod sound;
+mod words;
