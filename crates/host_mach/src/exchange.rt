@@ -20,7 +20,7 @@ pub(crate) struct Done {
 
 /// FEE0 to FEFF.
 #[inline(always)]
-fn is_tube(at: u16) -> bool
+pub(crate) fn is_tube(at: u16) -> bool
     ensures { result ≡ is_tube at }
 {
     0xfee0 <= at && at <= 0xfeff

@@ -7,7 +7,7 @@ ghost use Rattle.cpu6502.specs.Sequences.{next, halted};
 ghost use Rattle.host_mach.specs.State.{power_on};
 ghost use Rattle.host_mach.specs.Step.{host_moves, next_state};
 
-use crate::exchange::exchange;
+use crate::exchange::{exchange, is_tube};
 use crate::run::{Stop, go_on, see};
 use beeb_bits::{Crosses, NoMemory, Tick};
 use bus_plug::BusDevice;
@@ -20,7 +20,7 @@ use raster::Frame;
 use rom_set::RomSet;
 use std::alloc::Global;
 use tube_chip::{Answer, Lines, Op};
-use tube_party::{Ask, NO_LINES, Party};
+use tube_party::{Ask, MOST, NO_LINES, Party};
 
 /// The BBC Micro: a 6502 at 2 MHz and its bus, with the Tube at FEE0 to FEFF.
 #[derive(Drop)]
@@ -205,6 +205,8 @@ impl<D: BusDevice> Party for HostMachine<D> {
     ghost use Rattle.tube_chip.specs.Events.{is_side};
     ghost use Rattle.host_mach.specs.Lawful.{host_lawful, host_permitted};
     ghost use Rattle.host_mach.specs.View.{host_seen};
+    ghost use Rattle.tube_party.specs.Quiet.{IsQuiet};
+    ghost use Rattle.host_mach.specs.Quiet.{quiet_of};
 
     ghost State = { HostState };
 
@@ -221,6 +223,17 @@ impl<D: BusDevice> Party for HostMachine<D> {
     #[inline]
     fn due(&self) -> Tick {
         Tick(self.due)
+    }
+
+    fn quiet(&self) -> Tick
+        ensures quiet { IsQuiet host_moves (host_seen D.plug self.now) result.0 }
+        ensures tick { result.0 ≡ quiet_of (host_seen D.plug self.now) }
+    {
+        if self.cpu.halted() && !is_tube(self.cpu.at_start().pc) {
+            Tick(self.due.max(MOST))
+        } else {
+            Tick(self.due)
+        }
     }
 
     #[inline(always)]

@@ -1,5 +1,5 @@
 -- What an access comes to: it is done, or the Tube is asked.
-use Rattle.std.specs.Prelude.{ℕ, List, Bool, true, false, ◌≡◌, ◌<◌, ◌≤◌, ◌%◌, ltb, if◌then◌else◌, Some, None, Option, MatchOption, Result, Ok, Err}
+use Rattle.std.specs.Prelude.{ℕ, List, Bool, true, false, ◌≡◌, ◌<◌, ◌≤◌, ◌+◌, ◌*◌, ◌%◌, max, ltb, if◌then◌else◌, Some, None, Option, MatchOption, Result, Ok, Err}
 use Rattle.cpu_alu.specs.declared.Cycle.{Cycle}
 use Rattle.cpu65c02.specs.Sequences.{after, looked, fresh}
 use Rattle.tube_chip.specs.Act.{access}
@@ -49,6 +49,11 @@ abbrev pub IsRun : ℕ → Lines → ℕ → ParaState → Left → ParaState �
 IsRun until lines sure old left.Full new = Unit {0}
 IsRun until lines sure old (left.Asked ask) new = Sees para_moves until lines sure old ask new
 IsRun until lines sure old left.Look new = ((k : ℕ) × Looks para_moves until lines sure k old new) × (looks new ≡ true) × (old.due < new.due) × (old.due < until)
+
+-- A run from a step at the tick due came to the end of its room in a sequence that began below the tick sure, or with the run: a write takes
+-- two ticks, and so do all of the fewer than 16 accesses of that sequence that are done.
+abbrev pub IsCramped : ℕ → ℕ → ℕ → Type 0
+IsCramped sure due room = due + 2 * room ≤ max sure due + 30
 
 -- a run leaves the boot ROM and the counts
 abbrev pub IsKin : ParaState → ParaState → Type 0

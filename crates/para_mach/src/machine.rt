@@ -1,16 +1,16 @@
 //! The machine.
-ghost use Rattle.std.specs.Prelude.{Bool, ◌≡◌, ◌≤◌, if◌then◌else◌, ◌≢◌, ◌↔◌, ◌⊎◌, ◌<◌, ◌%◌, ◌^◌, IfOk, IfErr, IsErrOf, length, Err, Some, None, MatchOption, IsSome, IsNone, false, true, max, slice_index};
+ghost use Rattle.std.specs.Prelude.{Bool, is_none, ◌≡◌, ◌≤◌, if◌then◌else◌, ◌≢◌, ◌↔◌, ◌⊎◌, ◌<◌, ◌+◌, ◌-◌, ◌%◌, ◌^◌, IfOk, IfErr, IsErrOf, length, Err, Some, None, MatchOption, IsSome, IsNone, false, true, max, slice_index, vec_len, vec_capacity};
 ghost use Rattle.tube_chip.specs.declared.Answer.TheVariants.{Byte, Seen};
-ghost use Rattle.tube_party.specs.Moves.{IsAsk, shut};
+ghost use Rattle.tube_party.specs.Moves.{IsAsk, IsAtLook, Goes, shut};
 ghost use Rattle.para_mach.specs.State.{power_on, shown_regs};
-ghost use Rattle.cpu65c02.specs.Sequences.{starting, after, looked, fresh};
-ghost use Rattle.para_mach.specs.Step.{para_moves, looks, begun, next_state};
-ghost use Rattle.para_mach.specs.Noted.{IsNoted, IsSetOut};
+ghost use Rattle.cpu65c02.specs.Sequences.{next, starting, after, looked, fresh};
+ghost use Rattle.para_mach.specs.Step.{para_moves, looks, begun, held_on, next_state};
+ghost use Rattle.para_mach.specs.Noted.{IsNoted, IsSetOut, IsNear, put_back};
 ghost use Rattle.para_mach.specs.Lawful.{para_lawful, para_permitted};
-ghost use Rattle.para_mach.specs.Told.{IsDone, IsQuick, IsPassed, IsRun, IsKin, IsAskedByte, lag_by};
+ghost use Rattle.para_mach.specs.Told.{IsDone, IsQuick, IsPassed, IsRun, IsKin, IsCramped, IsAskedByte, lag_by};
 
 use crate::memory::{Memory, ROM_SIZE, Stop};
-use crate::notes::{Journal, NoNotes, Notes};
+use crate::notes::{NoNotes, Notes, UndoLog};
 use beeb_bits::{Crosses, Tick};
 use cpu_alu::Regs;
 use cpu65c02::Cpu;
@@ -56,13 +56,18 @@ enum Left {
     Full,
 }
 
+/// With room for fewer notes than this no stride begins.
+const FEWEST: u64 = 1_024;
+
 /// Where a second processor was when it began to note, and what it has written since.
 #[derive(Drop)]
 pub struct Past {
     cpu: Cpu,
+    was_held: bool,
     due: u64,
     lag: u8,
-    journal: Journal,
+    undo_log: UndoLog,
+    ghost held: { was_held ≡ true → is_none (next cpu) ≡ true },
 }
 
 impl Model for ParaMachine {
@@ -159,7 +164,8 @@ impl ParaMachine {
         requires { looks self.old ≡ false }
         ensures done { IsDone self.old result self.new }
         ensures noted { N.before notes.new (self.new).ram ≡ N.before notes.old (self.old).ram }
-        ensures full { result ≡ Some Stop.Full → N.endless ≡ false }
+        ensures room { N.room notes.old ≤ N.room notes.new + 1 }
+        ensures full { result ≡ Some Stop.Full → (N.endless ≡ false) × (N.room notes.old ≡ 0) }
     {
         match self.memory.exchange(self.cpu.want(), notes) {
             Ok(byte) => {
@@ -176,6 +182,8 @@ impl ParaMachine {
         requires { looks self.old ≡ false }
         ensures done { IsQuick self.old result self.new }
         ensures noted { N.before notes.new (self.new).ram ≡ N.before notes.old (self.old).ram }
+        ensures room { N.room notes.old ≤ N.room notes.new + 1 }
+        ensures still { result ≡ false → notes.new ≡ notes.old }
     {
         match self.memory.exchange_low(self.cpu.want(), notes) {
             Some(byte) => {
@@ -192,7 +200,8 @@ impl ParaMachine {
         requires { looks self.old ≡ false }
         ensures done { IsDone self.old result self.new }
         ensures noted { N.before notes.new (self.new).ram ≡ N.before notes.old (self.old).ram }
-        ensures full { result ≡ Some Stop.Full → N.endless ≡ false }
+        ensures room { N.room notes.old ≤ N.room notes.new + 1 }
+        ensures full { result ≡ Some Stop.Full → (N.endless ≡ false) × (N.room notes.old ≡ 0) }
     {
         self.access_any(notes)
     }
@@ -294,7 +303,7 @@ impl ParaMachine {
         ensures ran { IsRun until.0 lines.now sure.0 self.old result self.new }
         ensures kin { IsKin self.old self.new }
         ensures noted { N.before notes.new (self.new).ram ≡ N.before notes.old (self.old).ram }
-        ensures full { result ≡ Left.Full → N.endless ≡ false }
+        ensures full { result ≡ Left.Full → (N.endless ≡ false) × IsCramped sure.0 self.old.due (N.room notes.old) }
     {
         let bound = self.bound(until, lines, sure);
         let mut due = self.due;
@@ -332,17 +341,25 @@ impl ParaMachine {
         Left::Asked(Ask::Nothing)
     }
 
-    // Notes where the machine is, and passes a look that is next, if it is sure. False if it is not: then nothing was done.
+    // Notes where the machine is.
     #[inline(always)]
-    fn set_out(&mut self, until: Tick, lines: &Lines, sure: Tick, past: &mut Past) -> bool
-        requires room { until.0 ≤ 2 ^ 30 }
-        ensures noted { IsNoted self.old past.new.cpu past.new.due past.new.lag past.new.journal.stood.items }
-        ensures out { IsSetOut until.0 lines.now sure.0 self.old result self.new }
+    fn mark(&self, past: &mut Past)
+        ensures noted { IsNoted self.now past.new.cpu past.new.was_held past.new.due past.new.lag past.new.undo_log.stood.items }
+        ensures none { vec_len past.new.undo_log.stood ≡ 0 }
     {
         past.cpu = self.cpu.copy();
+        past.was_held = self.is_held;
         past.due = self.due;
         past.lag = self.lag;
-        past.journal.clear();
+        past.undo_log.clear();
+    }
+
+    // Passes a look that is next, if it is sure. False if it is not: then nothing was done.
+    #[inline(always)]
+    fn set_out(&mut self, until: Tick, lines: &Lines, sure: Tick) -> bool
+        requires room { until.0 ≤ 2 ^ 30 }
+        ensures { IsSetOut until.0 lines.now sure.0 self.old result self.new }
+    {
         if self.cpu.last() {
             if self.due >= self.bound(until, lines, sure) {
                 return false;
@@ -350,6 +367,65 @@ impl ParaMachine {
             self.see(self.due, lines.pirq);
         }
         true
+    }
+
+    // A look that finds the reset line standing for one more reset.
+    #[inline(always)]
+    fn stay(&mut self)
+        requires room { self.old.due < 2 ^ 40 }
+        requires looks { looks self.old ≡ true }
+        ensures { self.new ≡ held_on self.old }
+    {
+        self.is_held = true;
+        self.due += 2;
+        self.lag = 1;
+    }
+
+    // A tick, not above `sure`, below which a run from here has room for its notes.
+    #[inline(always)]
+    fn near(&self, sure: Tick, undo_log: &UndoLog) -> Tick
+        ensures { IsNear sure.0 self.now.due (vec_capacity undo_log.now.stood - vec_len undo_log.now.stood) result.0 }
+    {
+        let stride = 2 * undo_log.room().saturating_sub(16);
+        Tick(sure.0.min(self.due.saturating_add(stride)))
+    }
+
+    // Goes past the looks that find the reset line as it stands, and is held. What is asked then is a look too.
+    #[inline(never)]
+    fn hold(&mut self, until: Tick, lines: &Lines, sure: Tick) -> Ask
+        requires room { until.0 ≤ 2 ^ 30 }
+        requires looks { looks self.old ≡ true }
+        ensures goes { Goes para_moves until.0 lines.now sure.0 self.old result self.new }
+        ensures ram { (self.new).ram ≡ (self.old).ram }
+        ensures kin { IsKin self.old self.new }
+    {
+        let bound = until.0.min(sure.0);
+        if lines.prst && lines.resets != self.resets {
+            while self.due < bound {
+                self.stay();
+            }
+        }
+        self.look(until)
+    }
+
+    // Goes on from where it is, and notes that. It may leave off at any look.
+    #[inline(never)]
+    fn go_on(&mut self, until: Tick, lines: &Lines, sure: Tick, undo_log: &mut UndoLog) -> Ask
+        requires ticks { until.0 ≤ 2 ^ 30 }
+        requires room { 16 ≤ vec_capacity undo_log.old.stood - vec_len undo_log.old.stood }
+        ensures goes { Goes para_moves until.0 lines.now sure.0 self.old result self.new }
+        ensures noted { put_back undo_log.new.stood.items (self.new).ram ≡ put_back undo_log.old.stood.items (self.old).ram }
+        ensures kin { IsKin self.old self.new }
+    {
+        let near = self.near(sure, undo_log);
+        if !self.set_out(until, lines, near) {
+            return self.hold(until, lines, sure);
+        }
+        match self.run(until, lines, near, undo_log) {
+            Left::Asked(ask) => ask,
+            Left::Look => self.look(until),
+            Left::Full => unreachable!(),
+        }
     }
 
     // The Tube's answer to an access.
@@ -381,9 +457,7 @@ impl ParaMachine {
     {
         if resets != self.resets {
             if prst {
-                self.is_held = true;
-                self.due += 2;
-                self.lag = 1;
+                self.stay();
                 return;
             }
             self.memory.switch_in();
@@ -473,15 +547,16 @@ impl Rewinds for ParaMachine {
 
     type Past = Past;
 
-    ghost before = { λ past. taken_back past.cpu past.due past.lag past.journal.stood.items };
+    ghost before = { λ past. taken_back past.cpu past.was_held past.due past.lag past.undo_log.stood.items };
 
     fn past(alloc: Global) -> Result<Past, AllocError> {
-        let journal = Journal::new(alloc)?;
+        let undo_log = UndoLog::new(alloc)?;
         Ok(Past {
             cpu: Cpu::new(),
+            was_held: false,
             due: 0,
             lag: 0,
-            journal,
+            undo_log,
         })
     }
 
@@ -492,29 +567,45 @@ impl Rewinds for ParaMachine {
         lines: &Lines,
         sure: Tick,
         past: &mut Past,
+    ) -> Option<Ask>
+        requires { until.0 ≤ 2 ^ 30 }
+        ensures some { IsSome result }
+        ensures noted { MatchOption result (self.new ≡ self.old) (λ ask. Goes para_moves until.0 lines.now sure.0 self.old ask self.new × (taken_back past.new.cpu past.new.was_held past.new.due past.new.lag past.new.undo_log.stood.items self.new ≡ self.old)) }
+    {
+        self.mark(past);
+        Some(self.go_on(until, lines, sure, &mut past.undo_log))
+    }
+
+    #[inline(always)]
+    fn advance_on(&mut self, until: Tick, lines: &Lines, sure: Tick, past: &mut Past) -> Ask {
+        if past.undo_log.room() < FEWEST {
+            return self.hold(until, lines, sure);
+        }
+        self.go_on(until, lines, sure, &mut past.undo_log)
+    }
+
+    #[inline(always)]
+    fn answer_on(
+        &mut self,
+        byte: u8,
+        until: Tick,
+        lines: &Lines,
+        sure: Tick,
+        past: &mut Past,
     ) -> Option<Ask> {
-        // A reset line that stands is no run of accesses.
-        if self.is_held {
+        // An access to the Tube switches the boot ROM out, of which nothing is noted.
+        if self.memory.rom_in() || past.undo_log.room() < FEWEST {
             return None;
         }
-        if !self.set_out(until, lines, sure, past) {
-            return Some(self.look(until));
-        }
-        match self.run(until, lines, sure, &mut past.journal) {
-            Left::Asked(ask) => Some(ask),
-            Left::Look => Some(self.look(until)),
-            Left::Full => {
-                self.rewind(past);
-                None
-            }
-        }
+        self.take_byte(byte);
+        Some(self.go_on(until, lines, sure, &mut past.undo_log))
     }
 
     #[inline(never)]
     fn rewind(&mut self, past: &mut Past) {
-        self.memory.take_back(&mut past.journal);
+        self.memory.take_back(&mut past.undo_log);
         self.cpu = past.cpu.copy();
-        self.is_held = false;
+        self.is_held = past.was_held;
         self.due = past.due;
         self.lag = past.lag;
     }

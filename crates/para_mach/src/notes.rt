@@ -1,5 +1,5 @@
 //! What is noted of the writes to the RAM, so that they can be taken back.
-ghost use Rattle.std.specs.Prelude.{ℕ, List, [], Bool, ◌≡◌, ◌<◌, length, slice_index, slice_set, true, false, IfOk};
+ghost use Rattle.std.specs.Prelude.{ℕ, List, [], Bool, ◌≡◌, ◌<◌, ◌≤◌, ◌+◌, ◌-◌, min, length, slice_index, slice_set, vec_len, vec_capacity, true, false, IfOk};
 ghost use Rattle.para_mach.specs.Noted.{put_back};
 
 use std::alloc::{AllocError, Global};
@@ -12,10 +12,14 @@ pub(crate) trait Notes {
     /// There is always room.
     ghost endless: { Bool };
 
+    /// For how many writes there is room at least.
+    ghost room: { Self → ℕ };
+
     /// Notes the byte that stands at an address. False, and nothing is noted, where there is no room.
     fn note(&mut self, at: u16, byte: u8) -> bool
         ensures noted { result ≡ true → (ram : List ℕ) (x : ℕ) → slice_index ram at ≡ byte → before self.new (slice_set ram at x) ≡ before self.old ram }
-        ensures full { result ≡ false → (self.new ≡ self.old) × (endless ≡ false) };
+        ensures room { room self.old ≤ room self.new + 1 }
+        ensures full { result ≡ false → (self.new ≡ self.old) × (endless ≡ false) × (room self.old ≡ 0) };
 }
 
 /// Nothing is noted.
@@ -26,6 +30,8 @@ impl Notes for NoNotes {
     ghost before = { λ notes ram. [] };
 
     ghost endless = { true };
+
+    ghost room = { λ notes. 0 };
 
     #[inline(always)]
     fn note(&mut self, _at: u16, _byte: u8) -> bool {
@@ -45,30 +51,45 @@ const ROOM: usize = 4_096;
 
 /// The bytes that stood where the RAM was written, the oldest first.
 #[derive(Drop)]
-pub(crate) struct Journal {
+pub(crate) struct UndoLog {
     pub(crate) stood: Vec<Stood>,
+    ghost roomy: { 4096 ≤ vec_capacity stood },
 }
 
-impl Journal {
+impl UndoLog {
     /// Room for notes.
-    pub(crate) fn new(alloc: Global) -> Result<Journal, AllocError> {
+    pub(crate) fn new(alloc: Global) -> Result<UndoLog, AllocError> {
         let stood = Vec::with_capacity(alloc, ROOM)?;
-        Ok(Journal { stood })
+        Ok(UndoLog { stood })
     }
 
     /// Nothing is noted yet.
     #[inline(always)]
     pub(crate) fn clear(&mut self)
-        ensures { self.new.stood.items ≡ [] }
+        ensures items { self.new.stood.items ≡ [] }
+        ensures len { vec_len self.new.stood ≡ 0 }
     {
         self.stood.clear();
     }
+
+    /// For how many writes there is room.
+    #[inline(always)]
+    pub(crate) fn room(&self) -> u64
+        ensures { result ≡ min (vec_capacity self.now.stood - vec_len self.now.stood) 4096 }
+    {
+        self.stood
+            .capacity()
+            .saturating_sub(self.stood.len())
+            .min(ROOM) as u64
+    }
 }
 
-impl Notes for Journal {
+impl Notes for UndoLog {
     ghost before = { λ notes. put_back notes.stood.items };
 
     ghost endless = { false };
+
+    ghost room = { λ notes. vec_capacity notes.stood - vec_len notes.stood };
 
     #[inline(always)]
     fn note(&mut self, at: u16, byte: u8) -> bool {

@@ -1,5 +1,5 @@
 -- The loop over both parties.
-use Rattle.std.proofs.Common.{ℕ, zero, suc, ◌≡◌, ◌+◌, ◌-◌, ◌<◌, ◌≤◌, inl, inr, nat_lt, Bool, true, false, if◌then◌else◌, refl, sym, ◌∙◌, ap, subst, arith, List, [], ◌∷◌, ◌++◌, length, take, Option, None, Some, MatchOption}
+use Rattle.std.proofs.Common.{ℕ, zero, suc, ◌≡◌, ◌+◌, ◌-◌, ◌<◌, ◌≤◌, ◌⊎◌, inl, inr, nat_lt, Bool, true, false, if◌then◌else◌, refl, sym, ◌∙◌, ap, subst, arith, List, [], ◌∷◌, ◌++◌, length, take, Option, None, Some, MatchOption}
 use Rattle.std.proofs.lemmas.Bool.{ltb-true}
 use Rattle.tube_chip.specs.State.{State, power_on, lines_of}
 use Rattle.tube_chip.specs.declared.Lines.{Lines}
@@ -15,8 +15,10 @@ use Rattle.tube_party.specs.declared.party.Ask.TheVariants.{Nothing, Access, Loo
 use Rattle.tube_party.specs.Moves.{Moves, IsLawful, IsAsk, Advances, Looks, Goes, Sees, IsUnsure, Runs, shut}
 use Rattle.tube_party.specs.Reference.{ticks, start, reference, stepped, with_host}
 use Rattle.tube_trace.specs.Entries.{accesses, entry_of}
-use Rattle.tube_party.specs.Played.{IsKept, IsPlayed}
-use Rattle.tube_party.specs.Turn.{IsPending, Acts, IsGone, IsSettled, first_of, first_due, left, tick_of, noted_all, IsSure}
+use Rattle.tube_party.specs.Played.{IsKept, Played, IsPlayed}
+use Rattle.tube_party.specs.Turn.{IsPending, first_of, first_due, left, tick_of, noted_all, IsSure}
+use Rattle.tube_party.specs.Desk.{Desk, Acts}
+use Rattle.tube_party.specs.Standing.{Standing, standing, IsGone, StandsStill, IsRolledBack}
 use Rattle.tube_party.proofs.Ticks.{world, host_done, rest, host_next, host_silent, para_next, para_silent}
 use Rattle.tube_party.proofs.Runs.{event, First, Over, Silent, Asking, first_of_runs}
 use Rattle.tube_party.proofs.Kept.{kept_own, kept_host_by_para, kept_para_by_host, at_most_one}
@@ -25,6 +27,17 @@ use Rattle.tube_party.specs.Steps.{due_rises}
 use Rattle.tube_party.proofs.Calm.{IsCalm, access_calm, calm_late, calm_before, calm_after, tight}
 use Rattle.tube_party.proofs.Early.{IsLike, alike, like_on, like_ticks, look_left_out, early_host, early_para}
 use Rattle.tube_party.proofs.First.{HostFirst, ParaFirst, host_first, para_first, none_left}
+
+-- a side at work, by its parts
+abbrev pub seated : {S : Type 0} → S → State → List Entry → ℕ → Desk S
+seated s c list count = record { state = s; chip = c; list = list; count = count }
+
+abbrev pub left_as : {S T : Type 0} → S → T → State → List Entry → List Entry → ℕ → ℕ → Played S T
+left_as s t c hl pl hc pc = record { host = s; para = t; chip = c; host_list = hl; para_list = pl; host_count = hc; para_count = pc }
+
+-- what an access of the other side does to a party
+abbrev pub IsSettled : {S : Type 0} → Moves S → ℕ → Lines → Lines → ℕ → Standing S → Standing S → Type 0
+IsSettled m n seen lines at old new = StandsStill seen lines old new ⊎ IsRolledBack m n seen at old new
 
 -- a party after its step that asked, and then after those that ask nothing
 pub tick_of_pending : {S : Type 0} (r : Moves S) (n : ℕ) (s : S) (ask : Ask) → IsPending r n s ask → left n ask + r.due s ≡ n
@@ -229,7 +242,7 @@ module _ {S T : Type 0} (h : Moves S) (p : Moves T) (lh : IsLawful h) (lp : IsLa
   -- the host's step, which the reference does too, and its looks below a tick before which the parasite makes no access
   host_does : (keep sure far : ℕ) (s0 s s2 s3 : S) (t0 t : T) (c c2 : State) (ask_h ask2 : Ask) (hl pl hl2 : List Entry) (hc pc hc2 : ℕ)
       → (w : IsAt h p n keep s0 t0 s t c ask_h hl pl hc pc) → s ≡ w.host_last
-      → (d : Acts h Host keep s c hl hc s2 c2 hl2 hc2)
+      → (d : Acts h Host keep (seated s c hl hc) (seated s2 c2 hl2 hc2))
       → IsLike (ticks h p n 0 (world s t c w.events)) (ticks h p n 0 (world (h.next s (Some (act c Host d.query).1)) t (act c Host d.query).0 (w.events ++ event (h.due s) Host d.query (act c Host d.query).1 ∷ [])))
       → ((x : ℕ) → x < n → x < sure → x < far + 1) → ((i : ℕ) → IsCalm p (lines_of c2) far i t)
       → Sees h n (lines_of c2) sure s2 ask2 s3
@@ -268,7 +281,7 @@ module _ {S T : Type 0} (h : Moves S) (p : Moves T) (lh : IsLawful h) (lp : IsLa
   host_turn : (keep sure : ℕ) (s0 s s2 s3 : S) (t0 t : T) (c c2 : State) (ask_h ask_p ask2 : Ask) (hl pl hl2 : List Entry) (hc pc hc2 : ℕ)
       → (w : IsUnderWay h p n keep s0 t0 s t c ask_h ask_p hl pl hc pc)
       → HostFirst h p n s w.at.host_last w.para_last ask_h
-      → Acts h Host keep s c hl hc s2 c2 hl2 hc2
+      → Acts h Host keep (seated s c hl hc) (seated s2 c2 hl2 hc2)
       → IsSure 1 ask_p sure
       → Sees h n (lines_of c2) sure s2 ask2 s3
       → IsUnderWay h p n keep s0 t0 s3 t c2 ask2 ask_p hl2 pl hc2 pc
@@ -289,7 +302,7 @@ module _ {S T : Type 0} (h : Moves S) (p : Moves T) (lh : IsLawful h) (lp : IsLa
       → (w : IsAt h p n keep s0 t0 s mark c ask_h hl pl hc pc)
       → (g : Goes p n (lines_of c) far mark ask_p t)
       → HostFirst h p n s w.host_last g.last ask_h
-      → Acts h Host keep s c hl hc s2 c2 hl2 hc2
+      → Acts h Host keep (seated s c hl hc) (seated s2 c2 hl2 hc2)
       → lines_of c2 ≡ lines_of c
       → IsSure 1 ask_p sure
       → Sees h n (lines_of c2) sure s2 ask2 s3
@@ -306,7 +319,7 @@ module _ {S T : Type 0} (h : Moves S) (p : Moves T) (lh : IsLawful h) (lp : IsLa
   para_step : (keep : ℕ) (s0 s : S) (t0 t t2 : T) (c c2 : State) (ask_h ask_p : Ask) (hl pl pl2 : List Entry) (hc pc pc2 : ℕ)
       → IsUnderWay h p n keep s0 t0 s t c ask_h ask_p hl pl hc pc
       → first_of ask_h ask_p ≡ Some Para
-      → Acts p Para keep t c pl pc t2 c2 pl2 pc2
+      → Acts p Para keep (seated t c pl pc) (seated t2 c2 pl2 pc2)
       → IsAt h p n keep s0 t0 s t2 c2 ask_h hl pl2 hc pc2
   para_step keep s0 s t0 t t2 c c2 ask_h ask_p hl pl pl2 hc pc pc2 w e d =
       let f : ParaFirst h p n t w.para_last w.at.host_last ask_p = para_first h p n s w.at.host_last t w.para_last ask_h ask_p w.at.host_asked w.para_asked e in
@@ -387,9 +400,9 @@ module _ {S T : Type 0} (h : Moves S) (p : Moves T) (lh : IsLawful h) (lp : IsLa
   pub para_turn : (keep sure : ℕ) (s0 s : S) (t0 mark t t2 mark3 t3 : T) (c c2 : State) (ask_h ask_p ask2 : Ask) (hl pl pl2 : List Entry) (hc pc pc2 : ℕ) (ahead ahead2 : Bool)
       → IsGoing h p n keep s0 t0 ahead s mark t c ask_h ask_p hl pl hc pc
       → first_of ask_h ask_p ≡ Some Para
-      → Acts p Para keep t c pl pc t2 c2 pl2 pc2
+      → Acts p Para keep (seated t c pl pc) (seated t2 c2 pl2 pc2)
       → IsSure 0 ask_h sure
-      → IsGone p n (lines_of c2) sure t2 ahead2 ask2 mark3 t3
+      → IsGone p n (lines_of c2) sure t2 (standing ahead2 ask2 mark3 t3)
       → IsGoing h p n keep s0 t0 ahead2 s mark3 t3 c2 ask_h ask2 hl pl2 hc pc2
   para_turn keep sure s0 s t0 mark t t2 mark3 t3 c c2 ask_h ask_p ask2 hl pl pl2 hc pc pc2 ahead ahead2 w e d told gone =
       let never : first_of ask_h ask_p ≡ Some Host → ⊥ = λ x. host_or_para (sym x ∙ e) in
@@ -397,9 +410,9 @@ module _ {S T : Type 0} (h : Moves S) (p : Moves T) (lh : IsLawful h) (lp : IsLa
       para_step keep s0 s t0 t t2 c c2 ask_h ask_p hl pl pl2 hc pc pc2 (settled keep s0 s t0 mark t c ask_h ask_p hl pl hc pc ahead w never) e d in
       by ahead2 at gone
     where
-      by : (b : Bool) → IsAt h p n keep s0 t0 s t2 c2 ask_h hl pl2 hc pc2 → IsGone p n (lines_of c2) sure t2 b ask2 mark3 t3 → IsGoing h p n keep s0 t0 b s mark3 t3 c2 ask_h ask2 hl pl2 hc pc2
+      by : (b : Bool) → IsAt h p n keep s0 t0 s t2 c2 ask_h hl pl2 hc pc2 → IsGone p n (lines_of c2) sure t2 (standing b ask2 mark3 t3) → IsGoing h p n keep s0 t0 b s mark3 t3 c2 ask_h ask2 hl pl2 hc pc2
       by true at g =
-          (subst (λ (x : T). IsAt h p n keep s0 t0 s x c2 ask_h hl pl2 hc pc2) (sym g.2) at, (g.0, subst (λ (x : T). Goes p n (lines_of c2) g.0 x ask2 t3) (sym g.2) g.1))
+          (subst (λ (x : T). IsAt h p n keep s0 t0 s x c2 ask_h hl pl2 hc pc2) (sym g.1) at, (g.0.0, subst (λ (x : T). Goes p n (lines_of c2) g.0.0 x ask2 t3) (sym g.1) g.0.1))
       by false at g =
           catch_up keep sure s0 s t0 t2 g.last t3 c2 ask_h ask2 hl pl2 hc pc2 g.steps at g.looks g.asked (in_time h n 0 sure s at.host_last ask_h at.host_asked told)
 
@@ -426,14 +439,15 @@ module _ {S T : Type 0} (h : Moves S) (p : Moves T) (lh : IsLawful h) (lp : IsLa
   pub host_goes : (keep sure : ℕ) (s0 s s2 s3 : S) (t0 mark t mark2 t2 : T) (c c2 : State) (ask_h ask_p ask_p2 ask2 : Ask) (hl pl hl2 : List Entry) (hc pc hc2 : ℕ) (ahead ahead2 : Bool)
       → IsGoing h p n keep s0 t0 ahead s mark t c ask_h ask_p hl pl hc pc
       → first_of ask_h ask_p ≡ Some Host
-      → Acts h Host keep s c hl hc s2 c2 hl2 hc2
-      → IsSettled p n (lines_of c) (lines_of c2) (tick_of ask_h) ahead ask_p mark t ahead2 ask_p2 mark2 t2
+      → Acts h Host keep (seated s c hl hc) (seated s2 c2 hl2 hc2)
+      → IsSettled p n (lines_of c) (lines_of c2) (tick_of ask_h) (standing ahead ask_p mark t) (standing ahead2 ask_p2 mark2 t2)
       → IsSure 1 ask_p2 sure
       → Sees h n (lines_of c2) sure s2 ask2 s3
       → IsGoing h p n keep s0 t0 ahead2 s3 mark2 t2 c2 ask2 ask_p2 hl2 pl hc2 pc
   unfolding catch_up
   host_goes keep sure s0 s s2 s3 t0 mark t mark2 t2 c c2 ask_h ask_p ask_p2 ask2 hl pl hl2 hc pc hc2 ahead ahead2 w e d (inl kept) told sees =
-      moved ahead2 ask_p2 t2 mark2 kept.0 kept.1 kept.2 kept.3 (by ahead w kept.4) told
+      moved ahead2 ask_p2 t2 mark2 (ap (λ (x : Standing T). x.ahead) kept.0) (ap (λ (x : Standing T). x.ask) kept.0)
+      (ap (λ (x : Standing T). x.state) kept.0) (ap (λ (x : Standing T). x.mark) kept.0) (by ahead w kept.1) told
     where
       moved : (b : Bool) (a : Ask) (u v : T) → b ≡ ahead → a ≡ ask_p → u ≡ t → v ≡ mark
           → (IsSure 1 ask_p sure → IsGoing h p n keep s0 t0 ahead s3 mark t c2 ask2 ask_p hl2 pl hc2 pc)
@@ -491,8 +505,8 @@ module _ {S T : Type 0} (h : Moves S) (p : Moves T) (lh : IsLawful h) (lp : IsLa
   pub host_smaller : (keep sure : ℕ) (s0 s s2 s3 : S) (t0 mark t mark2 t2 : T) (c c2 : State) (ask_h ask_p ask_p2 ask2 : Ask) (hl pl hl2 : List Entry) (hc pc hc2 : ℕ) (ahead ahead2 : Bool)
       → IsGoing h p n keep s0 t0 ahead s mark t c ask_h ask_p hl pl hc pc
       → first_of ask_h ask_p ≡ Some Host
-      → Acts h Host keep s c hl hc s2 c2 hl2 hc2
-      → IsSettled p n (lines_of c) (lines_of c2) (tick_of ask_h) ahead ask_p mark t ahead2 ask_p2 mark2 t2
+      → Acts h Host keep (seated s c hl hc) (seated s2 c2 hl2 hc2)
+      → IsSettled p n (lines_of c) (lines_of c2) (tick_of ask_h) (standing ahead ask_p mark t) (standing ahead2 ask_p2 mark2 t2)
       → Sees h n (lines_of c2) sure s2 ask2 s3
       → left n ask2 + rest_of ahead2 mark2 ask_p2 < left n ask_h + rest_of ahead mark ask_p
   host_smaller keep sure s0 s s2 s3 t0 mark t mark2 t2 c c2 ask_h ask_p ask_p2 ask2 hl pl hl2 hc pc hc2 ahead ahead2 w e d settled_so sees =
@@ -517,18 +531,18 @@ module _ {S T : Type 0} (h : Moves S) (p : Moves T) (lh : IsLawful h) (lp : IsLa
       back_by true true is is2 r = cc
       back_by false b2 is is2 r = cc
 
-      by : IsSettled p n (lines_of c) (lines_of c2) (tick_of ask_h) ahead ask_p mark t ahead2 ask_p2 mark2 t2 → rest_of ahead2 mark2 ask_p2 ≤ rest_of ahead mark ask_p
+      by : IsSettled p n (lines_of c) (lines_of c2) (tick_of ask_h) (standing ahead ask_p mark t) (standing ahead2 ask_p2 mark2 t2) → rest_of ahead2 mark2 ask_p2 ≤ rest_of ahead mark ask_p
       by (inl kept) =
           let same : rest_of ahead2 mark2 ask_p2 ≡ rest_of ahead mark ask_p =
-          ap (λ (x : Bool). rest_of x mark2 ask_p2) kept.0 ∙ ap (λ (x : T). rest_of ahead x ask_p2) kept.3 ∙ ap (λ (x : Ask). rest_of ahead mark x) kept.1 in
+          ap (λ (x : Standing T). rest_of x.ahead x.mark x.ask) kept.0 in
           omega (arith, same)
       by (inr back) = back_by ahead ahead2 back.0 back.1 back.2
 
   pub para_smaller : (keep sure : ℕ) (s0 s : S) (t0 mark t t2 mark3 t3 : T) (c c2 : State) (ask_h ask_p ask2 : Ask) (hl pl pl2 : List Entry) (hc pc pc2 : ℕ) (ahead ahead2 : Bool)
       → IsGoing h p n keep s0 t0 ahead s mark t c ask_h ask_p hl pl hc pc
       → first_of ask_h ask_p ≡ Some Para
-      → Acts p Para keep t c pl pc t2 c2 pl2 pc2
-      → IsGone p n (lines_of c2) sure t2 ahead2 ask2 mark3 t3
+      → Acts p Para keep (seated t c pl pc) (seated t2 c2 pl2 pc2)
+      → IsGone p n (lines_of c2) sure t2 (standing ahead2 ask2 mark3 t3)
       → left n ask_h + rest_of ahead2 mark3 ask2 < left n ask_h + rest_of ahead mark ask_p
   para_smaller keep sure s0 s t0 mark t t2 mark3 t3 c c2 ask_h ask_p ask2 hl pl pl2 hc pc pc2 ahead ahead2 w e d gone =
       let before : n - p.due t ≤ rest_of ahead mark ask_p = old ahead w in
@@ -558,14 +572,14 @@ module _ {S T : Type 0} (h : Moves S) (p : Moves T) (lh : IsLawful h) (lp : IsLa
           let rise : p.due mark ≤ p.due v.1.1.last = due_rises p n (lines_of c) v.1.0 v.1.1.steps mark v.1.1.last lp v.1.1.looks in
           omega arith
 
-      new : (b : Bool) → IsGone p n (lines_of c2) sure t2 b ask2 mark3 t3 → rest_of b mark3 ask2 < n - p.due t
-      new true g = let at : p.due mark3 ≡ p.due t2 = ap p.due g.2 in omega (arith, up, low)
+      new : (b : Bool) → IsGone p n (lines_of c2) sure t2 (standing b ask2 mark3 t3) → rest_of b mark3 ask2 < n - p.due t
+      new true g = let at : p.due mark3 ≡ p.due t2 = ap p.due g.1 in omega (arith, up, low)
       new false g = omega (arith, left_after p lp n (lines_of c2) sure g.steps t2 g.last t3 ask2 (p.due t) g.looks g.asked low up)
 
   finish_by : (keep : ℕ) (s0 s : S) (t0 t : T) (c : State) (ask_h ask_p : Ask) (hl pl : List Entry) (hc pc : ℕ)
       → IsUnderWay h p n keep s0 t0 s t c ask_h ask_p hl pl hc pc
       → (ask_h ≡ Nothing) × (ask_p ≡ Nothing)
-      → IsPlayed (reference h p s0 t0 n) keep s t c hl pl hc pc
+      → IsPlayed (reference h p s0 t0 n) keep (left_as s t c hl pl hc pc)
   finish_by keep s0 s t0 t c ask_h ask_p hl pl hc pc w none =
       let ah : IsAsk h n w.at.host_last Nothing s = subst (λ (x : Ask). IsAsk h n w.at.host_last x s) none.0 w.at.host_asked in
       let ap' : IsAsk p n w.para_last Nothing t = subst (λ (x : Ask). IsAsk p n w.para_last x t) none.1 w.para_asked in
@@ -582,31 +596,30 @@ module _ {S T : Type 0} (h : Moves S) (p : Moves T) (lh : IsLawful h) (lp : IsLa
   pub finishes : (keep : ℕ) (s0 s : S) (t0 t : T) (c : State) (ask_h ask_p : Ask) (hl pl : List Entry) (hc pc : ℕ)
       → IsUnderWay h p n keep s0 t0 s t c ask_h ask_p hl pl hc pc
       → first_of ask_h ask_p ≡ None
-      → IsPlayed (reference h p s0 t0 n) keep s t c hl pl hc pc
+      → IsPlayed (reference h p s0 t0 n) keep (left_as s t c hl pl hc pc)
   finishes keep s0 s t0 t c ask_h ask_p hl pl hc pc w e = finish_by keep s0 s t0 t c ask_h ask_p hl pl hc pc w (none_left ask_h ask_p e)
 
-pub acts_keep : {S : Type 0} {r : Moves S} {side : Side} {k k2 : ℕ} {s : S} {c : State} {list : List Entry} {count : ℕ} {s2 : S} {c2 : State} {list2 : List Entry} {count2 : ℕ}
-    → k ≡ k2 → Acts r side k s c list count s2 c2 list2 count2 → Acts r side k2 s c list count s2 c2 list2 count2
-acts_keep {r = r} {side = side} {s = s} {c = c} {list = list} e t =
+pub acts_keep : {S : Type 0} {r : Moves S} {side : Side} {k k2 : ℕ} {x y : Desk S} → k ≡ k2 → Acts r side k x y → Acts r side k2 x y
+acts_keep {r = r} {side = side} {x = x} e t =
     record {
       query = t.query;
       asks = t.asks;
       state_is = t.state_is;
       chip_is = t.chip_is;
-      list_is = t.list_is ∙ ap (λ (x : ℕ). noted_all x list (entry_of (r.due s) side t.query (act c side t.query).1)) e;
+      list_is = t.list_is ∙ ap (λ (k : ℕ). noted_all k x.list (entry_of (r.due x.state) side t.query (act x.chip side t.query).1)) e;
       count_is = t.count_is;
     }
 
 -- with the lines and the tick named otherwise
-pub gone_seeing : {S : Type 0} (r : Moves S) (n sure : ℕ) {l l2 : Lines} (s mark s2 : S) (ahead : Bool) (ask : Ask) → l ≡ l2 → IsGone r n l sure s ahead ask mark s2 → IsGone r n l2 sure s ahead ask mark s2
-gone_seeing r n sure s mark s2 ahead ask e g = subst (λ (x : Lines). IsGone r n x sure s ahead ask mark s2) e g
+pub gone_seeing : {S : Type 0} (r : Moves S) (n sure : ℕ) {l l2 : Lines} (s : S) (x : Standing S) → l ≡ l2 → IsGone r n l sure s x → IsGone r n l2 sure s x
+gone_seeing r n sure s x e g = subst (λ (y : Lines). IsGone r n y sure s x) e g
 
 pub sees_seeing : {S : Type 0} {r : Moves S} {n sure : ℕ} {l l2 : Lines} {s s2 : S} {ask : Ask} → l ≡ l2 → Sees r n l sure s ask s2 → Sees r n l2 sure s ask s2
 sees_seeing {r = r} {n = n} {sure = sure} {s = s} {s2 = s2} {ask = ask} e g = subst (λ (x : Lines). Sees r n x sure s ask s2) e g
 
-pub settled_seeing : {S : Type 0} {r : Moves S} {n at at2 : ℕ} {k k2 l l2 : Lines} {s mark s2 mark2 : S} {ahead ahead2 : Bool} {ask ask2 : Ask} → k ≡ k2 → l ≡ l2 → at ≡ at2
-    → IsSettled r n k l at ahead ask mark s ahead2 ask2 mark2 s2 → IsSettled r n k2 l2 at2 ahead ask mark s ahead2 ask2 mark2 s2
-settled_seeing {r = r} {n = n} {at = at} {at2 = at2} {k = k} {k2 = k2} {l = l} {l2 = l2} {s = s} {mark = mark} {s2 = s2} {mark2 = mark2} {ahead = ahead} {ahead2 = ahead2} {ask = ask} {ask2 = ask2} ek el et g =
-    subst (λ (x : ℕ). IsSettled r n k2 l2 x ahead ask mark s ahead2 ask2 mark2 s2) et
-    (subst (λ (x : Lines). IsSettled r n k2 x at ahead ask mark s ahead2 ask2 mark2 s2) el
-    (subst (λ (x : Lines). IsSettled r n x l at ahead ask mark s ahead2 ask2 mark2 s2) ek g))
+pub settled_seeing : {S : Type 0} {r : Moves S} {n at at2 : ℕ} {k k2 l l2 : Lines} {x y : Standing S} → k ≡ k2 → l ≡ l2 → at ≡ at2
+    → IsSettled r n k l at x y → IsSettled r n k2 l2 at2 x y
+settled_seeing {r = r} {n = n} {at = at} {at2 = at2} {k = k} {k2 = k2} {l = l} {l2 = l2} {x = x} {y = y} ek el et g =
+    subst (λ (a : ℕ). IsSettled r n k2 l2 a x y) et
+    (subst (λ (a : Lines). IsSettled r n k2 a at x y) el
+    (subst (λ (a : Lines). IsSettled r n a l at x y) ek g))

@@ -1,9 +1,12 @@
 pub mod Moves
 pub mod Shut
 pub mod Steps
+pub mod Quiet
 pub mod Replay
 pub mod Following
 pub mod Tape
 pub mod Reference
 pub mod Played
 pub mod Turn
+pub mod Desk
+pub mod Standing

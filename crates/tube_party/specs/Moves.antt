@@ -116,6 +116,14 @@ pub record Goes {S : Type 0} (m : Moves S) (n : ℕ) (lines : Lines) (sure : ℕ
   pub looks : Looks m n lines sure steps old last
   pub asked : IsAsk m n last ask new
 
+-- It went on from a mark, some way, as if each look saw these lines; this is asked next.
+abbrev pub IsAhead : {S : Type 0} → Moves S → ℕ → Lines → S → Ask → S → Type 0
+IsAhead m n lines mark ask new = (far : ℕ) × Goes m n lines far mark ask new
+
+-- the next step is a look below n
+abbrev pub IsAtLook : {S : Type 0} → Moves S → ℕ → S → Type 0
+IsAtLook m n s = (m.due s < n) × (m.asks s ≡ Some look)
+
 -- a byte for an access, lines for a look
 abbrev pub FitsAnswer : Query → Answer → Type 0
 FitsAnswer (access op) (Byte b) = Unit {0}

@@ -1,15 +1,12 @@
--- One turn of a party at the chip, how it goes on from there, and whose turn is next.
-use Rattle.std.specs.Prelude.{ℕ, ◌≡◌, ◌+◌, ◌-◌, ◌<◌, ◌≤◌, ◌⊎◌, nat_lt, Bool, true, false, Option, None, Some, List, [], ◌∷◌, ◌++◌, length, if◌then◌else◌}
+-- What is asked at a turn, what is kept of it, and whose turn is next.
+use Rattle.std.specs.Prelude.{ℕ, ◌≡◌, ◌+◌, ◌-◌, ◌<◌, ◌≤◌, nat_lt, Option, None, Some, List, [], ◌∷◌, ◌++◌, length, if◌then◌else◌}
 use Rattle.beeb_bits.specs.declared.Side.{Side}
 use Rattle.beeb_bits.specs.declared.Side.TheVariants.{Host, Para}
-use Rattle.tube_chip.specs.State.{State}
-use Rattle.tube_chip.specs.declared.Lines.{Lines}
-use Rattle.tube_chip.specs.Act.{Query, access, look, act}
+use Rattle.tube_chip.specs.Act.{access, look}
 use Rattle.tube_trace.specs.declared.Entry.{Entry}
-use Rattle.tube_trace.specs.Entries.{entry_of}
 use Rattle.tube_party.specs.declared.party.Ask.{Ask}
 use Rattle.tube_party.specs.declared.party.Ask.TheVariants.{Nothing, Access, Look}
-use Rattle.tube_party.specs.Moves.{Moves, Sees, Goes}
+use Rattle.tube_party.specs.Moves.{Moves}
 
 -- one more entry, while there are fewer than `keep`
 abbrev pub noted : ℕ → List Entry → Entry → List Entry
@@ -24,28 +21,6 @@ abbrev pub IsPending : {S : Type 0} → Moves S → ℕ → S → Ask → Type 0
 IsPending m n s Nothing = ⊥
 IsPending m n s (Access t op) = (t.0 ≡ m.due s) × (t.0 < n) × (m.asks s ≡ Some (access op))
 IsPending m n s (Look t) = (t.0 ≡ m.due s) × (t.0 < n) × (m.asks s ≡ Some look)
-
--- The step that asks was done at the chip.
-pub record Acts {S : Type 0} (m : Moves S) (side : Side) (keep : ℕ) (s : S) (c : State) (list : List Entry) (count : ℕ) (s2 : S) (c2 : State) (list2 : List Entry) (count2 : ℕ) : Type 0 where
-  pub query : Query
-  pub asks : m.asks s ≡ Some query
-  pub state_is : s2 ≡ m.next s (Some (act c side query).1)
-  pub chip_is : c2 ≡ (act c side query).0
-  pub list_is : list2 ≡ noted_all keep list (entry_of (m.due s) side query (act c side query).1)
-  pub count_is : count2 ≡ count + length (entry_of (m.due s) side query (act c side query).1)
-
--- The steps after one that asked are done, as far as their looks are sure of their lines or further: where the party went further it can be taken
--- back to where it was.
-abbrev pub IsGone : {S : Type 0} → Moves S → ℕ → Lines → ℕ → S → Bool → Ask → S → S → Type 0
-IsGone m n lines sure s true ask mark new = (far : ℕ) × Goes m n lines far s ask new × (mark ≡ s)
-IsGone m n lines sure s false ask mark new = Sees m n lines sure s ask new
-
--- A party that had gone ahead is as it was, since the lines are still those that it saw; or it went there anew from where it can be taken back
--- to, and saw them up to a tick alone.
-abbrev pub IsSettled : {S : Type 0} → Moves S → ℕ → Lines → Lines → ℕ → Bool → Ask → S → S → Bool → Ask → S → S → Type 0
-IsSettled m n seen lines at ahead ask mark s ahead2 ask2 mark2 s2 =
-    ((ahead2 ≡ ahead) × (ask2 ≡ ask) × (s2 ≡ s) × (mark2 ≡ mark) × (ahead ≡ true → lines ≡ seen))
-    ⊎ ((ahead ≡ true) × (ahead2 ≡ false) × Sees m n seen at mark ask2 s2)
 
 -- the tick of what is asked
 abbrev pub tick_of : Ask → ℕ

@@ -1,6 +1,7 @@
 //! Parties at the Tube: what a machine with a clock is, two of them at one chip, and one against a trace.
 #![tactic(auto)]
 
+mod forward;
 mod law;
 mod log;
 mod one_thread;
@@ -9,6 +10,7 @@ mod replaying;
 mod rewinds;
 mod tape;
 
+pub use forward::Forward;
 pub use law::{
     legal_merge_is_reference, party_goes_on, reference_is_followed, reference_is_replayed,
     reference_is_trace, replay_is_following,

@@ -1,9 +1,11 @@
 //! Two parties on one thread.
-ghost use Rattle.std.specs.Prelude.{◌≡◌, ◌≤◌, ◌<◌, ◌^◌, [], IfOk, IfErr, IsTrue};
+ghost use Rattle.std.specs.Prelude.{◌≡◌, ◌≤◌, ◌<◌, ◌^◌, ◌⊎◌, [], IfOk, IfErr, IsTrue};
 ghost use Rattle.beeb_bits.specs.declared.Side.TheVariants.{Host, Para};
 ghost use Rattle.tube_chip.specs.State.{lines_of};
-ghost use Rattle.tube_party.specs.Played.{IsPlayed};
-ghost use Rattle.tube_party.specs.Turn.{IsPending, Acts, IsGone, IsSettled, first_of, tick_of, IsSure};
+ghost use Rattle.tube_party.specs.Played.{IsPlayed, played_of};
+ghost use Rattle.tube_party.specs.Turn.{IsPending, first_of, tick_of, IsSure};
+ghost use Rattle.tube_party.specs.Desk.{desk, Acts};
+ghost use Rattle.tube_party.specs.Standing.{standing, IsGone, StandsStill, IsRolledBack};
 ghost use Rattle.tube_party.specs.Reference.{reference};
 
 use crate::log::Log;
@@ -51,7 +53,7 @@ fn first_of(host: Ask, para: Ask) -> Option<Side>
 /// A tick below which each look of the other side sees the chip as it is, by what this party asks next: that look may come `slack` ticks behind
 /// a step of this party. The last tick of a run where it asks nothing.
 #[inline(always)]
-fn sure(ask: Ask, slack: u64) -> Tick
+fn lookahead(ask: Ask, slack: u64) -> Tick
     ensures { IsSure slack ask result.0 }
 {
     match ask {
@@ -88,7 +90,9 @@ fn act<M: Party>(
     requires count { log.old.count < 2 ^ 63 }
     requires kept { lines.old ≡ lines_of chip.old }
     ensures kept { lines.new ≡ lines_of chip.new }
-    ensures acts { Acts M.moves side log.old.keep (M.state machine.old) chip.old log.old.list.items log.old.count (M.state machine.new) chip.new log.new.list.items log.new.count }
+    ensures acts { let old = desk (M.state machine.old) chip.old log.old in
+        let new = desk (M.state machine.new) chip.new log.new in
+        Acts M.moves side log.old.keep old new }
     ensures keep { log.new.keep ≡ log.old.keep }
 {
     match ask {
@@ -119,7 +123,9 @@ fn go_on<M: Rewinds>(
     sure: Tick,
 ) -> (bool, Ask)
     requires { n.0 ≤ MOST }
-    ensures { IsGone M.Party.moves n.0 lines.now sure.0 (M.Party.state machine.old) result.0 result.1 (M.Party.state (M.before past.new machine.new)) (M.Party.state machine.new) }
+    ensures { let mark = M.Party.state (M.before past.new machine.new) in
+        let new = standing result.0 result.1 mark (M.Party.state machine.new) in
+        IsGone M.Party.moves n.0 lines.now sure.0 (M.Party.state machine.old) new }
 {
     match machine.advance_noting(n, lines, ahead, past) {
         Some(ask) => (true, ask),
@@ -130,7 +136,7 @@ fn go_on<M: Rewinds>(
 /// After an access of the other side at tick `at`: a party that is ahead, and saw lines that are no longer so, is taken back, and goes on to
 /// where the access was. Whether it is still ahead, and what it asks.
 #[inline(always)]
-fn settle<M: Rewinds>(
+fn roll_back_if_wrong<M: Rewinds>(
     machine: &mut M,
     past: &mut M::Past,
     n: Tick,
@@ -141,7 +147,11 @@ fn settle<M: Rewinds>(
     ask: Ask,
 ) -> (bool, Ask)
     requires { n.0 ≤ MOST }
-    ensures { IsSettled M.Party.moves n.0 seen.now lines.now at.0 is_ahead ask (M.Party.state (M.before past.old machine.old)) (M.Party.state machine.old) result.0 result.1 (M.Party.state (M.before past.new machine.new)) (M.Party.state machine.new) }
+    ensures { let mark = M.Party.state (M.before past.old machine.old) in
+        let old = standing is_ahead ask mark (M.Party.state machine.old) in
+        let new_mark = M.Party.state (M.before past.new machine.new) in
+        let new = standing result.0 result.1 new_mark (M.Party.state machine.new) in
+        StandsStill seen.now lines.now old new ⊎ IsRolledBack M.Party.moves n.0 seen.now at.0 old new }
 {
     if is_ahead && *lines != *seen {
         machine.rewind(past);
@@ -173,7 +183,8 @@ fn both<H: Party, P: Rewinds>(
     requires host_none { (host_log.list.items ≡ []) × (host_log.count ≡ 0) }
     requires para_none { (para_log.list.items ≡ []) × (para_log.count ≡ 0) }
     requires one_keep { para_log.keep ≡ host_log.keep }
-    ensures { IsPlayed (reference H.moves P.Party.moves (H.state host) (P.Party.state para) n.0) host_log.keep (H.state result.host) (P.Party.state result.para) result.chip result.host_list.items result.para_list.items result.host_count result.para_count }
+    ensures { let w = reference H.moves P.Party.moves (H.state host) (P.Party.state para) n.0 in
+        IsPlayed w host_log.keep (played_of H.state P.Party.state result) }
 {
     let mut chip = Chip::new();
     let mut lines = chip.lines();
@@ -196,13 +207,13 @@ fn both<H: Party, P: Rewinds>(
                     host_ask,
                 );
                 let was_ahead = is_ahead;
-                (is_ahead, para_ask) = settle(
+                (is_ahead, para_ask) = roll_back_if_wrong(
                     &mut para, &mut past, n, &seen, &lines, at, is_ahead, para_ask,
                 );
                 if was_ahead && !is_ahead {
                     stride = (stride / 8).max(FEWEST);
                 }
-                host_ask = host.advance_seeing(n, &lines, sure(para_ask, 1));
+                host_ask = host.advance_seeing(n, &lines, lookahead(para_ask, 1));
             }
             Side::Para => {
                 let ahead = Tick(tick_of(para_ask).0.saturating_add(stride));
@@ -221,7 +232,7 @@ fn both<H: Party, P: Rewinds>(
                     n,
                     &lines,
                     ahead,
-                    sure(host_ask, 0),
+                    lookahead(host_ask, 0),
                 );
                 stride = stride.saturating_add(stride / 4).min(FURTHEST);
             }
@@ -255,7 +266,8 @@ pub fn solo<H: Party, P: Rewinds>(
     requires para_plays { IsTrue (P.Party.plays Para) }
     requires host_open { H.moves.closed (H.state host) ≤ n.0 }
     requires para_open { P.Party.moves.closed (P.Party.state para) ≤ n.0 }
-    ensures played { IfOk result (λ d. IsPlayed (reference H.moves P.Party.moves (H.state host) (P.Party.state para) n.0) keep (H.state d.host) (P.Party.state d.para) d.chip d.host_list.items d.para_list.items d.host_count d.para_count) }
+    ensures played { let w = reference H.moves P.Party.moves (H.state host) (P.Party.state para) n.0 in
+        IfOk result (λ d. IsPlayed w keep (played_of H.state P.Party.state d)) }
     ensures back { IfErr result (λ b. (b.0 ≡ host) × (b.1 ≡ para)) }
 {
     let Ok(host_log) = Log::new(alloc, keep) else {

@@ -2,6 +2,7 @@
 ghost use Rattle.std.specs.Prelude.{◌≡◌, ◌≤◌, ℕ, Bool, Some};
 ghost use Rattle.beeb_bits.specs.declared.Side.{Side};
 ghost use Rattle.tube_party.specs.Moves.{Moves, IsLawful, IsPermitted, Advances, Sees, IsAskedFor};
+ghost use Rattle.tube_party.specs.Quiet.{IsQuiet};
 
 use beeb_bits::Tick;
 use tube_chip::{Answer, Lines, Op};
@@ -46,6 +47,14 @@ pub trait Party: Drop {
     /// The tick of the next step.
     fn due(&self) -> Tick
         ensures { result.0 ≡ moves.due (state self.now) };
+
+    /// A tick before which no step asks that is reached by steps that ask nothing, whatever is answered later. It is not below that of the next
+    /// step.
+    fn quiet(&self) -> Tick
+        ensures { IsQuiet moves (state self.now) result.0 }
+    {
+        self.due()
+    }
 
     /// Does the steps below `until` that ask nothing, up to the first that asks. After `Nothing` all steps below `until` are done, and the
     /// state is closed at `until`, or as far as it is closed already if that is further.

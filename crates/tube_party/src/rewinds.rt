@@ -1,6 +1,7 @@
 //! A party that can be taken back.
-ghost use Rattle.std.specs.Prelude.{◌≡◌, ◌≤◌, MatchOption};
-ghost use Rattle.tube_party.specs.Moves.{Goes};
+ghost use Rattle.std.specs.Prelude.{◌≡◌, ◌≤◌, MatchOption, Some};
+ghost use Rattle.tube_chip.specs.declared.Answer.TheVariants.{Byte};
+ghost use Rattle.tube_party.specs.Moves.{Goes, IsAtLook, IsAskedFor};
 
 use crate::party::{Ask, MOST, Party};
 use beeb_bits::Tick;
@@ -8,6 +9,9 @@ use std::alloc::{AllocError, Global};
 use tube_chip::Lines;
 
 /// A party that can go on from what is not sure yet, and be taken back to where it was.
+///
+/// One that cannot be taken back notes nothing: its `Past` is `()`, its `advance_noting` answers None, and it never
+/// goes ahead. `Forward` makes such a one of any party.
 pub trait Rewinds: Party {
     /// What it notes so that it can be taken back.
     type Past: Drop;
@@ -31,7 +35,43 @@ pub trait Rewinds: Party {
         past: &mut Self::Past,
     ) -> Option<Ask>
         requires { until.0 ≤ MOST }
-        ensures { MatchOption result (Self.state self.new ≡ Self.state self.old) (λ ask. Goes Self.moves until.0 lines.now sure.0 (Self.state self.old) ask (Self.state self.new) × (Self.state (before past.new self.new) ≡ Self.state self.old)) };
+        ensures { let old = Self.state self.old in
+            let new = Self.state self.new in
+            let mark = Self.state (before past.new self.new) in
+            MatchOption result (new ≡ old)
+            (λ ask. Goes Self.moves until.0 lines.now sure.0 old ask new × (mark ≡ old)) };
+
+    /// Goes on from the look at which a run that it notes left off, and notes that too, as if each look below tick `sure` saw these lines. What it
+    /// goes back to stays where it was. It may leave off at any look, this one too.
+    fn advance_on(&mut self, until: Tick, lines: &Lines, sure: Tick, past: &mut Self::Past) -> Ask
+        requires ticks { until.0 ≤ MOST }
+        requires look { IsAtLook Self.moves until.0 (Self.state self.old) }
+        ensures goes { Goes Self.moves until.0 lines.now sure.0 (Self.state self.old) result (Self.state self.new) }
+        ensures mark { Self.state (before past.new self.new) ≡ Self.state (before past.old self.old) }
+    {
+        Ask::Look(self.due())
+    }
+
+    /// Answers the read at which a run that it notes left off, and goes on from there and notes that too, as if each look below tick `sure` saw
+    /// these lines. What it goes back to stays where it was. It may leave off at any look. None, and it is where it was, if it cannot note that.
+    fn answer_on(
+        &mut self,
+        byte: u8,
+        until: Tick,
+        lines: &Lines,
+        sure: Tick,
+        past: &mut Self::Past,
+    ) -> Option<Ask>
+        requires ticks { until.0 ≤ MOST }
+        requires asked { IsAskedFor Self.moves until.0 (Self.state self.old) (Byte byte) }
+        ensures goes { let old = Self.state self.old in
+            let new = Self.state self.new in
+            MatchOption result (new ≡ old)
+            (λ ask. Goes Self.moves until.0 lines.now sure.0 (Self.moves.next old (Some (Byte byte))) ask new) }
+        ensures mark { Self.state (before past.new self.new) ≡ Self.state (before past.old self.old) }
+    {
+        None
+    }
 
     /// Goes back to where it was when it began to note.
     fn rewind(&mut self, past: &mut Self::Past)

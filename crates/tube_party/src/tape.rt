@@ -73,7 +73,8 @@ fn catch_up(chip: &mut Chip, trace: &[Entry], seen: usize, side: Side, tick: Tic
     requires entries { All IsEntry trace.now }
     ensures within { result ≤ length trace.now }
     ensures chip { chip.new ≡ chip_before side tick.0 chip.old (drop seen trace.now) }
-    ensures later { (t : ℕ) → tick.0 ≤ t → chip_before side t chip.old (drop seen trace.now) ≡ chip_before side t chip.new (drop result trace.now) }
+    ensures later { (t : ℕ) → tick.0 ≤ t →
+        chip_before side t chip.old (drop seen trace.now) ≡ chip_before side t chip.new (drop result trace.now) }
 {
     let mut at = seen;
     while at < trace.len() && before(trace[at].tick, trace[at].side, tick, side) {
@@ -118,7 +119,8 @@ pub(crate) fn lines_at(
     requires kept { lines.old ≡ lines_of chip.old }
     ensures within { result ≤ length trace.now }
     ensures chip { chip.new ≡ chip_before side tick.0 chip.old (drop seen trace.now) }
-    ensures later { (t : ℕ) → tick.0 ≤ t → chip_before side t chip.old (drop seen trace.now) ≡ chip_before side t chip.new (drop result trace.now) }
+    ensures later { (t : ℕ) → tick.0 ≤ t →
+        chip_before side t chip.old (drop seen trace.now) ≡ chip_before side t chip.new (drop result trace.now) }
     ensures lines { lines.new ≡ lines_of chip.new }
 {
     if seen < trace.len() && before(trace[seen].tick, trace[seen].side, tick, side) {

@@ -18,7 +18,7 @@ loop-side-smaller-in-Host g c =
     let e : first_of c.loop-side.host_ask c.loop-side.para_ask ≡ Some Host = sym c.first_of.ensures ∙ c.in-Some.is ∙ ap (λ x. Some x) c.in-Host.is in
     host_smaller g.H.Party.moves g.P.Party.moves g.met.H.Party.lawful g.met.P.Party.lawful _ _ _ _ _ _ _ _ _ _ _ _ _ _ _ _ _ _ _ _ _ _ _ _ _ _
     c.loop-side.invariant.way e (acts_keep c.loop-side.invariant.host_keep c.act.ensures.acts)
-    (settled_seeing c.loop-side.invariant.lines c.act.ensures.kept c.tick_of-at.ensures c.settle.ensures)
+    (settled_seeing c.loop-side.invariant.lines c.act.ensures.kept c.tick_of-at.ensures c.roll_back_if_wrong.ensures)
     (sees_seeing c.act.ensures.kept c.advance_seeing-host_ask.ensures)
 
 pub loop-side-preserved-in-Host : goal.loop-side-preserved-in-Host
@@ -27,8 +27,8 @@ loop-side-preserved-in-Host g c =
     record {
       way = host_goes g.H.Party.moves g.P.Party.moves g.met.H.Party.lawful g.met.P.Party.lawful _ _ _ _ _ _ _ _ _ _ _ _ _ _ _ _ _ _ _ _ _ _ _ _ _ _
           c.loop-side.invariant.way e (acts_keep c.loop-side.invariant.host_keep c.act.ensures.acts)
-          (settled_seeing c.loop-side.invariant.lines c.act.ensures.kept c.tick_of-at.ensures c.settle.ensures)
-          c.sure.ensures (sees_seeing c.act.ensures.kept c.advance_seeing-host_ask.ensures);
+          (settled_seeing c.loop-side.invariant.lines c.act.ensures.kept c.tick_of-at.ensures c.roll_back_if_wrong.ensures)
+          c.lookahead.ensures (sees_seeing c.act.ensures.kept c.advance_seeing-host_ask.ensures);
       lines = c.act.ensures.kept;
       host_keep = c.act.ensures.keep ∙ c.loop-side.invariant.host_keep;
       para_keep = c.loop-side.invariant.para_keep;
@@ -44,15 +44,15 @@ loop-side-smaller g c =
     let e : first_of c.loop-side.host_ask c.loop-side.para_ask ≡ Some Para = sym c.first_of.ensures ∙ c.in-Some.is ∙ ap (λ x. Some x) c.in-Para.is in
     para_smaller g.H.Party.moves g.P.Party.moves g.met.H.Party.lawful g.met.P.Party.lawful _ _ _ _ _ _ _ _ _ _ _ _ _ _ _ _ _ _ _ _ _ _ _ _
     c.loop-side.invariant.way e (acts_keep c.loop-side.invariant.para_keep c.act-in-Para.ensures.acts)
-    (gone_seeing _ _ _ _ _ _ _ _ c.act-in-Para.ensures.kept c.go_on.ensures)
+    (gone_seeing _ _ _ _ _ c.act-in-Para.ensures.kept c.go_on.ensures)
 
 pub loop-side-preserved : goal.loop-side-preserved
 loop-side-preserved g c =
     let e : first_of c.loop-side.host_ask c.loop-side.para_ask ≡ Some Para = sym c.first_of.ensures ∙ c.in-Some.is ∙ ap (λ x. Some x) c.in-Para.is in
     record {
       way = para_turn g.H.Party.moves g.P.Party.moves g.met.H.Party.lawful g.met.P.Party.lawful _ _ _ _ _ _ _ _ _ _ _ _ _ _ _ _ _ _ _ _ _ _ _ _
-          c.loop-side.invariant.way e (acts_keep c.loop-side.invariant.para_keep c.act-in-Para.ensures.acts) c.sure-in-Para.ensures
-          (gone_seeing _ _ _ _ _ _ _ _ c.act-in-Para.ensures.kept c.go_on.ensures);
+          c.loop-side.invariant.way e (acts_keep c.loop-side.invariant.para_keep c.act-in-Para.ensures.acts) c.lookahead-in-Para.ensures
+          (gone_seeing _ _ _ _ _ c.act-in-Para.ensures.kept c.go_on.ensures);
       lines = c.act-in-Para.ensures.kept;
       host_keep = c.loop-side.invariant.host_keep;
       para_keep = c.act-in-Para.ensures.keep ∙ c.loop-side.invariant.para_keep;

@@ -7,7 +7,10 @@ use Rattle.tube_party.proofs.one_thread.both.Given as goal
 
 abbrev pub invariant-loop-side : goal.invariant-loop-side
 invariant-loop-side g l = record {
-  way : IsGoing g.H.Party.moves g.P.Party.moves l.n.0 l.fn.host_log.keep (g.H.Party.state l.fn.host) (g.P.Party.state l.fn.para) l.is_ahead (g.H.Party.state l.host) (g.P.Party.state (g.P.Rewinds.before l.past l.para)) (g.P.Party.state l.para) l.chip l.host_ask l.para_ask l.host_log.list.items l.para_log.list.items l.host_log.count l.para_log.count;
+  way : IsGoing g.H.Party.moves g.P.Party.moves l.n.0 l.fn.host_log.keep (g.H.Party.state l.fn.host)
+      (g.P.Party.state l.fn.para) l.is_ahead (g.H.Party.state l.host) (g.P.Party.state (g.P.Rewinds.before l.past l.para))
+      (g.P.Party.state l.para) l.chip l.host_ask l.para_ask l.host_log.list.items l.para_log.list.items l.host_log.count
+      l.para_log.count;
   lines : l.lines ≡ lines_of l.chip;
   host_keep : l.host_log.keep ≡ l.fn.host_log.keep;
   para_keep : l.para_log.keep ≡ l.fn.host_log.keep;

@@ -1,5 +1,5 @@
 use Rattle.para_mach.proofs.Noted.{put_back_written}
-use Rattle.para_mach.proofs.notes.JournalNotes.note.Goals as goal
+use Rattle.para_mach.proofs.notes.UndoLogNotes.note.Goals as goal
 
 pub returns-clause-noted : goal.returns-clause-noted
 returns-clause-noted c =

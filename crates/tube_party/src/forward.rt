@@ -1,0 +1,75 @@
+//! A party that is never taken back.
+use crate::party::{Ask, Party};
+use crate::rewinds::Rewinds;
+use beeb_bits::Tick;
+use std::alloc::{AllocError, Global};
+use tube_chip::{Answer, Lines};
+
+/// A party that notes nothing: it goes no further than what is sure, and so need never be taken back. With it any two
+/// parties can be run beside each other.
+#[derive(Drop)]
+pub struct Forward<P> {
+    pub party: P,
+}
+
+impl<P: Party> Party for Forward<P> {
+    ghost State = { P.State };
+
+    ghost state = { λ f. P.state f.party };
+
+    ghost moves = { P.moves };
+
+    ghost plays = { P.plays };
+
+    ghost lawful = { P.lawful };
+
+    ghost permitted = { P.permitted };
+
+    #[inline(always)]
+    fn due(&self) -> Tick {
+        self.party.due()
+    }
+
+    #[inline(always)]
+    fn quiet(&self) -> Tick {
+        self.party.quiet()
+    }
+
+    #[inline(always)]
+    fn advance(&mut self, until: Tick) -> Ask {
+        self.party.advance(until)
+    }
+
+    #[inline(always)]
+    fn advance_seeing(&mut self, until: Tick, lines: &Lines, sure: Tick) -> Ask {
+        self.party.advance_seeing(until, lines, sure)
+    }
+
+    #[inline(always)]
+    fn answer(&mut self, answer: Answer) {
+        self.party.answer(answer)
+    }
+}
+
+impl<P: Party> Rewinds for Forward<P> {
+    type Past = ();
+
+    ghost before = { λ _ f. f };
+
+    fn past(_alloc: Global) -> Result<(), AllocError> {
+        Ok(())
+    }
+
+    #[inline(always)]
+    fn advance_noting(
+        &mut self,
+        _until: Tick,
+        _lines: &Lines,
+        _sure: Tick,
+        _past: &mut (),
+    ) -> Option<Ask> {
+        None
+    }
+
+    fn rewind(&mut self, _past: &mut ()) {}
+}
