@@ -1,137 +1,410 @@
 -- How the two lists and the words may grow.
-use Rattle.std.proofs.Common.{◌≡◌, ℕ, ◌+◌, ◌<◌, ◌≤◌, true, List, [], ◌∷◌, ◌++◌, All, refl, sym, ap, ◌∙◌, subst, arith, append_assoc, append-nil}
+use Rattle.std.proofs.Common.{◌≡◌, ◌⊎◌, ℕ, ◌+◌, ◌<◌, ◌≤◌, min, max, nat_lt, true, false, true≢false, cond, List, [], ◌∷◌, ◌++◌, All, refl, sym, ap, ◌∙◌, subst, inl, inr, ⊎_elim, arith, append_assoc, append-nil}
 use Rattle.std.specs.Prelude.{slice_index_or}
-use Rattle.std.proofs.lemmas.List.Elements.{All-push}
+use Rattle.std.proofs.lemmas.Bool.{cases_lt}
+use Rattle.std.proofs.lemmas.List.Elements.{All-nil, All-cons, All-head, All-tail, All-weaker, All-push}
 use Rattle.beeb_bits.specs.declared.Side.{Side}
 use Rattle.beeb_bits.specs.declared.Side.TheVariants.{Host, Para}
 use Rattle.tube_chip.specs.State.{State}
-use Rattle.tube_chip.specs.Events.{Event, after}
-use Rattle.tube_cell.specs.Views.{Known, flip, other, slack, Admits, horizon, past_last, is_access, done, Answers}
-use Rattle.tube_cell.specs.Rules.{Fine, merge_as, Good, Knows}
-use Rattle.tube_cell.specs.Steps.{Runs}
-use Rattle.tube_cell.proofs.Law.{gap, Precedes, joins, stays_legal, after-on, past_last-on}
+use Rattle.tube_chip.specs.Act.{Query}
+use Rattle.tube_chip.specs.Events.{Event, merge, after, IsLegal}
+use Rattle.tube_cell.specs.Views.{Known, own_bound, past_last, below, is_access, is_observation, done, Answers, same_readings, trust_past, trust_after}
+use Rattle.tube_cell.specs.Rules.{Climbs, HostFine, ParaFine, Good, Trusts, Knows}
+use Rattle.tube_cell.specs.Steps.{Runs, Watches}
+use Rattle.tube_cell.proofs.Observed.{observed_stays, ShowsSame, readings_from}
+use Rattle.tube_cell.proofs.Law.{gap, Precedes, Early, joins_para, legal_end, legal_placed, legal_cut, after-on, past_last-on, precedes_below, nat_lt-true, nat_lt-false, nat_lt-from_true, nat_lt-from_false, All-below, below_lies, below_append}
 
-gap_same : (s : Side) → gap s s ≡ 1
-unfolding gap
-gap_same Host = refl
-gap_same Para = refl
+-- ---- lists that climb
 
-gap_flip : (s : Side) → gap (flip s) s ≡ slack (flip s)
-unfolding gap
-gap_flip Host = refl
-gap_flip Para = refl
+climbs_end : (n : ℕ) (x : Event) (xs : List Event) → Climbs n (x ∷ xs) → x.tick + 1 ≤ past_last (x ∷ xs)
+climbs_end n x [] h = omega arith
+climbs_end n x (y ∷ ys) h = let f = h.1.0 in let l = climbs_end (x.tick + 1) y ys h.1 in omega arith
 
-slack_flip : (s : Side) → slack s + slack (flip s) ≡ 1
-slack_flip Host = refl
-slack_flip Para = refl
+pub climbs_last : (n : ℕ) (xs : List Event) → Climbs n xs → All (λ x. x.tick < past_last xs) xs
+climbs_last n [] h = All-nil (λ x. x.tick < 0)
+climbs_last n (x ∷ []) h = All-cons (λ y. y.tick < x.tick + 1) x [] (omega arith) (All-nil (λ y. y.tick < x.tick + 1))
+climbs_last n (x ∷ y ∷ ys) h =
+    let l = climbs_end n x (y ∷ ys) h in
+    All-cons (λ z. z.tick < past_last (y ∷ ys)) x (y ∷ ys) (omega arith) (climbs_last (x.tick + 1) (y ∷ ys) h.1)
 
-precedes : (s t : Side) (x e : Event) → x.side ≡ s → e.side ≡ t → x.tick + gap s t ≤ e.tick → Precedes e x
-precedes s t x e hx he h =
-    let n : gap x.side e.side ≡ gap s t = ap (λ (a : Side). gap a e.side) hx ∙ ap (gap s) he in
-    omega (arith, n, h)
+pub low_of : (t : ℕ) (xs : List Event) → Climbs 0 xs → past_last xs ≤ t → All (λ x. x.tick < t) xs
+low_of t xs h le = All-weaker (λ x. x.tick < past_last xs) (λ x. x.tick < t) (λ x l. omega arith) xs (climbs_last 0 xs h)
 
-mine_before : (s : Side) (m t : ℕ) (xs : List Event) (e : Event) → Fine s m t xs → e.side ≡ s → past_last xs ≤ e.tick → All (Precedes e) xs
-mine_before s m t xs e fine is late k d lt =
-    let last = fine.last k d lt in
-    precedes s s (slice_index_or xs k d) e (fine.sided k d lt) is (omega (arith, gap_same s))
+climbs_on : (n : ℕ) (xs : List Event) (e : Event) → Climbs n xs → n ≤ e.tick → past_last xs ≤ e.tick → Climbs n (xs ++ e ∷ [])
+climbs_on n [] e h le late = (le, tt)
+climbs_on n (x ∷ []) e h le late = (h.0, (omega arith, tt))
+climbs_on n (x ∷ y ∷ ys) e h le late =
+    let l = climbs_end n x (y ∷ ys) h in
+    (h.0, climbs_on (x.tick + 1) (y ∷ ys) e h.1 (omega arith) late)
 
-theirs_before : (s : Side) (w : ℕ) (ys : List Event) (e : Event) → All (λ y. y.side ≡ flip s) ys → All (λ y. Admits (flip s) w y.tick) ys → e.side ≡ s → w ≤ e.tick → All (Precedes e) ys
-theirs_before s w ys e sided admitted is late k d lt =
-    let a = admitted k d lt in
-    precedes (flip s) s (slice_index_or ys k d) e (sided k d lt) is (omega (arith, gap_flip s))
+climbs_below : (n t : ℕ) (xs : List Event) → Climbs n xs → Climbs n (below t xs)
+climbs_below n t [] h = tt
+climbs_below n t (x ∷ xs) h = elim (nat_lt x.tick t) as (λ b. Climbs n (cond b (x ∷ below t xs) [])) [
+  | true ↦ (h.0, climbs_below (x.tick + 1) t xs h.1)
+  | false ↦ tt
+]
 
-fine_event : (s : Side) (m t : ℕ) (xs : List Event) (e : Event) → Fine s m t xs → e.side ≡ s → past_last xs ≤ e.tick → (is_access e.query ≡ true → e.tick < m) → Admits s t e.tick → Fine s m t (xs ++ e ∷ [])
-fine_event s m t xs e fine is late below admitted =
-    let end = past_last-on xs e in
-    let P : Event → Type 0 = λ x. x.tick < past_last (xs ++ e ∷ []) in
+-- ---- the host's event
+
+after_end : (c : State) (k : Known) (host para list : List Event) (e : Event) → k.chip ≡ after (merge host para) → list ≡ merge host para ++ e ∷ [] → c ≡ done k.chip e → c ≡ after list
+after_end c k host para list e chip is now = now ∙ ap (λ (d : State). done d e) chip ∙ sym (after-on _ (merge host para) e) ∙ sym (ap after is)
+
+host_fine : (k : Known) (n : Known) (host : List Event) (e : Event) → HostFine k host → e.side ≡ Host → past_last host ≤ e.tick → k.host ≤ n.host → (is_access e.query ≡ true → e.tick < n.host) → e.tick ≤ own_bound Para n
+    → ((t : ℕ) → t ≤ e.tick → t ≤ own_bound Para k → t ≤ own_bound Para n) → HostFine n (host ++ e ∷ [])
+host_fine k n host e fine is late up low admitted keep =
+    let before = low_of e.tick host fine.climbs late in
     record {
-      sided = All-push (λ x. x.side ≡ s) xs e fine.sided is;
-      below = All-push (λ x. is_access x.query ≡ true → x.tick < m) xs e fine.below below;
-      admitted = All-push (λ x. Admits s t x.tick) xs e fine.admitted admitted;
-      last = All-push P xs e (λ k d lt. let h = fine.last k d lt in omega arith) (omega arith);
+      sided = All-push (λ x. x.side ≡ Host) host e fine.sided is;
+      below_own = All-push (λ x. is_access x.query ≡ true → x.tick < n.host) host e (λ i d lt a. let h = fine.below_own i d lt a in omega arith) low;
+      admitted = All-push (λ x. x.tick ≤ own_bound Para n) host e (λ i d lt. let b = before i d lt in keep _ (omega arith) (fine.admitted i d lt)) admitted;
+      climbs = climbs_on 0 host e fine.climbs (omega arith) late;
     }
 
-fine_raise : (s : Side) (m n t : ℕ) (xs : List Event) → m ≤ n → Fine s m t xs → Fine s n t xs
-fine_raise s m n t xs le fine = record {
+para_kept : (k n : Known) (para : List Event) → ParaFine k para → k.para ≤ n.para → k.host ≤ n.host → k.trust ≤ n.trust → ParaFine n para
+para_kept k n para fine up host_up trust_up = record {
   sided = fine.sided;
-  below = λ k d lt a. let h = fine.below k d lt a in omega arith;
-  admitted = fine.admitted;
-  last = fine.last;
+  below_own = λ i d lt a. let h = fine.below_own i d lt a in omega arith;
+  admitted = λ i d lt a. let h = fine.admitted i d lt a in omega arith;
+  changes = λ i d lt a. let h = fine.changes i d lt a in let p = h.0 in let q = h.1 in (omega arith, omega arith);
+  climbs = fine.climbs;
 }
 
-fine_other : (s : Side) (m t u : ℕ) (xs : List Event) → t ≤ u → Fine s m t xs → Fine s m u xs
-fine_other s m t u xs le fine = record {
-  sided = fine.sided;
-  below = fine.below;
-  admitted = λ k d lt. let h = fine.admitted k d lt in omega arith;
-  last = fine.last;
-}
-
--- an event after all events of both lists
-pub good_event : (s : Side) (w : ℕ) (c : State) (m t : ℕ) (mine theirs : List Event) (e : Event) → Good s c m t mine theirs
-    → All (λ y. Admits (flip s) w y.tick) theirs → e.side ≡ s → w ≤ e.tick → past_last mine ≤ e.tick → (is_access e.query ≡ true → e.tick < m) → Admits s t e.tick → Answers c e
-    → Good s (done c e) m t (mine ++ e ∷ []) theirs
-good_event s w c m t mine theirs e good early is from late below admitted answers =
-    let first = mine_before s m t mine e good.fine is late in
-    let second = theirs_before s w theirs e good.other_fine.sided early is from in
-    let same = joins s mine theirs e is first second in
+-- cut at the tick to which the trust is taken back
+para_cut : (k n : Known) (t : ℕ) (para : List Event) → ParaFine k para → k.para ≤ n.para → k.host ≤ n.host → t < n.host → n.trust ≡ min k.trust t → ParaFine n (below t para)
+para_cut k n t para fine up host_up lt trust =
+    let own = All-below (λ x. is_access x.query ≡ true → x.tick < own_bound Para k) t para fine.below_own in
+    let changes = All-below (λ x. is_observation x.query ≡ false → (x.tick < k.para) × (x.tick < k.host)) t para fine.changes in
+    let low = below_lies t para in
     record {
-      chip_is = ap (λ (d : State). done d e) good.chip_is ∙ sym (after-on _ (merge_as s mine theirs) e) ∙ sym (ap after same);
-      legal = stays_legal s mine theirs e is first second good.legal (subst (λ (d : State). Answers d e) good.chip_is answers);
-      fine = fine_event s m t mine e good.fine is late below admitted;
-      other_fine = good.other_fine;
+      sided = All-below (λ x. x.side ≡ Para) t para fine.sided;
+      below_own = λ i d lt' a. let h = own i d lt' a in let l = low i d lt' in omega arith;
+      admitted = λ i d lt' a. let l = low i d lt' in omega arith;
+      changes = λ i d lt' a. let h = changes i d lt' a in let p = h.0 in let q = h.1 in (omega arith, omega arith);
+      climbs = climbs_below 0 t para fine.climbs;
     }
 
-good_raise : (s : Side) (c : State) (m n t : ℕ) (mine theirs : List Event) → m ≤ n → Good s c m t mine theirs → Good s c n t mine theirs
-good_raise s c m n t mine theirs le good = record {
-  chip_is = good.chip_is;
+early_of : (k : Known) (t : ℕ) (para : List Event) → ParaFine k para → k.host ≤ t → All (Early t) para
+early_of k t para fine le i d lt a = let h = (fine.changes i d lt a).1 in omega arith
+
+-- these words once the host did an event, at this own word and trust
+abbrev pub host_next : Known → Event → ℕ → ℕ → Known
+host_next k e m trust = record { chip = done k.chip e; host = m; para = k.para; trust = trust }
+
+-- an event of the host that shows the parasite the same as before
+pub good_calm : (k : Known) (host para : List Event) (e : Event) (m : ℕ) → Good k host para → e.side ≡ Host → k.host ≤ e.tick → past_last host ≤ e.tick → e.tick ≤ own_bound Para k → Answers k.chip e → k.host ≤ m
+    → (is_access e.query ≡ true → e.tick < m) → ShowsSame k.chip (done k.chip e) → Good (host_next k e m k.trust) (host ++ e ∷ []) para
+good_calm k host para e m good is from late admitted answers up low same =
+    let r = legal_placed host para e is (low_of e.tick host good.host_fine.climbs late) good.para_fine.sided (early_of k e.tick para good.para_fine from) good.legal
+    (subst (λ (d : State). Answers d e) good.chip_is answers) (subst (λ (d : State). ShowsSame d (done d e)) good.chip_is same) in
+    record {
+      chip_is = ap (λ (d : State). done d e) good.chip_is ∙ sym r.1;
+      legal = r.0;
+      host_fine = host_fine k (host_next k e m k.trust) host e good.host_fine is late up low admitted (λ t le h. h);
+      para_fine = para_kept k (host_next k e m k.trust) para good.para_fine (omega arith) up (omega arith);
+    }
+
+-- one that may not: what is on trust from its tick on goes
+pub good_cut : (k : Known) (host para : List Event) (e : Event) (m : ℕ) → Good k host para → e.side ≡ Host → k.host ≤ e.tick → past_last host ≤ e.tick → e.tick ≤ own_bound Para k → Answers k.chip e → e.tick < m
+    → Good (host_next k e m (min k.trust e.tick)) (host ++ e ∷ []) (below e.tick para)
+good_cut k host para e m good is from late admitted answers low =
+    let n = host_next k e m (min k.trust e.tick) in
+    let r = legal_cut host para e (low_of e.tick host good.host_fine.climbs late) (early_of k e.tick para good.para_fine from) good.legal (subst (λ (d : State). Answers d e) good.chip_is answers) in
+    record {
+      chip_is = ap (λ (d : State). done d e) good.chip_is ∙ sym r.1;
+      legal = r.0;
+      host_fine = host_fine k n host e good.host_fine is late (omega arith) (λ a. low) (omega arith) (λ t le h. omega arith);
+      para_fine = para_cut k n e.tick para good.para_fine (omega arith) (omega arith) low refl;
+    }
+
+-- ---- the parasite's event
+
+gap_host_para : gap Host Para ≡ 0
+unfolding gap
+gap_host_para = refl
+
+host_before : (k : Known) (host : List Event) (e : Event) → HostFine k host → e.side ≡ Para → own_bound Para k ≤ e.tick → All (Precedes e) host
+host_before k host e fine is from i d lt =
+    let x = slice_index_or host i d in
+    let g : gap x.side e.side ≡ 0 = ap (λ (s : Side). gap s e.side) (fine.sided i d lt) ∙ ap (gap Host) is ∙ gap_host_para in
+    let a = fine.admitted i d lt in
+    omega (arith, g)
+
+para_before : (para : List Event) (e : Event) → Climbs 0 para → past_last para ≤ e.tick → All (Precedes e) para
+para_before para e climbs late = All-weaker (λ x. x.tick < e.tick) (Precedes e) (precedes_below e) para (low_of e.tick para climbs late)
+
+-- these words once the parasite did an event, at this own word and trust
+abbrev pub para_next : Known → Event → ℕ → ℕ → Known
+para_next k e m trust = record { chip = done k.chip e; host = k.host; para = m; trust = trust }
+
+pub good_para : (k : Known) (host para : List Event) (e : Event) (m a : ℕ) → Good k host para → e.side ≡ Para → own_bound Para k ≤ e.tick → past_last para ≤ e.tick → Answers k.chip e → k.para ≤ m → k.trust ≤ a
+    → (is_access e.query ≡ true → e.tick < max m a) → (is_access e.query ≡ true → e.tick < max k.host a) → (is_observation e.query ≡ false → (e.tick < m) × (e.tick < k.host))
+    → Good (para_next k e m a) host (para ++ e ∷ [])
+good_para k host para e m a good is from late answers up trust_up low admitted changes =
+    let first = host_before k host e good.host_fine is from in
+    let second = para_before para e good.para_fine.climbs late in
+    let joined = joins_para host para e first in
+    let fine = para_kept k (para_next k e m a) para good.para_fine up (omega arith) trust_up in
+    record {
+      chip_is = after_end (done k.chip e) k host para (merge host (para ++ e ∷ [])) e good.chip_is joined refl;
+      legal = subst IsLegal (sym joined) (legal_end host para e first second good.legal (subst (λ (d : State). Answers d e) good.chip_is answers));
+      host_fine = record {
+        sided = good.host_fine.sided;
+        below_own = good.host_fine.below_own;
+        admitted = λ i d lt. let h = good.host_fine.admitted i d lt in omega arith;
+        climbs = good.host_fine.climbs;
+      };
+      para_fine = record {
+        sided = All-push (λ x. x.side ≡ Para) para e fine.sided is;
+        below_own = All-push (λ x. is_access x.query ≡ true → x.tick < max m a) para e fine.below_own low;
+        admitted = All-push (λ x. is_access x.query ≡ true → x.tick < max k.host a) para e fine.admitted admitted;
+        changes = All-push (λ x. is_observation x.query ≡ false → (x.tick < m) × (x.tick < k.host)) para e fine.changes changes;
+        climbs = climbs_on 0 para e fine.climbs (omega arith) late;
+      };
+    }
+
+-- ---- words that rise
+
+pub good_raised : (k n : Known) (host para : List Event) → Good k host para → n.chip ≡ k.chip → k.host ≤ n.host → k.para ≤ n.para → k.trust ≤ n.trust → Good n host para
+good_raised k n host para good chip host_up para_up trust_up = record {
+  chip_is = chip ∙ good.chip_is;
   legal = good.legal;
-  fine = fine_raise s m n t mine le good.fine;
-  other_fine = fine_other (flip s) t m n theirs le good.other_fine;
+  host_fine = record {
+    sided = good.host_fine.sided;
+    below_own = λ i d lt a. let h = good.host_fine.below_own i d lt a in omega arith;
+    admitted = λ i d lt. let h = good.host_fine.admitted i d lt in omega arith;
+    climbs = good.host_fine.climbs;
+  };
+  para_fine = para_kept k n para good.para_fine para_up host_up trust_up;
 }
 
-pub runs_end : (s : Side) (t from : ℕ) (c : State) (es : List Event) (last : State) (end : ℕ) → Runs s t from c es last end → from ≤ end
-runs_end s t from c [] last end h = h.1
-runs_end s t from c (e ∷ es) last end h =
-    let r = runs_end s t (e.tick + 1) (done c e) es last end h.4 in
+-- ---- the host's events, one after another
+
+below_below : (t a : ℕ) (xs : List Event) → below t (below a xs) ≡ below (min a t) xs
+below_below t a [] = refl
+below_below t a (x ∷ xs) =
+    (elim (nat_lt x.tick a) as (λ b. nat_lt x.tick a ≡ b → below t (cond b (x ∷ below a xs) []) ≡ below (min a t) (x ∷ xs)) [
+      | true ↦ λ h.
+          let l = nat_lt-from_true x.tick a h in
+          (elim (nat_lt x.tick t) as (λ b. nat_lt x.tick t ≡ b → cond b (x ∷ below t (below a xs)) [] ≡ below (min a t) (x ∷ xs)) [
+            | true ↦ λ g.
+                let m = nat_lt-from_true x.tick t g in
+                rw (nat_lt-true x.tick (min a t) (omega arith)) (ap (λ l. x ∷ l) (below_below t a xs))
+            | false ↦ λ g.
+                let m = nat_lt-from_false x.tick t g in
+                rw (nat_lt-false x.tick (min a t) (omega arith)) refl
+          ]) refl
+      | false ↦ λ h.
+          let l = nat_lt-from_false x.tick a h in
+          rw (nat_lt-false x.tick (min a t) (omega arith)) refl
+    ]) refl
+
+-- What steps of the host do besides its own list: the parasite's list, and how the words go on.
+pub record HostStep (k n : Known) (host para list : List Event) : Type 0 where
+  pub rest : List Event
+  pub good : Good n list rest
+  pub para_word : n.para ≡ k.para
+  pub host_up : k.host ≤ n.host
+  pub trust : (n.trust ≡ k.trust) ⊎ ((k.host ≤ n.trust) × (n.trust < k.trust) × (n.trust < n.host))
+  pub keeps : (mine trusted : List Event) → All (λ e. e.tick < k.host) mine → para ≡ mine ++ below k.trust trusted → rest ≡ mine ++ below n.trust trusted
+
+taken_back : (h a t m : ℕ) → h ≤ t → t < m → (min a t ≡ a) ⊎ ((h ≤ min a t) × (min a t < a) × (min a t < m))
+taken_back h a t m le lt =
+    ⊎_elim (λ (b : t < a). inr (omega arith, omega arith, omega arith)) (λ (b : a ≤ t). inl (omega arith)) (cases_lt t a)
+
+host_event : (k : Known) (host para : List Event) (e : Event) → Good k host para → e.side ≡ Host → k.host ≤ e.tick → past_last host ≤ e.tick → e.tick ≤ own_bound Para k → Answers k.chip e
+    → HostStep k (host_next k e (e.tick + 1) (trust_past Host k.chip e k.trust)) host para (host ++ e ∷ [])
+host_event k host para e good is from late admitted answers =
+    (elim (same_readings k.chip (done k.chip e)) as (λ b. same_readings k.chip (done k.chip e) ≡ b
+    → HostStep k (host_next k e (e.tick + 1) (cond b k.trust (min k.trust e.tick))) host para (host ++ e ∷ [])) [
+      | true ↦ λ h. record {
+        rest = para;
+        good = good_calm k host para e (e.tick + 1) good is from late admitted answers (omega arith) (λ a. omega arith) (readings_from k.chip (done k.chip e) h);
+        para_word = refl;
+        host_up = omega arith;
+        trust = inl refl;
+        keeps = λ mine trusted low eq. eq;
+      }
+      | false ↦ λ h. record {
+        rest = below e.tick para;
+        good = good_cut k host para e (e.tick + 1) good is from late admitted answers (omega arith);
+        para_word = refl;
+        host_up = omega arith;
+        trust = taken_back k.host k.trust e.tick (e.tick + 1) from (omega arith);
+        keeps = λ mine trusted low eq.
+            ap (below e.tick) eq
+            ∙ below_append e.tick mine (below k.trust trusted) (All-weaker (λ x. x.tick < k.host) (λ x. x.tick < e.tick) (λ x l. omega arith) mine low)
+            ∙ ap (λ l. mine ++ l) (below_below e.tick k.trust trusted);
+      }
+    ]) refl
+
+host_then : (k m n : Known) (host para list more : List Event) (a : HostStep k m host para list) → HostStep m n list a.rest more → HostStep k n host para more
+host_then k m n host para list more a b = record {
+  rest = b.rest;
+  good = b.good;
+  para_word = b.para_word ∙ a.para_word;
+  host_up = let x = a.host_up in let y = b.host_up in omega arith;
+  trust = go a.trust b.trust a.host_up b.host_up;
+  keeps = λ mine trusted low eq.
+      b.keeps mine trusted (All-weaker (λ x. x.tick < k.host) (λ x. x.tick < m.host) (λ x l. let up = a.host_up in omega arith) mine low) (a.keeps mine trusted low eq);
+}
+  where
+    go : (m.trust ≡ k.trust) ⊎ ((k.host ≤ m.trust) × (m.trust < k.trust) × (m.trust < m.host)) → (n.trust ≡ m.trust) ⊎ ((m.host ≤ n.trust) × (n.trust < m.trust) × (n.trust < n.host)) → k.host ≤ m.host → m.host ≤ n.host
+        → (n.trust ≡ k.trust) ⊎ ((k.host ≤ n.trust) × (n.trust < k.trust) × (n.trust < n.host))
+    go (inl x) (inl y) p q = inl (y ∙ x)
+    go (inl x) (inr y) p q = let y0 = y.0 in let y1 = y.1 in inr (omega arith, omega arith, y.2)
+    go (inr x) (inl y) p q = let x0 = x.0 in let x1 = x.1 in let x2 = x.2 in inr (omega arith, omega arith, omega arith)
+    go (inr x) (inr y) p q = let x1 = x.1 in let y0 = y.0 in let y1 = y.1 in inr (omega arith, omega arith, y.2)
+
+-- these words after events of the host that run on to this chip and end
+abbrev pub host_last : Known → List Event → State → ℕ → Known
+host_last k es last end = record { chip = last; host = end; para = k.para; trust = trust_after Host k.chip k.trust es }
+
+pub host_runs : (es : List Event) (k : Known) (host para : List Event) (from : ℕ) (last : State) (end : ℕ) → Good k host para → k.host ≤ from → past_last host ≤ from → Runs Host k.para k.trust from k.chip es last end
+    → HostStep k (host_last k es last end) host para (host ++ es)
+host_runs [] k host para from last end good le late h =
+    let f = h.1 in
+    record {
+      rest = para;
+      good = subst (λ (l : List Event). Good (host_last k [] last end) l para) (sym (append-nil host)) (good_raised k (host_last k [] last end) host para good h.0 (omega arith) (omega arith) (omega arith));
+      para_word = refl;
+      host_up = omega arith;
+      trust = inl refl;
+      keeps = λ mine trusted low eq. eq;
+    }
+host_runs (e ∷ es) k host para from last end good le late h =
+    let f = h.1 in
+    let admitted = h.2 in
+    let m : Known = host_next k e (e.tick + 1) (trust_past Host k.chip e k.trust) in
+    let on = past_last-on host e in
+    let a = host_event k host para e good h.0 (omega arith) (omega arith) (omega arith) h.3 in
+    let b = host_runs es m (host ++ e ∷ []) a.rest (e.tick + 1) last end a.good (omega arith) (omega arith) h.4 in
+    subst (λ (l : List Event). HostStep k (host_last k (e ∷ es) last end) host para l) (append_assoc host (e ∷ []) es)
+    (host_then k m (host_last k (e ∷ es) last end) host para (host ++ e ∷ []) ((host ++ e ∷ []) ++ es) a b)
+
+-- where the words do not admit the host, there is no event
+pub host_idle : (o a from : ℕ) (c : State) (es : List Event) (last : State) (end : ℕ) → Runs Host o a from c es last end → max o a < from → last ≡ c
+host_idle o a from c [] last end h lt = h.0
+host_idle o a from c (e ∷ es) last end h lt = let f = h.1 in let b = h.2 in absurd (omega arith)
+
+pub trusts_fall : (x k : Known) → Trusts Para x k → k.trust ≤ x.trust
+trusts_fall x k t = ⊎_elim (λ (e : k.trust ≡ x.trust). omega arith) (λ (e : (x.host ≤ k.trust) × (k.trust < x.trust) × (k.trust < k.host)). let l = e.1 in omega arith) t
+
+-- what the parasite's pass knows, once the host took its steps
+pub para_knows : (k n x : Known) → Knows Para k x → n.para ≡ k.para → k.host ≤ n.host → (n.trust ≡ k.trust) ⊎ ((k.host ≤ n.trust) × (n.trust < k.trust) × (n.trust < n.host)) → (own_bound Para k < k.host → n.chip ≡ k.chip) → Knows Para n x
+para_knows k n x knows para up trust idle =
+    let o = knows.other_word in
+    let w = knows.own_word in
+    let fall = trusts_fall x k knows.trust in
+    record {
+      well = knows.well;
+      own_word = knows.own_word ∙ sym para;
+      other_word = omega arith;
+      trust = go knows.trust trust;
+      same_chip = λ a. knows.same_chip a ∙ sym (idle (omega arith));
+    }
+  where
+    go : Trusts Para x k → (n.trust ≡ k.trust) ⊎ ((k.host ≤ n.trust) × (n.trust < k.trust) × (n.trust < n.host)) → Trusts Para x n
+    go (inl e) (inl f) = inl (f ∙ e)
+    go (inl e) (inr f) = let o = knows.other_word in let f0 = f.0 in let f1 = f.1 in inr (omega arith, omega arith, f.2)
+    go (inr e) (inl f) = let e0 = e.0 in let e1 = e.1 in let e2 = e.2 in inr (omega arith, omega arith, omega arith)
+    go (inr e) (inr f) = let o = knows.other_word in let e1 = e.1 in let f0 = f.0 in let f1 = f.1 in inr (omega arith, omega arith, f.2)
+
+-- ---- the parasite's events, one after another
+
+pub trust_after_para : (c : State) (a : ℕ) (es : List Event) → trust_after Para c a es ≡ a
+trust_after_para c a [] = refl
+trust_after_para c a (e ∷ es) = trust_after_para (done c e) a es
+
+abbrev pub para_last : Known → State → ℕ → Known
+para_last k last end = record { chip = last; host = k.host; para = end; trust = k.trust }
+
+pub para_runs : (es : List Event) (k : Known) (host para : List Event) (from : ℕ) (last : State) (end : ℕ) → Good k host para → own_bound Para k ≤ from → past_last para ≤ from → Runs Para k.host k.trust from k.chip es last end
+    → Good (para_last k last end) host (para ++ es)
+para_runs [] k host para from last end good le late h =
+    let f = h.1 in
+    subst (λ (l : List Event). Good (para_last k last end) host l) (sym (append-nil para)) (good_raised k (para_last k last end) host para good h.0 (omega arith) (omega arith) (omega arith))
+para_runs (e ∷ es) k host para from last end good le late h =
+    let f = h.1 in
+    let admitted = h.2 in
+    let m : Known = para_next k e (e.tick + 1) k.trust in
+    let on = past_last-on para e in
+    let a = good_para k host para e (e.tick + 1) k.trust good h.0 (omega arith) (omega arith) h.3 (omega arith) (omega arith) (λ is. omega arith) (λ is. omega arith) (λ is. (omega arith, omega arith)) in
+    subst (λ (l : List Event). Good (para_last k last end) host l) (append_assoc para (e ∷ []) es)
+    (para_runs es m host (para ++ e ∷ []) (e.tick + 1) last end a (omega arith) (omega arith) h.4)
+
+pub para_low : (o a from : ℕ) (c : State) (es : List Event) (last : State) (end : ℕ) → Runs Para o a from c es last end → All (λ e. e.tick < o) es
+para_low o a from c [] last end h = All-nil (λ e. e.tick < o)
+para_low o a from c (e ∷ es) last end h = let b = h.2 in All-cons (λ x. x.tick < o) e es (omega arith) (para_low o a (e.tick + 1) (done c e) es last end h.4)
+
+pub para_idle : (o a from : ℕ) (c : State) (es : List Event) (last : State) (end : ℕ) → Runs Para o a from c es last end → o ≤ from → last ≡ c
+para_idle o a from c [] last end h le = h.0
+para_idle o a from c (e ∷ es) last end h le = let f = h.1 in let b = h.2 in absurd (omega arith)
+
+pub runs_end : (s : Side) (t a from : ℕ) (c : State) (es : List Event) (last : State) (end : ℕ) → Runs s t a from c es last end → from ≤ end
+runs_end s t a from c [] last end h = h.1
+runs_end s t a from c (e ∷ es) last end h =
+    let r = runs_end s t (trust_past s c e a) (e.tick + 1) (done c e) es last end h.4 in
     let f = h.1 in
     omega arith
 
-good_runs : (s : Side) (w t from : ℕ) (c : State) (es : List Event) (last : State) (end : ℕ) (mine theirs : List Event) → Runs s t from c es last end → Good s c end t mine theirs
-    → All (λ y. Admits (flip s) w y.tick) theirs → w ≤ from → past_last mine ≤ from → Good s last end t (mine ++ es) theirs
-good_runs s w t from c [] last end mine theirs h good early le late =
-    subst (λ (l : List Event). Good s last end t l theirs) (sym (append-nil mine)) (subst (λ (d : State). Good s d end t mine theirs) (sym h.0) good)
-good_runs s w t from c (e ∷ es) last end mine theirs h good early le late =
-    let r = runs_end s t (e.tick + 1) (done c e) es last end h.4 in
-    let f = h.1 in
-    let on = past_last-on mine e in
-    let next = good_event s w c end t mine theirs e good early h.0 (omega arith) (omega arith) (λ a. omega arith) h.2 h.3 in
-    subst (λ (l : List Event). Good s last end t l theirs) (append_assoc mine (e ∷ []) es)
-    (good_runs s w t (e.tick + 1) (done c e) es last end (mine ++ e ∷ []) theirs h.4 next early (omega arith) (omega arith))
+pub runs_low : (s : Side) (t a from : ℕ) (c : State) (es : List Event) (last : State) (end : ℕ) → Runs s t a from c es last end → All (λ e. e.tick < end) es
+runs_low s t a from c [] last end h = All-nil (λ e. e.tick < end)
+runs_low s t a from c (e ∷ es) last end h =
+    let r = runs_end s t (trust_past s c e a) (e.tick + 1) (done c e) es last end h.4 in
+    All-cons (λ x. x.tick < end) e es (omega arith) (runs_low s t (trust_past s c e a) (e.tick + 1) (done c e) es last end h.4)
 
--- events that run on from the own horizon join the list
-pub good_publish : (s : Side) (c : State) (m t : ℕ) (mine theirs es : List Event) (last : State) (end : ℕ) → Good s c m t mine theirs → Runs s t (horizon m mine) c es last end → Good s last end t (mine ++ es) theirs
-good_publish s c m t mine theirs es last end good runs =
-    let r = runs_end s t (horizon m mine) c es last end runs in
-    good_runs s m t (horizon m mine) c es last end mine theirs runs (good_raise s c m end t mine theirs (omega arith) good) good.other_fine.admitted (omega arith) (omega arith)
-
--- where the words that the other pass knows admit its own, nothing has changed the chip
-runs_same : (s : Side) (q t from : ℕ) (c : State) (es : List Event) (last : State) (end : ℕ) → Runs s t from c es last end → q ≤ from → Admits (flip s) q t → last ≡ c
-runs_same s q t from c [] last end h le a = h.0
-runs_same s q t from c (e ∷ es) last end h le a =
-    let f = h.1 in
-    let b = h.2 in
-    let n = slack_flip s in
-    absurd (omega arith)
-
-pub knows_publish : (s : Side) (c : State) (m t : ℕ) (mine es : List Event) (last : State) (end : ℕ) → Runs s t (horizon m mine) c es last end
-    → (known : Known) → Knows (flip s) c t m known → Knows (flip s) last t end known
-knows_publish s c m t mine es last end runs known knows =
-    let r = runs_end s t (horizon m mine) c es last end runs in
+-- what the host's pass knows, once the parasite took its steps
+pub host_knows : (k n x : Known) → Knows Host k x → n.host ≡ k.host → k.para ≤ n.para → k.trust ≤ n.trust → (k.host ≤ own_bound Para k → n.chip ≡ k.chip) → Knows Host n x
+host_knows k n x knows host para trust idle =
     let o = knows.other_word in
+    let w = knows.own_word in
+    let t = knows.trust in
     record {
       well = knows.well;
-      own_word = knows.own_word;
+      own_word = knows.own_word ∙ sym host;
       other_word = omega arith;
-      same_chip = λ a. knows.same_chip a ∙ sym (runs_same s (other (flip s) known) t (horizon m mine) c es last end runs (omega arith) a);
+      trust = omega arith;
+      same_chip = λ a. knows.same_chip a ∙ sym (idle (omega arith));
     }
+
+-- ---- observations on trust
+
+pub watches_low : (s : Side) (from : ℕ) (c : State) (es : List Event) (end : ℕ) → Watches s from c es end → All (λ e. e.tick < end) es
+watches_low s from c [] end h = All-nil (λ e. e.tick < end)
+watches_low s from c (e ∷ es) end h = All-cons (λ x. x.tick < end) e es h.3 (watches_low s (e.tick + 1) c es end h.5)
+
+-- the words with this trust
+abbrev pub trusting : Known → ℕ → Known
+trusting k t = record k { trust = t }
+
+no_change : (q : Query) → is_observation q ≡ true → is_observation q ≡ false → ⊥
+no_change q is not = true≢false (sym is ∙ not)
+
+pub watched : (es : List Event) (k : Known) (host para : List Event) (from end : ℕ) → Good k host para → own_bound Para k ≤ from → past_last para ≤ from → from ≤ end → Watches Para from k.chip es end
+    → Good (trusting k end) host (para ++ es)
+watched [] k host para from end good le late stop h =
+    subst (λ (l : List Event). Good (trusting k end) host l) (sym (append-nil para)) (good_raised k (trusting k end) host para good refl (omega arith) (omega arith) (omega arith))
+watched (e ∷ es) k host para from end good le late stop h =
+    let f = h.2 in
+    let l = h.3 in
+    let t = e.tick + 1 in
+    let on = past_last-on para e in
+    let first = good_para k host para e k.para t good h.0 (omega arith) (omega arith) h.4 (omega arith) (omega arith) (λ is. omega arith) (λ is. omega arith) (λ is. absurd (no_change e.query h.1 is)) in
+    let stays = observed_stays k.chip e.side e.query h.1 in
+    let good' : Good (trusting k t) host (para ++ e ∷ []) = subst (λ (c : State). Good (record k { chip = c; trust = t }) host (para ++ e ∷ [])) stays first in
+    subst (λ (l : List Event). Good (trusting k end) host l) (append_assoc para (e ∷ []) es) (watched es (trusting k t) host (para ++ e ∷ []) t end good' (omega arith) (omega arith) (omega arith) h.5)
+
+past_low : (t : ℕ) (xs : List Event) → All (λ x. x.tick < t) xs → past_last xs ≤ t
+past_low t [] all = omega arith
+past_low t (x ∷ []) all = let h = All-head (λ y. y.tick < t) x [] all in omega arith
+past_low t (x ∷ y ∷ ys) all = past_low t (y ∷ ys) (All-tail (λ z. z.tick < t) x (y ∷ ys) all)
+
+pub past_append : (t : ℕ) (xs ys : List Event) → All (λ y. y.tick < t) ys → past_last (xs ++ ys) ≤ max t (past_last xs)
+past_append t [] ys all = let h = past_low t ys all in omega arith
+past_append t (x ∷ []) [] all = omega arith
+past_append t (x ∷ []) (y ∷ ys) all = let h = past_low t (y ∷ ys) all in omega arith
+past_append t (x ∷ z ∷ xs) ys all = past_append t (z ∷ xs) ys all
+
+pub below_same : (t : ℕ) (xs : List Event) → All (λ x. x.tick < t) xs → below t xs ≡ xs
+below_same t [] all = refl
+below_same t (x ∷ xs) all = rw (nat_lt-true x.tick t (All-head (λ y. y.tick < t) x xs all)) (ap (λ l. x ∷ l) (below_same t xs (All-tail (λ y. y.tick < t) x xs all)))

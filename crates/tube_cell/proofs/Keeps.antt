@@ -1,10 +1,10 @@
 -- Each step on the cell keeps the rule.
-use Rattle.std.proofs.Common.{◌≡◌, ◌≢◌, ◌⊎◌, ℕ, ◌+◌, ◌<◌, ◌≤◌, zero, suc, Bool, true, false, true≢false, MatchBool, if◌then◌else◌, List, [], ◌∷◌, ◌++◌, length, set, drop, refl, sym, ap, ◌∙◌, subst, inl, inr, ⊎_elim, arith, nat_eq, nat_le}
+use Rattle.std.proofs.Common.{◌≡◌, ◌≢◌, ◌⊎◌, ℕ, ◌+◌, ◌<◌, ◌≤◌, zero, suc, Bool, true, false, true≢false, MatchBool, if◌then◌else◌, cond, List, [], ◌∷◌, ◌++◌, All, length, set, drop, refl, sym, ap, ◌∙◌, subst, inl, inr, ⊎_elim, arith, nat_eq, nat_le, append_assoc, append-nil, set-set}
 use Rattle.std.specs.Prelude.{slice_index, slice_set}
 use mathlib.Core.Option.{some, some-ne-none, some-injective}
 use lib.ListN.{get_elem?}
 use lib.Pointwise.{pointwise, bytes_decides}
-use Rattle.std.proofs.lemmas.List.Elements.{All-nil, All-cons}
+use Rattle.std.proofs.lemmas.List.Elements.{All-nil, All-cons, All-append, All-weaker}
 use Rattle.std.proofs.lemmas.Bool.Decides.{nat_tests}
 use Rattle.crossbeam_utils.specs.Register.{Turns, Forks, Merges}
 use Rattle.atomic_table.proofs.Lists.{at_set, set_again}
@@ -14,10 +14,12 @@ use Rattle.tube_chip.specs.State.{State, power_on}
 use Rattle.tube_chip.specs.Register.{empty}
 use Rattle.tube_chip.specs.Events.{Event, merge, after, IsLegal}
 use Rattle.tube_chip.specs.Packing.{packed, IsRegister, IsChip, PackingIsOneToOne}
-use Rattle.tube_cell.specs.Views.{Known, words_of, new_known, Role, undivided, one_side, rejoined, used, View, flip, own, other, pick, known_with, slack, Admits, admits, horizon}
-use Rattle.tube_cell.specs.Rules.{Fine, Good, Knows, FitsAs, Kept, whole, spent, host_part, para_part, joined, GoesOn, found_view, published_view, Finds, Publishes, look_at, looked_view, LooksAs, Looks, Ends}
-use Rattle.tube_cell.specs.Steps.{Runs, MayPublish, MayLook}
-use Rattle.tube_cell.proofs.Grows.{good_event, good_publish, knows_publish}
+use Rattle.tube_cell.specs.Views.{Known, words_of, new_known, Role, undivided, one_side, rejoined, used, View, flip, other, own_bound, other_bound, pick, known_with, slack, Admits, admits, horizon, past_last, AllBelow, below, trust_after}
+use Rattle.tube_cell.specs.Rules.{Good, Knows, FitsAs, Kept, whole, spent, host_part, para_part, joined, GoesOn, firm, pending, found_view, published_view, Finds, Publishes, entrusted_view, Entrusts, told_view, PublishesAndEntrusts, added_view, look_at, looked_view, LooksAs, Looks, Ends}
+use Rattle.tube_cell.specs.Steps.{Runs, Watches, MayPublish, MayLook, MayEntrust, MayPublishAndEntrust}
+use Rattle.tube_cell.proofs.Observed.{shows_itself}
+use Rattle.tube_cell.proofs.Law.{below_lies}
+use Rattle.tube_cell.proofs.Grows.{host_last, host_runs, host_idle, para_knows, para_last, para_runs, para_low, para_idle, runs_end, runs_low, trust_after_para, host_knows, trusts_fall, good_calm, good_para, trusting, watched, watches_low, past_append, below_same}
 
 nat_le-true : (m n : ℕ) → nat_le m n ≡ true → m ≤ n
 nat_le-true m n e = grind (arith, nat_tests)
@@ -28,24 +30,25 @@ packed_long : (c : State) → length (packed c) ≡ 6
 unfolding packed
 packed_long c = refl
 
--- two words after a list
-split_words : (xs ys : List ℕ) (a b c d : ℕ) → length xs ≡ length ys → xs ++ a ∷ b ∷ [] ≡ ys ++ c ∷ d ∷ [] → (xs ≡ ys) × (a ≡ c) × (b ≡ d)
-split_words [] [] a b c d same e = (refl, ap (λ l. slice_index l 0) e, ap (λ l. slice_index l 1) e)
-split_words [] (y ∷ ys) a b c d same e = absurd (omega arith)
-split_words (x ∷ xs) [] a b c d same e = absurd (omega arith)
-split_words (x ∷ xs) (y ∷ ys) a b c d same e =
-    let r = split_words xs ys a b c d (omega arith) (ap (drop 1) e) in
-    (λ i. slice_index (e i) 0 ∷ r.0 i, r.1, r.2)
+-- three words after a list
+split_words : (xs ys : List ℕ) (a b c d e f : ℕ) → length xs ≡ length ys → xs ++ a ∷ b ∷ c ∷ [] ≡ ys ++ d ∷ e ∷ f ∷ [] → (xs ≡ ys) × (a ≡ d) × (b ≡ e) × (c ≡ f)
+split_words [] [] a b c d e f same eq = (refl, ap (λ l. slice_index l 0) eq, ap (λ l. slice_index l 1) eq, ap (λ l. slice_index l 2) eq)
+split_words [] (y ∷ ys) a b c d e f same eq = absurd (omega arith)
+split_words (x ∷ xs) [] a b c d e f same eq = absurd (omega arith)
+split_words (x ∷ xs) (y ∷ ys) a b c d e f same eq =
+    let r = split_words xs ys a b c d e f (omega arith) (ap (drop 1) eq) in
+    (λ i. slice_index (eq i) 0 ∷ r.0 i, r.1, r.2, r.3)
 
 -- the words tell what they stand for
 pub words-one : PackingIsOneToOne → (k l : Known) → IsChip k.chip → IsChip l.chip → words_of k ≡ words_of l → k ≡ l
 words-one one k l well well' e =
-    let r = split_words (packed k.chip) (packed l.chip) k.host k.para l.host l.para (packed_long k.chip ∙ sym (packed_long l.chip)) e in
+    let r = split_words (packed k.chip) (packed l.chip) k.host k.para k.trust l.host l.para l.trust (packed_long k.chip ∙ sym (packed_long l.chip)) e in
     let c = one k.chip l.chip well well' r.0 in
     λ i. record {
       chip = c i;
       host = r.1 i;
       para = r.2 i;
+      trust = r.3 i;
     }
 
 -- the chip at power-on is one
@@ -64,28 +67,27 @@ new-well =
     none : (room : ℕ) → IsRegister room (empty 0)
     none room = one_byte room 0 (omega arith)
 
--- as the rule sees it from a side
-pub good_of : (s : Side) (words : List ℕ) (views : List View) (k : Kept words views) → Good s k.known.chip (own s k.known) (other s k.known) (pick s k.host k.para) (pick s k.para k.host)
-good_of Host words views k = k.good
-good_of Para words views k = record { chip_is = k.good.chip_is; legal = k.good.legal; fine = k.good.other_fine; other_fine = k.good.fine }
+-- ---- what a pass fits
 
-mine_of : (s : Side) (words : List ℕ) (views : List View) (k : Kept words views) (j : ℕ) (v : View) → get_elem? views j ≡ some v → v.role ≡ one_side s
-    → (j ≡ pick s k.host_seat k.para_seat) × (v.mine ≡ pick s k.host k.para) × Knows s k.known.chip (own s k.known) (other s k.known) v.known
-mine_of s words views k j v at role = subst (λ (r : Role). FitsAs k.known k.host k.para k.host_seat k.para_seat r j v) role (k.each j v at)
+-- a step of one side leaves the fit of every other pass, but may change that of the other side's
+others : (s : Side) (k n : Known) (a b a' b' : List Event) (hs ps : ℕ) (j : ℕ) (u : View) → j ≢ pick s hs ps
+    → (FitsAs k a b hs ps (one_side (flip s)) j u → FitsAs n a' b' hs ps (one_side (flip s)) j u)
+    → (r : Role) → FitsAs k a b hs ps r j u → FitsAs n a' b' hs ps r j u
+others s k n a b a' b' hs ps j u apart keep used f = tt
+others Host k n a b a' b' hs ps j u apart keep undivided f = absurd (apart f.0)
+others Para k n a b a' b' hs ps j u apart keep undivided f = absurd (apart f.1)
+others Host k n a b a' b' hs ps j u apart keep rejoined f = absurd (apart f.0)
+others Para k n a b a' b' hs ps j u apart keep rejoined f = absurd (apart f.1)
+others Host k n a b a' b' hs ps j u apart keep (one_side Host) f = absurd (apart f.0)
+others Host k n a b a' b' hs ps j u apart keep (one_side Para) f = keep f
+others Para k n a b a' b' hs ps j u apart keep (one_side Host) f = keep f
+others Para k n a b a' b' hs ps j u apart keep (one_side Para) f = absurd (apart f.0)
 
--- a step of one side leaves the fit of every other pass
-others : (s : Side) (k k' : Known) (a b a' b' : List Event) (hs ps : ℕ) (j : ℕ) (u : View) → j ≢ pick s hs ps → pick (flip s) a b ≡ pick (flip s) a' b'
-    → ((x : Known) → Knows (flip s) k.chip (own (flip s) k) (other (flip s) k) x → Knows (flip s) k'.chip (own (flip s) k') (other (flip s) k') x)
-    → (r : Role) → FitsAs k a b hs ps r j u → FitsAs k' a' b' hs ps r j u
-others s k k' a b a' b' hs ps j u apart same know used f = tt
-others Host k k' a b a' b' hs ps j u apart same know undivided f = absurd (apart f.0)
-others Para k k' a b a' b' hs ps j u apart same know undivided f = absurd (apart f.1)
-others Host k k' a b a' b' hs ps j u apart same know rejoined f = absurd (apart f.0)
-others Para k k' a b a' b' hs ps j u apart same know rejoined f = absurd (apart f.1)
-others Host k k' a b a' b' hs ps j u apart same know (one_side Host) f = absurd (apart f.0)
-others Host k k' a b a' b' hs ps j u apart same know (one_side Para) f = (f.0, f.1 ∙ same, know u.known f.2)
-others Para k k' a b a' b' hs ps j u apart same know (one_side Host) f = (f.0, f.1 ∙ same, know u.known f.2)
-others Para k k' a b a' b' hs ps j u apart same know (one_side Para) f = absurd (apart f.0)
+-- the view that a pass was set to
+at_again : (views : List View) (pass : ℕ) (v u : View) → get_elem? views pass ≡ some v → get_elem? (set views pass u) pass ≡ some u
+at_again [] pass v u at = absurd (some-ne-none v (sym at))
+at_again (x ∷ xs) zero v u at = refl
+at_again (x ∷ xs) (suc pass) v u at = at_again xs pass v u at
 
 -- what each pass fits after one pass's view became w
 module _ (k : Known) (a b : List Event) (hs ps : ℕ) where
@@ -100,66 +102,79 @@ module _ (k : Known) (a b : List Event) (hs ps : ℕ) where
       (λ (x : (j ≢ pass) × (get_elem? views j ≡ some u)). rest j u x.0 x.1)
       (at_set views pass j w u e)
 
--- the pass of a side takes a step to this chip, this own word and this list
-kept_step : (s : Side) (words next : List ℕ) (views : List View) (k : Kept words views) (pass : ℕ) (v w : View) (c : State) (m : ℕ) (mine : List Event)
-    → get_elem? views pass ≡ some v → v.role ≡ one_side s
-    → next ≡ words_of (known_with s c m (other s k.known)) → IsChip c → Good s c m (other s k.known) mine (pick s k.para k.host)
-    → ((x : Known) → Knows (flip s) k.known.chip (other s k.known) (own s k.known) x → Knows (flip s) c (other s k.known) m x)
-    → w.role ≡ one_side s → w.mine ≡ mine → Knows s c m (other s k.known) w.known
+fit_of : (s : Side) (words : List ℕ) (views : List View) (k : Kept words views) (j : ℕ) (v : View) → get_elem? views j ≡ some v → v.role ≡ one_side s → FitsAs k.known k.host k.para k.host_seat k.para_seat (one_side s) j v
+fit_of s words views k j v at role = subst (λ (r : Role). FitsAs k.known k.host k.para k.host_seat k.para_seat r j v) role (k.each j v at)
+
+seat_of : (s : Side) (k : Known) (a b : List Event) (hs ps : ℕ) (j : ℕ) (u : View) → FitsAs k a b hs ps (one_side s) j u → j ≡ pick s hs ps
+seat_of Host k a b hs ps j u f = f.0
+seat_of Para k a b hs ps j u f = f.0
+
+knows_of : (s : Side) (k : Known) (a b : List Event) (hs ps : ℕ) (j : ℕ) (u : View) → FitsAs k a b hs ps (one_side s) j u → Knows s k u.known
+knows_of Host k a b hs ps j u f = f.3
+knows_of Para k a b hs ps j u f = f.3
+
+-- the pass of a side takes a step to these words and lists
+kept_step : (s : Side) (words next : List ℕ) (views : List View) (k : Kept words views) (pass : ℕ) (v w : View) (n : Known) (a b : List Event)
+    → get_elem? views pass ≡ some v → v.role ≡ one_side s → next ≡ words_of n → IsChip n.chip → Good n a b
+    → ((j : ℕ) (u : View) → FitsAs k.known k.host k.para k.host_seat k.para_seat (one_side (flip s)) j u → FitsAs n a b k.host_seat k.para_seat (one_side (flip s)) j u)
+    → w.role ≡ one_side s → FitsAs n a b k.host_seat k.para_seat (one_side s) pass w
     → Kept next (set views pass w)
-kept_step Host words next views k pass v w c m mine at role words_are well good know role' mine' knows =
-    let now : Known = record { chip = c; host = m; para = k.known.para } in
-    let seat = (mine_of Host words views k pass v at role).0 in
+kept_step s words next views k pass v w n a b at role words_are well good keep role' fits =
+    let seat = seat_of s k.known k.host k.para k.host_seat k.para_seat pass v (fit_of s words views k pass v at role) in
     record {
-      known = now;
-      host = mine;
-      para = k.para;
+      known = n;
+      host = a;
+      para = b;
       host_seat = k.host_seat;
       para_seat = k.para_seat;
       words_are = words_are;
       well = well;
       good = good;
-      each = after_set now mine k.para k.host_seat k.para_seat views pass w
-          (λ j u apart e. others Host k.known now k.host k.para mine k.para k.host_seat k.para_seat j u (λ same. apart (same ∙ sym seat)) refl know u.role (k.each j u e))
-          (subst (λ (r : Role). FitsAs now mine k.para k.host_seat k.para_seat r pass w) (sym role') (seat, mine', knows));
-    }
-kept_step Para words next views k pass v w c m mine at role words_are well good know role' mine' knows =
-    let now : Known = record { chip = c; host = k.known.host; para = m } in
-    let seat = (mine_of Para words views k pass v at role).0 in
-    record {
-      known = now;
-      host = k.host;
-      para = mine;
-      host_seat = k.host_seat;
-      para_seat = k.para_seat;
-      words_are = words_are;
-      well = well;
-      good = record { chip_is = good.chip_is; legal = good.legal; fine = good.other_fine; other_fine = good.fine };
-      each = after_set now k.host mine k.host_seat k.para_seat views pass w
-          (λ j u apart e. others Para k.known now k.host k.para k.host mine k.host_seat k.para_seat j u (λ same. apart (same ∙ sym seat)) refl know u.role (k.each j u e))
-          (subst (λ (r : Role). FitsAs now k.host mine k.host_seat k.para_seat r pass w) (sym role') (seat, mine', knows));
+      each = after_set n a b k.host_seat k.para_seat views pass w
+          (λ j u apart e. others s k.known n k.host k.para a b k.host_seat k.para_seat j u (λ same. apart (same ∙ sym seat)) (keep j u) u.role (k.each j u e))
+          (subst (λ (r : Role). FitsAs n a b k.host_seat k.para_seat r pass w) (sym role') fits);
     }
 
-same_known : (s : Side) (k : Known) → known_with s k.chip (own s k) (other s k) ≡ k
-same_known Host k = refl
-same_known Para k = refl
+-- ---- the words are found
 
 -- a pass that knows the words as they are
-knows_all : (s : Side) (k : Known) → IsChip k.chip → Knows s k.chip (own s k) (other s k) k
-knows_all s k well = record { well = well; own_word = refl; other_word = omega arith; same_chip = λ a. refl }
+knows_all : (s : Side) (k : Known) → IsChip k.chip → Knows s k k
+knows_all Host k well = record { well = well; own_word = refl; other_word = omega arith; trust = omega arith; same_chip = λ a. refl }
+knows_all Para k well = record { well = well; own_word = refl; other_word = omega arith; trust = inl refl; same_chip = λ a. refl }
 
-goes_on : (s : Side) (k v : Known) → Knows s k.chip (own s k) (other s k) v → GoesOn (one_side s) v k
-goes_on s k v knows = (sym knows.own_word, knows.other_word, λ a. knows.same_chip (subst (Admits s (other s v)) knows.own_word a))
+goes_on : (s : Side) (k v : Known) → Knows s k v → GoesOn (one_side s) v k
+goes_on s k v knows = (sym knows.own_word, knows.other_word, knows.trust, knows.same_chip)
+
+settles : (k : Known) (mine trusted : List Event) → mine ++ below k.trust trusted ≡ (mine ++ firm k trusted) ++ below k.trust (pending k trusted)
+settles k mine [] = sym (append-nil (mine ++ []))
+settles k mine (e ∷ es) = elim (nat_le k.trust k.host) as (λ b. mine ++ below k.trust (e ∷ es) ≡ (mine ++ cond b (below k.trust (e ∷ es)) []) ++ below k.trust (cond b [] (e ∷ es))) [
+  | true ↦ sym (append-nil (mine ++ below k.trust (e ∷ es)))
+  | false ↦ ap (λ l. l ++ below k.trust (e ∷ es)) (sym (append-nil mine))
+]
+
+pub firm_low : (k : Known) (trusted : List Event) → All (λ e. e.tick < k.host) (firm k trusted)
+firm_low k [] = All-nil (λ e. e.tick < k.host)
+firm_low k (x ∷ xs) =
+    (elim (nat_le k.trust k.host) as (λ b. nat_le k.trust k.host ≡ b → All (λ e. e.tick < k.host) (cond b (below k.trust (x ∷ xs)) [])) [
+      | true ↦ λ h.
+          let le = nat_le-true k.trust k.host h in
+          All-weaker (λ e. e.tick < k.trust) (λ e. e.tick < k.host) (λ e l. omega arith) (below k.trust (x ∷ xs)) (below_lies k.trust (x ∷ xs))
+      | false ↦ λ h. All-nil (λ e. e.tick < k.host)
+    ]) refl
+
+fits_found : (s : Side) (k : Known) (a b : List Event) (hs ps : ℕ) (j : ℕ) (v : View) → IsChip k.chip → FitsAs k a b hs ps (one_side s) j v → FitsAs k a b hs ps (one_side s) j (found_view v k)
+fits_found Host k a b hs ps j v well f = (f.0, ap (λ l. v.mine ++ firm k l) f.2 ∙ append-nil v.mine ∙ f.1, ap (pending k) f.2, knows_all Host k well)
+fits_found Para k a b hs ps j v well f =
+    (f.0, f.1 ∙ settles k v.mine v.trusted, All-append (λ e. e.tick < k.host) v.mine (firm k v.trusted) f.2 (firm_low k v.trusted), knows_all Para k well)
 
 -- a step that changes no word and no list
 kept_found : (s : Side) (words : List ℕ) (views : List View) (k : Kept words views) (pass : ℕ) (v : View) → get_elem? views pass ≡ some v → v.role ≡ one_side s
     → Kept words (set views pass (found_view v k.known)) × Finds v words words (found_view v k.known)
 kept_found s words views k pass v at role =
-    let mine = mine_of s words views k pass v at role in
-    let good : Good s k.known.chip (own s k.known) (other s k.known) v.mine (pick s k.para k.host) = subst (λ (l : List Event). Good s k.known.chip (own s k.known) (other s k.known) l (pick s k.para k.host)) (sym mine.1) (good_of s words views k) in (
-      kept_step s words words views k pass v (found_view v k.known) k.known.chip (own s k.known) v.mine at role
-          (k.words_are ∙ ap words_of (sym (same_known s k.known))) k.well good (λ x know. know) role refl (knows_all s k.known k.well),
-      (k.well, k.words_are, refl, subst (λ (r : Role). GoesOn r v.known k.known) (sym role) (goes_on s k.known v.known mine.2)),
+    let fit = fit_of s words views k pass v at role in (
+      kept_step s words words views k pass v (found_view v k.known) k.known k.host k.para at role k.words_are k.well k.good (λ j u f. f) role
+          (fits_found s k.known k.host k.para k.host_seat k.para_seat pass v k.well fit),
+      (k.well, k.words_are, refl, subst (λ (r : Role). GoesOn r v.known k.known) (sym role) (goes_on s k.known v.known (knows_of s k.known k.host k.para k.host_seat k.para_seat pass v fit))),
     )
 
 pub learns : (s : Side) (pass : ℕ) (v : View) → v.role ≡ one_side s → Turns Kept pass v (λ x. x) Finds
@@ -167,83 +182,212 @@ learns s pass v role words views k at =
     let f = kept_found s words views k pass v at role in
     (found_view v k.known, f.0, f.1)
 
--- the exchange where the words are those known
-publish_hit : PackingIsOneToOne → (s : Side) (pass : ℕ) (v : View) (es : List Event) (last : State) (end : ℕ) (next : Known) → MayPublish s es last end v → IsChip last → next ≡ known_with s last end (other s v.known)
-    → (words : List ℕ) (views : List View) (k : Kept words views) → get_elem? views pass ≡ some v → words ≡ words_of v.known
-    → Kept (words_of next) (set views pass (published_view v es next))
-publish_hit one s pass v es last end next may well with_is words views k at is =
-    let mine = mine_of s words views k pass v at may.role in
-    let same : k.known ≡ v.known = words-one one k.known v.known k.well mine.2.well (sym k.words_are ∙ is) in
-    let t = other s k.known in
-    let m = own s k.known in
-    let good : Good s k.known.chip m t v.mine (pick s k.para k.host) = subst (λ (l : List Event). Good s k.known.chip m t l (pick s k.para k.host)) (sym mine.1) (good_of s words views k) in
-    let runs : Runs s t (horizon m v.mine) k.known.chip es last end = subst (λ (x : Known). Runs s (other s x) (horizon (own s x) v.mine) x.chip es last end) (sym same) may.runs in
-    let next_is : next ≡ known_with s last end t = with_is ∙ ap (λ x. known_with s last end (other s x)) (sym same) in
-    let w : View = published_view v es next in
-    kept_step s words (words_of next) views k pass v w last end (v.mine ++ es) at may.role
-    (ap words_of next_is)
-    well
-    (good_publish s k.known.chip m t v.mine (pick s k.para k.host) es last end good runs)
-    (knows_publish s k.known.chip m t v.mine es last end runs)
-    may.role
-    refl
-    (subst (Knows s last end t) (sym next_is) (knows_with s last end t well))
-  where
-    knows_with : (s : Side) (c : State) (m t : ℕ) → IsChip c → Knows s c m t (known_with s c m t)
-    knows_with Host c m t well = record { well = well; own_word = refl; other_word = omega arith; same_chip = λ a. refl }
-    knows_with Para c m t well = record { well = well; own_word = refl; other_word = omega arith; same_chip = λ a. refl }
+-- ---- exchanges
 
-pub publishes : PackingIsOneToOne → (s : Side) (pass : ℕ) (v : View) (es : List Event) (last : State) (end : ℕ) (next : Known) → MayPublish s es last end v → IsChip last → next ≡ known_with s last end (other s v.known)
-    → Turns Kept pass v (λ x. if pointwise nat_eq x (words_of v.known) then words_of next else x) (Publishes es next)
-publishes one s pass v es last end next may well with_is words views k at = go (pointwise nat_eq words (words_of v.known)) refl
+-- an exchange after which the view is this one where the words were those known
+exchanges : (s : Side) (pass : ℕ) (v goal : View) (next : List ℕ) → v.role ≡ one_side s
+    → ((words : List ℕ) (views : List View) (k : Kept words views) → get_elem? views pass ≡ some v → words ≡ words_of v.known → Kept next (set views pass goal))
+    → Turns Kept pass v (λ x. if pointwise nat_eq x (words_of v.known) then next else x) (λ v x y w. (x ≡ words_of v.known → w ≡ goal) × (x ≢ words_of v.known → Finds v x y w))
+exchanges s pass v goal next role hit words views k at = go (pointwise nat_eq words (words_of v.known)) refl
   where
     go : (b : Bool) → pointwise nat_eq words (words_of v.known) ≡ b
-        → (w : View) × Kept (if b then words_of next else words) (slice_set views pass w) × Publishes es next v words (if b then words_of next else words) w
+        → (w : View) × Kept (if b then next else words) (slice_set views pass w) × ((words ≡ words_of v.known → w ≡ goal) × (words ≢ words_of v.known → Finds v words (if b then next else words) w))
     go true e =
-        let is : words ≡ words_of v.known = (bytes_decides words (words_of v.known)).0 e in (
-          published_view v es next,
-          publish_hit one s pass v es last end next may well with_is words views k at is,
-          ((λ _. refl), (λ not. absurd (not is))),
-        )
+        let is : words ≡ words_of v.known = (bytes_decides words (words_of v.known)).0 e in
+        (goal, hit words views k at is, ((λ _. refl), (λ not. absurd (not is))))
     go false e =
-        let f = kept_found s words views k pass v at may.role in (
-          found_view v k.known,
-          f.0,
-          ((λ is. absurd (true≢false (sym ((bytes_decides words (words_of v.known)).1 is) ∙ e))), (λ _. f.1)),
-        )
+        let f = kept_found s words views k pass v at role in
+        (found_view v k.known, f.0, ((λ is. absurd (true≢false (sym ((bytes_decides words (words_of v.known)).1 is) ∙ e))), (λ _. f.1)))
+
+knows_with : (s : Side) (n x : Known) → IsChip n.chip → x ≡ n → Knows s n x
+knows_with s n x well is = subst (Knows s n) (sym is) (knows_all s n well)
+
+-- where the words are those known, the pass knows the words as they are
+known_is : PackingIsOneToOne → (s : Side) (words : List ℕ) (views : List View) (k : Kept words views) (pass : ℕ) (v : View) → get_elem? views pass ≡ some v → v.role ≡ one_side s → words ≡ words_of v.known → v.known ≡ k.known
+known_is one s words views k pass v at role is =
+    let fit = fit_of s words views k pass v at role in
+    words-one one v.known k.known (knows_of s k.known k.host k.para k.host_seat k.para_seat pass v fit).well k.well (sym is ∙ k.words_are)
+
+host_publishes : PackingIsOneToOne → (pass : ℕ) (v : View) (es : List Event) (last : State) (end : ℕ) (next : Known) → MayPublish Host es last end v → IsChip last
+    → next ≡ known_with Host last end (other Host v.known) (trust_after Host v.known.chip v.known.trust es)
+    → (words : List ℕ) (views : List View) (k : Kept words views) → get_elem? views pass ≡ some v → words ≡ words_of v.known
+    → Kept (words_of next) (set views pass (published_view v es next))
+host_publishes one pass v es last end next may well with_is words views k at is =
+    let fit = fit_of Host words views k pass v at may.role in
+    let same : v.known ≡ k.known = known_is one Host words views k pass v at may.role is in
+    let n : Known = host_last k.known es last end in
+    let runs : Runs Host k.known.para k.known.trust (horizon k.known.host k.host) k.known.chip es last end =
+    subst (λ (y : Known × List Event). Runs Host y.0.para y.0.trust (horizon y.0.host y.1) y.0.chip es last end) (λ i. (same i, fit.1 i)) may.runs in
+    let next_is : next ≡ n = with_is ∙ ap (λ (x : Known). host_last x es last end) same in
+    let r = runs_end Host k.known.para k.known.trust (horizon k.known.host k.host) k.known.chip es last end runs in
+    let step = host_runs es k.known k.host k.para (horizon k.known.host k.host) last end k.good (omega arith) (omega arith) runs in
+    kept_step Host words (words_of next) views k pass v (published_view v es next) n (k.host ++ es) step.rest at may.role
+    (ap words_of next_is) well step.good
+    (λ j u f. (
+      f.0,
+      step.keeps u.mine u.trusted f.2 f.1,
+      All-weaker (λ e. e.tick < k.known.host) (λ e. e.tick < end) (λ e l. omega arith) u.mine f.2,
+      para_knows k.known n u.known f.3 step.para_word step.host_up step.trust
+          (λ lt. host_idle k.known.para k.known.trust (horizon k.known.host k.host) k.known.chip es last end runs (omega arith)),
+    ))
+    may.role
+    (fit.0, ap (λ l. l ++ es) fit.1, may.none_trusted, knows_with Host n next well next_is)
+
+para_publishes : PackingIsOneToOne → (pass : ℕ) (v : View) (es : List Event) (last : State) (end : ℕ) (next : Known) → MayPublish Para es last end v → IsChip last
+    → next ≡ known_with Para last end (other Para v.known) (trust_after Para v.known.chip v.known.trust es)
+    → (words : List ℕ) (views : List View) (k : Kept words views) → get_elem? views pass ≡ some v → words ≡ words_of v.known
+    → Kept (words_of next) (set views pass (published_view v es next))
+para_publishes one pass v es last end next may well with_is words views k at is =
+    let fit = fit_of Para words views k pass v at may.role in
+    let same : v.known ≡ k.known = known_is one Para words views k pass v at may.role is in
+    let n : Known = para_last k.known last end in
+    let bare : v.mine ≡ k.para = sym (fit.1 ∙ ap (λ l. v.mine ++ below k.known.trust l) may.none_trusted ∙ append-nil v.mine) in
+    let runs : Runs Para k.known.host k.known.trust (horizon (own_bound Para k.known) k.para) k.known.chip es last end =
+    subst (λ (y : Known × List Event). Runs Para y.0.host y.0.trust (horizon (own_bound Para y.0) y.1) y.0.chip es last end) (λ i. (same i, bare i)) may.runs in
+    let next_is : next ≡ n =
+    with_is ∙ ap (λ (t : ℕ). known_with Para last end (other Para v.known) t) (trust_after_para v.known.chip v.known.trust es) ∙ ap (λ (x : Known). para_last x last end) same in
+    let r = runs_end Para k.known.host k.known.trust (horizon (own_bound Para k.known) k.para) k.known.chip es last end runs in
+    let good = para_runs es k.known k.host k.para (horizon (own_bound Para k.known) k.para) last end k.good (omega arith) (omega arith) runs in
+    kept_step Para words (words_of next) views k pass v (published_view v es next) n k.host (k.para ++ es) at may.role
+    (ap words_of next_is) well good
+    (λ j u f. (
+      f.0,
+      f.1,
+      f.2,
+      host_knows k.known n u.known f.3 refl (omega arith) (omega arith)
+          (λ le. para_idle k.known.host k.known.trust (horizon (own_bound Para k.known) k.para) k.known.chip es last end runs (omega arith)),
+    ))
+    may.role (
+      fit.0,
+      ap (λ l. l ++ es) (sym bare) ∙ sym (append-nil (v.mine ++ es)) ∙ ap (λ l. (v.mine ++ es) ++ below n.trust l) (sym may.none_trusted),
+      All-append (λ e. e.tick < k.known.host) v.mine es fit.2 (para_low k.known.host k.known.trust (horizon (own_bound Para k.known) k.para) k.known.chip es last end runs),
+      knows_with Para n next well next_is,
+    )
+
+pub publishes : PackingIsOneToOne → (s : Side) (pass : ℕ) (v : View) (es : List Event) (last : State) (end : ℕ) (next : Known) → MayPublish s es last end v → IsChip last
+    → next ≡ known_with s last end (other s v.known) (trust_after s v.known.chip v.known.trust es)
+    → Turns Kept pass v (λ x. if pointwise nat_eq x (words_of v.known) then words_of next else x) (Publishes es next)
+publishes one Host pass v es last end next may well is = exchanges Host pass v (published_view v es next) (words_of next) may.role (host_publishes one pass v es last end next may well is)
+publishes one Para pass v es last end next may well is = exchanges Para pass v (published_view v es next) (words_of next) may.role (para_publishes one pass v es last end next may well is)
+
+-- ---- events on trust
+
+entrusts_hit : PackingIsOneToOne → (pass : ℕ) (v : View) (es : List Event) (end : ℕ) (next : Known) → MayEntrust es end v → next ≡ trusting v.known end
+    → (words : List ℕ) (views : List View) (k : Kept words views) → get_elem? views pass ≡ some v → words ≡ words_of v.known
+    → Kept (words_of next) (set views pass (entrusted_view v es next))
+entrusts_hit one pass v es end next may with_is words views k at is =
+    let fit = fit_of Para words views k pass v at may.role in
+    let same : v.known ≡ k.known = known_is one Para words views k pass v at may.role is in
+    let n : Known = trusting k.known end in
+    let next_is : next ≡ n = with_is ∙ ap (λ (x : Known). trusting x end) same in
+    let from = horizon (own_bound Para k.known) v.mine in
+    let watches : Watches Para from k.known.chip es end = subst (λ (x : Known). Watches Para (horizon (own_bound Para x) v.mine) x.chip es end) same may.watches in
+    let low : All (λ e. e.tick < k.known.trust) v.trusted = subst (λ (x : Known). All (λ e. e.tick < x.trust) v.trusted) same may.trusted in
+    let para_is : k.para ≡ v.mine ++ v.trusted = fit.1 ∙ ap (λ l. v.mine ++ l) (below_same k.known.trust v.trusted low) in
+    let past : past_last k.para ≤ from = let a = past_append k.known.trust v.mine v.trusted low in let b : past_last k.para ≡ past_last (v.mine ++ v.trusted) = ap past_last para_is in omega arith in
+    let stop : from ≤ end = subst (λ (x : Known). horizon (own_bound Para x) v.mine ≤ end) same may.later in
+    let good = watched es k.known k.host k.para from end k.good (omega arith) past stop watches in
+    let low' : All (λ e. e.tick < end) (v.trusted ++ es) =
+    All-append (λ e. e.tick < end) v.trusted es (All-weaker (λ e. e.tick < k.known.trust) (λ e. e.tick < end) (λ e l. omega arith) v.trusted low) (watches_low Para from k.known.chip es end watches) in
+    kept_step Para words (words_of next) views k pass v (entrusted_view v es next) n k.host (k.para ++ es) at may.role
+    (ap words_of next_is) k.well good
+    (λ j u f. (f.0, f.1, f.2, host_knows k.known n u.known f.3 refl (omega arith) (omega arith) (λ le. refl)))
+    may.role (
+      fit.0,
+      ap (λ l. l ++ es) para_is ∙ append_assoc v.mine v.trusted es ∙ ap (λ l. v.mine ++ l) (sym (below_same end (v.trusted ++ es) low')),
+      fit.2,
+      knows_with Para n next k.well next_is,
+    )
+
+pub entrusts : PackingIsOneToOne → (pass : ℕ) (v : View) (es : List Event) (end : ℕ) (next : Known) → MayEntrust es end v → next ≡ trusting v.known end
+    → Turns Kept pass v (λ x. if pointwise nat_eq x (words_of v.known) then words_of next else x) (Entrusts es next)
+entrusts one pass v es end next may is = exchanges Para pass v (entrusted_view v es next) (words_of next) may.role (entrusts_hit one pass v es end next may is)
+
+-- ---- both at once: the rule is kept once some events are published, and then once others are on the list too
+
+both_hit : PackingIsOneToOne → (pass : ℕ) (v : View) (es seen : List Event) (last : State) (word end : ℕ) (next : Known) → MayPublishAndEntrust es last word seen end v → IsChip last
+    → next ≡ known_with Para last word (other Para v.known) end
+    → (words : List ℕ) (views : List View) (k : Kept words views) → get_elem? views pass ≡ some v → words ≡ words_of v.known
+    → Kept (words_of next) (set views pass (told_view v es seen next))
+both_hit one pass v es seen last word end next may well with_is words views k at is =
+    let mid : Known = known_with Para last word (other Para v.known) v.known.trust in
+    let u : View = published_view v es mid in
+    let mid_is : mid ≡ known_with Para last word (other Para v.known) (trust_after Para v.known.chip v.known.trust es) =
+    ap (λ (t : ℕ). known_with Para last word (other Para v.known) t) (sym (trust_after_para v.known.chip v.known.trust es)) in
+    let first : Kept (words_of mid) (set views pass u) = para_publishes one pass v es last word mid may.publish well mid_is words views k at is in
+    let from = horizon (own_bound Para v.known) v.mine in
+    let runs : Runs Para v.known.host v.known.trust from v.known.chip es last word = may.publish.runs in
+    let r = runs_end Para v.known.host v.known.trust from v.known.chip es last word runs in
+    let past = past_append word v.mine es (runs_low Para v.known.host v.known.trust from v.known.chip es last word runs) in
+    let order = may.order in
+    let may' : MayEntrust seen end u = record {
+      role = may.publish.role;
+      trusted = subst (AllBelow v.known.trust) (sym may.publish.none_trusted) (All-nil (λ e. e.tick < v.known.trust));
+      later = omega arith;
+      watches = let same : word ≡ horizon (own_bound Para mid) u.mine = omega arith in subst (λ (n : ℕ). Watches Para n last seen end) same may.watches;
+    } in
+    let second : Kept (words_of next) (set (set views pass u) pass (told_view v es seen next)) =
+    entrusts_hit one pass u seen end next may' with_is (words_of mid) (set views pass u) first (at_again views pass v u at) refl in
+    subst (Kept (words_of next)) (set-set views pass u (told_view v es seen next)) second
+
+pub publishes_and_entrusts : PackingIsOneToOne → (pass : ℕ) (v : View) (es seen : List Event) (last : State) (word end : ℕ) (next : Known) → MayPublishAndEntrust es last word seen end v → IsChip last
+    → next ≡ known_with Para last word (other Para v.known) end
+    → Turns Kept pass v (λ x. if pointwise nat_eq x (words_of v.known) then words_of next else x) (PublishesAndEntrusts es seen next)
+publishes_and_entrusts one pass v es seen last word end next may well is =
+    exchanges Para pass v (told_view v es seen next) (words_of next) may.publish.role (both_hit one pass v es seen last word end next may well is)
+
+-- ---- look
+
+-- the look joined the list: what the pass fits then
+kept_looked : (s : Side) (words : List ℕ) (views : List View) (k : Kept words views) (pass : ℕ) (v : View) (t : ℕ) → get_elem? views pass ≡ some v → MayLook s t v → Admits s (other_bound s k.known) t
+    → Kept words (set views pass (looked_view v t s k.known))
+kept_looked Host words views k pass v t at may admitted =
+    let fit = fit_of Host words views k pass v at may.role in
+    let n = k.known in
+    let word = fit.3.own_word in
+    let later = may.later in
+    let mine : past_last v.mine ≡ past_last k.host = ap past_last fit.1 in
+    let good = good_calm n k.host k.para (look_at t Host n.chip) n.host k.good refl (omega arith) (omega arith) (omega arith) refl (omega arith) (λ a. absurd (true≢false (sym a))) (shows_itself n.chip) in
+    kept_step Host words words views k pass v (looked_view v t Host n) n (k.host ++ look_at t Host n.chip ∷ []) k.para at may.role k.words_are k.well good (λ j u f. f) may.role
+    (fit.0, ap (λ l. l ++ look_at t Host n.chip ∷ []) fit.1, ap (pending n) may.none_trusted, knows_all Host n k.well)
+kept_looked Para words views k pass v t at may admitted =
+    let fit = fit_of Para words views k pass v at may.role in
+    let n = k.known in
+    let word = fit.3.own_word in
+    let fall = trusts_fall v.known n fit.3.trust in
+    let later = may.later in
+    let bare : k.para ≡ v.mine = fit.1 ∙ ap (λ l. v.mine ++ below n.trust l) may.none_trusted ∙ append-nil v.mine in
+    let mine : past_last v.mine ≡ past_last k.para = ap past_last (sym bare) in
+    let look : Event = look_at t Para n.chip in
+    let good = good_para n k.host k.para look n.para n.trust k.good refl (omega arith) (omega arith) refl (omega arith) (omega arith) (λ a. absurd (true≢false (sym a))) (λ a. absurd (true≢false (sym a))) (λ a. absurd (true≢false a)) in
+    kept_step Para words words views k pass v (looked_view v t Para n) n k.host (k.para ++ look ∷ []) at may.role k.words_are k.well good (λ j u f. f) may.role (
+      fit.0,
+      ap (λ l. l ++ look ∷ []) bare ∙ sym (append-nil (v.mine ++ look ∷ [])) ∙ ap (λ l. (v.mine ++ look ∷ []) ++ below n.trust (pending n l)) (sym may.none_trusted),
+      All-append (λ e. e.tick < n.host) v.mine (look ∷ []) fit.2 (All-cons (λ e. e.tick < n.host) look [] (omega arith) (All-nil (λ e. e.tick < n.host))),
+      knows_all Para n k.well,
+    )
 
 pub looks : (s : Side) (pass : ℕ) (v : View) (t : ℕ) → MayLook s t v → Turns Kept pass v (λ x. x) (Looks t)
-looks s pass v t may words views k at = go (admits s (other s k.known) t) refl
+looks s pass v t may words views k at = go (admits s (other_bound s k.known) t) refl
   where
-    told : (b : Bool) (w : View) → w.known ≡ k.known → GoesOn (one_side s) v.known k.known → admits s (other s k.known) t ≡ b
+    told : (b : Bool) (w : View) → w.known ≡ k.known → admits s (other_bound s k.known) t ≡ b
         → MatchBool b (w ≡ looked_view v t s w.known) (w ≡ found_view v w.known) → Looks t v words words w
-    told b w same on e f = subst (λ (r : Role). LooksAs t r v words w) (sym may.role)
-        (subst (λ (x : Known). IsChip x.chip × (words ≡ words_of x) × GoesOn (one_side s) v.known x × MatchBool (admits s (other s x) t) (w ≡ looked_view v t s w.known) (w ≡ found_view v w.known)) (sym same)
+    told b w same e f =
+        let fit = fit_of s words views k pass v at may.role in
+        let on = goes_on s k.known v.known (knows_of s k.known k.host k.para k.host_seat k.para_seat pass v fit) in
+        subst (λ (r : Role). LooksAs t r v words w) (sym may.role)
+        (subst (λ (x : Known). IsChip x.chip × (words ≡ words_of x) × GoesOn (one_side s) v.known x × MatchBool (admits s (other_bound s x) t) (w ≡ looked_view v t s w.known) (w ≡ found_view v w.known)) (sym same)
         (k.well, k.words_are, on, subst (λ (b : Bool). MatchBool b (w ≡ looked_view v t s w.known) (w ≡ found_view v w.known)) (sym e) f))
 
-    go : (b : Bool) → admits s (other s k.known) t ≡ b → (w : View) × Kept words (slice_set views pass w) × Looks t v words words w
-    go true e =
-        let mine = mine_of s words views k pass v at may.role in
-        let on = goes_on s k.known v.known mine.2 in
-        let c = k.known.chip in
-        let m = own s k.known in
-        let o = other s k.known in
-        let event : Event = look_at t s c in
-        let w : View = looked_view v t s k.known in
-        let good : Good s c m o v.mine (pick s k.para k.host) = subst (λ (l : List Event). Good s c m o l (pick s k.para k.host)) (sym mine.1) (good_of s words views k) in
-        let word : own s v.known ≡ m = mine.2.own_word in
-        let later = may.later in
-        let admitted : Admits s o t = nat_le-true (t + slack s) o e in
-        let more = good_event s m c m o v.mine (pick s k.para k.host) event good good.other_fine.admitted refl (omega arith) (omega arith) (λ a. absurd (true≢false (sym a))) admitted refl in (
-          w,
-          kept_step s words words views k pass v w c m (v.mine ++ event ∷ []) at may.role
-              (k.words_are ∙ ap words_of (sym (same_known s k.known))) k.well more (λ x know. know) may.role refl (knows_all s k.known k.well),
-          told true w refl on e refl,
-        )
+    go : (b : Bool) → admits s (other_bound s k.known) t ≡ b → (w : View) × Kept words (slice_set views pass w) × Looks t v words words w
+    go true e = (
+      looked_view v t s k.known,
+      kept_looked s words views k pass v t at may (nat_le-true (t + slack s) (other_bound s k.known) e),
+      told true (looked_view v t s k.known) refl e refl,
+    )
     go false e =
         let f = kept_found s words views k pass v at may.role in
-        let mine = mine_of s words views k pass v at may.role in
-        (found_view v k.known, f.0, told false (found_view v k.known) refl (goes_on s k.known v.known mine.2) e refl)
+        (found_view v k.known, f.0, told false (found_view v k.known) refl e refl)
 
 at_snoc : (l : List View) (a b : View) (j : ℕ) → get_elem? (l ++ a ∷ []) j ≡ some b → (get_elem? l j ≡ some b) ⊎ ((j ≡ length l) × (a ≡ b))
 at_snoc [] a b zero e = inr (refl, some-injective a b e)
@@ -271,25 +415,33 @@ begins = record {
   good = record {
     chip_is = refl;
     legal = record { rises = tt; answered = tt };
-    fine = none Host;
-    other_fine = none Para;
+    host_fine = record { sided = λ k d lt. absurd (omega arith); below_own = λ k d lt. absurd (omega arith); admitted = λ k d lt. absurd (omega arith); climbs = tt };
+    para_fine = record {
+      sided = λ k d lt. absurd (omega arith);
+      below_own = λ k d lt. absurd (omega arith);
+      admitted = λ k d lt. absurd (omega arith);
+      changes = λ k d lt. absurd (omega arith);
+      climbs = tt;
+    };
   };
   each = one;
 }
   where
-    none : (s : Side) → Fine s 0 0 []
-    none s = record { sided = λ k d lt. absurd (omega arith); below = λ k d lt. absurd (omega arith); admitted = λ k d lt. absurd (omega arith); last = λ k d lt. absurd (omega arith) }
-
     one : (j : ℕ) (v : View) → get_elem? (whole ∷ []) j ≡ some v → FitsAs new_known [] [] 0 0 v.role j v
-    one zero v e = subst (λ (u : View). FitsAs new_known [] [] 0 0 u.role 0 u) (some-injective _ _ e) (refl, refl, refl, refl, refl)
+    one zero v e = subst (λ (u : View). FitsAs new_known [] [] 0 0 u.role 0 u) (some-injective _ _ e) (refl, refl, refl, refl, refl, All-nil (λ x. x.tick < 0), refl)
     one (suc j) v e = absurd (some-ne-none v (sym e))
 
 pub halves : (pass : ℕ) (v : View) → v.role ≡ undivided → Forks Kept pass v (host_part v) (para_part v)
 halves pass v role words views k at =
     let f : FitsAs k.known k.host k.para k.host_seat k.para_seat undivided pass v = subst (λ (r : Role). FitsAs k.known k.host k.para k.host_seat k.para_seat r pass v) role (k.each pass v at) in
     let seat = length (set views pass (host_part v)) in
-    let host_fits : Fits k.known k.host k.para k.host_seat seat pass (host_part v) = (f.0, f.2, subst (Knows Host k.known.chip k.known.host k.known.para) (sym f.4) (knows_all Host k.known k.well)) in
-    let para_fits : Fits k.known k.host k.para k.host_seat seat seat (para_part v) = (refl, f.3, subst (Knows Para k.known.chip k.known.para k.known.host) (sym f.4) (knows_all Para k.known k.well)) in
+    let host_fits : Fits k.known k.host k.para k.host_seat seat pass (host_part v) = (f.0, f.2, f.4, subst (Knows Host k.known) (sym f.6) (knows_all Host k.known k.well)) in
+    let para_fits : Fits k.known k.host k.para k.host_seat seat seat (para_part v) = (
+      refl,
+      sym f.3 ∙ sym (append-nil v.theirs) ∙ ap (λ l. v.theirs ++ below k.known.trust l) (sym f.4),
+      subst (All (λ e. e.tick < k.known.host)) (sym f.3) f.5,
+      subst (Knows Para k.known) (sym f.6) (knows_all Para k.known k.well),
+    ) in
     record {
       known = k.known;
       host = k.host;
@@ -310,9 +462,9 @@ halves pass v role words views k at =
 -- the parasite's view goes to a new pass
 pub parts : (pass : ℕ) (v : View) → v.role ≡ one_side Para → Forks Kept pass v spent v
 parts pass v role words views k at =
-    let f = mine_of Para words views k pass v at role in
+    let f = fit_of Para words views k pass v at role in
     let seat = length (set views pass spent) in
-    let new_fits : Fits k.known k.host k.para k.host_seat seat seat v = subst (λ (r : Role). FitsAs k.known k.host k.para k.host_seat seat r seat v) (sym role) (refl, f.1, f.2) in
+    let new_fits : Fits k.known k.host k.para k.host_seat seat seat v = subst (λ (r : Role). FitsAs k.known k.host k.para k.host_seat seat r seat v) (sym role) (refl, f.1, f.2, f.3) in
     record {
       known = k.known;
       host = k.host;
@@ -337,14 +489,39 @@ parts pass v role words views k at =
     moved k a b hs ps ps' j u p (one_side Para) f = absurd (p f.0)
     moved k a b hs ps ps' j u p used f = tt
 
+-- events join the unpublished ones of a pass
+pub adds : (s : Side) (pass : ℕ) (v : View) (es : List Event) → v.role ≡ one_side s → Forks Kept pass v (added_view v es) spent
+adds s pass v es role words views k at =
+    let w = added_view v es in
+    let fit = fit_of s words views k pass v at role in
+    record {
+      known = k.known;
+      host = k.host;
+      para = k.para;
+      host_seat = k.host_seat;
+      para_seat = k.para_seat;
+      words_are = k.words_are;
+      well = k.well;
+      good = k.good;
+      each = λ j u e. ⊎_elim
+          (λ was. after_set k.known k.host k.para k.host_seat k.para_seat views pass w (λ i x apart e'. k.each i x e')
+          (subst (λ (r : Role). FitsAs k.known k.host k.para k.host_seat k.para_seat r pass w) (sym role) (same s fit)) j u was)
+          (λ (t : (j ≡ length (set views pass w)) × (spent ≡ u)). subst (λ (y : View). Fits k.known k.host k.para k.host_seat k.para_seat j y) t.1 tt)
+          (at_snoc (set views pass w) spent u j e);
+    }
+  where
+    same : (s : Side) → FitsAs k.known k.host k.para k.host_seat k.para_seat (one_side s) pass v → FitsAs k.known k.host k.para k.host_seat k.para_seat (one_side s) pass (added_view v es)
+    same Host f = f
+    same Para f = f
+
 -- the host's pass takes both lists
-pub merges : (pass : ℕ) (v : View) (giver : ℕ) (w : View) → v.role ≡ one_side Host → w.role ≡ one_side Para → Merges Kept pass v giver w (joined v w) spent
-merges pass v giver w host para words views k at apart there =
+pub merges : (pass : ℕ) (v : View) (giver : ℕ) (w : View) → v.role ≡ one_side Host → w.role ≡ one_side Para → w.trusted ≡ [] → Merges Kept pass v giver w (joined v w) spent
+merges pass v giver w host para none words views k at apart there =
     let taken = joined v w in
     let was : get_elem? views giver ≡ some w = ⊎_elim (λ (t : (giver ≡ pass) × (taken ≡ w)). absurd (apart t.0)) (λ (t : (giver ≢ pass) × (get_elem? views giver ≡ some w)). t.1) (at_set views pass giver taken w there) in
-    let f = mine_of Host words views k pass v at host in
-    let g = mine_of Para words views k giver w was para in
-    let joined_fits : Fits k.known k.host k.para pass pass pass taken = (refl, refl, f.1, g.1) in
+    let f = fit_of Host words views k pass v at host in
+    let g = fit_of Para words views k giver w was para in
+    let joined_fits : Fits k.known k.host k.para pass pass pass taken = (refl, refl, f.1, sym (g.1 ∙ ap (λ l. w.mine ++ below k.known.trust l) none ∙ append-nil w.mine)) in
     record {
       known = k.known;
       host = k.host;

@@ -1,4 +1,8 @@
+mod Observed
 mod Law
 mod Grows
 mod Keeps
-mod Calls
+mod Learns
+mod Raises
+mod Acts
+mod Publishes

@@ -1,5 +1,5 @@
 -- What a contract sees of a pass, and how calls change it.
-use Rattle.std.specs.Prelude.{◌≡◌, ◌≢◌, ℕ, ◌+◌, ◌≤◌, List, [], ◌∷◌, ◌++◌}
+use Rattle.std.specs.Prelude.{◌≡◌, ◌≢◌, ℕ, ◌+◌, ◌<◌, ◌≤◌, if◌then◌else◌, List, [], ◌∷◌, ◌++◌}
 use Rattle.atomic_table.specs.Seated.{TableId}
 use Rattle.beeb_bits.specs.declared.Side.{Side}
 use Rattle.tube_chip.specs.declared.Op.{Op}
@@ -7,44 +7,60 @@ use Rattle.tube_chip.specs.declared.Answer.TheVariants.{Byte, Seen}
 use Rattle.tube_chip.specs.declared.Lines.{Lines}
 use Rattle.tube_chip.specs.State.{State}
 use Rattle.tube_chip.specs.Act.{access, look, answer_of, chip_after}
-use Rattle.tube_chip.specs.Events.{Event}
-use Rattle.tube_cell.specs.Views.{Known, new_known, View, one_side, own, other, known_with, horizon}
-use Rattle.tube_cell.specs.Rules.{rise}
+use Rattle.tube_chip.specs.Events.{Event, after_from}
+use Rattle.tube_cell.specs.Views.{Known, new_known, View, one_side, own, other, own_bound, known_with, bound_at, has_access, horizon, below, trust_next, trust_after}
+use Rattle.tube_cell.specs.Rules.{rise, firm, pending, Trusts}
 
--- A pass of one side: the cell that it is of, its side, its list of events, those of them that are not published yet, the words that it
--- knows, how often it published an access, and how often the known word of the other rose.
+-- A pass of one side: the cell that it is of, its side, its list of events, those that are on it on trust, those that are not published yet, the words
+-- that it knows, how often it published an access, and how often the known bound of the other rose.
 pub record Carried : Type 0 where
   pub cell : TableId
   pub side : Side
   pub events : List Event
+  pub trusted : List Event
   pub ahead : List Event
   pub known : Known
   pub commits : ℕ
   pub higher : ℕ
 
 abbrev pub carried : TableId → Side → View → Carried
-carried id s v = record { cell = id; side = s; events = v.mine; ahead = v.ahead; known = v.known; commits = v.commits; higher = v.higher }
+carried id s v = record { cell = id; side = s; events = v.mine; trusted = v.trusted; ahead = v.ahead; known = v.known; commits = v.commits; higher = v.higher }
 
 -- the pass of a side once the whole is split
 abbrev pub starts : TableId → Side → Carried
-starts id s = record { cell = id; side = s; events = []; ahead = []; known = new_known; commits = 0; higher = 0 }
+starts id s = record { cell = id; side = s; events = []; trusted = []; ahead = []; known = new_known; commits = 0; higher = 0 }
 
--- its own horizon: no earlier than its word, and after its last event
+-- its own horizon: no earlier than its bound, and after its last event
 abbrev pub own_horizon : Carried → ℕ
-own_horizon p = horizon (own p.side p.known) (p.events ++ p.ahead)
+own_horizon p = horizon (own_bound p.side p.known) (p.events ++ p.ahead)
 
--- The words that were found are known, and nothing else changed. The own word is as it was, and the other's has not fallen.
+-- The words that were found are known. Of events on trust, those that stay for good join the list. Nothing else changed. The own word is as it was, and the other's
+-- has not fallen; where there is nothing on trust, and the trust is no later than the host's word, it stands.
 pub record Learns (p q : Carried) : Type 0 where
-  pub rest : q ≡ record p { known = q.known; higher = p.higher + rise (one_side p.side) p.known q.known }
+  pub rest : q ≡ record p {
+    events = p.events ++ firm q.known p.trusted;
+    trusted = pending q.known p.trusted;
+    known = q.known;
+    higher = p.higher + rise (one_side p.side) p.known q.known;
+  }
+  -- taken back, and so what lies below the trust stays for good
+  pub taken : q.known.trust < p.known.trust → (q.events ≡ p.events ++ below q.known.trust p.trusted) × (q.trusted ≡ [])
+  -- it stands, and the host has passed it: all stay for good
+  pub settled : q.known.trust ≡ p.known.trust → q.known.trust ≤ q.known.host → (q.events ≡ p.events ++ p.trusted) × (q.trusted ≡ [])
+  -- the host has not passed it
+  pub stays : q.known.host < q.known.trust → (q.events ≡ p.events) × (q.trusted ≡ p.trusted)
+  -- where nothing is on trust, no event joined the list
+  pub plain : p.trusted ≡ [] → q ≡ record p { known = q.known; higher = p.higher + rise (one_side p.side) p.known q.known }
   pub own_word : own p.side q.known ≡ own p.side p.known
   pub other_word : other p.side p.known ≤ other p.side q.known
-  pub horizon : own_horizon q ≡ own_horizon p
-  -- where there are unpublished events, the word of the other alone differs
+  pub trust : Trusts p.side p.known q.known
+  pub horizon : own_horizon q ≤ own_horizon p
+  -- where there are unpublished events, the word of the other and the trust alone differ
   pub same_chip : p.ahead ≢ [] → q.known.chip ≡ p.known.chip
 
 -- the own word is t, and nothing else changed
 abbrev pub raised : Carried → ℕ → Carried
-raised p t = record p { known = known_with p.side p.known.chip t (other p.side p.known) }
+raised p t = record p { known = known_with p.side p.known.chip t (other p.side p.known) p.known.trust }
 
 abbrev pub access_at : ℕ → Side → Op → State → Event
 access_at t s op c = record { tick = t; side = s; query = access op; answer = Byte (answer_of c s op) }
@@ -52,14 +68,43 @@ access_at t s op c = record { tick = t; side = s; query = access op; answer = By
 abbrev pub lines_at : ℕ → Side → Lines → Event
 lines_at t s lines = record { tick = t; side = s; query = look; answer = Seen lines }
 
--- the access joined the list, the chip is the one after it, and the own word is one more than its tick
+-- The access joined the list, the chip is the one after it, and the own word is one more than its tick. Where the host's access changed the parasite's readings, it
+-- took the trust back to its tick.
 abbrev pub committed : Carried → ℕ → Op → Carried
 committed p t op = record p {
   events = p.events ++ access_at t p.side op p.known.chip ∷ [];
-  known = known_with p.side (chip_after p.known.chip p.side op) (t + 1) (other p.side p.known);
+  known = known_with p.side (chip_after p.known.chip p.side op) (t + 1) (other p.side p.known)
+      (trust_next p.side p.known.chip (chip_after p.known.chip p.side op) t p.known.trust);
   commits = p.commits + 1;
 }
 
 -- the look joined the list
 abbrev pub looked : Carried → ℕ → Lines → Carried
 looked p t lines = record p { events = p.events ++ lines_at t p.side lines ∷ [] }
+
+-- the local chip, and the trust and the other's bound there: the known ones with the unpublished events done
+abbrev pub here : Carried → State
+here p = after_from p.known.chip p.ahead
+
+abbrev pub trust_here : Carried → ℕ
+trust_here p = trust_after p.side p.known.chip p.known.trust p.ahead
+
+abbrev pub bound_here : Carried → ℕ
+bound_here p = bound_at p.side (other p.side p.known) (trust_here p)
+
+-- the events are done, and not published yet
+abbrev pub added : Carried → List Event → Carried
+added p events = record p { ahead = p.ahead ++ events }
+
+-- the unpublished events joined the list, and the cell has the chip after them, this own word, and the trust as they leave it
+abbrev pub published : Carried → ℕ → Carried
+published p h = record p {
+  events = p.events ++ p.ahead;
+  ahead = [];
+  known = known_with p.side (here p) h (other p.side p.known) (trust_here p);
+  commits = p.commits + (if has_access p.ahead then 1 else 0);
+}
+
+-- the events are on the list on trust, and the trust is t
+abbrev pub entrusted : Carried → List Event → ℕ → Carried
+entrusted p events t = record p { trusted = p.trusted ++ events; known = record p.known { trust = t } }

@@ -1,5 +1,5 @@
 -- The rule of the cell, and what each step tells.
-use Rattle.std.specs.Prelude.{◌≡◌, ◌≢◌, ℕ, ◌+◌, ◌<◌, ◌≤◌, nat_lt, List, [], ◌∷◌, ◌++◌, true, if◌then◌else◌, MatchBool}
+use Rattle.std.specs.Prelude.{◌≡◌, ◌≢◌, ◌⊎◌, ℕ, ◌+◌, ◌<◌, ◌≤◌, max, nat_lt, nat_le, List, [], ◌∷◌, ◌++◌, true, false, if◌then◌else◌, MatchBool}
 use Rattle.std.specs.List.{All}
 use mathlib.Core.Option.{some}
 use lib.ListN.{get_elem?}
@@ -10,39 +10,58 @@ use Rattle.tube_chip.specs.State.{State, lines_of}
 use Rattle.tube_chip.specs.Act.{look}
 use Rattle.tube_chip.specs.Events.{Event, merge, after, IsLegal}
 use Rattle.tube_chip.specs.Packing.{IsChip}
-use Rattle.tube_cell.specs.Views.{Known, words_of, new_known, Role, undivided, one_side, rejoined, used, View, flip, own, other, pick, Admits, admits, past_last, is_access, has_access}
+use Rattle.tube_cell.specs.Views.{Known, words_of, new_known, Role, undivided, one_side, rejoined, used, View, own, other, own_bound, other_bound, Admits, admits, below, is_access, is_observation, has_access}
 
--- One side's list: its accesses lie below its word, the other's word admits each of its events, and none lies after the last.
-pub record Fine (s : Side) (mine theirs : ℕ) (events : List Event) : Type 0 where
-  pub sided : All (λ e. e.side ≡ s) events
-  pub below : All (λ e. is_access e.query ≡ true → e.tick < mine) events
-  pub admitted : All (λ e. Admits s theirs e.tick) events
-  pub last : All (λ e. e.tick < past_last events) events
+-- each event is at this tick or later, and at a later tick than the one before it
+abbrev pub Climbs : ℕ → List Event → Type 0
+Climbs from [] = Unit {0}
+Climbs from (e ∷ events) = (from ≤ e.tick) × Climbs (e.tick + 1) events
 
--- both lists merged, as one side sees them
-abbrev pub merge_as : Side → List Event → List Event → List Event
-merge_as s mine theirs = merge (pick s mine theirs) (pick s theirs mine)
+-- The host's list: its accesses lie below the host's word, and each event at most at the parasite's bound.
+pub record HostFine (k : Known) (events : List Event) : Type 0 where
+  pub sided : All (λ e. e.side ≡ Host) events
+  pub below_own : All (λ e. is_access e.query ≡ true → e.tick < k.host) events
+  pub admitted : All (λ e. e.tick ≤ own_bound Para k) events
+  pub climbs : Climbs 0 events
+
+-- The parasite's list: its accesses lie below its bound, and below the host's word or the trust. Those that are no observations lie below both words. Its looks may
+-- lie anywhere.
+pub record ParaFine (k : Known) (events : List Event) : Type 0 where
+  pub sided : All (λ e. e.side ≡ Para) events
+  pub below_own : All (λ e. is_access e.query ≡ true → e.tick < own_bound Para k) events
+  pub admitted : All (λ e. is_access e.query ≡ true → e.tick < max k.host k.trust) events
+  pub changes : All (λ e. is_observation e.query ≡ false → (e.tick < k.para) × (e.tick < k.host)) events
+  pub climbs : Climbs 0 events
 
 -- The chip is the one after the merge of both lists, the merge is legal, and each list is in its bounds.
-pub record Good (s : Side) (c : State) (m t : ℕ) (mine theirs : List Event) : Type 0 where
-  pub chip_is : c ≡ after (merge_as s mine theirs)
-  pub legal : IsLegal (merge_as s mine theirs)
-  pub fine : Fine s m t mine
-  pub other_fine : Fine (flip s) t m theirs
+pub record Good (k : Known) (host para : List Event) : Type 0 where
+  pub chip_is : k.chip ≡ after (merge host para)
+  pub legal : IsLegal (merge host para)
+  pub host_fine : HostFine k host
+  pub para_fine : ParaFine k para
 
--- A pass knows its own word as it is, and the other's as at most what it is. Where the word of the other that it knows admits its own,
+-- What a side knew of the trust, and what it is. For the host it has not fallen. For the parasite it stands, or the host took it back: to a tick that the host
+-- had not passed as far as the parasite knew, and has passed now.
+abbrev pub Trusts : Side → Known → Known → Type 0
+Trusts Host known k = known.trust ≤ k.trust
+Trusts Para known k = (k.trust ≡ known.trust) ⊎ ((known.host ≤ k.trust) × (k.trust < known.trust) × (k.trust < k.host))
+
+-- A pass of this side knows its own word as it is, and the other's as at most what it is. Where the bound of the other that it knows admits its own,
 -- it knows the chip as it is.
-pub record Knows (s : Side) (c : State) (m t : ℕ) (known : Known) : Type 0 where
+pub record Knows (s : Side) (k known : Known) : Type 0 where
   pub well : IsChip known.chip
-  pub own_word : own s known ≡ m
-  pub other_word : other s known ≤ t
-  pub same_chip : Admits s (other s known) m → known.chip ≡ c
+  pub own_word : own s known ≡ own s k
+  pub other_word : other s known ≤ other s k
+  pub trust : Trusts s known k
+  pub same_chip : Admits s (other_bound s known) (own_bound s known) → known.chip ≡ k.chip
 
 module _ (k : Known) (host para : List Event) (host_seat para_seat : ℕ) where
-  -- what holds of a pass with this number and this view, by its role
+  -- What holds of a pass with this number and this view, by its role. Of the parasite's list what is there on trust lies below the trust, and all else below the host's
+  -- word: so the host, which lowers the trust only to ticks from its word on, takes back no other.
   abbrev pub FitsAs : Role → ℕ → View → Type 0
-  FitsAs undivided j v = (j ≡ host_seat) × (j ≡ para_seat) × (v.mine ≡ host) × (v.theirs ≡ para) × (v.known ≡ k)
-  FitsAs (one_side s) j v = (j ≡ pick s host_seat para_seat) × (v.mine ≡ pick s host para) × Knows s k.chip (own s k) (other s k) v.known
+  FitsAs undivided j v = (j ≡ host_seat) × (j ≡ para_seat) × (v.mine ≡ host) × (v.theirs ≡ para) × (v.trusted ≡ []) × All (λ e. e.tick < k.host) para × (v.known ≡ k)
+  FitsAs (one_side Host) j v = (j ≡ host_seat) × (v.mine ≡ host) × (v.trusted ≡ []) × Knows Host k v.known
+  FitsAs (one_side Para) j v = (j ≡ para_seat) × (para ≡ v.mine ++ below k.trust v.trusted) × All (λ e. e.tick < k.host) v.mine × Knows Para k v.known
   FitsAs rejoined j v = (j ≡ host_seat) × (j ≡ para_seat) × (v.mine ≡ host) × (v.theirs ≡ para)
   FitsAs used j v = Unit {0}
 
@@ -55,13 +74,13 @@ pub record Kept (words : List ℕ) (views : List View) : Type 0 where
   pub para_seat : ℕ
   pub words_are : words ≡ words_of known
   pub well : IsChip known.chip
-  pub good : Good Host known.chip known.host known.para host para
+  pub good : Good known host para
   pub each : (j : ℕ) (v : View) → get_elem? views j ≡ some v → FitsAs known host para host_seat para_seat v.role j v
 
 -- ---- The views at the start and at the end
 
 abbrev pub whole : View
-whole = record { role = undivided; mine = []; theirs = []; ahead = []; known = new_known; commits = 0; higher = 0 }
+whole = record { role = undivided; mine = []; theirs = []; trusted = []; ahead = []; known = new_known; commits = 0; higher = 0 }
 
 abbrev pub spent : View
 spent = record whole { role = used }
@@ -77,19 +96,35 @@ joined v w = record v { role = rejoined; theirs = w.mine }
 
 -- ---- What a step tells
 
--- Of one side's pass, the own word stays and the other's does not fall. Where the known word admits the own, the chip stays too.
+-- Of one side's pass, the own word stays, the other's does not fall, and the trust is as it may be. Where the known bound admits the own, the chip stays too.
 abbrev pub GoesOn : Role → Known → Known → Type 0
-GoesOn (one_side s) k k' = (own s k' ≡ own s k) × (other s k ≤ other s k') × (Admits s (other s k) (own s k) → k.chip ≡ k'.chip)
+GoesOn (one_side s) k k' =
+    (own s k' ≡ own s k) × (other s k ≤ other s k') × Trusts s k k' × (Admits s (other_bound s k) (own_bound s k) → k.chip ≡ k'.chip)
 GoesOn r k k' = Unit {0}
 
--- 1 where the known word of the other rises
+-- 1 where the known bound of the other rises
 abbrev pub rise : Role → Known → Known → ℕ
-rise (one_side s) k k' = if nat_lt (other s k) (other s k') then 1 else 0
+rise (one_side s) k k' = if nat_lt (other_bound s k) (other_bound s k') then 1 else 0
 rise r k k' = 0
+
+-- Of events on trust, those that stay for good by these words: the ones below the trust, where the host has passed it.
+abbrev pub firm : Known → List Event → List Event
+firm k [] = []
+firm k (e ∷ events) = if nat_le k.trust k.host then below k.trust (e ∷ events) else []
+
+-- those that stay on trust: all, where the host has not passed it
+abbrev pub pending : Known → List Event → List Event
+pending k [] = []
+pending k (e ∷ events) = if nat_le k.trust k.host then [] else e ∷ events
 
 -- the view that knows the words found
 abbrev pub found_view : View → Known → View
-found_view v k = record v { known = k; higher = v.higher + rise v.role v.known k }
+found_view v k = record v {
+  mine = v.mine ++ firm k v.trusted;
+  trusted = pending k v.trusted;
+  known = k;
+  higher = v.higher + rise v.role v.known k;
+}
 
 -- learn, and a failed exchange: the words were found, and are known
 abbrev pub Finds : View → List ℕ → List ℕ → View → Type 0
@@ -105,6 +140,30 @@ Publishes events next v x y w =
     (x ≡ words_of v.known → w ≡ published_view v events next)
     × (x ≢ words_of v.known → Finds v x y w)
 
+-- the view once these events are on the list on trust, and these words in the cell
+abbrev pub entrusted_view : View → List Event → Known → View
+entrusted_view v events next = record v { trusted = v.trusted ++ events; known = next }
+
+-- entrust: where the words were those known, the events join the list on trust; else it is a failed exchange
+abbrev pub Entrusts : List Event → Known → View → List ℕ → List ℕ → View → Type 0
+Entrusts events next v x y w =
+    (x ≡ words_of v.known → w ≡ entrusted_view v events next)
+    × (x ≢ words_of v.known → Finds v x y w)
+
+-- the view once some events are published, others on the list on trust, and these words in the cell
+abbrev pub told_view : View → List Event → List Event → Known → View
+told_view v events trusted next = entrusted_view (published_view v events next) trusted next
+
+-- publish_and_entrust: where the words were those known, some events join the list, and others do on trust; else it is a failed exchange
+abbrev pub PublishesAndEntrusts : List Event → List Event → Known → View → List ℕ → List ℕ → View → Type 0
+PublishesAndEntrusts events trusted next v x y w =
+    (x ≡ words_of v.known → w ≡ told_view v events trusted next)
+    × (x ≢ words_of v.known → Finds v x y w)
+
+-- the view once these events are done, and not published yet
+abbrev pub added_view : View → List Event → View
+added_view v events = record v { ahead = v.ahead ++ events }
+
 -- a look at this tick
 abbrev pub look_at : ℕ → Side → State → Event
 look_at t s c = record { tick = t; side = s; query = look; answer = Seen (lines_of c) }
@@ -116,7 +175,7 @@ looked_view v t s k = record (found_view v k) { mine = v.mine ++ look_at t s k.c
 abbrev pub LooksAs : ℕ → Role → View → List ℕ → View → Type 0
 LooksAs t (one_side s) v x w =
     IsChip w.known.chip × (x ≡ words_of w.known) × GoesOn (one_side s) v.known w.known
-    × MatchBool (admits s (other s w.known) t) (w ≡ looked_view v t s w.known) (w ≡ found_view v w.known)
+    × MatchBool (admits s (other_bound s w.known) t) (w ≡ looked_view v t s w.known) (w ≡ found_view v w.known)
 LooksAs t r v x w = Unit {0}
 
 abbrev pub Looks : ℕ → View → List ℕ → List ℕ → View → Type 0

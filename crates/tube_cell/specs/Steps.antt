@@ -1,26 +1,29 @@
 -- What a step on the cell asks of its pass, and what stands between two steps.
-use Rattle.std.specs.Prelude.{◌≡◌, ◌≢◌, ◌⊎◌, ℕ, ◌+◌, ◌≤◌, List, [], ◌∷◌, ◌++◌, MatchBool, Option}
+use Rattle.std.specs.Prelude.{◌≡◌, ◌≢◌, ◌⊎◌, ℕ, ◌+◌, ◌^◌, ◌<◌, ◌≤◌, min, List, [], ◌∷◌, ◌++◌, true, MatchBool, Option}
 use Rattle.std.specs.Option.{option_to_list, option_map}
 use Rattle.beeb_bits.specs.declared.Side.{Side}
+use Rattle.beeb_bits.specs.declared.Side.TheVariants.{Para}
 use Rattle.tube_chip.specs.declared.Op.{Op}
 use Rattle.tube_chip.specs.State.{State}
 use Rattle.tube_chip.specs.Events.{Event}
 use Rattle.tube_chip.specs.Packing.{IsChip}
-use Rattle.tube_cell.specs.Views.{words_of, View, one_side, own, other, Admits, admits, horizon, done, Answers}
+use Rattle.tube_cell.specs.Views.{Known, words_of, View, one_side, other, own_bound, bound_at, other_bound, Admits, admits, horizon, AllBelow, is_observation, done, Answers, trust_past, trust_after}
 use Rattle.tube_cell.specs.Rules.{GoesOn, found_view, looked_view}
 use Rattle.tube_cell.specs.Passes.{access_at}
 
--- These events of one side can be done one after another: the first is at `from` or later, the other's word admits each, each has the
--- chip's answer, and the chip is `last` and all ticks are below `end` after them.
-abbrev pub Runs : Side → ℕ → ℕ → State → List Event → State → ℕ → Type 0
-Runs s theirs from c [] last end = (last ≡ c) × (from ≤ end)
-Runs s theirs from c (e ∷ events) last end =
-    (e.side ≡ s) × (from ≤ e.tick) × Admits s theirs e.tick × Answers c e × Runs s theirs (e.tick + 1) (done c e) events last end
+-- These events of one side can be done one after another: the first is at `from` or later, the other's bound admits each, by its word and the trust as this side's own
+-- events leave it, each has the chip's answer, and the chip is `last` and all ticks are below `end` after them.
+abbrev pub Runs : Side → ℕ → ℕ → ℕ → State → List Event → State → ℕ → Type 0
+Runs s theirs trust from c [] last end = (last ≡ c) × (from ≤ end)
+Runs s theirs trust from c (e ∷ events) last end =
+    (e.side ≡ s) × (from ≤ e.tick) × Admits s (bound_at s theirs trust) e.tick × Answers c e
+    × Runs s theirs (trust_past s c e trust) (e.tick + 1) (done c e) events last end
 
 -- The pass of this side may publish these events: they run on from the known chip to this one, and end below this word.
 pub record MayPublish (s : Side) (events : List Event) (last : State) (end : ℕ) (v : View) : Type 0 where
   pub role : v.role ≡ one_side s
-  pub runs : Runs s (other s v.known) (horizon (own s v.known) v.mine) v.known.chip events last end
+  pub none_trusted : v.trusted ≡ []
+  pub runs : Runs s (other s v.known) v.known.trust (horizon (own_bound s v.known) v.mine) v.known.chip events last end
 
 -- the access of a commit, as the one event that it publishes; a raise has none
 abbrev pub accesses : Side → State → Option (ℕ × Op) → List Event
@@ -29,7 +32,28 @@ accesses s c asked = option_to_list (option_map (λ a. access_at a.0 s a.1 c) as
 -- the pass of this side may look at this tick
 pub record MayLook (s : Side) (t : ℕ) (v : View) : Type 0 where
   pub role : v.role ≡ one_side s
-  pub later : horizon (own s v.known) v.mine ≤ t
+  pub none_trusted : v.trusted ≡ []
+  pub later : horizon (own_bound s v.known) v.mine ≤ t
+
+-- These observations of a side at this chip rise: the first is at `from` or later, and each is below `end`.
+abbrev pub Watches : Side → ℕ → State → List Event → ℕ → Type 0
+Watches s from c [] end = Unit {0}
+Watches s from c (e ∷ events) end =
+    (e.side ≡ s) × (is_observation e.query ≡ true) × (from ≤ e.tick) × (e.tick < end) × Answers c e × Watches s (e.tick + 1) c events end
+
+-- The parasite's pass may put these events onto its list on trust, up to this tick.
+pub record MayEntrust (events : List Event) (end : ℕ) (v : View) : Type 0 where
+  pub role : v.role ≡ one_side Para
+  pub trusted : AllBelow v.known.trust v.trusted
+  pub later : horizon (own_bound Para v.known) v.mine ≤ end
+  pub watches : Watches Para (horizon (own_bound Para v.known) v.mine) v.known.chip events end
+
+-- The parasite's pass may publish these events, below this word, and put observations of the chip after them onto its list on trust, from the word on up to this
+-- tick.
+pub record MayPublishAndEntrust (events : List Event) (last : State) (word : ℕ) (trusted : List Event) (end : ℕ) (v : View) : Type 0 where
+  pub publish : MayPublish Para events last word v
+  pub order : word ≤ end
+  pub watches : Watches Para word last trusted end
 
 -- the words were found, and are known
 pub record Found (words : List ℕ) (v w : View) : Type 0 where
@@ -43,15 +67,27 @@ pub record LookedAt (t : ℕ) (s : Side) (words : List ℕ) (v w : View) : Type 
   pub well : IsChip w.known.chip
   pub words_are : words ≡ words_of w.known
   pub goes_on : GoesOn v.role v.known w.known
-  pub view_is : MatchBool (admits s (other s w.known) t) (w ≡ looked_view v t s w.known) (w ≡ found_view v w.known)
+  pub view_is : MatchBool (admits s (other_bound s w.known) t) (w ≡ looked_view v t s w.known) (w ≡ found_view v w.known)
 
--- A pass of this side, which knows these words: its unpublished events run on from the known chip to the local one.
+-- A pass of this side, which knows these words: its events on trust lie below the trust, and its unpublished events run on from the known chip to the local one.
+-- There are not both.
 pub record IsPassOf (s : Side) (words : List ℕ) (here : State) (v : View) : Type 0 where
   pub role : v.role ≡ one_side s
   pub well : IsChip v.known.chip
   pub words_are : words ≡ words_of v.known
-  pub runs : Runs s (other s v.known) (horizon (own s v.known) v.mine) v.known.chip v.ahead here (horizon (own s v.known) (v.mine ++ v.ahead))
+  pub trusted : AllBelow v.known.trust v.trusted
+  pub not_both : v.ahead ≢ [] → v.trusted ≡ []
+  pub runs : Runs s (other s v.known) v.known.trust (horizon (own_bound s v.known) v.mine) v.known.chip v.ahead here (horizon (own_bound s v.known) (v.mine ++ v.ahead))
+
+-- Published, the unpublished events would cut the trust at this tick. It is the last number of 64 bits where they leave it.
+abbrev pub CutIs : Side → ℕ → View → Type 0
+CutIs s cut v = (trust : ℕ) → trust < 2 ^ 64 → trust_after s v.known.chip trust v.ahead ≡ min trust cut
 
 -- the local chip once these words are found: it stays where the chip did
 abbrev pub Local : State → State → State → State → Type 0
 Local known old found new = ((found ≡ known) × (new ≡ old)) ⊎ ((found ≢ known) × (new ≡ found))
+
+-- The local chip of a pass that knew the first words, once the second are found.
+abbrev pub LocalAfter : List ℕ → State → List ℕ → State → Type 0
+LocalAfter words old found new =
+    (j k : Known) → IsChip j.chip → IsChip k.chip → words ≡ words_of j → found ≡ words_of k → Local j.chip old k.chip new

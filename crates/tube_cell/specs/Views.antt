@@ -1,25 +1,32 @@
 -- The words of the cell, and what a pass knows of them and of the events so far.
-use Rattle.std.specs.Prelude.{ℕ, ◌≡◌, ◌+◌, ◌≤◌, max, nat_le, List, [], ◌∷◌, ◌++◌, Bool, true, false, ◌||◌}
+use Rattle.std.specs.Prelude.{ℕ, ◌≡◌, ◌+◌, ◌<◌, ◌≤◌, min, max, nat_le, nat_lt, List, [], ◌∷◌, ◌++◌, Bool, true, false, ◌||◌, ◌&&◌, ◌==◌, if◌then◌else◌}
+use Rattle.std.specs.List.{All}
+use mathlib.Core.Bool.{beq}
 use Rattle.beeb_bits.specs.declared.Side.{Side}
 use Rattle.beeb_bits.specs.declared.Side.TheVariants.{Host, Para}
-use Rattle.tube_chip.specs.State.{State, power_on}
-use Rattle.tube_chip.specs.Act.{Query, access, look, act}
+use Rattle.tube_chip.specs.declared.Lines.{Lines}
+use Rattle.tube_chip.specs.declared.Op.TheVariants.{Read, Write}
+use Rattle.tube_chip.specs.State.{State, power_on, lines_of}
+use Rattle.tube_chip.specs.Act.{Query, access, look, act, is_status, status}
 use Rattle.tube_chip.specs.Events.{Event}
 use Rattle.tube_chip.specs.Packing.{packed}
+use Rattle.tube_cell.specs.declared.local.Readings.{Readings}
 
--- What the eight words stand for: the chip, and each side's horizon.
+-- What the nine words stand for: the chip, each side's horizon, and the parasite's trust.
 pub record Known : Type 0 where
   pub chip : State
   pub host : ℕ
   pub para : ℕ
+  -- what the parasite has put onto its list on trust lies below it
+  pub trust : ℕ
 
--- the six words of the chip, and the horizons
+-- the six words of the chip, the horizons, and the trust
 abbrev pub words_of : Known → List ℕ
-words_of k = packed k.chip ++ k.host ∷ k.para ∷ []
+words_of k = packed k.chip ++ k.host ∷ k.para ∷ k.trust ∷ []
 
 -- at power-on
 abbrev pub new_known : Known
-new_known = record { chip = power_on; host = 0; para = 0 }
+new_known = record { chip = power_on; host = 0; para = 0; trust = 0 }
 
 -- A pass is the whole before it is split, then one side's; at the end the host's takes both lists, and the parasite's is used up.
 pub data Role : Type 0 where
@@ -34,13 +41,15 @@ pub record View : Type 0 where
   -- its list of events, and of the whole the parasite's
   pub mine : List Event
   pub theirs : List Event
+  -- observations of the parasite that are on its list on trust: those of them at the trust that stands or later were taken back
+  pub trusted : List Event
   -- events that are not published yet
   pub ahead : List Event
   -- the words as it last found or left them
   pub known : Known
   -- how often an access of its was published
   pub commits : ℕ
-  -- how often the word of the other, as it knows it, rose
+  -- how often the bound of the other, as it knows it, rose
   pub higher : ℕ
 
 abbrev pub flip : Side → Side
@@ -56,26 +65,39 @@ abbrev pub other : Side → Known → ℕ
 other Host k = k.para
 other Para k = k.host
 
+-- A side's bound: none of its events that is not on its list yet lies below it. It is the side's word, and the parasite's trust bounds it too.
+abbrev pub own_bound : Side → Known → ℕ
+own_bound Host k = k.host
+own_bound Para k = max k.para k.trust
+
+-- the bound of the other side, at this word of it and this trust
+abbrev pub bound_at : Side → ℕ → ℕ → ℕ
+bound_at Host theirs trust = max theirs trust
+bound_at Para theirs trust = theirs
+
+abbrev pub other_bound : Side → Known → ℕ
+other_bound s k = bound_at s (other s k) k.trust
+
 -- of the host's and the parasite's, a side's own comes first
 abbrev pub pick : {X : Type 0} → Side → X → X → X
 pick Host x y = x
 pick Para x y = y
 
--- the words with this chip, this own word and this one of the other
-abbrev pub known_with : Side → State → ℕ → ℕ → Known
-known_with Host c mine theirs = record { chip = c; host = mine; para = theirs }
-known_with Para c mine theirs = record { chip = c; host = theirs; para = mine }
+-- the words with this chip, this own word, this one of the other and this trust
+abbrev pub known_with : Side → State → ℕ → ℕ → ℕ → Known
+known_with Host c mine theirs trust = record { chip = c; host = mine; para = theirs; trust = trust }
+known_with Para c mine theirs trust = record { chip = c; host = theirs; para = mine; trust = trust }
 
--- A word of the other admits the host at its tick and below, and the parasite below it.
+-- A bound of the other admits the host at its tick and below, and the parasite below it.
 abbrev pub slack : Side → ℕ
 slack Host = 0
 slack Para = 1
 
 abbrev pub admits : Side → ℕ → ℕ → Bool
-admits s word tick = nat_le (tick + slack s) word
+admits s bound tick = nat_le (tick + slack s) bound
 
 abbrev pub Admits : Side → ℕ → ℕ → Type 0
-Admits s word tick = tick + slack s ≤ word
+Admits s bound tick = tick + slack s ≤ bound
 
 -- one more than the tick of the last event
 abbrev pub past_last : List Event → ℕ
@@ -83,13 +105,28 @@ past_last [] = 0
 past_last (e ∷ []) = e.tick + 1
 past_last (e ∷ f ∷ events) = past_last (f ∷ events)
 
--- the own horizon of a pass with this own word and these events
+-- the own horizon of a pass with this own bound and these events
 abbrev pub horizon : ℕ → List Event → ℕ
-horizon word events = max word (past_last events)
+horizon bound events = max bound (past_last events)
+
+-- the events before the first one at this tick or later
+abbrev pub below : ℕ → List Event → List Event
+below t [] = []
+below t (e ∷ events) = if nat_lt e.tick t then e ∷ below t events else []
+
+-- all at ticks below this one
+abbrev pub AllBelow : ℕ → List Event → Type 0
+AllBelow t events = All (λ e. e.tick < t) events
 
 abbrev pub is_access : Query → Bool
 is_access (access op) = true
 is_access look = false
+
+-- An observation leaves the chip: it is a look, or a read of a status register.
+abbrev pub is_observation : Query → Bool
+is_observation (access (Read number)) = is_status number
+is_observation (access (Write number byte)) = false
+is_observation look = true
 
 abbrev pub has_access : List Event → Bool
 has_access [] = false
@@ -102,3 +139,34 @@ done c e = (act c e.side e.query).0
 -- the event's answer is the chip's
 abbrev pub Answers : State → Event → Type 0
 Answers c e = (act c e.side e.query).1 ≡ e.answer
+
+-- What the parasite's observations show of a chip: the lines, and its status registers.
+abbrev pub readings_of : State → Readings
+readings_of c = record {
+  lines = lines_of c;
+  status = status Para 1 c ∷ status Para 2 c ∷ status Para 3 c ∷ status Para 4 c ∷ [];
+}
+
+abbrev pub same_lines : Lines → Lines → Bool
+same_lines a b = beq a.prst b.prst && (a.resets == b.resets) && (a.nmis == b.nmis) && beq a.pirq b.pirq && beq a.hirq b.hirq
+
+-- both chips show the parasite the same
+abbrev pub same_readings : State → State → Bool
+same_readings c d =
+    same_lines (lines_of c) (lines_of d)
+    && (status Para 1 c == status Para 1 d) && (status Para 2 c == status Para 2 d) && (status Para 3 c == status Para 3 d) && (status Para 4 c == status Para 4 d)
+
+-- The trust after an event of this side at this tick, by which one chip becomes another: where the host changes what the parasite's observations show, it takes
+-- the trust back to its tick.
+abbrev pub trust_next : Side → State → State → ℕ → ℕ → ℕ
+trust_next Host old new t trust = if same_readings old new then trust else min trust t
+trust_next Para old new t trust = trust
+
+-- the trust after an event, from chip c on
+abbrev pub trust_past : Side → State → Event → ℕ → ℕ
+trust_past s c e trust = trust_next s c (done c e) e.tick trust
+
+-- the trust after these events of a side, from chip c on
+abbrev pub trust_after : Side → State → ℕ → List Event → ℕ
+trust_after s c trust [] = trust
+trust_after s c trust (e ∷ events) = trust_after s (done c e) (trust_past s c e trust) events

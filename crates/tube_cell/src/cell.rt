@@ -1,20 +1,26 @@
 //! The cell that both sides share.
-ghost use Rattle.std.specs.Prelude.{◌≡◌, ◌≢◌, ◌+◌, ◌<◌, ◌≤◌, ◌^◌, [], IfOk, IfErr, IfSome, IfNone, IsTrue, IsFalse};
+ghost use Rattle.std.specs.Prelude.{ℕ, ◌≡◌, ◌≢◌, ◌+◌, ◌<◌, ◌≤◌, ◌^◌, [], ◌∷◌, true, IfOk, IfErr, IfSome, IfNone, IsTrue, IsFalse};
 ghost use Rattle.crossbeam_utils.specs.Seq.{cell_view, IsSamePass};
 ghost use Rattle.beeb_bits.specs.declared.Side.TheVariants.{Host, Para};
 ghost use Rattle.tube_chip.specs.State.{lines_of};
-ghost use Rattle.tube_chip.specs.Act.{MayDo, answer_of};
+ghost use Rattle.tube_chip.specs.declared.Op.TheVariants.{Read};
+ghost use Rattle.tube_chip.specs.Act.{MayDo, is_status, answer_of};
 ghost use Rattle.tube_chip.specs.Events.{merge, after, IsLegal};
 ghost use Rattle.tube_chip.specs.Packing.{IsChip};
-ghost use Rattle.tube_cell.specs.Views.{one_side, other, known_with, Admits, words_of};
-ghost use Rattle.tube_cell.specs.Rules.{published_view};
-ghost use Rattle.tube_cell.specs.Passes.{starts, own_horizon, Learns, committed, raised, looked};
-ghost use Rattle.tube_cell.specs.Steps.{MayPublish, MayLook, Found, LookedAt};
+ghost use Rattle.tube_cell.specs.Views.{one_side, other, other_bound, slack, known_with, Admits, admits, AllBelow, words_of, readings_of, trust_after};
+ghost use Rattle.tube_cell.specs.Rules.{published_view, entrusted_view, told_view, added_view};
+ghost use Rattle.tube_cell.specs.Passes.{starts, own_horizon, Learns, access_at, lines_at, committed, raised, looked, entrusted, here, bound_here, added, published};
+ghost use Rattle.tube_cell.specs.Steps.{MayPublish, MayLook, MayEntrust, MayPublishAndEntrust, Watches, Found, LookedAt};
 
+use crate::local::{Readings, operate, peek, readings_of};
 use crate::rule::{
-    CellRule, Ending, Halves, Learning, Looking, Moment, Parting, PassView, Publishing, Wish,
+    Adding, CellRule, Deeds, Ending, Entrusting, Halves, Learning, Looking, Moment, Parting,
+    PassView, Publishing, PublishingAndEntrusting, Wish,
 };
-use crate::words::{chip_of, is_admitted, next_words, power_on, renew, settle, word_of};
+use crate::words::{
+    bound_of, chip_of, is_admitted, next_words, power_on, renew, settle, trust_of, with_trust,
+    word_of,
+};
 use beeb_bits::{NoMemory, Side, Tick};
 use crossbeam_utils::atomic::seq_cell::{Pass as Seat, RuledSeqCell};
 use std::alloc::Global;
@@ -22,12 +28,14 @@ use std::marker::{Brand, Model};
 use std::sync::Wait;
 use tube_chip::{Chip, Lines, Op, packing_is_one_to_one};
 
-type Cell = RuledSeqCell<[u64; 8], PassView, CellRule, 8>;
+type Cell = RuledSeqCell<[u64; 9], PassView, CellRule, 9>;
 
 /// The Tube chip and the horizon of each side, in one cell that two threads share. Contracts see its name.
 ///
 /// A side's horizon h says that its later accesses and looks are at tick h or after. The host may act at a tick up to the
-/// parasite's horizon, and the parasite at a tick below the host's.
+/// parasite's horizon, and the parasite at a tick below the host's. The parasite may also put observations onto its list on trust, looks
+/// and reads of its status registers: later events than these are at its trust or after, and the host may act up to there; where it changes
+/// what observations show, it takes back those from its tick on.
 #[derive(Drop)]
 pub struct TubeCell {
     cell: Cell,
@@ -44,7 +52,7 @@ impl Model for TubeCell {
 /// Both sides of a new cell, before they part. Contracts see the name of its cell.
 #[derive(Drop)]
 pub struct Whole {
-    seat: Seat<[u64; 8], PassView>,
+    seat: Seat<[u64; 9], PassView>,
 }
 
 impl Model for Whole {
@@ -63,24 +71,27 @@ impl Model for Whole {
 /// One side's pass to the cell. Contracts see its cell, its side, its list of events and the words that it knows.
 #[derive(Drop)]
 pub struct Pass {
-    seat: Seat<[u64; 8], PassView>,
+    seat: Seat<[u64; 9], PassView>,
     side: Side,
     // The words as they were last found or left.
-    words: [u64; 8],
+    words: [u64; 9],
     // The chip of these words, with the events that are not published yet done.
     local: Chip,
+    // The tick of the first of these that changed the parasite's readings, or `u64::MAX`: the trust is cut there.
+    cut: u64,
 }
 
 impl Model for Pass {
     ghost use Rattle.crossbeam_utils.specs.Seq.{cell_view};
     ghost use Rattle.tube_cell.specs.Passes.{Carried, carried};
-    ghost use Rattle.tube_cell.specs.Steps.{IsPassOf};
+    ghost use Rattle.tube_cell.specs.Steps.{IsPassOf, CutIs};
+    ghost use Rattle.std.specs.Prelude.{ℕ};
 
     ghost Value = { Carried };
 
     ghost view = { λ s. carried s.seat.table_id s.side (cell_view s.seat) };
 
-    ghost invariant = { λ s. IsPassOf s.side s.words s.local (cell_view s.seat) };
+    ghost invariant = { λ s. let v = cell_view s.seat in IsPassOf s.side s.words s.local v × CutIs s.side s.cut v };
 }
 
 impl TubeCell {
@@ -109,12 +120,14 @@ impl TubeCell {
                 side: Side::Host,
                 words: power_on(),
                 local: Chip::new(),
+                cut: u64::MAX,
             },
             Pass {
                 seat: para,
                 side: Side::Para,
                 words: power_on(),
                 local: Chip::new(),
+                cut: u64::MAX,
             },
         )
     }
@@ -136,17 +149,72 @@ impl TubeCell {
         Tick(word_of(pass.side, &pass.words))
     }
 
+    /// The other side's bound, as far as the pass knows it and its unpublished events leave it: its horizon, and of the parasite its trust too.
+    pub fn bound(&self, pass: &Pass) -> Tick
+        requires { pass.now.cell ≡ self.now }
+        ensures here { result.0 ≡ bound_here pass.now }
+        ensures known { pass.now.ahead ≡ [] → result.0 ≡ other_bound pass.now.side pass.now.known }
+    {
+        let trust = trust_of(&pass.words).min(pass.cut);
+        Tick(bound_of(pass.side, &pass.words, trust))
+    }
+
+    /// The other side's bound, as far as the pass knows it and its unpublished events leave it, admits its side at t.
+    pub fn admits(&self, pass: &Pass, t: Tick) -> bool
+        requires { pass.now.cell ≡ self.now }
+        ensures { result ≡ admits pass.now.side (bound_here pass.now) t.0 }
+    {
+        is_admitted(pass.side, self.bound(pass).0, t.0)
+    }
+
+    /// The lines of the local chip: the known one with the unpublished events done.
+    pub fn lines(&self, pass: &Pass) -> Lines
+        requires { pass.now.cell ≡ self.now }
+        ensures { result ≡ lines_of (here pass.now) }
+    {
+        pass.local.lines()
+    }
+
+    /// What the parasite's observations show of the local chip. The pass is as it was.
+    pub fn readings(&self, pass: &mut Pass) -> Readings
+        requires { pass.old.cell ≡ self.now }
+        ensures readings { result ≡ readings_of (here pass.old) }
+        ensures pass { pass.new ≡ pass.old }
+    {
+        readings_of(&mut pass.local)
+    }
+
+    /// What the parasite reads at a status register of the local chip, by its even number below 8. The pass is as it was.
+    pub fn peek(&self, pass: &mut Pass, number: u8) -> u8
+        requires cell { pass.old.cell ≡ self.now }
+        requires number { number < 8 }
+        requires status { is_status number ≡ true }
+        ensures byte { result ≡ answer_of (here pass.old) Para (Read number) }
+        ensures pass { pass.new ≡ pass.old }
+    {
+        peek(&mut pass.local, number)
+    }
+
+    /// The parasite's trust, as far as the pass knows it.
+    pub fn trust(&self, pass: &Pass) -> Tick
+        requires { pass.now.cell ≡ self.now }
+        ensures { result.0 ≡ pass.now.known.trust }
+    {
+        Tick(trust_of(&pass.words))
+    }
+
     /// One exchange: the own horizon becomes t. False only where the words were not those that the pass last knew; it knows them then.
     pub fn raise<R: Wait>(&self, rt: &R, pass: &mut Pass, t: Tick) -> bool
         requires cell { pass.old.cell ≡ self.now }
         requires published { pass.old.ahead ≡ [] }
+        requires none_trusted { pass.old.trusted ≡ [] }
         requires later { own_horizon pass.old ≤ t.0 }
         ensures raised { IsTrue result → pass.new ≡ raised pass.old t.0 }
         ensures horizon { IsTrue result → own_horizon pass.new ≡ t.0 }
         ensures learns { IsFalse result → Learns pass.old pass.new }
         ensures missed { IsFalse result → pass.new.known ≢ pass.old.known }
     {
-        match exchange::<Brand, R>(
+        let raised = exchange::<Brand, R>(
             &self.cell,
             rt,
             &mut pass.seat,
@@ -155,7 +223,9 @@ impl TubeCell {
             None,
             &pass.local,
             t.0,
-        ) {
+            trust_of(&pass.words),
+        );
+        match raised {
             Ok(next) => {
                 pass.words = next;
                 true
@@ -172,9 +242,10 @@ impl TubeCell {
     pub fn commit<R: Wait>(&self, rt: &R, pass: &mut Pass, t: Tick, op: Op) -> Option<u8>
         requires cell { pass.old.cell ≡ self.now }
         requires published { pass.old.ahead ≡ [] }
+        requires none_trusted { pass.old.trusted ≡ [] }
         requires operation { MayDo pass.old.side op }
         requires later { own_horizon pass.old ≤ t.0 }
-        requires admitted { Admits pass.old.side (other pass.old.side pass.old.known) t.0 }
+        requires admitted { Admits pass.old.side (other_bound pass.old.side pass.old.known) t.0 }
         requires bounded { t.0 < 2 ^ 40 }
         ensures answer { IfSome result (λ byte. byte ≡ answer_of pass.old.known.chip pass.old.side op) }
         ensures committed { IfSome result (λ _. pass.new ≡ committed pass.old t.0 op) }
@@ -182,7 +253,7 @@ impl TubeCell {
         ensures learns { IfNone result (Learns pass.old pass.new) }
         ensures missed { IfNone result (pass.new.known ≢ pass.old.known) }
     {
-        let answer = pass.local.apply(pass.side, op);
+        let (answer, trust) = operate(&mut pass.local, pass.side, op, t.0, trust_of(&pass.words));
         match exchange::<Brand, R>(
             &self.cell,
             rt,
@@ -192,6 +263,7 @@ impl TubeCell {
             Some((t.0, op)),
             &pass.local,
             t.0 + 1,
+            trust,
         ) {
             Ok(next) => {
                 pass.words = next;
@@ -209,20 +281,170 @@ impl TubeCell {
     pub fn look<R: Wait>(&self, rt: &R, pass: &mut Pass, t: Tick) -> Option<Lines>
         requires cell { pass.old.cell ≡ self.now }
         requires published { pass.old.ahead ≡ [] }
+        requires none_trusted { pass.old.trusted ≡ [] }
         requires later { own_horizon pass.old ≤ t.0 }
         ensures lines { IfSome result (λ lines. lines ≡ lines_of pass.new.known.chip) }
         ensures looked { IfSome result (λ lines. Learns (looked pass.old t.0 lines) pass.new) }
         ensures horizon { IfSome result (λ _. own_horizon pass.new ≡ t.0 + 1) }
-        ensures admitted { IfSome result (λ _. Admits pass.old.side (other pass.old.side pass.new.known) t.0) }
+        ensures admitted { IfSome result (λ _. Admits pass.old.side (other_bound pass.old.side pass.new.known) t.0) }
         ensures learns { IfNone result (Learns pass.old pass.new) }
-        ensures refused { IfNone result (¬ Admits pass.old.side (other pass.old.side pass.new.known) t.0) }
+        ensures refused { IfNone result (¬ Admits pass.old.side (other_bound pass.old.side pass.new.known) t.0) }
     {
         let found = load_at::<Brand, R>(&self.cell, rt, &mut pass.seat, pass.side, t.0);
         settle(&mut pass.words, &mut pass.local, found);
-        if is_admitted(pass.side, word_of(pass.side, &pass.words), t.0) {
+        let bound = bound_of(pass.side, &pass.words, trust_of(&pass.words));
+        if is_admitted(pass.side, bound, t.0) {
             return Some(pass.local.lines());
         }
         None
+    }
+
+    /// One exchange of the parasite's pass: the machine's observations of the chip that it knows join its list on trust, and the trust
+    /// becomes t. They are named by the call's proof. False only where the words were not those that the pass last knew; it knows them then.
+    pub fn entrust<D: Deeds, R: Wait>(&self, rt: &R, pass: &mut Pass, t: Tick) -> bool
+        requires cell { pass.old.cell ≡ self.now }
+        requires side { pass.old.side ≡ Para }
+        requires published { pass.old.ahead ≡ [] }
+        requires later { own_horizon pass.old ≤ t.0 }
+        requires watches { Watches Para (own_horizon pass.old) pass.old.known.chip D.events t.0 }
+        ensures entrusted { IsTrue result → pass.new ≡ entrusted pass.old D.events t.0 }
+        ensures horizon { IsTrue result → own_horizon pass.new ≡ t.0 }
+        ensures learns { IsFalse result → Learns pass.old pass.new }
+        ensures missed { IsFalse result → pass.new.known ≢ pass.old.known }
+    {
+        match entrust_at::<Brand, R>(&self.cell, rt, &mut pass.seat, &pass.words, t.0) {
+            Ok(next) => {
+                pass.words = next;
+                true
+            }
+            Err(found) => {
+                settle(&mut pass.words, &mut pass.local, found);
+                false
+            }
+        }
+    }
+
+    /// Answers an access by the local chip. It is published later.
+    pub fn act<R: Wait>(&self, _rt: &R, pass: &mut Pass, t: Tick, op: Op) -> u8
+        requires cell { pass.old.cell ≡ self.now }
+        requires none_trusted { pass.old.trusted ≡ [] }
+        requires operation { MayDo pass.old.side op }
+        requires later { own_horizon pass.old ≤ t.0 }
+        requires admitted { Admits pass.old.side (bound_here pass.old) t.0 }
+        requires bounded { t.0 < 2 ^ 40 }
+        ensures answer { result ≡ answer_of (here pass.old) pass.old.side op }
+        ensures added { pass.new ≡ added pass.old (access_at t.0 pass.old.side op (here pass.old) ∷ []) }
+        ensures horizon { own_horizon pass.new ≡ t.0 + 1 }
+    {
+        let (byte, cut) = operate(&mut pass.local, pass.side, op, t.0, pass.cut);
+        pass.cut = cut;
+        add::<Brand>(&self.cell, &mut pass.seat, pass.side, t.0, Some(op));
+        byte
+    }
+
+    /// Answers a look by the local chip. It is published later.
+    pub fn see<R: Wait>(&self, _rt: &R, pass: &mut Pass, t: Tick) -> Lines
+        requires cell { pass.old.cell ≡ self.now }
+        requires none_trusted { pass.old.trusted ≡ [] }
+        requires later { own_horizon pass.old ≤ t.0 }
+        requires admitted { Admits pass.old.side (bound_here pass.old) t.0 }
+        ensures lines { result ≡ lines_of (here pass.old) }
+        ensures added { pass.new ≡ added pass.old (lines_at t.0 pass.old.side (lines_of (here pass.old)) ∷ []) }
+        ensures horizon { own_horizon pass.new ≡ t.0 + 1 }
+    {
+        add::<Brand>(&self.cell, &mut pass.seat, pass.side, t.0, None);
+        pass.local.lines()
+    }
+
+    /// Observations of the local chip that a machine made, all below `end`, join the unpublished events. They are named by the call's proof.
+    pub fn see_all<D: Deeds, R: Wait>(&self, _rt: &R, pass: &mut Pass, _end: Tick)
+        requires cell { pass.old.cell ≡ self.now }
+        requires none_trusted { pass.old.trusted ≡ [] }
+        requires watches { Watches pass.old.side (own_horizon pass.old) (here pass.old) D.events _end.0 }
+        requires admitted { _end.0 + slack pass.old.side ≤ bound_here pass.old + 1 }
+        ensures added { pass.new ≡ added pass.old D.events }
+        ensures horizon { (t : ℕ) → own_horizon pass.old ≤ t → AllBelow t D.events → own_horizon pass.new ≤ t }
+        ensures here { here pass.new ≡ here pass.old }
+        ensures bound { bound_here pass.new ≡ bound_here pass.old }
+    {
+        add::<Brand>(&self.cell, &mut pass.seat, pass.side, 0, None);
+    }
+
+    /// One exchange: the unpublished events join the pass's list, the cell has the local chip, and the own horizon becomes h. False only
+    /// where the words were not those that the pass last knew; it knows them then, and the events stay unpublished.
+    pub fn publish<R: Wait>(&self, rt: &R, pass: &mut Pass, h: Tick) -> bool
+        requires cell { pass.old.cell ≡ self.now }
+        requires none_trusted { pass.old.trusted ≡ [] }
+        requires later { own_horizon pass.old ≤ h.0 }
+        ensures published { IsTrue result → pass.new ≡ published pass.old h.0 }
+        ensures learns { IsFalse result → Learns pass.old pass.new }
+        ensures missed { IsFalse result → pass.new.known ≢ pass.old.known }
+    {
+        let left = trust_of(&pass.words).min(pass.cut);
+        match exchange::<Brand, R>(
+            &self.cell,
+            rt,
+            &mut pass.seat,
+            pass.side,
+            &pass.words,
+            None,
+            &pass.local,
+            h.0,
+            left,
+        ) {
+            Ok(next) => {
+                pass.words = next;
+                pass.cut = u64::MAX;
+                true
+            }
+            Err(found) => {
+                settle(&mut pass.words, &mut pass.local, found);
+                false
+            }
+        }
+    }
+
+    /// One exchange of the parasite's pass, which publishes and entrusts: the unpublished events join its list and its horizon becomes h,
+    /// and the machine's observations of the local chip, from h on, join the list on trust, which becomes t. They are named by the call's proof.
+    /// False only where the words were not those that the pass last knew; it knows them then, and the events stay unpublished.
+    pub fn publish_and_entrust<D: Deeds, R: Wait>(
+        &self,
+        rt: &R,
+        pass: &mut Pass,
+        h: Tick,
+        t: Tick,
+    ) -> bool
+        requires cell { pass.old.cell ≡ self.now }
+        requires side { pass.old.side ≡ Para }
+        requires none_trusted { pass.old.trusted ≡ [] }
+        requires later { own_horizon pass.old ≤ h.0 }
+        requires order { h.0 ≤ t.0 }
+        requires watches { Watches Para h.0 (here pass.old) D.events t.0 }
+        ensures entrusted { IsTrue result → pass.new ≡ entrusted (published pass.old h.0) D.events t.0 }
+        ensures horizon { IsTrue result → own_horizon pass.new ≡ t.0 }
+        ensures learns { IsFalse result → Learns pass.old pass.new }
+        ensures missed { IsFalse result → pass.new.known ≢ pass.old.known }
+    {
+        let told = publish_and_entrust_at::<Brand, D, R>(
+            &self.cell,
+            rt,
+            &mut pass.seat,
+            &pass.words,
+            &pass.local,
+            h.0,
+            t.0,
+        );
+        match told {
+            Ok(next) => {
+                pass.words = next;
+                pass.cut = u64::MAX;
+                true
+            }
+            Err(found) => {
+                settle(&mut pass.words, &mut pass.local, found);
+                false
+            }
+        }
     }
 
     /// The chip at the end: the one that the events of both passes leave, merged in their order. The merged list is legal.
@@ -230,6 +452,7 @@ impl TubeCell {
         requires cell { (host.cell ≡ self.now) × (para.cell ≡ self.now) }
         requires sides { (host.side ≡ Host) × (para.side ≡ Para) }
         requires published { (host.ahead ≡ []) × (para.ahead ≡ []) }
+        requires none_trusted { para.trusted ≡ [] }
         ensures chip { result ≡ after (merge host.events para.events) }
         ensures legal { IsLegal (merge host.events para.events) }
     {
@@ -238,12 +461,14 @@ impl TubeCell {
             side: _,
             words: _,
             local: _,
+            cut: _,
         } = host;
         let Pass {
             seat: mut worn,
             side: _,
             words: _,
             local: _,
+            cut: _,
         } = para;
         // A pass that stepped can't be taken in, so its view goes to a new one.
         let fresh = self.cell.split_pass::<Parting>(&mut worn);
@@ -262,21 +487,39 @@ impl Pass {
     }
 }
 
+// The events join the unpublished ones of the view: that of an access or a look at this tick, or many.
+fn add<D: Deeds>(
+    cell: &Cell,
+    seat: &mut Seat<[u64; 9], PassView>,
+    _side: Side,
+    _tick: u64,
+    _op: Option<Op>,
+)
+    requires cell { seat.old.table_id ≡ cell.now.table.shared.table_id }
+    requires role { (cell_view seat.old).role ≡ one_side _side }
+    ensures cell { IsSamePass seat.old seat.new }
+    ensures added { cell_view seat.new ≡ added_view (cell_view seat.old) D.events }
+{
+    cell.split_pass::<Adding<D>>(seat);
+}
+
 // One exchange: the access, if there is one, is published with the chip after it and this own word. At `Ok` these words are
 // answered, at `Err` those that were found in place of the known ones.
 fn exchange<W: Wish, R: Wait>(
     cell: &Cell,
     rt: &R,
-    seat: &mut Seat<[u64; 8], PassView>,
+    seat: &mut Seat<[u64; 9], PassView>,
     side: Side,
-    words: &[u64; 8],
+    words: &[u64; 9],
     _access: Option<(u64, Op)>,
     chip: &Chip,
     word: u64,
-) -> Result<[u64; 8], [u64; 8]>
+    trust: u64,
+) -> Result<[u64; 9], [u64; 9]>
     requires cell { seat.old.table_id ≡ cell.now.table.shared.table_id }
     requires words { words.now ≡ words_of (cell_view seat.old).known }
-    requires next { W.next ≡ known_with side chip.now word (other side (cell_view seat.old).known) }
+    requires trust { let k = (cell_view seat.old).known in trust ≡ trust_after side k.chip k.trust W.events }
+    requires next { W.next ≡ known_with side chip.now word (other side (cell_view seat.old).known) trust }
     requires may { MayPublish side W.events chip.now word (cell_view seat.old) }
     ensures cell { IsSamePass seat.old seat.new }
     ensures bounds { IsChip chip.now }
@@ -286,8 +529,65 @@ fn exchange<W: Wish, R: Wait>(
     ensures missed { IfErr result (λ found. found ≢ words.now) }
 {
     packing_is_one_to_one();
-    let next = next_words(side, chip, word, word_of(side, words));
+    let next = next_words(side, chip, word, word_of(side, words), trust);
     match cell.compare_exchange_as::<Publishing<W>, R>(rt, seat, *words, next) {
+        Ok(_) => Ok(next),
+        Err(found) => Err(found),
+    }
+}
+
+// One exchange: the events join the parasite's list on trust, and the trust is this word. The chip is the known one. At `Ok` these words
+// are answered, at `Err` those that were found in place of the known ones.
+fn entrust_at<W: Wish, R: Wait>(
+    cell: &Cell,
+    rt: &R,
+    seat: &mut Seat<[u64; 9], PassView>,
+    words: &[u64; 9],
+    trust: u64,
+) -> Result<[u64; 9], [u64; 9]>
+    requires cell { seat.old.table_id ≡ cell.now.table.shared.table_id }
+    requires words { words.now ≡ words_of (cell_view seat.old).known }
+    requires next { W.next ≡ record (cell_view seat.old).known { trust = trust } }
+    requires may { MayEntrust W.events trust (cell_view seat.old) }
+    ensures cell { IsSamePass seat.old seat.new }
+    ensures next { IfOk result (λ next. next ≡ words_of W.next) }
+    ensures entrusted { IfOk result (λ _. cell_view seat.new ≡ entrusted_view (cell_view seat.old) W.events W.next) }
+    ensures found { IfErr result (λ found. Found found (cell_view seat.old) (cell_view seat.new)) }
+    ensures missed { IfErr result (λ found. found ≢ words.now) }
+{
+    packing_is_one_to_one();
+    let next = with_trust(words, trust);
+    match cell.compare_exchange_as::<Entrusting<W>, R>(rt, seat, *words, next) {
+        Ok(_) => Ok(next),
+        Err(found) => Err(found),
+    }
+}
+
+// One exchange: some events are published with the chip after them and this own word, and others join the parasite's list on trust,
+// which is this one. At `Ok` these words are answered, at `Err` those that were found in place of the known ones.
+fn publish_and_entrust_at<W: Wish, D: Deeds, R: Wait>(
+    cell: &Cell,
+    rt: &R,
+    seat: &mut Seat<[u64; 9], PassView>,
+    words: &[u64; 9],
+    chip: &Chip,
+    word: u64,
+    trust: u64,
+) -> Result<[u64; 9], [u64; 9]>
+    requires cell { seat.old.table_id ≡ cell.now.table.shared.table_id }
+    requires words { words.now ≡ words_of (cell_view seat.old).known }
+    requires next { W.next ≡ known_with Para chip.now word (other Para (cell_view seat.old).known) trust }
+    requires may { MayPublishAndEntrust W.events chip.now word D.events trust (cell_view seat.old) }
+    ensures cell { IsSamePass seat.old seat.new }
+    ensures bounds { IsChip chip.now }
+    ensures next { IfOk result (λ next. next ≡ words_of W.next) }
+    ensures told { IfOk result (λ _. cell_view seat.new ≡ told_view (cell_view seat.old) W.events D.events W.next) }
+    ensures found { IfErr result (λ found. Found found (cell_view seat.old) (cell_view seat.new)) }
+    ensures missed { IfErr result (λ found. found ≢ words.now) }
+{
+    packing_is_one_to_one();
+    let next = next_words(Side::Para, chip, word, word_of(Side::Para, words), trust);
+    match cell.compare_exchange_as::<PublishingAndEntrusting<W, D>, R>(rt, seat, *words, next) {
         Ok(_) => Ok(next),
         Err(found) => Err(found),
     }
@@ -297,10 +597,10 @@ fn exchange<W: Wish, R: Wait>(
 fn load_at<M: Moment, R: Wait>(
     cell: &Cell,
     rt: &R,
-    seat: &mut Seat<[u64; 8], PassView>,
+    seat: &mut Seat<[u64; 9], PassView>,
     _side: Side,
     t: u64,
-) -> [u64; 8]
+) -> [u64; 9]
     requires cell { seat.old.table_id ≡ cell.now.table.shared.table_id }
     requires tick { t ≡ M.tick }
     requires may { MayLook _side t (cell_view seat.old) }

@@ -18,7 +18,7 @@ impl Model for PassView {
 /// The words stand for two lists of events, whose merge is legal, and each pass knows no more than there is.
 pub struct CellRule;
 
-impl Protocol<[u64; 8], PassView> for CellRule {
+impl Protocol<[u64; 9], PassView> for CellRule {
     ghost use Rattle.tube_cell.specs.Rules.{Kept, whole};
 
     ghost holds = { Kept };
@@ -46,6 +46,20 @@ impl Wish for Brand {
     ghost next = { new_known };
 }
 
+/// What a machine did without the cell: events that join the unpublished ones, or the list on trust. Each call picks it.
+pub trait Deeds {
+    ghost use Rattle.std.specs.Prelude.{List};
+    ghost use Rattle.tube_chip.specs.Events.{Event};
+
+    ghost events: { List Event };
+}
+
+impl Deeds for Brand {
+    ghost use Rattle.std.specs.Prelude.{[]};
+
+    ghost events = { [] };
+}
+
 /// The tick of a look. Each call picks it.
 pub trait Moment {
     ghost use Rattle.std.specs.Prelude.{ℕ};
@@ -60,7 +74,7 @@ impl Moment for Brand {
 /// A load after which the words are known.
 pub struct Learning;
 
-impl Outcome<[u64; 8], PassView> for Learning {
+impl Outcome<[u64; 9], PassView> for Learning {
     ghost use Rattle.tube_cell.specs.Rules.{Finds};
 
     ghost then = { Finds };
@@ -71,10 +85,33 @@ pub struct Publishing<W> {
     wish: PhantomData<W>,
 }
 
-impl<W: Wish> Outcome<[u64; 8], PassView> for Publishing<W> {
+impl<W: Wish> Outcome<[u64; 9], PassView> for Publishing<W> {
     ghost use Rattle.tube_cell.specs.Rules.{Publishes};
 
     ghost then = { Publishes W.events W.next };
+}
+
+/// An exchange with which events join the parasite's list on trust.
+pub struct Entrusting<W> {
+    wish: PhantomData<W>,
+}
+
+impl<W: Wish> Outcome<[u64; 9], PassView> for Entrusting<W> {
+    ghost use Rattle.tube_cell.specs.Rules.{Entrusts};
+
+    ghost then = { Entrusts W.events W.next };
+}
+
+/// An exchange with which events join the parasite's list, and later ones on trust.
+pub struct PublishingAndEntrusting<W, D> {
+    wish: PhantomData<W>,
+    deeds: PhantomData<D>,
+}
+
+impl<W: Wish, D: Deeds> Outcome<[u64; 9], PassView> for PublishingAndEntrusting<W, D> {
+    ghost use Rattle.tube_cell.specs.Rules.{PublishesAndEntrusts};
+
+    ghost then = { PublishesAndEntrusts W.events D.events W.next };
 }
 
 /// A load with which a look joins the list where it is admitted.
@@ -82,7 +119,7 @@ pub struct Looking<M> {
     moment: PhantomData<M>,
 }
 
-impl<M: Moment> Outcome<[u64; 8], PassView> for Looking<M> {
+impl<M: Moment> Outcome<[u64; 9], PassView> for Looking<M> {
     ghost use Rattle.tube_cell.specs.Rules.{Looks};
 
     ghost then = { Looks M.tick };
@@ -91,7 +128,7 @@ impl<M: Moment> Outcome<[u64; 8], PassView> for Looking<M> {
 /// The load after both passes were joined.
 pub struct Ending;
 
-impl Outcome<[u64; 8], PassView> for Ending {
+impl Outcome<[u64; 9], PassView> for Ending {
     ghost use Rattle.tube_cell.specs.Rules.{Ends};
 
     ghost then = { Ends };
@@ -114,6 +151,19 @@ impl Join<PassView> for Halves {
     ghost both = { joined };
 
     ghost spent = { spent };
+}
+
+/// A view to whose unpublished events some join. (The part that is cut off holds nothing.)
+pub struct Adding<D> {
+    deeds: PhantomData<D>,
+}
+
+impl<D: Deeds> Split<PassView> for Adding<D> {
+    ghost use Rattle.tube_cell.specs.Rules.{added_view, spent};
+
+    ghost left = { λ v. added_view v D.events };
+
+    ghost right = { λ v. spent };
 }
 
 /// A view that goes to a new pass.

@@ -1,16 +1,16 @@
-//! The eight words of the cell: the six of the chip, then the host's horizon and the parasite's.
-ghost use Rattle.std.specs.Prelude.{◌≡◌};
+//! The nine words of the cell: the six of the chip, then the host's horizon, the parasite's, and its trust.
+ghost use Rattle.std.specs.Prelude.{◌≡◌, ◌<◌, ◌^◌};
 ghost use Rattle.tube_chip.specs.State.{State};
 ghost use Rattle.tube_chip.specs.Packing.{IsChip, packed};
-ghost use Rattle.tube_cell.specs.Views.{Known, words_of, new_known, other, known_with, admits};
-ghost use Rattle.tube_cell.specs.Steps.{Local};
+ghost use Rattle.tube_cell.specs.Views.{Known, words_of, new_known, other, bound_at, known_with, admits};
+ghost use Rattle.tube_cell.specs.Steps.{LocalAfter};
 
 use beeb_bits::Side;
 use tube_chip::{Chip, packing_is_one_to_one};
 
-/// The words with this chip, and a side's own horizon and the other's.
-pub(crate) fn next_words(side: Side, chip: &Chip, mine: u64, theirs: u64) -> [u64; 8]
-    ensures words { result ≡ words_of (known_with side chip.now mine theirs) }
+/// The words with this chip, a side's own horizon and the other's, and this trust.
+pub(crate) fn next_words(side: Side, chip: &Chip, mine: u64, theirs: u64, trust: u64) -> [u64; 9]
+    ensures words { result ≡ words_of (known_with side chip.now mine theirs trust) }
     ensures bounds { IsChip chip.now }
 {
     let chip = chip.pack();
@@ -19,19 +19,19 @@ pub(crate) fn next_words(side: Side, chip: &Chip, mine: u64, theirs: u64) -> [u6
         Side::Para => (theirs, mine),
     };
     [
-        chip[0], chip[1], chip[2], chip[3], chip[4], chip[5], host, para,
+        chip[0], chip[1], chip[2], chip[3], chip[4], chip[5], host, para, trust,
     ]
 }
 
 /// The words at power-on.
-pub(crate) fn power_on() -> [u64; 8]
+pub(crate) fn power_on() -> [u64; 9]
     ensures { result ≡ words_of new_known }
 {
-    next_words(Side::Host, &Chip::new(), 0, 0)
+    next_words(Side::Host, &Chip::new(), 0, 0, 0)
 }
 
 /// The other side's horizon.
-pub(crate) fn word_of(side: Side, words: &[u64; 8]) -> u64
+pub(crate) fn word_of(side: Side, words: &[u64; 9]) -> u64
     ensures { (k : Known) → words.now ≡ words_of k → result ≡ other side k }
 {
     match side {
@@ -40,7 +40,34 @@ pub(crate) fn word_of(side: Side, words: &[u64; 8]) -> u64
     }
 }
 
-/// The other side's horizon admits a side at this tick: the host up to it, and the parasite below it.
+/// The parasite's trust.
+pub(crate) fn trust_of(words: &[u64; 9]) -> u64
+    ensures is { (k : Known) → words.now ≡ words_of k → result ≡ k.trust }
+    ensures bounded { result < 2 ^ 64 }
+{
+    words[8]
+}
+
+/// The words with this trust.
+pub(crate) fn with_trust(words: &[u64; 9], trust: u64) -> [u64; 9]
+    ensures { (k : Known) → words.now ≡ words_of k → result ≡ words_of (record k { trust = trust }) }
+{
+    [
+        words[0], words[1], words[2], words[3], words[4], words[5], words[6], words[7], trust,
+    ]
+}
+
+/// The other side's bound, at this trust: its horizon, and of the parasite the trust too.
+pub(crate) fn bound_of(side: Side, words: &[u64; 9], trust: u64) -> u64
+    ensures { (k : Known) → words.now ≡ words_of k → result ≡ bound_at side (other side k) trust }
+{
+    match side {
+        Side::Host => words[7].max(trust),
+        Side::Para => words[6],
+    }
+}
+
+/// The other side's bound admits a side at this tick: the host up to it, and the parasite below it.
 pub(crate) fn is_admitted(side: Side, word: u64, tick: u64) -> bool
     ensures { result ≡ admits side word tick }
 {
@@ -51,7 +78,7 @@ pub(crate) fn is_admitted(side: Side, word: u64, tick: u64) -> bool
 }
 
 // The six words of the chip.
-fn chip_words(words: &[u64; 8]) -> [u64; 6]
+fn chip_words(words: &[u64; 9]) -> [u64; 6]
     ensures { (k : Known) → words.now ≡ words_of k → result ≡ packed k.chip }
 {
     [words[0], words[1], words[2], words[3], words[4], words[5]]
@@ -68,7 +95,7 @@ fn unpacked(words: [u64; 6]) -> Chip
 }
 
 /// The chip of these words.
-pub(crate) fn chip_of(words: &[u64; 8]) -> Chip
+pub(crate) fn chip_of(words: &[u64; 9]) -> Chip
     requires { (k : Known) × IsChip k.chip × (words.now ≡ words_of k) }
     ensures { (k : Known) → IsChip k.chip → words.now ≡ words_of k → result ≡ k.chip }
 {
@@ -76,7 +103,7 @@ pub(crate) fn chip_of(words: &[u64; 8]) -> Chip
 }
 
 /// The words found are known, and the local chip is theirs.
-pub(crate) fn renew(words: &mut [u64; 8], local: &mut Chip, found: [u64; 8])
+pub(crate) fn renew(words: &mut [u64; 9], local: &mut Chip, found: [u64; 9])
     requires { (k : Known) × IsChip k.chip × (found ≡ words_of k) }
     ensures words { words.new ≡ found }
     ensures local { (k : Known) → IsChip k.chip → found ≡ words_of k → local.new ≡ k.chip }
@@ -86,10 +113,10 @@ pub(crate) fn renew(words: &mut [u64; 8], local: &mut Chip, found: [u64; 8])
 }
 
 /// The words found are known. The local chip stays where the chip is the one that was known, and else it is theirs.
-pub(crate) fn settle(words: &mut [u64; 8], local: &mut Chip, found: [u64; 8])
+pub(crate) fn settle(words: &mut [u64; 9], local: &mut Chip, found: [u64; 9])
     requires { (k : Known) × IsChip k.chip × (found ≡ words_of k) }
     ensures words { words.new ≡ found }
-    ensures local { (j k : Known) → IsChip j.chip → IsChip k.chip → words.old ≡ words_of j → found ≡ words_of k → Local j.chip local.old k.chip local.new }
+    ensures local { LocalAfter words.old local.old found local.new }
 {
     packing_is_one_to_one();
     let chip = chip_words(&found);

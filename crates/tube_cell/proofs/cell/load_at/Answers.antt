@@ -1,5 +1,5 @@
 use Rattle.std.proofs.Common.{rules}
-use Rattle.tube_cell.proofs.Calls.{looks_as}
+use Rattle.tube_cell.proofs.Raises.{looks_as}
 use Rattle.tube_cell.proofs.cell.load_at.Goals as goal
 
 pub load_as-requires : goal.load_as-requires

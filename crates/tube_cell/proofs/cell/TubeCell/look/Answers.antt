@@ -1,37 +1,42 @@
 use Rattle.std.proofs.Common.{◌≡◌, ◌∙◌, true, sym, ap, subst, List, ℕ}
 use Rattle.crossbeam_utils.specs.Seq.{cell_view}
 use Rattle.tube_chip.specs.State.{lines_of}
-use Rattle.tube_cell.specs.Views.{other, admits}
+use Rattle.tube_cell.specs.Views.{other, bound_at, other_bound, admits}
 use Rattle.tube_cell.specs.Steps.{IsPassOf}
-use Rattle.tube_cell.proofs.Calls.{may_look, bare_of, looked_local, pass_looked, is_looked, horizon_looked}
+use Rattle.tube_cell.proofs.Learns.{bare_of, none_of, cut_kept}
+use Rattle.tube_cell.proofs.Raises.{may_look, looked_ahead, looked_local, pass_looked, is_looked, horizon_looked}
 use Rattle.tube_cell.proofs.cell.TubeCell.look.Goals as goal
 
 pub load_at-found-requires-clause-may : goal.load_at-found-requires-clause-may
-load_at-found-requires-clause-may g c = may_look _ c.pass.inside.side c.pass.inside.words c.pass.inside.local c.args.pass.now (cell_view c.pass.inside.seat) c.args.t.0 c.pass.view_is c.pass.invariant c.requires.published c.requires.later
+load_at-found-requires-clause-may g c = may_look _ c.pass.inside.side c.pass.inside.words c.pass.inside.local c.args.pass.now (cell_view c.pass.inside.seat) c.args.t.0 c.pass.view_is c.pass.invariant.0 c.requires.published c.requires.none_trusted c.requires.later
 
 pub invariant_of-pass : goal.invariant_of-pass
 invariant_of-pass g c =
     let v = cell_view c.pass.inside.seat in
     let w = cell_view c.load_at-found.new.seat in
     let f = c.load_at-found.ensures.view in
-    let local = c.settle.ensures.local v.known w.known c.pass.invariant.well f.well c.pass.invariant.words_are f.words_are in
-    subst (λ (words : List ℕ). IsPassOf c.pass.inside.side words c.settle.new.local w) (sym c.settle.ensures.words)
-    (pass_looked c.pass.inside.side c.pass.inside.words c.load_at-found.result c.pass.inside.local c.settle.new.local c.args.t.0 v w c.pass.invariant
-    (bare_of _ c.pass.inside.side v c.args.pass.now c.pass.view_is c.requires.published) f local)
+    let local = c.settle.ensures.local v.known w.known c.pass.invariant.0.well f.well c.pass.invariant.0.words_are f.words_are in
+    let none = bare_of _ c.pass.inside.side v c.args.pass.now c.pass.view_is c.requires.published in (
+      subst (λ (words : List ℕ). IsPassOf c.pass.inside.side words c.settle.new.local w) (sym c.settle.ensures.words)
+          (pass_looked c.pass.inside.side c.pass.inside.words c.load_at-found.result c.pass.inside.local c.settle.new.local c.args.t.0 v w c.pass.invariant.0
+          (bare_of _ c.pass.inside.side v c.args.pass.now c.pass.view_is c.requires.published) (none_of _ c.pass.inside.side v c.args.pass.now c.pass.view_is c.requires.none_trusted) f local),
+      cut_kept c.pass.inside.side c.pass.inside.cut v w c.pass.invariant.1 none (looked_ahead c.pass.inside.side c.args.t.0 c.load_at-found.result v w f ∙ none),
+    )
 
 pub returns-then-is_admitted-clause-looked : goal.returns-then-is_admitted-clause-looked
 returns-then-is_admitted-clause-looked g c =
     let v = cell_view c.pass.inside.seat in
     let w = cell_view c.load_at-found.new.seat in
     let f = c.load_at-found.ensures.view in
-    let local = looked_local c.pass.inside.side c.pass.inside.words c.load_at-found.result c.pass.inside.local c.settle.new.local v w c.pass.invariant
-    (bare_of _ c.pass.inside.side v c.args.pass.now c.pass.view_is c.requires.published) (c.settle.ensures.local v.known w.known c.pass.invariant.well f.well c.pass.invariant.words_are f.words_are) in
-    let word = c.word_of.ensures w.known (c.settle.ensures.words ∙ f.words_are) in
-    let admitted : admits c.pass.inside.side (other c.pass.inside.side w.known) c.args.t.0 ≡ true =
+    let local = looked_local c.pass.inside.side c.pass.inside.words c.load_at-found.result c.pass.inside.local c.settle.new.local v w c.pass.invariant.0
+    (bare_of _ c.pass.inside.side v c.args.pass.now c.pass.view_is c.requires.published) (c.settle.ensures.local v.known w.known c.pass.invariant.0.well f.well c.pass.invariant.0.words_are f.words_are) in
+    let found = c.settle.ensures.words ∙ f.words_are in
+    let word = c.bound_of-bound.ensures w.known found ∙ ap (λ n. bound_at c.pass.inside.side (other c.pass.inside.side w.known) n) (c.trust_of.ensures.is w.known found) in
+    let admitted : admits c.pass.inside.side (other_bound c.pass.inside.side w.known) c.args.t.0 ≡ true =
     ap (λ n. admits c.pass.inside.side n c.args.t.0) (sym word) ∙ sym c.is_admitted.ensures ∙ c.if-is_admitted.true in
-    is_looked _ _ c.pass.inside.side c.pass.inside.words c.load_at-found.result c.pass.inside.local c.args.pass.now c.args.t.0 c.lines.result v w c.pass.view_is c.pass.invariant c.requires.published
+    is_looked _ _ c.pass.inside.side c.pass.inside.words c.load_at-found.result c.pass.inside.local c.args.pass.now c.args.t.0 c.lines.result v w c.pass.view_is c.pass.invariant.0 c.requires.published c.requires.none_trusted c.requires.later
     c.load_at-found.ensures.cell.0 f admitted (c.lines.ensures ∙ ap lines_of local)
 
 pub returns-then-is_admitted-clause-horizon : goal.returns-then-is_admitted-clause-horizon
 returns-then-is_admitted-clause-horizon g c =
-    horizon_looked c.args.pass.now _ c.args.t.0 c.lines.result c.requires.published c.requires.later (returns-then-is_admitted-clause-looked g c)
+    horizon_looked c.args.pass.now _ c.args.t.0 c.lines.result c.requires.published c.requires.none_trusted c.requires.later (returns-then-is_admitted-clause-looked g c)

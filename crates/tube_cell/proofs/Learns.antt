@@ -1,0 +1,282 @@
+-- What a load, or an exchange that failed, leaves of a pass.
+use Rattle.std.proofs.Common.{◌≡◌, ◌≢◌, ℕ, ◌+◌, ◌<◌, ◌≤◌, min, Bool, true, false, cond, List, [], ◌∷◌, ◌++◌, All, refl, sym, ap, ◌∙◌, subst, ⊎_elim, arith, nat_le, append-nil}
+use Rattle.std.proofs.lemmas.List.Elements.{All-nil, All-weaker}
+use Rattle.std.proofs.lemmas.Bool.Decides.{nat_tests}
+use Rattle.atomic_table.specs.Seated.{TableId}
+use Rattle.beeb_bits.specs.declared.Side.{Side}
+use Rattle.beeb_bits.specs.declared.Side.TheVariants.{Host, Para}
+use Rattle.tube_chip.specs.State.{State}
+use Rattle.tube_chip.specs.Events.{Event}
+use Rattle.tube_chip.specs.Packing.{IsChip}
+use Rattle.tube_cell.specs.Views.{Known, words_of, Role, one_side, View, other, own_bound, other_bound, bound_at, Admits, horizon, past_last, below, done, same_readings, trust_past, trust_after}
+use Rattle.tube_cell.specs.Rules.{Trusts, GoesOn, rise, firm, pending, Finds}
+use Rattle.tube_cell.specs.Passes.{Carried, carried, Learns, own_horizon, here}
+use Rattle.tube_cell.specs.Steps.{Runs, Found, IsPassOf, CutIs, Local}
+use Rattle.tube_cell.proofs.Law.{All-below}
+use Rattle.tube_cell.proofs.Grows.{trusts_fall, past_append, below_same}
+use Rattle.tube_cell.proofs.Keeps.{firm_low}
+
+-- ---- a pass with nothing unpublished
+
+pub bare_horizon : (s : Side) (v : View) → v.ahead ≡ [] → horizon (own_bound s v.known) (v.mine ++ v.ahead) ≡ horizon (own_bound s v.known) v.mine
+bare_horizon s v none = ap (λ l. horizon (own_bound s v.known) l) (ap (λ a. v.mine ++ a) none ∙ append-nil v.mine)
+
+-- the events of a pass run on from its known chip to this one
+abbrev pub RunsOn : Side → Known → List Event → List Event → State → Type 0
+RunsOn s k mine es here = Runs s (other s k) k.trust (horizon (own_bound s k) mine) k.chip es here (horizon (own_bound s k) (mine ++ es))
+
+pub bare_local : (s : Side) (words : List ℕ) (here : State) (v : View) → IsPassOf s words here v → v.ahead ≡ [] → here ≡ v.known.chip
+bare_local s words here v is none = (subst (λ (es : List Event). Runs s (other s v.known) v.known.trust (horizon (own_bound s v.known) v.mine) v.known.chip es here (horizon (own_bound s v.known) (v.mine ++ v.ahead))) none is.runs).0
+
+pub pass_fresh : (s : Side) (words : List ℕ) (here : State) (v : View) → v.role ≡ one_side s → IsChip v.known.chip → words ≡ words_of v.known → All (λ e. e.tick < v.known.trust) v.trusted → v.ahead ≡ [] → here ≡ v.known.chip → IsPassOf s words here v
+pass_fresh s words here v role well words_are trusted none same = record {
+  role = role;
+  well = well;
+  words_are = words_are;
+  trusted = trusted;
+  not_both = λ some. absurd (some none);
+  runs = subst (λ (es : List Event). Runs s (other s v.known) v.known.trust (horizon (own_bound s v.known) v.mine) v.known.chip es here (horizon (own_bound s v.known) (v.mine ++ v.ahead))) (sym none)
+      (same, let e = bare_horizon s v none in omega arith);
+}
+
+pub none_low : (t : ℕ) (xs : List Event) → xs ≡ [] → All (λ e. e.tick < t) xs
+none_low t xs none = subst (All (λ e. e.tick < t)) (sym none) (All-nil (λ e. e.tick < t))
+
+pub bare_of : (id : TableId) (s : Side) (v : View) (p : Carried) → carried id s v ≡ p → p.ahead ≡ [] → v.ahead ≡ []
+bare_of id s v p view none = ap (λ q. q.ahead) view ∙ none
+
+pub none_of : (id : TableId) (s : Side) (v : View) (p : Carried) → carried id s v ≡ p → p.trusted ≡ [] → v.trusted ≡ []
+none_of id s v p view none = ap (λ q. q.trusted) view ∙ none
+
+pub later_of : (id : TableId) (s : Side) (v : View) (p : Carried) (t : ℕ) → carried id s v ≡ p → p.ahead ≡ [] → own_horizon p ≤ t → horizon (own_bound s v.known) v.mine ≤ t
+later_of id s v p t view none later =
+    let e = bare_horizon s v (bare_of id s v p view none) in
+    let h : own_horizon (carried id s v) ≡ own_horizon p = ap own_horizon view in
+    omega arith
+
+-- ---- what becomes of a pass that finds the words
+
+pub found_of : (v w : View) (x : List ℕ) → Finds v x x w → Found x v w
+found_of v w x f = record { well = f.0; words_are = f.1; view_is = f.2; goes_on = f.3 }
+
+past_more : (b : Bool) (a c t : ℕ) → a ≤ c → cond b a (min a t) ≤ cond b c (min c t)
+past_more true a c t le = le
+past_more false a c t le = omega arith
+
+host_more : (t u a b from : ℕ) (c : State) (es : List Event) (last : State) (end : ℕ) → Runs Host t a from c es last end → t ≤ u → a ≤ b → Runs Host u b from c es last end
+host_more t u a b from c [] last end h le more = h
+host_more t u a b from c (e ∷ es) last end h le more = (
+  h.0,
+  h.1,
+  (let x = h.2 in omega arith),
+  h.3,
+  host_more t u (trust_past Host c e a) (trust_past Host c e b) (e.tick + 1) (done c e) es last end h.4 le (past_more (same_readings c (done c e)) a b e.tick more),
+)
+
+para_more : (t u a b from : ℕ) (c : State) (es : List Event) (last : State) (end : ℕ) → Runs Para t a from c es last end → t ≤ u → Runs Para u b from c es last end
+para_more t u a b from c [] last end h le = h
+para_more t u a b from c (e ∷ es) last end h le = (h.0, h.1, (let x = h.2 in omega arith), h.3, para_more t u a b (e.tick + 1) (done c e) es last end h.4 le)
+
+runs_on : (s : Side) (v k : Known) (from : ℕ) (c : State) (es : List Event) (last : State) (end : ℕ) → GoesOn (one_side s) v k → Runs s (other s v) v.trust from c es last end → Runs s (other s k) k.trust from c es last end
+runs_on Host v k from c es last end on h = host_more v.para k.para v.trust k.trust from c es last end h on.1 on.2
+runs_on Para v k from c es last end on h = para_more v.host k.host v.trust k.trust from c es last end h on.1
+
+-- where there are unpublished events, the known bound admits the own
+runs_admit : (s : Side) (m t a : ℕ) (mine : List Event) (c : State) (es : List Event) (last : State) (end : ℕ) → Runs s t a (horizon m mine) c es last end → es ≢ [] → Admits s (bound_at s t a) m
+runs_admit s m t a mine c [] last end h some = absurd (some refl)
+runs_admit s m t a mine c (e ∷ es) last end h some = let f = h.1 in let x = h.2 in omega arith
+
+-- and it stays as it is
+bound_stays : (s : Side) (v k : Known) (t : ℕ) → GoesOn (one_side s) v k → own_bound s v ≤ t → Admits s (other_bound s v) t → own_bound s k ≡ own_bound s v
+bound_stays Host v k t on le a = on.0
+bound_stays Para v k t on le a =
+    let o = on.0 in
+    ⊎_elim (λ (e : k.trust ≡ v.trust). omega arith) (λ (e : (v.host ≤ k.trust) × (k.trust < v.trust) × (k.trust < k.host)). let x = e.0 in let y = e.1 in absurd (omega arith)) on.2
+
+pub bound_falls : (s : Side) (v k : Known) → GoesOn (one_side s) v k → own_bound s k ≤ own_bound s v
+bound_falls Host v k on = let o = on.0 in omega arith
+bound_falls Para v k on = let o = on.0 in let t = trusts_fall v k on.2 in omega arith
+
+-- what stays on trust lies below it
+pending_low : (s : Side) (v k : Known) (trusted : List Event) → Trusts s v k → All (λ e. e.tick < v.trust) trusted → All (λ e. e.tick < k.trust) (pending k trusted)
+pending_low s v k [] t low = All-nil (λ e. e.tick < k.trust)
+pending_low s v k (x ∷ xs) t low =
+    (elim (nat_le k.trust k.host) as (λ b. nat_le k.trust k.host ≡ b → All (λ e. e.tick < k.trust) (cond b [] (x ∷ xs))) [
+      | true ↦ λ h. All-nil (λ e. e.tick < k.trust)
+      | false ↦ λ h. let up = rises s v k t (past k.trust k.host h) in All-weaker (λ e. e.tick < v.trust) (λ e. e.tick < k.trust) (λ e l. omega arith) (x ∷ xs) low
+    ]) refl
+  where
+    past : (m n : ℕ) → nat_le m n ≡ false → n < m
+    past m n e = grind (arith, nat_tests)
+
+    rises : (s : Side) (v k : Known) → Trusts s v k → k.host < k.trust → v.trust ≤ k.trust
+    rises Host v k t lt = t
+    rises Para v k t lt = ⊎_elim (λ (e : k.trust ≡ v.trust). omega arith) (λ (e : (v.host ≤ k.trust) × (k.trust < v.trust) × (k.trust < k.host)). let x = e.2 in absurd (omega arith)) t
+
+-- those that stay for good lie below the bound that was known
+firm_bound : (s : Side) (v k : Known) (trusted : List Event) → GoesOn (one_side s) v k → All (λ e. e.tick < v.trust) trusted → All (λ e. e.tick < own_bound s v) (firm k trusted)
+firm_bound Host v k trusted on low = let o = on.0 in All-weaker (λ e. e.tick < k.host) (λ e. e.tick < v.host) (λ e l. omega arith) (firm k trusted) (firm_low k trusted)
+firm_bound Para v k trusted on low = All-weaker (λ e. e.tick < v.trust) (λ e. e.tick < own_bound Para v) (λ e l. omega arith) (firm k trusted) (go trusted low)
+  where
+    go : (xs : List Event) → All (λ e. e.tick < v.trust) xs → All (λ e. e.tick < v.trust) (firm k xs)
+    go [] all = All-nil (λ e. e.tick < v.trust)
+    go (x ∷ xs) all = elim (nat_le k.trust k.host) as (λ b. All (λ e. e.tick < v.trust) (cond b (below k.trust (x ∷ xs)) [])) [
+      | true ↦ All-below (λ e. e.tick < v.trust) k.trust (x ∷ xs) all
+      | false ↦ All-nil (λ e. e.tick < v.trust)
+    ]
+
+pub bare_firm : (k : Known) (mine trusted : List Event) → trusted ≡ [] → mine ++ firm k trusted ≡ mine
+bare_firm k mine trusted none = ap (λ l. mine ++ firm k l) none ∙ append-nil mine
+
+horizon_falls : (s : Side) (v k : Known) (mine trusted es : List Event) → GoesOn (one_side s) v k → All (λ e. e.tick < v.trust) trusted → (es ≢ [] → trusted ≡ [])
+    → horizon (own_bound s k) ((mine ++ firm k trusted) ++ es) ≤ horizon (own_bound s v) (mine ++ es)
+horizon_falls s v k mine trusted [] on low bare =
+    let a = ap past_last (append-nil (mine ++ firm k trusted)) in
+    let b = ap past_last (append-nil mine) in
+    let c = past_append (own_bound s v) mine (firm k trusted) (firm_bound s v k trusted on low) in
+    let d = bound_falls s v k on in
+    omega arith
+horizon_falls s v k mine trusted (e ∷ es) on low bare =
+    let a = ap (λ l. past_last (l ++ e ∷ es)) (bare_firm k mine trusted (bare (λ same. absurd (cc)))) in
+    let d = bound_falls s v k on in
+    omega arith
+
+found_runs : (s : Side) (v k : Known) (mine trusted es : List Event) (old new : State) → GoesOn (one_side s) v k → Local v.chip old k.chip new → (es ≢ [] → trusted ≡ []) → RunsOn s v mine es old
+    → RunsOn s k (mine ++ firm k trusted) es new
+found_runs s v k mine trusted [] old new on local bare h =
+    let e = ap past_last (append-nil (mine ++ firm k trusted)) in (
+      ⊎_elim (λ (t : (k.chip ≡ v.chip) × (new ≡ old)). t.1 ∙ h.0 ∙ sym t.0) (λ (t : (k.chip ≢ v.chip) × (new ≡ k.chip)). t.1) local,
+      (omega arith),
+    )
+found_runs s v k mine trusted (e ∷ es) old new on local bare h =
+    let f = h.1 in
+    let x = h.2 in
+    let mine_is = bare_firm k mine trusted (bare (λ same. absurd (cc))) in
+    let bound = bound_stays s v k e.tick on (omega arith) h.2 in
+    let chip = on.3 (omega arith) in
+    let kept : new ≡ old = ⊎_elim (λ (t : (k.chip ≡ v.chip) × (new ≡ old)). t.1) (λ (t : (k.chip ≢ v.chip) × (new ≡ k.chip)). absurd (t.0 (sym chip))) local in
+    subst (λ (y : ℕ × List Event). Runs s (other s k) k.trust (horizon y.0 y.1) k.chip (e ∷ es) new (horizon y.0 (y.1 ++ e ∷ es))) (λ i. (sym bound i, sym mine_is i))
+    (subst (λ (y : State × State). Runs s (other s k) k.trust (horizon (own_bound s v) mine) y.0 (e ∷ es) y.1 (horizon (own_bound s v) (mine ++ e ∷ es))) (λ i. (chip i, sym kept i))
+    (runs_on s v k (horizon (own_bound s v) mine) v.chip (e ∷ es) old (horizon (own_bound s v) (mine ++ e ∷ es)) on h))
+
+pub on_of : (s : Side) (v : View) (k : Known) → v.role ≡ one_side s → GoesOn v.role v.known k → GoesOn (one_side s) v.known k
+on_of s v k role on = subst (λ (r : Role). GoesOn r v.known k) role on
+
+pub pass_found : (s : Side) (words found : List ℕ) (old new : State) (v w : View) → IsPassOf s words old v → Found found v w → Local v.known.chip old w.known.chip new → IsPassOf s found new w
+pass_found s words found old new v w is f local =
+    let k : Known = w.known in
+    let on = on_of s v k is.role f.goes_on in
+    let w_is = f.view_is in
+    record {
+      role = ap (λ u. u.role) w_is ∙ is.role;
+      well = f.well;
+      words_are = f.words_are;
+      trusted = subst (All (λ e. e.tick < k.trust)) (sym (ap (λ u. u.trusted) w_is)) (pending_low s v.known k v.trusted on.2 is.trusted);
+      not_both = λ some. ap (λ u. u.trusted) w_is ∙ ap (pending k) (is.not_both (subst (λ (l : List Event). l ≢ []) (ap (λ u. u.ahead) w_is) some));
+      runs = subst (λ (y : List Event × List Event). RunsOn s k y.0 y.1 new) (λ i. ((sym w_is i).mine, (sym w_is i).ahead))
+          (found_runs s v.known k v.mine v.trusted v.ahead old new on local is.not_both is.runs);
+    }
+
+-- what becomes of events on trust
+firm_past : (k : Known) (xs : List Event) → k.trust ≤ k.host → (firm k xs ≡ below k.trust xs) × (pending k xs ≡ [])
+firm_past k [] le = (refl, refl)
+firm_past k (x ∷ xs) le = let e = le-true k.trust k.host le in (ap (λ b. cond b (below k.trust (x ∷ xs)) []) e, ap (λ b. cond b [] (x ∷ xs)) e)
+  where
+    le-true : (m n : ℕ) → m ≤ n → nat_le m n ≡ true
+    le-true m n le = grind (arith, nat_tests)
+
+firm_ahead : (k : Known) (xs : List Event) → k.host < k.trust → (firm k xs ≡ []) × (pending k xs ≡ xs)
+firm_ahead k [] lt = (refl, refl)
+firm_ahead k (x ∷ xs) lt = let e = le-false k.trust k.host lt in (ap (λ b. cond b (below k.trust (x ∷ xs)) []) e, ap (λ b. cond b [] (x ∷ xs)) e)
+  where
+    le-false : (m n : ℕ) → n < m → nat_le m n ≡ false
+    le-false m n lt = grind (arith, nat_tests)
+
+-- a pass with the words k found, and n rises
+abbrev pub finding : Carried → Known → ℕ → Carried
+finding p k n = record p { events = p.events ++ firm k p.trusted; trusted = pending k p.trusted; known = k; higher = n }
+
+pub is_taken : (p q : Carried) (n : ℕ) → q ≡ finding p q.known n → Trusts p.side p.known q.known → q.known.trust < p.known.trust → (q.events ≡ p.events ++ below q.known.trust p.trusted) × (q.trusted ≡ [])
+is_taken p q n rest trust lt =
+    let f = firm_past q.known p.trusted (passed p.side trust) in
+    (ap (λ x. x.events) rest ∙ ap (λ l. p.events ++ l) f.0, ap (λ x. x.trusted) rest ∙ f.1)
+  where
+    passed : (s : Side) → Trusts s p.known q.known → q.known.trust ≤ q.known.host
+    passed Host t = absurd (omega arith)
+    passed Para t = ⊎_elim (λ (e : q.known.trust ≡ p.known.trust). absurd (omega arith)) (λ (e : (p.known.host ≤ q.known.trust) × (q.known.trust < p.known.trust) × (q.known.trust < q.known.host)). let x = e.2 in omega arith) t
+
+pub is_settled : (p q : Carried) (n : ℕ) → q ≡ finding p q.known n → All (λ e. e.tick < p.known.trust) p.trusted → q.known.trust ≡ p.known.trust → q.known.trust ≤ q.known.host → (q.events ≡ p.events ++ p.trusted) × (q.trusted ≡ [])
+is_settled p q n rest low same le =
+    let f = firm_past q.known p.trusted le in
+    let all = below_same q.known.trust p.trusted (subst (λ (t : ℕ). All (λ e. e.tick < t) p.trusted) (sym same) low) in
+    (ap (λ x. x.events) rest ∙ ap (λ l. p.events ++ l) (f.0 ∙ all), ap (λ x. x.trusted) rest ∙ f.1)
+
+pub is_staying : (p q : Carried) (n : ℕ) → q ≡ finding p q.known n → q.known.host < q.known.trust → (q.events ≡ p.events) × (q.trusted ≡ p.trusted)
+is_staying p q n rest lt =
+    let f = firm_ahead q.known p.trusted lt in
+    (ap (λ x. x.events) rest ∙ ap (λ l. p.events ++ l) f.0 ∙ append-nil p.events, ap (λ x. x.trusted) rest ∙ f.1)
+
+pub learned : (id id' : TableId) (s : Side) (words found : List ℕ) (old : State) (p : Carried) (v w : View) → carried id s v ≡ p → IsPassOf s words old v → id' ≡ id → Found found v w → Learns p (carried id' s w)
+learned id id' s words found old p v w view is cell f =
+    let k : Known = w.known in
+    let on = on_of s v k is.role f.goes_on in
+    let w_is = f.view_is in
+    let up : w.higher ≡ v.higher + rise (one_side s) v.known k = ap (λ u. u.higher) w_is ∙ ap (λ (r : Role). v.higher + rise r v.known k) is.role in
+    let falls = horizon_falls s v.known k v.mine v.trusted v.ahead on is.trusted is.not_both in
+    let now : horizon (own_bound s k) (w.mine ++ w.ahead) ≡ horizon (own_bound s k) ((v.mine ++ firm k v.trusted) ++ v.ahead) = λ i. horizon (own_bound s k) ((w_is i).mine ++ (w_is i).ahead) in
+    let n = v.higher + rise (one_side s) v.known k in
+    let rest : carried id' s w ≡ finding (carried id s v) k n = λ i. record {
+      cell = cell i;
+      side = s;
+      events = (w_is i).mine;
+      trusted = (w_is i).trusted;
+      ahead = (w_is i).ahead;
+      known = k;
+      commits = (w_is i).commits;
+      higher = up i;
+    } in
+    subst (λ (q : Carried). Learns q (carried id' s w)) view (record {
+      rest = rest;
+      taken = is_taken (carried id s v) (carried id' s w) n rest on.2;
+      settled = is_settled (carried id s v) (carried id' s w) n rest is.trusted;
+      stays = is_staying (carried id s v) (carried id' s w) n rest;
+      plain = λ none. λ i. record {
+        cell = cell i;
+        side = s;
+        events = (ap (λ u. u.mine) w_is ∙ bare_firm k v.mine v.trusted none) i;
+        trusted = (ap (λ u. u.trusted) w_is ∙ ap (pending k) none ∙ sym none) i;
+        ahead = (w_is i).ahead;
+        known = k;
+        commits = (w_is i).commits;
+        higher = up i;
+      };
+      own_word = on.0;
+      other_word = on.1;
+      trust = on.2;
+      horizon = omega arith;
+      same_chip = λ some. sym (on.3 (runs_admit s (own_bound s v.known) (other s v.known) v.known.trust v.mine v.known.chip v.ahead old (horizon (own_bound s v.known) (v.mine ++ v.ahead)) is.runs some));
+    })
+
+-- ---- the tick at which the trust is cut
+
+pub cut_kept : (s : Side) (cut : ℕ) (v w : View) → CutIs s cut v → v.ahead ≡ [] → w.ahead ≡ [] → CutIs s cut w
+cut_kept s cut v w is none none' a lt =
+    ap (λ l. trust_after s w.known.chip a l) none' ∙ sym (ap (λ l. trust_after s v.known.chip a l) none) ∙ is a lt
+
+pub cut_fresh : (s : Side) (v : View) → v.ahead ≡ [] → CutIs s 18446744073709551615 v
+cut_fresh s v none a lt = ap (λ l. trust_after s v.known.chip a l) none ∙ (omega arith)
+
+-- where events are unpublished, the words found have the same chip
+pub cut_found : (s : Side) (words found : List ℕ) (old : State) (cut : ℕ) (v w : View) → IsPassOf s words old v → CutIs s cut v → Found found v w → CutIs s cut w
+cut_found s words found old cut v w is cuts f a lt =
+    ap (λ (l : List Event). trust_after s w.known.chip a l) (ap (λ u. u.ahead) f.view_is) ∙ go v.ahead is.runs (cuts a lt)
+  where
+    on : GoesOn (one_side s) v.known w.known
+    on = on_of s v w.known is.role f.goes_on
+
+    go : (es : List Event) → Runs s (other s v.known) v.known.trust (horizon (own_bound s v.known) v.mine) v.known.chip es old (horizon (own_bound s v.known) (v.mine ++ v.ahead))
+        → trust_after s v.known.chip a es ≡ min a cut → trust_after s w.known.chip a es ≡ min a cut
+    go [] runs e = e
+    go (x ∷ xs) runs e =
+        let admits = runs_admit s (own_bound s v.known) (other s v.known) v.known.trust v.mine v.known.chip (x ∷ xs) old (horizon (own_bound s v.known) (v.mine ++ v.ahead)) runs (λ no. absurd (cc)) in
+        ap (λ (c : State). trust_after s c a (x ∷ xs)) (sym (on.3 admits)) ∙ e

@@ -1,0 +1,130 @@
+-- An observation leaves the chip, and chips that show the parasite the same answer its observations alike.
+use Rattle.std.proofs.Common.{◌≡◌, ℕ, ◌≤◌, nat_eq, Bool, true, false, true≢false, ◌&&◌, cond, min, refl, sym, ap, ◌∙◌, subst, arith}
+use mathlib.Core.Bool.{beq}
+use Rattle.std.proofs.lemmas.Bool.Decides.{nat_tests}
+use Rattle.beeb_bits.specs.declared.Side.{Side}
+use Rattle.beeb_bits.specs.declared.Side.TheVariants.{Host, Para}
+use Rattle.tube_chip.specs.declared.Op.TheVariants.{Read, Write}
+use Rattle.tube_chip.specs.declared.Lines.{Lines}
+use Rattle.tube_chip.specs.declared.Answer.TheVariants.{Byte, Seen}
+use Rattle.tube_chip.specs.Register.{front_of}
+use Rattle.tube_chip.specs.State.{State, register, incoming, asks_nmi, lines_of}
+use Rattle.tube_chip.specs.Act.{Query, access, look, act, risen, counted, read_by, register_number, status}
+use Rattle.tube_cell.specs.Views.{is_observation, same_lines, same_readings, trust_next}
+
+-- ---- the chip stays
+
+not_risen : (b : Bool) (n : ℕ) → risen b b n ≡ n
+not_risen true n = refl
+not_risen false n = refl
+
+counted_same : (c : State) → counted c c ≡ c
+counted_same c = λ i. record c { nmis = not_risen (asks_nmi c) c.nmis i; resets = not_risen c.flags.p c.resets i }
+
+pub observed_stays : (c : State) (s : Side) (q : Query) → is_observation q ≡ true → (act c s q).0 ≡ c
+observed_stays c s (access (Read number)) is = ap (λ b. counted c (cond b c (read_by s (register_number number) c))) is ∙ counted_same c
+observed_stays c s (access (Write number byte)) is = absurd (true≢false (sym is))
+observed_stays c s look is = refl
+
+-- ---- the same readings
+
+-- d shows the parasite what c does
+abbrev pub ShowsSame : State → State → Type 0
+ShowsSame c d = (lines_of d ≡ lines_of c) × ((k : ℕ) → status Para k d ≡ status Para k c)
+
+pub shows_itself : (c : State) → ShowsSame c c
+shows_itself c = (refl, λ k. refl)
+
+pub same_answer : (c d : State) (q : Query) → ShowsSame c d → is_observation q ≡ true → (act d Para q).1 ≡ (act c Para q).1
+same_answer c d (access (Read number)) same is =
+    let k = register_number number in
+    let byte : (e : State) → (act e Para (access (Read number))).1 ≡ Byte (status Para k e) = λ e. ap (λ b. Byte (cond b (status Para k e) (front_of (register k (incoming Para e))))) is in
+    byte d ∙ ap (λ n. Byte n) (same.1 k) ∙ sym (byte c)
+same_answer c d (access (Write number byte)) same is = absurd (true≢false (sym is))
+same_answer c d look same is = ap (λ l. Seen l) same.0
+
+-- ---- by their test
+
+eq_from : (a b : ℕ) → nat_eq a b ≡ true → a ≡ b
+eq_from a b e = grind (arith, nat_tests)
+
+flag_from : (a b : Bool) → beq a b ≡ true → a ≡ b
+flag_from true true e = refl
+flag_from true false e = sym e
+flag_from false true e = e
+flag_from false false e = refl
+
+both_from : (a b : Bool) → (a && b) ≡ true → (a ≡ true) × (b ≡ true)
+both_from true b e = (refl, e)
+both_from false b e = absurd (true≢false (sym e))
+
+lines_from : (a b : Lines) → same_lines a b ≡ true → a ≡ b
+lines_from a b e =
+    let p = both_from (((beq a.prst b.prst && nat_eq a.resets b.resets) && nat_eq a.nmis b.nmis) && beq a.pirq b.pirq) (beq a.hirq b.hirq) e in
+    let q = both_from ((beq a.prst b.prst && nat_eq a.resets b.resets) && nat_eq a.nmis b.nmis) (beq a.pirq b.pirq) p.0 in
+    let r = both_from (beq a.prst b.prst && nat_eq a.resets b.resets) (nat_eq a.nmis b.nmis) q.0 in
+    let s = both_from (beq a.prst b.prst) (nat_eq a.resets b.resets) r.0 in
+    λ i. record {
+      prst = flag_from a.prst b.prst s.0 i;
+      resets = eq_from a.resets b.resets s.1 i;
+      nmis = eq_from a.nmis b.nmis r.1 i;
+      pirq = flag_from a.pirq b.pirq q.1 i;
+      hirq = flag_from a.hirq b.hirq p.1 i;
+    }
+
+-- a register that is none of the first three is the fourth
+fourth : (k : ℕ) (c : State) → nat_eq k 1 ≡ false → nat_eq k 2 ≡ false → nat_eq k 3 ≡ false → status Para k c ≡ status Para 4 c
+fourth k c one two three = rw (one, two, three) refl
+
+four_from : (c d : State) → status Para 1 c ≡ status Para 1 d → status Para 2 c ≡ status Para 2 d → status Para 3 c ≡ status Para 3 d → status Para 4 c ≡ status Para 4 d → (k : ℕ) → status Para k d ≡ status Para k c
+four_from c d first second third last k = go (nat_eq k 1) (nat_eq k 2) (nat_eq k 3) refl refl refl
+  where
+    at : (n : ℕ) → nat_eq k n ≡ true → status Para n c ≡ status Para n d → status Para k d ≡ status Para k c
+    at n e same = subst (λ (j : ℕ). status Para j d ≡ status Para j c) (sym (eq_from k n e)) (sym same)
+
+    go : (x y z : Bool) → nat_eq k 1 ≡ x → nat_eq k 2 ≡ y → nat_eq k 3 ≡ z → status Para k d ≡ status Para k c
+    go true y z one two three = at 1 one first
+    go false true z one two three = at 2 two second
+    go false false true one two three = at 3 three third
+    go false false false one two three = fourth k d one two three ∙ sym last ∙ sym (fourth k c one two three)
+
+pub readings_from : (c d : State) → same_readings c d ≡ true → ShowsSame c d
+readings_from c d e =
+    let l = same_lines (lines_of c) (lines_of d) in
+    let s : ℕ → Bool = λ k. nat_eq (status Para k c) (status Para k d) in
+    let p = both_from (((l && s 1) && s 2) && s 3) (s 4) e in
+    let q = both_from ((l && s 1) && s 2) (s 3) p.0 in
+    let r = both_from (l && s 1) (s 2) q.0 in
+    let t = both_from l (s 1) r.0 in
+    let from : (k : ℕ) → s k ≡ true → status Para k c ≡ status Para k d = λ k. eq_from (status Para k c) (status Para k d) in
+    (sym (lines_from (lines_of c) (lines_of d) t.0), four_from c d (from 1 t.1) (from 2 r.1) (from 3 q.1) (from 4 p.1))
+
+-- ---- the test, at one chip
+
+flag_same : (a : Bool) → beq a a ≡ true
+flag_same true = refl
+flag_same false = refl
+
+nat_same : (n : ℕ) → nat_eq n n ≡ true
+nat_same n = grind (arith, nat_tests)
+
+lines_same : (a : Lines) → same_lines a a ≡ true
+lines_same a = rw (flag_same a.prst, nat_same a.resets, nat_same a.nmis, flag_same a.pirq, flag_same a.hirq) refl
+
+readings_same : (c : State) → same_readings c c ≡ true
+readings_same c =
+    let s : (k : ℕ) → nat_eq (status Para k c) (status Para k c) ≡ true = λ k. nat_same (status Para k c) in
+    λ i. lines_same (lines_of c) i && s 1 i && s 2 i && s 3 i && s 4 i
+
+-- where the chip stays, so does the trust
+pub trust_stays : (s : Side) (c d : State) (t a : ℕ) → d ≡ c → trust_next s c d t a ≡ a
+trust_stays Host c d t a same = ap (λ (x : State). trust_next Host c x t a) same ∙ ap (λ b. cond b a (min a t)) (readings_same c)
+trust_stays Para c d t a same = refl
+
+-- where the trust lies no later than the tick, it stays too
+pub early_stays : (c d : State) (t a : ℕ) → a ≤ t → trust_next Host c d t a ≡ a
+early_stays c d t a le = go (same_readings c d)
+  where
+    go : (b : Bool) → cond b a (min a t) ≡ a
+    go true = refl
+    go false = omega arith

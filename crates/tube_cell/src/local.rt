@@ -1,0 +1,108 @@
+//! What is done at a pass's local chip.
+ghost use Rattle.std.specs.Prelude.{◌≡◌, ◌<◌, true};
+ghost use Rattle.beeb_bits.specs.declared.Side.TheVariants.{Host, Para};
+ghost use Rattle.tube_chip.specs.declared.Op.TheVariants.{Read};
+ghost use Rattle.tube_chip.specs.State.{State};
+ghost use Rattle.tube_chip.specs.Act.{access, MayDo, is_status, answer_of, chip_after};
+ghost use Rattle.tube_cell.specs.Views.{is_observation, readings_of, same_lines, same_readings, trust_next};
+
+use beeb_bits::Side;
+use tube_chip::{Chip, Lines, Op};
+
+/// What the parasite's observations show of a chip: the lines, and what it reads at its status registers, which have the numbers 0, 2, 4
+/// and 6.
+#[derive(Clone, Copy, Debug, PartialEq, Eq)]
+pub struct Readings {
+    /// The lines.
+    pub lines: Lines,
+    /// The status registers, the first one's first.
+    pub status: [u8; 4],
+}
+
+/// What the parasite reads at a status register. The chip stays.
+pub(crate) fn peek(chip: &mut Chip, number: u8) -> u8
+    requires number { number < 8 }
+    requires status { is_status number ≡ true }
+    ensures byte { result ≡ answer_of chip.old Para (Read number) }
+    ensures chip { chip.new ≡ chip.old }
+{
+    chip.apply(Side::Para, Op::Read(number))
+}
+
+/// What the parasite's observations show of the chip, which stays.
+pub(crate) fn readings_of(chip: &mut Chip) -> Readings
+    ensures readings { result ≡ readings_of chip.old }
+    ensures chip { chip.new ≡ chip.old }
+{
+    let first = peek(chip, 0);
+    let second = peek(chip, 2);
+    let third = peek(chip, 4);
+    let fourth = peek(chip, 6);
+    Readings {
+        lines: chip.lines(),
+        status: [first, second, third, fourth],
+    }
+}
+
+fn same_lines(a: Lines, b: Lines) -> bool
+    ensures { result ≡ same_lines a b }
+{
+    a.prst == b.prst
+        && a.resets == b.resets
+        && a.nmis == b.nmis
+        && a.pirq == b.pirq
+        && a.hirq == b.hirq
+}
+
+fn same_readings(a: Readings, b: Readings) -> bool
+    ensures { (c d : State) → a ≡ readings_of c → b ≡ readings_of d → result ≡ same_readings c d }
+{
+    same_lines(a.lines, b.lines)
+        && a.status[0] == b.status[0]
+        && a.status[1] == b.status[1]
+        && a.status[2] == b.status[2]
+        && a.status[3] == b.status[3]
+}
+
+fn is_observation(op: Op) -> bool
+    ensures { result ≡ is_observation (access op) }
+{
+    match op {
+        Op::Read(number) => number % 2 == 0,
+        Op::Write(_, _) => false,
+    }
+}
+
+// Does an operation of the host at this tick. Its answer, and the trust after it.
+fn host_operates(chip: &mut Chip, op: Op, tick: u64, trust: u64) -> (u8, u64)
+    requires { MayDo Host op }
+    ensures chip { chip.new ≡ chip_after chip.old Host op }
+    ensures answer { result.0 ≡ answer_of chip.old Host op }
+    ensures trust { result.1 ≡ trust_next Host chip.old chip.new tick trust }
+{
+    if is_observation(op) || trust <= tick {
+        let answer = chip.apply(Side::Host, op);
+        return (answer, trust);
+    }
+    let before = readings_of(chip);
+    let answer = chip.apply(Side::Host, op);
+    let after = readings_of(chip);
+    if same_readings(before, after) {
+        (answer, trust)
+    } else {
+        (answer, trust.min(tick))
+    }
+}
+
+/// Does an operation of a side at this tick. Its answer, and the trust after it.
+pub(crate) fn operate(chip: &mut Chip, side: Side, op: Op, tick: u64, trust: u64) -> (u8, u64)
+    requires { MayDo side op }
+    ensures chip { chip.new ≡ chip_after chip.old side op }
+    ensures answer { result.0 ≡ answer_of chip.old side op }
+    ensures trust { result.1 ≡ trust_next side chip.old chip.new tick trust }
+{
+    match side {
+        Side::Host => host_operates(chip, op, tick, trust),
+        Side::Para => (chip.apply(Side::Para, op), trust),
+    }
+}
