@@ -1,7 +1,7 @@
 //! The top calls.
 ghost use Rattle.std.specs.Prelude.{◌≡◌, ◌↔◌, None, IfSome, IfNone, map, string_bytes};
 ghost use Rattle.beeb_words.specs.Words.{command};
-ghost use Rattle.beeb_run.specs.Promise.{world, crew_of, nobody};
+ghost use Rattle.beeb_run.specs.Promise.{world, nobody};
 ghost use Rattle.beeb_commands.specs.Commands.{EndsWith, unpaired};
 ghost use Rattle.beeb_commands.specs.Headline.{Headline};
 
@@ -27,9 +27,14 @@ pub fn plain<S: Shelf, O: Outlet>(
 ) -> Status
     // `Usage` comes exactly where the words are outside the grammar or spell `run`, and then shelf and outlet are as they were.
     ensures usage { (result ≡ Status.Usage) ↔ (unpaired (command (map string_bytes words.now)) ≡ None) }
-    ensures refused { IfNone (unpaired (command (map string_bytes words.now))) (world (S.shelf shelf.new) (O.outlet out.new) nobody ≡ world (S.shelf shelf.old) (O.outlet out.old) nobody) }
+    ensures refused { let old = world (S.shelf shelf.old) (O.outlet out.old) nobody in
+        let new = world (S.shelf shelf.new) (O.outlet out.new) nobody in
+        IfNone (unpaired (command (map string_bytes words.now))) (new ≡ old) }
     // Else the command is carried out, with the devices as they were handed in.
-    ensures ran { IfSome (unpaired (command (map string_bytes words.now))) (λ c. EndsWith (map ⟦<Box<dyn BusDevice + Send> as BusDevice>⟧.plug plugs.items) c (world (S.shelf shelf.old) (O.outlet out.old) nobody) (world (S.shelf shelf.new) (O.outlet out.new) nobody) result) }
+    ensures ran { let devices = map ⟦<Box<dyn BusDevice + Send> as BusDevice>⟧.plug plugs.items in
+        let old = world (S.shelf shelf.old) (O.outlet out.old) nobody in
+        let new = world (S.shelf shelf.new) (O.outlet out.new) nobody in
+        IfSome (unpaired (command (map string_bytes words.now))) (λ c. EndsWith devices c old new result) }
 {
     let Some(command) = command_of(words) else {
         return Status::Usage;
@@ -55,11 +60,19 @@ pub fn top<S: Shelf, O: Outlet, C: Crew, R: Threads + Wait + Sync>(
 ) -> Status
     // `Usage` comes exactly where the words are outside the grammar, and then shelf, outlet and the crew's counts are as they were.
     ensures usage { (result ≡ Status.Usage) ↔ (command (map string_bytes words.now) ≡ None) }
-    ensures refused { IfNone (command (map string_bytes words.now)) (world (S.shelf shelf.new) (O.outlet out.new) (crew_of (C.faults crew.new) (C.pairs crew.new)) ≡ world (S.shelf shelf.old) (O.outlet out.old) (crew_of (C.faults crew.old) (C.pairs crew.old))) }
+    ensures refused { let old = world (S.shelf shelf.old) (O.outlet out.old) (C.counts crew.old) in
+        let new = world (S.shelf shelf.new) (O.outlet out.new) (C.counts crew.new) in
+        IfNone (command (map string_bytes words.now)) (new ≡ old) }
     // The headline: where `run` ends with `Done`, what is written is what the reference run of both machines leaves.
-    ensures headline { result ≡ Status.Done → Headline (map ⟦<Box<dyn BusDevice + Send> as BusDevice>⟧.plug plugs.items) (command (map string_bytes words.now)) (world (S.shelf shelf.old) (O.outlet out.old) (crew_of (C.faults crew.old) (C.pairs crew.old))) (world (S.shelf shelf.new) (O.outlet out.new) (crew_of (C.faults crew.new) (C.pairs crew.new))) }
+    ensures headline { let devices = map ⟦<Box<dyn BusDevice + Send> as BusDevice>⟧.plug plugs.items in
+        let old = world (S.shelf shelf.old) (O.outlet out.old) (C.counts crew.old) in
+        let new = world (S.shelf shelf.new) (O.outlet out.new) (C.counts crew.new) in
+        result ≡ Status.Done → Headline devices (command (map string_bytes words.now)) old new }
     // Each command is carried out, `run` as `solo` with a crew: no clause names an order in which the steps of the two threads fell.
-    ensures ran { IfSome (command (map string_bytes words.now)) (λ c. EndsWith (map ⟦<Box<dyn BusDevice + Send> as BusDevice>⟧.plug plugs.items) c (world (S.shelf shelf.old) (O.outlet out.old) (crew_of (C.faults crew.old) (C.pairs crew.old))) (world (S.shelf shelf.new) (O.outlet out.new) (crew_of (C.faults crew.new) (C.pairs crew.new))) result) }
+    ensures ran { let devices = map ⟦<Box<dyn BusDevice + Send> as BusDevice>⟧.plug plugs.items in
+        let old = world (S.shelf shelf.old) (O.outlet out.old) (C.counts crew.old) in
+        let new = world (S.shelf shelf.new) (O.outlet out.new) (C.counts crew.new) in
+        IfSome (command (map string_bytes words.now)) (λ c. EndsWith devices c old new result) }
 {
     let Some(command) = command_of(words) else {
         return Status::Usage;

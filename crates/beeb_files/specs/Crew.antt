@@ -1,5 +1,5 @@
 -- The counts of a crew.
-use Rattle.std.specs.Prelude.{ℕ}
+use Rattle.std.specs.Prelude.{ℕ, ◌≤◌}
 use Rattle.beeb_files.specs.Counts.{counted}
 
 -- the faults, and the pairs of jobs that were worked
@@ -17,3 +17,7 @@ with_fault c = record c { faults = counted c.faults }
 -- one more pair worked
 abbrev pub with_pair : Counts → Counts
 with_pair c = record c { pairs = counted c.pairs }
+
+-- neither count fell
+abbrev pub Grows : Counts → Counts → Type 0
+Grows before now = (before.faults ≤ now.faults) × (before.pairs ≤ now.pairs)

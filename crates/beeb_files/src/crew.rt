@@ -1,6 +1,7 @@
 //! What works two jobs.
-ghost use Rattle.std.specs.Prelude.{◌≡◌, ◌≤◌, ℕ, Bool, true, false, not, IsNone, IfSome, IfNone};
+ghost use Rattle.std.specs.Prelude.{◌≡◌, Bool, true, false, not, IsNone, IfSome, IfNone};
 ghost use Rattle.beeb_files.specs.Counts.{Rose};
+ghost use Rattle.beeb_files.specs.Crew.{Counts, Grows};
 
 use crate::job::Job;
 use std::snapshot::Snapshot;
@@ -19,11 +20,8 @@ pub struct Pairing {
 ///
 /// A crew is its counts and its hooks; `pair`, which starts the thread, is the same for every crew.
 pub trait Crew {
-    /// The faults so far.
-    ghost faults: { Self → ℕ };
-
-    /// The pairs worked so far.
-    ghost pairs: { Self → ℕ };
+    /// The faults and the pairs worked so far.
+    ghost counts: { Self → Counts };
 
     /// The crew refuses every pair before a thread is tried.
     ghost refuses: { Self → Bool };
@@ -31,24 +29,21 @@ pub trait Crew {
     /// Whether a thread is to be started for this pair. At `false` the pair is refused.
     fn starts(&mut self, call: &Pairing) -> bool
         ensures asked { result ≡ not (refuses self.old) }
-        ensures refused { result ≡ false → Rose (faults self.old) (faults self.new) }
-        ensures faults { faults self.old ≤ faults self.new }
-        ensures pairs { pairs self.old ≤ pairs self.new };
+        ensures refused { result ≡ false → Rose (counts self.old).faults (counts self.new).faults }
+        ensures grows { Grows (counts self.old) (counts self.new) };
 
     /// Comes once the first job was given to its thread, before the second is worked. `ended` is set when the first has ended.
     fn between(&self, _call: &Pairing, _ended: &AtomicBool) {}
 
     /// Counts a thread that could not be started.
     fn count_fault(&mut self, call: &Pairing)
-        ensures rose { Rose (faults self.old) (faults self.new) }
-        ensures faults { faults self.old ≤ faults self.new }
-        ensures pairs { pairs self.old ≤ pairs self.new };
+        ensures rose { Rose (counts self.old).faults (counts self.new).faults }
+        ensures grows { Grows (counts self.old) (counts self.new) };
 
     /// Counts a pair that was worked.
     fn count_pair(&mut self, call: &Pairing)
-        ensures rose { Rose (pairs self.old) (pairs self.new) }
-        ensures faults { faults self.old ≤ faults self.new }
-        ensures pairs { pairs self.old ≤ pairs self.new };
+        ensures rose { Rose (counts self.old).pairs (counts self.new).pairs }
+        ensures grows { Grows (counts self.old) (counts self.new) };
 
     /// Works the first job in a thread of its own and the second in the caller's, and gives what both leave once both have ended. At `None`
     /// both jobs were dropped unworked, and a fault was counted. Takes no memory of the caller's.
@@ -62,11 +57,10 @@ pub trait Crew {
         requires second { B.may_work b }
         ensures first { IfSome result (λ r. A.gives a r.0) }
         ensures second { IfSome result (λ r. B.gives b r.1) }
-        ensures worked { IfSome result (λ _. Rose (pairs self.old) (pairs self.new)) }
-        ensures refused { IfNone result (Rose (faults self.old) (faults self.new)) }
+        ensures worked { IfSome result (λ _. Rose (counts self.old).pairs (counts self.new).pairs) }
+        ensures refused { IfNone result (Rose (counts self.old).faults (counts self.new).faults) }
         ensures refusing { refuses self.old ≡ true → IsNone result }
-        ensures faults { faults self.old ≤ faults self.new }
-        ensures pairs { pairs self.old ≤ pairs self.new }
+        ensures grows { Grows (counts self.old) (counts self.new) }
     {
         let call = Pairing { _made_here: () };
         if !self.starts(&call) {

@@ -1,16 +1,16 @@
 //! A crew that refuses every pair.
-ghost use Rattle.std.specs.Prelude.{◌≡◌, ◌≤◌, true, false};
+ghost use Rattle.std.specs.Prelude.{◌≡◌, true, false};
 ghost use Rattle.beeb_files.specs.Counts.{Rose};
-ghost use Rattle.beeb_files.specs.Crew.{no_counts, with_fault, with_pair};
+ghost use Rattle.beeb_files.specs.Crew.{no_counts, with_fault, with_pair, Grows};
 
 use crate::crew::{Crew, Pairing};
+use crate::tally::Tally;
 use std::marker::Model;
 
 /// A crew that refuses every pair, and counts each as a fault.
 #[derive(Drop)]
 pub struct FailCrew {
-    faults: u64,
-    pairs: u64,
+    tally: Tally,
 }
 
 impl Model for FailCrew {
@@ -18,7 +18,7 @@ impl Model for FailCrew {
 
     ghost Value = { Counts };
 
-    ghost view = { λ c. record { faults = c.faults; pairs = c.pairs } };
+    ghost view = { λ c. c.tally };
 }
 
 impl FailCrew {
@@ -27,8 +27,7 @@ impl FailCrew {
         ensures { result ≡ no_counts }
     {
         FailCrew {
-            faults: 0,
-            pairs: 0,
+            tally: Tally::new(),
         }
     }
 
@@ -36,29 +35,26 @@ impl FailCrew {
     pub fn faults(&self) -> u64
         ensures { result ≡ self.now.faults }
     {
-        self.faults
+        self.tally.faults()
     }
 
     /// The pairs that were worked: none.
     pub fn pairs(&self) -> u64
         ensures { result ≡ self.now.pairs }
     {
-        self.pairs
+        self.tally.pairs()
     }
 }
 
 impl Crew for FailCrew {
-    ghost faults = { λ c. c.faults };
-
-    ghost pairs = { λ c. c.pairs };
+    ghost counts = { λ c. c };
 
     ghost refuses = { λ _. true };
 
     fn starts(&mut self, call: &Pairing) -> bool
         ensures asked { result ≡ false }
         ensures refused { Rose self.old.faults self.new.faults }
-        ensures faults { self.old.faults ≤ self.new.faults }
-        ensures pairs { self.old.pairs ≤ self.new.pairs }
+        ensures grows { Grows self.old self.new }
         ensures counted { self.new ≡ with_fault self.old }
     {
         self.count_fault(call);
@@ -67,19 +63,17 @@ impl Crew for FailCrew {
 
     fn count_fault(&mut self, _call: &Pairing)
         ensures rose { Rose self.old.faults self.new.faults }
-        ensures faults { self.old.faults ≤ self.new.faults }
-        ensures pairs { self.old.pairs ≤ self.new.pairs }
+        ensures grows { Grows self.old self.new }
         ensures counted { self.new ≡ with_fault self.old }
     {
-        self.faults = self.faults.saturating_add(1);
+        self.tally.count_fault();
     }
 
     fn count_pair(&mut self, _call: &Pairing)
         ensures rose { Rose self.old.pairs self.new.pairs }
-        ensures faults { self.old.faults ≤ self.new.faults }
-        ensures pairs { self.old.pairs ≤ self.new.pairs }
+        ensures grows { Grows self.old self.new }
         ensures counted { self.new ≡ with_pair self.old }
     {
-        self.pairs = self.pairs.saturating_add(1);
+        self.tally.count_pair();
     }
 }

@@ -1,17 +1,17 @@
 //! A crew that works each pair in two threads.
-ghost use Rattle.std.specs.Prelude.{◌≡◌, ◌≤◌, true, false};
+ghost use Rattle.std.specs.Prelude.{◌≡◌, true, false};
 ghost use Rattle.beeb_files.specs.Counts.{Rose};
-ghost use Rattle.beeb_files.specs.Crew.{no_counts, with_fault, with_pair};
+ghost use Rattle.beeb_files.specs.Crew.{no_counts, with_fault, with_pair, Grows};
 
 use crate::crew::{Crew, Pairing};
+use crate::tally::Tally;
 use std::marker::Model;
 
 /// A crew that works the first job of each pair in a thread of its own and the second in the caller's. It counts each thread that could
 /// not be started, and each pair that was worked.
 #[derive(Drop)]
 pub struct ThreadCrew {
-    faults: u64,
-    pairs: u64,
+    tally: Tally,
 }
 
 impl Model for ThreadCrew {
@@ -19,7 +19,7 @@ impl Model for ThreadCrew {
 
     ghost Value = { Counts };
 
-    ghost view = { λ c. record { faults = c.faults; pairs = c.pairs } };
+    ghost view = { λ c. c.tally };
 }
 
 impl ThreadCrew {
@@ -28,8 +28,7 @@ impl ThreadCrew {
         ensures { result ≡ no_counts }
     {
         ThreadCrew {
-            faults: 0,
-            pairs: 0,
+            tally: Tally::new(),
         }
     }
 
@@ -37,29 +36,26 @@ impl ThreadCrew {
     pub fn faults(&self) -> u64
         ensures { result ≡ self.now.faults }
     {
-        self.faults
+        self.tally.faults()
     }
 
     /// The pairs that were worked.
     pub fn pairs(&self) -> u64
         ensures { result ≡ self.now.pairs }
     {
-        self.pairs
+        self.tally.pairs()
     }
 }
 
 impl Crew for ThreadCrew {
-    ghost faults = { λ c. c.faults };
-
-    ghost pairs = { λ c. c.pairs };
+    ghost counts = { λ c. c };
 
     ghost refuses = { λ _. false };
 
     fn starts(&mut self, _call: &Pairing) -> bool
         ensures asked { result ≡ true }
         ensures refused { result ≡ false → Rose self.old.faults self.new.faults }
-        ensures faults { self.old.faults ≤ self.new.faults }
-        ensures pairs { self.old.pairs ≤ self.new.pairs }
+        ensures grows { Grows self.old self.new }
         ensures same { self.new ≡ self.old }
     {
         true
@@ -67,19 +63,17 @@ impl Crew for ThreadCrew {
 
     fn count_fault(&mut self, _call: &Pairing)
         ensures rose { Rose self.old.faults self.new.faults }
-        ensures faults { self.old.faults ≤ self.new.faults }
-        ensures pairs { self.old.pairs ≤ self.new.pairs }
+        ensures grows { Grows self.old self.new }
         ensures counted { self.new ≡ with_fault self.old }
     {
-        self.faults = self.faults.saturating_add(1);
+        self.tally.count_fault();
     }
 
     fn count_pair(&mut self, _call: &Pairing)
         ensures rose { Rose self.old.pairs self.new.pairs }
-        ensures faults { self.old.faults ≤ self.new.faults }
-        ensures pairs { self.old.pairs ≤ self.new.pairs }
+        ensures grows { Grows self.old self.new }
         ensures counted { self.new ≡ with_pair self.old }
     {
-        self.pairs = self.pairs.saturating_add(1);
+        self.tally.count_pair();
     }
 }

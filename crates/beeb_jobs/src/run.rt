@@ -1,7 +1,7 @@
 //! `run TICKS OUT --os NAME --tube NAME` and options: both machines, each in a thread of its own.
 ghost use Rattle.std.specs.Prelude.{◌≡◌, ◌<◌, map, true};
 ghost use Rattle.beeb_run.specs.Plan.{AreWithin};
-ghost use Rattle.beeb_run.specs.Promise.{CarriesOut, IsCrewAfter, crew_of, world};
+ghost use Rattle.beeb_run.specs.Promise.{CarriesOut, IsCrewAfter, world};
 ghost use Rattle.beeb_run.specs.Seen.{seen_input};
 ghost use Rattle.beeb_run.specs.Stages.{Works};
 ghost use Rattle.beeb_words.specs.Command.{is_paired};
@@ -33,8 +33,10 @@ fn outcome<'a, D: BusDevice + Send, C: Crew, R: Threads + Wait + Sync>(
     requires within { IsWithin (seen command) }
     requires paired { is_paired (seen command) ≡ true }
     requires inputs { AreWithin (plan (map D.plug plugs.items) (seen command)).reads (map seen_input inputs.items) }
-    ensures works { Works (verdict_of D.plug) true (crew_of (C.faults crew.old) (C.pairs crew.old)) (crew_of (C.faults crew.new) (C.pairs crew.new)) result ((plan (map D.plug plugs.items) (seen command.entry)).after (map seen_input inputs.items)) }
-    ensures crew { IsCrewAfter true (crew_of (C.faults crew.old) (C.pairs crew.old)) (crew_of (C.faults crew.new) (C.pairs crew.new)) }
+    ensures works { let asked = plan (map D.plug plugs.items) (seen command.entry) in
+        let after = asked.after (map seen_input inputs.items) in
+        Works (verdict_of D.plug) true (C.counts crew.old) (C.counts crew.new) result after }
+    ensures crew { IsCrewAfter true (C.counts crew.old) (C.counts crew.new) }
 {
     let Command::Run {
         ticks,
@@ -63,7 +65,9 @@ pub fn run_command<S: Shelf, O: Outlet, D: BusDevice + Send, C: Crew, R: Threads
 ) -> Result<Ending, Stop<Cause>>
     requires within { IsWithin (seen command) }
     requires paired { is_paired (seen command) ≡ true }
-    ensures { CarriesOut (plan (map D.plug plugs.items) (seen command.entry)) (world (S.shelf shelf.old) (O.outlet out.old) (crew_of (C.faults crew.old) (C.pairs crew.old))) (world (S.shelf shelf.new) (O.outlet out.new) (crew_of (C.faults crew.new) (C.pairs crew.new))) result }
+    ensures { let old = world (S.shelf shelf.old) (O.outlet out.old) (C.counts crew.old) in
+        let new = world (S.shelf shelf.new) (O.outlet out.new) (C.counts crew.new) in
+        CarriesOut (plan (map D.plug plugs.items) (seen command.entry)) old new result }
 {
     stages_carry_out::<Slot, Ending, Cause>();
     let wants = command.reads(alloc)?;

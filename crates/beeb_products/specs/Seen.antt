@@ -7,7 +7,7 @@ use Rattle.beeb_status.specs.declared.status.Ending.{Ending}
 use Rattle.beeb_products.specs.Verdicts.{said_verdict, file_verdict, host_verdict, para_verdict, solo_verdict}
 use Rattle.bus_plug.specs.Plug.{Plug}
 use Rattle.tube_party.specs.declared.one_thread.Done.{Done}
-use Rattle.tube_party.specs.Played.{IsPlayed}
+use Rattle.tube_party.specs.Played.{IsPlayed, played_of}
 use Rattle.beeb_bits.specs.declared.Side.TheVariants as sides
 use Rattle.tube_chip.specs.Events.{Event, of_side}
 use Rattle.tube_trace.specs.declared.Entry.{Entry}
@@ -31,7 +31,7 @@ verdict_of plug (Both out ticks tube kept host para trace) = solo_verdict ticks.
 -- both machines were run from these states as the reference run does, and of the accesses of each side the first `keep` were kept
 abbrev pub IsRun : {D : Type 0} → (D → Plug) → HostState → ParaState → ℕ → ℕ → Done (HostMachine D) ParaState → Type 0
 IsRun plug s t n keep d =
-    IsPlayed (reference host_moves para_moves s t n) keep (host_seen plug d.host) d.para d.chip d.host_list.items d.para_list.items d.host_count d.para_count
+    IsPlayed (reference host_moves para_moves s t n) keep (played_of (host_seen plug) (λ m. m) d)
 
 -- Of a list of events whose accesses are a trace below a tick that a run may have, these are the first accesses of each side.
 pub record AreFirst (n : ℕ) (list : List Event) (keep : ℕ) (host para : List Entry) : Type 0 where

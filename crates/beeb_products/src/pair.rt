@@ -1,11 +1,12 @@
 //! What comes of both machines in two threads.
 ghost use Rattle.std.specs.Prelude.{◌≡◌, ◌<◌, ◌≤◌, All, Err, IfOk, IsTrue, map, true};
 ghost use Rattle.beeb_files.specs.Counts.{Rose};
+ghost use Rattle.beeb_files.specs.Crew.{Grows};
 ghost use Rattle.beeb_bits.specs.declared.Side.TheVariants.{Host, Para};
 ghost use Rattle.tube_party.specs.Reference.{reference};
-ghost use Rattle.tube_party.specs.Played.{IsPlayed};
+ghost use Rattle.tube_party.specs.Played.{IsPlayed, played_of};
 ghost use Rattle.beeb_products.specs.declared.pair.Unrun.TheVariants.{NoThread};
-ghost use Rattle.beeb_run.specs.Promise.{IsCrewAfter, crew_of};
+ghost use Rattle.beeb_run.specs.Promise.{IsCrewAfter};
 ghost use Rattle.beeb_run.specs.Stages.{Works};
 ghost use Rattle.beeb_start.specs.Seen.{seen_inputs};
 ghost use Rattle.beeb_products.specs.Seen.{verdict_of};
@@ -24,7 +25,7 @@ use session::{PairError, run_pair};
 use std::alloc::Global;
 use std::sync::Wait;
 use std::thread::Threads;
-use tube_party::{Done, MOST, Party};
+use tube_party::{Done, MOST, Party, Rewinds};
 
 // Why two parties were not run.
 enum Unrun {
@@ -33,7 +34,7 @@ enum Unrun {
 }
 
 // Two parties where their run in two threads ended. The crew works it.
-fn run_parties<C: Crew, H: Party + Send, P: Party + Send, R: Threads + Wait + Sync>(
+fn run_parties<C: Crew, H: Party + Send, P: Rewinds + Send, R: Threads + Wait + Sync>(
     rt: &R,
     alloc: Global,
     crew: &mut C,
@@ -42,16 +43,18 @@ fn run_parties<C: Crew, H: Party + Send, P: Party + Send, R: Threads + Wait + Sy
     n: Tick,
     keep: u32,
 ) -> Result<Done<H, P>, Unrun>
+where
+    P::Past: Send,
     requires ticks { n.0 ≤ MOST }
     requires host_plays { IsTrue (H.plays Host) }
-    requires para_plays { IsTrue (P.plays Para) }
+    requires para_plays { IsTrue (P.Party.plays Para) }
     requires host_open { H.moves.closed (H.state host) ≤ n.0 }
-    requires para_open { P.moves.closed (P.state para) ≤ n.0 }
-    ensures played { IfOk result (λ d. IsPlayed (reference H.moves P.moves (H.state host) (P.state para) n.0) keep (H.state d.host) (P.state d.para) d.chip d.host_list.items d.para_list.items d.host_count d.para_count) }
-    ensures worked { IfOk result (λ _. Rose (C.pairs crew.old) (C.pairs crew.new)) }
-    ensures no_thread { result ≡ Err NoThread → Rose (C.faults crew.old) (C.faults crew.new) }
-    ensures faults { C.faults crew.old ≤ C.faults crew.new }
-    ensures pairs { C.pairs crew.old ≤ C.pairs crew.new }
+    requires para_open { P.Party.moves.closed (P.Party.state para) ≤ n.0 }
+    ensures played { let w = reference H.moves P.Party.moves (H.state host) (P.Party.state para) n.0 in
+        IfOk result (λ d. IsPlayed w keep (played_of H.state P.Party.state d)) }
+    ensures worked { IfOk result (λ _. Rose (C.counts crew.old).pairs (C.counts crew.new).pairs) }
+    ensures no_thread { result ≡ Err NoThread → Rose (C.counts crew.old).faults (C.counts crew.new).faults }
+    ensures grows { Grows (C.counts crew.old) (C.counts crew.new) }
 {
     match run_pair(rt, alloc, crew, host, para, n, keep) {
         Ok(done) => Ok(done),
@@ -76,8 +79,9 @@ pub fn run_product<'a, D: BusDevice + Send, C: Crew, R: Threads + Wait + Sync>(
 ) -> Result<Product<'a, D>, Stop<Cause>>
     requires ticks { ticks ≤ MOST }
     requires slots { All (λ slot. slot.0 < 16) inputs.roms.items }
-    ensures works { Works (verdict_of D.plug) true (crew_of (C.faults crew.old) (C.pairs crew.old)) (crew_of (C.faults crew.new) (C.pairs crew.new)) result (solo_after (map D.plug plugs.items) kinds ticks keep out.now (seen_inputs inputs)) }
-    ensures crew { IsCrewAfter true (crew_of (C.faults crew.old) (C.pairs crew.old)) (crew_of (C.faults crew.new) (C.pairs crew.new)) }
+    ensures works { let after = solo_after (map D.plug plugs.items) kinds ticks keep out.now (seen_inputs inputs) in
+        Works (verdict_of D.plug) true (C.counts crew.old) (C.counts crew.new) result after }
+    ensures crew { IsCrewAfter true (C.counts crew.old) (C.counts crew.new) }
 {
     let (host, para) = machines_of(alloc, kinds, inputs, plugs)?;
     match run_parties(rt, alloc, crew, host, para, Tick(ticks), keep) {

@@ -2,7 +2,7 @@
 ghost use Rattle.std.specs.Prelude.{◌≤◌, IfOk, IsTrue};
 ghost use Rattle.beeb_bits.specs.declared.Side.TheVariants.{Host, Para};
 ghost use Rattle.tube_party.specs.Reference.{reference};
-ghost use Rattle.tube_party.specs.Played.{IsPlayed};
+ghost use Rattle.tube_party.specs.Played.{IsPlayed, played_of};
 
 use beeb_bits::Tick;
 use std::alloc::{AllocError, Global};
@@ -21,7 +21,8 @@ pub(crate) fn run_alone<H: Party, P: Rewinds>(
     requires para_plays { IsTrue (P.plays Para) }
     requires host_open { H.moves.closed (H.state host) ≤ n.0 }
     requires para_open { P.moves.closed (P.state para) ≤ n.0 }
-    ensures { IfOk result (λ d. IsPlayed (reference H.moves P.moves (H.state host) (P.state para) n.0) keep (H.state d.host) (P.state d.para) d.chip d.host_list.items d.para_list.items d.host_count d.para_count) }
+    ensures { let w = reference H.moves P.moves (H.state host) (P.state para) n.0 in
+        IfOk result (λ d. IsPlayed w keep (played_of H.state P.state d)) }
 {
     match solo(alloc, host, para, n, keep) {
         Ok(done) => Ok(done),

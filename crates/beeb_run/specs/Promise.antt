@@ -1,21 +1,17 @@
 -- What a call that carries out a command promises.
-use Rattle.std.specs.Prelude.{◌≡◌, ◌⊎◌, ◌<◌, ◌≤◌, ⊤, ℕ, Bool, true, false, List, [], ◌∷◌, ◌++◌, map, length, Option, IfSome, Result, Ok, Err, Contains, codes}
+use Rattle.std.specs.Prelude.{◌≡◌, ◌⊎◌, ◌<◌, ⊤, ℕ, Bool, true, false, List, [], ◌∷◌, ◌++◌, map, length, Option, IfSome, Result, Ok, Err, Contains, codes}
 use Rattle.beeb_files.specs.Files.{Files, put, say, IsPartPut, IsPartSaid}
 use Rattle.beeb_files.specs.Counts.{Rose, Stayed, NoneFell}
-use Rattle.beeb_files.specs.Crew.{Counts}
+use Rattle.beeb_files.specs.Crew.{Counts, no_counts, Grows}
 use Rattle.beeb_files.specs.Shelf.{ShelfState}
 use Rattle.beeb_files.specs.Outlet.{OutletState, NoCountFell}
 use Rattle.beeb_run.specs.declared.stop.Stop.{Stop}
 use Rattle.beeb_run.specs.declared.stop.Stop.TheVariants.{Refused, ReadFault, TooLong, WriteFault, NoThread, NoMemory}
 use Rattle.beeb_run.specs.Plan.{Verdict, Want, Inputs, Plan, read_all, verdict, ComesTo}
 
--- the counts of a crew: its faults, and the pairs of jobs that it worked
-abbrev pub crew_of : ℕ → ℕ → Counts
-crew_of faults pairs = record { faults = faults; pairs = pairs }
-
 -- no crew is there
 abbrev pub nobody : Counts
-nobody = crew_of 0 0
+nobody = no_counts
 
 -- the shelf, the outlet and the crew at a moment
 pub record World : Type 0 where
@@ -43,7 +39,7 @@ HasCrewStayed false old new = ⊤
 
 -- no count of the crew fell, and a command without a pair leaves both
 abbrev pub IsCrewAfter : Bool → Counts → Counts → Type 0
-IsCrewAfter true old new = (old.faults ≤ new.faults) × (old.pairs ≤ new.pairs)
+IsCrewAfter true old new = Grows old new
 IsCrewAfter false old new = new ≡ old
 
 abbrev pub read_names : {K : Type 0} → List (Want K) → List (List ℕ)

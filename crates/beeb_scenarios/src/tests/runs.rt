@@ -1,4 +1,4 @@
-//! Both machines in two threads: two letters from the second processor to the host.
+//! Both machines in two threads, beside one.
 ghost use Rattle.std.specs.Prelude.{false};
 
 use super::scene::{failing, told, words_of};
@@ -49,7 +49,7 @@ const SOLO: &str = "solo 2000 o --os os --tube tube";
 
 const RUN: &str = "run 2000 o --os os --tube tube";
 
-// What words come to over the two images, where this call of the outlet fails, and what they leave.
+// What words come to over the images of the two letters, where this call of the outlet fails, and what they leave.
 fn ended<C: Crew, R: Threads + Wait + Sync>(
     rt: &R,
     alloc: Global,
@@ -57,8 +57,21 @@ fn ended<C: Crew, R: Threads + Wait + Sync>(
     put_fails: Option<u32>,
     crew: &mut C,
 ) -> Result<(Vec<u8>, MemOutlet), Fail> {
-    let os = assemble(alloc, Part::Nmos, WAITING.as_bytes())?.bytes;
-    let tube = assemble(alloc, Part::Cmos, LETTERS.as_bytes())?.bytes;
+    ended_over(rt, alloc, (WAITING, LETTERS), words, put_fails, crew)
+}
+
+// The same over the images of these two sources.
+fn ended_over<C: Crew, R: Threads + Wait + Sync>(
+    rt: &R,
+    alloc: Global,
+    sources: (&str, &str),
+    words: &str,
+    put_fails: Option<u32>,
+    crew: &mut C,
+) -> Result<(Vec<u8>, MemOutlet), Fail> {
+    let (os, tube) = sources;
+    let os = assemble(alloc, Part::Nmos, os.as_bytes())?.bytes;
+    let tube = assemble(alloc, Part::Cmos, tube.as_bytes())?.bytes;
     let mut files = Vec::new(alloc);
     files.push((String::from_str(alloc, "os")?, os))?;
     files.push((String::from_str(alloc, "tube")?, tube))?;
@@ -149,9 +162,9 @@ struct SlowCrew {
 }
 
 impl Crew for SlowCrew {
-    ghost faults = { λ c. c.faults };
+    ghost use Rattle.beeb_files.specs.Crew.{Counts};
 
-    ghost pairs = { λ c. c.pairs };
+    ghost counts = { λ c. record { faults = c.faults; pairs = c.pairs } };
 
     ghost refuses = { λ _. false };
 
@@ -190,5 +203,250 @@ fn first_job_waits(rt: HostRuntime) -> Result<(), Fail> {
     assert!(rt; crew.pairs == 1 && crew.faults == 0);
     let host = out.file("o.host").unwrap_or(&[]);
     assert!(rt; host.get(0x70..0x72) == Some(b"\x48\x49".as_slice()));
+    Ok(())
+}
+
+// ---- Programs that run for long beside each other
+
+// A host that leaves the Tube alone.
+const WORKS: &str = "\
+org &C000
+start: LDX #0
+next: LDA &20F0,X
+ADC &70
+STA &70
+STA &20F0,X
+INX
+JMP next
+org &FFFC
+word start, 0
+";
+
+// It resets the second processor again and again, now and then in the midst of an opcode.
+const RESETS: &str = "\
+org &C000
+start: LDY #3
+again: LDA #&A0
+STA &FEE0
+INC &70
+LDA #&20
+STA &FEE0
+LDX #200
+wait: DEX
+BNE wait
+DEY
+BNE again
+LDX #7
+more: DEX
+BNE more
+JMP start
+org &FFFC
+word start, 0
+";
+
+// It resets the second processor once and never lets it go.
+const HOLDS: &str = "\
+org &C000
+start: LDX #0
+wait: DEX
+BNE wait
+LDA #&A0
+STA &FEE0
+here: INC &70
+JMP here
+org &FFFC
+word start, 0
+";
+
+// It puts a byte into register 1 each 150 microseconds, from its own timer's interrupt; I is set, so that each interrupts the second processor.
+const TIMER: &str = "\
+org &C000
+start: LDX #255
+TXS
+LDA #&82
+STA &FEE0
+LDA #&40
+STA &FE4B
+LDA #&94
+STA &FE44
+LDA #0
+STA &FE45
+LDA #&C0
+STA &FE4E
+CLI
+next: INC &70
+JMP next
+irq: PHA
+LDA &FE44
+LDA &70
+STA &FEE1
+PLA
+RTI
+org &FFFA
+word start, start, irq
+";
+
+// It puts a byte into register 1 now and then.
+const SENDS: &str = "\
+org &C000
+start: LDX #0
+wait: DEX
+BNE wait
+INC &70
+LDA &70
+STA &FEE1
+JMP wait
+org &FFFC
+word start, 0
+";
+
+// It takes what comes in register 1, and keeps it.
+const TAKES: &str = "\
+org &C000
+start: LDX #0
+wait: BIT &FEE0
+BPL wait
+LDA &FEE1
+STA &2000,X
+INX
+JMP wait
+org &FFFC
+word start, 0
+";
+
+// A second processor that leaves the Tube alone.
+const COUNTS: &str = "\
+org &F800
+start: LDX #0
+next: INC &70
+LDA &70
+PHA
+STA &2000,X
+PLA
+INX
+JMP next
+org &FFFC
+word start, 0
+";
+
+// It pushes without end, so that each cycle but few is a write.
+const PUSHES: &str = "\
+org &F800
+start: LDA #1
+next: PHA
+PHA
+PHA
+PHA
+PHA
+PHA
+PHA
+PHA
+ADC #13
+JMP next
+org &FFFC
+word start, 0
+";
+
+// It polls the status of register 1 without end, and takes what comes.
+const POLLS: &str = "\
+org &F800
+start: LDX #64
+copy: LDA &F7FF,X
+STA &F7FF,X
+DEX
+BNE copy
+poll: BIT &FEF8
+BPL poll
+LDA &FEF9
+PHA
+JMP poll
+org &FFFC
+word start, 0
+";
+
+// It works, and is interrupted by each byte in register 1, which it takes. Its vectors come to the RAM with the rest.
+const SERVES: &str = "\
+org &F800
+start: LDX #255
+TXS
+INX
+copy: LDA &F800,X
+STA &F800,X
+LDA &FF00,X
+STA &FF00,X
+INX
+BNE copy
+LDA &FEF8
+CLI
+next: INC &70
+LDA &70
+STA &2000,X
+INX
+JMP next
+irq: PHA
+LDA &FEF9
+STA &71
+INC &72
+PLA
+RTI
+org &FFFA
+word start, start, irq
+";
+
+// It sends a byte where register 1 has room, and works between two bytes.
+const FILLS: &str = "\
+org &F800
+start: LDX #64
+copy: LDA &F7FF,X
+STA &F7FF,X
+DEX
+BNE copy
+send: BIT &FEF8
+BVC send
+STX &FEF9
+LDY #16
+work: DEY
+BNE work
+INX
+JMP send
+org &FFFC
+word start, 0
+";
+
+#[test]
+fn long_runs_write_the_files_of_solo(rt: HostRuntime) -> Result<(), Fail> {
+    let alloc = rt.alloc();
+    // The host's source and the second processor's, and the ticks: many of these runs end in the midst of what is done ahead.
+    let rows = [
+        (RESETS, COUNTS, 40_000),
+        (RESETS, PUSHES, 30_001),
+        (RESETS, POLLS, 33_333),
+        (HOLDS, COUNTS, 20_000),
+        (HOLDS, POLLS, 20_001),
+        (WORKS, PUSHES, 60_000),
+        (SENDS, PUSHES, 40_003),
+        (WORKS, POLLS, 20_000),
+        (SENDS, POLLS, 40_001),
+        (TIMER, SERVES, 60_000),
+        (TIMER, POLLS, 30_007),
+        (TAKES, FILLS, 30_011),
+        (WORKS, COUNTS, 40_009),
+    ];
+    for (os, tube, ticks) in rows {
+        let solo = format!(in alloc; "solo {ticks} o --os os --tube tube")?;
+        let run = format!(in alloc; "run {ticks} o --os os --tube tube")?;
+        let mut crew = ThreadCrew::make();
+        let (told, alone) = ended_over(&rt, alloc, (os, tube), &solo, None, &mut crew)?;
+        assert!(rt;
+            told.as_slice() == b"0".as_slice() && crew.pairs() == 0,
+            "{solo}"
+        );
+        let (told, both) = ended_over(&rt, alloc, (os, tube), &run, None, &mut crew)?;
+        assert!(rt;
+            told.as_slice() == b"0".as_slice() && crew.pairs() == 1,
+            "{run}"
+        );
+        assert!(rt; are_same(&alone, &both), "{run}");
+    }
     Ok(())
 }

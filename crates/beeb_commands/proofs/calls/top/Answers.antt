@@ -1,13 +1,13 @@
 use Rattle.std.proofs.Common.{map, string_bytes}
 use Rattle.beeb_words.specs.Words.{command}
 use Rattle.beeb_words.specs.Seen.{seen}
-use Rattle.beeb_run.specs.Promise.{world, crew_of}
+use Rattle.beeb_run.specs.Promise.{world}
 use Rattle.beeb_commands.proofs.CrewLemmas.{headline_of}
 use Rattle.beeb_commands.proofs.calls.top.Goals as goal
 
 pub returns-then-is_paired-clause-headline : goal.returns-then-is_paired-clause-headline
 returns-then-is_paired-clause-headline g c =
     headline_of _ (seen c.in-Some.command) (command (map string_bytes c.args.words.now))
-    (world (g.S.Shelf.shelf c.args.shelf.now) (g.O.Outlet.outlet c.args.out.now) (crew_of (g.C.Crew.faults c.args.crew.now) (g.C.Crew.pairs c.args.crew.now)))
-    (world (g.S.Shelf.shelf c.run_command.new.shelf) (g.O.Outlet.outlet c.run_command.new.out) (crew_of (g.C.Crew.faults c.run_command.new.crew) (g.C.Crew.pairs c.run_command.new.crew)))
+    (world (g.S.Shelf.shelf c.args.shelf.now) (g.O.Outlet.outlet c.args.out.now) (g.C.Crew.counts c.args.crew.now))
+    (world (g.S.Shelf.shelf c.run_command.new.shelf) (g.O.Outlet.outlet c.run_command.new.out) (g.C.Crew.counts c.run_command.new.crew))
     c.status_of.result c.run_command.result c.in-Some.ensures.command c.status_of.ensures c.run_command.ensures

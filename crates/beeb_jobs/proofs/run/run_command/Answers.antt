@@ -3,7 +3,7 @@ use Rattle.beeb_files.specs.Crew.{Counts}
 use Rattle.beeb_words.specs.Command.{is_paired}
 use Rattle.beeb_words.specs.Reads.{reads}
 use Rattle.beeb_words.specs.Seen.{seen, seen_want}
-use Rattle.beeb_run.specs.Promise.{World, crew_of, world}
+use Rattle.beeb_run.specs.Promise.{World, world}
 use Rattle.beeb_jobs.specs.Commands.{plan}
 use Rattle.beeb_products.specs.Seen.{verdict_of}
 use Rattle.beeb_jobs.proofs.StageLemmas.{err_is, same_counts, crew_stays, crew_as, reads_as, stopped_as, worked_as}
@@ -11,7 +11,7 @@ use Rattle.beeb_jobs.proofs.run.run_command.Goals as goal
 
 pub returns-in_err-inputs : goal.returns-in_err-inputs
 returns-in_err-inputs g c =
-    let before : Counts = crew_of (g.C.Crew.faults c.args.crew.now) (g.C.Crew.pairs c.args.crew.now) in
+    let before : Counts = g.C.Crew.counts c.args.crew.now in
     let old : World = world (g.S.Shelf.shelf c.args.shelf.now) (g.O.Outlet.outlet c.args.out.now) before in
     let new : World = world (g.S.Shelf.shelf c.read_all.new.shelf) (g.O.Outlet.outlet c.args.out.now) before in
     rw (err_is c.from_residual-in_err-inputs.result c.in_err-inputs.field-0.0 c.from_residual-in_err-inputs.ensures.1)
@@ -27,8 +27,8 @@ returns-in_err-inputs g c =
 
 pub returns-in_err-product : goal.returns-in_err-product
 returns-in_err-product g c =
-    let before : Counts = crew_of (g.C.Crew.faults c.args.crew.now) (g.C.Crew.pairs c.args.crew.now) in
-    let after : Counts = crew_of (g.C.Crew.faults c.outcome.new.crew) (g.C.Crew.pairs c.outcome.new.crew) in
+    let before : Counts = g.C.Crew.counts c.args.crew.now in
+    let after : Counts = g.C.Crew.counts c.outcome.new.crew in
     let old : World = world (g.S.Shelf.shelf c.args.shelf.now) (g.O.Outlet.outlet c.args.out.now) before in
     let new : World = world (g.S.Shelf.shelf c.read_all.new.shelf) (g.O.Outlet.outlet c.args.out.now) after in
     rw (err_is c.from_residual-in_err-product.result c.in_err-product.field-0.0 c.from_residual-in_err-product.ensures.1)
@@ -45,8 +45,8 @@ returns-in_err-product g c =
 
 pub returns : goal.returns
 returns g c =
-    let before : Counts = crew_of (g.C.Crew.faults c.args.crew.now) (g.C.Crew.pairs c.args.crew.now) in
-    let after : Counts = crew_of (g.C.Crew.faults c.outcome.new.crew) (g.C.Crew.pairs c.outcome.new.crew) in
+    let before : Counts = g.C.Crew.counts c.args.crew.now in
+    let after : Counts = g.C.Crew.counts c.outcome.new.crew in
     let old : World = world (g.S.Shelf.shelf c.args.shelf.now) (g.O.Outlet.outlet c.args.out.now) before in
     let new : World = world (g.S.Shelf.shelf c.read_all.new.shelf) (g.O.Outlet.outlet c.write_outcome.new.out) after in
     c.stages_carry_out.ensures.writing (plan (map g.D.BusDevice.plug c.args.plugs.items) (seen c.args.command)) old new c.in_ok-inputs.inputs (verdict_of g.D.BusDevice.plug c.in_ok-product.product) c.write_outcome.result
