@@ -12,7 +12,8 @@ use Rattle.tube_trace.specs.Entries.{accesses, entry_of}
 use Rattle.tube_party.specs.Turn.{noted, noted_all}
 use Rattle.session.specs.Steps.{event_at}
 
-accesses-append : (xs ys : List Event) → accesses (xs ++ ys) ≡ accesses xs ++ accesses ys
+-- the accesses of two lists in turn
+pub accesses-append : (xs ys : List Event) → accesses (xs ++ ys) ≡ accesses xs ++ accesses ys
 accesses-append [] ys = refl
 accesses-append (x ∷ xs) ys =
     ap (λ z. entry_of x.tick x.side x.query x.answer ++ z) (accesses-append xs ys)

@@ -3,3 +3,7 @@ pub mod Kept
 pub mod Merged
 pub mod UnderWay
 pub mod Ends
+pub mod Looking
+pub mod Gone
+pub mod Trusts
+pub mod Waits

@@ -1,37 +1,48 @@
 -- What the loop of one thread keeps.
-use Rattle.std.proofs.Common.{ℕ, suc, ◌≡◌, ◌≢◌, ◌+◌, ◌<◌, ◌≤◌, refl, sym, ◌∙◌, ap, subst, arith, List, [], ◌∷◌, ◌++◌, Some, append-nil, append_assoc, length, take}
+use Rattle.std.proofs.Common.{ℕ, zero, suc, ◌≡◌, ◌≢◌, ◌+◌, ◌<◌, ◌≤◌, min, refl, sym, ◌∙◌, ap, subst, arith, List, [], ◌∷◌, ◌++◌, Some, append-nil, append_assoc, length, take}
 use Rattle.std.proofs.Math.Seq.{take-nil}
 use Rattle.beeb_bits.specs.declared.Side.{Side}
-use Rattle.beeb_bits.specs.declared.Side.TheVariants.{Host}
+use Rattle.beeb_bits.specs.declared.Tick.{Tick}
 use Rattle.tube_chip.specs.Events.{Event}
+use Rattle.tube_chip.specs.Act.{access, look}
 use Rattle.tube_trace.specs.declared.Entry.{Entry}
 use Rattle.tube_trace.specs.Entries.{accesses, entry_of}
 use Rattle.tube_cell.specs.Passes.{Carried, own_horizon}
 use Rattle.tube_party.specs.declared.party.Ask.{Ask}
 use Rattle.tube_party.specs.declared.party.Ask.TheVariants.{Nothing, Access, Look}
-use Rattle.tube_party.specs.Moves.{Moves, IsLawful, Runs, IsAsk, Advances}
+use Rattle.tube_party.specs.Moves.{Moves, IsLawful, Runs, IsAsk}
 use Rattle.tube_party.specs.Turn.{IsPending, left}
-use Rattle.session.specs.Steps.{event_at, SamePass, HasWaited}
+use Rattle.tube_party.specs.Quiet.{IsQuiet, quiet_here}
+use Rattle.session.specs.Steps.{event_at, all_events, SameSeat, HasWaited}
+use Rattle.session.specs.Station.{Place, place, Station}
 use Rattle.session.specs.Turned.{Turned}
+use Rattle.session.specs.Gone.{GoneOn, MovedOn}
 use Rattle.session.specs.Work.{HasWorked}
-use Rattle.session.proofs.Runs.{SomeRuns, silent, asking, append, rises}
-use Rattle.session.proofs.Kept.{kept_more, counted_more, at_most_one}
+use Rattle.session.proofs.Runs.{SomeRuns, asking, append, rises}
+use Rattle.session.proofs.Kept.{accesses-append, kept_more, counted_more, at_most_one}
 
--- The machine followed the events that joined the pass's list, up to the step that is asked next, and these accesses were kept and counted.
--- The pass's horizon is neither above that step nor above n.
-pub record IsUnderWay {S : Type 0} (m : Moves S) (n keep : ℕ) (s0 : S) (p0 : Carried) (s : S) (ask : Ask) (p : Carried) (list : List Entry) (count : ℕ) : Type 0 where
+-- From one place on the machine followed the events that were added to the pass's, up to this station, and these accesses were kept and counted. The pass's horizon
+-- is neither above the next step nor above n.
+pub record IsThere {S : Type 0} (m : Moves S) (n keep : ℕ) (x0 : Place S) (x : Station S) : Type 0 where
   pub added : List Event
-  pub steps : ℕ
+  pub runs : SomeRuns m x0.pass.side n x0.state added x.at.state
+  pub events : all_events x.at.pass ≡ all_events x0.pass ++ added
+  pub same : SameSeat x0.pass x.at.pass
+  pub kept : x.list ≡ take keep (accesses added)
+  pub counted : x.count ≡ length (accesses added)
+  pub few : x.count ≤ m.due x.at.state
+  pub next : own_horizon x.at.pass ≤ m.due x.at.state
+  pub open_ : own_horizon x.at.pass ≤ n
+
+-- a station of another state
+abbrev pub in_state : {S : Type 0} → S → Station S → Station S
+in_state s x = record x { at = place s x.at.pass }
+
+-- It is so up to the step that is asked next.
+pub record IsUnderWay {S : Type 0} (m : Moves S) (n keep : ℕ) (x0 : Place S) (ask : Ask) (x : Station S) : Type 0 where
   pub last : S
-  pub runs : Runs m p0.side n steps s0 added last
-  pub asked : IsAsk m n last ask s
-  pub events : p.events ≡ p0.events ++ added
-  pub same : SamePass p0 p
-  pub kept : list ≡ take keep (accesses added)
-  pub counted : count ≡ length (accesses added)
-  pub few : count ≤ m.due last
-  pub next : own_horizon p ≤ m.due last
-  pub open_ : own_horizon p ≤ n
+  pub there : IsThere m n keep x0 (in_state last x)
+  pub asked : IsAsk m n last ask x.at.state
 
 module _ {S : Type 0} (m : Moves S) (n : ℕ) where
   -- a step that asks is asked of the state that it is the next of
@@ -60,109 +71,178 @@ module _ {S : Type 0} (m : Moves S) (n : ℕ) where
   left_at_most last s (Access t op) k low under h = let a = h.0 in let b = h.1 in omega arith
   left_at_most last s (Look t) k low under h = let a = h.0 in let b = h.1 in omega arith
 
-pub same_on : (p q r : Carried) → SamePass p q → SamePass q r → SamePass p r
-same_on p q r a b = record { cell = b.cell ∙ a.cell; side = b.side ∙ a.side; ahead = b.ahead }
+pub pending_look : {S : Type 0} (m : Moves S) (n : ℕ) (s : S) (ask : Ask) (t : Tick) → ask ≡ Look t → IsPending m n s ask → (t.0 ≡ m.due s) × (t.0 < n)
+pending_look m n s ask t is h = let a = subst (λ (x : Ask). IsPending m n s x) is h in (a.0, a.1)
 
-module _ {S : Type 0} (m : Moves S) (lawful : IsLawful m) (n keep : ℕ) (s0 : S) (p0 : Carried) where
-  pub begins : (s : S) (ask : Ask) (list : List Entry) (count : ℕ)
-      → p0.ahead ≡ [] → own_horizon p0 ≤ m.due s0 → own_horizon p0 ≤ n → list ≡ [] → count ≡ 0
-      → Advances m n s0 ask s → IsUnderWay m n keep s0 p0 s ask p0 list count
-  begins s ask list count published low under none zero_ a =
-      let up : m.due s0 ≤ m.due a.last = rises m lawful Host n a.steps s0 [] a.last a.runs in
+-- a party that asks is quiet up to that step
+pub quiet_is : {S : Type 0} (m : Moves S) (n : ℕ) (s : S) (ask : Ask) (q : ℕ) → IsPending m n s ask → IsQuiet m s q → min q n ≡ m.due s
+quiet_is m n s Nothing q h quiet = absurd h
+quiet_is m n s (Access t op) q h quiet = let a = h.0 in let b = h.1 in let c = quiet_here m s q (access op) quiet h.2 in omega arith
+quiet_is m n s (Look t) q h quiet = let a = h.0 in let b = h.1 in let c = quiet_here m s q look quiet h.2 in omega arith
+
+pub seat_on : (p q r : Carried) → SameSeat p q → SameSeat q r → SameSeat p r
+seat_on p q r a b = record { cell = b.cell ∙ a.cell; side = b.side ∙ a.side; trusted = b.trusted }
+
+pub waited_on : (p q r : Carried) → HasWaited p q → HasWaited q r → HasWaited p r
+waited_on p q r a b = record { same = seat_on p q r a.same b.same; events = b.events ∙ a.events }
+
+-- ---- what goes on is moved on
+
+pub moved : {S : Type 0} (m : Moves S) (n : ℕ) (x y : Place S) (ask : Ask) → x.pass.trusted ≡ [] → GoneOn m n x ask y → MovedOn m n x ask y
+moved m n x y ask none g = record {
+  added = g.events;
+  steps = g.steps;
+  last = g.last;
+  runs = g.runs;
+  asked = g.asked;
+  silent = g.silent;
+  same = record { cell = ap (λ z. z.cell) g.pass; side = ap (λ z. z.side) g.pass; trusted = ap (λ z. z.trusted) g.pass ∙ none };
+  events = ap all_events g.pass ∙ sym (append_assoc x.pass.events x.pass.ahead g.events);
+  next = g.next;
+  open_ = g.open_;
+}
+
+module _ {S : Type 0} (m : Moves S) (lawful : IsLawful m) (n keep : ℕ) (x0 : Place S) where
+  pub begins : (list : List Entry) (count : ℕ)
+      → x0.pass.trusted ≡ [] → own_horizon x0.pass ≤ m.due x0.state → own_horizon x0.pass ≤ n → list ≡ [] → count ≡ 0
+      → IsThere m n keep x0 (record { at = x0; list = list; count = count })
+  begins list count trusted low under none zero_ = record {
+    added = [];
+    runs = (zero, (refl, refl));
+    events = sym (append-nil (all_events x0.pass));
+    same = record { cell = refl; side = refl; trusted = trusted };
+    kept = none ∙ sym (take-nil keep);
+    counted = zero_;
+    few = omega arith;
+    next = low;
+    open_ = under;
+  }
+
+  -- it moved on from there
+  pub moves_on : (x : Station S) (ask : Ask) (y : Place S) → IsThere m n keep x0 x → MovedOn m n x.at ask y → IsUnderWay m n keep x0 ask (record x { at = y })
+  moves_on x ask y w g =
+      let up : m.due x.at.state ≤ m.due g.last = rises m lawful x.at.pass.side n g.steps x.at.state g.added g.last g.runs in
+      let few = w.few in
+      let bare : accesses (w.added ++ g.added) ≡ accesses w.added = accesses-append w.added g.added ∙ ap (λ (l : List Entry). accesses w.added ++ l) g.silent ∙ append-nil (accesses w.added) in
       record {
-        added = [];
-        steps = a.steps;
-        last = a.last;
-        runs = silent m p0.side n a.steps s0 a.last a.runs;
-        asked = a.asked;
-        events = sym (append-nil p0.events);
-        same = record { cell = refl; side = refl; ahead = published };
-        kept = none ∙ sym (take-nil keep);
-        counted = zero_;
-        few = omega arith;
-        next = omega arith;
-        open_ = under;
+        last = g.last;
+        asked = g.asked;
+        there = record {
+          added = w.added ++ g.added;
+          runs = append m x0.pass.side n x.at.state g.last g.added w.runs.0 x0.state w.added w.runs.1
+              (g.steps, subst (λ (z : Side). Runs m z n g.steps x.at.state g.added g.last) w.same.side g.runs);
+          events = g.events ∙ ap (λ (l : List Event). l ++ g.added) w.events ∙ append_assoc (all_events x0.pass) w.added g.added;
+          same = seat_on x0.pass x.at.pass y.pass w.same g.same;
+          kept = w.kept ∙ ap (take keep) (sym bare);
+          counted = w.counted ∙ ap length (sym bare);
+          few = omega arith;
+          next = g.next;
+          open_ = g.open_;
+        };
       }
 
-  module _ (s s2 : S) (ask ask2 : Ask) (p p2 : Carried) (list list2 : List Entry) (count count2 : ℕ) (some : ask ≢ Nothing)
-      (w : IsUnderWay m n keep s0 p0 s ask p list count) (t : Turned m n keep s p list count s2 p2 list2 count2 ask2) where
-    before_ : s ≡ w.last
-    before_ = here m n w.last s ask some w.asked
+  module _ (ask : Ask) (x : Station S) (some : ask ≢ Nothing) (w : IsUnderWay m n keep x0 ask x) where
+    pub at_ask : IsThere m n keep x0 x
+    at_ask = subst (λ (z : S). IsThere m n keep x0 (in_state z x)) (sym (here m n w.last x.at.state ask some w.asked)) w.there
 
-    due_is : m.due s ≡ m.due w.last
-    due_is = ap m.due before_
+    pub low : m.due x.at.state < n
+    low = subst (λ (z : S). m.due z < n) (sym (here m n w.last x.at.state ask some w.asked)) (below m n w.last x.at.state ask some w.asked)
 
-    low : m.due w.last < n
-    low = below m n w.last s ask some w.asked
+    module _ (y : Station S) (t : Turned m keep x y) where
+      abbrev new : Event
+      new = event_at (m.due x.at.state) x0.pass.side t.query t.answer
 
-    up : m.due s < m.due t.advances.last
-    up =
-        let one : m.due s < m.due (m.next s (Some t.answer)) = lawful.rises s (Some t.answer) in
-        let more : m.due (m.next s (Some t.answer)) ≤ m.due t.advances.last = rises m lawful Host n t.advances.steps (m.next s (Some t.answer)) [] t.advances.last t.advances.runs in
-        omega arith
+      up : m.due x.at.state < m.due y.at.state
+      up = subst (λ (z : S). m.due x.at.state < m.due z) (sym t.state_is) (lawful.rises x.at.state (Some t.answer))
 
-    abbrev new : Event
-    new = event_at (m.due w.last) p0.side t.query t.answer
+      one_more : SomeRuns m x0.pass.side n x.at.state (new ∷ []) y.at.state
+      one_more = (suc zero, asking m x0.pass.side n zero x.at.state t.query t.answer [] y.at.state low t.asks (refl, sym t.state_is))
 
-    new_is : event_at (m.due s) p.side t.query t.answer ≡ new
-    new_is =
-        ap (λ (x : ℕ). event_at x p.side t.query t.answer) due_is
-        ∙ ap (λ (x : Side). event_at (m.due w.last) x t.query t.answer) w.same.side
+      -- the step that asks was done
+      pub steps_on : IsThere m n keep x0 y
+      steps_on =
+          let z = at_ask in
+          let few = z.few in
+          let one : length (entry_of (m.due x.at.state) x.at.pass.side t.query t.answer) ≤ 1 = at_most_one (m.due x.at.state) x.at.pass.side t.query t.answer in
+          let is = t.count_is in
+          let h = t.done.horizon in
+          let u = up in
+          let l = low in
+          let new_is : event_at (m.due x.at.state) x.at.pass.side t.query t.answer ≡ new = ap (λ (side : Side). event_at (m.due x.at.state) side t.query t.answer) z.same.side in
+          record {
+            added = z.added ++ new ∷ [];
+            runs = append m x0.pass.side n x.at.state y.at.state (new ∷ []) z.runs.0 x0.state z.added z.runs.1 one_more;
+            events =
+                t.done.events
+                ∙ ap (λ (l : List Event). l ++ event_at (m.due x.at.state) x.at.pass.side t.query t.answer ∷ []) z.events
+                ∙ append_assoc (all_events x0.pass) z.added (event_at (m.due x.at.state) x.at.pass.side t.query t.answer ∷ [])
+                ∙ ap (λ (e : Event). all_events x0.pass ++ (z.added ++ e ∷ [])) new_is;
+            same = seat_on x0.pass x.at.pass y.at.pass z.same t.done.same;
+            kept =
+                t.list_is
+                ∙ kept_more keep z.added x.list (m.due x.at.state) x.at.pass.side t.query t.answer z.kept
+                ∙ ap (λ (e : Event). take keep (accesses (z.added ++ e ∷ []))) new_is;
+            counted =
+                t.count_is
+                ∙ counted_more z.added x.count (m.due x.at.state) x.at.pass.side t.query t.answer z.counted
+                ∙ ap (λ (e : Event). length (accesses (z.added ++ e ∷ []))) new_is;
+            few = omega arith;
+            next = omega arith;
+            open_ = omega arith;
+          }
 
-    one_more : SomeRuns m p0.side n w.last (new ∷ []) t.advances.last
-    one_more =
-        let on : Runs m p0.side n t.advances.steps (m.next s (Some t.answer)) [] t.advances.last = silent m p0.side n t.advances.steps (m.next s (Some t.answer)) t.advances.last t.advances.runs in
-        let there : Runs m p0.side n t.advances.steps (m.next w.last (Some t.answer)) [] t.advances.last =
-        subst (λ (x : S). Runs m p0.side n t.advances.steps (m.next x (Some t.answer)) [] t.advances.last) before_ on in
-        (suc t.advances.steps, asking m p0.side n t.advances.steps w.last t.query t.answer [] t.advances.last low (ap m.asks (sym before_) ∙ t.asks) there)
+      -- the next step that asks is later
+      pub smaller : (ask2 : Ask) (z : Place S) → MovedOn m n y.at ask2 z → left n ask2 < left n ask
+      smaller ask2 z g =
+          let more : m.due y.at.state ≤ m.due g.last = rises m lawful y.at.pass.side n g.steps y.at.state g.added g.last g.runs in
+          let u = up in
+          let l = low in
+          let same : m.due x.at.state ≡ m.due w.last = ap m.due (here m n w.last x.at.state ask some w.asked) in
+          let was : left n ask + m.due w.last ≡ n = left_is m n w.last x.at.state ask some w.asked in
+          let now : left n ask2 + m.due x.at.state < n = left_at_most m n g.last z.state ask2 (m.due x.at.state) (omega arith) l g.asked in
+          omega arith
 
-    pub goes_on : IsUnderWay m n keep s0 p0 s2 ask2 p2 list2 count2
-    goes_on =
-        let all : SomeRuns m p0.side n s0 (w.added ++ new ∷ []) t.advances.last = append m p0.side n w.last t.advances.last (new ∷ []) w.steps s0 w.added w.runs one_more in
-        let few : count ≤ m.due w.last = w.few in
-        let one : length (entry_of (m.due s) p.side t.query t.answer) ≤ 1 = at_most_one (m.due s) p.side t.query t.answer in
-        record {
-          added = w.added ++ new ∷ [];
-          steps = all.0;
-          last = t.advances.last;
-          runs = all.1;
-          asked = t.advances.asked;
-          events =
-              t.done.events
-              ∙ ap (λ (l : List Event). l ++ event_at (m.due s) p.side t.query t.answer ∷ []) w.events
-              ∙ append_assoc p0.events w.added (event_at (m.due s) p.side t.query t.answer ∷ [])
-              ∙ ap (λ (e : Event). p0.events ++ (w.added ++ e ∷ [])) new_is;
-          same = same_on p0 p p2 w.same t.done.same;
-          kept =
-              t.list_is
-              ∙ kept_more keep w.added list (m.due s) p.side t.query t.answer w.kept
-              ∙ ap (λ (e : Event). take keep (accesses (w.added ++ e ∷ []))) new_is;
-          counted =
-              t.count_is
-              ∙ counted_more w.added count (m.due s) p.side t.query t.answer w.counted
-              ∙ ap (λ (e : Event). length (accesses (w.added ++ e ∷ []))) new_is;
-          few = (let is = t.count_is in let d = due_is in let u = up in omega arith);
-          next = (let is = t.done.horizon in let u = up in omega arith);
-          open_ = (let is = t.done.horizon in let l = low in let d = due_is in omega arith);
-        }
-
-    -- the next step that asks is later
-    pub smaller : left n ask2 < left n ask
-    smaller =
-        let was : left n ask + m.due w.last ≡ n = left_is m n w.last s ask some w.asked in
-        let now : left n ask2 + m.due w.last < n = left_at_most m n t.advances.last s2 ask2 (m.due w.last) (let u = up in let d = due_is in omega arith) low t.advances.asked in
-        omega arith
-
-  -- nothing more is asked below n
-  pub ends : (s : S) (ask : Ask) (p q : Carried) (list : List Entry) (count : ℕ) → ask ≡ Nothing
-      → IsUnderWay m n keep s0 p0 s ask p list count → HasWaited p q → HasWorked m n keep s0 p0 s q list count
-  ends s ask p q list count is w h =
-      let over : IsAsk m n w.last Nothing s = subst (λ (a : Ask). IsAsk m n w.last a s) is w.asked in
+  -- no step of it was done meanwhile
+  pub waits_on : (x : Station S) (q : Carried) → IsThere m n keep x0 x → HasWaited x.at.pass q → own_horizon q ≤ m.due x.at.state → m.due x.at.state ≤ n
+      → IsThere m n keep x0 (record x { at = place x.at.state q })
+  waits_on x q w h low under =
       record {
         added = w.added;
+        runs = w.runs;
         events = h.events ∙ w.events;
-        same = same_on p0 p q w.same h.same;
-        follows = record { steps = w.steps; last = w.last; runs = w.runs; over = over.0; ends = over.1 };
+        same = seat_on x0.pass x.at.pass q w.same h.same;
         kept = w.kept;
         counted = w.counted;
+        few = w.few;
+        next = omega arith;
+        open_ = omega arith;
+      }
+
+  pub still_under_way : (x : Station S) (ask : Ask) (y : Place S) → ask ≢ Nothing → IsUnderWay m n keep x0 ask x
+      → HasWaited x.at.pass y.pass → own_horizon y.pass ≤ m.due x.at.state → y.state ≡ x.at.state → IsUnderWay m n keep x0 ask (record x { at = y })
+  still_under_way x ask y some w h under same =
+      let e : m.due x.at.state ≡ m.due w.last = ap m.due (here m n w.last x.at.state ask some w.asked) in
+      let l : m.due w.last < n = below m n w.last x.at.state ask some w.asked in
+      record {
+        last = w.last;
+        there = waits_on (in_state w.last x) y.pass w.there h (omega arith) (omega arith);
+        asked = subst (λ (z : S). IsAsk m n w.last ask z) (sym same) w.asked;
+      }
+
+  -- nothing more is asked below n
+  pub ends : (x : Station S) (ask : Ask) (q : Carried) → ask ≡ Nothing → x0.pass.ahead ≡ []
+      → IsUnderWay m n keep x0 ask x → HasWaited x.at.pass q → q.ahead ≡ [] → HasWorked m n keep x0 (record x { at = place x.at.state q })
+  ends x ask q is bare w h all =
+      let over : IsAsk m n w.last Nothing x.at.state = subst (λ (a : Ask). IsAsk m n w.last a x.at.state) is w.asked in
+      let t = w.there in
+      let same = seat_on x0.pass x.at.pass q t.same h.same in
+      record {
+        added = t.added;
+        events =
+            sym (append-nil q.events) ∙ ap (λ (l : List Event). q.events ++ l) (sym all) ∙ h.events ∙ t.events
+            ∙ ap (λ (l : List Event). l ++ t.added) (ap (λ (l : List Event). x0.pass.events ++ l) bare ∙ append-nil x0.pass.events);
+        same = record { cell = same.cell; side = same.side; ahead = all; trusted = same.trusted };
+        follows = record { steps = t.runs.0; last = w.last; runs = t.runs.1; over = over.0; ends = over.1 };
+        kept = t.kept;
+        counted = t.counted;
       }

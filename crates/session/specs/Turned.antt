@@ -1,21 +1,19 @@
--- One turn of a side: a step that asks, and those after it that ask nothing.
-use Rattle.std.specs.Prelude.{ℕ, ◌≡◌, ◌+◌, Some, List, length}
+-- One step of a side that asks.
+use Rattle.std.specs.Prelude.{ℕ, ◌≡◌, ◌+◌, Some, length}
 use Rattle.tube_chip.specs.declared.Answer.{Answer}
 use Rattle.tube_chip.specs.Act.{Query}
-use Rattle.tube_trace.specs.declared.Entry.{Entry}
 use Rattle.tube_trace.specs.Entries.{entry_of}
-use Rattle.tube_cell.specs.Passes.{Carried}
-use Rattle.tube_party.specs.declared.party.Ask.{Ask}
-use Rattle.tube_party.specs.Moves.{Moves, Advances}
+use Rattle.tube_party.specs.Moves.{Moves}
 use Rattle.tube_party.specs.Turn.{noted_all}
 use Rattle.session.specs.Steps.{HasDone}
+use Rattle.session.specs.Station.{Station}
 
--- The step of s that asks was done at the cell with some answer, and noted if it is an access; then this is asked next.
-pub record Turned {S : Type 0} (m : Moves S) (n keep : ℕ) (s : S) (p : Carried) (list : List Entry) (count : ℕ) (s2 : S) (p2 : Carried) (list2 : List Entry) (count2 : ℕ) (ask2 : Ask) : Type 0 where
+-- The step that asks was done at the cell with some answer, and noted if it is an access.
+pub record Turned {S : Type 0} (m : Moves S) (keep : ℕ) (x y : Station S) : Type 0 where
   pub query : Query
   pub answer : Answer
-  pub asks : m.asks s ≡ Some query
-  pub done : HasDone (m.due s) query answer p p2
-  pub list_is : list2 ≡ noted_all keep list (entry_of (m.due s) p.side query answer)
-  pub count_is : count2 ≡ count + length (entry_of (m.due s) p.side query answer)
-  pub advances : Advances m n (m.next s (Some answer)) ask2 s2
+  pub asks : m.asks x.at.state ≡ Some query
+  pub done : HasDone (m.due x.at.state) query answer x.at.pass y.at.pass
+  pub list_is : y.list ≡ noted_all keep x.list (entry_of (m.due x.at.state) x.at.pass.side query answer)
+  pub count_is : y.count ≡ x.count + length (entry_of (m.due x.at.state) x.at.pass.side query answer)
+  pub state_is : y.at.state ≡ m.next x.at.state (Some answer)

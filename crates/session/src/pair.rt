@@ -3,21 +3,24 @@ ghost use Rattle.std.specs.Prelude.{◌≡◌, ◌≤◌, ℕ, true, [], Err, If
 ghost use Rattle.std.specs.Arc.{arc_value};
 ghost use Rattle.beeb_bits.specs.declared.Side.TheVariants.{Host, Para};
 ghost use Rattle.beeb_files.specs.Counts.{Rose};
+ghost use Rattle.beeb_files.specs.Crew.{Grows};
 ghost use Rattle.tube_cell.specs.Passes.{Carried};
-ghost use Rattle.tube_party.specs.Played.{IsPlayed};
+ghost use Rattle.tube_party.specs.Played.{IsPlayed, played_of};
 ghost use Rattle.tube_party.specs.Reference.{reference};
+ghost use Rattle.session.specs.Station.{place, station};
 ghost use Rattle.session.specs.Work.{HasWorked};
 ghost use Rattle.session.specs.declared.pair.PairError.TheVariants.{NoThread, NoMemory};
 
 use crate::half::Half;
-use crate::side_job::SideJob;
+use crate::side_job::{AheadJob, SideJob};
+use crate::stride::{Strides, USUAL};
 use beeb_bits::Tick;
 use beeb_files::Crew;
 use std::alloc::Global;
 use std::sync::{Arc, Wait};
 use std::thread::Threads;
 use tube_cell::{Pass, TubeCell, Whole};
-use tube_party::{Done, MOST, Party, legal_merge_is_reference};
+use tube_party::{Done, MOST, Party, Rewinds, legal_merge_is_reference};
 use tube_trace::Entry;
 
 /// Why two parties were not run.
@@ -31,19 +34,21 @@ pub enum PairError<H, P> {
 
 type Shared = Arc<TubeCell, Global>;
 
-// All memory of a run: the cell, held by each side and by the caller, and room for what is kept of each side.
+// All memory of a run: the cell, held by each side and by the caller, room for what is kept of each side, and for what the parasite's machine notes.
 #[derive(Drop)]
-struct Supplies {
+struct Supplies<P: Rewinds> {
     cell: Shared,
     host_cell: Shared,
     para_cell: Shared,
     whole: Whole,
     host_list: Vec<Entry>,
     para_list: Vec<Entry>,
+    past: P::Past,
 }
 
-fn take_supplies(alloc: Global, keep: u32) -> Option<Supplies>
-    ensures cells { IfSome result (λ s. (arc_value s.host_cell ≡ arc_value s.cell) × (arc_value s.para_cell ≡ arc_value s.cell)) }
+fn take_supplies<P: Rewinds>(alloc: Global, keep: u32) -> Option<Supplies<P>>
+    ensures cells { IfSome result (λ s.
+        (arc_value s.host_cell ≡ arc_value s.cell) × (arc_value s.para_cell ≡ arc_value s.cell)) }
     ensures whole { IfSome result (λ s. s.whole ≡ arc_value s.cell) }
     ensures lists { IfSome result (λ s. (s.host_list.items ≡ []) × (s.para_list.items ≡ [])) }
     ensures room { IfSome result (λ s. (keep ≤ vec_capacity s.host_list) × (keep ≤ vec_capacity s.para_list)) }
@@ -54,6 +59,7 @@ fn take_supplies(alloc: Global, keep: u32) -> Option<Supplies>
     let para_cell = Arc::try_clone(&cell).ok()?;
     let host_list = Vec::with_capacity(alloc, keep as usize).ok()?;
     let para_list = Vec::with_capacity(alloc, keep as usize).ok()?;
+    let past = P::past(alloc).ok()?;
     Some(Supplies {
         cell,
         host_cell,
@@ -61,6 +67,7 @@ fn take_supplies(alloc: Global, keep: u32) -> Option<Supplies>
         whole,
         host_list,
         para_list,
+        past,
     })
 }
 
@@ -70,7 +77,7 @@ fn take_supplies(alloc: Global, keep: u32) -> Option<Supplies>
 ///
 /// # Errors
 /// `NoThread` where the crew counted a fault, and `NoMemory` before any step.
-pub fn run_pair<C: Crew, H: Party + Send, P: Party + Send, R: Threads + Wait + Sync>(
+pub fn run_pair<C: Crew, H: Party + Send, P: Rewinds + Send, R: Threads + Wait + Sync>(
     rt: &R,
     alloc: Global,
     crew: &mut C,
@@ -79,18 +86,54 @@ pub fn run_pair<C: Crew, H: Party + Send, P: Party + Send, R: Threads + Wait + S
     n: Tick,
     keep: u32,
 ) -> Result<Done<H, P>, PairError<H, P>>
+where
+    P::Past: Send,
     requires ticks { n.0 ≤ MOST }
     requires host_plays { IsTrue (H.plays Host) }
-    requires para_plays { IsTrue (P.plays Para) }
+    requires para_plays { IsTrue (P.Party.plays Para) }
     requires host_open { H.moves.closed (H.state host) ≤ n.0 }
-    requires para_open { P.moves.closed (P.state para) ≤ n.0 }
-    ensures played { IfOk result (λ d. IsPlayed (reference H.moves P.moves (H.state host) (P.state para) n.0) keep (H.state d.host) (P.state d.para) d.chip d.host_list.items d.para_list.items d.host_count d.para_count) }
-    ensures worked { IfOk result (λ _. Rose (C.pairs crew.old) (C.pairs crew.new)) }
-    ensures no_thread { result ≡ Err NoThread → Rose (C.faults crew.old) (C.faults crew.new) }
-    ensures no_memory { (h : H) (p : P) → result ≡ Err (NoMemory h p) → (h ≡ host) × (p ≡ para) × (crew.new ≡ crew.old) }
+    requires para_open { P.Party.moves.closed (P.Party.state para) ≤ n.0 }
+    ensures played { let w = reference H.moves P.Party.moves (H.state host) (P.Party.state para) n.0 in
+        IfOk result (λ d. IsPlayed w keep (played_of H.state P.Party.state d)) }
+    ensures worked { IfOk result (λ _. Rose (C.counts crew.old).pairs (C.counts crew.new).pairs) }
+    ensures no_thread { result ≡ Err NoThread → Rose (C.counts crew.old).faults (C.counts crew.new).faults }
+    ensures no_memory { (h : H) (p : P) →
+        result ≡ Err (NoMemory h p) → (h ≡ host) × (p ≡ para) × (crew.new ≡ crew.old) }
     ensures refusing { C.refuses crew.old ≡ true → IsErr result }
-    ensures faults { C.faults crew.old ≤ C.faults crew.new }
-    ensures pairs { C.pairs crew.old ≤ C.pairs crew.new }
+    ensures grows { Grows (C.counts crew.old) (C.counts crew.new) }
+{
+    run_pair_by(rt, alloc, crew, host, para, n, keep, USUAL)
+}
+
+/// The same, with strides of these lengths. No promise depends on them: short ones show in a test what long ones hide.
+///
+/// # Errors
+/// As of `run_pair`.
+pub fn run_pair_by<C: Crew, H: Party + Send, P: Rewinds + Send, R: Threads + Wait + Sync>(
+    rt: &R,
+    alloc: Global,
+    crew: &mut C,
+    host: H,
+    para: P,
+    n: Tick,
+    keep: u32,
+    strides: Strides,
+) -> Result<Done<H, P>, PairError<H, P>>
+where
+    P::Past: Send,
+    requires ticks { n.0 ≤ MOST }
+    requires host_plays { IsTrue (H.plays Host) }
+    requires para_plays { IsTrue (P.Party.plays Para) }
+    requires host_open { H.moves.closed (H.state host) ≤ n.0 }
+    requires para_open { P.Party.moves.closed (P.Party.state para) ≤ n.0 }
+    ensures played { let w = reference H.moves P.Party.moves (H.state host) (P.Party.state para) n.0 in
+        IfOk result (λ d. IsPlayed w keep (played_of H.state P.Party.state d)) }
+    ensures worked { IfOk result (λ _. Rose (C.counts crew.old).pairs (C.counts crew.new).pairs) }
+    ensures no_thread { result ≡ Err NoThread → Rose (C.counts crew.old).faults (C.counts crew.new).faults }
+    ensures no_memory { (h : H) (p : P) →
+        result ≡ Err (NoMemory h p) → (h ≡ host) × (p ≡ para) × (crew.new ≡ crew.old) }
+    ensures refusing { C.refuses crew.old ≡ true → IsErr result }
+    ensures grows { Grows (C.counts crew.old) (C.counts crew.new) }
 {
     let Some(
         Supplies {
@@ -100,14 +143,20 @@ pub fn run_pair<C: Crew, H: Party + Send, P: Party + Send, R: Threads + Wait + S
             whole,
             host_list,
             para_list,
+            past,
         },
-    ) = take_supplies(alloc, keep)
+    ) = take_supplies::<P>(alloc, keep)
     else {
         return Err(PairError::NoMemory { host, para });
     };
     let (host_pass, para_pass) = cell.split(rt, whole);
     let host_job = job(host, host_pass, host_list, host_cell, n, keep);
-    let para_job = job(para, para_pass, para_list, para_cell, n, keep);
+    let para_side = job(para, para_pass, para_list, para_cell, n, keep);
+    let para_job = AheadJob {
+        side: para_side,
+        past,
+        strides,
+    };
     match crew.pair(rt, host_job, para_job) {
         Some((host, para)) => Ok(joined(rt, &cell, host, para)),
         None => Err(PairError::NoThread),
@@ -146,10 +195,12 @@ fn joined<H: Party, P: Party, R: Wait>(
     requires cell { (host.pass.cell ≡ cell.now) × (para.pass.cell ≡ cell.now) }
     requires sides { (host.pass.side ≡ Host) × (para.pass.side ≡ Para) }
     requires published { (host.pass.ahead ≡ []) × (para.pass.ahead ≡ []) }
-    ensures { (s : H.State) (t : P.State) (n : ℕ) (keep : ℕ) (p q : Carried) → (p.side ≡ Host) × (p.events ≡ []) → (q.side ≡ Para) × (q.events ≡ []) →
-        HasWorked H.moves n keep s p (H.state host.machine) host.pass host.list.items host.count →
-        HasWorked P.moves n keep t q (P.state para.machine) para.pass para.list.items para.count →
-        IsPlayed (reference H.moves P.moves s t n) keep (H.state result.host) (P.state result.para) result.chip result.host_list.items result.para_list.items result.host_count result.para_count }
+    requires none_trusted { para.pass.trusted ≡ [] }
+    ensures { (s : H.State) (t : P.State) (n : ℕ) (keep : ℕ) (p q : Carried) →
+        (p.side ≡ Host) × (p.events ≡ []) → (q.side ≡ Para) × (q.events ≡ []) →
+        HasWorked H.moves n keep (place s p) (station H.state host) →
+        HasWorked P.moves n keep (place t q) (station P.state para) →
+        IsPlayed (reference H.moves P.moves s t n) keep (played_of H.state P.state result) }
 {
     legal_merge_is_reference::<H, P>();
     let chip = cell.join(rt, host.pass, para.pass);

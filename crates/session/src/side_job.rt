@@ -1,15 +1,19 @@
-//! The job of one thread.
-ghost use Rattle.std.specs.Prelude.{vec_capacity};
+//! The jobs of both threads.
+ghost use Rattle.std.specs.Prelude.{◌≡◌, ◌≤◌, vec_capacity};
 ghost use Rattle.std.specs.Arc.{arc_value};
+ghost use Rattle.beeb_bits.specs.declared.Side.TheVariants.{Para};
+ghost use Rattle.session.specs.Station.{station};
 ghost use Rattle.session.specs.Work.{MayWork, HasWorked};
 
+use crate::ahead::drive_ahead;
 use crate::half::{Half, drive};
+use crate::stride::Strides;
 use beeb_bits::Tick;
 use beeb_files::Job;
 use std::alloc::Global;
 use std::sync::{Arc, Wait};
 use tube_cell::TubeCell;
-use tube_party::Party;
+use tube_party::{Party, Rewinds};
 
 /// One side that is to be run for the ticks below `n`, at a cell that both sides hold.
 #[derive(Drop)]
@@ -23,9 +27,9 @@ pub(crate) struct SideJob<M> {
 impl<M: Party + Send> Job for SideJob<M> {
     type Done = Half<M>;
 
-    ghost may_work = { λ j. MayWork M.moves M.plays (arc_value j.cell) j.n.0 j.keep (M.state j.half.machine) j.half.pass j.half.list.items j.half.count (vec_capacity j.half.list) };
+    ghost may_work = { λ j. MayWork M.moves M.plays (arc_value j.cell) j.n.0 (station M.state j.half) × (j.keep ≤ vec_capacity j.half.list) };
 
-    ghost gives = { λ j r. HasWorked M.moves j.n.0 j.keep (M.state j.half.machine) j.half.pass (M.state r.machine) r.pass r.list.items r.count };
+    ghost gives = { λ j r. HasWorked M.moves j.n.0 j.keep (station M.state j.half).at (station M.state r) };
 
     fn work<R: Wait>(self, rt: &R) -> Half<M> {
         let SideJob {
@@ -35,6 +39,44 @@ impl<M: Party + Send> Job for SideJob<M> {
             keep,
         } = self;
         drive(rt, &cell, &mut half, n, keep);
+        half
+    }
+}
+
+/// The parasite's side, which goes ahead on trust, with room for what its machine notes.
+#[derive(Drop)]
+pub(crate) struct AheadJob<M: Rewinds> {
+    pub(crate) side: SideJob<M>,
+    pub(crate) past: M::Past,
+    pub(crate) strides: Strides,
+}
+
+impl<M: Rewinds + Send> Job for AheadJob<M>
+where
+    M::Past: Send,
+{
+    type Done = Half<M>;
+
+    ghost may_work = { λ j. let half = j.side.half in
+        MayWork M.Party.moves M.Party.plays (arc_value j.side.cell) j.side.n.0 (station M.Party.state half)
+        × (j.side.keep ≤ vec_capacity half.list) × (half.pass.side ≡ Para) };
+
+    ghost gives = { λ j r. let state = M.Party.state in
+        HasWorked M.Party.moves j.side.n.0 j.side.keep (station state j.side.half).at (station state r) };
+
+    fn work<R: Wait>(self, rt: &R) -> Half<M> {
+        let AheadJob {
+            side,
+            mut past,
+            strides,
+        } = self;
+        let SideJob {
+            mut half,
+            cell,
+            n,
+            keep,
+        } = side;
+        drive_ahead(rt, &cell, &mut half, &mut past, n, keep, strides);
         half
     }
 }

@@ -1,1 +1,3 @@
 pub mod Talking
+pub mod Hands
+pub mod Steady

@@ -1,5 +1,5 @@
 -- What the talkers of the tests ask, and what they hear.
-use Rattle.std.specs.Prelude.{ℕ, ◌+◌, ◌*◌, ◌%◌, Bool, true, false, Option, None, Some}
+use Rattle.std.specs.Prelude.{ℕ, zero, suc, ◌+◌, ◌*◌, ◌%◌, Bool, true, false, not, Option, None, Some}
 use Rattle.std.proofs.Common.{arith}
 use Rattle.beeb_bits.specs.declared.Side.{Side}
 use Rattle.tube_chip.specs.declared.Op.TheVariants.{Read, Write}
@@ -9,16 +9,26 @@ use Rattle.tube_chip.specs.declared.Lines.{Lines}
 use Rattle.tube_chip.specs.Act.{Query, access, look, weight}
 use Rattle.tube_party.specs.Moves.{MayAsk}
 
--- a look, or an access to the register that what it heard picks
-abbrev pub asks : Bool → Bool → ℕ → Query
-asks true writes heard = look
-asks false true heard = access (Write (heard % 8) heard)
-asks false false heard = access (Read (heard % 8))
+-- a look, as long as looks are left, or an access to the register that what it heard picks
+abbrev pub asks : ℕ → Bool → ℕ → Query
+asks (suc looks) writes heard = look
+asks zero true heard = access (Write (heard % 8) heard)
+asks zero false heard = access (Read (heard % 8))
 
-pub may_ask : (looks writes : Bool) (heard : ℕ) (side : Side) → MayAsk side (Some (asks looks writes heard))
-may_ask true writes heard side = tt
-may_ask false true heard side = omega arith
-may_ask false false heard side = omega arith
+pub may_ask : (looks : ℕ) (writes : Bool) (heard : ℕ) (side : Side) → MayAsk side (Some (asks looks writes heard))
+may_ask (suc looks) writes heard side = tt
+may_ask zero true heard side = omega arith
+may_ask zero false heard side = omega arith
+
+-- how many looks are left after that
+abbrev pub looks_after : ℕ → ℕ → ℕ
+looks_after (suc looks) rest = looks
+looks_after zero rest = rest
+
+-- accesses write and read in turn
+abbrev pub writes_after : ℕ → Bool → Bool
+writes_after (suc looks) writes = writes
+writes_after zero writes = not writes
 
 abbrev pub heard_lines : Lines → ℕ
 heard_lines l = l.nmis % 8 + l.resets % 8 + (weight 16 l.prst + weight 32 l.pirq + weight 64 l.hirq)

@@ -2,5 +2,7 @@
 mod chip;
 mod parties;
 mod shared_cell;
+mod steady;
 mod traces;
+mod trust;
 mod two_threads;

@@ -3,11 +3,10 @@
 ghost use Rattle.std.specs.Prelude.{◌≡◌};
 
 use beeb_bits::{Side, Tick};
-use std::alloc::{AllocError, Global};
 use std::test::Fail;
-use tube_chip::{Chip, Lines, Op};
+use tube_chip::{Chip, Op};
 use tube_party::{
-    Answer, Ask, Doing, MOST, Party, Rewinds, legal_merge_is_reference, party_goes_on,
+    Answer, Ask, Doing, Forward, MOST, Party, legal_merge_is_reference, party_goes_on,
     reference_is_followed, reference_is_replayed, reference_is_trace, replay, replay_is_following,
     solo,
 };
@@ -241,29 +240,6 @@ fn looks_below_a_tick_see_these_lines(rt: HostRuntime) -> Result<(), Fail> {
     Ok(())
 }
 
-// It notes nothing, and so never goes ahead.
-impl Rewinds for Probe {
-    type Past = ();
-
-    ghost before = { λ past m. m };
-
-    fn past(_alloc: Global) -> Result<(), AllocError> {
-        Ok(())
-    }
-
-    fn advance_noting(
-        &mut self,
-        _until: Tick,
-        _lines: &Lines,
-        _sure: Tick,
-        _past: &mut (),
-    ) -> Option<Ask> {
-        None
-    }
-
-    fn rewind(&mut self, _past: &mut ()) {}
-}
-
 /// Writes to register 1 at tick `due` and every ten ticks, one byte after another, as the host.
 #[derive(Drop)]
 pub struct Writer {
@@ -367,7 +343,11 @@ fn two_parties_share_one_chip(rt: HostRuntime) -> Result<(), Fail> {
             byte: 1,
             lag: first as u64,
         };
-        let Ok(done) = solo(rt.alloc(), writer, at_power_on(), Tick(ticks as u64), keep) else {
+        // The probe is never taken back.
+        let probe = Forward {
+            party: at_power_on(),
+        };
+        let Ok(done) = solo(rt.alloc(), writer, probe, Tick(ticks as u64), keep) else {
             return Err(Fail::from("no memory"));
         };
         assert_eq!(rt; done.host_list, read(rt.alloc(), host_text.as_bytes())?);
@@ -375,12 +355,12 @@ fn two_parties_share_one_chip(rt: HostRuntime) -> Result<(), Fail> {
         assert_eq!(rt; done.host_count, host_count as u64);
         assert_eq!(rt; done.para_count, para_count as u64);
         assert_eq!(rt; done.host.due - done.host.lag, ticks as u64);
-        assert_eq!(rt; done.para.due - done.para.lag, ticks as u64);
+        assert_eq!(rt; done.para.party.due - done.para.party.lag, ticks as u64);
         // The last byte written is at the chip.
         let mut chip = done.chip;
         assert_eq!(rt; chip.apply(Side::Para, Op::Read(1)), host_count);
         // Both may be run on, since neither is closed past its next step.
-        let due = done.host.due.max(done.para.due);
+        let due = done.host.due.max(done.para.party.due);
         if due >= MOST {
             return Err(Fail::from("too late"));
         }

@@ -52,10 +52,10 @@ fn is_admitted(side: Side, horizon: u64, tick: u64) -> bool
 // The access at t where it is admitted, else a horizon raised to t.
 fn attempt<R: Wait>(rt: &R, cell: &TubeCell, pass: &mut Pass, t: u64, op: Op) -> Option<u8>
     requires cell { pass.old.cell ≡ cell.now }
-    requires published { pass.old.ahead ≡ [] }
+    requires published { (pass.old.ahead ≡ []) × (pass.old.trusted ≡ []) }
     requires operation { MayDo pass.old.side op }
     requires later { (own_horizon pass.old ≤ t) × (t < 2 ^ 30) }
-    ensures same { (pass.new.cell ≡ pass.old.cell) × (pass.new.side ≡ pass.old.side) × (pass.new.ahead ≡ []) }
+    ensures same { (pass.new.cell ≡ pass.old.cell) × (pass.new.side ≡ pass.old.side) × (pass.new.ahead ≡ []) × (pass.new.trusted ≡ []) }
     ensures done { IfSome result (λ _. own_horizon pass.new ≤ t + 1) }
     ensures not_done { IfNone result (own_horizon pass.new ≤ t) }
 {
@@ -77,11 +77,11 @@ fn turn<R: Wait>(
     op: Op,
 ) -> Option<u8>
     requires cells { (mine.old.cell ≡ cell.now) × (theirs.old.cell ≡ cell.now) }
-    requires published { (mine.old.ahead ≡ []) × (theirs.old.ahead ≡ []) }
+    requires published { (mine.old.ahead ≡ []) × (mine.old.trusted ≡ []) × (theirs.old.ahead ≡ []) × (theirs.old.trusted ≡ []) }
     requires operation { MayDo mine.old.side op }
     requires later { (own_horizon mine.old ≤ t) × (own_horizon theirs.old ≤ t) × (t < 2 ^ 30) }
-    ensures mine { (mine.new.cell ≡ mine.old.cell) × (mine.new.side ≡ mine.old.side) × (mine.new.ahead ≡ []) × (own_horizon mine.new ≤ t + 1) }
-    ensures theirs { (theirs.new.cell ≡ theirs.old.cell) × (theirs.new.side ≡ theirs.old.side) × (theirs.new.ahead ≡ []) × (own_horizon theirs.new ≤ t + 1) }
+    ensures mine { (mine.new.cell ≡ mine.old.cell) × (mine.new.side ≡ mine.old.side) × (mine.new.ahead ≡ []) × (mine.new.trusted ≡ []) × (own_horizon mine.new ≤ t + 1) }
+    ensures theirs { (theirs.new.cell ≡ theirs.old.cell) × (theirs.new.side ≡ theirs.old.side) × (theirs.new.ahead ≡ []) × (theirs.new.trusted ≡ []) × (own_horizon theirs.new ≤ t + 1) }
 {
     cell.learn(rt, theirs);
     cell.raise(rt, theirs, Tick(t + 1));
@@ -137,7 +137,8 @@ struct Entry {
     answer: u8,
 }
 
-fn op_of(number: u8, byte: u8, is_write: bool) -> Op
+/// An access to the register of this number, taken modulo 8.
+pub(super) fn op_of(number: u8, byte: u8, is_write: bool) -> Op
     ensures host { MayDo Host result }
     ensures para { MayDo Para result }
 {
@@ -151,10 +152,10 @@ fn op_of(number: u8, byte: u8, is_write: bool) -> Op
 // The access at t once it is admitted.
 fn access<R: Wait>(rt: &R, cell: &TubeCell, pass: &mut Pass, t: u64, op: Op) -> Option<u8>
     requires cell { pass.old.cell ≡ cell.now }
-    requires published { pass.old.ahead ≡ [] }
+    requires published { (pass.old.ahead ≡ []) × (pass.old.trusted ≡ []) }
     requires operation { MayDo pass.old.side op }
     requires later { (own_horizon pass.old ≤ t) × (t < 2 ^ 30) }
-    ensures same { (pass.new.cell ≡ pass.old.cell) × (pass.new.side ≡ pass.old.side) × (pass.new.ahead ≡ []) }
+    ensures same { (pass.new.cell ≡ pass.old.cell) × (pass.new.side ≡ pass.old.side) × (pass.new.ahead ≡ []) × (pass.new.trusted ≡ []) }
     ensures later { own_horizon pass.new ≤ t + 1 }
 {
     let backoff = Backoff::new();
@@ -171,9 +172,9 @@ fn access<R: Wait>(rt: &R, cell: &TubeCell, pass: &mut Pass, t: u64, op: Op) -> 
 // The own horizon past all ticks, so that the other side gets on.
 fn end<R: Wait>(rt: &R, cell: &TubeCell, pass: &mut Pass)
     requires cell { pass.old.cell ≡ cell.now }
-    requires published { pass.old.ahead ≡ [] }
+    requires published { (pass.old.ahead ≡ []) × (pass.old.trusted ≡ []) }
     requires later { own_horizon pass.old ≤ 2 ^ 30 }
-    ensures same { (pass.new.cell ≡ pass.old.cell) × (pass.new.side ≡ pass.old.side) × (pass.new.ahead ≡ []) }
+    ensures same { (pass.new.cell ≡ pass.old.cell) × (pass.new.side ≡ pass.old.side) × (pass.new.ahead ≡ []) × (pass.new.trusted ≡ []) }
 {
     for _ in 0..TRIES {
         if cell.raise(rt, pass, Tick(1 << 30)) {
@@ -191,9 +192,9 @@ fn work<R: Wait>(
     seed: u64,
 ) -> Option<(Pass, Vec<Entry>)>
     requires cell { pass.cell ≡ cell.now }
-    requires published { pass.ahead ≡ [] }
+    requires published { (pass.ahead ≡ []) × (pass.trusted ≡ []) }
     requires later { own_horizon pass ≤ 0 }
-    ensures { IfSome result (λ r. (r.0.cell ≡ pass.cell) × (r.0.side ≡ pass.side) × (r.0.ahead ≡ [])) }
+    ensures { IfSome result (λ r. (r.0.cell ≡ pass.cell) × (r.0.side ≡ pass.side) × (r.0.ahead ≡ []) × (r.0.trusted ≡ [])) }
 {
     let mut pass = pass;
     let mut list = Vec::with_capacity(alloc, 10_000).ok()?;
@@ -240,15 +241,15 @@ fn pair<R: Threads + Wait + Sync>(
         rt,
         move || -> Option<(Pass, Vec<Entry>)>
             requires cell { host.cell ≡ cell.now }
-            requires published { host.ahead ≡ [] }
+            requires published { (host.ahead ≡ []) × (host.trusted ≡ []) }
             requires later { own_horizon host ≤ 0 }
-            ensures { IfSome result (λ r. (r.0.cell ≡ host.cell) × (r.0.side ≡ host.side) × (r.0.ahead ≡ [])) }
+            ensures { IfSome result (λ r. (r.0.cell ≡ host.cell) × (r.0.side ≡ host.side) × (r.0.ahead ≡ []) × (r.0.trusted ≡ [])) }
         { work(rt, alloc, cell, host, seed) },
         move || -> Option<(Pass, Vec<Entry>)>
             requires cell { para.cell ≡ cell.now }
-            requires published { para.ahead ≡ [] }
+            requires published { (para.ahead ≡ []) × (para.trusted ≡ []) }
             requires later { own_horizon para ≤ 0 }
-            ensures { IfSome result (λ r. (r.0.cell ≡ para.cell) × (r.0.side ≡ para.side) × (r.0.ahead ≡ [])) }
+            ensures { IfSome result (λ r. (r.0.cell ≡ para.cell) × (r.0.side ≡ para.side) × (r.0.ahead ≡ []) × (r.0.trusted ≡ [])) }
         { work(rt, alloc, cell, para, !seed) },
     );
     let (host, host_list) = host?;

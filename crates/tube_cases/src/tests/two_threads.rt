@@ -2,16 +2,17 @@
 ghost use Rattle.std.specs.Prelude.{◌≡◌};
 ghost use Rattle.tube_cases.specs.Talking.{heard_lines};
 
-use beeb_bits::{Side, Tick};
+use super::steady::{Flag, flag};
+use beeb_bits::Tick;
 use beeb_files::{FailCrew, ThreadCrew};
-use session::{PairError, run_pair};
+use session::{PairError, Strides, run_pair, run_pair_by};
 use std::alloc::{AllocError, Global};
 use std::hint;
 use std::sync::Arc;
-use std::sync::atomic::{AtomicBool, Ordering};
+use std::sync::atomic::Ordering;
 use std::test::Fail;
 use tube_chip::{Lines, Op};
-use tube_party::{Answer, Ask, Party, Rewinds, solo};
+use tube_party::{Answer, Ask, Done, Party, Rewinds, solo};
 
 /// A talker's next step: a look, or an access to a register that all answers so far decide.
 #[derive(Clone, Copy, Debug, Drop, PartialEq, Eq)]
@@ -19,16 +20,27 @@ pub struct Talk {
     due: u64,
     // How far it is closed, in ticks before the next step.
     lag: u64,
-    looks: bool,
+    // So many looks come before the next access, and after that so many again.
+    looks: u64,
+    rest: u64,
     writes: bool,
     heard: u8,
 }
 
-/// Looks and does accesses in turn, one to four ticks apart, all by what it heard; the first time that it is advanced it may wait for another.
+/// Looks so often and does an access in turn, one to four ticks apart, all by what it heard. The first time that it is advanced it may wait for another.
 #[derive(Drop)]
 pub struct Talker {
     talk: Talk,
+    // It can note so many ticks, or any number.
+    room: Option<u64>,
     meeting: Option<Meeting>,
+}
+
+/// Where a talker was when it began to note, and the tick at which its notes are full.
+#[derive(Drop)]
+pub struct Notes {
+    talk: Talk,
+    full: u64,
 }
 
 // What a look heard.
@@ -42,11 +54,11 @@ fn heard(lines: Lines) -> u8
 }
 
 impl Party for Talker {
-    ghost use Rattle.std.specs.Prelude.{◌+◌, ◌-◌, ◌%◌, not, true, Some, refl, if◌then◌else◌};
+    ghost use Rattle.std.specs.Prelude.{◌+◌, ◌-◌, ◌%◌, not, true, false, Some, refl, if◌then◌else◌, ◌==◌};
     ghost use Rattle.std.proofs.Common.{arith};
     ghost use Rattle.tube_party.specs.Moves.{MayAsk};
     ghost use Rattle.tube_cases.specs.declared.tests.two_threads.Talk.{Talk};
-    ghost use Rattle.tube_cases.specs.Talking.{asks, may_ask, heard_after};
+    ghost use Rattle.tube_cases.specs.Talking.{asks, may_ask, heard_after, looks_after, writes_after};
 
     ghost State = { Talk };
 
@@ -58,8 +70,9 @@ impl Party for Talker {
       next = λ s a. record {
         due = s.due + 1 + heard_after s.heard a % 4;
         lag = heard_after s.heard a % 4;
-        looks = not s.looks;
-        writes = if s.looks then not s.writes else s.writes;
+        looks = looks_after s.looks s.rest;
+        rest = s.rest;
+        writes = writes_after s.looks s.writes;
         heard = heard_after s.heard a;
       };
       closed = λ s. s.due - s.lag;
@@ -89,7 +102,7 @@ impl Party for Talker {
             talk.lag = talk.lag.min(talk.due - until.0);
             return Ask::Nothing;
         }
-        if talk.looks {
+        if talk.looks > 0 {
             return Ask::Look(Tick(talk.due));
         }
         let number = talk.heard % 8;
@@ -114,23 +127,28 @@ impl Party for Talker {
             .wrapping_mul(5)
             .wrapping_add(byte)
             .wrapping_add(1);
-        if talk.looks {
+        if talk.looks > 0 {
+            talk.looks -= 1;
+        } else {
+            talk.looks = talk.rest;
             talk.writes = !talk.writes;
         }
-        talk.looks = !talk.looks;
         talk.lag = (talk.heard % 4) as u64;
         talk.due += 1 + talk.lag;
     }
 }
 
-// It goes ahead as far as it may, and is taken back by a copy of what it was.
+// It goes ahead until its notes are full, and is taken back by a copy of what it was.
 impl Rewinds for Talker {
-    type Past = Talk;
+    type Past = Notes;
 
-    ghost before = { λ past m. record m { talk = past } };
+    ghost before = { λ past m. record m { talk = past.talk } };
 
-    fn past(_alloc: Global) -> Result<Talk, AllocError> {
-        Ok(first_talk(0, 0))
+    fn past(_alloc: Global) -> Result<Notes, AllocError> {
+        Ok(Notes {
+            talk: first_talk(0, 0, 0),
+            full: 0,
+        })
     }
 
     fn advance_noting(
@@ -138,14 +156,22 @@ impl Rewinds for Talker {
         until: Tick,
         lines: &Lines,
         sure: Tick,
-        past: &mut Talk,
+        past: &mut Notes,
     ) -> Option<Ask> {
-        *past = self.talk;
-        Some(self.advance_seeing(until, lines, sure))
+        past.talk = self.talk;
+        past.full = match self.room {
+            Some(room) => self.talk.due.saturating_add(room),
+            None => u64::MAX,
+        };
+        Some(self.advance_seeing(until, lines, Tick(sure.0.min(past.full))))
     }
 
-    fn rewind(&mut self, past: &mut Talk) {
-        self.talk = *past;
+    fn advance_on(&mut self, until: Tick, lines: &Lines, sure: Tick, past: &mut Notes) -> Ask {
+        self.advance_seeing(until, lines, Tick(sure.0.min(past.full)))
+    }
+
+    fn rewind(&mut self, past: &mut Notes) {
+        self.talk = past.talk;
     }
 }
 
@@ -156,8 +182,6 @@ pub struct Meeting {
     other: Flag,
     missed: Flag,
 }
-
-type Flag = Arc<AtomicBool, Global>;
 
 impl Meeting {
     fn meet(&self) {
@@ -172,29 +196,31 @@ impl Meeting {
     }
 }
 
-fn flag(alloc: Global) -> Result<Flag, AllocError> {
-    Ok(Arc::new(alloc, AtomicBool::new(false))?)
-}
-
 // A first step at this tick, before which nothing is closed.
-fn first_talk(due: u8, heard: u8) -> Talk
+fn first_talk(due: u8, heard: u8, rest: u32) -> Talk
     ensures { result.lag ≡ result.due }
 {
     Talk {
         due: due as u64,
         lag: due as u64,
-        looks: false,
+        looks: 0,
+        rest: rest as u64,
         writes: true,
         heard,
     }
 }
 
+/// How a talker begins: the tick of its first step, what it heard before, how many looks come between two accesses, and how many ticks it can note.
+type Start = (u8, u8, u32, Option<u8>);
+
 // A talker that begins so.
-fn at_start(due: u8, heard: u8, meeting: Option<Meeting>) -> Talker
+fn at_start(start: Start, meeting: Option<Meeting>) -> Talker
     ensures { result.talk.lag ≡ result.talk.due }
 {
+    let (due, heard, rest, room) = start;
     Talker {
-        talk: first_talk(due, heard),
+        talk: first_talk(due, heard, rest),
+        room: room.map(|ticks| ticks as u64),
         meeting,
     }
 }
@@ -214,7 +240,10 @@ fn two_parties_meet(rt: HostRuntime) -> Result<(), Fail> {
         missed: Arc::try_clone(&missed)?,
     };
     let mut crew = ThreadCrew::make();
-    let (host, para) = (at_start(0, 0, Some(host)), at_start(1, 0, Some(para)));
+    let (host, para) = (
+        at_start((0, 0, 1, None), Some(host)),
+        at_start((1, 0, 1, None), Some(para)),
+    );
     let done = run_pair(&rt, alloc, &mut crew, host, para, Tick(9), 0);
     assert!(rt; done.is_ok());
     assert!(rt; !missed.load(Ordering::SeqCst));
@@ -222,53 +251,77 @@ fn two_parties_meet(rt: HostRuntime) -> Result<(), Fail> {
     Ok(())
 }
 
+// Both did the same, and as many accesses are kept as were done, up to `keep`.
+fn is_same(one: &Done<Talker, Talker>, two: &Done<Talker, Talker>, keep: u32) -> bool {
+    let is_all_kept = two.host_list.len() as u64 == two.host_count.min(keep as u64);
+    one.host.talk == two.host.talk
+        && one.para.talk == two.para.talk
+        && one.chip.pack() == two.chip.pack()
+        && one.host_list == two.host_list
+        && one.para_list == two.para_list
+        && (one.host_count, one.para_count) == (two.host_count, two.para_count)
+        && is_all_kept
+}
+
+// Strides in which much is told, and much taken back.
+const TINY: Strides = Strides {
+    first: 3,
+    fewest: 1,
+    most: 9,
+    span: 40,
+};
+
+// A rest in which no access comes.
+const LONG: u32 = 1_000_000;
+
 #[test]
 fn two_threads_do_what_one_does(rt: HostRuntime) -> Result<(), Fail> {
     let alloc = rt.alloc();
-    // The first step of each side and what it heard before, the ticks of the run, and how many accesses are kept.
-    let rows: [(u8, u8, u8, u8, u16, u32); 8] = [
-        (0, 0, 0, 0, 0, 9),
-        (0, 0, 0, 0, 1, 9),
-        (5, 1, 5, 2, 5, 9),
-        (0, 16, 0, 200, 9_000, 10_000),
-        (3, 77, 2, 8, 20_000, 0),
-        (9, 128, 0, 129, 20_000, 1),
-        (0, 255, 250, 31, 30_000, 1_000),
-        (250, 6, 0, 11, 60_000, 100_000),
+    // How each side starts, the ticks of the run, and how many accesses are kept.
+    let rows: [(Start, Start, u16, u32); 20] = [
+        ((0, 0, 1, None), (0, 0, 1, None), 0, 9),
+        ((0, 0, 1, None), (0, 0, 1, None), 1, 9),
+        ((5, 1, 1, None), (5, 2, 1, None), 5, 9),
+        ((0, 16, 1, None), (0, 200, 1, None), 9_000, 10_000),
+        ((3, 77, 1, None), (2, 8, 1, None), 6_000, 0),
+        ((9, 128, 1, None), (0, 129, 1, None), 6_000, 1),
+        ((0, 255, 1, None), (250, 31, 1, None), 9_000, 1_000),
+        ((250, 6, 1, None), (0, 11, 1, None), 30_000, 100_000),
+        // The host does accesses alone, and the parasite looks most of the time.
+        ((0, 3, 0, None), (0, 9, 20, None), 4_001, 10_000),
+        ((1, 40, 0, None), (0, 5, 200, None), 9_003, 10_000),
+        ((0, 21, 3, None), (4, 250, 200, None), 6_000, 100),
+        // And the other way round.
+        ((0, 3, 20, None), (0, 9, 0, None), 4_001, 10_000),
+        ((1, 40, 200, None), (0, 5, 0, None), 9_003, 10_000),
+        // Neither does much.
+        ((2, 90, 200, None), (0, 33, 200, None), 10_001, 1_000),
+        // The parasite can note little, or nothing.
+        ((0, 3, 0, None), (0, 9, 20, Some(3)), 3_000, 10_000),
+        ((0, 60, 20, None), (0, 7, 200, Some(3)), 5_000, 10_000),
+        ((0, 60, 20, None), (0, 7, 200, Some(100)), 5_000, 10_000),
+        ((0, 60, 20, None), (0, 7, 200, Some(0)), 5_000, 10_000),
+        // After its first access it looks alone, and the run ends within a stride.
+        ((0, 200, 200, None), (0, 1, LONG, None), 9_173, 100),
+        ((0, 8, LONG, None), (0, 100, LONG, None), 20_001, 100),
     ];
-    for (host, host_heard, para, para_heard, ticks, keep) in rows {
+    for (k, (host, para, ticks, keep)) in rows.into_iter().enumerate() {
         let n = Tick(ticks as u64);
-        let mut crew = ThreadCrew::make();
-        let Ok(two) = run_pair(
-            &rt,
-            alloc,
-            &mut crew,
-            at_start(host, host_heard, None),
-            at_start(para, para_heard, None),
-            n,
-            keep,
-        ) else {
-            return Err(Fail::from("not run"));
-        };
-        let Ok(one) = solo(
-            alloc,
-            at_start(host, host_heard, None),
-            at_start(para, para_heard, None),
-            n,
-            keep,
-        ) else {
+        let (one_host, one_para) = (at_start(host, None), at_start(para, None));
+        let Ok(one) = solo(alloc, one_host, one_para, n, keep) else {
             return Err(Fail::from("no memory"));
         };
-        assert_eq!(rt; two.host.talk, one.host.talk);
-        assert_eq!(rt; two.para.talk, one.para.talk);
-        assert_eq!(rt; two.chip.pack(), one.chip.pack());
-        assert_eq!(rt; two.host_list, one.host_list);
-        assert_eq!(rt; two.para_list, one.para_list);
-        assert_eq!(rt;
-            (two.host_count, two.para_count),
-            (one.host_count, one.para_count)
-        );
-        assert_eq!(rt; two.host_list.len() as u64, two.host_count.min(keep as u64));
+        let mut crew = ThreadCrew::make();
+        let (host, para) = (at_start(host, None), at_start(para, None));
+        let Ok(two) = run_pair(&rt, alloc, &mut crew, host, para, n, keep) else {
+            return Err(Fail::from("not run"));
+        };
+        assert!(rt; is_same(&one, &two, keep), "{k}");
+        let (host, para) = (at_start(rows[k].0, None), at_start(rows[k].1, None));
+        let Ok(two) = run_pair_by(&rt, alloc, &mut crew, host, para, n, keep, TINY) else {
+            return Err(Fail::from("not run"));
+        };
+        assert!(rt; is_same(&one, &two, keep), "{k}, in tiny strides");
     }
     Ok(())
 }
@@ -276,7 +329,10 @@ fn two_threads_do_what_one_does(rt: HostRuntime) -> Result<(), Fail> {
 #[test]
 fn without_a_thread_nothing_is_run(rt: HostRuntime) {
     let mut crew = FailCrew::make();
-    let (host, para) = (at_start(0, 0, None), at_start(0, 0, None));
+    let (host, para) = (
+        at_start((0, 0, 1, None), None),
+        at_start((0, 0, 1, None), None),
+    );
     let refused = run_pair(&rt, rt.alloc(), &mut crew, host, para, Tick(1_000), 9);
     assert!(rt; matches!(refused, Err(PairError::NoThread)));
     assert_eq!(rt; (crew.faults(), crew.pairs()), (1, 0));

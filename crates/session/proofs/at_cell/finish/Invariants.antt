@@ -1,4 +1,4 @@
-use Rattle.std.proofs.Common.{◌≤◌}
+use Rattle.std.proofs.Common.{◌≡◌, ◌≤◌}
 use Rattle.tube_cell.specs.Passes.{own_horizon}
 use Rattle.session.specs.Steps.{HasWaited}
 use Rattle.session.proofs.at_cell.finish.Given as goal
@@ -9,4 +9,6 @@ invariant-loop g l = record {
   finite : (goal.iterator-loop g).is_finite l.iterator';
   waited : HasWaited l.fn.pass l.pass;
   later : own_horizon l.pass ≤ l.n.0;
+  commits : l.pass.commits ≡ l.fn.pass.commits;
+  higher : l.fn.pass.higher ≤ l.pass.higher;
 }

@@ -1,29 +1,34 @@
-use Rattle.std.proofs.Common.{rules, ◌≢◌, ◌∙◌, refl}
+use Rattle.std.proofs.Common.{rules, ◌≢◌, ◌∙◌}
 use Rattle.tube_party.specs.declared.party.Ask.TheVariants.{Nothing}
-use Rattle.session.proofs.UnderWay.{begins, goes_on, smaller}
+use Rattle.session.specs.Station.{place, station}
+use Rattle.session.proofs.UnderWay.{moves_on, moved, steps_on, smaller}
 use Rattle.session.proofs.half.drive.Goals as goal
 
-pub loop-ask-init : goal.loop-ask-init
-loop-ask-init g c =
-    let r = c.requires in
-    record {
-      way = begins g.M.Party.moves g.met.M.Party.lawful c.args.n.0 c.args.keep (g.M.Party.state c.args.half.now.machine) c.args.half.now.pass
-          (g.M.Party.state c.advance-ask.new.self) c.advance-ask.result c.args.half.now.list.items c.args.half.now.count
-          r.published r.next r.open_ r.none_kept r.none_counted c.advance-ask.ensures;
-      room = refl;
-    }
+pub loop-pause-smaller : goal.loop-pause-smaller
+loop-pause-smaller g c =
+    let some : c.loop-pause.ask ≢ Nothing = search rules in
+    let m = g.M.Party.moves in
+    let state = g.M.Party.state in
+    let done = station state c.step.new.half in
+    let next = place (state c.go_on-ask-in-loop-pause.new.machine) c.go_on-ask-in-loop-pause.new.pass in
+    smaller m g.met.M.Party.lawful c.args.n.0 c.args.keep (station state c.args.half.now).at c.loop-pause.ask (station state c.loop-pause.half) some c.loop-pause.invariant.way
+    done c.step.ensures.turned c.go_on-ask-in-loop-pause.result next
+    (moved m c.args.n.0 done.at next c.go_on-ask-in-loop-pause.result c.step.ensures.turned.done.same.trusted c.go_on-ask-in-loop-pause.ensures)
 
-pub loop-ask-smaller : goal.loop-ask-smaller
-loop-ask-smaller g c =
-    let some : c.loop-ask.ask ≢ Nothing = search rules in
-    smaller g.M.Party.moves g.met.M.Party.lawful c.args.n.0 c.args.keep (g.M.Party.state c.args.half.now.machine) c.args.half.now.pass
-    _ _ _ _ _ _ _ _ _ _ some c.loop-ask.invariant.way c.turn-ask.ensures.turned
-
-pub loop-ask-preserved : goal.loop-ask-preserved
-loop-ask-preserved g c =
-    let some : c.loop-ask.ask ≢ Nothing = search rules in
+pub loop-pause-preserved : goal.loop-pause-preserved
+loop-pause-preserved g c =
+    let some : c.loop-pause.ask ≢ Nothing = search rules in
+    let m = g.M.Party.moves in
+    let state = g.M.Party.state in
+    let x0 = (station state c.args.half.now).at in
+    let done = station state c.step.new.half in
+    let next = place (state c.go_on-ask-in-loop-pause.new.machine) c.go_on-ask-in-loop-pause.new.pass in
+    let there = steps_on m g.met.M.Party.lawful c.args.n.0 c.args.keep x0 c.loop-pause.ask (station state c.loop-pause.half) some c.loop-pause.invariant.way done c.step.ensures.turned in
+    let a = c.loop-pause.invariant.paid in
+    let b = c.step.ensures.paid in
     record {
-      way = goes_on g.M.Party.moves g.met.M.Party.lawful c.args.n.0 c.args.keep (g.M.Party.state c.args.half.now.machine) c.args.half.now.pass
-          _ _ _ _ _ _ _ _ _ _ some c.loop-ask.invariant.way c.turn-ask.ensures.turned;
-      room = c.turn-ask.ensures.room ∙ c.loop-ask.invariant.room;
+      way = moves_on m g.met.M.Party.lawful c.args.n.0 c.args.keep x0 done c.go_on-ask-in-loop-pause.result next there
+          (moved m c.args.n.0 done.at next c.go_on-ask-in-loop-pause.result c.step.ensures.turned.done.same.trusted c.go_on-ask-in-loop-pause.ensures);
+      room = c.step.ensures.room ∙ c.loop-pause.invariant.room;
+      paid = search rules;
     }

@@ -1,13 +1,16 @@
 use Rattle.std.proofs.Common.{◌≡◌, vec_capacity}
 use Rattle.tube_party.specs.Turn.{left}
+use Rattle.session.specs.Steps.{IsPaid}
+use Rattle.session.specs.Station.{station}
 use Rattle.session.proofs.UnderWay.{IsUnderWay}
 use Rattle.session.proofs.half.drive.Given as goal
 
-abbrev pub invariant-loop-ask : goal.invariant-loop-ask
-invariant-loop-ask g l = record {
-  way : IsUnderWay g.M.Party.moves l.n.0 l.keep (g.M.Party.state l.fn.half.machine) l.fn.half.pass (g.M.Party.state l.half.machine) l.ask l.half.pass l.half.list.items l.half.count;
+abbrev pub invariant-loop-pause : goal.invariant-loop-pause
+invariant-loop-pause g l = record {
+  way : IsUnderWay g.M.Party.moves l.n.0 l.keep (station g.M.Party.state l.fn.half).at l.ask (station g.M.Party.state l.half);
   room : vec_capacity l.half.list ≡ vec_capacity l.fn.half.list;
+  paid : IsPaid l.fn.half.pass l.half.pass;
 }
 
-abbrev pub decreases-loop-ask : goal.decreases-loop-ask
-decreases-loop-ask g l = left l.n.0 l.ask
+abbrev pub decreases-loop-pause : goal.decreases-loop-pause
+decreases-loop-pause g l = left l.n.0 l.ask

@@ -3,5 +3,5 @@ use Rattle.session.proofs.pair.joined.Goals as goal
 
 pub returns : goal.returns
 returns g c s t n keep p q ps qs wh wp =
-    ended g.H.Party.moves g.P.Party.moves c.legal_merge_is_reference.ensures s _ t _ n keep p _ q _ _ _ _ _ _ ps qs
+    ended g.H.Party.moves g.P.Party.moves c.legal_merge_is_reference.ensures s t n keep _ p _ q _ ps qs
     c.join-chip.ensures.legal c.join-chip.ensures.chip wh wp

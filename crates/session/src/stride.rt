@@ -1,0 +1,89 @@
+//! How far the parasite goes ahead of the host at a time.
+use beeb_bits::Tick;
+
+/// The lengths of strides, in ticks. No promise depends on them.
+#[derive(Clone, Copy, Debug)]
+pub struct Strides {
+    /// The first stride from a mark.
+    pub first: u64,
+    /// The fewest ticks of a stride, and of what is gone from one mark.
+    pub fewest: u64,
+    /// The most ticks of a stride.
+    pub most: u64,
+    /// The most ticks from one mark.
+    pub span: u64,
+}
+
+// In ticks: the first stride from a mark, the fewest and the most of one, and the most from one mark.
+const FIRST: u64 = 128;
+
+const FEWEST: u64 = 64;
+
+const MOST: u64 = 2_048;
+
+const SPAN: u64 = 65_536;
+
+/// The usual lengths.
+pub const USUAL: Strides = Strides {
+    first: FIRST,
+    fewest: FEWEST,
+    most: MOST,
+    span: SPAN,
+};
+
+/// The length of the next stride, and how far one goes from a mark. Both grow while the host takes nothing back.
+#[derive(Drop)]
+pub(crate) struct Stride {
+    lengths: Strides,
+    ticks: u64,
+    // No stride is longer than this for now.
+    cap: u64,
+    span: u64,
+}
+
+impl Stride {
+    pub(crate) fn new(lengths: Strides) -> Stride {
+        Stride {
+            lengths,
+            ticks: lengths.first,
+            cap: lengths.most,
+            span: lengths.span,
+        }
+    }
+
+    /// From a new mark: the tick that ends its first stride.
+    pub(crate) fn set_out(&mut self, mark: Tick) -> Tick {
+        self.ticks = self.lengths.first.min(self.cap);
+        self.end(mark)
+    }
+
+    /// Where the next stride from there ends.
+    pub(crate) fn end(&self, from: Tick) -> Tick {
+        Tick(from.0.saturating_add(self.ticks))
+    }
+
+    /// Where one has gone far enough from this mark.
+    pub(crate) fn limit(&self, mark: Tick) -> Tick {
+        Tick(mark.0.saturating_add(self.span))
+    }
+
+    /// A stride was made: the next is longer.
+    pub(crate) fn is_made(&mut self) {
+        let cap = self.cap.saturating_add(self.cap / 4 + 1);
+        self.cap = cap.min(self.lengths.most);
+        self.ticks = self.ticks.saturating_mul(2).min(self.cap);
+    }
+
+    /// All from a mark stands.
+    pub(crate) fn stands(&mut self) {
+        let span = self.span.saturating_add(self.span / 4 + 1);
+        self.span = span.min(self.lengths.span);
+    }
+
+    /// The host took back what was done so many ticks after the mark.
+    pub(crate) fn is_cut(&mut self, way: u64) {
+        let fewest = self.lengths.fewest;
+        self.span = (way / 2).max(fewest).min(self.lengths.span);
+        self.cap = (self.cap / 4).max(fewest).min(self.lengths.most);
+    }
+}
