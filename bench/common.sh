@@ -1,10 +1,59 @@
-# What the measurements share: a working folder of their own, and a command timed against sha256sum of its file.
+# What the measurements share: the program, a working folder of their own, the pairs of programs that are timed, and a command timed against
+# sha256sum of its file. BEEBTUBE=PROGRAM runs that program in place of the one of this checkout, and then nothing is proved or built for it.
 set -eu
 top=$(cd "$(dirname "$0")/.." && pwd)
 program="$top/crates/beebtube/out/beebtube"
+launcher="$top/beebtube"
+if [ -n "${BEEBTUBE:-}" ]; then
+    program=$(realpath "$BEEBTUBE")
+    launcher=$program
+fi
 work=$(mktemp -d)
 trap 'rm -rf "$work"' EXIT
 cd "$work"
+
+# The pairs that `run` is timed on: the name, the host's program, the second processor's, and the key script where there is one. A number
+# behind the name stands for the microseconds between two interrupts of the host's timer, in place of the 1,000 of its program.
+pairs='busy bench/busy-os bench/busy-tube
+demo examples/demo-os examples/demo-tube
+stream examples/demo-os bench/pairs/stream-tube
+slow examples/demo-os bench/pairs/slow-tube
+fetch bench/pairs/fetch-os bench/pairs/fetch-tube
+host-polls examples/demo-os bench/busy-tube
+second-polls bench/busy-os bench/pairs/polls-tube
+keys examples/keys-os examples/keys-tube examples/hi.keys
+timer bench/pairs/timer-os bench/pairs/interrupts-tube
+irq-10000 bench/pairs/irq-os bench/pairs/interrupts-tube
+irq-1000 bench/pairs/irq-os bench/pairs/interrupts-tube
+irq-150 bench/pairs/irq-os bench/pairs/interrupts-tube
+irq-50 bench/pairs/irq-os bench/pairs/interrupts-tube
+nmi-1000 bench/pairs/nmi-os bench/pairs/interrupts-tube
+nmi-50 bench/pairs/nmi-os bench/pairs/interrupts-tube
+held bench/pairs/held-os bench/busy-tube
+pushes bench/busy-os bench/pairs/pushes-tube'
+
+# assemble_pair NAME: assembles the pair as NAME-os and NAME-tube, and leaves the words that run it in `words`, those for its keys in `keys`
+assemble_pair() {
+    local name os tube script
+    read -r name os tube script <<<"$(grep "^$1 " <<<"$pairs")"
+    [ -n "$name" ] || { echo "no pair is called $1"; exit 1; }
+    cp "$top/$os.asm" os.asm
+    case $name in *-[0-9]*) sed -i "s/998/$((${name##*-} - 2))/" os.asm ;; esac
+    "$launcher" asm 6502 os.asm "$name-os"
+    "$launcher" asm 65c02 "$top/$tube.asm" "$name-tube"
+    [ -z "$script" ] || cp "$top/$script" keys
+    keys=${script:+--keys keys}
+    words="--os $name-os --tube $name-tube $keys"
+}
+
+# move_thread PID NUMBER PROCESSORS: once the process has two threads, moves the first or the second (0 or 1) to these processors
+move_thread() {
+    local threads=()
+    while [ "${#threads[@]}" -lt 2 ] && [ -d "/proc/$1/task" ]; do
+        threads=("/proc/$1/task/"*)
+    done
+    taskset -pc "$3" "$(basename "${threads[$2]:-}")" >/dev/null 2>&1 || true
+}
 
 median() { sort -n | sed -n 3p; }
 
@@ -13,7 +62,7 @@ median() { sort -n | sed -n 3p; }
 against_sha256sum() {
     file=$1 goals=$2
     shift 2
-    "$top/beebtube" "$@"
+    "$launcher" "$@"
     for _ in 1 2 3 4 5; do
         /usr/bin/time -f '%e %M' -o one "$program" "$@" >said
         cat one >>ours

@@ -21,8 +21,8 @@ counts() {
 
 : >empty.trace
 if command -v valgrind >found; then
-    "$top/beebtube" asm 65c02 "$top/bench/busy-tube.asm" busy-tube
-    "$top/beebtube" asm 6502 "$top/bench/busy-os.asm" busy-os
+    "$launcher" asm 65c02 "$top/bench/busy-tube.asm" busy-tube
+    "$launcher" asm 6502 "$top/bench/busy-os.asm" busy-os
     counts 'second processor' $((ticks / 2)) para empty.trace TICKS out --tube busy-tube
     counts host $((ticks / 3)) host empty.trace TICKS out --os busy-os
     echo 'goal: at most 50 instructions and 0.4 indirect jumps'

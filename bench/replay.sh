@@ -6,11 +6,11 @@
 . "$(dirname "$0")/common.sh"
 
 : >empty.trace
-"$top/beebtube" asm 65c02 "$top/examples/loop-tube.asm" loop-tube
-"$top/beebtube" asm 65c02 "$top/bench/busy-tube.asm" busy-tube
-"$top/beebtube" asm 6502 "$top/bench/loop-os.asm" loop-os
-"$top/beebtube" asm 6502 "$top/bench/busy-os.asm" busy-os
-"$top/beebtube" asm 6502 "$top/examples/font.asm" font
+"$launcher" asm 65c02 "$top/examples/loop-tube.asm" loop-tube
+"$launcher" asm 65c02 "$top/bench/busy-tube.asm" busy-tube
+"$launcher" asm 6502 "$top/bench/loop-os.asm" loop-os
+"$launcher" asm 6502 "$top/bench/busy-os.asm" busy-os
+"$launcher" asm 6502 "$top/examples/font.asm" font
 head -c 204800 /dev/zero >disc
 
 # busy_behind NAME HANDLERS: the busy program of the host behind the lines of standard input, and before these lines
@@ -21,7 +21,7 @@ busy_behind() {
         sed -e '1,/org/d' -e 's/^start:/again: /' -e '/org &FFFC/,$d' "$top/bench/busy-os.asm"
         printf '%s\n' "$2" '        org &FFFA' '        word nmi, start, irq'
     } >"$1.asm"
-    "$top/beebtube" asm 6502 "$1.asm" "$1"
+    "$launcher" asm 6502 "$1.asm" "$1"
 }
 
 none='nmi:    RTI

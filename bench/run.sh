@@ -1,38 +1,92 @@
 #!/usr/bin/env bash
-# Times `run` beside `solo` by the clock on the wall, on a pair that leaves the Tube alone and on one that uses it all the time: with all
-# processors, and with both threads on one, where it has to end too. The fastest of five runs each. That both write the same files is
-# compared beside it. Two threads that wait for each other every microsecond or two of machine time need two processors of their own: beside
-# other work they are timed with it.
+# run.sh [--ticks N] [--on A,B] [--apart] [PAIR..]: times `solo`, both replays, `run` on two processors and `run` on one, in turn, five times
+# each, over N ticks (30,000,000, 5 s of machine time, if none is said), for these pairs, or for all that common.sh tells. Prints the fastest,
+# the middle and the slowest of each by the clock on the wall, and compares what each `run` writes with what `solo` wrote. A and B are the
+# processors, the first and the last if none is said, and all but `run` on two is on A. --apart puts a thread on each; else the system does
+# as it likes. Two threads that wait for each other need processors of their own: beside other work they are timed with it.
 . "$(dirname "$0")/common.sh"
 
-"$top/beebtube" asm 6502 "$top/examples/demo-os.asm" demo-os
-"$top/beebtube" asm 65c02 "$top/examples/demo-tube.asm" demo-tube
-"$top/beebtube" asm 6502 "$top/bench/busy-os.asm" busy-os
-"$top/beebtube" asm 65c02 "$top/bench/busy-tube.asm" busy-tube
+ticks=30000000
+a=0
+b=$(($(nproc) - 1))
+on_two=on_both
+while [ $# -gt 0 ]; do
+    case $1 in
+        --ticks) ticks=$2 && shift ;;
+        --on) a=${2%,*} b=${2#*,} && shift ;;
+        --apart) on_two=one_each ;;
+        *) break ;;
+    esac
+    shift
+done
+[ $# -gt 0 ] || set -- $(cut -d' ' -f1 <<<"$pairs")
 
-# fastest WORD..: the seconds on the wall of the fastest of five runs of these words
-fastest() {
-    for _ in 1 2 3 4 5; do
-        /usr/bin/time -f %e -o one "$@" >said
-        cat one
-    done | sort -n | head -n 1
+# The program on one processor, on both, and with a thread on each.
+on_one() { taskset -c "$a" "$program" "$@"; }
+on_both() { taskset -c "$a,$b" "$program" "$@"; }
+one_each() {
+    taskset -c "$a" "$program" "$@" &
+    move_thread $! 1 "$b"
+    wait $!
 }
 
-echo "processors: $(nproc)"
-for pair in 'busy 30000000' 'demo 6000000'; do
-    set -- $pair
-    words="--os $1-os --tube $1-tube --keep 4194304"
-    one=$(fastest "$program" solo "$2" one $words)
-    two=$(fastest "$program" run "$2" two $words)
-    pinned=$(fastest taskset -c 0 "$program" run "$2" pinned $words)
+# timed FILE WORD..: adds the seconds on the wall and those in user mode of a command to the file
+timed() {
+    local file=$1 TIMEFORMAT='%3R %3U'
+    shift
+    { time "$@" >said 2>&1; } 2>>"$file" || { cat said; exit 1; }
+}
+
+compare() { # OUT
     for part in report host para trace; do
-        cmp "one.$part" "two.$part"
-        cmp "one.$part" "pinned.$part"
+        cmp "solo.$part" "$1.$part"
     done
-    awk -v name="$1" -v ticks="$2" -v one="$one" -v two="$two" -v pinned="$pinned" 'BEGIN {
-        time = ticks / 6000000
-        printf "%s: %.1f s of machine time; solo %.2f s, %.1f times real time; run %.2f s, %.1f times; run on one processor %.2f s, %.1f times\n",
-            name, time, one, time / one, two, time / two, pinned, time / pinned
-    }'
+}
+
+echo "processors $a and $b of $(nproc); fastest, middle and slowest of five"
+for pair; do
+    assemble_pair "$pair"
+    rm -f times.*
+    # The machine's state may change between runs, so all are run in turn.
+    for _ in 1 2 3 4 5; do
+        timed times.solo on_one solo "$ticks" solo $words --keep 4194304
+        timed times.host on_one replay host solo.trace "$ticks" replayed --os "$pair-os" $keys
+        timed times.para on_one replay para solo.trace "$ticks" replayed --tube "$pair-tube"
+        timed times.run "$on_two" run "$ticks" two $words --keep 4194304
+        compare two
+        timed times.one on_one run "$ticks" one $words --keep 4194304
+        compare one
+    done
+    for name in solo host para run one; do
+        sort -n "times.$name" | sed -n '1p;3p;5p' | tr '\n' ' '
+        sort -n -k2 "times.$name" | sed -n '1p;3p;5p' | cut -d' ' -f2 | tr '\n' ' '
+        echo
+    done | awk -v pair="$pair" -v ticks="$ticks" -v accesses="$(sed -n 's/^tube //p' solo.report)" '
+        # the three numbers of this form in `x`, and what they are
+        function tell(form, what) { printf "  " form ", " form ", " form " %s", x[1], x[2], x[3], what }
+        { for (i = 1; i <= 3; i++) { wall[NR, i] = $(2 * i - 1); user[NR, i] = $(6 + i) } }
+        END {
+            time = ticks / 6000000
+            printf "%s: %.1f s of machine time, %d accesses\n", pair, time, accesses
+            split("solo,replay host,replay para,run,run on one processor", name, ",")
+            for (row = 1; row <= 5; row++) {
+                printf "  %-20s", name[row]
+                for (i = 1; i <= 3; i++) x[i] = wall[row, i]
+                tell("%.3f", "s")
+                for (i = 1; i <= 3; i++) x[i] = time / wall[row, i]
+                tell("%.1f", "times real time")
+                if (row == 1) {
+                    for (i = 1; i <= 3; i++) x[i] = user[1, i] / (user[2, i] + user[3, i] + 0.0001)
+                    tell("%.2f", "times both replays, in user mode")
+                }
+                if (row >= 4) {
+                    for (i = 1; i <= 3; i++) x[i] = wall[row, i] / wall[1, i]
+                    tell("%.2f", "times solo")
+                    for (i = 1; i <= 3; i++) x[i] = wall[row, i] / (wall[2, i] > wall[3, i] ? wall[2, i] : wall[3, i])
+                    tell("%.2f", "times the slower replay")
+                }
+                printf "\n"
+            }
+        }'
 done
-echo 'goal: more than 4 times real time for both pairs, on two processors or more'
+echo 'goals: for busy and demo, solo over 20 times real time and at most 1.15 times both replays, and run on two processors over 4 times real time'

@@ -1,8 +1,38 @@
 #!/usr/bin/env bash
-# schedules.sh [N [SEED]]: N runs (1000 if none is said) of `run` on random pairs of programs, each beside `solo` of the same words: with no load,
-# with both threads on one processor, and with loads that delay one thread or the other. Prints how many were done with each, how many accesses
-# to the Tube they made and how many differed in a byte of what they wrote, and ends with 0 where none did. The same seed makes the same programs.
+# schedules.sh [--tiny] [N [SEED]]: N runs (1000 if none is said) of `run` on random pairs of programs, each beside `solo` of the same words: with
+# no load, with both threads on one processor, and with loads that delay one thread or the other. The programs compute, poll, transfer, take
+# interrupts of the Tube and of a timer, set its control flags, and reset the second processor in the course of it. Prints how many runs were done
+# with each load, in how many there were interrupts and resets, how many accesses to the Tube they made and how many differed in a byte of what
+# they wrote, and ends with 0 where none did. The same seed makes the same programs.
+#
+# --tiny proves and builds a copy of this checkout whose second processor goes ahead by a few ticks at a time, and runs that: it is taken back, or
+# waits, in the middle of everything. BEEBTUBE=PROGRAM (see common.sh) runs a program that was built by other means.
 . "$(dirname "$0")/common.sh"
+
+# Sets the number of this name in the copy's file of strides.
+constant() { # NAME NUMBER
+    grep -q "const $1: u64 = [0-9_]*;" "$strides" || { echo "no constant $1 in $strides"; exit 1; }
+    sed -i "s/const $1: u64 = [0-9_]*;/const $1: u64 = $2;/" "$strides"
+}
+
+if [ "${1:-}" = --tiny ]; then
+    shift
+    [ -z "${BEEBTUBE:-}" ] || { echo '--tiny builds a program of its own: no BEEBTUBE beside it'; exit 1; }
+    mkdir tiny
+    tar -C "$top" --exclude=.git -cf - . | tar -C tiny -xf -
+    strides=tiny/crates/session/src/stride.rt
+    constant FIRST 3
+    constant FEWEST 1
+    # A span from one mark has several strides, where the program has such spans.
+    if grep -q 'const SPAN' "$strides"; then
+        constant MOST 9
+        constant SPAN 40
+    else
+        constant MOST 40
+    fi
+    launcher=$work/tiny/beebtube
+    program=$work/tiny/crates/beebtube/out/beebtube
+fi
 
 count=${1:-1000}
 RANDOM=${2:-1}
@@ -62,32 +92,100 @@ transfer() { # BASE
     echo "        BNE t$label"
 }
 
-# A program of some parts in a circle, with handlers of interrupts that read a register.
+# Status reads of one register, which wait for nothing.
+polls() { # BASE
+    below 4
+    local status=$(($1 + 2 * some))
+    below 256
+    echo "        LDX #$some"
+    printf 'p%s:   BIT &%04X\n' "$label" "$status"
+    echo "        DEX"
+    echo "        BNE p$label"
+}
+
+# The host sets some of the flags Q, I, J, M and V, or clears them. One time in eight it clears the registers too.
+flags() { # BASE
+    below 32
+    local byte=$some
+    below 2
+    byte=$((byte + 128 * some))
+    below 8
+    [ "$some" != 0 ] || byte=$((byte + 64))
+    printf '        LDA #%d\n        STA &%04X\n' "$byte" "$1"
+}
+
+# The host holds the second processor in reset for a while, and lets it go.
+resets() { # BASE
+    below 256
+    printf '        LDA #&A0\n        STA &%04X\n' "$1"
+    echo "        LDX #$some"
+    echo "r$label:   DEX"
+    echo "        BNE r$label"
+    printf '        LDA #&20\n        STA &%04X\n' "$1"
+}
+
+# The host's timer asks for an interrupt again and again.
+timer() {
+    below 8
+    echo '        LDA #&40'
+    echo '        STA &FE4B'
+    case $some in
+        0) below 4000 ;;
+        [1-3]) below 1000 ;;
+        *) below 200 ;;
+    esac
+    printf '        LDA #<%d\n        STA &FE44\n        LDA #>%d\n        STA &FE45\n' $((some + 60)) $((some + 60))
+    echo '        LDA #&C0'
+    echo '        STA &FE4E'
+}
+
+# A handler, which takes a byte of a register, and sends one back or does not.
+handler() { # LABEL BASE REGISTER COUNTER
+    echo "$1:    PHA"
+    [ "$2" != "$host" ] || echo '        LDA &FE44'
+    printf '        LDA &%04X\n        INC &%s\n' $(($2 + 2 * $3 + 1)) "$4"
+    below 4
+    [ "$some" = 0 ] || printf '        STA &%04X\n' $(($2 + 2 * $3 + 1))
+    printf '        PLA\n        RTI\n'
+}
+
+# A program of some parts in a circle, with handlers of interrupts.
 program_of() { # ORG BASE
     printf '        org &%04X\n' "$1"
     echo 'begin:  LDX #255'
     echo '        TXS'
-    below 2
-    if [ "$2" = "$host" ] && [ "$some" = 0 ]; then
-        # control flags of the chip, set one by one
-        for _ in 1 2; do
-            below 6
-            printf '        LDA #%d\n        STA &%04X\n' $((128 + (1 << some))) "$2"
-        done
+    if [ "$2" = "$host" ]; then
+        below 4
+        # mostly the second processor copies its program meanwhile, and is ready for interrupts
+        [ "$some" = 0 ] || printf '        LDX #0\nmean:   NOP\n        DEX\n        BNE mean\n'
+        below 3
+        [ "$some" = 0 ] || timer
+        below 4
+        if [ "$some" != 0 ]; then
+            # some of the flags Q, M and V, and both interrupts of the second processor
+            below 32
+            printf '        LDA #%d\n        STA &%04X\n' $((128 + (some | 6))) "$2"
+        fi
     fi
     below 3
-    [ "$some" != 0 ] || echo '        CLI'
+    [ "$some" = 0 ] || echo '        CLI'
     echo 'again:  CLD'
-    below 4
+    below 5
     local parts=$((some + 1))
     for label in $(seq "$parts"); do
-        below 3
-        if [ "$some" = 0 ]; then delay; else transfer "$2"; fi
+        below 12
+        case $some in
+            [0-2]) delay ;;
+            [3-4]) polls "$2" ;;
+            5) if [ "$2" = "$host" ]; then resets "$2"; else delay; fi ;;
+            6) if [ "$2" = "$host" ]; then flags "$2"; else polls "$2"; fi ;;
+            *) transfer "$2" ;;
+        esac
     done
     echo '        JMP again'
     below 4
-    printf 'irq:    PHA\n        LDA &%04X\n        INC &81\n        PLA\n        RTI\n' $(($2 + 2 * some + 1))
-    printf 'nmi:    PHA\n        LDA &%04X\n        INC &82\n        PLA\n        RTI\n' $(($2 + 5))
+    handler irq "$2" "$some" 81
+    handler nmi "$2" 2 82
     # The boot ROM goes with the first access to the Tube, so that the second processor runs from its RAM: all before this and the
     # vectors are copied. A part has at most 26 bytes, and the rest at most 40.
     if [ "$2" = "$host" ]; then
@@ -100,9 +198,15 @@ program_of() { # ORG BASE
     echo '        word nmi, start, irq'
 }
 
-# work_with LOAD WORD..: the program with these words, where a load delays its threads
-work_with() {
-    local load=$1
+# Whether the program counted an interrupt or an NMI in this memory.
+interrupted() { # MEMORY
+    [ "$(od -An -tx2 -j129 -N2 "$1")" != ' 0000' ]
+}
+
+# work_with LOAD WORD..: the program with these words, where a load delays its threads. It ends where it works for a minute.
+work_with() (
+    ulimit -t 60
+    load=$1
     shift
     case $load in
         none) "$program" "$@" ;;
@@ -112,20 +216,14 @@ work_with() {
         *)
             # both threads begin beside a spinner, and then one goes to another processor: the other alone is delayed
             taskset -c 0 "$program" "$@" &
-            local pid=$! threads=
-            while [ -d "/proc/$pid/task" ]; do
-                threads=$(cd "/proc/$pid/task" 2>/dev/null && echo *) || break
-                case $threads in *' '*) break ;; esac
-            done
             case $load in
-                host-delayed) freed=${threads%% *} ;;
-                *) freed=${threads##* } ;;
+                host-delayed) move_thread $! 0 "1-$last" ;;
+                *) move_thread $! 1 "1-$last" ;;
             esac
-            taskset -pc "1-$last" "$freed" >said 2>&1 || true
-            wait "$pid"
+            wait $!
             ;;
     esac
-}
+)
 
 # Spinners on the first processor and on the last, which go on only while a run has a load. They give way to the program mostly, since a
 # thread that lets another have its processor waits for a spinner's whole turn.
@@ -140,13 +238,16 @@ trap 'kill -KILL "$first_spinner" "$last_spinner"; rm -rf "$work"' EXIT
 # The loads in turn, each with the spinners that go on and the ticks below which its longest runs are: the more each wait takes, the fewer.
 loads=(none one one-loaded half-loaded loaded host-delayed second-delayed)
 spinners=('' '' "$first_spinner" "$first_spinner" "$first_spinner $last_spinner" "$first_spinner" "$first_spinner")
-longest=(100000 60000 8000 30000 20000 6000 6000)
+longest=(100000 100000 40000 60000 60000 40000 40000)
 
 host=$((0xFEE0))
 para=$((0xFEF8))
-"$top/beebtube" check "$top/examples/nmi.trace" >said
+"$launcher" check "$top/examples/nmi.trace" >said
 differed=0
 accesses=0
+host_interrupted=0
+second_interrupted=0
+reset=0
 done_runs=(0 0 0 0 0 0 0)
 for number in $(seq "$count"); do
     program_of $((0xC000)) "$host" >os.asm
@@ -172,6 +273,9 @@ for number in $(seq "$count"); do
     done
     done_runs[turn]=$((done_runs[turn] + 1))
     accesses=$((accesses + $(sed -n 's/^tube //p' one.report)))
+    ! interrupted one.host || host_interrupted=$((host_interrupted + 1))
+    ! interrupted one.para || second_interrupted=$((second_interrupted + 1))
+    ! grep -q ' H W 0 20$' one.trace || reset=$((reset + 1))
     if [ "$same" = no ]; then
         differed=$((differed + 1))
         echo "differs: number $number, load $load, $ticks ticks, keep $keep"
@@ -182,5 +286,6 @@ done
 for turn in "${!loads[@]}"; do
     echo "${loads[turn]}: ${done_runs[turn]} runs"
 done
+echo "interrupts of the host in $host_interrupted, of the second processor in $second_interrupted, resets of it in $reset"
 echo "$count runs done, $accesses accesses to the Tube, $differed differed"
 [ "$differed" = 0 ]
