@@ -1,5 +1,5 @@
 -- What is kept as the list of events grows.
-use Rattle.std.proofs.Common.{ℕ, ◌≡◌, ◌+◌, ◌≤◌, inl, inr, refl, sym, ◌∙◌, ap, arith, List, [], ◌∷◌, ◌++◌, length, take, length-append, append_assoc}
+use Rattle.std.proofs.Common.{ℕ, ◌≡◌, ◌+◌, ◌≤◌, nat_lt, true, false, cond, inl, inr, refl, sym, ◌∙◌, ap, arith, List, [], ◌∷◌, ◌++◌, length, take, length-append, append_assoc}
 use Rattle.std.proofs.lemmas.List.{append-nil, take_all, take-append-le, length-take-le}
 use Rattle.std.proofs.lemmas.Bool.{lt-ltb, le-ltb, cases_lt}
 use Rattle.beeb_bits.specs.declared.Side.{Side}
@@ -38,7 +38,7 @@ noted_take keep xs x = elim (cases_lt (length xs) keep) [
       (rw (le-ltb (length (take keep xs)) keep over) refl) ∙ sym (take-append-le keep xs (x ∷ []) ge)
 ]
 
-noted_all_take : (keep : ℕ) (xs ys : List Entry) → noted_all keep (take keep xs) ys ≡ take keep (xs ++ ys)
+pub noted_all_take : (keep : ℕ) (xs ys : List Entry) → noted_all keep (take keep xs) ys ≡ take keep (xs ++ ys)
 noted_all_take keep xs [] = ap (take keep) (sym (append-nil xs))
 noted_all_take keep xs (y ∷ ys) =
     ap (λ z. noted_all keep z ys) (noted_take keep xs y)
@@ -64,3 +64,31 @@ pub at_most_one : (t : ℕ) (side : Side) (q : Query) (a : Answer) → length (e
 at_most_one t side (access op) (Byte b) = omega arith
 at_most_one t side (access op) (Seen l) = omega arith
 at_most_one t side look a = omega arith
+
+-- ---- what was noted behind what was kept before
+
+noted-append : (keep : ℕ) (xs ys list : List Entry) → noted_all keep list (xs ++ ys) ≡ noted_all keep (noted_all keep list xs) ys
+noted-append keep [] ys list = refl
+noted-append keep (x ∷ xs) ys list = noted-append keep xs ys (noted keep list x)
+
+pub noted_on : (keep : ℕ) (xs ys : List Event) (list : List Entry) → noted_all keep (noted_all keep list (accesses xs)) (accesses ys) ≡ noted_all keep list (accesses (xs ++ ys))
+noted_on keep xs ys list = sym (ap (noted_all keep list) (accesses-append xs ys) ∙ noted-append keep (accesses xs) (accesses ys) list)
+
+pub counted_on : (xs ys : List Event) (n : ℕ) → n + length (accesses xs) + length (accesses ys) ≡ n + length (accesses (xs ++ ys))
+counted_on xs ys n = let a = ap length (accesses-append xs ys) ∙ length-append (accesses xs) (accesses ys) in omega arith
+
+longer_by : (keep : ℕ) (list : List Entry) (x : Entry) → (length list ≤ length (noted keep list x)) × ((n : ℕ) → n ≤ length list → take n (noted keep list x) ≡ take n list)
+longer_by keep list x = elim (nat_lt (length list) keep) as (λ b. (length list ≤ length (cond b (list ++ x ∷ []) list)) × ((n : ℕ) → n ≤ length list → take n (cond b (list ++ x ∷ []) list) ≡ take n list)) [
+  | true ↦ (let l = length-append list (x ∷ []) in omega arith, λ n le. take-append-le n list (x ∷ []) le)
+  | false ↦ (omega arith, λ n le. refl)
+]
+
+-- the list grows at its end alone
+pub still_kept : (keep : ℕ) (list xs : List Entry) → (length list ≤ length (noted_all keep list xs)) × ((n : ℕ) → n ≤ length list → take n (noted_all keep list xs) ≡ take n list)
+still_kept keep list [] = (omega arith, λ n le. refl)
+still_kept keep list (x ∷ xs) =
+    let one = longer_by keep list x in
+    let a = one.0 in
+    let more = still_kept keep (noted keep list x) xs in
+    let b = more.0 in
+    (omega arith, λ n le. more.1 n (omega arith) ∙ one.1 n le)

@@ -3,7 +3,8 @@ pub mod Kept
 pub mod Merged
 pub mod UnderWay
 pub mod Ends
-pub mod Looking
+pub mod Observing
 pub mod Gone
 pub mod Trusts
+pub mod OnWay
 pub mod Waits

@@ -6,18 +6,16 @@ use Rattle.std.proofs.lemmas.Bool.{cases_lt}
 use Rattle.std.proofs.lemmas.Bool.Decides.{nat_tests}
 use Rattle.beeb_bits.specs.declared.Side.{Side}
 use Rattle.beeb_bits.specs.declared.Side.TheVariants.{Para}
-use Rattle.tube_chip.specs.State.{State, lines_of}
+use Rattle.tube_chip.specs.State.{State}
 use Rattle.tube_chip.specs.Events.{Event}
-use Rattle.tube_cell.specs.Views.{Known, own, other, own_bound, past_last, below, horizon}
+use Rattle.tube_cell.specs.Views.{Known, own, other, own_bound, past_last, below, horizon, readings_of}
 use Rattle.tube_cell.specs.Rules.{Trusts}
 use Rattle.tube_cell.specs.Passes.{Carried, own_horizon, published, entrusted, Learns}
 use Rattle.tube_cell.specs.Steps.{Watches}
-use Rattle.tube_party.specs.declared.party.Ask.{Ask}
-use Rattle.tube_party.specs.declared.party.Ask.TheVariants.{Nothing, Access, Look}
-use Rattle.tube_party.specs.Moves.{Moves, IsLawful}
 use Rattle.session.specs.Steps.{all_events, HasWaited}
-use Rattle.session.specs.Trusting.{from_on, Mark, looks_past, IsTrusting, HasTrusted, HasPassed, IsReached}
-use Rattle.session.proofs.Looking.{none_late, cut, watches, below_and_rest, below_limit}
+use Rattle.session.specs.Way.{Way, IsWay}
+use Rattle.session.specs.Trusting.{from_on, IsTrusting, HasTrusted, HasPassed}
+use Rattle.session.proofs.Observing.{below_and_rest}
 
 lt-yes : (m n : ℕ) → m < n → nat_lt m n ≡ true
 lt-yes m n h = grind (arith, nat_tests)
@@ -96,23 +94,23 @@ past_both t (x ∷ []) [] all = omega arith
 past_both t (x ∷ []) (y ∷ ys) all = let h = past_low t (y ∷ ys) all in omega arith
 past_both t (x ∷ z ∷ xs) ys all = past_both t (z ∷ xs) ys all
 
-module _ {S : Type 0} (m : Moves S) (lawful : IsLawful m) (n : ℕ) (mark : Mark S) (base : List Event) where
+module _ (w : Way) (law : IsWay w) (base : List Event) where
   abbrev made : ℕ → List Event
-  made t = looks_past m n mark t
+  made t = w.until t
 
   part : (t limit : ℕ) → t ≤ limit → below t (made limit) ≡ made t
-  part t limit le = cut m lawful Para mark.lines t limit n mark.state le
+  part t limit le = law.part t limit le
 
   -- what may be put onto the list on trust next
-  pub may_trust : (p : Carried) (t : ℕ) → own_horizon p ≤ max p.known.trust (m.due mark.state) → mark.lines ≡ lines_of p.known.chip → Watches Para (own_horizon p) p.known.chip (from_on p.known.trust (made t)) t
+  pub may_trust : (p : Carried) (t : ℕ) → own_horizon p ≤ max p.known.trust w.tick → w.readings ≡ readings_of p.known.chip → Watches Para (own_horizon p) p.known.chip (from_on p.known.trust (made t)) t
   may_trust p t low same =
-      watch_from Para (max p.known.trust (m.due mark.state)) (own_horizon p) p.known.chip (from_on p.known.trust (made t)) t
-      (watch_rest Para p.known.trust (m.due mark.state) p.known.chip (made t) t (watches m lawful Para mark.lines p.known.chip t n mark.state (m.due mark.state) same (omega arith))) low
+      watch_from Para (max p.known.trust w.tick) (own_horizon p) p.known.chip (from_on p.known.trust (made t)) t
+      (watch_rest Para p.known.trust w.tick p.known.chip (made t) t (law.watches p.known.chip t same)) low
 
-  pub trusting_more : (p q : Carried) (t : ℕ) → IsTrusting m n mark base p → p.known.trust ≤ t → q ≡ entrusted p (from_on p.known.trust (made t)) t → IsTrusting m n mark base q
+  pub trusting_more : (p q : Carried) (t : ℕ) → IsTrusting w base p → p.known.trust ≤ t → q ≡ entrusted p (from_on p.known.trust (made t)) t → IsTrusting w base q
   trusting_more p q t is le q_is =
       let f = is.order in
-      subst (λ (x : Carried). IsTrusting m n mark base x) (sym q_is) (record {
+      subst (λ (x : Carried). IsTrusting w base x) (sym q_is) (record {
         firm = is.firm;
         events = is.events;
         trusted =
@@ -123,15 +121,15 @@ module _ {S : Type 0} (m : Moves S) (lawful : IsLawful m) (n : ℕ) (mark : Mark
       })
 
   -- what a learn leaves: nothing is known anew; or the host has passed the trust that stands now, and what lies below it is on the list for good
-  pub trusting_learned : (p q : Carried) → p.side ≡ Para → IsTrusting m n mark base p → Learns p q
-      → IsTrusting m n mark base q × (((q.known.host < q.known.trust) × (q.known.trust ≡ p.known.trust)) ⊎ ((q.known.trust ≤ q.known.host) × (q.trusted ≡ []) × (q.events ≡ base ++ made q.known.trust)))
+  pub trusting_learned : (p q : Carried) → p.side ≡ Para → IsTrusting w base p → Learns p q
+      → IsTrusting w base q × (((q.known.host < q.known.trust) × (q.known.trust ≡ p.known.trust)) ⊎ ((q.known.trust ≤ q.known.host) × (q.trusted ≡ []) × (q.events ≡ base ++ made q.known.trust)))
   trusting_learned p q side is learns = go (subst (λ (x : Side). Trusts x p.known q.known) side learns.trust) (cases_lt q.known.host q.known.trust)
     where
       host_up : p.known.host ≤ q.known.host
       host_up = subst (λ (x : Side). other x p.known ≤ other x q.known) side learns.other_word
 
       settled : (t : ℕ) → t ≡ q.known.trust → t ≤ q.known.host → q.trusted ≡ [] → q.events ≡ base ++ made t
-          → IsTrusting m n mark base q × (((q.known.host < q.known.trust) × (q.known.trust ≡ p.known.trust)) ⊎ ((q.known.trust ≤ q.known.host) × (q.trusted ≡ []) × (q.events ≡ base ++ made q.known.trust)))
+          → IsTrusting w base q × (((q.known.host < q.known.trust) × (q.known.trust ≡ p.known.trust)) ⊎ ((q.known.trust ≤ q.known.host) × (q.trusted ≡ []) × (q.events ≡ base ++ made q.known.trust)))
       settled t t_is le none events =
           let same : q.events ≡ base ++ made q.known.trust = events ∙ ap (λ x. base ++ made x) t_is in (
             record {
@@ -145,7 +143,7 @@ module _ {S : Type 0} (m : Moves S) (lawful : IsLawful m) (n : ℕ) (mark : Mark
           )
 
       go : (q.known.trust ≡ p.known.trust) ⊎ ((p.known.host ≤ q.known.trust) × (q.known.trust < p.known.trust) × (q.known.trust < q.known.host)) → (q.known.host < q.known.trust) ⊎ (q.known.trust ≤ q.known.host)
-          → IsTrusting m n mark base q × (((q.known.host < q.known.trust) × (q.known.trust ≡ p.known.trust)) ⊎ ((q.known.trust ≤ q.known.host) × (q.trusted ≡ []) × (q.events ≡ base ++ made q.known.trust)))
+          → IsTrusting w base q × (((q.known.host < q.known.trust) × (q.known.trust ≡ p.known.trust)) ⊎ ((q.known.trust ≤ q.known.host) × (q.trusted ≡ []) × (q.events ≡ base ++ made q.known.trust)))
       go (inl same) (inl lt) =
           let k = learns.stays lt in
           let o = is.order in
@@ -186,15 +184,14 @@ own_of p side = ap (λ x. horizon (own_bound x p.known) (p.events ++ p.ahead)) s
 trust_fell : (x k : Known) → Trusts Para x k → k.trust ≤ x.trust
 trust_fell x k t = ⊎_elim (λ (e : k.trust ≡ x.trust). omega arith) (λ (e : (x.host ≤ k.trust) × (k.trust < x.trust) × (k.trust < k.host)). let l = e.1 in omega arith) t
 
-module _ {S : Type 0} (m : Moves S) (lawful : IsLawful m) (n : ℕ) (mark : Mark S) (t : ℕ) (p : Carried) where
+module _ (w : Way) (law : IsWay w) (t : ℕ) (p : Carried) where
   -- the first stride was told
-  pub told_first : (q : Carried) (h : ℕ) → p.side ≡ Para → p.trusted ≡ [] → h ≡ m.due mark.state → own_horizon p ≤ h → h ≤ t
-      → q ≡ entrusted (published p h) (looks_past m n mark t) t → HasTrusted m n mark t p q
+  pub told_first : (q : Carried) (h : ℕ) → p.side ≡ Para → p.trusted ≡ [] → h ≡ w.tick → own_horizon p ≤ h → h ≤ t
+      → q ≡ entrusted (published p h) (w.until t) t → HasTrusted w t p q
   told_first q h side none h_is low far is =
       let own_is = own_of p side in
       let trust : q.known.trust ≡ t = ap (λ x. x.known.trust) is in
       let para : q.known.para ≡ h = ap (λ x. x.known.para) is ∙ para_of p side in
-      let start = none_late m lawful Para mark.lines 0 n mark.state (omega arith) in
       record {
         cell = ap (λ x. x.cell) is;
         side = ap (λ x. x.side) is;
@@ -205,8 +202,8 @@ module _ {S : Type 0} (m : Moves S) (lawful : IsLawful m) (n : ℕ) (mark : Mark
         base = omega arith;
         trusting = record {
           firm = 0;
-          events = ap (λ x. x.events) is ∙ sym (append-nil (all_events p)) ∙ ap (λ l. all_events p ++ l) (sym start);
-          trusted = ap (λ x. x.trusted) is ∙ ap (λ l. l ++ looks_past m n mark t) none ∙ sym (all_left (looks_past m n mark t)) ∙ ap (λ x. from_on 0 (looks_past m n mark x)) (sym trust);
+          events = ap (λ x. x.events) is ∙ sym (append-nil (all_events p)) ∙ ap (λ l. all_events p ++ l) (sym law.none);
+          trusted = ap (λ x. x.trusted) is ∙ ap (λ l. l ++ w.until t) none ∙ sym (all_left (w.until t)) ∙ ap (λ x. from_on 0 (w.until x)) (sym trust);
           passed = omega arith;
           order = omega arith;
         };
@@ -216,20 +213,20 @@ module _ {S : Type 0} (m : Moves S) (lawful : IsLawful m) (n : ℕ) (mark : Mark
       para_of x at = subst (λ (y : Side). (published (record x { side = y }) h).known.para ≡ h) (sym at) refl
 
   -- its horizon
-  pub told_low : (q : Carried) → q.side ≡ Para → HasTrusted m n mark t p q → own_horizon q ≤ max q.known.trust (m.due mark.state)
+  pub told_low : (q : Carried) → q.side ≡ Para → HasTrusted w t p q → own_horizon q ≤ max q.known.trust (w.tick)
   told_low q side told =
       let is = told.trusting in
       let own_is = own_of q side in
       let order = is.order in
       let para = told.para in
       let base = told.base in
-      let events : q.events ++ q.ahead ≡ all_events p ++ looks_past m n mark is.firm = (λ i. is.events i ++ told.ahead i) ∙ append-nil (all_events p ++ looks_past m n mark is.firm) in
-      let same : past_last (q.events ++ q.ahead) ≡ past_last (all_events p ++ looks_past m n mark is.firm) = ap past_last events in
-      let most = past_both is.firm (all_events p) (looks_past m n mark is.firm) (below_limit m lawful Para mark.lines is.firm n mark.state) in
+      let events : q.events ++ q.ahead ≡ all_events p ++ w.until is.firm = (λ i. is.events i ++ told.ahead i) ∙ append-nil (all_events p ++ w.until is.firm) in
+      let same : past_last (q.events ++ q.ahead) ≡ past_last (all_events p ++ w.until is.firm) = ap past_last events in
+      let most = past_both is.firm (all_events p) (w.until is.firm) (law.low is.firm) in
       omega arith
 
   -- the strides since were told too
-  pub told_more : (q r : Carried) → HasTrusted m n mark t p q → r ≡ entrusted q (from_on q.known.trust (looks_past m n mark t)) t → HasTrusted m n mark t p r
+  pub told_more : (q r : Carried) → HasTrusted w t p q → r ≡ entrusted q (from_on q.known.trust (w.until t)) t → HasTrusted w t p r
   told_more q r told is =
       let trust : r.known.trust ≡ t = ap (λ x. x.known.trust) is in
       let para : r.known.para ≡ q.known.para = ap (λ x. x.known.para) is in
@@ -242,11 +239,11 @@ module _ {S : Type 0} (m : Moves S) (lawful : IsLawful m) (n : ℕ) (mark : Mark
         trust = omega arith;
         para = omega arith;
         base = told.base;
-        trusting = trusting_more m lawful n mark (all_events p) q r t told.trusting told.trust is;
+        trusting = trusting_more w law (all_events p) q r t told.trusting told.trust is;
       }
 
   -- words were found
-  pub told_learned : (q r : Carried) → q.side ≡ Para → HasTrusted m n mark t p q → Learns q r → HasTrusted m n mark t p r
+  pub told_learned : (q r : Carried) → q.side ≡ Para → HasTrusted w t p q → Learns q r → HasTrusted w t p r
   told_learned q r side told learns =
       let fell = trust_fell q.known r.known (subst (λ (x : Side). Trusts x q.known r.known) side learns.trust) in
       let was = told.trust in
@@ -260,36 +257,36 @@ module _ {S : Type 0} (m : Moves S) (lawful : IsLawful m) (n : ℕ) (mark : Mark
         trust = omega arith;
         para = omega arith;
         base = told.base;
-        trusting = (trusting_learned m lawful n mark (all_events p) q r side told.trusting learns).0;
+        trusting = (trusting_learned w law (all_events p) q r side told.trusting learns).0;
       }
 
   -- the host has passed
-  pub passed_learned : (q r : Carried) → q.side ≡ Para → HasTrusted m n mark t p q → Learns q r → r.known.trust ≤ r.known.host → HasPassed m n mark t p r
+  pub passed_learned : (q r : Carried) → q.side ≡ Para → HasTrusted w t p q → Learns q r → r.known.trust ≤ r.known.host → HasPassed w t p r
   passed_learned q r side told learns le =
-      let ends : (r.trusted ≡ []) × (r.events ≡ all_events p ++ looks_past m n mark r.known.trust) = ⊎_elim
+      let ends : (r.trusted ≡ []) × (r.events ≡ all_events p ++ w.until r.known.trust) = ⊎_elim
       (λ (x : (r.known.host < r.known.trust) × (r.known.trust ≡ q.known.trust)). let y = x.0 in absurd (omega arith))
-      (λ (x : (r.known.trust ≤ r.known.host) × (r.trusted ≡ []) × (r.events ≡ all_events p ++ looks_past m n mark r.known.trust)). (x.1, x.2))
-      (trusting_learned m lawful n mark (all_events p) q r side told.trusting learns).1 in
+      (λ (x : (r.known.trust ≤ r.known.host) × (r.trusted ≡ []) × (r.events ≡ all_events p ++ w.until r.known.trust)). (x.1, x.2))
+      (trusting_learned w law (all_events p) q r side told.trusting learns).1 in
       record { told = told_learned q r side told learns; trusted = ends.0; events = ends.1 }
 
   -- the party went further
-  pub told_further : (u : ℕ) (q : Carried) → t ≤ u → HasTrusted m n mark t p q → HasTrusted m n mark u p q
+  pub told_further : (u : ℕ) (q : Carried) → t ≤ u → HasTrusted w t p q → HasTrusted w u p q
   told_further u q le told =
       let far = told.far in
       let trust = told.trust in
       record { cell = told.cell; side = told.side; ahead = told.ahead; far = omega arith; trust = omega arith; para = told.para; base = told.base; trusting = told.trusting }
 
 -- the pass waited before it set out
-pub told_waited : {S : Type 0} (m : Moves S) (n : ℕ) (mark : Mark S) (t : ℕ) (p q r : Carried) → HasWaited p q → HasTrusted m n mark t q r → HasTrusted m n mark t p r
-told_waited m n mark t p q r w told = record {
-  cell = told.cell ∙ w.same.cell;
-  side = told.side ∙ w.same.side;
+pub told_waited : (w : Way) (t : ℕ) (p q r : Carried) → HasWaited p q → HasTrusted w t q r → HasTrusted w t p r
+told_waited w t p q r h told = record {
+  cell = told.cell ∙ h.same.cell;
+  side = told.side ∙ h.same.side;
   ahead = told.ahead;
   far = told.far;
   trust = told.trust;
   para = told.para;
-  base = subst (λ (l : List Event). past_last l ≤ m.due mark.state) w.events told.base;
-  trusting = subst (λ (l : List Event). IsTrusting m n mark l r) w.events told.trusting;
+  base = subst (λ (l : List Event). past_last l ≤ w.tick) h.events told.base;
+  trusting = subst (λ (l : List Event). IsTrusting w l r) h.events told.trusting;
 }
 
 pub passed_of : (q r : Carried) (a b : ℕ) → q.side ≡ Para → Learns q r → a ≡ r.known.trust → b ≡ other r.side r.known → a ≤ b → r.known.trust ≤ r.known.host
@@ -299,23 +296,11 @@ passed_of q r a b side learns a_is b_is le =
     omega arith
 
 -- either way it stands so
-pub tried_told : {S : Type 0} (m : Moves S) (lawful : IsLawful m) (n : ℕ) (mark : Mark S) (t : ℕ) (p q r : Carried) (done : Bool) → q.side ≡ Para → HasTrusted m n mark t p q
-    → (IsTrue done → r ≡ entrusted q (from_on q.known.trust (looks_past m n mark t)) t) → (IsFalse done → Learns q r) → HasTrusted m n mark t p r
-tried_told m lawful n mark t p q r true side told f g = told_more m lawful n mark t p q r told (f refl)
-tried_told m lawful n mark t p q r false side told f g = told_learned m lawful n mark t p q r side told (g refl)
+pub tried_told : (w : Way) (law : IsWay w) (t : ℕ) (p q r : Carried) (done : Bool) → q.side ≡ Para → HasTrusted w t p q
+    → (IsTrue done → r ≡ entrusted q (from_on q.known.trust (w.until t)) t) → (IsFalse done → Learns q r) → HasTrusted w t p r
+tried_told w law t p q r true side told f g = told_more w law t p q r told (f refl)
+tried_told w law t p q r false side told f g = told_learned w law t p q r side told (g refl)
 
 pub tried_seat : (q r : Carried) (done : Bool) (t : ℕ) (looks : List Event) → (IsTrue done → r ≡ entrusted q looks t) → (IsFalse done → Learns q r) → (r.cell ≡ q.cell) × (r.side ≡ q.side)
 tried_seat q r true t looks f g = let e = f refl in (ap (λ x. x.cell) e, ap (λ x. x.side) e)
 tried_seat q r false t looks f g = let e = (g refl).rest in (ap (λ x. x.cell) e, ap (λ x. x.side) e)
-
--- ---- how far a party has gone
-
-pub at_reached : (n : ℕ) (ask : Ask) → (t : ℕ) × IsReached n ask t
-at_reached n Nothing = (n, refl)
-at_reached n (Access t op) = (t.0, refl)
-at_reached n (Look t) = (t.0, refl)
-
-pub one_reached : (n : ℕ) (ask : Ask) (t u : ℕ) → IsReached n ask t → IsReached n ask u → t ≡ u
-one_reached n Nothing t u a b = omega arith
-one_reached n (Access v op) t u a b = omega arith
-one_reached n (Look v) t u a b = omega arith

@@ -1,5 +1,5 @@
 -- What the loop of one thread keeps.
-use Rattle.std.proofs.Common.{ℕ, zero, suc, ◌≡◌, ◌≢◌, ◌+◌, ◌<◌, ◌≤◌, min, refl, sym, ◌∙◌, ap, subst, arith, List, [], ◌∷◌, ◌++◌, Some, append-nil, append_assoc, length, take}
+use Rattle.std.proofs.Common.{ℕ, zero, suc, ◌≡◌, ◌≢◌, ◌+◌, ◌<◌, ◌≤◌, min, refl, sym, ◌∙◌, ap, subst, arith, List, [], ◌∷◌, ◌++◌, Some, append-nil, append_assoc, length, length-append, take}
 use Rattle.std.proofs.Math.Seq.{take-nil}
 use Rattle.beeb_bits.specs.declared.Side.{Side}
 use Rattle.beeb_bits.specs.declared.Tick.{Tick}
@@ -11,15 +11,16 @@ use Rattle.tube_cell.specs.Passes.{Carried, own_horizon}
 use Rattle.tube_party.specs.declared.party.Ask.{Ask}
 use Rattle.tube_party.specs.declared.party.Ask.TheVariants.{Nothing, Access, Look}
 use Rattle.tube_party.specs.Moves.{Moves, IsLawful, Runs, IsAsk}
-use Rattle.tube_party.specs.Turn.{IsPending, left}
+use Rattle.tube_party.specs.Turn.{IsPending, left, noted_all}
 use Rattle.tube_party.specs.Quiet.{IsQuiet, quiet_here}
 use Rattle.session.specs.Steps.{event_at, all_events, SameSeat, HasWaited}
 use Rattle.session.specs.Station.{Place, place, Station}
 use Rattle.session.specs.Turned.{Turned}
-use Rattle.session.specs.Gone.{GoneOn, MovedOn}
+use Rattle.session.specs.Gone.{GoneOn, MovedOn, HasStayed}
 use Rattle.session.specs.Work.{HasWorked}
 use Rattle.session.proofs.Runs.{SomeRuns, asking, append, rises}
-use Rattle.session.proofs.Kept.{accesses-append, kept_more, counted_more, at_most_one}
+use Rattle.session.proofs.Kept.{accesses-append, noted_all_take, kept_more, counted_more, at_most_one}
+use Rattle.session.proofs.Gone.{events_few}
 
 -- From one place on the machine followed the events that were added to the pass's, up to this station, and these accesses were kept and counted. The pass's horizon
 -- is neither above the next step nor above n.
@@ -88,16 +89,17 @@ waited_on p q r a b = record { same = seat_on p q r a.same b.same; events = b.ev
 
 -- ---- what goes on is moved on
 
-pub moved : {S : Type 0} (m : Moves S) (n : ℕ) (x y : Place S) (ask : Ask) → x.pass.trusted ≡ [] → GoneOn m n x ask y → MovedOn m n x ask y
-moved m n x y ask none g = record {
+pub moved : {S : Type 0} (m : Moves S) (n keep : ℕ) (x : Station S) (y : Place S) (ask : Ask) → x.at.pass.trusted ≡ [] → GoneOn m n x.at ask y → MovedOn m n keep x ask (record x { at = y })
+moved m n keep x y ask none g = record {
   added = g.events;
   steps = g.steps;
   last = g.last;
   runs = g.runs;
   asked = g.asked;
-  silent = g.silent;
+  list_is = sym (ap (noted_all keep x.list) g.silent);
+  count_is = let e = ap length g.silent in omega arith;
   same = record { cell = ap (λ z. z.cell) g.pass; side = ap (λ z. z.side) g.pass; trusted = ap (λ z. z.trusted) g.pass ∙ none };
-  events = ap all_events g.pass ∙ sym (append_assoc x.pass.events x.pass.ahead g.events);
+  events = ap all_events g.pass ∙ sym (append_assoc x.at.pass.events x.at.pass.ahead g.events);
   next = g.next;
   open_ = g.open_;
 }
@@ -119,11 +121,11 @@ module _ {S : Type 0} (m : Moves S) (lawful : IsLawful m) (n keep : ℕ) (x0 : P
   }
 
   -- it moved on from there
-  pub moves_on : (x : Station S) (ask : Ask) (y : Place S) → IsThere m n keep x0 x → MovedOn m n x.at ask y → IsUnderWay m n keep x0 ask (record x { at = y })
+  pub moves_on : (x : Station S) (ask : Ask) (y : Station S) → IsThere m n keep x0 x → MovedOn m n keep x ask y → IsUnderWay m n keep x0 ask y
   moves_on x ask y w g =
-      let up : m.due x.at.state ≤ m.due g.last = rises m lawful x.at.pass.side n g.steps x.at.state g.added g.last g.runs in
+      let up = events_few m lawful x.at.pass.side n g.steps x.at.state g.added g.last g.runs in
       let few = w.few in
-      let bare : accesses (w.added ++ g.added) ≡ accesses w.added = accesses-append w.added g.added ∙ ap (λ (l : List Entry). accesses w.added ++ l) g.silent ∙ append-nil (accesses w.added) in
+      let count = g.count_is in
       record {
         last = g.last;
         asked = g.asked;
@@ -132,9 +134,13 @@ module _ {S : Type 0} (m : Moves S) (lawful : IsLawful m) (n keep : ℕ) (x0 : P
           runs = append m x0.pass.side n x.at.state g.last g.added w.runs.0 x0.state w.added w.runs.1
               (g.steps, subst (λ (z : Side). Runs m z n g.steps x.at.state g.added g.last) w.same.side g.runs);
           events = g.events ∙ ap (λ (l : List Event). l ++ g.added) w.events ∙ append_assoc (all_events x0.pass) w.added g.added;
-          same = seat_on x0.pass x.at.pass y.pass w.same g.same;
-          kept = w.kept ∙ ap (take keep) (sym bare);
-          counted = w.counted ∙ ap length (sym bare);
+          same = seat_on x0.pass x.at.pass y.at.pass w.same g.same;
+          kept =
+              g.list_is ∙ ap (λ (l : List Entry). noted_all keep l (accesses g.added)) w.kept
+              ∙ noted_all_take keep (accesses w.added) (accesses g.added) ∙ ap (take keep) (sym (accesses-append w.added g.added));
+          counted =
+              g.count_is ∙ ap (λ (z : ℕ). z + length (accesses g.added)) w.counted
+              ∙ sym (ap length (accesses-append w.added g.added) ∙ length-append (accesses w.added) (accesses g.added));
           few = omega arith;
           next = g.next;
           open_ = g.open_;
@@ -192,14 +198,14 @@ module _ {S : Type 0} (m : Moves S) (lawful : IsLawful m) (n keep : ℕ) (x0 : P
           }
 
       -- the next step that asks is later
-      pub smaller : (ask2 : Ask) (z : Place S) → MovedOn m n y.at ask2 z → left n ask2 < left n ask
+      pub smaller : (ask2 : Ask) (z : Station S) → MovedOn m n keep y ask2 z → left n ask2 < left n ask
       smaller ask2 z g =
           let more : m.due y.at.state ≤ m.due g.last = rises m lawful y.at.pass.side n g.steps y.at.state g.added g.last g.runs in
           let u = up in
           let l = low in
           let same : m.due x.at.state ≡ m.due w.last = ap m.due (here m n w.last x.at.state ask some w.asked) in
           let was : left n ask + m.due w.last ≡ n = left_is m n w.last x.at.state ask some w.asked in
-          let now : left n ask2 + m.due x.at.state < n = left_at_most m n g.last z.state ask2 (m.due x.at.state) (omega arith) l g.asked in
+          let now : left n ask2 + m.due x.at.state < n = left_at_most m n g.last z.at.state ask2 (m.due x.at.state) (omega arith) l g.asked in
           omega arith
 
   -- no step of it was done meanwhile
@@ -218,15 +224,26 @@ module _ {S : Type 0} (m : Moves S) (lawful : IsLawful m) (n keep : ℕ) (x0 : P
         open_ = omega arith;
       }
 
-  pub still_under_way : (x : Station S) (ask : Ask) (y : Place S) → ask ≢ Nothing → IsUnderWay m n keep x0 ask x
-      → HasWaited x.at.pass y.pass → own_horizon y.pass ≤ m.due x.at.state → y.state ≡ x.at.state → IsUnderWay m n keep x0 ask (record x { at = y })
-  still_under_way x ask y some w h under same =
+  pub still_under_way : (x : Station S) (ask : Ask) (y : Station S) → ask ≢ Nothing → IsUnderWay m n keep x0 ask x
+      → HasStayed x y → own_horizon y.at.pass ≤ m.due x.at.state → IsUnderWay m n keep x0 ask y
+  still_under_way x ask y some w h under =
       let e : m.due x.at.state ≡ m.due w.last = ap m.due (here m n w.last x.at.state ask some w.asked) in
       let l : m.due w.last < n = below m n w.last x.at.state ask some w.asked in
+      let there = waits_on (in_state w.last x) y.at.pass w.there h.waited (omega arith) (omega arith) in
       record {
         last = w.last;
-        there = waits_on (in_state w.last x) y.pass w.there h (omega arith) (omega arith);
-        asked = subst (λ (z : S). IsAsk m n w.last ask z) (sym same) w.asked;
+        there = record {
+          added = there.added;
+          runs = there.runs;
+          events = there.events;
+          same = there.same;
+          kept = h.list_is ∙ there.kept;
+          counted = h.count_is ∙ there.counted;
+          few = let f = there.few in let c = h.count_is in omega arith;
+          next = there.next;
+          open_ = there.open_;
+        };
+        asked = subst (λ (z : S). IsAsk m n w.last ask z) (sym h.state_is) w.asked;
       }
 
   -- nothing more is asked below n

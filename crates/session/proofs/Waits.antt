@@ -5,9 +5,9 @@ use Rattle.std.proofs.lemmas.Bool.Decides.{nat_tests}
 use Rattle.beeb_bits.specs.declared.Side.{Side}
 use Rattle.beeb_bits.specs.declared.Side.TheVariants.{Host, Para}
 use Rattle.tube_chip.specs.Events.{Event, after_from}
-use Rattle.tube_chip.specs.State.{State, lines_of}
-use Rattle.tube_chip.specs.declared.Lines.{Lines}
-use Rattle.tube_cell.specs.Views.{Known, one_side, own_bound, known_with, other, other_bound, bound_at, slack, Admits, trust_after, has_access, done, past_last, horizon}
+use Rattle.tube_chip.specs.State.{State}
+use Rattle.tube_cell.specs.declared.local.Readings.{Readings}
+use Rattle.tube_cell.specs.Views.{Known, one_side, own_bound, known_with, other, other_bound, bound_at, slack, Admits, trust_after, has_access, done, past_last, horizon, readings_of}
 use Rattle.tube_cell.specs.Rules.{rise, Trusts}
 use Rattle.tube_cell.specs.Passes.{Carried, own_horizon, here, bound_here, published, entrusted, Learns}
 use Rattle.session.specs.Steps.{all_events, HasWaited, IsPaid, IsNearlyPaid, IsPaidOnTrust, HasOnlyLearnt}
@@ -105,8 +105,8 @@ pub tried : (p q : Carried) (h : ℕ) (done : Bool) → p.trusted ≡ [] → (Is
 tried p q h true none f g = told p q h none (f refl)
 tried p q h false none f g = learned p q none (g refl)
 
-pub here_bare : (p : Carried) (l : Lines) → p.ahead ≡ [] → l ≡ lines_of (here p) → l ≡ lines_of p.known.chip
-here_bare p l bare is = is ∙ ap (λ (events : List Event). lines_of (after_from p.known.chip events)) bare
+pub here_bare : (p : Carried) (r : Readings) → p.ahead ≡ [] → r ≡ readings_of (here p) → r ≡ readings_of p.known.chip
+here_bare p r bare is = is ∙ ap (λ (events : List Event). readings_of (after_from p.known.chip events)) bare
 
 -- ---- what is paid on trust
 

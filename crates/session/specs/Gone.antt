@@ -1,12 +1,13 @@
--- How a side goes on past the looks that it may answer itself.
-use Rattle.std.specs.Prelude.{ℕ, ◌≡◌, ◌≤◌, List, [], ◌++◌}
+-- How a side goes on past what it may answer itself.
+use Rattle.std.specs.Prelude.{ℕ, ◌≡◌, ◌+◌, ◌≤◌, List, [], ◌++◌, length}
 use Rattle.tube_chip.specs.Events.{Event}
 use Rattle.tube_trace.specs.Entries.{accesses}
 use Rattle.tube_cell.specs.Passes.{own_horizon, here, bound_here, added}
 use Rattle.tube_party.specs.declared.party.Ask.{Ask}
 use Rattle.tube_party.specs.Moves.{Moves, Runs, IsAsk}
-use Rattle.session.specs.Steps.{all_events, SameSeat}
-use Rattle.session.specs.Station.{Place}
+use Rattle.tube_party.specs.Turn.{noted_all}
+use Rattle.session.specs.Steps.{all_events, SameSeat, HasWaited}
+use Rattle.session.specs.Station.{Place, Station}
 
 -- The steps that ask nothing were done, and with them looks that the pass's chip answers: they joined its unpublished events. This is asked next, and
 -- neither that step nor n is below the pass's horizon.
@@ -23,16 +24,25 @@ pub record GoneOn {S : Type 0} (m : Moves S) (n : ℕ) (x : Place S) (ask : Ask)
   pub next : own_horizon y.pass ≤ m.due last
   pub open_ : own_horizon y.pass ≤ n
 
--- The steps that ask nothing were done, and looks, which were added to the pass's events. This is asked next, and neither that step nor n is below the
--- pass's horizon.
-pub record MovedOn {S : Type 0} (m : Moves S) (n : ℕ) (x : Place S) (ask : Ask) (y : Place S) : Type 0 where
+-- The steps that ask nothing were done, and with them some that the side answered itself, which were added to the pass's events; accesses among them were noted. This
+-- is asked next, and neither that step nor n is below the pass's horizon.
+pub record MovedOn {S : Type 0} (m : Moves S) (n keep : ℕ) (x : Station S) (ask : Ask) (y : Station S) : Type 0 where
   pub added : List Event
   pub steps : ℕ
   pub last : S
-  pub runs : Runs m x.pass.side n steps x.state added last
-  pub asked : IsAsk m n last ask y.state
-  pub silent : accesses added ≡ []
-  pub same : SameSeat x.pass y.pass
-  pub events : all_events y.pass ≡ all_events x.pass ++ added
-  pub next : own_horizon y.pass ≤ m.due last
-  pub open_ : own_horizon y.pass ≤ n
+  pub runs : Runs m x.at.pass.side n steps x.at.state added last
+  pub asked : IsAsk m n last ask y.at.state
+  pub list_is : y.list ≡ noted_all keep x.list (accesses added)
+  pub count_is : y.count ≡ x.count + length (accesses added)
+  pub same : SameSeat x.at.pass y.at.pass
+  pub events : all_events y.at.pass ≡ all_events x.at.pass ++ added
+  pub next : own_horizon y.at.pass ≤ m.due last
+  pub open_ : own_horizon y.at.pass ≤ n
+
+-- No step was done: only what the pass knows may have changed.
+pub record HasStayed {S : Type 0} (x y : Station S) : Type 0 where
+  pub waited : HasWaited x.at.pass y.at.pass
+  pub ahead : y.at.pass.ahead ≡ x.at.pass.ahead
+  pub state_is : y.at.state ≡ x.at.state
+  pub list_is : y.list ≡ x.list
+  pub count_is : y.count ≡ x.count

@@ -4,4 +4,5 @@ pub mod Turned
 pub mod Work
 pub mod Ahead
 pub mod Gone
+pub mod Way
 pub mod Trusting

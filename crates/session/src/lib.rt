@@ -5,11 +5,13 @@ mod ahead;
 mod at_cell;
 mod half;
 mod lookahead;
+mod mark;
 mod pair;
 mod pause;
 mod side_job;
 mod stride;
 mod trust;
+mod way;
 
 pub use ahead::drive_ahead;
 pub use half::{Half, drive};

@@ -12,16 +12,15 @@ loop-preserved-in-Some-go_past g c =
     let x0 = (station state c.args.half.now).at in
     let x = station state c.loop.half in
     let there = at_ask m g.met.M.Party.lawful c.args.n.0 c.args.keep x0 c.loop.ask x some c.loop.invariant.way in
-    let h = c.in-Some-go_past.ensures.some in
     let a = c.loop.invariant.paid in
     let b = c.in-Some-go_past.ensures.paid in
     record {
       can_next = tt;
       finite = tt;
-      way = moves_on m g.met.M.Party.lawful c.args.n.0 c.args.keep x0 x c.in-Some-go_past.next (place (state c.go_past.new.machine) c.go_past.new.pass) there h.0;
-      room = c.loop.invariant.room;
+      way = moves_on m g.met.M.Party.lawful c.args.n.0 c.args.keep x0 x c.in-Some-go_past.next (station state c.go_past.new.half) there c.in-Some-go_past.ensures.some;
+      room = c.in-Some-go_past.ensures.room ∙ c.loop.invariant.room;
       paid = omega arith;
-      published = λ x. h.1;
+      published = λ x. c.in-Some-go_past.ensures.published;
     }
 
 pub loop-preserved : goal.loop-preserved
@@ -31,21 +30,20 @@ loop-preserved g c =
     let state = g.M.Party.state in
     let x0 = (station state c.args.half.now).at in
     let x = station state c.loop.half in
-    let waited = place (state c.go_past.new.machine) c.go_past.new.pass in
+    let waited = station state c.go_past.new.half in
     let done = station state c.step.new.half in
     let next = place (state c.go_on-ask-in-None-go_past.new.machine) c.go_on-ask-in-None-go_past.new.pass in
-    let h = c.in-None-go_past.ensures.none in
-    let way = still_under_way m g.met.M.Party.lawful c.args.n.0 c.args.keep x0 x c.loop.ask waited some c.loop.invariant.way h.0 h.1 h.2 in
-    let there = steps_on m g.met.M.Party.lawful c.args.n.0 c.args.keep x0 c.loop.ask (record x { at = waited }) some way done c.step.ensures.turned in
+    let way = still_under_way m g.met.M.Party.lawful c.args.n.0 c.args.keep x0 x c.loop.ask waited some c.loop.invariant.way c.in-None-go_past.ensures.none c.in-None-go_past.ensures.later in
+    let there = steps_on m g.met.M.Party.lawful c.args.n.0 c.args.keep x0 c.loop.ask waited some way done c.step.ensures.turned in
     let a = c.loop.invariant.paid in
     let b = c.in-None-go_past.ensures.paid in
     let d = c.step.ensures.paid in
     record {
       can_next = tt;
       finite = tt;
-      way = moves_on m g.met.M.Party.lawful c.args.n.0 c.args.keep x0 done c.go_on-ask-in-None-go_past.result next there
-          (moved m c.args.n.0 done.at next c.go_on-ask-in-None-go_past.result c.step.ensures.turned.done.same.trusted c.go_on-ask-in-None-go_past.ensures);
-      room = c.step.ensures.room ∙ c.loop.invariant.room;
+      way = moves_on m g.met.M.Party.lawful c.args.n.0 c.args.keep x0 done c.go_on-ask-in-None-go_past.result (record done { at = next }) there
+          (moved m c.args.n.0 c.args.keep done next c.go_on-ask-in-None-go_past.result c.step.ensures.turned.done.same.trusted c.go_on-ask-in-None-go_past.ensures);
+      room = c.step.ensures.room ∙ c.in-None-go_past.ensures.room ∙ c.loop.invariant.room;
       paid = search rules;
       published = search rules;
     }

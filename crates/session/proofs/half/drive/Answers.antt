@@ -12,8 +12,8 @@ loop-pause-smaller g c =
     let done = station state c.step.new.half in
     let next = place (state c.go_on-ask-in-loop-pause.new.machine) c.go_on-ask-in-loop-pause.new.pass in
     smaller m g.met.M.Party.lawful c.args.n.0 c.args.keep (station state c.args.half.now).at c.loop-pause.ask (station state c.loop-pause.half) some c.loop-pause.invariant.way
-    done c.step.ensures.turned c.go_on-ask-in-loop-pause.result next
-    (moved m c.args.n.0 done.at next c.go_on-ask-in-loop-pause.result c.step.ensures.turned.done.same.trusted c.go_on-ask-in-loop-pause.ensures)
+    done c.step.ensures.turned c.go_on-ask-in-loop-pause.result (record done { at = next })
+    (moved m c.args.n.0 c.args.keep done next c.go_on-ask-in-loop-pause.result c.step.ensures.turned.done.same.trusted c.go_on-ask-in-loop-pause.ensures)
 
 pub loop-pause-preserved : goal.loop-pause-preserved
 loop-pause-preserved g c =
@@ -27,8 +27,8 @@ loop-pause-preserved g c =
     let a = c.loop-pause.invariant.paid in
     let b = c.step.ensures.paid in
     record {
-      way = moves_on m g.met.M.Party.lawful c.args.n.0 c.args.keep x0 done c.go_on-ask-in-loop-pause.result next there
-          (moved m c.args.n.0 done.at next c.go_on-ask-in-loop-pause.result c.step.ensures.turned.done.same.trusted c.go_on-ask-in-loop-pause.ensures);
+      way = moves_on m g.met.M.Party.lawful c.args.n.0 c.args.keep x0 done c.go_on-ask-in-loop-pause.result (record done { at = next }) there
+          (moved m c.args.n.0 c.args.keep done next c.go_on-ask-in-loop-pause.result c.step.ensures.turned.done.same.trusted c.go_on-ask-in-loop-pause.ensures);
       room = c.step.ensures.room ∙ c.loop-pause.invariant.room;
       paid = search rules;
     }

@@ -10,5 +10,5 @@ invariant-loop g l = record {
   waited : HasWaited l.fn.pass l.pass;
   ahead : l.pass.ahead ≡ l.fn.pass.ahead;
   learnt : HasOnlyLearnt l.t.0 l.fn.pass l.pass;
-  later : own_horizon l.pass ≤ l.mark.0;
+  later : own_horizon l.pass ≤ l.mark.tick.0;
 }

@@ -1,14 +1,12 @@
 use Rattle.std.proofs.Common.{◌∙◌, ap}
-use Rattle.session.specs.Trusting.{mark_at}
 use Rattle.session.proofs.Trusts.{passed_learned, told_learned, passed_of}
 use Rattle.session.proofs.Waits.{learned_on_trust, passed_paid}
 use Rattle.session.proofs.trust.wait_passed.Goals as goal
 
 pub returns-then-trust-other-clause-passed : goal.returns-then-trust-other-clause-passed
 returns-then-trust-other-clause-passed g c p told =
-    let mark = mark_at (g.M.Party.state (g.M.Rewinds.before c.args._past.now c.args._machine.now)) c.args._lines.now in
     let side = c.loop.invariant.side ∙ c.requires.side in
-    passed_learned g.M.Party.moves g.met.M.Party.lawful c.args._n.0 mark c.args._t.0 p c.loop.pass c.learn.new.pass side (c.loop.invariant.told p told) c.learn.ensures
+    passed_learned g.W.Ahead.way c.requires.is_way c.args._t.0 p c.loop.pass c.learn.new.pass side (c.loop.invariant.told p told) c.learn.ensures
     (passed_of c.loop.pass c.learn.new.pass c.trust.result.0 c.other.result.0 side c.learn.ensures c.trust.ensures c.other.ensures c.if-trust-other.true)
 
 pub returns-then-trust-other-clause-paid : goal.returns-then-trust-other-clause-paid
@@ -20,12 +18,11 @@ returns-then-trust-other-clause-paid g c p paid =
 
 pub loop-preserved : goal.loop-preserved
 loop-preserved g c =
-    let mark = mark_at (g.M.Party.state (g.M.Rewinds.before c.args._past.now c.args._machine.now)) c.args._lines.now in
     let side = c.loop.invariant.side ∙ c.requires.side in
     record {
       can_next = tt;
       finite = tt;
-      told = λ p told. told_learned g.M.Party.moves g.met.M.Party.lawful c.args._n.0 mark c.args._t.0 p c.loop.pass c.learn.new.pass side (c.loop.invariant.told p told) c.learn.ensures;
+      told = λ p told. told_learned g.W.Ahead.way c.requires.is_way c.args._t.0 p c.loop.pass c.learn.new.pass side (c.loop.invariant.told p told) c.learn.ensures;
       paid = λ p paid. learned_on_trust p c.loop.pass c.learn.new.pass side c.learn.ensures (c.loop.invariant.paid p paid);
       cell = ap (λ x. x.cell) c.learn.ensures.rest ∙ c.loop.invariant.cell;
       side = ap (λ x. x.side) c.learn.ensures.rest ∙ c.loop.invariant.side;
