@@ -3,7 +3,7 @@ use Rattle.std.proofs.Common.{◌≡◌, refl, sym, ap, subst, ℕ, suc, ◌+◌
 use Rattle.cpu_alu.specs.declared.Cycle.{Cycle}
 use Rattle.tube_chip.specs.declared.Op.{Op}
 use Rattle.tube_chip.specs.declared.Lines.{Lines}
-use Rattle.tube_party.specs.Moves.{Looks, Sees, IsAsk, IsUnsure}
+use Rattle.tube_party.specs.Moves.{Looks, Sees, IsAsk, IsUnsure, shown}
 use Rattle.tube_party.specs.Steps.{silent_last, looks_on}
 use Rattle.tube_party.specs.declared.party.Ask.{Ask}
 use Rattle.tube_party.specs.declared.party.Ask.TheVariants.{Nothing, Access, Look}
@@ -16,7 +16,7 @@ use Rattle.host_mach.proofs.UnderWay.{Came}
 -- one more step that asks nothing
 pub more : (n : ℕ) (lines : Lines) (sure : ℕ) (start s new : HostState) → Came n lines sure start s → s.due < n → IsDone s None new → Came n lines sure start new
 more n lines sure start s new came low done =
-    (suc came.0, subst (λ (x : HostState). Looks host_moves n lines sure (suc came.0) start x) (sym done.1) (silent_last host_moves n lines sure came.0 start s came.1 low done.0))
+    (suc came.0, subst (λ (x : HostState). Looks host_moves n (shown lines sure) (suc came.0) start x) (sym done.1) (silent_last host_moves n lines sure came.0 start s came.1 low done.0))
 
 pub gone : (s new : HostState) → IsDone s None new → s.due < new.due
 gone s new done = subst (λ (x : HostState). s.due < x.due) (sym done.1) (host_lawful.rises s None)
@@ -31,11 +31,11 @@ unsure-by n sure last new Nothing is past = tt
 unsure-by n sure last new (Access t op) is past = tt
 unsure-by n sure last new (Look t) is past = omega (arith, is.0, is.1, past)
 
-pub stops-at-look : (n : ℕ) (lines : Lines) (sure : ℕ) (start last new : HostState) (ask : Ask) → Came n lines sure start last → IsAsk host_moves n last ask new → min n sure ≤ last.due → Sees host_moves n lines sure start ask new
+pub stops-at-look : (n : ℕ) (lines : Lines) (sure : ℕ) (start last new : HostState) (ask : Ask) → Came n lines sure start last → IsAsk host_moves n last ask new → min n sure ≤ last.due → Sees host_moves n (shown lines sure) start ask new
 stops-at-look n lines sure start last new ask came is past = record { steps = came.0; last = last; looks = came.1; asked = is; unsure = unsure-by n sure last new ask is past }
 
 -- the next step asks for an access
-pub stops : (n : ℕ) (lines : Lines) (sure : ℕ) (start s new : HostState) (op : Op) → Came n lines sure start s → s.due < n → IsDone s (Some op) new → Sees host_moves n lines sure start (Access (record { 0 = new.due }) op) new
+pub stops : (n : ℕ) (lines : Lines) (sure : ℕ) (start s new : HostState) (op : Op) → Came n lines sure start s → s.due < n → IsDone s (Some op) new → Sees host_moves n (shown lines sure) start (Access (record { 0 = new.due }) op) new
 stops n lines sure start s new op came low done =
     record {
       steps = came.0;

@@ -9,7 +9,7 @@ use Rattle.cpu6502.specs.State as cpu
 use Rattle.cpu6502.specs.Sequences.{next, given, fresh}
 use Rattle.tube_chip.specs.declared.Lines.{Lines}
 use Rattle.tube_chip.specs.declared.Answer.TheVariants.{Seen}
-use Rattle.tube_party.specs.Moves.{Looks}
+use Rattle.tube_party.specs.Moves.{Looks, shown}
 use Rattle.tube_party.specs.Steps.{silent_last, look_last}
 use Rattle.host_bus.specs.Bus.{BusState, bus_closed, closed_at}
 use Rattle.host_bus.specs.Closing.{closed-again, closed-still}
@@ -29,7 +29,7 @@ owed-some since due closed gone = rw (lt-ltb since due gone) refl
 -- The steps so far asked nothing, or saw these lines; the next one is an access, and device steps are owed where there was an access since a tick.
 pub record IsUnderWay (until : ℕ) (lines : Lines) (sure : ℕ) (start s : HostState) (since : ℕ) : Type 0 where
   pub goes_on : IsSome (next s.cpu)
-  pub looks : (k : ℕ) × Looks host_moves until lines sure k start (host_closed s (owed_at since s.due (closed_at s.bus)))
+  pub looks : (k : ℕ) × Looks host_moves until (shown lines sure) k start (host_closed s (owed_at since s.due (closed_at s.bus)))
   pub low : closed_at s.bus ≤ owed_at since s.due (closed_at s.bus)
   pub high : owed_at since s.due (closed_at s.bus) ≤ s.due + 1
   pub since_then : (since ≡ s.due) ⊎ ((since + 3 ≤ s.due) × (s.due < until + 3))
@@ -41,7 +41,7 @@ none-owed s = ap (λ (b : BusState). record s { bus = b }) (closed-still s.bus (
 module _ (until : ℕ) (lines : Lines) (sure : ℕ) (start : HostState) where
   -- so many steps, of which each asked nothing or saw the lines
   abbrev pub Came : HostState → Type 0
-  Came s = (k : ℕ) × Looks host_moves until lines sure k start s
+  Came s = (k : ℕ) × Looks host_moves until (shown lines sure) k start s
 
   -- before the next access, where no steps are owed
   pub caught-up : (s : HostState) → IsSome (next s.cpu) → closed_at s.bus ≤ s.due + 1 → Came s → IsUnderWay until lines sure start s s.due
@@ -49,7 +49,7 @@ module _ (until : ℕ) (lines : Lines) (sure : ℕ) (start : HostState) where
       let none : owed_at s.due s.due (closed_at s.bus) ≡ closed_at s.bus = owed-none s.due (closed_at s.bus) in
       record {
         goes_on = goes_on;
-        looks = (came.0, subst (λ (x : HostState). Looks host_moves until lines sure came.0 start x) (sym (ap (λ (n : ℕ). host_closed s n) none ∙ none-owed s)) came.1);
+        looks = (came.0, subst (λ (x : HostState). Looks host_moves until (shown lines sure) came.0 start x) (sym (ap (λ (n : ℕ). host_closed s n) none ∙ none-owed s)) came.1);
         low = omega (arith, none);
         high = omega (arith, none, before);
         since_then = inl refl;
@@ -60,9 +60,9 @@ module _ (until : ℕ) (lines : Lines) (sure : ℕ) (start : HostState) where
   steps-on s since way low none =
       let owed : ℕ = owed_at since s.due (closed_at s.bus) in
       let again : next_state (host_closed s owed) None ≡ next_state s None = ap (λ (x : HostState). stepped (next s.cpu) x None) (host-again s owed (s.due + 1) way.high) in
-      let more : Looks host_moves until lines sure (suc way.looks.0) start (next_state (host_closed s owed) None) =
+      let more : Looks host_moves until (shown lines sure) (suc way.looks.0) start (next_state (host_closed s owed) None) =
       silent_last host_moves until lines sure way.looks.0 start (host_closed s owed) way.looks.1 low none in
-      (suc way.looks.0, subst (λ (x : HostState). Looks host_moves until lines sure (suc way.looks.0) start x) again more)
+      (suc way.looks.0, subst (λ (x : HostState). Looks host_moves until (shown lines sure) (suc way.looks.0) start x) again more)
 
   -- an access of the memory is such a step, which leaves the device steps before it for later
   pub memory-on : (s : HostState) (since byte : ℕ) (c : Cycle) (on : cpu.State) (b : BusState) → IsUnderWay until lines sure start s since → s.due < until → next s.cpu ≡ Some c →
@@ -76,7 +76,7 @@ module _ (until : ℕ) (lines : Lines) (sure : ℕ) (start : HostState) where
       ∙ ap (λ (p : cpu.State). cycled (record x { bus = bus_after x.bus c }) p 3) (sym gave)
       ∙ ap (λ (d : BusState). cycled (record x { bus = d }) on 3) (sym done.2) in
       let came : Came (next_state s None) = steps-on s since way low (ap asks_by is ∙ done.0) in
-      (came.0, subst (λ (y : HostState). Looks host_moves until lines sure came.0 start y) same came.1)
+      (came.0, subst (λ (y : HostState). Looks host_moves until (shown lines sure) came.0 start y) same came.1)
 
   -- and then comes the next access
   pub memory-more : (s : HostState) (since byte : ℕ) (c : Cycle) (on : cpu.State) (b : BusState) → IsUnderWay until lines sure start s since → s.due < until → next s.cpu ≡ Some c →
@@ -90,7 +90,7 @@ module _ (until : ℕ) (lines : Lines) (sure : ℕ) (start : HostState) where
         goes_on = more;
         looks = (
           came.0,
-          subst (λ (x : HostState). Looks host_moves until lines sure came.0 start x)
+          subst (λ (x : HostState). Looks host_moves until (shown lines sure) came.0 start x)
               (ap (λ (n : ℕ). host_of on (bus_closed b (s.due + 1)) s.nmis n) due ∙ ap (λ (n : ℕ). host_of on (bus_closed b n) s.nmis (s.due + 3)) (sym owed)) came.1,
         );
         low = omega (arith, owed, before);
@@ -108,7 +108,7 @@ module _ (until : ℕ) (lines : Lines) (sure : ℕ) (start : HostState) where
   memory-last s since byte c on b way low is done gave over =
       let came = memory-on s since byte c on b way low is done gave in (
         came.0,
-        subst (λ (x : HostState). Looks host_moves until lines sure came.0 start x)
+        subst (λ (x : HostState). Looks host_moves until (shown lines sure) came.0 start x)
             (ap (λ (o : Option Cycle). host_of on (bus_closed b (s.due + 1)) s.nmis (if is_none o then s.due + 2 else s.due + 3)) over) came.1,
       )
 
@@ -121,9 +121,9 @@ module _ (until : ℕ) (lines : Lines) (sure : ℕ) (start : HostState) where
       is
       ∙ ap (λ (d : BusState). looked_at (host_of c d n t) lines.hirq) (sym (closed-again b u (t + 1) high))
       ∙ ap (λ (o : Option Cycle). stepped o (host_closed at (t + 1)) (Some (Seen lines))) (sym over) in
-      let more : Looks host_moves until lines sure (suc came.0) start (next_state at (Some (Seen lines))) =
+      let more : Looks host_moves until (shown lines sure) (suc came.0) start (next_state at (Some (Seen lines))) =
       look_last host_moves until lines sure came.0 start at came.1 low (ap asks_by over) early in
-      (suc came.0, subst (λ (x : HostState). Looks host_moves until lines sure (suc came.0) start x) (sym saw) more)
+      (suc came.0, subst (λ (x : HostState). Looks host_moves until (shown lines sure) (suc came.0) start x) (sym saw) more)
 
 -- after an access there is a cycle before the next one
 pub cycle-before : (until : ℕ) (lines : Lines) (sure : ℕ) (start s : HostState) (since : ℕ) → until ≤ 1073741824 → IsUnderWay until lines sure start s since → since < s.due → (2 ≤ s.due) × (s.due < 281474976710656)

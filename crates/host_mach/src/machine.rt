@@ -2,7 +2,7 @@
 ghost use Rattle.std.specs.Prelude.{◌≡◌, ◌≤◌, ◌<◌, ◌+◌, ◌^◌, ℕ, IfOk, IsSome, None, Some, MatchOption, false, map};
 ghost use Rattle.host_bus.specs.Bus.{bus_disc};
 ghost use Rattle.tube_chip.specs.declared.Answer.TheVariants.{Byte, Seen};
-ghost use Rattle.tube_party.specs.Moves.{Looks, IsAsk, shut};
+ghost use Rattle.tube_party.specs.Moves.{Looks, IsAsk, shut, shown};
 ghost use Rattle.cpu6502.specs.Sequences.{next, halted};
 ghost use Rattle.host_mach.specs.State.{power_on};
 ghost use Rattle.host_mach.specs.Step.{host_moves, next_state};
@@ -182,7 +182,7 @@ impl<D: BusDevice> HostMachine<D> {
     #[inline(always)]
     fn run(&mut self, until: Tick, lines: &Lines, sure: Tick) -> Stop
         requires room { until.0 ≤ 2 ^ 30 }
-        ensures looks { (k : ℕ) × Looks host_moves until.0 lines.now sure.0 k (host_seen D.plug self.old) (host_seen D.plug self.new) }
+        ensures looks { (k : ℕ) × Looks host_moves until.0 (shown lines.now sure.0) k (host_seen D.plug self.old) (host_seen D.plug self.new) }
         ensures stops { IsStop until.0 sure.0 result (host_seen D.plug self.new) }
     {
         let (due, stop) = go_on(

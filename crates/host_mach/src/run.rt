@@ -2,7 +2,7 @@
 //! machine, with the tick of the next step beside them.
 ghost use Rattle.std.specs.Prelude.{◌≡◌, ◌≤◌, ◌<◌, ◌+◌, ◌^◌, ℕ, None};
 ghost use Rattle.cpu6502.specs.Sequences.{next};
-ghost use Rattle.tube_party.specs.Moves.{Looks};
+ghost use Rattle.tube_party.specs.Moves.{Looks, shown};
 ghost use Rattle.host_bus.specs.Bus.{closed_at, bus_closed};
 ghost use Rattle.host_bus.specs.View.{bus_seen};
 ghost use Rattle.host_mach.specs.Step.{host_moves, host_closed, looked_at};
@@ -70,7 +70,7 @@ pub(crate) fn go_on<D: BusDevice>(
     requires room { until ≤ 2 ^ 30 }
     requires before { closed_at (bus_seen D.plug bus.old) ≤ from + 1 }
     ensures before { closed_at (bus_seen D.plug bus.new) ≤ result.0 + 1 }
-    ensures looks { (k : ℕ) × Looks host_moves until lines.now sure k (host_of cpu.old (bus_seen D.plug bus.old) nmis.old from) (host_of cpu.new (bus_seen D.plug bus.new) nmis.new result.0) }
+    ensures looks { (k : ℕ) × Looks host_moves until (shown lines.now sure) k (host_of cpu.old (bus_seen D.plug bus.old) nmis.old from) (host_of cpu.new (bus_seen D.plug bus.new) nmis.new result.0) }
     ensures stops { IsStop until sure result.1 (host_of cpu.new (bus_seen D.plug bus.new) nmis.new result.0) }
 {
     let bound = until.min(sure);

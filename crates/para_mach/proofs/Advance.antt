@@ -9,7 +9,7 @@ use Rattle.cpu65c02.specs.Sequences.{next, after, looked, fresh}
 use Rattle.tube_chip.specs.declared.Answer.TheVariants.{Seen}
 use Rattle.tube_chip.specs.declared.Lines.{Lines}
 use Rattle.tube_chip.specs.Act.{look}
-use Rattle.tube_party.specs.Moves.{Looks}
+use Rattle.tube_party.specs.Moves.{Looks, shown}
 use Rattle.tube_party.specs.Steps.{silent_last, look_last}
 use Rattle.para_mach.specs.declared.memory.Stop.{Stop}
 use Rattle.para_mach.specs.declared.machine.Left.TheVariants.{Look}
@@ -63,18 +63,18 @@ begins Irq r = refl
 module _ (n : ℕ) (lines : Lines) (sure : ℕ) (start : ParaState) where
   -- so many steps, of which each asked nothing or saw the lines
   abbrev pub Came : ParaState → Type 0
-  Came s = (k : ℕ) × Looks para_moves n lines sure k start s
+  Came s = (k : ℕ) × Looks para_moves n (shown lines sure) k start s
 
   -- one more access
   pub more : (s new : ParaState) (due lag : ℕ) (over : Bool) → Came (timed s due lag) → due < n → looks s ≡ false → IsDone s None new → looks new ≡ over → Came (ticked new due over)
   more s new due lag over came low on done is =
       let step : ticked new due over ≡ next_state (timed s due lag) None = ap (ticked new due) (sym is) ∙ whole_step s new due lag on done.1 in
-      (suc came.0, subst (λ (x : ParaState). Looks para_moves n lines sure (suc came.0) start x) (sym step) (silent_last para_moves n lines sure came.0 start (timed s due lag) came.1 low done.0))
+      (suc came.0, subst (λ (x : ParaState). Looks para_moves n (shown lines sure) (suc came.0) start x) (sym step) (silent_last para_moves n lines sure came.0 start (timed s due lag) came.1 low done.0))
 
   -- one more look
   pub more_look : (s new : ParaState) → Came s → s.due < n → looks s ≡ true → s.due < sure → new ≡ next_state s (Some (Seen lines)) → Came new
   more_look s new came low on early is =
-      (suc came.0, subst (λ (x : ParaState). Looks para_moves n lines sure (suc came.0) start x) (sym is) (look_last para_moves n lines sure came.0 start s came.1 low (asks_look s on) early))
+      (suc came.0, subst (λ (x : ParaState). Looks para_moves n (shown lines sure) (suc came.0) start x) (sym is) (look_last para_moves n lines sure came.0 start s came.1 low (asks_look s on) early))
 
 pub lag_past : (began lag due : ℕ) → began ≤ due → lag_by began lag (due + 2) ≡ 1
 lag_past began lag due low =
@@ -119,7 +119,7 @@ module _ (n : ℕ) (lines : Lines) (sure : ℕ) (start s new : ParaState) (due :
         from = omega (arith, way.from);
         resets = same_resets s new done ∙ way.resets;
         nmis = same_nmis s new done ∙ way.nmis;
-        came = (came.0, subst (λ (k : ℕ). Looks para_moves n lines sure came.0 start (timed new (due + 2) k)) (sym (lag_past new.due new.lag due low)) came.1);
+        came = (came.0, subst (λ (k : ℕ). Looks para_moves n (shown lines sure) came.0 start (timed new (due + 2) k)) (sym (lag_past new.due new.lag due low)) came.1);
       }
 
   -- or a look, which sees the lines
@@ -145,7 +145,7 @@ module _ (n : ℕ) (lines : Lines) (sure : ℕ) (start s new : ParaState) (due :
         from = omega (arith, way.from);
         resets = ap (λ (x : ParaState). x.resets) passed.1 ∙ resets;
         nmis = ap (λ (x : ParaState). x.nmis) passed.1 ∙ nmis;
-        came = (came.0, subst (λ (x : ParaState). Looks para_moves n lines sure came.0 start x) (sym saw) came.1);
+        came = (came.0, subst (λ (x : ParaState). Looks para_moves n (shown lines sure) came.0 start x) (sym saw) came.1);
       }
 
   -- or one that is left
@@ -153,7 +153,7 @@ module _ (n : ℕ) (lines : Lines) (sure : ℕ) (start s new : ParaState) (due :
   way_left over bound left passed =
       let first : Came n lines sure start (timed new (due + 1) 0) = more n lines sure start s new due _ true way.came below way.goes_on done over in
       let due_is : left.due ≡ due + 1 = ap (λ (x : ParaState). x.due) passed.1 in (
-        (first.0, subst (λ (x : ParaState). Looks para_moves n lines sure first.0 start x) (sym passed.1) first.1),
+        (first.0, subst (λ (x : ParaState). Looks para_moves n (shown lines sure) first.0 start x) (sym passed.1) first.1),
         ap looks passed.1 ∙ over,
         omega (arith, due_is, way.from),
         omega (arith, below, way.from),

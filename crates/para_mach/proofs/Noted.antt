@@ -9,7 +9,7 @@ use Rattle.para_mach.specs.declared.notes.Stood.{Stood}
 use Rattle.tube_chip.specs.declared.Lines.{Lines}
 use Rattle.tube_chip.specs.declared.Answer.TheVariants.{Seen}
 use Rattle.tube_party.specs.declared.party.Ask.{Ask}
-use Rattle.tube_party.specs.Moves.{Looks, Goes, IsAsk}
+use Rattle.tube_party.specs.Moves.{Looks, Goes, IsAsk, shown}
 use Rattle.tube_party.specs.Steps.{looks_on, looks_wider}
 use Rattle.cpu_core.specs.declared.Sequence.TheVariants.{Reset, Nmi}
 use Rattle.cpu65c02.specs.Sequences.{next, after, looked, fresh}
@@ -96,10 +96,10 @@ sets_out_seeing n lines sure due at bound old mid here there low in_run in_sure 
     }
 
 -- the steps of a run behind it, and what is asked then; its looks may be nearer than they need be
-pub goes_out : (n : ℕ) (lines : Lines) (near sure : ℕ) (old mid last new : ParaState) (ask : Ask) → near ≤ sure → SetOut n lines near old mid → (k : ℕ) × Looks para_moves n lines near k mid last → IsAsk para_moves n last ask new →
-    Goes para_moves n lines sure old ask new
+pub goes_out : (n : ℕ) (lines : Lines) (near sure : ℕ) (old mid last new : ParaState) (ask : Ask) → near ≤ sure → SetOut n lines near old mid → (k : ℕ) × Looks para_moves n (shown lines near) k mid last → IsAsk para_moves n last ask new →
+    Goes para_moves n (shown lines sure) old ask new
 goes_out n lines near sure old mid last new ask low out ran asked =
-    let all : (i : ℕ) × Looks para_moves n lines near i old last = looks_on para_moves n lines near out.came.0 ran.0 old mid last out.came.1 ran.1 in
+    let all : (i : ℕ) × Looks para_moves n (shown lines near) i old last = looks_on para_moves n lines near out.came.0 ran.0 old mid last out.came.1 ran.1 in
     record { steps = all.0; last = last; looks = looks_wider para_moves n lines near sure all.0 old last low all.1; asked = asked }
 
 -- ---- Held
@@ -117,7 +117,7 @@ held_look s l on stands other =
 
 -- so far a machine passed looks at that line
 pub record IsHeldOn (n : ℕ) (lines : Lines) (sure : ℕ) (start s : ParaState) : Type 0 where
-  pub came : (k : ℕ) × Looks para_moves n lines sure k start s
+  pub came : (k : ℕ) × Looks para_moves n (shown lines sure) k start s
   pub over : looks s ≡ true
   pub ram : s.ram ≡ start.ram
   pub kin : IsKin start s

@@ -3,7 +3,7 @@ use Rattle.std.specs.Prelude.{ℕ, List, [], ◌∷◌, ◌≡◌, ◌≤◌, �
 use Rattle.cpu65c02.specs.State as cpu
 use Rattle.para_mach.specs.declared.notes.Stood.{Stood}
 use Rattle.tube_chip.specs.declared.Lines.{Lines}
-use Rattle.tube_party.specs.Moves.{Looks}
+use Rattle.tube_party.specs.Moves.{Looks, shown}
 use Rattle.para_mach.specs.State.{ParaState}
 use Rattle.para_mach.specs.Step.{para_moves, looks}
 use Rattle.para_mach.specs.Told.{IsKin}
@@ -23,7 +23,7 @@ IsNoted s c held due lag stood = (c ≡ s.cpu) × (held ≡ s.is_held) × (due �
 
 -- a machine set out: it did nothing, or a look that saw the lines, and left what is no processor
 pub record SetOut (n : ℕ) (lines : Lines) (sure : ℕ) (old mid : ParaState) : Type 0 where
-  pub came : (k : ℕ) × Looks para_moves n lines sure k old mid
+  pub came : (k : ℕ) × Looks para_moves n (shown lines sure) k old mid
   pub ram : mid.ram ≡ old.ram
   pub kin : IsKin old mid
   pub later : old.due ≤ mid.due

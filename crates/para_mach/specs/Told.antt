@@ -6,7 +6,7 @@ use Rattle.tube_chip.specs.Act.{access}
 use Rattle.tube_chip.specs.declared.Answer.TheVariants.{Byte}
 use Rattle.tube_chip.specs.declared.Op.TheVariants as op
 use Rattle.tube_chip.specs.declared.Lines.{Lines}
-use Rattle.tube_party.specs.Moves.{FitsAnswer, Looks, Sees}
+use Rattle.tube_party.specs.Moves.{FitsAnswer, Looks, Sees, shown}
 use Rattle.para_mach.specs.declared.memory.Stop.{Stop}
 use Rattle.para_mach.specs.declared.memory.Stop.TheVariants.{Tube, Full}
 use Rattle.para_mach.specs.declared.machine.Left.{Left}
@@ -47,8 +47,8 @@ IsPassed due bound pirq old false new = (bound ≤ due) × (new ≡ record old {
 -- noted nothing is told.
 abbrev pub IsRun : ℕ → Lines → ℕ → ParaState → Left → ParaState → Type 0
 IsRun until lines sure old left.Full new = Unit {0}
-IsRun until lines sure old (left.Asked ask) new = Sees para_moves until lines sure old ask new
-IsRun until lines sure old left.Look new = ((k : ℕ) × Looks para_moves until lines sure k old new) × (looks new ≡ true) × (old.due < new.due) × (old.due < until)
+IsRun until lines sure old (left.Asked ask) new = Sees para_moves until (shown lines sure) old ask new
+IsRun until lines sure old left.Look new = ((k : ℕ) × Looks para_moves until (shown lines sure) k old new) × (looks new ≡ true) × (old.due < new.due) × (old.due < until)
 
 -- A run from a step at the tick due came to the end of its room in a sequence that began below the tick sure, or with the run: a write takes
 -- two ticks, and so do all of the fewer than 16 accesses of that sequence that are done.

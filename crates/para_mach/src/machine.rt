@@ -1,7 +1,7 @@
 //! The machine.
 ghost use Rattle.std.specs.Prelude.{Bool, is_none, ◌≡◌, ◌≤◌, if◌then◌else◌, ◌≢◌, ◌↔◌, ◌⊎◌, ◌<◌, ◌+◌, ◌-◌, ◌%◌, ◌^◌, IfOk, IfErr, IsErrOf, length, Err, Some, None, MatchOption, IsSome, IsNone, false, true, max, slice_index, vec_len, vec_capacity};
 ghost use Rattle.tube_chip.specs.declared.Answer.TheVariants.{Byte, Seen};
-ghost use Rattle.tube_party.specs.Moves.{IsAsk, IsAtLook, Goes, shut};
+ghost use Rattle.tube_party.specs.Moves.{IsAsk, IsAtLook, Goes, shut, shown};
 ghost use Rattle.para_mach.specs.State.{power_on, shown_regs};
 ghost use Rattle.cpu65c02.specs.Sequences.{next, starting, after, looked, fresh};
 ghost use Rattle.para_mach.specs.Step.{para_moves, looks, begun, held_on, next_state};
@@ -395,7 +395,7 @@ impl ParaMachine {
     fn hold(&mut self, until: Tick, lines: &Lines, sure: Tick) -> Ask
         requires room { until.0 ≤ 2 ^ 30 }
         requires looks { looks self.old ≡ true }
-        ensures goes { Goes para_moves until.0 lines.now sure.0 self.old result self.new }
+        ensures goes { Goes para_moves until.0 (shown lines.now sure.0) self.old result self.new }
         ensures ram { (self.new).ram ≡ (self.old).ram }
         ensures kin { IsKin self.old self.new }
     {
@@ -413,7 +413,7 @@ impl ParaMachine {
     fn go_on(&mut self, until: Tick, lines: &Lines, sure: Tick, undo_log: &mut UndoLog) -> Ask
         requires ticks { until.0 ≤ 2 ^ 30 }
         requires room { 16 ≤ vec_capacity undo_log.old.stood - vec_len undo_log.old.stood }
-        ensures goes { Goes para_moves until.0 lines.now sure.0 self.old result self.new }
+        ensures goes { Goes para_moves until.0 (shown lines.now sure.0) self.old result self.new }
         ensures noted { put_back undo_log.new.stood.items (self.new).ram ≡ put_back undo_log.old.stood.items (self.old).ram }
         ensures kin { IsKin self.old self.new }
     {
@@ -570,7 +570,7 @@ impl Rewinds for ParaMachine {
     ) -> Option<Ask>
         requires { until.0 ≤ 2 ^ 30 }
         ensures some { IsSome result }
-        ensures noted { MatchOption result (self.new ≡ self.old) (λ ask. Goes para_moves until.0 lines.now sure.0 self.old ask self.new × (taken_back past.new.cpu past.new.was_held past.new.due past.new.lag past.new.undo_log.stood.items self.new ≡ self.old)) }
+        ensures noted { MatchOption result (self.new ≡ self.old) (λ ask. Goes para_moves until.0 (shown lines.now sure.0) self.old ask self.new × (taken_back past.new.cpu past.new.was_held past.new.due past.new.lag past.new.undo_log.stood.items self.new ≡ self.old)) }
     {
         self.mark(past);
         Some(self.go_on(until, lines, sure, &mut past.undo_log))

@@ -9,7 +9,7 @@ use Rattle.tube_trace.specs.Entries.{accesses, entry_of}
 use Rattle.tube_cell.specs.Passes.{Carried, own_horizon, here, bound_here, added}
 use Rattle.tube_party.specs.declared.party.Ask.{Ask}
 use Rattle.tube_party.specs.declared.party.Ask.TheVariants.{Nothing, Access, Look}
-use Rattle.tube_party.specs.Moves.{Moves, IsLawful, Runs, Heads, IsAsk, IsUnsure, Sees}
+use Rattle.tube_party.specs.Moves.{Moves, IsLawful, Runs, Heads, IsAsk, IsUnsure, Sees, shown}
 use Rattle.session.specs.Ahead.{Sight, lines_seen, observed}
 use Rattle.session.specs.Station.{place}
 use Rattle.session.specs.Gone.{GoneOn}
@@ -85,7 +85,7 @@ module _ {S : Type 0} (m : Moves S) (lawful : IsLawful m) (side : Side) (n : ℕ
 pub gone_on : {S : Type 0} (m : Moves S) (lawful : IsLawful m) (n sure : ℕ) (lines : Lines) (s s2 : S) (ask : Ask) (p p2 : Carried) (events : List Event)
     → own_horizon p ≤ m.due s → own_horizon p ≤ n → events ≡ observed m p.side (lines_seen lines) (min n sure) (min n sure) s → p2 ≡ added p events → here p2 ≡ here p → bound_here p2 ≡ bound_here p
     → ((t : ℕ) → own_horizon p ≤ t → All (λ e. e.tick < t) events → own_horizon p2 ≤ t)
-    → Sees m n lines sure s ask s2 → GoneOn m n (place s p) ask (place s2 p2)
+    → Sees m n (shown lines sure) s ask s2 → GoneOn m n (place s p) ask (place s2 p2)
 gone_on m lawful n sure lines s s2 ask p p2 events later open_ events_are pass here_is bound past sees =
     let last = sees.last in
     let looks : IsLooks m lawful p.side (lines_seen lines) n lines refl sure sees.steps s last = looked m lawful p.side (lines_seen lines) n lines refl sure sees.steps s last sees.looks in

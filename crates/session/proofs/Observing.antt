@@ -17,7 +17,7 @@ use Rattle.tube_trace.specs.Entries.{accesses}
 use Rattle.tube_cell.specs.declared.local.Readings.{Readings}
 use Rattle.tube_cell.specs.Views.{below, is_observation, readings_of}
 use Rattle.tube_cell.specs.Steps.{Watches}
-use Rattle.tube_party.specs.Moves.{Moves, IsLawful, Runs, Heads, Looks}
+use Rattle.tube_party.specs.Moves.{Moves, IsLawful, Runs, Heads, Looks, shown}
 use Rattle.session.specs.Steps.{event_at}
 use Rattle.session.specs.Ahead.{Sight, lines_seen, byte_seen, byte_answer, readings_seen, joins, observed_by, observed, IsSeen}
 
@@ -222,8 +222,8 @@ module _ {S : Type 0} (m : Moves S) (lawful : IsLawful m) (side : Side) (v : Sig
       pub silent : accesses events ≡ []
       pub low : All (λ e. e.tick < sure) events
 
-    looked_by : (sure k : ℕ) (s last : S) (o : Option Query) → m.asks s ≡ o → m.due s < n → ((u : S) → Looks m n lines sure k u last → IsLooks sure k u last)
-        → MatchOption o (Looks m n lines sure k (silent s) last) (λ q. (q ≡ look) × (m.due s < sure) × Looks m n lines sure k (m.next s (Some (Seen lines))) last) → IsLooks sure (suc k) s last
+    looked_by : (sure k : ℕ) (s last : S) (o : Option Query) → m.asks s ≡ o → m.due s < n → ((u : S) → Looks m n (shown lines sure) k u last → IsLooks sure k u last)
+        → MatchOption o (Looks m n (shown lines sure) k (silent s) last) (λ q. (q ≡ look) × (m.due s < sure) × Looks m n (shown lines sure) k (m.next s (Some (Seen lines))) last) → IsLooks sure (suc k) s last
     looked_by sure k s last None is under on h =
         let r = on (silent s) h in
         record { events = r.events; runs = (under, rw is r.runs); seen = r.seen; silent = r.silent; low = r.low }
@@ -238,7 +238,7 @@ module _ {S : Type 0} (m : Moves S) (lawful : IsLawful m) (side : Side) (v : Sig
           low = All-cons (λ z. z.tick < sure) e r.events h.1 r.low;
         }
 
-    pub looked : (sure k : ℕ) (s last : S) → Looks m n lines sure k s last → IsLooks sure k s last
+    pub looked : (sure k : ℕ) (s last : S) → Looks m n (shown lines sure) k s last → IsLooks sure k s last
     looked sure zero s last h = record { events = []; runs = (refl, h); seen = tt; silent = refl; low = All-nil (λ z. z.tick < sure) }
     looked sure (suc k) s last h = looked_by sure k s last (m.asks s) refl h.0 (λ u on. looked sure k u last on) h.1
 

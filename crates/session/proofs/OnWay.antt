@@ -20,7 +20,7 @@ use Rattle.tube_cell.specs.Views.{readings_of}
 use Rattle.tube_chip.specs.State.{State}
 use Rattle.tube_party.specs.declared.party.Ask.{Ask}
 use Rattle.tube_party.specs.declared.party.Ask.TheVariants.{Nothing, Access, Look}
-use Rattle.tube_party.specs.Moves.{Moves, IsLawful, Runs, Heads, Looks, IsAsk, IsUnsure, Sees, Goes, IsAskedFor, FitsAnswer, IsAtLook}
+use Rattle.tube_party.specs.Moves.{Moves, IsLawful, Runs, Heads, Looks, IsAsk, IsUnsure, Sees, Goes, IsAskedFor, FitsAnswer, IsAtLook, shown}
 use Rattle.tube_party.specs.Turn.{noted, noted_all}
 use Rattle.session.specs.declared.mark.Mark.{Mark}
 use Rattle.tube_cell.specs.declared.local.Readings.{Readings}
@@ -121,7 +121,7 @@ module _ {S : Type 0} (m : Moves S) (lawful : IsLawful m) (n : ℕ) (from : Outs
   few ask x w le = let a = events_few m lawful Para n w.steps from.state w.events w.last w.runs in let b = w.noted.count_is in omega arith
 
   -- it is where it set out
-  pub sets_out : (ask : Ask) (far : ℕ) (y : Station S) → Goes m n from.mark.readings.lines far from.state ask y.at.state → length y.list ≡ from.mark.len → y.count ≡ from.mark.count
+  pub sets_out : (ask : Ask) (far : ℕ) (y : Station S) → Goes m n (shown from.mark.readings.lines far) from.state ask y.at.state → length y.list ≡ from.mark.len → y.count ≡ from.mark.count
       → (w : IsOnWay m n from ask y) × AllBelow far w.events
   sets_out ask far y went len count =
       let looks = looked m lawful Para sight n from.mark.readings.lines refl far went.steps from.state went.last went.looks in (
@@ -142,7 +142,7 @@ module _ {S : Type 0} (m : Moves S) (lawful : IsLawful m) (n : ℕ) (from : Outs
       )
 
   -- it goes on from a look
-  pub looks_on : (t : Tick) (ask2 : Ask) (far : ℕ) (x y : Station S) → IsOnWay m n from (Look t) x → Goes m n from.mark.readings.lines far x.at.state ask2 y.at.state → y.list ≡ x.list → y.count ≡ x.count
+  pub looks_on : (t : Tick) (ask2 : Ask) (far : ℕ) (x y : Station S) → IsOnWay m n from (Look t) x → Goes m n (shown from.mark.readings.lines far) x.at.state ask2 y.at.state → y.list ≡ x.list → y.count ≡ x.count
       → IsOnWay m n from ask2 y
   looks_on t ask2 far x y w went list_is count_is =
       let looks = looked m lawful Para sight n from.mark.readings.lines refl far went.steps x.at.state went.last went.looks in
@@ -151,7 +151,7 @@ module _ {S : Type 0} (m : Moves S) (lawful : IsLawful m) (n : ℕ) (from : Outs
 
   -- a read that is answered, and the looks behind it
   pub reads_on : (t : Tick) (op : Op) (byte : ℕ) (ask2 : Ask) (far : ℕ) (x y : Station S) (w : IsOnWay m n from (Access t op) x) → byte_seen from.mark.readings op ≡ Some byte
-      → Goes m n from.mark.readings.lines far (m.next x.at.state (Some (Byte byte))) ask2 y.at.state
+      → Goes m n (shown from.mark.readings.lines far) (m.next x.at.state (Some (Byte byte))) ask2 y.at.state
       → y.list ≡ noted from.mark.keep x.list (record { tick = t; side = Para; op = op; answer = byte }) → y.count ≡ x.count + 1
       → (e : IsOnWay m n from ask2 y) × (AllBelow far w.events → t.0 < far → AllBelow far e.events)
   reads_on t op byte ask2 far x y w shown went list_is count_is =
@@ -185,7 +185,7 @@ module _ {S : Type 0} (m : Moves S) (lawful : IsLawful m) (n : ℕ) (from : Outs
   no_earlier_self (Access v op) t u a b = omega arith
   no_earlier_self (Look v) t u a b = omega arith
 
-  pub past_look : (t : Tick) (ask2 : Ask) (far : ℕ) (x : Station S) (new : S) → IsOnWay m n from (Look t) x → Goes m n from.mark.readings.lines far x.at.state ask2 new → IsNoEarlier n (Look t) ask2
+  pub past_look : (t : Tick) (ask2 : Ask) (far : ℕ) (x : Station S) (new : S) → IsOnWay m n from (Look t) x → Goes m n (shown from.mark.readings.lines far) x.at.state ask2 new → IsNoEarlier n (Look t) ask2
   past_look t ask2 far x new w went =
       let h = at_look t x w in
       let due = h.1 in
@@ -195,7 +195,7 @@ module _ {S : Type 0} (m : Moves S) (lawful : IsLawful m) (n : ℕ) (from : Outs
       no_earlier (Look t) ask2 went.last new (λ u r. (omega arith, omega arith)) went.asked
 
   pub past_read : (t : Tick) (op : Op) (byte : ℕ) (ask2 : Ask) (far : ℕ) (x : Station S) (new : S) → IsOnWay m n from (Access t op) x
-      → Goes m n from.mark.readings.lines far (m.next x.at.state (Some (Byte byte))) ask2 new → IsNoEarlier n (Access t op) ask2
+      → Goes m n (shown from.mark.readings.lines far) (m.next x.at.state (Some (Byte byte))) ask2 new → IsNoEarlier n (Access t op) ask2
   past_read t op byte ask2 far x new w went =
       let h = at_access t op x w in
       let due = h.1 in

@@ -2,8 +2,8 @@
 use Rattle.std.proofs.Common.{ℕ, ◌≤◌}
 use Rattle.tube_chip.specs.declared.Lines.{Lines}
 use Rattle.tube_party.specs.declared.party.Ask.{Ask}
-use Rattle.tube_party.specs.Moves.{Moves, Sees, Goes}
+use Rattle.tube_party.specs.Moves.{Moves, Sees, Goes, shown}
 use Rattle.tube_party.specs.Steps.{looks_wider}
 
-pub goes_far : {S : Type 0} {m : Moves S} {n low sure : ℕ} {lines : Lines} {s new : S} {ask : Ask} → Sees m n lines low s ask new → low ≤ sure → Goes m n lines sure s ask new
+pub goes_far : {S : Type 0} {m : Moves S} {n low sure : ℕ} {lines : Lines} {s new : S} {ask : Ask} → Sees m n (shown lines low) s ask new → low ≤ sure → Goes m n (shown lines sure) s ask new
 goes_far {S} {m} {n} {low} {sure} {lines} {s} h less = record { steps = h.steps; last = h.last; looks = looks_wider m n lines low sure h.steps s h.last less h.looks; asked = h.asked }

@@ -20,7 +20,7 @@ use Rattle.tube_party.specs.declared.replaying.Doing.{Doing}
 use Rattle.tube_party.specs.Moves.{Moves, IsLawful, Runs}
 use Rattle.tube_party.specs.Replay.{Numbered, Ended, own_from, same_op, is_that, next_line, finished, differs, doing, one_step, replay_from, replayed, chip_before}
 use Rattle.tube_party.specs.Tape.{Misses}
-use Rattle.tube_party.specs.Following.{own_below, IsAnsweredBy, FollowsTrace, ReplayIsFollowing, IsDifference, DiffersAt, ReplayTellsDifference}
+use Rattle.tube_party.specs.Following.{own_below, IsAnsweredBy, FollowsTrace, ReplayIsFollowing, difference, IsDifference, DiffersAt, ReplayTellsDifference}
 use Rattle.tube_party.proofs.Runs.{event, First, Over, Silent, Asking, first_of_runs, runs_silent, runs_asking}
 use Rattle.tube_party.proofs.ReplayLemmas.{Goes, goes_all, goes_end, goes_none, goes_look, goes_access, goes_differs, at_end, step_now}
 
@@ -272,7 +272,7 @@ module _ {S : Type 0} (m : Moves S) (lawful : IsLawful m) (side : Side) (trace :
   At stopped e line what = e ≡ record { machine = stopped; place = Some (line, what) }
 
   abbrev Whole : S → List Numbered → ℕ → Option Doing → S → Type 0
-  Whole last left line what stopped = IsDifference m side n (length trace) last left line what stopped
+  Whole last left line what stopped = IsDifference m side n (length trace) (record { last = last; left = left }) (difference line what stopped)
 
   difference_by : (last stopped : S) (left : List Numbered) (e : Ended S) (line : ℕ) (what : Option Doing) → Ending last left e → At stopped e line what → Whole last left line what stopped
   difference_by last stopped left e line what (Finishes over same) at =
@@ -285,7 +285,7 @@ module _ {S : Type 0} (m : Moves S) (lawful : IsLawful m) (side : Side) (trace :
       subst (λ (w : Option Doing). Whole last left line w stopped) (ap told_of place)
       (op, low, asks, refl, subst (λ (i : ℕ). Misses left (length trace) (m.due last) op i) (ap line_of place) misses, ap (λ (y : Ended S). y.machine) (sym at ∙ same))
 
-  differs_of : (s stopped : S) (line : ℕ) (what : Option Doing) → At stopped (replayed m side trace n s) line what → DiffersAt m side trace n s line what stopped
+  differs_of : (s stopped : S) (line : ℕ) (what : Option Doing) → At stopped (replayed m side trace n s) line what → DiffersAt m side trace n s (difference line what stopped)
   differs_of s stopped line what at =
       let c : Comes s (own_from side n 1 trace) (replayed m side trace n s) = comes_all s in
       record {
@@ -373,7 +373,7 @@ module _ {S : Type 0} (m : Moves S) (lawful : IsLawful m) (side : Side) (trace :
       ∙ ap (λ (x : S). record { machine = x; place = Some (line, Some (doing (m.due last) side d.0)) }) (sym d.5)
       ∙ ap (λ (x : Doing). record { machine = stopped; place = Some (line, Some x) }) (sym d.3)
 
-  place_of : (s stopped : S) (line : ℕ) (what : Option Doing) → DiffersAt m side trace n s line what stopped → At stopped (replayed m side trace n s) line what
+  place_of : (s stopped : S) (line : ℕ) (what : Option Doing) → DiffersAt m side trace n s (difference line what stopped) → At stopped (replayed m side trace n s) line what
   place_of s stopped line what d =
       place_by (replayed m side trace n s) d.last stopped d.left line what
       (takes_all d.steps s d.last (own_from side n 1 trace) d.agreed d.left d.events (replayed m side trace n s) (goes_all m side trace n s) d.runs d.own d.agrees d.answered)

@@ -1,5 +1,5 @@
 -- What a replay says in terms of lists of events.
-use Rattle.std.specs.Prelude.{ℕ, ◌≡◌, ◌<◌, ◌≤◌, ◌↔◌, ◌&&◌, nat_lt, List, ◌++◌, length, map, filter, All, Option, None, Some}
+use Rattle.std.specs.Prelude.{ℕ, ◌≡◌, ◌<◌, ◌≤◌, ◌↔◌, ◌&&◌, nat_lt, List, ◌++◌, length, map, filter, All, Option, None, Some, MatchOption}
 use Rattle.beeb_bits.specs.declared.Side.{Side}
 use Rattle.beeb_bits.specs.declared.Side.TheVariants.{Host, Para}
 use Rattle.tube_chip.specs.declared.Op.{Op}
@@ -38,20 +38,36 @@ ReplayIsFollowing {S} m =
     (side : Side) (trace : List Entry) (n : ℕ) (s ended : S) →
     (replayed m side trace n s ≡ record { machine = ended; place = None }) ↔ FollowsTrace m side trace n s ended
 
--- What the machine does next below n and the side's entries that are left differ: it makes an access that the next of them is not, or
--- none is left; or it does nothing more, and one is left.
-abbrev pub IsDifference : {S : Type 0} → Moves S → Side → ℕ → ℕ → S → List Numbered → ℕ → Option Doing → S → Type 0
-IsDifference m side n lines last left line (Some does) stopped =
-    (op : Op)
-    × (m.due last < n)
-    × (m.asks last ≡ Some (access op))
-    × (does ≡ doing (m.due last) side op)
-    × Misses left lines (m.due last) op line
-    × (stopped ≡ last)
-IsDifference m side n lines last left line None stopped = (n ≤ m.due last) × (next_line left ≡ Some (line, None)) × (stopped ≡ shut m last n)
+-- Where a machine and its side's entries of a trace part: the machine's state before what it does next, and the entries that are left.
+pub record Parting (S : Type 0) : Type 0 where
+  pub last : S
+  pub left : List Numbered
 
--- The machine makes the first of the side's entries below n, its looks answered by the trace, and then they differ at this place.
-pub record DiffersAt {S : Type 0} (m : Moves S) (side : Side) (trace : List Entry) (n : ℕ) (s : S) (line : ℕ) (what : Option Doing) (stopped : S) : Type 0 where
+-- What a replay tells of it: the line, what the machine does there, if it does something, and the machine.
+pub record Difference (S : Type 0) : Type 0 where
+  pub line : ℕ
+  pub what : Option Doing
+  pub machine : S
+
+abbrev pub difference : {S : Type 0} → ℕ → Option Doing → S → Difference S
+difference line what machine = record { line = line; what = what; machine = machine }
+
+-- What the machine does next below n and the side's entries that are left, of a trace of so many lines, differ: it makes an access that the next of them is not, or
+-- none is left; or it does nothing more, and one is left.
+abbrev pub IsDifference : {S : Type 0} → Moves S → Side → ℕ → ℕ → Parting S → Difference S → Type 0
+IsDifference m side n lines at d =
+    MatchOption d.what
+    ((n ≤ m.due at.last) × (next_line at.left ≡ Some (d.line, None)) × (d.machine ≡ shut m at.last n))
+    (λ does.
+    (op : Op)
+    × (m.due at.last < n)
+    × (m.asks at.last ≡ Some (access op))
+    × (does ≡ doing (m.due at.last) side op)
+    × Misses at.left lines (m.due at.last) op d.line
+    × (d.machine ≡ at.last))
+
+-- The machine makes the first of the side's entries below n, its looks answered by the trace, and then they differ so.
+pub record DiffersAt {S : Type 0} (m : Moves S) (side : Side) (trace : List Entry) (n : ℕ) (s : S) (d : Difference S) : Type 0 where
   pub events : List Event
   pub steps : ℕ
   pub last : S
@@ -61,13 +77,14 @@ pub record DiffersAt {S : Type 0} (m : Moves S) (side : Side) (trace : List Entr
   pub left : List Numbered
   pub own : own_from side n 1 trace ≡ agreed ++ left
   pub agrees : accesses events ≡ map (λ x. x.entry) agreed
-  pub differs : IsDifference m side n (length trace) last left line what stopped
+  pub differs : IsDifference m side n (length trace) (record { last = last; left = left }) d
 
 -- A replay ends at a place exactly where that is the first difference, and with the machine before it.
 abbrev pub ReplayTellsDifference : {S : Type 0} → Moves S → Type 0
 ReplayTellsDifference {S} m =
     (side : Side) (trace : List Entry) (n : ℕ) (s : S) (line : ℕ) (what : Option Doing) (stopped : S) →
-    (replayed m side trace n s ≡ record { machine = stopped; place = Some (line, what) }) ↔ DiffersAt m side trace n s line what stopped
+    (replayed m side trace n s ≡ record { machine = stopped; place = Some (line, what) })
+    ↔ DiffersAt m side trace n s (difference line what stopped)
 
 -- The replay of each party against the reference run's own list meets no difference, and ends as the reference run does.
 abbrev pub ReferenceIsReplayed : {S T : Type 0} → Moves S → Moves T → Type 0

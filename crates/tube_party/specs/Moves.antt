@@ -86,14 +86,22 @@ pub record Advances {S : Type 0} (m : Moves S) (n : ℕ) (old : S) (ask : Ask) (
   pub runs : Runs m Host n steps old [] last
   pub asked : IsAsk m n last ask new
 
--- k steps from s to last, each below n: each asks nothing, or is a look below `sure` that sees these lines
-abbrev pub Looks : {S : Type 0} → Moves S → ℕ → Lines → ℕ → ℕ → S → S → Type 0
-Looks m n lines sure zero s last = s ≡ last
-Looks m n lines sure (suc k) s last =
+-- What looks see, and the tick below which it is sure.
+pub record Shown : Type 0 where
+  pub lines : Lines
+  pub sure : ℕ
+
+abbrev pub shown : Lines → ℕ → Shown
+shown lines sure = record { lines = lines; sure = sure }
+
+-- k steps from s to last, each below n: each asks nothing, or is a look that is sure, and sees these lines
+abbrev pub Looks : {S : Type 0} → Moves S → ℕ → Shown → ℕ → S → S → Type 0
+Looks m n v zero s last = s ≡ last
+Looks m n v (suc k) s last =
     (m.due s < n)
     × MatchOption (m.asks s)
-    (Looks m n lines sure k (m.next s None) last)
-    (λ q. (q ≡ look) × (m.due s < sure) × Looks m n lines sure k (m.next s (Some (Seen lines))) last)
+    (Looks m n v k (m.next s None) last)
+    (λ q. (q ≡ look) × (m.due s < v.sure) × Looks m n v k (m.next s (Some (Seen v.lines))) last)
 
 -- it is not a look below `sure`
 abbrev pub IsUnsure : ℕ → Ask → Type 0
@@ -102,23 +110,23 @@ IsUnsure sure (Access t op) = Unit {0}
 IsUnsure sure (Look t) = sure ≤ t.0
 
 -- The steps below n that ask nothing were done, and with them the looks below `sure`, each of which saw these lines; and this is asked next.
-pub record Sees {S : Type 0} (m : Moves S) (n : ℕ) (lines : Lines) (sure : ℕ) (old : S) (ask : Ask) (new : S) : Type 0 where
+pub record Sees {S : Type 0} (m : Moves S) (n : ℕ) (v : Shown) (old : S) (ask : Ask) (new : S) : Type 0 where
   pub steps : ℕ
   pub last : S
-  pub looks : Looks m n lines sure steps old last
+  pub looks : Looks m n v steps old last
   pub asked : IsAsk m n last ask new
-  pub unsure : IsUnsure sure ask
+  pub unsure : IsUnsure v.sure ask
 
 -- The same, but that it may be a sure look that is asked next.
-pub record Goes {S : Type 0} (m : Moves S) (n : ℕ) (lines : Lines) (sure : ℕ) (old : S) (ask : Ask) (new : S) : Type 0 where
+pub record Goes {S : Type 0} (m : Moves S) (n : ℕ) (v : Shown) (old : S) (ask : Ask) (new : S) : Type 0 where
   pub steps : ℕ
   pub last : S
-  pub looks : Looks m n lines sure steps old last
+  pub looks : Looks m n v steps old last
   pub asked : IsAsk m n last ask new
 
 -- It went on from a mark, some way, as if each look saw these lines; this is asked next.
 abbrev pub IsAhead : {S : Type 0} → Moves S → ℕ → Lines → S → Ask → S → Type 0
-IsAhead m n lines mark ask new = (far : ℕ) × Goes m n lines far mark ask new
+IsAhead m n lines mark ask new = (far : ℕ) × Goes m n (shown lines far) mark ask new
 
 -- the next step is a look below n
 abbrev pub IsAtLook : {S : Type 0} → Moves S → ℕ → S → Type 0

@@ -2,7 +2,7 @@
 use Rattle.std.specs.Prelude.{ℕ, ◌≡◌, Bool, true, false}
 use Rattle.tube_chip.specs.declared.Lines.{Lines}
 use Rattle.tube_party.specs.declared.party.Ask.{Ask}
-use Rattle.tube_party.specs.Moves.{Moves, Sees, IsAhead}
+use Rattle.tube_party.specs.Moves.{Moves, Sees, IsAhead, shown}
 
 -- Whether a party is ahead of what is sure, what it asks next, its state where it began to note, and its state.
 pub record Standing (S : Type 0) : Type 0 where
@@ -19,7 +19,7 @@ standing ahead ask mark s = record { ahead = ahead; ask = ask; mark = mark; stat
 abbrev pub IsGone : {S : Type 0} → Moves S → ℕ → Lines → ℕ → S → Standing S → Type 0
 IsGone m n lines sure s new = elim (new.ahead) [
   | true ↦ IsAhead m n lines s new.ask new.state × (new.mark ≡ s)
-  | false ↦ Sees m n lines sure s new.ask new.state
+  | false ↦ Sees m n (shown lines sure) s new.ask new.state
 ]
 
 -- A party stands as it stood; where it is ahead, the lines are still those that it saw.
@@ -29,4 +29,4 @@ StandsStill seen lines old new = (new ≡ old) × (old.ahead ≡ true → lines 
 -- It was ahead, was taken back, and went on anew from there, where its looks up to a tick alone saw these lines.
 abbrev pub IsRolledBack : {S : Type 0} → Moves S → ℕ → Lines → ℕ → Standing S → Standing S → Type 0
 IsRolledBack m n seen at old new =
-    (old.ahead ≡ true) × (new.ahead ≡ false) × Sees m n seen at old.mark new.ask new.state
+    (old.ahead ≡ true) × (new.ahead ≡ false) × Sees m n (shown seen at) old.mark new.ask new.state

@@ -1,7 +1,7 @@
 //! A party that can be taken back.
 ghost use Rattle.std.specs.Prelude.{◌≡◌, ◌≤◌, MatchOption, Some};
 ghost use Rattle.tube_chip.specs.declared.Answer.TheVariants.{Byte};
-ghost use Rattle.tube_party.specs.Moves.{Goes, IsAtLook, IsAskedFor};
+ghost use Rattle.tube_party.specs.Moves.{Goes, IsAtLook, IsAskedFor, shown};
 
 use crate::party::{Ask, MOST, Party};
 use beeb_bits::Tick;
@@ -39,14 +39,14 @@ pub trait Rewinds: Party {
             let new = Self.state self.new in
             let mark = Self.state (before past.new self.new) in
             MatchOption result (new ≡ old)
-            (λ ask. Goes Self.moves until.0 lines.now sure.0 old ask new × (mark ≡ old)) };
+            (λ ask. Goes Self.moves until.0 (shown lines.now sure.0) old ask new × (mark ≡ old)) };
 
     /// Goes on from the look at which a run that it notes left off, and notes that too, as if each look below tick `sure` saw these lines. What it
     /// goes back to stays where it was. It may leave off at any look, this one too.
     fn advance_on(&mut self, until: Tick, lines: &Lines, sure: Tick, past: &mut Self::Past) -> Ask
         requires ticks { until.0 ≤ MOST }
         requires look { IsAtLook Self.moves until.0 (Self.state self.old) }
-        ensures goes { Goes Self.moves until.0 lines.now sure.0 (Self.state self.old) result (Self.state self.new) }
+        ensures goes { Goes Self.moves until.0 (shown lines.now sure.0) (Self.state self.old) result (Self.state self.new) }
         ensures mark { Self.state (before past.new self.new) ≡ Self.state (before past.old self.old) }
     {
         Ask::Look(self.due())
@@ -67,7 +67,7 @@ pub trait Rewinds: Party {
         ensures goes { let old = Self.state self.old in
             let new = Self.state self.new in
             MatchOption result (new ≡ old)
-            (λ ask. Goes Self.moves until.0 lines.now sure.0 (Self.moves.next old (Some (Byte byte))) ask new) }
+            (λ ask. Goes Self.moves until.0 (shown lines.now sure.0) (Self.moves.next old (Some (Byte byte))) ask new) }
         ensures mark { Self.state (before past.new self.new) ≡ Self.state (before past.old self.old) }
     {
         None

@@ -1,6 +1,6 @@
 use Rattle.std.proofs.Common.{ℕ, ◌-◌, ap, rules, ◌≡◌, ◌+◌, None, IsSome, sym, subst, arith, ◌∙◌}
 use Rattle.cpu6502.specs.Sequences.{next}
-use Rattle.tube_party.specs.Moves.{Looks}
+use Rattle.tube_party.specs.Moves.{Looks, shown}
 use Rattle.host_bus.specs.Bus.{BusState, bus_closed}
 use Rattle.host_bus.specs.View.{bus_seen}
 use Rattle.host_mach.specs.State.{HostState}
@@ -21,8 +21,8 @@ returns-then-due-bound-2-clause-looks g c =
     let closed : c.loop-due.due + 1 ≡ c.loop-due.due + 3 - 2 = omega arith in
     let bus = ap (λ (n : ℕ). bus_closed (bus_seen plug c.exchange_memory.new.bus) n) closed ∙ sym c.close.ensures in (
       came.0,
-      subst (λ (n : ℕ). Looks host_moves c.args.until c.args.lines.now c.args.sure came.0 start (host_of c.give.new.self (bus_seen plug c.close.new.self) c.loop-due.nmis n)) tick
-          (subst (λ (b : BusState). Looks host_moves c.args.until c.args.lines.now c.args.sure came.0 start (host_of c.give.new.self b c.loop-due.nmis (c.loop-due.due + 2))) bus came.1),
+      subst (λ (n : ℕ). Looks host_moves c.args.until (shown c.args.lines.now c.args.sure) came.0 start (host_of c.give.new.self (bus_seen plug c.close.new.self) c.loop-due.nmis n)) tick
+          (subst (λ (b : BusState). Looks host_moves c.args.until (shown c.args.lines.now c.args.sure) came.0 start (host_of c.give.new.self b c.loop-due.nmis (c.loop-due.due + 2))) bus came.1),
     )
 
 pub loop-due-preserved-then-last-2 : goal.loop-due-preserved-then-last-2
@@ -38,7 +38,7 @@ loop-due-preserved-then-last-2 g c =
     c.loop-due.invariant c.loop-due-test.true c.want.ensures c.in-Some.ensures.done c.give.ensures over in
     let here : c.loop-due.due + 2 ≡ t = omega arith in
     let at : Came c.args.until c.args.lines.now c.args.sure start (host_of c.give.new.self (bus_closed b (c.loop-due.due + 1)) c.loop-due.nmis t) =
-    (came.0, subst (λ (n : ℕ). Looks host_moves c.args.until c.args.lines.now c.args.sure came.0 start (host_of c.give.new.self (bus_closed b (c.loop-due.due + 1)) c.loop-due.nmis n)) here came.1) in
+    (came.0, subst (λ (n : ℕ). Looks host_moves c.args.until (shown c.args.lines.now c.args.sure) came.0 start (host_of c.give.new.self (bus_closed b (c.loop-due.due + 1)) c.loop-due.nmis n)) here came.1) in
     let saw = sees-on c.args.until c.args.lines.now c.args.sure start c.give.new.self b c.loop-due.nmis t (c.loop-due.due + 1) new at (omega arith) over
     (omega (arith, c.if-due-bound-2.false, c.min-bound.ensures)) (omega (arith, c.if-due-bound-2.false, c.min-bound.ensures)) c.see-then-last-2.ensures in
     let after = after-look (host_of c.give.new.self b c.loop-due.nmis t) new (t + 1) c.args.lines.now.hirq (omega (arith, c.in-Some.ensures.closed)) c.see-then-last-2.ensures in

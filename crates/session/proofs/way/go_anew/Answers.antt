@@ -6,7 +6,7 @@ use Rattle.tube_chip.specs.Act.{access}
 use Rattle.tube_cell.specs.Views.{AllBelow}
 use Rattle.tube_party.specs.declared.party.Ask.{Ask}
 use Rattle.tube_party.specs.declared.party.Ask.TheVariants.{Access}
-use Rattle.tube_party.specs.Moves.{Looks, Goes}
+use Rattle.tube_party.specs.Moves.{Looks, Goes, shown}
 use Rattle.session.specs.Steps.{event_at}
 use Rattle.session.specs.Station.{place, Station, station}
 use Rattle.session.specs.Way.{outset, IsOnWay}
@@ -80,10 +80,10 @@ loop-preserved g c =
     let ask2 = c.advance_seeing-ask-in-loop.result in
     let new = state c.advance_seeing-ask-in-loop.new.self in
     let sees = c.advance_seeing-ask-in-loop.ensures in
-    let went : Goes m c.args.n.0 lines c.args.trust.0 (m.next x.at.state (Some (Byte c.in-Some-byte_of.answer))) ask2 new = record {
+    let went : Goes m c.args.n.0 (shown lines c.args.trust.0) (m.next x.at.state (Some (Byte c.in-Some-byte_of.answer))) ask2 new = record {
       steps = sees.steps;
       last = sees.last;
-      looks = subst (λ s. Looks m c.args.n.0 lines c.args.trust.0 sees.steps s sees.last) c.answer.ensures sees.looks;
+      looks = subst (λ s. Looks m c.args.n.0 (shown lines c.args.trust.0) sees.steps s sees.last) c.answer.ensures sees.looks;
       asked = sees.asked;
     } in
     let y : Station g.M.Party.State = record { at = place new c.loop.half.pass; list = c.note.new.list.items; count = c.note.new.count } in
