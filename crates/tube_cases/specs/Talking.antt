@@ -9,16 +9,18 @@ use Rattle.tube_chip.specs.declared.Lines.{Lines}
 use Rattle.tube_chip.specs.Act.{Query, access, look, weight}
 use Rattle.tube_party.specs.Moves.{MayAsk}
 
--- a look, as long as looks are left, or an access to the register that what it heard picks
-abbrev pub asks : ℕ → Bool → ℕ → Query
-asks (suc looks) writes heard = look
-asks zero true heard = access (Write (heard % 8) heard)
-asks zero false heard = access (Read (heard % 8))
+-- a look, as long as looks are left, or an access to the register that what it heard picks: one that polls reads a status register
+abbrev pub asks : ℕ → Bool → Bool → ℕ → Query
+asks (suc looks) polls writes heard = look
+asks zero true writes heard = access (Read (heard % 4 * 2))
+asks zero false true heard = access (Write (heard % 8) heard)
+asks zero false false heard = access (Read (heard % 8))
 
-pub may_ask : (looks : ℕ) (writes : Bool) (heard : ℕ) (side : Side) → MayAsk side (Some (asks looks writes heard))
-may_ask (suc looks) writes heard side = tt
-may_ask zero true heard side = omega arith
-may_ask zero false heard side = omega arith
+pub may_ask : (looks : ℕ) (polls writes : Bool) (heard : ℕ) (side : Side) → MayAsk side (Some (asks looks polls writes heard))
+may_ask (suc looks) polls writes heard side = tt
+may_ask zero true writes heard side = omega arith
+may_ask zero false true heard side = omega arith
+may_ask zero false false heard side = omega arith
 
 -- how many looks are left after that
 abbrev pub looks_after : ℕ → ℕ → ℕ

@@ -1,5 +1,5 @@
 -- Laws about runs that machines use.
-use Rattle.std.specs.Prelude.{ℕ, zero, suc, ◌≡◌, ◌<◌, ◌≤◌, max, Option, None, Some, MatchOption, [], refl}
+use Rattle.std.specs.Prelude.{ℕ, zero, suc, ◌≡◌, ◌<◌, ◌≤◌, Option, None, Some, MatchOption, [], refl}
 use Rattle.std.proofs.Common.{sym, ◌∙◌, ap, subst, arith}
 use Rattle.beeb_bits.specs.declared.Side.{Side}
 use Rattle.beeb_bits.specs.declared.Side.TheVariants.{Host}
@@ -10,7 +10,7 @@ use Rattle.tube_chip.specs.declared.Lines.{Lines}
 use Rattle.tube_chip.specs.declared.Op.{Op}
 use Rattle.tube_party.specs.declared.party.Ask.{Ask}
 use Rattle.tube_party.specs.declared.party.Ask.TheVariants.{Nothing, Access, Look}
-use Rattle.tube_party.specs.Moves.{Moves, IsLawful, Runs, Looks, Advances, Sees, Goes, IsAhead, IsAsk, IsAtLook, IsAskedFor, FitsAnswer, shown}
+use Rattle.tube_party.specs.Moves.{Moves, IsLawful, Runs, Looks, Advances, Sees, Goes, IsAsk, IsAtLook, IsAskedFor, FitsAnswer, shown}
 
 silent_here : {S : Type 0} (m : Moves S) (side : Side) (n k : ℕ) (s last : S) (o : Option Query) →
     m.asks s ≡ o → o ≡ None → Runs m side n k (m.next s None) [] last → m.due s < n → Runs m side n (suc k) s [] last
@@ -143,32 +143,11 @@ module _ {S : Type 0} (m : Moves S) (n : ℕ) (lines : Lines) where
   looks_wider sure far zero s last low h = h
   looks_wider sure far (suc k) s last low h = (h.0, wider_by sure far k s last (m.asks s) low (λ u on. looks_wider sure far k u last low on) h.1)
 
-  -- a run that left off at a look, and one that goes on from there, are one
-  pub goes_on : (far more : ℕ) (s mid new : S) (t : Tick) (ask : Ask) → Goes m n (shown lines far) s (Look t) mid → Goes m n (shown lines more) mid ask new → Goes m n (shown lines (max far more)) s ask new
-  goes_on far more s mid new t ask first then =
-      let most : ℕ = max far more in
-      let a : Looks m n (shown lines most) first.steps s first.last = looks_wider far most first.steps s first.last (omega arith) first.looks in
-      let b : Looks m n (shown lines most) then.steps mid then.last = looks_wider more most then.steps mid then.last (omega arith) then.looks in
-      let all : (i : ℕ) × Looks m n (shown lines most) i s then.last =
-      looks_on m n lines most first.steps then.steps s first.last then.last a (subst (λ (x : S). Looks m n (shown lines most) then.steps x then.last) first.asked.3 b) in
-      record { steps = all.0; last = then.last; looks = all.1; asked = then.asked }
-
-  -- a noted run goes on from where the party was, to which it can be taken back
-  pub goes_ahead : (far : ℕ) (s mark new : S) (ask : Ask) → Goes m n (shown lines far) s ask new → mark ≡ s → IsAhead m n lines mark ask new
-  goes_ahead far s mark new ask went is = (far, subst (λ (x : S). Goes m n (shown lines far) x ask new) (sym is) went)
-
-  -- and a stride behind it from the same mark
-  pub strides_on : (more : ℕ) (mark still mid new : S) (t : Tick) (ask : Ask) → IsAhead m n lines mark (Look t) mid → Goes m n (shown lines more) mid ask new → still ≡ mark → IsAhead m n lines still ask new
-  strides_on more mark still mid new t ask so_far went is = goes_ahead (max so_far.0 more) mark still new ask (goes_on so_far.0 more mark mid new t ask so_far.1 went) is
-
   -- where it left off at a look, that look is the next step
   pub left_at_look : (far : ℕ) (s new : S) (t : Tick) → Goes m n (shown lines far) s (Look t) new → IsAtLook m n new
   left_at_look far s new t went =
       let due : m.due new ≡ m.due went.last = ap m.due went.asked.3 in
       (omega (arith, due, went.asked.0, went.asked.1), ap m.asks went.asked.3 ∙ went.asked.2)
-
-  pub tick_of_left : (far : ℕ) (s new : S) (t : Tick) → Goes m n (shown lines far) s (Look t) new → t.0 ≡ m.due new
-  tick_of_left far s new t went = went.asked.0 ∙ sym (ap m.due went.asked.3)
 
   -- where it left off at an access, a byte is the answer of the next step
   pub left_at_access : (far : ℕ) (s new : S) (t : Tick) (op : Op) (byte : ℕ) → Goes m n (shown lines far) s (Access t op) new → IsAskedFor m n new (Byte byte)
@@ -179,43 +158,3 @@ module _ {S : Type 0} (m : Moves S) (n : ℕ) (lines : Lines) where
         below = omega (arith, due, went.asked.0, went.asked.1);
         kind = subst (λ (o : Option Query). MatchOption o ⊥ (λ q. FitsAnswer q (Byte byte))) (sym asks) tt;
       }
-
-  -- from a step that asks for an access there is no way on: that is asked for
-  access_asked : (s last new : S) (op : Op) (ask : Ask) → s ≡ last → m.asks s ≡ Some (access op) → m.due s < n → IsAsk m n last ask new →
-      (ask ≡ Access (record { 0 = m.due s }) op) × (new ≡ s)
-  access_asked s last new op Nothing here asks low h = let d : m.due s ≡ m.due last = ap m.due here in absurd (omega (arith, d, low, h.0))
-  access_asked s last new op (Access t o) here asks low h =
-      let d : t.0 ≡ m.due s = h.0 ∙ sym (ap m.due here) in
-      let same : (let q : Option Query = Some (access o) in q) ≡ Some (access op) = sym h.2 ∙ sym (ap m.asks here) ∙ asks in
-      let same_op : o ≡ op = cc in
-      (ap (λ (x : ℕ). Access (record { 0 = x }) o) d ∙ ap (λ (x : Op). Access (record { 0 = m.due s }) x) same_op, h.3 ∙ sym here)
-  access_asked s last new op (Look t) here asks low h =
-      let no : (let q : Option Query = Some look in q) ≡ Some (access op) = sym h.2 ∙ sym (ap m.asks here) ∙ asks in
-      absurd (cc)
-
-  no_step_past : (k sure : ℕ) (s last : S) (op : Op) → m.asks s ≡ Some (access op) → Looks m n (shown lines sure) (suc k) s last → ⊥
-  no_step_past k sure s last op asks h =
-      let after : (access op ≡ look) × (m.due s < sure) × Looks m n (shown lines sure) k (m.next s (Some (Seen lines))) last = subst (After m n lines sure k s last) asks h.1 in
-      let is : access op ≡ look = after.0 in cc
-
-  goes_by : (k sure : ℕ) (s last new : S) (op : Op) (ask : Ask) → m.asks s ≡ Some (access op) → m.due s < n → Looks m n (shown lines sure) k s last → IsAsk m n last ask new →
-      (ask ≡ Access (record { 0 = m.due s }) op) × (new ≡ s)
-  goes_by zero sure s last new op ask asks low looks asked = access_asked s last new op ask looks asks low asked
-  goes_by (suc k) sure s last new op ask asks low looks asked = absurd (no_step_past k sure s last op asks looks)
-
-  pub goes_nowhere : (far : ℕ) (s new : S) (op : Op) (ask : Ask) → m.asks s ≡ Some (access op) → m.due s < n → Goes m n (shown lines far) s ask new →
-      (ask ≡ Access (record { 0 = m.due s }) op) × (new ≡ s)
-  goes_nowhere far s new op ask asks low went = goes_by went.steps far s went.last new op ask asks low went.looks went.asked
-
-  -- all its looks lie below what it asks next
-  tight_by : (sure d k : ℕ) (s last : S) (o : Option Query) → IsLawful m → m.due last ≡ d → ((u : S) → Looks m n (shown lines sure) k u last → Looks m n (shown lines d) k u last) →
-      After m n lines sure k s last o → After m n lines d k s last o
-  tight_by sure d k s last None lawful is on h = on (m.next s None) h
-  tight_by sure d k s last (Some q) lawful is on h =
-      let up : m.due s < m.due (m.next s (Some (Seen lines))) = lawful.rises s (Some (Seen lines)) in
-      let past : m.due (m.next s (Some (Seen lines))) ≤ m.due last = due_rises m n lines sure k (m.next s (Some (Seen lines))) last lawful h.2 in
-      (h.0, omega (arith, up, past, is), on (m.next s (Some (Seen lines))) h.2)
-
-  pub looks_tight : (sure d k : ℕ) (s last : S) → IsLawful m → m.due last ≡ d → Looks m n (shown lines sure) k s last → Looks m n (shown lines d) k s last
-  looks_tight sure d zero s last lawful is looks = looks
-  looks_tight sure d (suc k) s last lawful is looks = (looks.0, tight_by sure d k s last (m.asks s) lawful is (λ u on. looks_tight sure d k u last lawful is on) looks.1)

@@ -23,6 +23,8 @@ pub struct Talk {
     // So many looks come before the next access, and after that so many again.
     looks: u64,
     rest: u64,
+    // It reads a status register at each access.
+    polls: bool,
     writes: bool,
     heard: u8,
 }
@@ -66,12 +68,13 @@ impl Party for Talker {
 
     ghost moves = { record {
       due = λ s. s.due;
-      asks = λ s. Some (asks s.looks s.writes s.heard);
+      asks = λ s. Some (asks s.looks s.polls s.writes s.heard);
       next = λ s a. record {
         due = s.due + 1 + heard_after s.heard a % 4;
         lag = heard_after s.heard a % 4;
         looks = looks_after s.looks s.rest;
         rest = s.rest;
+        polls = s.polls;
         writes = writes_after s.looks s.writes;
         heard = heard_after s.heard a;
       };
@@ -87,7 +90,7 @@ impl Party for Talker {
       closing = λ s t low high. record { closed = omega arith; due = refl; asks = refl; next = λ a. refl; again = λ u low2 high2. refl };
     } };
 
-    ghost permitted = { λ s side plays. may_ask s.looks s.writes s.heard side };
+    ghost permitted = { λ s side plays. may_ask s.looks s.polls s.writes s.heard side };
 
     fn due(&self) -> Tick {
         Tick(self.talk.due)
@@ -106,14 +109,14 @@ impl Party for Talker {
             return Ask::Look(Tick(talk.due));
         }
         let number = talk.heard % 8;
-        Ask::Access(
-            Tick(talk.due),
-            if talk.writes {
-                Op::Write(number, talk.heard)
-            } else {
-                Op::Read(number)
-            },
-        )
+        let op = if talk.polls {
+            Op::Read(talk.heard % 4 * 2)
+        } else if talk.writes {
+            Op::Write(number, talk.heard)
+        } else {
+            Op::Read(number)
+        };
+        Ask::Access(Tick(talk.due), op)
     }
 
     fn answer(&mut self, answer: Answer) {
@@ -170,6 +173,21 @@ impl Rewinds for Talker {
         self.advance_seeing(until, lines, Tick(sure.0.min(past.full)))
     }
 
+    fn answer_on(
+        &mut self,
+        byte: u8,
+        until: Tick,
+        lines: &Lines,
+        sure: Tick,
+        past: &mut Notes,
+    ) -> Option<Ask> {
+        if self.talk.due >= past.full {
+            return None;
+        }
+        self.answer(Answer::Byte(byte));
+        Some(self.advance_seeing(until, lines, Tick(sure.0.min(past.full))))
+    }
+
     fn rewind(&mut self, past: &mut Notes) {
         self.talk = past.talk;
     }
@@ -205,6 +223,7 @@ fn first_talk(due: u8, heard: u8, rest: u32) -> Talk
         lag: due as u64,
         looks: 0,
         rest: rest as u64,
+        polls: false,
         writes: true,
         heard,
     }
@@ -214,12 +233,14 @@ fn first_talk(due: u8, heard: u8, rest: u32) -> Talk
 type Start = (u8, u8, u32, Option<u8>);
 
 // A talker that begins so.
-fn at_start(start: Start, meeting: Option<Meeting>) -> Talker
+fn at_start(start: Start, polls: bool, meeting: Option<Meeting>) -> Talker
     ensures { result.talk.lag ≡ result.talk.due }
 {
     let (due, heard, rest, room) = start;
+    let mut talk = first_talk(due, heard, rest);
+    talk.polls = polls;
     Talker {
-        talk: first_talk(due, heard, rest),
+        talk,
         room: room.map(|ticks| ticks as u64),
         meeting,
     }
@@ -241,8 +262,8 @@ fn two_parties_meet(rt: HostRuntime) -> Result<(), Fail> {
     };
     let mut crew = ThreadCrew::make();
     let (host, para) = (
-        at_start((0, 0, 1, None), Some(host)),
-        at_start((1, 0, 1, None), Some(para)),
+        at_start((0, 0, 1, None), false, Some(host)),
+        at_start((1, 0, 1, None), false, Some(para)),
     );
     let done = run_pair(&rt, alloc, &mut crew, host, para, Tick(9), 0);
     assert!(rt; done.is_ok());
@@ -277,47 +298,76 @@ const LONG: u32 = 1_000_000;
 #[test]
 fn two_threads_do_what_one_does(rt: HostRuntime) -> Result<(), Fail> {
     let alloc = rt.alloc();
-    // How each side starts, the ticks of the run, and how many accesses are kept.
-    let rows: [(Start, Start, u16, u32); 20] = [
-        ((0, 0, 1, None), (0, 0, 1, None), 0, 9),
-        ((0, 0, 1, None), (0, 0, 1, None), 1, 9),
-        ((5, 1, 1, None), (5, 2, 1, None), 5, 9),
-        ((0, 16, 1, None), (0, 200, 1, None), 9_000, 10_000),
-        ((3, 77, 1, None), (2, 8, 1, None), 6_000, 0),
-        ((9, 128, 1, None), (0, 129, 1, None), 6_000, 1),
-        ((0, 255, 1, None), (250, 31, 1, None), 9_000, 1_000),
-        ((250, 6, 1, None), (0, 11, 1, None), 30_000, 100_000),
+    // How each side starts, whether the parasite polls, the ticks of the run, and how many accesses are kept.
+    let rows: [(Start, Start, bool, u16, u32); 26] = [
+        ((0, 0, 1, None), (0, 0, 1, None), false, 0, 9),
+        ((0, 0, 1, None), (0, 0, 1, None), false, 1, 9),
+        ((5, 1, 1, None), (5, 2, 1, None), false, 5, 9),
+        ((0, 16, 1, None), (0, 200, 1, None), false, 9_000, 10_000),
+        ((3, 77, 1, None), (2, 8, 1, None), false, 6_000, 0),
+        ((9, 128, 1, None), (0, 129, 1, None), false, 6_000, 1),
+        ((0, 255, 1, None), (250, 31, 1, None), false, 9_000, 1_000),
+        ((250, 6, 1, None), (0, 11, 1, None), false, 30_000, 100_000),
         // The host does accesses alone, and the parasite looks most of the time.
-        ((0, 3, 0, None), (0, 9, 20, None), 4_001, 10_000),
-        ((1, 40, 0, None), (0, 5, 200, None), 9_003, 10_000),
-        ((0, 21, 3, None), (4, 250, 200, None), 6_000, 100),
+        ((0, 3, 0, None), (0, 9, 20, None), false, 4_001, 10_000),
+        ((1, 40, 0, None), (0, 5, 200, None), false, 9_003, 10_000),
+        ((0, 21, 3, None), (4, 250, 200, None), false, 6_000, 100),
         // And the other way round.
-        ((0, 3, 20, None), (0, 9, 0, None), 4_001, 10_000),
-        ((1, 40, 200, None), (0, 5, 0, None), 9_003, 10_000),
+        ((0, 3, 20, None), (0, 9, 0, None), false, 4_001, 10_000),
+        ((1, 40, 200, None), (0, 5, 0, None), false, 9_003, 10_000),
         // Neither does much.
-        ((2, 90, 200, None), (0, 33, 200, None), 10_001, 1_000),
+        ((2, 90, 200, None), (0, 33, 200, None), false, 10_001, 1_000),
         // The parasite can note little, or nothing.
-        ((0, 3, 0, None), (0, 9, 20, Some(3)), 3_000, 10_000),
-        ((0, 60, 20, None), (0, 7, 200, Some(3)), 5_000, 10_000),
-        ((0, 60, 20, None), (0, 7, 200, Some(100)), 5_000, 10_000),
-        ((0, 60, 20, None), (0, 7, 200, Some(0)), 5_000, 10_000),
+        ((0, 3, 0, None), (0, 9, 20, Some(3)), false, 3_000, 10_000),
+        (
+            (0, 60, 20, None),
+            (0, 7, 200, Some(3)),
+            false,
+            5_000,
+            10_000,
+        ),
+        (
+            (0, 60, 20, None),
+            (0, 7, 200, Some(100)),
+            false,
+            5_000,
+            10_000,
+        ),
+        (
+            (0, 60, 20, None),
+            (0, 7, 200, Some(0)),
+            false,
+            5_000,
+            10_000,
+        ),
         // After its first access it looks alone, and the run ends within a stride.
-        ((0, 200, 200, None), (0, 1, LONG, None), 9_173, 100),
-        ((0, 8, LONG, None), (0, 100, LONG, None), 20_001, 100),
+        ((0, 200, 200, None), (0, 1, LONG, None), false, 9_173, 100),
+        ((0, 8, LONG, None), (0, 100, LONG, None), false, 20_001, 100),
+        // The parasite polls, while the host does an access now and then, or often, or none after its first.
+        ((0, 60, 20, None), (0, 7, 0, None), true, 9_000, 10_000),
+        ((0, 60, 200, None), (1, 8, 3, None), true, 9_001, 1_000),
+        ((3, 60, 0, None), (0, 9, 1, None), true, 4_001, 10_000),
+        ((0, 8, LONG, None), (0, 3, 0, None), true, 9_173, 100),
+        // It can note little of it, or nothing.
+        ((0, 60, 20, None), (0, 7, 0, Some(5)), true, 3_000, 10),
+        ((0, 60, 20, None), (0, 7, 2, Some(0)), true, 3_000, 10_000),
     ];
-    for (k, (host, para, ticks, keep)) in rows.into_iter().enumerate() {
+    for (k, (host, para, polls, ticks, keep)) in rows.into_iter().enumerate() {
         let n = Tick(ticks as u64);
-        let (one_host, one_para) = (at_start(host, None), at_start(para, None));
+        let (one_host, one_para) = (at_start(host, false, None), at_start(para, polls, None));
         let Ok(one) = solo(alloc, one_host, one_para, n, keep) else {
             return Err(Fail::from("no memory"));
         };
         let mut crew = ThreadCrew::make();
-        let (host, para) = (at_start(host, None), at_start(para, None));
+        let (host, para) = (at_start(host, false, None), at_start(para, polls, None));
         let Ok(two) = run_pair(&rt, alloc, &mut crew, host, para, n, keep) else {
             return Err(Fail::from("not run"));
         };
         assert!(rt; is_same(&one, &two, keep), "{k}");
-        let (host, para) = (at_start(rows[k].0, None), at_start(rows[k].1, None));
+        let (host, para) = (
+            at_start(rows[k].0, false, None),
+            at_start(rows[k].1, polls, None),
+        );
         let Ok(two) = run_pair_by(&rt, alloc, &mut crew, host, para, n, keep, TINY) else {
             return Err(Fail::from("not run"));
         };
@@ -330,8 +380,8 @@ fn two_threads_do_what_one_does(rt: HostRuntime) -> Result<(), Fail> {
 fn without_a_thread_nothing_is_run(rt: HostRuntime) {
     let mut crew = FailCrew::make();
     let (host, para) = (
-        at_start((0, 0, 1, None), None),
-        at_start((0, 0, 1, None), None),
+        at_start((0, 0, 1, None), false, None),
+        at_start((0, 0, 1, None), false, None),
     );
     let refused = run_pair(&rt, rt.alloc(), &mut crew, host, para, Tick(1_000), 9);
     assert!(rt; matches!(refused, Err(PairError::NoThread)));
