@@ -248,8 +248,8 @@ module _ {S : Type 0} (m : Moves S) (lawful : IsLawful m) (n keep : ℕ) (x0 : P
 
   -- nothing more is asked below n
   pub ends : (x : Station S) (ask : Ask) (q : Carried) → ask ≡ Nothing → x0.pass.ahead ≡ []
-      → IsUnderWay m n keep x0 ask x → HasWaited x.at.pass q → q.ahead ≡ [] → HasWorked m n keep x0 (record x { at = place x.at.state q })
-  ends x ask q is bare w h all =
+      → IsUnderWay m n keep x0 ask x → HasWaited x.at.pass q → q.ahead ≡ [] → own_horizon q ≡ n → HasWorked m n keep x0 (record x { at = place x.at.state q })
+  ends x ask q is bare w h all at =
       let over : IsAsk m n w.last Nothing x.at.state = subst (λ (a : Ask). IsAsk m n w.last a x.at.state) is w.asked in
       let t = w.there in
       let same = seat_on x0.pass x.at.pass q t.same h.same in
@@ -259,6 +259,7 @@ module _ {S : Type 0} (m : Moves S) (lawful : IsLawful m) (n keep : ℕ) (x0 : P
             sym (append-nil q.events) ∙ ap (λ (l : List Event). q.events ++ l) (sym all) ∙ h.events ∙ t.events
             ∙ ap (λ (l : List Event). l ++ t.added) (ap (λ (l : List Event). x0.pass.events ++ l) bare ∙ append-nil x0.pass.events);
         same = record { cell = same.cell; side = same.side; ahead = all; trusted = same.trusted };
+        horizon = at;
         follows = record { steps = t.runs.0; last = w.last; runs = t.runs.1; over = over.0; ends = over.1 };
         kept = t.kept;
         counted = t.counted;

@@ -81,21 +81,24 @@ para_trust : (c : State) (trust : ℕ) (events : List Event) → trust_after Par
 para_trust c trust [] = refl
 para_trust c trust (e ∷ events) = para_trust (done c e) trust events
 
-pub told_low : (p q : Carried) (h : ℕ) → own_horizon p ≤ h → q ≡ published p h → own_horizon q ≤ h
-told_low p q h low e = subst (λ (x : Carried). own_horizon x ≤ h) (sym e) (by_side p.side refl)
+pub told_at : (p q : Carried) (h : ℕ) → own_horizon p ≤ h → q ≡ published p h → own_horizon q ≡ h
+told_at p q h low e = subst (λ (x : Carried). own_horizon x ≡ h) (sym e) (by_side p.side refl)
   where
-    by_side : (s : Side) → p.side ≡ s → own_horizon (published p h) ≤ h
+    by_side : (s : Side) → p.side ≡ s → own_horizon (published p h) ≡ h
     by_side Host is =
         let a : own_horizon p ≡ max (own_bound Host p.known) (past_last (p.events ++ p.ahead)) = ap (λ (x : Side). horizon (own_bound x p.known) (p.events ++ p.ahead)) is in
         let b : past_last ((p.events ++ p.ahead) ++ []) ≡ past_last (p.events ++ p.ahead) = ap past_last (append-nil (p.events ++ p.ahead)) in
-        let r : max h (past_last ((p.events ++ p.ahead) ++ [])) ≤ h = omega arith in
-        subst (λ (x : Side). horizon (own_bound x (known_with x (here p) h (other x p.known) (trust_after x p.known.chip p.known.trust p.ahead))) ((p.events ++ p.ahead) ++ []) ≤ h) (sym is) r
+        let r : max h (past_last ((p.events ++ p.ahead) ++ [])) ≡ h = omega arith in
+        subst (λ (x : Side). horizon (own_bound x (known_with x (here p) h (other x p.known) (trust_after x p.known.chip p.known.trust p.ahead))) ((p.events ++ p.ahead) ++ []) ≡ h) (sym is) r
     by_side Para is =
         let a : own_horizon p ≡ max (own_bound Para p.known) (past_last (p.events ++ p.ahead)) = ap (λ (x : Side). horizon (own_bound x p.known) (p.events ++ p.ahead)) is in
         let b : past_last ((p.events ++ p.ahead) ++ []) ≡ past_last (p.events ++ p.ahead) = ap past_last (append-nil (p.events ++ p.ahead)) in
         let t = para_trust p.known.chip p.known.trust p.ahead in
-        let r : max (max h (trust_after Para p.known.chip p.known.trust p.ahead)) (past_last ((p.events ++ p.ahead) ++ [])) ≤ h = omega arith in
-        subst (λ (x : Side). horizon (own_bound x (known_with x (here p) h (other x p.known) (trust_after x p.known.chip p.known.trust p.ahead))) ((p.events ++ p.ahead) ++ []) ≤ h) (sym is) r
+        let r : max (max h (trust_after Para p.known.chip p.known.trust p.ahead)) (past_last ((p.events ++ p.ahead) ++ [])) ≡ h = omega arith in
+        subst (λ (x : Side). horizon (own_bound x (known_with x (here p) h (other x p.known) (trust_after x p.known.chip p.known.trust p.ahead))) ((p.events ++ p.ahead) ++ []) ≡ h) (sym is) r
+
+pub told_low : (p q : Carried) (h : ℕ) → own_horizon p ≤ h → q ≡ published p h → own_horizon q ≤ h
+told_low p q h low e = let x = told_at p q h low e in omega arith
 
 pub tried_low : (p q : Carried) (h : ℕ) (done : Bool) → own_horizon p ≤ h → (IsTrue done → q ≡ published p h) → (IsFalse done → Learns p q) → own_horizon q ≤ h
 tried_low p q h true low f g = told_low p q h low (f refl)

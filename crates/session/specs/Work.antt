@@ -22,11 +22,13 @@ pub record MayWork {S : Type 0} (m : Moves S) (plays : Side → Bool) (cell : Ta
   pub none_kept : x.list ≡ []
   pub none_counted : x.count ≡ 0
 
--- The machine followed the events that joined the pass's list, up to n. The first `keep` accesses of these are kept, and all are counted.
+-- The machine followed the events that joined the pass's list, up to n, which is the pass's horizon: the other side waits for nothing more. The first `keep` accesses of
+-- these are kept, and all are counted.
 pub record HasWorked {S : Type 0} (m : Moves S) (n keep : ℕ) (x : Place S) (y : Station S) : Type 0 where
   pub added : List Event
   pub events : y.at.pass.events ≡ x.pass.events ++ added
   pub same : SamePass x.pass y.at.pass
+  pub horizon : own_horizon y.at.pass ≡ n
   pub follows : Follows m x.pass.side x.state added n y.at.state
   pub kept : y.list ≡ take keep (accesses added)
   pub counted : y.count ≡ length (accesses added)

@@ -49,6 +49,7 @@ pub(crate) fn finish<R: Wait>(rt: &R, cell: &TubeCell, pass: &mut Pass, n: Tick)
     requires later { own_horizon pass.old ≤ n.0 }
     ensures waited { HasWaited pass.old pass.new }
     ensures published { pass.new.ahead ≡ [] }
+    ensures horizon { own_horizon pass.new ≡ n.0 }
     ensures paid { IsNearlyPaid pass.old pass.new }
 {
     for _ in rt.forever() {
