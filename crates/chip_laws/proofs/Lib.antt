@@ -1,0 +1,5 @@
+pub mod Halves
+pub mod Edges
+pub mod Typing
+pub mod CardBytes
+pub mod Queueing

@@ -1,0 +1,5 @@
+pub mod Roms
+pub mod Cards
+pub mod Edges
+pub mod Typing
+pub mod Queues

@@ -1,0 +1,10 @@
+//! The 6522.
+ghost use Rattle.chip_laws.specs.Edges.{Ca1Sees, Ca2Sees, Cb1Sees, Cb2Sees};
+
+/// In any run of steps a control line's flag becomes set exactly where the line has the edge that PCR says is active.
+pub fn active_edges_set_flags()
+    ensures ca1 { Ca1Sees }
+    ensures ca2 { Ca2Sees }
+    ensures cb1 { Cb1Sees }
+    ensures cb2 { Cb2Sees }
+{}

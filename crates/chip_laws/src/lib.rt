@@ -1,0 +1,14 @@
+//! Laws of single chips over whole runs, above the definitions that the crates of the chips have. Nothing stands on this crate.
+#![tactic(auto)]
+
+mod adapters;
+mod keys;
+mod plugs;
+mod roms;
+mod tube;
+
+pub use adapters::active_edges_set_flags;
+pub use keys::a_script_is_its_keys_set_in_turn;
+pub use plugs::a_ram_card_remembers;
+pub use roms::a_half_rom_stands_twice;
+pub use tube::registers_are_queues;
