@@ -3,3 +3,5 @@ pub mod Edges
 pub mod Typing
 pub mod CardBytes
 pub mod Queueing
+pub mod Reading
+pub mod Search

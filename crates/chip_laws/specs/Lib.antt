@@ -3,3 +3,5 @@ pub mod Cards
 pub mod Edges
 pub mod Typing
 pub mod Queues
+pub mod SectorReads
+pub mod Searches
