@@ -5,3 +5,5 @@ pub mod CardBytes
 pub mod Queueing
 pub mod Reading
 pub mod Search
+pub mod Losing
+pub mod Writing

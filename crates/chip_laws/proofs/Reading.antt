@@ -40,19 +40,19 @@ counted_inside s0 t k bytes s m got before is =
     record { going = is.going; over = is.over; angle = is.angle; drive0 = is.drive0; drive1 = is.drive1; taken = is.taken }
 
 -- which place passes
-no_place : (k m : ℕ) → ((m + 1) % 64 ≡ 0 → ⊥) → places_into k (64 * (312 * k) + m + 1) ≡ None
+pub no_place : (k m : ℕ) → ((m + 1) % 64 ≡ 0 → ⊥) → places_into k (64 * (312 * k) + m + 1) ≡ None
 no_place k m other =
     let same : (64 * (312 * k) + m + 1) % 64 ≡ (m + 1) % 64 = omega arith in
     rw (ne_eqb ((64 * (312 * k) + m + 1) % 64) 0 (λ e. other (sym same ∙ e))) refl
 
-a_place : (k m : ℕ) → (m + 1) % 64 ≡ 0 → places_into k (64 * (312 * k) + m + 1) ≡ Some ((m + 1) / 64)
+pub a_place : (k m : ℕ) → (m + 1) % 64 ≡ 0 → places_into k (64 * (312 * k) + m + 1) ≡ Some ((m + 1) / 64)
 a_place k m is =
     let zero_left : (64 * (312 * k) + m + 1) % 64 ≡ 0 = omega (arith, is) in
     let same : (64 * (312 * k) + m + 1) / 64 - 312 * k ≡ (m + 1) / 64 = omega (arith, is) in
     rw (eq-eqb ((64 * (312 * k) + m + 1) % 64) 0 zero_left, same) refl
 
 -- a step of the command, where sector k is among the ten of a track
-worked_is : (s : State) (t : Transfer) (k m : ℕ) → k < 10 → m < 18432 → s.command ≡ Transferring t k → s.angle ≡ Some (64 * (312 * k) + m) →
+pub worked_is : (s : State) (t : Transfer) (k m : ℕ) → k < 10 → m < 18432 → s.command ≡ Transferring t k → s.angle ≡ Some (64 * (312 * k) + m) →
     worked s ≡ transfer_step t k (64 * (312 * k) + m + 1) (record s { angle = Some (64 * (312 * k) + m + 1) })
 worked_is s t k m few inside goes at =
     let on : (64 * (312 * k) + m + 1) % 200000 ≡ 64 * (312 * k) + m + 1 = omega arith in

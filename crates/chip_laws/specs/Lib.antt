@@ -5,3 +5,4 @@ pub mod Typing
 pub mod Queues
 pub mod SectorReads
 pub mod Searches
+pub mod SectorWrites

@@ -1,5 +1,6 @@
 //! The disc controller.
 ghost use Rattle.chip_laws.specs.SectorReads.{SectorIsRead};
+ghost use Rattle.chip_laws.specs.SectorWrites.{SectorIsWritten};
 ghost use Rattle.chip_laws.specs.Searches.{SearchEnds};
 
 /// A search for a sector ends at the step at which the sector begins, or where its time is over.
@@ -11,3 +12,10 @@ pub fn a_search_ends_in_time()
 pub fn a_sector_is_read()
     ensures { SectorIsRead }
 {}
+
+/// A program that writes a sector and gives each byte in time finds its 256 bytes on the disc in order, and all others as they were.
+pub fn a_sector_is_written()
+    ensures { SectorIsWritten }
+{
+    disc_image::a_byte_put_is_read_back();
+}

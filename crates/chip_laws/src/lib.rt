@@ -9,7 +9,7 @@ mod roms;
 mod tube;
 
 pub use adapters::active_edges_set_flags;
-pub use discs::{a_search_ends_in_time, a_sector_is_read};
+pub use discs::{a_search_ends_in_time, a_sector_is_read, a_sector_is_written};
 pub use keys::a_script_is_its_keys_set_in_turn;
 pub use plugs::a_ram_card_remembers;
 pub use roms::a_half_rom_stands_twice;
