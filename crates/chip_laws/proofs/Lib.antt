@@ -7,3 +7,4 @@ pub mod Reading
 pub mod Search
 pub mod Losing
 pub mod Writing
+pub mod WholeReading

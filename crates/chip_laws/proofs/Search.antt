@@ -32,6 +32,8 @@ record Going (s0 : State) (t : Transfer) (left : ℕ) (s : State) (m : ℕ) : Ty
   pub command : s.command ≡ Searching t (left - m)
 
 record Found (s0 : State) (t : Transfer) (s : State) : Type 0 where
+  pub drive0 : s.drive0 ≡ s0.drive0
+  pub drive1 : s.drive1 ≡ s0.drive1
   pub command : s.command ≡ Transferring t s0.sector
   pub angle : s.angle ≡ Some (beginning s0.sector)
   pub drq : s0.drq ≡ false → s.drq ≡ false
@@ -114,6 +116,8 @@ finds s0 s t left m going has now =
     step_is s0 s t left m going
     ∙ ap (λ b. if b then record s1 { command = Transferring t s1.sector } else if nat_lt 1 (left - m) then record s1 { command = Searching t (left - m - 1) } else not_found s1) is_here in
     subst (λ y. Found s0 t (counted (is_asking s) y)) (sym is) (record {
+      drive0 = same.drive0;
+      drive1 = same.drive1;
       command = ap (Transferring t) same.sector;
       angle = ap (λ (a : ℕ). Some a) (same.angle ∙ now);
       drq = same.drq;
@@ -164,6 +168,8 @@ going_read s0 t left reg s m going =
 found_read : (s0 : State) (t : Transfer) (reg : ℕ) (s : State) → Found s0 t s → Found s0 t (read_leaves reg s)
 found_read s0 t reg s found =
     subst (λ y. Found s0 t (counted (is_asking s) y)) (sym (read_makes (reg == 0) (reg == 3) s)) (record {
+      drive0 = found.drive0;
+      drive1 = found.drive1;
       command = found.command;
       angle = found.angle;
       drq = λ off. stays_off (reg == 0) (reg == 3) s.drq (found.drq off);
@@ -266,7 +272,7 @@ search_ends = record {
       let found : Found s t (history events s) =
       run_done (Found s t) (found_read s t) s t left last (λ x going. finds s x t left last going has (then_now s t has)) (omega (arith, turn s, enough)) (not_before s t has)
       events s 0 all (omega (arith, count)) (omega arith) (begins s t left is) in
-      record { command = found.command; angle = found.angle; drq = found.drq off };
+      (record { command = found.command; angle = found.angle; drq = found.drq off }, same_disc t.target.drive (history events s) s found.drive0 found.drive1);
   waits = λ s t left events is none all early.
       let none_first : 0 + count_steps events ≡ count_steps events = omega arith in
       subst (λ n. (history events s).command ≡ Searching t (left - n)) none_first

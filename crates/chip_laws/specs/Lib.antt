@@ -6,3 +6,4 @@ pub mod Queues
 pub mod SectorReads
 pub mod Searches
 pub mod SectorWrites
+pub mod WholeReads

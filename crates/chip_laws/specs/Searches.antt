@@ -32,7 +32,7 @@ beginning k = 64 * (312 * k)
 abbrev pub has_match : Transfer → State → Bool
 has_match t s = is_single_density s.latch && ((t.target.head == s.track) && is_on_disc (disc_in t.target.drive s) t.target s.sector)
 
--- A search that has a turn left ends within that turn, at the step at which its sector begins, and at none before. One that has no sector
+-- A search that has a turn left ends within that turn, at the step at which its sector begins, and at none before, and the disc stays as it is. One that has no sector
 -- ends when its time is over, with record not found and INTRQ until the status is read.
 pub record SearchEnds : Type 0 where
   pub goes_on : (s : State) (t : Transfer) (left : ℕ) (events : List Event) →
@@ -41,7 +41,8 @@ pub record SearchEnds : Type 0 where
       (history events s).command ≡ Searching t (left - count_steps events)
   pub found : (s : State) (t : Transfer) (left : ℕ) (events : List Event) →
       s.command ≡ Searching t left → 200000 ≤ left → has_match t s ≡ true → s.drq ≡ false → AllWait events →
-      count_steps events ≡ steps_to (beginning s.sector) s → IsAtSector (history events s) t s.sector
+      count_steps events ≡ steps_to (beginning s.sector) s →
+      IsAtSector (history events s) t s.sector × (disc_in t.target.drive (history events s) ≡ disc_in t.target.drive s)
   pub waits : (s : State) (t : Transfer) (left : ℕ) (events : List Event) →
       s.command ≡ Searching t left → has_match t s ≡ false → AllWait events → count_steps events < left →
       (history events s).command ≡ Searching t (left - count_steps events)

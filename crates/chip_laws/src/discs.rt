@@ -1,6 +1,7 @@
 //! The disc controller.
 ghost use Rattle.chip_laws.specs.SectorReads.{SectorIsRead};
 ghost use Rattle.chip_laws.specs.SectorWrites.{SectorIsWritten};
+ghost use Rattle.chip_laws.specs.WholeReads.{SearchedAndRead};
 ghost use Rattle.chip_laws.specs.Searches.{SearchEnds};
 
 /// A search for a sector ends at the step at which the sector begins, or where its time is over.
@@ -8,9 +9,10 @@ pub fn a_search_ends_in_time()
     ensures { SearchEnds }
 {}
 
-/// A program that reads a sector and takes each byte in time gets the sector's 256 bytes in order.
+/// A program that reads a sector and takes each byte in time gets the sector's 256 bytes in order, also from its search on.
 pub fn a_sector_is_read()
-    ensures { SectorIsRead }
+    ensures sector { SectorIsRead }
+    ensures searched { SearchedAndRead }
 {}
 
 /// A program that writes a sector and gives each byte in time finds its 256 bytes on the disc in order, and all others as they were.
