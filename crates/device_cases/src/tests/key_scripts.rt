@@ -57,58 +57,79 @@ fn a_script_of_no_events_has_every_key_up(rt: HostRuntime) {
     assert!(rt; script.events().is_empty() && !script.is_down(0x41, Tick(1_000)));
 }
 
+// A line is what a text comes to, its count of events or the line that is out of form or order, and behind `@` the text, in which `|` ends a line.
+const TEXTS: &str = "\
+events 0@
+events 1@at 0 shot|
+events 2@at 60 shot|at 60 shot|
+order 2@at 60 shot|at 59 shot|
+# A bad line before the order is broken, behind it, and on the line that breaks it.
+bad 1@x|at 60 shot|at 59 shot|
+order 2@at 60 shot|at 59 shot|x|
+bad 2@at 60 shot|at 59 down 80|
+# The last line without its line feed.
+bad 1@at 60 shot
+bad 2@at 60 shot|at 61 down 41
+bad 1@|
+bad 2@at 60 shot||
+bad 1@at 60 shot\r|
+# The tick.
+events 1@at 1073741824 shot|
+bad 1@at 1073741825 shot|
+bad 1@at 99999999999999999999999 shot|
+bad 1@at 060 shot|
+bad 1@at 00 shot|
+bad 1@at -1 shot|
+bad 1@at +1 shot|
+bad 1@at 6A shot|
+bad 1@at  shot|
+# The words, and one space between them.
+bad 1@at|
+bad 1@at 60|
+bad 1@at 60 |
+bad 1@at  60 shot|
+bad 1@ at 60 shot|
+bad 1@at 60 shot |
+bad 1@at\t60 shot|
+bad 1@At 60 shot|
+bad 1@at 60 Shot|
+bad 1@at 60 shot 41|
+bad 1@at 60 down|
+bad 1@at 60 down 41 41|
+# The key.
+bad 1@at 60 down 80|
+bad 1@at 60 up 4a|
+bad 1@at 60 up 041|
+bad 1@at 60 down 4|
+bad 1@at 60 down G1|
+";
+
+fn wanted(outcome: &str) -> Option<Result<usize, ScriptError>> {
+    let (kind, n) = outcome.split_once(' ')?;
+    match kind {
+        "events" => Some(Ok(n.parse().ok()?)),
+        "bad" => Some(Err(ScriptError::BadLine {
+            line: n.parse().ok()?,
+        })),
+        _ => Some(Err(ScriptError::BadOrder {
+            line: n.parse().ok()?,
+        })),
+    }
+}
+
 #[test]
 fn the_first_offending_line_is_told(rt: HostRuntime) -> Result<(), Fail> {
-    let bad = |line| Err(ScriptError::BadLine { line });
-    let order = |line| Err(ScriptError::BadOrder { line });
-    let rows: [(&str, Result<usize, ScriptError>); 38] = [
-        ("", Ok(0)),
-        ("at 0 shot\n", Ok(1)),
-        ("at 60 shot\nat 60 shot\n", Ok(2)),
-        ("at 60 shot\nat 59 shot\n", order(2)),
-        // A bad line before the order is broken, behind it, and on the line that breaks it.
-        ("x\nat 60 shot\nat 59 shot\n", bad(1)),
-        ("at 60 shot\nat 59 shot\nx\n", order(2)),
-        ("at 60 shot\nat 59 down 80\n", bad(2)),
-        // The last line without its line feed.
-        ("at 60 shot", bad(1)),
-        ("at 60 shot\nat 61 down 41", bad(2)),
-        ("\n", bad(1)),
-        ("at 60 shot\n\n", bad(2)),
-        ("at 60 shot\r\n", bad(1)),
-        // The tick.
-        ("at 1073741824 shot\n", Ok(1)),
-        ("at 1073741825 shot\n", bad(1)),
-        ("at 99999999999999999999999 shot\n", bad(1)),
-        ("at 060 shot\n", bad(1)),
-        ("at 00 shot\n", bad(1)),
-        ("at -1 shot\n", bad(1)),
-        ("at +1 shot\n", bad(1)),
-        ("at 6A shot\n", bad(1)),
-        ("at  shot\n", bad(1)),
-        // The words, and one space between them.
-        ("at\n", bad(1)),
-        ("at 60\n", bad(1)),
-        ("at 60 \n", bad(1)),
-        ("at  60 shot\n", bad(1)),
-        (" at 60 shot\n", bad(1)),
-        ("at 60 shot \n", bad(1)),
-        ("at\t60 shot\n", bad(1)),
-        ("At 60 shot\n", bad(1)),
-        ("at 60 Shot\n", bad(1)),
-        ("at 60 shot 41\n", bad(1)),
-        ("at 60 down\n", bad(1)),
-        ("at 60 down 41 41\n", bad(1)),
-        // The key.
-        ("at 60 down 80\n", bad(1)),
-        ("at 60 up 4a\n", bad(1)),
-        ("at 60 up 041\n", bad(1)),
-        ("at 60 down 4\n", bad(1)),
-        ("at 60 down G1\n", bad(1)),
-    ];
-    for (text, want) in rows {
-        let got = count(read(rt.alloc(), text.as_bytes()));
-        assert_eq!(rt; got, want, "{text}");
+    for line in TEXTS.lines() {
+        if let Some((outcome, source)) = line.split_once('@') {
+            let mut text = source.as_bytes().to_vec(rt.alloc())?;
+            for byte in text.iter_mut() {
+                if *byte == b'|' {
+                    *byte = b'\n';
+                }
+            }
+            let got = count(read(rt.alloc(), &text));
+            assert!(rt; Some(got) == wanted(outcome), "{line}");
+        }
     }
     Ok(())
 }
@@ -159,7 +180,7 @@ fn a_key_is_as_its_last_event_makes_it(rt: HostRuntime) -> Result<(), Fail> {
 }
 
 #[test]
-fn errors_have_texts(rt: HostRuntime) -> Result<(), Fail> {
+fn each_refusal_of_a_script_has_a_text(rt: HostRuntime) -> Result<(), Fail> {
     let rows = [
         (
             ScriptError::BadLine { line: 3 },

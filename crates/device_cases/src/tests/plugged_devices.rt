@@ -62,62 +62,92 @@ fn a_device_in_a_box_is_the_device(rt: HostRuntime) -> Result<(), Fail> {
     Ok(())
 }
 
+fn address(digits: &str) -> Option<u16> {
+    u16::from_str_radix(digits, 16).ok()
+}
+
+fn byte(digits: &str) -> Option<u8> {
+    u8::from_str_radix(digits, 16).ok()
+}
+
+// Whether a word holds, once it is done: `AAAA=VV` writes a byte to an address, `AAAA?VV` reads it there, and `AAAA+` and `AAAA-` say whether the
+// address is the device's.
+fn holds<D: BusDevice>(device: &mut D, word: &str) -> Option<bool> {
+    if let Some((at, v)) = word.split_once('=') {
+        device.write(address(at)?, byte(v)?);
+        return Some(true);
+    }
+    if let Some((at, v)) = word.split_once('?') {
+        return Some(device.read(address(at)?) == byte(v)?);
+    }
+    if let Some((at, _)) = word.split_once('+') {
+        return Some(device.owns(address(at)?));
+    }
+    let (at, _) = word.split_once('-')?;
+    Some(!device.owns(address(at)?))
+}
+
+fn does<D: BusDevice>(device: &mut D, program: &str) -> bool {
+    for word in program.split(' ') {
+        if holds(device, word) != Some(true) {
+            return false;
+        }
+    }
+    true
+}
+
+// Whether what a device spills comes behind the byte that was there, and has so many bytes with it, these among them.
+fn is_spilled<D: BusDevice>(
+    device: &D,
+    mut bytes: Vec<u8>,
+    len: usize,
+    places: &[(usize, u8)],
+) -> bool {
+    let is_done = device.spill(&mut bytes) == Ok(());
+    for (place, want) in places {
+        if bytes.get(*place) != Some(want) {
+            return false;
+        }
+    }
+    is_done && bytes.len() == len
+}
+
 // The card at FCFF and FD00 to FDFF: each page has its own 256 bytes.
 #[test]
 fn a_card_shows_the_page_of_its_register(rt: HostRuntime) -> Result<(), Fail> {
-    let alloc = rt.alloc();
-    let mut card = RamCard::make(alloc)?;
-    assert!(rt; !card.owns(0xfc10) && !card.owns(0xfcfe) && card.owns(0xfcff));
-    assert!(rt; card.owns(0xfd00) && card.owns(0xfdff));
-    card.write(0xfcff, 0x05);
-    card.write(0xfd00, 0x77);
-    card.write(0xfdff, 0x78);
-    card.write(0xfcff, 0xff);
-    card.write(0xfdff, 0x79);
-    assert_eq!(rt;
-        (card.read(0xfcff), card.read(0xfdff), card.read(0xfd00)),
-        (0xff, 0x79, 0)
-    );
-    card.write(0xfcff, 0x05);
-    assert_eq!(rt;
-        (card.read(0xfd00), card.read(0xfd01), card.read(0xfdff)),
-        (0x77, 0, 0x78)
-    );
-    // What the card spills is behind the byte that was there.
-    let mut bytes = vec![in alloc; 0x11]?;
-    assert_eq!(rt; card.spill(&mut bytes), Ok(()));
-    assert_eq!(rt; bytes.len(), 65_537);
-    for (place, want) in [
+    let mut card = RamCard::make(rt.alloc())?;
+    assert!(rt; does(&mut card, "FC10- FCFE- FCFF+ FD00+ FDFF+"));
+    assert!(rt; does(&mut card, "FCFF=05 FD00=77 FDFF=78 FCFF=FF FDFF=79"));
+    assert!(rt; does(&mut card, "FCFF?FF FDFF?79 FD00?00"));
+    assert!(rt; does(&mut card, "FCFF=05 FD00?77 FD01?00 FDFF?78"));
+    let places = [
         (0, 0x11),
         (0x501, 0x77),
         (0x502, 0),
         (0x600, 0x78),
         (0x10000, 0x79),
-    ] {
-        assert_eq!(rt; bytes.get(place).copied(), Some(want), "{place}");
-    }
+    ];
+    let bytes = vec![in rt.alloc(); 0x11]?;
+    assert!(rt; is_spilled(&card, bytes, 65_537, &places));
     Ok(())
 }
 
 // The latch at FC10: it keeps 65,536 bytes.
 #[test]
 fn a_latch_keeps_what_is_written(rt: HostRuntime) -> Result<(), Fail> {
-    let alloc = rt.alloc();
-    let mut latch = PrinterLatch::make(alloc)?;
-    assert!(rt; !latch.owns(0xfc0f) && latch.owns(0xfc10) && !latch.owns(0xfc11));
-    assert_eq!(rt; latch.read(0xfc10), 0);
-    latch.write(0xfc10, 0x41);
-    latch.write(0xfc10, 0x42);
-    assert_eq!(rt; latch.read(0xfc10), 2);
+    let mut latch = PrinterLatch::make(rt.alloc())?;
+    assert!(rt;
+        does(
+            &mut latch,
+            "FC0F- FC10+ FC11- FC10?00 FC10=41 FC10=42 FC10?02"
+        )
+    );
     for n in 2..65_538u32 {
         latch.write(0xfc10, (n % 256) as u8);
     }
-    assert_eq!(rt; latch.read(0xfc10), 0);
-    let mut bytes = vec![in alloc; 0x11]?;
-    assert_eq!(rt; latch.spill(&mut bytes), Ok(()));
-    assert_eq!(rt; bytes.len(), 65_537);
-    for (place, want) in [(0, 0x11), (1, 0x41), (2, 0x42), (3, 0x02), (65_536, 0xff)] {
-        assert_eq!(rt; bytes.get(place).copied(), Some(want), "{place}");
-    }
+    assert!(rt; does(&mut latch, "FC10?00"));
+    let places = [(0, 0x11), (1, 0x41), (2, 0x42), (3, 0x02), (65_536, 0xff)];
+    let bytes = vec![in rt.alloc(); 0x11]?;
+    assert!(rt; is_spilled(&latch, bytes, 65_537, &places));
     Ok(())
 }

@@ -120,7 +120,7 @@ fn shapes_stand_by_code_and_row(rt: HostRuntime) -> Result<(), Fail> {
 }
 
 #[test]
-fn errors_have_texts(rt: HostRuntime) -> Result<(), Fail> {
+fn each_refusal_of_an_image_has_a_text(rt: HostRuntime) -> Result<(), Fail> {
     let text = format!(in rt.alloc(); "{}", RomError::BadOs { len: 16_383 })?;
     assert_eq!(rt; text.as_str(), "the operating system has 16383 bytes");
     let text = format!(in rt.alloc(); "{}", RomError::BadSlot { slot: 4, len: 1 })?;

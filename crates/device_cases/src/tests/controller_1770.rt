@@ -1,8 +1,7 @@
 //! Programs of accesses and steps, with values by hand from the profile of the controller.
-ghost use Rattle.std.specs.Prelude.{◌<◌};
-
 mod programs;
 
+use crate::tests::words::{byte, digit};
 use disc_image::{Disc, Kind};
 use programs::PROGRAMS;
 use std::alloc::Global;
@@ -19,20 +18,6 @@ use wd1770::{
 struct Bench {
     fdc: Fdc,
     single: bool,
-}
-
-fn digit(b: u8) -> u8
-    ensures { result < 16 }
-{
-    if b < b'A' {
-        b.saturating_sub(b'0') % 16
-    } else {
-        b.saturating_sub(b'A' - 10) % 16
-    }
-}
-
-fn byte(high: u8, low: u8) -> u8 {
-    16 * digit(high) + digit(low)
 }
 
 fn number(digits: &[u8]) -> u64 {

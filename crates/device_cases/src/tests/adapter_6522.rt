@@ -1,8 +1,7 @@
 //! Register programs, with values by hand from the data sheet.
-ghost use Rattle.std.specs.Prelude.{◌<◌};
-
 mod programs;
 
+use crate::tests::words::{byte, digit};
 use programs::PROGRAMS;
 use std::process::Abort;
 use via6522::{Pins, Via, timer1_fires_once, timer1_runs_free, timer2_fires_once};
@@ -25,20 +24,6 @@ struct Bench {
     single: bool,
 }
 
-fn digit(b: u8) -> u8
-    ensures { result < 16 }
-{
-    if b < b'A' {
-        b.saturating_sub(b'0') % 16
-    } else {
-        b.saturating_sub(b'A' - 10) % 16
-    }
-}
-
-fn byte(high: u8, low: u8) -> u8 {
-    16 * digit(high) + digit(low)
-}
-
 fn number(digits: &[u8]) -> u64 {
     let mut n: u64 = 0;
     for b in digits {
@@ -59,11 +44,11 @@ impl Bench {
     }
 
     fn line(&mut self, port: u8, number: u8, level: bool) {
-        match (port, number) {
-            (b'A', b'1') => self.pins.ca1 = level,
-            (b'A', _) => self.pins.ca2 = level,
-            (_, b'1') => self.pins.cb1 = level,
-            _ => self.pins.cb2 = level,
+        match (port == b'A', number == b'1') {
+            (true, true) => self.pins.ca1 = level,
+            (true, false) => self.pins.ca2 = level,
+            (false, true) => self.pins.cb1 = level,
+            (false, false) => self.pins.cb2 = level,
         }
     }
 

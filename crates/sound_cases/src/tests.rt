@@ -1,4 +1,0 @@
-//! Tables of cases, by the public calls of both crates.
-mod converter;
-mod sound;
-mod words;
