@@ -53,6 +53,3 @@ pub fn ppm(alloc: Global, frame: &Frame) -> Result<Vec<u8>, NoMemory>
 {
     pixmap(alloc, &frame.colours).map_err(|_| NoMemory)
 }
-
-#[cfg(test)]
-mod tests;

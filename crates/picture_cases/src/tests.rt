@@ -1,5 +1,6 @@
 //! Tables of cases, by the public calls of each crate.
-mod character_clock;
+mod crtc_6845;
 mod frames;
-mod pixels;
-mod teletext;
+mod pixmaps;
+mod teletext_5050;
+mod ula;

@@ -5,24 +5,37 @@ use std::alloc::Global;
 use std::test::Fail;
 use std::vec::Vec;
 
-// A font with a few shapes, the other codes blank. Bits 6 and 7 of a row have no meaning.
+// A line is a code and the rows of its shape. 41 is full, 42 has its upper rows and 43 its lower ones; 44 has two dots of a diagonal to the left, and 45
+// one to the right; 46 one dot above another; 47 has its corners. The other codes are blank. Bits 6 and 7 of a row have no meaning.
+const SHAPES: &str = "\
+41 3F 3F 3F 3F 3F 3F 3F 3F 3F 3F
+42 3F 3F 3F 3F 3F C0 C0 C0 C0 C0
+43 00 00 00 00 00 FF FF FF FF FF
+44 04 08 00 00 00 00 00 00 00 00
+45 08 04 00 00 00 00 00 00 00 00
+46 0C 04 00 00 00 00 00 00 00 00
+47 21 00 00 00 00 00 00 00 00 21
+";
+
+fn number(digits: &str) -> u8 {
+    u8::from_str_radix(digits, 16).unwrap_or(0)
+}
+
+fn put_shape(bytes: &mut Vec<u8>, line: &str) {
+    let (code, rows) = line.split_once(' ').unwrap_or((line, ""));
+    let start = usize::from(number(code).saturating_sub(0x20)) * 10;
+    for (row, digits) in rows.split(' ').enumerate() {
+        if let Some(at) = bytes.get_mut(start.saturating_add(row)) {
+            *at = number(digits);
+        }
+    }
+}
+
 fn font(alloc: Global) -> Result<RomSet, Fail> {
     let mut bytes = vec![in alloc; 0; 960]?;
-    for row in 0..10usize {
-        // 41 is full, 42 has its upper rows and 43 its lower ones.
-        bytes[330 + row] = 0x3f;
-        bytes[340 + row] = if row < 5 { 0x3f } else { 0xc0 };
-        bytes[350 + row] = if row < 5 { 0 } else { 0xff };
+    for line in SHAPES.lines() {
+        put_shape(&mut bytes, line);
     }
-    // 44 has two dots of a diagonal to the left, and 45 one to the right; 46 one dot above another; 47 has its corners.
-    bytes[360] = 0x04;
-    bytes[361] = 0x08;
-    bytes[370] = 0x08;
-    bytes[371] = 0x04;
-    bytes[380] = 0x0c;
-    bytes[381] = 0x04;
-    bytes[390] = 0x21;
-    bytes[399] = 0x21;
     roms(alloc, Some(bytes))
 }
 
@@ -75,24 +88,37 @@ fn lit(font: &RomSet, codes: [u8; 3], ra: u8, bottom: bool) -> u16 {
     lit
 }
 
+// The colours of the cells of these codes, as digits, in one line of a row.
+fn are_cells(font: &RomSet, codes: &[u8], ra: u8, cells: &str) -> bool {
+    let mut row = RowState::start();
+    for (code, digits) in codes.iter().zip(cells.split(' ')) {
+        let mut cell = [9; 16];
+        row.put(font, *code % 0x80, ra, false, 0, &mut cell);
+        let want = digits.as_bytes();
+        if !cell
+            .iter()
+            .map(|colour| colour.wrapping_add(b'0'))
+            .eq(want.iter().copied())
+        {
+            return false;
+        }
+    }
+    true
+}
+
+// Three cells of control codes, three of red graphics, and one of the new background.
+const DOTS: &str =
+    "0000000000000000 0000000000000000 0000000000000000 0001111100011111 0001111100011111 0001111100011111 2222222222222222";
+
+const GAP: &str =
+    "0000000000000000 0000000000000000 0000000000000000 0000000000000000 0000000000000000 0000000000000000 2222222222222222";
+
 #[test]
 fn held_and_separated_graphics_of_double_height(rt: HostRuntime) -> Result<(), Fail> {
     let font = roms(rt.alloc(), None)?;
     let codes = [0x0d, 0x11, 0x1a, 0x7f, 0x1e, 0x12, 0x1d];
-    let red = [0, 0, 0, 1, 1, 1, 1, 1, 0, 0, 0, 1, 1, 1, 1, 1];
-    let (black, green) = ([0; 16], [2; 16]);
-    let lines = [
-        (0, [black, black, black, red, red, red, green]),
-        (8, [black, black, black, black, black, black, green]),
-    ];
-    for (ra, cells) in lines {
-        let mut row = RowState::start();
-        for (code, want) in codes.iter().zip(cells) {
-            let mut cell = [9; 16];
-            row.put(&font, *code % 0x80, ra, false, 0, &mut cell);
-            assert_eq!(rt; cell, want, "line {ra}, code {code}");
-        }
-    }
+    assert!(rt; are_cells(&font, &codes, 0, DOTS));
+    assert!(rt; are_cells(&font, &codes, 8, GAP));
     Ok(())
 }
 
@@ -248,67 +274,84 @@ fn each_control_code_has_its_effect(rt: HostRuntime) -> Result<(), Fail> {
     Ok(())
 }
 
+// A line is the codes, of which the last is drawn, the scan line, whether the row is a bottom row, and the pixels that are lit. The half dots 0 to 11 are
+// the pixels 0 1, 2, 3, 4 5, 6, 7, 8 9, 10, 11, 12 13, 14 and 15.
+const DRAWN: &str = "\
+# Dot 3 above dot 2: half dot 5 joins the dot above, and half dot 6 that below.
+20 20 44 0 top 0000000011100000
+20 20 44 1 top 0000000111100000
+20 20 44 2 top 0000001111000000
+20 20 44 3 top 0000001100000000
+20 20 44 4 top 0000000000000000
+# Dot 2 above dot 3.
+20 20 45 0 top 0000001100000000
+20 20 45 1 top 0000001111000000
+20 20 45 2 top 0000000111100000
+20 20 45 3 top 0000000011100000
+# Dots 2 and 3 above dot 3 are no diagonal.
+20 20 46 1 top 0000001111100000
+20 20 46 2 top 0000000011100000
+# The first and the last dot, on the first line and the last.
+20 20 47 0 top 1110000000000011
+20 20 47 19 top 1110000000000011
+20 20 47 20 top 0000000000000000
+20 20 41 31 top 0000000000000000
+# Of double height each line is there twice.
+20 0D 44 1 top 0000000011100000
+20 0D 44 2 top 0000000111100000
+20 0D 44 5 top 0000001111000000
+20 0D 47 19 top 0000000000000000
+20 0D 47 18 bottom 1110000000000011
+20 0D 47 0 bottom 0000000000000000
+# The six parts of a block.
+20 11 21 0 top 1111111100000000
+20 11 21 5 top 1111111100000000
+20 11 21 6 top 0000000000000000
+20 11 22 5 top 0000000011111111
+20 11 24 5 top 0000000000000000
+20 11 24 6 top 1111111100000000
+20 11 24 13 top 1111111100000000
+20 11 28 13 top 0000000011111111
+20 11 28 14 top 0000000000000000
+20 11 30 13 top 0000000000000000
+20 11 30 14 top 1111111100000000
+20 11 30 19 top 1111111100000000
+20 11 60 19 top 0000000011111111
+0D 11 30 8 bottom 1111111100000000
+# The same with gaps.
+11 1A 7F 3 top 0001111100011111
+11 1A 7F 4 top 0000000000000000
+11 1A 7F 5 top 0000000000000000
+11 1A 7F 6 top 0001111100011111
+11 1A 7F 12 top 0000000000000000
+11 1A 7F 13 top 0000000000000000
+11 1A 7F 17 top 0001111100011111
+11 1A 7F 18 top 0000000000000000
+11 1A 7F 19 top 0000000000000000
+11 1A 22 0 top 0000000000011111
+";
+
+// Whether a shape is drawn as its line says.
+fn is_drawn(font: &RomSet, line: &str) -> Option<bool> {
+    let mut words = line.split(' ');
+    let codes = [
+        number(words.next()?),
+        number(words.next()?),
+        number(words.next()?),
+    ];
+    let ra = words.next()?.parse().ok()?;
+    let is_bottom = words.next()? == "bottom";
+    let want = u16::from_str_radix(words.next()?, 2).ok()?;
+    Some(lit(font, codes, ra, is_bottom) == want)
+}
+
 #[test]
 fn shapes_are_drawn_by_half_dots(rt: HostRuntime) -> Result<(), Fail> {
     let font = font(rt.alloc())?;
-    // The codes, of which the last is drawn, the line, whether the row is a bottom row, and the pixels. The half dots 0 to 11 are the
-    // pixels 0 1, 2, 3, 4 5, 6, 7, 8 9, 10, 11, 12 13, 14 and 15.
-    let rows = [
-        // Dot 3 above dot 2: half dot 5 joins the dot above, and half dot 6 that below.
-        ([0x20, 0x20, 0x44], 0, false, 0b0000_0000_1110_0000),
-        ([0x20, 0x20, 0x44], 1, false, 0b0000_0001_1110_0000),
-        ([0x20, 0x20, 0x44], 2, false, 0b0000_0011_1100_0000),
-        ([0x20, 0x20, 0x44], 3, false, 0b0000_0011_0000_0000),
-        ([0x20, 0x20, 0x44], 4, false, 0),
-        // Dot 2 above dot 3.
-        ([0x20, 0x20, 0x45], 0, false, 0b0000_0011_0000_0000),
-        ([0x20, 0x20, 0x45], 1, false, 0b0000_0011_1100_0000),
-        ([0x20, 0x20, 0x45], 2, false, 0b0000_0001_1110_0000),
-        ([0x20, 0x20, 0x45], 3, false, 0b0000_0000_1110_0000),
-        // Dots 2 and 3 above dot 3 are no diagonal.
-        ([0x20, 0x20, 0x46], 1, false, 0b0000_0011_1110_0000),
-        ([0x20, 0x20, 0x46], 2, false, 0b0000_0000_1110_0000),
-        // The first and the last dot, on the first line and the last.
-        ([0x20, 0x20, 0x47], 0, false, 0b1110_0000_0000_0011),
-        ([0x20, 0x20, 0x47], 19, false, 0b1110_0000_0000_0011),
-        ([0x20, 0x20, 0x47], 20, false, 0),
-        ([0x20, 0x20, 0x41], 31, false, 0),
-        // Of double height each line is there twice.
-        ([0x20, 0x0d, 0x44], 1, false, 0b0000_0000_1110_0000),
-        ([0x20, 0x0d, 0x44], 2, false, 0b0000_0001_1110_0000),
-        ([0x20, 0x0d, 0x44], 5, false, 0b0000_0011_1100_0000),
-        ([0x20, 0x0d, 0x47], 19, false, 0),
-        ([0x20, 0x0d, 0x47], 18, true, 0b1110_0000_0000_0011),
-        ([0x20, 0x0d, 0x47], 0, true, 0),
-        // The six parts of a block.
-        ([0x20, 0x11, 0x21], 0, false, 0xff00),
-        ([0x20, 0x11, 0x21], 5, false, 0xff00),
-        ([0x20, 0x11, 0x21], 6, false, 0),
-        ([0x20, 0x11, 0x22], 5, false, 0x00ff),
-        ([0x20, 0x11, 0x24], 5, false, 0),
-        ([0x20, 0x11, 0x24], 6, false, 0xff00),
-        ([0x20, 0x11, 0x24], 13, false, 0xff00),
-        ([0x20, 0x11, 0x28], 13, false, 0x00ff),
-        ([0x20, 0x11, 0x28], 14, false, 0),
-        ([0x20, 0x11, 0x30], 13, false, 0),
-        ([0x20, 0x11, 0x30], 14, false, 0xff00),
-        ([0x20, 0x11, 0x30], 19, false, 0xff00),
-        ([0x20, 0x11, 0x60], 19, false, 0x00ff),
-        ([0x0d, 0x11, 0x30], 8, true, 0xff00),
-        // The same with gaps.
-        ([0x11, 0x1a, 0x7f], 3, false, 0x1f1f),
-        ([0x11, 0x1a, 0x7f], 4, false, 0),
-        ([0x11, 0x1a, 0x7f], 5, false, 0),
-        ([0x11, 0x1a, 0x7f], 6, false, 0x1f1f),
-        ([0x11, 0x1a, 0x7f], 12, false, 0),
-        ([0x11, 0x1a, 0x7f], 13, false, 0),
-        ([0x11, 0x1a, 0x7f], 17, false, 0x1f1f),
-        ([0x11, 0x1a, 0x7f], 18, false, 0),
-        ([0x11, 0x1a, 0x7f], 19, false, 0),
-        ([0x11, 0x1a, 0x22], 0, false, 0x001f),
-    ];
-    for (codes, ra, bottom, want) in rows {
-        assert_eq!(rt; lit(&font, codes, ra, bottom), want, "{codes:?} {ra}");
+    for line in DRAWN.lines() {
+        if !line.starts_with('#') {
+            assert!(rt; is_drawn(&font, line) == Some(true), "{line}");
+        }
     }
     let blank = roms(rt.alloc(), None)?;
     assert_eq!(rt; lit(&blank, [0x20, 0x20, 0x41], 0, false), 0);
