@@ -5,8 +5,6 @@ ghost use Rattle.std.specs.Prelude.{ℕ, ◌<◌};
 ghost use Rattle.cpu6502.specs.Sequences.{TakesAtLeast, MayTakeJust};
 
 mod cpu;
-#[cfg(test)]
-mod tests;
 
 pub use cpu::Cpu;
 

@@ -6,6 +6,8 @@ use cpu_alu::{
     ror, sbc, with_flag, word, wrapping_sum,
 };
 use op_table::{Mnemonic, Mode, Part};
+use std::alloc::{AllocError, Global};
+use std::test::Fail;
 
 /// A sum in decimal mode, digit by digit: the byte, C, V and N1, which is N on the NMOS part.
 fn sum_by_digits(a: u8, m: u8, c: bool) -> (u8, bool, bool, bool) {
@@ -93,178 +95,128 @@ fn decimal_mode_goes_digit_by_digit(rt: HostRuntime) {
     }
 }
 
-// The signed sums of the MCS6500 Programming Manual, section 2.2: 5 + 7, 127 + 2, 5 - 3, 5 - 7, -5 - 7, -66 - 65.
+// The signed sums of the MCS6500 Programming Manual, section 2.2: 5 + 7, 127 + 2, 5 - 3, 5 - 7, -5 - 7, -66 - 65. A line is A, m and the carry, m with all
+// bits inverted, and the sum and which of C, Z, V and N are set: A + m is A less NOT m.
+const BINARY: &str = "\
+05 + 07 -@05 - F8 -@0C ----
+7F + 02 -@7F - FD -@81 --VN
+05 + FD -@05 - 02 -@02 C---
+05 + F9 -@05 - 06 -@FE ---N
+FB + F9 -@FB - 06 -@F4 C--N
+BE + BF -@BE - 40 -@7D C-V-
+FF + 00 C@FF - FF C@00 CZ--
+80 + 80 -@80 - 7F -@00 CZV-
+";
+
 #[test]
-fn binary_sums_overflow_where_the_sign_is_wrong(rt: HostRuntime) {
-    // A, m, the carry, the sum, and then C, Z, V, N
-    let rows = [
-        (0x05, 0x07, false, 0x0C, false, false, false, false),
-        (0x7F, 0x02, false, 0x81, false, false, true, true),
-        (0x05, 0xFD, false, 0x02, true, false, false, false),
-        (0x05, 0xF9, false, 0xFE, false, false, false, true),
-        (0xFB, 0xF9, false, 0xF4, true, false, false, true),
-        (0xBE, 0xBF, false, 0x7D, true, false, true, false),
-        (0xFF, 0x00, true, 0x00, true, true, false, false),
-        (0x80, 0x80, false, 0x00, true, true, true, false),
-    ];
-    for part in [Part::Nmos, Part::Cmos] {
-        for (a, m, carry, value, c, z, v, n) in rows {
-            let sum = adc(part, false, a, m, carry);
-            assert_eq!(rt; sum.value, value, "{a} plus {m}");
-            assert_eq!(rt; (sum.c, sum.z, sum.v, sum.n), (c, z, v, n), "{a} plus {m}");
-            // A + m is A less NOT m
-            let sum = sbc(part, false, a, !m, carry);
-            assert_eq!(rt; sum.value, value, "{a} less not {m}");
-            assert_eq!(rt;
-                (sum.c, sum.z, sum.v, sum.n),
-                (c, z, v, n),
-                "{a} less not {m}"
-            );
+fn binary_sums_overflow_where_the_sign_is_wrong(rt: HostRuntime) -> Result<(), Fail> {
+    for line in BINARY.lines() {
+        let (plus, rest) = line.split_once('@').unwrap_or((line, ""));
+        let (less, want) = rest.split_once('@').unwrap_or((rest, ""));
+        for part in [Part::Nmos, Part::Cmos] {
+            let is_sum = comes_to(rt.alloc(), part, false, plus, want)?;
+            let is_difference = comes_to(rt.alloc(), part, false, less, want)?;
+            assert!(rt; is_sum && is_difference, "{line}");
         }
     }
+    Ok(())
 }
 
-#[test]
-fn decimal_flags_and_odd_digits_go_by_the_part(rt: HostRuntime) {
-    // A, m, the carry, and for each part the value and C, Z, V, N
-    let sums = [
-        (
-            0x99,
-            0x01,
-            false,
-            (0x00, true, false, false, true),
-            (0x00, true, true, false, false),
-        ),
-        (
-            0x80,
-            0x80,
-            false,
-            (0x60, true, true, true, false),
-            (0x60, true, false, true, false),
-        ),
-        (
-            0x0F,
-            0x01,
-            false,
-            (0x16, false, false, false, false),
-            (0x16, false, false, false, false),
-        ),
-        (
-            0x0A,
-            0x00,
-            false,
-            (0x10, false, false, false, false),
-            (0x10, false, false, false, false),
-        ),
-        (
-            0xFF,
-            0xFF,
-            true,
-            (0x55, true, false, false, true),
-            (0x55, true, false, false, false),
-        ),
-    ];
-    for (a, m, carry, nmos, cmos) in sums {
-        let sum = adc(Part::Nmos, true, a, m, carry);
-        assert_eq!(rt;
-            (sum.value, sum.c, sum.z, sum.v, sum.n),
-            nmos,
-            "{a} plus {m}"
-        );
-        let sum = adc(Part::Cmos, true, a, m, carry);
-        assert_eq!(rt;
-            (sum.value, sum.c, sum.z, sum.v, sum.n),
-            cmos,
-            "{a} plus {m}"
-        );
+// A line is A, an operation, m and the carry; and for each part, the NMOS first, the value and which of C, Z, V and N are set.
+const DECIMAL: &str = "\
+99 + 01 -@00 C--N@00 CZ--
+80 + 80 -@60 CZV-@60 C-V-
+0F + 01 -@16 ----@16 ----
+0A + 00 -@10 ----@10 ----
+FF + FF C@55 C--N@55 C---
+00 - 01 C@99 ---N@99 ---N
+00 - 60 C@40 ---N@40 ----
+0F - 00 C@0F C---@0F C---
+00 - 0F C@9B ---N@8B ---N
+";
+
+// The value and the flags of a sum.
+fn told(alloc: Global, sum: Sum) -> Result<String, AllocError> {
+    let c = if sum.c { 'C' } else { '-' };
+    let z = if sum.z { 'Z' } else { '-' };
+    let v = if sum.v { 'V' } else { '-' };
+    let n = if sum.n { 'N' } else { '-' };
+    format!(in alloc; "{:02X} {c}{z}{v}{n}", sum.value)
+}
+
+fn byte(digits: &str) -> Option<u8> {
+    u8::from_str_radix(digits, 16).ok()
+}
+
+// The operation of a line's beginning on a part, in decimal mode or not.
+fn sum_of(part: Part, decimal: bool, head: &str) -> Option<Sum> {
+    let mut words = head.split(' ');
+    let a = byte(words.next()?)?;
+    let operation = words.next()?;
+    let m = byte(words.next()?)?;
+    let carry = words.next()? == "C";
+    match operation {
+        "+" => Some(adc(part, decimal, a, m, carry)),
+        "-" => Some(sbc(part, decimal, a, m, carry)),
+        "asl" => Some(asl(m, carry)),
+        "lsr" => Some(lsr(m, carry)),
+        "rol" => Some(rol(m, carry)),
+        "ror" => Some(ror(m, carry)),
+        "cmp" => Some(compare(a, m)),
+        _ => None,
     }
-    let differences = [
-        (
-            0x00,
-            0x01,
-            true,
-            (0x99, false, false, false, true),
-            (0x99, false, false, false, true),
-        ),
-        (
-            0x00,
-            0x60,
-            true,
-            (0x40, false, false, false, true),
-            (0x40, false, false, false, false),
-        ),
-        (
-            0x0F,
-            0x00,
-            true,
-            (0x0F, true, false, false, false),
-            (0x0F, true, false, false, false),
-        ),
-        (
-            0x00,
-            0x0F,
-            true,
-            (0x9B, false, false, false, true),
-            (0x8B, false, false, false, true),
-        ),
-    ];
-    for (a, m, carry, nmos, cmos) in differences {
-        let sum = sbc(Part::Nmos, true, a, m, carry);
-        assert_eq!(rt;
-            (sum.value, sum.c, sum.z, sum.v, sum.n),
-            nmos,
-            "{a} less {m}"
-        );
-        let sum = sbc(Part::Cmos, true, a, m, carry);
-        assert_eq!(rt;
-            (sum.value, sum.c, sum.z, sum.v, sum.n),
-            cmos,
-            "{a} less {m}"
-        );
+}
+
+// Whether the operation of a line's beginning comes to this on a part.
+fn comes_to(
+    alloc: Global,
+    part: Part,
+    decimal: bool,
+    head: &str,
+    want: &str,
+) -> Result<bool, AllocError> {
+    match sum_of(part, decimal, head) {
+        Some(sum) => Ok(told(alloc, sum)?.as_str() == want),
+        None => Ok(false),
     }
 }
 
 #[test]
-fn shifts_and_comparisons(rt: HostRuntime) {
-    // the shift, m, the carry, the value and C, Z, N
-    let shifts = [
-        (Mnemonic::Asl, 0x81, true, 0x02, true, false, false),
-        (Mnemonic::Asl, 0x40, true, 0x80, false, false, true),
-        (Mnemonic::Lsr, 0x81, true, 0x40, true, false, false),
-        (Mnemonic::Lsr, 0x01, true, 0x00, true, true, false),
-        (Mnemonic::Rol, 0x81, true, 0x03, true, false, false),
-        (Mnemonic::Rol, 0x80, false, 0x00, true, true, false),
-        (Mnemonic::Ror, 0x81, true, 0xC0, true, false, true),
-        (Mnemonic::Ror, 0x80, false, 0x40, false, false, false),
-    ];
-    for (shift, m, carry, value, c, z, n) in shifts {
-        let sum = match shift {
-            Mnemonic::Asl => asl(m, carry),
-            Mnemonic::Lsr => lsr(m, carry),
-            Mnemonic::Rol => rol(m, carry),
-            _ => ror(m, carry),
-        };
-        assert_eq!(rt;
-            (sum.value, sum.c, sum.z, sum.v, sum.n),
-            (value, c, z, false, n),
-            "{m}"
-        );
+fn decimal_flags_and_odd_digits_go_by_the_part(rt: HostRuntime) -> Result<(), Fail> {
+    for line in DECIMAL.lines() {
+        let (head, rest) = line.split_once('@').unwrap_or((line, ""));
+        let (nmos, cmos) = rest.split_once('@').unwrap_or((rest, ""));
+        let is_nmos = comes_to(rt.alloc(), Part::Nmos, true, head, nmos)?;
+        let is_cmos = comes_to(rt.alloc(), Part::Cmos, true, head, cmos)?;
+        assert!(rt; is_nmos && is_cmos, "{line}");
     }
-    // the register, m, the difference and C, Z, N
-    let comparisons = [
-        (0x50, 0x30, 0x20, true, false, false),
-        (0x30, 0x30, 0x00, true, true, false),
-        (0x30, 0x50, 0xE0, false, false, true),
-        (0x80, 0x01, 0x7F, true, false, false),
-    ];
-    for (r, m, value, c, z, n) in comparisons {
-        let sum = compare(r, m);
-        assert_eq!(rt;
-            (sum.value, sum.c, sum.z, sum.v, sum.n),
-            (value, c, z, false, n),
-            "{r}"
-        );
+    Ok(())
+}
+
+// A line is the register, an operation, m and the carry, and the value and which of C, Z, V and N are set.
+const SHIFTS: &str = "\
+00 asl 81 C@02 C---
+00 asl 40 C@80 ---N
+00 lsr 81 C@40 C---
+00 lsr 01 C@00 CZ--
+00 rol 81 C@03 C---
+00 rol 80 -@00 CZ--
+00 ror 81 C@C0 C--N
+00 ror 80 -@40 ----
+50 cmp 30 -@20 C---
+30 cmp 30 -@00 CZ--
+30 cmp 50 -@E0 ---N
+80 cmp 01 -@7F C---
+";
+
+#[test]
+fn shifts_and_comparisons_set_c_z_and_n(rt: HostRuntime) -> Result<(), Fail> {
+    for line in SHIFTS.lines() {
+        let (head, want) = line.split_once('@').unwrap_or((line, ""));
+        let is_right = comes_to(rt.alloc(), Part::Nmos, false, head, want)?;
+        assert!(rt; is_right, "{line}");
     }
+    Ok(())
 }
 
 #[test]
@@ -277,20 +229,20 @@ fn addresses_wrap(rt: HostRuntime) {
         s: 0xFF,
         p: 0,
     };
-    assert_eq!(rt; word(0x34, 0x12), 0x1234);
-    assert_eq!(rt; wrapping_sum(0xFFFF, 2), 0x0001);
-    assert_eq!(rt; in_zero_page(0xFF, 2), 0x0001);
-    assert!(rt; crosses_page(0xFF, 1));
-    assert!(rt; !crosses_page(0xFE, 1));
-    assert_eq!(rt; regs.place(2), 0x0000);
-    assert_eq!(rt; regs.stack(0), 0x01FF);
-    assert_eq!(rt; regs.stack(1), 0x0100);
+    let sums = (
+        word(0x34, 0x12),
+        wrapping_sum(0xFFFF, 2),
+        in_zero_page(0xFF, 2),
+    );
+    assert!(rt; sums == (0x1234, 0x0001, 0x0001));
+    assert!(rt; crosses_page(0xFF, 1) && !crosses_page(0xFE, 1));
+    let places = (regs.place(2), regs.stack(0), regs.stack(1));
+    assert!(rt; places == (0x0000, 0x01FF, 0x0100));
     // two bytes on from FFFE, and then 16 back
     assert_eq!(rt; regs.target(0xF0), 0xFFF0);
     regs.move_stack(2);
-    assert_eq!(rt; regs.s, 0x01);
     regs.move_past(3);
-    assert_eq!(rt; regs.pc, 0x0001);
+    assert!(rt; (regs.s, regs.pc) == (0x01, 0x0001));
 }
 
 #[test]
@@ -307,25 +259,26 @@ fn instructions_change_registers_and_flags(rt: HostRuntime) {
     assert_eq!(rt; regs.p, 0xC2);
     regs.do_read(Part::Cmos, Mnemonic::Bit, Mode::Imm, 0x01);
     assert_eq!(rt; regs.p, 0xC0);
-    assert!(rt; has_flag(regs.p, 0x80));
-    assert_eq!(rt; with_flag(regs.p, 0x80, false), 0x40);
-    assert!(rt; regs.takes(Mnemonic::Bmi));
-    assert!(rt; !regs.takes(Mnemonic::Bvc));
-    assert_eq!(rt; regs.pushed(Mnemonic::Php), 0xF0);
-    assert_eq!(rt; regs.stored(Mnemonic::Sty), 0x33);
+    let flags = (has_flag(regs.p, 0x80), with_flag(regs.p, 0x80, false));
+    assert!(rt; flags == (true, 0x40));
+    assert!(rt; regs.takes(Mnemonic::Bmi) && !regs.takes(Mnemonic::Bvc));
+    let bytes = (regs.pushed(Mnemonic::Php), regs.stored(Mnemonic::Sty));
+    assert!(rt; bytes == (0xF0, 0x33));
     regs.do_implied(Mnemonic::Sed);
-    assert!(rt; regs.is_decimal(Mnemonic::Adc));
-    assert!(rt; !regs.is_decimal(Mnemonic::And));
-    assert_eq!(rt; regs.modified(Mnemonic::Tsb, 0xF0), 0xFF);
-    assert_eq!(rt; regs.modified(Mnemonic::Trb, 0xFF), 0xF0);
+    assert!(rt; regs.is_decimal(Mnemonic::Adc) && !regs.is_decimal(Mnemonic::And));
+    let bytes = (
+        regs.modified(Mnemonic::Tsb, 0xF0),
+        regs.modified(Mnemonic::Trb, 0xFF),
+    );
+    assert!(rt; bytes == (0xFF, 0xF0));
     regs.do_modify(Mnemonic::Dec, Mode::Zp, 0x01);
     assert_eq!(rt; regs.p, 0x4A);
     regs.do_modify(Mnemonic::Asl, Mode::Acc, 0);
-    assert_eq!(rt; (regs.a, regs.p), (0x1E, 0x48));
+    assert!(rt; (regs.a, regs.p) == (0x1E, 0x48));
     regs.do_implied(Mnemonic::Txs);
-    assert_eq!(rt; (regs.s, regs.p), (0x80, 0x48));
+    assert!(rt; (regs.s, regs.p) == (0x80, 0x48));
     regs.do_pull(Mnemonic::Plp, 0xFF);
     assert_eq!(rt; regs.p, 0xCF);
-    assert_eq!(rt; bus_use(Mnemonic::Trb), BusUse::Modifies);
-    assert_eq!(rt; bus_use(Mnemonic::Nop), BusUse::Implied);
+    let uses = (bus_use(Mnemonic::Trb), bus_use(Mnemonic::Nop));
+    assert!(rt; uses == (BusUse::Modifies, BusUse::Implied));
 }

@@ -224,7 +224,7 @@ fn images_fill_the_memory_and_no_more(rt: HostRuntime) -> Result<(), Fail> {
 }
 
 #[test]
-fn errors_have_their_texts(rt: HostRuntime) -> Result<(), Fail> {
+fn each_refusal_of_a_source_text_has_a_text(rt: HostRuntime) -> Result<(), Fail> {
     let rows = [
         (AsmError::Syntax { line: 1 }, "line 1: syntax"),
         (

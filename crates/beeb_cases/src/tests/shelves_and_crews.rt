@@ -146,23 +146,22 @@ fn a_crew_works_both_jobs_or_counts_a_fault(rt: HostRuntime) {
 }
 
 #[test]
-fn errors_have_texts(rt: HostRuntime) -> Result<(), Fail> {
-    let alloc = rt.alloc();
-    let rows = [
-        (
-            format!(in alloc; "{}", ShelfError::Failed)?,
-            "cannot read the file",
-        ),
-        (
-            format!(in alloc; "{}", ShelfError::TooLong { cap: 32768 })?,
-            "more than 32768 bytes",
-        ),
-        (format!(in alloc; "{}", ShelfError::NoMemory)?, "no memory"),
-        (format!(in alloc; "{}", PutError::Failed)?, "cannot write"),
-        (format!(in alloc; "{}", PutError::NoMemory)?, "no memory"),
+fn each_refusal_of_a_shelf_or_an_outlet_has_a_text(rt: HostRuntime) -> Result<(), Fail> {
+    let shelf = [
+        (ShelfError::Failed, "cannot read the file"),
+        (ShelfError::TooLong { cap: 32768 }, "more than 32768 bytes"),
+        (ShelfError::NoMemory, "no memory"),
     ];
-    for (text, want) in rows {
-        assert_eq!(rt; text.as_str(), want);
+    for (error, want) in shelf {
+        let text = format!(in rt.alloc(); "{error}")?;
+        assert!(rt; text.as_str() == want, "{want}");
+    }
+    for (error, want) in [
+        (PutError::Failed, "cannot write"),
+        (PutError::NoMemory, "no memory"),
+    ] {
+        let text = format!(in rt.alloc(); "{error}")?;
+        assert!(rt; text.as_str() == want, "{want}");
     }
     Ok(())
 }
