@@ -1,5 +1,5 @@
 //! How many cycles the host's accesses take: the first and the last address of each area, from an even and from an odd cycle.
-use super::scene::first_wrong;
+use super::scene::all_hold;
 use std::test::Fail;
 
 const SCENES: &str = "\
@@ -509,11 +509,5 @@ line o.report tube 64
 
 #[test]
 fn an_access_takes_the_cycles_of_its_area(rt: HostRuntime) -> Result<(), Fail> {
-    let wrong = first_wrong(&rt, rt.alloc(), SCENES)?;
-    assert!(rt;
-        wrong.is_none(),
-        "{}",
-        wrong.unwrap_or(String::new(rt.alloc()))
-    );
-    Ok(())
+    all_hold(&rt, rt.alloc(), SCENES)
 }

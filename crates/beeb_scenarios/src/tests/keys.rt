@@ -1,5 +1,5 @@
 //! Key scripts: typed keys and interrupts of a timer, worked out by hand, and why a script is refused.
-use super::scene::first_wrong;
+use super::scene::all_hold;
 use std::test::Fail;
 
 const SCENES: &str = "\
@@ -152,11 +152,5 @@ line o.report frames 0
 
 #[test]
 fn keys_are_typed_by_a_script(rt: HostRuntime) -> Result<(), Fail> {
-    let wrong = first_wrong(&rt, rt.alloc(), SCENES)?;
-    assert!(rt;
-        wrong.is_none(),
-        "{}",
-        wrong.unwrap_or(String::new(rt.alloc()))
-    );
-    Ok(())
+    all_hold(&rt, rt.alloc(), SCENES)
 }

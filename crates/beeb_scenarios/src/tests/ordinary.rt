@@ -1,12 +1,12 @@
 //! Ordinary use: an operating system with a language, a filing system, a disc, a second processor, typed keys and pictures; and the
 //! demonstration.
-use super::scene::first_wrong;
+use super::scene::all_hold;
 use std::test::Fail;
 
 const SCENES: &str = "\
 # The operating system sets up a page of teletext, scans the keyboard on a timer's interrupts, shows each key as a mosaic and tells the
-# second processor of it. The filing system's interrupts of the disc controller are at 0D00. It loads a sector and saves it in another;
-# the language shows 16 of its bytes.
+## second processor of it. The filing system's interrupts of the disc controller are at 0D00. It loads a sector and saves it in another;
+## the language shows 16 of its bytes.
 os
 |         org &C000
 | start:  LDX #&FF
@@ -287,12 +287,6 @@ $ gen 1
 ";
 
 #[test]
-fn an_evening_with_both_machines(rt: HostRuntime) -> Result<(), Fail> {
-    let wrong = first_wrong(&rt, rt.alloc(), SCENES)?;
-    assert!(rt;
-        wrong.is_none(),
-        "{}",
-        wrong.unwrap_or(String::new(rt.alloc()))
-    );
-    Ok(())
+fn both_machines_show_keys_and_the_demonstration_has_its_sum(rt: HostRuntime) -> Result<(), Fail> {
+    all_hold(&rt, rt.alloc(), SCENES)
 }

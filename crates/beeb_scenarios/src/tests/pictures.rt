@@ -1,5 +1,5 @@
 //! Frames: taken by shots of a key script, and written as pixmaps.
-use super::scene::first_wrong;
+use super::scene::all_hold;
 use std::test::Fail;
 
 const SCENES: &str = "\
@@ -191,11 +191,5 @@ none o.trace
 
 #[test]
 fn shots_are_written_as_pixmaps(rt: HostRuntime) -> Result<(), Fail> {
-    let wrong = first_wrong(&rt, rt.alloc(), SCENES)?;
-    assert!(rt;
-        wrong.is_none(),
-        "{}",
-        wrong.unwrap_or(String::new(rt.alloc()))
-    );
-    Ok(())
+    all_hold(&rt, rt.alloc(), SCENES)
 }

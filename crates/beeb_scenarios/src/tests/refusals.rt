@@ -1,5 +1,5 @@
 //! Refusals: calls that fail, the order of causes, and what stands after each.
-use super::scene::first_wrong;
+use super::scene::all_hold;
 use std::test::Fail;
 
 const SCENES: &str = "\
@@ -18,7 +18,7 @@ $ check absent
 none out
 t
 | 0000000000 H R 0 40
-fails 1 1
+fails 1,2 1,2
 $ check t
 = 0: ok 1
 none out
@@ -405,11 +405,5 @@ size o.trace 0
 
 #[test]
 fn each_call_that_fails_and_each_first_cause_is_told(rt: HostRuntime) -> Result<(), Fail> {
-    let wrong = first_wrong(&rt, rt.alloc(), SCENES)?;
-    assert!(rt;
-        wrong.is_none(),
-        "{}",
-        wrong.unwrap_or(String::new(rt.alloc()))
-    );
-    Ok(())
+    all_hold(&rt, rt.alloc(), SCENES)
 }

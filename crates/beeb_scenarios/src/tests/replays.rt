@@ -1,5 +1,5 @@
 //! Replays of one machine against a trace.
-use super::scene::first_wrong;
+use super::scene::all_hold;
 use std::test::Fail;
 
 const SCENES: &str = "\
@@ -337,11 +337,5 @@ none o.host
 
 #[test]
 fn one_machine_is_replayed_against_a_trace(rt: HostRuntime) -> Result<(), Fail> {
-    let wrong = first_wrong(&rt, rt.alloc(), SCENES)?;
-    assert!(rt;
-        wrong.is_none(),
-        "{}",
-        wrong.unwrap_or(String::new(rt.alloc()))
-    );
-    Ok(())
+    all_hold(&rt, rt.alloc(), SCENES)
 }

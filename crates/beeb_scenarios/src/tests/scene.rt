@@ -7,11 +7,11 @@
 //!
 //! The steps:
 //!
-//! - `# TITLE` begins a scene: nothing lies on the shelf, and no call fails.
+//! - `# TITLE` begins a scene: nothing lies on the shelf, and no call fails. `## MORE` goes on with its title.
 //! - `t`: the files `t` and `t.dsd` have these bytes, and with `keys` the file `keys`. `os`, `lang` and `dfs`, and `tube`: the files of these
 //!   names are the images of these source texts, for the 6502 and the 65C02. `ticks A, B`: the file `t` is a trace of these accesses, one at
 //!   each tick from 0.
-//! - `fails N M`: the shelf's call N and the outlet's call M fail, where `-` is none.
+//! - `fails N,.. M,..`: these calls of the shelf and these of the outlet fail, where `-` is none.
 //! - `$ WORDS`: the words are carried out, where `''` is a word of no letters. `run ..`: these very words are carried out, in two threads, and
 //!   `alone WORDS` by a crew that starts no thread.
 //! - `= STATUS`: they ended with this number and text, the kind of the offence where there is one, and what was said behind a
@@ -28,6 +28,7 @@ use beeb_files::{Crew, FailCrew, MemOutlet, MemShelf, ThreadCrew};
 use bus_plug::{BusDevice, PrinterLatch, RamCard};
 use op_table::Part;
 use std::alloc::{AllocError, Global};
+use std::process::Abort;
 use std::sync::Wait;
 use std::test::Fail;
 use std::thread::Threads;
@@ -36,21 +37,33 @@ use std::thread::Threads;
 #[derive(Drop)]
 struct Scene {
     alloc: Global,
+    title: Vec<u8>,
     t: Vec<u8>,
     os: Vec<u8>,
     tube: Vec<u8>,
     lang: Vec<u8>,
     dfs: Vec<u8>,
     keys: Vec<u8>,
-    get_fails: Option<u32>,
-    put_fails: Option<u32>,
+    get_fails: Vec<u32>,
+    put_fails: Vec<u32>,
     told: Vec<u8>,
     out: MemOutlet,
     kept: MemOutlet,
 }
 
-/// The first step of the scenes that does not hold, and what the last words ended with.
-pub(crate) fn first_wrong<R: Threads + Wait + Sync>(
+/// Stops the test where a step of the scenes does not hold.
+pub(crate) fn all_hold<R: Threads + Wait + Sync + Abort>(
+    rt: &R,
+    alloc: Global,
+    scenes: &str,
+) -> Result<(), Fail> {
+    let wrong = first_wrong(rt, alloc, scenes)?;
+    assert!(rt; wrong.is_none(), "{}", wrong.unwrap_or(String::new(alloc)));
+    Ok(())
+}
+
+// The title of the first scene with a step that does not hold, the step's line in the scenes, the step, and what the last words ended with.
+fn first_wrong<R: Threads + Wait + Sync>(
     rt: &R,
     alloc: Global,
     scenes: &str,
@@ -58,21 +71,26 @@ pub(crate) fn first_wrong<R: Threads + Wait + Sync>(
     let mut scene = Scene::empty(alloc);
     let mut step = "";
     let mut bytes = Vec::new(alloc);
+    // How many lines were read, and how many up to the step.
+    let mut read = 0u32;
+    let mut at = 0u32;
     for line in scenes.lines() {
+        read = read.wrapping_add(1);
         if is_more(line) {
             add(alloc, &mut bytes, line)?;
         } else {
             if !scene.holds(rt, step, &bytes)? {
-                return scene.tell(step);
+                return scene.tell(step, at);
             }
             step = line;
+            at = read;
             bytes.clear();
         }
     }
     if scene.holds(rt, step, &bytes)? {
         Ok(None)
     } else {
-        scene.tell(step)
+        scene.tell(step, at)
     }
 }
 
@@ -123,23 +141,24 @@ impl Scene {
     fn empty(alloc: Global) -> Scene {
         Scene {
             alloc,
+            title: Vec::new(alloc),
             t: Vec::new(alloc),
             os: Vec::new(alloc),
             tube: Vec::new(alloc),
             lang: Vec::new(alloc),
             dfs: Vec::new(alloc),
             keys: Vec::new(alloc),
-            get_fails: None,
-            put_fails: None,
+            get_fails: Vec::new(alloc),
+            put_fails: Vec::new(alloc),
             told: Vec::new(alloc),
             out: MemOutlet::make(alloc, Vec::new(alloc)),
             kept: MemOutlet::make(alloc, Vec::new(alloc)),
         }
     }
 
-    fn tell(&self, step: &str) -> Result<Option<String>, Fail> {
-        let told = text_of(&self.told);
-        Ok(Some(format!(in self.alloc; "{step} .. {told}")?))
+    fn tell(&self, step: &str, at: u32) -> Result<Option<String>, Fail> {
+        let (title, told) = (text_of(&self.title), text_of(&self.told));
+        Ok(Some(format!(in self.alloc; "{title} Line {at}: {step} .. {told}")?))
     }
 
     // Does a step with the bytes below it, and answers whether it holds.
@@ -151,7 +170,7 @@ impl Scene {
     ) -> Result<bool, Fail> {
         let (word, rest) = step.split_once(' ').unwrap_or((step, ""));
         match word {
-            "" | "#" | "ticks" | "fails" | "take" => self.lay(word, rest),
+            "" | "#" | "##" | "ticks" | "fails" | "take" => self.lay(word, rest),
             "t" | "keys" | "os" | "lang" | "dfs" | "tube" => self.lay_file(word, bytes),
             "run" => self.share(rt, step, &mut ThreadCrew::make()),
             "alone" => self.share(rt, rest, &mut FailCrew::make()),
@@ -164,13 +183,16 @@ impl Scene {
     fn lay(&mut self, word: &str, rest: &str) -> Result<bool, Fail> {
         let alloc = self.alloc;
         match word {
-            "#" => *self = Scene::empty(alloc),
+            "#" => {
+                *self = Scene::empty(alloc);
+                self.title = rest.as_bytes().to_vec(alloc)?;
+            }
             "ticks" => self.t = trace(alloc, rest)?,
             "take" => self.t = self.out.file(rest).unwrap_or(b"nothing").to_vec(alloc)?,
             "fails" => {
                 let (get, put) = rest.split_once(' ').unwrap_or((rest, ""));
-                self.get_fails = get.parse().ok();
-                self.put_fails = put.parse().ok();
+                self.get_fails = calls_of(alloc, get)?;
+                self.put_fails = calls_of(alloc, put)?;
             }
             _ => {}
         }
@@ -211,7 +233,7 @@ impl Scene {
     fn carry_out(&mut self, words: &str) -> Result<(), Fail> {
         let alloc = self.alloc;
         let mut shelf = self.shelf()?;
-        let mut out = MemOutlet::make(alloc, failing(alloc, self.put_fails)?);
+        let mut out = MemOutlet::make(alloc, self.put_fails.to_vec(alloc)?);
         let words = words_of(alloc, words)?;
         let status = plain(alloc, &words, &mut shelf, &mut out, devices(alloc)?);
         self.told = told(alloc, &status, out.said())?;
@@ -228,7 +250,7 @@ impl Scene {
     ) -> Result<bool, Fail> {
         let alloc = self.alloc;
         let mut shelf = self.shelf()?;
-        let mut out = MemOutlet::make(alloc, failing(alloc, self.put_fails)?);
+        let mut out = MemOutlet::make(alloc, self.put_fails.to_vec(alloc)?);
         let words = words_of(alloc, words)?;
         let plugs = devices(alloc)?;
         let status = top(rt, alloc, &words, &mut shelf, &mut out, crew, plugs);
@@ -247,7 +269,7 @@ impl Scene {
         let dfs = entry(alloc, "dfs", &self.dfs)?;
         let keys = entry(alloc, "keys", &self.keys)?;
         let files = vec![in alloc; t, dsd, os, tube, lang, dfs, keys]?;
-        Ok(MemShelf::make(files, failing(alloc, self.get_fails)?))
+        Ok(MemShelf::make(files, self.get_fails.to_vec(alloc)?))
     }
 
     // The trace of a run is one that the chip gives, line by line; it and the other outputs are kept.
@@ -342,6 +364,17 @@ fn trace(alloc: Global, accesses: &str) -> Result<Vec<u8>, AllocError> {
         text.extend_from_slice(line.as_bytes())?;
     }
     Ok(text)
+}
+
+// The numbers of a list, with commas between them.
+fn calls_of(alloc: Global, list: &str) -> Result<Vec<u32>, AllocError> {
+    let mut calls = Vec::new(alloc);
+    for digits in list.split(',') {
+        if let Ok(number) = digits.parse() {
+            calls.push(number)?;
+        }
+    }
+    Ok(calls)
 }
 
 /// The numbers of the calls that fail: this one, if any.

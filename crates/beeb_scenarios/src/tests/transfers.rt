@@ -1,5 +1,5 @@
 //! Little transfers by polling, by NMIs and by IRQs, whose ends were worked out by hand.
-use super::scene::first_wrong;
+use super::scene::all_hold;
 use std::test::Fail;
 
 const SCENES: &str = "\
@@ -215,11 +215,5 @@ same o.para
 
 #[test]
 fn transfers_by_polling_and_by_interrupts_end_as_worked_out(rt: HostRuntime) -> Result<(), Fail> {
-    let wrong = first_wrong(&rt, rt.alloc(), SCENES)?;
-    assert!(rt;
-        wrong.is_none(),
-        "{}",
-        wrong.unwrap_or(String::new(rt.alloc()))
-    );
-    Ok(())
+    all_hold(&rt, rt.alloc(), SCENES)
 }

@@ -1,5 +1,5 @@
 //! Words in and outside the grammar.
-use super::scene::first_wrong;
+use super::scene::all_hold;
 use beeb_words::options_are_order_free;
 use std::test::Fail;
 
@@ -142,11 +142,5 @@ $ solo 7 o --os n --tube n --plugs 0 --font os
 #[test]
 fn words_outside_the_grammar_are_usage(rt: HostRuntime) -> Result<(), Fail> {
     options_are_order_free();
-    let wrong = first_wrong(&rt, rt.alloc(), SCENES)?;
-    assert!(rt;
-        wrong.is_none(),
-        "{}",
-        wrong.unwrap_or(String::new(rt.alloc()))
-    );
-    Ok(())
+    all_hold(&rt, rt.alloc(), SCENES)
 }
