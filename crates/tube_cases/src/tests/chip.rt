@@ -2,20 +2,26 @@
 use beeb_bits::Side;
 use tube_chip::{Answer, Chip, Lines, Op, packing_is_one_to_one, rising_list_is_merge};
 
+// Whether an access is answered so.
+fn answers(chip: &mut Chip, side: Side, op: Op, want: u8) -> bool {
+    chip.apply(side, op) == want
+}
+
 #[test]
 fn register_1_takes_twenty_four_bytes(rt: HostRuntime) {
     let mut chip = Chip::new();
+    let mut is_right = true;
     for byte in 0x01..=0x17u8 {
-        assert_eq!(rt; chip.apply(Side::Para, Op::Write(1, byte)), 0);
+        is_right = answers(&mut chip, Side::Para, Op::Write(1, byte), 0) && is_right;
     }
-    assert_eq!(rt; chip.apply(Side::Para, Op::Read(0)), 0x40);
+    is_right = answers(&mut chip, Side::Para, Op::Read(0), 0x40) && is_right;
     chip.apply(Side::Para, Op::Write(1, 0x18));
-    assert_eq!(rt; chip.apply(Side::Para, Op::Read(0)), 0x00);
+    is_right = answers(&mut chip, Side::Para, Op::Read(0), 0x00) && is_right;
     chip.apply(Side::Para, Op::Write(1, 0x19));
     for byte in 0x01..=0x18u8 {
-        assert_eq!(rt; chip.apply(Side::Host, Op::Read(1)), byte);
+        is_right = answers(&mut chip, Side::Host, Op::Read(1), byte) && is_right;
     }
-    assert_eq!(rt; chip.apply(Side::Host, Op::Read(1)), 0x18);
+    assert!(rt; answers(&mut chip, Side::Host, Op::Read(1), 0x18) && is_right);
 }
 
 #[test]
@@ -29,8 +35,11 @@ fn a_rise_of_the_nmi_condition_counts(rt: HostRuntime) {
         (Side::Para, Op::Read(4), 0xff, 1),
     ];
     for (side, op, answer, nmis) in rows {
-        assert_eq!(rt; chip.apply(side, op), answer, "{side:?} {op:?}");
-        assert_eq!(rt; chip.lines().nmis, nmis, "after {side:?} {op:?}");
+        let got = chip.apply(side, op);
+        assert!(rt;
+            (got, chip.lines().nmis) == (answer, nmis),
+            "{side:?} {op:?}"
+        );
     }
 }
 
@@ -70,8 +79,11 @@ fn the_counts_rise_with_their_conditions(rt: HostRuntime) {
     ];
     for (side, op, nmis, resets) in rows {
         let _ = chip.apply(side, op);
-        assert_eq!(rt; chip.lines().nmis, nmis, "after {side:?} {op:?}");
-        assert_eq!(rt; chip.lines().resets, resets, "after {side:?} {op:?}");
+        let lines = chip.lines();
+        assert!(rt;
+            (lines.nmis, lines.resets) == (nmis, resets),
+            "after {side:?} {op:?}"
+        );
     }
 }
 
@@ -133,7 +145,7 @@ fn each_line_follows_its_flag_and_register(rt: HostRuntime) {
     ];
     for (side, op, lines) in rows {
         let _ = chip.apply(side, op);
-        assert_eq!(rt; chip.lines(), lines, "after {side:?} {op:?}");
+        assert!(rt; chip.lines() == lines, "after {side:?} {op:?}");
         assert!(rt; Answer::Seen(chip.lines()) == Answer::Seen(lines));
     }
 }
@@ -155,6 +167,35 @@ fn filled(queue: u8, third: u8, counts: u64) -> Option<Chip> {
     Chip::unpack(words)
 }
 
+// Whether a chip that was read back from the words of another goes on as that does.
+fn goes_on_as(again: &mut Chip, chip: &mut Chip) -> bool {
+    if again.pack() != chip.pack() || again.lines() != chip.lines() {
+        return false;
+    }
+    for read in 0..200u8 {
+        let op = Op::Read(read % 8);
+        let host = again.apply(Side::Host, op) == chip.apply(Side::Host, op);
+        let para = again.apply(Side::Para, op) == chip.apply(Side::Para, op);
+        if !host || !para {
+            return false;
+        }
+    }
+    true
+}
+
+// Whether a chip of these fills and counts is read back, after a write of any byte to the status.
+fn is_read_back(queue: u8, third: u8, counts: u64) -> Option<bool> {
+    for byte in 0..=255u8 {
+        let mut chip = filled(queue, third, counts)?;
+        chip.apply(Side::Host, Op::Write(0, byte));
+        let mut again = Chip::unpack(chip.pack())?;
+        if !goes_on_as(&mut again, &mut chip) {
+            return Some(false);
+        }
+    }
+    Some(true)
+}
+
 #[test]
 fn a_chip_is_read_back_from_its_words(rt: HostRuntime) {
     let rows = [
@@ -164,26 +205,7 @@ fn a_chip_is_read_back_from_its_words(rt: HostRuntime) {
         (24, 2, 0xffff_ffff_ffff_ffff),
     ];
     for (queue, third, counts) in rows {
-        for byte in 0..256u16 {
-            let mut chip = filled(queue, third, counts).expect(&rt, "counts of 32 bits");
-            chip.apply(Side::Host, Op::Write(0, (byte % 256) as u8));
-            let mut again = Chip::unpack(chip.pack()).expect(&rt, "the words of a chip");
-            assert_eq!(rt; again.pack(), chip.pack(), "after {byte:x}");
-            assert_eq!(rt; again.lines(), chip.lines(), "after {byte:x}");
-            for read in 0..200u8 {
-                let op = Op::Read(read % 8);
-                assert_eq!(rt;
-                    again.apply(Side::Host, op),
-                    chip.apply(Side::Host, op),
-                    "{op:?}"
-                );
-                assert_eq!(rt;
-                    again.apply(Side::Para, op),
-                    chip.apply(Side::Para, op),
-                    "{op:?}"
-                );
-            }
-        }
+        assert!(rt; is_read_back(queue, third, counts) == Some(true), "{queue}");
     }
 }
 
@@ -223,7 +245,7 @@ fn the_words_are_as_described(rt: HostRuntime) {
 }
 
 #[test]
-fn the_laws_are_calls() {
+fn a_rising_list_is_a_merge_and_a_packing_is_of_one_chip() {
     rising_list_is_merge();
     packing_is_one_to_one();
 }

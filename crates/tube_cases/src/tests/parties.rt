@@ -3,14 +3,16 @@
 ghost use Rattle.std.specs.Prelude.{◌≡◌};
 
 use beeb_bits::{Side, Tick};
+use std::alloc::Global;
 use std::test::Fail;
+use std::vec::Vec;
 use tube_chip::{Chip, Op};
 use tube_party::{
     Answer, Ask, Doing, Forward, MOST, Party, legal_merge_is_reference, party_goes_on,
     reference_is_followed, reference_is_replayed, reference_is_trace, replay, replay_is_following,
     solo,
 };
-use tube_trace::read;
+use tube_trace::{Entry, read};
 
 /// Looks at tick 5 and every 10 ticks, and reads register 0 five ticks after each look.
 #[derive(Drop)]
@@ -86,60 +88,67 @@ fn at_power_on() -> Probe
     }
 }
 
+// A line is the ticks of a replay, the line of the place at which it differs, or `-`, and the tick of the read that the party does there, or `-`;
+// the tick of the step at which it stands; and behind `@` the trace, in which `;` ends a line.
+const REPLAYS: &str = "\
+# Each read fits.
+30 - - 30@000000000A P R 0 01;0000000014 P R 0 02;
+# Entries from the end of the replay on are not asked for, and neither are the other side's.
+20 - - 20@000000000A P R 0 01;0000000014 P R 0 02;
+20 - - 20@0000000003 H W 0 01;000000000A P R 0 01;
+10 - - 10@
+0 - - 5@
+# An entry of another register, of another kind, and at another tick.
+30 2 20 20@000000000A P R 0 01;0000000014 P R 1 00;
+30 2 20 20@000000000A P R 0 01;0000000014 P W 0 00;
+30 3 20 20@000000000A P R 0 01;000000000F H W 0 00;0000000015 P R 0 00;
+30 1 10 10@0000000009 P R 0 01;
+# No entry where the party reads.
+30 2 20 20@000000000A P R 0 01;
+30 2 10 10@0000000003 H W 0 01;
+# An entry where the party does nothing more.
+15 3 - 15@0000000003 H W 0 01;000000000A P R 0 01;000000000B P R 0 02;
+";
+
+// The entries of a trace in which `;` ends a line.
+fn entries_of(alloc: Global, trace: &str) -> Result<Vec<Entry>, Fail> {
+    let mut text = trace.as_bytes().to_vec(alloc)?;
+    for byte in text.iter_mut() {
+        if *byte == b';' {
+            *byte = b'\n';
+        }
+    }
+    Ok(read(alloc, &text)?)
+}
+
+fn read_at(digits: &str) -> Option<Doing> {
+    Some(Doing {
+        tick: Tick(digits.parse().ok()?),
+        side: Side::Para,
+        op: Op::Read(0),
+    })
+}
+
+// The ticks of a line's replay, its place, and where the party stands.
+fn replay_of(head: &str) -> Option<(u16, Option<(u64, Option<Doing>)>, u64)> {
+    let mut words = head.split(' ');
+    let ticks = words.next()?.parse().ok()?;
+    let place = words.next()?.parse().ok();
+    let doing = read_at(words.next()?);
+    let due = words.next()?.parse().ok()?;
+    Some((ticks, place.map(|line| (line, doing)), due))
+}
+
 #[test]
 fn the_first_place_that_differs_is_told(rt: HostRuntime) -> Result<(), Fail> {
-    let does = |tick| {
-        Some(Doing {
-            tick: Tick(tick),
-            side: Side::Para,
-            op: Op::Read(0),
-        })
-    };
-    // The entries, the ticks of the replay, the place and the tick of the step at which the party stands.
-    let rows: [(&str, u64, Option<(u64, Option<Doing>)>, u64); 12] = [
-        // Each read fits.
-        ("000000000A P R 0 01\n0000000014 P R 0 02\n", 30, None, 30),
-        // Entries from the end of the replay on are not asked for, and neither are the other side's.
-        ("000000000A P R 0 01\n0000000014 P R 0 02\n", 20, None, 20),
-        ("0000000003 H W 0 01\n000000000A P R 0 01\n", 20, None, 20),
-        ("", 10, None, 10),
-        ("", 0, None, 5),
-        // An entry of another register, of another kind, and at another tick.
-        (
-            "000000000A P R 0 01\n0000000014 P R 1 00\n",
-            30,
-            Some((2, does(20))),
-            20,
-        ),
-        (
-            "000000000A P R 0 01\n0000000014 P W 0 00\n",
-            30,
-            Some((2, does(20))),
-            20,
-        ),
-        (
-            "000000000A P R 0 01\n000000000F H W 0 00\n0000000015 P R 0 00\n",
-            30,
-            Some((3, does(20))),
-            20,
-        ),
-        ("0000000009 P R 0 01\n", 30, Some((1, does(10))), 10),
-        // No entry where the party reads.
-        ("000000000A P R 0 01\n", 30, Some((2, does(20))), 20),
-        ("0000000003 H W 0 01\n", 30, Some((2, does(10))), 10),
-        // An entry where the party does nothing more.
-        (
-            "0000000003 H W 0 01\n000000000A P R 0 01\n000000000B P R 0 02\n",
-            15,
-            Some((3, None)),
-            15,
-        ),
-    ];
-    for (text, ticks, place, due) in rows {
-        let entries = read(rt.alloc(), text.as_bytes())?;
-        let (party, found) = replay(at_power_on(), Side::Para, &entries, Tick(ticks));
-        assert_eq!(rt; found, place);
-        assert_eq!(rt; party.due, due);
+    for line in REPLAYS.lines() {
+        if let Some((head, trace)) = line.split_once('@') {
+            let entries = entries_of(rt.alloc(), trace)?;
+            let (ticks, place, due) = replay_of(head).unwrap_or((0, None, 0));
+            let n = Tick(u64::from(ticks));
+            let (party, found) = replay(at_power_on(), Side::Para, &entries, n);
+            assert!(rt; found == place && party.due == due, "{line}");
+        }
     }
     Ok(())
 }

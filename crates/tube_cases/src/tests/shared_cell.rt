@@ -105,7 +105,7 @@ fn row(k: u64) -> (Side, Op, u8)
 }
 
 #[test]
-fn register_1_takes_twenty_four_bytes(rt: HostRuntime) {
+fn turns_at_the_cell_are_answered_as_by_the_chip(rt: HostRuntime) {
     let (cell, whole) = TubeCell::make(rt.alloc()).expect(&rt, "ample memory");
     let (mut host, mut para) = cell.split(&rt, whole);
     let mut chip = Chip::new();

@@ -1,5 +1,6 @@
 //! Texts of traces, in form and out of it.
 use beeb_bits::{Side, Tick};
+use std::alloc::{AllocError, Global};
 use std::test::Fail;
 use tube_chip::Op;
 use tube_trace::{Entry, TraceError, first_wrong, merge, push_access, read, write};
@@ -80,45 +81,71 @@ fn an_access_that_asks_has_no_byte_to_read(rt: HostRuntime) -> Result<(), Fail> 
     Ok(())
 }
 
+// A line is what a text comes to, its count of entries or the line that is out of form or order, and behind `@` the text, in which `|` ends a line.
+const TEXTS: &str = "\
+entries 0@
+entries 2@0000000006 H W 3 5A|0000000006 P R 2 FF|
+order 2@0000000006 P R 2 FF|0000000006 H W 3 5A|
+order 2@0000000006 H R 2 FF|0000000006 H R 2 FF|
+order 2@0000000007 H R 2 FF|0000000006 P R 2 FF|
+# A bad line before the order is broken, behind it, and on the line that breaks it.
+bad 1@x|0000000006 P R 2 FF|0000000006 H W 3 5A|
+order 2@0000000006 P R 2 FF|0000000006 H W 3 5A|x|
+bad 2@0000000006 P R 2 FF|0000000006 H W 8 5A|
+# The last line without its line feed, and without its last digit.
+bad 1@0000000000 H R 0 40
+bad 2@0000000000 H R 0 40|0000000001 H R 0 40
+bad 1@0000000000 H R 0 4
+bad 1@0000000000 H R 0 4|
+bad 1@|
+bad 2@0000000000 H R 0 40||
+bad 1@0000000000 H R 0 40\r|
+# Each place of a line.
+bad 1@00000000aa H R 0 40|
+bad 1@000000000G H R 0 40|
+bad 1@0000000000-H R 0 40|
+bad 1@0000000000 h R 0 40|
+bad 1@0000000000 H X 0 00|
+bad 1@0000000000 H R 8 40|
+bad 1@0000000000 H R / 40|
+bad 1@0000000000 H R 0 4a|
+bad 1@00000000000 H R 0 40|
+";
+
+fn wanted(outcome: &str) -> Option<Result<usize, TraceError>> {
+    let (kind, n) = outcome.split_once(' ')?;
+    match kind {
+        "entries" => Some(Ok(n.parse().ok()?)),
+        "bad" => Some(Err(TraceError::BadLine {
+            line: n.parse().ok()?,
+        })),
+        _ => Some(Err(TraceError::BadOrder {
+            line: n.parse().ok()?,
+        })),
+    }
+}
+
+// What a text comes to, in which `|` ends a line.
+fn outcome(alloc: Global, source: &str) -> Result<Result<usize, TraceError>, AllocError> {
+    let mut text = source.as_bytes().to_vec(alloc)?;
+    for byte in text.iter_mut() {
+        if *byte == b'|' {
+            *byte = b'\n';
+        }
+    }
+    Ok(match read(alloc, &text) {
+        Ok(entries) => Ok(entries.len()),
+        Err(error) => Err(error),
+    })
+}
+
 #[test]
 fn the_first_line_outside_the_form_or_the_order_is_told(rt: HostRuntime) -> Result<(), Fail> {
-    let bad = |line| Err(TraceError::BadLine { line });
-    let order = |line| Err(TraceError::BadOrder { line });
-    let rows: [(&str, Result<usize, TraceError>); 24] = [
-        ("", Ok(0)),
-        ("0000000006 H W 3 5A\n0000000006 P R 2 FF\n", Ok(2)),
-        ("0000000006 P R 2 FF\n0000000006 H W 3 5A\n", order(2)),
-        ("0000000006 H R 2 FF\n0000000006 H R 2 FF\n", order(2)),
-        ("0000000007 H R 2 FF\n0000000006 P R 2 FF\n", order(2)),
-        // A bad line before the order is broken, behind it, and on the line that breaks it.
-        ("x\n0000000006 P R 2 FF\n0000000006 H W 3 5A\n", bad(1)),
-        ("0000000006 P R 2 FF\n0000000006 H W 3 5A\nx\n", order(2)),
-        ("0000000006 P R 2 FF\n0000000006 H W 8 5A\n", bad(2)),
-        // The last line without its line feed, and without its last digit.
-        ("0000000000 H R 0 40", bad(1)),
-        ("0000000000 H R 0 40\n0000000001 H R 0 40", bad(2)),
-        ("0000000000 H R 0 4", bad(1)),
-        ("0000000000 H R 0 4\n", bad(1)),
-        ("\n", bad(1)),
-        ("0000000000 H R 0 40\n\n", bad(2)),
-        ("0000000000 H R 0 40\r\n", bad(1)),
-        // Each place of a line.
-        ("00000000aa H R 0 40\n", bad(1)),
-        ("000000000G H R 0 40\n", bad(1)),
-        ("0000000000-H R 0 40\n", bad(1)),
-        ("0000000000 h R 0 40\n", bad(1)),
-        ("0000000000 H X 0 00\n", bad(1)),
-        ("0000000000 H R 8 40\n", bad(1)),
-        ("0000000000 H R / 40\n", bad(1)),
-        ("0000000000 H R 0 4a\n", bad(1)),
-        ("00000000000 H R 0 40\n", bad(1)),
-    ];
-    for (text, want) in rows {
-        let got = match read(rt.alloc(), text.as_bytes()) {
-            Ok(entries) => Ok(entries.len()),
-            Err(error) => Err(error),
-        };
-        assert_eq!(rt; got, want, "{text}");
+    for line in TEXTS.lines() {
+        if let Some((want, source)) = line.split_once('@') {
+            let got = outcome(rt.alloc(), source)?;
+            assert!(rt; Some(got) == wanted(want), "{line}");
+        }
     }
     Ok(())
 }
@@ -142,7 +169,7 @@ fn the_first_wrong_answer_is_told(rt: HostRuntime) -> Result<(), Fail> {
 }
 
 #[test]
-fn errors_have_texts(rt: HostRuntime) -> Result<(), Fail> {
+fn each_refusal_of_a_trace_has_a_text(rt: HostRuntime) -> Result<(), Fail> {
     let rows = [
         (
             TraceError::BadLine { line: 3 },

@@ -1,6 +1,6 @@
 use Rattle.std.proofs.Common.{◌≡◌, ◌≤◌, []}
 use Rattle.tube_cell.specs.Passes.{own_horizon}
-use Rattle.tube_cases.proofs.tests.shared_cell.register_1_takes_twenty_four_bytes.Given as goal
+use Rattle.tube_cases.proofs.tests.shared_cell.turns_at_the_cell_are_answered_as_by_the_chip.Given as goal
 
 abbrev pub invariant-loop-k : goal.invariant-loop-k
 invariant-loop-k g l =
