@@ -1,0 +1,130 @@
+-- The ticks of the host, access by access.
+use Rattle.std.proofs.Common.{◌≡◌, ◌∙◌, sym, ap, refl, ℕ, ◌+◌, ◌-◌, ◌*◌, ◌/◌, ◌%◌, ◌<◌, ◌≤◌, ◌==◌, Bool, true, false, List, [], ◌∷◌, ◌++◌, length, arith, inl, inr}
+use Rattle.std.specs.Prelude.{Option, None, Some, is_none, if◌then◌else◌}
+use Rattle.std.proofs.lemmas.Bool.{cases_Bool, true≢false}
+use Rattle.std.proofs.lemmas.List.{append-nil}
+use Rattle.op_table.specs.declared.names.Part.TheVariants.{Nmos}
+use Rattle.cpu_alu.specs.declared.Cycle.{Cycle}
+use Rattle.cpu_core.specs.Sequences.{TakesAtLeast}
+use Rattle.cpu6502.specs.Sequences.{next, given, halted}
+use Rattle.tube_chip.specs.declared.Answer.{Answer}
+use Rattle.host_bus.specs.Map.{stretched_in, memory_map}
+use Rattle.host_mach.specs.State.{HostState}
+use Rattle.host_mach.specs.Step.{address, byte_of, cycle_ticks, stepped, host_closed, next_state}
+use Rattle.machine_laws.specs.Cycles.{the_cycle}
+use Rattle.machine_laws.specs.HostTicks.{run, cycles, AllAccess, wait, takes, HostTakes, HostTakesTheTable}
+use Rattle.machine_laws.proofs.Counts.{never_ends, stays, one_more, same_sequence, table, cycle_more}
+
+-- the tick of the look, where a sequence is over
+tail : HostState → ℕ
+tail s = if is_none (next s.cpu) then 1 else 0
+
+waits : (slow even : Bool) → 3 * (if slow then (if even then 2 else 3) else 1) ≡ 3 + (if slow then (if even then 3 else 6) else 0)
+waits true true = refl
+waits true false = refl
+waits false even = refl
+
+due_tail : (over : Bool) (t n : ℕ) → 1 ≤ n → (if over then t + (n - 1) else t + n) + (if over then 1 else 0) ≡ t + n
+due_tail true t n some = omega (arith, some)
+due_tail false t n some = omega (arith, some)
+
+some_ticks : (t : ℕ) (c : Cycle) → cycle_ticks t c ≡ 3 + wait t c
+some_ticks t c = waits (stretched_in memory_map (address c)) (t / 3 % 2 == 0)
+
+one : (o : Option Cycle) (s : HostState) (a : Option Answer) → is_none o ≡ false → (stepped o s a).due + tail (stepped o s a) ≡ s.due + takes s.due (the_cycle o)
+unfolding tail
+one None s a some = absurd (true≢false some)
+one (Some c) s a some =
+    let n = cycle_ticks s.due c in
+    let is : n ≡ 3 + wait s.due c = some_ticks s.due c in
+    let all : 3 + wait s.due c + 0 ≡ 3 + wait s.due c = omega arith in
+    due_tail (is_none (next (given s.cpu (byte_of s.bus s.due a c)))) s.due n (omega (arith, is)) ∙ ap (λ k. s.due + k) (is ∙ sym all)
+
+first : (s : HostState) (a : Option Answer) → is_none (next s.cpu) ≡ false →
+    (next_state s a).due + tail (next_state s a) ≡ s.due + takes s.due (the_cycle (next s.cpu))
+first s a some = one (next s.cpu) (host_closed s (s.due + 1)) a some
+
+joins : (t : ℕ) (cs rest : List Cycle) → takes t (cs ++ rest) ≡ takes t cs + takes (t + takes t cs) rest
+joins t [] rest =
+    let same : t ≡ t + 0 = omega arith in
+    let none : takes (t + 0) rest ≡ 0 + takes (t + 0) rest = omega arith in
+    ap (λ u. takes u rest) same ∙ none
+joins t (c ∷ cs) rest =
+    let k = 3 + wait t c in
+    let same : t + k + takes (t + k) cs ≡ t + (k + takes (t + k) cs) = omega arith in
+    let sum : k + (takes (t + k) cs + takes (t + (k + takes (t + k) cs)) rest) ≡ k + takes (t + k) cs + takes (t + (k + takes (t + k) cs)) rest = omega arith in
+    ap (λ n. k + n) (joins (t + k) cs rest ∙ ap (λ u. takes (t + k) cs + takes u rest) same) ∙ sum
+
+total : (a : Option Answer) (answers : List (Option Answer)) (s : HostState) → AllAccess (a ∷ answers) s →
+    (run (a ∷ answers) s).due + tail (run (a ∷ answers) s) ≡ s.due + takes s.due (cycles (a ∷ answers) s)
+unfolding tail
+total a [] s all = first s a all.0 ∙ ap (λ cs. s.due + takes s.due cs) (sym (append-nil (the_cycle (next s.cpu))))
+total a (b ∷ answers) s all =
+    let x = next_state s a in
+    let cs = the_cycle (next s.cpu) in
+    let rest = cycles (b ∷ answers) x in
+    let none : x.due ≡ x.due + 0 = omega arith in
+    let here : x.due ≡ s.due + takes s.due cs = none ∙ ap (λ o. x.due + (if o then 1 else 0)) (sym all.1.0) ∙ first s a all.0 in
+    let sum : s.due + takes s.due cs + takes (s.due + takes s.due cs) rest ≡ s.due + (takes s.due cs + takes (s.due + takes s.due cs) rest) = omega arith in
+    total b answers x all.1 ∙ ap (λ t. t + takes t rest) here ∙ sum ∙ ap (λ n. s.due + n) (sym (joins s.due cs rest))
+
+at_look : (s : HostState) (answers : List (Option Answer)) → 0 < length answers → AllAccess answers s → next (run answers s).cpu ≡ None →
+    (run answers s).due + 1 ≡ s.due + takes s.due (cycles answers s)
+unfolding tail
+at_look s [] some all over = absurd (omega (arith, some))
+at_look s (a ∷ answers) some all over =
+    let x = run (a ∷ answers) s in
+    ap (λ o. x.due + (if is_none o then 1 else 0)) (sym over) ∙ total a answers s all
+
+pub host_takes : HostTakes
+host_takes = record {
+  look = at_look;
+  behind = λ s answers answer some all over.
+      let x = run answers s in
+      ap (λ o. (stepped o (host_closed x (x.due + 1)) answer).due) over ∙ at_look s answers some all over;
+}
+
+-- ---- How many cycles.
+
+-- an access hands the processor a byte
+handed : (o : Option Cycle) (s : HostState) (a : Option Answer) → is_none o ≡ false → (byte : ℕ) × ((stepped o s a).cpu ≡ given s.cpu byte)
+handed None s a some = absurd (true≢false some)
+handed (Some c) s a some = (byte_of s.bus s.due a c, refl)
+
+given_one : (s : HostState) (a : Option Answer) → is_none (next s.cpu) ≡ false → (byte : ℕ) × ((next_state s a).cpu ≡ given s.cpu byte)
+given_one s a some = handed (next s.cpu) (host_closed s (s.due + 1)) a some
+
+never : (answers : List (Option Answer)) (s : HostState) → halted s.cpu ≡ true → AllAccess answers s → is_none (next (run answers s).cpu) ≡ false
+never [] s is all = never_ends Nmos s.cpu is
+never (a ∷ answers) s is all =
+    let same : (next_state s a).cpu ≡ s.cpu = (given_one s a all.0).1 ∙ stays Nmos s.cpu (given_one s a all.0).0 is in
+    never answers (next_state s a) (ap halted same ∙ is) all.1
+
+one_cycle : (o : Option Cycle) (cs : List Cycle) → is_none o ≡ false → length (the_cycle o ++ cs) ≡ 1 + length cs
+one_cycle None cs some = absurd (true≢false some)
+one_cycle (Some c) cs some = omega arith
+
+count : (answers : List (Option Answer)) (s : HostState) → AllAccess answers s → next (run answers s).cpu ≡ None →
+    length (cycles answers s) + length s.cpu.seen ≡ length (run answers s).cpu.seen
+count [] s all over = omega arith
+count (a ∷ answers) s all over =
+    let x = next_state s a in
+    elim (cases_Bool (halted s.cpu)) [
+      | inl is ↦ absurd (true≢false (sym (ap is_none over) ∙ never (a ∷ answers) s is all))
+      | inr runs ↦
+          ap (λ n. n + length s.cpu.seen) (one_cycle (next s.cpu) (cycles answers x) all.0)
+          ∙ cycle_more (length s.cpu.seen) (length x.cpu.seen) (length (cycles answers x)) (length (run answers x).cpu.seen)
+          (ap (λ c. length c.seen) (given_one s a all.0).1 ∙ one_more Nmos s.cpu (given_one s a all.0).0 runs) (count answers x all.1 over)
+    ]
+
+one_sequence : (answers : List (Option Answer)) (s : HostState) → AllAccess answers s → (run answers s).cpu.sequence ≡ s.cpu.sequence
+one_sequence [] s all = refl
+one_sequence (a ∷ answers) s all =
+    one_sequence answers (next_state s a) all.1 ∙ ap (λ c. c.sequence) (given_one s a all.0).1 ∙ same_sequence Nmos s.cpu (given_one s a all.0).0
+
+pub host_table : (least : (op : ℕ) → op < 256 → TakesAtLeast Nmos op) → HostTakesTheTable
+host_table least s answers op seen row instruction fresh all over saw low is =
+    let enough : row.cycles ≤ length (run answers s).cpu.seen =
+    table Nmos least (run answers s).cpu op seen row (one_sequence answers s all ∙ instruction) over saw low is in
+    let none : length s.cpu.seen ≡ 0 = ap length fresh in
+    omega (arith, enough, none, count answers s all over)

@@ -1,0 +1,4 @@
+pub mod Counts
+pub mod HostTaking
+pub mod ParaTaking
+pub mod Finishing

@@ -1,0 +1,118 @@
+-- The ticks of the second processor, access by access.
+use Rattle.std.proofs.Common.{◌≡◌, ◌∙◌, sym, ap, refl, ℕ, ◌+◌, ◌*◌, ◌<◌, ◌≤◌, ◌==◌, Bool, true, false, not, List, [], ◌∷◌, ◌++◌, length, arith}
+use Rattle.std.specs.Prelude.{Option, None, Some, is_none, if◌then◌else◌}
+use Rattle.std.proofs.lemmas.Bool.{true≢false}
+use Rattle.op_table.specs.declared.names.Part.TheVariants.{Cmos}
+use Rattle.cpu_alu.specs.declared.Cycle.{Cycle}
+use Rattle.cpu_core.specs.declared.Sequence.TheVariants.{Reset, Nmi}
+use Rattle.cpu_core.specs.Sequences.{TakesAtLeast}
+use Rattle.cpu65c02.specs.State as cpu
+use Rattle.cpu65c02.specs.Sequences.{next, given, after, looked, fresh}
+use Rattle.tube_chip.specs.declared.Answer.{Answer}
+use Rattle.tube_chip.specs.declared.Lines.{Lines}
+use Rattle.para_mach.specs.State.{ParaState}
+use Rattle.para_mach.specs.Step.{byte_of, accessed, lines_in, held_on, begun, after_look, next_state}
+use Rattle.machine_laws.specs.Cycles.{the_cycle}
+use Rattle.machine_laws.specs.ParaTicks.{run, cycles, AllAccess, ParaTakes, ParaTakesTheTable}
+use Rattle.machine_laws.proofs.Counts.{one_more, same_sequence, table, cycle_more}
+
+-- the tick of the look, where a sequence is over
+tail : ParaState → ℕ
+tail s = if is_none (next s.cpu) then 1 else 0
+
+due_tail : (over : Bool) (t : ℕ) → (if over then t + 1 else t + 2) + (if over then 1 else 0) ≡ t + 2
+due_tail true t = omega arith
+due_tail false t = omega arith
+
+-- a step that is no look
+access_is : (s : ParaState) (a : Option Answer) → is_none (next s.cpu) ≡ false → next_state s a ≡ accessed s a
+access_is s a some = ap (λ b. if b then after_look s (lines_in a) else accessed s a) some
+
+first : (s : ParaState) (a : Option Answer) → is_none (next s.cpu) ≡ false → (next_state s a).due + tail (next_state s a) ≡ s.due + 2
+unfolding tail
+first s a some =
+    ap (λ (x : ParaState). x.due + (if is_none (next x.cpu) then 1 else 0)) (access_is s a some)
+    ∙ due_tail (is_none (next (given s.cpu (byte_of s.ram s.rom s.rom_in a (next s.cpu))))) s.due
+
+one_cycle : (o : Option Cycle) (cs : List Cycle) → is_none o ≡ false → length (the_cycle o ++ cs) ≡ 1 + length cs
+one_cycle None cs some = absurd (true≢false some)
+one_cycle (Some c) cs some = omega arith
+
+total : (a : Option Answer) (answers : List (Option Answer)) (s : ParaState) → AllAccess (a ∷ answers) s →
+    (run (a ∷ answers) s).due + tail (run (a ∷ answers) s) ≡ s.due + 2 * length (cycles (a ∷ answers) s)
+unfolding tail
+total a [] s all =
+    let one : length (the_cycle (next s.cpu) ++ []) ≡ 1 + 0 = one_cycle (next s.cpu) [] all.0 in
+    first s a all.0 ∙ omega (arith, one)
+total a (b ∷ answers) s all =
+    let x = next_state s a in
+    let rest = length (cycles (b ∷ answers) x) in
+    let none : x.due ≡ x.due + 0 = omega arith in
+    let here : x.due ≡ s.due + 2 = none ∙ ap (λ o. x.due + (if o then 1 else 0)) (sym all.1.0) ∙ first s a all.0 in
+    let one : length (cycles (a ∷ b ∷ answers) s) ≡ 1 + rest = one_cycle (next s.cpu) (cycles (b ∷ answers) x) all.0 in
+    total b answers x all.1 ∙ omega (arith, here, one)
+
+at_look : (s : ParaState) (answers : List (Option Answer)) → 0 < length answers → AllAccess answers s → next (run answers s).cpu ≡ None →
+    (run answers s).due + 1 ≡ s.due + 2 * length (cycles answers s)
+unfolding tail
+at_look s [] some all over = absurd (omega (arith, some))
+at_look s (a ∷ answers) some all over =
+    let x = run (a ∷ answers) s in
+    ap (λ o. x.due + (if is_none o then 1 else 0)) (sym over) ∙ total a answers s all
+
+-- a look of a processor that is not held
+begins : (resets prst nmis : Bool) (s r n i : ParaState) → r.due ≡ s.due + 1 → n.due ≡ s.due + 1 → i.due ≡ s.due + 1 →
+    (if resets then (if prst then held_on s else r) else if nmis then n else i).is_held ≡ false →
+    (if resets then (if prst then held_on s else r) else if nmis then n else i).due ≡ s.due + 1
+begins true true nmis s r n i er en ei free = absurd (true≢false free)
+begins true false nmis s r n i er en ei free = er
+begins false prst true s r n i er en ei free = en
+begins false prst false s r n i er en ei free = ei
+
+looks_on : (s : ParaState) (l : Lines) → (after_look s l).is_held ≡ false → (after_look s l).due ≡ s.due + 1
+looks_on s l free =
+    begins (not (l.resets == s.resets)) l.prst (not (l.nmis == s.nmis)) s
+    (begun (record s { rom_in = true; resets = l.resets; nmis = l.nmis }) (fresh Reset (after s.cpu)))
+    (begun (record s { nmis = l.nmis }) (fresh Nmi (after s.cpu)))
+    (begun s (fresh (looked false l.pirq (after s.cpu)) (after s.cpu)))
+    refl refl refl free
+
+look_is : (s : ParaState) (a : Option Answer) → next s.cpu ≡ None → next_state s a ≡ after_look s (lines_in a)
+look_is s a over = ap (λ o. if is_none o then after_look s (lines_in a) else accessed s a) over
+
+pub para_takes : ParaTakes
+para_takes = record {
+  look = at_look;
+  behind = λ s answers answer some all over free.
+      let x = run answers s in
+      let is = look_is x answer over in
+      ap (λ (y : ParaState). y.due) is ∙ looks_on x (lines_in answer) (sym (ap (λ (y : ParaState). y.is_held) is) ∙ free) ∙ at_look s answers some all over;
+}
+
+-- ---- How many cycles.
+
+given_one : (s : ParaState) (a : Option Answer) → is_none (next s.cpu) ≡ false →
+    (next_state s a).cpu ≡ given s.cpu (byte_of s.ram s.rom s.rom_in a (next s.cpu))
+given_one s a some = ap (λ (x : ParaState). x.cpu) (access_is s a some)
+
+count : (answers : List (Option Answer)) (s : ParaState) → AllAccess answers s →
+    length (cycles answers s) + length s.cpu.seen ≡ length (run answers s).cpu.seen
+count [] s all = omega arith
+count (a ∷ answers) s all =
+    let x = next_state s a in
+    ap (λ n. n + length s.cpu.seen) (one_cycle (next s.cpu) (cycles answers x) all.0)
+    ∙ cycle_more (length s.cpu.seen) (length x.cpu.seen) (length (cycles answers x)) (length (run answers x).cpu.seen)
+    (ap (λ (c : cpu.State). length c.seen) (given_one s a all.0) ∙ one_more Cmos s.cpu (byte_of s.ram s.rom s.rom_in a (next s.cpu)) refl) (count answers x all.1)
+
+one_sequence : (answers : List (Option Answer)) (s : ParaState) → AllAccess answers s → (run answers s).cpu.sequence ≡ s.cpu.sequence
+one_sequence [] s all = refl
+one_sequence (a ∷ answers) s all =
+    one_sequence answers (next_state s a) all.1 ∙ ap (λ (c : cpu.State). c.sequence) (given_one s a all.0)
+    ∙ same_sequence Cmos s.cpu (byte_of s.ram s.rom s.rom_in a (next s.cpu))
+
+pub para_table : (least : (op : ℕ) → op < 256 → TakesAtLeast Cmos op) → ParaTakesTheTable
+para_table least s answers op seen row instruction begun all over saw low is =
+    let enough : row.cycles ≤ length (run answers s).cpu.seen =
+    table Cmos least (run answers s).cpu op seen row (one_sequence answers s all ∙ instruction) over saw low is in
+    let none : length s.cpu.seen ≡ 0 = ap length begun in
+    omega (arith, enough, none, count answers s all)

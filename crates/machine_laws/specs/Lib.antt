@@ -1,0 +1,4 @@
+pub mod Cycles
+pub mod HostTicks
+pub mod ParaTicks
+pub mod Frames

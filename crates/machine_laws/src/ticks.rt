@@ -1,0 +1,27 @@
+//! How long the sequences of both processors take.
+ghost use Rattle.machine_laws.specs.HostTicks.{HostTakes, HostTakesTheTable};
+ghost use Rattle.machine_laws.specs.ParaTicks.{ParaTakes, ParaTakesTheTable};
+
+/// A sequence of the host takes three ticks for each of its cycles, and three or six more for each access that waits.
+pub fn host_sequences_take_their_ticks()
+    ensures { HostTakes }
+{}
+
+/// An instruction of the host has at least the cycles that the instruction table has for it.
+pub fn host_cycles_of_the_table()
+    ensures { HostTakesTheTable }
+{
+    cpu_core::cycles_of_the_table();
+}
+
+/// A sequence of the second processor takes two ticks for each of its cycles.
+pub fn para_sequences_take_their_ticks()
+    ensures { ParaTakes }
+{}
+
+/// An instruction of the second processor has at least the cycles that the instruction table has for it.
+pub fn para_cycles_of_the_table()
+    ensures { ParaTakesTheTable }
+{
+    cpu_core::cycles_of_the_table();
+}
