@@ -7,8 +7,8 @@ use Rattle.beeb_status.specs.declared.status.Ending.{Ending}
 use Rattle.beeb_status.specs.declared.status.Ending.TheVariants as endings
 use Rattle.beeb_status.specs.declared.status.Cause.{Cause}
 use Rattle.beeb_status.specs.declared.status.Cause.TheVariants as causes
-use Rattle.beeb_run.specs.declared.stop.Stop.{Stop}
-use Rattle.beeb_run.specs.declared.stop.Stop.TheVariants as stops
+use Rattle.beeb_stages.specs.declared.stop.Stop.{Stop}
+use Rattle.beeb_stages.specs.declared.stop.Stop.TheVariants as stops
 use Rattle.beeb_status.specs.declared.status.Which.{Which}
 use Rattle.beeb_status.specs.declared.status.Which.TheVariants.{Os, Tube, Rom, Font, Disc, Image}
 

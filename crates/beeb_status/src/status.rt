@@ -4,7 +4,7 @@ ghost use Rattle.std.specs.Fmt.{decimal};
 ghost use Rattle.beeb_status.specs.Status.{number, which_text, text, end_of};
 
 use beeb_bits::NoMemory;
-use beeb_run::{Name, Stop};
+use beeb_stages::{Name, Stop};
 use std::alloc::{AllocError, Global};
 use tube_party::Doing;
 

@@ -1,9 +1,9 @@
 -- Putting options in their places.
-use Rattle.std.proofs.Common.{◌≡◌, ◌∙◌, sym, refl, ap, ℕ, ◌+◌, ◌<◌, List, [], ◌∷◌, ◌++◌, map, drop, length, slice_index_or, slice_set, Option, Some, None, string_bytes, true, false, ◌≤◌, append_assoc, append-nil}
+use Rattle.std.proofs.Common.{◌≡◌, ◌∙◌, sym, refl, ap, ℕ, ◌+◌, ◌<◌, List, [], ◌∷◌, ◌++◌, map, drop, length, replicate, slice_index_or, slice_set, Option, Some, None, string_bytes, true, false, ◌≤◌, append_assoc, append-nil}
 use Rattle.std.specs.Option.{is_none, is_some, option_copied}
 use Rattle.std.specs.Borrow.{Bor}
 use Rattle.beeb_words.specs.declared.keys.Slot.{Slot}
-use Rattle.beeb_words.specs.declared.keys.Machines.{Machines}
+use Rattle.beeb_words.specs.declared.keys.Taker.{Taker}
 use Rattle.beeb_words.specs.Keys.{keys, key_at, fits}
 use Rattle.beeb_words.specs.Reads.{file_of, files_of}
 use Rattle.beeb_words.proofs.KeyLemmas.{key_split, no_keys}
@@ -13,7 +13,7 @@ use Rattle.std.proofs.Math.ListN.{length-map}
 use Rattle.std.specs.List.{slice_get}
 use Rattle.std.specs.declared.string.String.{String}
 use Rattle.std.specs.declared.alloc.Global.{Global}
-use Rattle.beeb_words.specs.Given.{Values, value_at, put_at}
+use Rattle.beeb_words.specs.Given.{Values, no_values, value_at, put_at}
 use Rattle.beeb_words.specs.Seen.{word_at, value_of}
 
 word_there : (words : List (String Global)) (at : ℕ) → at < length words → value_of words (Some at) ≡ Some (word_at words at)
@@ -21,16 +21,21 @@ word_there words at h =
     let there : value_of words (Some at) ≡ slice_get (map string_bytes words) at = sym (slice_get-map string_bytes words at) in
     there ∙ slice_get-get_or (map string_bytes words) at [] (rw length-map h)
 
+-- no option was given
+pub none_given : (words : List (String Global)) → map (value_of words) (replicate 24 None) ≡ no_values
+unfolding no_values keys
+none_given words = refl
+
 -- the values, where one more word has a place
 pub places_set : (words : List (String Global)) (places : List (Option ℕ)) (place at : ℕ) → at < length words →
     map (value_of words) (slice_set places place (Some at)) ≡ slice_set (map (value_of words) places) place (Some (word_at words at))
 places_set words places place at h = map-set (value_of words) places place (Some at) ∙ ap (λ v. slice_set (map (value_of words) places) place v) (word_there words at h)
 
 -- a word is put in a place that is empty
-pub put_empty : (there : Machines) (words : List (String Global)) (places : List (Option ℕ)) (place at : ℕ) → at < length words →
-    fits there place (word_at words at) ≡ true → is_none (value_at (map (value_of words) places) place) ≡ true →
-    Some (map (value_of words) (slice_set places place (Some at))) ≡ put_at there (word_at words at) (map (value_of words) places) place
-put_empty there words places place at h fit empty = rw (fit, empty, places_set words places place at h) refl
+pub put_empty : (taker : Taker) (words : List (String Global)) (places : List (Option ℕ)) (place at : ℕ) → at < length words →
+    fits taker place (word_at words at) ≡ true → is_none (value_at (map (value_of words) places) place) ≡ true →
+    Some (map (value_of words) (slice_set places place (Some at))) ≡ put_at taker (word_at words at) (map (value_of words) places) place
+put_empty taker words places place at h fit empty = rw (fit, empty, places_set words places place at h) refl
 
 -- the files from a key on
 pub files_more : (ws more : List (Slot × List ℕ × ℕ)) (i : ℕ) (values : Values) → i < 24 → length values ≡ 24 → more ≡ ws ++ file_of (key_at i).value (value_at values i) →

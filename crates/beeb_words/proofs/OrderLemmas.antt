@@ -3,7 +3,7 @@ use Rattle.std.proofs.Common.{◌≡◌, ◌≢◌, ◌⊎◌, inl, inr, ◌∙�
 use Rattle.std.specs.Prelude.{option_and_then}
 use Rattle.std.proofs.lemmas.List.{set_comm, get_or-set_same, get_or-set_other, set_past}
 use Rattle.std.specs.Option.{is_none}
-use Rattle.beeb_words.specs.declared.keys.Machines.{Machines}
+use Rattle.beeb_words.specs.declared.keys.Taker.{Taker}
 use Rattle.beeb_words.specs.Keys.{fits, place_of}
 use Rattle.beeb_words.specs.Given.{Values, value_at, put_at, put_option, put_options}
 use Rattle.beeb_words.specs.Order.{AreOrderFree}
@@ -35,43 +35,43 @@ in_or m zero = inr (omega arith)
 in_or zero (suc n) = inl (omega arith)
 in_or (suc m) (suc n) = elim (in_or m n) [ inl low ↦ inl (omega arith) | inr high ↦ inr (omega arith) ]
 
-at_two : (there : Machines) (v w : List ℕ) (m n : ℕ) (values : Values) → m ≢ n →
-    option_and_then (λ (vs : Values). put_at there w vs n) (put_at there v values m) ≡ option_and_then (λ (vs : Values). put_at there v vs m) (put_at there w values n)
-at_two there v w m n values other =
-    either (fits there m v && is_none (value_at values m)) (fits there n w && is_none (value_at values n)) (slice_set values m (Some v)) (slice_set values n (Some w))
-    (slice_set (slice_set values m (Some v)) n (Some w)) (λ (vs : Values). put_at there w vs n) (λ (vs : Values). put_at there v vs m)
+at_two : (taker : Taker) (v w : List ℕ) (m n : ℕ) (values : Values) → m ≢ n →
+    option_and_then (λ (vs : Values). put_at taker w vs n) (put_at taker v values m) ≡ option_and_then (λ (vs : Values). put_at taker v vs m) (put_at taker w values n)
+at_two taker v w m n values other =
+    either (fits taker m v && is_none (value_at values m)) (fits taker n w && is_none (value_at values n)) (slice_set values m (Some v)) (slice_set values n (Some w))
+    (slice_set (slice_set values m (Some v)) n (Some w)) (λ (vs : Values). put_at taker w vs n) (λ (vs : Values). put_at taker v vs m)
     (rw (get_or-set_other values m n (Some v) None (λ same. other (sym same))) refl)
     (rw (get_or-set_other values n m (Some w) None other, set_comm values m n (Some v) (Some w) other) refl)
 
-at_one : (there : Machines) (v w : List ℕ) (m : ℕ) (values : Values) → (m < length values) ⊎ (length values ≤ m) →
-    option_and_then (λ (vs : Values). put_at there w vs m) (put_at there v values m) ≡ option_and_then (λ (vs : Values). put_at there v vs m) (put_at there w values m)
-at_one there v w m values (inl low) =
-    neither (fits there m v && is_none (value_at values m)) (slice_set values m (Some v)) (λ (vs : Values). put_at there w vs m)
-    (rw (get_or-set_same values m (Some v) None low, not_both (fits there m w)) refl)
-    ∙ sym (neither (fits there m w && is_none (value_at values m)) (slice_set values m (Some w)) (λ (vs : Values). put_at there v vs m)
-    (rw (get_or-set_same values m (Some w) None low, not_both (fits there m v)) refl))
-at_one there v w m values (inr high) =
-    either (fits there m v && is_none (value_at values m)) (fits there m w && is_none (value_at values m)) (slice_set values m (Some v)) (slice_set values m (Some w))
-    values (λ (vs : Values). put_at there w vs m) (λ (vs : Values). put_at there v vs m)
+at_one : (taker : Taker) (v w : List ℕ) (m : ℕ) (values : Values) → (m < length values) ⊎ (length values ≤ m) →
+    option_and_then (λ (vs : Values). put_at taker w vs m) (put_at taker v values m) ≡ option_and_then (λ (vs : Values). put_at taker v vs m) (put_at taker w values m)
+at_one taker v w m values (inl low) =
+    neither (fits taker m v && is_none (value_at values m)) (slice_set values m (Some v)) (λ (vs : Values). put_at taker w vs m)
+    (rw (get_or-set_same values m (Some v) None low, not_both (fits taker m w)) refl)
+    ∙ sym (neither (fits taker m w && is_none (value_at values m)) (slice_set values m (Some w)) (λ (vs : Values). put_at taker v vs m)
+    (rw (get_or-set_same values m (Some w) None low, not_both (fits taker m v)) refl))
+at_one taker v w m values (inr high) =
+    either (fits taker m v && is_none (value_at values m)) (fits taker m w && is_none (value_at values m)) (slice_set values m (Some v)) (slice_set values m (Some w))
+    values (λ (vs : Values). put_at taker w vs m) (λ (vs : Values). put_at taker v vs m)
     (rw (set_past values m (Some v) high, set_past values m (Some w) high) refl)
     (rw (set_past values m (Some w) high, set_past values m (Some v) high) refl)
 
-at_places : (there : Machines) (v w : List ℕ) (m n : ℕ) (values : Values) → (m ≡ n) ⊎ (m ≢ n) →
-    option_and_then (λ (vs : Values). put_at there w vs n) (put_at there v values m) ≡ option_and_then (λ (vs : Values). put_at there v vs m) (put_at there w values n)
-at_places there v w m n values (inl same) = rw same (at_one there v w n values (in_or n (length values)))
-at_places there v w m n values (inr other) = at_two there v w m n values other
+at_places : (taker : Taker) (v w : List ℕ) (m n : ℕ) (values : Values) → (m ≡ n) ⊎ (m ≢ n) →
+    option_and_then (λ (vs : Values). put_at taker w vs n) (put_at taker v values m) ≡ option_and_then (λ (vs : Values). put_at taker v vs m) (put_at taker w values n)
+at_places taker v w m n values (inl same) = rw same (at_one taker v w n values (in_or n (length values)))
+at_places taker v w m n values (inr other) = at_two taker v w m n values other
 
 never : (o : Option Values) (f : Values → Option Values) → ((vs : Values) → f vs ≡ None) → option_and_then f o ≡ None
 never None f none = refl
 never (Some vs) f none = none vs
 
-swapped : (there : Machines) (v w : List ℕ) (i j : Option ℕ) (values : Values) →
-    option_and_then (λ (vs : Values). option_and_then (put_at there w vs) j) (option_and_then (put_at there v values) i)
-    ≡ option_and_then (λ (vs : Values). option_and_then (put_at there v vs) i) (option_and_then (put_at there w values) j)
-swapped there v w None None values = refl
-swapped there v w None (Some n) values = sym (never (put_at there w values n) _ (λ vs. refl))
-swapped there v w (Some m) None values = never (put_at there v values m) _ (λ vs. refl)
-swapped there v w (Some m) (Some n) values = at_places there v w m n values (same_or m n)
+swapped : (taker : Taker) (v w : List ℕ) (i j : Option ℕ) (values : Values) →
+    option_and_then (λ (vs : Values). option_and_then (put_at taker w vs) j) (option_and_then (put_at taker v values) i)
+    ≡ option_and_then (λ (vs : Values). option_and_then (put_at taker v vs) i) (option_and_then (put_at taker w values) j)
+swapped taker v w None None values = refl
+swapped taker v w None (Some n) values = sym (never (put_at taker w values n) _ (λ vs. refl))
+swapped taker v w (Some m) None values = never (put_at taker v values m) _ (λ vs. refl)
+swapped taker v w (Some m) (Some n) values = at_places taker v w m n values (same_or m n)
 
 after_both : (o : Option Values) (h k : Values → Option Values) → option_and_then (λ (vs : Values). option_and_then k (h vs)) o ≡ option_and_then k (option_and_then h o)
 after_both None h k = refl
@@ -82,8 +82,8 @@ under None f g same = refl
 under (Some vs) f g same = same vs
 
 pub order_free : AreOrderFree
-order_free there [] back a b values =
-    after_both (put_option there a values) (put_option there b) (put_options there back)
-    ∙ ap (λ (o : Option Values). option_and_then (put_options there back) o) (swapped there a.1 b.1 (place_of a.0) (place_of b.0) values)
-    ∙ sym (after_both (put_option there b values) (put_option there a) (put_options there back))
-order_free there (o ∷ front) back a b values = under (put_option there o values) _ _ (λ vs. order_free there front back a b vs)
+order_free taker [] back a b values =
+    after_both (put_option taker a values) (put_option taker b) (put_options taker back)
+    ∙ ap (λ (o : Option Values). option_and_then (put_options taker back) o) (swapped taker a.1 b.1 (place_of a.0) (place_of b.0) values)
+    ∙ sym (after_both (put_option taker b values) (put_option taker a) (put_options taker back))
+order_free taker (o ∷ front) back a b values = under (put_option taker o values) _ _ (λ vs. order_free taker front back a b vs)

@@ -3,9 +3,7 @@ use Rattle.std.proofs.Common.{refl, ℕ, ◌+◌, ◌≤◌, List, [], ◌∷◌
 use Rattle.std.proofs.lemmas.Bool.Decides.{nat_tests}
 use Rattle.std.specs.List.{filter_map, cons_option}
 use Rattle.beeb_words.specs.declared.keys.Slot.{Slot}
-use Rattle.beeb_words.specs.declared.keys.Value.{Value}
-use Rattle.beeb_words.specs.declared.keys.Value.TheVariants.{File, Number}
-use Rattle.beeb_words.specs.Keys.{Key, keys}
+use Rattle.beeb_words.specs.Keys.{Value, file, output, numeric, one_of, four_digits, Key, keys}
 use Rattle.beeb_words.specs.Given.{Values}
 use Rattle.beeb_words.specs.Command.{Command, check, asm, dis, replay, solo, run, gen, ticks_of}
 use Rattle.beeb_words.specs.Reads.{reads, file_of, files_of, rom_slot, rise_from, HaveRomSlots, IsWithin}
@@ -17,8 +15,11 @@ from_below low high (n ∷ ns) le rises = grind (arith, nat_tests)
 
 -- the slot of the paged ROM that a key is of
 abbrev key_slot : Value → Option ℕ
-key_slot (File slot) = rom_slot slot
-key_slot (Number most) = None
+key_slot (file slot) = rom_slot slot
+key_slot output = None
+key_slot (numeric least most) = None
+key_slot (one_of words) = None
+key_slot four_digits = None
 
 abbrev slots_of : List Key → List ℕ
 slots_of [] = []
@@ -39,9 +40,12 @@ taken low (Some n) ns ms more rises = let later = more (n + 1) (grind (arith, na
 file_rises : (value : Value) (v : Option (List ℕ)) (ns : List ℕ) (ws : List (Slot × List ℕ × ℕ)) (low : ℕ) →
     ((from : ℕ) → IsTrue (rise_from from ns) → IsTrue (rise_from from (slots_read ws))) →
     IsTrue (rise_from low (cons_option (key_slot value) ns)) → IsTrue (rise_from low (slots_read (file_of value v ++ ws)))
-file_rises (File slot) (Some name) ns ws low more rises = taken low (rom_slot slot) ns (slots_read ws) more rises
-file_rises (File slot) None ns ws low more rises = more low (left_out low (rom_slot slot) ns rises)
-file_rises (Number most) v ns ws low more rises = more low rises
+file_rises (file slot) (Some name) ns ws low more rises = taken low (rom_slot slot) ns (slots_read ws) more rises
+file_rises (file slot) None ns ws low more rises = more low (left_out low (rom_slot slot) ns rises)
+file_rises output v ns ws low more rises = more low rises
+file_rises (numeric least most) v ns ws low more rises = more low rises
+file_rises (one_of words) v ns ws low more rises = more low rises
+file_rises four_digits v ns ws low more rises = more low rises
 
 files_rise : (ks : List Key) (vs : Values) (low : ℕ) → IsTrue (rise_from low (slots_of ks)) → IsTrue (rise_from low (slots_read (files_of ks vs)))
 files_rise [] vs low rises = refl

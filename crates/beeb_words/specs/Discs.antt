@@ -3,7 +3,7 @@ use Rattle.std.specs.Prelude.{ℕ, ◌-◌, Bool, List, drop, length, Option, So
 use Rattle.std.specs.Str.{bytes_eq}
 use Rattle.disc_image.specs.declared.Kind.{Kind}
 use Rattle.disc_image.specs.declared.Kind.TheVariants.{Ssd, Dsd}
-use Rattle.beeb_words.specs.Given.{Values, value_at}
+use Rattle.beeb_words.specs.Given.{Values, value_of}
 
 -- the name ends in `.dsd`
 abbrev pub is_dsd : List ℕ → Bool
@@ -20,4 +20,4 @@ kind_in (Some name) = kind_of name
 
 -- the kinds of the discs in drive 0 and drive 1, by the values of their keys
 abbrev pub kinds_of : Values → Kind × Kind
-kinds_of values = (kind_in (value_at values 19), kind_in (value_at values 20))
+kinds_of values = (kind_in (value_of values (codes "--disc0")), kind_in (value_of values (codes "--disc1")))

@@ -1,9 +1,9 @@
 -- Options: pairs of words that may stand in any place among the words that stand alone.
-use Rattle.std.specs.Prelude.{ℕ, ◌&&◌, Bool, true, false, not, List, [], ◌∷◌, Option, Some, None, is_none, is_some, option_and_then, slice_index_or, slice_set, replicate, unwrap_or, if◌then◌else◌}
-use Rattle.beeb_words.specs.declared.keys.Machines.{Machines}
-use Rattle.beeb_words.specs.declared.keys.Machines.TheVariants.{Host, Para, Both}
+use Rattle.std.specs.Prelude.{ℕ, ◌&&◌, Bool, true, false, not, List, [], ◌∷◌, map, Option, Some, None, is_none, is_some, option_and_then, slice_index_or, slice_set, unwrap_or, if◌then◌else◌, codes}
+use Rattle.beeb_words.specs.declared.keys.Taker.{Taker}
+use Rattle.beeb_words.specs.declared.keys.Taker.TheVariants.{ReplayHost, ReplayPara, Solo, Run}
 use Rattle.beeb_words.specs.Alone.{is_dashed}
-use Rattle.beeb_words.specs.Keys.{place_of, fits}
+use Rattle.beeb_words.specs.Keys.{Key, keys, place_of, fits}
 use Rattle.digits.specs.Decimal.{decimal_number}
 
 -- the options among the words, in order, where the word before them may be the key of the first
@@ -22,26 +22,30 @@ is_closed true (v ∷ ws) = is_closed false ws
 abbrev pub Values : Type 0
 Values = List (Option (List ℕ))
 
--- no option was given
+-- no option was given: a value of no key
 unfoldable pub no_values : Values
-no_values = replicate 24 None
+no_values = map (λ (k : Key). None) keys
 
 abbrev pub value_at : Values → ℕ → Option (List ℕ)
 value_at values place = slice_index_or values place None
 
--- a value is put in a place that is empty, where it fits there
-abbrev pub put_at : Machines → List ℕ → Values → ℕ → Option Values
-put_at there value values place =
-    if fits there place value && is_none (value_at values place) then Some (slice_set values place (Some value)) else None
+-- the value of a key, by its word
+abbrev pub value_of : Values → List ℕ → Option (List ℕ)
+value_of values word = option_and_then (value_at values) (place_of word)
+
+-- a value is put in a place that is empty, where it fits
+abbrev pub put_at : Taker → List ℕ → Values → ℕ → Option Values
+put_at taker value values place =
+    if fits taker place value && is_none (value_at values place) then Some (slice_set values place (Some value)) else None
 
 -- one more option, its value in the place of its key
-abbrev pub put_option : Machines → List ℕ × List ℕ → Values → Option Values
-put_option there o values = option_and_then (put_at there o.1 values) (place_of o.0)
+abbrev pub put_option : Taker → List ℕ × List ℕ → Values → Option Values
+put_option taker o values = option_and_then (put_at taker o.1 values) (place_of o.0)
 
 -- the values after these options were put in their places
-abbrev pub put_options : Machines → List (List ℕ × List ℕ) → Values → Option Values
-put_options there [] values = Some values
-put_options there (o ∷ os) values = option_and_then (put_options there os) (put_option there o values)
+abbrev pub put_options : Taker → List (List ℕ × List ℕ) → Values → Option Values
+put_options taker [] values = Some values
+put_options taker (o ∷ os) values = option_and_then (put_options taker os) (put_option taker o values)
 
 -- the number of accesses that are kept, by the value of its key
 abbrev pub keep_in : Option (List ℕ) → ℕ
@@ -50,7 +54,7 @@ keep_in (Some word) = unwrap_or (decimal_number 4194304 word) 1048576
 
 -- the number of accesses that are kept
 abbrev pub keep_of : Values → ℕ
-keep_of values = keep_in (value_at values 23)
+keep_of values = keep_in (value_of values (codes "--keep"))
 
 -- the number of plugged devices, by the value of its key
 abbrev pub plugs_in : Option (List ℕ) → ℕ
@@ -59,21 +63,28 @@ plugs_in (Some word) = unwrap_or (decimal_number 8 word) 0
 
 -- the number of plugged devices, at most 8
 abbrev pub plugs_of : Values → ℕ
-plugs_of values = plugs_in (value_at values 22)
+plugs_of values = plugs_in (value_of values (codes "--plugs"))
 
--- the machines that are there have their image: `--os` the host, `--tube` the parasite
-abbrev pub has_images : Machines → Values → Bool
-has_images Host values = is_some (value_at values 0)
-has_images Para values = is_some (value_at values 1)
-has_images Both values = is_some (value_at values 0) && is_some (value_at values 1)
+abbrev pub has_os : Values → Bool
+has_os values = is_some (value_of values (codes "--os"))
 
-abbrev pub if_images : Machines → Values → Option Values
-if_images there values = if has_images there values then Some values else None
+abbrev pub has_tube : Values → Bool
+has_tube values = is_some (value_of values (codes "--tube"))
+
+-- the machines of a command have their image: `--os` the host, `--tube` the second processor
+abbrev pub has_images : Taker → Values → Bool
+has_images ReplayHost values = has_os values
+has_images ReplayPara values = has_tube values
+has_images Solo values = has_os values && has_tube values
+has_images Run values = has_os values && has_tube values
+
+abbrev pub if_images : Taker → Values → Option Values
+if_images taker values = if has_images taker values then Some values else None
 
 -- the options among the words, where each has its value
-unfoldable pub closed_options : Machines → List (List ℕ) → Option Values
-closed_options there words = if is_closed false words then put_options there (options None words) no_values else None
+unfoldable pub closed_options : Taker → List (List ℕ) → Option Values
+closed_options taker words = if is_closed false words then put_options taker (options None words) no_values else None
 
--- the options among the words, where these machines are there
-unfoldable pub given : Machines → List (List ℕ) → Option Values
-given there words = option_and_then (if_images there) (closed_options there words)
+-- the options among the words, where this command takes them
+unfoldable pub given : Taker → List (List ℕ) → Option Values
+given taker words = option_and_then (if_images taker) (closed_options taker words)

@@ -1,54 +1,85 @@
 -- The keys of the options.
-use Rattle.std.specs.Prelude.{ℕ, ◌+◌, ◌&&◌, Bool, true, false, List, [], ◌∷◌, Option, Some, None, is_some, option_map, slice_index_or, if◌then◌else◌, codes}
+use Rattle.std.specs.Prelude.{ℕ, ◌+◌, ◌&&◌, ◌==◌, nat_le, Bool, true, false, List, [], ◌∷◌, length, Option, Some, None, option_map, slice_index_or, if◌then◌else◌, codes}
+use Rattle.std.specs.List.{list_all}
 use Rattle.std.specs.Str.{bytes_eq}
+use Rattle.beeb_words.specs.declared.keys.Slot.{Slot}
 use Rattle.beeb_words.specs.declared.keys.Slot.TheVariants.{Os, Tube, Rom, Font, Disc, Keys}
-use Rattle.beeb_words.specs.declared.keys.Machines.{Machines}
-use Rattle.beeb_words.specs.declared.keys.Machines.TheVariants.{Host, Para, Both}
-use Rattle.beeb_words.specs.declared.keys.Value.{Value}
-use Rattle.beeb_words.specs.declared.keys.Value.TheVariants.{File, Number}
+use Rattle.beeb_words.specs.declared.keys.Taker.{Taker}
+use Rattle.beeb_words.specs.declared.keys.Taker.TheVariants.{ReplayHost, ReplayPara, Solo, Run}
+use Rattle.beeb_words.specs.declared.keys.Takers.{Takers}
 use Rattle.beeb_words.specs.Alone.{is_name}
 use Rattle.digits.specs.Decimal.{decimal_number}
+use Rattle.digits.specs.Hexadecimal.{is_hex}
 
--- a key: its word, the machines that have to be there, and what its value is
+-- what the value of an option is
+pub data Value : Type 0 where
+  -- the name of a file that is read
+  file : (slot : Slot) → Value
+  -- the name of an output
+  output : Value
+  -- a decimal number within these limits
+  numeric : (least most : ℕ) → Value
+  -- one of these words
+  one_of : (words : List (List ℕ)) → Value
+  -- four upper-case hexadecimal digits
+  four_digits : Value
+
+-- a key: its word, the commands that take it, and what its value is
 pub record Key : Type 0 where
   pub word : List ℕ
-  pub machines : Machines
+  pub takers : Takers
   pub value : Value
 
-abbrev pub key : List ℕ → Machines → Value → Key
-key word machines value = record { word = word; machines = machines; value = value }
+abbrev pub key : List ℕ → Takers → Value → Key
+key word takers value = record { word = word; takers = takers; value = value }
+
+-- the commands that have a host
+abbrev pub hosts : Takers
+hosts = record { replay_host = true; replay_para = false; solo = true; run = true }
+
+-- the commands that have a second processor
+abbrev pub paras : Takers
+paras = record { replay_host = false; replay_para = true; solo = true; run = true }
+
+-- the commands that have both
+abbrev pub pairs : Takers
+pairs = record { replay_host = false; replay_para = false; solo = true; run = true }
 
 -- The keys. Those of files stand in the order in which the files are read.
 unfoldable pub keys : List Key
 keys =
-    key (codes "--os") Host (File Os)
-    ∷ key (codes "--tube") Para (File Tube)
-    ∷ key (codes "--rom0") Host (File (Rom 0))
-    ∷ key (codes "--rom1") Host (File (Rom 1))
-    ∷ key (codes "--rom2") Host (File (Rom 2))
-    ∷ key (codes "--rom3") Host (File (Rom 3))
-    ∷ key (codes "--rom4") Host (File (Rom 4))
-    ∷ key (codes "--rom5") Host (File (Rom 5))
-    ∷ key (codes "--rom6") Host (File (Rom 6))
-    ∷ key (codes "--rom7") Host (File (Rom 7))
-    ∷ key (codes "--rom8") Host (File (Rom 8))
-    ∷ key (codes "--rom9") Host (File (Rom 9))
-    ∷ key (codes "--rom10") Host (File (Rom 10))
-    ∷ key (codes "--rom11") Host (File (Rom 11))
-    ∷ key (codes "--rom12") Host (File (Rom 12))
-    ∷ key (codes "--rom13") Host (File (Rom 13))
-    ∷ key (codes "--rom14") Host (File (Rom 14))
-    ∷ key (codes "--rom15") Host (File (Rom 15))
-    ∷ key (codes "--font") Host (File Font)
-    ∷ key (codes "--disc0") Host (File (Disc 0))
-    ∷ key (codes "--disc1") Host (File (Disc 1))
-    ∷ key (codes "--keys") Host (File Keys)
-    ∷ key (codes "--plugs") Host (Number 8)
-    ∷ key (codes "--keep") Both (Number 4194304)
+    key (codes "--os") hosts (file Os)
+    ∷ key (codes "--tube") paras (file Tube)
+    ∷ key (codes "--rom0") hosts (file (Rom 0))
+    ∷ key (codes "--rom1") hosts (file (Rom 1))
+    ∷ key (codes "--rom2") hosts (file (Rom 2))
+    ∷ key (codes "--rom3") hosts (file (Rom 3))
+    ∷ key (codes "--rom4") hosts (file (Rom 4))
+    ∷ key (codes "--rom5") hosts (file (Rom 5))
+    ∷ key (codes "--rom6") hosts (file (Rom 6))
+    ∷ key (codes "--rom7") hosts (file (Rom 7))
+    ∷ key (codes "--rom8") hosts (file (Rom 8))
+    ∷ key (codes "--rom9") hosts (file (Rom 9))
+    ∷ key (codes "--rom10") hosts (file (Rom 10))
+    ∷ key (codes "--rom11") hosts (file (Rom 11))
+    ∷ key (codes "--rom12") hosts (file (Rom 12))
+    ∷ key (codes "--rom13") hosts (file (Rom 13))
+    ∷ key (codes "--rom14") hosts (file (Rom 14))
+    ∷ key (codes "--rom15") hosts (file (Rom 15))
+    ∷ key (codes "--font") hosts (file Font)
+    ∷ key (codes "--disc0") hosts (file (Disc 0))
+    ∷ key (codes "--disc1") hosts (file (Disc 1))
+    ∷ key (codes "--keys") hosts (file Keys)
+    ∷ key (codes "--plugs") hosts (numeric 0 8)
+    ∷ key (codes "--keep") pairs (numeric 0 4194304)
     ∷ []
 
+-- what stands past the last key
+abbrev pub no_key : Key
+no_key = key [] (record { replay_host = false; replay_para = false; solo = false; run = false }) output
+
 abbrev pub key_at : ℕ → Key
-key_at place = slice_index_or keys place (key [] Both (Number 0))
+key_at place = slice_index_or keys place no_key
 
 -- the place of a word among some keys
 abbrev pub place_in : List Key → List ℕ → Option ℕ
@@ -59,28 +90,34 @@ place_in (k ∷ ks) word = if bytes_eq k.word word then Some 0 else option_map (
 abbrev pub place_of : List ℕ → Option ℕ
 place_of word = place_in keys word
 
-abbrev pub same_machines : Machines → Machines → Bool
-same_machines Host Host = true
-same_machines Para Para = true
-same_machines Both Both = true
-same_machines Host Para = false
-same_machines Host Both = false
-same_machines Para Host = false
-same_machines Para Both = false
-same_machines Both Host = false
-same_machines Both Para = false
+-- a command is among those that take an option
+abbrev pub takes : Taker → Takers → Bool
+takes ReplayHost takers = takers.replay_host
+takes ReplayPara takers = takers.replay_para
+takes Solo takers = takers.solo
+takes Run takers = takers.run
 
--- the machines that have to be there are there
-abbrev pub takes : Machines → Machines → Bool
-takes Both needed = true
-takes Host needed = same_machines Host needed
-takes Para needed = same_machines Para needed
+-- a number that was read, if it is not too small
+abbrev pub is_from : ℕ → Option ℕ → Bool
+is_from least None = false
+is_from least (Some n) = nat_le least n
+
+-- a word is one of some words
+abbrev pub is_among : List (List ℕ) → List ℕ → Bool
+is_among [] word = false
+is_among (w ∷ ws) word = if bytes_eq w word then true else is_among ws word
+
+abbrev pub is_four_digits : List ℕ → Bool
+is_four_digits word = length word == 4 && list_all is_hex word
 
 -- a word may be such a value
 abbrev pub is_value : Value → List ℕ → Bool
-is_value (File slot) word = is_name word
-is_value (Number most) word = is_some (decimal_number most word)
+is_value (file slot) word = is_name word
+is_value output word = is_name word
+is_value (numeric least most) word = is_from least (decimal_number most word)
+is_value (one_of words) word = is_among words word
+is_value four_digits word = is_four_digits word
 
--- an option of the key at a place may have this value where these machines are there
-abbrev pub fits : Machines → ℕ → List ℕ → Bool
-fits there place value = takes there (key_at place).machines && is_value (key_at place).value value
+-- an option of the key at a place may have this value where this command takes it
+abbrev pub fits : Taker → ℕ → List ℕ → Bool
+fits taker place value = takes taker (key_at place).takers && is_value (key_at place).value value

@@ -7,3 +7,4 @@ pub mod Words
 pub mod Reads
 pub mod Seen
 pub mod Order
+pub mod Places

@@ -3,17 +3,18 @@ use Rattle.std.specs.Prelude.{ℕ, ◌+◌, ◌≤◌, ◌&&◌, nat_le, nat_lt,
 use Rattle.std.specs.List.{filter_map}
 use Rattle.beeb_words.specs.declared.keys.Slot.{Slot}
 use Rattle.beeb_words.specs.declared.keys.Slot.TheVariants.{Trace, Source, Image, Os, Tube, Rom, Font, Disc, Keys}
-use Rattle.beeb_words.specs.declared.keys.Value.{Value}
-use Rattle.beeb_words.specs.declared.keys.Value.TheVariants.{File, Number}
-use Rattle.beeb_words.specs.Keys.{Key, keys}
+use Rattle.beeb_words.specs.Keys.{Value, file, output, numeric, one_of, four_digits, Key, keys}
 use Rattle.beeb_words.specs.Given.{Values}
 use Rattle.beeb_words.specs.Command.{Command, check, asm, dis, replay, solo, run, gen, ticks_of}
 
 -- the file that an option gives
 abbrev pub file_of : Value → Option (List ℕ) → List (Slot × List ℕ × ℕ)
-file_of (File slot) (Some name) = (slot, name, 1048576) ∷ []
-file_of (File slot) None = []
-file_of (Number most) given = []
+file_of (file slot) (Some name) = (slot, name, 1048576) ∷ []
+file_of (file slot) None = []
+file_of output given = []
+file_of (numeric least most) given = []
+file_of (one_of words) given = []
+file_of four_digits given = []
 
 -- the files that the options give, in the order of their keys
 abbrev pub files_of : List Key → Values → List (Slot × List ℕ × ℕ)

@@ -7,6 +7,8 @@ use Rattle.beeb_words.specs.declared.command.Command.{Command}
 use Rattle.beeb_words.specs.declared.command.Command.TheVariants.{Check, Asm, Dis, Replay, Solo, Run, Gen}
 use Rattle.beeb_words.specs.declared.given.Given.{Given}
 use Rattle.beeb_words.specs.declared.keys.Key.{Key}
+use Rattle.beeb_words.specs.declared.keys.Value.{Value}
+use Rattle.beeb_words.specs.declared.keys.Value.TheVariants.{File, Output, Number, OneOf, FourDigits}
 use Rattle.beeb_words.specs.declared.words.Both.{Both}
 use Rattle.beeb_words.specs.declared.keys.Slot.{Slot}
 use Rattle.beeb_words.specs.Command as commands
@@ -35,8 +37,19 @@ seen (Solo ticks out keep given) = commands.solo ticks out.now keep (seen_given 
 seen (Run ticks out keep given) = commands.run ticks out.now keep (seen_given given)
 seen (Gen seed) = commands.gen seed
 
+-- a word of a row
+abbrev pub seen_word : Bor (List ℕ) → List ℕ
+seen_word w = w.now
+
+abbrev pub seen_value : Value → keys.Value
+seen_value (File slot) = keys.file slot
+seen_value Output = keys.output
+seen_value (Number least most) = keys.numeric least most
+seen_value (OneOf words) = keys.one_of (map seen_word words.now)
+seen_value FourDigits = keys.four_digits
+
 abbrev pub seen_key : Key → keys.Key
-seen_key k = keys.key k.word.now k.machines k.value
+seen_key k = keys.key k.word.now k.takers (seen_value k.value)
 
 -- what a file is, its name and its cap
 abbrev pub seen_want : Slot × Bor (List ℕ) × ℕ → Slot × List ℕ × ℕ

@@ -1,18 +1,18 @@
 -- The grammar of the words.
-use Rattle.std.specs.Prelude.{ℕ, ◌==◌, ◌&&◌, false, List, [], ◌∷◌, length, Option, Some, None, option_map, option_and_then, if◌then◌else◌, codes}
-use Rattle.std.specs.List.{list_all}
+use Rattle.std.specs.Prelude.{ℕ, ◌&&◌, false, List, [], ◌∷◌, Option, Some, None, option_map, option_and_then, if◌then◌else◌, codes}
 use Rattle.std.specs.Str.{bytes_eq}
 use Rattle.op_table.specs.declared.Part.{Part}
 use Rattle.op_table.specs.declared.Part.TheVariants.{Nmos, Cmos}
 use Rattle.beeb_bits.specs.declared.Side.{Side}
 use Rattle.beeb_bits.specs.declared.Side.TheVariants.{Host, Para}
-use Rattle.beeb_words.specs.declared.keys.Machines.{Machines}
-use Rattle.beeb_words.specs.declared.keys.Machines.TheVariants as machines
+use Rattle.beeb_words.specs.declared.keys.Taker.{Taker}
+use Rattle.beeb_words.specs.declared.keys.Taker.TheVariants as takers
+use Rattle.beeb_words.specs.Keys.{is_four_digits}
 use Rattle.beeb_words.specs.Command.{Command, check, asm, dis, replay, solo, run, gen}
 use Rattle.beeb_words.specs.Alone.{is_name, alone, two, four}
 use Rattle.beeb_words.specs.Given.{given, keep_of, Values}
 use Rattle.digits.specs.Decimal.{decimal_number}
-use Rattle.digits.specs.Hexadecimal.{is_hex, hex_number}
+use Rattle.digits.specs.Hexadecimal.{hex_number}
 
 -- the words after `check`: TRACE
 abbrev pub check_words : List (List ℕ) → Option Command
@@ -26,7 +26,7 @@ part_of word = if bytes_eq word (codes "6502") then Some Nmos else if bytes_eq w
 
 -- ORIGIN: four upper-case hexadecimal digits
 abbrev pub origin_of : List ℕ → Option ℕ
-origin_of word = if length word == 4 && list_all is_hex word then Some (hex_number word) else None
+origin_of word = if is_four_digits word then Some (hex_number word) else None
 
 abbrev pub asm_with : Option Part → List ℕ → List ℕ → Option Command
 asm_with None source out = None
@@ -58,13 +58,14 @@ dis_words (part ∷ image ∷ origin ∷ out ∷ more ∷ words) = None
 abbrev pub side_of : List ℕ → Option Side
 side_of word = if bytes_eq word (codes "host") then Some Host else if bytes_eq word (codes "para") then Some Para else None
 
-abbrev pub machines_of : Side → Machines
-machines_of Host = machines.Host
-machines_of Para = machines.Para
+-- the replay of a side
+abbrev pub replay_of : Side → Taker
+replay_of Host = takers.ReplayHost
+replay_of Para = takers.ReplayPara
 
 abbrev pub replay_with : List ℕ → List ℕ → List (List ℕ) → Side → ℕ → Option Command
 replay_with trace out words side ticks =
-    if is_name trace && is_name out then option_map (replay side trace ticks out) (given (machines_of side) words) else None
+    if is_name trace && is_name out then option_map (replay side trace ticks out) (given (replay_of side) words) else None
 
 -- SIDE TRACE TICKS OUT
 abbrev pub replay_by : List (List ℕ) → List ℕ × List ℕ × List ℕ × List ℕ → Option Command
@@ -84,22 +85,22 @@ pub record Both : Type 0 where
 abbrev pub both_given : ℕ → List ℕ → Values → Both
 both_given ticks out given = record { ticks = ticks; out = out; keep = keep_of given; given = given }
 
-abbrev pub both_with : List ℕ → List (List ℕ) → ℕ → Option Both
-both_with out words ticks = if is_name out then option_map (both_given ticks out) (given machines.Both words) else None
+abbrev pub both_with : Taker → List ℕ → List (List ℕ) → ℕ → Option Both
+both_with taker out words ticks = if is_name out then option_map (both_given ticks out) (given taker words) else None
 
 -- TICKS OUT
-abbrev pub both_by : List (List ℕ) → List ℕ × List ℕ → Option Both
-both_by words w = option_and_then (both_with w.1 words) (decimal_number 1073741824 w.0)
+abbrev pub both_by : Taker → List (List ℕ) → List ℕ × List ℕ → Option Both
+both_by taker words w = option_and_then (both_with taker w.1 words) (decimal_number 1073741824 w.0)
 
--- the words after `solo` and after `run`: TICKS OUT, with the options of both machines in any place among them
-abbrev pub both_words : List (List ℕ) → Option Both
-both_words words = option_and_then (both_by words) (two (alone false words))
+-- the words after `solo` and after `run`: TICKS OUT, with the options of the command in any place among them
+abbrev pub both_words : Taker → List (List ℕ) → Option Both
+both_words taker words = option_and_then (both_by taker words) (two (alone false words))
 
 abbrev pub solo_words : List (List ℕ) → Option Command
-solo_words words = option_map (λ (b : Both). solo b.ticks b.out b.keep b.given) (both_words words)
+solo_words words = option_map (λ (b : Both). solo b.ticks b.out b.keep b.given) (both_words takers.Solo words)
 
 abbrev pub run_words : List (List ℕ) → Option Command
-run_words words = option_map (λ (b : Both). run b.ticks b.out b.keep b.given) (both_words words)
+run_words words = option_map (λ (b : Both). run b.ticks b.out b.keep b.given) (both_words takers.Run words)
 
 -- the words after `gen`: SEED, below 2^64
 abbrev pub gen_words : List (List ℕ) → Option Command

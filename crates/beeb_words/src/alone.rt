@@ -24,7 +24,8 @@ pub(crate) fn is_name(word: &str) -> bool
 
 /// The first word that stands alone, and the words after it.
 fn next_alone(words: &[String]) -> Option<(&str, &[String])>
-    ensures { MatchOption result (alone false (map string_bytes words.now) ≡ []) (λ p. alone false (map string_bytes words.now) ≡ p.0.now ∷ alone false (map string_bytes p.1.now)) }
+    ensures { let all = alone false (map string_bytes words.now) in
+        MatchOption result (all ≡ []) (λ p. all ≡ p.0.now ∷ alone false (map string_bytes p.1.now)) }
 {
     let mut skip = false;
     for (i, word) in words.iter().enumerate() {
@@ -53,7 +54,8 @@ pub(crate) fn two_alone(words: &[String]) -> Option<(&str, &str)>
 
 /// The four words that stand alone, if they are four.
 pub(crate) fn four_alone(words: &[String]) -> Option<(&str, &str, &str, &str)>
-    ensures { option_map (λ p. (p.0.now, p.1.now, p.2.now, p.3.now)) result ≡ four (alone false (map string_bytes words.now)) }
+    ensures { let all = alone false (map string_bytes words.now) in
+        option_map (λ p. (p.0.now, p.1.now, p.2.now, p.3.now)) result ≡ four all }
 {
     let (first, rest) = next_alone(words)?;
     let (second, rest) = next_alone(rest)?;

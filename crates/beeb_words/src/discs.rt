@@ -6,12 +6,6 @@ ghost use Rattle.beeb_words.specs.Seen.{seen_given};
 use crate::given::Given;
 use disc_image::Kind;
 
-/// The place of the key `--disc0`.
-const DISC0: usize = 19;
-
-/// The place of the key `--disc1`.
-const DISC1: usize = 20;
-
 /// How the name of a DSD ends.
 const DSD: &[u8] = b".dsd";
 
@@ -39,6 +33,9 @@ impl<'a> Given<'a> {
     pub fn disc_kinds(&self) -> (Kind, Kind)
         ensures { result ≡ kinds_of (seen_given self.now) }
     {
-        (kind_in(self.value(DISC0)), kind_in(self.value(DISC1)))
+        (
+            kind_in(self.value_of("--disc0")),
+            kind_in(self.value_of("--disc1")),
+        )
     }
 }

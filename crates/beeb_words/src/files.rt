@@ -2,7 +2,7 @@
 ghost use Rattle.std.specs.Prelude.{◌≡◌, ◌∷◌, ◌++◌, [], map, IfOk, option_copied};
 ghost use Rattle.beeb_words.specs.Keys.{keys};
 ghost use Rattle.beeb_words.specs.Reads.{reads, file_of, files_of};
-ghost use Rattle.beeb_words.specs.Seen.{seen, seen_given, seen_want};
+ghost use Rattle.beeb_words.specs.Seen.{seen, seen_given, seen_value, seen_want};
 
 use crate::command::Command;
 use crate::given::Given;
@@ -36,7 +36,8 @@ fn with_option<'a>(
     kind: Value,
     name: Option<&'a str>,
 ) -> Result<Vec<Want<'a>>, AllocError>
-    ensures { IfOk result (λ v. map seen_want v.items ≡ map seen_want wants.entry.items ++ file_of kind (option_copied name.entry)) }
+    ensures { let more = file_of (seen_value kind) (option_copied name.entry) in
+        IfOk result (λ v. map seen_want v.items ≡ map seen_want wants.entry.items ++ more) }
 {
     match (kind, name) {
         (Value::File(slot), Some(name)) => {
@@ -50,7 +51,8 @@ fn with_option<'a>(
 
 // These files, and those that the options give.
 fn with_options<'a>(files: Vec<Want<'a>>, given: Given<'a>) -> Result<Vec<Want<'a>>, AllocError>
-    ensures { IfOk result (λ v. map seen_want v.items ≡ map seen_want files.entry.items ++ files_of keys (seen_given given.entry)) }
+    ensures { let more = files_of keys (seen_given given.entry) in
+        IfOk result (λ v. map seen_want v.items ≡ map seen_want files.entry.items ++ more) }
 {
     let mut wants = files;
     for i in 0..COUNT {

@@ -1,23 +1,13 @@
 //! Options among the words.
-ghost use Rattle.std.specs.Prelude.{◌≡◌, ◌<◌, ◌≤◌, map, length, option_map, option_copied, IfSome, string_bytes};
-ghost use Rattle.beeb_words.specs.Given.{given, closed_options, value_at, put_at, put_option, keep_in, keep_of, plugs_in, plugs_of, has_images};
+ghost use Rattle.std.specs.Prelude.{◌≡◌, ◌<◌, ◌≤◌, map, length, option_map, option_copied, IfSome};
+ghost use Rattle.std.specs.Prelude.{string_bytes};
+ghost use Rattle.beeb_words.specs.Given.{given, closed_options, value_at, value_of, put_at, put_option};
+ghost use Rattle.beeb_words.specs.Given.{keep_in, keep_of, plugs_in, plugs_of, has_os, has_tube, has_images};
 ghost use Rattle.beeb_words.specs.Seen.{seen_given, word_at};
 
 use crate::alone::is_dashed;
-use crate::keys::{Machines, fits, place_of};
+use crate::keys::{COUNT, Taker, fits, place_of};
 use digits::decimal_number;
-
-/// The place of the key `--os`.
-pub(crate) const OS: usize = 0;
-
-/// The place of the key `--tube`.
-pub(crate) const TUBE: usize = 1;
-
-/// The place of the key `--plugs`.
-const PLUGS: usize = 22;
-
-/// The place of the key `--keep`.
-const KEEP: usize = 23;
 
 /// The most accesses that can be kept.
 const MOST_KEEP: u64 = 4_194_304;
@@ -59,26 +49,36 @@ fn plugs_in(value: Option<&str>) -> usize
 #[derive(Clone, Copy)]
 pub struct Given<'a> {
     pub(crate) words: &'a [String],
-    pub(crate) places: [Option<usize>; 24],
+    pub(crate) places: [Option<usize>; COUNT],
 }
 
 impl<'a> Given<'a> {
     /// The value of the key at a place.
     pub(crate) fn value(&self, place: usize) -> Option<&'a str>
-        requires { place < 24 }
+        requires { place < COUNT }
         ensures value { option_copied result ≡ value_at (seen_given self.now) place }
-        ensures many { length (seen_given self.now) ≡ 24 }
+        ensures many { length (seen_given self.now) ≡ COUNT }
     {
         let at = self.places[place]?;
         let word = self.words.get(at)?;
         Some(word.as_str())
     }
 
+    /// The value of a key, by its word.
+    pub(crate) fn value_of(&self, key: &str) -> Option<&'a str>
+        ensures { option_copied result ≡ value_of (seen_given self.now) key.now }
+    {
+        match place_of(key) {
+            Some(place) => self.value(place),
+            None => None,
+        }
+    }
+
     /// The number of accesses that are kept.
     pub(crate) fn keep(&self) -> u32
         ensures { result ≡ keep_of (seen_given self.now) }
     {
-        keep_in(self.value(KEEP))
+        keep_in(self.value_of("--keep"))
     }
 
     /// The number of devices that are to be plugged, 0 where the words do not say it. Where fewer devices are handed in, all are plugged.
@@ -86,29 +86,42 @@ impl<'a> Given<'a> {
         ensures number { result ≡ plugs_of (seen_given self.now) }
         ensures bound { result ≤ 8 }
     {
-        plugs_in(self.value(PLUGS))
+        plugs_in(self.value_of("--plugs"))
     }
 
-    // The machines that are there have their image.
-    fn has_images(&self, there: Machines) -> bool
-        ensures { result ≡ has_images there (seen_given self.now) }
+    fn has_os(&self) -> bool
+        ensures { result ≡ has_os (seen_given self.now) }
     {
-        match there {
-            Machines::Host => self.value(OS).is_some(),
-            Machines::Para => self.value(TUBE).is_some(),
-            Machines::Both => self.value(OS).is_some() && self.value(TUBE).is_some(),
+        self.value_of("--os").is_some()
+    }
+
+    fn has_tube(&self) -> bool
+        ensures { result ≡ has_tube (seen_given self.now) }
+    {
+        self.value_of("--tube").is_some()
+    }
+
+    // The machines of a command have their image.
+    fn has_images(&self, taker: Taker) -> bool
+        ensures { result ≡ has_images taker (seen_given self.now) }
+    {
+        match taker {
+            Taker::ReplayHost => self.has_os(),
+            Taker::ReplayPara => self.has_tube(),
+            Taker::Solo | Taker::Run => self.has_os() && self.has_tube(),
         }
     }
 
     #[tactic(auto, using(crate::proofs::GivenLemmas::places_set))]
     // These options, and one more, at a place that is to be empty, whose value is the word `at`.
-    fn put_at(self, there: Machines, place: usize, at: usize) -> Option<Given<'a>>
-        requires place { place < 24 }
+    fn put_at(self, taker: Taker, place: usize, at: usize) -> Option<Given<'a>>
+        requires place { place < COUNT }
         requires at { at < length self.words.now }
-        ensures values { option_map seen_given result ≡ put_at there (word_at self.entry.words.now at) (seen_given self.entry) place }
+        ensures values { let word = word_at self.entry.words.now at in
+            option_map seen_given result ≡ put_at taker word (seen_given self.entry) place }
         ensures words { IfSome result (λ g. g.words.now ≡ self.entry.words.now) }
     {
-        if fits(there, place, self.words[at].as_str()) && self.value(place).is_none() {
+        if fits(taker, place, self.words[at].as_str()) && self.value(place).is_none() {
             let mut places = self.places;
             places[place] = Some(at);
             Some(Given {
@@ -121,13 +134,14 @@ impl<'a> Given<'a> {
     }
 
     // These options, and one more, of this key, whose value is the word `at`.
-    fn put(self, there: Machines, key: &str, at: usize) -> Option<Given<'a>>
+    fn put(self, taker: Taker, key: &str, at: usize) -> Option<Given<'a>>
         requires { at < length self.words.now }
-        ensures values { option_map seen_given result ≡ put_option there (key.now, word_at self.entry.words.now at) (seen_given self.entry) }
+        ensures values { let word = word_at self.entry.words.now at in
+            option_map seen_given result ≡ put_option taker (key.now, word) (seen_given self.entry) }
         ensures words { IfSome result (λ g. g.words.now ≡ self.entry.words.now) }
     {
         match place_of(key) {
-            Some(place) => self.put_at(there, place, at),
+            Some(place) => self.put_at(taker, place, at),
             None => None,
         }
     }
@@ -135,18 +149,18 @@ impl<'a> Given<'a> {
 
 #[tactic(auto, unfolding(crate::specs::Given::closed_options, crate::specs::Given::no_values))]
 // The options among the words, each in its place.
-fn put_options(words: &[String], there: Machines) -> Option<Given<'_>>
-    ensures { option_map seen_given result ≡ closed_options there (map string_bytes words.now) }
+fn put_options(words: &[String], taker: Taker) -> Option<Given<'_>>
+    ensures { option_map seen_given result ≡ closed_options taker (map string_bytes words.now) }
 {
     let mut given = Given {
         words,
-        places: [None; 24],
+        places: [None; COUNT],
     };
     let mut key: Option<&str> = None;
     for (i, word) in words.iter().enumerate() {
         match key {
             Some(held) => {
-                match given.put(there, held, i) {
+                match given.put(taker, held, i) {
                     Some(more) => given = more,
                     None => return None,
                 }
@@ -163,12 +177,12 @@ fn put_options(words: &[String], there: Machines) -> Option<Given<'_>>
 }
 
 #[tactic(auto, unfolding(crate::specs::Given::given))]
-/// The options among the words, where these machines are there and have their images.
-pub(crate) fn options_among(words: &[String], there: Machines) -> Option<Given<'_>>
-    ensures { option_map seen_given result ≡ given there (map string_bytes words.now) }
+/// The options among the words, where this command takes them and its machines have their images.
+pub(crate) fn options_among(words: &[String], taker: Taker) -> Option<Given<'_>>
+    ensures { option_map seen_given result ≡ given taker (map string_bytes words.now) }
 {
-    match put_options(words, there) {
-        Some(given) if given.has_images(there) => Some(given),
+    match put_options(words, taker) {
+        Some(given) if given.has_images(taker) => Some(given),
         _ => None,
     }
 }

@@ -1,11 +1,12 @@
 //! The keys of the options.
-ghost use Rattle.std.specs.Prelude.{◌≡◌, ◌<◌, IfSome};
-ghost use Rattle.beeb_words.specs.Seen.{seen_key};
-ghost use Rattle.beeb_words.specs.Keys.{key_at, place_of, fits, takes, is_value};
+ghost use Rattle.std.specs.Prelude.{◌≡◌, ◌<◌, map, IfSome};
+ghost use Rattle.digits.specs.Decimal.{decimal_number};
+ghost use Rattle.beeb_words.specs.Seen.{seen_word, seen_value, seen_key};
+ghost use Rattle.beeb_words.specs.Keys.{key_at, place_of, fits, takes, is_from, is_among, is_four_digits, is_value};
 ghost use Rattle.beeb_words.specs.Keys as keys;
 
 use crate::alone::is_name;
-use digits::decimal_number;
+use digits::{all_hex, decimal_number};
 
 /// What a file is to a command.
 #[derive(Clone, Copy, Debug, PartialEq, Eq)]
@@ -30,83 +31,141 @@ pub enum Slot {
     Keys,
 }
 
-/// Which machines are there, or have to be there.
+/// A command that takes options.
 #[derive(Clone, Copy, Debug, PartialEq, Eq)]
-pub enum Machines {
-    /// The host alone.
-    Host,
-    /// The parasite alone.
-    Para,
-    Both,
+pub(crate) enum Taker {
+    /// `replay host`
+    ReplayHost,
+    /// `replay para`
+    ReplayPara,
+    /// `solo`
+    Solo,
+    /// `run`
+    Run,
 }
+
+/// Which commands take an option.
+#[derive(Clone, Copy)]
+pub(crate) struct Takers {
+    pub(crate) replay_host: bool,
+    pub(crate) replay_para: bool,
+    pub(crate) solo: bool,
+    pub(crate) run: bool,
+}
+
+/// The commands that have a host.
+const HOSTS: Takers = Takers {
+    replay_host: true,
+    replay_para: false,
+    solo: true,
+    run: true,
+};
+
+/// The commands that have a second processor.
+const PARAS: Takers = Takers {
+    replay_host: false,
+    replay_para: true,
+    solo: true,
+    run: true,
+};
+
+/// The commands that have both.
+const PAIRS: Takers = Takers {
+    replay_host: false,
+    replay_para: false,
+    solo: true,
+    run: true,
+};
+
+/// No command.
+const NOBODY: Takers = Takers {
+    replay_host: false,
+    replay_para: false,
+    solo: false,
+    run: false,
+};
 
 /// What the value of an option is.
 #[derive(Clone, Copy)]
 pub(crate) enum Value {
-    /// The name of a file.
+    /// The name of a file that is read.
     File(Slot),
-    /// A number of at most this.
-    Number(u64),
+    /// The name of an output.
+    Output,
+    /// A decimal number within these limits.
+    Number { least: u64, most: u64 },
+    /// One of these words.
+    OneOf(&'static [&'static str]),
+    /// Four upper-case hexadecimal digits.
+    FourDigits,
+}
+
+/// A key: its word, the commands that take it, and what its value is.
+#[derive(Clone, Copy)]
+struct Key {
+    word: &'static str,
+    takers: Takers,
+    value: Value,
 }
 
 /// The number of keys.
 pub(crate) const COUNT: usize = 24;
 
-/// A key: its word, the machines that have to be there, and what its value is.
-#[derive(Clone, Copy)]
-struct Key {
-    word: &'static str,
-    machines: Machines,
-    value: Value,
-}
-
-fn row(word: &'static str, machines: Machines, value: Value) -> Key
-    ensures { seen_key result ≡ keys.key word.now machines value }
+// A row of the table.
+fn row(word: &'static str, takers: Takers, value: Value) -> Key
+    ensures { seen_key result ≡ keys.key word.now takers (seen_value value) }
 {
     Key {
         word,
-        machines,
+        takers,
         value,
     }
 }
 
-// The key at a place. The keys of files stand in the order in which the files are read.
+// The table of the keys, by their places. Those of files stand in the order in which the files are read.
 #[tactic(auto, unfolding(crate::specs::Keys::keys))]
 fn key_at(place: usize) -> Key
     ensures { seen_key result ≡ key_at place }
 {
     match place {
-        0 => row("--os", Machines::Host, Value::File(Slot::Os)),
-        1 => row("--tube", Machines::Para, Value::File(Slot::Tube)),
-        2 => row("--rom0", Machines::Host, Value::File(Slot::Rom(0))),
-        3 => row("--rom1", Machines::Host, Value::File(Slot::Rom(1))),
-        4 => row("--rom2", Machines::Host, Value::File(Slot::Rom(2))),
-        5 => row("--rom3", Machines::Host, Value::File(Slot::Rom(3))),
-        6 => row("--rom4", Machines::Host, Value::File(Slot::Rom(4))),
-        7 => row("--rom5", Machines::Host, Value::File(Slot::Rom(5))),
-        8 => row("--rom6", Machines::Host, Value::File(Slot::Rom(6))),
-        9 => row("--rom7", Machines::Host, Value::File(Slot::Rom(7))),
-        10 => row("--rom8", Machines::Host, Value::File(Slot::Rom(8))),
-        11 => row("--rom9", Machines::Host, Value::File(Slot::Rom(9))),
-        12 => row("--rom10", Machines::Host, Value::File(Slot::Rom(10))),
-        13 => row("--rom11", Machines::Host, Value::File(Slot::Rom(11))),
-        14 => row("--rom12", Machines::Host, Value::File(Slot::Rom(12))),
-        15 => row("--rom13", Machines::Host, Value::File(Slot::Rom(13))),
-        16 => row("--rom14", Machines::Host, Value::File(Slot::Rom(14))),
-        17 => row("--rom15", Machines::Host, Value::File(Slot::Rom(15))),
-        18 => row("--font", Machines::Host, Value::File(Slot::Font)),
-        19 => row("--disc0", Machines::Host, Value::File(Slot::Disc(0))),
-        20 => row("--disc1", Machines::Host, Value::File(Slot::Disc(1))),
-        21 => row("--keys", Machines::Host, Value::File(Slot::Keys)),
-        22 => row("--plugs", Machines::Host, Value::Number(8)),
-        23 => row("--keep", Machines::Both, Value::Number(4_194_304)),
-        _ => row("", Machines::Both, Value::Number(0)),
+        0 => row("--os", HOSTS, Value::File(Slot::Os)),
+        1 => row("--tube", PARAS, Value::File(Slot::Tube)),
+        2 => row("--rom0", HOSTS, Value::File(Slot::Rom(0))),
+        3 => row("--rom1", HOSTS, Value::File(Slot::Rom(1))),
+        4 => row("--rom2", HOSTS, Value::File(Slot::Rom(2))),
+        5 => row("--rom3", HOSTS, Value::File(Slot::Rom(3))),
+        6 => row("--rom4", HOSTS, Value::File(Slot::Rom(4))),
+        7 => row("--rom5", HOSTS, Value::File(Slot::Rom(5))),
+        8 => row("--rom6", HOSTS, Value::File(Slot::Rom(6))),
+        9 => row("--rom7", HOSTS, Value::File(Slot::Rom(7))),
+        10 => row("--rom8", HOSTS, Value::File(Slot::Rom(8))),
+        11 => row("--rom9", HOSTS, Value::File(Slot::Rom(9))),
+        12 => row("--rom10", HOSTS, Value::File(Slot::Rom(10))),
+        13 => row("--rom11", HOSTS, Value::File(Slot::Rom(11))),
+        14 => row("--rom12", HOSTS, Value::File(Slot::Rom(12))),
+        15 => row("--rom13", HOSTS, Value::File(Slot::Rom(13))),
+        16 => row("--rom14", HOSTS, Value::File(Slot::Rom(14))),
+        17 => row("--rom15", HOSTS, Value::File(Slot::Rom(15))),
+        18 => row("--font", HOSTS, Value::File(Slot::Font)),
+        19 => row("--disc0", HOSTS, Value::File(Slot::Disc(0))),
+        20 => row("--disc1", HOSTS, Value::File(Slot::Disc(1))),
+        21 => row("--keys", HOSTS, Value::File(Slot::Keys)),
+        22 => row("--plugs", HOSTS, Value::Number { least: 0, most: 8 }),
+        23 => row(
+            "--keep",
+            PAIRS,
+            Value::Number {
+                least: 0,
+                most: 4_194_304,
+            },
+        ),
+        _ => row("", NOBODY, Value::Output),
     }
 }
 
 /// What the value of the key at a place is.
 pub(crate) fn kind_of(place: usize) -> Value
-    ensures { result ≡ (key_at place).value }
+    ensures { seen_value result ≡ (key_at place).value }
 {
     key_at(place).value
 }
@@ -114,7 +173,7 @@ pub(crate) fn kind_of(place: usize) -> Value
 /// The place of a key among all.
 pub(crate) fn place_of(word: &str) -> Option<usize>
     ensures place { result ≡ place_of word.now }
-    ensures bound { IfSome result (λ i. i < 24) }
+    ensures bound { IfSome result (λ i. i < COUNT) }
 {
     for i in 0..COUNT {
         if key_at(i).word == word {
@@ -124,27 +183,64 @@ pub(crate) fn place_of(word: &str) -> Option<usize>
     None
 }
 
-// The machines that have to be there are there.
-fn takes(there: Machines, needed: Machines) -> bool
-    ensures { result ≡ takes there needed }
+// A command is among those that take an option.
+fn takes(taker: Taker, takers: Takers) -> bool
+    ensures { result ≡ takes taker takers }
 {
-    there == Machines::Both || there == needed
+    match taker {
+        Taker::ReplayHost => takers.replay_host,
+        Taker::ReplayPara => takers.replay_para,
+        Taker::Solo => takers.solo,
+        Taker::Run => takers.run,
+    }
+}
+
+// A word is one of some words.
+fn is_among(words: &[&str], word: &str) -> bool
+    ensures { result ≡ is_among (map seen_word words.now) word.now }
+{
+    for one in words {
+        if *one == word {
+            return true;
+        }
+    }
+    false
+}
+
+// A decimal number within these limits.
+fn is_number(word: &str, least: u64, most: u64) -> bool
+    ensures { result ≡ is_from least (decimal_number most word.now) }
+{
+    match decimal_number(word.as_bytes(), most) {
+        Some(n) => n >= least,
+        None => false,
+    }
+}
+
+// Four upper-case hexadecimal digits.
+fn is_four_digits(word: &str) -> bool
+    ensures { result ≡ is_four_digits word.now }
+{
+    let digits = word.as_bytes();
+    digits.len() == 4 && all_hex(digits)
 }
 
 // A word may be such a value.
 fn is_value(kind: Value, word: &str) -> bool
-    ensures { result ≡ is_value kind word.now }
+    ensures { result ≡ is_value (seen_value kind) word.now }
 {
     match kind {
-        Value::File(_) => is_name(word),
-        Value::Number(most) => decimal_number(word.as_bytes(), most).is_some(),
+        Value::File(_) | Value::Output => is_name(word),
+        Value::Number { least, most } => is_number(word, least, most),
+        Value::OneOf(words) => is_among(words, word),
+        Value::FourDigits => is_four_digits(word),
     }
 }
 
-/// An option of the key at a place may have this value where these machines are there.
-pub(crate) fn fits(there: Machines, place: usize, value: &str) -> bool
-    ensures { result ≡ fits there place value.now }
+/// An option of the key at a place may have this value where this command takes it.
+pub(crate) fn fits(taker: Taker, place: usize, value: &str) -> bool
+    ensures { result ≡ fits taker place value.now }
 {
     let key = key_at(place);
-    takes(there, key.machines) && is_value(key.value, value)
+    takes(taker, key.takers) && is_value(key.value, value)
 }

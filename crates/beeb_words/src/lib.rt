@@ -12,6 +12,6 @@ mod words;
 
 pub use command::Command;
 pub use given::Given;
-pub use keys::{Machines, Slot};
-pub use law::options_are_order_free;
+pub use keys::Slot;
+pub use law::{options_are_order_free, options_stand_anywhere};
 pub use words::command_of;

@@ -1,14 +1,16 @@
 //! The grammar of the words.
 ghost use Rattle.std.specs.Prelude.{◌≡◌, ◌≤◌, map, option_map, string_bytes, IsTrue, IfSome};
 ghost use Rattle.beeb_words.specs.Command.{ticks_of};
-ghost use Rattle.beeb_words.specs.Words.{part_of, origin_of, side_of, machines_of, check_words, asm_words, dis_words, replay_words, both_words, solo_words, run_words, gen_words, command};
+ghost use Rattle.beeb_words.specs.Words.{part_of, origin_of, side_of, replay_of, command};
+ghost use Rattle.beeb_words.specs.Words.{check_words, asm_words, dis_words, replay_words, both_words};
+ghost use Rattle.beeb_words.specs.Words.{solo_words, run_words, gen_words};
 ghost use Rattle.beeb_words.specs.Reads.{IsWithin};
 ghost use Rattle.beeb_words.specs.Seen.{seen, seen_both};
 
 use crate::alone::{four_alone, is_name, two_alone};
 use crate::command::Command;
 use crate::given::{Given, options_among};
-use crate::keys::Machines;
+use crate::keys::Taker;
 use beeb_bits::Side;
 use digits::{all_hex, decimal_number, hex_number};
 use op_table::Part;
@@ -108,12 +110,13 @@ fn side_of(word: &str) -> Option<Side>
     }
 }
 
-fn machines_of(side: Side) -> Machines
-    ensures { result ≡ machines_of side }
+// The replay of a side.
+fn replay_of(side: Side) -> Taker
+    ensures { result ≡ replay_of side }
 {
     match side {
-        Side::Host => Machines::Host,
-        Side::Para => Machines::Para,
+        Side::Host => Taker::ReplayHost,
+        Side::Para => Taker::ReplayPara,
     }
 }
 
@@ -127,7 +130,7 @@ fn replay_words(words: &[String]) -> Option<Command<'_>>
     if !is_name(trace) || !is_name(out) {
         return None;
     }
-    let given = options_among(words, machines_of(side))?;
+    let given = options_among(words, replay_of(side))?;
     Some(Command::Replay {
         side,
         trace,
@@ -146,8 +149,8 @@ struct Both<'a> {
     given: Given<'a>,
 }
 
-fn both_words(words: &[String]) -> Option<Both<'_>>
-    ensures told { option_map seen_both result ≡ both_words (map string_bytes words.now) }
+fn both_words(words: &[String], taker: Taker) -> Option<Both<'_>>
+    ensures told { option_map seen_both result ≡ both_words taker (map string_bytes words.now) }
     ensures ticks { IfSome result (λ b. b.ticks ≤ MOST_TICKS) }
 {
     let (ticks, out) = two_alone(words)?;
@@ -155,7 +158,7 @@ fn both_words(words: &[String]) -> Option<Both<'_>>
     if !is_name(out) {
         return None;
     }
-    let given = options_among(words, Machines::Both)?;
+    let given = options_among(words, taker)?;
     Some(Both {
         ticks,
         out,
@@ -168,7 +171,7 @@ fn solo_words(words: &[String]) -> Option<Command<'_>>
     ensures command { option_map seen result ≡ solo_words (map string_bytes words.now) }
     ensures ticks { IfSome result (λ c. ticks_of (seen c) ≤ MOST_TICKS) }
 {
-    let told = both_words(words)?;
+    let told = both_words(words, Taker::Solo)?;
     Some(Command::Solo {
         ticks: told.ticks,
         out: told.out,
@@ -181,7 +184,7 @@ fn run_words(words: &[String]) -> Option<Command<'_>>
     ensures command { option_map seen result ≡ run_words (map string_bytes words.now) }
     ensures ticks { IfSome result (λ c. ticks_of (seen c) ≤ MOST_TICKS) }
 {
-    let told = both_words(words)?;
+    let told = both_words(words, Taker::Run)?;
     Some(Command::Run {
         ticks: told.ticks,
         out: told.out,

@@ -2,8 +2,8 @@
 use super::scene::{failing, words_of};
 use asm65::assemble;
 use beeb_bits::NoMemory;
-use beeb_commands::{plain, top};
 use beeb_files::{Crew, FailCrew, MemOutlet, MemShelf, ThreadCrew};
+use beeb_top::{plain, top};
 use bus_plug::BusDevice;
 use op_table::Part;
 use std::alloc::Global;

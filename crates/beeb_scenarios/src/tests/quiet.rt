@@ -2,8 +2,8 @@
 ghost use Rattle.beeb_files.specs.Folder.{dir_shelf_state, dir_outlet_state};
 
 use super::scene::words_of;
-use beeb_commands::plain;
 use beeb_files::{Outlet, PutError, Shelf, ShelfError};
+use beeb_top::plain;
 use std::alloc::{AllocError, Global};
 use std::test::Fail;
 

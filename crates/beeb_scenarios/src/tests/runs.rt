@@ -3,8 +3,8 @@ ghost use Rattle.std.specs.Prelude.{false};
 
 use super::scene::{failing, told, words_of};
 use asm65::assemble;
-use beeb_commands::top;
 use beeb_files::{Crew, FailCrew, MemOutlet, MemShelf, Pairing, ThreadCrew};
+use beeb_top::top;
 use op_table::Part;
 use std::alloc::Global;
 use std::hint;

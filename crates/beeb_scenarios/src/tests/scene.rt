@@ -23,8 +23,8 @@
 ghost use Rattle.std.specs.Prelude.{◌≡◌, IfOk, string_bytes};
 
 use asm65::assemble;
-use beeb_commands::{Status, plain, top};
 use beeb_files::{Crew, FailCrew, MemOutlet, MemShelf, ThreadCrew};
+use beeb_top::{Status, plain, top};
 use bus_plug::{BusDevice, PrinterLatch, RamCard};
 use op_table::Part;
 use std::alloc::{AllocError, Global};

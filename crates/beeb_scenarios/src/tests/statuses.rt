@@ -1,8 +1,8 @@
 //! The statuses, and what no table of words shows.
 use super::scene::words_of;
 use beeb_bits::{Side, Tick};
-use beeb_commands::{Name, Status, Which, plain};
 use beeb_files::{MemOutlet, MemShelf};
+use beeb_top::{Name, Status, Which, plain};
 use std::alloc::{AllocError, Global};
 use std::test::Fail;
 use tube_chip::Op;

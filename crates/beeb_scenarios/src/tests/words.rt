@@ -1,6 +1,6 @@
 //! Words in and outside the grammar.
 use super::scene::all_hold;
-use beeb_words::options_are_order_free;
+use beeb_words::{options_are_order_free, options_stand_anywhere};
 use std::test::Fail;
 
 const SCENES: &str = "\
@@ -142,5 +142,6 @@ $ solo 7 o --os n --tube n --plugs 0 --font os
 #[test]
 fn words_outside_the_grammar_are_usage(rt: HostRuntime) -> Result<(), Fail> {
     options_are_order_free();
+    options_stand_anywhere();
     all_hold(&rt, rt.alloc(), SCENES)
 }

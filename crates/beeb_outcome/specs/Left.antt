@@ -1,0 +1,21 @@
+-- What a command leaves, of which the files of its outputs are made.
+use Rattle.std.specs.Prelude.{ℕ, List, Option}
+use Rattle.host_mach.specs.State.{HostState}
+use Rattle.para_mach.specs.State.{ParaState}
+
+-- the accesses that are kept: how many, and their trace
+pub record Kept : Type 0 where
+  pub count : ℕ
+  pub trace : List ℕ
+
+pub record Left : Type 0 where
+  -- the name that is given for all outputs
+  pub out : List ℕ
+  pub ticks : ℕ
+  -- all accesses to the Tube of the machines that are there
+  pub tube : ℕ
+  pub host : Option HostState
+  pub para : Option ParaState
+  pub kept : Option Kept
+  -- bytes that are an output by themselves
+  pub bytes : List ℕ

@@ -1,0 +1,6 @@
+pub mod Left
+pub mod Files
+pub mod Outputs
+pub mod Verdicts
+pub mod Trace
+pub mod Seen

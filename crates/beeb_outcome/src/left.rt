@@ -1,0 +1,31 @@
+//! What a command leaves, of which the files of its outputs are made.
+use beeb_bits::Tick;
+use bus_plug::BusDevice;
+use host_mach::HostMachine;
+use para_mach::ParaMachine;
+
+/// The accesses that are kept.
+#[derive(Drop)]
+pub struct Kept {
+    /// How many they are.
+    pub count: u64,
+    /// Their trace.
+    pub trace: Vec<u8>,
+}
+
+/// What a command leaves.
+#[derive(Drop)]
+pub struct Left<'a, D> {
+    /// The name that is given for all outputs.
+    pub out: &'a str,
+    pub ticks: Tick,
+    /// How many accesses to the Tube the machines that are there had.
+    pub tube: u64,
+    /// The host where it ended.
+    pub host: Option<HostMachine<D>>,
+    /// The second processor where it ended.
+    pub para: Option<ParaMachine>,
+    pub kept: Option<Kept>,
+    /// Bytes that are an output by themselves.
+    pub bytes: Vec<u8>,
+}

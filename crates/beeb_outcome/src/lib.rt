@@ -1,0 +1,18 @@
+//! What comes of a command: how it ends, what it says, and its outputs as data, the file of each made when its turn comes.
+#![tactic(auto)]
+
+mod discs;
+mod file;
+mod frames;
+mod left;
+mod memories;
+mod output;
+mod outputs;
+mod plugs;
+mod product;
+mod trace;
+
+pub use left::{Kept, Left};
+pub use output::Output;
+pub use product::{Outcome, file_outcome, machine_outcome, said_outcome};
+pub use trace::{entries_of, wrong_outcome};

@@ -1,0 +1,21 @@
+//! The outputs that a command may have.
+use beeb_bits::Side;
+
+/// An output: which file it is, without its bytes. `OUT` is the name that is given for all.
+#[derive(Clone, Copy, Debug, PartialEq, Eq)]
+pub enum Output {
+    /// `OUT.report`
+    Report,
+    /// `OUT.host` and `OUT.para`: the memory of a machine.
+    Memory(Side),
+    /// `OUT.d0` and `OUT.d1`: the disc in a drive.
+    Disc(u8),
+    /// `OUT.000.ppm` and so on: a frame, by its number.
+    Frame(usize),
+    /// `OUT.trace`: what is kept of the accesses to the Tube.
+    Trace,
+    /// `OUT.plug0` and so on: what a plugged device spills.
+    Plug(usize),
+    /// `OUT`: bytes that were made before.
+    Bytes,
+}

@@ -1,0 +1,100 @@
+//! What comes of a command.
+ghost use Rattle.std.specs.Prelude.{◌≡◌, IfOk, Ok, []};
+ghost use Rattle.beeb_status.specs.declared.status.Ending.TheVariants.{Done};
+ghost use Rattle.beeb_outcome.specs.Seen.{left_seen, verdict_of};
+ghost use Rattle.beeb_outcome.specs.Verdicts.{said_verdict, file_verdict, machine_verdict};
+
+use crate::left::Left;
+use crate::output::Output;
+use crate::outputs::machine_outputs;
+use beeb_bits::Tick;
+use beeb_status::Ending;
+use bus_plug::BusDevice;
+use std::alloc::{AllocError, Global};
+
+/// What comes of a command: how it ends, its outputs, its text, and what it leaves.
+pub type Outcome<'a, D> = beeb_stages::Outcome<Ending, Output, Left<'a, D>>;
+
+// Bytes under a name, and no machine.
+fn bytes_left<'a, D: BusDevice>(out: &'a str, bytes: Vec<u8>) -> Left<'a, D>
+    ensures name { result.out ≡ out.entry }
+    ensures bytes { result.bytes.items ≡ bytes.items }
+{
+    Left {
+        out,
+        ticks: Tick(0),
+        tube: 0,
+        host: None,
+        para: None,
+        kept: None,
+        bytes,
+    }
+}
+
+/// A text alone.
+pub fn said_outcome<'a, D: BusDevice>(
+    alloc: Global,
+    ending: Ending,
+    said: Vec<u8>,
+) -> Outcome<'a, D>
+    ensures { verdict_of D.plug result ≡ said_verdict ending said.items }
+{
+    beeb_stages::Outcome {
+        ending,
+        outputs: Vec::new(alloc),
+        said,
+        left: bytes_left("", Vec::new(alloc)),
+    }
+}
+
+/// One file of this name with these bytes.
+pub fn file_outcome<'a, D: BusDevice>(
+    alloc: Global,
+    out: &'a str,
+    bytes: Vec<u8>,
+) -> Result<Outcome<'a, D>, AllocError>
+    ensures { IfOk result (λ outcome. verdict_of D.plug outcome ≡ file_verdict out.now bytes.items) }
+{
+    let mut outputs = Vec::new(alloc);
+    outputs.push(Output::Bytes)?;
+    Ok(beeb_stages::Outcome {
+        ending: Ending::Done,
+        outputs,
+        said: Vec::new(alloc),
+        left: bytes_left(out, bytes),
+    })
+}
+
+// These outputs of what is left, if there was memory for their list. It knows no machine, since a proof over anything that is left goes through no
+// machine's parts.
+fn with_outputs<L: Drop>(
+    alloc: Global,
+    outputs: Result<Vec<Output>, AllocError>,
+    left: L,
+) -> Result<beeb_stages::Outcome<Ending, Output, L>, AllocError>
+    ensures outputs { IfOk result (λ o. outputs ≡ Ok o.outputs) }
+    ensures left { IfOk result (λ o. o.left ≡ left) }
+    ensures done { IfOk result (λ o. (o.ending ≡ Done) × (o.said.items ≡ [])) }
+{
+    match outputs {
+        Ok(outputs) => Ok(beeb_stages::Outcome {
+            ending: Ending::Done,
+            outputs,
+            said: Vec::new(alloc),
+            left,
+        }),
+        Err(error) => Err(error),
+    }
+}
+
+/// What machines leave where they ended.
+#[tactic(auto, unfolding(crate::specs::Verdicts::machine_verdict))]
+pub fn machine_outcome<'a, D: BusDevice>(
+    alloc: Global,
+    left: Left<'a, D>,
+) -> Result<Outcome<'a, D>, AllocError>
+    ensures { IfOk result (λ outcome. verdict_of D.plug outcome ≡ machine_verdict (left_seen D.plug left.entry)) }
+{
+    let outputs = machine_outputs(alloc, &left);
+    with_outputs(alloc, outputs, left)
+}

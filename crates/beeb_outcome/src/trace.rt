@@ -1,0 +1,58 @@
+//! The trace that a command reads, and the answer of a line that the chip would not give.
+ghost use Rattle.std.specs.Prelude.{◌≡◌, All, IfOk};
+ghost use Rattle.tube_trace.specs.Entries.{IsEntry};
+ghost use Rattle.beeb_stages.specs.Seen.{Gives};
+ghost use Rattle.beeb_outcome.specs.Trace.{refusal_of, entries_of, wrong_verdict, wrong_text};
+ghost use Rattle.beeb_outcome.specs.Seen.{verdict_of};
+
+use crate::product::{Outcome, said_outcome};
+use beeb_stages::Refusal;
+use beeb_status::{Cause, Ending};
+use bus_plug::BusDevice;
+use digits::two_digits;
+use std::alloc::{AllocError, Global};
+use tube_trace::{Entry, TraceError, read};
+
+#[tactic(auto, unfolding(crate::specs::Trace::wrong_text))]
+fn wrong_text(alloc: Global, line: u64, byte: u8) -> Result<Vec<u8>, AllocError>
+    ensures { IfOk result (λ v. v.items ≡ wrong_text line byte) }
+{
+    let front = format!(in alloc; "wrong {line} ")?;
+    let mut text = front.as_bytes().to_vec(alloc)?;
+    text.extend_from_slice(&two_digits(byte))?;
+    text.push(b'\n')?;
+    Ok(text)
+}
+
+// Why a trace is refused.
+fn refusal_of(error: TraceError) -> Refusal<Cause>
+    ensures { result ≡ refusal_of error }
+{
+    match error {
+        TraceError::BadLine { line } => Refusal::Cause(Cause::BadTrace { line, kind: 1 }),
+        TraceError::BadOrder { line } => Refusal::Cause(Cause::BadTrace { line, kind: 2 }),
+        TraceError::NoMemory => Refusal::NoMemory,
+    }
+}
+
+/// The entries of the bytes of a trace.
+#[tactic(auto, unfolding(crate::specs::Trace::entries_of))]
+pub fn entries_of(alloc: Global, bytes: &[u8]) -> Result<Vec<Entry>, Refusal<Cause>>
+    ensures told { Gives (λ v. v.items) result (entries_of bytes.now) }
+    ensures entries { IfOk result (λ v. All IsEntry v.items) }
+{
+    let entries = read(alloc, bytes).map_err(refusal_of)?;
+    Ok(entries)
+}
+
+/// The chip would not give the answer of a line, but this byte.
+pub fn wrong_outcome<'a, D: BusDevice>(
+    alloc: Global,
+    line: u64,
+    byte: u8,
+) -> Result<Outcome<'a, D>, AllocError>
+    ensures { IfOk result (λ outcome. verdict_of D.plug outcome ≡ wrong_verdict line byte) }
+{
+    let text = wrong_text(alloc, line, byte)?;
+    Ok(said_outcome(alloc, Ending::Wrong { line, byte }, text))
+}

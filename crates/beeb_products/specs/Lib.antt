@@ -1,5 +1,0 @@
-pub mod Verdicts
-pub mod Check
-pub mod Solo
-pub mod Seen
-pub mod Plugs

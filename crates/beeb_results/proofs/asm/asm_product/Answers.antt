@@ -1,6 +1,0 @@
-use Rattle.beeb_results.proofs.AsmLemmas.{asm_refused}
-use Rattle.beeb_results.proofs.asm.asm_product.Goals as goal
-
-pub returns-in-Err : goal.returns-in-Err
-returns-in-Err g c =
-    record { told = rw c.refusal_of.ensures (asm_refused g.D.BusDevice.plug c.args.part c.args.out.now c.args.text.now c.in-Err.error c.in-Err.ensures.value) }

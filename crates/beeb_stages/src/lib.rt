@@ -1,0 +1,16 @@
+//! The stages of a command: its files are read in their order, something comes of them, and that is written in its order.
+#![tactic(auto)]
+
+mod law;
+mod name;
+mod outcome;
+mod read;
+mod stop;
+mod write;
+
+pub use law::stages_carry_out;
+pub use name::Name;
+pub use outcome::{Leaves, Outcome};
+pub use read::read_all;
+pub use stop::{Refusal, Stop};
+pub use write::write_outcome;

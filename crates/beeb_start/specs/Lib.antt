@@ -1,6 +1,0 @@
-pub mod Inputs
-pub mod Script
-pub mod Discs
-pub mod Roms
-pub mod Machines
-pub mod Seen

@@ -1,0 +1,4 @@
+pub mod SlotLemmas
+pub mod StageLemmas
+pub mod WorkLemmas
+pub mod HeadlineLemmas

@@ -1,0 +1,26 @@
+use Rattle.std.proofs.Common.{map, subst, true, Result}
+use Rattle.beeb_stages.specs.Seen.{Gives, seen_input}
+use Rattle.beeb_stages.specs.Plan.{Verdict}
+use Rattle.beeb_stages.specs.declared.stop.Refusal.{Refusal}
+use Rattle.beeb_status.specs.declared.status.Ending.{Ending}
+use Rattle.beeb_status.specs.declared.status.Cause.{Cause}
+use Rattle.beeb_outcome.specs.Seen.{verdict_of}
+use Rattle.beeb_stages.specs.Stages.{Works}
+use Rattle.beeb_words.specs.Reads.{reads}
+use Rattle.beeb_words.specs.Seen.{seen, seen_given}
+use Rattle.beeb_top.proofs.SlotLemmas.{slots_below}
+use Rattle.beeb_top.proofs.WorkLemmas.{both_after}
+use Rattle.beeb_top.proofs.work.paired_outcome.Goals as goal
+
+pub run_outcome-requires-clause-slots : goal.run_outcome-requires-clause-slots
+run_outcome-requires-clause-slots g c κs within =
+    slots_below (reads (seen c.args.command)) (map seen_input c.args.inputs.items) c.in_ok-inputs.inputs c.requires.inputs c.requires.within.roms c.in_ok-inputs.ensures
+
+pub returns-clause-works : goal.returns-clause-works
+returns-clause-works g c =
+    rw c.in-Run.is
+    (subst (λ (stage : Result (Verdict Ending) (Refusal Cause)). Works (verdict_of g.D.BusDevice.plug) true (g.C.Crew.counts c.args.crew.now)
+    (g.C.Crew.counts c.run_outcome.new.crew) c.run_outcome.result stage)
+    (both_after (map g.D.BusDevice.plug c.args.plugs.items) (seen_given c.in-Run.given) _ _ c.in-Run.ticks c.in-Run.keep c.in-Run.out.now _ _
+    c.plugged-plugs.ensures c.disc_kinds-kinds.ensures c.in_ok-inputs.ensures)
+    c.run_outcome.ensures.works)

@@ -1,0 +1,40 @@
+use Rattle.std.proofs.Common.{map, subst, true, Result}
+use Rattle.beeb_stages.specs.Seen.{Gives, seen_input}
+use Rattle.beeb_stages.specs.Plan.{Verdict}
+use Rattle.beeb_stages.specs.declared.stop.Refusal.{Refusal}
+use Rattle.beeb_status.specs.declared.status.Ending.{Ending}
+use Rattle.beeb_status.specs.declared.status.Cause.{Cause}
+use Rattle.beeb_outcome.specs.Seen.{verdict_of}
+use Rattle.beeb_words.specs.Reads.{reads}
+use Rattle.beeb_words.specs.Seen.{seen, seen_given}
+use Rattle.beeb_words.specs.Discs.{kinds_of}
+use Rattle.power_on.specs.Inputs.{Inputs}
+use Rattle.power_on.specs.Plugs.{plugged}
+use Rattle.beeb_top.specs.Plans.{replay_after}
+use Rattle.beeb_top.proofs.SlotLemmas.{slots_below}
+use Rattle.beeb_top.proofs.WorkLemmas.{both_after}
+use Rattle.beeb_top.proofs.work.single_outcome.Goals as goal
+
+pub replay_outcome-requires-clause-slots : goal.replay_outcome-requires-clause-slots
+replay_outcome-requires-clause-slots g c =
+    slots_below (reads (seen c.args.command)) (map seen_input c.args.inputs.items) c.in_ok-inputs.inputs c.requires.inputs c.requires.within.roms c.in_ok-inputs.ensures
+
+pub solo_outcome-requires-clause-slots : goal.solo_outcome-requires-clause-slots
+solo_outcome-requires-clause-slots g c =
+    slots_below (reads (seen c.args.command)) (map seen_input c.args.inputs.items) c.in_ok-inputs.inputs c.requires.inputs c.requires.within.roms c.in_ok-inputs.ensures
+
+pub returns-in-Solo : goal.returns-in-Solo
+returns-in-Solo g c =
+    rw c.in-Solo.is
+    (subst (λ (stage : Result (Verdict Ending) (Refusal Cause)). Gives (verdict_of g.D.BusDevice.plug) c.solo_outcome.result stage)
+    (both_after (map g.D.BusDevice.plug c.args.plugs.items) (seen_given c.in-Solo.given) _ _ c.in-Solo.ticks c.in-Solo.keep c.in-Solo.out.now _ _
+    c.plugged-plugs.ensures c.disc_kinds.ensures c.in_ok-inputs.ensures)
+    c.solo_outcome.ensures)
+
+pub returns-in-Replay : goal.returns-in-Replay
+returns-in-Replay g c =
+    rw c.in-Replay.is
+    (subst (λ (i : Inputs). Gives (verdict_of g.D.BusDevice.plug) c.replay_outcome.result
+    (replay_after (plugged (seen_given c.in-Replay.given) (map g.D.BusDevice.plug c.args.plugs.items)) (kinds_of (seen_given c.in-Replay.given)) c.in-Replay.side
+    c.in-Replay.ticks c.in-Replay.out.now i))
+    c.in_ok-inputs.ensures c.replay_outcome.ensures)

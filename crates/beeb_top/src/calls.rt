@@ -1,0 +1,84 @@
+//! The top calls.
+ghost use Rattle.std.specs.Prelude.{◌≡◌, ◌↔◌, None, IfSome, IfNone, map};
+ghost use Rattle.beeb_stages.specs.Promise.{world, nobody};
+ghost use Rattle.beeb_top.specs.Commands.{EndsWith, spelled, unpaired};
+ghost use Rattle.beeb_top.specs.Headline.{Headline};
+
+use crate::road::{paired, single};
+use beeb_files::{Crew, Outlet, Shelf};
+use beeb_status::{Status, status_of};
+use beeb_words::command_of;
+use bus_plug::BusDevice;
+use std::alloc::Global;
+use std::sync::Wait;
+use std::thread::Threads;
+
+/// Carries out the command that the words spell, on the files of the shelf, and writes what comes of it to the outlet. It has no crew, so it
+/// takes no words of `run`. The first of the devices are plugged where the host is there, as many as the words say. All are dropped at the
+/// return.
+#[tactic(auto, unfolding(crate::specs::Commands::EndsWith))]
+pub fn plain<S: Shelf, O: Outlet>(
+    alloc: Global,
+    words: &[String],
+    shelf: &mut S,
+    out: &mut O,
+    plugs: Vec<Box<dyn BusDevice + Send>>,
+) -> Status
+    // `Usage` comes exactly where the words are outside the grammar or spell `run`, and then shelf and outlet are as they were.
+    ensures usage { (result ≡ Status.Usage) ↔ (unpaired (spelled words.now) ≡ None) }
+    ensures refused { let old = world (S.shelf shelf.old) (O.outlet out.old) nobody in
+        let new = world (S.shelf shelf.new) (O.outlet out.new) nobody in
+        IfNone (unpaired (spelled words.now)) (new ≡ old) }
+    // Else the command is carried out, with the devices as they were handed in.
+    ensures ran { let devices = map ⟦<Box<dyn BusDevice + Send> as BusDevice>⟧.plug plugs.items in
+        let old = world (S.shelf shelf.old) (O.outlet out.old) nobody in
+        let new = world (S.shelf shelf.new) (O.outlet out.new) nobody in
+        IfSome (unpaired (spelled words.now)) (λ c. EndsWith devices c old new result) }
+{
+    let Some(command) = command_of(words) else {
+        return Status::Usage;
+    };
+    if command.is_paired() {
+        return Status::Usage;
+    }
+    status_of(single(alloc, command, plugs, shelf, out))
+}
+
+/// Carries out the command that the words spell, on the files of the shelf, and writes what comes of it to the outlet. `run` has the crew work
+/// its two machines; every other command is carried out as by `plain`. The first of the devices are plugged where the host is there, as many
+/// as the words say. All are dropped at the return.
+#[tactic(auto, unfolding(crate::specs::Commands::EndsWith, crate::specs::Headline::Headline))]
+pub fn top<S: Shelf, O: Outlet, C: Crew, R: Threads + Wait + Sync>(
+    rt: &R,
+    alloc: Global,
+    words: &[String],
+    shelf: &mut S,
+    out: &mut O,
+    crew: &mut C,
+    plugs: Vec<Box<dyn BusDevice + Send>>,
+) -> Status
+    // `Usage` comes exactly where the words are outside the grammar, and then shelf, outlet and the crew's counts are as they were.
+    ensures usage { (result ≡ Status.Usage) ↔ (spelled words.now ≡ None) }
+    ensures refused { let old = world (S.shelf shelf.old) (O.outlet out.old) (C.counts crew.old) in
+        let new = world (S.shelf shelf.new) (O.outlet out.new) (C.counts crew.new) in
+        IfNone (spelled words.now) (new ≡ old) }
+    // The headline: where `run` ends with `Done`, what is written is what the reference run of both machines leaves.
+    ensures headline { let devices = map ⟦<Box<dyn BusDevice + Send> as BusDevice>⟧.plug plugs.items in
+        let old = world (S.shelf shelf.old) (O.outlet out.old) (C.counts crew.old) in
+        let new = world (S.shelf shelf.new) (O.outlet out.new) (C.counts crew.new) in
+        result ≡ Status.Done → Headline devices (spelled words.now) old new }
+    // Each command is carried out, `run` as `solo` with a crew: no clause names an order in which the steps of the two threads fell.
+    ensures ran { let devices = map ⟦<Box<dyn BusDevice + Send> as BusDevice>⟧.plug plugs.items in
+        let old = world (S.shelf shelf.old) (O.outlet out.old) (C.counts crew.old) in
+        let new = world (S.shelf shelf.new) (O.outlet out.new) (C.counts crew.new) in
+        IfSome (spelled words.now) (λ c. EndsWith devices c old new result) }
+{
+    let Some(command) = command_of(words) else {
+        return Status::Usage;
+    };
+    if command.is_paired() {
+        status_of(paired(rt, alloc, command, plugs, shelf, out, crew))
+    } else {
+        status_of(single(alloc, command, plugs, shelf, out))
+    }
+}

@@ -1,0 +1,132 @@
+//! The work of each command, by what it read.
+ghost use Rattle.std.specs.Prelude.{◌≡◌, ◌<◌, ◌≤◌, All, map, true, false};
+ghost use Rattle.beeb_stages.specs.Plan.{AreWithin};
+ghost use Rattle.beeb_stages.specs.Promise.{IsCrewAfter};
+ghost use Rattle.beeb_stages.specs.Seen.{Gives, seen_input};
+ghost use Rattle.beeb_stages.specs.Stages.{Works};
+ghost use Rattle.beeb_words.specs.Command.{is_paired};
+ghost use Rattle.beeb_words.specs.Reads.{IsWithin, reads};
+ghost use Rattle.beeb_words.specs.Discs.{kinds_of};
+ghost use Rattle.beeb_words.specs.Seen.{seen, seen_given};
+ghost use Rattle.power_on.specs.Inputs.{inputs_of};
+ghost use Rattle.power_on.specs.Plugs.{plugged};
+ghost use Rattle.power_on.specs.Seen.{seen_inputs};
+ghost use Rattle.beeb_outcome.specs.Seen.{verdict_of};
+ghost use Rattle.beeb_top.specs.Plans.{replay_after, after};
+
+use beeb_bits::Side;
+use beeb_files::Crew;
+use beeb_outcome::Outcome;
+use beeb_stages::{Refusal, Stop};
+use beeb_status::Cause;
+use beeb_words::{Command, Given, Slot};
+use bus_plug::BusDevice;
+use cmd_pair::{gen_outcome, run_outcome, solo_outcome};
+use cmd_replay::{host_outcome, para_outcome};
+use cmd_tools::{asm_outcome, check_outcome, dis_outcome};
+use power_on::{Inputs, plugged};
+use std::alloc::Global;
+use std::sync::Wait;
+use std::thread::Threads;
+use tube_party::MOST;
+
+// What comes of a replay of a side, where these devices are handed in.
+fn replay_outcome<'a, D: BusDevice>(
+    alloc: Global,
+    side: Side,
+    ticks: u64,
+    out: &'a str,
+    given: &Given<'_>,
+    inputs: Inputs,
+    plugs: Vec<D>,
+) -> Result<Outcome<'a, D>, Refusal<Cause>>
+    requires ticks { ticks ≤ MOST }
+    requires slots { All (λ slot. slot.0 < 16) inputs.roms.items }
+    ensures { let devices = plugged (seen_given given.now) (map D.plug plugs.items) in
+        let after = replay_after devices (kinds_of (seen_given given.now)) side ticks out.now (seen_inputs inputs) in
+        Gives (verdict_of D.plug) result after }
+{
+    match side {
+        Side::Host => {
+            let plugs = plugged(given, plugs);
+            host_outcome(alloc, given.disc_kinds(), ticks, out, inputs, plugs)
+        }
+        Side::Para => para_outcome(alloc, ticks, out, inputs),
+    }
+}
+
+/// What comes of a command without a pair of jobs, where these devices are handed in.
+pub(crate) fn single_outcome<'a, D: BusDevice>(
+    alloc: Global,
+    command: Command<'a>,
+    inputs: Vec<(Slot, Vec<u8>)>,
+    plugs: Vec<D>,
+) -> Result<Outcome<'a, D>, Refusal<Cause>>
+    requires within { IsWithin (seen command) }
+    requires unpaired { is_paired (seen command) ≡ false }
+    requires inputs { AreWithin (reads (seen command)) (map seen_input inputs.items) }
+    ensures { let read = inputs_of (map seen_input inputs.items) in
+        Gives (verdict_of D.plug) result (after (map D.plug plugs.items) (seen command.entry) read) }
+{
+    let inputs = Inputs::of(alloc, inputs)?;
+    match command {
+        Command::Check { .. } => check_outcome(alloc, &inputs.trace),
+        Command::Asm { part, out, .. } => asm_outcome(alloc, part, out, &inputs.source),
+        Command::Dis {
+            part,
+            origin,
+            out,
+            ..
+        } => dis_outcome(alloc, part, origin, out, &inputs.image),
+        Command::Replay {
+            side,
+            ticks,
+            out,
+            given,
+            ..
+        } => replay_outcome(alloc, side, ticks, out, &given, inputs, plugs),
+        Command::Solo {
+            ticks,
+            out,
+            keep,
+            given,
+        } => {
+            let plugs = plugged(&given, plugs);
+            solo_outcome(alloc, given.disc_kinds(), ticks, keep, out, inputs, plugs)
+        }
+        Command::Gen { seed } => gen_outcome(alloc, seed),
+        Command::Run { .. } => unreachable!(),
+    }
+}
+
+/// What comes of a command whose pair of jobs the crew works, where these devices are handed in.
+pub(crate) fn paired_outcome<'a, D: BusDevice + Send, C: Crew, R: Threads + Wait + Sync>(
+    rt: &R,
+    alloc: Global,
+    crew: &mut C,
+    command: Command<'a>,
+    inputs: Vec<(Slot, Vec<u8>)>,
+    plugs: Vec<D>,
+) -> Result<Outcome<'a, D>, Stop<Cause>>
+    requires within { IsWithin (seen command) }
+    requires paired { is_paired (seen command) ≡ true }
+    requires inputs { AreWithin (reads (seen command)) (map seen_input inputs.items) }
+    ensures works { let read = inputs_of (map seen_input inputs.items) in
+        let after = after (map D.plug plugs.items) (seen command.entry) read in
+        Works (verdict_of D.plug) true (C.counts crew.old) (C.counts crew.new) result after }
+    ensures crew { IsCrewAfter true (C.counts crew.old) (C.counts crew.new) }
+{
+    let Command::Run {
+        ticks,
+        out,
+        keep,
+        given,
+    } = command
+    else {
+        unreachable!()
+    };
+    let inputs = Inputs::of(alloc, inputs)?;
+    let kinds = given.disc_kinds();
+    let plugs = plugged(&given, plugs);
+    run_outcome(rt, alloc, crew, kinds, ticks, keep, out, inputs, plugs)
+}

@@ -1,0 +1,57 @@
+-- `gen SEED`: the demonstration pair of a seed, run on one thread.
+use Rattle.std.specs.Prelude.{ℕ, List, [], ◌++◌, Result, Ok, slice_index, codes}
+use Rattle.std.specs.Fmt.{decimal}
+use Rattle.digits.specs.Hexadecimal.{hex_digits}
+use Rattle.op_table.specs.declared.Part.TheVariants.{Nmos, Cmos}
+use Rattle.asm65.specs.declared.AsmError.{AsmError}
+use Rattle.asm65.specs.Source.{source}
+use Rattle.demo_gen.specs.Demo.{host_text, tube_text, drawn, image_of, image_holding}
+use Rattle.tube_party.specs.Reference.{reference}
+use Rattle.disc_image.specs.declared.Kind.TheVariants.{Ssd}
+use Rattle.host_mach.specs.State.{HostState}
+use Rattle.host_mach.specs.Step.{host_moves}
+use Rattle.para_mach.specs.Step.{para_moves}
+use Rattle.beeb_stages.specs.Plan.{Verdict, ◌>>=◌, or_refusal}
+use Rattle.beeb_stages.specs.declared.stop.Refusal.{Refusal}
+use Rattle.beeb_stages.specs.declared.stop.Refusal.TheVariants as refusals
+use Rattle.beeb_status.specs.declared.status.Ending.{Ending}
+use Rattle.beeb_status.specs.declared.status.Ending.TheVariants.{Done}
+use Rattle.beeb_status.specs.declared.status.Cause.{Cause}
+use Rattle.power_on.specs.Inputs.{Inputs, no_inputs}
+use Rattle.beeb_outcome.specs.Verdicts.{said_verdict}
+use Rattle.power_on.specs.Machines.{machines_of}
+
+-- Both programs have images, so that this refusal never comes.
+abbrev pub no_image : AsmError → Refusal Cause
+no_image error = refusals.NoMemory
+
+-- the images of the pair, and nothing else
+abbrev pub pair_inputs : List ℕ → List ℕ → Inputs
+pair_inputs os tube = record no_inputs { os = os; tube = tube }
+
+-- what stands before the sum and behind it
+unfoldable pub before_sum : ℕ → List ℕ
+before_sum seed = codes "seed " ++ decimal seed ++ codes "\nbytes 4096\nsum "
+
+unfoldable pub behind_sum : List ℕ
+behind_sum = codes "\nticks 1000000\n"
+
+-- Four lines: the seed, the number of bytes that are sent, their sum as the host keeps it, its high byte at 0071 and its low byte at 0070,
+-- and the ticks.
+abbrev pub summary : ℕ → List ℕ → List ℕ
+summary seed ram = before_sum seed ++ hex_digits 2 (slice_index ram 0x71) ++ hex_digits 2 (slice_index ram 0x70) ++ behind_sum
+
+abbrev pub gen_verdict : ℕ → HostState → Verdict Ending
+gen_verdict seed s = said_verdict Done (summary seed s.bus.board.ram)
+
+-- the ticks of the run
+unfoldable pub gen_ticks : ℕ
+gen_ticks = 1000000
+
+-- The reference run of both machines from power-on, with the images of the pair, no discs, no script and no plugged devices.
+unfoldable pub gen_after : ℕ → Result (Verdict Ending) (Refusal Cause)
+gen_after seed =
+    or_refusal no_image (image_of (source Nmos host_text))
+    >>= λ os. or_refusal no_image (image_holding (drawn seed) (source Cmos tube_text))
+    >>= λ tube. machines_of [] (Ssd, Ssd) (pair_inputs os tube)
+    >>= λ m. Ok (gen_verdict seed (reference host_moves para_moves m.0 m.1 gen_ticks).host)

@@ -1,0 +1,84 @@
+//! `run TICKS OUT --os NAME --tube NAME` and options: both machines, each in a thread of its own.
+ghost use Rattle.std.specs.Prelude.{◌≡◌, ◌<◌, ◌≤◌, All, IfOk, IsTrue, Ok, map, true};
+ghost use Rattle.beeb_files.specs.Crew.{Grows};
+ghost use Rattle.beeb_bits.specs.declared.Side.TheVariants.{Host, Para};
+ghost use Rattle.tube_party.specs.Reference.{reference};
+ghost use Rattle.tube_party.specs.Played.{IsPlayed, played_of};
+ghost use Rattle.beeb_stages.specs.Promise.{IsCrewAfter};
+ghost use Rattle.beeb_stages.specs.Stages.{Works};
+ghost use Rattle.power_on.specs.Seen.{seen_inputs};
+ghost use Rattle.beeb_outcome.specs.Seen.{verdict_of};
+ghost use Rattle.cmd_pair.specs.Solo.{solo_after};
+ghost use Rattle.cmd_pair.specs.Seen.{nothing};
+
+use crate::kept::kept_outcome;
+use beeb_bits::Tick;
+use beeb_files::Crew;
+use beeb_outcome::Outcome;
+use beeb_stages::Stop;
+use beeb_status::Cause;
+use bus_plug::BusDevice;
+use disc_image::Kind;
+use power_on::{Inputs, machines_of};
+use session::{PairError, run_pair};
+use std::alloc::Global;
+use std::sync::Wait;
+use std::thread::Threads;
+use tube_party::{Done, MOST, Party, Rewinds};
+
+// Two parties where their run in two threads ended, or why they were not run. The crew works it. It stands apart from the machines, since a proof
+// over any two parties goes through no machine's parts.
+fn run_parties<E: Drop, C: Crew, H: Party + Send, P: Rewinds + Send, R: Threads + Wait + Sync>(
+    rt: &R,
+    alloc: Global,
+    crew: &mut C,
+    host: H,
+    para: P,
+    n: Tick,
+    keep: u32,
+) -> Result<Done<H, P>, Stop<E>>
+where
+    P::Past: Send,
+    requires ticks { n.0 ≤ MOST }
+    requires host_plays { IsTrue (H.plays Host) }
+    requires para_plays { IsTrue (P.Party.plays Para) }
+    requires host_open { H.moves.closed (H.state host) ≤ n.0 }
+    requires para_open { P.Party.moves.closed (P.Party.state para) ≤ n.0 }
+    ensures played { let w = reference H.moves P.Party.moves (H.state host) (P.Party.state para) n.0 in
+        IfOk result (λ d. IsPlayed w keep (played_of H.state P.Party.state d)) }
+    // It comes to something, whatever that is taken for, or no thread could be started, or memory was wanting.
+    ensures works { Works nothing true (C.counts crew.old) (C.counts crew.new) result (Ok tt) }
+    ensures grows { Grows (C.counts crew.old) (C.counts crew.new) }
+{
+    match run_pair(rt, alloc, crew, host, para, n, keep) {
+        Ok(done) => Ok(done),
+        Err(PairError::NoThread) => Err(Stop::NoThread),
+        Err(PairError::NoMemory { .. }) => Err(Stop::NoMemory),
+    }
+}
+
+/// What comes of both machines in two threads, the host with these plugged devices and discs of these kinds, where the first `keep` accesses
+/// are kept.
+#[tactic(auto, unfolding(crate::specs::Solo::solo_after))]
+pub fn run_outcome<'a, D: BusDevice + Send, C: Crew, R: Threads + Wait + Sync>(
+    rt: &R,
+    alloc: Global,
+    crew: &mut C,
+    kinds: (Kind, Kind),
+    ticks: u64,
+    keep: u32,
+    out: &'a str,
+    inputs: Inputs,
+    plugs: Vec<D>,
+) -> Result<Outcome<'a, D>, Stop<Cause>>
+    requires ticks { ticks ≤ MOST }
+    requires slots { All (λ slot. slot.0 < 16) inputs.roms.items }
+    ensures works { let after = solo_after (map D.plug plugs.items) kinds ticks keep out.now (seen_inputs inputs) in
+        Works (verdict_of D.plug) true (C.counts crew.old) (C.counts crew.new) result after }
+    ensures crew { IsCrewAfter true (C.counts crew.old) (C.counts crew.new) }
+{
+    let (host, para) = machines_of(alloc, kinds, inputs, plugs)?;
+    let done = run_parties(rt, alloc, crew, host, para, Tick(ticks), keep)?;
+    let outcome = kept_outcome(alloc, done, ticks, keep, out)?;
+    Ok(outcome)
+}

@@ -1,0 +1,28 @@
+-- The outcome of a replay that differs nowhere, and of one that differs.
+use Rattle.std.proofs.Common.{◌≡◌, refl, ℕ, List, [], Option, Some, None}
+use Rattle.tube_party.specs.declared.Doing.{Doing}
+use Rattle.tube_party.specs.Replay.{Ended}
+use Rattle.beeb_stages.specs.Plan.{Verdict}
+use Rattle.beeb_status.specs.declared.status.Ending.{Ending}
+use Rattle.beeb_status.specs.declared.status.Ending.TheVariants.{Differs}
+use Rattle.host_mach.specs.State.{HostState}
+use Rattle.para_mach.specs.State.{ParaState}
+use Rattle.beeb_outcome.specs.Verdicts.{said_verdict, host_left, para_left}
+use Rattle.cmd_replay.specs.Replay.{differs_text, ended}
+
+pub done_is : {S : Type 0} (done : ℕ → S → Verdict Ending) (tube count : ℕ) (e : Ended S) (machine : S) → e.place ≡ None → machine ≡ e.machine → tube ≡ count →
+    done tube machine ≡ ended (done count) e
+done_is done tube count e machine none same counted = rw (none, same, counted) refl
+
+pub differs_is : {S : Type 0} (done : S → Verdict Ending) (e : Ended S) (place : ℕ × Option Doing) → e.place ≡ Some place →
+    said_verdict (Differs place.0 place.1) (differs_text place.0 place.1) ≡ ended done e
+differs_is done e place some = rw some refl
+
+-- what a machine leaves, where no bytes stand beside it
+pub host_is : (ticks tube : ℕ) (out bytes : List ℕ) (s : HostState) → bytes ≡ [] →
+    record { out = out; ticks = ticks; tube = tube; host = Some s; para = None; kept = None; bytes = bytes } ≡ host_left ticks tube out s
+host_is ticks tube out bytes s none = rw none refl
+
+pub para_is : (ticks tube : ℕ) (out bytes : List ℕ) (s : ParaState) → bytes ≡ [] →
+    record { out = out; ticks = ticks; tube = tube; host = None; para = Some s; kept = None; bytes = bytes } ≡ para_left ticks tube out s
+para_is ticks tube out bytes s none = rw none refl

@@ -1,0 +1,29 @@
+-- `replay para TRACE TICKS OUT --tube NAME`: the second processor against a trace.
+use Rattle.std.specs.Prelude.{ℕ, List, Result, Ok}
+use Rattle.beeb_bits.specs.declared.Side.TheVariants.{Para}
+use Rattle.tube_trace.specs.declared.Entry.{Entry}
+use Rattle.tube_trace.specs.Wrong.{wrong}
+use Rattle.tube_party.specs.Replay.{replayed}
+use Rattle.para_mach.specs.State.{ParaState, power_on}
+use Rattle.para_mach.specs.Step.{para_moves}
+use Rattle.beeb_stages.specs.Plan.{Verdict, ◌>>=◌}
+use Rattle.beeb_stages.specs.declared.stop.Refusal.{Refusal}
+use Rattle.beeb_status.specs.declared.status.Ending.{Ending}
+use Rattle.beeb_status.specs.declared.status.Cause.{Cause}
+use Rattle.power_on.specs.Inputs.{Inputs}
+use Rattle.power_on.specs.Machines.{rom_of}
+use Rattle.beeb_outcome.specs.Trace.{entries_of}
+use Rattle.beeb_outcome.specs.Verdicts.{machine_verdict, para_left}
+use Rattle.cmd_replay.specs.Replay.{side_count, ended, checked}
+
+-- what comes of the machine against the entries of a trace
+unfoldable pub para_ended : ℕ → List ℕ → List Entry → ParaState → Verdict Ending
+para_ended ticks out entries s =
+    ended (λ e. machine_verdict (para_left ticks (side_count Para ticks entries) out e)) (replayed para_moves Para entries ticks s)
+
+-- the ROM's length, the trace's form, its answers, and the machine
+unfoldable pub para_after : ℕ → List ℕ → Inputs → Result (Verdict Ending) (Refusal Cause)
+para_after ticks out i =
+    rom_of i.tube
+    >>= λ rom. entries_of i.trace
+    >>= λ entries. Ok (checked (wrong entries) (para_ended ticks out entries (power_on rom)))

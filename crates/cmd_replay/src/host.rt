@@ -1,0 +1,131 @@
+//! `replay host TRACE TICKS OUT --os NAME` and options.
+ghost use Rattle.std.specs.Prelude.{◌≡◌, ◌<◌, ◌≤◌, All, map, IfOk};
+ghost use Rattle.beeb_bits.specs.declared.Side.TheVariants.{Host};
+ghost use Rattle.tube_trace.specs.Entries.{IsEntry};
+ghost use Rattle.tube_party.specs.Replay.{replayed};
+ghost use Rattle.host_mach.specs.Step.{host_moves};
+ghost use Rattle.host_mach.specs.View.{host_seen};
+ghost use Rattle.beeb_stages.specs.Seen.{Gives};
+ghost use Rattle.cmd_replay.specs.Replay.{side_count, ended};
+ghost use Rattle.power_on.specs.Roms.{roms_of};
+ghost use Rattle.cmd_replay.specs.Host.{host_ended, host_after};
+ghost use Rattle.power_on.specs.Inputs as held;
+ghost use Rattle.power_on.specs.Seen.{seen_files, seen_inputs};
+ghost use Rattle.beeb_outcome.specs.Seen.{verdict_of};
+
+use crate::replay::{differs_outcome, side_count};
+use beeb_bits::{Side, Tick};
+use beeb_outcome::{Left, Outcome, entries_of, machine_outcome, wrong_outcome};
+use beeb_stages::Refusal;
+use beeb_status::Cause;
+use bus_plug::BusDevice;
+use disc_image::Kind;
+use host_mach::HostMachine;
+use power_on::{HostFiles, Inputs, discs_of, roms_of, script_of};
+use std::alloc::{AllocError, Global};
+use tube_party::{MOST, replay};
+use tube_trace::{Entry, first_wrong};
+
+// What comes of the machine against a trace.
+#[tactic(auto, unfolding(crate::specs::Host::host_ended))]
+fn ran<'a, D: BusDevice>(
+    alloc: Global,
+    machine: HostMachine<D>,
+    ticks: u64,
+    out: &'a str,
+    entries: &[Entry],
+) -> Result<Outcome<'a, D>, AllocError>
+    requires entries { All IsEntry entries.now }
+    requires ticks { ticks ≤ MOST }
+    ensures { let there = host_ended ticks out.now entries.now (host_seen D.plug machine) in
+        IfOk result (λ outcome. verdict_of D.plug outcome ≡ there) }
+{
+    let n = Tick(ticks);
+    let (machine, place) = replay(machine, Side::Host, entries, n);
+    match place {
+        None => {
+            let left = Left {
+                out,
+                ticks: n,
+                tube: side_count(Side::Host, entries, n),
+                host: Some(machine),
+                para: None,
+                kept: None,
+                bytes: Vec::new(alloc),
+            };
+            machine_outcome(alloc, left)
+        }
+        Some((line, doing)) => differs_outcome(alloc, line, doing),
+    }
+}
+
+// What comes of the bytes of a trace and of what the host is made of.
+#[tactic(auto, unfolding(crate::specs::Host::host_after))]
+fn replay_outcome<'a, D: BusDevice>(
+    alloc: Global,
+    kinds: (Kind, Kind),
+    ticks: u64,
+    out: &'a str,
+    trace: &[u8],
+    files: HostFiles,
+    plugs: Vec<D>,
+) -> Result<Outcome<'a, D>, Refusal<Cause>>
+    requires ticks { ticks ≤ MOST }
+    requires slots { All (λ slot. slot.0 < 16) files.roms.items }
+    ensures { let read : held.Inputs = record (seen_files files) { trace = trace.now } in
+        Gives (verdict_of D.plug) result (host_after (map D.plug plugs.items) kinds ticks out.now read) }
+{
+    let HostFiles {
+        os,
+        roms,
+        font,
+        disc0,
+        disc1,
+        keys,
+    } = files;
+    let roms = roms_of(os, roms, font)?;
+    let (d0, d1) = discs_of(alloc, kinds, disc0, disc1)?;
+    let entries = entries_of(alloc, trace)?;
+    let script = script_of(alloc, keys)?;
+    if let Some((at, byte)) = first_wrong(&entries) {
+        return Ok(wrong_outcome(alloc, at as u64 + 1, byte)?);
+    }
+    let machine = HostMachine::make(alloc, roms, d0, d1, script, plugs)?;
+    Ok(ran(alloc, machine, ticks, out, &entries)?)
+}
+
+/// What comes of a replay of the host with these plugged devices and discs of these kinds.
+#[tactic(auto, unfolding(crate::specs::Host::host_after))]
+pub fn host_outcome<'a, D: BusDevice>(
+    alloc: Global,
+    kinds: (Kind, Kind),
+    ticks: u64,
+    out: &'a str,
+    inputs: Inputs,
+    plugs: Vec<D>,
+) -> Result<Outcome<'a, D>, Refusal<Cause>>
+    requires ticks { ticks ≤ MOST }
+    requires slots { All (λ slot. slot.0 < 16) inputs.roms.items }
+    ensures { let after = host_after (map D.plug plugs.items) kinds ticks out.now (seen_inputs inputs) in
+        Gives (verdict_of D.plug) result after }
+{
+    let Inputs {
+        trace,
+        os,
+        roms,
+        font,
+        disc0,
+        disc1,
+        keys,
+        ..
+    } = inputs;
+    let files = HostFiles {
+        os,
+        roms,
+        font,
+        disc0,
+        disc1,
+        keys,
+    };
+    replay_outcome(alloc, kinds, ticks, out, &trace, files, plugs)
+}

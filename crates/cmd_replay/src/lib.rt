@@ -1,0 +1,10 @@
+//! What the replays come to by what they read: `replay host` and `replay para`.
+#![tactic(auto)]
+
+mod differing;
+mod host;
+mod para;
+mod replay;
+
+pub use host::host_outcome;
+pub use para::para_outcome;

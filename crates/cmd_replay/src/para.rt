@@ -1,0 +1,94 @@
+//! `replay para TRACE TICKS OUT --tube NAME`.
+ghost use Rattle.std.specs.Prelude.{◌≡◌, ◌≤◌, All, Ok, IfOk};
+ghost use Rattle.beeb_bits.specs.declared.Side.TheVariants.{Para};
+ghost use Rattle.tube_trace.specs.Entries.{IsEntry};
+ghost use Rattle.tube_party.specs.Replay.{replayed};
+ghost use Rattle.para_mach.specs.Step.{para_moves};
+ghost use Rattle.beeb_stages.specs.Seen.{Gives};
+ghost use Rattle.cmd_replay.specs.Replay.{side_count, ended};
+ghost use Rattle.cmd_replay.specs.Para.{para_ended, para_after};
+ghost use Rattle.power_on.specs.Inputs.{no_inputs};
+ghost use Rattle.power_on.specs.Inputs as held;
+ghost use Rattle.power_on.specs.Seen.{seen_inputs};
+ghost use Rattle.beeb_outcome.specs.Seen.{verdict_of};
+
+use crate::replay::{differs_outcome, side_count};
+use beeb_bits::{Side, Tick};
+use beeb_outcome::{Left, Outcome, entries_of, machine_outcome, wrong_outcome};
+use beeb_stages::Refusal;
+use beeb_status::Cause;
+use bus_plug::BusDevice;
+use para_mach::ParaMachine;
+use power_on::{Inputs, machine_of};
+use std::alloc::{AllocError, Global};
+use tube_party::{MOST, replay};
+use tube_trace::{Entry, first_wrong};
+
+// What comes of the machine against a trace.
+#[tactic(auto, unfolding(crate::specs::Para::para_ended))]
+fn ran<'a, D: BusDevice>(
+    alloc: Global,
+    machine: ParaMachine,
+    ticks: u64,
+    out: &'a str,
+    entries: &[Entry],
+) -> Result<Outcome<'a, D>, AllocError>
+    requires entries { All IsEntry entries.now }
+    requires ticks { ticks ≤ MOST }
+    ensures { let there = para_ended ticks out.now entries.now machine in
+        IfOk result (λ outcome. verdict_of D.plug outcome ≡ there) }
+{
+    let n = Tick(ticks);
+    let (machine, place) = replay(machine, Side::Para, entries, n);
+    match place {
+        None => {
+            let left = Left {
+                out,
+                ticks: n,
+                tube: side_count(Side::Para, entries, n),
+                host: None,
+                para: Some(machine),
+                kept: None,
+                bytes: Vec::new(alloc),
+            };
+            machine_outcome(alloc, left)
+        }
+        Some((line, doing)) => differs_outcome(alloc, line, doing),
+    }
+}
+
+// What comes of the bytes of a trace and of a boot ROM.
+#[tactic(auto, unfolding(crate::specs::Para::para_after))]
+fn replay_outcome<'a, D: BusDevice>(
+    alloc: Global,
+    ticks: u64,
+    out: &'a str,
+    trace: &[u8],
+    rom: Vec<u8>,
+) -> Result<Outcome<'a, D>, Refusal<Cause>>
+    requires { ticks ≤ MOST }
+    ensures { let read : held.Inputs = record no_inputs { trace = trace.now; tube = rom.items } in
+        Gives (verdict_of D.plug) result (para_after ticks out.now read) }
+{
+    let machine = machine_of(alloc, rom)?;
+    let entries = entries_of(alloc, trace)?;
+    if let Some((at, byte)) = first_wrong(&entries) {
+        return Ok(wrong_outcome(alloc, at as u64 + 1, byte)?);
+    }
+    Ok(ran(alloc, machine, ticks, out, &entries)?)
+}
+
+/// What comes of a replay of the second processor.
+#[tactic(auto, unfolding(crate::specs::Para::para_after))]
+pub fn para_outcome<'a, D: BusDevice>(
+    alloc: Global,
+    ticks: u64,
+    out: &'a str,
+    inputs: Inputs,
+) -> Result<Outcome<'a, D>, Refusal<Cause>>
+    requires { ticks ≤ MOST }
+    ensures { Gives (verdict_of D.plug) result (para_after ticks out.now (seen_inputs inputs)) }
+{
+    let Inputs { trace, tube, .. } = inputs;
+    replay_outcome(alloc, ticks, out, &trace, tube)
+}

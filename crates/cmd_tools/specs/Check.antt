@@ -1,0 +1,24 @@
+-- `check TRACE`: whether the Tube chip would give the answers of a trace.
+use Rattle.std.specs.Prelude.{ℕ, ◌+◌, List, ◌++◌, length, Option, Some, None, Result, Ok, codes}
+use Rattle.std.specs.Fmt.{decimal}
+use Rattle.tube_trace.specs.declared.Entry.{Entry}
+use Rattle.tube_trace.specs.Wrong.{wrong}
+use Rattle.beeb_stages.specs.Plan.{Verdict, ◌>>=◌}
+use Rattle.beeb_stages.specs.declared.stop.Refusal.{Refusal}
+use Rattle.beeb_status.specs.declared.status.Ending.{Ending}
+use Rattle.beeb_status.specs.declared.status.Ending.TheVariants.{Done}
+use Rattle.beeb_status.specs.declared.status.Cause.{Cause}
+use Rattle.beeb_outcome.specs.Trace.{entries_of, wrong_verdict}
+use Rattle.beeb_outcome.specs.Verdicts.{said_verdict}
+
+-- `ok N` and a line feed
+unfoldable pub ok_text : ℕ → List ℕ
+ok_text n = codes "ok " ++ decimal n ++ codes "\n"
+
+-- What the chip says of the entries: the number of lines, or the first line whose answer it would not give, and its byte.
+abbrev pub judged : List Entry → Option (ℕ × ℕ) → Verdict Ending
+judged entries None = said_verdict Done (ok_text (length entries))
+judged entries (Some w) = wrong_verdict (w.0 + 1) w.1
+
+unfoldable pub check_after : List ℕ → Result (Verdict Ending) (Refusal Cause)
+check_after bytes = entries_of bytes >>= λ entries. Ok (judged entries (wrong entries))

@@ -1,0 +1,48 @@
+//! `check TRACE`.
+ghost use Rattle.std.specs.Prelude.{◌≡◌, All, IfOk};
+ghost use Rattle.tube_trace.specs.Entries.{IsEntry};
+ghost use Rattle.tube_trace.specs.Wrong.{wrong};
+ghost use Rattle.beeb_stages.specs.Seen.{Gives};
+ghost use Rattle.beeb_outcome.specs.Seen.{verdict_of};
+ghost use Rattle.cmd_tools.specs.Check.{check_after, judged, ok_text};
+
+use beeb_outcome::{Outcome, entries_of, said_outcome, wrong_outcome};
+use beeb_stages::Refusal;
+use beeb_status::{Cause, Ending};
+use bus_plug::BusDevice;
+use std::alloc::{AllocError, Global};
+use tube_trace::{Entry, first_wrong};
+
+#[tactic(auto, unfolding(crate::specs::Check::ok_text))]
+fn ok_text(alloc: Global, n: usize) -> Result<Vec<u8>, AllocError>
+    ensures { IfOk result (λ v. v.items ≡ ok_text n) }
+{
+    let text = format!(in alloc; "ok {n}\n")?;
+    text.as_bytes().to_vec(alloc)
+}
+
+// What the chip says of the entries.
+fn judged<'a, D: BusDevice>(alloc: Global, entries: &[Entry]) -> Result<Outcome<'a, D>, AllocError>
+    requires { All IsEntry entries.now }
+    ensures { IfOk result (λ outcome. verdict_of D.plug outcome ≡ judged entries.now (wrong entries.now)) }
+{
+    match first_wrong(entries) {
+        None => {
+            let text = ok_text(alloc, entries.len())?;
+            Ok(said_outcome(alloc, Ending::Done, text))
+        }
+        Some((i, byte)) => wrong_outcome(alloc, i as u64 + 1, byte),
+    }
+}
+
+/// What comes of checking the bytes of a trace.
+#[tactic(auto, unfolding(crate::specs::Check::check_after))]
+pub fn check_outcome<'a, D: BusDevice>(
+    alloc: Global,
+    bytes: &[u8],
+) -> Result<Outcome<'a, D>, Refusal<Cause>>
+    ensures told { Gives (verdict_of D.plug) result (check_after bytes.now) }
+{
+    let entries = entries_of(alloc, bytes)?;
+    Ok(judged(alloc, &entries)?)
+}

@@ -1,0 +1,8 @@
+//! What the tools come to by what they read: `check`, `asm` and `dis`.
+#![tactic(auto)]
+
+mod asm;
+mod check;
+
+pub use asm::{asm_outcome, dis_outcome};
+pub use check::check_outcome;

@@ -1,4 +1,0 @@
-pub mod Files
-pub mod Para
-pub mod Host
-pub mod Both

@@ -1,0 +1,2 @@
+pub mod PlugLemmas
+pub mod LengthLemmas

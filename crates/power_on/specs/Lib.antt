@@ -1,0 +1,8 @@
+pub mod Inputs
+pub mod Script
+pub mod Discs
+pub mod Roms
+pub mod Machines
+pub mod Plugs
+pub mod Seen
+pub mod Lengths

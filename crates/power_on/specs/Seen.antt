@@ -1,0 +1,36 @@
+-- What the code holds of what was read, as the definitions see it.
+use Rattle.std.specs.Prelude.{ℕ, List, option_map}
+use Rattle.std.specs.declared.vec.Vec.{Vec}
+use Rattle.std.specs.declared.alloc.Global.{Global}
+use Rattle.rom_set.specs.Roms.{roms_seen}
+use Rattle.power_on.specs.declared.inputs.Inputs.{Inputs}
+use Rattle.power_on.specs.declared.inputs.HostFiles.{HostFiles}
+use Rattle.power_on.specs.Inputs as inputs
+
+abbrev pub items : Vec ℕ Global → List ℕ
+items v = v.items
+
+abbrev pub seen_inputs : Inputs → inputs.Inputs
+seen_inputs i = record {
+  trace = i.trace.items;
+  source = i.source.items;
+  image = i.image.items;
+  os = i.os.items;
+  tube = i.tube.items;
+  roms = roms_seen i.roms.items;
+  font = option_map items i.font;
+  disc0 = option_map items i.disc0;
+  disc1 = option_map items i.disc1;
+  keys = option_map items i.keys;
+}
+
+-- what the host is made of, and nothing else
+abbrev pub seen_files : HostFiles → inputs.Inputs
+seen_files f = record inputs.no_inputs {
+  os = f.os.items;
+  roms = roms_seen f.roms.items;
+  font = option_map items f.font;
+  disc0 = option_map items f.disc0;
+  disc1 = option_map items f.disc1;
+  keys = option_map items f.keys;
+}

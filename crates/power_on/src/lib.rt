@@ -1,0 +1,18 @@
+//! What a command read, by what it is to it, and the machines at power-on that are made of it and of the devices that are plugged.
+#![tactic(auto)]
+
+mod discs;
+mod inputs;
+mod law;
+mod machines;
+mod plugs;
+mod roms;
+mod script;
+
+pub use discs::discs_of;
+pub use inputs::{HostFiles, Inputs};
+pub use law::lengths_come_first;
+pub use machines::{machine_of, machines_of};
+pub use plugs::plugged;
+pub use roms::roms_of;
+pub use script::script_of;
