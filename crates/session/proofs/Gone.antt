@@ -3,14 +3,14 @@ use Rattle.std.proofs.Common.{ℕ, zero, suc, ◌≡◌, ◌+◌, ◌<◌, ◌�
 use Rattle.std.proofs.lemmas.List.Elements.{All-nil, All-cons, All-head, All-tail}
 use Rattle.beeb_bits.specs.declared.Side.{Side}
 use Rattle.tube_chip.specs.declared.Lines.{Lines}
-use Rattle.tube_chip.specs.Act.{Query, access, look}
+use Rattle.tube_chip.specs.Act.{Query, access}
 use Rattle.tube_chip.specs.Events.{Event}
 use Rattle.tube_trace.specs.Entries.{accesses, entry_of}
 use Rattle.tube_cell.specs.Passes.{Carried, own_horizon, here, bound_here, added}
 use Rattle.tube_party.specs.declared.party.Ask.{Ask}
 use Rattle.tube_party.specs.declared.party.Ask.TheVariants.{Nothing, Access, Look}
 use Rattle.tube_party.specs.Moves.{Moves, IsLawful, Runs, Heads, IsAsk, IsUnsure, Sees, shown}
-use Rattle.session.specs.Ahead.{Sight, lines_seen, observed}
+use Rattle.session.specs.Ahead.{lines_seen, observed}
 use Rattle.session.specs.Station.{place}
 use Rattle.session.specs.Gone.{GoneOn}
 use Rattle.session.proofs.Kept.{at_most_one}

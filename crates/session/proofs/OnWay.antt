@@ -1,40 +1,35 @@
 -- Where a machine stands that went ahead, and once what it did there is settled.
-use Rattle.std.proofs.Common.{ℕ, zero, suc, ◌≡◌, ◌+◌, ◌<◌, ◌≤◌, ◌⊎◌, ◌^◌, ⊎_elim, inl, inr, refl, sym, ◌∙◌, ap, subst, arith, List, [], ◌∷◌, ◌++◌, append-nil, All, length, take, Option, None, Some, MatchOption}
-use Rattle.std.proofs.lemmas.List.{take_all, take-append-le}
+use Rattle.std.proofs.Common.{ℕ, zero, suc, ◌≡◌, ◌+◌, ◌<◌, ◌≤◌, inl, inr, refl, sym, ◌∙◌, ap, subst, arith, List, [], ◌∷◌, ◌++◌, append-nil, All, length, take, Option, None, Some, MatchOption}
+use Rattle.std.proofs.lemmas.List.{take_all}
 use Rattle.std.proofs.lemmas.List.Elements.{All-nil, All-cons, All-head, All-tail}
-use Rattle.std.proofs.lemmas.Bool.{cases_lt}
 use Rattle.beeb_bits.specs.declared.Side.{Side}
 use Rattle.beeb_bits.specs.declared.Side.TheVariants.{Para}
 use Rattle.beeb_bits.specs.declared.Tick.{Tick}
 use Rattle.tube_chip.specs.declared.Answer.{Answer}
-use Rattle.tube_chip.specs.declared.Answer.TheVariants.{Byte, Seen}
+use Rattle.tube_chip.specs.declared.Answer.TheVariants.{Byte}
 use Rattle.tube_chip.specs.declared.Op.{Op}
 use Rattle.tube_chip.specs.Act.{Query, access, look}
 use Rattle.tube_chip.specs.Events.{Event}
 use Rattle.tube_trace.specs.declared.Entry.{Entry}
-use Rattle.tube_trace.specs.Entries.{accesses, entry_of}
+use Rattle.tube_trace.specs.Entries.{accesses}
 use Rattle.tube_cell.specs.Views.{AllBelow}
 use Rattle.tube_cell.specs.Passes.{Carried, own_horizon}
-use Rattle.tube_cell.specs.Steps.{Watches}
-use Rattle.tube_cell.specs.Views.{readings_of}
-use Rattle.tube_chip.specs.State.{State}
 use Rattle.tube_party.specs.declared.party.Ask.{Ask}
 use Rattle.tube_party.specs.declared.party.Ask.TheVariants.{Nothing, Access, Look}
-use Rattle.tube_party.specs.Moves.{Moves, IsLawful, Runs, Heads, Looks, IsAsk, IsUnsure, Sees, Goes, IsAskedFor, FitsAnswer, IsAtLook, shown}
+use Rattle.tube_party.specs.Moves.{Moves, IsLawful, Runs, Heads, IsAsk, IsUnsure, Goes, IsAskedFor, FitsAnswer, IsAtLook, shown}
 use Rattle.tube_party.specs.Turn.{noted, noted_all}
-use Rattle.session.specs.declared.mark.Mark.{Mark}
 use Rattle.tube_cell.specs.declared.local.Readings.{Readings}
 use Rattle.session.specs.Steps.{event_at, all_events}
 use Rattle.session.specs.Ahead.{Sight, byte_seen, byte_answer, readings_seen, observed, IsSeen}
 use Rattle.session.specs.Station.{place, Station}
 use Rattle.session.specs.Gone.{MovedOn}
-use Rattle.session.specs.Way.{Way, IsWay, way_of, Outset, outset, observed_past, IsReached, IsNoted, IsOnWay, IsSettled, IsOver, IsAnew, IsNoEarlier}
+use Rattle.session.specs.Way.{IsWay, way_of, Outset, observed_past, IsReached, IsNoted, IsOnWay, IsSettled, IsOver, IsAnew, IsNoEarlier}
 use Rattle.session.specs.Trusting.{HasPassed}
-use Rattle.session.proofs.Runs.{SomeRuns, asking, append, rises}
+use Rattle.session.proofs.Runs.{append, rises}
 use Rattle.session.proofs.Kept.{noted_on, counted_on, still_kept}
 use Rattle.session.proofs.Gone.{events_low, events_under, events_few}
 use Rattle.session.proofs.Trusts.{told_low}
-use Rattle.session.proofs.Observing.{none_late, below_limit, cut, watches, made, stops_at, looked, IsLooks, readings_show}
+use Rattle.session.proofs.Observing.{none_late, below_limit, cut, watches, made, looked, readings_show}
 
 -- what is observed makes a way
 pub is_way : {S : Type 0} (m : Moves S) (lawful : IsLawful m) (n : ℕ) (from : Outset S) → IsWay (way_of m n from)

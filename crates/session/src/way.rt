@@ -95,8 +95,7 @@ fn look_on<M: Rewinds>(
     ensures list { half.new.list ≡ half.old.list }
     ensures pass { half.new.pass ≡ half.old.pass }
 {
-    half.machine
-        .advance_on(n, &mark.readings.lines, end, past)
+    half.machine.advance_on(n, &mark.readings.lines, end, past)
 }
 
 // Goes on from what is asked next, up to tick `end`. None where it goes no further.
@@ -249,9 +248,7 @@ fn go_anew<M: Rewinds, R: Wait>(
     ensures room { vec_capacity half.new.list ≡ vec_capacity half.old.list }
     ensures pass { half.new.pass ≡ half.old.pass }
 {
-    let mut ask = half
-        .machine
-        .advance_seeing(n, &mark.readings.lines, trust);
+    let mut ask = half.machine.advance_seeing(n, &mark.readings.lines, trust);
     for _ in rt.forever() {
         let Ask::Access(tick, op) = ask else {
             return ask;
@@ -270,9 +267,7 @@ fn go_anew<M: Rewinds, R: Wait>(
             answer,
         };
         note(&mut half.list, &mut half.count, mark.keep, entry);
-        ask = half
-            .machine
-            .advance_seeing(n, &mark.readings.lines, trust);
+        ask = half.machine.advance_seeing(n, &mark.readings.lines, trust);
     }
     unreachable!()
 }

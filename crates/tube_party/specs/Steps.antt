@@ -9,8 +9,8 @@ use Rattle.tube_chip.specs.declared.Answer.TheVariants.{Byte, Seen}
 use Rattle.tube_chip.specs.declared.Lines.{Lines}
 use Rattle.tube_chip.specs.declared.Op.{Op}
 use Rattle.tube_party.specs.declared.party.Ask.{Ask}
-use Rattle.tube_party.specs.declared.party.Ask.TheVariants.{Nothing, Access, Look}
-use Rattle.tube_party.specs.Moves.{Moves, IsLawful, Runs, Looks, Advances, Sees, Goes, IsAsk, IsAtLook, IsAskedFor, FitsAnswer, shown}
+use Rattle.tube_party.specs.declared.party.Ask.TheVariants.{Access, Look}
+use Rattle.tube_party.specs.Moves.{Moves, IsLawful, Runs, Looks, Advances, Sees, Goes, IsAtLook, IsAskedFor, FitsAnswer, shown}
 
 silent_here : {S : Type 0} (m : Moves S) (side : Side) (n k : ℕ) (s last : S) (o : Option Query) →
     m.asks s ≡ o → o ≡ None → Runs m side n k (m.next s None) [] last → m.due s < n → Runs m side n (suc k) s [] last

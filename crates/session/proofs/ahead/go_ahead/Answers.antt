@@ -1,4 +1,4 @@
-use Rattle.std.proofs.Common.{arith, refl, ℕ, ◌∙◌, sym, subst, ap}
+use Rattle.std.proofs.Common.{arith, refl, ℕ, ◌∙◌, sym, subst}
 use Rattle.std.proofs.lemmas.List.{take_all}
 use Rattle.tube_cell.specs.Passes.{Carried}
 use Rattle.tube_party.specs.Moves.{Goes, shown}

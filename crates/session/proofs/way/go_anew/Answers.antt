@@ -1,4 +1,4 @@
-use Rattle.std.proofs.Common.{rules, arith, refl, ◌≤◌, ◌<◌, ◌≡◌, inl, inr, ◌∙◌, sym, ap, subst, Some, [], ◌∷◌}
+use Rattle.std.proofs.Common.{rules, arith, refl, ◌≤◌, ◌<◌, inl, inr, ◌∙◌, sym, ap, subst, Some, [], ◌∷◌}
 use Rattle.std.proofs.lemmas.List.{take_all}
 use Rattle.beeb_bits.specs.declared.Side.TheVariants.{Para}
 use Rattle.tube_chip.specs.declared.Answer.TheVariants.{Byte}
