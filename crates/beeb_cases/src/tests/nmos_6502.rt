@@ -86,7 +86,10 @@ fn goes(alloc: Global, cpu: &mut Cpu, after: &str, list: &str) -> Result<bool, F
             return Ok(false);
         }
     }
-    if !cpu.last() || cpu.starting() {
+    if cpu.starting() {
+        return Ok(false);
+    }
+    if !cpu.last() {
         return Ok(false);
     }
     Ok(registers(alloc, cpu.at_end())?.as_str() == after)

@@ -1,4 +1,6 @@
 //! A device of the tests' own, by itself and in a box, and the two devices that there are.
+ghost use Rattle.std.specs.Prelude.{◌≤◌, IfSome};
+
 use beeb_bits::NoMemory;
 use bus_plug::{BusDevice, PrinterLatch, RamCard};
 use std::test::Fail;
@@ -62,8 +64,18 @@ fn a_device_in_a_box_is_the_device(rt: HostRuntime) -> Result<(), Fail> {
     Ok(())
 }
 
-fn address(digits: &str) -> Option<u16> {
-    u16::from_str_radix(digits, 16).ok()
+// An address on FRED or JIM.
+fn address(digits: &str) -> Option<u16>
+    ensures { IfSome result (λ at. (0xfc00 ≤ at) × (at ≤ 0xfdff)) }
+{
+    let at = u16::from_str_radix(digits, 16).ok()?;
+    if at < 0xfc00 {
+        return None;
+    }
+    if at > 0xfdff {
+        return None;
+    }
+    Some(at)
 }
 
 fn byte(digits: &str) -> Option<u8> {

@@ -3,7 +3,7 @@
 ghost use Rattle.std.specs.Prelude.{◌≡◌};
 
 use beeb_bits::{Side, Tick};
-use std::alloc::Global;
+use std::alloc::{AllocError, Global};
 use std::test::Fail;
 use std::vec::Vec;
 use tube_chip::{Chip, Op};
@@ -12,7 +12,7 @@ use tube_party::{
     reference_is_followed, reference_is_replayed, reference_is_trace, replay, replay_is_following,
     solo,
 };
-use tube_trace::{Entry, read};
+use tube_trace::read;
 
 /// Looks at tick 5 and every 10 ticks, and reads register 0 five ticks after each look.
 #[derive(Drop)]
@@ -110,15 +110,15 @@ const REPLAYS: &str = "\
 15 3 - 15@0000000003 H W 0 01;000000000A P R 0 01;000000000B P R 0 02;
 ";
 
-// The entries of a trace in which `;` ends a line.
-fn entries_of(alloc: Global, trace: &str) -> Result<Vec<Entry>, Fail> {
+// The text of a trace, in which `;` ends a line.
+fn text_of(alloc: Global, trace: &str) -> Result<Vec<u8>, AllocError> {
     let mut text = trace.as_bytes().to_vec(alloc)?;
     for byte in text.iter_mut() {
         if *byte == b';' {
             *byte = b'\n';
         }
     }
-    Ok(read(alloc, &text)?)
+    Ok(text)
 }
 
 fn read_at(digits: &str) -> Option<Doing> {
@@ -143,7 +143,7 @@ fn replay_of(head: &str) -> Option<(u16, Option<(u64, Option<Doing>)>, u64)> {
 fn the_first_place_that_differs_is_told(rt: HostRuntime) -> Result<(), Fail> {
     for line in REPLAYS.lines() {
         if let Some((head, trace)) = line.split_once('@') {
-            let entries = entries_of(rt.alloc(), trace)?;
+            let entries = read(rt.alloc(), &text_of(rt.alloc(), trace)?)?;
             let (ticks, place, due) = replay_of(head).unwrap_or((0, None, 0));
             let n = Tick(u64::from(ticks));
             let (party, found) = replay(at_power_on(), Side::Para, &entries, n);
