@@ -12,8 +12,8 @@ work=$(mktemp -d)
 trap 'rm -rf "$work"' EXIT
 cd "$work"
 
-# The pairs that `run` is timed on: the name, the host's program, the second processor's, and the key script where there is one. A number
-# behind the name stands for the microseconds between two interrupts of the host's timer, in place of the 1,000 of its program.
+# The pairs that `run` is timed on: the name, the host's program, the second processor's, and a key script, or `disc` for an empty one in
+# drive 0. A number behind the name stands for the microseconds between two interrupts of the host's timer, in place of the 1,000 of its program.
 pairs='busy bench/busy-os bench/busy-tube
 demo examples/demo-os examples/demo-tube
 stream examples/demo-os bench/pairs/stream-tube
@@ -30,20 +30,26 @@ irq-50 bench/pairs/irq-os bench/pairs/interrupts-tube
 nmi-1000 bench/pairs/nmi-os bench/pairs/interrupts-tube
 nmi-50 bench/pairs/nmi-os bench/pairs/interrupts-tube
 held bench/pairs/held-os bench/busy-tube
-pushes bench/busy-os bench/pairs/pushes-tube'
+pushes bench/busy-os bench/pairs/pushes-tube
+screen bench/pairs/screen-os bench/busy-tube
+disc bench/pairs/disc-os bench/busy-tube disc'
 
-# assemble_pair NAME: assembles the pair as NAME-os and NAME-tube, and leaves the words that run it in `words`, those for its keys in `keys`
+# assemble_pair NAME: assembles the pair as NAME-os and NAME-tube, and leaves the words that run it in `words`, those for its keys or its disc in
+# `more`
 assemble_pair() {
-    local name os tube script
-    read -r name os tube script <<<"$(grep "^$1 " <<<"$pairs")"
+    local name os tube input
+    read -r name os tube input <<<"$(grep "^$1 " <<<"$pairs")"
     [ -n "$name" ] || { echo "no pair is called $1"; exit 1; }
     cp "$top/$os.asm" os.asm
     case $name in *-[0-9]*) sed -i "s/998/$((${name##*-} - 2))/" os.asm ;; esac
     "$launcher" asm 6502 os.asm "$name-os"
     "$launcher" asm 65c02 "$top/$tube.asm" "$name-tube"
-    [ -z "$script" ] || cp "$top/$script" keys
-    keys=${script:+--keys keys}
-    words="--os $name-os --tube $name-tube $keys"
+    case $input in
+        '') more='' ;;
+        disc) head -c 204800 /dev/zero >disc && more='--disc0 disc' ;;
+        *) cp "$top/$input" keys && more='--keys keys' ;;
+    esac
+    words="--os $name-os --tube $name-tube $more"
 }
 
 # move_thread PID NUMBER PROCESSORS: once the process has two threads, moves the first or the second (0 or 1) to these processors

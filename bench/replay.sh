@@ -57,22 +57,14 @@ irq:    PHA
         PLA
         RTI'
 
-screen 9C 7F 50 62 28 26 00 20 22 01 07 67 08 06 00 | busy_behind screen-os "$none"
+"$launcher" asm 6502 "$top/bench/pairs/screen-os.asm" screen-os
+"$launcher" asm 6502 "$top/bench/pairs/disc-os.asm" disc-os
 
 # Its page has all codes.
 {
     printf '%s\n' '        LDX #0' 'fill:   TXA' '        STA &7C00,X' '        STA &7D00,X' '        STA &7E00,X' '        STA &7F00,X' '        INX' '        BNE fill'
     screen 4B 3F 28 33 24 1E 02 19 1B 93 12 72 13 28 00
 } | busy_behind teletext-os "$none"
-
-# There is no such sector: each command ends after a second, and its interrupt begins the next one.
-put 29 FE80 14 FE86 80 FE84 | busy_behind disc-os 'nmi:    PHA
-        LDA &FE84
-        LDA #&80
-        STA &FE84
-        PLA
-        RTI
-irq:    RTI'
 
 # The side, the option and name of its program, the ticks of a run, those of a bus cycle, and what else is said.
 while read -r side option name ticks cycle more; do

@@ -50,7 +50,7 @@ for pair; do
     # The machine's state may change between runs, so all are run in turn.
     for _ in 1 2 3 4 5; do
         timed times.solo on_one solo "$ticks" solo $words --keep 4194304
-        timed times.host on_one replay host solo.trace "$ticks" replayed --os "$pair-os" $keys
+        timed times.host on_one replay host solo.trace "$ticks" replayed --os "$pair-os" $more
         timed times.para on_one replay para solo.trace "$ticks" replayed --tube "$pair-tube"
         timed times.run "$on_two" run "$ticks" two $words --keep 4194304
         compare two
