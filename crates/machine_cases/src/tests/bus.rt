@@ -213,11 +213,11 @@ fn is_as_mapped(alloc: Global, at: u16, before: u8, after: u8) -> Result<bool, F
 }
 
 // The parts of a row: the addresses, the bytes, and how many cycles an access takes that begins at an even cycle, and at an odd one.
-type Area = ([u16; 2], Option<(u8, u8)>, (u8, u8));
+type Area = ((u16, u16), Option<(u8, u8)>, (u8, u8));
 
 fn area_of(row: &str) -> Option<Area> {
     let mut words = row.split(' ');
-    let ends = [address(words.next()?)?, address(words.next()?)?];
+    let ends = (address(words.next()?)?, address(words.next()?)?);
     let bytes = byte(words.next()?).zip(byte(words.next()?));
     match words.next()? {
         "slow" => Some((ends, bytes, (2, 3))),
@@ -228,11 +228,11 @@ fn area_of(row: &str) -> Option<Area> {
 #[test]
 fn each_address_is_that_of_the_map(rt: HostRuntime) -> Result<(), Fail> {
     for row in MAP.lines() {
-        let Some((ends, bytes, cycles)) = area_of(row) else {
+        let Some(((first, last), bytes, cycles)) = area_of(row) else {
             assert!(rt; row.starts_with('#'), "{row}");
             continue;
         };
-        for at in ends {
+        for at in [first, last] {
             assert!(rt; (stretch(at, 10), stretch(at, 13)) == cycles, "{row}");
             if let Some((before, after)) = bytes {
                 assert!(rt; is_as_mapped(rt.alloc(), at, before, after)?, "{row}");

@@ -2,26 +2,20 @@
 use beeb_bits::Side;
 use tube_chip::{Answer, Chip, Lines, Op, packing_is_one_to_one, rising_list_is_merge};
 
-// Whether an access is answered so.
-fn answers(chip: &mut Chip, side: Side, op: Op, want: u8) -> bool {
-    chip.apply(side, op) == want
-}
-
 #[test]
 fn register_1_takes_twenty_four_bytes(rt: HostRuntime) {
     let mut chip = Chip::new();
-    let mut is_right = true;
     for byte in 0x01..=0x17u8 {
-        is_right = answers(&mut chip, Side::Para, Op::Write(1, byte), 0) && is_right;
+        assert_eq!(rt; chip.apply(Side::Para, Op::Write(1, byte)), 0);
     }
-    is_right = answers(&mut chip, Side::Para, Op::Read(0), 0x40) && is_right;
+    assert_eq!(rt; chip.apply(Side::Para, Op::Read(0)), 0x40);
     chip.apply(Side::Para, Op::Write(1, 0x18));
-    is_right = answers(&mut chip, Side::Para, Op::Read(0), 0x00) && is_right;
+    assert_eq!(rt; chip.apply(Side::Para, Op::Read(0)), 0x00);
     chip.apply(Side::Para, Op::Write(1, 0x19));
     for byte in 0x01..=0x18u8 {
-        is_right = answers(&mut chip, Side::Host, Op::Read(1), byte) && is_right;
+        assert_eq!(rt; chip.apply(Side::Host, Op::Read(1)), byte);
     }
-    assert!(rt; answers(&mut chip, Side::Host, Op::Read(1), 0x18) && is_right);
+    assert_eq!(rt; chip.apply(Side::Host, Op::Read(1)), 0x18);
 }
 
 #[test]
