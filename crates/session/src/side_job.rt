@@ -27,7 +27,8 @@ pub(crate) struct SideJob<M> {
 impl<M: Party + Send> Job for SideJob<M> {
     type Done = Half<M>;
 
-    ghost may_work = { λ j. MayWork M.moves M.plays (arc_value j.cell) j.n.0 (station M.state j.half) × (j.keep ≤ vec_capacity j.half.list) };
+    ghost may_work = { λ j. MayWork M.moves M.plays (arc_value j.cell) j.n.0 (station M.state j.half)
+        × (j.keep ≤ vec_capacity j.half.list) };
 
     ghost gives = { λ j r. HasWorked M.moves j.n.0 j.keep (station M.state j.half).at (station M.state r) };
 

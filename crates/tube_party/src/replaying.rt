@@ -22,7 +22,8 @@ pub struct Doing {
 // The place where the side has an entry and the machine does nothing more, if there is one.
 fn next_line(trace: &[Entry], at: usize) -> Option<(u64, Option<Doing>)>
     requires { at ≤ length trace.now }
-    ensures { (side : Side) (n : ℕ) → IsOwnAt trace.now side n at → result ≡ next_line (own_left trace.now side n at) }
+    ensures { (side : Side) (n : ℕ) → IsOwnAt trace.now side n at →
+        result ≡ next_line (own_left trace.now side n at) }
 {
     if at < trace.len() {
         Some((at as u64 + 1, None))

@@ -46,7 +46,8 @@ pub trait Rewinds: Party {
     fn advance_on(&mut self, until: Tick, lines: &Lines, sure: Tick, past: &mut Self::Past) -> Ask
         requires ticks { until.0 ≤ MOST }
         requires look { IsAtLook Self.moves until.0 (Self.state self.old) }
-        ensures goes { Goes Self.moves until.0 (shown lines.now sure.0) (Self.state self.old) result (Self.state self.new) }
+        ensures goes { Goes Self.moves until.0 (shown lines.now sure.0)
+            (Self.state self.old) result (Self.state self.new) }
         ensures mark { Self.state (before past.new self.new) ≡ Self.state (before past.old self.old) }
     {
         Ask::Look(self.due())
@@ -67,7 +68,8 @@ pub trait Rewinds: Party {
         ensures goes { let old = Self.state self.old in
             let new = Self.state self.new in
             MatchOption result (new ≡ old)
-            (λ ask. Goes Self.moves until.0 (shown lines.now sure.0) (Self.moves.next old (Some (Byte byte))) ask new) }
+            (λ ask. Goes Self.moves until.0 (shown lines.now sure.0)
+            (Self.moves.next old (Some (Byte byte))) ask new) }
         ensures mark { Self.state (before past.new self.new) ≡ Self.state (before past.old self.old) }
     {
         None

@@ -52,7 +52,8 @@ pub(crate) fn next_own(trace: &[Entry], side: Side, until: Tick, from: usize) ->
 pub(crate) fn take(trace: &[Entry], at: usize, tick: Tick, op: Op) -> Result<u8, u64>
     requires within { at ≤ length trace.now }
     ensures { (side : Side) (n : ℕ) → IsOwnAt trace.now side n at → MatchResult result
-        (λ byte. (at < length trace.now) × Takes (own_left trace.now side n at) (own_left trace.now side n (at + 1)) tick.0 op byte)
+        (λ byte. (at < length trace.now)
+        × Takes (own_left trace.now side n at) (own_left trace.now side n (at + 1)) tick.0 op byte)
         (λ line. Misses (own_left trace.now side n at) (length trace.now) tick.0 op line) }
 {
     if at >= trace.len() {
