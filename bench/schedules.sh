@@ -203,19 +203,24 @@ interrupted() { # MEMORY
     [ "$(od -An -tx2 -j129 -N2 "$1")" != ' 0000' ]
 }
 
-# work_with LOAD WORD..: the program with these words, where a load delays its threads. It ends where it works for a minute.
-work_with() (
+# limited WORD..: a command in place of this shell, which ends where it works for a minute. (What waits for its threads has no such limit.)
+limited() {
     ulimit -t 60
-    load=$1
+    exec "$@"
+}
+
+# work_with LOAD WORD..: the program with these words, where a load delays its threads.
+work_with() {
+    local load=$1
     shift
     case $load in
-        none) "$program" "$@" ;;
-        one | one-loaded) taskset -c 0 "$program" "$@" ;;
-        half-loaded) taskset -c "0,1" "$program" "$@" ;;
-        loaded) taskset -c "0,$last" "$program" "$@" ;;
+        none) (limited "$program" "$@") ;;
+        one | one-loaded) (limited taskset -c 0 "$program" "$@") ;;
+        half-loaded) (limited taskset -c "0,1" "$program" "$@") ;;
+        loaded) (limited taskset -c "0,$last" "$program" "$@") ;;
         *)
             # both threads begin beside a spinner, and then one goes to another processor: the other alone is delayed
-            taskset -c 0 "$program" "$@" &
+            (limited taskset -c 0 "$program" "$@") &
             case $load in
                 host-delayed) move_thread $! 0 "1-$last" ;;
                 *) move_thread $! 1 "1-$last" ;;
@@ -223,7 +228,7 @@ work_with() (
             wait $!
             ;;
     esac
-)
+}
 
 # Spinners on the first processor and on the last, which go on only while a run has a load. They give way to the program mostly, since a
 # thread that lets another have its processor waits for a spinner's whole turn.
