@@ -1,6 +1,10 @@
 -- The bits of a byte, bit 0 the lowest.
-use Rattle.std.specs.Prelude.{ℕ, ◌/◌, ◌%◌, ◌^◌, ◌==◌, Bool}
+use Rattle.std.specs.Prelude.{ℕ, ◌/◌, ◌%◌, ◌^◌, ◌==◌, Bool, if◌then◌else◌}
 
 -- bit n of v is 1
 abbrev pub bit : ℕ → ℕ → Bool
 bit v n = v / 2 ^ n % 2 == 1
+
+-- a bit of this weight, where it is set
+abbrev pub weight : ℕ → Bool → ℕ
+weight n b = if b then n else 0

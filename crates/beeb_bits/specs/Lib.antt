@@ -1,2 +1,4 @@
 pub mod Bits
 pub mod Order
+pub mod Clock
+pub mod Zeros

@@ -1,14 +1,18 @@
-//! Ticks, the two sides, and the bits of a byte.
+//! Ticks and cycles, the two sides, the bits of a byte, and want of memory.
 #![tactic(auto)]
 
-ghost use Rattle.std.specs.Prelude.{◌≡◌, ◌<◌, ◌⊎◌, ◌↔◌, IsTrue};
-ghost use Rattle.beeb_bits.specs.Bits.{bit};
+ghost use Rattle.std.specs.Prelude.{◌≡◌, ◌≤◌, ◌<◌, ◌⊎◌, ◌↔◌, IsTrue};
+ghost use Rattle.beeb_bits.specs.Bits.{bit, weight};
 ghost use Rattle.beeb_bits.specs.Order.{before};
 ghost use Rattle.beeb_bits.specs.declared.Side.TheVariants.{Host, Para};
 
-use thiserror::Error;
+mod clock;
+mod memory;
 
-/// A moment of the one clock that both machines share, in ticks of 1/6 microsecond from power-on.
+pub use clock::Clock;
+pub use memory::{NoMemory, zeroed};
+
+/// A moment of the one clock that both machines share, in ticks of 1/6 or 1/12 microsecond from power-on.
 #[derive(Clone, Copy, Debug, PartialEq, Eq, PartialOrd, Ord)]
 pub struct Tick(pub u64);
 
@@ -21,11 +25,6 @@ pub enum Side {
     Para,
 }
 
-/// Want of memory, as an answer of its own.
-#[derive(Clone, Copy, Debug, PartialEq, Eq, Error)]
-#[error("no memory")]
-pub struct NoMemory;
-
 /// What can be sent to a thread of its own.
 pub trait Crosses: Send {}
 
@@ -35,6 +34,14 @@ pub fn bit(v: u8, n: u8) -> bool
     ensures { result ≡ bit v n }
 {
     (v >> n) % 2 == 1
+}
+
+/// A bit of this weight, where it is set.
+pub fn weight(n: u8, is_set: bool) -> u8
+    ensures value { result ≡ weight n is_set }
+    ensures bound { result ≤ n }
+{
+    if is_set { n } else { 0 }
 }
 
 /// What `x` does at tick `a` comes before what `y` does at tick `b`.

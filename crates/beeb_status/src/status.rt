@@ -174,9 +174,6 @@ impl Status {
             Status::NoThread => joined(alloc, "no thread", &[]),
             Status::NoMemory => joined(alloc, "no memory", &[]),
         };
-        match bytes {
-            Ok(bytes) => Ok(bytes),
-            Err(_) => Err(NoMemory),
-        }
+        Ok(bytes?)
     }
 }

@@ -1,6 +1,7 @@
 -- The RAM card: a page register, and the pages of a memory of 65,536 bytes. (Profile. BBC Microcomputer Advanced User Guide, the 1 MHz bus:
 -- JIM is one page, which a register at FCFF selects.)
-use Rattle.std.specs.Prelude.{ℕ, ◌+◌, ◌-◌, ◌*◌, ◌==◌, ◌||◌, nat_le, Bool, List, [], ◌∷◌, slice_index, slice_set, replicate, if◌then◌else◌}
+use Rattle.std.specs.Prelude.{ℕ, ◌+◌, ◌-◌, ◌*◌, ◌==◌, ◌||◌, nat_le, Bool, List, [], ◌∷◌, slice_index, slice_set, if◌then◌else◌}
+use Rattle.beeb_bits.specs.Zeros.{zeros}
 use Rattle.bus_plug.specs.Plug.{Rules, Plug}
 
 -- its addresses
@@ -43,8 +44,8 @@ card_rules = record {
 }
 
 -- at power-on all bytes are 00
-unfoldable pub clear : List ℕ
-clear = replicate 65536 0
+abbrev pub clear : List ℕ
+clear = zeros 65536
 
 abbrev pub new_card : Plug
 new_card = record { rules = card_rules; state = 0 ∷ clear }

@@ -27,7 +27,7 @@ impl PrinterLatch {
     pub fn make(alloc: Global) -> Result<PrinterLatch, NoMemory>
         ensures { IfOk result (λ latch. ⟦<PrinterLatch as BusDevice>⟧.plug latch ≡ new_latch) }
     {
-        let kept = Vec::with_capacity(alloc, ROOM).map_err(|_| NoMemory)?;
+        let kept = Vec::with_capacity(alloc, ROOM)?;
         Ok(PrinterLatch { kept })
     }
 }
@@ -50,6 +50,6 @@ impl BusDevice for PrinterLatch {
     }
 
     fn spill(&self, to: &mut Vec<u8>) -> Result<(), NoMemory> {
-        to.extend_from_slice(&self.kept).map_err(|_| NoMemory)
+        Ok(to.extend_from_slice(&self.kept)?)
     }
 }

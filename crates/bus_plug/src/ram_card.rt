@@ -1,10 +1,10 @@
 //! The RAM card.
 ghost use Rattle.std.specs.Prelude.{◌≡◌, ◌≤◌, ◌<◌, IfOk, length};
-ghost use Rattle.bus_plug.specs.RamCard.{card_rules, clear, new_card, card_place};
+ghost use Rattle.bus_plug.specs.RamCard.{card_rules, new_card, card_place};
 
 use crate::BusDevice;
-use beeb_bits::NoMemory;
-use std::alloc::{AllocError, Global};
+use beeb_bits::{NoMemory, zeroed};
+use std::alloc::Global;
 
 /// How many bytes the card has.
 const SIZE: usize = 65_536;
@@ -28,22 +28,12 @@ pub struct RamCard {
     ghost full: { length bytes.items ≡ 65536 },
 }
 
-// The memory at power-on. The size is an argument so that no proof writes the list out.
-#[tactic(none)]
-fn clear(alloc: Global, size: usize) -> Result<Vec<u8>, AllocError>
-    requires { size ≡ SIZE }
-    ensures items { IfOk result (λ v. v.items ≡ clear) }
-    ensures length { IfOk result (λ v. length v.items ≡ SIZE) }
-{
-    vec![in alloc; 0; size]
-}
-
 impl RamCard {
     /// A card at power-on, all of it 00.
     pub fn make(alloc: Global) -> Result<RamCard, NoMemory>
         ensures { IfOk result (λ card. ⟦<RamCard as BusDevice>⟧.plug card ≡ new_card) }
     {
-        let bytes = clear(alloc, SIZE).map_err(|_| NoMemory)?;
+        let bytes = zeroed(alloc, SIZE)?;
         Ok(RamCard { page: 0, bytes })
     }
 
@@ -86,6 +76,6 @@ impl BusDevice for RamCard {
     }
 
     fn spill(&self, to: &mut Vec<u8>) -> Result<(), NoMemory> {
-        to.extend_from_slice(&self.bytes).map_err(|_| NoMemory)
+        Ok(to.extend_from_slice(&self.bytes)?)
     }
 }

@@ -3,6 +3,7 @@ use Rattle.std.proofs.Common.{◌≡◌, ◌∙◌, sym, ap, refl, ℕ, ◌<◌,
 use Rattle.std.specs.Prelude.{slice_set, if◌then◌else◌}
 use Rattle.std.proofs.lemmas.Bool.{cases_eq, cases_lt, eq-eqb, ne_eqb, le-leb, lt-leb, and_right}
 use Rattle.std.proofs.lemmas.List.{get_or-replicate, get_or_past, length-replicate}
+use Rattle.beeb_bits.specs.Zeros.{zeros-long, zeros-at}
 use Rattle.bus_plug.specs.Plug.{Plug, plug_answer}
 use Rattle.bus_plug.specs.RamCard.{is_page_register, is_in_page, card_place, card_rules, clear, new_card}
 use Rattle.chip_laws.specs.Cards.{Access, read, write, after_access, after_accesses, IsAccess, AreAccesses, page_after, last_page, byte_after, last_written, CardRemembers}
@@ -127,32 +128,15 @@ shows_page (a ∷ accesses) page bytes =
     ap (λ p. plug_answer (after_accesses accesses p) 0xFCFF) (one_access a page bytes) ∙ shows_page accesses (page_after a page) (bytes_after page a bytes)
 
 -- at power-on all bytes are 00
-clear_is : (n : ℕ) → n ≡ 65536 → replicate n 0 ≡ clear
-unfolding clear
-clear_is n e = ap (λ k. replicate k 0) e
-
-zeros : (n i : ℕ) → get_or {A = ℕ} (replicate n 0) i 0 ≡ 0
-zeros n i =
-    elim (cases_lt i n) [
-      | inl inside ↦ get_or-replicate n i 0 0 inside
-      | inr past ↦ let short : length (replicate n 0) ≤ i = omega (arith, length-replicate {A = ℕ} n 0) in get_or_past (replicate n 0) i 0 short
-    ]
-
-clear_long : (n : ℕ) → n ≡ 65536 → length clear ≡ n
-clear_long n e = ap length (sym (clear_is n e)) ∙ length-replicate n 0
-
-clear_at : (n i : ℕ) → n ≡ 65536 → get_or clear i 0 ≡ 0
-clear_at n i e = ap (λ (bytes : List ℕ). get_or bytes i 0) (sym (clear_is n e)) ∙ zeros n i
-
 begins : new_card ≡ card 0 clear
 unfolding card
 begins = refl
 
-pub card_remembers : (n : ℕ) → n ≡ 65536 → CardRemembers
-card_remembers n e = record {
+pub card_remembers : CardRemembers
+card_remembers = record {
   bytes = λ accesses at are low high.
       ap (λ p. plug_answer (after_accesses accesses p) at) begins
-      ∙ remembers accesses 0 at clear are (clear_long n e ∙ e) (omega arith) low high
-      ∙ ap (last_written 0 (last_page accesses 0) at accesses) (clear_at n (card_place (last_page accesses 0) at) e);
+      ∙ remembers accesses 0 at clear are (zeros-long 65536) (omega arith) low high
+      ∙ ap (last_written 0 (last_page accesses 0) at accesses) (zeros-at 65536 (card_place (last_page accesses 0) at));
   page = λ accesses are. ap (λ p. plug_answer (after_accesses accesses p) 0xFCFF) begins ∙ shows_page accesses 0 clear;
 }

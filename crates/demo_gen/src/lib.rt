@@ -101,13 +101,8 @@ fn tube_image(alloc: Global, seed: u64) -> Result<Vec<u8>, NoMemory>
     ensures { IfOk result (λ image. image_holding (drawn seed) (source Part.Cmos tube_text) ≡ Ok image.items) }
 {
     let program = tube_program(alloc)?;
-    let Ok(bytes) = drawn(alloc, seed) else {
-        return Err(NoMemory);
-    };
-    match holding(alloc, &program.bytes, &bytes) {
-        Ok(image) => Ok(image),
-        Err(_) => Err(NoMemory),
-    }
+    let bytes = drawn(alloc, seed)?;
+    Ok(holding(alloc, &program.bytes, &bytes)?)
 }
 
 // The low byte of the generator's next word.

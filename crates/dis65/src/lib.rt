@@ -48,10 +48,7 @@ pub fn disassemble(
     // In words: assembled for the same part, the text is that origin and those bytes.
     ensures meaning { IfOk result (λ v. source part v.items ≡ Ok (origin, bytes.now)) }
 {
-    match listing(alloc, part, bytes, origin) {
-        Ok(text) => Ok(text),
-        Err(_) => Err(NoMemory),
-    }
+    Ok(listing(alloc, part, bytes, origin)?)
 }
 
 /// A law of disassemblies, for every list of bytes and for both parts: assembled for the same part, the text of a

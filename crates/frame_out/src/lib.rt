@@ -51,5 +51,5 @@ fn pixmap(alloc: Global, colours: &[u8]) -> Result<Vec<u8>, AllocError>
 pub fn ppm(alloc: Global, frame: &Frame) -> Result<Vec<u8>, NoMemory>
     ensures { IfOk result (λ bytes. bytes.items ≡ pixmap frame.now) }
 {
-    pixmap(alloc, &frame.colours).map_err(|_| NoMemory)
+    Ok(pixmap(alloc, &frame.colours)?)
 }

@@ -34,9 +34,7 @@ fn black_frames(alloc: Global, events: &[Event]) -> Result<Vec<Frame>, NoMemory>
     for event in events {
         if event.what == What::Shot {
             let frame = Frame::black(alloc)?;
-            let Ok(()) = frames.push(frame) else {
-                return Err(NoMemory);
-            };
+            frames.push(frame)?;
         }
     }
     Ok(frames)

@@ -1,4 +1,3 @@
-pub mod Blacks
 pub mod Drawing
 pub mod Marks
 pub mod Runs

@@ -1,9 +1,10 @@
 -- The frame: 256 lines of 640 dots, from the top, each with a colour of three bits. (Where the picture is in the frame is this project's
 -- profile.)
-use Rattle.std.specs.Prelude.{ℕ, ◌+◌, ◌-◌, ◌*◌, ◌&&◌, nat_lt, nat_le, Bool, List, [], ◌∷◌, replicate, slice_set, if◌then◌else◌}
+use Rattle.std.specs.Prelude.{ℕ, ◌+◌, ◌-◌, ◌*◌, ◌&&◌, nat_lt, nat_le, Bool, List, [], ◌∷◌, slice_set, if◌then◌else◌}
+use Rattle.beeb_bits.specs.Zeros.{zeros}
 
-unfoldable pub black : List ℕ
-black = replicate 163840 0
+abbrev pub black : List ℕ
+black = zeros 163840
 
 -- The dot at x and y, counted from the beginnings of both syncs, is in the frame's column x - left and line y - 40, as far as it lies in
 -- the frame.

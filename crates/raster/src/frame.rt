@@ -2,8 +2,8 @@
 ghost use Rattle.std.specs.Prelude.{◌≡◌, ◌+◌, ◌≤◌, ◌++◌, length, take, drop, IfOk};
 ghost use Rattle.raster.specs.Frame.{black};
 
-use beeb_bits::NoMemory;
-use std::alloc::{AllocError, Global};
+use beeb_bits::{NoMemory, zeroed};
+use std::alloc::Global;
 use std::marker::Model;
 
 /// How many dots a frame has: 256 lines of 640.
@@ -26,16 +26,6 @@ impl Model for Frame {
     ghost invariant = { λ f. length f.colours.items ≡ 163840 };
 }
 
-// The colours of a black frame. The size is an argument so that no proof writes the list out.
-#[tactic(none)]
-fn all_black(alloc: Global, size: usize) -> Result<Vec<u8>, AllocError>
-    requires { size ≡ FRAME_SIZE }
-    ensures items { IfOk result (λ v. v.items ≡ black) }
-    ensures length { IfOk result (λ v. length v.items ≡ FRAME_SIZE) }
-{
-    vec![in alloc; 0; size]
-}
-
 impl Frame {
     /// A black frame.
     ///
@@ -44,9 +34,7 @@ impl Frame {
     pub fn black(alloc: Global) -> Result<Frame, NoMemory>
         ensures { IfOk result (λ f. f ≡ black) }
     {
-        let Ok(colours) = all_black(alloc, FRAME_SIZE) else {
-            return Err(NoMemory);
-        };
+        let colours = zeroed(alloc, FRAME_SIZE)?;
         Ok(Frame { colours })
     }
 

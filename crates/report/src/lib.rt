@@ -126,8 +126,5 @@ pub fn text(
 ) -> Result<Vec<u8>, NoMemory>
     ensures { IfOk result (λ v. v.items ≡ text n.0 host para tube kept frames) }
 {
-    match lines(alloc, n, host, para, tube, kept, frames) {
-        Ok(text) => Ok(text),
-        Err(_) => Err(NoMemory),
-    }
+    Ok(lines(alloc, n, host, para, tube, kept, frames)?)
 }

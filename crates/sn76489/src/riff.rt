@@ -90,5 +90,5 @@ pub fn wav(alloc: Global, samples: &[i16]) -> Result<Vec<u8>, NoMemory>
     requires { length samples.now ≤ 2 ^ 24 }
     ensures { IfOk result (λ bytes. bytes.items ≡ wav samples.now) }
 {
-    file(alloc, samples).map_err(|_| NoMemory)
+    Ok(file(alloc, samples)?)
 }

@@ -36,9 +36,7 @@ pub fn render(alloc: Global, writes: &[SoundWrite], steps: u64) -> Result<Vec<i1
     requires steps { steps ≤ 2 ^ 28 }
     ensures { IfOk result (λ list. list.items ≡ samples writes.now steps) }
 {
-    let Ok(mut list) = Vec::with_capacity(alloc, steps.div_ceil(32) as usize) else {
-        return Err(NoMemory);
-    };
+    let mut list = Vec::with_capacity(alloc, steps.div_ceil(32) as usize)?;
     let mut sound = Sound::new();
     let mut left = writes;
     for clock in 0..steps.div_ceil(4) {

@@ -99,10 +99,8 @@ impl TubeCell {
     pub fn make(alloc: Global) -> Result<(TubeCell, Whole), NoMemory>
         ensures { IfOk result (λ made. made.1 ≡ made.0) }
     {
-        match Cell::ruled(alloc, power_on()) {
-            Ok((cell, seat)) => Ok((TubeCell { cell }, Whole { seat })),
-            Err(_) => Err(NoMemory),
-        }
+        let (cell, seat) = Cell::ruled(alloc, power_on())?;
+        Ok((TubeCell { cell }, Whole { seat }))
     }
 
     /// The host's pass and the parasite's. Each has an empty list, and knows the chip at power-on and both horizons 0.

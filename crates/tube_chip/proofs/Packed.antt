@@ -7,7 +7,8 @@ use Rattle.std.proofs.lemmas.List.Elements.{All-nil, All-cons, All-head, All-tai
 use Rattle.tube_chip.specs.Register.{Register, empty, holds, count, register_of}
 use Rattle.tube_chip.specs.State.{State, Flags}
 use Rattle.beeb_bits.specs.Bits.{bit}
-use Rattle.tube_chip.specs.Act.{weight, flags_byte}
+use Rattle.beeb_bits.specs.Bits.{weight}
+use Rattle.tube_chip.specs.Act.{flags_byte}
 use Rattle.tube_chip.specs.Packing.{shown, IsRegister, IsChip, place, places, word, counts, host_bytes, para_bytes, packed, PackingIsOneToOne, flags_from, register_from, host_from, para_from, unpacked}
 
 -- ---- bytes

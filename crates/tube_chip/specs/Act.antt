@@ -1,6 +1,6 @@
 -- What an operation of one side does to the chip, and what it answers.
 use Rattle.std.specs.Prelude.{ℕ, ◌+◌, ◌/◌, ◌%◌, ◌^◌, ◌<◌, ◌==◌, ◌&&◌, nat_lt, Bool, not, if◌then◌else◌}
-use Rattle.beeb_bits.specs.Bits.{bit}
+use Rattle.beeb_bits.specs.Bits.{bit, weight}
 use Rattle.beeb_bits.specs.declared.Side.{Side}
 use Rattle.beeb_bits.specs.declared.Side.TheVariants.{Host, Para}
 use Rattle.tube_chip.specs.declared.Op.{Op}
@@ -21,10 +21,6 @@ is_status number = number % 2 == 0
 
 abbrev pub register_number : ℕ → ℕ
 register_number number = number / 2 + 1
-
--- a bit of this weight, where it is set
-abbrev pub weight : ℕ → Bool → ℕ
-weight n b = if b then n else 0
 
 -- P V M J I Q, from bit 5 to bit 0
 abbrev pub flags_byte : Flags → ℕ

@@ -1,15 +1,16 @@
 //! The chip.
 ghost use Rattle.std.specs.Prelude.{◌≡◌, ◌<◌, ◌+◌, nat_lt, if◌then◌else◌};
+ghost use Rattle.beeb_bits.specs.Bits.{weight};
 ghost use Rattle.beeb_bits.specs.declared.Side.TheVariants.{Host, Para};
 ghost use Rattle.tube_chip.specs.Register.{count, written};
 ghost use Rattle.tube_chip.specs.State.{power_on, lines_of, is_empty, is_ready, wants_service, asks_nmi, cleared};
-ghost use Rattle.tube_chip.specs.Act.{MayDo, weight, status, answer_of, controlled, done, risen, chip_after};
+ghost use Rattle.tube_chip.specs.Act.{MayDo, status, answer_of, controlled, done, risen, chip_after};
 ghost use Rattle.tube_chip.specs.declared.Op.TheVariants.{Read, Write};
 
-use crate::flags::{Flags, flags_after, flags_byte, weight};
+use crate::flags::{Flags, flags_after, flags_byte};
 use crate::register::Register;
 use crate::{Lines, Op};
-use beeb_bits::{Side, bit};
+use beeb_bits::{Side, bit, weight};
 use std::marker::Model;
 
 /// The registers to the host.

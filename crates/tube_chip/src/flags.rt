@@ -1,9 +1,9 @@
 //! The flags of the control register.
 ghost use Rattle.std.specs.Prelude.{◌≡◌, ◌≤◌};
-ghost use Rattle.tube_chip.specs.Act.{weight, flags_byte, flags_after, marked};
+ghost use Rattle.tube_chip.specs.Act.{flags_byte, flags_after, marked};
 ghost use Rattle.tube_chip.specs.Code.{flags_of};
 
-use beeb_bits::bit;
+use beeb_bits::{bit, weight};
 
 /// P V M J I Q, by their letters in Application Note 004.
 #[derive(Clone, Copy)]
@@ -14,14 +14,6 @@ pub(crate) struct Flags {
     pub(crate) j: bool,
     pub(crate) i: bool,
     pub(crate) q: bool,
-}
-
-/// A bit of this weight, where it is set.
-pub(crate) fn weight(n: u8, is_set: bool) -> u8
-    ensures value { result ≡ weight n is_set }
-    ensures bound { result ≤ n }
-{
-    if is_set { n } else { 0 }
 }
 
 // A flag, set to `set` where bit `n` of the byte marks it.

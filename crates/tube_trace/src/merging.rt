@@ -69,8 +69,5 @@ pub fn merge(
     ensures rises { IfOk result (λ v. Rises (events_of v.items)) }
     ensures lines { IfOk result (λ v. All HasLine host.now → All HasLine para.now → All HasLine v.items) }
 {
-    match merged(alloc, host, para, keep) {
-        Ok(entries) => Ok(entries),
-        Err(_) => Err(NoMemory),
-    }
+    Ok(merged(alloc, host, para, keep)?)
 }

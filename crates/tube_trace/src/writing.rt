@@ -35,8 +35,5 @@ pub fn write(alloc: Global, entries: &[Entry]) -> Result<Vec<u8>, NoMemory>
     ensures back { IfOk result (λ v. trace v.items ≡ Ok entries.now) }
 {
     text_reads_back();
-    match lines(alloc, entries) {
-        Ok(text) => Ok(text),
-        Err(_) => Err(NoMemory),
-    }
+    Ok(lines(alloc, entries)?)
 }

@@ -1,6 +1,6 @@
 -- The sixteen registers of the 6522: what a read answers, and what a read and a write leave. (6522 data sheet, Register Select.)
 use Rattle.std.specs.Prelude.{ℕ, ◌+◌, ◌-◌, ◌/◌, ◌%◌, ◌==◌, ◌&&◌, ◌||◌, Bool, false, not, bit_and, bit_or, if◌then◌else◌}
-use Rattle.beeb_bits.specs.Bits.{bit}
+use Rattle.beeb_bits.specs.Bits.{bit, weight}
 use Rattle.via6522.specs.declared.Pins.{Pins}
 use Rattle.via6522.specs.State.{State, Causes, Timer1, Timer2}
 use Rattle.via6522.specs.Timers.{timer1_started, timer2_started}
@@ -16,10 +16,6 @@ out_a c = port c.ddra c.ora 255
 
 abbrev pub out_b : State → ℕ
 out_b c = port c.ddrb c.orb 255
-
--- a bit of this weight, where it is set
-abbrev pub weight : ℕ → Bool → ℕ
-weight n b = if b then n else 0
 
 -- the causes as bits 6 to 0
 abbrev pub causes_byte : Causes → ℕ

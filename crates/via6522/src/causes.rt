@@ -1,9 +1,9 @@
 //! The causes of an interrupt, by their bits in the interrupt flag register and the interrupt enable register.
 ghost use Rattle.std.specs.Prelude.{◌≡◌, ◌≤◌, ◌&&◌, ◌||◌};
 ghost use Rattle.via6522.specs.State.{no_cause};
-ghost use Rattle.via6522.specs.Registers.{weight, causes_byte, set_marked, clear_marked};
+ghost use Rattle.via6522.specs.Registers.{causes_byte, set_marked, clear_marked};
 
-use beeb_bits::bit;
+use beeb_bits::{bit, weight};
 use std::marker::Model;
 
 /// Bits 6 to 0.
@@ -32,14 +32,6 @@ impl Model for Causes {
       ca1 = s.ca1;
       ca2 = s.ca2;
     } };
-}
-
-/// A bit of this weight, where it is set.
-pub(crate) fn weight(n: u8, is_set: bool) -> u8
-    ensures value { result ≡ weight n is_set }
-    ensures bound { result ≤ n }
-{
-    if is_set { n } else { 0 }
 }
 
 impl Causes {

@@ -7,11 +7,11 @@ ghost use Rattle.via6522.specs.Registers.{port, out_a, out_b, asks, answer_of, p
 ghost use Rattle.via6522.specs.Step.{edges_seen, step};
 
 use crate::Pins;
-use crate::causes::{Causes, weight};
+use crate::causes::Causes;
 use crate::levels::{Levels, is_edge};
 use crate::timer1::Timer1;
 use crate::timer2::Timer2;
-use beeb_bits::bit;
+use beeb_bits::{bit, weight};
 use std::marker::Model;
 
 /// The registers, timers and lines.

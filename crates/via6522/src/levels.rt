@@ -4,7 +4,7 @@ ghost use Rattle.via6522.specs.Lines.{is_edge, levels_of};
 ghost use Rattle.via6522.specs.Quiet.{levels_in};
 
 use crate::Pins;
-use crate::causes::weight;
+use beeb_bits::weight;
 use std::marker::Model;
 
 /// The levels that the four lines had in a step.
