@@ -4,6 +4,7 @@ use Rattle.std.specs.Option.{is_none, is_some, option_copied}
 use Rattle.std.specs.Borrow.{Bor}
 use Rattle.beeb_words.specs.declared.keys.Slot.{Slot}
 use Rattle.beeb_words.specs.declared.keys.Taker.{Taker}
+use Rattle.beeb_words.specs.declared.keys.TheConstants.{COUNT}
 use Rattle.beeb_words.specs.Keys.{keys, key_at, fits}
 use Rattle.beeb_words.specs.Reads.{file_of, files_of}
 use Rattle.beeb_words.proofs.KeyLemmas.{key_split, no_keys}
@@ -22,7 +23,7 @@ word_there words at h =
     there ∙ slice_get-get_or (map string_bytes words) at [] (rw length-map h)
 
 -- no option was given
-pub none_given : (words : List (String Global)) → map (value_of words) (replicate 24 None) ≡ no_values
+pub none_given : (words : List (String Global)) → map (value_of words) (replicate COUNT None) ≡ no_values
 unfolding no_values keys
 none_given words = refl
 
@@ -38,13 +39,13 @@ pub put_empty : (taker : Taker) (words : List (String Global)) (places : List (O
 put_empty taker words places place at h fit empty = rw (fit, empty, places_set words places place at h) refl
 
 -- the files from a key on
-pub files_more : (ws more : List (Slot × List ℕ × ℕ)) (i : ℕ) (values : Values) → i < 24 → length values ≡ 24 → more ≡ ws ++ file_of (key_at i).value (value_at values i) →
+pub files_more : (ws more : List (Slot × List ℕ × ℕ)) (i : ℕ) (values : Values) → i < COUNT → length values ≡ COUNT → more ≡ ws ++ file_of (key_at i).value (value_at values i) →
     more ++ files_of (drop (i + 1) keys) (drop (i + 1) values) ≡ ws ++ files_of (drop i keys) (drop i values)
 files_more ws more i values h len is =
     let split : drop i values ≡ value_at values i ∷ drop (i + 1) values = drop_more values i None (rw len h) in
     rw (is, append_assoc, key_split i h, split) refl
 
-pub files_end : (ws : List (Slot × List ℕ × ℕ)) (i : ℕ) (values : Values) → 24 ≤ i → ws ++ files_of (drop i keys) (drop i values) ≡ ws
+pub files_end : (ws : List (Slot × List ℕ × ℕ)) (i : ℕ) (values : Values) → COUNT ≤ i → ws ++ files_of (drop i keys) (drop i values) ≡ ws
 files_end ws i values h = rw (no_keys i h) (append-nil ws)
 
 pub word_read : (words : List (String Global)) (at : ℕ) (d : String Global) → at < length words → string_bytes (slice_index_or words at d) ≡ word_at words at

@@ -1,14 +1,13 @@
 -- An option may be moved over words among which each key has its value.
-use Rattle.std.proofs.Common.{◌≡◌, ◌∙◌, sym, refl, ap, ℕ, List, [], ◌∷◌, ◌++◌, Option, Some, None, Bool, true, false, not, codes, append_assoc, if◌then◌else◌}
+use Rattle.std.proofs.Common.{◌≡◌, ◌∙◌, sym, refl, ap, ℕ, List, [], ◌∷◌, ◌++◌, Option, Some, None, Bool, true, false, codes, append_assoc, if◌then◌else◌}
 use Rattle.std.specs.Prelude.{option_and_then, option_map}
 use Rattle.beeb_words.specs.declared.keys.Taker.{Taker}
 use Rattle.beeb_words.specs.declared.keys.Taker.TheVariants as takers
-use Rattle.beeb_bits.specs.declared.Side.{Side}
-use Rattle.beeb_words.specs.Alone.{is_dashed, is_name, alone, two, four}
-use Rattle.beeb_words.specs.Given.{Values, no_values, options, is_closed, put_options, if_images, closed_options, given}
-use Rattle.beeb_words.specs.Command.{Command, solo, run}
-use Rattle.beeb_words.specs.Words.{Both, both_given, both_with, both_by, both_words, replay_of, replay_with, replay_by, replay_words, solo_words, run_words, command}
-use Rattle.beeb_words.specs.Places.{MayMove, StandAnywhere}
+use Rattle.beeb_words.specs.Alone.{is_dashed, alone, two, four}
+use Rattle.beeb_words.specs.Given.{Values, no_values, options, is_closed, put_options, closed_options, given}
+use Rattle.beeb_words.specs.Command.{solo, run}
+use Rattle.beeb_words.specs.Words.{Both, both_by, both_words, replay_of, replay_by, replay_words, solo_words, run_words, command}
+use Rattle.beeb_words.specs.Places.{StandAnywhere}
 use Rattle.beeb_words.proofs.OrderLemmas.{order_free}
 use Rattle.digits.specs.Decimal.{decimal_number}
 use Rattle.beeb_words.specs.Words.{side_of}

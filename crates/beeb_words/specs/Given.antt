@@ -1,5 +1,8 @@
 -- Options: pairs of words that may stand in any place among the words that stand alone.
 use Rattle.std.specs.Prelude.{ℕ, ◌&&◌, Bool, true, false, not, List, [], ◌∷◌, map, Option, Some, None, is_none, is_some, option_and_then, slice_index_or, slice_set, unwrap_or, if◌then◌else◌, codes}
+use Rattle.std.specs.Str.{bytes_eq}
+use Rattle.beeb_bits.specs.declared.clock.Clock.{Clock}
+use Rattle.beeb_bits.specs.declared.clock.Clock.TheVariants.{Three, Four}
 use Rattle.beeb_words.specs.declared.keys.Taker.{Taker}
 use Rattle.beeb_words.specs.declared.keys.Taker.TheVariants.{ReplayHost, ReplayPara, Solo, Run}
 use Rattle.beeb_words.specs.Alone.{is_dashed}
@@ -64,6 +67,15 @@ plugs_in (Some word) = unwrap_or (decimal_number 8 word) 0
 -- the number of plugged devices, at most 8
 abbrev pub plugs_of : Values → ℕ
 plugs_of values = plugs_in (value_of values (codes "--plugs"))
+
+-- the clock of the machines, by the value of its key
+abbrev pub clock_in : Option (List ℕ) → Clock
+clock_in None = Three
+clock_in (Some word) = if bytes_eq word (codes "4") then Four else Three
+
+-- the clock of the machines: that of a second processor at 3 MHz, where no speed is given
+abbrev pub clock_of : Values → Clock
+clock_of values = clock_in (value_of values (codes "--speed"))
 
 abbrev pub has_os : Values → Bool
 has_os values = is_some (value_of values (codes "--os"))

@@ -45,6 +45,10 @@ paras = record { replay_host = false; replay_para = true; solo = true; run = tru
 abbrev pub pairs : Takers
 pairs = record { replay_host = false; replay_para = false; solo = true; run = true }
 
+-- the commands that have a machine
+abbrev pub machines : Takers
+machines = record { replay_host = true; replay_para = true; solo = true; run = true }
+
 -- The keys. Those of files stand in the order in which the files are read.
 unfoldable pub keys : List Key
 keys =
@@ -72,6 +76,7 @@ keys =
     ∷ key (codes "--keys") hosts (file Keys)
     ∷ key (codes "--plugs") hosts (numeric 0 8)
     ∷ key (codes "--keep") pairs (numeric 0 4194304)
+    ∷ key (codes "--speed") machines (one_of (codes "3" ∷ codes "4" ∷ []))
     ∷ []
 
 -- what stands past the last key

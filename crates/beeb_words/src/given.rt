@@ -2,11 +2,12 @@
 ghost use Rattle.std.specs.Prelude.{◌≡◌, ◌<◌, ◌≤◌, map, length, option_map, option_copied, IfSome};
 ghost use Rattle.std.specs.Prelude.{string_bytes};
 ghost use Rattle.beeb_words.specs.Given.{given, closed_options, value_at, value_of, put_at, put_option};
-ghost use Rattle.beeb_words.specs.Given.{keep_in, keep_of, plugs_in, plugs_of, has_os, has_tube, has_images};
+ghost use Rattle.beeb_words.specs.Given.{keep_in, keep_of, plugs_in, plugs_of, clock_in, clock_of, has_os, has_tube, has_images};
 ghost use Rattle.beeb_words.specs.Seen.{seen_given, word_at};
 
 use crate::alone::is_dashed;
 use crate::keys::{COUNT, Taker, fits, place_of};
+use beeb_bits::Clock;
 use digits::decimal_number;
 
 /// The most accesses that can be kept.
@@ -42,6 +43,16 @@ fn plugs_in(value: Option<&str>) -> usize
     match decimal_number(word.as_bytes(), MOST_PLUGS) {
         Some(plugs) => plugs as usize,
         None => 0,
+    }
+}
+
+// The clock of the machines, by the value of its key.
+fn clock_in(value: Option<&str>) -> Clock
+    ensures { result ≡ clock_in (option_copied value.entry) }
+{
+    match value {
+        Some("4") => Clock::Four,
+        _ => Clock::Three,
     }
 }
 
@@ -87,6 +98,13 @@ impl<'a> Given<'a> {
         ensures bound { result ≤ 8 }
     {
         plugs_in(self.value_of("--plugs"))
+    }
+
+    /// The clock of the machines: that of a second processor at 3 MHz, where the words do not give its speed.
+    pub fn clock(&self) -> Clock
+        ensures { result ≡ clock_of (seen_given self.now) }
+    {
+        clock_in(self.value_of("--speed"))
     }
 
     fn has_os(&self) -> bool

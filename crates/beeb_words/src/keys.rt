@@ -77,12 +77,12 @@ const PAIRS: Takers = Takers {
     run: true,
 };
 
-/// No command.
-const NOBODY: Takers = Takers {
-    replay_host: false,
-    replay_para: false,
-    solo: false,
-    run: false,
+/// The commands that have a machine.
+const MACHINES: Takers = Takers {
+    replay_host: true,
+    replay_para: true,
+    solo: true,
+    run: true,
 };
 
 /// What the value of an option is.
@@ -109,7 +109,10 @@ struct Key {
 }
 
 /// The number of keys.
-pub(crate) const COUNT: usize = 24;
+pub(crate) const COUNT: usize = 25;
+
+/// The speeds of the second processor, in MHz.
+const SPEEDS: &[&str] = &["3", "4"];
 
 // A row of the table.
 fn row(word: &'static str, takers: Takers, value: Value) -> Key
@@ -122,36 +125,36 @@ fn row(word: &'static str, takers: Takers, value: Value) -> Key
     }
 }
 
-// The table of the keys, by their places. Those of files stand in the order in which the files are read.
+// The table of the keys. Those of files stand in the order in which the files are read.
 #[tactic(auto, unfolding(crate::specs::Keys::keys))]
-fn key_at(place: usize) -> Key
-    ensures { seen_key result ≡ key_at place }
+fn table() -> [Key; COUNT]
+    ensures { map seen_key result ≡ keys.keys }
 {
-    match place {
-        0 => row("--os", HOSTS, Value::File(Slot::Os)),
-        1 => row("--tube", PARAS, Value::File(Slot::Tube)),
-        2 => row("--rom0", HOSTS, Value::File(Slot::Rom(0))),
-        3 => row("--rom1", HOSTS, Value::File(Slot::Rom(1))),
-        4 => row("--rom2", HOSTS, Value::File(Slot::Rom(2))),
-        5 => row("--rom3", HOSTS, Value::File(Slot::Rom(3))),
-        6 => row("--rom4", HOSTS, Value::File(Slot::Rom(4))),
-        7 => row("--rom5", HOSTS, Value::File(Slot::Rom(5))),
-        8 => row("--rom6", HOSTS, Value::File(Slot::Rom(6))),
-        9 => row("--rom7", HOSTS, Value::File(Slot::Rom(7))),
-        10 => row("--rom8", HOSTS, Value::File(Slot::Rom(8))),
-        11 => row("--rom9", HOSTS, Value::File(Slot::Rom(9))),
-        12 => row("--rom10", HOSTS, Value::File(Slot::Rom(10))),
-        13 => row("--rom11", HOSTS, Value::File(Slot::Rom(11))),
-        14 => row("--rom12", HOSTS, Value::File(Slot::Rom(12))),
-        15 => row("--rom13", HOSTS, Value::File(Slot::Rom(13))),
-        16 => row("--rom14", HOSTS, Value::File(Slot::Rom(14))),
-        17 => row("--rom15", HOSTS, Value::File(Slot::Rom(15))),
-        18 => row("--font", HOSTS, Value::File(Slot::Font)),
-        19 => row("--disc0", HOSTS, Value::File(Slot::Disc(0))),
-        20 => row("--disc1", HOSTS, Value::File(Slot::Disc(1))),
-        21 => row("--keys", HOSTS, Value::File(Slot::Keys)),
-        22 => row("--plugs", HOSTS, Value::Number { least: 0, most: 8 }),
-        23 => row(
+    [
+        row("--os", HOSTS, Value::File(Slot::Os)),
+        row("--tube", PARAS, Value::File(Slot::Tube)),
+        row("--rom0", HOSTS, Value::File(Slot::Rom(0))),
+        row("--rom1", HOSTS, Value::File(Slot::Rom(1))),
+        row("--rom2", HOSTS, Value::File(Slot::Rom(2))),
+        row("--rom3", HOSTS, Value::File(Slot::Rom(3))),
+        row("--rom4", HOSTS, Value::File(Slot::Rom(4))),
+        row("--rom5", HOSTS, Value::File(Slot::Rom(5))),
+        row("--rom6", HOSTS, Value::File(Slot::Rom(6))),
+        row("--rom7", HOSTS, Value::File(Slot::Rom(7))),
+        row("--rom8", HOSTS, Value::File(Slot::Rom(8))),
+        row("--rom9", HOSTS, Value::File(Slot::Rom(9))),
+        row("--rom10", HOSTS, Value::File(Slot::Rom(10))),
+        row("--rom11", HOSTS, Value::File(Slot::Rom(11))),
+        row("--rom12", HOSTS, Value::File(Slot::Rom(12))),
+        row("--rom13", HOSTS, Value::File(Slot::Rom(13))),
+        row("--rom14", HOSTS, Value::File(Slot::Rom(14))),
+        row("--rom15", HOSTS, Value::File(Slot::Rom(15))),
+        row("--font", HOSTS, Value::File(Slot::Font)),
+        row("--disc0", HOSTS, Value::File(Slot::Disc(0))),
+        row("--disc1", HOSTS, Value::File(Slot::Disc(1))),
+        row("--keys", HOSTS, Value::File(Slot::Keys)),
+        row("--plugs", HOSTS, Value::Number { least: 0, most: 8 }),
+        row(
             "--keep",
             PAIRS,
             Value::Number {
@@ -159,12 +162,21 @@ fn key_at(place: usize) -> Key
                 most: 4_194_304,
             },
         ),
-        _ => row("", NOBODY, Value::Output),
-    }
+        row("--speed", MACHINES, Value::OneOf(SPEEDS)),
+    ]
+}
+
+// The key at a place.
+fn key_at(place: usize) -> Key
+    requires { place < COUNT }
+    ensures { seen_key result ≡ key_at place }
+{
+    table()[place]
 }
 
 /// What the value of the key at a place is.
 pub(crate) fn kind_of(place: usize) -> Value
+    requires { place < COUNT }
     ensures { seen_value result ≡ (key_at place).value }
 {
     key_at(place).value
@@ -239,6 +251,7 @@ fn is_value(kind: Value, word: &str) -> bool
 
 /// An option of the key at a place may have this value where this command takes it.
 pub(crate) fn fits(taker: Taker, place: usize, value: &str) -> bool
+    requires { place < COUNT }
     ensures { result ≡ fits taker place value.now }
 {
     let key = key_at(place);
