@@ -3,17 +3,15 @@ use Rattle.std.proofs.Common.{◌≡◌, ◌∙◌, refl, ap, ℕ, Bool, true, f
 use Rattle.beeb_files.specs.Files.{Files, say}
 use Rattle.beeb_words.specs.declared.keys.Slot.{Slot}
 use Rattle.beeb_words.specs.Command.{Command, check, asm, dis, replay, solo, run, gen}
-use Rattle.beeb_words.specs.Given.{Values}
+use Rattle.beeb_words.specs.Given.{Values, clock_of}
 use Rattle.beeb_words.specs.Keys.{keys}
 use Rattle.beeb_words.specs.Reads.{files_of}
-use Rattle.beeb_words.specs.Discs.{kinds_of}
 use Rattle.beeb_stages.specs.declared.stop.Stop.{Stop}
 use Rattle.beeb_stages.specs.declared.stop.Refusal.{Refusal}
 use Rattle.beeb_stages.specs.Plan as plans
 use Rattle.beeb_stages.specs.Plan.{Verdict, Want, read_all, verdict, ComesTo, or_stop, ◌>>=◌}
 use Rattle.beeb_stages.specs.Promise.{World, HasPaired, CarriesOut, put_all}
 use Rattle.bus_plug.specs.Plug.{Plug}
-use Rattle.disc_image.specs.declared.Kind.{Kind}
 use Rattle.tube_party.specs.Reference.{reference}
 use Rattle.host_mach.specs.State.{HostState}
 use Rattle.host_mach.specs.Step.{host_moves}
@@ -26,7 +24,7 @@ use Rattle.beeb_status.specs.declared.status.Status.{Status}
 use Rattle.beeb_status.specs.declared.status.Status.TheVariants.{Done}
 use Rattle.beeb_status.specs.Status.{end_of}
 use Rattle.beeb_top.specs.Plans.{plan}
-use Rattle.power_on.specs.Plugs.{plugged}
+use Rattle.power_on.specs.Setup.{Setup, setup_of}
 use Rattle.beeb_top.specs.Commands.{EndsWith}
 use Rattle.beeb_top.specs.Headline.{IsReferenceRun, Headline}
 use Rattle.power_on.specs.Inputs.{Inputs, inputs_of}
@@ -43,11 +41,11 @@ read_ok : (ws : List (Want Slot)) (files : Files) (r : Result (plans.Inputs Slot
 read_ok ws files (Ok inputs) after v is same = (inputs, is, same)
 read_ok ws files (Err stop) after v is same = cc
 
-machines_ok : (plugs : List Plug) (kinds : Kind × Kind) (i : Inputs) (m : Result (HostState × ParaState) (Refusal Cause)) (run_of : HostState × ParaState → Verdict Ending) (v : Verdict Ending) →
-    machines_of plugs kinds i ≡ m → or_stop (m >>= λ x. Ok (run_of x)) ≡ Ok v →
-    (host : HostState) × (para : ParaState) × (machines_of plugs kinds i ≡ Ok (host, para)) × (v ≡ run_of (host, para))
-machines_ok plugs kinds i (Ok m) run_of v is same = (m.0, m.1, is, cc)
-machines_ok plugs kinds i (Err refusal) run_of v is same = cc
+machines_ok : (set : Setup) (i : Inputs) (m : Result (HostState × ParaState) (Refusal Cause)) (run_of : HostState × ParaState → Verdict Ending) (v : Verdict Ending) →
+    machines_of set i ≡ m → or_stop (m >>= λ x. Ok (run_of x)) ≡ Ok v →
+    (host : HostState) × (para : ParaState) × (machines_of set i ≡ Ok (host, para)) × (v ≡ run_of (host, para))
+machines_ok set i (Ok m) run_of v is same = (m.0, m.1, is, cc)
+machines_ok set i (Err refusal) run_of v is same = cc
 
 module _ (plugs : List Plug) (ticks keep : ℕ) (out : List ℕ) (given : Values) (old new : World) where
   is_reference : (files : Files) (v : Verdict Ending) → verdict (plan plugs (run ticks out keep given)) files ≡ Ok v →
@@ -55,10 +53,10 @@ module _ (plugs : List Plug) (ticks keep : ℕ) (out : List ℕ) (given : Values
       HasPaired true old.crew new.crew → IsReferenceRun plugs ticks keep out given old new files
   unfolding solo_after kept_verdict machine_verdict
   is_reference files v is written said worked =
-      let run_of : HostState × ParaState → Verdict Ending = λ m. kept_verdict ticks keep out (reference host_moves para_moves m.0 m.1 ticks) in
-      let after : plans.Inputs Slot → Result (Verdict Ending) (Stop Cause) = λ list. or_stop (solo_after (plugged given plugs) (kinds_of given) ticks keep out (inputs_of list)) in
+      let run_of : HostState × ParaState → Verdict Ending = λ m. kept_verdict (clock_of given) ticks keep out (reference host_moves para_moves m.0 m.1 ticks) in
+      let after : plans.Inputs Slot → Result (Verdict Ending) (Stop Cause) = λ list. or_stop (solo_after (setup_of given plugs) ticks keep out (inputs_of list)) in
       let got = read_ok (files_of keys given) files (read_all files (files_of keys given)) after v refl is in
-      let made = machines_ok (plugged given plugs) (kinds_of given) (inputs_of got.0) (machines_of (plugged given plugs) (kinds_of given) (inputs_of got.0)) run_of v refl got.2 in
+      let made = machines_ok (setup_of given plugs) (inputs_of got.0) (machines_of (setup_of given plugs) (inputs_of got.0)) run_of v refl got.2 in
       record {
         inputs = got.0;
         read = got.1;

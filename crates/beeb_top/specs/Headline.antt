@@ -4,10 +4,9 @@ use Rattle.beeb_files.specs.Counts.{Rose}
 use Rattle.beeb_files.specs.Files.{Files}
 use Rattle.beeb_words.specs.declared.keys.Slot.{Slot}
 use Rattle.beeb_words.specs.Command.{Command, check, asm, dis, replay, solo, run, gen}
-use Rattle.beeb_words.specs.Given.{Values}
+use Rattle.beeb_words.specs.Given.{Values, clock_of}
 use Rattle.beeb_words.specs.Keys.{keys}
 use Rattle.beeb_words.specs.Reads.{files_of}
-use Rattle.beeb_words.specs.Discs.{kinds_of}
 use Rattle.beeb_stages.specs.Plan as plans
 use Rattle.beeb_stages.specs.Promise.{World, put_all}
 use Rattle.bus_plug.specs.Plug.{Plug}
@@ -18,7 +17,7 @@ use Rattle.para_mach.specs.State.{ParaState}
 use Rattle.para_mach.specs.Step.{para_moves}
 use Rattle.beeb_status.specs.declared.status.Cause.{Cause}
 use Rattle.power_on.specs.Inputs.{inputs_of}
-use Rattle.power_on.specs.Plugs.{plugged}
+use Rattle.power_on.specs.Setup.{setup_of}
 use Rattle.power_on.specs.Machines.{machines_of}
 use Rattle.cmd_pair.specs.Solo.{kept_verdict}
 
@@ -27,14 +26,16 @@ pub record IsReferenceRun (plugs : List Plug) (ticks keep : ℕ) (out : List ℕ
   -- the bytes that the shelf holds under the names that the words give
   pub inputs : plans.Inputs Slot
   pub read : plans.read_all {C = Cause} files (files_of keys given) ≡ Ok inputs
-  -- both machines at power-on with these bytes, the discs of the kinds that their names give, and the devices that the words plug, as they
-  -- were handed in
+  -- both machines at power-on with these bytes, of the clock that the words give, with the discs of the kinds that their names give, and the
+  -- devices that the words plug, as they were handed in
   pub host : HostState
   pub para : ParaState
-  pub machines : machines_of (plugged given plugs) (kinds_of given) (inputs_of inputs) ≡ Ok (host, para)
+  pub machines : machines_of (setup_of given plugs) (inputs_of inputs) ≡ Ok (host, para)
   -- The report, both memories, the discs, the frames, the trace and what the plugged devices spill, of their reference run, were put into
   -- what the outlet held.
-  pub written : new.outlet.files ≡ put_all (kept_verdict ticks keep out (reference host_moves para_moves host para ticks)).files old.outlet.files
+  pub written :
+      new.outlet.files
+      ≡ put_all (kept_verdict (clock_of given) ticks keep out (reference host_moves para_moves host para ticks)).files old.outlet.files
   -- nothing was said
   pub said : new.outlet.said ≡ old.outlet.said
   -- the crew worked a pair of jobs

@@ -5,12 +5,10 @@ use Rattle.beeb_stages.specs.declared.stop.Refusal.{Refusal}
 use Rattle.beeb_words.specs.declared.keys.Slot.{Slot}
 use Rattle.beeb_words.specs.Command.{Command, check, asm, dis, replay, solo, run, gen, is_paired}
 use Rattle.beeb_words.specs.Reads.{reads}
-use Rattle.beeb_words.specs.Discs.{kinds_of}
-use Rattle.disc_image.specs.declared.Kind.{Kind}
 use Rattle.beeb_status.specs.declared.status.Ending.{Ending}
 use Rattle.beeb_status.specs.declared.status.Cause.{Cause}
 use Rattle.power_on.specs.Inputs.{Inputs, inputs_of}
-use Rattle.power_on.specs.Plugs.{plugged}
+use Rattle.power_on.specs.Setup.{Setup, setup_of}
 use Rattle.cmd_tools.specs.Check.{check_after}
 use Rattle.cmd_tools.specs.Asm.{asm_after, dis_after}
 use Rattle.cmd_replay.specs.Para.{para_after}
@@ -21,19 +19,19 @@ use Rattle.bus_plug.specs.Plug.{Plug}
 use Rattle.beeb_bits.specs.declared.Side.{Side}
 use Rattle.beeb_bits.specs.declared.Side.TheVariants.{Host, Para}
 
-abbrev pub replay_after : List Plug → Kind × Kind → Side → ℕ → List ℕ → Inputs → Result (Verdict Ending) (Refusal Cause)
-replay_after plugs kinds Host ticks out i = host_after plugs kinds ticks out i
-replay_after plugs kinds Para ticks out i = para_after ticks out i
+abbrev pub replay_after : Setup → Side → ℕ → List ℕ → Inputs → Result (Verdict Ending) (Refusal Cause)
+replay_after set Host ticks out i = host_after set ticks out i
+replay_after set Para ticks out i = para_after set.clock ticks out i
 
 -- what a command comes to by what it read, where these devices are handed in
 abbrev pub after : List Plug → Command → Inputs → Result (Verdict Ending) (Refusal Cause)
 after plugs (check trace) i = check_after i.trace
 after plugs (asm part source out) i = asm_after part out i.source
 after plugs (dis part image origin out) i = dis_after part origin out i.image
-after plugs (replay side trace ticks out given) i = replay_after (plugged given plugs) (kinds_of given) side ticks out i
-after plugs (solo ticks out keep given) i = solo_after (plugged given plugs) (kinds_of given) ticks keep out i
+after plugs (replay side trace ticks out given) i = replay_after (setup_of given plugs) side ticks out i
+after plugs (solo ticks out keep given) i = solo_after (setup_of given plugs) ticks keep out i
 -- the two threads of `run` come to what one thread comes to
-after plugs (run ticks out keep given) i = solo_after (plugged given plugs) (kinds_of given) ticks keep out i
+after plugs (run ticks out keep given) i = solo_after (setup_of given plugs) ticks keep out i
 after plugs (gen seed) i = gen_after seed
 
 abbrev pub plan : List Plug → Command → Plan Slot Ending Cause

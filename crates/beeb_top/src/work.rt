@@ -6,11 +6,10 @@ ghost use Rattle.beeb_stages.specs.Seen.{Gives, seen_input};
 ghost use Rattle.beeb_stages.specs.Stages.{Works};
 ghost use Rattle.beeb_words.specs.Command.{is_paired};
 ghost use Rattle.beeb_words.specs.Reads.{IsWithin, reads};
-ghost use Rattle.beeb_words.specs.Discs.{kinds_of};
 ghost use Rattle.beeb_words.specs.Seen.{seen, seen_given};
 ghost use Rattle.power_on.specs.Inputs.{inputs_of};
-ghost use Rattle.power_on.specs.Plugs.{plugged};
-ghost use Rattle.power_on.specs.Seen.{seen_inputs};
+ghost use Rattle.power_on.specs.Setup.{setup_of};
+ghost use Rattle.power_on.specs.Seen.{seen_inputs, seen_setup};
 ghost use Rattle.beeb_outcome.specs.Seen.{verdict_of};
 ghost use Rattle.beeb_top.specs.Plans.{replay_after, after};
 
@@ -19,39 +18,34 @@ use beeb_files::Crew;
 use beeb_outcome::Outcome;
 use beeb_stages::{Refusal, Stop};
 use beeb_status::Cause;
-use beeb_words::{Command, Given, Slot};
+use beeb_words::{Command, Slot};
 use bus_plug::BusDevice;
 use cmd_pair::{gen_outcome, run_outcome, solo_outcome};
 use cmd_replay::{host_outcome, para_outcome};
 use cmd_tools::{asm_outcome, check_outcome, dis_outcome};
-use power_on::{Inputs, plugged};
+use power_on::{Inputs, Setup};
 use std::alloc::Global;
 use std::sync::Wait;
 use std::thread::Threads;
 use tube_party::MOST;
 
-// What comes of a replay of a side, where these devices are handed in.
+// What comes of a replay of a side, by what the words say of the machines.
 fn replay_outcome<'a, D: BusDevice>(
     alloc: Global,
     side: Side,
     ticks: u64,
     out: &'a str,
-    given: &Given<'_>,
+    setup: Setup<D>,
     inputs: Inputs,
-    plugs: Vec<D>,
 ) -> Result<Outcome<'a, D>, Refusal<Cause>>
     requires ticks { ticks ≤ MOST }
     requires slots { All (λ slot. slot.0 < 16) inputs.roms.items }
-    ensures { let devices = plugged (seen_given given.now) (map D.plug plugs.items) in
-        let after = replay_after devices (kinds_of (seen_given given.now)) side ticks out.now (seen_inputs inputs) in
+    ensures { let after = replay_after (seen_setup D.plug setup) side ticks out.now (seen_inputs inputs) in
         Gives (verdict_of D.plug) result after }
 {
     match side {
-        Side::Host => {
-            let plugs = plugged(given, plugs);
-            host_outcome(alloc, given.disc_kinds(), ticks, out, inputs, plugs)
-        }
-        Side::Para => para_outcome(alloc, ticks, out, inputs),
+        Side::Host => host_outcome(alloc, setup, ticks, out, inputs),
+        Side::Para => para_outcome(alloc, setup.clock, ticks, out, inputs),
     }
 }
 
@@ -84,15 +78,18 @@ pub(crate) fn single_outcome<'a, D: BusDevice>(
             out,
             given,
             ..
-        } => replay_outcome(alloc, side, ticks, out, &given, inputs, plugs),
+        } => {
+            let setup = Setup::of(&given, plugs);
+            replay_outcome(alloc, side, ticks, out, setup, inputs)
+        }
         Command::Solo {
             ticks,
             out,
             keep,
             given,
         } => {
-            let plugs = plugged(&given, plugs);
-            solo_outcome(alloc, given.disc_kinds(), ticks, keep, out, inputs, plugs)
+            let setup = Setup::of(&given, plugs);
+            solo_outcome(alloc, setup, ticks, keep, out, inputs)
         }
         Command::Gen { seed } => gen_outcome(alloc, seed),
         Command::Run { .. } => unreachable!(),
@@ -126,7 +123,6 @@ pub(crate) fn paired_outcome<'a, D: BusDevice + Send, C: Crew, R: Threads + Wait
         unreachable!()
     };
     let inputs = Inputs::of(alloc, inputs)?;
-    let kinds = given.disc_kinds();
-    let plugs = plugged(&given, plugs);
-    run_outcome(rt, alloc, crew, kinds, ticks, keep, out, inputs, plugs)
+    let setup = Setup::of(&given, plugs);
+    run_outcome(rt, alloc, crew, setup, ticks, keep, out, inputs)
 }

@@ -3,6 +3,7 @@ use Rattle.std.proofs.Common.{◌≡◌, ◌∙◌, sym, refl, ap, subst, ℕ, z
 use Rattle.std.proofs.lemmas.List.Elements.{All-nil, All-cons, All-head, All-tail, All-take}
 use Rattle.std.proofs.lemmas.Bool.Decides.{nat_tests}
 use Rattle.beeb_bits.specs.Order.{before}
+use Rattle.beeb_bits.specs.declared.clock.Clock.{Clock}
 use Rattle.beeb_bits.specs.declared.Side.{Side}
 use Rattle.beeb_bits.specs.declared.Side.TheVariants.{Host, Para}
 use Rattle.tube_chip.specs.declared.Op.{Op}
@@ -268,15 +269,15 @@ few_counted n list host para most is is_host is_para =
 -- ---- the verdict
 
 -- what is kept, by the list of its accesses
-pub kept_same : (keep count : ℕ) (trace : List ℕ) (list : List Event) (kept : List Entry) → count ≡ length kept → trace ≡ text_of kept → kept ≡ take keep (accesses list) →
-    record { count = count; trace = trace } ≡ kept_of keep list
-kept_same keep count trace list kept many text is = rw (many, text, is) refl
+pub kept_same : (clock : Clock) (keep count : ℕ) (trace : List ℕ) (list : List Event) (kept : List Entry) → count ≡ length kept → trace ≡ text_of clock kept →
+    kept ≡ take keep (accesses list) → record { count = count; trace = trace } ≡ kept_of clock keep list
+kept_same clock keep count trace list kept many text is = rw (many, text, is) refl
 
-pub kept_is : (ticks keep : ℕ) (out : List ℕ) (w : World HostState ParaState) (host : HostState) (para : ParaState) (host_count para_count : ℕ) (kept : Kept) →
+pub kept_is : (clock : Clock) (ticks keep : ℕ) (out : List ℕ) (w : World HostState ParaState) (host : HostState) (para : ParaState) (host_count para_count : ℕ) (kept : Kept) →
     host ≡ w.host → para ≡ w.para → host_count ≡ length (accesses (of_side Host w.list)) → para_count ≡ length (accesses (of_side Para w.list)) →
-    kept ≡ kept_of keep w.list → machine_verdict (both_left ticks (host_count + para_count) out host para kept) ≡ kept_verdict ticks keep out w
+    kept ≡ kept_of clock keep w.list → machine_verdict (both_left ticks (host_count + para_count) out host para kept) ≡ kept_verdict clock ticks keep out w
 unfolding kept_verdict
-kept_is ticks keep out w host para host_count para_count kept is_host is_para h p is_kept =
+kept_is clock ticks keep out w host para host_count para_count kept is_host is_para h p is_kept =
     ap (λ (x : HostState). machine_verdict (both_left ticks (host_count + para_count) out x para kept)) is_host
     ∙ ap (λ (x : ParaState). machine_verdict (both_left ticks (host_count + para_count) out w.host x kept)) is_para
     ∙ ap (λ (x : ℕ). machine_verdict (both_left ticks x out w.host w.para kept)) (counted w.list host_count para_count h p)

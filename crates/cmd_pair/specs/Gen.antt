@@ -7,6 +7,7 @@ use Rattle.asm65.specs.declared.AsmError.{AsmError}
 use Rattle.asm65.specs.Source.{source}
 use Rattle.demo_gen.specs.Demo.{host_text, tube_text, drawn, image_of, image_holding}
 use Rattle.tube_party.specs.Reference.{reference}
+use Rattle.beeb_bits.specs.declared.clock.Clock.TheVariants.{Three}
 use Rattle.disc_image.specs.declared.Kind.TheVariants.{Ssd}
 use Rattle.host_mach.specs.State.{HostState}
 use Rattle.host_mach.specs.Step.{host_moves}
@@ -18,6 +19,7 @@ use Rattle.beeb_status.specs.declared.status.Ending.{Ending}
 use Rattle.beeb_status.specs.declared.status.Ending.TheVariants.{Done}
 use Rattle.beeb_status.specs.declared.status.Cause.{Cause}
 use Rattle.power_on.specs.Inputs.{Inputs, no_inputs}
+use Rattle.power_on.specs.Setup.{Setup, setup}
 use Rattle.beeb_outcome.specs.Verdicts.{said_verdict}
 use Rattle.power_on.specs.Machines.{machines_of}
 
@@ -44,6 +46,10 @@ summary seed ram = before_sum seed ++ hex_digits 2 (slice_index ram 0x71) ++ hex
 abbrev pub gen_verdict : ℕ → HostState → Verdict Ending
 gen_verdict seed s = said_verdict Done (summary seed s.bus.board.ram)
 
+-- a second processor at 3 MHz, and nothing plugged
+abbrev pub gen_setup : Setup
+gen_setup = setup Three (Ssd, Ssd) []
+
 -- the ticks of the run
 unfoldable pub gen_ticks : ℕ
 gen_ticks = 1000000
@@ -53,5 +59,5 @@ unfoldable pub gen_after : ℕ → Result (Verdict Ending) (Refusal Cause)
 gen_after seed =
     or_refusal no_image (image_of (source Nmos host_text))
     >>= λ os. or_refusal no_image (image_holding (drawn seed) (source Cmos tube_text))
-    >>= λ tube. machines_of [] (Ssd, Ssd) (pair_inputs os tube)
+    >>= λ tube. machines_of gen_setup (pair_inputs os tube)
     >>= λ m. Ok (gen_verdict seed (reference host_moves para_moves m.0 m.1 gen_ticks).host)

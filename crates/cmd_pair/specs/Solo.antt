@@ -1,11 +1,10 @@
 -- `solo TICKS OUT --os NAME --tube NAME` and `run` with the same words, and options: both machines at the Tube, by the reference run.
 use Rattle.std.specs.Prelude.{ℕ, List, length, take, Result, Ok}
+use Rattle.beeb_bits.specs.declared.clock.Clock.{Clock}
 use Rattle.tube_chip.specs.Events.{Event}
 use Rattle.tube_trace.specs.Entries.{accesses}
 use Rattle.tube_trace.specs.Text.{text_of}
 use Rattle.tube_party.specs.Reference.{World, reference}
-use Rattle.bus_plug.specs.Plug.{Plug}
-use Rattle.disc_image.specs.declared.Kind.{Kind}
 use Rattle.host_mach.specs.State as host
 use Rattle.host_mach.specs.Step.{host_moves}
 use Rattle.para_mach.specs.State as para
@@ -15,19 +14,20 @@ use Rattle.beeb_stages.specs.declared.stop.Refusal.{Refusal}
 use Rattle.beeb_status.specs.declared.status.Ending.{Ending}
 use Rattle.beeb_status.specs.declared.status.Cause.{Cause}
 use Rattle.power_on.specs.Inputs.{Inputs}
+use Rattle.power_on.specs.Setup.{Setup}
 use Rattle.power_on.specs.Machines.{machines_of}
 use Rattle.beeb_outcome.specs.Left.{Kept}
 use Rattle.beeb_outcome.specs.Verdicts.{machine_verdict, both_left}
 
--- the first `keep` of the accesses of a list: how many they are, and their trace
-abbrev pub kept_of : ℕ → List Event → Kept
-kept_of keep list = record { count = length (take keep (accesses list)); trace = text_of (take keep (accesses list)) }
+-- the first `keep` of the accesses of a list: how many they are, and their trace, by the clock of the machines
+abbrev pub kept_of : Clock → ℕ → List Event → Kept
+kept_of clock keep list = record { count = length (take keep (accesses list)); trace = text_of clock (take keep (accesses list)) }
 
 -- The world after a run, of whose accesses in their one order the first `keep` are kept.
-unfoldable pub kept_verdict : ℕ → ℕ → List ℕ → World host.HostState para.ParaState → Verdict Ending
-kept_verdict ticks keep out w = machine_verdict (both_left ticks (length (accesses w.list)) out w.host w.para (kept_of keep w.list))
+unfoldable pub kept_verdict : Clock → ℕ → ℕ → List ℕ → World host.HostState para.ParaState → Verdict Ending
+kept_verdict clock ticks keep out w = machine_verdict (both_left ticks (length (accesses w.list)) out w.host w.para (kept_of clock keep w.list))
 
 -- the reference run of both machines from power-on
-unfoldable pub solo_after : List Plug → Kind × Kind → ℕ → ℕ → List ℕ → Inputs → Result (Verdict Ending) (Refusal Cause)
-solo_after plugs kinds ticks keep out i =
-    machines_of plugs kinds i >>= λ m. Ok (kept_verdict ticks keep out (reference host_moves para_moves m.0 m.1 ticks))
+unfoldable pub solo_after : Setup → ℕ → ℕ → List ℕ → Inputs → Result (Verdict Ending) (Refusal Cause)
+solo_after set ticks keep out i =
+    machines_of set i >>= λ m. Ok (kept_verdict set.clock ticks keep out (reference host_moves para_moves m.0 m.1 ticks))

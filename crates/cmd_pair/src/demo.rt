@@ -6,7 +6,7 @@ ghost use Rattle.power_on.specs.Seen.{seen_inputs};
 ghost use Rattle.beeb_outcome.specs.Seen.{verdict_of};
 
 use crate::alone::run_alone;
-use beeb_bits::Tick;
+use beeb_bits::{Clock, Tick};
 use beeb_outcome::{Outcome, said_outcome};
 use beeb_stages::Refusal;
 use beeb_status::{Cause, Ending};
@@ -14,7 +14,7 @@ use bus_plug::BusDevice;
 use demo_gen::{Demo, pair};
 use digits::two_digits;
 use disc_image::Kind;
-use power_on::{Inputs, machines_of};
+use power_on::{Inputs, Setup, machines_of};
 use std::alloc::{AllocError, Global};
 use tube_party::MOST;
 
@@ -86,7 +86,12 @@ pub fn gen_outcome<'a, D: BusDevice>(
 {
     let inputs = pair_inputs(alloc, pair(alloc, seed)?);
     let plugs: Vec<D> = Vec::new(alloc);
-    let (host, para) = machines_of(alloc, (Kind::Ssd, Kind::Ssd), inputs, plugs)?;
+    let setup = Setup {
+        clock: Clock::Three,
+        kinds: (Kind::Ssd, Kind::Ssd),
+        plugs,
+    };
+    let (host, para) = machines_of(alloc, setup, inputs)?;
     let done = run_alone(alloc, host, para, Tick(gen_ticks()), 0)?;
     let text = summary(alloc, seed, done.host.ram());
     // Here, so that both machines are dropped in one place.

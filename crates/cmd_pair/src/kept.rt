@@ -10,7 +10,7 @@ ghost use Rattle.cmd_pair.specs.Seen.{AreFirst, IsRun};
 ghost use Rattle.host_mach.specs.State.{HostState};
 ghost use Rattle.para_mach.specs.State.{ParaState};
 
-use beeb_bits::Tick;
+use beeb_bits::{Clock, Tick};
 use beeb_outcome::{Kept, Left, Outcome, machine_outcome};
 use bus_plug::BusDevice;
 use host_mach::HostMachine;
@@ -21,16 +21,22 @@ use tube_party::{Done, MOST, reference_is_trace};
 use tube_trace::{Entry, merge, write};
 
 // The first accesses of both sides, of which these are the first of each.
-fn kept_of(alloc: Global, host: &[Entry], para: &[Entry], keep: u32) -> Result<Kept, AllocError>
+fn kept_of(
+    alloc: Global,
+    clock: Clock,
+    host: &[Entry],
+    para: &[Entry],
+    keep: u32,
+) -> Result<Kept, AllocError>
     requires { (n : ℕ) × (list : List Event) × AreFirst n list keep host.now para.now }
     ensures { IfOk result (λ kept. (n : ℕ) (list : List Event) →
-        AreFirst n list keep host.now para.now → kept_seen kept ≡ kept_of keep list) }
+        AreFirst n list keep host.now para.now → kept_seen kept ≡ kept_of clock keep list) }
 {
     rising_list_is_merge();
     let Ok(kept) = merge(alloc, host, para, keep) else {
         return Err(AllocError);
     };
-    let Ok(trace) = write(alloc, &kept) else {
+    let Ok(trace) = write(alloc, clock, &kept) else {
         return Err(AllocError);
     };
     Ok(Kept {
@@ -42,6 +48,7 @@ fn kept_of(alloc: Global, host: &[Entry], para: &[Entry], keep: u32) -> Result<K
 /// What comes of both machines where their run ended, of whose accesses the first `keep` are kept.
 pub(crate) fn kept_outcome<'a, D: BusDevice>(
     alloc: Global,
+    clock: Clock,
     done: Done<HostMachine<D>, ParaMachine>,
     ticks: u64,
     keep: u32,
@@ -50,10 +57,10 @@ pub(crate) fn kept_outcome<'a, D: BusDevice>(
     requires ticks { ticks ≤ MOST }
     requires run { (s : HostState) × (t : ParaState) × IsRun D.plug s t ticks keep done }
     ensures { IfOk result (λ outcome. (s : HostState) (t : ParaState) → IsRun D.plug s t ticks keep done →
-        verdict_of D.plug outcome ≡ kept_verdict ticks keep out.now (reference host_moves para_moves s t ticks)) }
+        verdict_of D.plug outcome ≡ kept_verdict clock ticks keep out.now (reference host_moves para_moves s t ticks)) }
 {
     reference_is_trace::<HostMachine<D>, ParaMachine>();
-    let kept = kept_of(alloc, &done.host_list, &done.para_list, keep)?;
+    let kept = kept_of(alloc, clock, &done.host_list, &done.para_list, keep)?;
     let tube = done.host_count + done.para_count;
     let left = Left {
         out,

@@ -6,7 +6,7 @@ ghost use Rattle.tube_party.specs.Reference.{reference};
 ghost use Rattle.tube_party.specs.Played.{IsPlayed, played_of};
 ghost use Rattle.beeb_stages.specs.Promise.{IsCrewAfter};
 ghost use Rattle.beeb_stages.specs.Stages.{Works};
-ghost use Rattle.power_on.specs.Seen.{seen_inputs};
+ghost use Rattle.power_on.specs.Seen.{seen_inputs, seen_setup};
 ghost use Rattle.beeb_outcome.specs.Seen.{verdict_of};
 ghost use Rattle.cmd_pair.specs.Solo.{solo_after};
 ghost use Rattle.cmd_pair.specs.Seen.{nothing};
@@ -18,8 +18,7 @@ use beeb_outcome::Outcome;
 use beeb_stages::Stop;
 use beeb_status::Cause;
 use bus_plug::BusDevice;
-use disc_image::Kind;
-use power_on::{Inputs, machines_of};
+use power_on::{Inputs, Setup, machines_of};
 use session::{PairError, run_pair};
 use std::alloc::Global;
 use std::sync::Wait;
@@ -57,28 +56,27 @@ where
     }
 }
 
-/// What comes of both machines in two threads, the host with these plugged devices and discs of these kinds, where the first `keep` accesses
-/// are kept.
+/// What comes of both machines that the words tell of in two threads, where the first `keep` accesses are kept.
 #[tactic(auto, unfolding(crate::specs::Solo::solo_after))]
 pub fn run_outcome<'a, D: BusDevice + Send, C: Crew, R: Threads + Wait + Sync>(
     rt: &R,
     alloc: Global,
     crew: &mut C,
-    kinds: (Kind, Kind),
+    setup: Setup<D>,
     ticks: u64,
     keep: u32,
     out: &'a str,
     inputs: Inputs,
-    plugs: Vec<D>,
 ) -> Result<Outcome<'a, D>, Stop<Cause>>
     requires ticks { ticks ≤ MOST }
     requires slots { All (λ slot. slot.0 < 16) inputs.roms.items }
-    ensures works { let after = solo_after (map D.plug plugs.items) kinds ticks keep out.now (seen_inputs inputs) in
+    ensures works { let after = solo_after (seen_setup D.plug setup) ticks keep out.now (seen_inputs inputs) in
         Works (verdict_of D.plug) true (C.counts crew.old) (C.counts crew.new) result after }
     ensures crew { IsCrewAfter true (C.counts crew.old) (C.counts crew.new) }
 {
-    let (host, para) = machines_of(alloc, kinds, inputs, plugs)?;
+    let clock = setup.clock;
+    let (host, para) = machines_of(alloc, setup, inputs)?;
     let done = run_parties(rt, alloc, crew, host, para, Tick(ticks), keep)?;
-    let outcome = kept_outcome(alloc, done, ticks, keep, out)?;
+    let outcome = kept_outcome(alloc, clock, done, ticks, keep, out)?;
     Ok(outcome)
 }

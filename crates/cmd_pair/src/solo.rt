@@ -2,7 +2,7 @@
 ghost use Rattle.std.specs.Prelude.{◌<◌, ◌≤◌, All, map};
 ghost use Rattle.beeb_stages.specs.Seen.{Gives};
 ghost use Rattle.cmd_pair.specs.Solo.{solo_after};
-ghost use Rattle.power_on.specs.Seen.{seen_inputs};
+ghost use Rattle.power_on.specs.Seen.{seen_inputs, seen_setup};
 ghost use Rattle.beeb_outcome.specs.Seen.{verdict_of};
 
 use crate::alone::run_alone;
@@ -12,30 +12,28 @@ use beeb_outcome::Outcome;
 use beeb_stages::Refusal;
 use beeb_status::Cause;
 use bus_plug::BusDevice;
-use disc_image::Kind;
-use power_on::{Inputs, machines_of};
+use power_on::{Inputs, Setup, machines_of};
 use std::alloc::Global;
 use tube_party::MOST;
 
-/// What comes of both machines on one thread, the host with these plugged devices and discs of these kinds, where the first `keep` accesses
-/// are kept.
+/// What comes of both machines that the words tell of on one thread, where the first `keep` accesses are kept.
 #[tactic(auto, unfolding(crate::specs::Solo::solo_after))]
 pub fn solo_outcome<'a, D: BusDevice>(
     alloc: Global,
-    kinds: (Kind, Kind),
+    setup: Setup<D>,
     ticks: u64,
     keep: u32,
     out: &'a str,
     inputs: Inputs,
-    plugs: Vec<D>,
 ) -> Result<Outcome<'a, D>, Refusal<Cause>>
     requires ticks { ticks ≤ MOST }
     requires slots { All (λ slot. slot.0 < 16) inputs.roms.items }
-    ensures { let after = solo_after (map D.plug plugs.items) kinds ticks keep out.now (seen_inputs inputs) in
+    ensures { let after = solo_after (seen_setup D.plug setup) ticks keep out.now (seen_inputs inputs) in
         Gives (verdict_of D.plug) result after }
 {
-    let (host, para) = machines_of(alloc, kinds, inputs, plugs)?;
+    let clock = setup.clock;
+    let (host, para) = machines_of(alloc, setup, inputs)?;
     let done = run_alone(alloc, host, para, Tick(ticks), keep)?;
-    let outcome = kept_outcome(alloc, done, ticks, keep, out)?;
+    let outcome = kept_outcome(alloc, clock, done, ticks, keep, out)?;
     Ok(outcome)
 }

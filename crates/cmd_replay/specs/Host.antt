@@ -4,8 +4,6 @@ use Rattle.beeb_bits.specs.declared.Side.TheVariants.{Host}
 use Rattle.tube_trace.specs.declared.Entry.{Entry}
 use Rattle.tube_trace.specs.Wrong.{wrong}
 use Rattle.tube_party.specs.Replay.{replayed}
-use Rattle.disc_image.specs.declared.Kind.{Kind}
-use Rattle.bus_plug.specs.Plug.{Plug}
 use Rattle.host_mach.specs.State.{HostState, power_on}
 use Rattle.host_mach.specs.Step.{host_moves}
 use Rattle.beeb_stages.specs.Plan.{Verdict, ◌>>=◌}
@@ -13,6 +11,7 @@ use Rattle.beeb_stages.specs.declared.stop.Refusal.{Refusal}
 use Rattle.beeb_status.specs.declared.status.Ending.{Ending}
 use Rattle.beeb_status.specs.declared.status.Cause.{Cause}
 use Rattle.power_on.specs.Inputs.{Inputs}
+use Rattle.power_on.specs.Setup.{Setup}
 use Rattle.power_on.specs.Roms.{roms_of}
 use Rattle.beeb_outcome.specs.Trace.{entries_of}
 use Rattle.beeb_outcome.specs.Verdicts.{machine_verdict, host_left}
@@ -25,12 +24,11 @@ unfoldable pub host_ended : ℕ → List ℕ → List Entry → HostState → Ve
 host_ended ticks out entries s =
     ended (λ e. machine_verdict (host_left ticks (side_count Host ticks entries) out e)) (replayed host_moves Host entries ticks s)
 
--- The lengths of the images, the discs' of these kinds last, the forms of trace and script, the trace's answers, and the machine with these
--- plugged devices.
-unfoldable pub host_after : List Plug → Kind × Kind → ℕ → List ℕ → Inputs → Result (Verdict Ending) (Refusal Cause)
-host_after plugs kinds ticks out i =
+-- The lengths of the images, the discs' last, the trace's form and its clock, the script's form, the trace's answers, and the machine.
+unfoldable pub host_after : Setup → ℕ → List ℕ → Inputs → Result (Verdict Ending) (Refusal Cause)
+host_after set ticks out i =
     roms_of (record { os = i.os; slots = i.roms; font = i.font })
-    >>= λ roms. discs_of kinds i.disc0 i.disc1
-    >>= λ discs. entries_of i.trace
+    >>= λ roms. discs_of set.kinds i.disc0 i.disc1
+    >>= λ discs. entries_of set.clock i.trace
     >>= λ entries. script_of i.keys
-    >>= λ script. Ok (checked (wrong entries) (host_ended ticks out entries (power_on roms discs.0 discs.1 script plugs)))
+    >>= λ script. Ok (checked (wrong entries) (host_ended ticks out entries (power_on set.clock roms discs.0 discs.1 script set.plugs)))

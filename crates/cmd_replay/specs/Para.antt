@@ -1,5 +1,6 @@
 -- `replay para TRACE TICKS OUT --tube NAME`: the second processor against a trace.
 use Rattle.std.specs.Prelude.{ℕ, List, Result, Ok}
+use Rattle.beeb_bits.specs.declared.clock.Clock.{Clock}
 use Rattle.beeb_bits.specs.declared.Side.TheVariants.{Para}
 use Rattle.tube_trace.specs.declared.Entry.{Entry}
 use Rattle.tube_trace.specs.Wrong.{wrong}
@@ -21,9 +22,9 @@ unfoldable pub para_ended : ℕ → List ℕ → List Entry → ParaState → Ve
 para_ended ticks out entries s =
     ended (λ e. machine_verdict (para_left ticks (side_count Para ticks entries) out e)) (replayed para_moves Para entries ticks s)
 
--- the ROM's length, the trace's form, its answers, and the machine
-unfoldable pub para_after : ℕ → List ℕ → Inputs → Result (Verdict Ending) (Refusal Cause)
-para_after ticks out i =
+-- the ROM's length, the trace's form, its clock, its answers, and the machine
+unfoldable pub para_after : Clock → ℕ → List ℕ → Inputs → Result (Verdict Ending) (Refusal Cause)
+para_after clock ticks out i =
     rom_of i.tube
-    >>= λ rom. entries_of i.trace
-    >>= λ entries. Ok (checked (wrong entries) (para_ended ticks out entries (power_on rom)))
+    >>= λ rom. entries_of clock i.trace
+    >>= λ entries. Ok (checked (wrong entries) (para_ended ticks out entries (power_on clock rom)))

@@ -10,7 +10,7 @@ ghost use Rattle.cmd_replay.specs.Replay.{side_count, ended};
 ghost use Rattle.power_on.specs.Roms.{roms_of};
 ghost use Rattle.cmd_replay.specs.Host.{host_ended, host_after};
 ghost use Rattle.power_on.specs.Inputs as held;
-ghost use Rattle.power_on.specs.Seen.{seen_files, seen_inputs};
+ghost use Rattle.power_on.specs.Seen.{seen_files, seen_inputs, seen_setup};
 ghost use Rattle.beeb_outcome.specs.Seen.{verdict_of};
 
 use crate::replay::{differs_outcome, side_count};
@@ -19,9 +19,8 @@ use beeb_outcome::{Left, Outcome, entries_of, machine_outcome, wrong_outcome};
 use beeb_stages::Refusal;
 use beeb_status::Cause;
 use bus_plug::BusDevice;
-use disc_image::Kind;
 use host_mach::HostMachine;
-use power_on::{HostFiles, Inputs, discs_of, roms_of, script_of};
+use power_on::{HostFiles, Inputs, Setup, discs_of, roms_of, script_of};
 use std::alloc::{AllocError, Global};
 use tube_party::{MOST, replay};
 use tube_trace::{Entry, first_wrong};
@@ -63,18 +62,18 @@ fn ran<'a, D: BusDevice>(
 #[tactic(auto, unfolding(crate::specs::Host::host_after))]
 fn replay_outcome<'a, D: BusDevice>(
     alloc: Global,
-    kinds: (Kind, Kind),
+    setup: Setup<D>,
     ticks: u64,
     out: &'a str,
     trace: &[u8],
     files: HostFiles,
-    plugs: Vec<D>,
 ) -> Result<Outcome<'a, D>, Refusal<Cause>>
     requires ticks { ticks ≤ MOST }
     requires slots { All (λ slot. slot.0 < 16) files.roms.items }
     ensures { let read : held.Inputs = record (seen_files files) { trace = trace.now } in
-        Gives (verdict_of D.plug) result (host_after (map D.plug plugs.items) kinds ticks out.now read) }
+        Gives (verdict_of D.plug) result (host_after (seen_setup D.plug setup) ticks out.now read) }
 {
+    let Setup { clock, kinds, plugs } = setup;
     let HostFiles {
         os,
         roms,
@@ -85,28 +84,27 @@ fn replay_outcome<'a, D: BusDevice>(
     } = files;
     let roms = roms_of(os, roms, font)?;
     let (d0, d1) = discs_of(alloc, kinds, disc0, disc1)?;
-    let entries = entries_of(alloc, trace)?;
+    let entries = entries_of(alloc, clock, trace)?;
     let script = script_of(alloc, keys)?;
     if let Some((at, byte)) = first_wrong(&entries) {
         return Ok(wrong_outcome(alloc, at as u64 + 1, byte)?);
     }
-    let machine = HostMachine::make(alloc, roms, d0, d1, script, plugs)?;
+    let machine = HostMachine::make(alloc, clock, roms, d0, d1, script, plugs)?;
     Ok(ran(alloc, machine, ticks, out, &entries)?)
 }
 
-/// What comes of a replay of the host with these plugged devices and discs of these kinds.
+/// What comes of a replay of the host that the words tell of.
 #[tactic(auto, unfolding(crate::specs::Host::host_after))]
 pub fn host_outcome<'a, D: BusDevice>(
     alloc: Global,
-    kinds: (Kind, Kind),
+    setup: Setup<D>,
     ticks: u64,
     out: &'a str,
     inputs: Inputs,
-    plugs: Vec<D>,
 ) -> Result<Outcome<'a, D>, Refusal<Cause>>
     requires ticks { ticks ≤ MOST }
     requires slots { All (λ slot. slot.0 < 16) inputs.roms.items }
-    ensures { let after = host_after (map D.plug plugs.items) kinds ticks out.now (seen_inputs inputs) in
+    ensures { let after = host_after (seen_setup D.plug setup) ticks out.now (seen_inputs inputs) in
         Gives (verdict_of D.plug) result after }
 {
     let Inputs {
@@ -127,5 +125,5 @@ pub fn host_outcome<'a, D: BusDevice>(
         disc1,
         keys,
     };
-    replay_outcome(alloc, kinds, ticks, out, &trace, files, plugs)
+    replay_outcome(alloc, setup, ticks, out, &trace, files)
 }

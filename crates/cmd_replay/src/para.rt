@@ -13,7 +13,7 @@ ghost use Rattle.power_on.specs.Seen.{seen_inputs};
 ghost use Rattle.beeb_outcome.specs.Seen.{verdict_of};
 
 use crate::replay::{differs_outcome, side_count};
-use beeb_bits::{Side, Tick};
+use beeb_bits::{Clock, Side, Tick};
 use beeb_outcome::{Left, Outcome, entries_of, machine_outcome, wrong_outcome};
 use beeb_stages::Refusal;
 use beeb_status::Cause;
@@ -61,6 +61,7 @@ fn ran<'a, D: BusDevice>(
 #[tactic(auto, unfolding(crate::specs::Para::para_after))]
 fn replay_outcome<'a, D: BusDevice>(
     alloc: Global,
+    clock: Clock,
     ticks: u64,
     out: &'a str,
     trace: &[u8],
@@ -68,27 +69,28 @@ fn replay_outcome<'a, D: BusDevice>(
 ) -> Result<Outcome<'a, D>, Refusal<Cause>>
     requires { ticks ≤ MOST }
     ensures { let read : held.Inputs = record no_inputs { trace = trace.now; tube = rom.items } in
-        Gives (verdict_of D.plug) result (para_after ticks out.now read) }
+        Gives (verdict_of D.plug) result (para_after clock ticks out.now read) }
 {
-    let machine = machine_of(alloc, rom)?;
-    let entries = entries_of(alloc, trace)?;
+    let machine = machine_of(alloc, clock, rom)?;
+    let entries = entries_of(alloc, clock, trace)?;
     if let Some((at, byte)) = first_wrong(&entries) {
         return Ok(wrong_outcome(alloc, at as u64 + 1, byte)?);
     }
     Ok(ran(alloc, machine, ticks, out, &entries)?)
 }
 
-/// What comes of a replay of the second processor.
+/// What comes of a replay of the second processor of this clock.
 #[tactic(auto, unfolding(crate::specs::Para::para_after))]
 pub fn para_outcome<'a, D: BusDevice>(
     alloc: Global,
+    clock: Clock,
     ticks: u64,
     out: &'a str,
     inputs: Inputs,
 ) -> Result<Outcome<'a, D>, Refusal<Cause>>
     requires { ticks ≤ MOST }
-    ensures { Gives (verdict_of D.plug) result (para_after ticks out.now (seen_inputs inputs)) }
+    ensures { Gives (verdict_of D.plug) result (para_after clock ticks out.now (seen_inputs inputs)) }
 {
     let Inputs { trace, tube, .. } = inputs;
-    replay_outcome(alloc, ticks, out, &trace, tube)
+    replay_outcome(alloc, clock, ticks, out, &trace, tube)
 }

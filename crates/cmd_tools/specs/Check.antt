@@ -8,7 +8,7 @@ use Rattle.beeb_stages.specs.declared.stop.Refusal.{Refusal}
 use Rattle.beeb_status.specs.declared.status.Ending.{Ending}
 use Rattle.beeb_status.specs.declared.status.Ending.TheVariants.{Done}
 use Rattle.beeb_status.specs.declared.status.Cause.{Cause}
-use Rattle.beeb_outcome.specs.Trace.{entries_of, wrong_verdict}
+use Rattle.beeb_outcome.specs.Trace.{trace_of, wrong_verdict}
 use Rattle.beeb_outcome.specs.Verdicts.{said_verdict}
 
 -- `ok N` and a line feed
@@ -20,5 +20,6 @@ abbrev pub judged : List Entry → Option (ℕ × ℕ) → Verdict Ending
 judged entries None = said_verdict Done (ok_text (length entries))
 judged entries (Some w) = wrong_verdict (w.0 + 1) w.1
 
+-- a trace of either clock
 unfoldable pub check_after : List ℕ → Result (Verdict Ending) (Refusal Cause)
-check_after bytes = entries_of bytes >>= λ entries. Ok (judged entries (wrong entries))
+check_after bytes = trace_of bytes >>= λ t. Ok (judged t.1 (wrong t.1))

@@ -6,7 +6,7 @@ ghost use Rattle.beeb_stages.specs.Seen.{Gives};
 ghost use Rattle.beeb_outcome.specs.Seen.{verdict_of};
 ghost use Rattle.cmd_tools.specs.Check.{check_after, judged, ok_text};
 
-use beeb_outcome::{Outcome, entries_of, said_outcome, wrong_outcome};
+use beeb_outcome::{Outcome, said_outcome, trace_of, wrong_outcome};
 use beeb_stages::Refusal;
 use beeb_status::{Cause, Ending};
 use bus_plug::BusDevice;
@@ -43,6 +43,6 @@ pub fn check_outcome<'a, D: BusDevice>(
 ) -> Result<Outcome<'a, D>, Refusal<Cause>>
     ensures told { Gives (verdict_of D.plug) result (check_after bytes.now) }
 {
-    let entries = entries_of(alloc, bytes)?;
-    Ok(judged(alloc, &entries)?)
+    let trace = trace_of(alloc, bytes)?;
+    Ok(judged(alloc, &trace.entries)?)
 }

@@ -1,7 +1,6 @@
 -- The first image in order whose length is outside its set.
 use Rattle.std.proofs.Common.{◌≡◌, ◌∙◌, sym, refl, ap, ℕ, ◌==◌, ◌||◌, nat_lt, Bool, true, false, not, List, [], ◌∷◌, ◌++◌, map, length, find, Option, Some, None, Result, Ok, Err, if◌then◌else◌}
 use Rattle.std.specs.Option.{option_or}
-use Rattle.bus_plug.specs.Plug.{Plug}
 use Rattle.disc_image.specs.declared.Kind.{Kind}
 use Rattle.disc_image.specs.Image.{Image, largest}
 use Rattle.rom_set.specs.Roms.{Rom, Roms, fits, bad_slot, bad_font, refusal}
@@ -119,10 +118,10 @@ from_os kinds i f = by_os (length i.os == 16384) kinds i f refl
 pub lengths_come_first : LengthsComeFirst
 unfolding machines_of os_of rom_of
 lengths_come_first = record {
-  both = λ plugs kinds i.
+  both = λ set i.
       step (length i.os == 16384) i.os _ _ _ _ (λ os.
       step (length i.tube == 2048) i.tube _ _ _ _ (λ tube.
-      further kinds i (λ roms discs. script_of i.keys >>= λ script. Ok (host.power_on roms discs.0 discs.1 script plugs, para.power_on i.tube)) _ os refl));
+      further set.kinds i (λ roms discs. script_of i.keys >>= λ script. Ok (host.power_on set.clock roms discs.0 discs.1 script set.plugs, para.power_on set.clock i.tube)) _ os refl));
   host = λ kinds i next. from_os kinds i next;
   para = λ i next. step (length i.tube == 2048) i.tube _ next None _ (λ fit. refl);
 }

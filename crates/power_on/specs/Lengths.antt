@@ -1,6 +1,5 @@
 -- Which image is refused: the first in order whose length is outside its set.
 use Rattle.std.specs.Prelude.{◌≡◌, ℕ, ◌==◌, ◌||◌, nat_lt, Bool, not, List, [], ◌∷◌, ◌++◌, map, length, Option, Some, None, option_map, Result, Ok, Err, if◌then◌else◌}
-use Rattle.bus_plug.specs.Plug.{Plug}
 use Rattle.disc_image.specs.declared.Kind.{Kind}
 use Rattle.disc_image.specs.Image.{Image, largest}
 use Rattle.rom_set.specs.Roms.{Rom, Roms}
@@ -15,6 +14,7 @@ use Rattle.beeb_status.specs.declared.status.Which.TheVariants as places
 use Rattle.beeb_status.specs.declared.status.Cause.{Cause}
 use Rattle.beeb_status.specs.declared.status.Cause.TheVariants.{BadImage}
 use Rattle.power_on.specs.Inputs.{Inputs}
+use Rattle.power_on.specs.Setup.{Setup}
 use Rattle.power_on.specs.Script.{script_of}
 use Rattle.power_on.specs.Roms.{roms_of}
 use Rattle.power_on.specs.Discs.{discs_of}
@@ -83,10 +83,10 @@ roms_in i = record { os = i.os; slots = i.roms; font = i.font }
 
 -- The machines of a run, of a replay of the host and of one of the second processor: lengths first, whatever follows.
 pub record LengthsComeFirst : Type 0 where
-  pub both : (plugs : List Plug) (kinds : Kind × Kind) (i : Inputs) →
-      machines_of plugs kinds i
-      ≡ if_fit (both_images kinds i) (script_of i.keys >>= λ script.
-      Ok (host.power_on (roms_in i) (disc_in kinds.0 i.disc0) (disc_in kinds.1 i.disc1) script plugs, para.power_on i.tube))
+  pub both : (set : Setup) (i : Inputs) →
+      machines_of set i
+      ≡ if_fit (both_images set.kinds i) (script_of i.keys >>= λ script.
+      Ok (host.power_on set.clock (roms_in i) (disc_in set.kinds.0 i.disc0) (disc_in set.kinds.1 i.disc1) script set.plugs, para.power_on set.clock i.tube))
   pub host : (kinds : Kind × Kind) (i : Inputs) (next : Roms → Option Image × Option Image → Result (Verdict Ending) (Refusal Cause)) →
       (roms_of (roms_in i) >>= λ roms. discs_of kinds i.disc0 i.disc1 >>= λ discs. next roms discs)
       ≡ if_fit (host_images kinds i) (next (roms_in i) (disc_in kinds.0 i.disc0, disc_in kinds.1 i.disc1))

@@ -3,6 +3,6 @@ pub mod Script
 pub mod Discs
 pub mod Roms
 pub mod Machines
-pub mod Plugs
+pub mod Setup
 pub mod Seen
 pub mod Lengths

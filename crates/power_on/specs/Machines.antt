@@ -1,7 +1,5 @@
 -- Both machines at power-on, of what a command read.
 use Rattle.std.specs.Prelude.{ℕ, ◌==◌, List, length, Result, Ok, Err, if◌then◌else◌}
-use Rattle.bus_plug.specs.Plug.{Plug}
-use Rattle.disc_image.specs.declared.Kind.{Kind}
 use Rattle.host_mach.specs.State as host
 use Rattle.para_mach.specs.State as para
 use Rattle.beeb_stages.specs.Plan.{◌>>=◌}
@@ -11,6 +9,7 @@ use Rattle.beeb_status.specs.declared.status.Which.TheVariants.{Os, Tube}
 use Rattle.beeb_status.specs.declared.status.Cause.{Cause}
 use Rattle.beeb_status.specs.declared.status.Cause.TheVariants.{BadImage}
 use Rattle.power_on.specs.Inputs.{Inputs}
+use Rattle.power_on.specs.Setup.{Setup}
 use Rattle.power_on.specs.Roms.{roms_of}
 use Rattle.power_on.specs.Script.{script_of}
 use Rattle.power_on.specs.Discs.{discs_of}
@@ -23,13 +22,13 @@ rom_of bytes = if length bytes == 2048 then Ok bytes else Err (refusals.Cause (B
 unfoldable pub os_of : List ℕ → Result (List ℕ) (Refusal Cause)
 os_of bytes = if length bytes == 16384 then Ok bytes else Err (refusals.Cause (BadImage Os (length bytes)))
 
--- Both machines at power-on, the host with these plugged devices and discs of these kinds, if the images have their lengths, tested in the order
--- in which they are read, and then the script its form.
-unfoldable pub machines_of : List Plug → Kind × Kind → Inputs → Result (host.HostState × para.ParaState) (Refusal Cause)
-machines_of plugs kinds i =
+-- Both machines at power-on, as the words say, if the images have their lengths, tested in the order in which they are read, and then the script
+-- its form.
+unfoldable pub machines_of : Setup → Inputs → Result (host.HostState × para.ParaState) (Refusal Cause)
+machines_of set i =
     os_of i.os
     >>= λ os. rom_of i.tube
     >>= λ rom. roms_of (record { os = os; slots = i.roms; font = i.font })
-    >>= λ roms. discs_of kinds i.disc0 i.disc1
+    >>= λ roms. discs_of set.kinds i.disc0 i.disc1
     >>= λ discs. script_of i.keys
-    >>= λ script. Ok (host.power_on roms discs.0 discs.1 script plugs, para.power_on rom)
+    >>= λ script. Ok (host.power_on set.clock roms discs.0 discs.1 script set.plugs, para.power_on set.clock rom)

@@ -1,11 +1,14 @@
 -- What the code holds of what was read, as the definitions see it.
-use Rattle.std.specs.Prelude.{ℕ, List, option_map}
+use Rattle.std.specs.Prelude.{ℕ, List, map, option_map}
 use Rattle.std.specs.declared.vec.Vec.{Vec}
 use Rattle.std.specs.declared.alloc.Global.{Global}
+use Rattle.bus_plug.specs.Plug.{Plug}
 use Rattle.rom_set.specs.Roms.{roms_seen}
 use Rattle.power_on.specs.declared.inputs.Inputs.{Inputs}
 use Rattle.power_on.specs.declared.inputs.HostFiles.{HostFiles}
+use Rattle.power_on.specs.declared.setup.Setup.{Setup}
 use Rattle.power_on.specs.Inputs as inputs
+use Rattle.power_on.specs.Setup as setups
 
 abbrev pub items : Vec ℕ Global → List ℕ
 items v = v.items
@@ -34,3 +37,7 @@ seen_files f = record inputs.no_inputs {
   disc1 = option_map items f.disc1;
   keys = option_map items f.keys;
 }
+
+-- what the words say of the machines, by what the plugged devices are
+abbrev pub seen_setup : {D : Type 0} → (D → Plug) → Setup D → setups.Setup
+seen_setup plug s = setups.setup s.clock s.kinds (map plug s.plugs.items)

@@ -5,14 +5,14 @@ mod discs;
 mod inputs;
 mod law;
 mod machines;
-mod plugs;
 mod roms;
 mod script;
+mod setup;
 
 pub use discs::discs_of;
 pub use inputs::{HostFiles, Inputs};
 pub use law::lengths_come_first;
 pub use machines::{machine_of, machines_of};
-pub use plugs::plugged;
 pub use roms::roms_of;
 pub use script::script_of;
+pub use setup::Setup;

@@ -6,16 +6,17 @@ ghost use Rattle.para_mach.specs.State.{power_on};
 ghost use Rattle.para_mach.specs.Step.{para_moves};
 ghost use Rattle.beeb_stages.specs.Seen.{Gives};
 ghost use Rattle.power_on.specs.Machines.{rom_of, os_of, machines_of};
-ghost use Rattle.power_on.specs.Seen.{seen_inputs};
+ghost use Rattle.power_on.specs.Seen.{seen_inputs, seen_setup};
 
 use crate::discs::discs_of;
 use crate::inputs::Inputs;
 use crate::roms::roms_of;
 use crate::script::script_of;
+use crate::setup::Setup;
+use beeb_bits::Clock;
 use beeb_stages::Refusal;
 use beeb_status::{Cause, Which};
 use bus_plug::BusDevice;
-use disc_image::Kind;
 use host_mach::HostMachine;
 use para_mach::{ParaError, ParaMachine};
 use std::alloc::Global;
@@ -23,14 +24,18 @@ use std::alloc::Global;
 /// The bytes of the operating system's image.
 const OS_SIZE: usize = 16_384;
 
-/// The second processor at power-on with this boot ROM.
+/// The second processor of this clock at power-on, with this boot ROM.
 #[tactic(auto, unfolding(crate::specs::Machines::rom_of))]
-pub fn machine_of(alloc: Global, rom: Vec<u8>) -> Result<ParaMachine, Refusal<Cause>>
+pub fn machine_of(
+    alloc: Global,
+    clock: Clock,
+    rom: Vec<u8>,
+) -> Result<ParaMachine, Refusal<Cause>>
     ensures { let made = rom_of rom.items in
-        MatchResult result (λ machine. (machine ≡ power_on rom.items) × (made ≡ Ok rom.items))
+        MatchResult result (λ machine. (machine ≡ power_on clock rom.items) × (made ≡ Ok rom.items))
         (λ refusal. Gives (λ (rom : List ℕ). rom) (Err refusal) made) }
 {
-    match ParaMachine::make(alloc, rom) {
+    match ParaMachine::make(alloc, clock, rom) {
         Ok(machine) => Ok(machine),
         Err(ParaError::BadTubeRom { len }) => Err(Refusal::Cause(Cause::BadImage {
             which: Which::Tube,
@@ -55,25 +60,25 @@ fn test_os(os: &[u8]) -> Result<(), Refusal<Cause>>
     }
 }
 
-/// Both machines at power-on, the host with these plugged devices and discs of these kinds.
+/// Both machines at power-on, as the words say.
 #[tactic(auto, unfolding(crate::specs::Machines::machines_of))]
 pub fn machines_of<D: BusDevice>(
     alloc: Global,
-    kinds: (Kind, Kind),
+    setup: Setup<D>,
     inputs: Inputs,
-    plugs: Vec<D>,
 ) -> Result<(HostMachine<D>, ParaMachine), Refusal<Cause>>
     requires { All (λ slot. slot.0 < 16) inputs.roms.items }
-    ensures machines { let made = machines_of (map D.plug plugs.items) kinds (seen_inputs inputs) in
+    ensures machines { let made = machines_of (seen_setup D.plug setup) (seen_inputs inputs) in
         Gives (λ m. (host_seen D.plug m.0, m.1)) result made }
     ensures host_starts { IfOk result (λ m. host_moves.closed (host_seen D.plug m.0) ≡ 0) }
     ensures para_starts { IfOk result (λ m. para_moves.closed m.1 ≡ 0) }
 {
+    let Setup { clock, kinds, plugs } = setup;
     test_os(&inputs.os)?;
-    let para = machine_of(alloc, inputs.tube)?;
+    let para = machine_of(alloc, clock, inputs.tube)?;
     let roms = roms_of(inputs.os, inputs.roms, inputs.font)?;
     let (d0, d1) = discs_of(alloc, kinds, inputs.disc0, inputs.disc1)?;
     let script = script_of(alloc, inputs.keys)?;
-    let host = HostMachine::make(alloc, roms, d0, d1, script, plugs)?;
+    let host = HostMachine::make(alloc, clock, roms, d0, d1, script, plugs)?;
     Ok((host, para))
 }

@@ -7,9 +7,8 @@ use Rattle.beeb_status.specs.declared.status.Cause.{Cause}
 use Rattle.beeb_outcome.specs.Seen.{verdict_of}
 use Rattle.beeb_words.specs.Reads.{reads}
 use Rattle.beeb_words.specs.Seen.{seen, seen_given}
-use Rattle.beeb_words.specs.Discs.{kinds_of}
 use Rattle.power_on.specs.Inputs.{Inputs}
-use Rattle.power_on.specs.Plugs.{plugged}
+use Rattle.power_on.specs.Setup.{setup_of}
 use Rattle.beeb_top.specs.Plans.{replay_after}
 use Rattle.beeb_top.proofs.SlotLemmas.{slots_below}
 use Rattle.beeb_top.proofs.WorkLemmas.{both_after}
@@ -27,14 +26,12 @@ pub returns-in-Solo : goal.returns-in-Solo
 returns-in-Solo g c =
     rw c.in-Solo.is
     (subst (λ (stage : Result (Verdict Ending) (Refusal Cause)). Gives (verdict_of g.D.BusDevice.plug) c.solo_outcome.result stage)
-    (both_after (map g.D.BusDevice.plug c.args.plugs.items) (seen_given c.in-Solo.given) _ _ c.in-Solo.ticks c.in-Solo.keep c.in-Solo.out.now _ _
-    c.plugged-plugs.ensures c.disc_kinds.ensures c.in_ok-inputs.ensures)
+    (both_after _ _ c.in-Solo.ticks c.in-Solo.keep c.in-Solo.out.now _ _ c.of-setup.ensures c.in_ok-inputs.ensures)
     c.solo_outcome.ensures)
 
 pub returns-in-Replay : goal.returns-in-Replay
 returns-in-Replay g c =
     rw c.in-Replay.is
     (subst (λ (i : Inputs). Gives (verdict_of g.D.BusDevice.plug) c.replay_outcome.result
-    (replay_after (plugged (seen_given c.in-Replay.given) (map g.D.BusDevice.plug c.args.plugs.items)) (kinds_of (seen_given c.in-Replay.given)) c.in-Replay.side
-    c.in-Replay.ticks c.in-Replay.out.now i))
-    c.in_ok-inputs.ensures c.replay_outcome.ensures)
+    (replay_after (setup_of (seen_given c.in-Replay.given) (map g.D.BusDevice.plug c.args.plugs.items)) c.in-Replay.side c.in-Replay.ticks c.in-Replay.out.now i))
+    c.in_ok-inputs.ensures (rw c.of-setup.ensures at c.replay_outcome.ensures))

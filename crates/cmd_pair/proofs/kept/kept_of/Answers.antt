@@ -24,5 +24,5 @@ returns c = λ n list first.
     let all : c.in-Ok.kept.items ≡ take c.args.keep (accesses list) =
     of_both_sides list c.args.keep c.args.host.now c.args.para.now c.in-Ok.kept.items c.rising_list_is_merge.ensures first.trace.rises
     first.host_is first.para_is c.in-Ok.ensures.merged in
-    kept_same c.args.keep c.len.result c.in-Ok-write.trace.items list c.in-Ok.kept.items (c.len.ensures ∙ c.in-Ok.kept.ok.0)
-    (c.in-Ok-write.ensures.text ∙ ap text_of c.deref.ensures.value) all
+    kept_same c.args.clock c.args.keep c.len.result c.in-Ok-write.trace.items list c.in-Ok.kept.items (c.len.ensures ∙ c.in-Ok.kept.ok.0)
+    (c.in-Ok-write.ensures.text ∙ ap (text_of c.args.clock) c.deref.ensures.value) all
