@@ -14,6 +14,7 @@ mod runs;
 mod scene;
 mod solos;
 mod sources;
+mod speeds;
 mod statuses;
 mod traces;
 mod transfers;

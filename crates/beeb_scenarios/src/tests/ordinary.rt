@@ -232,6 +232,69 @@ same demo.d0
 same demo.000.ppm
 same demo.001.ppm
 same demo.trace
+## The same at 4 MHz, in ticks of half the length: the host does the same.
+keys
+| at 400000 down 64
+| at 600000 up 64
+| at 800000 down 22
+| at 1000000 up 22
+| at 1200000 down 65
+| at 1400000 up 65
+| at 1600000 down 43
+| at 1800000 up 43
+| at 2000000 down 23
+| at 2200000 up 23
+| at 2400000 down 35
+| at 2600000 up 35
+| at 2800000 down 36
+| at 3000000 up 36
+| at 3100000 shot
+| at 3200000 down 56
+| at 3400000 up 56
+| at 3600000 down 41
+| at 3800000 up 41
+| at 4000000 down 10
+| at 4200000 up 10
+| at 4400000 down 25
+| at 4600000 up 25
+| at 4800000 down 54
+| at 5000000 up 54
+| at 5800000 shot
+run 6000000 demo --speed 4 --os os --rom15 lang --rom14 dfs --tube tube --disc0 t --keys keys
+= 0
+line demo.report frames 2
+at demo.para 0080 64 22 65 43 23 35 36 56 41 10 25 54 00
+same demo.host
+same demo.d0
+same demo.000.ppm
+same demo.001.ppm
+keys
+| at 200000 down 64
+| at 300000 up 64
+| at 400000 down 22
+| at 500000 up 22
+| at 600000 down 65
+| at 700000 up 65
+| at 800000 down 43
+| at 900000 up 43
+| at 1000000 down 23
+| at 1100000 up 23
+| at 1200000 down 35
+| at 1300000 up 35
+| at 1400000 down 36
+| at 1500000 up 36
+| at 1550000 shot
+| at 1600000 down 56
+| at 1700000 up 56
+| at 1800000 down 41
+| at 1900000 up 41
+| at 2000000 down 10
+| at 2100000 up 10
+| at 2200000 down 25
+| at 2300000 up 25
+| at 2400000 down 54
+| at 2500000 up 54
+| at 2900000 shot
 alone run 3000000 demo --os os --rom15 lang --rom14 dfs --tube tube --disc0 t --keys keys
 = 6 no thread
 none demo.report

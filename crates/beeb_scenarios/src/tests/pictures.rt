@@ -91,6 +91,18 @@ same o.report
 same o.000.ppm
 same o.001.ppm
 same o.002.ppm
+keys
+| at 2 shot
+| at 800000 shot
+| at 800000 shot
+$ solo 800001 o --tube tube --os os --keys keys --speed 4
+= 0
+same o.000.ppm
+same o.001.ppm
+same o.002.ppm
+$ solo 800000 o --tube tube --os os --keys keys --speed 4
+= 0
+line o.report frames 1
 # A page of teletext with one letter, whose shape in the font has all its dots: 16 by 10 pixels. Without a font it is blank.
 os
 |        org &C000
