@@ -2,6 +2,7 @@
 mod cycles;
 mod devices;
 mod discs;
+mod guests;
 mod hosts;
 mod keys;
 mod ordinary;

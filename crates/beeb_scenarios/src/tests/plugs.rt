@@ -89,6 +89,62 @@ $ solo 7 o --os os --tube tube --plugs 2
 = 5 cannot write o.plug1
 size o.plug0 65536
 none o.plug1
+# Each access of the host is one call, however long the bus stretches it, and of two devices that own an address the first alone is called.
+plugs counter counter latch
+os
+| org &C000
+| LDA &FC00
+| STA &70
+| LDA &FDFF
+| STA &71
+| STA &FC80
+| INC &FC00
+| LDA &FC10
+| STA &72
+| here: JMP here
+| org &FFFC
+| word &C000, 0
+tube
+| org &F800
+| loop: JMP loop
+| org &FFFC
+| word loop, 0
+$ solo 1000 o --os os --tube tube --plugs 3
+= 0
+at o.host 0070 00 01 06
+file o.plug0
+x 07
+file o.plug1
+x 00
+size o.plug2 0
+keep
+run 1000 o --os os --tube tube --plugs 3
+= 0
+same o.host
+same o.plug0
+same o.plug1
+# A device of whose bytes there is no memory for: what comes before them is written.
+plugs counter mute counter
+os
+| org &C000
+| here: JMP here
+| org &FFFC
+| word here, 0
+tube
+| org &F800
+| loop: JMP loop
+| org &FFFC
+| word loop, 0
+$ solo 7 o --os os --tube tube --plugs 3
+= 7 no memory
+file o.plug0
+x 00
+none o.plug1
+none o.plug2
+$ solo 7 o --os os --tube tube --plugs 1
+= 0
+file o.plug0
+x 00
 ";
 
 #[test]

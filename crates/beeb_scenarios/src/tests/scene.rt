@@ -11,6 +11,7 @@
 //! - `t`: the files `t` and `t.dsd` have these bytes, and with `keys` the file `keys`. `os`, `lang` and `dfs`, and `tube`: the files of these
 //!   names are the images of these source texts, for the 6502 and the 65C02. `ticks A, B`: the file `t` is a trace of these accesses, one at
 //!   each tick from 0.
+//! - `plugs NAME..`: these devices are handed in: `card` and `latch`, which are handed in where no others are named, a `counter`, or a `mute`.
 //! - `fails N,.. M,..`: these calls of the shelf and these of the outlet fail, where `-` is none.
 //! - `$ WORDS`: the words are carried out, where `''` is a word of no letters. `run ..`: these very words are carried out, in two threads, and
 //!   `alone WORDS` by a crew that starts no thread.
@@ -22,10 +23,11 @@
 //!   kept, and nothing else. `same NAME`: the file is the same as in the outputs that were kept. `take NAME`: the file becomes the file `t`.
 ghost use Rattle.std.specs.Prelude.{◌≡◌, IfOk, string_bytes};
 
+use super::guests::devices;
 use asm65::assemble;
 use beeb_files::{Crew, FailCrew, MemOutlet, MemShelf, ThreadCrew};
 use beeb_top::{Status, plain, top};
-use bus_plug::{BusDevice, PrinterLatch, RamCard};
+use bus_plug::BusDevice;
 use op_table::Part;
 use std::alloc::{AllocError, Global};
 use std::process::Abort;
@@ -44,6 +46,7 @@ struct Scene {
     lang: Vec<u8>,
     dfs: Vec<u8>,
     keys: Vec<u8>,
+    plugs: Vec<u8>,
     get_fails: Vec<u32>,
     put_fails: Vec<u32>,
     told: Vec<u8>,
@@ -148,6 +151,7 @@ impl Scene {
             lang: Vec::new(alloc),
             dfs: Vec::new(alloc),
             keys: Vec::new(alloc),
+            plugs: Vec::new(alloc),
             get_fails: Vec::new(alloc),
             put_fails: Vec::new(alloc),
             told: Vec::new(alloc),
@@ -170,7 +174,7 @@ impl Scene {
     ) -> Result<bool, Fail> {
         let (word, rest) = step.split_once(' ').unwrap_or((step, ""));
         match word {
-            "" | "#" | "##" | "ticks" | "fails" | "take" => self.lay(word, rest),
+            "" | "#" | "##" | "ticks" | "plugs" | "fails" | "take" => self.lay(word, rest),
             "t" | "keys" | "os" | "lang" | "dfs" | "tube" => self.lay_file(word, bytes),
             "run" => self.share(rt, step, &mut ThreadCrew::make()),
             "alone" => self.share(rt, rest, &mut FailCrew::make()),
@@ -188,6 +192,7 @@ impl Scene {
                 self.title = rest.as_bytes().to_vec(alloc)?;
             }
             "ticks" => self.t = trace(alloc, rest)?,
+            "plugs" => self.plugs = rest.as_bytes().to_vec(alloc)?,
             "take" => self.t = self.out.file(rest).unwrap_or(b"nothing").to_vec(alloc)?,
             "fails" => {
                 let (get, put) = rest.split_once(' ').unwrap_or((rest, ""));
@@ -235,7 +240,7 @@ impl Scene {
         let mut shelf = self.shelf()?;
         let mut out = MemOutlet::make(alloc, self.put_fails.to_vec(alloc)?);
         let words = words_of(alloc, words)?;
-        let status = plain(alloc, &words, &mut shelf, &mut out, devices(alloc)?);
+        let status = plain(alloc, &words, &mut shelf, &mut out, self.devices()?);
         self.told = told(alloc, &status, out.said())?;
         self.out = out;
         Ok(())
@@ -252,11 +257,17 @@ impl Scene {
         let mut shelf = self.shelf()?;
         let mut out = MemOutlet::make(alloc, self.put_fails.to_vec(alloc)?);
         let words = words_of(alloc, words)?;
-        let plugs = devices(alloc)?;
+        let plugs = self.devices()?;
         let status = top(rt, alloc, &words, &mut shelf, &mut out, crew, plugs);
         self.told = told(alloc, &status, out.said())?;
         self.out = out;
         Ok(true)
+    }
+
+    // The devices that are handed in: the program's, where no others are named.
+    fn devices(&self) -> Result<Vec<Box<dyn BusDevice + Send>>, Fail> {
+        let names = text_of(&self.plugs);
+        devices(self.alloc, if names.is_empty() { "card latch" } else { names })
     }
 
     fn shelf(&self) -> Result<MemShelf, AllocError> {
@@ -319,14 +330,6 @@ fn entry(alloc: Global, name: &str, bytes: &[u8]) -> Result<(String, Vec<u8>), A
     ensures { IfOk result (λ e. string_bytes e.0 ≡ name.now) }
 {
     Ok((String::from_str(alloc, name)?, bytes.to_vec(alloc)?))
-}
-
-/// The program's devices: a RAM card and a printer's latch.
-fn devices(alloc: Global) -> Result<Vec<Box<dyn BusDevice + Send>>, Fail> {
-    let mut plugs: Vec<Box<dyn BusDevice + Send>> = Vec::new(alloc);
-    plugs.push(Box::new(alloc, RamCard::make(alloc)?)?)?;
-    plugs.push(Box::new(alloc, PrinterLatch::make(alloc)?)?)?;
-    Ok(plugs)
 }
 
 // The file as a text, of no lines where it is none.
