@@ -136,7 +136,8 @@ impl RomSet {
     ) -> Result<RomSet, RomError>
         requires { All (λ slot. slot.0 < 16) slots.items }
         ensures set { IfOk result (λ roms. roms ≡ record { os = os.items; slots = roms_seen slots.items; font = font_seen font }) }
-        ensures refused { MatchResult result (λ _. refusal os.items (roms_seen slots.items) (font_seen font) ≡ None) (λ e. refusal os.items (roms_seen slots.items) (font_seen font) ≡ Some e) }
+        ensures refused { let refused = refusal os.items (roms_seen slots.items) (font_seen font) in
+            MatchResult result (λ _. refused ≡ None) (λ e. refused ≡ Some e) }
     {
         if os.len() != ROM_SIZE {
             return Err(RomError::BadOs {
