@@ -52,10 +52,11 @@ assemble_pair() {
     words="--os $name-os --tube $name-tube $more"
 }
 
-# move_thread PID NUMBER PROCESSORS: once the process has two threads, moves the first or the second (0 or 1) to these processors
+# move_thread PID NUMBER PROCESSORS: once the process has two threads, moves the first or the second (0 or 1) to these processors. A process that
+# has ended keeps its folder until this shell waits for it, but no program.
 move_thread() {
     local threads=()
-    while [ "${#threads[@]}" -lt 2 ] && [ -d "/proc/$1/task" ]; do
+    while [ "${#threads[@]}" -lt 2 ] && [ -e "/proc/$1/exe" ]; do
         threads=("/proc/$1/task/"*)
     done
     taskset -pc "$3" "$(basename "${threads[$2]:-}")" >/dev/null 2>&1 || true
