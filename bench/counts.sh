@@ -24,6 +24,8 @@ if command -v valgrind >found; then
     "$launcher" asm 65c02 "$top/bench/busy-tube.asm" busy-tube
     "$launcher" asm 6502 "$top/bench/busy-os.asm" busy-os
     counts 'second processor' $((ticks / 2)) para empty.trace TICKS out --tube busy-tube
+    printf 'T2\n' >empty4.trace
+    counts 'second processor at 4 MHz' $((ticks / 3)) para empty4.trace TICKS out --tube busy-tube --speed 4
     counts host $((ticks / 3)) host empty.trace TICKS out --os busy-os
     echo 'goal: at most 50 instructions and 0.4 indirect jumps'
 else
