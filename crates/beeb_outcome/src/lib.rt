@@ -15,4 +15,4 @@ mod trace;
 pub use left::{Kept, Left};
 pub use output::Output;
 pub use product::{Outcome, file_outcome, machine_outcome, said_outcome};
-pub use trace::{entries_of, wrong_outcome};
+pub use trace::{entries_of, trace_of, wrong_outcome};
