@@ -12,9 +12,9 @@ pub loop-clock-init : goal.loop-clock-init
 unfolding samples
 loop-clock-init c = record {
   chip = rw c.new-sound.ensures (before_first c.args.writes.now c.requires.order);
-  items = c.in-Ok.ensures.items;
-  size = c.in-Ok.ensures.len;
-  room = omega (arith, c.in-Ok.ensures.capacity, c.div_ceil.ensures);
+  items = c.in_ok-list.ensures.items;
+  size = c.in_ok-list.ensures.len;
+  room = omega (arith, c.in_ok-list.ensures.capacity, c.div_ceil.ensures);
 }
 
 pub loop-clock-preserved : goal.loop-clock-preserved
