@@ -50,9 +50,11 @@ fn push_instruction<'a>(
     mnemonic: Mnemonic,
     operand: &Operand<'a>,
 ) -> Result<(), AllocError>
-    requires { operand_out (labels_in labels.now) address (mode_of part mnemonic (seen_operand operand.now)) (seen_operand operand.now) ≡ false }
-    ensures { OnOk result (bytes.new.items ≡ bytes.old.items
-        ++ instruction_bytes part (labels_in labels.now) address mnemonic (seen_operand operand.now) (mode_of part mnemonic (seen_operand operand.now))) }
+    requires { let operand = seen_operand operand.now in
+        operand_out (labels_in labels.now) address (mode_of part mnemonic operand) operand ≡ false }
+    ensures { let operand = seen_operand operand.now in
+        OnOk result (bytes.new.items ≡ bytes.old.items
+        ++ instruction_bytes part (labels_in labels.now) address mnemonic operand (mode_of part mnemonic operand)) }
 {
     let Some(mode) = mode_of(part, mnemonic, operand) else {
         return Ok(());
@@ -70,7 +72,8 @@ fn push_bytes<'a>(
     values: ValueList<'a>,
 ) -> Result<(), AllocError>
     requires { list_any (is_out (labels_in labels.now) 256) (seen_list values) ≡ false }
-    ensures { OnOk result (bytes.new.items ≡ bytes.old.items ++ map (value_in (labels_in labels.now)) (seen_list values.entry)) }
+    ensures { OnOk result (bytes.new.items
+        ≡ bytes.old.items ++ map (value_in (labels_in labels.now)) (seen_list values.entry)) }
 {
     let mut rest = values;
     while let Some((value, others)) = rest.next() {
@@ -86,7 +89,8 @@ fn push_words<'a>(
     values: ValueList<'a>,
 ) -> Result<(), AllocError>
     requires { list_any (is_out (labels_in labels.now) 65536) (seen_list values) ≡ false }
-    ensures { OnOk result (bytes.new.items ≡ bytes.old.items ++ concat (map (λ v. word_bytes (value_in (labels_in labels.now) v)) (seen_list values.entry))) }
+    ensures { OnOk result (bytes.new.items ≡ bytes.old.items
+        ++ concat (map (λ v. word_bytes (value_in (labels_in labels.now) v)) (seen_list values.entry))) }
 {
     let mut rest = values;
     while let Some((value, others)) = rest.next() {
@@ -113,8 +117,11 @@ pub(crate) fn push_statement<'a>(
     statement: &Option<Statement<'a>>,
 ) -> Result<(), AllocError>
     requires room { vec_len bytes.old ≤ 65536 }
-    requires in_range { statement_out part (labels_in labels.now) address (option_map seen_statement statement.now) ≡ false }
-    ensures { OnOk result (bytes.new.items ≡ bytes.old.items ++ statement_bytes part (labels_in labels.now) address (option_map seen_statement statement.now)) }
+    requires in_range { let statement = option_map seen_statement statement.now in
+        statement_out part (labels_in labels.now) address statement ≡ false }
+    ensures { let statement = option_map seen_statement statement.now in
+        OnOk result (bytes.new.items
+        ≡ bytes.old.items ++ statement_bytes part (labels_in labels.now) address statement) }
 {
     match statement {
         Some(Statement::Instruction(mnemonic, operand)) => push_instruction(

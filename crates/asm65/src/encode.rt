@@ -53,7 +53,8 @@ fn portion_of(portion: Portion, number: u64) -> u64
 pub(crate) fn evaluate<'a>(labels: &Labels<'a>, value: &Value<'a>) -> u64
     ensures value { result ≡ value_in (labels_in labels.now) (seen_value value.now) }
     ensures bound { result < 2 ^ 33 }
-    ensures byte { is_byte (seen_value value.now) ≡ true → base_or_zero (labels_in labels.now) (seen_value value.now) < 65536 → result < 256 }
+    ensures byte { let value = seen_value value.now in
+        is_byte value ≡ true → base_or_zero (labels_in labels.now) value < 65536 → result < 256 }
 {
     portion_of(value.portion, base_or_zero(labels, value))
 }
@@ -112,7 +113,8 @@ fn is_near(distance: u64) -> bool
 }
 
 fn is_far<'a>(labels: &Labels<'a>, address: u32, value: &Value<'a>) -> bool
-    ensures { result ≡ (if is_near (distance address (value_in (labels_in labels.now) (seen_value value.now))) then false else true) }
+    ensures { let target = value_in (labels_in labels.now) (seen_value value.now) in
+        result ≡ (if is_near (distance address target) then false else true) }
 {
     !is_near(distance(address, evaluate(labels, value)))
 }
@@ -165,7 +167,8 @@ fn operand_unknown<'a>(labels: &Labels<'a>, operand: &Operand<'a>) -> bool
 }
 
 fn names_unknown<'a>(labels: &Labels<'a>, statement: &Option<Statement<'a>>) -> bool
-    ensures { result ≡ list_any (is_unknown (labels_in labels.now)) (values_in (option_map seen_statement statement.now)) }
+    ensures { let statement = option_map seen_statement statement.now in
+        result ≡ list_any (is_unknown (labels_in labels.now)) (values_in statement) }
 {
     match statement {
         Some(Statement::Instruction(_, operand)) => operand_unknown(labels, operand),

@@ -23,7 +23,8 @@ pub(crate) fn define<'a>(
     label: Option<&'a [u8]>,
     address: u32,
 ) -> Result<bool, AllocError>
-    ensures new { IfOk result (λ new. new ≡ not (list_any (is_among (names_in labels.old)) (option_to_list (option_map seen_name label.entry)))) }
+    ensures new { let name = option_to_list (option_map seen_name label.entry) in
+        IfOk result (λ new. new ≡ not (list_any (is_among (names_in labels.old)) name)) }
     ensures labelled { IfOk result (λ new. new ≡ true → (q : List ℕ) → value_of_label (labels_in labels.new) q
         ≡ value_of_label (labels_in labels.old ++ label_with address (option_map seen_name label.entry)) q) }
 {

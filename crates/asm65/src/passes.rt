@@ -55,9 +55,10 @@ fn place<'a>(
     address: u32,
     line: Option<Line<'a>>,
 ) -> Result<u32, AsmError>
-    ensures { MatchResult result
-        (λ next. IsPlaced part line_number address (option_map seen_line line.entry) labels.old labels.new next)
-        (λ e. (e ≡ NoMemory) ⊎ (first_fault part line_number (names_in labels.old) address (option_map seen_line line.entry) ≡ Some e)) }
+    ensures { let line = option_map seen_line line.entry in
+        MatchResult result
+        (λ next. IsPlaced part line_number address line labels.old labels.new next)
+        (λ e. (e ≡ NoMemory) ⊎ (first_fault part line_number (names_in labels.old) address line ≡ Some e)) }
 {
     let Some(line) = line else {
         return Err(AsmError::Syntax { line: line_number });
@@ -115,9 +116,11 @@ fn encode<'a>(
 ) -> Result<u32, AsmError>
     requires room { vec_len bytes.old ≤ 65536 }
     requires short { line_is_long part address (option_map seen_line line) ≡ false }
-    ensures { MatchResult result
-        (λ next. IsEncoded part line_number (labels_in labels.now) address (option_map seen_line line.entry) bytes.old.items bytes.new.items next)
-        (λ e. (e ≡ NoMemory) ⊎ (second_fault part line_number (labels_in labels.now) address (option_map seen_line line.entry) ≡ Some e)) }
+    ensures { let line = option_map seen_line line.entry in
+        let labels = labels_in labels.now in
+        MatchResult result
+        (λ next. IsEncoded part line_number labels address line bytes.old.items bytes.new.items next)
+        (λ e. (e ≡ NoMemory) ⊎ (second_fault part line_number labels address line ≡ Some e)) }
 {
     let Some(line) = line else {
         return Ok(address);
@@ -141,9 +144,11 @@ pub(crate) fn second_pass<'a>(
 ) -> Result<Vec<u8>, AsmError>
     requires clear { first_pass part 1 [] (placed_from part origin (parsed text.now)) ≡ None }
     requires within { origin ≤ 65535 }
-    ensures { MatchResult result
-        (λ bytes. IsProgram part (labels_in labels.now) origin (placed_from part origin (parsed text.now)) bytes.items)
-        (λ e. (e ≡ NoMemory) ⊎ (second_pass part 1 (labels_in labels.now) (placed_from part origin (parsed text.now)) ≡ Some e)) }
+    ensures { let labels = labels_in labels.now in
+        let placed = placed_from part origin (parsed text.now) in
+        MatchResult result
+        (λ bytes. IsProgram part labels origin placed bytes.items)
+        (λ e. (e ≡ NoMemory) ⊎ (second_pass part 1 labels placed ≡ Some e)) }
 {
     let mut bytes = Vec::new(alloc);
     let mut address = origin;

@@ -237,7 +237,8 @@ fn label_at<'a>(name: &'a [u8], code: &'a [u8]) -> Option<(Base<'a>, &'a [u8])>
 
 // A word as a number, or else as a label with what stands behind it.
 fn word_at<'a>(run: &'a [u8], code: &'a [u8]) -> Option<(Base<'a>, &'a [u8])>
-    ensures value { option_map seen_base_and_rest result ≡ word_at run.now (tokens_of code.now) (decimal_number run.now) }
+    ensures value { option_map seen_base_and_rest result
+        ≡ word_at run.now (tokens_of code.now) (decimal_number run.now) }
     ensures shorter { IfSome result (λ r. length r.1.now ≤ length code.now) }
 {
     if let Some(number) = decimal_number(run) {
@@ -266,7 +267,8 @@ fn base_at<'a>(code: &'a [u8]) -> Option<(Base<'a>, &'a [u8])>
 
 // A value whose portion has been read.
 fn portion_at<'a>(portion: Portion, code: &'a [u8]) -> Option<(Value<'a>, &'a [u8])>
-    ensures value { option_map seen_value_and_rest result ≡ portion_of (seen_portion portion) (base_at (tokens_of code.now)) }
+    ensures value { option_map seen_value_and_rest result
+        ≡ portion_of (seen_portion portion) (base_at (tokens_of code.now)) }
     ensures shorter { IfSome result (λ r. length r.1.now < length code.now) }
 {
     let (base, rest) = base_at(code)?;
@@ -499,7 +501,9 @@ fn word_statement<'a>(run: &[u8], code: &'a [u8]) -> Option<Statement<'a>>
 
 // What stands behind a label, or without one.
 fn rest_of<'a>(label: Option<&'a [u8]>, code: &'a [u8]) -> Option<Line<'a>>
-    ensures { option_map seen_line result ≡ option_map (λ s. record { label = option_map (λ name. name.now) label.entry; statement = s }) (rest_of (tokens_of code.now)) }
+    ensures { let name = option_map (λ name. name.now) label.entry in
+        option_map seen_line result
+        ≡ option_map (λ s. record { label = name; statement = s }) (rest_of (tokens_of code.now)) }
 {
     match next_token(code) {
         None => Some(Line {
