@@ -1,2 +1,3 @@
+pub mod Assembling
 pub mod ImageLemmas
 pub mod WordLemmas

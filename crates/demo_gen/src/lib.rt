@@ -1,12 +1,12 @@
 //! The demonstration pair: two programs that send 4,096 bytes through the Tube.
 #![tactic(auto)]
 
-ghost use Rattle.std.specs.Prelude.{◌≡◌, ◌%◌, Ok, IfOk, take, drop};
+ghost use Rattle.std.specs.Prelude.{◌≡◌, ◌%◌, Ok, IsOk, IfOk, take, drop};
 ghost use Rattle.asm65.specs.Source.{source};
 ghost use Rattle.rand_pcg.specs.Pcg.{pcg32};
 ghost use Rattle.demo_gen.specs.Demo.{host_text, tube_text, drawn, holding, image_of, image_holding};
 
-use asm65::{Image, assemble};
+use asm65::{AsmError, Image, assemble};
 use beeb_bits::NoMemory;
 use op_table::Part;
 use rand_core::utils::NextWord;
@@ -66,9 +66,13 @@ org &FFFA
 word start, start, start
 ";
 
-/// The pair of a seed: the images of both programs, with 256 bytes at F900 to F9FF of the second processor's. They are the low bytes of the
-/// first 256 words of the PCG generator (XSH RR 64/32) of the seed and stream 0.
+/// The pair of a seed: the images of both programs, with 256 bytes at F900 to F9FF of the second processor's. They are the
+/// low bytes of the first 256 words of the PCG generator (XSH RR 64/32) of the seed and stream 0. Both programs assemble.
+///
+/// # Errors
+/// Want of memory.
 pub fn pair(alloc: Global, seed: u64) -> Result<Demo, NoMemory>
+    ensures assembles { IsOk (source Part.Nmos host_text) × IsOk (source Part.Cmos tube_text) }
     ensures os { IfOk result (λ demo. image_of (source Part.Nmos host_text) ≡ Ok demo.os.items) }
     ensures tube { IfOk result (λ demo. image_holding (drawn seed) (source Part.Cmos tube_text) ≡ Ok demo.tube.items) }
 {
@@ -77,24 +81,31 @@ pub fn pair(alloc: Global, seed: u64) -> Result<Demo, NoMemory>
     Ok(Demo { os, tube })
 }
 
+// The image of a text that assembles.
+fn assembled(alloc: Global, part: Part, text: &[u8]) -> Result<Image, NoMemory>
+    requires { IsOk (source part text.now) }
+    ensures { IfOk result (λ image. source part text.now ≡ Ok (image.origin, image.bytes.items)) }
+{
+    match assemble(alloc, part, text) {
+        Ok(image) => Ok(image),
+        Err(AsmError::NoMemory) => Err(NoMemory),
+        Err(_) => unreachable!(),
+    }
+}
+
 #[tactic(auto, unfolding(crate::specs::Demo::host_text))]
 fn host_image(alloc: Global) -> Result<Vec<u8>, NoMemory>
     ensures { IfOk result (λ image. image_of (source Part.Nmos host_text) ≡ Ok image.items) }
 {
-    match assemble(alloc, Part::Nmos, HOST.as_bytes()) {
-        Ok(image) => Ok(image.bytes),
-        Err(_) => Err(NoMemory),
-    }
+    let program = assembled(alloc, Part::Nmos, HOST.as_bytes())?;
+    Ok(program.bytes)
 }
 
 #[tactic(auto, unfolding(crate::specs::Demo::tube_text))]
 fn tube_program(alloc: Global) -> Result<Image, NoMemory>
     ensures { IfOk result (λ image. source Part.Cmos tube_text ≡ Ok (image.origin, image.bytes.items)) }
 {
-    match assemble(alloc, Part::Cmos, TUBE.as_bytes()) {
-        Ok(image) => Ok(image),
-        Err(_) => Err(NoMemory),
-    }
+    assembled(alloc, Part::Cmos, TUBE.as_bytes())
 }
 
 fn tube_image(alloc: Global, seed: u64) -> Result<Vec<u8>, NoMemory>
