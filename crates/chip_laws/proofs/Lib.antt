@@ -8,3 +8,6 @@ pub mod Search
 pub mod Losing
 pub mod Writing
 pub mod WholeReading
+pub mod CrtcRuns
+pub mod ViaRuns
+pub mod Colouring

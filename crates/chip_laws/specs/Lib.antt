@@ -7,3 +7,6 @@ pub mod SectorReads
 pub mod Searches
 pub mod SectorWrites
 pub mod WholeReads
+pub mod Colours
+pub mod CrtcBits
+pub mod ViaBytes
