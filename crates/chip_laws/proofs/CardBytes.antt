@@ -1,8 +1,7 @@
 -- The bytes of the RAM card, access by access.
-use Rattle.std.proofs.Common.{◌≡◌, ◌∙◌, sym, ap, refl, ℕ, ◌<◌, ◌≤◌, ◌==◌, ◌&&◌, Bool, true, false, List, [], ◌∷◌, length, replicate, get_or, get_or-set_same, get_or-set_other, length-set, arith, inl, inr}
+use Rattle.std.proofs.Common.{◌≡◌, ◌∙◌, sym, ap, refl, ℕ, ◌<◌, ◌≤◌, ◌==◌, ◌&&◌, Bool, true, false, List, [], ◌∷◌, length, get_or, get_or-set_same, get_or-set_other, length-set, arith, inl, inr}
 use Rattle.std.specs.Prelude.{slice_set, if◌then◌else◌}
 use Rattle.std.proofs.lemmas.Bool.{cases_eq, cases_lt, eq-eqb, ne_eqb, le-leb, lt-leb, and_right}
-use Rattle.std.proofs.lemmas.List.{get_or-replicate, get_or_past, length-replicate}
 use Rattle.beeb_bits.specs.Zeros.{zeros-long, zeros-at}
 use Rattle.bus_plug.specs.Plug.{Plug, plug_answer}
 use Rattle.bus_plug.specs.RamCard.{is_page_register, is_in_page, card_place, card_rules, clear, new_card}

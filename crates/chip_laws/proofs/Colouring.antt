@@ -1,7 +1,7 @@
 -- The colours of both frames, clock by clock.
-use Rattle.std.proofs.Common.{◌≡◌, ℕ, zero, suc, ◌+◌, ◌-◌, ◌*◌, ◌/◌, ◌%◌, ◌<◌, ◌&&◌, Bool, true, false, List, [], ◌∷◌, map, arith}
-use Rattle.std.specs.Prelude.{⊤, bit_xor, slice_index, slice_index_or, slice_set, nat_lt, if◌then◌else◌}
-use Rattle.std.specs.List.{All, range_with_len}
+use Rattle.std.proofs.Common.{ℕ, ◌+◌, ◌-◌, ◌*◌, ◌/◌, ◌%◌, ◌<◌, ◌&&◌, Bool, true, false, List, [], ◌∷◌, map, arith}
+use Rattle.std.specs.Prelude.{⊤, slice_index, slice_index_or, slice_set, nat_lt, if◌then◌else◌}
+use Rattle.std.specs.List.{range_with_len}
 use Rattle.std.proofs.lemmas.List.Elements.{All-head, All-tail, All-set, All-replicate, All-map, All-take}
 use Rattle.std.proofs.lemmas.Nat.{xor_lt}
 use Rattle.beeb_bits.specs.Bits.{bit}
@@ -9,17 +9,18 @@ use Rattle.beeb_bits.specs.Zeros.{zeros}
 use Rattle.crtc6845.specs.declared.Beam.{Beam}
 use Rattle.crtc6845.specs.Clock.{beam_of, clocked}
 use Rattle.video_ula.specs.State as ula
-use Rattle.video_ula.specs.Pixels.{dots_of, pixel_width, shifted, entry_of, colour_of, under_cursor, dot_colour, colours}
+use Rattle.video_ula.specs.Pixels.{dots_of, pixel_width, shifted, entry_of, colour_of, under_cursor, dot_colour}
 use Rattle.saa5050.specs.declared.style.Style.{Style}
 use Rattle.saa5050.specs.Shapes.{Font}
 use Rattle.saa5050.specs.Controls.{Control, controls, has, obeyed, holds_at_once}
-use Rattle.saa5050.specs.Row.{Row, row_start, is_sixel, sixel_of, style_at, style_after, cell_dot, pixel, row_after}
+use Rattle.saa5050.specs.Row.{Row, row_start, is_sixel, style_at, style_after, cell_dot, pixel}
 use Rattle.raster.specs.Frame.{black, is_in_frame, dot_set, dots_set}
 use Rattle.raster.specs.Beam.{byte_address, is_marked}
-use Rattle.raster.specs.Text.{Text, first_row, next_row, text_at, codes_after, cell_of, text_after, text_past}
+use Rattle.raster.specs.Text.{Text, first_row, next_row, text_at, codes_after, cell_of, text_past}
 use Rattle.raster.specs.State.{State, power_on}
-use Rattle.raster.specs.Clock.{begun, byte_dots, cell_dots, byte_drawn, cell_drawn, drawn, shown, passed, told, char_clocked, microsecond}
-use Rattle.chip_laws.specs.Colours.{Move, clock, step, new_crtc, new_ula, after_move, after_moves, AreColours, DotsAreColours}
+use Rattle.raster.specs.Clock.{begun, byte_dots, cell_dots, byte_drawn, cell_drawn, drawn, shown, told, char_clocked}
+use Rattle.chip_laws.specs.PictureRuns.{Move, clock, step, new_crtc, new_ula, after_move, after_moves}
+use Rattle.chip_laws.specs.Colours.{AreColours, DotsAreColours}
 
 -- a colour from 0 to 7
 abbrev IsColour : ℕ → Type 0
@@ -74,21 +75,46 @@ AllKeep (c ∷ cs) = Keeps c × AllKeep cs
 
 -- the effects of the table, line by line
 controls_keep : AllKeep controls
-controls_keep =
-    (λ code s i. record { foreground = omega arith; background = i.background },
-    (λ code s i. record { foreground = omega arith; background = i.background },
-    (λ code s i. record { foreground = i.foreground; background = i.background },
-    (λ code s i. record { foreground = i.foreground; background = i.background },
-    (λ code s i. record { foreground = i.foreground; background = i.background },
-    (λ code s i. record { foreground = i.foreground; background = i.background },
-    (λ code s i. record { foreground = i.foreground; background = i.background },
-    (λ code s i. record { foreground = i.foreground; background = i.background },
-    (λ code s i. record { foreground = i.foreground; background = i.background },
-    (λ code s i. record { foreground = i.foreground; background = omega arith },
-    (λ code s i. record { foreground = i.foreground; background = i.foreground },
-    (λ code s i. record { foreground = i.foreground; background = i.background },
-    (λ code s i. record { foreground = i.foreground; background = i.background },
-    tt)))))))))))))
+controls_keep = (
+  λ code s i. record { foreground = omega arith; background = i.background },
+  (
+    λ code s i. record { foreground = omega arith; background = i.background },
+    (
+      λ code s i. record { foreground = i.foreground; background = i.background },
+      (
+        λ code s i. record { foreground = i.foreground; background = i.background },
+        (
+          λ code s i. record { foreground = i.foreground; background = i.background },
+          (
+            λ code s i. record { foreground = i.foreground; background = i.background },
+            (
+              λ code s i. record { foreground = i.foreground; background = i.background },
+              (
+                λ code s i. record { foreground = i.foreground; background = i.background },
+                (
+                  λ code s i. record { foreground = i.foreground; background = i.background },
+                  (
+                    λ code s i. record { foreground = i.foreground; background = omega arith },
+                    (
+                      λ code s i. record { foreground = i.foreground; background = i.foreground },
+                      (
+                        λ code s i. record { foreground = i.foreground; background = i.background },
+                        (
+                          λ code s i. record { foreground = i.foreground; background = i.background },
+                          tt,
+                        ),
+                      ),
+                    ),
+                  ),
+                ),
+              ),
+            ),
+          ),
+        ),
+      ),
+    ),
+  ),
+)
 
 obeyed_inks : (cs : List Control) → AllKeep cs → (code : ℕ) (s : Style) → Inks s → Inks (obeyed cs code s)
 obeyed_inks [] keep code s i = i
@@ -186,9 +212,9 @@ told_coloured ram size font beam s h =
     let byte = slice_index ram (byte_address beam.ma beam.ra size) in
     let begins : IsColoured x = begun_coloured beam s h in
     let shows : IsColoured (shown ram size font beam x) =
-        coloured_if beam.shown (drawn ram size font beam x) x
-        (coloured_if (bit x.ula.control 1) (cell_drawn font beam (byte % 128) x) (byte_drawn beam byte x)
-        (cell_coloured font beam (byte % 128) x begins) (byte_coloured beam byte x begins)) begins in
+    coloured_if beam.shown (drawn ram size font beam x) x
+    (coloured_if (bit x.ula.control 1) (cell_drawn font beam (byte % 128) x) (byte_drawn beam byte x)
+    (cell_coloured font beam (byte % 128) x begins) (byte_coloured beam byte x begins)) begins in
     record { text = text_past_inks beam (shown ram size font beam x).text shows.text; working = shows.working; finished = shows.finished }
 
 clock_coloured : (ram : List ℕ) (size : ℕ) (font : Font) (s : State) → IsColoured s → IsColoured (char_clocked ram size font s)
@@ -213,6 +239,6 @@ all_moved (m ∷ moves) s h = all_moved moves (after_move m s) (moved m s h)
 pub dots_are_colours : DotsAreColours
 dots_are_colours moves =
     let first : IsColoured power_on =
-        record { text = record { foreground = omega arith; background = omega arith }; working = black_colours; finished = black_colours } in
+    record { text = record { foreground = omega arith; background = omega arith }; working = black_colours; finished = black_colours } in
     let h : IsColoured (after_moves moves power_on) = all_moved moves power_on first in
     (h.working, h.finished)

@@ -1,10 +1,10 @@
 -- The latches of the 6522, move by move.
-use Rattle.std.proofs.Common.{◌≡◌, ◌∙◌, sym, ℕ, ◌<◌, Bool, List, [], ◌∷◌, subst, arith}
+use Rattle.std.proofs.Common.{◌≡◌, sym, ℕ, ◌<◌, Bool, List, [], ◌∷◌, subst, arith}
 use Rattle.via6522.specs.State.{State, Timer1, Timer2, power_on}
 use Rattle.via6522.specs.Timers.{timer1_after, timer2_after}
 use Rattle.via6522.specs.Registers.{read_leaves, write_leaves}
 use Rattle.beeb_bits.specs.Bits.{bit}
-use Rattle.chip_laws.specs.ViaBytes.{Move, steps, read, write, after_move, after_moves, WritesByte, WriteBytes, HasByteLatches, LatchesAreBytes}
+use Rattle.chip_laws.specs.ViaBytes.{Move, microsecond, read, write, after_move, after_moves, WritesByte, WriteBytes, HasByteLatches, LatchesAreBytes}
 
 timer1_keeps : (free : Bool) (t : Timer1) → (timer1_after free t).latch_low ≡ t.latch_low
 timer1_keeps free t = grind arith
@@ -25,7 +25,7 @@ written2 : (reg v : ℕ) (c : State) → v < 256 → c.timer2.latch_low < 256 �
 written2 reg v c byte is = grind arith
 
 moved : (m : Move) (c : State) → WritesByte m → HasByteLatches c → HasByteLatches (after_move m c)
-moved (steps pins) c byte h = record {
+moved (microsecond pins) c byte h = record {
   timer1 = subst (λ (n : ℕ). n < 256) (sym (timer1_keeps (bit c.acr 6) c.timer1)) h.timer1;
   timer2 = subst (λ (n : ℕ). n < 256) (sym (timer2_keeps (bit c.acr 5) c.timer2)) h.timer2;
 }
@@ -40,4 +40,7 @@ all_moved [] c bytes h = h
 all_moved (m ∷ moves) c bytes h = all_moved moves (after_move m c) bytes.1 (moved m c bytes.0 h)
 
 pub latches_are_bytes : LatchesAreBytes
-latches_are_bytes moves bytes = all_moved moves power_on bytes (record { timer1 = omega arith; timer2 = omega arith })
+latches_are_bytes = record {
+  keeps = moved;
+  reached = λ moves bytes. all_moved moves power_on bytes (record { timer1 = omega arith; timer2 = omega arith });
+}

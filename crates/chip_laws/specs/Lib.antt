@@ -7,6 +7,7 @@ pub mod SectorReads
 pub mod Searches
 pub mod SectorWrites
 pub mod WholeReads
+pub mod PictureRuns
 pub mod Colours
 pub mod CrtcBits
 pub mod ViaBytes

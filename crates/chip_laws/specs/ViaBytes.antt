@@ -7,12 +7,12 @@ use Rattle.via6522.specs.Step.{step}
 
 -- What befalls a 6522: a microsecond with these pins, or a register is read or written.
 pub data Move : Type 0 where
-  steps : (pins : Pins) → Move
+  microsecond : (pins : Pins) → Move
   read : (reg : ℕ) → Move
   write : (reg v : ℕ) → Move
 
 abbrev pub after_move : Move → State → State
-after_move (steps pins) c = step pins c
+after_move (microsecond pins) c = step pins c
 after_move (read reg) c = read_leaves reg c
 after_move (write reg v) c = write_leaves reg v c
 
@@ -23,7 +23,7 @@ after_moves (m ∷ moves) c = after_moves moves (after_move m c)
 
 -- what is written is a byte
 abbrev pub WritesByte : Move → Type 0
-WritesByte (steps pins) = ⊤
+WritesByte (microsecond pins) = ⊤
 WritesByte (read reg) = ⊤
 WritesByte (write reg v) = v < 256
 
@@ -36,6 +36,7 @@ pub record HasByteLatches (c : State) : Type 0 where
   pub timer1 : c.timer1.latch_low < 256
   pub timer2 : c.timer2.latch_low < 256
 
--- From power-on on they are, of which the laws of the timers speak.
-abbrev pub LatchesAreBytes : Type 0
-LatchesAreBytes = (moves : List Move) → WriteBytes moves → HasByteLatches (after_moves moves power_on)
+-- From power-on on they are, of which the laws of the timers speak; and they stay so from any chip on.
+pub record LatchesAreBytes : Type 0 where
+  pub keeps : (m : Move) (c : State) → WritesByte m → HasByteLatches c → HasByteLatches (after_move m c)
+  pub reached : (moves : List Move) → WriteBytes moves → HasByteLatches (after_moves moves power_on)

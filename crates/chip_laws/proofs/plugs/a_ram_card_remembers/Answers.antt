@@ -1,4 +1,3 @@
-use Rattle.std.proofs.Common.{refl}
 use Rattle.chip_laws.proofs.CardBytes.{card_remembers}
 use Rattle.chip_laws.proofs.plugs.a_ram_card_remembers.Goals as goal
 
