@@ -1,4 +1,5 @@
--- The colours of both frames over whole runs of the picture. (BBC Microcomputer Advanced User Guide, The Video ULA: three bits a colour.)
+-- The colours of both frames over whole runs of the picture: three bits each. (BBC Microcomputer Advanced User Guide, The
+-- Video ULA.)
 use Rattle.std.specs.Prelude.{ℕ, ◌<◌, List}
 use Rattle.std.specs.List.{All}
 use Rattle.raster.specs.State.{power_on}
@@ -11,4 +12,5 @@ AreColours frame = All (λ colour. colour < 8) frame
 -- From power-on on, each dot of the frame that is drawn and of the last one that was finished is a colour from 0 to 7.
 abbrev pub DotsAreColours : Type 0
 DotsAreColours =
-    (moves : List Move) → AreColours (after_moves moves power_on).working × AreColours (after_moves moves power_on).finished
+    (moves : List Move) →
+    AreColours (after_moves moves power_on).working × AreColours (after_moves moves power_on).finished

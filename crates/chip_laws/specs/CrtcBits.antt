@@ -33,9 +33,11 @@ abbrev pub WriteBytes : List Move → Type 0
 WriteBytes [] = ⊤
 WriteBytes (m ∷ moves) = WritesByte m × WriteBytes moves
 
--- From power-on on, the registers have their bits, of which the laws over whole frames speak; and they keep them from any chip on.
+-- From power-on on, the registers have their bits, of which the laws over whole frames speak; and they keep them from any
+-- chip on.
 pub record RegistersHaveTheirBits : Type 0 where
-  pub keeps : (m : Move) (c : State) → WritesByte m → HaveTheirBits c.registers → HaveTheirBits (after_move m c).registers
+  pub keeps : (m : Move) (c : State) → WritesByte m → HaveTheirBits c.registers →
+      HaveTheirBits (after_move m c).registers
   pub reached : (moves : List Move) → WriteBytes moves → HaveTheirBits (after_moves moves power_on).registers
 
 -- the 6845 that a move puts into a raster has its bits
@@ -52,4 +54,5 @@ PutBits (m ∷ moves) = PutsBits m × PutBits moves
 -- Then from power-on on the 6845 of a raster has its bits.
 abbrev pub RastersHaveTheirBits : Type 0
 RastersHaveTheirBits =
-    (moves : List picture.Move) → PutBits moves → HaveTheirBits (picture.after_moves moves raster.power_on).crtc.registers
+    (moves : List picture.Move) → PutBits moves →
+    HaveTheirBits (picture.after_moves moves raster.power_on).crtc.registers

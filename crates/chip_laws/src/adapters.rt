@@ -10,7 +10,8 @@ pub fn active_edges_set_flags()
     ensures cb2 { Cb2Sees }
 {}
 
-/// Whatever bytes are written to a 6522 from power-on on, the low latches of its timers are bytes: what the laws of the timers ask.
+/// Whatever bytes are written to a 6522 from power-on on, the low latches of its timers are bytes: what the laws of the
+/// timers ask.
 pub fn latches_are_bytes()
     ensures { LatchesAreBytes }
 {}
