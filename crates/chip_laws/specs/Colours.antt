@@ -1,5 +1,5 @@
--- The colours of both frames over whole runs of the picture: three bits each. (BBC Microcomputer Advanced User Guide, The
--- Video ULA.)
+-- The colours of both frames over whole runs of the picture: three bits each. (BBC Microcomputer Advanced User Guide,
+-- The Video ULA.)
 use Rattle.std.specs.Prelude.{ℕ, ◌<◌, List}
 use Rattle.std.specs.List.{All}
 use Rattle.raster.specs.State.{power_on}

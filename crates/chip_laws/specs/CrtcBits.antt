@@ -33,8 +33,8 @@ abbrev pub WriteBytes : List Move → Type 0
 WriteBytes [] = ⊤
 WriteBytes (m ∷ moves) = WritesByte m × WriteBytes moves
 
--- From power-on on, the registers have their bits, of which the laws over whole frames speak; and they keep them from any
--- chip on.
+-- From power-on on, the registers have their bits, of which the laws over whole frames speak; and they keep them from
+-- any chip on.
 pub record RegistersHaveTheirBits : Type 0 where
   pub keeps : (m : Move) (c : State) → WritesByte m → HaveTheirBits c.registers →
       HaveTheirBits (after_move m c).registers
