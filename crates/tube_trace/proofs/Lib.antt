@@ -6,3 +6,4 @@ pub mod WrittenLemmas
 pub mod MergeLemmas
 pub mod LineLaws
 pub mod TextLaws
+pub mod ClockLaws

@@ -45,10 +45,10 @@ reading-rises line last (Some e ∷ lines) entries h =
     taken_apart last e line (follows last e) (reading (line + 1) (Some e) lines) entries refl
     (λ more is. reading-rises (line + 1) (Some e) lines more is) h
 
--- what a text means as a trace rises
-pub trace-rises : (text : List ℕ) (entries : List Entry) → reading 1 None (map entry_of (lines_of text)) ≡ Ok entries → Rises (events_of entries)
+-- what lines mean rises
+pub lines-rise : (text : List ℕ) (entries : List Entry) → reading 1 None (map entry_of (lines_of text)) ≡ Ok entries → Rises (events_of entries)
 unfolding RisesBehind
-trace-rises text entries h = reading-rises 1 None (map entry_of (lines_of text)) entries h
+lines-rise text entries h = reading-rises 1 None (map entry_of (lines_of text)) entries h
 
 -- ---- and rising entries are read
 

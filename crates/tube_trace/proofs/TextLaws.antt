@@ -1,5 +1,5 @@
--- The text of rising entries is read as those entries, and no other text is.
-use Rattle.std.proofs.Common.{◌≡◌, ◌∙◌, sym, refl, ap, ℕ, ◌+◌, ◌<◌, ◌≤◌, length, get_or, take, drop, List, [], ◌∷◌, ◌++◌, map, true, false, ◌==◌, All, Option, Some, None, append-nil, arith}
+-- The lines of rising entries are read as those entries, and no other lines are.
+use Rattle.std.proofs.Common.{◌≡◌, ◌∙◌, sym, refl, ap, ℕ, ◌+◌, ◌<◌, ◌≤◌, length, get_or, take, drop, List, [], ◌∷◌, ◌++◌, map, true, false, ◌==◌, All, Option, Some, None, append-nil, append_assoc, Ok, arith}
 use Rattle.std.specs.List.{flat_map}
 use Rattle.std.proofs.lemmas.List.{take_more, take_all, take-append-le, drop-append-le}
 use Rattle.std.proofs.lemmas.List.Elements.{All-nil, All-cons, All-head, All-tail}
@@ -7,12 +7,14 @@ use Rattle.std.proofs.lemmas.List.Concat.{flat_map-append}
 use Rattle.std.proofs.Math.ListN.{drop_of_length-le}
 use Rattle.tube_trace.specs.declared.Entry.{Entry}
 use Rattle.tube_trace.specs.Line.{entry_of}
-use Rattle.tube_trace.specs.Trace.{begin_with, lines_of, trace}
-use Rattle.tube_trace.specs.Text.{line_text, text_of, HasLine}
-use Rattle.tube_trace.specs.Laws.{IsOfByte, LineReadsBack, OnlyLineReads, TextReadsBack, OnlyTextReads}
+use Rattle.tube_chip.specs.Events.{Rises}
+use Rattle.tube_trace.specs.Entries.{events_of}
+use Rattle.tube_trace.specs.Trace.{begin_with, lines_of, lines_read}
+use Rattle.tube_trace.specs.Text.{line_text, lines_text, HasLine}
+use Rattle.tube_trace.specs.Laws.{IsOfByte, LineReadsBack, OnlyLineReads}
 use Rattle.tube_trace.proofs.LineLemmas.{has_entry}
 use Rattle.tube_trace.proofs.TextLemmas.{line_reads}
-use Rattle.tube_trace.proofs.RiseLemmas.{trace-rises, rising_read, each_read}
+use Rattle.tube_trace.proofs.RiseLemmas.{lines-rise, rising_read, each_read}
 
 -- a line in front of a text, taken off again
 take_line : (line rest : List ℕ) → length line ≡ 20 → take 20 (line ++ rest) ≡ line
@@ -24,28 +26,32 @@ drop_line line rest long =
     let past : length line ≤ 20 = omega arith in
     drop-append-le 20 line rest le ∙ rw (drop_of_length-le line past) refl
 
-lines_read : LineReadsBack → (entries : List Entry) → All HasLine entries → All IsOfByte entries → map entry_of (lines_of (text_of entries)) ≡ map Some entries
-lines_read line_read [] lines bytes = refl
-lines_read line_read (e ∷ entries) lines bytes =
-    let rest : List ℕ = text_of entries in
+entries_back : LineReadsBack → (entries : List Entry) → All HasLine entries → All IsOfByte entries → map entry_of (lines_of (lines_text entries)) ≡ map Some entries
+entries_back line_read [] lines bytes = refl
+entries_back line_read (e ∷ entries) lines bytes =
+    let rest : List ℕ = lines_text entries in
     let is : entry_of (line_text e) ≡ Some e = line_read e (All-head HasLine e entries lines) (All-head IsOfByte e entries bytes) in
     let long : length (line_text e) ≡ 20 = (has_entry (line_text e) e is).long in
     let front : take 20 (line_text e ++ rest) ≡ line_text e = take_line (line_text e) rest long in
     let back : drop 20 (line_text e ++ rest) ≡ rest = drop_line (line_text e) rest long in
     line_reads (line_text e ++ rest) e (ap entry_of front ∙ is)
     ∙ ap (λ (t : List ℕ). Some e ∷ map entry_of (lines_of t)) back
-    ∙ ap (λ (ls : List (Option Entry)). Some e ∷ ls) (lines_read line_read entries (All-tail HasLine e entries lines) (All-tail IsOfByte e entries bytes))
+    ∙ ap (λ (ls : List (Option Entry)). Some e ∷ ls) (entries_back line_read entries (All-tail HasLine e entries lines) (All-tail IsOfByte e entries bytes))
 
-pub text_read : LineReadsBack → TextReadsBack
-unfolding trace
-text_read line_read entries rises lines bytes = rw (lines_read line_read entries lines bytes) (rising_read entries rises)
+pub lines_back : LineReadsBack → (entries : List Entry) → Rises (events_of entries) → All HasLine entries → All IsOfByte entries →
+    lines_read (lines_text entries) ≡ Ok entries
+unfolding lines_read
+lines_back line_read entries rises lines bytes = rw (entries_back line_read entries lines bytes) (rising_read entries rises)
 
--- one line more is written
-pub text-more : (entries : List Entry) (i : ℕ) (d : Entry) (old new : List ℕ) → i < length entries → old ≡ text_of (take i entries) →
-    new ≡ old ++ line_text (get_or entries i d) → new ≡ text_of (take (i + 1) entries)
-text-more entries i d old new h so_far is =
+-- one line more is written behind the beginning
+pub text-more : (front : List ℕ) (entries : List Entry) (i : ℕ) (d : Entry) (old new : List ℕ) → i < length entries →
+    old ≡ front ++ lines_text (take i entries) → new ≡ old ++ line_text (get_or entries i d) → new ≡ front ++ lines_text (take (i + 1) entries)
+text-more front entries i d old new h so_far is =
+    let line : List ℕ = line_text (get_or entries i d) in
     let more : take (i + 1) entries ≡ take i entries ++ get_or entries i d ∷ [] = take_more entries i d h in
-    is ∙ rw (so_far, more, flat_map-append line_text (take i entries) (get_or entries i d ∷ [])) (ap (λ (t : List ℕ). text_of (take i entries) ++ t) (sym (append-nil (line_text (get_or entries i d)))))
+    let lines : lines_text (take (i + 1) entries) ≡ lines_text (take i entries) ++ line =
+    rw (more, flat_map-append line_text (take i entries) (get_or entries i d ∷ [])) (ap (λ (t : List ℕ). lines_text (take i entries) ++ t) (append-nil line)) in
+    is ∙ ap (λ (t : List ℕ). t ++ line) so_far ∙ append_assoc front (lines_text (take i entries)) line ∙ ap (λ (t : List ℕ). front ++ t) (sym lines)
 
 -- ---- the lines of a text are the text
 
@@ -68,7 +74,7 @@ lines_joined (b ∷ text) =
 
 -- lines that have these entries are the lines of these entries
 record AreLines (lines : List (List ℕ)) (entries : List Entry) : Type 0 where
-  text : joined lines ≡ text_of entries
+  text : joined lines ≡ lines_text entries
   each : All HasLine entries
   bytes : All IsOfByte entries
 
@@ -88,8 +94,9 @@ lines_only only (line ∷ lines) (e ∷ entries) h =
       bytes = All-cons IsOfByte e entries one.2 rest.bytes;
     }
 
-pub text_only : OnlyLineReads → OnlyTextReads
-unfolding trace
-text_only only text entries h =
+pub only_lines : OnlyLineReads → (text : List ℕ) (entries : List Entry) → lines_read text ≡ Ok entries →
+    (text ≡ lines_text entries) × Rises (events_of entries) × All HasLine entries × All IsOfByte entries
+unfolding lines_read
+only_lines only text entries h =
     let parts : AreLines (lines_of text) entries = lines_only only (lines_of text) entries (each_read 1 None _ entries h) in
-    (sym (lines_joined text) ∙ parts.text, trace-rises text entries h, parts.each, parts.bytes)
+    (sym (lines_joined text) ∙ parts.text, lines-rise text entries h, parts.each, parts.bytes)

@@ -1,5 +1,6 @@
 -- What is written reads back, and nothing else reads so.
 use Rattle.std.specs.Prelude.{ℕ, ◌≡◌, ◌<◌, List, All, Some, Ok}
+use Rattle.beeb_bits.specs.declared.clock.Clock.{Clock}
 use Rattle.tube_chip.specs.Events.{Rises}
 use Rattle.tube_trace.specs.declared.Entry.{Entry}
 use Rattle.tube_trace.specs.Entries.{events_of}
@@ -19,12 +20,14 @@ LineReadsBack = (e : Entry) → HasLine e → IsOfByte e → entry_of (line_text
 abbrev pub OnlyLineReads : Type 0
 OnlyLineReads = (line : List ℕ) (e : Entry) → entry_of line ≡ Some e → (line ≡ line_text e) × HasLine e × IsOfByte e
 
--- the text of rising entries is read as those entries
+-- the text of a clock and rising entries is read as that clock and those entries
 abbrev pub TextReadsBack : Type 0
-TextReadsBack = (entries : List Entry) → Rises (events_of entries) → All HasLine entries → All IsOfByte entries → trace (text_of entries) ≡ Ok entries
+TextReadsBack =
+    (clock : Clock) (entries : List Entry) → Rises (events_of entries) → All HasLine entries → All IsOfByte entries →
+    trace (text_of clock entries) ≡ Ok (clock, entries)
 
 -- and no other text is; what is read rises and has lines
 abbrev pub OnlyTextReads : Type 0
 OnlyTextReads =
-    (text : List ℕ) (entries : List Entry) → trace text ≡ Ok entries →
-    (text ≡ text_of entries) × Rises (events_of entries) × All HasLine entries × All IsOfByte entries
+    (text : List ℕ) (clock : Clock) (entries : List Entry) → trace text ≡ Ok (clock, entries) →
+    (text ≡ text_of clock entries) × Rises (events_of entries) × All HasLine entries × All IsOfByte entries

@@ -1,13 +1,15 @@
--- What is written: the text of an access, the line of an entry and the lines of many.
+-- What is written: the text of an access, the line of an entry, the lines of many, and a trace.
 use Rattle.std.specs.Prelude.{ℕ, ◌+◌, ◌%◌, ◌^◌, ◌≡◌, ◌<◌, List, ◌∷◌, ◌++◌, codes}
 use Rattle.std.specs.List.{flat_map}
 use Rattle.digits.specs.Hexadecimal.{hex_digits}
+use Rattle.beeb_bits.specs.declared.clock.Clock.{Clock}
 use Rattle.beeb_bits.specs.declared.Side.{Side}
 use Rattle.beeb_bits.specs.declared.Side.TheVariants.{Host, Para}
 use Rattle.tube_chip.specs.declared.Op.{Op}
 use Rattle.tube_chip.specs.declared.Op.TheVariants.{Read, Write}
 use Rattle.tube_trace.specs.declared.Entry.{Entry}
 use Rattle.tube_trace.specs.Entries.{IsEntry}
+use Rattle.tube_trace.specs.Trace.{beginning}
 
 -- `H` or `P`
 abbrev pub side_letter : Side → ℕ
@@ -42,8 +44,13 @@ line_byte (Write number byte) answer = byte
 abbrev pub line_text : Entry → List ℕ
 line_text e = access_text (e.tick).0 e.side e.op (hex_digits 2 (line_byte e.op e.answer)) ++ codes "\n"
 
-abbrev pub text_of : List Entry → List ℕ
-text_of entries = flat_map line_text entries
+-- a line for each entry
+abbrev pub lines_text : List Entry → List ℕ
+lines_text entries = flat_map line_text entries
+
+-- The text of a trace: the beginning of its clock, and the lines of its entries.
+abbrev pub text_of : Clock → List Entry → List ℕ
+text_of clock entries = beginning clock ++ lines_text entries
 
 -- a write answers 00
 abbrev pub IsAnswer : Op → ℕ → Type 0

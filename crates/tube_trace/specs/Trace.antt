@@ -1,6 +1,9 @@
--- The text of a trace: its entries, or its first offending line.
-use Rattle.std.specs.Prelude.{ℕ, ◌+◌, ◌==◌, Bool, true, List, [], ◌∷◌, ◌++◌, map, Option, Some, None, Result, Ok, Err, if◌then◌else◌}
+-- The text of a trace: the clock of the machines that it tells of, and its entries, or its first offending line.
+use Rattle.std.specs.Prelude.{ℕ, ◌+◌, ◌==◌, nat_eq, Bool, true, List, [], ◌∷◌, ◌++◌, map, drop, length, codes, Option, Some, None, Result, Ok, Err, if◌then◌else◌}
+use Rattle.std.specs.List.{starts_with}
 use Rattle.beeb_bits.specs.Order.{before}
+use Rattle.beeb_bits.specs.declared.clock.Clock.{Clock}
+use Rattle.beeb_bits.specs.declared.clock.Clock.TheVariants.{Three, Four}
 use Rattle.tube_trace.specs.declared.Entry.{Entry}
 use Rattle.tube_trace.specs.declared.TraceError.{TraceError}
 use Rattle.tube_trace.specs.declared.TraceError.TheVariants.{BadLine, BadOrder}
@@ -34,6 +37,28 @@ reading line last (None ∷ lines) = Err (BadLine line)
 reading line last (Some e ∷ lines) =
     if follows last e then in_front (e ∷ []) (reading (line + 1) (Some e) lines) else Err (BadOrder line)
 
--- What a text means as a trace. Lines count from 1.
-unfoldable pub trace : List ℕ → Result (List Entry) TraceError
-trace text = reading 1 None (map entry_of (lines_of text))
+-- What a text of lines means. Lines count from 1.
+unfoldable pub lines_read : List ℕ → Result (List Entry) TraceError
+lines_read text = reading 1 None (map entry_of (lines_of text))
+
+-- what stands in front of the lines: `T2` and a line feed at clock Four
+abbrev pub beginning : Clock → List ℕ
+beginning Three = []
+beginning Four = codes "T2\n"
+
+-- A text that begins with `T2` and a line feed is of clock Four. Every other text is of clock Three.
+abbrev pub clock_of : List ℕ → Clock
+clock_of text = if starts_with nat_eq text (beginning Four) then Four else Three
+
+-- the rest of it, behind its beginning
+abbrev pub rest_of : List ℕ → List ℕ
+rest_of text = drop (length (beginning (clock_of text))) text
+
+-- the entries that were read, with a clock
+abbrev pub at_clock : Clock → Result (List Entry) TraceError → Result (Clock × List Entry) TraceError
+at_clock clock (Ok entries) = Ok (clock, entries)
+at_clock clock (Err e) = Err e
+
+-- What a text means as a trace: its clock, and what the lines of its rest mean.
+unfoldable pub trace : List ℕ → Result (Clock × List Entry) TraceError
+trace text = at_clock (clock_of text) (lines_read (rest_of text))

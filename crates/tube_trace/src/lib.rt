@@ -1,19 +1,20 @@
 //! The text of a list of Tube accesses, and whether the chip would give its answers.
 #![tactic(auto)]
 
+mod beginning;
 mod law;
 mod line;
 mod merging;
-mod trace;
+mod reading;
 mod writing;
 mod wrong;
 
-use beeb_bits::{Side, Tick};
+use beeb_bits::{Clock, Side, Tick};
 pub use law::text_reads_back;
 pub use line::push_access;
 pub use merging::merge;
+pub use reading::read;
 use thiserror::Error;
-pub use trace::read;
 use tube_chip::Op;
 pub use writing::write;
 pub use wrong::first_wrong;
@@ -28,7 +29,14 @@ pub struct Entry {
     pub answer: u8,
 }
 
-/// Why a text is no trace. Lines count from 1.
+/// A trace: the clock of the machines that it tells of, and their accesses to the Tube in order.
+#[derive(Debug, Drop)]
+pub struct Trace {
+    pub clock: Clock,
+    pub entries: Vec<Entry>,
+}
+
+/// Why a text is no trace. Lines count from 1, behind the beginning of its clock.
 #[derive(Clone, Copy, Debug, PartialEq, Eq, Error)]
 pub enum TraceError {
     #[error("line {line} is outside the form of a trace")]

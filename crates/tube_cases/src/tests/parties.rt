@@ -143,7 +143,7 @@ fn replay_of(head: &str) -> Option<(u16, Option<(u64, Option<Doing>)>, u64)> {
 fn the_first_place_that_differs_is_told(rt: HostRuntime) -> Result<(), Fail> {
     for line in REPLAYS.lines() {
         if let Some((head, trace)) = line.split_once('@') {
-            let entries = read(rt.alloc(), &text_of(rt.alloc(), trace)?)?;
+            let entries = read(rt.alloc(), &text_of(rt.alloc(), trace)?)?.entries;
             let (ticks, place, due) = replay_of(head).unwrap_or((0, None, 0));
             let n = Tick(u64::from(ticks));
             let (party, found) = replay(at_power_on(), Side::Para, &entries, n);
@@ -203,7 +203,7 @@ fn a_look_sees_the_entries_before_it(rt: HostRuntime) -> Result<(), Fail> {
         (Side::Host, "0000000005 H W 0 A0\n", Some(1), 0, false),
     ];
     for (side, text, line, resets, hirq) in rows {
-        let entries = read(rt.alloc(), text.as_bytes())?;
+        let entries = read(rt.alloc(), text.as_bytes())?.entries;
         let (party, place) = replay(at_power_on(), side, &entries, Tick(10));
         assert_eq!(rt; place, line.map(|line| (line, None)));
         assert!(rt;
@@ -359,8 +359,14 @@ fn two_parties_share_one_chip(rt: HostRuntime) -> Result<(), Fail> {
         let Ok(done) = solo(rt.alloc(), writer, probe, Tick(ticks as u64), keep) else {
             return Err(Fail::from("no memory"));
         };
-        assert_eq!(rt; done.host_list, read(rt.alloc(), host_text.as_bytes())?);
-        assert_eq!(rt; done.para_list, read(rt.alloc(), para_text.as_bytes())?);
+        assert_eq!(rt;
+            done.host_list,
+            read(rt.alloc(), host_text.as_bytes())?.entries
+        );
+        assert_eq!(rt;
+            done.para_list,
+            read(rt.alloc(), para_text.as_bytes())?.entries
+        );
         assert_eq!(rt; done.host_count, host_count as u64);
         assert_eq!(rt; done.para_count, para_count as u64);
         assert_eq!(rt; done.host.due - done.host.lag, ticks as u64);

@@ -1,5 +1,5 @@
 //! Texts of traces, in form and out of it.
-use beeb_bits::{Side, Tick};
+use beeb_bits::{Clock, Side, Tick};
 use std::alloc::{AllocError, Global};
 use std::test::Fail;
 use tube_chip::Op;
@@ -37,11 +37,39 @@ fn a_line_tells_of_one_access(rt: HostRuntime) -> Result<(), Fail> {
         ),
     ];
     for (text, entry) in rows {
-        let entries = read(rt.alloc(), text)?;
-        assert_eq!(rt; entries.len(), 1);
-        assert_eq!(rt; entries[0], entry);
-        let again = write(rt.alloc(), &entries)?;
+        let trace = read(rt.alloc(), text)?;
+        assert_eq!(rt; trace.clock, Clock::Three);
+        assert_eq!(rt; trace.entries.len(), 1);
+        assert_eq!(rt; trace.entries[0], entry);
+        let again = write(rt.alloc(), Clock::Three, &trace.entries)?;
         assert_eq!(rt; again.as_slice(), text.as_slice());
+    }
+    Ok(())
+}
+
+#[test]
+fn a_trace_of_each_clock_is_read_and_written(rt: HostRuntime) -> Result<(), Fail> {
+    let entry = |tick| {
+        Some(Entry {
+            tick: Tick(tick),
+            side: Side::Para,
+            op: Op::Write(1, 0x48),
+            answer: 0,
+        })
+    };
+    let rows = [
+        (Clock::Three, None, ""),
+        (Clock::Four, None, "T2\n"),
+        (Clock::Three, entry(0x18), "0000000018 P W 1 48\n"),
+        (Clock::Four, entry(0x24), "T2\n0000000024 P W 1 48\n"),
+    ];
+    for (clock, first, text) in rows {
+        let trace = read(rt.alloc(), text.as_bytes())?;
+        assert_eq!(rt; trace.clock, clock);
+        assert_eq!(rt; trace.entries.first().copied(), first);
+        assert_eq!(rt; trace.entries.len(), first.iter().count());
+        let again = write(rt.alloc(), clock, &trace.entries)?;
+        assert_eq!(rt; again.as_slice(), text.as_bytes());
     }
     Ok(())
 }
@@ -81,10 +109,11 @@ fn an_access_that_asks_has_no_byte_to_read(rt: HostRuntime) -> Result<(), Fail> 
     Ok(())
 }
 
-// A line is what a text comes to, its count of entries or the line that is out of form or order, and behind `@` the text, in which `|` ends a line.
+// A line is what a text comes to, its clock and its count of entries or the line that is out of form or order, and behind `@` the text, in which `|`
+// ends a line.
 const TEXTS: &str = "\
-entries 0@
-entries 2@0000000006 H W 3 5A|0000000006 P R 2 FF|
+three 0@
+three 2@0000000006 H W 3 5A|0000000006 P R 2 FF|
 order 2@0000000006 P R 2 FF|0000000006 H W 3 5A|
 order 2@0000000006 H R 2 FF|0000000006 H R 2 FF|
 order 2@0000000007 H R 2 FF|0000000006 P R 2 FF|
@@ -110,23 +139,38 @@ bad 1@0000000000 H R 8 40|
 bad 1@0000000000 H R / 40|
 bad 1@0000000000 H R 0 4a|
 bad 1@00000000000 H R 0 40|
+# Behind the beginning of clock Four the lines are those of any trace, and count from 1.
+four 0@T2|
+four 1@T2|0000000024 P W 1 48|
+four 2@T2|0000000006 H W 3 5A|0000000006 P R 2 FF|
+order 2@T2|0000000006 P R 2 FF|0000000006 H W 3 5A|
+bad 1@T2|x|
+bad 1@T2||
+bad 2@T2|0000000024 P W 1 48|x|
+bad 2@T2|0000000024 P W 1 48|T2|
+bad 1@T2|T2|
+# `T2` without its line feed, and what is nearly it.
+bad 1@T2
+bad 1@T20000000024 P W 1 48|
+bad 1@T2\r|
+bad 1@t2|
+bad 1@|T2|
+bad 2@0000000024 P W 1 48|T2|
 ";
 
-fn wanted(outcome: &str) -> Option<Result<usize, TraceError>> {
-    let (kind, n) = outcome.split_once(' ')?;
+fn wanted(outcome: &str) -> Option<Result<(Clock, usize), TraceError>> {
+    let (kind, number) = outcome.split_once(' ')?;
+    let n: u8 = number.parse().ok()?;
     match kind {
-        "entries" => Some(Ok(n.parse().ok()?)),
-        "bad" => Some(Err(TraceError::BadLine {
-            line: n.parse().ok()?,
-        })),
-        _ => Some(Err(TraceError::BadOrder {
-            line: n.parse().ok()?,
-        })),
+        "three" => Some(Ok((Clock::Three, n as usize))),
+        "four" => Some(Ok((Clock::Four, n as usize))),
+        "bad" => Some(Err(TraceError::BadLine { line: n as u64 })),
+        _ => Some(Err(TraceError::BadOrder { line: n as u64 })),
     }
 }
 
 // What a text comes to, in which `|` ends a line.
-fn outcome(alloc: Global, source: &str) -> Result<Result<usize, TraceError>, AllocError> {
+fn outcome(alloc: Global, source: &str) -> Result<Result<(Clock, usize), TraceError>, AllocError> {
     let mut text = source.as_bytes().to_vec(alloc)?;
     for byte in text.iter_mut() {
         if *byte == b'|' {
@@ -134,7 +178,7 @@ fn outcome(alloc: Global, source: &str) -> Result<Result<usize, TraceError>, All
         }
     }
     Ok(match read(alloc, &text) {
-        Ok(entries) => Ok(entries.len()),
+        Ok(trace) => Ok((trace.clock, trace.entries.len())),
         Err(error) => Err(error),
     })
 }
@@ -162,8 +206,8 @@ fn the_first_wrong_answer_is_told(rt: HostRuntime) -> Result<(), Fail> {
         ),
     ];
     for (text, want) in rows {
-        let entries = read(rt.alloc(), text.as_bytes())?;
-        assert_eq!(rt; first_wrong(&entries), want, "{text}");
+        let trace = read(rt.alloc(), text.as_bytes())?;
+        assert_eq!(rt; first_wrong(&trace.entries), want, "{text}");
     }
     Ok(())
 }

@@ -1,5 +1,5 @@
 use Rattle.tube_trace.proofs.LineLaws.{line_read, line_only}
-use Rattle.tube_trace.proofs.TextLaws.{text_read, text_only}
+use Rattle.tube_trace.proofs.ClockLaws.{text_read, text_only}
 use Rattle.tube_trace.proofs.law.text_reads_back.Goals as goal
 
 pub returns-clause-line : goal.returns-clause-line

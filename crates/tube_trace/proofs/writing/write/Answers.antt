@@ -2,6 +2,6 @@ use Rattle.std.proofs.Common.{ap, ◌∙◌}
 use Rattle.tube_trace.specs.Trace.{trace}
 use Rattle.tube_trace.proofs.writing.write.Goals as goal
 
-pub returns-in-Ok-clause-back : goal.returns-in-Ok-clause-back
-returns-in-Ok-clause-back c =
-    ap trace c.in-Ok.ensures.text ∙ c.text_reads_back.ensures.text c.args.entries.now c.requires.rises c.requires.lines c.in-Ok.ensures.bytes
+pub returns-clause-back : goal.returns-clause-back
+returns-clause-back c =
+    ap trace c.in_ok-text_of.ensures.text ∙ c.text_reads_back.ensures.text c.args.clock c.args.entries.now c.requires.rises c.requires.lines c.in_ok-text_of.ensures.bytes

@@ -2,13 +2,12 @@ use Rattle.std.proofs.Common.{rules, ◌≡◌, ◌∙◌, sym, inr, take, drop,
 use Rattle.std.proofs.lemmas.List.Elements.{All-push}
 use Rattle.tube_trace.specs.Entries.{IsEntry}
 use Rattle.tube_trace.specs.Line.{entry_of}
-use Rattle.tube_trace.specs.Trace.{trace}
-use Rattle.tube_trace.proofs.TextLemmas.{read_more, read_all, read_bad_line, read_bad_order, take_least, drop_least}
-use Rattle.tube_trace.proofs.RiseLemmas.{trace-rises}
-use Rattle.tube_trace.proofs.trace.read.Goals as goal
+use Rattle.tube_trace.specs.Trace.{lines_read}
+use Rattle.tube_trace.proofs.TextLemmas.{read_more, read_bad_line, read_bad_order, take_least, drop_least}
+use Rattle.tube_trace.proofs.reading.read_lines.Goals as goal
 
 pub returns-in_default-entry_of-clause-value : goal.returns-in_default-entry_of-clause-value
-unfolding trace
+unfolding lines_read
 returns-in_default-entry_of-clause-value c =
     let least : c.min.result ≡ min (length c.loop-rest.rest.now) 20 = search rules in
     let front : c.split_at.result.0.now ≡ take 20 c.loop-rest.rest.now = c.split_at.ensures.front ∙ rw least (take_least c.loop-rest.rest.now) in
@@ -18,7 +17,7 @@ returns-in_default-entry_of-clause-value c =
     inr (rw lines (read_bad_line _ _ _ _ c.loop-rest.invariant.so_far some none))
 
 pub returns-then-not-follows-clause-value : goal.returns-then-not-follows-clause-value
-unfolding trace
+unfolding lines_read
 returns-then-not-follows-clause-value c =
     let least : c.min.result ≡ min (length c.loop-rest.rest.now) 20 = search rules in
     let front : c.split_at.result.0.now ≡ take 20 c.loop-rest.rest.now = c.split_at.ensures.front ∙ rw least (take_least c.loop-rest.rest.now) in
@@ -37,14 +36,3 @@ loop-rest-preserved c =
       so_far = rw (pushed, back) (read_more _ _ _ _ c.in-Some.entry c.loop-rest.invariant.so_far here (sym c.follows.ensures ∙ c.if-not-follows.false));
       entries = rw pushed (All-push IsEntry c.loop-rest.entries.items c.in-Some.entry c.loop-rest.invariant.entries c.in-Some.ensures.may);
     }
-
-pub returns-clause-rises : goal.returns-clause-rises
-returns-clause-rises c =
-    let end : length c.loop-rest.rest.now ≡ 0 = search rules in
-    trace-rises c.args.bytes.now c.loop-rest.entries.items (read_all _ _ _ _ c.loop-rest.invariant.so_far end)
-
-pub returns-clause-lines : goal.returns-clause-lines
-unfolding trace
-returns-clause-lines c =
-    let end : length c.loop-rest.rest.now ≡ 0 = search rules in
-    (c.text_reads_back.ensures.only_text c.args.bytes.now c.loop-rest.entries.items (read_all _ _ _ _ c.loop-rest.invariant.so_far end)).2

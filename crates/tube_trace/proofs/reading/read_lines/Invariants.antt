@@ -1,7 +1,7 @@
 use Rattle.std.proofs.Common.{All, length}
 use Rattle.tube_trace.specs.Entries.{IsEntry}
 use Rattle.tube_trace.proofs.TextLemmas.{ReadSoFar}
-use Rattle.tube_trace.proofs.trace.read.Given as goal
+use Rattle.tube_trace.proofs.reading.read_lines.Given as goal
 
 abbrev pub invariant-loop-rest : goal.invariant-loop-rest
 invariant-loop-rest l = record {
