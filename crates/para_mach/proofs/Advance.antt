@@ -1,6 +1,8 @@
 -- Steps among which looks see their lines.
-use Rattle.std.proofs.Common.{◌≡◌, ◌∙◌, sym, refl, ap, subst, ℕ, suc, ◌+◌, ◌<◌, ◌≤◌, ◌==◌, not, None, Some, Option, Bool, true, false, is_none, if◌then◌else◌, ltb, arith}
+use Rattle.std.proofs.Common.{◌≡◌, ◌∙◌, sym, refl, ap, subst, ℕ, suc, ◌+◌, ◌-◌, ◌<◌, ◌≤◌, ◌==◌, not, None, Some, Option, Bool, true, false, is_none, if◌then◌else◌, ltb, arith}
 use Rattle.std.proofs.lemmas.Bool.{lt-ltb, le-ltb, eq-eqb}
+use Rattle.beeb_bits.specs.declared.clock.Clock.{Clock}
+use Rattle.beeb_bits.specs.Clock.{para, some-para}
 use Rattle.cpu_alu.specs.declared.Cycle.{Cycle}
 use Rattle.cpu_alu.specs.declared.Regs.{Regs}
 use Rattle.cpu_core.specs.declared.Sequence.{Sequence}
@@ -26,7 +28,7 @@ accesses s on = ap (λ (b : Bool). if b then after_look s (lines_in None) else a
 
 -- the ticks of an access that was done: whether a look comes next
 abbrev pub ticked : ParaState → ℕ → Bool → ParaState
-ticked s due over = timed s (if over then due + 1 else due + 2) (if over then 0 else 1)
+ticked s due over = timed s (if over then due + (para s.clock - 1) else due + para s.clock) (if over then para s.clock - 2 else para s.clock - 1)
 
 -- the access with its ticks is the next step
 whole_step : (s new : ParaState) (due lag : ℕ) → looks s ≡ false → new ≡ timed (accessed s None) s.due s.lag
@@ -76,15 +78,18 @@ module _ (n : ℕ) (lines : Lines) (sure : ℕ) (start : ParaState) where
   more_look s new came low on early is =
       (suc came.0, subst (λ (x : ParaState). Looks para_moves n (shown lines sure) (suc came.0) start x) (sym is) (look_last para_moves n lines sure came.0 start s came.1 low (asks_look s on) early))
 
-pub lag_past : (began lag due : ℕ) → began ≤ due → lag_by began lag (due + 2) ≡ 1
-lag_past began lag due low =
-    let past : ltb began (due + 2) ≡ true = lt-ltb began (due + 2) (omega (arith, low)) in
-    ap (λ (b : Bool). if b then 1 else lag) past
+pub lag_past : (clock : Clock) (cycle began lag due : ℕ) → cycle ≡ para clock → began ≤ due → lag_by clock began lag (due + cycle) ≡ cycle - 1
+lag_past clock cycle began lag due is low =
+    let past : ltb began (due + cycle) ≡ true = lt-ltb began (due + cycle) (omega (arith, low, is, some-para clock)) in
+    ap (λ (b : Bool). if b then para clock - 1 else lag) past ∙ ap (λ (k : ℕ). k - 1) (sym is)
 
-pub lag_here : (at lag : ℕ) → lag_by at lag at ≡ lag
-lag_here at lag = ap (λ (b : Bool). if b then 1 else lag) (le-ltb at at (omega arith))
+pub lag_here : (clock : Clock) (at lag : ℕ) → lag_by clock at lag at ≡ lag
+lag_here clock at lag = ap (λ (b : Bool). if b then para clock - 1 else lag) (le-ltb at at (omega arith))
 
--- an access leaves the ticks and the counts
+-- an access leaves the speed, the ticks and the counts
+pub same_clock : (s new : ParaState) → IsDone s None new → new.clock ≡ s.clock
+same_clock s new done = ap (λ (x : ParaState). x.clock) done.1
+
 pub same_due : (s new : ParaState) → IsDone s None new → new.due ≡ s.due
 same_due s new done = ap (λ (x : ParaState). x.due) done.1
 
@@ -101,46 +106,66 @@ unmoved s left new o same done = subst (λ (x : ParaState). IsDone x o new) same
 -- The steps of a run so far asked nothing or saw the lines; the next one is an access at this tick, and the counts are as they were.
 pub record IsUnderWay (n : ℕ) (lines : Lines) (sure : ℕ) (start s : ParaState) (due : ℕ) : Type 0 where
   pub goes_on : looks s ≡ false
+  pub clock : s.clock ≡ start.clock
   pub low : s.due ≤ due
   pub from : start.due ≤ due
   pub resets : s.resets ≡ start.resets
   pub nmis : s.nmis ≡ start.nmis
-  pub came : Came n lines sure start (timed s due (lag_by s.due s.lag due))
+  pub came : Came n lines sure start (timed s due (lag_by s.clock s.due s.lag due))
 
-module _ (n : ℕ) (lines : Lines) (sure : ℕ) (start s new : ParaState) (due : ℕ) (way : IsUnderWay n lines sure start s due) (below : due < n) (done : IsDone s None new) where
+module _ (n : ℕ) (lines : Lines) (sure : ℕ) (start s new : ParaState) (due cycle : ℕ) (way : IsUnderWay n lines sure start s due) (below : due < n) (done : IsDone s None new) (is : cycle ≡ para start.clock) where
+  same : new.clock ≡ start.clock
+  same = same_clock s new done ∙ way.clock
+
+  cycle_is : para new.clock ≡ cycle
+  cycle_is = ap para same ∙ sym is
+
+  some : 2 ≤ cycle
+  some = omega (arith, is, some-para start.clock)
+
   -- after an access comes another
-  pub way_on : looks new ≡ false → IsUnderWay n lines sure start new (due + 2)
+  pub way_on : looks new ≡ false → IsUnderWay n lines sure start new (due + cycle)
   way_on on =
       let low : new.due ≤ due = omega (arith, same_due s new done, way.low) in
       let came : Came n lines sure start (ticked new due false) = more n lines sure start s new due _ false way.came below way.goes_on done on in
+      let ticks : ticked new due false ≡ timed new (due + cycle) (lag_by new.clock new.due new.lag (due + cycle)) =
+      ap (λ (k : ℕ). timed new (due + k) (k - 1)) cycle_is ∙ ap (timed new (due + cycle)) (sym (lag_past new.clock cycle new.due new.lag due (sym cycle_is) low)) in
       record {
         goes_on = on;
+        clock = same;
         low = omega (arith, low);
         from = omega (arith, way.from);
         resets = same_resets s new done ∙ way.resets;
         nmis = same_nmis s new done ∙ way.nmis;
-        came = (came.0, subst (λ (k : ℕ). Looks para_moves n (shown lines sure) came.0 start (timed new (due + 2) k)) (sym (lag_past new.due new.lag due low)) came.1);
+        came = (came.0, subst (λ (x : ParaState). Looks para_moves n (shown lines sure) came.0 start x) ticks came.1);
       }
 
-  -- or a look, which sees the lines
+  -- or a look, at its last tick
+  looked_at : looks new ≡ true → Came n lines sure start (timed new (due + (cycle - 1)) (cycle - 2))
+  looked_at over =
+      let first : Came n lines sure start (ticked new due true) = more n lines sure start s new due _ true way.came below way.goes_on done over in
+      let ticks : ticked new due true ≡ timed new (due + (cycle - 1)) (cycle - 2) = ap (λ (k : ℕ). timed new (due + (k - 1)) (k - 2)) cycle_is in
+      (first.0, subst (λ (x : ParaState). Looks para_moves n (shown lines sure) first.0 start x) ticks first.1)
+
+  -- which sees the lines
   pub way_past : looks new ≡ true → (bound : ℕ) → bound ≤ n → bound ≤ sure → (0 < bound → (lines.resets ≡ start.resets) × (lines.nmis ≡ start.nmis)) → (seen : ParaState) →
-      IsPassed (due + 1) bound lines.pirq new true seen → IsUnderWay n lines sure start seen (due + 2)
-  way_past over bound in_run in_sure same seen passed =
-      let at : ParaState = timed new (due + 1) 0 in
+      IsPassed (due + (cycle - 1)) bound lines.pirq new true seen → IsUnderWay n lines sure start seen (due + cycle)
+  way_past over bound in_run in_sure counts_are seen passed =
+      let at : ParaState = timed new (due + (cycle - 1)) (cycle - 2) in
       let on : ParaState = begun at (fresh (looked false lines.pirq (after new.cpu)) (after new.cpu)) in
-      let counts : (lines.resets ≡ start.resets) × (lines.nmis ≡ start.nmis) = same (omega (arith, passed.0)) in
+      let counts : (lines.resets ≡ start.resets) × (lines.nmis ≡ start.nmis) = counts_are (omega (arith, passed.0)) in
       let resets : new.resets ≡ start.resets = same_resets s new done ∙ way.resets in
       let nmis : new.nmis ≡ start.nmis = same_nmis s new done ∙ way.nmis in
-      let first : Came n lines sure start at = more n lines sure start s new due _ true way.came below way.goes_on done over in
       let came : Came n lines sure start on =
-      more_look n lines sure start at on first (omega (arith, passed.0, in_run)) over (omega (arith, passed.0, in_sure)) (same_counts at lines over (counts.0 ∙ sym resets) (counts.1 ∙ sym nmis)) in
-      let due_is : seen.due ≡ due + 2 = ap (λ (x : ParaState). x.due) passed.1 ∙ omega arith in
-      let lag_is : lag_by seen.due seen.lag (due + 2) ≡ 0 =
-      ap (λ (k : ℕ). lag_by k seen.lag (due + 2)) due_is ∙ lag_here (due + 2) seen.lag ∙ ap (λ (x : ParaState). x.lag) passed.1 in
-      let saw : timed seen (due + 2) (lag_by seen.due seen.lag (due + 2)) ≡ on =
-      ap (timed seen (due + 2)) lag_is ∙ ap (λ (x : ParaState). timed x (due + 2) 0) passed.1 ∙ ap (λ (k : ℕ). timed on k 0) (omega arith) in
+      more_look n lines sure start at on (looked_at over) (omega (arith, passed.0, in_run)) over (omega (arith, passed.0, in_sure)) (same_counts at lines over (counts.0 ∙ sym resets) (counts.1 ∙ sym nmis)) in
+      let due_is : seen.due ≡ due + cycle = ap (λ (x : ParaState). x.due) passed.1 ∙ omega (arith, some) in
+      let lag_is : lag_by seen.clock seen.due seen.lag (due + cycle) ≡ 0 =
+      ap (λ (k : ℕ). lag_by seen.clock k seen.lag (due + cycle)) due_is ∙ lag_here seen.clock (due + cycle) seen.lag ∙ ap (λ (x : ParaState). x.lag) passed.1 in
+      let saw : timed seen (due + cycle) (lag_by seen.clock seen.due seen.lag (due + cycle)) ≡ on =
+      ap (timed seen (due + cycle)) lag_is ∙ ap (λ (x : ParaState). timed x (due + cycle) 0) passed.1 ∙ ap (λ (k : ℕ). timed on k 0) (omega (arith, some)) in
       record {
         goes_on = ap looks passed.1 ∙ begins (looked false lines.pirq (after new.cpu)) (after new.cpu);
+        clock = ap (λ (x : ParaState). x.clock) passed.1 ∙ same;
         low = omega (arith, due_is);
         from = omega (arith, way.from);
         resets = ap (λ (x : ParaState). x.resets) passed.1 ∙ resets;
@@ -148,13 +173,14 @@ module _ (n : ℕ) (lines : Lines) (sure : ℕ) (start s new : ParaState) (due :
         came = (came.0, subst (λ (x : ParaState). Looks para_moves n (shown lines sure) came.0 start x) (sym saw) came.1);
       }
 
-  -- or one that is left
-  pub way_left : looks new ≡ true → (bound : ℕ) (left : ParaState) → IsPassed (due + 1) bound lines.pirq new false left → IsRun n lines sure start Look left
+  -- or is left
+  pub way_left : looks new ≡ true → (bound : ℕ) (left : ParaState) → IsPassed (due + (cycle - 1)) bound lines.pirq new false left → IsRun n lines sure start Look left
   way_left over bound left passed =
-      let first : Came n lines sure start (timed new (due + 1) 0) = more n lines sure start s new due _ true way.came below way.goes_on done over in
-      let due_is : left.due ≡ due + 1 = ap (λ (x : ParaState). x.due) passed.1 in (
-        (first.0, subst (λ (x : ParaState). Looks para_moves n (shown lines sure) first.0 start x) (sym passed.1) first.1),
+      let first : Came n lines sure start (timed new (due + (cycle - 1)) (cycle - 2)) = looked_at over in
+      let left_is : left ≡ timed new (due + (cycle - 1)) (cycle - 2) = passed.1 ∙ ap (λ (k : ℕ). timed new (due + (cycle - 1)) (k - 2)) cycle_is in
+      let due_is : left.due ≡ due + (cycle - 1) = ap (λ (x : ParaState). x.due) passed.1 in (
+        (first.0, subst (λ (x : ParaState). Looks para_moves n (shown lines sure) first.0 start x) (sym left_is) first.1),
         ap looks passed.1 ∙ over,
-        omega (arith, due_is, way.from),
+        omega (arith, due_is, way.from, some),
         omega (arith, below, way.from),
       )

@@ -1,8 +1,11 @@
 -- Writes that were noted are taken back, and leave what is no RAM.
-use Rattle.std.proofs.Common.{◌≡◌, ◌∙◌, refl, sym, ap, ℕ, ◌+◌, ◌<◌, ◌≤◌, ◌==◌, ◌&&◌, not, if◌then◌else◌, arith, List, [], ◌∷◌, ◌++◌, length, Bool, true, false, Option, None, Some}
+use Rattle.std.proofs.Common.{◌≡◌, ◌∙◌, refl, sym, ap, ℕ, ◌+◌, ◌*◌, ◌<◌, ◌≤◌, ◌==◌, max, ◌&&◌, not, if◌then◌else◌, arith, List, [], ◌∷◌, ◌++◌, length, Bool, true, false, Option, None, Some}
 use Rattle.std.proofs.lemmas.List.{set-get_or, set-set, length_push}
 use Rattle.std.proofs.lemmas.Bool.{ne_eqb}
 use Rattle.std.specs.Prelude.{slice_index, slice_set}
+use Rattle.beeb_bits.specs.declared.clock.Clock.{Clock}
+use Rattle.beeb_bits.specs.declared.clock.Clock.TheVariants.{Three, Four}
+use Rattle.beeb_bits.specs.Clock.{para}
 use Rattle.cpu_alu.specs.declared.Cycle.{Cycle}
 use Rattle.cpu_alu.specs.declared.Cycle.TheVariants.{Read, Write}
 use Rattle.para_mach.specs.declared.notes.Stood.{Stood}
@@ -15,7 +18,7 @@ use Rattle.cpu_core.specs.declared.Sequence.TheVariants.{Reset, Nmi}
 use Rattle.cpu65c02.specs.Sequences.{next, after, looked, fresh}
 use Rattle.para_mach.specs.State.{ParaState}
 use Rattle.para_mach.specs.Step.{para_moves, asks_by, is_tube, rom_in_after, looks, begun, next_state, after_look, held_on, accessed}
-use Rattle.para_mach.specs.Told.{IsDone, IsPassed, IsKin}
+use Rattle.para_mach.specs.Told.{IsDone, IsPassed, IsKin, IsCramped}
 use Rattle.para_mach.specs.Noted.{put_back, SetOut}
 use Rattle.para_mach.proofs.Advance.{same_counts, more_look, begins}
 
@@ -50,10 +53,11 @@ rom_stays b (Some (Write at byte)) h = by (is_tube at) refl
     by false e = stays_by b (is_tube at) e
 
 pub kin_on : (s u v : ParaState) → IsKin s u → IsKin u v → IsKin s v
-kin_on s u v a b = (b.0 ∙ a.0, b.1 ∙ a.1, b.2 ∙ a.2, b.3 ∙ a.3)
+kin_on s u v a b = (b.0 ∙ a.0, b.1 ∙ a.1, b.2 ∙ a.2, b.3 ∙ a.3, b.4 ∙ a.4)
 
 kin_read : (s new : ParaState) → IsDone s None new → IsKin s new
 kin_read s new done = (
+  ap (λ (x : ParaState). x.clock) done.1,
   ap (λ (x : ParaState). x.rom) done.1,
   ap (λ (x : ParaState). x.rom_in) done.1 ∙ rom_stays s.rom_in (next s.cpu) done.0,
   ap (λ (x : ParaState). x.resets) done.1,
@@ -62,6 +66,7 @@ kin_read s new done = (
 
 kin_passed : (due bound : ℕ) (pirq : Bool) (s new : ParaState) → IsPassed due bound pirq s true new → IsKin s new
 kin_passed due bound pirq s new passed = (
+  ap (λ (x : ParaState). x.clock) passed.1,
   ap (λ (x : ParaState). x.rom) passed.1,
   ap (λ (x : ParaState). x.rom_in) passed.1,
   ap (λ (x : ParaState). x.resets) passed.1,
@@ -90,7 +95,7 @@ sets_out_seeing n lines sure due at bound old mid here there low in_run in_sure 
     record {
       came = more_look n lines sure old old mid (0, refl) (omega (arith, here, low, in_run)) over (omega (arith, here, low, in_sure)) step;
       ram = ap (λ (x : ParaState). x.ram) is;
-      kin = (ap (λ (x : ParaState). x.rom) is, ap (λ (x : ParaState). x.rom_in) is, ap (λ (x : ParaState). x.resets) is, ap (λ (x : ParaState). x.nmis) is);
+      kin = (ap (λ (x : ParaState). x.clock) is, ap (λ (x : ParaState). x.rom) is, ap (λ (x : ParaState). x.rom_in) is, ap (λ (x : ParaState). x.resets) is, ap (λ (x : ParaState). x.nmis) is);
       later = omega (arith, there, ap (λ (x : ParaState). x.due) is);
       goes_on = ap looks is ∙ begins (looked false lines.pirq (after old.cpu)) (after old.cpu);
     }
@@ -125,10 +130,10 @@ pub record IsHeldOn (n : ℕ) (lines : Lines) (sure : ℕ) (start s : ParaState)
 pub held_more : (n : ℕ) (lines : Lines) (sure : ℕ) (start s new : ParaState) → IsHeldOn n lines sure start s → lines.prst ≡ true → (lines.resets ≡ start.resets → ⊥) → s.due < n → s.due < sure → new ≡ held_on s → IsHeldOn n lines sure start new
 held_more n lines sure start s new so_far stands other low early is =
     record {
-      came = more_look n lines sure start s new so_far.came low so_far.over early (is ∙ held_look s lines so_far.over stands (λ e. other (e ∙ so_far.kin.2)));
+      came = more_look n lines sure start s new so_far.came low so_far.over early (is ∙ held_look s lines so_far.over stands (λ e. other (e ∙ so_far.kin.3)));
       over = ap looks is ∙ so_far.over;
       ram = ap (λ (x : ParaState). x.ram) is ∙ so_far.ram;
-      kin = kin_on start s new so_far.kin (ap (λ (x : ParaState). x.rom) is, ap (λ (x : ParaState). x.rom_in) is, ap (λ (x : ParaState). x.resets) is, ap (λ (x : ParaState). x.nmis) is);
+      kin = kin_on start s new so_far.kin (ap (λ (x : ParaState). x.clock) is, ap (λ (x : ParaState). x.rom) is, ap (λ (x : ParaState). x.rom_in) is, ap (λ (x : ParaState). x.resets) is, ap (λ (x : ParaState). x.nmis) is);
     }
 
 -- ---- Room
@@ -136,3 +141,17 @@ held_more n lines sure start s new so_far stands other low early is =
 -- each access is one more cycle that was seen
 pub seen_more : (s new : ParaState) → IsDone s None new → length new.cpu.seen ≡ length s.cpu.seen + 1
 seen_more s new done = ap (λ (x : ParaState). length x.cpu.seen) done.1 ∙ length_push s.cpu.seen _
+
+-- and takes a cycle, in which at most one write is noted
+pub late_on : (c : Clock) (cycle top due old new : ℕ) → cycle ≡ para c → due ≤ top + para c * old → new ≡ old + 1 → due + cycle ≤ top + para c * new
+late_on Three cycle top due old new is late more = omega (arith, is, late, more)
+late_on Four cycle top due old new is late more = omega (arith, is, late, more)
+
+pub room_on : (c : Clock) (cycle start from due old new : ℕ) → cycle ≡ para c → start + para c * from ≤ due + para c * old → old ≤ new + 1 → start + para c * from ≤ due + cycle + para c * new
+room_on Three cycle start from due old new is room one = omega (arith, is, room, one)
+room_on Four cycle start from due old new is room one = omega (arith, is, room, one)
+
+-- where no room is left, the run began with little of it
+pub cramped : (c : Clock) (sure start from due room seen : ℕ) → start + para c * from ≤ due + para c * room → due ≤ max sure start + para c * seen → room ≡ 0 → seen < 16 → IsCramped c sure start from
+cramped Three sure start from due room seen most late none few = omega (arith, most, late, none, few)
+cramped Four sure start from due room seen most late none few = omega (arith, most, late, none, few)

@@ -1,5 +1,7 @@
 -- What was noted of writes takes them back.
 use Rattle.std.specs.Prelude.{ℕ, List, [], ◌∷◌, ◌≡◌, ◌≤◌, ◌+◌, ◌-◌, ◌*◌, min, Bool, true, false, slice_set}
+use Rattle.beeb_bits.specs.declared.clock.Clock.{Clock}
+use Rattle.beeb_bits.specs.Clock.{para}
 use Rattle.cpu65c02.specs.State as cpu
 use Rattle.para_mach.specs.declared.notes.Stood.{Stood}
 use Rattle.tube_chip.specs.declared.Lines.{Lines}
@@ -34,6 +36,6 @@ abbrev pub IsSetOut : ℕ → Lines → ℕ → ParaState → Bool → ParaState
 IsSetOut n lines sure old true mid = SetOut n lines sure old mid
 IsSetOut n lines sure old false mid = (mid ≡ old) × (looks old ≡ true)
 
--- a tick below which a run from a step at the tick due has room for its notes: a write takes two ticks, and a sequence has at most 16 accesses
-abbrev pub IsNear : ℕ → ℕ → ℕ → ℕ → Type 0
-IsNear sure due room near = (near ≤ sure) × (near ≤ due + 2 * (min room 4096 - 16))
+-- a tick below which a run from a step at the tick due has room for its notes: a write takes a cycle, and a sequence has at most 16 accesses
+abbrev pub IsNear : Clock → ℕ → ℕ → ℕ → ℕ → Type 0
+IsNear clock sure due room near = (near ≤ sure) × (near ≤ due + para clock * (min room 4096 - 16))

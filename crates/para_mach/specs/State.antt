@@ -1,5 +1,7 @@
 -- The second processor: a 65C02 with 65,536 bytes of RAM, a boot ROM over the top of it, and the Tube in eight of its addresses.
-use Rattle.std.specs.Prelude.{ℕ, List, Bool, true, false, replicate}
+use Rattle.std.specs.Prelude.{ℕ, List, Bool, true, false}
+use Rattle.beeb_bits.specs.declared.clock.Clock.{Clock}
+use Rattle.beeb_bits.specs.Zeros.{zeros}
 use Rattle.cpu_alu.specs.declared.Regs.{Regs}
 use Rattle.cpu65c02.specs.State as cpu
 use Rattle.cpu65c02.specs.Sequences as sequences
@@ -11,6 +13,8 @@ pub record MemoryState : Type 0 where
   pub rom_in : Bool
 
 pub record ParaState : Type 0 where
+  -- how fast it runs: a cycle is `para clock` ticks
+  pub clock : Clock
   pub cpu : cpu.State
   -- 65,536 bytes
   pub ram : List ℕ
@@ -28,12 +32,13 @@ pub record ParaState : Type 0 where
   pub lag : ℕ
 
 -- 65,536 bytes 00
-unfoldable pub clear_ram : List ℕ
-clear_ram = replicate 65536 0
+abbrev pub clear_ram : List ℕ
+clear_ram = zeros 65536
 
--- the power-on state, with this boot ROM
-abbrev pub power_on : List ℕ → ParaState
-power_on rom = record {
+-- the power-on state at this speed, with this boot ROM
+abbrev pub power_on : Clock → List ℕ → ParaState
+power_on clock rom = record {
+  clock = clock;
   cpu = sequences.power_on;
   ram = clear_ram;
   rom = rom;

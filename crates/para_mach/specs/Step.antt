@@ -1,6 +1,7 @@
--- One step of the second processor: an access to the bus at the first tick of a cycle of two, or a look at the Tube's lines at the
--- last tick of an instruction, of a reset or of an interrupt. (Acorn 6502 Second Processor; the ticks are this project's.)
+-- One step of the second processor: an access to the bus at the first tick of a cycle, or a look at the Tube's lines at the last tick of
+-- the last cycle of an instruction, of a reset or of an interrupt. (Acorn 6502 Second Processor; the ticks are this project's.)
 use Rattle.std.specs.Prelude.{ℕ, List, ◌+◌, ◌-◌, ◌%◌, ◌==◌, ◌&&◌, nat_le, Bool, true, false, not, Option, Some, None, is_none, slice_index, slice_set, if◌then◌else◌}
+use Rattle.beeb_bits.specs.Clock.{para}
 use Rattle.cpu_alu.specs.declared.Cycle.{Cycle}
 use Rattle.cpu_alu.specs.declared.Cycle.TheVariants.{Read, Write}
 use Rattle.cpu_core.specs.declared.Sequence.TheVariants.{Reset, Nmi}
@@ -55,15 +56,16 @@ rom_in_after rom_in None = rom_in
 rom_in_after rom_in (Some (Read at)) = rom_in && not (is_tube at)
 rom_in_after rom_in (Some (Write at byte)) = rom_in && not (is_tube at)
 
--- an access that showed a byte: its look comes at its second tick, where it was the last of its sequence, and else the next cycle
+-- An access that showed a byte: its look comes at its last tick, where it was the last of its sequence, and else the next cycle. The
+-- machine is closed behind its first tick.
 abbrev pub accessed_with : ParaState → Option Cycle → cpu.State → ParaState
 accessed_with s c on =
     record s {
       cpu = on;
       ram = ram_after s.ram c;
       rom_in = rom_in_after s.rom_in c;
-      due = (if is_none (next on) then s.due + 1 else s.due + 2);
-      lag = (if is_none (next on) then 0 else 1);
+      due = (if is_none (next on) then s.due + (para s.clock - 1) else s.due + para s.clock);
+      lag = (if is_none (next on) then para s.clock - 2 else para s.clock - 1);
     }
 
 abbrev pub accessed : ParaState → Option Answer → ParaState
@@ -75,9 +77,9 @@ lines_in None = record { prst = false; resets = 0; nmis = 0; pirq = false; hirq 
 lines_in (Some (Byte b)) = record { prst = false; resets = 0; nmis = 0; pirq = false; hirq = false }
 lines_in (Some (Seen l)) = l
 
--- held: a cycle of two ticks without an access, which looks again
+-- held: a cycle without an access, which looks again at its last tick
 abbrev pub held_on : ParaState → ParaState
-held_on s = record s { is_held = true; due = s.due + 2; lag = 1 }
+held_on s = record s { is_held = true; due = s.due + para s.clock; lag = para s.clock - 1 }
 
 -- a sequence begins in the next cycle
 abbrev pub begun : ParaState → cpu.State → ParaState

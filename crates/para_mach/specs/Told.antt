@@ -1,5 +1,7 @@
 -- What an access comes to: it is done, or the Tube is asked.
-use Rattle.std.specs.Prelude.{ℕ, List, Bool, true, false, ◌≡◌, ◌<◌, ◌≤◌, ◌+◌, ◌*◌, ◌%◌, max, ltb, if◌then◌else◌, Some, None, Option, MatchOption, Result, Ok, Err}
+use Rattle.std.specs.Prelude.{ℕ, List, Bool, true, false, ◌≡◌, ◌<◌, ◌≤◌, ◌+◌, ◌-◌, ◌*◌, ◌%◌, max, ltb, if◌then◌else◌, Some, None, Option, MatchOption, Result, Ok, Err}
+use Rattle.beeb_bits.specs.declared.clock.Clock.{Clock}
+use Rattle.beeb_bits.specs.Clock.{para}
 use Rattle.cpu_alu.specs.declared.Cycle.{Cycle}
 use Rattle.cpu65c02.specs.Sequences.{after, looked, fresh}
 use Rattle.tube_chip.specs.Act.{access}
@@ -38,10 +40,11 @@ abbrev pub IsQuick : ParaState → Bool → ParaState → Type 0
 IsQuick old true new = IsDone old None new
 IsQuick old false new = new ≡ old
 
--- a look at a tick, at which the last access closed the machine: it is below a bound and finds the counts as they were taken, or it is left
+-- a look at a tick, the last of a cycle, behind whose first one its access closed the machine: it is below a bound and finds the counts as
+-- they were taken, or it is left
 abbrev pub IsPassed : ℕ → ℕ → Bool → ParaState → Bool → ParaState → Type 0
 IsPassed due bound pirq old true new = (due < bound) × (new ≡ begun (record old { due = due }) (fresh (looked false pirq (after old.cpu)) (after old.cpu)))
-IsPassed due bound pirq old false new = (bound ≤ due) × (new ≡ record old { due = due; lag = 0 })
+IsPassed due bound pirq old false new = (bound ≤ due) × (new ≡ record old { due = due; lag = para old.clock - 2 })
 
 -- Steps that asked nothing or saw these lines, up to a look, which may see them or not; or with them what is asked. Of a run that cannot be
 -- noted nothing is told.
@@ -51,18 +54,20 @@ IsRun until lines sure old (left.Asked ask) new = Sees para_moves until (shown l
 IsRun until lines sure old left.Look new = ((k : ℕ) × Looks para_moves until (shown lines sure) k old new) × (looks new ≡ true) × (old.due < new.due) × (old.due < until)
 
 -- A run from a step at the tick due came to the end of its room in a sequence that began below the tick sure, or with the run: a write takes
--- two ticks, and so do all of the fewer than 16 accesses of that sequence that are done.
-abbrev pub IsCramped : ℕ → ℕ → ℕ → Type 0
-IsCramped sure due room = due + 2 * room ≤ max sure due + 30
+-- a cycle, and so do all of the fewer than 16 accesses of that sequence that are done.
+abbrev pub IsCramped : Clock → ℕ → ℕ → ℕ → Type 0
+IsCramped clock sure due room = due + para clock * room ≤ max sure due + para clock * 15
 
--- a run leaves the boot ROM and the counts
+-- a run leaves the speed, the boot ROM and the counts
 abbrev pub IsKin : ParaState → ParaState → Type 0
-IsKin old new = (new.rom ≡ old.rom) × (new.rom_in ≡ old.rom_in) × (new.resets ≡ old.resets) × (new.nmis ≡ old.nmis)
+IsKin old new =
+    (new.clock ≡ old.clock) × (new.rom ≡ old.rom) × (new.rom_in ≡ old.rom_in) × (new.resets ≡ old.resets)
+    × (new.nmis ≡ old.nmis)
 
 -- the next step is an access to the Tube
 abbrev pub IsAskedByte : ParaState → Type 0
 IsAskedByte s = MatchOption (asks s) ⊥ (λ q. FitsAnswer q (Byte 0))
 
 -- how many ticks before its next step, an access at the tick due, the machine is closed, if it set out at the tick began with this lag
-abbrev pub lag_by : ℕ → ℕ → ℕ → ℕ
-lag_by began lag due = if ltb began due then 1 else lag
+abbrev pub lag_by : Clock → ℕ → ℕ → ℕ → ℕ
+lag_by clock began lag due = if ltb began due then para clock - 1 else lag

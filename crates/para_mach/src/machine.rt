@@ -1,5 +1,6 @@
 //! The machine.
 ghost use Rattle.std.specs.Prelude.{Bool, is_none, ◌≡◌, ◌≤◌, if◌then◌else◌, ◌≢◌, ◌↔◌, ◌⊎◌, ◌<◌, ◌+◌, ◌-◌, ◌%◌, ◌^◌, IfOk, IfErr, IsErrOf, length, Err, Some, None, MatchOption, IsSome, IsNone, false, true, max, slice_index, vec_len, vec_capacity};
+ghost use Rattle.beeb_bits.specs.Clock.{para};
 ghost use Rattle.tube_chip.specs.declared.Answer.TheVariants.{Byte, Seen};
 ghost use Rattle.tube_party.specs.Moves.{IsAsk, IsAtLook, Goes, shut, shown};
 ghost use Rattle.para_mach.specs.State.{power_on, shown_regs};
@@ -11,7 +12,7 @@ ghost use Rattle.para_mach.specs.Told.{IsDone, IsQuick, IsPassed, IsRun, IsKin, 
 
 use crate::memory::{Memory, ROM_SIZE, Stop};
 use crate::notes::{NoNotes, Notes, UndoLog};
-use beeb_bits::{Crosses, Tick};
+use beeb_bits::{Clock, Crosses, Tick};
 use cpu_alu::Regs;
 use cpu65c02::Cpu;
 use std::alloc::{AllocError, Global};
@@ -30,10 +31,11 @@ pub enum ParaError {
     NoMemory,
 }
 
-/// The 6502 Second Processor: a 65C02 at 3 MHz, 65,536 bytes of RAM, a boot ROM of 2,048 bytes over F800 to FFFF until the first
+/// The 6502 Second Processor: a 65C02 at 3 or 4 MHz, 65,536 bytes of RAM, a boot ROM of 2,048 bytes over F800 to FFFF until the first
 /// access to the Tube, and the Tube at FEF8 to FEFF.
 #[derive(Drop)]
 pub struct ParaMachine {
+    clock: Clock,
     cpu: Cpu,
     memory: Memory,
     // The Tube's counts as far as they were taken.
@@ -78,6 +80,7 @@ impl Model for ParaMachine {
     ghost Value = { ParaState };
 
     ghost view = { λ m. record {
+      clock = m.clock;
       cpu = m.cpu;
       ram = m.memory.ram;
       rom = m.memory.rom;
@@ -95,12 +98,12 @@ impl Model for ParaMachine {
 impl Crosses for ParaMachine {}
 
 impl ParaMachine {
-    /// The machine at power-on, before the first cycle of a reset sequence.
+    /// The machine at power-on and at this speed, before the first cycle of a reset sequence.
     ///
     /// # Errors
     /// `BadTubeRom` exactly where the boot ROM is not 2,048 bytes long.
-    pub fn make(alloc: Global, rom: Vec<u8>) -> Result<ParaMachine, ParaError>
-        ensures made { IfOk result (λ machine. machine ≡ power_on rom.items) }
+    pub fn make(alloc: Global, clock: Clock, rom: Vec<u8>) -> Result<ParaMachine, ParaError>
+        ensures made { IfOk result (λ machine. machine ≡ power_on clock rom.items) }
         ensures length { IfOk result (λ _. length rom.items ≡ ROM_SIZE) }
         ensures refused { (result ≡ Err (ParaError.BadTubeRom (length rom.items))) ↔ (length rom.items ≢ ROM_SIZE) }
         ensures cause { IfErr result (λ e. (e ≡ ParaError.NoMemory) ⊎ (e ≡ ParaError.BadTubeRom (length rom.items))) }
@@ -114,6 +117,7 @@ impl ParaMachine {
             return Err(ParaError::NoMemory);
         };
         Ok(ParaMachine {
+            clock,
             cpu: Cpu::new(),
             memory,
             resets: 0,
@@ -156,6 +160,16 @@ impl ParaMachine {
         ensures { result ≡ starting self.now.cpu }
     {
         self.cpu.starting()
+    }
+
+    // A cycle, in ticks.
+    #[inline(always)]
+    fn cycle(&self) -> u64
+        ensures value { result ≡ para self.now.clock }
+        ensures some { 2 ≤ result }
+        ensures bound { result ≤ 3 }
+    {
+        self.clock.para()
     }
 
     // The next access, without its ticks, if it asks nothing; else what it asks. Kept apart, for any address.
@@ -231,24 +245,24 @@ impl ParaMachine {
         Ask::Nothing
     }
 
-    // The next step is an access at this tick: the one before it closed the machine at the tick before.
+    // The next step is an access at this tick: the one before it closed the machine behind the first tick of its cycle.
     #[inline(always)]
     fn stop(&mut self, due: u64)
-        ensures { self.new ≡ record self.old { due = due; lag = lag_by self.old.due self.old.lag due } }
+        ensures { self.new ≡ record self.old { due = due; lag = lag_by self.old.clock self.old.due self.old.lag due } }
     {
         if self.due < due {
-            self.lag = 1;
+            self.lag = (self.cycle() - 1) as u8;
         }
         self.due = due;
     }
 
-    // The next step is a look at this tick, at which the last access closed the machine.
+    // The next step is a look at this tick, the last of a cycle: its access closed the machine behind the first.
     #[inline(always)]
     fn end(&mut self, due: u64)
-        ensures { self.new ≡ record self.old { due = due; lag = 0 } }
+        ensures { self.new ≡ record self.old { due = due; lag = para self.old.clock - 2 } }
     {
         self.due = due;
-        self.lag = 0;
+        self.lag = (self.cycle() - 2) as u8;
     }
 
     // A look at this tick that finds the counts as they were taken: an IRQ, if one is asked for and it is not disabled, or the next instruction.
@@ -303,19 +317,21 @@ impl ParaMachine {
         ensures ran { IsRun until.0 lines.now sure.0 self.old result self.new }
         ensures kin { IsKin self.old self.new }
         ensures noted { N.before notes.new (self.new).ram ≡ N.before notes.old (self.old).ram }
-        ensures full { result ≡ Left.Full → (N.endless ≡ false) × IsCramped sure.0 self.old.due (N.room notes.old) }
+        ensures full { let cramped = IsCramped self.old.clock sure.0 self.old.due (N.room notes.old) in
+            result ≡ Left.Full → (N.endless ≡ false) × cramped }
     {
         let bound = self.bound(until, lines, sure);
+        let cycle = self.cycle();
         let mut due = self.due;
         while due < until.0 {
             if self.quick(notes) {
                 if self.cpu.last() {
-                    if !self.pass(due + 1, bound, lines.pirq) {
+                    if !self.pass(due + (cycle - 1), bound, lines.pirq) {
                         return Left::Look;
                     }
-                    due += 2;
+                    due += cycle;
                 } else {
-                    due += 2;
+                    due += cycle;
                 }
             } else {
                 match self.access(notes) {
@@ -327,12 +343,12 @@ impl ParaMachine {
                     Some(Stop::Full) => return Left::Full,
                 }
                 if self.cpu.last() {
-                    if !self.pass(due + 1, bound, lines.pirq) {
+                    if !self.pass(due + (cycle - 1), bound, lines.pirq) {
                         return Left::Look;
                     }
-                    due += 2;
+                    due += cycle;
                 } else {
-                    due += 2;
+                    due += cycle;
                 }
             }
         }
@@ -369,24 +385,26 @@ impl ParaMachine {
         true
     }
 
-    // A look that finds the reset line standing for one more reset.
+    // A look that finds the reset line standing for one more reset. The next one is a cycle of so many ticks later.
     #[inline(always)]
-    fn stay(&mut self)
+    fn stay(&mut self, cycle: u64)
         requires room { self.old.due < 2 ^ 40 }
+        requires cycle { cycle ≡ para self.old.clock }
         requires looks { looks self.old ≡ true }
         ensures { self.new ≡ held_on self.old }
     {
         self.is_held = true;
-        self.due += 2;
-        self.lag = 1;
+        self.due += cycle;
+        self.lag = (cycle - 1) as u8;
     }
 
     // A tick, not above `sure`, below which a run from here has room for its notes.
     #[inline(always)]
     fn near(&self, sure: Tick, undo_log: &UndoLog) -> Tick
-        ensures { IsNear sure.0 self.now.due (vec_capacity undo_log.now.stood - vec_len undo_log.now.stood) result.0 }
+        ensures { let room = vec_capacity undo_log.now.stood - vec_len undo_log.now.stood in
+            IsNear self.now.clock sure.0 self.now.due room result.0 }
     {
-        let stride = 2 * undo_log.room().saturating_sub(16);
+        let stride = self.cycle() * undo_log.room().saturating_sub(16);
         Tick(sure.0.min(self.due.saturating_add(stride)))
     }
 
@@ -401,8 +419,9 @@ impl ParaMachine {
     {
         let bound = until.0.min(sure.0);
         if lines.prst && lines.resets != self.resets {
+            let cycle = self.cycle();
             while self.due < bound {
-                self.stay();
+                self.stay(cycle);
             }
         }
         self.look(until)
@@ -437,12 +456,13 @@ impl ParaMachine {
     {
         self.memory.switch_out();
         self.cpu.give(byte);
+        let cycle = self.cycle();
         if self.cpu.last() {
-            self.due += 1;
-            self.lag = 0;
+            self.due += cycle - 1;
+            self.lag = (cycle - 2) as u8;
         } else {
-            self.due += 2;
-            self.lag = 1;
+            self.due += cycle;
+            self.lag = (cycle - 1) as u8;
         }
     }
 
@@ -457,7 +477,7 @@ impl ParaMachine {
     {
         if resets != self.resets {
             if prst {
-                self.stay();
+                self.stay(self.cycle());
                 return;
             }
             self.memory.switch_in();
