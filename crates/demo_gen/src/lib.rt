@@ -93,7 +93,6 @@ fn assembled(alloc: Global, part: Part, text: &[u8]) -> Result<Image, NoMemory>
     }
 }
 
-#[tactic(auto, unfolding(crate::specs::Demo::host_text))]
 fn host_image(alloc: Global) -> Result<Vec<u8>, NoMemory>
     ensures { IfOk result (λ image. image_of (source Part.Nmos host_text) ≡ Ok image.items) }
 {
@@ -101,7 +100,6 @@ fn host_image(alloc: Global) -> Result<Vec<u8>, NoMemory>
     Ok(program.bytes)
 }
 
-#[tactic(auto, unfolding(crate::specs::Demo::tube_text))]
 fn tube_program(alloc: Global) -> Result<Image, NoMemory>
     ensures { IfOk result (λ image. source Part.Cmos tube_text ≡ Ok (image.origin, image.bytes.items)) }
 {
