@@ -1,19 +1,20 @@
 -- What an operation of one side does to the chip, and what it answers.
-use Rattle.std.specs.Prelude.{ℕ, ◌+◌, ◌/◌, ◌%◌, ◌^◌, ◌<◌, ◌==◌, ◌&&◌, nat_lt, Bool, not, if◌then◌else◌}
+use Rattle.std.specs.Prelude.{ℕ, ◌≡◌, ◌+◌, ◌/◌, ◌%◌, ◌^◌, ◌<◌, ◌==◌, ◌&&◌, nat_lt, Bool, not, if◌then◌else◌}
 use Rattle.beeb_bits.specs.Bits.{bit, weight}
 use Rattle.beeb_bits.specs.declared.Side.{Side}
 use Rattle.beeb_bits.specs.declared.Side.TheVariants.{Host, Para}
 use Rattle.tube_chip.specs.declared.Op.{Op}
-use Rattle.tube_chip.specs.declared.Op.TheVariants.{Read, Write}
+use Rattle.tube_chip.specs.declared.Op.TheVariants.{Read, Write, Reset}
 use Rattle.tube_chip.specs.declared.Answer.{Answer}
 use Rattle.tube_chip.specs.declared.Answer.TheVariants.{Byte, Seen}
 use Rattle.tube_chip.specs.Register.{count, front_of, taken, written}
-use Rattle.tube_chip.specs.State.{State, Flags, register, with_register, incoming, outgoing, with_incoming, with_outgoing, capacity, is_empty, is_ready, wants_service, asks_nmi, lines_of, cleared}
+use Rattle.tube_chip.specs.State.{State, Flags, register, with_register, incoming, outgoing, with_incoming, with_outgoing, capacity, is_empty, is_ready, wants_service, asks_nmi, lines_of, cleared, no_flags}
 
--- A side may do this operation: the number is one of the eight.
+-- A side may do this operation: the number is one of the eight, and the reset is the host's.
 abbrev pub MayDo : Side → Op → Type 0
 MayDo side (Read number) = number < 8
 MayDo side (Write number byte) = number < 8
+MayDo side Reset = side ≡ Host
 
 -- Numbers 0, 2, 4, 6 are the status of registers 1 to 4, and 1, 3, 5, 7 their byte.
 abbrev pub is_status : ℕ → Bool
@@ -39,12 +40,13 @@ is_not_full side k c = nat_lt (count (register k (outgoing side c))) (capacity s
 abbrev pub status : Side → ℕ → State → ℕ
 status side k c = weight 128 (is_available side k c) + weight 64 (is_not_full side k c) + (if k == 1 then flags_byte c.flags else 63)
 
--- What an operation answers: 00 for a write.
+-- What an operation answers: 00 for a write and for the reset.
 abbrev pub answer_of : State → Side → Op → ℕ
 answer_of c side (Read number) =
     if is_status number then status side (register_number number) c
     else front_of (register (register_number number) (incoming side c))
 answer_of c side (Write number byte) = 0
+answer_of c side Reset = 0
 
 -- a flag, set to `set` where its bit of the byte marks it
 abbrev pub marked : ℕ → ℕ → Bool → Bool → Bool
@@ -81,11 +83,12 @@ abbrev pub status_written : Side → ℕ → ℕ → State → State
 status_written Host number byte c = if number == 0 then controlled byte c else c
 status_written Para number byte c = c
 
--- What an operation does, but for the counts.
+-- What an operation does, but for the counts. (That a reset clears flags and registers is this project's profile.)
 abbrev pub done : State → Side → Op → State
 done c side (Read number) = if is_status number then c else read_by side (register_number number) c
 done c side (Write number byte) =
     if is_status number then status_written side number byte c else written_by side (register_number number) byte c
+done c side Reset = cleared (record c { flags = no_flags })
 
 -- one more, where something holds now that did not before; the counts have 32 bits
 abbrev pub risen : Bool → Bool → ℕ → ℕ
@@ -98,9 +101,11 @@ counted old new = record new {
   resets = risen old.flags.p new.flags.p old.resets;
 }
 
--- The chip after an operation.
+-- The chip after an operation. A reset counts as one whatever P was, and leaves the count of NMIs.
 abbrev pub chip_after : State → Side → Op → State
-chip_after c side op = counted c (done c side op)
+chip_after c side (Read number) = counted c (done c side (Read number))
+chip_after c side (Write number byte) = counted c (done c side (Write number byte))
+chip_after c side Reset = record (done c side Reset) { resets = (c.resets + 1) % 2 ^ 32 }
 
 -- What a step asks of the chip: an access, or a look at the lines.
 pub data Query : Type 0 where

@@ -33,7 +33,7 @@ pub record State : Type 0 where
   pub to_para : Bank
   -- how often the NMI condition rose, below 2^32
   pub nmis : ℕ
-  -- how often P rose, below 2^32
+  -- how often a reset operation was done or P rose by another, below 2^32
   pub resets : ℕ
 
 -- the register of a number from 1 to 4
@@ -106,10 +106,13 @@ clear_bank = record { r1 = empty 0; r2 = empty 0; r3 = empty 0; r4 = empty 0 }
 abbrev pub cleared : State → State
 cleared c = record c { to_host = record clear_bank { r3 = holds 0 [] }; to_para = clear_bank }
 
+abbrev pub no_flags : Flags
+no_flags = record { p = false; v = false; m = false; j = false; i = false; q = false }
+
 -- the chip at power-on: no flag set, no count, cleared registers
 abbrev pub power_on : State
 power_on = record {
-  flags = record { p = false; v = false; m = false; j = false; i = false; q = false };
+  flags = no_flags;
   to_host = record clear_bank { r3 = holds 0 [] };
   to_para = clear_bank;
   nmis = 0;

@@ -4,10 +4,10 @@ ghost use Rattle.beeb_bits.specs.Bits.{weight};
 ghost use Rattle.beeb_bits.specs.declared.Side.TheVariants.{Host, Para};
 ghost use Rattle.tube_chip.specs.Register.{count, written};
 ghost use Rattle.tube_chip.specs.State.{power_on, lines_of, is_empty, is_ready, wants_service, asks_nmi, cleared};
-ghost use Rattle.tube_chip.specs.Act.{MayDo, status, answer_of, controlled, done, risen, chip_after};
-ghost use Rattle.tube_chip.specs.declared.Op.TheVariants.{Read, Write};
+ghost use Rattle.tube_chip.specs.Act.{MayDo, status, answer_of, controlled, done, risen, counted, chip_after};
+ghost use Rattle.tube_chip.specs.declared.Op.TheVariants.{Read, Write, Reset};
 
-use crate::flags::{Flags, flags_after, flags_byte};
+use crate::flags::{Flags, flags_after, flags_byte, no_flags};
 use crate::register::Register;
 use crate::{Lines, Op};
 use beeb_bits::{Side, bit, weight};
@@ -132,14 +132,7 @@ impl Chip {
         ensures { result ≡ power_on }
     {
         Chip {
-            flags: Flags {
-                p: false,
-                v: false,
-                m: false,
-                j: false,
-                i: false,
-                q: false,
-            },
+            flags: no_flags(),
             to_host: clear_to_host(),
             to_para: clear_to_para(),
             nmis: 0,
@@ -161,9 +154,26 @@ impl Chip {
     }
 
     /// Does an operation of a side, and answers it: the byte of a read, or 00 (Application Note 004, registers and control).
+    /// A reset is the host's.
     pub fn apply(&mut self, side: Side, op: Op) -> u8
         requires { MayDo side op }
         ensures chip { self.new ≡ chip_after self.old side op }
+        ensures answer { result ≡ answer_of self.old side op }
+    {
+        match op {
+            Op::Read(_) | Op::Write(..) => self.access(side, op),
+            Op::Reset => {
+                self.clear();
+                self.resets = self.resets.wrapping_add(1);
+                0
+            }
+        }
+    }
+
+    // An operation, with the rises counted.
+    fn access(&mut self, side: Side, op: Op) -> u8
+        requires { MayDo side op }
+        ensures chip { self.new ≡ counted self.old (done self.old side op) }
         ensures answer { result ≡ answer_of self.old side op }
     {
         let asked = self.asks_nmi();
@@ -189,6 +199,10 @@ impl Chip {
             }
             (Side::Para, Op::Write(number, byte)) => {
                 self.para_writes(number, byte);
+                0
+            }
+            (_, Op::Reset) => {
+                self.clear();
                 0
             }
         }
@@ -269,6 +283,15 @@ impl Chip {
             7 => self.to_host.r4.replace(byte),
             _ => {}
         }
+    }
+
+    // A reset but for its count.
+    fn clear(&mut self)
+        ensures { self.new ≡ done self.old Host Reset }
+    {
+        self.flags = no_flags();
+        self.to_host = clear_to_host();
+        self.to_para = clear_to_para();
     }
 
     // A write to the control register.

@@ -1,5 +1,6 @@
 //! The flags of the control register.
 ghost use Rattle.std.specs.Prelude.{◌≡◌, ◌≤◌};
+ghost use Rattle.tube_chip.specs.State.{no_flags};
 ghost use Rattle.tube_chip.specs.Act.{flags_byte, flags_after, marked};
 ghost use Rattle.tube_chip.specs.Code.{flags_of};
 
@@ -14,6 +15,19 @@ pub(crate) struct Flags {
     pub(crate) j: bool,
     pub(crate) i: bool,
     pub(crate) q: bool,
+}
+
+pub(crate) fn no_flags() -> Flags
+    ensures { flags_of result ≡ no_flags }
+{
+    Flags {
+        p: false,
+        v: false,
+        m: false,
+        j: false,
+        i: false,
+        q: false,
+    }
 }
 
 // A flag, set to `set` where bit `n` of the byte marks it.

@@ -10,13 +10,15 @@ mod register;
 pub use chip::Chip;
 pub use law::{packing_is_one_to_one, rising_list_is_merge};
 
-/// An operation at one of the eight Tube addresses of a side, by its low three address bits.
+/// An operation of a side: an access to one of its eight Tube addresses, by the low three address bits, or the host's reset.
 #[derive(Clone, Copy, Debug, PartialEq, Eq)]
 pub enum Op {
     /// A read of a number below 8.
     Read(u8),
     /// A write to a number below 8, and the byte.
     Write(u8, u8),
+    /// The host's reset of the chip.
+    Reset,
 }
 
 /// The lines that the chip drives, and the counts of two of them, as a machine sees them when it looks.
