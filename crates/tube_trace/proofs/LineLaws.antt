@@ -1,5 +1,5 @@
 -- The line of an entry is read as that entry, and no other bytes are.
-use Rattle.std.proofs.Common.{◌≡◌, ◌∙◌, sym, refl, ap, subst, ℕ, ◌+◌, ◌-◌, ◌%◌, ◌^◌, ◌<◌, ◌≤◌, length, get_or, take, drop, List, [], ◌∷◌, ◌++◌, Bool, true, false, ◌==◌, IsTrue, cond, Option, Some, None, codes, eqb-true, append_assoc, arith}
+use Rattle.std.proofs.Common.{◌≡◌, ◌∙◌, sym, refl, ap, subst, ℕ, ◌+◌, ◌-◌, ◌%◌, ◌^◌, ◌<◌, ◌≤◌, length, get_or, take, drop, List, [], ◌∷◌, ◌++◌, Bool, true, false, ◌==◌, IsTrue, cond, ◌&&◌, Option, Some, None, codes, eqb-true, append_assoc, arith}
 use Rattle.std.specs.Prelude.{slice_range}
 use Rattle.std.specs.List.{list_all}
 use Rattle.std.proofs.lemmas.Bool.Decides.{nat_tests}
@@ -10,10 +10,10 @@ use Rattle.digits.specs.Laws.{HexDigitsAreHex, HexReadsBack, OnlyHexDigitsRead}
 use Rattle.beeb_bits.specs.declared.Side.{Side}
 use Rattle.beeb_bits.specs.declared.Side.TheVariants.{Host, Para}
 use Rattle.tube_chip.specs.declared.Op.{Op}
-use Rattle.tube_chip.specs.declared.Op.TheVariants.{Read, Write}
+use Rattle.tube_chip.specs.declared.Op.TheVariants.{Read, Write, Reset}
 use Rattle.tube_chip.specs.Act.{MayDo}
 use Rattle.tube_trace.specs.declared.Entry.{Entry}
-use Rattle.tube_trace.specs.Line.{is_space, is_octal, side_of, op_of, answer_in, entry_from, entry_of}
+use Rattle.tube_trace.specs.Line.{is_space, is_octal, side_of, reset_of, op_of, answer_in, entry_by, entry_from, entry_of}
 use Rattle.tube_trace.specs.Text.{side_letter, op_letter, number_of, access_text, line_byte, IsAnswer}
 use Rattle.tube_trace.specs.Laws.{LineReadsBack, OnlyLineReads}
 use Rattle.tube_trace.proofs.LineLemmas.{HasEntry, has_entry, IsFormed, formed_parts, entry_below}
@@ -33,16 +33,19 @@ side_back Para = refl
 number_below : (side : Side) (op : Op) → MayDo side op → number_of op < 8
 number_below side (Read number) may = may
 number_below side (Write number byte) may = may
+number_below side Reset may = omega arith
 
-entry_back : (tick : ℕ) (side : Side) (op : Op) (answer : ℕ) → IsAnswer op answer →
-    entry_from tick (line_byte op answer) (Some side) (op_of (op_letter op) (number_of op) (line_byte op answer))
+entry_back : (tick : ℕ) (side : Side) (op : Op) (answer : ℕ) → MayDo side op → IsAnswer op answer →
+    entry_from tick (Some side) (op_letter op) (number_of op) (line_byte op answer)
     ≡ Some (record { tick = record { 0 = tick }; side = side; op = op; answer = answer })
-entry_back tick side (Read number) answer is = refl
-entry_back tick side (Write number byte) answer is = rw is refl
+entry_back tick side (Read number) answer may is = refl
+entry_back tick side (Write number byte) answer may is = rw is refl
+entry_back tick Host Reset answer may is = rw is refl
+entry_back tick Para Reset answer may is = cc
 
 module _ (hex : HexDigitsAreHex) (back : HexReadsBack) where
   access_read : (tick : ℕ) (side : Side) (op : Op) (byte : ℕ) → tick < 2 ^ 40 → number_of op < 8 → byte < 256 →
-      entry_of (access_text tick side op (hex_digits 2 byte) ++ codes "\n") ≡ entry_from tick byte (Some side) (op_of (op_letter op) (number_of op) byte)
+      entry_of (access_text tick side op (hex_digits 2 byte) ++ codes "\n") ≡ entry_from tick (Some side) (op_letter op) (number_of op) byte
   unfolding entry_of access_text hex_digits
   access_read tick side op byte t n b =
       rw ((hex 10 tick).1, octal_digit (number_of op), (hex 2 byte).1, back 10 tick t, back 2 byte b, side_back side, digit_back (number_of op) n) refl
@@ -50,7 +53,7 @@ module _ (hex : HexDigitsAreHex) (back : HexReadsBack) where
   pub line_read : LineReadsBack
   line_read e has byte =
       access_read (e.tick).0 e.side e.op (line_byte e.op e.answer) has.tick (number_below e.side e.op has.may) byte
-      ∙ entry_back (e.tick).0 e.side e.op e.answer has.answer
+      ∙ entry_back (e.tick).0 e.side e.op e.answer has.may has.answer
 
 -- ---- read and written
 
@@ -75,32 +78,52 @@ record IsOpOf (op : Op) (letter number byte : ℕ) : Type 0 where
   byte_is : line_byte op (answer_in op byte) ≡ byte
   answer_is : IsAnswer op (answer_in op byte)
 
-op_when : (b number byte : ℕ) (s t : Bool) (op : Op) → (b == 82) ≡ s → (b == 87) ≡ t →
-    cond s (Some (Read number)) (cond t (Some (Write number byte)) None) ≡ Some op → IsOpOf op b number byte
-op_when b number byte true t op h i is =
+-- a reset has number 0 and byte 00
+reset_at : (number byte : ℕ) (v w : Bool) (op : Op) → (number == 0) ≡ v → (byte == 0) ≡ w → cond (v && w) (Some Reset) None ≡ Some op →
+    (Reset ≡ op) × (number ≡ 0) × (byte ≡ 0)
+reset_at number byte true true op h i is = (cc, eqb-true number 0 h, eqb-true byte 0 i)
+reset_at number byte true false op h i is = cc
+reset_at number byte false w op h i is = cc
+
+reset_when : (side : Side) (b number byte : ℕ) (op : Op) → (b == 88) ≡ true → reset_of side number byte ≡ Some op → IsOpOf op b number byte
+reset_when Host b number byte op h is =
+    let at : (Reset ≡ op) × (number ≡ 0) × (byte ≡ 0) = reset_at number byte (number == 0) (byte == 0) op refl refl is in
+    subst (λ x. IsOpOf x b number byte) at.0
+    (record { letter_is = sym (eqb-true b 88 h); number_is = sym at.1; byte_is = sym at.2; answer_is = refl })
+reset_when Para b number byte op h is = cc
+
+op_when : (side : Side) (b number byte : ℕ) (s t u : Bool) (op : Op) → (b == 82) ≡ s → (b == 87) ≡ t → (b == 88) ≡ u →
+    cond s (Some (Read number)) (cond t (Some (Write number byte)) (cond u (reset_of side number byte) None)) ≡ Some op → IsOpOf op b number byte
+op_when side b number byte true t u op h i j is =
     let same : Read number ≡ op = cc in
     subst (λ x. IsOpOf x b number byte) same (record { letter_is = sym (eqb-true b 82 h); number_is = refl; byte_is = refl; answer_is = tt })
-op_when b number byte false true op h i is =
+op_when side b number byte false true u op h i j is =
     let same : Write number byte ≡ op = cc in
     subst (λ x. IsOpOf x b number byte) same (record { letter_is = sym (eqb-true b 87 i); number_is = refl; byte_is = refl; answer_is = refl })
-op_when b number byte false false op h i is = cc
+op_when side b number byte false false true op h i j is = reset_when side b number byte op j is
+op_when side b number byte false false false op h i j is = cc
 
-made_when : (tick byte side letter number : ℕ) (s : Option Side) (o : Option Op) (e : Entry) → side_of side ≡ s → op_of letter number byte ≡ o →
-    entry_from tick byte s o ≡ Some e → IsMadeOf e tick byte side letter number
-made_when tick byte side letter number None o e h i is = cc
-made_when tick byte side letter number (Some s) None e h i is = cc
-made_when tick byte side letter number (Some s) (Some op) e h i is =
+made_by : (tick byte side letter number : ℕ) (s : Side) (o : Option Op) (e : Entry) → side_letter s ≡ side → op_of s letter number byte ≡ o →
+    entry_by tick s byte o ≡ Some e → IsMadeOf e tick byte side letter number
+made_by tick byte side letter number s None e h i is = cc
+made_by tick byte side letter number s (Some op) e h i is =
     let made : Entry = record { tick = record { 0 = tick }; side = s; op = op; answer = answer_in op byte } in
     let same : made ≡ e = cc in
-    let parts : IsOpOf op letter number byte = op_when letter number byte (letter == 82) (letter == 87) op refl refl i in
+    let parts : IsOpOf op letter number byte = op_when s letter number byte (letter == 82) (letter == 87) (letter == 88) op refl refl refl i in
     subst (λ (x : Entry). IsMadeOf x tick byte side letter number) same (record {
       tick_is = refl;
-      side_is = side_when side (side == 72) (side == 80) s refl refl h;
+      side_is = h;
       letter_is = parts.letter_is;
       number_is = parts.number_is;
       byte_is = parts.byte_is;
       answer_is = parts.answer_is;
     })
+
+made_when : (tick byte side letter number : ℕ) (s : Option Side) (e : Entry) → side_of side ≡ s →
+    entry_from tick s letter number byte ≡ Some e → IsMadeOf e tick byte side letter number
+made_when tick byte side letter number None e h is = cc
+made_when tick byte side letter number (Some s) e h is =
+    made_by tick byte side letter number s (op_of s letter number byte) e (side_when side (side == 72) (side == 80) s refl refl h) refl is
 
 -- twenty bytes one by one
 twenty : (line : List ℕ) → length line ≡ 20 →
@@ -148,7 +171,7 @@ module _ (only : OnlyHexDigitsRead) where
       let front : List ℕ = slice_range line 0 10 in
       let two : List ℕ = slice_range line 17 19 in
       let made : IsMadeOf e (hex_number front) (hex_number two) (get_or line 11 0) (get_or line 13 0) (get_or line 15 0 - 48) =
-      made_when (hex_number front) (hex_number two) (get_or line 11 0) (get_or line 13 0) (get_or line 15 0 - 48) _ _ e refl refl has.entry in
+      made_when (hex_number front) (hex_number two) (get_or line 11 0) (get_or line 13 0) (get_or line 15 0 - 48) _ e refl has.entry in
       let ten : length front ≡ 10 = simp length-take (omega arith) in
       let pair : two ≡ get_or line 17 0 ∷ get_or line 18 0 ∷ [] = two_at line long in
       let both : length two ≡ 2 = ap length pair in

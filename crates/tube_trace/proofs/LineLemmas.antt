@@ -6,12 +6,13 @@ use Rattle.std.proofs.lemmas.List.Folds.{list_all_at}
 use Rattle.std.proofs.lemmas.Bool.Decides.{nat_tests}
 use Rattle.std.proofs.lemmas.Grind.{common_steps}
 use Rattle.beeb_bits.specs.declared.Side.{Side}
+use Rattle.beeb_bits.specs.declared.Side.TheVariants.{Host, Para}
 use Rattle.tube_chip.specs.declared.Op.{Op}
-use Rattle.tube_chip.specs.declared.Op.TheVariants.{Read, Write}
+use Rattle.tube_chip.specs.declared.Op.TheVariants.{Read, Write, Reset}
 use Rattle.tube_chip.specs.Act.{MayDo}
 use Rattle.tube_trace.specs.declared.Entry.{Entry}
 use Rattle.digits.specs.Hexadecimal.{is_hex, hex_number}
-use Rattle.tube_trace.specs.Line.{is_space, is_octal, side_of, op_of, answer_in, entry_from, is_formed, entry_in, entry_of}
+use Rattle.tube_trace.specs.Line.{is_space, is_octal, side_of, reset_of, op_of, answer_in, entry_by, entry_from, is_formed, entry_in, entry_of}
 use Rattle.tube_trace.specs.Trace.{lines_of}
 use Rattle.tube_trace.specs.Entries.{IsEntry}
 
@@ -76,8 +77,19 @@ hex_range_other line i j k low high fits all =
     hex_other (slice_index line k) (rw (← at) (digit-at (slice_range line i j) (k - i) within all))
 
 -- the letters of a line that has an entry
-letters_other : (tick byte side letter number : ℕ) (e : Entry) → entry_from tick byte (side_of side) (op_of letter number byte) ≡ Some e → (side ≢ 10) × (letter ≢ 10)
-letters_other tick byte side letter number e is = (λ s. grind (arith, nat_tests), λ l. grind (arith, nat_tests))
+
+no_entry : (e : Entry) → (let o : Option Entry = None in o) ≡ Some e → ⊥
+no_entry e is = cc
+
+letter_other : (tick number byte : ℕ) (side : Option Side) (e : Entry) → entry_from tick side 10 number byte ≡ Some e → ⊥
+letter_other tick number byte None e is = no_entry e is
+letter_other tick number byte (Some side) e is = no_entry e is
+
+letters_other : (tick byte side letter number : ℕ) (e : Entry) → entry_from tick (side_of side) letter number byte ≡ Some e → (side ≢ 10) × (letter ≢ 10)
+letters_other tick byte side letter number e is = (
+  λ s. no_entry e (subst (λ k. entry_from tick (side_of k) letter number byte ≡ Some e) s is),
+  λ l. letter_other tick number byte (side_of side) e (subst (λ k. entry_from tick (side_of side) k number byte ≡ Some e) l is),
+)
 
 -- a line that has an entry is twenty bytes in form
 pub record HasEntry (line : List ℕ) (e : Entry) : Type 0 where
@@ -149,24 +161,34 @@ from_cond false x y P op f g e = g e
 same_may : (side : Side) (a b : Op) → Some a ≡ Some b → MayDo side a → MayDo side b
 same_may side a b e may = let same : a ≡ b = cc in subst (MayDo side) same may
 
-op_may : (side : Side) (letter number byte : ℕ) (op : Op) → number < 8 → op_of letter number byte ≡ Some op → MayDo side op
+reset_may : (side : Side) (number byte : ℕ) (op : Op) → reset_of side number byte ≡ Some op → MayDo side op
+reset_may Host number byte op is =
+    from_cond (number == 0 && byte == 0) (Some Reset) None (MayDo Host) op (λ e. same_may Host Reset op e refl) (λ e. cc) is
+reset_may Para number byte op is = cc
+
+op_may : (side : Side) (letter number byte : ℕ) (op : Op) → number < 8 → op_of side letter number byte ≡ Some op → MayDo side op
 op_may side letter number byte op below is =
     from_cond (letter == 82) (Some (Read number)) _ (MayDo side) op (λ e. same_may side (Read number) op e below)
-    (λ other. from_cond (letter == 87) (Some (Write number byte)) None (MayDo side) op (λ e. same_may side (Write number byte) op e below) (λ e. cc) other) is
+    (λ other. from_cond (letter == 87) (Some (Write number byte)) _ (MayDo side) op (λ e. same_may side (Write number byte) op e below)
+    (λ third. from_cond (letter == 88) (reset_of side number byte) None (MayDo side) op (reset_may side number byte op) (λ e. cc) third) other) is
 
-entry_may : (tick byte : ℕ) (side : Option Side) (op : Option Op) (e : Entry) → ((s : Side) (o : Op) → op ≡ Some o → MayDo s o) → entry_from tick byte side op ≡ Some e → IsEntry e
-entry_may tick byte None op e may is = cc
-entry_may tick byte (Some side) None e may is = cc
-entry_may tick byte (Some side) (Some op) e may is =
+by_may : (tick : ℕ) (side : Side) (byte : ℕ) (op : Option Op) (e : Entry) → ((o : Op) → op ≡ Some o → MayDo side o) → entry_by tick side byte op ≡ Some e → IsEntry e
+by_may tick side byte None e may is = cc
+by_may tick side byte (Some op) e may is =
     let made : Entry = record { tick = record { 0 = tick }; side = side; op = op; answer = answer_in op byte } in
     let same : made ≡ e = cc in
-    subst IsEntry same (may side op refl)
+    subst IsEntry same (may op refl)
+
+entry_may : (tick : ℕ) (side : Option Side) (letter number byte : ℕ) (e : Entry) → number < 8 → entry_from tick side letter number byte ≡ Some e → IsEntry e
+entry_may tick None letter number byte e below is = cc
+entry_may tick (Some side) letter number byte e below is =
+    by_may tick side byte (op_of side letter number byte) e (λ o. op_may side letter number byte o below) is
 
 -- an entry is of an operation that its side may do
 pub entry_below : (line : List ℕ) (e : Entry) → HasEntry line e → IsEntry e
 entry_below line e has =
     let below : slice_index line 15 - 48 < 8 = octal_below (slice_index line 15) (formed_parts line has.formed).number in
-    entry_may _ _ _ _ e (λ s o is. op_may s (slice_index line 13) (slice_index line 15 - 48) (hex_number (slice_range line 17 19)) o below is) has.entry
+    entry_may _ (side_of (slice_index line 11)) (slice_index line 13) (slice_index line 15 - 48) (hex_number (slice_range line 17 19)) e below has.entry
 
 pub entry_in_below : (line : List ℕ) → length line ≡ 20 → IsTrue (is_formed line) → (o : Option Entry) → o ≡ entry_in line → IfSome o IsEntry
 entry_in_below line long formed None is = tt

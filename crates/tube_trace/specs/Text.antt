@@ -6,7 +6,7 @@ use Rattle.beeb_bits.specs.declared.clock.Clock.{Clock}
 use Rattle.beeb_bits.specs.declared.Side.{Side}
 use Rattle.beeb_bits.specs.declared.Side.TheVariants.{Host, Para}
 use Rattle.tube_chip.specs.declared.Op.{Op}
-use Rattle.tube_chip.specs.declared.Op.TheVariants.{Read, Write}
+use Rattle.tube_chip.specs.declared.Op.TheVariants.{Read, Write, Reset}
 use Rattle.tube_trace.specs.declared.Entry.{Entry}
 use Rattle.tube_trace.specs.Entries.{IsEntry}
 use Rattle.tube_trace.specs.Trace.{beginning}
@@ -16,29 +16,34 @@ abbrev pub side_letter : Side → ℕ
 side_letter Host = 72
 side_letter Para = 80
 
--- `R` or `W`
+-- `R`, `W` or `X`
 abbrev pub op_letter : Op → ℕ
 op_letter (Read number) = 82
 op_letter (Write number byte) = 87
+op_letter Reset = 88
 
+-- a reset has number 0
 abbrev pub number_of : Op → ℕ
 number_of (Read number) = number
 number_of (Write number byte) = number
+number_of Reset = 0
 
 -- An access in a line's form: the tick in ten digits, the letters of its side and its operation, the number, and a text for the byte.
 unfoldable pub access_text : ℕ → Side → Op → List ℕ → List ℕ
 access_text tick side op byte =
     hex_digits 10 tick ++ (32 ∷ side_letter side ∷ 32 ∷ op_letter op ∷ 32 ∷ (48 + number_of op % 8) ∷ 32 ∷ byte)
 
--- The text for the byte of an access that has no answer yet: `--` for a read, and the byte that is written.
+-- The text for the byte of an access that has no answer yet: `--` for a read, the byte that is written, and `00` for a reset.
 abbrev pub asked_byte : Op → List ℕ
 asked_byte (Read number) = codes "--"
 asked_byte (Write number byte) = hex_digits 2 byte
+asked_byte Reset = codes "00"
 
--- the byte of a line: the one answered or written
+-- the byte of a line: the one answered or written, or 00
 abbrev pub line_byte : Op → ℕ → ℕ
 line_byte (Read number) answer = answer
 line_byte (Write number byte) answer = byte
+line_byte Reset answer = 0
 
 -- The line of an entry, with its line feed.
 abbrev pub line_text : Entry → List ℕ
@@ -52,10 +57,11 @@ lines_text entries = flat_map line_text entries
 abbrev pub text_of : Clock → List Entry → List ℕ
 text_of clock entries = beginning clock ++ lines_text entries
 
--- a write answers 00
+-- a write and a reset answer 00
 abbrev pub IsAnswer : Op → ℕ → Type 0
 IsAnswer (Read number) answer = Unit {0}
 IsAnswer (Write number byte) answer = answer ≡ 0
+IsAnswer Reset answer = answer ≡ 0
 
 -- An entry that a line tells whole.
 pub record HasLine (e : Entry) : Type 0 where

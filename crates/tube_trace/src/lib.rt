@@ -25,7 +25,7 @@ pub struct Entry {
     pub tick: Tick,
     pub side: Side,
     pub op: Op,
-    /// The byte answered, 00 for a write.
+    /// The byte answered, 00 for a write or a reset.
     pub answer: u8,
 }
 

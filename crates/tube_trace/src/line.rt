@@ -1,7 +1,7 @@
 //! One line of a trace, read and written.
 ghost use Rattle.std.specs.Prelude.{◌≡◌, ◌∷◌, [], ◌+◌, ◌%◌, ◌++◌, IsTrue, IfOk, IfSome, OnOk, OnErr, length};
 ghost use Rattle.std.specs.List.{list_all};
-ghost use Rattle.tube_trace.specs.Line.{is_space, is_octal, side_of, op_of, answer_in, is_formed, entry_in, entry_of};
+ghost use Rattle.tube_trace.specs.Line.{is_space, is_octal, side_of, reset_of, op_of, answer_in, is_formed, entry_in, entry_of};
 ghost use Rattle.tube_trace.specs.Entries.{IsEntry};
 ghost use Rattle.tube_trace.specs.Laws.{IsOfByte};
 ghost use Rattle.tube_trace.specs.Text.{side_letter, op_letter, number_of, access_text, asked_byte, line_byte, line_text};
@@ -25,12 +25,28 @@ fn side_of(letter: u8) -> Option<Side>
     }
 }
 
-fn op_of(letter: u8, number: u8, byte: u8) -> Option<Op>
-    ensures { result ≡ op_of letter number byte }
+fn reset_of(side: Side, number: u8, byte: u8) -> Option<Op>
+    ensures { result ≡ reset_of side number byte }
+{
+    match side {
+        Side::Host => {
+            if number == 0 && byte == 0 {
+                Some(Op::Reset)
+            } else {
+                None
+            }
+        }
+        Side::Para => None,
+    }
+}
+
+fn op_of(side: Side, letter: u8, number: u8, byte: u8) -> Option<Op>
+    ensures { result ≡ op_of side letter number byte }
 {
     match letter {
         b'R' => Some(Op::Read(number)),
         b'W' => Some(Op::Write(number, byte)),
+        b'X' => reset_of(side, number, byte),
         _ => None,
     }
 }
@@ -40,7 +56,7 @@ fn answer_in(op: Op, byte: u8) -> u8
 {
     match op {
         Op::Read(_) => byte,
-        Op::Write(..) => 0,
+        Op::Write(..) | Op::Reset => 0,
     }
 }
 
@@ -77,7 +93,7 @@ fn entry_in(line: &[u8]) -> Option<Entry>
     let tick = Tick(hex_number(&line[..10]));
     let side = side_of(line[11])?;
     let byte = hex_number(&line[17..19]) as u8;
-    let op = op_of(line[13], line[15] - b'0', byte)?;
+    let op = op_of(side, line[13], line[15] - b'0', byte)?;
     let answer = answer_in(op, byte);
     Some(Entry {
         tick,
@@ -115,6 +131,7 @@ fn op_letter(op: Op) -> u8
     match op {
         Op::Read(_) => b'R',
         Op::Write(..) => b'W',
+        Op::Reset => b'X',
     }
 }
 
@@ -123,6 +140,7 @@ fn number_digit(op: Op) -> u8
 {
     match op {
         Op::Read(number) | Op::Write(number, _) => b'0' + number % 8,
+        Op::Reset => b'0',
     }
 }
 
@@ -132,6 +150,7 @@ fn asked_byte(op: Op) -> [u8; 2]
     match op {
         Op::Read(_) => *b"--",
         Op::Write(_, byte) => two_digits(byte),
+        Op::Reset => *b"00",
     }
 }
 
@@ -141,6 +160,7 @@ fn line_byte(op: Op, answer: u8) -> u8
     match op {
         Op::Read(_) => answer,
         Op::Write(_, byte) => byte,
+        Op::Reset => 0,
     }
 }
 
