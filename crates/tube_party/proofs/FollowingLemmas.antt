@@ -8,7 +8,7 @@ use Rattle.std.proofs.lemmas.Bool.Decides.{nat_tests}
 use Rattle.beeb_bits.specs.declared.Side.{Side}
 use Rattle.beeb_bits.specs.declared.Side.TheVariants.{Host, Para}
 use Rattle.tube_chip.specs.declared.Op.{Op}
-use Rattle.tube_chip.specs.declared.Op.TheVariants.{Read, Write}
+use Rattle.tube_chip.specs.declared.Op.TheVariants.{Read, Write, Reset}
 use Rattle.tube_chip.specs.declared.Answer.{Answer}
 use Rattle.tube_chip.specs.declared.Answer.TheVariants.{Byte, Seen}
 use Rattle.tube_chip.specs.State.{power_on, lines_of}
@@ -64,12 +64,18 @@ same_by_op (Write r v) (Write q w) e =
     let one : r ≡ q = let t : (r == q) ≡ true = same.0 in grind (arith, nat_tests) in
     let two : v ≡ w = let t : (v == w) ≡ true = same.1 in grind (arith, nat_tests) in
     ap (λ (x : ℕ). Write x v) one ∙ ap (λ (x : ℕ). Write q x) two
+same_by_op Reset Reset e = refl
 same_by_op (Read r) (Write q w) e = cc
+same_by_op (Read r) Reset e = cc
 same_by_op (Write r v) (Read q) e = cc
+same_by_op (Write r v) Reset e = cc
+same_by_op Reset (Read q) e = cc
+same_by_op Reset (Write q w) e = cc
 
 op_same : (a : Op) → same_op a a ≡ true
 op_same (Read r) = grind (arith, nat_tests)
 op_same (Write r v) = grind (arith, nat_tests)
+op_same Reset = refl
 
 -- an entry is known by its parts
 same_entry : (x : Entry) (t : ℕ) (side : Side) (op : Op) → is_that x t op ≡ true → x.side ≡ side → entry t side op x.answer ≡ x

@@ -4,7 +4,7 @@ use Rattle.std.specs.Prelude.{ℕ, zero, suc, ◌+◌, ◌==◌, ◌&&◌, nat_l
 use Rattle.beeb_bits.specs.Order.{before}
 use Rattle.beeb_bits.specs.declared.Side.{Side}
 use Rattle.tube_chip.specs.declared.Op.{Op}
-use Rattle.tube_chip.specs.declared.Op.TheVariants.{Read, Write}
+use Rattle.tube_chip.specs.declared.Op.TheVariants.{Read, Write, Reset}
 use Rattle.tube_chip.specs.declared.Answer.TheVariants.{Byte, Seen}
 use Rattle.tube_chip.specs.State.{State, lines_of, power_on}
 use Rattle.tube_chip.specs.Act.{Query, access, look, chip_after}
@@ -33,8 +33,13 @@ own_from side n line (x ∷ trace) =
 abbrev pub same_op : Op → Op → Bool
 same_op (Read r) (Read q) = r == q
 same_op (Write r v) (Write q w) = r == q && v == w
+same_op Reset Reset = Bool.true
 same_op (Read r) (Write q w) = Bool.false
+same_op (Read r) Reset = Bool.false
 same_op (Write r v) (Read q) = Bool.false
+same_op (Write r v) Reset = Bool.false
+same_op Reset (Read q) = Bool.false
+same_op Reset (Write q w) = Bool.false
 
 abbrev pub doing : ℕ → Side → Op → Doing
 doing t side op = record { tick = record { 0 = t }; side = side; op = op }

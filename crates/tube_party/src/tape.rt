@@ -18,6 +18,7 @@ fn same_op(a: Op, b: Op) -> bool
     match (a, b) {
         (Op::Read(r), Op::Read(q)) => r == q,
         (Op::Write(r, v), Op::Write(q, w)) => r == q && v == w,
+        (Op::Reset, Op::Reset) => true,
         _ => false,
     }
 }
