@@ -1,7 +1,10 @@
 -- The ticks of the second processor, access by access.
-use Rattle.std.proofs.Common.{◌≡◌, ◌∙◌, sym, ap, refl, ℕ, ◌+◌, ◌*◌, ◌<◌, ◌≤◌, ◌==◌, Bool, true, false, not, List, [], ◌∷◌, ◌++◌, length, arith}
+use Rattle.std.proofs.Common.{◌≡◌, ◌∙◌, sym, ap, refl, ℕ, ◌+◌, ◌-◌, ◌*◌, ◌<◌, ◌≤◌, ◌==◌, Bool, true, false, not, List, [], ◌∷◌, ◌++◌, length, arith}
 use Rattle.std.specs.Prelude.{Option, None, Some, is_none, if◌then◌else◌}
 use Rattle.std.proofs.lemmas.Bool.{true≢false}
+use Rattle.beeb_bits.specs.declared.clock.Clock.{Clock}
+use Rattle.beeb_bits.specs.declared.clock.Clock.TheVariants.{Three, Four}
+use Rattle.beeb_bits.specs.Clock.{para, some-para}
 use Rattle.op_table.specs.declared.names.Part.TheVariants.{Cmos}
 use Rattle.cpu_alu.specs.declared.Cycle.{Cycle}
 use Rattle.cpu_core.specs.declared.Sequence.TheVariants.{Reset, Nmi}
@@ -20,40 +23,50 @@ use Rattle.machine_laws.proofs.Counts.{one_more, same_sequence, table, cycle_mor
 tail : ParaState → ℕ
 tail s = if is_none (next s.cpu) then 1 else 0
 
-due_tail : (over : Bool) (t : ℕ) → (if over then t + 1 else t + 2) + (if over then 1 else 0) ≡ t + 2
-due_tail true t = omega arith
-due_tail false t = omega arith
+due_tail : (c : Clock) (over : Bool) (t : ℕ) → (if over then t + (para c - 1) else t + para c) + (if over then 1 else 0) ≡ t + para c
+due_tail c true t = omega (arith, some-para c)
+due_tail c false t = omega arith
 
 -- a step that is no look
 access_is : (s : ParaState) (a : Option Answer) → is_none (next s.cpu) ≡ false → next_state s a ≡ accessed s a
 access_is s a some = ap (λ b. if b then after_look s (lines_in a) else accessed s a) some
 
-first : (s : ParaState) (a : Option Answer) → is_none (next s.cpu) ≡ false → (next_state s a).due + tail (next_state s a) ≡ s.due + 2
+first : (s : ParaState) (a : Option Answer) → is_none (next s.cpu) ≡ false → (next_state s a).due + tail (next_state s a) ≡ s.due + para s.clock
 unfolding tail
 first s a some =
     ap (λ (x : ParaState). x.due + (if is_none (next x.cpu) then 1 else 0)) (access_is s a some)
-    ∙ due_tail (is_none (next (given s.cpu (byte_of s.ram s.rom s.rom_in a (next s.cpu))))) s.due
+    ∙ due_tail s.clock (is_none (next (given s.cpu (byte_of s.ram s.rom s.rom_in a (next s.cpu))))) s.due
+
+same_clock : (s : ParaState) (a : Option Answer) → is_none (next s.cpu) ≡ false → (next_state s a).clock ≡ s.clock
+same_clock s a some = ap (λ (x : ParaState). x.clock) (access_is s a some)
+
+-- a cycle before the others
+one_before : (c : Clock) (due at rest all : ℕ) → at ≡ due + para c → all ≡ 1 + rest → at + para c * rest ≡ due + para c * all
+one_before Three due at rest all here one = omega (arith, here, one)
+one_before Four due at rest all here one = omega (arith, here, one)
 
 one_cycle : (o : Option Cycle) (cs : List Cycle) → is_none o ≡ false → length (the_cycle o ++ cs) ≡ 1 + length cs
 one_cycle None cs some = absurd (true≢false some)
 one_cycle (Some c) cs some = omega arith
 
 total : (a : Option Answer) (answers : List (Option Answer)) (s : ParaState) → AllAccess (a ∷ answers) s →
-    (run (a ∷ answers) s).due + tail (run (a ∷ answers) s) ≡ s.due + 2 * length (cycles (a ∷ answers) s)
+    (run (a ∷ answers) s).due + tail (run (a ∷ answers) s) ≡ s.due + para s.clock * length (cycles (a ∷ answers) s)
 unfolding tail
 total a [] s all =
     let one : length (the_cycle (next s.cpu) ++ []) ≡ 1 + 0 = one_cycle (next s.cpu) [] all.0 in
-    first s a all.0 ∙ omega (arith, one)
+    first s a all.0 ∙ omega arith ∙ ap (λ n. s.due + para s.clock * n) (sym one)
 total a (b ∷ answers) s all =
     let x = next_state s a in
     let rest = length (cycles (b ∷ answers) x) in
     let none : x.due ≡ x.due + 0 = omega arith in
-    let here : x.due ≡ s.due + 2 = none ∙ ap (λ o. x.due + (if o then 1 else 0)) (sym all.1.0) ∙ first s a all.0 in
+    let here : x.due ≡ s.due + para s.clock = none ∙ ap (λ o. x.due + (if o then 1 else 0)) (sym all.1.0) ∙ first s a all.0 in
     let one : length (cycles (a ∷ b ∷ answers) s) ≡ 1 + rest = one_cycle (next s.cpu) (cycles (b ∷ answers) x) all.0 in
-    total b answers x all.1 ∙ omega (arith, here, one)
+    total b answers x all.1
+    ∙ ap (λ (c : Clock). x.due + para c * rest) (same_clock s a all.0)
+    ∙ one_before s.clock s.due x.due rest (length (cycles (a ∷ b ∷ answers) s)) here one
 
 at_look : (s : ParaState) (answers : List (Option Answer)) → 0 < length answers → AllAccess answers s → next (run answers s).cpu ≡ None →
-    (run answers s).due + 1 ≡ s.due + 2 * length (cycles answers s)
+    (run answers s).due + 1 ≡ s.due + para s.clock * length (cycles answers s)
 unfolding tail
 at_look s [] some all over = absurd (omega (arith, some))
 at_look s (a ∷ answers) some all over =

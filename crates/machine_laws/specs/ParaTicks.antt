@@ -1,6 +1,7 @@
 -- How long a sequence of the second processor takes: an instruction, a reset, an NMI or an IRQ, from its first access to the look behind its last
 -- one. (MCS6500 Hardware Manual, summary of single cycle execution, and the 65C02's data sheet.)
 use Rattle.std.specs.Prelude.{ℕ, ◌+◌, ◌*◌, ◌≡◌, ◌≤◌, ◌<◌, false, List, [], ◌∷◌, ◌++◌, length, Option, Some, None, is_none}
+use Rattle.beeb_bits.specs.Clock.{para}
 use Rattle.op_table.specs.declared.names.Part.TheVariants.{Cmos}
 use Rattle.op_table.specs.declared.rows.Row.{Row}
 use Rattle.cpu_alu.specs.declared.Cycle.{Cycle}
@@ -27,15 +28,15 @@ abbrev pub AllAccess : List (Option Answer) → ParaState → Type 0
 AllAccess [] s = Unit {0}
 AllAccess (a ∷ answers) s = (is_none (next s.cpu) ≡ false) × AllAccess answers (next_state s a)
 
--- From any access on, where the accesses up to the end of its sequence are done, the look is at the last of the ticks that they take, two each,
--- and where the processor is not held the next sequence begins behind it.
+-- From any access on, where the accesses up to the end of its sequence are done, the look is at the last of the ticks that they take, two each
+-- at 3 MHz and three each at 4 MHz, and where the processor is not held the next sequence begins behind it.
 pub record ParaTakes : Type 0 where
   pub look : (s : ParaState) (answers : List (Option Answer)) → 0 < length answers → AllAccess answers s → next (run answers s).cpu ≡ None →
-      (run answers s).due + 1 ≡ s.due + 2 * length (cycles answers s)
+      (run answers s).due + 1 ≡ s.due + para s.clock * length (cycles answers s)
   pub behind : (s : ParaState) (answers : List (Option Answer)) (answer : Option Answer) →
       0 < length answers → AllAccess answers s → next (run answers s).cpu ≡ None →
       (next_state (run answers s) answer).is_held ≡ false →
-      (next_state (run answers s) answer).due ≡ s.due + 2 * length (cycles answers s)
+      (next_state (run answers s) answer).due ≡ s.due + para s.clock * length (cycles answers s)
 
 -- An instruction that is over has made at least as many accesses as the table has cycles for its opcode, which is the first byte that it saw.
 abbrev pub ParaTakesTheTable : Type 0

@@ -14,7 +14,7 @@ pub fn host_cycles_of_the_table()
     cpu_core::cycles_of_the_table();
 }
 
-/// A sequence of the second processor takes two ticks for each of its cycles.
+/// A sequence of the second processor takes two ticks for each of its cycles at 3 MHz, and three at 4 MHz.
 pub fn para_sequences_take_their_ticks()
     ensures { ParaTakes }
 {}
