@@ -6,7 +6,7 @@ use Rattle.std.proofs.lemmas.List.{append-nil, append_assoc}
 use Rattle.beeb_bits.specs.Bits.{bit}
 use Rattle.beeb_bits.specs.declared.Side.{Side}
 use Rattle.beeb_bits.specs.declared.Side.TheVariants.{Host, Para}
-use Rattle.tube_chip.specs.declared.Op.TheVariants.{Read, Write}
+use Rattle.tube_chip.specs.declared.Op.TheVariants.{Read, Write, Reset}
 use Rattle.tube_chip.specs.declared.Answer.{Answer}
 use Rattle.tube_chip.specs.Register.{Register, empty, holds, held, count, front_of, taken, written}
 use Rattle.tube_chip.specs.State.{State, Flags, Bank, register, with_register, incoming, capacity, is_empty, power_on, cleared}
@@ -263,6 +263,10 @@ not_cleared true true from k flags c is = absurd (true≢false is)
 not_cleared true false from k flags c is = flags_only from k flags c
 not_cleared false t from k flags c is = refl
 
+has_reset : (from : Side) (k : ℕ) (c : State) → held (queue from k (chip_after c Host Reset)) ≡ held (queue from k power_on)
+has_reset Host k c = refl
+has_reset Para k c = refl
+
 -- ---- Each event.
 
 -- An event of these parts keeps the balance of a register.
@@ -384,6 +388,20 @@ own_reads Para k number c answer tick =
     (queue Para k (chip_after c Para (Read number))) q refl refl (own_read Para k number c)
     (apart (capacity Para k c.flags) (byte_shown answer) (held (queue Para k power_on)) q)
 
+-- a reset clears all
+resets : (from : Side) (k : ℕ) (c : State) (answer : Answer) → Keeps from k c Host (access Reset) answer
+unfolding Keeps
+resets Host k c answer tick =
+    one_clear true (capacity Host k c.flags) (byte_shown answer) (held (queue Host k power_on)) (queue Host k c)
+    (queue Host k (chip_after c Host Reset)) (λ e. has_reset Host k c) (λ e. absurd (true≢false e))
+resets Para k c answer tick =
+    one_clear true (capacity Para k c.flags) (byte_shown answer) (held (queue Para k power_on)) (queue Para k c)
+    (queue Para k (chip_after c Host Reset)) (λ e. has_reset Para k c) (λ e. absurd (true≢false e))
+
+resets_by : (from side : Side) (k : ℕ) (c : State) (answer : Answer) → side ≡ Host → Keeps from k c side (access Reset) answer
+resets_by from Host k c answer is = resets from k c answer
+resets_by from Para k c answer is = cc
+
 looks : (from side : Side) (k : ℕ) (c : State) (answer : Answer) → Keeps from k c side look answer
 unfolding Keeps
 looks Host Host k c answer tick = apart (capacity Host k c.flags) (byte_shown answer) (held (queue Host k power_on)) (queue Host k c)
@@ -394,6 +412,7 @@ looks Para Para k c answer tick = apart (capacity Para k c.flags) (byte_shown an
 each : (from side : Side) (query : Query) (k : ℕ) (c : State) (answer : Answer) → 1 ≤ k → k ≤ 4 → MayAsk side query →
     (act c side query).1 ≡ answer → Keeps from k c side query answer
 each from side look k c answer lk hk may answered = looks from side k c answer
+each from side (access Reset) k c answer lk hk may answered = resets_by from side k c answer may
 each Host Host (access (Read number)) k c answer lk hk may answered = own_reads Host k number c answer
 each Host Para (access (Read number)) k c answer lk hk may answered = reader_reads Host k number c answer may lk hk answered
 each Para Host (access (Read number)) k c answer lk hk may answered = reader_reads Para k number c answer may lk hk answered

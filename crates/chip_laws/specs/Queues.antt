@@ -1,11 +1,11 @@
 -- Each register of the Tube is a queue, in each direction: what comes into it and what leaves it over any run of accesses and looks of both
 -- sides. (Application Note 004, the registers and their status: register 1 to the host has 24 bytes, register 3 one or two by V, each other one.)
-use Rattle.std.specs.Prelude.{ℕ, ◌-◌, ◌*◌, ◌≡◌, ◌≤◌, ◌==◌, ◌&&◌, ◌||◌, Bool, false, not, List, [], ◌∷◌, ◌++◌, Option, None, Some, is_some, if◌then◌else◌}
+use Rattle.std.specs.Prelude.{ℕ, ◌-◌, ◌*◌, ◌≡◌, ◌≤◌, ◌==◌, ◌&&◌, ◌||◌, Bool, true, false, not, List, [], ◌∷◌, ◌++◌, Option, None, Some, is_some, if◌then◌else◌}
 use Rattle.beeb_bits.specs.Bits.{bit}
 use Rattle.beeb_bits.specs.declared.Side.{Side}
 use Rattle.beeb_bits.specs.declared.Side.TheVariants.{Host, Para}
 use Rattle.tube_chip.specs.declared.Op.{Op}
-use Rattle.tube_chip.specs.declared.Op.TheVariants.{Read, Write}
+use Rattle.tube_chip.specs.declared.Op.TheVariants.{Read, Write, Reset}
 use Rattle.tube_chip.specs.declared.Answer.{Answer}
 use Rattle.tube_chip.specs.declared.Answer.TheVariants.{Byte, Seen}
 use Rattle.tube_chip.specs.Register.{Register, held}
@@ -29,15 +29,18 @@ byte_number k = 2 * k - 1
 abbrev pub op_writes : ℕ → Op → Option ℕ
 op_writes k (Read number) = None
 op_writes k (Write number byte) = if number == byte_number k then Some byte else None
+op_writes k Reset = None
 
 abbrev pub op_reads : ℕ → Op → Bool
 op_reads k (Read number) = number == byte_number k
 op_reads k (Write number byte) = false
+op_reads k Reset = false
 
--- a write to the control register with S and T, which clears all registers
+-- a write to the control register with S and T, or a reset, which clear all registers
 abbrev pub op_clears : Op → Bool
 op_clears (Read number) = false
 op_clears (Write number byte) = (number == 0) && (bit byte 7 && bit byte 6)
+op_clears Reset = true
 
 abbrev pub query_writes : ℕ → Query → Option ℕ
 query_writes k look = None
