@@ -4,7 +4,7 @@ use mathlib.Core.Bool.{beq}
 use Rattle.std.proofs.lemmas.Bool.Decides.{nat_tests}
 use Rattle.beeb_bits.specs.declared.Side.{Side}
 use Rattle.beeb_bits.specs.declared.Side.TheVariants.{Host, Para}
-use Rattle.tube_chip.specs.declared.Op.TheVariants.{Read, Write}
+use Rattle.tube_chip.specs.declared.Op.TheVariants.{Read, Write, Reset}
 use Rattle.tube_chip.specs.declared.Lines.{Lines}
 use Rattle.tube_chip.specs.declared.Answer.TheVariants.{Byte, Seen}
 use Rattle.tube_chip.specs.Register.{front_of}
@@ -24,6 +24,7 @@ counted_same c = λ i. record c { nmis = not_risen (asks_nmi c) c.nmis i; resets
 pub observed_stays : (c : State) (s : Side) (q : Query) → is_observation q ≡ true → (act c s q).0 ≡ c
 observed_stays c s (access (Read number)) is = ap (λ b. counted c (cond b c (read_by s (register_number number) c))) is ∙ counted_same c
 observed_stays c s (access (Write number byte)) is = absurd (true≢false (sym is))
+observed_stays c s (access Reset) is = absurd (true≢false (sym is))
 observed_stays c s look is = refl
 
 -- ---- the same readings
@@ -41,6 +42,7 @@ same_answer c d (access (Read number)) same is =
     let byte : (e : State) → (act e Para (access (Read number))).1 ≡ Byte (status Para k e) = λ e. ap (λ b. Byte (cond b (status Para k e) (front_of (register k (incoming Para e))))) is in
     byte d ∙ ap (λ n. Byte n) (same.1 k) ∙ sym (byte c)
 same_answer c d (access (Write number byte)) same is = absurd (true≢false (sym is))
+same_answer c d (access Reset) same is = absurd (true≢false (sym is))
 same_answer c d look same is = ap (λ l. Seen l) same.0
 
 -- ---- by their test

@@ -5,7 +5,7 @@ use mathlib.Core.Bool.{beq}
 use Rattle.beeb_bits.specs.declared.Side.{Side}
 use Rattle.beeb_bits.specs.declared.Side.TheVariants.{Host, Para}
 use Rattle.tube_chip.specs.declared.Lines.{Lines}
-use Rattle.tube_chip.specs.declared.Op.TheVariants.{Read, Write}
+use Rattle.tube_chip.specs.declared.Op.TheVariants.{Read, Write, Reset}
 use Rattle.tube_chip.specs.State.{State, power_on, lines_of}
 use Rattle.tube_chip.specs.Act.{Query, access, look, act, is_status, status}
 use Rattle.tube_chip.specs.Events.{Event}
@@ -126,6 +126,7 @@ is_access look = false
 abbrev pub is_observation : Query → Bool
 is_observation (access (Read number)) = is_status number
 is_observation (access (Write number byte)) = false
+is_observation (access Reset) = false
 is_observation look = true
 
 abbrev pub has_access : List Event → Bool

@@ -69,7 +69,7 @@ fn is_observation(op: Op) -> bool
 {
     match op {
         Op::Read(number) => number % 2 == 0,
-        Op::Write(_, _) => false,
+        Op::Write(..) | Op::Reset => false,
     }
 }
 
