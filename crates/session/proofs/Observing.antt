@@ -9,7 +9,7 @@ use Rattle.tube_chip.specs.declared.Answer.{Answer}
 use Rattle.tube_chip.specs.declared.Answer.TheVariants.{Byte, Seen}
 use Rattle.tube_chip.specs.declared.Lines.{Lines}
 use Rattle.tube_chip.specs.declared.Op.{Op}
-use Rattle.tube_chip.specs.declared.Op.TheVariants.{Read, Write}
+use Rattle.tube_chip.specs.declared.Op.TheVariants.{Read, Write, Reset}
 use Rattle.tube_chip.specs.State.{State, lines_of}
 use Rattle.tube_chip.specs.Act.{Query, access, look, act}
 use Rattle.tube_chip.specs.Events.{Event}
@@ -313,6 +313,7 @@ module _ (c : State) (number : ℕ) (a : Answer) where
 access_shows : (c : State) (op : Op) (a : Answer) → byte_answer (byte_seen (readings_of c) op) ≡ Some a → (is_observation (access op) ≡ true) × ((act c Para (access op)).1 ≡ a)
 access_shows c (Read number) a e = read_shows c number a e
 access_shows c (Write number byte) a e = absurd (cc)
+access_shows c Reset a e = absurd (cc)
 
 pub readings_show : (c : State) (r : Readings) → r ≡ readings_of c → Shows c Para (readings_seen r)
 readings_show c r is = subst (λ (x : Readings). Shows c Para (readings_seen x)) (sym is) shows

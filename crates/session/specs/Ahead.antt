@@ -5,7 +5,7 @@ use Rattle.tube_chip.specs.declared.Answer.{Answer}
 use Rattle.tube_chip.specs.declared.Answer.TheVariants.{Byte, Seen}
 use Rattle.tube_chip.specs.declared.Lines.{Lines}
 use Rattle.tube_chip.specs.declared.Op.{Op}
-use Rattle.tube_chip.specs.declared.Op.TheVariants.{Read, Write}
+use Rattle.tube_chip.specs.declared.Op.TheVariants.{Read, Write, Reset}
 use Rattle.tube_chip.specs.Act.{Query, access, look}
 use Rattle.tube_chip.specs.Events.{Event}
 use Rattle.tube_cell.specs.declared.local.Readings.{Readings}
@@ -30,6 +30,7 @@ byte_seen r (Read number) =
     else if number == 6 then Some (slice_index r.status 3)
     else None
 byte_seen r (Write number byte) = None
+byte_seen r Reset = None
 
 abbrev pub byte_answer : Option ℕ → Option Answer
 byte_answer None = None

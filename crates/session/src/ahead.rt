@@ -121,7 +121,7 @@ fn is_observed(ask: Ask) -> bool {
         Ask::Look(_) => true,
         Ask::Access(_, op) => match op {
             Op::Read(number) => number % 2 == 0,
-            Op::Write(_, _) => false,
+            Op::Write(..) | Op::Reset => false,
         },
     }
 }

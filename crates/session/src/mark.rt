@@ -40,7 +40,7 @@ pub(crate) fn byte_of(readings: &Readings, op: Op) -> Option<u8>
 {
     match op {
         Op::Read(number) => status_of(readings, number),
-        Op::Write(_, _) => None,
+        Op::Write(..) | Op::Reset => None,
     }
 }
 
