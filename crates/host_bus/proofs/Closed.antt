@@ -2,6 +2,7 @@
 use Rattle.std.proofs.Common.{◌≡◌, ◌∙◌, sym, refl, ap, ℕ, zero, suc, ◌+◌, ◌-◌, ◌<◌, ◌≤◌, ◌%◌, ◌==◌, max, Bool, List, ◌++◌, drop, replicate, if◌then◌else◌, arith}
 use Rattle.std.proofs.lemmas.Bool.{ne_eqb}
 use Rattle.std.proofs.lemmas.List.{append-nil}
+use Rattle.beeb_bits.specs.Clock.{micro}
 use Rattle.keyboard.specs.Keys.{Keys}
 use Rattle.host_bus.specs.Devices.{Devices, keys_at, microsecond, last_frame}
 use Rattle.host_bus.specs.Shots.{shot_at}
@@ -11,62 +12,64 @@ use Rattle.host_bus.specs.OnTime.{IsPlayed, IsOnTime}
 use Rattle.host_bus.specs.Closing.{board-again}
 use Rattle.host_bus.specs.declared.board.Board.TheInside.{Inside}
 use Rattle.host_bus.specs.declared.playback.Playback.{Playback}
+use Rattle.host_bus.proofs.Beats.{apart}
 use Rattle.host_bus.proofs.Played.{HasNone, none-between, played-later}
 
 -- before anything comes there is no shot
-pub quiet : (p : Playback) (closed next : ℕ) → IsPlayed p closed → IsOnTime closed p.event next → HasNone p.script closed next
-quiet p closed next played h = none-between p.script (drop p.place p.script) closed p.event next played.has_left played.later (omega (arith, h.least))
+pub quiet : (p : Playback) (u closed next : ℕ) → IsPlayed p closed → IsOnTime u closed p.event next → HasNone p.script closed next
+quiet p u closed next played h = none-between p.script (drop p.place p.script) closed p.event next played.has_left played.later (omega (arith, h.least))
 
 -- a tick that is no microsecond and has no shot
-idle-tick : (a : Around) (k closed event next : ℕ) (m : Moving) → IsOnTime closed event next → HasNone a.script closed next → closed ≤ k → k < next → tick a k m ≡ m
+idle-tick : (a : Around) (k closed event next : ℕ) (m : Moving) → IsOnTime (micro a.clock) closed event next → HasNone a.script closed next → closed ≤ k → k < next → tick a k m ≡ m
 idle-tick a k closed event next m h none low high =
     ap (λ (n : ℕ). let s : Moving = record { devices = beat a k m.devices; shots = m.shots ++ replicate n (last_frame m.devices) } in s) (none k low high)
     ∙ ap (λ (l : List (List ℕ)). let s : Moving = record { devices = beat a k m.devices; shots = l } in s) (append-nil m.shots)
     ∙ ap (λ (b : Bool). record m { devices = if b then microsecond a.ram a.font (keys_at k a.script) m.devices else m.devices })
-    (ne_eqb (k % 6) 0 (λ z. omega (arith, z, h.sixth, h.near, h.least, low, high)))
+    (ne_eqb (k % micro a.clock) 0 (λ z. omega (arith, apart (micro a.clock) k h.step z h.begins (omega (arith, h.least, high)), h.near, low)))
 
 -- nothing happens in ticks before the next microsecond and the next event
-pub idle : (a : Around) (n k closed event next : ℕ) (m : Moving) → IsOnTime closed event next → HasNone a.script closed next → closed ≤ k → k + n ≤ next → ticks a n k m ≡ m
+pub idle : (a : Around) (n k closed event next : ℕ) (m : Moving) → IsOnTime (micro a.clock) closed event next → HasNone a.script closed next → closed ≤ k → k + n ≤ next → ticks a n k m ≡ m
 idle a zero k closed event next m h none low high = refl
 idle a (suc n) k closed event next m h none low high =
     ap (λ (x : Moving). ticks a n (k + 1) x) (idle-tick a k closed event next m h none low (omega (arith, high)))
     ∙ idle a n (k + 1) closed event next m h none (omega (arith, low)) (omega (arith, high))
 
 -- a board that is closed before anything comes
-pub still-closed : (b : BoardState) (event next t : ℕ) → IsOnTime b.closed event next → HasNone b.script b.closed next → b.closed ≤ t → t ≤ next → record b { closed = t } ≡ board_closed b t
+pub still-closed : (b : BoardState) (event next t : ℕ) → IsOnTime (micro b.clock) b.closed event next → HasNone b.script b.closed next → b.closed ≤ t → t ≤ next → record b { closed = t } ≡ board_closed b t
 still-closed b event next t h none low high =
     let most : t ≡ max t b.closed = omega (arith, low) in
     ap (λ (n : ℕ). record b { closed = n }) most
     ∙ ap (λ (m : Moving). moved b (max t b.closed) m) (sym (idle (around b) (t - b.closed) b.closed b.closed event next (moving b) h none (omega arith) (omega (arith, low, high))))
 
-pub still-on-time : (closed event next t : ℕ) → IsOnTime closed event next → closed ≤ t → t ≤ next → IsOnTime t event next
-still-on-time closed event next t h low high =
-    record { micro = h.micro; sixth = h.sixth; first = omega (arith, h.least, high); near = omega (arith, low, h.near); least = h.least }
+pub still-on-time : (u closed event next t : ℕ) → IsOnTime u closed event next → closed ≤ t → t ≤ next → IsOnTime u t event next
+still-on-time u closed event next t h low high =
+    record { step = h.step; begins = h.begins; first = omega (arith, h.least, high); near = omega (arith, low, h.near); least = h.least }
 
 -- the board that is closed before anything comes is sound, and is what contracts see of closing it
 pub sound-later : (b : Inside) (t : ℕ) → IsSound b → b.closed ≤ t → t ≤ b.next → IsSound (record b { closed = t })
 sound-later b t h low high = record {
+  ticks = h.ticks;
   memory = h.memory;
   addresses = h.addresses;
   shows = h.shows;
   slot = h.slot;
   played = played-later b.playback b.closed t h.played low (omega (arith, h.on_time.least, high));
-  on_time = still-on-time b.closed b.playback.event b.next t h.on_time low high;
+  on_time = still-on-time (micro b.clock) b.closed b.playback.event b.next t h.on_time low high;
 }
 
 pub seen-later : (b : Inside) (t : ℕ) → IsSound b → b.closed ≤ t → t ≤ b.next → board_seen (record b { closed = t }) ≡ board_closed (board_seen b) t
 seen-later b t h low high =
-    still-closed (board_seen b) b.playback.event b.next t h.on_time (quiet b.playback b.closed b.next h.played h.on_time) low high
+    still-closed (board_seen b) b.playback.event b.next t h.on_time (quiet b.playback (micro b.clock) b.closed b.next h.played h.on_time) low high
 
 -- a board after the tick at which something comes
-ticked : (b : BoardState) (keys : Keys) (event next : ℕ) (d : Devices) (shots : List (List ℕ)) → IsOnTime b.closed event next → HasNone b.script b.closed next → b.closed ≤ next → keys ≡ keys_at next b.script →
-    d ≡ (if next % 6 == 0 then microsecond b.ram b.roms.font keys b.devices else b.devices) → shots ≡ shot_at next b.script (last_frame b.devices) b.shots →
+ticked : (b : BoardState) (keys : Keys) (event next : ℕ) (d : Devices) (shots : List (List ℕ)) → IsOnTime (micro b.clock) b.closed event next → HasNone b.script b.closed next → b.closed ≤ next → keys ≡ keys_at next b.script →
+    d ≡ (if next % micro b.clock == 0 then microsecond b.ram b.roms.font keys b.devices else b.devices) → shots ≡ shot_at next b.script (last_frame b.devices) b.shots →
     record b { devices = d; shots = shots; closed = next + 1 } ≡ board_closed b (next + 1)
 ticked b keys event next d shots h none low are is took =
     let still : record b { closed = next } ≡ board_closed b next = still-closed b event next next h none low (omega arith) in
     let one : 1 ≡ (next + 1) - next = omega arith in
     let most : next + 1 ≡ max (next + 1) next = omega arith in
-    ap (λ (x : Devices). record b { devices = x; shots = shots; closed = next + 1 }) (is ∙ ap (λ (f : Keys). if next % 6 == 0 then microsecond b.ram b.roms.font f b.devices else b.devices) are)
+    ap (λ (x : Devices). record b { devices = x; shots = shots; closed = next + 1 }) (is ∙ ap (λ (f : Keys). if next % micro b.clock == 0 then microsecond b.ram b.roms.font f b.devices else b.devices) are)
     ∙ ap (λ (x : List (List ℕ)). record b { devices = beat (around b) next b.devices; shots = x; closed = next + 1 }) took
     ∙ ap (λ (n : ℕ). moved b (next + 1) (ticks (around b) n next (moving b))) one
     ∙ ap (λ (n : ℕ). moved b n (ticks (around b) ((next + 1) - next) next (moving b))) most
@@ -74,9 +77,9 @@ ticked b keys event next d shots h none low are is took =
     ∙ board-again b next (next + 1) (omega arith)
 
 -- and on to a tick before which nothing comes again
-pub ticked-on : (b : BoardState) (keys : Keys) (event next event_on next_on u : ℕ) (d : Devices) (shots : List (List ℕ)) → IsOnTime b.closed event next → HasNone b.script b.closed next → b.closed ≤ next → keys ≡ keys_at next b.script →
-    d ≡ (if next % 6 == 0 then microsecond b.ram b.roms.font keys b.devices else b.devices) → shots ≡ shot_at next b.script (last_frame b.devices) b.shots →
-    IsOnTime (next + 1) event_on next_on → HasNone b.script (next + 1) next_on → next + 1 ≤ u → u ≤ next_on →
+pub ticked-on : (b : BoardState) (keys : Keys) (event next event_on next_on u : ℕ) (d : Devices) (shots : List (List ℕ)) → IsOnTime (micro b.clock) b.closed event next → HasNone b.script b.closed next → b.closed ≤ next → keys ≡ keys_at next b.script →
+    d ≡ (if next % micro b.clock == 0 then microsecond b.ram b.roms.font keys b.devices else b.devices) → shots ≡ shot_at next b.script (last_frame b.devices) b.shots →
+    IsOnTime (micro b.clock) (next + 1) event_on next_on → HasNone b.script (next + 1) next_on → next + 1 ≤ u → u ≤ next_on →
     record b { devices = d; shots = shots; closed = u } ≡ board_closed b u
 ticked-on b keys event next event_on next_on u d shots h none low are is took on none_on past high =
     still-closed (record b { devices = d; shots = shots; closed = next + 1 }) event_on next_on u on none_on past high

@@ -1,5 +1,6 @@
 pub mod Owners
 pub mod Ram
+pub mod Beats
 pub mod Places
 pub mod Played
 pub mod Closed

@@ -1,5 +1,8 @@
 -- The board of the host: memory, devices and script, its clock, and its accesses but for those of the plugged devices.
-use Rattle.std.specs.Prelude.{ℕ, zero, suc, ◌+◌, ◌-◌, ◌%◌, ◌==◌, max, Bool, List, [], Option, slice_index, slice_set, replicate, if◌then◌else◌}
+use Rattle.std.specs.Prelude.{ℕ, zero, suc, ◌+◌, ◌-◌, ◌%◌, ◌==◌, max, Bool, List, [], Option, slice_index, slice_set, if◌then◌else◌}
+use Rattle.beeb_bits.specs.declared.clock.Clock.{Clock}
+use Rattle.beeb_bits.specs.Clock.{micro}
+use Rattle.beeb_bits.specs.Zeros.{zeros}
 use Rattle.saa5050.specs.Shapes.{Font}
 use Rattle.rom_set.specs.Roms.{Roms, rom_byte}
 use Rattle.disc_image.specs.Image.{Image}
@@ -10,6 +13,8 @@ use Rattle.host_bus.specs.Shots.{shot_at}
 use Rattle.host_bus.specs.Devices.{Devices, keys_at, microsecond, last_frame, crtc_answer, crtc_written, ula_written, system_answer, system_read, system_written, user_answer, user_read, user_written, disc_latched, disc_answer, disc_read, disc_written, devices_ask, first_devices}
 
 pub record BoardState : Type 0 where
+  -- how long a tick is
+  pub clock : Clock
   pub ram : List ℕ
   pub roms : Roms
   -- the slot of the paged ROM
@@ -22,8 +27,9 @@ pub record BoardState : Type 0 where
   -- all ticks below this one are done
   pub closed : ℕ
 
--- What a tick goes by: the RAM, the teletext font, and the script.
+-- What a tick goes by: how long it is, the RAM, the teletext font, and the script.
 pub record Around : Type 0 where
+  pub clock : Clock
   pub ram : List ℕ
   pub font : Font
   pub script : List Event
@@ -37,9 +43,9 @@ pub record Moving : Type 0 where
 abbrev pub shot : ℕ → List Event → Moving → Moving
 shot k script m = record m { shots = shot_at k script (last_frame m.devices) m.shots }
 
--- every sixth tick is a microsecond, with the keys of that tick
+-- With u ticks in a microsecond, its step m comes at tick u m, with the keys of that tick.
 abbrev pub beat : Around → ℕ → Devices → Devices
-beat a k d = if k % 6 == 0 then microsecond a.ram a.font (keys_at k a.script) d else d
+beat a k d = if k % micro a.clock == 0 then microsecond a.ram a.font (keys_at k a.script) d else d
 
 -- Tick k: its shots are taken, and then comes the microsecond.
 abbrev pub tick : Around → ℕ → Moving → Moving
@@ -51,7 +57,7 @@ ticks a zero k m = m
 ticks a (suc n) k m = ticks a n (k + 1) (tick a k m)
 
 abbrev pub around : BoardState → Around
-around b = record { ram = b.ram; font = b.roms.font; script = b.script }
+around b = record { clock = b.clock; ram = b.ram; font = b.roms.font; script = b.script }
 
 abbrev pub moving : BoardState → Moving
 moving b = record { devices = b.devices; shots = b.shots }
@@ -111,10 +117,18 @@ abbrev pub board_nmis : BoardState → ℕ
 board_nmis b = b.devices.disc.nmis
 
 -- 32,768 bytes 00
-unfoldable pub clear_ram : List ℕ
-clear_ram = replicate 32768 0
+abbrev pub clear_ram : List ℕ
+clear_ram = zeros 32768
 
--- the board at power-on, with these images, the discs of both drives, and this script
-abbrev pub first_board : Roms → Option Image → Option Image → List Event → BoardState
-first_board roms d0 d1 script =
-    record { ram = clear_ram; roms = roms; latch = 0; script = script; devices = first_devices d0 d1; shots = []; closed = 0 }
+-- the board at power-on, at this clock, with these images, the discs of both drives, and this script
+abbrev pub first_board : Clock → Roms → Option Image → Option Image → List Event → BoardState
+first_board clock roms d0 d1 script = record {
+  clock = clock;
+  ram = clear_ram;
+  roms = roms;
+  latch = 0;
+  script = script;
+  devices = first_devices d0 d1;
+  shots = [];
+  closed = 0;
+}

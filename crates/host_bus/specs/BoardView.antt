@@ -1,5 +1,6 @@
 -- What contracts see of the board's fields, and what the fields keep.
 use Rattle.std.specs.Prelude.{◌≡◌, ◌<◌, length}
+use Rattle.beeb_bits.specs.Clock.{micro}
 use Rattle.host_bus.specs.declared.board.Board.TheInside.{Inside}
 use Rattle.host_bus.specs.Board.{BoardState}
 use Rattle.host_bus.specs.Shows.{Shows}
@@ -7,6 +8,7 @@ use Rattle.host_bus.specs.OnTime.{IsPlayed, IsOnTime}
 
 abbrev pub board_seen : Inside → BoardState
 board_seen b = record {
+  clock = b.clock;
   ram = b.ram.items;
   roms = b.roms;
   latch = b.latch;
@@ -17,9 +19,10 @@ board_seen b = record {
 }
 
 pub record IsSound (b : Inside) : Type 0 where
+  pub ticks : b.micro ≡ micro b.clock
   pub memory : length b.ram.items ≡ 32768
   pub addresses : length b.shown.items ≡ 65536
   pub shows : Shows b.ram.items b.roms.os b.shown.items
   pub slot : b.latch < 16
   pub played : IsPlayed b.playback b.closed
-  pub on_time : IsOnTime b.closed b.playback.event b.next
+  pub on_time : IsOnTime (micro b.clock) b.closed b.playback.event b.next

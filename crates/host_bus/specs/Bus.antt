@@ -1,5 +1,6 @@
 -- The bus of the host: the board, and the plugged devices on FRED and JIM.
 use Rattle.std.specs.Prelude.{ℕ, Bool, true, false, List, Option, if◌then◌else◌}
+use Rattle.beeb_bits.specs.declared.clock.Clock.{Clock}
 use Rattle.bus_plug.specs.Plug.{Plug}
 use Rattle.rom_set.specs.Roms.{Roms}
 use Rattle.disc_image.specs.Image.{Image}
@@ -14,6 +15,10 @@ use Rattle.host_bus.specs.Plugs.{plugs_answer, plugs_after_read, plugs_after_wri
 pub record BusState : Type 0 where
   pub board : BoardState
   pub plugs : List Plug
+
+-- how long its ticks are
+abbrev pub clock_of : BusState → Clock
+clock_of b = b.board.clock
 
 -- all device steps below tick t are done, and those that were done already
 abbrev pub bus_closed : BusState → ℕ → BusState
@@ -60,6 +65,6 @@ bus_nmis b = board_nmis b.board
 abbrev pub bus_disc : ℕ → BusState → Option Image
 bus_disc drive b = disc_of drive b.board.devices.disc
 
--- the bus at power-on, with these images, the discs of both drives, this script and these plugged devices
-abbrev pub bus_power_on : Roms → Option Image → Option Image → List Event → List Plug → BusState
-bus_power_on roms d0 d1 script plugs = record { board = first_board roms d0 d1 script; plugs = plugs }
+-- the bus at power-on, at this clock, with these images, the discs of both drives, this script and these plugged devices
+abbrev pub bus_power_on : Clock → Roms → Option Image → Option Image → List Event → List Plug → BusState
+bus_power_on clock roms d0 d1 script plugs = record { board = first_board clock roms d0 d1 script; plugs = plugs }

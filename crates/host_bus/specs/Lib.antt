@@ -10,3 +10,4 @@ pub mod BoardView
 pub mod View
 pub mod Closing
 pub mod AtTube
+pub mod SameClock

@@ -33,11 +33,11 @@ pub record IsPlayed (p : Playback) (t : ℕ) : Type 0 where
   pub later : NeverFallsFrom p.event (drop p.place p.script)
   pub early : t ≤ p.event
 
--- The next tick at which something comes, a microsecond or an event, is known.
-pub record IsOnTime (closed event next : ℕ) : Type 0 where
+-- The next tick at which something comes, a microsecond, of u ticks each, or an event, is known.
+pub record IsOnTime (u closed event next : ℕ) : Type 0 where
   -- the tick of the next microsecond
-  pub micro : ℕ
-  pub sixth : micro % 6 ≡ 0
-  pub first : closed ≤ micro
-  pub near : micro < closed + 6
-  pub least : next ≡ min micro event
+  pub step : ℕ
+  pub begins : step % u ≡ 0
+  pub first : closed ≤ step
+  pub near : step < closed + u
+  pub least : next ≡ min step event

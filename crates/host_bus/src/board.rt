@@ -12,12 +12,12 @@ ghost use Rattle.host_bus.specs.Shows.{Covered, Shows};
 use crate::devices::Devices;
 use crate::map::{Place, place_in_sheila};
 use crate::playback::Playback;
-use beeb_bits::NoMemory;
+use beeb_bits::{Clock, NoMemory, zeroed};
 use disc_image::Disc;
 use key_script::Script;
 use raster::Frame;
 use rom_set::RomSet;
-use std::alloc::{AllocError, Global};
+use std::alloc::Global;
 use std::marker::Model;
 
 /// How many bytes the RAM has.
@@ -35,6 +35,9 @@ const OS_SIZE: u16 = 16_384;
 /// All of the host's bus but the plugged devices. Every tick below `closed` is done.
 #[derive(Drop)]
 pub struct Board {
+    clock: Clock,
+    // A microsecond in ticks.
+    micro: u64,
     ram: Vec<u8>,
     // What a read shows of the RAM and the operating system, so that it takes one load. The bytes of the paged ROM are not read here.
     shown: Vec<u8>,
@@ -58,26 +61,6 @@ impl Model for Board {
     ghost invariant = { IsSound };
 }
 
-// The RAM at power-on. The size is an argument so that no proof writes the list out.
-#[tactic(none)]
-fn clear_ram(alloc: Global, size: usize) -> Result<Vec<u8>, AllocError>
-    requires { size ≡ RAM_SIZE }
-    ensures items { IfOk result (λ v. v.items ≡ clear_ram) }
-    ensures length { IfOk result (λ v. length v.items ≡ RAM_SIZE) }
-{
-    vec![in alloc; 0; size]
-}
-
-// As many bytes as there are addresses, all 00. The size is an argument here too.
-#[tactic(none)]
-fn clear_shown(alloc: Global, size: usize) -> Result<Vec<u8>, AllocError>
-    requires { size ≡ ADDRESSES }
-    ensures items { IfOk result (λ v. (at : ℕ) → slice_index v.items at ≡ 0) }
-    ensures length { IfOk result (λ v. length v.items ≡ ADDRESSES) }
-{
-    vec![in alloc; 0; size]
-}
-
 // Copies the operating system to where it is read.
 fn cover(shown: &mut [u8], roms: &RomSet)
     requires { length shown.old ≡ ADDRESSES }
@@ -90,34 +73,44 @@ fn cover(shown: &mut [u8], roms: &RomSet)
 }
 
 // What a read shows at power-on: clear RAM, and the operating system.
-fn first_shown(alloc: Global, roms: &RomSet) -> Result<Vec<u8>, AllocError>
+fn first_shown(alloc: Global, roms: &RomSet) -> Result<Vec<u8>, NoMemory>
     ensures length { IfOk result (λ v. length v.items ≡ ADDRESSES) }
     ensures shows { IfOk result (λ v. Shows clear_ram roms.now.os v.items) }
 {
-    let mut shown = clear_shown(alloc, ADDRESSES)?;
+    let mut shown = zeroed(alloc, ADDRESSES)?;
     cover(&mut shown, roms);
     Ok(shown)
 }
 
 // Tick `k`, the next one at which something comes: its shots are taken, and then comes the microsecond, if it is one. Answers the tick behind
-// it at which something comes next. Most ticks at which something comes are microseconds with no event.
+// it at which something comes next. Most ticks at which something comes are microseconds with no event. A microsecond has so many ticks.
 #[inline(always)]
-fn tick(devices: &mut Devices, playback: &mut Playback, ram: &[u8], roms: &RomSet, k: u64) -> u64
+fn tick(
+    devices: &mut Devices,
+    playback: &mut Playback,
+    ram: &[u8],
+    roms: &RomSet,
+    micro: u64,
+    k: u64,
+) -> u64
     requires ram { length ram.now ≡ RAM_SIZE }
+    requires micro { (0 < micro) × (micro < 2 ^ 48) }
     requires room { k < 2 ^ 48 }
     requires played { IsPlayed playback.old k }
-    requires due { k < playback.old.event → k % 6 ≡ 0 }
+    requires due { k < playback.old.event → k % micro ≡ 0 }
     ensures script { playback.new.script ≡ playback.old.script }
-    ensures shots { playback.new.shots.frames ≡ shot_at k playback.old.script (last_frame devices.old) playback.old.shots.frames }
+    ensures shots { let frame = last_frame devices.old in
+        playback.new.shots.frames ≡ shot_at k playback.old.script frame playback.old.shots.frames }
     ensures played { IsPlayed playback.new (k + 1) }
-    ensures devices { devices.new ≡ (if k % 6 == 0 then microsecond ram.now roms.now.font (keys_of playback.new.keys) devices.old else devices.old) }
-    ensures next { IsOnTime (k + 1) playback.new.event result }
+    ensures devices { let after = microsecond ram.now roms.now.font (keys_of playback.new.keys) devices.old in
+        devices.new ≡ (if k % micro == 0 then after else devices.old) }
+    ensures next { IsOnTime micro (k + 1) playback.new.event result }
 {
     if k < playback.event {
         devices.step(ram, roms, &playback.keys);
-        (k + 6).min(playback.event)
+        (k + micro).min(playback.event)
     } else {
-        tick_with_events(devices, playback, ram, roms, k)
+        tick_with_events(devices, playback, ram, roms, micro, k)
     }
 }
 
@@ -129,42 +122,46 @@ fn tick_with_events(
     playback: &mut Playback,
     ram: &[u8],
     roms: &RomSet,
+    micro: u64,
     k: u64,
 ) -> u64
     requires ram { length ram.now ≡ RAM_SIZE }
+    requires micro { (0 < micro) × (micro < 2 ^ 48) }
     requires room { k < 2 ^ 48 }
     requires played { IsPlayed playback.old k }
     ensures script { playback.new.script ≡ playback.old.script }
-    ensures shots { playback.new.shots.frames ≡ shot_at k playback.old.script (last_frame devices.old) playback.old.shots.frames }
+    ensures shots { let frame = last_frame devices.old in
+        playback.new.shots.frames ≡ shot_at k playback.old.script frame playback.old.shots.frames }
     ensures played { IsPlayed playback.new (k + 1) }
-    ensures devices { devices.new ≡ (if k % 6 == 0 then microsecond ram.now roms.now.font (keys_of playback.new.keys) devices.old else devices.old) }
-    ensures next { IsOnTime (k + 1) playback.new.event result }
+    ensures devices { let after = microsecond ram.now roms.now.font (keys_of playback.new.keys) devices.old in
+        devices.new ≡ (if k % micro == 0 then after else devices.old) }
+    ensures next { IsOnTime micro (k + 1) playback.new.event result }
 {
     playback.play(devices.last_frame(), k);
-    devices.tick(ram, roms, &playback.keys, k);
-    (k + 6 - k % 6).min(playback.event)
+    devices.tick(ram, roms, &playback.keys, micro, k);
+    (k + micro - k % micro).min(playback.event)
 }
 
 impl Board {
-    /// The board at power-on, with these images, the discs of both drives, and this script. It takes the memory of all shots of the script.
+    /// The board at power-on, at this clock, with these images, the discs of both drives, and this script. It takes the memory of all shots of
+    /// the script.
     pub fn make(
         alloc: Global,
+        clock: Clock,
         roms: RomSet,
         d0: Option<Disc>,
         d1: Option<Disc>,
         script: Script,
     ) -> Result<Board, NoMemory>
-        ensures { IfOk result (λ b. b ≡ first_board roms d0 d1 script) }
+        ensures { IfOk result (λ b. b ≡ first_board clock roms d0 d1 script) }
     {
-        let Ok(ram) = clear_ram(alloc, RAM_SIZE) else {
-            return Err(NoMemory);
-        };
-        let Ok(shown) = first_shown(alloc, &roms) else {
-            return Err(NoMemory);
-        };
+        let ram = zeroed(alloc, RAM_SIZE)?;
+        let shown = first_shown(alloc, &roms)?;
         let devices = Devices::make(alloc, d0, d1)?;
         let playback = Playback::make(alloc, script)?;
         Ok(Board {
+            clock,
+            micro: clock.micro(),
             ram,
             shown,
             roms,
@@ -174,6 +171,14 @@ impl Board {
             closed: 0,
             next: 0,
         })
+    }
+
+    /// How long its ticks are.
+    #[inline(always)]
+    pub fn clock(&self) -> Clock
+        ensures { result ≡ (self.now).clock }
+    {
+        self.clock
     }
 
     /// All ticks below this one are done.
@@ -198,6 +203,7 @@ impl Board {
                 &mut self.playback,
                 &self.ram,
                 &self.roms,
+                self.micro,
                 next,
             );
         }
@@ -303,7 +309,8 @@ impl Board {
 
     /// The disc in a drive.
     pub fn disc(&self, drive: u8) -> Option<&Disc>
-        ensures { MatchOption result (disc_of drive (self.now).devices.disc ≡ None) (λ disc. disc_of drive (self.now).devices.disc ≡ Some disc.now) }
+        ensures { let there = disc_of drive (self.now).devices.disc in
+            MatchOption result (there ≡ None) (λ disc. there ≡ Some disc.now) }
     {
         self.devices.disc(drive)
     }

@@ -1,12 +1,12 @@
 //! The bus.
 ghost use Rattle.std.specs.Prelude.{◌≡◌, ◌≤◌, ◌<◌, ◌+◌, ◌^◌, ◌⊎◌, ℕ, IfOk, None, Some, MatchOption, map};
 ghost use Rattle.host_bus.specs.Map.{stretch};
-ghost use Rattle.host_bus.specs.Bus.{bus_closed, closed_at, bus_answer, bus_after_read, bus_after_write, bus_irq, bus_nmis, bus_disc, bus_power_on};
+ghost use Rattle.host_bus.specs.Bus.{bus_closed, closed_at, clock_of, bus_answer, bus_after_read, bus_after_write, bus_irq, bus_nmis, bus_disc, bus_power_on};
 ghost use Rattle.host_bus.specs.View.{bus_seen};
 
 use crate::board::Board;
 use crate::plugged::{read_first, write_first};
-use beeb_bits::{NoMemory, Tick};
+use beeb_bits::{Clock, NoMemory, Tick};
 use bus_plug::BusDevice;
 use disc_image::Disc;
 use key_script::Script;
@@ -22,19 +22,29 @@ pub struct Bus<D = Box<dyn BusDevice + Send>> {
 }
 
 impl<D: BusDevice> Bus<D> {
-    /// The bus at power-on. It takes the memory of all shots of the script. Where memory is wanting, all is dropped.
+    /// The bus at power-on, at this clock. It takes the memory of all shots of the script. Where memory is wanting, all is dropped.
     pub fn make(
         alloc: Global,
+        clock: Clock,
         roms: RomSet,
         d0: Option<Disc>,
         d1: Option<Disc>,
         script: Script,
         plugs: Vec<D>,
     ) -> Result<Bus<D>, NoMemory>
-        ensures { IfOk result (λ b. bus_seen D.plug b ≡ bus_power_on roms d0 d1 script (map D.plug plugs.items)) }
+        ensures { let devices = map D.plug plugs.items in
+            IfOk result (λ b. bus_seen D.plug b ≡ bus_power_on clock roms d0 d1 script devices) }
     {
-        let board = Board::make(alloc, roms, d0, d1, script)?;
+        let board = Board::make(alloc, clock, roms, d0, d1, script)?;
         Ok(Bus { board, plugs })
+    }
+
+    /// How long its ticks are.
+    #[inline(always)]
+    pub fn clock(&self) -> Clock
+        ensures { result ≡ clock_of (bus_seen D.plug self.now) }
+    {
+        self.board.clock()
     }
 
     /// All ticks below this one are done.
@@ -78,7 +88,8 @@ impl<D: BusDevice> Bus<D> {
 
     // A read at the last tick that is done.
     fn read_now(&mut self, at: u16) -> u8
-        ensures answer { (t : ℕ) → closed_at (bus_seen D.plug self.old) ≡ t + 1 → result ≡ bus_answer (bus_seen D.plug self.old) t at }
+        ensures answer { let old = bus_seen D.plug self.old in
+            (t : ℕ) → closed_at old ≡ t + 1 → result ≡ bus_answer old t at }
         ensures after { bus_seen D.plug self.new ≡ bus_after_read (bus_seen D.plug self.old) at }
         ensures closed { closed_at (bus_seen D.plug self.new) ≡ closed_at (bus_seen D.plug self.old) }
     {
@@ -110,7 +121,8 @@ impl<D: BusDevice> Bus<D> {
         requires later { closed_at (bus_seen D.plug self.old) ≤ t.0 + 1 }
         requires room { t.0 < 2 ^ 40 }
         ensures answer { result ≡ bus_answer (bus_closed (bus_seen D.plug self.old) (t.0 + 1)) t.0 at }
-        ensures after { bus_seen D.plug self.new ≡ bus_after_read (bus_closed (bus_seen D.plug self.old) (t.0 + 1)) at }
+        ensures after { let closed = bus_closed (bus_seen D.plug self.old) (t.0 + 1) in
+            bus_seen D.plug self.new ≡ bus_after_read closed at }
         ensures closed { closed_at (bus_seen D.plug self.new) ≡ t.0 + 1 }
     {
         self.close(t.0 + 1);
@@ -121,7 +133,8 @@ impl<D: BusDevice> Bus<D> {
     pub fn write(&mut self, t: Tick, at: u16, v: u8)
         requires later { closed_at (bus_seen D.plug self.old) ≤ t.0 + 1 }
         requires room { t.0 < 2 ^ 40 }
-        ensures after { bus_seen D.plug self.new ≡ bus_after_write (bus_closed (bus_seen D.plug self.old) (t.0 + 1)) at v }
+        ensures after { let closed = bus_closed (bus_seen D.plug self.old) (t.0 + 1) in
+            bus_seen D.plug self.new ≡ bus_after_write closed at v }
         ensures closed { closed_at (bus_seen D.plug self.new) ≡ t.0 + 1 }
     {
         let next = t.0 + 1;
@@ -196,7 +209,8 @@ impl<D: BusDevice> Bus<D> {
 
     /// The disc in drive 0 or 1. None where the drive has none, and for any other number.
     pub fn disc(&self, drive: u8) -> Option<&Disc>
-        ensures { MatchOption result (bus_disc drive (bus_seen D.plug self.now) ≡ None) (λ disc. bus_disc drive (bus_seen D.plug self.now) ≡ Some disc.now) }
+        ensures { let there = bus_disc drive (bus_seen D.plug self.now) in
+            MatchOption result (there ≡ None) (λ disc. there ≡ Some disc.now) }
     {
         self.board.disc(drive)
     }

@@ -44,7 +44,8 @@ impl Model for Devices {
 
     ghost Value = { Devices };
 
-    ghost view = { λ d. record { video = d.video; disc = d.disc; latch = d.latch.bits; system = d.system; user = d.user } };
+    ghost view = { λ d.
+        record { video = d.video; disc = d.disc; latch = d.latch.bits; system = d.system; user = d.user } };
 
     ghost invariant = { λ d. d.size ≡ screen_size d.latch.bits };
 }
@@ -114,12 +115,14 @@ impl Devices {
         self.user.step(USER_PINS);
     }
 
-    /// Tick `k`, which is a microsecond or not.
-    pub(crate) fn tick(&mut self, ram: &[u8], roms: &RomSet, keys: &Keys, k: u64)
-        requires { length ram.now ≡ 32768 }
-        ensures { self.new ≡ (if k % 6 == 0 then microsecond ram.now roms.now.font (keys_of keys.now) self.old else self.old) }
+    /// Tick `k`, which is a microsecond, where these have so many ticks, or not.
+    pub(crate) fn tick(&mut self, ram: &[u8], roms: &RomSet, keys: &Keys, micro: u64, k: u64)
+        requires ram { length ram.now ≡ 32768 }
+        requires micro { 0 < micro }
+        ensures { let after = microsecond ram.now roms.now.font (keys_of keys.now) self.old in
+            self.new ≡ (if k % micro == 0 then after else self.old) }
     {
-        if k % 6 == 0 {
+        if k % micro == 0 {
             self.step(ram, roms, keys);
         }
     }
@@ -249,7 +252,8 @@ impl Devices {
 
     /// The disc in a drive.
     pub(crate) fn disc(&self, drive: u8) -> Option<&Disc>
-        ensures { MatchOption result (disc_of drive (self.now).disc ≡ None) (λ disc. disc_of drive (self.now).disc ≡ Some disc.now) }
+        ensures { let there = disc_of drive (self.now).disc in
+            MatchOption result (there ≡ None) (λ disc. there ≡ Some disc.now) }
     {
         self.disc.disc(drive)
     }

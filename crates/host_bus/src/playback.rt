@@ -28,7 +28,8 @@ fn turn(keys: &mut Keys, taken: &mut Shots, frame: &Frame, event: Event)
     requires keyed { IsKeyed event.what }
     requires room { shots (event ∷ []) ≤ (taken.old).room }
     ensures keys { keys_of keys.new ≡ key_turned event.what (keys_of keys.old) }
-    ensures frames { (taken.new).frames ≡ (if is_shot event then (taken.old).frames ++ frame.now ∷ [] else (taken.old).frames) }
+    ensures frames { let before = (taken.old).frames in
+        (taken.new).frames ≡ (if is_shot event then before ++ frame.now ∷ [] else before) }
     ensures room { (taken.new).room + shots (event ∷ []) ≡ (taken.old).room }
 {
     match event.what {
@@ -69,8 +70,10 @@ fn happen(
 // A tick before which no event comes, from this place on.
 fn event_tick(events: &[Event], place: usize) -> u64
     requires { place ≤ length events.now }
-    ensures later { (from : ℕ) → NeverFallsFrom from (drop place events.now) → NeverFallsFrom result (drop place events.now) }
-    ensures above { (from : ℕ) → from < 2 ^ 63 → NeverFallsFrom from (drop place events.now) → from ≤ result }
+    ensures later { let left = drop place events.now in
+        (from : ℕ) → NeverFallsFrom from left → NeverFallsFrom result left }
+    ensures above { let left = drop place events.now in
+        (from : ℕ) → from < 2 ^ 63 → NeverFallsFrom from left → from ≤ result }
 {
     if place < events.len() {
         events[place].tick.0

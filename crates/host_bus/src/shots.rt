@@ -34,7 +34,9 @@ fn black_frames(alloc: Global, events: &[Event]) -> Result<Vec<Frame>, NoMemory>
     for event in events {
         if event.what == What::Shot {
             let frame = Frame::black(alloc)?;
-            frames.push(frame)?;
+            let Ok(()) = frames.push(frame) else {
+                return Err(NoMemory);
+            };
         }
     }
     Ok(frames)

@@ -1,4 +1,5 @@
 use Rattle.std.proofs.Common.{◌≡◌, ◌≤◌, ◌+◌, ◌∙◌, ap, subst, drop, min, List, arith}
+use Rattle.beeb_bits.specs.Clock.{micro}
 use Rattle.keyboard.specs.Keys.{keys_of}
 use Rattle.key_script.specs.declared.Event.{Event}
 use Rattle.host_bus.specs.Devices.{keys_at}
@@ -29,22 +30,23 @@ loop-next-preserved c =
     let sound = c.loop-next.invariant.sound in
     let p = c.tick-next.new.playback in
     let u = min c.tick-next.result c.args.t in
-    let done = rw c.deref.ensures.value at c.tick-next.ensures in
+    let done = rw sound.ticks at (rw c.deref.ensures.value at c.tick-next.ensures) in
     let played = done.played in
-    let on : IsOnTime (next + 1) p.event c.tick-next.result = done.next in
+    let on : IsOnTime (micro b.clock) (next + 1) p.event c.tick-next.result = done.next in
     let past : next + 1 ≤ u = omega (arith, c.loop-next-test.true, on.first, on.least, played.early) in
     let high : u ≤ c.tick-next.result = omega arith in
-    let none = quiet b.playback b.closed next sound.played sound.on_time in
-    let none_on = subst (λ (script : List Event). HasNone script (next + 1) c.tick-next.result) done.script (quiet p (next + 1) c.tick-next.result played on) in
+    let none = quiet b.playback (micro b.clock) b.closed next sound.played sound.on_time in
+    let none_on = subst (λ (script : List Event). HasNone script (next + 1) c.tick-next.result) done.script (quiet p (micro b.clock) (next + 1) c.tick-next.result played on) in
     let are : keys_of p.keys ≡ keys_at next b.playback.script = keys-are p.script (drop p.place p.script) (keys_of p.keys) next p.event played.is_left played.later played.early ∙ ap (λ (script : List Event). keys_at next script) done.script in
     record {
       sound = record {
+        ticks = sound.ticks;
         memory = sound.memory;
         addresses = sound.addresses;
         shows = sound.shows;
         slot = sound.slot;
         played = played-later p (next + 1) u played past (omega (arith, high, on.least));
-        on_time = still-on-time (next + 1) p.event c.tick-next.result u on past high;
+        on_time = still-on-time (micro b.clock) (next + 1) p.event c.tick-next.result u on past high;
       };
       same = caught (board_seen b) (board_seen (record b { playback = p; devices = c.tick-next.new.devices; closed = u })) (board_closed c.args.self.now c.args.t) u c.args.t
           (ap (λ (script : List Event). let s : BoardState = record (board_seen b) { script = script; devices = c.tick-next.new.devices; shots = p.shots.frames; closed = u } in s) done.script

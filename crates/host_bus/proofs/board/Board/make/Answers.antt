@@ -1,13 +1,17 @@
-use Rattle.std.proofs.Common.{List, ℕ, refl, sym, subst, arith}
+use Rattle.std.proofs.Common.{List, ℕ, sym, subst, arith}
+use Rattle.std.proofs.Math.Nat.{zero-mod}
+use Rattle.beeb_bits.specs.Clock.{micro}
 use Rattle.host_bus.specs.Shows.{Shows}
+use Rattle.host_bus.proofs.Beats.{some-micro}
 use Rattle.host_bus.proofs.board.Board.make.Goals as goal
 
 pub invariant_of-result : goal.invariant_of-result
 invariant_of-result c = record {
-  memory = c.in-Ok.ensures.length;
-  addresses = c.in-Ok-first_shown.ensures.length;
-  shows = subst (λ (ram : List ℕ). Shows ram c.args.roms.os c.in-Ok-first_shown.shown.items) (sym c.in-Ok.ensures.items) c.in-Ok-first_shown.ensures.shows;
+  ticks = c.micro.ensures.value;
+  memory = c.in_ok-ram.ensures.length;
+  addresses = c.in_ok-shown.ensures.length;
+  shows = subst (λ (ram : List ℕ). Shows ram c.args.roms.os c.in_ok-shown.shown.items) (sym c.in_ok-ram.ensures.items) c.in_ok-shown.ensures.shows;
   slot = omega arith;
   played = c.in_ok-playback.ensures.played;
-  on_time = record { micro = 0; sixth = refl; first = omega arith; near = omega arith; least = omega arith };
+  on_time = record { step = 0; begins = zero-mod (micro c.args.clock); first = omega arith; near = omega (arith, some-micro c.args.clock); least = omega arith };
 }
