@@ -9,7 +9,7 @@ use Rattle.tube_trace.specs.Entries.{accesses, entry_of}
 use Rattle.tube_cell.specs.Passes.{Carried, own_horizon, here, bound_here, added}
 use Rattle.tube_party.specs.declared.party.Ask.{Ask}
 use Rattle.tube_party.specs.declared.party.Ask.TheVariants.{Nothing, Access, Look}
-use Rattle.tube_party.specs.Moves.{Moves, IsLawful, Runs, Heads, IsAsk, IsUnsure, Sees, shown}
+use Rattle.tube_party.specs.Moves.{Moves, IsLawful, Runs, Heads, IsAsk, IsUnsure, Sees, shown, course}
 use Rattle.session.specs.Ahead.{lines_seen, observed}
 use Rattle.session.specs.Station.{place}
 use Rattle.session.specs.Gone.{GoneOn}
@@ -19,13 +19,13 @@ use Rattle.session.proofs.Observing.{none_late, stops_at, made, looked, IsLooks}
 module _ {S : Type 0} (m : Moves S) (lawful : IsLawful m) (side : Side) (n : ℕ) where
   abbrev Rest : ℕ → S → List Event → S → Option Query → Type 0
   Rest k s events last o =
-      MatchOption o (Runs m side n k (m.next s None) events last)
-      (λ q. Heads events (λ e rest. (e.tick ≡ m.due s) × (e.side ≡ side) × (e.query ≡ q) × Runs m side n k (m.next s (Some e.answer)) rest last))
+      MatchOption o (Runs m side n k (m.next s None) (course events last))
+      (λ q. Heads events (λ e rest. (e.tick ≡ m.due s) × (e.side ≡ side) × (e.query ≡ q) × Runs m side n k (m.next s (Some e.answer)) (course rest last)))
 
   low_nil : (t : ℕ) (events : List Event) → events ≡ [] → All (λ e. e.tick < t) events
   low_nil t events none = subst (All (λ e. e.tick < t)) (sym none) (All-nil (λ e. e.tick < t))
 
-  rise_by : (k : ℕ) (s last : S) (events : List Event) (o : Option Query) → ((u : S) (b : List Event) → Runs m side n k u b last → (m.due u ≤ m.due last) × All (λ e. e.tick < m.due last) b)
+  rise_by : (k : ℕ) (s last : S) (events : List Event) (o : Option Query) → ((u : S) (b : List Event) → Runs m side n k u (course b last) → (m.due u ≤ m.due last) × All (λ e. e.tick < m.due last) b)
       → Rest k s events last o → (m.due s ≤ m.due last) × All (λ e. e.tick < m.due last) events
   rise_by k s last events None on h = let x = lawful.rises s None in let r = on (m.next s None) events h in let y = r.0 in (omega arith, r.1)
   rise_by k s last [] (Some q) on h = absurd h
@@ -37,22 +37,22 @@ module _ {S : Type 0} (m : Moves S) (lawful : IsLawful m) (side : Side) (n : ℕ
       (omega arith, All-cons (λ z. z.tick < m.due last) e rest (omega arith) r.1)
 
   -- a run's events lie below its next step
-  pub events_low : (k : ℕ) (s : S) (events : List Event) (last : S) → Runs m side n k s events last → (m.due s ≤ m.due last) × All (λ e. e.tick < m.due last) events
+  pub events_low : (k : ℕ) (s : S) (events : List Event) (last : S) → Runs m side n k s (course events last) → (m.due s ≤ m.due last) × All (λ e. e.tick < m.due last) events
   events_low zero s events last h = let e : m.due s ≡ m.due last = ap m.due h.1 in (omega arith, low_nil (m.due last) events h.0)
   events_low (suc k) s events last h = rise_by k s last events (m.asks s) (λ u b on. events_low k u b last on) h.1
 
-  under_by : (k : ℕ) (s last : S) (events : List Event) (o : Option Query) → m.due s < n → ((u : S) (b : List Event) → Runs m side n k u b last → All (λ e. e.tick < n) b)
+  under_by : (k : ℕ) (s last : S) (events : List Event) (o : Option Query) → m.due s < n → ((u : S) (b : List Event) → Runs m side n k u (course b last) → All (λ e. e.tick < n) b)
       → Rest k s events last o → All (λ e. e.tick < n) events
   under_by k s last events None lt on h = on (m.next s None) events h
   under_by k s last [] (Some q) lt on h = absurd h
   under_by k s last (e ∷ rest) (Some q) lt on h = let t = h.0 in All-cons (λ z. z.tick < n) e rest (omega arith) (on (m.next s (Some e.answer)) rest h.3)
 
   -- and below the end
-  pub events_under : (k : ℕ) (s : S) (events : List Event) (last : S) → Runs m side n k s events last → All (λ e. e.tick < n) events
+  pub events_under : (k : ℕ) (s : S) (events : List Event) (last : S) → Runs m side n k s (course events last) → All (λ e. e.tick < n) events
   events_under zero s events last h = low_nil n events h.0
   events_under (suc k) s events last h = under_by k s last events (m.asks s) h.0 (λ u b on. events_under k u b last on) h.1
 
-  few_by : (k : ℕ) (s last : S) (events : List Event) (o : Option Query) → ((u : S) (b : List Event) → Runs m side n k u b last → length (accesses b) + m.due u ≤ m.due last)
+  few_by : (k : ℕ) (s last : S) (events : List Event) (o : Option Query) → ((u : S) (b : List Event) → Runs m side n k u (course b last) → length (accesses b) + m.due u ≤ m.due last)
       → Rest k s events last o → length (accesses events) + m.due s ≤ m.due last
   few_by k s last events None on h = let x = lawful.rises s None in let r = on (m.next s None) events h in omega arith
   few_by k s last [] (Some q) on h = absurd h
@@ -64,7 +64,7 @@ module _ {S : Type 0} (m : Moves S) (lawful : IsLawful m) (side : Side) (n : ℕ
       omega arith
 
   -- a run has at most as many accesses as ticks
-  pub events_few : (k : ℕ) (s : S) (events : List Event) (last : S) → Runs m side n k s events last → length (accesses events) + m.due s ≤ m.due last
+  pub events_few : (k : ℕ) (s : S) (events : List Event) (last : S) → Runs m side n k s (course events last) → length (accesses events) + m.due s ≤ m.due last
   events_few zero s events last h = let e : m.due s ≡ m.due last = ap m.due h.1 in let none : length (accesses events) ≡ 0 = ap (λ l. length (accesses l)) h.0 in omega arith
   events_few (suc k) s events last h = few_by k s last events (m.asks s) (λ u b on. events_few k u b last on) h.1
 
@@ -93,7 +93,7 @@ gone_on m lawful n sure lines s s2 ask p p2 events later open_ events_are pass h
     let same = made m lawful p.side (lines_seen lines) n (min n sure) last (stops m lawful p.side n lines sure last s2 ask sees.asked sees.unsure) sees.steps (min n sure) s looks.events
     looks.runs looks.seen (both_low m lawful p.side n sure (min n sure) looks.events refl under looks.low) (omega arith) in
     let e : looks.events ≡ events = same ∙ sym events_are in
-    let runs = subst (λ (l : List Event). Runs m p.side n sees.steps s l last) e looks.runs in
+    let runs = subst (λ (l : List Event). Runs m p.side n sees.steps s (course l last)) e looks.runs in
     let low = events_low m lawful p.side n sees.steps s events last runs in
     let up = low.0 in
     record {

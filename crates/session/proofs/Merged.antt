@@ -4,7 +4,7 @@ use Rattle.beeb_bits.specs.declared.Side.{Side}
 use Rattle.beeb_bits.specs.declared.Side.TheVariants.{Host, Para}
 use Rattle.tube_chip.specs.Act.{Query}
 use Rattle.tube_chip.specs.Events.{Event, merge, put_in, of_side, is_side}
-use Rattle.tube_party.specs.Moves.{Moves, Runs}
+use Rattle.tube_party.specs.Moves.{Moves, Runs, course}
 use Rattle.session.proofs.Runs.{Then}
 
 -- all events are of this side
@@ -14,7 +14,7 @@ Sided side (e ∷ events) = (e.side ≡ side) × Sided side events
 
 module _ {S : Type 0} (r : Moves S) (side : Side) (n : ℕ) where
   sided_by : (k : ℕ) (s last : S) (a : List Event) (o : Option Query)
-      → ((t : S) (b : List Event) → Runs r side n k t b last → Sided side b)
+      → ((t : S) (b : List Event) → Runs r side n k t (course b last) → Sided side b)
       → Then r side n k s a last o → Sided side a
   sided_by k s last a None on h = on (r.next s None) a h
   sided_by k s last [] (Some q) on h = absurd h
@@ -24,7 +24,7 @@ module _ {S : Type 0} (r : Moves S) (side : Side) (n : ℕ) where
   nil_sided a is = rw is tt
 
   -- the events of a run are of its side
-  pub sided : (k : ℕ) (s last : S) (a : List Event) → Runs r side n k s a last → Sided side a
+  pub sided : (k : ℕ) (s last : S) (a : List Event) → Runs r side n k s (course a last) → Sided side a
   sided zero s last a h = nil_sided a h.0
   sided (suc k) s last a h = sided_by k s last a (r.asks s) (λ t b on. sided k t last b on) h.1
 

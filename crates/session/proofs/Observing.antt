@@ -17,7 +17,7 @@ use Rattle.tube_trace.specs.Entries.{accesses}
 use Rattle.tube_cell.specs.declared.local.Readings.{Readings}
 use Rattle.tube_cell.specs.Views.{below, is_observation, readings_of}
 use Rattle.tube_cell.specs.Steps.{Watches}
-use Rattle.tube_party.specs.Moves.{Moves, IsLawful, Runs, Heads, Looks, shown}
+use Rattle.tube_party.specs.Moves.{Moves, IsLawful, Runs, Heads, Looks, shown, course}
 use Rattle.session.specs.Steps.{event_at}
 use Rattle.session.specs.Ahead.{Sight, lines_seen, byte_seen, byte_answer, readings_seen, joins, observed_by, observed, IsSeen}
 
@@ -150,8 +150,8 @@ module _ {S : Type 0} (m : Moves S) (lawful : IsLawful m) (side : Side) (v : Sig
   module _ (n limit : ℕ) (last : S) (stops : (k : ℕ) → observed m side v limit k last ≡ []) where
     abbrev Rest : ℕ → S → List Event → Option Query → Type 0
     Rest k s events o =
-        MatchOption o (Runs m side n k (m.next s None) events last)
-        (λ q. Heads events (λ e rest. (e.tick ≡ m.due s) × (e.side ≡ side) × (e.query ≡ q) × Runs m side n k (m.next s (Some e.answer)) rest last))
+        MatchOption o (Runs m side n k (m.next s None) (course events last))
+        (λ q. Heads events (λ e rest. (e.tick ≡ m.due s) × (e.side ≡ side) × (e.query ≡ q) × Runs m side n k (m.next s (Some e.answer)) (course rest last)))
 
     -- a step that asks nothing, whether it is below the limit or not
     silent_same : (fuel : ℕ) (s : S) → m.asks s ≡ None → limit ≤ m.due s + fuel → observed m side v limit fuel (silent s) ≡ observed m side v limit fuel s
@@ -184,7 +184,7 @@ module _ {S : Type 0} (m : Moves S) (lawful : IsLawful m) (side : Side) (v : Sig
         ap (λ (x : Event). x ∷ rest) (event_is e (m.due s) q at own query) ∙ asked_same j s q e.answer rest (omega arith) is sees_it (on j (omega arith))
 
     made_by : (k fuel : ℕ) (s : S) (events : List Event) (o : Option Query) → m.asks s ≡ o → limit ≤ m.due s + fuel
-        → ((u : S) (es : List Event) (more : ℕ) → Runs m side n k u es last → IsSeen v es → All (λ e. e.tick < limit) es → limit ≤ m.due u + more → es ≡ observed m side v limit more u)
+        → ((u : S) (es : List Event) (more : ℕ) → Runs m side n k u (course es last) → IsSeen v es → All (λ e. e.tick < limit) es → limit ≤ m.due u + more → es ≡ observed m side v limit more u)
         → Rest k s events o → IsSeen v events → All (λ e. e.tick < limit) events → events ≡ observed m side v limit fuel s
     made_by k fuel s events None is far on h sees low =
         let x : m.due s < m.due (silent s) = lawful.rises s None in
@@ -195,7 +195,7 @@ module _ {S : Type 0} (m : Moves S) (lawful : IsLawful m) (side : Side) (v : Sig
         (λ j more. on (after s e.answer) rest j h.3 sees.1 (All-tail (λ z. z.tick < limit) e rest low) more)
 
     -- Where its events are below the limit, and nothing is observed below it at its end, they are what is observed.
-    pub made : (k fuel : ℕ) (s : S) (events : List Event) → Runs m side n k s events last → IsSeen v events → All (λ e. e.tick < limit) events → limit ≤ m.due s + fuel
+    pub made : (k fuel : ℕ) (s : S) (events : List Event) → Runs m side n k s (course events last) → IsSeen v events → All (λ e. e.tick < limit) events → limit ≤ m.due s + fuel
         → events ≡ observed m side v limit fuel s
     made zero fuel s events h sees low far = h.0 ∙ sym (ap (observed m side v limit fuel) h.1 ∙ stops fuel)
     made (suc k) fuel s events h sees low far = made_by k fuel s events (m.asks s) refl far (λ u es more runs saw under enough'. made k more u es runs saw under enough') h.1 sees low
@@ -217,7 +217,7 @@ module _ {S : Type 0} (m : Moves S) (lawful : IsLawful m) (side : Side) (v : Sig
     -- its events: each is a look below a tick, and sees the lines
     pub record IsLooks (sure k : ℕ) (s last : S) : Type 0 where
       pub events : List Event
-      pub runs : Runs m side n k s events last
+      pub runs : Runs m side n k s (course events last)
       pub seen : IsSeen v events
       pub silent : accesses events ≡ []
       pub low : All (λ e. e.tick < sure) events

@@ -16,7 +16,7 @@ use Rattle.tube_cell.specs.Views.{AllBelow}
 use Rattle.tube_cell.specs.Passes.{Carried, own_horizon}
 use Rattle.tube_party.specs.declared.party.Ask.{Ask}
 use Rattle.tube_party.specs.declared.party.Ask.TheVariants.{Nothing, Access, Look}
-use Rattle.tube_party.specs.Moves.{Moves, IsLawful, Runs, Heads, IsAsk, IsUnsure, Goes, IsAskedFor, FitsAnswer, IsAtLook, shown}
+use Rattle.tube_party.specs.Moves.{Moves, IsLawful, Runs, Heads, IsAsk, IsUnsure, Goes, IsAskedFor, FitsAnswer, IsAtLook, shown, course}
 use Rattle.tube_party.specs.Turn.{noted, noted_all}
 use Rattle.tube_cell.specs.declared.local.Readings.{Readings}
 use Rattle.session.specs.Steps.{event_at, all_events}
@@ -55,11 +55,11 @@ module _ {S : Type 0} (m : Moves S) (lawful : IsLawful m) (n : ℕ) (from : Outs
 
   -- it goes on: these events more, noted
   module _ (ask ask2 : Ask) (x y : Station S) (w : IsOnWay m n from ask x) (here : x.at.state ≡ w.last) (events : List Event) (steps : ℕ) (last : S) where
-    goes_both : Runs m Para n steps x.at.state events last → IsSeen sight events → IsAsk m n last ask2 y.at.state
+    goes_both : Runs m Para n steps x.at.state (course events last) → IsSeen sight events → IsAsk m n last ask2 y.at.state
         → y.list ≡ noted_all from.mark.keep x.list (accesses events) → y.count ≡ x.count + length (accesses events)
         → (e : IsOnWay m n from ask2 y) × ((t : ℕ) → AllBelow t w.events → AllBelow t events → AllBelow t e.events)
     goes_both runs seen asked list_is count_is =
-        let all = append m Para n w.last last events w.steps from.state w.events w.runs (steps, subst (λ (z : S). Runs m Para n steps z events last) here runs) in
+        let all = append m Para n w.last last events w.steps from.state w.events w.runs (steps, subst (λ (z : S). Runs m Para n steps z (course events last)) here runs) in
         let l0 = take from.mark.len x.list in
         let keep = from.mark.keep in
         let old = w.noted in
@@ -156,7 +156,7 @@ module _ {S : Type 0} (m : Moves S) (lawful : IsLawful m) (n : ℕ) (from : Outs
       let due = h.1 in
       let under = h.2 in
       let looks = looked m lawful Para sight n from.mark.readings.lines refl far went.steps (m.next x.at.state (Some (Byte byte))) went.last went.looks in
-      let runs : Runs m Para n (suc went.steps) x.at.state (read ∷ looks.events) went.last = (omega arith, rw h.3 (due, refl, refl, looks.runs)) in
+      let runs : Runs m Para n (suc went.steps) x.at.state (course (read ∷ looks.events) went.last) = (omega arith, rw h.3 (due, refl, refl, looks.runs)) in
       let none : accesses (read ∷ looks.events) ≡ entry ∷ [] = ap (λ (l : List Entry). entry ∷ l) looks.silent in
       let both = goes_both (Access t op) ask2 x y w h.0 (read ∷ looks.events) (suc went.steps) went.last runs (ap byte_answer shown, looks.seen) went.asked
       (list_is ∙ sym (ap (noted_all from.mark.keep x.list) none)) (let e = ap length none in omega arith) in
@@ -213,7 +213,7 @@ module _ {S : Type 0} (m : Moves S) (lawful : IsLawful m) (n : ℕ) (from : Outs
       subst (λ (x : ℕ). IsSettled m n from x ask y) (sym is) (record {
         steps = w.steps;
         last = w.last;
-        runs = subst (λ (l : List Event). Runs m Para n w.steps from.state l w.last) same w.runs;
+        runs = subst (λ (l : List Event). Runs m Para n w.steps from.state (course l w.last)) same w.runs;
         asked = w.asked;
         late = late;
         noted = subst (λ (l : List Event). IsNoted from.mark l y.list y.count) same w.noted;
@@ -228,8 +228,8 @@ module _ {S : Type 0} (m : Moves S) (lawful : IsLawful m) (n : ℕ) (from : Outs
   module _ (two : S) (q : Query) (asks : m.asks two ≡ Some q) (none : sight q ≡ None) where
     abbrev Rest : ℕ → S → List Event → S → Option Query → Type 0
     Rest k s events last o =
-        MatchOption o (Runs m Para n k (m.next s None) events last)
-        (λ x. Heads events (λ e rest. (e.tick ≡ m.due s) × (e.side ≡ Para) × (e.query ≡ x) × Runs m Para n k (m.next s (Some e.answer)) rest last))
+        MatchOption o (Runs m Para n k (m.next s None) (course events last))
+        (λ x. Heads events (λ e rest. (e.tick ≡ m.due s) × (e.side ≡ Para) × (e.query ≡ x) × Runs m Para n k (m.next s (Some e.answer)) (course rest last)))
 
     stuck : (k : ℕ) (s last : S) (events : List Event) (o : Option Query) → o ≡ Some q → Rest k s events last o → IsSeen sight events → ⊥
     stuck k s last events None is h seen = absurd (cc)
@@ -239,7 +239,7 @@ module _ {S : Type 0} (m : Moves S) (lawful : IsLawful m) (n : ℕ) (from : Outs
         let sees : (let o : Option Answer = None in o) ≡ Some e.answer = sym none ∙ ap sight (sym (h.2 ∙ same)) ∙ seen.0 in
         absurd (cc)
 
-    both_by : (j k : ℕ) (s one : S) (es fs : List Event) (o : Option Query) → ((u : S) (a b : List Event) → Runs m Para n j u a one → IsSeen sight a → Runs m Para n k u b two → IsSeen sight b → m.due one ≤ m.due two)
+    both_by : (j k : ℕ) (s one : S) (es fs : List Event) (o : Option Query) → ((u : S) (a b : List Event) → Runs m Para n j u (course a one) → IsSeen sight a → Runs m Para n k u (course b two) → IsSeen sight b → m.due one ≤ m.due two)
         → Rest j s es one o → IsSeen sight es → Rest k s fs two o → IsSeen sight fs → m.due one ≤ m.due two
     both_by j k s one es fs None on a sa b sb = on (m.next s None) es fs a sa b sb
     both_by j k s one [] fs (Some x) on a sa b sb = absurd a
@@ -247,10 +247,10 @@ module _ {S : Type 0} (m : Moves S) (lawful : IsLawful m) (n : ℕ) (from : Outs
     both_by j k s one (e ∷ es) (f ∷ fs) (Some x) on a sa b sb =
         let sees : (let o : Option Answer = Some e.answer in o) ≡ Some f.answer = sym sa.0 ∙ ap sight (a.2 ∙ sym b.2) ∙ sb.0 in
         let same : e.answer ≡ f.answer = cc in
-        on (m.next s (Some e.answer)) es fs a.3 sa.1 (subst (λ (z : Answer). Runs m Para n k (m.next s (Some z)) fs two) (sym same) b.3) sb.1
+        on (m.next s (Some e.answer)) es fs a.3 sa.1 (subst (λ (z : Answer). Runs m Para n k (m.next s (Some z)) (course fs two)) (sym same) b.3) sb.1
 
     -- a run that ends at a query that is not answered ends no earlier than another from the same place
-    pub same_way : (j k : ℕ) (s one : S) (es fs : List Event) → Runs m Para n j s es one → IsSeen sight es → Runs m Para n k s fs two → IsSeen sight fs → m.due one ≤ m.due two
+    pub same_way : (j k : ℕ) (s one : S) (es fs : List Event) → Runs m Para n j s (course es one) → IsSeen sight es → Runs m Para n k s (course fs two) → IsSeen sight fs → m.due one ≤ m.due two
     same_way zero k s one es fs a sa b sb = let e : m.due s ≡ m.due one = ap m.due a.1 in let r = rises m lawful Para n k s fs two b in omega arith
     same_way (suc j) zero s one es fs a sa b sb = absurd (stuck j s one es (m.asks s) (ap m.asks b.1 ∙ asks) a.1 sa)
     same_way (suc j) (suc k) s one es fs a sa b sb = both_by j k s one es fs (m.asks s) (λ u c d x sx y sy. same_way j k u one c d x sx y sy) a.1 sa b.1 sb
@@ -263,7 +263,7 @@ module _ {S : Type 0} (m : Moves S) (lawful : IsLawful m) (n : ℕ) (from : Outs
       record {
         steps = w.steps;
         last = w.last;
-        runs = subst (λ (l : List Event). Runs m Para n w.steps from.state l w.last) same w.runs;
+        runs = subst (λ (l : List Event). Runs m Para n w.steps from.state (course l w.last)) same w.runs;
         asked = w.asked;
         late = late_by ask2 w.asked anew.2;
         noted = subst (λ (l : List Event). IsNoted from.mark l y.list y.count) same w.noted;
@@ -301,13 +301,13 @@ went {S} m lawful n t from x y ask2 q side at list count passed under same back 
     let up = (events_low m lawful Para n back.steps from.state new back.last back.runs).0 in
     let late = back.late in
     let low = told_low (way_of m n from) (is_way m lawful n from) t p q (told.side ∙ side) told in
-    let runs : Runs m p.side n back.steps from.state new back.last = subst (λ (z : Side). Runs m z n back.steps from.state new back.last) (sym side) back.runs in
+    let runs : Runs m p.side n back.steps from.state (course new back.last) = subst (λ (z : Side). Runs m z n back.steps from.state (course new back.last)) (sym side) back.runs in
     let horizon : own_horizon y.at.pass ≡ own_horizon q = ap own_horizon same in (
       record {
         added = new;
         steps = back.steps;
         last = back.last;
-        runs = subst (λ (z : S). Runs m p.side n back.steps z new back.last) at runs;
+        runs = subst (λ (z : S). Runs m p.side n back.steps z (course new back.last)) at runs;
         asked = back.asked;
         list_is = back.noted.list_is ∙ ap (λ (l : List Entry). noted_all from.mark.keep l (accesses new)) list;
         count_is = back.noted.count_is ∙ ap (λ (z : ℕ). z + length (accesses new)) count;

@@ -10,7 +10,7 @@ use Rattle.tube_trace.specs.Entries.{accesses, entry_of}
 use Rattle.tube_cell.specs.Passes.{Carried, own_horizon}
 use Rattle.tube_party.specs.declared.party.Ask.{Ask}
 use Rattle.tube_party.specs.declared.party.Ask.TheVariants.{Nothing, Access, Look}
-use Rattle.tube_party.specs.Moves.{Moves, IsLawful, Runs, IsAsk}
+use Rattle.tube_party.specs.Moves.{Moves, IsLawful, Runs, IsAsk, course}
 use Rattle.tube_party.specs.Turn.{IsPending, left, noted_all}
 use Rattle.tube_party.specs.Quiet.{IsQuiet, quiet_here}
 use Rattle.session.specs.Steps.{event_at, all_events, SameSeat, HasWaited}
@@ -132,7 +132,7 @@ module _ {S : Type 0} (m : Moves S) (lawful : IsLawful m) (n keep : ℕ) (x0 : P
         there = record {
           added = w.added ++ g.added;
           runs = append m x0.pass.side n x.at.state g.last g.added w.runs.0 x0.state w.added w.runs.1
-              (g.steps, subst (λ (z : Side). Runs m z n g.steps x.at.state g.added g.last) w.same.side g.runs);
+              (g.steps, subst (λ (z : Side). Runs m z n g.steps x.at.state (course g.added g.last)) w.same.side g.runs);
           events = g.events ∙ ap (λ (l : List Event). l ++ g.added) w.events ∙ append_assoc (all_events x0.pass) w.added g.added;
           same = seat_on x0.pass x.at.pass y.at.pass w.same g.same;
           kept =

@@ -4,7 +4,7 @@ use Rattle.tube_chip.specs.Events.{Event}
 use Rattle.tube_trace.specs.Entries.{accesses}
 use Rattle.tube_cell.specs.Passes.{own_horizon, here, bound_here, added}
 use Rattle.tube_party.specs.declared.party.Ask.{Ask}
-use Rattle.tube_party.specs.Moves.{Moves, Runs, IsAsk}
+use Rattle.tube_party.specs.Moves.{Moves, Runs, IsAsk, course}
 use Rattle.tube_party.specs.Turn.{noted_all}
 use Rattle.session.specs.Steps.{all_events, SameSeat, HasWaited}
 use Rattle.session.specs.Station.{Place, Station}
@@ -15,7 +15,7 @@ pub record GoneOn {S : Type 0} (m : Moves S) (n : ℕ) (x : Place S) (ask : Ask)
   pub events : List Event
   pub steps : ℕ
   pub last : S
-  pub runs : Runs m x.pass.side n steps x.state events last
+  pub runs : Runs m x.pass.side n steps x.state (course events last)
   pub asked : IsAsk m n last ask y.state
   pub silent : accesses events ≡ []
   pub pass : y.pass ≡ added x.pass events
@@ -30,7 +30,7 @@ pub record MovedOn {S : Type 0} (m : Moves S) (n keep : ℕ) (x : Station S) (as
   pub added : List Event
   pub steps : ℕ
   pub last : S
-  pub runs : Runs m x.at.pass.side n steps x.at.state added last
+  pub runs : Runs m x.at.pass.side n steps x.at.state (course added last)
   pub asked : IsAsk m n last ask y.at.state
   pub list_is : y.list ≡ noted_all keep x.list (accesses added)
   pub count_is : y.count ≡ x.count + length (accesses added)

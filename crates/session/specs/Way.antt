@@ -10,7 +10,7 @@ use Rattle.tube_cell.specs.Views.{below, AllBelow, readings_of}
 use Rattle.tube_cell.specs.Steps.{Watches}
 use Rattle.tube_party.specs.declared.party.Ask.{Ask}
 use Rattle.tube_party.specs.declared.party.Ask.TheVariants.{Nothing, Access, Look}
-use Rattle.tube_party.specs.Moves.{Moves, Runs, IsAsk}
+use Rattle.tube_party.specs.Moves.{Moves, Runs, IsAsk, course}
 use Rattle.tube_party.specs.Turn.{noted_all}
 use Rattle.session.specs.declared.mark.Mark.{Mark}
 use Rattle.session.specs.Ahead.{byte_seen, readings_seen, observed, IsSeen}
@@ -62,7 +62,7 @@ pub record IsOnWay {S : Type 0} (m : Moves S) (n : ℕ) (from : Outset S) (ask :
   pub events : List Event
   pub steps : ℕ
   pub last : S
-  pub runs : Runs m Para n steps from.state events last
+  pub runs : Runs m Para n steps from.state (course events last)
   pub seen : IsSeen (readings_seen from.mark.readings) events
   pub asked : IsAsk m n last ask y.at.state
   pub noted : IsNoted from.mark events y.list y.count
@@ -71,7 +71,7 @@ pub record IsOnWay {S : Type 0} (m : Moves S) (n : ℕ) (from : Outset S) (ask :
 pub record IsSettled {S : Type 0} (m : Moves S) (n : ℕ) (from : Outset S) (t : ℕ) (ask : Ask) (y : Station S) : Type 0 where
   pub steps : ℕ
   pub last : S
-  pub runs : Runs m Para n steps from.state (observed_past m n from t) last
+  pub runs : Runs m Para n steps from.state (course (observed_past m n from t) last)
   pub asked : IsAsk m n last ask y.at.state
   pub late : t ≤ m.due last
   pub noted : IsNoted from.mark (observed_past m n from t) y.list y.count

@@ -12,7 +12,7 @@ use Rattle.beeb_bits.specs.declared.Side.{Side}
 use Rattle.beeb_bits.specs.declared.Side.TheVariants.{Host, Para}
 use Rattle.tube_party.specs.declared.party.Ask.{Ask}
 use Rattle.tube_party.specs.declared.party.Ask.TheVariants.{Nothing, Access, Look}
-use Rattle.tube_party.specs.Moves.{Moves, IsLawful, IsAsk, Advances, Looks, Goes, Sees, IsUnsure, Runs, shut, shown}
+use Rattle.tube_party.specs.Moves.{Moves, IsLawful, IsAsk, Advances, Looks, Goes, Sees, IsUnsure, Runs, shut, shown, course}
 use Rattle.tube_party.specs.Reference.{ticks, start, reference, stepped, with_host}
 use Rattle.tube_trace.specs.Entries.{accesses, entry_of}
 use Rattle.tube_party.specs.Played.{IsKept, Played, IsPlayed}
@@ -98,30 +98,30 @@ in_time r n slack sure s last (Look t) is told x low early = omega (arith, is.0,
 
 module _ {S T : Type 0} (h : Moves S) (p : Moves T) (lh : IsLawful h) (lp : IsLawful p) (n : ℕ) where
   silent_host_by : (side : Side) (k : ℕ) (s m : S) (t : T) (c : State) (l : List Event)
-      → ((u : S) → Runs h side n k u [] m → ticks h p n 0 (world u t c l) ≡ ticks h p n 0 (world m t c l))
+      → ((u : S) → Runs h side n k u (course [] m) → ticks h p n 0 (world u t c l) ≡ ticks h p n 0 (world m t c l))
       → First h side n (suc k) s [] m → ticks h p n 0 (world s t c l) ≡ ticks h p n 0 (world m t c l)
   silent_host_by side k s m t c l on (Over e es) = ap (λ (x : S). ticks h p n 0 (world x t c l)) es
   silent_host_by side k s m t c l on (Silent i ei low none runs) =
       host_silent h p lh lp n 0 s t c l (omega arith) (omega arith) none
-      ∙ on (h.next s None) (subst (λ (x : ℕ). Runs h side n x (h.next s None) [] m) (omega arith) runs)
+      ∙ on (h.next s None) (subst (λ (x : ℕ). Runs h side n x (h.next s None) (course [] m)) (omega arith) runs)
   silent_host_by side k s m t c l on (Asking i q a others ei low is e runs) = cc
 
-  silent_host : (side : Side) (k : ℕ) (s m : S) (t : T) (c : State) (l : List Event) → Runs h side n k s [] m
+  silent_host : (side : Side) (k : ℕ) (s m : S) (t : T) (c : State) (l : List Event) → Runs h side n k s (course [] m)
       → ticks h p n 0 (world s t c l) ≡ ticks h p n 0 (world m t c l)
   silent_host side zero s m t c l r = ap (λ (x : S). ticks h p n 0 (world x t c l)) r.1
   silent_host side (suc k) s m t c l r =
       silent_host_by side k s m t c l (λ u. silent_host side k u m t c l) (first_of_runs h side n (suc k) s [] m r)
 
   silent_para_by : (side : Side) (k : ℕ) (s : S) (t m : T) (c : State) (l : List Event)
-      → ((u : T) → Runs p side n k u [] m → ticks h p n 0 (world s u c l) ≡ ticks h p n 0 (world s m c l))
+      → ((u : T) → Runs p side n k u (course [] m) → ticks h p n 0 (world s u c l) ≡ ticks h p n 0 (world s m c l))
       → First p side n (suc k) t [] m → ticks h p n 0 (world s t c l) ≡ ticks h p n 0 (world s m c l)
   silent_para_by side k s t m c l on (Over e es) = ap (λ (x : T). ticks h p n 0 (world s x c l)) es
   silent_para_by side k s t m c l on (Silent i ei low none runs) =
       para_silent h p lh lp n 0 s t c l (omega arith) (omega arith) none
-      ∙ on (p.next t None) (subst (λ (x : ℕ). Runs p side n x (p.next t None) [] m) (omega arith) runs)
+      ∙ on (p.next t None) (subst (λ (x : ℕ). Runs p side n x (p.next t None) (course [] m)) (omega arith) runs)
   silent_para_by side k s t m c l on (Asking i q a others ei low is e runs) = cc
 
-  silent_para : (side : Side) (k : ℕ) (s : S) (t m : T) (c : State) (l : List Event) → Runs p side n k t [] m
+  silent_para : (side : Side) (k : ℕ) (s : S) (t m : T) (c : State) (l : List Event) → Runs p side n k t (course [] m)
       → ticks h p n 0 (world s t c l) ≡ ticks h p n 0 (world s m c l)
   silent_para side zero s t m c l r = ap (λ (x : T). ticks h p n 0 (world s x c l)) r.1
   silent_para side (suc k) s t m c l r =

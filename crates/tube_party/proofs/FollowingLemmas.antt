@@ -17,7 +17,7 @@ use Rattle.tube_chip.specs.Events.{Event, is_side}
 use Rattle.tube_trace.specs.declared.Entry.{Entry}
 use Rattle.tube_trace.specs.Entries.{accesses}
 use Rattle.tube_party.specs.declared.replaying.Doing.{Doing}
-use Rattle.tube_party.specs.Moves.{Moves, IsLawful, Runs}
+use Rattle.tube_party.specs.Moves.{Moves, IsLawful, Runs, course}
 use Rattle.tube_party.specs.Replay.{Numbered, Ended, own_from, same_op, is_that, next_line, finished, differs, doing, one_step, replay_from, replayed, chip_before}
 use Rattle.tube_party.specs.Tape.{Misses}
 use Rattle.tube_party.specs.Following.{own_below, IsAnsweredBy, FollowsTrace, ReplayIsFollowing, difference, IsDifference, DiffersAt, ReplayTellsDifference}
@@ -157,7 +157,7 @@ module _ {S : Type 0} (m : Moves S) (lawful : IsLawful m) (side : Side) (trace :
     pub events : List Event
     pub steps : ℕ
     pub last : S
-    pub runs : Runs m side n steps s events last
+    pub runs : Runs m side n steps s (course events last)
     pub answered : Answered events
     pub agreed : List Numbered
     pub left : List Numbered
@@ -312,7 +312,7 @@ module _ {S : Type 0} (m : Moves S) (lawful : IsLawful m) (side : Side) (trace :
   abbrev Takes_all : ℕ → Type 0
   Takes_all i =
       (s last : S) (own agreed left : List Numbered) (events : List Event) (whole : Ended S)
-      → Goes m side trace n whole s own → Runs m side n i s events last → own ≡ agreed ++ left
+      → Goes m side trace n whole s own → Runs m side n i s (course events last) → own ≡ agreed ++ left
       → accesses events ≡ entries agreed → Answered events
       → Goes m side trace n whole last left
 
@@ -324,7 +324,7 @@ module _ {S : Type 0} (m : Moves S) (lawful : IsLawful m) (side : Side) (trace :
       (subst (λ (l : List Numbered). Goes m side trace n whole s l) (own_is ∙ ap (λ (l : List Numbered). l ++ left) none) goes)
 
   all_some : (i : ℕ) → Takes_all i → (s last : S) (own agreed left : List Numbered) (q : Query) (a : Answer) (others : List Event) (whole : Ended S)
-      → Goes m side trace n whole s own → Runs m side n i (m.next s (Some a)) others last → m.due s < n → m.asks s ≡ Some q → own ≡ agreed ++ left
+      → Goes m side trace n whole s own → Runs m side n i (m.next s (Some a)) (course others last) → m.due s < n → m.asks s ≡ Some q → own ≡ agreed ++ left
       → accesses (event (m.due s) side q a ∷ others) ≡ entries agreed → IsAnsweredBy trace (m.due s) side q a → Answered others
       → Goes m side trace n whole last left
   all_some i on s last own agreed left look a others whole goes runs low is own_is agrees told answered =
@@ -346,11 +346,11 @@ module _ {S : Type 0} (m : Moves S) (lawful : IsLawful m) (side : Side) (trace :
   all_by i on s last own agreed left events whole goes (Over ee es) own_is agrees answered = all_here s last own agreed left events whole goes ee es own_is agrees
   all_by i on s last own agreed left events whole goes (Silent i' ei low none runs) own_is agrees answered =
       on (m.next s None) last own agreed left events whole (goes_none m side trace n lawful whole s own goes low none)
-      (subst (λ (x : ℕ). Runs m side n x (m.next s None) events last) (omega arith) runs) own_is agrees answered
+      (subst (λ (x : ℕ). Runs m side n x (m.next s None) (course events last)) (omega arith) runs) own_is agrees answered
   all_by i on s last own agreed left events whole goes (Asking i' q a others ei low is ee runs) own_is agrees answered =
       let told : Answered (event (m.due s) side q a ∷ others) = subst Answered ee answered in
       all_some i on s last own agreed left q a others whole goes
-      (subst (λ (x : ℕ). Runs m side n x (m.next s (Some a)) others last) (omega arith) runs) low is own_is
+      (subst (λ (x : ℕ). Runs m side n x (m.next s (Some a)) (course others last)) (omega arith) runs) low is own_is
       (ap accesses (sym ee) ∙ agrees)
       (All-head Told (event (m.due s) side q a) others told)
       (All-tail Told (event (m.due s) side q a) others told)

@@ -8,7 +8,7 @@ use Rattle.tube_chip.specs.Act.{Query, act}
 use Rattle.tube_chip.specs.Events.{Event, merge, after, after_from, IsAnsweredFrom}
 use Rattle.tube_chip.specs.declared.Answer.{Answer}
 use Rattle.beeb_bits.specs.declared.Side.TheVariants.{Host, Para}
-use Rattle.tube_party.specs.Moves.{Moves, IsLawful, Runs, shut}
+use Rattle.tube_party.specs.Moves.{Moves, IsLawful, Runs, shut, course}
 use Rattle.tube_party.specs.Reference.{World, stepped, ticks, shut_both, LegalMergeIsReference}
 use Rattle.tube_party.proofs.Runs.{event, First, Over, Silent, Asking, first_of_runs}
 use Rattle.tube_party.proofs.Ticks.{world, rest, host_next, host_silent, para_next, para_silent}
@@ -31,7 +31,7 @@ module _ {S T : Type 0} (h : Moves S) (p : Moves T) (lh : IsLawful h) (lp : IsLa
   abbrev Meets : ℕ → Type 0
   Meets bound =
       (i j : ℕ) → i + j < bound → (s : S) (t : T) (c : State) (l a b : List Event)
-      → Runs h Host n i s a m → Runs p Para n j t b v
+      → Runs h Host n i s (course a m) → Runs p Para n j t (course b v)
       → IsAnsweredFrom c (merge a b)
       → Goes s t c l (merge a b)
 
@@ -75,7 +75,7 @@ module _ {S T : Type 0} (h : Moves S) (p : Moves T) (lh : IsLawful h) (lp : IsLa
   by_tick x y = grind arith
 
   turn : (bound : ℕ) → Meets bound → (i j : ℕ) → i + j < suc bound → (s : S) (t : T) (c : State) (l a b : List Event)
-      → Runs h Host n i s a m → Runs p Para n j t b v
+      → Runs h Host n i s (course a m) → Runs p Para n j t (course b v)
       → First h Host n i s a m → First p Para n j t b v
       → At s t c l a b
   turn bound meets i j lt s t c l a b rh rp (Silent i' ei low none runs) fp answered =
@@ -103,7 +103,7 @@ module _ {S T : Type 0} (h : Moves S) (p : Moves T) (lh : IsLawful h) (lp : IsLa
       (λ ok.
       para_event s t c l q e others low (omega arith) is ok
       (meets i j' (omega arith) s (p.next t (Some e)) (act c Para q).0 (l ++ event (p.due t) Para q e ∷ []) [] others
-      (subst (λ (x : List Event). Runs h Host n i s x m) ea rh) runs))
+      (subst (λ (x : List Event). Runs h Host n i s (course x m)) ea rh) runs))
       answered
   turn bound meets i j lt s t c l a b rh rp (Asking i' q e others ei low is ea runs) (Over eb et) answered =
       let ht : n ≤ p.due t = subst (λ (x : T). n ≤ p.due x) (sym et) over_v in
@@ -111,13 +111,13 @@ module _ {S T : Type 0} (h : Moves S) (p : Moves T) (lh : IsLawful h) (lp : IsLa
       (λ ok.
       host_event s t c l q e (merge others []) low (omega arith) is ok
       (meets i' j (omega arith) (h.next s (Some e)) t (act c Host q).0 (l ++ event (h.due s) Host q e ∷ []) others []
-      runs (subst (λ (x : List Event). Runs p Para n j t x v) eb rp)))
+      runs (subst (λ (x : List Event). Runs p Para n j t (course x v)) eb rp)))
       answered
   turn bound meets i j lt s t c l a b rh rp (Asking i' q e others ei low is ea runs) (Asking j' q' e' others' ej low' is' eb runs') answered =
       let x : Event = event (h.due s) Host q e in
       let y : Event = event (p.due t) Para q' e' in
-      let rh' : Runs h Host n i s (event (h.due s) Host q e ∷ others) m = subst (λ (z : List Event). Runs h Host n i s z m) ea rh in
-      let rp' : Runs p Para n j t (event (p.due t) Para q' e' ∷ others') v = subst (λ (z : List Event). Runs p Para n j t z v) eb rp in
+      let rh' : Runs h Host n i s (course (event (h.due s) Host q e ∷ others) m) = subst (λ (z : List Event). Runs h Host n i s (course z m)) ea rh in
+      let rp' : Runs p Para n j t (course (event (p.due t) Para q' e' ∷ others') v) = subst (λ (z : List Event). Runs p Para n j t (course z v)) eb rp in
       moved s t c l a b (x ∷ others) (y ∷ others') ea eb
       (elim (by_tick (h.due s) (p.due t)) [
         | inl le ↦

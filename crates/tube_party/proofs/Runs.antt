@@ -4,7 +4,7 @@ use Rattle.tube_chip.specs.Act.{Query}
 use Rattle.tube_chip.specs.Events.{Event}
 use Rattle.tube_chip.specs.declared.Answer.{Answer}
 use Rattle.beeb_bits.specs.declared.Side.{Side}
-use Rattle.tube_party.specs.Moves.{Moves, IsLawful, IsClosing, Runs, Heads, shut}
+use Rattle.tube_party.specs.Moves.{Moves, IsLawful, IsClosing, Runs, Heads, shut, course}
 use Rattle.tube_party.specs.Shut.{IsShut, FollowsOn}
 
 abbrev pub event : ℕ → Side → Query → Answer → Event
@@ -13,14 +13,14 @@ event t side q a = record { tick = t; side = side; query = q; answer = a }
 -- what the first of some steps does
 pub data First {S : Type 0} (r : Moves S) (side : Side) (n k : ℕ) (s : S) (events : List Event) (m : S) : Type 0 where
   Over : events ≡ [] → s ≡ m → First r side n k s events m
-  Silent : (i : ℕ) → k ≡ suc i → r.due s < n → r.asks s ≡ None → Runs r side n i (r.next s None) events m → First r side n k s events m
-  Asking : (i : ℕ) (q : Query) (a : Answer) (others : List Event) → k ≡ suc i → r.due s < n → r.asks s ≡ Some q → events ≡ event (r.due s) side q a ∷ others → Runs r side n i (r.next s (Some a)) others m → First r side n k s events m
+  Silent : (i : ℕ) → k ≡ suc i → r.due s < n → r.asks s ≡ None → Runs r side n i (r.next s None) (course events m) → First r side n k s events m
+  Asking : (i : ℕ) (q : Query) (a : Answer) (others : List Event) → k ≡ suc i → r.due s < n → r.asks s ≡ Some q → events ≡ event (r.due s) side q a ∷ others → Runs r side n i (r.next s (Some a)) (course others m) → First r side n k s events m
 
 abbrev Then : {S : Type 0} → Moves S → Side → ℕ → ℕ → S → List Event → S → Option Query → Type 0
 Then r side n k s events m o =
     MatchOption o
-    (Runs r side n k (r.next s None) events m)
-    (λ q. Heads events (λ e others. (e.tick ≡ r.due s) × (e.side ≡ side) × (e.query ≡ q) × Runs r side n k (r.next s (Some e.answer)) others m))
+    (Runs r side n k (r.next s None) (course events m))
+    (λ q. Heads events (λ e others. (e.tick ≡ r.due s) × (e.side ≡ side) × (e.query ≡ q) × Runs r side n k (r.next s (Some e.answer)) (course others m)))
 
 -- an event is known by its parts
 same_event : (e : Event) (t : ℕ) (side : Side) (q : Query) → e.tick ≡ t → e.side ≡ side → e.query ≡ q → e ≡ event t side q e.answer
@@ -30,7 +30,7 @@ same_event e t side q et es eq =
     ∙ ap (λ (x : Query). event t side x e.answer) eq
 
 then_asking : {S : Type 0} (r : Moves S) (side : Side) (n i : ℕ) (s : S) (events : List Event) (m : S) (q : Query) → r.due s < n → r.asks s ≡ Some q
-    → Heads events (λ e others. (e.tick ≡ r.due s) × (e.side ≡ side) × (e.query ≡ q) × Runs r side n i (r.next s (Some e.answer)) others m)
+    → Heads events (λ e others. (e.tick ≡ r.due s) × (e.side ≡ side) × (e.query ≡ q) × Runs r side n i (r.next s (Some e.answer)) (course others m))
     → First r side n (suc i) s events m
 then_asking r side n i s [] m q lt is h = absurd h
 then_asking r side n i s (e ∷ others) m q lt is h =
@@ -42,41 +42,41 @@ by_ask : {S : Type 0} (r : Moves S) (side : Side) (n i : ℕ) (s : S) (events : 
 by_ask r side n i s events m None lt is h = Silent i refl lt is h
 by_ask r side n i s events m (Some q) lt is h = then_asking r side n i s events m q lt is h
 
-pub first_of_runs : {S : Type 0} (r : Moves S) (side : Side) (n k : ℕ) (s : S) (events : List Event) (m : S) → Runs r side n k s events m → First r side n k s events m
+pub first_of_runs : {S : Type 0} (r : Moves S) (side : Side) (n k : ℕ) (s : S) (events : List Event) (m : S) → Runs r side n k s (course events m) → First r side n k s events m
 first_of_runs r side n zero s events m h = Over h.0 h.1
 first_of_runs r side n (suc i) s events m h = by_ask r side n i s events m (r.asks s) h.0 refl h.1
 
 -- one step in front that asks nothing
-pub runs_silent : {S : Type 0} (r : Moves S) (side : Side) (n k : ℕ) (s : S) (events : List Event) (m : S) → r.due s < n → r.asks s ≡ None → Runs r side n k (r.next s None) events m → Runs r side n (suc k) s events m
+pub runs_silent : {S : Type 0} (r : Moves S) (side : Side) (n k : ℕ) (s : S) (events : List Event) (m : S) → r.due s < n → r.asks s ≡ None → Runs r side n k (r.next s None) (course events m) → Runs r side n (suc k) s (course events m)
 runs_silent {S} r side n k s events m low none runs =
     (low, subst (λ (o : Option Query). Then r side n k s events m o) (sym none) runs)
 
 -- one step in front that asks
 pub runs_asking : {S : Type 0} (r : Moves S) (side : Side) (n k : ℕ) (s : S) (q : Query) (a : Answer) (others : List Event) (m : S) → r.due s < n → r.asks s ≡ Some q →
-    Runs r side n k (r.next s (Some a)) others m → Runs r side n (suc k) s (event (r.due s) side q a ∷ others) m
+    Runs r side n k (r.next s (Some a)) (course others m) → Runs r side n (suc k) s (course (event (r.due s) side q a ∷ others) m)
 runs_asking {S} r side n k s q a others m low is runs =
     (low, subst (λ (o : Option Query). Then r side n k s (event (r.due s) side q a ∷ others) m o) (sym is) (refl, refl, refl, runs))
 
 -- some number of steps
 abbrev pub SomeRuns : {S : Type 0} → Moves S → Side → ℕ → S → List Event → S → Type 0
-SomeRuns r side n s events m = (k : ℕ) × Runs r side n k s events m
+SomeRuns r side n s events m = (k : ℕ) × Runs r side n k s (course events m)
 
 module _ {S : Type 0} (r : Moves S) (side : Side) (n k : ℕ) (le : n ≤ k) (u v : S) (b : List Event) where
   append_by : (i : ℕ) (s : S) (a : List Event)
-      → ((t : S) (c : List Event) → Runs r side n i t c u → SomeRuns r side k t (c ++ b) v)
+      → ((t : S) (c : List Event) → Runs r side n i t (course c u) → SomeRuns r side k t (c ++ b) v)
       → First r side n (suc i) s a u → SomeRuns r side k u b v → SomeRuns r side k s (a ++ b) v
   append_by i s a on (Over ea es) rest =
       subst (λ (x : S). SomeRuns r side k x (a ++ b) v) (sym es) (subst (λ (z : List Event). SomeRuns r side k u (z ++ b) v) (sym ea) rest)
   append_by i s a on (Silent i' ei low none runs) rest =
-      let more : SomeRuns r side k (r.next s None) (a ++ b) v = on (r.next s None) a (subst (λ (x : ℕ). Runs r side n x (r.next s None) a u) (omega arith) runs) in
+      let more : SomeRuns r side k (r.next s None) (a ++ b) v = on (r.next s None) a (subst (λ (x : ℕ). Runs r side n x (r.next s None) (course a u)) (omega arith) runs) in
       (suc more.0, runs_silent r side k more.0 s (a ++ b) v (omega arith) none more.1)
   append_by i s a on (Asking i' q x others ei low is ea runs) rest =
-      let more : SomeRuns r side k (r.next s (Some x)) (others ++ b) v = on (r.next s (Some x)) others (subst (λ (z : ℕ). Runs r side n z (r.next s (Some x)) others u) (omega arith) runs) in
+      let more : SomeRuns r side k (r.next s (Some x)) (others ++ b) v = on (r.next s (Some x)) others (subst (λ (z : ℕ). Runs r side n z (r.next s (Some x)) (course others u)) (omega arith) runs) in
       subst (λ (z : List Event). SomeRuns r side k s (z ++ b) v) (sym ea)
       (suc more.0, runs_asking r side k more.0 s q x (others ++ b) v (omega arith) is more.1)
 
   -- steps below n, and then steps below a tick that is no smaller
-  pub runs_append : (i : ℕ) (s : S) (a : List Event) → Runs r side n i s a u → SomeRuns r side k u b v → SomeRuns r side k s (a ++ b) v
+  pub runs_append : (i : ℕ) (s : S) (a : List Event) → Runs r side n i s (course a u) → SomeRuns r side k u b v → SomeRuns r side k s (a ++ b) v
   runs_append zero s a runs rest =
       subst (λ (x : S). SomeRuns r side k x (a ++ b) v) (sym runs.1) (subst (λ (z : List Event). SomeRuns r side k u (z ++ b) v) (sym runs.0) rest)
   runs_append (suc i) s a runs rest =
@@ -126,11 +126,11 @@ module _ {S : Type 0} (r : Moves S) (lr : IsLawful r) (side : Side) (n k : ℕ) 
       (s, (zero, (eb, refl)), omega arith, ends ∙ ap (λ (x : S). shut r x k) same ∙ shut_here.again k le (omega arith))
   from_shut j u last v b is (Silent i ej low none runs) up ends =
       let due : r.due u ≡ r.due s = due_here u is in
-      let on : Runs r side k i (r.next s None) b last = subst (λ (x : S). Runs r side k i x b last) (next_here u None is) runs in
+      let on : Runs r side k i (r.next s None) (course b last) = subst (λ (x : S). Runs r side k i x (course b last)) (next_here u None is) runs in
       (last, (suc i, runs_silent r side k i s b last (omega arith) (asks_here u None is none) on), up, ends)
   from_shut j u last v b is (Asking i q x others ej low asks eb runs) up ends =
       let due : r.due u ≡ r.due s = due_here u is in
-      let on : Runs r side k i (r.next s (Some x)) others last = subst (λ (z : S). Runs r side k i z others last) (next_here u (Some x) is) runs in
+      let on : Runs r side k i (r.next s (Some x)) (course others last) = subst (λ (z : S). Runs r side k i z (course others last)) (next_here u (Some x) is) runs in
       let same : event (r.due s) side q x ∷ others ≡ b = ap (λ (t : ℕ). event t side q x ∷ others) (sym due) ∙ sym eb in
       let all : SomeRuns r side k s (event (r.due s) side q x ∷ others) last = (suc i, runs_asking r side k i s q x others last (omega arith) (asks_here u (Some q) is asks) on) in
       (last, subst (λ (z : List Event). SomeRuns r side k s z last) same all, up, ends)

@@ -12,7 +12,7 @@ use Rattle.tube_chip.specs.Act.{Query, access, look, act}
 use Rattle.tube_chip.specs.Events.{Event, Rises, RisesAfter, IsAnsweredFrom, of_side, is_side}
 use Rattle.tube_trace.specs.declared.Entry.{Entry}
 use Rattle.tube_trace.specs.Entries.{IsEntry, entry_of, accesses, events_of}
-use Rattle.tube_party.specs.Moves.{Moves, IsLawful, MayAsk, Runs}
+use Rattle.tube_party.specs.Moves.{Moves, IsLawful, MayAsk, Runs, course}
 use Rattle.tube_party.specs.Reference.{World, reference, IsFollowed, ReferenceIsTrace}
 use Rattle.tube_party.proofs.Runs.{event, First, Over, Silent, Asking, first_of_runs}
 use Rattle.tube_party.proofs.Followed.{followed, all_earlier}
@@ -23,16 +23,16 @@ abbrev May : Event → Type 0
 May e = MayAsk e.side (Some e.query)
 
 module _ {S : Type 0} (m : Moves S) (side : Side) (n : ℕ) (may : (s : S) → MayAsk side (m.asks s)) where
-  may_by : (i : ℕ) (s last : S) (events : List Event) → ((u : S) (others : List Event) → Runs m side n i u others last → All May others)
+  may_by : (i : ℕ) (s last : S) (events : List Event) → ((u : S) (others : List Event) → Runs m side n i u (course others last) → All May others)
       → First m side n (suc i) s events last → All May events
   may_by i s last events on (Over ee es) = subst (All May) (sym ee) (All-nil May)
-  may_by i s last events on (Silent i' ei low none runs) = on (m.next s None) events (subst (λ (x : ℕ). Runs m side n x (m.next s None) events last) (omega arith) runs)
+  may_by i s last events on (Silent i' ei low none runs) = on (m.next s None) events (subst (λ (x : ℕ). Runs m side n x (m.next s None) (course events last)) (omega arith) runs)
   may_by i s last events on (Asking i' q a others ei low is ee runs) =
       let here : MayAsk side (Some q) = subst (MayAsk side) is (may s) in
       subst (All May) (sym ee)
-      (All-cons May (event (m.due s) side q a) others here (on (m.next s (Some a)) others (subst (λ (x : ℕ). Runs m side n x (m.next s (Some a)) others last) (omega arith) runs)))
+      (All-cons May (event (m.due s) side q a) others here (on (m.next s (Some a)) others (subst (λ (x : ℕ). Runs m side n x (m.next s (Some a)) (course others last)) (omega arith) runs)))
 
-  all_may : (i : ℕ) (s last : S) (events : List Event) → Runs m side n i s events last → All May events
+  all_may : (i : ℕ) (s last : S) (events : List Event) → Runs m side n i s (course events last) → All May events
   all_may zero s last events runs = subst (All May) (sym runs.0) (All-nil May)
   all_may (suc i) s last events runs = may_by i s last events (λ u others on. all_may i u last others on) (first_of_runs m side n (suc i) s events last runs)
 

@@ -11,7 +11,7 @@ use Rattle.tube_chip.specs.Events.{Event, is_side}
 use Rattle.tube_trace.specs.declared.Entry.{Entry}
 use Rattle.tube_trace.specs.Entries.{accesses}
 use Rattle.tube_party.specs.declared.replaying.Doing.{Doing}
-use Rattle.tube_party.specs.Moves.{Moves, Runs, Follows, FitsAnswer, shut}
+use Rattle.tube_party.specs.Moves.{Moves, Runs, Follows, FitsAnswer, shut, course}
 use Rattle.tube_party.specs.Replay.{Numbered, own_from, doing, next_line, chip_before, replayed}
 use Rattle.tube_party.specs.Tape.{Misses}
 use Rattle.tube_party.specs.Reference.{World, reference}
@@ -71,7 +71,7 @@ pub record DiffersAt {S : Type 0} (m : Moves S) (side : Side) (trace : List Entr
   pub events : List Event
   pub steps : ℕ
   pub last : S
-  pub runs : Runs m side n steps s events last
+  pub runs : Runs m side n steps s (course events last)
   pub answered : All (λ e. IsAnsweredBy trace e.tick e.side e.query e.answer) events
   pub agreed : List Numbered
   pub left : List Numbered

@@ -56,20 +56,30 @@ abbrev pub Heads : List Event → (Event → List Event → Type 0) → Type 0
 Heads [] P = ⊥
 Heads (e ∷ events) P = P e events
 
--- k steps from s to last, each below n, are these events of the side in order: a step that asks nothing is no event
-abbrev pub Runs : {S : Type 0} → Moves S → Side → ℕ → ℕ → S → List Event → S → Type 0
-Runs m side n zero s events last = (events ≡ []) × (s ≡ last)
-Runs m side n (suc k) s events last =
+-- What a party goes through: the events of its steps in order, and the state after the last of them.
+pub record Course (S : Type 0) : Type 0 where
+  pub events : List Event
+  pub last : S
+
+abbrev pub course : {S : Type 0} → List Event → S → Course S
+course events last = record { events = events; last = last }
+
+-- k steps from s, each below n, are this course of the side: a step that asks nothing is no event
+abbrev pub Runs : {S : Type 0} → Moves S → Side → ℕ → ℕ → S → Course S → Type 0
+Runs m side n zero s c = (c.events ≡ []) × (s ≡ c.last)
+Runs m side n (suc k) s c =
     (m.due s < n)
     × MatchOption (m.asks s)
-    (Runs m side n k (m.next s None) events last)
-    (λ q. Heads events (λ e rest. (e.tick ≡ m.due s) × (e.side ≡ side) × (e.query ≡ q) × Runs m side n k (m.next s (Some e.answer)) rest last))
+    (Runs m side n k (m.next s None) c)
+    (λ q. Heads c.events (λ e rest.
+    (e.tick ≡ m.due s) × (e.side ≡ side) × (e.query ≡ q)
+    × Runs m side n k (m.next s (Some e.answer)) (course rest c.last)))
 
 -- The steps from s below n use up the events, and ended is the state after them, closed.
 pub record Follows {S : Type 0} (m : Moves S) (side : Side) (s : S) (events : List Event) (n : ℕ) (ended : S) : Type 0 where
   pub steps : ℕ
   pub last : S
-  pub runs : Runs m side n steps s events last
+  pub runs : Runs m side n steps s (course events last)
   pub over : n ≤ m.due last
   pub ends : ended ≡ shut m last n
 
@@ -83,7 +93,7 @@ IsAsk m n last (Look t) new = (t.0 ≡ m.due last) × (t.0 < n) × (m.asks last 
 pub record Advances {S : Type 0} (m : Moves S) (n : ℕ) (old : S) (ask : Ask) (new : S) : Type 0 where
   pub steps : ℕ
   pub last : S
-  pub runs : Runs m Host n steps old [] last
+  pub runs : Runs m Host n steps old (course [] last)
   pub asked : IsAsk m n last ask new
 
 -- What looks see, and the tick below which it is sure.

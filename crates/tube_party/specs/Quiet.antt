@@ -7,7 +7,7 @@ use Rattle.tube_chip.specs.Events.{Event}
 use Rattle.tube_chip.specs.declared.Answer.TheVariants.{Seen}
 use Rattle.tube_chip.specs.declared.Lines.{Lines}
 use Rattle.tube_chip.specs.Act.{Query}
-use Rattle.tube_party.specs.Moves.{Moves, IsLawful, Runs, Heads, Looks, shown}
+use Rattle.tube_party.specs.Moves.{Moves, IsLawful, Runs, Heads, Looks, shown, course}
 use Rattle.tube_party.specs.Steps.{After, due_rises}
 
 -- k steps from s to last that ask nothing, whatever their ticks
@@ -78,8 +78,12 @@ module _ {S : Type 0} (m : Moves S) where
 
     -- so no event of a run comes before it
     later_by : (side : Side) (n k t : ℕ) (s last : S) (events : List Event) (o : Option Query) → t ≤ m.due s →
-        ((u : S) (more : List Event) → t ≤ m.due u → Runs m side n k u more last → All (λ e. t ≤ e.tick) more) →
-        MatchOption o (Runs m side n k (m.next s None) events last) (λ q. Heads events (λ e rest. (e.tick ≡ m.due s) × (e.side ≡ side) × (e.query ≡ q) × Runs m side n k (m.next s (Some e.answer)) rest last)) →
+        ((u : S) (more : List Event) → t ≤ m.due u → Runs m side n k u (course more last) →
+        All (λ e. t ≤ e.tick) more) →
+        MatchOption o (Runs m side n k (m.next s None) (course events last))
+        (λ q. Heads events (λ e rest.
+        (e.tick ≡ m.due s) × (e.side ≡ side) × (e.query ≡ q)
+        × Runs m side n k (m.next s (Some e.answer)) (course rest last))) →
         All (λ e. t ≤ e.tick) events
     later_by side n k t s last events None low on h = let up : m.due s < m.due (m.next s None) = lawful.rises s None in on (m.next s None) events (omega arith) h
     later_by side n k t s last [] (Some q) low on h = absurd h
@@ -87,13 +91,17 @@ module _ {S : Type 0} (m : Moves S) where
         let up : m.due s < m.due (m.next s (Some e.answer)) = lawful.rises s (Some e.answer) in
         All-cons (λ x. t ≤ x.tick) e events (omega (arith, low, h.0)) (on (m.next s (Some e.answer)) events (omega arith) h.3)
 
-    later : (side : Side) (n k t : ℕ) (s last : S) (events : List Event) → t ≤ m.due s → Runs m side n k s events last → All (λ e. t ≤ e.tick) events
+    later : (side : Side) (n k t : ℕ) (s last : S) (events : List Event) → t ≤ m.due s →
+        Runs m side n k s (course events last) → All (λ e. t ≤ e.tick) events
     later side n zero t s last events low h = subst (λ (x : List Event). All (λ e. t ≤ e.tick) x) (sym h.0) (All-nil (λ (e : Event). t ≤ e.tick))
     later side n (suc k) t s last events low h = later_by side n k t s last events (m.asks s) low (λ u more up on. later side n k t u last more up on) h.1
 
     runs_by : (side : Side) (n k q : ℕ) (s last : S) (events : List Event) (o : Option Query) → m.asks s ≡ o → First s q →
-        ((u : S) → First u q → Runs m side n k u events last → All (λ e. q ≤ e.tick) events) →
-        MatchOption o (Runs m side n k (m.next s None) events last) (λ x. Heads events (λ e rest. (e.tick ≡ m.due s) × (e.side ≡ side) × (e.query ≡ x) × Runs m side n k (m.next s (Some e.answer)) rest last)) →
+        ((u : S) → First u q → Runs m side n k u (course events last) → All (λ e. q ≤ e.tick) events) →
+        MatchOption o (Runs m side n k (m.next s None) (course events last))
+        (λ x. Heads events (λ e rest.
+        (e.tick ≡ m.due s) × (e.side ≡ side) × (e.query ≡ x)
+        × Runs m side n k (m.next s (Some e.answer)) (course rest last))) →
         All (λ e. q ≤ e.tick) events
     runs_by side n k q s last events None is first on h = on (m.next s None) (first_on s q first is) h
     runs_by side n k q s last [] (Some x) is first on h = absurd h
@@ -102,9 +110,11 @@ module _ {S : Type 0} (m : Moves S) where
         let up : m.due s < m.due (m.next s (Some e.answer)) = lawful.rises s (Some e.answer) in
         All-cons (λ y. q ≤ y.tick) e events (omega (arith, here, h.0)) (later side n k q (m.next s (Some e.answer)) last events (omega arith) h.3)
 
-    first_runs : (side : Side) (n k q : ℕ) (s last : S) (events : List Event) → First s q → Runs m side n k s events last → All (λ e. q ≤ e.tick) events
+    first_runs : (side : Side) (n k q : ℕ) (s last : S) (events : List Event) → First s q →
+        Runs m side n k s (course events last) → All (λ e. q ≤ e.tick) events
     first_runs side n zero q s last events first h = subst (λ (x : List Event). All (λ e. q ≤ e.tick) x) (sym h.0) (All-nil (λ (e : Event). q ≤ e.tick))
     first_runs side n (suc k) q s last events first h = runs_by side n k q s last events (m.asks s) refl first (λ u f on. first_runs side n k q u last events f on) h.1
 
-    pub quiet_runs : (side : Side) (n k q : ℕ) (s last : S) (events : List Event) → IsQuiet m s q → Runs m side n k s events last → All (λ e. q ≤ e.tick) events
+    pub quiet_runs : (side : Side) (n k q : ℕ) (s last : S) (events : List Event) → IsQuiet m s q →
+        Runs m side n k s (course events last) → All (λ e. q ≤ e.tick) events
     quiet_runs side n k q s last events quiet h = first_runs side n k q s last events quiet.first h

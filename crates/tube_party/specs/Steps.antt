@@ -10,24 +10,28 @@ use Rattle.tube_chip.specs.declared.Lines.{Lines}
 use Rattle.tube_chip.specs.declared.Op.{Op}
 use Rattle.tube_party.specs.declared.party.Ask.{Ask}
 use Rattle.tube_party.specs.declared.party.Ask.TheVariants.{Access, Look}
-use Rattle.tube_party.specs.Moves.{Moves, IsLawful, Runs, Looks, Advances, Sees, Goes, IsAtLook, IsAskedFor, FitsAnswer, shown}
+use Rattle.tube_party.specs.Moves.{Moves, IsLawful, Runs, Looks, Advances, Sees, Goes, IsAtLook, IsAskedFor, FitsAnswer, shown, course}
 
 silent_here : {S : Type 0} (m : Moves S) (side : Side) (n k : ℕ) (s last : S) (o : Option Query) →
-    m.asks s ≡ o → o ≡ None → Runs m side n k (m.next s None) [] last → m.due s < n → Runs m side n (suc k) s [] last
+    m.asks s ≡ o → o ≡ None → Runs m side n k (m.next s None) (course [] last) → m.due s < n →
+    Runs m side n (suc k) s (course [] last)
 silent_here {S} m side n k s last o is none runs low =
     let e : m.asks s ≡ None = is ∙ none in
-    (low, subst (λ (x : Option Query). MatchOption x (Runs m side n k (m.next s None) [] last) (λ q. ⊥)) (sym e) runs)
+    let P : Option Query → Type 0 = λ x. MatchOption x (Runs m side n k (m.next s None) (course [] last)) (λ q. ⊥) in
+    (low, subst P (sym e) runs)
 
 runs_by : {S : Type 0} (m : Moves S) (side : Side) (n k : ℕ) (s last : S) (o : Option Query) →
-    MatchOption o (Runs m side n k (m.next s None) [] last) (λ q. ⊥) →
-    (Runs m side n k (m.next s None) [] last → Runs m side n (suc k) (m.next s None) [] (m.next last None)) →
-    MatchOption o (Runs m side n (suc k) (m.next s None) [] (m.next last None)) (λ q. ⊥)
+    MatchOption o (Runs m side n k (m.next s None) (course [] last)) (λ q. ⊥) →
+    (Runs m side n k (m.next s None) (course [] last) →
+    Runs m side n (suc k) (m.next s None) (course [] (m.next last None))) →
+    MatchOption o (Runs m side n (suc k) (m.next s None) (course [] (m.next last None))) (λ q. ⊥)
 runs_by m side n k s last None h on = on h
 runs_by m side n k s last (Some q) h on = h
 
 -- one more step that asks nothing
 pub runs_more : {S : Type 0} (m : Moves S) (side : Side) (n k : ℕ) (s last : S) →
-    Runs m side n k s [] last → m.due last < n → m.asks last ≡ None → Runs m side n (suc k) s [] (m.next last None)
+    Runs m side n k s (course [] last) → m.due last < n → m.asks last ≡ None →
+    Runs m side n (suc k) s (course [] (m.next last None))
 runs_more {S} m side n zero s last h low none =
     let low2 : m.due s < n = subst (λ (x : S). m.due x < n) (sym h.1) low in
     let none2 : m.asks s ≡ None = ap m.asks h.1 ∙ none in
@@ -106,23 +110,25 @@ module _ {S : Type 0} (m : Moves S) (n : ℕ) (lines : Lines) (sure : ℕ) where
       record { steps = all.0; last = sees.last; looks = all.1; asked = sees.asked; unsure = sees.unsure }
 
   -- steps that ask nothing are some of them
-  silent_by : (j k : ℕ) (s mid last : S) (o : Option Query) → ((u : S) → Runs m Host n j u [] mid → Looks m n (shown lines sure) k u last) →
-      MatchOption o (Runs m Host n j (m.next s None) [] mid) (λ q. ⊥) → After k s last o
+  silent_by : (j k : ℕ) (s mid last : S) (o : Option Query) →
+      ((u : S) → Runs m Host n j u (course [] mid) → Looks m n (shown lines sure) k u last) →
+      MatchOption o (Runs m Host n j (m.next s None) (course [] mid)) (λ q. ⊥) → After k s last o
   silent_by j k s mid last None on h = on (m.next s None) h
   silent_by j k s mid last (Some q) on h = absurd h
 
-  pub silent_all : (k : ℕ) (s last : S) → Runs m Host n k s [] last → Looks m n (shown lines sure) k s last
+  pub silent_all : (k : ℕ) (s last : S) → Runs m Host n k s (course [] last) → Looks m n (shown lines sure) k s last
   silent_all zero s last h = h.1
   silent_all (suc k) s last h = (h.0, silent_by k k s last last (m.asks s) (λ u on. silent_all k u last on) h.1)
 
 -- where no look is sure, all steps ask nothing
 module _ {S : Type 0} (m : Moves S) (n : ℕ) (lines : Lines) where
-  runs_by_looks : (k : ℕ) (s last : S) (o : Option Query) → ((u : S) → Looks m n (shown lines 0) k u last → Runs m Host n k u [] last) →
-      After m n lines 0 k s last o → MatchOption o (Runs m Host n k (m.next s None) [] last) (λ q. ⊥)
+  runs_by_looks : (k : ℕ) (s last : S) (o : Option Query) →
+      ((u : S) → Looks m n (shown lines 0) k u last → Runs m Host n k u (course [] last)) →
+      After m n lines 0 k s last o → MatchOption o (Runs m Host n k (m.next s None) (course [] last)) (λ q. ⊥)
   runs_by_looks k s last None on h = on (m.next s None) h
   runs_by_looks k s last (Some q) on h = omega (arith, h.1)
 
-  pub none_seen : (k : ℕ) (s last : S) → Looks m n (shown lines 0) k s last → Runs m Host n k s [] last
+  pub none_seen : (k : ℕ) (s last : S) → Looks m n (shown lines 0) k s last → Runs m Host n k s (course [] last)
   none_seen zero s last h = (refl, h)
   none_seen (suc k) s last h = (h.0, runs_by_looks k s last (m.asks s) (λ u on. none_seen k u last on) h.1)
 
