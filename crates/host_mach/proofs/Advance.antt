@@ -1,5 +1,5 @@
 -- Where the machine stops, and how it goes on from there.
-use Rattle.std.proofs.Common.{◌≡◌, refl, sym, ap, subst, ℕ, suc, ◌+◌, ◌<◌, ◌≤◌, ◌↔◌, min, Bool, true, false, IsTrue, IsNone, is_none, Option, Some, None, arith, if◌then◌else◌}
+use Rattle.std.proofs.Common.{◌≡◌, refl, sym, ap, subst, ℕ, suc, ◌+◌, ◌-◌, ◌<◌, ◌≤◌, ◌↔◌, min, Bool, true, false, IsTrue, IsNone, is_none, Option, Some, None, arith, if◌then◌else◌}
 use Rattle.cpu_alu.specs.declared.Cycle.{Cycle}
 use Rattle.tube_chip.specs.declared.Op.{Op}
 use Rattle.tube_chip.specs.declared.Lines.{Lines}
@@ -46,8 +46,8 @@ stops n lines sure start s new op came low done =
     }
 
 -- the ticks to the next step, by whether the sequence is over
-pub next-in : (o : Option Cycle) (last : Bool) (at : ℕ) → (IsTrue last ↔ IsNone o) → at + (if last then 2 else 3) ≡ (if is_none o then at + 2 else at + 3)
-next-in None true at over = refl
-next-in None false at over = let no : IsTrue false = over.1 refl in cc
-next-in (Some c) true at over = let no : IsNone (Some c) = over.0 refl in cc
-next-in (Some c) false at over = refl
+pub next-in : (o : Option Cycle) (last : Bool) (at n : ℕ) → (IsTrue last ↔ IsNone o) → at + (if last then n - 1 else n) ≡ (if is_none o then at + (n - 1) else at + n)
+next-in None true at n over = refl
+next-in None false at n over = let no : IsTrue false = over.1 refl in cc
+next-in (Some c) true at n over = let no : IsNone (Some c) = over.0 refl in cc
+next-in (Some c) false at n over = refl

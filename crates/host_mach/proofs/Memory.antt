@@ -1,6 +1,7 @@
 -- The memory, which no device step changes.
 use Rattle.std.proofs.Common.{◌≡◌, ◌<◌, ◌∙◌, refl, sym, ap, subst, ℕ, ◌+◌, ◌*◌, ◌/◌, ◌%◌, nat_le, Bool, true, false, Some, None, arith, if◌then◌else◌}
 use Rattle.std.proofs.lemmas.Grind.{common_steps}
+use Rattle.beeb_bits.specs.Clock.{host}
 use Rattle.cpu_alu.specs.declared.Cycle.{Cycle}
 use Rattle.cpu_alu.specs.declared.Cycle.TheVariants.{Read}
 use Rattle.tube_chip.specs.Act.{access}
@@ -8,7 +9,7 @@ use Rattle.tube_chip.specs.declared.Op.TheVariants as op
 use Rattle.host_bus.specs.declared.map.Place.{Place}
 use Rattle.host_bus.specs.declared.map.Place.TheVariants.{Ram, PagedRom, OsRom}
 use Rattle.host_bus.specs.Map.{place_of, stretch}
-use Rattle.host_bus.specs.Bus.{BusState, bus_closed, answer_of, after_read_of, bus_answer, bus_after_read}
+use Rattle.host_bus.specs.Bus.{BusState, clock_of, bus_closed, answer_of, after_read_of, bus_answer, bus_after_read}
 use Rattle.host_mach.specs.Step.{is_tube, byte_in}
 use Rattle.host_mach.specs.Told.{IsMemory}
 
@@ -45,12 +46,14 @@ not-tube : (at : ℕ) → at < 0xfc00 → is_tube at ≡ false
 not-tube at low = grind (arith, common_steps)
 
 -- so that a read is done without closing
-pub read-done : (b : BusState) (t at byte : ℕ) (c : Cycle) → c ≡ Read at → at < 0xfc00 → byte ≡ bus_answer b t at → stretch at (t / 3) ≡ 1 → IsMemory b t c (Some byte) b
+pub read-done : (b : BusState) (t at byte : ℕ) (c : Cycle) → c ≡ Read at → at < 0xfc00 → byte ≡ bus_answer b t at → stretch at (t / host (clock_of b)) ≡ 1 → IsMemory b t c (Some byte) b
 read-done b t at byte c is low given fast =
     let no = not-tube at low in
+    let n : ℕ = host (clock_of b) in
+    let one : n * 1 ≡ n = omega arith in
     subst (λ (x : Cycle). IsMemory b t x (Some byte) b) (sym is) (
       ap (λ (x : Bool). if x then Some (access (op.Read (at % 8))) else None) no,
       given ∙ answer-on b (t + 1) t at low ∙ sym (ap (λ (x : Bool). if x then byte_in None else bus_answer (bus_closed b (t + 1)) t at) no),
       sym (read-still (bus_closed b (t + 1)) at low),
-      ap (λ (n : ℕ). 3 * n) fast,
+      ap (λ (k : ℕ). n * k) fast ∙ one,
     )

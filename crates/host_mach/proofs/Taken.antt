@@ -1,5 +1,5 @@
 -- An access to the Tube that was answered.
-use Rattle.std.proofs.Common.{◌≡◌, ◌≤◌, ◌∙◌, refl, sym, ap, ℕ, ◌+◌, ◌*◌, ◌/◌, ◌%◌, ◌∷◌, ◌++◌, [], Bool, true, false, cond, Option, Some, None, MatchOption, is_none, if◌then◌else◌, arith}
+use Rattle.std.proofs.Common.{◌≡◌, ◌≤◌, ◌∙◌, refl, sym, ap, ℕ, ◌+◌, ◌-◌, ◌*◌, ◌/◌, ◌%◌, ◌∷◌, ◌++◌, [], Bool, true, false, cond, Option, Some, None, MatchOption, is_none, if◌then◌else◌, arith}
 use Rattle.std.proofs.lemmas.Grind.{common_steps}
 use Rattle.cpu_alu.specs.declared.Cycle.{Cycle}
 use Rattle.cpu_alu.specs.declared.Cycle.TheVariants.{Read, Write}
@@ -13,7 +13,7 @@ use Rattle.tube_party.specs.Moves.{FitsAnswer}
 use Rattle.host_bus.specs.Map.{stretch}
 use Rattle.host_bus.specs.Bus.{BusState, bus_answer, bus_closed}
 use Rattle.host_bus.specs.AtTube.{tube-read, tube-write, tube-fast}
-use Rattle.host_mach.specs.State.{HostState}
+use Rattle.host_mach.specs.State.{HostState, cycle_of}
 use Rattle.host_mach.specs.Step.{is_tube, asks_by, cycled, stepped, host_closed}
 
 -- an address of the Tube
@@ -29,13 +29,14 @@ given-write s at v byte e =
     ap (λ (c : Option Cycle). cond (halted s) s (record s { seen = s.seen ++ shown c byte ∷ [] })) e
     ∙ sym (ap (λ (c : Option Cycle). cond (halted s) s (record s { seen = s.seen ++ shown c 0 ∷ [] })) e)
 
--- a cycle of three ticks
-three : (s : HostState) (on : cpu.State) (later k : ℕ) → later ≡ (if is_none (next on) then s.due + 2 else s.due + 3) → k ≡ 1 → record s { cpu = on; due = later } ≡ cycled s on (3 * k)
-three s on later k e one =
-    ap (λ (n : ℕ). record s { cpu = on; due = n }) e ∙ ap (λ (n : ℕ). cycled s on (3 * n)) (sym one)
+-- an access of one cycle
+one-cycle : (s : HostState) (on : cpu.State) (n later k : ℕ) → later ≡ (if is_none (next on) then s.due + (n - 1) else s.due + n) → k ≡ 1 → record s { cpu = on; due = later } ≡ cycled s on (n * k)
+one-cycle s on n later k e one =
+    let same : n ≡ n * k = omega arith ∙ ap (λ (j : ℕ). n * j) (sym one) in
+    ap (λ (t : ℕ). record s { cpu = on; due = t }) e ∙ ap (λ (j : ℕ). cycled s on j) same
 
 -- the access of the Tube with a byte
-pub taken : (c : Option Cycle) (s : HostState) (on : cpu.State) (byte later : ℕ) → next s.cpu ≡ c → MatchOption (asks_by c) ⊥ (λ q. FitsAnswer q (Byte 0)) → on ≡ given s.cpu byte → later ≡ (if is_none (next on) then s.due + 2 else s.due + 3) →
+pub taken : (c : Option Cycle) (s : HostState) (on : cpu.State) (byte later : ℕ) → next s.cpu ≡ c → MatchOption (asks_by c) ⊥ (λ q. FitsAnswer q (Byte 0)) → on ≡ given s.cpu byte → later ≡ (if is_none (next on) then s.due + (cycle_of s - 1) else s.due + cycle_of s) →
     record s { cpu = on; bus = bus_closed s.bus (s.due + 1); due = later } ≡ stepped c (host_closed s (s.due + 1)) (Some (Byte byte))
 taken None s on byte later is asked e ticks = absurd asked
 taken (Some (Read at)) s on byte later is asked e ticks = read-by (is_tube at) refl asked
@@ -45,9 +46,10 @@ taken (Some (Read at)) s on byte later is asked e ticks = read-by (is_tube at) r
     read-by false tube asked = absurd asked
     read-by true tube asked =
         let x : HostState = host_closed s (s.due + 1) in
-        three x on later (stretch at (s.due / 3)) ticks (tube-fast at (s.due / 3) (low-of at tube) (high-of at tube))
-        ∙ ap (λ (p : cpu.State). cycled x p (3 * stretch at (s.due / 3))) (e ∙ ap (λ (b : Bool). given s.cpu (if b then byte else bus_answer x.bus s.due at)) (sym tube))
-        ∙ ap (λ (b : BusState). cycled (record x { bus = b }) (given s.cpu (if is_tube at then byte else bus_answer x.bus s.due at)) (3 * stretch at (s.due / 3))) (sym (tube-read x.bus at (low-of at tube) (high-of at tube)))
+        let n : ℕ = cycle_of s in
+        one-cycle x on n later (stretch at (s.due / n)) ticks (tube-fast at (s.due / n) (low-of at tube) (high-of at tube))
+        ∙ ap (λ (p : cpu.State). cycled x p (n * stretch at (s.due / n))) (e ∙ ap (λ (b : Bool). given s.cpu (if b then byte else bus_answer x.bus s.due at)) (sym tube))
+        ∙ ap (λ (b : BusState). cycled (record x { bus = b }) (given s.cpu (if is_tube at then byte else bus_answer x.bus s.due at)) (n * stretch at (s.due / n))) (sym (tube-read x.bus at (low-of at tube) (high-of at tube)))
 taken (Some (Write at v)) s on byte later is asked e ticks = write-by (is_tube at) refl asked
   where
     write-by : (b : Bool) → is_tube at ≡ b → MatchOption (if b then Some (access (op.Write (at % 8) v)) else None) ⊥ (λ q. FitsAnswer q (Byte 0)) →
@@ -55,6 +57,7 @@ taken (Some (Write at v)) s on byte later is asked e ticks = write-by (is_tube a
     write-by false tube asked = absurd asked
     write-by true tube asked =
         let x : HostState = host_closed s (s.due + 1) in
-        three x on later (stretch at (s.due / 3)) ticks (tube-fast at (s.due / 3) (low-of at tube) (high-of at tube))
-        ∙ ap (λ (p : cpu.State). cycled x p (3 * stretch at (s.due / 3))) (e ∙ given-write s.cpu at v byte is)
-        ∙ ap (λ (b : BusState). cycled (record x { bus = b }) (given s.cpu 0) (3 * stretch at (s.due / 3))) (sym (tube-write x.bus at v (low-of at tube) (high-of at tube)))
+        let n : ℕ = cycle_of s in
+        one-cycle x on n later (stretch at (s.due / n)) ticks (tube-fast at (s.due / n) (low-of at tube) (high-of at tube))
+        ∙ ap (λ (p : cpu.State). cycled x p (n * stretch at (s.due / n))) (e ∙ given-write s.cpu at v byte is)
+        ∙ ap (λ (b : BusState). cycled (record x { bus = b }) (given s.cpu 0) (n * stretch at (s.due / n))) (sym (tube-write x.bus at v (low-of at tube) (high-of at tube)))

@@ -1,6 +1,7 @@
 -- The host, of which device steps are owed: it stands for the one in which they are done.
 use Rattle.std.proofs.Common.{◌≡◌, ◌≤◌, ◌<◌, ◌∙◌, ◌+◌, ◌-◌, ◌⊎◌, inl, inr, refl, sym, ap, subst, ℕ, suc, Bool, is_none, Option, Some, None, IsSome, arith, if◌then◌else◌}
 use Rattle.std.proofs.lemmas.Bool.{lt-ltb, le-ltb}
+use Rattle.beeb_bits.specs.Clock.{host, some-host, few-host}
 use Rattle.cpu_alu.specs.declared.Cycle.{Cycle}
 use Rattle.cpu_alu.specs.declared.Regs.{Regs}
 use Rattle.cpu_core.specs.declared.Sequence.{Sequence}
@@ -11,32 +12,64 @@ use Rattle.tube_chip.specs.declared.Lines.{Lines}
 use Rattle.tube_chip.specs.declared.Answer.TheVariants.{Seen}
 use Rattle.tube_party.specs.Moves.{Looks, shown}
 use Rattle.tube_party.specs.Steps.{silent_last, look_last}
-use Rattle.host_bus.specs.Bus.{BusState, bus_closed, closed_at}
+use Rattle.host_bus.specs.Bus.{BusState, clock_of, bus_closed, closed_at}
 use Rattle.host_bus.specs.Closing.{closed-again, closed-still}
-use Rattle.host_mach.specs.State.{HostState}
+use Rattle.host_mach.specs.State.{HostState, cycle_of}
 use Rattle.host_mach.specs.Step.{host_moves, host_closed, asks, asks_by, byte_of, bus_after, cycled, stepped, next_state, looked_at}
 use Rattle.host_mach.specs.Lawful.{host-again}
+use Rattle.host_mach.specs.SameClock.{access-same}
 use Rattle.host_mach.specs.Told.{IsMemory, host_of, owed_at}
 
 -- up to where the device steps are owed
 
-pub owed-none : (t closed : ℕ) → owed_at t t closed ≡ closed
-owed-none t closed = rw (le-ltb t t (omega arith)) refl
+pub owed-none : (n t closed : ℕ) → owed_at n t t closed ≡ closed
+owed-none n t closed = rw (le-ltb t t (omega arith)) refl
 
-pub owed-some : (since due closed : ℕ) → since < due → owed_at since due closed ≡ due - 2
-owed-some since due closed gone = rw (lt-ltb since due gone) refl
+pub owed-some : (n since due closed : ℕ) → since < due → owed_at n since due closed ≡ due - (n - 1)
+owed-some n since due closed gone = rw (lt-ltb since due gone) refl
 
 -- The steps so far asked nothing, or saw these lines; the next one is an access, and device steps are owed where there was an access since a tick.
-pub record IsUnderWay (until : ℕ) (lines : Lines) (sure : ℕ) (start s : HostState) (since : ℕ) : Type 0 where
+-- A cycle has n ticks.
+pub record IsUnderWay (n until : ℕ) (lines : Lines) (sure : ℕ) (start s : HostState) (since : ℕ) : Type 0 where
+  pub cycle : n ≡ cycle_of s
   pub goes_on : IsSome (next s.cpu)
-  pub looks : (k : ℕ) × Looks host_moves until (shown lines sure) k start (host_closed s (owed_at since s.due (closed_at s.bus)))
-  pub low : closed_at s.bus ≤ owed_at since s.due (closed_at s.bus)
-  pub high : owed_at since s.due (closed_at s.bus) ≤ s.due + 1
-  pub since_then : (since ≡ s.due) ⊎ ((since + 3 ≤ s.due) × (s.due < until + 3))
+  pub looks : (k : ℕ) × Looks host_moves until (shown lines sure) k start (host_closed s (owed_at n since s.due (closed_at s.bus)))
+  pub low : closed_at s.bus ≤ owed_at n since s.due (closed_at s.bus)
+  pub high : owed_at n since s.due (closed_at s.bus) ≤ s.due + 1
+  pub since_then : (since ≡ s.due) ⊎ ((since + n ≤ s.due) × (s.due < until + n))
+
+-- how long a cycle is
+some-ticks : (n : ℕ) (s : HostState) → n ≡ cycle_of s → 1 < n
+some-ticks n s is = omega (arith, is, some-host (clock_of s.bus))
+
+few-ticks : (n : ℕ) (s : HostState) → n ≡ cycle_of s → n < 1073741824
+few-ticks n s is = omega (arith, is, few-host (clock_of s.bus))
 
 -- no steps are owed
 pub none-owed : (s : HostState) → host_closed s (closed_at s.bus) ≡ s
 none-owed s = ap (λ (b : BusState). record s { bus = b }) (closed-still s.bus (closed_at s.bus) (omega arith))
+
+-- a sequence that begins has a first access
+pub begins : (sequence : Sequence) (r : Regs) → IsSome (next (fresh sequence r))
+begins Instruction r = refl
+begins Reset r = refl
+begins Nmi r = refl
+begins Irq r = refl
+
+-- after a look the devices are closed up to the next step, which is an access, and ticks are as long as before
+pub after-look : (s new : HostState) (t : ℕ) (hirq : Bool) → closed_at s.bus ≤ t → new ≡ looked_at (host_closed s t) hirq →
+    IsSome (next new.cpu) × (closed_at new.bus ≡ t) × (cycle_of s ≡ cycle_of new)
+after-look s new t hirq low is =
+    let at : HostState = looked_at (host_closed s t) hirq in (
+      subst (λ (x : HostState). IsSome (next x.cpu)) (sym is) (begins at.cpu.sequence at.cpu.regs),
+      ap (λ (x : HostState). closed_at x.bus) is ∙ omega (arith, low),
+      sym (ap cycle_of is),
+    )
+
+-- hosts of the same parts
+pub same-parts : (p q : cpu.State) (b d : BusState) (m n t u : ℕ) → p ≡ q → b ≡ d → m ≡ n → t ≡ u → host_of p b m t ≡ host_of q d n u
+same-parts p q b d m n t u one two three four =
+    ap (λ (x : cpu.State). host_of x b m t) one ∙ ap (λ (x : BusState). host_of q x m t) two ∙ ap (λ (x : ℕ). host_of q d x t) three ∙ ap (λ (x : ℕ). host_of q d n x) four
 
 module _ (until : ℕ) (lines : Lines) (sure : ℕ) (start : HostState) where
   -- so many steps, of which each asked nothing or saw the lines
@@ -44,72 +77,95 @@ module _ (until : ℕ) (lines : Lines) (sure : ℕ) (start : HostState) where
   Came s = (k : ℕ) × Looks host_moves until (shown lines sure) k start s
 
   -- before the next access, where no steps are owed
-  pub caught-up : (s : HostState) → IsSome (next s.cpu) → closed_at s.bus ≤ s.due + 1 → Came s → IsUnderWay until lines sure start s s.due
-  caught-up s goes_on before came =
-      let none : owed_at s.due s.due (closed_at s.bus) ≡ closed_at s.bus = owed-none s.due (closed_at s.bus) in
+  pub caught-up : (n : ℕ) (s : HostState) → n ≡ cycle_of s → IsSome (next s.cpu) → closed_at s.bus ≤ s.due + 1 → Came s → IsUnderWay n until lines sure start s s.due
+  caught-up n s cycle goes_on before came =
+      let none : owed_at n s.due s.due (closed_at s.bus) ≡ closed_at s.bus = owed-none n s.due (closed_at s.bus) in
       record {
+        cycle = cycle;
         goes_on = goes_on;
-        looks = (came.0, subst (λ (x : HostState). Looks host_moves until (shown lines sure) came.0 start x) (sym (ap (λ (n : ℕ). host_closed s n) none ∙ none-owed s)) came.1);
+        looks = (came.0, subst (λ (x : HostState). Looks host_moves until (shown lines sure) came.0 start x) (sym (ap (λ (t : ℕ). host_closed s t) none ∙ none-owed s)) came.1);
         low = omega (arith, none);
         high = omega (arith, none, before);
         since_then = inl refl;
       }
 
+  -- at the start, before an access
+  pub at-start : (n : ℕ) → n ≡ cycle_of start → IsSome (next start.cpu) → closed_at start.bus ≤ start.due + 1 → IsUnderWay n until lines sure start start start.due
+  at-start n cycle goes_on before = caught-up n start cycle goes_on before (0, refl)
+
+  -- or before a look, which saw the lines
+  pub at-look : (n : ℕ) (new : HostState) → n ≡ cycle_of start → next start.cpu ≡ None → closed_at start.bus ≤ start.due + 1 → start.due < until → start.due < sure →
+      new ≡ looked_at (host_closed start (start.due + 1)) lines.hirq → IsUnderWay n until lines sure start new new.due
+  at-look n new cycle over before low early is =
+      let saw : new ≡ next_state start (Some (Seen lines)) = is ∙ ap (λ (o : Option Cycle). stepped o (host_closed start (start.due + 1)) (Some (Seen lines))) (sym over) in
+      let first : Looks host_moves until (shown lines sure) 1 start (next_state start (Some (Seen lines))) =
+      look_last host_moves until lines sure 0 start start refl low (ap asks_by over) early in
+      let after = after-look start new (start.due + 1) lines.hirq before is in
+      let due : new.due ≡ start.due + 1 = ap (λ (x : HostState). x.due) is in
+      caught-up n new (cycle ∙ after.2) after.0 (omega (arith, after.1, due)) (1, subst (λ (x : HostState). Looks host_moves until (shown lines sure) 1 start x) (sym saw) first)
+
   -- a step that asked nothing, of the host whose steps are owed
-  pub steps-on : (s : HostState) (since : ℕ) → IsUnderWay until lines sure start s since → s.due < until → asks s ≡ None → Came (next_state s None)
-  steps-on s since way low none =
-      let owed : ℕ = owed_at since s.due (closed_at s.bus) in
+  pub steps-on : (n : ℕ) (s : HostState) (since : ℕ) → IsUnderWay n until lines sure start s since → s.due < until → asks s ≡ None → Came (next_state s None)
+  steps-on n s since way low none =
+      let owed : ℕ = owed_at n since s.due (closed_at s.bus) in
       let again : next_state (host_closed s owed) None ≡ next_state s None = ap (λ (x : HostState). stepped (next s.cpu) x None) (host-again s owed (s.due + 1) way.high) in
       let more : Looks host_moves until (shown lines sure) (suc way.looks.0) start (next_state (host_closed s owed) None) =
       silent_last host_moves until lines sure way.looks.0 start (host_closed s owed) way.looks.1 low none in
       (suc way.looks.0, subst (λ (x : HostState). Looks host_moves until (shown lines sure) (suc way.looks.0) start x) again more)
 
   -- an access of the memory is such a step, which leaves the device steps before it for later
-  pub memory-on : (s : HostState) (since byte : ℕ) (c : Cycle) (on : cpu.State) (b : BusState) → IsUnderWay until lines sure start s since → s.due < until → next s.cpu ≡ Some c →
-      IsMemory s.bus s.due c (Some byte) b → on ≡ given s.cpu byte → Came (host_of on (bus_closed b (s.due + 1)) s.nmis (if is_none (next on) then s.due + 2 else s.due + 3))
-  memory-on s since byte c on b way low is done gave =
+  pub memory-on : (n : ℕ) (s : HostState) (since byte : ℕ) (c : Cycle) (on : cpu.State) (b : BusState) → IsUnderWay n until lines sure start s since → s.due < until → next s.cpu ≡ Some c →
+      IsMemory s.bus s.due c (Some byte) b → on ≡ given s.cpu byte → Came (host_of on (bus_closed b (s.due + 1)) s.nmis (if is_none (next on) then s.due + (n - 1) else s.due + n))
+  memory-on n s since byte c on b way low is done gave =
       let x : HostState = host_closed s (s.due + 1) in
-      let same : next_state s None ≡ host_of on (bus_closed b (s.due + 1)) s.nmis (if is_none (next on) then s.due + 2 else s.due + 3) =
+      let same : next_state s None ≡ host_of on (bus_closed b (s.due + 1)) s.nmis (if is_none (next on) then s.due + (n - 1) else s.due + n) =
       ap (λ (o : Option Cycle). stepped o x None) is
-      ∙ ap (λ (n : ℕ). cycled (record x { bus = bus_after x.bus c }) (given s.cpu (byte_of x.bus s.due None c)) n) done.3
-      ∙ ap (λ (n : ℕ). cycled (record x { bus = bus_after x.bus c }) (given s.cpu n) 3) (sym done.1)
-      ∙ ap (λ (p : cpu.State). cycled (record x { bus = bus_after x.bus c }) p 3) (sym gave)
-      ∙ ap (λ (d : BusState). cycled (record x { bus = d }) on 3) (sym done.2) in
-      let came : Came (next_state s None) = steps-on s since way low (ap asks_by is ∙ done.0) in
+      ∙ ap (λ (k : ℕ). cycled (record x { bus = bus_after x.bus c }) (given s.cpu (byte_of x.bus s.due None c)) k) (done.3 ∙ sym way.cycle)
+      ∙ ap (λ (v : ℕ). cycled (record x { bus = bus_after x.bus c }) (given s.cpu v) n) (sym done.1)
+      ∙ ap (λ (p : cpu.State). cycled (record x { bus = bus_after x.bus c }) p n) (sym gave)
+      ∙ ap (λ (d : BusState). cycled (record x { bus = d }) on n) (sym done.2) in
+      let came : Came (next_state s None) = steps-on n s since way low (ap asks_by is ∙ done.0) in
       (came.0, subst (λ (y : HostState). Looks host_moves until (shown lines sure) came.0 start y) same came.1)
 
+  -- which leaves a cycle as long as it was
+  pub memory-clock : (n : ℕ) (s : HostState) (since byte : ℕ) (c : Cycle) (b : BusState) → IsUnderWay n until lines sure start s since →
+      IsMemory s.bus s.due c (Some byte) b → n ≡ host (clock_of b)
+  memory-clock n s since byte c b way done = way.cycle ∙ ap host (sym (access-same (bus_closed s.bus (s.due + 1)) c) ∙ ap clock_of (sym done.2))
+
   -- and then comes the next access
-  pub memory-more : (s : HostState) (since byte : ℕ) (c : Cycle) (on : cpu.State) (b : BusState) → IsUnderWay until lines sure start s since → s.due < until → next s.cpu ≡ Some c →
-      IsMemory s.bus s.due c (Some byte) b → on ≡ given s.cpu byte → closed_at b ≤ s.due + 1 → IsSome (next on) → IsUnderWay until lines sure start (host_of on b s.nmis (s.due + 3)) since
-  memory-more s since byte c on b way low is done gave before more =
-      let came = memory-on s since byte c on b way low is done gave in
-      let gone : since < s.due + 3 = elim way.since_then [ inl e ↦ omega (arith, e) | inr e ↦ omega (arith, e.0) ] in
-      let owed : owed_at since (s.due + 3) (closed_at b) ≡ s.due + 1 = owed-some since (s.due + 3) (closed_at b) gone ∙ omega arith in
-      let due : (if is_none (next on) then s.due + 2 else s.due + 3) ≡ s.due + 3 = on-by (next on) s.due more in
+  pub memory-more : (n : ℕ) (s : HostState) (since byte : ℕ) (c : Cycle) (on : cpu.State) (b : BusState) → IsUnderWay n until lines sure start s since → s.due < until → next s.cpu ≡ Some c →
+      IsMemory s.bus s.due c (Some byte) b → on ≡ given s.cpu byte → closed_at b ≤ s.due + 1 → IsSome (next on) → IsUnderWay n until lines sure start (host_of on b s.nmis (s.due + n)) since
+  memory-more n s since byte c on b way low is done gave before more =
+      let some : 1 < n = some-ticks n s way.cycle in
+      let came = memory-on n s since byte c on b way low is done gave in
+      let gone : since < s.due + n = elim way.since_then [ inl e ↦ omega (arith, e, some) | inr e ↦ omega (arith, e.0, some) ] in
+      let owed : owed_at n since (s.due + n) (closed_at b) ≡ s.due + 1 = owed-some n since (s.due + n) (closed_at b) gone ∙ omega (arith, some) in
+      let due : (if is_none (next on) then s.due + (n - 1) else s.due + n) ≡ s.due + n = on-by (next on) s.due n more in
       record {
+        cycle = memory-clock n s since byte c b way done;
         goes_on = more;
         looks = (
           came.0,
           subst (λ (x : HostState). Looks host_moves until (shown lines sure) came.0 start x)
-              (ap (λ (n : ℕ). host_of on (bus_closed b (s.due + 1)) s.nmis n) due ∙ ap (λ (n : ℕ). host_of on (bus_closed b n) s.nmis (s.due + 3)) (sym owed)) came.1,
+              (ap (λ (t : ℕ). host_of on (bus_closed b (s.due + 1)) s.nmis t) due ∙ ap (λ (t : ℕ). host_of on (bus_closed b t) s.nmis (s.due + n)) (sym owed)) came.1,
         );
         low = omega (arith, owed, before);
         high = omega (arith, owed);
         since_then = inr (elim way.since_then [ inl e ↦ omega (arith, e) | inr e ↦ omega (arith, e.0) ], omega (arith, low));
       }
     where
-      on-by : (o : Option Cycle) (t : ℕ) → IsSome o → (if is_none o then t + 2 else t + 3) ≡ t + 3
-      on-by (Some d) t h = refl
-      on-by None t h = absurd (cc)
+      on-by : (o : Option Cycle) (t n : ℕ) → IsSome o → (if is_none o then t + (n - 1) else t + n) ≡ t + n
+      on-by (Some d) t n h = refl
+      on-by None t n h = absurd (cc)
 
   -- or the look at the end of the sequence
-  pub memory-last : (s : HostState) (since byte : ℕ) (c : Cycle) (on : cpu.State) (b : BusState) → IsUnderWay until lines sure start s since → s.due < until → next s.cpu ≡ Some c →
-      IsMemory s.bus s.due c (Some byte) b → on ≡ given s.cpu byte → next on ≡ None → Came (host_of on (bus_closed b (s.due + 1)) s.nmis (s.due + 2))
-  memory-last s since byte c on b way low is done gave over =
-      let came = memory-on s since byte c on b way low is done gave in (
+  pub memory-last : (n : ℕ) (s : HostState) (since byte : ℕ) (c : Cycle) (on : cpu.State) (b : BusState) → IsUnderWay n until lines sure start s since → s.due < until → next s.cpu ≡ Some c →
+      IsMemory s.bus s.due c (Some byte) b → on ≡ given s.cpu byte → next on ≡ None → Came (host_of on (bus_closed b (s.due + 1)) s.nmis (s.due + (n - 1)))
+  memory-last n s since byte c on b way low is done gave over =
+      let came = memory-on n s since byte c on b way low is done gave in (
         came.0,
         subst (λ (x : HostState). Looks host_moves until (shown lines sure) came.0 start x)
-            (ap (λ (o : Option Cycle). host_of on (bus_closed b (s.due + 1)) s.nmis (if is_none o then s.due + 2 else s.due + 3)) over) came.1,
+            (ap (λ (o : Option Cycle). host_of on (bus_closed b (s.due + 1)) s.nmis (if is_none o then s.due + (n - 1) else s.due + n)) over) came.1,
       )
 
   -- a look that sees the lines, of a host that stands for one closed further
@@ -126,23 +182,9 @@ module _ (until : ℕ) (lines : Lines) (sure : ℕ) (start : HostState) where
       (suc came.0, subst (λ (x : HostState). Looks host_moves until (shown lines sure) (suc came.0) start x) (sym saw) more)
 
 -- after an access there is a cycle before the next one
-pub cycle-before : (until : ℕ) (lines : Lines) (sure : ℕ) (start s : HostState) (since : ℕ) → until ≤ 1073741824 → IsUnderWay until lines sure start s since → since < s.due → (2 ≤ s.due) × (s.due < 281474976710656)
-cycle-before until lines sure start s since room way gone = elim way.since_then [
+pub cycle-before : (n until : ℕ) (lines : Lines) (sure : ℕ) (start s : HostState) (since : ℕ) → until ≤ 1073741824 → IsUnderWay n until lines sure start s since → since < s.due →
+    (0 < n) × (n ≤ s.due) × (s.due < 281474976710656)
+cycle-before n until lines sure start s since room way gone = elim way.since_then [
   | inl e ↦ absurd (omega (arith, e, gone))
-  | inr e ↦ (omega (arith, e.0), omega (arith, e.1, room))
+  | inr e ↦ (omega (arith, some-ticks n s way.cycle), omega (arith, e.0), omega (arith, e.1, room, few-ticks n s way.cycle))
 ]
-
--- a sequence that begins has a first access
-pub begins : (sequence : Sequence) (r : Regs) → IsSome (next (fresh sequence r))
-begins Instruction r = refl
-begins Reset r = refl
-begins Nmi r = refl
-begins Irq r = refl
-
--- after a look the devices are closed up to the next step, which is an access
-pub after-look : (s new : HostState) (t : ℕ) (hirq : Bool) → closed_at s.bus ≤ t → new ≡ looked_at (host_closed s t) hirq → IsSome (next new.cpu) × (closed_at new.bus ≡ t)
-after-look s new t hirq low is =
-    let at : HostState = looked_at (host_closed s t) hirq in (
-      subst (λ (x : HostState). IsSome (next x.cpu)) (sym is) (begins at.cpu.sequence at.cpu.regs),
-      ap (λ (x : HostState). closed_at x.bus) is ∙ omega (arith, low),
-    )

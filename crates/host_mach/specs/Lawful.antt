@@ -1,8 +1,11 @@
 -- The host is a party that plays the host's side.
 use Rattle.std.specs.Prelude.{ℕ, ◌≡◌, ◌≤◌, ◌<◌, ◌+◌, ◌-◌, ◌*◌, ◌/◌, ◌%◌, ◌==◌, Bool, true, false, is_none, Option, None, Some, refl, if◌then◌else◌}
 use Rattle.std.proofs.Common.{arith, ap}
+use Rattle.std.proofs.Math.Nat.{le-mul_of_pos_right}
 use Rattle.beeb_bits.specs.declared.Side.{Side}
 use Rattle.beeb_bits.specs.declared.Side.TheVariants.{Host}
+use Rattle.beeb_bits.specs.declared.clock.Clock.{Clock}
+use Rattle.beeb_bits.specs.Clock.{host, some-host}
 use Rattle.cpu_alu.specs.declared.Cycle.{Cycle}
 use Rattle.cpu_alu.specs.declared.Cycle.TheVariants.{Read, Write}
 use Rattle.cpu6502.specs.Sequences.{next, given}
@@ -13,28 +16,31 @@ use Rattle.tube_chip.specs.Act.{access, MayDo}
 use Rattle.tube_chip.specs.Events.{is_side}
 use Rattle.tube_party.specs.Moves.{IsLawful, IsPermitted, MayAsk}
 use Rattle.host_bus.specs.Map.{stretch, stretched_in, memory_map}
-use Rattle.host_bus.specs.Bus.{BusState}
+use Rattle.host_bus.specs.Bus.{BusState, clock_of}
 use Rattle.host_bus.specs.Closing.{closed-again}
 use Rattle.host_mach.specs.State.{HostState}
 use Rattle.host_mach.specs.Step.{host_moves, host_closed, stepped, byte_of, address, cycle_ticks, is_tube, asks_by}
 
--- a cycle takes at least one third of three ticks
+-- an access takes at least one cycle
 some-cycle : (slow even : Bool) → 1 ≤ (if slow then (if even then 2 else 3) else 1)
 some-cycle true true = omega arith
 some-cycle true false = omega arith
 some-cycle false even = omega arith
 
-pub cycle-ticks : (t : ℕ) (c : Cycle) → 3 ≤ cycle_ticks t c
-cycle-ticks t c = omega (arith, some-cycle (stretched_in memory_map (address c)) (t / 3 % 2 == 0))
+pub cycle-ticks : (clock : Clock) (t : ℕ) (c : Cycle) → host clock ≤ cycle_ticks clock t c
+cycle-ticks clock t c =
+    le-mul_of_pos_right (host clock) (some-cycle (stretched_in memory_map (address c)) (t / host clock % 2 == 0))
 
-later : (over : Bool) (t k : ℕ) → 1 ≤ k → t < (if over then t + (3 * k - 1) else t + 3 * k)
-later true t k some = omega (arith, some)
-later false t k some = omega (arith, some)
+later : (over : Bool) (t n : ℕ) → 1 < n → t < (if over then t + (n - 1) else t + n)
+later true t n some = omega (arith, some)
+later false t n some = omega (arith, some)
 
 rises : (c : Option Cycle) (s : HostState) (a : Option Answer) → s.due < (stepped c s a).due
 rises None s a = omega arith
 rises (Some c) s a =
-    later (is_none (next (given s.cpu (byte_of s.bus s.due a c)))) s.due (stretch (address c) (s.due / 3)) (some-cycle (stretched_in memory_map (address c)) (s.due / 3 % 2 == 0))
+    let clock = clock_of s.bus in
+    let some : 1 < cycle_ticks clock s.due c = omega (arith, cycle-ticks clock s.due c, some-host clock) in
+    later (is_none (next (given s.cpu (byte_of s.bus s.due a c)))) s.due (cycle_ticks clock s.due c) some
 
 -- closing a host so far and then further is closing it further at once
 pub host-again : (s : HostState) (t u : ℕ) → t ≤ u → host_closed (host_closed s t) u ≡ host_closed s u

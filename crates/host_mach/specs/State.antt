@@ -1,12 +1,14 @@
 -- The host: a 6502 at its bus.
 use Rattle.std.specs.Prelude.{ℕ, List, Option}
+use Rattle.beeb_bits.specs.declared.clock.Clock.{Clock}
+use Rattle.beeb_bits.specs.Clock.{host}
 use Rattle.bus_plug.specs.Plug.{Plug}
 use Rattle.rom_set.specs.Roms.{Roms}
 use Rattle.disc_image.specs.Image.{Image}
 use Rattle.key_script.specs.declared.Event.{Event}
 use Rattle.cpu6502.specs.State as cpu
 use Rattle.cpu6502.specs.Sequences as sequences
-use Rattle.host_bus.specs.Bus.{BusState, bus_power_on}
+use Rattle.host_bus.specs.Bus.{BusState, clock_of, bus_power_on}
 
 pub record HostState : Type 0 where
   pub cpu : cpu.State
@@ -16,6 +18,11 @@ pub record HostState : Type 0 where
   -- the tick of its next step
   pub due : ℕ
 
--- the power-on state, with these images, the discs of both drives, this script and these plugged devices
-abbrev pub power_on : Roms → Option Image → Option Image → List Event → List Plug → HostState
-power_on roms d0 d1 script plugs = record { cpu = sequences.power_on; bus = bus_power_on roms d0 d1 script plugs; nmis = 0; due = 0 }
+-- how many ticks its cycles have, by the clock of its bus
+abbrev pub cycle_of : HostState → ℕ
+cycle_of s = host (clock_of s.bus)
+
+-- the power-on state, at this clock, with these images, the discs of both drives, this script and these plugged devices
+abbrev pub power_on : Clock → Roms → Option Image → Option Image → List Event → List Plug → HostState
+power_on clock roms d0 d1 script plugs =
+    record { cpu = sequences.power_on; bus = bus_power_on clock roms d0 d1 script plugs; nmis = 0; due = 0 }

@@ -1,7 +1,9 @@
 -- One step of the host: an access to the bus at the first tick of a cycle, or a look at the lines at the last tick of the last cycle of an
--- instruction, of a reset or of an interrupt. A cycle is three ticks, and a stretched access takes six or nine. (Acorn, BBC Microcomputer
--- Advanced User Guide, the 1 MHz bus; the ticks are this project's.)
+-- instruction, of a reset or of an interrupt. A cycle has as many ticks as the clock of the bus says, and a stretched access takes two or three
+-- cycles. (Acorn, BBC Microcomputer Advanced User Guide, the 1 MHz bus; the ticks are this project's.)
 use Rattle.std.specs.Prelude.{ℕ, ◌+◌, ◌-◌, ◌*◌, ◌/◌, ◌%◌, ◌==◌, ◌&&◌, ◌||◌, min, nat_le, Bool, false, not, Option, Some, None, is_none, if◌then◌else◌}
+use Rattle.beeb_bits.specs.declared.clock.Clock.{Clock}
+use Rattle.beeb_bits.specs.Clock.{host}
 use Rattle.cpu_alu.specs.declared.Cycle.{Cycle}
 use Rattle.cpu_alu.specs.declared.Cycle.TheVariants.{Read, Write}
 use Rattle.cpu6502.specs.State as cpu
@@ -12,7 +14,7 @@ use Rattle.tube_chip.specs.declared.Answer.TheVariants.{Byte, Seen}
 use Rattle.tube_chip.specs.Act.{Query, access, look}
 use Rattle.tube_party.specs.Moves.{Moves}
 use Rattle.host_bus.specs.Map.{stretch}
-use Rattle.host_bus.specs.Bus.{BusState, bus_closed, closed_at, bus_answer, bus_after_read, bus_after_write, bus_irq, bus_nmis}
+use Rattle.host_bus.specs.Bus.{BusState, clock_of, bus_closed, closed_at, bus_answer, bus_after_read, bus_after_write, bus_irq, bus_nmis}
 use Rattle.host_mach.specs.State.{HostState}
 
 -- FEE0 to FEFF are the Tube, by their low three bits
@@ -53,9 +55,10 @@ abbrev pub address : Cycle → ℕ
 address (Read at) = at
 address (Write at byte) = at
 
--- how many ticks the cycle of an access at tick t takes: the host cycle with the number c begins at tick 3 c
-abbrev pub cycle_ticks : ℕ → Cycle → ℕ
-cycle_ticks t c = 3 * stretch (address c) (t / 3)
+-- How many ticks an access at tick t takes: a cycle for each that it is stretched to. With n ticks in a cycle, that with the number c begins at
+-- tick n c.
+abbrev pub cycle_ticks : Clock → ℕ → Cycle → ℕ
+cycle_ticks clock t c = host clock * stretch (address c) (t / host clock)
 
 -- after a cycle of so many ticks: its look is at the last of them, where it was the last of its sequence
 abbrev pub cycled : HostState → cpu.State → ℕ → HostState
@@ -63,7 +66,8 @@ cycled s on n = record s { cpu = on; due = (if is_none (next on) then s.due + (n
 
 abbrev pub accessed : HostState → Option Answer → Cycle → HostState
 accessed s answer c =
-    cycled (record s { bus = bus_after s.bus c }) (given s.cpu (byte_of s.bus s.due answer c)) (cycle_ticks s.due c)
+    let byte : ℕ = byte_of s.bus s.due answer c in
+    cycled (record s { bus = bus_after s.bus c }) (given s.cpu byte) (cycle_ticks (clock_of s.bus) s.due c)
 
 -- A look: an NMI, where the count of its line's rises is not the one taken; else an IRQ by the lines of the bus and of the Tube, where the
 -- flag I is clear; else the next instruction.

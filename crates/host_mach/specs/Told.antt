@@ -1,5 +1,6 @@
 -- What an access comes to: it is done, or the Tube is asked.
 use Rattle.std.specs.Prelude.{ℕ, ◌≡◌, ◌≤◌, ◌<◌, ◌+◌, ◌-◌, min, nat_lt, if◌then◌else◌, Option, Some, None, IsSome, MatchOption, Result, Ok, Err}
+use Rattle.beeb_bits.specs.Clock.{host}
 use Rattle.cpu_alu.specs.declared.Cycle.{Cycle}
 use Rattle.cpu6502.specs.State as cpu
 use Rattle.cpu6502.specs.Sequences.{next}
@@ -7,7 +8,7 @@ use Rattle.tube_chip.specs.Act.{access}
 use Rattle.tube_chip.specs.declared.Answer.TheVariants.{Byte}
 use Rattle.tube_chip.specs.declared.Op.{Op}
 use Rattle.tube_party.specs.Moves.{FitsAnswer}
-use Rattle.host_bus.specs.Bus.{BusState, bus_closed}
+use Rattle.host_bus.specs.Bus.{BusState, clock_of, bus_closed}
 use Rattle.host_mach.specs.declared.exchange.Done.{Done}
 use Rattle.host_mach.specs.declared.run.Stop.{Stop}
 use Rattle.host_mach.specs.declared.run.Stop.TheVariants.{Look, Access, End}
@@ -20,17 +21,17 @@ IsExchanged b t c (Ok done) new =
     (asks_by (Some c) ≡ None)
     × (done.byte ≡ byte_of (bus_closed b (t + 1)) t None c)
     × (new ≡ bus_after (bus_closed b (t + 1)) c)
-    × (done.ticks ≡ cycle_ticks t c)
+    × (done.ticks ≡ cycle_ticks (clock_of b) t c)
 IsExchanged b t c (Err o) new = (asks_by (Some c) ≡ Some (access o)) × (new ≡ b)
 
--- An access of the memory at tick t is done in three ticks, and the bus that it leaves need not be closed yet; or nothing has changed.
+-- An access of the memory at tick t is done in one cycle, and the bus that it leaves need not be closed yet; or nothing has changed.
 abbrev pub IsMemory : BusState → ℕ → Cycle → Option ℕ → BusState → Type 0
 IsMemory b t c None new = new ≡ b
 IsMemory b t c (Some byte) new =
     (asks_by (Some c) ≡ None)
     × (byte ≡ byte_of (bus_closed b (t + 1)) t None c)
     × (bus_closed new (t + 1) ≡ bus_after (bus_closed b (t + 1)) c)
-    × (cycle_ticks t c ≡ 3)
+    × (cycle_ticks (clock_of b) t c ≡ host (clock_of b))
 
 -- the next step is done, or it asks the Tube
 abbrev pub IsDone : HostState → Option Op → HostState → Type 0
@@ -45,9 +46,10 @@ IsAskedByte s = MatchOption (asks s) ⊥ (λ q. FitsAnswer q (Byte 0))
 abbrev pub host_of : cpu.State → BusState → ℕ → ℕ → HostState
 host_of c b n t = record { cpu = c; bus = b; nmis = n; due = t }
 
--- how far the devices count as closed before a step at the tick due: up to the access of the cycle before, if there was one since another tick
-abbrev pub owed_at : ℕ → ℕ → ℕ → ℕ
-owed_at since due closed = if nat_lt since due then due - 2 else closed
+-- How far the devices count as closed before a step at the tick due: up to the access of the cycle before, of so many ticks, if there was one since
+-- another tick.
+abbrev pub owed_at : ℕ → ℕ → ℕ → ℕ → ℕ
+owed_at cycle since due closed = if nat_lt since due then due - (cycle - 1) else closed
 
 -- where steps leave off: at a look that is not sure, or at an access that is none of the memory, or past the end
 abbrev pub IsStop : ℕ → ℕ → Stop → HostState → Type 0

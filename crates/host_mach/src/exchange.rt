@@ -1,11 +1,13 @@
 //! One access to the bus.
-ghost use Rattle.std.specs.Prelude.{◌≡◌, ◌≤◌, ◌<◌, ◌+◌, ◌%◌, ◌^◌, true, false, IfOk};
-ghost use Rattle.host_bus.specs.Bus.{closed_at};
+ghost use Rattle.std.specs.Prelude.{◌≡◌, ◌≤◌, ◌<◌, ◌+◌, ◌*◌, ◌/◌, ◌%◌, ◌^◌, true, false, IfOk};
+ghost use Rattle.beeb_bits.specs.Clock.{host};
+ghost use Rattle.host_bus.specs.Map.{stretch};
+ghost use Rattle.host_bus.specs.Bus.{clock_of, closed_at};
 ghost use Rattle.host_bus.specs.View.{bus_seen};
 ghost use Rattle.host_mach.specs.Step.{is_tube};
 ghost use Rattle.host_mach.specs.Told.{IsExchanged, IsMemory};
 
-use beeb_bits::Tick;
+use beeb_bits::{Clock, Tick};
 use bus_plug::BusDevice;
 use cpu_alu::Cycle;
 use host_bus::{Bus, stretch};
@@ -53,15 +55,28 @@ pub(crate) fn exchange_memory<D: BusDevice>(bus: &mut Bus<D>, t: u64, cycle: Cyc
     }
 }
 
+// How many ticks an access to this address takes that begins at tick `t`.
+fn ticks_of(clock: Clock, t: u64, at: u16) -> u64
+    ensures value { result ≡ host clock * stretch at (t / host clock) }
+    ensures some { host clock ≤ result }
+    ensures bound { result ≤ 3 * host clock }
+{
+    let cycle = clock.host();
+    cycle * u64::from(stretch(at, t / cycle))
+}
+
 /// Does any access at tick `t`, or tells what it asks of the Tube.
 pub(crate) fn exchange<D: BusDevice>(bus: &mut Bus<D>, t: u64, cycle: Cycle) -> Result<Done, Op>
     requires closed { closed_at (bus_seen D.plug bus.old) ≤ t + 1 }
     requires room { t < 2 ^ 40 }
     ensures closed { IfOk result (λ done. closed_at (bus_seen D.plug bus.new) ≡ t + 1) }
-    ensures some { IfOk result (λ done. 3 ≤ done.ticks) }
-    ensures bound { IfOk result (λ done. done.ticks ≤ 9) }
+    ensures some { let cycle = host (clock_of (bus_seen D.plug bus.old)) in
+        IfOk result (λ done. cycle ≤ done.ticks) }
+    ensures bound { let cycle = host (clock_of (bus_seen D.plug bus.old)) in
+        IfOk result (λ done. done.ticks ≤ 3 * cycle) }
     ensures done { IsExchanged (bus_seen D.plug bus.old) t cycle result (bus_seen D.plug bus.new) }
 {
+    let clock = bus.clock();
     match cycle {
         Cycle::Read(at) => {
             if is_tube(at) {
@@ -69,7 +84,7 @@ pub(crate) fn exchange<D: BusDevice>(bus: &mut Bus<D>, t: u64, cycle: Cycle) -> 
             }
             Ok(Done {
                 byte: bus.read(Tick(t), at),
-                ticks: 3 * stretch(at, t / 3) as u64,
+                ticks: ticks_of(clock, t, at),
             })
         }
         Cycle::Write(at, v) => {
@@ -79,7 +94,7 @@ pub(crate) fn exchange<D: BusDevice>(bus: &mut Bus<D>, t: u64, cycle: Cycle) -> 
             bus.write(Tick(t), at, v);
             Ok(Done {
                 byte: 0,
-                ticks: 3 * stretch(at, t / 3) as u64,
+                ticks: ticks_of(clock, t, at),
             })
         }
     }

@@ -9,7 +9,7 @@ ghost use Rattle.host_mach.specs.Step.{host_moves, next_state};
 
 use crate::exchange::{exchange, is_tube};
 use crate::run::{Stop, go_on, see};
-use beeb_bits::{Crosses, NoMemory, Tick};
+use beeb_bits::{Clock, Crosses, NoMemory, Tick};
 use bus_plug::BusDevice;
 use cpu_alu::Regs;
 use cpu6502::Cpu;
@@ -41,19 +41,21 @@ impl<D: BusDevice> HostMachine<D> {
     ghost use Rattle.host_mach.specs.View.{host_seen};
     ghost use Rattle.host_mach.specs.Told.{IsDone, IsAskedByte, IsStop};
 
-    /// The machine at power-on, before the first cycle of a reset. It takes the memory of all shots of the script. Where memory is wanting,
-    /// all is dropped.
+    /// The machine at power-on, at this clock, before the first cycle of a reset. It takes the memory of all shots of the script. Where memory
+    /// is wanting, all is dropped.
     pub fn make(
         alloc: Global,
+        clock: Clock,
         roms: RomSet,
         d0: Option<Disc>,
         d1: Option<Disc>,
         script: Script,
         plugs: Vec<D>,
     ) -> Result<HostMachine<D>, NoMemory>
-        ensures { IfOk result (λ m. host_seen D.plug m ≡ power_on roms d0 d1 script (map D.plug plugs.items)) }
+        ensures { let devices = map D.plug plugs.items in
+            IfOk result (λ m. host_seen D.plug m ≡ power_on clock roms d0 d1 script devices) }
     {
-        let bus = Bus::make(alloc, roms, d0, d1, script, plugs)?;
+        let bus = Bus::make(alloc, clock, roms, d0, d1, script, plugs)?;
         Ok(HostMachine {
             cpu: Cpu::new(),
             bus,
@@ -93,7 +95,8 @@ impl<D: BusDevice> HostMachine<D> {
 
     /// The disc in drive 0 or 1. None where the drive has none, and for any other number.
     pub fn disc(&self, drive: u8) -> Option<&Disc>
-        ensures { MatchOption result (bus_disc drive (host_seen D.plug self.now).bus ≡ None) (λ disc. bus_disc drive (host_seen D.plug self.now).bus ≡ Some disc.now) }
+        ensures { let there = bus_disc drive (host_seen D.plug self.now).bus in
+            MatchOption result (there ≡ None) (λ disc. there ≡ Some disc.now) }
     {
         self.bus.disc(drive)
     }
@@ -156,9 +159,10 @@ impl<D: BusDevice> HostMachine<D> {
         requires asked { IsAskedByte (host_seen D.plug self.old) }
         ensures { host_seen D.plug self.new ≡ next_state (host_seen D.plug self.old) (Some (Byte byte)) }
     {
+        let cycle = self.bus.clock().host();
         self.bus.close(self.due + 1);
         self.cpu.give(byte);
-        self.due += if self.cpu.last() { 2 } else { 3 };
+        self.due += if self.cpu.last() { cycle - 1 } else { cycle };
     }
 
     // The Tube's lines at a look.
@@ -182,7 +186,8 @@ impl<D: BusDevice> HostMachine<D> {
     #[inline(always)]
     fn run(&mut self, until: Tick, lines: &Lines, sure: Tick) -> Stop
         requires room { until.0 ≤ 2 ^ 30 }
-        ensures looks { (k : ℕ) × Looks host_moves until.0 (shown lines.now sure.0) k (host_seen D.plug self.old) (host_seen D.plug self.new) }
+        ensures looks { let old = host_seen D.plug self.old in
+            (k : ℕ) × Looks host_moves until.0 (shown lines.now sure.0) k old (host_seen D.plug self.new) }
         ensures stops { IsStop until.0 sure.0 result (host_seen D.plug self.new) }
     {
         let (due, stop) = go_on(

@@ -32,7 +32,8 @@ pub(crate) fn see<D: BusDevice>(cpu: &mut Cpu, bus: &mut Bus<D>, nmis: &mut u64,
     requires room { t < 2 ^ 40 }
     requires before { closed_at (bus_seen D.plug bus.old) ≤ t + 1 }
     requires over { next cpu.old ≡ None }
-    ensures { host_of cpu.new (bus_seen D.plug bus.new) nmis.new (t + 1) ≡ looked_at (host_closed (host_of cpu.old (bus_seen D.plug bus.old) nmis.old t) (t + 1)) hirq }
+    ensures { let old = host_of cpu.old (bus_seen D.plug bus.old) nmis.old t in
+        host_of cpu.new (bus_seen D.plug bus.new) nmis.new (t + 1) ≡ looked_at (host_closed old (t + 1)) hirq }
 {
     bus.close(t + 1);
     let rises = bus.nmis_now();
@@ -45,14 +46,15 @@ pub(crate) fn see<D: BusDevice>(cpu: &mut Cpu, bus: &mut Bus<D>, nmis: &mut u64,
 }
 
 // Does the device steps that reads of the memory left for later: those before the access of the last cycle, if there was one since the tick
-// `caught_up`.
-fn catch_up<D: BusDevice>(bus: &mut Bus<D>, caught_up: u64, due: u64)
-    requires gone { caught_up < due → (2 ≤ due) × (due < 2 ^ 48) }
-    requires low { closed_at (bus_seen D.plug bus.old) ≤ owed_at caught_up due (closed_at (bus_seen D.plug bus.old)) }
-    ensures { bus_seen D.plug bus.new ≡ bus_closed (bus_seen D.plug bus.old) (owed_at caught_up due (closed_at (bus_seen D.plug bus.old))) }
+// `caught_up`. A cycle has so many ticks.
+fn catch_up<D: BusDevice>(bus: &mut Bus<D>, cycle: u64, caught_up: u64, due: u64)
+    requires gone { caught_up < due → (0 < cycle) × (cycle ≤ due) × (due < 2 ^ 48) }
+    requires low { let closed = closed_at (bus_seen D.plug bus.old) in closed ≤ owed_at cycle caught_up due closed }
+    ensures { let old = bus_seen D.plug bus.old in
+        bus_seen D.plug bus.new ≡ bus_closed old (owed_at cycle caught_up due (closed_at old)) }
 {
     if caught_up < due {
-        bus.close(due - 2);
+        bus.close(due - (cycle - 1));
     }
 }
 
@@ -70,9 +72,12 @@ pub(crate) fn go_on<D: BusDevice>(
     requires room { until ≤ 2 ^ 30 }
     requires before { closed_at (bus_seen D.plug bus.old) ≤ from + 1 }
     ensures before { closed_at (bus_seen D.plug bus.new) ≤ result.0 + 1 }
-    ensures looks { (k : ℕ) × Looks host_moves until (shown lines.now sure) k (host_of cpu.old (bus_seen D.plug bus.old) nmis.old from) (host_of cpu.new (bus_seen D.plug bus.new) nmis.new result.0) }
+    ensures looks { let old = host_of cpu.old (bus_seen D.plug bus.old) nmis.old from in
+        let new = host_of cpu.new (bus_seen D.plug bus.new) nmis.new result.0 in
+        (k : ℕ) × Looks host_moves until (shown lines.now sure) k old new }
     ensures stops { IsStop until sure result.1 (host_of cpu.new (bus_seen D.plug bus.new) nmis.new result.0) }
 {
+    let cycle = bus.clock().host();
     let bound = until.min(sure);
     let mut due = from;
     if cpu.last() {
@@ -89,23 +94,23 @@ pub(crate) fn go_on<D: BusDevice>(
             Some(byte) => {
                 cpu.give(byte);
                 if cpu.last() {
-                    due += 3;
+                    due += cycle;
                     if due > bound {
-                        bus.close(due - 2);
+                        bus.close(due - (cycle - 1));
                         return (due - 1, Stop::Look);
                     }
                     see(cpu, bus, nmis, due - 1, lines.hirq);
                     caught_up = due;
                 } else {
-                    due += 3;
+                    due += cycle;
                 }
             }
             None => {
-                catch_up(bus, caught_up, due);
+                catch_up(bus, cycle, caught_up, due);
                 return (due, Stop::Access);
             }
         }
     }
-    catch_up(bus, caught_up, due);
+    catch_up(bus, cycle, caught_up, due);
     (due, Stop::End)
 }

@@ -3,14 +3,19 @@ use Rattle.std.proofs.Common.{◌≡◌, ◌∙◌, sym, ap, refl, ℕ, ◌+◌,
 use Rattle.std.specs.Prelude.{Option, None, Some, is_none, if◌then◌else◌}
 use Rattle.std.proofs.lemmas.Bool.{cases_Bool, true≢false}
 use Rattle.std.proofs.lemmas.List.{append-nil}
+use Rattle.beeb_bits.specs.declared.clock.Clock.{Clock}
+use Rattle.beeb_bits.specs.Clock.{host, some-host}
 use Rattle.op_table.specs.declared.names.Part.TheVariants.{Nmos}
 use Rattle.cpu_alu.specs.declared.Cycle.{Cycle}
 use Rattle.cpu_core.specs.Sequences.{TakesAtLeast}
 use Rattle.cpu6502.specs.Sequences.{next, given, halted}
 use Rattle.tube_chip.specs.declared.Answer.{Answer}
 use Rattle.host_bus.specs.Map.{stretched_in, memory_map}
+use Rattle.host_bus.specs.Bus.{clock_of}
 use Rattle.host_mach.specs.State.{HostState}
 use Rattle.host_mach.specs.Step.{address, byte_of, cycle_ticks, stepped, host_closed, next_state}
+use Rattle.host_mach.specs.Lawful.{cycle-ticks}
+use Rattle.host_mach.specs.SameClock.{next-same}
 use Rattle.machine_laws.specs.Cycles.{the_cycle}
 use Rattle.machine_laws.specs.HostTicks.{run, cycles, AllAccess, wait, takes, HostTakes, HostTakesTheTable}
 use Rattle.machine_laws.proofs.Counts.{never_ends, stays, one_more, same_sequence, table, cycle_more}
@@ -19,7 +24,7 @@ use Rattle.machine_laws.proofs.Counts.{never_ends, stays, one_more, same_sequenc
 tail : HostState → ℕ
 tail s = if is_none (next s.cpu) then 1 else 0
 
-waits : (slow even : Bool) → 3 * (if slow then (if even then 2 else 3) else 1) ≡ 3 + (if slow then (if even then 3 else 6) else 0)
+waits : (slow even : Bool) → (if slow then (if even then 2 else 3) else 1) ≡ 1 + (if slow then (if even then 1 else 2) else 0)
 waits true true = refl
 waits true false = refl
 waits false even = refl
@@ -28,48 +33,54 @@ due_tail : (over : Bool) (t n : ℕ) → 1 ≤ n → (if over then t + (n - 1) e
 due_tail true t n some = omega (arith, some)
 due_tail false t n some = omega (arith, some)
 
-some_ticks : (t : ℕ) (c : Cycle) → cycle_ticks t c ≡ 3 + wait t c
-some_ticks t c = waits (stretched_in memory_map (address c)) (t / 3 % 2 == 0)
+some_ticks : (clock : Clock) (t : ℕ) (c : Cycle) → cycle_ticks clock t c ≡ host clock * (1 + wait clock t c)
+some_ticks clock t c = ap (λ k. host clock * k) (waits (stretched_in memory_map (address c)) (t / host clock % 2 == 0))
 
-one : (o : Option Cycle) (s : HostState) (a : Option Answer) → is_none o ≡ false → (stepped o s a).due + tail (stepped o s a) ≡ s.due + takes s.due (the_cycle o)
+one : (o : Option Cycle) (s : HostState) (a : Option Answer) → is_none o ≡ false → (stepped o s a).due + tail (stepped o s a) ≡ s.due + takes (clock_of s.bus) s.due (the_cycle o)
 unfolding tail
 one None s a some = absurd (true≢false some)
 one (Some c) s a some =
-    let n = cycle_ticks s.due c in
-    let is : n ≡ 3 + wait s.due c = some_ticks s.due c in
-    let all : 3 + wait s.due c + 0 ≡ 3 + wait s.due c = omega arith in
-    due_tail (is_none (next (given s.cpu (byte_of s.bus s.due a c)))) s.due n (omega (arith, is)) ∙ ap (λ k. s.due + k) (is ∙ sym all)
+    let clock = clock_of s.bus in
+    let n = cycle_ticks clock s.due c in
+    let is : n ≡ host clock * (1 + wait clock s.due c) = some_ticks clock s.due c in
+    let all : host clock * (1 + wait clock s.due c) + 0 ≡ host clock * (1 + wait clock s.due c) = omega arith in
+    due_tail (is_none (next (given s.cpu (byte_of s.bus s.due a c)))) s.due n (omega (arith, cycle-ticks clock s.due c, some-host clock))
+    ∙ ap (λ k. s.due + k) (is ∙ sym all)
 
 first : (s : HostState) (a : Option Answer) → is_none (next s.cpu) ≡ false →
-    (next_state s a).due + tail (next_state s a) ≡ s.due + takes s.due (the_cycle (next s.cpu))
+    (next_state s a).due + tail (next_state s a) ≡ s.due + takes (clock_of s.bus) s.due (the_cycle (next s.cpu))
 first s a some = one (next s.cpu) (host_closed s (s.due + 1)) a some
 
-joins : (t : ℕ) (cs rest : List Cycle) → takes t (cs ++ rest) ≡ takes t cs + takes (t + takes t cs) rest
-joins t [] rest =
+joins : (clock : Clock) (t : ℕ) (cs rest : List Cycle) → takes clock t (cs ++ rest) ≡ takes clock t cs + takes clock (t + takes clock t cs) rest
+joins clock t [] rest =
     let same : t ≡ t + 0 = omega arith in
-    let none : takes (t + 0) rest ≡ 0 + takes (t + 0) rest = omega arith in
-    ap (λ u. takes u rest) same ∙ none
-joins t (c ∷ cs) rest =
-    let k = 3 + wait t c in
-    let same : t + k + takes (t + k) cs ≡ t + (k + takes (t + k) cs) = omega arith in
-    let sum : k + (takes (t + k) cs + takes (t + (k + takes (t + k) cs)) rest) ≡ k + takes (t + k) cs + takes (t + (k + takes (t + k) cs)) rest = omega arith in
-    ap (λ n. k + n) (joins (t + k) cs rest ∙ ap (λ u. takes (t + k) cs + takes u rest) same) ∙ sum
+    let none : takes clock (t + 0) rest ≡ 0 + takes clock (t + 0) rest = omega arith in
+    ap (λ u. takes clock u rest) same ∙ none
+joins clock t (c ∷ cs) rest =
+    let k = host clock * (1 + wait clock t c) in
+    let here = takes clock (t + k) cs in
+    let same : t + k + here ≡ t + (k + here) = omega arith in
+    let sum : k + (here + takes clock (t + (k + here)) rest) ≡ k + here + takes clock (t + (k + here)) rest = omega arith in
+    ap (λ n. k + n) (joins clock (t + k) cs rest ∙ ap (λ u. here + takes clock u rest) same) ∙ sum
 
 total : (a : Option Answer) (answers : List (Option Answer)) (s : HostState) → AllAccess (a ∷ answers) s →
-    (run (a ∷ answers) s).due + tail (run (a ∷ answers) s) ≡ s.due + takes s.due (cycles (a ∷ answers) s)
+    (run (a ∷ answers) s).due + tail (run (a ∷ answers) s) ≡ s.due + takes (clock_of s.bus) s.due (cycles (a ∷ answers) s)
 unfolding tail
-total a [] s all = first s a all.0 ∙ ap (λ cs. s.due + takes s.due cs) (sym (append-nil (the_cycle (next s.cpu))))
+total a [] s all = first s a all.0 ∙ ap (λ cs. s.due + takes (clock_of s.bus) s.due cs) (sym (append-nil (the_cycle (next s.cpu))))
 total a (b ∷ answers) s all =
     let x = next_state s a in
     let cs = the_cycle (next s.cpu) in
     let rest = cycles (b ∷ answers) x in
+    let clock = clock_of s.bus in
+    let k = takes clock s.due cs in
     let none : x.due ≡ x.due + 0 = omega arith in
-    let here : x.due ≡ s.due + takes s.due cs = none ∙ ap (λ o. x.due + (if o then 1 else 0)) (sym all.1.0) ∙ first s a all.0 in
-    let sum : s.due + takes s.due cs + takes (s.due + takes s.due cs) rest ≡ s.due + (takes s.due cs + takes (s.due + takes s.due cs) rest) = omega arith in
-    total b answers x all.1 ∙ ap (λ t. t + takes t rest) here ∙ sum ∙ ap (λ n. s.due + n) (sym (joins s.due cs rest))
+    let here : x.due ≡ s.due + k = none ∙ ap (λ o. x.due + (if o then 1 else 0)) (sym all.1.0) ∙ first s a all.0 in
+    let sum : s.due + k + takes clock (s.due + k) rest ≡ s.due + (k + takes clock (s.due + k) rest) = omega arith in
+    total b answers x all.1 ∙ ap (λ y. x.due + takes y x.due rest) (next-same s a) ∙ ap (λ t. t + takes clock t rest) here ∙ sum
+    ∙ ap (λ n. s.due + n) (sym (joins clock s.due cs rest))
 
 at_look : (s : HostState) (answers : List (Option Answer)) → 0 < length answers → AllAccess answers s → next (run answers s).cpu ≡ None →
-    (run answers s).due + 1 ≡ s.due + takes s.due (cycles answers s)
+    (run answers s).due + 1 ≡ s.due + takes (clock_of s.bus) s.due (cycles answers s)
 unfolding tail
 at_look s [] some all over = absurd (omega (arith, some))
 at_look s (a ∷ answers) some all over =

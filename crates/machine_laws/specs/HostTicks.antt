@@ -1,6 +1,8 @@
 -- How long a sequence of the host takes: an instruction, a reset, an NMI or an IRQ, from its first access to the look behind its last one.
 -- (MCS6500 Hardware Manual, summary of single cycle execution; BBC Microcomputer Advanced User Guide, the 1 MHz bus.)
-use Rattle.std.specs.Prelude.{ℕ, ◌+◌, ◌/◌, ◌%◌, ◌≡◌, ◌≤◌, ◌<◌, ◌==◌, false, List, [], ◌∷◌, ◌++◌, length, Option, Some, None, is_none, if◌then◌else◌}
+use Rattle.std.specs.Prelude.{ℕ, ◌+◌, ◌*◌, ◌/◌, ◌%◌, ◌≡◌, ◌≤◌, ◌<◌, ◌==◌, false, List, [], ◌∷◌, ◌++◌, length, Option, Some, None, is_none, if◌then◌else◌}
+use Rattle.beeb_bits.specs.declared.clock.Clock.{Clock}
+use Rattle.beeb_bits.specs.Clock.{host}
 use Rattle.op_table.specs.declared.names.Part.TheVariants.{Nmos}
 use Rattle.op_table.specs.declared.rows.Row.{Row}
 use Rattle.cpu_alu.specs.declared.Cycle.{Cycle}
@@ -9,6 +11,7 @@ use Rattle.cpu_core.specs.Accesses.{row_at}
 use Rattle.cpu6502.specs.Sequences.{next}
 use Rattle.tube_chip.specs.declared.Answer.{Answer}
 use Rattle.host_bus.specs.Map.{stretched_in, memory_map}
+use Rattle.host_bus.specs.Bus.{clock_of}
 use Rattle.host_mach.specs.State.{HostState}
 use Rattle.host_mach.specs.Step.{address, next_state}
 use Rattle.machine_laws.specs.Cycles.{the_cycle}
@@ -28,23 +31,23 @@ abbrev pub AllAccess : List (Option Answer) → HostState → Type 0
 AllAccess [] s = Unit {0}
 AllAccess (a ∷ answers) s = (is_none (next s.cpu) ≡ false) × AllAccess answers (next_state s a)
 
--- How many ticks an access at tick t waits for the 1 MHz clock, if it does: one cycle more where its own is even, and two where it is odd.
-abbrev pub wait : ℕ → Cycle → ℕ
-wait t c = if stretched_in memory_map (address c) then (if t / 3 % 2 == 0 then 3 else 6) else 0
+-- How many cycles an access at tick t waits for the 1 MHz clock, if it does: one where its own is even, and two where it is odd.
+abbrev pub wait : Clock → ℕ → Cycle → ℕ
+wait clock t c = if stretched_in memory_map (address c) then (if t / host clock % 2 == 0 then 1 else 2) else 0
 
--- how many ticks accesses take from tick t on: three each, and what they wait
-abbrev pub takes : ℕ → List Cycle → ℕ
-takes t [] = 0
-takes t (c ∷ cs) = 3 + wait t c + takes (t + (3 + wait t c)) cs
+-- how many ticks accesses take from tick t on: a cycle each, and what they wait
+abbrev pub takes : Clock → ℕ → List Cycle → ℕ
+takes clock t [] = 0
+takes clock t (c ∷ cs) = host clock * (1 + wait clock t c) + takes clock (t + host clock * (1 + wait clock t c)) cs
 
 -- From any access on, where the accesses up to the end of its sequence are done, the look is at the last of the ticks that they take, and the
 -- next sequence begins behind it.
 pub record HostTakes : Type 0 where
   pub look : (s : HostState) (answers : List (Option Answer)) → 0 < length answers → AllAccess answers s → next (run answers s).cpu ≡ None →
-      (run answers s).due + 1 ≡ s.due + takes s.due (cycles answers s)
+      (run answers s).due + 1 ≡ s.due + takes (clock_of s.bus) s.due (cycles answers s)
   pub behind : (s : HostState) (answers : List (Option Answer)) (answer : Option Answer) →
       0 < length answers → AllAccess answers s → next (run answers s).cpu ≡ None →
-      (next_state (run answers s) answer).due ≡ s.due + takes s.due (cycles answers s)
+      (next_state (run answers s) answer).due ≡ s.due + takes (clock_of s.bus) s.due (cycles answers s)
 
 -- An instruction that is over has made at least as many accesses as the table has cycles for its opcode, which is the first byte that it saw.
 abbrev pub HostTakesTheTable : Type 0

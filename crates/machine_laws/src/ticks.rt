@@ -2,7 +2,7 @@
 ghost use Rattle.machine_laws.specs.HostTicks.{HostTakes, HostTakesTheTable};
 ghost use Rattle.machine_laws.specs.ParaTicks.{ParaTakes, ParaTakesTheTable};
 
-/// A sequence of the host takes three ticks for each of its cycles, and three or six more for each access that waits.
+/// A sequence of the host takes as many ticks as a cycle has for each of its cycles, and for one or two more of each access that waits.
 pub fn host_sequences_take_their_ticks()
     ensures { HostTakes }
 {}

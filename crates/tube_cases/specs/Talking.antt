@@ -6,7 +6,8 @@ use Rattle.tube_chip.specs.declared.Op.TheVariants.{Read, Write}
 use Rattle.tube_chip.specs.declared.Answer.{Answer}
 use Rattle.tube_chip.specs.declared.Answer.TheVariants.{Byte, Seen}
 use Rattle.tube_chip.specs.declared.Lines.{Lines}
-use Rattle.tube_chip.specs.Act.{Query, access, look, weight}
+use Rattle.beeb_bits.specs.Bits.{weight}
+use Rattle.tube_chip.specs.Act.{Query, access, look}
 use Rattle.tube_party.specs.Moves.{MayAsk}
 
 -- a look, as long as looks are left, or an access to the register that what it heard picks: one that polls reads a status register

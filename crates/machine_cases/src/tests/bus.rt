@@ -2,7 +2,7 @@
 //!
 //! A program is words of a tick, a colon and what is done at it: `AAAA=VV` writes a byte to an address, and `AAAA?VV` reads it there; `irq` and
 //! `calm` look at the interrupt line; `+N` looks how often the NMI line rose; `D#N` looks how long the image in a drive is, or that there is none.
-use beeb_bits::{NoMemory, Tick};
+use beeb_bits::{Clock, NoMemory, Tick};
 use bus_plug::BusDevice;
 use disc_image::{Disc, Kind};
 use host_bus::{Bus, stretch};
@@ -41,17 +41,34 @@ fn disc(alloc: Global) -> Result<Disc, Fail> {
     Ok(Disc::make(alloc, Kind::Ssd, bytes)?)
 }
 
-// It has that disc in drive 0. In the script `;` ends a line.
-fn bus_with(alloc: Global, script: &str) -> Result<Bus, Fail> {
-    let mut text = script.as_bytes().to_vec(alloc)?;
-    for byte in text.iter_mut() {
-        if *byte == b';' {
-            *byte = b'\n';
+// Both clocks.
+const CLOCKS: [Clock; 2] = [Clock::Three, Clock::Four];
+
+// How many ticks of a clock pass in a tick of the tables, which have those of a second processor at 3 MHz.
+fn scale(clock: Clock) -> u64 {
+    clock.micro() / Clock::Three.micro()
+}
+
+// The text of a script in which `;` ends a line, with each tick so many times as late.
+fn later(alloc: Global, script: &str, times: u64) -> Result<String, Fail> {
+    let mut text = String::new(alloc);
+    for line in script.split_terminator(';') {
+        let mut words = line.splitn(3, ' ');
+        if let (Some(at), Some(tick), Some(what)) = (words.next(), words.next(), words.next()) {
+            let tick: u64 = tick.parse().unwrap_or(0);
+            writeln!(text, "{at} {} {what}", tick.wrapping_mul(times))?;
         }
     }
-    let script = read(alloc, &text)?;
+    Ok(text)
+}
+
+// It has that disc in drive 0. The script has the ticks of the tables, and in it `;` ends a line.
+fn bus_with(alloc: Global, clock: Clock, script: &str) -> Result<Bus, Fail> {
+    let text = later(alloc, script, scale(clock))?;
+    let script = read(alloc, text.as_bytes())?;
     Ok(Bus::make(
         alloc,
+        clock,
         roms(alloc)?,
         Some(disc(alloc)?),
         None,
@@ -125,30 +142,38 @@ fn word_of(word: &str) -> Option<(u64, Act)> {
     Some((tick.parse().ok()?, act_of(act)?))
 }
 
-// Carries a program out, and answers whether all is as it should be.
-fn does<D: BusDevice>(bus: &mut Bus<D>, program: &str) -> bool {
+// Carries a program out, each tick of which is so many of the bus, and answers whether all is as it should be.
+fn does_by<D: BusDevice>(bus: &mut Bus<D>, times: u64, program: &str) -> bool {
     for word in program.split(' ') {
         let Some((t, act)) = word_of(word) else {
             return false;
         };
-        if !is_right(bus, t, act) {
+        if !is_right(bus, t.wrapping_mul(times), act) {
             return false;
         }
     }
     true
 }
 
-// Of lines with a script, `|` and a program, the first whose program is not right at a new bus after another program.
+// The same of a program with the ticks of the tables.
+fn does<D: BusDevice>(bus: &mut Bus<D>, program: &str) -> bool {
+    let times = scale(bus.clock());
+    does_by(bus, times, program)
+}
+
+// Of lines with a script, `|` and a program, the first whose program is not right at a new bus of one of both clocks after another program.
 fn first_wrong(
     alloc: Global,
     before: &str,
     lines: &'static str,
-) -> Result<Option<&'static str>, Fail> {
-    for line in lines.lines() {
-        if let Some((script, program)) = line.split_once('|') {
-            let mut bus = bus_with(alloc, script)?;
-            if !does(&mut bus, before) || !does(&mut bus, program) {
-                return Ok(Some(line));
+) -> Result<Option<(Clock, &'static str)>, Fail> {
+    for clock in CLOCKS {
+        for line in lines.lines() {
+            if let Some((script, program)) = line.split_once('|') {
+                let mut bus = bus_with(alloc, clock, script)?;
+                if !does(&mut bus, before) || !does(&mut bus, program) {
+                    return Ok(Some((clock, line)));
+                }
             }
         }
     }
@@ -202,14 +227,18 @@ FEA0 FEA3 FE FE fast
 FEE0 FEFF - - fast
 ";
 
-// Whether an address of a new bus reads these before and after a write of A5.
+// Whether an address of a new bus of either clock reads these before and after a write of A5.
 fn is_as_mapped(alloc: Global, at: u16, before: u8, after: u8) -> Result<bool, Fail> {
-    let mut bus = bus_with(alloc, "")?;
-    Ok(
-        is_right(&mut bus, 30, Read(at, before))
-            && is_right(&mut bus, 33, Write(at, 0xa5))
-            && is_right(&mut bus, 39, Read(at, after)),
-    )
+    for clock in CLOCKS {
+        let mut bus = bus_with(alloc, clock, "")?;
+        if !is_right(&mut bus, 30, Read(at, before))
+            || !is_right(&mut bus, 33, Write(at, 0xa5))
+            || !is_right(&mut bus, 39, Read(at, after))
+        {
+            return Ok(false);
+        }
+    }
+    Ok(true)
 }
 
 // The parts of a row: the addresses, the bytes, and how many cycles an access takes that begins at an even cycle, and at an odd one.
@@ -238,6 +267,72 @@ fn each_address_is_that_of_the_map(rt: HostRuntime) -> Result<(), Fail> {
                 assert!(rt; is_as_mapped(rt.alloc(), at, before, after)?, "{row}");
             }
         }
+    }
+    Ok(())
+}
+
+// The clock by the megahertz of the second processor.
+fn clock_of(megahertz: &str) -> Option<Clock> {
+    match megahertz {
+        "3" => Some(Clock::Three),
+        "4" => Some(Clock::Four),
+        _ => None,
+    }
+}
+
+// The megahertz of the second processor, the tick of a cycle of the host, the address of an access that
+// begins there, and how many ticks it takes: a cycle, or, where it is stretched, two from an even cycle on and three from an odd one.
+const STRETCHED: &str = "\
+3 30 FE40 6
+3 33 FE40 9
+3 33 FE30 3
+4 60 FE40 12
+4 66 FE40 18
+4 66 FE30 6
+4 30 FE40 18
+";
+
+// Whether the access of such a row takes its ticks.
+fn takes_its_ticks(row: &str) -> Option<bool> {
+    let mut words = row.split(' ');
+    let clock = clock_of(words.next()?)?;
+    let t: u64 = words.next()?.parse().ok()?;
+    let at = address(words.next()?)?;
+    let ticks: u64 = words.next()?.parse().ok()?;
+    Some(clock.host() * u64::from(stretch(at, t / clock.host())) == ticks)
+}
+
+#[test]
+fn an_access_waits_for_the_1_mhz_clock(rt: HostRuntime) -> Result<(), Fail> {
+    for row in STRETCHED.lines() {
+        assert_eq!(rt; takes_its_ticks(row), Some(true), "{row}");
+    }
+    Ok(())
+}
+
+// The megahertz of the second processor, and a program with the ticks of its clock: a timer that is written between the microseconds 0 and 1 sets its
+// flag in microsecond 7.
+const MICROSECONDS: &str = "\
+3|2:FE4B=40 2:FE44=05 2:FE45=00 41:FE4D?00 42:FE4D?40
+4|2:FE4B=40 2:FE44=05 2:FE45=00 83:FE4D?00 84:FE4D?40
+";
+
+// Whether a new bus of a row's clock does its program.
+fn has_its_ticks(alloc: Global, row: &str) -> Result<Option<bool>, Fail> {
+    let Some((megahertz, program)) = row.split_once('|') else {
+        return Ok(None);
+    };
+    let Some(clock) = clock_of(megahertz) else {
+        return Ok(None);
+    };
+    let mut bus = bus_with(alloc, clock, "")?;
+    Ok(Some(does_by(&mut bus, 1, program)))
+}
+
+#[test]
+fn a_microsecond_has_the_ticks_of_the_clock(rt: HostRuntime) -> Result<(), Fail> {
+    for row in MICROSECONDS.lines() {
+        assert_eq!(rt; has_its_ticks(rt.alloc(), row)?, Some(true), "{row}");
     }
     Ok(())
 }
@@ -308,7 +403,8 @@ fn the_first_owner_answers_and_no_other(rt: HostRuntime) -> Result<(), Fail> {
     let device = |first, last, byte| Counter { first, last, byte };
     let plugs = vec![in rt.alloc(); device(0xfc10, 0xfcff, 10), device(0xfc00, 0xfdfe, 20)]?;
     let script = read(rt.alloc(), b"")?;
-    let mut bus = Bus::make(rt.alloc(), roms(rt.alloc())?, None, None, script, plugs)?;
+    let roms = roms(rt.alloc())?;
+    let mut bus = Bus::make(rt.alloc(), Clock::Three, roms, None, None, script, plugs)?;
     assert!(rt; does(&mut bus, OWNERS));
     let bytes = bus.plugs().iter().map(|device| device.byte);
     assert!(rt; bytes.eq([0x78, 24]));
@@ -391,8 +487,9 @@ const SHOTS: &str = "\
 
 // Each shot is taken before the microsecond of its tick.
 fn are_taken(bus: &mut Bus) -> bool {
+    let times = scale(bus.clock());
     for (n, taken) in [(224_262, 1), (224_263, 2), (224_264, 4)] {
-        bus.finish(Tick(n));
+        bus.finish(Tick(n * times));
         if bus.frames().len() != taken {
             return false;
         }
@@ -408,15 +505,25 @@ fn are_frames(frames: &[Frame], is_shown: bool) -> bool {
     lit(frames) == [Some(0), Some(0), Some(count), Some(count)] && is_there == Some(is_shown)
 }
 
+// Whether the shots of a new bus are right after a program.
+fn takes_its_shots(alloc: Global, clock: Clock, program: &str, shown: &str) -> Result<bool, Fail> {
+    let script = "at 1 shot;at 224262 shot;at 224263 shot;at 224263 shot;";
+    let mut bus = bus_with(alloc, clock, script)?;
+    Ok(
+        does(&mut bus, SCREEN)
+            && does(&mut bus, program)
+            && are_taken(&mut bus)
+            && are_frames(bus.frames(), shown == "shown"),
+    )
+}
+
 #[test]
 fn a_shot_takes_the_last_finished_frame(rt: HostRuntime) -> Result<(), Fail> {
-    for line in SHOTS.lines() {
-        if let Some((program, shown)) = line.split_once('|') {
-            let script = "at 1 shot;at 224262 shot;at 224263 shot;at 224263 shot;";
-            let mut bus = bus_with(rt.alloc(), script)?;
-            assert!(rt; does(&mut bus, SCREEN) && does(&mut bus, program), "{line}");
-            assert!(rt; are_taken(&mut bus), "{line}");
-            assert!(rt; are_frames(bus.frames(), shown == "shown"), "{line}");
+    for clock in CLOCKS {
+        for line in SHOTS.lines() {
+            if let Some((program, shown)) = line.split_once('|') {
+                assert!(rt; takes_its_shots(rt.alloc(), clock, program, shown)?, "{clock:?} {line}");
+            }
         }
     }
     Ok(())
