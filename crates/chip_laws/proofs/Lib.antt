@@ -11,3 +11,7 @@ pub mod WholeReading
 pub mod CrtcRuns
 pub mod ViaRuns
 pub mod Colouring
+pub mod BeamPlaces
+pub mod Showing
+pub mod BeamWalk
+pub mod ShownDots

@@ -10,4 +10,5 @@ pub mod WholeReads
 pub mod PictureRuns
 pub mod Colours
 pub mod CrtcBits
+pub mod ShownBytes
 pub mod ViaBytes

@@ -1,0 +1,97 @@
+-- Which byte each dot of a finished frame shows, in bit-mapped modes, while no register of the 6845 and of the video ULA
+-- is written. (6845 data sheet, Horizontal and Vertical Timing, Memory Addresses; BBC Microcomputer Advanced User Guide,
+-- The Video ULA, Screen Addresses.)
+use Rattle.std.specs.Prelude.{ℕ, zero, suc, ◌+◌, ◌-◌, ◌*◌, ◌/◌, ◌%◌, ◌≡◌, ◌<◌, ◌≤◌, Bool, true, false, List, slice_index, if◌then◌else◌}
+use Rattle.beeb_bits.specs.Bits.{bit}
+use Rattle.crtc6845.specs.State as crtc
+use Rattle.crtc6845.specs.Registers.{start_address}
+use Rattle.crtc6845.specs.Laws.{tells, line_characters, frame_clocks, HaveTheirBits, BeginsFrame}
+use Rattle.crtc6845.specs.Pictures.{sync_line, row_at, column_at, HasItsSync}
+use Rattle.video_ula.specs.State as ula
+use Rattle.video_ula.specs.Pixels.{dots_of, under_cursor, dot_colour}
+use Rattle.saa5050.specs.Shapes.{Font}
+use Rattle.raster.specs.Frame.{is_in_frame}
+use Rattle.raster.specs.Beam.{Cursor, byte_address, is_marked}
+use Rattle.raster.specs.State.{State}
+use Rattle.raster.specs.Clock.{char_clocked}
+
+-- n character clocks, one after the other, each with the RAM and the screen's size as they are at it
+abbrev pub char_clocks : (ℕ → List ℕ) → (ℕ → ℕ) → Font → ℕ → State → State
+char_clocks ram size font zero s = s
+char_clocks ram size font (suc n) s = char_clocked (ram n) (size n) font (char_clocks ram size font n s)
+
+-- ---- Where character clock n is. The clocks count from 0, from the first clock of a frame on.
+
+-- vertical sync begins at this clock of each frame, with the first line of row R7
+abbrev pub sync_clock : crtc.Registers → ℕ
+sync_clock r = sync_line r * line_characters r
+
+-- So many lines after the beginning of vertical sync, and so many dots after that of horizontal sync, which is at
+-- character R2.
+abbrev pub beam_line : crtc.Registers → ℕ → ℕ
+beam_line r n = (n - sync_clock r) % frame_clocks r / line_characters r
+
+abbrev pub beam_dot : crtc.Registers → ℕ → ℕ → ℕ
+beam_dot r dots n = (n - r.horizontal_sync_position) % line_characters r * dots
+
+-- The frame that clock n draws is finished by this one: the next at which vertical sync begins.
+abbrev pub finish_clock : crtc.Registers → ℕ → ℕ
+finish_clock r n = sync_clock r + ((n - sync_clock r) / frame_clocks r + 1) * frame_clocks r
+
+-- ---- What is shown.
+
+-- the address of the character: past the start address by R1 for each row above it and by one for each character before
+-- it in its line
+abbrev pub character_address : crtc.Registers → ℕ → ℕ
+character_address r n = (start_address r + row_at r n * r.horizontal_displayed + column_at r n) % 16384
+
+-- dot d of a byte: its colour, but black on rasters 8 to 15 and 24 to 31
+abbrev pub shown_colour : ula.State → ℕ → ℕ → Bool → ℕ → ℕ
+shown_colour u byte ra marked d = if bit ra 3 then under_cursor marked 0 else dot_colour u byte marked d
+
+-- on which of the three characters before clock n the cursor was
+abbrev pub cursor_before : crtc.State → ℕ → Cursor
+cursor_before c n = record {
+  one_ago = (tells (n - 1) c).cursor;
+  two_ago = (tells (n - 2) c).cursor;
+  three_ago = (tells (n - 3) c).cursor;
+}
+
+-- the colour of dot d of the character of clock n, with the RAM and the screen's size as they are at that clock
+abbrev pub colour_at : List ℕ → ℕ → ula.State → crtc.State → ℕ → ℕ → ℕ
+colour_at ram size u c n d =
+    let told = tells n c in
+    let byte = slice_index ram (byte_address (character_address c.registers n) told.ra size) in
+    shown_colour u byte told.ra (is_marked u.control told.cursor (cursor_before c n)) d
+
+-- The 6845 is at the first clock of a frame that begins at the start address; its frames have a vertical sync and its
+-- lines a horizontal one, and no earlier sync is on when row R7 comes.
+pub record MakesFrames (c : crtc.State) : Type 0 where
+  pub bits : HaveTheirBits c.registers
+  pub vertical : HasItsSync c.registers
+  pub horizontal : c.registers.horizontal_sync_position ≤ c.registers.horizontal_total
+  pub begins : BeginsFrame c
+  pub base : c.base ≡ start_address c.registers
+  pub early : c.sync_lines ≤ sync_line c.registers + 1
+
+-- Both syncs have begun by clock n, and three characters are before it.
+pub record IsUnderWay (r : crtc.Registers) (n : ℕ) : Type 0 where
+  pub vertical : sync_clock r ≤ n
+  pub horizontal : r.horizontal_sync_position ≤ n
+  pub three : 3 ≤ n
+
+-- Each dot of each character that is shown, as far as it lies in the frame, has the colour of its byte in the finished
+-- frame, after the clock that finishes it and until the next frame is finished. Whatever is written to the RAM, that is
+-- the byte as it was when the beam met it. The frame is 256 lines of 640 dots: from line 40 after the beginning of
+-- vertical sync on, and from dot 240 after that of horizontal sync.
+abbrev pub FramesShowTheirBytes : Type 0
+FramesShowTheirBytes =
+    (ram : ℕ → List ℕ) (size : ℕ → ℕ) (font : Font) (s : State) (n d m : ℕ) →
+    let r = s.crtc.registers in
+    let x = beam_dot r (dots_of s.ula.control) n + d in
+    let y = beam_line r n in
+    MakesFrames s.crtc → bit s.ula.control 1 ≡ false → IsUnderWay r n →
+    (tells n s.crtc).shown ≡ true → d < dots_of s.ula.control → is_in_frame 240 x y ≡ true →
+    finish_clock r n < m → m ≤ finish_clock r n + frame_clocks r →
+    slice_index (char_clocks ram size font m s).finished (640 * (y - 40) + (x - 240))
+    ≡ colour_at (ram n) (size n) s.ula s.crtc n d
