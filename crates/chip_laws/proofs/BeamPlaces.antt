@@ -30,7 +30,8 @@ added w a j some small =
 
 -- a place further, or the next round's first
 pub next_place : (w n : ℕ) → 0 < w →
-    (((n + 1) % w ≡ 0) × ((n + 1) / w ≡ n / w + 1)) ⊎ (((n + 1) % w ≡ n % w + 1) × ((n + 1) / w ≡ n / w))
+    (((n + 1) % w ≡ 0) × (((n + 1) / w ≡ n / w + 1) × (n % w + 1 ≡ w)))
+    ⊎ (((n + 1) % w ≡ n % w + 1) × (((n + 1) / w ≡ n / w) × (n % w + 1 < w)))
 next_place w n some =
     let q = n / w in
     let h = n % w in
@@ -39,11 +40,14 @@ next_place w n some =
     elim (cases_lt (h + 1) w) [
       | inl inner ↦
           let same : q * w + (h + 1) ≡ n + 1 = omega (arith, e) in
-          inr (ap (λ k. k % w) (sym same) ∙ mod-mul-add q w (h + 1) inner, ap (λ k. k / w) (sym same) ∙ div-mul-add q w (h + 1) inner)
+          inr (ap (λ k. k % w) (sym same) ∙ mod-mul-add q w (h + 1) inner, (ap (λ k. k / w) (sym same) ∙ div-mul-add q w (h + 1) inner, inner))
       | inr over ↦
           let turn : (q + 1) * w ≡ q * w + w = grind arith in
           let same : (q + 1) * w + 0 ≡ n + 1 = omega (arith, e, turn) in
-          inl (ap (λ k. k % w) (sym same) ∙ mod-mul-add (q + 1) w 0 some, ap (λ k. k / w) (sym same) ∙ div-mul-add (q + 1) w 0 some)
+          inl (
+            ap (λ k. k % w) (sym same) ∙ mod-mul-add (q + 1) w 0 some,
+            (ap (λ k. k / w) (sym same) ∙ div-mul-add (q + 1) w 0 some, omega (arith, lt, over)),
+          )
     ]
 
 pub test_true : (a b : ℕ) → a ≡ b → (a == b) ≡ true

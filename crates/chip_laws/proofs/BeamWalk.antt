@@ -172,10 +172,10 @@ line_walk laws ram size font s makes (suc t) =
             | inl i ↦
                 y_at b p false true runs (starts ∙ test_true (suc t % w) 0 (round ∙ i.0))
                 ∙ ap (λ k. min (k + 1) 1023) was ∙ one_more (u / w)
-                ∙ ap (λ k. min k 1023) (sym (ap (λ k. k / w) more ∙ i.1))
+                ∙ ap (λ k. min k 1023) (sym (ap (λ k. k / w) more ∙ i.1.0))
             | inr i ↦
                 let inner : suc t % w ≡ u % w + 1 = round ∙ i.0 in
                 y_at b p false false runs (starts ∙ test_false (suc t % w) 0 (λ none. omega (arith, inner, none)))
-                ∙ was ∙ ap (λ k. min k 1023) (sym (ap (λ k. k / w) more ∙ i.1))
+                ∙ was ∙ ap (λ k. min k 1023) (sym (ap (λ k. k / w) more ∙ i.1.0))
           ]
     ]

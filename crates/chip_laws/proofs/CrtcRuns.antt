@@ -14,10 +14,10 @@ use Rattle.raster.specs.Clock.{begun, byte_drawn, cell_drawn, drawn, shown, char
 use Rattle.chip_laws.specs.PictureRuns as picture
 use Rattle.chip_laws.specs.CrtcBits.{Move, clock, select, write, after_move, after_moves, WritesByte, WriteBytes, RegistersHaveTheirBits, PutsBits, PutBits, RastersHaveTheirBits}
 
-start_keeps : (c : State) → (started c).registers ≡ c.registers
+pub start_keeps : (c : State) → (started c).registers ≡ c.registers
 start_keeps c = grind arith
 
-count_keeps : (c : State) → (counted c).registers ≡ c.registers
+pub count_keeps : (c : State) → (counted c).registers ≡ c.registers
 count_keeps c = grind arith
 
 written_has : (n v : ℕ) (r : Registers) → v < 256 → HaveTheirBits r → HaveTheirBits (written n v r)

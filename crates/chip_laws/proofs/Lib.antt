@@ -15,3 +15,4 @@ pub mod BeamPlaces
 pub mod Showing
 pub mod BeamWalk
 pub mod ShownDots
+pub mod Rasters

@@ -19,7 +19,7 @@ use Rattle.raster.specs.Frame.{is_in_frame, black, dots_set}
 use Rattle.raster.specs.Beam.{Cursor, place_at, byte_address, cursor_past, is_marked}
 use Rattle.raster.specs.State.{State}
 use Rattle.raster.specs.Clock.{byte_dots}
-use Rattle.chip_laws.specs.ShownBytes.{char_clocks, sync_clock, character_address, shown_colour, cursor_before, colour_at, MakesFrames, FramesShowTheirBytes}
+use Rattle.chip_laws.specs.ShownBytes.{char_clocks, sync_clock, character_address, raster_at, byte_at, shown_colour, cursor_before, is_marked_at, colour_at, CharactersAreShown, MakesFrames, FramesShowTheirBytes}
 use Rattle.chip_laws.proofs.BeamPlaces.{added, test_true, test_false, differs, Inside, inside, dot_index, IsApart, length_kept, others, drawn_dot}
 use Rattle.chip_laws.proofs.Showing.{dots_at, frame_at, clock, same_ula}
 use Rattle.chip_laws.proofs.BeamWalk.{Laws, place_in, eight_or_sixteen, sync_in_frame, frame_sync, column_walk, line_walk}
@@ -64,21 +64,22 @@ cursor_was ram size font s n three =
     cursors a x b y z p q = rw (p, q) refl
 
 -- a dot of the character of clock n is of the colour of its byte
-colour_is : ShownAddressesCount → (ram : ℕ → List ℕ) (size : ℕ → ℕ) (font : Font) (s : State) (n d : ℕ) → MakesFrames s.crtc → 3 ≤ n →
-    (tells n s.crtc).shown ≡ true → d < dots_of s.ula.control →
+colour_is : ShownAddressesCount → CharactersAreShown → (ram : ℕ → List ℕ) (size : ℕ → ℕ) (font : Font) (s : State) (n d : ℕ) →
+    MakesFrames s.crtc → 3 ≤ n → (tells n s.crtc).shown ≡ true → d < dots_of s.ula.control →
     slice_index (dots_at (ram n) (size n) (tells n s.crtc) (char_clocks ram size font n s)) d ≡ colour_at (ram n) (size n) s.ula s.crtc n d
-colour_is count ram size font s n d makes three is within =
+colour_is count characters ram size font s n d makes three is within =
+    let r = s.crtc.registers in
     let b = tells n s.crtc in
     let x = char_clocks ram size font n s in
-    let there : b.ma ≡ character_address s.crtc.registers n = count s.crtc n makes.bits makes.begins makes.base is in
-    ap (λ (u : ula.State). slice_index (byte_dots u (slice_index (ram n) (byte_address b.ma b.ra (size n))) b.ra
-    (is_marked u.control b.cursor x.cursor)) d) (same_ula ram size font s n)
-    ∙ ap (λ (c : Cursor). slice_index (byte_dots s.ula (slice_index (ram n) (byte_address b.ma b.ra (size n))) b.ra
-    (is_marked s.ula.control b.cursor c)) d) (cursor_was ram size font s n three)
-    ∙ ap (λ k. slice_index (byte_dots s.ula (slice_index (ram n) (byte_address k b.ra (size n))) b.ra
-    (is_marked s.ula.control b.cursor (cursor_before s.crtc n))) d) there
-    ∙ dot_is s.ula (slice_index (ram n) (byte_address (character_address s.crtc.registers n) b.ra (size n))) b.ra
-    (is_marked s.ula.control b.cursor (cursor_before s.crtc n)) d within
+    let there : b.ma ≡ character_address r n = count s.crtc n makes.bits makes.begins makes.base is in
+    let level : b.ra ≡ raster_at r n = characters.raster s.crtc n makes.bits makes.begins is in
+    let dot = λ (u : ula.State) (ma ra : ℕ) (c : Cursor).
+    slice_index (byte_dots u (slice_index (ram n) (byte_address ma ra (size n))) ra (is_marked u.control b.cursor c)) d in
+    ap (λ (u : ula.State). dot u b.ma b.ra x.cursor) (same_ula ram size font s n)
+    ∙ ap (dot s.ula b.ma b.ra) (cursor_was ram size font s n three)
+    ∙ ap (λ k. dot s.ula k b.ra (cursor_before s.crtc n)) there
+    ∙ ap (λ k. dot s.ula (character_address r n) k (cursor_before s.crtc n)) level
+    ∙ dot_is s.ula (byte_at (ram n) (size n) r n) (raster_at r n) (is_marked_at s.ula.control s.crtc n) d within
 
 -- ---- The frame has all of its dots.
 
@@ -281,9 +282,10 @@ finished_stays laws ram size font s t makes whole (suc i) below =
     ∙ ap (λ k. if k then x.working else x.finished) runs
     ∙ finished_stays laws ram size font s t makes whole i (omega (arith, below))
 
-pub frames_show_their_bytes : Laws → ShownAddressesCount → FramesShowTheirBytes
-frames_show_their_bytes laws count ram size font s n d m makes off runs is within here after before =
+pub frames_show_their_bytes : Laws → ShownAddressesCount → CharactersAreShown → FramesShowTheirBytes
+frames_show_their_bytes laws count characters ram size font s n d m makes off runs met within here after before =
     let r = s.crtc.registers in
+    let is : (tells n s.crtc).shown ≡ true = characters.which s.crtc n makes.bits makes.begins ∙ met in
     let w = line_characters r in
     let f = frame_clocks r in
     let first = sync_clock r in
@@ -312,4 +314,4 @@ frames_show_their_bytes laws count ram size font s n d m makes off runs is withi
     ∙ ap (λ k. slice_index (char_clocks ram size font k s).working (dot_index 240 p q)) (sym last)
     ∙ drawn_later laws ram size font s n t a d _ makes off at within here
     (drawn_now laws ram size font s n t a d makes off at is within here) j (omega (arith, below))
-    ∙ colour_is count ram size font s n d makes runs.three is within
+    ∙ colour_is count characters ram size font s n d makes runs.three is within

@@ -1,12 +1,13 @@
 -- Which byte each dot of a finished frame shows, in bit-mapped modes, while no register of the 6845 and of the video ULA
 -- is written. (6845 data sheet, Horizontal and Vertical Timing, Memory Addresses; BBC Microcomputer Advanced User Guide,
 -- The Video ULA, Screen Addresses.)
-use Rattle.std.specs.Prelude.{ℕ, zero, suc, ◌+◌, ◌-◌, ◌*◌, ◌/◌, ◌%◌, ◌≡◌, ◌<◌, ◌≤◌, Bool, true, false, List, slice_index, if◌then◌else◌}
+use Rattle.std.specs.Prelude.{ℕ, zero, suc, ◌+◌, ◌-◌, ◌*◌, ◌/◌, ◌%◌, ◌&&◌, ◌≡◌, ◌<◌, ◌≤◌, nat_lt, nat_le, Bool, true, false, List, slice_index, if◌then◌else◌}
 use Rattle.beeb_bits.specs.Bits.{bit}
 use Rattle.crtc6845.specs.State as crtc
 use Rattle.crtc6845.specs.Registers.{start_address}
-use Rattle.crtc6845.specs.Laws.{tells, line_characters, frame_clocks, HaveTheirBits, BeginsFrame}
-use Rattle.crtc6845.specs.Pictures.{sync_line, row_at, column_at, HasItsSync}
+use Rattle.crtc6845.specs.Clock.{raster_step}
+use Rattle.crtc6845.specs.Laws.{tells, line_characters, row_lines, frame_clocks, HaveTheirBits, BeginsFrame}
+use Rattle.crtc6845.specs.Pictures.{sync_line, line_at, row_at, column_at, HasItsSync}
 use Rattle.video_ula.specs.State as ula
 use Rattle.video_ula.specs.Pixels.{dots_of, under_cursor, dot_colour}
 use Rattle.saa5050.specs.Shapes.{Font}
@@ -38,18 +39,41 @@ beam_dot r dots n = (n - r.horizontal_sync_position) % line_characters r * dots
 abbrev pub finish_clock : crtc.Registers → ℕ → ℕ
 finish_clock r n = sync_clock r + ((n - sync_clock r) / frame_clocks r + 1) * frame_clocks r
 
--- ---- What is shown.
+-- ---- Which characters are shown.
+
+-- the raster that clock n is on, if its line is none of adjust
+abbrev pub raster_at : crtc.Registers → ℕ → ℕ
+raster_at r n = line_at r n % row_lines r * raster_step r
+
+-- a character is shown within the first R1 of its line and the first R6 rows, if the frame has that row
+abbrev pub is_shown_at : crtc.Registers → ℕ → Bool
+is_shown_at r n =
+    nat_lt (column_at r n) r.horizontal_displayed && nat_lt (row_at r n) r.vertical_displayed
+    && nat_le (row_at r n) r.vertical_total
+
+-- From the first clock of a frame on these are the characters that are shown, and each is on its raster.
+pub record CharactersAreShown : Type 0 where
+  pub which : (c : crtc.State) (n : ℕ) → HaveTheirBits c.registers → BeginsFrame c →
+      (tells n c).shown ≡ is_shown_at c.registers n
+  pub raster : (c : crtc.State) (n : ℕ) → HaveTheirBits c.registers → BeginsFrame c →
+      (tells n c).shown ≡ true → (tells n c).ra ≡ raster_at c.registers n
+
+-- ---- What they show.
 
 -- the address of the character: past the start address by R1 for each row above it and by one for each character before
 -- it in its line
 abbrev pub character_address : crtc.Registers → ℕ → ℕ
 character_address r n = (start_address r + row_at r n * r.horizontal_displayed + column_at r n) % 16384
 
+-- the byte that it shows, in this RAM and with this size of the screen
+abbrev pub byte_at : List ℕ → ℕ → crtc.Registers → ℕ → ℕ
+byte_at ram size r n = slice_index ram (byte_address (character_address r n) (raster_at r n) size)
+
 -- dot d of a byte: its colour, but black on rasters 8 to 15 and 24 to 31
 abbrev pub shown_colour : ula.State → ℕ → ℕ → Bool → ℕ → ℕ
 shown_colour u byte ra marked d = if bit ra 3 then under_cursor marked 0 else dot_colour u byte marked d
 
--- on which of the three characters before clock n the cursor was
+-- whether the cursor marks the character of clock n, by where it is at it and at the three before it
 abbrev pub cursor_before : crtc.State → ℕ → Cursor
 cursor_before c n = record {
   one_ago = (tells (n - 1) c).cursor;
@@ -57,12 +81,14 @@ cursor_before c n = record {
   three_ago = (tells (n - 3) c).cursor;
 }
 
--- the colour of dot d of the character of clock n, with the RAM and the screen's size as they are at that clock
+abbrev pub is_marked_at : ℕ → crtc.State → ℕ → Bool
+is_marked_at control c n = is_marked control (tells n c).cursor (cursor_before c n)
+
+-- the colour of dot d of the character of clock n
 abbrev pub colour_at : List ℕ → ℕ → ula.State → crtc.State → ℕ → ℕ → ℕ
 colour_at ram size u c n d =
-    let told = tells n c in
-    let byte = slice_index ram (byte_address (character_address c.registers n) told.ra size) in
-    shown_colour u byte told.ra (is_marked u.control told.cursor (cursor_before c n)) d
+    let r = c.registers in
+    shown_colour u (byte_at ram size r n) (raster_at r n) (is_marked_at u.control c n) d
 
 -- The 6845 is at the first clock of a frame that begins at the start address; its frames have a vertical sync and its
 -- lines a horizontal one, and no earlier sync is on when row R7 comes.
@@ -80,10 +106,10 @@ pub record IsUnderWay (r : crtc.Registers) (n : ℕ) : Type 0 where
   pub horizontal : r.horizontal_sync_position ≤ n
   pub three : 3 ≤ n
 
--- Each dot of each character that is shown, as far as it lies in the frame, has the colour of its byte in the finished
--- frame, after the clock that finishes it and until the next frame is finished. Whatever is written to the RAM, that is
--- the byte as it was when the beam met it. The frame is 256 lines of 640 dots: from line 40 after the beginning of
--- vertical sync on, and from dot 240 after that of horizontal sync.
+-- Each dot of each character that is shown, as far as it lies in the frame, has in the finished frame the colour of its
+-- byte: after the clock that finishes that frame and until the next one is finished. Whatever is written to the RAM
+-- meanwhile, it is the byte, and the size of the screen, as they were at the character's clock. The frame is 256 lines of
+-- 640 dots, from line 40 after the beginning of vertical sync on and from dot 240 after that of horizontal sync on.
 abbrev pub FramesShowTheirBytes : Type 0
 FramesShowTheirBytes =
     (ram : ℕ → List ℕ) (size : ℕ → ℕ) (font : Font) (s : State) (n d m : ℕ) →
@@ -91,7 +117,7 @@ FramesShowTheirBytes =
     let x = beam_dot r (dots_of s.ula.control) n + d in
     let y = beam_line r n in
     MakesFrames s.crtc → bit s.ula.control 1 ≡ false → IsUnderWay r n →
-    (tells n s.crtc).shown ≡ true → d < dots_of s.ula.control → is_in_frame 240 x y ≡ true →
+    is_shown_at r n ≡ true → d < dots_of s.ula.control → is_in_frame 240 x y ≡ true →
     finish_clock r n < m → m ≤ finish_clock r n + frame_clocks r →
     slice_index (char_clocks ram size font m s).finished (640 * (y - 40) + (x - 240))
     ≡ colour_at (ram n) (size n) s.ula s.crtc n d

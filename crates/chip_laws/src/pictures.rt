@@ -1,7 +1,7 @@
 //! The picture: the 6845 and the raster.
 ghost use Rattle.chip_laws.specs.CrtcBits.{RegistersHaveTheirBits, RastersHaveTheirBits};
 ghost use Rattle.chip_laws.specs.Colours.{DotsAreColours};
-ghost use Rattle.chip_laws.specs.ShownBytes.{FramesShowTheirBytes};
+ghost use Rattle.chip_laws.specs.ShownBytes.{CharactersAreShown, FramesShowTheirBytes};
 
 /// Whatever bytes are written to a 6845 from power-on on, its registers have their bits: what the laws over whole
 /// frames ask. So it is with the 6845 of a raster.
@@ -15,6 +15,14 @@ pub fn dots_are_colours()
     ensures { DotsAreColours }
 {}
 
+/// The 6845 shows the first R1 characters of the first R6 rows, each line on its raster.
+pub fn characters_are_shown()
+    ensures { CharactersAreShown }
+{
+    crtc6845::lines_have_their_characters();
+    crtc6845::frames_have_their_clocks();
+}
+
 /// While no register is written, each dot of a character that is shown has in the finished frame the colour of its byte.
 pub fn frames_show_their_bytes()
     ensures { FramesShowTheirBytes }
@@ -23,4 +31,5 @@ pub fn frames_show_their_bytes()
     crtc6845::sync_comes_in_each_line();
     crtc6845::vertical_sync_comes_in_each_frame();
     crtc6845::shown_addresses_count();
+    characters_are_shown();
 }

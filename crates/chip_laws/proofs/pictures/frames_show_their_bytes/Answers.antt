@@ -8,4 +8,4 @@ returns c =
       lines = c.lines_have_their_characters.ensures;
       columns = c.sync_comes_in_each_line.ensures;
       frames = c.vertical_sync_comes_in_each_frame.ensures;
-    }) c.shown_addresses_count.ensures
+    }) c.shown_addresses_count.ensures c.characters_are_shown.ensures
