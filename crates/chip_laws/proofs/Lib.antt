@@ -16,3 +16,4 @@ pub mod Showing
 pub mod BeamWalk
 pub mod ShownDots
 pub mod Rasters
+pub mod BlackDots

@@ -1,5 +1,5 @@
 -- Which byte each dot of a finished frame shows, clock by clock.
-use Rattle.std.proofs.Common.{◌≡◌, ◌∙◌, sym, ap, refl, subst, ℕ, zero, suc, ◌%◌, Bool, true, false, List}
+use Rattle.std.proofs.Common.{◌≡◌, ◌∙◌, sym, ap, refl, subst, ℕ, zero, suc, ◌*◌, ◌%◌, Bool, true, false, List, arith}
 use Rattle.std.specs.Prelude.{slice_index, if◌then◌else◌}
 use Rattle.beeb_bits.specs.Bits.{bit}
 use Rattle.crtc6845.specs.declared.Beam.{Beam}
@@ -12,8 +12,8 @@ use Rattle.saa5050.specs.Shapes.{Font}
 use Rattle.raster.specs.Frame.{black, dots_set}
 use Rattle.raster.specs.Beam.{place_at, place_past, byte_address, cursor_past, is_marked}
 use Rattle.raster.specs.State.{State}
-use Rattle.raster.specs.Clock.{begun, byte_dots, byte_drawn, cell_drawn, drawn, shown, char_clocked}
-use Rattle.chip_laws.specs.ShownBytes.{char_clocks}
+use Rattle.raster.specs.Clock.{begun, byte_dots, byte_drawn, cell_drawn, drawn, shown, char_clocked, microseconds}
+use Rattle.chip_laws.specs.ShownBytes.{char_clocks, MicrosecondsAreClocks}
 
 -- ---- One clock.
 
@@ -107,3 +107,41 @@ pub clock : (ram : ℕ → List ℕ) (size : ℕ → ℕ) (font : Font) (s : Sta
 clock ram size font s n =
     subst (λ (c : crtc.State). Clocked (ram n) (size n) (beam_of c) (char_clocks ram size font n s) (char_clocks ram size font (suc n) s))
     (by_itself ram size font s n) (one_clock (ram n) (size n) font (char_clocks ram size font n s))
+
+-- ---- Microseconds.
+
+clocks_from : (ram : List ℕ) (size : ℕ) (font : Font) (n : ℕ) (s : State) →
+    char_clocks (λ k. ram) (λ k. size) font n (char_clocked ram size font s) ≡ char_clocks (λ k. ram) (λ k. size) font (suc n) s
+clocks_from ram size font zero s = refl
+clocks_from ram size font (suc n) s = ap (char_clocked ram size font) (clocks_from ram size font n s)
+
+one_ula : (ram : List ℕ) (size : ℕ) (font : Font) (s : State) (b : Bool) → bit s.ula.control 4 ≡ b →
+    bit (char_clocked ram size font s).ula.control 4 ≡ b
+one_ula ram size font s b is = ap (λ (u : ula.State). bit u.control 4) (one_clock ram size font s).ula ∙ is
+
+single : (ram : List ℕ) (size : ℕ) (font : Font) (n : ℕ) (s : State) → bit s.ula.control 4 ≡ false →
+    microseconds ram size font n s ≡ char_clocks (λ k. ram) (λ k. size) font n s
+single ram size font zero s is = refl
+single ram size font (suc n) s is =
+    let once = char_clocked ram size font s in
+    ap (λ b. microseconds ram size font n (if b then char_clocked ram size font once else once)) is
+    ∙ single ram size font n once (one_ula ram size font s false is)
+    ∙ clocks_from ram size font n s
+
+double : (ram : List ℕ) (size : ℕ) (font : Font) (n : ℕ) (s : State) → bit s.ula.control 4 ≡ true →
+    microseconds ram size font n s ≡ char_clocks (λ k. ram) (λ k. size) font (2 * n) s
+double ram size font zero s is = refl
+double ram size font (suc n) s is =
+    let once = char_clocked ram size font s in
+    let e : suc (suc (2 * n)) ≡ 2 * suc n = omega arith in
+    ap (λ b. microseconds ram size font n (if b then char_clocked ram size font once else once)) is
+    ∙ double ram size font n (char_clocked ram size font once) (one_ula ram size font once true (one_ula ram size font s true is))
+    ∙ clocks_from ram size font (2 * n) once ∙ clocks_from ram size font (suc (2 * n)) s
+    ∙ ap (λ k. char_clocks (λ i. ram) (λ i. size) font k s) e
+
+pub microseconds_are_clocks : MicrosecondsAreClocks
+microseconds_are_clocks ram size font n s = by_test (bit s.ula.control 4) refl where
+  by_test : (b : Bool) → bit s.ula.control 4 ≡ b →
+      microseconds ram size font n s ≡ char_clocks (λ k. ram) (λ k. size) font (if b then 2 * n else n) s
+  by_test true is = double ram size font n s is
+  by_test false is = single ram size font n s is

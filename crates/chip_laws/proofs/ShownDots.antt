@@ -26,7 +26,7 @@ use Rattle.chip_laws.proofs.BeamWalk.{Laws, place_in, eight_or_sixteen, sync_in_
 
 -- ---- The dots of a character.
 
-dot_count : (u : ula.State) (byte ra : ℕ) (marked : Bool) → length (byte_dots u byte ra marked) ≡ dots_of u.control
+pub dot_count : (u : ula.State) (byte ra : ℕ) (marked : Bool) → length (byte_dots u byte ra marked) ≡ dots_of u.control
 dot_count u byte ra marked = by_test (bit ra 3) where
   by_test : (b : Bool) →
       length (if b then replicate (dots_of u.control) (under_cursor marked 0) else map (dot_colour u byte marked) (range_with_len 0 (dots_of u.control)))
@@ -152,7 +152,7 @@ apart w a u j dots d many some more within widths bottom all = elim (cases_eq ((
   | inr other ↦ inl (λ line. other (omega (arith, line, bottom)))
 ]
 
-apart_at : (p q x y k l many : ℕ) → x ≡ k → y ≡ l → IsApart p q k l many → IsApart p q x y many
+pub apart_at : (p q x y k l many : ℕ) → x ≡ k → y ≡ l → IsApart p q k l many → IsApart p q x y many
 apart_at p q x y k l many e g is = rw (e, g) is
 
 -- clock n is so many clocks past the first vertical sync, and past the first horizontal one
@@ -195,7 +195,7 @@ drawn_now laws ram size font s n t a d makes off at is within here =
     ∙ drawn_dot 240 (a % w * dots_of s.ula.control) q d dots frame (omega (arith, many, within)) here long
 
 -- no sync is within a frame
-no_sync : Laws → (s : State) (t j : ℕ) → MakesFrames s.crtc → t % frame_clocks s.crtc.registers + suc j < frame_clocks s.crtc.registers →
+pub no_sync : Laws → (s : State) (t j : ℕ) → MakesFrames s.crtc → t % frame_clocks s.crtc.registers + suc j < frame_clocks s.crtc.registers →
     ((tells (sync_clock s.crtc.registers + (t + suc j)) s.crtc).frame_end ≡ false)
     × ((t + suc j) % frame_clocks s.crtc.registers ≡ t % frame_clocks s.crtc.registers + suc j)
 no_sync laws s t j makes below =
@@ -260,7 +260,7 @@ drawn_later laws ram size font s n t a d colour makes off at within here first (
 -- ---- The finished frame.
 
 -- a frame that is finished at a clock stays until the next one is
-finished_stays : Laws → (ram : ℕ → List ℕ) (size : ℕ → ℕ) (font : Font) (s : State) (t : ℕ) → MakesFrames s.crtc →
+pub finished_stays : Laws → (ram : ℕ → List ℕ) (size : ℕ → ℕ) (font : Font) (s : State) (t : ℕ) → MakesFrames s.crtc →
     t % frame_clocks s.crtc.registers ≡ 0 → (i : ℕ) → i < frame_clocks s.crtc.registers →
     (char_clocks ram size font (sync_clock s.crtc.registers + t + suc i) s).finished
     ≡ (char_clocks ram size font (sync_clock s.crtc.registers + t) s).working

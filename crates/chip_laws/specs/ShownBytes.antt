@@ -1,7 +1,7 @@
 -- Which byte each dot of a finished frame shows, in bit-mapped modes, while no register of the 6845 and of the video ULA
 -- is written. (6845 data sheet, Horizontal and Vertical Timing, Memory Addresses; BBC Microcomputer Advanced User Guide,
 -- The Video ULA, Screen Addresses.)
-use Rattle.std.specs.Prelude.{ℕ, zero, suc, ◌+◌, ◌-◌, ◌*◌, ◌/◌, ◌%◌, ◌&&◌, ◌≡◌, ◌<◌, ◌≤◌, nat_lt, nat_le, Bool, true, false, List, slice_index, if◌then◌else◌}
+use Rattle.std.specs.Prelude.{ℕ, zero, suc, ◌+◌, ◌-◌, ◌*◌, ◌/◌, ◌%◌, ◌==◌, ◌&&◌, ◌≡◌, ◌<◌, ◌≤◌, nat_lt, nat_le, Bool, true, false, List, slice_index, if◌then◌else◌}
 use Rattle.beeb_bits.specs.Bits.{bit}
 use Rattle.crtc6845.specs.State as crtc
 use Rattle.crtc6845.specs.Registers.{start_address}
@@ -14,12 +14,21 @@ use Rattle.saa5050.specs.Shapes.{Font}
 use Rattle.raster.specs.Frame.{is_in_frame}
 use Rattle.raster.specs.Beam.{Cursor, byte_address, is_marked}
 use Rattle.raster.specs.State.{State}
-use Rattle.raster.specs.Clock.{char_clocked}
+use Rattle.raster.specs.Clock.{char_clocked, microseconds}
+
+-- ---- Character clocks and microseconds.
 
 -- n character clocks, one after the other, each with the RAM and the screen's size as they are at it
 abbrev pub char_clocks : (ℕ → List ℕ) → (ℕ → ℕ) → Font → ℕ → State → State
 char_clocks ram size font zero s = s
 char_clocks ram size font (suc n) s = char_clocked (ram n) (size n) font (char_clocks ram size font n s)
+
+-- n microseconds with the same RAM are n character clocks, or twice as many where the 6845 has the clock of 2 MHz
+abbrev pub MicrosecondsAreClocks : Type 0
+MicrosecondsAreClocks =
+    (ram : List ℕ) (size : ℕ) (font : Font) (n : ℕ) (s : State) →
+    microseconds ram size font n s
+    ≡ char_clocks (λ k. ram) (λ k. size) font (if bit s.ula.control 4 then 2 * n else n) s
 
 -- ---- Where character clock n is. The clocks count from 0, from the first clock of a frame on.
 
@@ -35,9 +44,16 @@ beam_line r n = (n - sync_clock r) % frame_clocks r / line_characters r
 abbrev pub beam_dot : crtc.Registers → ℕ → ℕ → ℕ
 beam_dot r dots n = (n - r.horizontal_sync_position) % line_characters r * dots
 
--- The frame that clock n draws is finished by this one: the next at which vertical sync begins.
+-- Frame k, counted from 0, is drawn from this clock on; and this is the number of the frame that clock n draws.
+abbrev pub frame_start : crtc.Registers → ℕ → ℕ
+frame_start r k = sync_clock r + k * frame_clocks r
+
+abbrev pub frame_number : crtc.Registers → ℕ → ℕ
+frame_number r n = (n - sync_clock r) / frame_clocks r
+
+-- The frame that clock n draws is finished where the next one begins.
 abbrev pub finish_clock : crtc.Registers → ℕ → ℕ
-finish_clock r n = sync_clock r + ((n - sync_clock r) / frame_clocks r + 1) * frame_clocks r
+finish_clock r n = frame_start r (frame_number r n + 1)
 
 -- ---- Which characters are shown.
 
@@ -121,3 +137,19 @@ FramesShowTheirBytes =
     finish_clock r n < m → m ≤ finish_clock r n + frame_clocks r →
     slice_index (char_clocks ram size font m s).finished (640 * (y - 40) + (x - 240))
     ≡ colour_at (ram n) (size n) s.ula s.crtc n d
+
+-- this dot is one of those of the character of clock n
+abbrev pub has_dot : crtc.Registers → ℕ → ℕ → ℕ → ℕ → Bool
+has_dot r dots n x y = beam_line r n == y && nat_le (beam_dot r dots n) x && nat_lt x (beam_dot r dots n + dots)
+
+-- Each other dot of a finished frame is black: one that no character of that frame which is shown has.
+abbrev pub RestIsBlack : Type 0
+RestIsBlack =
+    (ram : ℕ → List ℕ) (size : ℕ → ℕ) (font : Font) (s : State) (k x y m : ℕ) →
+    let r = s.crtc.registers in
+    let start = frame_start r k in
+    let finish = frame_start r (k + 1) in
+    MakesFrames s.crtc → bit s.ula.control 1 ≡ false → r.horizontal_sync_position ≤ start → is_in_frame 240 x y ≡ true →
+    ((n : ℕ) → start ≤ n → n < finish → (is_shown_at r n && has_dot r (dots_of s.ula.control) n x y) ≡ false) →
+    finish < m → m ≤ finish + frame_clocks r →
+    slice_index (char_clocks ram size font m s).finished (640 * (y - 40) + (x - 240)) ≡ 0

@@ -13,7 +13,8 @@ pub use adapters::{active_edges_set_flags, latches_are_bytes};
 pub use discs::{a_search_ends_in_time, a_sector_is_read, a_sector_is_written};
 pub use keys::a_script_is_its_keys_set_in_turn;
 pub use pictures::{
-    characters_are_shown, dots_are_colours, frames_show_their_bytes, registers_have_their_bits,
+    characters_are_shown, dots_are_colours, frames_show_their_bytes, microseconds_are_clocks,
+    registers_have_their_bits,
 };
 pub use plugs::a_ram_card_remembers;
 pub use roms::a_half_rom_stands_twice;

@@ -1,7 +1,7 @@
 //! The picture: the 6845 and the raster.
 ghost use Rattle.chip_laws.specs.CrtcBits.{RegistersHaveTheirBits, RastersHaveTheirBits};
 ghost use Rattle.chip_laws.specs.Colours.{DotsAreColours};
-ghost use Rattle.chip_laws.specs.ShownBytes.{CharactersAreShown, FramesShowTheirBytes};
+ghost use Rattle.chip_laws.specs.ShownBytes.{CharactersAreShown, FramesShowTheirBytes, MicrosecondsAreClocks, RestIsBlack};
 
 /// Whatever bytes are written to a 6845 from power-on on, its registers have their bits: what the laws over whole
 /// frames ask. So it is with the 6845 of a raster.
@@ -23,9 +23,16 @@ pub fn characters_are_shown()
     crtc6845::frames_have_their_clocks();
 }
 
-/// While no register is written, each dot of a character that is shown has in the finished frame the colour of its byte.
+/// A microsecond is one character clock, or two at 2 MHz.
+pub fn microseconds_are_clocks()
+    ensures { MicrosecondsAreClocks }
+{}
+
+/// While no register is written, each dot of a character that is shown has in the finished frame the colour of its byte,
+/// and each other dot is black.
 pub fn frames_show_their_bytes()
-    ensures { FramesShowTheirBytes }
+    ensures bytes { FramesShowTheirBytes }
+    ensures rest { RestIsBlack }
 {
     crtc6845::lines_have_their_characters();
     crtc6845::sync_comes_in_each_line();
