@@ -1,6 +1,6 @@
--- Which byte each dot of a finished frame shows, in bit-mapped modes, while no register of the 6845 and of the video ULA
--- is written. (6845 data sheet, Horizontal and Vertical Timing, Memory Addresses; BBC Microcomputer Advanced User Guide,
--- The Video ULA, Screen Addresses.)
+-- Which byte each dot of a finished frame shows, in bit-mapped modes, while no register of the 6845 and of the video
+-- ULA is written. (6845 data sheet, Horizontal and Vertical Timing, Memory Addresses; BBC Microcomputer Advanced User
+-- Guide, The Video ULA, Screen Addresses.)
 use Rattle.std.specs.Prelude.{ℕ, zero, suc, ◌+◌, ◌-◌, ◌*◌, ◌/◌, ◌%◌, ◌==◌, ◌&&◌, ◌≡◌, ◌<◌, ◌≤◌, nat_lt, nat_le, Bool, true, false, List, slice_index, if◌then◌else◌}
 use Rattle.beeb_bits.specs.Bits.{bit}
 use Rattle.crtc6845.specs.State as crtc
@@ -124,8 +124,8 @@ pub record IsUnderWay (r : crtc.Registers) (n : ℕ) : Type 0 where
 
 -- Each dot of each character that is shown, as far as it lies in the frame, has in the finished frame the colour of its
 -- byte: after the clock that finishes that frame and until the next one is finished. Whatever is written to the RAM
--- meanwhile, it is the byte, and the size of the screen, as they were at the character's clock. The frame is 256 lines of
--- 640 dots, from line 40 after the beginning of vertical sync on and from dot 240 after that of horizontal sync on.
+-- meanwhile, it is the byte, and the size of the screen, as they were at the character's clock. The frame is 256 lines
+-- of 640 dots, from line 40 after the beginning of vertical sync on and from dot 240 after that of horizontal sync on.
 abbrev pub FramesShowTheirBytes : Type 0
 FramesShowTheirBytes =
     (ram : ℕ → List ℕ) (size : ℕ → ℕ) (font : Font) (s : State) (n d m : ℕ) →
@@ -142,7 +142,8 @@ FramesShowTheirBytes =
 abbrev pub has_dot : crtc.Registers → ℕ → ℕ → ℕ → ℕ → Bool
 has_dot r dots n x y = beam_line r n == y && nat_le (beam_dot r dots n) x && nat_lt x (beam_dot r dots n + dots)
 
--- Each other dot of a finished frame is black: one that no character of that frame which is shown has.
+-- Each other dot of a finished frame is black: one that no character of that frame which is shown has. It is a frame
+-- that begins once horizontal sync has begun.
 abbrev pub RestIsBlack : Type 0
 RestIsBlack =
     (ram : ℕ → List ℕ) (size : ℕ → ℕ) (font : Font) (s : State) (k x y m : ℕ) →

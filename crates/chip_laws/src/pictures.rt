@@ -1,7 +1,8 @@
 //! The picture: the 6845 and the raster.
 ghost use Rattle.chip_laws.specs.CrtcBits.{RegistersHaveTheirBits, RastersHaveTheirBits};
 ghost use Rattle.chip_laws.specs.Colours.{DotsAreColours};
-ghost use Rattle.chip_laws.specs.ShownBytes.{CharactersAreShown, FramesShowTheirBytes, MicrosecondsAreClocks, RestIsBlack};
+ghost use Rattle.chip_laws.specs.ShownBytes.{CharactersAreShown, FramesShowTheirBytes, RestIsBlack};
+ghost use Rattle.chip_laws.specs.ShownBytes.{MicrosecondsAreClocks};
 
 /// Whatever bytes are written to a 6845 from power-on on, its registers have their bits: what the laws over whole
 /// frames ask. So it is with the 6845 of a raster.
@@ -28,8 +29,8 @@ pub fn microseconds_are_clocks()
     ensures { MicrosecondsAreClocks }
 {}
 
-/// While no register is written, each dot of a character that is shown has in the finished frame the colour of its byte,
-/// and each other dot is black.
+/// In bit-mapped modes, while no register is written, each dot of a character that is shown has in the finished frame
+/// the colour of its byte, and each other dot is black.
 pub fn frames_show_their_bytes()
     ensures bytes { FramesShowTheirBytes }
     ensures rest { RestIsBlack }
