@@ -7,7 +7,7 @@ use Rattle.beeb_bits.specs.declared.clock.Clock.{Clock}
 use Rattle.beeb_bits.specs.declared.Side.{Side}
 use Rattle.beeb_bits.specs.declared.Side.TheVariants.{Host, Para}
 use Rattle.tube_chip.specs.declared.Op.{Op}
-use Rattle.tube_chip.specs.declared.Op.TheVariants.{Read, Write}
+use Rattle.tube_chip.specs.declared.Op.TheVariants.{Read, Write, Reset}
 use Rattle.tube_chip.specs.declared.Answer.{Answer}
 use Rattle.tube_chip.specs.declared.Answer.TheVariants.{Byte, Seen}
 use Rattle.tube_chip.specs.State.{State, power_on}
@@ -190,6 +190,7 @@ of_both_sides list keep host para all law rises is_host is_para merged =
 answers_0 : (c : State) (side : Side) (op : Op) (b : ℕ) → (act c side (access op)).1 ≡ Byte b → IsAnswer op b
 answers_0 c side (Read number) b is = tt
 answers_0 c side (Write number byte) b is = cc
+answers_0 c side Reset b is = cc
 
 all_lines : (c : State) (n : ℕ) (xs : List Entry) → n ≤ 1073741824 → All IsEntry xs → All (λ (x : Entry). (x.tick).0 < n) xs → IsAnsweredFrom c (events_of xs) → All HasLine xs
 all_lines c n [] most may below answered = All-nil HasLine
