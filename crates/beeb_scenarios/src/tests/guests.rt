@@ -39,7 +39,7 @@ impl BusDevice for Counter {
     }
 
     fn spill(&self, to: &mut Vec<u8>) -> Result<(), NoMemory> {
-        Ok(to.push(self.accesses)?)
+        Ok(to.extend_from_slice(&[self.accesses])?)
     }
 }
 
