@@ -4,7 +4,7 @@ use Rattle.std.specs.Prelude.{nat_le, unwrap_or, Option, Some, None, if◌then�
 use Rattle.std.proofs.lemmas.Bool.{cases_eq, eq-eqb, ne_eqb}
 use Rattle.key_script.specs.declared.Event.{Event}
 use Rattle.key_script.specs.declared.What.{What}
-use Rattle.key_script.specs.declared.What.TheVariants.{Down, Up, Shot}
+use Rattle.key_script.specs.declared.What.TheVariants.{Down, Up, Shot, Break}
 use Rattle.key_script.specs.Events.{tick_of}
 use Rattle.key_script.specs.Keys.{made_of, made_by, or_earlier, last_made}
 use Rattle.keyboard.specs.Keys.{Keys, no_key}
@@ -21,6 +21,7 @@ one_key : (what : What) (key : ℕ) (keys : Keys) → typed what keys key ≡ un
 one_key (Down k) key keys = set_one k key true (keys key)
 one_key (Up k) key keys = set_one k key false (keys key)
 one_key Shot key keys = refl
+one_key Break key keys = refl
 
 -- an event that has come, or not
 come : (is : Bool) (what : What) (key : ℕ) (keys : Keys) →

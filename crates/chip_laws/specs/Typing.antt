@@ -2,7 +2,7 @@
 use Rattle.std.specs.Prelude.{ℕ, ◌≡◌, nat_le, true, false, List, [], ◌∷◌, if◌then◌else◌}
 use Rattle.key_script.specs.declared.Event.{Event}
 use Rattle.key_script.specs.declared.What.{What}
-use Rattle.key_script.specs.declared.What.TheVariants.{Down, Up, Shot}
+use Rattle.key_script.specs.declared.What.TheVariants.{Down, Up, Shot, Break}
 use Rattle.key_script.specs.Events.{tick_of}
 use Rattle.key_script.specs.Keys.{is_down}
 use Rattle.keyboard.specs.Keys.{Keys, no_key, with_key}
@@ -12,6 +12,7 @@ abbrev pub typed : What → Keys → Keys
 typed (Down key) keys = with_key key true keys
 typed (Up key) keys = with_key key false keys
 typed Shot keys = keys
+typed Break keys = keys
 
 -- the keys after those events of a script that have come by tick t, one after the other
 abbrev pub typed_by : ℕ → List Event → Keys → Keys

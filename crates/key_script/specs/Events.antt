@@ -2,7 +2,7 @@
 use Rattle.std.specs.Prelude.{ℕ, ◌≤◌, ◌<◌, Bool, true, false, List, [], ◌∷◌, All, count_by}
 use Rattle.key_script.specs.declared.Event.{Event}
 use Rattle.key_script.specs.declared.What.{What}
-use Rattle.key_script.specs.declared.What.TheVariants.{Down, Up, Shot}
+use Rattle.key_script.specs.declared.What.TheVariants.{Down, Up, Shot, Break}
 
 abbrev pub tick_of : Event → ℕ
 tick_of e = (e.tick).0
@@ -11,6 +11,7 @@ abbrev pub takes_frame : What → Bool
 takes_frame Shot = true
 takes_frame (Down key) = false
 takes_frame (Up key) = false
+takes_frame Break = false
 
 abbrev pub is_shot : Event → Bool
 is_shot e = takes_frame e.what
@@ -38,6 +39,7 @@ abbrev pub IsKeyed : What → Type 0
 IsKeyed (Down key) = key < 128
 IsKeyed (Up key) = key < 128
 IsKeyed Shot = Unit {0}
+IsKeyed Break = Unit {0}
 
 -- an event by itself: its tick is at most the longest run's, and its key is one
 pub record IsEvent (e : Event) : Type 0 where

@@ -1,8 +1,9 @@
--- What a key script makes of the keys.
+-- What a key script makes of the keys. BREAK is not one of the keyboard's matrix: it goes to the reset line. (Acorn, BBC Microcomputer Advanced
+-- User Guide.)
 use Rattle.std.specs.Prelude.{ℕ, ◌==◌, nat_le, Bool, true, false, List, [], ◌∷◌, Option, Some, None, unwrap_or, if◌then◌else◌}
 use Rattle.key_script.specs.declared.Event.{Event}
 use Rattle.key_script.specs.declared.What.{What}
-use Rattle.key_script.specs.declared.What.TheVariants.{Down, Up, Shot}
+use Rattle.key_script.specs.declared.What.TheVariants.{Down, Up, Shot, Break}
 use Rattle.key_script.specs.Events.{tick_of}
 
 -- what an event makes of a key, if it is of that key
@@ -10,6 +11,7 @@ abbrev pub made_of : ℕ → What → Option Bool
 made_of key (Down k) = if k == key then Some true else None
 made_of key (Up k) = if k == key then Some false else None
 made_of key Shot = None
+made_of key Break = None
 
 -- the same of one with a tick at most t
 abbrev pub made_by : ℕ → ℕ → Event → Option Bool

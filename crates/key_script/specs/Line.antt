@@ -1,5 +1,5 @@
--- One line of a key script: `at T down KK`, `at T up KK` or `at T shot`, with T in decimal, without leading zeros and at most 1073741824, and KK
--- in two upper-case hexadecimal digits from 00 to 7F. (This project's own format.)
+-- One line of a key script: `at T down KK`, `at T up KK`, `at T shot` or `at T break`, with T in decimal, without leading zeros and at most
+-- 1073741824, and KK in two upper-case hexadecimal digits from 00 to 7F. (This project's own format.)
 use Rattle.std.specs.Prelude.{ℕ, ◌==◌, ◌&&◌, nat_lt, List, [], ◌∷◌, length, Option, Some, None, option_map, codes, if◌then◌else◌}
 use Rattle.std.specs.List.{list_all}
 use Rattle.std.specs.Str.{bytes_eq}
@@ -7,16 +7,19 @@ use Rattle.digits.specs.Decimal.{decimal_number}
 use Rattle.digits.specs.Hexadecimal.{is_hex, hex_number}
 use Rattle.key_script.specs.declared.Event.{Event}
 use Rattle.key_script.specs.declared.What.{What}
-use Rattle.key_script.specs.declared.What.TheVariants.{Down, Up, Shot}
+use Rattle.key_script.specs.declared.What.TheVariants.{Down, Up, Shot, Break}
 use Rattle.key_script.specs.Lines.{words_of}
 
 -- the number of a key: two digits, below 80 hexadecimal
 abbrev pub key_of : List ℕ → Option ℕ
 key_of word = if length word == 2 && list_all is_hex word && nat_lt (hex_number word) 128 then Some (hex_number word) else None
 
--- `shot`
+-- `shot` or `break`
 abbrev pub what_alone : List ℕ → Option What
-what_alone word = if bytes_eq word (codes "shot") then Some Shot else None
+what_alone word =
+    if bytes_eq word (codes "shot") then Some Shot
+    else if bytes_eq word (codes "break") then Some Break
+    else None
 
 -- `down` or `up` of a key
 abbrev pub what_with : List ℕ → List ℕ → Option What

@@ -1,4 +1,4 @@
-//! The text of a key script: which keys are put down and up at which ticks, and when a frame is taken.
+//! The text of a key script: which keys are put down and up at which ticks, when BREAK is pressed, and when a frame is taken.
 #![tactic(auto)]
 
 mod line;
@@ -19,6 +19,8 @@ pub enum What {
     Up(u8),
     /// The last finished frame is taken.
     Shot,
+    /// The BREAK key is pressed. It resets the machine and is no key of the keyboard's matrix, so it has no number.
+    Break,
 }
 
 /// One line of a script.

@@ -53,6 +53,8 @@ fn what_alone(word: &[u8]) -> Option<What>
 {
     if is_word(word, b"shot") {
         Some(What::Shot)
+    } else if is_word(word, b"break") {
+        Some(What::Break)
     } else {
         None
     }

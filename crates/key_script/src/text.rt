@@ -43,8 +43,8 @@ fn fault(line: u64, last: Tick, shots: usize, event: Event) -> Option<ScriptErro
     }
 }
 
-/// The script of a text. Each line is `at T down KK`, `at T up KK` or `at T shot` and a line feed: T is the tick in decimal, without
-/// leading zeros and at most 1,073,741,824, and KK the number of a key in two upper-case hexadecimal digits from 00 to 7F. T never
+/// The script of a text. Each line is `at T down KK`, `at T up KK`, `at T shot` or `at T break` and a line feed: T is the tick in decimal,
+/// without leading zeros and at most 1,073,741,824, and KK the number of a key in two upper-case hexadecimal digits from 00 to 7F. T never
 /// falls from line to line, and there are at most 256 shots.
 ///
 /// # Errors

@@ -36,12 +36,13 @@ fn count(outcome: Result<Script, ScriptError>) -> Result<usize, ScriptError> {
 fn a_line_tells_of_one_event(rt: HostRuntime) -> Result<(), Fail> {
     let script = read(
         rt.alloc(),
-        b"at 60 down 41\nat 60 up 00\nat 72 shot\nat 1073741824 down 7F\n",
+        b"at 60 down 41\nat 60 up 00\nat 72 shot\nat 75 break\nat 1073741824 down 7F\n",
     )?;
     let want = [
         event(60, What::Down(0x41)),
         event(60, What::Up(0)),
         event(72, What::Shot),
+        event(75, What::Break),
         event(1_073_741_824, What::Down(0x7f)),
     ];
     assert_eq!(rt; script.events().len(), want.len());
@@ -62,6 +63,9 @@ const TEXTS: &str = "\
 events 0@
 events 1@at 0 shot|
 events 2@at 60 shot|at 60 shot|
+events 1@at 60 break|
+events 3@at 60 break|at 60 break|at 60 break|
+order 2@at 60 break|at 59 break|
 order 2@at 60 shot|at 59 shot|
 # A bad line before the order is broken, behind it, and on the line that breaks it.
 bad 1@x|at 60 shot|at 59 shot|
@@ -94,6 +98,11 @@ bad 1@at\t60 shot|
 bad 1@At 60 shot|
 bad 1@at 60 Shot|
 bad 1@at 60 shot 41|
+bad 1@at 5 break 00|
+bad 1@at 5 Break|
+bad 1@at 5 break |
+bad 1@at 5 breaks|
+bad 1@break|
 bad 1@at 60 down|
 bad 1@at 60 down 41 41|
 # The key.
@@ -139,6 +148,8 @@ fn a_script_has_at_most_256_shots(rt: HostRuntime) -> Result<(), Fail> {
     let rows = [
         (256, "", Ok(256)),
         (256, "at 7 down 41\n", Ok(257)),
+        // A break is no shot.
+        (256, "at 7 break\nat 8 break\n", Ok(258)),
         (
             256,
             "at 8 shot\n",
@@ -160,7 +171,7 @@ fn a_script_has_at_most_256_shots(rt: HostRuntime) -> Result<(), Fail> {
 fn a_key_is_as_its_last_event_makes_it(rt: HostRuntime) -> Result<(), Fail> {
     let script = read(
         rt.alloc(),
-        b"at 10 down 41\nat 20 up 41\nat 20 down 42\nat 30 down 41\nat 30 up 41\nat 40 shot\n",
+        b"at 10 down 41\nat 20 up 41\nat 20 down 42\nat 25 break\nat 30 down 41\nat 30 up 41\nat 40 shot\n",
     )?;
     let rows = [
         (0x41, 9, false),
