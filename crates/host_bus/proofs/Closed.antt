@@ -55,6 +55,7 @@ sound-later b t h low high = record {
   slot = h.slot;
   played = played-later b.playback b.closed t h.played low (omega (arith, h.on_time.least, high));
   on_time = still-on-time (micro b.clock) b.closed b.playback.event b.next t h.on_time low high;
+  next_break = h.next_break;
 }
 
 pub seen-later : (b : Inside) (t : ℕ) → IsSound b → b.closed ≤ t → t ≤ b.next → board_seen (record b { closed = t }) ≡ board_closed (board_seen b) t

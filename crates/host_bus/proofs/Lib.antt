@@ -4,3 +4,4 @@ pub mod Beats
 pub mod Places
 pub mod Played
 pub mod Closed
+pub mod Pressed

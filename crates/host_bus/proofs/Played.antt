@@ -7,7 +7,7 @@ use Rattle.std.specs.Prelude.{unwrap_or}
 use Rattle.keyboard.specs.Keys.{Keys}
 use Rattle.key_script.specs.declared.Event.{Event}
 use Rattle.key_script.specs.declared.What.{What}
-use Rattle.key_script.specs.declared.What.TheVariants.{Down, Up, Shot}
+use Rattle.key_script.specs.declared.What.TheVariants.{Down, Up, Shot, Break}
 use Rattle.key_script.specs.Events.{tick_of, is_shot, shots, NeverFallsFrom}
 use Rattle.key_script.specs.Keys.{made_of, made_by, or_earlier, last_made}
 use Rattle.host_bus.specs.Devices.{keys_at}
@@ -49,6 +49,7 @@ made-or key (Up k) keys = up-by (k == key) refl
     up-by true e = sym (ap (λ (x : Bool). if x then false else keys key) (flip key k ∙ e))
     up-by false e = sym (ap (λ (x : Bool). if x then false else keys key) (flip key k ∙ e))
 made-or key Shot keys = refl
+made-or key Break keys = refl
 
 or-both : (a b : Option Bool) (d : Bool) → unwrap_or (or_earlier a b) d ≡ unwrap_or a (unwrap_or b d)
 or-both (Some down) b d = refl

@@ -1,5 +1,5 @@
 -- The board of the host: memory, devices and script, its clock, and its accesses but for those of the plugged devices.
-use Rattle.std.specs.Prelude.{ℕ, zero, suc, ◌+◌, ◌-◌, ◌%◌, ◌==◌, max, Bool, List, [], Option, slice_index, slice_set, if◌then◌else◌}
+use Rattle.std.specs.Prelude.{ℕ, zero, suc, ◌+◌, ◌-◌, ◌%◌, ◌==◌, max, nat_lt, Bool, List, [], Option, slice_index, slice_set, if◌then◌else◌}
 use Rattle.beeb_bits.specs.declared.clock.Clock.{Clock}
 use Rattle.beeb_bits.specs.Clock.{micro}
 use Rattle.beeb_bits.specs.Zeros.{zeros}
@@ -10,7 +10,8 @@ use Rattle.key_script.specs.declared.Event.{Event}
 use Rattle.host_bus.specs.declared.map.Place.{Place}
 use Rattle.host_bus.specs.declared.map.Place.TheVariants.{Ram, PagedRom, OsRom, Plugs, Crtc, Acia, SerialUla, VideoUla, RomLatch, SystemVia, UserVia, DiscLatch, DiscController, Absent, Adc, Tube}
 use Rattle.host_bus.specs.Shots.{shot_at}
-use Rattle.host_bus.specs.Devices.{Devices, keys_at, microsecond, last_frame, crtc_answer, crtc_written, ula_written, system_answer, system_read, system_written, user_answer, user_read, user_written, disc_latched, disc_answer, disc_read, disc_written, devices_ask, first_devices}
+use Rattle.host_bus.specs.Breaks.{breaks_until, break_number}
+use Rattle.host_bus.specs.Devices.{Devices, keys_at, microsecond, last_frame, crtc_answer, crtc_written, ula_written, system_answer, system_read, system_written, user_answer, user_read, user_written, disc_latched, disc_answer, disc_read, disc_written, devices_ask, devices_reset, first_devices}
 
 pub record BoardState : Type 0 where
   -- how long a tick is
@@ -21,6 +22,8 @@ pub record BoardState : Type 0 where
   pub latch : ℕ
   -- what is typed, and when
   pub script : List Event
+  -- how many of the script's breaks were taken
+  pub breaks : ℕ
   -- what ticks change: the devices, and the frames that shots took, the oldest first
   pub devices : Devices
   pub shots : List (List ℕ)
@@ -116,6 +119,18 @@ board_irq b = devices_ask b.devices
 abbrev pub board_nmis : BoardState → ℕ
 board_nmis b = b.devices.disc.nmis
 
+-- A break is pending at tick t where the script has a break with a tick of at most t that was not taken.
+abbrev pub break_pending : BoardState → ℕ → Bool
+break_pending b t = nat_lt b.breaks (breaks_until t b.script)
+
+-- the tick of the script's first break that was not taken, if there is one: ticks never fall
+abbrev pub next_break : BoardState → Option ℕ
+next_break b = break_number b.breaks b.script
+
+-- Every break up to tick t is taken. That resets the disc controller and the user's 6522, and nothing else on the board.
+abbrev pub break_taken : BoardState → ℕ → BoardState
+break_taken b t = record b { breaks = breaks_until t b.script; devices = devices_reset b.devices }
+
 -- 32,768 bytes 00
 abbrev pub clear_ram : List ℕ
 clear_ram = zeros 32768
@@ -128,6 +143,7 @@ first_board clock roms d0 d1 script = record {
   roms = roms;
   latch = 0;
   script = script;
+  breaks = 0;
   devices = first_devices d0 d1;
   shots = [];
   closed = 0;

@@ -5,6 +5,7 @@ use Rattle.host_bus.specs.declared.board.Board.TheInside.{Inside}
 use Rattle.host_bus.specs.Board.{BoardState}
 use Rattle.host_bus.specs.Shows.{Shows}
 use Rattle.host_bus.specs.OnTime.{IsPlayed, IsOnTime}
+use Rattle.host_bus.specs.NextBreak.{IsNextBreak, breaks_before}
 
 abbrev pub board_seen : Inside → BoardState
 board_seen b = record {
@@ -13,6 +14,7 @@ board_seen b = record {
   roms = b.roms;
   latch = b.latch;
   script = b.playback.script;
+  breaks = breaks_before b.breaks.place b.playback.script;
   devices = b.devices;
   shots = b.playback.shots.frames;
   closed = b.closed;
@@ -26,3 +28,4 @@ pub record IsSound (b : Inside) : Type 0 where
   pub slot : b.latch < 16
   pub played : IsPlayed b.playback b.closed
   pub on_time : IsOnTime (micro b.clock) b.closed b.playback.event b.next
+  pub next_break : IsNextBreak b.breaks b.playback.script

@@ -9,7 +9,7 @@ use Rattle.key_script.specs.declared.Event.{Event}
 use Rattle.host_bus.specs.declared.map.Place.{Place}
 use Rattle.host_bus.specs.declared.map.Place.TheVariants.{Plugs}
 use Rattle.host_bus.specs.Map.{place_of}
-use Rattle.host_bus.specs.Board.{BoardState, board_closed, answer_at, read_at, written_at, board_irq, board_nmis, first_board}
+use Rattle.host_bus.specs.Board.{BoardState, board_closed, answer_at, read_at, written_at, board_irq, board_nmis, break_pending, next_break, break_taken, first_board}
 use Rattle.host_bus.specs.Plugs.{plugs_answer, plugs_after_read, plugs_after_write}
 
 pub record BusState : Type 0 where
@@ -60,6 +60,17 @@ bus_irq b = board_irq b.board
 
 abbrev pub bus_nmis : BusState → ℕ
 bus_nmis b = board_nmis b.board
+
+-- Whether a break is pending at a tick, and the tick of the first that was not taken.
+abbrev pub bus_break_pending : BusState → ℕ → Bool
+bus_break_pending b t = break_pending b.board t
+
+abbrev pub bus_next_break : BusState → Option ℕ
+bus_next_break b = next_break b.board
+
+-- the bus after every break up to a tick was taken, which no plugged device sees
+abbrev pub bus_break_taken : BusState → ℕ → BusState
+bus_break_taken b t = record b { board = break_taken b.board t }
 
 -- the disc in a drive
 abbrev pub bus_disc : ℕ → BusState → Option Image

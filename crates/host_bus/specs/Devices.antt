@@ -117,6 +117,10 @@ user_read reg d = record d { user = read_leaves reg d.user }
 unfoldable pub user_written : ℕ → ℕ → Devices → Devices
 user_written reg v d = record d { user = write_leaves reg v d.user }
 
+-- BREAK is on the reset lines of the disc latch, which is then 00, and of the user's 6522. (Acorn, BBC Microcomputer Advanced User Guide.)
+unfoldable pub devices_reset : Devices → Devices
+devices_reset d = record d { disc = latch_leaves 0 d.disc; user = via.power_on }
+
 -- one of both 6522s asks for an interrupt
 unfoldable pub devices_ask : Devices → Bool
 devices_ask d = asks d.system || asks d.user

@@ -1,10 +1,12 @@
 pub mod Map
 pub mod Devices
 pub mod Shots
+pub mod Breaks
 pub mod Board
 pub mod Plugs
 pub mod Bus
 pub mod OnTime
+pub mod NextBreak
 pub mod Shows
 pub mod BoardView
 pub mod View

@@ -4,7 +4,7 @@ use Rattle.std.specs.Prelude.{ℕ, ◌≡◌, ◌≤◌, ◌<◌, ◌+◌, ◌%�
 use Rattle.keyboard.specs.Keys.{Keys, keys_of, with_key}
 use Rattle.key_script.specs.declared.Event.{Event}
 use Rattle.key_script.specs.declared.What.{What}
-use Rattle.key_script.specs.declared.What.TheVariants.{Down, Up, Shot}
+use Rattle.key_script.specs.declared.What.TheVariants.{Down, Up, Shot, Break}
 use Rattle.key_script.specs.Events.{NeverFallsFrom, shots}
 use Rattle.key_script.specs.Keys.{last_made, is_down}
 use Rattle.host_bus.specs.Shots.{shots_at}
@@ -15,6 +15,7 @@ abbrev pub key_turned : What → Keys → Keys
 key_turned (Down key) keys = with_key key true keys
 key_turned (Up key) keys = with_key key false keys
 key_turned Shot keys = keys
+key_turned Break keys = keys
 
 -- From tick t - 1 on the state of a key is what the rest of the script makes of it, or, where that has no event for it, what the table says.
 abbrev pub IsLeft : List Event → List Event → Keys → ℕ → Type 0

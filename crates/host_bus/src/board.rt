@@ -1,18 +1,19 @@
 //! The board: memory, and what answers beside it.
-ghost use Rattle.std.specs.Prelude.{◌≡◌, ◌≤◌, ◌<◌, ◌+◌, ◌%◌, ◌^◌, ◌==◌, ◌⊎◌, ℕ, length, IfOk, None, Some, MatchOption, slice_index, slice_set, if◌then◌else◌};
+ghost use Rattle.std.specs.Prelude.{◌≡◌, ◌≤◌, ◌<◌, ◌+◌, ◌%◌, ◌^◌, ◌==◌, ◌⊎◌, ℕ, true, false, unwrap_or, length, IfOk, None, Some, MatchOption, slice_index, slice_set, if◌then◌else◌};
 ghost use Rattle.keyboard.specs.Keys.{keys_of};
 ghost use Rattle.wd1770.specs.Select.{disc_of};
 ghost use Rattle.host_bus.specs.Map.{place_of};
 ghost use Rattle.host_bus.specs.Shots.{shot_at};
 ghost use Rattle.host_bus.specs.OnTime.{IsPlayed, IsOnTime};
 ghost use Rattle.host_bus.specs.Devices.{microsecond, last_frame};
-ghost use Rattle.host_bus.specs.Board.{board_closed, answer_at, read_at, written_at, board_irq, board_nmis, first_board, clear_ram};
+ghost use Rattle.host_bus.specs.Board.{board_closed, answer_at, read_at, written_at, board_irq, board_nmis, break_pending, break_taken, next_break, first_board, clear_ram};
 ghost use Rattle.host_bus.specs.Shows.{Covered, Shows};
 
+use crate::breaks::Breaks;
 use crate::devices::Devices;
 use crate::map::{Place, place_in_sheila};
 use crate::playback::Playback;
-use beeb_bits::{Clock, NoMemory, zeroed};
+use beeb_bits::{Clock, NoMemory, Tick, zeroed};
 use disc_image::Disc;
 use key_script::Script;
 use raster::Frame;
@@ -45,6 +46,7 @@ pub struct Board {
     latch: u8,
     devices: Devices,
     playback: Playback,
+    breaks: Breaks,
     closed: u64,
     // The tick of the next microsecond or event, whichever comes first.
     next: u64,
@@ -90,27 +92,27 @@ fn tick(
     playback: &mut Playback,
     ram: &[u8],
     roms: &RomSet,
-    micro: u64,
+    micro: &u64,
     k: u64,
 ) -> u64
     requires ram { length ram.now ≡ RAM_SIZE }
-    requires micro { (0 < micro) × (micro < 2 ^ 48) }
+    requires micro { (0 < micro.now) × (micro.now < 2 ^ 48) }
     requires room { k < 2 ^ 48 }
     requires played { IsPlayed playback.old k }
-    requires due { k < playback.old.event → k % micro ≡ 0 }
+    requires due { k < playback.old.event → k % micro.now ≡ 0 }
     ensures script { playback.new.script ≡ playback.old.script }
     ensures shots { let frame = last_frame devices.old in
         playback.new.shots.frames ≡ shot_at k playback.old.script frame playback.old.shots.frames }
     ensures played { IsPlayed playback.new (k + 1) }
     ensures devices { let after = microsecond ram.now roms.now.font (keys_of playback.new.keys) devices.old in
-        devices.new ≡ (if k % micro == 0 then after else devices.old) }
-    ensures next { IsOnTime micro (k + 1) playback.new.event result }
+        devices.new ≡ (if k % micro.now == 0 then after else devices.old) }
+    ensures next { IsOnTime micro.now (k + 1) playback.new.event result }
 {
     if k < playback.event {
         devices.step(ram, roms, &playback.keys);
-        (k + micro).min(playback.event)
+        (k + *micro).min(playback.event)
     } else {
-        tick_with_events(devices, playback, ram, roms, micro, k)
+        tick_with_events(devices, playback, ram, roms, *micro, k)
     }
 }
 
@@ -159,6 +161,7 @@ impl Board {
         let shown = first_shown(alloc, &roms)?;
         let devices = Devices::make(alloc, d0, d1)?;
         let playback = Playback::make(alloc, script)?;
+        let breaks = Breaks::new(playback.script.events());
         Ok(Board {
             clock,
             micro: clock.micro(),
@@ -168,6 +171,7 @@ impl Board {
             latch: 0,
             devices,
             playback,
+            breaks,
             closed: 0,
             next: 0,
         })
@@ -203,7 +207,7 @@ impl Board {
                 &mut self.playback,
                 &self.ram,
                 &self.roms,
-                self.micro,
+                &self.micro,
                 next,
             );
         }
@@ -305,6 +309,34 @@ impl Board {
         ensures { result ≡ board_nmis self.now }
     {
         self.devices.nmis()
+    }
+
+    /// The tick of the first break that was not taken, or the last number where none is left: before it none is pending, and from it on one is.
+    #[inline(always)]
+    pub fn break_tick(&self) -> u64
+        ensures value { result ≡ unwrap_or (next_break self.now) 18446744073709551615 }
+        ensures none { (t : ℕ) → t < result → break_pending self.now t ≡ false }
+        ensures some { (t : ℕ) → result ≤ t → t < 2 ^ 63 → break_pending self.now t ≡ true }
+    {
+        self.breaks.next
+    }
+
+    /// The tick of the first break that was not taken.
+    pub fn next_break(&self) -> Option<Tick>
+        ensures { let next = next_break self.now in
+            MatchOption result (next ≡ None) (λ t. next ≡ Some t.0) }
+    {
+        self.breaks.next_tick(self.playback.script.events())
+    }
+
+    /// Takes every break up to tick `t`, of which one is pending. It takes no memory.
+    pub fn take_break(&mut self, t: u64)
+        requires pending { break_pending self.old t ≡ true }
+        requires room { t < 2 ^ 63 }
+        ensures { self.new ≡ break_taken self.old t }
+    {
+        self.breaks.take(self.playback.script.events(), t);
+        self.devices.reset();
     }
 
     /// The disc in a drive.

@@ -1,7 +1,7 @@
 //! The bus.
-ghost use Rattle.std.specs.Prelude.{◌≡◌, ◌≤◌, ◌<◌, ◌+◌, ◌^◌, ◌⊎◌, ℕ, IfOk, None, Some, MatchOption, map};
+ghost use Rattle.std.specs.Prelude.{◌≡◌, ◌≤◌, ◌<◌, ◌+◌, ◌^◌, ◌⊎◌, ℕ, true, false, unwrap_or, IfOk, None, Some, MatchOption, map};
 ghost use Rattle.host_bus.specs.Map.{stretch};
-ghost use Rattle.host_bus.specs.Bus.{bus_closed, closed_at, clock_of, bus_answer, bus_after_read, bus_after_write, bus_irq, bus_nmis, bus_disc, bus_power_on};
+ghost use Rattle.host_bus.specs.Bus.{bus_closed, closed_at, clock_of, bus_answer, bus_after_read, bus_after_write, bus_irq, bus_nmis, bus_break_pending, bus_next_break, bus_break_taken, bus_disc, bus_power_on};
 ghost use Rattle.host_bus.specs.View.{bus_seen};
 
 use crate::board::Board;
@@ -180,6 +180,49 @@ impl<D: BusDevice> Bus<D> {
         ensures { result ≡ bus_nmis (bus_seen D.plug self.now) }
     {
         self.board.nmis()
+    }
+
+    /// Whether a break is pending at tick `t`: the script has one with a tick of at most `t` that was not taken.
+    #[inline(always)]
+    pub fn break_pending(&self, t: Tick) -> bool
+        requires later { closed_at (bus_seen D.plug self.now) ≤ t.0 + 1 }
+        requires room { t.0 < 2 ^ 40 }
+        ensures { result ≡ bus_break_pending (bus_seen D.plug self.now) t.0 }
+    {
+        self.break_tick() <= t.0
+    }
+
+    /// Takes every break that is pending at tick `t`: first the devices are closed at `t` + 1, then the disc latch becomes 00 and the user's
+    /// 6522 as it is at power-on. One is pending. It takes no memory.
+    pub fn take_break(&mut self, t: Tick)
+        requires later { closed_at (bus_seen D.plug self.old) ≤ t.0 + 1 }
+        requires room { t.0 < 2 ^ 40 }
+        requires pending { bus_break_pending (bus_seen D.plug self.old) t.0 ≡ true }
+        ensures after { let closed = bus_closed (bus_seen D.plug self.old) (t.0 + 1) in
+            bus_seen D.plug self.new ≡ bus_break_taken closed t.0 }
+        ensures closed { closed_at (bus_seen D.plug self.new) ≡ t.0 + 1 }
+    {
+        self.close(t.0 + 1);
+        self.board.take_break(t.0);
+    }
+
+    /// The tick of the script's first break that was not taken. None where none is left.
+    pub fn next_break(&self) -> Option<Tick>
+        ensures { let next = bus_next_break (bus_seen D.plug self.now) in
+            MatchOption result (next ≡ None) (λ t. next ≡ Some t.0) }
+    {
+        self.board.next_break()
+    }
+
+    /// The tick of the script's first break that was not taken, or the last number where none is left: before it none is pending, and from it on
+    /// one is.
+    #[inline(always)]
+    pub fn break_tick(&self) -> u64
+        ensures value { result ≡ unwrap_or (bus_next_break (bus_seen D.plug self.now)) 18446744073709551615 }
+        ensures none { (t : ℕ) → t < result → bus_break_pending (bus_seen D.plug self.now) t ≡ false }
+        ensures some { (t : ℕ) → result ≤ t → t < 2 ^ 63 → bus_break_pending (bus_seen D.plug self.now) t ≡ true }
+    {
+        self.board.break_tick()
     }
 
     /// Closes the bus at `n`, or leaves it closed as far as it is.

@@ -3,7 +3,7 @@ ghost use Rattle.std.specs.Prelude.{◌≡◌, ◌≤◌, ◌<◌, ◌+◌, ◌%
 ghost use Rattle.raster.specs.Clock.{vsync_of};
 ghost use Rattle.wd1770.specs.Select.{disc_of};
 ghost use Rattle.keyboard.specs.Keys.{keys_of};
-ghost use Rattle.host_bus.specs.Devices.{system_pins, pictured, microsecond, last_frame, crtc_answer, crtc_written, ula_written, system_answer, system_read, system_written, latched, user_answer, user_read, user_written, disc_latched, disc_answer, disc_read, disc_written, devices_ask, first_devices};
+ghost use Rattle.host_bus.specs.Devices.{system_pins, pictured, microsecond, last_frame, crtc_answer, crtc_written, ula_written, system_answer, system_read, system_written, latched, user_answer, user_read, user_written, disc_latched, disc_answer, disc_read, disc_written, devices_ask, devices_reset, first_devices};
 
 use beeb_bits::NoMemory;
 use disc_image::Disc;
@@ -248,6 +248,15 @@ impl Devices {
         ensures { self.new ≡ disc_written reg v self.old }
     {
         self.disc.write(reg, v);
+    }
+
+    /// BREAK: 00 is written to the disc latch, and the user's 6522 is as at power-on.
+    #[tactic(auto, unfolding(crate::specs::Devices::devices_reset))]
+    pub(crate) fn reset(&mut self)
+        ensures { self.new ≡ devices_reset self.old }
+    {
+        self.disc.latch(0);
+        self.user = Via::new();
     }
 
     /// The disc in a drive.

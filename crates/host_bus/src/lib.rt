@@ -2,6 +2,7 @@
 #![tactic(auto)]
 
 mod board;
+mod breaks;
 mod bus;
 mod devices;
 mod map;

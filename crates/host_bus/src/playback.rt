@@ -36,6 +36,7 @@ fn turn(keys: &mut Keys, taken: &mut Shots, frame: &Frame, event: Event)
         What::Down(key) => keys.set(key, true),
         What::Up(key) => keys.set(key, false),
         What::Shot => taken.take(frame),
+        What::Break => {}
     }
 }
 

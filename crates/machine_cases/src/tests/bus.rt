@@ -78,7 +78,7 @@ fn bus_with(alloc: Global, clock: Clock, script: &str) -> Result<Bus, Fail> {
 }
 
 // What is done to the bus at a tick: a write, a read with its answer, a look with the level of the interrupt line, one with the count of the
-// NMI line's rises, or one at a drive with the length of its disc.
+// NMI line's rises, one at a drive with the length of its disc, one with the tick of the next break, one whether a break is pending, or a break.
 #[derive(Clone, Copy)]
 enum Act {
     Write(u16, u8),
@@ -86,9 +86,12 @@ enum Act {
     Look(bool),
     Rises(u64),
     Disc(u8, Option<usize>),
+    Next(Option<Tick>),
+    Due(bool),
+    Break,
 }
 
-use Act::{Disc as DiscOf, Look, Read, Rises, Write};
+use Act::{Break, Disc as DiscOf, Due, Look, Next, Read, Rises, Write};
 
 fn address(digits: &str) -> Option<u16> {
     u16::from_str_radix(digits, 16).ok()
@@ -111,9 +114,15 @@ fn act_of(word: &str) -> Option<Act> {
     if let Some((_, count)) = word.split_once('+') {
         return Some(Rises(count.parse().ok()?));
     }
+    if let Some((_, tick)) = word.split_once('~') {
+        return Some(Next(tick.parse().ok().map(Tick)));
+    }
     match word {
         "irq" => Some(Look(true)),
         "calm" => Some(Look(false)),
+        "due" => Some(Due(true)),
+        "idle" => Some(Due(false)),
+        "break" => Some(Break),
         _ => None,
     }
 }
@@ -133,6 +142,15 @@ fn is_right<D: BusDevice>(bus: &mut Bus<D>, t: u64, act: Act) -> bool {
         Look(want) => bus.irq(Tick(t)) == want,
         Rises(want) => bus.nmis(Tick(t)) == want,
         DiscOf(drive, want) => bus.disc(drive).map(|disc| disc.bytes().len()) == want,
+        Next(want) => bus.next_break() == want,
+        Due(want) => bus.break_pending(Tick(t)) == want,
+        Break => {
+            let is_due = bus.break_pending(Tick(t));
+            if is_due {
+                bus.take_break(Tick(t));
+            }
+            is_due
+        }
     }
 }
 
@@ -557,5 +575,26 @@ const DISCS: &str = "\
 fn the_disc_controller_goes_by_the_bus(rt: HostRuntime) -> Result<(), Fail> {
     let before = "2:FE80=29 2:FE85=00 2:FE86=01 2:FE84=80";
     assert_eq!(rt; first_wrong(rt.alloc(), before, DISCS)?, None);
+    Ok(())
+}
+
+const BREAKS: &str = "\
+# One is pending from its tick on until it is taken.
+at 60 break;|0:~60 59:idle 60:due 75:due 75:~60 75:break 75:idle 75:~none 1000:idle
+at 59 down 41;at 60 break;at 61 shot;|59:idle 60:due 60:break 60:idle 61:~none
+|0:~none 1000:idle
+# Two at one tick are taken at once, and so are all that are pending.
+at 60 break;at 60 break;|60:break 60:idle 60:~none 61:idle
+at 60 break;at 70 break;at 80 break;|60:break 60:~70 69:idle 70:due 90:due 90:break 90:~none 90:idle
+at 60 break;at 70 break;at 80 break;|79:break 79:~80 79:idle 80:due
+# RAM, the ROM latch and the system's 6522 stay, and the user's is as at power-on.
+at 60 break;|0:1234=A5 0:FE30=05 0:FE4B=40 0:FE4E=A0 0:FE6B=40 0:FE6E=A0 60:break 61:1234?A5 62:8000?23 63:FE4B?40 64:FE4E?A0 65:FE6B?00 66:FE6E?80
+# The disc latch is 00: the controller then takes no command.
+at 60 break;|0:FE80=29 50:FE84=D8 50:+1 60:break 61:FE84=D8 62:+1 63:FE80=29 64:FE84=D8 64:+2
+";
+
+#[test]
+fn a_break_resets_the_disc_latch_and_the_users_6522(rt: HostRuntime) -> Result<(), Fail> {
+    assert_eq!(rt; first_wrong(rt.alloc(), "0:calm", BREAKS)?, None);
     Ok(())
 }

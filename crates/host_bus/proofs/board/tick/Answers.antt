@@ -12,4 +12,4 @@ returns-then-k-playback-clause-shots c =
 
 pub returns-then-k-playback-clause-next : goal.returns-then-k-playback-clause-next
 returns-then-k-playback-clause-next c =
-    next-one c.args.micro c.args.k c.args.playback.now.event c.min.result c.requires.micro.0 (c.requires.due c.if-k-playback.true) c.min.ensures
+    next-one c.args.micro.now c.args.k c.args.playback.now.event c.min.result c.requires.micro.0 (c.requires.due c.if-k-playback.true) c.min.ensures

@@ -1,4 +1,4 @@
-use Rattle.std.proofs.Common.{◌≡◌, ◌≤◌, ◌+◌, ◌∙◌, ap, subst, drop, min, List, arith}
+use Rattle.std.proofs.Common.{◌≡◌, ◌≤◌, ◌+◌, ◌∙◌, sym, ap, subst, drop, min, List, arith}
 use Rattle.beeb_bits.specs.Clock.{micro}
 use Rattle.keyboard.specs.Keys.{keys_of}
 use Rattle.key_script.specs.declared.Event.{Event}
@@ -6,6 +6,7 @@ use Rattle.host_bus.specs.Devices.{keys_at}
 use Rattle.host_bus.specs.Board.{BoardState, board_closed}
 use Rattle.host_bus.specs.BoardView.{board_seen}
 use Rattle.host_bus.specs.OnTime.{IsOnTime}
+use Rattle.host_bus.specs.NextBreak.{IsNextBreak, breaks_before}
 use Rattle.host_bus.proofs.Played.{HasNone, keys-are, played-later}
 use Rattle.host_bus.proofs.Closed.{quiet, sound-later, seen-later, still-on-time, ticked-on, caught}
 use Rattle.host_bus.proofs.board.Board.catch_up.Goals as goal
@@ -47,9 +48,10 @@ loop-next-preserved c =
         slot = sound.slot;
         played = played-later p (next + 1) u played past (omega (arith, high, on.least));
         on_time = still-on-time (micro b.clock) (next + 1) p.event c.tick-next.result u on past high;
+        next_break = subst (λ (script : List Event). IsNextBreak b.breaks script) (sym done.script) sound.next_break;
       };
       same = caught (board_seen b) (board_seen (record b { playback = p; devices = c.tick-next.new.devices; closed = u })) (board_closed c.args.self.now c.args.t) u c.args.t
-          (ap (λ (script : List Event). let s : BoardState = record (board_seen b) { script = script; devices = c.tick-next.new.devices; shots = p.shots.frames; closed = u } in s) done.script
+          (ap (λ (script : List Event). let s : BoardState = record (board_seen b) { script = script; breaks = breaks_before b.breaks.place script; devices = c.tick-next.new.devices; shots = p.shots.frames; closed = u } in s) done.script
           ∙ ticked-on (board_seen b) (keys_of p.keys) b.playback.event next p.event c.tick-next.result u c.tick-next.new.devices p.shots.frames sound.on_time none (omega arith) are done.devices done.shots on none_on past high)
           (omega arith) c.loop-next.invariant.same;
     }

@@ -1,7 +1,9 @@
 use Rattle.std.proofs.Common.{List, ℕ, sym, subst, arith}
 use Rattle.std.proofs.Math.Nat.{zero-mod}
 use Rattle.beeb_bits.specs.Clock.{micro}
+use Rattle.key_script.specs.declared.Event.{Event}
 use Rattle.host_bus.specs.Shows.{Shows}
+use Rattle.host_bus.specs.NextBreak.{IsNextBreak}
 use Rattle.host_bus.proofs.Beats.{some-micro}
 use Rattle.host_bus.proofs.board.Board.make.Goals as goal
 
@@ -14,4 +16,5 @@ invariant_of-result c = record {
   slot = omega arith;
   played = c.in_ok-playback.ensures.played;
   on_time = record { step = 0; begins = zero-mod (micro c.args.clock); first = omega arith; near = omega (arith, some-micro c.args.clock); least = omega arith };
+  next_break = subst (λ (script : List Event). IsNextBreak c.new-breaks.result script) c.events.ensures.events c.new-breaks.ensures.next;
 }
