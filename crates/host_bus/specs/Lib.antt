@@ -7,6 +7,7 @@ pub mod Plugs
 pub mod Bus
 pub mod OnTime
 pub mod NextBreak
+pub mod SameBreaks
 pub mod Shows
 pub mod BoardView
 pub mod View

@@ -1,6 +1,7 @@
 -- A halted host reads one address in every cycle.
-use Rattle.std.proofs.Common.{◌≡◌, ◌≤◌, ◌∙◌, refl, ap, ℕ, ◌+◌, ◌%◌, List, [], ◌∷◌, ◌++◌, length, Bool, true, false, cond, is_none, if◌then◌else◌, Option, Some, None}
-use Rattle.std.specs.Prelude.{slice_get}
+use Rattle.std.proofs.Common.{◌≡◌, ◌≤◌, ◌∙◌, refl, ap, subst, arith, ℕ, zero, suc, ◌+◌, ◌%◌, List, [], ◌∷◌, ◌++◌, length, Bool, true, false, cond, is_none, if◌then◌else◌, Option, Some, None}
+use Rattle.std.specs.Prelude.{slice_get, nat_le, max}
+use Rattle.std.proofs.lemmas.Bool.{leb-true, leb-false}
 use Rattle.op_table.specs.declared.names.Part.TheVariants.{Nmos}
 use Rattle.op_table.specs.declared.rows.Row.{Row}
 use Rattle.cpu_alu.specs.declared.Cycle.{Cycle}
@@ -12,11 +13,15 @@ use Rattle.cpu_core.specs.Accesses.{row_at, form_of}
 use Rattle.cpu_core.specs.Sequences.{accesses, halts, shown}
 use Rattle.cpu6502.specs.State as cpu
 use Rattle.cpu6502.specs.Sequences.{next, given, halted}
-use Rattle.tube_chip.specs.Act.{access}
+use Rattle.tube_chip.specs.Act.{Query, access}
 use Rattle.tube_chip.specs.declared.Op.TheVariants as op
-use Rattle.tube_party.specs.Quiet.{IsQuiet, quiet_for_good}
+use Rattle.tube_party.specs.Quiet.{IsQuiet, Silent, quiet_at_due}
+use Rattle.host_bus.specs.Bus.{bus_break_pending}
+use Rattle.host_bus.specs.SameBreaks.{read-leaves}
 use Rattle.host_mach.specs.State.{HostState}
-use Rattle.host_mach.specs.Step.{host_moves, is_tube, asks, asks_by, stepped, host_closed, next_state, byte_of}
+use Rattle.host_mach.specs.Lawful.{host_lawful}
+use Rattle.host_mach.proofs.UnderWay.{IsFree, no-break, plain-asks, plain-next}
+use Rattle.host_mach.specs.Step.{host_moves, is_tube, is_break, asks, asks_by, stepped, host_closed, next_state, byte_of}
 
 -- the opcode without an instruction is read again
 read_again : (o : Option Row) (r : Regs) (seen : List (Option ℕ)) → is_none o ≡ true → slice_get (form_of Nmos o r seen) 0 ≡ Some (Read r.pc)
@@ -35,23 +40,58 @@ halts_at (Some o ∷ []) Irq r h = cc
 halted_next : (c : cpu.State) → halted c ≡ true → next c ≡ Some (Read c.regs.pc)
 halted_next c h = halts_at c.seen c.sequence c.regs h
 
--- halted, and at an address that is not the Tube's
-abbrev IsIdle : HostState → Type 0
-IsIdle s = (halted s.cpu ≡ true) × (is_tube s.cpu.regs.pc ≡ false)
-
 stays : (c : cpu.State) (byte : ℕ) → halted c ≡ true → given c byte ≡ c
 stays c byte h = ap (λ (b : Bool). cond b c (record c { seen = c.seen ++ shown (next c) byte ∷ [] })) h
 
-idle_on : (s : HostState) → IsIdle s → (asks s ≡ None) × IsIdle (next_state s None)
-idle_on s idle =
-    let is : next s.cpu ≡ Some (Read s.cpu.regs.pc) = halted_next s.cpu idle.0 in
+-- halted, and at an address that is not the Tube's, and no break is pending below tick far
+record IsIdle (far : ℕ) (s : HostState) : Type 0 where
+  halts : halted s.cpu ≡ true
+  apart : is_tube s.cpu.regs.pc ≡ false
+  free : IsFree far s.bus
+
+-- its step is an access that asks nothing, or a break step
+idle_asks : (far : ℕ) (s : HostState) → IsIdle far s → asks_by (next s.cpu) ≡ None
+idle_asks far s idle =
+    ap asks_by (halted_next s.cpu idle.halts) ∙ ap (λ (b : Bool). if b then Some (access (op.Read (s.cpu.regs.pc % 8))) else None) idle.apart
+
+silent_by : (breaks : Bool) (o : Option Query) → (if breaks then Some (access op.Reset) else o) ≡ None → breaks ≡ false
+silent_by true o asked = cc
+silent_by false o asked = refl
+
+-- which leaves it so
+idle_on : (far : ℕ) (s : HostState) → IsIdle far s → asks s ≡ None → IsIdle far (next_state s None)
+idle_on far s idle none =
+    let is : next s.cpu ≡ Some (Read s.cpu.regs.pc) = halted_next s.cpu idle.halts in
     let x : HostState = host_closed s (s.due + 1) in
     let byte : ℕ = byte_of x.bus s.due None (Read s.cpu.regs.pc) in
-    let then_ : next_state s None ≡ stepped (Some (Read s.cpu.regs.pc)) x None = ap (λ (o : Option Cycle). stepped o x None) is in
-    let same : (next_state s None).cpu ≡ s.cpu = ap (λ (y : HostState). y.cpu) then_ ∙ stays s.cpu byte idle.0 in (
-      ap asks_by is ∙ ap (λ (b : Bool). if b then Some (access (op.Read (s.cpu.regs.pc % 8))) else None) idle.1,
-      (ap halted same ∙ idle.0, ap (λ (c : cpu.State). is_tube c.regs.pc) same ∙ idle.1),
-    )
+    let then_ : next_state s None ≡ stepped (Some (Read s.cpu.regs.pc)) x None =
+    plain-next s None (silent_by (is_break s) (asks_by (next s.cpu)) none) ∙ ap (λ (o : Option Cycle). stepped o x None) is in
+    let same : (next_state s None).cpu ≡ s.cpu = ap (λ (y : HostState). y.cpu) then_ ∙ stays s.cpu byte idle.halts in
+    record {
+      halts = ap halted same ∙ idle.halts;
+      apart = ap (λ (c : cpu.State). is_tube c.regs.pc) same ∙ idle.apart;
+      free = λ t low. ap (λ (y : HostState). bus_break_pending y.bus t) then_ ∙ read-leaves x.bus s.cpu.regs.pc t ∙ idle.free t low;
+    }
 
-pub idle_quiet : (s : HostState) (q : ℕ) → halted s.cpu ≡ true → is_tube s.cpu.regs.pc ≡ false → s.due ≤ q → IsQuiet host_moves s q
-idle_quiet s q is not_tube low = quiet_for_good host_moves IsIdle idle_on s q (is, not_tube) low
+-- So it asks nothing below that tick.
+idle_at : (far : ℕ) (s : HostState) (query : Query) → IsIdle far s → asks s ≡ Some query → far ≤ s.due
+idle_at far s query idle asked = by (nat_le far s.due) refl
+  where
+    by : (b : Bool) → nat_le far s.due ≡ b → far ≤ s.due
+    by true e = leb-true far s.due e
+    by false e =
+        let none : asks s ≡ None = plain-asks s (no-break s (idle.free s.due (leb-false far s.due e))) ∙ idle_asks far s idle in
+        absurd (cc)
+
+idle_first : (far k : ℕ) (s last : HostState) (query : Query) → IsIdle far s → Silent host_moves k s last → asks last ≡ Some query → far ≤ last.due
+idle_first far zero s last query idle same asked = subst (λ (x : HostState). far ≤ x.due) same (idle_at far s query idle (ap asks same ∙ asked))
+idle_first far (suc k) s last query idle silent asked = idle_first far k (next_state s None) last query (idle_on far s idle silent.0) silent.1 asked
+
+pub idle_quiet : (s : HostState) (far q : ℕ) → halted s.cpu ≡ true → is_tube s.cpu.regs.pc ≡ false → IsFree far s.bus → q ≡ max s.due far → IsQuiet host_moves s q
+idle_quiet s far q halts apart free is =
+    let idle : IsIdle far s = record { halts = halts; apart = apart; free = free } in
+    let here : IsQuiet host_moves s s.due = quiet_at_due host_moves s s.due host_lawful refl in
+    record {
+      due = omega (arith, is);
+      first = λ k last query silent asked. omega (arith, is, here.first k last query silent asked, idle_first far k s last query idle silent asked);
+    }

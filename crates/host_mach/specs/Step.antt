@@ -1,34 +1,45 @@
 -- One step of the host: an access to the bus at the first tick of a cycle, or a look at the lines at the last tick of the last cycle of an
 -- instruction, of a reset or of an interrupt. A cycle has as many ticks as the clock of the bus says, and a stretched access takes two or three
--- cycles. (Acorn, BBC Microcomputer Advanced User Guide, the 1 MHz bus; the ticks are this project's.)
+-- cycles. Where a break is pending, a break step comes in place of the look, and at the last tick of a cycle in which the processor stays
+-- halted. (Acorn, BBC Microcomputer Advanced User Guide, the 1 MHz bus and the BREAK key; the ticks, and what BREAK leaves, are this project's.)
 use Rattle.std.specs.Prelude.{ℕ, ◌+◌, ◌-◌, ◌*◌, ◌/◌, ◌%◌, ◌==◌, ◌&&◌, ◌||◌, min, nat_le, Bool, false, not, Option, Some, None, is_none, if◌then◌else◌}
 use Rattle.beeb_bits.specs.declared.clock.Clock.{Clock}
 use Rattle.beeb_bits.specs.Clock.{host}
 use Rattle.cpu_alu.specs.declared.Cycle.{Cycle}
 use Rattle.cpu_alu.specs.declared.Cycle.TheVariants.{Read, Write}
 use Rattle.cpu6502.specs.State as cpu
-use Rattle.cpu6502.specs.Sequences.{next, given, after, looked, fresh}
+use Rattle.cpu6502.specs.Sequences.{next, given, halted, after, looked, fresh}
+use Rattle.cpu_core.specs.declared.Sequence.TheVariants.{Reset}
 use Rattle.tube_chip.specs.declared.Op.TheVariants as op
 use Rattle.tube_chip.specs.declared.Answer.{Answer}
 use Rattle.tube_chip.specs.declared.Answer.TheVariants.{Byte, Seen}
 use Rattle.tube_chip.specs.Act.{Query, access, look}
 use Rattle.tube_party.specs.Moves.{Moves}
 use Rattle.host_bus.specs.Map.{stretch}
-use Rattle.host_bus.specs.Bus.{BusState, clock_of, bus_closed, closed_at, bus_answer, bus_after_read, bus_after_write, bus_irq, bus_nmis}
+use Rattle.host_bus.specs.Bus.{BusState, clock_of, bus_closed, closed_at, bus_answer, bus_after_read, bus_after_write, bus_irq, bus_nmis, bus_break_pending, bus_break_taken}
 use Rattle.host_mach.specs.State.{HostState}
 
 -- FEE0 to FEFF are the Tube, by their low three bits
 abbrev pub is_tube : ℕ → Bool
 is_tube at = nat_le 0xFEE0 at && nat_le at 0xFEFF
 
--- What a step asks of the Tube: where the sequence is over, a look.
+-- Cycle c begins at tick n c, where a cycle has n ticks: this is the last tick of one.
+abbrev pub is_last_tick : Clock → ℕ → Bool
+is_last_tick clock t = t % host clock == host clock - 1
+
+-- The step at the tick of a look, or at the last tick of a halted cycle, is a break step where a break is pending.
+abbrev pub is_break : HostState → Bool
+is_break s = bus_break_pending s.bus s.due && (is_none (next s.cpu) || (halted s.cpu && is_last_tick (clock_of s.bus) s.due))
+
+-- What any other step asks of the Tube: where the sequence is over, a look.
 abbrev pub asks_by : Option Cycle → Option Query
 asks_by None = Some look
 asks_by (Some (Read at)) = if is_tube at then Some (access (op.Read (at % 8))) else None
 asks_by (Some (Write at byte)) = if is_tube at then Some (access (op.Write (at % 8) byte)) else None
 
+-- A break step asks for the reset operation.
 abbrev pub asks : HostState → Option Query
-asks s = asks_by (next s.cpu)
+asks s = if is_break s then Some (access op.Reset) else asks_by (next s.cpu)
 
 -- the byte and the interrupt line of an answer
 abbrev pub byte_in : Option Answer → ℕ
@@ -55,19 +66,20 @@ abbrev pub address : Cycle → ℕ
 address (Read at) = at
 address (Write at byte) = at
 
--- How many ticks an access at tick t takes: a cycle for each that it is stretched to. With n ticks in a cycle, that with the number c begins at
--- tick n c.
+-- How many ticks an access at tick t takes: a cycle for each that it is stretched to.
 abbrev pub cycle_ticks : Clock → ℕ → Cycle → ℕ
 cycle_ticks clock t c = host clock * stretch (address c) (t / host clock)
 
--- after a cycle of so many ticks: its look is at the last of them, where it was the last of its sequence
-abbrev pub cycled : HostState → cpu.State → ℕ → HostState
-cycled s on n = record s { cpu = on; due = (if is_none (next on) then s.due + (n - 1) else s.due + n) }
+-- After a cycle of so many ticks: the next step is at the last of them where a look or a break step ends it, and else behind them.
+abbrev pub cycled : HostState → Bool → cpu.State → ℕ → HostState
+cycled s breaks on n = record s { cpu = on; due = (if breaks || is_none (next on) then s.due + (n - 1) else s.due + n) }
 
+-- An access. A processor that was halted before it has a break step at the end of the cycle where a break is pending there.
 abbrev pub accessed : HostState → Option Answer → Cycle → HostState
 accessed s answer c =
     let byte : ℕ = byte_of s.bus s.due answer c in
-    cycled (record s { bus = bus_after s.bus c }) (given s.cpu byte) (cycle_ticks (clock_of s.bus) s.due c)
+    let n : ℕ = cycle_ticks (clock_of s.bus) s.due c in
+    cycled (record s { bus = bus_after s.bus c }) (bus_break_pending s.bus (s.due + (n - 1)) && halted s.cpu) (given s.cpu byte) n
 
 -- A look: an NMI, where the count of its line's rises is not the one taken; else an IRQ by the lines of the bus and of the Tube, where the
 -- flag I is clear; else the next instruction.
@@ -78,6 +90,14 @@ looked_at s hirq = record s {
   due = s.due + 1;
 }
 
+-- A break step: the bus takes every pending break, the rises of the NMI line so far count as taken, and a reset begins, of the registers after
+-- the sequence that is over, or of those at the start of the opcode that halted the processor.
+abbrev pub broken : HostState → HostState
+broken s =
+    let bus : BusState = bus_break_taken s.bus s.due in
+    record s { cpu = fresh Reset (after s.cpu); bus = bus; nmis = bus_nmis bus; due = s.due + 1 }
+
+-- any step but a break step
 abbrev pub stepped : Option Cycle → HostState → Option Answer → HostState
 stepped None s answer = looked_at s (hirq_in answer)
 stepped (Some c) s answer = accessed s answer c
@@ -87,7 +107,9 @@ host_closed s t = record s { bus = bus_closed s.bus t }
 
 -- The step at tick t first closes the devices at t + 1, whatever it is.
 abbrev pub next_state : HostState → Option Answer → HostState
-next_state s answer = stepped (next s.cpu) (host_closed s (s.due + 1)) answer
+next_state s answer =
+    let closed : HostState = host_closed s (s.due + 1) in
+    if is_break s then broken closed else stepped (next s.cpu) closed answer
 
 -- The steps of the host. No state counts as closed past its next step.
 abbrev pub host_moves : Moves HostState

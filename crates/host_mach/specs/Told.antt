@@ -1,5 +1,5 @@
 -- What an access comes to: it is done, or the Tube is asked.
-use Rattle.std.specs.Prelude.{ℕ, ◌≡◌, ◌≤◌, ◌<◌, ◌+◌, ◌-◌, min, nat_lt, if◌then◌else◌, Option, Some, None, IsSome, MatchOption, Result, Ok, Err}
+use Rattle.std.specs.Prelude.{ℕ, ◌≡◌, ◌≤◌, ◌<◌, ◌+◌, ◌-◌, min, nat_lt, false, if◌then◌else◌, Option, Some, None, IsSome, MatchOption, Result, Ok, Err}
 use Rattle.beeb_bits.specs.Clock.{host}
 use Rattle.cpu_alu.specs.declared.Cycle.{Cycle}
 use Rattle.cpu6502.specs.State as cpu
@@ -8,7 +8,7 @@ use Rattle.tube_chip.specs.Act.{access}
 use Rattle.tube_chip.specs.declared.Answer.TheVariants.{Byte}
 use Rattle.tube_chip.specs.declared.Op.{Op}
 use Rattle.tube_party.specs.Moves.{FitsAnswer}
-use Rattle.host_bus.specs.Bus.{BusState, clock_of, bus_closed}
+use Rattle.host_bus.specs.Bus.{BusState, clock_of, bus_closed, bus_break_pending}
 use Rattle.host_mach.specs.declared.exchange.Done.{Done}
 use Rattle.host_mach.specs.declared.run.Stop.{Stop}
 use Rattle.host_mach.specs.declared.run.Stop.TheVariants.{Look, Access, End}
@@ -51,8 +51,8 @@ host_of c b n t = record { cpu = c; bus = b; nmis = n; due = t }
 abbrev pub owed_at : ℕ → ℕ → ℕ → ℕ → ℕ
 owed_at cycle since due closed = if nat_lt since due then due - (cycle - 1) else closed
 
--- where steps leave off: at a look that is not sure, or at an access that is none of the memory, or past the end
+-- where steps leave off: at a look that is not sure or a break, or at another step that is none of the memory's accesses, or past the end
 abbrev pub IsStop : ℕ → ℕ → Stop → HostState → Type 0
-IsStop until sure Look s = (next s.cpu ≡ None) × (min until sure ≤ s.due)
+IsStop until sure Look s = (next s.cpu ≡ None) × (bus_break_pending s.bus s.due ≡ false → min until sure ≤ s.due)
 IsStop until sure Access s = IsSome (next s.cpu) × (s.due < until)
 IsStop until sure End s = until ≤ s.due

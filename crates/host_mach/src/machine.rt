@@ -1,11 +1,11 @@
 //! The machine.
-ghost use Rattle.std.specs.Prelude.{◌≡◌, ◌≤◌, ◌<◌, ◌+◌, ◌^◌, ℕ, IfOk, IsSome, None, Some, MatchOption, false, map};
-ghost use Rattle.host_bus.specs.Bus.{bus_disc};
+ghost use Rattle.std.specs.Prelude.{◌≡◌, ◌≤◌, ◌<◌, ◌+◌, ◌^◌, ℕ, IfOk, IsSome, None, Some, MatchOption, true, false, map, min, unwrap_or, ◌-◌, ◌&&◌};
+ghost use Rattle.host_bus.specs.Bus.{bus_disc, bus_break_pending, bus_next_break};
 ghost use Rattle.tube_chip.specs.declared.Answer.TheVariants.{Byte, Seen};
 ghost use Rattle.tube_party.specs.Moves.{Looks, IsAsk, shut, shown};
-ghost use Rattle.cpu6502.specs.Sequences.{next, halted};
+ghost use Rattle.cpu6502.specs.Sequences.{next, given, halted};
 ghost use Rattle.host_mach.specs.State.{power_on};
-ghost use Rattle.host_mach.specs.Step.{host_moves, next_state};
+ghost use Rattle.host_mach.specs.Step.{host_moves, host_closed, next_state, is_last_tick, is_break, broken, cycled};
 
 use crate::exchange::{exchange, is_tube};
 use crate::run::{Stop, go_on, see};
@@ -22,7 +22,10 @@ use std::alloc::Global;
 use tube_chip::{Answer, Lines, Op};
 use tube_party::{Ask, MOST, NO_LINES, Party};
 
-/// The BBC Micro: a 6502 at 2 MHz and its bus, with the Tube at FEE0 to FEFF.
+/// The BBC Micro: a 6502 at 2 MHz and its bus, with the Tube at FEE0 to FEFF. The key BREAK, which the script presses, resets the processor, the
+/// user VIA, the disc controller, and by the Tube's reset the second processor. The system VIA and its latch, the picture, the ROM latch, the
+/// memory and the plugged devices stay as they are. It is heard at the end of an instruction, of a reset or of an interrupt, in place of an NMI
+/// or IRQ; a processor that an opcode has halted hears it at the end of any later cycle.
 #[derive(Drop)]
 pub struct HostMachine<D = Box<dyn BusDevice + Send>> {
     cpu: Cpu,
@@ -36,6 +39,14 @@ pub struct HostMachine<D = Box<dyn BusDevice + Send>> {
 
 // Where its plugged devices can, as boxed ones.
 impl<D: BusDevice + Send> Crosses for HostMachine<D> {}
+
+// Whether tick `t` is the last of a cycle.
+fn is_last_tick(clock: Clock, t: u64) -> bool
+    ensures { result ≡ is_last_tick clock t }
+{
+    let cycle = clock.host();
+    t % cycle == cycle - 1
+}
 
 impl<D: BusDevice> HostMachine<D> {
     ghost use Rattle.host_mach.specs.View.{host_seen};
@@ -71,7 +82,7 @@ impl<D: BusDevice> HostMachine<D> {
         self.cpu.at_start()
     }
 
-    /// Whether an opcode without an instruction has halted the processor.
+    /// Whether an opcode without an instruction has halted the processor, until a break.
     pub fn halted(&self) -> bool
         ensures { result ≡ halted (host_seen D.plug self.now).cpu }
     {
@@ -108,28 +119,66 @@ impl<D: BusDevice> HostMachine<D> {
         self.bus.plugs()
     }
 
-    // Any access of the next step, if it asks nothing; else what it asks. Kept out of the loop, whose frame has no room for it.
+    // The tick of the next break, or the end of the longest run.
+    fn next_break(&self) -> u64
+        ensures none { (t : ℕ) → t < result → bus_break_pending (host_seen D.plug self.now).bus t ≡ false }
+        ensures value { let next = bus_next_break (host_seen D.plug self.now).bus in
+            result ≡ min 1073741824 (unwrap_or next 1073741824) }
+    {
+        MOST.min(self.bus.break_tick())
+    }
+
+    // Whether the next step is a break step.
+    fn is_break(&self) -> bool
+        requires room { self.now.due < 2 ^ 40 }
+        ensures { result ≡ is_break (host_seen D.plug self.now) }
+    {
+        self.bus.break_pending(Tick(self.due))
+            && (self.cpu.last() || self.cpu.halted() && is_last_tick(self.bus.clock(), self.due))
+    }
+
+    // Ends the cycle of an access, of so many ticks, with the byte that was read. A processor that was halted before it has a break step at the
+    // last of them, where a break is pending there.
+    #[inline(always)]
+    fn end_cycle(&mut self, byte: u8, ticks: u64)
+        requires room { self.old.due < 2 ^ 40 - 2 ^ 8 }
+        requires some { 1 < ticks }
+        requires few { ticks < 2 ^ 8 }
+        requires goes_on { IsSome (next self.old.cpu) }
+        ensures { let old = host_seen D.plug self.old in
+            let breaks = bus_break_pending old.bus (old.due + (ticks - 1)) && halted old.cpu in
+            host_seen D.plug self.new ≡ cycled old breaks (given old.cpu byte) ticks }
+    {
+        let last_tick = self.due + (ticks - 1);
+        let breaks = self.bus.break_pending(Tick(last_tick)) && self.cpu.halted();
+        self.cpu.give(byte);
+        self.due = if breaks || self.cpu.last() {
+            last_tick
+        } else {
+            last_tick + 1
+        };
+    }
+
+    // The access of the next step, if it asks nothing; else what it asks. Kept out of the loop, whose frame has no room for it.
     #[inline(never)]
     fn access(&mut self) -> Option<Op>
-        requires room { self.old.due < 2 ^ 40 }
+        requires room { self.old.due < 2 ^ 32 }
         requires goes_on { IsSome (next self.old.cpu) }
         ensures done { IsDone (host_seen D.plug self.old) result (host_seen D.plug self.new) }
     {
+        if self.is_break() {
+            return Some(Op::Reset);
+        }
         match exchange(&mut self.bus, self.due, self.cpu.want()) {
             Ok(done) => {
-                self.cpu.give(done.byte);
-                self.due += if self.cpu.last() {
-                    done.ticks - 1
-                } else {
-                    done.ticks
-                };
+                self.end_cycle(done.byte, done.ticks);
                 None
             }
             Err(op) => Some(op),
         }
     }
 
-    // The look of the next step, or none where its tick is not below `until`.
+    // The look of the next step or the break in place of it, or none where its tick is not below `until`.
     #[inline(always)]
     fn look(&mut self, until: Tick) -> Ask
         requires room { until.0 < 2 ^ 40 }
@@ -137,6 +186,9 @@ impl<D: BusDevice> HostMachine<D> {
         ensures { IsAsk host_moves until.0 (host_seen D.plug self.old) result (host_seen D.plug self.new) }
     {
         if self.due < until.0 {
+            if self.is_break() {
+                return Ask::Access(Tick(self.due), Op::Reset);
+            }
             return Ask::Look(Tick(self.due));
         }
         self.shut(until);
@@ -152,23 +204,38 @@ impl<D: BusDevice> HostMachine<D> {
         self.bus.finish(until);
     }
 
+    // The break step, behind the Tube's reset.
+    #[inline(never)]
+    fn take_break(&mut self)
+        requires room { self.old.due < 2 ^ 40 }
+        requires asked { is_break (host_seen D.plug self.old) ≡ true }
+        ensures { let old = host_seen D.plug self.old in
+            host_seen D.plug self.new ≡ broken (host_closed old (old.due + 1)) }
+    {
+        self.bus.take_break(Tick(self.due));
+        self.nmis = self.bus.nmis_now();
+        self.cpu.begin_reset();
+        self.due += 1;
+    }
+
     // The Tube's answer to an access.
     #[inline(never)]
     fn take_byte(&mut self, byte: u8)
-        requires room { self.old.due < 2 ^ 40 }
+        requires room { self.old.due < 2 ^ 32 }
+        requires access { is_break (host_seen D.plug self.old) ≡ false }
         requires asked { IsAskedByte (host_seen D.plug self.old) }
         ensures { host_seen D.plug self.new ≡ next_state (host_seen D.plug self.old) (Some (Byte byte)) }
     {
         let cycle = self.bus.clock().host();
         self.bus.close(self.due + 1);
-        self.cpu.give(byte);
-        self.due += if self.cpu.last() { cycle - 1 } else { cycle };
+        self.end_cycle(byte, cycle);
     }
 
     // The Tube's lines at a look.
     #[inline(always)]
     fn take_lines(&mut self, lines: Lines)
         requires room { self.old.due < 2 ^ 40 }
+        requires look { is_break (host_seen D.plug self.old) ≡ false }
         requires over { next self.old.cpu ≡ None }
         ensures { host_seen D.plug self.new ≡ next_state (host_seen D.plug self.old) (Some (Seen lines)) }
     {
@@ -235,7 +302,7 @@ impl<D: BusDevice> Party for HostMachine<D> {
         ensures tick { result.0 ≡ quiet_of (host_seen D.plug self.now) }
     {
         if self.cpu.halted() && !is_tube(self.cpu.at_start().pc) {
-            Tick(self.due.max(MOST))
+            Tick(self.due.max(self.next_break()))
         } else {
             Tick(self.due)
         }
@@ -268,7 +335,13 @@ impl<D: BusDevice> Party for HostMachine<D> {
     #[inline(always)]
     fn answer(&mut self, answer: Answer) {
         match answer {
-            Answer::Byte(byte) => self.take_byte(byte),
+            Answer::Byte(byte) => {
+                if self.is_break() {
+                    self.take_break();
+                } else {
+                    self.take_byte(byte);
+                }
+            }
             Answer::Seen(lines) => self.take_lines(lines),
         }
     }

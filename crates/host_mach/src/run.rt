@@ -17,9 +17,9 @@ use tube_chip::Lines;
 /// Where the steps leave off.
 #[derive(Clone, Copy, Debug, PartialEq, Eq)]
 pub(crate) enum Stop {
-    /// At a look that is not below the end of the run, or not sure of its lines.
+    /// At a look that is not below the end of the run, or not sure of its lines, or at a break in place of it.
     Look,
-    /// At an access of something else than memory.
+    /// At an access of something else than memory, or one whose cycle could end at a break, or at that break.
     Access,
     /// At an access that is not below the end of the run.
     End,
@@ -58,7 +58,8 @@ fn catch_up<D: BusDevice>(bus: &mut Bus<D>, cycle: u64, caught_up: u64, due: u64
     }
 }
 
-/// Goes on from a step at tick `from`, and gives the tick of the step at which it leaves off.
+/// Goes on from a step at tick `from`, and gives the tick of the step at which it leaves off. It does no look at which a break is pending, and no
+/// access whose cycle could end at one.
 #[inline(always)]
 pub(crate) fn go_on<D: BusDevice>(
     cpu: &mut Cpu,
@@ -78,7 +79,9 @@ pub(crate) fn go_on<D: BusDevice>(
     ensures stops { IsStop until sure result.1 (host_of cpu.new (bus_seen D.plug bus.new) nmis.new result.0) }
 {
     let cycle = bus.clock().host();
-    let bound = until.min(sure);
+    let next_break = bus.break_tick();
+    let bound = until.min(sure).min(next_break);
+    let end = until.min(next_break.saturating_sub(cycle - 1));
     let mut due = from;
     if cpu.last() {
         if due >= bound {
@@ -89,7 +92,7 @@ pub(crate) fn go_on<D: BusDevice>(
     }
     // No access from this tick on has left device steps for later.
     let mut caught_up = due;
-    while due < until {
+    while due < end {
         match exchange_memory(bus, due, cpu.want()) {
             Some(byte) => {
                 cpu.give(byte);
@@ -112,5 +115,9 @@ pub(crate) fn go_on<D: BusDevice>(
         }
     }
     catch_up(bus, cycle, caught_up, due);
-    (due, Stop::End)
+    if due < until {
+        (due, Stop::Access)
+    } else {
+        (due, Stop::End)
+    }
 }

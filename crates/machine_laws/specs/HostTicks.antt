@@ -1,4 +1,5 @@
--- How long a sequence of the host takes: an instruction, a reset, an NMI or an IRQ, from its first access to the look behind its last one.
+-- How long a sequence of the host takes: an instruction, a reset, an NMI or an IRQ, from its first access to the look behind its last one, or to
+-- the break step in place of that look.
 -- (MCS6500 Hardware Manual, summary of single cycle execution; BBC Microcomputer Advanced User Guide, the 1 MHz bus.)
 use Rattle.std.specs.Prelude.{ℕ, ◌+◌, ◌*◌, ◌/◌, ◌%◌, ◌≡◌, ◌≤◌, ◌<◌, ◌==◌, false, List, [], ◌∷◌, ◌++◌, length, Option, Some, None, is_none, if◌then◌else◌}
 use Rattle.beeb_bits.specs.declared.clock.Clock.{Clock}
@@ -13,7 +14,7 @@ use Rattle.tube_chip.specs.declared.Answer.{Answer}
 use Rattle.host_bus.specs.Map.{stretched_in, memory_map}
 use Rattle.host_bus.specs.Bus.{clock_of}
 use Rattle.host_mach.specs.State.{HostState}
-use Rattle.host_mach.specs.Step.{address, next_state}
+use Rattle.host_mach.specs.Step.{address, is_break, next_state}
 use Rattle.machine_laws.specs.Cycles.{the_cycle}
 
 -- steps one after the other, each with what the Tube answers, if it was asked
@@ -26,10 +27,14 @@ abbrev pub cycles : List (Option Answer) → HostState → List Cycle
 cycles [] s = []
 cycles (a ∷ answers) s = the_cycle (next s.cpu) ++ cycles answers (next_state s a)
 
--- each of the steps is an access, and not a look
+-- the next step is an access, and neither a look nor a break step
+abbrev pub IsAccess : HostState → Type 0
+IsAccess s = (is_break s ≡ false) × (is_none (next s.cpu) ≡ false)
+
+-- and so is each of these steps
 abbrev pub AllAccess : List (Option Answer) → HostState → Type 0
 AllAccess [] s = Unit {0}
-AllAccess (a ∷ answers) s = (is_none (next s.cpu) ≡ false) × AllAccess answers (next_state s a)
+AllAccess (a ∷ answers) s = IsAccess s × AllAccess answers (next_state s a)
 
 -- How many cycles an access at tick t waits for the 1 MHz clock, if it does: one where its own is even, and two where it is odd.
 abbrev pub wait : Clock → ℕ → Cycle → ℕ
@@ -40,8 +45,8 @@ abbrev pub takes : Clock → ℕ → List Cycle → ℕ
 takes clock t [] = 0
 takes clock t (c ∷ cs) = host clock * (1 + wait clock t c) + takes clock (t + host clock * (1 + wait clock t c)) cs
 
--- From any access on, where the accesses up to the end of its sequence are done, the look is at the last of the ticks that they take, and the
--- next sequence begins behind it.
+-- From any access on, where the accesses up to the end of its sequence are done, the look, or the break step in its place, is at the last of the
+-- ticks that they take, and the next sequence begins behind it.
 pub record HostTakes : Type 0 where
   pub look : (s : HostState) (answers : List (Option Answer)) → 0 < length answers → AllAccess answers s → next (run answers s).cpu ≡ None →
       (run answers s).due + 1 ≡ s.due + takes (clock_of s.bus) s.due (cycles answers s)

@@ -7,7 +7,7 @@ use Rattle.host_bus.specs.View.{bus_seen}
 use Rattle.host_mach.specs.State.{HostState, cycle_of}
 use Rattle.host_mach.specs.Step.{host_moves}
 use Rattle.host_mach.specs.Told.{host_of}
-use Rattle.host_mach.proofs.UnderWay.{Came, IsUnderWay, memory-clock, memory-last, memory-more, sees-on, after-look, caught-up, same-parts, at-start, at-look, cycle-before}
+use Rattle.host_mach.proofs.UnderWay.{Came, IsUnderWay, IsFree, free-memory, memory-clock, memory-last, memory-more, sees-on, after-look, caught-up, same-parts, at-start, at-look, cycle-before}
 use Rattle.host_mach.proofs.run.go_on.Goals as goal
 use Rattle.host_mach.proofs.run.go_on.Goals.{then-last+else-due-bound, else-last}
 
@@ -18,8 +18,9 @@ returns-then-due-bound-2-clause-looks g c =
     let start : HostState = host_of c.args.cpu.now (bus_seen plug c.args.bus.now) c.args.nmis.now c.args.from in
     let s : HostState = host_of c.loop-due.cpu (bus_seen plug c.loop-due.bus) c.loop-due.nmis c.loop-due.due in
     let over : next c.give.new.self ≡ None = search rules in
-    let came = memory-last c.args.until c.args.lines.now c.args.sure start n s c.loop-due.caught_up c.in-Some.byte c.want.result c.give.new.self (bus_seen plug c.exchange_memory.new.bus)
-    c.loop-due.invariant c.loop-due-test.true c.want.ensures c.in-Some.ensures.done c.give.ensures over in
+    let came = memory-last c.break_tick-next_break.result c.args.until c.args.lines.now c.args.sure start n s c.loop-due.caught_up c.in-Some.byte c.want.result c.give.new.self (bus_seen plug c.exchange_memory.new.bus)
+    c.loop-due.invariant (omega (arith, c.loop-due-test.true, c.min-end.ensures))
+    (omega (arith, c.loop-due-test.true, c.min-end.ensures, c.saturating_sub.ensures, c.requires.room, c.host-cycle.ensures.bound)) c.want.ensures c.in-Some.ensures.done c.give.ensures over in
     let tick : c.loop-due.due + (n - 1) ≡ c.loop-due.due + n - 1 = omega (arith, c.host-cycle.ensures.some) in
     let closed : c.loop-due.due + 1 ≡ c.loop-due.due + n - (n - 1) = omega (arith, c.host-cycle.ensures.some) in
     let bus = ap (λ (t : ℕ). bus_closed (bus_seen plug c.exchange_memory.new.bus) t) closed ∙ sym c.close.ensures in (
@@ -38,18 +39,22 @@ loop-due-preserved-then-last-2 g c =
     let t : ℕ = c.loop-due.due + n - 1 in
     let new : HostState = host_of c.see-then-last-2.new.cpu (bus_seen plug c.see-then-last-2.new.bus) c.see-then-last-2.new.nmis (t + 1) in
     let over : next c.give.new.self ≡ None = search rules in
-    let came = memory-last c.args.until c.args.lines.now c.args.sure start n s c.loop-due.caught_up c.in-Some.byte c.want.result c.give.new.self b
-    c.loop-due.invariant c.loop-due-test.true c.want.ensures c.in-Some.ensures.done c.give.ensures over in
+    let came = memory-last c.break_tick-next_break.result c.args.until c.args.lines.now c.args.sure start n s c.loop-due.caught_up c.in-Some.byte c.want.result c.give.new.self b
+    c.loop-due.invariant (omega (arith, c.loop-due-test.true, c.min-end.ensures))
+    (omega (arith, c.loop-due-test.true, c.min-end.ensures, c.saturating_sub.ensures, c.requires.room, c.host-cycle.ensures.bound)) c.want.ensures c.in-Some.ensures.done c.give.ensures over in
+    let free : IsFree c.break_tick-next_break.result b =
+    free-memory c.break_tick-next_break.result s.due c.in-Some.byte s.bus b c.want.result c.loop-due.invariant.free c.in-Some.ensures.done in
     let here : c.loop-due.due + (n - 1) ≡ t = omega (arith, c.host-cycle.ensures.some) in
     let at : Came c.args.until c.args.lines.now c.args.sure start (host_of c.give.new.self (bus_closed b (c.loop-due.due + 1)) c.loop-due.nmis t) =
     (came.0, subst (λ (k : ℕ). Looks host_moves c.args.until (shown c.args.lines.now c.args.sure) came.0 start (host_of c.give.new.self (bus_closed b (c.loop-due.due + 1)) c.loop-due.nmis k)) here came.1) in
-    let saw = sees-on c.args.until c.args.lines.now c.args.sure start c.give.new.self b c.loop-due.nmis t (c.loop-due.due + 1) new at (omega (arith, c.host-cycle.ensures.some)) over
-    (omega (arith, c.if-due-bound-2.false, c.min-bound.ensures, c.host-cycle.ensures.some)) (omega (arith, c.if-due-bound-2.false, c.min-bound.ensures, c.host-cycle.ensures.some)) c.see-then-last-2.ensures in
+    let saw = sees-on c.break_tick-next_break.result c.args.until c.args.lines.now c.args.sure start c.give.new.self b c.loop-due.nmis t (c.loop-due.due + 1) new at (omega (arith, c.host-cycle.ensures.some)) over
+    (omega (arith, c.if-due-bound-2.false, c.min.ensures, c.min-bound.ensures, c.host-cycle.ensures.some)) (omega (arith, c.if-due-bound-2.false, c.min.ensures, c.min-bound.ensures, c.host-cycle.ensures.some))
+    (free t (omega (arith, c.if-due-bound-2.false, c.min.ensures, c.min-bound.ensures, c.host-cycle.ensures.some, c.requires.room))) c.see-then-last-2.ensures in
     let after = after-look (host_of c.give.new.self b c.loop-due.nmis t) new (t + 1) c.args.lines.now.hirq (omega (arith, c.in-Some.ensures.closed, c.host-cycle.ensures.some)) c.see-then-last-2.ensures in
-    let far = memory-clock c.args.until c.args.lines.now c.args.sure start n s c.loop-due.caught_up c.in-Some.byte c.want.result b c.loop-due.invariant c.in-Some.ensures.done in
-    let way = caught-up c.args.until c.args.lines.now c.args.sure start n new (far ∙ after.2) after.0 (omega (arith, after.1)) saw in
+    let clock = memory-clock c.break_tick-next_break.result c.args.until c.args.lines.now c.args.sure start n s c.loop-due.caught_up c.in-Some.byte c.want.result b c.loop-due.invariant c.in-Some.ensures.done in
+    let way = caught-up c.break_tick-next_break.result c.args.until c.args.lines.now c.args.sure start n new (clock ∙ after.2) after.0 (omega (arith, after.1)) (after.3 c.break_tick-next_break.result free) saw in
     let tick : t + 1 ≡ c.loop-due.due + n = omega (arith, c.host-cycle.ensures.some) in
-    subst (λ k. IsUnderWay n c.args.until c.args.lines.now c.args.sure start (record new { due = k }) k) tick way
+    subst (λ k. IsUnderWay c.break_tick-next_break.result n c.args.until c.args.lines.now c.args.sure start (record new { due = k }) k) tick way
 
 pub loop-due-preserved : goal.loop-due-preserved
 loop-due-preserved g c =
@@ -58,12 +63,13 @@ loop-due-preserved g c =
     let start : HostState = host_of c.args.cpu.now (bus_seen plug c.args.bus.now) c.args.nmis.now c.args.from in
     let s : HostState = host_of c.loop-due.cpu (bus_seen plug c.loop-due.bus) c.loop-due.nmis c.loop-due.due in
     let on : IsSome (next c.give.new.self) = search rules in
-    memory-more c.args.until c.args.lines.now c.args.sure start c.host-cycle.result s c.loop-due.caught_up c.in-Some.byte c.want.result c.give.new.self (bus_seen plug c.exchange_memory.new.bus)
-    c.loop-due.invariant c.loop-due-test.true c.want.ensures c.in-Some.ensures.done c.give.ensures c.in-Some.ensures.closed on
+    memory-more c.break_tick-next_break.result c.args.until c.args.lines.now c.args.sure start c.host-cycle.result s c.loop-due.caught_up c.in-Some.byte c.want.result c.give.new.self (bus_seen plug c.exchange_memory.new.bus)
+    c.loop-due.invariant (omega (arith, c.loop-due-test.true, c.min-end.ensures))
+    (omega (arith, c.loop-due-test.true, c.min-end.ensures, c.saturating_sub.ensures, c.requires.room, c.host-cycle.ensures.bound)) c.want.ensures c.in-Some.ensures.done c.give.ensures c.in-Some.ensures.closed on
 
 pub catch_up-requires-2-clause-gone : goal.catch_up-requires-2-clause-gone
 catch_up-requires-2-clause-gone g c =
-    cycle-before c.host-cycle.result c.args.until c.args.lines.now c.args.sure _ _ c.loop-due.caught_up c.requires.room c.loop-due.invariant
+    cycle-before c.break_tick-next_break.result c.host-cycle.result c.args.until c.args.lines.now c.args.sure _ _ c.loop-due.caught_up c.requires.room c.loop-due.invariant
 
 pub loop-due-init : goal.loop-due-init
 loop-due-init g c =
@@ -71,19 +77,21 @@ loop-due-init g c =
     let n : ℕ = c.host-cycle.result in
     let start : HostState = host_of c.args.cpu.now (bus_seen plug c.args.bus.now) c.args.nmis.now c.args.from in
     let cycle : n ≡ cycle_of start = c.host-cycle.ensures.value ∙ ap host c.clock.ensures in
+    let free : IsFree c.break_tick-next_break.result start.bus = c.break_tick-next_break.ensures.none in
     elim c.if-last.branch [
       | then-last+else-due-bound w ↦
           let new : HostState = host_of w.see.new.cpu (bus_seen plug w.see.new.bus) w.see.new.nmis (c.args.from + 1) in
           let over : next c.args.cpu.now ≡ None = search rules in
           let same : new ≡ host_of c.if-last.cpu (bus_seen plug c.if-last.bus) c.if-last.nmis c.if-last.due =
           same-parts _ _ _ _ _ _ _ _ (sym w.cpu-is) (ap (λ b. bus_seen plug b) (sym w.bus-is)) (sym w.nmis-is) (sym w.due-is) in
-          subst (λ (x : HostState). IsUnderWay n c.args.until c.args.lines.now c.args.sure start x x.due) same
-          (at-look c.args.until c.args.lines.now c.args.sure start n new cycle over c.requires.before
-          (omega (arith, w.if-due-bound.false, c.min-bound.ensures)) (omega (arith, w.if-due-bound.false, c.min-bound.ensures)) w.see.ensures)
+          subst (λ (x : HostState). IsUnderWay c.break_tick-next_break.result n c.args.until c.args.lines.now c.args.sure start x x.due) same
+          (at-look c.break_tick-next_break.result c.args.until c.args.lines.now c.args.sure start n new cycle over c.requires.before free
+          (omega (arith, w.if-due-bound.false, c.min.ensures, c.min-bound.ensures)) (omega (arith, w.if-due-bound.false, c.min.ensures, c.min-bound.ensures))
+          (omega (arith, w.if-due-bound.false, c.min.ensures, c.min-bound.ensures, c.requires.room)) w.see.ensures)
       | else-last w ↦
           let on : IsSome (next c.args.cpu.now) = search rules in
           let same : start ≡ host_of c.if-last.cpu (bus_seen plug c.if-last.bus) c.if-last.nmis c.if-last.due =
           same-parts _ _ _ _ _ _ _ _ (sym w.cpu-is) (ap (λ b. bus_seen plug b) (sym w.bus-is)) (sym w.nmis-is) (sym w.due-is) in
-          subst (λ (x : HostState). IsUnderWay n c.args.until c.args.lines.now c.args.sure start x x.due) same
-          (at-start c.args.until c.args.lines.now c.args.sure start n cycle on c.requires.before)
+          subst (λ (x : HostState). IsUnderWay c.break_tick-next_break.result n c.args.until c.args.lines.now c.args.sure start x x.due) same
+          (at-start c.break_tick-next_break.result c.args.until c.args.lines.now c.args.sure start n cycle on c.requires.before free)
     ]

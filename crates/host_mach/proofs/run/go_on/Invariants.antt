@@ -7,7 +7,7 @@ use Rattle.host_mach.proofs.run.go_on.Given as goal
 -- the steps so far asked nothing or saw the lines, and the next one is an access
 abbrev pub invariant-loop-due : goal.invariant-loop-due
 invariant-loop-due g l =
-    IsUnderWay l.cycle l.until l.lines l.sure
+    IsUnderWay l.next_break l.cycle l.until l.lines l.sure
     (host_of l.fn.cpu (bus_seen g.D.BusDevice.plug l.fn.bus) l.fn.nmis l.from)
     (host_of l.cpu (bus_seen g.D.BusDevice.plug l.bus) l.nmis l.due)
     l.caught_up

@@ -1,4 +1,4 @@
-use Rattle.std.proofs.Common.{◌≡◌, ◌∙◌, sym, ap, refl, false, arith}
+use Rattle.std.proofs.Common.{◌≡◌, ◌∙◌, sym, ap, refl, false}
 use Rattle.cpu_alu.specs.declared.Regs.{Regs}
 use Rattle.tube_party.specs.Quiet.{quiet_at_due}
 use Rattle.host_mach.specs.State.{HostState}
@@ -12,7 +12,7 @@ pub returns-then-not-is_tube-clause-quiet : goal.returns-then-not-is_tube-clause
 returns-then-not-is_tube-clause-quiet g c =
     let s : HostState = host_seen g.D.BusDevice.plug c.args.self.now in
     let not_tube : is_tube s.cpu.regs.pc ≡ false = ap (λ (r : Regs). is_tube r.pc) (sym c.at_start.ensures) ∙ sym c.is_tube.ensures ∙ c.if-not-is_tube.true in
-    idle_quiet s c.max.result (sym c.halted.ensures ∙ c.if-halted.true) not_tube (omega (arith, c.max.ensures))
+    idle_quiet s c.next_break.result c.max.result (sym c.halted.ensures ∙ c.if-halted.true) not_tube c.next_break.ensures.none c.max.ensures
 
 pub returns-else-halted-clause-quiet : goal.returns-else-halted-clause-quiet
 returns-else-halted-clause-quiet g c = quiet_at_due host_moves (host_seen g.D.BusDevice.plug c.args.self.now) _ host_lawful refl
