@@ -1,6 +1,6 @@
 -- The host, of which device steps are owed: it stands for the one in which they are done.
-use Rattle.std.proofs.Common.{◌≡◌, ◌≤◌, ◌<◌, ◌∙◌, ◌+◌, ◌-◌, ◌⊎◌, inl, inr, refl, sym, ap, subst, ℕ, suc, nat_le, Bool, true, false, ◌&&◌, ◌||◌, is_none, Option, Some, None, IsSome, arith, if◌then◌else◌}
-use Rattle.std.proofs.lemmas.Bool.{lt-ltb, le-ltb, leb-true, leb-false, true≢false}
+use Rattle.std.proofs.Common.{◌≡◌, ◌≤◌, ◌<◌, ◌∙◌, ◌+◌, ◌-◌, ◌^◌, min, ◌⊎◌, inl, inr, refl, sym, ap, subst, ℕ, suc, nat_le, Bool, true, false, ◌&&◌, ◌||◌, is_none, Option, Some, None, IsSome, arith, if◌then◌else◌}
+use Rattle.std.proofs.lemmas.Bool.{cases_lt, lt-ltb, le-ltb, leb-true, leb-false, true≢false}
 use Rattle.beeb_bits.specs.Clock.{host, some-host, few-host}
 use Rattle.cpu_alu.specs.declared.Cycle.{Cycle}
 use Rattle.cpu_alu.specs.declared.Regs.{Regs}
@@ -18,7 +18,7 @@ use Rattle.tube_party.specs.Steps.{silent_last, look_last}
 use Rattle.host_bus.specs.Bus.{BusState, clock_of, bus_closed, closed_at, bus_break_pending}
 use Rattle.host_bus.specs.Closing.{closed-again, closed-still}
 use Rattle.host_mach.specs.State.{HostState, cycle_of}
-use Rattle.host_mach.specs.Step.{host_moves, host_closed, is_last_tick, is_break, broken, asks, asks_by, byte_of, bus_after, cycled, stepped, next_state, looked_at}
+use Rattle.host_mach.specs.Step.{host_moves, host_closed, is_last_tick, is_break, broken, asks, asks_by, byte_of, bus_after, cycle_ticks, cycled, stepped, next_state, looked_at}
 use Rattle.host_mach.specs.Lawful.{host-again}
 use Rattle.host_mach.specs.SameClock.{access-same}
 use Rattle.host_mach.specs.SameBreaks.{access-leaves}
@@ -235,3 +235,26 @@ cycle-before far n until lines sure start s since room way gone = elim way.since
   | inl e ↦ absurd (omega (arith, e, gone))
   | inr e ↦ (omega (arith, some-ticks n s way.cycle), omega (arith, e.0), omega (arith, e.1, room, few-ticks n s way.cycle))
 ]
+
+-- A look that a bound keeps back, the least of a tick, itself at most 2^30, and the next break's: no break is pending there only where that
+-- tick has come.
+pub kept-back : (pending : ℕ → Bool) (far next t : ℕ) → ((u : ℕ) → next ≤ u → u < 2 ^ 63 → pending u ≡ true) → far ≤ 2 ^ 30 → min far next ≤ t → pending t ≡ false → far ≤ t
+kept-back pending far next t due few low free =
+    elim (cases_lt t far) [
+      | inl early ↦ let no : true ≡ false = sym (due t (omega (arith, early, low)) (omega (arith, early, few))) ∙ free in cc
+      | inr late ↦ late
+    ]
+
+-- An access that is done: the bus after it, the byte that it showed and its ticks make the next state.
+pub access-next : (s : HostState) (c : Cycle) (b : BusState) (byte n : ℕ) → next s.cpu ≡ Some c → is_break s ≡ false →
+    byte ≡ byte_of (bus_closed s.bus (s.due + 1)) s.due None c → b ≡ bus_after (bus_closed s.bus (s.due + 1)) c → n ≡ cycle_ticks (clock_of s.bus) s.due c →
+    cycled (record s { bus = b }) (bus_break_pending b (s.due + (n - 1)) && halted s.cpu) (given s.cpu byte) n ≡ next_state s None
+access-next s c b byte n is none read after ticks =
+    let x : HostState = host_closed s (s.due + 1) in
+    let bus : BusState = bus_after x.bus c in
+    ap (λ (d : BusState). cycled (record s { bus = d }) (bus_break_pending d (s.due + (n - 1)) && halted s.cpu) (given s.cpu byte) n) after
+    ∙ ap (λ (p : Bool). cycled (record s { bus = bus }) (p && halted s.cpu) (given s.cpu byte) n) (access-leaves x.bus c (s.due + (n - 1)))
+    ∙ ap (λ (v : ℕ). cycled (record s { bus = bus }) (bus_break_pending x.bus (s.due + (n - 1)) && halted s.cpu) (given s.cpu v) n) read
+    ∙ ap (λ (k : ℕ). cycled (record s { bus = bus }) (bus_break_pending x.bus (s.due + (k - 1)) && halted s.cpu) (given s.cpu (byte_of x.bus s.due None c)) k) ticks
+    ∙ sym (ap (λ (o : Option Cycle). stepped o x None) is)
+    ∙ sym (plain-next s None none)

@@ -127,6 +127,14 @@ fn act_of(word: &str) -> Option<Act> {
     }
 }
 
+// A tick of the tables, each of which is so many of the bus.
+fn in_ticks(tick: Option<Tick>, times: u64) -> Option<Tick> {
+    match tick {
+        Some(tick) => Some(Tick(tick.0.wrapping_mul(times))),
+        None => None,
+    }
+}
+
 // Does one of these, and answers whether it is as it should be.
 fn is_right<D: BusDevice>(bus: &mut Bus<D>, t: u64, act: Act) -> bool {
     let t = t % (1 << 40);
@@ -142,7 +150,7 @@ fn is_right<D: BusDevice>(bus: &mut Bus<D>, t: u64, act: Act) -> bool {
         Look(want) => bus.irq(Tick(t)) == want,
         Rises(want) => bus.nmis(Tick(t)) == want,
         DiscOf(drive, want) => bus.disc(drive).map(|disc| disc.bytes().len()) == want,
-        Next(want) => bus.next_break() == want,
+        Next(want) => bus.next_break() == in_ticks(want, scale(bus.clock())),
         Due(want) => bus.break_pending(Tick(t)) == want,
         Break => {
             let is_due = bus.break_pending(Tick(t));
@@ -540,7 +548,10 @@ fn a_shot_takes_the_last_finished_frame(rt: HostRuntime) -> Result<(), Fail> {
     for clock in CLOCKS {
         for line in SHOTS.lines() {
             if let Some((program, shown)) = line.split_once('|') {
-                assert!(rt; takes_its_shots(rt.alloc(), clock, program, shown)?, "{clock:?} {line}");
+                assert!(rt;
+                    takes_its_shots(rt.alloc(), clock, program, shown)?,
+                    "{clock:?} {line}"
+                );
             }
         }
     }

@@ -1,13 +1,13 @@
-use Rattle.std.proofs.Common.{ℕ, ◌-◌, ap, rules, ◌≡◌, ◌+◌, None, IsSome, sym, subst, arith, ◌∙◌}
+use Rattle.std.proofs.Common.{ℕ, min, ◌-◌, ap, rules, ◌≡◌, ◌+◌, None, IsSome, sym, subst, arith, ◌∙◌}
 use Rattle.beeb_bits.specs.Clock.{host}
 use Rattle.cpu6502.specs.Sequences.{next}
 use Rattle.tube_party.specs.Moves.{Looks, shown}
-use Rattle.host_bus.specs.Bus.{BusState, bus_closed}
+use Rattle.host_bus.specs.Bus.{BusState, bus_closed, bus_break_pending}
 use Rattle.host_bus.specs.View.{bus_seen}
 use Rattle.host_mach.specs.State.{HostState, cycle_of}
 use Rattle.host_mach.specs.Step.{host_moves}
 use Rattle.host_mach.specs.Told.{host_of}
-use Rattle.host_mach.proofs.UnderWay.{Came, IsUnderWay, IsFree, free-memory, memory-clock, memory-last, memory-more, sees-on, after-look, caught-up, same-parts, at-start, at-look, cycle-before}
+use Rattle.host_mach.proofs.UnderWay.{Came, IsUnderWay, IsFree, free-memory, memory-clock, memory-last, memory-more, sees-on, after-look, caught-up, same-parts, at-start, at-look, cycle-before, kept-back}
 use Rattle.host_mach.proofs.run.go_on.Goals as goal
 use Rattle.host_mach.proofs.run.go_on.Goals.{then-last+else-due-bound, else-last}
 
@@ -95,3 +95,11 @@ loop-due-init g c =
           subst (λ (x : HostState). IsUnderWay c.break_tick-next_break.result n c.args.until c.args.lines.now c.args.sure start x x.due) same
           (at-start c.break_tick-next_break.result c.args.until c.args.lines.now c.args.sure start n cycle on c.requires.before free)
     ]
+
+pub returns-then-due-bound-clause-stops : goal.returns-then-due-bound-clause-stops
+returns-then-due-bound-clause-stops g c =
+    let over : next c.args.cpu.now ≡ None = search rules in (
+      over,
+      kept-back (λ t. bus_break_pending (bus_seen g.D.BusDevice.plug c.args.bus.now) t) (min c.args.until c.args.sure) c.break_tick-next_break.result c.args.from
+      c.break_tick-next_break.ensures.some (omega (arith, c.requires.room)) (omega (arith, c.if-due-bound.true, c.min.ensures, c.min-bound.ensures)),
+    )
