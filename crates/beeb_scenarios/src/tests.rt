@@ -1,4 +1,5 @@
 //! The commands, over shelves and outlets in memory.
+mod breaks;
 mod cycles;
 mod devices;
 mod discs;

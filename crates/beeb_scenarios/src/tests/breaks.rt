@@ -1,0 +1,295 @@
+//! BREAK, by a line of the key script: the host's reset operation at the Tube, and what it resets.
+use super::scene::all_hold;
+use std::test::Fail;
+
+const SCENES: &str = "\
+# A halted host comes back: the first break step is at the last tick of a cycle of its, from the tick of the break on. Both machines are reset.
+os
+| org &C000
+| byte &02
+| org &FFFC
+| word &C000, 0
+tube
+| org &F800
+| loop: JMP loop
+| org &FFFC
+| word loop, 0
+keys
+| at 60 break
+t
+$ solo 100 o --os os --tube tube --keys keys
+= 0
+file o.report
+| ticks 100
+| host PC=C000 A=00 X=00 Y=00 S=FA P=24 halted
+| para PC=F800 A=00 X=00 Y=00 S=FA P=24
+| tube 1
+| kept 1
+| frames 0
+file o.trace
+| 000000003E H X 0 00
+keep
+run 100 o --os os --tube tube --keys keys
+= 0
+same o.report
+same o.host
+same o.para
+same o.trace
+take o.trace
+$ check t
+= 0: ok 1
+$ replay host t 100 o --os os --keys keys
+= 0
+line o.report host PC=C000 A=00 X=00 Y=00 S=FA P=24 halted
+$ replay para t 100 o --tube tube
+= 0
+line o.report para PC=F800 A=00 X=00 Y=00 S=FA P=24
+$ replay host t 100 o --os os
+= 8: differs 1 -
+t
+$ replay host t 100 o --os os --keys keys
+= 8: differs 1 000000003E H X 0 00
+# At 4 MHz the same is at twice the tick.
+os
+| org &C000
+| byte &02
+| org &FFFC
+| word &C000, 0
+tube
+| org &F800
+| loop: JMP loop
+| org &FFFC
+| word loop, 0
+keys
+| at 120 break
+$ solo 200 o --os os --tube tube --keys keys --speed 4
+= 0
+file o.trace
+| T2
+| 000000007D H X 0 00
+# The last tick of a halted cycle, one tick before it and one behind.
+os
+| org &C000
+| byte &02
+| org &FFFC
+| word &C000, 0
+tube
+| org &F800
+| loop: JMP loop
+| org &FFFC
+| word loop, 0
+keys
+| at 62 break
+$ solo 100 o --os os --tube tube --keys keys
+= 0
+file o.trace
+| 000000003E H X 0 00
+keys
+| at 61 break
+$ solo 100 o --os os --tube tube --keys keys
+= 0
+file o.trace
+| 000000003E H X 0 00
+keys
+| at 63 break
+$ solo 100 o --os os --tube tube --keys keys
+= 0
+file o.trace
+| 0000000041 H X 0 00
+# The run ends before the step, and behind it.
+$ solo 65 o --os os --tube tube --keys keys
+= 0
+file o.trace
+$ solo 66 o --os os --tube tube --keys keys
+= 0
+file o.trace
+| 0000000041 H X 0 00
+# The look before the halting opcode, the cycle that reads it, and the one after: that cycle has neither a look nor a break step.
+os
+| org &C000
+| byte &02
+| org &FFFC
+| word &C000, 0
+tube
+| org &F800
+| loop: JMP loop
+| org &FFFC
+| word loop, 0
+keys
+| at 0 break
+$ solo 40 o --os os --tube tube --keys keys
+= 0
+file o.trace
+| 0000000014 H X 0 00
+keys
+| at 20 break
+$ solo 40 o --os os --tube tube --keys keys
+= 0
+file o.trace
+| 0000000014 H X 0 00
+keys
+| at 21 break
+$ solo 40 o --os os --tube tube --keys keys
+= 0
+file o.trace
+| 000000001A H X 0 00
+keys
+| at 23 break
+$ solo 40 o --os os --tube tube --keys keys
+= 0
+file o.trace
+| 000000001A H X 0 00
+keys
+| at 27 break
+$ solo 40 o --os os --tube tube --keys keys
+= 0
+file o.trace
+| 000000001D H X 0 00
+# A processor that goes on has the step in place of its next look: at the look's tick, one before it, and one behind. An access has none.
+os
+| org &C000
+| here: JMP here
+| org &FFFC
+| word here, 0
+tube
+| org &F800
+| loop: JMP loop
+| org &FFFC
+| word loop, 0
+keys
+| at 29 break
+$ solo 50 o --os os --tube tube --keys keys
+= 0
+file o.trace
+| 000000001D H X 0 00
+keys
+| at 28 break
+$ solo 50 o --os os --tube tube --keys keys
+= 0
+file o.trace
+| 000000001D H X 0 00
+keys
+| at 30 break
+$ solo 50 o --os os --tube tube --keys keys
+= 0
+file o.trace
+| 0000000026 H X 0 00
+# Those that are pending are one step; a later one is one of its own, at the look of the reset's sequence.
+keys
+| at 30 break
+| at 30 break
+| at 35 break
+| at 38 break
+| at 39 break
+$ solo 100 o --os os --tube tube --keys keys
+= 0
+file o.trace
+| 0000000026 H X 0 00
+| 000000003B H X 0 00
+line o.report host PC=C000 A=00 X=00 Y=00 S=F7 P=24
+keep
+run 100 o --os os --tube tube --keys keys
+= 0
+same o.report
+same o.trace
+# A break within a stretched access waits for the look behind it. A shot at its tick is taken as ever.
+os
+| org &C000
+| LDA &FE40
+| here: JMP here
+| org &FFFC
+| word &C000, 0
+tube
+| org &F800
+| loop: JMP loop
+| org &FFFC
+| word loop, 0
+keys
+| at 31 shot
+| at 31 break
+$ solo 60 o --os os --tube tube --keys keys
+= 0
+file o.trace
+| 0000000023 H X 0 00
+line o.report frames 1
+# BREAK in the midst of a transfer: both programs begin again, and what was on its way is gone.
+os
+| org &C000
+| LDX #0
+| wait: LDA &FEE0
+| BPL wait
+| LDA &FEE1
+| STA &70,X
+| INX
+| CPX #2
+| BNE wait
+| here: JMP here
+| org &FFFC
+| word &C000, 0
+tube
+| org &F800
+| start: LDX #31
+| copy: LDA &F800,X
+| STA &F800,X
+| DEX
+| BPL copy
+| LDA #&48
+| STA &FEF9
+| LDA #&49
+| STA &FEF9
+| stop: JMP stop
+| org &FFFC
+| word start, 0
+keys
+| at 930 break
+$ solo 4000 o --os os --tube tube --keys keys
+= 0
+line o.report host PC=C011 A=49 X=02 Y=00 S=FA P=27
+line o.report para PC=F815 A=49 X=FF Y=00 S=FA P=24
+at o.host 0070 48 49
+trace
+$ replay host t 4000 o --os os --keys keys
+= 0
+same o.host
+$ replay para t 4000 o --tube tube
+= 0
+same o.para
+run 4000 o --os os --tube tube --keys keys
+= 0
+same o.report
+same o.host
+same o.para
+same o.trace
+# BREAK puts the user's 6522 and the disc latch in their power-on state, and leaves the system's 6522 and the memory.
+os
+| org &C000
+| LDA &70
+| BNE again
+| LDA #&FF
+| STA &FE62
+| STA &FE42
+| INC &70
+| here: JMP here
+| again: LDA &FE62
+| STA &71
+| LDA &FE42
+| STA &72
+| there: JMP there
+| org &FFFC
+| word &C000, 0
+tube
+| org &F800
+| loop: JMP loop
+| org &FFFC
+| word loop, 0
+keys
+| at 600 break
+$ solo 1200 o --os os --tube tube --keys keys
+= 0
+at o.host 0070 01 00 FF
+";
+
+#[test]
+fn break_resets_both_machines_and_leaves_the_rest(rt: HostRuntime) -> Result<(), Fail> {
+    all_hold(&rt, rt.alloc(), SCENES)
+}
