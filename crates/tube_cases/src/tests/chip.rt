@@ -161,6 +161,51 @@ fn filled(queue: u8, third: u8, counts: u64) -> Option<Chip> {
     Chip::unpack(words)
 }
 
+#[test]
+fn a_reset_breaks_a_transfer_off(rt: HostRuntime) {
+    let mut chip = Chip::new();
+    let rows = [
+        // V M J I Q: the parasite's NMI rises as the host empties register 3.
+        (Side::Host, Op::Write(0, 0x9f), 0x00, 0, 0),
+        (Side::Host, Op::Read(5), 0x00, 1, 0),
+        // Each has sent the first of two bytes in register 3.
+        (Side::Host, Op::Write(5, 0x11), 0x00, 1, 0),
+        (Side::Para, Op::Write(5, 0x22), 0x00, 1, 0),
+        (Side::Para, Op::Write(1, 0x31), 0x00, 1, 0),
+        (Side::Para, Op::Write(1, 0x32), 0x00, 1, 0),
+        (Side::Host, Op::Write(7, 0x44), 0x00, 1, 0),
+        (Side::Host, Op::Read(1), 0x31, 1, 0),
+        // P is set, and the reset counts all the same.
+        (Side::Host, Op::Write(0, 0xa0), 0x00, 1, 1),
+        (Side::Host, Op::Reset, 0x00, 1, 2),
+        (Side::Host, Op::Read(0), 0x40, 1, 2),
+        (Side::Host, Op::Read(1), 0x00, 1, 2),
+        (Side::Para, Op::Read(6), 0x7f, 1, 2),
+        (Side::Para, Op::Read(7), 0x00, 1, 2),
+        (Side::Para, Op::Read(4), 0x3f, 1, 2),
+        // The byte 00 in register 3 to the host: with it gone N holds, but M is clear.
+        (Side::Host, Op::Read(4), 0xff, 1, 2),
+        (Side::Host, Op::Read(5), 0x00, 1, 2),
+        (Side::Host, Op::Read(4), 0x7f, 1, 2),
+        (Side::Para, Op::Read(4), 0xff, 1, 2),
+        // P is clear, so that it rises again; and two resets in a row count twice.
+        (Side::Host, Op::Write(0, 0xa0), 0x00, 1, 3),
+        (Side::Host, Op::Reset, 0x00, 1, 4),
+        (Side::Host, Op::Reset, 0x00, 1, 5),
+    ];
+    for (side, op, answer, nmis, resets) in rows {
+        let got = chip.apply(side, op);
+        let lines = chip.lines();
+        assert!(rt;
+            (got, lines.nmis, lines.resets) == (answer, nmis, resets),
+            "{side:?} {op:?}"
+        );
+    }
+    let mut chip = filled(9, 2, 0xffff_ffff_0000_0007).expect(&rt, "counts of 32 bits");
+    chip.apply(Side::Host, Op::Reset);
+    assert_eq!(rt; chip.pack(), [7, 0, 0, 0, 0x10_0000, 0]);
+}
+
 // Whether a chip that was read back from the words of another goes on as that does.
 fn goes_on_as(again: &mut Chip, chip: &mut Chip) -> bool {
     if again.pack() != chip.pack() || again.lines() != chip.lines() {

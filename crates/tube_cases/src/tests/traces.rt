@@ -35,6 +35,15 @@ fn a_line_tells_of_one_access(rt: HostRuntime) -> Result<(), Fail> {
                 answer: 0xa0,
             },
         ),
+        (
+            b"0000000006 H X 0 00\n",
+            Entry {
+                tick: Tick(6),
+                side: Side::Host,
+                op: Op::Reset,
+                answer: 0,
+            },
+        ),
     ];
     for (text, entry) in rows {
         let trace = read(rt.alloc(), text)?;
@@ -102,9 +111,10 @@ fn an_access_that_asks_has_no_byte_to_read(rt: HostRuntime) -> Result<(), Fail> 
     let mut text = Vec::new(rt.alloc());
     push_access(&mut text, Tick(0x3a6), Side::Para, Op::Write(1, 0x49))?;
     push_access(&mut text, Tick(0), Side::Host, Op::Read(7))?;
+    push_access(&mut text, Tick(6), Side::Host, Op::Reset)?;
     assert_eq!(rt;
         text.as_slice(),
-        b"00000003A6 P W 1 490000000000 H R 7 --".as_slice()
+        b"00000003A6 P W 1 490000000000 H R 7 --0000000006 H X 0 00".as_slice()
     );
     Ok(())
 }
@@ -134,7 +144,7 @@ bad 1@00000000aa H R 0 40|
 bad 1@000000000G H R 0 40|
 bad 1@0000000000-H R 0 40|
 bad 1@0000000000 h R 0 40|
-bad 1@0000000000 H X 0 00|
+bad 1@0000000000 H Y 0 00|
 bad 1@0000000000 H R 8 40|
 bad 1@0000000000 H R / 40|
 bad 1@0000000000 H R 0 4a|
@@ -196,13 +206,22 @@ fn the_first_line_outside_the_form_or_the_order_is_told(rt: HostRuntime) -> Resu
 
 #[test]
 fn the_first_wrong_answer_is_told(rt: HostRuntime) -> Result<(), Fail> {
-    let rows: [(&str, Option<(usize, u8)>); 4] = [
+    let rows: [(&str, Option<(usize, u8)>); 6] = [
         ("", None),
         ("0000000000 H R 0 40\n", None),
         ("0000000000 H R 0 00\n", Some((0, 0x40))),
         (
             "0000000000 H W 1 77\n0000000001 P R 1 77\n0000000002 P R 1 00\n",
             Some((2, 0x77)),
+        ),
+        (
+            "0000000000 H W 0 9F\n0000000003 H R 0 5F\n0000000006 H X 0 00\n0000000009 H R 0 40\n",
+            None,
+        ),
+        // What was on its way to the parasite is gone with the reset.
+        (
+            "0000000000 H W 3 77\n0000000006 H X 0 00\n0000000006 P R 2 7F\n0000000009 P R 3 77\n",
+            Some((3, 0x00)),
         ),
     ];
     for (text, want) in rows {

@@ -21,6 +21,8 @@ enum Deed {
     /// An access at this tick, by the local chip.
     Read(u16, u8),
     Write(u16, u8, u8),
+    /// The host's reset at this tick.
+    Reset(u16),
     /// Its events, with this horizon.
     Publish(u16),
     /// No look, up to this tick.
@@ -28,7 +30,7 @@ enum Deed {
     PublishAndEntrust(u16, u16),
 }
 
-use Deed::{Entrust, Learn, Publish, PublishAndEntrust, Read, Write};
+use Deed::{Entrust, Learn, Publish, PublishAndEntrust, Read, Reset, Write};
 
 const HOST: Side = Side::Host;
 
@@ -60,7 +62,7 @@ fn earliest(cell: &TubeCell, hand: &Hand) -> u64
 // An access, where it is admitted and not too early.
 fn act<R: Wait>(rt: &R, cell: &TubeCell, hand: &mut Hand, t: u16, op: Op) -> Option<u8>
     requires fit { IsFit cell.now hand.old.pass hand.old.at hand.old.is_bare }
-    requires operation { MayDo Host op × MayDo Para op }
+    requires operation { MayDo hand.old.pass.side op }
     ensures fit { IsFit cell.now hand.new.pass hand.new.at hand.new.is_bare }
     ensures side { hand.new.pass.side ≡ hand.old.pass.side }
 {
@@ -72,6 +74,18 @@ fn act<R: Wait>(rt: &R, cell: &TubeCell, hand: &mut Hand, t: u16, op: Op) -> Opt
     hand.at = t + 1;
     hand.is_bare = false;
     Some(byte)
+}
+
+// A reset, which is the host's.
+fn reset<R: Wait>(rt: &R, cell: &TubeCell, hand: &mut Hand, t: u16) -> Option<u8>
+    requires fit { IsFit cell.now hand.old.pass hand.old.at hand.old.is_bare }
+    ensures fit { IsFit cell.now hand.new.pass hand.new.at hand.new.is_bare }
+    ensures side { hand.new.pass.side ≡ hand.old.pass.side }
+{
+    match hand.pass.side() {
+        Side::Host => act(rt, cell, hand, t, Op::Reset),
+        Side::Para => None,
+    }
 }
 
 fn publish<R: Wait>(rt: &R, cell: &TubeCell, hand: &mut Hand, h: u16) -> Option<u8>
@@ -145,6 +159,7 @@ fn done<R: Wait>(rt: &R, cell: &TubeCell, hand: &mut Hand, deed: Deed) -> Option
         }
         Read(t, number) => act(rt, cell, hand, t, op_of(number, 0, false)),
         Write(t, number, byte) => act(rt, cell, hand, t, op_of(number, byte, true)),
+        Reset(t) => reset(rt, cell, hand, t),
         Publish(h) => publish(rt, cell, hand, h),
         Entrust(t) => entrust(rt, cell, hand, t),
         PublishAndEntrust(h, t) => publish_and_entrust(rt, cell, hand, h, t),
@@ -192,7 +207,7 @@ fn first_wrong_row<R: Wait>(
 fn trust_is_taken_back_where_readings_change(rt: HostRuntime) -> Result<(), Fail> {
     // A byte in register 1 to the parasite shows in its status, and a second one in its place in nothing; I raises its interrupt then. A0 and
     // 20 to register 0 raise and drop its reset.
-    let scenes: [&[Row]; 8] = [
+    let scenes: [&[Row]; 9] = [
         &[
             (HOST, Write(0, 1, 0x40), Some(0), [0, 0, 0]),
             (HOST, Publish(1), Some(0), [0, 0, 0]),
@@ -221,6 +236,15 @@ fn trust_is_taken_back_where_readings_change(rt: HostRuntime) -> Result<(), Fail
             (HOST, Publish(51), Some(0), [50, 50, 100]),
             (PARA, Learn, Some(0), [50, 50, 50]),
             (PARA, Read(50, 2), Some(0xff), [50, 50, 50]),
+        ],
+        // A reset shows in the count of resets, also where nothing is there to be cleared.
+        &[
+            (PARA, Entrust(100), Some(0), [0, 0, 100]),
+            (HOST, Learn, Some(0), [100, 100, 100]),
+            (HOST, Reset(50), Some(0), [50, 100, 100]),
+            (HOST, Publish(51), Some(0), [50, 50, 100]),
+            (PARA, Learn, Some(0), [50, 50, 50]),
+            (PARA, Read(50, 0), Some(0x40), [50, 50, 50]),
         ],
         // At the very tick of the trust nothing is left to be taken back.
         &[
