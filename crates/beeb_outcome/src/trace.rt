@@ -60,11 +60,7 @@ fn if_same(clock: Clock, trace: Trace) -> Result<Vec<Entry>, Refusal<Cause>>
 
 /// The entries of the bytes of a trace, which has to be of this clock.
 #[tactic(auto, unfolding(crate::specs::Trace::entries_of))]
-pub fn entries_of(
-    alloc: Global,
-    clock: Clock,
-    bytes: &[u8],
-) -> Result<Vec<Entry>, Refusal<Cause>>
+pub fn entries_of(alloc: Global, clock: Clock, bytes: &[u8]) -> Result<Vec<Entry>, Refusal<Cause>>
     ensures told { Gives (λ v. v.items) result (entries_of clock bytes.now) }
     ensures entries { IfOk result (λ v. All IsEntry v.items) }
 {

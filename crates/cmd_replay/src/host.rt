@@ -73,7 +73,11 @@ fn replay_outcome<'a, D: BusDevice>(
     ensures { let read : held.Inputs = record (seen_files files) { trace = trace.now } in
         Gives (verdict_of D.plug) result (host_after (seen_setup D.plug setup) ticks out.now read) }
 {
-    let Setup { clock, kinds, plugs } = setup;
+    let Setup {
+        clock,
+        kinds,
+        plugs,
+    } = setup;
     let HostFiles {
         os,
         roms,

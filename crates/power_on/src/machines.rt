@@ -26,11 +26,7 @@ const OS_SIZE: usize = 16_384;
 
 /// The second processor of this clock at power-on, with this boot ROM.
 #[tactic(auto, unfolding(crate::specs::Machines::rom_of))]
-pub fn machine_of(
-    alloc: Global,
-    clock: Clock,
-    rom: Vec<u8>,
-) -> Result<ParaMachine, Refusal<Cause>>
+pub fn machine_of(alloc: Global, clock: Clock, rom: Vec<u8>) -> Result<ParaMachine, Refusal<Cause>>
     ensures { let made = rom_of rom.items in
         MatchResult result (λ machine. (machine ≡ power_on clock rom.items) × (made ≡ Ok rom.items))
         (λ refusal. Gives (λ (rom : List ℕ). rom) (Err refusal) made) }
@@ -73,7 +69,11 @@ pub fn machines_of<D: BusDevice>(
     ensures host_starts { IfOk result (λ m. host_moves.closed (host_seen D.plug m.0) ≡ 0) }
     ensures para_starts { IfOk result (λ m. para_moves.closed m.1 ≡ 0) }
 {
-    let Setup { clock, kinds, plugs } = setup;
+    let Setup {
+        clock,
+        kinds,
+        plugs,
+    } = setup;
     test_os(&inputs.os)?;
     let para = machine_of(alloc, clock, inputs.tube)?;
     let roms = roms_of(inputs.os, inputs.roms, inputs.font)?;

@@ -1,7 +1,6 @@
 -- What the talkers of the tests ask, and what they hear.
 use Rattle.std.specs.Prelude.{ℕ, zero, suc, ◌+◌, ◌*◌, ◌%◌, Bool, true, false, not, Option, None, Some}
 use Rattle.std.proofs.Common.{arith}
-use Rattle.beeb_bits.specs.Bits.{weight}
 use Rattle.beeb_bits.specs.declared.Side.{Side}
 use Rattle.tube_chip.specs.declared.Op.TheVariants.{Read, Write}
 use Rattle.tube_chip.specs.declared.Answer.{Answer}

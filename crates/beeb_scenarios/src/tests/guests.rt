@@ -70,10 +70,7 @@ impl BusDevice for Mute {
 }
 
 /// The devices of these names, parted by blanks.
-pub(crate) fn devices(
-    alloc: Global,
-    names: &str,
-) -> Result<Vec<Box<dyn BusDevice + Send>>, Fail> {
+pub(crate) fn devices(alloc: Global, names: &str) -> Result<Vec<Box<dyn BusDevice + Send>>, Fail> {
     let mut plugs: Vec<Box<dyn BusDevice + Send>> = Vec::new(alloc);
     for name in names.split(' ') {
         match name {

@@ -267,7 +267,14 @@ impl Scene {
     // The devices that are handed in: the program's, where no others are named.
     fn devices(&self) -> Result<Vec<Box<dyn BusDevice + Send>>, Fail> {
         let names = text_of(&self.plugs);
-        devices(self.alloc, if names.is_empty() { "card latch" } else { names })
+        devices(
+            self.alloc,
+            if names.is_empty() {
+                "card latch"
+            } else {
+                names
+            },
+        )
     }
 
     fn shelf(&self) -> Result<MemShelf, AllocError> {

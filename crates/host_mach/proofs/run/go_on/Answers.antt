@@ -101,5 +101,5 @@ returns-then-due-bound-clause-stops g c =
     let over : next c.args.cpu.now ≡ None = search rules in (
       over,
       kept-back (λ t. bus_break_pending (bus_seen g.D.BusDevice.plug c.args.bus.now) t) (min c.args.until c.args.sure) c.break_tick-next_break.result c.args.from
-      c.break_tick-next_break.ensures.some (omega (arith, c.requires.room)) (omega (arith, c.if-due-bound.true, c.min.ensures, c.min-bound.ensures)),
+          c.break_tick-next_break.ensures.some (omega (arith, c.requires.room)) (omega (arith, c.if-due-bound.true, c.min.ensures, c.min-bound.ensures)),
     )
