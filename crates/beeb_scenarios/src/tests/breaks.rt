@@ -96,7 +96,7 @@ $ solo 100 o --os os --tube tube --keys keys
 = 0
 file o.trace
 | 0000000041 H X 0 00
-# The run ends before the step, and behind it.
+## The run ends before the step, and behind it.
 $ solo 65 o --os os --tube tube --keys keys
 = 0
 file o.trace
@@ -174,7 +174,7 @@ $ solo 50 o --os os --tube tube --keys keys
 = 0
 file o.trace
 | 0000000026 H X 0 00
-# Those that are pending are one step; a later one is one of its own, at the look of the reset's sequence.
+## Those that are pending are one step; a later one is one of its own, at the look of the reset's sequence.
 keys
 | at 30 break
 | at 30 break
