@@ -49,6 +49,26 @@ $ replay host t 100 o --os os
 t
 $ replay host t 100 o --os os --keys keys
 = 8: differs 1 000000003E H X 0 00
+# The reset operation in a trace: it clears the flags. It is the host's, with register 0 and byte 00.
+t
+| 0000000000 H W 0 9F
+| 0000000003 H R 0 5F
+| 0000000006 H X 0 00
+| 0000000009 H R 0 40
+$ check t
+= 0: ok 4
+t
+| 0000000000 P X 0 00
+$ check t
+= 4 bad trace 1 kind 1
+t
+| 0000000000 H X 1 00
+$ check t
+= 4 bad trace 1 kind 1
+t
+| 0000000000 H X 0 01
+$ check t
+= 4 bad trace 1 kind 1
 # At 4 MHz the same is at twice the tick.
 os
 | org &C000
