@@ -473,7 +473,9 @@ impl ParaMachine {
         requires room { self.old.due < 2 ^ 40 }
         requires looks { looks self.old ≡ true }
         requires counted { (resets ≢ self.old.resets) ⊎ (nmis ≢ self.old.nmis) }
-        ensures { (pirq : Bool) (hirq : Bool) → self.new ≡ next_state self.old (Some (Seen (record { prst = prst; resets = resets; nmis = nmis; pirq = pirq; hirq = hirq }))) }
+        ensures { (pirq : Bool) (hirq : Bool) →
+            self.new ≡ next_state self.old
+            (Some (Seen (record { prst = prst; resets = resets; nmis = nmis; pirq = pirq; hirq = hirq }))) }
     {
         if resets != self.resets {
             if prst {
@@ -590,7 +592,10 @@ impl Rewinds for ParaMachine {
     ) -> Option<Ask>
         requires { until.0 ≤ 2 ^ 30 }
         ensures some { IsSome result }
-        ensures noted { MatchOption result (self.new ≡ self.old) (λ ask. Goes para_moves until.0 (shown lines.now sure.0) self.old ask self.new × (taken_back past.new.cpu past.new.was_held past.new.due past.new.lag past.new.undo_log.stood.items self.new ≡ self.old)) }
+        ensures noted { let past = past.new in
+            MatchOption result (self.new ≡ self.old) (λ ask.
+            Goes para_moves until.0 (shown lines.now sure.0) self.old ask self.new
+            × (taken_back past.cpu past.was_held past.due past.lag past.undo_log.stood.items self.new ≡ self.old)) }
     {
         self.mark(past);
         Some(self.go_on(until, lines, sure, &mut past.undo_log))

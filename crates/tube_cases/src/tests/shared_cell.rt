@@ -80,8 +80,10 @@ fn turn<R: Wait>(
     requires published { (mine.old.ahead ≡ []) × (mine.old.trusted ≡ []) × (theirs.old.ahead ≡ []) × (theirs.old.trusted ≡ []) }
     requires operation { MayDo mine.old.side op }
     requires later { (own_horizon mine.old ≤ t) × (own_horizon theirs.old ≤ t) × (t < 2 ^ 30) }
-    ensures mine { (mine.new.cell ≡ mine.old.cell) × (mine.new.side ≡ mine.old.side) × (mine.new.ahead ≡ []) × (mine.new.trusted ≡ []) × (own_horizon mine.new ≤ t + 1) }
-    ensures theirs { (theirs.new.cell ≡ theirs.old.cell) × (theirs.new.side ≡ theirs.old.side) × (theirs.new.ahead ≡ []) × (theirs.new.trusted ≡ []) × (own_horizon theirs.new ≤ t + 1) }
+    ensures mine { (mine.new.cell ≡ mine.old.cell) × (mine.new.side ≡ mine.old.side)
+        × (mine.new.ahead ≡ []) × (mine.new.trusted ≡ []) × (own_horizon mine.new ≤ t + 1) }
+    ensures theirs { (theirs.new.cell ≡ theirs.old.cell) × (theirs.new.side ≡ theirs.old.side)
+        × (theirs.new.ahead ≡ []) × (theirs.new.trusted ≡ []) × (own_horizon theirs.new ≤ t + 1) }
 {
     cell.learn(rt, theirs);
     cell.raise(rt, theirs, Tick(t + 1));
