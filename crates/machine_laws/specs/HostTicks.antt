@@ -1,7 +1,7 @@
 -- How long a sequence of the host takes: an instruction, a reset, an NMI or an IRQ, from its first access to the look behind its last one, or to
 -- the break step in place of that look.
 -- (MCS6500 Hardware Manual, summary of single cycle execution; BBC Microcomputer Advanced User Guide, the 1 MHz bus.)
-use Rattle.std.specs.Prelude.{ℕ, ◌+◌, ◌*◌, ◌/◌, ◌%◌, ◌≡◌, ◌≤◌, ◌<◌, ◌==◌, false, List, [], ◌∷◌, ◌++◌, length, Option, Some, None, is_none, if◌then◌else◌}
+use Rattle.std.specs.Prelude.{ℕ, ◌+◌, ◌-◌, ◌*◌, ◌/◌, ◌%◌, ◌||◌, Bool, ◌≡◌, ◌≤◌, ◌<◌, ◌==◌, false, List, [], ◌∷◌, ◌++◌, length, Option, Some, None, is_none, if◌then◌else◌}
 use Rattle.beeb_bits.specs.declared.clock.Clock.{Clock}
 use Rattle.beeb_bits.specs.Clock.{host}
 use Rattle.op_table.specs.declared.names.Part.TheVariants.{Nmos}
@@ -11,9 +11,13 @@ use Rattle.cpu_core.specs.declared.Sequence.TheVariants.{Instruction}
 use Rattle.cpu_core.specs.Accesses.{row_at}
 use Rattle.cpu6502.specs.Sequences.{next}
 use Rattle.tube_chip.specs.declared.Answer.{Answer}
+use Rattle.bus_plug.specs.Plug.{Plug}
+use Rattle.rom_set.specs.Roms.{Roms}
+use Rattle.disc_image.specs.Image.{Image}
+use Rattle.key_script.specs.declared.Event.{Event}
 use Rattle.host_bus.specs.Map.{stretched_in, memory_map}
 use Rattle.host_bus.specs.Bus.{clock_of}
-use Rattle.host_mach.specs.State.{HostState}
+use Rattle.host_mach.specs.State.{HostState, cycle_of, power_on}
 use Rattle.host_mach.specs.Step.{address, is_break, next_state}
 use Rattle.machine_laws.specs.Cycles.{the_cycle}
 
@@ -53,6 +57,20 @@ pub record HostTakes : Type 0 where
   pub behind : (s : HostState) (answers : List (Option Answer)) (answer : Option Answer) →
       0 < length answers → AllAccess answers s → next (run answers s).cpu ≡ None →
       (next_state (run answers s) answer).due ≡ s.due + takes (clock_of s.bus) s.due (cycles answers s)
+
+-- whether tick t is the last of a cycle of n ticks, or else the first
+abbrev pub IsAt : Bool → ℕ → ℕ → Type 0
+IsAt ends n t = t % n ≡ (if ends then n - 1 else 0)
+
+-- an access is at the first tick of a cycle, and a look or a break step at the last tick of one
+abbrev pub IsOnCycle : HostState → Type 0
+IsOnCycle s = IsAt (is_break s || is_none (next s.cpu)) (cycle_of s) s.due
+
+-- So it is at power-on, and after each step.
+pub record HostKeepsCycles : Type 0 where
+  pub first : (clock : Clock) (roms : Roms) (d0 d1 : Option Image) (script : List Event) (plugs : List Plug) →
+      IsOnCycle (power_on clock roms d0 d1 script plugs)
+  pub next : (s : HostState) (answer : Option Answer) → IsOnCycle s → IsOnCycle (next_state s answer)
 
 -- An instruction that is over has made at least as many accesses as the table has cycles for its opcode, which is the first byte that it saw.
 abbrev pub HostTakesTheTable : Type 0

@@ -1,10 +1,15 @@
 //! How long the sequences of both processors take.
-ghost use Rattle.machine_laws.specs.HostTicks.{HostTakes, HostTakesTheTable};
+ghost use Rattle.machine_laws.specs.HostTicks.{HostTakes, HostKeepsCycles, HostTakesTheTable};
 ghost use Rattle.machine_laws.specs.ParaTicks.{ParaTakes, ParaTakesTheTable};
 
 /// A sequence of the host takes as many ticks as a cycle has for each of its cycles, and for one or two more of each access that waits.
 pub fn host_sequences_take_their_ticks()
     ensures { HostTakes }
+{}
+
+/// Each access of the host is at the first tick of a cycle, and each look and each break step at the last tick of one.
+pub fn the_host_keeps_to_its_cycles()
+    ensures { HostKeepsCycles }
 {}
 
 /// An instruction of the host has at least the cycles that the instruction table has for it.
