@@ -1,0 +1,240 @@
+#!/usr/bin/env python3
+"""Makes what tells the words of beebtube from the program's own table of options, crates/beeb_words/src/keys.rt:
+the man page docs/beebtube.1, the completion tools/completion.bash, and the list of options in docs/COMMANDS.md.
+
+  docs/options.py make     writes them
+  docs/options.py check    says which of them is not what it would write, with status 1
+
+An option without a text here is refused, and so is a text without an option.
+"""
+import os
+import re
+import sys
+import textwrap
+
+TOP = os.path.dirname(os.path.dirname(os.path.realpath(__file__)))
+
+# The commands that take options, by the names of the table's fields.
+TAKERS = {"replay_host": "replay host", "replay_para": "replay para", "solo": "solo", "run": "run"}
+
+# Each option: the name of its value, and what it is. The sixteen of paged ROMs are one.
+TEXTS = {
+    "--os": ("ROM", "the host's operating system, 16,384 bytes"),
+    "--tube": ("ROM", "the second processor's boot ROM, 2,048 bytes"),
+    "--romN": ("ROM", "a paged ROM in slot N, from 0 to 15, 8,192 or 16,384 bytes"),
+    "--font": ("FONT", "the teletext chip's font, 960 bytes; without it the chip shows blanks for letters"),
+    "--disc0": ("IMAGE", "the disc in drive 0: a DSD where the name ends in .dsd, else an SSD"),
+    "--disc1": ("IMAGE", "the disc in drive 1"),
+    "--keys": ("SCRIPT", "the key script: keys, shots and BREAK"),
+    "--plugs": ("N", "the first N devices on the 1 MHz bus: with 1 a RAM card, with 2 a printer's latch too"),
+    "--keep": ("K", "how many accesses to the Tube the trace has at most; 1,048,576 without it"),
+    "--speed": ("MHZ", "the second processor's clock; 3 without it"),
+}
+
+COMMANDS = [
+    ("check TRACE", "says whether the chip would give the answers of a Tube trace"),
+    ("asm PART SOURCE OUT", "assembles a source text for PART, 6502 or 65c02"),
+    ("dis PART IMAGE ORIGIN OUT", "writes the source text of an image's bytes, which stand from ORIGIN on"),
+    ("replay host TRACE TICKS OUT [OPTION ..]", "runs the BBC Micro alone against a trace"),
+    ("replay para TRACE TICKS OUT [OPTION ..]", "runs the second processor alone against a trace"),
+    ("solo TICKS OUT [OPTION ..]", "runs both machines on one thread"),
+    ("run TICKS OUT [OPTION ..]", "runs both machines, each in a thread of its own"),
+    ("gen SEED", "makes and runs a demonstration of a seed, a number below 2^64"),
+]
+
+OUTPUTS = [
+    ("OUT.report", "registers, and how many accesses and frames there were"),
+    ("OUT.host, OUT.para", "the memories, 32,768 and 65,536 bytes"),
+    ("OUT.d0, OUT.d1", "the discs, where drives have any"),
+    ("OUT.000.ppm ..", "the frames that the shots of the key script took, 640 by 256"),
+    ("OUT.trace", "the Tube trace, of solo and run"),
+    ("OUT.plug0, OUT.plug1", "what the plugged devices hold"),
+]
+
+STATUSES = [
+    (0, "done"),
+    (1, "usage: the words spell no command"),
+    (2, "a file could not be read, or is too long"),
+    (3, "an image has a wrong length"),
+    (4, "a trace, script or source is outside its form; the line is said"),
+    (5, "a file could not be written"),
+    (6, "no thread could be started"),
+    (7, "no memory"),
+    (8, "wrong or differs: the trace is not what the chip or the machine does"),
+]
+
+
+class Option:
+    def __init__(self, word, takers, form, detail):
+        self.word, self.takers = word, takers
+        self.is_file = form in ("File", "Output")
+        self.choices = detail if form == "OneOf" else []
+        self.limits = detail if form == "Number" else None
+        self.words = [word]
+
+    # The least and the most, or the words, that the table has.
+    def value_text(self):
+        if self.choices:
+            return " or ".join(self.choices)
+        if self.limits:
+            return "from {:,} to {:,}".format(*self.limits)
+        return ""
+
+    def text(self):
+        text = TEXTS[self.word][1]
+        return text + ("; it is " + self.value_text() if self.value_text() else "")
+
+
+def table():
+    with open(TOP + "/crates/beeb_words/src/keys.rt") as file:
+        source = file.read()
+    sets = {}
+    for name, body in re.findall(r"const (\w+): Takers = Takers \{(.*?)\};", source, re.S):
+        sets[name] = [field for field, yes in re.findall(r"(\w+): (true|false)", body) if yes == "true"]
+    lists = {name: re.findall(r'"(.*?)"', body) for name, body in re.findall(r"const (\w+): &\[&str\] = &\[(.*?)\];", source)}
+    body = source[source.index("fn table()") :]
+    body = body[: body.index("\n}\n")]
+    options = []
+    for word, takers, form, rest in re.findall(r'row\(\s*"(--\w+)",\s*(\w+),\s*Value::(\w+)(.*?)\)?,?\s*\)(?=,\n)', body, re.S):
+        detail = None
+        if form == "Number":
+            detail = [int(number.replace("_", "")) for number in re.findall(r"(?:least|most): ([0-9_]+)", rest)]
+        elif form == "OneOf":
+            detail = lists[rest.strip("( )\n,")]
+        option = Option(re.sub(r"^--rom[0-9]+$", "--romN", word), [TAKERS[field] for field in sets[takers]], form, detail)
+        if options and options[-1].word == option.word:
+            options[-1].words.append(word)
+        else:
+            option.words = [word]
+            options.append(option)
+    count = int(re.search(r"COUNT: usize = ([0-9]+);", source).group(1))
+    found = sum(len(option.words) for option in options)
+    if found != count:
+        sys.exit("options: %d options of the table were read, not %d" % (found, count))
+    if [option.word for option in options if option.word not in TEXTS] or set(TEXTS) - {option.word for option in options}:
+        sys.exit("options: the texts here and the table have other options: %s"
+                 % " ".join(sorted({option.word for option in options} ^ set(TEXTS))))
+    return options
+
+
+def wrapped(text, first, rest):
+    return textwrap.wrap(text, 100, initial_indent=first, subsequent_indent=rest, break_long_words=False, break_on_hyphens=False)
+
+
+def list_of(options):
+    lines = []
+    for option in options:
+        takers = ", ".join("`%s`" % taker for taker in option.takers)
+        lines += wrapped("`%s %s` (%s): %s." % (option.word, TEXTS[option.word][0], takers, option.text()), "- ", "  ")
+    return "\n".join(lines)
+
+
+def escaped(text):
+    return text.replace("\\", "\\\\").replace("-", "\\-").replace("'", "\\(aq")
+
+
+def man_of(options):
+    lines = [
+        ".\\\" Made by docs/options.py.",
+        ".TH BEEBTUBE 1",
+        ".SH NAME",
+        "beebtube \\- the BBC Micro Model B and the 6502 Second Processor, joined by the Tube",
+        ".SH SYNOPSIS",
+    ]
+    for words, _ in COMMANDS:
+        lines += [".B beebtube " + words.split()[0], ".I " + escaped(" ".join(words.split()[1:])), ".br"]
+    lines += [
+        ".SH DESCRIPTION",
+        "beebtube emulates two computers at once. Its runs repeat byte for byte: what run writes with status 0",
+        "is, whatever the threads did, the reference run of its inputs, which is proved.",
+        "TICKS are of 1/6 microsecond, 6,000,000 a second, or with \\-\\-speed 4 of 1/12; at most 1,073,741,824.",
+        "Options may stand in any place after the command word.",
+        ".SH COMMANDS",
+    ]
+    for words, text in COMMANDS:
+        lines += [".TP", ".B " + escaped(words), escaped(text) + "."]
+    lines.append(".SH OPTIONS")
+    for option in options:
+        lines += [".TP", ".BI " + escaped(option.word) + " \\ " + TEXTS[option.word][0], escaped(option.text()) + ".",
+                  "Taken by " + ", ".join(option.takers) + "."]
+    lines.append(".SH FILES")
+    for name, text in OUTPUTS:
+        lines += [".TP", ".I " + escaped(name), escaped(text) + "."]
+    lines.append(".SH EXIT STATUS")
+    for number, text in STATUSES:
+        lines += [".TP", ".B %d" % number, escaped(text) + "."]
+    lines += [".SH SEE ALSO", "README.md, docs/COMMANDS.md, docs/KEYS.md, docs/ROMS.md, docs/TOOLS.md"]
+    return "\n".join(lines) + "\n"
+
+
+def completion_of(options):
+    lines = [
+        "# Made by docs/options.py. For bash: source tools/completion.bash; for zsh: autoload bashcompinit && bashcompinit",
+        "# before it.",
+        "_beebtube() {",
+        "    local word=${COMP_WORDS[COMP_CWORD]} before=${COMP_WORDS[COMP_CWORD - 1]} command=${COMP_WORDS[1]:-} words=",
+        "    [ \"$command\" != replay ] || command=\"replay ${COMP_WORDS[2]:-}\"",
+        "    COMPREPLY=()",
+        "    if [ \"$COMP_CWORD\" -eq 1 ]; then",
+        "        mapfile -t COMPREPLY < <(compgen -W '%s' -- \"$word\")" % " ".join(dict.fromkeys(words.split()[0] for words, _ in COMMANDS)),
+        "        return",
+        "    fi",
+        "    case $before in",
+        "        replay) words='host para' ;;",
+        "        asm | dis) words='6502 65c02' ;;",
+    ]
+    for option in options:
+        if option.choices:
+            lines.append("        %s) words='%s' ;;" % (option.word, " ".join(option.choices)))
+    plain = [option.word for option in options if not option.is_file and not option.choices]
+    lines += [
+        "        %s) return ;;" % " | ".join(plain),
+        "    esac",
+        "    if [ -z \"$words\" ] && [ \"${word:0:1}\" = - ]; then",
+        "        case $command in",
+    ]
+    for taker in TAKERS.values():
+        taken = [word for option in options if taker in option.takers for word in option.words]
+        body = textwrap.wrap(" ".join(taken), 88)
+        lines += ["            '%s') words='%s" % (taker, body[0])] + ["                " + line for line in body[1:]]
+        lines[-1] += "' ;;"
+    lines += [
+        "        esac",
+        "    fi",
+        "    if [ -n \"$words\" ]; then",
+        "        mapfile -t COMPREPLY < <(compgen -W \"$words\" -- \"$word\")",
+        "    else",
+        "        mapfile -t COMPREPLY < <(compgen -f -- \"$word\")",
+        "    fi",
+        "}",
+        "complete -o filenames -F _beebtube beebtube ./beebtube",
+    ]
+    return "\n".join(lines) + "\n"
+
+
+# The page with its list between the two marks made anew.
+def page_of(text, options):
+    return re.sub(r"(<!-- options, made by docs/options.py -->\n).*?(<!-- end -->)",
+                  lambda found: found.group(1) + list_of(options) + "\n" + found.group(2), text, flags=re.S)
+
+
+def main():
+    how = sys.argv[1:]
+    if how not in (["make"], ["check"]):
+        sys.exit(__doc__.strip())
+    options = table()
+    with open(TOP + "/docs/COMMANDS.md") as file:
+        page = file.read()
+    files = {"docs/beebtube.1": man_of(options), "tools/completion.bash": completion_of(options), "docs/COMMANDS.md": page_of(page, options)}
+    same = True
+    for name, text in files.items():
+        if how == ["make"]:
+            with open(TOP + "/" + name, "w") as file:
+                file.write(text)
+        elif not os.path.exists(TOP + "/" + name) or open(TOP + "/" + name).read() != text:
+            print("%s is not what docs/options.py makes" % name)
+            same = False
+    sys.exit(0 if same else 1)
+
+
+main()

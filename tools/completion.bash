@@ -1,0 +1,36 @@
+# Made by docs/options.py. For bash: source tools/completion.bash; for zsh: autoload bashcompinit && bashcompinit
+# before it.
+_beebtube() {
+    local word=${COMP_WORDS[COMP_CWORD]} before=${COMP_WORDS[COMP_CWORD - 1]} command=${COMP_WORDS[1]:-} words=
+    [ "$command" != replay ] || command="replay ${COMP_WORDS[2]:-}"
+    COMPREPLY=()
+    if [ "$COMP_CWORD" -eq 1 ]; then
+        mapfile -t COMPREPLY < <(compgen -W 'check asm dis replay solo run gen' -- "$word")
+        return
+    fi
+    case $before in
+        replay) words='host para' ;;
+        asm | dis) words='6502 65c02' ;;
+        --speed) words='3 4' ;;
+        --plugs | --keep) return ;;
+    esac
+    if [ -z "$words" ] && [ "${word:0:1}" = - ]; then
+        case $command in
+            'replay host') words='--os --rom0 --rom1 --rom2 --rom3 --rom4 --rom5 --rom6 --rom7 --rom8 --rom9 --rom10
+                --rom11 --rom12 --rom13 --rom14 --rom15 --font --disc0 --disc1 --keys --plugs --speed' ;;
+            'replay para') words='--tube --speed' ;;
+            'solo') words='--os --tube --rom0 --rom1 --rom2 --rom3 --rom4 --rom5 --rom6 --rom7 --rom8 --rom9
+                --rom10 --rom11 --rom12 --rom13 --rom14 --rom15 --font --disc0 --disc1 --keys --plugs
+                --keep --speed' ;;
+            'run') words='--os --tube --rom0 --rom1 --rom2 --rom3 --rom4 --rom5 --rom6 --rom7 --rom8 --rom9
+                --rom10 --rom11 --rom12 --rom13 --rom14 --rom15 --font --disc0 --disc1 --keys --plugs
+                --keep --speed' ;;
+        esac
+    fi
+    if [ -n "$words" ]; then
+        mapfile -t COMPREPLY < <(compgen -W "$words" -- "$word")
+    else
+        mapfile -t COMPREPLY < <(compgen -f -- "$word")
+    fi
+}
+complete -o filenames -F _beebtube beebtube ./beebtube
