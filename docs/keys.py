@@ -23,7 +23,7 @@ ROWS = [
     (4, [("SPACE", 8)]),
 ]
 UNIT, HIGH, GAP = 54, 50, 3
-WIDTH, HEIGHT = 17 * UNIT + 8, 6 * HIGH + 8
+WIDTH, HEIGHT = 940, 6 * HIGH + 8
 BACK, KEY, INK, NUMBER = 255, 40, 255, 170
 
 
@@ -53,6 +53,7 @@ class Picture:
         self.shapes = shapes()
 
     def box(self, left, top, right, bottom, colour):
+        assert 0 <= left <= right <= WIDTH and bottom <= HEIGHT
         for y in range(top, bottom):
             self.dots[y][left:right] = bytes([colour] * (right - left))
 

@@ -1,6 +1,6 @@
 #!/usr/bin/env bash
 # Makes this folder's pictures anew from the frames that the program writes: the screens of
-# examples/screen-os.asm in modes 0 to 7, the typed text of the README, and the keyboard's matrix. With the
+# examples/screen-os.asm in modes 0 to 7, and the typed text of the README. With the
 # word `check` it tells which of them show something else.
 set -eu
 top=$(cd "$(dirname "$0")/.." && pwd)
@@ -18,3 +18,8 @@ how=${1:-make}
 : >empty.trace
 "$top/beebtube" replay host empty.trace 23000000 screen --os os --font font --keys "$top/examples/screen.keys"
 for mode in 0 1 2 3 4 5 6 7; do picture "screen.00$mode.ppm" "mode$mode.png"; done
+
+"$top/examples/typing.sh"
+"$top/tools/type" --shot 'Hello, world!{RETURN}' >hello.keys 2>told
+"$top/beebtube" run 15000000 hello --os os --tube tube --font font --keys hello.keys
+picture hello.000.ppm hello.png
