@@ -169,8 +169,7 @@ def man_of(options):
 
 def completion_of(options):
     lines = [
-        "# Made by docs/options.py. For bash: source tools/completion.bash; for zsh: autoload bashcompinit && bashcompinit",
-        "# before it.",
+        "# Made by docs/options.py. For bash: source tools/completion.bash",
         "_beebtube() {",
         "    local word=${COMP_WORDS[COMP_CWORD]} before=${COMP_WORDS[COMP_CWORD - 1]} command=${COMP_WORDS[1]:-} words=",
         "    [ \"$command\" != replay ] || command=\"replay ${COMP_WORDS[2]:-}\"",
