@@ -2,5 +2,5 @@ pub mod State
 pub mod Registers
 pub mod Clock
 pub mod Laws
-pub mod Steps
+pub mod CodeSteps
 pub mod Pictures

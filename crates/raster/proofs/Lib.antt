@@ -3,4 +3,4 @@ pub mod Marks
 pub mod Runs
 pub mod Eights
 pub mod Told
-pub mod Settled
+pub mod Quiet

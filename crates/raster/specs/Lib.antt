@@ -4,5 +4,5 @@ pub mod Text
 pub mod State
 pub mod Clock
 pub mod Lending
-pub mod Steps
-pub mod Settled
+pub mod CodeSteps
+pub mod CodeQuiet

@@ -2,8 +2,8 @@
 #![tactic(auto)]
 
 mod beam;
+mod canvas;
 mod frame;
-mod picture;
 mod place;
 mod raster;
 mod screen;

@@ -4,4 +4,4 @@ pub mod Lines
 pub mod Registers
 pub mod Step
 pub mod Laws
-pub mod Quiet
+pub mod CodeQuiet

@@ -3,7 +3,7 @@ ghost use Rattle.std.specs.Prelude.{◌≡◌, ◌<◌};
 ghost use Rattle.via6522.specs.State.{power_on};
 ghost use Rattle.via6522.specs.Registers.{out_a, out_b, asks, answer_of, read_leaves, write_leaves};
 ghost use Rattle.via6522.specs.Step.{step, steps};
-ghost use Rattle.via6522.specs.Quiet.{pins_with};
+ghost use Rattle.via6522.specs.CodeQuiet.{pins_with};
 
 use crate::Pins;
 use crate::chip::Chip;
@@ -25,7 +25,7 @@ impl Model for Via {
     ghost use Rattle.std.specs.Prelude.{◌≡◌};
     ghost use Rattle.via6522.specs.State.{State};
     ghost use Rattle.via6522.specs.Registers.{asks};
-    ghost use Rattle.via6522.specs.Quiet.{ahead, IsQuiet};
+    ghost use Rattle.via6522.specs.CodeQuiet.{ahead, IsQuiet};
 
     ghost Value = { State };
 

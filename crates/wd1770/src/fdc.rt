@@ -23,7 +23,7 @@ pub struct Fdc {
 impl Model for Fdc {
     ghost use Rattle.std.specs.Prelude.{◌≤◌};
     ghost use Rattle.wd1770.specs.State.{State};
-    ghost use Rattle.wd1770.specs.Quiet.{later, quiet_steps};
+    ghost use Rattle.wd1770.specs.CodeQuiet.{later, quiet_steps};
 
     ghost Value = { State };
 
