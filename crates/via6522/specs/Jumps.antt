@@ -38,7 +38,14 @@ timers_later n c = record c {
   };
 }
 
--- up to n steps surely do not set a timer's flag, where it is enabled
+-- up to n steps surely do not set a timer's flag
+abbrev pub Timer1SetsNoFlag : Bool → ℕ → Timer1 → Type 0
+Timer1SetsNoFlag free n t = (m : ℕ) → m ≤ n → timer1_flags_within free m t ≡ false
+
+abbrev pub Timer2SetsNoFlag : Bool → ℕ → Timer2 → Type 0
+Timer2SetsNoFlag still n t = (m : ℕ) → m ≤ n → timer2_flags_within still m t ≡ false
+
+-- the same for those of a chip, where the flag is enabled
 abbrev pub Timer1IsCalm : ℕ → State → Type 0
 Timer1IsCalm n c = (m : ℕ) → m ≤ n → c.enabled.timer1 ≡ true → timer1_flags_within (bit c.acr 6) m c.timer1 ≡ false
 

@@ -1,7 +1,7 @@
 //! Timer 1.
-ghost use Rattle.std.specs.Prelude.{ℕ, ◌≡◌, ◌<◌, ◌≤◌, ◌+◌, false, true};
+ghost use Rattle.std.specs.Prelude.{◌≡◌, ◌<◌, ◌+◌, false, true};
 ghost use Rattle.via6522.specs.Timers.{word, timer1_after, timer1_flags, timer1_started};
-ghost use Rattle.via6522.specs.Jumps.{timer1_at_end, timer1_later, timer1_flags_within};
+ghost use Rattle.via6522.specs.Jumps.{timer1_at_end, timer1_later, timer1_flags_within, Timer1SetsNoFlag};
 ghost use Rattle.via6522.specs.Quiet.{timer1_ahead};
 
 use std::marker::Model;
@@ -118,7 +118,7 @@ impl Timer1 {
     pub(crate) fn calm(&self, runs_free: bool, quiet: u16) -> u64
         requires within { self.now.counter + quiet < 65536 }
         requires loaded { 0 < quiet → self.now.reload ≡ false }
-        ensures { (m : ℕ) → m ≤ result → timer1_flags_within runs_free m (timer1_ahead quiet self.now) ≡ false }
+        ensures { Timer1SetsNoFlag runs_free result (timer1_ahead quiet self.now) }
     {
         if !runs_free && !self.armed {
             return u64::MAX;

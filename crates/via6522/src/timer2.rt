@@ -1,8 +1,8 @@
 //! Timer 2.
-ghost use Rattle.std.specs.Prelude.{ℕ, ◌≡◌, ◌<◌, ◌≤◌, ◌+◌, false};
+ghost use Rattle.std.specs.Prelude.{◌≡◌, ◌<◌, ◌+◌, false};
 ghost use Rattle.via6522.specs.Timers.{timer2_after, timer2_flags, timer2_started};
 ghost use Rattle.via6522.specs.Quiet.{timer2_ahead};
-ghost use Rattle.via6522.specs.Jumps.{timer2_later, timer2_flags_within};
+ghost use Rattle.via6522.specs.Jumps.{timer2_later, timer2_flags_within, Timer2SetsNoFlag};
 
 use crate::timer1::word;
 use std::marker::Model;
@@ -84,7 +84,7 @@ impl Timer2 {
     /// A number of steps that surely do not set the flag, from `quiet` quiet steps before.
     pub(crate) fn calm(&self, stands_still: bool, quiet: u16) -> u64
         requires { stands_still ≡ false → self.now.counter + quiet < 65536 }
-        ensures { (m : ℕ) → m ≤ result → timer2_flags_within stands_still m (timer2_ahead stands_still quiet self.now) ≡ false }
+        ensures { Timer2SetsNoFlag stands_still result (timer2_ahead stands_still quiet self.now) }
     {
         if stands_still {
             return u64::MAX;
