@@ -6,3 +6,4 @@ pub mod Clock
 pub mod Lending
 pub mod Steps
 pub mod Settled
+pub mod Reads

@@ -3,6 +3,7 @@
 
 mod beam;
 mod frame;
+mod law;
 mod picture;
 mod place;
 mod raster;
@@ -10,4 +11,5 @@ mod screen;
 mod text;
 
 pub use frame::Frame;
+pub use law::{reads_go_on, stores_below_are_unseen};
 pub use raster::Raster;
