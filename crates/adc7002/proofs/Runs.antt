@@ -4,7 +4,7 @@ use Rattle.std.proofs.lemmas.Bool.{cases_eq}
 use Rattle.std.proofs.lemmas.Bool.Decides.{nat_tests}
 use Rattle.adc7002.specs.State.{State}
 use Rattle.adc7002.specs.Registers.{channel}
-use Rattle.adc7002.specs.Step.{ended, step, after_steps, steps}
+use Rattle.adc7002.specs.Step.{end_leaves, step, after_steps, steps}
 
 test_true : (a b : ℕ) → a ≡ b → (a == b) ≡ true
 test_true a b h = grind (arith, nat_tests)
@@ -19,7 +19,7 @@ step_at_rest levels a none = rw (test_true a.left 0 none) refl
 step_inside : (levels : List ℕ) (a : State) → 1 < a.left → step levels a ≡ record a { left = a.left - 1 }
 step_inside levels a more = rw (test_false a.left 0 (λ e. omega (arith, e)), test_false a.left 1 (λ e. omega (arith, e))) refl
 
-pub step_last : (levels : List ℕ) (a : State) → a.left ≡ 1 → step levels a ≡ ended (slice_index levels (channel a.kept)) a
+pub step_last : (levels : List ℕ) (a : State) → a.left ≡ 1 → step levels a ≡ end_leaves (slice_index levels (channel a.kept)) a
 step_last levels a last = rw (test_false a.left 0 (λ e. omega (arith, e)), test_true a.left 1 last) refl
 
 -- the converter with so many steps left
@@ -47,11 +47,11 @@ steps_inside levels zero left a all some = let e : a.left ≡ left = omega arith
 steps_inside levels (suc n) left a all some =
     ap (steps levels n) (step_inside levels a (omega arith)) ∙ steps_inside levels n left (record a { left = a.left - 1 }) (omega arith) some
 
-pub steps_to_end : (levels : List ℕ) (n : ℕ) (a : State) → 0 < a.left → a.left ≤ n → steps levels n a ≡ ended (slice_index levels (channel a.kept)) a
+pub steps_to_end : (levels : List ℕ) (n : ℕ) (a : State) → 0 < a.left → a.left ≤ n → steps levels n a ≡ end_leaves (slice_index levels (channel a.kept)) a
 unfolding steps
 steps_to_end levels zero a some enough = absurd (omega arith)
 steps_to_end levels (suc n) a some enough =
     elim (cases_eq a.left 1) [
-      | inl last ↦ ap (steps levels n) (step_last levels a last) ∙ no_steps_left levels n (ended (slice_index levels (channel a.kept)) a) refl
+      | inl last ↦ ap (steps levels n) (step_last levels a last) ∙ no_steps_left levels n (end_leaves (slice_index levels (channel a.kept)) a) refl
       | inr more ↦ ap (steps levels n) (step_inside levels a (omega arith)) ∙ steps_to_end levels n (record a { left = a.left - 1 }) (omega arith) (omega arith)
     ]

@@ -5,14 +5,14 @@ use Rattle.adc7002.specs.Registers.{channel, has_12_bits, duration, write_leaves
 use Rattle.adc7002.specs.Step.{step, after_steps}
 
 -- a level to 12 bits, or to 8
-abbrev pub rounded : Bool → ℕ → ℕ
-rounded long level = if long then 16 * (level / 16) else 256 * (level / 256)
+abbrev pub rounded_level : Bool → ℕ → ℕ
+rounded_level long level = if long then 16 * (level / 16) else 256 * (level / 256)
 
 -- What is read of a conversion that v began and that ended at this level: bit 6, the level's highest two bits, and the bits of v; and the
 -- level in both bytes.
 pub record ShowsTheLevel (v level : ℕ) (a : State) : Type 0 where
   pub status : answer_of 0 a ≡ 0x40 + 16 * (level / 16384) + v % 16
-  pub word : 256 * answer_of 1 a + answer_of 2 a ≡ rounded (has_12_bits v) level
+  pub word : 256 * answer_of 1 a + answer_of 2 a ≡ rounded_level (has_12_bits v) level
   pub line : cb1 a ≡ false
 
 -- What is read of a conversion that v began and that is going on: bit 7, and else the earlier result, that of `earlier`.

@@ -9,14 +9,14 @@ abbrev pub low_byte : ℕ → ℕ → ℕ
 low_byte kept level = if has_12_bits kept then bit_and (level % 256) 0xF0 else 0x00
 
 -- The end of a conversion, at which its channel has this level.
-abbrev pub ended : ℕ → State → State
-ended level a = record a { left = 0; high = level / 256; low = low_byte a.kept level; has_ended = true }
+abbrev pub end_leaves : ℕ → State → State
+end_leaves level a = record a { left = 0; high = level / 256; low = low_byte a.kept level; has_ended = true }
 
 -- One step, with the levels of the four channels.
 abbrev pub step : List ℕ → State → State
 step levels a =
     if a.left == 0 then a
-    else if a.left == 1 then ended (slice_index levels (channel a.kept)) a
+    else if a.left == 1 then end_leaves (slice_index levels (channel a.kept)) a
     else record a { left = a.left - 1 }
 
 -- one step after the other, each with its levels

@@ -2,7 +2,7 @@
 ghost use Rattle.std.specs.Prelude.{◌≡◌, ◌<◌};
 ghost use Rattle.adc7002.specs.State.{power_on};
 ghost use Rattle.adc7002.specs.Registers.{status, answer_of, write_leaves, cb1};
-ghost use Rattle.adc7002.specs.Step.{low_byte, ended, steps};
+ghost use Rattle.adc7002.specs.Step.{low_byte, end_leaves, steps};
 
 use beeb_bits::bit;
 use std::marker::Model;
@@ -108,7 +108,7 @@ impl Adc {
 
     // The end of a conversion, at which its channel has this level.
     fn end(&mut self, level: u16)
-        ensures { self.new ≡ ended level self.old }
+        ensures { self.new ≡ end_leaves level self.old }
     {
         self.left = 0;
         self.high = (level / 256) as u8;

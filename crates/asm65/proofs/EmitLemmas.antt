@@ -10,11 +10,11 @@ use Rattle.op_table.specs.declared.Mode.TheVariants.{Imp, Acc, Imm, Zp, ZpX, ZpY
 use Rattle.op_table.specs.Names.{same_mnemonic}
 use Rattle.op_table.specs.Rows.{bytes_of}
 use Rattle.asm65.specs.declared.syntax.Value as code
-use Rattle.asm65.specs.Seen.{seen_value}
+use Rattle.asm65.specs.Code.{seen_value}
 use Rattle.asm65.specs.Syntax.{Value, Operand, nothing, accumulator, immediate, direct, direct_x, direct_y, indirect, indirect_x, indirect_y}
-use Rattle.asm65.specs.Placement.{is_byte, has_form, if_formed, shorter, parenthesized, mode_of, operand_values}
+use Rattle.asm65.specs.Placement.{is_byte, has_form, if_formed, shorter, mode_in_parentheses, mode_of, operand_values}
 use Rattle.asm65.specs.Source.{Labels, value_in, is_out, operand_out, operand_bytes}
-use Rattle.asm65.specs.SeenLabels.{room_of, base_or_zero}
+use Rattle.asm65.specs.CodeLabels.{room_of, base_or_zero}
 
 -- neither of two
 pub neither : (a b : Bool) → (a || b) ≡ false → (a ≡ false) × (b ≡ false)
@@ -61,7 +61,7 @@ byte_form part name zero_page way true e = (formed part name way zero_page e, re
 byte_form part name zero_page way false e = cc
 
 form_in_parentheses : (part : Part) (name : Mnemonic) (v : Value) (zero_page absolute way : Mode)
-    → parenthesized part name v zero_page absolute ≡ Some way → EitherForm v zero_page absolute way
+    → mode_in_parentheses part name v zero_page absolute ≡ Some way → EitherForm v zero_page absolute way
 form_in_parentheses part name v zero_page absolute way e = by_test (same_mnemonic name Jmp) e
   where
     by_test : (j : Bool) → (if j then if_formed part name absolute else if is_byte v then if_formed part name zero_page else None) ≡ Some way

@@ -11,7 +11,7 @@ use Rattle.std.proofs.lemmas.Slice.Eq.{bytes_eq-Decides}
 use Rattle.std.proofs.lemmas.Map.Text.{is_eq-slice_cmp, btree_map_updates_str}
 use Rattle.asm65.specs.Placement.{is_among}
 use Rattle.asm65.specs.Source.{Labels, value_of_label, label_with}
-use Rattle.asm65.specs.SeenLabels.{labels_in, names_in, seen_name}
+use Rattle.asm65.specs.CodeLabels.{labels_in, names_in, seen_name}
 
 -- the names of labels
 abbrev pub names : Labels → List (List ℕ)

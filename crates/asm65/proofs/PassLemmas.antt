@@ -10,7 +10,7 @@ use Rattle.asm65.specs.declared.AsmError.TheVariants.{NoSuchForm, Repeated, OutO
 use Rattle.asm65.specs.Syntax.{Line}
 use Rattle.asm65.specs.Placement.{Placed, is_among, line_names, or_else, formless, is_past, is_long, first_fault, first_pass, after_line, placed_from}
 use Rattle.asm65.specs.Source.{Labels, labels_of, label_with, line_labels, value_of_label}
-use Rattle.asm65.specs.SeenLabels.{labels_in, names_in}
+use Rattle.asm65.specs.CodeLabels.{labels_in, names_in}
 use Rattle.asm65.specs.Passes.{IsPlaced, IsLabelled}
 use Rattle.asm65.proofs.LabelLemmas.{names, is_among-names, names_in-seen}
 

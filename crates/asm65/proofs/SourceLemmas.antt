@@ -5,10 +5,10 @@ use Rattle.std.specs.BTreeMap.{BTreeMap}
 use Rattle.std.proofs.lemmas.Bool.Decides.{nat_tests}
 use Rattle.op_table.specs.declared.Part.{Part}
 use Rattle.asm65.specs.declared.AsmError.{AsmError}
-use Rattle.asm65.specs.Syntax.{Line, Statement, instruction, org, bytes, words, parsed}
+use Rattle.asm65.specs.Syntax.{Line, Statement, instruction, org, bytes, words, parsed_text}
 use Rattle.asm65.specs.Placement.{origin_of, first_origin, is_past, placed_from, first_pass, first_fault, after_line}
 use Rattle.asm65.specs.Source.{labels_of, second_pass, source}
-use Rattle.asm65.specs.SeenLabels.{labels_in}
+use Rattle.asm65.specs.CodeLabels.{labels_in}
 use Rattle.asm65.specs.Passes.{IsLabelled, IsProgram}
 use Rattle.asm65.proofs.EmitLemmas.{neither}
 use Rattle.asm65.proofs.PassLemmas.{clear_line}
@@ -44,26 +44,26 @@ origin_small part row names at (Some line ∷ lines) e =
 
 -- ---- the whole
 
-module _ (part : Part) (text : List ℕ) (origin : ℕ) (is : origin ≡ origin_of (parsed text)) where
-  pub source_first : (e : AsmError) → first_pass part 1 [] (placed_from part origin (parsed text)) ≡ Some e → source part text ≡ Err e
+module _ (part : Part) (text : List ℕ) (origin : ℕ) (is : origin ≡ origin_of (parsed_text text)) where
+  pub source_first : (e : AsmError) → first_pass part 1 [] (placed_from part origin (parsed_text text)) ≡ Some e → source part text ≡ Err e
   unfolding source
   source_first e fault = let here = rw is at fault in rw here refl
 
-  module _ (labels : BTreeMap (Bor (List ℕ)) ℕ) (labelled : IsLabelled part (placed_from part origin (parsed text)) labels) where
-    pub source_second : (e : AsmError) → second_pass part 1 (labels_in labels) (placed_from part origin (parsed text)) ≡ Some e → source part text ≡ Err e
+  module _ (labels : BTreeMap (Bor (List ℕ)) ℕ) (labelled : IsLabelled part (placed_from part origin (parsed_text text)) labels) where
+    pub source_second : (e : AsmError) → second_pass part 1 (labels_in labels) (placed_from part origin (parsed_text text)) ≡ Some e → source part text ≡ Err e
     unfolding source
     source_second e fault =
         let clear = rw is at labelled.clear in
-        let same = sym (second_pass-same (labels_in labels) (labels_of (placed_from part origin (parsed text))) labelled.labelled part 1 (placed_from part origin (parsed text))) ∙ fault in
+        let same = sym (second_pass-same (labels_in labels) (labels_of (placed_from part origin (parsed_text text))) labelled.labelled part 1 (placed_from part origin (parsed_text text))) ∙ fault in
         let here = rw is at same in
         rw (clear, here) refl
 
-    pub source_program : (made : List ℕ) → IsProgram part (labels_in labels) origin (placed_from part origin (parsed text)) made → source part text ≡ Ok (origin, made)
+    pub source_program : (made : List ℕ) → IsProgram part (labels_in labels) origin (placed_from part origin (parsed_text text)) made → source part text ≡ Ok (origin, made)
     unfolding source
     source_program made program =
         let clear = rw is at labelled.clear in
-        let same = sym (second_pass-same (labels_in labels) (labels_of (placed_from part origin (parsed text))) labelled.labelled part 1 (placed_from part origin (parsed text))) ∙ program.clear in
+        let same = sym (second_pass-same (labels_in labels) (labels_of (placed_from part origin (parsed_text text))) labelled.labelled part 1 (placed_from part origin (parsed_text text))) ∙ program.clear in
         let here = rw is at same in
-        let its_bytes = program.made ∙ program_bytes-same (labels_in labels) (labels_of (placed_from part origin (parsed text))) labelled.labelled part (placed_from part origin (parsed text)) in
+        let its_bytes = program.made ∙ program_bytes-same (labels_in labels) (labels_of (placed_from part origin (parsed_text text))) labelled.labelled part (placed_from part origin (parsed_text text)) in
         let done = rw is at its_bytes in
         rw (clear, here, done, is) refl

@@ -2,7 +2,7 @@
 use Rattle.std.proofs.Common.{◌≡◌, ◌∙◌, sym, refl, ap, ℕ, ◌+◌, ◌-◌, ◌<◌, ◌≤◌, List, [], ◌∷◌, length, take, drop, not, Bool, true, false, ◌==◌, arith, one-add}
 use Rattle.std.specs.List.{prefix_len}
 use Rattle.std.proofs.lemmas.List.{take_all, drop_all, length-drop}
-use Rattle.asm65.specs.Tokens.{lines_of, Cut, cut, cut_with, joined, tokens_of, is_word_byte, is_blank}
+use Rattle.asm65.specs.Tokens.{lines_of, Cut, cut_of, cut_with, tokens_of_cut, tokens_of, is_word_byte, is_blank}
 
 -- how many bytes stand before the first line feed
 abbrev pub before_feed : List ℕ → ℕ
@@ -46,19 +46,19 @@ no_run b c e = by_tests (b == 38) (is_blank b) refl refl
     by_tests false true p q = rw (e, p, q) refl
     by_tests false false p q = rw (e, p, q) refl
 
-no_word : (c : Cut) → c.run ≡ [] → c.tokens ≡ joined c
+no_word : (c : Cut) → c.run ≡ [] → c.tokens ≡ tokens_of_cut c
 no_word c e = rw e refl
 
 -- the run is the longest that stands in front, and the other tokens are those of what is behind it
 abbrev RunIs : List ℕ → ℕ → Type 0
-RunIs code n = ((cut code).run ≡ take n code) × ((cut code).tokens ≡ tokens_of (drop n code))
+RunIs code n = ((cut_of code).run ≡ take n code) × ((cut_of code).tokens ≡ tokens_of (drop n code))
 
 run_in : (b : ℕ) (code : List ℕ) (t : Bool) → is_word_byte b ≡ t → RunIs code (prefix_len is_word_byte code)
     → RunIs (b ∷ code) (prefix_len is_word_byte (b ∷ code))
 run_in b code true e rest = rw (e, one-add (prefix_len is_word_byte code)) (ap (λ run. b ∷ run) rest.0, rest.1)
 run_in b code false e rest =
     let none : prefix_len is_word_byte (b ∷ code) ≡ 0 = rw e refl in
-    rw none (no_run b (cut code) e, no_word (cut_with b (cut code)) (no_run b (cut code) e))
+    rw none (no_run b (cut_of code) e, no_word (cut_with b (cut_of code)) (no_run b (cut_of code) e))
 
 pub run_is : (code : List ℕ) (n : ℕ) → n ≡ prefix_len is_word_byte code → RunIs code n
 run_is code n e = rw e (all code)
@@ -68,14 +68,14 @@ run_is code n e = rw e (all code)
     all (b ∷ code) = run_in b code (is_word_byte b) refl (all code)
 
 pub run_rest : (code : List ℕ) (n : ℕ) → n ≡ prefix_len is_word_byte code → n ≤ length code
-    → (cut code).tokens ≡ tokens_of (take (length code - n) (drop n code))
+    → (cut_of code).tokens ≡ tokens_of (take (length code - n) (drop n code))
 run_rest code n e within =
     let all : take (length code - n) (drop n code) ≡ drop n code = take_all _ _ (omega (arith, length-drop n code)) in
     rw all (run_is code n e).1
 
 -- the run of a word has a byte
-pub word_has_byte : (first : ℕ) (behind code run : List ℕ) → code ≡ first ∷ behind → true ≡ is_word_byte first → (cut code).run ≡ run → 0 < length run
+pub word_has_byte : (first : ℕ) (behind code run : List ℕ) → code ≡ first ∷ behind → true ≡ is_word_byte first → (cut_of code).run ≡ run → 0 < length run
 word_has_byte first behind code run e is r =
-    let begins : (cut code).run ≡ first ∷ (cut behind).run = rw (e, sym is) refl in
-    let front : run ≡ first ∷ (cut behind).run = sym r ∙ begins in
+    let begins : (cut_of code).run ≡ first ∷ (cut_of behind).run = rw (e, sym is) refl in
+    let front : run ≡ first ∷ (cut_of behind).run = sym r ∙ begins in
     rw front (omega arith)

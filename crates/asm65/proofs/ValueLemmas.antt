@@ -2,7 +2,7 @@
 use Rattle.std.proofs.Common.{◌≡◌, ◌∙◌, sym, refl, ap, ℕ, Bool, true, false, List, [], ◌∷◌, map, Option, Some, None, option_map, if◌then◌else◌, is_some}
 use Rattle.asm65.specs.Tokens.{Token, word, hex, colon, comma, low, high, plus}
 use Rattle.asm65.specs.Syntax as syntax
-use Rattle.asm65.specs.Seen.{label_in_front, values_until, listed}
+use Rattle.asm65.specs.Code.{label_in_front, values_until, values_of_list}
 
 -- ---- lines
 
@@ -132,10 +132,10 @@ read_by_first ts =
 abbrev pub listed_by : Option (syntax.Value × Option (List Token)) → List syntax.Value
 listed_by None = []
 listed_by (Some (v, None)) = v ∷ []
-listed_by (Some (v, Some rest)) = v ∷ listed rest
+listed_by (Some (v, Some rest)) = v ∷ values_of_list rest
 
-pub listed_first : (ts : List Token) → listed ts ≡ listed_by (first_of (syntax.value_at ts))
-unfolding listed
+pub listed_first : (ts : List Token) → values_of_list ts ≡ listed_by (first_of (syntax.value_at ts))
+unfolding values_of_list
 listed_first ts = ap values_until (read_by_first ts) ∙ by_cases (first_of (syntax.value_at ts))
   where
     by_cases : (o : Option (syntax.Value × Option (List Token))) → values_until (by_first ts o) ≡ listed_by o
@@ -168,6 +168,6 @@ until_all (Some v ∷ os) e = more (syntax.all_of os) e (until_all os)
     more None e h = cc
     more (Some vs) e h = ap (option_map (λ ws. v ∷ ws)) (h refl)
 
-pub listed_all : (ts : List Token) → is_some (syntax.values_of ts) ≡ true → syntax.values_of ts ≡ Some (listed ts)
-unfolding listed
+pub listed_all : (ts : List Token) → is_some (syntax.values_of ts) ≡ true → syntax.values_of ts ≡ Some (values_of_list ts)
+unfolding values_of_list
 listed_all ts e = until_all (read ts) e

@@ -2,6 +2,6 @@ pub mod Tokens
 pub mod Syntax
 pub mod Placement
 pub mod Source
-pub mod Seen
-pub mod SeenLabels
+pub mod Code
+pub mod CodeLabels
 pub mod Passes

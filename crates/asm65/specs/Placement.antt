@@ -41,8 +41,8 @@ shorter part name v zero_page absolute =
     if is_byte v && has_form part name zero_page then Some zero_page else if_formed part name absolute
 
 -- with JMP the absolute form, with others the zero-page form of a byte-sized value
-abbrev pub parenthesized : Part → Mnemonic → Value → Mode → Mode → Option Mode
-parenthesized part name v zero_page absolute =
+abbrev pub mode_in_parentheses : Part → Mnemonic → Value → Mode → Mode → Option Mode
+mode_in_parentheses part name v zero_page absolute =
     if same_mnemonic name Jmp then if_formed part name absolute
     else if is_byte v then if_formed part name zero_page
     else None
@@ -55,8 +55,8 @@ mode_of part name (immediate v) = if_formed part name Imm
 mode_of part name (direct v) = if has_form part name Rel then Some Rel else shorter part name v Zp Abs
 mode_of part name (direct_x v) = shorter part name v ZpX AbsX
 mode_of part name (direct_y v) = shorter part name v ZpY AbsY
-mode_of part name (indirect v) = parenthesized part name v IndZp Ind
-mode_of part name (indirect_x v) = parenthesized part name v IndX IndAbsX
+mode_of part name (indirect v) = mode_in_parentheses part name v IndZp Ind
+mode_of part name (indirect_x v) = mode_in_parentheses part name v IndX IndAbsX
 mode_of part name (indirect_y v) = if is_byte v then if_formed part name IndY else None
 
 abbrev pub mode_bytes : Option Mode → ℕ

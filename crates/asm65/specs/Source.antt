@@ -9,7 +9,7 @@ use Rattle.op_table.specs.declared.Mode.TheVariants.{Imm, Abs, AbsX, AbsY, Rel, 
 use Rattle.op_table.specs.Forms.{find_form}
 use Rattle.asm65.specs.declared.AsmError.{AsmError}
 use Rattle.asm65.specs.declared.AsmError.TheVariants.{UnknownLabel, OutOfRange}
-use Rattle.asm65.specs.Syntax.{Base, number, label, beyond, Portion, whole, low_byte, high_byte, Value, Operand, Statement, instruction, org, bytes, words, Line, parsed}
+use Rattle.asm65.specs.Syntax.{Base, number, label, beyond, Portion, whole, low_byte, high_byte, Value, Operand, Statement, instruction, org, bytes, words, Line, parsed_text}
 use Rattle.asm65.specs.Placement.{Placed, placement, origin_of, mode_of, operand_values, first_pass, or_later, or_else}
 
 -- labels with their values
@@ -147,4 +147,4 @@ program_of part origin placed =
 
 -- What a source text means: its origin and its bytes, or its first offending line. Lines count from 1.
 unfoldable pub source : Part → List ℕ → Result Program AsmError
-source part text = program_of part (origin_of (parsed text)) (placement part (parsed text))
+source part text = program_of part (origin_of (parsed_text text)) (placement part (parsed_text text))

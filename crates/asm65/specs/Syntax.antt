@@ -281,5 +281,5 @@ line_of (word run ∷ colon ∷ tokens) =
 line_of tokens = option_map (λ s. record { label = None; statement = s }) (rest_of tokens)
 
 -- The lines of a text.
-abbrev pub parsed : List ℕ → List (Option Line)
-parsed text = map (λ line. line_of (tokens_of (code_of line))) (lines_of text)
+abbrev pub parsed_text : List ℕ → List (Option Line)
+parsed_text text = map (λ line. line_of (tokens_of (code_of line))) (lines_of text)

@@ -74,21 +74,21 @@ abbrev pub word_before : List ℕ → List Token → List Token
 word_before [] tokens = tokens
 word_before (b ∷ run) tokens = word (b ∷ run) ∷ tokens
 
-abbrev pub joined : Cut → List Token
-joined c = word_before c.run c.tokens
+abbrev pub tokens_of_cut : Cut → List Token
+tokens_of_cut c = word_before c.run c.tokens
 
 -- a byte in front of what was cut
 abbrev pub cut_with : ℕ → Cut → Cut
 cut_with b c =
     if is_word_byte b then record { run = b ∷ c.run; tokens = c.tokens }
     else if b == 38 then record { run = []; tokens = hex c.run ∷ c.tokens }
-    else if is_blank b then record { run = []; tokens = joined c }
-    else record { run = []; tokens = mark b ∷ joined c }
+    else if is_blank b then record { run = []; tokens = tokens_of_cut c }
+    else record { run = []; tokens = mark b ∷ tokens_of_cut c }
 
-abbrev pub cut : List ℕ → Cut
-cut [] = record { run = []; tokens = [] }
-cut (b ∷ bytes) = cut_with b (cut bytes)
+abbrev pub cut_of : List ℕ → Cut
+cut_of [] = record { run = []; tokens = [] }
+cut_of (b ∷ bytes) = cut_with b (cut_of bytes)
 
 -- The tokens of the code of a line. Blanks part words, and stand anywhere between tokens.
 abbrev pub tokens_of : List ℕ → List Token
-tokens_of bytes = joined (cut bytes)
+tokens_of bytes = tokens_of_cut (cut_of bytes)

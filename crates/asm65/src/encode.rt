@@ -4,8 +4,8 @@ ghost use Rattle.std.specs.List.{list_any, list_all};
 ghost use Rattle.op_table.specs.declared.Mode.TheVariants.{Rel};
 ghost use Rattle.asm65.specs.Placement.{is_byte_base, is_byte, mode_of, operand_values};
 ghost use Rattle.asm65.specs.Source.{base_value, portion_in, value_in, is_unknown, is_out, distance, is_near, operand_out, values_in, statement_out, second_fault};
-ghost use Rattle.asm65.specs.Seen.{seen_portion, seen_base, seen_value, seen_list, seen_operand, seen_statement, seen_line};
-ghost use Rattle.asm65.specs.SeenLabels.{labels_in, base_or_zero};
+ghost use Rattle.asm65.specs.Code.{seen_portion, seen_base, seen_value, seen_list, seen_operand, seen_statement, seen_line};
+ghost use Rattle.asm65.specs.CodeLabels.{labels_in, base_or_zero};
 
 use crate::AsmError;
 use crate::labels::{Labels, address_of};

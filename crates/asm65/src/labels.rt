@@ -3,7 +3,7 @@ ghost use Rattle.std.specs.Prelude.{◌≡◌, ◌++◌, ℕ, List, true, not, o
 ghost use Rattle.std.specs.List.{list_any};
 ghost use Rattle.asm65.specs.Placement.{is_among};
 ghost use Rattle.asm65.specs.Source.{value_of_label, label_with};
-ghost use Rattle.asm65.specs.SeenLabels.{labels_in, names_in, seen_name};
+ghost use Rattle.asm65.specs.CodeLabels.{labels_in, names_in, seen_name};
 
 use std::alloc::AllocError;
 use std::collections::BTreeMap;

@@ -1,11 +1,11 @@
 //! Both passes over the lines of a text.
 ghost use Rattle.std.specs.Prelude.{◌≡◌, ◌≤◌, false, [], ◌⊎◌, None, Some, option_map, vec_len, MatchResult};
 ghost use Rattle.asm65.specs.declared.AsmError.TheVariants.{NoMemory};
-ghost use Rattle.asm65.specs.Syntax.{parsed};
+ghost use Rattle.asm65.specs.Syntax.{parsed_text};
 ghost use Rattle.asm65.specs.Placement.{origin_of, placed_from, first_fault, first_pass};
 ghost use Rattle.asm65.specs.Source.{second_fault, second_pass};
-ghost use Rattle.asm65.specs.Seen.{seen_line};
-ghost use Rattle.asm65.specs.SeenLabels.{labels_in, names_in};
+ghost use Rattle.asm65.specs.Code.{seen_line};
+ghost use Rattle.asm65.specs.CodeLabels.{labels_in, names_in};
 ghost use Rattle.asm65.specs.Passes.{SettlesOrigin, IsPlaced, IsLabelled, IsEncoded, IsProgram, line_is_long};
 
 use crate::AsmError;
@@ -34,7 +34,7 @@ fn line_origin(line: &Option<Line<'_>>) -> Option<u32>
 
 /// The origin: that of the first statement where it is `org`, else 0.
 pub(crate) fn origin_of(text: &[u8]) -> u32
-    ensures { result ≡ origin_of (parsed text.now) }
+    ensures { result ≡ origin_of (parsed_text text.now) }
 {
     let mut rest = text;
     while !rest.is_empty() {
@@ -86,8 +86,8 @@ pub(crate) fn first_pass<'a>(
     text: &'a [u8],
 ) -> Result<Labels<'a>, AsmError>
     ensures { MatchResult result
-        (λ labels. IsLabelled part (placed_from part origin (parsed text.now)) labels)
-        (λ e. (e ≡ NoMemory) ⊎ (first_pass part 1 [] (placed_from part origin (parsed text.now)) ≡ Some e)) }
+        (λ labels. IsLabelled part (placed_from part origin (parsed_text text.now)) labels)
+        (λ e. (e ≡ NoMemory) ⊎ (first_pass part 1 [] (placed_from part origin (parsed_text text.now)) ≡ Some e)) }
 {
     let mut labels = BTreeMap::new(alloc);
     let mut address = origin;
@@ -142,10 +142,10 @@ pub(crate) fn second_pass<'a>(
     labels: &Labels<'a>,
     text: &'a [u8],
 ) -> Result<Vec<u8>, AsmError>
-    requires clear { first_pass part 1 [] (placed_from part origin (parsed text.now)) ≡ None }
+    requires clear { first_pass part 1 [] (placed_from part origin (parsed_text text.now)) ≡ None }
     requires within { origin ≤ 65535 }
     ensures { let labels = labels_in labels.now in
-        let placed = placed_from part origin (parsed text.now) in
+        let placed = placed_from part origin (parsed_text text.now) in
         MatchResult result
         (λ bytes. IsProgram part labels origin placed bytes.items)
         (λ e. (e ≡ NoMemory) ⊎ (second_pass part 1 labels placed ≡ Some e)) }

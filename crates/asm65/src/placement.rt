@@ -1,9 +1,9 @@
 //! Where the lines lie: which form of its mnemonic an instruction takes, and the address of each line.
 ghost use Rattle.std.specs.Prelude.{◌≡◌, ◌+◌, ◌-◌, ◌^◌, ◌≤◌, ◌<◌, nat_lt, false, None, option_map, option_to_list, length};
 ghost use Rattle.std.specs.List.{list_any};
-ghost use Rattle.asm65.specs.Placement.{is_byte_base, is_byte, has_form, if_formed, shorter, parenthesized, mode_of, size_of, after_statement, base_numbers, values_numbers, statement_numbers, formless, is_past, is_long, or_else, operand_values};
+ghost use Rattle.asm65.specs.Placement.{is_byte_base, is_byte, has_form, if_formed, shorter, mode_in_parentheses, mode_of, size_of, after_statement, base_numbers, values_numbers, statement_numbers, formless, is_past, is_long, or_else, operand_values};
 ghost use Rattle.asm65.specs.declared.AsmError.TheVariants.{OutOfRange, TooLong};
-ghost use Rattle.asm65.specs.Seen.{seen_base, seen_value, seen_list, seen_operand, seen_statement};
+ghost use Rattle.asm65.specs.Code.{seen_base, seen_value, seen_list, seen_operand, seen_statement};
 
 use crate::AsmError;
 use crate::syntax::{Base, Number, Operand, Portion, Statement, Value, ValueList};
@@ -72,7 +72,7 @@ fn parenthesized(
     zero_page: Mode,
     absolute: Mode,
 ) -> Option<Mode>
-    ensures { result ≡ parenthesized part mnemonic (seen_value value.now) zero_page absolute }
+    ensures { result ≡ mode_in_parentheses part mnemonic (seen_value value.now) zero_page absolute }
 {
     if mnemonic == Mnemonic::Jmp {
         if_formed(part, mnemonic, absolute)

@@ -4,8 +4,8 @@ ghost use Rattle.std.specs.List.{list_all};
 ghost use Rattle.op_table.specs.Names.{mnemonic_of};
 ghost use Rattle.digits.specs.Hexadecimal.{is_hex_any_case, hex_number as hex_value};
 ghost use Rattle.asm65.specs.Tokens.{comma, right, word, tokens_of};
-ghost use Rattle.asm65.specs.Syntax.{decimal_number, hex_number, number_of, is_named, is_register, begins_name, is_label, label_at, word_at, base_at, portion_of, value_at, opening_of, from_value, closing_of, value_and_closing, operand_of, values_of, org_of, instruction_of, rest_of, line_of, parsed};
-ghost use Rattle.asm65.specs.Seen.{seen_token, seen_number, seen_base_and_rest, seen_portion, seen_value_and_rest, seen_opening, seen_closing, seen_value_and_closing, seen_operand, listed, length_left, seen_list, seen_first, seen_next_value, values_by_first, seen_statement, seen_line, seen_label_and_rest, word_statement, label_in_front};
+ghost use Rattle.asm65.specs.Syntax.{decimal_number, hex_number, number_of, is_named, is_register, begins_name, is_label, label_at, word_at, base_at, portion_of, value_at, opening_of, from_value, closing_of, value_and_closing, operand_of, values_of, org_of, instruction_of, rest_of, line_of, parsed_text};
+ghost use Rattle.asm65.specs.Code.{seen_token, seen_number, seen_base_and_rest, seen_portion, seen_value_and_rest, seen_opening, seen_closing, seen_value_and_closing, seen_operand, values_of_list, length_left, seen_list, seen_first, seen_next_value, values_by_first, seen_statement, seen_line, seen_label_and_rest, word_statement, label_in_front};
 
 use crate::tokens::{Token, code_of, first_line, next_token};
 use digits::{all_digits, all_hex_any_case, decimal_value};
@@ -411,7 +411,7 @@ fn operand_of<'a>(code: &'a [u8]) -> Option<Operand<'a>>
 // The first of values that commas part, and the code behind its comma, if one stands there.
 #[tactic(auto, using(crate::proofs::ValueLemmas::listed_first, crate::proofs::ValueLemmas::values_first))]
 fn first_value<'a>(code: &'a [u8]) -> Option<(Value<'a>, Option<&'a [u8]>)>
-    ensures listed { listed (tokens_of code.now) ≡ seen_first result }
+    ensures listed { values_of_list (tokens_of code.now) ≡ seen_first result }
     ensures values { values_of (tokens_of code.now) ≡ values_by_first result }
     ensures shorter { IfSome result (λ r. IfSome r.1 (λ rest. length rest.now < length code.now)) }
 {
@@ -551,7 +551,7 @@ fn line_of<'a>(code: &'a [u8]) -> Option<Line<'a>>
 /// The first line of a text that has a byte, or none where it is outside the syntax, and the text behind it.
 pub(crate) fn next_line<'a>(text: &'a [u8]) -> (Option<Line<'a>>, &'a [u8])
     requires { 0 < length text.now }
-    ensures lines { parsed text.now ≡ option_map seen_line result.0 ∷ parsed result.1.now }
+    ensures lines { parsed_text text.now ≡ option_map seen_line result.0 ∷ parsed_text result.1.now }
     ensures shorter { length result.1.now < length text.now }
 {
     let (first, rest) = first_line(text);

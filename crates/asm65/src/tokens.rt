@@ -1,8 +1,8 @@
 //! The lines of a source text, and the tokens of a line, one after another.
 ghost use Rattle.std.specs.Prelude.{◌≡◌, ◌+◌, ◌<◌, ◌≤◌, ◌==◌, not, false, length, IfSome, ◌∷◌};
 ghost use Rattle.std.specs.List.{prefix_len};
-ghost use Rattle.asm65.specs.Tokens.{is_word_byte, is_blank, mark, code_of, lines_of, tokens_of, cut};
-ghost use Rattle.asm65.specs.Seen.{seen_token, seen_next};
+ghost use Rattle.asm65.specs.Tokens.{is_word_byte, is_blank, mark, code_of, lines_of, tokens_of, cut_of};
+ghost use Rattle.asm65.specs.Code.{seen_token, seen_next};
 
 /// A token of a line.
 #[derive(Clone, Copy)]
@@ -91,8 +91,8 @@ fn run_length(code: &[u8]) -> usize
 
 // The run at the front of code, which may be empty, and the code behind it.
 fn run_and_rest(code: &[u8]) -> (&[u8], &[u8])
-    ensures run { (cut code.now).run ≡ result.0.now }
-    ensures rest { (cut code.now).tokens ≡ tokens_of result.1.now }
+    ensures run { (cut_of code.now).run ≡ result.0.now }
+    ensures rest { (cut_of code.now).tokens ≡ tokens_of result.1.now }
     ensures split { length result.0.now + length result.1.now ≡ length code.now }
 {
     let end = run_length(code);

@@ -2,8 +2,8 @@
 use Rattle.std.specs.Prelude.{ℕ, ◌+◌, ◌-◌, ◌^◌, ◌<◌, ◌≤◌, min, List}
 
 -- one more, up to the last value
-abbrev pub counted : ℕ → ℕ
-counted before = min (before + 1) (2 ^ 64 - 1)
+abbrev pub one_more : ℕ → ℕ
+one_more before = min (before + 1) (2 ^ 64 - 1)
 
 -- the count rose, or it stood at its last value before
 abbrev pub Rose : ℕ → ℕ → Type 0

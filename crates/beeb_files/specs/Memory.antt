@@ -8,7 +8,7 @@ use Rattle.std.specs.declared.string.String.{String}
 use Rattle.std.specs.declared.vec.Vec.{Vec}
 use Rattle.std.specs.declared.alloc.Global.{Global}
 use Rattle.beeb_files.specs.Files.{Files, bytes_of}
-use Rattle.beeb_files.specs.Counts.{counted}
+use Rattle.beeb_files.specs.Counts.{one_more}
 use Rattle.beeb_files.specs.Shelf.{ShelfState}
 use Rattle.beeb_files.specs.Outlet.{OutletState}
 
@@ -90,15 +90,15 @@ write_fails o = fails_at o.failing o.calls o.faults
 -- the shelf after a `get` of this name
 abbrev pub after_get : List ℕ → MemShelfState → MemShelfState
 after_get name s = record s {
-  calls = counted s.calls;
-  faults = (if get_fails s name then counted s.faults else s.faults);
+  calls = one_more s.calls;
+  faults = (if get_fails s name then one_more s.faults else s.faults);
 }
 
 -- the outlet after a `put` or a `say` that wrote nothing
 abbrev pub after_write : MemOutletState → MemOutletState
 after_write o = record o {
-  calls = counted o.calls;
-  faults = (if write_fails o then counted o.faults else o.faults);
+  calls = one_more o.calls;
+  faults = (if write_fails o then one_more o.faults else o.faults);
 }
 
 -- the outlet where the name holds these bytes

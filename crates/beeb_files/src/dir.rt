@@ -1,6 +1,6 @@
 //! The working folder as a shelf and an outlet, and standard output.
 ghost use Rattle.std.specs.Prelude.{◌≡◌, ◌≢◌, ◌≤◌, ◌↔◌, IsOk, IfOk, IfErr, Err, IsErrOf, OnOk, OnErr, IsOkUnless};
-ghost use Rattle.beeb_files.specs.Counts.{NoneFell, Rose, counted};
+ghost use Rattle.beeb_files.specs.Counts.{NoneFell, Rose, one_more};
 ghost use Rattle.beeb_files.specs.Shelf.{IsFound, IsGetCause, SaysTooLong};
 ghost use Rattle.beeb_files.specs.Files.{put, say, IsPartPut, IsPartSaid};
 ghost use Rattle.beeb_files.specs.Outlet.{NoCountFell};
@@ -66,7 +66,7 @@ impl<'a, R: Files> Shelf for DirShelf<'a, R> {
         ensures too_long { SaysTooLong (dir_shelf_state self.old) (dir_shelf_state self.new)
             name.now cap result }
         // It counts exactly where it fails.
-        ensures counted { IsErrOf result ShelfError.Failed → self.new ≡ counted self.old }
+        ensures counted { IsErrOf result ShelfError.Failed → self.new ≡ one_more self.old }
         ensures not_counted { result ≢ Err ShelfError.Failed → self.new ≡ self.old }
     {
         match read_up_to(self.rt, alloc, name, cap) {
@@ -117,7 +117,7 @@ impl<'a, R: Files + Print> DirOutlet<'a, R> {
     fn answer(&mut self, done: io::Result<()>) -> Result<(), PutError>
         ensures same { IsOk result ↔ IsOk done }
         ensures ok { OnOk result (self.new ≡ self.old) }
-        ensures err { OnErr result (self.new ≡ counted self.old) }
+        ensures err { OnErr result (self.new ≡ one_more self.old) }
         ensures grows { self.old ≤ self.new }
         ensures rose { OnErr result (Rose self.old self.new) }
         ensures refusal { IsOkUnless result PutError.Failed }
@@ -147,7 +147,7 @@ impl<'a, R: Files + Print> Outlet for DirOutlet<'a, R> {
             Rose ((dir_outlet_state self.old).faults name.now) ((dir_outlet_state self.new).faults name.now) }
         // It counts exactly where it refuses.
         ensures not_counted { OnOk result (self.new ≡ self.old) }
-        ensures counted { OnErr result (self.new ≡ counted self.old) }
+        ensures counted { OnErr result (self.new ≡ one_more self.old) }
         ensures refusal { IsOkUnless result PutError.Failed }
     {
         let done = fs::write(self.rt, name, bytes);
@@ -167,7 +167,7 @@ impl<'a, R: Files + Print> Outlet for DirOutlet<'a, R> {
             Rose (dir_outlet_state self.old).say_faults (dir_outlet_state self.new).say_faults }
         // It counts exactly where it refuses.
         ensures not_counted { OnOk result (self.new ≡ self.old) }
-        ensures counted { OnErr result (self.new ≡ counted self.old) }
+        ensures counted { OnErr result (self.new ≡ one_more self.old) }
         ensures refusal { IsOkUnless result PutError.Failed }
     {
         let done = io::writer(self.rt).write_all(bytes);

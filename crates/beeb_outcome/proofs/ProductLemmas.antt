@@ -9,7 +9,7 @@ use Rattle.beeb_status.specs.declared.status.Ending.TheVariants.{Done}
 use Rattle.beeb_outcome.specs.declared.left.Left.{Left}
 use Rattle.beeb_outcome.specs.declared.output.Output.{Output}
 use Rattle.beeb_outcome.specs.Outputs.{machine_outputs}
-use Rattle.beeb_outcome.specs.Seen.{left_seen, verdict_of}
+use Rattle.beeb_outcome.specs.View.{left_seen, verdict_of}
 use Rattle.beeb_outcome.specs.Verdicts.{machine_verdict}
 
 pub machine_is : {D E : Type 0} (plug : D → Plug) (left : Left D) (made : Result (Vec Output Global) E) (r : Result (Outcome Ending Output (Left D)) E) →

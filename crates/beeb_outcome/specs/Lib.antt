@@ -3,4 +3,4 @@ pub mod Files
 pub mod Outputs
 pub mod Verdicts
 pub mod Trace
-pub mod Seen
+pub mod View

@@ -1,9 +1,9 @@
 //! The file of each output.
 ghost use Rattle.std.specs.Prelude.{◌≡◌, ◌++◌, IfOk, option_map, string_bytes};
 ghost use Rattle.host_mach.specs.View.{host_seen};
-ghost use Rattle.beeb_stages.specs.Seen.{seen_file};
+ghost use Rattle.beeb_stages.specs.View.{seen_file};
 ghost use Rattle.beeb_outcome.specs.Files.{bytes_in, disc_bytes, frame_bytes, plug_bytes, trace_text, file_of};
-ghost use Rattle.beeb_outcome.specs.Seen.{kept_seen, left_seen};
+ghost use Rattle.beeb_outcome.specs.View.{kept_seen, left_seen};
 
 use crate::discs::disc_bytes;
 use crate::frames::{frame_bytes, frame_name};

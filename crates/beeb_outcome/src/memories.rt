@@ -2,7 +2,7 @@
 ghost use Rattle.std.specs.Prelude.{◌≡◌, IfOk, option_map};
 ghost use Rattle.host_mach.specs.View.{host_seen};
 ghost use Rattle.beeb_outcome.specs.Files.{host_line, para_line, frame_count, kept_count, ram_of, report_text};
-ghost use Rattle.beeb_outcome.specs.Seen.{kept_seen, left_seen};
+ghost use Rattle.beeb_outcome.specs.View.{kept_seen, left_seen};
 
 use crate::left::{Kept, Left};
 use beeb_bits::Side;

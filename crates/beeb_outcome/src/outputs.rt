@@ -3,7 +3,7 @@ ghost use Rattle.std.specs.Prelude.{◌≡◌, ◌++◌, IfOk, option_map, is_so
 ghost use Rattle.host_mach.specs.View.{host_seen};
 ghost use Rattle.host_mach.specs.State.{HostState};
 ghost use Rattle.beeb_outcome.specs.Outputs.{if_there, of_host, discs, shots, spills, machine_outputs};
-ghost use Rattle.beeb_outcome.specs.Seen.{left_seen};
+ghost use Rattle.beeb_outcome.specs.View.{left_seen};
 
 use crate::discs::push_discs;
 use crate::frames::push_frames;

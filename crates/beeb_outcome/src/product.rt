@@ -1,7 +1,7 @@
 //! What comes of a command.
 ghost use Rattle.std.specs.Prelude.{◌≡◌, IfOk, Ok, []};
 ghost use Rattle.beeb_status.specs.declared.status.Ending.TheVariants.{Done};
-ghost use Rattle.beeb_outcome.specs.Seen.{left_seen, verdict_of};
+ghost use Rattle.beeb_outcome.specs.View.{left_seen, verdict_of};
 ghost use Rattle.beeb_outcome.specs.Verdicts.{said_verdict, file_verdict, machine_verdict};
 
 use crate::left::Left;

@@ -1,9 +1,9 @@
 //! The trace that a command reads, and the answer of a line that the chip would not give.
 ghost use Rattle.std.specs.Prelude.{◌≡◌, All, IfOk};
 ghost use Rattle.tube_trace.specs.Entries.{IsEntry};
-ghost use Rattle.beeb_stages.specs.Seen.{Gives};
+ghost use Rattle.beeb_stages.specs.View.{Gives};
 ghost use Rattle.beeb_outcome.specs.Trace.{refusal_of, trace_of, if_same, entries_of, wrong_verdict, wrong_text};
-ghost use Rattle.beeb_outcome.specs.Seen.{verdict_of};
+ghost use Rattle.beeb_outcome.specs.View.{verdict_of};
 
 use crate::product::{Outcome, said_outcome};
 use beeb_bits::Clock;

@@ -10,7 +10,7 @@ use Rattle.beeb_stages.specs.declared.stop.Refusal.{Refusal}
 use Rattle.beeb_stages.specs.Plan.{Verdict, Inputs, Plan, read_all, verdict, or_stop, AreWithin, ComesTo}
 use Rattle.beeb_stages.specs.Promise.{World, HasPaired, HasNoThread, HasCrewStayed, IsCrewAfter, ComesOut, EndsAs, IsComplete, CarriesOut, IsUntouched}
 use Rattle.beeb_stages.specs.Stages.{ReadsAll, Works, Writes, HasKept}
-use Rattle.beeb_stages.specs.Seen.{seen_input}
+use Rattle.beeb_stages.specs.View.{seen_input}
 use Rattle.std.specs.declared.vec.Vec.{Vec}
 use Rattle.std.specs.declared.alloc.Global.{Global}
 

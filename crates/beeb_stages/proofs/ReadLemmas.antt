@@ -7,7 +7,7 @@ use Rattle.beeb_files.specs.Files.{Files, bytes_of}
 use Rattle.beeb_stages.specs.declared.stop.Stop.{Stop}
 use Rattle.beeb_stages.specs.Plan.{Want, Inputs, within, read_all, AreWithin, ◌>>=◌}
 use Rattle.beeb_stages.specs.Promise.{read_names}
-use Rattle.beeb_stages.specs.Seen.{seen_want}
+use Rattle.beeb_stages.specs.View.{seen_want}
 use Rattle.beeb_stages.specs.Stages.{ReadsOne, ReadsAll}
 use Rattle.beeb_files.specs.Shelf.{ShelfState}
 use Rattle.beeb_stages.specs.declared.stop.Stop.TheVariants.{Refused, ReadFault, TooLong, WriteFault, NoThread, NoMemory}

@@ -13,7 +13,7 @@ use Rattle.beeb_stages.specs.declared.stop.Refusal.TheVariants as refusals
 use Rattle.beeb_stages.specs.Plan.{Verdict, Plan, Want, within, read_all, AreWithin}
 use Rattle.beeb_files.specs.Files.{bytes_of, put, say, IsPartPut, IsPartSaid}
 use Rattle.beeb_stages.specs.Promise.{World, HasPaired, HasNoThread, IsCrewAfter, CarriesOut, IsUnread, IsTooLong, IsWhole, IsUntouched, IsUnwritten, IsCutShort, IsCutAtFile, names, dash, put_all}
-use Rattle.beeb_stages.specs.Seen.{seen_input}
+use Rattle.beeb_stages.specs.View.{seen_input}
 
 -- the bytes of one file, or why not
 abbrev pub ReadsOne : {C : Type 0} → List ℕ → ℕ → ShelfState → ShelfState → Result (Vec ℕ Global) (Stop C) → Type 0

@@ -1,6 +1,6 @@
 //! What comes of a command, before it is written.
 ghost use Rattle.std.specs.Prelude.{◌≡◌, IfOk, List, ℕ};
-ghost use Rattle.beeb_stages.specs.Seen.{seen_file};
+ghost use Rattle.beeb_stages.specs.View.{seen_file};
 
 use std::alloc::{AllocError, Global};
 

@@ -1,7 +1,7 @@
 //! Reading the files of a command, in their order.
 ghost use Rattle.std.specs.Prelude.{◌≡◌, map};
 ghost use Rattle.beeb_files.specs.Counts.{NoneFell};
-ghost use Rattle.beeb_stages.specs.Seen.{seen_want};
+ghost use Rattle.beeb_stages.specs.View.{seen_want};
 ghost use Rattle.beeb_stages.specs.Stages.{ReadsOne, ReadsAll};
 
 use crate::name::Name;

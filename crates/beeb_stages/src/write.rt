@@ -1,7 +1,7 @@
 //! Writing what comes of a command, in its order.
 ghost use Rattle.std.specs.Prelude.{◌≡◌, map};
 ghost use Rattle.beeb_files.specs.Outlet.{NoCountFell};
-ghost use Rattle.beeb_stages.specs.Seen.{verdict_of};
+ghost use Rattle.beeb_stages.specs.View.{verdict_of};
 ghost use Rattle.beeb_stages.specs.Stages.{PutsOne, PutsAll, Says, Writes};
 
 use crate::name::Name;

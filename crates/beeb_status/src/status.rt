@@ -13,7 +13,7 @@ use tube_party::Doing;
 pub enum Which {
     /// The host's operating system.
     Os,
-    /// The parasite's boot ROM.
+    /// The second processor's boot ROM.
     Tube,
     /// The paged ROM of a slot from 0 to 15.
     Rom(u8),

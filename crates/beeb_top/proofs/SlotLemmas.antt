@@ -12,7 +12,7 @@ use Rattle.beeb_words.specs.declared.keys.Slot.TheVariants as slots
 use Rattle.beeb_words.specs.Reads.{rom_slot, rise_from, HaveRomSlots}
 use Rattle.beeb_stages.specs.Plan.{Want, Inputs, AreWithin}
 use Rattle.power_on.specs.Inputs as inputs
-use Rattle.power_on.specs.Seen.{seen_inputs}
+use Rattle.power_on.specs.View.{seen_inputs}
 use Rattle.power_on.specs.declared.inputs.Inputs as held
 
 abbrev numbers_of : List Rom → List ℕ

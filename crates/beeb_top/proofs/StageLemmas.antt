@@ -11,7 +11,7 @@ use Rattle.beeb_stages.specs.declared.stop.Stop.TheVariants as stops
 use Rattle.beeb_stages.specs.declared.stop.Refusal.{Refusal}
 use Rattle.beeb_stages.specs.declared.stop.Refusal.TheVariants as refusals
 use Rattle.beeb_stages.specs.Plan.{Verdict, Want, stop_of}
-use Rattle.beeb_stages.specs.Seen.{Gives}
+use Rattle.beeb_stages.specs.View.{Gives}
 use Rattle.beeb_stages.specs.Promise.{HasPaired, IsCrewAfter}
 use Rattle.beeb_stages.specs.Stages.{ReadsAll, Works}
 use Rattle.beeb_status.specs.declared.status.Ending.{Ending}

@@ -11,13 +11,13 @@ use Rattle.bus_plug.specs.Plug.{Plug}
 use Rattle.beeb_top.specs.Plans.{plan}
 
 -- the command that the words spell
-abbrev pub spelled : List (String Global) → Option Command
-spelled words = command (map string_bytes words)
+abbrev pub command_of_words : List (String Global) → Option Command
+command_of_words words = command (map string_bytes words)
 
 -- a command, if it needs no crew
-abbrev pub unpaired : Option Command → Option Command
-unpaired None = None
-unpaired (Some c) = if is_paired c then None else Some c
+abbrev pub if_unpaired : Option Command → Option Command
+if_unpaired None = None
+if_unpaired (Some c) = if is_paired c then None else Some c
 
 -- the command was carried out, where these devices are handed in, and ended as this status says
 unfoldable pub EndsWith : List Plug → Command → World → World → Status → Type 0

@@ -1,7 +1,7 @@
 //! The top calls.
 ghost use Rattle.std.specs.Prelude.{◌≡◌, ◌↔◌, None, IfSome, IfNone, map};
 ghost use Rattle.beeb_stages.specs.Promise.{world, nobody};
-ghost use Rattle.beeb_top.specs.Commands.{EndsWith, spelled, unpaired};
+ghost use Rattle.beeb_top.specs.Commands.{EndsWith, command_of_words, if_unpaired};
 ghost use Rattle.beeb_top.specs.Headline.{Headline};
 
 use crate::road::{paired, single};
@@ -25,15 +25,15 @@ pub fn plain<S: Shelf, O: Outlet>(
     plugs: Vec<Box<dyn BusDevice + Send>>,
 ) -> Status
     // `Usage` comes exactly where the words are outside the grammar or spell `run`, and then shelf and outlet are as they were.
-    ensures usage { (result ≡ Status.Usage) ↔ (unpaired (spelled words.now) ≡ None) }
+    ensures usage { (result ≡ Status.Usage) ↔ (if_unpaired (command_of_words words.now) ≡ None) }
     ensures refused { let old = world (S.shelf shelf.old) (O.outlet out.old) nobody in
         let new = world (S.shelf shelf.new) (O.outlet out.new) nobody in
-        IfNone (unpaired (spelled words.now)) (new ≡ old) }
+        IfNone (if_unpaired (command_of_words words.now)) (new ≡ old) }
     // Else the command is carried out, with the devices as they were handed in.
     ensures ran { let devices = map ⟦<Box<dyn BusDevice + Send> as BusDevice>⟧.plug plugs.items in
         let old = world (S.shelf shelf.old) (O.outlet out.old) nobody in
         let new = world (S.shelf shelf.new) (O.outlet out.new) nobody in
-        IfSome (unpaired (spelled words.now)) (λ c. EndsWith devices c old new result) }
+        IfSome (if_unpaired (command_of_words words.now)) (λ c. EndsWith devices c old new result) }
 {
     let Some(command) = command_of(words) else {
         return Status::Usage;
@@ -58,20 +58,20 @@ pub fn top<S: Shelf, O: Outlet, C: Crew, R: Threads + Wait + Sync>(
     plugs: Vec<Box<dyn BusDevice + Send>>,
 ) -> Status
     // `Usage` comes exactly where the words are outside the grammar, and then shelf, outlet and the crew's counts are as they were.
-    ensures usage { (result ≡ Status.Usage) ↔ (spelled words.now ≡ None) }
+    ensures usage { (result ≡ Status.Usage) ↔ (command_of_words words.now ≡ None) }
     ensures refused { let old = world (S.shelf shelf.old) (O.outlet out.old) (C.counts crew.old) in
         let new = world (S.shelf shelf.new) (O.outlet out.new) (C.counts crew.new) in
-        IfNone (spelled words.now) (new ≡ old) }
+        IfNone (command_of_words words.now) (new ≡ old) }
     // The headline: where `run` ends with `Done`, what is written is what the reference run of both machines leaves.
     ensures headline { let devices = map ⟦<Box<dyn BusDevice + Send> as BusDevice>⟧.plug plugs.items in
         let old = world (S.shelf shelf.old) (O.outlet out.old) (C.counts crew.old) in
         let new = world (S.shelf shelf.new) (O.outlet out.new) (C.counts crew.new) in
-        result ≡ Status.Done → Headline devices (spelled words.now) old new }
+        result ≡ Status.Done → Headline devices (command_of_words words.now) old new }
     // Each command is carried out, `run` as `solo` with a crew: no clause names an order in which the steps of the two threads fell.
     ensures ran { let devices = map ⟦<Box<dyn BusDevice + Send> as BusDevice>⟧.plug plugs.items in
         let old = world (S.shelf shelf.old) (O.outlet out.old) (C.counts crew.old) in
         let new = world (S.shelf shelf.new) (O.outlet out.new) (C.counts crew.new) in
-        IfSome (spelled words.now) (λ c. EndsWith devices c old new result) }
+        IfSome (command_of_words words.now) (λ c. EndsWith devices c old new result) }
 {
     let Some(command) = command_of(words) else {
         return Status::Usage;

@@ -4,7 +4,7 @@ ghost use Rattle.beeb_files.specs.Crew.{Counts};
 ghost use Rattle.beeb_stages.specs.Promise.{CarriesOut, world};
 ghost use Rattle.beeb_words.specs.Command.{is_paired};
 ghost use Rattle.beeb_words.specs.Reads.{IsWithin};
-ghost use Rattle.beeb_words.specs.Seen.{seen};
+ghost use Rattle.beeb_words.specs.View.{seen_command};
 ghost use Rattle.beeb_top.specs.Plans.{plan};
 
 use crate::work::{paired_outcome, single_outcome};
@@ -25,11 +25,11 @@ pub(crate) fn single<S: Shelf, O: Outlet, D: BusDevice>(
     shelf: &mut S,
     out: &mut O,
 ) -> Result<Ending, Stop<Cause>>
-    requires within { IsWithin (seen command) }
-    requires unpaired { is_paired (seen command) ≡ false }
+    requires within { IsWithin (seen_command command) }
+    requires unpaired { is_paired (seen_command command) ≡ false }
     ensures { (crew : Counts) → let old = world (S.shelf shelf.old) (O.outlet out.old) crew in
         let new = world (S.shelf shelf.new) (O.outlet out.new) crew in
-        CarriesOut (plan (map D.plug plugs.items) (seen command.entry)) old new result }
+        CarriesOut (plan (map D.plug plugs.items) (seen_command command.entry)) old new result }
 {
     stages_carry_out::<Slot, Ending, Cause>();
     let wants = command.reads(alloc)?;
@@ -48,11 +48,11 @@ pub(crate) fn paired<S: Shelf, O: Outlet, D: BusDevice + Send, C: Crew, R: Threa
     out: &mut O,
     crew: &mut C,
 ) -> Result<Ending, Stop<Cause>>
-    requires within { IsWithin (seen command) }
-    requires paired { is_paired (seen command) ≡ true }
+    requires within { IsWithin (seen_command command) }
+    requires paired { is_paired (seen_command command) ≡ true }
     ensures { let old = world (S.shelf shelf.old) (O.outlet out.old) (C.counts crew.old) in
         let new = world (S.shelf shelf.new) (O.outlet out.new) (C.counts crew.new) in
-        CarriesOut (plan (map D.plug plugs.items) (seen command.entry)) old new result }
+        CarriesOut (plan (map D.plug plugs.items) (seen_command command.entry)) old new result }
 {
     stages_carry_out::<Slot, Ending, Cause>();
     let wants = command.reads(alloc)?;

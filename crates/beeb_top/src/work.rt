@@ -2,15 +2,15 @@
 ghost use Rattle.std.specs.Prelude.{◌≡◌, ◌<◌, ◌≤◌, All, map, true, false};
 ghost use Rattle.beeb_stages.specs.Plan.{AreWithin};
 ghost use Rattle.beeb_stages.specs.Promise.{IsCrewAfter};
-ghost use Rattle.beeb_stages.specs.Seen.{Gives, seen_input};
+ghost use Rattle.beeb_stages.specs.View.{Gives, seen_input};
 ghost use Rattle.beeb_stages.specs.Stages.{Works};
 ghost use Rattle.beeb_words.specs.Command.{is_paired};
 ghost use Rattle.beeb_words.specs.Reads.{IsWithin, reads};
-ghost use Rattle.beeb_words.specs.Seen.{seen, seen_given};
+ghost use Rattle.beeb_words.specs.View.{seen_command, seen_given};
 ghost use Rattle.power_on.specs.Inputs.{inputs_of};
 ghost use Rattle.power_on.specs.Setup.{setup_of};
-ghost use Rattle.power_on.specs.Seen.{seen_inputs, seen_setup};
-ghost use Rattle.beeb_outcome.specs.Seen.{verdict_of};
+ghost use Rattle.power_on.specs.View.{seen_inputs, seen_setup};
+ghost use Rattle.beeb_outcome.specs.View.{verdict_of};
 ghost use Rattle.beeb_top.specs.Plans.{replay_after, after};
 
 use beeb_bits::Side;
@@ -56,11 +56,11 @@ pub(crate) fn single_outcome<'a, D: BusDevice>(
     inputs: Vec<(Slot, Vec<u8>)>,
     plugs: Vec<D>,
 ) -> Result<Outcome<'a, D>, Refusal<Cause>>
-    requires within { IsWithin (seen command) }
-    requires unpaired { is_paired (seen command) ≡ false }
-    requires inputs { AreWithin (reads (seen command)) (map seen_input inputs.items) }
+    requires within { IsWithin (seen_command command) }
+    requires unpaired { is_paired (seen_command command) ≡ false }
+    requires inputs { AreWithin (reads (seen_command command)) (map seen_input inputs.items) }
     ensures { let read = inputs_of (map seen_input inputs.items) in
-        Gives (verdict_of D.plug) result (after (map D.plug plugs.items) (seen command.entry) read) }
+        Gives (verdict_of D.plug) result (after (map D.plug plugs.items) (seen_command command.entry) read) }
 {
     let inputs = Inputs::of(alloc, inputs)?;
     match command {
@@ -105,11 +105,11 @@ pub(crate) fn paired_outcome<'a, D: BusDevice + Send, C: Crew, R: Threads + Wait
     inputs: Vec<(Slot, Vec<u8>)>,
     plugs: Vec<D>,
 ) -> Result<Outcome<'a, D>, Stop<Cause>>
-    requires within { IsWithin (seen command) }
-    requires paired { is_paired (seen command) ≡ true }
-    requires inputs { AreWithin (reads (seen command)) (map seen_input inputs.items) }
+    requires within { IsWithin (seen_command command) }
+    requires paired { is_paired (seen_command command) ≡ true }
+    requires inputs { AreWithin (reads (seen_command command)) (map seen_input inputs.items) }
     ensures works { let read = inputs_of (map seen_input inputs.items) in
-        let after = after (map D.plug plugs.items) (seen command.entry) read in
+        let after = after (map D.plug plugs.items) (seen_command command.entry) read in
         Works (verdict_of D.plug) true (C.counts crew.old) (C.counts crew.new) result after }
     ensures crew { IsCrewAfter true (C.counts crew.old) (C.counts crew.new) }
 {

@@ -15,7 +15,7 @@ use Rattle.std.specs.List.{slice_get}
 use Rattle.std.specs.declared.string.String.{String}
 use Rattle.std.specs.declared.alloc.Global.{Global}
 use Rattle.beeb_words.specs.Given.{Values, no_values, value_at, put_at}
-use Rattle.beeb_words.specs.Seen.{word_at, value_of}
+use Rattle.beeb_words.specs.View.{word_at, value_of}
 
 word_there : (words : List (String Global)) (at : ℕ) → at < length words → value_of words (Some at) ≡ Some (word_at words at)
 word_there words at h =

@@ -4,7 +4,7 @@ use Rattle.std.specs.Prelude.{option_and_then, option_map}
 use Rattle.beeb_words.specs.declared.keys.Taker.{Taker}
 use Rattle.beeb_words.specs.declared.keys.Taker.TheVariants as takers
 use Rattle.beeb_words.specs.Alone.{is_dashed, alone, two, four}
-use Rattle.beeb_words.specs.Given.{Values, no_values, options, is_closed, put_options, closed_options, given}
+use Rattle.beeb_words.specs.Given.{Values, no_values, options, is_closed, put_options, closed_options, options_of}
 use Rattle.beeb_words.specs.Command.{solo, run}
 use Rattle.beeb_words.specs.Words.{Both, both_by, both_words, replay_of, replay_by, replay_words, solo_words, run_words, command}
 use Rattle.beeb_words.specs.Places.{StandAnywhere}
@@ -128,8 +128,8 @@ module _ (key value : List ℕ) (front over back : List (List ℕ)) (dashed : is
   put_same taker =
       rw (options_before, options_after) (put_moved taker (key, value) (options None front) (options None over) (options None back) no_values)
 
-  given_same : (taker : Taker) → given taker before ≡ given taker after
-  unfolding given closed_options
+  given_same : (taker : Taker) → options_of taker before ≡ options_of taker after
+  unfolding options_of closed_options
   given_same taker = rw (closed_same, put_same taker) refl
 
   replay_same : replay_words before ≡ replay_words after

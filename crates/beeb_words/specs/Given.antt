@@ -98,5 +98,5 @@ unfoldable pub closed_options : Taker → List (List ℕ) → Option Values
 closed_options taker words = if is_closed false words then put_options taker (options None words) no_values else None
 
 -- the options among the words, where this command takes them
-unfoldable pub given : Taker → List (List ℕ) → Option Values
-given taker words = option_and_then (if_images taker) (closed_options taker words)
+unfoldable pub options_of : Taker → List (List ℕ) → Option Values
+options_of taker words = option_and_then (if_images taker) (closed_options taker words)

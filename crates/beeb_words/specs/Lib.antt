@@ -5,6 +5,6 @@ pub mod Discs
 pub mod Command
 pub mod Words
 pub mod Reads
-pub mod Seen
+pub mod View
 pub mod Order
 pub mod Places

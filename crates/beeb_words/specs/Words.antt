@@ -10,7 +10,7 @@ use Rattle.beeb_words.specs.declared.keys.Taker.TheVariants as takers
 use Rattle.beeb_words.specs.Keys.{is_four_digits}
 use Rattle.beeb_words.specs.Command.{Command, check, asm, dis, replay, solo, run, gen}
 use Rattle.beeb_words.specs.Alone.{is_name, alone, two, four}
-use Rattle.beeb_words.specs.Given.{given, keep_of, Values}
+use Rattle.beeb_words.specs.Given.{options_of, keep_of, Values}
 use Rattle.digits.specs.Decimal.{decimal_number}
 use Rattle.digits.specs.Hexadecimal.{hex_number}
 
@@ -65,7 +65,7 @@ replay_of Para = takers.ReplayPara
 
 abbrev pub replay_with : List ℕ → List ℕ → List (List ℕ) → Side → ℕ → Option Command
 replay_with trace out words side ticks =
-    if is_name trace && is_name out then option_map (replay side trace ticks out) (given (replay_of side) words) else None
+    if is_name trace && is_name out then option_map (replay side trace ticks out) (options_of (replay_of side) words) else None
 
 -- SIDE TRACE TICKS OUT
 abbrev pub replay_by : List (List ℕ) → List ℕ × List ℕ × List ℕ × List ℕ → Option Command
@@ -86,7 +86,7 @@ abbrev pub both_given : ℕ → List ℕ → Values → Both
 both_given ticks out given = record { ticks = ticks; out = out; keep = keep_of given; given = given }
 
 abbrev pub both_with : Taker → List ℕ → List (List ℕ) → ℕ → Option Both
-both_with taker out words ticks = if is_name out then option_map (both_given ticks out) (given taker words) else None
+both_with taker out words ticks = if is_name out then option_map (both_given ticks out) (options_of taker words) else None
 
 -- TICKS OUT
 abbrev pub both_by : Taker → List (List ℕ) → List ℕ × List ℕ → Option Both

@@ -1,7 +1,7 @@
 //! The commands.
 ghost use Rattle.std.specs.Prelude.{◌≡◌};
 ghost use Rattle.beeb_words.specs.Command.{is_paired};
-ghost use Rattle.beeb_words.specs.Seen.{seen};
+ghost use Rattle.beeb_words.specs.View.{seen_command};
 
 use crate::given::Given;
 use beeb_bits::Side;
@@ -58,7 +58,7 @@ pub enum Command<'a> {
 impl<'a> Command<'a> {
     /// Whether the command has a crew work a pair of jobs.
     pub fn is_paired(&self) -> bool
-        ensures { result ≡ is_paired (seen self.now) }
+        ensures { result ≡ is_paired (seen_command self.now) }
     {
         matches!(self, Command::Run { .. })
     }

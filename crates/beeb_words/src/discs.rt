@@ -1,7 +1,7 @@
 //! What the discs are, by the names of their images.
 ghost use Rattle.std.specs.Prelude.{◌≡◌, option_copied};
 ghost use Rattle.beeb_words.specs.Discs.{is_dsd, kind_in, kinds_of};
-ghost use Rattle.beeb_words.specs.Seen.{seen_given};
+ghost use Rattle.beeb_words.specs.View.{seen_given};
 
 use crate::given::Given;
 use disc_image::Kind;

@@ -2,7 +2,7 @@
 ghost use Rattle.std.specs.Prelude.{◌≡◌, ◌∷◌, ◌++◌, [], map, IfOk, option_copied};
 ghost use Rattle.beeb_words.specs.Keys.{keys};
 ghost use Rattle.beeb_words.specs.Reads.{reads, file_of, files_of};
-ghost use Rattle.beeb_words.specs.Seen.{seen, seen_given, seen_value, seen_want};
+ghost use Rattle.beeb_words.specs.View.{seen_command, seen_given, seen_value, seen_want};
 
 use crate::command::Command;
 use crate::given::Given;
@@ -67,7 +67,7 @@ fn with_options<'a>(files: Vec<Want<'a>>, given: Given<'a>) -> Result<Vec<Want<'
 impl<'a> Command<'a> {
     /// The files that the command reads, in their order: what each is, its name, and the most bytes that it takes.
     pub fn reads(&self, alloc: Global) -> Result<Vec<(Slot, &'a str, u64)>, AllocError>
-        ensures { IfOk result (λ v. map seen_want v.items ≡ reads (seen self.now)) }
+        ensures { IfOk result (λ v. map seen_want v.items ≡ reads (seen_command self.now)) }
     {
         match self {
             Command::Check { trace } => one(alloc, (Slot::Trace, *trace, TRACE_CAP)),

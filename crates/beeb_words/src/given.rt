@@ -1,9 +1,9 @@
 //! Options among the words.
 ghost use Rattle.std.specs.Prelude.{◌≡◌, ◌<◌, ◌≤◌, map, length, option_map, option_copied, IfSome};
 ghost use Rattle.std.specs.Prelude.{string_bytes};
-ghost use Rattle.beeb_words.specs.Given.{given, closed_options, value_at, value_of, put_at, put_option};
+ghost use Rattle.beeb_words.specs.Given.{options_of, closed_options, value_at, value_of, put_at, put_option};
 ghost use Rattle.beeb_words.specs.Given.{keep_in, keep_of, plugs_in, plugs_of, clock_in, clock_of, has_os, has_tube, has_images};
-ghost use Rattle.beeb_words.specs.Seen.{seen_given, word_at};
+ghost use Rattle.beeb_words.specs.View.{seen_given, word_at};
 
 use crate::alone::is_dashed;
 use crate::keys::{COUNT, Taker, fits, place_of};
@@ -194,10 +194,10 @@ fn put_options(words: &[String], taker: Taker) -> Option<Given<'_>>
     if key.is_none() { Some(given) } else { None }
 }
 
-#[tactic(auto, unfolding(crate::specs::Given::given))]
+#[tactic(auto, unfolding(crate::specs::Given::options_of))]
 /// The options among the words, where this command takes them and its machines have their images.
 pub(crate) fn options_among(words: &[String], taker: Taker) -> Option<Given<'_>>
-    ensures { option_map seen_given result ≡ given taker (map string_bytes words.now) }
+    ensures { option_map seen_given result ≡ options_of taker (map string_bytes words.now) }
 {
     match put_options(words, taker) {
         Some(given) if given.has_images(taker) => Some(given),

@@ -1,7 +1,7 @@
 //! The keys of the options.
 ghost use Rattle.std.specs.Prelude.{◌≡◌, ◌<◌, map, IfSome};
 ghost use Rattle.digits.specs.Decimal.{decimal_number};
-ghost use Rattle.beeb_words.specs.Seen.{seen_word, seen_value, seen_key};
+ghost use Rattle.beeb_words.specs.View.{seen_word, seen_value, seen_key};
 ghost use Rattle.beeb_words.specs.Keys.{key_at, place_of, fits, takes, is_from, is_among, is_four_digits, is_value};
 ghost use Rattle.beeb_words.specs.Keys as keys;
 
@@ -19,7 +19,7 @@ pub enum Slot {
     Image,
     /// The host's operating system.
     Os,
-    /// The parasite's boot ROM.
+    /// The second processor's boot ROM.
     Tube,
     /// The paged ROM of a slot from 0 to 15.
     Rom(u8),

@@ -5,7 +5,7 @@ ghost use Rattle.beeb_words.specs.Words.{part_of, origin_of, side_of, replay_of,
 ghost use Rattle.beeb_words.specs.Words.{check_words, asm_words, dis_words, replay_words, both_words};
 ghost use Rattle.beeb_words.specs.Words.{solo_words, run_words, gen_words};
 ghost use Rattle.beeb_words.specs.Reads.{IsWithin};
-ghost use Rattle.beeb_words.specs.Seen.{seen, seen_both};
+ghost use Rattle.beeb_words.specs.View.{seen_command, seen_both};
 
 use crate::alone::{four_alone, is_name, two_alone};
 use crate::command::Command;
@@ -19,8 +19,8 @@ use op_table::Part;
 const MOST_TICKS: u64 = 1_073_741_824;
 
 fn check_words(words: &[String]) -> Option<Command<'_>>
-    ensures command { option_map seen result ≡ check_words (map string_bytes words.now) }
-    ensures ticks { IfSome result (λ c. ticks_of (seen c) ≤ MOST_TICKS) }
+    ensures command { option_map seen_command result ≡ check_words (map string_bytes words.now) }
+    ensures ticks { IfSome result (λ c. ticks_of (seen_command c) ≤ MOST_TICKS) }
 {
     match words {
         [trace] if is_name(trace.as_str()) => Some(Command::Check {
@@ -55,8 +55,8 @@ fn origin_of(word: &str) -> Option<u16>
 }
 
 fn asm_words(words: &[String]) -> Option<Command<'_>>
-    ensures command { option_map seen result ≡ asm_words (map string_bytes words.now) }
-    ensures ticks { IfSome result (λ c. ticks_of (seen c) ≤ MOST_TICKS) }
+    ensures command { option_map seen_command result ≡ asm_words (map string_bytes words.now) }
+    ensures ticks { IfSome result (λ c. ticks_of (seen_command c) ≤ MOST_TICKS) }
 {
     match words {
         [part, source, out] => {
@@ -76,8 +76,8 @@ fn asm_words(words: &[String]) -> Option<Command<'_>>
 }
 
 fn dis_words(words: &[String]) -> Option<Command<'_>>
-    ensures command { option_map seen result ≡ dis_words (map string_bytes words.now) }
-    ensures ticks { IfSome result (λ c. ticks_of (seen c) ≤ MOST_TICKS) }
+    ensures command { option_map seen_command result ≡ dis_words (map string_bytes words.now) }
+    ensures ticks { IfSome result (λ c. ticks_of (seen_command c) ≤ MOST_TICKS) }
 {
     match words {
         [part, image, origin, out] => {
@@ -121,8 +121,8 @@ fn replay_of(side: Side) -> Taker
 }
 
 fn replay_words(words: &[String]) -> Option<Command<'_>>
-    ensures command { option_map seen result ≡ replay_words (map string_bytes words.now) }
-    ensures ticks { IfSome result (λ c. ticks_of (seen c) ≤ MOST_TICKS) }
+    ensures command { option_map seen_command result ≡ replay_words (map string_bytes words.now) }
+    ensures ticks { IfSome result (λ c. ticks_of (seen_command c) ≤ MOST_TICKS) }
 {
     let (side, trace, ticks, out) = four_alone(words)?;
     let side = side_of(side)?;
@@ -168,8 +168,8 @@ fn both_words(words: &[String], taker: Taker) -> Option<Both<'_>>
 }
 
 fn solo_words(words: &[String]) -> Option<Command<'_>>
-    ensures command { option_map seen result ≡ solo_words (map string_bytes words.now) }
-    ensures ticks { IfSome result (λ c. ticks_of (seen c) ≤ MOST_TICKS) }
+    ensures command { option_map seen_command result ≡ solo_words (map string_bytes words.now) }
+    ensures ticks { IfSome result (λ c. ticks_of (seen_command c) ≤ MOST_TICKS) }
 {
     let told = both_words(words, Taker::Solo)?;
     Some(Command::Solo {
@@ -181,8 +181,8 @@ fn solo_words(words: &[String]) -> Option<Command<'_>>
 }
 
 fn run_words(words: &[String]) -> Option<Command<'_>>
-    ensures command { option_map seen result ≡ run_words (map string_bytes words.now) }
-    ensures ticks { IfSome result (λ c. ticks_of (seen c) ≤ MOST_TICKS) }
+    ensures command { option_map seen_command result ≡ run_words (map string_bytes words.now) }
+    ensures ticks { IfSome result (λ c. ticks_of (seen_command c) ≤ MOST_TICKS) }
 {
     let told = both_words(words, Taker::Run)?;
     Some(Command::Run {
@@ -194,8 +194,8 @@ fn run_words(words: &[String]) -> Option<Command<'_>>
 }
 
 fn gen_words(words: &[String]) -> Option<Command<'_>>
-    ensures command { option_map seen result ≡ gen_words (map string_bytes words.now) }
-    ensures ticks { IfSome result (λ c. ticks_of (seen c) ≤ MOST_TICKS) }
+    ensures command { option_map seen_command result ≡ gen_words (map string_bytes words.now) }
+    ensures ticks { IfSome result (λ c. ticks_of (seen_command c) ≤ MOST_TICKS) }
 {
     match words {
         [seed] => {
@@ -208,8 +208,8 @@ fn gen_words(words: &[String]) -> Option<Command<'_>>
 
 #[tactic(auto, unfolding(crate::specs::Words::command))]
 fn command_within(words: &[String]) -> Option<Command<'_>>
-    ensures command { option_map seen result ≡ command (map string_bytes words.now) }
-    ensures ticks { IfSome result (λ c. ticks_of (seen c) ≤ MOST_TICKS) }
+    ensures command { option_map seen_command result ≡ command (map string_bytes words.now) }
+    ensures ticks { IfSome result (λ c. ticks_of (seen_command c) ≤ MOST_TICKS) }
 {
     let (word, rest) = words.split_first()?;
     if word.as_str() == "check" {
@@ -234,8 +234,8 @@ fn command_within(words: &[String]) -> Option<Command<'_>>
 /// The command that the words spell. Its numbers are within their limits.
 #[tactic(auto, using(crate::proofs::SlotLemmas::is_within))]
 pub fn command_of(words: &[String]) -> Option<Command<'_>>
-    ensures command { option_map seen result ≡ command (map string_bytes words.now) }
-    ensures within { IfSome result (λ c. IsWithin (seen c)) }
+    ensures command { option_map seen_command result ≡ command (map string_bytes words.now) }
+    ensures within { IfSome result (λ c. IsWithin (seen_command c)) }
 {
     command_within(words)
 }

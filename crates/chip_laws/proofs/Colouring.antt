@@ -7,18 +7,18 @@ use Rattle.std.proofs.lemmas.Nat.{xor_lt}
 use Rattle.beeb_bits.specs.Bits.{bit}
 use Rattle.beeb_bits.specs.Zeros.{zeros}
 use Rattle.crtc6845.specs.declared.Beam.{Beam}
-use Rattle.crtc6845.specs.Clock.{beam_of, clocked}
+use Rattle.crtc6845.specs.Clock.{beam_of, clock_leaves}
 use Rattle.video_ula.specs.State as ula
-use Rattle.video_ula.specs.Pixels.{dots_of, pixel_width, shifted, entry_of, colour_of, under_cursor, dot_colour}
+use Rattle.video_ula.specs.Pixels.{dots_of, pixel_width, shifted_byte, entry_of, colour_of, under_cursor, dot_colour}
 use Rattle.saa5050.specs.declared.style.Style.{Style}
 use Rattle.saa5050.specs.Shapes.{Font}
-use Rattle.saa5050.specs.Controls.{Control, controls, has, obeyed, holds_at_once}
+use Rattle.saa5050.specs.Controls.{Control, controls, has, effect_of, holds_at_once}
 use Rattle.saa5050.specs.Row.{Row, row_start, is_sixel, style_at, style_after, cell_dot, pixel}
 use Rattle.raster.specs.Frame.{black, is_in_frame, dot_set, dots_set}
 use Rattle.raster.specs.Beam.{byte_address, is_marked}
 use Rattle.raster.specs.Text.{Text, first_row, next_row, text_at, codes_after, cell_of, text_past}
 use Rattle.raster.specs.State.{State, power_on}
-use Rattle.raster.specs.Clock.{begun, byte_dots, cell_dots, byte_drawn, cell_drawn, drawn, shown, told, char_clocked}
+use Rattle.raster.specs.Clock.{begin_leaves, byte_dots, cell_dots, draw_byte_leaves, draw_cell_leaves, draw_leaves, show_leaves, tell_leaves, char_clock_leaves}
 use Rattle.chip_laws.specs.PictureRuns.{Move, clock, step, new_crtc, new_ula, after_move, after_moves}
 use Rattle.chip_laws.specs.Colours.{AreColours, DotsAreColours}
 
@@ -46,7 +46,7 @@ valued flash value =
 
 dotted : (u : ula.State) (byte : ℕ) (cursor : Bool) (d : ℕ) → dot_colour u byte cursor d < 8
 dotted u byte cursor d =
-    inverted cursor _ (valued (bit u.control 0) (slice_index u.palette (entry_of (shifted byte (d / pixel_width u.control)))))
+    inverted cursor _ (valued (bit u.control 0) (slice_index u.palette (entry_of (shifted_byte byte (d / pixel_width u.control)))))
 
 byte_colours : (u : ula.State) (byte ra : ℕ) (marked : Bool) → AreColours (byte_dots u byte ra marked)
 byte_colours u byte ra marked =
@@ -116,17 +116,17 @@ controls_keep = (
   ),
 )
 
-obeyed_inks : (cs : List Control) → AllKeep cs → (code : ℕ) (s : Style) → Inks s → Inks (obeyed cs code s)
+obeyed_inks : (cs : List Control) → AllKeep cs → (code : ℕ) (s : Style) → Inks s → Inks (effect_of cs code s)
 obeyed_inks [] keep code s i = i
 obeyed_inks (c ∷ cs) keep code s i =
-    inks_if (has c code) (c.effect code s) (obeyed cs code s) (keep.0 code s i) (obeyed_inks cs keep.1 code s i)
+    inks_if (has c code) (c.effect code s) (effect_of cs code s) (keep.0 code s i) (obeyed_inks cs keep.1 code s i)
 
 inks_at : (code : ℕ) (s : Style) → Inks s → Inks (style_at code s)
-inks_at code s i = inks_if (holds_at_once controls code) (obeyed controls code s) s (obeyed_inks controls controls_keep code s i) i
+inks_at code s i = inks_if (holds_at_once controls code) (effect_of controls code s) s (obeyed_inks controls controls_keep code s i) i
 
 inks_after : (code : ℕ) (s : Style) → Inks s → Inks (style_after code s)
 inks_after code s i =
-    inks_if (nat_lt code 0x20) (obeyed controls code s) _ (obeyed_inks controls controls_keep code s i)
+    inks_if (nat_lt code 0x20) (effect_of controls code s) _ (obeyed_inks controls controls_keep code s i)
     (inks_if (s.graphics && is_sixel code) _ s (record { foreground = i.foreground; background = i.background }) i)
 
 cell_colours : (font : Font) (code : ℕ) (beam : Beam) (t : Text) → Inks t.codes.style → AreColours (cell_of font code beam t)
@@ -183,21 +183,21 @@ text_past_inks beam t i = by_tests beam.restart beam.row_end where
   by_tests false true = i
   by_tests false false = i
 
-begun_coloured : (beam : Beam) (s : State) → IsColoured s → IsColoured (begun beam s)
+begun_coloured : (beam : Beam) (s : State) → IsColoured s → IsColoured (begin_leaves beam s)
 begun_coloured beam s h = record {
   text = text_at_inks beam s.text h.text;
   working = both beam.frame_end black s.working black_colours h.working;
   finished = both beam.frame_end s.working s.finished h.working h.finished;
 }
 
-byte_coloured : (beam : Beam) (byte : ℕ) (s : State) → IsColoured s → IsColoured (byte_drawn beam byte s)
+byte_coloured : (beam : Beam) (byte : ℕ) (s : State) → IsColoured s → IsColoured (draw_byte_leaves beam byte s)
 byte_coloured beam byte s h = record {
   text = h.text;
   working = set_colours 240 s.place.x s.place.y _ s.working (byte_colours s.ula byte beam.ra (is_marked s.ula.control beam.cursor s.cursor)) h.working;
   finished = h.finished;
 }
 
-cell_coloured : (font : Font) (beam : Beam) (code : ℕ) (s : State) → IsColoured s → IsColoured (cell_drawn font beam code s)
+cell_coloured : (font : Font) (beam : Beam) (code : ℕ) (s : State) → IsColoured s → IsColoured (draw_cell_leaves font beam code s)
 cell_coloured font beam code s h = record {
   text = codes_inks code s.text.codes h.text;
   working = set_colours 208 s.place.x s.place.y _ s.working
@@ -206,29 +206,29 @@ cell_coloured font beam code s h = record {
   finished = h.finished;
 }
 
-told_coloured : (ram : List ℕ) (size : ℕ) (font : Font) (beam : Beam) (s : State) → IsColoured s → IsColoured (told ram size font beam s)
+told_coloured : (ram : List ℕ) (size : ℕ) (font : Font) (beam : Beam) (s : State) → IsColoured s → IsColoured (tell_leaves ram size font beam s)
 told_coloured ram size font beam s h =
-    let x = begun beam s in
+    let x = begin_leaves beam s in
     let byte = slice_index ram (byte_address beam.ma beam.ra size) in
     let begins : IsColoured x = begun_coloured beam s h in
-    let shows : IsColoured (shown ram size font beam x) =
-    coloured_if beam.shown (drawn ram size font beam x) x
-    (coloured_if (bit x.ula.control 1) (cell_drawn font beam (byte % 128) x) (byte_drawn beam byte x)
+    let shows : IsColoured (show_leaves ram size font beam x) =
+    coloured_if beam.shown (draw_leaves ram size font beam x) x
+    (coloured_if (bit x.ula.control 1) (draw_cell_leaves font beam (byte % 128) x) (draw_byte_leaves beam byte x)
     (cell_coloured font beam (byte % 128) x begins) (byte_coloured beam byte x begins)) begins in
-    record { text = text_past_inks beam (shown ram size font beam x).text shows.text; working = shows.working; finished = shows.finished }
+    record { text = text_past_inks beam (show_leaves ram size font beam x).text shows.text; working = shows.working; finished = shows.finished }
 
-clock_coloured : (ram : List ℕ) (size : ℕ) (font : Font) (s : State) → IsColoured s → IsColoured (char_clocked ram size font s)
-unfolding char_clocked
+clock_coloured : (ram : List ℕ) (size : ℕ) (font : Font) (s : State) → IsColoured s → IsColoured (char_clock_leaves ram size font s)
+unfolding char_clock_leaves
 clock_coloured ram size font s h =
-    told_coloured ram size font (beam_of s.crtc) (record s { crtc = clocked s.crtc })
+    told_coloured ram size font (beam_of s.crtc) (record s { crtc = clock_leaves s.crtc })
     (record { text = h.text; working = h.working; finished = h.finished })
 
 moved : (m : Move) (s : State) → IsColoured s → IsColoured (after_move m s)
 moved (clock ram size font) s h = clock_coloured ram size font s h
 moved (step ram size font) s h =
-    let once : IsColoured (char_clocked ram size font s) = clock_coloured ram size font s h in
-    coloured_if (bit s.ula.control 4) (char_clocked ram size font (char_clocked ram size font s)) (char_clocked ram size font s)
-    (clock_coloured ram size font (char_clocked ram size font s) once) once
+    let once : IsColoured (char_clock_leaves ram size font s) = clock_coloured ram size font s h in
+    coloured_if (bit s.ula.control 4) (char_clock_leaves ram size font (char_clock_leaves ram size font s)) (char_clock_leaves ram size font s)
+    (clock_coloured ram size font (char_clock_leaves ram size font s) once) once
 moved (new_crtc chip) s h = record { text = h.text; working = h.working; finished = h.finished }
 moved (new_ula chip) s h = record { text = h.text; working = h.working; finished = h.finished }
 

@@ -4,23 +4,23 @@ use Rattle.std.specs.Prelude.{slice_index, if◌then◌else◌}
 use Rattle.beeb_bits.specs.Bits.{bit}
 use Rattle.crtc6845.specs.declared.Beam.{Beam}
 use Rattle.crtc6845.specs.State.{Registers, State, power_on}
-use Rattle.crtc6845.specs.Registers.{written}
-use Rattle.crtc6845.specs.Clock.{beam_of, clocked, started, counted}
+use Rattle.crtc6845.specs.Registers.{write_leaves}
+use Rattle.crtc6845.specs.Clock.{beam_of, clock_leaves, start_leaves, count_leaves}
 use Rattle.crtc6845.specs.Laws.{HaveTheirBits}
 use Rattle.saa5050.specs.Shapes.{Font}
 use Rattle.raster.specs.Beam.{byte_address}
 use Rattle.raster.specs.State as raster
-use Rattle.raster.specs.Clock.{begun, byte_drawn, cell_drawn, drawn, shown, char_clocked}
+use Rattle.raster.specs.Clock.{begin_leaves, draw_byte_leaves, draw_cell_leaves, draw_leaves, show_leaves, char_clock_leaves}
 use Rattle.chip_laws.specs.PictureRuns as picture
 use Rattle.chip_laws.specs.CrtcBits.{Move, clock, select, write, after_move, after_moves, WritesByte, WriteBytes, RegistersHaveTheirBits, PutsBits, PutBits, RastersHaveTheirBits}
 
-pub start_keeps : (c : State) → (started c).registers ≡ c.registers
+pub start_keeps : (c : State) → (start_leaves c).registers ≡ c.registers
 start_keeps c = grind arith
 
-pub count_keeps : (c : State) → (counted c).registers ≡ c.registers
+pub count_keeps : (c : State) → (count_leaves c).registers ≡ c.registers
 count_keeps c = grind arith
 
-written_has : (n v : ℕ) (r : Registers) → v < 256 → HaveTheirBits r → HaveTheirBits (written n v r)
+written_has : (n v : ℕ) (r : Registers) → v < 256 → HaveTheirBits r → HaveTheirBits (write_leaves n v r)
 written_has n v r byte bits =
     let a : r.horizontal_total < 256 = bits.horizontal_total in
     let b : r.vertical_total < 128 = bits.vertical_total in
@@ -28,8 +28,8 @@ written_has n v r byte bits =
     let e : r.maximum_raster < 32 = bits.maximum_raster in
     record { horizontal_total = grind arith; vertical_total = grind arith; vertical_adjust = grind arith; maximum_raster = grind arith }
 
-clock_keeps : (c : State) → HaveTheirBits c.registers → HaveTheirBits (clocked c).registers
-clock_keeps c bits = subst HaveTheirBits (sym (count_keeps (started c) ∙ start_keeps c)) bits
+clock_keeps : (c : State) → HaveTheirBits c.registers → HaveTheirBits (clock_leaves c).registers
+clock_keeps c bits = subst HaveTheirBits (sym (count_keeps (start_leaves c) ∙ start_keeps c)) bits
 
 moved : (m : Move) (c : State) → WritesByte m → HaveTheirBits c.registers → HaveTheirBits (after_move m c).registers
 moved clock c byte bits = clock_keeps c bits
@@ -53,18 +53,18 @@ choice : (b : Bool) (c : State) (x y : raster.State) → x.crtc ≡ c → y.crtc
 choice true c x y p q = p
 choice false c x y p q = q
 
-draws : (ram : List ℕ) (size : ℕ) (font : Font) (beam : Beam) (s : raster.State) → (shown ram size font beam s).crtc ≡ s.crtc
+draws : (ram : List ℕ) (size : ℕ) (font : Font) (beam : Beam) (s : raster.State) → (show_leaves ram size font beam s).crtc ≡ s.crtc
 draws ram size font beam s =
     let byte = slice_index ram (byte_address beam.ma beam.ra size) in
-    choice beam.shown s.crtc (drawn ram size font beam s) s
-    (choice (bit s.ula.control 1) s.crtc (cell_drawn font beam (byte % 128) s) (byte_drawn beam byte s) refl refl) refl
+    choice beam.shown s.crtc (draw_leaves ram size font beam s) s
+    (choice (bit s.ula.control 1) s.crtc (draw_cell_leaves font beam (byte % 128) s) (draw_byte_leaves beam byte s) refl refl) refl
 
 one_clock : (ram : List ℕ) (size : ℕ) (font : Font) (s : raster.State) →
-    HaveTheirBits s.crtc.registers → HaveTheirBits (char_clocked ram size font s).crtc.registers
-unfolding char_clocked
+    HaveTheirBits s.crtc.registers → HaveTheirBits (char_clock_leaves ram size font s).crtc.registers
+unfolding char_clock_leaves
 one_clock ram size font s bits =
     subst (λ (c : State). HaveTheirBits c.registers)
-    (sym (draws ram size font (beam_of s.crtc) (begun (beam_of s.crtc) (record s { crtc = clocked s.crtc }))))
+    (sym (draws ram size font (beam_of s.crtc) (begin_leaves (beam_of s.crtc) (record s { crtc = clock_leaves s.crtc }))))
     (clock_keeps s.crtc bits)
 
 one_or_two : (b : Bool) (x y : raster.State) → HaveTheirBits x.crtc.registers → HaveTheirBits y.crtc.registers →
@@ -76,8 +76,8 @@ raster_moved : (m : picture.Move) (s : raster.State) → PutsBits m →
     HaveTheirBits s.crtc.registers → HaveTheirBits (picture.after_move m s).crtc.registers
 raster_moved (picture.clock ram size font) s puts bits = one_clock ram size font s bits
 raster_moved (picture.step ram size font) s puts bits =
-    let once = char_clocked ram size font s in
-    one_or_two (bit s.ula.control 4) (char_clocked ram size font once) once
+    let once = char_clock_leaves ram size font s in
+    one_or_two (bit s.ula.control 4) (char_clock_leaves ram size font once) once
     (one_clock ram size font once (one_clock ram size font s bits)) (one_clock ram size font s bits)
 raster_moved (picture.new_crtc chip) s puts bits = puts
 raster_moved (picture.new_ula chip) s puts bits = bits

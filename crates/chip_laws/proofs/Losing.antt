@@ -11,9 +11,9 @@ use Rattle.wd1770.specs.declared.command.Command.TheVariants.{Idle, Moving, Sett
 use Rattle.wd1770.specs.declared.command.Transfer.{Transfer}
 use Rattle.wd1770.specs.State.{State}
 use Rattle.wd1770.specs.Select.{disc_in, drive_of, with_drive}
-use Rattle.wd1770.specs.Ends.{finished, not_found}
-use Rattle.wd1770.specs.Motion.{head_after, moved}
-use Rattle.wd1770.specs.Sectors.{searching, is_found, places_into, is_byte_place, sector_ended, byte_came, byte_on_disc, reading_at, byte_written, writing_at}
+use Rattle.wd1770.specs.Ends.{finish_leaves, not_found}
+use Rattle.wd1770.specs.Motion.{head_after, move_leaves}
+use Rattle.wd1770.specs.Sectors.{search_of, is_found, places_into, is_byte_place, sector_ended, byte_came, byte_on_disc, reading_at, byte_written, writing_at}
 use Rattle.wd1770.specs.Addresses.{is_address, address_bytes, address_at}
 use Rattle.wd1770.specs.Step.{next_angle, command_step, step}
 
@@ -31,7 +31,7 @@ put_keeps Drive1 d s = refl
 
 sector_end : (t : Transfer) (s : State) → Keeps s (sector_ended t s)
 unfolding Keeps
-sector_end t s = either t.multiple s (record s { sector = (s.sector + 1) % 256; command = searching t }) (finished s) (λ h. h) (λ h. h)
+sector_end t s = either t.multiple s (record s { sector = (s.sector + 1) % 256; command = search_of t }) (finish_leaves s) (λ h. h) (λ h. h)
 
 reading : (t : Transfer) (k : ℕ) (place : Option ℕ) (s : State) → Keeps s (reading_at t k place s)
 unfolding Keeps
@@ -46,9 +46,9 @@ unfolding Keeps
 writing t k None s = λ h. h
 writing t k (Some place) s =
     either (place == 12) s (record s { drq = true })
-    (if (place == 22) && s.drq then finished (record s { lost_data = true }) else if is_byte_place 30 place then byte_written t.target k (place - 30) s else if place == 288 then sector_ended t s else s)
+    (if (place == 22) && s.drq then finish_leaves (record s { lost_data = true }) else if is_byte_place 30 place then byte_written t.target k (place - 30) s else if place == 288 then sector_ended t s else s)
     (λ h. h)
-    (either ((place == 22) && s.drq) s (finished (record s { lost_data = true }))
+    (either ((place == 22) && s.drq) s (finish_leaves (record s { lost_data = true }))
     (if is_byte_place 30 place then byte_written t.target k (place - 30) s else if place == 288 then sector_ended t s else s)
     (λ h. absurd (true≢false h))
     (either (is_byte_place 30 place) s (byte_written t.target k (place - 30) s) (if place == 288 then sector_ended t s else s)
@@ -60,14 +60,14 @@ unfolding Keeps
 addressing target k None s = λ h. h
 addressing target k (Some place) s =
     either (nat_le 7 place && nat_le place 12) s (byte_came (slice_index (address_bytes target k) (place - 7)) s)
-    (if place == 14 then finished (record s { sector = target.head }) else s) (λ h. (or_parts s.lost_data s.drq h).0)
-    (either (place == 14) s (finished (record s { sector = target.head })) s (λ h. h) (λ h. h))
+    (if place == 14 then finish_leaves (record s { sector = target.head }) else s) (λ h. (or_parts s.lost_data s.drq h).0)
+    (either (place == 14) s (finish_leaves (record s { sector = target.head })) s (λ h. h) (λ h. h))
 
 of_command : (c : Command) (angle : ℕ) (s : State) → Keeps s (command_step c angle s)
 unfolding Keeps
 of_command Idle angle s = λ h. h
 of_command (Moving m left) angle s =
-    either (nat_lt 1 left) s (record s { command = Moving m (left - 1) }) (moved m s) (λ h. h)
+    either (nat_lt 1 left) s (record s { command = Moving m (left - 1) }) (move_leaves m s) (λ h. h)
     (λ h. sym (put_keeps m.drive (record (drive_of m.drive s) { head = head_after m s }) s) ∙ h)
 of_command (Settling t left) angle s = λ h. h
 of_command (Searching t left) angle s =

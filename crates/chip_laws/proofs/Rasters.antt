@@ -7,7 +7,7 @@ use Rattle.std.proofs.lemmas.Nat.{div-add-mod', div_below, le-div}
 use Rattle.std.proofs.Math.Nat.{zero-mod, zero-div, mod-eq_of_lt, mul-le-mul_right, mul_comm}
 use Rattle.std.proofs.Math.Arith.{mod-mul}
 use Rattle.crtc6845.specs.State.{Registers, State}
-use Rattle.crtc6845.specs.Clock.{is_interlaced, raster_step, last_raster, starts_line, begins_sync, sync_counted, sync_begun, started, is_shown, ends_line, is_row_done, are_rows_done, is_last_line_in, is_last_line, ends_frame, frame_begun, adjust_begun, row_begun, raster_begun, row_line_ended, adjust_line_ended, line_ended_in, line_ended, counted, clocked}
+use Rattle.crtc6845.specs.Clock.{is_interlaced, raster_step, last_raster, starts_line, begins_sync, sync_counted, sync_begun, start_leaves, is_shown, ends_line, is_row_done, are_rows_done, is_last_line_in, is_last_line, ends_frame, frame_begun, adjust_begun, row_begun, raster_begun, row_line_ended, adjust_line_ended, line_ended_in, line_ended, count_leaves, clock_leaves}
 use Rattle.crtc6845.specs.Laws.{clocks, line_characters, row_lines, frame_lines, HaveTheirBits, BeginsFrame, LinesHaveTheirCharacters, FramesHaveTheirClocks}
 use Rattle.crtc6845.specs.Pictures.{line_at, column_at}
 use Rattle.chip_laws.specs.ShownBytes.{CharactersAreShown}
@@ -16,13 +16,13 @@ use Rattle.chip_laws.proofs.CrtcRuns.{start_keeps, count_keeps}
 
 -- ---- Steps of a chip.
 
-clocks_behind : (n : ℕ) (c : State) → clocks n (clocked c) ≡ clocked (clocks n c)
+clocks_behind : (n : ℕ) (c : State) → clocks n (clock_leaves c) ≡ clock_leaves (clocks n c)
 clocks_behind zero c = refl
-clocks_behind (suc n) c = clocks_behind n (clocked c)
+clocks_behind (suc n) c = clocks_behind n (clock_leaves c)
 
 keeps : (n : ℕ) (c : State) → (clocks n c).registers ≡ c.registers
 keeps zero c = refl
-keeps (suc n) c = keeps n (clocked c) ∙ count_keeps (started c) ∙ start_keeps c
+keeps (suc n) c = keeps n (clock_leaves c) ∙ count_keeps (start_leaves c) ∙ start_keeps c
 
 -- the start of a line changes the count of sync lines and of fields alone
 abbrev IsKept : State → State → Type 0
@@ -33,18 +33,18 @@ kept_by true true c = (_, (_, refl))
 kept_by true false c = (_, (_, refl))
 kept_by false q c = (_, (_, refl))
 
-kept : (c : State) → IsKept c (started c)
+kept : (c : State) → IsKept c (start_leaves c)
 kept c = kept_by (starts_line c) (begins_sync (sync_counted c)) c
 
-inner_is : (d : State) → ends_line d ≡ false → counted d ≡ record d { character = (d.character + 1) % 256 }
+inner_is : (d : State) → ends_line d ≡ false → count_leaves d ≡ record d { character = (d.character + 1) % 256 }
 inner_is d h = rw h refl
 
-last_is : (d : State) → ends_line d ≡ true → counted d ≡ line_ended d
+last_is : (d : State) → ends_line d ≡ true → count_leaves d ≡ line_ended d
 last_is d h = rw h refl
 
 -- ---- The character of the line.
 
-character_after : (d : State) → ((counted d).character ≡ 0) ⊎ ((counted d).character ≡ (d.character + 1) % 256)
+character_after : (d : State) → ((count_leaves d).character ≡ 0) ⊎ ((count_leaves d).character ≡ (d.character + 1) % 256)
 character_after d = grind arith
 
 characters : LinesHaveTheirCharacters → (c : State) → HaveTheirBits c.registers → c.character ≡ 0 → (n : ℕ) →
@@ -55,8 +55,8 @@ characters lines c bits begins (suc n) =
     let x = clocks n c in
     let y = clocks (suc n) c in
     let is : x.character ≡ n % w = characters lines c bits begins n in
-    let next : y ≡ clocked x = clocks_behind n c in
-    let same : (started x).character ≡ x.character = let k = kept x in ap (λ (d : State). d.character) k.1.1 in
+    let next : y ≡ clock_leaves x = clocks_behind n c in
+    let same : (start_leaves x).character ≡ x.character = let k = kept x in ap (λ (d : State). d.character) k.1.1 in
     let g : n + 1 ≡ suc n = add-one n in
     let law : (y.character == 0) ≡ (suc n % w == 0) = lines c (suc n) bits begins in
     let wide : c.registers.horizontal_total < 256 = bits.horizontal_total in
@@ -68,7 +68,7 @@ characters lines c bits begins (suc n) =
           let more : suc n % w ≡ n % w + 1 = ap (λ k. k % w) (sym g) ∙ o.0 in
           let inner : n % w + 1 < w = o.1.1 in
           let some : (y.character == 0) ≡ false = law ∙ test_false (suc n % w) 0 (λ none. omega (arith, none, more)) in
-          elim (character_after (started x)) [
+          elim (character_after (start_leaves x)) [
             | inl first ↦ absurd (true≢false (sym (test_true y.character 0 (ap (λ (d : State). d.character) next ∙ first)) ∙ some))
             | inr on ↦
                 ap (λ (d : State). d.character) next ∙ on ∙ ap (λ k. (k + 1) % 256) (same ∙ is)
@@ -239,7 +239,7 @@ walk lines frames c bits begins (suc n) =
     let w = line_characters r in
     let f = frame_lines r in
     let x = clocks n c in
-    let d = started x in
+    let d = start_leaves x in
     let g : n + 1 ≡ suc n = add-one n in
     let regs : d.registers ≡ r = start_keeps x ∙ keeps n c in
     let here : IsAt r (line_at r n) d = let k = kept x in subst (IsAt r (line_at r n)) (sym k.1.1) (walk lines frames c bits begins n) in
@@ -254,7 +254,7 @@ walk lines frames c bits begins (suc n) =
           let inner : n % w + 1 < w = o.1.1 in
           let test : ends_line d ≡ false = test_false d.character d.registers.horizontal_total (λ same. omega (arith, same, column, total, inner)) in
           let same : line_at r n ≡ line_at r (suc n) = ap (λ k. k % f) (sym o.1.0 ∙ ap (λ k. k / w) g) in
-          at_line r (counted d) (line_at r n) (line_at r (suc n)) same (subst (IsAt r (line_at r n)) (sym (inner_is d test)) here)
+          at_line r (count_leaves d) (line_at r n) (line_at r (suc n)) same (subst (IsAt r (line_at r n)) (sym (inner_is d test)) here)
       | inl o ↦
           let end : n % w + 1 ≡ w = o.1.1 in
           let test : ends_line d ≡ true = test_true d.character d.registers.horizontal_total (omega (arith, column, total, end)) in
@@ -311,11 +311,11 @@ characters_are_shown lines frames = record {
   which = λ c n bits begins.
       let x = clocks n c in
       let k = kept x in
-      shown_by c.registers (line_at c.registers n) (column_at c.registers n) (started x) (start_keeps x ∙ keeps n c)
+      shown_by c.registers (line_at c.registers n) (column_at c.registers n) (start_leaves x) (start_keeps x ∙ keeps n c)
       (ap (λ (e : State). e.character) k.1.1 ∙ characters lines c bits begins.character n)
       (subst (IsAt c.registers (line_at c.registers n)) (sym k.1.1) (walk lines frames c bits begins n));
   raster = λ c n bits begins is.
       let k = kept (clocks n c) in
-      raster_by c.registers (line_at c.registers n) (started (clocks n c))
+      raster_by c.registers (line_at c.registers n) (start_leaves (clocks n c))
       (subst (IsAt c.registers (line_at c.registers n)) (sym k.1.1) (walk lines frames c bits begins n)) is;
 }

@@ -12,13 +12,13 @@ use Rattle.wd1770.specs.declared.command.Command.TheVariants.{Transferring}
 use Rattle.wd1770.specs.declared.command.Transfer.{Transfer}
 use Rattle.wd1770.specs.State.{State}
 use Rattle.wd1770.specs.Select.{is_reset, disc_in}
-use Rattle.wd1770.specs.Ends.{is_asking, counted}
-use Rattle.wd1770.specs.Commands.{latch_leaves, stopped}
+use Rattle.wd1770.specs.Ends.{is_asking, count_leaves}
+use Rattle.wd1770.specs.Commands.{latch_leaves, stop_leaves}
 use Rattle.wd1770.specs.Sectors.{places_into, is_byte_place, sector_ended, byte_came, byte_of_sector, byte_on_disc, reading_at, writing_at, transfer_step}
 use Rattle.wd1770.specs.Registers.{answer_of, register_read, read_leaves, write_leaves}
-use Rattle.wd1770.specs.Step.{worked, step}
+use Rattle.wd1770.specs.Step.{work_leaves, step}
 use Rattle.wd1770.specs.History.{Event, microsecond, read, write, latch, history, count_steps}
-use Rattle.chip_laws.specs.SectorReads.{bytes_come, AllRead, taken_by, taken, waiting, IsAtSector, HasBytes, command_behind, SectorIsRead}
+use Rattle.chip_laws.specs.SectorReads.{bytes_come, AllRead, taken_by, bytes_taken, waiting_byte, IsAtSector, HasBytes, command_behind, SectorIsRead}
 
 -- m steps after sector k was found in state s0, where these bytes have been taken
 record Inside (s0 : State) (t : Transfer) (k : ℕ) (bytes : List ℕ) (s : State) (m : ℕ) (got : List ℕ) : Type 0 where
@@ -27,7 +27,7 @@ record Inside (s0 : State) (t : Transfer) (k : ℕ) (bytes : List ℕ) (s : Stat
   pub angle : s.angle ≡ Some (64 * (312 * k) + m)
   pub drive0 : s.drive0 ≡ s0.drive0
   pub drive1 : s.drive1 ≡ s0.drive1
-  pub taken : s.lost_data ≡ false → got ++ waiting s ≡ take (bytes_come m) bytes
+  pub taken : s.lost_data ≡ false → got ++ waiting_byte s ≡ take (bytes_come m) bytes
 
 pub same_disc : (number : Option DriveNumber) (s s0 : State) → s.drive0 ≡ s0.drive0 → s.drive1 ≡ s0.drive1 → disc_in number s ≡ disc_in number s0
 same_disc None s s0 a b = refl
@@ -35,7 +35,7 @@ same_disc (Some Drive0) s s0 a b = ap (λ (d : Drive). d.disc) a
 same_disc (Some Drive1) s s0 a b = ap (λ (d : Drive). d.disc) b
 
 counted_inside : (s0 : State) (t : Transfer) (k : ℕ) (bytes : List ℕ) (s : State) (m : ℕ) (got : List ℕ) (before : Bool) →
-    Inside s0 t k bytes s m got → Inside s0 t k bytes (counted before s) m got
+    Inside s0 t k bytes s m got → Inside s0 t k bytes (count_leaves before s) m got
 counted_inside s0 t k bytes s m got before is =
     record { going = is.going; over = is.over; angle = is.angle; drive0 = is.drive0; drive1 = is.drive1; taken = is.taken }
 
@@ -53,7 +53,7 @@ a_place k m is =
 
 -- a step of the command, where sector k is among the ten of a track
 pub worked_is : (s : State) (t : Transfer) (k m : ℕ) → k < 10 → m < 18432 → s.command ≡ Transferring t k → s.angle ≡ Some (64 * (312 * k) + m) →
-    worked s ≡ transfer_step t k (64 * (312 * k) + m + 1) (record s { angle = Some (64 * (312 * k) + m + 1) })
+    work_leaves s ≡ transfer_step t k (64 * (312 * k) + m + 1) (record s { angle = Some (64 * (312 * k) + m + 1) })
 worked_is s t k m few inside goes at =
     let on : (64 * (312 * k) + m + 1) % 200000 ≡ 64 * (312 * k) + m + 1 = omega arith in
     rw (goes, at, on) refl
@@ -181,7 +181,7 @@ stepped : (s0 : State) (t : Transfer) (k : ℕ) (d : Image) (bytes : List ℕ) (
 stepped s0 t k d bytes s m got few inside long has reads is =
     let s1 : State = record s { angle = Some (64 * (312 * k) + m + 1) } in
     let by_place = worked_is s t k m few inside (is.going inside) is.angle ∙ reads_is t k (64 * (312 * k) + m + 1) s1 reads in
-    counted_inside s0 t k bytes (worked s) (m + 1) got (is_asking s)
+    counted_inside s0 t k bytes (work_leaves s) (m + 1) got (is_asking s)
     (elim (cases_eq ((m + 1) % 64) 0) [
       | inl passes_by ↦
           subst (λ x. Inside s0 t k bytes x (m + 1) got) (sym (by_place ∙ ap (λ p. reading_at t k p s1) (a_place k m passes_by)))
@@ -204,7 +204,7 @@ leaves_it s0 t k bytes s x m got command angle drive0 drive1 byte drq lost is = 
   drive0 = drive0 ∙ is.drive0;
   drive1 = drive1 ∙ is.drive1;
   taken = λ kept.
-      ap (λ xs. xs ++ waiting x) (append-nil got) ∙ ap (λ b. got ++ (if b then x.byte ∷ [] else [])) drq
+      ap (λ xs. xs ++ waiting_byte x) (append-nil got) ∙ ap (λ b. got ++ (if b then x.byte ∷ [] else [])) drq
       ∙ ap (λ byte. got ++ (if s.drq then byte ∷ [] else [])) byte ∙ is.taken (sym lost ∙ kept);
 }
 
@@ -217,7 +217,7 @@ data_read s0 t k bytes s m got is = record {
   angle = is.angle;
   drive0 = is.drive0;
   drive1 = is.drive1;
-  taken = λ kept. append-nil (got ++ waiting s) ∙ is.taken kept;
+  taken = λ kept. append-nil (got ++ waiting_byte s) ∙ is.taken kept;
 }
 
 after_status : (b : Bool) (s : State) → (if b then record s { intrq = false } else s) ≡ record s { intrq = if b then false else s.intrq }
@@ -230,9 +230,9 @@ other_read s0 t k bytes s reg m got other is =
     let off : (reg == 3) ≡ false = ne_eqb reg 3 other in
     let leaves : register_read reg s ≡ record s { intrq = if reg == 0 then false else s.intrq } =
     ap (λ b. if reg == 0 then record s { intrq = false } else if b then record s { drq = false } else s) off ∙ after_status (reg == 0) s in
-    subst (λ x. Inside s0 t k bytes (counted (is_asking s) x) m (got ++ taken_by s (read reg))) (sym leaves)
-    (subst (λ b. Inside s0 t k bytes (counted (is_asking s) (record s { intrq = if reg == 0 then false else s.intrq })) m (got ++ (if b && s.drq then answer_of reg s ∷ [] else []))) (sym off)
-    (leaves_it s0 t k bytes s (counted (is_asking s) (record s { intrq = if reg == 0 then false else s.intrq })) m got refl refl refl refl refl refl refl is))
+    subst (λ x. Inside s0 t k bytes (count_leaves (is_asking s) x) m (got ++ taken_by s (read reg))) (sym leaves)
+    (subst (λ b. Inside s0 t k bytes (count_leaves (is_asking s) (record s { intrq = if reg == 0 then false else s.intrq })) m (got ++ (if b && s.drq then answer_of reg s ∷ [] else []))) (sym off)
+    (leaves_it s0 t k bytes s (count_leaves (is_asking s) (record s { intrq = if reg == 0 then false else s.intrq })) m got refl refl refl refl refl refl refl is))
 
 written : (s0 : State) (t : Transfer) (k : ℕ) (bytes : List ℕ) (s : State) (reg v m : ℕ) (got : List ℕ) → 1 ≤ reg → reg ≤ 2 →
     Inside s0 t k bytes s m got → Inside s0 t k bytes (write_leaves reg v s) m (got ++ [])
@@ -249,20 +249,20 @@ written s0 t k bytes s reg v m got low high is = elim (cases_eq reg 1) [
 latched : (s0 : State) (t : Transfer) (k : ℕ) (bytes : List ℕ) (s : State) (v m : ℕ) (got : List ℕ) → is_reset v ≡ false →
     Inside s0 t k bytes s m got → Inside s0 t k bytes (latch_leaves v s) m (got ++ [])
 latched s0 t k bytes s v m got off is =
-    subst (λ b. Inside s0 t k bytes (if b then stopped (record s { latch = v }) else record s { latch = v }) m (got ++ [])) (sym off)
+    subst (λ b. Inside s0 t k bytes (if b then stop_leaves (record s { latch = v }) else record s { latch = v }) m (got ++ [])) (sym off)
     (leaves_it s0 t k bytes s (record s { latch = v }) m got refl refl refl refl refl refl refl is)
 
 -- ---- Runs.
 
 run : (s0 : State) (t : Transfer) (k : ℕ) (d : Image) (bytes : List ℕ) (events : List Event) (s : State) (m : ℕ) (got : List ℕ) → k < 10 → length bytes ≡ 256 →
     HasBytes s0 t k d bytes → t.writes ≡ false → AllRead events → m + count_steps events ≤ 18432 → Inside s0 t k bytes s m got →
-    Inside s0 t k bytes (history events s) (m + count_steps events) (got ++ taken s events)
+    Inside s0 t k bytes (history events s) (m + count_steps events) (got ++ bytes_taken s events)
 run s0 t k d bytes [] s m got few long has reads all most is =
     let same : m ≡ m + 0 = omega arith in
     subst (λ n. Inside s0 t k bytes s n (got ++ [])) same (leaves_it s0 t k bytes s s m got refl refl refl refl refl refl refl is)
 run s0 t k d bytes (microsecond ∷ es) s m got few long has reads all most is =
     let same : m + 1 + count_steps es ≡ m + (count_steps es + 1) = omega arith in
-    subst (λ n. Inside s0 t k bytes (history es (step s)) n (got ++ taken (step s) es)) same
+    subst (λ n. Inside s0 t k bytes (history es (step s)) n (got ++ bytes_taken (step s) es)) same
     (run s0 t k d bytes es (step s) (m + 1) got few long has reads all.1 (omega (arith, most))
     (stepped s0 t k d bytes s m got few (omega (arith, most)) long has reads is))
 run s0 t k d bytes (read reg ∷ es) s m got few long has reads all most is =
@@ -271,13 +271,13 @@ run s0 t k d bytes (read reg ∷ es) s m got few long has reads all most is =
       | inl same ↦ subst (λ r. Inside s0 t k bytes (read_leaves r s) m (got ++ taken_by s (read r))) (sym same) (data_read s0 t k bytes s m got is)
       | inr other ↦ other_read s0 t k bytes s reg m got other is
     ] in
-    subst (λ xs. Inside s0 t k bytes (history es (read_leaves reg s)) (m + count_steps es) xs) (append_assoc got (taken_by s (read reg)) (taken (read_leaves reg s) es))
+    subst (λ xs. Inside s0 t k bytes (history es (read_leaves reg s)) (m + count_steps es) xs) (append_assoc got (taken_by s (read reg)) (bytes_taken (read_leaves reg s) es))
     (run s0 t k d bytes es (read_leaves reg s) m (got ++ taken_by s (read reg)) few long has reads all.1 most next)
 run s0 t k d bytes (write reg v ∷ es) s m got few long has reads all most is =
-    subst (λ xs. Inside s0 t k bytes (history es (write_leaves reg v s)) (m + count_steps es) xs) (append_assoc got [] (taken (write_leaves reg v s) es))
+    subst (λ xs. Inside s0 t k bytes (history es (write_leaves reg v s)) (m + count_steps es) xs) (append_assoc got [] (bytes_taken (write_leaves reg v s) es))
     (run s0 t k d bytes es (write_leaves reg v s) m (got ++ []) few long has reads all.1 most (written s0 t k bytes s reg v m got all.0.0 all.0.1 is))
 run s0 t k d bytes (latch v ∷ es) s m got few long has reads all most is =
-    subst (λ xs. Inside s0 t k bytes (history es (latch_leaves v s)) (m + count_steps es) xs) (append_assoc got [] (taken (latch_leaves v s) es))
+    subst (λ xs. Inside s0 t k bytes (history es (latch_leaves v s)) (m + count_steps es) xs) (append_assoc got [] (bytes_taken (latch_leaves v s) es))
     (run s0 t k d bytes es (latch_leaves v s) m (got ++ []) few long has reads all.1 most (latched s0 t k bytes s v m got all.0 is))
 
 -- where a sector is found no byte has come
@@ -309,11 +309,11 @@ all_come : (m : ℕ) (bytes : List ℕ) → m ≡ 18432 → length bytes ≡ 256
 all_come m bytes now long = let all : length bytes ≤ bytes_come m = omega (arith, now, long) in take_all (bytes_come m) bytes all
 
 from_start : (s : State) (t : Transfer) (k : ℕ) (d : Image) (bytes : List ℕ) (events : List Event) → IsAtSector s t k → HasBytes s t k d bytes →
-    t.writes ≡ false → AllRead events → count_steps events ≤ 18432 → Inside s t k bytes (history events s) (count_steps events) (taken s events)
+    t.writes ≡ false → AllRead events → count_steps events ≤ 18432 → Inside s t k bytes (history events s) (count_steps events) (bytes_taken s events)
 from_start s t k d bytes events at has reads all most =
     let most' : 0 + count_steps events ≤ 18432 = omega (arith, most) in
     let same : 0 + count_steps events ≡ count_steps events = omega arith in
-    subst (λ n. Inside s t k bytes (history events s) n (taken s events)) same
+    subst (λ n. Inside s t k bytes (history events s) n (bytes_taken s events)) same
     (run s t k d bytes events s 0 [] (number_small d t.target.side t.target.head k bytes has.sector)
     (bytes_long d t.target.side t.target.head k bytes has.sector) has reads all most' (begins s t k bytes at))
 

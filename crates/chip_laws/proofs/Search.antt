@@ -8,12 +8,12 @@ use Rattle.wd1770.specs.declared.command.Command.TheVariants.{Idle, Searching, T
 use Rattle.wd1770.specs.declared.command.Transfer.{Transfer}
 use Rattle.wd1770.specs.State.{State}
 use Rattle.wd1770.specs.Select.{is_single_density, disc_in}
-use Rattle.wd1770.specs.Ends.{is_asking, counted, not_found}
+use Rattle.wd1770.specs.Ends.{is_asking, count_leaves, not_found}
 use Rattle.wd1770.specs.Sectors.{is_on_disc, is_found, search_step}
 use Rattle.wd1770.specs.Registers.{read_leaves}
-use Rattle.wd1770.specs.Step.{next_angle, command_step, worked, step}
+use Rattle.wd1770.specs.Step.{next_angle, command_step, work_leaves, step}
 use Rattle.wd1770.specs.History.{Event, microsecond, read, write, latch, history, count_steps}
-use Rattle.chip_laws.specs.Searches.{AllWait, beginning, has_match, SearchEnds}
+use Rattle.chip_laws.specs.Searches.{AllWait, sector_angle, has_match, SearchEnds}
 use Rattle.chip_laws.proofs.Reading.{same_disc}
 
 -- what m steps of waiting leave of a state
@@ -35,7 +35,7 @@ record Found (s0 : State) (t : Transfer) (s : State) : Type 0 where
   pub drive0 : s.drive0 ≡ s0.drive0
   pub drive1 : s.drive1 ≡ s0.drive1
   pub command : s.command ≡ Transferring t s0.sector
-  pub angle : s.angle ≡ Some (beginning s0.sector)
+  pub angle : s.angle ≡ Some (sector_angle s0.sector)
   pub drq : s0.drq ≡ false → s.drq ≡ false
 
 record Lost (s : State) : Type 0 where
@@ -48,7 +48,7 @@ small_angle (Some a) = omega arith
 
 -- One step.
 searched : (s : State) (t : Transfer) (left : ℕ) → s.command ≡ Searching t left →
-    worked s ≡ search_step t left (next_angle s.angle) (record s { angle = Some (next_angle s.angle) })
+    work_leaves s ≡ search_step t left (next_angle s.angle) (record s { angle = Some (next_angle s.angle) })
 searched s t left is = ap (λ c. command_step c (next_angle s.angle) (record s { angle = Some (next_angle s.angle) })) is
 
 shuffle : (a b c d : Bool) → (a && b && c && d) ≡ ((a && (b && d)) && c)
@@ -61,22 +61,22 @@ shuffle true true true false = refl
 
 -- The test of a search is that there is a sector for it, and that it begins now.
 found_when : (s0 s : State) (t : Transfer) (m angle : ℕ) → Same s0 s m →
-    is_found t.target angle (record s { angle = Some angle }) ≡ (has_match t s0 && (angle == beginning s0.sector))
+    is_found t.target angle (record s { angle = Some angle }) ≡ (has_match t s0 && (angle == sector_angle s0.sector))
 found_when s0 s t m angle same =
     rw (same_disc t.target.drive (record s { angle = Some angle }) s0 same.drive0 same.drive1, same.latch, same.track, same.sector)
-    (shuffle (is_single_density s0.latch) (t.target.head == s0.track) (angle == beginning s0.sector) (is_on_disc (disc_in t.target.drive s0) t.target s0.sector))
+    (shuffle (is_single_density s0.latch) (t.target.head == s0.track) (angle == sector_angle s0.sector) (is_on_disc (disc_in t.target.drive s0) t.target s0.sector))
 
 -- no sector is found in the step behind m steps
 NoneAt : State → Transfer → ℕ → Type 0
-NoneAt s0 t m = (has_match t s0 && ((next_angle s0.angle + m) % 200000 == beginning s0.sector)) ≡ false
+NoneAt s0 t m = (has_match t s0 && ((next_angle s0.angle + m) % 200000 == sector_angle s0.sector)) ≡ false
 
 here : (s0 s : State) (t : Transfer) (m : ℕ) → Same s0 s m →
     is_found t.target (next_angle s.angle) (record s { angle = Some (next_angle s.angle) })
-    ≡ (has_match t s0 && ((next_angle s0.angle + m) % 200000 == beginning s0.sector))
-here s0 s t m same = found_when s0 s t m (next_angle s.angle) same ∙ ap (λ a. has_match t s0 && (a == beginning s0.sector)) same.angle
+    ≡ (has_match t s0 && ((next_angle s0.angle + m) % 200000 == sector_angle s0.sector))
+here s0 s t m same = found_when s0 s t m (next_angle s.angle) same ∙ ap (λ a. has_match t s0 && (a == sector_angle s0.sector)) same.angle
 
 step_is : (s0 s : State) (t : Transfer) (left m : ℕ) → Going s0 t left s m →
-    worked s ≡ search_step t (left - m) (next_angle s.angle) (record s { angle = Some (next_angle s.angle) })
+    work_leaves s ≡ search_step t (left - m) (next_angle s.angle) (record s { angle = Some (next_angle s.angle) })
 step_is s0 s t left m going = searched s t (left - m) going.command
 
 goes_on : (s0 s : State) (t : Transfer) (left m : ℕ) → Going s0 t left s m → NoneAt s0 t m → m + 1 < left → Going s0 t left (step s) (m + 1)
@@ -86,14 +86,14 @@ goes_on s0 s t left m going none more =
     let x : State = record s1 { command = Searching t (left - m - 1) } in
     let not_here = here s0 s t m going.same ∙ none in
     let some_left : nat_lt 1 (left - m) ≡ true = lt-ltb 1 (left - m) (omega (arith, more)) in
-    let is : worked s ≡ x =
+    let is : work_leaves s ≡ x =
     step_is s0 s t left m going
     ∙ ap (λ b. if b then record s1 { command = Transferring t s1.sector } else if nat_lt 1 (left - m) then record s1 { command = Searching t (left - m - 1) } else not_found s1) not_here
     ∙ ap (λ b. if b then record s1 { command = Searching t (left - m - 1) } else not_found s1) some_left in
     let same = going.same in
     let less : left - m - 1 ≡ left - (m + 1) = omega arith in
     let later : (next_angle s.angle + 1) % 200000 ≡ (next_angle s0.angle + (m + 1)) % 200000 = omega (arith, same.angle) in
-    subst (λ y. Going s0 t left (counted (is_asking s) y) (m + 1)) (sym is) (record {
+    subst (λ y. Going s0 t left (count_leaves (is_asking s) y) (m + 1)) (sym is) (record {
       same = record {
         latch = same.latch;
         track = same.track;
@@ -107,15 +107,15 @@ goes_on s0 s t left m going none more =
     })
 
 finds : (s0 s : State) (t : Transfer) (left m : ℕ) → Going s0 t left s m → has_match t s0 ≡ true →
-    (next_angle s0.angle + m) % 200000 ≡ beginning s0.sector → Found s0 t (step s)
+    (next_angle s0.angle + m) % 200000 ≡ sector_angle s0.sector → Found s0 t (step s)
 finds s0 s t left m going has now =
     let s1 : State = record s { angle = Some (next_angle s.angle) } in
     let same = going.same in
     let is_here = here s0 s t m same ∙ and_from _ _ has (eq-eqb _ _ now) in
-    let is : worked s ≡ record s1 { command = Transferring t s1.sector } =
+    let is : work_leaves s ≡ record s1 { command = Transferring t s1.sector } =
     step_is s0 s t left m going
     ∙ ap (λ b. if b then record s1 { command = Transferring t s1.sector } else if nat_lt 1 (left - m) then record s1 { command = Searching t (left - m - 1) } else not_found s1) is_here in
-    subst (λ y. Found s0 t (counted (is_asking s) y)) (sym is) (record {
+    subst (λ y. Found s0 t (count_leaves (is_asking s) y)) (sym is) (record {
       drive0 = same.drive0;
       drive1 = same.drive1;
       command = ap (Transferring t) same.sector;
@@ -129,11 +129,11 @@ loses s0 s t left m going none end =
     let s1 : State = record s { angle = Some (next_angle s.angle) } in
     let not_here = here s0 s t m going.same ∙ none in
     let last : nat_lt 1 (left - m) ≡ false = le-ltb 1 (left - m) (omega (arith, end)) in
-    let is : worked s ≡ not_found s1 =
+    let is : work_leaves s ≡ not_found s1 =
     step_is s0 s t left m going
     ∙ ap (λ b. if b then record s1 { command = Transferring t s1.sector } else if nat_lt 1 (left - m) then record s1 { command = Searching t (left - m - 1) } else not_found s1) not_here
     ∙ ap (λ b. if b then record s1 { command = Searching t (left - m - 1) } else not_found s1) last in
-    subst (λ y. Lost (counted (is_asking s) y)) (sym is) (record { command = refl; none = refl })
+    subst (λ y. Lost (count_leaves (is_asking s) y)) (sym is) (record { command = refl; none = refl })
 
 -- ---- Reads of registers.
 
@@ -152,7 +152,7 @@ stays_off false false q off = off
 going_read : (s0 : State) (t : Transfer) (left : ℕ) (reg : ℕ) (s : State) (m : ℕ) → Going s0 t left s m → Going s0 t left (read_leaves reg s) m
 going_read s0 t left reg s m going =
     let same = going.same in
-    subst (λ y. Going s0 t left (counted (is_asking s) y) m) (sym (read_makes (reg == 0) (reg == 3) s)) (record {
+    subst (λ y. Going s0 t left (count_leaves (is_asking s) y) m) (sym (read_makes (reg == 0) (reg == 3) s)) (record {
       same = record {
         latch = same.latch;
         track = same.track;
@@ -167,7 +167,7 @@ going_read s0 t left reg s m going =
 
 found_read : (s0 : State) (t : Transfer) (reg : ℕ) (s : State) → Found s0 t s → Found s0 t (read_leaves reg s)
 found_read s0 t reg s found =
-    subst (λ y. Found s0 t (counted (is_asking s) y)) (sym (read_makes (reg == 0) (reg == 3) s)) (record {
+    subst (λ y. Found s0 t (count_leaves (is_asking s) y)) (sym (read_makes (reg == 0) (reg == 3) s)) (record {
       drive0 = found.drive0;
       drive1 = found.drive1;
       command = found.command;
@@ -177,7 +177,7 @@ found_read s0 t reg s found =
 
 lost_read : (reg : ℕ) (s : State) → Lost s → Lost (read_leaves reg s)
 lost_read reg s lost =
-    subst (λ y. Lost (counted (is_asking s) y)) (sym (read_makes (reg == 0) (reg == 3) s)) (record { command = lost.command; none = lost.none })
+    subst (λ y. Lost (count_leaves (is_asking s) y)) (sym (read_makes (reg == 0) (reg == 3) s)) (record { command = lost.command; none = lost.none })
 
 -- ---- Runs.
 
@@ -241,34 +241,34 @@ sector_small : (s : State) (t : Transfer) → has_match t s ≡ true → s.secto
 sector_small s t has =
     on_disc_small (disc_in t.target.drive s) t.target s.sector (and_parts _ _ (and_parts _ _ has).1).1
 
-not_before : (s : State) (t : Transfer) → has_match t s ≡ true → (i : ℕ) → i < (beginning s.sector + 200000 - next_angle s.angle) % 200000 → NoneAt s t i
+not_before : (s : State) (t : Transfer) → has_match t s ≡ true → (i : ℕ) → i < (sector_angle s.sector + 200000 - next_angle s.angle) % 200000 → NoneAt s t i
 unfolding NoneAt
 not_before s t has i early =
     let small = small_angle s.angle in
     let few = sector_small s t has in
-    let other : (next_angle s.angle + i) % 200000 ≡ beginning s.sector → ⊥ = λ e. omega (arith, e, early, small, few) in
+    let other : (next_angle s.angle + i) % 200000 ≡ sector_angle s.sector → ⊥ = λ e. omega (arith, e, early, small, few) in
     and_right (has_match t s) _ (ne_eqb _ _ other)
 
 then_now : (s : State) (t : Transfer) → has_match t s ≡ true →
-    (next_angle s.angle + (beginning s.sector + 200000 - next_angle s.angle) % 200000) % 200000 ≡ beginning s.sector
+    (next_angle s.angle + (sector_angle s.sector + 200000 - next_angle s.angle) % 200000) % 200000 ≡ sector_angle s.sector
 then_now s t has = let small = small_angle s.angle in let few = sector_small s t has in omega (arith, small, few)
 
 never : (s : State) (t : Transfer) → has_match t s ≡ false → (i : ℕ) → NoneAt s t i
 unfolding NoneAt
 never s t none i = and_left (has_match t s) _ none
 
-turn : (s : State) → (beginning s.sector + 200000 - next_angle s.angle) % 200000 < 200000
+turn : (s : State) → (sector_angle s.sector + 200000 - next_angle s.angle) % 200000 < 200000
 turn s = omega arith
 
 pub search_ends : SearchEnds
 search_ends = record {
   goes_on = λ s t left events is enough has all early.
-      let last = (beginning s.sector + 200000 - next_angle s.angle) % 200000 in
+      let last = (sector_angle s.sector + 200000 - next_angle s.angle) % 200000 in
       let none_first : 0 + count_steps events ≡ count_steps events = omega arith in
       subst (λ n. (history events s).command ≡ Searching t (left - n)) none_first
       (run_going s t left last events s 0 all (omega (arith, early)) (omega (arith, turn s, enough)) (not_before s t has) (begins s t left is)).command;
   found = λ s t left events is enough has off all count.
-      let last = (beginning s.sector + 200000 - next_angle s.angle) % 200000 in
+      let last = (sector_angle s.sector + 200000 - next_angle s.angle) % 200000 in
       let found : Found s t (history events s) =
       run_done (Found s t) (found_read s t) s t left last (λ x going. finds s x t left last going has (then_now s t has)) (omega (arith, turn s, enough)) (not_before s t has)
       events s 0 all (omega (arith, count)) (omega arith) (begins s t left is) in

@@ -8,7 +8,7 @@ use Rattle.key_script.specs.declared.What.TheVariants.{Down, Up, Shot, Break}
 use Rattle.key_script.specs.Events.{tick_of}
 use Rattle.key_script.specs.Keys.{made_of, made_by, or_earlier, last_made}
 use Rattle.keyboard.specs.Keys.{Keys, no_key}
-use Rattle.chip_laws.specs.Typing.{typed, typed_by, ScriptIsTyped}
+use Rattle.chip_laws.specs.Typing.{keys_after, typed_by, ScriptIsTyped}
 
 set_one : (k key : ℕ) (down old : Bool) → (if key == k then down else old) ≡ unwrap_or (if k == key then Some down else None) old
 set_one k key down old = elim (cases_eq k key) [
@@ -17,7 +17,7 @@ set_one k key down old = elim (cases_eq k key) [
 ]
 
 -- what an event makes of a key, or what it was
-one_key : (what : What) (key : ℕ) (keys : Keys) → typed what keys key ≡ unwrap_or (made_of key what) (keys key)
+one_key : (what : What) (key : ℕ) (keys : Keys) → keys_after what keys key ≡ unwrap_or (made_of key what) (keys key)
 one_key (Down k) key keys = set_one k key true (keys key)
 one_key (Up k) key keys = set_one k key false (keys key)
 one_key Shot key keys = refl
@@ -25,7 +25,7 @@ one_key Break key keys = refl
 
 -- an event that has come, or not
 come : (is : Bool) (what : What) (key : ℕ) (keys : Keys) →
-    (if is then typed what keys else keys) key ≡ unwrap_or (if is then made_of key what else None) (keys key)
+    (if is then keys_after what keys else keys) key ≡ unwrap_or (if is then made_of key what else None) (keys key)
 come true what key keys = one_key what key keys
 come false what key keys = refl
 
@@ -36,7 +36,7 @@ either None earlier old = refl
 by_then : (t : ℕ) (events : List Event) (keys : Keys) (key : ℕ) → typed_by t events keys key ≡ unwrap_or (last_made key t events) (keys key)
 by_then t [] keys key = refl
 by_then t (e ∷ events) keys key =
-    by_then t events (if nat_le (tick_of e) t then typed e.what keys else keys) key
+    by_then t events (if nat_le (tick_of e) t then keys_after e.what keys else keys) key
     ∙ ap (unwrap_or (last_made key t events)) (come (nat_le (tick_of e) t) e.what key keys)
     ∙ either (last_made key t events) (made_by key t e) (keys key)
 

@@ -5,7 +5,7 @@ use Rattle.std.proofs.lemmas.Bool.{cases_eq, cases_lt, eq-eqb, ne_eqb, lt-ltb, l
 use Rattle.std.proofs.lemmas.List.{append-nil, append_assoc, length_push, get_or_append_left, get_or_push}
 use Rattle.std.proofs.lemmas.List.FromFn.{fill_by_all}
 use Rattle.disc_image.specs.declared.Kind.{Kind}
-use Rattle.disc_image.specs.Image.{Image, has_sector, place, byte_at, byte_put, extended, sector_bytes}
+use Rattle.disc_image.specs.Image.{Image, has_sector, place, byte_at, byte_put, with_zeros_to, sector_bytes}
 use Rattle.disc_image.specs.Laws.{IsReadBack, OthersStay}
 use Rattle.wd1770.specs.declared.drive.DriveNumber.{DriveNumber}
 use Rattle.wd1770.specs.declared.drive.DriveNumber.TheVariants.{Drive0, Drive1}
@@ -14,14 +14,14 @@ use Rattle.wd1770.specs.declared.command.Command.TheVariants.{Idle, Transferring
 use Rattle.wd1770.specs.declared.command.Transfer.{Transfer}
 use Rattle.wd1770.specs.State.{State}
 use Rattle.wd1770.specs.Select.{is_reset, disc_in}
-use Rattle.wd1770.specs.Ends.{is_asking, counted, finished}
-use Rattle.wd1770.specs.Commands.{command_written, latch_leaves, stopped}
-use Rattle.wd1770.specs.Sectors.{searching, places_into, is_byte_place, sector_ended, written_in, byte_written, reading_at, writing_at, transfer_step}
+use Rattle.wd1770.specs.Ends.{is_asking, count_leaves, finish_leaves}
+use Rattle.wd1770.specs.Commands.{command_written, latch_leaves, stop_leaves}
+use Rattle.wd1770.specs.Sectors.{search_of, places_into, is_byte_place, sector_ended, written_in, byte_written, reading_at, writing_at, transfer_step}
 use Rattle.wd1770.specs.Registers.{read_leaves, write_leaves}
-use Rattle.wd1770.specs.Step.{worked, step}
+use Rattle.wd1770.specs.Step.{work_leaves, step}
 use Rattle.wd1770.specs.History.{Event, microsecond, read, write, latch, history, count_steps}
 use Rattle.chip_laws.specs.SectorReads.{sector_steps, IsAtSector, command_behind}
-use Rattle.chip_laws.specs.SectorWrites.{Writes, AllWritten, given_by, given, IsStored, SectorIsWritten}
+use Rattle.chip_laws.specs.SectorWrites.{Writes, AllWritten, given_by, bytes_given, IsStored, SectorIsWritten}
 use Rattle.chip_laws.proofs.Reading.{same_disc, no_place, a_place, worked_is}
 use Rattle.chip_laws.proofs.Losing.{kept_before}
 
@@ -54,13 +54,13 @@ record Inside (d : Image) (t : Transfer) (k : ℕ) (s : State) (m : ℕ) (bytes 
   pub others : (n : ℕ) → ((i : ℕ) → i < 256 → n ≢ at_byte d t k i) → byte_at now n ≡ byte_at d n
 
 counted_inside : (d : Image) (t : Transfer) (k : ℕ) (s : State) (m : ℕ) (bytes : List ℕ) (before : Bool) →
-    Inside d t k s m bytes → Inside d t k (counted before s) m bytes
+    Inside d t k s m bytes → Inside d t k (count_leaves before s) m bytes
 counted_inside d t k s m bytes before is = record {
   going = is.going;
   over = is.over;
   angle = is.angle;
   now = is.now;
-  disc = same_disc t.target.drive (counted before s) s refl refl ∙ is.disc;
+  disc = same_disc t.target.drive (count_leaves before s) s refl refl ∙ is.disc;
   kind = is.kind;
   count = is.count;
   enough = is.enough;
@@ -123,11 +123,11 @@ record Ended (t : Transfer) (s x : State) : Type 0 where
   pub byte : x.byte ≡ s.byte
   pub drq : x.drq ≡ s.drq
 
-ended_by : (b : Bool) (t : Transfer) (s : State) → t.multiple ≡ b → Ended t s (if b then record s { sector = (s.sector + 1) % 256; command = searching t } else finished s)
+ended_by : (b : Bool) (t : Transfer) (s : State) → t.multiple ≡ b → Ended t s (if b then record s { sector = (s.sector + 1) % 256; command = search_of t } else finish_leaves s)
 ended_by true t s is =
-    record { command = ap (λ b. if b then searching t else Idle) (sym is); angle = refl; drive0 = refl; drive1 = refl; byte = refl; drq = refl }
+    record { command = ap (λ b. if b then search_of t else Idle) (sym is); angle = refl; drive0 = refl; drive1 = refl; byte = refl; drq = refl }
 ended_by false t s is =
-    record { command = ap (λ b. if b then searching t else Idle) (sym is); angle = refl; drive0 = refl; drive1 = refl; byte = refl; drq = refl }
+    record { command = ap (λ b. if b then search_of t else Idle) (sym is); angle = refl; drive0 = refl; drive1 = refl; byte = refl; drq = refl }
 
 ends_so : (d : Image) (t : Transfer) (k : ℕ) (s : State) (m : ℕ) (bytes : List ℕ) → m + 1 ≡ 18432 →
     Inside d t k s m bytes → Inside d t k (sector_ended t (moved_on s k m)) (m + 1) bytes
@@ -160,7 +160,7 @@ by_kind false d bytes = refl
 same_kind : (side track sector i v : ℕ) (d : Image) → (byte_put side track sector i v d).kind ≡ d.kind
 same_kind side track sector i v d =
     by_kind (has_sector d.kind side track sector) d
-    (slice_set (extended d.bytes (place d.kind side track sector 256)) (place d.kind side track sector i) v)
+    (slice_set (with_zeros_to d.bytes (place d.kind side track sector 256)) (place d.kind side track sector i) v)
 
 -- DRQ behind a byte
 owed_behind : (i : ℕ) (drq : Bool) → drq ≡ false → i < 256 → i + 1 + owed (drq || not (i == 255)) ≡ min 256 (i + 2)
@@ -253,17 +253,17 @@ bytes_at : Transfer → ℕ → ℕ → State → State
 bytes_at t k place s = if is_byte_place 30 place then byte_written t.target k (place - 30) s else end_at t place s
 
 writing_behind : Transfer → ℕ → ℕ → State → State
-writing_behind t k place s = if (place == 22) && s.drq then finished (record s { lost_data = true }) else bytes_at t k place s
+writing_behind t k place s = if (place == 22) && s.drq then finish_leaves (record s { lost_data = true }) else bytes_at t k place s
 
 w_first : (t : Transfer) (k place : ℕ) (s : State) → place ≡ 12 → writing_at t k (Some place) s ≡ record s { drq = true }
 w_first t k place s is = rw (eq-eqb place 12 is) refl
 
-w_late : (t : Transfer) (k place : ℕ) (s : State) → place ≡ 22 → s.drq ≡ true → writing_at t k (Some place) s ≡ finished (record s { lost_data = true })
+w_late : (t : Transfer) (k place : ℕ) (s : State) → place ≡ 22 → s.drq ≡ true → writing_at t k (Some place) s ≡ finish_leaves (record s { lost_data = true })
 unfolding writing_behind bytes_at end_at
 w_late t k place s is on =
     let other : place ≡ 12 → ⊥ = λ e. omega (arith, e, is) in
     ap (λ b. if b then record s { drq = true } else writing_behind t k place s) (ne_eqb place 12 other)
-    ∙ ap (λ b. if b then finished (record s { lost_data = true }) else bytes_at t k place s) (and_from (place == 22) s.drq (eq-eqb place 22 is) on)
+    ∙ ap (λ b. if b then finish_leaves (record s { lost_data = true }) else bytes_at t k place s) (and_from (place == 22) s.drq (eq-eqb place 22 is) on)
 
 w_byte : (t : Transfer) (k place : ℕ) (s : State) → 30 ≤ place → place < 286 → writing_at t k (Some place) s ≡ byte_written t.target k (place - 30) s
 unfolding writing_behind bytes_at end_at
@@ -271,7 +271,7 @@ w_byte t k place s low high =
     let other : place ≡ 12 → ⊥ = λ e. omega (arith, e, low) in
     let off : place ≡ 22 → s.drq ≡ false = λ e. absurd (omega (arith, e, low)) in
     ap (λ b. if b then record s { drq = true } else writing_behind t k place s) (ne_eqb place 12 other)
-    ∙ ap (λ b. if b then finished (record s { lost_data = true }) else bytes_at t k place s) (no_loss place s.drq off)
+    ∙ ap (λ b. if b then finish_leaves (record s { lost_data = true }) else bytes_at t k place s) (no_loss place s.drq off)
     ∙ ap (λ b. if b then byte_written t.target k (place - 30) s else end_at t place s) (byte_place place low high)
 
 w_end : (t : Transfer) (k place : ℕ) (s : State) → place ≡ 288 → writing_at t k (Some place) s ≡ sector_ended t s
@@ -280,7 +280,7 @@ w_end t k place s is =
     let other : place ≡ 12 → ⊥ = λ e. omega (arith, e, is) in
     let off : place ≡ 22 → s.drq ≡ false = λ e. absurd (omega (arith, e, is)) in
     ap (λ b. if b then record s { drq = true } else writing_behind t k place s) (ne_eqb place 12 other)
-    ∙ ap (λ b. if b then finished (record s { lost_data = true }) else bytes_at t k place s) (no_loss place s.drq off)
+    ∙ ap (λ b. if b then finish_leaves (record s { lost_data = true }) else bytes_at t k place s) (no_loss place s.drq off)
     ∙ ap (λ b. if b then byte_written t.target k (place - 30) s else end_at t place s) (behind_bytes place (omega (arith, is)))
     ∙ ap (λ b. if b then sector_ended t s else s) (eq-eqb place 288 is)
 
@@ -289,7 +289,7 @@ w_none : (t : Transfer) (k place : ℕ) (s : State) → (place ≡ 12 → ⊥) �
 unfolding writing_behind bytes_at end_at
 w_none t k place s other off none early =
     ap (λ b. if b then record s { drq = true } else writing_behind t k place s) (ne_eqb place 12 other)
-    ∙ ap (λ b. if b then finished (record s { lost_data = true }) else bytes_at t k place s) (no_loss place s.drq off)
+    ∙ ap (λ b. if b then finish_leaves (record s { lost_data = true }) else bytes_at t k place s) (no_loss place s.drq off)
     ∙ ap (λ b. if b then byte_written t.target k (place - 30) s else end_at t place s) none
     ∙ ap (λ b. if b then sector_ended t s else s) (ne_eqb place 288 early)
 
@@ -339,7 +339,7 @@ unfolding moved_on gone asked
 stepped back others d t k s m bytes few has writes inside is kept =
     let s1 = moved_on s k m in
     let by_place = worked_is s t k m few inside (is.going inside) is.angle ∙ writes_is t k (64 * (312 * k) + m + 1) s1 writes in
-    counted_inside d t k (worked s) (m + 1) bytes (is_asking s)
+    counted_inside d t k (work_leaves s) (m + 1) bytes (is_asking s)
     (elim (cases_eq ((m + 1) % 64) 0) [
       | inl passes_by ↦
           let by = by_place ∙ ap (λ p. writing_at t k p s1) (a_place k m passes_by) in
@@ -426,7 +426,7 @@ register_given d t k s reg v m bytes may is = elim (cases_eq reg 3) [
 latched : (d : Image) (t : Transfer) (k : ℕ) (s : State) (v m : ℕ) (bytes : List ℕ) → is_reset v ≡ false → Inside d t k s m bytes →
     Inside d t k (latch_leaves v s) m (bytes ++ [])
 latched d t k s v m bytes off is =
-    subst (λ b. Inside d t k (if b then stopped (record s { latch = v }) else record s { latch = v }) m (bytes ++ [])) (sym off)
+    subst (λ b. Inside d t k (if b then stop_leaves (record s { latch = v }) else record s { latch = v }) m (bytes ++ [])) (sym off)
     (leaves_it d t k s (record s { latch = v }) m bytes refl refl refl refl refl refl is)
 
 by_tests : (a b : Bool) (s : State) → (if a then record s { intrq = false } else if b then record s { drq = false } else s).lost_data ≡ s.lost_data
@@ -454,7 +454,7 @@ write_loses reg v s some =
     ap (λ b. (if b then command_written v s else register_behind reg v s).lost_data) (ne_eqb reg 0 other) ∙ by_registers (reg == 1) (reg == 2) v s
 
 latch_loses : (v : ℕ) (s : State) → is_reset v ≡ false → (latch_leaves v s).lost_data ≡ s.lost_data
-latch_loses v s off = ap (λ b. (if b then stopped (record s { latch = v }) else record s { latch = v }).lost_data) off
+latch_loses v s off = ap (λ b. (if b then stop_leaves (record s { latch = v }) else record s { latch = v }).lost_data) off
 
 -- ---- Runs.
 
@@ -464,26 +464,26 @@ Within d t k s m bytes = s.lost_data ≡ false → Inside d t k s m bytes
 
 run : (back : IsReadBack) (others : OthersStay) (d : Image) (t : Transfer) (k : ℕ) → k < 10 → has_sector d.kind t.target.side t.target.head k ≡ true →
     t.writes ≡ true → (events : List Event) (s : State) (m : ℕ) (bytes : List ℕ) → AllWritten s events → m + count_steps events ≤ 18432 →
-    Within d t k s m bytes → Within d t k (history events s) (m + count_steps events) (bytes ++ given events)
+    Within d t k s m bytes → Within d t k (history events s) (m + count_steps events) (bytes ++ bytes_given events)
 unfolding Within
 run back others d t k few has writes [] s m bytes all most is =
     let same : m ≡ m + 0 = omega arith in
     λ kept. subst (λ n. Inside d t k s n (bytes ++ [])) same (leaves_it d t k s s m bytes refl refl refl refl refl refl (is kept))
 run back others d t k few has writes (microsecond ∷ es) s m bytes all most is =
     let same : m + 1 + count_steps es ≡ m + (count_steps es + 1) = omega arith in
-    λ kept. subst (λ n. Inside d t k (history es (step s)) n (bytes ++ given es)) same
+    λ kept. subst (λ n. Inside d t k (history es (step s)) n (bytes ++ bytes_given es)) same
     (run back others d t k few has writes es (step s) (m + 1) bytes all.1 (omega (arith, most))
     (λ k'. stepped back others d t k s m bytes few has writes (omega (arith, most)) (is (kept_before s k')) k') kept)
 run back others d t k few has writes (read reg ∷ es) s m bytes all most is =
-    λ kept. subst (λ xs. Inside d t k (history es (read_leaves reg s)) (m + count_steps es) xs) (append_assoc bytes [] (given es))
+    λ kept. subst (λ xs. Inside d t k (history es (read_leaves reg s)) (m + count_steps es) xs) (append_assoc bytes [] (bytes_given es))
     (run back others d t k few has writes es (read_leaves reg s) m (bytes ++ []) all.1 most
     (λ k'. status_read d t k s reg m bytes all.0 (is (sym (read_loses reg s) ∙ k'))) kept)
 run back others d t k few has writes (write reg v ∷ es) s m bytes all most is =
-    λ kept. subst (λ xs. Inside d t k (history es (write_leaves reg v s)) (m + count_steps es) xs) (append_assoc bytes (given_by (write reg v)) (given es))
+    λ kept. subst (λ xs. Inside d t k (history es (write_leaves reg v s)) (m + count_steps es) xs) (append_assoc bytes (given_by (write reg v)) (bytes_given es))
     (run back others d t k few has writes es (write_leaves reg v s) m (bytes ++ given_by (write reg v)) all.1 most
     (λ k'. register_given d t k s reg v m bytes all.0 (is (sym (write_loses reg v s all.0.0) ∙ k'))) kept)
 run back others d t k few has writes (latch v ∷ es) s m bytes all most is =
-    λ kept. subst (λ xs. Inside d t k (history es (latch_leaves v s)) (m + count_steps es) xs) (append_assoc bytes [] (given es))
+    λ kept. subst (λ xs. Inside d t k (history es (latch_leaves v s)) (m + count_steps es) xs) (append_assoc bytes [] (bytes_given es))
     (run back others d t k few has writes es (latch_leaves v s) m (bytes ++ []) all.1 most
     (λ k'. latched d t k s v m bytes all.0 (is (sym (latch_loses v s all.0) ∙ k'))) kept)
 
@@ -505,12 +505,12 @@ begins d t k s at here = record {
 
 from_start : (back : IsReadBack) (others : OthersStay) (s : State) (t : Transfer) (k : ℕ) (d : Image) (events : List Event) →
     IsAtSector s t k → disc_in t.target.drive s ≡ Some d → has_sector d.kind t.target.side t.target.head k ≡ true → t.writes ≡ true →
-    AllWritten s events → count_steps events ≡ sector_steps → (history events s).lost_data ≡ false → Inside d t k (history events s) 18432 (given events)
+    AllWritten s events → count_steps events ≡ sector_steps → (history events s).lost_data ≡ false → Inside d t k (history events s) 18432 (bytes_given events)
 unfolding Within
 from_start back others s t k d events at here has writes all count kept =
     let few : k < 10 = ltb-true k 10 (and_parts _ _ has).1 in
     let sum : 0 + count_steps events ≡ 18432 = omega (arith, count) in
-    subst (λ n. Inside d t k (history events s) n (given events)) sum
+    subst (λ n. Inside d t k (history events s) n (bytes_given events)) sum
     (run back others d t k few has writes events s 0 [] all (omega (arith, count)) (λ h. begins d t k s at here) kept)
 
 -- the sector as it is then
@@ -537,6 +537,6 @@ whole d t k s bytes has is =
 pub sector_written : (back : IsReadBack) (others : OthersStay) → SectorIsWritten
 sector_written back others = record {
   stored = λ s t k d events at here has writes all count kept.
-      whole d t k (history events s) (given events) has (from_start back others s t k d events at here has writes all count kept);
+      whole d t k (history events s) (bytes_given events) has (from_start back others s t k d events at here has writes all count kept);
   end = λ s t k d events at here has writes all count kept. (from_start back others s t k d events at here has writes all count kept).over (omega arith);
 }

@@ -2,7 +2,7 @@
 use Rattle.std.specs.Prelude.{ℕ, ◌<◌, ⊤, List, [], ◌∷◌}
 use Rattle.crtc6845.specs.State.{State, power_on}
 use Rattle.crtc6845.specs.Registers.{select_leaves, set_leaves}
-use Rattle.crtc6845.specs.Clock.{clocked}
+use Rattle.crtc6845.specs.Clock.{clock_leaves}
 use Rattle.crtc6845.specs.Laws.{HaveTheirBits}
 use Rattle.raster.specs.State as raster
 use Rattle.chip_laws.specs.PictureRuns as picture
@@ -14,7 +14,7 @@ pub data Move : Type 0 where
   write : (v : ℕ) → Move
 
 abbrev pub after_move : Move → State → State
-after_move clock c = clocked c
+after_move clock c = clock_leaves c
 after_move (select v) c = select_leaves v c
 after_move (write v) c = set_leaves v c
 

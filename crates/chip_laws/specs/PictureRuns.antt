@@ -4,7 +4,7 @@ use Rattle.crtc6845.specs.State as crtc
 use Rattle.video_ula.specs.State as ula
 use Rattle.saa5050.specs.Shapes.{Font}
 use Rattle.raster.specs.State.{State}
-use Rattle.raster.specs.Clock.{char_clocked, microsecond}
+use Rattle.raster.specs.Clock.{char_clock_leaves, microsecond}
 use Rattle.raster.specs.Lending.{with_crtc, with_ula}
 
 -- What befalls a raster: a character clock or a microsecond, each with the RAM, the screen's size and the font as they
@@ -16,7 +16,7 @@ pub data Move : Type 0 where
   new_ula : (chip : ula.State) → Move
 
 abbrev pub after_move : Move → State → State
-after_move (clock ram size font) s = char_clocked ram size font s
+after_move (clock ram size font) s = char_clock_leaves ram size font s
 after_move (step ram size font) s = microsecond ram size font s
 after_move (new_crtc chip) s = with_crtc s chip
 after_move (new_ula chip) s = with_ula s chip

@@ -8,8 +8,8 @@ use Rattle.tube_chip.specs.declared.Op.{Op}
 use Rattle.tube_chip.specs.declared.Op.TheVariants.{Read, Write, Reset}
 use Rattle.tube_chip.specs.declared.Answer.{Answer}
 use Rattle.tube_chip.specs.declared.Answer.TheVariants.{Byte, Seen}
-use Rattle.tube_chip.specs.Register.{Register, held}
-use Rattle.tube_chip.specs.State.{State, register, outgoing, capacity, is_empty, power_on}
+use Rattle.tube_chip.specs.Register.{Register, held_bytes}
+use Rattle.tube_chip.specs.State.{State, register, outgoing_bank, capacity, is_empty, power_on}
 use Rattle.tube_chip.specs.Act.{MayDo, Query, access, look, is_not_full, act}
 use Rattle.tube_chip.specs.Events.{Event, IsAnsweredFrom, after_from, is_side}
 
@@ -20,7 +20,7 @@ reader Para = Host
 
 -- register k, in the direction away from a side
 abbrev pub queue : Side → ℕ → State → Register
-queue from k c = register k (outgoing from c)
+queue from k c = register k (outgoing_bank from c)
 
 -- the number at which the byte of register k is read and written
 abbrev pub byte_number : ℕ → ℕ
@@ -55,8 +55,8 @@ query_clears look = false
 query_clears (access op) = op_clears op
 
 -- the byte that an event writes to register k from a side, if it does
-abbrev pub sent : Side → ℕ → Event → Option ℕ
-sent from k e = if is_side from e.side then query_writes k e.query else None
+abbrev pub byte_sent : Side → ℕ → Event → Option ℕ
+byte_sent from k e = if is_side from e.side then query_writes k e.query else None
 
 -- an event reads the byte of register k from a side
 abbrev pub is_read : Side → ℕ → Event → Bool
@@ -67,7 +67,7 @@ clears e = is_side Host e.side && query_clears e.query
 
 -- An event destroys what the register holds: it clears all registers, or it writes to the register while that is for one byte and is not empty.
 abbrev pub destroys : Side → ℕ → State → Event → Bool
-destroys from k c e = clears e || (is_some (sent from k e) && ((capacity from k c.flags == 1) && not (is_empty (queue from k c))))
+destroys from k c e = clears e || (is_some (byte_sent from k e) && ((capacity from k c.flags == 1) && not (is_empty (queue from k c))))
 
 abbrev pub byte_shown : Answer → List ℕ
 byte_shown (Byte byte) = byte ∷ []
@@ -83,18 +83,18 @@ the_byte (Some byte) = byte ∷ []
 
 -- the byte that was written while there was room, as bit 6 of the register's status tells the side that writes
 abbrev pub written_in : Side → ℕ → State → Event → List ℕ
-written_in from k c e = if is_not_full from k c then the_byte (sent from k e) else []
+written_in from k c e = if is_not_full from k c then the_byte (byte_sent from k e) else []
 
 -- What leaves the register: all that it holds, where that is destroyed, or else the byte that is read.
 abbrev pub leaves : Side → ℕ → State → Event → List ℕ
-leaves from k c e = if destroys from k c e then held (queue from k c) else read_out from k c e
+leaves from k c e = if destroys from k c e then held_bytes (queue from k c) else read_out from k c e
 
 -- What comes into it: what it has at power-on, where all registers are cleared (a byte 00 in register 3 to the host), or the byte that replaces
 -- what is destroyed, or else the byte that is written while there is room.
 abbrev pub comes : Side → ℕ → State → Event → List ℕ
 comes from k c e =
-    if clears e then held (queue from k power_on)
-    else if destroys from k c e then the_byte (sent from k e)
+    if clears e then held_bytes (queue from k power_on)
+    else if destroys from k c e then the_byte (byte_sent from k e)
     else written_in from k c e
 
 -- the lists of all events of a run, one after the other, each from the chip as it is then
@@ -125,7 +125,7 @@ ClearsNothing (e ∷ events) = (clears e ≡ false) × ClearsNothing events
 abbrev pub RegistersAreQueues : Type 0
 RegistersAreQueues =
     (from : Side) (k : ℕ) (c : State) (events : List Event) → 1 ≤ k → k ≤ 4 → MayCome events → IsAnsweredFrom c events →
-    over (leaves from k) c events ++ held (queue from k (after_from c events)) ≡ held (queue from k c) ++ over (comes from k) c events
+    over (leaves from k) c events ++ held_bytes (queue from k (after_from c events)) ≡ held_bytes (queue from k c) ++ over (comes from k) c events
 
 -- Where nothing is destroyed, nothing is lost or made: what is read, and behind it what is left, is what was there, and behind that what was
 -- written while there was room.
@@ -133,10 +133,10 @@ abbrev pub NothingIsLost : Type 0
 NothingIsLost =
     (from : Side) (k : ℕ) (c : State) (events : List Event) → 1 ≤ k → k ≤ 4 → MayCome events → IsAnsweredFrom c events →
     DestroysNothing from k c events →
-    over (read_out from k) c events ++ held (queue from k (after_from c events)) ≡ held (queue from k c) ++ over (written_in from k) c events
+    over (read_out from k) c events ++ held_bytes (queue from k (after_from c events)) ≡ held_bytes (queue from k c) ++ over (written_in from k) c events
 
 -- In register 1 to the host that is so whatever is written, until the registers are cleared.
 abbrev pub FifoLosesNothing : Type 0
 FifoLosesNothing =
     (c : State) (events : List Event) → MayCome events → IsAnsweredFrom c events → ClearsNothing events →
-    over (read_out Para 1) c events ++ held (queue Para 1 (after_from c events)) ≡ held (queue Para 1 c) ++ over (written_in Para 1) c events
+    over (read_out Para 1) c events ++ held_bytes (queue Para 1 (after_from c events)) ≡ held_bytes (queue Para 1 c) ++ over (written_in Para 1) c events

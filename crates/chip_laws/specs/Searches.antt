@@ -25,8 +25,8 @@ abbrev pub steps_to : ℕ → State → ℕ
 steps_to angle s = (angle + 200000 - next_angle s.angle) % 200000 + 1
 
 -- the angle at which sector k begins
-abbrev pub beginning : ℕ → ℕ
-beginning k = 64 * (312 * k)
+abbrev pub sector_angle : ℕ → ℕ
+sector_angle k = 64 * (312 * k)
 
 -- There is a sector for the search: it is on the disc, single density is selected, and the track register is the head's track.
 abbrev pub has_match : Transfer → State → Bool
@@ -37,11 +37,11 @@ has_match t s = is_single_density s.latch && ((t.target.head == s.track) && is_o
 pub record SearchEnds : Type 0 where
   pub goes_on : (s : State) (t : Transfer) (left : ℕ) (events : List Event) →
       s.command ≡ Searching t left → 200000 ≤ left → has_match t s ≡ true → AllWait events →
-      count_steps events < steps_to (beginning s.sector) s →
+      count_steps events < steps_to (sector_angle s.sector) s →
       (history events s).command ≡ Searching t (left - count_steps events)
   pub found : (s : State) (t : Transfer) (left : ℕ) (events : List Event) →
       s.command ≡ Searching t left → 200000 ≤ left → has_match t s ≡ true → s.drq ≡ false → AllWait events →
-      count_steps events ≡ steps_to (beginning s.sector) s →
+      count_steps events ≡ steps_to (sector_angle s.sector) s →
       IsAtSector (history events s) t s.sector × (disc_in t.target.drive (history events s) ≡ disc_in t.target.drive s)
   pub waits : (s : State) (t : Transfer) (left : ℕ) (events : List Event) →
       s.command ≡ Searching t left → has_match t s ≡ false → AllWait events → count_steps events < left →

@@ -6,7 +6,7 @@ use Rattle.wd1770.specs.declared.command.Command.TheVariants.{Idle, Transferring
 use Rattle.wd1770.specs.declared.command.Transfer.{Transfer}
 use Rattle.wd1770.specs.State.{State}
 use Rattle.wd1770.specs.Select.{is_reset, disc_in}
-use Rattle.wd1770.specs.Sectors.{searching}
+use Rattle.wd1770.specs.Sectors.{search_of}
 use Rattle.wd1770.specs.Registers.{answer_of}
 use Rattle.wd1770.specs.History.{Event, microsecond, read, write, latch, happens, history, count_steps}
 
@@ -37,13 +37,13 @@ taken_by s (read reg) = if (reg == 3) && s.drq then answer_of reg s ∷ [] else 
 taken_by s (write reg v) = []
 taken_by s (latch v) = []
 
-abbrev pub taken : State → List Event → List ℕ
-taken s [] = []
-taken s (e ∷ events) = taken_by s e ++ taken (happens e s) events
+abbrev pub bytes_taken : State → List Event → List ℕ
+bytes_taken s [] = []
+bytes_taken s (e ∷ events) = taken_by s e ++ bytes_taken (happens e s) events
 
 -- the byte that waits to be taken
-abbrev pub waiting : State → List ℕ
-waiting s = if s.drq then s.byte ∷ [] else []
+abbrev pub waiting_byte : State → List ℕ
+waiting_byte s = if s.drq then s.byte ∷ [] else []
 
 -- Sector k has just been found, and is to be read.
 pub record IsAtSector (s : State) (t : Transfer) (k : ℕ) : Type 0 where
@@ -58,7 +58,7 @@ pub record HasBytes (s : State) (t : Transfer) (k : ℕ) (d : Image) (bytes : Li
 
 -- the command behind a sector: none, or the search for the next one where it is for multiple sectors
 abbrev pub command_behind : Transfer → Command
-command_behind t = if t.multiple then searching t else Idle
+command_behind t = if t.multiple then search_of t else Idle
 
 -- As long as the program loses nothing, as the status tells it, the bytes that it took, and the one that waits, are those of the disc that
 -- have come, in order: all 256 at the end, which is 288 places behind the beginning.
@@ -66,11 +66,11 @@ pub record SectorIsRead : Type 0 where
   pub so_far : (s : State) (t : Transfer) (k : ℕ) (d : Image) (bytes : List ℕ) (events : List Event) →
       IsAtSector s t k → HasBytes s t k d bytes → t.writes ≡ false → AllRead events → count_steps events ≤ sector_steps →
       (history events s).lost_data ≡ false →
-      taken s events ++ waiting (history events s) ≡ take (bytes_come (count_steps events)) bytes
+      bytes_taken s events ++ waiting_byte (history events s) ≡ take (bytes_come (count_steps events)) bytes
   pub whole : (s : State) (t : Transfer) (k : ℕ) (d : Image) (bytes : List ℕ) (events : List Event) →
       IsAtSector s t k → HasBytes s t k d bytes → t.writes ≡ false → AllRead events → count_steps events ≡ sector_steps →
       (history events s).lost_data ≡ false →
-      taken s events ++ waiting (history events s) ≡ bytes
+      bytes_taken s events ++ waiting_byte (history events s) ≡ bytes
   pub end : (s : State) (t : Transfer) (k : ℕ) (d : Image) (bytes : List ℕ) (events : List Event) →
       IsAtSector s t k → HasBytes s t k d bytes → t.writes ≡ false → AllRead events → count_steps events ≡ sector_steps →
       (history events s).command ≡ command_behind t

@@ -26,9 +26,9 @@ given_by (read reg) = []
 given_by (write reg v) = if reg == 3 then v ∷ [] else []
 given_by (latch v) = []
 
-abbrev pub given : List Event → List ℕ
-given [] = []
-given (e ∷ events) = given_by e ++ given events
+abbrev pub bytes_given : List Event → List ℕ
+bytes_given [] = []
+bytes_given (e ∷ events) = given_by e ++ bytes_given events
 
 -- The disc in the drive that is selected has these bytes in the sector, and is else as d was.
 pub record IsStored (d : Image) (t : Transfer) (k : ℕ) (bytes : List ℕ) (s : State) : Type 0 where
@@ -43,7 +43,7 @@ pub record SectorIsWritten : Type 0 where
   pub stored : (s : State) (t : Transfer) (k : ℕ) (d : Image) (events : List Event) →
       IsAtSector s t k → disc_in t.target.drive s ≡ Some d → has_sector d.kind t.target.side t.target.head k ≡ true → t.writes ≡ true →
       AllWritten s events → count_steps events ≡ sector_steps → (history events s).lost_data ≡ false →
-      IsStored d t k (given events) (history events s)
+      IsStored d t k (bytes_given events) (history events s)
   pub end : (s : State) (t : Transfer) (k : ℕ) (d : Image) (events : List Event) →
       IsAtSector s t k → disc_in t.target.drive s ≡ Some d → has_sector d.kind t.target.side t.target.head k ≡ true → t.writes ≡ true →
       AllWritten s events → count_steps events ≡ sector_steps → (history events s).lost_data ≡ false →

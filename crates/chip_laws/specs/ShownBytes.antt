@@ -14,14 +14,14 @@ use Rattle.saa5050.specs.Shapes.{Font}
 use Rattle.raster.specs.Frame.{is_in_frame}
 use Rattle.raster.specs.Beam.{Cursor, byte_address, is_marked}
 use Rattle.raster.specs.State.{State}
-use Rattle.raster.specs.Clock.{char_clocked, microseconds}
+use Rattle.raster.specs.Clock.{char_clock_leaves, microseconds}
 
 -- ---- Character clocks and microseconds.
 
 -- n character clocks, one after the other, each with the RAM and the screen's size as they are at it
 abbrev pub char_clocks : (ℕ → List ℕ) → (ℕ → ℕ) → Font → ℕ → State → State
 char_clocks ram size font zero s = s
-char_clocks ram size font (suc n) s = char_clocked (ram n) (size n) font (char_clocks ram size font n s)
+char_clocks ram size font (suc n) s = char_clock_leaves (ram n) (size n) font (char_clocks ram size font n s)
 
 -- n microseconds with the same RAM are n character clocks, or twice as many where the 6845 has the clock of 2 MHz
 abbrev pub MicrosecondsAreClocks : Type 0

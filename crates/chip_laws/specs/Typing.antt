@@ -8,16 +8,16 @@ use Rattle.key_script.specs.Keys.{is_down}
 use Rattle.keyboard.specs.Keys.{Keys, no_key, with_key}
 
 -- the keys after an event
-abbrev pub typed : What → Keys → Keys
-typed (Down key) keys = with_key key true keys
-typed (Up key) keys = with_key key false keys
-typed Shot keys = keys
-typed Break keys = keys
+abbrev pub keys_after : What → Keys → Keys
+keys_after (Down key) keys = with_key key true keys
+keys_after (Up key) keys = with_key key false keys
+keys_after Shot keys = keys
+keys_after Break keys = keys
 
 -- the keys after those events of a script that have come by tick t, one after the other
 abbrev pub typed_by : ℕ → List Event → Keys → Keys
 typed_by t [] keys = keys
-typed_by t (e ∷ events) keys = typed_by t events (if nat_le (tick_of e) t then typed e.what keys else keys)
+typed_by t (e ∷ events) keys = typed_by t events (if nat_le (tick_of e) t then keys_after e.what keys else keys)
 
 -- At every tick each key is as the events that have come by then leave it, where all keys are up at the beginning.
 abbrev pub ScriptIsTyped : Type 0

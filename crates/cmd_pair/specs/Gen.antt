@@ -5,7 +5,7 @@ use Rattle.digits.specs.Hexadecimal.{hex_digits}
 use Rattle.op_table.specs.declared.Part.TheVariants.{Nmos, Cmos}
 use Rattle.asm65.specs.declared.AsmError.{AsmError}
 use Rattle.asm65.specs.Source.{source}
-use Rattle.demo_gen.specs.Demo.{host_text, tube_text, drawn, image_of, image_holding}
+use Rattle.demo_gen.specs.Demo.{host_text, tube_text, drawn_bytes, image_of, image_holding}
 use Rattle.tube_party.specs.Reference.{reference}
 use Rattle.beeb_bits.specs.declared.clock.Clock.TheVariants.{Three}
 use Rattle.disc_image.specs.declared.Kind.TheVariants.{Ssd}
@@ -58,6 +58,6 @@ gen_ticks = 1000000
 unfoldable pub gen_after : ℕ → Result (Verdict Ending) (Refusal Cause)
 gen_after seed =
     or_refusal no_image (image_of (source Nmos host_text))
-    >>= λ os. or_refusal no_image (image_holding (drawn seed) (source Cmos tube_text))
+    >>= λ os. or_refusal no_image (image_holding (drawn_bytes seed) (source Cmos tube_text))
     >>= λ tube. machines_of gen_setup (pair_inputs os tube)
     >>= λ m. Ok (gen_verdict seed (reference host_moves para_moves m.0 m.1 gen_ticks).host)

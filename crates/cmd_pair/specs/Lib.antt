@@ -1,3 +1,3 @@
 pub mod Solo
 pub mod Gen
-pub mod Seen
+pub mod Code

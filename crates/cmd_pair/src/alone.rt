@@ -2,7 +2,7 @@
 ghost use Rattle.std.specs.Prelude.{◌≤◌, IfOk, IsTrue};
 ghost use Rattle.beeb_bits.specs.declared.Side.TheVariants.{Host, Para};
 ghost use Rattle.tube_party.specs.Reference.{reference};
-ghost use Rattle.tube_party.specs.Played.{IsPlayed, played_of};
+ghost use Rattle.tube_party.specs.OneThread.{IsPlayed, played_of};
 
 use beeb_bits::Tick;
 use std::alloc::{AllocError, Global};

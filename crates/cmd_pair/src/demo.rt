@@ -1,9 +1,9 @@
 //! `gen SEED`: the demonstration pair.
 ghost use Rattle.std.specs.Prelude.{◌≡◌, ◌≤◌, ◌++◌, IfOk, slice_index};
-ghost use Rattle.beeb_stages.specs.Seen.{Gives};
+ghost use Rattle.beeb_stages.specs.View.{Gives};
 ghost use Rattle.cmd_pair.specs.Gen.{pair_inputs, before_sum, behind_sum, summary, gen_ticks, gen_after};
-ghost use Rattle.power_on.specs.Seen.{seen_inputs};
-ghost use Rattle.beeb_outcome.specs.Seen.{verdict_of};
+ghost use Rattle.power_on.specs.View.{seen_inputs};
+ghost use Rattle.beeb_outcome.specs.View.{verdict_of};
 
 use crate::alone::run_alone;
 use beeb_bits::{Clock, Tick};

@@ -4,9 +4,9 @@ ghost use Rattle.tube_chip.specs.Events.{Event};
 ghost use Rattle.tube_party.specs.Reference.{reference};
 ghost use Rattle.host_mach.specs.Step.{host_moves};
 ghost use Rattle.para_mach.specs.Step.{para_moves};
-ghost use Rattle.beeb_outcome.specs.Seen.{kept_seen, verdict_of};
+ghost use Rattle.beeb_outcome.specs.View.{kept_seen, verdict_of};
 ghost use Rattle.cmd_pair.specs.Solo.{kept_of, kept_verdict};
-ghost use Rattle.cmd_pair.specs.Seen.{AreFirst, IsRun};
+ghost use Rattle.cmd_pair.specs.Code.{AreFirst, IsRun};
 ghost use Rattle.host_mach.specs.State.{HostState};
 ghost use Rattle.para_mach.specs.State.{ParaState};
 

@@ -3,13 +3,13 @@ ghost use Rattle.std.specs.Prelude.{◌≡◌, ◌<◌, ◌≤◌, All, IfOk, Is
 ghost use Rattle.beeb_files.specs.Crew.{Grows};
 ghost use Rattle.beeb_bits.specs.declared.Side.TheVariants.{Host, Para};
 ghost use Rattle.tube_party.specs.Reference.{reference};
-ghost use Rattle.tube_party.specs.Played.{IsPlayed, played_of};
+ghost use Rattle.tube_party.specs.OneThread.{IsPlayed, played_of};
 ghost use Rattle.beeb_stages.specs.Promise.{IsCrewAfter};
 ghost use Rattle.beeb_stages.specs.Stages.{Works};
-ghost use Rattle.power_on.specs.Seen.{seen_inputs, seen_setup};
-ghost use Rattle.beeb_outcome.specs.Seen.{verdict_of};
+ghost use Rattle.power_on.specs.View.{seen_inputs, seen_setup};
+ghost use Rattle.beeb_outcome.specs.View.{verdict_of};
 ghost use Rattle.cmd_pair.specs.Solo.{solo_after};
-ghost use Rattle.cmd_pair.specs.Seen.{nothing};
+ghost use Rattle.cmd_pair.specs.Code.{nothing};
 
 use crate::kept::kept_outcome;
 use beeb_bits::Tick;

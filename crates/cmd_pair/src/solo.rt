@@ -1,9 +1,9 @@
 //! `solo TICKS OUT --os NAME --tube NAME` and options: both machines on one thread.
 ghost use Rattle.std.specs.Prelude.{◌<◌, ◌≤◌, All, map};
-ghost use Rattle.beeb_stages.specs.Seen.{Gives};
+ghost use Rattle.beeb_stages.specs.View.{Gives};
 ghost use Rattle.cmd_pair.specs.Solo.{solo_after};
-ghost use Rattle.power_on.specs.Seen.{seen_inputs, seen_setup};
-ghost use Rattle.beeb_outcome.specs.Seen.{verdict_of};
+ghost use Rattle.power_on.specs.View.{seen_inputs, seen_setup};
+ghost use Rattle.beeb_outcome.specs.View.{verdict_of};
 
 use crate::alone::run_alone;
 use crate::kept::kept_outcome;

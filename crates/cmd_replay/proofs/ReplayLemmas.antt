@@ -8,14 +8,14 @@ use Rattle.beeb_status.specs.declared.status.Ending.TheVariants.{Differs}
 use Rattle.host_mach.specs.State.{HostState}
 use Rattle.para_mach.specs.State.{ParaState}
 use Rattle.beeb_outcome.specs.Verdicts.{said_verdict, host_left, para_left}
-use Rattle.cmd_replay.specs.Replay.{differs_text, ended}
+use Rattle.cmd_replay.specs.Replay.{differs_text, verdict_of_end}
 
 pub done_is : {S : Type 0} (done : ℕ → S → Verdict Ending) (tube count : ℕ) (e : Ended S) (machine : S) → e.place ≡ None → machine ≡ e.machine → tube ≡ count →
-    done tube machine ≡ ended (done count) e
+    done tube machine ≡ verdict_of_end (done count) e
 done_is done tube count e machine none same counted = rw (none, same, counted) refl
 
 pub differs_is : {S : Type 0} (done : S → Verdict Ending) (e : Ended S) (place : ℕ × Option Doing) → e.place ≡ Some place →
-    said_verdict (Differs place.0 place.1) (differs_text place.0 place.1) ≡ ended done e
+    said_verdict (Differs place.0 place.1) (differs_text place.0 place.1) ≡ verdict_of_end done e
 differs_is done e place some = rw some refl
 
 -- what a machine leaves, where no bytes stand beside it

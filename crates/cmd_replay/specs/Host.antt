@@ -2,8 +2,8 @@
 use Rattle.std.specs.Prelude.{ℕ, List, Result, Ok}
 use Rattle.beeb_bits.specs.declared.Side.TheVariants.{Host}
 use Rattle.tube_trace.specs.declared.Entry.{Entry}
-use Rattle.tube_trace.specs.Wrong.{wrong}
-use Rattle.tube_party.specs.Replay.{replayed}
+use Rattle.tube_trace.specs.FirstWrong.{wrong}
+use Rattle.tube_party.specs.Replay.{replay_of}
 use Rattle.host_mach.specs.State.{HostState, power_on}
 use Rattle.host_mach.specs.Step.{host_moves}
 use Rattle.beeb_stages.specs.Plan.{Verdict, ◌>>=◌}
@@ -17,12 +17,12 @@ use Rattle.beeb_outcome.specs.Trace.{entries_of}
 use Rattle.beeb_outcome.specs.Verdicts.{machine_verdict, host_left}
 use Rattle.power_on.specs.Script.{script_of}
 use Rattle.power_on.specs.Discs.{discs_of}
-use Rattle.cmd_replay.specs.Replay.{side_count, ended, checked}
+use Rattle.cmd_replay.specs.Replay.{side_count, verdict_of_end, unless_wrong}
 
 -- what comes of the machine against the entries of a trace
 unfoldable pub host_ended : ℕ → List ℕ → List Entry → HostState → Verdict Ending
 host_ended ticks out entries s =
-    ended (λ e. machine_verdict (host_left ticks (side_count Host ticks entries) out e)) (replayed host_moves Host entries ticks s)
+    verdict_of_end (λ e. machine_verdict (host_left ticks (side_count Host ticks entries) out e)) (replay_of host_moves Host entries ticks s)
 
 -- The lengths of the images, the discs' last, the trace's form and its clock, the script's form, the trace's answers, and the machine.
 unfoldable pub host_after : Setup → ℕ → List ℕ → Inputs → Result (Verdict Ending) (Refusal Cause)
@@ -31,4 +31,4 @@ host_after set ticks out i =
     >>= λ roms. discs_of set.kinds i.disc0 i.disc1
     >>= λ discs. entries_of set.clock i.trace
     >>= λ entries. script_of i.keys
-    >>= λ script. Ok (checked (wrong entries) (host_ended ticks out entries (power_on set.clock roms discs.0 discs.1 script set.plugs)))
+    >>= λ script. Ok (unless_wrong (wrong entries) (host_ended ticks out entries (power_on set.clock roms discs.0 discs.1 script set.plugs)))

@@ -3,8 +3,8 @@ use Rattle.std.specs.Prelude.{ℕ, List, Result, Ok}
 use Rattle.beeb_bits.specs.declared.clock.Clock.{Clock}
 use Rattle.beeb_bits.specs.declared.Side.TheVariants.{Para}
 use Rattle.tube_trace.specs.declared.Entry.{Entry}
-use Rattle.tube_trace.specs.Wrong.{wrong}
-use Rattle.tube_party.specs.Replay.{replayed}
+use Rattle.tube_trace.specs.FirstWrong.{wrong}
+use Rattle.tube_party.specs.Replay.{replay_of}
 use Rattle.para_mach.specs.State.{ParaState, power_on}
 use Rattle.para_mach.specs.Step.{para_moves}
 use Rattle.beeb_stages.specs.Plan.{Verdict, ◌>>=◌}
@@ -15,16 +15,16 @@ use Rattle.power_on.specs.Inputs.{Inputs}
 use Rattle.power_on.specs.Machines.{rom_of}
 use Rattle.beeb_outcome.specs.Trace.{entries_of}
 use Rattle.beeb_outcome.specs.Verdicts.{machine_verdict, para_left}
-use Rattle.cmd_replay.specs.Replay.{side_count, ended, checked}
+use Rattle.cmd_replay.specs.Replay.{side_count, verdict_of_end, unless_wrong}
 
 -- what comes of the machine against the entries of a trace
 unfoldable pub para_ended : ℕ → List ℕ → List Entry → ParaState → Verdict Ending
 para_ended ticks out entries s =
-    ended (λ e. machine_verdict (para_left ticks (side_count Para ticks entries) out e)) (replayed para_moves Para entries ticks s)
+    verdict_of_end (λ e. machine_verdict (para_left ticks (side_count Para ticks entries) out e)) (replay_of para_moves Para entries ticks s)
 
 -- the ROM's length, the trace's form, its clock, its answers, and the machine
 unfoldable pub para_after : Clock → ℕ → List ℕ → Inputs → Result (Verdict Ending) (Refusal Cause)
 para_after clock ticks out i =
     rom_of i.tube
     >>= λ rom. entries_of clock i.trace
-    >>= λ entries. Ok (checked (wrong entries) (para_ended ticks out entries (power_on clock rom)))
+    >>= λ entries. Ok (unless_wrong (wrong entries) (para_ended ticks out entries (power_on clock rom)))

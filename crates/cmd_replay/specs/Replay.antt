@@ -28,14 +28,14 @@ side_count side n [] = 0
 side_count side n (x ∷ entries) = if is_side side x.side && nat_lt (x.tick).0 n then 1 + side_count side n entries else side_count side n entries
 
 -- the place where a machine differs, if it does; else what comes of the machine where it ended
-abbrev pub placed : {S : Type 0} → (S → Verdict Ending) → S → Option (ℕ × Option Doing) → Verdict Ending
-placed done s None = done s
-placed done s (Some place) = said_verdict (Differs place.0 place.1) (differs_text place.0 place.1)
+abbrev pub verdict_of_place : {S : Type 0} → (S → Verdict Ending) → S → Option (ℕ × Option Doing) → Verdict Ending
+verdict_of_place done s None = done s
+verdict_of_place done s (Some place) = said_verdict (Differs place.0 place.1) (differs_text place.0 place.1)
 
-abbrev pub ended : {S : Type 0} → (S → Verdict Ending) → Ended S → Verdict Ending
-ended done e = placed done e.machine e.place
+abbrev pub verdict_of_end : {S : Type 0} → (S → Verdict Ending) → Ended S → Verdict Ending
+verdict_of_end done e = verdict_of_place done e.machine e.place
 
 -- the trace is checked first, as `check` does it
-abbrev pub checked : Option (ℕ × ℕ) → Verdict Ending → Verdict Ending
-checked None replay = replay
-checked (Some w) replay = wrong_verdict (w.0 + 1) w.1
+abbrev pub unless_wrong : Option (ℕ × ℕ) → Verdict Ending → Verdict Ending
+unless_wrong None replay = replay
+unless_wrong (Some w) replay = wrong_verdict (w.0 + 1) w.1

@@ -2,16 +2,16 @@
 ghost use Rattle.std.specs.Prelude.{◌≡◌, ◌<◌, ◌≤◌, All, map, IfOk};
 ghost use Rattle.beeb_bits.specs.declared.Side.TheVariants.{Host};
 ghost use Rattle.tube_trace.specs.Entries.{IsEntry};
-ghost use Rattle.tube_party.specs.Replay.{replayed};
+ghost use Rattle.tube_party.specs.Replay.{replay_of};
 ghost use Rattle.host_mach.specs.Step.{host_moves};
 ghost use Rattle.host_mach.specs.View.{host_seen};
-ghost use Rattle.beeb_stages.specs.Seen.{Gives};
-ghost use Rattle.cmd_replay.specs.Replay.{side_count, ended};
+ghost use Rattle.beeb_stages.specs.View.{Gives};
+ghost use Rattle.cmd_replay.specs.Replay.{side_count, verdict_of_end};
 ghost use Rattle.power_on.specs.Roms.{roms_of};
 ghost use Rattle.cmd_replay.specs.Host.{host_ended, host_after};
 ghost use Rattle.power_on.specs.Inputs as held;
-ghost use Rattle.power_on.specs.Seen.{seen_files, seen_inputs, seen_setup};
-ghost use Rattle.beeb_outcome.specs.Seen.{verdict_of};
+ghost use Rattle.power_on.specs.View.{seen_files, seen_inputs, seen_setup};
+ghost use Rattle.beeb_outcome.specs.View.{verdict_of};
 
 use crate::replay::{differs_outcome, side_count};
 use beeb_bits::{Side, Tick};

@@ -2,15 +2,15 @@
 ghost use Rattle.std.specs.Prelude.{◌≡◌, ◌≤◌, All, Ok, IfOk};
 ghost use Rattle.beeb_bits.specs.declared.Side.TheVariants.{Para};
 ghost use Rattle.tube_trace.specs.Entries.{IsEntry};
-ghost use Rattle.tube_party.specs.Replay.{replayed};
+ghost use Rattle.tube_party.specs.Replay.{replay_of};
 ghost use Rattle.para_mach.specs.Step.{para_moves};
-ghost use Rattle.beeb_stages.specs.Seen.{Gives};
-ghost use Rattle.cmd_replay.specs.Replay.{side_count, ended};
+ghost use Rattle.beeb_stages.specs.View.{Gives};
+ghost use Rattle.cmd_replay.specs.Replay.{side_count, verdict_of_end};
 ghost use Rattle.cmd_replay.specs.Para.{para_ended, para_after};
 ghost use Rattle.power_on.specs.Inputs.{no_inputs};
 ghost use Rattle.power_on.specs.Inputs as held;
-ghost use Rattle.power_on.specs.Seen.{seen_inputs};
-ghost use Rattle.beeb_outcome.specs.Seen.{verdict_of};
+ghost use Rattle.power_on.specs.View.{seen_inputs};
+ghost use Rattle.beeb_outcome.specs.View.{verdict_of};
 
 use crate::replay::{differs_outcome, side_count};
 use beeb_bits::{Clock, Side, Tick};

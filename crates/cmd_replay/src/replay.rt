@@ -2,7 +2,7 @@
 ghost use Rattle.std.specs.Prelude.{◌≡◌, IfOk};
 ghost use Rattle.cmd_replay.specs.Replay.{side_count, differs_text};
 ghost use Rattle.beeb_outcome.specs.Verdicts.{said_verdict};
-ghost use Rattle.beeb_outcome.specs.Seen.{verdict_of};
+ghost use Rattle.beeb_outcome.specs.View.{verdict_of};
 ghost use Rattle.beeb_status.specs.declared.status.Ending.TheVariants.{Differs};
 
 use crate::differing::differs_text;

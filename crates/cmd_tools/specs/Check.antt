@@ -2,7 +2,7 @@
 use Rattle.std.specs.Prelude.{ℕ, ◌+◌, List, ◌++◌, length, Option, Some, None, Result, Ok, codes}
 use Rattle.std.specs.Fmt.{decimal}
 use Rattle.tube_trace.specs.declared.Entry.{Entry}
-use Rattle.tube_trace.specs.Wrong.{wrong}
+use Rattle.tube_trace.specs.FirstWrong.{wrong}
 use Rattle.beeb_stages.specs.Plan.{Verdict, ◌>>=◌}
 use Rattle.beeb_stages.specs.declared.stop.Refusal.{Refusal}
 use Rattle.beeb_status.specs.declared.status.Ending.{Ending}
@@ -16,10 +16,10 @@ unfoldable pub ok_text : ℕ → List ℕ
 ok_text n = codes "ok " ++ decimal n ++ codes "\n"
 
 -- What the chip says of the entries: the number of lines, or the first line whose answer it would not give, and its byte.
-abbrev pub judged : List Entry → Option (ℕ × ℕ) → Verdict Ending
-judged entries None = said_verdict Done (ok_text (length entries))
-judged entries (Some w) = wrong_verdict (w.0 + 1) w.1
+abbrev pub check_verdict : List Entry → Option (ℕ × ℕ) → Verdict Ending
+check_verdict entries None = said_verdict Done (ok_text (length entries))
+check_verdict entries (Some w) = wrong_verdict (w.0 + 1) w.1
 
 -- a trace of either clock
 unfoldable pub check_after : List ℕ → Result (Verdict Ending) (Refusal Cause)
-check_after bytes = trace_of bytes >>= λ t. Ok (judged t.1 (wrong t.1))
+check_after bytes = trace_of bytes >>= λ t. Ok (check_verdict t.1 (wrong t.1))

@@ -3,8 +3,8 @@ ghost use Rattle.std.specs.Prelude.{◌≡◌};
 ghost use Rattle.beeb_stages.specs.declared.stop.Refusal.TheVariants as refusals;
 ghost use Rattle.beeb_status.specs.declared.status.Cause.TheVariants.{BadSource};
 ghost use Rattle.cmd_tools.specs.Asm.{refusal_of, asm_after, dis_after};
-ghost use Rattle.beeb_outcome.specs.Seen.{verdict_of};
-ghost use Rattle.beeb_stages.specs.Seen.{Gives};
+ghost use Rattle.beeb_outcome.specs.View.{verdict_of};
+ghost use Rattle.beeb_stages.specs.View.{Gives};
 
 use asm65::{AsmError, assemble};
 use beeb_outcome::{Outcome, file_outcome};

@@ -1,10 +1,10 @@
 //! `check TRACE`.
 ghost use Rattle.std.specs.Prelude.{◌≡◌, All, IfOk};
 ghost use Rattle.tube_trace.specs.Entries.{IsEntry};
-ghost use Rattle.tube_trace.specs.Wrong.{wrong};
-ghost use Rattle.beeb_stages.specs.Seen.{Gives};
-ghost use Rattle.beeb_outcome.specs.Seen.{verdict_of};
-ghost use Rattle.cmd_tools.specs.Check.{check_after, judged, ok_text};
+ghost use Rattle.tube_trace.specs.FirstWrong.{wrong};
+ghost use Rattle.beeb_stages.specs.View.{Gives};
+ghost use Rattle.beeb_outcome.specs.View.{verdict_of};
+ghost use Rattle.cmd_tools.specs.Check.{check_after, check_verdict, ok_text};
 
 use beeb_outcome::{Outcome, said_outcome, trace_of, wrong_outcome};
 use beeb_stages::Refusal;
@@ -24,7 +24,7 @@ fn ok_text(alloc: Global, n: usize) -> Result<Vec<u8>, AllocError>
 // What the chip says of the entries.
 fn judged<'a, D: BusDevice>(alloc: Global, entries: &[Entry]) -> Result<Outcome<'a, D>, AllocError>
     requires { All IsEntry entries.now }
-    ensures { IfOk result (λ outcome. verdict_of D.plug outcome ≡ judged entries.now (wrong entries.now)) }
+    ensures { IfOk result (λ outcome. verdict_of D.plug outcome ≡ check_verdict entries.now (wrong entries.now)) }
 {
     match first_wrong(entries) {
         None => {

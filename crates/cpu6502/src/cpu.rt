@@ -1,6 +1,6 @@
 //! The processor.
 ghost use Rattle.std.specs.Prelude.{◌≡◌, ◌↔◌, IsTrue, IsSome, IsNone, Some};
-ghost use Rattle.cpu6502.specs.Sequences.{next, given, starting, halted, HasEnded, after, looked, fresh, power_on};
+ghost use Rattle.cpu6502.specs.Sequences.{next_cycle, after_byte, starting, halted, HasEnded, after, sequence_at_look, fresh, power_on};
 ghost use Rattle.cpu_core.specs.declared.Sequence.TheVariants.{Reset};
 
 use cpu_alu::{Cycle, Regs};
@@ -42,8 +42,8 @@ impl Cpu {
     /// The access of the cycle in progress.
     #[inline(always)]
     pub fn want(&self) -> Cycle
-        requires { IsSome (next self.now) }
-        ensures { next self.now ≡ Some result }
+        requires { IsSome (next_cycle self.now) }
+        ensures { next_cycle self.now ≡ Some result }
     {
         self.core.want()
     }
@@ -51,8 +51,8 @@ impl Cpu {
     /// The cycle in progress is done, with the byte that was read. After a write the byte does not matter.
     #[inline(always)]
     pub fn give(&mut self, byte: u8)
-        requires { IsSome (next self.old) }
-        ensures { self.new ≡ given self.old byte }
+        requires { IsSome (next_cycle self.old) }
+        ensures { self.new ≡ after_byte self.old byte }
     {
         self.core.give(Part::Nmos, byte);
     }
@@ -60,7 +60,7 @@ impl Cpu {
     /// Whether the cycle just given was the last of its sequence.
     #[inline(always)]
     pub fn last(&self) -> bool
-        ensures { IsTrue result ↔ IsNone (next self.now) }
+        ensures { IsTrue result ↔ IsNone (next_cycle self.now) }
     {
         self.core.last()
     }
@@ -76,8 +76,8 @@ impl Cpu {
     /// The look at the lines: an NMI begins, else an IRQ if the flag I is clear, else the next instruction.
     #[inline(always)]
     pub fn take_lines(&mut self, nmi: bool, irq: bool)
-        requires { IsNone (next self.old) }
-        ensures { self.new ≡ fresh (looked nmi irq (after self.old)) (after self.old) }
+        requires { IsNone (next_cycle self.old) }
+        ensures { self.new ≡ fresh (sequence_at_look nmi irq (after self.old)) (after self.old) }
     {
         self.core.take_lines(nmi, irq);
     }

@@ -5,15 +5,15 @@ use Rattle.cpu_alu.specs.declared.Regs.{Regs}
 use Rattle.cpu_alu.specs.declared.Cycle.{Cycle}
 use Rattle.cpu_core.specs.State.{State}
 use Rattle.cpu_core.specs.Sequences as both
-pub use Rattle.cpu_core.specs.Sequences.{starting, looked, fresh, power_on}
+pub use Rattle.cpu_core.specs.Sequences.{starting, sequence_at_look, fresh, power_on}
 
 -- the access of the cycle in progress, or None where the sequence is over
-abbrev pub next : State → Option Cycle
-next s = both.next Cmos s
+abbrev pub next_cycle : State → Option Cycle
+next_cycle s = both.next_cycle Cmos s
 
 -- one cycle later
-abbrev pub given : State → ℕ → State
-given s byte = both.given Cmos s byte
+abbrev pub after_byte : State → ℕ → State
+after_byte s byte = both.after_byte Cmos s byte
 
 -- the registers after a sequence that is over
 abbrev pub after : State → Regs

@@ -18,12 +18,12 @@ abbrev pub stack : Regs → ℕ → ℕ
 stack r k = 0x100 + (r.s + k) % 256
 
 -- the stack pointer moved k up, in its page
-abbrev pub stacked : Regs → ℕ → Regs
-stacked r k = record r { s = (r.s + k) % 256 }
+abbrev pub with_stack_moved : Regs → ℕ → Regs
+with_stack_moved r k = record r { s = (r.s + k) % 256 }
 
 -- the registers with PC behind an instruction of so many bytes
-abbrev pub past : Regs → ℕ → Regs
-past r bytes = record r { pc = place r bytes }
+abbrev pub with_pc_past : Regs → ℕ → Regs
+with_pc_past r bytes = record r { pc = place r bytes }
 
 -- whether the address with an index added is in another page than that without: low is its low byte
 abbrev pub crosses_page : ℕ → ℕ → Bool

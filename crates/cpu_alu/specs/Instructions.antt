@@ -65,30 +65,30 @@ bus_use Brk = Breaks
 bus_use _ = Implied
 
 -- what a store writes
-abbrev pub stored : Mnemonic → Regs → ℕ
-stored Sta r = r.a
-stored Stx r = r.x
-stored Sty r = r.y
-stored _ r = 0
+abbrev pub stored_value : Mnemonic → Regs → ℕ
+stored_value Sta r = r.a
+stored_value Stx r = r.x
+stored_value Sty r = r.y
+stored_value _ r = 0
 
 -- what a push writes: flags have bits 4 and 5 set
-abbrev pub pushed : Mnemonic → Regs → ℕ
-pushed Pha r = r.a
-pushed Phx r = r.x
-pushed Phy r = r.y
-pushed _ r = bit_or r.p PUSHED_BY_PROGRAM
+abbrev pub pushed_value : Mnemonic → Regs → ℕ
+pushed_value Pha r = r.a
+pushed_value Phx r = r.x
+pushed_value Phy r = r.y
+pushed_value _ r = bit_or r.p PUSHED_BY_PROGRAM
 
 -- whether a branch is taken
-abbrev pub taken : Mnemonic → Regs → Bool
-taken Bpl r = not (has_flag r.p NEGATIVE)
-taken Bmi r = has_flag r.p NEGATIVE
-taken Bvc r = not (has_flag r.p OVERFLOW)
-taken Bvs r = has_flag r.p OVERFLOW
-taken Bcc r = not (has_flag r.p CARRY)
-taken Bcs r = has_flag r.p CARRY
-taken Bne r = not (has_flag r.p ZERO)
-taken Beq r = has_flag r.p ZERO
-taken _ r = true
+abbrev pub takes_branch : Mnemonic → Regs → Bool
+takes_branch Bpl r = not (has_flag r.p NEGATIVE)
+takes_branch Bmi r = has_flag r.p NEGATIVE
+takes_branch Bvc r = not (has_flag r.p OVERFLOW)
+takes_branch Bvs r = has_flag r.p OVERFLOW
+takes_branch Bcc r = not (has_flag r.p CARRY)
+takes_branch Bcs r = has_flag r.p CARRY
+takes_branch Bne r = not (has_flag r.p ZERO)
+takes_branch Beq r = has_flag r.p ZERO
+takes_branch _ r = true
 
 -- whether it is a sum or a difference in decimal mode
 abbrev pub is_decimal : Mnemonic → Regs → Bool
@@ -111,8 +111,8 @@ abbrev pub with_sum : Regs → Sum → Regs
 with_sum r sum = record r { a = sum.value; p = with_n_v_z_c r.p sum }
 
 -- N, Z and C by a comparison
-abbrev pub compared : Regs → ℕ → ℕ → Regs
-compared r value m = record r { p = with_n_z_c r.p (compare value m) }
+abbrev pub after_compare : Regs → ℕ → ℕ → Regs
+after_compare r value m = record r { p = with_n_z_c r.p (compare value m) }
 
 -- Z from A AND m
 abbrev pub with_masked_z : ℕ → ℕ → ℕ → ℕ
@@ -133,23 +133,23 @@ read_result part Ora way r m = with_a r (bit_or r.a m)
 read_result part Eor way r m = with_a r (bit_xor r.a m)
 read_result part Adc way r m = with_sum r (adc part (has_flag r.p DECIMAL) r.a m (has_flag r.p CARRY))
 read_result part Sbc way r m = with_sum r (sbc part (has_flag r.p DECIMAL) r.a m (has_flag r.p CARRY))
-read_result part Cmp way r m = compared r r.a m
-read_result part Cpx way r m = compared r r.x m
-read_result part Cpy way r m = compared r r.y m
+read_result part Cmp way r m = after_compare r r.a m
+read_result part Cpx way r m = after_compare r r.x m
+read_result part Cpy way r m = after_compare r r.y m
 read_result part Bit way r m = record r { p = bit_flags way r.p r.a m }
 read_result part _ way r m = r
 
 -- what a modify instruction makes of m
-abbrev pub modified : Mnemonic → Regs → ℕ → ℕ
-modified Asl r m = (asl m).value
-modified Lsr r m = (lsr m).value
-modified Rol r m = (rol m (has_flag r.p CARRY)).value
-modified Ror r m = (ror m (has_flag r.p CARRY)).value
-modified Inc r m = (m + 1) % 256
-modified Dec r m = (m + 255) % 256
-modified Tsb r m = bit_or m r.a
-modified Trb r m = bit_and m (255 - r.a)
-modified _ r m = m
+abbrev pub modified_value : Mnemonic → Regs → ℕ → ℕ
+modified_value Asl r m = (asl m).value
+modified_value Lsr r m = (lsr m).value
+modified_value Rol r m = (rol m (has_flag r.p CARRY)).value
+modified_value Ror r m = (ror m (has_flag r.p CARRY)).value
+modified_value Inc r m = (m + 1) % 256
+modified_value Dec r m = (m + 255) % 256
+modified_value Tsb r m = bit_or m r.a
+modified_value Trb r m = bit_and m (255 - r.a)
+modified_value _ r m = m
 
 -- the flags after it: TSB and TRB have Z from A AND m
 abbrev pub modify_flags : Mnemonic → Regs → ℕ → ℕ
@@ -163,7 +163,7 @@ modify_flags _ r m = with_masked_z r.p r.a m
 
 -- after a modify instruction, on A or on the byte m of the memory
 abbrev pub modify_result : Mnemonic → Mode → Regs → ℕ → Regs
-modify_result name Acc r m = record r { a = modified name r r.a; p = modify_flags name r r.a }
+modify_result name Acc r m = record r { a = modified_value name r r.a; p = modify_flags name r r.a }
 modify_result name _ r m = record r { p = modify_flags name r m }
 
 -- after an instruction without an operand

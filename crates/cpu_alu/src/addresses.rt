@@ -1,6 +1,6 @@
 //! Addresses, which wrap at 65,536, in the zero page or in the stack's page.
 ghost use Rattle.std.specs.Prelude.{◌≡◌, ◌+◌, ◌<◌, ◌%◌};
-ghost use Rattle.cpu_alu.specs.Addresses.{word, wrap, place, stack, stacked, past, crosses_page, target};
+ghost use Rattle.cpu_alu.specs.Addresses.{word, wrap, place, stack, with_stack_moved, with_pc_past, crosses_page, target};
 
 use crate::Regs;
 
@@ -57,7 +57,7 @@ impl Regs {
     /// Moves S up by `k`, within its page.
     #[inline(always)]
     pub fn move_stack(&mut self, k: u8)
-        ensures { self.new ≡ stacked self.old k }
+        ensures { self.new ≡ with_stack_moved self.old k }
     {
         self.s = self.s.wrapping_add(k);
     }
@@ -65,7 +65,7 @@ impl Regs {
     /// Moves PC behind an instruction of so many bytes.
     #[inline(always)]
     pub fn move_past(&mut self, bytes: u8)
-        ensures { self.new ≡ past self.old bytes }
+        ensures { self.new ≡ with_pc_past self.old bytes }
     {
         self.pc = self.place(bytes);
     }

@@ -1,6 +1,6 @@
 //! What each instruction makes of the registers, and what it writes.
 ghost use Rattle.std.specs.Prelude.{◌≡◌};
-ghost use Rattle.cpu_alu.specs.Instructions.{stored, pushed, taken, is_decimal, with_a, with_x, with_y, with_sum, compared, with_masked_z, bit_flags, read_result, modified, modify_flags, modify_result, implied_result, pull_result};
+ghost use Rattle.cpu_alu.specs.Instructions.{stored_value, pushed_value, takes_branch, is_decimal, with_a, with_x, with_y, with_sum, after_compare, with_masked_z, bit_flags, read_result, modified_value, modify_flags, modify_result, implied_result, pull_result};
 
 use crate::arithmetic::{adc, asl, bit_7, compare, lsr, rol, ror, sbc};
 use crate::flags::{
@@ -35,7 +35,7 @@ impl Regs {
     /// What a store writes.
     #[inline(always)]
     pub fn stored(&self, mnemonic: Mnemonic) -> u8
-        ensures { result ≡ stored mnemonic self.now }
+        ensures { result ≡ stored_value mnemonic self.now }
     {
         match mnemonic {
             Mnemonic::Sta => self.a,
@@ -48,7 +48,7 @@ impl Regs {
     /// What a push writes: flags have bits 4 and 5 set.
     #[inline(always)]
     pub fn pushed(&self, mnemonic: Mnemonic) -> u8
-        ensures { result ≡ pushed mnemonic self.now }
+        ensures { result ≡ pushed_value mnemonic self.now }
     {
         match mnemonic {
             Mnemonic::Pha => self.a,
@@ -61,7 +61,7 @@ impl Regs {
     /// Whether a branch is taken.
     #[inline(always)]
     pub fn takes(&self, branch: Mnemonic) -> bool
-        ensures { result ≡ taken branch self.now }
+        ensures { result ≡ takes_branch branch self.now }
     {
         match branch {
             Mnemonic::Bpl => !has_flag(self.p, NEGATIVE),
@@ -121,7 +121,7 @@ impl Regs {
 
     #[inline(always)]
     fn take_compared(&mut self, value: u8, m: u8)
-        ensures { self.new ≡ compared self.old value m }
+        ensures { self.new ≡ after_compare self.old value m }
     {
         self.p = with_n_z_c(self.p, compare(value, m));
     }
@@ -162,7 +162,7 @@ impl Regs {
 
     /// What a modify instruction makes of the byte `m`.
     pub fn modified(&self, mnemonic: Mnemonic, m: u8) -> u8
-        ensures { result ≡ modified mnemonic self.now m }
+        ensures { result ≡ modified_value mnemonic self.now m }
     {
         let c = has_flag(self.p, CARRY);
         match mnemonic {

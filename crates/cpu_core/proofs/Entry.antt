@@ -13,16 +13,16 @@ use Rattle.cpu_alu.specs.declared.Cycle.TheVariants.{Read}
 use Rattle.cpu_alu.specs.declared.uses.BusUse.{BusUse}
 use Rattle.cpu_alu.specs.declared.uses.BusUse.TheVariants.{Implied, Reads, Stores, Shifts, Modifies, Pushes, Pulls, Branches, Jumps, Calls, Returns, Resumes, Breaks}
 use Rattle.cpu_alu.specs.Addresses.{place, crosses_page}
-use Rattle.cpu_alu.specs.Instructions.{bus_use, taken}
+use Rattle.cpu_alu.specs.Instructions.{bus_use, takes_branch}
 use Rattle.cpu_core.specs.declared.machine.Access.{Access}
 use Rattle.cpu_core.specs.declared.machine.Access.TheVariants.{Load, Store, Change}
 use Rattle.cpu_core.specs.declared.machine.Machine.{Machine}
 use Rattle.cpu_core.specs.declared.machine.Phase.TheVariants as phase
 use Rattle.cpu_core.specs.declared.machine.Start.{Start}
 use Rattle.cpu_core.specs.Accesses.{byte, row_at, waits, reach, address, operand, modify_form, branch_form}
-use Rattle.cpu_core.specs.Phases.{at_operand, done, indexed, left, outcome, wants, is_fetch, is_stuck}
-use Rattle.cpu_core.specs.Starts.{in_memory, start_by, start_change, start_implied, start_jump, start_in, start_at, started}
-use Rattle.cpu_core.specs.Ties.{GoesOn, first}
+use Rattle.cpu_core.specs.CodePhases.{at_operand, after_operand, indexed_cycles, cycles_left, outcome, wants, is_fetch, is_stuck}
+use Rattle.cpu_core.specs.CodeStarts.{in_memory, start_by, start_change, start_implied, start_jump, start_in, start_at, start_leaves}
+use Rattle.cpu_core.specs.CodeTies.{GoesOn, first}
 
 -- the operand's byte comes one cycle later where the page is crossed
 operand_at : (c : Bool) (a b q : Cycle) (o : Option ℕ) (f : List (Option ℕ))
@@ -36,36 +36,36 @@ operand_by true a b d q o f = refl
 operand_by false a b d q o f = refl
 
 -- the accesses left are those of the form
-started-left : (part : Part) (w : Mode) (k : Access) (always : Bool) (m : Machine) (o : Option ℕ) (f : List (Option ℕ))
+start_leaves-cycles_left : (part : Part) (w : Mode) (k : Access) (always : Bool) (m : Machine) (o : Option ℕ) (f : List (Option ℕ))
     → reach part w always m.work (o ∷ f) ++ at_operand part k m.row (address w m.work (o ∷ f)) m.work (operand part w always m.work (o ∷ f))
-    ≡ left part (started (in_memory k always w) m) f
-started-left part AbsX k always m o f =
+    ≡ cycles_left part (start_leaves (in_memory k always w) m) f
+start_leaves-cycles_left part AbsX k always m o f =
     let r : Regs = m.work in
-    let F : ℕ → List Cycle = λ n. Read (place r 1) ∷ Read (place r 2) ∷ indexed part k m.row r.x always (byte f 0) (byte f 1) (place r 2) r n in
+    let F : ℕ → List Cycle = λ n. Read (place r 1) ∷ Read (place r 2) ∷ indexed_cycles part k m.row r.x always (byte f 0) (byte f 1) (place r 2) r n in
     ap F (operand_at (always || crosses_page (byte f 0) r.x) (Read (place r 1)) (Read (place r 2)) _ o f)
-started-left part AbsY k always m o f =
+start_leaves-cycles_left part AbsY k always m o f =
     let r : Regs = m.work in
-    let F : ℕ → List Cycle = λ n. Read (place r 1) ∷ Read (place r 2) ∷ indexed part k m.row r.y always (byte f 0) (byte f 1) (place r 2) r n in
+    let F : ℕ → List Cycle = λ n. Read (place r 1) ∷ Read (place r 2) ∷ indexed_cycles part k m.row r.y always (byte f 0) (byte f 1) (place r 2) r n in
     ap F (operand_at (always || crosses_page (byte f 0) r.y) (Read (place r 1)) (Read (place r 2)) _ o f)
-started-left part IndY k always m o f =
+start_leaves-cycles_left part IndY k always m o f =
     let r : Regs = m.work in
-    let F : ℕ → List Cycle = λ n. Read (place r 1) ∷ Read (byte f 0) ∷ Read ((byte f 0 + 1) % 256) ∷ indexed part k m.row r.y always (byte f 1) (byte f 2) (place r 1) r n in
+    let F : ℕ → List Cycle = λ n. Read (place r 1) ∷ Read (byte f 0) ∷ Read ((byte f 0 + 1) % 256) ∷ indexed_cycles part k m.row r.y always (byte f 1) (byte f 2) (place r 1) r n in
     ap F (operand_by (always || crosses_page (byte f 1) r.y) (Read (place r 1)) (Read (byte f 0)) (Read ((byte f 0 + 1) % 256)) _ o f)
-started-left part _ k always m o f = refl
+start_leaves-cycles_left part _ k always m o f = refl
 
 -- and so are the registers at the end
-started-outcome : (part : Part) (w : Mode) (k : Access) (always : Bool) (m : Machine) (o : Option ℕ) (f : List (Option ℕ))
-    → done part k m.row m.work (operand part w always m.work (o ∷ f)) ≡ outcome part (started (in_memory k always w) m) f
-started-outcome part AbsX k always m o f =
+start_leaves-outcome : (part : Part) (w : Mode) (k : Access) (always : Bool) (m : Machine) (o : Option ℕ) (f : List (Option ℕ))
+    → after_operand part k m.row m.work (operand part w always m.work (o ∷ f)) ≡ outcome part (start_leaves (in_memory k always w) m) f
+start_leaves-outcome part AbsX k always m o f =
     let r : Regs = m.work in
-    ap (done part k m.row r) (operand_at (always || crosses_page (byte f 0) r.x) (Read (place r 1)) (Read (place r 2)) _ o f)
-started-outcome part AbsY k always m o f =
+    ap (after_operand part k m.row r) (operand_at (always || crosses_page (byte f 0) r.x) (Read (place r 1)) (Read (place r 2)) _ o f)
+start_leaves-outcome part AbsY k always m o f =
     let r : Regs = m.work in
-    ap (done part k m.row r) (operand_at (always || crosses_page (byte f 0) r.y) (Read (place r 1)) (Read (place r 2)) _ o f)
-started-outcome part IndY k always m o f =
+    ap (after_operand part k m.row r) (operand_at (always || crosses_page (byte f 0) r.y) (Read (place r 1)) (Read (place r 2)) _ o f)
+start_leaves-outcome part IndY k always m o f =
     let r : Regs = m.work in
-    ap (done part k m.row r) (operand_by (always || crosses_page (byte f 1) r.y) (Read (place r 1)) (Read (byte f 0)) (Read ((byte f 0 + 1) % 256)) _ o f)
-started-outcome part _ k always m o f = refl
+    ap (after_operand part k m.row r) (operand_by (always || crosses_page (byte f 1) r.y) (Read (place r 1)) (Read (byte f 0)) (Read ((byte f 0 + 1) % 256)) _ o f)
+start_leaves-outcome part _ k always m o f = refl
 
 -- a store needs an operand in memory, so that its first cycle reads
 abbrev is_memory : Mode → Bool
@@ -88,27 +88,27 @@ at_once : (part : Part) (k : Access) (w : Mode) (a : ℕ) (m : Machine) → fits
 at_once part Store w a m e n = cc
 at_once part _ w a m e n = refl
 
-started-wanted : (part : Part) (w : Mode) (k : Access) (always : Bool) (m : Machine) → fits k w ≡ true
-    → wants (started (in_memory k always w) m) ≡ first (left part (started (in_memory k always w) m) [])
-started-wanted part Zp k always m e = refl
-started-wanted part ZpX k always m e = refl
-started-wanted part ZpY k always m e = refl
-started-wanted part Abs k always m e = refl
-started-wanted part AbsX k always m e = refl
-started-wanted part AbsY k always m e = refl
-started-wanted part IndX k always m e = refl
-started-wanted part IndY k always m e = refl
-started-wanted part IndZp k always m e = refl
-started-wanted part w k always m e = at_once part k w (place m.work 1) m e refl
+start_leaves-wanted : (part : Part) (w : Mode) (k : Access) (always : Bool) (m : Machine) → fits k w ≡ true
+    → wants (start_leaves (in_memory k always w) m) ≡ first (cycles_left part (start_leaves (in_memory k always w) m) [])
+start_leaves-wanted part Zp k always m e = refl
+start_leaves-wanted part ZpX k always m e = refl
+start_leaves-wanted part ZpY k always m e = refl
+start_leaves-wanted part Abs k always m e = refl
+start_leaves-wanted part AbsX k always m e = refl
+start_leaves-wanted part AbsY k always m e = refl
+start_leaves-wanted part IndX k always m e = refl
+start_leaves-wanted part IndY k always m e = refl
+start_leaves-wanted part IndZp k always m e = refl
+start_leaves-wanted part w k always m e = at_once part k w (place m.work 1) m e refl
 
 -- it reads no opcode, and is not halted
-started-fetch : (w : Mode) (k : Access) (always : Bool) (m : Machine) → is_fetch (started (in_memory k always w) m).phase ≡ false
-started-fetch Zp k always m = refl
-started-fetch _ k always m = refl
+start_leaves-fetch : (w : Mode) (k : Access) (always : Bool) (m : Machine) → is_fetch (start_leaves (in_memory k always w) m).phase ≡ false
+start_leaves-fetch Zp k always m = refl
+start_leaves-fetch _ k always m = refl
 
-started-stuck : (w : Mode) (k : Access) (always : Bool) (m : Machine) → is_stuck (started (in_memory k always w) m).phase ≡ false
-started-stuck Zp k always m = refl
-started-stuck _ k always m = refl
+start_leaves-stuck : (w : Mode) (k : Access) (always : Bool) (m : Machine) → is_stuck (start_leaves (in_memory k always w) m).phase ≡ false
+start_leaves-stuck Zp k always m = refl
+start_leaves-stuck _ k always m = refl
 
 -- a modify form, but for that of A
 modify_form-entered : (part : Part) (w : Mode) → (w ≡ Acc → ⊥) → (row : Row) (always : Bool) (r : Regs) (seen : List (Option ℕ))
@@ -120,44 +120,44 @@ modify_form-entered part _ n row always r seen = refl
 abbrev at_opcode : Machine → Machine
 at_opcode m = record m { phase = phase.Opcode }
 
-reads_go_on : (part : Part) (m : Machine) (op : ℕ) → m.phase ≡ phase.Opcode → row_at part op ≡ Some m.row → bus_use m.row.mnemonic ≡ Reads → GoesOn part m op (started (in_memory Load (waits part Reads) m.row.mode) m)
+reads_go_on : (part : Part) (m : Machine) (op : ℕ) → m.phase ≡ phase.Opcode → row_at part op ≡ Some m.row → bus_use m.row.mnemonic ≡ Reads → GoesOn part m op (start_leaves (in_memory Load (waits part Reads) m.row.mode) m)
 reads_go_on part m op p e u = record {
-  accesses_left = λ f. rw (p, e, u) (started-left part m.row.mode Load (waits part Reads) (at_opcode m) (Some op) f);
-  end = λ f. rw (p, e, u) (started-outcome part m.row.mode Load (waits part Reads) (at_opcode m) (Some op) f);
-  wanted = started-wanted part m.row.mode Load (waits part Reads) m refl;
-  fetch = started-fetch m.row.mode Load (waits part Reads) m;
-  stuck = rw (p, e) (started-stuck m.row.mode Load (waits part Reads) (at_opcode m));
+  accesses_left = λ f. rw (p, e, u) (start_leaves-cycles_left part m.row.mode Load (waits part Reads) (at_opcode m) (Some op) f);
+  end = λ f. rw (p, e, u) (start_leaves-outcome part m.row.mode Load (waits part Reads) (at_opcode m) (Some op) f);
+  wanted = start_leaves-wanted part m.row.mode Load (waits part Reads) m refl;
+  fetch = start_leaves-fetch m.row.mode Load (waits part Reads) m;
+  stuck = rw (p, e) (start_leaves-stuck m.row.mode Load (waits part Reads) (at_opcode m));
 }
 
-stores_go_on : (part : Part) (m : Machine) (op : ℕ) → m.phase ≡ phase.Opcode → row_at part op ≡ Some m.row → bus_use m.row.mnemonic ≡ Stores → fits Store m.row.mode ≡ true → GoesOn part m op (started (in_memory Store (waits part Stores) m.row.mode) m)
+stores_go_on : (part : Part) (m : Machine) (op : ℕ) → m.phase ≡ phase.Opcode → row_at part op ≡ Some m.row → bus_use m.row.mnemonic ≡ Stores → fits Store m.row.mode ≡ true → GoesOn part m op (start_leaves (in_memory Store (waits part Stores) m.row.mode) m)
 stores_go_on part m op p e u n = record {
-  accesses_left = λ f. rw (p, e, u) (started-left part m.row.mode Store (waits part Stores) (at_opcode m) (Some op) f);
-  end = λ f. rw (p, e, u) (started-outcome part m.row.mode Store (waits part Stores) (at_opcode m) (Some op) f);
-  wanted = started-wanted part m.row.mode Store (waits part Stores) m n;
-  fetch = started-fetch m.row.mode Store (waits part Stores) m;
-  stuck = rw (p, e) (started-stuck m.row.mode Store (waits part Stores) (at_opcode m));
+  accesses_left = λ f. rw (p, e, u) (start_leaves-cycles_left part m.row.mode Store (waits part Stores) (at_opcode m) (Some op) f);
+  end = λ f. rw (p, e, u) (start_leaves-outcome part m.row.mode Store (waits part Stores) (at_opcode m) (Some op) f);
+  wanted = start_leaves-wanted part m.row.mode Store (waits part Stores) m n;
+  fetch = start_leaves-fetch m.row.mode Store (waits part Stores) m;
+  stuck = rw (p, e) (start_leaves-stuck m.row.mode Store (waits part Stores) (at_opcode m));
 }
 
-shifts_go_on : (part : Part) (m : Machine) (op : ℕ) → m.phase ≡ phase.Opcode → row_at part op ≡ Some m.row → bus_use m.row.mnemonic ≡ Shifts → (m.row.mode ≡ Acc → ⊥) → GoesOn part m op (started (in_memory Change (waits part Shifts) m.row.mode) m)
+shifts_go_on : (part : Part) (m : Machine) (op : ℕ) → m.phase ≡ phase.Opcode → row_at part op ≡ Some m.row → bus_use m.row.mnemonic ≡ Shifts → (m.row.mode ≡ Acc → ⊥) → GoesOn part m op (start_leaves (in_memory Change (waits part Shifts) m.row.mode) m)
 shifts_go_on part m op p e u n = record {
   accesses_left = λ f.
       let g = modify_form-entered part m.row.mode n m.row (waits part Shifts) m.work (Some op ∷ f) in
-      rw (p, e, u, g) (started-left part m.row.mode Change (waits part Shifts) (at_opcode m) (Some op) f);
-  end = λ f. rw (p, e, u) (started-outcome part m.row.mode Change (waits part Shifts) (at_opcode m) (Some op) f);
-  wanted = started-wanted part m.row.mode Change (waits part Shifts) m refl;
-  fetch = started-fetch m.row.mode Change (waits part Shifts) m;
-  stuck = rw (p, e) (started-stuck m.row.mode Change (waits part Shifts) (at_opcode m));
+      rw (p, e, u, g) (start_leaves-cycles_left part m.row.mode Change (waits part Shifts) (at_opcode m) (Some op) f);
+  end = λ f. rw (p, e, u) (start_leaves-outcome part m.row.mode Change (waits part Shifts) (at_opcode m) (Some op) f);
+  wanted = start_leaves-wanted part m.row.mode Change (waits part Shifts) m refl;
+  fetch = start_leaves-fetch m.row.mode Change (waits part Shifts) m;
+  stuck = rw (p, e) (start_leaves-stuck m.row.mode Change (waits part Shifts) (at_opcode m));
 }
 
-modifies_go_on : (part : Part) (m : Machine) (op : ℕ) → m.phase ≡ phase.Opcode → row_at part op ≡ Some m.row → bus_use m.row.mnemonic ≡ Modifies → (m.row.mode ≡ Acc → ⊥) → GoesOn part m op (started (in_memory Change (waits part Modifies) m.row.mode) m)
+modifies_go_on : (part : Part) (m : Machine) (op : ℕ) → m.phase ≡ phase.Opcode → row_at part op ≡ Some m.row → bus_use m.row.mnemonic ≡ Modifies → (m.row.mode ≡ Acc → ⊥) → GoesOn part m op (start_leaves (in_memory Change (waits part Modifies) m.row.mode) m)
 modifies_go_on part m op p e u n = record {
   accesses_left = λ f.
       let g = modify_form-entered part m.row.mode n m.row (waits part Modifies) m.work (Some op ∷ f) in
-      rw (p, e, u, g) (started-left part m.row.mode Change (waits part Modifies) (at_opcode m) (Some op) f);
-  end = λ f. rw (p, e, u) (started-outcome part m.row.mode Change (waits part Modifies) (at_opcode m) (Some op) f);
-  wanted = started-wanted part m.row.mode Change (waits part Modifies) m refl;
-  fetch = started-fetch m.row.mode Change (waits part Modifies) m;
-  stuck = rw (p, e) (started-stuck m.row.mode Change (waits part Modifies) (at_opcode m));
+      rw (p, e, u, g) (start_leaves-cycles_left part m.row.mode Change (waits part Modifies) (at_opcode m) (Some op) f);
+  end = λ f. rw (p, e, u) (start_leaves-outcome part m.row.mode Change (waits part Modifies) (at_opcode m) (Some op) f);
+  wanted = start_leaves-wanted part m.row.mode Change (waits part Modifies) m refl;
+  fetch = start_leaves-fetch m.row.mode Change (waits part Modifies) m;
+  stuck = rw (p, e) (start_leaves-stuck m.row.mode Change (waits part Modifies) (at_opcode m));
 }
 
 -- the modes of a jump, and those of a store
@@ -179,7 +179,7 @@ known_at Nmos op h = agree_below_at (λ k. known_in (row_at Nmos k)) (λ _. true
 known_at Cmos op h = agree_below_at (λ k. known_in (row_at Cmos k)) (λ _. true) 256 op refl h
 
 -- a shift, INC or DEC, of A or in memory
-shifts_by : (part : Part) (m : Machine) (op : ℕ) (w : Mode) → m.phase ≡ phase.Opcode → row_at part op ≡ Some m.row → bus_use m.row.mnemonic ≡ Shifts → m.row.mode ≡ w → GoesOn part m op (started (start_change (waits part Shifts) w) m)
+shifts_by : (part : Part) (m : Machine) (op : ℕ) (w : Mode) → m.phase ≡ phase.Opcode → row_at part op ≡ Some m.row → bus_use m.row.mnemonic ≡ Shifts → m.row.mode ≡ w → GoesOn part m op (start_leaves (start_change (waits part Shifts) w) m)
 shifts_by part m op Acc p e b v = record {
   accesses_left = λ f. rw (p, e, b, v) refl;
   end = λ f. rw (p, e, b, v) refl;
@@ -187,9 +187,9 @@ shifts_by part m op Acc p e b v = record {
   fetch = refl;
   stuck = rw (p, e) refl;
 }
-shifts_by part m op w p e b v = subst (λ (x : Mode). GoesOn part m op (started (in_memory Change (waits part Shifts) x) m)) v (shifts_go_on part m op p e b (λ a. cc))
+shifts_by part m op w p e b v = subst (λ (x : Mode). GoesOn part m op (start_leaves (in_memory Change (waits part Shifts) x) m)) v (shifts_go_on part m op p e b (λ a. cc))
 
-modifies_by : (part : Part) (m : Machine) (op : ℕ) (w : Mode) → m.phase ≡ phase.Opcode → row_at part op ≡ Some m.row → bus_use m.row.mnemonic ≡ Modifies → m.row.mode ≡ w → GoesOn part m op (started (start_change (waits part Modifies) w) m)
+modifies_by : (part : Part) (m : Machine) (op : ℕ) (w : Mode) → m.phase ≡ phase.Opcode → row_at part op ≡ Some m.row → bus_use m.row.mnemonic ≡ Modifies → m.row.mode ≡ w → GoesOn part m op (start_leaves (start_change (waits part Modifies) w) m)
 modifies_by part m op Acc p e b v = record {
   accesses_left = λ f. rw (p, e, b, v) refl;
   end = λ f. rw (p, e, b, v) refl;
@@ -197,10 +197,10 @@ modifies_by part m op Acc p e b v = record {
   fetch = refl;
   stuck = rw (p, e) refl;
 }
-modifies_by part m op w p e b v = subst (λ (x : Mode). GoesOn part m op (started (in_memory Change (waits part Modifies) x) m)) v (modifies_go_on part m op p e b (λ a. cc))
+modifies_by part m op w p e b v = subst (λ (x : Mode). GoesOn part m op (start_leaves (in_memory Change (waits part Modifies) x) m)) v (modifies_go_on part m op p e b (λ a. cc))
 
 -- an instruction without an operand
-implied_by : (part : Part) (m : Machine) (op : ℕ) (w : Mode) → m.phase ≡ phase.Opcode → row_at part op ≡ Some m.row → bus_use m.row.mnemonic ≡ Implied → m.row.mode ≡ w → ((start_implied w).phase ≡ phase.Opcode → ⊥) → GoesOn part m op (started (start_implied w) m)
+implied_by : (part : Part) (m : Machine) (op : ℕ) (w : Mode) → m.phase ≡ phase.Opcode → row_at part op ≡ Some m.row → bus_use m.row.mnemonic ≡ Implied → m.row.mode ≡ w → ((start_implied w).phase ≡ phase.Opcode → ⊥) → GoesOn part m op (start_leaves (start_implied w) m)
 implied_by part m op Spare p e b v n = absurd (n refl)
 implied_by part m op _ p e b v n = record {
   accesses_left = λ f. rw (p, e, b, v) refl;
@@ -211,7 +211,7 @@ implied_by part m op _ p e b v n = record {
 }
 
 -- JMP
-jumps_by : (part : Part) (m : Machine) (op : ℕ) (w : Mode) → m.phase ≡ phase.Opcode → row_at part op ≡ Some m.row → bus_use m.row.mnemonic ≡ Jumps → m.row.mode ≡ w → known_by Jumps w ≡ true → GoesOn part m op (started (start_jump w) m)
+jumps_by : (part : Part) (m : Machine) (op : ℕ) (w : Mode) → m.phase ≡ phase.Opcode → row_at part op ≡ Some m.row → bus_use m.row.mnemonic ≡ Jumps → m.row.mode ≡ w → known_by Jumps w ≡ true → GoesOn part m op (start_leaves (start_jump w) m)
 jumps_by part m op Abs p e b v k = record {
   accesses_left = λ f. rw (p, e, b, v) refl;
   end = λ f. rw (p, e, b, v) refl;
@@ -245,18 +245,18 @@ branch-first part false r seen = refl
 
 -- each opcode but those that do nothing
 goes_by : (part : Part) (m : Machine) (op : ℕ) (u : BusUse) (w : Mode) → m.phase ≡ phase.Opcode → row_at part op ≡ Some m.row → bus_use m.row.mnemonic ≡ u → m.row.mode ≡ w
-    → ((start_by part u w).phase ≡ phase.Opcode → ⊥) → known_by u w ≡ true → GoesOn part m op (started (start_by part u w) m)
+    → ((start_by part u w).phase ≡ phase.Opcode → ⊥) → known_by u w ≡ true → GoesOn part m op (start_leaves (start_by part u w) m)
 goes_by part m op Implied w p e b v n k = implied_by part m op w p e b v n
-goes_by part m op Reads w p e b v n k = subst (λ (x : Mode). GoesOn part m op (started (in_memory Load (waits part Reads) x) m)) v (reads_go_on part m op p e b)
+goes_by part m op Reads w p e b v n k = subst (λ (x : Mode). GoesOn part m op (start_leaves (in_memory Load (waits part Reads) x) m)) v (reads_go_on part m op p e b)
 goes_by part m op Stores w p e b v n k =
-    subst (λ (x : Mode). GoesOn part m op (started (in_memory Store (waits part Stores) x) m)) v (stores_go_on part m op p e b (ap (fits Store) v ∙ k))
+    subst (λ (x : Mode). GoesOn part m op (start_leaves (in_memory Store (waits part Stores) x) m)) v (stores_go_on part m op p e b (ap (fits Store) v ∙ k))
 goes_by part m op Shifts w p e b v n k = shifts_by part m op w p e b v
 goes_by part m op Modifies w p e b v n k = modifies_by part m op w p e b v
 goes_by part m op Jumps w p e b v n k = jumps_by part m op w p e b v k
 goes_by part m op Branches w p e b v n k = record {
-  accesses_left = λ f. rw (p, e, b) (branch-seen part (taken m.row.mnemonic m.work) m.work (Some op) None f);
+  accesses_left = λ f. rw (p, e, b) (branch-seen part (takes_branch m.row.mnemonic m.work) m.work (Some op) None f);
   end = λ f. rw (p, e, b) refl;
-  wanted = branch-first part (taken m.row.mnemonic m.work) m.work (None ∷ []);
+  wanted = branch-first part (takes_branch m.row.mnemonic m.work) m.work (None ∷ []);
   fetch = refl;
   stuck = rw (p, e) refl;
 }
@@ -307,11 +307,11 @@ start_is : (part : Part) (m : Machine) (op : ℕ) → row_at part op ≡ Some m.
 start_is part m op e = ap (start_in part) e
 
 pub goes_on : (part : Part) (m : Machine) (op : ℕ) (s : Start) → op < 256 → m.phase ≡ phase.Opcode → row_at part op ≡ Some m.row → s ≡ start_at part op → (s.phase ≡ phase.Opcode → ⊥)
-    → GoesOn part m op (started s m)
+    → GoesOn part m op (start_leaves s m)
 goes_on part m op s h p e is n =
     let same : s ≡ start_by part (bus_use m.row.mnemonic) m.row.mode = is ∙ start_is part m op e in
     let k : known_by (bus_use m.row.mnemonic) m.row.mode ≡ true = ap known_in (sym e) ∙ known_at part op h in
-    subst (λ (x : Start). GoesOn part m op (started x m)) (sym same)
+    subst (λ (x : Start). GoesOn part m op (start_leaves x m)) (sym same)
     (goes_by part m op (bus_use m.row.mnemonic) m.row.mode p e refl refl (λ o. n (ap (λ (x : Start). x.phase) same ∙ o)) k)
 
 -- what begins with no cycle of its own does nothing

@@ -6,8 +6,8 @@ use Rattle.cpu_core.specs.contracts.machine.Phase.{the_type}
 use Rattle.cpu_core.specs.declared.machine.Machine.{Machine}
 use Rattle.cpu_core.specs.declared.machine.Phase.{Phase}
 use Rattle.cpu_core.specs.declared.machine.Phase.TheVariants.{Halted}
-use Rattle.cpu_core.specs.Phases.{is_stuck}
-use Rattle.cpu_core.specs.Ties.{GoesOn, StepsWhere, Steps}
+use Rattle.cpu_core.specs.CodePhases.{is_stuck}
+use Rattle.cpu_core.specs.CodeTies.{GoesOn, StepsWhere, Steps}
 
 not_stuck : (k : Phase) (n : ℕ) → tag_of the_type k < n → n ≤ 60 → is_stuck k ≡ false
 not_stuck Halted n low bound = absurd (omega (arith, low, bound))

@@ -9,14 +9,14 @@ use Rattle.cpu_core.specs.declared.Sequence.{Sequence}
 use Rattle.cpu_core.specs.declared.Sequence.TheVariants.{Instruction, Reset, Nmi, Irq}
 use Rattle.cpu_core.specs.State.{State}
 use Rattle.cpu_core.specs.Accesses.{row_at}
-use Rattle.cpu_core.specs.Sequences.{accesses, result_of, next, shown, halts, halted, given, is_start, after, HasEnded}
+use Rattle.cpu_core.specs.Sequences.{accesses, result_of, next_cycle, shown_byte, halts, halted, after_byte, is_start, after, HasEnded}
 use Rattle.cpu_core.specs.declared.machine.Machine.{Machine}
 use Rattle.cpu_core.specs.declared.machine.Access.{Access}
 use Rattle.cpu_core.specs.declared.machine.Access.TheVariants.{Store}
 use Rattle.cpu_core.specs.declared.machine.Phase.{Phase}
 use Rattle.cpu_core.specs.declared.machine.Phase.TheVariants.{Opcode, Halted, Over}
-use Rattle.cpu_core.specs.Phases.{left, left_in, outcome, wants, wants_in, at_operand, reached, is_store, value_by, is_fetch, is_stuck}
-use Rattle.cpu_core.specs.Ties.{Tied, GoesOn, StepsWhere, Steps, first}
+use Rattle.cpu_core.specs.CodePhases.{cycles_left, cycles_left_in, outcome, wants, wants_in, at_operand, machine_at_operand, is_store, value_by, is_fetch, is_stuck}
+use Rattle.cpu_core.specs.CodeTies.{Tied, GoesOn, StepsWhere, Steps, first}
 
 -- the n-th element is the first of what is left from n on
 slice_get-first : (l : List Cycle) (n : ℕ) → slice_get l n ≡ first (drop n l)
@@ -32,8 +32,8 @@ drop-suc (a ∷ l) zero = refl
 drop-suc (a ∷ l) (suc n) = drop-suc l n
 
 -- the next access is that in progress
-pub next-tied : (part : Part) (m : Machine) (s : State) → Tied part m s → next part s ≡ wants m
-next-tied part m s t =
+pub next_cycle-tied : (part : Part) (m : Machine) (s : State) → Tied part m s → next_cycle part s ≡ wants m
+next_cycle-tied part m s t =
     slice_get-first (accesses part s.sequence s.regs s.seen) (length s.seen)
     ∙ (ap first (ap (λ (l : List (Option ℕ)). drop (length s.seen) (accesses part s.sequence s.regs l)) (sym (append-nil s.seen)) ∙ t.accesses_left []) ∙ sym t.wanted)
 
@@ -44,7 +44,7 @@ longer : (seen : List (Option ℕ)) (x : Option ℕ) → length (seen ++ x ∷ [
 longer seen x = omega (arith, length-append seen (x ∷ []))
 
 -- the cycle that reads an opcode shows it
-fetch-shows : (k : Phase) (part : Part) (m : Machine) (b : ℕ) → is_fetch k ≡ true → shown (first (left_in part k m [])) b ≡ Some b
+fetch-shows : (k : Phase) (part : Part) (m : Machine) (b : ℕ) → is_fetch k ≡ true → shown_byte (first (cycles_left_in part k m [])) b ≡ Some b
 fetch-shows Opcode part m b e = refl
 fetch-shows _ part m b e = cc
 
@@ -81,12 +81,12 @@ halts-step (y ∷ z ∷ seen) part sequence x b start e h = rw e (halts-more y z
 
 -- one more cycle: a write shows nothing, whatever byte it was given
 abbrev pub one_more : Part → State → ℕ → State
-one_more part s byte = record s { seen = s.seen ++ shown (next part s) byte ∷ [] }
+one_more part s byte = record s { seen = s.seen ++ shown_byte (next_cycle part s) byte ∷ [] }
 
 -- a phase that goes on keeps the tie
 pub tied-step : (part : Part) (m then : Machine) (s : State) (b : ℕ) → Tied part m s → GoesOn part m b then → Tied part then (one_more part s b)
 tied-step part m then s b t g =
-    let x : Option ℕ = shown (first (left part m [])) b in
+    let x : Option ℕ = shown_byte (first (cycles_left part m [])) b in
     let seen : List (Option ℕ) = s.seen in
     let done : Tied part then (record s { seen = seen ++ x ∷ [] }) = record {
       accesses_left = λ f.
@@ -99,7 +99,7 @@ tied-step part m then s b t g =
       fetch = g.fetch ∙ sym (not_start seen x s.sequence);
       stuck = g.stuck ∙ sym (halts-step seen part s.sequence x b (is_fetch m.phase) t.fetch (fetch-shows m.phase part m b));
     } in
-    subst (λ (o : Option Cycle). Tied part then (record s { seen = seen ++ shown o b ∷ [] })) (sym (next-tied part m s t ∙ t.wanted)) done
+    subst (λ (o : Option Cycle). Tied part then (record s { seen = seen ++ shown_byte o b ∷ [] })) (sym (next_cycle-tied part m s t ∙ t.wanted)) done
 
 some_none : IsSome (let o : Option Cycle = None in o) → ⊥
 some_none s = cc
@@ -115,16 +115,16 @@ over_wants : (k : Phase) (m : Machine) → k ≡ Over → IsNone (wants_in k m)
 over_wants Over m e = refl
 over_wants other m e = cc
 
-pub over_iff : (part : Part) (m : Machine) (s : State) → Tied part m s → (m.phase ≡ Over) ↔ IsNone (next part s)
+pub over_iff : (part : Part) (m : Machine) (s : State) → Tied part m s → (m.phase ≡ Over) ↔ IsNone (next_cycle part s)
 over_iff part m s t = (
-  (λ e. subst (λ (o : Option Cycle). IsNone o) (sym (next-tied part m s t)) (over_wants m.phase m e)),
-  (λ n. wants_over m.phase m (subst (λ (o : Option Cycle). IsNone o) (next-tied part m s t) n)),
+  (λ e. subst (λ (o : Option Cycle). IsNone o) (sym (next_cycle-tied part m s t)) (over_wants m.phase m e)),
+  (λ n. wants_over m.phase m (subst (λ (o : Option Cycle). IsNone o) (next_cycle-tied part m s t) n)),
 )
 
-pub not_over : (part : Part) (m : Machine) (s : State) → Tied part m s → IsSome (next part s) → m.phase ≡ Over → ⊥
+pub not_over : (part : Part) (m : Machine) (s : State) → Tied part m s → IsSome (next_cycle part s) → m.phase ≡ Over → ⊥
 not_over part m s t h e =
     let n : wants m ≡ None = rw e refl in
-    some_none (subst (λ (o : Option Cycle). IsSome o) (next-tied part m s t ∙ n) h)
+    some_none (subst (λ (o : Option Cycle). IsSome o) (next_cycle-tied part m s t ∙ n) h)
 
 -- the 65C02 never halts
 halts-cmos : (seen : List (Option ℕ)) (sequence : Sequence) → halts seen Cmos sequence ≡ false
@@ -145,7 +145,7 @@ stuck-is Halted e = refl
 stuck-is other e = cc
 
 -- a step keeps it too: a halted part stays as it is
-tied-by : (stuck : Bool) (part : Part) (m then : Machine) (s : State) (b : ℕ) → Tied part m s → stuck ≡ halted part s → StepsWhere stuck part m b then → Tied part then (given part s b)
+tied-by : (stuck : Bool) (part : Part) (m then : Machine) (s : State) (b : ℕ) → Tied part m s → stuck ≡ halted part s → StepsWhere stuck part m b then → Tied part then (after_byte part s b)
 tied-by true part m then s b t e stays =
     let h : halted part s ≡ true = sym e in
     rw stays (rw h t)
@@ -153,16 +153,16 @@ tied-by false part m then s b t e goes_on =
     let h : halted part s ≡ false = sym e in
     rw h (tied-step part m then s b t goes_on)
 
-pub tied-given : (part : Part) (m then : Machine) (s : State) (b : ℕ) → Tied part m s → Steps part m b then → Tied part then (given part s b)
-tied-given part m then s b t g = tied-by (is_stuck m.phase) part m then s b t (stuck-tied part m s t) g
+pub tied-after_byte : (part : Part) (m then : Machine) (s : State) (b : ℕ) → Tied part m s → Steps part m b then → Tied part then (after_byte part s b)
+tied-after_byte part m then s b t g = tied-by (is_stuck m.phase) part m then s b t (stuck-tied part m s t) g
 
-given-regs : (h : Bool) (part : Part) (s : State) (b : ℕ) → (cond h s (one_more part s b)).regs ≡ s.regs
-given-regs true part s b = refl
-given-regs false part s b = refl
+after_byte-regs : (h : Bool) (part : Part) (s : State) (b : ℕ) → (cond h s (one_more part s b)).regs ≡ s.regs
+after_byte-regs true part s b = refl
+after_byte-regs false part s b = refl
 
 -- a cycle leaves the registers at the start alone
-pub regs-given : (part : Part) (s : State) (b : ℕ) → (given part s b).regs ≡ s.regs
-regs-given part s b = given-regs (halted part s) part s b
+pub regs-after_byte : (part : Part) (s : State) (b : ℕ) → (after_byte part s b).regs ≡ s.regs
+regs-after_byte part s b = after_byte-regs (halted part s) part s b
 
 -- the registers at the end are those that are worked on
 work-over : (part : Part) (m : Machine) (s : State) → Tied part m s → outcome part m [] ≡ m.work → m.work ≡ after part s
@@ -181,5 +181,5 @@ wanted_by part Store m a = refl
 wanted_by part other m a = refl
 
 -- the access at the operand
-pub reached-wanted : (part : Part) (m : Machine) (a : ℕ) → wants (reached m a) ≡ first (left part (reached m a) [])
-reached-wanted part m a = wanted_by part m.start.access m a
+pub machine_at_operand-wanted : (part : Part) (m : Machine) (a : ℕ) → wants (machine_at_operand m a) ≡ first (cycles_left part (machine_at_operand m a) [])
+machine_at_operand-wanted part m a = wanted_by part m.start.access m a

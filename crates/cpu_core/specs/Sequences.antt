@@ -15,7 +15,7 @@ use Rattle.cpu_core.specs.declared.Sequence.{Sequence}
 use Rattle.cpu_core.specs.declared.Sequence.TheVariants.{Instruction, Reset, Nmi, Irq}
 use Rattle.cpu_core.specs.State.{State}
 use Rattle.cpu_core.specs.Accesses.{byte, row_at, form_of}
-use Rattle.cpu_core.specs.Results.{executed_of, vectored}
+use Rattle.cpu_core.specs.Results.{after_opcode, after_vector}
 
 -- an interrupt pushes PC and the flags
 abbrev pub interrupt : ℕ → Regs → List Cycle
@@ -37,17 +37,17 @@ accesses part Irq r seen = interrupt 0xFFFE r
 
 -- the registers after a sequence that is over
 abbrev pub result_of : Part → Sequence → Regs → List (Option ℕ) → Regs
-result_of part Instruction r seen = executed_of part (row_at part (byte seen 0)) r seen
-result_of part _ r seen = vectored part r seen
+result_of part Instruction r seen = after_opcode part (row_at part (byte seen 0)) r seen
+result_of part _ r seen = after_vector part r seen
 
 -- the access of the cycle in progress, or None where the sequence is over
-abbrev pub next : Part → State → Option Cycle
-next part s = slice_get (accesses part s.sequence s.regs s.seen) (length s.seen)
+abbrev pub next_cycle : Part → State → Option Cycle
+next_cycle part s = slice_get (accesses part s.sequence s.regs s.seen) (length s.seen)
 
 -- what a cycle shows: the byte for a read, nothing for a write
-abbrev pub shown : Option Cycle → ℕ → Option ℕ
-shown (Some (Read at)) byte = Some byte
-shown _ byte = None
+abbrev pub shown_byte : Option Cycle → ℕ → Option ℕ
+shown_byte (Some (Read at)) byte = Some byte
+shown_byte _ byte = None
 
 -- whether the NMOS part has read an opcode without an instruction
 abbrev pub halts : List (Option ℕ) → Part → Sequence → Bool
@@ -68,15 +68,15 @@ abbrev pub starting : State → Bool
 starting s = is_start s.seen s.sequence
 
 -- one cycle later: halted, the part reads the opcode's address again and again
-abbrev pub given : Part → State → ℕ → State
-given part s byte = cond (halted part s) s (record s { seen = s.seen ++ shown (next part s) byte ∷ [] })
+abbrev pub after_byte : Part → State → ℕ → State
+after_byte part s byte = cond (halted part s) s (record s { seen = s.seen ++ shown_byte (next_cycle part s) byte ∷ [] })
 
 abbrev pub after : Part → State → Regs
 after part s = result_of part s.sequence s.regs s.seen
 
 -- what begins at a look at the lines: NMI, else IRQ where I is clear, else the next instruction
-abbrev pub looked : Bool → Bool → Regs → Sequence
-looked nmi irq r = cond nmi Nmi (cond (irq && not (has_flag r.p INTERRUPT)) Irq Instruction)
+abbrev pub sequence_at_look : Bool → Bool → Regs → Sequence
+sequence_at_look nmi irq r = cond nmi Nmi (cond (irq && not (has_flag r.p INTERRUPT)) Irq Instruction)
 
 -- a sequence that begins
 abbrev pub fresh : Sequence → Regs → State
@@ -97,4 +97,4 @@ MayTakeJust part op = IfSome (row_at part op) (λ (row : Row). (r : Regs) × (le
 
 -- it is over, or halted for good but for a reset
 abbrev pub HasEnded : Part → State → Type 0
-HasEnded part s = IsNone (next part s) ⊎ IsTrue (halted part s)
+HasEnded part s = IsNone (next_cycle part s) ⊎ IsTrue (halted part s)

@@ -1,7 +1,7 @@
 //! The machine that carries out a sequence: the cycle in progress, and what is latched for the later ones.
 ghost use Rattle.std.specs.Prelude.{◌≡◌};
 ghost use Rattle.cpu_alu.specs.Addresses.{place, stack};
-ghost use Rattle.cpu_core.specs.Phases.{reading, writing, ended, reached, goes_to, pushing, index_of};
+ghost use Rattle.cpu_core.specs.CodePhases.{machine_reading, machine_writing, machine_at_end, machine_at_operand, goes_to, machine_pushing, index_of};
 
 use cpu_alu::Regs;
 use op_table::Row;
@@ -205,7 +205,7 @@ impl Machine {
     /// Goes on to a cycle that reads.
     #[inline(always)]
     pub(crate) fn read(&mut self, phase: Phase, at: u16)
-        ensures { self.new ≡ reading self.old phase at }
+        ensures { self.new ≡ machine_reading self.old phase at }
     {
         self.phase = phase;
         self.at = at;
@@ -215,7 +215,7 @@ impl Machine {
     /// Goes on to a cycle that reads byte `n` of the instruction.
     #[inline(always)]
     pub(crate) fn read_place(&mut self, phase: Phase, n: u8)
-        ensures { self.new ≡ reading self.old phase (place self.old.work n) }
+        ensures { self.new ≡ machine_reading self.old phase (place self.old.work n) }
     {
         let at = self.work.place(n);
         self.read(phase, at);
@@ -224,7 +224,7 @@ impl Machine {
     /// Goes on to a cycle that reads the stack at `k` above S.
     #[inline(always)]
     pub(crate) fn read_stack(&mut self, phase: Phase, k: u8)
-        ensures { self.new ≡ reading self.old phase (stack self.old.work k) }
+        ensures { self.new ≡ machine_reading self.old phase (stack self.old.work k) }
     {
         let at = self.work.stack(k);
         self.read(phase, at);
@@ -233,7 +233,7 @@ impl Machine {
     /// Goes on to a cycle that writes to the stack at `k` above S.
     #[inline(always)]
     pub(crate) fn write_stack(&mut self, phase: Phase, k: u8, value: u8)
-        ensures { self.new ≡ writing self.old phase (stack self.old.work k) value }
+        ensures { self.new ≡ machine_writing self.old phase (stack self.old.work k) value }
     {
         self.phase = phase;
         self.at = self.work.stack(k);
@@ -256,7 +256,7 @@ impl Machine {
     /// Goes on to the cycle at the operand, whose address is `at`.
     #[inline(always)]
     pub(crate) fn reach(&mut self, at: u16)
-        ensures { self.new ≡ reached self.old at }
+        ensures { self.new ≡ machine_at_operand self.old at }
     {
         self.phase = Phase::Operand;
         self.at = at;
@@ -272,7 +272,7 @@ impl Machine {
     /// Ends the sequence at the address `pc`.
     #[inline(always)]
     pub(crate) fn jump(&mut self, pc: u16)
-        ensures { self.new ≡ ended self.old (goes_to self.old.work pc) }
+        ensures { self.new ≡ machine_at_end self.old (goes_to self.old.work pc) }
     {
         self.work.pc = pc;
         self.phase = Phase::Over;
@@ -282,7 +282,7 @@ impl Machine {
     /// pushed.
     #[inline(always)]
     pub(crate) fn push_state(&mut self, pc: u16, set: u8)
-        ensures { self.new ≡ pushing self.old pc set }
+        ensures { self.new ≡ machine_pushing self.old pc set }
     {
         self.low = self.work.p | set;
         self.index = (pc % 256) as u8;

@@ -1,8 +1,8 @@
 //! A processor of either part: it says which access it wants, and is given the byte.
 ghost use Rattle.std.specs.Prelude.{◌≡◌, ◌≢◌, ◌↔◌, ◌⊎◌, IsTrue, IsSome, IsNone, Some};
-ghost use Rattle.cpu_core.specs.Sequences.{next, given, halted, starting, after, looked, fresh, power_on, HasEnded};
-ghost use Rattle.cpu_core.specs.Phases.{wants, is_fetch, is_stuck};
-ghost use Rattle.cpu_core.specs.Ties.{Tied};
+ghost use Rattle.cpu_core.specs.Sequences.{next_cycle, after_byte, halted, starting, after, sequence_at_look, fresh, power_on, HasEnded};
+ghost use Rattle.cpu_core.specs.CodePhases.{wants, is_fetch, is_stuck};
+ghost use Rattle.cpu_core.specs.CodeTies.{Tied};
 ghost use Rattle.cpu_core.specs.declared.machine.Machine.{Machine};
 
 use crate::Sequence;
@@ -29,7 +29,7 @@ pub struct Core {
 impl Model for Core {
     ghost use Rattle.std.specs.Prelude.{◌≡◌};
     ghost use Rattle.cpu_core.specs.State.{CoreState};
-    ghost use Rattle.cpu_core.specs.Ties.{Tied};
+    ghost use Rattle.cpu_core.specs.CodeTies.{Tied};
 
     ghost Value = { CoreState };
 
@@ -89,7 +89,7 @@ fn set_off(part: Part, m: &mut Machine, sequence: Sequence)
 
 #[inline(always)]
 fn looked(nmi: bool, irq: bool, r: &Regs) -> Sequence
-    ensures { result ≡ looked nmi irq r.now }
+    ensures { result ≡ sequence_at_look nmi irq r.now }
 {
     if nmi {
         Sequence::Nmi
@@ -191,8 +191,8 @@ impl Core {
     /// The access of the cycle in progress.
     #[inline(always)]
     pub fn want(&self) -> Cycle
-        requires { IsSome (next self.now.part self.now.state) }
-        ensures { next self.now.part self.now.state ≡ Some result }
+        requires { IsSome (next_cycle self.now.part self.now.state) }
+        ensures { next_cycle self.now.part self.now.state ≡ Some result }
     {
         in_progress(&self.machine)
     }
@@ -201,9 +201,9 @@ impl Core {
     #[inline(always)]
     pub fn give(&mut self, part: Part, byte: u8)
         requires part { self.old.part ≡ part }
-        requires more { IsSome (next part self.old.state) }
+        requires more { IsSome (next_cycle part self.old.state) }
         ensures part { self.new.part ≡ part }
-        ensures state { self.new.state ≡ given part self.old.state byte }
+        ensures state { self.new.state ≡ after_byte part self.old.state byte }
     {
         self.trail = self.trail.after(&Turn::Given(part, byte));
         self.machine.step(part, byte);
@@ -212,7 +212,7 @@ impl Core {
     /// Whether the cycle just given was the last of its sequence.
     #[inline(always)]
     pub fn last(&self) -> bool
-        ensures { IsTrue result ↔ IsNone (next self.now.part self.now.state) }
+        ensures { IsTrue result ↔ IsNone (next_cycle self.now.part self.now.state) }
     {
         is_last(self.machine.phase)
     }
@@ -246,8 +246,8 @@ impl Core {
 
     #[inline(always)]
     fn look(&self, nmi: bool, irq: bool) -> Sequence
-        requires { IsNone (next self.now.part self.now.state) }
-        ensures { result ≡ looked nmi irq (after self.now.part self.now.state) }
+        requires { IsNone (next_cycle self.now.part self.now.state) }
+        ensures { result ≡ sequence_at_look nmi irq (after self.now.part self.now.state) }
     {
         looked(nmi, irq, &self.machine.work)
     }
@@ -255,9 +255,9 @@ impl Core {
     // A look at lines of which one at least asks.
     #[inline(never)]
     fn take_asked(&mut self, nmi: bool, irq: bool)
-        requires { IsNone (next self.old.part self.old.state) }
+        requires { IsNone (next_cycle self.old.part self.old.state) }
         ensures part { self.new.part ≡ self.old.part }
-        ensures state { self.new.state ≡ fresh (looked nmi irq (after self.old.part self.old.state)) (after self.old.part self.old.state) }
+        ensures state { self.new.state ≡ fresh (sequence_at_look nmi irq (after self.old.part self.old.state)) (after self.old.part self.old.state) }
     {
         let sequence = self.look(nmi, irq);
         self.begin(sequence);
@@ -267,9 +267,9 @@ impl Core {
     // Where nothing is asked for, the next instruction begins with constants.
     #[inline(always)]
     pub fn take_lines(&mut self, nmi: bool, irq: bool)
-        requires { IsNone (next self.old.part self.old.state) }
+        requires { IsNone (next_cycle self.old.part self.old.state) }
         ensures part { self.new.part ≡ self.old.part }
-        ensures state { self.new.state ≡ fresh (looked nmi irq (after self.old.part self.old.state)) (after self.old.part self.old.state) }
+        ensures state { self.new.state ≡ fresh (sequence_at_look nmi irq (after self.old.part self.old.state)) (after self.old.part self.old.state) }
     {
         if nmi || irq {
             self.take_asked(nmi, irq);

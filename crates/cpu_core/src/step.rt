@@ -1,9 +1,9 @@
 //! From one cycle to the next.
 ghost use Rattle.std.specs.Prelude.{◌≡◌, ◌≢◌, ◌≤◌, true};
 ghost use Rattle.cpu_core.specs.Accesses.{idle, with_low, second, lasts_longer, last_place};
-ghost use Rattle.cpu_core.specs.Results.{masked, to_vector};
-ghost use Rattle.cpu_core.specs.Phases.{is_later, is_rare};
-ghost use Rattle.cpu_core.specs.Ties.{GoesOn, Steps};
+ghost use Rattle.cpu_core.specs.Results.{masked_flags, to_vector};
+ghost use Rattle.cpu_core.specs.CodePhases.{is_later, is_rare};
+ghost use Rattle.cpu_core.specs.CodeTies.{GoesOn, Steps};
 
 use crate::machine::{Access, Machine, Phase};
 use cpu_alu::{
@@ -67,7 +67,7 @@ fn lasts_longer(part: Part, mnemonic: Mnemonic, r: &Regs) -> bool
 /// The flags after an interrupt, a reset or BRK.
 #[inline(always)]
 fn masked(part: Part, p: u8) -> u8
-    ensures { result ≡ masked part p }
+    ensures { result ≡ masked_flags part p }
 {
     let p = with_flag(p, INTERRUPT, true);
     match part {

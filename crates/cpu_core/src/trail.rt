@@ -3,7 +3,7 @@
 ghost use Rattle.std.specs.Prelude.{◌≡◌};
 ghost use Rattle.std.specs.Borrow.{ftrue};
 ghost use Rattle.cpu_core.specs.State.{State};
-ghost use Rattle.cpu_core.specs.StoredState.{state_coded};
+ghost use Rattle.cpu_core.specs.CodeState.{state_coded};
 
 use crate::Sequence;
 use cpu_alu::Regs;
@@ -36,7 +36,7 @@ pub(crate) enum Turn {
 
 impl Trail {
     ghost use Rattle.cpu_core.specs.Sequences.{power_on};
-    ghost use Rattle.cpu_core.specs.Turns.{turned};
+    ghost use Rattle.cpu_core.specs.CodeTurns.{after_turn};
 
     /// Power-on.
     pub(crate) fn new() -> Trail
@@ -48,7 +48,7 @@ impl Trail {
     /// The trail after one more turn.
     #[inline(always)]
     pub(crate) fn after(&self, _turn: &Turn) -> Trail
-        ensures { result.state ≡ turned self.now.state _turn.now }
+        ensures { result.state ≡ after_turn self.now.state _turn.now }
     {
         Trail {}
     }

@@ -6,10 +6,10 @@ use Rattle.std.proofs.lemmas.Nat.{div-mul-add}
 use Rattle.std.proofs.Math.Nat.{mod-eq_of_lt, mod-add-mod, mod-mod}
 use Rattle.crtc6845.specs.State.{Registers, State}
 use Rattle.crtc6845.specs.Registers.{start_address}
-use Rattle.crtc6845.specs.Clock.{started, is_shown, ends_line, is_row_done, frame_begun, adjust_begun, row_begun, row_line_ended, line_ended_in, line_ended, clocked}
+use Rattle.crtc6845.specs.Clock.{start_leaves, is_shown, ends_line, is_row_done, frame_begun, adjust_begun, row_begun, row_line_ended, line_ended_in, line_ended, clock_leaves}
 use Rattle.crtc6845.specs.Laws.{clocks, tells, row_lines, HaveTheirBits, BeginsFrame}
 use Rattle.crtc6845.specs.Pictures.{row_at, column_at}
-use Rattle.crtc6845.proofs.Lines.{started-kept, clocks-registers}
+use Rattle.crtc6845.proofs.Lines.{start_leaves-kept, clocks-registers}
 use Rattle.crtc6845.proofs.Frames.{IsLine, IsClock, raster_line, row_line, rows_line, adjust_line}
 use Rattle.crtc6845.proofs.Places.{IsKeptOn, walk_frames, place_is}
 
@@ -68,16 +68,16 @@ counted_by : (c : State) (p : Bool) → c.registers.vertical_total < 128 → Bas
 counted_by c true bits based = line_based c.adjust (record c { character = 0 }) bits (λ e. let b = based e in record { rows = b.rows; base = b.base })
 counted_by c false bits based = λ e. let b = based e in record { rows = b.rows; base = b.base }
 
-started_based : (c : State) → Based c → Based (started c)
+started_based : (c : State) → Based c → Based (start_leaves c)
 started_based c based =
-    let k = started-kept c in
+    let k = start_leaves-kept c in
     subst Based (sym k.1.1) (λ e. let b = based e in record { rows = b.rows; base = b.base })
 
-clocked_based : (r : Registers) (c : State) → c.registers ≡ r → r.vertical_total < 128 → Based c → Based (clocked c)
+clocked_based : (r : Registers) (c : State) → c.registers ≡ r → r.vertical_total < 128 → Based c → Based (clock_leaves c)
 clocked_based r c regs bits based =
-    let k = started-kept c in
-    let same : (started c).registers.vertical_total ≡ r.vertical_total = ap (λ (s : State). s.registers.vertical_total) k.1.1 ∙ ap (λ (q : Registers). q.vertical_total) regs in
-    counted_by (started c) (ends_line (started c)) (omega arith) (started_based c based)
+    let k = start_leaves-kept c in
+    let same : (start_leaves c).registers.vertical_total ≡ r.vertical_total = ap (λ (s : State). s.registers.vertical_total) k.1.1 ∙ ap (λ (q : Registers). q.vertical_total) regs in
+    counted_by (start_leaves c) (ends_line (start_leaves c)) (omega arith) (started_based c based)
 
 -- what is shown is in no line of adjust
 pub last_true : (a b d : Bool) → (a && b && d) ≡ true → d ≡ true
@@ -89,10 +89,10 @@ none_by : (a : Option ℕ) → is_none a ≡ true → a ≡ None
 none_by None h = refl
 none_by (Some a) h = absurd (true≢false (sym h))
 
-pub shown_none : (c : State) → is_shown (started c) ≡ true → c.adjust ≡ None
+pub shown_none : (c : State) → is_shown (start_leaves c) ≡ true → c.adjust ≡ None
 shown_none c h =
-    let k = started-kept c in
-    let s = started c in
+    let k = start_leaves-kept c in
+    let s = start_leaves c in
     sym (ap (λ (s : State). s.adjust) k.1.1)
     ∙ none_by s.adjust (last_true (nat_lt s.character s.registers.horizontal_displayed) (nat_lt s.row s.registers.vertical_displayed) (is_none s.adjust) h)
 
@@ -132,7 +132,7 @@ shown_count c n bits begins base shown =
     let row : w.0 / row_lines r ≡ d.row = row_is r w.0 d.row d.raster (subst (λ (a : Option ℕ). IsLine r w.0 a d.row d.raster) none at.line) in
     let row_there : row_at r n ≡ d.row = ap (λ k. k / row_lines r) place.0 ∙ row in
     let column : column_at r n ≡ d.character = place.1 ∙ sym at.character in
-    let k = started-kept d in
+    let k = start_leaves-kept d in
     let same : (tells n c).ma ≡ (d.base + d.character) % 16384 = ap (λ (s : State). (s.base + s.character) % 16384) k.1.1 in
     let full : d.base % 16384 ≡ (start_address r + d.row * r.horizontal_displayed) % 16384 =
     has.base ∙ ap (λ (q : Registers). (start_address q + d.row * q.horizontal_displayed) % 16384) (clocks-registers n c) in

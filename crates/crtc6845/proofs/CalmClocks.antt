@@ -5,12 +5,12 @@ use Rattle.std.proofs.lemmas.Bool.{cases_lt}
 use Rattle.std.proofs.lemmas.Bool.Decides.{nat_tests}
 use Rattle.std.proofs.Math.Nat.{mod-eq_of_lt, mul-le-mul_right}
 use Rattle.crtc6845.specs.State.{Registers, State}
-use Rattle.crtc6845.specs.Clock.{begins_sync, sync_counted, started, ends_line, line_ended, counted, clocked, is_in_sync}
+use Rattle.crtc6845.specs.Clock.{begins_sync, sync_counted, start_leaves, ends_line, line_ended, count_leaves, clock_leaves, is_in_sync}
 use Rattle.crtc6845.specs.Laws.{clocks, line_characters, HaveTheirBits}
 use Rattle.crtc6845.specs.Calm.{Fits, clocks_to_line, is_sync_line, lines_before_sync, quiet_lines, quiet_lines_by, calm_of}
-use Rattle.crtc6845.proofs.Lines.{test_true, test_false, clocked-registers, clocked-last, line_left_in}
+use Rattle.crtc6845.proofs.Lines.{test_true, test_false, clock_leaves-registers, clock_leaves-last, line_left_in}
 use Rattle.crtc6845.proofs.Frames.{mul_more, inner_is, last_is}
-use Rattle.crtc6845.proofs.SyncLines.{start_by, counted-sync, sync_inside, sync_counts}
+use Rattle.crtc6845.proofs.SyncLines.{start_by, count_leaves-sync, sync_inside, sync_counts}
 use Rattle.crtc6845.proofs.Calm.{Moves, line_moves}
 
 calm_on : (c : State) → 0 < c.sync_lines → calm_of c ≡ clocks_to_line c + (c.sync_lines - 1) * line_characters c.registers
@@ -254,19 +254,19 @@ short c d regs sync next start one some moves =
           ]
     ]
 
-pub clock_calms : (c : State) → c.character < 256 → HaveTheirBits c.registers → c.registers.vertical_sync_position < 128 → 1 ≤ calm_of c → Calms c (clocked c)
+pub clock_calms : (c : State) → c.character < 256 → HaveTheirBits c.registers → c.registers.vertical_sync_position < 128 → 1 ≤ calm_of c → Calms c (clock_leaves c)
 clock_calms c fits bits few some =
     let total = c.registers.horizontal_total in
     let wide = bits.horizontal_total in
     elim (cases_lt 0 c.character) [
       | inl inside ↦
           let apart : c.character ≢ 0 = λ e. omega (arith, e) in
-          let same : started c ≡ c = start_by c false (begins_sync (sync_counted c)) (test_false _ _ apart) refl in
-          let end : c.character ≡ total → Calms c (clocked c) = λ last.
-          ending c (clocked c) (clocked-registers c) (counted-sync (started c) ∙ sync_inside c inside) (clocked-last c last) apart last
-          (λ two. subst (λ (d : State). Moves (lines_before_sync c) d) (sym (ap (λ (s : State). counted s) same ∙ last_is c (test_true _ _ last))) (line_moves c bits few two)) in
-          let go : c.character ≢ total → Calms c (clocked c) = λ other.
-          subst (λ (d : State). Calms c d) (sym (ap (λ (s : State). counted s) same ∙ inner_is c (test_false _ _ other))) (inner c fits wide apart other) in
+          let same : start_leaves c ≡ c = start_by c false (begins_sync (sync_counted c)) (test_false _ _ apart) refl in
+          let end : c.character ≡ total → Calms c (clock_leaves c) = λ last.
+          ending c (clock_leaves c) (clock_leaves-registers c) (count_leaves-sync (start_leaves c) ∙ sync_inside c inside) (clock_leaves-last c last) apart last
+          (λ two. subst (λ (d : State). Moves (lines_before_sync c) d) (sym (ap (λ (s : State). count_leaves s) same ∙ last_is c (test_true _ _ last))) (line_moves c bits few two)) in
+          let go : c.character ≢ total → Calms c (clock_leaves c) = λ other.
+          subst (λ (d : State). Calms c d) (sym (ap (λ (s : State). count_leaves s) same ∙ inner_is c (test_false _ _ other))) (inner c fits wide apart other) in
           elim (cases_lt c.character total) [
             | inl p ↦ go (λ e. omega (arith, e))
             | inr p ↦ elim (cases_lt total c.character) [
@@ -277,20 +277,20 @@ clock_calms c fits bits few some =
       | inr at ↦
           let start : c.character ≡ 0 = omega arith in
           let off = not_begun c start some in
-          let same : started c ≡ sync_counted c = start_by c true false (test_true _ _ start) off in
+          let same : start_leaves c ≡ sync_counted c = start_by c true false (test_true _ _ start) off in
           elim (cases_lt 0 total) [
             | inl more ↦
                 let other : total ≢ 0 = λ e. omega (arith, e) in
                 let one : (c.character + 1) % 256 ≡ 1 = ap (λ n. (n + 1) % 256) start in
-                let is : clocked c ≡ record c { character = 1; sync_lines = c.sync_lines - 1 } =
-                ap (λ (s : State). counted s) same ∙ inner_is (sync_counted c) (test_false _ _ (λ e. omega (arith, e)))
+                let is : clock_leaves c ≡ record c { character = 1; sync_lines = c.sync_lines - 1 } =
+                ap (λ (s : State). count_leaves s) same ∙ inner_is (sync_counted c) (test_false _ _ (λ e. omega (arith, e)))
                 ∙ ap (λ n. record c { character = n; sync_lines = c.sync_lines - 1 }) one in
                 subst (λ (d : State). Calms c d) (sym is) (starting c start other some)
             | inr none ↦
                 let zeroth : total ≡ 0 = omega arith in
                 let last : c.character ≡ total = omega arith in
-                short c (clocked c) (clocked-registers c) (counted-sync (started c) ∙ sync_counts c start off) (clocked-last c last) start zeroth some
-                (λ two. subst (λ (d : State). Moves (lines_before_sync c) d) (sym (ap (λ (s : State). counted s) same ∙ last_is (sync_counted c) (test_true _ _ last)))
+                short c (clock_leaves c) (clock_leaves-registers c) (count_leaves-sync (start_leaves c) ∙ sync_counts c start off) (clock_leaves-last c last) start zeroth some
+                (λ two. subst (λ (d : State). Moves (lines_before_sync c) d) (sym (ap (λ (s : State). count_leaves s) same ∙ last_is (sync_counted c) (test_true _ _ last)))
                 (line_moves (sync_counted c) bits few two))
           ]
     ]
@@ -299,14 +299,14 @@ fits_by : (p : Bool) (c : State) → (if p then line_ended c else record c { cha
 fits_by true c = let e = (line_left_in c.adjust (record c { character = 0 })).character in omega arith
 fits_by false c = omega arith
 
-pub clocked-fits : (c : State) → (clocked c).character < 256
-clocked-fits c = fits_by (ends_line (started c)) (started c)
+pub clock_leaves-fits : (c : State) → (clock_leaves c).character < 256
+clock_leaves-fits c = fits_by (ends_line (start_leaves c)) (start_leaves c)
 
-pub fits_on : (c : State) → Fits c → Fits (clocked c)
+pub fits_on : (c : State) → Fits c → Fits (clock_leaves c)
 fits_on c f =
-    let e = clocked-registers c in
+    let e = clock_leaves-registers c in
     record {
-      character = clocked-fits c;
+      character = clock_leaves-fits c;
       bits = subst HaveTheirBits (sym e) f.bits;
       row = subst (λ (r : Registers). r.vertical_sync_position < 128) (sym e) f.row;
     }
@@ -316,4 +316,4 @@ stays_in_sync zero c f h = refl
 stays_in_sync (suc n) c f h =
     let one = clock_calms c f.character f.bits f.row (omega arith) in
     let calm = one.calm in
-    stays_in_sync n (clocked c) (fits_on c f) (omega arith) ∙ one.sync
+    stays_in_sync n (clock_leaves c) (fits_on c f) (omega arith) ∙ one.sync

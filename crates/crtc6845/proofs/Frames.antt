@@ -4,9 +4,9 @@ use Rattle.std.specs.Prelude.{if◌then◌else◌}
 use Rattle.std.proofs.lemmas.Bool.{cases_lt}
 use Rattle.std.proofs.Math.Nat.{add-mod_left, mod_self, mod-eq_of_lt, mul-le-mul_right, mul-le-mul_left}
 use Rattle.crtc6845.specs.State.{Registers, State}
-use Rattle.crtc6845.specs.Clock.{started, ends_line, is_row_done, is_last_line, is_last_line_in, ends_frame, frame_begun, adjust_begun, row_begun, raster_begun, row_line_ended, adjust_line_ended, line_ended_in, line_ended, counted, clocked, raster_step, last_raster, is_interlaced}
+use Rattle.crtc6845.specs.Clock.{start_leaves, ends_line, is_row_done, is_last_line, is_last_line_in, ends_frame, frame_begun, adjust_begun, row_begun, raster_begun, row_line_ended, adjust_line_ended, line_ended_in, line_ended, count_leaves, clock_leaves, raster_step, last_raster, is_interlaced}
 use Rattle.crtc6845.specs.Laws.{clocks, line_characters, row_lines, frame_lines, frame_clocks, HaveTheirBits, BeginsFrame}
-use Rattle.crtc6845.proofs.Lines.{test_true, test_false, started-kept, started-character, started-registers, counted-registers, clocked-inner, clocked-last}
+use Rattle.crtc6845.proofs.Lines.{test_true, test_false, start_leaves-kept, start_leaves-character, start_leaves-registers, count_leaves-registers, clock_leaves-inner, clock_leaves-last}
 
 pub mul_more : (a b : ℕ) → (a + 1) * b ≡ a * b + b
 mul_more a b = grind arith
@@ -208,8 +208,8 @@ and_true : (b x : Bool) → b ≡ true → (b && x) ≡ x
 and_true b x h = rw h refl
 
 -- the start of a line is of no account here
-kept_at : (r : Registers) (l : ℕ) (c : State) → IsAt r l c → IsAt r l (started c)
-kept_at r l c at = let k = started-kept c in subst (λ (s : State). IsAt r l s) (sym k.1.1) at
+kept_at : (r : Registers) (l : ℕ) (c : State) → IsAt r l c → IsAt r l (start_leaves c)
+kept_at r l c at = let k = start_leaves-kept c in subst (λ (s : State). IsAt r l s) (sym k.1.1) at
 
 -- character h of line l of a frame
 pub record IsClock (r : Registers) (l h : ℕ) (c : State) : Type 0 where
@@ -219,28 +219,28 @@ pub record IsClock (r : Registers) (l h : ℕ) (c : State) : Type 0 where
   pub lines : l < frame_lines r
   pub line : IsAt r l c
 
-pub inner_is : (d : State) → ends_line d ≡ false → counted d ≡ record d { character = (d.character + 1) % 256 }
+pub inner_is : (d : State) → ends_line d ≡ false → count_leaves d ≡ record d { character = (d.character + 1) % 256 }
 inner_is d h = rw h refl
 
-pub last_is : (d : State) → ends_line d ≡ true → counted d ≡ line_ended d
+pub last_is : (d : State) → ends_line d ≡ true → count_leaves d ≡ line_ended d
 last_is d h = rw h refl
 
 -- a clock is the last of the frame, or leads to the next
 abbrev pub Next : Registers → ℕ → State → Type 0
 Next r j c =
-    ((ends_frame (started c) ≡ false) × (j + 1 < frame_clocks r) × ((l : ℕ) × ((h : ℕ) × ((line_characters r * l + h ≡ j + 1) × IsClock r l h (clocked c)))))
-    ⊎ ((ends_frame (started c) ≡ true) × (j + 1 ≡ frame_clocks r) × IsClock r 0 0 (clocked c))
+    ((ends_frame (start_leaves c) ≡ false) × (j + 1 < frame_clocks r) × ((l : ℕ) × ((h : ℕ) × ((line_characters r * l + h ≡ j + 1) × IsClock r l h (clock_leaves c)))))
+    ⊎ ((ends_frame (start_leaves c) ≡ true) × (j + 1 ≡ frame_clocks r) × IsClock r 0 0 (clock_leaves c))
 
 pub next_inner : (r : Registers) (l h : ℕ) (c : State) → HaveTheirBits r → IsClock r l h c → h < r.horizontal_total → Next r (line_characters r * l + h) c
 next_inner r l h c bits at inner =
     let total : c.registers.horizontal_total ≡ r.horizontal_total = ap (λ (q : Registers). q.horizontal_total) at.regs in
-    let same : (started c).registers.horizontal_total ≡ c.registers.horizontal_total = ap (λ (q : Registers). q.horizontal_total) (started-registers c) in
-    let here : (started c).character ≡ c.character = started-character c in
+    let same : (start_leaves c).registers.horizontal_total ≡ c.registers.horizontal_total = ap (λ (q : Registers). q.horizontal_total) (start_leaves-registers c) in
+    let here : (start_leaves c).character ≡ c.character = start_leaves-character c in
     let is : c.character ≡ h = at.character in
     let lines = at.lines in
     let wide = bits.horizontal_total in
-    let test : ends_line (started c) ≡ false = test_false _ _ (λ e. omega (arith, e)) in
-    let next : (clocked c).character ≡ h + 1 = clocked-inner c (omega arith) (omega arith) ∙ ap (λ k. k + 1) is in
+    let test : ends_line (start_leaves c) ≡ false = test_false _ _ (λ e. omega (arith, e)) in
+    let next : (clock_leaves c).character ≡ h + 1 = clock_leaves-inner c (omega arith) (omega arith) ∙ ap (λ k. k + 1) is in
     let row = more_mul (line_characters r) l in
     let all : line_characters r * (l + 1) ≤ line_characters r * frame_lines r = mul-le-mul_left (line_characters r) (omega arith) in
     inl (
@@ -253,11 +253,11 @@ next_inner r l h c bits at inner =
           (
             omega arith,
             record {
-              regs = counted-registers (started c) ∙ started-registers c ∙ at.regs;
+              regs = count_leaves-registers (start_leaves c) ∙ start_leaves-registers c ∙ at.regs;
               character = next;
               within = omega arith;
               lines = lines;
-              line = subst (λ (s : State). IsAt r l s) (sym (inner_is (started c) test)) (kept_at r l c at.line);
+              line = subst (λ (s : State). IsAt r l s) (sym (inner_is (start_leaves c) test)) (kept_at r l c at.line);
             },
           ),
         ),
@@ -267,17 +267,17 @@ next_inner r l h c bits at inner =
 pub next_last : (r : Registers) (l h : ℕ) (c : State) → HaveTheirBits r → IsClock r l h c → h ≡ r.horizontal_total → Next r (line_characters r * l + h) c
 next_last r l h c bits at end =
     let total : c.registers.horizontal_total ≡ r.horizontal_total = ap (λ (q : Registers). q.horizontal_total) at.regs in
-    let same : (started c).registers.horizontal_total ≡ c.registers.horizontal_total = ap (λ (q : Registers). q.horizontal_total) (started-registers c) in
-    let here : (started c).character ≡ c.character = started-character c in
+    let same : (start_leaves c).registers.horizontal_total ≡ c.registers.horizontal_total = ap (λ (q : Registers). q.horizontal_total) (start_leaves-registers c) in
+    let here : (start_leaves c).character ≡ c.character = start_leaves-character c in
     let is : c.character ≡ h = at.character in
     let lines = at.lines in
-    let test : ends_line (started c) ≡ true = test_true _ _ (omega arith) in
-    let regs : (started c).registers ≡ r = started-registers c ∙ at.regs in
-    let first : (clocked c).character ≡ 0 = clocked-last c (omega arith) in
+    let test : ends_line (start_leaves c) ≡ true = test_true _ _ (omega arith) in
+    let regs : (start_leaves c).registers ≡ r = start_leaves-registers c ∙ at.regs in
+    let first : (clock_leaves c).character ≡ 0 = clock_leaves-last c (omega arith) in
     let row = more_mul (line_characters r) l in
-    let outcome : Outcome r l (is_last_line (started c)) (line_ended (started c)) =
-    subst (λ (q : Registers). Outcome q l (is_last_line (started c)) (line_ended (started c))) regs
-    (line_ends (started c) l (subst HaveTheirBits (sym regs) bits) (subst (λ (q : Registers). IsAt q l (started c)) (sym regs) (kept_at r l c at.line))) in
+    let outcome : Outcome r l (is_last_line (start_leaves c)) (line_ended (start_leaves c)) =
+    subst (λ (q : Registers). Outcome q l (is_last_line (start_leaves c)) (line_ended (start_leaves c))) regs
+    (line_ends (start_leaves c) l (subst HaveTheirBits (sym regs) bits) (subst (λ (q : Registers). IsAt q l (start_leaves c)) (sym regs) (kept_at r l c at.line))) in
     elim outcome [
       | inl o ↦
           let more : l + 1 < frame_lines r = o.0 in
@@ -293,11 +293,11 @@ next_last r l h c bits at end =
                 (
                   omega arith,
                   record {
-                    regs = counted-registers (started c) ∙ regs;
+                    regs = count_leaves-registers (start_leaves c) ∙ regs;
                     character = first;
                     within = omega arith;
                     lines = more;
-                    line = subst (λ (s : State). IsAt r (l + 1) s) (sym (last_is (started c) test)) o.2;
+                    line = subst (λ (s : State). IsAt r (l + 1) s) (sym (last_is (start_leaves c) test)) o.2;
                   },
                 ),
               ),
@@ -309,11 +309,11 @@ next_last r l h c bits at end =
             and_true _ _ test ∙ o.1,
             omega arith,
             record {
-              regs = counted-registers (started c) ∙ regs;
+              regs = count_leaves-registers (start_leaves c) ∙ regs;
               character = first;
               within = omega arith;
               lines = omega arith;
-              line = subst (λ (s : State). IsAt r 0 s) (sym (last_is (started c) test)) o.2;
+              line = subst (λ (s : State). IsAt r 0 s) (sym (last_is (start_leaves c) test)) o.2;
             },
           )
     ]
@@ -328,7 +328,7 @@ next r l h c bits at =
 
 -- n clocks after clock j of a frame
 pub restarts : (n : ℕ) (r : Registers) (j l h : ℕ) (c : State) → HaveTheirBits r → j ≡ line_characters r * l + h → IsClock r l h c →
-    ends_frame (started (clocks n c)) ≡ ((j + n + 1) % frame_clocks r == 0)
+    ends_frame (start_leaves (clocks n c)) ≡ ((j + n + 1) % frame_clocks r == 0)
 restarts zero r j l h c bits place at =
     elim (subst (λ (k : ℕ). Next r k c) (sym place) (next r l h c bits at)) [
       | inl o ↦
@@ -344,10 +344,10 @@ restarts (suc n) r j l h c bits place at =
     elim (subst (λ (k : ℕ). Next r k c) (sym place) (next r l h c bits at)) [
       | inl o ↦
           let e : j + 1 + n + 1 ≡ j + suc n + 1 = omega arith in
-          restarts n r (j + 1) o.2.0 o.2.1.0 (clocked c) bits (sym o.2.1.1.0) o.2.1.1.1 ∙ ap (λ k. k % frame_clocks r == 0) e
+          restarts n r (j + 1) o.2.0 o.2.1.0 (clock_leaves c) bits (sym o.2.1.1.0) o.2.1.1.1 ∙ ap (λ k. k % frame_clocks r == 0) e
       | inr o ↦
           let e : j + suc n + 1 ≡ frame_clocks r + (0 + n + 1) = omega (arith, o.1) in
-          restarts n r 0 0 0 (clocked c) bits (omega arith) o.2 ∙ ap (λ k. k == 0) (sym (ap (λ k. k % frame_clocks r) e ∙ add-mod_left (frame_clocks r) (0 + n + 1)))
+          restarts n r 0 0 0 (clock_leaves c) bits (omega arith) o.2 ∙ ap (λ k. k == 0) (sym (ap (λ k. k % frame_clocks r) e ∙ add-mod_left (frame_clocks r) (0 + n + 1)))
     ]
 
 pub first_clock : (c : State) → BeginsFrame c → IsClock c.registers 0 0 c

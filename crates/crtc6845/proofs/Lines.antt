@@ -5,7 +5,7 @@ use Rattle.std.proofs.lemmas.Bool.{cases_lt}
 use Rattle.std.proofs.lemmas.Bool.Decides.{nat_tests}
 use Rattle.std.proofs.Math.Nat.{add-mod_left, mod-eq_of_lt}
 use Rattle.crtc6845.specs.State.{Registers, State}
-use Rattle.crtc6845.specs.Clock.{starts_line, begins_sync, sync_counted, sync_begun, started, ends_line, are_rows_done, is_row_done, frame_begun, adjust_begun, row_begun, raster_begun, line_ended_in, line_ended, counted, clocked}
+use Rattle.crtc6845.specs.Clock.{starts_line, begins_sync, sync_counted, sync_begun, start_leaves, ends_line, are_rows_done, is_row_done, frame_begun, adjust_begun, row_begun, raster_begun, line_ended_in, line_ended, count_leaves, clock_leaves}
 use Rattle.crtc6845.specs.Laws.{clocks}
 
 pub test_true : (a b : ℕ) → a ≡ b → (a == b) ≡ true
@@ -23,8 +23,8 @@ kept_by true true c = (_, (_, refl))
 kept_by true false c = (_, (_, refl))
 kept_by false q c = (_, (_, refl))
 
-pub started-kept : (c : State) → IsKept c (started c)
-started-kept c = kept_by (starts_line c) (begins_sync (sync_counted c)) c
+pub start_leaves-kept : (c : State) → IsKept c (start_leaves c)
+start_leaves-kept c = kept_by (starts_line c) (begins_sync (sync_counted c)) c
 
 -- what a line's end leaves of the character and the registers
 pub record LineLeft (c d : State) : Type 0 where
@@ -49,53 +49,53 @@ counted_by : (p : Bool) (c : State) → (if p then line_ended c else record c { 
 counted_by true c = (line_left_in c.adjust (record c { character = 0 })).registers
 counted_by false c = refl
 
-pub counted-registers : (c : State) → (counted c).registers ≡ c.registers
-counted-registers c = counted_by (ends_line c) c
+pub count_leaves-registers : (c : State) → (count_leaves c).registers ≡ c.registers
+count_leaves-registers c = counted_by (ends_line c) c
 
-pub clocked-registers : (c : State) → (clocked c).registers ≡ c.registers
-clocked-registers c = let k = started-kept c in counted-registers (started c) ∙ ap (λ (d : State). d.registers) k.1.1
+pub clock_leaves-registers : (c : State) → (clock_leaves c).registers ≡ c.registers
+clock_leaves-registers c = let k = start_leaves-kept c in count_leaves-registers (start_leaves c) ∙ ap (λ (d : State). d.registers) k.1.1
 
-pub started-character : (c : State) → (started c).character ≡ c.character
-started-character c = let k = started-kept c in ap (λ (d : State). d.character) k.1.1
+pub start_leaves-character : (c : State) → (start_leaves c).character ≡ c.character
+start_leaves-character c = let k = start_leaves-kept c in ap (λ (d : State). d.character) k.1.1
 
-pub started-registers : (c : State) → (started c).registers ≡ c.registers
-started-registers c = let k = started-kept c in ap (λ (d : State). d.registers) k.1.1
+pub start_leaves-registers : (c : State) → (start_leaves c).registers ≡ c.registers
+start_leaves-registers c = let k = start_leaves-kept c in ap (λ (d : State). d.registers) k.1.1
 
 -- the last character of a line is followed by character 0, and another one by the next
-counted-last : (c : State) → c.character ≡ c.registers.horizontal_total → (counted c).character ≡ 0
-counted-last c h = rw (test_true _ _ h) (line_left_in c.adjust (record c { character = 0 })).character
+count_leaves-last : (c : State) → c.character ≡ c.registers.horizontal_total → (count_leaves c).character ≡ 0
+count_leaves-last c h = rw (test_true _ _ h) (line_left_in c.adjust (record c { character = 0 })).character
 
-counted-inner : (c : State) → c.character < c.registers.horizontal_total → c.registers.horizontal_total < 256 → (counted c).character ≡ c.character + 1
-counted-inner c h small = rw (test_false c.character c.registers.horizontal_total (λ e. omega (arith, e))) (mod-eq_of_lt (omega arith))
+count_leaves-inner : (c : State) → c.character < c.registers.horizontal_total → c.registers.horizontal_total < 256 → (count_leaves c).character ≡ c.character + 1
+count_leaves-inner c h small = rw (test_false c.character c.registers.horizontal_total (λ e. omega (arith, e))) (mod-eq_of_lt (omega arith))
 
-pub clocked-last : (c : State) → c.character ≡ c.registers.horizontal_total → (clocked c).character ≡ 0
-clocked-last c h =
-    counted-last (started c) (started-character c ∙ h ∙ sym (ap (λ (r : Registers). r.horizontal_total) (started-registers c)))
+pub clock_leaves-last : (c : State) → c.character ≡ c.registers.horizontal_total → (clock_leaves c).character ≡ 0
+clock_leaves-last c h =
+    count_leaves-last (start_leaves c) (start_leaves-character c ∙ h ∙ sym (ap (λ (r : Registers). r.horizontal_total) (start_leaves-registers c)))
 
-pub clocked-inner : (c : State) → c.character < c.registers.horizontal_total → c.registers.horizontal_total < 256 → (clocked c).character ≡ c.character + 1
-clocked-inner c h small =
-    let same : (started c).registers.horizontal_total ≡ c.registers.horizontal_total = ap (λ (r : Registers). r.horizontal_total) (started-registers c) in
-    let here : (started c).character ≡ c.character = started-character c in
-    counted-inner (started c) (omega arith) (omega arith) ∙ ap (λ k. k + 1) here
+pub clock_leaves-inner : (c : State) → c.character < c.registers.horizontal_total → c.registers.horizontal_total < 256 → (clock_leaves c).character ≡ c.character + 1
+clock_leaves-inner c h small =
+    let same : (start_leaves c).registers.horizontal_total ≡ c.registers.horizontal_total = ap (λ (r : Registers). r.horizontal_total) (start_leaves-registers c) in
+    let here : (start_leaves c).character ≡ c.character = start_leaves-character c in
+    count_leaves-inner (start_leaves c) (omega arith) (omega arith) ∙ ap (λ k. k + 1) here
 
 -- n clocks after character h of a line
 pub character_after : (total n h : ℕ) (c : State) → c.registers.horizontal_total ≡ total → total < 256 → c.character ≡ h → h ≤ total →
     (clocks n c).character ≡ (h + n) % (total + 1)
 character_after total zero h c t small is within = is ∙ sym (rw add-zero (mod-eq_of_lt (omega arith)))
 character_after total (suc n) h c t small is within =
-    let kept : (clocked c).registers.horizontal_total ≡ total = ap (λ (r : Registers). r.horizontal_total) (clocked-registers c) ∙ t in
+    let kept : (clock_leaves c).registers.horizontal_total ≡ total = ap (λ (r : Registers). r.horizontal_total) (clock_leaves-registers c) ∙ t in
     elim (cases_lt h total) [
       | inl inner ↦
-          let next : (clocked c).character ≡ h + 1 = clocked-inner c (omega arith) (omega arith) ∙ ap (λ k. k + 1) is in
+          let next : (clock_leaves c).character ≡ h + 1 = clock_leaves-inner c (omega arith) (omega arith) ∙ ap (λ k. k + 1) is in
           let e : h + 1 + n ≡ h + suc n = omega arith in
-          rw (← e) (character_after total n (h + 1) (clocked c) kept small next (omega arith))
+          rw (← e) (character_after total n (h + 1) (clock_leaves c) kept small next (omega arith))
       | inr last ↦
-          let next : (clocked c).character ≡ 0 = clocked-last c (omega arith) in
+          let next : (clock_leaves c).character ≡ 0 = clock_leaves-last c (omega arith) in
           let e : h + suc n ≡ (total + 1) + n = omega arith in
           let z : 0 + n ≡ n = omega arith in
-          character_after total n 0 (clocked c) kept small next (omega arith) ∙ rw (e, z) (sym (add-mod_left (total + 1) n))
+          character_after total n 0 (clock_leaves c) kept small next (omega arith) ∙ rw (e, z) (sym (add-mod_left (total + 1) n))
     ]
 
 pub clocks-registers : (n : ℕ) (c : State) → (clocks n c).registers ≡ c.registers
 clocks-registers zero c = refl
-clocks-registers (suc n) c = clocks-registers n (clocked c) ∙ clocked-registers c
+clocks-registers (suc n) c = clocks-registers n (clock_leaves c) ∙ clock_leaves-registers c

@@ -6,9 +6,9 @@ use Rattle.std.proofs.lemmas.Bool.Decides.{nat_tests}
 use Rattle.std.proofs.Math.Nat.{mod-add-mod, div-add-mod}
 use Rattle.crtc6845.specs.State.{Registers, State}
 use Rattle.crtc6845.specs.Registers.{start_address}
-use Rattle.crtc6845.specs.Clock.{starts_line, begins_sync, sync_counted, sync_height, ends_line, is_row_done, is_last_line_in, finishes_frame, line_ended_in, counted, clocked, is_in_sync}
+use Rattle.crtc6845.specs.Clock.{starts_line, begins_sync, sync_counted, sync_height, ends_line, is_row_done, is_last_line_in, finishes_frame, line_ended_in, count_leaves, clock_leaves, is_in_sync}
 use Rattle.crtc6845.specs.Laws.{clocks}
-use Rattle.crtc6845.specs.Steps.{is_at_rest}
+use Rattle.crtc6845.specs.CodeSteps.{is_quiet}
 use Rattle.crtc6845.specs.Rests.{frames_in, clocks_past_frame, sync_after}
 use Rattle.crtc6845.proofs.Lines.{test_true, test_false}
 use Rattle.crtc6845.proofs.Frames.{rows_line, last_is}
@@ -43,7 +43,7 @@ none_of : (a : Option ℕ) → is_none a ≡ true → a ≡ None
 none_of None h = refl
 none_of (Some a) h = absurd (true≢false (sym h))
 
-pub facts : (c : State) → is_at_rest c ≡ true → Facts c
+pub facts : (c : State) → is_quiet c ≡ true → Facts c
 facts c h =
     let base = c.base == start_address c.registers in
     let none = is_none c.adjust in
@@ -88,7 +88,7 @@ same_place c character row raster base adjust e1 e2 e3 e4 e5 =
     ∙ ap (λ (n : Option ℕ). record c { adjust = n }) (sym e5)
 
 -- the line ends, and the next finds all as it was
-counted_rest : (c : State) → is_at_rest c ≡ true → counted c ≡ c
+counted_rest : (c : State) → is_quiet c ≡ true → count_leaves c ≡ c
 counted_rest c h =
     let f = facts c h in
     let z : State = record c { character = 0 } in
@@ -103,7 +103,7 @@ timed c s f = record c { sync_lines = s; fields = f }
 abbrev begins_now : ℕ → ℕ → Bool
 begins_now v s = 0 == v && 0 == 0 && s - 1 == 0
 
-begins_at : (c : State) (s f : ℕ) → is_at_rest c ≡ true → begins_sync (sync_counted (timed c s f)) ≡ begins_now c.registers.vertical_sync_position s
+begins_at : (c : State) (s f : ℕ) → is_quiet c ≡ true → begins_sync (sync_counted (timed c s f)) ≡ begins_now c.registers.vertical_sync_position s
 begins_at c s f h =
     let k = facts c h in
     ap (λ (a : Option ℕ). is_none a && c.row == c.registers.vertical_sync_position && c.raster == 0 && s - 1 == 0) k.adjust
@@ -119,21 +119,21 @@ now_not v s h = elim h [
 now_new : (v s : ℕ) → v ≡ 0 → s ≤ 1 → begins_now v s ≡ true
 now_new v s h few = grind (arith, nat_tests)
 
-pub step_on : (c : State) (s f : ℕ) → is_at_rest c ≡ true → (1 < s) ⊎ (c.registers.vertical_sync_position ≢ 0) →
-    (clocked (timed c s f) ≡ timed c (s - 1) f) × (finishes_frame (timed c s f) ≡ false)
+pub step_on : (c : State) (s f : ℕ) → is_quiet c ≡ true → (1 < s) ⊎ (c.registers.vertical_sync_position ≢ 0) →
+    (clock_leaves (timed c s f) ≡ timed c (s - 1) f) × (finishes_frame (timed c s f) ≡ false)
 step_on c s f h goes =
     let k = facts c h in
     let b : begins_sync (sync_counted (timed c s f)) ≡ false = begins_at c s f h ∙ now_not _ _ goes in (
-      ap (λ (d : State). counted d) (start_by (timed c s f) true false k.start b) ∙ counted_rest (timed c (s - 1) f) (rests_by c (s - 1) f ∙ h),
+      ap (λ (d : State). count_leaves d) (start_by (timed c s f) true false k.start b) ∙ counted_rest (timed c (s - 1) f) (rests_by c (s - 1) f ∙ h),
       ap (λ b. starts_line c && b) b ∙ ap (λ b. b && false) k.start,
     )
 
-pub step_new : (c : State) (s f : ℕ) → is_at_rest c ≡ true → c.registers.vertical_sync_position ≡ 0 → s ≤ 1 →
-    (clocked (timed c s f) ≡ timed c (sync_height c.registers) ((f + 1) % 2 ^ 32)) × (finishes_frame (timed c s f) ≡ true)
+pub step_new : (c : State) (s f : ℕ) → is_quiet c ≡ true → c.registers.vertical_sync_position ≡ 0 → s ≤ 1 →
+    (clock_leaves (timed c s f) ≡ timed c (sync_height c.registers) ((f + 1) % 2 ^ 32)) × (finishes_frame (timed c s f) ≡ true)
 step_new c s f h first few =
     let k = facts c h in
     let b : begins_sync (sync_counted (timed c s f)) ≡ true = begins_at c s f h ∙ now_new _ _ first few in (
-      ap (λ (d : State). counted d) (start_by (timed c s f) true true k.start b)
+      ap (λ (d : State). count_leaves d) (start_by (timed c s f) true true k.start b)
           ∙ counted_rest (timed c (sync_height c.registers) ((f + 1) % 2 ^ 32)) (rests_by c (sync_height c.registers) ((f + 1) % 2 ^ 32) ∙ h),
       ap (λ b. starts_line c && b) b ∙ ap (λ b. b && true) k.start,
     )
@@ -148,18 +148,18 @@ pub none : (before : ℕ) (c : State) → Run 0 before c c 0 before
 none before c = record { state = refl; frames = refl; past = refl }
 
 -- one clock, and then those
-ahead : (n before : ℕ) (c d e : State) (b : Bool) (frames past : ℕ) → clocked c ≡ d → finishes_frame c ≡ b → Run n (if b then 0 else before + 1) d e frames past →
+ahead : (n before : ℕ) (c d e : State) (b : Bool) (frames past : ℕ) → clock_leaves c ≡ d → finishes_frame c ≡ b → Run n (if b then 0 else before + 1) d e frames past →
     Run (suc n) before c e ((if b then 1 else 0) + frames) past
 ahead n before c d e b frames past step ends run = record {
   state = ap (λ (x : State). clocks n x) step ∙ run.state;
-  frames = ap (λ (x : Bool). (if x then 1 else 0) + frames_in n (clocked c)) ends ∙ ap (λ (x : State). (if b then 1 else 0) + frames_in n x) step
+  frames = ap (λ (x : Bool). (if x then 1 else 0) + frames_in n (clock_leaves c)) ends ∙ ap (λ (x : State). (if b then 1 else 0) + frames_in n x) step
       ∙ ap (λ k. (if b then 1 else 0) + k) run.frames;
-  past = ap (λ (x : Bool). clocks_past_frame n (if x then 0 else before + 1) (clocked c)) ends
+  past = ap (λ (x : Bool). clocks_past_frame n (if x then 0 else before + 1) (clock_leaves c)) ends
       ∙ ap (λ (x : State). clocks_past_frame n (if b then 0 else before + 1) x) step ∙ run.past;
 }
 
 -- clocks with which none begins
-pub within : (n before : ℕ) (c : State) (s f : ℕ) → is_at_rest c ≡ true → (n < s) ⊎ (c.registers.vertical_sync_position ≢ 0) →
+pub within : (n before : ℕ) (c : State) (s f : ℕ) → is_quiet c ≡ true → (n < s) ⊎ (c.registers.vertical_sync_position ≢ 0) →
     Run n before (timed c s f) (timed c (s - n) f) 0 (before + n)
 within zero before c s f h goes =
     let e : s - 0 ≡ s = omega arith in
@@ -174,7 +174,7 @@ within (suc n) before c s f h goes =
     subst (λ k. Run (suc n) before (timed c s f) (timed c (s - suc n) f) 0 k) g (subst (λ k. Run (suc n) before (timed c s f) (timed c k f) 0 (before + 1 + n)) e all)
 
 -- the clocks up to the next beginning, that one, and those after it
-pub turn : (n m before : ℕ) (c e : State) (s f frames past : ℕ) → is_at_rest c ≡ true → c.registers.vertical_sync_position ≡ 0 → s ≤ n + 1 → n < s ⊎ (n ≡ 0) →
+pub turn : (n m before : ℕ) (c e : State) (s f frames past : ℕ) → is_quiet c ≡ true → c.registers.vertical_sync_position ≡ 0 → s ≤ n + 1 → n < s ⊎ (n ≡ 0) →
     Run m 0 (timed c (sync_height c.registers) ((f + 1) % 2 ^ 32)) e frames past →
     Run (n + suc m) before (timed c s f) e (1 + frames) past
 turn zero m before c e s f frames past h first few some run =
@@ -197,7 +197,7 @@ tall r = elim (cases_lt 0 (r.sync_widths / 16)) [
 ]
 
 -- whole heights of sync, and clocks of the last one
-turns : (q m : ℕ) (c : State) (f : ℕ) → is_at_rest c ≡ true → c.registers.vertical_sync_position ≡ 0 → m < sync_height c.registers →
+turns : (q m : ℕ) (c : State) (f : ℕ) → is_quiet c ≡ true → c.registers.vertical_sync_position ≡ 0 → m < sync_height c.registers →
     Run (sync_height c.registers * q + m) 0 (timed c (sync_height c.registers) (f % 2 ^ 32)) (timed c (sync_height c.registers - m) ((f + q) % 2 ^ 32)) q m
 turns zero m c f h first small =
     let height = sync_height c.registers in
@@ -228,7 +228,7 @@ turns (suc q) m c f h first small =
     subst (λ k. Run k 0 from to (suc q) m) z (subst (λ k. Run (height - 1 + suc (height * q + m)) 0 from to k m) y all)
 
 -- n clocks, where sync begins with some of them
-pub many : (left past : ℕ) (c : State) → is_at_rest c ≡ true → c.registers.vertical_sync_position ≡ 0 → c.sync_lines ≤ left → 1 ≤ left → (left ≡ c.sync_lines) ⊎ (left ≡ 1) →
+pub many : (left past : ℕ) (c : State) → is_quiet c ≡ true → c.registers.vertical_sync_position ≡ 0 → c.sync_lines ≤ left → 1 ≤ left → (left ≡ c.sync_lines) ⊎ (left ≡ 1) →
     Run (left + past) 0 c
     (timed c (sync_height c.registers - past % sync_height c.registers) ((c.fields + 1 + past / sync_height c.registers) % 2 ^ 32))
     (1 + past / sync_height c.registers) (past % sync_height c.registers)
@@ -254,7 +254,7 @@ on_yes c h = grind (arith, nat_tests)
 on_no : (c : State) → c.sync_lines ≡ 0 → is_in_sync c ≡ false
 on_no c h = grind (arith, nat_tests)
 
-on_always : (k : ℕ) (c : State) (s f : ℕ) → is_at_rest c ≡ true → c.registers.vertical_sync_position ≡ 0 → 0 < s → is_in_sync (clocks k (timed c s f)) ≡ true
+on_always : (k : ℕ) (c : State) (s f : ℕ) → is_quiet c ≡ true → c.registers.vertical_sync_position ≡ 0 → 0 < s → is_in_sync (clocks k (timed c s f)) ≡ true
 on_always zero c s f h first on = on_yes (timed c s f) on
 on_always (suc k) c s f h first on =
     let up = tall c.registers in
@@ -267,10 +267,10 @@ on_always (suc k) c s f h first on =
           ap (λ (d : State). is_in_sync (clocks k d)) one.0 ∙ on_always k c (sync_height c.registers) ((f + 1) % 2 ^ 32) h first (omega arith)
     ]
 
-pub calm_always : (c : State) → is_at_rest c ≡ true → c.registers.vertical_sync_position ≡ 0 → 0 < c.sync_lines → (k : ℕ) → is_in_sync (clocks k c) ≡ is_in_sync c
+pub calm_always : (c : State) → is_quiet c ≡ true → c.registers.vertical_sync_position ≡ 0 → 0 < c.sync_lines → (k : ℕ) → is_in_sync (clocks k c) ≡ is_in_sync c
 calm_always c h first on k = on_always k c c.sync_lines c.fields h first on ∙ sym (on_yes c on)
 
-pub calm_within : (c : State) → is_at_rest c ≡ true → c.registers.vertical_sync_position ≢ 0 → (k : ℕ) → (k < c.sync_lines) ⊎ (c.sync_lines ≡ 0) →
+pub calm_within : (c : State) → is_quiet c ≡ true → c.registers.vertical_sync_position ≢ 0 → (k : ℕ) → (k < c.sync_lines) ⊎ (c.sync_lines ≡ 0) →
     is_in_sync (clocks k c) ≡ is_in_sync c
 calm_within c h other k goes =
     let run = within k 0 c c.sync_lines c.fields h (inr other) in
@@ -280,12 +280,12 @@ calm_within c h other k goes =
       | inr p ↦ e ∙ on_no (timed c (c.sync_lines - k) c.fields) (omega arith) ∙ sym (on_no c p)
     ]
 
-pub rest_other : (n : ℕ) (c : State) → is_at_rest c ≡ true → c.registers.vertical_sync_position ≢ 0 → Run n 0 c (record c { sync_lines = c.sync_lines - n }) 0 n
+pub rest_other : (n : ℕ) (c : State) → is_quiet c ≡ true → c.registers.vertical_sync_position ≢ 0 → Run n 0 c (record c { sync_lines = c.sync_lines - n }) 0 n
 rest_other n c h other =
     let z : 0 + n ≡ n = omega arith in
     subst (λ k. Run n 0 c (record c { sync_lines = c.sync_lines - n }) 0 k) z (within n 0 c c.sync_lines c.fields h (inr other))
 
-pub rest_few : (n : ℕ) (c : State) → is_at_rest c ≡ true → n < c.sync_lines ⊎ (n ≡ 0) → Run n 0 c (record c { sync_lines = c.sync_lines - n }) 0 n
+pub rest_few : (n : ℕ) (c : State) → is_quiet c ≡ true → n < c.sync_lines ⊎ (n ≡ 0) → Run n 0 c (record c { sync_lines = c.sync_lines - n }) 0 n
 rest_few n c h few =
     let z : 0 + n ≡ n = omega arith in
     elim few [
@@ -296,7 +296,7 @@ rest_few n c h few =
           (subst (λ k. Run 0 0 c (record c { sync_lines = k }) 0 0) e (none 0 c))
     ]
 
-pub rest_turns : (n left : ℕ) (c : State) → is_at_rest c ≡ true → c.registers.vertical_sync_position ≡ 0 → c.sync_lines ≤ left → 1 ≤ left → left ≤ n →
+pub rest_turns : (n left : ℕ) (c : State) → is_quiet c ≡ true → c.registers.vertical_sync_position ≡ 0 → c.sync_lines ≤ left → 1 ≤ left → left ≤ n →
     (left ≡ c.sync_lines) ⊎ (left ≡ 1) →
     Run n 0 c (sync_after (n - left) c) (1 + (n - left) / sync_height c.registers) ((n - left) % sync_height c.registers)
 rest_turns n left c h first most some fits is =
@@ -334,4 +334,4 @@ past_step false n y d law =
 
 pub past_from : (n y : ℕ) (c : State) → clocks_past_frame n y c ≡ (if frames_in n c == 0 then y + n else clocks_past_frame n 0 c)
 past_from zero y c = omega arith
-past_from (suc n) y c = past_step (finishes_frame c) n y (clocked c) (λ z. past_from n z (clocked c))
+past_from (suc n) y c = past_step (finishes_frame c) n y (clock_leaves c) (λ z. past_from n z (clock_leaves c))

@@ -6,10 +6,10 @@ use Rattle.std.proofs.lemmas.Bool.Decides.{nat_tests}
 use Rattle.std.proofs.Math.Nat.{mod-eq_of_lt, mod-add-mod, mod-mod, mul-le-mul_right}
 use Rattle.crtc6845.specs.State.{Registers, State}
 use Rattle.crtc6845.specs.Registers.{start_address}
-use Rattle.crtc6845.specs.Clock.{started, is_shown, address, ends_line, is_row_done, frame_begun, adjust_begun, row_begun, row_line_ended, line_ended_in, line_ended, clocked}
+use Rattle.crtc6845.specs.Clock.{start_leaves, is_shown, address, ends_line, is_row_done, frame_begun, adjust_begun, row_begun, row_line_ended, line_ended_in, line_ended, clock_leaves}
 use Rattle.crtc6845.specs.Laws.{clocks, tells}
 use Rattle.crtc6845.specs.Windows.{IsInWindow, ShowsWindows, shown_count, now_count, now_count_in}
-use Rattle.crtc6845.proofs.Lines.{started-kept, clocks-registers, clocked-registers}
+use Rattle.crtc6845.proofs.Lines.{start_leaves-kept, clocks-registers, clock_leaves-registers}
 use Rattle.crtc6845.proofs.Frames.{mul_more, raster_line, row_line, rows_line, adjust_line}
 
 -- the row's base is so many rows' characters past that of row `first`
@@ -85,21 +85,21 @@ counted_by : (base first : ℕ) (c : State) (p : Bool) → c.registers.vertical_
 counted_by base first c true bits kept = line_kept base first c.adjust (record c { character = 0 }) bits (again base first c 0 c.raster c.sync_lines c.fields kept)
 counted_by base first c false bits kept = again base first c _ c.raster c.sync_lines c.fields kept
 
-started_is : (base first : ℕ) (c : State) → Kept base first c → Kept base first (started c)
+started_is : (base first : ℕ) (c : State) → Kept base first c → Kept base first (start_leaves c)
 started_is base first c kept =
-    let k = started-kept c in
+    let k = start_leaves-kept c in
     subst (λ (s : State). Kept base first s) (sym k.1.1) (again base first c c.character c.raster k.0 k.1.0 kept)
 
-clocked_kept : (base first : ℕ) (c : State) → c.registers.vertical_total < 128 → Kept base first c → Kept base first (clocked c)
+clocked_kept : (base first : ℕ) (c : State) → c.registers.vertical_total < 128 → Kept base first c → Kept base first (clock_leaves c)
 clocked_kept base first c bits kept =
-    let k = started-kept c in
-    let same : (started c).registers.vertical_total ≡ c.registers.vertical_total = ap (λ (s : State). s.registers.vertical_total) k.1.1 in
-    counted_by base first (started c) (ends_line (started c)) (omega arith) (started_is base first c kept)
+    let k = start_leaves-kept c in
+    let same : (start_leaves c).registers.vertical_total ≡ c.registers.vertical_total = ap (λ (s : State). s.registers.vertical_total) k.1.1 in
+    counted_by base first (start_leaves c) (ends_line (start_leaves c)) (omega arith) (started_is base first c kept)
 
 clocks_kept : (base first n : ℕ) (c : State) → c.registers.vertical_total < 128 → Kept base first c → Kept base first (clocks n c)
 clocks_kept base first zero c bits kept = kept
 clocks_kept base first (suc n) c bits kept =
-    clocks_kept base first n (clocked c) (subst (λ (r : Registers). r.vertical_total < 128) (sym (clocked-registers c)) bits) (clocked_kept base first c bits kept)
+    clocks_kept base first n (clock_leaves c) (subst (λ (r : Registers). r.vertical_total < 128) (sym (clock_leaves-registers c)) bits) (clocked_kept base first c bits kept)
 
 and_first : (p q : Bool) → (p && q) ≡ true → p ≡ true
 and_first true q h = refl
@@ -159,12 +159,12 @@ any_window : (base ma : ℕ) → base < 16384 → ma < 16384 → IsInWindow base
 any_window base ma p q = ((ma + 16384 - base) % 16384, (omega arith, omega arith))
 
 -- a beam's address is in one of the two
-told_in : (base first count : ℕ) (r : Registers) (d : State) → d.registers ≡ r → count ≡ shown_count r first → Kept base first d → is_shown (started d) ≡ true →
-    IsInWindow base count (address (started d)) ⊎ IsInWindow (start_address r) (shown_count r 0) (address (started d))
+told_in : (base first count : ℕ) (r : Registers) (d : State) → d.registers ≡ r → count ≡ shown_count r first → Kept base first d → is_shown (start_leaves d) ≡ true →
+    IsInWindow base count (address (start_leaves d)) ⊎ IsInWindow (start_address r) (shown_count r 0) (address (start_leaves d))
 told_in base first count r d regs is kept shown =
-    let e = started d in
+    let e = start_leaves d in
     let s = shown_is e shown in
-    let k = started-kept d in
+    let k = start_leaves-kept d in
     let same : e.registers ≡ r = ap (λ (s : State). s.registers) k.1.1 ∙ regs in
     elim (started_is base first d kept s.adjust) [
       | inl p ↦ inl (subst (λ n. IsInWindow base n (address e)) (sym is)

@@ -8,9 +8,9 @@ use Rattle.crtc6845.specs.declared.Beam.{Beam}
 use Rattle.crtc6845.specs.declared.Span.{Span}
 use Rattle.crtc6845.specs.State.{State}
 use Rattle.crtc6845.specs.Registers.{cursor_address}
-use Rattle.crtc6845.specs.Clock.{starts_line, begins_sync, sync_counted, started, is_shown, address, has_cursor, ends_line, counted, clocked, told, beam_of, begins_horizontal_sync}
+use Rattle.crtc6845.specs.Clock.{starts_line, begins_sync, sync_counted, start_leaves, is_shown, address, has_cursor, ends_line, count_leaves, clock_leaves, beam_told, beam_of, begins_horizontal_sync}
 use Rattle.crtc6845.specs.Laws.{clocks}
-use Rattle.crtc6845.specs.Steps.{cursor_is_on}
+use Rattle.crtc6845.specs.CodeSteps.{cursor_is_on}
 use Rattle.crtc6845.specs.Spans.{inside_clocks, TellsSpan, CursorIsFirst, to_cursor}
 use Rattle.crtc6845.proofs.Lines.{test_false}
 use Rattle.crtc6845.proofs.Frames.{inner_is}
@@ -19,9 +19,9 @@ use Rattle.crtc6845.proofs.SyncLines.{start_by}
 abbrev pub at : State → ℕ → State
 at c h = record c { character = h }
 
-clock_in : (c : State) → c.character ≢ 0 → c.character ≢ c.registers.horizontal_total → clocked c ≡ at c ((c.character + 1) % 256)
+clock_in : (c : State) → c.character ≢ 0 → c.character ≢ c.registers.horizontal_total → clock_leaves c ≡ at c ((c.character + 1) % 256)
 clock_in c start end =
-    ap (λ (s : State). counted s) (start_by c false (begins_sync (sync_counted c)) (test_false _ _ start) refl) ∙ inner_is c (test_false _ _ end)
+    ap (λ (s : State). count_leaves s) (start_by c false (begins_sync (sync_counted c)) (test_false _ _ start) refl) ∙ inner_is c (test_false _ _ end)
 
 -- up to `end`, which is R0 or, past it, 256
 clocks_in : (k h end : ℕ) (c : State) → 0 < h → h < 256 → ((h ≤ c.registers.horizontal_total) × (end ≡ c.registers.horizontal_total)) ⊎ ((c.registers.horizontal_total < h) × (end ≡ 256)) →
@@ -31,7 +31,7 @@ clocks_in zero h end c some fits is wide within =
     ap (λ n. at c n) e
 clocks_in (suc k) h end c some fits is wide within =
     let apart : h ≢ c.registers.horizontal_total = λ e. elim is [ inl p ↦ omega (arith, p.0, p.1, e) | inr p ↦ omega (arith, p.0, p.1, e) ] in
-    let one : clocked (at c h) ≡ at c ((h + 1) % 256) = clock_in (at c h) (λ e. omega (arith, e)) apart in
+    let one : clock_leaves (at c h) ≡ at c ((h + 1) % 256) = clock_in (at c h) (λ e. omega (arith, e)) apart in
     elim (cases_lt h 255) [
       | inl more ↦
           let stays : (h + 1) % 256 ≡ h + 1 = mod-eq_of_lt (omega arith) in
@@ -80,13 +80,13 @@ inside_told c = record {
   restart = false;
 }
 
-told_by : (c : State) (p q : Bool) → starts_line c ≡ p → ends_line c ≡ q → p ≡ false → q ≡ false → told c c ≡ inside_told c
+told_by : (c : State) (p q : Bool) → starts_line c ≡ p → ends_line c ≡ q → p ≡ false → q ≡ false → beam_told c c ≡ inside_told c
 told_by c p q e f x y = rw (e ∙ x, f ∙ y) refl
 
 beam_in : (c : State) → c.character ≢ 0 → c.character ≢ c.registers.horizontal_total → beam_of c ≡ inside_told c
 beam_in c start end =
-    let s : started c ≡ c = start_by c false (begins_sync (sync_counted c)) (test_false _ _ start) refl in
-    ap (λ (d : State). told c d) s ∙ told_by c false false (test_false _ _ start) (test_false _ _ end) refl refl
+    let s : start_leaves c ≡ c = start_by c false (begins_sync (sync_counted c)) (test_false _ _ start) refl in
+    ap (λ (d : State). beam_told c d) s ∙ told_by c false false (test_false _ _ start) (test_false _ _ end) refl refl
 
 abbrev mk : Bool → ℕ → ℕ → Bool → Bool → ℕ → Beam
 mk shown ma ra cursor sync fields = record {

@@ -3,13 +3,13 @@ use Rattle.std.proofs.Common.{◌≡◌, ◌∙◌, sym, ap, subst, refl, ℕ, �
 use Rattle.std.proofs.lemmas.Bool.{cases_lt}
 use Rattle.std.proofs.Math.Nat.{mul-le-mul_right}
 use Rattle.crtc6845.specs.State.{Registers, State}
-use Rattle.crtc6845.specs.Clock.{starts_line, begins_sync, sync_counted, sync_height, started, finishes_frame}
+use Rattle.crtc6845.specs.Clock.{starts_line, begins_sync, sync_counted, sync_height, start_leaves, finishes_frame}
 use Rattle.crtc6845.specs.Laws.{clocks, line_characters, row_lines, frame_lines, frame_clocks, HaveTheirBits, BeginsFrame}
 use Rattle.crtc6845.specs.Pictures.{sync_line, HasItsSync}
 use Rattle.crtc6845.proofs.Lines.{test_true, test_false}
 use Rattle.crtc6845.proofs.Frames.{IsClock, mul_more}
 use Rattle.crtc6845.proofs.Places.{IsKeptOn, walk_frames, same_place}
-use Rattle.crtc6845.proofs.SyncLines.{counted-sync, begins_tells, sync_inside, sync_counts, sync_begins, never_begins}
+use Rattle.crtc6845.proofs.SyncLines.{count_leaves-sync, begins_tells, sync_inside, sync_counts, sync_begins, never_begins}
 
 -- so many lines of sync are left, at most, before line l starts and after it, that none is left when row R7 comes
 pub record Waits (r : Registers) (l s : ℕ) : Type 0 where
@@ -30,7 +30,7 @@ sync_row r has =
     let all : r.vertical_sync_position * row_lines r ≤ r.vertical_total * row_lines r = mul-le-mul_right (row_lines r) has in
     omega arith
 
-leaves : (r : Registers) (l h : ℕ) (c : State) → HasItsSync r → IsClock r l h c → Ends r l h c → Leaves r l (started c).sync_lines
+leaves : (r : Registers) (l h : ℕ) (c : State) → HasItsSync r → IsClock r l h c → Ends r l h c → Leaves r l (start_leaves c).sync_lines
 leaves r l h c has at ends =
     let is : c.character ≡ h = at.character in
     elim (cases_lt 0 h) [
@@ -41,7 +41,7 @@ leaves r l h c has at ends =
           let zeroth : h ≡ 0 = omega arith in
           let waits = ends.first zeroth in
           let tells = begins_tells r l h c has.row at in
-          let other : l ≢ sync_line r → Leaves r l (started c).sync_lines = λ apart.
+          let other : l ≢ sync_line r → Leaves r l (start_leaves c).sync_lines = λ apart.
           let same = sync_counts c (omega arith) (tells.0 apart) in
           record {
             before = λ p. let w = waits.before (omega arith) in omega arith;
@@ -67,9 +67,9 @@ ends_kept r has =
     let row = sync_row r has.row in
     record {
       inner = λ l h c at ends more.
-          record { first = λ e. absurd (omega (arith, e)); other = λ _. subst (λ (s : ℕ). Leaves r l s) (sym (counted-sync (started c))) (leaves r l h c has at ends) };
+          record { first = λ e. absurd (omega (arith, e)); other = λ _. subst (λ (s : ℕ). Leaves r l s) (sym (count_leaves-sync (start_leaves c))) (leaves r l h c has at ends) };
       line = λ l h c at ends end more.
-          let same = counted-sync (started c) in
+          let same = count_leaves-sync (start_leaves c) in
           let left = leaves r l h c has at ends in
           record {
             first = λ e. record {
@@ -79,7 +79,7 @@ ends_kept r has =
             other = λ p. absurd (omega (arith, p));
           };
       frame = λ l h c at ends end last.
-          let same = counted-sync (started c) in
+          let same = count_leaves-sync (start_leaves c) in
           let left = leaves r l h c has at ends in
           record {
             first = λ e. record { before = λ p. let w = left.past (omega arith) in omega arith; past = λ p. absurd (omega (arith, p)) };

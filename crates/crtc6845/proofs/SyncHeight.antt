@@ -4,13 +4,13 @@ use Rattle.std.specs.Prelude.{nat_lt, nat_le}
 use Rattle.std.proofs.lemmas.Bool.{cases_lt}
 use Rattle.std.proofs.lemmas.Bool.Decides.{nat_tests}
 use Rattle.crtc6845.specs.State.{Registers, State}
-use Rattle.crtc6845.specs.Clock.{sync_height, started, clocked, is_in_sync}
+use Rattle.crtc6845.specs.Clock.{sync_height, start_leaves, clock_leaves, is_in_sync}
 use Rattle.crtc6845.specs.Laws.{clocks, frame_lines, HaveTheirBits, BeginsFrame}
 use Rattle.crtc6845.specs.Pictures.{line_at, sync_line, HoldsItsSync}
 use Rattle.crtc6845.proofs.Lines.{test_true}
 use Rattle.crtc6845.proofs.Frames.{IsClock}
 use Rattle.crtc6845.proofs.Places.{IsKeptOn, walk_frames, place_is}
-use Rattle.crtc6845.proofs.SyncLines.{counted-sync, begins_tells, sync_inside, sync_counts, sync_begins}
+use Rattle.crtc6845.proofs.SyncLines.{count_leaves-sync, begins_tells, sync_inside, sync_counts, sync_begins}
 use Rattle.crtc6845.proofs.Sync.{sync_row}
 
 -- the lines of sync that are left before line l starts, and after it
@@ -26,7 +26,7 @@ pub record Counts (r : Registers) (l h : ℕ) (c : State) : Type 0 where
   pub first : h ≡ 0 → Comes r l c.sync_lines
   pub other : 0 < h → Lasts r l c.sync_lines
 
-lasts : (r : Registers) (l h : ℕ) (c : State) → HoldsItsSync r → IsClock r l h c → Counts r l h c → Lasts r l (started c).sync_lines
+lasts : (r : Registers) (l h : ℕ) (c : State) → HoldsItsSync r → IsClock r l h c → Counts r l h c → Lasts r l (start_leaves c).sync_lines
 lasts r l h c has at counts =
     let is : c.character ≡ h = at.character in
     elim (cases_lt 0 h) [
@@ -53,7 +53,7 @@ lasts r l h c has at counts =
                   let none : (c.sync_lines - 1 == 0) ≡ true = test_true _ _ (omega arith) in
                   let same = sync_begins c (omega arith) (tells.1 here ∙ none) in
                   let height : sync_height c.registers ≡ sync_height r = ap (λ (q : Registers). sync_height q) at.regs in
-                  let to : (started c).sync_lines ≡ sync_height r = same ∙ height in
+                  let to : (start_leaves c).sync_lines ≡ sync_height r = same ∙ height in
                   record { before = λ g. absurd (omega (arith, g)); past = λ g. omega arith }
             ]
           ]
@@ -75,15 +75,15 @@ next_frame r l s has last left =
 counts_kept : (r : Registers) → HoldsItsSync r → IsKeptOn r (Counts r)
 counts_kept r has = record {
   inner = λ l h c at counts more.
-      record { first = λ e. absurd (omega (arith, e)); other = λ _. subst (λ (s : ℕ). Lasts r l s) (sym (counted-sync (started c))) (lasts r l h c has at counts) };
+      record { first = λ e. absurd (omega (arith, e)); other = λ _. subst (λ (s : ℕ). Lasts r l s) (sym (count_leaves-sync (start_leaves c))) (lasts r l h c has at counts) };
   line = λ l h c at counts end more.
       record {
-        first = λ _. subst (λ (s : ℕ). Comes r (l + 1) s) (sym (counted-sync (started c))) (next_line r l _ (lasts r l h c has at counts));
+        first = λ _. subst (λ (s : ℕ). Comes r (l + 1) s) (sym (count_leaves-sync (start_leaves c))) (next_line r l _ (lasts r l h c has at counts));
         other = λ p. absurd (omega (arith, p));
       };
   frame = λ l h c at counts end last.
       record {
-        first = λ _. subst (λ (s : ℕ). Comes r 0 s) (sym (counted-sync (started c))) (next_frame r l _ has last (lasts r l h c has at counts));
+        first = λ _. subst (λ (s : ℕ). Comes r 0 s) (sym (count_leaves-sync (start_leaves c))) (next_frame r l _ has last (lasts r l h c has at counts));
         other = λ p. absurd (omega (arith, p));
       };
 }
@@ -121,7 +121,7 @@ left_tells r l s left =
     ]
 
 pub sync_lasts : (c : State) (n : ℕ) → HaveTheirBits c.registers → HoldsItsSync c.registers → BeginsFrame c → c.sync_lines ≤ 1 →
-    is_in_sync (clocked (clocks n c))
+    is_in_sync (clock_leaves (clocks n c))
     ≡ (nat_le (sync_line c.registers) (line_at c.registers n) && nat_lt (line_at c.registers n) (sync_line c.registers + sync_height c.registers))
 sync_lasts c n bits has begins few =
     let r = c.registers in
@@ -133,5 +133,5 @@ sync_lasts c n bits has begins few =
     let w = walk_frames c (Counts r) bits begins (counts_kept r has) n counts in
     let at : IsClock r w.0 w.1.0 d = w.1.1.1.0 in
     let place = place_is r n w.0 w.1.0 at.lines at.within w.1.1.0 in
-    ap (λ s. nat_lt 0 s) (counted-sync (started d)) ∙ left_tells r w.0 (started d).sync_lines (lasts r w.0 w.1.0 d has at w.1.1.1.1)
+    ap (λ s. nat_lt 0 s) (count_leaves-sync (start_leaves d)) ∙ left_tells r w.0 (start_leaves d).sync_lines (lasts r w.0 w.1.0 d has at w.1.1.1.1)
     ∙ ap (λ l. nat_le (sync_line r) l && nat_lt l (sync_line r + sync_height r)) (sym place.0)

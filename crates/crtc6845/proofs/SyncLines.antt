@@ -4,7 +4,7 @@ use Rattle.std.specs.Prelude.{if◌then◌else◌, is_none}
 use Rattle.std.proofs.lemmas.Bool.{cases_lt}
 use Rattle.std.proofs.Math.Nat.{mul-le-mul_right, mul-le-mul_left}
 use Rattle.crtc6845.specs.State.{Registers, State}
-use Rattle.crtc6845.specs.Clock.{starts_line, begins_sync, sync_counted, sync_begun, sync_height, line_started, started, ends_line, are_rows_done, is_row_done, frame_begun, adjust_begun, row_begun, raster_begun, line_ended_in, line_ended, counted, raster_step, is_interlaced}
+use Rattle.crtc6845.specs.Clock.{starts_line, begins_sync, sync_counted, sync_begun, sync_height, line_started, start_leaves, ends_line, are_rows_done, is_row_done, frame_begun, adjust_begun, row_begun, raster_begun, line_ended_in, line_ended, count_leaves, raster_step, is_interlaced}
 use Rattle.crtc6845.specs.Laws.{row_lines}
 use Rattle.crtc6845.specs.Pictures.{sync_line}
 use Rattle.crtc6845.proofs.Lines.{test_true, test_false}
@@ -29,8 +29,8 @@ counted_by : (p : Bool) (c : State) → (if p then line_ended c else record c { 
 counted_by true c = line_in c.adjust (record c { character = 0 })
 counted_by false c = refl
 
-pub counted-sync : (c : State) → (counted c).sync_lines ≡ c.sync_lines
-counted-sync c = counted_by (ends_line c) c
+pub count_leaves-sync : (c : State) → (count_leaves c).sync_lines ≡ c.sync_lines
+count_leaves-sync c = counted_by (ends_line c) c
 
 -- which line is the first of row R7
 steps_up : (b : Bool) → 1 ≤ (if b then 2 else 1)
@@ -100,17 +100,17 @@ begins_tells r l h c has at =
 
 -- what the start of a line leaves of the lines of sync
 pub start_by : (c : State) (p q : Bool) → starts_line c ≡ p → begins_sync (sync_counted c) ≡ q →
-    started c ≡ (if p then (if q then sync_begun (sync_counted c) else sync_counted c) else c)
+    start_leaves c ≡ (if p then (if q then sync_begun (sync_counted c) else sync_counted c) else c)
 start_by c p q e f =
     ap (λ (x : Bool). if x then line_started c else c) e ∙ ap (λ (x : Bool). if p then (if x then sync_begun (sync_counted c) else sync_counted c) else c) f
 
-pub sync_inside : (c : State) → 0 < c.character → (started c).sync_lines ≡ c.sync_lines
+pub sync_inside : (c : State) → 0 < c.character → (start_leaves c).sync_lines ≡ c.sync_lines
 sync_inside c h = ap (λ (s : State). s.sync_lines) (start_by c false (begins_sync (sync_counted c)) (test_false _ _ (λ e. omega (arith, e))) refl)
 
-pub sync_counts : (c : State) → c.character ≡ 0 → begins_sync (sync_counted c) ≡ false → (started c).sync_lines ≡ c.sync_lines - 1
+pub sync_counts : (c : State) → c.character ≡ 0 → begins_sync (sync_counted c) ≡ false → (start_leaves c).sync_lines ≡ c.sync_lines - 1
 sync_counts c h b = ap (λ (s : State). s.sync_lines) (start_by c true false (test_true _ _ h) b)
 
-pub sync_begins : (c : State) → c.character ≡ 0 → begins_sync (sync_counted c) ≡ true → (started c).sync_lines ≡ sync_height c.registers
+pub sync_begins : (c : State) → c.character ≡ 0 → begins_sync (sync_counted c) ≡ true → (start_leaves c).sync_lines ≡ sync_height c.registers
 sync_begins c h b = ap (λ (s : State). s.sync_lines) (start_by c true true (test_true _ _ h) b)
 
 -- a frame without row R7 has no such line

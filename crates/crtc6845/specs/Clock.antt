@@ -27,8 +27,8 @@ sync_begun c = record c { sync_lines = sync_height c.registers; fields = (c.fiel
 abbrev pub line_started : State → State
 line_started c = if begins_sync (sync_counted c) then sync_begun (sync_counted c) else sync_counted c
 
-abbrev pub started : State → State
-started c = if starts_line c then line_started c else c
+abbrev pub start_leaves : State → State
+start_leaves c = if starts_line c then line_started c else c
 
 -- Where vertical sync begins, the frame that was drawn is finished.
 abbrev pub finishes_frame : State → Bool
@@ -111,8 +111,8 @@ line_ended_in (Some line) c = adjust_line_ended line c
 abbrev pub line_ended : State → State
 line_ended c = line_ended_in c.adjust (record c { character = 0 })
 
-abbrev pub counted : State → State
-counted c = if ends_line c then line_ended c else record c { character = (c.character + 1) % 256 }
+abbrev pub count_leaves : State → State
+count_leaves c = if ends_line c then line_ended c else record c { character = (c.character + 1) % 256 }
 
 -- the line is the last of its frame
 abbrev pub is_last_line_in : Option ℕ → State → Bool
@@ -130,11 +130,11 @@ abbrev pub ends_frame : State → Bool
 ends_frame c = ends_line c && is_last_line c
 
 -- The character clock: what it leaves, and what it tells.
-abbrev pub clocked : State → State
-clocked c = counted (started c)
+abbrev pub clock_leaves : State → State
+clock_leaves c = count_leaves (start_leaves c)
 
-abbrev pub told : State → State → Beam
-told before c = record {
+abbrev pub beam_told : State → State → Beam
+beam_told before c = record {
   shown = is_shown c;
   ma = address c;
   ra = c.raster;
@@ -148,7 +148,7 @@ told before c = record {
 }
 
 abbrev pub beam_of : State → Beam
-beam_of c = told c (started c)
+beam_of c = beam_told c (start_leaves c)
 
 -- vertical sync is on
 abbrev pub is_in_sync : State → Bool

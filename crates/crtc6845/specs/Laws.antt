@@ -3,12 +3,12 @@
 use Rattle.std.specs.Prelude.{ℕ, zero, suc, ◌+◌, ◌*◌, ◌/◌, ◌%◌, ◌==◌, ◌≡◌, ◌<◌, None}
 use Rattle.crtc6845.specs.declared.Beam.{Beam}
 use Rattle.crtc6845.specs.State.{Registers, State}
-use Rattle.crtc6845.specs.Clock.{raster_step, last_raster, clocked, beam_of}
+use Rattle.crtc6845.specs.Clock.{raster_step, last_raster, clock_leaves, beam_of}
 
 -- n clocks, one after the other, and what the clock after them tells
 abbrev pub clocks : ℕ → State → State
 clocks zero c = c
-clocks (suc n) c = clocks n (clocked c)
+clocks (suc n) c = clocks n (clock_leaves c)
 
 abbrev pub tells : ℕ → State → Beam
 tells n c = beam_of (clocks n c)

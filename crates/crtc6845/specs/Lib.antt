@@ -2,7 +2,7 @@ pub mod State
 pub mod Registers
 pub mod Clock
 pub mod Laws
-pub mod Steps
+pub mod CodeSteps
 pub mod Pictures
 pub mod Calm
 pub mod Rests

@@ -3,7 +3,7 @@
 use Rattle.std.specs.Prelude.{ℕ, ◌+◌, ◌*◌, ◌/◌, ◌%◌, ◌==◌, ◌&&◌, ◌≡◌, ◌<◌, ◌≤◌, nat_lt, nat_le, true, false}
 use Rattle.crtc6845.specs.State.{Registers, State}
 use Rattle.crtc6845.specs.Registers.{start_address}
-use Rattle.crtc6845.specs.Clock.{sync_height, clocked, is_in_sync}
+use Rattle.crtc6845.specs.Clock.{sync_height, clock_leaves, is_in_sync}
 use Rattle.crtc6845.specs.Laws.{clocks, tells, line_characters, row_lines, frame_lines, frame_clocks, HaveTheirBits, BeginsFrame}
 
 -- Clock n after the first of a frame, counted from 0, is in this line of a frame.
@@ -42,7 +42,7 @@ pub record HoldsItsSync (r : Registers) : Type 0 where
 abbrev pub VerticalSyncHasItsLines : Type 0
 VerticalSyncHasItsLines =
     (c : State) (n : ℕ) → HaveTheirBits c.registers → HoldsItsSync c.registers → BeginsFrame c → c.sync_lines ≤ 1 →
-    is_in_sync (clocked (clocks n c))
+    is_in_sync (clock_leaves (clocks n c))
     ≡ (nat_le (sync_line c.registers) (line_at c.registers n) && nat_lt (line_at c.registers n) (sync_line c.registers + sync_height c.registers))
 
 -- The row that this line is of, if it is none of adjust, and the character of the line.

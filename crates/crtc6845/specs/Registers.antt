@@ -19,8 +19,8 @@ select_leaves v c = record c { selected = v % 32 }
 
 -- The registers once one of them is written: R4, R6, R7 and R10 have seven bits, R5, R9 and R11 five, R12 and R14 six, the others
 -- eight. There are none from R16 on.
-abbrev pub written : ℕ → ℕ → Registers → Registers
-written n v r =
+abbrev pub write_leaves : ℕ → ℕ → Registers → Registers
+write_leaves n v r =
     if n == 0 then record r { horizontal_total = v }
     else if n == 1 then record r { horizontal_displayed = v }
     else if n == 2 then record r { horizontal_sync_position = v }
@@ -40,7 +40,7 @@ written n v r =
     else r
 
 abbrev pub set_leaves : ℕ → State → State
-set_leaves v c = record c { registers = written c.selected v c.registers }
+set_leaves v c = record c { registers = write_leaves c.selected v c.registers }
 
 -- R12 to R15 can be read, and the others read 00. (This is this project's profile.)
 abbrev pub answer_of : State → ℕ

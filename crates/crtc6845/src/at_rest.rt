@@ -1,7 +1,7 @@
 //! Many character clocks at rest.
 ghost use Rattle.std.specs.Prelude.{◌≡◌, ◌+◌, ◌-◌, ◌/◌, ◌%◌, ◌<◌, true};
 ghost use Rattle.crtc6845.specs.Calm.{StaysInSync};
-ghost use Rattle.crtc6845.specs.Steps.{is_at_rest};
+ghost use Rattle.crtc6845.specs.CodeSteps.{is_quiet};
 ghost use Rattle.crtc6845.specs.Clock.{sync_height};
 ghost use Rattle.crtc6845.specs.Laws.{clocks};
 ghost use Rattle.crtc6845.specs.Rests.{frames_in, clocks_past_frame, sync_after};
@@ -47,13 +47,13 @@ impl Chip {
         }
     }
 
-    /// Does `n` character clocks where the chip is at rest, and tells what they finish.
+    /// Does `n` character clocks where the chip is quiet, and tells what they finish.
     pub(crate) fn rest(&mut self, n: u64) -> Finished
-        requires { is_at_rest self.old ≡ true }
+        requires { is_quiet self.old ≡ true }
         ensures state { self.new ≡ clocks n self.old }
         ensures frames { result.frames ≡ frames_in n self.old }
         ensures past { result.past ≡ clocks_past_frame n 0 self.old }
-        ensures rest { is_at_rest self.new ≡ true }
+        ensures rest { is_quiet self.new ≡ true }
     {
         let left = self.sync_left();
         if self.sync_row() != 0 {
@@ -71,9 +71,9 @@ impl Chip {
         self.turn_sync(n - first)
     }
 
-    /// A number of character clocks for which vertical sync stays what it is, where the chip is at rest.
+    /// A number of character clocks for which vertical sync stays what it is, where the chip is quiet.
     pub(crate) fn calm_at_rest(&self) -> u64
-        requires { is_at_rest self.now ≡ true }
+        requires { is_quiet self.now ≡ true }
         ensures { StaysInSync result self.now }
     {
         let left = self.sync_left();

@@ -2,8 +2,8 @@
 ghost use Rattle.std.specs.Prelude.{◌≡◌, ◌<◌, ◌==◌, ◌||◌, false, true, if◌then◌else◌};
 ghost use Rattle.crtc6845.specs.State.{power_on};
 ghost use Rattle.crtc6845.specs.Registers.{select_leaves, set_leaves, answer_of};
-ghost use Rattle.crtc6845.specs.Steps.{cursor_is_on, ends_row_line, is_at_rest, rest_told};
-ghost use Rattle.crtc6845.specs.Clock.{starts_line, begins_sync, sync_counted, sync_begun, line_started, is_shown, blinks_on, has_cursor, address, ends_row, ends_frame, ends_line, is_row_done, are_rows_done, is_last_line, row_line_ended, adjust_line_ended, frame_begun, adjust_begun, line_ended, counted, clocked, beam_of, is_in_sync};
+ghost use Rattle.crtc6845.specs.CodeSteps.{cursor_is_on, ends_row_line, is_quiet, quiet_beam};
+ghost use Rattle.crtc6845.specs.Clock.{starts_line, begins_sync, sync_counted, sync_begun, line_started, is_shown, blinks_on, has_cursor, address, ends_row, ends_frame, ends_line, is_row_done, are_rows_done, is_last_line, row_line_ended, adjust_line_ended, frame_begun, adjust_begun, line_ended, count_leaves, clock_leaves, beam_of, is_in_sync};
 
 use crate::Beam;
 use crate::registers::Registers;
@@ -119,7 +119,7 @@ impl Chip {
     #[inline(always)]
     pub(crate) fn clock_at_edge(&mut self) -> Beam
         ensures beam { result ≡ beam_of self.old }
-        ensures state { self.new ≡ clocked self.old }
+        ensures state { self.new ≡ clock_leaves self.old }
     {
         let line_start = self.starts_line();
         let frame_end = line_start && self.start_line();
@@ -139,14 +139,14 @@ impl Chip {
         beam
     }
 
-    /// Does one character clock, and tells it, where the chip is at rest.
+    /// Does one character clock, and tells it, where the chip is quiet.
     #[inline(always)]
-    pub(crate) fn clock_at_rest(&mut self) -> Beam
-        requires { is_at_rest self.old ≡ true }
+    pub(crate) fn clock_quiet(&mut self) -> Beam
+        requires { is_quiet self.old ≡ true }
         ensures beam { result ≡ beam_of self.old }
-        ensures state { self.new ≡ clocked self.old }
-        ensures told { result ≡ rest_told result.frame_end self.new }
-        ensures rest { is_at_rest self.new ≡ true }
+        ensures state { self.new ≡ clock_leaves self.old }
+        ensures told { result ≡ quiet_beam result.frame_end self.new }
+        ensures rest { is_quiet self.new ≡ true }
         ensures not_shown { result.shown ≡ false }
     {
         let frame_end = self.start_line();
@@ -164,16 +164,16 @@ impl Chip {
         }
     }
 
-    /// Does one character clock where the chip is at rest, if vertical sync goes on past it.
+    /// Does one character clock where the chip is quiet, if vertical sync goes on past it.
     #[inline(always)]
     pub(crate) fn clock_within_sync(&mut self) -> bool
-        requires { is_at_rest self.old ≡ true }
-        ensures beam { result ≡ true → beam_of self.old ≡ rest_told false self.new }
-        ensures state { result ≡ true → self.new ≡ clocked self.old }
+        requires { is_quiet self.old ≡ true }
+        ensures beam { result ≡ true → beam_of self.old ≡ quiet_beam false self.new }
+        ensures state { result ≡ true → self.new ≡ clock_leaves self.old }
         ensures counts { result ≡ true → self.new ≡ sync_counted self.old }
         ensures sync { result ≡ true → is_in_sync self.new ≡ true }
         ensures stays { result ≡ false → self.new ≡ self.old }
-        ensures rest { is_at_rest self.new ≡ true }
+        ensures rest { is_quiet self.new ≡ true }
     {
         if self.sync_lines > 1 {
             self.sync_lines -= 1;
@@ -188,7 +188,7 @@ impl Chip {
         requires start { starts_line self.old ≡ false }
         requires end { ends_line self.old ≡ false }
         ensures beam { result ≡ beam_of self.old }
-        ensures state { self.new ≡ clocked self.old }
+        ensures state { self.new ≡ clock_leaves self.old }
         ensures inside { (result.line_start ≡ false) × (result.frame_end ≡ false) × (result.row_end ≡ false) × (result.restart ≡ false) }
     {
         let beam = Beam {
@@ -224,8 +224,8 @@ impl Chip {
 
     /// Each character is a line and the whole frame, and is not shown. So it is before the registers are written.
     #[inline(always)]
-    pub(crate) fn is_at_rest(&self) -> bool
-        ensures { result ≡ is_at_rest self.now }
+    pub(crate) fn is_quiet(&self) -> bool
+        ensures { result ≡ is_quiet self.now }
     {
         self.starts_line()
             && self.ends_line()
@@ -359,7 +359,7 @@ impl Chip {
     // The next character.
     #[inline(always)]
     fn count(&mut self)
-        ensures { self.new ≡ counted self.old }
+        ensures { self.new ≡ count_leaves self.old }
     {
         if self.ends_line() {
             self.end_line();

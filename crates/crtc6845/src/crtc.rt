@@ -1,10 +1,10 @@
-//! The chip, with a short way for where it is at rest.
+//! The chip, with a short way for where it is quiet.
 ghost use Rattle.std.specs.Prelude.{ℕ, ◌==◌, if◌then◌else◌, ◌≡◌, ◌+◌, ◌%◌, ◌<◌, ◌≤◌, ◌||◌, false, true};
 ghost use Rattle.crtc6845.specs.State.{power_on};
 ghost use Rattle.crtc6845.specs.Registers.{select_leaves, set_leaves, answer_of};
-ghost use Rattle.crtc6845.specs.Clock.{starts_line, sync_counted, clocked, ends_line, beam_of, is_in_sync};
+ghost use Rattle.crtc6845.specs.Clock.{starts_line, sync_counted, clock_leaves, ends_line, beam_of, is_in_sync};
 ghost use Rattle.crtc6845.specs.Calm.{StaysInSync};
-ghost use Rattle.crtc6845.specs.Steps.{is_at_rest, rest_told};
+ghost use Rattle.crtc6845.specs.CodeSteps.{is_quiet, quiet_beam};
 ghost use Rattle.crtc6845.specs.Laws.{clocks};
 ghost use Rattle.crtc6845.specs.Windows.{ShowsWindows};
 ghost use Rattle.crtc6845.specs.Rests.{frames_in, clocks_past_frame};
@@ -18,20 +18,20 @@ use std::marker::Model;
 #[derive(Drop)]
 pub struct Crtc {
     chip: Chip,
-    // It is known to be at rest, as a chip without a program is: then only vertical sync changes.
-    rests: bool,
+    // It is known to be quiet, as a chip without a program is: then only vertical sync changes.
+    quiet: bool,
 }
 
 impl Model for Crtc {
     ghost use Rattle.std.specs.Prelude.{◌≡◌, true};
     ghost use Rattle.crtc6845.specs.State.{State};
-    ghost use Rattle.crtc6845.specs.Steps.{is_at_rest};
+    ghost use Rattle.crtc6845.specs.CodeSteps.{is_quiet};
 
     ghost Value = { State };
 
     ghost view = { λ c. c.chip };
 
-    ghost invariant = { λ c. c.rests ≡ true → is_at_rest c.chip ≡ true };
+    ghost invariant = { λ c. c.quiet ≡ true → is_quiet c.chip ≡ true };
 }
 
 impl Crtc {
@@ -41,7 +41,7 @@ impl Crtc {
     {
         Crtc {
             chip: Chip::new(),
-            rests: false,
+            quiet: false,
         }
     }
 
@@ -56,7 +56,7 @@ impl Crtc {
     pub fn set(&mut self, v: u8)
         ensures { self.new ≡ set_leaves v self.old }
     {
-        self.rests = false;
+        self.quiet = false;
         self.chip.set(v);
     }
 
@@ -79,7 +79,7 @@ impl Crtc {
     #[inline(always)]
     pub fn clock(&mut self) -> Beam
         ensures beam { result ≡ beam_of self.old }
-        ensures state { self.new ≡ clocked self.old }
+        ensures state { self.new ≡ clock_leaves self.old }
     {
         if self.is_edge() {
             self.clock_at_edge()
@@ -92,10 +92,10 @@ impl Crtc {
     #[inline(always)]
     fn clock_at_edge(&mut self) -> Beam
         ensures beam { result ≡ beam_of self.old }
-        ensures state { self.new ≡ clocked self.old }
+        ensures state { self.new ≡ clock_leaves self.old }
     {
         let beam = self.chip.clock_at_edge();
-        self.rests = self.chip.is_at_rest();
+        self.quiet = self.chip.is_quiet();
         beam
     }
 
@@ -105,36 +105,36 @@ impl Crtc {
         requires start { starts_line self.old ≡ false }
         requires end { ends_line self.old ≡ false }
         ensures beam { result ≡ beam_of self.old }
-        ensures state { self.new ≡ clocked self.old }
+        ensures state { self.new ≡ clock_leaves self.old }
         ensures inside { (result.line_start ≡ false) × (result.frame_end ≡ false) × (result.row_end ≡ false) × (result.restart ≡ false) }
     {
         self.chip.clock_inside()
     }
 
-    /// Does one character clock, and tells it, where `is_at_rest` is true.
+    /// Does one character clock, and tells it, where `is_quiet` is true.
     #[inline(always)]
-    pub fn clock_at_rest(&mut self) -> Beam
-        requires { is_at_rest self.old ≡ true }
+    pub fn clock_quiet(&mut self) -> Beam
+        requires { is_quiet self.old ≡ true }
         ensures beam { result ≡ beam_of self.old }
-        ensures state { self.new ≡ clocked self.old }
-        ensures told { result ≡ rest_told result.frame_end self.new }
-        ensures rest { is_at_rest self.new ≡ true }
+        ensures state { self.new ≡ clock_leaves self.old }
+        ensures told { result ≡ quiet_beam result.frame_end self.new }
+        ensures rest { is_quiet self.new ≡ true }
         ensures not_shown { result.shown ≡ false }
     {
-        self.chip.clock_at_rest()
+        self.chip.clock_quiet()
     }
 
-    /// Does one character clock, where `is_at_rest` is true, if vertical sync goes on past it: then it has one line less left, and nothing
+    /// Does one character clock, where `is_quiet` is true, if vertical sync goes on past it: then it has one line less left, and nothing
     /// else changes.
     #[inline(always)]
     pub fn clock_within_sync(&mut self) -> bool
-        requires { is_at_rest self.old ≡ true }
-        ensures beam { result ≡ true → beam_of self.old ≡ rest_told false self.new }
-        ensures state { result ≡ true → self.new ≡ clocked self.old }
+        requires { is_quiet self.old ≡ true }
+        ensures beam { result ≡ true → beam_of self.old ≡ quiet_beam false self.new }
+        ensures state { result ≡ true → self.new ≡ clock_leaves self.old }
         ensures counts { result ≡ true → self.new ≡ sync_counted self.old }
         ensures sync { result ≡ true → is_in_sync self.new ≡ true }
         ensures stays { result ≡ false → self.new ≡ self.old }
-        ensures rest { is_at_rest self.new ≡ true }
+        ensures rest { is_quiet self.new ≡ true }
     {
         self.chip.clock_within_sync()
     }
@@ -143,21 +143,21 @@ impl Crtc {
     pub fn calm(&self) -> u64
         ensures { StaysInSync result self.now }
     {
-        if self.rests {
+        if self.quiet {
             self.chip.calm_at_rest()
         } else {
             self.chip.calm()
         }
     }
 
-    /// Does `n` character clocks where `is_at_rest` is true, and tells what they finish.
+    /// Does `n` character clocks where `is_quiet` is true, and tells what they finish.
     pub fn rest(&mut self, n: u64) -> Finished
-        requires { is_at_rest self.old ≡ true }
+        requires { is_quiet self.old ≡ true }
         ensures state { self.new ≡ clocks n self.old }
         ensures frames { result.frames ≡ frames_in n self.old }
         ensures past { result.past ≡ clocks_past_frame n 0 self.old }
         ensures from { (y : ℕ) → clocks_past_frame n y self.old ≡ (if result.frames == 0 then y + n else result.past) }
-        ensures rest { is_at_rest self.new ≡ true }
+        ensures rest { is_quiet self.new ≡ true }
     {
         self.chip.rest(n)
     }
@@ -197,10 +197,10 @@ impl Crtc {
 
     /// Each character is known to be a whole frame of which nothing is shown, until a register is written.
     #[inline(always)]
-    pub fn is_at_rest(&self) -> bool
-        ensures { result ≡ true → is_at_rest self.now ≡ true }
+    pub fn is_quiet(&self) -> bool
+        ensures { result ≡ true → is_quiet self.now ≡ true }
     {
-        self.rests
+        self.quiet
     }
 
     /// The next character is the first or the last of its line: a line, a row or a frame may begin or end with it.

@@ -1,7 +1,7 @@
 //! Registers R0 to R15.
 ghost use Rattle.std.specs.Prelude.{◌≡◌, ◌≤◌, ◌<◌};
 ghost use Rattle.crtc6845.specs.State.{power_on};
-ghost use Rattle.crtc6845.specs.Registers.{start_address, cursor_address, written};
+ghost use Rattle.crtc6845.specs.Registers.{start_address, cursor_address, write_leaves};
 ghost use Rattle.crtc6845.specs.Clock.{sync_height, raster_step, last_raster, is_interlaced};
 ghost use Rattle.crtc6845.specs.Windows.{shown_count};
 ghost use Rattle.crtc6845.specs.Laws.{line_characters, row_lines, HaveTheirBits};
@@ -84,7 +84,7 @@ impl Registers {
 
     /// Writes one of them: each has its number of bits.
     pub(crate) fn write(&mut self, n: u8, v: u8)
-        ensures { self.new ≡ written n v self.old }
+        ensures { self.new ≡ write_leaves n v self.old }
     {
         match n {
             0 => self.horizontal_total = v,

@@ -21,12 +21,12 @@ words zero g = []
 words (suc n) g = (pcg32 g).0 ∷ words n (pcg32 g).1
 
 -- the low bytes of the first 256 words of the generator that is made of a seed and stream 0
-abbrev pub drawn : ℕ → List ℕ
-drawn seed = map (λ w. w % 256) (words 256 (started 64 multiplier_64 seed (increment_of 64 0)))
+abbrev pub drawn_bytes : ℕ → List ℕ
+drawn_bytes seed = map (λ w. w % 256) (words 256 (started 64 multiplier_64 seed (increment_of 64 0)))
 
 -- an image that begins at F800, with these bytes at F900 to F9FF
-abbrev pub holding : List ℕ → List ℕ → List ℕ
-holding bytes image = take 256 image ++ bytes ++ drop 512 image
+abbrev pub image_with : List ℕ → List ℕ → List ℕ
+image_with bytes image = take 256 image ++ bytes ++ drop 512 image
 
 -- the image of what a source text means
 abbrev pub image_of : Result Program AsmError → Result (List ℕ) AsmError
@@ -35,5 +35,5 @@ image_of (Err e) = Err e
 
 -- the same, with these bytes at F900 to F9FF
 abbrev pub image_holding : List ℕ → Result Program AsmError → Result (List ℕ) AsmError
-image_holding bytes (Ok program) = Ok (holding bytes program.1)
+image_holding bytes (Ok program) = Ok (image_with bytes program.1)
 image_holding bytes (Err e) = Err e

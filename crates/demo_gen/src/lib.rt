@@ -4,7 +4,7 @@
 ghost use Rattle.std.specs.Prelude.{◌≡◌, ◌%◌, Ok, IsOk, IfOk, take, drop};
 ghost use Rattle.asm65.specs.Source.{source};
 ghost use Rattle.rand_pcg.specs.Pcg.{pcg32};
-ghost use Rattle.demo_gen.specs.Demo.{host_text, tube_text, drawn, holding, image_of, image_holding};
+ghost use Rattle.demo_gen.specs.Demo.{host_text, tube_text, drawn_bytes, image_with, image_of, image_holding};
 
 use asm65::{AsmError, Image, assemble};
 use beeb_bits::NoMemory;
@@ -74,7 +74,7 @@ word start, start, start
 pub fn pair(alloc: Global, seed: u64) -> Result<Demo, NoMemory>
     ensures assembles { IsOk (source Part.Nmos host_text) × IsOk (source Part.Cmos tube_text) }
     ensures os { IfOk result (λ demo. image_of (source Part.Nmos host_text) ≡ Ok demo.os.items) }
-    ensures tube { IfOk result (λ demo. image_holding (drawn seed) (source Part.Cmos tube_text) ≡ Ok demo.tube.items) }
+    ensures tube { IfOk result (λ demo. image_holding (drawn_bytes seed) (source Part.Cmos tube_text) ≡ Ok demo.tube.items) }
 {
     let os = host_image(alloc)?;
     let tube = tube_image(alloc, seed)?;
@@ -107,7 +107,7 @@ fn tube_program(alloc: Global) -> Result<Image, NoMemory>
 }
 
 fn tube_image(alloc: Global, seed: u64) -> Result<Vec<u8>, NoMemory>
-    ensures { IfOk result (λ image. image_holding (drawn seed) (source Part.Cmos tube_text) ≡ Ok image.items) }
+    ensures { IfOk result (λ image. image_holding (drawn_bytes seed) (source Part.Cmos tube_text) ≡ Ok image.items) }
 {
     let program = tube_program(alloc)?;
     let bytes = drawn(alloc, seed)?;
@@ -124,7 +124,7 @@ fn next_byte(generator: &mut Lcg64Xsh32) -> u8
 
 // The low bytes of the generator's first 256 words.
 fn drawn(alloc: Global, seed: u64) -> Result<Vec<u8>, AllocError>
-    ensures { IfOk result (λ bytes. bytes.items ≡ drawn seed) }
+    ensures { IfOk result (λ bytes. bytes.items ≡ drawn_bytes seed) }
 {
     let mut generator = Lcg64Xsh32::new(seed, 0);
     let mut bytes = Vec::new(alloc);
@@ -158,7 +158,7 @@ fn behind(image: &[u8]) -> &[u8]
 
 // The image with these bytes as its second page.
 fn holding(alloc: Global, image: &[u8], bytes: &[u8]) -> Result<Vec<u8>, AllocError>
-    ensures { IfOk result (λ held. held.items ≡ holding bytes.now image.now) }
+    ensures { IfOk result (λ held. held.items ≡ image_with bytes.now image.now) }
 {
     let mut held = front(image).to_vec(alloc)?;
     held.extend_from_slice(bytes)?;

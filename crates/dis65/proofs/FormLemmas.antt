@@ -12,7 +12,7 @@ use Rattle.op_table.specs.declared.Row.{Row}
 use Rattle.op_table.specs.Names.{name_of}
 use Rattle.op_table.specs.Forms.{Form}
 use Rattle.op_table.specs.Rows.{row_of, bytes_of}
-use Rattle.dis65.specs.Listing.{if_whole, line_text, passed, operand_text}
+use Rattle.dis65.specs.Listing.{if_whole, line_text, bytes_behind, operand_text}
 
 -- the line of an instruction, by the bytes behind its opcode
 abbrev pub instruction_text : ℕ → Mnemonic → Mode → List ℕ → List ℕ
@@ -95,7 +95,7 @@ some_bytes _ = lit≤ tt
 
 -- without a row it is the line of the byte
 pub none_line : (part : Part) (at op : ℕ) (behind : List ℕ) (o : Option Form) → None ≡ option_map (row_of part) o
-    → (line_text at op behind None ≡ line_text at op behind o) × (0 ≡ passed o)
+    → (line_text at op behind None ≡ line_text at op behind o) × (0 ≡ bytes_behind o)
 none_line part at op behind None e = (refl, refl)
 none_line part at op behind (Some f) e = cc
 
@@ -109,13 +109,13 @@ row_line part at op behind r (Some f) e =
 
 -- and the bytes that the row counts are the opcode and those that the line passes
 pub row_passed : (part : Part) (n : ℕ) (r : Row) (o : Option Form) → Some r ≡ option_map (row_of part) (if_whole n o)
-    → (1 ≤ r.bytes) × (r.bytes ≤ n) × (r.bytes - 1 ≡ passed (if_whole n o))
+    → (1 ≤ r.bytes) × (r.bytes ≤ n) × (r.bytes - 1 ≡ bytes_behind (if_whole n o))
 row_passed part n r o e = by_form part n r o (if_whole n o) refl e
   where
     by_form : (part : Part) (n : ℕ) (r : Row) (o w : Option Form) → if_whole n o ≡ w → Some r ≡ option_map (row_of part) w
-        → (1 ≤ r.bytes) × (r.bytes ≤ n) × (r.bytes - 1 ≡ passed w)
+        → (1 ≤ r.bytes) × (r.bytes ≤ n) × (r.bytes - 1 ≡ bytes_behind w)
     by_form part n r o None at e = cc
     by_form part n r o (Some f) at e =
         let same : row_of part f ≡ r = cc in
-        subst (λ (x : Row). (1 ≤ x.bytes) × (x.bytes ≤ n) × (x.bytes - 1 ≡ passed (Some f))) same
+        subst (λ (x : Row). (1 ≤ x.bytes) × (x.bytes ≤ n) × (x.bytes - 1 ≡ bytes_behind (Some f))) same
         (some_bytes f.mode, (whole_form n o f at).1, refl)

@@ -9,7 +9,7 @@ use Rattle.op_table.specs.Forms.{forms, form_at}
 use Rattle.asm65.specs.Syntax.{Line, Statement, org}
 use Rattle.asm65.specs.Placement.{Placed, placed_from, placement, origin_of, after_line, first_pass}
 use Rattle.asm65.specs.Source.{Labels, labels_of, second_pass, line_bytes, program_of, source}
-use Rattle.dis65.specs.Listing.{form_here, passed, decode}
+use Rattle.dis65.specs.Listing.{form_here, bytes_behind, decode}
 use Rattle.dis65.specs.Meaning.{DecodeMeansItsBytes}
 use Rattle.dis65.proofs.ParsedLemmas.{AreBytes, bytes_tail, bytes_head, unlabelled, statement_at, listed, parsed_decode}
 use Rattle.dis65.proofs.PlacedLemmas.{IsSound, org_is_sound, line_is_sound, passed_fits}
@@ -47,7 +47,7 @@ listed_sound part at (suc skip) (b ∷ xs) all h fits =
     let place : at + suc skip ≡ (at + 1) + skip = omega arith in
     rw place (listed_sound part (at + 1) skip xs (bytes_tail b xs all) (omega arith) (omega arith))
 listed_sound part at zero (op ∷ xs) all h fits =
-    let n = passed (form_here part op xs) in
+    let n = bytes_behind (form_here part op xs) in
     let within : n ≤ length xs = passed_fits (length xs) (form_at (forms part) op) in
     let tail = bytes_tail op xs all in
     let here = line_is_sound part at op xs (bytes_head op xs all) tail (omega arith) in

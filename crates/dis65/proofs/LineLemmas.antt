@@ -2,7 +2,7 @@
 use Rattle.std.proofs.Common.{◌≡◌, ℕ, zero, suc, ◌+◌, ◌-◌, ◌≤◌, List, [], ◌∷◌, ◌++◌, length, take, drop, refl, arith, append_assoc}
 use Rattle.std.proofs.lemmas.List.{take_rest}
 use Rattle.op_table.specs.declared.Part.{Part}
-use Rattle.dis65.specs.Listing.{lines_from, line_text, form_here, passed}
+use Rattle.dis65.specs.Listing.{lines_from, line_text, form_here, bytes_behind}
 
 -- the lines behind bytes that belong to the line before
 pub lines_skip : (part : Part) (at skip : ℕ) (bytes : List ℕ) → skip ≤ length bytes
@@ -14,7 +14,7 @@ lines_skip part at (suc skip) (b ∷ bytes) h =
     rw e (lines_skip part (at + 1) skip bytes (omega arith))
 
 -- what is written and what is left to write, one line further
-pub one_line : (part : Part) (at op n : ℕ) (text behind : List ℕ) → n ≡ passed (form_here part op behind) → n ≤ length behind
+pub one_line : (part : Part) (at op n : ℕ) (text behind : List ℕ) → n ≡ bytes_behind (form_here part op behind) → n ≤ length behind
     → (text ++ line_text at op behind (form_here part op behind))
     ++ lines_from part (at + (1 + n)) 0 (take (length behind - n) (drop n behind))
     ≡ text ++ lines_from part at 0 (op ∷ behind)

@@ -7,9 +7,9 @@ use Rattle.op_table.specs.declared.Part.{Part}
 use Rattle.op_table.specs.Names.{name_of}
 use Rattle.op_table.specs.Forms.{Form}
 use Rattle.asm65.specs.Tokens.{lines_of, code_of, tokens_of}
-use Rattle.asm65.specs.Syntax.{Statement, instruction, org, bytes, Line, line_of, parsed}
+use Rattle.asm65.specs.Syntax.{Statement, instruction, org, bytes, Line, line_of, parsed_text}
 use Rattle.digits.specs.Hexadecimal.{hex_digits}
-use Rattle.dis65.specs.Listing.{lines_from, line_text, form_here, passed, decode, operand_text}
+use Rattle.dis65.specs.Listing.{lines_from, line_text, form_here, bytes_behind, decode, operand_text}
 use Rattle.dis65.proofs.FormLemmas.{both, not_true}
 use Rattle.dis65.proofs.DigitLemmas.{is_inner}
 use Rattle.dis65.proofs.ModeLemmas.{plain, is_small, number_at, operand_by}
@@ -58,13 +58,13 @@ abbrev pub unlabelled : Statement → Option Line
 unlabelled s = Some (record { label = None; statement = Some s })
 
 -- a line in front is read first
-pub parsed_line : (line rest : List ℕ) (s : Statement) → Means line s → parsed (line ++ 10 ∷ rest) ≡ unlabelled s ∷ parsed rest
+pub parsed_line : (line rest : List ℕ) (s : Statement) → Means line s → parsed_text (line ++ 10 ∷ rest) ≡ unlabelled s ∷ parsed_text rest
 parsed_line line rest s m =
     let first = lines_first line rest m.inner in
     let code = no_comment line m.inner in
     ap (λ ls. map (λ l. line_of (tokens_of (code_of l))) ls) first
-    ∙ ap (λ c. line_of (tokens_of c) ∷ parsed rest) code
-    ∙ ap (λ l. l ∷ parsed rest) m.reads
+    ∙ ap (λ c. line_of (tokens_of c) ∷ parsed_text rest) code
+    ∙ ap (λ l. l ∷ parsed_text rest) m.reads
 
 -- ---- the statements of a disassembly
 
@@ -79,30 +79,30 @@ abbrev pub listed : Part → ℕ → ℕ → List ℕ → List (Option Line)
 listed part at skip [] = []
 listed part at (suc skip) (b ∷ xs) = listed part (at + 1) skip xs
 listed part at zero (op ∷ xs) =
-    unlabelled (statement_at at op xs (form_here part op xs)) ∷ listed part (at + 1) (passed (form_here part op xs)) xs
+    unlabelled (statement_at at op xs (form_here part op xs)) ∷ listed part (at + 1) (bytes_behind (form_here part op xs)) xs
 
 -- that line is read as its statement
 first_line : (at op : ℕ) (behind rest : List ℕ) (o : Option Form) → op < 256 → AreBytes behind
-    → parsed (line_text at op behind o ++ rest) ≡ unlabelled (statement_at at op behind o) ∷ parsed rest
+    → parsed_text (line_text at op behind o ++ rest) ≡ unlabelled (statement_at at op behind o) ∷ parsed_text rest
 unfolding hex_digits
 first_line at op behind rest None h all = parsed_line (codes "byte &" ++ hex_digits 2 op) rest _ (byte_line op h)
 first_line at op behind rest (Some f) h all =
     let line = name_of f.mnemonic ++ operand_text at f.mode (slice_index behind 0) (slice_index behind 1) in
-    ap parsed (append_assoc line (codes "\n") rest)
+    ap parsed_text (append_assoc line (codes "\n") rest)
     ∙ parsed_line line rest _ (instruction_line at f.mnemonic f.mode (slice_index behind 0) (slice_index behind 1) (byte_at behind 0 all) (byte_at behind 1 all))
 
 -- and so are all lines
-parsed_lines : (part : Part) (at skip : ℕ) (xs : List ℕ) → AreBytes xs → parsed (lines_from part at skip xs) ≡ listed part at skip xs
+parsed_lines : (part : Part) (at skip : ℕ) (xs : List ℕ) → AreBytes xs → parsed_text (lines_from part at skip xs) ≡ listed part at skip xs
 parsed_lines part at skip [] all = refl
 parsed_lines part at (suc skip) (b ∷ xs) all = parsed_lines part (at + 1) skip xs (bytes_tail b xs all)
 parsed_lines part at zero (op ∷ xs) all =
-    first_line at op xs (lines_from part (at + 1) (passed (form_here part op xs)) xs) (form_here part op xs) (bytes_head op xs all) (bytes_tail op xs all)
+    first_line at op xs (lines_from part (at + 1) (bytes_behind (form_here part op xs)) xs) (form_here part op xs) (bytes_head op xs all) (bytes_tail op xs all)
     ∙ ap (λ ls. unlabelled (statement_at at op xs (form_here part op xs)) ∷ ls)
-    (parsed_lines part (at + 1) (passed (form_here part op xs)) xs (bytes_tail op xs all))
+    (parsed_lines part (at + 1) (bytes_behind (form_here part op xs)) xs (bytes_tail op xs all))
 
 -- the whole text
 pub parsed_decode : (part : Part) (origin : ℕ) (xs : List ℕ) → origin < 65536 → AreBytes xs
-    → parsed (decode part xs origin) ≡ unlabelled (org (record { value = origin; byte_sized = false })) ∷ listed part origin 0 xs
+    → parsed_text (decode part xs origin) ≡ unlabelled (org (record { value = origin; byte_sized = false })) ∷ listed part origin 0 xs
 unfolding decode hex_digits
 parsed_decode part origin xs h all =
     parsed_line (codes "org &" ++ hex_digits 4 origin) (lines_from part origin 0 xs) _ (org_line origin h)

@@ -13,7 +13,7 @@ use Rattle.op_table.specs.Rows.{bytes_of}
 use Rattle.asm65.specs.Syntax.{Statement, org, bytes}
 use Rattle.asm65.specs.Placement.{operand_values, values_numbers, first_fault, after_line}
 use Rattle.asm65.specs.Source.{Labels, is_unknown, value_in, operand_out, operand_bytes, second_fault, line_bytes}
-use Rattle.dis65.specs.Listing.{target, if_whole, form_here, passed}
+use Rattle.dis65.specs.Listing.{target, if_whole, form_here, bytes_behind}
 use Rattle.dis65.proofs.FormLemmas.{whole_form, some_bytes}
 use Rattle.dis65.proofs.BranchLemmas.{target_fits, branch_back}
 use Rattle.dis65.proofs.ModeLemmas.{plain, is_small, number_at, operand_by, TakenBack, taken_back}
@@ -169,20 +169,20 @@ instruction_is_sound part at op xs f t all size fits =
     }
 
 -- the bytes that a line passes are there
-pub passed_fits : (n : ℕ) (o : Option Form) → passed (if_whole (n + 1) o) ≤ n
+pub passed_fits : (n : ℕ) (o : Option Form) → bytes_behind (if_whole (n + 1) o) ≤ n
 passed_fits n o = by_form n o (if_whole (n + 1) o) refl
   where
-    by_form : (n : ℕ) (o w : Option Form) → if_whole (n + 1) o ≡ w → passed w ≤ n
+    by_form : (n : ℕ) (o w : Option Form) → if_whole (n + 1) o ≡ w → bytes_behind w ≤ n
     by_form n o None e = zero-le
     by_form n o (Some f) e = let size = (whole_form (n + 1) o f e).1 in omega arith
 
 -- the line of an opcode
 pub line_is_sound : (part : Part) (at op : ℕ) (xs : List ℕ) → op < 256 → AreBytes xs → at + (length xs + 1) ≤ 65536
-    → IsSound part at (statement_at at op xs (form_here part op xs)) (op ∷ take (passed (form_here part op xs)) xs)
+    → IsSound part at (statement_at at op xs (form_here part op xs)) (op ∷ take (bytes_behind (form_here part op xs)) xs)
 line_is_sound part at op xs h all fits = by_form part at op xs h all fits (form_here part op xs) refl
   where
     by_form : (part : Part) (at op : ℕ) (xs : List ℕ) → op < 256 → AreBytes xs → at + (length xs + 1) ≤ 65536
-        → (o : Option Form) → form_here part op xs ≡ o → IsSound part at (statement_at at op xs o) (op ∷ take (passed o) xs)
+        → (o : Option Form) → form_here part op xs ≡ o → IsSound part at (statement_at at op xs o) (op ∷ take (bytes_behind o) xs)
     by_form part at op xs h all fits None e = byte_is_sound part at op h (omega arith)
     by_form part at op xs h all fits (Some f) e =
         let whole = whole_form (length xs + 1) (form_at (forms part) op) f e in

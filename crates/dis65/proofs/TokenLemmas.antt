@@ -7,7 +7,7 @@ use Rattle.op_table.specs.declared.Mnemonic.TheVariants.{Adc}
 use Rattle.op_table.specs.declared.Mode.{Mode}
 use Rattle.op_table.specs.declared.Mode.TheVariants.{Imp, Acc, Imm, Zp, ZpX, ZpY, Abs, AbsX, AbsY, IndX, IndY, IndZp, Rel, Ind, IndAbsX, Spare}
 use Rattle.op_table.specs.Names.{name_of, mnemonic_of}
-use Rattle.asm65.specs.Tokens.{Token, word, hex, colon, comma, hash, left, right, is_word_byte, cut, tokens_of, word_before, joined}
+use Rattle.asm65.specs.Tokens.{Token, word, hex, colon, comma, hash, left, right, is_word_byte, cut_of, tokens_of, word_before, tokens_of_cut}
 use Rattle.asm65.specs.Syntax.{is_named, Operand, nothing, accumulator, immediate, direct, direct_x, direct_y, indirect, indirect_x, indirect_y, Statement, instruction, org, bytes, operand_of, line_of, rest_of}
 use Rattle.digits.specs.Hexadecimal.{hex_digits}
 use Rattle.dis65.specs.Listing.{operand_text, target}
@@ -20,7 +20,7 @@ use Rattle.dis65.proofs.ModeLemmas.{plain, is_small, number_at, operand_by}
 
 -- a run of word bytes, before something that begins otherwise
 cut_word : (run rest : List ℕ) (tokens : List Token) → list_all is_word_byte run ≡ true
-    → cut rest ≡ record { run = []; tokens = tokens } → cut (run ++ rest) ≡ record { run = run; tokens = tokens }
+    → cut_of rest ≡ record { run = []; tokens = tokens } → cut_of (run ++ rest) ≡ record { run = run; tokens = tokens }
 cut_word [] rest tokens h e = e
 cut_word (b ∷ run) rest tokens h e =
     let parts = both (is_word_byte b) (list_all is_word_byte run) h in
@@ -28,7 +28,7 @@ cut_word (b ∷ run) rest tokens h e =
     rw (more, parts.0) refl
 
 -- a run of word bytes at the end
-cut_run : (run : List ℕ) → list_all is_word_byte run ≡ true → cut run ≡ record { run = run; tokens = [] }
+cut_run : (run : List ℕ) → list_all is_word_byte run ≡ true → cut_of run ≡ record { run = run; tokens = [] }
 cut_run [] h = refl
 cut_run (b ∷ run) h =
     let parts = both (is_word_byte b) (list_all is_word_byte run) h in
@@ -70,7 +70,7 @@ line_plain run (_ ∷ tokens) h = refl
 
 -- a mnemonic and its operand
 instruction_means : (name : Mnemonic) (tail : List ℕ) (tokens : List Token) (operand : Operand)
-    → cut tail ≡ record { run = []; tokens = tokens } → begins_otherwise tokens ≡ true → operand_of tokens ≡ Some operand
+    → cut_of tail ≡ record { run = []; tokens = tokens } → begins_otherwise tokens ≡ true → operand_of tokens ≡ Some operand
     → line_of (tokens_of (name_of name ++ tail)) ≡ Some (record { label = None; statement = Some (instruction name operand) })
 instruction_means name tail tokens operand e h o =
     let n = name_is name in
@@ -83,7 +83,7 @@ instruction_means name tail tokens operand e h o =
 -- what an operand's text tells the assembler
 record IsOperand (text : List ℕ) (operand : Operand) : Type 0 where
   tokens : List Token
-  cuts : cut text ≡ record { run = []; tokens = tokens }
+  cuts : cut_of text ≡ record { run = []; tokens = tokens }
   begins : begins_otherwise tokens ≡ true
   reads : operand_of tokens ≡ Some operand
   inner : list_all is_inner text ≡ true
@@ -206,14 +206,14 @@ instruction_line at name way l h low_fits high_fits =
 org_means : (run : List ℕ) (n : ℕ) (small : Bool) → Spells run n small
     → Means (codes "org &" ++ run) (org (record { value = n; byte_sized = small }))
 org_means run n small s =
-    let cuts : cut (codes "org &" ++ run) ≡ record { run = codes "org"; tokens = hex run ∷ [] } = rw (cut_run run s.words) refl in
-    record { inner = s.inner; reads = ap (λ c. line_of (joined c)) cuts ∙ rw s.number refl }
+    let cuts : cut_of (codes "org &" ++ run) ≡ record { run = codes "org"; tokens = hex run ∷ [] } = rw (cut_run run s.words) refl in
+    record { inner = s.inner; reads = ap (λ c. line_of (tokens_of_cut c)) cuts ∙ rw s.number refl }
 
 byte_means : (run : List ℕ) (n : ℕ) (small : Bool) → Spells run n small
     → Means (codes "byte &" ++ run) (bytes (plain n small ∷ []))
 byte_means run n small s =
-    let cuts : cut (codes "byte &" ++ run) ≡ record { run = codes "byte"; tokens = hex run ∷ [] } = rw (cut_run run s.words) refl in
-    record { inner = s.inner; reads = ap (λ c. line_of (joined c)) cuts ∙ rw s.number refl }
+    let cuts : cut_of (codes "byte &" ++ run) ≡ record { run = codes "byte"; tokens = hex run ∷ [] } = rw (cut_run run s.words) refl in
+    record { inner = s.inner; reads = ap (λ c. line_of (tokens_of_cut c)) cuts ∙ rw s.number refl }
 
 -- and over those that are written
 pub org_line : (n : ℕ) → n < 65536 → Means (codes "org &" ++ hex_digits 4 n) (org (record { value = n; byte_sized = false }))

@@ -46,16 +46,16 @@ line_text at op behind None = codes "byte &" ++ hex_digits 2 op ++ codes "\n"
 line_text at op behind (Some f) = name_of f.mnemonic ++ operand_text at f.mode (slice_index behind 0) (slice_index behind 1) ++ codes "\n"
 
 -- how many bytes behind its first a line takes
-abbrev pub passed : Option Form → ℕ
-passed None = 0
-passed (Some f) = bytes_of f.mode - 1
+abbrev pub bytes_behind : Option Form → ℕ
+bytes_behind None = 0
+bytes_behind (Some f) = bytes_of f.mode - 1
 
 -- The lines of bytes from an address on, of which some belong to the line before them.
 abbrev pub lines_from : Part → ℕ → ℕ → List ℕ → List ℕ
 lines_from part at skip [] = []
 lines_from part at (suc skip) (b ∷ bytes) = lines_from part (at + 1) skip bytes
 lines_from part at zero (op ∷ bytes) =
-    line_text at op bytes (form_here part op bytes) ++ lines_from part (at + 1) (passed (form_here part op bytes)) bytes
+    line_text at op bytes (form_here part op bytes) ++ lines_from part (at + 1) (bytes_behind (form_here part op bytes)) bytes
 
 -- The text of bytes from an origin on.
 unfoldable pub decode : Part → List ℕ → ℕ → List ℕ

@@ -3,7 +3,7 @@ ghost use Rattle.std.specs.Prelude.{◌≡◌, ◌+◌, ◌*◌, ◌++◌, ◌�
 ghost use Rattle.op_table.specs.Forms.{forms, form_at};
 ghost use Rattle.op_table.specs.Rows.{row_of};
 ghost use Rattle.op_table.specs.Names.{name_of};
-ghost use Rattle.dis65.specs.Listing.{target, operand_text, if_whole, form_here, line_text, passed};
+ghost use Rattle.dis65.specs.Listing.{target, operand_text, if_whole, form_here, line_text, bytes_behind};
 
 use crate::number::{push_byte, push_word};
 use op_table::{Mode, Part, Row, documented};
@@ -91,7 +91,7 @@ pub(crate) fn push_line(
     behind: &[u8],
 ) -> Result<usize, AllocError>
     ensures text { IfOk result (λ _. text.new.items ≡ text.old.items ++ line_text at op behind.now (form_here part op behind.now)) }
-    ensures passed { IfOk result (λ n. n ≡ passed (form_here part op behind.now)) }
+    ensures passed { IfOk result (λ n. n ≡ bytes_behind (form_here part op behind.now)) }
     ensures within { IfOk result (λ n. n ≤ length behind.now) }
 {
     match whole(part, op, behind.len() + 1) {

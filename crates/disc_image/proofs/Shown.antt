@@ -6,7 +6,7 @@ use Rattle.std.proofs.lemmas.List.FromFn.{fill_by_all}
 use Rattle.std.specs.List.{range_with_len}
 use Rattle.disc_image.specs.declared.Kind.{Kind}
 use Rattle.disc_image.specs.Image.{largest, has_sector, place, sector_of, byte_put}
-use Rattle.disc_image.specs.Whole.{IsWhole}
+use Rattle.disc_image.specs.CodeDisc.{IsWhole}
 
 -- a byte of the image, which is 00 past its end
 shown : (len : ℕ) (whole : List ℕ) → ((n : ℕ) → len ≤ n → get_or whole n 0 ≡ 0) → (n : ℕ) → get_or (take len whole) n 0 ≡ get_or whole n 0

@@ -37,12 +37,12 @@ abbrev pub sector_of : Image → ℕ → ℕ → ℕ → Option (List ℕ)
 sector_of image side track sector = if has_sector image.kind side track sector then Some (sector_bytes image side track sector) else None
 
 -- these bytes, followed by 00 up to this length
-abbrev pub extended : List ℕ → ℕ → List ℕ
-extended bytes n = bytes ++ replicate (n - length bytes) 0
+abbrev pub with_zeros_to : List ℕ → ℕ → List ℕ
+with_zeros_to bytes n = bytes ++ replicate (n - length bytes) 0
 
 -- Writing: a byte of a sector becomes v. An image that ends before the sector's end is extended up to there.
 abbrev pub byte_put : ℕ → ℕ → ℕ → ℕ → ℕ → Image → Image
 byte_put side track sector at v image =
     if has_sector image.kind side track sector
-    then record image { bytes = slice_set (extended image.bytes (place image.kind side track sector 256)) (place image.kind side track sector at) v }
+    then record image { bytes = slice_set (with_zeros_to image.bytes (place image.kind side track sector 256)) (place image.kind side track sector at) v }
     else image

@@ -1,3 +1,3 @@
 pub mod Image
-pub mod Whole
+pub mod CodeDisc
 pub mod Laws

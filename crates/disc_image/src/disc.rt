@@ -1,6 +1,6 @@
 //! The disc.
 ghost use Rattle.std.specs.Prelude.{◌≡◌, ◌≤◌, ◌<◌, ◌+◌, ◌↔◌, ◌⊎◌, IfOk, IfErr, IfSome, MatchOption, Err, None, Some, false, true, length};
-ghost use Rattle.disc_image.specs.Image.{sides, largest, has_sector, place, sector_of, extended, byte_put};
+ghost use Rattle.disc_image.specs.Image.{sides, largest, has_sector, place, sector_of, with_zeros_to, byte_put};
 
 use crate::{DiscError, Kind};
 use std::alloc::{AllocError, Global};
@@ -31,7 +31,7 @@ pub struct Disc {
 impl Model for Disc {
     ghost use Rattle.std.specs.Prelude.{take};
     ghost use Rattle.disc_image.specs.Image.{Image};
-    ghost use Rattle.disc_image.specs.Whole.{IsWhole};
+    ghost use Rattle.disc_image.specs.CodeDisc.{IsWhole};
 
     ghost Value = { Image };
 
@@ -76,7 +76,7 @@ fn start_of(kind: Kind, side: u8, track: u8, sector: u8) -> Option<usize>
 
 /// The bytes of an image, followed by `more` bytes 00.
 fn fill(alloc: Global, mut bytes: Vec<u8>, more: usize) -> Result<Vec<u8>, AllocError>
-    ensures { IfOk result (λ whole. whole.items ≡ extended bytes.items (length bytes.items + more)) }
+    ensures { IfOk result (λ whole. whole.items ≡ with_zeros_to bytes.items (length bytes.items + more)) }
 {
     let zeros = vec![in alloc; 0; more]?;
     bytes.extend_from_slice(&zeros)?;

@@ -4,7 +4,7 @@ use Rattle.std.proofs.Math.Nat.{add-mod_right, div-add-mod, mod-lt, mod_self, mu
 use Rattle.std.proofs.lemmas.Bool.{cases_lt}
 use Rattle.beeb_bits.specs.declared.clock.Clock.{Clock}
 use Rattle.beeb_bits.specs.Clock.{micro, micro-is-two, some-host, few-host}
-use Rattle.host_bus.specs.OnTime.{IsOnTime}
+use Rattle.host_bus.specs.CodePlayback.{IsOnTime}
 
 -- one begins u ticks after the one before
 pub apart : (u k step : ℕ) → k % u ≡ 0 → step % u ≡ 0 → k < step → k + u ≤ step

@@ -6,9 +6,9 @@ use Rattle.beeb_bits.specs.Clock.{micro}
 use Rattle.keyboard.specs.Keys.{Keys}
 use Rattle.host_bus.specs.Devices.{Devices, keys_at, microsecond, last_frame}
 use Rattle.host_bus.specs.Shots.{shot_at}
-use Rattle.host_bus.specs.Board.{BoardState, Around, Moving, around, moving, moved, beat, tick, ticks, board_closed}
-use Rattle.host_bus.specs.BoardView.{board_seen, IsSound}
-use Rattle.host_bus.specs.OnTime.{IsPlayed, IsOnTime}
+use Rattle.host_bus.specs.Board.{BoardState, Around, Moving, around, moving_part, closed_with, beat, tick, ticks, board_closed}
+use Rattle.host_bus.specs.CodeBoard.{board_seen, IsSound}
+use Rattle.host_bus.specs.CodePlayback.{IsPlayed, IsOnTime}
 use Rattle.host_bus.specs.Closing.{board-again}
 use Rattle.host_bus.specs.declared.board.Board.TheInside.{Inside}
 use Rattle.host_bus.specs.declared.playback.Playback.{Playback}
@@ -39,7 +39,7 @@ pub still-closed : (b : BoardState) (event next t : ℕ) → IsOnTime (micro b.c
 still-closed b event next t h none low high =
     let most : t ≡ max t b.closed = omega (arith, low) in
     ap (λ (n : ℕ). record b { closed = n }) most
-    ∙ ap (λ (m : Moving). moved b (max t b.closed) m) (sym (idle (around b) (t - b.closed) b.closed b.closed event next (moving b) h none (omega arith) (omega (arith, low, high))))
+    ∙ ap (λ (m : Moving). closed_with b (max t b.closed) m) (sym (idle (around b) (t - b.closed) b.closed b.closed event next (moving_part b) h none (omega arith) (omega (arith, low, high))))
 
 pub still-on-time : (u closed event next t : ℕ) → IsOnTime u closed event next → closed ≤ t → t ≤ next → IsOnTime u t event next
 still-on-time u closed event next t h low high =
@@ -72,8 +72,8 @@ ticked b keys event next d shots h none low are is took =
     let most : next + 1 ≡ max (next + 1) next = omega arith in
     ap (λ (x : Devices). record b { devices = x; shots = shots; closed = next + 1 }) (is ∙ ap (λ (f : Keys). if next % micro b.clock == 0 then microsecond b.ram b.roms.font f b.devices else b.devices) are)
     ∙ ap (λ (x : List (List ℕ)). record b { devices = beat (around b) next b.devices; shots = x; closed = next + 1 }) took
-    ∙ ap (λ (n : ℕ). moved b (next + 1) (ticks (around b) n next (moving b))) one
-    ∙ ap (λ (n : ℕ). moved b n (ticks (around b) ((next + 1) - next) next (moving b))) most
+    ∙ ap (λ (n : ℕ). closed_with b (next + 1) (ticks (around b) n next (moving_part b))) one
+    ∙ ap (λ (n : ℕ). closed_with b n (ticks (around b) ((next + 1) - next) next (moving_part b))) most
     ∙ ap (λ (s : BoardState). board_closed s (next + 1)) still
     ∙ board-again b next (next + 1) (omega arith)
 

@@ -12,7 +12,7 @@ use Rattle.key_script.specs.Events.{tick_of, is_shot, shots, NeverFallsFrom}
 use Rattle.key_script.specs.Keys.{made_of, made_by, or_earlier, last_made}
 use Rattle.host_bus.specs.Devices.{keys_at}
 use Rattle.host_bus.specs.Shots.{shots_at, shot_at}
-use Rattle.host_bus.specs.OnTime.{key_turned, IsLeft, HasLeft, IsPlayed}
+use Rattle.host_bus.specs.CodePlayback.{keys_after, IsLeft, HasLeft, IsPlayed}
 use Rattle.host_bus.specs.declared.playback.Playback.{Playback}
 
 leb-above : (a b : ℕ) → b < a → nat_le a b ≡ false
@@ -37,7 +37,7 @@ flip : (a b : ℕ) → (a == b) ≡ (b == a)
 flip a b = grind arith
 
 -- what an event makes of a key, or else what the table says, is what the table says after the event
-made-or : (key : ℕ) (what : What) (keys : Keys) → unwrap_or (made_of key what) (keys key) ≡ key_turned what keys key
+made-or : (key : ℕ) (what : What) (keys : Keys) → unwrap_or (made_of key what) (keys key) ≡ keys_after what keys key
 made-or key (Down k) keys = down-by (k == key) refl
   where
     down-by : (b : Bool) → (k == key) ≡ b → unwrap_or (if b then Some true else None) (keys key) ≡ (if key == k then true else keys key)
@@ -57,7 +57,7 @@ or-both None b d = refl
 
 -- one event more is done
 pub left-more : (script : List Event) (place : ℕ) (d : Event) (keys on : Keys) (t : ℕ) → place < length script → tick_of (get_or script place d) + 1 ≡ t →
-    on ≡ key_turned ((get_or script place d).what) keys → IsLeft script (drop place script) keys t → IsLeft script (drop (place + 1) script) on t
+    on ≡ keys_after ((get_or script place d).what) keys → IsLeft script (drop place script) keys t → IsLeft script (drop (place + 1) script) on t
 left-more script place d keys on t low at is left = λ k key late.
     let e = get_or script place d in
     let rest = drop (place + 1) script in

@@ -9,7 +9,7 @@ use Rattle.std.proofs.Math.Seq.{drop-append_seam}
 use Rattle.key_script.specs.declared.Event.{Event}
 use Rattle.key_script.specs.Events.{tick_of, NeverFallsFrom, IsEvent, IsScript}
 use Rattle.host_bus.specs.Breaks.{is_break, is_break_by, breaks_until, first_tick, break_number}
-use Rattle.host_bus.specs.NextBreak.{breaks_before, break_tick}
+use Rattle.host_bus.specs.CodeBreaks.{breaks_before, break_tick}
 
 pub above : (a t : ℕ) → t < a → nat_le a t ≡ false
 above a t h = grind arith

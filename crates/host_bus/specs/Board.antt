@@ -62,16 +62,16 @@ ticks a (suc n) k m = ticks a n (k + 1) (tick a k m)
 abbrev pub around : BoardState → Around
 around b = record { clock = b.clock; ram = b.ram; font = b.roms.font; script = b.script }
 
-abbrev pub moving : BoardState → Moving
-moving b = record { devices = b.devices; shots = b.shots }
+abbrev pub moving_part : BoardState → Moving
+moving_part b = record { devices = b.devices; shots = b.shots }
 
 -- the board closed at t, with what ticks left
-abbrev pub moved : BoardState → ℕ → Moving → BoardState
-moved b t m = record b { devices = m.devices; shots = m.shots; closed = t }
+abbrev pub closed_with : BoardState → ℕ → Moving → BoardState
+closed_with b t m = record b { devices = m.devices; shots = m.shots; closed = t }
 
 -- All ticks below t are done, and those that were done already.
 abbrev pub board_closed : BoardState → ℕ → BoardState
-board_closed b t = moved b (max t b.closed) (ticks (around b) (t - b.closed) b.closed (moving b))
+board_closed b t = closed_with b (max t b.closed) (ticks (around b) (t - b.closed) b.closed (moving_part b))
 
 -- What a read at tick t answers. FE is what the map does not give: of addresses that are only written, and of absent devices.
 abbrev pub answer_at : Place → BoardState → ℕ → ℕ → ℕ

@@ -1,7 +1,7 @@
 -- Laws of closing: closing a bus so far and then further is closing it further at once, and nothing comes undone.
 use Rattle.std.specs.Prelude.{ℕ, zero, suc, ◌≡◌, ◌≤◌, ◌+◌, ◌-◌, max, refl}
 use Rattle.std.proofs.Common.{arith, ap, ◌∙◌}
-use Rattle.host_bus.specs.Board.{BoardState, Around, Moving, around, moving, moved, tick, ticks, board_closed}
+use Rattle.host_bus.specs.Board.{BoardState, Around, Moving, around, moving_part, closed_with, tick, ticks, board_closed}
 use Rattle.host_bus.specs.Bus.{BusState, bus_closed, closed_at, bus_break_pending, bus_next_break}
 
 pub ticks-add : (a : Around) (n m k : ℕ) (s : Moving) → ticks a m (k + n) (ticks a n k s) ≡ ticks a (n + m) k s
@@ -26,8 +26,8 @@ ticks-on a s c t u high =
 pub board-again : (b : BoardState) (t u : ℕ) → t ≤ u → board_closed (board_closed b t) u ≡ board_closed b u
 board-again b t u high =
     let most : max u (max t b.closed) ≡ max u b.closed = omega (arith, high) in
-    ap (λ (s : Moving). moved b (max u (max t b.closed)) s) (ticks-on (around b) (moving b) b.closed t u high)
-    ∙ ap (λ (n : ℕ). moved b n (ticks (around b) (u - b.closed) b.closed (moving b))) most
+    ap (λ (s : Moving). closed_with b (max u (max t b.closed)) s) (ticks-on (around b) (moving_part b) b.closed t u high)
+    ∙ ap (λ (n : ℕ). closed_with b n (ticks (around b) (u - b.closed) b.closed (moving_part b))) most
 
 pub closed-again : (b : BusState) (t u : ℕ) → t ≤ u → bus_closed (bus_closed b t) u ≡ bus_closed b u
 closed-again b t u high = ap (λ (x : BoardState). record b { board = x }) (board-again b.board t u high)
@@ -37,8 +37,8 @@ pub board-still : (b : BoardState) (t : ℕ) → t ≤ b.closed → board_closed
 board-still b t low =
     let none : t - b.closed ≡ 0 = omega (arith, low) in
     let same : max t b.closed ≡ b.closed = omega (arith, low) in
-    ap (λ (n : ℕ). moved b (max t b.closed) (ticks (around b) n b.closed (moving b))) none
-    ∙ ap (λ (n : ℕ). moved b n (moving b)) same
+    ap (λ (n : ℕ). closed_with b (max t b.closed) (ticks (around b) n b.closed (moving_part b))) none
+    ∙ ap (λ (n : ℕ). closed_with b n (moving_part b)) same
 
 pub closed-still : (b : BusState) (t : ℕ) → t ≤ closed_at b → bus_closed b t ≡ b
 closed-still b t low = ap (λ (x : BoardState). record b { board = x }) (board-still b.board t low)

@@ -51,14 +51,14 @@ user_pins = record { a = 0xFF; b = 0xFF; ca1 = true; ca2 = true; cb1 = true; cb2
 
 -- One microsecond of all devices, in order: the picture, from the RAM and by the screen size of the latch; the disc controller; the
 -- keyboard's level; the system's 6522, which sees vertical sync as the picture left it; the user's.
-abbrev pub pictured : List ℕ → Font → Devices → picture.State
-pictured ram font d = beam.microsecond ram (keyboard.screen_size d.latch) font d.video
+abbrev pub raster_after : List ℕ → Font → Devices → picture.State
+raster_after ram font d = beam.microsecond ram (keyboard.screen_size d.latch) font d.video
 
 unfoldable pub microsecond : List ℕ → Font → Keys → Devices → Devices
 microsecond ram font keys d = record d {
-  video = pictured ram font d;
+  video = raster_after ram font d;
   disc = turn.step d.disc;
-  system = step (system_pins (beam.vsync_of (pictured ram font d)) keys d) d.system;
+  system = step (system_pins (beam.vsync_of (raster_after ram font d)) keys d) d.system;
   user = step user_pins d.user;
 }
 
@@ -101,11 +101,11 @@ unfoldable pub system_read : ℕ → Devices → Devices
 system_read reg d = record d { system = read_leaves reg d.system }
 
 -- After a write to register 0 or 2 the pins of port B go to the addressable latch.
-unfoldable pub latched : ℕ → Devices → Devices
-latched reg d = if reg == 0 || reg == 2 then record d { latch = keyboard.latch_after (out_b d.system) d.latch } else d
+unfoldable pub after_latch : ℕ → Devices → Devices
+after_latch reg d = if reg == 0 || reg == 2 then record d { latch = keyboard.latch_after (out_b d.system) d.latch } else d
 
 unfoldable pub system_written : ℕ → ℕ → Devices → Devices
-system_written reg v d = latched reg (record d { system = write_leaves reg v d.system })
+system_written reg v d = after_latch reg (record d { system = write_leaves reg v d.system })
 
 -- an access to the user's 6522
 unfoldable pub user_answer : ℕ → Devices → ℕ

@@ -5,11 +5,11 @@ pub mod Breaks
 pub mod Board
 pub mod Plugs
 pub mod Bus
-pub mod OnTime
-pub mod NextBreak
+pub mod CodePlayback
+pub mod CodeBreaks
 pub mod SameBreaks
-pub mod Shows
-pub mod BoardView
+pub mod CodeReads
+pub mod CodeBoard
 pub mod View
 pub mod Closing
 pub mod AtTube

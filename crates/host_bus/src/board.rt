@@ -4,10 +4,10 @@ ghost use Rattle.keyboard.specs.Keys.{keys_of};
 ghost use Rattle.wd1770.specs.Select.{disc_of};
 ghost use Rattle.host_bus.specs.Map.{place_of};
 ghost use Rattle.host_bus.specs.Shots.{shot_at};
-ghost use Rattle.host_bus.specs.OnTime.{IsPlayed, IsOnTime};
+ghost use Rattle.host_bus.specs.CodePlayback.{IsPlayed, IsOnTime};
 ghost use Rattle.host_bus.specs.Devices.{microsecond, last_frame};
 ghost use Rattle.host_bus.specs.Board.{board_closed, answer_at, read_at, written_at, board_irq, board_nmis, break_pending, break_taken, next_break, first_board, clear_ram};
-ghost use Rattle.host_bus.specs.Shows.{Covered, Shows};
+ghost use Rattle.host_bus.specs.CodeReads.{Covered, Shows};
 
 use crate::breaks::Breaks;
 use crate::devices::Devices;
@@ -54,7 +54,7 @@ pub struct Board {
 
 impl Model for Board {
     ghost use Rattle.host_bus.specs.Board.{BoardState};
-    ghost use Rattle.host_bus.specs.BoardView.{board_seen, IsSound};
+    ghost use Rattle.host_bus.specs.CodeBoard.{board_seen, IsSound};
 
     ghost Value = { BoardState };
 

@@ -2,7 +2,7 @@
 ghost use Rattle.std.specs.Prelude.{◌≡◌, ◌≤◌, ◌<◌, ◌^◌, None, Some, MatchOption, length, drop};
 ghost use Rattle.key_script.specs.Events.{IsScript};
 ghost use Rattle.host_bus.specs.Breaks.{is_break, breaks_until, break_number};
-ghost use Rattle.host_bus.specs.NextBreak.{IsNextBreak, breaks_before, break_tick};
+ghost use Rattle.host_bus.specs.CodeBreaks.{IsNextBreak, breaks_before, break_tick};
 
 use beeb_bits::Tick;
 use key_script::{Event, What};

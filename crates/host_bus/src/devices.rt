@@ -3,7 +3,7 @@ ghost use Rattle.std.specs.Prelude.{◌≡◌, ◌≤◌, ◌<◌, ◌+◌, ◌%
 ghost use Rattle.raster.specs.Clock.{vsync_of};
 ghost use Rattle.wd1770.specs.Select.{disc_of};
 ghost use Rattle.keyboard.specs.Keys.{keys_of};
-ghost use Rattle.host_bus.specs.Devices.{system_pins, pictured, microsecond, last_frame, crtc_answer, crtc_written, ula_written, system_answer, system_read, system_written, latched, user_answer, user_read, user_written, disc_latched, disc_answer, disc_read, disc_written, devices_ask, devices_reset, first_devices};
+ghost use Rattle.host_bus.specs.Devices.{system_pins, raster_after, microsecond, last_frame, crtc_answer, crtc_written, ula_written, system_answer, system_read, system_written, after_latch, user_answer, user_read, user_written, disc_latched, disc_answer, disc_read, disc_written, devices_ask, devices_reset, first_devices};
 
 use beeb_bits::NoMemory;
 use disc_image::Disc;
@@ -96,7 +96,7 @@ impl Devices {
     #[inline(always)]
     fn draw(&mut self, ram: &[u8], roms: &RomSet)
         requires { length ram.now ≡ 32768 }
-        ensures { self.new ≡ record self.old { video = pictured ram.now roms.now.font self.old } }
+        ensures { self.new ≡ record self.old { video = raster_after ram.now roms.now.font self.old } }
     {
         self.video.step(ram, self.size, roms);
     }
@@ -194,9 +194,9 @@ impl Devices {
     }
 
     // A write to register 0 or 2 puts the pins of port B into the addressable latch.
-    #[tactic(auto, unfolding(crate::specs::Devices::latched))]
+    #[tactic(auto, unfolding(crate::specs::Devices::after_latch))]
     fn latch_port_b(&mut self, reg: u8)
-        ensures { self.new ≡ latched reg self.old }
+        ensures { self.new ≡ after_latch reg self.old }
     {
         if reg == 0 || reg == 2 {
             self.latch.write(self.system.out_b());

@@ -3,7 +3,7 @@ ghost use Rattle.std.specs.Prelude.{◌≡◌, ◌≤◌, ◌<◌, ◌+◌, ◌+
 ghost use Rattle.keyboard.specs.Keys.{keys_of};
 ghost use Rattle.key_script.specs.Events.{IsEvent, IsKeyed, NeverFallsFrom, is_shot, shots};
 ghost use Rattle.host_bus.specs.Shots.{shot_at};
-ghost use Rattle.host_bus.specs.OnTime.{IsLeft, HasLeft, IsPlayed, key_turned};
+ghost use Rattle.host_bus.specs.CodePlayback.{IsLeft, HasLeft, IsPlayed, keys_after};
 
 use crate::shots::Shots;
 use beeb_bits::NoMemory;
@@ -27,7 +27,7 @@ pub(crate) struct Playback {
 fn turn(keys: &mut Keys, taken: &mut Shots, frame: &Frame, event: Event)
     requires keyed { IsKeyed event.what }
     requires room { shots (event ∷ []) ≤ (taken.old).room }
-    ensures keys { keys_of keys.new ≡ key_turned event.what (keys_of keys.old) }
+    ensures keys { keys_of keys.new ≡ keys_after event.what (keys_of keys.old) }
     ensures frames { let before = (taken.old).frames in
         (taken.new).frames ≡ (if is_shot event then before ++ frame.now ∷ [] else before) }
     ensures room { (taken.new).room + shots (event ∷ []) ≡ (taken.old).room }

@@ -11,7 +11,7 @@ use Rattle.host_bus.specs.declared.map.Place.TheVariants.{Ram, PagedRom, OsRom}
 use Rattle.host_bus.specs.Map.{place_of, stretch}
 use Rattle.host_bus.specs.Bus.{BusState, clock_of, bus_closed, answer_of, after_read_of, bus_answer, bus_after_read}
 use Rattle.host_mach.specs.Step.{is_tube, byte_in}
-use Rattle.host_mach.specs.Told.{IsMemory}
+use Rattle.host_mach.specs.CodeAccess.{IsMemory}
 
 -- where memory is
 abbrev memory_place : Bool → Bool → Place

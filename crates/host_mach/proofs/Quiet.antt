@@ -10,9 +10,9 @@ use Rattle.cpu_alu.specs.declared.Regs.{Regs}
 use Rattle.cpu_core.specs.declared.Sequence.{Sequence}
 use Rattle.cpu_core.specs.declared.Sequence.TheVariants.{Instruction, Reset, Nmi, Irq}
 use Rattle.cpu_core.specs.Accesses.{row_at, form_of}
-use Rattle.cpu_core.specs.Sequences.{accesses, halts, shown}
+use Rattle.cpu_core.specs.Sequences.{accesses, halts, shown_byte}
 use Rattle.cpu6502.specs.State as cpu
-use Rattle.cpu6502.specs.Sequences.{next, given, halted}
+use Rattle.cpu6502.specs.Sequences.{next_cycle, after_byte, halted}
 use Rattle.tube_chip.specs.Act.{Query, access}
 use Rattle.tube_chip.specs.declared.Op.TheVariants as op
 use Rattle.tube_party.specs.Quiet.{IsQuiet, Silent, quiet_at_due}
@@ -20,8 +20,8 @@ use Rattle.host_bus.specs.Bus.{bus_break_pending}
 use Rattle.host_bus.specs.SameBreaks.{read-leaves}
 use Rattle.host_mach.specs.State.{HostState}
 use Rattle.host_mach.specs.Lawful.{host_lawful}
-use Rattle.host_mach.proofs.UnderWay.{IsFree, no-break, plain-asks, plain-next}
-use Rattle.host_mach.specs.Step.{host_moves, is_tube, is_break, asks, asks_by, stepped, host_closed, next_state, byte_of}
+use Rattle.host_mach.proofs.UnderWay.{IsFree, no-break, plain-asks, plain-next_cycle}
+use Rattle.host_mach.specs.Step.{host_moves, is_tube, is_break, asks, asks_by, after_step, host_closed, next_state, byte_of}
 
 -- the opcode without an instruction is read again
 read_again : (o : Option Row) (r : Regs) (seen : List (Option ℕ)) → is_none o ≡ true → slice_get (form_of Nmos o r seen) 0 ≡ Some (Read r.pc)
@@ -37,11 +37,11 @@ halts_at (Some o ∷ []) Reset r h = cc
 halts_at (Some o ∷ []) Nmi r h = cc
 halts_at (Some o ∷ []) Irq r h = cc
 
-halted_next : (c : cpu.State) → halted c ≡ true → next c ≡ Some (Read c.regs.pc)
+halted_next : (c : cpu.State) → halted c ≡ true → next_cycle c ≡ Some (Read c.regs.pc)
 halted_next c h = halts_at c.seen c.sequence c.regs h
 
-stays : (c : cpu.State) (byte : ℕ) → halted c ≡ true → given c byte ≡ c
-stays c byte h = ap (λ (b : Bool). cond b c (record c { seen = c.seen ++ shown (next c) byte ∷ [] })) h
+stays : (c : cpu.State) (byte : ℕ) → halted c ≡ true → after_byte c byte ≡ c
+stays c byte h = ap (λ (b : Bool). cond b c (record c { seen = c.seen ++ shown_byte (next_cycle c) byte ∷ [] })) h
 
 -- halted, and at an address that is not the Tube's, and no break is pending below tick far
 record IsIdle (far : ℕ) (s : HostState) : Type 0 where
@@ -50,7 +50,7 @@ record IsIdle (far : ℕ) (s : HostState) : Type 0 where
   free : IsFree far s.bus
 
 -- its step is an access that asks nothing, or a break step
-idle_asks : (far : ℕ) (s : HostState) → IsIdle far s → asks_by (next s.cpu) ≡ None
+idle_asks : (far : ℕ) (s : HostState) → IsIdle far s → asks_by (next_cycle s.cpu) ≡ None
 idle_asks far s idle =
     ap asks_by (halted_next s.cpu idle.halts) ∙ ap (λ (b : Bool). if b then Some (access (op.Read (s.cpu.regs.pc % 8))) else None) idle.apart
 
@@ -61,11 +61,11 @@ silent_by false o asked = refl
 -- which leaves it so
 idle_on : (far : ℕ) (s : HostState) → IsIdle far s → asks s ≡ None → IsIdle far (next_state s None)
 idle_on far s idle none =
-    let is : next s.cpu ≡ Some (Read s.cpu.regs.pc) = halted_next s.cpu idle.halts in
+    let is : next_cycle s.cpu ≡ Some (Read s.cpu.regs.pc) = halted_next s.cpu idle.halts in
     let x : HostState = host_closed s (s.due + 1) in
     let byte : ℕ = byte_of x.bus s.due None (Read s.cpu.regs.pc) in
-    let then_ : next_state s None ≡ stepped (Some (Read s.cpu.regs.pc)) x None =
-    plain-next s None (silent_by (is_break s) (asks_by (next s.cpu)) none) ∙ ap (λ (o : Option Cycle). stepped o x None) is in
+    let then_ : next_state s None ≡ after_step (Some (Read s.cpu.regs.pc)) x None =
+    plain-next_cycle s None (silent_by (is_break s) (asks_by (next_cycle s.cpu)) none) ∙ ap (λ (o : Option Cycle). after_step o x None) is in
     let same : (next_state s None).cpu ≡ s.cpu = ap (λ (y : HostState). y.cpu) then_ ∙ stays s.cpu byte idle.halts in
     record {
       halts = ap halted same ∙ idle.halts;

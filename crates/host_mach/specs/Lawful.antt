@@ -8,7 +8,7 @@ use Rattle.beeb_bits.specs.declared.clock.Clock.{Clock}
 use Rattle.beeb_bits.specs.Clock.{host, some-host}
 use Rattle.cpu_alu.specs.declared.Cycle.{Cycle}
 use Rattle.cpu_alu.specs.declared.Cycle.TheVariants.{Read, Write}
-use Rattle.cpu6502.specs.Sequences.{next, given, halted}
+use Rattle.cpu6502.specs.Sequences.{next_cycle, after_byte, halted}
 use Rattle.tube_chip.specs.declared.Op.{Op}
 use Rattle.tube_chip.specs.declared.Op.TheVariants as op
 use Rattle.tube_chip.specs.declared.Answer.{Answer}
@@ -19,7 +19,7 @@ use Rattle.host_bus.specs.Map.{stretch, stretched_in, memory_map}
 use Rattle.host_bus.specs.Bus.{BusState, clock_of, bus_break_pending}
 use Rattle.host_bus.specs.Closing.{closed-again}
 use Rattle.host_mach.specs.State.{HostState}
-use Rattle.host_mach.specs.Step.{host_moves, host_closed, is_break, broken, stepped, byte_of, address, cycle_ticks, is_tube, asks_by}
+use Rattle.host_mach.specs.Step.{host_moves, host_closed, is_break, after_break, after_step, byte_of, address, cycle_ticks, is_tube, asks_by}
 
 -- an access takes at least one cycle
 some-cycle : (slow even : Bool) → 1 ≤ (if slow then (if even then 2 else 3) else 1)
@@ -35,17 +35,17 @@ later : (over : Bool) (t n : ℕ) → 1 < n → t < (if over then t + (n - 1) el
 later true t n some = omega (arith, some)
 later false t n some = omega (arith, some)
 
-rises : (c : Option Cycle) (s : HostState) (a : Option Answer) → s.due < (stepped c s a).due
+rises : (c : Option Cycle) (s : HostState) (a : Option Answer) → s.due < (after_step c s a).due
 rises None s a = omega arith
 rises (Some c) s a =
     let clock = clock_of s.bus in
     let n = cycle_ticks clock s.due c in
     let some : 1 < n = omega (arith, cycle-ticks clock s.due c, some-host clock) in
     let breaks = bus_break_pending s.bus (s.due + (n - 1)) && halted s.cpu in
-    later (breaks || is_none (next (given s.cpu (byte_of s.bus s.due a c)))) s.due n some
+    later (breaks || is_none (next_cycle (after_byte s.cpu (byte_of s.bus s.due a c)))) s.due n some
 
 -- with either kind of step
-rises-by : (breaks : Bool) (c : Option Cycle) (s : HostState) (a : Option Answer) → s.due < (if breaks then broken s else stepped c s a).due
+rises-by : (breaks : Bool) (c : Option Cycle) (s : HostState) (a : Option Answer) → s.due < (if breaks then after_break s else after_step c s a).due
 rises-by true c s a = omega arith
 rises-by false c s a = rises c s a
 
@@ -55,13 +55,13 @@ host-again s t u high = ap (λ (b : BusState). record s { bus = b }) (closed-aga
 
 pub host_lawful : IsLawful host_moves
 host_lawful = record {
-  rises = λ s a. rises-by (is_break s) (next s.cpu) (host_closed s (s.due + 1)) a;
+  rises = λ s a. rises-by (is_break s) (next_cycle s.cpu) (host_closed s (s.due + 1)) a;
   within = λ s. omega arith;
   closing = λ s t low high. record {
     closed = omega (arith, low, high);
     due = refl;
     asks = refl;
-    next = λ a. ap (λ (x : HostState). if is_break s then broken x else stepped (next s.cpu) x a) (host-again s t (s.due + 1) (omega (arith, high)));
+    next = λ a. ap (λ (x : HostState). if is_break s then after_break x else after_step (next_cycle s.cpu) x a) (host-again s t (s.due + 1) (omega (arith, high)));
     again = λ u low2 high2. host-again s t u low2;
   };
 }
@@ -83,4 +83,4 @@ permitted-by true Para c plays = absurd (cc)
 permitted-by false side c plays = permitted side c
 
 pub host_permitted : IsPermitted host_moves (is_side Host)
-host_permitted s side plays = permitted-by (is_break s) side (next s.cpu) plays
+host_permitted s side plays = permitted-by (is_break s) side (next_cycle s.cpu) plays

@@ -8,7 +8,7 @@ use Rattle.beeb_bits.specs.Clock.{host}
 use Rattle.cpu_alu.specs.declared.Cycle.{Cycle}
 use Rattle.cpu_alu.specs.declared.Cycle.TheVariants.{Read, Write}
 use Rattle.cpu6502.specs.State as cpu
-use Rattle.cpu6502.specs.Sequences.{next, given, halted, after, looked, fresh}
+use Rattle.cpu6502.specs.Sequences.{next_cycle, after_byte, halted, after, sequence_at_look, fresh}
 use Rattle.cpu_core.specs.declared.Sequence.TheVariants.{Reset}
 use Rattle.tube_chip.specs.declared.Op.TheVariants as op
 use Rattle.tube_chip.specs.declared.Answer.{Answer}
@@ -29,7 +29,7 @@ is_last_tick clock t = t % host clock == host clock - 1
 
 -- The step at the tick of a look, or at the last tick of a halted cycle, is a break step where a break is pending.
 abbrev pub is_break : HostState → Bool
-is_break s = bus_break_pending s.bus s.due && (is_none (next s.cpu) || (halted s.cpu && is_last_tick (clock_of s.bus) s.due))
+is_break s = bus_break_pending s.bus s.due && (is_none (next_cycle s.cpu) || (halted s.cpu && is_last_tick (clock_of s.bus) s.due))
 
 -- What any other step asks of the Tube: where the sequence is over, a look.
 abbrev pub asks_by : Option Cycle → Option Query
@@ -39,7 +39,7 @@ asks_by (Some (Write at byte)) = if is_tube at then Some (access (op.Write (at %
 
 -- A break step asks for the reset operation.
 abbrev pub asks : HostState → Option Query
-asks s = if is_break s then Some (access op.Reset) else asks_by (next s.cpu)
+asks s = if is_break s then Some (access op.Reset) else asks_by (next_cycle s.cpu)
 
 -- the byte and the interrupt line of an answer
 abbrev pub byte_in : Option Answer → ℕ
@@ -71,36 +71,36 @@ abbrev pub cycle_ticks : Clock → ℕ → Cycle → ℕ
 cycle_ticks clock t c = host clock * stretch (address c) (t / host clock)
 
 -- After a cycle of so many ticks: the next step is at the last of them where a look or a break step ends it, and else behind them.
-abbrev pub cycled : HostState → Bool → cpu.State → ℕ → HostState
-cycled s breaks on n = record s { cpu = on; due = (if breaks || is_none (next on) then s.due + (n - 1) else s.due + n) }
+abbrev pub after_cycle : HostState → Bool → cpu.State → ℕ → HostState
+after_cycle s breaks on n = record s { cpu = on; due = (if breaks || is_none (next_cycle on) then s.due + (n - 1) else s.due + n) }
 
 -- An access. A processor that was halted before it has a break step at the end of the cycle where a break is pending there.
-abbrev pub accessed : HostState → Option Answer → Cycle → HostState
-accessed s answer c =
+abbrev pub after_access : HostState → Option Answer → Cycle → HostState
+after_access s answer c =
     let byte : ℕ = byte_of s.bus s.due answer c in
     let n : ℕ = cycle_ticks (clock_of s.bus) s.due c in
-    cycled (record s { bus = bus_after s.bus c }) (bus_break_pending s.bus (s.due + (n - 1)) && halted s.cpu) (given s.cpu byte) n
+    after_cycle (record s { bus = bus_after s.bus c }) (bus_break_pending s.bus (s.due + (n - 1)) && halted s.cpu) (after_byte s.cpu byte) n
 
 -- A look: an NMI, where the count of its line's rises is not the one taken; else an IRQ by the lines of the bus and of the Tube, where the
 -- flag I is clear; else the next instruction.
-abbrev pub looked_at : HostState → Bool → HostState
-looked_at s hirq = record s {
-  cpu = fresh (looked (not (bus_nmis s.bus == s.nmis)) (bus_irq s.bus || hirq) (after s.cpu)) (after s.cpu);
+abbrev pub after_look : HostState → Bool → HostState
+after_look s hirq = record s {
+  cpu = fresh (sequence_at_look (not (bus_nmis s.bus == s.nmis)) (bus_irq s.bus || hirq) (after s.cpu)) (after s.cpu);
   nmis = bus_nmis s.bus;
   due = s.due + 1;
 }
 
 -- A break step: the bus takes every pending break, the rises of the NMI line so far count as taken, and a reset begins, of the registers after
 -- the sequence that is over, or of those at the start of the opcode that halted the processor.
-abbrev pub broken : HostState → HostState
-broken s =
+abbrev pub after_break : HostState → HostState
+after_break s =
     let bus : BusState = bus_break_taken s.bus s.due in
     record s { cpu = fresh Reset (after s.cpu); bus = bus; nmis = bus_nmis bus; due = s.due + 1 }
 
 -- any step but a break step
-abbrev pub stepped : Option Cycle → HostState → Option Answer → HostState
-stepped None s answer = looked_at s (hirq_in answer)
-stepped (Some c) s answer = accessed s answer c
+abbrev pub after_step : Option Cycle → HostState → Option Answer → HostState
+after_step None s answer = after_look s (hirq_in answer)
+after_step (Some c) s answer = after_access s answer c
 
 abbrev pub host_closed : HostState → ℕ → HostState
 host_closed s t = record s { bus = bus_closed s.bus t }
@@ -109,7 +109,7 @@ host_closed s t = record s { bus = bus_closed s.bus t }
 abbrev pub next_state : HostState → Option Answer → HostState
 next_state s answer =
     let closed : HostState = host_closed s (s.due + 1) in
-    if is_break s then broken closed else stepped (next s.cpu) closed answer
+    if is_break s then after_break closed else after_step (next_cycle s.cpu) closed answer
 
 -- The steps of the host. No state counts as closed past its next step.
 abbrev pub host_moves : Moves HostState

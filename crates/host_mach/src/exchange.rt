@@ -5,7 +5,7 @@ ghost use Rattle.host_bus.specs.Map.{stretch};
 ghost use Rattle.host_bus.specs.Bus.{clock_of, closed_at};
 ghost use Rattle.host_bus.specs.View.{bus_seen};
 ghost use Rattle.host_mach.specs.Step.{is_tube};
-ghost use Rattle.host_mach.specs.Told.{IsExchanged, IsMemory};
+ghost use Rattle.host_mach.specs.CodeAccess.{IsExchanged, IsMemory};
 
 use beeb_bits::{Clock, Tick};
 use bus_plug::BusDevice;

@@ -2,10 +2,10 @@
 ghost use Rattle.std.specs.Prelude.{◌≡◌, ◌≤◌, ◌<◌, ◌+◌, ◌^◌, ℕ, IfOk, IsSome, None, Some, MatchOption, true, false, map, min, unwrap_or, ◌-◌, ◌&&◌};
 ghost use Rattle.host_bus.specs.Bus.{bus_disc, bus_break_pending, bus_next_break};
 ghost use Rattle.tube_chip.specs.declared.Answer.TheVariants.{Byte, Seen};
-ghost use Rattle.tube_party.specs.Moves.{Looks, IsAsk, shut, shown};
-ghost use Rattle.cpu6502.specs.Sequences.{next, given, halted};
+ghost use Rattle.tube_party.specs.Moves.{Looks, IsAsk, close_leaves, shown_lines};
+ghost use Rattle.cpu6502.specs.Sequences.{next_cycle, after_byte, halted};
 ghost use Rattle.host_mach.specs.State.{power_on};
-ghost use Rattle.host_mach.specs.Step.{host_moves, host_closed, next_state, is_last_tick, is_break, broken, cycled};
+ghost use Rattle.host_mach.specs.Step.{host_moves, host_closed, next_state, is_last_tick, is_break, after_break, after_cycle};
 
 use crate::exchange::{exchange, is_tube};
 use crate::run::{Stop, go_on, see};
@@ -50,7 +50,7 @@ fn is_last_tick(clock: Clock, t: u64) -> bool
 
 impl<D: BusDevice> HostMachine<D> {
     ghost use Rattle.host_mach.specs.View.{host_seen};
-    ghost use Rattle.host_mach.specs.Told.{IsDone, IsAskedByte, IsStop};
+    ghost use Rattle.host_mach.specs.CodeAccess.{IsDone, IsAskedByte, IsStop};
 
     /// The machine at power-on, at this clock, before the first cycle of a reset. It takes the memory of all shots of the script. Where memory
     /// is wanting, all is dropped.
@@ -144,10 +144,10 @@ impl<D: BusDevice> HostMachine<D> {
         requires room { self.old.due < 2 ^ 40 - 2 ^ 8 }
         requires some { 1 < ticks }
         requires few { ticks < 2 ^ 8 }
-        requires goes_on { IsSome (next self.old.cpu) }
+        requires goes_on { IsSome (next_cycle self.old.cpu) }
         ensures { let old = host_seen D.plug self.old in
             let breaks = bus_break_pending old.bus (old.due + (ticks - 1)) && halted old.cpu in
-            host_seen D.plug self.new ≡ cycled old breaks (given old.cpu byte) ticks }
+            host_seen D.plug self.new ≡ after_cycle old breaks (after_byte old.cpu byte) ticks }
     {
         let last_tick = self.due + (ticks - 1);
         let breaks = self.bus.break_pending(Tick(last_tick)) && self.cpu.halted();
@@ -163,7 +163,7 @@ impl<D: BusDevice> HostMachine<D> {
     #[inline(never)]
     fn access(&mut self) -> Option<Op>
         requires room { self.old.due < 2 ^ 32 }
-        requires goes_on { IsSome (next self.old.cpu) }
+        requires goes_on { IsSome (next_cycle self.old.cpu) }
         ensures done { IsDone (host_seen D.plug self.old) result (host_seen D.plug self.new) }
     {
         if self.is_break() {
@@ -182,7 +182,7 @@ impl<D: BusDevice> HostMachine<D> {
     #[inline(always)]
     fn look(&mut self, until: Tick) -> Ask
         requires room { until.0 < 2 ^ 40 }
-        requires over { next self.old.cpu ≡ None }
+        requires over { next_cycle self.old.cpu ≡ None }
         ensures { IsAsk host_moves until.0 (host_seen D.plug self.old) result (host_seen D.plug self.new) }
     {
         if self.due < until.0 {
@@ -199,7 +199,7 @@ impl<D: BusDevice> HostMachine<D> {
     fn shut(&mut self, until: Tick)
         requires room { until.0 < 2 ^ 40 }
         requires low { until.0 ≤ self.old.due }
-        ensures shut { host_seen D.plug self.new ≡ shut host_moves (host_seen D.plug self.old) until.0 }
+        ensures shut { host_seen D.plug self.new ≡ close_leaves host_moves (host_seen D.plug self.old) until.0 }
     {
         self.bus.finish(until);
     }
@@ -210,7 +210,7 @@ impl<D: BusDevice> HostMachine<D> {
         requires room { self.old.due < 2 ^ 40 }
         requires asked { is_break (host_seen D.plug self.old) ≡ true }
         ensures { let old = host_seen D.plug self.old in
-            host_seen D.plug self.new ≡ broken (host_closed old (old.due + 1)) }
+            host_seen D.plug self.new ≡ after_break (host_closed old (old.due + 1)) }
     {
         self.bus.take_break(Tick(self.due));
         self.nmis = self.bus.nmis_now();
@@ -236,7 +236,7 @@ impl<D: BusDevice> HostMachine<D> {
     fn take_lines(&mut self, lines: Lines)
         requires room { self.old.due < 2 ^ 40 }
         requires look { is_break (host_seen D.plug self.old) ≡ false }
-        requires over { next self.old.cpu ≡ None }
+        requires over { next_cycle self.old.cpu ≡ None }
         ensures { host_seen D.plug self.new ≡ next_state (host_seen D.plug self.old) (Some (Seen lines)) }
     {
         see(
@@ -254,7 +254,7 @@ impl<D: BusDevice> HostMachine<D> {
     fn run(&mut self, until: Tick, lines: &Lines, sure: Tick) -> Stop
         requires room { until.0 ≤ 2 ^ 30 }
         ensures looks { let old = host_seen D.plug self.old in
-            (k : ℕ) × Looks host_moves until.0 (shown lines.now sure.0) k old (host_seen D.plug self.new) }
+            (k : ℕ) × Looks host_moves until.0 (shown_lines lines.now sure.0) k old (host_seen D.plug self.new) }
         ensures stops { IsStop until.0 sure.0 result (host_seen D.plug self.new) }
     {
         let (due, stop) = go_on(
@@ -278,7 +278,7 @@ impl<D: BusDevice> Party for HostMachine<D> {
     ghost use Rattle.host_mach.specs.Lawful.{host_lawful, host_permitted};
     ghost use Rattle.host_mach.specs.View.{host_seen};
     ghost use Rattle.tube_party.specs.Quiet.{IsQuiet};
-    ghost use Rattle.host_mach.specs.Quiet.{quiet_of};
+    ghost use Rattle.host_mach.specs.CodeQuiet.{quiet_of};
 
     ghost State = { HostState };
 

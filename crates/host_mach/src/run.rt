@@ -1,12 +1,12 @@
 //! Steps one after another, as long as they are accesses of the memory and looks that are sure of their lines. They go over the parts of the
 //! machine, with the tick of the next step beside them.
 ghost use Rattle.std.specs.Prelude.{◌≡◌, ◌≤◌, ◌<◌, ◌+◌, ◌^◌, ℕ, None};
-ghost use Rattle.cpu6502.specs.Sequences.{next};
-ghost use Rattle.tube_party.specs.Moves.{Looks, shown};
+ghost use Rattle.cpu6502.specs.Sequences.{next_cycle};
+ghost use Rattle.tube_party.specs.Moves.{Looks, shown_lines};
 ghost use Rattle.host_bus.specs.Bus.{closed_at, bus_closed};
 ghost use Rattle.host_bus.specs.View.{bus_seen};
-ghost use Rattle.host_mach.specs.Step.{host_moves, host_closed, looked_at};
-ghost use Rattle.host_mach.specs.Told.{host_of, owed_at, IsStop};
+ghost use Rattle.host_mach.specs.Step.{host_moves, host_closed, after_look};
+ghost use Rattle.host_mach.specs.CodeAccess.{host_of, owed_at, IsStop};
 
 use crate::exchange::exchange_memory;
 use bus_plug::BusDevice;
@@ -31,9 +31,9 @@ pub(crate) enum Stop {
 pub(crate) fn see<D: BusDevice>(cpu: &mut Cpu, bus: &mut Bus<D>, nmis: &mut u64, t: u64, hirq: bool)
     requires room { t < 2 ^ 40 }
     requires before { closed_at (bus_seen D.plug bus.old) ≤ t + 1 }
-    requires over { next cpu.old ≡ None }
+    requires over { next_cycle cpu.old ≡ None }
     ensures { let old = host_of cpu.old (bus_seen D.plug bus.old) nmis.old t in
-        host_of cpu.new (bus_seen D.plug bus.new) nmis.new (t + 1) ≡ looked_at (host_closed old (t + 1)) hirq }
+        host_of cpu.new (bus_seen D.plug bus.new) nmis.new (t + 1) ≡ after_look (host_closed old (t + 1)) hirq }
 {
     bus.close(t + 1);
     let rises = bus.nmis_now();
@@ -75,7 +75,7 @@ pub(crate) fn go_on<D: BusDevice>(
     ensures before { closed_at (bus_seen D.plug bus.new) ≤ result.0 + 1 }
     ensures looks { let old = host_of cpu.old (bus_seen D.plug bus.old) nmis.old from in
         let new = host_of cpu.new (bus_seen D.plug bus.new) nmis.new result.0 in
-        (k : ℕ) × Looks host_moves until (shown lines.now sure) k old new }
+        (k : ℕ) × Looks host_moves until (shown_lines lines.now sure) k old new }
     ensures stops { IsStop until sure result.1 (host_of cpu.new (bus_seen D.plug bus.new) nmis.new result.0) }
 {
     let cycle = bus.clock().host();

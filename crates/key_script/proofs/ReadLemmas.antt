@@ -7,7 +7,7 @@ use Rattle.key_script.specs.declared.Event.{Event}
 use Rattle.key_script.specs.declared.ScriptError.{ScriptError}
 use Rattle.key_script.specs.declared.ScriptError.TheVariants.{BadLine, BadOrder, TooManyShots}
 use Rattle.key_script.specs.Events.{tick_of, is_shot, shots, last_tick_from, last_tick, NeverFallsFrom, IsEvent, IsScript}
-use Rattle.key_script.specs.Text.{fault, reading, events_of, BeginsBadly, script}
+use Rattle.key_script.specs.Text.{fault, events_behind, events_of, BeginsBadly, script}
 
 last_behind : (t : ℕ) (events : List Event) (e : Event) → last_tick_from t (events ++ e ∷ []) ≡ tick_of e
 last_behind t [] e = refl
@@ -19,7 +19,7 @@ order_behind t (d ∷ events) e order h = (order.0, order_behind (tick_of d) eve
 
 -- What was read of a text, with what is left of it: the caches are right, and the rules are kept.
 pub record ReadSoFar (text : List ℕ) (events : List Event) (last taken : ℕ) (rest : List ℕ) : Type 0 where
-  pub whole : script text ≡ reading events (events_of rest)
+  pub whole : script text ≡ events_behind events (events_of rest)
   pub last_is : last ≡ last_tick events
   pub taken_is : taken ≡ shots events
   pub rules : IsScript events
@@ -76,7 +76,7 @@ read_more text events last taken more rest others e so_far next event shorter cl
     let last_is : last ≡ last_tick events = so_far.last_is in
     let taken_is : taken ≡ shots events = so_far.taken_is in
     let few : taken ≤ 256 = rw taken_is so_far.rules.few in
-    let step : reading events (events_of rest) ≡ reading (events ++ e ∷ []) (events_of others) = rw (next, ← last_is, ← taken_is, clear) refl in
+    let step : events_behind events (events_of rest) ≡ events_behind (events ++ e ∷ []) (events_of others) = rw (next, ← last_is, ← taken_is, clear) refl in
     let behind : taken + more ≡ shots (events ++ e ∷ []) = rw (shots_behind events e, counts, taken_is) refl in
     let order : last_tick_from 0 events ≤ tick_of e = rw (← last_is) (fits_order (length events + 1) last taken e clear) in
     let fits : taken + more ≤ 256 = counted taken more (is_shot e) counts few (fits_shots (length events + 1) last taken e clear) in

@@ -22,10 +22,10 @@ unless None read = read
 
 -- What lines mean behind those of some events: all events, or the first line that is outside the form, or whose event does not go with those
 -- before it.
-abbrev pub reading : List Event → List (Option Event) → Result (List Event) ScriptError
-reading before [] = Ok before
-reading before (None ∷ lines) = Err (BadLine (length before + 1))
-reading before (Some e ∷ lines) = unless (fault (length before + 1) (last_tick before) (shots before) e) (reading (before ++ e ∷ []) lines)
+abbrev pub events_behind : List Event → List (Option Event) → Result (List Event) ScriptError
+events_behind before [] = Ok before
+events_behind before (None ∷ lines) = Err (BadLine (length before + 1))
+events_behind before (Some e ∷ lines) = unless (fault (length before + 1) (last_tick before) (shots before) e) (events_behind (before ++ e ∷ []) lines)
 
 -- the events of a text's lines, or none for a line that is outside the form
 abbrev pub events_of : List ℕ → List (Option Event)
@@ -37,4 +37,4 @@ BeginsBadly text = (more : List (Option Event)) × (events_of text ≡ None ∷ 
 
 -- What a text means as a key script. Lines count from 1.
 unfoldable pub script : List ℕ → Result (List Event) ScriptError
-script text = reading [] (events_of text)
+script text = events_behind [] (events_of text)

@@ -5,13 +5,13 @@ use Rattle.beeb_bits.specs.Bits.{bit}
 use Rattle.crtc6845.specs.declared.Beam.{Beam}
 use Rattle.crtc6845.specs.State as chip
 use Rattle.crtc6845.specs.Registers.{cursor_address}
-use Rattle.crtc6845.specs.Clock.{beam_of, blinks_on, clocked, started, counted}
+use Rattle.crtc6845.specs.Clock.{beam_of, blinks_on, clock_leaves, start_leaves, count_leaves}
 use Rattle.crtc6845.specs.Laws.{clocks, tells}
 use Rattle.crtc6845.specs.Pictures.{VerticalSyncComesInEachFrame, NoSyncBeyondTheRows, ShownAddressesCount}
 use Rattle.saa5050.specs.Shapes.{Font}
 use Rattle.raster.specs.Beam.{byte_address}
 use Rattle.raster.specs.State.{State}
-use Rattle.raster.specs.Clock.{begun, byte_drawn, cell_drawn, drawn, shown, char_clocked}
+use Rattle.raster.specs.Clock.{begin_leaves, draw_byte_leaves, draw_cell_leaves, draw_leaves, show_leaves, char_clock_leaves}
 use Rattle.machine_laws.specs.Frames.{char_clocks, place_of, FramesFinish, CursorStands}
 
 -- what a clock draws is no part of the finished frame, nor of the 6845
@@ -23,32 +23,32 @@ choice : (b : Bool) (s x y : State) → Draws s x → Draws s y → Draws s (if 
 choice true s x y p q = p
 choice false s x y p q = q
 
-draws : (ram : List ℕ) (size : ℕ) (font : Font) (beam : Beam) (s : State) → Draws s (shown ram size font beam s)
+draws : (ram : List ℕ) (size : ℕ) (font : Font) (beam : Beam) (s : State) → Draws s (show_leaves ram size font beam s)
 draws ram size font beam s =
     let byte = slice_index ram (byte_address beam.ma beam.ra size) in
-    choice beam.shown s (drawn ram size font beam s) s
-    (choice (bit s.ula.control 1) s (cell_drawn font beam (byte % 128) s) (byte_drawn beam byte s)
+    choice beam.shown s (draw_leaves ram size font beam s) s
+    (choice (bit s.ula.control 1) s (draw_cell_leaves font beam (byte % 128) s) (draw_byte_leaves beam byte s)
     (record { finished = refl; crtc = refl }) (record { finished = refl; crtc = refl }))
     (record { finished = refl; crtc = refl })
 
 each_clock : (ram : List ℕ) (size : ℕ) (font : Font) (s : State) →
-    (char_clocked ram size font s).finished ≡ (if (beam_of s.crtc).frame_end then s.working else s.finished)
-unfolding char_clocked
-each_clock ram size font s = (draws ram size font (beam_of s.crtc) (begun (beam_of s.crtc) (record s { crtc = clocked s.crtc }))).finished
+    (char_clock_leaves ram size font s).finished ≡ (if (beam_of s.crtc).frame_end then s.working else s.finished)
+unfolding char_clock_leaves
+each_clock ram size font s = (draws ram size font (beam_of s.crtc) (begin_leaves (beam_of s.crtc) (record s { crtc = clock_leaves s.crtc }))).finished
 
-one_clock : (ram : List ℕ) (size : ℕ) (font : Font) (s : State) → (char_clocked ram size font s).crtc ≡ clocked s.crtc
-unfolding char_clocked
-one_clock ram size font s = (draws ram size font (beam_of s.crtc) (begun (beam_of s.crtc) (record s { crtc = clocked s.crtc }))).crtc
+one_clock : (ram : List ℕ) (size : ℕ) (font : Font) (s : State) → (char_clock_leaves ram size font s).crtc ≡ clock_leaves s.crtc
+unfolding char_clock_leaves
+one_clock ram size font s = (draws ram size font (beam_of s.crtc) (begin_leaves (beam_of s.crtc) (record s { crtc = clock_leaves s.crtc }))).crtc
 
-clocks_behind : (n : ℕ) (c : chip.State) → clocks n (clocked c) ≡ clocked (clocks n c)
+clocks_behind : (n : ℕ) (c : chip.State) → clocks n (clock_leaves c) ≡ clock_leaves (clocks n c)
 clocks_behind zero c = refl
-clocks_behind (suc n) c = clocks_behind n (clocked c)
+clocks_behind (suc n) c = clocks_behind n (clock_leaves c)
 
 -- the 6845 goes by itself
 by_itself : (ram : ℕ → List ℕ) (size : ℕ → ℕ) (font : Font) (n : ℕ) (s : State) → (char_clocks ram size font n s).crtc ≡ clocks n s.crtc
 by_itself ram size font zero s = refl
 by_itself ram size font (suc n) s =
-    one_clock (ram n) (size n) font (char_clocks ram size font n s) ∙ ap clocked (by_itself ram size font n s) ∙ sym (clocks_behind n s.crtc)
+    one_clock (ram n) (size n) font (char_clocks ram size font n s) ∙ ap clock_leaves (by_itself ram size font n s) ∙ sym (clocks_behind n s.crtc)
 
 next_frame : (ram : ℕ → List ℕ) (size : ℕ → ℕ) (font : Font) (s : State) (n : ℕ) (ends : Bool) → (tells n s.crtc).frame_end ≡ ends →
     (char_clocks ram size font (suc n) s).finished
@@ -73,15 +73,15 @@ frames_finish comes none = record {
 
 -- ---- The cursor.
 
-start_keeps : (c : chip.State) → (started c).registers ≡ c.registers
+start_keeps : (c : chip.State) → (start_leaves c).registers ≡ c.registers
 start_keeps c = grind arith
 
-count_keeps : (c : chip.State) → (counted c).registers ≡ c.registers
+count_keeps : (c : chip.State) → (count_leaves c).registers ≡ c.registers
 count_keeps c = grind arith
 
 keeps : (n : ℕ) (c : chip.State) → (clocks n c).registers ≡ c.registers
 keeps zero c = refl
-keeps (suc n) c = keeps n (clocked c) ∙ count_keeps (started c) ∙ start_keeps c
+keeps (suc n) c = keeps n (clock_leaves c) ∙ count_keeps (start_leaves c) ∙ start_keeps c
 
 grouped : (a b c d e : Bool) → (a && b && c && d && e) ≡ (a && (b && (c && (d && e))))
 grouped false b c d e = refl
@@ -91,13 +91,13 @@ grouped true true true false e = refl
 grouped true true true true e = refl
 
 -- the cursor, by what is told
-told_cursor : (r : chip.Registers) (x : chip.State) → (started x).registers ≡ r →
+told_cursor : (r : chip.Registers) (x : chip.State) → (start_leaves x).registers ≡ r →
     (beam_of x).cursor
     ≡ ((beam_of x).shown && (((beam_of x).ma == cursor_address r) && (nat_le (r.cursor_start % 32) (beam_of x).ra && (nat_le (beam_of x).ra r.cursor_end
     && blinks_on r.cursor_start (beam_of x).fields))))
 told_cursor r x is =
-    grouped (beam_of x).shown ((beam_of x).ma == cursor_address (started x).registers) (nat_le ((started x).registers.cursor_start % 32) (beam_of x).ra)
-    (nat_le (beam_of x).ra (started x).registers.cursor_end) (blinks_on (started x).registers.cursor_start (beam_of x).fields)
+    grouped (beam_of x).shown ((beam_of x).ma == cursor_address (start_leaves x).registers) (nat_le ((start_leaves x).registers.cursor_start % 32) (beam_of x).ra)
+    (nat_le (beam_of x).ra (start_leaves x).registers.cursor_end) (blinks_on (start_leaves x).registers.cursor_start (beam_of x).fields)
     ∙ ap (λ (q : chip.Registers). (beam_of x).shown && (((beam_of x).ma == cursor_address q) && (nat_le (q.cursor_start % 32) (beam_of x).ra && (nat_le (beam_of x).ra q.cursor_end
     && blinks_on q.cursor_start (beam_of x).fields)))) is
 

@@ -8,18 +8,18 @@ use Rattle.crtc6845.specs.Laws.{tells, line_characters, frame_clocks, HaveTheirB
 use Rattle.crtc6845.specs.Pictures.{sync_line, row_at, column_at, HasItsSync}
 use Rattle.saa5050.specs.Shapes.{Font}
 use Rattle.raster.specs.State.{State}
-use Rattle.raster.specs.Clock.{char_clocked}
+use Rattle.raster.specs.Clock.{char_clock_leaves}
 
 -- n character clocks, one after the other, each with the RAM and the screen's size as they are at it
 abbrev pub char_clocks : (ℕ → List ℕ) → (ℕ → ℕ) → Font → ℕ → State → State
 char_clocks ram size font zero s = s
-char_clocks ram size font (suc n) s = char_clocked (ram n) (size n) font (char_clocks ram size font n s)
+char_clocks ram size font (suc n) s = char_clock_leaves (ram n) (size n) font (char_clocks ram size font n s)
 
 -- The finished frame changes in no character clock but one that ends a frame, and becomes the frame that was drawn up to it. From the first
 -- clock of a frame on that is the first character of row R7 of each frame, whatever is written to the RAM, and never where there is no row R7.
 pub record FramesFinish : Type 0 where
   pub each : (ram : List ℕ) (size : ℕ) (font : Font) (s : State) →
-      (char_clocked ram size font s).finished ≡ (if (beam_of s.crtc).frame_end then s.working else s.finished)
+      (char_clock_leaves ram size font s).finished ≡ (if (beam_of s.crtc).frame_end then s.working else s.finished)
   pub in_time : (ram : ℕ → List ℕ) (size : ℕ → ℕ) (font : Font) (s : State) (n : ℕ) →
       HaveTheirBits s.crtc.registers → HasItsSync s.crtc.registers → BeginsFrame s.crtc → s.crtc.sync_lines ≤ sync_line s.crtc.registers + 1 →
       (char_clocks ram size font (n + 1) s).finished

@@ -9,7 +9,7 @@ use Rattle.op_table.specs.declared.rows.Row.{Row}
 use Rattle.cpu_alu.specs.declared.Cycle.{Cycle}
 use Rattle.cpu_core.specs.declared.Sequence.TheVariants.{Instruction}
 use Rattle.cpu_core.specs.Accesses.{row_at}
-use Rattle.cpu6502.specs.Sequences.{next}
+use Rattle.cpu6502.specs.Sequences.{next_cycle}
 use Rattle.tube_chip.specs.declared.Answer.{Answer}
 use Rattle.bus_plug.specs.Plug.{Plug}
 use Rattle.rom_set.specs.Roms.{Roms}
@@ -29,11 +29,11 @@ run (a ∷ answers) s = run answers (next_state s a)
 -- the accesses of those steps
 abbrev pub cycles : List (Option Answer) → HostState → List Cycle
 cycles [] s = []
-cycles (a ∷ answers) s = the_cycle (next s.cpu) ++ cycles answers (next_state s a)
+cycles (a ∷ answers) s = the_cycle (next_cycle s.cpu) ++ cycles answers (next_state s a)
 
 -- the next step is an access, and neither a look nor a break step
 abbrev pub IsAccess : HostState → Type 0
-IsAccess s = (is_break s ≡ false) × (is_none (next s.cpu) ≡ false)
+IsAccess s = (is_break s ≡ false) × (is_none (next_cycle s.cpu) ≡ false)
 
 -- and so is each of these steps
 abbrev pub AllAccess : List (Option Answer) → HostState → Type 0
@@ -52,10 +52,10 @@ takes clock t (c ∷ cs) = host clock * (1 + wait clock t c) + takes clock (t + 
 -- From any access on, where the accesses up to the end of its sequence are done, the look, or the break step in its place, is at the last of the
 -- ticks that they take, and the next sequence begins behind it.
 pub record HostTakes : Type 0 where
-  pub look : (s : HostState) (answers : List (Option Answer)) → 0 < length answers → AllAccess answers s → next (run answers s).cpu ≡ None →
+  pub look : (s : HostState) (answers : List (Option Answer)) → 0 < length answers → AllAccess answers s → next_cycle (run answers s).cpu ≡ None →
       (run answers s).due + 1 ≡ s.due + takes (clock_of s.bus) s.due (cycles answers s)
   pub behind : (s : HostState) (answers : List (Option Answer)) (answer : Option Answer) →
-      0 < length answers → AllAccess answers s → next (run answers s).cpu ≡ None →
+      0 < length answers → AllAccess answers s → next_cycle (run answers s).cpu ≡ None →
       (next_state (run answers s) answer).due ≡ s.due + takes (clock_of s.bus) s.due (cycles answers s)
 
 -- whether tick t is the last of a cycle of n ticks, or else the first
@@ -64,7 +64,7 @@ IsAt ends n t = t % n ≡ (if ends then n - 1 else 0)
 
 -- an access is at the first tick of a cycle, and a look or a break step at the last tick of one
 abbrev pub IsOnCycle : HostState → Type 0
-IsOnCycle s = IsAt (is_break s || is_none (next s.cpu)) (cycle_of s) s.due
+IsOnCycle s = IsAt (is_break s || is_none (next_cycle s.cpu)) (cycle_of s) s.due
 
 -- So it is at power-on, and after each step.
 pub record HostKeepsCycles : Type 0 where
@@ -76,6 +76,6 @@ pub record HostKeepsCycles : Type 0 where
 abbrev pub HostTakesTheTable : Type 0
 HostTakesTheTable =
     (s : HostState) (answers : List (Option Answer)) (op : ℕ) (seen : List (Option ℕ)) (row : Row) →
-    s.cpu.sequence ≡ Instruction → s.cpu.seen ≡ [] → AllAccess answers s → next (run answers s).cpu ≡ None →
+    s.cpu.sequence ≡ Instruction → s.cpu.seen ≡ [] → AllAccess answers s → next_cycle (run answers s).cpu ≡ None →
     (run answers s).cpu.seen ≡ Some op ∷ seen → op < 256 → row_at Nmos op ≡ Some row →
     row.cycles ≤ length (cycles answers s)

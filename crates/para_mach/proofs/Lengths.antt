@@ -16,13 +16,13 @@ use Rattle.cpu_alu.specs.declared.Cycle.TheVariants.{Read, Write}
 use Rattle.cpu_alu.specs.declared.uses.BusUse.{BusUse}
 use Rattle.cpu_alu.specs.declared.uses.BusUse.TheVariants as uses
 use Rattle.cpu_alu.specs.Addresses.{place}
-use Rattle.cpu_alu.specs.Instructions.{bus_use, taken, modified, stored}
+use Rattle.cpu_alu.specs.Instructions.{bus_use, takes_branch, modified_value, stored_value}
 use Rattle.cpu_core.specs.declared.Sequence.{Sequence}
 use Rattle.cpu_core.specs.declared.Sequence.TheVariants.{Instruction, Reset, Nmi, Irq}
-use Rattle.cpu_core.specs.Accesses.{byte, between, waits, lasts_longer, carrying, reach, address, operand, last_place, modify_form, branch_form, jump_form, again, implied_form, form}
+use Rattle.cpu_core.specs.Accesses.{byte, cycle_between, waits, lasts_longer, carry_cycles, reach, address, operand, last_place, modify_form, branch_form, jump_form, again, implied_form, form}
 use Rattle.cpu_core.specs.Sequences.{accesses}
 use Rattle.cpu65c02.specs.State as cpu
-use Rattle.cpu65c02.specs.Sequences.{next}
+use Rattle.cpu65c02.specs.Sequences.{next_cycle}
 
 -- no row of the table has more than eight cycles
 
@@ -92,9 +92,9 @@ at_most_one true c = omega arith
 at_most_one false c = omega arith
 
 reach_most : (w : Mode) (always : Bool) (r : Regs) (seen : List (Option ℕ)) → length (reach Cmos w always r seen) ≤ 4
-reach_most AbsX always r seen = let k : length (carrying Cmos always (byte seen 1) (byte seen 2) r.x (place r 2)) ≤ 1 = at_most_one _ _ in omega arith
-reach_most AbsY always r seen = let k : length (carrying Cmos always (byte seen 1) (byte seen 2) r.y (place r 2)) ≤ 1 = at_most_one _ _ in omega arith
-reach_most IndY always r seen = let k : length (carrying Cmos always (byte seen 2) (byte seen 3) r.y (place r 1)) ≤ 1 = at_most_one _ _ in omega arith
+reach_most AbsX always r seen = let k : length (carry_cycles Cmos always (byte seen 1) (byte seen 2) r.x (place r 2)) ≤ 1 = at_most_one _ _ in omega arith
+reach_most AbsY always r seen = let k : length (carry_cycles Cmos always (byte seen 1) (byte seen 2) r.y (place r 2)) ≤ 1 = at_most_one _ _ in omega arith
+reach_most IndY always r seen = let k : length (carry_cycles Cmos always (byte seen 2) (byte seen 3) r.y (place r 1)) ≤ 1 = at_most_one _ _ in omega arith
 reach_most _ always r seen = omega arith
 
 with_more : (n k : ℕ) (xs ys : List Cycle) → length xs ≤ n → length ys ≤ k → length (xs ++ ys) ≤ n + k
@@ -105,7 +105,7 @@ modify_most Acc row always r seen = omega arith
 modify_most w row always r seen =
     let a : ℕ = address w r seen in
     let old : ℕ = operand Cmos w always r seen in
-    let last : List Cycle = Read a ∷ between Cmos a old ∷ Write a (modified row.mnemonic r old) ∷ [] in
+    let last : List Cycle = Read a ∷ cycle_between Cmos a old ∷ Write a (modified_value row.mnemonic r old) ∷ [] in
     with_more 4 3 (reach Cmos w always r seen) last (reach_most w always r seen) (omega arith)
 
 length-again : (n at : ℕ) → length (again n at) ≡ n
@@ -143,13 +143,13 @@ form_most uses.Reads row r seen few =
     with_more 4 2 (reach Cmos row.mode (waits Cmos uses.Reads) r seen) (Read (address row.mode r seen) ∷ more) (reach_most row.mode (waits Cmos uses.Reads) r seen) (omega arith) in
     omega arith
 form_most uses.Stores row r seen few =
-    let last : List Cycle = Write (address row.mode r seen) (stored row.mnemonic r) ∷ [] in
+    let last : List Cycle = Write (address row.mode r seen) (stored_value row.mnemonic r) ∷ [] in
     let all : length (reach Cmos row.mode (waits Cmos uses.Stores) r seen ++ last) ≤ 4 + 1 =
     with_more 4 1 (reach Cmos row.mode (waits Cmos uses.Stores) r seen) last (reach_most row.mode (waits Cmos uses.Stores) r seen) (omega arith) in
     omega arith
 form_most uses.Shifts row r seen few = let k : length (modify_form Cmos row row.mode (waits Cmos uses.Shifts) r seen) ≤ 7 = modify_most row.mode row (waits Cmos uses.Shifts) r seen in omega arith
 form_most uses.Modifies row r seen few = let k : length (modify_form Cmos row row.mode (waits Cmos uses.Modifies) r seen) ≤ 7 = modify_most row.mode row (waits Cmos uses.Modifies) r seen in omega arith
-form_most uses.Branches row r seen few = branch_most (taken row.mnemonic r) r seen
+form_most uses.Branches row r seen few = branch_most (takes_branch row.mnemonic r) r seen
 form_most uses.Jumps row r seen few = jump_most row.mode r seen
 form_most _ row r seen few = omega arith
 
@@ -167,7 +167,7 @@ within (Some c) xs k is some = slice_get_within xs k c is
 within None xs k is some = cc
 
 -- where a sequence is not over, fewer than sixteen cycles of it were seen
-pub few_seen : (c : cpu.State) → is_none (next c) ≡ false → length c.seen < 16
+pub few_seen : (c : cpu.State) → is_none (next_cycle c) ≡ false → length c.seen < 16
 few_seen c on =
-    let low : length c.seen < length (accesses Cmos c.sequence c.regs c.seen) = within (next c) (accesses Cmos c.sequence c.regs c.seen) (length c.seen) refl on in
+    let low : length c.seen < length (accesses Cmos c.sequence c.regs c.seen) = within (next_cycle c) (accesses Cmos c.sequence c.regs c.seen) (length c.seen) refl on in
     omega (arith, most_accesses c.sequence c.regs c.seen)

@@ -1,4 +1,4 @@
--- Writes that were noted are taken back, and leave what is no RAM.
+-- Writes that were noted are rolled back, and leave what is no RAM.
 use Rattle.std.proofs.Common.{◌≡◌, ◌∙◌, refl, sym, ap, ℕ, ◌+◌, ◌*◌, ◌<◌, ◌≤◌, ◌==◌, max, ◌&&◌, not, if◌then◌else◌, arith, List, [], ◌∷◌, ◌++◌, length, Bool, true, false, Option, None, Some}
 use Rattle.std.proofs.lemmas.List.{set-get_or, set-set, length_push}
 use Rattle.std.proofs.lemmas.Bool.{ne_eqb}
@@ -12,14 +12,14 @@ use Rattle.para_mach.specs.declared.notes.Stood.{Stood}
 use Rattle.tube_chip.specs.declared.Lines.{Lines}
 use Rattle.tube_chip.specs.declared.Answer.TheVariants.{Seen}
 use Rattle.tube_party.specs.declared.party.Ask.{Ask}
-use Rattle.tube_party.specs.Moves.{Looks, Goes, IsAsk, shown}
+use Rattle.tube_party.specs.Moves.{Looks, Goes, IsAsk, shown_lines}
 use Rattle.tube_party.specs.Steps.{looks_on, looks_wider}
 use Rattle.cpu_core.specs.declared.Sequence.TheVariants.{Reset, Nmi}
-use Rattle.cpu65c02.specs.Sequences.{next, after, looked, fresh}
+use Rattle.cpu65c02.specs.Sequences.{next_cycle, after, sequence_at_look, fresh}
 use Rattle.para_mach.specs.State.{ParaState}
-use Rattle.para_mach.specs.Step.{para_moves, asks_by, is_tube, rom_in_after, looks, begun, next_state, after_look, held_on, accessed}
-use Rattle.para_mach.specs.Told.{IsDone, IsPassed, IsKin, IsCramped}
-use Rattle.para_mach.specs.Noted.{put_back, SetOut}
+use Rattle.para_mach.specs.Step.{para_moves, asks_by, is_tube, rom_in_after, looks, begin_leaves, next_state, after_look, after_held_cycle, after_access}
+use Rattle.para_mach.specs.CodeAccess.{IsDone, IsPassed, IsKin, IsCramped}
+use Rattle.para_mach.specs.CodeNotes.{put_back, SetOut}
 use Rattle.para_mach.proofs.Advance.{same_counts, more_look, begins}
 
 -- the newest is put back first
@@ -27,7 +27,7 @@ pub put_back_last : (xs : List Stood) (x : Stood) (ram : List ℕ) → put_back 
 put_back_last [] x ram = refl
 put_back_last (y ∷ ys) x ram = ap (λ (r : List ℕ). slice_set r y.at y.byte) (put_back_last ys x ram)
 
--- a write is taken back by the byte that stood there
+-- a write is rolled back by the byte that stood there
 pub put_back_written : (xs ys : List Stood) (x : Stood) (ram : List ℕ) (byte : ℕ) → ys ≡ xs ++ x ∷ [] → slice_index ram x.at ≡ x.byte → put_back ys (slice_set ram x.at byte) ≡ put_back xs ram
 put_back_written xs ys x ram byte is stood =
     ap (λ (l : List Stood). put_back l (slice_set ram x.at byte)) is
@@ -59,7 +59,7 @@ kin_read : (s new : ParaState) → IsDone s None new → IsKin s new
 kin_read s new done = (
   ap (λ (x : ParaState). x.clock) done.1,
   ap (λ (x : ParaState). x.rom) done.1,
-  ap (λ (x : ParaState). x.rom_in) done.1 ∙ rom_stays s.rom_in (next s.cpu) done.0,
+  ap (λ (x : ParaState). x.rom_in) done.1 ∙ rom_stays s.rom_in (next_cycle s.cpu) done.0,
   ap (λ (x : ParaState). x.resets) done.1,
   ap (λ (x : ParaState). x.nmis) done.1,
 )
@@ -86,48 +86,48 @@ ram_past due bound pirq s new passed = ap (λ (x : ParaState). x.ram) passed.1
 -- a look that sees the lines and finds the counts as they were taken
 pub sets_out_seeing : (n : ℕ) (lines : Lines) (sure due at bound : ℕ) (old mid : ParaState) → due ≡ old.due → at ≡ old.due → due < bound → bound ≤ n → bound ≤ sure → looks old ≡ true
     → (0 < bound → (lines.resets ≡ old.resets) × (lines.nmis ≡ old.nmis))
-    → mid ≡ begun (record old { due = at }) (fresh (looked false lines.pirq (after old.cpu)) (after old.cpu))
+    → mid ≡ begin_leaves (record old { due = at }) (fresh (sequence_at_look false lines.pirq (after old.cpu)) (after old.cpu))
     → SetOut n lines sure old mid
 sets_out_seeing n lines sure due at bound old mid here there low in_run in_sure over same is =
     let counts : (lines.resets ≡ old.resets) × (lines.nmis ≡ old.nmis) = same (omega (arith, low)) in
     let step : mid ≡ next_state old (Some (Seen lines)) =
-    is ∙ ap (λ (k : ℕ). begun (record old { due = k }) (fresh (looked false lines.pirq (after old.cpu)) (after old.cpu))) there ∙ same_counts old lines over counts.0 counts.1 in
+    is ∙ ap (λ (k : ℕ). begin_leaves (record old { due = k }) (fresh (sequence_at_look false lines.pirq (after old.cpu)) (after old.cpu))) there ∙ same_counts old lines over counts.0 counts.1 in
     record {
       came = more_look n lines sure old old mid (0, refl) (omega (arith, here, low, in_run)) over (omega (arith, here, low, in_sure)) step;
       ram = ap (λ (x : ParaState). x.ram) is;
       kin = (ap (λ (x : ParaState). x.clock) is, ap (λ (x : ParaState). x.rom) is, ap (λ (x : ParaState). x.rom_in) is, ap (λ (x : ParaState). x.resets) is, ap (λ (x : ParaState). x.nmis) is);
       later = omega (arith, there, ap (λ (x : ParaState). x.due) is);
-      goes_on = ap looks is ∙ begins (looked false lines.pirq (after old.cpu)) (after old.cpu);
+      goes_on = ap looks is ∙ begins (sequence_at_look false lines.pirq (after old.cpu)) (after old.cpu);
     }
 
 -- the steps of a run behind it, and what is asked then; its looks may be nearer than they need be
-pub goes_out : (n : ℕ) (lines : Lines) (near sure : ℕ) (old mid last new : ParaState) (ask : Ask) → near ≤ sure → SetOut n lines near old mid → (k : ℕ) × Looks para_moves n (shown lines near) k mid last → IsAsk para_moves n last ask new →
-    Goes para_moves n (shown lines sure) old ask new
+pub goes_out : (n : ℕ) (lines : Lines) (near sure : ℕ) (old mid last new : ParaState) (ask : Ask) → near ≤ sure → SetOut n lines near old mid → (k : ℕ) × Looks para_moves n (shown_lines lines near) k mid last → IsAsk para_moves n last ask new →
+    Goes para_moves n (shown_lines lines sure) old ask new
 goes_out n lines near sure old mid last new ask low out ran asked =
-    let all : (i : ℕ) × Looks para_moves n (shown lines near) i old last = looks_on para_moves n lines near out.came.0 ran.0 old mid last out.came.1 ran.1 in
+    let all : (i : ℕ) × Looks para_moves n (shown_lines lines near) i old last = looks_on para_moves n lines near out.came.0 ran.0 old mid last out.came.1 ran.1 in
     record { steps = all.0; last = last; looks = looks_wider para_moves n lines near sure all.0 old last low all.1; asked = asked }
 
 -- ---- Held
 
 -- the reset line stands for one more reset
-pub held_look : (s : ParaState) (l : Lines) → looks s ≡ true → l.prst ≡ true → (l.resets ≡ s.resets → ⊥) → held_on s ≡ next_state s (Some (Seen l))
+pub held_look : (s : ParaState) (l : Lines) → looks s ≡ true → l.prst ≡ true → (l.resets ≡ s.resets → ⊥) → after_held_cycle s ≡ next_state s (Some (Seen l))
 held_look s l on stands other =
     let last : ParaState =
-    if not (l.nmis == s.nmis) then begun (record s { nmis = l.nmis }) (fresh Nmi (after s.cpu)) else begun s (fresh (looked false l.pirq (after s.cpu)) (after s.cpu)) in
-    let reset : ParaState = begun (record s { rom_in = true; resets = l.resets; nmis = l.nmis }) (fresh Reset (after s.cpu)) in
+    if not (l.nmis == s.nmis) then begin_leaves (record s { nmis = l.nmis }) (fresh Nmi (after s.cpu)) else begin_leaves s (fresh (sequence_at_look false l.pirq (after s.cpu)) (after s.cpu)) in
+    let reset : ParaState = begin_leaves (record s { rom_in = true; resets = l.resets; nmis = l.nmis }) (fresh Reset (after s.cpu)) in
     sym
-    (ap (λ (b : Bool). if b then after_look s l else accessed s (Some (Seen l))) on
-    ∙ ap (λ (b : Bool). if not b then (if l.prst then held_on s else reset) else last) (ne_eqb l.resets s.resets other)
-    ∙ ap (λ (b : Bool). if b then held_on s else reset) stands)
+    (ap (λ (b : Bool). if b then after_look s l else after_access s (Some (Seen l))) on
+    ∙ ap (λ (b : Bool). if not b then (if l.prst then after_held_cycle s else reset) else last) (ne_eqb l.resets s.resets other)
+    ∙ ap (λ (b : Bool). if b then after_held_cycle s else reset) stands)
 
 -- so far a machine passed looks at that line
 pub record IsHeldOn (n : ℕ) (lines : Lines) (sure : ℕ) (start s : ParaState) : Type 0 where
-  pub came : (k : ℕ) × Looks para_moves n (shown lines sure) k start s
+  pub came : (k : ℕ) × Looks para_moves n (shown_lines lines sure) k start s
   pub over : looks s ≡ true
   pub ram : s.ram ≡ start.ram
   pub kin : IsKin start s
 
-pub held_more : (n : ℕ) (lines : Lines) (sure : ℕ) (start s new : ParaState) → IsHeldOn n lines sure start s → lines.prst ≡ true → (lines.resets ≡ start.resets → ⊥) → s.due < n → s.due < sure → new ≡ held_on s → IsHeldOn n lines sure start new
+pub held_more : (n : ℕ) (lines : Lines) (sure : ℕ) (start s new : ParaState) → IsHeldOn n lines sure start s → lines.prst ≡ true → (lines.resets ≡ start.resets → ⊥) → s.due < n → s.due < sure → new ≡ after_held_cycle s → IsHeldOn n lines sure start new
 held_more n lines sure start s new so_far stands other low early is =
     record {
       came = more_look n lines sure start s new so_far.came low so_far.over early (is ∙ held_look s lines so_far.over stands (λ e. other (e ∙ so_far.kin.3)));

@@ -6,7 +6,7 @@ use Rattle.cpu_alu.specs.declared.Cycle.{Cycle}
 use Rattle.cpu_alu.specs.declared.Cycle.TheVariants.{Read, Write}
 use Rattle.cpu_core.specs.declared.Sequence.TheVariants.{Reset, Nmi}
 use Rattle.cpu65c02.specs.State as cpu
-use Rattle.cpu65c02.specs.Sequences.{next, given, after, looked, fresh}
+use Rattle.cpu65c02.specs.Sequences.{next_cycle, after_byte, after, sequence_at_look, fresh}
 use Rattle.tube_chip.specs.declared.Op.TheVariants as op
 use Rattle.tube_chip.specs.declared.Lines.{Lines}
 use Rattle.tube_chip.specs.declared.Answer.{Answer}
@@ -26,7 +26,7 @@ asks_by (Some (Read at)) = if is_tube at then Some (access (op.Read (at % 8))) e
 asks_by (Some (Write at byte)) = if is_tube at then Some (access (op.Write (at % 8) byte)) else None
 
 abbrev pub asks : ParaState → Option Query
-asks s = asks_by (next s.cpu)
+asks s = asks_by (next_cycle s.cpu)
 
 -- the byte of an address that is not the Tube's: the boot ROM lies over the top while it is switched in
 abbrev pub memory : List ℕ → List ℕ → Bool → ℕ → ℕ
@@ -58,18 +58,18 @@ rom_in_after rom_in (Some (Write at byte)) = rom_in && not (is_tube at)
 
 -- An access that showed a byte: its look comes at its last tick, where it was the last of its sequence, and else the next cycle. The
 -- machine is closed behind its first tick.
-abbrev pub accessed_with : ParaState → Option Cycle → cpu.State → ParaState
-accessed_with s c on =
+abbrev pub after_cycle : ParaState → Option Cycle → cpu.State → ParaState
+after_cycle s c on =
     record s {
       cpu = on;
       ram = ram_after s.ram c;
       rom_in = rom_in_after s.rom_in c;
-      due = (if is_none (next on) then s.due + (para s.clock - 1) else s.due + para s.clock);
-      lag = (if is_none (next on) then para s.clock - 2 else para s.clock - 1);
+      due = (if is_none (next_cycle on) then s.due + (para s.clock - 1) else s.due + para s.clock);
+      lag = (if is_none (next_cycle on) then para s.clock - 2 else para s.clock - 1);
     }
 
-abbrev pub accessed : ParaState → Option Answer → ParaState
-accessed s answer = accessed_with s (next s.cpu) (given s.cpu (byte_of s.ram s.rom s.rom_in answer (next s.cpu)))
+abbrev pub after_access : ParaState → Option Answer → ParaState
+after_access s answer = after_cycle s (next_cycle s.cpu) (after_byte s.cpu (byte_of s.ram s.rom s.rom_in answer (next_cycle s.cpu)))
 
 -- the lines of an answer
 abbrev pub lines_in : Option Answer → Lines
@@ -78,28 +78,28 @@ lines_in (Some (Byte b)) = record { prst = false; resets = 0; nmis = 0; pirq = f
 lines_in (Some (Seen l)) = l
 
 -- held: a cycle without an access, which looks again at its last tick
-abbrev pub held_on : ParaState → ParaState
-held_on s = record s { is_held = true; due = s.due + para s.clock; lag = para s.clock - 1 }
+abbrev pub after_held_cycle : ParaState → ParaState
+after_held_cycle s = record s { is_held = true; due = s.due + para s.clock; lag = para s.clock - 1 }
 
 -- a sequence begins in the next cycle
-abbrev pub begun : ParaState → cpu.State → ParaState
-begun s c = record s { cpu = c; is_held = false; due = s.due + 1; lag = 0 }
+abbrev pub begin_leaves : ParaState → cpu.State → ParaState
+begin_leaves s c = record s { cpu = c; is_held = false; due = s.due + 1; lag = 0 }
 
 -- A look: a reset or hold by the count of resets, then an NMI by its count, then an IRQ by its line, else the next instruction.
 abbrev pub after_look : ParaState → Lines → ParaState
 after_look s l =
     if not (l.resets == s.resets) then
-    (if l.prst then held_on s
-    else begun (record s { rom_in = true; resets = l.resets; nmis = l.nmis }) (fresh Reset (after s.cpu)))
-    else if not (l.nmis == s.nmis) then begun (record s { nmis = l.nmis }) (fresh Nmi (after s.cpu))
-    else begun s (fresh (looked false l.pirq (after s.cpu)) (after s.cpu))
+    (if l.prst then after_held_cycle s
+    else begin_leaves (record s { rom_in = true; resets = l.resets; nmis = l.nmis }) (fresh Reset (after s.cpu)))
+    else if not (l.nmis == s.nmis) then begin_leaves (record s { nmis = l.nmis }) (fresh Nmi (after s.cpu))
+    else begin_leaves s (fresh (sequence_at_look false l.pirq (after s.cpu)) (after s.cpu))
 
 -- whether the next step is a look: the sequence is over
 abbrev pub looks : ParaState → Bool
-looks s = is_none (next s.cpu)
+looks s = is_none (next_cycle s.cpu)
 
 abbrev pub next_state : ParaState → Option Answer → ParaState
-next_state s answer = if looks s then after_look s (lines_in answer) else accessed s answer
+next_state s answer = if looks s then after_look s (lines_in answer) else after_access s answer
 
 -- The steps of the second processor.
 abbrev pub para_moves : Moves ParaState

@@ -2,13 +2,13 @@
 ghost use Rattle.std.specs.Prelude.{Bool, is_none, ◌≡◌, ◌≤◌, if◌then◌else◌, ◌≢◌, ◌↔◌, ◌⊎◌, ◌<◌, ◌+◌, ◌-◌, ◌%◌, ◌^◌, IfOk, IfErr, IsErrOf, length, Err, Some, None, MatchOption, IsSome, IsNone, false, true, max, slice_index, vec_len, vec_capacity};
 ghost use Rattle.beeb_bits.specs.Clock.{para};
 ghost use Rattle.tube_chip.specs.declared.Answer.TheVariants.{Byte, Seen};
-ghost use Rattle.tube_party.specs.Moves.{IsAsk, IsAtLook, Goes, shut, shown};
+ghost use Rattle.tube_party.specs.Moves.{IsAsk, IsAtLook, Goes, close_leaves, shown_lines};
 ghost use Rattle.para_mach.specs.State.{power_on, shown_regs};
-ghost use Rattle.cpu65c02.specs.Sequences.{next, starting, after, looked, fresh};
-ghost use Rattle.para_mach.specs.Step.{para_moves, looks, begun, held_on, next_state};
-ghost use Rattle.para_mach.specs.Noted.{IsNoted, IsSetOut, IsNear, put_back};
+ghost use Rattle.cpu65c02.specs.Sequences.{next_cycle, starting, after, sequence_at_look, fresh};
+ghost use Rattle.para_mach.specs.Step.{para_moves, looks, begin_leaves, after_held_cycle, next_state};
+ghost use Rattle.para_mach.specs.CodeNotes.{IsNoted, IsSetOut, IsNear, put_back};
 ghost use Rattle.para_mach.specs.Lawful.{para_lawful, para_permitted};
-ghost use Rattle.para_mach.specs.Told.{IsDone, IsQuick, IsPassed, IsRun, IsKin, IsCramped, IsAskedByte, lag_by};
+ghost use Rattle.para_mach.specs.CodeAccess.{IsDone, IsQuick, IsPassed, IsRun, IsKin, IsCramped, IsAskedByte, lag_by};
 
 use crate::memory::{Memory, ROM_SIZE, Stop};
 use crate::notes::{NoNotes, Notes, UndoLog};
@@ -69,12 +69,12 @@ pub struct Past {
     due: u64,
     lag: u8,
     undo_log: UndoLog,
-    ghost held: { was_held ≡ true → is_none (next cpu) ≡ true },
+    ghost held: { was_held ≡ true → is_none (next_cycle cpu) ≡ true },
 }
 
 impl Model for ParaMachine {
     ghost use Rattle.std.specs.Prelude.{◌≡◌, if◌then◌else◌, length, is_none, true};
-    ghost use Rattle.cpu65c02.specs.Sequences.{next};
+    ghost use Rattle.cpu65c02.specs.Sequences.{next_cycle};
     ghost use Rattle.para_mach.specs.State.{ParaState};
 
     ghost Value = { ParaState };
@@ -92,7 +92,7 @@ impl Model for ParaMachine {
       lag = m.lag;
     } };
 
-    ghost invariant = { λ m. m.is_held ≡ true → is_none (next m.cpu) ≡ true };
+    ghost invariant = { λ m. m.is_held ≡ true → is_none (next_cycle m.cpu) ≡ true };
 }
 
 impl Crosses for ParaMachine {}
@@ -224,7 +224,7 @@ impl ParaMachine {
     #[inline(always)]
     fn shut(&mut self, until: Tick)
         requires { until.0 ≤ self.old.due }
-        ensures { self.new ≡ shut para_moves self.old until.0 }
+        ensures { self.new ≡ close_leaves para_moves self.old until.0 }
     {
         let lag = self.due - until.0;
         if lag < self.lag as u64 {
@@ -270,7 +270,7 @@ impl ParaMachine {
     fn see(&mut self, due: u64, pirq: bool)
         requires room { due < 2 ^ 40 }
         requires looks { looks self.old ≡ true }
-        ensures { self.new ≡ begun (record self.old { due = due }) (fresh (looked false pirq (after (self.old).cpu)) (after (self.old).cpu)) }
+        ensures { self.new ≡ begin_leaves (record self.old { due = due }) (fresh (sequence_at_look false pirq (after (self.old).cpu)) (after (self.old).cpu)) }
     {
         self.cpu.take_lines(false, pirq);
         self.is_held = false;
@@ -391,7 +391,7 @@ impl ParaMachine {
         requires room { self.old.due < 2 ^ 40 }
         requires cycle { cycle ≡ para self.old.clock }
         requires looks { looks self.old ≡ true }
-        ensures { self.new ≡ held_on self.old }
+        ensures { self.new ≡ after_held_cycle self.old }
     {
         self.is_held = true;
         self.due += cycle;
@@ -413,7 +413,7 @@ impl ParaMachine {
     fn hold(&mut self, until: Tick, lines: &Lines, sure: Tick) -> Ask
         requires room { until.0 ≤ 2 ^ 30 }
         requires looks { looks self.old ≡ true }
-        ensures goes { Goes para_moves until.0 (shown lines.now sure.0) self.old result self.new }
+        ensures goes { Goes para_moves until.0 (shown_lines lines.now sure.0) self.old result self.new }
         ensures ram { (self.new).ram ≡ (self.old).ram }
         ensures kin { IsKin self.old self.new }
     {
@@ -432,7 +432,7 @@ impl ParaMachine {
     fn go_on(&mut self, until: Tick, lines: &Lines, sure: Tick, undo_log: &mut UndoLog) -> Ask
         requires ticks { until.0 ≤ 2 ^ 30 }
         requires room { 16 ≤ vec_capacity undo_log.old.stood - vec_len undo_log.old.stood }
-        ensures goes { Goes para_moves until.0 (shown lines.now sure.0) self.old result self.new }
+        ensures goes { Goes para_moves until.0 (shown_lines lines.now sure.0) self.old result self.new }
         ensures noted { put_back undo_log.new.stood.items (self.new).ram ≡ put_back undo_log.old.stood.items (self.old).ram }
         ensures kin { IsKin self.old self.new }
     {
@@ -565,11 +565,11 @@ impl Party for ParaMachine {
 }
 
 impl Rewinds for ParaMachine {
-    ghost use Rattle.para_mach.specs.Noted.{taken_back};
+    ghost use Rattle.para_mach.specs.CodeNotes.{roll_back_leaves};
 
     type Past = Past;
 
-    ghost before = { λ past. taken_back past.cpu past.was_held past.due past.lag past.undo_log.stood.items };
+    ghost before = { λ past. roll_back_leaves past.cpu past.was_held past.due past.lag past.undo_log.stood.items };
 
     fn past(alloc: Global) -> Result<Past, AllocError> {
         let undo_log = UndoLog::new(alloc)?;
@@ -594,8 +594,8 @@ impl Rewinds for ParaMachine {
         ensures some { IsSome result }
         ensures noted { let past = past.new in
             MatchOption result (self.new ≡ self.old) (λ ask.
-            Goes para_moves until.0 (shown lines.now sure.0) self.old ask self.new
-            × (taken_back past.cpu past.was_held past.due past.lag past.undo_log.stood.items self.new ≡ self.old)) }
+            Goes para_moves until.0 (shown_lines lines.now sure.0) self.old ask self.new
+            × (roll_back_leaves past.cpu past.was_held past.due past.lag past.undo_log.stood.items self.new ≡ self.old)) }
     {
         self.mark(past);
         Some(self.go_on(until, lines, sure, &mut past.undo_log))

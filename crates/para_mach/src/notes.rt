@@ -1,6 +1,6 @@
-//! What is noted of the writes to the RAM, so that they can be taken back.
+//! What is noted of the writes to the RAM, so that they can be rolled back.
 ghost use Rattle.std.specs.Prelude.{ℕ, List, [], Bool, ◌≡◌, ◌<◌, ◌≤◌, ◌+◌, ◌-◌, min, length, slice_index, slice_set, vec_len, vec_capacity, true, false, IfOk};
-ghost use Rattle.para_mach.specs.Noted.{put_back};
+ghost use Rattle.para_mach.specs.CodeNotes.{put_back};
 
 use std::alloc::{AllocError, Global};
 

@@ -4,5 +4,5 @@ pub mod Discs
 pub mod Roms
 pub mod Machines
 pub mod Setup
-pub mod Seen
+pub mod View
 pub mod Lengths

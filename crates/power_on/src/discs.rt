@@ -1,9 +1,9 @@
 //! The discs in drive 0 and drive 1, of the files that are read.
 ghost use Rattle.std.specs.Prelude.{Option, option_map};
 ghost use Rattle.disc_image.specs.Image.{Image};
-ghost use Rattle.beeb_stages.specs.Seen.{Gives};
+ghost use Rattle.beeb_stages.specs.View.{Gives};
 ghost use Rattle.power_on.specs.Discs.{disc_of, discs_of};
-ghost use Rattle.power_on.specs.Seen.{items};
+ghost use Rattle.power_on.specs.View.{items};
 
 use beeb_stages::Refusal;
 use beeb_status::{Cause, Which};

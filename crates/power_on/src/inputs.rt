@@ -1,8 +1,8 @@
 //! The bytes that a command read.
 ghost use Rattle.std.specs.Prelude.{◌≡◌, map, IfOk};
-ghost use Rattle.beeb_stages.specs.Seen.{seen_input};
+ghost use Rattle.beeb_stages.specs.View.{seen_input};
 ghost use Rattle.power_on.specs.Inputs.{no_inputs, with_input, inputs_of};
-ghost use Rattle.power_on.specs.Seen.{seen_inputs};
+ghost use Rattle.power_on.specs.View.{seen_inputs};
 
 use beeb_words::Slot;
 use std::alloc::{AllocError, Global};

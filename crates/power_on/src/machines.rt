@@ -4,9 +4,9 @@ ghost use Rattle.host_mach.specs.Step.{host_moves};
 ghost use Rattle.host_mach.specs.View.{host_seen};
 ghost use Rattle.para_mach.specs.State.{power_on};
 ghost use Rattle.para_mach.specs.Step.{para_moves};
-ghost use Rattle.beeb_stages.specs.Seen.{Gives};
+ghost use Rattle.beeb_stages.specs.View.{Gives};
 ghost use Rattle.power_on.specs.Machines.{rom_of, os_of, machines_of};
-ghost use Rattle.power_on.specs.Seen.{seen_inputs, seen_setup};
+ghost use Rattle.power_on.specs.View.{seen_inputs, seen_setup};
 
 use crate::discs::discs_of;
 use crate::inputs::Inputs;

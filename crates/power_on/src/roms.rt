@@ -1,7 +1,7 @@
 //! The images of the host's ROMs and its font.
 ghost use Rattle.std.specs.Prelude.{◌≡◌, ◌<◌, All};
 ghost use Rattle.rom_set.specs.Roms.{Roms, roms_seen, font_seen};
-ghost use Rattle.beeb_stages.specs.Seen.{Gives};
+ghost use Rattle.beeb_stages.specs.View.{Gives};
 ghost use Rattle.power_on.specs.Roms.{rom_cause, roms_of};
 
 use beeb_stages::Refusal;

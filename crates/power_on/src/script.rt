@@ -1,9 +1,9 @@
 //! The key script of a command.
 ghost use Rattle.std.specs.Prelude.{◌≡◌, List, option_map};
 ghost use Rattle.key_script.specs.declared.Event.{Event};
-ghost use Rattle.beeb_stages.specs.Seen.{Gives};
+ghost use Rattle.beeb_stages.specs.View.{Gives};
 ghost use Rattle.power_on.specs.Script.{script_refusal, script_of};
-ghost use Rattle.power_on.specs.Seen.{items};
+ghost use Rattle.power_on.specs.View.{items};
 
 use beeb_stages::Refusal;
 use beeb_status::Cause;

@@ -1,8 +1,8 @@
 //! What the words say of the machines.
 ghost use Rattle.std.specs.Prelude.{◌≡◌, map};
-ghost use Rattle.beeb_words.specs.Seen.{seen_given};
+ghost use Rattle.beeb_words.specs.View.{seen_given};
 ghost use Rattle.power_on.specs.Setup.{setup_of};
-ghost use Rattle.power_on.specs.Seen.{seen_setup};
+ghost use Rattle.power_on.specs.View.{seen_setup};
 
 use beeb_bits::Clock;
 use beeb_words::Given;

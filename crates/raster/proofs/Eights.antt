@@ -6,7 +6,7 @@ use Rattle.video_ula.specs.State.{State as UlaState}
 use Rattle.video_ula.specs.Pixels.{dots_of, under_cursor, colours}
 use Rattle.video_ula.specs.Colours.{eight_dots}
 use Rattle.raster.specs.Clock.{byte_dots}
-use Rattle.raster.specs.Steps.{eight_of}
+use Rattle.raster.specs.CodeSteps.{eight_of}
 
 sixteen_by : (b : Bool) (u : UlaState) (byte k : ℕ) (marked : Bool) → bit u.control 4 ≡ false →
     (if b then replicate (dots_of u.control) k else colours u byte marked)

@@ -3,5 +3,5 @@ pub mod Marks
 pub mod Runs
 pub mod Eights
 pub mod Told
-pub mod Settled
+pub mod Quiet
 pub mod ReadBytes

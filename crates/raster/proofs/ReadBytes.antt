@@ -5,14 +5,14 @@ use Rattle.std.proofs.lemmas.List.{get_or-set_other}
 use Rattle.beeb_bits.specs.Bits.{bit}
 use Rattle.crtc6845.specs.declared.Beam.{Beam}
 use Rattle.crtc6845.specs.State.{State as CrtcState}
-use Rattle.crtc6845.specs.Clock.{beam_of, clocked, is_in_sync}
+use Rattle.crtc6845.specs.Clock.{beam_of, clock_leaves, is_in_sync}
 use Rattle.crtc6845.specs.Laws.{clocks, tells}
 use Rattle.crtc6845.specs.Calm.{StaysInSync as CrtcStaysInSync}
 use Rattle.video_ula.specs.State.{State as UlaState}
 use Rattle.saa5050.specs.Shapes.{Font}
 use Rattle.raster.specs.Beam.{byte_address}
 use Rattle.raster.specs.State.{State}
-use Rattle.raster.specs.Clock.{begun, char_clocked, byte_drawn, cell_drawn, shown, passed, microsecond, microseconds}
+use Rattle.raster.specs.Clock.{begin_leaves, char_clock_leaves, draw_byte_leaves, draw_cell_leaves, show_leaves, pass_leaves, microsecond, microseconds}
 use Rattle.raster.specs.Reads.{ReadsFrom, StaysInSync}
 
 crtc_by : (b c : Bool) (x y s : State) → x.crtc ≡ s.crtc → y.crtc ≡ s.crtc → (if b then (if c then x else y) else s).crtc ≡ s.crtc
@@ -25,32 +25,32 @@ control_by true true x y s p q = p
 control_by true false x y s p q = q
 control_by false c x y s p q = refl
 
-pub char_crtc : (ram : List ℕ) (size : ℕ) (font : Font) (s : State) → (char_clocked ram size font s).crtc ≡ clocked s.crtc
-unfolding char_clocked
+pub char_crtc : (ram : List ℕ) (size : ℕ) (font : Font) (s : State) → (char_clock_leaves ram size font s).crtc ≡ clock_leaves s.crtc
+unfolding char_clock_leaves
 char_crtc ram size font s =
     let beam = beam_of s.crtc in
-    let d : State = begun beam (record s { crtc = clocked s.crtc }) in
+    let d : State = begin_leaves beam (record s { crtc = clock_leaves s.crtc }) in
     let byte = slice_index ram (byte_address beam.ma beam.ra size) in
-    crtc_by beam.shown (bit d.ula.control 1) (cell_drawn font beam (byte % 128) d) (byte_drawn beam byte d) d refl refl
+    crtc_by beam.shown (bit d.ula.control 1) (draw_cell_leaves font beam (byte % 128) d) (draw_byte_leaves beam byte d) d refl refl
 
-pub char_ula : (ram : List ℕ) (size : ℕ) (font : Font) (s : State) → (char_clocked ram size font s).ula ≡ s.ula
-unfolding char_clocked
+pub char_ula : (ram : List ℕ) (size : ℕ) (font : Font) (s : State) → (char_clock_leaves ram size font s).ula ≡ s.ula
+unfolding char_clock_leaves
 char_ula ram size font s =
     let beam = beam_of s.crtc in
-    let d : State = begun beam (record s { crtc = clocked s.crtc }) in
+    let d : State = begin_leaves beam (record s { crtc = clock_leaves s.crtc }) in
     let byte = slice_index ram (byte_address beam.ma beam.ra size) in
-    control_by beam.shown (bit d.ula.control 1) (cell_drawn font beam (byte % 128) d) (byte_drawn beam byte d) d refl refl
+    control_by beam.shown (bit d.ula.control 1) (draw_cell_leaves font beam (byte % 128) d) (draw_byte_leaves beam byte d) d refl refl
 
 -- what is read goes on
-char_reads : (low size : ℕ) (ram : List ℕ) (font : Font) (s : State) → ReadsFrom low size s → ReadsFrom low size (char_clocked ram size font s)
+char_reads : (low size : ℕ) (ram : List ℕ) (font : Font) (s : State) → ReadsFrom low size s → ReadsFrom low size (char_clock_leaves ram size font s)
 char_reads low size ram font s reads =
-    let next : (n : ℕ) → (tells n (clocked s.crtc)).shown ≡ true → low ≤ byte_address (tells n (clocked s.crtc)).ma (tells n (clocked s.crtc)).ra size =
+    let next : (n : ℕ) → (tells n (clock_leaves s.crtc)).shown ≡ true → low ≤ byte_address (tells n (clock_leaves s.crtc)).ma (tells n (clock_leaves s.crtc)).ra size =
     λ n. reads (suc n) in
     subst (λ (c : CrtcState). (n : ℕ) → (tells n c).shown ≡ true → low ≤ byte_address (tells n c).ma (tells n c).ra size) (sym (char_crtc ram size font s)) next
 
 micro_reads_by : (b : Bool) (low size : ℕ) (ram : List ℕ) (font : Font) (s : State) → ReadsFrom low size s →
-    ReadsFrom low size (if b then char_clocked ram size font (char_clocked ram size font s) else char_clocked ram size font s)
-micro_reads_by true low size ram font s reads = char_reads low size ram font (char_clocked ram size font s) (char_reads low size ram font s reads)
+    ReadsFrom low size (if b then char_clock_leaves ram size font (char_clock_leaves ram size font s) else char_clock_leaves ram size font s)
+micro_reads_by true low size ram font s reads = char_reads low size ram font (char_clock_leaves ram size font s) (char_reads low size ram font s reads)
 micro_reads_by false low size ram font s reads = char_reads low size ram font s reads
 
 pub reads_on : (low size n : ℕ) (ram : List ℕ) (font : Font) (s : State) → ReadsFrom low size s → ReadsFrom low size (microseconds ram size font n s)
@@ -60,28 +60,28 @@ reads_on low size (suc n) ram font s reads =
 
 -- a byte below is not read
 shown_by : (b : Bool) (ram : List ℕ) (size at v : ℕ) (font : Font) (beam : Beam) (s : State) → beam.shown ≡ b →
-    (beam.shown ≡ true → byte_address beam.ma beam.ra size ≢ at) → shown (slice_set ram at v) size font beam s ≡ shown ram size font beam s
+    (beam.shown ≡ true → byte_address beam.ma beam.ra size ≢ at) → show_leaves (slice_set ram at v) size font beam s ≡ show_leaves ram size font beam s
 shown_by false ram size at v font beam s e h = rw e refl
 shown_by true ram size at v font beam s e h =
     let there = byte_address beam.ma beam.ra size in
     let same : slice_index (slice_set ram at v) there ≡ slice_index ram there = get_or-set_other ram at there v 0 (h e) in
-    ap (λ byte. if beam.shown then (if bit s.ula.control 1 then cell_drawn font beam (byte % 128) s else byte_drawn beam byte s) else s) same
+    ap (λ byte. if beam.shown then (if bit s.ula.control 1 then draw_cell_leaves font beam (byte % 128) s else draw_byte_leaves beam byte s) else s) same
 
 pub char_unseen : (low size at v : ℕ) (ram : List ℕ) (font : Font) (s : State) → ReadsFrom low size s → at < low →
-    char_clocked (slice_set ram at v) size font s ≡ char_clocked ram size font s
-unfolding char_clocked
+    char_clock_leaves (slice_set ram at v) size font s ≡ char_clock_leaves ram size font s
+unfolding char_clock_leaves
 char_unseen low size at v ram font s reads below =
     let beam = beam_of s.crtc in
-    let d : State = begun beam (record s { crtc = clocked s.crtc }) in
+    let d : State = begin_leaves beam (record s { crtc = clock_leaves s.crtc }) in
     let other : beam.shown ≡ true → byte_address beam.ma beam.ra size ≢ at = λ h e. let l = reads 0 h in omega (arith, e, l) in
-    ap (λ (x : State). passed beam x) (shown_by beam.shown ram size at v font beam d refl other)
+    ap (λ (x : State). pass_leaves beam x) (shown_by beam.shown ram size at v font beam d refl other)
 
 micro_unseen_by : (b : Bool) (low size at v : ℕ) (ram : List ℕ) (font : Font) (s : State) → ReadsFrom low size s → at < low →
-    (if b then char_clocked (slice_set ram at v) size font (char_clocked (slice_set ram at v) size font s) else char_clocked (slice_set ram at v) size font s)
-    ≡ (if b then char_clocked ram size font (char_clocked ram size font s) else char_clocked ram size font s)
+    (if b then char_clock_leaves (slice_set ram at v) size font (char_clock_leaves (slice_set ram at v) size font s) else char_clock_leaves (slice_set ram at v) size font s)
+    ≡ (if b then char_clock_leaves ram size font (char_clock_leaves ram size font s) else char_clock_leaves ram size font s)
 micro_unseen_by true low size at v ram font s reads below =
-    ap (λ (x : State). char_clocked (slice_set ram at v) size font x) (char_unseen low size at v ram font s reads below)
-    ∙ char_unseen low size at v ram font (char_clocked ram size font s) (char_reads low size ram font s reads) below
+    ap (λ (x : State). char_clock_leaves (slice_set ram at v) size font x) (char_unseen low size at v ram font s reads below)
+    ∙ char_unseen low size at v ram font (char_clock_leaves ram size font s) (char_reads low size ram font s reads) below
 micro_unseen_by false low size at v ram font s reads below = char_unseen low size at v ram font s reads below
 
 pub unseen : (low size n at v : ℕ) (ram : List ℕ) (font : Font) (s : State) → ReadsFrom low size s → at < low →
@@ -96,18 +96,18 @@ abbrev pub rate_by : Bool → ℕ
 rate_by b = if b then 2 else 1
 
 micro_by : (b : Bool) (ram : List ℕ) (size : ℕ) (font : Font) (s : State) →
-    (if b then char_clocked ram size font (char_clocked ram size font s) else char_clocked ram size font s).crtc ≡ clocks (rate_by b) s.crtc
-micro_by true ram size font s = char_crtc ram size font (char_clocked ram size font s) ∙ ap (λ (c : CrtcState). clocked c) (char_crtc ram size font s)
+    (if b then char_clock_leaves ram size font (char_clock_leaves ram size font s) else char_clock_leaves ram size font s).crtc ≡ clocks (rate_by b) s.crtc
+micro_by true ram size font s = char_crtc ram size font (char_clock_leaves ram size font s) ∙ ap (λ (c : CrtcState). clock_leaves c) (char_crtc ram size font s)
 micro_by false ram size font s = char_crtc ram size font s
 
 micro_ula_by : (b : Bool) (ram : List ℕ) (size : ℕ) (font : Font) (s : State) →
-    (if b then char_clocked ram size font (char_clocked ram size font s) else char_clocked ram size font s).ula ≡ s.ula
-micro_ula_by true ram size font s = char_ula ram size font (char_clocked ram size font s) ∙ char_ula ram size font s
+    (if b then char_clock_leaves ram size font (char_clock_leaves ram size font s) else char_clock_leaves ram size font s).ula ≡ s.ula
+micro_ula_by true ram size font s = char_ula ram size font (char_clock_leaves ram size font s) ∙ char_ula ram size font s
 micro_ula_by false ram size font s = char_ula ram size font s
 
 clocks_more : (n m : ℕ) (c : CrtcState) → clocks n (clocks m c) ≡ clocks (m + n) c
 clocks_more n zero c = let z : 0 + n ≡ n = omega arith in ap (λ k. clocks k c) (sym z)
-clocks_more n (suc m) c = let z : suc (m + n) ≡ suc m + n = omega arith in clocks_more n m (clocked c) ∙ ap (λ k. clocks k c) z
+clocks_more n (suc m) c = let z : suc (m + n) ≡ suc m + n = omega arith in clocks_more n m (clock_leaves c) ∙ ap (λ k. clocks k c) z
 
 pub crtc_after : (n : ℕ) (b : Bool) (ram : List ℕ) (size : ℕ) (font : Font) (s : State) → bit s.ula.control 4 ≡ b →
     (microseconds ram size font n s).crtc ≡ clocks (n * rate_by b) s.crtc

@@ -29,11 +29,11 @@ IsScreenSize size = (size ≡ 16384) ⊎ (size ≡ 8192) ⊎ (size ≡ 20480) �
 abbrev pub page_address : ℕ → ℕ
 page_address ma = (if bit ma 11 then 0x7C00 else 0x3C00) + ma % 1024
 
-abbrev pub wrapped : ℕ → ℕ → ℕ
-wrapped size at = (if nat_le 0x8000 at then at - size else at) % 0x8000
+abbrev pub wrapped_address : ℕ → ℕ → ℕ
+wrapped_address size at = (if nat_le 0x8000 at then at - size else at) % 0x8000
 
 abbrev pub byte_address : ℕ → ℕ → ℕ → ℕ
-byte_address ma ra size = if bit ma 13 then page_address ma else wrapped size (ma % 0x2000 * 8 + ra % 8)
+byte_address ma ra size = if bit ma 13 then page_address ma else wrapped_address size (ma % 0x2000 * 8 + ra % 8)
 
 -- On which of the three characters before this one the cursor was.
 pub record Cursor : Type 0 where

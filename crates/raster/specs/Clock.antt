@@ -2,7 +2,7 @@
 use Rattle.std.specs.Prelude.{ℕ, zero, suc, ◌%◌, Bool, List, map, take, replicate, slice_index, if◌then◌else◌}
 use Rattle.beeb_bits.specs.Bits.{bit}
 use Rattle.crtc6845.specs.declared.Beam.{Beam}
-use Rattle.crtc6845.specs.Clock.{beam_of, clocked, is_in_sync}
+use Rattle.crtc6845.specs.Clock.{beam_of, clock_leaves, is_in_sync}
 use Rattle.video_ula.specs.State.{State as UlaState}
 use Rattle.video_ula.specs.Pixels.{dots_of, under_cursor, colours}
 use Rattle.saa5050.specs.Shapes.{Font}
@@ -13,8 +13,8 @@ use Rattle.raster.specs.State.{State}
 
 -- The beam comes to the character. Where a frame is finished, the working frame becomes the finished one, and a black one is begun; no
 -- other moment changes the finished frame.
-abbrev pub begun : Beam → State → State
-begun beam s = record s {
+abbrev pub begin_leaves : Beam → State → State
+begin_leaves beam s = record s {
   place = place_at beam s.place;
   text = text_at beam s.text;
   working = if beam.frame_end then black else s.working;
@@ -30,46 +30,46 @@ abbrev pub cell_dots : UlaState → List ℕ → Bool → List ℕ
 cell_dots u cell marked = take (dots_of u.control) (map (under_cursor marked) cell)
 
 -- the byte is drawn, or the cell of its low seven bits
-abbrev pub byte_drawn : Beam → ℕ → State → State
-byte_drawn beam byte s = record s {
+abbrev pub draw_byte_leaves : Beam → ℕ → State → State
+draw_byte_leaves beam byte s = record s {
   working = dots_set 240 s.place.x s.place.y (byte_dots s.ula byte beam.ra (is_marked s.ula.control beam.cursor s.cursor)) s.working;
 }
 
-abbrev pub cell_drawn : Font → Beam → ℕ → State → State
-cell_drawn font beam code s = record s {
+abbrev pub draw_cell_leaves : Font → Beam → ℕ → State → State
+draw_cell_leaves font beam code s = record s {
   text = text_after code s.text;
   working = dots_set 208 s.place.x s.place.y
       (cell_dots s.ula (cell_of font code beam s.text) (is_marked s.ula.control beam.cursor s.cursor)) s.working;
 }
 
-abbrev pub drawn : List ℕ → ℕ → Font → Beam → State → State
-drawn ram size font beam s =
+abbrev pub draw_leaves : List ℕ → ℕ → Font → Beam → State → State
+draw_leaves ram size font beam s =
     let byte = slice_index ram (byte_address beam.ma beam.ra size) in
-    if bit s.ula.control 1 then cell_drawn font beam (byte % 128) s else byte_drawn beam byte s
+    if bit s.ula.control 1 then draw_cell_leaves font beam (byte % 128) s else draw_byte_leaves beam byte s
 
 -- a character that is not shown draws nothing
-abbrev pub shown : List ℕ → ℕ → Font → Beam → State → State
-shown ram size font beam s = if beam.shown then drawn ram size font beam s else s
+abbrev pub show_leaves : List ℕ → ℕ → Font → Beam → State → State
+show_leaves ram size font beam s = if beam.shown then draw_leaves ram size font beam s else s
 
 -- The beam leaves the character.
-abbrev pub passed : Beam → State → State
-passed beam s = record s {
+abbrev pub pass_leaves : Beam → State → State
+pass_leaves beam s = record s {
   place = place_past (dots_of s.ula.control) s.place;
   cursor = cursor_past beam.cursor s.cursor;
   text = text_past beam s.text;
 }
 
 -- One character clock: the 6845 tells what it is, and the beam follows. `ram` has 32,768 bytes, and `size` is that of the screen.
-abbrev pub told : List ℕ → ℕ → Font → Beam → State → State
-told ram size font beam s = passed beam (shown ram size font beam (begun beam s))
+abbrev pub tell_leaves : List ℕ → ℕ → Font → Beam → State → State
+tell_leaves ram size font beam s = pass_leaves beam (show_leaves ram size font beam (begin_leaves beam s))
 
-unfoldable pub char_clocked : List ℕ → ℕ → Font → State → State
-char_clocked ram size font s = told ram size font (beam_of s.crtc) (record s { crtc = clocked s.crtc })
+unfoldable pub char_clock_leaves : List ℕ → ℕ → Font → State → State
+char_clock_leaves ram size font s = tell_leaves ram size font (beam_of s.crtc) (record s { crtc = clock_leaves s.crtc })
 
 -- One microsecond is two character clocks where the ULA's control byte has bit 4 set as it begins, else one.
 abbrev pub microsecond : List ℕ → ℕ → Font → State → State
 microsecond ram size font s =
-    if bit s.ula.control 4 then char_clocked ram size font (char_clocked ram size font s) else char_clocked ram size font s
+    if bit s.ula.control 4 then char_clock_leaves ram size font (char_clock_leaves ram size font s) else char_clock_leaves ram size font s
 
 -- n microseconds, one after the other
 abbrev pub microseconds : List ℕ → ℕ → Font → ℕ → State → State

@@ -4,6 +4,6 @@ pub mod Text
 pub mod State
 pub mod Clock
 pub mod Lending
-pub mod Steps
-pub mod Settled
+pub mod CodeSteps
+pub mod CodeQuiet
 pub mod Reads

@@ -2,9 +2,9 @@
 #![tactic(auto)]
 
 mod beam;
+mod canvas;
 mod frame;
 mod law;
-mod picture;
 mod place;
 mod raster;
 mod screen;

@@ -4,7 +4,7 @@ ghost use Rattle.std.specs.Borrow.{sem};
 ghost use Rattle.raster.specs.Beam.{IsScreenSize};
 ghost use Rattle.raster.specs.State.{power_on};
 ghost use Rattle.raster.specs.Lending.{LendsCrtc, LendsUla};
-ghost use Rattle.raster.specs.Clock.{char_clocked, microsecond, microseconds, vsync_of};
+ghost use Rattle.raster.specs.Clock.{char_clock_leaves, microsecond, microseconds, vsync_of};
 ghost use Rattle.beeb_bits.specs.Bits.{bit};
 ghost use Rattle.crtc6845.specs.Calm.{StaysInSync as CrtcStaysInSync};
 ghost use Rattle.raster.specs.Reads.{ReadsFrom, StaysInSync};
@@ -23,20 +23,20 @@ use video_ula::Ula;
 #[derive(Drop)]
 pub struct Raster {
     screen: Screen,
-    // It is known to be settled, as that of a 6845 at rest is soon.
-    settled: bool,
+    // It is known to be quiet, as that of a quiet 6845 is soon.
+    quiet: bool,
 }
 
 impl Model for Raster {
     ghost use Rattle.std.specs.Prelude.{◌≡◌, true};
     ghost use Rattle.raster.specs.State.{State};
-    ghost use Rattle.raster.specs.Settled.{IsSettled};
+    ghost use Rattle.raster.specs.CodeQuiet.{IsQuiet};
 
     ghost Value = { State };
 
     ghost view = { λ r. r.screen };
 
-    ghost invariant = { λ r. r.settled ≡ true → IsSettled r.screen };
+    ghost invariant = { λ r. r.quiet ≡ true → IsQuiet r.screen };
 }
 
 impl Raster {
@@ -50,7 +50,7 @@ impl Raster {
         let screen = Screen::make(alloc)?;
         Ok(Raster {
             screen,
-            settled: false,
+            quiet: false,
         })
     }
 
@@ -59,7 +59,7 @@ impl Raster {
         ensures* lends { sem 𝓛 (LendsCrtc self.entry result) }
         ensures value { result.now ≡ self.old.crtc }
     {
-        self.settled = false;
+        self.quiet = false;
         &mut self.screen.crtc
     }
 
@@ -68,7 +68,7 @@ impl Raster {
         ensures* lends { sem 𝓛 (LendsUla self.entry result) }
         ensures value { result.now ≡ self.old.ula }
     {
-        self.settled = false;
+        self.quiet = false;
         &mut self.screen.ula
     }
 
@@ -92,14 +92,14 @@ impl Raster {
     pub fn char_clock(&mut self, ram: &[u8], size: u16, font: &RomSet)
         requires ram { length ram.now ≡ 32768 }
         requires size { IsScreenSize size }
-        ensures { self.new ≡ char_clocked ram.now size font.now.font self.old }
+        ensures { self.new ≡ char_clock_leaves ram.now size font.now.font self.old }
     {
         if !self.screen.crtc.is_edge() {
             self.screen.clock_inside(ram, size, font);
-        } else if self.screen.crtc.is_at_rest() {
-            self.settled = self.screen.clock_at_rest();
+        } else if self.screen.crtc.is_quiet() {
+            self.quiet = self.screen.clock_quiet();
         } else {
-            self.settled = false;
+            self.quiet = false;
             self.screen.clock_at_edge(ram, size, font);
         }
     }
@@ -112,7 +112,7 @@ impl Raster {
         requires size { IsScreenSize size }
         ensures { self.new ≡ microsecond ram.now size font.now.font self.old }
     {
-        if self.settled && self.screen.crtc.clock_within_sync() {
+        if self.quiet && self.screen.crtc.clock_within_sync() {
             // Nothing else goes on then.
             self.screen.place.fall();
         } else {

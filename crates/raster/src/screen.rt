@@ -3,18 +3,18 @@ ghost use Rattle.std.specs.Prelude.{◌≡◌, ◌<◌, ◌%◌, ℕ, List, fals
 ghost use Rattle.beeb_bits.specs.Bits.{bit};
 ghost use Rattle.video_ula.specs.Pixels.{dots_of, under_cursor, colours};
 ghost use Rattle.crtc6845.specs.Clock.{starts_line, ends_line};
-ghost use Rattle.crtc6845.specs.Steps.{is_at_rest};
+ghost use Rattle.crtc6845.specs.CodeSteps.{is_quiet};
 ghost use Rattle.saa5050.specs.Shapes.{Font};
 ghost use Rattle.raster.specs.Beam.{IsScreenSize};
 ghost use Rattle.raster.specs.Frame.{black};
 ghost use Rattle.raster.specs.State.{power_on, first_cursor};
-ghost use Rattle.raster.specs.Settled.{IsSettled};
-ghost use Rattle.raster.specs.Steps.{eight_of, dots_drawn, cell_drawn_on};
-ghost use Rattle.raster.specs.Clock.{begun, byte_dots, byte_drawn, cell_dots, cell_drawn, drawn, shown, passed, told, char_clocked};
+ghost use Rattle.raster.specs.CodeQuiet.{IsQuiet};
+ghost use Rattle.raster.specs.CodeSteps.{eight_of, dots_drawn, cell_drawn_on};
+ghost use Rattle.raster.specs.Clock.{begin_leaves, byte_dots, draw_byte_leaves, cell_dots, draw_cell_leaves, draw_leaves, show_leaves, pass_leaves, tell_leaves, char_clock_leaves};
 
 use crate::beam::{Cursor, byte_address};
+use crate::canvas::Canvas;
 use crate::frame::Frame;
-use crate::picture::Picture;
 use crate::place::Place;
 use crate::text::Text;
 use beeb_bits::{NoMemory, bit};
@@ -38,8 +38,8 @@ pub(crate) struct Screen {
     pub(crate) place: Place,
     cursor: Cursor,
     text: Text,
-    working: Picture,
-    finished: Picture,
+    working: Canvas,
+    finished: Canvas,
 }
 
 impl Model for Screen {
@@ -99,8 +99,8 @@ impl Screen {
     pub(crate) fn make(alloc: Global) -> Result<Screen, NoMemory>
         ensures { IfOk result (λ s. s ≡ power_on) }
     {
-        let working = Picture::make(alloc)?;
-        let finished = Picture::make(alloc)?;
+        let working = Canvas::make(alloc)?;
+        let finished = Canvas::make(alloc)?;
         Ok(Screen {
             crtc: Crtc::new(),
             ula: Ula::new(),
@@ -119,15 +119,15 @@ impl Screen {
         &self.finished.frame
     }
 
-    /// Does one character clock of a 6845 that is at rest. It tells whether the screen is settled then.
+    /// Does one character clock of a 6845 that is quiet. It tells whether the screen is quiet then.
     #[inline(never)]
-    pub(crate) fn clock_at_rest(&mut self) -> bool
-        requires { is_at_rest self.old.crtc ≡ true }
-        ensures state { (ram : List ℕ) (size : ℕ) (font : Font) → self.new ≡ char_clocked ram size font self.old }
-        ensures settled { result ≡ true → IsSettled self.new }
+    pub(crate) fn clock_quiet(&mut self) -> bool
+        requires { is_quiet self.old.crtc ≡ true }
+        ensures state { (ram : List ℕ) (size : ℕ) (font : Font) → self.new ≡ char_clock_leaves ram size font self.old }
+        ensures quiet { result ≡ true → IsQuiet self.new }
     {
         let before = self.place.x();
-        let beam = self.crtc.clock_at_rest();
+        let beam = self.crtc.clock_quiet();
         self.begin(&beam);
         self.pass(&beam);
         self.stays_at(before)
@@ -148,7 +148,7 @@ impl Screen {
     pub(crate) fn clock_at_edge(&mut self, ram: &[u8], size: u16, font: &RomSet)
         requires ram { length ram.now ≡ 32768 }
         requires size { IsScreenSize size }
-        ensures { self.new ≡ char_clocked ram.now size font.now.font self.old }
+        ensures { self.new ≡ char_clock_leaves ram.now size font.now.font self.old }
     {
         let beam = self.crtc.clock();
         self.begin(&beam);
@@ -162,7 +162,7 @@ impl Screen {
         requires ram { length ram.now ≡ 32768 }
         requires size { IsScreenSize size }
         requires inside { (starts_line self.old.crtc ≡ false) × (ends_line self.old.crtc ≡ false) }
-        ensures { self.new ≡ char_clocked ram.now size font.now.font self.old }
+        ensures { self.new ≡ char_clock_leaves ram.now size font.now.font self.old }
     {
         let beam = self.crtc.clock_inside();
         self.tell_inside(ram, size, font, &beam);
@@ -174,7 +174,7 @@ impl Screen {
         requires ram { length ram.now ≡ 32768 }
         requires size { IsScreenSize size }
         requires inside { (beam.now.line_start ≡ false) × (beam.now.frame_end ≡ false) × (beam.now.row_end ≡ false) × (beam.now.restart ≡ false) }
-        ensures { self.new ≡ told ram.now size font.now.font beam.now self.old }
+        ensures { self.new ≡ tell_leaves ram.now size font.now.font beam.now self.old }
     {
         if beam.sync_start {
             self.place.start_sync();
@@ -186,7 +186,7 @@ impl Screen {
 
     // The beam comes to a character.
     fn begin(&mut self, beam: &Beam)
-        ensures { self.new ≡ begun beam.now self.old }
+        ensures { self.new ≡ begin_leaves beam.now self.old }
     {
         self.place.meet(beam);
         self.text.meet(beam);
@@ -209,7 +209,7 @@ impl Screen {
     fn show(&mut self, ram: &[u8], size: u16, font: &RomSet, beam: &Beam)
         requires ram { length ram.now ≡ 32768 }
         requires size { IsScreenSize size }
-        ensures { self.new ≡ shown ram.now size font.now.font beam.now self.old }
+        ensures { self.new ≡ show_leaves ram.now size font.now.font beam.now self.old }
     {
         if beam.shown {
             self.draw(ram, size, font, beam);
@@ -221,7 +221,7 @@ impl Screen {
     fn draw(&mut self, ram: &[u8], size: u16, font: &RomSet, beam: &Beam)
         requires ram { length ram.now ≡ 32768 }
         requires size { IsScreenSize size }
-        ensures { self.new ≡ drawn ram.now size font.now.font beam.now self.old }
+        ensures { self.new ≡ draw_leaves ram.now size font.now.font beam.now self.old }
     {
         let byte = ram[byte_address(beam.ma, beam.ra, size)];
         if bit(self.ula.mode(), 1) {
@@ -234,7 +234,7 @@ impl Screen {
 
     #[inline(always)]
     fn draw_byte(&mut self, beam: &Beam, byte: u8)
-        ensures { self.new ≡ byte_drawn beam.now byte self.old }
+        ensures { self.new ≡ draw_byte_leaves beam.now byte self.old }
     {
         let marked = self.cursor.is_marked(self.ula.mode(), beam.cursor);
         if marked || bit(beam.ra, 3) || !self.draw_ready(byte) {
@@ -311,7 +311,7 @@ impl Screen {
 
     // The beam leaves the character.
     fn pass(&mut self, beam: &Beam)
-        ensures { self.new ≡ passed beam.now self.old }
+        ensures { self.new ≡ pass_leaves beam.now self.old }
     {
         self.place.pass(bit(self.ula.mode(), 4));
         self.cursor.pass(beam.cursor);

@@ -1,7 +1,7 @@
 //! Teletext rows.
 ghost use Rattle.std.specs.Prelude.{◌≡◌, ◌<◌};
 ghost use Rattle.raster.specs.Text.{first_text, text_at, text_after, text_past};
-ghost use Rattle.raster.specs.Steps.{cell_on};
+ghost use Rattle.raster.specs.CodeSteps.{cell_on};
 
 use crtc6845::Beam;
 use rom_set::RomSet;
@@ -47,7 +47,7 @@ impl Text {
 
     /// Takes the code of a character that is shown, and gives its sixteen colours.
     #[inline(always)]
-    #[tactic(auto, unfolding(crate::specs::Text::codes_after, crate::specs::Steps::cell_on))]
+    #[tactic(auto, unfolding(crate::specs::Text::codes_after, crate::specs::CodeSteps::cell_on))]
     pub(crate) fn put(&mut self, font: &RomSet, code: u8, ra: u8, fields: u32, to: &mut [u8; 16])
         requires { code < 128 }
         ensures state { self.new ≡ text_after code self.old }

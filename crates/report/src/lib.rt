@@ -10,7 +10,7 @@ use cpu_alu::Regs;
 use digits::{four_digits, two_digits};
 use std::alloc::{AllocError, Global};
 
-/// A machine's line: its registers, and whether it has stopped, the host by an opcode that halts it, the parasite by the Tube's reset
+/// A machine's line: its registers, and whether it has stopped, the host by an opcode that halts it, the second processor by the Tube's reset
 /// line that holds it.
 #[derive(Clone, Copy, Debug, PartialEq, Eq)]
 pub struct Line {

@@ -5,7 +5,7 @@ use Rattle.std.proofs.lemmas.Bool.{agree_below_at}
 use Rattle.std.proofs.lemmas.Bool.Decides.{nat_tests}
 use Rattle.saa5050.specs.declared.style.Style.{Style}
 use Rattle.saa5050.specs.Controls.{controls, holds_at_once}
-use Rattle.saa5050.specs.Steps.{style_past}
+use Rattle.saa5050.specs.CodeSteps.{style_past}
 use Rattle.std.specs.List.{list_any}
 use Rattle.saa5050.specs.Row.{Row, row_after, row_start, style_at, style_after}
 use Rattle.saa5050.specs.Laws.{OneCodeMore, DoubleIsAmongCodes}

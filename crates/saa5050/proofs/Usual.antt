@@ -5,8 +5,8 @@ use Rattle.beeb_bits.specs.Bits.{bit}
 use Rattle.saa5050.specs.declared.style.Style.{Style}
 use Rattle.saa5050.specs.Shapes.{Font, letter_dot}
 use Rattle.saa5050.specs.Row.{cell_dot}
-use Rattle.saa5050.specs.Dots.{IsLine}
-use Rattle.saa5050.specs.Steps.{is_special}
+use Rattle.saa5050.specs.CodeDots.{IsLine}
+use Rattle.saa5050.specs.CodeSteps.{is_special}
 
 neither : (a b : Bool) → (a || b) ≡ false → (a ≡ false) × (b ≡ false)
 neither true b h = cc

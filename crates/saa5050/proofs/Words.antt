@@ -5,7 +5,7 @@ use Rattle.std.specs.Int.{bit_at}
 use Rattle.std.proofs.lemmas.Bool.{agree_below, agree_below_at, ltb-true}
 use Rattle.std.proofs.lemmas.Nat.Bits.{bit_at_and, bit_at_or, bit_at_xor, bit_at-suc, bit_at_lowest, bit_at_above, bit_at-lt}
 use Rattle.beeb_bits.specs.Bits.{bit}
-use Rattle.saa5050.specs.Dots.{IsLine, doubled}
+use Rattle.saa5050.specs.CodeDots.{IsLine, doubled_dot}
 use Rattle.saa5050.specs.declared.dots.TheConstants.{DOUBLED}
 
 -- ---- an operation on words, bit by bit
@@ -55,14 +55,14 @@ pub computed : (word : ℕ) (on : ℕ → Bool) → agree_below (λ x. bit word 
 computed word on h = λ x low. agree_below_at (λ x. bit word (11 - x)) on 12 x h low
 
 -- the table of rows in half dots
-pub table : (row : ℕ) → row < 256 → IsLine (slice_index_or DOUBLED (row % 64) 0) (doubled row)
+pub table : (row : ℕ) → row < 256 → IsLine (slice_index_or DOUBLED (row % 64) 0) (doubled_dot row)
 table row fits = λ x low.
     let k = row * 12 + x in
     let here : k / 12 ≡ row = omega (arith, low) in
     let there : k % 12 ≡ x = omega (arith, low) in
-    let all = agree_below_at (λ k. bit (slice_index_or DOUBLED (k / 12 % 64) 0) (11 - k % 12)) (λ k. doubled (k / 12) (k % 12)) 3072 k refl (omega (arith, low, fits)) in
-    subst (λ (n : ℕ). bit (slice_index_or DOUBLED (row % 64) 0) (11 - n) ≡ doubled row n) there
-    (subst (λ (n : ℕ). bit (slice_index_or DOUBLED (n % 64) 0) (11 - k % 12) ≡ doubled n (k % 12)) here all)
+    let all = agree_below_at (λ k. bit (slice_index_or DOUBLED (k / 12 % 64) 0) (11 - k % 12)) (λ k. doubled_dot (k / 12) (k % 12)) 3072 k refl (omega (arith, low, fits)) in
+    subst (λ (n : ℕ). bit (slice_index_or DOUBLED (row % 64) 0) (11 - n) ≡ doubled_dot row n) there
+    (subst (λ (n : ℕ). bit (slice_index_or DOUBLED (n % 64) 0) (11 - k % 12) ≡ doubled_dot n (k % 12)) here all)
 
 pub table-low : (row : ℕ) → row < 256 → slice_index_or DOUBLED (row % 64) 0 < 4096
 table-low row fits = ltb-true _ _ (agree_below_at (λ k. nat_lt (slice_index_or DOUBLED (k % 64) 0) 4096) (λ _. true) 256 row refl fits)

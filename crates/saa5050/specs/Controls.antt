@@ -94,9 +94,9 @@ abbrev pub has : Control → ℕ → Bool
 has control code = nat_le control.first code && nat_le code control.last
 
 -- what a code of these lines makes of the style; it stays where no line has the code
-abbrev pub obeyed : List Control → ℕ → Style → Style
-obeyed [] code s = s
-obeyed (c ∷ controls) code s = if has c code then c.effect code s else obeyed controls code s
+abbrev pub effect_of : List Control → ℕ → Style → Style
+effect_of [] code s = s
+effect_of (c ∷ controls) code s = if has c code then c.effect code s else effect_of controls code s
 
 -- whether a code of these lines holds for its own cell
 abbrev pub holds_at_once : List Control → ℕ → Bool

@@ -1,6 +1,6 @@
 pub mod Controls
 pub mod Shapes
 pub mod Row
-pub mod Dots
+pub mod CodeDots
 pub mod Laws
-pub mod Steps
+pub mod CodeSteps

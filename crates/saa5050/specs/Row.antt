@@ -5,7 +5,7 @@ use Rattle.saa5050.specs.declared.style.Style.{Style}
 use Rattle.saa5050.specs.declared.style.Shape.{Shape}
 use Rattle.saa5050.specs.declared.style.Shape.TheVariants.{Blank, Letter, Graphic}
 use Rattle.saa5050.specs.declared.style.Sixel.{Sixel}
-use Rattle.saa5050.specs.Controls.{plain, controls, obeyed, holds_at_once}
+use Rattle.saa5050.specs.Controls.{plain, controls, effect_of, holds_at_once}
 use Rattle.saa5050.specs.Shapes.{Font, shape_dot}
 
 -- What the codes so far leave: the style of the cells to come, and whether there was a code 0D among them.
@@ -24,15 +24,15 @@ abbrev pub sixel_of : ℕ → Style → Sixel
 sixel_of code s = record { code = code; separated = s.separated }
 
 -- a sixel becomes the held shape, with its separation
-abbrev pub shown : ℕ → Style → Style
-shown code s = if s.graphics && is_sixel code then record s { held = Some (sixel_of code s) } else s
+abbrev pub with_held_shape : ℕ → Style → Style
+with_held_shape code s = if s.graphics && is_sixel code then record s { held = Some (sixel_of code s) } else s
 
 abbrev pub style_after : ℕ → Style → Style
-style_after code s = if nat_lt code 0x20 then obeyed controls code s else shown code s
+style_after code s = if nat_lt code 0x20 then effect_of controls code s else with_held_shape code s
 
 -- the style of the code's own cell, after that of the codes before it
 abbrev pub style_at : ℕ → Style → Style
-style_at code s = if holds_at_once controls code then obeyed controls code s else s
+style_at code s = if holds_at_once controls code then effect_of controls code s else s
 
 abbrev pub row_after : ℕ → Row → Row
 row_after code row = record { style = style_after code row.style; had_double = row.had_double || code == 0x0D }

@@ -31,11 +31,11 @@ side_dot row x = if x % 2 == 0 then (if x == 0 then false else dot row (x / 2 - 
 
 -- Half dot x is on where its dot is on. It is on too where a diagonal passes: the dot on its side is on, in the near row its own is on,
 -- and in the near row the one on its side is off.
-abbrev pub rounded : ℕ → ℕ → ℕ → Bool
-rounded row near x = dot row (x / 2) || (side_dot row x && dot near (x / 2) && not (side_dot near x))
+abbrev pub rounded_dot : ℕ → ℕ → ℕ → Bool
+rounded_dot row near x = dot row (x / 2) || (side_dot row x && dot near (x / 2) && not (side_dot near x))
 
 abbrev pub letter_dot : Font → ℕ → ℕ → ℕ → Bool
-letter_dot font code s x = rounded (letter_row font code (s / 2)) (near_row font code s) x
+letter_dot font code s x = rounded_dot (letter_row font code (s / 2)) (near_row font code s) x
 
 abbrev pub is_among : ℕ → List ℕ → Bool
 is_among n ns = list_any (λ m. n == m) ns

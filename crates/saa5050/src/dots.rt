@@ -1,8 +1,8 @@
 //! The half dots of a cell on a line, and its pixels.
 ghost use Rattle.std.specs.Prelude.{◌≡◌, ◌≤◌, ◌<◌, ◌-◌, if◌then◌else◌};
 ghost use Rattle.saa5050.specs.Row.{cell_dot, line_pixels};
-ghost use Rattle.saa5050.specs.Shapes.{letter_row, near_row, rounded, letter_dot, part_bit, gap_lines, is_among, sixel_dot};
-ghost use Rattle.saa5050.specs.Dots.{IsLine, doubled, columns};
+ghost use Rattle.saa5050.specs.Shapes.{letter_row, near_row, rounded_dot, letter_dot, part_bit, gap_lines, is_among, sixel_dot};
+ghost use Rattle.saa5050.specs.CodeDots.{IsLine, doubled_dot, columns};
 ghost use Rattle.beeb_bits.specs.Bits.{bit};
 
 use crate::style::{Shape, Style};
@@ -49,7 +49,7 @@ fn near_row(font: &RomSet, code: u8, line: u8) -> u8
 // The dots of a row, each of them twice.
 #[inline(always)]
 fn doubled(row: u8) -> u16
-    ensures line { IsLine result (doubled row) }
+    ensures line { IsLine result (doubled_dot row) }
     ensures bound { result < 4096 }
 {
     DOUBLED[(row % 64) as usize]
@@ -59,7 +59,7 @@ fn doubled(row: u8) -> u16
 // nothing, so that all twelve are done at once.
 #[inline(always)]
 fn rounded(row: u8, near: u8) -> u16
-    ensures { IsLine result (rounded row near) }
+    ensures { IsLine result (rounded_dot row near) }
 {
     let dots = doubled(row);
     let near = doubled(near);

@@ -1,9 +1,9 @@
 //! What the control codes of a row make of the cells to come.
 ghost use Rattle.std.specs.Prelude.{◌≡◌, ◌<◌};
-ghost use Rattle.saa5050.specs.Controls.{plain, letters, graphics, normal_height, double_height, controls, obeyed, holds_at_once};
+ghost use Rattle.saa5050.specs.Controls.{plain, letters, graphics, normal_height, double_height, controls, effect_of, holds_at_once};
 ghost use Rattle.saa5050.specs.Row.{is_sixel, sixel_of, held_shape, style_at, style_after, shape_of, shape_line, is_blank};
-ghost use Rattle.saa5050.specs.Steps.{style_past, is_special};
-ghost use Rattle.saa5050.specs.Dots.{IsInFont};
+ghost use Rattle.saa5050.specs.CodeSteps.{style_past, is_special};
+ghost use Rattle.saa5050.specs.CodeDots.{IsInFont};
 
 /// How many lines a cell has.
 const LINES: u8 = 20;
@@ -131,7 +131,7 @@ impl Style {
     // What a control code makes of the style.
     #[inline(never)]
     fn obey(&mut self, code: u8)
-        ensures { self.new ≡ obeyed controls code self.old }
+        ensures { self.new ≡ effect_of controls code self.old }
     {
         match code {
             0x01..=0x07 => self.letters(code),

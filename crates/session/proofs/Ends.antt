@@ -7,8 +7,8 @@ use Rattle.tube_trace.specs.Entries.{accesses}
 use Rattle.tube_cell.specs.Passes.{Carried}
 use Rattle.tube_party.specs.Moves.{Moves, Follows}
 use Rattle.tube_party.specs.Reference.{World, reference, LegalMergeIsReference}
-use Rattle.tube_party.specs.Played.{Played, IsPlayed}
-use Rattle.session.specs.Station.{place, Station}
+use Rattle.tube_party.specs.OneThread.{Played, IsPlayed}
+use Rattle.session.specs.CodeStation.{place, Station}
 use Rattle.session.specs.Work.{HasWorked}
 use Rattle.session.proofs.Merged.{sided, host_of_merge, para_of_merge}
 

@@ -6,13 +6,13 @@ use Rattle.tube_chip.specs.declared.Lines.{Lines}
 use Rattle.tube_chip.specs.Act.{Query, access}
 use Rattle.tube_chip.specs.Events.{Event}
 use Rattle.tube_trace.specs.Entries.{accesses, entry_of}
-use Rattle.tube_cell.specs.Passes.{Carried, own_horizon, here, bound_here, added}
+use Rattle.tube_cell.specs.Passes.{Carried, own_horizon, here, bound_here, after_add}
 use Rattle.tube_party.specs.declared.party.Ask.{Ask}
 use Rattle.tube_party.specs.declared.party.Ask.TheVariants.{Nothing, Access, Look}
-use Rattle.tube_party.specs.Moves.{Moves, IsLawful, Runs, Heads, IsAsk, IsUnsure, Sees, shown, course}
-use Rattle.session.specs.Ahead.{lines_seen, observed}
-use Rattle.session.specs.Station.{place}
-use Rattle.session.specs.Gone.{GoneOn}
+use Rattle.tube_party.specs.Moves.{Moves, IsLawful, Runs, Heads, IsAsk, IsUnsure, Sees, shown_lines, course}
+use Rattle.session.specs.CodeSight.{lines_seen, observed_events}
+use Rattle.session.specs.CodeStation.{place}
+use Rattle.session.specs.CodeLookahead.{GoneOn}
 use Rattle.session.proofs.Kept.{at_most_one}
 use Rattle.session.proofs.Observing.{none_late, stops_at, made, looked, IsLooks}
 
@@ -69,7 +69,7 @@ module _ {S : Type 0} (m : Moves S) (lawful : IsLawful m) (side : Side) (n : ℕ
   events_few (suc k) s events last h = few_by k s last events (m.asks s) (λ u b on. events_few k u b last on) h.1
 
   -- none is left where a party leaves off that sees lines alone
-  pub stops : (lines : Lines) (sure : ℕ) (last new : S) (ask : Ask) → IsAsk m n last ask new → IsUnsure sure ask → (k : ℕ) → observed m side (lines_seen lines) (min n sure) k last ≡ []
+  pub stops : (lines : Lines) (sure : ℕ) (last new : S) (ask : Ask) → IsAsk m n last ask new → IsUnsure sure ask → (k : ℕ) → observed_events m side (lines_seen lines) (min n sure) k last ≡ []
   stops lines sure last new Nothing h unsure k = let a = h.0 in none_late m lawful side (lines_seen lines) (min n sure) k last (omega arith)
   stops lines sure last new (Access t op) h unsure k = stops_at m lawful side (lines_seen lines) (min n sure) k last (access op) h.2 refl
   stops lines sure last new (Look t) h unsure k = let a = h.0 in none_late m lawful side (lines_seen lines) (min n sure) k last (omega arith)
@@ -83,9 +83,9 @@ module _ {S : Type 0} (m : Moves S) (lawful : IsLawful m) (side : Side) (n : ℕ
 
 -- the looks of the steps that a party does are those of the function
 pub gone_on : {S : Type 0} (m : Moves S) (lawful : IsLawful m) (n sure : ℕ) (lines : Lines) (s s2 : S) (ask : Ask) (p p2 : Carried) (events : List Event)
-    → own_horizon p ≤ m.due s → own_horizon p ≤ n → events ≡ observed m p.side (lines_seen lines) (min n sure) (min n sure) s → p2 ≡ added p events → here p2 ≡ here p → bound_here p2 ≡ bound_here p
+    → own_horizon p ≤ m.due s → own_horizon p ≤ n → events ≡ observed_events m p.side (lines_seen lines) (min n sure) (min n sure) s → p2 ≡ after_add p events → here p2 ≡ here p → bound_here p2 ≡ bound_here p
     → ((t : ℕ) → own_horizon p ≤ t → All (λ e. e.tick < t) events → own_horizon p2 ≤ t)
-    → Sees m n (shown lines sure) s ask s2 → GoneOn m n (place s p) ask (place s2 p2)
+    → Sees m n (shown_lines lines sure) s ask s2 → GoneOn m n (place s p) ask (place s2 p2)
 gone_on m lawful n sure lines s s2 ask p p2 events later open_ events_are pass here_is bound past sees =
     let last = sees.last in
     let looks : IsLooks m lawful p.side (lines_seen lines) n lines refl sure sees.steps s last = looked m lawful p.side (lines_seen lines) n lines refl sure sees.steps s last sees.looks in

@@ -16,15 +16,15 @@ use Rattle.tube_cell.specs.Views.{AllBelow}
 use Rattle.tube_cell.specs.Passes.{Carried, own_horizon}
 use Rattle.tube_party.specs.declared.party.Ask.{Ask}
 use Rattle.tube_party.specs.declared.party.Ask.TheVariants.{Nothing, Access, Look}
-use Rattle.tube_party.specs.Moves.{Moves, IsLawful, Runs, Heads, IsAsk, IsUnsure, Goes, IsAskedFor, FitsAnswer, IsAtLook, shown, course}
-use Rattle.tube_party.specs.Turn.{noted, noted_all}
+use Rattle.tube_party.specs.Moves.{Moves, IsLawful, Runs, Heads, IsAsk, IsUnsure, Goes, IsAskedFor, FitsAnswer, IsAtLook, shown_lines, course}
+use Rattle.tube_party.specs.Turn.{note_leaves, note_all_leaves}
 use Rattle.tube_cell.specs.declared.local.Readings.{Readings}
-use Rattle.session.specs.Steps.{event_at, all_events}
-use Rattle.session.specs.Ahead.{Sight, byte_seen, byte_answer, readings_seen, observed, IsSeen}
-use Rattle.session.specs.Station.{place, Station}
-use Rattle.session.specs.Gone.{MovedOn}
-use Rattle.session.specs.Way.{IsWay, way_of, Outset, observed_past, IsReached, IsNoted, IsOnWay, IsSettled, IsOver, IsAnew, IsNoEarlier}
-use Rattle.session.specs.Trusting.{HasPassed}
+use Rattle.session.specs.CodeSteps.{event_at, all_events}
+use Rattle.session.specs.CodeSight.{Sight, byte_seen, byte_answer, readings_seen, observed_events, IsSeen}
+use Rattle.session.specs.CodeStation.{place, Station}
+use Rattle.session.specs.CodeLookahead.{MovedOn}
+use Rattle.session.specs.CodeWay.{IsWay, way_of, Outset, observed_past, IsReached, IsNoted, IsOnWay, IsSettled, IsOver, IsAnew, IsNoEarlier}
+use Rattle.session.specs.CodeTrust.{HasPassed}
 use Rattle.session.proofs.Runs.{append, rises}
 use Rattle.session.proofs.Kept.{noted_on, counted_on, still_kept}
 use Rattle.session.proofs.Gone.{events_low, events_under, events_few}
@@ -56,7 +56,7 @@ module _ {S : Type 0} (m : Moves S) (lawful : IsLawful m) (n : ℕ) (from : Outs
   -- it goes on: these events more, noted
   module _ (ask ask2 : Ask) (x y : Station S) (w : IsOnWay m n from ask x) (here : x.at.state ≡ w.last) (events : List Event) (steps : ℕ) (last : S) where
     goes_both : Runs m Para n steps x.at.state (course events last) → IsSeen sight events → IsAsk m n last ask2 y.at.state
-        → y.list ≡ noted_all from.mark.keep x.list (accesses events) → y.count ≡ x.count + length (accesses events)
+        → y.list ≡ note_all_leaves from.mark.keep x.list (accesses events) → y.count ≡ x.count + length (accesses events)
         → (e : IsOnWay m n from ask2 y) × ((t : ℕ) → AllBelow t w.events → AllBelow t events → AllBelow t e.events)
     goes_both runs seen asked list_is count_is =
         let all = append m Para n w.last last events w.steps from.state w.events w.runs (steps, subst (λ (z : S). Runs m Para n steps z (course events last)) here runs) in
@@ -77,9 +77,9 @@ module _ {S : Type 0} (m : Moves S) (lawful : IsLawful m) (n : ℕ) (from : Outs
             noted = record {
               kept = omega arith;
               list_is =
-                  list_is ∙ ap (λ (l : List Entry). noted_all keep l (accesses events)) old.list_is
+                  list_is ∙ ap (λ (l : List Entry). note_all_leaves keep l (accesses events)) old.list_is
                   ∙ noted_on keep w.events events l0
-                  ∙ ap (λ (l : List Entry). noted_all keep l (accesses (w.events ++ events))) (sym same);
+                  ∙ ap (λ (l : List Entry). note_all_leaves keep l (accesses (w.events ++ events))) (sym same);
               count_is = count_is ∙ ap (λ (z : ℕ). z + length (accesses events)) old.count_is ∙ counted_on w.events events from.mark.count;
             };
           },
@@ -87,7 +87,7 @@ module _ {S : Type 0} (m : Moves S) (lawful : IsLawful m) (n : ℕ) (from : Outs
         )
 
   -- the list of before the mark is still there
-  pub list_kept : (x y : Station S) (events : List Event) → from.mark.len ≤ length x.list → y.list ≡ noted_all from.mark.keep x.list (accesses events) → take from.mark.len y.list ≡ take from.mark.len x.list
+  pub list_kept : (x y : Station S) (events : List Event) → from.mark.len ≤ length x.list → y.list ≡ note_all_leaves from.mark.keep x.list (accesses events) → take from.mark.len y.list ≡ take from.mark.len x.list
   list_kept x y events kept list_is = ap (take from.mark.len) list_is ∙ (still_kept from.mark.keep x.list (accesses events)).1 from.mark.len kept
 
   -- at an access it stands where it left off, and so at a look
@@ -116,7 +116,7 @@ module _ {S : Type 0} (m : Moves S) (lawful : IsLawful m) (n : ℕ) (from : Outs
   few ask x w le = let a = events_few m lawful Para n w.steps from.state w.events w.last w.runs in let b = w.noted.count_is in omega arith
 
   -- it is where it set out
-  pub sets_out : (ask : Ask) (far : ℕ) (y : Station S) → Goes m n (shown from.mark.readings.lines far) from.state ask y.at.state → length y.list ≡ from.mark.len → y.count ≡ from.mark.count
+  pub sets_out : (ask : Ask) (far : ℕ) (y : Station S) → Goes m n (shown_lines from.mark.readings.lines far) from.state ask y.at.state → length y.list ≡ from.mark.len → y.count ≡ from.mark.count
       → (w : IsOnWay m n from ask y) × AllBelow far w.events
   sets_out ask far y went len count =
       let looks = looked m lawful Para sight n from.mark.readings.lines refl far went.steps from.state went.last went.looks in (
@@ -129,7 +129,7 @@ module _ {S : Type 0} (m : Moves S) (lawful : IsLawful m) (n : ℕ) (from : Outs
           asked = went.asked;
           noted = record {
             kept = omega arith;
-            list_is = sym (ap (noted_all from.mark.keep (take from.mark.len y.list)) looks.silent ∙ take_all from.mark.len y.list (omega arith));
+            list_is = sym (ap (note_all_leaves from.mark.keep (take from.mark.len y.list)) looks.silent ∙ take_all from.mark.len y.list (omega arith));
             count_is = let e = ap length looks.silent in omega arith;
           };
         },
@@ -137,17 +137,17 @@ module _ {S : Type 0} (m : Moves S) (lawful : IsLawful m) (n : ℕ) (from : Outs
       )
 
   -- it goes on from a look
-  pub looks_on : (t : Tick) (ask2 : Ask) (far : ℕ) (x y : Station S) → IsOnWay m n from (Look t) x → Goes m n (shown from.mark.readings.lines far) x.at.state ask2 y.at.state → y.list ≡ x.list → y.count ≡ x.count
+  pub looks_on : (t : Tick) (ask2 : Ask) (far : ℕ) (x y : Station S) → IsOnWay m n from (Look t) x → Goes m n (shown_lines from.mark.readings.lines far) x.at.state ask2 y.at.state → y.list ≡ x.list → y.count ≡ x.count
       → IsOnWay m n from ask2 y
   looks_on t ask2 far x y w went list_is count_is =
       let looks = looked m lawful Para sight n from.mark.readings.lines refl far went.steps x.at.state went.last went.looks in
       (goes_both (Look t) ask2 x y w (at_look t x w).0 looks.events went.steps went.last looks.runs looks.seen went.asked
-      (list_is ∙ sym (ap (noted_all from.mark.keep x.list) looks.silent)) (let e = ap length looks.silent in omega arith)).0
+      (list_is ∙ sym (ap (note_all_leaves from.mark.keep x.list) looks.silent)) (let e = ap length looks.silent in omega arith)).0
 
   -- a read that is answered, and the looks behind it
   pub reads_on : (t : Tick) (op : Op) (byte : ℕ) (ask2 : Ask) (far : ℕ) (x y : Station S) (w : IsOnWay m n from (Access t op) x) → byte_seen from.mark.readings op ≡ Some byte
-      → Goes m n (shown from.mark.readings.lines far) (m.next x.at.state (Some (Byte byte))) ask2 y.at.state
-      → y.list ≡ noted from.mark.keep x.list (record { tick = t; side = Para; op = op; answer = byte }) → y.count ≡ x.count + 1
+      → Goes m n (shown_lines from.mark.readings.lines far) (m.next x.at.state (Some (Byte byte))) ask2 y.at.state
+      → y.list ≡ note_leaves from.mark.keep x.list (record { tick = t; side = Para; op = op; answer = byte }) → y.count ≡ x.count + 1
       → (e : IsOnWay m n from ask2 y) × (AllBelow far w.events → t.0 < far → AllBelow far e.events)
   reads_on t op byte ask2 far x y w shown went list_is count_is =
       let entry : Entry = record { tick = t; side = Para; op = op; answer = byte } in
@@ -159,7 +159,7 @@ module _ {S : Type 0} (m : Moves S) (lawful : IsLawful m) (n : ℕ) (from : Outs
       let runs : Runs m Para n (suc went.steps) x.at.state (course (read ∷ looks.events) went.last) = (omega arith, rw h.3 (due, refl, refl, looks.runs)) in
       let none : accesses (read ∷ looks.events) ≡ entry ∷ [] = ap (λ (l : List Entry). entry ∷ l) looks.silent in
       let both = goes_both (Access t op) ask2 x y w h.0 (read ∷ looks.events) (suc went.steps) went.last runs (ap byte_answer shown, looks.seen) went.asked
-      (list_is ∙ sym (ap (noted_all from.mark.keep x.list) none)) (let e = ap length none in omega arith) in
+      (list_is ∙ sym (ap (note_all_leaves from.mark.keep x.list) none)) (let e = ap length none in omega arith) in
       (both.0, λ a b. both.1 far a (All-cons (λ z. z.tick < far) read looks.events b looks.low))
 
   -- ---- how far it goes
@@ -180,7 +180,7 @@ module _ {S : Type 0} (m : Moves S) (lawful : IsLawful m) (n : ℕ) (from : Outs
   no_earlier_self (Access v op) t u a b = omega arith
   no_earlier_self (Look v) t u a b = omega arith
 
-  pub past_look : (t : Tick) (ask2 : Ask) (far : ℕ) (x : Station S) (new : S) → IsOnWay m n from (Look t) x → Goes m n (shown from.mark.readings.lines far) x.at.state ask2 new → IsNoEarlier n (Look t) ask2
+  pub past_look : (t : Tick) (ask2 : Ask) (far : ℕ) (x : Station S) (new : S) → IsOnWay m n from (Look t) x → Goes m n (shown_lines from.mark.readings.lines far) x.at.state ask2 new → IsNoEarlier n (Look t) ask2
   past_look t ask2 far x new w went =
       let h = at_look t x w in
       let due = h.1 in
@@ -190,7 +190,7 @@ module _ {S : Type 0} (m : Moves S) (lawful : IsLawful m) (n : ℕ) (from : Outs
       no_earlier (Look t) ask2 went.last new (λ u r. (omega arith, omega arith)) went.asked
 
   pub past_read : (t : Tick) (op : Op) (byte : ℕ) (ask2 : Ask) (far : ℕ) (x : Station S) (new : S) → IsOnWay m n from (Access t op) x
-      → Goes m n (shown from.mark.readings.lines far) (m.next x.at.state (Some (Byte byte))) ask2 new → IsNoEarlier n (Access t op) ask2
+      → Goes m n (shown_lines from.mark.readings.lines far) (m.next x.at.state (Some (Byte byte))) ask2 new → IsNoEarlier n (Access t op) ask2
   past_read t op byte ask2 far x new w went =
       let h = at_access t op x w in
       let due = h.1 in
@@ -284,7 +284,7 @@ module _ {S : Type 0} (m : Moves S) (lawful : IsLawful m) (n : ℕ) (from : Outs
       late_by (Access u op) h (inr none) = at_end op h.2 none
       late_by (Look u) h over = let b = h.0 in omega arith
 
-      ends : (k : Ask) → IsAsk m n anew.0.last k y.at.state → IsOver from.mark.readings a k → (i : ℕ) → observed m Para sight a i anew.0.last ≡ []
+      ends : (k : Ask) → IsAsk m n anew.0.last k y.at.state → IsOver from.mark.readings a k → (i : ℕ) → observed_events m Para sight a i anew.0.last ≡ []
       ends k h over i = let l = late_by k h over in none_late m lawful Para sight a i anew.0.last l
 
 -- it set out from the mark, and stands where the host let it
@@ -309,7 +309,7 @@ went {S} m lawful n t from x y ask2 q side at list count passed under same back 
         last = back.last;
         runs = subst (λ (z : S). Runs m p.side n back.steps z (course new back.last)) at runs;
         asked = back.asked;
-        list_is = back.noted.list_is ∙ ap (λ (l : List Entry). noted_all from.mark.keep l (accesses new)) list;
+        list_is = back.noted.list_is ∙ ap (λ (l : List Entry). note_all_leaves from.mark.keep l (accesses new)) list;
         count_is = back.noted.count_is ∙ ap (λ (z : ℕ). z + length (accesses new)) count;
         same = record {
           cell = ap (λ z. z.cell) same ∙ told.cell;

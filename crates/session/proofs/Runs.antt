@@ -6,7 +6,7 @@ use Rattle.tube_chip.specs.declared.Answer.{Answer}
 use Rattle.tube_chip.specs.Act.{Query}
 use Rattle.tube_chip.specs.Events.{Event}
 use Rattle.tube_party.specs.Moves.{Moves, IsLawful, Runs, Heads, course}
-use Rattle.session.specs.Steps.{event_at}
+use Rattle.session.specs.CodeSteps.{event_at}
 
 -- what follows a step, by what it asks
 abbrev pub Then : {S : Type 0} → Moves S → Side → ℕ → ℕ → S → List Event → S → Option Query → Type 0

@@ -8,13 +8,13 @@ use Rattle.beeb_bits.specs.declared.Side.{Side}
 use Rattle.beeb_bits.specs.declared.Side.TheVariants.{Para}
 use Rattle.tube_chip.specs.State.{State}
 use Rattle.tube_chip.specs.Events.{Event}
-use Rattle.tube_cell.specs.Views.{Known, own, other, own_bound, past_last, below, horizon, readings_of}
+use Rattle.tube_cell.specs.Views.{Known, word_of, word_of_other, own_bound, past_last, below, horizon, readings_of}
 use Rattle.tube_cell.specs.Rules.{Trusts}
-use Rattle.tube_cell.specs.Passes.{Carried, own_horizon, published, entrusted, Learns}
+use Rattle.tube_cell.specs.Passes.{Carried, own_horizon, after_publish, after_entrust, Learns}
 use Rattle.tube_cell.specs.Steps.{Watches}
-use Rattle.session.specs.Steps.{all_events, HasWaited}
-use Rattle.session.specs.Way.{Way, IsWay}
-use Rattle.session.specs.Trusting.{from_on, IsTrusting, HasTrusted, HasPassed}
+use Rattle.session.specs.CodeSteps.{all_events, HasWaited}
+use Rattle.session.specs.CodeWay.{Way, IsWay}
+use Rattle.session.specs.CodeTrust.{from_on, IsTrusting, HasTrusted, HasPassed}
 use Rattle.session.proofs.Observing.{below_and_rest}
 
 lt-yes : (m n : ℕ) → m < n → nat_lt m n ≡ true
@@ -107,7 +107,7 @@ module _ (w : Way) (law : IsWay w) (base : List Event) where
       watch_from Para (max p.known.trust w.tick) (own_horizon p) p.known.chip (from_on p.known.trust (made t)) t
       (watch_rest Para p.known.trust w.tick p.known.chip (made t) t (law.watches p.known.chip t same)) low
 
-  pub trusting_more : (p q : Carried) (t : ℕ) → IsTrusting w base p → p.known.trust ≤ t → q ≡ entrusted p (from_on p.known.trust (made t)) t → IsTrusting w base q
+  pub trusting_more : (p q : Carried) (t : ℕ) → IsTrusting w base p → p.known.trust ≤ t → q ≡ after_entrust p (from_on p.known.trust (made t)) t → IsTrusting w base q
   trusting_more p q t is le q_is =
       let f = is.order in
       subst (λ (x : Carried). IsTrusting w base x) (sym q_is) (record {
@@ -126,7 +126,7 @@ module _ (w : Way) (law : IsWay w) (base : List Event) where
   trusting_learned p q side is learns = go (subst (λ (x : Side). Trusts x p.known q.known) side learns.trust) (cases_lt q.known.host q.known.trust)
     where
       host_up : p.known.host ≤ q.known.host
-      host_up = subst (λ (x : Side). other x p.known ≤ other x q.known) side learns.other_word
+      host_up = subst (λ (x : Side). word_of_other x p.known ≤ word_of_other x q.known) side learns.other_word
 
       settled : (t : ℕ) → t ≡ q.known.trust → t ≤ q.known.host → q.trusted ≡ [] → q.events ≡ base ++ made t
           → IsTrusting w base q × (((q.known.host < q.known.trust) × (q.known.trust ≡ p.known.trust)) ⊎ ((q.known.trust ≤ q.known.host) × (q.trusted ≡ []) × (q.events ≡ base ++ made q.known.trust)))
@@ -187,7 +187,7 @@ trust_fell x k t = ⊎_elim (λ (e : k.trust ≡ x.trust). omega arith) (λ (e :
 module _ (w : Way) (law : IsWay w) (t : ℕ) (p : Carried) where
   -- the first stride was told
   pub told_first : (q : Carried) (h : ℕ) → p.side ≡ Para → p.trusted ≡ [] → h ≡ w.tick → own_horizon p ≤ h → h ≤ t
-      → q ≡ entrusted (published p h) (w.until t) t → HasTrusted w t p q
+      → q ≡ after_entrust (after_publish p h) (w.until t) t → HasTrusted w t p q
   told_first q h side none h_is low far is =
       let own_is = own_of p side in
       let trust : q.known.trust ≡ t = ap (λ x. x.known.trust) is in
@@ -209,8 +209,8 @@ module _ (w : Way) (law : IsWay w) (t : ℕ) (p : Carried) where
         };
       }
     where
-      para_of : (x : Carried) → x.side ≡ Para → (published x h).known.para ≡ h
-      para_of x at = subst (λ (y : Side). (published (record x { side = y }) h).known.para ≡ h) (sym at) refl
+      para_of : (x : Carried) → x.side ≡ Para → (after_publish x h).known.para ≡ h
+      para_of x at = subst (λ (y : Side). (after_publish (record x { side = y }) h).known.para ≡ h) (sym at) refl
 
   -- its horizon
   pub told_low : (q : Carried) → q.side ≡ Para → HasTrusted w t p q → own_horizon q ≤ max q.known.trust (w.tick)
@@ -226,7 +226,7 @@ module _ (w : Way) (law : IsWay w) (t : ℕ) (p : Carried) where
       omega arith
 
   -- the strides since were told too
-  pub told_more : (q r : Carried) → HasTrusted w t p q → r ≡ entrusted q (from_on q.known.trust (w.until t)) t → HasTrusted w t p r
+  pub told_more : (q r : Carried) → HasTrusted w t p q → r ≡ after_entrust q (from_on q.known.trust (w.until t)) t → HasTrusted w t p r
   told_more q r told is =
       let trust : r.known.trust ≡ t = ap (λ x. x.known.trust) is in
       let para : r.known.para ≡ q.known.para = ap (λ x. x.known.para) is in
@@ -247,7 +247,7 @@ module _ (w : Way) (law : IsWay w) (t : ℕ) (p : Carried) where
   told_learned q r side told learns =
       let fell = trust_fell q.known r.known (subst (λ (x : Side). Trusts x q.known r.known) side learns.trust) in
       let was = told.trust in
-      let para : r.known.para ≡ q.known.para = subst (λ (x : Side). own x r.known ≡ own x q.known) side learns.own_word in
+      let para : r.known.para ≡ q.known.para = subst (λ (x : Side). word_of x r.known ≡ word_of x q.known) side learns.own_word in
       let low = told.para in
       record {
         cell = ap (λ x. x.cell) learns.rest ∙ told.cell;
@@ -289,18 +289,18 @@ told_waited w t p q r h told = record {
   trusting = subst (λ (l : List Event). IsTrusting w l r) h.events told.trusting;
 }
 
-pub passed_of : (q r : Carried) (a b : ℕ) → q.side ≡ Para → Learns q r → a ≡ r.known.trust → b ≡ other r.side r.known → a ≤ b → r.known.trust ≤ r.known.host
+pub passed_of : (q r : Carried) (a b : ℕ) → q.side ≡ Para → Learns q r → a ≡ r.known.trust → b ≡ word_of_other r.side r.known → a ≤ b → r.known.trust ≤ r.known.host
 passed_of q r a b side learns a_is b_is le =
     let at : r.side ≡ Para = ap (λ x. x.side) learns.rest ∙ side in
-    let host : b ≡ r.known.host = b_is ∙ ap (λ (x : Side). other x r.known) at in
+    let host : b ≡ r.known.host = b_is ∙ ap (λ (x : Side). word_of_other x r.known) at in
     omega arith
 
 -- either way it stands so
 pub tried_told : (w : Way) (law : IsWay w) (t : ℕ) (p q r : Carried) (done : Bool) → q.side ≡ Para → HasTrusted w t p q
-    → (IsTrue done → r ≡ entrusted q (from_on q.known.trust (w.until t)) t) → (IsFalse done → Learns q r) → HasTrusted w t p r
+    → (IsTrue done → r ≡ after_entrust q (from_on q.known.trust (w.until t)) t) → (IsFalse done → Learns q r) → HasTrusted w t p r
 tried_told w law t p q r true side told f g = told_more w law t p q r told (f refl)
 tried_told w law t p q r false side told f g = told_learned w law t p q r side told (g refl)
 
-pub tried_seat : (q r : Carried) (done : Bool) (t : ℕ) (looks : List Event) → (IsTrue done → r ≡ entrusted q looks t) → (IsFalse done → Learns q r) → (r.cell ≡ q.cell) × (r.side ≡ q.side)
+pub tried_seat : (q r : Carried) (done : Bool) (t : ℕ) (looks : List Event) → (IsTrue done → r ≡ after_entrust q looks t) → (IsFalse done → Learns q r) → (r.cell ≡ q.cell) × (r.side ≡ q.side)
 tried_seat q r true t looks f g = let e = f refl in (ap (λ x. x.cell) e, ap (λ x. x.side) e)
 tried_seat q r false t looks f g = let e = (g refl).rest in (ap (λ x. x.cell) e, ap (λ x. x.side) e)

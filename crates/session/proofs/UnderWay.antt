@@ -11,12 +11,12 @@ use Rattle.tube_cell.specs.Passes.{Carried, own_horizon}
 use Rattle.tube_party.specs.declared.party.Ask.{Ask}
 use Rattle.tube_party.specs.declared.party.Ask.TheVariants.{Nothing, Access, Look}
 use Rattle.tube_party.specs.Moves.{Moves, IsLawful, Runs, IsAsk, course}
-use Rattle.tube_party.specs.Turn.{IsPending, left, noted_all}
+use Rattle.tube_party.specs.Turn.{IsPending, ticks_left, note_all_leaves}
 use Rattle.tube_party.specs.Quiet.{IsQuiet, quiet_here}
-use Rattle.session.specs.Steps.{event_at, all_events, SameSeat, HasWaited}
-use Rattle.session.specs.Station.{Place, place, Station}
-use Rattle.session.specs.Turned.{Turned}
-use Rattle.session.specs.Gone.{GoneOn, MovedOn, HasStayed}
+use Rattle.session.specs.CodeSteps.{event_at, all_events, SameSeat, HasWaited}
+use Rattle.session.specs.CodeStation.{Place, place, Station}
+use Rattle.session.specs.CodeTurn.{Turned}
+use Rattle.session.specs.CodeLookahead.{GoneOn, MovedOn, HasStayed}
 use Rattle.session.specs.Work.{HasWorked}
 use Rattle.session.proofs.Runs.{SomeRuns, asking, append, rises}
 use Rattle.session.proofs.Kept.{accesses-append, noted_all_take, kept_more, counted_more, at_most_one}
@@ -62,12 +62,12 @@ module _ {S : Type 0} (m : Moves S) (n : ℕ) where
   below last s (Access t op) some h = let a = h.0 in let b = h.1 in omega arith
   below last s (Look t) some h = let a = h.0 in let b = h.1 in omega arith
 
-  left_is : (last s : S) (ask : Ask) → ask ≢ Nothing → IsAsk m n last ask s → left n ask + m.due last ≡ n
+  left_is : (last s : S) (ask : Ask) → ask ≢ Nothing → IsAsk m n last ask s → ticks_left n ask + m.due last ≡ n
   left_is last s Nothing some h = absurd (some refl)
   left_is last s (Access t op) some h = let a = h.0 in let b = h.1 in omega arith
   left_is last s (Look t) some h = let a = h.0 in let b = h.1 in omega arith
 
-  left_at_most : (last s : S) (ask : Ask) (k : ℕ) → k < m.due last → k < n → IsAsk m n last ask s → left n ask + k < n
+  left_at_most : (last s : S) (ask : Ask) (k : ℕ) → k < m.due last → k < n → IsAsk m n last ask s → ticks_left n ask + k < n
   left_at_most last s Nothing k low under h = omega arith
   left_at_most last s (Access t op) k low under h = let a = h.0 in let b = h.1 in omega arith
   left_at_most last s (Look t) k low under h = let a = h.0 in let b = h.1 in omega arith
@@ -96,7 +96,7 @@ moved m n keep x y ask none g = record {
   last = g.last;
   runs = g.runs;
   asked = g.asked;
-  list_is = sym (ap (noted_all keep x.list) g.silent);
+  list_is = sym (ap (note_all_leaves keep x.list) g.silent);
   count_is = let e = ap length g.silent in omega arith;
   same = record { cell = ap (λ z. z.cell) g.pass; side = ap (λ z. z.side) g.pass; trusted = ap (λ z. z.trusted) g.pass ∙ none };
   events = ap all_events g.pass ∙ sym (append_assoc x.at.pass.events x.at.pass.ahead g.events);
@@ -136,7 +136,7 @@ module _ {S : Type 0} (m : Moves S) (lawful : IsLawful m) (n keep : ℕ) (x0 : P
           events = g.events ∙ ap (λ (l : List Event). l ++ g.added) w.events ∙ append_assoc (all_events x0.pass) w.added g.added;
           same = seat_on x0.pass x.at.pass y.at.pass w.same g.same;
           kept =
-              g.list_is ∙ ap (λ (l : List Entry). noted_all keep l (accesses g.added)) w.kept
+              g.list_is ∙ ap (λ (l : List Entry). note_all_leaves keep l (accesses g.added)) w.kept
               ∙ noted_all_take keep (accesses w.added) (accesses g.added) ∙ ap (take keep) (sym (accesses-append w.added g.added));
           counted =
               g.count_is ∙ ap (λ (z : ℕ). z + length (accesses g.added)) w.counted
@@ -198,14 +198,14 @@ module _ {S : Type 0} (m : Moves S) (lawful : IsLawful m) (n keep : ℕ) (x0 : P
           }
 
       -- the next step that asks is later
-      pub smaller : (ask2 : Ask) (z : Station S) → MovedOn m n keep y ask2 z → left n ask2 < left n ask
+      pub smaller : (ask2 : Ask) (z : Station S) → MovedOn m n keep y ask2 z → ticks_left n ask2 < ticks_left n ask
       smaller ask2 z g =
           let more : m.due y.at.state ≤ m.due g.last = rises m lawful y.at.pass.side n g.steps y.at.state g.added g.last g.runs in
           let u = up in
           let l = low in
           let same : m.due x.at.state ≡ m.due w.last = ap m.due (here m n w.last x.at.state ask some w.asked) in
-          let was : left n ask + m.due w.last ≡ n = left_is m n w.last x.at.state ask some w.asked in
-          let now : left n ask2 + m.due x.at.state < n = left_at_most m n g.last z.at.state ask2 (m.due x.at.state) (omega arith) l g.asked in
+          let was : ticks_left n ask + m.due w.last ≡ n = left_is m n w.last x.at.state ask some w.asked in
+          let now : ticks_left n ask2 + m.due x.at.state < n = left_at_most m n g.last z.at.state ask2 (m.due x.at.state) (omega arith) l g.asked in
           omega arith
 
   -- no step of it was done meanwhile

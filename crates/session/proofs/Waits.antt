@@ -7,10 +7,10 @@ use Rattle.beeb_bits.specs.declared.Side.TheVariants.{Host, Para}
 use Rattle.tube_chip.specs.Events.{Event, after_from}
 use Rattle.tube_chip.specs.State.{State}
 use Rattle.tube_cell.specs.declared.local.Readings.{Readings}
-use Rattle.tube_cell.specs.Views.{Known, one_side, own_bound, known_with, other, other_bound, bound_at, slack, Admits, trust_after, has_access, done, past_last, horizon, readings_of}
+use Rattle.tube_cell.specs.Views.{Known, one_side, own_bound, known_with, word_of_other, other_bound, bound_at, slack, Admits, trust_after, has_access, chip_after_event, past_last, horizon, readings_of}
 use Rattle.tube_cell.specs.Rules.{rise, Trusts}
-use Rattle.tube_cell.specs.Passes.{Carried, own_horizon, here, bound_here, published, entrusted, Learns}
-use Rattle.session.specs.Steps.{all_events, HasWaited, IsPaid, IsNearlyPaid, IsPaidOnTrust, HasOnlyLearnt}
+use Rattle.tube_cell.specs.Passes.{Carried, own_horizon, here, bound_here, after_publish, after_entrust, Learns}
+use Rattle.session.specs.CodeSteps.{all_events, HasWaited, IsPaid, IsNearlyPaid, IsPaidOnTrust, HasOnlyLearnt}
 
 pub waits : (p : Carried) → p.trusted ≡ [] → HasWaited p p
 waits p none = record { same = record { cell = refl; side = refl; trusted = none }; events = refl }
@@ -20,7 +20,7 @@ learned p q none l =
     let e = l.plain none in
     record { same = record { cell = ap (λ x. x.cell) e; side = ap (λ x. x.side) e; trusted = ap (λ x. x.trusted) e ∙ none }; events = ap all_events e }
 
-pub told : (p q : Carried) (h : ℕ) → p.trusted ≡ [] → q ≡ published p h → HasWaited p q
+pub told : (p q : Carried) (h : ℕ) → p.trusted ≡ [] → q ≡ after_publish p h → HasWaited p q
 told p q h none e = record {
   same = record { cell = ap (λ x. x.cell) e; side = ap (λ x. x.side) e; trusted = ap (λ x. x.trusted) e ∙ none };
   events = ap all_events e ∙ append-nil (p.events ++ p.ahead);
@@ -33,7 +33,7 @@ learned_paid p q l =
     let e : q.higher ≡ p.higher + rise (one_side p.side) p.known q.known = ap (λ x. x.higher) l.rest in
     (ap (λ x. x.commits) l.rest, omega arith)
 
-pub told_paid : (p q : Carried) (h : ℕ) → q ≡ published p h → IsNearlyPaid p q
+pub told_paid : (p q : Carried) (h : ℕ) → q ≡ after_publish p h → IsNearlyPaid p q
 told_paid p q h e =
     let c : q.commits ≡ p.commits + cond (has_access p.ahead) 1 0 = ap (λ x. x.commits) e in
     let r : q.higher ≡ p.higher = ap (λ x. x.higher) e in
@@ -44,15 +44,15 @@ told_paid p q h e =
 
 -- the bound of a pass with nothing unpublished
 bare_bound : (p : Carried) → p.ahead ≡ [] → bound_here p ≡ other_bound p.side p.known
-bare_bound p bare = ap (λ (l : List Event). bound_at p.side (other p.side p.known) (trust_after p.side p.known.chip p.known.trust l)) bare
+bare_bound p bare = ap (λ (l : List Event). bound_at p.side (word_of_other p.side p.known) (trust_after p.side p.known.chip p.known.trust l)) bare
 
 -- the other's bound is as it was
-pub told_bound : (p q : Carried) (h : ℕ) → q ≡ published p h → bound_here q ≡ bound_here p
+pub told_bound : (p q : Carried) (h : ℕ) → q ≡ after_publish p h → bound_here q ≡ bound_here p
 told_bound p q h e = ap bound_here e ∙ by_side p.side refl
   where
-    by_side : (s : Side) → p.side ≡ s → bound_here (published p h) ≡ bound_here p
-    by_side Host is = subst (λ (x : Side). bound_here (published (record p { side = x }) h) ≡ bound_here (record p { side = x })) (sym is) refl
-    by_side Para is = subst (λ (x : Side). bound_here (published (record p { side = x }) h) ≡ bound_here (record p { side = x })) (sym is) refl
+    by_side : (s : Side) → p.side ≡ s → bound_here (after_publish p h) ≡ bound_here p
+    by_side Host is = subst (λ (x : Side). bound_here (after_publish (record p { side = x }) h) ≡ bound_here (record p { side = x })) (sym is) refl
+    by_side Para is = subst (λ (x : Side). bound_here (after_publish (record p { side = x }) h) ≡ bound_here (record p { side = x })) (sym is) refl
 
 lt_by : (a b t : ℕ) → ¬ (t ≤ a) → t ≤ b → a < b
 lt_by a b t f g = grind (arith, nat_tests)
@@ -79,32 +79,32 @@ rose p q t bare none l not_yet now_is =
 
 para_trust : (c : State) (trust : ℕ) (events : List Event) → trust_after Para c trust events ≡ trust
 para_trust c trust [] = refl
-para_trust c trust (e ∷ events) = para_trust (done c e) trust events
+para_trust c trust (e ∷ events) = para_trust (chip_after_event c e) trust events
 
-pub told_at : (p q : Carried) (h : ℕ) → own_horizon p ≤ h → q ≡ published p h → own_horizon q ≡ h
+pub told_at : (p q : Carried) (h : ℕ) → own_horizon p ≤ h → q ≡ after_publish p h → own_horizon q ≡ h
 told_at p q h low e = subst (λ (x : Carried). own_horizon x ≡ h) (sym e) (by_side p.side refl)
   where
-    by_side : (s : Side) → p.side ≡ s → own_horizon (published p h) ≡ h
+    by_side : (s : Side) → p.side ≡ s → own_horizon (after_publish p h) ≡ h
     by_side Host is =
         let a : own_horizon p ≡ max (own_bound Host p.known) (past_last (p.events ++ p.ahead)) = ap (λ (x : Side). horizon (own_bound x p.known) (p.events ++ p.ahead)) is in
         let b : past_last ((p.events ++ p.ahead) ++ []) ≡ past_last (p.events ++ p.ahead) = ap past_last (append-nil (p.events ++ p.ahead)) in
         let r : max h (past_last ((p.events ++ p.ahead) ++ [])) ≡ h = omega arith in
-        subst (λ (x : Side). horizon (own_bound x (known_with x (here p) h (other x p.known) (trust_after x p.known.chip p.known.trust p.ahead))) ((p.events ++ p.ahead) ++ []) ≡ h) (sym is) r
+        subst (λ (x : Side). horizon (own_bound x (known_with x (here p) h (word_of_other x p.known) (trust_after x p.known.chip p.known.trust p.ahead))) ((p.events ++ p.ahead) ++ []) ≡ h) (sym is) r
     by_side Para is =
         let a : own_horizon p ≡ max (own_bound Para p.known) (past_last (p.events ++ p.ahead)) = ap (λ (x : Side). horizon (own_bound x p.known) (p.events ++ p.ahead)) is in
         let b : past_last ((p.events ++ p.ahead) ++ []) ≡ past_last (p.events ++ p.ahead) = ap past_last (append-nil (p.events ++ p.ahead)) in
         let t = para_trust p.known.chip p.known.trust p.ahead in
         let r : max (max h (trust_after Para p.known.chip p.known.trust p.ahead)) (past_last ((p.events ++ p.ahead) ++ [])) ≡ h = omega arith in
-        subst (λ (x : Side). horizon (own_bound x (known_with x (here p) h (other x p.known) (trust_after x p.known.chip p.known.trust p.ahead))) ((p.events ++ p.ahead) ++ []) ≡ h) (sym is) r
+        subst (λ (x : Side). horizon (own_bound x (known_with x (here p) h (word_of_other x p.known) (trust_after x p.known.chip p.known.trust p.ahead))) ((p.events ++ p.ahead) ++ []) ≡ h) (sym is) r
 
-pub told_low : (p q : Carried) (h : ℕ) → own_horizon p ≤ h → q ≡ published p h → own_horizon q ≤ h
+pub told_low : (p q : Carried) (h : ℕ) → own_horizon p ≤ h → q ≡ after_publish p h → own_horizon q ≤ h
 told_low p q h low e = let x = told_at p q h low e in omega arith
 
-pub tried_low : (p q : Carried) (h : ℕ) (done : Bool) → own_horizon p ≤ h → (IsTrue done → q ≡ published p h) → (IsFalse done → Learns p q) → own_horizon q ≤ h
+pub tried_low : (p q : Carried) (h : ℕ) (done : Bool) → own_horizon p ≤ h → (IsTrue done → q ≡ after_publish p h) → (IsFalse done → Learns p q) → own_horizon q ≤ h
 tried_low p q h true low f g = told_low p q h low (f refl)
 tried_low p q h false low f g = let l = g refl in let a = l.horizon in omega arith
 
-pub tried : (p q : Carried) (h : ℕ) (done : Bool) → p.trusted ≡ [] → (IsTrue done → q ≡ published p h) → (IsFalse done → Learns p q) → HasWaited p q
+pub tried : (p q : Carried) (h : ℕ) (done : Bool) → p.trusted ≡ [] → (IsTrue done → q ≡ after_publish p h) → (IsFalse done → Learns p q) → HasWaited p q
 tried p q h true none f g = told p q h none (f refl)
 tried p q h false none f g = learned p q none (g refl)
 
@@ -122,7 +122,7 @@ learned_on_trust p q r side l (inl x) =
 learned_on_trust p q r side l (inr x) = by_host (cases_lt q.known.host r.known.host)
   where
     up : q.known.host ≤ r.known.host
-    up = subst (λ (z : Side). other z q.known ≤ other z r.known) side l.other_word
+    up = subst (λ (z : Side). word_of_other z q.known ≤ word_of_other z r.known) side l.other_word
 
     commits : r.commits ≡ q.commits
     commits = (learned_paid q r l).0
@@ -146,7 +146,7 @@ learned_on_trust p q r side l (inr x) = by_host (cases_lt q.known.host r.known.h
     by_host (inr le) = by_trust le (subst (λ (z : Side). Trusts z q.known r.known) side l.trust)
 
 -- an exchange that entrusts, or the words that it found
-pub tried_on_trust : (p q r : Carried) (t : ℕ) (looks : List Event) (done : Bool) → q.side ≡ Para → q.known.trust ≤ t → (IsTrue done → r ≡ entrusted q looks t) → (IsFalse done → Learns q r) → IsPaidOnTrust p q → IsPaidOnTrust p r
+pub tried_on_trust : (p q r : Carried) (t : ℕ) (looks : List Event) (done : Bool) → q.side ≡ Para → q.known.trust ≤ t → (IsTrue done → r ≡ after_entrust q looks t) → (IsFalse done → Learns q r) → IsPaidOnTrust p q → IsPaidOnTrust p r
 tried_on_trust p q r t looks true side le f g (inl x) =
     let e = f refl in
     let c : r.commits ≡ q.commits = ap (λ z. z.commits) e in
@@ -169,14 +169,14 @@ passed_paid p q le (inl x) = x
 passed_paid p q le (inr x) = let m = x.1 in absurd (omega arith)
 
 -- What an exchange leaves that publishes, and entrusts up to a tick that the host has not passed.
-pub first_paid : (p q r : Carried) (h t : ℕ) (looks : List Event) → q.side ≡ Para → HasOnlyLearnt t p q → r ≡ entrusted (published q h) looks t → IsPaidOnTrust p r
+pub first_paid : (p q r : Carried) (h t : ℕ) (looks : List Event) → q.side ≡ Para → HasOnlyLearnt t p q → r ≡ after_entrust (after_publish q h) looks t → IsPaidOnTrust p r
 first_paid p q r h t looks side learnt e = go learnt.1
   where
     commits : q.commits ≡ p.commits
     commits = learnt.0
 
-    host_of : (x : Carried) → x.side ≡ Para → (published x h).known.host ≡ x.known.host
-    host_of x at = subst (λ (z : Side). (published (record x { side = z }) h).known.host ≡ x.known.host) (sym at) refl
+    host_of : (x : Carried) → x.side ≡ Para → (after_publish x h).known.host ≡ x.known.host
+    host_of x at = subst (λ (z : Side). (after_publish (record x { side = z }) h).known.host ≡ x.known.host) (sym at) refl
 
     nearly : r.commits ≤ q.commits + 1
     nearly =

@@ -1,8 +1,8 @@
-pub mod Steps
-pub mod Station
-pub mod Turned
+pub mod CodeSteps
+pub mod CodeStation
+pub mod CodeTurn
 pub mod Work
-pub mod Ahead
-pub mod Gone
-pub mod Way
-pub mod Trusting
+pub mod CodeSight
+pub mod CodeLookahead
+pub mod CodeWay
+pub mod CodeTrust

@@ -6,8 +6,8 @@ use Rattle.tube_chip.specs.Events.{Event}
 use Rattle.tube_trace.specs.Entries.{accesses}
 use Rattle.tube_cell.specs.Passes.{own_horizon}
 use Rattle.tube_party.specs.Moves.{Moves, Follows}
-use Rattle.session.specs.Steps.{SamePass}
-use Rattle.session.specs.Station.{Place, Station}
+use Rattle.session.specs.CodeSteps.{SamePass}
+use Rattle.session.specs.CodeStation.{Place, Station}
 
 -- A side may be run up to n, which is at most 2^30, at this cell: its machine may play the pass's side; its next step and n are not below the pass's own horizon,
 -- and nothing is unpublished or on trust; nothing was kept or counted yet.

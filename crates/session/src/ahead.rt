@@ -3,10 +3,10 @@ ghost use Rattle.std.specs.Prelude.{◌≡◌, ◌≤◌, ◌<◌, ◌^◌, [], 
 ghost use Rattle.beeb_bits.specs.declared.Side.TheVariants.{Para};
 ghost use Rattle.tube_cell.specs.Passes.{own_horizon};
 ghost use Rattle.tube_party.specs.Turn.{IsPending};
-ghost use Rattle.session.specs.Steps.{IsPaid, IsNearlyPaid};
-ghost use Rattle.session.specs.Station.{station};
-ghost use Rattle.session.specs.Gone.{MovedOn, HasStayed};
-ghost use Rattle.session.specs.Way.{IsWay, way_of, outset};
+ghost use Rattle.session.specs.CodeSteps.{IsPaid, IsNearlyPaid};
+ghost use Rattle.session.specs.CodeStation.{station};
+ghost use Rattle.session.specs.CodeLookahead.{MovedOn, HasStayed};
+ghost use Rattle.session.specs.CodeWay.{IsWay, way_of, outset};
 ghost use Rattle.session.specs.Work.{MayWork, HasWorked};
 
 use crate::at_cell::finish;

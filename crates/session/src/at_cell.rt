@@ -2,7 +2,7 @@
 ghost use Rattle.std.specs.Prelude.{◌≡◌, ◌≤◌, ◌+◌, [], IsTrue, IsFalse};
 ghost use Rattle.tube_cell.specs.Views.{Admits};
 ghost use Rattle.tube_cell.specs.Passes.{own_horizon, bound_here};
-ghost use Rattle.session.specs.Steps.{HasWaited, IsPaid, IsNearlyPaid};
+ghost use Rattle.session.specs.CodeSteps.{HasWaited, IsPaid, IsNearlyPaid};
 
 use crate::pause::Pause;
 use beeb_bits::Tick;

@@ -2,9 +2,9 @@
 ghost use Rattle.std.specs.Prelude.{◌≡◌, ◌≤◌, ◌<◌, ◌^◌, [], IsTrue, vec_capacity};
 ghost use Rattle.tube_cell.specs.Passes.{own_horizon};
 ghost use Rattle.tube_party.specs.Turn.{IsPending};
-ghost use Rattle.session.specs.Steps.{IsPaid, IsNearlyPaid};
-ghost use Rattle.session.specs.Station.{station};
-ghost use Rattle.session.specs.Turned.{Turned};
+ghost use Rattle.session.specs.CodeSteps.{IsPaid, IsNearlyPaid};
+ghost use Rattle.session.specs.CodeStation.{station};
+ghost use Rattle.session.specs.CodeTurn.{Turned};
 ghost use Rattle.session.specs.Work.{MayWork, HasWorked};
 
 use crate::at_cell::{come, finish};

@@ -2,10 +2,10 @@
 ghost use Rattle.std.specs.Prelude.{◌≡◌, ◌≤◌, ◌+◌, ℕ, []};
 ghost use Rattle.tube_chip.specs.State.{lines_of};
 ghost use Rattle.tube_cell.specs.Views.{AllBelow, slack};
-ghost use Rattle.tube_cell.specs.Passes.{own_horizon, here, bound_here, added};
-ghost use Rattle.session.specs.Ahead.{lines_seen, observed};
-ghost use Rattle.session.specs.Station.{place};
-ghost use Rattle.session.specs.Gone.{GoneOn};
+ghost use Rattle.tube_cell.specs.Passes.{own_horizon, here, bound_here, after_add};
+ghost use Rattle.session.specs.CodeSight.{lines_seen, observed_events};
+ghost use Rattle.session.specs.CodeStation.{place};
+ghost use Rattle.session.specs.CodeLookahead.{GoneOn};
 
 use beeb_bits::{Side, Tick};
 use std::marker::Brand;
@@ -25,9 +25,9 @@ fn see_next<D: Deeds, M: Party, R: Wait>(
     requires none_trusted { pass.old.trusted ≡ [] }
     requires later { own_horizon pass.old ≤ M.moves.due (M.state _machine.now) }
     requires looks { let lines = lines_of (here pass.old) in
-        D.events ≡ observed M.moves pass.old.side (lines_seen lines) end.0 end.0 (M.state _machine.now) }
+        D.events ≡ observed_events M.moves pass.old.side (lines_seen lines) end.0 end.0 (M.state _machine.now) }
     requires admitted { end.0 + slack pass.old.side ≤ bound_here pass.old + 1 }
-    ensures added { pass.new ≡ added pass.old D.events }
+    ensures added { pass.new ≡ after_add pass.old D.events }
     ensures here { here pass.new ≡ here pass.old }
     ensures bound { bound_here pass.new ≡ bound_here pass.old }
     ensures horizon { (t : ℕ) → own_horizon pass.old ≤ t → AllBelow t D.events → own_horizon pass.new ≤ t }

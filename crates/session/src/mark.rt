@@ -1,7 +1,7 @@
 //! Where the parasite sets out on its way ahead of the host.
 ghost use Rattle.std.specs.Prelude.{◌≡◌};
 ghost use Rattle.tube_chip.specs.declared.Op.TheVariants.{Read};
-ghost use Rattle.session.specs.Ahead.{byte_seen};
+ghost use Rattle.session.specs.CodeSight.{byte_seen};
 
 use beeb_bits::Tick;
 use std::marker::Brand;
@@ -21,7 +21,7 @@ pub(crate) struct Mark {
 
 /// The way ahead of a run. Each call picks it.
 pub(crate) trait Ahead {
-    ghost use Rattle.session.specs.Way.{Way};
+    ghost use Rattle.session.specs.CodeWay.{Way};
 
     ghost way: { Way };
 }

@@ -5,9 +5,9 @@ ghost use Rattle.beeb_bits.specs.declared.Side.TheVariants.{Host, Para};
 ghost use Rattle.beeb_files.specs.Counts.{Rose};
 ghost use Rattle.beeb_files.specs.Crew.{Grows};
 ghost use Rattle.tube_cell.specs.Passes.{Carried};
-ghost use Rattle.tube_party.specs.Played.{IsPlayed, played_of};
+ghost use Rattle.tube_party.specs.OneThread.{IsPlayed, played_of};
 ghost use Rattle.tube_party.specs.Reference.{reference};
-ghost use Rattle.session.specs.Station.{place, station};
+ghost use Rattle.session.specs.CodeStation.{place, station};
 ghost use Rattle.session.specs.Work.{HasWorked};
 ghost use Rattle.session.specs.declared.pair.PairError.TheVariants.{NoThread, NoMemory};
 

@@ -2,7 +2,7 @@
 ghost use Rattle.std.specs.Prelude.{◌≡◌, ◌≤◌, vec_capacity};
 ghost use Rattle.std.specs.Arc.{arc_value};
 ghost use Rattle.beeb_bits.specs.declared.Side.TheVariants.{Para};
-ghost use Rattle.session.specs.Station.{station};
+ghost use Rattle.session.specs.CodeStation.{station};
 ghost use Rattle.session.specs.Work.{MayWork, HasWorked};
 
 use crate::ahead::drive_ahead;

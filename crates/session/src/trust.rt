@@ -2,10 +2,10 @@
 ghost use Rattle.std.specs.Prelude.{◌≡◌, ◌≤◌, [], IsTrue, IsFalse};
 ghost use Rattle.beeb_bits.specs.declared.Side.TheVariants.{Para};
 ghost use Rattle.tube_cell.specs.Views.{readings_of};
-ghost use Rattle.tube_cell.specs.Passes.{Carried, own_horizon, here, published, entrusted, Learns};
-ghost use Rattle.session.specs.Way.{IsWay};
-ghost use Rattle.session.specs.Trusting.{from_on, HasTrusted, HasPassed};
-ghost use Rattle.session.specs.Steps.{HasWaited, IsPaid, IsPaidOnTrust, HasOnlyLearnt};
+ghost use Rattle.tube_cell.specs.Passes.{Carried, own_horizon, here, after_publish, after_entrust, Learns};
+ghost use Rattle.session.specs.CodeWay.{IsWay};
+ghost use Rattle.session.specs.CodeTrust.{from_on, HasTrusted, HasPassed};
+ghost use Rattle.session.specs.CodeSteps.{HasWaited, IsPaid, IsPaidOnTrust, HasOnlyLearnt};
 
 use crate::mark::{Ahead, Mark};
 use crate::pause::Pause;
@@ -30,7 +30,7 @@ fn publish_observed<D: Deeds, W: Ahead, R: Wait>(
     requires later { own_horizon pass.old ≤ mark.0 }
     requires order { mark.0 ≤ t.0 }
     requires observed { D.events ≡ W.way.until t.0 }
-    ensures entrusted { IsTrue result → pass.new ≡ entrusted (published pass.old mark.0) D.events t.0 }
+    ensures entrusted { IsTrue result → pass.new ≡ after_entrust (after_publish pass.old mark.0) D.events t.0 }
     ensures learns { IsFalse result → Learns pass.old pass.new }
 {
     cell.publish_and_entrust::<D, R>(rt, pass, mark, t)
@@ -108,7 +108,7 @@ fn entrust_observed<D: Deeds, W: Ahead, R: Wait>(
     requires shown { W.way.readings ≡ readings_of pass.old.known.chip }
     requires told { (p : Carried) × HasTrusted W.way t.0 p pass.old }
     requires observed { D.events ≡ from_on pass.old.known.trust (W.way.until t.0) }
-    ensures entrusted { IsTrue result → pass.new ≡ entrusted pass.old D.events t.0 }
+    ensures entrusted { IsTrue result → pass.new ≡ after_entrust pass.old D.events t.0 }
     ensures learns { IsFalse result → Learns pass.old pass.new }
 {
     cell.entrust::<D, R>(rt, pass, t)

@@ -3,10 +3,10 @@ ghost use Rattle.std.specs.Prelude.{◌≡◌, ◌≤◌, ℕ, List, take, lengt
 ghost use Rattle.beeb_bits.specs.declared.Side.TheVariants.{Para};
 ghost use Rattle.tube_cell.specs.Passes.{Carried};
 ghost use Rattle.tube_party.specs.declared.party.Ask.TheVariants.{Access, Look};
-ghost use Rattle.session.specs.Station.{station};
-ghost use Rattle.session.specs.Steps.{IsPaidOnTrust};
-ghost use Rattle.session.specs.Trusting.{HasTrusted};
-ghost use Rattle.session.specs.Way.{IsWay, outset, IsReached, IsOnWay, IsSettled, IsAnew, IsNoEarlier};
+ghost use Rattle.session.specs.CodeStation.{station};
+ghost use Rattle.session.specs.CodeSteps.{IsPaidOnTrust};
+ghost use Rattle.session.specs.CodeTrust.{HasTrusted};
+ghost use Rattle.session.specs.CodeWay.{IsWay, outset, IsReached, IsOnWay, IsSettled, IsAnew, IsNoEarlier};
 
 use crate::half::Half;
 use crate::mark::{Ahead, Mark, byte_of};

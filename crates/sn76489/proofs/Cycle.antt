@@ -3,14 +3,14 @@ use Rattle.std.proofs.Common.{◌≡◌, ◌≢◌, ◌∙◌, sym, ap, refl, �
 use Rattle.std.specs.Prelude.{if◌then◌else◌}
 use Rattle.std.proofs.lemmas.Bool.{cases_eq}
 use Rattle.sn76489.specs.State.{start}
-use Rattle.sn76489.specs.Clock.{shifted}
+use Rattle.sn76489.specs.Clock.{shift_leaves}
 use Rattle.sn76489.specs.Laws.{shifts, cycle, NoiseRepeats}
 use Rattle.sn76489.proofs.Playing.{test_true, test_false}
 
 -- n shifts, or 0 if one of the registers before the last is that of the start
 walk : Bool → ℕ → ℕ → ℕ
 walk white zero r = r
-walk white (suc n) r = walk white n (if r == start then 0 else shifted white r)
+walk white (suc n) r = walk white n (if r == start then 0 else shift_leaves white r)
 
 stays_0 : (white : Bool) (n : ℕ) → walk white n 0 ≡ 0
 unfolding walk
@@ -22,11 +22,11 @@ not_yet : (white : Bool) (n r : ℕ) → walk white (suc n) r ≢ 0 → r ≢ st
 unfolding walk
 not_yet white n r some is = some (rw (test_true r start is) (stays_0 white n))
 
-goes_on : (white : Bool) (n r : ℕ) → r ≢ start → walk white (suc n) r ≡ walk white n (shifted white r)
+goes_on : (white : Bool) (n r : ℕ) → r ≢ start → walk white (suc n) r ≡ walk white n (shift_leaves white r)
 unfolding walk
 goes_on white n r other = rw (test_false r start other) refl
 
-walks_on : (white : Bool) (n r : ℕ) → walk white (suc n) r ≢ 0 → walk white n (shifted white r) ≢ 0
+walks_on : (white : Bool) (n r : ℕ) → walk white (suc n) r ≢ 0 → walk white n (shift_leaves white r) ≢ 0
 walks_on white n r some e = some (goes_on white n r (not_yet white n r some) ∙ e)
 
 -- a walk that is not 0 is all shifts, and none of the registers before its end is the start
@@ -34,13 +34,13 @@ is_shifts : (white : Bool) (n r : ℕ) → walk white n r ≢ 0 → shifts white
 unfolding walk shifts
 is_shifts white zero r some = refl
 is_shifts white (suc n) r some =
-    is_shifts white n (shifted white r) (walks_on white n r some) ∙ sym (goes_on white n r (not_yet white n r some))
+    is_shifts white n (shift_leaves white r) (walks_on white n r some) ∙ sym (goes_on white n r (not_yet white n r some))
 
 passes_none : (white : Bool) (n k r : ℕ) → walk white n r ≢ 0 → k < n → shifts white k r ≢ start
 unfolding shifts
 passes_none white zero k r some within = absurd (omega (arith, within))
 passes_none white (suc n) zero r some within = not_yet white n r some
-passes_none white (suc n) (suc k) r some within = passes_none white n k (shifted white r) (walks_on white n r some) (omega (arith, within))
+passes_none white (suc n) (suc k) r some within = passes_none white n k (shift_leaves white r) (walks_on white n r some) (omega (arith, within))
 
 -- After p shifts the register is as it began, and not before.
 record Repeats (white : Bool) (p : ℕ) : Type 0 where
@@ -48,20 +48,20 @@ record Repeats (white : Bool) (p : ℕ) : Type 0 where
   pub back : shifts white p start ≡ start
   pub others : (k : ℕ) → 0 < k → k < p → shifts white k start ≢ start
 
-first_shift : (white : Bool) (n : ℕ) → shifts white (suc n) start ≡ shifts white n (shifted white start)
+first_shift : (white : Bool) (n : ℕ) → shifts white (suc n) start ≡ shifts white n (shift_leaves white start)
 unfolding shifts
 first_shift white n = refl
 
 -- one walk of n shifts from the first one on shows it
-repeats_by : (white : Bool) (n : ℕ) → walk white n (shifted white start) ≡ start → Repeats white (suc n)
+repeats_by : (white : Bool) (n : ℕ) → walk white n (shift_leaves white start) ≡ start → Repeats white (suc n)
 repeats_by white n round =
-    let some : walk white n (shifted white start) ≢ 0 = λ e. omega (arith, e, round) in
+    let some : walk white n (shift_leaves white start) ≢ 0 = λ e. omega (arith, e, round) in
     record {
       some = omega arith;
-      back = first_shift white n ∙ is_shifts white n (shifted white start) some ∙ round;
+      back = first_shift white n ∙ is_shifts white n (shift_leaves white start) some ∙ round;
       others = λ k above below.
           let e : suc (k - 1) ≡ k = omega (arith, above) in
-          rw (← e, first_shift white (k - 1)) (passes_none white n (k - 1) (shifted white start) some (omega (arith, above, below)));
+          rw (← e, first_shift white (k - 1)) (passes_none white n (k - 1) (shift_leaves white start) some (omega (arith, above, below)));
     }
 
 white_repeats : Repeats true 32767
@@ -80,7 +80,7 @@ more_shifts : (white : Bool) (a b r : ℕ) → shifts white (a + b) r ≡ shifts
 unfolding shifts
 more_shifts white zero b r = let e : 0 + b ≡ b = omega arith in ap (λ n. shifts white n r) e
 more_shifts white (suc a) b r =
-    let e : suc a + b ≡ suc (a + b) = omega arith in ap (λ n. shifts white n r) e ∙ more_shifts white a b (shifted white r)
+    let e : suc a + b ≡ suc (a + b) = omega arith in ap (λ n. shifts white n r) e ∙ more_shifts white a b (shift_leaves white r)
 
 -- whole cycles do nothing
 whole_cycles : (white : Bool) (p q n : ℕ) → Repeats white p → shifts white (q * p + n) start ≡ shifts white n start

@@ -8,7 +8,7 @@ use mir.Syntax.{w16}
 use Rattle.sn76489.specs.declared.SoundWrite.{SoundWrite}
 use Rattle.sn76489.specs.State.{State}
 use Rattle.sn76489.specs.Level.{level}
-use Rattle.sn76489.specs.Samples.{played, samples}
+use Rattle.sn76489.specs.Samples.{chip_before_step, samples}
 use Rattle.sn76489.proofs.Playing.{test_true, test_false}
 
 -- a sample that is pushed
@@ -17,18 +17,18 @@ pub pushed : (old new : List ℤ) (sample : ℤ) (c d : State) → SFits w16 sam
 pushed old new sample c d fits is value same =
     is ∙ ap (λ z. old ++ z ∷ []) (to_z-of_z w16 sample fits ∙ value ∙ ap (λ k. pos (level k)) same)
 
-more : (writes : List SoundWrite) (m : ℕ) → samples writes (m + 1) ≡ samples writes m ++ (if m % 32 == 0 then pos (level (played writes (m + 1))) ∷ [] else [])
+more : (writes : List SoundWrite) (m : ℕ) → samples writes (m + 1) ≡ samples writes m ++ (if m % 32 == 0 then pos (level (chip_before_step writes (m + 1))) ∷ [] else [])
 unfolding samples
 more writes m = rw add-one refl
 
-one : (writes : List SoundWrite) (m : ℕ) → m % 32 ≡ 0 → samples writes (m + 1) ≡ samples writes m ++ pos (level (played writes (m + 1))) ∷ []
+one : (writes : List SoundWrite) (m : ℕ) → m % 32 ≡ 0 → samples writes (m + 1) ≡ samples writes m ++ pos (level (chip_before_step writes (m + 1))) ∷ []
 one writes m whole = more writes m ∙ rw (test_true (m % 32) 0 whole) refl
 
 none : (writes : List SoundWrite) (m n : ℕ) → n ≡ m + 1 → m % 32 ≢ 0 → samples writes n ≡ samples writes m
 none writes m n is part = ap (samples writes) is ∙ more writes m ∙ rw (test_false (m % 32) 0 part) (append-nil (samples writes m))
 
 -- up to the next clock there is none but that of the clock's step
-pub sampled : (writes : List SoundWrite) (q : ℕ) → q % 8 ≡ 0 → samples writes (4 * (q + 1)) ≡ samples writes (4 * q) ++ pos (level (played writes (4 * q + 1))) ∷ []
+pub sampled : (writes : List SoundWrite) (q : ℕ) → q % 8 ≡ 0 → samples writes (4 * (q + 1)) ≡ samples writes (4 * q) ++ pos (level (chip_before_step writes (4 * q + 1))) ∷ []
 sampled writes q whole =
     none writes (4 * q + 3) (4 * (q + 1)) (omega arith) (λ e. omega (arith, e)) ∙ none writes (4 * q + 2) (4 * q + 3) (omega arith) (λ e. omega (arith, e))
     ∙ none writes (4 * q + 1) (4 * q + 2) (omega arith) (λ e. omega (arith, e)) ∙ one writes (4 * q) (omega arith)

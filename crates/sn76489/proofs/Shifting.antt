@@ -2,7 +2,7 @@
 use Rattle.std.proofs.Common.{◌≡◌, ◌≢◌, ◌∙◌, sym, ap, refl, ℕ, zero, suc, ◌+◌, ◌/◌, ◌%◌, Bool, arith, inl, inr}
 use Rattle.std.proofs.lemmas.Bool.{cases_eq}
 use Rattle.sn76489.specs.State.{State, Noise}
-use Rattle.sn76489.specs.Clock.{rises, is_white, shift_clocks, shifted, noise_clocked, clocks}
+use Rattle.sn76489.specs.Clock.{rises, is_white, shift_clocks, shift_leaves, noise_clock_leaves, clocks}
 use Rattle.sn76489.specs.Laws.{shifts, NoiseShiftsInTime}
 use Rattle.sn76489.proofs.Playing.{test_true, test_false}
 
@@ -54,21 +54,21 @@ each_128 = record {
 is_each : (rate : ℕ) → IsEach (shift_clocks rate)
 is_each rate = of_each IsEach each_32 each_64 each_128 rate
 
-shift_behind : (white : Bool) (n r : ℕ) → shifts white (suc n) r ≡ shifted white (shifts white n r)
+shift_behind : (white : Bool) (n r : ℕ) → shifts white (suc n) r ≡ shift_leaves white (shifts white n r)
 unfolding shifts
 shift_behind white zero r = refl
-shift_behind white (suc n) r = shift_behind white n (shifted white r)
+shift_behind white (suc n) r = shift_behind white n (shift_leaves white r)
 
 with_register : ℕ → Noise → Noise
 with_register r n = record n { register = r }
 
 shifts_now : (number : ℕ) (rises : Bool) (r : ℕ) (n : Noise) → n.control % 4 ≢ 3 → number % shift_clocks (n.control % 4) ≡ 0 →
-    noise_clocked number rises (with_register r n) ≡ with_register (shifted (is_white n) r) n
+    noise_clock_leaves number rises (with_register r n) ≡ with_register (shift_leaves (is_white n) r) n
 unfolding with_register
 shifts_now number rises r n slow now = rw (test_false (n.control % 4) 3 slow, test_true (number % shift_clocks (n.control % 4)) 0 now) refl
 
 stays_now : (number : ℕ) (rises : Bool) (r : ℕ) (n : Noise) → n.control % 4 ≢ 3 → number % shift_clocks (n.control % 4) ≢ 0 →
-    noise_clocked number rises (with_register r n) ≡ with_register r n
+    noise_clock_leaves number rises (with_register r n) ≡ with_register r n
 unfolding with_register
 stays_now number rises r n slow not_now = rw (test_false (n.control % 4) 3 slow, test_false (number % shift_clocks (n.control % 4)) 0 not_now) refl
 
@@ -98,7 +98,7 @@ at_first c =
 
 -- one clock more
 next_noise : (n : ℕ) (c : State) (number : ℕ) (rises : Bool) → c.noise.control % 4 ≢ 3 → number % each_of c ≡ (c.count % each_of c + suc n) % each_of c →
-    noise_clocked number rises (with_register (register_of n c) c.noise) ≡ with_register (register_of (suc n) c) c.noise
+    noise_clock_leaves number rises (with_register (register_of n c) c.noise) ≡ with_register (register_of (suc n) c) c.noise
 unfolding each_of count_of register_of
 next_noise n c number rises slow is =
     let e = is_each (c.noise.control % 4) in
@@ -121,7 +121,7 @@ in_time (suc n) c slow =
     let d = clocks n c in
     let e = is_each (c.noise.control % 4) in
     record {
-      noise = ap (noise_clocked ((d.count + 1) % 128) (rises d.tone3)) before.noise
+      noise = ap (noise_clock_leaves ((d.count + 1) % 128) (rises d.tone3)) before.noise
           ∙ next_noise n c ((d.count + 1) % 128) (rises d.tone3) slow (e.number c.count n d.count before.count);
       count = e.counts c.count n d.count before.count;
     }

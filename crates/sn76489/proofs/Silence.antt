@@ -2,7 +2,7 @@
 use Rattle.std.proofs.Common.{◌≡◌, ◌∙◌, ap, refl, ℕ, zero, suc, ◌+◌, ◌-◌, ◌%◌, Bool, true, false}
 use Rattle.std.specs.Prelude.{nat_le, not, if◌then◌else◌}
 use Rattle.sn76489.specs.State.{State, Tone, Noise}
-use Rattle.sn76489.specs.Clock.{period_clocks, rises, is_white, shifted, shifts_at, clocked, clocks}
+use Rattle.sn76489.specs.Clock.{period_clocks, rises, is_white, shift_leaves, shifts_at, clock_leaves, clocks}
 use Rattle.sn76489.specs.Level.{loudness, noise_output}
 use Rattle.sn76489.specs.Laws.{OfEachTone, IsSilentAt15, NoiseIsSilentAt15}
 
@@ -18,13 +18,13 @@ tone_by : (out : Bool) (t : Tone) →
 tone_by true t = refl
 tone_by false t = refl
 
-noise_by : (shifts : Bool) (n : Noise) → (if shifts then record n { register = shifted (is_white n) n.register } else n).volume ≡ n.volume
+noise_by : (shifts : Bool) (n : Noise) → (if shifts then record n { register = shift_leaves (is_white n) n.register } else n).volume ≡ n.volume
 noise_by true n = refl
 noise_by false n = refl
 
 -- a tone of the chip keeps its volume
 Keeps : (State → Tone) → Type 0
-Keeps tone = (c : State) → (tone (clocked c)).volume ≡ (tone c).volume
+Keeps tone = (c : State) → (tone (clock_leaves c)).volume ≡ (tone c).volume
 
 volume_stays : (tone : State → Tone) (n : ℕ) (c : State) → Keeps tone → (tone (clocks n c)).volume ≡ (tone c).volume
 unfolding Keeps clocks

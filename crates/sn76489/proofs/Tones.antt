@@ -4,8 +4,8 @@ use Rattle.std.specs.Prelude.{nat_le}
 use Rattle.std.proofs.lemmas.Bool.{cases_lt, cases_eq}
 use Rattle.std.proofs.Math.Nat.{add-mod_left, mod-eq_of_lt}
 use Rattle.sn76489.specs.State.{State, Tone}
-use Rattle.sn76489.specs.Clock.{period_clocks, tone_clocked, clocked, clocks}
-use Rattle.sn76489.specs.Laws.{OfEachTone, turned, turns_at, TurnsOver, TurnsAtPeriod0, TurnsAtPeriod1}
+use Rattle.sn76489.specs.Clock.{period_clocks, tone_clock_leaves, clock_leaves, clocks}
+use Rattle.sn76489.specs.Laws.{OfEachTone, output_after, turns_at, TurnsOver, TurnsAtPeriod0, TurnsAtPeriod1}
 use Rattle.sn76489.proofs.Catching.{le_true, le_false}
 use Rattle.sn76489.proofs.Playing.{test_true, test_false}
 use Rattle.sn76489.proofs.Runs.{one_clock_more}
@@ -13,17 +13,17 @@ use Rattle.sn76489.proofs.Runs.{one_clock_more}
 -- n clocks of a tone by itself
 after : ℕ → Tone → Tone
 after zero t = t
-after (suc n) t = after n (tone_clocked t)
+after (suc n) t = after n (tone_clock_leaves t)
 
-after_behind : (n : ℕ) (t : Tone) → after n (tone_clocked t) ≡ tone_clocked (after n t)
+after_behind : (n : ℕ) (t : Tone) → after n (tone_clock_leaves t) ≡ tone_clock_leaves (after n t)
 unfolding after
 after_behind zero t = refl
-after_behind (suc n) t = after_behind n (tone_clocked t)
+after_behind (suc n) t = after_behind n (tone_clock_leaves t)
 
-runs_out : (t : Tone) → t.counter ≤ 1 → tone_clocked t ≡ record t { output = not t.output; counter = period_clocks t.period }
+runs_out : (t : Tone) → t.counter ≤ 1 → tone_clock_leaves t ≡ record t { output = not t.output; counter = period_clocks t.period }
 runs_out t low = rw (le_true t.counter 1 low) refl
 
-counts : (t : Tone) → 1 < t.counter → tone_clocked t ≡ record t { counter = t.counter - 1 }
+counts : (t : Tone) → 1 < t.counter → tone_clock_leaves t ≡ record t { counter = t.counter - 1 }
 counts t high = rw (le_false t.counter 1 high) refl
 
 some_clocks : (period : ℕ) → 0 < period_clocks period
@@ -73,7 +73,7 @@ unfolding turns
 by_parts n t = refl
 
 -- the turns of a tone one clock on are its own
-same_turns : (n : ℕ) (t : Tone) → 0 < n → turns_at n (tone_clocked t) ≡ turns_at (n + 1) t
+same_turns : (n : ℕ) (t : Tone) → 0 < n → turns_at n (tone_clock_leaves t) ≡ turns_at (n + 1) t
 same_turns n t some = elim (cases_lt 1 t.counter) [
   | inl high ↦
       let one : max (t.counter - 1) 1 ≡ t.counter - 1 = omega arith in
@@ -89,41 +89,41 @@ same_turns n t some = elim (cases_lt 1 t.counter) [
       ∙ ap (λ k. turns k (period_clocks t.period) (n + 1)) (sym one) ∙ sym (by_parts (n + 1) t)
 ]
 
-first_turn : (t : Tone) → (tone_clocked t).output ≡ turned (turns_at 1 t) t.output
+first_turn : (t : Tone) → (tone_clock_leaves t).output ≡ output_after (turns_at 1 t) t.output
 unfolding turns
 first_turn t = elim (cases_lt 1 t.counter) [
   | inl high ↦
       let most : max t.counter 1 ≡ t.counter = omega arith in
-      ap (λ (s : Tone). s.output) (counts t high) ∙ sym (ap (λ b. turned b t.output) (by_parts 1 t ∙ not_early (max t.counter 1) (period_clocks t.period) 1 (omega arith)))
+      ap (λ (s : Tone). s.output) (counts t high) ∙ sym (ap (λ b. output_after b t.output) (by_parts 1 t ∙ not_early (max t.counter 1) (period_clocks t.period) 1 (omega arith)))
   | inr low ↦
       let one : max t.counter 1 ≡ 1 = omega arith in
       let none : 0 % period_clocks t.period ≡ 0 = mod-eq_of_lt (some_clocks t.period) in
       ap (λ (s : Tone). s.output) (runs_out t low)
-      ∙ sym (ap (λ b. turned b t.output) (by_parts 1 t ∙ ap (λ k. turns k (period_clocks t.period) 1) one ∙ late 1 (period_clocks t.period) 1 (omega arith) ∙ test_true _ 0 none))
+      ∙ sym (ap (λ b. output_after b t.output) (by_parts 1 t ∙ ap (λ k. turns k (period_clocks t.period) 1) one ∙ late 1 (period_clocks t.period) 1 (omega arith) ∙ test_true _ 0 none))
 ]
 
-turns_each : (n : ℕ) (t : Tone) → (tone_clocked (after n t)).output ≡ turned (turns_at (n + 1) t) (after n t).output
+turns_each : (n : ℕ) (t : Tone) → (tone_clock_leaves (after n t)).output ≡ output_after (turns_at (n + 1) t) (after n t).output
 unfolding after
 turns_each zero t = first_turn t
 turns_each (suc n) t =
     let e : suc n + 1 ≡ n + 1 + 1 = omega arith in
-    turns_each n (tone_clocked t) ∙ ap (λ b. turned b (after n (tone_clocked t)).output) (same_turns (n + 1) t (omega arith) ∙ ap (λ k. turns_at k t) (sym e))
+    turns_each n (tone_clock_leaves t) ∙ ap (λ b. output_after b (after n (tone_clock_leaves t)).output) (same_turns (n + 1) t (omega arith) ∙ ap (λ k. turns_at k t) (sym e))
 
 -- a tone of the chip goes by itself
 IsTone : (State → Tone) → Type 0
-IsTone tone = (c : State) → tone (clocked c) ≡ tone_clocked (tone c)
+IsTone tone = (c : State) → tone (clock_leaves c) ≡ tone_clock_leaves (tone c)
 
 by_itself : (tone : State → Tone) (n : ℕ) (c : State) → IsTone tone → tone (clocks n c) ≡ after n (tone c)
 unfolding IsTone clocks after
 by_itself tone zero c is = refl
-by_itself tone (suc n) c is = is (clocks n c) ∙ ap tone_clocked (by_itself tone n c is) ∙ sym (after_behind n (tone c))
+by_itself tone (suc n) c is = is (clocks n c) ∙ ap tone_clock_leaves (by_itself tone n c is) ∙ sym (after_behind n (tone c))
 
 one_turns : (tone : State → Tone) → IsTone tone → TurnsOver tone
 unfolding IsTone
 one_turns tone is c n =
     let here = by_itself tone n c is in
-    ap (λ (d : State). (tone d).output) (one_clock_more n c) ∙ ap (λ (t : Tone). t.output) (is (clocks n c) ∙ ap tone_clocked here) ∙ turns_each n (tone c)
-    ∙ ap (λ (t : Tone). turned (turns_at (n + 1) (tone c)) t.output) (sym here)
+    ap (λ (d : State). (tone d).output) (one_clock_more n c) ∙ ap (λ (t : Tone). t.output) (is (clocks n c) ∙ ap tone_clock_leaves here) ∙ turns_each n (tone c)
+    ∙ ap (λ (t : Tone). output_after (turns_at (n + 1) (tone c)) t.output) (sym here)
 
 is_tone1 : IsTone (λ c. c.tone1)
 unfolding IsTone
@@ -155,13 +155,13 @@ from_first n clocks t low are =
 at_period_0 : (tone : State → Tone) → TurnsOver tone → TurnsAtPeriod0 tone
 at_period_0 tone over c n is low =
     let are : period_clocks (tone c).period ≡ 1024 = ap period_clocks is in
-    over c n ∙ ap (λ b. turned b (tone (clocks n c)).output) (from_first n 1024 (tone c) low are)
+    over c n ∙ ap (λ b. output_after b (tone (clocks n c)).output) (from_first n 1024 (tone c) low are)
 
 at_period_1 : (tone : State → Tone) → TurnsOver tone → TurnsAtPeriod1 tone
 at_period_1 tone over c n is low =
     let are : period_clocks (tone c).period ≡ 1 = ap period_clocks is in
     let each : n % 1 ≡ 0 = omega arith in
-    over c n ∙ ap (λ b. turned b (tone (clocks n c)).output) (from_first n 1 (tone c) low are ∙ test_true (n % 1) 0 each)
+    over c n ∙ ap (λ b. output_after b (tone (clocks n c)).output) (from_first n 1 (tone c) low are ∙ test_true (n % 1) 0 each)
 
 pub all_turn_at_0 : OfEachTone TurnsAtPeriod0
 all_turn_at_0 = record {

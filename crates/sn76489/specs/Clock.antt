@@ -9,14 +9,14 @@ abbrev pub period_clocks : ℕ → ℕ
 period_clocks period = if period == 0 then 1024 else period
 
 -- A counter that is at most 1 runs out: the output turns over, and the counter begins again.
-abbrev pub tone_clocked : Tone → Tone
-tone_clocked t =
+abbrev pub tone_clock_leaves : Tone → Tone
+tone_clock_leaves t =
     if nat_le t.counter 1 then record t { output = not t.output; counter = period_clocks t.period }
     else record t { counter = t.counter - 1 }
 
 -- a tone's output becomes 1 in the next clock
 abbrev pub rises : Tone → Bool
-rises t = not t.output && (tone_clocked t).output
+rises t = not t.output && (tone_clock_leaves t).output
 
 -- how many clocks there are from one shift to the next, at rates 0, 1 and 2
 abbrev pub shift_clocks : ℕ → ℕ
@@ -26,28 +26,28 @@ abbrev pub is_white : Noise → Bool
 is_white n = bit n.control 2
 
 -- A shift to the right: bit 14 becomes what bit 0 was, or for white noise bits 0 and 1 by exclusive or.
-abbrev pub shifted : Bool → ℕ → ℕ
-shifted white register = register / 2 + 0x4000 * (if white then (register + register / 2) % 2 else register % 2)
+abbrev pub shift_leaves : Bool → ℕ → ℕ
+shift_leaves white register = register / 2 + 0x4000 * (if white then (register + register / 2) % 2 else register % 2)
 
 -- the noise shifts in the clock of this number, counted from the chip's first, in which tone 3 rises or not
 abbrev pub shifts_at : ℕ → Bool → Noise → Bool
 shifts_at number tone3_rises n = if n.control % 4 == 3 then tone3_rises else number % shift_clocks (n.control % 4) == 0
 
-abbrev pub noise_clocked : ℕ → Bool → Noise → Noise
-noise_clocked number tone3_rises n =
-    if shifts_at number tone3_rises n then record n { register = shifted (is_white n) n.register } else n
+abbrev pub noise_clock_leaves : ℕ → Bool → Noise → Noise
+noise_clock_leaves number tone3_rises n =
+    if shifts_at number tone3_rises n then record n { register = shift_leaves (is_white n) n.register } else n
 
 -- One clock.
-abbrev pub clocked : State → State
-clocked c = record c {
-  tone1 = tone_clocked c.tone1;
-  tone2 = tone_clocked c.tone2;
-  tone3 = tone_clocked c.tone3;
-  noise = noise_clocked ((c.count + 1) % 128) (rises c.tone3) c.noise;
+abbrev pub clock_leaves : State → State
+clock_leaves c = record c {
+  tone1 = tone_clock_leaves c.tone1;
+  tone2 = tone_clock_leaves c.tone2;
+  tone3 = tone_clock_leaves c.tone3;
+  noise = noise_clock_leaves ((c.count + 1) % 128) (rises c.tone3) c.noise;
   count = (c.count + 1) % 128;
 }
 
 -- n clocks
 unfoldable pub clocks : ℕ → State → State
 clocks zero c = c
-clocks (suc n) c = clocked (clocks n c)
+clocks (suc n) c = clock_leaves (clocks n c)

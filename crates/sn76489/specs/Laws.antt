@@ -1,7 +1,7 @@
 -- What the voices do over whole runs of clocks without a write. (SN76489AN data sheet, Tone Generators, Noise Generator and Attenuators.)
 use Rattle.std.specs.Prelude.{ℕ, zero, suc, max, ◌+◌, ◌-◌, ◌/◌, ◌%◌, ◌==◌, ◌≡◌, ◌≢◌, ◌≤◌, ◌&&◌, nat_le, Bool, not, if◌then◌else◌}
 use Rattle.sn76489.specs.State.{State, Tone, start}
-use Rattle.sn76489.specs.Clock.{period_clocks, is_white, shift_clocks, shifted, clocks}
+use Rattle.sn76489.specs.Clock.{period_clocks, is_white, shift_clocks, shift_leaves, clocks}
 use Rattle.sn76489.specs.Level.{loudness, noise_output}
 
 -- what holds of each of the three tones
@@ -11,8 +11,8 @@ pub record OfEachTone (P : (State → Tone) → Type 0) : Type 0 where
   pub tone3 : P (λ c. c.tone3)
 
 -- an output, which turns over or does not
-abbrev pub turned : Bool → Bool → Bool
-turned turns output = if turns then not output else output
+abbrev pub output_after : Bool → Bool → Bool
+output_after turns output = if turns then not output else output
 
 -- The clock of this number, counted from 1 from now on, turns a tone over: the first is that which its counter tells, and from then on it is
 -- one in each period.
@@ -22,13 +22,13 @@ turns_at n t = nat_le (max t.counter 1) n && ((n - max t.counter 1) % period_clo
 abbrev pub TurnsOver : (State → Tone) → Type 0
 TurnsOver tone =
     (c : State) (n : ℕ) →
-    (tone (clocks (n + 1) c)).output ≡ turned (turns_at (n + 1) (tone c)) (tone (clocks n c)).output
+    (tone (clocks (n + 1) c)).output ≡ output_after (turns_at (n + 1) (tone c)) (tone (clocks n c)).output
 
 -- A period of 0 is one of 1,024: such a tone, whose counter has run out, turns over in the first clock and then in each 1,024th.
 abbrev pub TurnsAtPeriod0 : (State → Tone) → Type 0
 TurnsAtPeriod0 tone =
     (c : State) (n : ℕ) → (tone c).period ≡ 0 → (tone c).counter ≤ 1 →
-    (tone (clocks (n + 1) c)).output ≡ turned (n % 1024 == 0) (tone (clocks n c)).output
+    (tone (clocks (n + 1) c)).output ≡ output_after (n % 1024 == 0) (tone (clocks n c)).output
 
 -- One of period 1 turns over in each clock.
 abbrev pub TurnsAtPeriod1 : (State → Tone) → Type 0
@@ -39,7 +39,7 @@ TurnsAtPeriod1 tone =
 -- n shifts of a register
 unfoldable pub shifts : Bool → ℕ → ℕ → ℕ
 shifts white zero register = register
-shifts white (suc n) register = shifts white n (shifted white register)
+shifts white (suc n) register = shifts white n (shift_leaves white register)
 
 -- how many shifts there are until the register is again as it began
 abbrev pub cycle : Bool → ℕ

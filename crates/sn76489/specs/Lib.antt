@@ -4,5 +4,5 @@ pub mod Clock
 pub mod Level
 pub mod Samples
 pub mod Wav
-pub mod Pending
+pub mod CodeWrites
 pub mod Laws

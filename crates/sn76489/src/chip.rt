@@ -2,7 +2,7 @@
 ghost use Rattle.std.specs.Prelude.{◌≡◌, ◌<◌, pos};
 ghost use Rattle.sn76489.specs.State.{power_on};
 ghost use Rattle.sn76489.specs.Writes.{register_written, write_leaves};
-ghost use Rattle.sn76489.specs.Clock.{clocked, clocks};
+ghost use Rattle.sn76489.specs.Clock.{clock_leaves, clocks};
 ghost use Rattle.sn76489.specs.Level.{level};
 
 use crate::noise::Noise;
@@ -85,7 +85,7 @@ impl Sound {
 
     /// Does one clock: tones 1, 2 and 3, and then the noise.
     pub fn clock(&mut self)
-        ensures { self.new ≡ clocked self.old }
+        ensures { self.new ≡ clock_leaves self.old }
     {
         self.tone1.clock();
         self.tone2.clock();

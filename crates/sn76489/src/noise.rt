@@ -2,7 +2,7 @@
 ghost use Rattle.std.specs.Prelude.{◌≡◌, ◌<◌, ◌≤◌};
 ghost use Rattle.sn76489.specs.State.{power_on};
 ghost use Rattle.sn76489.specs.Writes.{noise_with_control, noise_with_volume};
-ghost use Rattle.sn76489.specs.Clock.{shift_clocks, shifts_at, shifted, noise_clocked};
+ghost use Rattle.sn76489.specs.Clock.{shift_clocks, shifts_at, shift_leaves, noise_clock_leaves};
 ghost use Rattle.sn76489.specs.Level.{noise_output, loudness};
 
 use crate::tone::loudness;
@@ -45,7 +45,7 @@ fn shift_clocks(rate: u8) -> u8
 // The register after a shift.
 fn shifted(white: bool, register: u16) -> u16
     requires { register < 32768 }
-    ensures value { result ≡ shifted white register }
+    ensures value { result ≡ shift_leaves white register }
     ensures bound { result < 32768 }
 {
     let entering = if white {
@@ -80,7 +80,7 @@ impl Noise {
 
     /// Does the clock of this number, in which tone 3 rises or not.
     pub(crate) fn clock(&mut self, number: u8, tone3_rises: bool)
-        ensures { self.new ≡ noise_clocked number tone3_rises self.old }
+        ensures { self.new ≡ noise_clock_leaves number tone3_rises self.old }
     {
         if self.shifts_at(number, tone3_rises) {
             self.register = shifted(bit(self.control, 2), self.register);

@@ -1,7 +1,7 @@
 //! What is heard of a list of writes.
 ghost use Rattle.std.specs.Prelude.{◌≡◌, ◌≤◌, ◌^◌, IfOk};
 ghost use Rattle.sn76489.specs.Samples.{NeverFallFrom, samples};
-ghost use Rattle.sn76489.specs.Pending.{caught_up, pending};
+ghost use Rattle.sn76489.specs.CodeWrites.{caught_up, pending_writes};
 
 use crate::SoundWrite;
 use crate::chip::Sound;
@@ -12,7 +12,7 @@ impl Sound {
     // Does the writes up to this moment, and answers those that are left.
     fn catch_up<'a>(&mut self, writes: &'a [SoundWrite], moment: u64) -> &'a [SoundWrite]
         ensures chip { self.new ≡ caught_up moment writes.now self.old }
-        ensures left { result.now ≡ pending moment writes.now }
+        ensures left { result.now ≡ pending_writes moment writes.now }
     {
         let mut left = writes;
         while let Some((first, behind)) = left.split_first() {

@@ -2,7 +2,7 @@
 ghost use Rattle.std.specs.Prelude.{◌≡◌, ◌<◌, ◌≤◌};
 ghost use Rattle.sn76489.specs.State.{silent_tone};
 ghost use Rattle.sn76489.specs.Writes.{tone_with_period, tone_with_volume};
-ghost use Rattle.sn76489.specs.Clock.{tone_clocked, rises, period_clocks};
+ghost use Rattle.sn76489.specs.Clock.{tone_clock_leaves, rises, period_clocks};
 ghost use Rattle.sn76489.specs.Level.{loudness};
 
 use beeb_bits::bit;
@@ -67,7 +67,7 @@ impl Tone {
 
     /// Does a clock, and answers whether the output became 1.
     pub(crate) fn clock(&mut self) -> bool
-        ensures tone { self.new ≡ tone_clocked self.old }
+        ensures tone { self.new ≡ tone_clock_leaves self.old }
         ensures rises { result ≡ rises self.old }
     {
         if self.counter > 1 {

@@ -8,7 +8,7 @@ use Rattle.beeb_bits.specs.declared.Side.TheVariants.{Host, Para}
 use Rattle.tube_chip.specs.State.{State}
 use Rattle.tube_chip.specs.Act.{Query}
 use Rattle.tube_chip.specs.Events.{Event, merge, after, IsLegal}
-use Rattle.tube_cell.specs.Views.{Known, own_bound, past_last, below, is_access, is_observation, done, Answers, same_readings, trust_past, trust_after}
+use Rattle.tube_cell.specs.Views.{Known, own_bound, past_last, below, is_access, is_observation, chip_after_event, Answers, same_readings, trust_past, trust_after}
 use Rattle.tube_cell.specs.Rules.{Climbs, HostFine, ParaFine, Good, Trusts, Knows}
 use Rattle.tube_cell.specs.Steps.{Runs, Watches}
 use Rattle.tube_cell.proofs.Observed.{observed_stays, ShowsSame, readings_from}
@@ -46,8 +46,8 @@ climbs_below n t (x ∷ xs) h = elim (nat_lt x.tick t) as (λ b. Climbs n (cond 
 
 -- ---- the host's event
 
-after_end : (c : State) (k : Known) (host para list : List Event) (e : Event) → k.chip ≡ after (merge host para) → list ≡ merge host para ++ e ∷ [] → c ≡ done k.chip e → c ≡ after list
-after_end c k host para list e chip is now = now ∙ ap (λ (d : State). done d e) chip ∙ sym (after-on _ (merge host para) e) ∙ sym (ap after is)
+after_end : (c : State) (k : Known) (host para list : List Event) (e : Event) → k.chip ≡ after (merge host para) → list ≡ merge host para ++ e ∷ [] → c ≡ chip_after_event k.chip e → c ≡ after list
+after_end c k host para list e chip is now = now ∙ ap (λ (d : State). chip_after_event d e) chip ∙ sym (after-on _ (merge host para) e) ∙ sym (ap after is)
 
 host_fine : (k : Known) (n : Known) (host : List Event) (e : Event) → HostFine k host → e.side ≡ Host → past_last host ≤ e.tick → k.host ≤ n.host → (is_access e.query ≡ true → e.tick < n.host) → e.tick ≤ own_bound Para n
     → ((t : ℕ) → t ≤ e.tick → t ≤ own_bound Para k → t ≤ own_bound Para n) → HostFine n (host ++ e ∷ [])
@@ -88,16 +88,16 @@ early_of k t para fine le i d lt a = let h = (fine.changes i d lt a).1 in omega 
 
 -- these words once the host did an event, at this own word and trust
 abbrev pub host_next : Known → Event → ℕ → ℕ → Known
-host_next k e m trust = record { chip = done k.chip e; host = m; para = k.para; trust = trust }
+host_next k e m trust = record { chip = chip_after_event k.chip e; host = m; para = k.para; trust = trust }
 
 -- an event of the host that shows the parasite the same as before
 pub good_calm : (k : Known) (host para : List Event) (e : Event) (m : ℕ) → Good k host para → e.side ≡ Host → k.host ≤ e.tick → past_last host ≤ e.tick → e.tick ≤ own_bound Para k → Answers k.chip e → k.host ≤ m
-    → (is_access e.query ≡ true → e.tick < m) → ShowsSame k.chip (done k.chip e) → Good (host_next k e m k.trust) (host ++ e ∷ []) para
+    → (is_access e.query ≡ true → e.tick < m) → ShowsSame k.chip (chip_after_event k.chip e) → Good (host_next k e m k.trust) (host ++ e ∷ []) para
 good_calm k host para e m good is from late admitted answers up low same =
     let r = legal_placed host para e is (low_of e.tick host good.host_fine.climbs late) good.para_fine.sided (early_of k e.tick para good.para_fine from) good.legal
-    (subst (λ (d : State). Answers d e) good.chip_is answers) (subst (λ (d : State). ShowsSame d (done d e)) good.chip_is same) in
+    (subst (λ (d : State). Answers d e) good.chip_is answers) (subst (λ (d : State). ShowsSame d (chip_after_event d e)) good.chip_is same) in
     record {
-      chip_is = ap (λ (d : State). done d e) good.chip_is ∙ sym r.1;
+      chip_is = ap (λ (d : State). chip_after_event d e) good.chip_is ∙ sym r.1;
       legal = r.0;
       host_fine = host_fine k (host_next k e m k.trust) host e good.host_fine is late up low admitted (λ t le h. h);
       para_fine = para_kept k (host_next k e m k.trust) para good.para_fine (omega arith) up (omega arith);
@@ -110,7 +110,7 @@ good_cut k host para e m good is from late admitted answers low =
     let n = host_next k e m (min k.trust e.tick) in
     let r = legal_cut host para e (low_of e.tick host good.host_fine.climbs late) (early_of k e.tick para good.para_fine from) good.legal (subst (λ (d : State). Answers d e) good.chip_is answers) in
     record {
-      chip_is = ap (λ (d : State). done d e) good.chip_is ∙ sym r.1;
+      chip_is = ap (λ (d : State). chip_after_event d e) good.chip_is ∙ sym r.1;
       legal = r.0;
       host_fine = host_fine k n host e good.host_fine is late (omega arith) (λ a. low) (omega arith) (λ t le h. omega arith);
       para_fine = para_cut k n e.tick para good.para_fine (omega arith) (omega arith) low refl;
@@ -134,7 +134,7 @@ para_before para e climbs late = All-weaker (λ x. x.tick < e.tick) (Precedes e)
 
 -- these words once the parasite did an event, at this own word and trust
 abbrev pub para_next : Known → Event → ℕ → ℕ → Known
-para_next k e m trust = record { chip = done k.chip e; host = k.host; para = m; trust = trust }
+para_next k e m trust = record { chip = chip_after_event k.chip e; host = k.host; para = m; trust = trust }
 
 pub good_para : (k : Known) (host para : List Event) (e : Event) (m a : ℕ) → Good k host para → e.side ≡ Para → own_bound Para k ≤ e.tick → past_last para ≤ e.tick → Answers k.chip e → k.para ≤ m → k.trust ≤ a
     → (is_access e.query ≡ true → e.tick < max m a) → (is_access e.query ≡ true → e.tick < max k.host a) → (is_observation e.query ≡ false → (e.tick < m) × (e.tick < k.host))
@@ -145,7 +145,7 @@ good_para k host para e m a good is from late answers up trust_up low admitted c
     let joined = joins_para host para e first in
     let fine = para_kept k (para_next k e m a) para good.para_fine up (omega arith) trust_up in
     record {
-      chip_is = after_end (done k.chip e) k host para (merge host (para ++ e ∷ [])) e good.chip_is joined refl;
+      chip_is = after_end (chip_after_event k.chip e) k host para (merge host (para ++ e ∷ [])) e good.chip_is joined refl;
       legal = subst IsLegal (sym joined) (legal_end host para e first second good.legal (subst (λ (d : State). Answers d e) good.chip_is answers));
       host_fine = record {
         sided = good.host_fine.sided;
@@ -214,11 +214,11 @@ taken_back h a t m le lt =
 host_event : (k : Known) (host para : List Event) (e : Event) → Good k host para → e.side ≡ Host → k.host ≤ e.tick → past_last host ≤ e.tick → e.tick ≤ own_bound Para k → Answers k.chip e
     → HostStep k (host_next k e (e.tick + 1) (trust_past Host k.chip e k.trust)) host para (host ++ e ∷ [])
 host_event k host para e good is from late admitted answers =
-    (elim (same_readings k.chip (done k.chip e)) as (λ b. same_readings k.chip (done k.chip e) ≡ b
+    (elim (same_readings k.chip (chip_after_event k.chip e)) as (λ b. same_readings k.chip (chip_after_event k.chip e) ≡ b
     → HostStep k (host_next k e (e.tick + 1) (cond b k.trust (min k.trust e.tick))) host para (host ++ e ∷ [])) [
       | true ↦ λ h. record {
         rest = para;
-        good = good_calm k host para e (e.tick + 1) good is from late admitted answers (omega arith) (λ a. omega arith) (readings_from k.chip (done k.chip e) h);
+        good = good_calm k host para e (e.tick + 1) good is from late admitted answers (omega arith) (λ a. omega arith) (readings_from k.chip (chip_after_event k.chip e) h);
         para_word = refl;
         host_up = omega arith;
         trust = inl refl;
@@ -313,7 +313,7 @@ para_knows k n x knows para up trust idle =
 
 pub trust_after_para : (c : State) (a : ℕ) (es : List Event) → trust_after Para c a es ≡ a
 trust_after_para c a [] = refl
-trust_after_para c a (e ∷ es) = trust_after_para (done c e) a es
+trust_after_para c a (e ∷ es) = trust_after_para (chip_after_event c e) a es
 
 abbrev pub para_last : Known → State → ℕ → Known
 para_last k last end = record { chip = last; host = k.host; para = end; trust = k.trust }
@@ -334,7 +334,7 @@ para_runs (e ∷ es) k host para from last end good le late h =
 
 pub para_low : (o a from : ℕ) (c : State) (es : List Event) (last : State) (end : ℕ) → Runs Para o a from c es last end → All (λ e. e.tick < o) es
 para_low o a from c [] last end h = All-nil (λ e. e.tick < o)
-para_low o a from c (e ∷ es) last end h = let b = h.2 in All-cons (λ x. x.tick < o) e es (omega arith) (para_low o a (e.tick + 1) (done c e) es last end h.4)
+para_low o a from c (e ∷ es) last end h = let b = h.2 in All-cons (λ x. x.tick < o) e es (omega arith) (para_low o a (e.tick + 1) (chip_after_event c e) es last end h.4)
 
 pub para_idle : (o a from : ℕ) (c : State) (es : List Event) (last : State) (end : ℕ) → Runs Para o a from c es last end → o ≤ from → last ≡ c
 para_idle o a from c [] last end h le = h.0
@@ -343,15 +343,15 @@ para_idle o a from c (e ∷ es) last end h le = let f = h.1 in let b = h.2 in ab
 pub runs_end : (s : Side) (t a from : ℕ) (c : State) (es : List Event) (last : State) (end : ℕ) → Runs s t a from c es last end → from ≤ end
 runs_end s t a from c [] last end h = h.1
 runs_end s t a from c (e ∷ es) last end h =
-    let r = runs_end s t (trust_past s c e a) (e.tick + 1) (done c e) es last end h.4 in
+    let r = runs_end s t (trust_past s c e a) (e.tick + 1) (chip_after_event c e) es last end h.4 in
     let f = h.1 in
     omega arith
 
 pub runs_low : (s : Side) (t a from : ℕ) (c : State) (es : List Event) (last : State) (end : ℕ) → Runs s t a from c es last end → All (λ e. e.tick < end) es
 runs_low s t a from c [] last end h = All-nil (λ e. e.tick < end)
 runs_low s t a from c (e ∷ es) last end h =
-    let r = runs_end s t (trust_past s c e a) (e.tick + 1) (done c e) es last end h.4 in
-    All-cons (λ x. x.tick < end) e es (omega arith) (runs_low s t (trust_past s c e a) (e.tick + 1) (done c e) es last end h.4)
+    let r = runs_end s t (trust_past s c e a) (e.tick + 1) (chip_after_event c e) es last end h.4 in
+    All-cons (λ x. x.tick < end) e es (omega arith) (runs_low s t (trust_past s c e a) (e.tick + 1) (chip_after_event c e) es last end h.4)
 
 -- what the host's pass knows, once the parasite took its steps
 pub host_knows : (k n x : Known) → Knows Host k x → n.host ≡ k.host → k.para ≤ n.para → k.trust ≤ n.trust → (k.host ≤ own_bound Para k → n.chip ≡ k.chip) → Knows Host n x

@@ -13,9 +13,9 @@ use Rattle.beeb_bits.specs.declared.Side.TheVariants.{Host, Para}
 use Rattle.tube_chip.specs.State.{State, power_on}
 use Rattle.tube_chip.specs.Register.{empty}
 use Rattle.tube_chip.specs.Events.{Event, merge, after, IsLegal}
-use Rattle.tube_chip.specs.Packing.{packed, IsRegister, IsChip, PackingIsOneToOne}
-use Rattle.tube_cell.specs.Views.{Known, words_of, new_known, Role, undivided, one_side, rejoined, used, View, flip, other, own_bound, other_bound, pick, known_with, slack, Admits, admits, horizon, past_last, AllBelow, below, trust_after}
-use Rattle.tube_cell.specs.Rules.{Good, Knows, FitsAs, Kept, whole, spent, host_part, para_part, joined, GoesOn, firm, pending, found_view, published_view, Finds, Publishes, entrusted_view, Entrusts, told_view, PublishesAndEntrusts, added_view, look_at, looked_view, LooksAs, Looks, Ends}
+use Rattle.tube_chip.specs.Packing.{packed_words, IsRegister, IsChip, PackingIsOneToOne}
+use Rattle.tube_cell.specs.Views.{Known, words_of, new_known, Role, undivided, one_side, rejoined, used, View, flip, word_of_other, own_bound, other_bound, pick, known_with, slack, Admits, admits, horizon, past_last, AllBelow, below, trust_after}
+use Rattle.tube_cell.specs.Rules.{Good, Knows, FitsAs, Kept, whole, spent_view, host_part, para_part, joined_view, GoesOn, firm, pending_events, found_view, published_view, Finds, Publishes, entrusted_view, Entrusts, told_view, PublishesAndEntrusts, added_view, look_at, looked_view, LooksAs, Looks, Ends}
 use Rattle.tube_cell.specs.Steps.{Runs, Watches, MayPublish, MayLook, MayEntrust, MayPublishAndEntrust}
 use Rattle.tube_cell.proofs.Observed.{shows_itself}
 use Rattle.tube_cell.proofs.Law.{below_lies}
@@ -26,8 +26,8 @@ nat_le-true m n e = grind (arith, nat_tests)
 
 -- ---- words
 
-packed_long : (c : State) → length (packed c) ≡ 6
-unfolding packed
+packed_long : (c : State) → length (packed_words c) ≡ 6
+unfolding packed_words
 packed_long c = refl
 
 -- three words after a list
@@ -42,7 +42,7 @@ split_words (x ∷ xs) (y ∷ ys) a b c d e f same eq =
 -- the words tell what they stand for
 pub words-one : PackingIsOneToOne → (k l : Known) → IsChip k.chip → IsChip l.chip → words_of k ≡ words_of l → k ≡ l
 words-one one k l well well' e =
-    let r = split_words (packed k.chip) (packed l.chip) k.host k.para k.trust l.host l.para l.trust (packed_long k.chip ∙ sym (packed_long l.chip)) e in
+    let r = split_words (packed_words k.chip) (packed_words l.chip) k.host k.para k.trust l.host l.para l.trust (packed_long k.chip ∙ sym (packed_long l.chip)) e in
     let c = one k.chip l.chip well well' r.0 in
     λ i. record {
       chip = c i;
@@ -145,7 +145,7 @@ knows_all Para k well = record { well = well; own_word = refl; other_word = omeg
 goes_on : (s : Side) (k v : Known) → Knows s k v → GoesOn (one_side s) v k
 goes_on s k v knows = (sym knows.own_word, knows.other_word, knows.trust, knows.same_chip)
 
-settles : (k : Known) (mine trusted : List Event) → mine ++ below k.trust trusted ≡ (mine ++ firm k trusted) ++ below k.trust (pending k trusted)
+settles : (k : Known) (mine trusted : List Event) → mine ++ below k.trust trusted ≡ (mine ++ firm k trusted) ++ below k.trust (pending_events k trusted)
 settles k mine [] = sym (append-nil (mine ++ []))
 settles k mine (e ∷ es) = elim (nat_le k.trust k.host) as (λ b. mine ++ below k.trust (e ∷ es) ≡ (mine ++ cond b (below k.trust (e ∷ es)) []) ++ below k.trust (cond b [] (e ∷ es))) [
   | true ↦ sym (append-nil (mine ++ below k.trust (e ∷ es)))
@@ -163,7 +163,7 @@ firm_low k (x ∷ xs) =
     ]) refl
 
 fits_found : (s : Side) (k : Known) (a b : List Event) (hs ps : ℕ) (j : ℕ) (v : View) → IsChip k.chip → FitsAs k a b hs ps (one_side s) j v → FitsAs k a b hs ps (one_side s) j (found_view v k)
-fits_found Host k a b hs ps j v well f = (f.0, ap (λ l. v.mine ++ firm k l) f.2 ∙ append-nil v.mine ∙ f.1, ap (pending k) f.2, knows_all Host k well)
+fits_found Host k a b hs ps j v well f = (f.0, ap (λ l. v.mine ++ firm k l) f.2 ∙ append-nil v.mine ∙ f.1, ap (pending_events k) f.2, knows_all Host k well)
 fits_found Para k a b hs ps j v well f =
     (f.0, f.1 ∙ settles k v.mine v.trusted, All-append (λ e. e.tick < k.host) v.mine (firm k v.trusted) f.2 (firm_low k v.trusted), knows_all Para k well)
 
@@ -209,7 +209,7 @@ known_is one s words views k pass v at role is =
     words-one one v.known k.known (knows_of s k.known k.host k.para k.host_seat k.para_seat pass v fit).well k.well (sym is ∙ k.words_are)
 
 host_publishes : PackingIsOneToOne → (pass : ℕ) (v : View) (es : List Event) (last : State) (end : ℕ) (next : Known) → MayPublish Host es last end v → IsChip last
-    → next ≡ known_with Host last end (other Host v.known) (trust_after Host v.known.chip v.known.trust es)
+    → next ≡ known_with Host last end (word_of_other Host v.known) (trust_after Host v.known.chip v.known.trust es)
     → (words : List ℕ) (views : List View) (k : Kept words views) → get_elem? views pass ≡ some v → words ≡ words_of v.known
     → Kept (words_of next) (set views pass (published_view v es next))
 host_publishes one pass v es last end next may well with_is words views k at is =
@@ -234,7 +234,7 @@ host_publishes one pass v es last end next may well with_is words views k at is 
     (fit.0, ap (λ l. l ++ es) fit.1, may.none_trusted, knows_with Host n next well next_is)
 
 para_publishes : PackingIsOneToOne → (pass : ℕ) (v : View) (es : List Event) (last : State) (end : ℕ) (next : Known) → MayPublish Para es last end v → IsChip last
-    → next ≡ known_with Para last end (other Para v.known) (trust_after Para v.known.chip v.known.trust es)
+    → next ≡ known_with Para last end (word_of_other Para v.known) (trust_after Para v.known.chip v.known.trust es)
     → (words : List ℕ) (views : List View) (k : Kept words views) → get_elem? views pass ≡ some v → words ≡ words_of v.known
     → Kept (words_of next) (set views pass (published_view v es next))
 para_publishes one pass v es last end next may well with_is words views k at is =
@@ -245,7 +245,7 @@ para_publishes one pass v es last end next may well with_is words views k at is 
     let runs : Runs Para k.known.host k.known.trust (horizon (own_bound Para k.known) k.para) k.known.chip es last end =
     subst (λ (y : Known × List Event). Runs Para y.0.host y.0.trust (horizon (own_bound Para y.0) y.1) y.0.chip es last end) (λ i. (same i, bare i)) may.runs in
     let next_is : next ≡ n =
-    with_is ∙ ap (λ (t : ℕ). known_with Para last end (other Para v.known) t) (trust_after_para v.known.chip v.known.trust es) ∙ ap (λ (x : Known). para_last x last end) same in
+    with_is ∙ ap (λ (t : ℕ). known_with Para last end (word_of_other Para v.known) t) (trust_after_para v.known.chip v.known.trust es) ∙ ap (λ (x : Known). para_last x last end) same in
     let r = runs_end Para k.known.host k.known.trust (horizon (own_bound Para k.known) k.para) k.known.chip es last end runs in
     let good = para_runs es k.known k.host k.para (horizon (own_bound Para k.known) k.para) last end k.good (omega arith) (omega arith) runs in
     kept_step Para words (words_of next) views k pass v (published_view v es next) n k.host (k.para ++ es) at may.role
@@ -265,7 +265,7 @@ para_publishes one pass v es last end next may well with_is words views k at is 
     )
 
 pub publishes : PackingIsOneToOne → (s : Side) (pass : ℕ) (v : View) (es : List Event) (last : State) (end : ℕ) (next : Known) → MayPublish s es last end v → IsChip last
-    → next ≡ known_with s last end (other s v.known) (trust_after s v.known.chip v.known.trust es)
+    → next ≡ known_with s last end (word_of_other s v.known) (trust_after s v.known.chip v.known.trust es)
     → Turns Kept pass v (λ x. if pointwise nat_eq x (words_of v.known) then words_of next else x) (Publishes es next)
 publishes one Host pass v es last end next may well is = exchanges Host pass v (published_view v es next) (words_of next) may.role (host_publishes one pass v es last end next may well is)
 publishes one Para pass v es last end next may well is = exchanges Para pass v (published_view v es next) (words_of next) may.role (para_publishes one pass v es last end next may well is)
@@ -306,14 +306,14 @@ entrusts one pass v es end next may is = exchanges Para pass v (entrusted_view v
 -- ---- both at once: the rule is kept once some events are published, and then once others are on the list too
 
 both_hit : PackingIsOneToOne → (pass : ℕ) (v : View) (es seen : List Event) (last : State) (word end : ℕ) (next : Known) → MayPublishAndEntrust es last word seen end v → IsChip last
-    → next ≡ known_with Para last word (other Para v.known) end
+    → next ≡ known_with Para last word (word_of_other Para v.known) end
     → (words : List ℕ) (views : List View) (k : Kept words views) → get_elem? views pass ≡ some v → words ≡ words_of v.known
     → Kept (words_of next) (set views pass (told_view v es seen next))
 both_hit one pass v es seen last word end next may well with_is words views k at is =
-    let mid : Known = known_with Para last word (other Para v.known) v.known.trust in
+    let mid : Known = known_with Para last word (word_of_other Para v.known) v.known.trust in
     let u : View = published_view v es mid in
-    let mid_is : mid ≡ known_with Para last word (other Para v.known) (trust_after Para v.known.chip v.known.trust es) =
-    ap (λ (t : ℕ). known_with Para last word (other Para v.known) t) (sym (trust_after_para v.known.chip v.known.trust es)) in
+    let mid_is : mid ≡ known_with Para last word (word_of_other Para v.known) (trust_after Para v.known.chip v.known.trust es) =
+    ap (λ (t : ℕ). known_with Para last word (word_of_other Para v.known) t) (sym (trust_after_para v.known.chip v.known.trust es)) in
     let first : Kept (words_of mid) (set views pass u) = para_publishes one pass v es last word mid may.publish well mid_is words views k at is in
     let from = horizon (own_bound Para v.known) v.mine in
     let runs : Runs Para v.known.host v.known.trust from v.known.chip es last word = may.publish.runs in
@@ -331,7 +331,7 @@ both_hit one pass v es seen last word end next may well with_is words views k at
     subst (Kept (words_of next)) (set-set views pass u (told_view v es seen next)) second
 
 pub publishes_and_entrusts : PackingIsOneToOne → (pass : ℕ) (v : View) (es seen : List Event) (last : State) (word end : ℕ) (next : Known) → MayPublishAndEntrust es last word seen end v → IsChip last
-    → next ≡ known_with Para last word (other Para v.known) end
+    → next ≡ known_with Para last word (word_of_other Para v.known) end
     → Turns Kept pass v (λ x. if pointwise nat_eq x (words_of v.known) then words_of next else x) (PublishesAndEntrusts es seen next)
 publishes_and_entrusts one pass v es seen last word end next may well is =
     exchanges Para pass v (told_view v es seen next) (words_of next) may.publish.role (both_hit one pass v es seen last word end next may well is)
@@ -349,7 +349,7 @@ kept_looked Host words views k pass v t at may admitted =
     let mine : past_last v.mine ≡ past_last k.host = ap past_last fit.1 in
     let good = good_calm n k.host k.para (look_at t Host n.chip) n.host k.good refl (omega arith) (omega arith) (omega arith) refl (omega arith) (λ a. absurd (true≢false (sym a))) (shows_itself n.chip) in
     kept_step Host words words views k pass v (looked_view v t Host n) n (k.host ++ look_at t Host n.chip ∷ []) k.para at may.role k.words_are k.well good (λ j u f. f) may.role
-    (fit.0, ap (λ l. l ++ look_at t Host n.chip ∷ []) fit.1, ap (pending n) may.none_trusted, knows_all Host n k.well)
+    (fit.0, ap (λ l. l ++ look_at t Host n.chip ∷ []) fit.1, ap (pending_events n) may.none_trusted, knows_all Host n k.well)
 kept_looked Para words views k pass v t at may admitted =
     let fit = fit_of Para words views k pass v at may.role in
     let n = k.known in
@@ -362,7 +362,7 @@ kept_looked Para words views k pass v t at may admitted =
     let good = good_para n k.host k.para look n.para n.trust k.good refl (omega arith) (omega arith) refl (omega arith) (omega arith) (λ a. absurd (true≢false (sym a))) (λ a. absurd (true≢false (sym a))) (λ a. absurd (true≢false a)) in
     kept_step Para words words views k pass v (looked_view v t Para n) n k.host (k.para ++ look ∷ []) at may.role k.words_are k.well good (λ j u f. f) may.role (
       fit.0,
-      ap (λ l. l ++ look ∷ []) bare ∙ sym (append-nil (v.mine ++ look ∷ [])) ∙ ap (λ l. (v.mine ++ look ∷ []) ++ below n.trust (pending n l)) (sym may.none_trusted),
+      ap (λ l. l ++ look ∷ []) bare ∙ sym (append-nil (v.mine ++ look ∷ [])) ∙ ap (λ l. (v.mine ++ look ∷ []) ++ below n.trust (pending_events n l)) (sym may.none_trusted),
       All-append (λ e. e.tick < n.host) v.mine (look ∷ []) fit.2 (All-cons (λ e. e.tick < n.host) look [] (omega arith) (All-nil (λ e. e.tick < n.host))),
       knows_all Para n k.well,
     )
@@ -460,10 +460,10 @@ halves pass v role words views k at =
     }
 
 -- the parasite's view goes to a new pass
-pub parts : (pass : ℕ) (v : View) → v.role ≡ one_side Para → Forks Kept pass v spent v
+pub parts : (pass : ℕ) (v : View) → v.role ≡ one_side Para → Forks Kept pass v spent_view v
 parts pass v role words views k at =
     let f = fit_of Para words views k pass v at role in
-    let seat = length (set views pass spent) in
+    let seat = length (set views pass spent_view) in
     let new_fits : Fits k.known k.host k.para k.host_seat seat seat v = subst (λ (r : Role). FitsAs k.known k.host k.para k.host_seat seat r seat v) (sym role) (refl, f.1, f.2, f.3) in
     record {
       known = k.known;
@@ -475,11 +475,11 @@ parts pass v role words views k at =
       well = k.well;
       good = k.good;
       each = λ j u e. ⊎_elim
-          (λ was. after_set k.known k.host k.para k.host_seat seat views pass spent
+          (λ was. after_set k.known k.host k.para k.host_seat seat views pass spent_view
           (λ i x apart e'. moved k.known k.host k.para k.host_seat k.para_seat seat i x (λ same. apart (same ∙ sym f.0)) x.role (k.each i x e'))
           tt j u was)
           (λ (t : (j ≡ seat) × (v ≡ u)). subst (λ (y : ℕ × View). Fits k.known k.host k.para k.host_seat seat y.0 y.1) (λ i. (sym t.0 i, t.1 i)) new_fits)
-          (at_snoc (set views pass spent) v u j e);
+          (at_snoc (set views pass spent_view) v u j e);
     }
   where
     moved : (k : Known) (a b : List Event) (hs ps ps' : ℕ) (j : ℕ) (u : View) → j ≢ ps → (r : Role) → FitsAs k a b hs ps r j u → FitsAs k a b hs ps' r j u
@@ -490,7 +490,7 @@ parts pass v role words views k at =
     moved k a b hs ps ps' j u p used f = tt
 
 -- events join the unpublished ones of a pass
-pub adds : (s : Side) (pass : ℕ) (v : View) (es : List Event) → v.role ≡ one_side s → Forks Kept pass v (added_view v es) spent
+pub adds : (s : Side) (pass : ℕ) (v : View) (es : List Event) → v.role ≡ one_side s → Forks Kept pass v (added_view v es) spent_view
 adds s pass v es role words views k at =
     let w = added_view v es in
     let fit = fit_of s words views k pass v at role in
@@ -506,8 +506,8 @@ adds s pass v es role words views k at =
       each = λ j u e. ⊎_elim
           (λ was. after_set k.known k.host k.para k.host_seat k.para_seat views pass w (λ i x apart e'. k.each i x e')
           (subst (λ (r : Role). FitsAs k.known k.host k.para k.host_seat k.para_seat r pass w) (sym role) (same s fit)) j u was)
-          (λ (t : (j ≡ length (set views pass w)) × (spent ≡ u)). subst (λ (y : View). Fits k.known k.host k.para k.host_seat k.para_seat j y) t.1 tt)
-          (at_snoc (set views pass w) spent u j e);
+          (λ (t : (j ≡ length (set views pass w)) × (spent_view ≡ u)). subst (λ (y : View). Fits k.known k.host k.para k.host_seat k.para_seat j y) t.1 tt)
+          (at_snoc (set views pass w) spent_view u j e);
     }
   where
     same : (s : Side) → FitsAs k.known k.host k.para k.host_seat k.para_seat (one_side s) pass v → FitsAs k.known k.host k.para k.host_seat k.para_seat (one_side s) pass (added_view v es)
@@ -515,9 +515,9 @@ adds s pass v es role words views k at =
     same Para f = f
 
 -- the host's pass takes both lists
-pub merges : (pass : ℕ) (v : View) (giver : ℕ) (w : View) → v.role ≡ one_side Host → w.role ≡ one_side Para → w.trusted ≡ [] → Merges Kept pass v giver w (joined v w) spent
+pub merges : (pass : ℕ) (v : View) (giver : ℕ) (w : View) → v.role ≡ one_side Host → w.role ≡ one_side Para → w.trusted ≡ [] → Merges Kept pass v giver w (joined_view v w) spent_view
 merges pass v giver w host para none words views k at apart there =
-    let taken = joined v w in
+    let taken = joined_view v w in
     let was : get_elem? views giver ≡ some w = ⊎_elim (λ (t : (giver ≡ pass) × (taken ≡ w)). absurd (apart t.0)) (λ (t : (giver ≢ pass) × (get_elem? views giver ≡ some w)). t.1) (at_set views pass giver taken w there) in
     let f = fit_of Host words views k pass v at host in
     let g = fit_of Para words views k giver w was para in
@@ -531,7 +531,7 @@ merges pass v giver w host para none words views k at apart there =
       words_are = k.words_are;
       well = k.well;
       good = k.good;
-      each = after_set k.known k.host k.para pass pass (set views pass taken) giver spent
+      each = after_set k.known k.host k.para pass pass (set views pass taken) giver spent_view
           (λ j u off e. ⊎_elim
           (λ (t : (j ≡ pass) × (taken ≡ u)). subst (λ (y : ℕ × View). Fits k.known k.host k.para pass pass y.0 y.1) (λ i. (sym t.0 i, t.1 i)) joined_fits)
           (λ (t : (j ≢ pass) × (get_elem? views j ≡ some u)). nobody k.known k.known k.host k.para k.host k.para k.host_seat k.para_seat pass pass j u (λ same. t.0 (same ∙ sym f.0)) (λ same. off (same ∙ sym g.0)) u.role (k.each j u t.1))

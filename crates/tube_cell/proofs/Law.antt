@@ -10,7 +10,7 @@ use Rattle.beeb_bits.specs.declared.Side.TheVariants.{Host, Para}
 use Rattle.tube_chip.specs.State.{State, power_on}
 use Rattle.tube_chip.specs.Act.{act}
 use Rattle.tube_chip.specs.Events.{Event, IsBefore, Rises, RisesAfter, IsAnsweredFrom, IsLegal, after, after_from, merge, put_in}
-use Rattle.tube_cell.specs.Views.{past_last, below, is_observation, done, Answers}
+use Rattle.tube_cell.specs.Views.{past_last, below, is_observation, chip_after_event, Answers}
 use Rattle.tube_cell.proofs.Observed.{observed_stays, ShowsSame, same_answer}
 
 -- by how much the tick has to rise from an event of one side to one of the other
@@ -105,13 +105,13 @@ rises-on : (xs : List Event) (e : Event) → Rises xs → All (Precedes e) xs �
 rises-on [] e rises all = tt
 rises-on (x ∷ xs) e rises all = rises_after-on x e xs rises (is_before x e (All-head (Precedes e) x xs all)) (All-tail (Precedes e) x xs all)
 
-pub after-on : (c : State) (xs : List Event) (e : Event) → after_from c (xs ++ e ∷ []) ≡ done (after_from c xs) e
+pub after-on : (c : State) (xs : List Event) (e : Event) → after_from c (xs ++ e ∷ []) ≡ chip_after_event (after_from c xs) e
 after-on c [] e = refl
-after-on c (x ∷ xs) e = after-on (done c x) xs e
+after-on c (x ∷ xs) e = after-on (chip_after_event c x) xs e
 
 answered-on : (c : State) (xs : List Event) (e : Event) → IsAnsweredFrom c xs → Answers (after_from c xs) e → IsAnsweredFrom c (xs ++ e ∷ [])
 answered-on c [] e all here = (here, tt)
-answered-on c (x ∷ xs) e all here = (all.0, answered-on (done c x) xs e all.1 here)
+answered-on c (x ∷ xs) e all here = (all.0, answered-on (chip_after_event c x) xs e all.1 here)
 
 legal-on : (xs : List Event) (e : Event) → IsLegal xs → All (Precedes e) xs → Answers (after xs) e → IsLegal (xs ++ e ∷ [])
 legal-on xs e legal all here = record { rises = rises-on xs e legal.rises all; answered = answered-on power_on xs e legal.answered here }
@@ -199,7 +199,7 @@ answered_observations : (c d : State) (xs : List Event) → ShowsSame c d → Al
 answered_observations c d [] same all para h = tt
 answered_observations c d (x ∷ xs) same all para h =
     let is = All-head IsObservation x xs all in
-    let stays : (e : State) → done e x ≡ e = λ e. observed_stays e x.side x.query is in (
+    let stays : (e : State) → chip_after_event e x ≡ e = λ e. observed_stays e x.side x.query is in (
       subst (λ (s : Side). (act d s x.query).1 ≡ (act c s x.query).1) (sym (All-head IsPara x xs para)) (same_answer c d x.query same is) ∙ h.0,
       subst (λ (e : State). IsAnsweredFrom e xs) (sym (stays d))
           (answered_observations c d xs same (All-tail IsObservation x xs all) (All-tail IsPara x xs para) (subst (λ (e : State). IsAnsweredFrom e xs) (stays c) h.1)),
@@ -249,34 +249,34 @@ rises-placed (x ∷ xs) e host rises all =
     ]) refl
 
 answered-placed : (c : State) (xs : List Event) (e : Event) → Rises xs → All (Early e.tick) xs → All (Behind e.tick) xs → IsAnsweredFrom c xs → Answers (after_from c xs) e
-    → ShowsSame (after_from c xs) (done (after_from c xs) e) → IsAnsweredFrom c (placed e xs)
+    → ShowsSame (after_from c xs) (chip_after_event (after_from c xs) e) → IsAnsweredFrom c (placed e xs)
 answered-placed c [] e rises early behind all here same = (here, tt)
 answered-placed c (x ∷ xs) e rises early behind all here same =
     (elim (nat_lt x.tick e.tick) as (λ b. nat_lt x.tick e.tick ≡ b → IsAnsweredFrom c (cond b (x ∷ placed e xs) (e ∷ x ∷ xs))) [
-      | true ↦ λ h. (all.0, answered-placed (done c x) xs e (rises_of x xs rises) (All-tail (Early e.tick) x xs early) (All-tail (Behind e.tick) x xs behind) all.1 here same)
+      | true ↦ λ h. (all.0, answered-placed (chip_after_event c x) xs e (rises_of x xs rises) (All-tail (Early e.tick) x xs early) (All-tail (Behind e.tick) x xs behind) all.1 here same)
       | false ↦ λ h.
           let le = nat_lt-from_false x.tick e.tick h in
           let seen = observations_from e.tick x xs rises le early in
           let para : All IsPara (x ∷ xs) = λ i d lt. behind i d lt (late_from e.tick x xs rises le i d lt) in
           let stays = after_observations c (x ∷ xs) seen in
-          (subst (λ (d : State). Answers d e) stays here, answered_observations c (done c e) (x ∷ xs) (subst (λ (d : State). ShowsSame d (done d e)) stays same) seen para all)
+          (subst (λ (d : State). Answers d e) stays here, answered_observations c (chip_after_event c e) (x ∷ xs) (subst (λ (d : State). ShowsSame d (chip_after_event d e)) stays same) seen para all)
     ]) refl
 
-after-placed : (c : State) (xs : List Event) (e : Event) → Rises xs → All (Early e.tick) xs → after_from c (placed e xs) ≡ done (after_from c xs) e
+after-placed : (c : State) (xs : List Event) (e : Event) → Rises xs → All (Early e.tick) xs → after_from c (placed e xs) ≡ chip_after_event (after_from c xs) e
 after-placed c [] e rises early = refl
 after-placed c (x ∷ xs) e rises early =
-    (elim (nat_lt x.tick e.tick) as (λ b. nat_lt x.tick e.tick ≡ b → after_from c (cond b (x ∷ placed e xs) (e ∷ x ∷ xs)) ≡ done (after_from (done c x) xs) e) [
-      | true ↦ λ h. after-placed (done c x) xs e (rises_of x xs rises) (All-tail (Early e.tick) x xs early)
+    (elim (nat_lt x.tick e.tick) as (λ b. nat_lt x.tick e.tick ≡ b → after_from c (cond b (x ∷ placed e xs) (e ∷ x ∷ xs)) ≡ chip_after_event (after_from (chip_after_event c x) xs) e) [
+      | true ↦ λ h. after-placed (chip_after_event c x) xs e (rises_of x xs rises) (All-tail (Early e.tick) x xs early)
       | false ↦ λ h.
           let seen = observations_from e.tick x xs rises (nat_lt-from_false x.tick e.tick h) early in
-          after_observations (done c e) (x ∷ xs) seen ∙ sym (ap (λ (d : State). done d e) (after_observations c (x ∷ xs) seen))
+          after_observations (chip_after_event c e) (x ∷ xs) seen ∙ sym (ap (λ (d : State). chip_after_event d e) (after_observations c (x ∷ xs) seen))
     ]) refl
 
 -- The host's event joins its list after all of it, and after all of the parasite's that may change the chip. Where it shows the parasite the same as before,
 -- observations of the parasite may lie behind it.
 pub legal_placed : (xs ys : List Event) (e : Event) → e.side ≡ Host → All (λ x. x.tick < e.tick) xs → All (λ y. y.side ≡ Para) ys → All (Early e.tick) ys → IsLegal (merge xs ys)
-    → Answers (after (merge xs ys)) e → ShowsSame (after (merge xs ys)) (done (after (merge xs ys)) e)
-    → IsLegal (merge (xs ++ e ∷ []) ys) × (after (merge (xs ++ e ∷ []) ys) ≡ done (after (merge xs ys)) e)
+    → Answers (after (merge xs ys)) e → ShowsSame (after (merge xs ys)) (chip_after_event (after (merge xs ys)) e)
+    → IsLegal (merge (xs ++ e ∷ []) ys) × (after (merge (xs ++ e ∷ []) ys) ≡ chip_after_event (after (merge xs ys)) e)
 legal_placed xs ys e host low para early legal here same =
     let joined = joins_placed xs ys e low in
     let early' = All-merge (Early e.tick) xs ys (All-weaker (λ x. x.tick < e.tick) (Early e.tick) (λ x l _. l) xs low) early in
@@ -346,21 +346,21 @@ rises-below t (x ∷ xs) h = elim (nat_lt x.tick t) as (λ b. Rises (cond b (x �
 answered-below : (t : ℕ) (c : State) (xs : List Event) → IsAnsweredFrom c xs → IsAnsweredFrom c (below t xs)
 answered-below t c [] h = tt
 answered-below t c (x ∷ xs) h = elim (nat_lt x.tick t) as (λ b. IsAnsweredFrom c (cond b (x ∷ below t xs) [])) [
-  | true ↦ (h.0, answered-below t (done c x) xs h.1)
+  | true ↦ (h.0, answered-below t (chip_after_event c x) xs h.1)
   | false ↦ tt
 ]
 
 after-below : (t : ℕ) (c : State) (xs : List Event) → Rises xs → All (Early t) xs → after_from c (below t xs) ≡ after_from c xs
 after-below t c [] rises early = refl
 after-below t c (x ∷ xs) rises early =
-    (elim (nat_lt x.tick t) as (λ b. nat_lt x.tick t ≡ b → after_from c (cond b (x ∷ below t xs) []) ≡ after_from (done c x) xs) [
-      | true ↦ λ h. after-below t (done c x) xs (rises_of x xs rises) (All-tail (Early t) x xs early)
+    (elim (nat_lt x.tick t) as (λ b. nat_lt x.tick t ≡ b → after_from c (cond b (x ∷ below t xs) []) ≡ after_from (chip_after_event c x) xs) [
+      | true ↦ λ h. after-below t (chip_after_event c x) xs (rises_of x xs rises) (All-tail (Early t) x xs early)
       | false ↦ λ h. sym (after_observations c (x ∷ xs) (observations_from t x xs rises (nat_lt-from_false x.tick t h) early))
     ]) refl
 
 -- The host's event joins its list, and the parasite's list is cut at its tick: what goes is observations alone.
 pub legal_cut : (xs ys : List Event) (e : Event) → All (λ x. x.tick < e.tick) xs → All (Early e.tick) ys → IsLegal (merge xs ys) → Answers (after (merge xs ys)) e
-    → IsLegal (merge (xs ++ e ∷ []) (below e.tick ys)) × (after (merge (xs ++ e ∷ []) (below e.tick ys)) ≡ done (after (merge xs ys)) e)
+    → IsLegal (merge (xs ++ e ∷ []) (below e.tick ys)) × (after (merge (xs ++ e ∷ []) (below e.tick ys)) ≡ chip_after_event (after (merge xs ys)) e)
 legal_cut xs ys e low early legal here =
     let all = merge xs ys in
     let t = e.tick in
@@ -370,5 +370,5 @@ legal_cut xs ys e low early legal here =
     let precede = All-weaker (λ x. x.tick < t) (Precedes e) (precedes_below e) (below t all) (below_lies t all) in
     let short : IsLegal (below t all) = record { rises = rises-below t all legal.rises; answered = answered-below t power_on all legal.answered } in (
       subst IsLegal (sym joined) (legal-on (below t all) e short precede (subst (λ (d : State). Answers d e) (sym same) here)),
-      ap after joined ∙ after-on power_on (below t all) e ∙ ap (λ (d : State). done d e) same,
+      ap after joined ∙ after-on power_on (below t all) e ∙ ap (λ (d : State). chip_after_event d e) same,
     )

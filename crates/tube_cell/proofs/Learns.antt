@@ -8,9 +8,9 @@ use Rattle.beeb_bits.specs.declared.Side.TheVariants.{Host, Para}
 use Rattle.tube_chip.specs.State.{State}
 use Rattle.tube_chip.specs.Events.{Event}
 use Rattle.tube_chip.specs.Packing.{IsChip}
-use Rattle.tube_cell.specs.Views.{Known, words_of, Role, one_side, View, other, own_bound, other_bound, bound_at, Admits, horizon, past_last, below, done, same_readings, trust_past, trust_after}
-use Rattle.tube_cell.specs.Rules.{Trusts, GoesOn, rise, firm, pending, Finds}
-use Rattle.tube_cell.specs.Passes.{Carried, carried, Learns, own_horizon, here}
+use Rattle.tube_cell.specs.Views.{Known, words_of, Role, one_side, View, word_of_other, own_bound, other_bound, bound_at, Admits, horizon, past_last, below, chip_after_event, same_readings, trust_past, trust_after}
+use Rattle.tube_cell.specs.Rules.{Trusts, GoesOn, rise, firm, pending_events, Finds}
+use Rattle.tube_cell.specs.Passes.{Carried, carried_of, Learns, own_horizon, here}
 use Rattle.tube_cell.specs.Steps.{Runs, Found, IsPassOf, CutIs, Local}
 use Rattle.tube_cell.proofs.Law.{All-below}
 use Rattle.tube_cell.proofs.Grows.{trusts_fall, past_append, below_same}
@@ -23,10 +23,10 @@ bare_horizon s v none = ap (λ l. horizon (own_bound s v.known) l) (ap (λ a. v.
 
 -- the events of a pass run on from its known chip to this one
 abbrev pub RunsOn : Side → Known → List Event → List Event → State → Type 0
-RunsOn s k mine es here = Runs s (other s k) k.trust (horizon (own_bound s k) mine) k.chip es here (horizon (own_bound s k) (mine ++ es))
+RunsOn s k mine es here = Runs s (word_of_other s k) k.trust (horizon (own_bound s k) mine) k.chip es here (horizon (own_bound s k) (mine ++ es))
 
 pub bare_local : (s : Side) (words : List ℕ) (here : State) (v : View) → IsPassOf s words here v → v.ahead ≡ [] → here ≡ v.known.chip
-bare_local s words here v is none = (subst (λ (es : List Event). Runs s (other s v.known) v.known.trust (horizon (own_bound s v.known) v.mine) v.known.chip es here (horizon (own_bound s v.known) (v.mine ++ v.ahead))) none is.runs).0
+bare_local s words here v is none = (subst (λ (es : List Event). Runs s (word_of_other s v.known) v.known.trust (horizon (own_bound s v.known) v.mine) v.known.chip es here (horizon (own_bound s v.known) (v.mine ++ v.ahead))) none is.runs).0
 
 pub pass_fresh : (s : Side) (words : List ℕ) (here : State) (v : View) → v.role ≡ one_side s → IsChip v.known.chip → words ≡ words_of v.known → All (λ e. e.tick < v.known.trust) v.trusted → v.ahead ≡ [] → here ≡ v.known.chip → IsPassOf s words here v
 pass_fresh s words here v role well words_are trusted none same = record {
@@ -35,23 +35,23 @@ pass_fresh s words here v role well words_are trusted none same = record {
   words_are = words_are;
   trusted = trusted;
   not_both = λ some. absurd (some none);
-  runs = subst (λ (es : List Event). Runs s (other s v.known) v.known.trust (horizon (own_bound s v.known) v.mine) v.known.chip es here (horizon (own_bound s v.known) (v.mine ++ v.ahead))) (sym none)
+  runs = subst (λ (es : List Event). Runs s (word_of_other s v.known) v.known.trust (horizon (own_bound s v.known) v.mine) v.known.chip es here (horizon (own_bound s v.known) (v.mine ++ v.ahead))) (sym none)
       (same, let e = bare_horizon s v none in omega arith);
 }
 
 pub none_low : (t : ℕ) (xs : List Event) → xs ≡ [] → All (λ e. e.tick < t) xs
 none_low t xs none = subst (All (λ e. e.tick < t)) (sym none) (All-nil (λ e. e.tick < t))
 
-pub bare_of : (id : TableId) (s : Side) (v : View) (p : Carried) → carried id s v ≡ p → p.ahead ≡ [] → v.ahead ≡ []
+pub bare_of : (id : TableId) (s : Side) (v : View) (p : Carried) → carried_of id s v ≡ p → p.ahead ≡ [] → v.ahead ≡ []
 bare_of id s v p view none = ap (λ q. q.ahead) view ∙ none
 
-pub none_of : (id : TableId) (s : Side) (v : View) (p : Carried) → carried id s v ≡ p → p.trusted ≡ [] → v.trusted ≡ []
+pub none_of : (id : TableId) (s : Side) (v : View) (p : Carried) → carried_of id s v ≡ p → p.trusted ≡ [] → v.trusted ≡ []
 none_of id s v p view none = ap (λ q. q.trusted) view ∙ none
 
-pub later_of : (id : TableId) (s : Side) (v : View) (p : Carried) (t : ℕ) → carried id s v ≡ p → p.ahead ≡ [] → own_horizon p ≤ t → horizon (own_bound s v.known) v.mine ≤ t
+pub later_of : (id : TableId) (s : Side) (v : View) (p : Carried) (t : ℕ) → carried_of id s v ≡ p → p.ahead ≡ [] → own_horizon p ≤ t → horizon (own_bound s v.known) v.mine ≤ t
 later_of id s v p t view none later =
     let e = bare_horizon s v (bare_of id s v p view none) in
-    let h : own_horizon (carried id s v) ≡ own_horizon p = ap own_horizon view in
+    let h : own_horizon (carried_of id s v) ≡ own_horizon p = ap own_horizon view in
     omega arith
 
 -- ---- what becomes of a pass that finds the words
@@ -70,14 +70,14 @@ host_more t u a b from c (e ∷ es) last end h le more = (
   h.1,
   (let x = h.2 in omega arith),
   h.3,
-  host_more t u (trust_past Host c e a) (trust_past Host c e b) (e.tick + 1) (done c e) es last end h.4 le (past_more (same_readings c (done c e)) a b e.tick more),
+  host_more t u (trust_past Host c e a) (trust_past Host c e b) (e.tick + 1) (chip_after_event c e) es last end h.4 le (past_more (same_readings c (chip_after_event c e)) a b e.tick more),
 )
 
 para_more : (t u a b from : ℕ) (c : State) (es : List Event) (last : State) (end : ℕ) → Runs Para t a from c es last end → t ≤ u → Runs Para u b from c es last end
 para_more t u a b from c [] last end h le = h
-para_more t u a b from c (e ∷ es) last end h le = (h.0, h.1, (let x = h.2 in omega arith), h.3, para_more t u a b (e.tick + 1) (done c e) es last end h.4 le)
+para_more t u a b from c (e ∷ es) last end h le = (h.0, h.1, (let x = h.2 in omega arith), h.3, para_more t u a b (e.tick + 1) (chip_after_event c e) es last end h.4 le)
 
-runs_on : (s : Side) (v k : Known) (from : ℕ) (c : State) (es : List Event) (last : State) (end : ℕ) → GoesOn (one_side s) v k → Runs s (other s v) v.trust from c es last end → Runs s (other s k) k.trust from c es last end
+runs_on : (s : Side) (v k : Known) (from : ℕ) (c : State) (es : List Event) (last : State) (end : ℕ) → GoesOn (one_side s) v k → Runs s (word_of_other s v) v.trust from c es last end → Runs s (word_of_other s k) k.trust from c es last end
 runs_on Host v k from c es last end on h = host_more v.para k.para v.trust k.trust from c es last end h on.1 on.2
 runs_on Para v k from c es last end on h = para_more v.host k.host v.trust k.trust from c es last end h on.1
 
@@ -98,7 +98,7 @@ bound_falls Host v k on = let o = on.0 in omega arith
 bound_falls Para v k on = let o = on.0 in let t = trusts_fall v k on.2 in omega arith
 
 -- what stays on trust lies below it
-pending_low : (s : Side) (v k : Known) (trusted : List Event) → Trusts s v k → All (λ e. e.tick < v.trust) trusted → All (λ e. e.tick < k.trust) (pending k trusted)
+pending_low : (s : Side) (v k : Known) (trusted : List Event) → Trusts s v k → All (λ e. e.tick < v.trust) trusted → All (λ e. e.tick < k.trust) (pending_events k trusted)
 pending_low s v k [] t low = All-nil (λ e. e.tick < k.trust)
 pending_low s v k (x ∷ xs) t low =
     (elim (nat_le k.trust k.host) as (λ b. nat_le k.trust k.host ≡ b → All (λ e. e.tick < k.trust) (cond b [] (x ∷ xs))) [
@@ -155,8 +155,8 @@ found_runs s v k mine trusted (e ∷ es) old new on local bare h =
     let bound = bound_stays s v k e.tick on (omega arith) h.2 in
     let chip = on.3 (omega arith) in
     let kept : new ≡ old = ⊎_elim (λ (t : (k.chip ≡ v.chip) × (new ≡ old)). t.1) (λ (t : (k.chip ≢ v.chip) × (new ≡ k.chip)). absurd (t.0 (sym chip))) local in
-    subst (λ (y : ℕ × List Event). Runs s (other s k) k.trust (horizon y.0 y.1) k.chip (e ∷ es) new (horizon y.0 (y.1 ++ e ∷ es))) (λ i. (sym bound i, sym mine_is i))
-    (subst (λ (y : State × State). Runs s (other s k) k.trust (horizon (own_bound s v) mine) y.0 (e ∷ es) y.1 (horizon (own_bound s v) (mine ++ e ∷ es))) (λ i. (chip i, sym kept i))
+    subst (λ (y : ℕ × List Event). Runs s (word_of_other s k) k.trust (horizon y.0 y.1) k.chip (e ∷ es) new (horizon y.0 (y.1 ++ e ∷ es))) (λ i. (sym bound i, sym mine_is i))
+    (subst (λ (y : State × State). Runs s (word_of_other s k) k.trust (horizon (own_bound s v) mine) y.0 (e ∷ es) y.1 (horizon (own_bound s v) (mine ++ e ∷ es))) (λ i. (chip i, sym kept i))
     (runs_on s v k (horizon (own_bound s v) mine) v.chip (e ∷ es) old (horizon (own_bound s v) (mine ++ e ∷ es)) on h))
 
 pub on_of : (s : Side) (v : View) (k : Known) → v.role ≡ one_side s → GoesOn v.role v.known k → GoesOn (one_side s) v.known k
@@ -172,20 +172,20 @@ pass_found s words found old new v w is f local =
       well = f.well;
       words_are = f.words_are;
       trusted = subst (All (λ e. e.tick < k.trust)) (sym (ap (λ u. u.trusted) w_is)) (pending_low s v.known k v.trusted on.2 is.trusted);
-      not_both = λ some. ap (λ u. u.trusted) w_is ∙ ap (pending k) (is.not_both (subst (λ (l : List Event). l ≢ []) (ap (λ u. u.ahead) w_is) some));
+      not_both = λ some. ap (λ u. u.trusted) w_is ∙ ap (pending_events k) (is.not_both (subst (λ (l : List Event). l ≢ []) (ap (λ u. u.ahead) w_is) some));
       runs = subst (λ (y : List Event × List Event). RunsOn s k y.0 y.1 new) (λ i. ((sym w_is i).mine, (sym w_is i).ahead))
           (found_runs s v.known k v.mine v.trusted v.ahead old new on local is.not_both is.runs);
     }
 
 -- what becomes of events on trust
-firm_past : (k : Known) (xs : List Event) → k.trust ≤ k.host → (firm k xs ≡ below k.trust xs) × (pending k xs ≡ [])
+firm_past : (k : Known) (xs : List Event) → k.trust ≤ k.host → (firm k xs ≡ below k.trust xs) × (pending_events k xs ≡ [])
 firm_past k [] le = (refl, refl)
 firm_past k (x ∷ xs) le = let e = le-true k.trust k.host le in (ap (λ b. cond b (below k.trust (x ∷ xs)) []) e, ap (λ b. cond b [] (x ∷ xs)) e)
   where
     le-true : (m n : ℕ) → m ≤ n → nat_le m n ≡ true
     le-true m n le = grind (arith, nat_tests)
 
-firm_ahead : (k : Known) (xs : List Event) → k.host < k.trust → (firm k xs ≡ []) × (pending k xs ≡ xs)
+firm_ahead : (k : Known) (xs : List Event) → k.host < k.trust → (firm k xs ≡ []) × (pending_events k xs ≡ xs)
 firm_ahead k [] lt = (refl, refl)
 firm_ahead k (x ∷ xs) lt = let e = le-false k.trust k.host lt in (ap (λ b. cond b (below k.trust (x ∷ xs)) []) e, ap (λ b. cond b [] (x ∷ xs)) e)
   where
@@ -194,7 +194,7 @@ firm_ahead k (x ∷ xs) lt = let e = le-false k.trust k.host lt in (ap (λ b. co
 
 -- a pass with the words k found, and n rises
 abbrev pub finding : Carried → Known → ℕ → Carried
-finding p k n = record p { events = p.events ++ firm k p.trusted; trusted = pending k p.trusted; known = k; higher = n }
+finding p k n = record p { events = p.events ++ firm k p.trusted; trusted = pending_events k p.trusted; known = k; higher = n }
 
 pub is_taken : (p q : Carried) (n : ℕ) → q ≡ finding p q.known n → Trusts p.side p.known q.known → q.known.trust < p.known.trust → (q.events ≡ p.events ++ below q.known.trust p.trusted) × (q.trusted ≡ [])
 is_taken p q n rest trust lt =
@@ -216,7 +216,7 @@ is_staying p q n rest lt =
     let f = firm_ahead q.known p.trusted lt in
     (ap (λ x. x.events) rest ∙ ap (λ l. p.events ++ l) f.0 ∙ append-nil p.events, ap (λ x. x.trusted) rest ∙ f.1)
 
-pub learned : (id id' : TableId) (s : Side) (words found : List ℕ) (old : State) (p : Carried) (v w : View) → carried id s v ≡ p → IsPassOf s words old v → id' ≡ id → Found found v w → Learns p (carried id' s w)
+pub learned : (id id' : TableId) (s : Side) (words found : List ℕ) (old : State) (p : Carried) (v w : View) → carried_of id s v ≡ p → IsPassOf s words old v → id' ≡ id → Found found v w → Learns p (carried_of id' s w)
 learned id id' s words found old p v w view is cell f =
     let k : Known = w.known in
     let on = on_of s v k is.role f.goes_on in
@@ -225,7 +225,7 @@ learned id id' s words found old p v w view is cell f =
     let falls = horizon_falls s v.known k v.mine v.trusted v.ahead on is.trusted is.not_both in
     let now : horizon (own_bound s k) (w.mine ++ w.ahead) ≡ horizon (own_bound s k) ((v.mine ++ firm k v.trusted) ++ v.ahead) = λ i. horizon (own_bound s k) ((w_is i).mine ++ (w_is i).ahead) in
     let n = v.higher + rise (one_side s) v.known k in
-    let rest : carried id' s w ≡ finding (carried id s v) k n = λ i. record {
+    let rest : carried_of id' s w ≡ finding (carried_of id s v) k n = λ i. record {
       cell = cell i;
       side = s;
       events = (w_is i).mine;
@@ -235,16 +235,16 @@ learned id id' s words found old p v w view is cell f =
       commits = (w_is i).commits;
       higher = up i;
     } in
-    subst (λ (q : Carried). Learns q (carried id' s w)) view (record {
+    subst (λ (q : Carried). Learns q (carried_of id' s w)) view (record {
       rest = rest;
-      taken = is_taken (carried id s v) (carried id' s w) n rest on.2;
-      settled = is_settled (carried id s v) (carried id' s w) n rest is.trusted;
-      stays = is_staying (carried id s v) (carried id' s w) n rest;
+      taken = is_taken (carried_of id s v) (carried_of id' s w) n rest on.2;
+      settled = is_settled (carried_of id s v) (carried_of id' s w) n rest is.trusted;
+      stays = is_staying (carried_of id s v) (carried_of id' s w) n rest;
       plain = λ none. λ i. record {
         cell = cell i;
         side = s;
         events = (ap (λ u. u.mine) w_is ∙ bare_firm k v.mine v.trusted none) i;
-        trusted = (ap (λ u. u.trusted) w_is ∙ ap (pending k) none ∙ sym none) i;
+        trusted = (ap (λ u. u.trusted) w_is ∙ ap (pending_events k) none ∙ sym none) i;
         ahead = (w_is i).ahead;
         known = k;
         commits = (w_is i).commits;
@@ -254,7 +254,7 @@ learned id id' s words found old p v w view is cell f =
       other_word = on.1;
       trust = on.2;
       horizon = omega arith;
-      same_chip = λ some. sym (on.3 (runs_admit s (own_bound s v.known) (other s v.known) v.known.trust v.mine v.known.chip v.ahead old (horizon (own_bound s v.known) (v.mine ++ v.ahead)) is.runs some));
+      same_chip = λ some. sym (on.3 (runs_admit s (own_bound s v.known) (word_of_other s v.known) v.known.trust v.mine v.known.chip v.ahead old (horizon (own_bound s v.known) (v.mine ++ v.ahead)) is.runs some));
     })
 
 -- ---- the tick at which the trust is cut
@@ -274,9 +274,9 @@ cut_found s words found old cut v w is cuts f a lt =
     on : GoesOn (one_side s) v.known w.known
     on = on_of s v w.known is.role f.goes_on
 
-    go : (es : List Event) → Runs s (other s v.known) v.known.trust (horizon (own_bound s v.known) v.mine) v.known.chip es old (horizon (own_bound s v.known) (v.mine ++ v.ahead))
+    go : (es : List Event) → Runs s (word_of_other s v.known) v.known.trust (horizon (own_bound s v.known) v.mine) v.known.chip es old (horizon (own_bound s v.known) (v.mine ++ v.ahead))
         → trust_after s v.known.chip a es ≡ min a cut → trust_after s w.known.chip a es ≡ min a cut
     go [] runs e = e
     go (x ∷ xs) runs e =
-        let admits = runs_admit s (own_bound s v.known) (other s v.known) v.known.trust v.mine v.known.chip (x ∷ xs) old (horizon (own_bound s v.known) (v.mine ++ v.ahead)) runs (λ no. absurd (cc)) in
+        let admits = runs_admit s (own_bound s v.known) (word_of_other s v.known) v.known.trust v.mine v.known.chip (x ∷ xs) old (horizon (own_bound s v.known) (v.mine ++ v.ahead)) runs (λ no. absurd (cc)) in
         ap (λ (c : State). trust_after s c a (x ∷ xs)) (sym (on.3 admits)) ∙ e

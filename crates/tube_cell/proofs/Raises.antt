@@ -12,9 +12,9 @@ use Rattle.tube_chip.specs.State.{State, lines_of}
 use Rattle.tube_chip.specs.Act.{chip_after}
 use Rattle.tube_chip.specs.Events.{Event}
 use Rattle.tube_chip.specs.Packing.{IsChip, PackingIsOneToOne}
-use Rattle.tube_cell.specs.Views.{Known, words_of, Role, one_side, View, other, own_bound, other_bound, known_with, Admits, admits, horizon, past_last, trust_next, trust_after}
-use Rattle.tube_cell.specs.Rules.{Kept, rise, pending, found_view, published_view, entrusted_view, Publishes, Entrusts, Looks, looked_view}
-use Rattle.tube_cell.specs.Passes.{Carried, carried, Learns, own_horizon, raised, committed, looked, entrusted, access_at, lines_at, here}
+use Rattle.tube_cell.specs.Views.{Known, words_of, Role, one_side, View, word_of_other, own_bound, other_bound, known_with, Admits, admits, horizon, past_last, trust_next, trust_after}
+use Rattle.tube_cell.specs.Rules.{Kept, rise, pending_events, found_view, published_view, entrusted_view, Publishes, Entrusts, Looks, looked_view}
+use Rattle.tube_cell.specs.Passes.{Carried, carried_of, Learns, own_horizon, after_raise, after_commit, after_look, after_entrust, access_at, lines_at, here}
 use Rattle.tube_cell.specs.Steps.{Watches, MayPublish, MayLook, MayEntrust, LookedAt, IsPassOf, Local}
 use Rattle.tube_cell.proofs.Law.{past_last-on}
 use Rattle.tube_cell.proofs.Grows.{trusting, watches_low}
@@ -24,12 +24,12 @@ use Rattle.tube_cell.proofs.Learns.{bare_horizon, bare_local, pass_fresh, none_l
 -- ---- steps
 
 pub publishes_as : PackingIsOneToOne → (s : Side) (pass : ℕ) (v : View) (es : List Event) (last : State) (end trust : ℕ) (next : Known) (old new : List ℕ)
-    → MayPublish s es last end v → IsChip last → trust ≡ trust_after s v.known.chip v.known.trust es → next ≡ known_with s last end (other s v.known) trust → old ≡ words_of v.known → new ≡ words_of next
+    → MayPublish s es last end v → IsChip last → trust ≡ trust_after s v.known.chip v.known.trust es → next ≡ known_with s last end (word_of_other s v.known) trust → old ≡ words_of v.known → new ≡ words_of next
     → Turns Kept pass v (λ x. if pointwise nat_eq x old then new else x) (Publishes es next)
 publishes_as one s pass v es last end trust next old new may well trust_is next_is old_is new_is =
     let P : List ℕ → List ℕ → Type 0 = λ a b. Turns Kept pass v (λ x. if pointwise nat_eq x a then b else x) (Publishes es next) in
     subst (λ (y : List ℕ × List ℕ). P y.0 y.1) (λ i. (sym old_is i, sym new_is i))
-    (publishes one s pass v es last end next may well (next_is ∙ ap (λ t. known_with s last end (other s v.known) t) trust_is))
+    (publishes one s pass v es last end next may well (next_is ∙ ap (λ t. known_with s last end (word_of_other s v.known) t) trust_is))
 
 pub entrusts_as : PackingIsOneToOne → (pass : ℕ) (v : View) (es : List Event) (trust : ℕ) (next : Known) (old new : List ℕ)
     → MayEntrust es trust v → next ≡ trusting v.known trust → old ≡ words_of v.known → new ≡ words_of next
@@ -47,17 +47,17 @@ chip_with : (s : Side) (c : State) (m t a : ℕ) → (known_with s c m t a).chip
 chip_with Host c m t a = refl
 chip_with Para c m t a = refl
 
-pub may_raise : (id : TableId) (s : Side) (words : List ℕ) (here : State) (p : Carried) (v : View) (t : ℕ) → carried id s v ≡ p → IsPassOf s words here v → p.ahead ≡ [] → p.trusted ≡ [] → own_horizon p ≤ t → MayPublish s [] here t v
+pub may_raise : (id : TableId) (s : Side) (words : List ℕ) (here : State) (p : Carried) (v : View) (t : ℕ) → carried_of id s v ≡ p → IsPassOf s words here v → p.ahead ≡ [] → p.trusted ≡ [] → own_horizon p ≤ t → MayPublish s [] here t v
 may_raise id s words here p v t view is none trusted later = record {
   role = is.role;
   none_trusted = none_of id s v p view trusted;
   runs = (bare_local s words here v is (bare_of id s v p view none), later_of id s v p t view none later);
 }
 
-pub may_look : (id : TableId) (s : Side) (words : List ℕ) (here : State) (p : Carried) (v : View) (t : ℕ) → carried id s v ≡ p → IsPassOf s words here v → p.ahead ≡ [] → p.trusted ≡ [] → own_horizon p ≤ t → MayLook s t v
+pub may_look : (id : TableId) (s : Side) (words : List ℕ) (here : State) (p : Carried) (v : View) (t : ℕ) → carried_of id s v ≡ p → IsPassOf s words here v → p.ahead ≡ [] → p.trusted ≡ [] → own_horizon p ≤ t → MayLook s t v
 may_look id s words here p v t view is none trusted later = record { role = is.role; none_trusted = none_of id s v p view trusted; later = later_of id s v p t view none later }
 
-pub may_commit : (id : TableId) (s : Side) (words : List ℕ) (here next : State) (p : Carried) (v : View) (t : ℕ) (op : Op) → carried id s v ≡ p → IsPassOf s words here v → p.ahead ≡ [] → p.trusted ≡ [] → own_horizon p ≤ t
+pub may_commit : (id : TableId) (s : Side) (words : List ℕ) (here next : State) (p : Carried) (v : View) (t : ℕ) (op : Op) → carried_of id s v ≡ p → IsPassOf s words here v → p.ahead ≡ [] → p.trusted ≡ [] → own_horizon p ≤ t
     → Admits p.side (other_bound p.side p.known) t → next ≡ chip_after here s op → MayPublish s (access_at t s op v.known.chip ∷ []) next (t + 1) v
 may_commit id s words here next p v t op view is none trusted later admitted next_is =
     let local = bare_local s words here v is (bare_of id s v p view none) in
@@ -69,7 +69,7 @@ may_commit id s words here next p v t op view is none trusted later admitted nex
     }
 
 -- the trust of a commit, as the code has it of its local chip
-pub commit_trust : (id : TableId) (s : Side) (words : List ℕ) (here next : State) (p : Carried) (v : View) (t trust known : ℕ) (op : Op) → carried id s v ≡ p → IsPassOf s words here v → p.ahead ≡ []
+pub commit_trust : (id : TableId) (s : Side) (words : List ℕ) (here next : State) (p : Carried) (v : View) (t trust known : ℕ) (op : Op) → carried_of id s v ≡ p → IsPassOf s words here v → p.ahead ≡ []
     → next ≡ chip_after here s op → known ≡ v.known.trust → trust ≡ trust_next s here next t known → trust ≡ trust_next s v.known.chip (chip_after v.known.chip s op) t v.known.trust
 commit_trust id s words here next p v t trust known op view is none next_is known_is trust_is =
     let local = bare_local s words here v is (bare_of id s v p view none) in
@@ -77,14 +77,14 @@ commit_trust id s words here next p v t trust known op view is none next_is know
 
 -- the pass once its events are published
 pub pass_published : (s : Side) (words : List ℕ) (here : State) (end trust : ℕ) (es : List Event) (v w : View) → v.role ≡ one_side s → v.trusted ≡ [] → IsChip here
-    → w ≡ published_view v es (known_with s here end (other s v.known) trust) → words ≡ words_of (known_with s here end (other s v.known) trust) → IsPassOf s words here w
+    → w ≡ published_view v es (known_with s here end (word_of_other s v.known) trust) → words ≡ words_of (known_with s here end (word_of_other s v.known) trust) → IsPassOf s words here w
 pass_published s words here end trust es v w role trusted well w_is words_are =
-    let k : w.known ≡ known_with s here end (other s v.known) trust = ap (λ u. u.known) w_is in
-    let chip : w.known.chip ≡ here = ap (λ x. x.chip) k ∙ chip_with s here end (other s v.known) trust in
+    let k : w.known ≡ known_with s here end (word_of_other s v.known) trust = ap (λ u. u.known) w_is in
+    let chip : w.known.chip ≡ here = ap (λ x. x.chip) k ∙ chip_with s here end (word_of_other s v.known) trust in
     pass_fresh s words here w (ap (λ u. u.role) w_is ∙ role) (subst IsChip (sym chip) well) (words_are ∙ ap words_of (sym k)) (none_low w.known.trust w.trusted (ap (λ u. u.trusted) w_is ∙ trusted)) (ap (λ u. u.ahead) w_is) (sym chip)
 
-pub is_raised : (id id' : TableId) (s : Side) (words : List ℕ) (here : State) (p : Carried) (v w : View) (t trust : ℕ) → carried id s v ≡ p → IsPassOf s words here v → p.ahead ≡ [] → id' ≡ id → trust ≡ v.known.trust
-    → w ≡ published_view v [] (known_with s here t (other s v.known) trust) → carried id' s w ≡ raised p t
+pub is_raised : (id id' : TableId) (s : Side) (words : List ℕ) (here : State) (p : Carried) (v w : View) (t trust : ℕ) → carried_of id s v ≡ p → IsPassOf s words here v → p.ahead ≡ [] → id' ≡ id → trust ≡ v.known.trust
+    → w ≡ published_view v [] (known_with s here t (word_of_other s v.known) trust) → carried_of id' s w ≡ after_raise p t
 is_raised id id' s words here p v w t trust view is none cell trust_is w_is =
     let bare = bare_of id s v p view none in
     let local = bare_local s words here v is bare in
@@ -94,17 +94,17 @@ is_raised id id' s words here p v w t trust view is none cell trust_is w_is =
       events = (ap (λ u. u.mine) w_is ∙ append-nil v.mine) i;
       trusted = (w_is i).trusted;
       ahead = (ap (λ u. u.ahead) w_is ∙ sym bare) i;
-      known = (ap (λ u. u.known) w_is ∙ (λ j. known_with s (local j) t (other s v.known) (trust_is j))) i;
+      known = (ap (λ u. u.known) w_is ∙ (λ j. known_with s (local j) t (word_of_other s v.known) (trust_is j))) i;
       commits = (ap (λ u. u.commits) w_is ∙ no_more v.commits) i;
       higher = (w_is i).higher;
-    }) ∙ ap (λ (q : Carried). raised q t) view
+    }) ∙ ap (λ (q : Carried). after_raise q t) view
   where
     no_more : (n : ℕ) → n + 0 ≡ n
     no_more n = omega arith
 
-pub is_committed : (id id' : TableId) (s : Side) (words : List ℕ) (here next : State) (p : Carried) (v w : View) (t trust : ℕ) (op : Op) → carried id s v ≡ p → IsPassOf s words here v → p.ahead ≡ [] → id' ≡ id
+pub is_committed : (id id' : TableId) (s : Side) (words : List ℕ) (here next : State) (p : Carried) (v w : View) (t trust : ℕ) (op : Op) → carried_of id s v ≡ p → IsPassOf s words here v → p.ahead ≡ [] → id' ≡ id
     → next ≡ chip_after here s op → trust ≡ trust_next s v.known.chip (chip_after v.known.chip s op) t v.known.trust
-    → w ≡ published_view v (access_at t s op v.known.chip ∷ []) (known_with s next (t + 1) (other s v.known) trust) → carried id' s w ≡ committed p t op
+    → w ≡ published_view v (access_at t s op v.known.chip ∷ []) (known_with s next (t + 1) (word_of_other s v.known) trust) → carried_of id' s w ≡ after_commit p t op
 is_committed id id' s words here next p v w t trust op view is none cell next_is trust_is w_is =
     let bare = bare_of id s v p view none in
     let local = bare_local s words here v is bare in
@@ -115,14 +115,14 @@ is_committed id id' s words here next p v w t trust op view is none cell next_is
       events = (w_is i).mine;
       trusted = (w_is i).trusted;
       ahead = (ap (λ u. u.ahead) w_is ∙ sym bare) i;
-      known = (ap (λ u. u.known) w_is ∙ (λ j. known_with s (chip j) (t + 1) (other s v.known) (trust_is j))) i;
+      known = (ap (λ u. u.known) w_is ∙ (λ j. known_with s (chip j) (t + 1) (word_of_other s v.known) (trust_is j))) i;
       commits = (w_is i).commits;
       higher = (w_is i).higher;
-    }) ∙ ap (λ (q : Carried). committed q t op) view
+    }) ∙ ap (λ (q : Carried). after_commit q t op) view
 
 -- ---- entrust
 
-pub may_entrust : (id : TableId) (s : Side) (words : List ℕ) (here : State) (p : Carried) (v : View) (es : List Event) (t : ℕ) → carried id s v ≡ p → IsPassOf s words here v → p.side ≡ Para → p.ahead ≡ [] → own_horizon p ≤ t
+pub may_entrust : (id : TableId) (s : Side) (words : List ℕ) (here : State) (p : Carried) (v : View) (es : List Event) (t : ℕ) → carried_of id s v ≡ p → IsPassOf s words here v → p.side ≡ Para → p.ahead ≡ [] → own_horizon p ≤ t
     → Watches Para (own_horizon p) p.known.chip es t → MayEntrust es t v
 may_entrust id s words here p v es t view is side none later watches =
     let s_is : s ≡ Para = ap (λ q. q.side) view ∙ side in
@@ -147,13 +147,13 @@ pass_entrusted s words next here t es v w is none may w_is words_are =
     (subst (λ (u : View). All (λ e. e.tick < u.known.trust) u.trusted) (sym w_is) low)
     (ap (λ u. u.ahead) w_is ∙ none) (bare_local s words here v is none ∙ sym chip)
 
-pub is_entrusted : (id id' : TableId) (s : Side) (p : Carried) (v w : View) (es : List Event) (t : ℕ) → carried id s v ≡ p → id' ≡ id → w ≡ entrusted_view v es (trusting v.known t) → carried id' s w ≡ entrusted p es t
-is_entrusted id id' s p v w es t view cell w_is = (λ i. carried (cell i) s (w_is i)) ∙ ap (λ (q : Carried). entrusted q es t) view
+pub is_entrusted : (id id' : TableId) (s : Side) (p : Carried) (v w : View) (es : List Event) (t : ℕ) → carried_of id s v ≡ p → id' ≡ id → w ≡ entrusted_view v es (trusting v.known t) → carried_of id' s w ≡ after_entrust p es t
+is_entrusted id id' s p v w es t view cell w_is = (λ i. carried_of (cell i) s (w_is i)) ∙ ap (λ (q : Carried). after_entrust q es t) view
 
 -- ---- look
 
 -- what a look leaves of the view, but for the list
-looked_as : (b : Bool) (t : ℕ) (s : Side) (v w : View) → MatchBool b (w ≡ looked_view v t s w.known) (w ≡ found_view v w.known) → (w.role ≡ v.role) × (w.ahead ≡ v.ahead) × (w.trusted ≡ pending w.known v.trusted)
+looked_as : (b : Bool) (t : ℕ) (s : Side) (v w : View) → MatchBool b (w ≡ looked_view v t s w.known) (w ≡ found_view v w.known) → (w.role ≡ v.role) × (w.ahead ≡ v.ahead) × (w.trusted ≡ pending_events w.known v.trusted)
 looked_as true t s v w is = (ap (λ u. u.role) is, ap (λ u. u.ahead) is, ap (λ u. u.trusted) is)
 looked_as false t s v w is = (ap (λ u. u.role) is, ap (λ u. u.ahead) is, ap (λ u. u.trusted) is)
 
@@ -168,10 +168,10 @@ looked_local s words found old new v w is none local =
 pub pass_looked : (s : Side) (words found : List ℕ) (old new : State) (t : ℕ) (v w : View) → IsPassOf s words old v → v.ahead ≡ [] → v.trusted ≡ [] → LookedAt t s found v w → Local v.known.chip old w.known.chip new → IsPassOf s found new w
 pass_looked s words found old new t v w is none trusted f local =
     let left = looked_as (admits s (other_bound s w.known) t) t s v w f.view_is in
-    pass_fresh s found new w (left.0 ∙ is.role) f.well f.words_are (none_low w.known.trust w.trusted (left.2 ∙ ap (pending w.known) trusted)) (left.1 ∙ none) (looked_local s words found old new v w is none local)
+    pass_fresh s found new w (left.0 ∙ is.role) f.well f.words_are (none_low w.known.trust w.trusted (left.2 ∙ ap (pending_events w.known) trusted)) (left.1 ∙ none) (looked_local s words found old new v w is none local)
 
-pub is_looked : (id id' : TableId) (s : Side) (words found : List ℕ) (old : State) (p : Carried) (t : ℕ) (lines : Lines) (v w : View) → carried id s v ≡ p → IsPassOf s words old v → p.ahead ≡ [] → p.trusted ≡ [] → own_horizon p ≤ t → id' ≡ id
-    → LookedAt t s found v w → admits s (other_bound s w.known) t ≡ true → lines ≡ lines_of w.known.chip → Learns (looked p t lines) (carried id' s w)
+pub is_looked : (id id' : TableId) (s : Side) (words found : List ℕ) (old : State) (p : Carried) (t : ℕ) (lines : Lines) (v w : View) → carried_of id s v ≡ p → IsPassOf s words old v → p.ahead ≡ [] → p.trusted ≡ [] → own_horizon p ≤ t → id' ≡ id
+    → LookedAt t s found v w → admits s (other_bound s w.known) t ≡ true → lines ≡ lines_of w.known.chip → Learns (after_look p t lines) (carried_of id' s w)
 is_looked id id' s words found old p t lines v w view is none trusted later cell f admitted lines_are =
     let k : Known = w.known in
     let on = on_of s v k is.role f.goes_on in
@@ -180,13 +180,13 @@ is_looked id id' s words found old p t lines v w view is none trusted later cell
     let w_is : w ≡ looked_view v t s k = subst (λ (b : Bool). MatchBool b (w ≡ looked_view v t s k) (w ≡ found_view v k)) admitted f.view_is in
     let mine : w.mine ≡ v.mine ++ lines_at t s lines ∷ [] = ap (λ u. u.mine) w_is ∙ ap (λ l. v.mine ++ lines_at t s l ∷ []) (sym lines_are) in
     let ahead : w.ahead ≡ v.ahead = ap (λ u. u.ahead) w_is in
-    let pends : w.trusted ≡ pending k v.trusted = ap (λ u. u.trusted) w_is in
+    let pends : w.trusted ≡ pending_events k v.trusted = ap (λ u. u.trusted) w_is in
     let up : w.higher ≡ v.higher + rise (one_side s) v.known k = ap (λ u. u.higher) w_is ∙ ap (λ (r : Role). v.higher + rise r v.known k) is.role in
     let commits : w.commits ≡ v.commits = ap (λ u. u.commits) w_is in
     let falls = bound_falls s v.known k on in
     let n = v.higher + rise (one_side s) v.known k in
-    let looked_p : Carried = looked (carried id s v) t lines in
-    let rest : carried id' s w ≡ finding looked_p k n = λ i. record {
+    let looked_p : Carried = after_look (carried_of id s v) t lines in
+    let rest : carried_of id' s w ≡ finding looked_p k n = λ i. record {
       cell = cell i;
       side = s;
       events = (mine ∙ sym (bare_firm k (v.mine ++ lines_at t s lines ∷ []) v.trusted no_trust)) i;
@@ -196,16 +196,16 @@ is_looked id id' s words found old p t lines v w view is none trusted later cell
       commits = commits i;
       higher = up i;
     } in
-    subst (λ (q : Carried). Learns (looked q t lines) (carried id' s w)) view (record {
+    subst (λ (q : Carried). Learns (after_look q t lines) (carried_of id' s w)) view (record {
       rest = rest;
-      taken = is_taken looked_p (carried id' s w) n rest on.2;
-      settled = is_settled looked_p (carried id' s w) n rest is.trusted;
-      stays = is_staying looked_p (carried id' s w) n rest;
+      taken = is_taken looked_p (carried_of id' s w) n rest on.2;
+      settled = is_settled looked_p (carried_of id' s w) n rest is.trusted;
+      stays = is_staying looked_p (carried_of id' s w) n rest;
       plain = λ _. λ i. record {
         cell = cell i;
         side = s;
         events = mine i;
-        trusted = (pends ∙ ap (pending k) no_trust ∙ sym no_trust) i;
+        trusted = (pends ∙ ap (pending_events k) no_trust ∙ sym no_trust) i;
         ahead = ahead i;
         known = k;
         commits = commits i;
@@ -223,15 +223,15 @@ is_looked id id' s words found old p t lines v w view is none trusted later cell
 past_le : (p : Carried) → past_last (p.events ++ p.ahead) ≤ own_horizon p
 past_le p = omega arith
 
-raised_bound : (s : Side) (k : Known) (c : State) (t : ℕ) → own_bound s k ≤ t → own_bound s (known_with s c t (other s k) k.trust) ≡ t
+raised_bound : (s : Side) (k : Known) (c : State) (t : ℕ) → own_bound s k ≤ t → own_bound s (known_with s c t (word_of_other s k) k.trust) ≡ t
 raised_bound Host k c t le = refl
 raised_bound Para k c t le = omega arith
 
-committed_bound : (s : Side) (k : Known) (c : State) (t : ℕ) (old new : State) → own_bound s k ≤ t → own_bound s (known_with s c (t + 1) (other s k) (trust_next s old new t k.trust)) ≡ t + 1
+committed_bound : (s : Side) (k : Known) (c : State) (t : ℕ) (old new : State) → own_bound s k ≤ t → own_bound s (known_with s c (t + 1) (word_of_other s k) (trust_next s old new t k.trust)) ≡ t + 1
 committed_bound Host k c t old new le = refl
 committed_bound Para k c t old new le = omega arith
 
-pub horizon_raised : (p q : Carried) (t : ℕ) → own_horizon p ≤ t → q ≡ raised p t → own_horizon q ≡ t
+pub horizon_raised : (p q : Carried) (t : ℕ) → own_horizon p ≤ t → q ≡ after_raise p t → own_horizon q ≡ t
 horizon_raised p q t later is =
     let e = past_le p in
     let o = raised_bound p.side p.known p.known.chip t (omega arith) in
@@ -244,13 +244,13 @@ ends_at bound events ahead e none le =
     ap past_last (ap (λ a. (events ++ e ∷ []) ++ a) none ∙ append-nil (events ++ e ∷ [])) ∙ past_last-on events e in
     omega arith
 
-pub horizon_committed : (p q : Carried) (t : ℕ) (op : Op) → p.ahead ≡ [] → own_horizon p ≤ t → q ≡ committed p t op → own_horizon q ≡ t + 1
+pub horizon_committed : (p q : Carried) (t : ℕ) (op : Op) → p.ahead ≡ [] → own_horizon p ≤ t → q ≡ after_commit p t op → own_horizon q ≡ t + 1
 horizon_committed p q t op none later is =
-    let k = (committed p t op).known in
+    let k = (after_commit p t op).known in
     let o : own_bound p.side k ≡ t + 1 = committed_bound p.side p.known (chip_after p.known.chip p.side op) t p.known.chip (chip_after p.known.chip p.side op) (omega arith) in
     ap own_horizon is ∙ ends_at (own_bound p.side k) p.events p.ahead (access_at t p.side op p.known.chip) none (omega arith)
 
-pub horizon_looked : (p q : Carried) (t : ℕ) (lines : Lines) → p.ahead ≡ [] → p.trusted ≡ [] → own_horizon p ≤ t → Learns (looked p t lines) q → own_horizon q ≡ t + 1
+pub horizon_looked : (p q : Carried) (t : ℕ) (lines : Lines) → p.ahead ≡ [] → p.trusted ≡ [] → own_horizon p ≤ t → Learns (after_look p t lines) q → own_horizon q ≡ t + 1
 horizon_looked p q t lines none trusted later learns =
     let is = learns.plain trusted in
     let falls = learns.horizon in
@@ -259,8 +259,8 @@ horizon_looked p q t lines none trusted later learns =
     (λ i. past_last ((is i).events ++ (is i).ahead)) ∙ ap past_last (ap (λ a. (p.events ++ lines_at t p.side lines ∷ []) ++ a) none ∙ append-nil (p.events ++ lines_at t p.side lines ∷ [])) ∙ past_last-on p.events (lines_at t p.side lines) in
     omega arith
 
-pub horizon_entrusted : (p q : Carried) (es : List Event) (t : ℕ) → p.side ≡ Para → own_horizon p ≤ t → q ≡ entrusted p es t → own_horizon q ≡ t
+pub horizon_entrusted : (p q : Carried) (es : List Event) (t : ℕ) → p.side ≡ Para → own_horizon p ≤ t → q ≡ after_entrust p es t → own_horizon q ≡ t
 horizon_entrusted p q es t side later is =
     let was : own_horizon p ≡ horizon (own_bound Para p.known) (p.events ++ p.ahead) = ap (λ s. horizon (own_bound s p.known) (p.events ++ p.ahead)) side in
-    let now : own_horizon (entrusted p es t) ≡ horizon (max p.known.para t) (p.events ++ p.ahead) = ap (λ s. horizon (own_bound s (record p.known { trust = t })) (p.events ++ p.ahead)) side in
+    let now : own_horizon (after_entrust p es t) ≡ horizon (max p.known.para t) (p.events ++ p.ahead) = ap (λ s. horizon (own_bound s (record p.known { trust = t })) (p.events ++ p.ahead)) side in
     ap own_horizon is ∙ now ∙ (omega arith)

@@ -8,8 +8,8 @@ use Rattle.tube_chip.specs.declared.Lines.{Lines}
 use Rattle.tube_chip.specs.State.{State}
 use Rattle.tube_chip.specs.Act.{access, look, answer_of, chip_after}
 use Rattle.tube_chip.specs.Events.{Event, after_from}
-use Rattle.tube_cell.specs.Views.{Known, new_known, View, one_side, own, other, own_bound, known_with, bound_at, has_access, horizon, below, trust_next, trust_after}
-use Rattle.tube_cell.specs.Rules.{rise, firm, pending, Trusts}
+use Rattle.tube_cell.specs.Views.{Known, new_known, View, one_side, word_of, word_of_other, own_bound, known_with, bound_at, has_access, horizon, below, trust_next, trust_after}
+use Rattle.tube_cell.specs.Rules.{rise, firm, pending_events, Trusts}
 
 -- A pass of one side: the cell that it is of, its side, its list of events, those that are on it on trust, those that are not published yet, the words
 -- that it knows, how often it published an access, and how often the known bound of the other rose.
@@ -23,8 +23,8 @@ pub record Carried : Type 0 where
   pub commits : ℕ
   pub higher : ℕ
 
-abbrev pub carried : TableId → Side → View → Carried
-carried id s v = record { cell = id; side = s; events = v.mine; trusted = v.trusted; ahead = v.ahead; known = v.known; commits = v.commits; higher = v.higher }
+abbrev pub carried_of : TableId → Side → View → Carried
+carried_of id s v = record { cell = id; side = s; events = v.mine; trusted = v.trusted; ahead = v.ahead; known = v.known; commits = v.commits; higher = v.higher }
 
 -- the pass of a side once the whole is split
 abbrev pub starts : TableId → Side → Carried
@@ -39,7 +39,7 @@ own_horizon p = horizon (own_bound p.side p.known) (p.events ++ p.ahead)
 pub record Learns (p q : Carried) : Type 0 where
   pub rest : q ≡ record p {
     events = p.events ++ firm q.known p.trusted;
-    trusted = pending q.known p.trusted;
+    trusted = pending_events q.known p.trusted;
     known = q.known;
     higher = p.higher + rise (one_side p.side) p.known q.known;
   }
@@ -51,16 +51,16 @@ pub record Learns (p q : Carried) : Type 0 where
   pub stays : q.known.host < q.known.trust → (q.events ≡ p.events) × (q.trusted ≡ p.trusted)
   -- where nothing is on trust, no event joined the list
   pub plain : p.trusted ≡ [] → q ≡ record p { known = q.known; higher = p.higher + rise (one_side p.side) p.known q.known }
-  pub own_word : own p.side q.known ≡ own p.side p.known
-  pub other_word : other p.side p.known ≤ other p.side q.known
+  pub own_word : word_of p.side q.known ≡ word_of p.side p.known
+  pub other_word : word_of_other p.side p.known ≤ word_of_other p.side q.known
   pub trust : Trusts p.side p.known q.known
   pub horizon : own_horizon q ≤ own_horizon p
   -- where there are unpublished events, the word of the other and the trust alone differ
   pub same_chip : p.ahead ≢ [] → q.known.chip ≡ p.known.chip
 
 -- the own word is t, and nothing else changed
-abbrev pub raised : Carried → ℕ → Carried
-raised p t = record p { known = known_with p.side p.known.chip t (other p.side p.known) p.known.trust }
+abbrev pub after_raise : Carried → ℕ → Carried
+after_raise p t = record p { known = known_with p.side p.known.chip t (word_of_other p.side p.known) p.known.trust }
 
 abbrev pub access_at : ℕ → Side → Op → State → Event
 access_at t s op c = record { tick = t; side = s; query = access op; answer = Byte (answer_of c s op) }
@@ -70,17 +70,17 @@ lines_at t s lines = record { tick = t; side = s; query = look; answer = Seen li
 
 -- The access joined the list, the chip is the one after it, and the own word is one more than its tick. Where the host's access changed the parasite's readings, it
 -- took the trust back to its tick.
-abbrev pub committed : Carried → ℕ → Op → Carried
-committed p t op = record p {
+abbrev pub after_commit : Carried → ℕ → Op → Carried
+after_commit p t op = record p {
   events = p.events ++ access_at t p.side op p.known.chip ∷ [];
-  known = known_with p.side (chip_after p.known.chip p.side op) (t + 1) (other p.side p.known)
+  known = known_with p.side (chip_after p.known.chip p.side op) (t + 1) (word_of_other p.side p.known)
       (trust_next p.side p.known.chip (chip_after p.known.chip p.side op) t p.known.trust);
   commits = p.commits + 1;
 }
 
 -- the look joined the list
-abbrev pub looked : Carried → ℕ → Lines → Carried
-looked p t lines = record p { events = p.events ++ lines_at t p.side lines ∷ [] }
+abbrev pub after_look : Carried → ℕ → Lines → Carried
+after_look p t lines = record p { events = p.events ++ lines_at t p.side lines ∷ [] }
 
 -- the local chip, and the trust and the other's bound there: the known ones with the unpublished events done
 abbrev pub here : Carried → State
@@ -90,21 +90,21 @@ abbrev pub trust_here : Carried → ℕ
 trust_here p = trust_after p.side p.known.chip p.known.trust p.ahead
 
 abbrev pub bound_here : Carried → ℕ
-bound_here p = bound_at p.side (other p.side p.known) (trust_here p)
+bound_here p = bound_at p.side (word_of_other p.side p.known) (trust_here p)
 
 -- the events are done, and not published yet
-abbrev pub added : Carried → List Event → Carried
-added p events = record p { ahead = p.ahead ++ events }
+abbrev pub after_add : Carried → List Event → Carried
+after_add p events = record p { ahead = p.ahead ++ events }
 
 -- the unpublished events joined the list, and the cell has the chip after them, this own word, and the trust as they leave it
-abbrev pub published : Carried → ℕ → Carried
-published p h = record p {
+abbrev pub after_publish : Carried → ℕ → Carried
+after_publish p h = record p {
   events = p.events ++ p.ahead;
   ahead = [];
-  known = known_with p.side (here p) h (other p.side p.known) (trust_here p);
+  known = known_with p.side (here p) h (word_of_other p.side p.known) (trust_here p);
   commits = p.commits + (if has_access p.ahead then 1 else 0);
 }
 
 -- the events are on the list on trust, and the trust is t
-abbrev pub entrusted : Carried → List Event → ℕ → Carried
-entrusted p events t = record p { trusted = p.trusted ++ events; known = record p.known { trust = t } }
+abbrev pub after_entrust : Carried → List Event → ℕ → Carried
+after_entrust p events t = record p { trusted = p.trusted ++ events; known = record p.known { trust = t } }

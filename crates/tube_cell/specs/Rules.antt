@@ -10,7 +10,7 @@ use Rattle.tube_chip.specs.State.{State, lines_of}
 use Rattle.tube_chip.specs.Act.{look}
 use Rattle.tube_chip.specs.Events.{Event, merge, after, IsLegal}
 use Rattle.tube_chip.specs.Packing.{IsChip}
-use Rattle.tube_cell.specs.Views.{Known, words_of, new_known, Role, undivided, one_side, rejoined, used, View, own, other, own_bound, other_bound, Admits, admits, below, is_access, is_observation, has_access}
+use Rattle.tube_cell.specs.Views.{Known, words_of, new_known, Role, undivided, one_side, rejoined, used, View, word_of, word_of_other, own_bound, other_bound, Admits, admits, below, is_access, is_observation, has_access}
 
 -- each event is at this tick or later, and at a later tick than the one before it
 abbrev pub Climbs : ℕ → List Event → Type 0
@@ -50,8 +50,8 @@ Trusts Para known k = (k.trust ≡ known.trust) ⊎ ((known.host ≤ k.trust) ×
 -- it knows the chip as it is.
 pub record Knows (s : Side) (k known : Known) : Type 0 where
   pub well : IsChip known.chip
-  pub own_word : own s known ≡ own s k
-  pub other_word : other s known ≤ other s k
+  pub own_word : word_of s known ≡ word_of s k
+  pub other_word : word_of_other s known ≤ word_of_other s k
   pub trust : Trusts s known k
   pub same_chip : Admits s (other_bound s known) (own_bound s known) → known.chip ≡ k.chip
 
@@ -82,8 +82,8 @@ pub record Kept (words : List ℕ) (views : List View) : Type 0 where
 abbrev pub whole : View
 whole = record { role = undivided; mine = []; theirs = []; trusted = []; ahead = []; known = new_known; commits = 0; higher = 0 }
 
-abbrev pub spent : View
-spent = record whole { role = used }
+abbrev pub spent_view : View
+spent_view = record whole { role = used }
 
 abbrev pub host_part : View → View
 host_part v = record v { role = one_side Host }
@@ -91,15 +91,15 @@ host_part v = record v { role = one_side Host }
 abbrev pub para_part : View → View
 para_part v = record v { role = one_side Para; mine = v.theirs }
 
-abbrev pub joined : View → View → View
-joined v w = record v { role = rejoined; theirs = w.mine }
+abbrev pub joined_view : View → View → View
+joined_view v w = record v { role = rejoined; theirs = w.mine }
 
 -- ---- What a step tells
 
 -- Of one side's pass, the own word stays, the other's does not fall, and the trust is as it may be. Where the known bound admits the own, the chip stays too.
 abbrev pub GoesOn : Role → Known → Known → Type 0
 GoesOn (one_side s) k k' =
-    (own s k' ≡ own s k) × (other s k ≤ other s k') × Trusts s k k' × (Admits s (other_bound s k) (own_bound s k) → k.chip ≡ k'.chip)
+    (word_of s k' ≡ word_of s k) × (word_of_other s k ≤ word_of_other s k') × Trusts s k k' × (Admits s (other_bound s k) (own_bound s k) → k.chip ≡ k'.chip)
 GoesOn r k k' = Unit {0}
 
 -- 1 where the known bound of the other rises
@@ -113,15 +113,15 @@ firm k [] = []
 firm k (e ∷ events) = if nat_le k.trust k.host then below k.trust (e ∷ events) else []
 
 -- those that stay on trust: all, where the host has not passed it
-abbrev pub pending : Known → List Event → List Event
-pending k [] = []
-pending k (e ∷ events) = if nat_le k.trust k.host then [] else e ∷ events
+abbrev pub pending_events : Known → List Event → List Event
+pending_events k [] = []
+pending_events k (e ∷ events) = if nat_le k.trust k.host then [] else e ∷ events
 
 -- the view that knows the words found
 abbrev pub found_view : View → Known → View
 found_view v k = record v {
   mine = v.mine ++ firm k v.trusted;
-  trusted = pending k v.trusted;
+  trusted = pending_events k v.trusted;
   known = k;
   higher = v.higher + rise v.role v.known k;
 }

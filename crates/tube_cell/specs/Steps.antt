@@ -7,7 +7,7 @@ use Rattle.tube_chip.specs.declared.Op.{Op}
 use Rattle.tube_chip.specs.State.{State}
 use Rattle.tube_chip.specs.Events.{Event}
 use Rattle.tube_chip.specs.Packing.{IsChip}
-use Rattle.tube_cell.specs.Views.{Known, words_of, View, one_side, other, own_bound, bound_at, other_bound, Admits, admits, horizon, AllBelow, is_observation, done, Answers, trust_past, trust_after}
+use Rattle.tube_cell.specs.Views.{Known, words_of, View, one_side, word_of_other, own_bound, bound_at, other_bound, Admits, admits, horizon, AllBelow, is_observation, chip_after_event, Answers, trust_past, trust_after}
 use Rattle.tube_cell.specs.Rules.{GoesOn, found_view, looked_view}
 use Rattle.tube_cell.specs.Passes.{access_at}
 
@@ -17,13 +17,13 @@ abbrev pub Runs : Side → ℕ → ℕ → ℕ → State → List Event → Stat
 Runs s theirs trust from c [] last end = (last ≡ c) × (from ≤ end)
 Runs s theirs trust from c (e ∷ events) last end =
     (e.side ≡ s) × (from ≤ e.tick) × Admits s (bound_at s theirs trust) e.tick × Answers c e
-    × Runs s theirs (trust_past s c e trust) (e.tick + 1) (done c e) events last end
+    × Runs s theirs (trust_past s c e trust) (e.tick + 1) (chip_after_event c e) events last end
 
 -- The pass of this side may publish these events: they run on from the known chip to this one, and end below this word.
 pub record MayPublish (s : Side) (events : List Event) (last : State) (end : ℕ) (v : View) : Type 0 where
   pub role : v.role ≡ one_side s
   pub none_trusted : v.trusted ≡ []
-  pub runs : Runs s (other s v.known) v.known.trust (horizon (own_bound s v.known) v.mine) v.known.chip events last end
+  pub runs : Runs s (word_of_other s v.known) v.known.trust (horizon (own_bound s v.known) v.mine) v.known.chip events last end
 
 -- the access of a commit, as the one event that it publishes; a raise has none
 abbrev pub accesses : Side → State → Option (ℕ × Op) → List Event
@@ -77,7 +77,7 @@ pub record IsPassOf (s : Side) (words : List ℕ) (here : State) (v : View) : Ty
   pub words_are : words ≡ words_of v.known
   pub trusted : AllBelow v.known.trust v.trusted
   pub not_both : v.ahead ≢ [] → v.trusted ≡ []
-  pub runs : Runs s (other s v.known) v.known.trust (horizon (own_bound s v.known) v.mine) v.known.chip v.ahead here (horizon (own_bound s v.known) (v.mine ++ v.ahead))
+  pub runs : Runs s (word_of_other s v.known) v.known.trust (horizon (own_bound s v.known) v.mine) v.known.chip v.ahead here (horizon (own_bound s v.known) (v.mine ++ v.ahead))
 
 -- Published, the unpublished events would cut the trust at this tick. It is the last number of 64 bits where they leave it.
 abbrev pub CutIs : Side → ℕ → View → Type 0

@@ -9,7 +9,7 @@ use Rattle.tube_chip.specs.declared.Op.TheVariants.{Read, Write, Reset}
 use Rattle.tube_chip.specs.State.{State, power_on, lines_of}
 use Rattle.tube_chip.specs.Act.{Query, access, look, act, is_status, status}
 use Rattle.tube_chip.specs.Events.{Event}
-use Rattle.tube_chip.specs.Packing.{packed}
+use Rattle.tube_chip.specs.Packing.{packed_words}
 use Rattle.tube_cell.specs.declared.local.Readings.{Readings}
 
 -- What the nine words stand for: the chip, each side's horizon, and the parasite's trust.
@@ -22,7 +22,7 @@ pub record Known : Type 0 where
 
 -- the six words of the chip, the horizons, and the trust
 abbrev pub words_of : Known → List ℕ
-words_of k = packed k.chip ++ k.host ∷ k.para ∷ k.trust ∷ []
+words_of k = packed_words k.chip ++ k.host ∷ k.para ∷ k.trust ∷ []
 
 -- at power-on
 abbrev pub new_known : Known
@@ -57,13 +57,13 @@ flip Host = Para
 flip Para = Host
 
 -- a side's own word, and the other's
-abbrev pub own : Side → Known → ℕ
-own Host k = k.host
-own Para k = k.para
+abbrev pub word_of : Side → Known → ℕ
+word_of Host k = k.host
+word_of Para k = k.para
 
-abbrev pub other : Side → Known → ℕ
-other Host k = k.para
-other Para k = k.host
+abbrev pub word_of_other : Side → Known → ℕ
+word_of_other Host k = k.para
+word_of_other Para k = k.host
 
 -- A side's bound: none of its events that is not on its list yet lies below it. It is the side's word, and the parasite's trust bounds it too.
 abbrev pub own_bound : Side → Known → ℕ
@@ -76,7 +76,7 @@ bound_at Host theirs trust = max theirs trust
 bound_at Para theirs trust = theirs
 
 abbrev pub other_bound : Side → Known → ℕ
-other_bound s k = bound_at s (other s k) k.trust
+other_bound s k = bound_at s (word_of_other s k) k.trust
 
 -- of the host's and the parasite's, a side's own comes first
 abbrev pub pick : {X : Type 0} → Side → X → X → X
@@ -134,8 +134,8 @@ has_access [] = false
 has_access (e ∷ events) = is_access e.query || has_access events
 
 -- the chip after an event
-abbrev pub done : State → Event → State
-done c e = (act c e.side e.query).0
+abbrev pub chip_after_event : State → Event → State
+chip_after_event c e = (act c e.side e.query).0
 
 -- the event's answer is the chip's
 abbrev pub Answers : State → Event → Type 0
@@ -165,9 +165,9 @@ trust_next Para old new t trust = trust
 
 -- the trust after an event, from chip c on
 abbrev pub trust_past : Side → State → Event → ℕ → ℕ
-trust_past s c e trust = trust_next s c (done c e) e.tick trust
+trust_past s c e trust = trust_next s c (chip_after_event c e) e.tick trust
 
 -- the trust after these events of a side, from chip c on
 abbrev pub trust_after : Side → State → ℕ → List Event → ℕ
 trust_after s c trust [] = trust
-trust_after s c trust (e ∷ events) = trust_after s (done c e) (trust_past s c e trust) events
+trust_after s c trust (e ∷ events) = trust_after s (chip_after_event c e) (trust_past s c e trust) events

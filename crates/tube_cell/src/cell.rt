@@ -7,9 +7,9 @@ ghost use Rattle.tube_chip.specs.declared.Op.TheVariants.{Read};
 ghost use Rattle.tube_chip.specs.Act.{MayDo, is_status, answer_of};
 ghost use Rattle.tube_chip.specs.Events.{merge, after, IsLegal};
 ghost use Rattle.tube_chip.specs.Packing.{IsChip};
-ghost use Rattle.tube_cell.specs.Views.{one_side, other, other_bound, slack, known_with, Admits, admits, AllBelow, words_of, readings_of, trust_after};
+ghost use Rattle.tube_cell.specs.Views.{one_side, word_of_other, other_bound, slack, known_with, Admits, admits, AllBelow, words_of, readings_of, trust_after};
 ghost use Rattle.tube_cell.specs.Rules.{published_view, entrusted_view, told_view, added_view};
-ghost use Rattle.tube_cell.specs.Passes.{starts, own_horizon, Learns, access_at, lines_at, committed, raised, looked, entrusted, here, bound_here, added, published};
+ghost use Rattle.tube_cell.specs.Passes.{starts, own_horizon, Learns, access_at, lines_at, after_commit, after_raise, after_look, after_entrust, here, bound_here, after_add, after_publish};
 ghost use Rattle.tube_cell.specs.Steps.{MayPublish, MayLook, MayEntrust, MayPublishAndEntrust, Watches, Found, LookedAt};
 
 use crate::local::{Readings, operate, peek, readings_of};
@@ -83,13 +83,13 @@ pub struct Pass {
 
 impl Model for Pass {
     ghost use Rattle.crossbeam_utils.specs.Seq.{cell_view};
-    ghost use Rattle.tube_cell.specs.Passes.{Carried, carried};
+    ghost use Rattle.tube_cell.specs.Passes.{Carried, carried_of};
     ghost use Rattle.tube_cell.specs.Steps.{IsPassOf, CutIs};
     ghost use Rattle.std.specs.Prelude.{ℕ};
 
     ghost Value = { Carried };
 
-    ghost view = { λ s. carried s.seat.table_id s.side (cell_view s.seat) };
+    ghost view = { λ s. carried_of s.seat.table_id s.side (cell_view s.seat) };
 
     ghost invariant = { λ s. let v = cell_view s.seat in IsPassOf s.side s.words s.local v × CutIs s.side s.cut v };
 }
@@ -142,7 +142,7 @@ impl TubeCell {
     /// The other side's horizon, as far as the pass knows it.
     pub fn other(&self, pass: &Pass) -> Tick
         requires { pass.now.cell ≡ self.now }
-        ensures { result.0 ≡ other pass.now.side pass.now.known }
+        ensures { result.0 ≡ word_of_other pass.now.side pass.now.known }
     {
         Tick(word_of(pass.side, &pass.words))
     }
@@ -207,7 +207,7 @@ impl TubeCell {
         requires published { pass.old.ahead ≡ [] }
         requires none_trusted { pass.old.trusted ≡ [] }
         requires later { own_horizon pass.old ≤ t.0 }
-        ensures raised { IsTrue result → pass.new ≡ raised pass.old t.0 }
+        ensures raised { IsTrue result → pass.new ≡ after_raise pass.old t.0 }
         ensures horizon { IsTrue result → own_horizon pass.new ≡ t.0 }
         ensures learns { IsFalse result → Learns pass.old pass.new }
         ensures missed { IsFalse result → pass.new.known ≢ pass.old.known }
@@ -246,7 +246,7 @@ impl TubeCell {
         requires admitted { Admits pass.old.side (other_bound pass.old.side pass.old.known) t.0 }
         requires bounded { t.0 < 2 ^ 40 }
         ensures answer { IfSome result (λ byte. byte ≡ answer_of pass.old.known.chip pass.old.side op) }
-        ensures committed { IfSome result (λ _. pass.new ≡ committed pass.old t.0 op) }
+        ensures committed { IfSome result (λ _. pass.new ≡ after_commit pass.old t.0 op) }
         ensures horizon { IfSome result (λ _. own_horizon pass.new ≡ t.0 + 1) }
         ensures learns { IfNone result (Learns pass.old pass.new) }
         ensures missed { IfNone result (pass.new.known ≢ pass.old.known) }
@@ -282,7 +282,7 @@ impl TubeCell {
         requires none_trusted { pass.old.trusted ≡ [] }
         requires later { own_horizon pass.old ≤ t.0 }
         ensures lines { IfSome result (λ lines. lines ≡ lines_of pass.new.known.chip) }
-        ensures looked { IfSome result (λ lines. Learns (looked pass.old t.0 lines) pass.new) }
+        ensures looked { IfSome result (λ lines. Learns (after_look pass.old t.0 lines) pass.new) }
         ensures horizon { IfSome result (λ _. own_horizon pass.new ≡ t.0 + 1) }
         ensures admitted { IfSome result (λ _. Admits pass.old.side (other_bound pass.old.side pass.new.known) t.0) }
         ensures learns { IfNone result (Learns pass.old pass.new) }
@@ -305,7 +305,7 @@ impl TubeCell {
         requires published { pass.old.ahead ≡ [] }
         requires later { own_horizon pass.old ≤ t.0 }
         requires watches { Watches Para (own_horizon pass.old) pass.old.known.chip D.events t.0 }
-        ensures entrusted { IsTrue result → pass.new ≡ entrusted pass.old D.events t.0 }
+        ensures entrusted { IsTrue result → pass.new ≡ after_entrust pass.old D.events t.0 }
         ensures horizon { IsTrue result → own_horizon pass.new ≡ t.0 }
         ensures learns { IsFalse result → Learns pass.old pass.new }
         ensures missed { IsFalse result → pass.new.known ≢ pass.old.known }
@@ -331,7 +331,7 @@ impl TubeCell {
         requires admitted { Admits pass.old.side (bound_here pass.old) t.0 }
         requires bounded { t.0 < 2 ^ 40 }
         ensures answer { result ≡ answer_of (here pass.old) pass.old.side op }
-        ensures added { pass.new ≡ added pass.old (access_at t.0 pass.old.side op (here pass.old) ∷ []) }
+        ensures added { pass.new ≡ after_add pass.old (access_at t.0 pass.old.side op (here pass.old) ∷ []) }
         ensures horizon { own_horizon pass.new ≡ t.0 + 1 }
     {
         let (byte, cut) = operate(&mut pass.local, pass.side, op, t.0, pass.cut);
@@ -347,7 +347,7 @@ impl TubeCell {
         requires later { own_horizon pass.old ≤ t.0 }
         requires admitted { Admits pass.old.side (bound_here pass.old) t.0 }
         ensures lines { result ≡ lines_of (here pass.old) }
-        ensures added { pass.new ≡ added pass.old (lines_at t.0 pass.old.side (lines_of (here pass.old)) ∷ []) }
+        ensures added { pass.new ≡ after_add pass.old (lines_at t.0 pass.old.side (lines_of (here pass.old)) ∷ []) }
         ensures horizon { own_horizon pass.new ≡ t.0 + 1 }
     {
         add::<Brand>(&self.cell, &mut pass.seat, pass.side, t.0, None);
@@ -360,7 +360,7 @@ impl TubeCell {
         requires none_trusted { pass.old.trusted ≡ [] }
         requires watches { Watches pass.old.side (own_horizon pass.old) (here pass.old) D.events _end.0 }
         requires admitted { _end.0 + slack pass.old.side ≤ bound_here pass.old + 1 }
-        ensures added { pass.new ≡ added pass.old D.events }
+        ensures added { pass.new ≡ after_add pass.old D.events }
         ensures horizon { (t : ℕ) → own_horizon pass.old ≤ t → AllBelow t D.events → own_horizon pass.new ≤ t }
         ensures here { here pass.new ≡ here pass.old }
         ensures bound { bound_here pass.new ≡ bound_here pass.old }
@@ -374,7 +374,7 @@ impl TubeCell {
         requires cell { pass.old.cell ≡ self.now }
         requires none_trusted { pass.old.trusted ≡ [] }
         requires later { own_horizon pass.old ≤ h.0 }
-        ensures published { IsTrue result → pass.new ≡ published pass.old h.0 }
+        ensures published { IsTrue result → pass.new ≡ after_publish pass.old h.0 }
         ensures learns { IsFalse result → Learns pass.old pass.new }
         ensures missed { IsFalse result → pass.new.known ≢ pass.old.known }
     {
@@ -418,7 +418,7 @@ impl TubeCell {
         requires later { own_horizon pass.old ≤ h.0 }
         requires order { h.0 ≤ t.0 }
         requires watches { Watches Para h.0 (here pass.old) D.events t.0 }
-        ensures entrusted { IsTrue result → pass.new ≡ entrusted (published pass.old h.0) D.events t.0 }
+        ensures entrusted { IsTrue result → pass.new ≡ after_entrust (after_publish pass.old h.0) D.events t.0 }
         ensures horizon { IsTrue result → own_horizon pass.new ≡ t.0 }
         ensures learns { IsFalse result → Learns pass.old pass.new }
         ensures missed { IsFalse result → pass.new.known ≢ pass.old.known }
@@ -517,7 +517,7 @@ fn exchange<W: Wish, R: Wait>(
     requires cell { seat.old.table_id ≡ cell.now.table.shared.table_id }
     requires words { words.now ≡ words_of (cell_view seat.old).known }
     requires trust { let k = (cell_view seat.old).known in trust ≡ trust_after side k.chip k.trust W.events }
-    requires next { W.next ≡ known_with side chip.now word (other side (cell_view seat.old).known) trust }
+    requires next { W.next ≡ known_with side chip.now word (word_of_other side (cell_view seat.old).known) trust }
     requires may { MayPublish side W.events chip.now word (cell_view seat.old) }
     ensures cell { IsSamePass seat.old seat.new }
     ensures bounds { IsChip chip.now }
@@ -574,7 +574,7 @@ fn publish_and_entrust_at<W: Wish, D: Deeds, R: Wait>(
 ) -> Result<[u64; 9], [u64; 9]>
     requires cell { seat.old.table_id ≡ cell.now.table.shared.table_id }
     requires words { words.now ≡ words_of (cell_view seat.old).known }
-    requires next { W.next ≡ known_with Para chip.now word (other Para (cell_view seat.old).known) trust }
+    requires next { W.next ≡ known_with Para chip.now word (word_of_other Para (cell_view seat.old).known) trust }
     requires may { MayPublishAndEntrust W.events chip.now word D.events trust (cell_view seat.old) }
     ensures cell { IsSamePass seat.old seat.new }
     ensures bounds { IsChip chip.now }

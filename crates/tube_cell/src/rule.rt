@@ -146,11 +146,11 @@ impl Split<PassView> for Halves {
 }
 
 impl Join<PassView> for Halves {
-    ghost use Rattle.tube_cell.specs.Rules.{joined, spent};
+    ghost use Rattle.tube_cell.specs.Rules.{joined_view, spent_view};
 
-    ghost both = { joined };
+    ghost both = { joined_view };
 
-    ghost spent = { spent };
+    ghost spent = { spent_view };
 }
 
 /// A view to whose unpublished events some join. (The part that is cut off holds nothing.)
@@ -159,20 +159,20 @@ pub struct Adding<D> {
 }
 
 impl<D: Deeds> Split<PassView> for Adding<D> {
-    ghost use Rattle.tube_cell.specs.Rules.{added_view, spent};
+    ghost use Rattle.tube_cell.specs.Rules.{added_view, spent_view};
 
     ghost left = { λ v. added_view v D.events };
 
-    ghost right = { λ v. spent };
+    ghost right = { λ v. spent_view };
 }
 
 /// A view that goes to a new pass.
 pub struct Parting;
 
 impl Split<PassView> for Parting {
-    ghost use Rattle.tube_cell.specs.Rules.{spent};
+    ghost use Rattle.tube_cell.specs.Rules.{spent_view};
 
-    ghost left = { λ v. spent };
+    ghost left = { λ v. spent_view };
 
     ghost right = { λ v. v };
 }

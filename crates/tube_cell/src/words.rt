@@ -1,8 +1,8 @@
 //! The nine words of the cell: the six of the chip, then the host's horizon, the parasite's, and its trust.
 ghost use Rattle.std.specs.Prelude.{◌≡◌, ◌<◌, ◌^◌};
 ghost use Rattle.tube_chip.specs.State.{State};
-ghost use Rattle.tube_chip.specs.Packing.{IsChip, packed};
-ghost use Rattle.tube_cell.specs.Views.{Known, words_of, new_known, other, bound_at, known_with, admits};
+ghost use Rattle.tube_chip.specs.Packing.{IsChip, packed_words};
+ghost use Rattle.tube_cell.specs.Views.{Known, words_of, new_known, word_of_other, bound_at, known_with, admits};
 ghost use Rattle.tube_cell.specs.Steps.{LocalAfter};
 
 use beeb_bits::Side;
@@ -32,7 +32,7 @@ pub(crate) fn power_on() -> [u64; 9]
 
 /// The other side's horizon.
 pub(crate) fn word_of(side: Side, words: &[u64; 9]) -> u64
-    ensures { (k : Known) → words.now ≡ words_of k → result ≡ other side k }
+    ensures { (k : Known) → words.now ≡ words_of k → result ≡ word_of_other side k }
 {
     match side {
         Side::Host => words[7],
@@ -59,7 +59,7 @@ pub(crate) fn with_trust(words: &[u64; 9], trust: u64) -> [u64; 9]
 
 /// The other side's bound, at this trust: its horizon, and of the parasite the trust too.
 pub(crate) fn bound_of(side: Side, words: &[u64; 9], trust: u64) -> u64
-    ensures { (k : Known) → words.now ≡ words_of k → result ≡ bound_at side (other side k) trust }
+    ensures { (k : Known) → words.now ≡ words_of k → result ≡ bound_at side (word_of_other side k) trust }
 {
     match side {
         Side::Host => words[7].max(trust),
@@ -79,14 +79,14 @@ pub(crate) fn is_admitted(side: Side, word: u64, tick: u64) -> bool
 
 // The six words of the chip.
 fn chip_words(words: &[u64; 9]) -> [u64; 6]
-    ensures { (k : Known) → words.now ≡ words_of k → result ≡ packed k.chip }
+    ensures { (k : Known) → words.now ≡ words_of k → result ≡ packed_words k.chip }
 {
     [words[0], words[1], words[2], words[3], words[4], words[5]]
 }
 
 fn unpacked(words: [u64; 6]) -> Chip
-    requires { (c : State) × IsChip c × (words ≡ packed c) }
-    ensures { (c : State) → IsChip c → words ≡ packed c → result ≡ c }
+    requires { (c : State) × IsChip c × (words ≡ packed_words c) }
+    ensures { (c : State) → IsChip c → words ≡ packed_words c → result ≡ c }
 {
     match Chip::unpack(words) {
         Some(chip) => chip,

@@ -9,7 +9,7 @@ use Rattle.tube_chip.specs.State.{State, Flags}
 use Rattle.beeb_bits.specs.Bits.{bit}
 use Rattle.beeb_bits.specs.Bits.{weight}
 use Rattle.tube_chip.specs.Act.{flags_byte}
-use Rattle.tube_chip.specs.Packing.{shown, IsRegister, IsChip, place, places, word, counts, host_bytes, para_bytes, packed, PackingIsOneToOne, flags_from, register_from, host_from, para_from, unpacked}
+use Rattle.tube_chip.specs.Packing.{shown_bytes, IsRegister, IsChip, place, places, word, counts, host_bytes, para_bytes, packed_words, PackingIsOneToOne, flags_from, register_from, host_from, para_from, unpacked_chip}
 
 -- ---- bytes
 
@@ -19,7 +19,7 @@ byte_at (x ∷ xs) zero all = All-head (λ b. b < 256) x xs all
 byte_at (x ∷ xs) (suc i) all = byte_at xs i (All-tail (λ b. b < 256) x xs all)
 
 pub place-byte : (room : ℕ) (r : Register) (i : ℕ) → IsRegister room r → place r i < 256
-place-byte room r i well = byte_at (shown r) i well.bytes
+place-byte room r i well = byte_at (shown_bytes r) i well.bytes
 
 -- eight bytes, each below 256
 bytes_8 : (a b c d e f g h : ℕ) → a < 256 → b < 256 → c < 256 → d < 256 → e < 256 → f < 256 → g < 256 → h < 256
@@ -181,10 +181,10 @@ from_bytes both b1 b2 b3 b4 b5 = record {
   resets = both / 2 ^ 32;
 }
 
-pub read_back : (c : State) → IsChip c → unpacked (packed c) ≡ c
-unfolding packed unpacked from_bytes
+pub read_back : (c : State) → IsChip c → unpacked_chip (packed_words c) ≡ c
+unfolding packed_words unpacked_chip from_bytes
 read_back c well =
-    let lists : unpacked (packed c) ≡ from_bytes (c.nmis + 2 ^ 32 * c.resets) (places c.to_host.r1 0) (places c.to_host.r1 8) (places c.to_host.r1 16) (host_bytes c.flags c.to_host) (para_bytes c.to_para) =
+    let lists : unpacked_chip (packed_words c) ≡ from_bytes (c.nmis + 2 ^ 32 * c.resets) (places c.to_host.r1 0) (places c.to_host.r1 8) (places c.to_host.r1 16) (host_bytes c.flags c.to_host) (para_bytes c.to_para) =
     λ i. from_bytes (c.nmis + 2 ^ 32 * c.resets) (places_back c.to_host.r1 0 well.to_host.first i) (places_back c.to_host.r1 8 well.to_host.first i) (places_back c.to_host.r1 16 well.to_host.first i) (host_back c well i) (para_back c well i) in
     let n = well.nmis in
     let nmis : (c.nmis + 2 ^ 32 * c.resets) % 2 ^ 32 ≡ c.nmis = omega arith in
@@ -195,4 +195,4 @@ read_back c well =
     lists ∙ (λ i. record { flags = flags i; to_host = host i; to_para = para i; nmis = nmis i; resets = resets i })
 
 pub packing-one : PackingIsOneToOne
-packing-one c d c_well d_well same = sym (read_back c c_well) ∙ ap unpacked same ∙ read_back d d_well
+packing-one c d c_well d_well same = sym (read_back c c_well) ∙ ap unpacked_chip same ∙ read_back d d_well

@@ -7,8 +7,8 @@ use Rattle.tube_chip.specs.declared.Op.{Op}
 use Rattle.tube_chip.specs.declared.Op.TheVariants.{Read, Write, Reset}
 use Rattle.tube_chip.specs.declared.Answer.{Answer}
 use Rattle.tube_chip.specs.declared.Answer.TheVariants.{Byte, Seen}
-use Rattle.tube_chip.specs.Register.{count, front_of, taken, written}
-use Rattle.tube_chip.specs.State.{State, Flags, register, with_register, incoming, outgoing, with_incoming, with_outgoing, capacity, is_empty, is_ready, wants_service, asks_nmi, lines_of, cleared, no_flags}
+use Rattle.tube_chip.specs.Register.{count, front_of, take_leaves, write_leaves}
+use Rattle.tube_chip.specs.State.{State, Flags, register, with_register, incoming_bank, outgoing_bank, with_incoming, with_outgoing, capacity, is_empty, is_ready, wants_service, asks_nmi, lines_of, clear_leaves, no_flags}
 
 -- A side may do this operation: the number is one of the eight, and the reset is the host's.
 abbrev pub MayDo : Side → Op → Type 0
@@ -34,7 +34,7 @@ is_available Para k c = if k == 3 then wants_service c else not (is_empty (regis
 
 -- Bit 6 of a status: the register has room for what the side writes.
 abbrev pub is_not_full : Side → ℕ → State → Bool
-is_not_full side k c = nat_lt (count (register k (outgoing side c))) (capacity side k c.flags)
+is_not_full side k c = nat_lt (count (register k (outgoing_bank side c))) (capacity side k c.flags)
 
 -- The status of a register: the low six bits are the flags for register 1, and ones for the others.
 abbrev pub status : Side → ℕ → State → ℕ
@@ -44,68 +44,68 @@ status side k c = weight 128 (is_available side k c) + weight 64 (is_not_full si
 abbrev pub answer_of : State → Side → Op → ℕ
 answer_of c side (Read number) =
     if is_status number then status side (register_number number) c
-    else front_of (register (register_number number) (incoming side c))
+    else front_of (register (register_number number) (incoming_bank side c))
 answer_of c side (Write number byte) = 0
 answer_of c side Reset = 0
 
 -- a flag, set to `set` where its bit of the byte marks it
-abbrev pub marked : ℕ → ℕ → Bool → Bool → Bool
-marked byte n set flag = if bit byte n then set else flag
+abbrev pub flag_after : ℕ → ℕ → Bool → Bool → Bool
+flag_after byte n set flag = if bit byte n then set else flag
 
 -- The flags after a write to the control register: those marked become set where S (bit 7) is, else clear.
 abbrev pub flags_after : ℕ → Flags → Flags
 flags_after byte f = record {
-  p = marked byte 5 (bit byte 7) f.p;
-  v = marked byte 4 (bit byte 7) f.v;
-  m = marked byte 3 (bit byte 7) f.m;
-  j = marked byte 2 (bit byte 7) f.j;
-  i = marked byte 1 (bit byte 7) f.i;
-  q = marked byte 0 (bit byte 7) f.q;
+  p = flag_after byte 5 (bit byte 7) f.p;
+  v = flag_after byte 4 (bit byte 7) f.v;
+  m = flag_after byte 3 (bit byte 7) f.m;
+  j = flag_after byte 2 (bit byte 7) f.j;
+  i = flag_after byte 1 (bit byte 7) f.i;
+  q = flag_after byte 0 (bit byte 7) f.q;
 }
 
 -- A write to the control register. T (bit 6) clears the registers where S is set. (That T acts once, and only then, is this project's profile.)
-abbrev pub controlled : ℕ → State → State
-controlled byte c =
-    if bit byte 7 && bit byte 6 then cleared (record c { flags = flags_after byte c.flags })
+abbrev pub control_leaves : ℕ → State → State
+control_leaves byte c =
+    if bit byte 7 && bit byte 6 then clear_leaves (record c { flags = flags_after byte c.flags })
     else record c { flags = flags_after byte c.flags }
 
 -- The byte of a register read by a side.
 abbrev pub read_by : Side → ℕ → State → State
-read_by side k c = with_incoming side (with_register k (taken (register k (incoming side c))) (incoming side c)) c
+read_by side k c = with_incoming side (with_register k (take_leaves (register k (incoming_bank side c))) (incoming_bank side c)) c
 
 -- The byte of a register written by a side.
 abbrev pub written_by : Side → ℕ → ℕ → State → State
 written_by side k byte c =
-    with_outgoing side (with_register k (written (capacity side k c.flags) byte (register k (outgoing side c))) (outgoing side c)) c
+    with_outgoing side (with_register k (write_leaves (capacity side k c.flags) byte (register k (outgoing_bank side c))) (outgoing_bank side c)) c
 
 -- a write to a status number: only the host's to number 0 does something
 abbrev pub status_written : Side → ℕ → ℕ → State → State
-status_written Host number byte c = if number == 0 then controlled byte c else c
+status_written Host number byte c = if number == 0 then control_leaves byte c else c
 status_written Para number byte c = c
 
 -- What an operation does, but for the counts. (That a reset clears flags and registers is this project's profile.)
-abbrev pub done : State → Side → Op → State
-done c side (Read number) = if is_status number then c else read_by side (register_number number) c
-done c side (Write number byte) =
+abbrev pub op_leaves : State → Side → Op → State
+op_leaves c side (Read number) = if is_status number then c else read_by side (register_number number) c
+op_leaves c side (Write number byte) =
     if is_status number then status_written side number byte c else written_by side (register_number number) byte c
-done c side Reset = cleared (record c { flags = no_flags })
+op_leaves c side Reset = clear_leaves (record c { flags = no_flags })
 
 -- one more, where something holds now that did not before; the counts have 32 bits
-abbrev pub risen : Bool → Bool → ℕ → ℕ
-risen before now n = if not before && now then (n + 1) % 2 ^ 32 else n
+abbrev pub count_of_rises : Bool → Bool → ℕ → ℕ
+count_of_rises before now n = if not before && now then (n + 1) % 2 ^ 32 else n
 
 -- with the two counts, of the rises of "M and N" and of P
-abbrev pub counted : State → State → State
-counted old new = record new {
-  nmis = risen (asks_nmi old) (asks_nmi new) old.nmis;
-  resets = risen old.flags.p new.flags.p old.resets;
+abbrev pub with_counts : State → State → State
+with_counts old new = record new {
+  nmis = count_of_rises (asks_nmi old) (asks_nmi new) old.nmis;
+  resets = count_of_rises old.flags.p new.flags.p old.resets;
 }
 
 -- The chip after an operation. A reset counts as one whatever P was, and leaves the count of NMIs.
 abbrev pub chip_after : State → Side → Op → State
-chip_after c side (Read number) = counted c (done c side (Read number))
-chip_after c side (Write number byte) = counted c (done c side (Write number byte))
-chip_after c side Reset = record (done c side Reset) { resets = (c.resets + 1) % 2 ^ 32 }
+chip_after c side (Read number) = with_counts c (op_leaves c side (Read number))
+chip_after c side (Write number byte) = with_counts c (op_leaves c side (Write number byte))
+chip_after c side Reset = record (op_leaves c side Reset) { resets = (c.resets + 1) % 2 ^ 32 }
 
 -- What a step asks of the chip: an access, or a look at the lines.
 pub data Query : Type 0 where

@@ -8,14 +8,14 @@ use Rattle.tube_chip.specs.State.{State, Flags, Bank}
 use Rattle.tube_chip.specs.Act.{flags_byte}
 
 -- the bytes that a register holds, or the one that it remembers
-abbrev pub shown : Register → List ℕ
-shown (empty remembered) = remembered ∷ []
-shown (holds front rest) = front ∷ rest
+abbrev pub shown_bytes : Register → List ℕ
+shown_bytes (empty remembered) = remembered ∷ []
+shown_bytes (holds front rest) = front ∷ rest
 
 -- It holds no more bytes than it has room for, and each is one of 256.
 pub record IsRegister (room : ℕ) (r : Register) : Type 0 where
   pub fits : count r ≤ room
-  pub bytes : All (λ b. b < 256) (shown r)
+  pub bytes : All (λ b. b < 256) (shown_bytes r)
 
 -- four registers, of which registers 2 to 4 have room for 1, 2 and 1 bytes
 pub record IsBank (room : ℕ) (bank : Bank) : Type 0 where
@@ -33,7 +33,7 @@ pub record IsChip (c : State) : Type 0 where
 
 -- The byte in a place of a register: the oldest stands at place 0, as does the remembered one of an empty register, and 00 stands behind them.
 abbrev pub place : Register → ℕ → ℕ
-place r i = get_or (shown r) i 0
+place r i = get_or (shown_bytes r) i 0
 
 -- eight places of a register
 abbrev pub places : Register → ℕ → List ℕ
@@ -60,15 +60,15 @@ para_bytes bank =
     ∷ place bank.r1 0 ∷ place bank.r2 0 ∷ place bank.r3 0 ∷ place bank.r3 1 ∷ place bank.r4 0 ∷ 0 ∷ 0 ∷ []
 
 -- The six words: both counts, the 24 places of register 1 to the host, and the two lists above.
-unfoldable pub packed : State → List ℕ
-packed c =
+unfoldable pub packed_words : State → List ℕ
+packed_words c =
     (c.nmis + 2 ^ 32 * c.resets)
     ∷ word (places c.to_host.r1 0) ∷ word (places c.to_host.r1 8) ∷ word (places c.to_host.r1 16)
     ∷ word (host_bytes c.flags c.to_host) ∷ word (para_bytes c.to_para) ∷ []
 
 -- two chips with the same words are the same
 abbrev pub PackingIsOneToOne : Type 0
-PackingIsOneToOne = (c d : State) → IsChip c → IsChip d → packed c ≡ packed d → c ≡ d
+PackingIsOneToOne = (c d : State) → IsChip c → IsChip d → packed_words c ≡ packed_words d → c ≡ d
 
 -- ---- What the code reads from any six words: of those of a chip, that chip.
 
@@ -98,8 +98,8 @@ para_from bytes = record {
 abbrev pub bytes_of : List ℕ → ℕ → List ℕ
 bytes_of words i = to_le_bytes w64 (slice_index words i)
 
-unfoldable pub unpacked : List ℕ → State
-unpacked words = record {
+unfoldable pub unpacked_chip : List ℕ → State
+unpacked_chip words = record {
   flags = flags_from (slice_index (bytes_of words 4) 0);
   to_host = host_from (bytes_of words 1 ++ bytes_of words 2 ++ bytes_of words 3) (bytes_of words 4);
   to_para = para_from (bytes_of words 5);

@@ -8,13 +8,13 @@ pub data Register : Type 0 where
   holds : (front : ℕ) (rest : List ℕ) → Register
 
 -- the bytes that it holds
-abbrev pub held : Register → List ℕ
-held (empty remembered) = []
-held (holds front rest) = front ∷ rest
+abbrev pub held_bytes : Register → List ℕ
+held_bytes (empty remembered) = []
+held_bytes (holds front rest) = front ∷ rest
 
 -- how many bytes it holds
 abbrev pub count : Register → ℕ
-count r = length (held r)
+count r = length (held_bytes r)
 
 -- the byte that a read answers: the front one, or the remembered one
 abbrev pub front_of : Register → ℕ
@@ -22,19 +22,19 @@ front_of (empty remembered) = remembered
 front_of (holds front rest) = front
 
 -- what a read leaves: the front byte is taken
-abbrev pub taken : Register → Register
-taken (empty remembered) = empty remembered
-taken (holds front []) = empty front
-taken (holds front (next ∷ rest)) = holds next rest
+abbrev pub take_leaves : Register → Register
+take_leaves (empty remembered) = empty remembered
+take_leaves (holds front []) = empty front
+take_leaves (holds front (next ∷ rest)) = holds next rest
 
 -- the byte joins the end of the list, and is ignored where the list has its capacity already
-abbrev pub added : ℕ → ℕ → Register → Register
-added capacity byte (empty remembered) = holds byte []
-added capacity byte (holds front rest) = if nat_lt (length (front ∷ rest)) capacity then holds front (rest ++ byte ∷ []) else holds front rest
+abbrev pub add_leaves : ℕ → ℕ → Register → Register
+add_leaves capacity byte (empty remembered) = holds byte []
+add_leaves capacity byte (holds front rest) = if nat_lt (length (front ∷ rest)) capacity then holds front (rest ++ byte ∷ []) else holds front rest
 
 -- What a write leaves: in a register for one byte the list becomes that byte, in a longer one the byte is added.
-abbrev pub written : ℕ → ℕ → Register → Register
-written capacity byte r = if capacity == 1 then holds byte [] else added capacity byte r
+abbrev pub write_leaves : ℕ → ℕ → Register → Register
+write_leaves capacity byte r = if capacity == 1 then holds byte [] else add_leaves capacity byte r
 
 -- the register that holds these bytes, and remembers this one where there are none
 abbrev pub register_of : List ℕ → ℕ → Register

@@ -49,14 +49,14 @@ with_register k r bank =
     else record bank { r4 = r }
 
 -- the registers that a side reads
-abbrev pub incoming : Side → State → Bank
-incoming Host c = c.to_host
-incoming Para c = c.to_para
+abbrev pub incoming_bank : Side → State → Bank
+incoming_bank Host c = c.to_host
+incoming_bank Para c = c.to_para
 
 -- the registers that a side writes
-abbrev pub outgoing : Side → State → Bank
-outgoing Host c = c.to_para
-outgoing Para c = c.to_host
+abbrev pub outgoing_bank : Side → State → Bank
+outgoing_bank Host c = c.to_para
+outgoing_bank Para c = c.to_host
 
 abbrev pub with_incoming : Side → Bank → State → State
 with_incoming Host bank c = record c { to_host = bank }
@@ -103,8 +103,8 @@ clear_bank = record { r1 = empty 0; r2 = empty 0; r3 = empty 0; r4 = empty 0 }
 
 -- Clearing the registers: all are emptied, and register 3 to the host gets one byte 00; flags and counts stay.
 -- (That byte, and the remembered ones, are this project's profile.)
-abbrev pub cleared : State → State
-cleared c = record c { to_host = record clear_bank { r3 = holds 0 [] }; to_para = clear_bank }
+abbrev pub clear_leaves : State → State
+clear_leaves c = record c { to_host = record clear_bank { r3 = holds 0 [] }; to_para = clear_bank }
 
 abbrev pub no_flags : Flags
 no_flags = record { p = false; v = false; m = false; j = false; i = false; q = false }

@@ -2,9 +2,9 @@
 ghost use Rattle.std.specs.Prelude.{◌≡◌, ◌<◌, ◌+◌, nat_lt, if◌then◌else◌};
 ghost use Rattle.beeb_bits.specs.Bits.{weight};
 ghost use Rattle.beeb_bits.specs.declared.Side.TheVariants.{Host, Para};
-ghost use Rattle.tube_chip.specs.Register.{count, written};
-ghost use Rattle.tube_chip.specs.State.{power_on, lines_of, is_empty, is_ready, wants_service, asks_nmi, cleared};
-ghost use Rattle.tube_chip.specs.Act.{MayDo, status, answer_of, controlled, done, risen, counted, chip_after};
+ghost use Rattle.tube_chip.specs.Register.{count, write_leaves};
+ghost use Rattle.tube_chip.specs.State.{power_on, lines_of, is_empty, is_ready, wants_service, asks_nmi, clear_leaves};
+ghost use Rattle.tube_chip.specs.Act.{MayDo, status, answer_of, control_leaves, op_leaves, count_of_rises, with_counts, chip_after};
 ghost use Rattle.tube_chip.specs.declared.Op.TheVariants.{Read, Write, Reset};
 
 use crate::flags::{Flags, flags_after, flags_byte, no_flags};
@@ -98,7 +98,7 @@ fn has_room(v: bool, r3: &Register<2>) -> bool
 
 // A byte for register 3: added where V is set, else alone.
 fn send(v: bool, byte: u8, r3: &mut Register<2>)
-    ensures { r3.new ≡ written (if v then 2 else 1) byte r3.old }
+    ensures { r3.new ≡ write_leaves (if v then 2 else 1) byte r3.old }
 {
     if v {
         r3.add(byte);
@@ -116,7 +116,7 @@ fn status_byte(is_available: bool, is_not_full: bool, low: u8) -> u8
 
 // One more, where something holds now that did not before.
 fn risen(before: bool, now: bool, count: u32) -> u32
-    ensures { result ≡ risen before now count }
+    ensures { result ≡ count_of_rises before now count }
 {
     if !before && now {
         count.wrapping_add(1)
@@ -173,7 +173,7 @@ impl Chip {
     // An operation, with the rises counted.
     fn access(&mut self, side: Side, op: Op) -> u8
         requires { MayDo side op }
-        ensures chip { self.new ≡ counted self.old (done self.old side op) }
+        ensures chip { self.new ≡ with_counts self.old (op_leaves self.old side op) }
         ensures answer { result ≡ answer_of self.old side op }
     {
         let asked = self.asks_nmi();
@@ -187,7 +187,7 @@ impl Chip {
     // An operation but for the counts.
     fn operate(&mut self, side: Side, op: Op) -> u8
         requires { MayDo side op }
-        ensures chip { self.new ≡ done self.old side op }
+        ensures chip { self.new ≡ op_leaves self.old side op }
         ensures answer { result ≡ answer_of self.old side op }
     {
         match (side, op) {
@@ -210,7 +210,7 @@ impl Chip {
 
     fn host_reads(&mut self, number: u8) -> u8
         requires { number < 8 }
-        ensures chip { self.new ≡ done self.old Host (Read number) }
+        ensures chip { self.new ≡ op_leaves self.old Host (Read number) }
         ensures answer { result ≡ answer_of self.old Host (Read number) }
     {
         match number {
@@ -235,7 +235,7 @@ impl Chip {
 
     fn para_reads(&mut self, number: u8) -> u8
         requires { number < 8 }
-        ensures chip { self.new ≡ done self.old Para (Read number) }
+        ensures chip { self.new ≡ op_leaves self.old Para (Read number) }
         ensures answer { result ≡ answer_of self.old Para (Read number) }
     {
         match number {
@@ -260,7 +260,7 @@ impl Chip {
 
     fn host_writes(&mut self, number: u8, byte: u8)
         requires { number < 8 }
-        ensures { self.new ≡ done self.old Host (Write number byte) }
+        ensures { self.new ≡ op_leaves self.old Host (Write number byte) }
     {
         match number {
             0 => self.control(byte),
@@ -274,7 +274,7 @@ impl Chip {
 
     fn para_writes(&mut self, number: u8, byte: u8)
         requires { number < 8 }
-        ensures { self.new ≡ done self.old Para (Write number byte) }
+        ensures { self.new ≡ op_leaves self.old Para (Write number byte) }
     {
         match number {
             1 => self.to_host.r1.add(byte),
@@ -287,7 +287,7 @@ impl Chip {
 
     // A reset but for its count.
     fn clear(&mut self)
-        ensures { self.new ≡ done self.old Host Reset }
+        ensures { self.new ≡ op_leaves self.old Host Reset }
     {
         self.flags = no_flags();
         self.to_host = clear_to_host();
@@ -296,7 +296,7 @@ impl Chip {
 
     // A write to the control register.
     fn control(&mut self, byte: u8)
-        ensures { self.new ≡ controlled byte self.old }
+        ensures { self.new ≡ control_leaves byte self.old }
     {
         self.flags = flags_after(byte, self.flags);
         if bit(byte, 7) && bit(byte, 6) {

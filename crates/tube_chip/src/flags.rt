@@ -1,7 +1,7 @@
 //! The flags of the control register.
 ghost use Rattle.std.specs.Prelude.{◌≡◌, ◌≤◌};
 ghost use Rattle.tube_chip.specs.State.{no_flags};
-ghost use Rattle.tube_chip.specs.Act.{flags_byte, flags_after, marked};
+ghost use Rattle.tube_chip.specs.Act.{flags_byte, flags_after, flag_after};
 ghost use Rattle.tube_chip.specs.Code.{flags_of};
 
 use beeb_bits::{bit, weight};
@@ -33,7 +33,7 @@ pub(crate) fn no_flags() -> Flags
 // A flag, set to `set` where bit `n` of the byte marks it.
 fn marked(byte: u8, n: u8, set: bool, flag: bool) -> bool
     requires { n ≤ 7 }
-    ensures { result ≡ marked byte n set flag }
+    ensures { result ≡ flag_after byte n set flag }
 {
     if bit(byte, n) { set } else { flag }
 }

@@ -7,7 +7,7 @@ ghost use Rattle.std.specs.Prelude.{◌≡◌, ◌<◌, ◌≤◌, ◌+◌, ◌*
 ghost use Rattle.std.specs.Int.{w64, to_le_bytes};
 ghost use Rattle.tube_chip.specs.Code.{flags_of};
 ghost use Rattle.tube_chip.specs.State.{State};
-ghost use Rattle.tube_chip.specs.Packing.{IsBank, IsChip, packed, unpacked, counts, word, host_bytes, para_bytes, flags_from, host_from, para_from};
+ghost use Rattle.tube_chip.specs.Packing.{IsBank, IsChip, packed_words, unpacked_chip, counts, word, host_bytes, para_bytes, flags_from, host_from, para_from};
 
 use crate::chip::{Chip, ToHost, ToPara};
 use crate::flags::{Flags, flags_byte};
@@ -121,9 +121,9 @@ fn para_from(bytes: [u8; 8]) -> ToPara
 }
 
 // Some chip of any six words: of those of a chip, that chip.
-#[tactic(auto, unfolding(crate::specs::Packing::unpacked))]
+#[tactic(auto, unfolding(crate::specs::Packing::unpacked_chip))]
 fn read_back(words: &[u64; 6]) -> Chip
-    ensures { result ≡ unpacked words.now }
+    ensures { result ≡ unpacked_chip words.now }
 {
     let bytes = words[4].to_le_bytes();
     let queue = queue_from(words[1], words[2], words[3]);
@@ -138,9 +138,9 @@ fn read_back(words: &[u64; 6]) -> Chip
 
 impl Chip {
     /// The six words of the chip. Two chips with the same words are the same.
-    #[tactic(auto, unfolding(crate::specs::Packing::packed))]
+    #[tactic(auto, unfolding(crate::specs::Packing::packed_words))]
     pub fn pack(&self) -> [u64; 6]
-        ensures words { result ≡ packed self.now }
+        ensures words { result ≡ packed_words self.now }
         ensures bounds { IsChip self.now }
     {
         [
@@ -155,8 +155,8 @@ impl Chip {
 
     /// The chip of these words: `None` where they are those of no chip.
     pub fn unpack(words: [u64; 6]) -> Option<Chip>
-        ensures packed { IfSome result (λ c. IsChip c × (words ≡ packed c)) }
-        ensures each { (c : State) → IsChip c → words ≡ packed c → result ≡ Some c }
+        ensures packed { IfSome result (λ c. IsChip c × (words ≡ packed_words c)) }
+        ensures each { (c : State) → IsChip c → words ≡ packed_words c → result ≡ Some c }
     {
         let chip = read_back(&words);
         if chip.pack() == words {

@@ -1,7 +1,7 @@
 //! One direction of a register of the Tube.
 ghost use Rattle.std.specs.Prelude.{◌≡◌, ◌+◌, ◌<◌, ◌≤◌, []};
 ghost use Rattle.std.specs.List.{All};
-ghost use Rattle.tube_chip.specs.Register.{holds, empty, count, front_of, taken, added};
+ghost use Rattle.tube_chip.specs.Register.{holds, empty, count, front_of, take_leaves, add_leaves};
 ghost use Rattle.tube_chip.specs.State.{is_empty};
 ghost use Rattle.tube_chip.specs.Packing.{IsRegister, place, places, word, register_from};
 
@@ -109,7 +109,7 @@ impl<const ROOM: usize> Register<ROOM> {
     /// Takes the front byte, or answers the one last taken.
     pub(crate) fn take(&mut self) -> u8
         ensures byte { result ≡ front_of self.old }
-        ensures rest { self.new ≡ taken self.old }
+        ensures rest { self.new ≡ take_leaves self.old }
     {
         let byte = self.bytes[0];
         if self.held > 1 {
@@ -131,7 +131,7 @@ impl<const ROOM: usize> Register<ROOM> {
 
     /// Adds a byte at the end, where there is room.
     pub(crate) fn add(&mut self, byte: u8)
-        ensures { self.new ≡ added ROOM byte self.old }
+        ensures { self.new ≡ add_leaves ROOM byte self.old }
     {
         if self.held < ROOM {
             self.bytes[self.held] = byte;

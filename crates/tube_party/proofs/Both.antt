@@ -12,13 +12,13 @@ use Rattle.beeb_bits.specs.declared.Side.{Side}
 use Rattle.beeb_bits.specs.declared.Side.TheVariants.{Host, Para}
 use Rattle.tube_party.specs.declared.party.Ask.{Ask}
 use Rattle.tube_party.specs.declared.party.Ask.TheVariants.{Nothing, Access, Look}
-use Rattle.tube_party.specs.Moves.{Moves, IsLawful, IsAsk, Advances, Looks, Goes, Sees, IsUnsure, Runs, shut, shown, course}
-use Rattle.tube_party.specs.Reference.{ticks, start, reference, stepped, with_host}
+use Rattle.tube_party.specs.Moves.{Moves, IsLawful, IsAsk, Advances, Looks, Goes, Sees, IsUnsure, Runs, close_leaves, shown_lines, course}
+use Rattle.tube_party.specs.Reference.{ticks, start, reference, step_leaves, with_host}
 use Rattle.tube_trace.specs.Entries.{accesses, entry_of}
-use Rattle.tube_party.specs.Played.{IsKept, Played, IsPlayed}
-use Rattle.tube_party.specs.Turn.{IsPending, first_of, first_due, left, tick_of, noted_all, IsSure}
-use Rattle.tube_party.specs.Desk.{Desk, Acts}
-use Rattle.tube_party.specs.Standing.{Standing, standing, IsGone, StandsStill, IsRolledBack}
+use Rattle.tube_party.specs.OneThread.{IsKept, Played, IsPlayed}
+use Rattle.tube_party.specs.Turn.{IsPending, first_of, first_due, ticks_left, tick_of, note_all_leaves, IsSure}
+use Rattle.tube_party.specs.CodeDesk.{Desk, Acts}
+use Rattle.tube_party.specs.CodeStanding.{Standing, standing_of, IsGone, StandsStill, IsRolledBack}
 use Rattle.tube_party.proofs.Ticks.{world, host_done, rest, host_next, host_silent, para_next, para_silent}
 use Rattle.tube_party.proofs.Runs.{event, First, Over, Silent, Asking, first_of_runs}
 use Rattle.tube_party.proofs.Kept.{kept_own, kept_host_by_para, kept_para_by_host, at_most_one}
@@ -40,7 +40,7 @@ abbrev pub IsSettled : {S : Type 0} → Moves S → ℕ → Lines → Lines → 
 IsSettled m n seen lines at old new = StandsStill seen lines old new ⊎ IsRolledBack m n seen at old new
 
 -- a party after its step that asked, and then after those that ask nothing
-pub tick_of_pending : {S : Type 0} (r : Moves S) (n : ℕ) (s : S) (ask : Ask) → IsPending r n s ask → left n ask + r.due s ≡ n
+pub tick_of_pending : {S : Type 0} (r : Moves S) (n : ℕ) (s : S) (ask : Ask) → IsPending r n s ask → ticks_left n ask + r.due s ≡ n
 tick_of_pending r n s Nothing h = absurd h
 tick_of_pending r n s (Access t op) h = omega (arith, h.0, h.1)
 tick_of_pending r n s (Look t) h = omega (arith, h.0, h.1)
@@ -50,13 +50,13 @@ due_of_pending r n s Nothing h = absurd h
 due_of_pending r n s (Access t op) h = omega (arith, h.0, h.1)
 due_of_pending r n s (Look t) h = omega (arith, h.0, h.1)
 
-left_of_ask : {S : Type 0} (r : Moves S) (n : ℕ) (last s : S) (ask : Ask) (d : ℕ) → IsAsk r n last ask s → d < n → d < r.due last → left n ask + d < n
+left_of_ask : {S : Type 0} (r : Moves S) (n : ℕ) (last s : S) (ask : Ask) (d : ℕ) → IsAsk r n last ask s → d < n → d < r.due last → ticks_left n ask + d < n
 left_of_ask r n last s Nothing d h lt up = omega arith
 left_of_ask r n last s (Access t op) d h lt up = omega (arith, h.0, h.1)
 left_of_ask r n last s (Look t) d h lt up = omega (arith, h.0, h.1)
 
 -- after steps from a state, what is left is less than from a tick before it
-pub left_after : {S : Type 0} (r : Moves S) → IsLawful r → (n : ℕ) (lines : Lines) (sure k : ℕ) (s last s2 : S) (ask : Ask) (d : ℕ) → Looks r n (shown lines sure) k s last → IsAsk r n last ask s2 → d < n → d < r.due s → left n ask + d < n
+pub left_after : {S : Type 0} (r : Moves S) → IsLawful r → (n : ℕ) (lines : Lines) (sure k : ℕ) (s last s2 : S) (ask : Ask) (d : ℕ) → Looks r n (shown_lines lines sure) k s last → IsAsk r n last ask s2 → d < n → d < r.due s → ticks_left n ask + d < n
 left_after r lr n lines sure k s last s2 ask d looks asked low up =
     let on : r.due s ≤ r.due last = due_rises r n lines sure k s last lr looks in
     left_of_ask r n last s2 ask d asked low (omega arith)
@@ -165,8 +165,8 @@ module _ {S T : Type 0} (h : Moves S) (p : Moves T) (lh : IsLawful h) (lp : IsLa
   -- no access of the parasite comes before the host's looks
   host_saw_by : (keep sure far k : ℕ) (u last : S) (t : T) (c : State) (l : List Event) (hl pl : List Entry) (hc pc : ℕ)
       → ((x : ℕ) → x < n → x < sure → x < far + 1) → ((i : ℕ) → IsCalm p (lines_of c) far i t) → h.due u < n → (o : Option Query) → h.asks u ≡ o
-      → ((v : S) (k2 : List Event) → Looks h n (shown (lines_of c) sure) k v last → IsKept Host k2 keep hl hc → IsKept Para k2 keep pl pc → HostSaw keep v last t c k2 hl pl hc pc)
-      → MatchOption o (Looks h n (shown (lines_of c) sure) k (h.next u None) last) (λ q. (q ≡ look) × (h.due u < sure) × Looks h n (shown (lines_of c) sure) k (h.next u (Some (Seen (lines_of c)))) last)
+      → ((v : S) (k2 : List Event) → Looks h n (shown_lines (lines_of c) sure) k v last → IsKept Host k2 keep hl hc → IsKept Para k2 keep pl pc → HostSaw keep v last t c k2 hl pl hc pc)
+      → MatchOption o (Looks h n (shown_lines (lines_of c) sure) k (h.next u None) last) (λ q. (q ≡ look) × (h.due u < sure) × Looks h n (shown_lines (lines_of c) sure) k (h.next u (Some (Seen (lines_of c)))) last)
       → IsKept Host l keep hl hc → IsKept Para l keep pl pc
       → HostSaw keep u last t c l hl pl hc pc
   host_saw_by keep sure far k u last t c l hl pl hc pc first calm low None is on looks kh kp =
@@ -193,7 +193,7 @@ module _ {S T : Type 0} (h : Moves S) (p : Moves T) (lh : IsLawful h) (lp : IsLa
       }
 
   host_saw : (keep sure far k : ℕ) (u last : S) (t : T) (c : State) (l : List Event) (hl pl : List Entry) (hc pc : ℕ)
-      → ((x : ℕ) → x < n → x < sure → x < far + 1) → ((i : ℕ) → IsCalm p (lines_of c) far i t) → Looks h n (shown (lines_of c) sure) k u last → IsKept Host l keep hl hc → IsKept Para l keep pl pc
+      → ((x : ℕ) → x < n → x < sure → x < far + 1) → ((i : ℕ) → IsCalm p (lines_of c) far i t) → Looks h n (shown_lines (lines_of c) sure) k u last → IsKept Host l keep hl hc → IsKept Para l keep pl pc
       → HostSaw keep u last t c l hl pl hc pc
   host_saw keep sure far zero u last t c l hl pl hc pc first calm looks kh kp =
       record { events = l; same = alike _ _ (ap (λ (x : S). ticks h p n 0 (world x t c l)) looks); host_kept = kh; para_kept = kp }
@@ -203,8 +203,8 @@ module _ {S T : Type 0} (h : Moves S) (p : Moves T) (lh : IsLawful h) (lp : IsLa
   -- no access of the host comes before the parasite's looks
   para_saw_by : (keep sure far k : ℕ) (s : S) (u last : T) (c : State) (l : List Event) (hl pl : List Entry) (hc pc : ℕ)
       → ((x : ℕ) → x < n → x < sure → x < far + 0) → ((i : ℕ) → IsCalm h (lines_of c) far i s) → p.due u < n → (o : Option Query) → p.asks u ≡ o
-      → ((v : T) (k2 : List Event) → Looks p n (shown (lines_of c) sure) k v last → IsKept Host k2 keep hl hc → IsKept Para k2 keep pl pc → ParaSaw keep s v last c k2 hl pl hc pc)
-      → MatchOption o (Looks p n (shown (lines_of c) sure) k (p.next u None) last) (λ q. (q ≡ look) × (p.due u < sure) × Looks p n (shown (lines_of c) sure) k (p.next u (Some (Seen (lines_of c)))) last)
+      → ((v : T) (k2 : List Event) → Looks p n (shown_lines (lines_of c) sure) k v last → IsKept Host k2 keep hl hc → IsKept Para k2 keep pl pc → ParaSaw keep s v last c k2 hl pl hc pc)
+      → MatchOption o (Looks p n (shown_lines (lines_of c) sure) k (p.next u None) last) (λ q. (q ≡ look) × (p.due u < sure) × Looks p n (shown_lines (lines_of c) sure) k (p.next u (Some (Seen (lines_of c)))) last)
       → IsKept Host l keep hl hc → IsKept Para l keep pl pc
       → ParaSaw keep s u last c l hl pl hc pc
   para_saw_by keep sure far k s u last c l hl pl hc pc first calm low None is on looks kh kp =
@@ -232,7 +232,7 @@ module _ {S T : Type 0} (h : Moves S) (p : Moves T) (lh : IsLawful h) (lp : IsLa
       }
 
   para_saw : (keep sure far k : ℕ) (s : S) (u last : T) (c : State) (l : List Event) (hl pl : List Entry) (hc pc : ℕ)
-      → ((x : ℕ) → x < n → x < sure → x < far + 0) → ((i : ℕ) → IsCalm h (lines_of c) far i s) → Looks p n (shown (lines_of c) sure) k u last → IsKept Host l keep hl hc → IsKept Para l keep pl pc
+      → ((x : ℕ) → x < n → x < sure → x < far + 0) → ((i : ℕ) → IsCalm h (lines_of c) far i s) → Looks p n (shown_lines (lines_of c) sure) k u last → IsKept Host l keep hl hc → IsKept Para l keep pl pc
       → ParaSaw keep s u last c l hl pl hc pc
   para_saw keep sure far zero s u last c l hl pl hc pc first calm looks kh kp =
       record { events = l; same = alike _ _ (ap (λ (x : T). ticks h p n 0 (world s x c l)) looks); host_kept = kh; para_kept = kp }
@@ -245,7 +245,7 @@ module _ {S T : Type 0} (h : Moves S) (p : Moves T) (lh : IsLawful h) (lp : IsLa
       → (d : Acts h Host keep (seated s c hl hc) (seated s2 c2 hl2 hc2))
       → IsLike (ticks h p n 0 (world s t c w.events)) (ticks h p n 0 (world (h.next s (Some (act c Host d.query).1)) t (act c Host d.query).0 (w.events ++ event (h.due s) Host d.query (act c Host d.query).1 ∷ [])))
       → ((x : ℕ) → x < n → x < sure → x < far + 1) → ((i : ℕ) → IsCalm p (lines_of c2) far i t)
-      → Sees h n (shown (lines_of c2) sure) s2 ask2 s3
+      → Sees h n (shown_lines (lines_of c2) sure) s2 ask2 s3
       → IsAt h p n keep s0 t0 s3 t c2 ask2 hl2 pl hc2 pc
   host_does keep sure far s0 s s2 s3 t0 t c c2 ask_h ask2 hl pl hl2 hc pc hc2 w here d does first calm sees =
       let a : Answer = (act c Host d.query).1 in
@@ -283,7 +283,7 @@ module _ {S T : Type 0} (h : Moves S) (p : Moves T) (lh : IsLawful h) (lp : IsLa
       → HostFirst h p n s w.at.host_last w.para_last ask_h
       → Acts h Host keep (seated s c hl hc) (seated s2 c2 hl2 hc2)
       → IsSure 1 ask_p sure
-      → Sees h n (shown (lines_of c2) sure) s2 ask2 s3
+      → Sees h n (shown_lines (lines_of c2) sure) s2 ask2 s3
       → IsUnderWay h p n keep s0 t0 s3 t c2 ask2 ask_p hl2 pl hc2 pc
   host_turn keep sure s0 s s2 s3 t0 t c c2 ask_h ask_p ask2 hl pl hl2 hc pc hc2 w f d told sees =
       let same_due : h.due s ≡ h.due w.at.host_last = ap h.due f.here in
@@ -292,7 +292,7 @@ module _ {S T : Type 0} (h : Moves S) (p : Moves T) (lh : IsLawful h) (lp : IsLa
         at = host_does keep sure (p.due w.para_last) s0 s s2 s3 t0 w.para_last c c2 ask_h ask2 hl pl hl2 hc pc hc2 w.at f.here d
             (alike _ _ (
             host_next h p lh lp n 0 s w.para_last c w.at.events (omega arith) (omega (arith, f.below)) (omega (arith, f.first))
-            ∙ ap (λ (o : Option Query). ticks h p n 0 (host_done (stepped h Host (record { state = s; chip = c; list = w.at.events }) o) w.para_last)) d.asks))
+            ∙ ap (λ (o : Option Query). ticks h p n 0 (host_done (step_leaves h Host (record { state = s; chip = c; list = w.at.events }) o) w.para_last)) d.asks))
             (in_time p n 1 sure t w.para_last ask_p w.para_asked told) (λ i. calm_late p (lines_of c2) (p.due w.para_last) i w.para_last lp (omega arith)) sees;
         para_asked = w.para_asked;
       }
@@ -300,12 +300,12 @@ module _ {S T : Type 0} (h : Moves S) (p : Moves T) (lh : IsLawful h) (lp : IsLa
   -- the host's turn while the parasite is ahead, where it leaves the lines
   host_meanwhile : (keep sure far : ℕ) (s0 s s2 s3 : S) (t0 mark t : T) (c c2 : State) (ask_h ask_p ask2 : Ask) (hl pl hl2 : List Entry) (hc pc hc2 : ℕ)
       → (w : IsAt h p n keep s0 t0 s mark c ask_h hl pl hc pc)
-      → (g : Goes p n (shown (lines_of c) far) mark ask_p t)
+      → (g : Goes p n (shown_lines (lines_of c) far) mark ask_p t)
       → HostFirst h p n s w.host_last g.last ask_h
       → Acts h Host keep (seated s c hl hc) (seated s2 c2 hl2 hc2)
       → lines_of c2 ≡ lines_of c
       → IsSure 1 ask_p sure
-      → Sees h n (shown (lines_of c2) sure) s2 ask2 s3
+      → Sees h n (shown_lines (lines_of c2) sure) s2 ask2 s3
       → IsAt h p n keep s0 t0 s3 mark c2 ask2 hl2 pl hc2 pc
   host_meanwhile keep sure far s0 s s2 s3 t0 mark t c c2 ask_h ask_p ask2 hl pl hl2 hc pc hc2 w g f d lines told sees =
       let same_due : h.due s ≡ h.due w.host_last = ap h.due f.here in
@@ -337,7 +337,7 @@ module _ {S T : Type 0} (h : Moves S) (p : Moves T) (lh : IsLawful h) (lp : IsLa
             like_on _ _ _ w.at.same (alike _ _ (
             ap (λ (x : T). ticks h p n 0 (world w.at.host_last x c w.at.events)) (sym f.here)
             ∙ para_next h p lh lp n 0 w.at.host_last t c w.at.events (omega arith) (omega (arith, f.below)) (omega (arith, f.first))
-            ∙ ap (λ (o : Option Query). ticks h p n 0 (with_host w.at.host_last (stepped p Para (record { state = t; chip = c; list = w.at.events }) o))) d.asks
+            ∙ ap (λ (o : Option Query). ticks h p n 0 (with_host w.at.host_last (step_leaves p Para (record { state = t; chip = c; list = w.at.events }) o))) d.asks
             ∙ ap (λ (x : State). ticks h p n 0 (world w.at.host_last (p.next t (Some a)) x done)) (sym d.chip_is)
             ∙ ap (λ (x : T). ticks h p n 0 (world w.at.host_last x c2 done)) (sym d.state_is)));
         host_kept = kept_host_by_para w.at.events keep hl hc (p.due t) d.query a w.at.host_kept;
@@ -349,7 +349,7 @@ module _ {S T : Type 0} (h : Moves S) (p : Moves T) (lh : IsLawful h) (lp : IsLa
   -- the parasite's looks are the reference's where the host makes no access before them
   catch_up : (keep sure : ℕ) (s0 s : S) (t0 mark last t : T) (c : State) (ask_h ask_p : Ask) (hl pl : List Entry) (hc pc k : ℕ)
       → (w : IsAt h p n keep s0 t0 s mark c ask_h hl pl hc pc)
-      → Looks p n (shown (lines_of c) sure) k mark last → IsAsk p n last ask_p t
+      → Looks p n (shown_lines (lines_of c) sure) k mark last → IsAsk p n last ask_p t
       → ((x : ℕ) → x < n → x < sure → x < h.due w.host_last + 0)
       → IsUnderWay h p n keep s0 t0 s t c ask_h ask_p hl pl hc pc
   catch_up keep sure s0 s t0 mark last t c ask_h ask_p hl pl hc pc k w looks asked first =
@@ -383,7 +383,7 @@ module _ {S T : Type 0} (h : Moves S) (p : Moves T) (lh : IsLawful h) (lp : IsLa
 
   -- so that all of the parasite's looks are the reference's
   caught_up : (keep : ℕ) (s0 s : S) (t0 mark t : T) (c : State) (ask_h ask_p : Ask) (hl pl : List Entry) (hc pc far : ℕ)
-      → IsAt h p n keep s0 t0 s mark c ask_h hl pl hc pc → Goes p n (shown (lines_of c) far) mark ask_p t → (first_of ask_h ask_p ≡ Some Host → ⊥)
+      → IsAt h p n keep s0 t0 s mark c ask_h hl pl hc pc → Goes p n (shown_lines (lines_of c) far) mark ask_p t → (first_of ask_h ask_p ≡ Some Host → ⊥)
       → IsUnderWay h p n keep s0 t0 s t c ask_h ask_p hl pl hc pc
   caught_up keep s0 s t0 mark t c ask_h ask_p hl pl hc pc far w g never =
       catch_up keep (p.due g.last) s0 s t0 mark g.last t c ask_h ask_p hl pl hc pc g.steps w
@@ -402,7 +402,7 @@ module _ {S T : Type 0} (h : Moves S) (p : Moves T) (lh : IsLawful h) (lp : IsLa
       → first_of ask_h ask_p ≡ Some Para
       → Acts p Para keep (seated t c pl pc) (seated t2 c2 pl2 pc2)
       → IsSure 0 ask_h sure
-      → IsGone p n (lines_of c2) sure t2 (standing ahead2 ask2 mark3 t3)
+      → IsGone p n (lines_of c2) sure t2 (standing_of ahead2 ask2 mark3 t3)
       → IsGoing h p n keep s0 t0 ahead2 s mark3 t3 c2 ask_h ask2 hl pl2 hc pc2
   para_turn keep sure s0 s t0 mark t t2 mark3 t3 c c2 ask_h ask_p ask2 hl pl pl2 hc pc pc2 ahead ahead2 w e d told gone =
       let never : first_of ask_h ask_p ≡ Some Host → ⊥ = λ x. host_or_para (sym x ∙ e) in
@@ -410,17 +410,17 @@ module _ {S T : Type 0} (h : Moves S) (p : Moves T) (lh : IsLawful h) (lp : IsLa
       para_step keep s0 s t0 t t2 c c2 ask_h ask_p hl pl pl2 hc pc pc2 (settled keep s0 s t0 mark t c ask_h ask_p hl pl hc pc ahead w never) e d in
       by ahead2 at gone
     where
-      by : (b : Bool) → IsAt h p n keep s0 t0 s t2 c2 ask_h hl pl2 hc pc2 → IsGone p n (lines_of c2) sure t2 (standing b ask2 mark3 t3) → IsGoing h p n keep s0 t0 b s mark3 t3 c2 ask_h ask2 hl pl2 hc pc2
+      by : (b : Bool) → IsAt h p n keep s0 t0 s t2 c2 ask_h hl pl2 hc pc2 → IsGone p n (lines_of c2) sure t2 (standing_of b ask2 mark3 t3) → IsGoing h p n keep s0 t0 b s mark3 t3 c2 ask_h ask2 hl pl2 hc pc2
       by true at g =
-          (subst (λ (x : T). IsAt h p n keep s0 t0 s x c2 ask_h hl pl2 hc pc2) (sym g.1) at, (g.0.0, subst (λ (x : T). Goes p n (shown (lines_of c2) g.0.0) x ask2 t3) (sym g.1) g.0.1))
+          (subst (λ (x : T). IsAt h p n keep s0 t0 s x c2 ask_h hl pl2 hc pc2) (sym g.1) at, (g.0.0, subst (λ (x : T). Goes p n (shown_lines (lines_of c2) g.0.0) x ask2 t3) (sym g.1) g.0.1))
       by false at g =
           catch_up keep sure s0 s t0 t2 g.last t3 c2 ask_h ask2 hl pl2 hc pc2 g.steps at g.looks g.asked (in_time h n 0 sure s at.host_last ask_h at.host_asked told)
 
   -- where the host makes its access at once after what the parasite went back to
   rewound_first : (s hl : S) (mark last last2 t2 : T) (lines : Lines) (far at j k : ℕ) (ask_h ask_p ask2 : Ask)
       → HostFirst h p n s hl last ask_h → at ≡ h.due hl
-      → Looks p n (shown lines far) j mark last
-      → Looks p n (shown lines at) k mark last2 → IsAsk p n last2 ask2 t2 → IsUnsure at ask2
+      → Looks p n (shown_lines lines far) j mark last
+      → Looks p n (shown_lines lines at) k mark last2 → IsAsk p n last2 ask2 t2 → IsUnsure at ask2
       → HostFirst h p n s hl last2 ask_h
   rewound_first s hl mark last last2 t2 lines far at j k ask_h ask_p ask2 f is looks looks2 asked unsure =
       record { pending = f.pending; here = f.here; below = f.below; first = by ask2 asked unsure }
@@ -440,9 +440,9 @@ module _ {S T : Type 0} (h : Moves S) (p : Moves T) (lh : IsLawful h) (lp : IsLa
       → IsGoing h p n keep s0 t0 ahead s mark t c ask_h ask_p hl pl hc pc
       → first_of ask_h ask_p ≡ Some Host
       → Acts h Host keep (seated s c hl hc) (seated s2 c2 hl2 hc2)
-      → IsSettled p n (lines_of c) (lines_of c2) (tick_of ask_h) (standing ahead ask_p mark t) (standing ahead2 ask_p2 mark2 t2)
+      → IsSettled p n (lines_of c) (lines_of c2) (tick_of ask_h) (standing_of ahead ask_p mark t) (standing_of ahead2 ask_p2 mark2 t2)
       → IsSure 1 ask_p2 sure
-      → Sees h n (shown (lines_of c2) sure) s2 ask2 s3
+      → Sees h n (shown_lines (lines_of c2) sure) s2 ask2 s3
       → IsGoing h p n keep s0 t0 ahead2 s3 mark2 t2 c2 ask2 ask_p2 hl2 pl hc2 pc
   unfolding catch_up
   host_goes keep sure s0 s s2 s3 t0 mark t mark2 t2 c c2 ask_h ask_p ask_p2 ask2 hl pl hl2 hc pc hc2 ahead ahead2 w e d (inl kept) told sees =
@@ -465,9 +465,9 @@ module _ {S T : Type 0} (h : Moves S) (p : Moves T) (lh : IsLawful h) (lp : IsLa
       by false w lines told =
           host_turn keep sure s0 s s2 s3 t0 t c c2 ask_h ask_p ask2 hl pl hl2 hc pc hc2 w (host_first h p n s w.at.host_last t w.para_last ask_h ask_p w.at.host_asked w.para_asked e) d told sees
       by true w lines told =
-          let g : Goes p n (shown (lines_of c) w.1.0) mark ask_p t = w.1.1 in (
+          let g : Goes p n (shown_lines (lines_of c) w.1.0) mark ask_p t = w.1.1 in (
             host_meanwhile keep sure w.1.0 s0 s s2 s3 t0 mark t c c2 ask_h ask_p ask2 hl pl hl2 hc pc hc2 w.0 g (host_first h p n s w.0.host_last t g.last ask_h ask_p w.0.host_asked g.asked e) d (lines refl) told sees,
-            (w.1.0, subst (λ (x : Lines). Goes p n (shown x w.1.0) mark ask_p t) (sym (lines refl)) g),
+            (w.1.0, subst (λ (x : Lines). Goes p n (shown_lines x w.1.0) mark ask_p t) (sym (lines refl)) g),
           )
   host_goes keep sure s0 s s2 s3 t0 mark t mark2 t2 c c2 ask_h ask_p ask_p2 ask2 hl pl hl2 hc pc hc2 ahead ahead2 w e d (inr back) told sees =
       by ahead ahead2 back.0 back.1 w
@@ -476,8 +476,8 @@ module _ {S T : Type 0} (h : Moves S) (p : Moves T) (lh : IsLawful h) (lp : IsLa
       by false b2 is is2 w = cc
       by true true is is2 w = cc
       by true false is is2 w =
-          let g : Goes p n (shown (lines_of c) w.1.0) mark ask_p t = w.1.1 in
-          let r : Sees p n (shown (lines_of c) (tick_of ask_h)) mark ask_p2 t2 = back.2 in
+          let g : Goes p n (shown_lines (lines_of c) w.1.0) mark ask_p t = w.1.1 in
+          let r : Sees p n (shown_lines (lines_of c) (tick_of ask_h)) mark ask_p2 t2 = back.2 in
           let f : HostFirst h p n s w.0.host_last g.last ask_h = host_first h p n s w.0.host_last t g.last ask_h ask_p w.0.host_asked g.asked e in
           let at : tick_of ask_h ≡ h.due w.0.host_last = tick_of_first h n s w.0.host_last ask_h f.pending f.here in
           let way : IsUnderWay h p n keep s0 t0 s t2 c ask_h ask_p2 hl pl hc pc =
@@ -493,11 +493,11 @@ module _ {S T : Type 0} (h : Moves S) (p : Moves T) (lh : IsLawful h) (lp : IsLa
       let f : ParaFirst h p n t way.para_last way.at.host_last ask_p = para_first h p n s way.at.host_last t way.para_last ask_h ask_p way.at.host_asked way.para_asked e in
       omega (arith, way.at.para_few, f.below)
 
-  -- what is left of the ticks of the parasite's ask, or of where it can be taken back to
+  -- what is left of the ticks of the parasite's ask, or of where it can be rolled back to
   abbrev pub rest_of : Bool → T → Ask → ℕ
-  rest_of ahead mark ask = if ahead then n - p.due mark else left n ask
+  rest_of ahead mark ask = if ahead then n - p.due mark else ticks_left n ask
 
-  most_left : (last t : T) (ask : Ask) (d : ℕ) → IsAsk p n last ask t → d ≤ p.due last → left n ask ≤ n - d
+  most_left : (last t : T) (ask : Ask) (d : ℕ) → IsAsk p n last ask t → d ≤ p.due last → ticks_left n ask ≤ n - d
   most_left last t Nothing d is low = omega arith
   most_left last t (Access u op) d is low = omega (arith, is.0)
   most_left last t (Look u) d is low = omega (arith, is.0)
@@ -506,32 +506,32 @@ module _ {S T : Type 0} (h : Moves S) (p : Moves T) (lh : IsLawful h) (lp : IsLa
       → IsGoing h p n keep s0 t0 ahead s mark t c ask_h ask_p hl pl hc pc
       → first_of ask_h ask_p ≡ Some Host
       → Acts h Host keep (seated s c hl hc) (seated s2 c2 hl2 hc2)
-      → IsSettled p n (lines_of c) (lines_of c2) (tick_of ask_h) (standing ahead ask_p mark t) (standing ahead2 ask_p2 mark2 t2)
-      → Sees h n (shown (lines_of c2) sure) s2 ask2 s3
-      → left n ask2 + rest_of ahead2 mark2 ask_p2 < left n ask_h + rest_of ahead mark ask_p
+      → IsSettled p n (lines_of c) (lines_of c2) (tick_of ask_h) (standing_of ahead ask_p mark t) (standing_of ahead2 ask_p2 mark2 t2)
+      → Sees h n (shown_lines (lines_of c2) sure) s2 ask2 s3
+      → ticks_left n ask2 + rest_of ahead2 mark2 ask_p2 < ticks_left n ask_h + rest_of ahead mark ask_p
   host_smaller keep sure s0 s s2 s3 t0 mark t mark2 t2 c c2 ask_h ask_p ask_p2 ask2 hl pl hl2 hc pc hc2 ahead ahead2 w e d settled_so sees =
-      let less : left n ask2 < left n ask_h = by_ahead ahead w in
+      let less : ticks_left n ask2 < ticks_left n ask_h = by_ahead ahead w in
       let same : rest_of ahead2 mark2 ask_p2 ≤ rest_of ahead mark ask_p = by settled_so in
       omega arith
     where
-      by_pending : IsPending h n s ask_h → left n ask2 < left n ask_h
+      by_pending : IsPending h n s ask_h → ticks_left n ask2 < ticks_left n ask_h
       by_pending pending =
           let up : h.due s < h.due (h.next s (Some (act c Host d.query).1)) = lh.rises s (Some (act c Host d.query).1) in
           let to : h.due s2 ≡ h.due (h.next s (Some (act c Host d.query).1)) = ap h.due d.state_is in
           let low : h.due s < n = due_of_pending h n s ask_h pending in
           omega (arith, tick_of_pending h n s ask_h pending, left_after h lh n (lines_of c2) sure sees.steps s2 sees.last s3 ask2 (h.due s) sees.looks sees.asked low (omega arith))
 
-      by_ahead : (b : Bool) → IsGoing h p n keep s0 t0 b s mark t c ask_h ask_p hl pl hc pc → left n ask2 < left n ask_h
+      by_ahead : (b : Bool) → IsGoing h p n keep s0 t0 b s mark t c ask_h ask_p hl pl hc pc → ticks_left n ask2 < ticks_left n ask_h
       by_ahead false v = by_pending (host_first h p n s v.at.host_last t v.para_last ask_h ask_p v.at.host_asked v.para_asked e).pending
       by_ahead true v = by_pending (host_first h p n s v.0.host_last t v.1.1.last ask_h ask_p v.0.host_asked v.1.1.asked e).pending
 
-      back_by : (b b2 : Bool) → b ≡ true → b2 ≡ false → Sees p n (shown (lines_of c) (tick_of ask_h)) mark ask_p2 t2 → rest_of b2 mark2 ask_p2 ≤ rest_of b mark ask_p
+      back_by : (b b2 : Bool) → b ≡ true → b2 ≡ false → Sees p n (shown_lines (lines_of c) (tick_of ask_h)) mark ask_p2 t2 → rest_of b2 mark2 ask_p2 ≤ rest_of b mark ask_p
       back_by true false is is2 r =
           most_left r.last t2 ask_p2 (p.due mark) r.asked (due_rises p n (lines_of c) (tick_of ask_h) r.steps mark r.last lp r.looks)
       back_by true true is is2 r = cc
       back_by false b2 is is2 r = cc
 
-      by : IsSettled p n (lines_of c) (lines_of c2) (tick_of ask_h) (standing ahead ask_p mark t) (standing ahead2 ask_p2 mark2 t2) → rest_of ahead2 mark2 ask_p2 ≤ rest_of ahead mark ask_p
+      by : IsSettled p n (lines_of c) (lines_of c2) (tick_of ask_h) (standing_of ahead ask_p mark t) (standing_of ahead2 ask_p2 mark2 t2) → rest_of ahead2 mark2 ask_p2 ≤ rest_of ahead mark ask_p
       by (inl kept) =
           let same : rest_of ahead2 mark2 ask_p2 ≡ rest_of ahead mark ask_p =
           ap (λ (x : Standing T). rest_of x.ahead x.mark x.ask) kept.0 in
@@ -542,8 +542,8 @@ module _ {S T : Type 0} (h : Moves S) (p : Moves T) (lh : IsLawful h) (lp : IsLa
       → IsGoing h p n keep s0 t0 ahead s mark t c ask_h ask_p hl pl hc pc
       → first_of ask_h ask_p ≡ Some Para
       → Acts p Para keep (seated t c pl pc) (seated t2 c2 pl2 pc2)
-      → IsGone p n (lines_of c2) sure t2 (standing ahead2 ask2 mark3 t3)
-      → left n ask_h + rest_of ahead2 mark3 ask2 < left n ask_h + rest_of ahead mark ask_p
+      → IsGone p n (lines_of c2) sure t2 (standing_of ahead2 ask2 mark3 t3)
+      → ticks_left n ask_h + rest_of ahead2 mark3 ask2 < ticks_left n ask_h + rest_of ahead mark ask_p
   para_smaller keep sure s0 s t0 mark t t2 mark3 t3 c c2 ask_h ask_p ask2 hl pl pl2 hc pc pc2 ahead ahead2 w e d gone =
       let before : n - p.due t ≤ rest_of ahead mark ask_p = old ahead w in
       let after : rest_of ahead2 mark3 ask2 < n - p.due t = new ahead2 gone in
@@ -572,7 +572,7 @@ module _ {S T : Type 0} (h : Moves S) (p : Moves T) (lh : IsLawful h) (lp : IsLa
           let rise : p.due mark ≤ p.due v.1.1.last = due_rises p n (lines_of c) v.1.0 v.1.1.steps mark v.1.1.last lp v.1.1.looks in
           omega arith
 
-      new : (b : Bool) → IsGone p n (lines_of c2) sure t2 (standing b ask2 mark3 t3) → rest_of b mark3 ask2 < n - p.due t
+      new : (b : Bool) → IsGone p n (lines_of c2) sure t2 (standing_of b ask2 mark3 t3) → rest_of b mark3 ask2 < n - p.due t
       new true g = let at : p.due mark3 ≡ p.due t2 = ap p.due g.1 in omega (arith, up, low)
       new false g = omega (arith, left_after p lp n (lines_of c2) sure g.steps t2 g.last t3 ask2 (p.due t) g.looks g.asked low up)
 
@@ -586,8 +586,8 @@ module _ {S T : Type 0} (h : Moves S) (p : Moves T) (lh : IsLawful h) (lp : IsLa
       let e : IsLike (ticks h p n 0 (start s0 t0)) (world w.at.host_last w.para_last c w.at.events) =
       like_on _ _ _ w.at.same (alike _ _ (rest h p lh lp n 0 w.at.host_last w.para_last c w.at.events (omega (arith, ah.0)) (omega (arith, ap'.0)))) in
       record {
-        host_is = ah.1 ∙ ap (λ (x : S). shut h x n) (sym e.host);
-        para_is = ap'.1 ∙ ap (λ (x : T). shut p x n) (sym e.para);
+        host_is = ah.1 ∙ ap (λ (x : S). close_leaves h x n) (sym e.host);
+        para_is = ap'.1 ∙ ap (λ (x : T). close_leaves p x n) (sym e.para);
         chip_is = sym e.chip;
         host_kept = kept_alike Host _ _ keep hl hc (λ side. sym (e.listed side)) w.at.host_kept;
         para_kept = kept_alike Para _ _ keep pl pc (λ side. sym (e.listed side)) w.at.para_kept;
@@ -606,7 +606,7 @@ acts_keep {r = r} {side = side} {x = x} e t =
       asks = t.asks;
       state_is = t.state_is;
       chip_is = t.chip_is;
-      list_is = t.list_is ∙ ap (λ (k : ℕ). noted_all k x.list (entry_of (r.due x.state) side t.query (act x.chip side t.query).1)) e;
+      list_is = t.list_is ∙ ap (λ (k : ℕ). note_all_leaves k x.list (entry_of (r.due x.state) side t.query (act x.chip side t.query).1)) e;
       count_is = t.count_is;
     }
 
@@ -614,8 +614,8 @@ acts_keep {r = r} {side = side} {x = x} e t =
 pub gone_seeing : {S : Type 0} (r : Moves S) (n sure : ℕ) {l l2 : Lines} (s : S) (x : Standing S) → l ≡ l2 → IsGone r n l sure s x → IsGone r n l2 sure s x
 gone_seeing r n sure s x e g = subst (λ (y : Lines). IsGone r n y sure s x) e g
 
-pub sees_seeing : {S : Type 0} {r : Moves S} {n sure : ℕ} {l l2 : Lines} {s s2 : S} {ask : Ask} → l ≡ l2 → Sees r n (shown l sure) s ask s2 → Sees r n (shown l2 sure) s ask s2
-sees_seeing {r = r} {n = n} {sure = sure} {s = s} {s2 = s2} {ask = ask} e g = subst (λ (x : Lines). Sees r n (shown x sure) s ask s2) e g
+pub sees_seeing : {S : Type 0} {r : Moves S} {n sure : ℕ} {l l2 : Lines} {s s2 : S} {ask : Ask} → l ≡ l2 → Sees r n (shown_lines l sure) s ask s2 → Sees r n (shown_lines l2 sure) s ask s2
+sees_seeing {r = r} {n = n} {sure = sure} {s = s} {s2 = s2} {ask = ask} e g = subst (λ (x : Lines). Sees r n (shown_lines x sure) s ask s2) e g
 
 pub settled_seeing : {S : Type 0} {r : Moves S} {n at at2 : ℕ} {k k2 l l2 : Lines} {x y : Standing S} → k ≡ k2 → l ≡ l2 → at ≡ at2
     → IsSettled r n k l at x y → IsSettled r n k2 l2 at2 x y

@@ -4,7 +4,7 @@ use Rattle.tube_chip.specs.declared.Answer.TheVariants.{Seen}
 use Rattle.tube_chip.specs.declared.Lines.{Lines}
 use Rattle.tube_chip.specs.declared.Op.{Op}
 use Rattle.tube_chip.specs.Act.{Query, access, look}
-use Rattle.tube_party.specs.Moves.{Moves, IsLawful, Looks, shown}
+use Rattle.tube_party.specs.Moves.{Moves, IsLawful, Looks, shown_lines}
 use Rattle.tube_party.specs.Steps.{After, due_rises}
 
 -- by what is asked: one thing of a look, another of an access
@@ -43,30 +43,30 @@ module _ {S : Type 0} (m : Moves S) (lines : Lines) (t : ℕ) where
 
   module _ (n sure : ℕ) where
     -- steps before them that ask nothing or are looks that see the lines
-    before_by : (j k : ℕ) (s last : S) (o : Option Query) → ((u : S) → Looks m n (shown lines sure) j u last → IsCalm k u) → After m n lines sure j s last o → CalmAfter k s o
+    before_by : (j k : ℕ) (s last : S) (o : Option Query) → ((u : S) → Looks m n (shown_lines lines sure) j u last → IsCalm k u) → After m n lines sure j s last o → CalmAfter k s o
     before_by j k s last None on h = on (m.next s None) h
     before_by j k s last (Some q) on h =
         subst (λ (x : Query). WhenAsked x (IsCalm k (m.next s (Some (Seen lines)))) (t ≤ m.due s)) (sym h.0) (on (m.next s (Some (Seen lines))) h.2)
 
-    pub calm_before : (j : ℕ) (s last : S) → Looks m n (shown lines sure) j s last → ((k : ℕ) → IsCalm k last) → (k : ℕ) → IsCalm k s
+    pub calm_before : (j : ℕ) (s last : S) → Looks m n (shown_lines lines sure) j s last → ((k : ℕ) → IsCalm k last) → (k : ℕ) → IsCalm k s
     calm_before zero s last looks calm k = subst (λ (x : S). IsCalm k x) (sym looks) (calm k)
     calm_before (suc j) s last looks calm zero = tt
     calm_before (suc j) s last looks calm (suc k) = before_by j k s last (m.asks s) (λ u on. calm_before j u last on calm k) looks.1
 
     -- and after such steps
-    calm_by : (j : ℕ) (s last : S) (o : Option Query) → m.asks s ≡ o → ((k : ℕ) → IsCalm k s) → ((u : S) → Looks m n (shown lines sure) j u last → ((k : ℕ) → IsCalm k u) → (k : ℕ) → IsCalm k last) →
+    calm_by : (j : ℕ) (s last : S) (o : Option Query) → m.asks s ≡ o → ((k : ℕ) → IsCalm k s) → ((u : S) → Looks m n (shown_lines lines sure) j u last → ((k : ℕ) → IsCalm k u) → (k : ℕ) → IsCalm k last) →
         After m n lines sure j s last o → (k : ℕ) → IsCalm k last
     calm_by j s last None is calm on h = on (m.next s None) h (λ k. silent_calm k s is (calm (suc k)))
     calm_by j s last (Some q) is calm on h =
         on (m.next s (Some (Seen lines))) h.2 (λ k. look_calm k s (is ∙ ap (λ (x : Query). Some x) h.0) (calm (suc k)))
 
-    pub calm_after : (j : ℕ) (s last : S) → Looks m n (shown lines sure) j s last → ((k : ℕ) → IsCalm k s) → (k : ℕ) → IsCalm k last
+    pub calm_after : (j : ℕ) (s last : S) → Looks m n (shown_lines lines sure) j s last → ((k : ℕ) → IsCalm k s) → (k : ℕ) → IsCalm k last
     calm_after zero s last looks calm k = subst (λ (x : S). IsCalm k x) looks (calm k)
     calm_after (suc j) s last looks calm k = calm_by j s last (m.asks s) refl calm (λ u on c. calm_after j u last on c) looks.1 k
 
 -- looks come below the tick of what follows them
 module _ {S : Type 0} (m : Moves S) (n : ℕ) (lines : Lines) (lawful : IsLawful m) where
-  tight_by : (sure d k : ℕ) (s last : S) (o : Option Query) → m.due last ≡ d → ((u : S) → Looks m n (shown lines sure) k u last → Looks m n (shown lines d) k u last) →
+  tight_by : (sure d k : ℕ) (s last : S) (o : Option Query) → m.due last ≡ d → ((u : S) → Looks m n (shown_lines lines sure) k u last → Looks m n (shown_lines lines d) k u last) →
       After m n lines sure k s last o → After m n lines d k s last o
   tight_by sure d k s last None is on h = on (m.next s None) h
   tight_by sure d k s last (Some q) is on h =
@@ -74,6 +74,6 @@ module _ {S : Type 0} (m : Moves S) (n : ℕ) (lines : Lines) (lawful : IsLawful
       let past : m.due (m.next s (Some (Seen lines))) ≤ m.due last = due_rises m n lines sure k (m.next s (Some (Seen lines))) last lawful h.2 in
       (h.0, omega (arith, up, past, is), on (m.next s (Some (Seen lines))) h.2)
 
-  pub tight : (sure d k : ℕ) (s last : S) → m.due last ≡ d → Looks m n (shown lines sure) k s last → Looks m n (shown lines d) k s last
+  pub tight : (sure d k : ℕ) (s last : S) → m.due last ≡ d → Looks m n (shown_lines lines sure) k s last → Looks m n (shown_lines lines d) k s last
   tight sure d zero s last is looks = looks
   tight sure d (suc k) s last is looks = (looks.0, tight_by sure d k s last (m.asks s) is (λ u on. tight sure d k u last is on) looks.1)

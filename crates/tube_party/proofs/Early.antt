@@ -14,7 +14,7 @@ use Rattle.tube_trace.specs.Entries.{accesses}
 use Rattle.tube_chip.specs.declared.Lines.{Lines}
 use Rattle.tube_party.specs.Moves.{Moves, IsLawful}
 use Rattle.tube_party.proofs.Calm.{IsCalm, silent_calm, look_calm, access_calm}
-use Rattle.tube_party.specs.Reference.{Seat, World, stepped, step_if_due, with_host, para_part, tick, ticks}
+use Rattle.tube_party.specs.Reference.{Seat, World, step_leaves, step_if_due, with_host, para_part, tick, ticks}
 use Rattle.tube_party.proofs.Ticks.{seat, world, host_done, still, now, same_or_above, host_here}
 use Rattle.tube_party.proofs.Runs.{event}
 use Rattle.tube_party.proofs.Kept.{grows}
@@ -152,7 +152,7 @@ module _ {S T : Type 0} (h : Moves S) (p : Moves T) (lh : IsLawful h) (lp : IsLa
   early_host zero k s t c q l far lo hi near calm asks same = absurd (omega arith)
   early_host (suc j) k s t c q l far lo hi near calm asks same = elim (same_or_above (h.due s) k lo) [
     | inl e ↦
-        alike _ _ (host_here h p lh lp j k s t c l e ∙ ap (λ (o : Option Query). ticks h p (suc j) k (host_done (stepped h Host (seat s c l) o) t)) asks)
+        alike _ _ (host_here h p lh lp j k s t c l e ∙ ap (λ (o : Option Query). ticks h p (suc j) k (host_done (step_leaves h Host (seat s c l) o) t)) asks)
     | inr up ↦
         let on : S = h.next s (Some (act c Host q).1) in
         let d : State = (act c Host q).0 in
@@ -186,7 +186,7 @@ module _ {S T : Type 0} (h : Moves S) (p : Moves T) (lh : IsLawful h) (lp : IsLa
             let more : List Event = (l ++ x.more) ++ event (p.due t) Para look (Seen (lines_of c)) ∷ [] in
             let did : tick h p k (world s t c l) ≡ world x.state on c more =
             ap (λ (z : Seat S). para_part p k z t) (x.is c l refl)
-            ∙ ap (λ (z : Seat T). with_host x.state z) (now p Para k (seat t c (l ++ x.more)) e ∙ ap (λ (o : Option Query). stepped p Para (seat t c (l ++ x.more)) o) asks) in
+            ∙ ap (λ (z : Seat T). with_host x.state z) (now p Para k (seat t c (l ++ x.more)) e ∙ ap (λ (o : Option Query). step_leaves p Para (seat t c (l ++ x.more)) o) asks) in
             like_on _ _ _ (alike _ _ (ap (λ (w : World S T). ticks h p j (k + 1) w) did))
             (like_on _ _ _ (like_ticks j (k + 1) x.state on c more (l ++ x.more) (look_left_out Para (p.due t) c (l ++ x.more)))
             (alike _ _ (sym (ap (λ (w : World S T). ticks h p j (k + 1) w) idle))))

@@ -11,7 +11,7 @@ use Rattle.tube_chip.specs.Act.{Query, act}
 use Rattle.tube_chip.specs.declared.Answer.{Answer}
 use Rattle.tube_chip.specs.Events.{Event, of_side, is_side}
 use Rattle.tube_party.specs.Moves.{Moves, IsLawful}
-use Rattle.tube_party.specs.Reference.{Seat, World, stepped, step_if_due, tick, ticks, start, reference, IsFollowed, ReferenceIsFollowed}
+use Rattle.tube_party.specs.Reference.{Seat, World, step_leaves, step_if_due, tick, ticks, start, reference, IsFollowed, ReferenceIsFollowed}
 use Rattle.tube_party.proofs.Runs.{event, SomeRuns, runs_silent, runs_asking, runs_append}
 use Rattle.tube_party.proofs.Kept.{of_side-append}
 use Rattle.tube_party.proofs.Ticks.{seat, same_or_above, still, now}
@@ -48,7 +48,7 @@ module _ {S : Type 0} (m : Moves S) (lm : IsLawful m) (side : Side) (n : ℕ) (s
   one_more x a b runs more =
       runs_append m side n n (omega arith) x.state (m.next x.state a) b runs.0 s (of_side side x.list) runs.1 more
 
-  stepped_parts : (x : Seat S) (o : Option Query) → m.due x.state ≡ k → m.asks x.state ≡ o → SomeRuns m side n s (of_side side x.list) x.state → Listed k side x.chip x.list → Parted x (stepped m side x o)
+  stepped_parts : (x : Seat S) (o : Option Query) → m.due x.state ≡ k → m.asks x.state ≡ o → SomeRuns m side n s (of_side side x.list) x.state → Listed k side x.chip x.list → Parted x (step_leaves m side x o)
   stepped_parts x None here is runs listed =
       let rise : m.due x.state < m.due (m.next x.state None) = lm.rises x.state None in
       let more : SomeRuns m side n x.state [] (m.next x.state None) = (suc zero, runs_silent m side n zero x.state [] (m.next x.state None) (omega arith) is (refl, refl)) in

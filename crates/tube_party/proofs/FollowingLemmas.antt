@@ -18,9 +18,9 @@ use Rattle.tube_trace.specs.declared.Entry.{Entry}
 use Rattle.tube_trace.specs.Entries.{accesses}
 use Rattle.tube_party.specs.declared.replaying.Doing.{Doing}
 use Rattle.tube_party.specs.Moves.{Moves, IsLawful, Runs, course}
-use Rattle.tube_party.specs.Replay.{Numbered, Ended, own_from, same_op, is_that, next_line, finished, differs, doing, one_step, replay_from, replayed, chip_before}
-use Rattle.tube_party.specs.Tape.{Misses}
-use Rattle.tube_party.specs.Following.{own_below, IsAnsweredBy, FollowsTrace, ReplayIsFollowing, difference, IsDifference, DiffersAt, ReplayTellsDifference}
+use Rattle.tube_party.specs.Replay.{Numbered, Ended, own_from, same_op, is_that, next_line, finish_leaves, differs, doing_of, one_step, replay_from, replay_of, chip_before}
+use Rattle.tube_party.specs.CodeTape.{Misses}
+use Rattle.tube_party.specs.ReplayLaws.{own_below, IsAnsweredBy, FollowsTrace, ReplayIsFollowing, difference, IsDifference, DiffersAt, ReplayTellsDifference}
 use Rattle.tube_party.proofs.Runs.{event, First, Over, Silent, Asking, first_of_runs, runs_silent, runs_asking}
 use Rattle.tube_party.proofs.ReplayLemmas.{Goes, goes_all, goes_end, goes_none, goes_look, goes_access, goes_differs, at_end, step_now}
 
@@ -149,7 +149,7 @@ module _ {S : Type 0} (m : Moves S) (lawful : IsLawful m) (side : Side) (trace :
 
   -- how a replay ends with the side's entries that are left
   data Ending (last : S) (left : List Numbered) (e : Ended S) : Type 0 where
-    Finishes : n ≤ m.due last → e ≡ finished m n last left → Ending last left e
+    Finishes : n ≤ m.due last → e ≡ finish_leaves m n last left → Ending last left e
     Parts : (op : Op) (line : ℕ) → m.due last < n → m.asks last ≡ Some (access op) → Misses left (length trace) (m.due last) op line → e ≡ differs m side last op line → Ending last left e
 
   -- the machine and the side's entries agree so far, and how it ends there
@@ -251,16 +251,16 @@ module _ {S : Type 0} (m : Moves S) (lawful : IsLawful m) (side : Side) (trace :
     | inr over ↦ comes_here s own e (Finishes over (same ∙ at_end m side trace n (suc k) s own over))
   ]
 
-  comes_all : (s : S) → Comes s (own_from side n 1 trace) (replayed m side trace n s)
+  comes_all : (s : S) → Comes s (own_from side n 1 trace) (replay_of m side trace n s)
   comes_all s =
-      let goes : Goes m side trace n (replayed m side trace n s) s (own_from side n 1 trace) = goes_all m side trace n s in
-      comes goes.steps s (own_from side n 1 trace) (replayed m side trace n s) goes.enough (own_entries side n 1 trace).1 goes.same
+      let goes : Goes m side trace n (replay_of m side trace n s) s (own_from side n 1 trace) = goes_all m side trace n s in
+      comes goes.steps s (own_from side n 1 trace) (replay_of m side trace n s) goes.enough (own_entries side n 1 trace).1 goes.same
 
   -- with no place, nothing is left
 
-  follows_by : (s ended : S) (c : Comes s (own_from side n 1 trace) (replayed m side trace n s)) → Ending c.last c.left (replayed m side trace n s) → replayed m side trace n s ≡ ending ended → FollowsTrace m side trace n s ended
+  follows_by : (s ended : S) (c : Comes s (own_from side n 1 trace) (replay_of m side trace n s)) → Ending c.last c.left (replay_of m side trace n s) → replay_of m side trace n s ≡ ending ended → FollowsTrace m side trace n s ended
   follows_by s ended c (Finishes over same) e =
-      let ends : ending ended ≡ finished m n c.last c.left = sym e ∙ same in
+      let ends : ending ended ≡ finish_leaves m n c.last c.left = sym e ∙ same in
       let none : c.left ≡ [] = no_line c.left (sym (ap (λ (y : Ended S). y.place) ends)) in
       let all : own_from side n 1 trace ≡ c.agreed = c.own_is ∙ ap (λ (l : List Numbered). c.agreed ++ l) none ∙ append-nil c.agreed in
       record {
@@ -270,7 +270,7 @@ module _ {S : Type 0} (m : Moves S) (lawful : IsLawful m) (side : Side) (trace :
         answered = c.answered;
       }
   follows_by s ended c (Parts op line low asks misses same) e =
-      differs_not (line, Some (doing (m.due c.last) side op)) (sym (ap (λ (y : Ended S). y.place) (sym e ∙ same)))
+      differs_not (line, Some (doing_of (m.due c.last) side op)) (sym (ap (λ (y : Ended S). y.place) (sym e ∙ same)))
 
   -- with a place, they differ there
 
@@ -287,13 +287,13 @@ module _ {S : Type 0} (m : Moves S) (lawful : IsLawful m) (side : Side) (trace :
       subst (λ (w : Option Doing). Whole last left line w stopped) (sym nothing)
       (over, place ∙ ap (λ (w : Option Doing). Some (line, w)) nothing, ap (λ (y : Ended S). y.machine) (sym at ∙ same))
   difference_by last stopped left e line what (Parts op l low asks misses same) at =
-      let place : Some (l, Some (doing (m.due last) side op)) ≡ Some (line, what) = ap (λ (y : Ended S). y.place) (sym same ∙ at) in
+      let place : Some (l, Some (doing_of (m.due last) side op)) ≡ Some (line, what) = ap (λ (y : Ended S). y.place) (sym same ∙ at) in
       subst (λ (w : Option Doing). Whole last left line w stopped) (ap told_of place)
       (op, low, asks, refl, subst (λ (i : ℕ). Misses left (length trace) (m.due last) op i) (ap line_of place) misses, ap (λ (y : Ended S). y.machine) (sym at ∙ same))
 
-  differs_of : (s stopped : S) (line : ℕ) (what : Option Doing) → At stopped (replayed m side trace n s) line what → DiffersAt m side trace n s (difference line what stopped)
+  differs_of : (s stopped : S) (line : ℕ) (what : Option Doing) → At stopped (replay_of m side trace n s) line what → DiffersAt m side trace n s (difference line what stopped)
   differs_of s stopped line what at =
-      let c : Comes s (own_from side n 1 trace) (replayed m side trace n s) = comes_all s in
+      let c : Comes s (own_from side n 1 trace) (replay_of m side trace n s) = comes_all s in
       record {
         events = c.events;
         steps = c.steps;
@@ -304,7 +304,7 @@ module _ {S : Type 0} (m : Moves S) (lawful : IsLawful m) (side : Side) (trace :
         left = c.left;
         own = c.own_is;
         agrees = c.agrees;
-        differs = difference_by c.last stopped c.left (replayed m side trace n s) line what c.ends at;
+        differs = difference_by c.last stopped c.left (replay_of m side trace n s) line what c.ends at;
       }
 
   -- the other way round: the replay takes the entries that agree
@@ -360,11 +360,11 @@ module _ {S : Type 0} (m : Moves S) (lawful : IsLawful m) (side : Side) (trace :
   takes_all (suc i) s last own agreed left events whole goes runs own_is agrees answered =
       all_by i (takes_all i) s last own agreed left events whole goes (first_of_runs m side n (suc i) s events last runs) own_is agrees answered
 
-  replayed_of : (s ended : S) → FollowsTrace m side trace n s ended → replayed m side trace n s ≡ ending ended
+  replayed_of : (s ended : S) → FollowsTrace m side trace n s ended → replay_of m side trace n s ≡ ending ended
   replayed_of s ended f =
       let own : List Numbered = own_from side n 1 trace in
-      goes_end m side trace n (replayed m side trace n s) f.follows.last []
-      (takes_all f.follows.steps s f.follows.last own own [] f.events (replayed m side trace n s) (goes_all m side trace n s)
+      goes_end m side trace n (replay_of m side trace n s) f.follows.last []
+      (takes_all f.follows.steps s f.follows.last own own [] f.events (replay_of m side trace n s) (goes_all m side trace n s)
       f.follows.runs (sym (append-nil own)) (f.own ∙ sym (own_entries side n 1 trace).0) f.answered)
       f.follows.over
       ∙ ap ending (sym f.follows.ends)
@@ -376,13 +376,13 @@ module _ {S : Type 0} (m : Moves S) (lawful : IsLawful m) (side : Side) (trace :
       ∙ ap (λ (o : Option (ℕ × Option Doing)). record { machine = stopped; place = o }) d.1
   place_by whole last stopped left line (Some doings) goes d =
       goes_differs m side trace n whole last left d.0 line goes d.1 d.2 d.4
-      ∙ ap (λ (x : S). record { machine = x; place = Some (line, Some (doing (m.due last) side d.0)) }) (sym d.5)
+      ∙ ap (λ (x : S). record { machine = x; place = Some (line, Some (doing_of (m.due last) side d.0)) }) (sym d.5)
       ∙ ap (λ (x : Doing). record { machine = stopped; place = Some (line, Some x) }) (sym d.3)
 
-  place_of : (s stopped : S) (line : ℕ) (what : Option Doing) → DiffersAt m side trace n s (difference line what stopped) → At stopped (replayed m side trace n s) line what
+  place_of : (s stopped : S) (line : ℕ) (what : Option Doing) → DiffersAt m side trace n s (difference line what stopped) → At stopped (replay_of m side trace n s) line what
   place_of s stopped line what d =
-      place_by (replayed m side trace n s) d.last stopped d.left line what
-      (takes_all d.steps s d.last (own_from side n 1 trace) d.agreed d.left d.events (replayed m side trace n s) (goes_all m side trace n s) d.runs d.own d.agrees d.answered)
+      place_by (replay_of m side trace n s) d.last stopped d.left line what
+      (takes_all d.steps s d.last (own_from side n 1 trace) d.agreed d.left d.events (replay_of m side trace n s) (goes_all m side trace n s) d.runs d.own d.agrees d.answered)
       d.differs
 
 pub replay_following : {S : Type 0} (m : Moves S) → IsLawful m → ReplayIsFollowing m

@@ -10,8 +10,8 @@ use Rattle.tube_trace.specs.declared.Entry.{Entry}
 use Rattle.beeb_bits.specs.declared.Side.{Side}
 use Rattle.beeb_bits.specs.declared.Side.TheVariants.{Host, Para}
 use Rattle.tube_trace.specs.Entries.{accesses, entry_of}
-use Rattle.tube_party.specs.Played.{IsKept}
-use Rattle.tube_party.specs.Turn.{noted, noted_all}
+use Rattle.tube_party.specs.OneThread.{IsKept}
+use Rattle.tube_party.specs.Turn.{note_leaves, note_all_leaves}
 use Rattle.tube_party.proofs.Runs.{event}
 
 accesses-append : (xs ys : List Event) → accesses (xs ++ ys) ≡ accesses xs ++ accesses ys
@@ -34,13 +34,13 @@ of_side-append side (x ∷ xs) ys = by_side side x.side x (of_side side (xs ++ y
 take_few : (keep : ℕ) (xs : List Entry) → length xs ≤ keep → take keep xs ≡ xs
 take_few keep xs h = take_all keep xs h
 
-noted_take : (keep : ℕ) (xs : List Entry) (x : Entry) → noted keep (take keep xs) x ≡ take keep (xs ++ x ∷ [])
+noted_take : (keep : ℕ) (xs : List Entry) (x : Entry) → note_leaves keep (take keep xs) x ≡ take keep (xs ++ x ∷ [])
 noted_take keep xs x = elim (cases_lt (length xs) keep) [
   | inl lt ↦
       let few : length xs ≤ keep = omega arith in
       let all : take keep xs ≡ xs = take_few keep xs few in
       let more : length (xs ++ x ∷ []) ≤ keep = omega (arith, length-append xs (x ∷ [])) in
-      ap (λ (z : List Entry). noted keep z x) all
+      ap (λ (z : List Entry). note_leaves keep z x) all
       ∙ (rw (lt-ltb (length xs) keep lt) refl)
       ∙ sym (take_few keep (xs ++ x ∷ []) more)
   | inr ge ↦
@@ -49,10 +49,10 @@ noted_take keep xs x = elim (cases_lt (length xs) keep) [
       (rw (le-ltb (length (take keep xs)) keep over) refl) ∙ sym (take-append-le keep xs (x ∷ []) ge)
 ]
 
-noted_all_take : (keep : ℕ) (xs ys : List Entry) → noted_all keep (take keep xs) ys ≡ take keep (xs ++ ys)
+noted_all_take : (keep : ℕ) (xs ys : List Entry) → note_all_leaves keep (take keep xs) ys ≡ take keep (xs ++ ys)
 noted_all_take keep xs [] = ap (take keep) (sym (append-nil xs))
 noted_all_take keep xs (y ∷ ys) =
-    ap (λ z. noted_all keep z ys) (noted_take keep xs y)
+    ap (λ z. note_all_leaves keep z ys) (noted_take keep xs y)
     ∙ noted_all_take keep (xs ++ y ∷ []) ys
     ∙ ap (take keep) (append_assoc xs (y ∷ []) ys)
 
@@ -62,11 +62,11 @@ grows side events more = ap accesses (of_side-append side events more) ∙ acces
 
 kept_more : (side : Side) (events more : List Event) (keep : ℕ) (list : List Entry) (count : ℕ)
     → IsKept side events keep list count
-    → IsKept side (events ++ more) keep (noted_all keep list (accesses (of_side side more))) (count + length (accesses (of_side side more)))
+    → IsKept side (events ++ more) keep (note_all_leaves keep list (accesses (of_side side more))) (count + length (accesses (of_side side more)))
 kept_more side events more keep list count k =
     record {
       list_is =
-          ap (λ z. noted_all keep z (accesses (of_side side more))) k.list_is
+          ap (λ z. note_all_leaves keep z (accesses (of_side side more))) k.list_is
           ∙ noted_all_take keep (accesses (of_side side events)) (accesses (of_side side more))
           ∙ ap (take keep) (sym (grows side events more));
       count_is =
@@ -77,11 +77,11 @@ kept_more side events more keep list count k =
 
 pub kept_own : (side : Side) (events : List Event) (keep : ℕ) (list : List Entry) (count t : ℕ) (q : Query) (a : Answer)
     → IsKept side events keep list count
-    → IsKept side (events ++ event t side q a ∷ []) keep (noted_all keep list (entry_of t side q a)) (count + length (entry_of t side q a))
+    → IsKept side (events ++ event t side q a ∷ []) keep (note_all_leaves keep list (entry_of t side q a)) (count + length (entry_of t side q a))
 kept_own Host events keep list count t q a k =
-    subst (λ z. IsKept Host (events ++ event t Host q a ∷ []) keep (noted_all keep list z) (count + length z)) (append-nil (entry_of t Host q a)) (kept_more Host events (event t Host q a ∷ []) keep list count k)
+    subst (λ z. IsKept Host (events ++ event t Host q a ∷ []) keep (note_all_leaves keep list z) (count + length z)) (append-nil (entry_of t Host q a)) (kept_more Host events (event t Host q a ∷ []) keep list count k)
 kept_own Para events keep list count t q a k =
-    subst (λ z. IsKept Para (events ++ event t Para q a ∷ []) keep (noted_all keep list z) (count + length z)) (append-nil (entry_of t Para q a)) (kept_more Para events (event t Para q a ∷ []) keep list count k)
+    subst (λ z. IsKept Para (events ++ event t Para q a ∷ []) keep (note_all_leaves keep list z) (count + length z)) (append-nil (entry_of t Para q a)) (kept_more Para events (event t Para q a ∷ []) keep list count k)
 
 pub kept_host_by_para : (events : List Event) (keep : ℕ) (list : List Entry) (count t : ℕ) (q : Query) (a : Answer)
     → IsKept Host events keep list count → IsKept Host (events ++ event t Para q a ∷ []) keep list count

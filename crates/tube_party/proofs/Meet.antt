@@ -8,8 +8,8 @@ use Rattle.tube_chip.specs.Act.{Query, act}
 use Rattle.tube_chip.specs.Events.{Event, merge, after, after_from, IsAnsweredFrom}
 use Rattle.tube_chip.specs.declared.Answer.{Answer}
 use Rattle.beeb_bits.specs.declared.Side.TheVariants.{Host, Para}
-use Rattle.tube_party.specs.Moves.{Moves, IsLawful, Runs, shut, course}
-use Rattle.tube_party.specs.Reference.{World, stepped, ticks, shut_both, LegalMergeIsReference}
+use Rattle.tube_party.specs.Moves.{Moves, IsLawful, Runs, close_leaves, course}
+use Rattle.tube_party.specs.Reference.{World, step_leaves, ticks, close_both_leaves, LegalMergeIsReference}
 use Rattle.tube_party.proofs.Runs.{event, First, Over, Silent, Asking, first_of_runs}
 use Rattle.tube_party.proofs.Ticks.{world, rest, host_next, host_silent, para_next, para_silent}
 
@@ -43,7 +43,7 @@ module _ {S T : Type 0} (h : Moves S) (p : Moves T) (lh : IsLawful h) (lp : IsLa
       → Goes s t c l (event (h.due s) Host q a ∷ others)
   host_event s t c l q a others lt first is answered on =
       host_next h p lh lp n 0 s t c l (omega arith) (omega arith) first
-      ∙ ap (λ (o : Option Query). ticks h p n 0 (record { host = (stepped h Host (record { state = s; chip = c; list = l }) o).state; para = t; chip = (stepped h Host (record { state = s; chip = c; list = l }) o).chip; list = (stepped h Host (record { state = s; chip = c; list = l }) o).list })) is
+      ∙ ap (λ (o : Option Query). ticks h p n 0 (record { host = (step_leaves h Host (record { state = s; chip = c; list = l }) o).state; para = t; chip = (step_leaves h Host (record { state = s; chip = c; list = l }) o).chip; list = (step_leaves h Host (record { state = s; chip = c; list = l }) o).list })) is
       ∙ ap (λ (x : Answer). ticks h p n 0 (world (h.next s (Some x)) t (act c Host q).0 (l ++ event (h.due s) Host q x ∷ []))) answered.0
       ∙ on answered.1
       ∙ ap (λ (x : List Event). world m v (after_from (act c Host q).0 others) x) (append_snoc l (event (h.due s) Host q a) others)
@@ -55,7 +55,7 @@ module _ {S T : Type 0} (h : Moves S) (p : Moves T) (lh : IsLawful h) (lp : IsLa
       → Goes s t c l (event (p.due t) Para q a ∷ others)
   para_event s t c l q a others lt first is answered on =
       para_next h p lh lp n 0 s t c l (omega arith) (omega arith) first
-      ∙ ap (λ (o : Option Query). ticks h p n 0 (record { host = s; para = (stepped p Para (record { state = t; chip = c; list = l }) o).state; chip = (stepped p Para (record { state = t; chip = c; list = l }) o).chip; list = (stepped p Para (record { state = t; chip = c; list = l }) o).list })) is
+      ∙ ap (λ (o : Option Query). ticks h p n 0 (record { host = s; para = (step_leaves p Para (record { state = t; chip = c; list = l }) o).state; chip = (step_leaves p Para (record { state = t; chip = c; list = l }) o).chip; list = (step_leaves p Para (record { state = t; chip = c; list = l }) o).list })) is
       ∙ ap (λ (x : Answer). ticks h p n 0 (world s (p.next t (Some x)) (act c Para q).0 (l ++ event (p.due t) Para q x ∷ []))) answered.0
       ∙ on answered.1
       ∙ ap (λ (x : List Event). world m v (after_from (act c Para q).0 others) x) (append_snoc l (event (p.due t) Para q a) others)
@@ -140,7 +140,7 @@ module _ {S T : Type 0} (h : Moves S) (p : Moves T) (lh : IsLawful h) (lp : IsLa
 
 pub legal_merge : {S T : Type 0} (h : Moves S) (p : Moves T) → IsLawful h → IsLawful p → LegalMergeIsReference h p
 legal_merge h p lh lp s u t v a b n fa fb legal =
-    ap (λ (w : World _ _). shut_both h p n w)
+    ap (λ (w : World _ _). close_both_leaves h p n w)
     (meets_all h p lh lp n fa.last fb.last fa.over fb.over (suc (fa.steps + fb.steps)) fa.steps fb.steps (omega arith) s t power_on [] a b fa.runs fb.runs legal.answered)
-    ∙ ap (λ x. record { host = x; para = shut p fb.last n; chip = after (merge a b); list = merge a b }) (sym fa.ends)
+    ∙ ap (λ x. record { host = x; para = close_leaves p fb.last n; chip = after (merge a b); list = merge a b }) (sym fa.ends)
     ∙ ap (λ y. record { host = u; para = y; chip = after (merge a b); list = merge a b }) (sym fb.ends)

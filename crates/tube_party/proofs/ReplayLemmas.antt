@@ -12,9 +12,9 @@ use Rattle.tube_chip.specs.Act.{Query, access, look}
 use Rattle.tube_trace.specs.declared.Entry.{Entry}
 use Rattle.tube_party.specs.declared.party.Ask.{Ask}
 use Rattle.tube_party.specs.declared.party.Ask.TheVariants.{Nothing, Access, Look}
-use Rattle.tube_party.specs.Moves.{Moves, IsLawful, Looks, Sees, IsAsk, IsAskedFor, FitsAnswer, shut, shown}
-use Rattle.tube_party.specs.Replay.{Numbered, Ended, own_from, finished, differs, access_step, one_step, replay_from, replayed, chip_before}
-use Rattle.tube_party.specs.Tape.{Takes, Misses}
+use Rattle.tube_party.specs.Moves.{Moves, IsLawful, Looks, Sees, IsAsk, IsAskedFor, FitsAnswer, close_leaves, shown_lines}
+use Rattle.tube_party.specs.Replay.{Numbered, Ended, own_from, finish_leaves, differs, access_step, one_step, replay_from, replay_of, chip_before}
+use Rattle.tube_party.specs.CodeTape.{Takes, Misses}
 use Rattle.tube_party.specs.Steps.{due_rises}
 
 pub low_true : (a n : ℕ) → a < n → nat_lt a n ≡ true
@@ -31,11 +31,11 @@ pub record Goes {S : Type 0} (m : Moves S) (side : Side) (trace : List Entry) (n
 
 module _ {S : Type 0} (m : Moves S) (side : Side) (trace : List Entry) (n : ℕ) where
   -- at or past n nothing is done
-  pub at_end : (steps : ℕ) (s : S) (own : List Numbered) → n ≤ m.due s → replay_from m side trace n steps s own ≡ finished m n s own
+  pub at_end : (steps : ℕ) (s : S) (own : List Numbered) → n ≤ m.due s → replay_from m side trace n steps s own ≡ finish_leaves m n s own
   at_end zero s own h = refl
   at_end (suc k) s own h = rw (low_false (m.due s) n h) refl
 
-  pub goes_end : (whole : Ended S) (s : S) (own : List Numbered) → Goes m side trace n whole s own → n ≤ m.due s → whole ≡ finished m n s own
+  pub goes_end : (whole : Ended S) (s : S) (own : List Numbered) → Goes m side trace n whole s own → n ≤ m.due s → whole ≡ finish_leaves m n s own
   goes_end whole s own goes h = goes.same ∙ at_end goes.steps s own h
 
   -- below n one step is done
@@ -67,8 +67,8 @@ module _ {S : Type 0} (m : Moves S) (side : Side) (trace : List Entry) (n : ℕ)
   -- steps among which looks see what the entries before them leave
   goes_seeing_by : IsLawful m → (whole : Ended S) (own : List Numbered) (lines : Lines) (sure k : ℕ) (s last : S) → Goes m side trace n whole s own →
       ((t : ℕ) → m.due s ≤ t → t < sure → lines_of (chip_before side t power_on trace) ≡ lines) → m.due s < n → (o : Option Query) → m.asks s ≡ o →
-      ((u : S) → Goes m side trace n whole u own → m.due s < m.due u → Looks m n (shown lines sure) k u last → Goes m side trace n whole last own) →
-      MatchOption o (Looks m n (shown lines sure) k (m.next s None) last) (λ q. (q ≡ look) × (m.due s < sure) × Looks m n (shown lines sure) k (m.next s (Some (Seen lines))) last) →
+      ((u : S) → Goes m side trace n whole u own → m.due s < m.due u → Looks m n (shown_lines lines sure) k u last → Goes m side trace n whole last own) →
+      MatchOption o (Looks m n (shown_lines lines sure) k (m.next s None) last) (λ q. (q ≡ look) × (m.due s < sure) × Looks m n (shown_lines lines sure) k (m.next s (Some (Seen lines))) last) →
       Goes m side trace n whole last own
   goes_seeing_by lawful whole own lines sure k s last goes same low None is on h =
       on (m.next s None) (goes_none lawful whole s own goes low is) (lawful.rises s None) h
@@ -79,7 +79,7 @@ module _ {S : Type 0} (m : Moves S) (side : Side) (trace : List Entry) (n : ℕ)
       on (m.next s (Some (Seen lines))) seen (lawful.rises s (Some (Seen lines))) h.2
 
   pub goes_seeing : IsLawful m → (whole : Ended S) (own : List Numbered) (lines : Lines) (sure k : ℕ) (s last : S) → Goes m side trace n whole s own →
-      ((t : ℕ) → m.due s ≤ t → t < sure → lines_of (chip_before side t power_on trace) ≡ lines) → Looks m n (shown lines sure) k s last → Goes m side trace n whole last own
+      ((t : ℕ) → m.due s ≤ t → t < sure → lines_of (chip_before side t power_on trace) ≡ lines) → Looks m n (shown_lines lines sure) k s last → Goes m side trace n whole last own
   goes_seeing lawful whole own lines sure zero s last goes same looks = subst (λ (x : S). Goes m side trace n whole x own) looks goes
   goes_seeing lawful whole own lines sure (suc k) s last goes same looks =
       goes_seeing_by lawful whole own lines sure k s last goes same looks.0 (m.asks s) refl
@@ -107,8 +107,8 @@ module _ {S : Type 0} (m : Moves S) (side : Side) (trace : List Entry) (n : ℕ)
       goes.same ∙ step.2 ∙ missed s own op line (replay_from m side trace n step.0) h
 
 -- the whole replay, before its first step
-pub goes_all : {S : Type 0} (m : Moves S) (side : Side) (trace : List Entry) (n : ℕ) (s : S) → Goes m side trace n (replayed m side trace n s) s (own_from side n 1 trace)
-unfolding replayed
+pub goes_all : {S : Type 0} (m : Moves S) (side : Side) (trace : List Entry) (n : ℕ) (s : S) → Goes m side trace n (replay_of m side trace n s) s (own_from side n 1 trace)
+unfolding replay_of
 goes_all m side trace n s = record { steps = n; enough = omega arith; same = refl }
 
 -- what `advance_seeing` told
@@ -117,24 +117,24 @@ goes_all m side trace n s = record { steps = n; enough = omega arith; same = ref
 pub record RanOut {S : Type 0} (m : Moves S) (n : ℕ) (lines : Lines) (sure : ℕ) (old new : S) : Type 0 where
   pub steps : ℕ
   pub last : S
-  pub looks : Looks m n (shown lines sure) steps old last
+  pub looks : Looks m n (shown_lines lines sure) steps old last
   pub over : n ≤ m.due last
-  pub shut_is : new ≡ shut m last n
+  pub shut_is : new ≡ close_leaves m last n
 
-pub ran_out : {S : Type 0} (m : Moves S) (n : ℕ) (lines : Lines) (sure : ℕ) (old new : S) (ask : Ask) → Sees m n (shown lines sure) old ask new → ask ≡ Nothing → RanOut m n lines sure old new
+pub ran_out : {S : Type 0} (m : Moves S) (n : ℕ) (lines : Lines) (sure : ℕ) (old new : S) (ask : Ask) → Sees m n (shown_lines lines sure) old ask new → ask ≡ Nothing → RanOut m n lines sure old new
 ran_out m n lines sure old new ask told is =
-    let asked : (n ≤ m.due told.last) × (new ≡ shut m told.last n) = subst (λ (a : Ask). IsAsk m n told.last a new) is told.asked in
+    let asked : (n ≤ m.due told.last) × (new ≡ close_leaves m told.last n) = subst (λ (a : Ask). IsAsk m n told.last a new) is told.asked in
     record { steps = told.steps; last = told.last; looks = told.looks; over = asked.0; shut_is = asked.1 }
 
 -- it asks this of the Tube at its next step
 pub record Stands {S : Type 0} (m : Moves S) (n : ℕ) (lines : Lines) (sure : ℕ) (old new : S) (tick : ℕ) (q : Query) : Type 0 where
   pub steps : ℕ
-  pub looks : Looks m n (shown lines sure) steps old new
+  pub looks : Looks m n (shown_lines lines sure) steps old new
   pub tick_is : tick ≡ m.due new
   pub below : m.due new < n
   pub asks : m.asks new ≡ Some q
 
-pub stands_access : {S : Type 0} (m : Moves S) (n : ℕ) (lines : Lines) (sure : ℕ) (old new : S) (ask : Ask) (t : Tick) (op : Op) → Sees m n (shown lines sure) old ask new → ask ≡ Access t op →
+pub stands_access : {S : Type 0} (m : Moves S) (n : ℕ) (lines : Lines) (sure : ℕ) (old new : S) (ask : Ask) (t : Tick) (op : Op) → Sees m n (shown_lines lines sure) old ask new → ask ≡ Access t op →
     Stands m n lines sure old new t.0 (access op)
 stands_access {S} m n lines sure old new ask t op told is =
     let asked : (t.0 ≡ m.due told.last) × (t.0 < n) × (m.asks told.last ≡ Some (access op)) × (new ≡ told.last) =
@@ -143,13 +143,13 @@ stands_access {S} m n lines sure old new ask t op told is =
     let due : t.0 ≡ m.due new = subst (λ (x : S). t.0 ≡ m.due x) same asked.0 in
     record {
       steps = told.steps;
-      looks = subst (λ (x : S). Looks m n (shown lines sure) told.steps old x) same told.looks;
+      looks = subst (λ (x : S). Looks m n (shown_lines lines sure) told.steps old x) same told.looks;
       tick_is = due;
       below = rw (← due) asked.1;
       asks = subst (λ (x : S). m.asks x ≡ Some (access op)) same asked.2;
     }
 
-pub stands_look : {S : Type 0} (m : Moves S) (n : ℕ) (lines : Lines) (sure : ℕ) (old new : S) (ask : Ask) (t : Tick) → Sees m n (shown lines sure) old ask new → ask ≡ Look t →
+pub stands_look : {S : Type 0} (m : Moves S) (n : ℕ) (lines : Lines) (sure : ℕ) (old new : S) (ask : Ask) (t : Tick) → Sees m n (shown_lines lines sure) old ask new → ask ≡ Look t →
     Stands m n lines sure old new t.0 look
 stands_look {S} m n lines sure old new ask t told is =
     let asked : (t.0 ≡ m.due told.last) × (t.0 < n) × (m.asks told.last ≡ Some look) × (new ≡ told.last) =
@@ -158,7 +158,7 @@ stands_look {S} m n lines sure old new ask t told is =
     let due : t.0 ≡ m.due new = subst (λ (x : S). t.0 ≡ m.due x) same asked.0 in
     record {
       steps = told.steps;
-      looks = subst (λ (x : S). Looks m n (shown lines sure) told.steps old x) same told.looks;
+      looks = subst (λ (x : S). Looks m n (shown_lines lines sure) told.steps old x) same told.looks;
       tick_is = due;
       below = rw (← due) asked.1;
       asks = subst (λ (x : S). m.asks x ≡ Some look) same asked.2;

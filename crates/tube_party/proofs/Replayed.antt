@@ -16,7 +16,7 @@ use Rattle.tube_trace.specs.Entries.{entry_of, accesses}
 use Rattle.tube_party.specs.Moves.{Moves, IsLawful, Follows, FitsAnswer}
 use Rattle.tube_party.specs.Replay.{chip_before}
 use Rattle.tube_party.specs.Reference.{World, reference, IsFollowed}
-use Rattle.tube_party.specs.Following.{own_below, IsAnsweredBy, FollowsTrace, ReferenceIsReplayed}
+use Rattle.tube_party.specs.ReplayLaws.{own_below, IsAnsweredBy, FollowsTrace, ReferenceIsReplayed}
 use Rattle.tube_party.proofs.ReplayLemmas.{low_true}
 use Rattle.tube_party.proofs.FollowingLemmas.{replay_following}
 use Rattle.tube_party.proofs.Listed.{IsEarlier, before-then, before-not}

@@ -4,8 +4,8 @@ use Rattle.tube_chip.specs.Act.{Query}
 use Rattle.tube_chip.specs.Events.{Event}
 use Rattle.tube_chip.specs.declared.Answer.{Answer}
 use Rattle.beeb_bits.specs.declared.Side.{Side}
-use Rattle.tube_party.specs.Moves.{Moves, IsLawful, IsClosing, Runs, Heads, shut, course}
-use Rattle.tube_party.specs.Shut.{IsShut, FollowsOn}
+use Rattle.tube_party.specs.Moves.{Moves, IsLawful, IsClosing, Runs, Heads, close_leaves, course}
+use Rattle.tube_party.specs.CodeClosing.{IsShut, FollowsOn}
 
 abbrev pub event : ℕ → Side → Query → Answer → Event
 event t side q a = record { tick = t; side = side; query = q; answer = a }
@@ -98,7 +98,7 @@ module _ {S : Type 0} (r : Moves S) (lr : IsLawful r) (s : S) (n : ℕ) (le : n 
         next = closing_at.next;
         again = λ u low high.
             let within : r.closed s ≤ r.due s = lr.within s in
-            ap (λ (x : ℕ). r.close (shut r s n) (max u x)) closing_at.closed
+            ap (λ (x : ℕ). r.close (close_leaves r s n) (max u x)) closing_at.closed
             ∙ closing_at.again (max u (max n (r.closed s))) (omega arith) (omega arith)
             ∙ ap (λ (x : ℕ). r.close s x) (omega arith);
       }
@@ -108,22 +108,22 @@ module _ {S : Type 0} (r : Moves S) (lr : IsLawful r) (side : Side) (n k : ℕ) 
   shut_here : IsShut r s n
   shut_here = shut_is r lr s n over
 
-  due_here : (u : S) → u ≡ shut r s n → r.due u ≡ r.due s
+  due_here : (u : S) → u ≡ close_leaves r s n → r.due u ≡ r.due s
   due_here u is = ap r.due is ∙ shut_here.due
 
-  asks_here : (u : S) (o : Option Query) → u ≡ shut r s n → r.asks u ≡ o → r.asks s ≡ o
+  asks_here : (u : S) (o : Option Query) → u ≡ close_leaves r s n → r.asks u ≡ o → r.asks s ≡ o
   asks_here u o is e = sym (ap r.asks is ∙ shut_here.asks) ∙ e
 
-  next_here : (u : S) (a : Option Answer) → u ≡ shut r s n → r.next u a ≡ r.next s a
+  next_here : (u : S) (a : Option Answer) → u ≡ close_leaves r s n → r.next u a ≡ r.next s a
   next_here u a is = ap (λ (x : S). r.next x a) is ∙ shut_here.next a
 
   -- the same events from before, to a state that is closed alike
-  from_shut : (j : ℕ) (u last v : S) (b : List Event) → u ≡ shut r s n → First r side k j u b last → k ≤ r.due last → v ≡ shut r last k →
-      (l : S) × SomeRuns r side k s b l × (k ≤ r.due l) × (v ≡ shut r l k)
+  from_shut : (j : ℕ) (u last v : S) (b : List Event) → u ≡ close_leaves r s n → First r side k j u b last → k ≤ r.due last → v ≡ close_leaves r last k →
+      (l : S) × SomeRuns r side k s b l × (k ≤ r.due l) × (v ≡ close_leaves r l k)
   from_shut j u last v b is (Over eb es) up ends =
-      let same : last ≡ shut r s n = sym es ∙ is in
+      let same : last ≡ close_leaves r s n = sym es ∙ is in
       let due : r.due last ≡ r.due s = due_here last same in
-      (s, (zero, (eb, refl)), omega arith, ends ∙ ap (λ (x : S). shut r x k) same ∙ shut_here.again k le (omega arith))
+      (s, (zero, (eb, refl)), omega arith, ends ∙ ap (λ (x : S). close_leaves r x k) same ∙ shut_here.again k le (omega arith))
   from_shut j u last v b is (Silent i ej low none runs) up ends =
       let due : r.due u ≡ r.due s = due_here u is in
       let on : Runs r side k i (r.next s None) (course b last) = subst (λ (x : S). Runs r side k i x (course b last)) (next_here u None is) runs in

@@ -15,7 +15,7 @@ use Rattle.tube_trace.specs.declared.Entry.{Entry}
 use Rattle.tube_chip.specs.declared.Op.{Op}
 use Rattle.tube_chip.specs.declared.Op.TheVariants.{Read}
 use Rattle.tube_party.specs.Replay.{chip_before, is_that, next_line}
-use Rattle.tube_party.specs.Tape.{own_left, IsOwnAt, Takes, Misses}
+use Rattle.tube_party.specs.CodeTape.{own_left, IsOwnAt, Takes, Misses}
 
 -- it is of the side, below n
 abbrev pub owned : Side → ℕ → Entry → Bool

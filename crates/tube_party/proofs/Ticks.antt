@@ -7,7 +7,7 @@ use Rattle.tube_chip.specs.Events.{Event}
 use Rattle.beeb_bits.specs.declared.Side.{Side}
 use Rattle.beeb_bits.specs.declared.Side.TheVariants.{Host, Para}
 use Rattle.tube_party.specs.Moves.{Moves, IsLawful}
-use Rattle.tube_party.specs.Reference.{Seat, World, stepped, step_if_due, with_host, para_part, tick, ticks}
+use Rattle.tube_party.specs.Reference.{Seat, World, step_leaves, step_if_due, with_host, para_part, tick, ticks}
 
 abbrev pub seat : {S : Type 0} → S → State → List Event → Seat S
 seat s c l = record { state = s; chip = c; list = l }
@@ -21,10 +21,10 @@ host_done x t = record { host = x.state; para = t; chip = x.chip; list = x.list 
 pub still : {S : Type 0} (r : Moves S) (side : Side) (k : ℕ) (x : Seat S) → (r.due x.state ≡ k → ⊥) → step_if_due r side k x ≡ x
 still r side k x ne = rw (ne_eqb (r.due x.state) k ne) refl
 
-pub now : {S : Type 0} (r : Moves S) (side : Side) (k : ℕ) (x : Seat S) → r.due x.state ≡ k → step_if_due r side k x ≡ stepped r side x (r.asks x.state)
+pub now : {S : Type 0} (r : Moves S) (side : Side) (k : ℕ) (x : Seat S) → r.due x.state ≡ k → step_if_due r side k x ≡ step_leaves r side x (r.asks x.state)
 now r side k x e = rw (eq-eqb (r.due x.state) k e) refl
 
-later : {S : Type 0} (r : Moves S) → IsLawful r → (side : Side) (x : Seat S) (o : Option Query) → r.due x.state < r.due (stepped r side x o).state
+later : {S : Type 0} (r : Moves S) → IsLawful r → (side : Side) (x : Seat S) (o : Option Query) → r.due x.state < r.due (step_leaves r side x o).state
 later r lr side x None = lr.rises x.state None
 later r lr side x (Some q) = lr.rises x.state (Some (act x.chip side q).1)
 
@@ -59,24 +59,24 @@ module _ {S T : Type 0} (h : Moves S) (p : Moves T) (lh : IsLawful h) (lp : IsLa
 
   -- at k, the host being due there
   pub host_here : (j k : ℕ) (s : S) (t : T) (c : State) (l : List Event) → h.due s ≡ k
-      → ticks h p (suc j) k (world s t c l) ≡ ticks h p (suc j) k (host_done (stepped h Host (seat s c l) (h.asks s)) t)
+      → ticks h p (suc j) k (world s t c l) ≡ ticks h p (suc j) k (host_done (step_leaves h Host (seat s c l) (h.asks s)) t)
   host_here j k s t c l e =
-      let rise : h.due s < h.due (stepped h Host (seat s c l) (h.asks s)).state = later h lh Host (seat s c l) (h.asks s) in
-      let nx : h.due (stepped h Host (seat s c l) (h.asks s)).state ≡ k → ⊥ = λ d. omega (arith, rise) in
+      let rise : h.due s < h.due (step_leaves h Host (seat s c l) (h.asks s)).state = later h lh Host (seat s c l) (h.asks s) in
+      let nx : h.due (step_leaves h Host (seat s c l) (h.asks s)).state ≡ k → ⊥ = λ d. omega (arith, rise) in
       ap (λ (y : Seat S). ticks h p j (k + 1) (para_part p k y t))
-      (now h Host k (seat s c l) e ∙ sym (still h Host k (stepped h Host (seat s c l) (h.asks s)) nx))
+      (now h Host k (seat s c l) e ∙ sym (still h Host k (step_leaves h Host (seat s c l) (h.asks s)) nx))
 
   -- the host's step is the next one
   pub host_next : (j k : ℕ) (s : S) (t : T) (c : State) (l : List Event)
       → k ≤ h.due s → h.due s < k + j → h.due s ≤ p.due t
-      → ticks h p j k (world s t c l) ≡ ticks h p j k (host_done (stepped h Host (seat s c l) (h.asks s)) t)
+      → ticks h p j k (world s t c l) ≡ ticks h p j k (host_done (step_leaves h Host (seat s c l) (h.asks s)) t)
   host_next zero k s t c l lo hi first = absurd (omega arith)
   host_next (suc j) k s t c l lo hi first =
       elim (same_or_above (h.due s) k lo) [
         | inl e ↦ host_here j k s t c l e
         | inr up ↦
-            let rise : h.due s < h.due (stepped h Host (seat s c l) (h.asks s)).state = later h lh Host (seat s c l) (h.asks s) in
-            let x : Seat S = stepped h Host (seat s c l) (h.asks s) in
+            let rise : h.due s < h.due (step_leaves h Host (seat s c l) (h.asks s)).state = later h lh Host (seat s c l) (h.asks s) in
+            let x : Seat S = step_leaves h Host (seat s c l) (h.asks s) in
             both_idle j k s x.state t t c x.chip l x.list (omega arith) (omega arith) (omega arith) (omega arith)
             (host_next j (k + 1) s t c l (omega arith) (omega arith) first)
       ]
@@ -90,7 +90,7 @@ module _ {S T : Type 0} (h : Moves S) (p : Moves T) (lh : IsLawful h) (lp : IsLa
       elim (same_or_above (h.due s) k lo) [
         | inl e ↦
             host_here j k s t c l e
-            ∙ ap (λ (o : Option Query). ticks h p (suc j) k (host_done (stepped h Host (seat s c l) o) t)) none
+            ∙ ap (λ (o : Option Query). ticks h p (suc j) k (host_done (step_leaves h Host (seat s c l) o) t)) none
         | inr up ↦
             let rise : h.due s < h.due (h.next s None) = lh.rises s None in
             let ns : h.due s ≡ k → ⊥ = λ e. omega arith in
@@ -103,29 +103,29 @@ module _ {S T : Type 0} (h : Moves S) (p : Moves T) (lh : IsLawful h) (lp : IsLa
 
   -- at k, the parasite being due there, and x being what the host's part of the tick leaves
   pub para_here : (k : ℕ) (s : S) (t : T) (c : State) (l : List Event) → p.due t ≡ k
-      → with_host s (step_if_due p Para k (seat t c l)) ≡ with_host s (step_if_due p Para k (stepped p Para (seat t c l) (p.asks t)))
+      → with_host s (step_if_due p Para k (seat t c l)) ≡ with_host s (step_if_due p Para k (step_leaves p Para (seat t c l) (p.asks t)))
   para_here k s t c l e =
-      let rise : p.due t < p.due (stepped p Para (seat t c l) (p.asks t)).state = later p lp Para (seat t c l) (p.asks t) in
-      let nx : p.due (stepped p Para (seat t c l) (p.asks t)).state ≡ k → ⊥ = λ d. omega (arith, rise) in
+      let rise : p.due t < p.due (step_leaves p Para (seat t c l) (p.asks t)).state = later p lp Para (seat t c l) (p.asks t) in
+      let nx : p.due (step_leaves p Para (seat t c l) (p.asks t)).state ≡ k → ⊥ = λ d. omega (arith, rise) in
       ap (λ (y : Seat T). with_host s y)
-      (now p Para k (seat t c l) e ∙ sym (still p Para k (stepped p Para (seat t c l) (p.asks t)) nx))
+      (now p Para k (seat t c l) e ∙ sym (still p Para k (step_leaves p Para (seat t c l) (p.asks t)) nx))
 
   -- the parasite's step is the next one
   pub para_next : (j k : ℕ) (s : S) (t : T) (c : State) (l : List Event)
       → k ≤ p.due t → p.due t < k + j → p.due t < h.due s
-      → ticks h p j k (world s t c l) ≡ ticks h p j k (with_host s (stepped p Para (seat t c l) (p.asks t)))
+      → ticks h p j k (world s t c l) ≡ ticks h p j k (with_host s (step_leaves p Para (seat t c l) (p.asks t)))
   para_next zero k s t c l lo hi first = absurd (omega arith)
   para_next (suc j) k s t c l lo hi first =
       elim (same_or_above (p.due t) k lo) [
         | inl e ↦
             let ns : h.due s ≡ k → ⊥ = λ d. omega arith in
-            let x : Seat T = stepped p Para (seat t c l) (p.asks t) in
+            let x : Seat T = step_leaves p Para (seat t c l) (p.asks t) in
             ap (λ (y : Seat S). ticks h p j (k + 1) (para_part p k y t)) (still h Host k (seat s c l) ns)
             ∙ ap (λ (w : World S T). ticks h p j (k + 1) w) (para_here k s t c l e)
             ∙ sym (ap (λ (y : Seat S). ticks h p j (k + 1) (para_part p k y x.state)) (still h Host k (seat s x.chip x.list) ns))
         | inr up ↦
-            let rise : p.due t < p.due (stepped p Para (seat t c l) (p.asks t)).state = later p lp Para (seat t c l) (p.asks t) in
-            let x : Seat T = stepped p Para (seat t c l) (p.asks t) in
+            let rise : p.due t < p.due (step_leaves p Para (seat t c l) (p.asks t)).state = later p lp Para (seat t c l) (p.asks t) in
+            let x : Seat T = step_leaves p Para (seat t c l) (p.asks t) in
             both_idle j k s s t x.state c x.chip l x.list (omega arith) (omega arith) (omega arith) (omega arith)
             (para_next j (k + 1) s t c l (omega arith) (omega arith) first)
       ]
@@ -141,7 +141,7 @@ module _ {S T : Type 0} (h : Moves S) (p : Moves T) (lh : IsLawful h) (lp : IsLa
         | inl e ↦
             ap (λ (w : World S T). ticks h p j (k + 1) w)
             (para_here k x.state t x.chip x.list e
-            ∙ ap (λ (o : Option Query). with_host x.state (step_if_due p Para k (stepped p Para (seat t x.chip x.list) o))) none)
+            ∙ ap (λ (o : Option Query). with_host x.state (step_if_due p Para k (step_leaves p Para (seat t x.chip x.list) o))) none)
         | inr up ↦
             let rise : p.due t < p.due (p.next t None) = lp.rises t None in
             let nt : p.due t ≡ k → ⊥ = λ e. omega arith in

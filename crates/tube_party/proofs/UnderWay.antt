@@ -5,9 +5,9 @@ use Rattle.tube_chip.specs.Events.{Event}
 use Rattle.tube_trace.specs.declared.Entry.{Entry}
 use Rattle.beeb_bits.specs.declared.Side.TheVariants.{Host, Para}
 use Rattle.tube_party.specs.declared.party.Ask.{Ask}
-use Rattle.tube_party.specs.Moves.{Moves, IsAsk, Goes, shown}
+use Rattle.tube_party.specs.Moves.{Moves, IsAsk, Goes, shown_lines}
 use Rattle.tube_party.specs.Reference.{ticks, start}
-use Rattle.tube_party.specs.Played.{IsKept}
+use Rattle.tube_party.specs.OneThread.{IsKept}
 use Rattle.tube_party.proofs.Ticks.{world}
 use Rattle.tube_party.proofs.Early.{IsLike}
 
@@ -29,7 +29,7 @@ pub record IsUnderWay {S T : Type 0} (h : Moves S) (p : Moves T) (n keep : ℕ) 
   pub at : IsAt h p n keep s0 t0 s para_last c ask_h hl pl hc pc
   pub para_asked : IsAsk p n para_last ask_p t
 
--- Or it is ahead, and went on from where it can be taken back to as if the host changed none of its lines.
+-- Or it is ahead, and went on from where it can be rolled back to as if the host changed none of its lines.
 abbrev pub IsGoing : {S T : Type 0} → Moves S → Moves T → ℕ → ℕ → S → T → Bool → S → T → T → State → Ask → Ask → List Entry → List Entry → ℕ → ℕ → Type 0
 IsGoing h p n keep s0 t0 false s mark t c ask_h ask_p hl pl hc pc = IsUnderWay h p n keep s0 t0 s t c ask_h ask_p hl pl hc pc
-IsGoing h p n keep s0 t0 true s mark t c ask_h ask_p hl pl hc pc = IsAt h p n keep s0 t0 s mark c ask_h hl pl hc pc × ((far : ℕ) × Goes p n (shown (lines_of c) far) mark ask_p t)
+IsGoing h p n keep s0 t0 true s mark t c ask_h ask_p hl pl hc pc = IsAt h p n keep s0 t0 s mark c ask_h hl pl hc pc × ((far : ℕ) × Goes p n (shown_lines (lines_of c) far) mark ask_p t)

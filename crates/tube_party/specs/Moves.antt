@@ -48,8 +48,8 @@ abbrev pub IsPermitted : {S : Type 0} → Moves S → (Side → Bool) → Type 0
 IsPermitted {S} m plays = (s : S) (side : Side) → IsTrue (plays side) → MayAsk side (m.asks s)
 
 -- closed at n, or as far as it is closed already if that is further
-abbrev pub shut : {S : Type 0} → Moves S → S → ℕ → S
-shut m s n = m.close s (max n (m.closed s))
+abbrev pub close_leaves : {S : Type 0} → Moves S → S → ℕ → S
+close_leaves m s n = m.close s (max n (m.closed s))
 
 -- the first event, and what holds of it and the rest
 abbrev pub Heads : List Event → (Event → List Event → Type 0) → Type 0
@@ -81,11 +81,11 @@ pub record Follows {S : Type 0} (m : Moves S) (side : Side) (s : S) (events : Li
   pub last : S
   pub runs : Runs m side n steps s (course events last)
   pub over : n ≤ m.due last
-  pub ends : ended ≡ shut m last n
+  pub ends : ended ≡ close_leaves m last n
 
 -- what is told of last, the first state whose step asks or is not below n
 abbrev pub IsAsk : {S : Type 0} → Moves S → ℕ → S → Ask → S → Type 0
-IsAsk m n last Nothing new = (n ≤ m.due last) × (new ≡ shut m last n)
+IsAsk m n last Nothing new = (n ≤ m.due last) × (new ≡ close_leaves m last n)
 IsAsk m n last (Access t op) new = (t.0 ≡ m.due last) × (t.0 < n) × (m.asks last ≡ Some (access op)) × (new ≡ last)
 IsAsk m n last (Look t) new = (t.0 ≡ m.due last) × (t.0 < n) × (m.asks last ≡ Some look) × (new ≡ last)
 
@@ -101,8 +101,8 @@ pub record Shown : Type 0 where
   pub lines : Lines
   pub sure : ℕ
 
-abbrev pub shown : Lines → ℕ → Shown
-shown lines sure = record { lines = lines; sure = sure }
+abbrev pub shown_lines : Lines → ℕ → Shown
+shown_lines lines sure = record { lines = lines; sure = sure }
 
 -- k steps from s to last, each below n: each asks nothing, or is a look that is sure, and sees these lines
 abbrev pub Looks : {S : Type 0} → Moves S → ℕ → Shown → ℕ → S → S → Type 0
@@ -136,7 +136,7 @@ pub record Goes {S : Type 0} (m : Moves S) (n : ℕ) (v : Shown) (old : S) (ask 
 
 -- It went on from a mark, some way, as if each look saw these lines; this is asked next.
 abbrev pub IsAhead : {S : Type 0} → Moves S → ℕ → Lines → S → Ask → S → Type 0
-IsAhead m n lines mark ask new = (far : ℕ) × Goes m n (shown lines far) mark ask new
+IsAhead m n lines mark ask new = (far : ℕ) × Goes m n (shown_lines lines far) mark ask new
 
 -- the next step is a look below n
 abbrev pub IsAtLook : {S : Type 0} → Moves S → ℕ → S → Type 0

@@ -7,7 +7,7 @@ use Rattle.tube_chip.specs.Events.{Event}
 use Rattle.tube_chip.specs.declared.Answer.TheVariants.{Seen}
 use Rattle.tube_chip.specs.declared.Lines.{Lines}
 use Rattle.tube_chip.specs.Act.{Query}
-use Rattle.tube_party.specs.Moves.{Moves, IsLawful, Runs, Heads, Looks, shown, course}
+use Rattle.tube_party.specs.Moves.{Moves, IsLawful, Runs, Heads, Looks, shown_lines, course}
 use Rattle.tube_party.specs.Steps.{After, due_rises}
 
 -- k steps from s to last that ask nothing, whatever their ticks
@@ -60,7 +60,7 @@ module _ {S : Type 0} (m : Moves S) where
   module _ (lawful : IsLawful m) where
     -- it is quiet whatever a look finds later: no step that asks comes before q
     looks_by : (n : ℕ) (lines : Lines) (sure k q : ℕ) (s last : S) (query : Query) (o : Option Query) → m.asks s ≡ o → First s q → m.asks last ≡ Some query →
-        ((u : S) → First u q → Looks m n (shown lines sure) k u last → q ≤ m.due last) → After m n lines sure k s last o → q ≤ m.due last
+        ((u : S) → First u q → Looks m n (shown_lines lines sure) k u last → q ≤ m.due last) → After m n lines sure k s last o → q ≤ m.due last
     looks_by n lines sure k q s last query None is first asks on h = on (m.next s None) (first_on s q first is) h
     looks_by n lines sure k q s last query (Some x) is first asks on h =
         let here : q ≤ m.due s = first 0 s x refl is in
@@ -68,12 +68,12 @@ module _ {S : Type 0} (m : Moves S) where
         let past : m.due (m.next s (Some (Seen lines))) ≤ m.due last = due_rises m n lines sure k (m.next s (Some (Seen lines))) last lawful h.2 in
         omega arith
 
-    first_looks : (n : ℕ) (lines : Lines) (sure k q : ℕ) (s last : S) (query : Query) → First s q → Looks m n (shown lines sure) k s last → m.asks last ≡ Some query → q ≤ m.due last
+    first_looks : (n : ℕ) (lines : Lines) (sure k q : ℕ) (s last : S) (query : Query) → First s q → Looks m n (shown_lines lines sure) k s last → m.asks last ≡ Some query → q ≤ m.due last
     first_looks n lines sure zero q s last query first h asks = first 0 last query h asks
     first_looks n lines sure (suc k) q s last query first h asks =
         looks_by n lines sure k q s last query (m.asks s) refl first asks (λ u f on. first_looks n lines sure k q u last query f on asks) h.1
 
-    pub quiet_looks : (n : ℕ) (lines : Lines) (sure k q : ℕ) (s last : S) (query : Query) → IsQuiet m s q → Looks m n (shown lines sure) k s last → m.asks last ≡ Some query → q ≤ m.due last
+    pub quiet_looks : (n : ℕ) (lines : Lines) (sure k q : ℕ) (s last : S) (query : Query) → IsQuiet m s q → Looks m n (shown_lines lines sure) k s last → m.asks last ≡ Some query → q ≤ m.due last
     quiet_looks n lines sure k q s last query quiet h asks = first_looks n lines sure k q s last query quiet.first h asks
 
     -- so no event of a run comes before it

@@ -7,7 +7,7 @@ use Rattle.tube_chip.specs.Act.{Query, act}
 use Rattle.tube_chip.specs.Events.{Event, merge, after, of_side, IsLegal, Rises, IsAnsweredFrom}
 use Rattle.tube_trace.specs.declared.Entry.{Entry}
 use Rattle.tube_trace.specs.Entries.{IsEntry, accesses, events_of}
-use Rattle.tube_party.specs.Moves.{Moves, Follows, shut}
+use Rattle.tube_party.specs.Moves.{Moves, Follows, close_leaves}
 
 -- One party at the chip, with the list of what was done there.
 pub record Seat (S : Type 0) : Type 0 where
@@ -16,9 +16,9 @@ pub record Seat (S : Type 0) : Type 0 where
   pub list : List Event
 
 -- The step of this side done, which asks this: the chip answers, and the event joins the end of the list.
-abbrev pub stepped : {S : Type 0} → Moves S → Side → Seat S → Option Query → Seat S
-stepped m side x None = record { state = m.next x.state None; chip = x.chip; list = x.list }
-stepped m side x (Some q) =
+abbrev pub step_leaves : {S : Type 0} → Moves S → Side → Seat S → Option Query → Seat S
+step_leaves m side x None = record { state = m.next x.state None; chip = x.chip; list = x.list }
+step_leaves m side x (Some q) =
     record {
       state = m.next x.state (Some (act x.chip side q).1);
       chip = (act x.chip side q).0;
@@ -27,7 +27,7 @@ stepped m side x (Some q) =
 
 -- the step of this side done, if it is due at tick k
 abbrev pub step_if_due : {S : Type 0} → Moves S → Side → ℕ → Seat S → Seat S
-step_if_due m side k x = if nat_eq (m.due x.state) k then stepped m side x (m.asks x.state) else x
+step_if_due m side k x = if nat_eq (m.due x.state) k then step_leaves m side x (m.asks x.state) else x
 
 -- Both parties, the chip between them and the list of what was done there.
 pub record World (S T : Type 0) : Type 0 where
@@ -58,12 +58,12 @@ abbrev pub start : {S T : Type 0} → S → T → World S T
 start s t = record { host = s; para = t; chip = power_on; list = [] }
 
 -- each party closed at n, or as far as it is closed already if that is further
-abbrev pub shut_both : {S T : Type 0} → Moves S → Moves T → ℕ → World S T → World S T
-shut_both h p n w = record { host = shut h w.host n; para = shut p w.para n; chip = w.chip; list = w.list }
+abbrev pub close_both_leaves : {S T : Type 0} → Moves S → Moves T → ℕ → World S T → World S T
+close_both_leaves h p n w = record { host = close_leaves h w.host n; para = close_leaves p w.para n; chip = w.chip; list = w.list }
 
 -- The reference run of a host and a parasite for n ticks.
 abbrev pub reference : {S T : Type 0} → Moves S → Moves T → S → T → ℕ → World S T
-reference h p s t n = shut_both h p n (ticks h p n 0 (start s t))
+reference h p s t n = close_both_leaves h p n (ticks h p n 0 (start s t))
 
 -- Two parties that follow lists whose merge is legal are the reference run.
 abbrev pub LegalMergeIsReference : {S T : Type 0} → Moves S → Moves T → Type 0

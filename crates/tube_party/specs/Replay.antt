@@ -11,7 +11,7 @@ use Rattle.tube_chip.specs.Act.{Query, access, look, chip_after}
 use Rattle.tube_chip.specs.Events.{is_side}
 use Rattle.tube_trace.specs.declared.Entry.{Entry}
 use Rattle.tube_party.specs.declared.replaying.Doing.{Doing}
-use Rattle.tube_party.specs.Moves.{Moves, shut}
+use Rattle.tube_party.specs.Moves.{Moves, close_leaves}
 
 -- the chip after the entries of a trace that come before a step of this side at tick t, from chip c on
 abbrev pub chip_before : Side → ℕ → State → List Entry → State
@@ -41,8 +41,8 @@ same_op (Write r v) Reset = Bool.false
 same_op Reset (Read q) = Bool.false
 same_op Reset (Write q w) = Bool.false
 
-abbrev pub doing : ℕ → Side → Op → Doing
-doing t side op = record { tick = record { 0 = t }; side = side; op = op }
+abbrev pub doing_of : ℕ → Side → Op → Doing
+doing_of t side op = record { tick = record { 0 = t }; side = side; op = op }
 
 -- Where a replay ended: the machine there, and the place, if they differed: the line of the side's entry, or one past the trace
 -- where it has none, and what the machine does there, if it does something.
@@ -56,12 +56,12 @@ next_line [] = None
 next_line (x ∷ own) = Some (x.line, None)
 
 -- the machine does nothing more below n
-abbrev pub finished : {S : Type 0} → Moves S → ℕ → S → List Numbered → Ended S
-finished m n s own = record { machine = shut m s n; place = next_line own }
+abbrev pub finish_leaves : {S : Type 0} → Moves S → ℕ → S → List Numbered → Ended S
+finish_leaves m n s own = record { machine = close_leaves m s n; place = next_line own }
 
 -- the machine is at an access that the side's next entry is not
 abbrev pub differs : {S : Type 0} → Moves S → Side → S → Op → ℕ → Ended S
-differs m side s op line = record { machine = s; place = Some (line, Some (doing (m.due s) side op)) }
+differs m side s op line = record { machine = s; place = Some (line, Some (doing_of (m.due s) side op)) }
 
 abbrev pub is_that : Entry → ℕ → Op → Bool
 is_that x t op = (x.tick).0 == t && same_op x.op op
@@ -80,10 +80,10 @@ one_step m side trace s own (Some (access op)) go = access_step m side (length t
 
 -- Steps one after another, at most so many, with the side's entries that are left.
 abbrev pub replay_from : {S : Type 0} → Moves S → Side → List Entry → ℕ → ℕ → S → List Numbered → Ended S
-replay_from m side trace n zero s own = finished m n s own
+replay_from m side trace n zero s own = finish_leaves m n s own
 replay_from m side trace n (suc k) s own =
-    if nat_lt (m.due s) n then one_step m side trace s own (m.asks s) (replay_from m side trace n k) else finished m n s own
+    if nat_lt (m.due s) n then one_step m side trace s own (m.asks s) (replay_from m side trace n k) else finish_leaves m n s own
 
 -- The replay of a machine up to tick n. Ticks rise from step to step, so that n steps are enough.
-unfoldable pub replayed : {S : Type 0} → Moves S → Side → List Entry → ℕ → S → Ended S
-replayed m side trace n s = replay_from m side trace n n s (own_from side n 1 trace)
+unfoldable pub replay_of : {S : Type 0} → Moves S → Side → List Entry → ℕ → S → Ended S
+replay_of m side trace n s = replay_from m side trace n n s (own_from side n 1 trace)

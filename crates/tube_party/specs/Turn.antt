@@ -9,12 +9,12 @@ use Rattle.tube_party.specs.declared.party.Ask.TheVariants.{Nothing, Access, Loo
 use Rattle.tube_party.specs.Moves.{Moves}
 
 -- one more entry, while there are fewer than `keep`
-abbrev pub noted : ℕ → List Entry → Entry → List Entry
-noted keep list entry = if nat_lt (length list) keep then list ++ entry ∷ [] else list
+abbrev pub note_leaves : ℕ → List Entry → Entry → List Entry
+note_leaves keep list entry = if nat_lt (length list) keep then list ++ entry ∷ [] else list
 
-abbrev pub noted_all : ℕ → List Entry → List Entry → List Entry
-noted_all keep list [] = list
-noted_all keep list (x ∷ xs) = noted_all keep (noted keep list x) xs
+abbrev pub note_all_leaves : ℕ → List Entry → List Entry → List Entry
+note_all_leaves keep list [] = list
+note_all_leaves keep list (x ∷ xs) = note_all_leaves keep (note_leaves keep list x) xs
 
 -- this is asked by the next step, which is below n
 abbrev pub IsPending : {S : Type 0} → Moves S → ℕ → S → Ask → Type 0
@@ -45,10 +45,10 @@ first_of (Look t) (Access u po) = Some (first_due t.0 u.0)
 first_of (Look t) (Look u) = Some (first_due t.0 u.0)
 
 -- how far an ask is from n
-abbrev pub left : ℕ → Ask → ℕ
-left n Nothing = 0
-left n (Access t op) = n - t.0
-left n (Look t) = n - t.0
+abbrev pub ticks_left : ℕ → Ask → ℕ
+ticks_left n Nothing = 0
+ticks_left n (Access t op) = n - t.0
+ticks_left n (Look t) = n - t.0
 
 -- Looks of the other side below this tick see the chip as it is, where they may come so many ticks behind a step of this one: its next step is
 -- not before it, if one is left.

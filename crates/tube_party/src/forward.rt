@@ -1,11 +1,11 @@
-//! A party that is never taken back.
+//! A party that is never rolled back.
 use crate::party::{Ask, Party};
 use crate::rewinds::Rewinds;
 use beeb_bits::Tick;
 use std::alloc::{AllocError, Global};
 use tube_chip::{Answer, Lines};
 
-/// A party that notes nothing: it goes no further than what is sure, and so need never be taken back. With it any two
+/// A party that notes nothing: it goes no further than what is sure, and so need never be rolled back. With it any two
 /// parties can be run beside each other.
 #[derive(Drop)]
 pub struct Forward<P> {

@@ -1,9 +1,9 @@
 //! Laws over the definitions of parties, of the reference run and of a replay.
 ghost use Rattle.std.specs.Prelude.{IsTrue};
 ghost use Rattle.beeb_bits.specs.declared.Side.TheVariants.{Host, Para};
-ghost use Rattle.tube_party.specs.Shut.{MayBeShut, FollowsOn};
+ghost use Rattle.tube_party.specs.CodeClosing.{MayBeShut, FollowsOn};
 ghost use Rattle.tube_party.specs.Reference.{LegalMergeIsReference, ReferenceIsFollowed, ReferenceIsTrace};
-ghost use Rattle.tube_party.specs.Following.{ReplayIsFollowing, ReplayTellsDifference, ReferenceIsReplayed};
+ghost use Rattle.tube_party.specs.ReplayLaws.{ReplayIsFollowing, ReplayTellsDifference, ReferenceIsReplayed};
 
 use crate::party::Party;
 

@@ -1,6 +1,6 @@
 //! What is kept of a side's accesses.
 ghost use Rattle.std.specs.Prelude.{◌≡◌, ◌≤◌, ◌<◌, ◌+◌, ◌^◌, [], IfOk, vec_capacity};
-ghost use Rattle.tube_party.specs.Turn.{noted};
+ghost use Rattle.tube_party.specs.Turn.{note_leaves};
 
 use std::alloc::{AllocError, Global};
 use tube_trace::Entry;
@@ -9,7 +9,7 @@ use tube_trace::Entry;
 pub fn note(list: &mut Vec<Entry>, count: &mut u64, keep: u32, entry: Entry)
     requires room { keep ≤ vec_capacity list.old }
     requires count { count.old < 2 ^ 63 }
-    ensures list { list.new.items ≡ noted keep list.old.items entry }
+    ensures list { list.new.items ≡ note_leaves keep list.old.items entry }
     ensures count { count.new ≡ count.old + 1 }
     ensures room { vec_capacity list.new ≡ vec_capacity list.old }
 {
@@ -46,7 +46,7 @@ impl Log {
     /// One more access.
     pub(crate) fn note(&mut self, entry: Entry)
         requires { self.old.count < 2 ^ 63 }
-        ensures list { self.new.list.items ≡ noted self.old.keep self.old.list.items entry }
+        ensures list { self.new.list.items ≡ note_leaves self.old.keep self.old.list.items entry }
         ensures count { self.new.count ≡ self.old.count + 1 }
         ensures keep { self.new.keep ≡ self.old.keep }
     {

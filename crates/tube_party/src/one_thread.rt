@@ -2,10 +2,10 @@
 ghost use Rattle.std.specs.Prelude.{◌≡◌, ◌≤◌, ◌<◌, ◌^◌, ◌⊎◌, [], IfOk, IfErr, IsTrue};
 ghost use Rattle.beeb_bits.specs.declared.Side.TheVariants.{Host, Para};
 ghost use Rattle.tube_chip.specs.State.{lines_of};
-ghost use Rattle.tube_party.specs.Played.{IsPlayed, played_of};
+ghost use Rattle.tube_party.specs.OneThread.{IsPlayed, played_of};
 ghost use Rattle.tube_party.specs.Turn.{IsPending, first_of, tick_of, IsSure};
-ghost use Rattle.tube_party.specs.Desk.{desk, Acts};
-ghost use Rattle.tube_party.specs.Standing.{standing, IsGone, StandsStill, IsRolledBack};
+ghost use Rattle.tube_party.specs.CodeDesk.{desk, Acts};
+ghost use Rattle.tube_party.specs.CodeStanding.{standing_of, IsGone, StandsStill, IsRolledBack};
 ghost use Rattle.tube_party.specs.Reference.{reference};
 
 use crate::log::Log;
@@ -124,7 +124,7 @@ fn go_on<M: Rewinds>(
 ) -> (bool, Ask)
     requires { n.0 ≤ MOST }
     ensures { let mark = M.Party.state (M.before past.new machine.new) in
-        let new = standing result.0 result.1 mark (M.Party.state machine.new) in
+        let new = standing_of result.0 result.1 mark (M.Party.state machine.new) in
         IsGone M.Party.moves n.0 lines.now sure.0 (M.Party.state machine.old) new }
 {
     match machine.advance_noting(n, lines, ahead, past) {
@@ -133,7 +133,7 @@ fn go_on<M: Rewinds>(
     }
 }
 
-/// After an access of the other side at tick `at`: a party that is ahead, and saw lines that are no longer so, is taken back, and goes on to
+/// After an access of the other side at tick `at`: a party that is ahead, and saw lines that are no longer so, is rolled back, and goes on to
 /// where the access was. Whether it is still ahead, and what it asks.
 #[inline(always)]
 fn roll_back_if_wrong<M: Rewinds>(
@@ -148,9 +148,9 @@ fn roll_back_if_wrong<M: Rewinds>(
 ) -> (bool, Ask)
     requires { n.0 ≤ MOST }
     ensures { let mark = M.Party.state (M.before past.old machine.old) in
-        let old = standing is_ahead ask mark (M.Party.state machine.old) in
+        let old = standing_of is_ahead ask mark (M.Party.state machine.old) in
         let new_mark = M.Party.state (M.before past.new machine.new) in
-        let new = standing result.0 result.1 new_mark (M.Party.state machine.new) in
+        let new = standing_of result.0 result.1 new_mark (M.Party.state machine.new) in
         StandsStill seen.now lines.now old new ⊎ IsRolledBack M.Party.moves n.0 seen.now at.0 old new }
 {
     if is_ahead && *lines != *seen {
@@ -168,7 +168,7 @@ const FEWEST: u64 = 16;
 const FURTHEST: u64 = 4_096;
 
 /// Both parties in turn: the one whose ask comes first does that step, and goes on. The host goes on past the looks before which the parasite
-/// makes no access. The parasite goes ahead of the host, as if the host changed none of its lines, and is taken back where it does.
+/// makes no access. The parasite goes ahead of the host, as if the host changed none of its lines, and is rolled back where it does.
 fn both<H: Party, P: Rewinds>(
     mut host: H,
     mut para: P,

@@ -1,7 +1,7 @@
 //! What a machine at the Tube is.
 ghost use Rattle.std.specs.Prelude.{◌≡◌, ◌≤◌, ℕ, Bool, Some};
 ghost use Rattle.beeb_bits.specs.declared.Side.{Side};
-ghost use Rattle.tube_party.specs.Moves.{Moves, IsLawful, IsPermitted, Advances, Sees, IsAskedFor, shown};
+ghost use Rattle.tube_party.specs.Moves.{Moves, IsLawful, IsPermitted, Advances, Sees, IsAskedFor, shown_lines};
 ghost use Rattle.tube_party.specs.Quiet.{IsQuiet};
 
 use beeb_bits::Tick;
@@ -66,7 +66,7 @@ pub trait Party: Drop {
     /// that asks for more. It is `advance` and `answer` in turn, and a machine may do it without leaving off at each look.
     fn advance_seeing(&mut self, until: Tick, lines: &Lines, sure: Tick) -> Ask
         requires { until.0 ≤ MOST }
-        ensures { Sees moves until.0 (shown lines.now sure.0) (state self.old) result (state self.new) }
+        ensures { Sees moves until.0 (shown_lines lines.now sure.0) (state self.old) result (state self.new) }
     {
         loop {
             match self.advance(until) {

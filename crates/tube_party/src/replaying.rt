@@ -2,8 +2,8 @@
 ghost use Rattle.std.specs.Prelude.{◌≡◌, ◌≤◌, ℕ, length, All, IsTrue};
 ghost use Rattle.beeb_bits.specs.declared.Side.{Side};
 ghost use Rattle.tube_trace.specs.Entries.{IsEntry};
-ghost use Rattle.tube_party.specs.Replay.{next_line, replayed};
-ghost use Rattle.tube_party.specs.Tape.{own_left, IsOwnAt};
+ghost use Rattle.tube_party.specs.Replay.{next_line, replay_of};
+ghost use Rattle.tube_party.specs.CodeTape.{own_left, IsOwnAt};
 
 use crate::party::{Ask, MOST, Party};
 use crate::tape::{lines_at, next_own, sure, take};
@@ -37,7 +37,7 @@ fn next_line(trace: &[Entry], at: usize) -> Option<(u64, Option<Doing>)>
 /// the side's entries below `n`; otherwise it is the first place where they differ: the line of the side's entry there, counted from
 /// 1, or one past the trace where it has none, and what the party does there, if it does something. The party stops before that step,
 /// or, if it does nothing more, as it is at `n`.
-#[tactic(auto, unfolding(crate::specs::Replay::replayed))]
+#[tactic(auto, unfolding(crate::specs::Replay::replay_of))]
 // Kept out of its caller, so that the loop has the registers to itself.
 #[inline(never)]
 pub fn replay<M: Party>(
@@ -49,8 +49,8 @@ pub fn replay<M: Party>(
     requires ticks { n.0 ≤ MOST }
     requires plays { IsTrue (M.plays side) }
     requires entries { All IsEntry trace.now }
-    ensures machine { M.state result.0 ≡ (replayed M.moves side trace.now n.0 (M.state machine)).machine }
-    ensures place { result.1 ≡ (replayed M.moves side trace.now n.0 (M.state machine)).place }
+    ensures machine { M.state result.0 ≡ (replay_of M.moves side trace.now n.0 (M.state machine)).machine }
+    ensures place { result.1 ≡ (replay_of M.moves side trace.now n.0 (M.state machine)).place }
 {
     let mut chip = Chip::new();
     let mut lines = chip.lines();

@@ -1,19 +1,19 @@
-//! A party that can be taken back.
+//! A party that can be rolled back.
 ghost use Rattle.std.specs.Prelude.{◌≡◌, ◌≤◌, MatchOption, Some};
 ghost use Rattle.tube_chip.specs.declared.Answer.TheVariants.{Byte};
-ghost use Rattle.tube_party.specs.Moves.{Goes, IsAtLook, IsAskedFor, shown};
+ghost use Rattle.tube_party.specs.Moves.{Goes, IsAtLook, IsAskedFor, shown_lines};
 
 use crate::party::{Ask, MOST, Party};
 use beeb_bits::Tick;
 use std::alloc::{AllocError, Global};
 use tube_chip::Lines;
 
-/// A party that can go on from what is not sure yet, and be taken back to where it was.
+/// A party that can go on from what is not sure yet, and be rolled back to where it was.
 ///
-/// One that cannot be taken back notes nothing: its `Past` is `()`, its `advance_noting` answers None, and it never
+/// One that cannot be rolled back notes nothing: its `Past` is `()`, its `advance_noting` answers None, and it never
 /// goes ahead. `Forward` makes such a one of any party.
 pub trait Rewinds: Party {
-    /// What it notes so that it can be taken back.
+    /// What it notes so that it can be rolled back.
     type Past: Drop;
 
     /// Where it was when it began to note, by where it is.
@@ -39,14 +39,14 @@ pub trait Rewinds: Party {
             let new = Self.state self.new in
             let mark = Self.state (before past.new self.new) in
             MatchOption result (new ≡ old)
-            (λ ask. Goes Self.moves until.0 (shown lines.now sure.0) old ask new × (mark ≡ old)) };
+            (λ ask. Goes Self.moves until.0 (shown_lines lines.now sure.0) old ask new × (mark ≡ old)) };
 
     /// Goes on from the look at which a run that it notes left off, and notes that too, as if each look below tick `sure` saw these lines. What it
     /// goes back to stays where it was. It may leave off at any look, this one too.
     fn advance_on(&mut self, until: Tick, lines: &Lines, sure: Tick, past: &mut Self::Past) -> Ask
         requires ticks { until.0 ≤ MOST }
         requires look { IsAtLook Self.moves until.0 (Self.state self.old) }
-        ensures goes { Goes Self.moves until.0 (shown lines.now sure.0)
+        ensures goes { Goes Self.moves until.0 (shown_lines lines.now sure.0)
             (Self.state self.old) result (Self.state self.new) }
         ensures mark { Self.state (before past.new self.new) ≡ Self.state (before past.old self.old) }
     {
@@ -68,7 +68,7 @@ pub trait Rewinds: Party {
         ensures goes { let old = Self.state self.old in
             let new = Self.state self.new in
             MatchOption result (new ≡ old)
-            (λ ask. Goes Self.moves until.0 (shown lines.now sure.0)
+            (λ ask. Goes Self.moves until.0 (shown_lines lines.now sure.0)
             (Self.moves.next old (Some (Byte byte))) ask new) }
         ensures mark { Self.state (before past.new self.new) ≡ Self.state (before past.old self.old) }
     {

@@ -5,7 +5,7 @@ ghost use Rattle.tube_chip.specs.Events.{is_side};
 ghost use Rattle.tube_chip.specs.State.{State, lines_of};
 ghost use Rattle.tube_trace.specs.Entries.{IsEntry};
 ghost use Rattle.tube_party.specs.Replay.{chip_before, same_op, is_that};
-ghost use Rattle.tube_party.specs.Tape.{own_left, IsOwnAt, Takes, Misses};
+ghost use Rattle.tube_party.specs.CodeTape.{own_left, IsOwnAt, Takes, Misses};
 
 use crate::party::MOST;
 use beeb_bits::{Side, Tick, before};

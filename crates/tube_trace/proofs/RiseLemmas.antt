@@ -5,7 +5,7 @@ use Rattle.tube_trace.specs.declared.Entry.{Entry}
 use Rattle.tube_trace.specs.declared.TraceError.{TraceError}
 use Rattle.tube_trace.specs.declared.TraceError.TheVariants.{BadOrder}
 use Rattle.tube_trace.specs.Line.{entry_of}
-use Rattle.tube_trace.specs.Trace.{lines_of, follows, in_front, reading}
+use Rattle.tube_trace.specs.Trace.{lines_of, follows, in_front, entries_behind}
 use Rattle.tube_trace.specs.Entries.{event_of, events_of}
 
 -- the events rise, behind an entry if there is one
@@ -36,19 +36,19 @@ taken_apart last e line true (Ok more) entries is rest h =
 taken_apart last e line true (Err error) entries is rest h = cc
 taken_apart last e line false r entries is rest h = cc
 
-reading-rises : (line : ℕ) (last : Option Entry) (lines : List (Option Entry)) (entries : List Entry) → reading line last lines ≡ Ok entries → RisesBehind last (events_of entries)
+entries_behind-rises : (line : ℕ) (last : Option Entry) (lines : List (Option Entry)) (entries : List Entry) → entries_behind line last lines ≡ Ok entries → RisesBehind last (events_of entries)
 unfolding RisesBehind
-reading-rises line last [] entries h =
+entries_behind-rises line last [] entries h =
     subst (λ (es : List Entry). RisesBehind last (events_of es)) (same_entries [] entries h) (RisesBehind-nil last)
-reading-rises line last (None ∷ lines) entries h = cc
-reading-rises line last (Some e ∷ lines) entries h =
-    taken_apart last e line (follows last e) (reading (line + 1) (Some e) lines) entries refl
-    (λ more is. reading-rises (line + 1) (Some e) lines more is) h
+entries_behind-rises line last (None ∷ lines) entries h = cc
+entries_behind-rises line last (Some e ∷ lines) entries h =
+    taken_apart last e line (follows last e) (entries_behind (line + 1) (Some e) lines) entries refl
+    (λ more is. entries_behind-rises (line + 1) (Some e) lines more is) h
 
 -- what lines mean rises
-pub lines-rise : (text : List ℕ) (entries : List Entry) → reading 1 None (map entry_of (lines_of text)) ≡ Ok entries → Rises (events_of entries)
+pub lines-rise : (text : List ℕ) (entries : List Entry) → entries_behind 1 None (map entry_of (lines_of text)) ≡ Ok entries → Rises (events_of entries)
 unfolding RisesBehind
-lines-rise text entries h = reading-rises 1 None (map entry_of (lines_of text)) entries h
+lines-rise text entries h = entries_behind-rises 1 None (map entry_of (lines_of text)) entries h
 
 -- ---- and rising entries are read
 
@@ -57,16 +57,16 @@ unfolding RisesBehind
 follows_behind None e events rises = (refl, rises)
 follows_behind (Some d) e events rises = (rises.0, rises.1)
 
-reading-some : (line : ℕ) (last : Option Entry) (entries : List Entry) → RisesBehind last (events_of entries) → reading line last (map Some entries) ≡ Ok entries
+entries_behind-some : (line : ℕ) (last : Option Entry) (entries : List Entry) → RisesBehind last (events_of entries) → entries_behind line last (map Some entries) ≡ Ok entries
 unfolding RisesBehind
-reading-some line last [] rises = refl
-reading-some line last (e ∷ entries) rises =
+entries_behind-some line last [] rises = refl
+entries_behind-some line last (e ∷ entries) rises =
     let here = follows_behind last e (events_of entries) rises in
-    rw (here.0, reading-some (line + 1) (Some e) entries here.1) refl
+    rw (here.0, entries_behind-some (line + 1) (Some e) entries here.1) refl
 
-pub rising_read : (entries : List Entry) → Rises (events_of entries) → reading 1 None (map Some entries) ≡ Ok entries
+pub rising_read : (entries : List Entry) → Rises (events_of entries) → entries_behind 1 None (map Some entries) ≡ Ok entries
 unfolding RisesBehind
-rising_read entries rises = reading-some 1 None entries rises
+rising_read entries rises = entries_behind-some 1 None entries rises
 
 -- entries were read of lines that have them
 each_taken : (last : Option Entry) (e : Entry) (lines : List (Option Entry)) (line : ℕ) (b : Bool) (r : Result (List Entry) TraceError) (entries : List Entry) →
@@ -78,8 +78,8 @@ each_taken last e lines line true (Ok more) entries rest h =
 each_taken last e lines line true (Err error) entries rest h = cc
 each_taken last e lines line false r entries rest h = cc
 
-pub each_read : (line : ℕ) (last : Option Entry) (lines : List (Option Entry)) (entries : List Entry) → reading line last lines ≡ Ok entries → lines ≡ map Some entries
+pub each_read : (line : ℕ) (last : Option Entry) (lines : List (Option Entry)) (entries : List Entry) → entries_behind line last lines ≡ Ok entries → lines ≡ map Some entries
 each_read line last [] entries h = ap (map Some) (same_entries [] entries h)
 each_read line last (None ∷ lines) entries h = cc
 each_read line last (Some e ∷ lines) entries h =
-    each_taken last e lines line (follows last e) (reading (line + 1) (Some e) lines) entries (λ more is. each_read (line + 1) (Some e) lines more is) h
+    each_taken last e lines line (follows last e) (entries_behind (line + 1) (Some e) lines) entries (λ more is. each_read (line + 1) (Some e) lines more is) h

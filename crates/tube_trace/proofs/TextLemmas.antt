@@ -9,7 +9,7 @@ use Rattle.tube_trace.specs.declared.Entry.{Entry}
 use Rattle.tube_trace.specs.declared.TraceError.{TraceError}
 use Rattle.tube_trace.specs.declared.TraceError.TheVariants.{BadLine, BadOrder}
 use Rattle.tube_trace.specs.Line.{entry_of}
-use Rattle.tube_trace.specs.Trace.{lines_of, follows, in_front, reading}
+use Rattle.tube_trace.specs.Trace.{lines_of, follows, in_front, entries_behind}
 use Rattle.tube_trace.proofs.LineLemmas.{HasEntry, has_entry, formed_parts, other_before, first_line}
 
 -- a text that has a byte has a first line, and goes on behind it
@@ -73,7 +73,7 @@ line_stops b text none =
 
 -- what was read, with what is left of the text, is the whole text's
 pub record ReadSoFar (text : List ℕ) (entries : List Entry) (last : Option Entry) (rest : List ℕ) : Type 0 where
-  pub whole : reading 1 None (map entry_of (lines_of text)) ≡ in_front entries (reading (length entries + 1) last (map entry_of (lines_of rest)))
+  pub whole : entries_behind 1 None (map entry_of (lines_of text)) ≡ in_front entries (entries_behind (length entries + 1) last (map entry_of (lines_of rest)))
   pub size : 20 * length entries + length rest ≡ length text
 
 in_front_none : (r : Result (List Entry) TraceError) → r ≡ in_front [] r
@@ -90,7 +90,7 @@ read_none text = record { whole = in_front_none _; size = omega arith }
 pub read_more : (text : List ℕ) (entries : List Entry) (last : Option Entry) (rest : List ℕ) (e : Entry) →
     ReadSoFar text entries last rest → entry_of (take 20 rest) ≡ Some e → follows last e ≡ true → ReadSoFar text (entries ++ e ∷ []) (Some e) (drop 20 rest)
 read_more text entries last rest e so_far is after =
-    let step : reading (length entries + 1) last (map entry_of (lines_of rest)) ≡ in_front (e ∷ []) (reading (length entries + 1 + 1) (Some e) (map entry_of (lines_of (drop 20 rest)))) =
+    let step : entries_behind (length entries + 1) last (map entry_of (lines_of rest)) ≡ in_front (e ∷ []) (entries_behind (length entries + 1 + 1) (Some e) (map entry_of (lines_of (drop 20 rest)))) =
     rw (line_reads rest e is, after) refl in
     let long : 20 ≤ length rest = take_long rest (has_entry (take 20 rest) e is).long in
     let more : length (entries ++ e ∷ []) ≡ length entries + 1 = length-append entries (e ∷ []) in
@@ -100,17 +100,17 @@ read_more text entries last rest e so_far is after =
     }
 
 pub read_all : (text : List ℕ) (entries : List Entry) (last : Option Entry) (rest : List ℕ) →
-    ReadSoFar text entries last rest → length rest ≡ 0 → reading 1 None (map entry_of (lines_of text)) ≡ Ok entries
+    ReadSoFar text entries last rest → length rest ≡ 0 → entries_behind 1 None (map entry_of (lines_of text)) ≡ Ok entries
 read_all text entries last [] so_far h = so_far.whole ∙ ap Ok (append-nil entries)
 read_all text entries last (b ∷ rest) so_far h = absurd (omega arith)
 
 pub read_bad_line : (text : List ℕ) (entries : List Entry) (last : Option Entry) (rest : List ℕ) →
-    ReadSoFar text entries last rest → 0 < length rest → entry_of (take 20 rest) ≡ None → reading 1 None (map entry_of (lines_of text)) ≡ Err (BadLine (length entries + 1))
+    ReadSoFar text entries last rest → 0 < length rest → entry_of (take 20 rest) ≡ None → entries_behind 1 None (map entry_of (lines_of text)) ≡ Err (BadLine (length entries + 1))
 read_bad_line text entries last [] so_far h none = absurd (omega arith)
 read_bad_line text entries last (b ∷ rest) so_far h none = so_far.whole ∙ rw (line_stops b rest none).1 refl
 
 pub read_bad_order : (text : List ℕ) (entries : List Entry) (last : Option Entry) (rest : List ℕ) (e : Entry) →
-    ReadSoFar text entries last rest → entry_of (take 20 rest) ≡ Some e → follows last e ≡ false → reading 1 None (map entry_of (lines_of text)) ≡ Err (BadOrder (length entries + 1))
+    ReadSoFar text entries last rest → entry_of (take 20 rest) ≡ Some e → follows last e ≡ false → entries_behind 1 None (map entry_of (lines_of text)) ≡ Err (BadOrder (length entries + 1))
 read_bad_order text entries last rest e so_far is after = so_far.whole ∙ rw (line_reads rest e is, after) refl
 
 -- the bytes that are taken for a line

@@ -10,7 +10,7 @@ use Rattle.tube_chip.specs.Act.{answer_of, chip_after}
 use Rattle.tube_chip.specs.Events.{IsAnsweredFrom, after_from}
 use Rattle.tube_trace.specs.declared.Entry.{Entry}
 use Rattle.tube_trace.specs.Entries.{events_of}
-use Rattle.tube_trace.specs.Wrong.{wrong_from, wrong, IsFirstWrong}
+use Rattle.tube_trace.specs.FirstWrong.{wrong_from, wrong, IsFirstWrong}
 
 eqb_true : (a b : ℕ) → a ≡ b → (a == b) ≡ true
 eqb_true a b h = grind (arith, nat_tests)

@@ -1,7 +1,7 @@
 pub mod Line
 pub mod Trace
 pub mod Entries
-pub mod Wrong
+pub mod FirstWrong
 pub mod Text
 pub mod Laws
 pub mod Merge

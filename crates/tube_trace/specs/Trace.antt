@@ -31,15 +31,15 @@ in_front front (Err e) = Err e
 
 -- What lines mean that count from a number, behind an entry: their entries, or the first line that is outside the form or not after
 -- the one before it. The last line of a text without its line feed is outside the form, as any line that lacks something.
-abbrev pub reading : ℕ → Option Entry → List (Option Entry) → Result (List Entry) TraceError
-reading line last [] = Ok []
-reading line last (None ∷ lines) = Err (BadLine line)
-reading line last (Some e ∷ lines) =
-    if follows last e then in_front (e ∷ []) (reading (line + 1) (Some e) lines) else Err (BadOrder line)
+abbrev pub entries_behind : ℕ → Option Entry → List (Option Entry) → Result (List Entry) TraceError
+entries_behind line last [] = Ok []
+entries_behind line last (None ∷ lines) = Err (BadLine line)
+entries_behind line last (Some e ∷ lines) =
+    if follows last e then in_front (e ∷ []) (entries_behind (line + 1) (Some e) lines) else Err (BadOrder line)
 
 -- What a text of lines means. Lines count from 1.
 unfoldable pub lines_read : List ℕ → Result (List Entry) TraceError
-lines_read text = reading 1 None (map entry_of (lines_of text))
+lines_read text = entries_behind 1 None (map entry_of (lines_of text))
 
 -- what stands in front of the lines: `T2` and a line feed at clock Four
 abbrev pub beginning : Clock → List ℕ

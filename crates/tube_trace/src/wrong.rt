@@ -3,14 +3,14 @@ ghost use Rattle.std.specs.Prelude.{◌≡◌, ◌<◌, ◌↔◌, length, All, 
 ghost use Rattle.tube_chip.specs.State.{power_on};
 ghost use Rattle.tube_chip.specs.Events.{IsAnsweredFrom};
 ghost use Rattle.tube_trace.specs.Entries.{IsEntry, events_of};
-ghost use Rattle.tube_trace.specs.Wrong.{wrong, IsFirstWrong};
+ghost use Rattle.tube_trace.specs.FirstWrong.{wrong, IsFirstWrong};
 
 use crate::Entry;
 use tube_chip::Chip;
 
 /// The place of the first entry whose answer the chip would not give, counted from 0, and the byte that it would give. The
 /// entries are done in their order from power-on, the chip's own answers aside.
-#[tactic(auto, unfolding(crate::specs::Wrong::wrong))]
+#[tactic(auto, unfolding(crate::specs::FirstWrong::wrong))]
 pub fn first_wrong(entries: &[Entry]) -> Option<(usize, u8)>
     requires { All IsEntry entries.now }
     ensures value { result ≡ wrong entries.now }

@@ -7,7 +7,7 @@ use Rattle.via6522.specs.State.{State, Levels}
 use Rattle.via6522.specs.Lines.{levels_of}
 use Rattle.via6522.specs.Step.{step, steps, timers_stepped, edges_seen}
 use Rattle.via6522.specs.Timers.{timer1_flags, timer2_flags}
-use Rattle.via6522.specs.Quiet.{ahead, IsQuiet}
+use Rattle.via6522.specs.CodeQuiet.{ahead, IsQuiet}
 use Rattle.via6522.specs.Jumps.{timer1_later, timer1_flags_within, timer2_later, timer2_flags_within, timers_later}
 use Rattle.via6522.proofs.Runs.{no_steps, step_behind}
 use Rattle.via6522.proofs.Quietly.{edges_to, edges_by_levels, no_edges, quiet_step}

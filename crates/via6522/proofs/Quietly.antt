@@ -6,7 +6,7 @@ use Rattle.via6522.specs.State.{State, Timer1, Timer2, Levels}
 use Rattle.via6522.specs.Timers.{one_less, runs_out, timer1_after, timer1_flags, timer2_after, timer2_flags}
 use Rattle.via6522.specs.Lines.{is_edge, levels_of}
 use Rattle.via6522.specs.Step.{step, timers_stepped, edges_seen}
-use Rattle.via6522.specs.Quiet.{timer1_ahead, timer2_ahead, ahead, IsQuiet}
+use Rattle.via6522.specs.CodeQuiet.{timer1_ahead, timer2_ahead, ahead, IsQuiet}
 use Rattle.via6522.proofs.Counting.{counts_on}
 
 no_edge : (up level : Bool) → is_edge up level level ≡ false

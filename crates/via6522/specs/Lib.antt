@@ -4,5 +4,5 @@ pub mod Lines
 pub mod Registers
 pub mod Step
 pub mod Laws
-pub mod Quiet
+pub mod CodeQuiet
 pub mod Jumps

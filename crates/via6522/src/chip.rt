@@ -2,7 +2,7 @@
 ghost use Rattle.std.specs.Prelude.{◌≡◌, ◌<◌};
 ghost use Rattle.beeb_bits.specs.Bits.{bit};
 ghost use Rattle.via6522.specs.State.{power_on};
-ghost use Rattle.via6522.specs.Quiet.{levels_in, pins_with, ahead, IsQuiet};
+ghost use Rattle.via6522.specs.CodeQuiet.{levels_in, pins_with, ahead, IsQuiet};
 ghost use Rattle.via6522.specs.Registers.{port, out_a, out_b, asks, answer_of, port_a_noticed, port_b_noticed, enabled_by, read_leaves, write_leaves};
 ghost use Rattle.via6522.specs.Step.{edges_seen, step};
 ghost use Rattle.via6522.specs.Jumps.{timers_later, Timer1IsCalm, Timer2IsCalm};

@@ -1,7 +1,7 @@
 //! The levels of the control lines, and their edges.
 ghost use Rattle.std.specs.Prelude.{◌≡◌};
 ghost use Rattle.via6522.specs.Lines.{is_edge, levels_of};
-ghost use Rattle.via6522.specs.Quiet.{levels_in};
+ghost use Rattle.via6522.specs.CodeQuiet.{levels_in};
 
 use crate::Pins;
 use beeb_bits::weight;
@@ -16,7 +16,7 @@ pub(crate) struct Levels {
 
 impl Model for Levels {
     ghost use Rattle.via6522.specs.State.{Levels};
-    ghost use Rattle.via6522.specs.Quiet.{levels_in};
+    ghost use Rattle.via6522.specs.CodeQuiet.{levels_in};
 
     ghost Value = { Levels };
 

@@ -1,6 +1,6 @@
 //! Steps in which both timers do nothing but count.
 ghost use Rattle.std.specs.Prelude.{◌≡◌};
-ghost use Rattle.via6522.specs.Quiet.{ahead, IsQuiet, IsCalm};
+ghost use Rattle.via6522.specs.CodeQuiet.{ahead, IsQuiet, NextAreQuiet};
 
 use crate::chip::Chip;
 use beeb_bits::bit;
@@ -8,7 +8,7 @@ use beeb_bits::bit;
 impl Chip {
     // How many quiet steps come.
     fn quiet_steps(&self) -> u16
-        ensures { IsCalm result self.now }
+        ensures { NextAreQuiet result self.now }
     {
         if self.timer1.reload {
             return 0;

@@ -2,7 +2,7 @@
 ghost use Rattle.std.specs.Prelude.{◌≡◌, ◌<◌, ◌+◌, false, true};
 ghost use Rattle.via6522.specs.Timers.{word, timer1_after, timer1_flags, timer1_started};
 ghost use Rattle.via6522.specs.Jumps.{timer1_at_end, timer1_later, timer1_flags_within, Timer1SetsNoFlag};
-ghost use Rattle.via6522.specs.Quiet.{timer1_ahead};
+ghost use Rattle.via6522.specs.CodeQuiet.{timer1_ahead};
 
 use std::marker::Model;
 

@@ -1,7 +1,7 @@
 //! Timer 2.
 ghost use Rattle.std.specs.Prelude.{◌≡◌, ◌<◌, ◌+◌, false};
 ghost use Rattle.via6522.specs.Timers.{timer2_after, timer2_flags, timer2_started};
-ghost use Rattle.via6522.specs.Quiet.{timer2_ahead};
+ghost use Rattle.via6522.specs.CodeQuiet.{timer2_ahead};
 ghost use Rattle.via6522.specs.Jumps.{timer2_later, timer2_flags_within, Timer2SetsNoFlag};
 
 use crate::timer1::word;

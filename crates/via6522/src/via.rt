@@ -3,7 +3,7 @@ ghost use Rattle.std.specs.Prelude.{◌≡◌, ◌<◌};
 ghost use Rattle.via6522.specs.State.{power_on};
 ghost use Rattle.via6522.specs.Registers.{out_a, out_b, asks, answer_of, read_leaves, write_leaves};
 ghost use Rattle.via6522.specs.Step.{step, steps, edges_seen};
-ghost use Rattle.via6522.specs.Quiet.{pins_with};
+ghost use Rattle.via6522.specs.CodeQuiet.{pins_with};
 ghost use Rattle.via6522.specs.Jumps.{timers_later, AsksAlike};
 
 use crate::Pins;
@@ -26,7 +26,7 @@ impl Model for Via {
     ghost use Rattle.std.specs.Prelude.{◌≡◌};
     ghost use Rattle.via6522.specs.State.{State};
     ghost use Rattle.via6522.specs.Registers.{asks};
-    ghost use Rattle.via6522.specs.Quiet.{ahead, IsQuiet};
+    ghost use Rattle.via6522.specs.CodeQuiet.{ahead, IsQuiet};
 
     ghost Value = { State };
 

@@ -11,29 +11,29 @@ use Rattle.std.proofs.Math.ListN.{get_or-map}
 use Rattle.std.proofs.lemmas.List.{map-set, append-nil}
 use Rattle.video_ula.specs.State.{State}
 use Rattle.beeb_bits.specs.Bits.{bit}
-use Rattle.video_ula.specs.Pixels.{shifted, entry_of, colour_of, under_cursor, dot_colour, colours, dots_of, pixel_width}
+use Rattle.video_ula.specs.Pixels.{shifted_byte, entry_of, colour_of, under_cursor, dot_colour, colours, dots_of, pixel_width}
 use Rattle.video_ula.specs.Colours.{entry_colours, pixel_of, dots_in, eight_in, eight_dots, table_of, IsReady}
 
 -- from the ninth pixel on only ones are left
-pub ones-9 : (byte : ℕ) → shifted byte 9 ≡ shifted byte 8
+pub ones-9 : (byte : ℕ) → shifted_byte byte 9 ≡ shifted_byte byte 8
 ones-9 byte = omega arith
 
-pub ones-10 : (byte : ℕ) → shifted byte 10 ≡ shifted byte 8
+pub ones-10 : (byte : ℕ) → shifted_byte byte 10 ≡ shifted_byte byte 8
 ones-10 byte = omega arith
 
-pub ones-11 : (byte : ℕ) → shifted byte 11 ≡ shifted byte 8
+pub ones-11 : (byte : ℕ) → shifted_byte byte 11 ≡ shifted_byte byte 8
 ones-11 byte = omega arith
 
-pub ones-12 : (byte : ℕ) → shifted byte 12 ≡ shifted byte 8
+pub ones-12 : (byte : ℕ) → shifted_byte byte 12 ≡ shifted_byte byte 8
 ones-12 byte = omega arith
 
-pub ones-13 : (byte : ℕ) → shifted byte 13 ≡ shifted byte 8
+pub ones-13 : (byte : ℕ) → shifted_byte byte 13 ≡ shifted_byte byte 8
 ones-13 byte = omega arith
 
-pub ones-14 : (byte : ℕ) → shifted byte 14 ≡ shifted byte 8
+pub ones-14 : (byte : ℕ) → shifted_byte byte 14 ≡ shifted_byte byte 8
 ones-14 byte = omega arith
 
-pub ones-15 : (byte : ℕ) → shifted byte 15 ≡ shifted byte 8
+pub ones-15 : (byte : ℕ) → shifted_byte byte 15 ≡ shifted_byte byte 8
 ones-15 byte = omega arith
 
 pub width-1 : (n : ℕ) → n < 4 → n ≢ 0 → n ≢ 1 → n ≢ 2 → 1 ≡ 2 ^ (3 - n)
@@ -44,8 +44,8 @@ pub colour-at : (flash : Bool) (palette : List ℕ) (entry : ℕ) → slice_inde
 colour-at flash palette entry = get_or-map (colour_of flash) palette entry 0
 
 pub dot-same : (u : State) (flash : Bool) (byte : ℕ) (cursor : Bool) (k : ℕ) →
-    pixel_of (entry_colours flash u.palette) byte cursor k ≡ under_cursor cursor (colour_of flash (slice_index u.palette (entry_of (shifted byte k))))
-dot-same u flash byte cursor k = ap (under_cursor cursor) (colour-at flash u.palette (entry_of (shifted byte k)))
+    pixel_of (entry_colours flash u.palette) byte cursor k ≡ under_cursor cursor (colour_of flash (slice_index u.palette (entry_of (shifted_byte byte k))))
+dot-same u flash byte cursor k = ap (under_cursor cursor) (colour-at flash u.palette (entry_of (shifted_byte byte k)))
 
 pub same_for_all : (f g : ℕ → ℕ) → ((d : ℕ) → f d ≡ g d) → (xs : List ℕ) → map f xs ≡ map g xs
 same_for_all f g h [] = refl
@@ -123,29 +123,29 @@ abbrev pub last_in : List ℕ → ℕ → ℕ → List ℕ
 last_in entries byte width = map (λ d. pixel_of entries byte false (d / width)) (range_with_len 8 8)
 
 -- the last eight dots of a byte are the first eight of the byte shifted by as many pixels as eight dots have
-pub last_are_first : (entries : List ℕ) (byte w : ℕ) → w < 4 → eight_in entries (shifted byte (1 * 2 ^ w % 4294967296)) false (2 ^ (3 - w)) ≡ last_in entries byte (2 ^ (3 - w))
+pub last_are_first : (entries : List ℕ) (byte w : ℕ) → w < 4 → eight_in entries (shifted_byte byte (1 * 2 ^ w % 4294967296)) false (2 ^ (3 - w)) ≡ last_in entries byte (2 ^ (3 - w))
 last_are_first entries byte zero h =
-    let a : shifted (shifted byte 1) 0 ≡ shifted byte 1 = omega arith in
+    let a : shifted_byte (shifted_byte byte 1) 0 ≡ shifted_byte byte 1 = omega arith in
     cc (ap (colour_in entries) a)
 last_are_first entries byte (suc zero) h =
-    let a : shifted (shifted byte 2) 0 ≡ shifted byte 2 = omega arith in
-    let b : shifted (shifted byte 2) 1 ≡ shifted byte 3 = omega arith in
+    let a : shifted_byte (shifted_byte byte 2) 0 ≡ shifted_byte byte 2 = omega arith in
+    let b : shifted_byte (shifted_byte byte 2) 1 ≡ shifted_byte byte 3 = omega arith in
     cc (ap (colour_in entries) a, ap (colour_in entries) b)
 last_are_first entries byte (suc (suc zero)) h =
-    let a : shifted (shifted byte 4) 0 ≡ shifted byte 4 = omega arith in
-    let b : shifted (shifted byte 4) 1 ≡ shifted byte 5 = omega arith in
-    let c : shifted (shifted byte 4) 2 ≡ shifted byte 6 = omega arith in
-    let d : shifted (shifted byte 4) 3 ≡ shifted byte 7 = omega arith in
+    let a : shifted_byte (shifted_byte byte 4) 0 ≡ shifted_byte byte 4 = omega arith in
+    let b : shifted_byte (shifted_byte byte 4) 1 ≡ shifted_byte byte 5 = omega arith in
+    let c : shifted_byte (shifted_byte byte 4) 2 ≡ shifted_byte byte 6 = omega arith in
+    let d : shifted_byte (shifted_byte byte 4) 3 ≡ shifted_byte byte 7 = omega arith in
     cc (ap (colour_in entries) a, ap (colour_in entries) b, ap (colour_in entries) c, ap (colour_in entries) d)
 last_are_first entries byte (suc (suc (suc zero))) h =
-    let a : shifted (shifted byte 8) 0 ≡ shifted byte 8 = omega arith in
-    let b : shifted (shifted byte 8) 1 ≡ shifted byte 9 = omega arith in
-    let c : shifted (shifted byte 8) 2 ≡ shifted byte 10 = omega arith in
-    let d : shifted (shifted byte 8) 3 ≡ shifted byte 11 = omega arith in
-    let e : shifted (shifted byte 8) 4 ≡ shifted byte 12 = omega arith in
-    let f : shifted (shifted byte 8) 5 ≡ shifted byte 13 = omega arith in
-    let g : shifted (shifted byte 8) 6 ≡ shifted byte 14 = omega arith in
-    let i : shifted (shifted byte 8) 7 ≡ shifted byte 15 = omega arith in
+    let a : shifted_byte (shifted_byte byte 8) 0 ≡ shifted_byte byte 8 = omega arith in
+    let b : shifted_byte (shifted_byte byte 8) 1 ≡ shifted_byte byte 9 = omega arith in
+    let c : shifted_byte (shifted_byte byte 8) 2 ≡ shifted_byte byte 10 = omega arith in
+    let d : shifted_byte (shifted_byte byte 8) 3 ≡ shifted_byte byte 11 = omega arith in
+    let e : shifted_byte (shifted_byte byte 8) 4 ≡ shifted_byte byte 12 = omega arith in
+    let f : shifted_byte (shifted_byte byte 8) 5 ≡ shifted_byte byte 13 = omega arith in
+    let g : shifted_byte (shifted_byte byte 8) 6 ≡ shifted_byte byte 14 = omega arith in
+    let i : shifted_byte (shifted_byte byte 8) 7 ≡ shifted_byte byte 15 = omega arith in
     cc (
       ap (colour_in entries) a,
       ap (colour_in entries) b,
@@ -168,8 +168,8 @@ by_table entries width byte r dots ready none fits is =
     is ∙ ap (λ (t : List (List ℕ)). slice_index_or t byte []) (ready (is_zero r.waits none))
     ∙ get_or-map-range_with_len (λ byte. eight_in entries byte false width) 0 256 byte byte [] fits (omega arith)
 
-shifted-fits : (byte k : ℕ) → shifted byte k < 256
-shifted-fits byte k = below (byte * 2 ^ k + (2 ^ k - 1))
+shifted_byte-fits : (byte k : ℕ) → shifted_byte byte k < 256
+shifted_byte-fits byte k = below (byte * 2 ^ k + (2 ^ k - 1))
   where
     below : (n : ℕ) → n % 256 < 256
     below n = omega arith
@@ -182,9 +182,9 @@ first_by_table u byte r dots ready none fits is =
     ∙ dots-same u byte false (range_with_len 0 8)
 
 pub last_by_table : (u : State) (byte at : ℕ) (r : Ready) (dots : List ℕ) → IsReady (entry_colours (bit u.control 0) u.palette) (pixel_width u.control) r →
-    (r.waits == 0) ≡ true → at ≡ shifted byte (1 * 2 ^ (u.control / 4 % 4) % 4294967296) → dots ≡ slice_index_or r.table at [] → dots ≡ eight_dots 8 u byte false
+    (r.waits == 0) ≡ true → at ≡ shifted_byte byte (1 * 2 ^ (u.control / 4 % 4) % 4294967296) → dots ≡ slice_index_or r.table at [] → dots ≡ eight_dots 8 u byte false
 last_by_table u byte at r dots ready none place is =
-    let fits : at < 256 = subst (λ (k : ℕ). k < 256) (sym place) (shifted-fits byte (1 * 2 ^ (u.control / 4 % 4) % 4294967296)) in
+    let fits : at < 256 = subst (λ (k : ℕ). k < 256) (sym place) (shifted_byte-fits byte (1 * 2 ^ (u.control / 4 % 4) % 4294967296)) in
     let entries = entry_colours (bit u.control 0) u.palette in
     by_table entries (pixel_width u.control) at r dots ready none fits is
     ∙ ap (λ (k : ℕ). eight_in entries k false (pixel_width u.control)) place

@@ -3,7 +3,7 @@
 use Rattle.std.specs.Prelude.{ℕ, ◌/◌, ◌≡◌, Bool, false, List, map, slice_index}
 use Rattle.std.specs.List.{range_with_len}
 use Rattle.video_ula.specs.State.{State}
-use Rattle.video_ula.specs.Pixels.{shifted, entry_of, under_cursor, colour_of, dot_colour}
+use Rattle.video_ula.specs.Pixels.{shifted_byte, entry_of, under_cursor, colour_of, dot_colour}
 use Rattle.video_ula.specs.declared.ready.Ready.{Ready}
 
 -- the colours of all entries
@@ -12,7 +12,7 @@ entry_colours flash palette = map (colour_of flash) palette
 
 -- the colour of pixel k, with these colours of the entries
 abbrev pub pixel_of : List ℕ → ℕ → Bool → ℕ → ℕ
-pixel_of entries byte cursor k = under_cursor cursor (slice_index entries (entry_of (shifted byte k)))
+pixel_of entries byte cursor k = under_cursor cursor (slice_index entries (entry_of (shifted_byte byte k)))
 
 -- sixteen dots, with pixels of this width
 abbrev pub dots_in : List ℕ → ℕ → Bool → ℕ → List ℕ

@@ -13,8 +13,8 @@ abbrev pub pixel_width : ℕ → ℕ
 pixel_width control = 2 ^ (3 - control / 4 % 4)
 
 -- The byte as pixel k finds it: shifted left by k, with ones shifted in.
-abbrev pub shifted : ℕ → ℕ → ℕ
-shifted byte k = (byte * 2 ^ k + (2 ^ k - 1)) % 256
+abbrev pub shifted_byte : ℕ → ℕ → ℕ
+shifted_byte byte k = (byte * 2 ^ k + (2 ^ k - 1)) % 256
 
 -- The palette's entry that a shifted byte names: by its bits 7, 5, 3 and 1.
 abbrev pub weight : ℕ → Bool → ℕ
@@ -34,7 +34,7 @@ under_cursor cursor colour = bit_xor colour (if cursor then 7 else 0)
 -- The colour of dot d of a byte.
 abbrev pub dot_colour : State → ℕ → Bool → ℕ → ℕ
 dot_colour u byte cursor d =
-    under_cursor cursor (colour_of (bit u.control 0) (slice_index u.palette (entry_of (shifted byte (d / pixel_width u.control)))))
+    under_cursor cursor (colour_of (bit u.control 0) (slice_index u.palette (entry_of (shifted_byte byte (d / pixel_width u.control)))))
 
 -- the colours of a byte's dots
 abbrev pub colours : State → ℕ → Bool → List ℕ

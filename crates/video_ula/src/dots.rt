@@ -1,7 +1,7 @@
 //! The sixteen dots of a byte, by the width of a pixel.
 ghost use Rattle.std.specs.Prelude.{◌≡◌, ◌<◌, ◌/◌, ◌-◌, ◌^◌, false, slice_index, map};
 ghost use Rattle.std.specs.List.{range_with_len};
-ghost use Rattle.video_ula.specs.Pixels.{shifted, entry_of, under_cursor};
+ghost use Rattle.video_ula.specs.Pixels.{shifted_byte, entry_of, under_cursor};
 ghost use Rattle.video_ula.specs.Colours.{pixel_of, dots_in, eight_in};
 
 use crate::entries::entry_of;
@@ -10,7 +10,7 @@ use crate::entries::entry_of;
 #[inline(always)]
 pub(crate) fn shifted(byte: u8, k: u32) -> u8
     requires { k < 16 }
-    ensures { result ≡ shifted byte k }
+    ensures { result ≡ shifted_byte byte k }
 {
     let ones = (1u32 << k) - 1;
     (((u32::from(byte) << k) + ones) % 256) as u8

@@ -11,13 +11,13 @@ use Rattle.wd1770.specs.declared.command.Motion.{Motion}
 use Rattle.wd1770.specs.declared.command.Transfer.{Transfer}
 use Rattle.wd1770.specs.State.{State, power_on}
 use Rattle.wd1770.specs.Select.{is_reset, drive_of, with_drive}
-use Rattle.wd1770.specs.Ends.{is_busy, is_asking, ended, not_found, counted}
-use Rattle.wd1770.specs.Motion.{head_after, moved}
+use Rattle.wd1770.specs.Ends.{is_busy, is_asking, end_leaves, not_found, count_leaves}
+use Rattle.wd1770.specs.Motion.{head_after, move_leaves}
 use Rattle.wd1770.specs.Sectors.{settle_step, search_step, sector_ended, reading_at, writing_at, written_in, byte_written, places_into, transfer_step}
 use Rattle.wd1770.specs.Addresses.{address_search_step, address_at, address_step}
-use Rattle.wd1770.specs.Commands.{begun, forced, command_written, stopped, latch_leaves}
+use Rattle.wd1770.specs.Commands.{begin_leaves, force_leaves, command_written, stop_leaves, latch_leaves}
 use Rattle.wd1770.specs.Registers.{register_read, register_written, read_leaves, write_leaves}
-use Rattle.wd1770.specs.Step.{next_angle, command_step, worked, step}
+use Rattle.wd1770.specs.Step.{next_angle, command_step, work_leaves, step}
 use Rattle.wd1770.specs.History.{Event, microsecond, read, write, latch, happens, history, count_steps, angle_after, IsSound}
 use Rattle.wd1770.proofs.Turning.{turned, one_more}
 
@@ -142,11 +142,11 @@ drive_small : (number : DriveNumber) (s : State) → s.drive0.head ≤ 83 → s.
 drive_small Drive0 s head0 head1 = head0
 drive_small Drive1 s head0 head1 = head1
 
-motion_ends : (m : Motion) (s : State) → IsSound s → is_busy s.command ≡ true → IsSound (moved m s)
+motion_ends : (m : Motion) (s : State) → IsSound s → is_busy s.command ≡ true → IsSound (move_leaves m s)
 motion_ends m s is busy =
     let small = head_small m s (drive_small m.drive s is.head0 is.head1) in
     let heads = moved_sound m.drive (head_after m s) s small is.head0 is.head1 in
-    live (moved m s) heads.0 heads.1 (λ (h : false ≡ true). cc) (ap is_reset heads.2 ∙ awake (is_reset s.latch) s.command busy is.idle_in_reset)
+    live (move_leaves m s) heads.0 heads.1 (λ (h : false ≡ true). cc) (ap is_reset heads.2 ∙ awake (is_reset s.latch) s.command busy is.idle_in_reset)
 
 either : (b : Bool) (x y : State) → IsSound x → IsSound y → IsSound (if b then x else y)
 either true x y p q = p
@@ -163,7 +163,7 @@ choice false s x y p q = q
 goes_on : (c : Command) (angle : ℕ) (s : State) → is_busy c ≡ true → is_busy s.command ≡ true → IsSound s → IsSound (command_step c angle s)
 goes_on Idle angle s b busy is = cc
 goes_on (Moving m left) angle s b busy is =
-    either (nat_lt 1 left) (record s { command = Moving m (left - 1) }) (moved m s) (sound_step s (record s { command = Moving m (left - 1) }) is busy (on s (Moving m (left - 1)))) (motion_ends m s is busy)
+    either (nat_lt 1 left) (record s { command = Moving m (left - 1) }) (move_leaves m s) (sound_step s (record s { command = Moving m (left - 1) }) is busy (on s (Moving m (left - 1)))) (motion_ends m s is busy)
 goes_on (Settling t left) angle s b busy is = sound_step s (settle_step t left s) is busy (record { head0 = refl; head1 = refl; latch = refl; quiet = λ h q. q })
 goes_on (Searching t left) angle s b busy is = sound_step s (search_step t left angle s) is busy (in_search t left angle s)
 goes_on (Transferring t k) angle s b busy is =
@@ -174,7 +174,7 @@ goes_on (GivingAddress target k) angle s b busy is = sound_step s (address_step 
 goes_on Refusing angle s b busy is = sound_step s (not_found s) is busy (record { head0 = refl; head1 = refl; latch = refl; quiet = λ (h : false ≡ true). cc })
 
 -- the count of rises has no part in it
-counts : (before : Bool) (s : State) → IsSound s → IsSound (counted before s)
+counts : (before : Bool) (s : State) → IsSound s → IsSound (count_leaves before s)
 counts before s is = record {
   head0 = is.head0;
   head1 = is.head1;
@@ -217,7 +217,7 @@ works false Refusing angle s b same is = cc
 
 steps_sound : (s : State) → IsSound s → IsSound (step s)
 steps_sound s is =
-    counts (is_asking s) (worked s)
+    counts (is_asking s) (work_leaves s)
     (works (is_busy s.command) s.command (next_angle s.angle) (record s { angle = Some (next_angle s.angle) }) refl refl (turned_sound s (Some (next_angle s.angle)) is))
 
 read_sound : (reg : ℕ) (s : State) → IsSound s → IsSound (register_read reg s)
@@ -229,12 +229,12 @@ read_sound reg s is =
     is)
 
 -- A command that is written where the reset is off.
-accepted : (reset : Bool) (v : ℕ) (s : State) → is_reset s.latch ≡ reset → IsSound s → IsSound (if reset then s else if v / 16 == 0xD then forced v s else if is_busy s.command then s else begun v s)
+accepted : (reset : Bool) (v : ℕ) (s : State) → is_reset s.latch ≡ reset → IsSound s → IsSound (if reset then s else if v / 16 == 0xD then force_leaves v s else if is_busy s.command then s else begin_leaves v s)
 accepted true v s off is = is
 accepted false v s off is =
-    either (v / 16 == 0xD) (forced v s) (if is_busy s.command then s else begun v s)
-    (live (forced v s) is.head0 is.head1 (λ (h : false ≡ true). cc) off)
-    (either (is_busy s.command) s (begun v s) is (live (begun v s) is.head0 is.head1 (λ h. refl) off))
+    either (v / 16 == 0xD) (force_leaves v s) (if is_busy s.command then s else begin_leaves v s)
+    (live (force_leaves v s) is.head0 is.head1 (λ (h : false ≡ true). cc) off)
+    (either (is_busy s.command) s (begin_leaves v s) is (live (begin_leaves v s) is.head0 is.head1 (λ h. refl) off))
 
 same_state : (s t : State) → IsSound s → t.drive0 ≡ s.drive0 → t.drive1 ≡ s.drive1 → t.command ≡ s.command → t.latch ≡ s.latch → t.intrq ≡ s.intrq → (s.drq ≡ false → t.drq ≡ false) → IsSound t
 same_state s t is drive0 drive1 command latched intrq drq = record {
@@ -256,11 +256,11 @@ write_sound reg v s is =
     (same_state s (record s { sector = v }) is refl refl refl refl refl (λ h. h))
     (same_state s (record s { byte = v; drq = false }) is refl refl refl refl refl (λ h. refl))))
 
-stopped_sound : (busy : Bool) (s : State) → is_busy s.command ≡ busy → s.drive0.head ≤ 83 → s.drive1.head ≤ 83 → IsSound (record (if busy then ended s else s) { drq = false; intrq = false })
+stopped_sound : (busy : Bool) (s : State) → is_busy s.command ≡ busy → s.drive0.head ≤ 83 → s.drive1.head ≤ 83 → IsSound (record (if busy then end_leaves s else s) { drq = false; intrq = false })
 stopped_sound true s b head0 head1 = record { head0 = head0; head1 = head1; quiet = λ h. refl; idle_in_reset = λ h. refl; no_drq_in_reset = λ h. refl; no_intrq_in_reset = λ h. refl }
 stopped_sound false s b head0 head1 = record { head0 = head0; head1 = head1; quiet = λ h. refl; idle_in_reset = λ h. b; no_drq_in_reset = λ h. refl; no_intrq_in_reset = λ h. refl }
 
-latched : (reset : Bool) (v : ℕ) (s : State) → is_reset v ≡ reset → IsSound s → IsSound (if reset then stopped (record s { latch = v }) else record s { latch = v })
+latched : (reset : Bool) (v : ℕ) (s : State) → is_reset v ≡ reset → IsSound s → IsSound (if reset then stop_leaves (record s { latch = v }) else record s { latch = v })
 latched true v s r is = stopped_sound (is_busy s.command) (record s { latch = v }) refl is.head0 is.head1
 latched false v s r is = live (record s { latch = v }) is.head0 is.head1 is.quiet r
 

@@ -8,11 +8,11 @@ use Rattle.wd1770.specs.declared.command.Command.TheVariants.{Idle, Moving, Sett
 use Rattle.wd1770.specs.declared.command.Transfer.{Transfer}
 use Rattle.wd1770.specs.State.{State}
 use Rattle.wd1770.specs.Select.{is_single_density, disc_in}
-use Rattle.wd1770.specs.Ends.{is_busy, is_asking, counted}
+use Rattle.wd1770.specs.Ends.{is_busy, is_asking, count_leaves}
 use Rattle.wd1770.specs.Sectors.{is_on_disc, is_found, search_step, places_into}
 use Rattle.wd1770.specs.Addresses.{is_address, address_search_step}
-use Rattle.wd1770.specs.Step.{next_angle, command_step, worked, step, steps}
-use Rattle.wd1770.specs.Quiet.{angle_later, command_later, later, steps_between, steps_before, quiet_steps, RestsFor}
+use Rattle.wd1770.specs.Step.{next_angle, command_step, work_leaves, step, steps}
+use Rattle.wd1770.specs.CodeQuiet.{angle_later, command_later, later, steps_between, steps_before, quiet_steps, RestsFor}
 use Rattle.wd1770.proofs.Runs.{stays}
 
 test_false : (a b : ℕ) → a ≢ b → (a == b) ≡ false
@@ -94,10 +94,10 @@ address_on : (target : Target) (left angle : ℕ) (u : State) → is_address tar
 address_on target left angle u off more = rw (off, more) refl
 
 -- a step at which nothing comes
-idle : (m : ℕ) (s : State) → s.command ≡ Idle → worked (later m s) ≡ later (suc m) s
+idle : (m : ℕ) (s : State) → s.command ≡ Idle → work_leaves (later m s) ≡ later (suc m) s
 idle m s is = let time : s.motor - m - 1 ≡ s.motor - suc m = omega arith in rw (is, angle_more m s.angle, time) refl
 
-passes : (m : ℕ) (c : Command) (s : State) → s.command ≡ c → m < quiet_steps c s.angle s.sector → worked (later m s) ≡ later (suc m) s
+passes : (m : ℕ) (c : Command) (s : State) → s.command ≡ c → m < quiet_steps c s.angle s.sector → work_leaves (later m s) ≡ later (suc m) s
 passes m Idle s is inside = idle m s is
 passes m (Moving t left) s is inside =
     let more : nat_lt 1 (left - m) ≡ true = lt-ltb 1 (left - m) (omega arith) in
@@ -132,7 +132,7 @@ passes m (GivingAddress t k) s is inside =
 passes m Refusing s is inside = absurd (omega arith)
 
 pub quiet_one : (m : ℕ) (s : State) → m < quiet_steps s.command s.angle s.sector → step (later m s) ≡ later (suc m) s
-quiet_one m s inside = ap (counted (is_asking s)) (passes m s.command s refl inside) ∙ stays (later (suc m) s)
+quiet_one m s inside = ap (count_leaves (is_asking s)) (passes m s.command s refl inside) ∙ stays (later (suc m) s)
 
 -- quiet steps are one lapse
 pub quiet_many : (n m : ℕ) (s : State) → m + n ≤ quiet_steps s.command s.angle s.sector → steps n (later m s) ≡ later (m + n) s
@@ -162,7 +162,7 @@ goes_on n m q s within quiet past =
 
 -- with no command in progress all steps are quiet
 idle_one : (m : ℕ) (s : State) → s.command ≡ Idle → step (later m s) ≡ later (suc m) s
-idle_one m s is = ap (counted (is_asking s)) (idle m s is) ∙ stays (later (suc m) s)
+idle_one m s is = ap (count_leaves (is_asking s)) (idle m s is) ∙ stays (later (suc m) s)
 
 now : (s : State) → s.command ≡ Idle → s ≡ later 0 s
 now s is = let same : s.motor ≡ s.motor - 0 = omega arith in rw is (ap (λ (k : ℕ). record s { command = Idle; motor = k }) same)

@@ -6,7 +6,7 @@ use Rattle.wd1770.specs.declared.command.Command.{Command}
 use Rattle.wd1770.specs.declared.command.Command.TheVariants.{Idle, Moving}
 use Rattle.wd1770.specs.declared.command.Motion.{Motion}
 use Rattle.wd1770.specs.State.{State}
-use Rattle.wd1770.specs.Ends.{is_busy, is_motor_on, is_asking, counted}
+use Rattle.wd1770.specs.Ends.{is_busy, is_motor_on, is_asking, count_leaves}
 use Rattle.wd1770.specs.Step.{next_angle, command_step, step, steps}
 
 pub no_steps : (s : State) → steps 0 s ≡ s
@@ -23,12 +23,12 @@ no_rise true x y = refl
 no_rise false x y = refl
 
 -- where the line stays nothing is counted
-pub stays : (s : State) → counted (is_asking s) s ≡ s
+pub stays : (s : State) → count_leaves (is_asking s) s ≡ s
 stays s = ap (λ (n : ℕ). record s { nmis = n }) (no_rise (is_asking s) _ s.nmis)
 
 idle_step : (s : State) → s.command ≡ Idle → step s ≡ record s { angle = Some (next_angle s.angle); motor = s.motor - 1 }
 idle_step s idle =
-    ap (λ (c : Command). counted (is_asking s) (command_step c (next_angle s.angle) (record s { angle = Some (next_angle s.angle) }))) idle
+    ap (λ (c : Command). count_leaves (is_asking s) (command_step c (next_angle s.angle) (record s { angle = Some (next_angle s.angle) }))) idle
     ∙ stays (record s { angle = Some (next_angle s.angle); motor = s.motor - 1 })
 
 none_less : (s : State) → s ≡ record s { angle = s.angle; motor = s.motor - 0 }

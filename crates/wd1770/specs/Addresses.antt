@@ -5,7 +5,7 @@ use Rattle.wd1770.specs.declared.command.Command.{Command}
 use Rattle.wd1770.specs.declared.command.Command.TheVariants.{SeekingAddress, GivingAddress}
 use Rattle.wd1770.specs.State.{State}
 use Rattle.wd1770.specs.Select.{is_single_density, disc_in, target_selected}
-use Rattle.wd1770.specs.Ends.{finished, not_found}
+use Rattle.wd1770.specs.Ends.{finish_leaves, not_found}
 use Rattle.wd1770.specs.Sectors.{is_on_disc, places_into, byte_came}
 
 -- it ends 1,000,000 steps after its writing where no sector is found
@@ -32,7 +32,7 @@ abbrev pub address_at : Target → ℕ → Option ℕ → State → State
 address_at target k None s = s
 address_at target k (Some place) s =
     if nat_le 7 place && nat_le place 12 then byte_came (slice_index (address_bytes target k) (place - 7)) s
-    else if place == 14 then finished (record s { sector = target.head })
+    else if place == 14 then finish_leaves (record s { sector = target.head })
     else s
 
 -- One step at sector k.

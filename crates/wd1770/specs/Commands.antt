@@ -5,7 +5,7 @@ use Rattle.wd1770.specs.declared.command.Command.{Command}
 use Rattle.wd1770.specs.declared.command.Command.TheVariants.{Refusing}
 use Rattle.wd1770.specs.State.{State}
 use Rattle.wd1770.specs.Select.{is_reset}
-use Rattle.wd1770.specs.Ends.{is_busy, ended}
+use Rattle.wd1770.specs.Ends.{is_busy, end_leaves}
 use Rattle.wd1770.specs.Motion.{motion_of}
 use Rattle.wd1770.specs.Sectors.{sectors_of}
 use Rattle.wd1770.specs.Addresses.{address_of}
@@ -19,27 +19,27 @@ command_of v s =
     else Refusing
 
 -- A command clears record not found, lost data, DRQ and INTRQ.
-abbrev pub cleared : State → State
-cleared s = record s { record_not_found = false; lost_data = false; drq = false; intrq = false }
+abbrev pub clear_leaves : State → State
+clear_leaves s = record s { record_not_found = false; lost_data = false; drq = false; intrq = false }
 
-abbrev pub begun : ℕ → State → State
-begun v s = record (cleared s) { command = command_of v s; type_one = nat_lt v 0x80 }
+abbrev pub begin_leaves : ℕ → State → State
+begin_leaves v s = record (clear_leaves s) { command = command_of v s; type_one = nat_lt v 0x80 }
 
 -- Dx, force interrupt, ends the command at once. D8 to DF raise INTRQ. While idle it makes the status that of type I.
-abbrev pub forced : ℕ → State → State
-forced v s = record (ended (cleared s)) { intrq = bit v 3; type_one = s.type_one || not (is_busy s.command) }
+abbrev pub force_leaves : ℕ → State → State
+force_leaves v s = record (end_leaves (clear_leaves s)) { intrq = bit v 3; type_one = s.type_one || not (is_busy s.command) }
 
 -- Commands are ignored in reset, and all but Dx while busy.
 abbrev pub command_written : ℕ → State → State
 command_written v s =
     if is_reset s.latch then s
-    else if v / 16 == 0xD then forced v s
+    else if v / 16 == 0xD then force_leaves v s
     else if is_busy s.command then s
-    else begun v s
+    else begin_leaves v s
 
 -- A latch whose bit 5 is clear ends the command, and clears busy, DRQ and INTRQ.
-abbrev pub stopped : State → State
-stopped s = record (if is_busy s.command then ended s else s) { drq = false; intrq = false }
+abbrev pub stop_leaves : State → State
+stop_leaves s = record (if is_busy s.command then end_leaves s else s) { drq = false; intrq = false }
 
 abbrev pub latch_leaves : ℕ → State → State
-latch_leaves v s = if is_reset v then stopped (record s { latch = v }) else record s { latch = v }
+latch_leaves v s = if is_reset v then stop_leaves (record s { latch = v }) else record s { latch = v }

@@ -12,19 +12,19 @@ is_busy _ = true
 abbrev pub is_motor_on : State → Bool
 is_motor_on s = is_busy s.command || nat_lt 0 s.motor
 
-abbrev pub ended : State → State
-ended s = record s { command = Idle; motor = 2000000 }
+abbrev pub end_leaves : State → State
+end_leaves s = record s { command = Idle; motor = 2000000 }
 
 -- At the end of a command busy clears and INTRQ rises.
-abbrev pub finished : State → State
-finished s = record (ended s) { intrq = true }
+abbrev pub finish_leaves : State → State
+finish_leaves s = record (end_leaves s) { intrq = true }
 
 abbrev pub not_found : State → State
-not_found s = finished (record s { record_not_found = true })
+not_found s = finish_leaves (record s { record_not_found = true })
 
 -- The host's NMI line is "DRQ or INTRQ". Its rises are counted, from what it was before a step or an access.
 abbrev pub is_asking : State → Bool
 is_asking s = s.drq || s.intrq
 
-abbrev pub counted : Bool → State → State
-counted before s = record s { nmis = if is_asking s && not before then (s.nmis + 1) % 2 ^ 64 else s.nmis }
+abbrev pub count_leaves : Bool → State → State
+count_leaves before s = record s { nmis = if is_asking s && not before then (s.nmis + 1) % 2 ^ 64 else s.nmis }

@@ -7,6 +7,6 @@ pub mod Addresses
 pub mod Commands
 pub mod Registers
 pub mod Step
-pub mod Quiet
+pub mod CodeQuiet
 pub mod Laws
 pub mod History

@@ -8,7 +8,7 @@ use Rattle.wd1770.specs.declared.command.TrackChange.{TrackChange}
 use Rattle.wd1770.specs.declared.command.TrackChange.TheVariants.{Stays, Follows, Becomes}
 use Rattle.wd1770.specs.State.{State}
 use Rattle.wd1770.specs.Select.{drive_selected, drive_or_0, drive_of, with_drive, head_selected}
-use Rattle.wd1770.specs.Ends.{finished}
+use Rattle.wd1770.specs.Ends.{finish_leaves}
 
 -- how many microseconds a step takes, by bits 1 and 0
 abbrev pub step_time : ℕ → ℕ
@@ -16,13 +16,13 @@ step_time v = if v % 4 == 0 then 6000 else if v % 4 == 1 then 12000 else if v % 
 
 -- So many steps of the selected head in a direction. They take their whole time, but at least one microsecond. Bit 2 asks for
 -- verification.
-abbrev pub moving : ℕ → ℕ → Bool → TrackChange → State → Command
-moving v steps inward track s =
+abbrev pub motion_of : ℕ → ℕ → Bool → TrackChange → State → Command
+motion_of v steps inward track s =
     Moving (record { drive = drive_or_0 (drive_selected s.latch); steps = steps; inward = inward; track = track; verifies = bit v 2 }) (max 1 (steps * step_time v))
 
 -- 0x, restore: to track 0
 abbrev pub restore : ℕ → State → Command
-restore v s = moving v (head_selected s) false (Becomes 0) s
+restore v s = motion_of v (head_selected s) false (Becomes 0) s
 
 -- by how much two numbers differ
 abbrev pub difference : ℕ → ℕ → ℕ
@@ -30,11 +30,11 @@ difference a b = max a b - min a b
 
 -- 1x, seek: as many steps as the data and track registers differ, in the direction of that difference
 abbrev pub seek : ℕ → State → Command
-seek v s = moving v (difference s.byte s.track) (nat_lt s.track s.byte) (Becomes s.byte) s
+seek v s = motion_of v (difference s.byte s.track) (nat_lt s.track s.byte) (Becomes s.byte) s
 
 -- 2x to 7x: one step. The track register follows it where bit 4 is set.
 abbrev pub step_once : ℕ → Bool → State → Command
-step_once v inward s = moving v 1 inward (if bit v 4 then Follows else Stays) s
+step_once v inward s = motion_of v 1 inward (if bit v 4 then Follows else Stays) s
 
 -- 2x and 3x step in the last direction, 4x and 5x inward, 6x and 7x outward
 abbrev pub motion_of : ℕ → State → Command
@@ -59,8 +59,8 @@ track_after m s = track_changed m.track m.inward s.track
 
 -- Verification: record not found is set where the track register is not the head's track. The last direction changes where there was a
 -- step.
-abbrev pub moved : Motion → State → State
-moved m s = finished (record (with_drive m.drive (record (drive_of m.drive s) { head = head_after m s }) s) {
+abbrev pub move_leaves : Motion → State → State
+move_leaves m s = finish_leaves (record (with_drive m.drive (record (drive_of m.drive s) { head = head_after m s }) s) {
   track = track_after m s;
   last_inward = if m.steps == 0 then s.last_inward else m.inward;
   record_not_found = s.record_not_found || (m.verifies && not (track_after m s == head_after m s));
@@ -68,4 +68,4 @@ moved m s = finished (record (with_drive m.drive (record (drive_of m.drive s) { 
 
 -- One step of the motion's time.
 abbrev pub motion_step : Motion → ℕ → State → State
-motion_step m left s = if nat_lt 1 left then record s { command = Moving m (left - 1) } else moved m s
+motion_step m left s = if nat_lt 1 left then record s { command = Moving m (left - 1) } else move_leaves m s

@@ -2,7 +2,7 @@
 use Rattle.std.specs.Prelude.{ℕ, ◌+◌, ◌==◌, ◌&&◌, nat_lt, Bool, false, Option, None, Some, if◌then◌else◌}
 use Rattle.wd1770.specs.State.{State}
 use Rattle.wd1770.specs.Select.{head_selected}
-use Rattle.wd1770.specs.Ends.{is_busy, is_motor_on, is_asking, counted}
+use Rattle.wd1770.specs.Ends.{is_busy, is_motor_on, is_asking, count_leaves}
 use Rattle.wd1770.specs.Commands.{command_written}
 
 -- a bit of this weight, where it is set
@@ -42,7 +42,7 @@ register_written reg v s =
 
 -- the whole accesses, with the rises of the NMI line
 abbrev pub read_leaves : ℕ → State → State
-read_leaves reg s = counted (is_asking s) (register_read reg s)
+read_leaves reg s = count_leaves (is_asking s) (register_read reg s)
 
 abbrev pub write_leaves : ℕ → ℕ → State → State
-write_leaves reg v s = counted (is_asking s) (register_written reg v s)
+write_leaves reg v s = count_leaves (is_asking s) (register_written reg v s)

@@ -10,21 +10,21 @@ use Rattle.wd1770.specs.declared.command.Command.TheVariants.{Settling, Searchin
 use Rattle.wd1770.specs.declared.command.Transfer.{Transfer}
 use Rattle.wd1770.specs.State.{State}
 use Rattle.wd1770.specs.Select.{is_single_density, disc_in, drive_of, with_drive, target_selected}
-use Rattle.wd1770.specs.Ends.{finished, not_found}
+use Rattle.wd1770.specs.Ends.{finish_leaves, not_found}
 
 -- 8x and 9x read, Ax and Bx write. Bit 4 is for multiple sectors, and with bit 2 the search begins 30,000 steps later.
 abbrev pub transfer_of : ℕ → State → Transfer
 transfer_of v s = record { target = target_selected s; writes = bit v 5; multiple = bit v 4 }
 
 -- a search ends 1,000,000 steps after its first one
-abbrev pub searching : Transfer → Command
-searching t = Searching t 1000001
+abbrev pub search_of : Transfer → Command
+search_of t = Searching t 1000001
 
 abbrev pub sectors_of : ℕ → State → Command
-sectors_of v s = if bit v 2 then Settling (transfer_of v s) 30000 else searching (transfer_of v s)
+sectors_of v s = if bit v 2 then Settling (transfer_of v s) 30000 else search_of (transfer_of v s)
 
 abbrev pub settle_step : Transfer → ℕ → State → State
-settle_step t left s = record s { command = if nat_lt 1 left then Settling t (left - 1) else searching t }
+settle_step t left s = record s { command = if nat_lt 1 left then Settling t (left - 1) else search_of t }
 
 -- A disc in the drive has this sector: its side, its track, which is the head's, and its number.
 abbrev pub is_on_disc : Option Image → Target → ℕ → Bool
@@ -54,7 +54,7 @@ is_byte_place first place = nat_le first place && nat_lt place (first + 256)
 
 -- The end of a sector. With bit 4 the sector register goes up and the search begins again at the next step.
 abbrev pub sector_ended : Transfer → State → State
-sector_ended t s = if t.multiple then record s { sector = (s.sector + 1) % 256; command = searching t } else finished s
+sector_ended t s = if t.multiple then record s { sector = (s.sector + 1) % 256; command = search_of t } else finish_leaves s
 
 -- Reading. A byte comes to the data register: where DRQ is still set lost data becomes set, and DRQ becomes set.
 abbrev pub byte_came : ℕ → State → State
@@ -97,7 +97,7 @@ abbrev pub writing_at : Transfer → ℕ → Option ℕ → State → State
 writing_at t k None s = s
 writing_at t k (Some place) s =
     if place == 12 then record s { drq = true }
-    else if (place == 22) && s.drq then finished (record s { lost_data = true })
+    else if (place == 22) && s.drq then finish_leaves (record s { lost_data = true })
     else if is_byte_place 30 place then byte_written t.target k (place - 30) s
     else if place == 288 then sector_ended t s
     else s

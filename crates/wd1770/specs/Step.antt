@@ -3,7 +3,7 @@ use Rattle.std.specs.Prelude.{ℕ, zero, suc, ◌+◌, ◌-◌, ◌%◌, Option,
 use Rattle.wd1770.specs.declared.command.Command.{Command}
 use Rattle.wd1770.specs.declared.command.Command.TheVariants.{Idle, Moving, Settling, Searching, Transferring, SeekingAddress, GivingAddress, Refusing}
 use Rattle.wd1770.specs.State.{State}
-use Rattle.wd1770.specs.Ends.{is_asking, counted, not_found}
+use Rattle.wd1770.specs.Ends.{is_asking, count_leaves, not_found}
 use Rattle.wd1770.specs.Motion.{motion_step}
 use Rattle.wd1770.specs.Sectors.{settle_step, search_step, transfer_step}
 use Rattle.wd1770.specs.Addresses.{address_search_step, address_step}
@@ -24,11 +24,11 @@ command_step (GivingAddress target k) angle s = address_step target k angle s
 command_step Refusing angle s = not_found s
 
 -- the step, but for the count of rises
-abbrev pub worked : State → State
-worked s = command_step s.command (next_angle s.angle) (record s { angle = Some (next_angle s.angle) })
+abbrev pub work_leaves : State → State
+work_leaves s = command_step s.command (next_angle s.angle) (record s { angle = Some (next_angle s.angle) })
 
 abbrev pub step : State → State
-step s = counted (is_asking s) (worked s)
+step s = count_leaves (is_asking s) (work_leaves s)
 
 -- n steps
 unfoldable pub steps : ℕ → State → State

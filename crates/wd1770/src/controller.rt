@@ -2,12 +2,12 @@
 ghost use Rattle.std.specs.Prelude.{◌≡◌, ◌≤◌, ◌<◌, ◌==◌, if◌then◌else◌, nat_lt, None, Some, MatchOption};
 ghost use Rattle.wd1770.specs.State.{power_on};
 ghost use Rattle.wd1770.specs.Select.{drive_of, with_drive, disc_in, head_selected, target_selected, disc_of};
-ghost use Rattle.wd1770.specs.Ends.{is_busy, is_motor_on, ended, finished, not_found, is_asking, counted};
+ghost use Rattle.wd1770.specs.Ends.{is_busy, is_motor_on, end_leaves, finish_leaves, not_found, is_asking, count_leaves};
 ghost use Rattle.wd1770.specs.Sectors.{is_on_disc, byte_on_disc};
-ghost use Rattle.wd1770.specs.Commands.{command_of, begun, forced, command_written, stopped, latch_leaves};
+ghost use Rattle.wd1770.specs.Commands.{command_of, begin_leaves, force_leaves, command_written, stop_leaves, latch_leaves};
 ghost use Rattle.wd1770.specs.Registers.{weight, angle_shown, status, answer_of, register_read, register_written, read_leaves, write_leaves};
-ghost use Rattle.wd1770.specs.Step.{next_angle, command_step, worked, step};
-ghost use Rattle.wd1770.specs.Quiet.{angle_later, later};
+ghost use Rattle.wd1770.specs.Step.{next_angle, command_step, work_leaves, step};
+ghost use Rattle.wd1770.specs.CodeQuiet.{angle_later, later};
 
 use crate::command::Command;
 use crate::drive::{Drive, DriveNumber, Target, drive_or_0, drive_selected, side_selected};
@@ -141,7 +141,7 @@ impl Controller {
 
     // A reset ends the command and clears both requests.
     fn stop(&mut self)
-        ensures { self.new ≡ stopped self.old }
+        ensures { self.new ≡ stop_leaves self.old }
     {
         if self.command.is_busy() {
             self.end();
@@ -267,7 +267,7 @@ impl Controller {
     }
 
     fn begin(&mut self, v: u8)
-        ensures { self.new ≡ begun v self.old }
+        ensures { self.new ≡ begin_leaves v self.old }
     {
         self.command = self.command_of(v);
         self.type_one = v < 0x80;
@@ -293,7 +293,7 @@ impl Controller {
 
     // Force interrupt.
     fn force(&mut self, v: u8)
-        ensures { self.new ≡ forced v self.old }
+        ensures { self.new ≡ force_leaves v self.old }
     {
         self.type_one = self.type_one || !self.command.is_busy();
         self.record_not_found = false;
@@ -313,7 +313,7 @@ impl Controller {
     }
 
     fn work(&mut self)
-        ensures { self.new ≡ worked self.old }
+        ensures { self.new ≡ work_leaves self.old }
     {
         let angle = next_angle(self.angle);
         self.angle = Some(angle);
@@ -355,7 +355,7 @@ impl Controller {
 
     // Counts a rise since it was `before`.
     fn count(&mut self, before: bool)
-        ensures { self.new ≡ counted before self.old }
+        ensures { self.new ≡ count_leaves before self.old }
     {
         if (self.drq || self.intrq) && !before {
             self.nmis = self.nmis.wrapping_add(1);
@@ -364,7 +364,7 @@ impl Controller {
 
     // The end of a command.
     fn end(&mut self)
-        ensures { self.new ≡ ended self.old }
+        ensures { self.new ≡ end_leaves self.old }
     {
         self.command = Command::Idle;
         self.motor = MOTOR_TIME;
@@ -372,7 +372,7 @@ impl Controller {
 
     /// The end of a command by itself.
     pub(crate) fn finish(&mut self)
-        ensures { self.new ≡ finished self.old }
+        ensures { self.new ≡ finish_leaves self.old }
     {
         self.end();
         self.intrq = true;

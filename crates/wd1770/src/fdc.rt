@@ -6,7 +6,7 @@ ghost use Rattle.wd1770.specs.Commands.{latch_leaves};
 ghost use Rattle.wd1770.specs.Registers.{answer_of, read_leaves, write_leaves};
 ghost use Rattle.wd1770.specs.Step.{step, steps};
 ghost use Rattle.wd1770.specs.Ends.{is_busy};
-ghost use Rattle.wd1770.specs.Quiet.{RestsFor};
+ghost use Rattle.wd1770.specs.CodeQuiet.{RestsFor};
 
 use crate::controller::Controller;
 use disc_image::Disc;
@@ -25,7 +25,7 @@ pub struct Fdc {
 impl Model for Fdc {
     ghost use Rattle.std.specs.Prelude.{◌≤◌};
     ghost use Rattle.wd1770.specs.State.{State};
-    ghost use Rattle.wd1770.specs.Quiet.{later, quiet_steps};
+    ghost use Rattle.wd1770.specs.CodeQuiet.{later, quiet_steps};
 
     ghost Value = { State };
 

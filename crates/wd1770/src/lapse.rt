@@ -1,6 +1,6 @@
 //! Steps at which nothing comes but that the discs turn and time passes.
 ghost use Rattle.std.specs.Prelude.{◌≡◌, ◌≤◌, ◌<◌, ◌-◌};
-ghost use Rattle.wd1770.specs.Quiet.{angle_later, command_later, motor_later, later, steps_between, steps_before, quiet_steps};
+ghost use Rattle.wd1770.specs.CodeQuiet.{angle_later, command_later, motor_later, later, steps_between, steps_before, quiet_steps};
 
 use crate::command::Command;
 use crate::controller::{Controller, TURN_TIME, next_angle};

@@ -1,6 +1,6 @@
 //! Type I commands.
 ghost use Rattle.std.specs.Prelude.{◌≡◌, ◌≤◌, ◌<◌};
-ghost use Rattle.wd1770.specs.Motion.{step_time, moving, restore, difference, seek, step_once, motion_of, head_after, track_after, moved, motion_step};
+ghost use Rattle.wd1770.specs.Motion.{step_time, motion_of, restore, difference, seek, step_once, head_after, track_after, move_leaves, motion_step};
 
 use crate::command::{Command, Motion, TrackChange};
 use crate::controller::Controller;
@@ -50,7 +50,7 @@ impl Controller {
 
     // So many steps of the selected head.
     fn moving(&self, v: u8, steps: u8, inward: bool, track: TrackChange) -> Command
-        ensures { result ≡ moving v steps inward track self.now }
+        ensures { result ≡ motion_of v steps inward track self.now }
     {
         let motion = Motion {
             drive: drive_or_0(drive_selected(self.latch)),
@@ -130,7 +130,7 @@ impl Controller {
 
     // The end of a type I command.
     fn finish_motion(&mut self, motion: Motion)
-        ensures { self.new ≡ moved motion self.old }
+        ensures { self.new ≡ move_leaves motion self.old }
     {
         let head = self.head_after(motion);
         let track = self.track_after(motion);

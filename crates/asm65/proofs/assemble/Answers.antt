@@ -1,5 +1,5 @@
 use Rattle.std.proofs.Common.{arith}
-use Rattle.asm65.specs.Syntax.{parsed}
+use Rattle.asm65.specs.Syntax.{parsed_text}
 use Rattle.asm65.proofs.PassLemmas.{at_fault}
 use Rattle.asm65.proofs.SourceLemmas.{origin_small, source_first, source_second, source_program}
 use Rattle.asm65.proofs.assemble.Goals as goal
@@ -9,13 +9,13 @@ returns-in-Err-clause-value c = at_fault (source_first c.args.part c.args.text.n
 
 pub second_pass-requires-clause-within : goal.second_pass-requires-clause-within
 second_pass-requires-clause-within c =
-    let small = origin_small c.args.part 1 _ c.origin_of-origin.result (parsed c.args.text.now) c.in-Ok.ensures.clear in
+    let small = origin_small c.args.part 1 _ c.origin_of-origin.result (parsed_text c.args.text.now) c.in-Ok.ensures.clear in
     let is = c.origin_of-origin.ensures in
     omega (arith, small, is)
 
 pub overflow_cast-result : goal.overflow_cast-result
 overflow_cast-result c =
-    let small = origin_small c.args.part 1 _ c.origin_of-origin.result (parsed c.args.text.now) c.in-Ok.ensures.clear in
+    let small = origin_small c.args.part 1 _ c.origin_of-origin.result (parsed_text c.args.text.now) c.in-Ok.ensures.clear in
     let is = c.origin_of-origin.ensures in
     omega (arith, small, is)
 

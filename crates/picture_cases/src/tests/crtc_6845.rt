@@ -218,21 +218,21 @@ fn at_power_on_a_black_frame_is_finished(rt: HostRuntime) {
 }
 
 #[test]
-fn a_chip_at_rest_comes_by_short_ways_to_the_same_beam(rt: HostRuntime) {
+fn a_quiet_chip_comes_by_short_ways_to_the_same_beam(rt: HostRuntime) {
     let mut crtc = Crtc::new();
     let mut short = Crtc::new();
-    assert!(rt; !short.is_at_rest());
+    assert!(rt; !short.is_quiet());
     assert_eq!(rt; short.clock(), crtc.clock());
     // Of three times sixteen clocks three begin vertical sync anew.
     let (mut within, mut anew) = (0u32, 0u32);
     for n in 0..48u32 {
         let beam = crtc.clock();
-        if short.is_at_rest() {
+        if short.is_quiet() {
             if short.clock_within_sync() {
                 assert!(rt; !beam.frame_end, "{n}");
                 within = within.wrapping_add(1);
             } else {
-                assert_eq!(rt; short.clock_at_rest(), beam, "{n}");
+                assert_eq!(rt; short.clock_quiet(), beam, "{n}");
                 anew = anew.wrapping_add(1);
             }
         }
@@ -274,7 +274,7 @@ fn a_chip_at_rest_does_many_clocks_at_once(rt: HostRuntime) {
     for n in [0, 1, 15, 16, 17, 31, 32, 100, 1_000_000_000_000u64] {
         let mut crtc = Crtc::new();
         crtc.clock();
-        if crtc.is_at_rest() {
+        if crtc.is_quiet() {
             assert_eq!(rt; crtc.calm(), u64::MAX);
             let want = Finished {
                 frames: n / 16,
@@ -290,9 +290,9 @@ fn a_chip_at_rest_does_many_clocks_at_once(rt: HostRuntime) {
     crtc.clock();
     crtc.set(1);
     crtc.clock();
-    assert!(rt; crtc.is_at_rest() && crtc.vsync());
+    assert!(rt; crtc.is_quiet() && crtc.vsync());
     assert_eq!(rt; crtc.calm(), 14);
-    if crtc.is_at_rest() {
+    if crtc.is_quiet() {
         assert_eq!(rt;
             crtc.rest(99),
             Finished {

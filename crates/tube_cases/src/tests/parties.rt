@@ -352,7 +352,7 @@ fn two_parties_share_one_chip(rt: HostRuntime) -> Result<(), Fail> {
             byte: 1,
             lag: first as u64,
         };
-        // The probe is never taken back.
+        // The probe is never rolled back.
         let probe = Forward {
             party: at_power_on(),
         };

@@ -141,7 +141,7 @@ impl Party for Talker {
     }
 }
 
-// It goes ahead until its notes are full, and is taken back by a copy of what it was.
+// It goes ahead until its notes are full, and is rolled back by a copy of what it was.
 impl Rewinds for Talker {
     type Past = Notes;
 
@@ -284,7 +284,7 @@ fn is_same(one: &Done<Talker, Talker>, two: &Done<Talker, Talker>, keep: u32) ->
         && is_all_kept
 }
 
-// Strides in which much is told, and much taken back.
+// Strides in which much is told, and much rolled back.
 const TINY: Strides = Strides {
     first: 3,
     fewest: 1,

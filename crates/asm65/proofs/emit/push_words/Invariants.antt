@@ -1,8 +1,8 @@
 use Rattle.std.proofs.Common.{◌≡◌, ◌++◌, map, false}
 use Rattle.std.specs.List.{list_any, concat}
 use Rattle.asm65.specs.Source.{value_in, is_out, word_bytes}
-use Rattle.asm65.specs.Seen.{seen_list, length_left}
-use Rattle.asm65.specs.SeenLabels.{labels_in}
+use Rattle.asm65.specs.Code.{seen_list, length_left}
+use Rattle.asm65.specs.CodeLabels.{labels_in}
 use Rattle.asm65.proofs.emit.push_words.Given as goal
 
 abbrev pub invariant-loop-value : goal.invariant-loop-value

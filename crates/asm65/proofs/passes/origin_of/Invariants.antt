@@ -1,10 +1,10 @@
 use Rattle.std.proofs.Common.{◌≡◌, length}
-use Rattle.asm65.specs.Syntax.{parsed}
+use Rattle.asm65.specs.Syntax.{parsed_text}
 use Rattle.asm65.specs.Placement.{origin_of}
 use Rattle.asm65.proofs.passes.origin_of.Given as goal
 
 abbrev pub invariant-loop-rest : goal.invariant-loop-rest
-invariant-loop-rest l = origin_of (parsed l.text) ≡ origin_of (parsed l.rest)
+invariant-loop-rest l = origin_of (parsed_text l.text) ≡ origin_of (parsed_text l.rest)
 
 abbrev pub decreases-loop-rest : goal.decreases-loop-rest
 decreases-loop-rest l = length l.rest

@@ -1,7 +1,7 @@
 use Rattle.std.proofs.Common.{◌≡◌, is_some}
 use Rattle.asm65.specs.Syntax.{values_of}
 use Rattle.asm65.specs.Tokens.{tokens_of}
-use Rattle.asm65.specs.Seen.{values_from, code_left}
+use Rattle.asm65.specs.Code.{values_from, code_left}
 use Rattle.asm65.proofs.syntax.are_values.Given as goal
 
 abbrev pub invariant-loop-rest : goal.invariant-loop-rest

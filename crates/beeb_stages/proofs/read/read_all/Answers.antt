@@ -1,6 +1,6 @@
 use Rattle.std.proofs.Common.{rules, ◌≡◌, ◌∙◌, map, [], ◌∷◌, ◌++◌}
 use Rattle.std.proofs.lemmas.List.{map-append}
-use Rattle.beeb_stages.specs.Seen.{seen_want, seen_input}
+use Rattle.beeb_stages.specs.View.{seen_want, seen_input}
 use Rattle.beeb_stages.proofs.ReadLemmas.{err_is, read_stopped, read_more, within_more, want_at, want_front, wants_within, told_both}
 use Rattle.beeb_stages.proofs.read.read_all.Goals as goal
 

@@ -1,6 +1,6 @@
 use Rattle.std.proofs.Common.{◌≡◌, IfSome, Ok, map, take}
 use Rattle.beeb_stages.specs.Plan.{read_all, AreWithin}
-use Rattle.beeb_stages.specs.Seen.{seen_want, seen_input}
+use Rattle.beeb_stages.specs.View.{seen_want, seen_input}
 use Rattle.beeb_stages.proofs.read.read_all.Given as goal
 
 abbrev pub invariant-loop-slot : goal.invariant-loop-slot

@@ -1,6 +1,6 @@
 use Rattle.std.proofs.Common.{◌≡◌, ◌<◌, ◌∙◌, sym, Ok, Err, List, ℕ, map, get_or, string_bytes, length}
 use Rattle.beeb_stages.specs.declared.stop.Stop.TheVariants.{NoMemory}
-use Rattle.beeb_stages.specs.Seen.{seen_file}
+use Rattle.beeb_stages.specs.View.{seen_file}
 use Rattle.beeb_stages.specs.Stages.{PutsOne}
 use Rattle.beeb_stages.proofs.ReadLemmas.{err_is}
 use Rattle.beeb_stages.proofs.WriteLemmas.{put_all-more, puts_named, puts_stopped, puts_wanting, no_count_fell, file_at, files_within}

@@ -1,13 +1,13 @@
 use Rattle.std.proofs.Common.{map, string_bytes}
 use Rattle.beeb_words.specs.Words.{command}
-use Rattle.beeb_words.specs.Seen.{seen}
+use Rattle.beeb_words.specs.View.{seen_command}
 use Rattle.beeb_stages.specs.Promise.{world}
 use Rattle.beeb_top.proofs.HeadlineLemmas.{headline_of}
 use Rattle.beeb_top.proofs.calls.top.Goals as goal
 
 pub returns-then-is_paired-clause-headline : goal.returns-then-is_paired-clause-headline
 returns-then-is_paired-clause-headline g c =
-    headline_of _ (seen c.in-Some.command) (command (map string_bytes c.args.words.now))
+    headline_of _ (seen_command c.in-Some.command) (command (map string_bytes c.args.words.now))
     (world (g.S.Shelf.shelf c.args.shelf.now) (g.O.Outlet.outlet c.args.out.now) (g.C.Crew.counts c.args.crew.now))
     (world (g.S.Shelf.shelf c.paired.new.shelf) (g.O.Outlet.outlet c.paired.new.out) (g.C.Crew.counts c.paired.new.crew))
     c.status_of.result c.paired.result c.in-Some.ensures.command c.status_of.ensures c.paired.ensures

@@ -1,12 +1,12 @@
 use Rattle.std.proofs.Common.{map, subst, true, Result}
-use Rattle.beeb_stages.specs.Seen.{Gives, seen_input}
+use Rattle.beeb_stages.specs.View.{Gives, seen_input}
 use Rattle.beeb_stages.specs.Plan.{Verdict}
 use Rattle.beeb_stages.specs.declared.stop.Refusal.{Refusal}
 use Rattle.beeb_status.specs.declared.status.Ending.{Ending}
 use Rattle.beeb_status.specs.declared.status.Cause.{Cause}
-use Rattle.beeb_outcome.specs.Seen.{verdict_of}
+use Rattle.beeb_outcome.specs.View.{verdict_of}
 use Rattle.beeb_words.specs.Reads.{reads}
-use Rattle.beeb_words.specs.Seen.{seen, seen_given}
+use Rattle.beeb_words.specs.View.{seen_command, seen_given}
 use Rattle.power_on.specs.Inputs.{Inputs}
 use Rattle.power_on.specs.Setup.{setup_of}
 use Rattle.beeb_top.specs.Plans.{replay_after}
@@ -16,11 +16,11 @@ use Rattle.beeb_top.proofs.work.single_outcome.Goals as goal
 
 pub replay_outcome-requires-clause-slots : goal.replay_outcome-requires-clause-slots
 replay_outcome-requires-clause-slots g c =
-    slots_below (reads (seen c.args.command)) (map seen_input c.args.inputs.items) c.in_ok-inputs.inputs c.requires.inputs c.requires.within.roms c.in_ok-inputs.ensures
+    slots_below (reads (seen_command c.args.command)) (map seen_input c.args.inputs.items) c.in_ok-inputs.inputs c.requires.inputs c.requires.within.roms c.in_ok-inputs.ensures
 
 pub solo_outcome-requires-clause-slots : goal.solo_outcome-requires-clause-slots
 solo_outcome-requires-clause-slots g c =
-    slots_below (reads (seen c.args.command)) (map seen_input c.args.inputs.items) c.in_ok-inputs.inputs c.requires.inputs c.requires.within.roms c.in_ok-inputs.ensures
+    slots_below (reads (seen_command c.args.command)) (map seen_input c.args.inputs.items) c.in_ok-inputs.inputs c.requires.inputs c.requires.within.roms c.in_ok-inputs.ensures
 
 pub returns-in-Solo : goal.returns-in-Solo
 returns-in-Solo g c =

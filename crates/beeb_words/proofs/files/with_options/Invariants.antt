@@ -1,7 +1,7 @@
 use Rattle.std.proofs.Common.{◌≡◌, ◌++◌, map, drop}
 use Rattle.beeb_words.specs.Keys.{keys}
 use Rattle.beeb_words.specs.Reads.{files_of}
-use Rattle.beeb_words.specs.Seen.{seen_given, seen_want}
+use Rattle.beeb_words.specs.View.{seen_given, seen_want}
 use Rattle.beeb_words.proofs.files.with_options.Given as goal
 
 abbrev pub invariant-loop-i : goal.invariant-loop-i

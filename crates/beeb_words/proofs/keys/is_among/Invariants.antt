@@ -1,6 +1,6 @@
 use Rattle.std.proofs.Common.{◌≡◌, map, drop}
 use Rattle.beeb_words.specs.Keys.{is_among}
-use Rattle.beeb_words.specs.Seen.{seen_word}
+use Rattle.beeb_words.specs.View.{seen_word}
 use Rattle.beeb_words.proofs.keys.is_among.Given as goal
 
 abbrev pub invariant-loop-one : goal.invariant-loop-one

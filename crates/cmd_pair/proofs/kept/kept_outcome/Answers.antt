@@ -6,9 +6,9 @@ use Rattle.host_mach.specs.View.{host_seen}
 use Rattle.host_mach.specs.Step.{host_moves}
 use Rattle.para_mach.specs.State.{ParaState}
 use Rattle.para_mach.specs.Step.{para_moves}
-use Rattle.beeb_outcome.specs.Seen.{kept_seen, verdict_of}
+use Rattle.beeb_outcome.specs.View.{kept_seen, verdict_of}
 use Rattle.beeb_outcome.specs.Verdicts.{machine_verdict}
-use Rattle.cmd_pair.specs.Seen.{AreFirst, IsRun}
+use Rattle.cmd_pair.specs.Code.{AreFirst, IsRun}
 use Rattle.cmd_pair.specs.Solo.{kept_verdict}
 use Rattle.cmd_pair.proofs.KeptLemmas.{few_counted, both_is, kept_is, for_each}
 use Rattle.cmd_pair.proofs.kept.kept_outcome.Goals as goal

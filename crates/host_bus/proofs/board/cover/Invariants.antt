@@ -1,5 +1,5 @@
 use Rattle.std.proofs.Common.{◌≡◌, length}
-use Rattle.host_bus.specs.Shows.{Covered}
+use Rattle.host_bus.specs.CodeReads.{Covered}
 use Rattle.host_bus.proofs.board.cover.Given as goal
 
 -- so far

@@ -2,7 +2,7 @@ use Rattle.std.proofs.Common.{◌≡◌, ◌∙◌, ◌++◌, ap, subst, length,
 use Rattle.std.proofs.lemmas.Grind.{common_steps}
 use Rattle.beeb_bits.specs.Zeros.{zeros-at}
 use Rattle.host_bus.specs.Board.{clear_ram}
-use Rattle.host_bus.specs.Shows.{Shows}
+use Rattle.host_bus.specs.CodeReads.{Shows}
 use Rattle.host_bus.proofs.Ram.{shows_first}
 use Rattle.host_bus.proofs.board.first_shown.Goals as goal
 

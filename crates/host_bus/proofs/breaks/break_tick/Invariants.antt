@@ -1,5 +1,5 @@
 use Rattle.std.proofs.Common.{◌≡◌, ◌≤◌, ◌-◌, length, drop}
-use Rattle.host_bus.specs.NextBreak.{break_tick}
+use Rattle.host_bus.specs.CodeBreaks.{break_tick}
 use Rattle.host_bus.proofs.breaks.break_tick.Given as goal
 
 abbrev pub invariant-loop-place : goal.invariant-loop-place

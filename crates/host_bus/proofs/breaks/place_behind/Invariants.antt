@@ -1,6 +1,6 @@
 use Rattle.std.proofs.Common.{◌≡◌, ◌≤◌, ◌-◌, length, take, count_by}
 use Rattle.host_bus.specs.Breaks.{is_break_by}
-use Rattle.host_bus.specs.NextBreak.{breaks_before}
+use Rattle.host_bus.specs.CodeBreaks.{breaks_before}
 use Rattle.host_bus.proofs.breaks.place_behind.Given as goal
 
 -- The breaks before the place have all come.

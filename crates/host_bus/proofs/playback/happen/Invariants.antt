@@ -2,7 +2,7 @@ use Rattle.std.proofs.Common.{◌≤◌, ◌+◌, ◌-◌, length, drop}
 use Rattle.keyboard.specs.Keys.{keys_of}
 use Rattle.key_script.specs.Events.{NeverFallsFrom, shots}
 use Rattle.host_bus.specs.Shots.{shot_at}
-use Rattle.host_bus.specs.OnTime.{IsLeft}
+use Rattle.host_bus.specs.CodePlayback.{IsLeft}
 use Rattle.host_bus.proofs.Played.{AreTaken}
 use Rattle.host_bus.proofs.playback.happen.Given as goal
 

@@ -1,6 +1,6 @@
 use Rattle.std.proofs.Common.{◌-◌}
 use Rattle.host_bus.specs.View.{bus_seen}
-use Rattle.host_mach.specs.Told.{host_of}
+use Rattle.host_mach.specs.CodeAccess.{host_of}
 use Rattle.host_mach.proofs.UnderWay.{IsUnderWay}
 use Rattle.host_mach.proofs.run.go_on.Given as goal
 

@@ -1,5 +1,5 @@
 use Rattle.std.proofs.Common.{true, false, refl}
-use Rattle.saa5050.specs.Dots.{columns}
+use Rattle.saa5050.specs.CodeDots.{columns}
 use Rattle.saa5050.proofs.Words.{computed}
 use Rattle.saa5050.proofs.dots.columns.Goals as goal
 

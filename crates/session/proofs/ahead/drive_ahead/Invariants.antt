@@ -1,6 +1,6 @@
 use Rattle.std.proofs.Common.{◌≡◌, [], IsTrue, vec_capacity}
-use Rattle.session.specs.Steps.{IsPaid}
-use Rattle.session.specs.Station.{station}
+use Rattle.session.specs.CodeSteps.{IsPaid}
+use Rattle.session.specs.CodeStation.{station}
 use Rattle.session.proofs.UnderWay.{IsUnderWay}
 use Rattle.session.proofs.ahead.drive_ahead.Given as goal
 

@@ -1,11 +1,11 @@
 use Rattle.std.proofs.Common.{arith, refl, ℕ, ◌∙◌, sym, subst}
 use Rattle.std.proofs.lemmas.List.{take_all}
 use Rattle.tube_cell.specs.Passes.{Carried}
-use Rattle.tube_party.specs.Moves.{Goes, shown}
-use Rattle.session.specs.Steps.{IsPaid, IsPaidOnTrust}
-use Rattle.session.specs.Station.{place, station}
-use Rattle.session.specs.Trusting.{HasTrusted, HasPassed}
-use Rattle.session.specs.Way.{Way, outset, IsSettled}
+use Rattle.tube_party.specs.Moves.{Goes, shown_lines}
+use Rattle.session.specs.CodeSteps.{IsPaid, IsPaidOnTrust}
+use Rattle.session.specs.CodeStation.{place, station}
+use Rattle.session.specs.CodeTrust.{HasTrusted, HasPassed}
+use Rattle.session.specs.CodeWay.{Way, outset, IsSettled}
 use Rattle.session.proofs.OnWay.{sets_out, reached_in, went}
 use Rattle.session.proofs.ahead.go_ahead.Goals as goal
 
@@ -16,7 +16,7 @@ stride_to-first-requires-clause-way g c =
     let from = outset (state (g.M.Rewinds.before c.advance_noting.new.past c.advance_noting.new.self)) c.args.mark.now in
     let y = record (station state c.args.half.now) { at = place (state c.advance_noting.new.self) c.args.half.now.pass } in
     (sets_out m g.met.M.Party.lawful c.args.n.0 from c.in-Some.first c.set_out-end.result.0 y
-    (subst (λ s. Goes m c.args.n.0 (shown c.args.mark.now.readings.lines c.set_out-end.result.0) s c.in-Some.first (state c.advance_noting.new.self)) (sym c.in-Some.ensures.1) c.in-Some.ensures.0)
+    (subst (λ s. Goes m c.args.n.0 (shown_lines c.args.mark.now.readings.lines c.set_out-end.result.0) s c.in-Some.first (state c.advance_noting.new.self)) (sym c.in-Some.ensures.1) c.in-Some.ensures.0)
     (sym c.requires.kept.0) (sym c.requires.kept.1)).0
 
 pub returns-clause-paid : goal.returns-clause-paid

@@ -1,4 +1,4 @@
-use Rattle.session.specs.Way.{outset}
+use Rattle.session.specs.CodeWay.{outset}
 use Rattle.session.proofs.OnWay.{is_way}
 use Rattle.session.proofs.ahead.go_past.Goals as goal
 

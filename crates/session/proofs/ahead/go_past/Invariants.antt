@@ -1,4 +1,4 @@
-use Rattle.session.specs.Way.{way_of, outset}
+use Rattle.session.specs.CodeWay.{way_of, outset}
 use Rattle.session.proofs.ahead.go_past.Given as goal
 
 abbrev pub ghosts-go_ahead : goal.ghosts-go_ahead

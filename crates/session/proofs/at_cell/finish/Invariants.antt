@@ -1,6 +1,6 @@
 use Rattle.std.proofs.Common.{◌≡◌, ◌≤◌}
 use Rattle.tube_cell.specs.Passes.{own_horizon}
-use Rattle.session.specs.Steps.{HasWaited}
+use Rattle.session.specs.CodeSteps.{HasWaited}
 use Rattle.session.proofs.at_cell.finish.Given as goal
 
 abbrev pub invariant-loop : goal.invariant-loop

@@ -1,7 +1,7 @@
 use Rattle.std.proofs.Common.{◌≡◌, ◌≤◌, []}
 use Rattle.tube_cell.specs.Views.{Admits}
 use Rattle.tube_cell.specs.Passes.{own_horizon, bound_here}
-use Rattle.session.specs.Steps.{HasWaited}
+use Rattle.session.specs.CodeSteps.{HasWaited}
 use Rattle.session.proofs.at_cell.wait.Given as goal
 
 abbrev pub invariant-loop : goal.invariant-loop

@@ -1,6 +1,6 @@
 use Rattle.std.proofs.Common.{rules, ◌≢◌, ◌∙◌}
 use Rattle.tube_party.specs.declared.party.Ask.TheVariants.{Nothing}
-use Rattle.session.specs.Station.{place, station}
+use Rattle.session.specs.CodeStation.{place, station}
 use Rattle.session.proofs.UnderWay.{moves_on, moved, steps_on, smaller}
 use Rattle.session.proofs.half.drive.Goals as goal
 

@@ -1,7 +1,7 @@
 use Rattle.std.proofs.Common.{◌≡◌, vec_capacity}
-use Rattle.tube_party.specs.Turn.{left}
-use Rattle.session.specs.Steps.{IsPaid}
-use Rattle.session.specs.Station.{station}
+use Rattle.tube_party.specs.Turn.{ticks_left}
+use Rattle.session.specs.CodeSteps.{IsPaid}
+use Rattle.session.specs.CodeStation.{station}
 use Rattle.session.proofs.UnderWay.{IsUnderWay}
 use Rattle.session.proofs.half.drive.Given as goal
 
@@ -13,4 +13,4 @@ invariant-loop-pause g l = record {
 }
 
 abbrev pub decreases-loop-pause : goal.decreases-loop-pause
-decreases-loop-pause g l = left l.n.0 l.ask
+decreases-loop-pause g l = ticks_left l.n.0 l.ask

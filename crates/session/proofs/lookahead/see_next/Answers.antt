@@ -3,7 +3,7 @@ use Rattle.tube_chip.specs.State.{lines_of}
 use Rattle.tube_chip.specs.Events.{Event}
 use Rattle.tube_cell.specs.Passes.{own_horizon, here}
 use Rattle.tube_cell.specs.Steps.{Watches}
-use Rattle.session.specs.Ahead.{lines_seen}
+use Rattle.session.specs.CodeSight.{lines_seen}
 use Rattle.session.proofs.Observing.{watches, lines_show}
 use Rattle.session.proofs.lookahead.see_next.Goals as goal
 

@@ -1,4 +1,4 @@
-use Rattle.session.specs.Trusting.{from_on}
+use Rattle.session.specs.CodeTrust.{from_on}
 use Rattle.session.proofs.Trusts.{tried_told, tried_seat}
 use Rattle.session.proofs.Waits.{tried_on_trust}
 use Rattle.session.proofs.trust.entrust_on.Goals as goal

@@ -1,4 +1,4 @@
-use Rattle.session.specs.Trusting.{from_on}
+use Rattle.session.specs.CodeTrust.{from_on}
 use Rattle.session.proofs.trust.entrust_on.Given as goal
 
 abbrev pub ghosts-entrust_observed : goal.ghosts-entrust_observed

@@ -1,7 +1,7 @@
 use Rattle.std.proofs.Common.{rules, arith, ◌≡◌, ◌∙◌, sym, subst, ap}
 use Rattle.tube_cell.specs.Views.{readings_of}
 use Rattle.tube_cell.specs.Passes.{Carried, Learns, here}
-use Rattle.session.specs.Steps.{HasOnlyLearnt}
+use Rattle.session.specs.CodeSteps.{HasOnlyLearnt}
 use Rattle.session.proofs.Waits.{learned, still_learnt}
 use Rattle.session.proofs.UnderWay.{waited_on}
 use Rattle.session.proofs.trust.tell_first.Goals as goal

@@ -1,6 +1,6 @@
 use Rattle.std.proofs.Common.{◌≡◌, ◌≤◌}
 use Rattle.tube_cell.specs.Passes.{own_horizon}
-use Rattle.session.specs.Steps.{HasWaited, HasOnlyLearnt}
+use Rattle.session.specs.CodeSteps.{HasWaited, HasOnlyLearnt}
 use Rattle.session.proofs.trust.tell_first.Given as goal
 
 abbrev pub invariant-loop : goal.invariant-loop

@@ -1,8 +1,8 @@
 use Rattle.std.proofs.Common.{rules, ◌≡◌, ◌∙◌, sym, subst, ap}
 use Rattle.tube_cell.specs.Views.{readings_of}
 use Rattle.tube_cell.specs.Passes.{Carried}
-use Rattle.session.specs.Steps.{IsPaidOnTrust}
-use Rattle.session.specs.Trusting.{HasTrusted}
+use Rattle.session.specs.CodeSteps.{IsPaidOnTrust}
+use Rattle.session.specs.CodeTrust.{HasTrusted}
 use Rattle.session.proofs.Waits.{here_bare}
 use Rattle.session.proofs.trust.tell_more.Goals as goal
 

@@ -1,7 +1,7 @@
 use Rattle.std.proofs.Common.{◌≡◌}
 use Rattle.tube_cell.specs.Passes.{Carried}
-use Rattle.session.specs.Steps.{IsPaidOnTrust}
-use Rattle.session.specs.Trusting.{HasTrusted}
+use Rattle.session.specs.CodeSteps.{IsPaidOnTrust}
+use Rattle.session.specs.CodeTrust.{HasTrusted}
 use Rattle.session.proofs.trust.tell_more.Given as goal
 
 abbrev pub invariant-loop : goal.invariant-loop

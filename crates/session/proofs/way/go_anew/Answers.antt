@@ -6,10 +6,10 @@ use Rattle.tube_chip.specs.Act.{access}
 use Rattle.tube_cell.specs.Views.{AllBelow}
 use Rattle.tube_party.specs.declared.party.Ask.{Ask}
 use Rattle.tube_party.specs.declared.party.Ask.TheVariants.{Access}
-use Rattle.tube_party.specs.Moves.{Looks, Goes, shown}
-use Rattle.session.specs.Steps.{event_at}
-use Rattle.session.specs.Station.{place, Station, station}
-use Rattle.session.specs.Way.{outset, IsOnWay}
+use Rattle.tube_party.specs.Moves.{Looks, Goes, shown_lines}
+use Rattle.session.specs.CodeSteps.{event_at}
+use Rattle.session.specs.CodeStation.{place, Station, station}
+use Rattle.session.specs.CodeWay.{outset, IsOnWay}
 use Rattle.session.proofs.OnWay.{sets_out, reads_on, few, at_access, list_kept, over_unasked}
 use Rattle.session.proofs.way.go_anew.Goals as goal
 
@@ -80,10 +80,10 @@ loop-preserved g c =
     let ask2 = c.advance_seeing-ask-in-loop.result in
     let new = state c.advance_seeing-ask-in-loop.new.self in
     let sees = c.advance_seeing-ask-in-loop.ensures in
-    let went : Goes m c.args.n.0 (shown lines c.args.trust.0) (m.next x.at.state (Some (Byte c.in-Some-byte_of.answer))) ask2 new = record {
+    let went : Goes m c.args.n.0 (shown_lines lines c.args.trust.0) (m.next x.at.state (Some (Byte c.in-Some-byte_of.answer))) ask2 new = record {
       steps = sees.steps;
       last = sees.last;
-      looks = subst (λ s. Looks m c.args.n.0 (shown lines c.args.trust.0) sees.steps s sees.last) c.answer.ensures sees.looks;
+      looks = subst (λ s. Looks m c.args.n.0 (shown_lines lines c.args.trust.0) sees.steps s sees.last) c.answer.ensures sees.looks;
       asked = sees.asked;
     } in
     let y : Station g.M.Party.State = record { at = place new c.loop.half.pass; list = c.note.new.list.items; count = c.note.new.count } in

@@ -1,8 +1,8 @@
 use Rattle.std.proofs.Common.{◌≡◌, take, vec_capacity}
 use Rattle.tube_cell.specs.Views.{AllBelow}
 use Rattle.tube_party.specs.Moves.{IsUnsure}
-use Rattle.session.specs.Station.{station}
-use Rattle.session.specs.Way.{outset, IsOnWay}
+use Rattle.session.specs.CodeStation.{station}
+use Rattle.session.specs.CodeWay.{outset, IsOnWay}
 use Rattle.session.proofs.way.go_anew.Given as goal
 
 abbrev pub invariant-loop : goal.invariant-loop

@@ -1,6 +1,6 @@
 use Rattle.std.proofs.Common.{refl}
-use Rattle.session.specs.Station.{place, station}
-use Rattle.session.specs.Way.{outset}
+use Rattle.session.specs.CodeStation.{place, station}
+use Rattle.session.specs.CodeWay.{outset}
 use Rattle.session.proofs.OnWay.{looks_on, past_look}
 use Rattle.session.proofs.way.look_on.Goals as goal
 

@@ -3,9 +3,9 @@ use Rattle.beeb_bits.specs.declared.Side.TheVariants.{Para}
 use Rattle.tube_chip.specs.declared.Answer.TheVariants.{Byte}
 use Rattle.tube_chip.specs.Act.{access}
 use Rattle.tube_party.specs.declared.party.Ask.TheVariants.{Access}
-use Rattle.session.specs.Steps.{event_at}
-use Rattle.session.specs.Station.{place, Station, station}
-use Rattle.session.specs.Way.{outset}
+use Rattle.session.specs.CodeSteps.{event_at}
+use Rattle.session.specs.CodeStation.{place, Station, station}
+use Rattle.session.specs.CodeWay.{outset}
 use Rattle.session.proofs.OnWay.{reads_on, past_read, few, at_access, list_kept}
 use Rattle.session.proofs.way.read_on.Goals as goal
 

@@ -1,6 +1,6 @@
 use Rattle.std.proofs.Common.{subst}
-use Rattle.session.specs.Station.{station}
-use Rattle.session.specs.Way.{outset, IsAnew}
+use Rattle.session.specs.CodeStation.{station}
+use Rattle.session.specs.CodeWay.{outset, IsAnew}
 use Rattle.session.proofs.OnWay.{stands, went_anew}
 use Rattle.session.proofs.way.roll_back.Goals as goal
 

@@ -1,6 +1,6 @@
 use Rattle.std.proofs.Common.{◌∙◌, subst}
-use Rattle.session.specs.Station.{station}
-use Rattle.session.specs.Way.{outset, IsOnWay}
+use Rattle.session.specs.CodeStation.{station}
+use Rattle.session.specs.CodeWay.{outset, IsOnWay}
 use Rattle.session.proofs.OnWay.{no_earlier_on}
 use Rattle.session.proofs.way.stride_to.Goals as goal
 

@@ -1,6 +1,6 @@
 use Rattle.std.proofs.Common.{◌≡◌, take, vec_capacity}
-use Rattle.session.specs.Station.{station}
-use Rattle.session.specs.Way.{outset, IsOnWay, IsNoEarlier}
+use Rattle.session.specs.CodeStation.{station}
+use Rattle.session.specs.CodeWay.{outset, IsOnWay, IsNoEarlier}
 use Rattle.session.proofs.way.stride_to.Given as goal
 
 abbrev pub invariant-loop : goal.invariant-loop

@@ -1,9 +1,9 @@
 use Rattle.std.proofs.Common.{ℕ, ◌∙◌, sym, subst, ap}
 use Rattle.tube_cell.specs.Passes.{Carried}
-use Rattle.session.specs.Steps.{IsPaidOnTrust}
-use Rattle.session.specs.Station.{station}
-use Rattle.session.specs.Trusting.{HasTrusted}
-use Rattle.session.specs.Way.{outset, IsOnWay}
+use Rattle.session.specs.CodeSteps.{IsPaidOnTrust}
+use Rattle.session.specs.CodeStation.{station}
+use Rattle.session.specs.CodeTrust.{HasTrusted}
+use Rattle.session.specs.CodeWay.{outset, IsOnWay}
 use Rattle.session.proofs.OnWay.{one_reached, at_pass}
 use Rattle.session.proofs.Trusts.{told_further}
 use Rattle.session.proofs.way.strides_on.Goals as goal

@@ -1,9 +1,9 @@
 use Rattle.std.proofs.Common.{ℕ, ◌≡◌, take, vec_capacity}
 use Rattle.tube_cell.specs.Passes.{Carried}
-use Rattle.session.specs.Steps.{IsPaidOnTrust}
-use Rattle.session.specs.Station.{station}
-use Rattle.session.specs.Trusting.{HasTrusted}
-use Rattle.session.specs.Way.{outset, IsReached, IsOnWay}
+use Rattle.session.specs.CodeSteps.{IsPaidOnTrust}
+use Rattle.session.specs.CodeStation.{station}
+use Rattle.session.specs.CodeTrust.{HasTrusted}
+use Rattle.session.specs.CodeWay.{outset, IsReached, IsOnWay}
 use Rattle.session.proofs.way.strides_on.Given as goal
 
 abbrev pub invariant-loop : goal.invariant-loop

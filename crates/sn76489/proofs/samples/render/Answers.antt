@@ -1,8 +1,8 @@
 use Rattle.std.proofs.Common.{◌≡◌, ◌∙◌, sym, ap, ◌+◌, ◌*◌, ◌++◌, [], ◌∷◌, pos, arith, rules}
-use Rattle.sn76489.specs.Clock.{clocked}
+use Rattle.sn76489.specs.Clock.{clock_leaves}
 use Rattle.sn76489.specs.Level.{level}
-use Rattle.sn76489.specs.Samples.{played, samples}
-use Rattle.sn76489.specs.Pending.{caught_up}
+use Rattle.sn76489.specs.Samples.{chip_before_step, samples}
+use Rattle.sn76489.specs.CodeWrites.{caught_up}
 use Rattle.sn76489.proofs.Playing.{before_first, at_clock, behind_clock}
 use Rattle.sn76489.proofs.Sampling.{pushed, sampled, unsampled, padded}
 use Rattle.sn76489.proofs.samples.render.Goals as goal
@@ -21,8 +21,8 @@ pub loop-clock-preserved : goal.loop-clock-preserved
 loop-clock-preserved c =
     let writes = c.args.writes.now in
     let q = c.loop-clock.clock in
-    let clock : c.clock.new.self ≡ clocked (caught_up (4 * q) c.loop-clock.left.now c.loop-clock.sound) =
-    c.clock.ensures ∙ ap clocked c.catch_up-left.ensures.chip in
+    let clock : c.clock.new.self ≡ clock_leaves (caught_up (4 * q) c.loop-clock.left.now c.loop-clock.sound) =
+    c.clock.ensures ∙ ap clock_leaves c.catch_up-left.ensures.chip in
     let chip = behind_clock writes c.loop-clock.left.now c.catch_up-left.result.now q c.loop-clock.sound c.clock.new.self c.loop-clock.invariant.chip clock c.catch_up-left.ensures.left in
     let here = at_clock writes c.loop-clock.left.now q c.loop-clock.sound c.clock.new.self c.loop-clock.invariant.chip clock in
     let list = c.loop-clock.list in
@@ -31,9 +31,9 @@ loop-clock-preserved c =
         chip = chip;
         items =
             rw w.list-is (
-            pushed list.items w.push_reserved.new.self.items w.level.result c.clock.new.self (played writes (4 * q + 1)) (search rules)
+            pushed list.items w.push_reserved.new.self.items w.level.result c.clock.new.self (chip_before_step writes (4 * q + 1)) (search rules)
             w.push_reserved.ensures.items w.level.ensures here
-            ∙ ap (λ l. l ++ pos (level (played writes (4 * q + 1))) ∷ []) c.loop-clock.invariant.items ∙ sym (sampled writes q w.if-clock-eq0.true)
+            ∙ ap (λ l. l ++ pos (level (chip_before_step writes (4 * q + 1))) ∷ []) c.loop-clock.invariant.items ∙ sym (sampled writes q w.if-clock-eq0.true)
             );
         size = rw w.list-is (omega (arith, w.push_reserved.ensures.len));
         room = rw w.list-is (omega (arith, w.push_reserved.ensures.capacity));

@@ -1,9 +1,9 @@
 use Rattle.std.proofs.Common.{◌∙◌, ap, ◌/◌, ◌%◌, slice_index}
-use Rattle.tube_chip.specs.Packing.{unpacked, flags_from, host_from, para_from}
+use Rattle.tube_chip.specs.Packing.{unpacked_chip, flags_from, host_from, para_from}
 use Rattle.tube_chip.proofs.packing.read_back.Goals as goal
 
 pub returns : goal.returns
-unfolding unpacked
+unfolding unpacked_chip
 returns c =
     let flags = c.flags_from.ensures ∙ ap (λ bytes. flags_from (slice_index bytes 0)) c.to_le_bytes-bytes.ensures in
     let host = c.host_from.ensures ∙ (λ i. host_from (c.queue_from-queue.ensures i) (c.to_le_bytes-bytes.ensures i)) in

@@ -1,6 +1,6 @@
 use Rattle.std.proofs.Common.{◌≡◌, ◌+◌}
 use Rattle.tube_chip.specs.State.{lines_of}
-use Rattle.tube_party.specs.Turn.{left}
+use Rattle.tube_party.specs.Turn.{ticks_left}
 use Rattle.tube_party.proofs.UnderWay.{IsGoing}
 use Rattle.tube_party.proofs.Both.{rest_of}
 use Rattle.tube_party.proofs.one_thread.both.Given as goal
@@ -17,4 +17,4 @@ invariant-loop-side g l = record {
 }
 
 abbrev pub decreases-loop-side : goal.decreases-loop-side
-decreases-loop-side g l = left l.n.0 l.host_ask + rest_of g.H.Party.moves g.P.Party.moves g.met.H.Party.lawful g.met.P.Party.lawful l.n.0 l.is_ahead (g.P.Party.state (g.P.Rewinds.before l.past l.para)) l.para_ask
+decreases-loop-side g l = ticks_left l.n.0 l.host_ask + rest_of g.H.Party.moves g.P.Party.moves g.met.H.Party.lawful g.met.P.Party.lawful l.n.0 l.is_ahead (g.P.Party.state (g.P.Rewinds.before l.past l.para)) l.para_ask

@@ -3,8 +3,8 @@ use Rattle.tube_chip.specs.declared.Answer.TheVariants.{Byte, Seen}
 use Rattle.tube_chip.specs.State.{power_on, lines_of}
 use Rattle.tube_chip.specs.Act.{access, look}
 use Rattle.tube_party.specs.Moves.{Moves}
-use Rattle.tube_party.specs.Replay.{Numbered, Ended, replayed, chip_before, finished, differs}
-use Rattle.tube_party.specs.Tape.{own_left, Takes, Misses}
+use Rattle.tube_party.specs.Replay.{Numbered, Ended, replay_of, chip_before, finish_leaves, differs}
+use Rattle.tube_party.specs.CodeTape.{own_left, Takes, Misses}
 use Rattle.tube_party.proofs.ReplayLemmas.{Goes, goes_seeing, goes_end, goes_access, goes_look, goes_differs, RanOut, ran_out, Stands, stands_access, stands_look, asked_for, smaller, earlier, after_look}
 use Rattle.tube_party.specs.Steps.{due_rises}
 use Rattle.tube_chip.specs.State.{State}
@@ -20,14 +20,14 @@ returns-in-Nothing g c =
     let m : Moves g.M.Party.State = g.M.Party.moves in
     let out : RanOut m c.args.n.0 c.steps.lines (c.sure.result).0 (g.M.Party.state c.steps.machine) (g.M.Party.state c.advance_seeing.new.self) =
     ran_out m c.args.n.0 _ _ (g.M.Party.state c.steps.machine) (g.M.Party.state c.advance_seeing.new.self) c.advance_seeing.result c.advance_seeing.ensures c.in-Nothing.is in
-    let whole : Ended g.M.Party.State = replayed m c.args.side c.args.trace.now c.args.n.0 (g.M.Party.state c.args.machine) in
+    let whole : Ended g.M.Party.State = replay_of m c.args.side c.args.trace.now c.args.n.0 (g.M.Party.state c.args.machine) in
     let own : List Numbered = own_left c.args.trace.now c.args.side c.args.n.0 c.next_own-next.result in
     let before : Goes m c.args.side c.args.trace.now c.args.n.0 whole (g.M.Party.state c.steps.machine) own =
     subst (λ (o : List Numbered). Goes m c.args.side c.args.trace.now c.args.n.0 whole (g.M.Party.state c.steps.machine) o) c.next_own-next.ensures.left c.steps.invariant.goes in
     let goes : Goes m c.args.side c.args.trace.now c.args.n.0 whole out.last own =
     goes_seeing m c.args.side c.args.trace.now c.args.n.0 g.met.M.Party.lawful whole own c.steps.lines _ out.steps (g.M.Party.state c.steps.machine) out.last before
     (λ t a b. unchanged _ _ (c.steps.invariant.lines) (c.steps.invariant.chip t a) (c.sure.ensures t c.steps.chip b)) out.looks in
-    let ended : whole ≡ finished m c.args.n.0 out.last own = goes_end m c.args.side c.args.trace.now c.args.n.0 whole out.last own goes out.over in record {
+    let ended : whole ≡ finish_leaves m c.args.n.0 out.last own = goes_end m c.args.side c.args.trace.now c.args.n.0 whole out.last own goes out.over in record {
       machine = out.shut_is ∙ sym (ap (λ (e : Ended g.M.Party.State). e.machine) ended);
       place = c.next_line.ensures c.args.side c.args.n.0 c.next_own-next.ensures.own ∙ sym (ap (λ (e : Ended g.M.Party.State). e.place) ended);
     }
@@ -37,7 +37,7 @@ returns-in-Err g c =
     let m : Moves g.M.Party.State = g.M.Party.moves in
     let stands : Stands m c.args.n.0 c.steps.lines (c.sure.result).0 (g.M.Party.state c.steps.machine) (g.M.Party.state c.advance_seeing.new.self) c.in-Access.tick.0 (access c.in-Access.op) =
     stands_access m c.args.n.0 _ _ _ _ c.advance_seeing.result c.in-Access.tick c.in-Access.op c.advance_seeing.ensures c.in-Access.is in
-    let whole : Ended g.M.Party.State = replayed m c.args.side c.args.trace.now c.args.n.0 (g.M.Party.state c.args.machine) in
+    let whole : Ended g.M.Party.State = replay_of m c.args.side c.args.trace.now c.args.n.0 (g.M.Party.state c.args.machine) in
     let own : List Numbered = own_left c.args.trace.now c.args.side c.args.n.0 c.next_own-at.result in
     let before : Goes m c.args.side c.args.trace.now c.args.n.0 whole (g.M.Party.state c.steps.machine) own =
     subst (λ (o : List Numbered). Goes m c.args.side c.args.trace.now c.args.n.0 whole (g.M.Party.state c.steps.machine) o) c.next_own-at.ensures.left c.steps.invariant.goes in
@@ -85,7 +85,7 @@ steps-preserved-in-Ok g c =
     let m : Moves g.M.Party.State = g.M.Party.moves in
     let stands : Stands m c.args.n.0 c.steps.lines (c.sure.result).0 (g.M.Party.state c.steps.machine) (g.M.Party.state c.advance_seeing.new.self) c.in-Access.tick.0 (access c.in-Access.op) =
     stands_access m c.args.n.0 _ _ _ _ c.advance_seeing.result c.in-Access.tick c.in-Access.op c.advance_seeing.ensures c.in-Access.is in
-    let whole : Ended g.M.Party.State = replayed m c.args.side c.args.trace.now c.args.n.0 (g.M.Party.state c.args.machine) in
+    let whole : Ended g.M.Party.State = replay_of m c.args.side c.args.trace.now c.args.n.0 (g.M.Party.state c.args.machine) in
     let own : List Numbered = own_left c.args.trace.now c.args.side c.args.n.0 c.next_own-at.result in
     let others : List Numbered = own_left c.args.trace.now c.args.side c.args.n.0 (c.next_own-at.result + 1) in
     let before : Goes m c.args.side c.args.trace.now c.args.n.0 whole (g.M.Party.state c.steps.machine) own =
@@ -109,7 +109,7 @@ steps-preserved g c =
     let m : Moves g.M.Party.State = g.M.Party.moves in
     let stands : Stands m c.args.n.0 c.steps.lines (c.sure.result).0 (g.M.Party.state c.steps.machine) (g.M.Party.state c.advance_seeing.new.self) c.in-Look.tick.0 look =
     stands_look m c.args.n.0 _ _ _ _ c.advance_seeing.result c.in-Look.tick c.advance_seeing.ensures c.in-Look.is in
-    let whole : Ended g.M.Party.State = replayed m c.args.side c.args.trace.now c.args.n.0 (g.M.Party.state c.args.machine) in
+    let whole : Ended g.M.Party.State = replay_of m c.args.side c.args.trace.now c.args.n.0 (g.M.Party.state c.args.machine) in
     let own : List Numbered = own_left c.args.trace.now c.args.side c.args.n.0 c.steps.at in
     let goes : Goes m c.args.side c.args.trace.now c.args.n.0 whole (g.M.Party.state c.advance_seeing.new.self) own =
     goes_seeing m c.args.side c.args.trace.now c.args.n.0 g.met.M.Party.lawful whole own c.steps.lines _ stands.steps (g.M.Party.state c.steps.machine) _ c.steps.invariant.goes

@@ -1,14 +1,14 @@
 use Rattle.std.proofs.Common.{◌≡◌, ◌≤◌, ◌-◌, ℕ, length, drop}
 use Rattle.tube_chip.specs.State.{power_on, lines_of}
-use Rattle.tube_party.specs.Replay.{chip_before, replayed}
-use Rattle.tube_party.specs.Tape.{own_left}
+use Rattle.tube_party.specs.Replay.{chip_before, replay_of}
+use Rattle.tube_party.specs.CodeTape.{own_left}
 use Rattle.tube_party.proofs.ReplayLemmas.{Goes}
 use Rattle.tube_party.proofs.replaying.replay.Given as goal
 
 abbrev pub invariant-steps : goal.invariant-steps
 invariant-steps g l = record {
   -- what is still to be done leads to the whole replay's end
-  goes : Goes g.M.Party.moves l.side l.trace l.n.0 (replayed g.M.Party.moves l.side l.trace l.n.0 (g.M.Party.state l.fn.machine)) (g.M.Party.state l.machine) (own_left l.trace l.side l.n.0 l.at);
+  goes : Goes g.M.Party.moves l.side l.trace l.n.0 (replay_of g.M.Party.moves l.side l.trace l.n.0 (g.M.Party.state l.fn.machine)) (g.M.Party.state l.machine) (own_left l.trace l.side l.n.0 l.at);
   within : l.at ≤ length l.trace;
   seen_within : l.seen ≤ length l.trace;
   lines : l.lines ≡ lines_of l.chip;

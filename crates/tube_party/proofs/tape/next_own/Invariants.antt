@@ -1,5 +1,5 @@
 use Rattle.std.proofs.Common.{length, ◌-◌, ◌≡◌, ◌≤◌}
-use Rattle.tube_party.specs.Tape.{own_left}
+use Rattle.tube_party.specs.CodeTape.{own_left}
 use Rattle.tube_party.proofs.tape.next_own.Given as goal
 
 -- the entries passed over are not of the side, or not below the tick

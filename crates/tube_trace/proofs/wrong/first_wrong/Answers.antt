@@ -1,5 +1,5 @@
 use Rattle.std.proofs.Common.{◌≡◌, ◌∙◌, sym, Some, None}
-use Rattle.tube_trace.specs.Wrong.{wrong}
+use Rattle.tube_trace.specs.FirstWrong.{wrong}
 use Rattle.tube_trace.proofs.WrongLemmas.{wrong_more, wrong_here, wrong_past, none_iff, first_wrong_is}
 use Rattle.tube_trace.proofs.wrong.first_wrong.Goals as goal
 

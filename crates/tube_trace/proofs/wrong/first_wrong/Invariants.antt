@@ -1,6 +1,6 @@
 use Rattle.std.proofs.Common.{◌≡◌, drop}
 use Rattle.tube_chip.specs.State.{power_on}
-use Rattle.tube_trace.specs.Wrong.{wrong_from}
+use Rattle.tube_trace.specs.FirstWrong.{wrong_from}
 use Rattle.tube_trace.proofs.wrong.first_wrong.Given as goal
 
 abbrev pub invariant-loop-place : goal.invariant-loop-place

@@ -2,7 +2,7 @@ use Rattle.std.proofs.Common.{◌≡◌, ◌∙◌, sym, true}
 use Rattle.std.specs.Option.{is_none}
 use Rattle.beeb_words.specs.Given.{value_at}
 use Rattle.beeb_words.specs.Keys.{fits}
-use Rattle.beeb_words.specs.Seen.{word_at, seen_given}
+use Rattle.beeb_words.specs.View.{word_at, seen_given}
 use Rattle.beeb_words.proofs.GivenLemmas.{put_empty, word_read, copied_none}
 use Rattle.beeb_words.proofs.given.Given.put_at.Goals as goal
 

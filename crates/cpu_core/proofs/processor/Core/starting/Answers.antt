@@ -1,6 +1,6 @@
 use Rattle.std.proofs.Common.{◌∙◌, subst}
 use Rattle.cpu_core.specs.State.{CoreState}
-use Rattle.cpu_core.specs.Ties.{Tied}
+use Rattle.cpu_core.specs.CodeTies.{Tied}
 use Rattle.cpu_core.proofs.processor.Core.starting.Goals as goal
 
 pub returns : goal.returns

@@ -28,7 +28,7 @@ use denote.Triple.Walked.{says, Stays, stay_dropped, walk_of, ends_at, walk_Meet
 use Rattle.cpu_core.proofs.Walks.{none, none_made}
 use Rattle.cpu_core.specs.contracts.trail.Trail as Trail
 use Rattle.cpu_core.specs.contracts.trail.Turn as Turn
-use Rattle.cpu_core.specs.Turns.{turned}
+use Rattle.cpu_core.specs.CodeTurns.{after_turn}
 use Rattle.cpu_core.specs.contracts.trail.Trail.after as F
 use Rattle.cpu_core.specs.contracts.trail.Trail.after.Key.{name as #self}
 use Rattle.cpu_core.proofs.trail.Trail.after.Statement as stated
@@ -62,7 +62,7 @@ module _ {M : Type 1} {𝓤 : Ura M} (𝓛 : Logic 𝓤) (at_mem : Memory → SP
         let vss = z.0.4 in
         let u : Val = vptr a.0.ref_ptr.0 a.0.ref_ptr.1 in
         let v : Val = vptr a.1.0.ref_ptr.0 a.1.0.ref_ptr.1 in
-        let trail : (Trail.the_row).Denot = record { state = turned a.0.now.state a.1.0.now } in
+        let trail : (Trail.the_row).Denot = record { state = after_turn a.0.now.state a.1.0.now } in
         qed 𝓛 ((raw toks ⊛ ‵ (owns (types_at ended.signature.params z.0.0) a vss)) ∷ raw ((held z.0.0 a).requires z.1) ∷ []) ∵
         keep ! (0 ∷ []) $ split ! $ move ! (1 ∷ []) $ fsplit ! $ fsplit ! $ feq_l ! (λ is₀. drop ! $ fsplit ! $ fsplit ! $ feq_l ! (λ is₁. drop ! $ drop ! $
         regoal ! (λ (us : List Val). prop (WpFn 𝓤 H C Λ function (us ++ (vss.1.0 ++ [])) Post)) is₀ refl $

@@ -4,9 +4,9 @@ use Rattle.keyboard.specs.Keys.{keys_of}
 use Rattle.key_script.specs.declared.Event.{Event}
 use Rattle.host_bus.specs.Devices.{keys_at}
 use Rattle.host_bus.specs.Board.{BoardState, board_closed}
-use Rattle.host_bus.specs.BoardView.{board_seen}
-use Rattle.host_bus.specs.OnTime.{IsOnTime}
-use Rattle.host_bus.specs.NextBreak.{IsNextBreak, breaks_before}
+use Rattle.host_bus.specs.CodeBoard.{board_seen}
+use Rattle.host_bus.specs.CodePlayback.{IsOnTime}
+use Rattle.host_bus.specs.CodeBreaks.{IsNextBreak, breaks_before}
 use Rattle.host_bus.proofs.Played.{HasNone, keys-are, played-later}
 use Rattle.host_bus.proofs.Closed.{quiet, sound-later, seen-later, still-on-time, ticked-on, caught}
 use Rattle.host_bus.proofs.board.Board.catch_up.Goals as goal

@@ -2,8 +2,8 @@ use Rattle.std.proofs.Common.{List, ℕ, sym, subst, arith}
 use Rattle.std.proofs.Math.Nat.{zero-mod}
 use Rattle.beeb_bits.specs.Clock.{micro}
 use Rattle.key_script.specs.declared.Event.{Event}
-use Rattle.host_bus.specs.Shows.{Shows}
-use Rattle.host_bus.specs.NextBreak.{IsNextBreak}
+use Rattle.host_bus.specs.CodeReads.{Shows}
+use Rattle.host_bus.specs.CodeBreaks.{IsNextBreak}
 use Rattle.host_bus.proofs.Beats.{some-micro}
 use Rattle.host_bus.proofs.board.Board.make.Goals as goal
 

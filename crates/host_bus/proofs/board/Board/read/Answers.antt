@@ -4,8 +4,8 @@ use Rattle.host_bus.specs.declared.map.Place.{Place}
 use Rattle.host_bus.specs.Devices.{system_answer}
 use Rattle.host_bus.specs.Board.{BoardState, answer_at}
 use Rattle.host_bus.specs.Map.{place_of}
-use Rattle.host_bus.specs.OnTime.{IsLeft}
-use Rattle.host_bus.specs.BoardView.{board_seen}
+use Rattle.host_bus.specs.CodePlayback.{IsLeft}
+use Rattle.host_bus.specs.CodeBoard.{board_seen}
 use Rattle.host_bus.proofs.Played.{keys-are}
 use Rattle.host_bus.proofs.board.Board.read.Goals as goal
 

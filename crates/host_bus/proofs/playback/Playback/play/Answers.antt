@@ -1,7 +1,7 @@
 use Rattle.std.proofs.Common.{◌+◌, sym, subst, drop, List, arith}
 use Rattle.key_script.specs.declared.Event.{Event}
 use Rattle.key_script.specs.Events.{NeverFallsFrom}
-use Rattle.host_bus.specs.OnTime.{HasLeft}
+use Rattle.host_bus.specs.CodePlayback.{HasLeft}
 use Rattle.host_bus.proofs.Played.{not-before}
 use Rattle.host_bus.proofs.playback.Playback.play.Goals as goal
 

@@ -6,7 +6,7 @@ use Rattle.host_mach.specs.State.{HostState}
 use Rattle.host_mach.specs.Step.{host_moves}
 use Rattle.host_mach.specs.Lawful.{host_lawful}
 use Rattle.host_mach.specs.View.{host_seen}
-use Rattle.host_mach.specs.Told.{IsDone, IsStop}
+use Rattle.host_mach.specs.CodeAccess.{IsDone, IsStop}
 use Rattle.host_mach.specs.declared.run.Stop.{Stop}
 use Rattle.host_mach.specs.declared.run.Stop.TheVariants.{Look, Access, End}
 use Rattle.host_mach.proofs.UnderWay.{Came}

@@ -2,7 +2,7 @@ use Rattle.std.proofs.Common.{rules, ◌≡◌, ◌∙◌, sym, ap, ◌+◌, ◌
 use Rattle.para_mach.specs.declared.memory.Stop.{Stop}
 use Rattle.para_mach.specs.declared.memory.Stop.TheVariants.{Full}
 use Rattle.para_mach.specs.Step.{looks}
-use Rattle.para_mach.specs.Told.{IsDone, IsQuick, IsPassed}
+use Rattle.para_mach.specs.CodeAccess.{IsDone, IsQuick, IsPassed}
 use Rattle.para_mach.proofs.Advance.{unmoved, way_on, way_past, way_left}
 use Rattle.para_mach.proofs.Noted.{kin_more, kin_past, ram_past, seen_more, late_on, room_on, cramped}
 use Rattle.para_mach.proofs.Lengths.{few_seen}

@@ -1,6 +1,6 @@
 use Rattle.std.proofs.Common.{◌≡◌, ◌≤◌, ◌+◌, ◌-◌, ◌*◌, max, length}
 use Rattle.beeb_bits.specs.Clock.{para}
-use Rattle.para_mach.specs.Told.{IsKin}
+use Rattle.para_mach.specs.CodeAccess.{IsKin}
 use Rattle.para_mach.proofs.Advance.{IsUnderWay}
 use Rattle.para_mach.proofs.machine.ParaMachine.run.Given as goal
 

@@ -4,7 +4,7 @@ use Rattle.para_mach.specs.declared.machine.Left.TheVariants.{Look}
 use Rattle.tube_party.specs.Steps.{looks_on, sees_after}
 use Rattle.para_mach.specs.State.{ParaState}
 use Rattle.para_mach.specs.Step.{para_moves, looks}
-use Rattle.para_mach.specs.Told.{IsRun}
+use Rattle.para_mach.specs.CodeAccess.{IsRun}
 use Rattle.para_mach.proofs.Advance.{more_look}
 use Rattle.para_mach.proofs.machine.ParaMachineParty.advance_seeing.Goals as goal
 

@@ -1,7 +1,7 @@
 use Rattle.std.proofs.Common.{◌∙◌, sym, ap, ℕ, List}
 use Rattle.para_mach.specs.declared.notes.Stood.{Stood}
 use Rattle.para_mach.specs.State.{MemoryState}
-use Rattle.para_mach.specs.Noted.{put_back}
+use Rattle.para_mach.specs.CodeNotes.{put_back}
 use Rattle.para_mach.proofs.Noted.{put_back_last}
 use Rattle.para_mach.proofs.memory.Memory.take_back.Goals as goal
 

@@ -1,5 +1,5 @@
 use Rattle.std.proofs.Common.{◌≡◌}
-use Rattle.para_mach.specs.Noted.{put_back}
+use Rattle.para_mach.specs.CodeNotes.{put_back}
 use Rattle.para_mach.proofs.memory.Memory.take_back.Given as goal
 
 -- the bytes that are left put back

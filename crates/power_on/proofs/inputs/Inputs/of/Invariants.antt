@@ -1,7 +1,7 @@
 use Rattle.std.proofs.Common.{◌≡◌, map}
-use Rattle.beeb_stages.specs.Seen.{seen_input}
+use Rattle.beeb_stages.specs.View.{seen_input}
 use Rattle.power_on.specs.Inputs.{with_inputs, inputs_of}
-use Rattle.power_on.specs.Seen.{seen_inputs}
+use Rattle.power_on.specs.View.{seen_inputs}
 use Rattle.power_on.proofs.inputs.Inputs.of.Given as goal
 
 abbrev pub invariant-loop-slot : goal.invariant-loop-slot

@@ -1,6 +1,6 @@
 use Rattle.std.proofs.Common.{rules, ◌≡◌, ap, sym, false, List, ℕ}
 use Rattle.beeb_bits.specs.Bits.{bit}
-use Rattle.raster.specs.Steps.{dots_drawn}
+use Rattle.raster.specs.CodeSteps.{dots_drawn}
 use Rattle.raster.specs.contracts.screen.Screen.{the_view}
 use Rattle.raster.proofs.Eights.{both}
 use Rattle.raster.proofs.screen.Screen.draw_ready.Goals as goal

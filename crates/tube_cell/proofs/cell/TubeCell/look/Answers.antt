@@ -1,7 +1,7 @@
 use Rattle.std.proofs.Common.{◌≡◌, ◌∙◌, true, sym, ap, subst, List, ℕ}
 use Rattle.crossbeam_utils.specs.Seq.{cell_view}
 use Rattle.tube_chip.specs.State.{lines_of}
-use Rattle.tube_cell.specs.Views.{other, bound_at, other_bound, admits}
+use Rattle.tube_cell.specs.Views.{word_of_other, bound_at, other_bound, admits}
 use Rattle.tube_cell.specs.Steps.{IsPassOf}
 use Rattle.tube_cell.proofs.Learns.{bare_of, none_of, cut_kept}
 use Rattle.tube_cell.proofs.Raises.{may_look, looked_ahead, looked_local, pass_looked, is_looked, horizon_looked}
@@ -31,7 +31,7 @@ returns-then-is_admitted-clause-looked g c =
     let local = looked_local c.pass.inside.side c.pass.inside.words c.load_at-found.result c.pass.inside.local c.settle.new.local v w c.pass.invariant.0
     (bare_of _ c.pass.inside.side v c.args.pass.now c.pass.view_is c.requires.published) (c.settle.ensures.local v.known w.known c.pass.invariant.0.well f.well c.pass.invariant.0.words_are f.words_are) in
     let found = c.settle.ensures.words ∙ f.words_are in
-    let word = c.bound_of-bound.ensures w.known found ∙ ap (λ n. bound_at c.pass.inside.side (other c.pass.inside.side w.known) n) (c.trust_of.ensures.is w.known found) in
+    let word = c.bound_of-bound.ensures w.known found ∙ ap (λ n. bound_at c.pass.inside.side (word_of_other c.pass.inside.side w.known) n) (c.trust_of.ensures.is w.known found) in
     let admitted : admits c.pass.inside.side (other_bound c.pass.inside.side w.known) c.args.t.0 ≡ true =
     ap (λ n. admits c.pass.inside.side n c.args.t.0) (sym word) ∙ sym c.is_admitted.ensures ∙ c.if-is_admitted.true in
     is_looked _ _ c.pass.inside.side c.pass.inside.words c.load_at-found.result c.pass.inside.local c.args.pass.now c.args.t.0 c.lines.result v w c.pass.view_is c.pass.invariant.0 c.requires.published c.requires.none_trusted c.requires.later

@@ -1,9 +1,9 @@
 use Rattle.crossbeam_utils.specs.Seq.{cell_view}
-use Rattle.tube_cell.specs.Views.{known_with, other}
+use Rattle.tube_cell.specs.Views.{known_with, word_of_other}
 use Rattle.tube_cell.proofs.cell.TubeCell.publish.Given as goal
 
 abbrev pub ghosts-exchange : goal.ghosts-exchange
 ghosts-exchange g a = record {
   events = (cell_view a.seat.now).ahead;
-  next = known_with a.side a.chip.now a.word (other a.side (cell_view a.seat.now).known) a.trust;
+  next = known_with a.side a.chip.now a.word (word_of_other a.side (cell_view a.seat.now).known) a.trust;
 }

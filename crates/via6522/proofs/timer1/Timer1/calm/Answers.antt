@@ -1,7 +1,7 @@
 use Rattle.std.proofs.Common.{◌≡◌, ◌∙◌, sym, ap, ◌<◌, ◌≤◌, ◌+◌, Bool, arith}
 use Rattle.via6522.specs.State.{Timer1}
 use Rattle.via6522.specs.Timers.{word}
-use Rattle.via6522.specs.Quiet.{timer1_ahead}
+use Rattle.via6522.specs.CodeQuiet.{timer1_ahead}
 use Rattle.via6522.specs.Jumps.{timer1_flags_within}
 use Rattle.via6522.proofs.Calm.{calm1, calm_to_load1, disarmed1}
 use Rattle.via6522.proofs.timer1.Timer1.calm.Goals as goal

@@ -1,6 +1,6 @@
 use Rattle.std.proofs.Common.{◌≡◌, ◌∙◌, sym, ap, ◌<◌, ◌≤◌, ◌+◌, Bool, false, arith}
 use Rattle.via6522.specs.State.{Timer2}
-use Rattle.via6522.specs.Quiet.{timer2_ahead}
+use Rattle.via6522.specs.CodeQuiet.{timer2_ahead}
 use Rattle.via6522.specs.Jumps.{timer2_flags_within}
 use Rattle.via6522.proofs.Calm.{calm2, disarmed2, still_is_calm}
 use Rattle.via6522.proofs.timer2.Timer2.calm.Goals as goal

@@ -1,7 +1,7 @@
 use Rattle.std.proofs.Common.{◌≡◌, ◌∙◌, sym, ap, arith, ℕ, ◌≤◌}
 use Rattle.via6522.specs.Lines.{levels_of}
 use Rattle.via6522.specs.Step.{steps}
-use Rattle.via6522.specs.Quiet.{levels_in, pins_with}
+use Rattle.via6522.specs.CodeQuiet.{levels_in, pins_with}
 use Rattle.via6522.proofs.Runs.{no_steps}
 use Rattle.via6522.proofs.Jumps.{in_full, quiet_steps_pass}
 use Rattle.via6522.proofs.via.Via.advance.Goals as goal

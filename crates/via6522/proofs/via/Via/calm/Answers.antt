@@ -2,7 +2,7 @@ use Rattle.std.proofs.Common.{◌≡◌, ◌∙◌, sym, ap, subst, true}
 use Rattle.via6522.specs.State.{State}
 use Rattle.via6522.specs.Lines.{levels_of}
 use Rattle.via6522.specs.Registers.{asks}
-use Rattle.via6522.specs.Quiet.{levels_in, ahead}
+use Rattle.via6522.specs.CodeQuiet.{levels_in, ahead}
 use Rattle.via6522.specs.Jumps.{AsksAlike}
 use Rattle.via6522.proofs.Calm.{asking_is_calm, now_is_calm, timers_are_calm}
 use Rattle.via6522.proofs.via.Via.calm.Goals as goal

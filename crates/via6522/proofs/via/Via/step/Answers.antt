@@ -1,7 +1,7 @@
 use Rattle.std.proofs.Common.{◌≡◌, ◌∙◌, sym, ap, arith, ◌<◌}
 use Rattle.via6522.specs.Lines.{levels_of}
 use Rattle.via6522.specs.Step.{step}
-use Rattle.via6522.specs.Quiet.{levels_in}
+use Rattle.via6522.specs.CodeQuiet.{levels_in}
 use Rattle.via6522.proofs.Quietly.{quiet_step}
 use Rattle.via6522.proofs.via.Via.step.Goals as goal
 

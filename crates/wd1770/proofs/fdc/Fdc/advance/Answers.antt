@@ -1,6 +1,6 @@
 use Rattle.std.proofs.Common.{◌∙◌, sym, ap, arith, ◌+◌, ◌≤◌}
 use Rattle.wd1770.specs.Step.{steps}
-use Rattle.wd1770.specs.Quiet.{quiet_steps}
+use Rattle.wd1770.specs.CodeQuiet.{quiet_steps}
 use Rattle.wd1770.proofs.Passing.{quiet_many}
 use Rattle.wd1770.proofs.fdc.Fdc.advance.Goals as goal
 

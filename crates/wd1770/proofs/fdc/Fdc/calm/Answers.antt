@@ -1,6 +1,6 @@
 use Rattle.std.proofs.Common.{ap, subst, arith, ◌+◌, ◌≤◌}
 use Rattle.wd1770.specs.State.{State}
-use Rattle.wd1770.specs.Quiet.{quiet_steps, RestsFor}
+use Rattle.wd1770.specs.CodeQuiet.{quiet_steps, RestsFor}
 use Rattle.wd1770.proofs.Passing.{quiet_rests}
 use Rattle.wd1770.proofs.fdc.Fdc.calm.Goals as goal
 

@@ -1,6 +1,6 @@
 use Rattle.std.proofs.Common.{◌∙◌, sym, ap, arith, ℕ, ◌+◌, ◌-◌, ◌<◌, ◌≤◌}
 use Rattle.wd1770.specs.Step.{steps}
-use Rattle.wd1770.specs.Quiet.{later, quiet_steps}
+use Rattle.wd1770.specs.CodeQuiet.{later, quiet_steps}
 use Rattle.wd1770.proofs.Runs.{no_steps}
 use Rattle.wd1770.proofs.Passing.{quiet_many, goes_on}
 use Rattle.wd1770.proofs.fdc.Fdc.go_on.Goals as goal

@@ -1,5 +1,5 @@
 use Rattle.std.proofs.Common.{◌≡◌, ◌∙◌, ap, ℕ}
-use Rattle.wd1770.specs.Quiet.{later}
+use Rattle.wd1770.specs.CodeQuiet.{later}
 use Rattle.wd1770.proofs.Passing.{rest_is}
 use Rattle.wd1770.proofs.fdc.Fdc.rest.Goals as goal
 

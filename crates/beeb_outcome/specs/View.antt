@@ -1,0 +1,32 @@
+-- What the code holds, as the definitions see it.
+use Rattle.std.specs.Prelude.{option_map}
+use Rattle.bus_plug.specs.Plug.{Plug}
+use Rattle.host_mach.specs.View.{host_seen}
+use Rattle.beeb_stages.specs.Plan.{Verdict}
+use Rattle.beeb_stages.specs.declared.outcome.Outcome.{Outcome}
+use Rattle.beeb_stages.specs.View as stages
+use Rattle.beeb_status.specs.declared.status.Ending.{Ending}
+use Rattle.beeb_outcome.specs.declared.left.Kept.{Kept}
+use Rattle.beeb_outcome.specs.declared.left.Left.{Left}
+use Rattle.beeb_outcome.specs.declared.output.Output.{Output}
+use Rattle.beeb_outcome.specs.Left as lefts
+use Rattle.beeb_outcome.specs.Files.{file_of}
+
+abbrev pub kept_seen : Kept → lefts.Kept
+kept_seen k = record { count = k.count; trace = k.trace.items }
+
+-- what a command left, by what its plugged devices are
+abbrev pub left_seen : {D : Type 0} → (D → Plug) → Left D → lefts.Left
+left_seen plug l = record {
+  out = l.out.now;
+  ticks = l.ticks.0;
+  tube = l.tube;
+  host = option_map (host_seen plug) l.host;
+  para = l.para;
+  kept = option_map kept_seen l.kept;
+  bytes = l.bytes.items;
+}
+
+-- the verdict of what came of a command, by what its plugged devices are
+abbrev pub verdict_of : {D : Type 0} → (D → Plug) → Outcome Ending Output (Left D) → Verdict Ending
+verdict_of plug o = stages.verdict_of (λ l. file_of (left_seen plug l)) o

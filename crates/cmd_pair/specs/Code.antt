@@ -1,0 +1,32 @@
+-- What the code holds of a run, as the definitions see it.
+use Rattle.std.specs.Prelude.{◌≡◌, ℕ, ◌≤◌, List, take}
+use Rattle.bus_plug.specs.Plug.{Plug}
+use Rattle.tube_party.specs.declared.one_thread.Done.{Done}
+use Rattle.tube_party.specs.OneThread.{IsPlayed, played_of}
+use Rattle.tube_party.specs.Reference.{reference, IsTraceBelow}
+use Rattle.beeb_bits.specs.declared.Side.TheVariants as sides
+use Rattle.tube_chip.specs.Events.{Event, of_side}
+use Rattle.tube_trace.specs.declared.Entry.{Entry}
+use Rattle.tube_trace.specs.Entries.{accesses}
+use Rattle.host_mach.specs.declared.machine.HostMachine.{HostMachine}
+use Rattle.host_mach.specs.State.{HostState}
+use Rattle.host_mach.specs.Step.{host_moves}
+use Rattle.host_mach.specs.View.{host_seen}
+use Rattle.para_mach.specs.State.{ParaState}
+use Rattle.para_mach.specs.Step.{para_moves}
+
+-- both machines were run from these states as the reference run does, and of the accesses of each side the first `keep` were kept
+abbrev pub IsRun : {D : Type 0} → (D → Plug) → HostState → ParaState → ℕ → ℕ → Done (HostMachine D) ParaState → Type 0
+IsRun plug s t n keep d =
+    IsPlayed (reference host_moves para_moves s t n) keep (played_of (host_seen plug) (λ m. m) d)
+
+-- Of a list of events whose accesses are a trace below a tick that a run may have, these are the first accesses of each side.
+pub record AreFirst (n : ℕ) (list : List Event) (keep : ℕ) (host para : List Entry) : Type 0 where
+  pub most : n ≤ 1073741824
+  pub trace : IsTraceBelow n (accesses list)
+  pub host_is : host ≡ take keep (accesses (of_side sides.Host list))
+  pub para_is : para ≡ take keep (accesses (of_side sides.Para list))
+
+-- what is taken for nothing but that it is there
+abbrev pub nothing : {X : Type 0} → X → Unit {0}
+nothing x = tt

@@ -1,0 +1,373 @@
+-- What is left of a sequence in each phase of the machine that carries it out.
+use Rattle.std.specs.Prelude.{ℕ, ◌+◌, ◌/◌, ◌%◌, List, [], ◌∷◌, ◌++◌, Bool, true, false, cond, eqb, ◌||◌, Option, Some, None, bit_or, bit_and}
+use Rattle.op_table.specs.declared.Part.{Part}
+use Rattle.op_table.specs.declared.Row.{Row}
+use Rattle.op_table.specs.declared.Mode.TheVariants.{Acc}
+use Rattle.cpu_alu.specs.declared.Regs.{Regs}
+use Rattle.cpu_alu.specs.declared.Cycle.{Cycle}
+use Rattle.cpu_alu.specs.declared.Cycle.TheVariants.{Read, Write}
+use Rattle.cpu_alu.specs.declared.flags.TheConstants.{PUSHED_BY_INTERRUPT, PUSHED_BY_PROGRAM, PULLED}
+use Rattle.cpu_alu.specs.Addresses.{word, wrap, place, stack, with_stack_moved, with_pc_past, crosses_page, target}
+use Rattle.cpu_alu.specs.Instructions.{stored_value, modified_value, pushed_value, takes_branch, read_result, modify_result, implied_result, pull_result}
+use Rattle.cpu_core.specs.declared.Sequence.TheVariants.{Instruction}
+use Rattle.cpu_core.specs.declared.machine.Access.{Access}
+use Rattle.cpu_core.specs.declared.machine.Access.TheVariants.{Load, Store, Change}
+use Rattle.cpu_core.specs.declared.machine.Machine.{Machine}
+use Rattle.cpu_core.specs.declared.machine.Phase.{Phase}
+use Rattle.cpu_core.specs.declared.machine.Phase.TheVariants.{Opcode, Implied, Accumulator, BranchCrossed, ZeroPage, ZeroPageBase, AbsoluteLow, AddressHigh, IndexedLow, IndexedHigh, IndexAdded, Pointer, PointerLow, PointerBase, PointerIndex, PointerIndexedLow, IndexedPointer, IndexedPointerLow, IndexedPointerHigh, Operand, ModifyAgain, ModifyWrite, Decimal, Branch, BranchTaken, JumpLow, JumpHigh, IndirectLow, IndirectHigh, IndirectIndexedLow, IndirectIndexedHigh, IndirectAgain, IndirectTargetLow, Break, InterruptPushHigh, InterruptPushLow, InterruptPushFlags, VectorLow, VectorHigh, InterruptFirst, InterruptSecond, ResetFirst, ResetSecond, ResetThird, ResetFourth, ResetFifth, Return, ReturnStack, ReturnLow, ReturnHigh, ReturnTarget, SpareSecond, SpareLast, Push, PushByte, Pull, PullStack, PullByte, CallLow, CallStack, CallPushHigh, CallPushLow, CallHigh, Resume, ResumeStack, ResumeFlags, ResumeLow, ResumeHigh, Halted, Over}
+use Rattle.cpu_core.specs.Accesses.{byte, by_part, idle, with_low, second, cycle_between, lasts_longer, carry_cycles, last_place, branch_form, through, again}
+use Rattle.cpu_core.specs.Results.{to_vector}
+use Rattle.cpu_core.specs.Sequences.{accesses, result_of}
+
+-- the cycles from that at the operand on, with a its address and m its byte
+abbrev pub at_operand : Part → Access → Row → ℕ → Regs → ℕ → List Cycle
+at_operand part Load row a r m = Read a ∷ cond (lasts_longer part row.mnemonic r) (Read (last_place row.mode r) ∷ []) []
+at_operand part Store row a r m = Write a (stored_value row.mnemonic r) ∷ []
+at_operand part Change row a r m = Read a ∷ cycle_between part a m ∷ Write a (modified_value row.mnemonic r m) ∷ []
+
+-- the registers after it
+abbrev pub after_operand : Part → Access → Row → Regs → ℕ → Regs
+after_operand part Load row r m = read_result part row.mnemonic row.mode (with_pc_past r row.bytes) m
+after_operand part Store row r m = with_pc_past r row.bytes
+after_operand part Change row r m = modify_result row.mnemonic row.mode (with_pc_past r row.bytes) m
+
+-- an indexed form, from the cycle for a carry on
+abbrev pub indexed_cycles : Part → Access → Row → ℕ → Bool → ℕ → ℕ → ℕ → Regs → ℕ → List Cycle
+indexed_cycles part access row x always low high q r m =
+    carry_cycles part always low high x q ++ at_operand part access row (wrap (word low high + x)) r m
+
+-- the operand's byte comes later where there is such a cycle
+abbrev pub pick : Bool → ℕ → ℕ → ℕ → ℕ → ℕ
+pick always low x late early = cond (always || crosses_page low x) late early
+
+-- an interrupt or BRK from its pushes on, of the address pc and the flags p, with its vector at v
+abbrev pub pushes : ℕ → ℕ → ℕ → Regs → List Cycle
+pushes pc p v r =
+    Write (stack r 0) (pc / 256) ∷ Write (stack r 255) (pc % 256) ∷ Write (stack r 254) p ∷ Read v ∷ Read (wrap (v + 1)) ∷ []
+
+abbrev pub goes_to : Regs → ℕ → Regs
+goes_to r to = record r { pc = to }
+
+abbrev pub after_call : Regs → ℕ → Regs
+after_call r to = record (with_stack_moved r 254) { pc = to }
+
+abbrev pub after_return : Regs → ℕ → Regs
+after_return r to = record (with_stack_moved r 2) { pc = wrap (to + 1) }
+
+abbrev pub after_resume : Regs → ℕ → ℕ → Regs
+after_resume r p to = record (with_stack_moved r 3) { pc = to; p = p }
+
+-- the index to be added
+abbrev pub index_of : Machine → ℕ
+index_of m = cond m.start.by_y m.work.y m.work.x
+
+-- the accesses that are left in a phase, f being what will be seen in it and after it
+abbrev pub cycles_left_in : Part → Phase → Machine → List (Option ℕ) → List Cycle
+cycles_left_in part Opcode m f = accesses part Instruction m.work f
+cycles_left_in part Implied m f = Read (place m.work 1) ∷ []
+cycles_left_in part Accumulator m f = Read (place m.work 1) ∷ []
+cycles_left_in part BranchCrossed m f = Read m.at ∷ []
+cycles_left_in part ZeroPage m f = Read (place m.work 1) ∷ at_operand part m.start.access m.row (byte f 0) m.work (byte f 1)
+cycles_left_in part ZeroPageBase m f =
+    Read (place m.work 1) ∷ Read (idle part (byte f 0) (place m.work 1))
+    ∷ at_operand part m.start.access m.row ((byte f 0 + (index_of m)) % 256) m.work (byte f 2)
+cycles_left_in part AbsoluteLow m f =
+    Read (place m.work 1) ∷ Read (place m.work 2)
+    ∷ at_operand part m.start.access m.row (word (byte f 0) (byte f 1)) m.work (byte f 2)
+cycles_left_in part AddressHigh m f = Read m.at ∷ at_operand part m.start.access m.row (word m.low (byte f 0)) m.work (byte f 1)
+cycles_left_in part IndexedLow m f =
+    Read (place m.work 1) ∷ Read (place m.work 2)
+    ∷ indexed_cycles part m.start.access m.row (index_of m) m.start.always (byte f 0) (byte f 1) (place m.work 2) m.work (pick m.start.always (byte f 0) (index_of m) (byte f 3) (byte f 2))
+cycles_left_in part IndexedHigh m f =
+    Read (place m.work 2)
+    ∷ indexed_cycles part m.start.access m.row (index_of m) m.start.always m.low (byte f 0) (place m.work 2) m.work (pick m.start.always m.low (index_of m) (byte f 2) (byte f 1))
+cycles_left_in part IndexAdded m f = Read m.at ∷ at_operand part m.start.access m.row m.to m.work (byte f 1)
+cycles_left_in part Pointer m f =
+    Read (place m.work 1) ∷ Read (byte f 0) ∷ Read ((byte f 0 + 1) % 256)
+    ∷ at_operand part m.start.access m.row (word (byte f 1) (byte f 2)) m.work (byte f 3)
+cycles_left_in part PointerLow m f =
+    Read m.low ∷ Read ((m.low + 1) % 256) ∷ at_operand part m.start.access m.row (word (byte f 0) (byte f 1)) m.work (byte f 2)
+cycles_left_in part PointerBase m f =
+    Read (place m.work 1) ∷ Read (idle part (byte f 0) (place m.work 1)) ∷ Read ((byte f 0 + m.work.x) % 256)
+    ∷ Read ((byte f 0 + m.work.x + 1) % 256)
+    ∷ at_operand part m.start.access m.row (word (byte f 2) (byte f 3)) m.work (byte f 4)
+cycles_left_in part PointerIndex m f =
+    Read m.at ∷ Read ((m.low + m.work.x) % 256) ∷ Read ((m.low + m.work.x + 1) % 256)
+    ∷ at_operand part m.start.access m.row (word (byte f 1) (byte f 2)) m.work (byte f 3)
+cycles_left_in part PointerIndexedLow m f =
+    Read ((m.low + m.work.x) % 256) ∷ Read ((m.low + m.work.x + 1) % 256)
+    ∷ at_operand part m.start.access m.row (word (byte f 0) (byte f 1)) m.work (byte f 2)
+cycles_left_in part IndexedPointer m f =
+    Read (place m.work 1) ∷ Read (byte f 0) ∷ Read ((byte f 0 + 1) % 256)
+    ∷ indexed_cycles part m.start.access m.row m.work.y m.start.always (byte f 1) (byte f 2) (place m.work 1) m.work (pick m.start.always (byte f 1) m.work.y (byte f 4) (byte f 3))
+cycles_left_in part IndexedPointerLow m f =
+    Read m.low ∷ Read ((m.low + 1) % 256)
+    ∷ indexed_cycles part m.start.access m.row m.work.y m.start.always (byte f 0) (byte f 1) (place m.work 1) m.work (pick m.start.always (byte f 0) m.work.y (byte f 3) (byte f 2))
+cycles_left_in part IndexedPointerHigh m f =
+    Read m.at
+    ∷ indexed_cycles part m.start.access m.row m.work.y m.start.always m.low (byte f 0) (place m.work 1) m.work (pick m.start.always m.low m.work.y (byte f 2) (byte f 1))
+cycles_left_in part Operand m f = at_operand part m.start.access m.row m.at m.work (byte f 0)
+cycles_left_in part ModifyAgain m f = cycle_between part m.at m.low ∷ Write m.at (modified_value m.row.mnemonic m.work m.low) ∷ []
+cycles_left_in part ModifyWrite m f = Write m.at m.value ∷ []
+cycles_left_in part Decimal m f = Read m.at ∷ []
+cycles_left_in part Branch m f = branch_form part (takes_branch m.row.mnemonic m.work) m.work (None ∷ f)
+cycles_left_in part BranchTaken m f =
+    Read m.at
+    ∷ cond (eqb (m.to / 256) (place m.work 2 / 256)) [] (Read (idle part (with_low (place m.work 2) m.to) (place m.work 1)) ∷ [])
+cycles_left_in part JumpLow m f = Read (place m.work 1) ∷ Read (place m.work 2) ∷ []
+cycles_left_in part JumpHigh m f = Read m.at ∷ []
+cycles_left_in part IndirectLow m f =
+    Read (place m.work 1) ∷ Read (place m.work 2) ∷ through part (word (byte f 0) (byte f 1)) (place m.work 2)
+cycles_left_in part IndirectHigh m f = Read (place m.work 2) ∷ through part (word m.low (byte f 0)) (place m.work 2)
+cycles_left_in part IndirectIndexedLow m f =
+    Read (place m.work 1) ∷ Read (place m.work 2)
+    ∷ through part (wrap (word (byte f 0) (byte f 1) + m.work.x)) (place m.work 2)
+cycles_left_in part IndirectIndexedHigh m f =
+    Read (place m.work 2) ∷ through part (wrap (word m.low (byte f 0) + m.work.x)) (place m.work 2)
+cycles_left_in part IndirectAgain m f = Read m.at ∷ Read m.to ∷ Read (second part m.to) ∷ []
+cycles_left_in part IndirectTargetLow m f = Read m.to ∷ Read (second part m.to) ∷ []
+cycles_left_in part Break m f =
+    Read (place m.work 1) ∷ Write (stack m.work 0) (place m.work 2 / 256)
+    ∷ Write (stack m.work 255) (place m.work 2 % 256) ∷ Write (stack m.work 254) (bit_or m.work.p PUSHED_BY_PROGRAM)
+    ∷ Read 0xFFFE ∷ Read 0xFFFF ∷ []
+cycles_left_in part InterruptPushHigh m f =
+    Write (stack m.work 0) m.value ∷ Write (stack m.work 255) m.index ∷ Write (stack m.work 254) m.low ∷ Read m.to
+    ∷ Read (wrap (m.to + 1)) ∷ []
+cycles_left_in part InterruptPushLow m f =
+    Write (stack m.work 255) m.index ∷ Write (stack m.work 254) m.low ∷ Read m.to ∷ Read (wrap (m.to + 1)) ∷ []
+cycles_left_in part InterruptPushFlags m f = Write (stack m.work 254) m.low ∷ Read m.to ∷ Read (wrap (m.to + 1)) ∷ []
+cycles_left_in part VectorLow m f = Read m.to ∷ Read (wrap (m.to + 1)) ∷ []
+cycles_left_in part VectorHigh m f = Read m.at ∷ []
+cycles_left_in part InterruptFirst m f =
+    Read m.work.pc ∷ Read m.work.pc ∷ pushes m.work.pc (bit_or m.work.p PUSHED_BY_INTERRUPT) m.to m.work
+cycles_left_in part InterruptSecond m f = Read m.work.pc ∷ pushes m.work.pc (bit_or m.work.p PUSHED_BY_INTERRUPT) m.to m.work
+cycles_left_in part ResetFirst m f =
+    Read m.work.pc ∷ Read m.work.pc ∷ Read (stack m.work 0) ∷ Read (stack m.work 255) ∷ Read (stack m.work 254)
+    ∷ Read 0xFFFC ∷ Read 0xFFFD ∷ []
+cycles_left_in part ResetSecond m f =
+    Read m.work.pc ∷ Read (stack m.work 0) ∷ Read (stack m.work 255) ∷ Read (stack m.work 254) ∷ Read 0xFFFC
+    ∷ Read 0xFFFD ∷ []
+cycles_left_in part ResetThird m f =
+    Read (stack m.work 0) ∷ Read (stack m.work 255) ∷ Read (stack m.work 254) ∷ Read 0xFFFC ∷ Read 0xFFFD ∷ []
+cycles_left_in part ResetFourth m f = Read (stack m.work 255) ∷ Read (stack m.work 254) ∷ Read 0xFFFC ∷ Read 0xFFFD ∷ []
+cycles_left_in part ResetFifth m f = Read (stack m.work 254) ∷ Read 0xFFFC ∷ Read 0xFFFD ∷ []
+cycles_left_in part Return m f =
+    Read (place m.work 1) ∷ Read (stack m.work 0) ∷ Read (stack m.work 1) ∷ Read (stack m.work 2)
+    ∷ Read (word (byte f 2) (byte f 3)) ∷ []
+cycles_left_in part ReturnStack m f =
+    Read (stack m.work 0) ∷ Read (stack m.work 1) ∷ Read (stack m.work 2) ∷ Read (word (byte f 1) (byte f 2)) ∷ []
+cycles_left_in part ReturnLow m f = Read (stack m.work 1) ∷ Read (stack m.work 2) ∷ Read (word (byte f 0) (byte f 1)) ∷ []
+cycles_left_in part ReturnHigh m f = Read (stack m.work 2) ∷ Read (word m.low (byte f 0)) ∷ []
+cycles_left_in part ReturnTarget m f = Read m.at ∷ []
+cycles_left_in part SpareSecond m f = Read (place m.work 1) ∷ Read (place m.work 2) ∷ again m.low (place m.work 2)
+cycles_left_in part SpareLast m f = Read m.at ∷ again m.low m.at
+cycles_left_in part Push m f = Read (place m.work 1) ∷ Write (stack m.work 0) (pushed_value m.row.mnemonic m.work) ∷ []
+cycles_left_in part PushByte m f = Write m.at m.value ∷ []
+cycles_left_in part Pull m f = Read (place m.work 1) ∷ Read (stack m.work 0) ∷ Read (stack m.work 1) ∷ []
+cycles_left_in part PullStack m f = Read (stack m.work 0) ∷ Read (stack m.work 1) ∷ []
+cycles_left_in part PullByte m f = Read (stack m.work 1) ∷ []
+cycles_left_in part CallLow m f =
+    Read (place m.work 1) ∷ Read (stack m.work 0) ∷ Write (stack m.work 0) (place m.work 2 / 256)
+    ∷ Write (stack m.work 255) (place m.work 2 % 256) ∷ Read (place m.work 2) ∷ []
+cycles_left_in part CallStack m f =
+    Read (stack m.work 0) ∷ Write (stack m.work 0) (place m.work 2 / 256)
+    ∷ Write (stack m.work 255) (place m.work 2 % 256) ∷ Read (place m.work 2) ∷ []
+cycles_left_in part CallPushHigh m f =
+    Write (stack m.work 0) (place m.work 2 / 256) ∷ Write (stack m.work 255) (place m.work 2 % 256)
+    ∷ Read (place m.work 2) ∷ []
+cycles_left_in part CallPushLow m f = Write (stack m.work 255) (place m.work 2 % 256) ∷ Read (place m.work 2) ∷ []
+cycles_left_in part CallHigh m f = Read (place m.work 2) ∷ []
+cycles_left_in part Resume m f =
+    Read (place m.work 1) ∷ Read (stack m.work 0) ∷ Read (stack m.work 1) ∷ Read (stack m.work 2)
+    ∷ Read (stack m.work 3) ∷ []
+cycles_left_in part ResumeStack m f =
+    Read (stack m.work 0) ∷ Read (stack m.work 1) ∷ Read (stack m.work 2) ∷ Read (stack m.work 3) ∷ []
+cycles_left_in part ResumeFlags m f = Read (stack m.work 1) ∷ Read (stack m.work 2) ∷ Read (stack m.work 3) ∷ []
+cycles_left_in part ResumeLow m f = Read (stack m.work 2) ∷ Read (stack m.work 3) ∷ []
+cycles_left_in part ResumeHigh m f = Read (stack m.work 3) ∷ []
+cycles_left_in part Halted m f = Read m.at ∷ []
+cycles_left_in part Over m f = []
+
+-- the registers at the end, f being what will be seen in the phase and after it
+abbrev pub outcome_in : Part → Phase → Machine → List (Option ℕ) → Regs
+outcome_in part Opcode m f = result_of part Instruction m.work f
+outcome_in part Implied m f = implied_result m.row.mnemonic (with_pc_past m.work m.row.bytes)
+outcome_in part Accumulator m f = modify_result m.row.mnemonic Acc (with_pc_past m.work m.row.bytes) m.work.a
+outcome_in part BranchCrossed m f = goes_to m.work m.to
+outcome_in part ZeroPage m f = after_operand part m.start.access m.row m.work (byte f 1)
+outcome_in part ZeroPageBase m f = after_operand part m.start.access m.row m.work (byte f 2)
+outcome_in part AbsoluteLow m f = after_operand part m.start.access m.row m.work (byte f 2)
+outcome_in part AddressHigh m f = after_operand part m.start.access m.row m.work (byte f 1)
+outcome_in part IndexedLow m f = after_operand part m.start.access m.row m.work (pick m.start.always (byte f 0) (index_of m) (byte f 3) (byte f 2))
+outcome_in part IndexedHigh m f = after_operand part m.start.access m.row m.work (pick m.start.always m.low (index_of m) (byte f 2) (byte f 1))
+outcome_in part IndexAdded m f = after_operand part m.start.access m.row m.work (byte f 1)
+outcome_in part Pointer m f = after_operand part m.start.access m.row m.work (byte f 3)
+outcome_in part PointerLow m f = after_operand part m.start.access m.row m.work (byte f 2)
+outcome_in part PointerBase m f = after_operand part m.start.access m.row m.work (byte f 4)
+outcome_in part PointerIndex m f = after_operand part m.start.access m.row m.work (byte f 3)
+outcome_in part PointerIndexedLow m f = after_operand part m.start.access m.row m.work (byte f 2)
+outcome_in part IndexedPointer m f = after_operand part m.start.access m.row m.work (pick m.start.always (byte f 1) m.work.y (byte f 4) (byte f 3))
+outcome_in part IndexedPointerLow m f =
+    after_operand part m.start.access m.row m.work (pick m.start.always (byte f 0) m.work.y (byte f 3) (byte f 2))
+outcome_in part IndexedPointerHigh m f = after_operand part m.start.access m.row m.work (pick m.start.always m.low m.work.y (byte f 2) (byte f 1))
+outcome_in part Operand m f = after_operand part m.start.access m.row m.work (byte f 0)
+outcome_in part ModifyAgain m f = after_operand part Change m.row m.work m.low
+outcome_in part ModifyWrite m f = after_operand part Change m.row m.work m.low
+outcome_in part Decimal m f = after_operand part Load m.row m.work m.low
+outcome_in part Branch m f =
+    goes_to m.work (cond (takes_branch m.row.mnemonic m.work) (target m.work (byte f 0)) (place m.work 2))
+outcome_in part BranchTaken m f = goes_to m.work m.to
+outcome_in part JumpLow m f = goes_to m.work (word (byte f 0) (byte f 1))
+outcome_in part JumpHigh m f = goes_to m.work (word m.low (byte f 0))
+outcome_in part IndirectLow m f =
+    goes_to m.work (by_part part (word (byte f 2) (byte f 3)) (word (byte f 3) (byte f 4)))
+outcome_in part IndirectHigh m f =
+    goes_to m.work (by_part part (word (byte f 1) (byte f 2)) (word (byte f 2) (byte f 3)))
+outcome_in part IndirectIndexedLow m f =
+    goes_to m.work (by_part part (word (byte f 2) (byte f 3)) (word (byte f 3) (byte f 4)))
+outcome_in part IndirectIndexedHigh m f =
+    goes_to m.work (by_part part (word (byte f 1) (byte f 2)) (word (byte f 2) (byte f 3)))
+outcome_in part IndirectAgain m f = goes_to m.work (word (byte f 1) (byte f 2))
+outcome_in part IndirectTargetLow m f = goes_to m.work (word (byte f 0) (byte f 1))
+outcome_in part Break m f = to_vector part m.work (byte f 4) (byte f 5)
+outcome_in part InterruptPushHigh m f = to_vector part m.work (byte f 3) (byte f 4)
+outcome_in part InterruptPushLow m f = to_vector part m.work (byte f 2) (byte f 3)
+outcome_in part InterruptPushFlags m f = to_vector part m.work (byte f 1) (byte f 2)
+outcome_in part VectorLow m f = to_vector part m.work (byte f 0) (byte f 1)
+outcome_in part VectorHigh m f = to_vector part m.work m.low (byte f 0)
+outcome_in part InterruptFirst m f = to_vector part m.work (byte f 5) (byte f 6)
+outcome_in part InterruptSecond m f = to_vector part m.work (byte f 4) (byte f 5)
+outcome_in part ResetFirst m f = to_vector part m.work (byte f 5) (byte f 6)
+outcome_in part ResetSecond m f = to_vector part m.work (byte f 4) (byte f 5)
+outcome_in part ResetThird m f = to_vector part m.work (byte f 3) (byte f 4)
+outcome_in part ResetFourth m f = to_vector part m.work (byte f 2) (byte f 3)
+outcome_in part ResetFifth m f = to_vector part m.work (byte f 1) (byte f 2)
+outcome_in part Return m f = after_return m.work (word (byte f 2) (byte f 3))
+outcome_in part ReturnStack m f = after_return m.work (word (byte f 1) (byte f 2))
+outcome_in part ReturnLow m f = after_return m.work (word (byte f 0) (byte f 1))
+outcome_in part ReturnHigh m f = after_return m.work (word m.low (byte f 0))
+outcome_in part ReturnTarget m f = after_return m.work m.at
+outcome_in part SpareSecond m f = implied_result m.row.mnemonic (with_pc_past m.work m.row.bytes)
+outcome_in part SpareLast m f = implied_result m.row.mnemonic (with_pc_past m.work m.row.bytes)
+outcome_in part Push m f = with_stack_moved (with_pc_past m.work m.row.bytes) 255
+outcome_in part PushByte m f = with_stack_moved (with_pc_past m.work m.row.bytes) 255
+outcome_in part Pull m f = pull_result m.row.mnemonic (with_stack_moved (with_pc_past m.work m.row.bytes) 1) (byte f 2)
+outcome_in part PullStack m f = pull_result m.row.mnemonic (with_stack_moved (with_pc_past m.work m.row.bytes) 1) (byte f 1)
+outcome_in part PullByte m f = pull_result m.row.mnemonic (with_stack_moved (with_pc_past m.work m.row.bytes) 1) (byte f 0)
+outcome_in part CallLow m f = after_call m.work (word (byte f 0) (byte f 4))
+outcome_in part CallStack m f = after_call m.work (word m.low (byte f 3))
+outcome_in part CallPushHigh m f = after_call m.work (word m.low (byte f 2))
+outcome_in part CallPushLow m f = after_call m.work (word m.low (byte f 1))
+outcome_in part CallHigh m f = after_call m.work (word m.low (byte f 0))
+outcome_in part Resume m f = after_resume m.work (bit_and (byte f 2) PULLED) (word (byte f 3) (byte f 4))
+outcome_in part ResumeStack m f = after_resume m.work (bit_and (byte f 1) PULLED) (word (byte f 2) (byte f 3))
+outcome_in part ResumeFlags m f = after_resume m.work (bit_and (byte f 0) PULLED) (word (byte f 1) (byte f 2))
+outcome_in part ResumeLow m f = after_resume m.work m.index (word (byte f 0) (byte f 1))
+outcome_in part ResumeHigh m f = after_resume m.work m.index (word m.low (byte f 0))
+outcome_in part Halted m f = m.work
+outcome_in part Over m f = m.work
+
+abbrev pub cycles_left : Part → Machine → List (Option ℕ) → List Cycle
+cycles_left part m f = cycles_left_in part m.phase m f
+
+abbrev pub outcome : Part → Machine → List (Option ℕ) → Regs
+outcome part m f = outcome_in part m.phase m f
+
+-- the access of the cycle in progress
+abbrev pub wants_in : Phase → Machine → Option Cycle
+wants_in Over m = None
+wants_in _ m = Some (cond m.writes (Write m.at m.value) (Read m.at))
+
+abbrev pub wants : Machine → Option Cycle
+wants m = wants_in m.phase m
+
+abbrev pub is_store : Access → Bool
+is_store Store = true
+is_store _ = false
+
+abbrev pub value_by : Access → Machine → ℕ
+value_by Store m = stored_value m.row.mnemonic m.work
+value_by _ m = m.value
+
+-- a cycle that reads, and one that writes
+abbrev pub machine_reading : Machine → Phase → ℕ → Machine
+machine_reading m phase at = record m { phase = phase; at = at; writes = false }
+
+abbrev pub machine_writing : Machine → Phase → ℕ → ℕ → Machine
+machine_writing m phase at value = record m { phase = phase; at = at; writes = true; value = value }
+
+-- the end, with these registers
+abbrev pub machine_at_end : Machine → Regs → Machine
+machine_at_end m r = record m { phase = Over; work = r }
+
+-- the cycle at the operand, whose address is a
+abbrev pub machine_at_operand : Machine → ℕ → Machine
+machine_at_operand m a = record m { phase = Operand; at = a; writes = is_store m.start.access; value = value_by m.start.access m }
+
+-- the cycle that pushes the high byte of pc, before its low byte and the flags with the bits of set
+abbrev pub machine_pushing : Machine → ℕ → ℕ → Machine
+machine_pushing m pc set =
+    machine_writing (record m { index = pc % 256; low = bit_or m.work.p set }) InterruptPushHigh (stack m.work 0) (pc / 256)
+
+-- the first cycle of an instruction
+abbrev pub is_fetch : Phase → Bool
+is_fetch Opcode = true
+is_fetch _ = false
+
+abbrev pub is_stuck : Phase → Bool
+is_stuck Halted = true
+is_stuck _ = false
+
+-- whether a phase is not one of the most frequent
+abbrev pub is_later : Phase → Bool
+is_later Opcode = false
+is_later Operand = false
+is_later ZeroPage = false
+is_later AbsoluteLow = false
+is_later AddressHigh = false
+is_later Implied = false
+is_later Branch = false
+is_later BranchTaken = false
+is_later IndexedLow = false
+is_later IndexedHigh = false
+is_later IndexAdded = false
+is_later _ = true
+
+-- nor one of the next frequent
+abbrev pub is_rare : Phase → Bool
+is_rare Opcode = false
+is_rare Operand = false
+is_rare ZeroPage = false
+is_rare AbsoluteLow = false
+is_rare AddressHigh = false
+is_rare Implied = false
+is_rare Branch = false
+is_rare BranchTaken = false
+is_rare IndexedLow = false
+is_rare IndexedHigh = false
+is_rare IndexAdded = false
+is_rare Push = false
+is_rare PushByte = false
+is_rare Pull = false
+is_rare PullStack = false
+is_rare PullByte = false
+is_rare Accumulator = false
+is_rare CallLow = false
+is_rare CallStack = false
+is_rare CallPushHigh = false
+is_rare CallPushLow = false
+is_rare CallHigh = false
+is_rare Return = false
+is_rare ReturnStack = false
+is_rare ReturnLow = false
+is_rare ReturnHigh = false
+is_rare ReturnTarget = false
+is_rare JumpLow = false
+is_rare JumpHigh = false
+is_rare IndexedPointer = false
+is_rare IndexedPointerLow = false
+is_rare IndexedPointerHigh = false
+is_rare ModifyAgain = false
+is_rare ModifyWrite = false
+is_rare ZeroPageBase = false
+is_rare _ = true

@@ -1,0 +1,30 @@
+-- A side at work, and one turn of it at the chip.
+use Rattle.std.specs.Prelude.{ℕ, ◌≡◌, ◌+◌, Some, List, length}
+use Rattle.beeb_bits.specs.declared.Side.{Side}
+use Rattle.tube_chip.specs.State.{State}
+use Rattle.tube_chip.specs.Act.{Query, act}
+use Rattle.tube_trace.specs.declared.Entry.{Entry}
+use Rattle.tube_trace.specs.Entries.{entry_of}
+use Rattle.tube_party.specs.declared.log.Log.{Log}
+use Rattle.tube_party.specs.Moves.{Moves}
+use Rattle.tube_party.specs.Turn.{note_all_leaves}
+
+-- A side at work: the state of its party, the chip, what is kept of its accesses, and how many there were.
+pub record Desk (S : Type 0) : Type 0 where
+  pub state : S
+  pub chip : State
+  pub list : List Entry
+  pub count : ℕ
+
+-- that of a party in this state, with this log
+abbrev pub desk : {S : Type 0} → S → State → Log → Desk S
+desk s c log = record { state = s; chip = c; list = log.list.items; count = log.count }
+
+-- The step that asks was done at the chip.
+pub record Acts {S : Type 0} (m : Moves S) (side : Side) (keep : ℕ) (old new : Desk S) : Type 0 where
+  pub query : Query
+  pub asks : m.asks old.state ≡ Some query
+  pub state_is : new.state ≡ m.next old.state (Some (act old.chip side query).1)
+  pub chip_is : new.chip ≡ (act old.chip side query).0
+  pub list_is : new.list ≡ note_all_leaves keep old.list (entry_of (m.due old.state) side query (act old.chip side query).1)
+  pub count_is : new.count ≡ old.count + length (entry_of (m.due old.state) side query (act old.chip side query).1)
