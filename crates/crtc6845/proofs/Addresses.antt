@@ -80,7 +80,7 @@ clocked_based r c regs bits based =
     counted_by (start_leaves c) (ends_line (start_leaves c)) (omega arith) (started_based c based)
 
 -- what is shown is in no line of adjust
-last_true : (a b d : Bool) → (a && b && d) ≡ true → d ≡ true
+pub last_true : (a b d : Bool) → (a && b && d) ≡ true → d ≡ true
 last_true true true d h = h
 last_true true false d h = absurd (true≢false (sym h))
 last_true false b d h = absurd (true≢false (sym h))
@@ -89,7 +89,7 @@ none_by : (a : Option ℕ) → is_none a ≡ true → a ≡ None
 none_by None h = refl
 none_by (Some a) h = absurd (true≢false (sym h))
 
-shown_none : (c : State) → is_shown (start_leaves c) ≡ true → c.adjust ≡ None
+pub shown_none : (c : State) → is_shown (start_leaves c) ≡ true → c.adjust ≡ None
 shown_none c h =
     let k = start_leaves-kept c in
     let s = start_leaves c in

@@ -32,7 +32,7 @@ steps_of r step last lines s z n small even end before =
       small = omega arith;
     }
 
-steps_by : (b : Bool) (r : Registers) → is_interlaced r ≡ b → r.maximum_raster < 32 → Steps r
+pub steps_by : (b : Bool) (r : Registers) → is_interlaced r ≡ b → r.maximum_raster < 32 → Steps r
 steps_by true r e h =
     let m = r.maximum_raster in
     steps_of r 2 (m - m % 2) ((m - m % 2) / 2 + 1) (ap (λ (b : Bool). if b then 2 else 1) e) (ap (λ (b : Bool). if b then m - m % 2 else m) e)
@@ -219,10 +219,10 @@ pub record IsClock (r : Registers) (l h : ℕ) (c : State) : Type 0 where
   pub lines : l < frame_lines r
   pub line : IsAt r l c
 
-inner_is : (d : State) → ends_line d ≡ false → count_leaves d ≡ record d { character = (d.character + 1) % 256 }
+pub inner_is : (d : State) → ends_line d ≡ false → count_leaves d ≡ record d { character = (d.character + 1) % 256 }
 inner_is d h = rw h refl
 
-last_is : (d : State) → ends_line d ≡ true → count_leaves d ≡ line_ended d
+pub last_is : (d : State) → ends_line d ≡ true → count_leaves d ≡ line_ended d
 last_is d h = rw h refl
 
 -- a clock is the last of the frame, or leads to the next

@@ -6,3 +6,8 @@ pub mod Sync
 pub mod Addresses
 pub mod SyncHeight
 pub mod Rest
+pub mod Rests
+pub mod Calm
+pub mod CalmClocks
+pub mod Spans
+pub mod ShownAddresses

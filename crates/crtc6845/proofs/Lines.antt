@@ -41,7 +41,7 @@ adjust_left_by : (p : Bool) (line : ℕ) (c : State) → LineLeft c (if p then f
 adjust_left_by true line c = record { character = refl; registers = refl }
 adjust_left_by false line c = record { character = refl; registers = refl }
 
-line_left_in : (adjust : Option ℕ) (c : State) → LineLeft c (line_ended_in adjust c)
+pub line_left_in : (adjust : Option ℕ) (c : State) → LineLeft c (line_ended_in adjust c)
 line_left_in None c = left_by (are_rows_done c) (is_row_done c) (c.registers.vertical_adjust == 0) c
 line_left_in (Some line) c = adjust_left_by ((line + 1) % 32 == c.registers.vertical_adjust) line c
 

@@ -11,7 +11,7 @@ last_by None c s f = refl
 last_by (Some line) c s f = refl
 
 -- it says nothing of vertical sync
-rests_by : (c : State) (s f : ℕ) → is_quiet (record c { sync_lines = s; fields = f }) ≡ is_quiet c
+pub rests_by : (c : State) (s f : ℕ) → is_quiet (record c { sync_lines = s; fields = f }) ≡ is_quiet c
 rests_by c s f =
     ap (λ last.
     starts_line c && ends_line c && c.registers.horizontal_displayed == 0 && c.row == 0 && c.raster == 0 && is_none c.adjust && last

@@ -99,7 +99,7 @@ begins_tells r l h c has at =
     (λ e. same ∙ known.0 e, λ e. same ∙ known.1 e)
 
 -- what the start of a line leaves of the lines of sync
-start_by : (c : State) (p q : Bool) → starts_line c ≡ p → begins_sync (sync_counted c) ≡ q →
+pub start_by : (c : State) (p q : Bool) → starts_line c ≡ p → begins_sync (sync_counted c) ≡ q →
     start_leaves c ≡ (if p then (if q then sync_begun (sync_counted c) else sync_counted c) else c)
 start_by c p q e f =
     ap (λ (x : Bool). if x then line_started c else c) e ∙ ap (λ (x : Bool). if p then (if x then sync_begun (sync_counted c) else sync_counted c) else c) f

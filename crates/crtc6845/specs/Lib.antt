@@ -4,3 +4,7 @@ pub mod Clock
 pub mod Laws
 pub mod CodeSteps
 pub mod Pictures
+pub mod Calm
+pub mod Rests
+pub mod Spans
+pub mod Windows

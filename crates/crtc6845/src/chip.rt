@@ -12,20 +12,20 @@ use std::marker::Model;
 
 #[derive(Drop)]
 pub(crate) struct Chip {
-    selected: u8,
-    registers: Registers,
+    pub(crate) selected: u8,
+    pub(crate) registers: Registers,
     // Which character of the line comes next, in which row of the frame, and on which raster of the row.
-    character: u8,
-    row: u8,
-    raster: u8,
+    pub(crate) character: u8,
+    pub(crate) row: u8,
+    pub(crate) raster: u8,
     // The address of the row's first character.
-    base: u16,
+    pub(crate) base: u16,
     // Which of the lines after the rows it is, if it is one.
-    adjust: Option<u8>,
+    pub(crate) adjust: Option<u8>,
     // The lines of vertical sync that are left.
-    sync_lines: u8,
+    pub(crate) sync_lines: u8,
     // How often vertical sync began.
-    fields: u32,
+    pub(crate) fields: u32,
 }
 
 impl Model for Chip {
@@ -216,7 +216,7 @@ impl Chip {
     }
 
     #[inline(always)]
-    fn starts_line(&self) -> bool
+    pub(crate) fn starts_line(&self) -> bool
         ensures { result ≡ starts_line self.now }
     {
         self.character == 0
@@ -270,7 +270,7 @@ impl Chip {
     }
 
     #[inline(always)]
-    fn is_shown(&self) -> bool
+    pub(crate) fn is_shown(&self) -> bool
         ensures { result ≡ is_shown self.now }
     {
         self.character < self.registers.horizontal_displayed
@@ -279,14 +279,14 @@ impl Chip {
     }
 
     #[inline(always)]
-    fn address(&self) -> u16
+    pub(crate) fn address(&self) -> u16
         ensures { result ≡ address self.now }
     {
         (self.base + u16::from(self.character)) % 16384
     }
 
     #[inline(always)]
-    fn has_cursor(&self) -> bool
+    pub(crate) fn has_cursor(&self) -> bool
         ensures { result ≡ has_cursor self.now }
     {
         self.is_shown() && self.address() == self.registers.cursor_address() && self.cursor_is_on()
@@ -294,7 +294,7 @@ impl Chip {
 
     // The cursor is on this raster, and blinks on.
     #[inline(never)]
-    fn cursor_is_on(&self) -> bool
+    pub(crate) fn cursor_is_on(&self) -> bool
         ensures { result ≡ cursor_is_on self.now }
     {
         self.registers.cursor_start % 32 <= self.raster
@@ -303,7 +303,7 @@ impl Chip {
     }
 
     #[inline(always)]
-    fn ends_line(&self) -> bool
+    pub(crate) fn ends_line(&self) -> bool
         ensures { result ≡ ends_line self.now }
     {
         self.character == self.registers.horizontal_total

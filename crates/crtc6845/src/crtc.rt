@@ -1,12 +1,17 @@
 //! The chip, with a short way for where it is quiet.
-ghost use Rattle.std.specs.Prelude.{◌≡◌, ◌||◌, false, true};
+ghost use Rattle.std.specs.Prelude.{ℕ, ◌==◌, if◌then◌else◌, ◌≡◌, ◌+◌, ◌%◌, ◌<◌, ◌≤◌, ◌||◌, false, true};
 ghost use Rattle.crtc6845.specs.State.{power_on};
 ghost use Rattle.crtc6845.specs.Registers.{select_leaves, set_leaves, answer_of};
 ghost use Rattle.crtc6845.specs.Clock.{starts_line, sync_counted, clock_leaves, ends_line, beam_of, is_in_sync};
+ghost use Rattle.crtc6845.specs.Calm.{StaysInSync};
 ghost use Rattle.crtc6845.specs.CodeSteps.{is_quiet, quiet_beam};
+ghost use Rattle.crtc6845.specs.Laws.{clocks};
+ghost use Rattle.crtc6845.specs.Windows.{ShowsWindows};
+ghost use Rattle.crtc6845.specs.Rests.{frames_in, clocks_past_frame};
+ghost use Rattle.crtc6845.specs.Spans.{inside_clocks, TellsSpan};
 
-use crate::Beam;
 use crate::chip::Chip;
+use crate::{Beam, Finished, Span, Windows};
 use std::marker::Model;
 
 /// A 6845.
@@ -132,6 +137,62 @@ impl Crtc {
         ensures rest { is_quiet self.new ≡ true }
     {
         self.chip.clock_within_sync()
+    }
+
+    /// A number of character clocks for which vertical sync surely stays what it is.
+    pub fn calm(&self) -> u64
+        ensures { StaysInSync result self.now }
+    {
+        if self.quiet {
+            self.chip.calm_at_rest()
+        } else {
+            self.chip.calm()
+        }
+    }
+
+    /// Does `n` character clocks where `is_quiet` is true, and tells what they finish.
+    pub fn rest(&mut self, n: u64) -> Finished
+        requires { is_quiet self.old ≡ true }
+        ensures state { self.new ≡ clocks n self.old }
+        ensures frames { result.frames ≡ frames_in n self.old }
+        ensures past { result.past ≡ clocks_past_frame n 0 self.old }
+        ensures from { (y : ℕ) → clocks_past_frame n y self.old ≡ (if result.frames == 0 then y + n else result.past) }
+        ensures rest { is_quiet self.new ≡ true }
+    {
+        self.chip.rest(n)
+    }
+
+    /// The characters that come, all of them inside the line and alike, where `is_edge` is false. Where they are shown, they lie in one block
+    /// of 1,024 addresses.
+    #[inline(always)]
+    pub fn span(&self) -> Span
+        requires start { starts_line self.now ≡ false }
+        requires end { ends_line self.now ≡ false }
+        ensures some { 0 < result.clocks }
+        ensures inside { result.clocks ≤ inside_clocks self.now }
+        ensures told { TellsSpan result self.now }
+        ensures page { result.shown ≡ true → result.ma % 1024 + result.clocks ≤ 1024 }
+    {
+        self.chip.span()
+    }
+
+    /// Does so many character clocks inside the line, as `span` tells them.
+    #[inline(always)]
+    pub fn pass(&mut self, n: u16)
+        requires start { starts_line self.old ≡ false }
+        requires inside { n ≤ inside_clocks self.old }
+        ensures { self.new ≡ clocks n self.old }
+    {
+        self.chip.pass(n);
+    }
+
+    /// The addresses that are shown from now on, until a register is written.
+    pub fn windows(&self) -> Windows
+        ensures shown { ShowsWindows result.base result.count result.start result.frame self.now }
+        ensures base { result.base < 16384 }
+        ensures start { result.start < 16384 }
+    {
+        self.chip.windows()
     }
 
     /// Each character is known to be a whole frame of which nothing is shown, until a register is written.

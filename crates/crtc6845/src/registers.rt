@@ -3,6 +3,8 @@ ghost use Rattle.std.specs.Prelude.{◌≡◌, ◌≤◌, ◌<◌};
 ghost use Rattle.crtc6845.specs.State.{power_on};
 ghost use Rattle.crtc6845.specs.Registers.{start_address, cursor_address, write_leaves};
 ghost use Rattle.crtc6845.specs.Clock.{sync_height, raster_step, last_raster, is_interlaced};
+ghost use Rattle.crtc6845.specs.Windows.{shown_count};
+ghost use Rattle.crtc6845.specs.Laws.{line_characters, row_lines, HaveTheirBits};
 
 use beeb_bits::bit;
 use std::marker::Model;
@@ -52,7 +54,9 @@ impl Model for Registers {
       cursor_low = r.cursor % 256;
     } };
 
-    ghost invariant = { λ r. (r.vertical_total < 128) × (r.start_high < 64) × (r.cursor < 16384) };
+    ghost invariant = { λ r.
+        (r.vertical_total < 128) × (r.vertical_adjust < 32) × (r.vertical_sync_position < 128)
+        × (r.maximum_raster < 32) × (r.start_high < 64) × (r.cursor < 16384) };
 }
 
 impl Registers {
@@ -133,7 +137,8 @@ impl Registers {
 
     /// How many lines vertical sync has.
     pub(crate) fn sync_height(&self) -> u8
-        ensures { result ≡ sync_height self.now }
+        ensures value { result ≡ sync_height self.now }
+        ensures bound { (1 ≤ result) × (result ≤ 16) }
     {
         if self.sync_widths / 16 == 0 {
             16
@@ -165,5 +170,44 @@ impl Registers {
         } else {
             self.maximum_raster
         }
+    }
+
+    /// The lines of a row.
+    pub(crate) fn row_lines(&self) -> u64
+        ensures value { result ≡ row_lines self.now }
+        ensures bound { result ≤ 256 }
+    {
+        u64::from(self.last_raster() / self.raster_step()) + 1
+    }
+
+    /// The characters of a line.
+    pub(crate) fn line_characters(&self) -> u64
+        ensures value { result ≡ line_characters self.now }
+        ensures bound { result ≤ 256 }
+        ensures bits { HaveTheirBits self.now }
+        ensures row { self.now.vertical_sync_position < 128 }
+    {
+        u64::from(self.horizontal_total) + 1
+    }
+
+    /// R0.
+    #[inline(always)]
+    pub(crate) fn total(&self) -> u16
+        ensures value { result ≡ self.now.horizontal_total }
+        ensures bound { result < 256 }
+        ensures bits { HaveTheirBits self.now }
+        ensures row { self.now.vertical_sync_position < 128 }
+        ensures cursor { cursor_address self.now < 16384 }
+    {
+        u16::from(self.horizontal_total)
+    }
+
+    /// The characters that are shown of a frame from this row on, of the rows that it has.
+    pub(crate) fn shown_count(&self, first: u8) -> u16
+        ensures value { result ≡ shown_count self.now first }
+        ensures bits { HaveTheirBits self.now }
+    {
+        let rows = self.vertical_displayed.min(self.vertical_total + 1);
+        u16::from(rows.saturating_sub(first)) * u16::from(self.horizontal_displayed)
     }
 }

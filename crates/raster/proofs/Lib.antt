@@ -4,3 +4,4 @@ pub mod Runs
 pub mod Eights
 pub mod Told
 pub mod Quiet
+pub mod ReadBytes

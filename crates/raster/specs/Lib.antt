@@ -6,3 +6,4 @@ pub mod Clock
 pub mod Lending
 pub mod CodeSteps
 pub mod CodeQuiet
+pub mod Reads

@@ -2,6 +2,7 @@
 ghost use Rattle.std.specs.Prelude.{◌≡◌, ◌<◌, true};
 ghost use Rattle.raster.specs.Beam.{IsScreenSize, byte_address, cursor_past, is_marked};
 ghost use Rattle.raster.specs.State.{first_cursor};
+ghost use Rattle.raster.specs.Reads.{IsLowest};
 
 use beeb_bits::bit;
 use std::marker::Model;
@@ -20,6 +21,33 @@ pub(crate) fn byte_address(ma: u16, ra: u8, size: u16) -> usize
         let at = ma % 0x2000 * 8 + u16::from(ra % 8);
         let at = if at >= 0x8000 { at - size } else { at };
         usize::from(at % 0x8000)
+    }
+}
+
+/// An address of the RAM below which nothing is shown of so many characters from one on.
+pub(crate) fn lowest_of(base: u16, count: u16, size: u16) -> u16
+    requires base { base < 16384 }
+    requires size { IsScreenSize size }
+    ensures { IsLowest result base count size }
+{
+    let end = u32::from(base) + u32::from(count);
+    if count == 0 {
+        0x8000
+    } else if base >= 0x2000 && end <= 0x4000 {
+        // Bit 11 is set in all of them, or it is not known.
+        if base / 0x800 % 2 == 1 && (end - 1) / 0x800 == u32::from(base / 0x800) {
+            0x7c00
+        } else {
+            0x3c00
+        }
+    } else if end > 0x2000 || 8 * end > 0x8000 + u32::from(size) {
+        0
+    } else if end <= 0x1000 {
+        8 * base
+    } else if base >= 0x1000 {
+        (8 * u32::from(base) - u32::from(size)) as u16
+    } else {
+        (8 * base).min(0x8000 - size)
     }
 }
 

@@ -4,10 +4,12 @@
 mod beam;
 mod canvas;
 mod frame;
+mod law;
 mod place;
 mod raster;
 mod screen;
 mod text;
 
 pub use frame::Frame;
+pub use law::{reads_go_on, stores_below_are_unseen};
 pub use raster::Raster;

@@ -5,7 +5,11 @@ ghost use Rattle.raster.specs.Beam.{IsScreenSize};
 ghost use Rattle.raster.specs.State.{power_on};
 ghost use Rattle.raster.specs.Lending.{LendsCrtc, LendsUla};
 ghost use Rattle.raster.specs.Clock.{char_clock_leaves, microsecond, microseconds, vsync_of};
+ghost use Rattle.beeb_bits.specs.Bits.{bit};
+ghost use Rattle.crtc6845.specs.Calm.{StaysInSync as CrtcStaysInSync};
+ghost use Rattle.raster.specs.Reads.{ReadsFrom, StaysInSync};
 
+use crate::beam::lowest_of;
 use crate::frame::Frame;
 use crate::screen::Screen;
 use beeb_bits::{NoMemory, bit};
@@ -140,5 +144,36 @@ impl Raster {
         for _ in 0..n {
             self.step(ram, size, font);
         }
+    }
+
+    /// A number of microseconds for which vertical sync surely stays what it is.
+    pub fn calm(&self) -> u64
+        ensures { StaysInSync result self.now }
+    {
+        let calm = self.calm_clocks();
+        if self.is_fast() { calm / 2 } else { calm }
+    }
+
+    fn calm_clocks(&self) -> u64
+        ensures { CrtcStaysInSync result self.now.crtc }
+    {
+        self.screen.crtc.calm()
+    }
+
+    fn is_fast(&self) -> bool
+        ensures { result ≡ bit self.now.ula.control 4 }
+    {
+        bit(self.screen.ula.mode(), 4)
+    }
+
+    /// An address of the RAM below which nothing is read from now on, until a register is written. `size` is as at `char_clock`.
+    pub fn lowest(&self, size: u16) -> u16
+        requires { IsScreenSize size }
+        ensures { ReadsFrom result size self.now }
+    {
+        let shown = self.screen.crtc.windows();
+        let now = lowest_of(shown.base, shown.count, size);
+        let next = lowest_of(shown.start, shown.frame, size);
+        if now < next { now } else { next }
     }
 }

@@ -3,3 +3,7 @@ pub mod Counting
 pub mod Timer1Lemmas
 pub mod OneShotLemmas
 pub mod Quietly
+pub mod CountDown
+pub mod FreeRun
+pub mod Jumps
+pub mod Calm

@@ -30,7 +30,7 @@ stays_off true sets h = refl
 stays_off false sets h = h
 
 -- the edges of lines that go to these levels
-edges_to : Levels → State → State
+pub edges_to : Levels → State → State
 edges_to l c = record c {
   flags = record c.flags {
     ca1 = c.flags.ca1 || is_edge (bit c.pcr 0) c.levels.ca1 l.ca1;
@@ -41,11 +41,11 @@ edges_to l c = record c {
   levels = l;
 }
 
-edges_by_levels : (p : Pins) (c : State) → edges_seen p c ≡ edges_to (levels_of p) c
+pub edges_by_levels : (p : Pins) (c : State) → edges_seen p c ≡ edges_to (levels_of p) c
 unfolding edges_to
 edges_by_levels p c = refl
 
-no_edges : (c : State) → edges_to c.levels c ≡ c
+pub no_edges : (c : State) → edges_to c.levels c ≡ c
 unfolding edges_to
 no_edges c =
     rw (
@@ -69,12 +69,12 @@ unset1 : (free : Bool) (n : ℕ) (t : Timer1) → 0 < n → t.counter + n < 6553
 unset1 free n t some small loaded = rw (loaded, on t.counter n some small) refl
 
 counted2 : (acr n : ℕ) (t : Timer2) (still : Bool) → bit acr 5 ≡ still → 0 < n → (bit acr 5 ≡ false → t.counter + n < 65536) → (bit acr 5 ≡ false → t.fresh ≡ false) →
-    timer2_after (bit acr 5) (timer2_ahead acr n t) ≡ timer2_ahead acr (n - 1) t
+    timer2_after (bit acr 5) (timer2_ahead (bit acr 5) n t) ≡ timer2_ahead (bit acr 5) (n - 1) t
 counted2 acr n t true e some small begun = rw e refl
 counted2 acr n t false e some small begun = rw (e, begun e, on t.counter n some (small e), less t.counter n some (small e)) refl
 
 unset2 : (acr n : ℕ) (t : Timer2) (still : Bool) → bit acr 5 ≡ still → 0 < n → (bit acr 5 ≡ false → t.counter + n < 65536) → (bit acr 5 ≡ false → t.fresh ≡ false) →
-    timer2_flags (bit acr 5) (timer2_ahead acr n t) ≡ false
+    timer2_flags (bit acr 5) (timer2_ahead (bit acr 5) n t) ≡ false
 unset2 acr n t true e some small begun = rw e refl
 unset2 acr n t false e some small begun = rw (e, begun e, on t.counter n some (small e)) refl
 

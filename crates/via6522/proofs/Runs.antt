@@ -9,7 +9,7 @@ unfolding steps
 no_steps pins c = refl
 
 -- n + 1 steps are n steps and one more
-step_behind : (pins : Pins) (n : ℕ) (c : State) → steps pins (suc n) c ≡ step pins (steps pins n c)
+pub step_behind : (pins : Pins) (n : ℕ) (c : State) → steps pins (suc n) c ≡ step pins (steps pins n c)
 unfolding steps
 step_behind pins zero c = refl
 step_behind pins (suc n) c = step_behind pins n (step pins c)

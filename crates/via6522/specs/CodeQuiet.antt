@@ -1,6 +1,6 @@
 -- What the quick body of a step keeps beside what contracts see: how many steps come in which both timers do nothing but count down, and
 -- the chip as it is behind them.
-use Rattle.std.specs.Prelude.{ℕ, ◌+◌, ◌≡◌, ◌<◌, ◌≤◌, false, if◌then◌else◌}
+use Rattle.std.specs.Prelude.{ℕ, ◌+◌, ◌≡◌, ◌<◌, ◌≤◌, Bool, false, if◌then◌else◌}
 use Rattle.beeb_bits.specs.Bits.{bit}
 use Rattle.via6522.specs.declared.Pins.{Pins}
 use Rattle.via6522.specs.State.{State, Timer1, Timer2, Levels}
@@ -16,13 +16,13 @@ pins_with lines = record { a = 0; b = 0; ca1 = bit lines 0; ca2 = bit lines 1; c
 abbrev pub timer1_ahead : ℕ → Timer1 → Timer1
 timer1_ahead n t = record t { counter = t.counter + n }
 
--- timer 2 counts where ACR bit 5 is clear
-abbrev pub timer2_ahead : ℕ → ℕ → Timer2 → Timer2
-timer2_ahead acr n t = if bit acr 5 then t else record t { counter = t.counter + n }
+-- timer 2 stands still where ACR bit 5 is set
+abbrev pub timer2_ahead : Bool → ℕ → Timer2 → Timer2
+timer2_ahead still n t = if still then t else record t { counter = t.counter + n }
 
 -- the chip n quiet steps before
 abbrev pub ahead : ℕ → State → State
-ahead n c = record c { timer1 = timer1_ahead n c.timer1; timer2 = timer2_ahead c.acr n c.timer2 }
+ahead n c = record c { timer1 = timer1_ahead n c.timer1; timer2 = timer2_ahead (bit c.acr 5) n c.timer2 }
 
 -- the chip's next n steps are quiet
 pub record NextAreQuiet (n : ℕ) (c : State) : Type 0 where

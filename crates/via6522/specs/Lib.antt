@@ -5,3 +5,4 @@ pub mod Registers
 pub mod Step
 pub mod Laws
 pub mod CodeQuiet
+pub mod Jumps

@@ -2,9 +2,10 @@
 ghost use Rattle.std.specs.Prelude.{◌≡◌, ◌<◌};
 ghost use Rattle.beeb_bits.specs.Bits.{bit};
 ghost use Rattle.via6522.specs.State.{power_on};
-ghost use Rattle.via6522.specs.CodeQuiet.{levels_in, pins_with};
+ghost use Rattle.via6522.specs.CodeQuiet.{levels_in, pins_with, ahead, IsQuiet};
 ghost use Rattle.via6522.specs.Registers.{port, out_a, out_b, asks, answer_of, port_a_noticed, port_b_noticed, enabled_by, read_leaves, write_leaves};
 ghost use Rattle.via6522.specs.Step.{edges_seen, step};
+ghost use Rattle.via6522.specs.Jumps.{timers_later, Timer1IsCalm, Timer2IsCalm};
 
 use crate::Pins;
 use crate::causes::Causes;
@@ -108,6 +109,46 @@ impl Chip {
         self.flags.timer1 = self.flags.timer1 || timer1;
         self.flags.timer2 = self.flags.timer2 || timer2;
         self.see_edges(lines);
+    }
+
+    /// Does `n` steps, at least one, where the control lines have these levels.
+    pub(crate) fn advance(&mut self, lines: u8, n: u64)
+        ensures { self.new ≡ edges_seen (pins_with lines) (timers_later n self.old) }
+    {
+        let timer1 = self.timer1.advance(bit(self.acr, 6), n);
+        let timer2 = self.timer2.advance(bit(self.acr, 5), n);
+        self.flags.timer1 = self.flags.timer1 || timer1;
+        self.flags.timer2 = self.flags.timer2 || timer2;
+        self.see_edges(lines);
+    }
+
+    /// A number of steps from `quiet` quiet steps before that surely set no timer's flag that is enabled.
+    pub(crate) fn calm(&self, quiet: u16) -> u64
+        requires { IsQuiet quiet self.now }
+        ensures timer1 { Timer1IsCalm result (ahead quiet self.now) }
+        ensures timer2 { Timer2IsCalm result (ahead quiet self.now) }
+    {
+        self.timer1_calm(quiet).min(self.timer2_calm(quiet))
+    }
+
+    fn timer1_calm(&self, quiet: u16) -> u64
+        requires { IsQuiet quiet self.now }
+        ensures { Timer1IsCalm result (ahead quiet self.now) }
+    {
+        if !self.enabled.timer1 {
+            return u64::MAX;
+        }
+        self.timer1.calm(bit(self.acr, 6), quiet)
+    }
+
+    fn timer2_calm(&self, quiet: u16) -> u64
+        requires { IsQuiet quiet self.now }
+        ensures { Timer2IsCalm result (ahead quiet self.now) }
+    {
+        if !self.enabled.timer2 {
+            return u64::MAX;
+        }
+        self.timer2.calm(bit(self.acr, 5), quiet)
     }
 
     // An active edge of a control line since the step before sets its flag.

@@ -1,6 +1,8 @@
 //! Timer 1.
-ghost use Rattle.std.specs.Prelude.{◌≡◌};
+ghost use Rattle.std.specs.Prelude.{◌≡◌, ◌<◌, ◌+◌, false, true};
 ghost use Rattle.via6522.specs.Timers.{word, timer1_after, timer1_flags, timer1_started};
+ghost use Rattle.via6522.specs.Jumps.{timer1_at_end, timer1_later, timer1_flags_within, Timer1SetsNoFlag};
+ghost use Rattle.via6522.specs.CodeQuiet.{timer1_ahead};
 
 use std::marker::Model;
 
@@ -58,6 +60,73 @@ impl Timer1 {
         let was_armed = self.armed;
         self.armed = false;
         was_armed
+    }
+
+    /// Does `n` steps, and answers whether one of them sets the flag.
+    pub(crate) fn advance(&mut self, runs_free: bool, n: u64) -> bool
+        ensures timer { self.new ≡ timer1_later runs_free n self.old }
+        ensures flag { result ≡ timer1_flags_within runs_free n self.old }
+    {
+        if n == 0 {
+            return false;
+        }
+        if self.reload {
+            self.counter = word(self.latch_high, self.latch_low);
+            self.reload = false;
+            return self.count(runs_free, n - 1);
+        }
+        self.count(runs_free, n)
+    }
+
+    // The same where the next step counts.
+    fn count(&mut self, runs_free: bool, n: u64) -> bool
+        requires { self.old.reload ≡ false }
+        ensures timer { self.new ≡ timer1_later runs_free n self.old }
+        ensures flag { result ≡ timer1_flags_within runs_free n self.old }
+    {
+        let counter = u64::from(self.counter);
+        if n <= counter {
+            self.counter -= n as u16;
+            return false;
+        }
+        if runs_free {
+            self.run_on(n - counter - 1);
+            return true;
+        }
+        self.counter = self.counter.wrapping_sub((n % 65_536) as u16);
+        let was_armed = self.armed;
+        self.armed = false;
+        was_armed
+    }
+
+    // Running free, `n` steps after one that set the flag.
+    fn run_on(&mut self, n: u64)
+        ensures { self.new ≡ timer1_later true n (timer1_at_end self.old) }
+    {
+        let latch = u64::from(word(self.latch_high, self.latch_low));
+        let phase = n % (latch + 2);
+        if phase == 0 {
+            self.counter = 0xffff;
+            self.reload = true;
+        } else {
+            self.counter = (latch + 1 - phase) as u16;
+            self.reload = false;
+        }
+    }
+
+    /// A number of steps that surely do not set the flag, from `quiet` quiet steps before.
+    pub(crate) fn calm(&self, runs_free: bool, quiet: u16) -> u64
+        requires within { self.now.counter + quiet < 65536 }
+        requires loaded { 0 < quiet → self.now.reload ≡ false }
+        ensures { Timer1SetsNoFlag runs_free result (timer1_ahead quiet self.now) }
+    {
+        if !runs_free && !self.armed {
+            return u64::MAX;
+        }
+        if self.reload {
+            return u64::from(word(self.latch_high, self.latch_low)) + 1;
+        }
+        u64::from(self.counter) + u64::from(quiet)
     }
 
     /// A write of the counter's high byte.

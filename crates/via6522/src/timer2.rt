@@ -1,6 +1,8 @@
 //! Timer 2.
-ghost use Rattle.std.specs.Prelude.{◌≡◌};
+ghost use Rattle.std.specs.Prelude.{◌≡◌, ◌<◌, ◌+◌, false};
 ghost use Rattle.via6522.specs.Timers.{timer2_after, timer2_flags, timer2_started};
+ghost use Rattle.via6522.specs.CodeQuiet.{timer2_ahead};
+ghost use Rattle.via6522.specs.Jumps.{timer2_later, timer2_flags_within, Timer2SetsNoFlag};
 
 use crate::timer1::word;
 use std::marker::Model;
@@ -43,6 +45,54 @@ impl Timer2 {
         let was_armed = self.armed;
         self.armed = false;
         was_armed
+    }
+
+    /// Does `n` steps, unless the timer stands still, and answers whether one of them sets the flag.
+    pub(crate) fn advance(&mut self, stands_still: bool, n: u64) -> bool
+        ensures timer { self.new ≡ timer2_later stands_still n self.old }
+        ensures flag { result ≡ timer2_flags_within stands_still n self.old }
+    {
+        if stands_still {
+            return false;
+        }
+        if n == 0 {
+            return false;
+        }
+        if self.fresh {
+            self.fresh = false;
+            return self.count(n - 1);
+        }
+        self.count(n)
+    }
+
+    // The same where the next step counts.
+    fn count(&mut self, n: u64) -> bool
+        requires { self.old.fresh ≡ false }
+        ensures timer { self.new ≡ timer2_later false n self.old }
+        ensures flag { result ≡ timer2_flags_within false n self.old }
+    {
+        if n <= u64::from(self.counter) {
+            self.counter -= n as u16;
+            return false;
+        }
+        self.counter = self.counter.wrapping_sub((n % 65_536) as u16);
+        let fires = self.armed;
+        self.armed = false;
+        fires
+    }
+
+    /// A number of steps that surely do not set the flag, from `quiet` quiet steps before.
+    pub(crate) fn calm(&self, stands_still: bool, quiet: u16) -> u64
+        requires { stands_still ≡ false → self.now.counter + quiet < 65536 }
+        ensures { Timer2SetsNoFlag stands_still result (timer2_ahead stands_still quiet self.now) }
+    {
+        if stands_still {
+            return u64::MAX;
+        }
+        if !self.armed {
+            return u64::MAX;
+        }
+        u64::from(self.counter) + u64::from(quiet)
     }
 
     /// A write of the counter's high byte.

@@ -2,8 +2,9 @@
 ghost use Rattle.std.specs.Prelude.{◌≡◌, ◌<◌};
 ghost use Rattle.via6522.specs.State.{power_on};
 ghost use Rattle.via6522.specs.Registers.{out_a, out_b, asks, answer_of, read_leaves, write_leaves};
-ghost use Rattle.via6522.specs.Step.{step, steps};
+ghost use Rattle.via6522.specs.Step.{step, steps, edges_seen};
 ghost use Rattle.via6522.specs.CodeQuiet.{pins_with};
+ghost use Rattle.via6522.specs.Jumps.{timers_later, AsksAlike};
 
 use crate::Pins;
 use crate::chip::Chip;
@@ -72,12 +73,42 @@ impl Via {
     }
 
     /// Does `n` steps with the same pins.
+    #[inline(always)]
     pub fn advance(&mut self, pins: Pins, n: u64)
         ensures { self.new ≡ steps pins n self.old }
     {
-        for _ in 0..n {
-            self.step(pins);
+        let lines = lines_of(pins);
+        if n <= u64::from(self.quiet) && lines == self.chip.lines() {
+            self.quiet -= n as u16;
+        } else if n > 0 {
+            self.advance_in_full(lines, n);
         }
+    }
+
+    // Steps in which a line changes, or a timer does more than count.
+    #[cold]
+    #[inline(never)]
+    fn advance_in_full(&mut self, lines: u8, n: u64)
+        ensures { self.new ≡ edges_seen (pins_with lines) (timers_later n self.old) }
+    {
+        self.chip.unwind(self.quiet);
+        self.chip.advance(lines, n);
+        self.quiet = self.chip.wind();
+        self.is_asking = self.chip.irq();
+    }
+
+    /// A number of steps with these pins in which it surely asks for an interrupt as it does now.
+    #[inline(always)]
+    pub fn calm(&self, pins: Pins) -> u64
+        ensures { AsksAlike pins result self.now }
+    {
+        if self.is_asking {
+            return u64::MAX;
+        }
+        if lines_of(pins) != self.chip.lines() {
+            return 0;
+        }
+        self.chip.calm(self.quiet)
     }
 
     /// The byte of a register, 0 to F, and what reading it does to the flags.

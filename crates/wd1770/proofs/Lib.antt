@@ -1,3 +1,4 @@
 pub mod Runs
 pub mod Turning
 pub mod Histories
+pub mod Passing

@@ -23,7 +23,7 @@ no_rise true x y = refl
 no_rise false x y = refl
 
 -- where the line stays nothing is counted
-stays : (s : State) → count_leaves (is_asking s) s ≡ s
+pub stays : (s : State) → count_leaves (is_asking s) s ≡ s
 stays s = ap (λ (n : ℕ). record s { nmis = n }) (no_rise (is_asking s) _ s.nmis)
 
 idle_step : (s : State) → s.command ≡ Idle → step s ≡ record s { angle = Some (next_angle s.angle); motor = s.motor - 1 }

@@ -1,9 +1,9 @@
 -- Steps at which nothing comes but that the discs turn and time passes.
-use Rattle.std.specs.Prelude.{ℕ, ◌+◌, ◌-◌, ◌%◌, ◌==◌, min, Option, None, Some, if◌then◌else◌}
+use Rattle.std.specs.Prelude.{ℕ, ◌+◌, ◌-◌, ◌*◌, ◌%◌, ◌==◌, ◌≡◌, ◌≤◌, min, nat_lt, Option, None, Some, if◌then◌else◌}
 use Rattle.wd1770.specs.declared.command.Command.{Command}
 use Rattle.wd1770.specs.declared.command.Command.TheVariants.{Idle, Moving, Settling, Searching, Transferring, SeekingAddress, GivingAddress, Refusing}
 use Rattle.wd1770.specs.State.{State}
-use Rattle.wd1770.specs.Step.{next_angle}
+use Rattle.wd1770.specs.Step.{next_angle, steps}
 
 -- the angle n steps later
 abbrev pub angle_later : ℕ → Option ℕ → Option ℕ
@@ -37,14 +37,32 @@ abbrev pub steps_between : Option ℕ → ℕ
 steps_between None = 0
 steps_between (Some angle) = 63 - angle % 64
 
--- A number of steps at which nothing comes: before the end of a command's time, and before the next place for one that looks for a
--- sector or is at one.
-abbrev pub quiet_steps : Command → Option ℕ → ℕ
-quiet_steps Idle angle = 0xFFFFFFFF
-quiet_steps (Moving m left) angle = left - 1
-quiet_steps (Settling t left) angle = left - 1
-quiet_steps (Searching t left) angle = min (left - 1) (steps_between angle)
-quiet_steps (Transferring t k) angle = steps_between angle
-quiet_steps (SeekingAddress target left) angle = min (left - 1) (steps_between angle)
-quiet_steps (GivingAddress target k) angle = steps_between angle
-quiet_steps Refusing angle = 0
+-- How many steps there are before the angle passes at which a sector begins. That of a sector behind the turn's end
+-- never does.
+abbrev pub steps_before : Option ℕ → ℕ → ℕ
+steps_before None k = 0
+steps_before (Some angle) k =
+    if nat_lt (64 * (312 * k)) 200000 then (64 * (312 * k) + 199999 - angle % 200000) % 200000 else 0xFFFFFFFF
+
+-- A number of steps at which nothing comes: before the end of a command's time, before the angle of the sector
+-- register's sector for a search, and before the next place for a command that is at a sector or looks for any.
+abbrev pub quiet_steps : Command → Option ℕ → ℕ → ℕ
+quiet_steps Idle angle sector = 0xFFFFFFFF
+quiet_steps (Moving m left) angle sector = left - 1
+quiet_steps (Settling t left) angle sector = left - 1
+quiet_steps (Searching t left) angle sector = min (left - 1) (steps_before angle sector)
+quiet_steps (Transferring t k) angle sector = steps_between angle
+quiet_steps (SeekingAddress target left) angle sector = min (left - 1) (steps_between angle)
+quiet_steps (GivingAddress target k) angle sector = steps_between angle
+quiet_steps Refusing angle sector = 0
+
+-- After each number of steps up to n all is as it is now, but for the angle, the waiting of the command, and the
+-- motor's time.
+abbrev pub RestsFor : ℕ → State → Type 0
+RestsFor n s =
+    (m : ℕ) → m ≤ n →
+    steps m s ≡ record s {
+      angle = (steps m s).angle;
+      command = (steps m s).command;
+      motor = (steps m s).motor;
+    }

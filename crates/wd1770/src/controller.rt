@@ -2,7 +2,7 @@
 ghost use Rattle.std.specs.Prelude.{◌≡◌, ◌≤◌, ◌<◌, ◌==◌, if◌then◌else◌, nat_lt, None, Some, MatchOption};
 ghost use Rattle.wd1770.specs.State.{power_on};
 ghost use Rattle.wd1770.specs.Select.{drive_of, with_drive, disc_in, head_selected, target_selected, disc_of};
-ghost use Rattle.wd1770.specs.Ends.{is_motor_on, end_leaves, finish_leaves, not_found, is_asking, count_leaves};
+ghost use Rattle.wd1770.specs.Ends.{is_busy, is_motor_on, end_leaves, finish_leaves, not_found, is_asking, count_leaves};
 ghost use Rattle.wd1770.specs.Sectors.{is_on_disc, byte_on_disc};
 ghost use Rattle.wd1770.specs.Commands.{command_of, begin_leaves, force_leaves, command_written, stop_leaves, latch_leaves};
 ghost use Rattle.wd1770.specs.Registers.{weight, angle_shown, status, answer_of, register_read, register_written, read_leaves, write_leaves};
@@ -207,11 +207,18 @@ impl Controller {
         if self.type_one {
             (
                 self.head_selected() == 0,
-                angle_shown(angle_later(n, self.angle)) < INDEX_END,
+                angle_shown(angle_later(u64::from(n), self.angle)) < INDEX_END,
             )
         } else {
             (self.lost_data, self.drq)
         }
+    }
+
+    /// A command is in progress.
+    pub(crate) fn is_busy(&self) -> bool
+        ensures { result ≡ is_busy (self.now).command }
+    {
+        self.command.is_busy()
     }
 
     fn is_motor_on(&self, n: u32) -> bool

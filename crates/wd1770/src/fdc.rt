@@ -1,10 +1,12 @@
 //! The controller as it is driven: the steps at which nothing comes are only counted.
-ghost use Rattle.std.specs.Prelude.{◌≡◌, ◌≤◌, ◌<◌, None, Some, MatchOption};
+ghost use Rattle.std.specs.Prelude.{ℕ, ◌≡◌, ◌≤◌, ◌<◌, false, None, Some, MatchOption};
 ghost use Rattle.wd1770.specs.State.{power_on};
 ghost use Rattle.wd1770.specs.Select.{disc_of};
 ghost use Rattle.wd1770.specs.Commands.{latch_leaves};
 ghost use Rattle.wd1770.specs.Registers.{answer_of, read_leaves, write_leaves};
 ghost use Rattle.wd1770.specs.Step.{step, steps};
+ghost use Rattle.wd1770.specs.Ends.{is_busy};
+ghost use Rattle.wd1770.specs.CodeQuiet.{RestsFor};
 
 use crate::controller::Controller;
 use disc_image::Disc;
@@ -29,7 +31,9 @@ impl Model for Fdc {
 
     ghost view = { λ f. later f.past f.controller };
 
-    ghost invariant = { λ f. (f.past ≤ f.quiet) × (f.quiet ≤ quiet_steps f.controller.command f.controller.angle) };
+    ghost invariant = { λ f.
+        (f.past ≤ f.quiet)
+        × (f.quiet ≤ quiet_steps f.controller.command f.controller.angle f.controller.sector) };
 }
 
 impl Fdc {
@@ -48,7 +52,7 @@ impl Fdc {
     pub fn latch(&mut self, v: u8)
         ensures { self.new ≡ latch_leaves v self.old }
     {
-        self.controller.pass(self.past);
+        self.controller.pass(u64::from(self.past));
         self.controller.latch(v);
         self.past = 0;
         self.quiet = self.controller.quiet_steps();
@@ -68,7 +72,7 @@ impl Fdc {
         requires { reg < 4 }
         ensures { self.new ≡ write_leaves reg v self.old }
     {
-        self.controller.pass(self.past);
+        self.controller.pass(u64::from(self.past));
         self.controller.write(reg, v);
         self.past = 0;
         self.quiet = self.controller.quiet_steps();
@@ -91,19 +95,73 @@ impl Fdc {
     fn work(&mut self)
         ensures { self.new ≡ step self.old }
     {
-        self.controller.pass(self.past);
+        self.controller.pass(u64::from(self.past));
         self.controller.step();
         self.past = 0;
         self.quiet = self.controller.quiet_steps();
     }
 
     /// Does `n` steps.
+    #[inline(always)]
     pub fn advance(&mut self, n: u64)
         ensures { self.new ≡ steps n self.old }
     {
-        for _ in 0..n {
-            self.step();
+        if n <= u64::from(self.quiet - self.past) {
+            self.past += n as u32;
+        } else {
+            self.work_on(n);
         }
+    }
+
+    // Steps at some of which something may come.
+    #[inline(never)]
+    fn work_on(&mut self, n: u64)
+        ensures { self.new ≡ steps n self.old }
+    {
+        let mut left = n;
+        while left > 0 {
+            left = self.go_on(left);
+        }
+    }
+
+    // Does some of `n` steps, and answers how many are left.
+    fn go_on(&mut self, n: u64) -> u64
+        requires { 0 < n }
+        ensures fewer { result < n }
+        ensures rest { steps result self.new ≡ steps n self.old }
+    {
+        if !self.controller.is_busy() {
+            self.rest(n);
+            return 0;
+        }
+        let quiet = u64::from(self.quiet - self.past);
+        if n <= quiet {
+            self.past += n as u32;
+            return 0;
+        }
+        self.past = self.quiet;
+        self.work();
+        n - quiet - 1
+    }
+
+    // Does `n` steps with no command in progress.
+    fn rest(&mut self, n: u64)
+        requires { is_busy self.old.command ≡ false }
+        ensures { self.new ≡ steps n self.old }
+    {
+        self.controller.pass(u64::from(self.past));
+        self.controller.pass(n);
+        self.past = 0;
+        self.quiet = self.controller.quiet_steps();
+    }
+
+    /// A number of steps in which surely nothing but the discs' angle and times of waiting changes.
+    #[inline(always)]
+    pub fn calm(&self) -> u64
+        ensures rest { RestsFor result self.now }
+        ensures nmis { (m : ℕ) → m ≤ result → (steps m self.now).nmis ≡ self.now.nmis }
+    {
+        u64::from(self.quiet - self.past)
     }
 
     /// DRQ: a byte is to be read or written.

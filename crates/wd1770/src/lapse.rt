@@ -1,20 +1,31 @@
 //! Steps at which nothing comes but that the discs turn and time passes.
-ghost use Rattle.std.specs.Prelude.{◌≡◌, ◌≤◌, ◌<◌};
-ghost use Rattle.wd1770.specs.CodeQuiet.{angle_later, command_later, motor_later, later, steps_between, quiet_steps};
+ghost use Rattle.std.specs.Prelude.{◌≡◌, ◌≤◌, ◌<◌, ◌-◌};
+ghost use Rattle.wd1770.specs.CodeQuiet.{angle_later, command_later, motor_later, later, steps_between, steps_before, quiet_steps};
 
 use crate::command::Command;
 use crate::controller::{Controller, TURN_TIME, next_angle};
-use crate::sectors::PLACE_TIME;
+use crate::sectors::{PLACE_TIME, SECTOR_PLACES};
 
 /// The angle `n` steps later.
-pub(crate) fn angle_later(n: u32, angle: Option<u32>) -> Option<u32>
+pub(crate) fn angle_later(n: u64, angle: Option<u32>) -> Option<u32>
     ensures { result ≡ angle_later n angle }
 {
     if n == 0 {
         return angle;
     }
-    let turned = u64::from(next_angle(angle)) + u64::from(n - 1);
+    let turned = u64::from(next_angle(angle)) + (n - 1) % u64::from(TURN_TIME);
     Some((turned % u64::from(TURN_TIME)) as u32)
+}
+
+/// What is left of a time after `n` steps.
+fn less(time: u32, n: u64) -> u32
+    ensures { result ≡ time - n }
+{
+    if n < u64::from(time) {
+        time - n as u32
+    } else {
+        0
+    }
 }
 
 /// How many steps there are before the next place passes.
@@ -27,23 +38,33 @@ fn steps_between(angle: Option<u32>) -> u32
     }
 }
 
+/// How many steps there are before the angle passes at which a sector begins.
+fn steps_before(angle: Option<u32>, sector: u8) -> u32
+    ensures { result ≡ steps_before angle sector }
+{
+    let place = PLACE_TIME * (SECTOR_PLACES * u32::from(sector));
+    match angle {
+        None => 0,
+        Some(angle) => {
+            if place < TURN_TIME {
+                (place + (TURN_TIME - 1) - angle % TURN_TIME) % TURN_TIME
+            } else {
+                u32::MAX
+            }
+        }
+    }
+}
+
 impl Command {
     /// The command `n` steps later, where nothing came.
-    fn later(self, n: u32) -> Command
+    fn later(self, n: u64) -> Command
         ensures { result ≡ command_later n self }
     {
         match self {
-            Command::Moving(motion, left) => Command::Moving(motion, left.saturating_sub(n)),
-            Command::Settling(transfer, left) => Command::Settling(
-                transfer,
-                left.saturating_sub(n),
-            ),
-            Command::Searching(transfer, left) => {
-                Command::Searching(transfer, left.saturating_sub(n))
-            }
-            Command::SeekingAddress(target, left) => {
-                Command::SeekingAddress(target, left.saturating_sub(n))
-            }
+            Command::Moving(motion, left) => Command::Moving(motion, less(left, n)),
+            Command::Settling(transfer, left) => Command::Settling(transfer, less(left, n)),
+            Command::Searching(transfer, left) => Command::Searching(transfer, less(left, n)),
+            Command::SeekingAddress(target, left) => Command::SeekingAddress(target, less(left, n)),
             Command::Idle
             | Command::Transferring(..)
             | Command::GivingAddress(..)
@@ -52,26 +73,25 @@ impl Command {
     }
 
     /// The motor's time `n` steps later.
-    fn motor_later(self, n: u32, motor: u32) -> u32
+    fn motor_later(self, n: u64, motor: u32) -> u32
         ensures { result ≡ motor_later n self motor }
     {
         if self.is_busy() {
             motor
         } else {
-            motor.saturating_sub(n)
+            less(motor, n)
         }
     }
 
     /// A number of steps at which nothing comes.
-    fn quiet_steps(self, angle: Option<u32>) -> u32
-        ensures { result ≡ quiet_steps self angle }
+    fn quiet_steps(self, angle: Option<u32>, sector: u8) -> u32
+        ensures { result ≡ quiet_steps self angle sector }
     {
         match self {
             Command::Idle => u32::MAX,
             Command::Moving(_, left) | Command::Settling(_, left) => left.saturating_sub(1),
-            Command::Searching(_, left) | Command::SeekingAddress(_, left) => {
-                left.saturating_sub(1).min(steps_between(angle))
-            }
+            Command::Searching(_, left) => left.saturating_sub(1).min(steps_before(angle, sector)),
+            Command::SeekingAddress(_, left) => left.saturating_sub(1).min(steps_between(angle)),
             Command::Transferring(..) | Command::GivingAddress(..) => steps_between(angle),
             Command::Refusing => 0,
         }
@@ -80,7 +100,7 @@ impl Command {
 
 impl Controller {
     /// Does `n` steps at which nothing comes.
-    pub(crate) fn pass(&mut self, n: u32)
+    pub(crate) fn pass(&mut self, n: u64)
         ensures { self.new ≡ later n self.old }
     {
         self.angle = angle_later(n, self.angle);
@@ -90,8 +110,8 @@ impl Controller {
 
     /// A number of steps from here on at which nothing comes.
     pub(crate) fn quiet_steps(&self) -> u32
-        ensures { result ≡ quiet_steps (self.now).command (self.now).angle }
+        ensures { result ≡ quiet_steps (self.now).command (self.now).angle (self.now).sector }
     {
-        self.command.quiet_steps(self.angle)
+        self.command.quiet_steps(self.angle, self.sector)
     }
 }

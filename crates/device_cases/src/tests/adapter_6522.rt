@@ -120,3 +120,32 @@ fn steps_at_once_are_steps_one_by_one(rt: HostRuntime) {
         );
     }
 }
+
+#[test]
+fn a_million_million_steps_cost_what_one_costs(rt: HostRuntime) {
+    let mut via = Via::new();
+    for (reg, v) in [(0xb, 0x40), (4, 5), (5, 0)] {
+        via.write(reg, v);
+    }
+    via.advance(HIGH, 1_000_000_000_000);
+    assert_eq!(rt; via.read(0xd, HIGH), 0x40);
+    assert_eq!(rt; via.read(4, HIGH), 5);
+    assert_eq!(rt; via.read(8, HIGH), 0);
+    assert_eq!(rt; via.read(9, HIGH), 0xf0);
+}
+
+#[test]
+fn it_asks_as_before_through_calm_steps(rt: HostRuntime) {
+    let mut via = Via::new();
+    for (reg, v) in [(0xe, 0xc0), (4, 0x10), (5, 0x27)] {
+        via.write(reg, v);
+    }
+    via.step(HIGH);
+    let calm = via.calm(HIGH);
+    assert_eq!(rt; calm, 0x2710);
+    via.advance(HIGH, calm);
+    assert!(rt; !via.irq());
+    via.step(HIGH);
+    assert!(rt; via.irq());
+    assert_eq!(rt; via.calm(HIGH), u64::MAX);
+}

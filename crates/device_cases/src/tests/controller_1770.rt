@@ -151,3 +151,25 @@ fn there_are_two_drives(rt: HostRuntime) -> Result<(), Fail> {
     assert_eq!(rt; has, [false, true, false]);
     Ok(())
 }
+
+#[test]
+fn steps_with_no_command_are_done_at_once(rt: HostRuntime) {
+    let mut fdc = Fdc::new(None, None);
+    fdc.latch(0x29);
+    fdc.write(0, 0);
+    fdc.advance(1_000_000_100_000);
+    assert_eq!(rt; fdc.read(0), 4);
+}
+
+#[test]
+fn a_search_is_calm_up_to_its_sector(rt: HostRuntime) -> Result<(), Fail> {
+    let mut fdc = Fdc::new(disc(rt.alloc(), Kind::Ssd, 204_800)?, None);
+    fdc.latch(0x29);
+    fdc.advance(1);
+    fdc.write(2, 5);
+    fdc.write(0, 0x80);
+    assert_eq!(rt; fdc.calm(), 99_839);
+    fdc.advance(99_840);
+    assert_eq!(rt; fdc.nmis(), 0);
+    Ok(())
+}

@@ -1,8 +1,8 @@
 //! Whole frames, counted character by character, beside a computation from the registers.
 use crtc6845::{
-    Beam, Crtc, frames_have_their_clocks, lines_have_their_characters, no_sync_beyond_the_rows,
-    shown_addresses_count, sync_comes_in_each_line, vertical_sync_comes_in_each_frame,
-    vertical_sync_has_its_lines,
+    Beam, Crtc, Finished, Windows, frames_have_their_clocks, lines_have_their_characters,
+    no_sync_beyond_the_rows, shown_addresses_count, sync_comes_in_each_line,
+    vertical_sync_comes_in_each_frame, vertical_sync_has_its_lines,
 };
 use std::process::Abort;
 
@@ -240,6 +240,134 @@ fn a_quiet_chip_comes_by_short_ways_to_the_same_beam(rt: HostRuntime) {
     }
     assert_eq!(rt; (within, anew), (45, 3));
     assert_eq!(rt; short.clock(), crtc.clock());
+}
+
+#[test]
+fn vertical_sync_stays_as_long_as_it_is_calm(rt: HostRuntime) {
+    for registers in &SCREENS {
+        let (clocks, want) = computed(registers);
+        let mut crtc = chip(registers);
+        for _ in 0..3u8 {
+            count(&mut crtc, clocks);
+        }
+        let width = u32::from(registers[0]) + 1;
+        // Where R7 is above R4 no sync comes, and `before` is 0.
+        let before = want.sync_line.wrapping_mul(width);
+        assert!(rt; crtc.calm() >= u64::from(before), "{registers:?}");
+        if want.frame_ends == 1 {
+            count(&mut crtc, before);
+            assert_eq!(rt; crtc.calm(), 0, "{registers:?}");
+            assert!(rt; crtc.clock().frame_end, "{registers:?}");
+            let within = want.vsync_lines.wrapping_mul(width);
+            assert_eq!(rt;
+                crtc.calm(),
+                u64::from(within.wrapping_sub(1)),
+                "{registers:?}"
+            );
+        }
+    }
+}
+
+#[test]
+fn a_chip_at_rest_does_many_clocks_at_once(rt: HostRuntime) {
+    // Vertical sync has sixteen lines of one character, and the clock before these was the first of them.
+    for n in [0, 1, 15, 16, 17, 31, 32, 100, 1_000_000_000_000u64] {
+        let mut crtc = Crtc::new();
+        crtc.clock();
+        if crtc.is_quiet() {
+            assert_eq!(rt; crtc.calm(), u64::MAX);
+            let want = Finished {
+                frames: n / 16,
+                past: n % 16,
+            };
+            assert_eq!(rt; crtc.rest(n), want);
+            assert_eq!(rt; crtc.clock().frame_end, n % 16 == 15);
+        }
+    }
+    // With R7 above R4 it ends, and begins no more.
+    let mut crtc = Crtc::new();
+    crtc.select(7);
+    crtc.clock();
+    crtc.set(1);
+    crtc.clock();
+    assert!(rt; crtc.is_quiet() && crtc.vsync());
+    assert_eq!(rt; crtc.calm(), 14);
+    if crtc.is_quiet() {
+        assert_eq!(rt;
+            crtc.rest(99),
+            Finished {
+                frames: 0,
+                past: 99
+            }
+        );
+    }
+    assert!(rt; !crtc.vsync());
+    assert_eq!(rt; crtc.calm(), u64::MAX);
+}
+
+/// Does a line, and answers how long its spans are.
+fn spans(crtc: &mut Crtc) -> [u16; 5] {
+    let mut spans = [0; 5];
+    crtc.clock();
+    for n in 0..5usize {
+        if !crtc.is_edge() {
+            let span = crtc.span();
+            spans[n] = span.clocks;
+            crtc.pass(span.clocks);
+        }
+    }
+    crtc.clock();
+    spans
+}
+
+#[test]
+fn a_line_has_few_spans(rt: HostRuntime) {
+    // A screen of those above, how many lines come first, and the spans from the second character on: those that are shown, up to and from
+    // the cursor or the next 1,024 addresses, those up to horizontal sync, and those from there to the last but one.
+    let rows: [(usize, u32, [u16; 5]); 7] = [
+        (0, 0, [79, 18, 29, 0, 0]),
+        (0, 15, [79, 18, 29, 0, 0]),
+        (0, 48, [31, 48, 18, 29, 0]),
+        (1, 0, [39, 9, 14, 0, 0]),
+        (2, 0, [39, 11, 12, 0, 0]),
+        (3, 0, [1, 1, 1, 0, 0]),
+        (5, 0, [6, 2, 0, 0, 0]),
+    ];
+    for (screen, lines, want) in rows {
+        if screen < 8 {
+            let registers = SCREENS[screen];
+            let (clocks, _) = computed(&registers);
+            let mut crtc = chip(&registers);
+            for _ in 0..3u8 {
+                count(&mut crtc, clocks);
+            }
+            for _ in 0..lines {
+                spans(&mut crtc);
+            }
+            assert_eq!(rt; spans(&mut crtc), want, "{screen} {lines}");
+        }
+    }
+}
+
+#[test]
+fn a_frame_shows_its_rows(rt: HostRuntime) {
+    // Rows that are over, and what is left of the frame and what the next will show.
+    let rows = [(0, 0x0b00, 1_280), (5, 0x0bc8, 1_080), (32, 0x1000, 0)];
+    for (over, base, count_now) in rows {
+        let (clocks, _) = computed(&SCREENS[1]);
+        let mut crtc = chip(&SCREENS[1]);
+        for _ in 0..3u8 {
+            count(&mut crtc, clocks);
+        }
+        count(&mut crtc, over * 512);
+        let want = Windows {
+            base,
+            count: count_now,
+            start: 0x0b00,
+            frame: 1_280,
+        };
+        assert_eq!(rt; crtc.windows(), want, "{over}");
+    }
 }
 
 #[test]

@@ -1,7 +1,7 @@
 //! Finished frames, with the BBC Micro's registers of the 6845.
 ghost use Rattle.raster.specs.Beam.{IsScreenSize};
 
-use raster::{Frame, Raster};
+use raster::{Frame, Raster, reads_go_on, stores_below_are_unseen};
 use rom_set::RomSet;
 use std::alloc::Global;
 use std::process::Abort;
@@ -383,6 +383,62 @@ fn agree_after(alloc: Global, control: u8, clocks: u8) -> Result<bool, Fail> {
 fn microseconds_at_once_are_microseconds_one_by_one(rt: HostRuntime) -> Result<(), Fail> {
     for (control, clocks) in [(0x00, 1), (0x10, 2)] {
         assert!(rt; agree_after(rt.alloc(), control, clocks)?, "{control}");
+    }
+    Ok(())
+}
+
+#[test]
+fn vertical_sync_stays_as_long_as_it_is_calm(rt: HostRuntime) -> Result<(), Fail> {
+    // The control byte, and the microseconds before sync begins, while it is on, and before it begins again.
+    for (control, before, on, off) in [(0x00, 17_408, 127, 19_839), (0x10, 8_704, 63, 9_919)] {
+        let mut scene = Scene::make(rt.alloc(), &GRAPHICS, control)?;
+        assert_eq!(rt; scene.raster.calm(), before);
+        scene.advance(16, before);
+        assert!(rt;
+            !scene.raster.vsync() && scene.raster.calm() == 0,
+            "{control}"
+        );
+        scene.advance(16, 1);
+        assert!(rt;
+            scene.raster.vsync() && scene.raster.calm() == on,
+            "{control}"
+        );
+        scene.advance(16, on + 1);
+        assert!(rt;
+            !scene.raster.vsync() && scene.raster.calm() == off,
+            "{control}"
+        );
+    }
+    Ok(())
+}
+
+#[test]
+fn nothing_below_the_lowest_byte_is_read(rt: HostRuntime) -> Result<(), Fail> {
+    reads_go_on();
+    stores_below_are_unseen();
+    // R12 and R13, the characters of a row, of which there are 32, the screen's kilobytes, and the lowest byte.
+    let rows: [(u8, u8, u8, u8, u16); 8] = [
+        (0x0b, 0x00, 40, 10, 0x5800),
+        // Scrolled by a row, so that the last row wraps.
+        (0x0b, 0x28, 40, 10, 0x5800),
+        (0x06, 0x00, 80, 20, 0x3000),
+        (0x0f, 0x00, 8, 8, 0x7800),
+        // Teletext in either kilobyte.
+        (0x28, 0x00, 40, 16, 0x7c00),
+        (0x20, 0x00, 40, 16, 0x3c00),
+        (0x00, 0x00, 40, 16, 0x0000),
+        // From bit-mapped addresses to those of teletext.
+        (0x1f, 0x00, 40, 10, 0x0000),
+    ];
+    for (high, low, columns, kilobytes, want) in rows {
+        let registers = changed(&GRAPHICS, &[(1, columns), (12, high), (13, low)]);
+        let mut scene = Scene::make(rt.alloc(), &registers, 0x08)?;
+        scene.advance(kilobytes, FRAMES);
+        assert_eq!(rt;
+            scene.raster.lowest(screen_size(kilobytes)),
+            want,
+            "{high} {low}"
+        );
     }
     Ok(())
 }

@@ -1,15 +1,11 @@
-use Rattle.std.proofs.Common.{◌≡◌, ◌∙◌, sym, ap, arith}
-use Rattle.wd1770.specs.Step.{step, steps}
-use Rattle.wd1770.proofs.Runs.{no_steps, one_step_more}
+use Rattle.std.proofs.Common.{◌∙◌, sym, ap, arith, ◌+◌, ◌≤◌}
+use Rattle.wd1770.specs.Step.{steps}
+use Rattle.wd1770.specs.CodeQuiet.{quiet_steps}
+use Rattle.wd1770.proofs.Passing.{quiet_many}
 use Rattle.wd1770.proofs.fdc.Fdc.advance.Goals as goal
 
-pub loop-init : goal.loop-init
-loop-init c = sym (no_steps c.args.self.now)
-
-pub loop-preserved : goal.loop-preserved
-loop-preserved c = c.step.ensures ∙ ap step c.loop.invariant ∙ sym (one_step_more c.loop.counter c.args.self.now)
-
-pub returns : goal.returns
-returns c =
-    let all : c.loop.counter ≡ c.args.n = omega arith in
-    c.loop.invariant ∙ ap (λ n. steps n c.args.self.now) all
+pub returns-then-n-from : goal.returns-then-n-from
+returns-then-n-from c =
+    let inside : c.self.inside.past + c.args.n ≤ quiet_steps (c.self.inside.controller).command (c.self.inside.controller).angle (c.self.inside.controller).sector =
+    omega (arith, c.from.ensures, c.self.invariant.0, c.self.invariant.1) in
+    sym (quiet_many c.args.n c.self.inside.past c.self.inside.controller inside) ∙ ap (steps c.args.n) c.self.view_is
