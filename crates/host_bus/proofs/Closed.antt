@@ -7,12 +7,13 @@ use Rattle.keyboard.specs.Keys.{Keys}
 use Rattle.host_bus.specs.Devices.{Devices, keys_at, microsecond, last_frame}
 use Rattle.host_bus.specs.Shots.{shot_at}
 use Rattle.host_bus.specs.Board.{BoardState, Around, Moving, around, moving_part, closed_with, beat, tick, ticks, board_closed}
-use Rattle.host_bus.specs.CodeBoard.{board_seen, IsSound}
+use Rattle.host_bus.specs.CodeBoard.{board_seen, IsValid}
 use Rattle.host_bus.specs.CodePlayback.{IsPlayed, IsOnTime}
 use Rattle.host_bus.specs.Closing.{board-again}
 use Rattle.host_bus.specs.declared.board.Board.TheInside.{Inside}
 use Rattle.host_bus.specs.declared.playback.Playback.{Playback}
 use Rattle.host_bus.proofs.Beats.{apart}
+use Rattle.host_bus.proofs.Heard.{in-time-later}
 use Rattle.host_bus.proofs.Played.{HasNone, none-between, played-later}
 
 -- before anything comes there is no shot
@@ -45,9 +46,9 @@ pub still-on-time : (u closed event next t : ℕ) → IsOnTime u closed event ne
 still-on-time u closed event next t h low high =
     record { step = h.step; begins = h.begins; first = omega (arith, h.least, high); near = omega (arith, low, h.near); least = h.least }
 
--- the board that is closed before anything comes is sound, and is what contracts see of closing it
-pub sound-later : (b : Inside) (t : ℕ) → IsSound b → b.closed ≤ t → t ≤ b.next → IsSound (record b { closed = t })
-sound-later b t h low high = record {
+-- the board that is closed before anything comes is valid, and is what contracts see of closing it
+pub valid-later : (b : Inside) (t : ℕ) → IsValid b → b.closed ≤ t → t ≤ b.next → IsValid (record b { closed = t })
+valid-later b t h low high = record {
   ticks = h.ticks;
   memory = h.memory;
   addresses = h.addresses;
@@ -56,9 +57,10 @@ sound-later b t h low high = record {
   played = played-later b.playback b.closed t h.played low (omega (arith, h.on_time.least, high));
   on_time = still-on-time (micro b.clock) b.closed b.playback.event b.next t h.on_time low high;
   next_break = h.next_break;
+  in_time = in-time-later (micro b.clock) b.closed t b.sound h.in_time low;
 }
 
-pub seen-later : (b : Inside) (t : ℕ) → IsSound b → b.closed ≤ t → t ≤ b.next → board_seen (record b { closed = t }) ≡ board_closed (board_seen b) t
+pub seen-later : (b : Inside) (t : ℕ) → IsValid b → b.closed ≤ t → t ≤ b.next → board_seen (record b { closed = t }) ≡ board_closed (board_seen b) t
 seen-later b t h low high =
     still-closed (board_seen b) b.playback.event b.next t h.on_time (quiet b.playback (micro b.clock) b.closed b.next h.played h.on_time) low high
 

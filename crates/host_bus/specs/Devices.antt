@@ -107,6 +107,14 @@ after_latch reg d = if reg == 0 || reg == 2 then record d { latch = keyboard.lat
 unfoldable pub system_written : ℕ → ℕ → Devices → Devices
 system_written reg v d = after_latch reg (record d { system = write_leaves reg v d.system })
 
+-- The write line of the sound chip is bit 0 of the latch, active low, and its data are the pins of port A: where the line falls, the chip takes
+-- them.
+unfoldable pub sound_line : Devices → Bool
+sound_line d = keyboard.latch_bit 0 d.latch
+
+unfoldable pub sound_data : Devices → ℕ
+sound_data d = out_a d.system
+
 -- an access to the user's 6522
 unfoldable pub user_answer : ℕ → Devices → ℕ
 user_answer reg d = answer_of reg user_pins d.user

@@ -2,22 +2,25 @@
 ghost use Rattle.std.specs.Prelude.{◌≡◌, ◌≤◌, ◌<◌, ◌+◌, ◌%◌, ◌^◌, ◌==◌, ◌⊎◌, ℕ, true, false, unwrap_or, length, IfOk, None, Some, MatchOption, slice_index, slice_set, if◌then◌else◌};
 ghost use Rattle.keyboard.specs.Keys.{keys_of};
 ghost use Rattle.wd1770.specs.Select.{disc_of};
+ghost use Rattle.sn76489.specs.Samples.{NeverFallFrom};
 ghost use Rattle.host_bus.specs.Map.{place_of};
 ghost use Rattle.host_bus.specs.Shots.{shot_at};
 ghost use Rattle.host_bus.specs.CodePlayback.{IsPlayed, IsOnTime};
-ghost use Rattle.host_bus.specs.Devices.{microsecond, last_frame};
-ghost use Rattle.host_bus.specs.Board.{board_closed, answer_at, read_at, written_at, board_irq, board_nmis, break_pending, break_taken, next_break, first_board, clear_ram};
+ghost use Rattle.host_bus.specs.Devices.{microsecond, last_frame, system_written};
+ghost use Rattle.host_bus.specs.Board.{board_closed, answer_at, read_at, written_at, with_sound, board_irq, board_nmis, break_pending, break_taken, next_break, first_board, clear_ram};
 ghost use Rattle.host_bus.specs.CodeReads.{Covered, Shows};
 
 use crate::breaks::Breaks;
 use crate::devices::Devices;
 use crate::map::{Place, place_in_sheila};
 use crate::playback::Playback;
+use crate::sound::SoundLog;
 use beeb_bits::{Clock, NoMemory, Tick, zeroed};
 use disc_image::Disc;
 use key_script::Script;
 use raster::Frame;
 use rom_set::RomSet;
+use sn76489::SoundWrite;
 use std::alloc::Global;
 use std::marker::Model;
 
@@ -47,6 +50,7 @@ pub struct Board {
     devices: Devices,
     playback: Playback,
     breaks: Breaks,
+    sound: SoundLog,
     closed: u64,
     // The tick of the next microsecond or event, whichever comes first.
     next: u64,
@@ -54,13 +58,13 @@ pub struct Board {
 
 impl Model for Board {
     ghost use Rattle.host_bus.specs.Board.{BoardState};
-    ghost use Rattle.host_bus.specs.CodeBoard.{board_seen, IsSound};
+    ghost use Rattle.host_bus.specs.CodeBoard.{board_seen, IsValid};
 
     ghost Value = { BoardState };
 
     ghost view = { board_seen };
 
-    ghost invariant = { IsSound };
+    ghost invariant = { IsValid };
 }
 
 // Copies the operating system to where it is read.
@@ -146,7 +150,7 @@ fn tick_with_events(
 
 impl Board {
     /// The board at power-on, at this clock, with these images, the discs of both drives, and this script. It takes the memory of all shots of
-    /// the script.
+    /// the script, and of all sound writes.
     pub fn make(
         alloc: Global,
         clock: Clock,
@@ -162,6 +166,7 @@ impl Board {
         let devices = Devices::make(alloc, d0, d1)?;
         let playback = Playback::make(alloc, script)?;
         let breaks = Breaks::new(playback.script.events());
+        let sound = SoundLog::make(alloc)?;
         Ok(Board {
             clock,
             micro: clock.micro(),
@@ -172,6 +177,7 @@ impl Board {
             devices,
             playback,
             breaks,
+            sound,
             closed: 0,
             next: 0,
         })
@@ -275,6 +281,21 @@ impl Board {
         }
     }
 
+    // A write to the system's 6522, which may write the sound chip.
+    fn write_system(&mut self, reg: u8, v: u8)
+        requires { reg < 16 }
+        ensures { self.new ≡ with_sound self.old (system_written reg v (self.old).devices) }
+    {
+        let was_high = self.devices.sound_line();
+        self.devices.write_system(reg, v);
+        if was_high && !self.devices.sound_line() {
+            self.sound.tell(SoundWrite {
+                moment: self.closed.div_ceil(self.micro),
+                byte: self.devices.sound_data(),
+            });
+        }
+    }
+
     /// A write in SHEILA.
     pub fn write(&mut self, at: u16, v: u8)
         requires low { 0xfe00 ≤ at }
@@ -286,7 +307,7 @@ impl Board {
             Place::Crtc => self.devices.write_crtc(at, v),
             Place::VideoUla => self.devices.write_ula(at, v),
             Place::RomLatch => self.latch = v % 16,
-            Place::SystemVia => self.devices.write_system((at % 16) as u8, v),
+            Place::SystemVia => self.write_system((at % 16) as u8, v),
             Place::UserVia => self.devices.write_user((at % 16) as u8, v),
             Place::DiscLatch => self.devices.latch_disc(v),
             Place::DiscController => self.devices.write_disc((at % 4) as u8, v),
@@ -352,6 +373,15 @@ impl Board {
         ensures { result.now ≡ (self.now).shots }
     {
         self.playback.shots.frames()
+    }
+
+    /// The writes to the sound chip, the first 1,048,576 of them.
+    pub fn sound(&self) -> &[SoundWrite]
+        ensures value { result.now ≡ (self.now).sound }
+        ensures order { NeverFallFrom 0 result.now }
+        ensures few { length result.now ≤ 1048576 }
+    {
+        self.sound.writes()
     }
 
     /// The RAM.

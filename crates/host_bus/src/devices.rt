@@ -3,7 +3,7 @@ ghost use Rattle.std.specs.Prelude.{◌≡◌, ◌≤◌, ◌<◌, ◌+◌, ◌%
 ghost use Rattle.raster.specs.Clock.{vsync_of};
 ghost use Rattle.wd1770.specs.Select.{disc_of};
 ghost use Rattle.keyboard.specs.Keys.{keys_of};
-ghost use Rattle.host_bus.specs.Devices.{system_pins, raster_after, microsecond, last_frame, crtc_answer, crtc_written, ula_written, system_answer, system_read, system_written, after_latch, user_answer, user_read, user_written, disc_latched, disc_answer, disc_read, disc_written, devices_ask, devices_reset, first_devices};
+ghost use Rattle.host_bus.specs.Devices.{system_pins, raster_after, microsecond, last_frame, crtc_answer, crtc_written, ula_written, system_answer, system_read, system_written, sound_line, sound_data, after_latch, user_answer, user_read, user_written, disc_latched, disc_answer, disc_read, disc_written, devices_ask, devices_reset, first_devices};
 
 use beeb_bits::NoMemory;
 use disc_image::Disc;
@@ -202,6 +202,22 @@ impl Devices {
             self.latch.write(self.system.out_b());
             self.size = self.latch.screen_size();
         }
+    }
+
+    /// The write line of the sound chip, which is active where it is low: bit 0 of the addressable latch.
+    #[tactic(auto, unfolding(crate::specs::Devices::sound_line))]
+    pub(crate) fn sound_line(&self) -> bool
+        ensures { result ≡ sound_line self.now }
+    {
+        self.latch.bits[0]
+    }
+
+    /// The byte at the sound chip: the pins of port A of the system's 6522.
+    #[tactic(auto, unfolding(crate::specs::Devices::sound_data))]
+    pub(crate) fn sound_data(&self) -> u8
+        ensures { result ≡ sound_data self.now }
+    {
+        self.system.out_a()
     }
 
     /// A read of the user's 6522.

@@ -1,0 +1,25 @@
+use Rattle.std.proofs.Common.{◌∙◌, ap, subst, sym, ℕ, List}
+use Rattle.beeb_bits.specs.Clock.{micro}
+use Rattle.std.specs.Int.{div_ceil}
+use Rattle.sn76489.specs.declared.SoundWrite.{SoundWrite}
+use Rattle.host_bus.specs.Sound.{IsInTime}
+use Rattle.host_bus.proofs.Heard.{rounded-up, in-time-with}
+use Rattle.host_bus.proofs.board.Board.write_system.Goals as goal
+
+pub invariant_of-self : goal.invariant_of-self
+invariant_of-self c =
+    let b = c.self.inside in
+    let valid = c.self.invariant in
+    let write : SoundWrite = record { moment = c.div_ceil.result; byte = c.sound_data.result } in
+    let now = c.div_ceil.ensures ∙ ap (λ (u : ℕ). div_ceil b.closed u) valid.ticks ∙ rounded-up b.clock b.closed in
+    record {
+      ticks = valid.ticks;
+      memory = valid.memory;
+      addresses = valid.addresses;
+      shows = valid.shows;
+      slot = valid.slot;
+      played = valid.played;
+      on_time = valid.on_time;
+      next_break = valid.next_break;
+      in_time = subst (λ (sound : List SoundWrite). IsInTime (micro b.clock) b.closed sound) (sym c.tell.ensures) (in-time-with b.clock b.closed write b.sound now valid.in_time);
+    }
