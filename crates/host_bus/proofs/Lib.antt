@@ -4,5 +4,6 @@ pub mod Beats
 pub mod Places
 pub mod Played
 pub mod Heard
+pub mod Resting
 pub mod Closed
 pub mod Pressed

@@ -13,7 +13,7 @@ use Rattle.host_bus.specs.declared.map.Place.TheVariants.{Ram, PagedRom, OsRom, 
 use Rattle.host_bus.specs.Shots.{shot_at}
 use Rattle.host_bus.specs.Sound.{moment_at, with_write}
 use Rattle.host_bus.specs.Breaks.{breaks_until, break_number}
-use Rattle.host_bus.specs.Devices.{Devices, keys_at, microsecond, last_frame, crtc_answer, crtc_written, ula_written, system_answer, system_read, system_written, sound_line, sound_data, user_answer, user_read, user_written, disc_latched, disc_answer, disc_read, disc_written, devices_ask, devices_reset, first_devices}
+use Rattle.host_bus.specs.Devices.{Devices, keys_at, levels_at, microsecond, last_frame, crtc_answer, crtc_written, ula_written, system_answer, system_read, system_written, sound_line, sound_data, converter_answer, converter_written, user_answer, user_read, user_written, disc_latched, disc_answer, disc_read, disc_written, devices_ask, devices_reset, first_devices}
 
 pub record BoardState : Type 0 where
   -- how long a tick is
@@ -50,9 +50,9 @@ pub record Moving : Type 0 where
 abbrev pub shot : ℕ → List Event → Moving → Moving
 shot k script m = record m { shots = shot_at k script (last_frame m.devices) m.shots }
 
--- With u ticks in a microsecond, its step m comes at tick u m, with the keys of that tick.
+-- With u ticks in a microsecond, its step m comes at tick u m, with the keys and levels of that tick.
 abbrev pub beat : Around → ℕ → Devices → Devices
-beat a k d = if k % micro a.clock == 0 then microsecond a.ram a.font (keys_at k a.script) d else d
+beat a k d = if k % micro a.clock == 0 then microsecond a.ram a.font (keys_at k a.script) (levels_at k a.script) d else d
 
 -- Tick k: its shots are taken, and then comes the microsecond.
 abbrev pub tick : Around → ℕ → Moving → Moving
@@ -93,7 +93,7 @@ answer_at UserVia b t at = user_answer (at % 16) b.devices
 answer_at DiscLatch b t at = 0xFE
 answer_at DiscController b t at = disc_answer (at % 4) b.devices
 answer_at Absent b t at = 0xFE
-answer_at Adc b t at = if at == 0xFEC0 then 0x40 else 0xFE
+answer_at Adc b t at = converter_answer (at % 4) b.devices
 answer_at Tube b t at = 0xFE
 
 -- the board after a read
@@ -118,6 +118,7 @@ written_at RomLatch at v b = record b { latch = v % 16 }
 written_at SystemVia at v b = with_sound b (system_written (at % 16) v b.devices)
 written_at UserVia at v b = record b { devices = user_written (at % 16) v b.devices }
 written_at DiscLatch at v b = record b { devices = disc_latched v b.devices }
+written_at Adc at v b = record b { devices = converter_written (at % 4) v b.devices }
 written_at DiscController at v b = record b { devices = disc_written (at % 4) v b.devices }
 written_at _ at v b = b
 

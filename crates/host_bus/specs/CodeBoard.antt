@@ -4,7 +4,7 @@ use Rattle.beeb_bits.specs.Clock.{micro}
 use Rattle.host_bus.specs.declared.board.Board.TheInside.{Inside}
 use Rattle.host_bus.specs.Board.{BoardState}
 use Rattle.host_bus.specs.CodeReads.{Shows}
-use Rattle.host_bus.specs.CodePlayback.{IsPlayed, IsOnTime}
+use Rattle.host_bus.specs.CodePlayback.{IsPlayed, IsOnTime, IsShort}
 use Rattle.host_bus.specs.CodeBreaks.{IsNextBreak, breaks_before}
 use Rattle.host_bus.specs.Sound.{IsInTime}
 
@@ -30,5 +30,6 @@ pub record IsValid (b : Inside) : Type 0 where
   pub slot : b.latch < 16
   pub played : IsPlayed b.playback b.closed
   pub on_time : IsOnTime (micro b.clock) b.closed b.playback.event b.next
+  pub short : IsShort b.short b.playback.event b.devices.converter
   pub next_break : IsNextBreak b.breaks b.playback.script
   pub in_time : IsInTime (micro b.clock) b.closed b.sound
