@@ -1,7 +1,7 @@
 //! The converter.
 ghost use Rattle.std.specs.Prelude.{◌≡◌, ◌<◌};
 ghost use Rattle.adc7002.specs.State.{power_on};
-ghost use Rattle.adc7002.specs.Registers.{status, answer_of, write_leaves, cb1};
+ghost use Rattle.adc7002.specs.Registers.{status, answer_of, write_leaves, cb1, is_at_rest};
 ghost use Rattle.adc7002.specs.Step.{low_byte, end_leaves, steps};
 
 use beeb_bits::bit;
@@ -95,6 +95,7 @@ impl Adc {
     }
 
     /// Does `n` steps, with these levels on the four channels.
+    #[inline(always)]
     pub fn advance(&mut self, levels: [u16; 4], n: u64)
         ensures { self.new ≡ steps levels n self.old }
     {
@@ -107,6 +108,8 @@ impl Adc {
     }
 
     // The end of a conversion, at which its channel has this level.
+    #[cold]
+    #[inline(never)]
     fn end(&mut self, level: u16)
         ensures { self.new ≡ end_leaves level self.old }
     {
@@ -117,9 +120,17 @@ impl Adc {
     }
 
     /// The line to the system VIA's CB1: low from a conversion's end to the next write to register 0.
+    #[inline(always)]
     pub fn cb1(&self) -> bool
         ensures { result ≡ cb1 self.now }
     {
         !self.has_ended
+    }
+
+    /// No conversion goes on, and none has ended: so it is from power-on to the first write to register 0. No step changes the converter.
+    pub fn is_at_rest(&self) -> bool
+        ensures { result ≡ is_at_rest self.now }
+    {
+        self.left == 0 && !self.has_ended
     }
 }

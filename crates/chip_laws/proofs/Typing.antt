@@ -4,9 +4,10 @@ use Rattle.std.specs.Prelude.{nat_le, unwrap_or, Option, Some, None, if◌then�
 use Rattle.std.proofs.lemmas.Bool.{cases_eq, eq-eqb, ne_eqb}
 use Rattle.key_script.specs.declared.Event.{Event}
 use Rattle.key_script.specs.declared.What.{What}
-use Rattle.key_script.specs.declared.What.TheVariants.{Down, Up, Shot, Break}
+use Rattle.key_script.specs.declared.What.TheVariants.{Down, Up, Shot, Break, Level}
 use Rattle.key_script.specs.Events.{tick_of}
-use Rattle.key_script.specs.Keys.{made_of, made_by, or_earlier, last_made}
+use Rattle.key_script.specs.Last.{or_earlier}
+use Rattle.key_script.specs.Keys.{made_of, made_by, last_made}
 use Rattle.keyboard.specs.Keys.{Keys, no_key}
 use Rattle.chip_laws.specs.Typing.{keys_after, typed_by, ScriptIsTyped}
 
@@ -22,6 +23,7 @@ one_key (Down k) key keys = set_one k key true (keys key)
 one_key (Up k) key keys = set_one k key false (keys key)
 one_key Shot key keys = refl
 one_key Break key keys = refl
+one_key (Level channel level) key keys = refl
 
 -- an event that has come, or not
 come : (is : Bool) (what : What) (key : ℕ) (keys : Keys) →

@@ -2,7 +2,7 @@
 use Rattle.std.specs.Prelude.{ℕ, ◌≡◌, nat_le, true, false, List, [], ◌∷◌, if◌then◌else◌}
 use Rattle.key_script.specs.declared.Event.{Event}
 use Rattle.key_script.specs.declared.What.{What}
-use Rattle.key_script.specs.declared.What.TheVariants.{Down, Up, Shot, Break}
+use Rattle.key_script.specs.declared.What.TheVariants.{Down, Up, Shot, Break, Level}
 use Rattle.key_script.specs.Events.{tick_of}
 use Rattle.key_script.specs.Keys.{is_down}
 use Rattle.keyboard.specs.Keys.{Keys, no_key, with_key}
@@ -13,6 +13,7 @@ keys_after (Down key) keys = with_key key true keys
 keys_after (Up key) keys = with_key key false keys
 keys_after Shot keys = keys
 keys_after Break keys = keys
+keys_after (Level channel level) keys = keys
 
 -- the keys after those events of a script that have come by tick t, one after the other
 abbrev pub typed_by : ℕ → List Event → Keys → Keys

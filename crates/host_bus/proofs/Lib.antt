@@ -3,5 +3,7 @@ pub mod Ram
 pub mod Beats
 pub mod Places
 pub mod Played
+pub mod Heard
+pub mod Resting
 pub mod Closed
 pub mod Pressed

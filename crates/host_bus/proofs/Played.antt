@@ -1,18 +1,20 @@
--- What the events of a script make of the table of keys.
-use Rattle.std.proofs.Common.{◌≡◌, ◌∙◌, sym, refl, ap, ℕ, ◌+◌, ◌<◌, ◌≤◌, ◌==◌, ◌&&◌, zero, suc, Bool, true, false, cond, nat_le, List, [], ◌∷◌, ◌++◌, replicate, length, drop, get_or, Option, Some, None, if◌then◌else◌, arith}
-use Rattle.std.proofs.lemmas.Bool.{ne_eqb, eq-eqb}
-use Rattle.std.proofs.lemmas.List.{drop_more, append_assoc, append-nil}
+-- What the events of a script make of the tables of keys and levels.
+use Rattle.std.proofs.Common.{◌≡◌, ◌∙◌, sym, refl, ap, ℕ, ◌+◌, ◌<◌, ◌≤◌, ◌==◌, ◌&&◌, zero, suc, Bool, true, false, cond, nat_le, inl, inr, List, [], ◌∷◌, ◌++◌, replicate, length, drop, get_or, Option, Some, None, if◌then◌else◌, arith}
+use Rattle.std.proofs.lemmas.Bool.{cases_eq, ne_eqb, eq-eqb}
+use Rattle.std.proofs.lemmas.List.{drop_more, append_assoc, append-nil, get_or-set_same, get_or-set_other}
 use Rattle.std.proofs.lemmas.List.Sums.{sum_by-append}
-use Rattle.std.specs.Prelude.{unwrap_or}
+use Rattle.std.specs.Prelude.{unwrap_or, slice_set}
 use Rattle.keyboard.specs.Keys.{Keys}
 use Rattle.key_script.specs.declared.Event.{Event}
 use Rattle.key_script.specs.declared.What.{What}
-use Rattle.key_script.specs.declared.What.TheVariants.{Down, Up, Shot, Break}
-use Rattle.key_script.specs.Events.{tick_of, is_shot, shots, NeverFallsFrom}
-use Rattle.key_script.specs.Keys.{made_of, made_by, or_earlier, last_made}
-use Rattle.host_bus.specs.Devices.{keys_at}
+use Rattle.key_script.specs.declared.What.TheVariants.{Down, Up, Shot, Break, Level}
+use Rattle.key_script.specs.Events.{tick_of, is_shot, shots, NeverFallsFrom, IsInRange}
+use Rattle.key_script.specs.Last.{said_by, or_earlier, last_said}
+use Rattle.key_script.specs.Keys.{made_of}
+use Rattle.key_script.specs.Levels.{level_given}
+use Rattle.host_bus.specs.Devices.{keys_at, levels_at}
 use Rattle.host_bus.specs.Shots.{shots_at, shot_at}
-use Rattle.host_bus.specs.CodePlayback.{keys_after, IsLeft, HasLeft, IsPlayed}
+use Rattle.host_bus.specs.CodePlayback.{keys_after, level_turned, level_of, IsLeft, HasLeft, IsPlayed}
 use Rattle.host_bus.specs.declared.playback.Playback.{Playback}
 
 leb-above : (a b : ℕ) → b < a → nat_le a b ≡ false
@@ -26,57 +28,95 @@ pub not-before : (from t : ℕ) (left : List Event) → NeverFallsFrom from left
 not-before from t [] later low = later
 not-before from t (e ∷ left) later low = (omega (arith, later.0, low), later.1)
 
--- no key is changed before the first event
-pub none-made : (first key k : ℕ) (left : List Event) → NeverFallsFrom first left → k < first → last_made key k left ≡ None
-none-made first key k [] later low = refl
-none-made first key k (e ∷ left) later low =
-    ap (λ (o : Option Bool). or_earlier o (made_by key k e)) (none-made (tick_of e) key k left later.1 (omega (arith, later.0, low)))
-    ∙ ap (λ (b : Bool). if b then made_of key e.what else None) (leb-above (tick_of e) k (omega (arith, later.0, low)))
+-- nothing is said before the first event
+pub none-said : {A : Type 0} (kind : What → Option A) (first k : ℕ) (left : List Event) → NeverFallsFrom first left → k < first → last_said kind k left ≡ None
+none-said kind first k [] later low = refl
+none-said kind first k (e ∷ left) later low =
+    ap (λ o. or_earlier o (said_by kind k e)) (none-said kind (tick_of e) k left later.1 (omega (arith, later.0, low)))
+    ∙ ap (λ (b : Bool). if b then kind e.what else None) (leb-above (tick_of e) k (omega (arith, later.0, low)))
 
 flip : (a b : ℕ) → (a == b) ≡ (b == a)
 flip a b = grind arith
 
 -- what an event makes of a key, or else what the table says, is what the table says after the event
-made-or : (key : ℕ) (what : What) (keys : Keys) → unwrap_or (made_of key what) (keys key) ≡ keys_after what keys key
-made-or key (Down k) keys = down-by (k == key) refl
+pub key-or : (what : What) (keys : Keys) (key : ℕ) → unwrap_or (made_of key what) (keys key) ≡ keys_after what keys key
+key-or (Down k) keys key = down-by (k == key) refl
   where
     down-by : (b : Bool) → (k == key) ≡ b → unwrap_or (if b then Some true else None) (keys key) ≡ (if key == k then true else keys key)
     down-by true e = sym (ap (λ (x : Bool). if x then true else keys key) (flip key k ∙ e))
     down-by false e = sym (ap (λ (x : Bool). if x then true else keys key) (flip key k ∙ e))
-made-or key (Up k) keys = up-by (k == key) refl
+key-or (Up k) keys key = up-by (k == key) refl
   where
     up-by : (b : Bool) → (k == key) ≡ b → unwrap_or (if b then Some false else None) (keys key) ≡ (if key == k then false else keys key)
     up-by true e = sym (ap (λ (x : Bool). if x then false else keys key) (flip key k ∙ e))
     up-by false e = sym (ap (λ (x : Bool). if x then false else keys key) (flip key k ∙ e))
-made-or key Shot keys = refl
-made-or key Break keys = refl
+key-or Shot keys key = refl
+key-or Break keys key = refl
+key-or (Level channel level) keys key = refl
 
-or-both : (a b : Option Bool) (d : Bool) → unwrap_or (or_earlier a b) d ≡ unwrap_or a (unwrap_or b d)
-or-both (Some down) b d = refl
+-- and of a channel
+set-or : (levels : List ℕ) (c level i : ℕ) → c < length levels → unwrap_or (if c == i then Some level else None) (level_of levels i) ≡ level_of (slice_set levels c level) i
+set-or levels c level i low = elim (cases_eq c i) [
+  | inl same ↦ rw (eq-eqb c i same, ← same, get_or-set_same levels c level 0 low) refl
+  | inr other ↦ rw (ne_eqb c i other, get_or-set_other levels c i level 0 (λ same. other (sym same))) refl
+]
+
+pub level-or : (what : What) (levels : List ℕ) (i : ℕ) → IsInRange what → length levels ≡ 4 → unwrap_or (level_given i what) (level_of levels i) ≡ level_of (level_turned what levels) i
+level-or (Level c level) levels i low four = set-or levels c level i (omega (arith, low, four))
+level-or (Down k) levels i low four = refl
+level-or (Up k) levels i low four = refl
+level-or Shot levels i low four = refl
+level-or Break levels i low four = refl
+
+or-both : {A : Type 0} (a b : Option A) (d : A) → unwrap_or (or_earlier a b) d ≡ unwrap_or a (unwrap_or b d)
+or-both (Some last) b d = refl
 or-both None b d = refl
 
--- one event more is done
-pub left-more : (script : List Event) (place : ℕ) (d : Event) (keys on : Keys) (t : ℕ) → place < length script → tick_of (get_or script place d) + 1 ≡ t →
-    on ≡ keys_after ((get_or script place d).what) keys → IsLeft script (drop place script) keys t → IsLeft script (drop (place + 1) script) on t
-left-more script place d keys on t low at is left = λ k key late.
+-- one event more is done, which turns a table as it says
+pub left-more : {A : Type 0} (kind : ℕ → What → Option A) (first : A) (script : List Event) (place : ℕ) (d : Event) (table on : ℕ → A) (t : ℕ) → place < length script → tick_of (get_or script place d) + 1 ≡ t →
+    ((i : ℕ) → unwrap_or (kind i ((get_or script place d).what)) (table i) ≡ on i) → IsLeft kind first script (drop place script) table t → IsLeft kind first script (drop (place + 1) script) on t
+left-more {A} kind first script place d table on t low at turns left = λ k i late.
     let e = get_or script place d in
     let rest = drop (place + 1) script in
-    let now : made_by key k e ≡ made_of key e.what = ap (λ (b : Bool). if b then made_of key e.what else None) (leb-at (tick_of e) k (omega (arith, at, late))) in
-    left k key late
-    ∙ ap (λ (l : List Event). unwrap_or (last_made key k l) (keys key)) (drop_more script place d low)
-    ∙ or-both (last_made key k rest) (made_by key k e) (keys key)
-    ∙ ap (λ (o : Option Bool). unwrap_or (last_made key k rest) (unwrap_or o (keys key))) now
-    ∙ ap (λ (b : Bool). unwrap_or (last_made key k rest) b) (made-or key e.what keys)
-    ∙ ap (λ (f : Keys). unwrap_or (last_made key k rest) (f key)) (sym is)
+    let now : said_by (kind i) k e ≡ kind i e.what = ap (λ (b : Bool). if b then kind i e.what else None) (leb-at (tick_of e) k (omega (arith, at, late))) in
+    left k i late
+    ∙ ap (λ (l : List Event). unwrap_or (last_said (kind i) k l) (table i)) (drop_more script place d low)
+    ∙ or-both (last_said (kind i) k rest) (said_by (kind i) k e) (table i)
+    ∙ ap (λ (o : Option A). unwrap_or (last_said (kind i) k rest) (unwrap_or o (table i))) now
+    ∙ ap (λ (a : A). unwrap_or (last_said (kind i) k rest) a) (turns i)
 
 -- of a tick more
-pub left-later : (script left : List Event) (keys : Keys) (t u : ℕ) → IsLeft script left keys t → t ≤ u → IsLeft script left keys u
-left-later script left keys t u h low = λ k key late. h k key (omega (arith, late, low))
+pub left-later : {A : Type 0} (kind : ℕ → What → Option A) (first : A) (script left : List Event) (table : ℕ → A) (t u : ℕ) → IsLeft kind first script left table t → t ≤ u → IsLeft kind first script left table u
+left-later kind first script left table t u h low = λ k i late. h k i (omega (arith, late, low))
 
--- at the last tick that is done the keys are those of the table
-pub keys-are : (script left : List Event) (keys : Keys) (t event : ℕ) → IsLeft script left keys (t + 1) → NeverFallsFrom event left → t + 1 ≤ event → keys ≡ keys_at t script
-keys-are script left keys t event h later early = λ i. λ key.
-    sym (h t key (omega arith) ∙ ap (λ (o : Option Bool). unwrap_or o (keys key)) (none-made event key t left later (omega (arith, early)))) i
+-- at the last tick that is done each thing is as the table says
+said-is : {A : Type 0} (kind : ℕ → What → Option A) (first : A) (script left : List Event) (table : ℕ → A) (t event : ℕ) → IsLeft kind first script left table (t + 1) → NeverFallsFrom event left → t + 1 ≤ event → (i : ℕ) → table i ≡ unwrap_or (last_said (kind i) t script) first
+said-is {A} kind first script left table t event h later early = λ i.
+    sym (h t i (omega arith) ∙ ap (λ (o : Option A). unwrap_or o (table i)) (none-said (kind i) event t left later (omega (arith, early))))
+
+pub keys-are : (script left : List Event) (keys : Keys) (t event : ℕ) → IsLeft made_of false script left keys (t + 1) → NeverFallsFrom event left → t + 1 ≤ event → keys ≡ keys_at t script
+keys-are script left keys t event h later early = λ i. λ key. said-is made_of false script left keys t event h later early key i
+
+-- no level is given yet
+pub no-level : (channel : ℕ) → level_of (replicate 4 0) channel ≡ 0
+no-level zero = refl
+no-level (suc zero) = refl
+no-level (suc (suc zero)) = refl
+no-level (suc (suc (suc zero))) = refl
+no-level (suc (suc (suc (suc channel)))) = refl
+
+four-levels : (levels : List ℕ) → length levels ≡ 4 → levels ≡ level_of levels 0 ∷ level_of levels 1 ∷ level_of levels 2 ∷ level_of levels 3 ∷ []
+four-levels (a ∷ b ∷ c ∷ d ∷ []) four = refl
+four-levels [] four = absurd (omega (arith, four))
+four-levels (a ∷ []) four = absurd (omega (arith, four))
+four-levels (a ∷ b ∷ []) four = absurd (omega (arith, four))
+four-levels (a ∷ b ∷ c ∷ []) four = absurd (omega (arith, four))
+four-levels (a ∷ b ∷ c ∷ d ∷ e ∷ more) four = absurd (omega (arith, four))
+
+pub levels-are : (script left : List Event) (levels : List ℕ) (t event : ℕ) → length levels ≡ 4 → IsLeft level_given 0 script left (level_of levels) (t + 1) → NeverFallsFrom event left → t + 1 ≤ event → levels ≡ levels_at t script
+levels-are script left levels t event four h later early =
+    let is = said-is level_given 0 script left (level_of levels) t event h later early in
+    four-levels levels four ∙ rw (is 0, is 1, is 2, is 3) refl
 
 -- no shot comes before the first event
 pub no-shots : (first k : ℕ) (left : List Event) → NeverFallsFrom first left → k < first → shots_at k left ≡ zero
@@ -150,7 +190,9 @@ played-later p t u h low high = record {
   within = h.within;
   room = h.room;
   has_left = λ k late. h.has_left k (omega (arith, late, low));
-  is_left = left-later p.script (drop p.place p.script) _ t u h.is_left low;
+  is_left = left-later made_of false p.script (drop p.place p.script) _ t u h.is_left low;
+  at_level = left-later level_given 0 p.script (drop p.place p.script) _ t u h.at_level low;
+  four = h.four;
   later = h.later;
   early = high;
 }

@@ -1,17 +1,19 @@
 -- The board of the host: memory, devices and script, its clock, and its accesses but for those of the plugged devices.
-use Rattle.std.specs.Prelude.{ℕ, zero, suc, ◌+◌, ◌-◌, ◌%◌, ◌==◌, max, nat_lt, Bool, List, [], Option, slice_index, slice_set, if◌then◌else◌}
+use Rattle.std.specs.Prelude.{ℕ, zero, suc, ◌+◌, ◌-◌, ◌%◌, ◌==◌, ◌&&◌, not, max, nat_lt, Bool, List, [], Option, slice_index, slice_set, if◌then◌else◌}
 use Rattle.beeb_bits.specs.declared.clock.Clock.{Clock}
 use Rattle.beeb_bits.specs.Clock.{micro}
 use Rattle.beeb_bits.specs.Zeros.{zeros}
 use Rattle.saa5050.specs.Shapes.{Font}
 use Rattle.rom_set.specs.Roms.{Roms, rom_byte}
 use Rattle.disc_image.specs.Image.{Image}
+use Rattle.sn76489.specs.declared.SoundWrite.{SoundWrite}
 use Rattle.key_script.specs.declared.Event.{Event}
 use Rattle.host_bus.specs.declared.map.Place.{Place}
 use Rattle.host_bus.specs.declared.map.Place.TheVariants.{Ram, PagedRom, OsRom, Plugs, Crtc, Acia, SerialUla, VideoUla, RomLatch, SystemVia, UserVia, DiscLatch, DiscController, Absent, Adc, Tube}
 use Rattle.host_bus.specs.Shots.{shot_at}
+use Rattle.host_bus.specs.Sound.{moment_at, with_write}
 use Rattle.host_bus.specs.Breaks.{breaks_until, break_number}
-use Rattle.host_bus.specs.Devices.{Devices, keys_at, microsecond, last_frame, crtc_answer, crtc_written, ula_written, system_answer, system_read, system_written, user_answer, user_read, user_written, disc_latched, disc_answer, disc_read, disc_written, devices_ask, devices_reset, first_devices}
+use Rattle.host_bus.specs.Devices.{Devices, keys_at, levels_at, microsecond, last_frame, crtc_answer, crtc_written, ula_written, system_answer, system_read, system_written, sound_line, sound_data, converter_answer, converter_written, user_answer, user_read, user_written, disc_latched, disc_answer, disc_read, disc_written, devices_ask, devices_reset, first_devices}
 
 pub record BoardState : Type 0 where
   -- how long a tick is
@@ -27,6 +29,8 @@ pub record BoardState : Type 0 where
   -- what ticks change: the devices, and the frames that shots took, the oldest first
   pub devices : Devices
   pub shots : List (List ℕ)
+  -- the writes to the sound chip, as far as they are kept
+  pub sound : List SoundWrite
   -- all ticks below this one are done
   pub closed : ℕ
 
@@ -46,9 +50,9 @@ pub record Moving : Type 0 where
 abbrev pub shot : ℕ → List Event → Moving → Moving
 shot k script m = record m { shots = shot_at k script (last_frame m.devices) m.shots }
 
--- With u ticks in a microsecond, its step m comes at tick u m, with the keys of that tick.
+-- With u ticks in a microsecond, its step m comes at tick u m, with the keys and levels of that tick.
 abbrev pub beat : Around → ℕ → Devices → Devices
-beat a k d = if k % micro a.clock == 0 then microsecond a.ram a.font (keys_at k a.script) d else d
+beat a k d = if k % micro a.clock == 0 then microsecond a.ram a.font (keys_at k a.script) (levels_at k a.script) d else d
 
 -- Tick k: its shots are taken, and then comes the microsecond.
 abbrev pub tick : Around → ℕ → Moving → Moving
@@ -89,7 +93,7 @@ answer_at UserVia b t at = user_answer (at % 16) b.devices
 answer_at DiscLatch b t at = 0xFE
 answer_at DiscController b t at = disc_answer (at % 4) b.devices
 answer_at Absent b t at = 0xFE
-answer_at Adc b t at = if at == 0xFEC0 then 0x40 else 0xFE
+answer_at Adc b t at = converter_answer (at % 4) b.devices
 answer_at Tube b t at = 0xFE
 
 -- the board after a read
@@ -99,15 +103,22 @@ read_at UserVia at b = record b { devices = user_read (at % 16) b.devices }
 read_at DiscController at b = record b { devices = disc_read (at % 4) b.devices }
 read_at _ at b = b
 
+-- The board with these devices, after a write to the system's 6522. Where that turns bit 0 of the latch from 1 to 0, the sound chip is written.
+abbrev pub with_sound : BoardState → Devices → BoardState
+with_sound b d =
+    let write : SoundWrite = record { moment = moment_at (micro b.clock) b.closed; byte = sound_data d } in
+    record b { devices = d; sound = if sound_line b.devices && not (sound_line d) then with_write write b.sound else b.sound }
+
 -- The board after a write. ROMs, stubs and absent devices ignore it.
 abbrev pub written_at : Place → ℕ → ℕ → BoardState → BoardState
 written_at Ram at v b = record b { ram = slice_set b.ram at v }
 written_at Crtc at v b = record b { devices = crtc_written at v b.devices }
 written_at VideoUla at v b = record b { devices = ula_written at v b.devices }
 written_at RomLatch at v b = record b { latch = v % 16 }
-written_at SystemVia at v b = record b { devices = system_written (at % 16) v b.devices }
+written_at SystemVia at v b = with_sound b (system_written (at % 16) v b.devices)
 written_at UserVia at v b = record b { devices = user_written (at % 16) v b.devices }
 written_at DiscLatch at v b = record b { devices = disc_latched v b.devices }
+written_at Adc at v b = record b { devices = converter_written (at % 4) v b.devices }
 written_at DiscController at v b = record b { devices = disc_written (at % 4) v b.devices }
 written_at _ at v b = b
 
@@ -146,5 +157,6 @@ first_board clock roms d0 d1 script = record {
   breaks = 0;
   devices = first_devices d0 d1;
   shots = [];
+  sound = [];
   closed = 0;
 }

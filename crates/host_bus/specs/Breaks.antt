@@ -1,8 +1,8 @@
 -- The breaks of a script: when the BREAK key is pressed. (Acorn, BBC Microcomputer Advanced User Guide.)
-use Rattle.std.specs.Prelude.{ℕ, ◌&&◌, nat_le, Bool, true, false, List, [], ◌∷◌, Option, Some, None, count_by, filter, drop, option_map}
+use Rattle.std.specs.Prelude.{ℕ, ◌&&◌, nat_le, Bool, true, false, List, [], ◌∷◌, Option, Some, None, count_by, filter, drop}
 use Rattle.key_script.specs.declared.Event.{Event}
 use Rattle.key_script.specs.declared.What.{What}
-use Rattle.key_script.specs.declared.What.TheVariants.{Down, Up, Shot, Break}
+use Rattle.key_script.specs.declared.What.TheVariants.{Down, Up, Shot, Break, Level}
 use Rattle.key_script.specs.Events.{tick_of}
 
 abbrev pub presses_break : What → Bool
@@ -10,6 +10,7 @@ presses_break Break = true
 presses_break (Down key) = false
 presses_break (Up key) = false
 presses_break Shot = false
+presses_break (Level channel level) = false
 
 abbrev pub is_break : Event → Bool
 is_break e = presses_break e.what

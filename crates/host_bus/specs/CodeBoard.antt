@@ -4,8 +4,9 @@ use Rattle.beeb_bits.specs.Clock.{micro}
 use Rattle.host_bus.specs.declared.board.Board.TheInside.{Inside}
 use Rattle.host_bus.specs.Board.{BoardState}
 use Rattle.host_bus.specs.CodeReads.{Shows}
-use Rattle.host_bus.specs.CodePlayback.{IsPlayed, IsOnTime}
+use Rattle.host_bus.specs.CodePlayback.{IsPlayed, IsOnTime, IsShort}
 use Rattle.host_bus.specs.CodeBreaks.{IsNextBreak, breaks_before}
+use Rattle.host_bus.specs.Sound.{IsInTime}
 
 abbrev pub board_seen : Inside → BoardState
 board_seen b = record {
@@ -17,10 +18,11 @@ board_seen b = record {
   breaks = breaks_before b.breaks.place b.playback.script;
   devices = b.devices;
   shots = b.playback.shots.frames;
+  sound = b.sound;
   closed = b.closed;
 }
 
-pub record IsSound (b : Inside) : Type 0 where
+pub record IsValid (b : Inside) : Type 0 where
   pub ticks : b.micro ≡ micro b.clock
   pub memory : length b.ram.items ≡ 32768
   pub addresses : length b.shown.items ≡ 65536
@@ -28,4 +30,6 @@ pub record IsSound (b : Inside) : Type 0 where
   pub slot : b.latch < 16
   pub played : IsPlayed b.playback b.closed
   pub on_time : IsOnTime (micro b.clock) b.closed b.playback.event b.next
+  pub short : IsShort b.short b.playback.event b.devices.converter
   pub next_break : IsNextBreak b.breaks b.playback.script
+  pub in_time : IsInTime (micro b.clock) b.closed b.sound

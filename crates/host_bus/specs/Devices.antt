@@ -1,6 +1,7 @@
--- The devices of the host that go by microseconds, and how they are wired: the picture, the disc controller, and the two 6522s, with the
--- keyboard and the addressable latch at the system's. (Acorn, BBC Microcomputer Advanced User Guide, The system VIA and The user/printer VIA.)
-use Rattle.std.specs.Prelude.{ℕ, ◌==◌, ◌||◌, ◌%◌, Bool, true, false, List, replicate, Option, if◌then◌else◌}
+-- The devices of the host that go by microseconds, and how they are wired: the picture, the disc controller, the converter, and the two 6522s,
+-- with the keyboard and the addressable latch at the system's. (Acorn, BBC Microcomputer Advanced User Guide, The system VIA, The user/printer VIA, and
+-- analogue to digital converter.)
+use Rattle.std.specs.Prelude.{ℕ, ◌==◌, ◌||◌, ◌%◌, Bool, true, false, List, [], ◌∷◌, replicate, Option, if◌then◌else◌}
 use Rattle.saa5050.specs.Shapes.{Font}
 use Rattle.crtc6845.specs.Registers as crtc
 use Rattle.video_ula.specs.State as ula
@@ -12,6 +13,9 @@ use Rattle.wd1770.specs.State as disc
 use Rattle.wd1770.specs.Commands.{latch_leaves}
 use Rattle.wd1770.specs.Registers as controller
 use Rattle.wd1770.specs.Step as turn
+use Rattle.adc7002.specs.State as adc
+use Rattle.adc7002.specs.Registers as converter
+use Rattle.adc7002.specs.Step as conversion
 use Rattle.via6522.specs.declared.Pins.{Pins}
 use Rattle.via6522.specs.State as via
 use Rattle.via6522.specs.Registers.{answer_of, read_leaves, write_leaves, asks, out_a, out_b}
@@ -20,6 +24,7 @@ use Rattle.keyboard.specs.Keys.{Keys}
 use Rattle.keyboard.specs.Latch as keyboard
 use Rattle.key_script.specs.declared.Event.{Event}
 use Rattle.key_script.specs.Keys.{is_down}
+use Rattle.key_script.specs.Levels.{level_at}
 
 pub record Devices : Type 0 where
   -- the 6845, the video ULA and the teletext chip, and what the beam draws
@@ -27,6 +32,7 @@ pub record Devices : Type 0 where
   pub disc : disc.State
   -- the addressable latch's bits, bit 0 first
   pub latch : List Bool
+  pub converter : adc.State
   pub system : via.State
   pub user : via.State
 
@@ -34,14 +40,18 @@ pub record Devices : Type 0 where
 abbrev pub keys_at : ℕ → List Event → Keys
 keys_at t script = λ key. is_down key t script
 
--- The system's: bit 7 of port A and CA2 come from the keyboard, and CA1 is vertical sync. All other pins are 1.
-abbrev pub system_pins : Bool → Keys → Devices → Pins
-system_pins vsync keys d = record {
+-- the levels of the converter's four channels at tick t, by a script
+abbrev pub levels_at : ℕ → List Event → List ℕ
+levels_at t script = level_at 0 t script ∷ level_at 1 t script ∷ level_at 2 t script ∷ level_at 3 t script ∷ []
+
+-- The system's: bit 7 of port A and CA2 come from the keyboard, CA1 is vertical sync, and CB1 the converter's line. All other pins are 1.
+abbrev pub system_pins : Bool → Bool → Keys → Devices → Pins
+system_pins vsync cb1 keys d = record {
   a = if keyboard.port_a_bit_7 d.latch (out_a d.system) keys then 0xFF else 0x7F;
   b = 0xFF;
   ca1 = vsync;
   ca2 = keyboard.ca2 d.latch (out_a d.system) keys;
-  cb1 = true;
+  cb1 = cb1;
   cb2 = true;
 }
 
@@ -50,15 +60,17 @@ abbrev pub user_pins : Pins
 user_pins = record { a = 0xFF; b = 0xFF; ca1 = true; ca2 = true; cb1 = true; cb2 = true }
 
 -- One microsecond of all devices, in order: the picture, from the RAM and by the screen size of the latch; the disc controller; the
--- keyboard's level; the system's 6522, which sees vertical sync as the picture left it; the user's.
+-- keyboard's level; the converter, with the levels of its channels; the system's 6522, which sees vertical sync as the picture left it, and the
+-- converter's line as that did; the user's.
 abbrev pub raster_after : List ℕ → Font → Devices → picture.State
 raster_after ram font d = beam.microsecond ram (keyboard.screen_size d.latch) font d.video
 
-unfoldable pub microsecond : List ℕ → Font → Keys → Devices → Devices
-microsecond ram font keys d = record d {
+unfoldable pub microsecond : List ℕ → Font → Keys → List ℕ → Devices → Devices
+microsecond ram font keys levels d = record d {
   video = raster_after ram font d;
   disc = turn.step d.disc;
-  system = step (system_pins (beam.vsync_of (raster_after ram font d)) keys d) d.system;
+  converter = conversion.step levels d.converter;
+  system = step (system_pins (beam.vsync_of (raster_after ram font d)) (converter.cb1 (conversion.step levels d.converter)) keys d) d.system;
   user = step user_pins d.user;
 }
 
@@ -95,7 +107,7 @@ disc_written reg v d = record d { disc = controller.write_leaves reg v d.disc }
 
 -- an access to the system's 6522: the answer of a read, and what it leaves
 unfoldable pub system_answer : ℕ → Keys → Devices → ℕ
-system_answer reg keys d = answer_of reg (system_pins (beam.vsync_of d.video) keys d) d.system
+system_answer reg keys d = answer_of reg (system_pins (beam.vsync_of d.video) (converter.cb1 d.converter) keys d) d.system
 
 unfoldable pub system_read : ℕ → Devices → Devices
 system_read reg d = record d { system = read_leaves reg d.system }
@@ -106,6 +118,21 @@ after_latch reg d = if reg == 0 || reg == 2 then record d { latch = keyboard.lat
 
 unfoldable pub system_written : ℕ → ℕ → Devices → Devices
 system_written reg v d = after_latch reg (record d { system = write_leaves reg v d.system })
+
+-- The write line of the sound chip is bit 0 of the latch, active low, and its data are the pins of port A: where the line falls, the chip takes
+-- them.
+unfoldable pub sound_line : Devices → Bool
+sound_line d = keyboard.latch_bit 0 d.latch
+
+unfoldable pub sound_data : Devices → ℕ
+sound_data d = out_a d.system
+
+-- an access to the converter: reads leave nothing
+unfoldable pub converter_answer : ℕ → Devices → ℕ
+converter_answer reg d = converter.answer_of reg d.converter
+
+unfoldable pub converter_written : ℕ → ℕ → Devices → Devices
+converter_written reg v d = record d { converter = converter.write_leaves reg v d.converter }
 
 -- an access to the user's 6522
 unfoldable pub user_answer : ℕ → Devices → ℕ
@@ -131,6 +158,7 @@ first_devices d0 d1 = record {
   video = picture.power_on;
   disc = disc.power_on d0 d1;
   latch = replicate 8 false;
+  converter = adc.power_on;
   system = via.power_on;
   user = via.power_on;
 }

@@ -2,6 +2,7 @@ pub mod Map
 pub mod Devices
 pub mod Shots
 pub mod Breaks
+pub mod Sound
 pub mod Board
 pub mod Plugs
 pub mod Bus

@@ -2,22 +2,25 @@
 ghost use Rattle.std.specs.Prelude.{◌≡◌, ◌≤◌, ◌<◌, ◌+◌, ◌%◌, ◌^◌, ◌==◌, ◌⊎◌, ℕ, true, false, unwrap_or, length, IfOk, None, Some, MatchOption, slice_index, slice_set, if◌then◌else◌};
 ghost use Rattle.keyboard.specs.Keys.{keys_of};
 ghost use Rattle.wd1770.specs.Select.{disc_of};
+ghost use Rattle.sn76489.specs.Samples.{NeverFallFrom};
 ghost use Rattle.host_bus.specs.Map.{place_of};
 ghost use Rattle.host_bus.specs.Shots.{shot_at};
-ghost use Rattle.host_bus.specs.CodePlayback.{IsPlayed, IsOnTime};
-ghost use Rattle.host_bus.specs.Devices.{microsecond, last_frame};
-ghost use Rattle.host_bus.specs.Board.{board_closed, answer_at, read_at, written_at, board_irq, board_nmis, break_pending, break_taken, next_break, first_board, clear_ram};
+ghost use Rattle.host_bus.specs.CodePlayback.{IsPlayed, IsOnTime, IsShort};
+ghost use Rattle.host_bus.specs.Devices.{microsecond, last_frame, system_written, converter_written};
+ghost use Rattle.host_bus.specs.Board.{board_closed, answer_at, read_at, written_at, with_sound, board_irq, board_nmis, break_pending, break_taken, next_break, first_board, clear_ram};
 ghost use Rattle.host_bus.specs.CodeReads.{Covered, Shows};
 
 use crate::breaks::Breaks;
 use crate::devices::Devices;
 use crate::map::{Place, place_in_sheila};
 use crate::playback::Playback;
+use crate::sound::SoundLog;
 use beeb_bits::{Clock, NoMemory, Tick, zeroed};
 use disc_image::Disc;
 use key_script::Script;
 use raster::Frame;
 use rom_set::RomSet;
+use sn76489::SoundWrite;
 use std::alloc::Global;
 use std::marker::Model;
 
@@ -47,20 +50,23 @@ pub struct Board {
     devices: Devices,
     playback: Playback,
     breaks: Breaks,
+    sound: SoundLog,
     closed: u64,
     // The tick of the next microsecond or event, whichever comes first.
     next: u64,
+    // The tick of the next event, if the converter is at rest; or 0.
+    short: u64,
 }
 
 impl Model for Board {
     ghost use Rattle.host_bus.specs.Board.{BoardState};
-    ghost use Rattle.host_bus.specs.CodeBoard.{board_seen, IsSound};
+    ghost use Rattle.host_bus.specs.CodeBoard.{board_seen, IsValid};
 
     ghost Value = { BoardState };
 
     ghost view = { board_seen };
 
-    ghost invariant = { IsSound };
+    ghost invariant = { IsValid };
 }
 
 // Copies the operating system to where it is read.
@@ -85,11 +91,13 @@ fn first_shown(alloc: Global, roms: &RomSet) -> Result<Vec<u8>, NoMemory>
 }
 
 // Tick `k`, the next one at which something comes: its shots are taken, and then comes the microsecond, if it is one. Answers the tick behind
-// it at which something comes next. Most ticks at which something comes are microseconds with no event. A microsecond has so many ticks.
+// it at which something comes next. Most ticks at which something comes are microseconds with no event, and in most machines no program has begun
+// a conversion: then they are below `short`. A microsecond has so many ticks.
 #[inline(always)]
 fn tick(
     devices: &mut Devices,
     playback: &mut Playback,
+    short: &mut u64,
     ram: &[u8],
     roms: &RomSet,
     micro: &u64,
@@ -100,19 +108,25 @@ fn tick(
     requires room { k < 2 ^ 48 }
     requires played { IsPlayed playback.old k }
     requires due { k < playback.old.event → k % micro.now ≡ 0 }
+    requires short { IsShort short.old playback.old.event (devices.old).converter }
     ensures script { playback.new.script ≡ playback.old.script }
     ensures shots { let frame = last_frame devices.old in
         playback.new.shots.frames ≡ shot_at k playback.old.script frame playback.old.shots.frames }
     ensures played { IsPlayed playback.new (k + 1) }
-    ensures devices { let after = microsecond ram.now roms.now.font (keys_of playback.new.keys) devices.old in
+    ensures devices { let keys = keys_of playback.new.keys in
+        let after = microsecond ram.now roms.now.font keys playback.new.levels devices.old in
         devices.new ≡ (if k % micro.now == 0 then after else devices.old) }
     ensures next { IsOnTime micro.now (k + 1) playback.new.event result }
+    ensures short { IsShort short.new playback.new.event (devices.new).converter }
 {
-    if k < playback.event {
-        devices.step(ram, roms, &playback.keys);
+    if k < *short {
+        devices.step_at_rest(ram, roms, &playback.keys);
+        (k + *micro).min(*short)
+    } else if k < playback.event {
+        devices.step(ram, roms, &playback.keys, playback.levels);
         (k + *micro).min(playback.event)
     } else {
-        tick_with_events(devices, playback, ram, roms, *micro, k)
+        tick_with_events(devices, playback, short, ram, roms, *micro, k)
     }
 }
 
@@ -122,6 +136,7 @@ fn tick(
 fn tick_with_events(
     devices: &mut Devices,
     playback: &mut Playback,
+    short: &mut u64,
     ram: &[u8],
     roms: &RomSet,
     micro: u64,
@@ -135,18 +150,25 @@ fn tick_with_events(
     ensures shots { let frame = last_frame devices.old in
         playback.new.shots.frames ≡ shot_at k playback.old.script frame playback.old.shots.frames }
     ensures played { IsPlayed playback.new (k + 1) }
-    ensures devices { let after = microsecond ram.now roms.now.font (keys_of playback.new.keys) devices.old in
+    ensures devices { let keys = keys_of playback.new.keys in
+        let after = microsecond ram.now roms.now.font keys playback.new.levels devices.old in
         devices.new ≡ (if k % micro == 0 then after else devices.old) }
     ensures next { IsOnTime micro (k + 1) playback.new.event result }
+    ensures short { IsShort short.new playback.new.event (devices.new).converter }
 {
     playback.play(devices.last_frame(), k);
-    devices.tick(ram, roms, &playback.keys, micro, k);
+    devices.tick(ram, roms, &playback.keys, playback.levels, micro, k);
+    *short = if devices.is_at_rest() {
+        playback.event
+    } else {
+        0
+    };
     (k + micro - k % micro).min(playback.event)
 }
 
 impl Board {
     /// The board at power-on, at this clock, with these images, the discs of both drives, and this script. It takes the memory of all shots of
-    /// the script.
+    /// the script, and of all sound writes.
     pub fn make(
         alloc: Global,
         clock: Clock,
@@ -162,6 +184,8 @@ impl Board {
         let devices = Devices::make(alloc, d0, d1)?;
         let playback = Playback::make(alloc, script)?;
         let breaks = Breaks::new(playback.script.events());
+        let sound = SoundLog::make(alloc)?;
+        let short = playback.event;
         Ok(Board {
             clock,
             micro: clock.micro(),
@@ -172,8 +196,10 @@ impl Board {
             devices,
             playback,
             breaks,
+            sound,
             closed: 0,
             next: 0,
+            short,
         })
     }
 
@@ -205,6 +231,7 @@ impl Board {
             next = tick(
                 &mut self.devices,
                 &mut self.playback,
+                &mut self.short,
                 &self.ram,
                 &self.roms,
                 &self.micro,
@@ -253,6 +280,7 @@ impl Board {
     }
 
     /// A read in SHEILA at the last tick that is done.
+    #[tactic(auto, unfolding(crate::specs::Devices::system_read, crate::specs::Devices::user_read, crate::specs::Devices::disc_read))]
     pub fn read(&mut self, at: u16) -> u8
         requires low { 0xfe00 ≤ at }
         requires high { at ≤ 0xfeff }
@@ -262,7 +290,7 @@ impl Board {
     {
         match place_in_sheila(at) {
             Place::Acia => { if at % 2 == 0 { 0x02 } else { 0x00 } }
-            Place::Adc => { if at == 0xfec0 { 0x40 } else { 0xfe } }
+            Place::Adc => self.devices.read_converter((at % 4) as u8),
             Place::Crtc => self.devices.read_crtc(at),
             Place::SerialUla | Place::VideoUla | Place::RomLatch => 0xfe,
             Place::DiscLatch | Place::Absent | Place::Tube => 0xfe,
@@ -275,7 +303,32 @@ impl Board {
         }
     }
 
+    // A write to the system's 6522, which may write the sound chip.
+    fn write_system(&mut self, reg: u8, v: u8)
+        requires { reg < 16 }
+        ensures { self.new ≡ with_sound self.old (system_written reg v (self.old).devices) }
+    {
+        let was_high = self.devices.sound_line();
+        self.devices.write_system(reg, v);
+        if was_high && !self.devices.sound_line() {
+            self.sound.tell(SoundWrite {
+                moment: self.closed.div_ceil(self.micro),
+                byte: self.devices.sound_data(),
+            });
+        }
+    }
+
+    // A write to the converter, which may begin a conversion.
+    fn write_converter(&mut self, reg: u8, v: u8)
+        ensures { let d = converter_written reg v (self.old).devices in
+            self.new ≡ record self.old { devices = d } }
+    {
+        self.devices.write_converter(reg, v);
+        self.short = 0;
+    }
+
     /// A write in SHEILA.
+    #[tactic(auto, unfolding(crate::specs::Devices::crtc_written, crate::specs::Devices::ula_written, crate::specs::Devices::user_written, crate::specs::Devices::disc_latched, crate::specs::Devices::disc_written))]
     pub fn write(&mut self, at: u16, v: u8)
         requires low { 0xfe00 ≤ at }
         requires high { at ≤ 0xfeff }
@@ -286,11 +339,12 @@ impl Board {
             Place::Crtc => self.devices.write_crtc(at, v),
             Place::VideoUla => self.devices.write_ula(at, v),
             Place::RomLatch => self.latch = v % 16,
-            Place::SystemVia => self.devices.write_system((at % 16) as u8, v),
+            Place::SystemVia => self.write_system((at % 16) as u8, v),
             Place::UserVia => self.devices.write_user((at % 16) as u8, v),
             Place::DiscLatch => self.devices.latch_disc(v),
             Place::DiscController => self.devices.write_disc((at % 4) as u8, v),
-            Place::Acia | Place::SerialUla | Place::Absent | Place::Adc | Place::Tube => {}
+            Place::Adc => self.write_converter((at % 4) as u8, v),
+            Place::Acia | Place::SerialUla | Place::Absent | Place::Tube => {}
             Place::Ram | Place::PagedRom | Place::OsRom | Place::Plugs => unreachable!(),
         }
     }
@@ -330,6 +384,7 @@ impl Board {
     }
 
     /// Takes every break up to tick `t`, of which one is pending. It takes no memory.
+    #[tactic(auto, unfolding(crate::specs::Devices::devices_reset))]
     pub fn take_break(&mut self, t: u64)
         requires pending { break_pending self.old t ≡ true }
         requires room { t < 2 ^ 63 }
@@ -352,6 +407,15 @@ impl Board {
         ensures { result.now ≡ (self.now).shots }
     {
         self.playback.shots.frames()
+    }
+
+    /// The writes to the sound chip, the first 1,048,576 of them.
+    pub fn sound(&self) -> &[SoundWrite]
+        ensures value { result.now ≡ (self.now).sound }
+        ensures order { NeverFallFrom 0 result.now }
+        ensures few { length result.now ≤ 1048576 }
+    {
+        self.sound.writes()
     }
 
     /// The RAM.

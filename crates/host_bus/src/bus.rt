@@ -1,5 +1,6 @@
 //! The bus.
-ghost use Rattle.std.specs.Prelude.{◌≡◌, ◌≤◌, ◌<◌, ◌+◌, ◌^◌, ◌⊎◌, ℕ, true, false, unwrap_or, IfOk, None, Some, MatchOption, map};
+ghost use Rattle.std.specs.Prelude.{◌≡◌, ◌≤◌, ◌<◌, ◌+◌, ◌^◌, ◌⊎◌, ℕ, true, false, unwrap_or, IfOk, None, Some, MatchOption, length, map};
+ghost use Rattle.sn76489.specs.Samples.{NeverFallFrom};
 ghost use Rattle.host_bus.specs.Map.{stretch};
 ghost use Rattle.host_bus.specs.Bus.{bus_closed, closed_at, clock_of, bus_answer, bus_after_read, bus_after_write, bus_irq, bus_nmis, bus_break_pending, bus_next_break, bus_break_taken, bus_disc, bus_power_on};
 ghost use Rattle.host_bus.specs.View.{bus_seen};
@@ -12,6 +13,7 @@ use disc_image::Disc;
 use key_script::Script;
 use raster::Frame;
 use rom_set::RomSet;
+use sn76489::SoundWrite;
 use std::alloc::Global;
 
 /// The host's bus: the board, and the plugged devices on FRED and JIM.
@@ -22,7 +24,8 @@ pub struct Bus<D = Box<dyn BusDevice + Send>> {
 }
 
 impl<D: BusDevice> Bus<D> {
-    /// The bus at power-on, at this clock. It takes the memory of all shots of the script. Where memory is wanting, all is dropped.
+    /// The bus at power-on, at this clock. It takes the memory of all shots of the script, and of all sound writes. Where memory is
+    /// wanting, all is dropped.
     pub fn make(
         alloc: Global,
         clock: Clock,
@@ -248,6 +251,16 @@ impl<D: BusDevice> Bus<D> {
         ensures { result.now ≡ (bus_seen D.plug self.now).board.shots }
     {
         self.board.frames()
+    }
+
+    /// The writes to the sound chip, in their order: the first 1,048,576 of them, for it takes no later one. The moment of a write is the number
+    /// of the microsecond after it.
+    pub fn sound(&self) -> &[SoundWrite]
+        ensures value { result.now ≡ (bus_seen D.plug self.now).board.sound }
+        ensures order { NeverFallFrom 0 result.now }
+        ensures few { length result.now ≤ 1048576 }
+    {
+        self.board.sound()
     }
 
     /// The disc in drive 0 or 1. None where the drive has none, and for any other number.

@@ -1,10 +1,13 @@
 //! The devices that go by microseconds, and how they are wired.
-ghost use Rattle.std.specs.Prelude.{◌≡◌, ◌≤◌, ◌<◌, ◌+◌, ◌%◌, ◌^◌, ◌==◌, Bool, None, Some, MatchOption, IfOk, length, if◌then◌else◌};
+ghost use Rattle.std.specs.Prelude.{◌≡◌, ◌≤◌, ◌<◌, ◌+◌, ◌%◌, ◌^◌, ◌==◌, ℕ, Bool, true, List, None, Some, MatchOption, IfOk, length, if◌then◌else◌};
+ghost use Rattle.adc7002.specs.Registers.{is_at_rest};
+ghost use Rattle.adc7002.specs.Step.{step};
 ghost use Rattle.raster.specs.Clock.{vsync_of};
 ghost use Rattle.wd1770.specs.Select.{disc_of};
 ghost use Rattle.keyboard.specs.Keys.{keys_of};
-ghost use Rattle.host_bus.specs.Devices.{system_pins, raster_after, microsecond, last_frame, crtc_answer, crtc_written, ula_written, system_answer, system_read, system_written, after_latch, user_answer, user_read, user_written, disc_latched, disc_answer, disc_read, disc_written, devices_ask, devices_reset, first_devices};
+ghost use Rattle.host_bus.specs.Devices.{system_pins, raster_after, microsecond, last_frame, crtc_answer, crtc_written, ula_written, system_answer, system_read, system_written, sound_line, sound_data, after_latch, converter_answer, converter_written, user_answer, user_read, user_written, disc_latched, disc_answer, disc_read, disc_written, devices_ask, devices_reset, first_devices};
 
+use adc7002::Adc;
 use beeb_bits::NoMemory;
 use disc_image::Disc;
 use keyboard::{Keys, Latch};
@@ -25,7 +28,7 @@ const USER_PINS: Pins = Pins {
     cb2: true,
 };
 
-/// The picture, the disc controller, the two 6522s, and the addressable latch behind the system's.
+/// The picture, the disc controller, the converter, the two 6522s, and the addressable latch behind the system's.
 #[derive(Drop)]
 pub(crate) struct Devices {
     video: Raster,
@@ -33,6 +36,7 @@ pub(crate) struct Devices {
     latch: Latch,
     // The size of the screen by the latch, which is asked for in each microsecond.
     size: u16,
+    converter: Adc,
     system: Via,
     user: Via,
 }
@@ -45,7 +49,7 @@ impl Model for Devices {
     ghost Value = { Devices };
 
     ghost view = { λ d.
-        record { video = d.video; disc = d.disc; latch = d.latch.bits; system = d.system; user = d.user } };
+        record { video = d.video; disc = d.disc; latch = d.latch.bits; converter = d.converter; system = d.system; user = d.user } };
 
     ghost invariant = { λ d. d.size ≡ screen_size d.latch.bits };
 }
@@ -67,15 +71,16 @@ impl Devices {
             disc: Fdc::new(d0, d1),
             latch,
             size: latch.screen_size(),
+            converter: Adc::new(),
             system: Via::new(),
             user: Via::new(),
         })
     }
 
-    // The pins of the system's 6522. CA1 is vertical sync.
+    // The pins of the system's 6522, where the converter's line is at this level. CA1 is vertical sync.
     #[inline(always)]
-    fn system_pins(&self, keys: &Keys) -> Pins
-        ensures { result ≡ system_pins (vsync_of (self.now).video) (keys_of keys.now) self.now }
+    fn system_pins(&self, cb1: bool, keys: &Keys) -> Pins
+        ensures { result ≡ system_pins (vsync_of (self.now).video) cb1 (keys_of keys.now) self.now }
     {
         let port_a = self.system.out_a();
         Pins {
@@ -87,7 +92,7 @@ impl Devices {
             b: 0xff,
             ca1: self.video.vsync(),
             ca2: keys.ca2(&self.latch, port_a),
-            cb1: true,
+            cb1,
             cb2: true,
         }
     }
@@ -101,30 +106,73 @@ impl Devices {
         self.video.step(ram, self.size, roms);
     }
 
-    /// One microsecond, over this RAM and with the font of these ROMs.
+    /// One microsecond, over this RAM and with the font of these ROMs, while the converter is at rest: so the levels of its channels do not
+    /// matter.
     #[inline(always)]
     #[tactic(auto, unfolding(crate::specs::Devices::microsecond))]
-    pub(crate) fn step(&mut self, ram: &[u8], roms: &RomSet, keys: &Keys)
-        requires { length ram.now ≡ 32768 }
-        ensures { self.new ≡ microsecond ram.now roms.now.font (keys_of keys.now) self.old }
+    pub(crate) fn step_at_rest(&mut self, ram: &[u8], roms: &RomSet, keys: &Keys)
+        requires ram { length ram.now ≡ 32768 }
+        requires rests { is_at_rest (self.old).converter ≡ true }
+        ensures after { (levels : List ℕ) → self.new ≡ microsecond ram.now roms.now.font (keys_of keys.now) levels self.old }
+        ensures rests { is_at_rest (self.new).converter ≡ true }
     {
         self.draw(ram, roms);
         self.disc.step();
-        let pins = self.system_pins(keys);
+        let pins = self.system_pins(true, keys);
+        self.system.step(pins);
+        self.user.step(USER_PINS);
+    }
+
+    // One microsecond of the converter.
+    #[inline(always)]
+    #[tactic(auto, using(crate::proofs::Resting::one_step))]
+    fn convert(&mut self, levels: [u16; 4])
+        ensures { self.new ≡ record self.old { converter = step levels (self.old).converter } }
+    {
+        self.converter.advance(levels, 1);
+    }
+
+    /// Any microsecond, with these levels of the converter's channels. Kept out of the loop, whose frame has no room for it.
+    #[inline(never)]
+    #[tactic(auto, unfolding(crate::specs::Devices::microsecond))]
+    pub(crate) fn step(&mut self, ram: &[u8], roms: &RomSet, keys: &Keys, levels: [u16; 4])
+        requires { length ram.now ≡ 32768 }
+        ensures { self.new ≡ microsecond ram.now roms.now.font (keys_of keys.now) levels self.old }
+    {
+        self.draw(ram, roms);
+        self.disc.step();
+        self.convert(levels);
+        let line = self.converter.cb1();
+        let pins = self.system_pins(line, keys);
         self.system.step(pins);
         self.user.step(USER_PINS);
     }
 
     /// Tick `k`, which is a microsecond, where these have so many ticks, or not.
-    pub(crate) fn tick(&mut self, ram: &[u8], roms: &RomSet, keys: &Keys, micro: u64, k: u64)
+    pub(crate) fn tick(
+        &mut self,
+        ram: &[u8],
+        roms: &RomSet,
+        keys: &Keys,
+        levels: [u16; 4],
+        micro: u64,
+        k: u64,
+    )
         requires ram { length ram.now ≡ 32768 }
         requires micro { 0 < micro }
-        ensures { let after = microsecond ram.now roms.now.font (keys_of keys.now) self.old in
+        ensures { let after = microsecond ram.now roms.now.font (keys_of keys.now) levels self.old in
             self.new ≡ (if k % micro == 0 then after else self.old) }
     {
         if k % micro == 0 {
-            self.step(ram, roms, keys);
+            self.step(ram, roms, keys, levels);
         }
+    }
+
+    /// No conversion goes on, and none has ended.
+    pub(crate) fn is_at_rest(&self) -> bool
+        ensures { result ≡ is_at_rest (self.now).converter }
+    {
+        self.converter.is_at_rest()
     }
 
     /// The last frame that was finished, or a black one.
@@ -179,7 +227,7 @@ impl Devices {
         ensures answer { result ≡ system_answer reg (keys_of keys.now) self.old }
         ensures after { self.new ≡ system_read reg self.old }
     {
-        let pins = self.system_pins(keys);
+        let pins = self.system_pins(self.converter.cb1(), keys);
         self.system.read(reg, pins)
     }
 
@@ -204,6 +252,22 @@ impl Devices {
         }
     }
 
+    /// The write line of the sound chip, which is active where it is low: bit 0 of the addressable latch.
+    #[tactic(auto, unfolding(crate::specs::Devices::sound_line))]
+    pub(crate) fn sound_line(&self) -> bool
+        ensures { result ≡ sound_line self.now }
+    {
+        self.latch.bits[0]
+    }
+
+    /// The byte at the sound chip: the pins of port A of the system's 6522.
+    #[tactic(auto, unfolding(crate::specs::Devices::sound_data))]
+    pub(crate) fn sound_data(&self) -> u8
+        ensures { result ≡ sound_data self.now }
+    {
+        self.system.out_a()
+    }
+
     /// A read of the user's 6522.
     #[tactic(auto, unfolding(crate::specs::Devices::user_answer, crate::specs::Devices::user_read))]
     pub(crate) fn read_user(&mut self, reg: u8) -> u8
@@ -221,6 +285,23 @@ impl Devices {
         ensures { self.new ≡ user_written reg v self.old }
     {
         self.user.write(reg, v);
+    }
+
+    /// A read of the converter.
+    #[tactic(auto, unfolding(crate::specs::Devices::converter_answer))]
+    pub(crate) fn read_converter(&self, reg: u8) -> u8
+        requires { reg < 4 }
+        ensures { result ≡ converter_answer reg self.now }
+    {
+        self.converter.read(reg)
+    }
+
+    /// A write to the converter.
+    #[tactic(auto, unfolding(crate::specs::Devices::converter_written))]
+    pub(crate) fn write_converter(&mut self, reg: u8, v: u8)
+        ensures { self.new ≡ converter_written reg v self.old }
+    {
+        self.converter.write(reg, v);
     }
 
     /// A write to the disc latch.

@@ -9,6 +9,7 @@ mod map;
 mod playback;
 mod plugged;
 mod shots;
+mod sound;
 
 pub use bus::Bus;
 pub use map::stretch;

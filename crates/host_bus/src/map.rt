@@ -33,7 +33,7 @@ pub enum Place {
     DiscController,
     /// Nothing, Econet included.
     Absent,
-    /// A stub of the analogue converter.
+    /// The analogue converter.
     Adc,
     /// The Tube.
     Tube,

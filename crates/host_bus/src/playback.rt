@@ -1,9 +1,11 @@
 //! A key script as it is played.
-ghost use Rattle.std.specs.Prelude.{◌≡◌, ◌≤◌, ◌<◌, ◌+◌, ◌++◌, ◌^◌, ℕ, [], ◌∷◌, length, drop, All, IfOk, if◌then◌else◌};
+ghost use Rattle.std.specs.Prelude.{◌≡◌, ◌≤◌, ◌<◌, ◌+◌, ◌++◌, ◌^◌, ℕ, false, [], ◌∷◌, length, drop, All, IfOk, if◌then◌else◌};
 ghost use Rattle.keyboard.specs.Keys.{keys_of};
-ghost use Rattle.key_script.specs.Events.{IsEvent, IsKeyed, NeverFallsFrom, is_shot, shots};
+ghost use Rattle.key_script.specs.Events.{IsEvent, IsInRange, NeverFallsFrom, is_shot, shots};
+ghost use Rattle.key_script.specs.Keys.{made_of};
+ghost use Rattle.key_script.specs.Levels.{level_given};
 ghost use Rattle.host_bus.specs.Shots.{shot_at};
-ghost use Rattle.host_bus.specs.CodePlayback.{IsLeft, HasLeft, IsPlayed, keys_after};
+ghost use Rattle.host_bus.specs.CodePlayback.{IsLeft, HasLeft, IsPlayed, keys_after, level_turned, level_of};
 
 use crate::shots::Shots;
 use beeb_bits::NoMemory;
@@ -12,22 +14,26 @@ use keyboard::Keys;
 use raster::Frame;
 use std::alloc::Global;
 
-/// A script, the keys and the shots by its events so far, and the place and tick of the next one.
+/// A script, the keys, the converter's levels and the shots by its events so far, and the place and tick of the next one.
 #[derive(Drop)]
 pub(crate) struct Playback {
     pub(crate) script: Script,
     pub(crate) keys: Keys,
+    pub(crate) levels: [u16; 4],
     pub(crate) shots: Shots,
     pub(crate) place: usize,
     /// No event comes before this tick.
     pub(crate) event: u64,
 }
 
-// What an event does to the keys, or which frame a shot takes.
-fn turn(keys: &mut Keys, taken: &mut Shots, frame: &Frame, event: Event)
-    requires keyed { IsKeyed event.what }
+// What an event does to the keys and levels, or which frame a shot takes.
+fn turn(keys: &mut Keys, levels: &mut [u16; 4], taken: &mut Shots, frame: &Frame, event: Event)
+    requires ranged { IsInRange event.what }
+    requires four { length levels.old ≡ 4 }
     requires room { shots (event ∷ []) ≤ (taken.old).room }
     ensures keys { keys_of keys.new ≡ keys_after event.what (keys_of keys.old) }
+    ensures levels { levels.new ≡ level_turned event.what levels.old }
+    ensures four { length levels.new ≡ 4 }
     ensures frames { let before = (taken.old).frames in
         (taken.new).frames ≡ (if is_shot event then before ++ frame.now ∷ [] else before) }
     ensures room { (taken.new).room + shots (event ∷ []) ≡ (taken.old).room }
@@ -37,6 +43,7 @@ fn turn(keys: &mut Keys, taken: &mut Shots, frame: &Frame, event: Event)
         What::Up(key) => keys.set(key, false),
         What::Shot => taken.take(frame),
         What::Break => {}
+        What::Level(channel, level) => levels[usize::from(channel)] = level,
     }
 }
 
@@ -45,6 +52,7 @@ fn happen(
     events: &[Event],
     place: &mut usize,
     keys: &mut Keys,
+    levels: &mut [u16; 4],
     taken: &mut Shots,
     frame: &Frame,
     k: u64,
@@ -52,18 +60,22 @@ fn happen(
     requires rules { All IsEvent events.now }
     requires within { place.old ≤ length events.now }
     requires room { shots (drop place.old events.now) ≤ (taken.old).room }
-    requires is_left { IsLeft events.now (drop place.old events.now) (keys_of keys.old) k }
+    requires is_left { IsLeft made_of false events.now (drop place.old events.now) (keys_of keys.old) k }
+    requires at_level { IsLeft level_given 0 events.now (drop place.old events.now) (level_of levels.old) k }
     requires has_left { HasLeft events.now (drop place.old events.now) k }
     requires later { NeverFallsFrom k (drop place.old events.now) }
+    requires four { length levels.old ≡ 4 }
     ensures within { place.new ≤ length events.now }
     ensures room { shots (drop place.new events.now) ≤ (taken.new).room }
-    ensures is_left { IsLeft events.now (drop place.new events.now) (keys_of keys.new) (k + 1) }
+    ensures is_left { IsLeft made_of false events.now (drop place.new events.now) (keys_of keys.new) (k + 1) }
+    ensures at_level { IsLeft level_given 0 events.now (drop place.new events.now) (level_of levels.new) (k + 1) }
+    ensures four { length levels.new ≡ 4 }
     ensures has_left { HasLeft events.now (drop place.new events.now) (k + 1) }
     ensures later { NeverFallsFrom (k + 1) (drop place.new events.now) }
     ensures taken { (taken.new).frames ≡ shot_at k events.now frame.now (taken.old).frames }
 {
     while *place < events.len() && events[*place].tick.0 == k {
-        turn(keys, taken, frame, events[*place]);
+        turn(keys, levels, taken, frame, events[*place]);
         *place += 1;
     }
 }
@@ -96,6 +108,7 @@ impl Playback {
         Playback {
             script,
             keys: Keys::new(),
+            levels: [0; 4],
             shots: taken,
             place: 0,
             event,
@@ -125,6 +138,7 @@ impl Playback {
             events,
             &mut self.place,
             &mut self.keys,
+            &mut self.levels,
             &mut self.shots,
             frame,
             k,

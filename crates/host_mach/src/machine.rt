@@ -1,6 +1,7 @@
 //! The machine.
-ghost use Rattle.std.specs.Prelude.{◌≡◌, ◌≤◌, ◌<◌, ◌+◌, ◌^◌, ℕ, IfOk, IsSome, None, Some, MatchOption, true, false, map, min, unwrap_or, ◌-◌, ◌&&◌};
+ghost use Rattle.std.specs.Prelude.{◌≡◌, ◌≤◌, ◌<◌, ◌+◌, ◌^◌, ℕ, IfOk, IsSome, None, Some, MatchOption, true, false, length, map, min, unwrap_or, ◌-◌, ◌&&◌};
 ghost use Rattle.host_bus.specs.Bus.{bus_disc, bus_break_pending, bus_next_break};
+ghost use Rattle.sn76489.specs.Samples.{NeverFallFrom};
 ghost use Rattle.tube_chip.specs.declared.Answer.TheVariants.{Byte, Seen};
 ghost use Rattle.tube_party.specs.Moves.{Looks, IsAsk, close_leaves, shown_lines};
 ghost use Rattle.cpu6502.specs.Sequences.{next_cycle, after_byte, halted};
@@ -18,6 +19,7 @@ use host_bus::Bus;
 use key_script::Script;
 use raster::Frame;
 use rom_set::RomSet;
+use sn76489::SoundWrite;
 use std::alloc::Global;
 use tube_chip::{Answer, Lines, Op};
 use tube_party::{Ask, MOST, NO_LINES, Party};
@@ -52,8 +54,8 @@ impl<D: BusDevice> HostMachine<D> {
     ghost use Rattle.host_mach.specs.View.{host_seen};
     ghost use Rattle.host_mach.specs.CodeAccess.{IsDone, IsAskedByte, IsStop};
 
-    /// The machine at power-on, at this clock, before the first cycle of a reset. It takes the memory of all shots of the script. Where memory
-    /// is wanting, all is dropped.
+    /// The machine at power-on, at this clock, before the first cycle of a reset. It takes the memory of all shots of the script, and of
+    /// all sound writes. Where memory is wanting, all is dropped.
     pub fn make(
         alloc: Global,
         clock: Clock,
@@ -102,6 +104,16 @@ impl<D: BusDevice> HostMachine<D> {
         ensures { result.now ≡ (host_seen D.plug self.now).bus.board.shots }
     {
         self.bus.frames()
+    }
+
+    /// The writes to the sound chip, in their order: the first 1,048,576 of them, for it takes no later one. The moment of a write is the number
+    /// of the microsecond after it.
+    pub fn sound(&self) -> &[SoundWrite]
+        ensures value { result.now ≡ (host_seen D.plug self.now).bus.board.sound }
+        ensures order { NeverFallFrom 0 result.now }
+        ensures few { length result.now ≤ 1048576 }
+    {
+        self.bus.sound()
     }
 
     /// The disc in drive 0 or 1. None where the drive has none, and for any other number.

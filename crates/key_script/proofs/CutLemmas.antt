@@ -51,9 +51,9 @@ has_word : (line : List ℕ) → HasWord line
 has_word [] = record { first = []; more = []; words = refl }
 has_word (b ∷ line) = has_word_behind b line (has_word line)
 
--- three words behind the tick say nothing
-pub too_many_words : (words first rest second third : List ℕ) → words_of words ≡ first ∷ words_of rest → words_of rest ≡ second ∷ words_of third → None ≡ what_of (words_of words)
-too_many_words words first rest second third one two = let has = has_word third in rw (one, two, has.words) refl
+-- four words behind the tick say nothing
+pub too_many_words : (word second third fourth rest words : List ℕ) → words_of words ≡ second ∷ words_of rest → words_of rest ≡ third ∷ words_of fourth → None ≡ what_of (word ∷ words_of words)
+too_many_words word second third fourth rest words one two = let has = has_word fourth in rw (one, two, has.words) refl
 
 -- what a cut says of the words
 pub word_or_whole : (line : List ℕ) (r : Option (Bor (List ℕ) × Bor (List ℕ))) →

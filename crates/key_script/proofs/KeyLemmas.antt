@@ -3,7 +3,8 @@ use Rattle.std.proofs.Common.{◌≡◌, ◌∙◌, sym, refl, ap, ℕ, Bool, fa
 use Rattle.std.proofs.lemmas.List.{take_more}
 use Rattle.std.specs.Prelude.{unwrap_or}
 use Rattle.key_script.specs.declared.Event.{Event}
-use Rattle.key_script.specs.Keys.{made_by, or_earlier, last_made, is_down}
+use Rattle.key_script.specs.Last.{or_earlier}
+use Rattle.key_script.specs.Keys.{made_by, last_made, is_down}
 
 or_earlier-or_earlier : (a b c : Option Bool) → or_earlier (or_earlier a b) c ≡ or_earlier a (or_earlier b c)
 or_earlier-or_earlier (Some down) b c = refl

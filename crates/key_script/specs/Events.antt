@@ -2,7 +2,7 @@
 use Rattle.std.specs.Prelude.{ℕ, ◌≤◌, ◌<◌, Bool, true, false, List, [], ◌∷◌, All, count_by}
 use Rattle.key_script.specs.declared.Event.{Event}
 use Rattle.key_script.specs.declared.What.{What}
-use Rattle.key_script.specs.declared.What.TheVariants.{Down, Up, Shot, Break}
+use Rattle.key_script.specs.declared.What.TheVariants.{Down, Up, Shot, Break, Level}
 
 abbrev pub tick_of : Event → ℕ
 tick_of e = (e.tick).0
@@ -12,6 +12,7 @@ takes_frame Shot = true
 takes_frame (Down key) = false
 takes_frame (Up key) = false
 takes_frame Break = false
+takes_frame (Level channel level) = false
 
 abbrev pub is_shot : Event → Bool
 is_shot e = takes_frame e.what
@@ -34,17 +35,18 @@ abbrev pub NeverFallsFrom : ℕ → List Event → Type 0
 NeverFallsFrom t [] = Unit {0}
 NeverFallsFrom t (e ∷ events) = (t ≤ tick_of e) × NeverFallsFrom (tick_of e) events
 
--- a key has a number below 80 hexadecimal
-abbrev pub IsKeyed : What → Type 0
-IsKeyed (Down key) = key < 128
-IsKeyed (Up key) = key < 128
-IsKeyed Shot = Unit {0}
-IsKeyed Break = Unit {0}
+-- a key has a number below 80 hexadecimal, and a channel one below 4
+abbrev pub IsInRange : What → Type 0
+IsInRange (Down key) = key < 128
+IsInRange (Up key) = key < 128
+IsInRange Shot = Unit {0}
+IsInRange Break = Unit {0}
+IsInRange (Level channel level) = channel < 4
 
--- an event by itself: its tick is at most the longest run's, and its key is one
+-- an event by itself: its tick is at most the longest run's, and its key or channel is one
 pub record IsEvent (e : Event) : Type 0 where
   pub tick : tick_of e ≤ 1073741824
-  pub key : IsKeyed e.what
+  pub numbers : IsInRange e.what
 
 -- The rules of a script.
 pub record IsScript (events : List Event) : Type 0 where

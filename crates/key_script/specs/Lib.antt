@@ -2,4 +2,6 @@ pub mod Lines
 pub mod Events
 pub mod Line
 pub mod Text
+pub mod Last
 pub mod Keys
+pub mod Levels

@@ -1,5 +1,6 @@
--- One line of a key script: `at T down KK`, `at T up KK`, `at T shot` or `at T break`, with T in decimal, without leading zeros and at most
--- 1073741824, and KK in two upper-case hexadecimal digits from 00 to 7F. (This project's own format.)
+-- One line of a key script: `at T down KK`, `at T up KK`, `at T shot`, `at T break` or `at T adc C VVVV`, with T in decimal, without leading zeros
+-- and at most 1073741824, KK in two upper-case hexadecimal digits from 00 to 7F, C from 0 to 3, and VVVV in four such digits. (This project's own
+-- format.)
 use Rattle.std.specs.Prelude.{ℕ, ◌==◌, ◌&&◌, nat_lt, List, [], ◌∷◌, length, Option, Some, None, option_map, codes, if◌then◌else◌}
 use Rattle.std.specs.List.{list_all}
 use Rattle.std.specs.Str.{bytes_eq}
@@ -7,12 +8,25 @@ use Rattle.digits.specs.Decimal.{decimal_number}
 use Rattle.digits.specs.Hexadecimal.{is_hex, hex_number}
 use Rattle.key_script.specs.declared.Event.{Event}
 use Rattle.key_script.specs.declared.What.{What}
-use Rattle.key_script.specs.declared.What.TheVariants.{Down, Up, Shot, Break}
+use Rattle.key_script.specs.declared.What.TheVariants.{Down, Up, Shot, Break, Level}
 use Rattle.key_script.specs.Lines.{words_of}
+
+-- the number of so many digits, below a bound
+abbrev pub number_of : ℕ → ℕ → List ℕ → Option ℕ
+number_of digits bound word =
+    if length word == digits && list_all is_hex word && nat_lt (hex_number word) bound then Some (hex_number word) else None
 
 -- the number of a key: two digits, below 80 hexadecimal
 abbrev pub key_of : List ℕ → Option ℕ
-key_of word = if length word == 2 && list_all is_hex word && nat_lt (hex_number word) 128 then Some (hex_number word) else None
+key_of word = number_of 2 128 word
+
+-- the number of a channel: one digit, below 4
+abbrev pub channel_of : List ℕ → Option ℕ
+channel_of word = number_of 1 4 word
+
+-- a level: four digits
+abbrev pub level_of : List ℕ → Option ℕ
+level_of word = number_of 4 65536 word
 
 -- `shot` or `break`
 abbrev pub what_alone : List ℕ → Option What
@@ -28,12 +42,22 @@ what_with word key =
     else if bytes_eq word (codes "up") then option_map Up (key_of key)
     else None
 
+abbrev pub level_with : Option ℕ → Option ℕ → Option What
+level_with (Some channel) (Some level) = Some (Level channel level)
+level_with (Some channel) None = None
+level_with None level = None
+
+-- `adc` with a channel and its level
+abbrev pub what_of_level : List ℕ → List ℕ → List ℕ → Option What
+what_of_level word channel level = if bytes_eq word (codes "adc") then level_with (channel_of channel) (level_of level) else None
+
 -- what the words behind the tick say
 abbrev pub what_of : List (List ℕ) → Option What
 what_of [] = None
 what_of (word ∷ []) = what_alone word
 what_of (word ∷ key ∷ []) = what_with word key
-what_of (word ∷ key ∷ more ∷ words) = None
+what_of (word ∷ channel ∷ level ∷ []) = what_of_level word channel level
+what_of (word ∷ channel ∷ level ∷ more ∷ words) = None
 
 abbrev pub event_at : Option ℕ → Option What → Option Event
 event_at (Some tick) (Some what) = Some (record { tick = record { 0 = tick }; what = what })

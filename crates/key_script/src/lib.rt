@@ -1,4 +1,5 @@
-//! The text of a key script: which keys are put down and up at which ticks, when BREAK is pressed, and when a frame is taken.
+//! The text of a key script: which keys are put down and up at which ticks, when BREAK is pressed, when a frame is taken, and which levels the
+//! channels of the analogue converter get.
 #![tactic(auto)]
 
 mod line;
@@ -21,6 +22,8 @@ pub enum What {
     Shot,
     /// The BREAK key is pressed. It resets the machine and is no key of the keyboard's matrix, so it has no number.
     Break,
+    /// A channel of the analogue converter, 0 to 3, gets this level.
+    Level(u8, u16),
 }
 
 /// One line of a script.

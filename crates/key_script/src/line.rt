@@ -1,9 +1,9 @@
 //! One line of a script.
-ghost use Rattle.std.specs.Prelude.{◌≡◌, ◌<◌, ◌∷◌, [], ◌++◌, All, ◌≢◌, IfSome, MatchOption};
+ghost use Rattle.std.specs.Prelude.{◌≡◌, ◌≤◌, ◌<◌, ◌∷◌, [], ◌++◌, All, ◌≢◌, IfSome, MatchOption};
 ghost use Rattle.std.specs.Str.{bytes_eq};
 ghost use Rattle.key_script.specs.Lines.{words_of};
-ghost use Rattle.key_script.specs.Events.{IsEvent, IsKeyed};
-ghost use Rattle.key_script.specs.Line.{key_of, what_alone, what_with, what_of, event_of_words};
+ghost use Rattle.key_script.specs.Events.{IsEvent, IsInRange};
+ghost use Rattle.key_script.specs.Line.{number_of, key_of, channel_of, level_of, what_alone, what_with, what_of_level, what_of, event_of_words};
 
 use crate::{Event, What};
 use beeb_bits::Tick;
@@ -34,22 +34,44 @@ fn is_word(word: &[u8], want: &[u8]) -> bool
     word == want
 }
 
-fn key_of(word: &[u8]) -> Option<u8>
-    ensures value { result ≡ key_of word.now }
-    ensures bound { IfSome result (λ key. key < 128) }
+// The number of a word of so many digits, if it is below a bound.
+fn number_of(word: &[u8], digits: usize, bound: u64) -> Option<u64>
+    requires { digits ≤ 16 }
+    ensures value { result ≡ number_of digits bound word.now }
+    ensures bound { IfSome result (λ n. n < bound) }
 {
-    if word.len() == 2 && all_hex(word) {
-        let key = hex_number(word);
-        if key < 128 {
-            return Some(key as u8);
+    if word.len() == digits && all_hex(word) {
+        let number = hex_number(word);
+        if number < bound {
+            return Some(number);
         }
     }
     None
 }
 
+fn key_of(word: &[u8]) -> Option<u8>
+    ensures value { result ≡ key_of word.now }
+    ensures bound { IfSome result (λ key. key < 128) }
+{
+    Some(number_of(word, 2, 128)? as u8)
+}
+
+fn channel_of(word: &[u8]) -> Option<u8>
+    ensures value { result ≡ channel_of word.now }
+    ensures bound { IfSome result (λ channel. channel < 4) }
+{
+    Some(number_of(word, 1, 4)? as u8)
+}
+
+fn level_of(word: &[u8]) -> Option<u16>
+    ensures { result ≡ level_of word.now }
+{
+    Some(number_of(word, 4, 65_536)? as u16)
+}
+
 fn what_alone(word: &[u8]) -> Option<What>
     ensures value { result ≡ what_alone word.now }
-    ensures keyed { IfSome result IsKeyed }
+    ensures ranged { IfSome result IsInRange }
 {
     if is_word(word, b"shot") {
         Some(What::Shot)
@@ -62,7 +84,7 @@ fn what_alone(word: &[u8]) -> Option<What>
 
 fn what_with(word: &[u8], key: &[u8]) -> Option<What>
     ensures value { result ≡ what_with word.now key.now }
-    ensures keyed { IfSome result IsKeyed }
+    ensures ranged { IfSome result IsInRange }
 {
     if is_word(word, b"down") {
         Some(What::Down(key_of(key)?))
@@ -73,17 +95,39 @@ fn what_with(word: &[u8], key: &[u8]) -> Option<What>
     }
 }
 
+fn what_of_level(word: &[u8], channel: &[u8], level: &[u8]) -> Option<What>
+    ensures value { result ≡ what_of_level word.now channel.now level.now }
+    ensures ranged { IfSome result IsInRange }
+{
+    if is_word(word, b"adc") {
+        Some(What::Level(channel_of(channel)?, level_of(level)?))
+    } else {
+        None
+    }
+}
+
+// What the words behind the tick say, the first of which is given.
+fn what_of_more(word: &[u8], words: &[u8]) -> Option<What>
+    ensures value { result ≡ what_of (word.now ∷ words_of words.now) }
+    ensures ranged { IfSome result IsInRange }
+{
+    match split_word(words) {
+        None => what_with(word, words),
+        Some((second, rest)) => match split_word(rest) {
+            None => what_of_level(word, second, rest),
+            Some(_) => None,
+        },
+    }
+}
+
 // What the words behind the tick say.
 fn what_of(words: &[u8]) -> Option<What>
     ensures value { result ≡ what_of (words_of words.now) }
-    ensures keyed { IfSome result IsKeyed }
+    ensures ranged { IfSome result IsInRange }
 {
     match split_word(words) {
         None => what_alone(words),
-        Some((word, rest)) => match split_word(rest) {
-            None => what_with(word, rest),
-            Some(_) => None,
-        },
+        Some((word, rest)) => what_of_more(word, rest),
     }
 }
 

@@ -7,8 +7,8 @@ use crate::{Event, What};
 use beeb_bits::Tick;
 use std::marker::Model;
 
-/// The events of a script: their ticks never fall and are at most 1,073,741,824, their keys are below 80 hexadecimal, and at most
-/// 256 of them are shots.
+/// The events of a script: their ticks never fall and are at most 1,073,741,824, their keys are below 80 hexadecimal, their
+/// channels below 4, and at most 256 of them are shots.
 #[derive(Drop)]
 pub struct Script {
     events: Vec<Event>,

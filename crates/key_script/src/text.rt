@@ -43,9 +43,10 @@ fn fault(line: u64, last: Tick, shots: usize, event: Event) -> Option<ScriptErro
     }
 }
 
-/// The script of a text. Each line is `at T down KK`, `at T up KK`, `at T shot` or `at T break` and a line feed: T is the tick in decimal,
-/// without leading zeros and at most 1,073,741,824, and KK the number of a key in two upper-case hexadecimal digits from 00 to 7F. T never
-/// falls from line to line, and there are at most 256 shots.
+/// The script of a text. Each line is `at T down KK`, `at T up KK`, `at T shot`, `at T break` or `at T adc C VVVV` and a line feed: T is the
+/// tick in decimal, without leading zeros and at most 1,073,741,824, KK the number of a key in two upper-case hexadecimal digits from 00 to 7F,
+/// C a channel from 0 to 3, and VVVV its level in four upper-case hexadecimal digits. T never falls from line to line, and there are at most 256
+/// shots.
 ///
 /// # Errors
 /// The first line that is outside this form, or has a tick below that of the line before it, or has the 257th shot. On one line the

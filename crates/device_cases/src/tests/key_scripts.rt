@@ -36,13 +36,15 @@ fn count(outcome: Result<Script, ScriptError>) -> Result<usize, ScriptError> {
 fn a_line_tells_of_one_event(rt: HostRuntime) -> Result<(), Fail> {
     let script = read(
         rt.alloc(),
-        b"at 60 down 41\nat 60 up 00\nat 72 shot\nat 75 break\nat 1073741824 down 7F\n",
+        b"at 60 down 41\nat 60 up 00\nat 72 shot\nat 75 break\nat 80 adc 0 0000\nat 80 adc 3 FE0A\nat 1073741824 down 7F\n",
     )?;
     let want = [
         event(60, What::Down(0x41)),
         event(60, What::Up(0)),
         event(72, What::Shot),
         event(75, What::Break),
+        event(80, What::Level(0, 0)),
+        event(80, What::Level(3, 0xfe0a)),
         event(1_073_741_824, What::Down(0x7f)),
     ];
     assert_eq!(rt; script.events().len(), want.len());
@@ -111,6 +113,22 @@ bad 1@at 60 up 4a|
 bad 1@at 60 up 041|
 bad 1@at 60 down 4|
 bad 1@at 60 down G1|
+# The channel and its level.
+events 2@at 60 adc 1 8000|at 60 adc 2 FFFF|
+order 2@at 60 adc 1 8000|at 59 adc 1 8000|
+bad 1@at 60 adc 4 8000|
+bad 1@at 60 adc 01 8000|
+bad 1@at 60 adc A 8000|
+bad 1@at 60 adc 1 800|
+bad 1@at 60 adc 1 08000|
+bad 1@at 60 adc 1 80g0|
+bad 1@at 60 adc 1 abcd|
+bad 1@at 60 adc 1|
+bad 1@at 60 adc|
+bad 1@at 60 adc 1 8000 |
+bad 1@at 60 adc 1 8000 0|
+bad 1@at 60 Adc 1 8000|
+bad 1@at 60 down 1 8000|
 ";
 
 fn wanted(outcome: &str) -> Option<Result<usize, ScriptError>> {

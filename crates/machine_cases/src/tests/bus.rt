@@ -9,6 +9,7 @@ use host_bus::{Bus, stretch};
 use key_script::read;
 use raster::Frame;
 use rom_set::RomSet;
+use sn76489::SoundWrite;
 use std::alloc::Global;
 use std::test::Fail;
 use std::vec::Vec;
@@ -239,8 +240,11 @@ FE84 FE84 06 06 fast
 FE85 FE87 00 A5 fast
 FE86 FE86 00 A5 fast
 FE88 FEBF FE FE fast
-FEC0 FEC0 40 40 slow
-FEC1 FEDF FE FE slow
+# The converter by the low two bits.
+FEC0 FEDC 40 85 slow
+FEC1 FEDD 00 00 slow
+FEC2 FEDE 00 00 slow
+FEC3 FEDF FE FE slow
 FF00 FF00 14 14 fast
 FF01 FFFE 11 11 fast
 FFFF FFFF 15 15 fast
@@ -607,5 +611,107 @@ at 60 break;|0:FE80=29 50:FE84=D8 50:+1 60:break 61:FE84=D8 62:+1 63:FE80=29 64:
 #[test]
 fn a_break_resets_the_disc_latch_and_the_users_6522(rt: HostRuntime) -> Result<(), Fail> {
     assert_eq!(rt; first_wrong(rt.alloc(), "0:calm", BREAKS)?, None);
+    Ok(())
+}
+
+// A conversion that is begun between the microseconds 0 and 1 ends in microsecond 4,000, at tick 24,000, or in 10,000, at tick 60,000.
+const CONVERSIONS: &str = "\
+at 0 adc 1 8000;|0:FEC0?40 1:FEC0=01 1:FEC0?81 23999:FEC0?81 23999:FEC1?00 24000:FEC0?61 24000:FEC1?80 24000:FEC2?00 24000:FEC3?FE 24001:FEDC?61
+# Each register stands at each fourth address, and only writes to the first do anything.
+at 0 adc 1 8000;|1:FED9=01 1:FED6=01 1:FECF=01 1:FEC0?40 2:FEC4=01 2:FED8?81 24000:FEC5?80
+# The level is that of the tick of the last microsecond.
+at 0 adc 1 1000;at 60000 adc 1 ABCD;at 60001 adc 1 FFFF;|1:FEC0=09 59999:FEC0?89 60000:FEC0?69 60000:FEC1?AB 60000:FEC2?C0 60006:FEC1?AB
+at 0 adc 1 1000;at 60001 adc 1 ABCD;at 60002 adc 1 FFFF;|1:FEC0=09 60000:FEC0?49 60000:FEC1?10 60000:FEC2?00 60006:FEC1?10
+at 0 adc 1 1000;at 12000 adc 1 2000;at 12000 adc 1 3456;at 12000 adc 0 FFFF;at 12000 adc 3 FFFF;|1:FEC0=09 60000:FEC1?34 60000:FEC2?50
+# One microsecond before its end a conversion is given up.
+at 0 adc 1 8000;at 0 adc 2 C000;|1:FEC0=01 23999:FEC0=02 24000:FEC0?82 24000:FEC1?00 47993:FEC0?82 47994:FEC0?72 47994:FEC1?C0
+# A break does not reach it.
+at 0 adc 1 8000;at 60 break;|1:FEC0=01 60:break 61:FEC0?81 24000:FEC0?61 24000:FEC1?80
+# Keys and shots go on while a conversion does, and behind it.
+at 600 down 41;at 606 up 41;at 30000 down 41;|0:FE43=7F 0:FE4F=41 1:FEC0=01 599:FE4F?41 600:FE4F?C1 606:FE4F?41 24000:FEC0?41 29999:FE4F?41 30000:FE4F?C1
+# Its line is CB1 of the system's 6522, which sees it in the microsecond of the end. A read of port B clears the flag.
+|0:FE4E=90 1:FEC0=00 23999:calm 23999:FE4D?00 24000:irq 24000:FE4D?90 24001:FE40?FF 24001:calm 30000:calm
+|0:FE4E=90 0:FE4C=10 1:FEC0=00 24006:calm 24007:FEC0=00 24011:calm 24012:irq 24012:FE4D?90
+";
+
+#[test]
+fn conversions_go_by_the_bus(rt: HostRuntime) -> Result<(), Fail> {
+    assert_eq!(rt; first_wrong(rt.alloc(), "0:calm", CONVERSIONS)?, None);
+    Ok(())
+}
+
+// Programs, and behind `|` the moments and bytes of the sound writes.
+const SOUNDS: &str = "\
+# An operating system's first, in microsecond 21.
+36:FE42=FF 51:FE43=FF 75:FE4F=9F 99:FE40=08 123:FE40=00|21:9F
+# In one microsecond, at one tick and in the next one.
+0:FE42=FF 0:FE43=FF 60:FE4F=80 60:FE40=08 60:FE40=00 60:FE40=08 64:FE4F=01 65:FE40=00 65:FE40=08 66:FE40=00|11:80 11:01 12:01
+# Bit 0 of the latch rises, it is 0 already, or another bit falls.
+0:FE42=FF 0:FE43=FF 6:FE40=08|
+0:FE42=FF 0:FE43=FF 6:FE40=00 7:FE40=00|
+0:FE42=FF 0:FE43=FF 6:FE40=09 7:FE40=01|
+# A write to the direction of port B turns its pins; an access to any other register does not.
+0:FE42=F7 0:FE43=FF 0:FE41=42 0:FE40=00 6:FE42=FF|2:42
+0:FE42=FF 0:FE43=FF 0:FE40=08 6:FE41=42 6:FE4F=43 6:FE60=00 6:FE40?08|
+# The pins of port A, with ones for inputs.
+0:FE42=FF 0:FE43=0F 0:FE4F=30 0:FE50=08 11:FE50=00|2:F0
+";
+
+// The write that a word tells of.
+fn sound_of(word: &str) -> Option<SoundWrite> {
+    let (moment, v) = word.split_once(':')?;
+    Some(SoundWrite {
+        moment: moment.parse().ok()?,
+        byte: byte(v)?,
+    })
+}
+
+// Whether these are the sound writes.
+fn are_sounds(sound: &[SoundWrite], words: &str) -> bool {
+    let words = words.split(' ').filter(|word| !word.is_empty());
+    words
+        .map(sound_of)
+        .eq(sound.iter().map(|write| Some(*write)))
+}
+
+#[test]
+fn the_sound_chip_is_written_where_bit_0_of_the_latch_falls(rt: HostRuntime) -> Result<(), Fail> {
+    for clock in CLOCKS {
+        for line in SOUNDS.lines() {
+            if let Some((program, sounds)) = line.split_once('|') {
+                let mut bus = bus_with(rt.alloc(), clock, "")?;
+                assert!(rt;
+                    does(&mut bus, program) && are_sounds(bus.sound(), sounds),
+                    "{clock:?} {line}"
+                );
+            }
+        }
+    }
+    Ok(())
+}
+
+// Writes this byte to the sound chip so many times, in microsecond 1.
+fn write_sound(bus: &mut Bus, v: u8, times: u32) -> bool {
+    let mut is_done = is_right(bus, 0, Write(0xfe4f, v));
+    for _ in 0..times {
+        is_done = is_done
+            && is_right(bus, 0, Write(0xfe40, 0x08))
+            && is_right(bus, 0, Write(0xfe40, 0x00));
+    }
+    is_done
+}
+
+#[test]
+fn the_first_1048576_sound_writes_are_kept(rt: HostRuntime) -> Result<(), Fail> {
+    let mut bus = bus_with(rt.alloc(), Clock::Three, "")?;
+    assert!(rt; does(&mut bus, "0:FE42=FF 0:FE43=FF"));
+    assert!(rt; write_sound(&mut bus, 0x9f, 1_048_575));
+    assert_eq!(rt; bus.sound().len(), 1_048_575);
+    assert!(rt; write_sound(&mut bus, 0x80, 1) && write_sound(&mut bus, 0x81, 1));
+    let last = SoundWrite {
+        moment: 1,
+        byte: 0x80,
+    };
+    assert!(rt; bus.sound().len() == 1_048_576 && bus.sound().last() == Some(&last));
     Ok(())
 }

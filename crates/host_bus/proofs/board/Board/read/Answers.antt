@@ -1,5 +1,6 @@
-use Rattle.std.proofs.Common.{◌≡◌, ◌∙◌, ◌+◌, ◌%◌, ap, subst, drop, ℕ, arith}
+use Rattle.std.proofs.Common.{◌≡◌, ◌∙◌, ◌+◌, ◌%◌, ap, subst, drop, false, ℕ, arith}
 use Rattle.keyboard.specs.Keys.{Keys, keys_of}
+use Rattle.key_script.specs.Keys.{made_of}
 use Rattle.host_bus.specs.declared.map.Place.{Place}
 use Rattle.host_bus.specs.Devices.{system_answer}
 use Rattle.host_bus.specs.Board.{BoardState, answer_at}
@@ -14,7 +15,7 @@ returns-in-SystemVia-clause-answer c = λ t at.
     let b = c.self.inside in
     let p = b.playback in
     let closed : b.closed ≡ t + 1 = ap (λ (s : BoardState). s.closed) c.self.view_is ∙ at in
-    let left : IsLeft p.script (drop p.place p.script) (keys_of p.keys) (t + 1) = subst (λ (n : ℕ). IsLeft p.script (drop p.place p.script) (keys_of p.keys) n) closed c.self.invariant.played.is_left in
+    let left : IsLeft made_of false p.script (drop p.place p.script) (keys_of p.keys) (t + 1) = subst (λ (n : ℕ). IsLeft made_of false p.script (drop p.place p.script) (keys_of p.keys) n) closed c.self.invariant.played.is_left in
     c.read_system.ensures.answer
     ∙ ap (λ (f : Keys). system_answer (c.args.at % 16) f b.devices) (keys-are p.script (drop p.place p.script) (keys_of p.keys) t p.event left c.self.invariant.played.later (omega (arith, closed, c.self.invariant.played.early)))
     ∙ ap (λ (p : Place). answer_at p (board_seen b) t c.args.at) c.in-SystemVia.ensures.place

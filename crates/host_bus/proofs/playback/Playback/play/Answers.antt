@@ -1,7 +1,10 @@
-use Rattle.std.proofs.Common.{◌+◌, sym, subst, drop, List, arith}
+use Rattle.std.proofs.Common.{◌+◌, sym, subst, drop, false, List, arith}
 use Rattle.key_script.specs.declared.Event.{Event}
+use Rattle.keyboard.specs.Keys.{keys_of}
+use Rattle.key_script.specs.Keys.{made_of}
+use Rattle.key_script.specs.Levels.{level_given}
 use Rattle.key_script.specs.Events.{NeverFallsFrom}
-use Rattle.host_bus.specs.CodePlayback.{HasLeft}
+use Rattle.host_bus.specs.CodePlayback.{IsLeft, HasLeft, level_of}
 use Rattle.host_bus.proofs.Played.{not-before}
 use Rattle.host_bus.proofs.playback.Playback.play.Goals as goal
 
@@ -15,6 +18,16 @@ happen-requires-clause-has_left c =
     let p = c.args.self.now in
     subst (λ (events : List Event). HasLeft events (drop p.place events) c.args.k) (sym c.events-events.ensures.events) c.requires.played.has_left
 
+pub happen-requires-clause-is_left : goal.happen-requires-clause-is_left
+happen-requires-clause-is_left c =
+    let p = c.args.self.now in
+    subst (λ (events : List Event). IsLeft made_of false events (drop p.place events) (keys_of p.keys) c.args.k) (sym c.events-events.ensures.events) c.requires.played.is_left
+
+pub happen-requires-clause-at_level : goal.happen-requires-clause-at_level
+happen-requires-clause-at_level c =
+    let p = c.args.self.now in
+    subst (λ (events : List Event). IsLeft level_given 0 events (drop p.place events) (level_of p.levels) c.args.k) (sym c.events-events.ensures.events) c.requires.played.at_level
+
 pub returns-clause-played : goal.returns-clause-played
 returns-clause-played c =
     let happened = rw c.events-events.ensures.events at c.happen.ensures in
@@ -24,6 +37,8 @@ returns-clause-played c =
       room = happened.room;
       has_left = happened.has_left;
       is_left = happened.is_left;
+      at_level = happened.at_level;
+      four = happened.four;
       later = event.later (c.args.k + 1) happened.later;
       early = event.above (c.args.k + 1) (omega (arith, c.requires.room)) happened.later;
     }
