@@ -1,5 +1,5 @@
--- The file of each output: its name, by the name that is given for all, and its bytes. What is not there has no bytes.
-use Rattle.std.specs.Prelude.{ℕ, ◌/◌, ◌%◌, List, [], ◌++◌, length, Option, Some, None, option_map, slice_get, decimal, codes}
+-- The file of each output: its name, by the names that are given, and its bytes. What is not there has no bytes.
+use Rattle.std.specs.Prelude.{ℕ, ◌/◌, ◌%◌, List, [], ◌++◌, length, Option, Some, None, option_map, slice_get, unwrap_or, decimal, codes}
 use Rattle.beeb_bits.specs.declared.Side.{Side}
 use Rattle.beeb_bits.specs.declared.Side.TheVariants as sides
 use Rattle.disc_image.specs.Image.{Image}
@@ -12,8 +12,9 @@ use Rattle.frame_out.specs.Pixmap.{pixmap}
 use Rattle.report.specs.declared.Line.{Line}
 use Rattle.report.specs.Text.{text}
 use Rattle.beeb_outcome.specs.declared.output.Output.{Output}
-use Rattle.beeb_outcome.specs.declared.output.Output.TheVariants.{Report, Memory, Disc, Frame, Trace, Plug, Bytes}
+use Rattle.beeb_outcome.specs.declared.output.Output.TheVariants.{Report, Memory, Disc, Frame, Trace, Plug, Sound, Bytes}
 use Rattle.beeb_outcome.specs.Left.{Kept, Left}
+use Rattle.beeb_outcome.specs.Sound.{sound_bytes}
 
 -- a machine's line in a report
 abbrev pub host_line : HostState → Line
@@ -79,13 +80,18 @@ memory_name sides.Para = codes ".para"
 abbrev pub frame_name : List ℕ → ℕ → List ℕ
 frame_name out number = out ++ (codes "." ++ (three_digits number ++ codes ".ppm"))
 
+-- a name of its own that an output is given
+abbrev pub own_name : Option (List ℕ) → List ℕ
+own_name name = unwrap_or name []
+
 -- The file of an output.
 abbrev pub file_of : Left → Output → List ℕ × List ℕ
-file_of l Report = (l.out ++ codes ".report", report_text l)
-file_of l (Memory side) = (l.out ++ memory_name side, ram_of side l)
-file_of l (Disc drive) = (l.out ++ (codes ".d" ++ decimal drive), bytes_in (disc_bytes drive) l.host)
-file_of l (Frame number) = (frame_name l.out number, bytes_in (frame_bytes number) l.host)
-file_of l Trace = (l.out ++ codes ".trace", bytes_in trace_text l.kept)
-file_of l (Plug number) = (l.out ++ (codes ".plug" ++ decimal number), bytes_in (plug_bytes number) l.host)
+file_of l Report = (l.names.out ++ codes ".report", report_text l)
+file_of l (Memory side) = (l.names.out ++ memory_name side, ram_of side l)
+file_of l (Disc drive) = (l.names.out ++ (codes ".d" ++ decimal drive), bytes_in (disc_bytes drive) l.host)
+file_of l (Frame number) = (frame_name l.names.out number, bytes_in (frame_bytes number) l.host)
+file_of l Trace = (l.names.out ++ codes ".trace", bytes_in trace_text l.kept)
+file_of l (Plug number) = (l.names.out ++ (codes ".plug" ++ decimal number), bytes_in (plug_bytes number) l.host)
+file_of l Sound = (own_name l.names.wav, bytes_in (sound_bytes l.clock l.ticks) l.host)
 -- under the given name itself
-file_of l Bytes = (l.out, l.bytes)
+file_of l Bytes = (l.names.out, l.bytes)

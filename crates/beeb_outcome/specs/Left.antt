@@ -1,7 +1,9 @@
 -- What a command leaves, of which the files of its outputs are made.
 use Rattle.std.specs.Prelude.{ℕ, List, Option}
+use Rattle.beeb_bits.specs.declared.clock.Clock.{Clock}
 use Rattle.host_mach.specs.State.{HostState}
 use Rattle.para_mach.specs.State.{ParaState}
+use Rattle.beeb_outcome.specs.Names.{Names}
 
 -- the accesses that are kept: how many, and their trace
 pub record Kept : Type 0 where
@@ -9,8 +11,9 @@ pub record Kept : Type 0 where
   pub trace : List ℕ
 
 pub record Left : Type 0 where
-  -- the name that is given for all outputs
-  pub out : List ℕ
+  -- the names that are given for outputs
+  pub names : Names
+  pub clock : Clock
   pub ticks : ℕ
   -- all accesses to the Tube of the machines that are there
   pub tube : ℕ

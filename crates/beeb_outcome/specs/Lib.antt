@@ -1,3 +1,5 @@
+pub mod Names
+pub mod Sound
 pub mod Left
 pub mod Files
 pub mod Outputs

@@ -4,7 +4,7 @@ use Rattle.beeb_bits.specs.declared.Side.TheVariants as sides
 use Rattle.host_bus.specs.Bus.{bus_disc}
 use Rattle.host_mach.specs.State.{HostState}
 use Rattle.beeb_outcome.specs.declared.output.Output.{Output}
-use Rattle.beeb_outcome.specs.declared.output.Output.TheVariants.{Report, Memory, Disc, Frame, Trace, Plug}
+use Rattle.beeb_outcome.specs.declared.output.Output.TheVariants.{Report, Memory, Disc, Frame, Trace, Plug, Sound}
 use Rattle.beeb_outcome.specs.Left.{Left}
 
 -- this output, where what it is made of is there
@@ -38,7 +38,7 @@ abbrev pub spills : HostState → List Output
 spills s = plugs (length s.bus.plugs)
 
 -- The report; the memories of the machines that are there, the host's first; the discs; the frames; the trace of what is kept, if something is;
--- and what the plugged devices spill.
+-- what the plugged devices spill; and then each output that is given a name of its own.
 unfoldable pub machine_outputs : Left → List Output
 machine_outputs l =
     Report ∷ []
@@ -48,3 +48,4 @@ machine_outputs l =
     ++ of_host shots l.host
     ++ if_there Trace l.kept
     ++ of_host spills l.host
+    ++ if_there Sound l.names.wav

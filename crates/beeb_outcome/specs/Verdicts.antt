@@ -1,10 +1,12 @@
 -- The verdicts that several commands have.
 use Rattle.std.specs.Prelude.{ℕ, List, [], ◌∷◌, map, Some, None}
+use Rattle.beeb_bits.specs.declared.clock.Clock.{Clock}
 use Rattle.host_mach.specs.State.{HostState}
 use Rattle.para_mach.specs.State.{ParaState}
 use Rattle.beeb_stages.specs.Plan.{Verdict}
 use Rattle.beeb_status.specs.declared.status.Ending.{Ending}
 use Rattle.beeb_status.specs.declared.status.Ending.TheVariants.{Done}
+use Rattle.beeb_outcome.specs.Names.{Names}
 use Rattle.beeb_outcome.specs.Left.{Kept, Left}
 use Rattle.beeb_outcome.specs.Files.{file_of}
 use Rattle.beeb_outcome.specs.Outputs.{machine_outputs}
@@ -22,13 +24,16 @@ unfoldable pub machine_verdict : Left → Verdict Ending
 machine_verdict l = record { ending = Done; files = map (file_of l) (machine_outputs l); said = [] }
 
 -- what the host leaves after a replay
-abbrev pub host_left : ℕ → ℕ → List ℕ → HostState → Left
-host_left ticks tube out s = record { out = out; ticks = ticks; tube = tube; host = Some s; para = None; kept = None; bytes = [] }
+abbrev pub host_left : Clock → ℕ → ℕ → Names → HostState → Left
+host_left clock ticks tube names s =
+    record { names = names; clock = clock; ticks = ticks; tube = tube; host = Some s; para = None; kept = None; bytes = [] }
 
 -- what the second processor leaves after a replay
-abbrev pub para_left : ℕ → ℕ → List ℕ → ParaState → Left
-para_left ticks tube out s = record { out = out; ticks = ticks; tube = tube; host = None; para = Some s; kept = None; bytes = [] }
+abbrev pub para_left : Clock → ℕ → ℕ → Names → ParaState → Left
+para_left clock ticks tube names s =
+    record { names = names; clock = clock; ticks = ticks; tube = tube; host = None; para = Some s; kept = None; bytes = [] }
 
 -- what both machines leave after a run
-abbrev pub both_left : ℕ → ℕ → List ℕ → HostState → ParaState → Kept → Left
-both_left ticks tube out s p kept = record { out = out; ticks = ticks; tube = tube; host = Some s; para = Some p; kept = Some kept; bytes = [] }
+abbrev pub both_left : Clock → ℕ → ℕ → Names → HostState → ParaState → Kept → Left
+both_left clock ticks tube names s p kept =
+    record { names = names; clock = clock; ticks = ticks; tube = tube; host = Some s; para = Some p; kept = Some kept; bytes = [] }

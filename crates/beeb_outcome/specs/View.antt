@@ -1,16 +1,21 @@
 -- What the code holds, as the definitions see it.
-use Rattle.std.specs.Prelude.{option_map}
+use Rattle.std.specs.Prelude.{option_map, option_copied}
 use Rattle.bus_plug.specs.Plug.{Plug}
 use Rattle.host_mach.specs.View.{host_seen}
 use Rattle.beeb_stages.specs.Plan.{Verdict}
 use Rattle.beeb_stages.specs.declared.outcome.Outcome.{Outcome}
 use Rattle.beeb_stages.specs.View as stages
 use Rattle.beeb_status.specs.declared.status.Ending.{Ending}
+use Rattle.beeb_outcome.specs.declared.names.Names.{Names}
 use Rattle.beeb_outcome.specs.declared.left.Kept.{Kept}
 use Rattle.beeb_outcome.specs.declared.left.Left.{Left}
 use Rattle.beeb_outcome.specs.declared.output.Output.{Output}
+use Rattle.beeb_outcome.specs.Names as names
 use Rattle.beeb_outcome.specs.Left as lefts
 use Rattle.beeb_outcome.specs.Files.{file_of}
+
+abbrev pub names_seen : Names → names.Names
+names_seen n = record { out = n.out.now; wav = option_copied n.wav }
 
 abbrev pub kept_seen : Kept → lefts.Kept
 kept_seen k = record { count = k.count; trace = k.trace.items }
@@ -18,7 +23,8 @@ kept_seen k = record { count = k.count; trace = k.trace.items }
 -- what a command left, by what its plugged devices are
 abbrev pub left_seen : {D : Type 0} → (D → Plug) → Left D → lefts.Left
 left_seen plug l = record {
-  out = l.out.now;
+  names = names_seen l.names;
+  clock = l.clock;
   ticks = l.ticks.0;
   tube = l.tube;
   host = option_map (host_seen plug) l.host;

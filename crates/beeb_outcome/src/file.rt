@@ -3,6 +3,7 @@ ghost use Rattle.std.specs.Prelude.{◌≡◌, ◌++◌, IfOk, option_map, strin
 ghost use Rattle.host_mach.specs.View.{host_seen};
 ghost use Rattle.beeb_stages.specs.View.{seen_file};
 ghost use Rattle.beeb_outcome.specs.Files.{bytes_in, disc_bytes, frame_bytes, plug_bytes, trace_text, file_of};
+ghost use Rattle.beeb_outcome.specs.Sound.{sound_bytes};
 ghost use Rattle.beeb_outcome.specs.View.{kept_seen, left_seen};
 
 use crate::discs::disc_bytes;
@@ -11,6 +12,7 @@ use crate::left::{Kept, Left};
 use crate::memories::{ram_of, report_text};
 use crate::output::Output;
 use crate::plugs::plug_bytes;
+use crate::sound::sound_bytes;
 use beeb_bits::Side;
 use beeb_stages::Leaves;
 use bus_plug::BusDevice;
@@ -69,6 +71,17 @@ fn trace_in(alloc: Global, kept: &Option<Kept>) -> Result<Vec<u8>, AllocError>
     }
 }
 
+// What is heard of the host.
+fn sound_in<D: BusDevice>(alloc: Global, left: &Left<'_, D>) -> Result<Vec<u8>, AllocError>
+    ensures { let there = option_map (host_seen D.plug) left.now.host in
+        IfOk result (λ v. v.items ≡ bytes_in (sound_bytes left.now.clock left.now.ticks.0) there) }
+{
+    match &left.host {
+        Some(machine) => sound_bytes(alloc, left.clock, left.ticks, machine),
+        None => Ok(Vec::new(alloc)),
+    }
+}
+
 impl<'a, D: BusDevice> Leaves for Left<'a, D> {
     type Output = Output;
 
@@ -77,7 +90,7 @@ impl<'a, D: BusDevice> Leaves for Left<'a, D> {
     fn file(&self, alloc: Global, output: Output) -> Result<(String, Vec<u8>), AllocError>
         ensures { IfOk result (λ f. seen_file f ≡ file_of (left_seen D.plug self.now) output) }
     {
-        let out = self.out;
+        let out = self.names.out;
         match output {
             Output::Report => Ok((
                 format!(in alloc; "{out}.report")?,
@@ -106,6 +119,10 @@ impl<'a, D: BusDevice> Leaves for Left<'a, D> {
             Output::Plug(number) => Ok((
                 format!(in alloc; "{out}.plug{number}")?,
                 plug_in(alloc, &self.host, number)?,
+            )),
+            Output::Sound => Ok((
+                String::from_str(alloc, self.names.wav.unwrap_or(""))?,
+                sound_in(alloc, self)?,
             )),
             Output::Bytes => Ok((String::from_str(alloc, out)?, self.bytes.to_vec(alloc)?)),
         }

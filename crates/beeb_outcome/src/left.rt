@@ -1,5 +1,8 @@
 //! What a command leaves, of which the files of its outputs are made.
-use beeb_bits::Tick;
+ghost use Rattle.std.specs.Prelude.{◌≤◌};
+
+use crate::names::Names;
+use beeb_bits::{Clock, Tick};
 use bus_plug::BusDevice;
 use host_mach::HostMachine;
 use para_mach::ParaMachine;
@@ -16,8 +19,8 @@ pub struct Kept {
 /// What a command leaves.
 #[derive(Drop)]
 pub struct Left<'a, D> {
-    /// The name that is given for all outputs.
-    pub out: &'a str,
+    pub names: Names<'a>,
+    pub clock: Clock,
     pub ticks: Tick,
     /// How many accesses to the Tube the machines that are there had.
     pub tube: u64,
@@ -28,4 +31,5 @@ pub struct Left<'a, D> {
     pub kept: Option<Kept>,
     /// Bytes that are an output by themselves.
     pub bytes: Vec<u8>,
+    ghost most: { ticks.0 ≤ 1073741824 },
 }

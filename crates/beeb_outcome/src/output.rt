@@ -1,7 +1,8 @@
 //! The outputs that a command may have.
 use beeb_bits::Side;
 
-/// An output: which file it is, without its bytes. `OUT` is the name that is given for all.
+/// An output: which file it is, without its bytes. `OUT` is the name that is given for all that have none of
+/// their own.
 #[derive(Clone, Copy, Debug, PartialEq, Eq)]
 pub enum Output {
     /// `OUT.report`
@@ -16,6 +17,8 @@ pub enum Output {
     Trace,
     /// `OUT.plug0` and so on: what a plugged device spills.
     Plug(usize),
+    /// The name that `--wav` gives: what is heard of the host's writes to its sound chip.
+    Sound,
     /// `OUT`: bytes that were made before.
     Bytes,
 }

@@ -71,5 +71,6 @@ pub(crate) fn machine_outputs<D: BusDevice>(
     push_media(&mut outputs, &left.host)?;
     push_if(&mut outputs, Output::Trace, &left.kept)?;
     push_spills(&mut outputs, &left.host)?;
+    push_if(&mut outputs, Output::Sound, &left.names.wav)?;
     Ok(outputs)
 }

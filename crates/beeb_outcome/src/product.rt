@@ -1,13 +1,15 @@
 //! What comes of a command.
 ghost use Rattle.std.specs.Prelude.{◌≡◌, IfOk, Ok, []};
 ghost use Rattle.beeb_status.specs.declared.status.Ending.TheVariants.{Done};
-ghost use Rattle.beeb_outcome.specs.View.{left_seen, verdict_of};
+ghost use Rattle.beeb_outcome.specs.View.{left_seen, names_seen, verdict_of};
+ghost use Rattle.beeb_outcome.specs.Names.{one_name};
 ghost use Rattle.beeb_outcome.specs.Verdicts.{said_verdict, file_verdict, machine_verdict};
 
 use crate::left::Left;
+use crate::names::Names;
 use crate::output::Output;
 use crate::outputs::machine_outputs;
-use beeb_bits::Tick;
+use beeb_bits::{Clock, Tick};
 use beeb_status::Ending;
 use bus_plug::BusDevice;
 use std::alloc::{AllocError, Global};
@@ -17,11 +19,12 @@ pub type Outcome<'a, D> = beeb_stages::Outcome<Ending, Output, Left<'a, D>>;
 
 // Bytes under a name, and no machine.
 fn bytes_left<'a, D: BusDevice>(out: &'a str, bytes: Vec<u8>) -> Left<'a, D>
-    ensures name { result.out ≡ out.entry }
+    ensures name { names_seen result.names ≡ one_name out.now }
     ensures bytes { result.bytes.items ≡ bytes.items }
 {
     Left {
-        out,
+        names: Names { out, wav: None },
+        clock: Clock::Three,
         ticks: Tick(0),
         tube: 0,
         host: None,

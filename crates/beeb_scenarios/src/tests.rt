@@ -15,6 +15,7 @@ mod replays;
 mod runs;
 mod scene;
 mod solos;
+mod sounds;
 mod sources;
 mod speeds;
 mod statuses;

@@ -29,6 +29,7 @@ use Rattle.beeb_top.specs.Commands.{EndsWith}
 use Rattle.beeb_top.specs.Headline.{IsReferenceRun, Headline}
 use Rattle.power_on.specs.Inputs.{Inputs, inputs_of}
 use Rattle.power_on.specs.Machines.{machines_of}
+use Rattle.beeb_outcome.specs.Names.{names_of}
 use Rattle.cmd_pair.specs.Solo.{kept_verdict, solo_after}
 use Rattle.beeb_outcome.specs.Verdicts.{machine_verdict}
 
@@ -36,7 +37,7 @@ say_nothing : (said : Option (List ℕ)) → say [] said ≡ said
 say_nothing None = refl
 say_nothing (Some bytes) = ap Some (append-nil bytes)
 
-read_ok : (ws : List (Want Slot)) (files : Files) (r : Result (plans.Inputs Slot) (Stop Cause)) (after : plans.Inputs Slot → Result (Verdict Ending) (Stop Cause)) (v : Verdict Ending) →
+pub read_ok : (ws : List (Want Slot)) (files : Files) (r : Result (plans.Inputs Slot) (Stop Cause)) (after : plans.Inputs Slot → Result (Verdict Ending) (Stop Cause)) (v : Verdict Ending) →
     read_all files ws ≡ r → (r >>= after) ≡ Ok v → (inputs : plans.Inputs Slot) × (read_all {C = Cause} files ws ≡ Ok inputs) × (after inputs ≡ Ok v)
 read_ok ws files (Ok inputs) after v is same = (inputs, is, same)
 read_ok ws files (Err stop) after v is same = cc
@@ -53,8 +54,8 @@ module _ (plugs : List Plug) (ticks keep : ℕ) (out : List ℕ) (given : Values
       HasPaired true old.crew new.crew → IsReferenceRun plugs ticks keep out given old new files
   unfolding solo_after kept_verdict machine_verdict
   is_reference files v is written said worked =
-      let run_of : HostState × ParaState → Verdict Ending = λ m. kept_verdict (clock_of given) ticks keep out (reference host_moves para_moves m.0 m.1 ticks) in
-      let after : plans.Inputs Slot → Result (Verdict Ending) (Stop Cause) = λ list. or_stop (solo_after (setup_of given plugs) ticks keep out (inputs_of list)) in
+      let run_of : HostState × ParaState → Verdict Ending = λ m. kept_verdict (clock_of given) ticks keep (names_of out given) (reference host_moves para_moves m.0 m.1 ticks) in
+      let after : plans.Inputs Slot → Result (Verdict Ending) (Stop Cause) = λ list. or_stop (solo_after (setup_of given plugs) ticks keep (names_of out given) (inputs_of list)) in
       let got = read_ok (files_of keys given) files (read_all files (files_of keys given)) after v refl is in
       let made = machines_ok (setup_of given plugs) (inputs_of got.0) (machines_of (setup_of given plugs) (inputs_of got.0)) run_of v refl got.2 in
       record {

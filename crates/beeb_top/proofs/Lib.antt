@@ -2,3 +2,4 @@ pub mod SlotLemmas
 pub mod StageLemmas
 pub mod WorkLemmas
 pub mod HeadlineLemmas
+pub mod HeardLemmas

@@ -19,6 +19,7 @@ use Rattle.beeb_status.specs.declared.status.Cause.{Cause}
 use Rattle.power_on.specs.Inputs.{inputs_of}
 use Rattle.power_on.specs.Setup.{setup_of}
 use Rattle.power_on.specs.Machines.{machines_of}
+use Rattle.beeb_outcome.specs.Names.{names_of}
 use Rattle.cmd_pair.specs.Solo.{kept_verdict}
 
 -- What was written is what the reference run leaves. It names no order in which the steps of two threads fell.
@@ -31,11 +32,12 @@ pub record IsReferenceRun (plugs : List Plug) (ticks keep : ℕ) (out : List ℕ
   pub host : HostState
   pub para : ParaState
   pub machines : machines_of (setup_of given plugs) (inputs_of inputs) ≡ Ok (host, para)
-  -- The report, both memories, the discs, the frames, the trace and what the plugged devices spill, of their reference run, were put into
-  -- what the outlet held.
+  -- The report, both memories, the discs, the frames, the trace, what the plugged devices spill and, if it is asked for, the sound file, of
+  -- their reference run, were put into what the outlet held.
   pub written :
       new.outlet.files
-      ≡ put_all (kept_verdict (clock_of given) ticks keep out (reference host_moves para_moves host para ticks)).files old.outlet.files
+      ≡ put_all (kept_verdict (clock_of given) ticks keep (names_of out given) (reference host_moves para_moves host para ticks)).files
+      old.outlet.files
   -- nothing was said
   pub said : new.outlet.said ≡ old.outlet.said
   -- the crew worked a pair of jobs

@@ -1,3 +1,4 @@
 pub mod Plans
 pub mod Commands
 pub mod Headline
+pub mod Heard

@@ -9,6 +9,7 @@ use Rattle.beeb_status.specs.declared.status.Ending.{Ending}
 use Rattle.beeb_status.specs.declared.status.Cause.{Cause}
 use Rattle.power_on.specs.Inputs.{Inputs, inputs_of}
 use Rattle.power_on.specs.Setup.{Setup, setup_of}
+use Rattle.beeb_outcome.specs.Names.{Names, names_of}
 use Rattle.cmd_tools.specs.Check.{check_after}
 use Rattle.cmd_tools.specs.Asm.{asm_after, dis_after}
 use Rattle.cmd_replay.specs.Para.{para_after}
@@ -19,19 +20,19 @@ use Rattle.bus_plug.specs.Plug.{Plug}
 use Rattle.beeb_bits.specs.declared.Side.{Side}
 use Rattle.beeb_bits.specs.declared.Side.TheVariants.{Host, Para}
 
-abbrev pub replay_after : Setup → Side → ℕ → List ℕ → Inputs → Result (Verdict Ending) (Refusal Cause)
-replay_after set Host ticks out i = host_after set ticks out i
-replay_after set Para ticks out i = para_after set.clock ticks out i
+abbrev pub replay_after : Setup → Side → ℕ → Names → Inputs → Result (Verdict Ending) (Refusal Cause)
+replay_after set Host ticks names i = host_after set ticks names i
+replay_after set Para ticks names i = para_after set.clock ticks names i
 
 -- what a command comes to by what it read, where these devices are handed in
 abbrev pub after : List Plug → Command → Inputs → Result (Verdict Ending) (Refusal Cause)
 after plugs (check trace) i = check_after i.trace
 after plugs (asm part source out) i = asm_after part out i.source
 after plugs (dis part image origin out) i = dis_after part origin out i.image
-after plugs (replay side trace ticks out given) i = replay_after (setup_of given plugs) side ticks out i
-after plugs (solo ticks out keep given) i = solo_after (setup_of given plugs) ticks keep out i
+after plugs (replay side trace ticks out given) i = replay_after (setup_of given plugs) side ticks (names_of out given) i
+after plugs (solo ticks out keep given) i = solo_after (setup_of given plugs) ticks keep (names_of out given) i
 -- the two threads of `run` come to what one thread comes to
-after plugs (run ticks out keep given) i = solo_after (setup_of given plugs) ticks keep out i
+after plugs (run ticks out keep given) i = solo_after (setup_of given plugs) ticks keep (names_of out given) i
 after plugs (gen seed) i = gen_after seed
 
 abbrev pub plan : List Plug → Command → Plan Slot Ending Cause

@@ -3,6 +3,7 @@ ghost use Rattle.std.specs.Prelude.{◌≡◌, ◌↔◌, None, IfSome, IfNone, 
 ghost use Rattle.beeb_stages.specs.Promise.{world, nobody};
 ghost use Rattle.beeb_top.specs.Commands.{EndsWith, command_of_words, if_unpaired};
 ghost use Rattle.beeb_top.specs.Headline.{Headline};
+ghost use Rattle.beeb_top.specs.Heard.{Heard};
 
 use crate::road::{paired, single};
 use beeb_files::{Crew, Outlet, Shelf};
@@ -29,6 +30,12 @@ pub fn plain<S: Shelf, O: Outlet>(
     ensures refused { let old = world (S.shelf shelf.old) (O.outlet out.old) nobody in
         let new = world (S.shelf shelf.new) (O.outlet out.new) nobody in
         IfNone (if_unpaired (command_of_words words.now)) (new ≡ old) }
+    // The theorem of the sound file: where `solo` or `replay host` with `--wav` ends with `Done`, the file of that name is the sound file of
+    // the sound writes of the reference run's host, or of the replayed one.
+    ensures sound { let devices = map ⟦<Box<dyn BusDevice + Send> as BusDevice>⟧.plug plugs.items in
+        let old = world (S.shelf shelf.old) (O.outlet out.old) nobody in
+        let new = world (S.shelf shelf.new) (O.outlet out.new) nobody in
+        result ≡ Status.Done → Heard devices (if_unpaired (command_of_words words.now)) old new }
     // Else the command is carried out, with the devices as they were handed in.
     ensures ran { let devices = map ⟦<Box<dyn BusDevice + Send> as BusDevice>⟧.plug plugs.items in
         let old = world (S.shelf shelf.old) (O.outlet out.old) nobody in
@@ -67,6 +74,12 @@ pub fn top<S: Shelf, O: Outlet, C: Crew, R: Threads + Wait + Sync>(
         let old = world (S.shelf shelf.old) (O.outlet out.old) (C.counts crew.old) in
         let new = world (S.shelf shelf.new) (O.outlet out.new) (C.counts crew.new) in
         result ≡ Status.Done → Headline devices (command_of_words words.now) old new }
+    // The theorem of the sound file: where `solo`, `run` or `replay host` with `--wav` ends with `Done`, the file of that name is the sound file
+    // of the sound writes of the reference run's host, or of the replayed one.
+    ensures sound { let devices = map ⟦<Box<dyn BusDevice + Send> as BusDevice>⟧.plug plugs.items in
+        let old = world (S.shelf shelf.old) (O.outlet out.old) (C.counts crew.old) in
+        let new = world (S.shelf shelf.new) (O.outlet out.new) (C.counts crew.new) in
+        result ≡ Status.Done → Heard devices (command_of_words words.now) old new }
     // Each command is carried out, `run` as `solo` with a crew: no clause names an order in which the steps of the two threads fell.
     ensures ran { let devices = map ⟦<Box<dyn BusDevice + Send> as BusDevice>⟧.plug plugs.items in
         let old = world (S.shelf shelf.old) (O.outlet out.old) (C.counts crew.old) in

@@ -10,12 +10,12 @@ ghost use Rattle.beeb_words.specs.View.{seen_command, seen_given};
 ghost use Rattle.power_on.specs.Inputs.{inputs_of};
 ghost use Rattle.power_on.specs.Setup.{setup_of};
 ghost use Rattle.power_on.specs.View.{seen_inputs, seen_setup};
-ghost use Rattle.beeb_outcome.specs.View.{verdict_of};
+ghost use Rattle.beeb_outcome.specs.View.{names_seen, verdict_of};
 ghost use Rattle.beeb_top.specs.Plans.{replay_after, after};
 
 use beeb_bits::Side;
 use beeb_files::Crew;
-use beeb_outcome::Outcome;
+use beeb_outcome::{Names, Outcome};
 use beeb_stages::{Refusal, Stop};
 use beeb_status::Cause;
 use beeb_words::{Command, Slot};
@@ -34,18 +34,19 @@ fn replay_outcome<'a, D: BusDevice>(
     alloc: Global,
     side: Side,
     ticks: u64,
-    out: &'a str,
+    names: Names<'a>,
     setup: Setup<D>,
     inputs: Inputs,
 ) -> Result<Outcome<'a, D>, Refusal<Cause>>
     requires ticks { ticks ≤ MOST }
     requires slots { All (λ slot. slot.0 < 16) inputs.roms.items }
-    ensures { let after = replay_after (seen_setup D.plug setup) side ticks out.now (seen_inputs inputs) in
+    ensures { let names = names_seen names.entry in
+        let after = replay_after (seen_setup D.plug setup) side ticks names (seen_inputs inputs) in
         Gives (verdict_of D.plug) result after }
 {
     match side {
-        Side::Host => host_outcome(alloc, setup, ticks, out, inputs),
-        Side::Para => para_outcome(alloc, setup.clock, ticks, out, inputs),
+        Side::Host => host_outcome(alloc, setup, ticks, names, inputs),
+        Side::Para => para_outcome(alloc, setup.clock, ticks, names, inputs),
     }
 }
 
@@ -80,7 +81,8 @@ pub(crate) fn single_outcome<'a, D: BusDevice>(
             ..
         } => {
             let setup = Setup::of(&given, plugs);
-            replay_outcome(alloc, side, ticks, out, setup, inputs)
+            let names = Names::of(out, &given);
+            replay_outcome(alloc, side, ticks, names, setup, inputs)
         }
         Command::Solo {
             ticks,
@@ -89,7 +91,8 @@ pub(crate) fn single_outcome<'a, D: BusDevice>(
             given,
         } => {
             let setup = Setup::of(&given, plugs);
-            solo_outcome(alloc, setup, ticks, keep, out, inputs)
+            let names = Names::of(out, &given);
+            solo_outcome(alloc, setup, ticks, keep, names, inputs)
         }
         Command::Gen { seed } => gen_outcome(alloc, seed),
         Command::Run { .. } => unreachable!(),
@@ -124,5 +127,6 @@ pub(crate) fn paired_outcome<'a, D: BusDevice + Send, C: Crew, R: Threads + Wait
     };
     let inputs = Inputs::of(alloc, inputs)?;
     let setup = Setup::of(&given, plugs);
-    run_outcome(rt, alloc, crew, setup, ticks, keep, out, inputs)
+    let names = Names::of(out, &given);
+    run_outcome(rt, alloc, crew, setup, ticks, keep, names, inputs)
 }

@@ -77,6 +77,10 @@ clock_in (Some word) = if bytes_eq word (codes "4") then Four else Three
 abbrev pub clock_of : Values → Clock
 clock_of values = clock_in (value_of values (codes "--speed"))
 
+-- the name of the sound file, if one is asked for
+abbrev pub wav_of : Values → Option (List ℕ)
+wav_of values = value_of values (codes "--wav")
+
 abbrev pub has_os : Values → Bool
 has_os values = is_some (value_of values (codes "--os"))
 

@@ -77,6 +77,7 @@ keys =
     ∷ key (codes "--plugs") hosts (numeric 0 8)
     ∷ key (codes "--keep") pairs (numeric 0 4194304)
     ∷ key (codes "--speed") machines (one_of (codes "3" ∷ codes "4" ∷ []))
+    ∷ key (codes "--wav") hosts output
     ∷ []
 
 -- what stands past the last key

@@ -2,7 +2,7 @@
 ghost use Rattle.std.specs.Prelude.{◌≡◌, ◌<◌, ◌≤◌, map, length, option_map, option_copied, IfSome};
 ghost use Rattle.std.specs.Prelude.{string_bytes};
 ghost use Rattle.beeb_words.specs.Given.{options_of, closed_options, value_at, value_of, put_at, put_option};
-ghost use Rattle.beeb_words.specs.Given.{keep_in, keep_of, plugs_in, plugs_of, clock_in, clock_of, has_os, has_tube, has_images};
+ghost use Rattle.beeb_words.specs.Given.{keep_in, keep_of, plugs_in, plugs_of, clock_in, clock_of, wav_of, has_os, has_tube, has_images};
 ghost use Rattle.beeb_words.specs.View.{seen_given, word_at};
 
 use crate::alone::is_dashed;
@@ -105,6 +105,13 @@ impl<'a> Given<'a> {
         ensures { result ≡ clock_of (seen_given self.now) }
     {
         clock_in(self.value_of("--speed"))
+    }
+
+    /// The name of the sound file, if the words ask for one.
+    pub fn wav(&self) -> Option<&'a str>
+        ensures { option_copied result ≡ wav_of (seen_given self.now) }
+    {
+        self.value_of("--wav")
     }
 
     fn has_os(&self) -> bool

@@ -109,7 +109,7 @@ struct Key {
 }
 
 /// The number of keys.
-pub(crate) const COUNT: usize = 25;
+pub(crate) const COUNT: usize = 26;
 
 /// The speeds of the second processor, in MHz.
 const SPEEDS: &[&str] = &["3", "4"];
@@ -163,6 +163,7 @@ fn table() -> [Key; COUNT]
             },
         ),
         row("--speed", MACHINES, Value::OneOf(SPEEDS)),
+        row("--wav", HOSTS, Value::Output),
     ]
 }
 

@@ -21,6 +21,7 @@ use Rattle.tube_trace.specs.Text.{HasLine, IsAnswer, text_of}
 use Rattle.tube_party.specs.Reference.{World, IsTraceBelow}
 use Rattle.host_mach.specs.State.{HostState}
 use Rattle.para_mach.specs.State.{ParaState}
+use Rattle.beeb_outcome.specs.Names.{Names}
 use Rattle.beeb_outcome.specs.Left.{Kept}
 use Rattle.beeb_outcome.specs.Verdicts.{machine_verdict, both_left}
 use Rattle.cmd_pair.specs.Solo.{kept_of, kept_verdict}
@@ -274,15 +275,15 @@ pub kept_same : (clock : Clock) (keep count : ℕ) (trace : List ℕ) (list : Li
     kept ≡ take keep (accesses list) → record { count = count; trace = trace } ≡ kept_of clock keep list
 kept_same clock keep count trace list kept many text is = rw (many, text, is) refl
 
-pub kept_is : (clock : Clock) (ticks keep : ℕ) (out : List ℕ) (w : World HostState ParaState) (host : HostState) (para : ParaState) (host_count para_count : ℕ) (kept : Kept) →
+pub kept_is : (clock : Clock) (ticks keep : ℕ) (names : Names) (w : World HostState ParaState) (host : HostState) (para : ParaState) (host_count para_count : ℕ) (kept : Kept) →
     host ≡ w.host → para ≡ w.para → host_count ≡ length (accesses (of_side Host w.list)) → para_count ≡ length (accesses (of_side Para w.list)) →
-    kept ≡ kept_of clock keep w.list → machine_verdict (both_left ticks (host_count + para_count) out host para kept) ≡ kept_verdict clock ticks keep out w
+    kept ≡ kept_of clock keep w.list → machine_verdict (both_left clock ticks (host_count + para_count) names host para kept) ≡ kept_verdict clock ticks keep names w
 unfolding kept_verdict
-kept_is clock ticks keep out w host para host_count para_count kept is_host is_para h p is_kept =
-    ap (λ (x : HostState). machine_verdict (both_left ticks (host_count + para_count) out x para kept)) is_host
-    ∙ ap (λ (x : ParaState). machine_verdict (both_left ticks (host_count + para_count) out w.host x kept)) is_para
-    ∙ ap (λ (x : ℕ). machine_verdict (both_left ticks x out w.host w.para kept)) (counted w.list host_count para_count h p)
-    ∙ ap (λ (x : Kept). machine_verdict (both_left ticks (length (accesses w.list)) out w.host w.para x)) is_kept
+kept_is clock ticks keep names w host para host_count para_count kept is_host is_para h p is_kept =
+    ap (λ (x : HostState). machine_verdict (both_left clock ticks (host_count + para_count) names x para kept)) is_host
+    ∙ ap (λ (x : ParaState). machine_verdict (both_left clock ticks (host_count + para_count) names w.host x kept)) is_para
+    ∙ ap (λ (x : ℕ). machine_verdict (both_left clock ticks x names w.host w.para kept)) (counted w.list host_count para_count h p)
+    ∙ ap (λ (x : Kept). machine_verdict (both_left clock ticks (length (accesses w.list)) names w.host w.para x)) is_kept
 
 -- what is so of a view is so of each run
 pub for_each : {X E V : Type 0} (r : Result X E) (view : X → V) (v : V) (P : HostState → ParaState → Type 0) (w : HostState → ParaState → V) → IfOk r (λ x. view x ≡ v) →
@@ -291,6 +292,7 @@ for_each (Ok x) view v P w is all = λ s t run. is ∙ all s t run
 for_each (Err e) view v P w is all = tt
 
 -- what both machines leave, where no bytes stand beside them
-pub both_is : (ticks tube : ℕ) (out bytes : List ℕ) (s : HostState) (p : ParaState) (kept : Kept) → bytes ≡ [] →
-    record { out = out; ticks = ticks; tube = tube; host = Some s; para = Some p; kept = Some kept; bytes = bytes } ≡ both_left ticks tube out s p kept
-both_is ticks tube out bytes s p kept none = rw none refl
+pub both_is : (clock : Clock) (ticks tube : ℕ) (names : Names) (bytes : List ℕ) (s : HostState) (p : ParaState) (kept : Kept) → bytes ≡ [] →
+    record { names = names; clock = clock; ticks = ticks; tube = tube; host = Some s; para = Some p; kept = Some kept; bytes = bytes }
+    ≡ both_left clock ticks tube names s p kept
+both_is clock ticks tube names bytes s p kept none = rw none refl

@@ -16,6 +16,7 @@ use Rattle.beeb_status.specs.declared.status.Cause.{Cause}
 use Rattle.power_on.specs.Inputs.{Inputs}
 use Rattle.power_on.specs.Setup.{Setup}
 use Rattle.power_on.specs.Machines.{machines_of}
+use Rattle.beeb_outcome.specs.Names.{Names}
 use Rattle.beeb_outcome.specs.Left.{Kept}
 use Rattle.beeb_outcome.specs.Verdicts.{machine_verdict, both_left}
 
@@ -24,10 +25,11 @@ abbrev pub kept_of : Clock → ℕ → List Event → Kept
 kept_of clock keep list = record { count = length (take keep (accesses list)); trace = text_of clock (take keep (accesses list)) }
 
 -- The world after a run, of whose accesses in their one order the first `keep` are kept.
-unfoldable pub kept_verdict : Clock → ℕ → ℕ → List ℕ → World host.HostState para.ParaState → Verdict Ending
-kept_verdict clock ticks keep out w = machine_verdict (both_left ticks (length (accesses w.list)) out w.host w.para (kept_of clock keep w.list))
+unfoldable pub kept_verdict : Clock → ℕ → ℕ → Names → World host.HostState para.ParaState → Verdict Ending
+kept_verdict clock ticks keep names w =
+    machine_verdict (both_left clock ticks (length (accesses w.list)) names w.host w.para (kept_of clock keep w.list))
 
 -- the reference run of both machines from power-on
-unfoldable pub solo_after : Setup → ℕ → ℕ → List ℕ → Inputs → Result (Verdict Ending) (Refusal Cause)
-solo_after set ticks keep out i =
-    machines_of set i >>= λ m. Ok (kept_verdict set.clock ticks keep out (reference host_moves para_moves m.0 m.1 ticks))
+unfoldable pub solo_after : Setup → ℕ → ℕ → Names → Inputs → Result (Verdict Ending) (Refusal Cause)
+solo_after set ticks keep names i =
+    machines_of set i >>= λ m. Ok (kept_verdict set.clock ticks keep names (reference host_moves para_moves m.0 m.1 ticks))

@@ -4,14 +4,14 @@ ghost use Rattle.tube_chip.specs.Events.{Event};
 ghost use Rattle.tube_party.specs.Reference.{reference};
 ghost use Rattle.host_mach.specs.Step.{host_moves};
 ghost use Rattle.para_mach.specs.Step.{para_moves};
-ghost use Rattle.beeb_outcome.specs.View.{kept_seen, verdict_of};
+ghost use Rattle.beeb_outcome.specs.View.{kept_seen, names_seen, verdict_of};
 ghost use Rattle.cmd_pair.specs.Solo.{kept_of, kept_verdict};
 ghost use Rattle.cmd_pair.specs.Code.{AreFirst, IsRun};
 ghost use Rattle.host_mach.specs.State.{HostState};
 ghost use Rattle.para_mach.specs.State.{ParaState};
 
 use beeb_bits::{Clock, Tick};
-use beeb_outcome::{Kept, Left, Outcome, machine_outcome};
+use beeb_outcome::{Kept, Left, Names, Outcome, machine_outcome};
 use bus_plug::BusDevice;
 use host_mach::HostMachine;
 use para_mach::ParaMachine;
@@ -52,18 +52,20 @@ pub(crate) fn kept_outcome<'a, D: BusDevice>(
     done: Done<HostMachine<D>, ParaMachine>,
     ticks: u64,
     keep: u32,
-    out: &'a str,
+    names: Names<'a>,
 ) -> Result<Outcome<'a, D>, AllocError>
     requires ticks { ticks ≤ MOST }
     requires run { (s : HostState) × (t : ParaState) × IsRun D.plug s t ticks keep done }
-    ensures { IfOk result (λ outcome. (s : HostState) (t : ParaState) → IsRun D.plug s t ticks keep done →
-        verdict_of D.plug outcome ≡ kept_verdict clock ticks keep out.now (reference host_moves para_moves s t ticks)) }
+    ensures { let verdict = kept_verdict clock ticks keep (names_seen names.entry) in
+        IfOk result (λ outcome. (s : HostState) (t : ParaState) → IsRun D.plug s t ticks keep done →
+        verdict_of D.plug outcome ≡ verdict (reference host_moves para_moves s t ticks)) }
 {
     reference_is_trace::<HostMachine<D>, ParaMachine>();
     let kept = kept_of(alloc, clock, &done.host_list, &done.para_list, keep)?;
     let tube = done.host_count + done.para_count;
     let left = Left {
-        out,
+        names,
+        clock,
         ticks: Tick(ticks),
         tube,
         host: Some(done.host),

@@ -7,14 +7,14 @@ ghost use Rattle.tube_party.specs.OneThread.{IsPlayed, played_of};
 ghost use Rattle.beeb_stages.specs.Promise.{IsCrewAfter};
 ghost use Rattle.beeb_stages.specs.Stages.{Works};
 ghost use Rattle.power_on.specs.View.{seen_inputs, seen_setup};
-ghost use Rattle.beeb_outcome.specs.View.{verdict_of};
+ghost use Rattle.beeb_outcome.specs.View.{names_seen, verdict_of};
 ghost use Rattle.cmd_pair.specs.Solo.{solo_after};
 ghost use Rattle.cmd_pair.specs.Code.{nothing};
 
 use crate::kept::kept_outcome;
 use beeb_bits::Tick;
 use beeb_files::Crew;
-use beeb_outcome::Outcome;
+use beeb_outcome::{Names, Outcome};
 use beeb_stages::Stop;
 use beeb_status::Cause;
 use bus_plug::BusDevice;
@@ -65,18 +65,19 @@ pub fn run_outcome<'a, D: BusDevice + Send, C: Crew, R: Threads + Wait + Sync>(
     setup: Setup<D>,
     ticks: u64,
     keep: u32,
-    out: &'a str,
+    names: Names<'a>,
     inputs: Inputs,
 ) -> Result<Outcome<'a, D>, Stop<Cause>>
     requires ticks { ticks ≤ MOST }
     requires slots { All (λ slot. slot.0 < 16) inputs.roms.items }
-    ensures works { let after = solo_after (seen_setup D.plug setup) ticks keep out.now (seen_inputs inputs) in
+    ensures works { let names = names_seen names.entry in
+        let after = solo_after (seen_setup D.plug setup) ticks keep names (seen_inputs inputs) in
         Works (verdict_of D.plug) true (C.counts crew.old) (C.counts crew.new) result after }
     ensures crew { IsCrewAfter true (C.counts crew.old) (C.counts crew.new) }
 {
     let clock = setup.clock;
     let (host, para) = machines_of(alloc, setup, inputs)?;
     let done = run_parties(rt, alloc, crew, host, para, Tick(ticks), keep)?;
-    let outcome = kept_outcome(alloc, clock, done, ticks, keep, out)?;
+    let outcome = kept_outcome(alloc, clock, done, ticks, keep, names)?;
     Ok(outcome)
 }

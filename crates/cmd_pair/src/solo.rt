@@ -3,12 +3,12 @@ ghost use Rattle.std.specs.Prelude.{◌<◌, ◌≤◌, All, map};
 ghost use Rattle.beeb_stages.specs.View.{Gives};
 ghost use Rattle.cmd_pair.specs.Solo.{solo_after};
 ghost use Rattle.power_on.specs.View.{seen_inputs, seen_setup};
-ghost use Rattle.beeb_outcome.specs.View.{verdict_of};
+ghost use Rattle.beeb_outcome.specs.View.{names_seen, verdict_of};
 
 use crate::alone::run_alone;
 use crate::kept::kept_outcome;
 use beeb_bits::Tick;
-use beeb_outcome::Outcome;
+use beeb_outcome::{Names, Outcome};
 use beeb_stages::Refusal;
 use beeb_status::Cause;
 use bus_plug::BusDevice;
@@ -23,17 +23,18 @@ pub fn solo_outcome<'a, D: BusDevice>(
     setup: Setup<D>,
     ticks: u64,
     keep: u32,
-    out: &'a str,
+    names: Names<'a>,
     inputs: Inputs,
 ) -> Result<Outcome<'a, D>, Refusal<Cause>>
     requires ticks { ticks ≤ MOST }
     requires slots { All (λ slot. slot.0 < 16) inputs.roms.items }
-    ensures { let after = solo_after (seen_setup D.plug setup) ticks keep out.now (seen_inputs inputs) in
+    ensures { let names = names_seen names.entry in
+        let after = solo_after (seen_setup D.plug setup) ticks keep names (seen_inputs inputs) in
         Gives (verdict_of D.plug) result after }
 {
     let clock = setup.clock;
     let (host, para) = machines_of(alloc, setup, inputs)?;
     let done = run_alone(alloc, host, para, Tick(ticks), keep)?;
-    let outcome = kept_outcome(alloc, clock, done, ticks, keep, out)?;
+    let outcome = kept_outcome(alloc, clock, done, ticks, keep, names)?;
     Ok(outcome)
 }

@@ -1,5 +1,6 @@
 -- The outcome of a replay that differs nowhere, and of one that differs.
 use Rattle.std.proofs.Common.{◌≡◌, refl, ℕ, List, [], Option, Some, None}
+use Rattle.beeb_bits.specs.declared.clock.Clock.{Clock}
 use Rattle.tube_party.specs.declared.Doing.{Doing}
 use Rattle.tube_party.specs.Replay.{Ended}
 use Rattle.beeb_stages.specs.Plan.{Verdict}
@@ -7,6 +8,7 @@ use Rattle.beeb_status.specs.declared.status.Ending.{Ending}
 use Rattle.beeb_status.specs.declared.status.Ending.TheVariants.{Differs}
 use Rattle.host_mach.specs.State.{HostState}
 use Rattle.para_mach.specs.State.{ParaState}
+use Rattle.beeb_outcome.specs.Names.{Names}
 use Rattle.beeb_outcome.specs.Verdicts.{said_verdict, host_left, para_left}
 use Rattle.cmd_replay.specs.Replay.{differs_text, verdict_of_end}
 
@@ -19,10 +21,12 @@ pub differs_is : {S : Type 0} (done : S → Verdict Ending) (e : Ended S) (place
 differs_is done e place some = rw some refl
 
 -- what a machine leaves, where no bytes stand beside it
-pub host_is : (ticks tube : ℕ) (out bytes : List ℕ) (s : HostState) → bytes ≡ [] →
-    record { out = out; ticks = ticks; tube = tube; host = Some s; para = None; kept = None; bytes = bytes } ≡ host_left ticks tube out s
-host_is ticks tube out bytes s none = rw none refl
+pub host_is : (clock : Clock) (ticks tube : ℕ) (names : Names) (bytes : List ℕ) (s : HostState) → bytes ≡ [] →
+    record { names = names; clock = clock; ticks = ticks; tube = tube; host = Some s; para = None; kept = None; bytes = bytes }
+    ≡ host_left clock ticks tube names s
+host_is clock ticks tube names bytes s none = rw none refl
 
-pub para_is : (ticks tube : ℕ) (out bytes : List ℕ) (s : ParaState) → bytes ≡ [] →
-    record { out = out; ticks = ticks; tube = tube; host = None; para = Some s; kept = None; bytes = bytes } ≡ para_left ticks tube out s
-para_is ticks tube out bytes s none = rw none refl
+pub para_is : (clock : Clock) (ticks tube : ℕ) (names : Names) (bytes : List ℕ) (s : ParaState) → bytes ≡ [] →
+    record { names = names; clock = clock; ticks = ticks; tube = tube; host = None; para = Some s; kept = None; bytes = bytes }
+    ≡ para_left clock ticks tube names s
+para_is clock ticks tube names bytes s none = rw none refl

@@ -1,5 +1,6 @@
 -- `replay host TRACE TICKS OUT --os NAME` and options: the BBC Micro against a trace.
 use Rattle.std.specs.Prelude.{ℕ, List, Result, Ok}
+use Rattle.beeb_bits.specs.declared.clock.Clock.{Clock}
 use Rattle.beeb_bits.specs.declared.Side.TheVariants.{Host}
 use Rattle.tube_trace.specs.declared.Entry.{Entry}
 use Rattle.tube_trace.specs.FirstWrong.{wrong}
@@ -13,6 +14,7 @@ use Rattle.beeb_status.specs.declared.status.Cause.{Cause}
 use Rattle.power_on.specs.Inputs.{Inputs}
 use Rattle.power_on.specs.Setup.{Setup}
 use Rattle.power_on.specs.Roms.{roms_of}
+use Rattle.beeb_outcome.specs.Names.{Names}
 use Rattle.beeb_outcome.specs.Trace.{entries_of}
 use Rattle.beeb_outcome.specs.Verdicts.{machine_verdict, host_left}
 use Rattle.power_on.specs.Script.{script_of}
@@ -20,15 +22,20 @@ use Rattle.power_on.specs.Discs.{discs_of}
 use Rattle.cmd_replay.specs.Replay.{side_count, verdict_of_end, unless_wrong}
 
 -- what comes of the machine against the entries of a trace
-unfoldable pub host_ended : ℕ → List ℕ → List Entry → HostState → Verdict Ending
-host_ended ticks out entries s =
-    verdict_of_end (λ e. machine_verdict (host_left ticks (side_count Host ticks entries) out e)) (replay_of host_moves Host entries ticks s)
+unfoldable pub host_ended : Clock → ℕ → Names → List Entry → HostState → Verdict Ending
+host_ended clock ticks names entries s =
+    verdict_of_end (λ e. machine_verdict (host_left clock ticks (side_count Host ticks entries) names e)) (replay_of host_moves Host entries ticks s)
 
--- The lengths of the images, the discs' last, the trace's form and its clock, the script's form, the trace's answers, and the machine.
-unfoldable pub host_after : Setup → ℕ → List ℕ → Inputs → Result (Verdict Ending) (Refusal Cause)
-host_after set ticks out i =
+-- The entries that the host is replayed against, and the host at power-on. Refused are in order the lengths of the images, the discs' last, the
+-- trace's form and its clock, and the script's form.
+unfoldable pub host_of : Setup → Inputs → Result (List Entry × HostState) (Refusal Cause)
+host_of set i =
     roms_of (record { os = i.os; slots = i.roms; font = i.font })
     >>= λ roms. discs_of set.kinds i.disc0 i.disc1
     >>= λ discs. entries_of set.clock i.trace
     >>= λ entries. script_of i.keys
-    >>= λ script. Ok (unless_wrong (wrong entries) (host_ended ticks out entries (power_on set.clock roms discs.0 discs.1 script set.plugs)))
+    >>= λ script. Ok (entries, power_on set.clock roms discs.0 discs.1 script set.plugs)
+
+-- the trace's answers are checked before the machine goes
+unfoldable pub host_after : Setup → ℕ → Names → Inputs → Result (Verdict Ending) (Refusal Cause)
+host_after set ticks names i = host_of set i >>= λ m. Ok (unless_wrong (wrong m.0) (host_ended set.clock ticks names m.0 m.1))

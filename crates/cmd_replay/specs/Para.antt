@@ -13,18 +13,19 @@ use Rattle.beeb_status.specs.declared.status.Ending.{Ending}
 use Rattle.beeb_status.specs.declared.status.Cause.{Cause}
 use Rattle.power_on.specs.Inputs.{Inputs}
 use Rattle.power_on.specs.Machines.{rom_of}
+use Rattle.beeb_outcome.specs.Names.{Names}
 use Rattle.beeb_outcome.specs.Trace.{entries_of}
 use Rattle.beeb_outcome.specs.Verdicts.{machine_verdict, para_left}
 use Rattle.cmd_replay.specs.Replay.{side_count, verdict_of_end, unless_wrong}
 
 -- what comes of the machine against the entries of a trace
-unfoldable pub para_ended : ℕ → List ℕ → List Entry → ParaState → Verdict Ending
-para_ended ticks out entries s =
-    verdict_of_end (λ e. machine_verdict (para_left ticks (side_count Para ticks entries) out e)) (replay_of para_moves Para entries ticks s)
+unfoldable pub para_ended : Clock → ℕ → Names → List Entry → ParaState → Verdict Ending
+para_ended clock ticks names entries s =
+    verdict_of_end (λ e. machine_verdict (para_left clock ticks (side_count Para ticks entries) names e)) (replay_of para_moves Para entries ticks s)
 
 -- the ROM's length, the trace's form, its clock, its answers, and the machine
-unfoldable pub para_after : Clock → ℕ → List ℕ → Inputs → Result (Verdict Ending) (Refusal Cause)
-para_after clock ticks out i =
+unfoldable pub para_after : Clock → ℕ → Names → Inputs → Result (Verdict Ending) (Refusal Cause)
+para_after clock ticks names i =
     rom_of i.tube
     >>= λ rom. entries_of clock i.trace
-    >>= λ entries. Ok (unless_wrong (wrong entries) (para_ended ticks out entries (power_on clock rom)))
+    >>= λ entries. Ok (unless_wrong (wrong entries) (para_ended clock ticks names entries (power_on clock rom)))

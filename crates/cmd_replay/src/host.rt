@@ -8,14 +8,14 @@ ghost use Rattle.host_mach.specs.View.{host_seen};
 ghost use Rattle.beeb_stages.specs.View.{Gives};
 ghost use Rattle.cmd_replay.specs.Replay.{side_count, verdict_of_end};
 ghost use Rattle.power_on.specs.Roms.{roms_of};
-ghost use Rattle.cmd_replay.specs.Host.{host_ended, host_after};
+ghost use Rattle.cmd_replay.specs.Host.{host_ended, host_of, host_after};
 ghost use Rattle.power_on.specs.Inputs as held;
 ghost use Rattle.power_on.specs.View.{seen_files, seen_inputs, seen_setup};
-ghost use Rattle.beeb_outcome.specs.View.{verdict_of};
+ghost use Rattle.beeb_outcome.specs.View.{names_seen, verdict_of};
 
 use crate::replay::{differs_outcome, side_count};
-use beeb_bits::{Side, Tick};
-use beeb_outcome::{Left, Outcome, entries_of, machine_outcome, wrong_outcome};
+use beeb_bits::{Clock, Side, Tick};
+use beeb_outcome::{Left, Names, Outcome, entries_of, machine_outcome, wrong_outcome};
 use beeb_stages::Refusal;
 use beeb_status::Cause;
 use bus_plug::BusDevice;
@@ -30,13 +30,14 @@ use tube_trace::{Entry, first_wrong};
 fn ran<'a, D: BusDevice>(
     alloc: Global,
     machine: HostMachine<D>,
+    clock: Clock,
     ticks: u64,
-    out: &'a str,
+    names: Names<'a>,
     entries: &[Entry],
 ) -> Result<Outcome<'a, D>, AllocError>
     requires entries { All IsEntry entries.now }
     requires ticks { ticks ≤ MOST }
-    ensures { let there = host_ended ticks out.now entries.now (host_seen D.plug machine) in
+    ensures { let there = host_ended clock ticks (names_seen names.entry) entries.now (host_seen D.plug machine) in
         IfOk result (λ outcome. verdict_of D.plug outcome ≡ there) }
 {
     let n = Tick(ticks);
@@ -44,7 +45,8 @@ fn ran<'a, D: BusDevice>(
     match place {
         None => {
             let left = Left {
-                out,
+                names,
+                clock,
                 ticks: n,
                 tube: side_count(Side::Host, entries, n),
                 host: Some(machine),
@@ -59,19 +61,19 @@ fn ran<'a, D: BusDevice>(
 }
 
 // What comes of the bytes of a trace and of what the host is made of.
-#[tactic(auto, unfolding(crate::specs::Host::host_after))]
+#[tactic(auto, unfolding(crate::specs::Host::host_of, crate::specs::Host::host_after))]
 fn replay_outcome<'a, D: BusDevice>(
     alloc: Global,
     setup: Setup<D>,
     ticks: u64,
-    out: &'a str,
+    names: Names<'a>,
     trace: &[u8],
     files: HostFiles,
 ) -> Result<Outcome<'a, D>, Refusal<Cause>>
     requires ticks { ticks ≤ MOST }
     requires slots { All (λ slot. slot.0 < 16) files.roms.items }
     ensures { let read : held.Inputs = record (seen_files files) { trace = trace.now } in
-        Gives (verdict_of D.plug) result (host_after (seen_setup D.plug setup) ticks out.now read) }
+        Gives (verdict_of D.plug) result (host_after (seen_setup D.plug setup) ticks (names_seen names.entry) read) }
 {
     let Setup {
         clock,
@@ -94,21 +96,21 @@ fn replay_outcome<'a, D: BusDevice>(
         return Ok(wrong_outcome(alloc, at as u64 + 1, byte)?);
     }
     let machine = HostMachine::make(alloc, clock, roms, d0, d1, script, plugs)?;
-    Ok(ran(alloc, machine, ticks, out, &entries)?)
+    Ok(ran(alloc, machine, clock, ticks, names, &entries)?)
 }
 
 /// What comes of a replay of the host that the words tell of.
-#[tactic(auto, unfolding(crate::specs::Host::host_after))]
+#[tactic(auto, unfolding(crate::specs::Host::host_of, crate::specs::Host::host_after))]
 pub fn host_outcome<'a, D: BusDevice>(
     alloc: Global,
     setup: Setup<D>,
     ticks: u64,
-    out: &'a str,
+    names: Names<'a>,
     inputs: Inputs,
 ) -> Result<Outcome<'a, D>, Refusal<Cause>>
     requires ticks { ticks ≤ MOST }
     requires slots { All (λ slot. slot.0 < 16) inputs.roms.items }
-    ensures { let after = host_after (seen_setup D.plug setup) ticks out.now (seen_inputs inputs) in
+    ensures { let after = host_after (seen_setup D.plug setup) ticks (names_seen names.entry) (seen_inputs inputs) in
         Gives (verdict_of D.plug) result after }
 {
     let Inputs {
@@ -129,5 +131,5 @@ pub fn host_outcome<'a, D: BusDevice>(
         disc1,
         keys,
     };
-    replay_outcome(alloc, setup, ticks, out, &trace, files)
+    replay_outcome(alloc, setup, ticks, names, &trace, files)
 }

@@ -10,11 +10,11 @@ ghost use Rattle.cmd_replay.specs.Para.{para_ended, para_after};
 ghost use Rattle.power_on.specs.Inputs.{no_inputs};
 ghost use Rattle.power_on.specs.Inputs as held;
 ghost use Rattle.power_on.specs.View.{seen_inputs};
-ghost use Rattle.beeb_outcome.specs.View.{verdict_of};
+ghost use Rattle.beeb_outcome.specs.View.{names_seen, verdict_of};
 
 use crate::replay::{differs_outcome, side_count};
 use beeb_bits::{Clock, Side, Tick};
-use beeb_outcome::{Left, Outcome, entries_of, machine_outcome, wrong_outcome};
+use beeb_outcome::{Left, Names, Outcome, entries_of, machine_outcome, wrong_outcome};
 use beeb_stages::Refusal;
 use beeb_status::Cause;
 use bus_plug::BusDevice;
@@ -29,13 +29,14 @@ use tube_trace::{Entry, first_wrong};
 fn ran<'a, D: BusDevice>(
     alloc: Global,
     machine: ParaMachine,
+    clock: Clock,
     ticks: u64,
-    out: &'a str,
+    names: Names<'a>,
     entries: &[Entry],
 ) -> Result<Outcome<'a, D>, AllocError>
     requires entries { All IsEntry entries.now }
     requires ticks { ticks ≤ MOST }
-    ensures { let there = para_ended ticks out.now entries.now machine in
+    ensures { let there = para_ended clock ticks (names_seen names.entry) entries.now machine in
         IfOk result (λ outcome. verdict_of D.plug outcome ≡ there) }
 {
     let n = Tick(ticks);
@@ -43,7 +44,8 @@ fn ran<'a, D: BusDevice>(
     match place {
         None => {
             let left = Left {
-                out,
+                names,
+                clock,
                 ticks: n,
                 tube: side_count(Side::Para, entries, n),
                 host: None,
@@ -63,20 +65,20 @@ fn replay_outcome<'a, D: BusDevice>(
     alloc: Global,
     clock: Clock,
     ticks: u64,
-    out: &'a str,
+    names: Names<'a>,
     trace: &[u8],
     rom: Vec<u8>,
 ) -> Result<Outcome<'a, D>, Refusal<Cause>>
     requires { ticks ≤ MOST }
     ensures { let read : held.Inputs = record no_inputs { trace = trace.now; tube = rom.items } in
-        Gives (verdict_of D.plug) result (para_after clock ticks out.now read) }
+        Gives (verdict_of D.plug) result (para_after clock ticks (names_seen names.entry) read) }
 {
     let machine = machine_of(alloc, clock, rom)?;
     let entries = entries_of(alloc, clock, trace)?;
     if let Some((at, byte)) = first_wrong(&entries) {
         return Ok(wrong_outcome(alloc, at as u64 + 1, byte)?);
     }
-    Ok(ran(alloc, machine, ticks, out, &entries)?)
+    Ok(ran(alloc, machine, clock, ticks, names, &entries)?)
 }
 
 /// What comes of a replay of the second processor of this clock.
@@ -85,12 +87,12 @@ pub fn para_outcome<'a, D: BusDevice>(
     alloc: Global,
     clock: Clock,
     ticks: u64,
-    out: &'a str,
+    names: Names<'a>,
     inputs: Inputs,
 ) -> Result<Outcome<'a, D>, Refusal<Cause>>
     requires { ticks ≤ MOST }
-    ensures { Gives (verdict_of D.plug) result (para_after clock ticks out.now (seen_inputs inputs)) }
+    ensures { Gives (verdict_of D.plug) result (para_after clock ticks (names_seen names.entry) (seen_inputs inputs)) }
 {
     let Inputs { trace, tube, .. } = inputs;
-    replay_outcome(alloc, clock, ticks, out, &trace, tube)
+    replay_outcome(alloc, clock, ticks, names, &trace, tube)
 }

@@ -7,3 +7,5 @@ pub mod Cycle
 pub mod Tones
 pub mod Shifting
 pub mod Silence
+pub mod Resting
+pub mod Free

@@ -23,7 +23,7 @@ not_due : (m : ℕ) (w : SoundWrite) (writes : List SoundWrite) → w.moment ≢
 not_due m w writes other = rw (test_false w.moment m other) refl
 
 -- what never falls from a moment does not from an earlier one
-not_before : (from m : ℕ) (writes : List SoundWrite) → NeverFallFrom from writes → m ≤ from → NeverFallFrom m writes
+pub not_before : (from m : ℕ) (writes : List SoundWrite) → NeverFallFrom from writes → m ≤ from → NeverFallFrom m writes
 not_before from m [] order low = tt
 not_before from m (w ∷ writes) order low = (omega (arith, order.0), order.1)
 

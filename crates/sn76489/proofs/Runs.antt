@@ -7,7 +7,7 @@ pub no_clocks : (c : State) → clocks 0 c ≡ c
 unfolding clocks
 no_clocks c = refl
 
-clock_behind : (n : ℕ) (c : State) → clocks (suc n) c ≡ clock_leaves (clocks n c)
+pub clock_behind : (n : ℕ) (c : State) → clocks (suc n) c ≡ clock_leaves (clocks n c)
 unfolding clocks
 clock_behind n c = refl
 

@@ -5,4 +5,5 @@ pub mod Level
 pub mod Samples
 pub mod Wav
 pub mod CodeWrites
+pub mod Quiet
 pub mod Laws

@@ -1,9 +1,10 @@
 //! The chip.
-ghost use Rattle.std.specs.Prelude.{◌≡◌, ◌<◌, pos};
+ghost use Rattle.std.specs.Prelude.{◌≡◌, ◌<◌, ◌≤◌, pos};
 ghost use Rattle.sn76489.specs.State.{power_on};
 ghost use Rattle.sn76489.specs.Writes.{register_written, write_leaves};
 ghost use Rattle.sn76489.specs.Clock.{clock_leaves, clocks};
 ghost use Rattle.sn76489.specs.Level.{level};
+ghost use Rattle.sn76489.specs.Quiet.{IsQuiet};
 
 use crate::noise::Noise;
 use crate::tone::Tone;
@@ -98,9 +99,44 @@ impl Sound {
     pub fn advance(&mut self, n: u64)
         ensures { self.new ≡ clocks n self.old }
     {
-        for _ in 0..n {
-            self.clock();
+        let mut done = 0;
+        while done < n {
+            done += self.rest(n - done);
+            if done < n {
+                self.clock();
+                done += 1;
+            }
         }
+    }
+
+    // Does clocks in which counters only go down, so many at most, and answers how many.
+    fn rest(&mut self, most: u64) -> u64
+        ensures clocks { self.new ≡ clocks result self.old }
+        ensures bound { result ≤ most }
+    {
+        let some = most.min(u64::from(self.quiet()));
+        self.lower(some as u16);
+        some
+    }
+
+    // How many clocks come for sure in which no tone turns over and the noise does not shift.
+    fn quiet(&self) -> u16
+        ensures { IsQuiet result self.now }
+    {
+        let tones = self.tone1.quiet().min(self.tone2.quiet());
+        let rest = self.tone3.quiet().min(self.noise.quiet(self.count));
+        tones.min(rest)
+    }
+
+    // Does so many of these clocks.
+    fn lower(&mut self, n: u16)
+        requires { IsQuiet n self.old }
+        ensures { self.new ≡ clocks n self.old }
+    {
+        self.tone1.lower(n);
+        self.tone2.lower(n);
+        self.tone3.lower(n);
+        self.count = ((u16::from(self.count) + n) % 128) as u8;
     }
 
     /// The level that is heard: the sum, over the outputs that are 1, of the amplitudes of their volumes.

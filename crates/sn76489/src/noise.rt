@@ -4,6 +4,7 @@ ghost use Rattle.sn76489.specs.State.{power_on};
 ghost use Rattle.sn76489.specs.Writes.{noise_with_control, noise_with_volume};
 ghost use Rattle.sn76489.specs.Clock.{shift_clocks, shifts_at, shift_leaves, noise_clock_leaves};
 ghost use Rattle.sn76489.specs.Level.{noise_output, loudness};
+ghost use Rattle.sn76489.specs.Quiet.{noise_quiet};
 
 use crate::tone::loudness;
 use beeb_bits::bit;
@@ -85,6 +86,14 @@ impl Noise {
         if self.shifts_at(number, tone3_rises) {
             self.register = shifted(bit(self.control, 2), self.register);
         }
+    }
+
+    /// How many clocks come for sure, behind the one of this number, in which its rate does not shift it.
+    pub(crate) fn quiet(&self, number: u8) -> u16
+        ensures { result ≡ noise_quiet number self.now }
+    {
+        let each = shift_clocks(self.control % 4);
+        u16::from(each - 1 - number % each)
     }
 
     /// A byte that is written to the control: the register begins anew.

@@ -1,5 +1,5 @@
 //! What is heard of a list of writes.
-ghost use Rattle.std.specs.Prelude.{◌≡◌, ◌≤◌, ◌^◌, IfOk};
+ghost use Rattle.std.specs.Prelude.{◌≡◌, ◌≤◌, ◌<◌, ◌+◌, ◌-◌, ◌*◌, ◌/◌, ◌^◌, IfOk, length};
 ghost use Rattle.sn76489.specs.Samples.{NeverFallFrom, samples};
 ghost use Rattle.sn76489.specs.CodeWrites.{caught_up, pending_writes};
 
@@ -26,6 +26,24 @@ impl Sound {
     }
 }
 
+// How many clocks from this number on, below `clocks`, can be done at once: up to the next one behind which there is a sample, where no write is
+// due before it, or one.
+fn clocks_at_once(writes: &[SoundWrite], clock: u64, clocks: u64) -> u64
+    requires order { NeverFallFrom (4 * clock + 1) writes.now }
+    requires some { clock < clocks }
+    requires few { clocks ≤ 2 ^ 28 }
+    ensures some { 0 < result }
+    ensures within { clock + result ≤ clocks }
+    ensures samples { clock + result ≤ (clock + 7) / 8 * 8 + 1 }
+    ensures free { NeverFallFrom (4 * (clock + (result - 1)) + 1) writes.now }
+{
+    let next = clocks.min((clock + 7) / 8 * 8 + 1);
+    match writes.first() {
+        Some(write) if write.moment < 4 * next => 1,
+        _ => next - clock,
+    }
+}
+
 /// The samples of these writes over so many steps of a microsecond, from power-on: there is a clock at each fourth step and a sample at each
 /// 32nd, the first at step 0.
 ///
@@ -34,15 +52,20 @@ impl Sound {
 pub fn render(alloc: Global, writes: &[SoundWrite], steps: u64) -> Result<Vec<i16>, NoMemory>
     requires order { NeverFallFrom 0 writes.now }
     requires steps { steps ≤ 2 ^ 28 }
-    ensures { IfOk result (λ list. list.items ≡ samples writes.now steps) }
+    ensures samples { IfOk result (λ list. list.items ≡ samples writes.now steps) }
+    ensures count { IfOk result (λ list. length list.items ≡ (steps + 31) / 32) }
 {
     let mut list = Vec::with_capacity(alloc, steps.div_ceil(32) as usize)?;
     let mut sound = Sound::new();
     let mut left = writes;
-    for clock in 0..steps.div_ceil(4) {
+    let clocks = steps.div_ceil(4);
+    let mut clock = 0;
+    while clock < clocks {
         left = sound.catch_up(left, 4 * clock);
-        sound.clock();
-        if clock % 8 == 0 {
+        let some = clocks_at_once(left, clock, clocks);
+        sound.advance(some);
+        clock += some;
+        if clock % 8 == 1 {
             list.push_reserved(sound.level());
         }
     }

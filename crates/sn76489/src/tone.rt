@@ -4,6 +4,7 @@ ghost use Rattle.sn76489.specs.State.{silent_tone};
 ghost use Rattle.sn76489.specs.Writes.{tone_with_period, tone_with_volume};
 ghost use Rattle.sn76489.specs.Clock.{tone_clock_leaves, rises, period_clocks};
 ghost use Rattle.sn76489.specs.Level.{loudness};
+ghost use Rattle.sn76489.specs.Quiet.{tone_quiet, tone_lowered};
 
 use beeb_bits::bit;
 use std::marker::Model;
@@ -77,6 +78,21 @@ impl Tone {
         self.counter = period_clocks(self.period);
         self.output = !self.output;
         self.output
+    }
+
+    /// How many clocks come in which the counter only goes down.
+    pub(crate) fn quiet(&self) -> u16
+        ensures { result ≡ tone_quiet self.now }
+    {
+        self.counter.saturating_sub(1)
+    }
+
+    /// Does so many of these clocks.
+    pub(crate) fn lower(&mut self, n: u16)
+        requires { n ≤ tone_quiet self.old }
+        ensures { self.new ≡ tone_lowered n self.old }
+    {
+        self.counter -= n;
     }
 
     /// A byte that is written to the period.

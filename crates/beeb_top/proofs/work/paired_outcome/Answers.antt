@@ -21,5 +21,5 @@ returns-clause-works g c =
     rw c.in-Run.is
     (subst (λ (stage : Result (Verdict Ending) (Refusal Cause)). Works (verdict_of g.D.BusDevice.plug) true (g.C.Crew.counts c.args.crew.now)
     (g.C.Crew.counts c.run_outcome.new.crew) c.run_outcome.result stage)
-    (both_after _ _ c.in-Run.ticks c.in-Run.keep c.in-Run.out.now _ _ c.of-setup.ensures c.in_ok-inputs.ensures)
+    (both_after _ _ c.in-Run.ticks c.in-Run.keep _ _ _ _ c.of-setup.ensures c.of-names.ensures c.in_ok-inputs.ensures)
     c.run_outcome.ensures.works)

@@ -26,7 +26,7 @@ pub returns-in-Solo : goal.returns-in-Solo
 returns-in-Solo g c =
     rw c.in-Solo.is
     (subst (λ (stage : Result (Verdict Ending) (Refusal Cause)). Gives (verdict_of g.D.BusDevice.plug) c.solo_outcome.result stage)
-    (both_after _ _ c.in-Solo.ticks c.in-Solo.keep c.in-Solo.out.now _ _ c.of-setup-in-Solo.ensures c.in_ok-inputs.ensures)
+    (both_after _ _ c.in-Solo.ticks c.in-Solo.keep _ _ _ _ c.of-setup-in-Solo.ensures c.of-names-in-Solo.ensures c.in_ok-inputs.ensures)
     c.solo_outcome.ensures)
 
 pub returns-in-Replay : goal.returns-in-Replay

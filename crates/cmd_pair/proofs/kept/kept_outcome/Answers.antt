@@ -6,7 +6,7 @@ use Rattle.host_mach.specs.View.{host_seen}
 use Rattle.host_mach.specs.Step.{host_moves}
 use Rattle.para_mach.specs.State.{ParaState}
 use Rattle.para_mach.specs.Step.{para_moves}
-use Rattle.beeb_outcome.specs.View.{kept_seen, verdict_of}
+use Rattle.beeb_outcome.specs.View.{kept_seen, names_seen, verdict_of}
 use Rattle.beeb_outcome.specs.Verdicts.{machine_verdict}
 use Rattle.cmd_pair.specs.Code.{AreFirst, IsRun}
 use Rattle.cmd_pair.specs.Solo.{kept_verdict}
@@ -38,7 +38,7 @@ overflow_add-tube g c =
 pub returns : goal.returns
 returns g c =
     for_each c.machine_outcome.result (verdict_of g.D.BusDevice.plug) _ (λ s t. IsRun g.D.BusDevice.plug s t c.args.ticks c.args.keep c.args.done)
-    (λ s t. kept_verdict c.args.clock c.args.ticks c.args.keep c.args.out.now (reference host_moves para_moves s t c.args.ticks)) c.machine_outcome.ensures
+    (λ s t. kept_verdict c.args.clock c.args.ticks c.args.keep (names_seen c.args.names) (reference host_moves para_moves s t c.args.ticks)) c.machine_outcome.ensures
     (λ s t run.
     let w : World HostState ParaState = reference host_moves para_moves s t c.args.ticks in
     let first : AreFirst c.args.ticks w.list c.args.keep c.deref.result.now c.deref-2.result.now = record {
@@ -47,7 +47,7 @@ returns g c =
       host_is = c.deref.ensures.value ∙ run.host_kept.list_is;
       para_is = c.deref-2.ensures.value ∙ run.para_kept.list_is;
     } in
-    ap machine_verdict (both_is c.args.ticks (c.args.done.host_count + c.args.done.para_count) c.args.out.now c.new.result.items
+    ap machine_verdict (both_is c.args.clock c.args.ticks (c.args.done.host_count + c.args.done.para_count) (names_seen c.args.names) c.new.result.items
     (host_seen g.D.BusDevice.plug c.args.done.host) c.args.done.para (kept_seen c.in_ok-kept.kept) c.new.ensures.items)
-    ∙ kept_is c.args.clock c.args.ticks c.args.keep c.args.out.now w _ _ _ _ _
+    ∙ kept_is c.args.clock c.args.ticks c.args.keep (names_seen c.args.names) w _ _ _ _ _
     run.host_is run.para_is run.host_kept.count_is run.para_kept.count_is (c.in_ok-kept.ensures c.args.ticks w.list first))

@@ -7,7 +7,7 @@ use Rattle.host_mach.specs.View.{host_seen}
 use Rattle.beeb_stages.specs.Plan.{Verdict}
 use Rattle.beeb_status.specs.declared.status.Ending.{Ending}
 use Rattle.beeb_outcome.specs.Verdicts.{machine_verdict, host_left}
-use Rattle.beeb_outcome.specs.View.{verdict_of}
+use Rattle.beeb_outcome.specs.View.{names_seen, verdict_of}
 use Rattle.cmd_replay.specs.Replay.{side_count}
 use Rattle.cmd_replay.specs.Host.{host_ended}
 use Rattle.cmd_replay.proofs.ReplayLemmas.{done_is, differs_is, host_is}
@@ -17,8 +17,8 @@ pub returns-in-None : goal.returns-in-None
 unfolding host_ended
 returns-in-None g c =
     subst (λ (v : Verdict Ending). IfOk c.machine_outcome.result (λ outcome. verdict_of g.D.BusDevice.plug outcome ≡ v))
-    (ap machine_verdict (host_is c.args.ticks c.side_count.result c.args.out.now c.new.result.items (host_seen g.D.BusDevice.plug c.replay-machine.result.0) c.new.ensures.items)
-    ∙ done_is (λ (tube : ℕ) (s : HostState). machine_verdict (host_left c.args.ticks tube c.args.out.now s)) c.side_count.result (side_count Host c.args.ticks c.args.entries.now)
+    (ap machine_verdict (host_is c.args.clock c.args.ticks c.side_count.result (names_seen c.args.names) c.new.result.items (host_seen g.D.BusDevice.plug c.replay-machine.result.0) c.new.ensures.items)
+    ∙ done_is (λ (tube : ℕ) (s : HostState). machine_verdict (host_left c.args.clock c.args.ticks tube (names_seen c.args.names) s)) c.side_count.result (side_count Host c.args.ticks c.args.entries.now)
     (replay_of host_moves Host c.args.entries.now c.args.ticks (host_seen g.D.BusDevice.plug c.args.machine))
     (host_seen g.D.BusDevice.plug c.replay-machine.result.0) (sym c.replay-machine.ensures.place ∙ c.in-None.is) c.replay-machine.ensures.machine c.side_count.ensures)
     c.machine_outcome.ensures
@@ -27,7 +27,7 @@ pub returns-in-Some : goal.returns-in-Some
 unfolding host_ended
 returns-in-Some g c =
     subst (λ (v : Verdict Ending). IfOk c.differs_outcome.result (λ outcome. verdict_of g.D.BusDevice.plug outcome ≡ v))
-    (differs_is (λ (s : HostState). machine_verdict (host_left c.args.ticks (side_count Host c.args.ticks c.args.entries.now) c.args.out.now s))
+    (differs_is (λ (s : HostState). machine_verdict (host_left c.args.clock c.args.ticks (side_count Host c.args.ticks c.args.entries.now) (names_seen c.args.names) s))
     (replay_of host_moves Host c.args.entries.now c.args.ticks (host_seen g.D.BusDevice.plug c.args.machine))
     (c.in-Some.line, c.in-Some.doing) (sym c.replay-machine.ensures.place ∙ c.in-Some.is))
     c.differs_outcome.ensures

@@ -1,12 +1,10 @@
-use Rattle.std.proofs.Common.{◌≡◌, ◌∙◌, sym, ap, ◌+◌, ◌*◌, ◌++◌, [], ◌∷◌, pos, arith, rules}
-use Rattle.sn76489.specs.Clock.{clock_leaves}
+use Rattle.std.proofs.Common.{◌∙◌, sym, ap, refl, ◌*◌, ◌++◌, [], ◌∷◌, pos, arith, rules}
 use Rattle.sn76489.specs.Level.{level}
-use Rattle.sn76489.specs.Samples.{chip_before_step, samples}
-use Rattle.sn76489.specs.CodeWrites.{caught_up}
-use Rattle.sn76489.proofs.Playing.{before_first, at_clock, behind_clock}
-use Rattle.sn76489.proofs.Sampling.{pushed, sampled, unsampled, padded}
+use Rattle.sn76489.specs.Samples.{samples}
+use Rattle.sn76489.proofs.Playing.{before_first}
+use Rattle.sn76489.proofs.Sampling.{pushed, padded}
+use Rattle.sn76489.proofs.Free.{left_later, some_played, some_sampled, some_unsampled}
 use Rattle.sn76489.proofs.samples.render.Goals as goal
-use Rattle.sn76489.proofs.samples.render.Goals.{then-clock-eq0, else-clock-eq0}
 
 pub loop-clock-init : goal.loop-clock-init
 unfolding samples
@@ -15,37 +13,49 @@ loop-clock-init c = record {
   items = c.in_ok-list.ensures.items;
   size = c.in_ok-list.ensures.len;
   room = omega (arith, c.in_ok-list.ensures.capacity, c.div_ceil.ensures);
+  few = omega arith;
 }
+
+pub clocks_at_once-some-requires-clause-order : goal.clocks_at_once-some-requires-clause-order
+clocks_at_once-some-requires-clause-order c =
+    rw c.catch_up-left.ensures.left (left_later (4 * c.loop-clock.clock) 0 c.loop-clock.left.now c.loop-clock.invariant.chip.order)
 
 pub loop-clock-preserved : goal.loop-clock-preserved
 loop-clock-preserved c =
-    let writes = c.args.writes.now in
-    let q = c.loop-clock.clock in
-    let clock : c.clock.new.self ≡ clock_leaves (caught_up (4 * q) c.loop-clock.left.now c.loop-clock.sound) =
-    c.clock.ensures ∙ ap clock_leaves c.catch_up-left.ensures.chip in
-    let chip = behind_clock writes c.loop-clock.left.now c.catch_up-left.result.now q c.loop-clock.sound c.clock.new.self c.loop-clock.invariant.chip clock c.catch_up-left.ensures.left in
-    let here = at_clock writes c.loop-clock.left.now q c.loop-clock.sound c.clock.new.self c.loop-clock.invariant.chip clock in
-    let list = c.loop-clock.list in
-    elim c.if-clock-eq0.branch [
-      | then-clock-eq0 w ↦ record {
-        chip = chip;
-        items =
-            rw w.list-is (
-            pushed list.items w.push_reserved.new.self.items w.level.result c.clock.new.self (chip_before_step writes (4 * q + 1)) (search rules)
-            w.push_reserved.ensures.items w.level.ensures here
-            ∙ ap (λ l. l ++ pos (level (chip_before_step writes (4 * q + 1))) ∷ []) c.loop-clock.invariant.items ∙ sym (sampled writes q w.if-clock-eq0.true)
-            );
-        size = rw w.list-is (omega (arith, w.push_reserved.ensures.len));
-        room = rw w.list-is (omega (arith, w.push_reserved.ensures.capacity));
-      }
-      | else-clock-eq0 w ↦ record {
-        chip = chip;
-        items = rw w.list-is (c.loop-clock.invariant.items ∙ sym (unsampled writes q w.if-clock-eq0.false));
-        size = rw w.list-is (omega arith);
-        room = rw w.list-is c.loop-clock.invariant.room;
-      }
-    ]
+    let some = c.clocks_at_once-some.ensures in
+    let played = some_played c.args.writes.now c.loop-clock.left.now c.catch_up-left.result.now c.loop-clock.clock c.clocks_at_once-some.result
+    c.loop-clock.sound c.catch_up-left.new.self c.advance.new.self some.some c.loop-clock.invariant.chip c.catch_up-left.ensures.chip
+    c.catch_up-left.ensures.left some.free c.advance.ensures in
+    record {
+      chip = played.0;
+      items =
+          c.loop-clock.invariant.items
+          ∙ sym (some_unsampled c.args.writes.now c.loop-clock.clock c.clocks_at_once-some.result some.some some.samples c.if-clock-eq1.false);
+      size = omega (arith, c.loop-clock.invariant.size, some.some, some.samples, c.if-clock-eq1.false);
+      room = c.loop-clock.invariant.room;
+      few = some.within;
+    }
 
-pub returns : goal.returns
-returns c =
-    c.loop-clock.invariant.items ∙ padded c.args.writes.now c.args.steps c.loop-clock.clock (omega arith)
+pub loop-clock-preserved-then-clock-eq1 : goal.loop-clock-preserved-then-clock-eq1
+loop-clock-preserved-then-clock-eq1 c =
+    let some = c.clocks_at_once-some.ensures in
+    let list = c.loop-clock.list in
+    let played = some_played c.args.writes.now c.loop-clock.left.now c.catch_up-left.result.now c.loop-clock.clock c.clocks_at_once-some.result
+    c.loop-clock.sound c.catch_up-left.new.self c.advance.new.self some.some c.loop-clock.invariant.chip c.catch_up-left.ensures.chip
+    c.catch_up-left.ensures.left some.free c.advance.ensures in
+    record {
+      chip = played.0;
+      items =
+          pushed list.items c.push_reserved.new.self.items c.level.result c.advance.new.self c.advance.new.self (search rules)
+          c.push_reserved.ensures.items c.level.ensures refl
+          ∙ ap (λ l. l ++ pos (level c.advance.new.self) ∷ []) c.loop-clock.invariant.items
+          ∙ sym (some_sampled c.args.writes.now c.loop-clock.clock c.clocks_at_once-some.result c.advance.new.self some.some some.samples c.if-clock-eq1.true played.1);
+      size = omega (arith, c.push_reserved.ensures.len, c.loop-clock.invariant.size, some.some, some.samples, c.if-clock-eq1.true);
+      room = omega (arith, c.push_reserved.ensures.capacity, c.loop-clock.invariant.room);
+      few = some.within;
+    }
+
+pub returns-clause-samples : goal.returns-clause-samples
+returns-clause-samples c =
+    c.loop-clock.invariant.items
+    ∙ padded c.args.writes.now c.args.steps c.loop-clock.clock (omega (arith, c.div_ceil-clocks.ensures, c.loop-clock.invariant.few, c.loop-clock-test.false))

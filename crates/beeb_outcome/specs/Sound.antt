@@ -1,0 +1,25 @@
+-- The sound file: what is heard of a host's writes to its sound chip.
+use Rattle.std.specs.Prelude.{ℕ, zero, suc, ◌+◌, ◌%◌, ◌==◌, List, if◌then◌else◌}
+use Rattle.beeb_bits.specs.declared.clock.Clock.{Clock}
+use Rattle.beeb_bits.specs.Clock.{micro}
+use Rattle.sn76489.specs.declared.SoundWrite.{SoundWrite}
+use Rattle.sn76489.specs.Samples.{samples}
+use Rattle.sn76489.specs.Wav.{wav}
+use Rattle.host_mach.specs.State.{HostState}
+
+-- How many microseconds begin below tick n, where each has u ticks and one begins at tick 0: as many as there are m with u m below n.
+abbrev pub begun : ℕ → ℕ → ℕ
+begun u zero = 0
+begun u (suc n) = begun u n + (if n % u == 0 then 1 else 0)
+
+-- the sound file of these writes after a run of so many ticks: the samples of a step for each microsecond
+unfoldable pub sound_file : Clock → ℕ → List SoundWrite → List ℕ
+sound_file clock ticks writes = wav (samples writes (begun (micro clock) ticks))
+
+-- the writes of a host
+abbrev pub sound_writes : HostState → List SoundWrite
+sound_writes s = s.bus.board.sound
+
+-- the sound file of a host where it ended
+abbrev pub sound_bytes : Clock → ℕ → HostState → List ℕ
+sound_bytes clock ticks s = sound_file clock ticks (sound_writes s)

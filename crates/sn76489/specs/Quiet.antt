@@ -1,0 +1,33 @@
+-- Working words of the code that does many clocks at once, which no public clause names: clocks in which no tone turns over and the noise does
+-- not shift, so that counters only go down.
+use Rattle.std.specs.Prelude.{ℕ, ◌+◌, ◌-◌, ◌<◌, ◌≤◌, ◌%◌}
+use Rattle.sn76489.specs.State.{State, Tone, Noise}
+use Rattle.sn76489.specs.Clock.{shift_clocks}
+
+-- how many clocks come in which a tone's counter only goes down
+abbrev pub tone_quiet : Tone → ℕ
+tone_quiet t = t.counter - 1
+
+-- how many come for sure, behind the clock of this number, in which the noise does not shift by its rate
+abbrev pub noise_quiet : ℕ → Noise → ℕ
+noise_quiet number n = shift_clocks (n.control % 4) - 1 - number % shift_clocks (n.control % 4)
+
+-- what so many of these clocks leave
+abbrev pub tone_lowered : ℕ → Tone → Tone
+tone_lowered n t = record t { counter = t.counter - n }
+
+abbrev pub lowered : ℕ → State → State
+lowered n c = record c {
+  tone1 = tone_lowered n c.tone1;
+  tone2 = tone_lowered n c.tone2;
+  tone3 = tone_lowered n c.tone3;
+  count = (c.count + n) % 128;
+}
+
+-- the next n clocks are such ones
+pub record IsQuiet (n : ℕ) (c : State) : Type 0 where
+  pub tone1 : n ≤ tone_quiet c.tone1
+  pub tone2 : n ≤ tone_quiet c.tone2
+  pub tone3 : n ≤ tone_quiet c.tone3
+  pub noise : n ≤ noise_quiet c.count c.noise
+  pub count : c.count < 128
