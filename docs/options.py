@@ -25,10 +25,11 @@ TEXTS = {
     "--font": ("FONT", "the teletext chip's font, 960 bytes; without it the chip shows blanks for letters"),
     "--disc0": ("IMAGE", "the disc in drive 0: a DSD where the name ends in .dsd, else an SSD"),
     "--disc1": ("IMAGE", "the disc in drive 1"),
-    "--keys": ("SCRIPT", "the key script: keys, shots and BREAK"),
+    "--keys": ("SCRIPT", "the key script: keys, shots, BREAK and the converter's levels"),
     "--plugs": ("N", "the first N devices on the 1 MHz bus: with 1 a RAM card, with 2 a printer's latch too"),
     "--keep": ("K", "how many accesses to the Tube the trace has at most; 1,048,576 without it"),
     "--speed": ("MHZ", "the second processor's clock; 3 without it"),
+    "--wav": ("FILE", "what is heard of the sound chip, as a sound file"),
 }
 
 COMMANDS = [
@@ -49,6 +50,7 @@ OUTPUTS = [
     ("OUT.000.ppm ..", "the frames that the shots of the key script took, 640 by 256"),
     ("OUT.trace", "the Tube trace, of solo and run"),
     ("OUT.plug0, OUT.plug1", "what the plugged devices hold"),
+    ("the FILE of --wav", "the sound: one channel of 16 bits, 31,250 samples a second"),
 ]
 
 STATUSES = [

@@ -16,14 +16,15 @@ _beebtube() {
     if [ -z "$words" ] && [ "${word:0:1}" = - ]; then
         case $command in
             'replay host') words='--os --rom0 --rom1 --rom2 --rom3 --rom4 --rom5 --rom6 --rom7 --rom8 --rom9 --rom10
-                --rom11 --rom12 --rom13 --rom14 --rom15 --font --disc0 --disc1 --keys --plugs --speed' ;;
+                --rom11 --rom12 --rom13 --rom14 --rom15 --font --disc0 --disc1 --keys --plugs --speed
+                --wav' ;;
             'replay para') words='--tube --speed' ;;
             'solo') words='--os --tube --rom0 --rom1 --rom2 --rom3 --rom4 --rom5 --rom6 --rom7 --rom8 --rom9
                 --rom10 --rom11 --rom12 --rom13 --rom14 --rom15 --font --disc0 --disc1 --keys --plugs
-                --keep --speed' ;;
+                --keep --speed --wav' ;;
             'run') words='--os --tube --rom0 --rom1 --rom2 --rom3 --rom4 --rom5 --rom6 --rom7 --rom8 --rom9
                 --rom10 --rom11 --rom12 --rom13 --rom14 --rom15 --font --disc0 --disc1 --keys --plugs
-                --keep --speed' ;;
+                --keep --speed --wav' ;;
         esac
     fi
     if [ -n "$words" ]; then
