@@ -21,11 +21,11 @@ abbrev pub host_line : HostState → Line
 host_line s = record { regs = s.cpu.regs; stopped = halted s.cpu }
 
 abbrev pub para_line : ParaState → Line
-para_line s = record { regs = shown_regs s; stopped = s.is_held }
+para_line s = record { regs = shown_regs s; stopped = s.bus.is_held }
 
 -- the number of frames that shots took
 abbrev pub frame_count : HostState → ℕ
-frame_count s = length s.bus.board.shots
+frame_count s = length s.bus.bus.board.shots
 
 abbrev pub kept_count : Kept → ℕ
 kept_count k = k.count
@@ -41,10 +41,10 @@ bytes_in bytes None = []
 bytes_in bytes (Some s) = bytes s
 
 abbrev pub host_ram : HostState → List ℕ
-host_ram s = s.bus.board.ram
+host_ram s = s.bus.bus.board.ram
 
 abbrev pub para_ram : ParaState → List ℕ
-para_ram s = s.ram
+para_ram s = s.bus.ram
 
 abbrev pub ram_of : Side → Left → List ℕ
 ram_of sides.Host l = bytes_in host_ram l.host
@@ -55,15 +55,15 @@ abbrev pub image_bytes : Image → List ℕ
 image_bytes disc = disc.bytes
 
 abbrev pub disc_bytes : ℕ → HostState → List ℕ
-disc_bytes drive s = bytes_in image_bytes (bus_disc drive s.bus)
+disc_bytes drive s = bytes_in image_bytes (bus_disc drive s.bus.bus)
 
 -- a frame that a shot took: a pixmap
 abbrev pub frame_bytes : ℕ → HostState → List ℕ
-frame_bytes number s = bytes_in pixmap (slice_get s.bus.board.shots number)
+frame_bytes number s = bytes_in pixmap (slice_get s.bus.bus.board.shots number)
 
 -- what a plugged device spills
 abbrev pub plug_bytes : ℕ → HostState → List ℕ
-plug_bytes number s = bytes_in plug_spills (slice_get s.bus.plugs number)
+plug_bytes number s = bytes_in plug_spills (slice_get s.bus.bus.plugs number)
 
 abbrev pub trace_text : Kept → List ℕ
 trace_text k = k.trace

@@ -29,13 +29,13 @@ plugs (suc n) = plugs n ++ Plug n ∷ []
 
 -- the discs that are in drive 0 and drive 1
 abbrev pub discs : HostState → List Output
-discs s = if_there (Disc 0) (bus_disc 0 s.bus) ++ if_there (Disc 1) (bus_disc 1 s.bus)
+discs s = if_there (Disc 0) (bus_disc 0 s.bus.bus) ++ if_there (Disc 1) (bus_disc 1 s.bus.bus)
 
 abbrev pub shots : HostState → List Output
-shots s = frames (length s.bus.board.shots)
+shots s = frames (length s.bus.bus.board.shots)
 
 abbrev pub spills : HostState → List Output
-spills s = plugs (length s.bus.plugs)
+spills s = plugs (length s.bus.bus.plugs)
 
 -- The report; the memories of the machines that are there, the host's first; the discs; the frames; the trace of what is kept, if something is;
 -- what the plugged devices spill; and then each output that is given a name of its own.

@@ -18,7 +18,7 @@ sound_file clock ticks writes = wav (samples writes (begun (micro clock) ticks))
 
 -- the writes of a host
 abbrev pub sound_writes : HostState → List SoundWrite
-sound_writes s = s.bus.board.sound
+sound_writes s = s.bus.bus.board.sound
 
 -- the sound file of a host where it ended
 abbrev pub sound_bytes : Clock → ℕ → HostState → List ℕ

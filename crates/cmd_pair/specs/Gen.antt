@@ -44,7 +44,7 @@ abbrev pub summary : ℕ → List ℕ → List ℕ
 summary seed ram = before_sum seed ++ hex_digits 2 (slice_index ram 0x71) ++ hex_digits 2 (slice_index ram 0x70) ++ behind_sum
 
 abbrev pub gen_verdict : ℕ → HostState → Verdict Ending
-gen_verdict seed s = said_verdict Done (summary seed s.bus.board.ram)
+gen_verdict seed s = said_verdict Done (summary seed s.bus.bus.board.ram)
 
 -- a second processor at 3 MHz, and nothing plugged
 abbrev pub gen_setup : Setup

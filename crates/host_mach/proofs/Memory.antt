@@ -10,8 +10,10 @@ use Rattle.host_bus.specs.declared.map.Place.{Place}
 use Rattle.host_bus.specs.declared.map.Place.TheVariants.{Ram, PagedRom, OsRom}
 use Rattle.host_bus.specs.Map.{place_of, stretch}
 use Rattle.host_bus.specs.Bus.{BusState, clock_of, bus_closed, answer_of, after_read_of, bus_answer, bus_after_read}
-use Rattle.host_mach.specs.Step.{is_tube, byte_in}
-use Rattle.host_mach.specs.CodeAccess.{IsMemory}
+use Rattle.tube_machine.specs.Step.{byte_in}
+use Rattle.tube_machine.specs.Exchange.{IsQuick}
+use Rattle.host_mach.specs.State.{HostBusState}
+use Rattle.host_mach.specs.Step.{is_tube, host_wiring}
 
 -- where memory is
 abbrev memory_place : Bool → Bool → Place
@@ -46,14 +48,14 @@ not-tube : (at : ℕ) → at < 0xfc00 → is_tube at ≡ false
 not-tube at low = grind (arith, common_steps)
 
 -- so that a read is done without closing
-pub read-done : (b : BusState) (t at byte : ℕ) (c : Cycle) → c ≡ Read at → at < 0xfc00 → byte ≡ bus_answer b t at → stretch at (t / host (clock_of b)) ≡ 1 → IsMemory b t c (Some byte) b
+pub read-done : (b : HostBusState) (t at byte : ℕ) (c : Cycle) → c ≡ Read at → at < 0xfc00 → byte ≡ bus_answer b.bus t at → stretch at (t / host (clock_of b.bus)) ≡ 1 → IsQuick host_wiring b t c (Some byte) b
 read-done b t at byte c is low given fast =
     let no = not-tube at low in
-    let n : ℕ = host (clock_of b) in
+    let n : ℕ = host (clock_of b.bus) in
     let one : n * 1 ≡ n = omega arith in
-    subst (λ (x : Cycle). IsMemory b t x (Some byte) b) (sym is) (
+    subst (λ (x : Cycle). IsQuick host_wiring b t x (Some byte) b) (sym is) (
       ap (λ (x : Bool). if x then Some (access (op.Read (at % 8))) else None) no,
-      given ∙ answer-on b (t + 1) t at low ∙ sym (ap (λ (x : Bool). if x then byte_in None else bus_answer (bus_closed b (t + 1)) t at) no),
-      sym (read-still (bus_closed b (t + 1)) at low),
+      given ∙ answer-on b.bus (t + 1) t at low ∙ sym (ap (λ (x : Bool). if x then byte_in None else bus_answer (bus_closed b.bus (t + 1)) t at) no),
+      ap (λ (x : BusState). record b { bus = x }) (sym (read-still (bus_closed b.bus (t + 1)) at low)),
       ap (λ (k : ℕ). n * k) fast ∙ one,
     )

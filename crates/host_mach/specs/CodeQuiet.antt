@@ -9,4 +9,4 @@ use Rattle.host_mach.specs.Step.{is_tube}
 -- or to the end of any run.
 abbrev pub quiet_of : HostState → ℕ
 quiet_of s =
-    if halted s.cpu && not (is_tube s.cpu.regs.pc) then max s.due (min 1073741824 (unwrap_or (bus_next_break s.bus) 1073741824)) else s.due
+    if halted s.cpu && not (is_tube s.cpu.regs.pc) then max s.due (min 1073741824 (unwrap_or (bus_next_break s.bus.bus) 1073741824)) else s.due

@@ -1,25 +1,26 @@
 -- The host is a party that plays the host's side.
-use Rattle.std.specs.Prelude.{ℕ, ◌≡◌, ◌≤◌, ◌<◌, ◌+◌, ◌-◌, ◌*◌, ◌/◌, ◌%◌, ◌==◌, ◌&&◌, ◌||◌, Bool, true, false, IsTrue, is_none, Option, None, Some, refl, if◌then◌else◌}
+use Rattle.std.specs.Prelude.{ℕ, ◌≡◌, ◌≤◌, ◌*◌, ◌/◌, ◌%◌, ◌==◌, Bool, true, false, IsTrue, refl, if◌then◌else◌}
 use Rattle.std.proofs.Common.{arith, ap}
 use Rattle.std.proofs.Math.Nat.{le-mul_of_pos_right}
 use Rattle.beeb_bits.specs.declared.Side.{Side}
 use Rattle.beeb_bits.specs.declared.Side.TheVariants.{Host, Para}
 use Rattle.beeb_bits.specs.declared.clock.Clock.{Clock}
-use Rattle.beeb_bits.specs.Clock.{host, some-host}
+use Rattle.beeb_bits.specs.Clock.{host, some-host, few-host}
+use Rattle.op_table.specs.declared.names.Part.TheVariants.{Nmos}
 use Rattle.cpu_alu.specs.declared.Cycle.{Cycle}
-use Rattle.cpu_alu.specs.declared.Cycle.TheVariants.{Read, Write}
-use Rattle.cpu6502.specs.Sequences.{next_cycle, after_byte, halted}
-use Rattle.tube_chip.specs.declared.Op.{Op}
 use Rattle.tube_chip.specs.declared.Op.TheVariants as op
-use Rattle.tube_chip.specs.declared.Answer.{Answer}
-use Rattle.tube_chip.specs.Act.{access, MayDo}
+use Rattle.tube_chip.specs.Act.{MayDo}
 use Rattle.tube_chip.specs.Events.{is_side}
-use Rattle.tube_party.specs.Moves.{IsLawful, IsPermitted, MayAsk}
-use Rattle.host_bus.specs.Map.{stretch, stretched_in, memory_map}
-use Rattle.host_bus.specs.Bus.{BusState, clock_of, bus_break_pending}
-use Rattle.host_bus.specs.Closing.{closed-again}
-use Rattle.host_mach.specs.State.{HostState}
-use Rattle.host_mach.specs.Step.{host_moves, host_closed, is_break, after_break, after_step, byte_of, address, cycle_ticks, is_tube, asks_by}
+use Rattle.tube_party.specs.Moves.{IsLawful, IsPermitted}
+use Rattle.host_bus.specs.Map.{stretched_in, memory_map}
+use Rattle.host_bus.specs.Bus.{BusState, clock_of}
+use Rattle.host_bus.specs.Closing.{closed-again, closed-still}
+use Rattle.tube_machine.specs.Wiring.{IsWired, StaysPlain}
+use Rattle.tube_machine.specs.Lawful.{lawful, may_play}
+use Rattle.host_mach.specs.State.{HostBusState}
+use Rattle.host_mach.specs.Step.{host_wiring, host_moves, address, cycle_ticks}
+use Rattle.host_mach.specs.SameClock.{access-same}
+use Rattle.host_mach.specs.SameBreaks.{access-leaves}
 
 -- an access takes at least one cycle
 some-cycle : (slow even : Bool) → 1 ≤ (if slow then (if even then 2 else 3) else 1)
@@ -31,56 +32,44 @@ pub cycle-ticks : (clock : Clock) (t : ℕ) (c : Cycle) → host clock ≤ cycle
 cycle-ticks clock t c =
     le-mul_of_pos_right (host clock) (some-cycle (stretched_in memory_map (address c)) (t / host clock % 2 == 0))
 
-later : (over : Bool) (t n : ℕ) → 1 < n → t < (if over then t + (n - 1) else t + n)
-later true t n some = omega (arith, some)
-later false t n some = omega (arith, some)
-
-rises : (c : Option Cycle) (s : HostState) (a : Option Answer) → s.due < (after_step c s a).due
-rises None s a = omega arith
-rises (Some c) s a =
-    let clock = clock_of s.bus in
-    let n = cycle_ticks clock s.due c in
-    let some : 1 < n = omega (arith, cycle-ticks clock s.due c, some-host clock) in
-    let breaks = bus_break_pending s.bus (s.due + (n - 1)) && halted s.cpu in
-    later (breaks || is_none (next_cycle (after_byte s.cpu (byte_of s.bus s.due a c)))) s.due n some
-
--- with either kind of step
-rises-by : (breaks : Bool) (c : Option Cycle) (s : HostState) (a : Option Answer) → s.due < (if breaks then after_break s else after_step c s a).due
-rises-by true c s a = omega arith
-rises-by false c s a = rises c s a
-
--- closing a host so far and then further is closing it further at once
-pub host-again : (s : HostState) (t u : ℕ) → t ≤ u → host_closed (host_closed s t) u ≡ host_closed s u
-host-again s t u high = ap (λ (b : BusState). record s { bus = b }) (closed-again s.bus t u high)
-
-pub host_lawful : IsLawful host_moves
-host_lawful = record {
-  rises = λ s a. rises-by (is_break s) (next_cycle s.cpu) (host_closed s (s.due + 1)) a;
-  within = λ s. omega arith;
-  closing = λ s t low high. record {
-    closed = omega (arith, low, high);
-    due = refl;
-    asks = refl;
-    next = λ a. ap (λ (x : HostState). if is_break s then after_break x else after_step (next_cycle s.cpu) x a) (host-again s t (s.due + 1) (omega (arith, high)));
-    again = λ u low2 high2. host-again s t u low2;
-  };
+pub host_wired : IsWired host_wiring
+host_wired = record {
+  some = λ b. omega (arith, some-host (clock_of b.bus));
+  few = λ b. few-host (clock_of b.bus);
+  ticks = λ b t c. cycle-ticks (clock_of b.bus) t c;
+  closed = λ b t. refl;
+  again = λ b t u high. ap (λ (x : BusState). record b { bus = x }) (closed-again b.bus t u high);
+  still = λ b t low. ap (λ (x : BusState). record b { bus = x }) (closed-still b.bus t low);
+  cycle_close = λ b t. refl;
+  cycle_after = λ b c. ap host (access-same b.bus c);
+  cycle_taken = λ b l. refl;
+  pending_close = λ b u t. refl;
+  pending_after = λ b c t. access-leaves b.bus c t;
+  pending_taken = λ b l t. refl;
+  closed_taken = λ b l. refl;
+  closed_held = λ b. refl;
+  closed_reset = λ b l. refl;
+  closed_broken = λ b t. refl;
+  cycle_held = λ b. refl;
+  cycle_reset = λ b l. refl;
+  cycle_broken = λ b t. refl;
 }
 
--- a number below 8, where it asks
-may-ask : (b : Bool) (side : Side) (o : Op) → MayDo side o → MayAsk side (if b then Some (access o) else None)
-may-ask true side o may = may
-may-ask false side o may = tt
+-- each look is plain
+pub host_plain : StaysPlain host_wiring (λ b l. true)
+host_plain = record { resets = λ b l is. refl; close = λ b l t. refl; after = λ b l c. refl; taken = λ b l is. refl }
 
-permitted : (side : Side) (c : Option Cycle) → MayAsk side (asks_by c)
-permitted side None = tt
-permitted side (Some (Read at)) = may-ask (is_tube at) side (op.Read (at % 8)) (omega arith)
-permitted side (Some (Write at byte)) = may-ask (is_tube at) side (op.Write (at % 8) byte) (omega arith)
+-- nothing is noted of it
+pub host_even : true ≡ false → (b : HostBusState) (t : ℕ) (c : Cycle) → host_wiring.takes b t c ≡ host_wiring.cycle b
+host_even is b t c = absurd (cc)
+
+pub host_lawful : IsLawful host_moves
+host_lawful = lawful Nmos host_wiring host_wired
 
 -- the reset is the host's
-permitted-by : (breaks : Bool) (side : Side) (c : Option Cycle) → IsTrue (is_side Host side) → MayAsk side (if breaks then Some (access op.Reset) else asks_by c)
-permitted-by true Host c plays = refl
-permitted-by true Para c plays = absurd (cc)
-permitted-by false side c plays = permitted side c
+resets_by : (side : Side) → IsTrue (is_side Host side) → MayDo side op.Reset
+resets_by Host plays = refl
+resets_by Para plays = absurd (cc)
 
 pub host_permitted : IsPermitted host_moves (is_side Host)
-host_permitted s side plays = permitted-by (is_break s) side (next_cycle s.cpu) plays
+host_permitted = may_play Nmos host_wiring (is_side Host) (λ b t side plays pending. resets_by side plays)

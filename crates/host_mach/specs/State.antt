@@ -6,23 +6,26 @@ use Rattle.bus_plug.specs.Plug.{Plug}
 use Rattle.rom_set.specs.Roms.{Roms}
 use Rattle.disc_image.specs.Image.{Image}
 use Rattle.key_script.specs.declared.Event.{Event}
-use Rattle.cpu6502.specs.State as cpu
 use Rattle.cpu6502.specs.Sequences as sequences
 use Rattle.host_bus.specs.Bus.{BusState, clock_of, bus_power_on}
+use Rattle.tube_machine.specs.Step.{At, at_of}
 
-pub record HostState : Type 0 where
-  pub cpu : cpu.State
+-- the bus, and what its processor has taken of the NMI line
+pub record HostBusState : Type 0 where
   pub bus : BusState
-  -- how many rises of the NMI line it has taken
+  -- how many rises of it
   pub nmis : ℕ
-  -- the tick of its next step
-  pub due : ℕ
+
+abbrev pub host_bus_of : BusState → ℕ → HostBusState
+host_bus_of b n = record { bus = b; nmis = n }
+
+abbrev pub HostState : Type 0
+HostState = At HostBusState
 
 -- how many ticks its cycles have, by the clock of its bus
 abbrev pub cycle_of : HostState → ℕ
-cycle_of s = host (clock_of s.bus)
+cycle_of s = host (clock_of s.bus.bus)
 
 -- the power-on state, at this clock, with these images, the discs of both drives, this script and these plugged devices
 abbrev pub power_on : Clock → Roms → Option Image → Option Image → List Event → List Plug → HostState
-power_on clock roms d0 d1 script plugs =
-    record { cpu = sequences.power_on; bus = bus_power_on clock roms d0 d1 script plugs; nmis = 0; due = 0 }
+power_on clock roms d0 d1 script plugs = at_of sequences.power_on (host_bus_of (bus_power_on clock roms d0 d1 script plugs) 0) 0

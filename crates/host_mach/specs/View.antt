@@ -1,8 +1,13 @@
 -- What a host is, by what its plugged devices are.
 use Rattle.bus_plug.specs.Plug.{Plug}
 use Rattle.host_bus.specs.View.{bus_seen}
+use Rattle.tube_machine.specs.Step.{at_of}
+use Rattle.host_mach.specs.declared.bus.HostBus.{HostBus}
 use Rattle.host_mach.specs.declared.machine.HostMachine.{HostMachine}
-use Rattle.host_mach.specs.State.{HostState}
+use Rattle.host_mach.specs.State.{HostBusState, HostState, host_bus_of}
+
+abbrev pub host_bus_seen : {D : Type 0} → (D → Plug) → HostBus D → HostBusState
+host_bus_seen plug b = host_bus_of (bus_seen plug b.bus) b.nmis
 
 abbrev pub host_seen : {D : Type 0} → (D → Plug) → HostMachine D → HostState
-host_seen plug m = record { cpu = m.cpu; bus = bus_seen plug m.bus; nmis = m.nmis; due = m.due }
+host_seen plug m = at_of m.cpu (host_bus_seen plug m.bus) m.due

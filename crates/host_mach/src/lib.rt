@@ -1,8 +1,7 @@
 //! The BBC Micro as a party at the Tube.
 #![tactic(auto)]
 
-mod exchange;
+mod bus;
 mod machine;
-mod run;
 
 pub use machine::HostMachine;

@@ -68,14 +68,14 @@ never_both true = refl
 never_both false = refl
 
 one : (o : Option Cycle) (s : HostState) (a : Option Answer) → is_none o ≡ false → halted s.cpu ≡ false →
-    (after_step o s a).due + tail (after_step o s a) ≡ s.due + takes (clock_of s.bus) s.due (the_cycle o)
+    (after_step o s a).due + tail (after_step o s a) ≡ s.due + takes (clock_of s.bus.bus) s.due (the_cycle o)
 unfolding tail
 one None s a some runs = absurd (true≢false some)
 one (Some c) s a some runs =
-    let clock = clock_of s.bus in
+    let clock = clock_of s.bus.bus in
     let n = cycle_ticks clock s.due c in
     let over = is_none (next_cycle (after_byte s.cpu (byte_of s.bus s.due a c))) in
-    let pending = bus_break_pending s.bus (s.due + (n - 1)) in
+    let pending = bus_break_pending s.bus.bus (s.due + (n - 1)) in
     let none : (pending && halted s.cpu) ≡ false = ap (λ h. pending && h) runs ∙ never_both pending in
     let is : n ≡ host clock * (1 + wait clock s.due c) = some_ticks clock s.due c in
     let all : host clock * (1 + wait clock s.due c) + 0 ≡ host clock * (1 + wait clock s.due c) = omega arith in
@@ -84,7 +84,7 @@ one (Some c) s a some runs =
     ∙ ap (λ k. s.due + k) (is ∙ sym all)
 
 first : (s : HostState) (a : Option Answer) → IsAccess s → halted s.cpu ≡ false →
-    (next_state s a).due + tail (next_state s a) ≡ s.due + takes (clock_of s.bus) s.due (the_cycle (next_cycle s.cpu))
+    (next_state s a).due + tail (next_state s a) ≡ s.due + takes (clock_of s.bus.bus) s.due (the_cycle (next_cycle s.cpu))
 first s a is runs = ap (λ (x : HostState). x.due + tail x) (plain s a is) ∙ one (next_cycle s.cpu) (host_closed s (s.due + 1)) a is.1 runs
 
 joins : (clock : Clock) (t : ℕ) (cs rest : List Cycle) → takes clock t (cs ++ rest) ≡ takes clock t cs + takes clock (t + takes clock t cs) rest
@@ -100,14 +100,14 @@ joins clock t (c ∷ cs) rest =
     ap (λ n. k + n) (joins clock (t + k) cs rest ∙ ap (λ u. here + takes clock u rest) same) ∙ sum
 
 total : (a : Option Answer) (answers : List (Option Answer)) (s : HostState) → AllAccess (a ∷ answers) s → next_cycle (run (a ∷ answers) s).cpu ≡ None →
-    (run (a ∷ answers) s).due + tail (run (a ∷ answers) s) ≡ s.due + takes (clock_of s.bus) s.due (cycles (a ∷ answers) s)
+    (run (a ∷ answers) s).due + tail (run (a ∷ answers) s) ≡ s.due + takes (clock_of s.bus.bus) s.due (cycles (a ∷ answers) s)
 unfolding tail
-total a [] s all over = first s a all.0 (runs_on (a ∷ []) s all over) ∙ ap (λ cs. s.due + takes (clock_of s.bus) s.due cs) (sym (append-nil (the_cycle (next_cycle s.cpu))))
+total a [] s all over = first s a all.0 (runs_on (a ∷ []) s all over) ∙ ap (λ cs. s.due + takes (clock_of s.bus.bus) s.due cs) (sym (append-nil (the_cycle (next_cycle s.cpu))))
 total a (b ∷ answers) s all over =
     let x = next_state s a in
     let cs = the_cycle (next_cycle s.cpu) in
     let rest = cycles (b ∷ answers) x in
-    let clock = clock_of s.bus in
+    let clock = clock_of s.bus.bus in
     let k = takes clock s.due cs in
     let none : x.due ≡ x.due + 0 = omega arith in
     let here : x.due ≡ s.due + k = none ∙ ap (λ o. x.due + (if o then 1 else 0)) (sym all.1.0.1) ∙ first s a all.0 (runs_on (a ∷ b ∷ answers) s all over) in
@@ -116,7 +116,7 @@ total a (b ∷ answers) s all over =
     ∙ ap (λ n. s.due + n) (sym (joins clock s.due cs rest))
 
 at_look : (s : HostState) (answers : List (Option Answer)) → 0 < length answers → AllAccess answers s → next_cycle (run answers s).cpu ≡ None →
-    (run answers s).due + 1 ≡ s.due + takes (clock_of s.bus) s.due (cycles answers s)
+    (run answers s).due + 1 ≡ s.due + takes (clock_of s.bus.bus) s.due (cycles answers s)
 unfolding tail
 at_look s [] some all over = absurd (omega (arith, some))
 at_look s (a ∷ answers) some all over =

@@ -53,10 +53,10 @@ takes clock t (c ∷ cs) = host clock * (1 + wait clock t c) + takes clock (t + 
 -- ticks that they take, and the next sequence begins behind it.
 pub record HostTakes : Type 0 where
   pub look : (s : HostState) (answers : List (Option Answer)) → 0 < length answers → AllAccess answers s → next_cycle (run answers s).cpu ≡ None →
-      (run answers s).due + 1 ≡ s.due + takes (clock_of s.bus) s.due (cycles answers s)
+      (run answers s).due + 1 ≡ s.due + takes (clock_of s.bus.bus) s.due (cycles answers s)
   pub behind : (s : HostState) (answers : List (Option Answer)) (answer : Option Answer) →
       0 < length answers → AllAccess answers s → next_cycle (run answers s).cpu ≡ None →
-      (next_state (run answers s) answer).due ≡ s.due + takes (clock_of s.bus) s.due (cycles answers s)
+      (next_state (run answers s) answer).due ≡ s.due + takes (clock_of s.bus.bus) s.due (cycles answers s)
 
 -- whether tick t is the last of a cycle of n ticks, or else the first
 abbrev pub IsAt : Bool → ℕ → ℕ → Type 0

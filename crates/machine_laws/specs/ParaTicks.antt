@@ -32,11 +32,11 @@ AllAccess (a ∷ answers) s = (is_none (next_cycle s.cpu) ≡ false) × AllAcces
 -- at 3 MHz and three each at 4 MHz, and where the processor is not held the next sequence begins behind it.
 pub record ParaTakes : Type 0 where
   pub look : (s : ParaState) (answers : List (Option Answer)) → 0 < length answers → AllAccess answers s → next_cycle (run answers s).cpu ≡ None →
-      (run answers s).due + 1 ≡ s.due + para s.clock * length (cycles answers s)
+      (run answers s).due + 1 ≡ s.due + para s.bus.clock * length (cycles answers s)
   pub behind : (s : ParaState) (answers : List (Option Answer)) (answer : Option Answer) →
       0 < length answers → AllAccess answers s → next_cycle (run answers s).cpu ≡ None →
-      (next_state (run answers s) answer).is_held ≡ false →
-      (next_state (run answers s) answer).due ≡ s.due + para s.clock * length (cycles answers s)
+      (next_state (run answers s) answer).bus.is_held ≡ false →
+      (next_state (run answers s) answer).due ≡ s.due + para s.bus.clock * length (cycles answers s)
 
 -- An instruction that is over has made at least as many accesses as the table has cycles for its opcode, which is the first byte that it saw.
 abbrev pub ParaTakesTheTable : Type 0

@@ -1,10 +1,10 @@
 -- The second processor: a 65C02 with 65,536 bytes of RAM, a boot ROM over the top of it, and the Tube in eight of its addresses.
-use Rattle.std.specs.Prelude.{ℕ, List, Bool, true, false}
+use Rattle.std.specs.Prelude.{ℕ, List, Bool, true, false, if◌then◌else◌}
 use Rattle.beeb_bits.specs.declared.clock.Clock.{Clock}
 use Rattle.beeb_bits.specs.Zeros.{zeros}
 use Rattle.cpu_alu.specs.declared.Regs.{Regs}
-use Rattle.cpu65c02.specs.State as cpu
 use Rattle.cpu65c02.specs.Sequences as sequences
+use Rattle.tube_machine.specs.Step.{At, at_of}
 
 -- 65,536 bytes of RAM, and 2,048 of boot ROM, which lie over F800 to FFFF for reads while rom_in is set
 pub record MemoryState : Type 0 where
@@ -12,10 +12,9 @@ pub record MemoryState : Type 0 where
   pub rom : List ℕ
   pub rom_in : Bool
 
-pub record ParaState : Type 0 where
+pub record ParaBusState : Type 0 where
   -- how fast it runs: a cycle is `para clock` ticks
   pub clock : Clock
-  pub cpu : cpu.State
   -- 65,536 bytes
   pub ram : List ℕ
   -- 2,048 bytes, which lie over F800 to FFFF for reads while rom_in is set
@@ -24,12 +23,13 @@ pub record ParaState : Type 0 where
   -- how many resets and NMIs of the Tube's counts it has taken
   pub resets : ℕ
   pub nmis : ℕ
-  -- it was held at its last look, since the reset line stood
+  -- its processor was held at the last look, since the reset line stood
   pub is_held : Bool
-  -- the tick of its next step
-  pub due : ℕ
-  -- it has no devices, so that it may count as closed at any tick up to there: so many ticks before
-  pub lag : ℕ
+  -- it has no devices, and counts as closed at this tick
+  pub closed : ℕ
+
+abbrev pub ParaState : Type 0
+ParaState = At ParaBusState
 
 -- 65,536 bytes 00
 abbrev pub clear_ram : List ℕ
@@ -37,24 +37,18 @@ clear_ram = zeros 65536
 
 -- the power-on state at this speed, with this boot ROM
 abbrev pub power_on : Clock → List ℕ → ParaState
-power_on clock rom = record {
+power_on clock rom = at_of sequences.power_on (record {
   clock = clock;
-  cpu = sequences.power_on;
   ram = clear_ram;
   rom = rom;
   rom_in = true;
   resets = 0;
   nmis = 0;
   is_held = false;
-  due = 0;
-  lag = 0;
-}
+  closed = 0;
+}) 0
 
 -- the registers that are shown: those at the start of the instruction or sequence of the next step, and while it is held those
 -- after the one before
 abbrev pub shown_regs : ParaState → Regs
-shown_regs s = regs_by s.cpu s.is_held
-  where
-    regs_by : cpu.State → Bool → Regs
-    regs_by c true = sequences.after c
-    regs_by c false = c.regs
+shown_regs s = if s.bus.is_held then sequences.after s.cpu else s.cpu.regs

@@ -1,0 +1,175 @@
+//! The bus, with what its processor has taken of the NMI line.
+ghost use Rattle.std.specs.Prelude.{◌≡◌, ◌≤◌, ◌*◌, ◌/◌};
+ghost use Rattle.beeb_bits.specs.Clock.{host};
+ghost use Rattle.host_bus.specs.Map.{stretch};
+ghost use Rattle.host_mach.specs.Step.{is_tube};
+
+use beeb_bits::{Clock, Tick};
+use bus_plug::BusDevice;
+use cpu_alu::Cycle;
+use host_bus::{Bus, stretch};
+use tube_chip::{Lines, Op};
+use tube_machine::{Done, Interrupts, TubeBus, Unable};
+
+/// The bus, with what its processor has taken of the NMI line.
+#[derive(Drop)]
+pub(crate) struct HostBus<D> {
+    pub(crate) bus: Bus<D>,
+    // How many rises of it.
+    pub(crate) nmis: u64,
+}
+
+/// FEE0 to FEFF.
+#[inline(always)]
+pub(crate) fn is_tube(at: u16) -> bool
+    ensures { result ≡ is_tube at }
+{
+    0xfee0 <= at && at <= 0xfeff
+}
+
+// How many ticks an access to this address takes that begins at tick `t`.
+fn ticks_of(clock: Clock, t: u64, at: u16) -> u64
+    ensures value { result ≡ host clock * stretch at (t / host clock) }
+    ensures some { host clock ≤ result }
+    ensures bound { result ≤ 3 * host clock }
+{
+    let cycle = clock.host();
+    cycle * u64::from(stretch(at, t / cycle))
+}
+
+impl<D: BusDevice> TubeBus<()> for HostBus<D> {
+    ghost use Rattle.std.specs.Prelude.{true};
+    ghost use Rattle.host_mach.specs.State.{HostBusState};
+    ghost use Rattle.host_mach.specs.View.{host_bus_seen};
+    ghost use Rattle.host_mach.specs.Step.{host_wiring};
+    ghost use Rattle.host_mach.specs.Lawful.{host_wired, host_plain, host_even};
+
+    ghost State = { HostBusState };
+
+    ghost state = { λ b. host_bus_seen D.plug b };
+
+    ghost wiring = { host_wiring };
+
+    ghost wired = { host_wired };
+
+    ghost plain = { λ b l. true };
+
+    ghost stays_plain = { host_plain };
+
+    ghost Kept = { Unit {0} };
+
+    ghost before = { λ notes b. tt };
+
+    ghost endless = { true };
+
+    ghost room = { λ notes. 0 };
+
+    ghost even = { host_even };
+
+    #[inline(always)]
+    fn cycle(&self) -> u64 {
+        self.bus.clock().host()
+    }
+
+    #[inline(always)]
+    fn closed(&self) -> u64 {
+        self.bus.closed()
+    }
+
+    #[inline(always)]
+    fn close(&mut self, t: u64) {
+        self.bus.close(t);
+    }
+
+    #[inline(always)]
+    fn break_tick(&self) -> u64 {
+        self.bus.break_tick()
+    }
+
+    #[inline(always)]
+    fn take_break(&mut self, t: u64) {
+        self.bus.take_break(Tick(t));
+        self.nmis = self.bus.nmis_now();
+    }
+
+    #[inline(always)]
+    fn is_plain(&self, _lines: &Lines) -> bool {
+        true
+    }
+
+    #[inline(always)]
+    fn resets(&self, _lines: &Lines) -> bool {
+        false
+    }
+
+    #[inline(always)]
+    fn hold(&mut self) {}
+
+    #[inline(always)]
+    fn reset(&mut self, _lines: &Lines) {}
+
+    #[inline(always)]
+    fn take(&mut self, lines: &Lines) -> Interrupts {
+        let rises = self.bus.nmis_now();
+        let irq = self.bus.irq_now() || lines.hirq;
+        let nmi = rises != self.nmis;
+        if nmi {
+            self.nmis = rises;
+        }
+        Interrupts { nmi, irq }
+    }
+
+    #[inline(always)]
+    fn take_plain(&mut self, lines: &Lines) -> Interrupts {
+        self.take(lines)
+    }
+
+    #[inline(always)]
+    fn answered(&mut self, _cycle: Cycle) {}
+
+    /// An access of the memory. A read leaves the bus as far as it is closed: no device step changes what it gives.
+    #[inline(always)]
+    fn quick(&mut self, t: u64, cycle: Cycle, _notes: &mut ()) -> Option<u8> {
+        match cycle {
+            Cycle::Read(at) => {
+                if at >= 0xfc00 {
+                    return None;
+                }
+                Some(self.bus.memory(at))
+            }
+            Cycle::Write(at, v) => {
+                if at >= 0x8000 {
+                    return None;
+                }
+                self.bus.close(t + 1);
+                self.bus.store(at, v);
+                Some(0)
+            }
+        }
+    }
+
+    fn exchange(&mut self, t: u64, cycle: Cycle, _notes: &mut ()) -> Result<Done, Unable> {
+        let clock = self.bus.clock();
+        match cycle {
+            Cycle::Read(at) => {
+                if is_tube(at) {
+                    return Err(Unable::Tube(Op::Read((at % 8) as u8)));
+                }
+                Ok(Done {
+                    byte: self.bus.read(Tick(t), at),
+                    ticks: ticks_of(clock, t, at),
+                })
+            }
+            Cycle::Write(at, v) => {
+                if is_tube(at) {
+                    return Err(Unable::Tube(Op::Write((at % 8) as u8, v)));
+                }
+                self.bus.write(Tick(t), at, v);
+                Ok(Done {
+                    byte: 0,
+                    ticks: ticks_of(clock, t, at),
+                })
+            }
+        }
+    }
+}

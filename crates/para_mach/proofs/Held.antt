@@ -1,0 +1,149 @@
+-- A machine that is held stands at a look, and goes past looks there.
+use Rattle.std.proofs.Common.{◌≡◌, ◌∙◌, refl, sym, ap, subst, ℕ, zero, suc, ◌+◌, ◌<◌, ◌≤◌, ◌==◌, not, Bool, true, false, is_none, Option, None, Some, MatchOption, List, arith, if◌then◌else◌}
+use Rattle.std.specs.Prelude.{◌%◌, slice_set}
+use Rattle.std.proofs.lemmas.Bool.{ne_eqb}
+use Rattle.beeb_bits.specs.declared.clock.Clock.{Clock}
+use Rattle.beeb_bits.specs.declared.clock.Clock.TheVariants.{Three, Four}
+use Rattle.beeb_bits.specs.Clock.{para}
+use Rattle.op_table.specs.declared.names.Part.TheVariants.{Cmos}
+use Rattle.cpu_alu.specs.declared.Cycle.{Cycle}
+use Rattle.cpu_alu.specs.declared.Cycle.TheVariants.{Read, Write}
+use Rattle.cpu_core.specs.declared.Sequence.TheVariants.{Reset}
+use Rattle.cpu65c02.specs.Sequences.{next_cycle, after, sequence_at_look, fresh}
+use Rattle.tube_chip.specs.Act.{Query, access, look}
+use Rattle.tube_chip.specs.declared.Op.TheVariants as op
+use Rattle.tube_chip.specs.declared.Lines.{Lines}
+use Rattle.tube_chip.specs.declared.Answer.{Answer}
+use Rattle.tube_chip.specs.declared.Answer.TheVariants.{Byte, Seen}
+use Rattle.tube_party.specs.Moves.{Looks, Sees, Goes, IsAsk, FitsAnswer, shown_lines}
+use Rattle.tube_party.specs.Steps.{look_last, looks_on, looks_wider}
+use Rattle.tube_party.specs.declared.party.Ask.{Ask}
+use Rattle.tube_party.specs.declared.party.Ask.TheVariants.{Nothing, Access, Look}
+use Rattle.tube_machine.specs.Step.{asks_by, begin_leaves, after_held_cycle, after_step, closed_to, lines_in}
+use Rattle.tube_machine.specs.Exchange.{IsCramped}
+use Rattle.para_mach.specs.declared.notes.Stood.{Stood}
+use Rattle.para_mach.specs.State.{ParaBusState, ParaState}
+use Rattle.para_mach.specs.Step.{para_wiring, para_moves, next_state, is_tube, ram_after, rom_in_after}
+use Rattle.para_mach.specs.CodeNotes.{IsHeldAtLook, IsNear, kept, put_back}
+
+-- no step changes that
+look_by : (resets prst : Bool) (s held reset taken : ParaState) → (next_cycle held.cpu ≡ None) → (reset.bus.is_held ≡ false) → (taken.bus.is_held ≡ false) →
+    IsHeldAtLook (if resets then (if prst then held else reset) else taken)
+look_by true true s held reset taken a b c is = ap is_none a
+look_by true false s held reset taken a b c is = let no : true ≡ false = sym is ∙ b in cc
+look_by false prst s held reset taken a b c is = let no : true ≡ false = sym is ∙ c in cc
+
+step_by : (o : Option Cycle) (s : ParaState) (a : Option Answer) → next_cycle s.cpu ≡ o → IsHeldAtLook s → IsHeldAtLook (after_step Cmos para_wiring o s a)
+step_by None s a over held =
+    let l : Lines = lines_in a in
+    look_by (not (l.resets == s.bus.resets)) l.prst s (after_held_cycle Cmos para_wiring s) (begin_leaves s (fresh Reset (after s.cpu)) (para_wiring.reset s.bus l))
+    (begin_leaves s (fresh (sequence_at_look (para_wiring.nmi s.bus l) (para_wiring.irq s.bus l) (after s.cpu)) (after s.cpu)) (para_wiring.taken s.bus l)) over refl refl
+step_by (Some c) s a over held = λ is. let no : true ≡ false = sym (held is) ∙ ap is_none over in cc
+
+pub next_held : (s : ParaState) (a : Option Answer) → IsHeldAtLook s → IsHeldAtLook (next_state s a)
+next_held s a held = step_by (next_cycle s.cpu) (closed_to para_wiring s (s.due + 1)) a refl held
+
+module _ (n : ℕ) (lines : Lines) (sure : ℕ) where
+  looks_by : (k : ℕ) (s last : ParaState) (o : Option Query) → IsHeldAtLook s → ((u : ParaState) → IsHeldAtLook u → Looks para_moves n (shown_lines lines sure) k u last → IsHeldAtLook last) →
+      MatchOption o (Looks para_moves n (shown_lines lines sure) k (next_state s None) last)
+      (λ q. (q ≡ look) × (s.due < sure) × Looks para_moves n (shown_lines lines sure) k (next_state s (Some (Seen lines))) last) → IsHeldAtLook last
+  looks_by k s last None held on h = on (next_state s None) (next_held s None held) h
+  looks_by k s last (Some q) held on h = on (next_state s (Some (Seen lines))) (next_held s (Some (Seen lines)) held) h.2
+
+  pub looks_held : (k : ℕ) (s last : ParaState) → IsHeldAtLook s → Looks para_moves n (shown_lines lines sure) k s last → IsHeldAtLook last
+  looks_held zero s last held h = subst IsHeldAtLook h held
+  looks_held (suc k) s last held h = looks_by k s last (para_moves.asks s) held (λ u there on. looks_held k u last there on) h.1
+
+  ask_held : (last new : ParaState) (ask : Ask) → IsHeldAtLook last → IsAsk para_moves n last ask new → IsHeldAtLook new
+  ask_held last new Nothing held is = subst IsHeldAtLook (sym is.1) held
+  ask_held last new (Access t o) held is = subst IsHeldAtLook (sym is.3) held
+  ask_held last new (Look t) held is = subst IsHeldAtLook (sym is.3) held
+
+  pub sees_held : (old new : ParaState) (ask : Ask) → IsHeldAtLook old → Sees para_moves n (shown_lines lines sure) old ask new → IsHeldAtLook new
+  sees_held old new ask held sees = ask_held sees.last new ask (looks_held sees.steps old sees.last held sees.looks) sees.asked
+
+  -- so many steps, and then what is asked
+  pub goes_of : (old last new : ParaState) (ask : Ask) → (k : ℕ) × Looks para_moves n (shown_lines lines sure) k old last → IsAsk para_moves n last ask new → Goes para_moves n (shown_lines lines sure) old ask new
+  goes_of old last new ask came asked = record { steps = came.0; last = last; looks = came.1; asked = asked }
+
+-- ---- Held
+
+-- the reset line stands for one more reset
+held_look : (s : ParaState) (l : Lines) → next_cycle s.cpu ≡ None → l.prst ≡ true → (l.resets ≡ s.bus.resets → ⊥) → next_state s (Some (Seen l)) ≡ after_held_cycle Cmos para_wiring (closed_to para_wiring s (s.due + 1))
+held_look s l over stands other =
+    let x : ParaState = closed_to para_wiring s (s.due + 1) in
+    let taken : ParaState = begin_leaves x (fresh (sequence_at_look (para_wiring.nmi x.bus l) (para_wiring.irq x.bus l) (after s.cpu)) (after s.cpu)) (para_wiring.taken x.bus l) in
+    let reset : ParaState = begin_leaves x (fresh Reset (after s.cpu)) (para_wiring.reset x.bus l) in
+    ap (λ (o : Option Cycle). after_step Cmos para_wiring o x (Some (Seen l))) over
+    ∙ ap (λ (b : Bool). if not b then (if l.prst then after_held_cycle Cmos para_wiring x else reset) else taken) (ne_eqb l.resets s.bus.resets other)
+    ∙ ap (λ (b : Bool). if b then after_held_cycle Cmos para_wiring x else reset) stands
+
+-- so far a machine passed looks at that line
+pub record IsHeldOn (n : ℕ) (lines : Lines) (sure : ℕ) (start s : ParaState) : Type 0 where
+  pub came : (k : ℕ) × Looks para_moves n (shown_lines lines sure) k start s
+  pub over : next_cycle s.cpu ≡ None
+  pub kept : kept s.bus.ram s.bus ≡ kept start.bus.ram start.bus
+  pub before : s.bus.closed ≤ s.due + 1
+
+pub held_more : (n : ℕ) (lines : Lines) (sure : ℕ) (start s new : ParaState) → IsHeldOn n lines sure start s → lines.prst ≡ true → (lines.resets ≡ start.bus.resets → ⊥) → s.due < n → s.due < sure →
+    new ≡ next_state s (Some (Seen lines)) → new.bus.closed ≤ new.due + 1 → IsHeldOn n lines sure start new
+held_more n lines sure start s new so_far stands other low early is before =
+    let same : s.bus.resets ≡ start.bus.resets = ap (λ (b : ParaBusState). b.resets) so_far.kept in
+    let stays : new ≡ after_held_cycle Cmos para_wiring (closed_to para_wiring s (s.due + 1)) = is ∙ held_look s lines so_far.over stands (λ e. other (e ∙ same)) in
+    record {
+      came = (
+        suc so_far.came.0,
+        subst (λ (x : ParaState). Looks para_moves n (shown_lines lines sure) (suc so_far.came.0) start x) (sym is)
+            (look_last para_moves n lines sure so_far.came.0 start s so_far.came.1 low (ap (asks_by para_wiring) so_far.over) early),
+      );
+      over = ap (λ (x : ParaState). next_cycle x.cpu) stays ∙ so_far.over;
+      kept = ap (λ (x : ParaState). kept x.bus.ram x.bus) stays ∙ so_far.kept;
+      before = before;
+    }
+
+-- ---- Room
+
+-- a run that is near has room
+pub no_cramp : (c : Clock) (sure due from room near : ℕ) → IsNear c sure due room near → 16 ≤ room → due ≤ from → IsCramped (para c) near from room → ⊥
+no_cramp Three sure due from room near is some low cramped = omega (arith, is.1, some, low, cramped)
+no_cramp Four sure due from room near is some low cramped = omega (arith, is.1, some, low, cramped)
+
+-- the steps of a run, and what is asked then; its looks may be nearer than they need be
+pub goes_wider : (n : ℕ) (lines : Lines) (near sure : ℕ) (old last new : ParaState) (ask : Ask) → near ≤ sure → (k : ℕ) × Looks para_moves n (shown_lines lines near) k old last → Goes para_moves n (shown_lines lines sure) last ask new →
+    Goes para_moves n (shown_lines lines sure) old ask new
+goes_wider n lines near sure old last new ask low came goes =
+    let all : (i : ℕ) × Looks para_moves n (shown_lines lines sure) i old goes.last =
+    looks_on para_moves n lines sure came.0 goes.steps old last goes.last (looks_wider para_moves n lines near sure came.0 old last low came.1) goes.looks in
+    record { steps = all.0; last = goes.last; looks = all.1; asked = goes.asked }
+
+pub sees_wider : (n : ℕ) (lines : Lines) (near sure : ℕ) (old new : ParaState) (ask : Ask) → near ≤ sure → Sees para_moves n (shown_lines lines near) old ask new → Goes para_moves n (shown_lines lines sure) old ask new
+sees_wider n lines near sure old new ask low sees = record { steps = sees.steps; last = sees.last; looks = looks_wider para_moves n lines near sure sees.steps old sees.last low sees.looks; asked = sees.asked }
+
+-- ---- Taken back
+
+-- what is kept of a bus, as it was
+pub back : (ram : List ℕ) (b old : ParaBusState) → kept ram b ≡ kept old.ram old → record b { ram = ram; is_held = old.is_held; closed = old.closed } ≡ old
+back ram b old is = ap (λ (x : ParaBusState). record x { is_held = old.is_held; closed = old.closed }) is
+
+-- the Tube's answer to a read leaves the memory, with the boot ROM switched out
+byte_by : (o : Option Cycle) (s : ParaState) (byte : ℕ) (ram : List ℕ) → MatchOption (asks_by para_wiring o) ⊥ (λ q. FitsAnswer q (Byte byte)) → s.bus.rom_in ≡ false →
+    kept ram (after_step Cmos para_wiring o s (Some (Byte byte))).bus ≡ kept ram s.bus
+byte_by None s byte ram asked out = absurd asked
+byte_by (Some (Read at)) s byte ram asked out = ap (λ (r : Bool). record (kept ram s.bus) { rom_in = rom_in_after r (Read at) }) out ∙ ap (λ (r : Bool). record (kept ram s.bus) { rom_in = r }) (sym out)
+byte_by (Some (Write at v)) s byte ram asked out = ap (λ (r : Bool). record (kept ram s.bus) { rom_in = rom_in_after r (Write at v) }) out ∙ ap (λ (r : Bool). record (kept ram s.bus) { rom_in = r }) (sym out)
+
+ram_by : (o : Option Cycle) (s : ParaState) (byte : ℕ) → MatchOption (asks_by para_wiring o) ⊥ (λ q. FitsAnswer q (Byte byte)) → (after_step Cmos para_wiring o s (Some (Byte byte))).bus.ram ≡ s.bus.ram
+ram_by None s byte asked = absurd asked
+ram_by (Some (Read at)) s byte asked = refl
+ram_by (Some (Write at v)) s byte asked = by (is_tube at) refl asked
+  where
+    by : (tube : Bool) → is_tube at ≡ tube → MatchOption (if tube then Some (access (op.Write (at % 8) v)) else None) ⊥ (λ q. FitsAnswer q (Byte byte)) → ram_after s.bus.ram (Write at v) ≡ s.bus.ram
+    by true e asked = ap (λ (t : Bool). if t then s.bus.ram else slice_set s.bus.ram at v) e
+    by false e asked = absurd asked
+
+pub byte_kept : (s : ParaState) (byte : ℕ) (stood : List Stood) → MatchOption (para_moves.asks s) ⊥ (λ q. FitsAnswer q (Byte byte)) → s.bus.rom_in ≡ false →
+    kept (put_back stood (next_state s (Some (Byte byte))).bus.ram) (next_state s (Some (Byte byte))).bus ≡ kept (put_back stood s.bus.ram) s.bus
+byte_kept s byte stood asked out =
+    let x : ParaState = closed_to para_wiring s (s.due + 1) in
+    let new : ParaState = next_state s (Some (Byte byte)) in
+    ap (λ (r : List ℕ). kept (put_back stood r) new.bus) (ram_by (next_cycle s.cpu) x byte asked) ∙ byte_by (next_cycle s.cpu) x byte (put_back stood s.bus.ram) asked out

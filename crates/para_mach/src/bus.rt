@@ -1,0 +1,160 @@
+//! The second processor's bus: its memory and the Tube, and what is taken of the counts of the Tube's lines.
+ghost use Rattle.std.specs.Prelude.{◌≡◌, true};
+
+use crate::memory::Memory;
+use crate::notes::Notes;
+use beeb_bits::Clock;
+use cpu_alu::Cycle;
+use std::marker::Model;
+use tube_chip::Lines;
+use tube_machine::{Done, Interrupts, TubeBus, Unable};
+
+/// The memory and the Tube, with what is taken of the counts of its lines.
+#[derive(Drop)]
+pub(crate) struct ParaBus {
+    pub(crate) clock: Clock,
+    pub(crate) memory: Memory,
+    // The Tube's counts as far as they were taken.
+    pub(crate) resets: u32,
+    pub(crate) nmis: u32,
+    pub(crate) is_held: bool,
+    // It counts as closed at this tick.
+    pub(crate) closed: u64,
+}
+
+impl Model for ParaBus {
+    ghost use Rattle.para_mach.specs.State.{ParaBusState};
+
+    ghost Value = { ParaBusState };
+
+    ghost view = { λ b. record {
+      clock = b.clock;
+      ram = b.memory.ram;
+      rom = b.memory.rom;
+      rom_in = b.memory.rom_in;
+      resets = b.resets;
+      nmis = b.nmis;
+      is_held = b.is_held;
+      closed = b.closed;
+    } };
+}
+
+impl<N: Notes> TubeBus<N> for ParaBus {
+    ghost use Rattle.std.specs.Prelude.{refl};
+    ghost use Rattle.para_mach.specs.State.{ParaBusState};
+    ghost use Rattle.para_mach.specs.Step.{para_wiring};
+    ghost use Rattle.para_mach.specs.Lawful.{para_wired, para_plain, is_plain};
+    ghost use Rattle.para_mach.specs.CodeNotes.{kept};
+
+    ghost State = { ParaBusState };
+
+    ghost state = { λ b. b };
+
+    ghost wiring = { para_wiring };
+
+    ghost wired = { para_wired };
+
+    ghost plain = { is_plain };
+
+    ghost stays_plain = { para_plain };
+
+    ghost Kept = { ParaBusState };
+
+    ghost before = { λ notes b. kept (N.before notes b.ram) b };
+
+    ghost endless = { N.endless };
+
+    ghost room = { N.room };
+
+    ghost even = { λ is b t c. refl };
+
+    #[inline(always)]
+    fn cycle(&self) -> u64 {
+        self.clock.para()
+    }
+
+    #[inline(always)]
+    fn closed(&self) -> u64 {
+        self.closed
+    }
+
+    #[inline(always)]
+    fn close(&mut self, t: u64) {
+        self.closed = t;
+    }
+
+    #[inline(always)]
+    fn break_tick(&self) -> u64 {
+        u64::MAX
+    }
+
+    fn take_break(&mut self, _t: u64) {
+        unreachable!()
+    }
+
+    #[inline(always)]
+    fn is_plain(&self, lines: &Lines) -> bool {
+        lines.resets == self.resets && lines.nmis == self.nmis
+    }
+
+    #[inline(always)]
+    fn resets(&self, lines: &Lines) -> bool {
+        lines.resets != self.resets
+    }
+
+    #[inline(always)]
+    fn hold(&mut self) {
+        self.is_held = true;
+    }
+
+    fn reset(&mut self, lines: &Lines) {
+        self.memory.switch_in();
+        self.resets = lines.resets;
+        self.nmis = lines.nmis;
+        self.is_held = false;
+    }
+
+    #[inline(always)]
+    fn take(&mut self, lines: &Lines) -> Interrupts {
+        let nmi = lines.nmis != self.nmis;
+        self.nmis = lines.nmis;
+        self.is_held = false;
+        Interrupts {
+            nmi,
+            irq: lines.pirq,
+        }
+    }
+
+    #[inline(always)]
+    fn take_plain(&mut self, lines: &Lines) -> Interrupts {
+        self.is_held = false;
+        Interrupts {
+            nmi: false,
+            irq: lines.pirq,
+        }
+    }
+
+    #[inline(always)]
+    fn answered(&mut self, _cycle: Cycle) {
+        self.memory.switch_out();
+    }
+
+    #[inline(always)]
+    fn quick(&mut self, _t: u64, cycle: Cycle, notes: &mut N) -> Option<u8> {
+        self.memory.exchange_low(cycle, notes)
+    }
+
+    #[inline(always)]
+    fn exchange(&mut self, t: u64, cycle: Cycle, notes: &mut N) -> Result<Done, Unable> {
+        match self.memory.exchange(cycle, notes) {
+            Ok(byte) => {
+                self.closed = t + 1;
+                Ok(Done {
+                    byte,
+                    ticks: self.clock.para(),
+                })
+            }
+            Err(unable) => Err(unable),
+        }
+    }
+}

@@ -1,0 +1,173 @@
+-- A sequence of the 65C02 makes fewer than seventeen accesses.
+use Rattle.std.proofs.Common.{◌≡◌, ◌<◌, ◌≤◌, ℕ, zero, suc, ◌+◌, ◌-◌, ◌%◌, ◌==◌, ◌||◌, List, [], ◌∷◌, ◌++◌, length, Bool, true, false, cond, eqb, if◌then◌else◌, Option, Some, None, is_none, refl, ap, arith, length-append}
+use Rattle.std.proofs.lemmas.Option.{slice_get_within}
+use Rattle.std.specs.Prelude.{slice_get}
+use Rattle.op_table.specs.declared.names.Part.TheVariants.{Cmos}
+use Rattle.op_table.specs.declared.names.Mode.{Mode}
+use Rattle.op_table.specs.declared.names.Mode.TheVariants.{Acc, Zp, Abs, AbsX, AbsY, IndY, Ind, IndAbsX, Spare}
+use Rattle.op_table.specs.declared.names.Mnemonic.{Mnemonic}
+use Rattle.op_table.specs.declared.names.Mnemonic.TheVariants.{Brk, Jsr, Rti, Rts, Bra, Jmp}
+use Rattle.op_table.specs.declared.rows.Row.{Row}
+use Rattle.op_table.specs.Forms.{Form, forms, form_at}
+use Rattle.op_table.specs.Rows.{Use, Reads, Stores, Shifts, Modifies, Pushes, Pulls, Branches, use_of, read_cycles, store_cycles, modify_cycles, shift_cycles, jump_cycles, cycles_by, cycles_of, spare, row_or_spare, cmos_row}
+use Rattle.cpu_alu.specs.declared.Regs.{Regs}
+use Rattle.cpu_alu.specs.declared.Cycle.{Cycle}
+use Rattle.cpu_alu.specs.declared.Cycle.TheVariants.{Read, Write}
+use Rattle.cpu_alu.specs.declared.uses.BusUse.{BusUse}
+use Rattle.cpu_alu.specs.declared.uses.BusUse.TheVariants as uses
+use Rattle.cpu_alu.specs.Addresses.{place}
+use Rattle.cpu_alu.specs.Instructions.{bus_use, takes_branch, modified_value, stored_value}
+use Rattle.cpu_core.specs.declared.Sequence.{Sequence}
+use Rattle.cpu_core.specs.declared.Sequence.TheVariants.{Instruction, Reset, Nmi, Irq}
+use Rattle.cpu_core.specs.Accesses.{byte, cycle_between, waits, lasts_longer, carry_cycles, reach, address, operand, last_place, modify_form, branch_form, jump_form, again, implied_form, form}
+use Rattle.cpu_core.specs.Sequences.{accesses}
+use Rattle.cpu_core.specs.State as cpu
+use Rattle.cpu65c02.specs.Sequences.{next_cycle}
+
+-- no row of the table has more than eight cycles
+
+few_read : (w : Mode) → read_cycles w ≤ 8
+few_read Zp = omega arith
+few_read _ = omega arith
+
+few_store : (w : Mode) → store_cycles w ≤ 8
+few_store AbsX = omega arith
+few_store AbsY = omega arith
+few_store IndY = omega arith
+few_store w = few_read w
+
+few_modify : (w : Mode) → modify_cycles w ≤ 8
+few_modify Zp = omega arith
+few_modify _ = omega arith
+
+few_shift : (w : Mode) → shift_cycles Cmos w ≤ 8
+few_shift AbsX = omega arith
+few_shift w = few_modify w
+
+few_jump : (w : Mode) → jump_cycles Cmos w ≤ 8
+few_jump Abs = omega arith
+few_jump _ = omega arith
+
+few_by : (u : Use) (w : Mode) → cycles_by Cmos u w ≤ 8
+few_by Reads w = few_read w
+few_by Stores w = few_store w
+few_by Shifts w = few_shift w
+few_by Modifies w = few_modify w
+few_by Pushes w = omega arith
+few_by Pulls w = omega arith
+few_by Branches w = omega arith
+
+few_of : (name : Mnemonic) (w : Mode) → cycles_of Cmos name w ≤ 8
+few_of Brk w = omega arith
+few_of Jsr w = omega arith
+few_of Rti w = omega arith
+few_of Rts w = omega arith
+few_of Bra w = omega arith
+few_of Jmp w = few_jump w
+few_of name w = few_by (use_of name) w
+
+few_if : (b : Bool) (x y : ℕ × ℕ) → x.1 ≤ 8 → y.1 ≤ 8 → (let p : ℕ × ℕ = if b then x else y in p).1 ≤ 8
+few_if true x y p q = p
+few_if false x y p q = q
+
+few_spare : (op : ℕ) → (spare op).1 ≤ 8
+few_spare op =
+    few_if (op % 4 == 3) _ _ (omega arith)
+    (few_if (op == 0x44) _ _ (omega arith)
+    (few_if (op == 0x54 || op == 0xD4 || op == 0xF4) _ _ (omega arith)
+    (few_if (op == 0x5C) _ _ (omega arith) (few_if (op == 0xDC || op == 0xFC) _ _ (omega arith) (omega arith)))))
+
+few_or_spare : (op : ℕ) (o : Option Form) → (row_or_spare op o).cycles ≤ 8
+few_or_spare op (Some f) = few_of f.mnemonic f.mode
+few_or_spare op None = few_spare op
+
+few_cycles : (op : ℕ) → (cmos_row op).cycles ≤ 8
+unfolding cmos_row
+few_cycles op = few_or_spare op (form_at (forms Cmos) op)
+
+-- a bound for each form
+
+at_most_one : (b : Bool) (c : Cycle) → length (cond b (c ∷ []) []) ≤ 1
+at_most_one true c = omega arith
+at_most_one false c = omega arith
+
+reach_most : (w : Mode) (always : Bool) (r : Regs) (seen : List (Option ℕ)) → length (reach Cmos w always r seen) ≤ 4
+reach_most AbsX always r seen = let k : length (carry_cycles Cmos always (byte seen 1) (byte seen 2) r.x (place r 2)) ≤ 1 = at_most_one _ _ in omega arith
+reach_most AbsY always r seen = let k : length (carry_cycles Cmos always (byte seen 1) (byte seen 2) r.y (place r 2)) ≤ 1 = at_most_one _ _ in omega arith
+reach_most IndY always r seen = let k : length (carry_cycles Cmos always (byte seen 2) (byte seen 3) r.y (place r 1)) ≤ 1 = at_most_one _ _ in omega arith
+reach_most _ always r seen = omega arith
+
+with_more : (n k : ℕ) (xs ys : List Cycle) → length xs ≤ n → length ys ≤ k → length (xs ++ ys) ≤ n + k
+with_more n k xs ys g h = omega (arith, length-append xs ys)
+
+modify_most : (w : Mode) (row : Row) (always : Bool) (r : Regs) (seen : List (Option ℕ)) → length (modify_form Cmos row w always r seen) ≤ 7
+modify_most Acc row always r seen = omega arith
+modify_most w row always r seen =
+    let a : ℕ = address w r seen in
+    let old : ℕ = operand Cmos w always r seen in
+    let last : List Cycle = Read a ∷ cycle_between Cmos a old ∷ Write a (modified_value row.mnemonic r old) ∷ [] in
+    with_more 4 3 (reach Cmos w always r seen) last (reach_most w always r seen) (omega arith)
+
+length-again : (n at : ℕ) → length (again n at) ≡ n
+length-again zero at = refl
+length-again (suc n) at = ap suc (length-again n at)
+
+spare_most : (one two : Bool) (n k at there : ℕ) (a b d : Cycle) → n ≤ 8 → k ≤ 8 → length (cond one [] (cond two (a ∷ again n at) (b ∷ d ∷ again k there))) ≤ 10
+spare_most true two n k at there a b d p q = omega arith
+spare_most false true n k at there a b d p q = omega (arith, length-again n at)
+spare_most false false n k at there a b d p q = omega (arith, length-again k there)
+
+implied_most : (w : Mode) (row : Row) (r : Regs) → row.cycles ≤ 8 → length (implied_form row w r) ≤ 10
+implied_most Spare row r few = spare_most (eqb row.bytes 1) (eqb row.bytes 2) (row.cycles - 2) (row.cycles - 3) _ _ _ _ _ (omega arith) (omega arith)
+implied_most _ row r few = omega arith
+
+branch_most : (b : Bool) (r : Regs) (seen : List (Option ℕ)) → length (branch_form Cmos b r seen) ≤ 10
+branch_most true r seen = by _ (Read 0) (Read 0) _
+  where
+    by : (b : Bool) (x y d : Cycle) → length (x ∷ y ∷ cond b [] (d ∷ [])) ≤ 10
+    by true x y d = omega arith
+    by false x y d = omega arith
+branch_most false r seen = omega arith
+
+jump_most : (w : Mode) (r : Regs) (seen : List (Option ℕ)) → length (jump_form Cmos w r seen) ≤ 10
+jump_most Ind r seen = omega arith
+jump_most IndAbsX r seen = omega arith
+jump_most _ r seen = omega arith
+
+form_most : (u : BusUse) (row : Row) (r : Regs) (seen : List (Option ℕ)) → row.cycles ≤ 8 → length (form Cmos u row r seen) ≤ 10
+form_most uses.Implied row r seen few = implied_most row.mode row r few
+form_most uses.Reads row r seen few =
+    let more : List Cycle = cond (lasts_longer Cmos row.mnemonic r) (Read (last_place row.mode r) ∷ []) [] in
+    let k : length more ≤ 1 = at_most_one (lasts_longer Cmos row.mnemonic r) (Read (last_place row.mode r)) in
+    let all : length (reach Cmos row.mode (waits Cmos uses.Reads) r seen ++ Read (address row.mode r seen) ∷ more) ≤ 4 + 2 =
+    with_more 4 2 (reach Cmos row.mode (waits Cmos uses.Reads) r seen) (Read (address row.mode r seen) ∷ more) (reach_most row.mode (waits Cmos uses.Reads) r seen) (omega arith) in
+    omega arith
+form_most uses.Stores row r seen few =
+    let last : List Cycle = Write (address row.mode r seen) (stored_value row.mnemonic r) ∷ [] in
+    let all : length (reach Cmos row.mode (waits Cmos uses.Stores) r seen ++ last) ≤ 4 + 1 =
+    with_more 4 1 (reach Cmos row.mode (waits Cmos uses.Stores) r seen) last (reach_most row.mode (waits Cmos uses.Stores) r seen) (omega arith) in
+    omega arith
+form_most uses.Shifts row r seen few = let k : length (modify_form Cmos row row.mode (waits Cmos uses.Shifts) r seen) ≤ 7 = modify_most row.mode row (waits Cmos uses.Shifts) r seen in omega arith
+form_most uses.Modifies row r seen few = let k : length (modify_form Cmos row row.mode (waits Cmos uses.Modifies) r seen) ≤ 7 = modify_most row.mode row (waits Cmos uses.Modifies) r seen in omega arith
+form_most uses.Branches row r seen few = branch_most (takes_branch row.mnemonic r) r seen
+form_most uses.Jumps row r seen few = jump_most row.mode r seen
+form_most _ row r seen few = omega arith
+
+most_accesses : (q : Sequence) (r : Regs) (seen : List (Option ℕ)) → length (accesses Cmos q r seen) ≤ 16
+most_accesses Instruction r seen =
+    let row : Row = cmos_row (byte seen 0) in
+    let k : length (form Cmos (bus_use row.mnemonic) row r seen) ≤ 10 = form_most (bus_use row.mnemonic) row r seen (few_cycles (byte seen 0)) in
+    omega arith
+most_accesses Reset r seen = omega arith
+most_accesses Nmi r seen = omega arith
+most_accesses Irq r seen = omega arith
+
+within : (o : Option Cycle) (xs : List Cycle) (k : ℕ) → slice_get xs k ≡ o → is_none o ≡ false → k < length xs
+within (Some c) xs k is some = slice_get_within xs k c is
+within None xs k is some = cc
+
+-- where a sequence is not over, fewer than sixteen cycles of it were seen
+pub few_seen : (c : cpu.State) → is_none (next_cycle c) ≡ false → length c.seen < 16
+few_seen c on =
+    let low : length c.seen < length (accesses Cmos c.sequence c.regs c.seen) = within (next_cycle c) (accesses Cmos c.sequence c.regs c.seen) (length c.seen) refl on in
+    omega (arith, most_accesses c.sequence c.regs c.seen)

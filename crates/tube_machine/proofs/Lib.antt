@@ -1,0 +1,5 @@
+pub mod UnderWay
+pub mod Taken
+pub mod Spends
+pub mod Lengths
+pub mod Stops

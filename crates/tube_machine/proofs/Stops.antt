@@ -1,0 +1,156 @@
+-- Where the machine stops, and how it goes on from there.
+use Rattle.std.proofs.Common.{◌≡◌, ◌∙◌, ◌&&◌, ◌||◌, refl, sym, ap, subst, ℕ, zero, suc, ◌+◌, ◌-◌, ◌*◌, ◌<◌, ◌≤◌, ◌⊎◌, inl, inr, max, min, length, Bool, true, false, is_none, Option, Some, None, IsSome, MatchOption, arith, if◌then◌else◌}
+use Rattle.std.proofs.Math.Nat.{mul-le-mul_left, mul-zero}
+use Rattle.op_table.specs.declared.names.Part.{Part}
+use Rattle.op_table.specs.declared.names.Part.TheVariants.{Cmos}
+use Rattle.cpu_alu.specs.declared.Cycle.{Cycle}
+use Rattle.cpu_core.specs.State as cpu
+use Rattle.cpu_core.specs.Sequences.{next_cycle, after_byte, halted}
+use Rattle.tube_chip.specs.Act.{Query, access, look}
+use Rattle.tube_chip.specs.declared.Op.{Op}
+use Rattle.tube_chip.specs.declared.Op.TheVariants as op
+use Rattle.tube_chip.specs.declared.Lines.{Lines}
+use Rattle.tube_chip.specs.declared.Answer.{Answer}
+use Rattle.tube_chip.specs.declared.Answer.TheVariants.{Seen}
+use Rattle.tube_party.specs.Moves.{Looks, Sees, IsAsk, IsUnsure, shown_lines}
+use Rattle.tube_party.specs.Steps.{silent_last, look_last, looks_on}
+use Rattle.tube_party.specs.declared.party.Ask.{Ask}
+use Rattle.tube_party.specs.declared.party.Ask.TheVariants.{Nothing, Access, Look}
+use Rattle.tube_machine.specs.Wiring.{Wiring, IsWired}
+use Rattle.tube_machine.specs.Step.{At, is_break, after_break, asks, asks_by, byte_of, after_step, closed_to, lines_in, next_state, moves_of}
+use Rattle.tube_machine.specs.Exchange.{IsDone, IsCramped, ready}
+use Rattle.tube_machine.specs.declared.steps.Attempt.TheVariants as attempt
+use Rattle.tube_machine.specs.NoBreak.{plain-asks, plain-next}
+use Rattle.tube_machine.proofs.UnderWay.{Came}
+use Rattle.tube_machine.proofs.Spends.{seen-more}
+use Rattle.tube_machine.proofs.Lengths.{few_seen}
+
+silent-by : (breaks : Bool) (o : Option Query) → (if breaks then Some (access op.Reset) else o) ≡ None → breaks ≡ false
+silent-by true o asked = cc
+silent-by false o asked = refl
+
+look-by : (breaks : Bool) (o : Option Query) → (if breaks then Some (access op.Reset) else o) ≡ Some look → breaks ≡ true → ⊥
+look-by true o asked is = cc
+look-by false o asked is = cc
+
+none-both : (p : Bool) → (p && false) ≡ false
+none-both true = refl
+none-both false = refl
+
+ready-tail : (over : Bool) (t n : ℕ) → 1 < n → (if over then (if false || over then t + (n - 1) else t + n) + 1 else (if false || over then t + (n - 1) else t + n)) ≡ t + n
+ready-tail true t n some = omega (arith, some)
+ready-tail false t n some = refl
+
+-- where no room is left, the run began with little of it
+pub cramped : (n sure from room due left seen : ℕ) → from + n * room ≤ due + n * left → due ≤ max sure from + n * seen → left ≡ 0 → seen < 16 → IsCramped n sure from room
+cramped n sure from room due left seen most late none few =
+    let no_room : n * left ≡ 0 = ap (λ (k : ℕ). n * k) none ∙ mul-zero n in
+    let some_seen : n * seen ≤ n * 15 = mul-le-mul_left n (omega (arith, few)) in
+    omega (arith, most, late, no_room, some_seen)
+
+-- where a sequence is not over, fewer than sixteen cycles of it were seen
+pub few : (part : Part) (c : cpu.State) → part ≡ Cmos → IsSome (next_cycle part c) → length c.seen < 16
+few part c is on = few_seen c (some-of (next_cycle Cmos c) (subst (λ (p : Part). IsSome (next_cycle p c)) is on))
+  where
+    some-of : (o : Option Cycle) → IsSome o → is_none o ≡ false
+    some-of (Some x) h = refl
+    some-of None h = absurd (cc)
+
+module _ (part : Part) {B : Type 0} (w : Wiring B) (wired : IsWired w) where
+  -- no step changes how long a cycle is
+  look-cycle : (resets prst : Bool) (s held reset taken : At B) → w.cycle held.bus ≡ w.cycle s.bus → w.cycle reset.bus ≡ w.cycle s.bus → w.cycle taken.bus ≡ w.cycle s.bus →
+      w.cycle (if resets then (if prst then held else reset) else taken).bus ≡ w.cycle s.bus
+  look-cycle true true s held reset taken a b c = a
+  look-cycle true false s held reset taken a b c = b
+  look-cycle false prst s held reset taken a b c = c
+
+  step-cycle : (o : Option Cycle) (s : At B) (a : Option Answer) → w.cycle (after_step part w o s a).bus ≡ w.cycle s.bus
+  step-cycle None s a =
+      let l : Lines = lines_in a in
+      look-cycle (w.resets s.bus l) l.prst s _ _ _ (wired.cycle_held s.bus) (wired.cycle_reset s.bus l) (wired.cycle_taken s.bus l)
+  step-cycle (Some c) s a = wired.cycle_after s.bus c
+
+  cycle-by : (breaks : Bool) (o : Option Cycle) (s : At B) (a : Option Answer) → w.cycle (if breaks then after_break part w s else after_step part w o s a).bus ≡ w.cycle s.bus
+  cycle-by true o s a = wired.cycle_broken s.bus s.due
+  cycle-by false o s a = step-cycle o s a
+
+  pub next-cycle : (s : At B) (a : Option Answer) → w.cycle (next_state part w s a).bus ≡ w.cycle s.bus
+  next-cycle s a = cycle-by (is_break part w s) (next_cycle part s.cpu) (closed_to w s (s.due + 1)) a ∙ wired.cycle_close s.bus (s.due + 1)
+
+  module _ (n : ℕ) (lines : Lines) (sure : ℕ) where
+    looks-cycle-by : (k : ℕ) (s last : At B) (o : Option Query) → ((u : At B) → Looks (moves_of part w) n (shown_lines lines sure) k u last → w.cycle last.bus ≡ w.cycle u.bus) →
+        MatchOption o (Looks (moves_of part w) n (shown_lines lines sure) k (next_state part w s None) last)
+        (λ q. (q ≡ look) × (s.due < sure) × Looks (moves_of part w) n (shown_lines lines sure) k (next_state part w s (Some (Seen lines))) last) → w.cycle last.bus ≡ w.cycle s.bus
+    looks-cycle-by k s last None on h = on (next_state part w s None) h ∙ next-cycle s None
+    looks-cycle-by k s last (Some q) on h = on (next_state part w s (Some (Seen lines))) h.2 ∙ next-cycle s (Some (Seen lines))
+
+    pub looks-cycle : (k : ℕ) (s last : At B) → Looks (moves_of part w) n (shown_lines lines sure) k s last → w.cycle last.bus ≡ w.cycle s.bus
+    looks-cycle zero s last h = ap (λ (x : At B). w.cycle x.bus) (sym h)
+    looks-cycle (suc k) s last h = looks-cycle-by k s last (asks part w s) (λ u on. looks-cycle k u last on) h.1
+
+    -- some steps and then others
+    pub then-on : (start s new : At B) → Came part w n lines sure start s → Came part w n lines sure s new → Came part w n lines sure start new
+    then-on start s new came on = looks_on (moves_of part w) n lines sure came.0 on.0 start s new came.1 on.1
+
+    -- one more step that asks nothing
+    pub more : (start s new : At B) → Came part w n lines sure start s → s.due < n → IsDone part w s attempt.Done new → Came part w n lines sure start new
+    more start s new came low done =
+        (suc came.0, subst (λ (x : At B). Looks (moves_of part w) n (shown_lines lines sure) (suc came.0) start x) (sym done.1) (silent_last (moves_of part w) n lines sure came.0 start s came.1 low done.0))
+
+    -- one more look, of any kind
+    pub more-look : (start s new : At B) → Came part w n lines sure start s → s.due < n → s.due < sure → is_break part w s ≡ false → next_cycle part s.cpu ≡ None → new ≡ next_state part w s (Some (Seen lines)) → Came part w n lines sure start new
+    more-look start s new came low early none over is = (
+      suc came.0,
+      subst (λ (x : At B). Looks (moves_of part w) n (shown_lines lines sure) (suc came.0) start x) (sym is)
+          (look_last (moves_of part w) n lines sure came.0 start s came.1 low (plain-asks part w s none ∙ ap (asks_by w) over) early),
+    )
+
+    -- the next step asks for an access
+    pub stops : (start s new : At B) (o : Op) → Came part w n lines sure start s → s.due < n → IsDone part w s (attempt.Tube o) new → Sees (moves_of part w) n (shown_lines lines sure) start (Access (record { 0 = new.due }) o) new
+    stops start s new o came low done =
+        record {
+          steps = came.0;
+          last = s;
+          looks = came.1;
+          asked = (ap (λ (x : At B). x.due) done.1, subst (λ (x : At B). x.due < n) (sym done.1) low, done.0, done.1);
+          unsure = tt;
+        }
+
+    -- a look that is not sure, or none below n
+    unsure-by : (last new : At B) (ask : Ask) → IsAsk (moves_of part w) n last ask new → (is_break part w last ≡ true) ⊎ (min n sure ≤ last.due) → IsUnsure sure ask
+    unsure-by last new Nothing is late = tt
+    unsure-by last new (Access t o) is late = tt
+    unsure-by last new (Look t) is late = elim late [
+      | inl breaks ↦ absurd (look-by (is_break part w last) (asks_by w (next_cycle part last.cpu)) is.2 breaks)
+      | inr high ↦ omega (arith, is.0, is.1, high)
+    ]
+
+    pub stops-at-look : (start last new : At B) (ask : Ask) → Came part w n lines sure start last → IsAsk (moves_of part w) n last ask new → (is_break part w last ≡ true) ⊎ (min n sure ≤ last.due) →
+        Sees (moves_of part w) n (shown_lines lines sure) start ask new
+    stops-at-look start last new ask came is late = record { steps = came.0; last = last; looks = came.1; asked = is; unsure = unsure-by last new ask is late }
+
+  -- what an access of one cycle costs
+  pub cost : (s new : At B) → IsDone part w s attempt.Done new → IsSome (next_cycle part s.cpu) → part ≡ Cmos → ((b : B) (t : ℕ) (c : Cycle) → w.takes b t c ≡ w.cycle b) →
+      (ready part new.cpu new.due ≡ s.due + w.cycle s.bus) × (length new.cpu.seen ≡ length s.cpu.seen + 1)
+  cost s new done some cmos even = by (next_cycle part s.cpu) refl some
+    where
+      by : (o : Option Cycle) → next_cycle part s.cpu ≡ o → IsSome o → (ready part new.cpu new.due ≡ s.due + w.cycle s.bus) × (length new.cpu.seen ≡ length s.cpu.seen + 1)
+      by None is h = absurd (cc)
+      by (Some c) is h =
+          let x : At B = closed_to w s (s.due + 1) in
+          let n : ℕ = w.takes x.bus s.due c in
+          let byte : ℕ = byte_of w x.bus s.due None c in
+          let on : cpu.State = after_byte part s.cpu byte in
+          let over : Bool = is_none (next_cycle part on) in
+          let free : is_break part w s ≡ false = silent-by (is_break part w s) (asks_by w (next_cycle part s.cpu)) done.0 in
+          let step : new ≡ after_step part w (Some c) x None = done.1 ∙ plain-next part w s None free ∙ ap (λ (o : Option Cycle). after_step part w o x None) is in
+          let n_is : n ≡ w.cycle s.bus = even x.bus s.due c ∙ wired.cycle_close s.bus (s.due + 1) in
+          let runs : halted part s.cpu ≡ false = ap (λ (q : Part). halted q s.cpu) cmos in
+          let q : Bool = w.pending x.bus (s.due + (n - 1)) in
+          let none : (q && halted part s.cpu) ≡ false = ap (λ (b : Bool). q && b) runs ∙ none-both q in (
+            ap (λ (y : At B). ready part y.cpu y.due) step
+                ∙ ap (λ (b : Bool). if over then (if b || over then s.due + (n - 1) else s.due + n) + 1 else (if b || over then s.due + (n - 1) else s.due + n)) none
+                ∙ ready-tail over s.due n (omega (arith, n_is, wired.some s.bus))
+                ∙ ap (λ (k : ℕ). s.due + k) n_is,
+            seen-more part s.cpu new.cpu byte (ap (λ (y : At B). y.cpu) step) cmos,
+          )

@@ -1,0 +1,243 @@
+-- A machine, of which device steps are owed: it stands for the one in which they are done.
+use Rattle.std.proofs.Common.{◌≡◌, ◌≤◌, ◌<◌, ◌∙◌, ◌+◌, ◌-◌, ◌⊎◌, inl, inr, refl, sym, ap, subst, ℕ, suc, Bool, true, false, ◌&&◌, ◌||◌, is_none, Option, Some, None, IsSome, arith, if◌then◌else◌}
+use Rattle.std.proofs.lemmas.Bool.{lt-ltb, le-ltb}
+use Rattle.op_table.specs.declared.names.Part.{Part}
+use Rattle.cpu_alu.specs.declared.Cycle.{Cycle}
+use Rattle.cpu_alu.specs.declared.Regs.{Regs}
+use Rattle.cpu_core.specs.declared.Sequence.{Sequence}
+use Rattle.cpu_core.specs.declared.Sequence.TheVariants.{Instruction, Reset, Nmi, Irq}
+use Rattle.cpu_core.specs.State as cpu
+use Rattle.cpu_core.specs.Sequences.{next_cycle, after_byte, halted, after, sequence_at_look, fresh}
+use Rattle.tube_chip.specs.declared.Lines.{Lines}
+use Rattle.tube_chip.specs.declared.Answer.{Answer}
+use Rattle.tube_chip.specs.declared.Answer.TheVariants.{Seen}
+use Rattle.tube_chip.specs.declared.Op.TheVariants as op
+use Rattle.tube_chip.specs.Act.{access}
+use Rattle.tube_party.specs.Moves.{Looks, shown_lines}
+use Rattle.tube_party.specs.Steps.{silent_last, look_last}
+use Rattle.tube_machine.specs.Wiring.{Wiring, IsWired, StaysPlain}
+use Rattle.tube_machine.specs.Step.{At, at_of, is_last_tick, is_break, after_break, begin_leaves, after_held_cycle, asks, asks_by, byte_of, after_cycle, after_step, closed_to, next_state, after_look, moves_of}
+use Rattle.tube_machine.specs.Lawful.{break_closed, next_closed}
+use Rattle.tube_machine.specs.NoBreak.{no-break, plain-asks, plain-next}
+use Rattle.tube_machine.specs.Exchange.{IsQuick, owed_at}
+
+-- up to where the device steps are owed
+
+pub owed-none : (n t closed : ℕ) → owed_at n t t closed ≡ closed
+owed-none n t closed = rw (le-ltb t t (omega arith)) refl
+
+pub owed-some : (n since due closed : ℕ) → since < due → owed_at n since due closed ≡ due - (n - 1)
+owed-some n since due closed gone = rw (lt-ltb since due gone) refl
+
+-- a sequence that begins has a first access
+pub begins : (part : Part) (sequence : Sequence) (r : Regs) → IsSome (next_cycle part (fresh sequence r))
+begins part Instruction r = refl
+begins part Reset r = refl
+begins part Nmi r = refl
+begins part Irq r = refl
+
+on-by : (o : Option Cycle) (t n : ℕ) → IsSome o → (if is_none o then t + (n - 1) else t + n) ≡ t + n
+on-by (Some d) t n h = refl
+on-by None t n h = absurd (cc)
+
+module _ (part : Part) {B : Type 0} (w : Wiring B) where
+  -- no break is pending below this tick
+  abbrev pub IsFree : ℕ → B → Type 0
+  IsFree far b = (t : ℕ) → t < far → w.pending b t ≡ false
+
+  -- so many steps, of which each asked nothing or saw the lines
+  abbrev pub Came : ℕ → Lines → ℕ → At B → At B → Type 0
+  Came until lines sure start s = (k : ℕ) × Looks (moves_of part w) until (shown_lines lines sure) k start s
+
+  -- A look that takes no reset.
+  pub plain-look : (s : At B) (l : Lines) → w.resets s.bus l ≡ false →
+      after_look part w s l ≡ begin_leaves s (fresh (sequence_at_look (w.nmi s.bus l) (w.irq s.bus l) (after part s.cpu)) (after part s.cpu)) (w.taken s.bus l)
+  plain-look s l none =
+      ap (λ (b : Bool). if b then (if l.prst then after_held_cycle part w s else begin_leaves s (fresh Reset (after part s.cpu)) (w.reset s.bus l))
+      else begin_leaves s (fresh (sequence_at_look (w.nmi s.bus l) (w.irq s.bus l) (after part s.cpu)) (after part s.cpu)) (w.taken s.bus l)) none
+
+-- The steps so far asked nothing, or saw these lines; the next one is an access, and device steps are owed where there was an access since a tick.
+-- A cycle has n ticks, and no break comes below tick far; looks are plain if they were so at the start.
+pub record IsUnderWay (part : Part) {B : Type 0} (w : Wiring B) (plain : B → Lines → Bool) (far n until : ℕ) (lines : Lines) (sure : ℕ) (start s : At B) (since : ℕ) : Type 0 where
+  pub cycle : n ≡ w.cycle s.bus
+  pub goes_on : IsSome (next_cycle part s.cpu)
+  pub looks : (k : ℕ) × Looks (moves_of part w) until (shown_lines lines sure) k start (closed_to w s (owed_at n since s.due (w.closed s.bus)))
+  pub low : w.closed s.bus ≤ owed_at n since s.due (w.closed s.bus)
+  pub high : owed_at n since s.due (w.closed s.bus) ≤ s.due + 1
+  pub free : IsFree part w far s.bus
+  pub since_then : (since ≡ s.due) ⊎ ((since + n ≤ s.due) × (s.due < until + n))
+  pub kept : plain start.bus lines ≡ true → plain s.bus lines ≡ true
+
+module _ (part : Part) {B : Type 0} (w : Wiring B) (wired : IsWired w) (plain : B → Lines → Bool) (stays : StaysPlain w plain) where
+  -- no steps are owed
+  pub none-owed : (s : At B) → closed_to w s (w.closed s.bus) ≡ s
+  none-owed s = ap (λ (b : B). record s { bus = b }) (wired.still s.bus (w.closed s.bus) (omega arith))
+
+  -- after a plain look the devices are closed up to the next step, which is an access, and all is as before
+  pub record IsLookedAt (lines : Lines) (t : ℕ) (s new : At B) : Type 0 where
+    pub goes_on : IsSome (next_cycle part new.cpu)
+    pub closed : w.closed new.bus ≡ t
+    pub cycle : w.cycle s.bus ≡ w.cycle new.bus
+    pub free : (far : ℕ) → IsFree part w far s.bus → IsFree part w far new.bus
+    pub is_plain : plain new.bus lines ≡ true
+    pub due : new.due ≡ s.due + 1
+
+  pub after-look : (lines : Lines) (s new : At B) (t : ℕ) → w.closed s.bus ≤ t → plain s.bus lines ≡ true → new ≡ after_look part w (closed_to w s t) lines → IsLookedAt lines t s new
+  after-look lines s new t low is_plain is =
+      let x : At B = closed_to w s t in
+      let plain_there : plain x.bus lines ≡ true = stays.close s.bus lines t ∙ is_plain in
+      let at : At B = begin_leaves x (fresh (sequence_at_look (w.nmi x.bus lines) (w.irq x.bus lines) (after part s.cpu)) (after part s.cpu)) (w.taken x.bus lines) in
+      let same : new ≡ at = is ∙ plain-look part w x lines (stays.resets x.bus lines plain_there) in
+      record {
+        goes_on = subst (λ (y : At B). IsSome (next_cycle part y.cpu)) (sym same) (begins part at.cpu.sequence at.cpu.regs);
+        closed = ap (λ (y : At B). w.closed y.bus) same ∙ wired.closed_taken x.bus lines ∙ wired.closed s.bus t ∙ omega (arith, low);
+        cycle = sym (ap (λ (y : At B). w.cycle y.bus) same ∙ wired.cycle_taken x.bus lines ∙ wired.cycle_close s.bus t);
+        free = λ far free u high. ap (λ (y : At B). w.pending y.bus u) same ∙ wired.pending_taken x.bus lines u ∙ wired.pending_close s.bus t u ∙ free u high;
+        is_plain = ap (λ (y : At B). plain y.bus lines) same ∙ stays.taken x.bus lines plain_there;
+        due = ap (λ (y : At B). y.due) same;
+      }
+
+  module _ (far until : ℕ) (lines : Lines) (sure : ℕ) (start : At B) where
+    -- before the next access, where no steps are owed
+    pub caught-up : (n : ℕ) (s : At B) → n ≡ w.cycle s.bus → IsSome (next_cycle part s.cpu) → w.closed s.bus ≤ s.due + 1 → IsFree part w far s.bus → (plain start.bus lines ≡ true → plain s.bus lines ≡ true) →
+        Came part w until lines sure start s → IsUnderWay part w plain far n until lines sure start s s.due
+    caught-up n s cycle goes_on before free kept came =
+        let none : owed_at n s.due s.due (w.closed s.bus) ≡ w.closed s.bus = owed-none n s.due (w.closed s.bus) in
+        record {
+          cycle = cycle;
+          goes_on = goes_on;
+          looks = (came.0, subst (λ (x : At B). Looks (moves_of part w) until (shown_lines lines sure) came.0 start x) (sym (ap (λ (t : ℕ). closed_to w s t) none ∙ none-owed s)) came.1);
+          low = omega (arith, none);
+          high = omega (arith, none, before);
+          free = free;
+          since_then = inl refl;
+          kept = kept;
+        }
+
+    -- a plain look that is sure, of a machine that stands for one closed further
+    pub sees-on : (c : cpu.State) (b : B) (t u : ℕ) (new : At B) → Came part w until lines sure start (at_of c (w.close b u) t) → u ≤ t + 1 → next_cycle part c ≡ None → t < until → t < sure → w.pending b t ≡ false →
+        new ≡ after_look part w (closed_to w (at_of c b t) (t + 1)) lines → Came part w until lines sure start new
+    sees-on c b t u new came high over low early none is =
+        let at : At B = at_of c (w.close b u) t in
+        let free : is_break part w at ≡ false = no-break part w at (wired.pending_close b u t ∙ none) in
+        let saw : new ≡ next_state part w at (Some (Seen lines)) =
+        is
+        ∙ ap (λ (d : B). after_look part w (at_of c d t) lines) (sym (wired.again b u (t + 1) high))
+        ∙ ap (λ (o : Option Cycle). after_step part w o (closed_to w at (t + 1)) (Some (Seen lines))) (sym over)
+        ∙ sym (plain-next part w at (Some (Seen lines)) free) in
+        let more : Looks (moves_of part w) until (shown_lines lines sure) (suc came.0) start (next_state part w at (Some (Seen lines))) =
+        look_last (moves_of part w) until lines sure came.0 start at came.1 low (plain-asks part w at free ∙ ap (asks_by w) over) early in
+        (suc came.0, subst (λ (x : At B). Looks (moves_of part w) until (shown_lines lines sure) (suc came.0) start x) (sym saw) more)
+
+    -- a look that sees the lines, before the first access
+    pub at-look : (n : ℕ) (new : At B) → n ≡ w.cycle start.bus → next_cycle part start.cpu ≡ None → w.closed start.bus ≤ start.due + 1 → IsFree part w far start.bus → plain start.bus lines ≡ true →
+        start.due < until → start.due < sure → start.due < far →
+        new ≡ after_look part w (closed_to w start (start.due + 1)) lines → IsUnderWay part w plain far n until lines sure start new new.due
+    at-look n new cycle over before free is_plain low early far_on is =
+        let here : closed_to w start (w.closed start.bus) ≡ start = none-owed start in
+        let came : Came part w until lines sure start (closed_to w start (w.closed start.bus)) = (0, sym here) in
+        let saw : Came part w until lines sure start new = sees-on start.cpu start.bus start.due (w.closed start.bus) new came before over low early (free start.due far_on) is in
+        let looked = after-look lines start new (start.due + 1) before is_plain is in
+        caught-up n new (cycle ∙ looked.cycle) looked.goes_on (omega (arith, looked.closed, looked.due)) (looked.free far free) (λ _. looked.is_plain) saw
+
+    -- a step that asked nothing, of the machine whose steps are owed
+    pub steps-on : (n : ℕ) (s : At B) (since : ℕ) → IsUnderWay part w plain far n until lines sure start s since → s.due < until → is_break part w s ≡ false → asks_by w (next_cycle part s.cpu) ≡ None →
+        Came part w until lines sure start (next_state part w s None)
+    steps-on n s since way low free none =
+        let owed : ℕ = owed_at n since s.due (w.closed s.bus) in
+        let x : At B = closed_to w s owed in
+        let again_is : next_state part w x None ≡ next_state part w s None = next_closed part w wired s owed None way.high in
+        let free_there : is_break part w x ≡ false = break_closed part w wired s owed ∙ free in
+        let more : Looks (moves_of part w) until (shown_lines lines sure) (suc way.looks.0) start (next_state part w x None) =
+        silent_last (moves_of part w) until lines sure way.looks.0 start x way.looks.1 low (plain-asks part w x free_there ∙ none) in
+        (suc way.looks.0, subst (λ (y : At B). Looks (moves_of part w) until (shown_lines lines sure) (suc way.looks.0) start y) again_is more)
+
+    -- a quick access is such a step, which leaves the device steps before it for later
+    pub quick-on : (n : ℕ) (s : At B) (since byte : ℕ) (c : Cycle) (on : cpu.State) (b : B) → IsUnderWay part w plain far n until lines sure start s since → s.due < until → s.due + (n - 1) < far → next_cycle part s.cpu ≡ Some c →
+        IsQuick w s.bus s.due c (Some byte) b → on ≡ after_byte part s.cpu byte → Came part w until lines sure start (at_of on (w.close b (s.due + 1)) (if is_none (next_cycle part on) then s.due + (n - 1) else s.due + n))
+    quick-on n s since byte c on b way low far_on is done gave =
+        let x : At B = closed_to w s (s.due + 1) in
+        let none : is_break part w s ≡ false = no-break part w s (way.free s.due (omega (arith, far_on))) in
+        let then_ : B = w.after x.bus c in
+        let byte_is : ℕ = byte_of w x.bus s.due None c in
+        let pends : w.pending x.bus (s.due + (n - 1)) ≡ false = wired.pending_close s.bus (s.due + 1) (s.due + (n - 1)) ∙ way.free (s.due + (n - 1)) far_on in
+        let same : next_state part w s None ≡ at_of on (w.close b (s.due + 1)) (if is_none (next_cycle part on) then s.due + (n - 1) else s.due + n) =
+        plain-next part w s None none
+        ∙ ap (λ (o : Option Cycle). after_step part w o x None) is
+        ∙ ap (λ (k : ℕ). after_cycle part w (record x { bus = then_ }) (w.pending x.bus (s.due + (k - 1)) && halted part s.cpu) (after_byte part s.cpu byte_is) k) (done.3 ∙ sym way.cycle)
+        ∙ ap (λ (p : Bool). after_cycle part w (record x { bus = then_ }) (p && halted part s.cpu) (after_byte part s.cpu byte_is) n) pends
+        ∙ ap (λ (v : ℕ). after_cycle part w (record x { bus = then_ }) false (after_byte part s.cpu v) n) (sym done.1)
+        ∙ ap (λ (p : cpu.State). after_cycle part w (record x { bus = then_ }) false p n) (sym gave)
+        ∙ ap (λ (d : B). after_cycle part w (record x { bus = d }) false on n) (sym done.2) in
+        let came : Came part w until lines sure start (next_state part w s None) = steps-on n s since way low none (ap (asks_by w) is ∙ done.0) in
+        (came.0, subst (λ (y : At B). Looks (moves_of part w) until (shown_lines lines sure) came.0 start y) same came.1)
+
+    -- and leaves cycles, breaks and looks as they were
+    pub quick-clock : (t byte : ℕ) (s b : B) (c : Cycle) → IsQuick w s t c (Some byte) b → w.cycle s ≡ w.cycle b
+    quick-clock t byte s b c done =
+        sym (sym (wired.cycle_close b (t + 1)) ∙ ap w.cycle done.2 ∙ wired.cycle_after (w.close s (t + 1)) c ∙ wired.cycle_close s (t + 1))
+
+    pub quick-free : (t byte : ℕ) (s b : B) (c : Cycle) → IsFree part w far s → IsQuick w s t c (Some byte) b → IsFree part w far b
+    quick-free t byte s b c free done u low =
+        sym (wired.pending_close b (t + 1) u) ∙ ap (λ (d : B). w.pending d u) done.2 ∙ wired.pending_after (w.close s (t + 1)) c u ∙ wired.pending_close s (t + 1) u ∙ free u low
+
+    pub quick-plain : (t byte : ℕ) (s b : B) (c : Cycle) → IsQuick w s t c (Some byte) b → plain b lines ≡ plain s lines
+    quick-plain t byte s b c done =
+        sym (stays.close b lines (t + 1)) ∙ ap (λ (d : B). plain d lines) done.2 ∙ stays.after (w.close s (t + 1)) lines c ∙ stays.close s lines (t + 1)
+
+    -- and then comes the next access
+    pub quick-more : (n : ℕ) (s : At B) (since byte : ℕ) (c : Cycle) (on : cpu.State) (b : B) → IsUnderWay part w plain far n until lines sure start s since → s.due < until → s.due + (n - 1) < far → next_cycle part s.cpu ≡ Some c →
+        IsQuick w s.bus s.due c (Some byte) b → on ≡ after_byte part s.cpu byte → w.closed b ≤ s.due + 1 → IsSome (next_cycle part on) → IsUnderWay part w plain far n until lines sure start (at_of on b (s.due + n)) since
+    quick-more n s since byte c on b way low far_on is done gave before more =
+        let some : 1 < n = omega (arith, way.cycle, wired.some s.bus) in
+        let came = quick-on n s since byte c on b way low far_on is done gave in
+        let gone : since < s.due + n = elim way.since_then [ inl e ↦ omega (arith, e, some) | inr e ↦ omega (arith, e.0, some) ] in
+        let owed : owed_at n since (s.due + n) (w.closed b) ≡ s.due + 1 = owed-some n since (s.due + n) (w.closed b) gone ∙ omega (arith, some) in
+        let due : (if is_none (next_cycle part on) then s.due + (n - 1) else s.due + n) ≡ s.due + n = on-by (next_cycle part on) s.due n more in
+        record {
+          cycle = way.cycle ∙ quick-clock s.due byte s.bus b c done;
+          goes_on = more;
+          looks = (
+            came.0,
+            subst (λ (x : At B). Looks (moves_of part w) until (shown_lines lines sure) came.0 start x)
+                (ap (λ (t : ℕ). at_of on (w.close b (s.due + 1)) t) due ∙ ap (λ (t : ℕ). at_of on (w.close b t) (s.due + n)) (sym owed)) came.1,
+          );
+          low = omega (arith, owed, before);
+          high = omega (arith, owed);
+          free = quick-free s.due byte s.bus b c way.free done;
+          since_then = inr (elim way.since_then [ inl e ↦ omega (arith, e) | inr e ↦ omega (arith, e.0) ], omega (arith, low));
+          kept = λ first. quick-plain s.due byte s.bus b c done ∙ way.kept first;
+        }
+
+    -- or the look at the end of the sequence
+    pub quick-last : (n : ℕ) (s : At B) (since byte : ℕ) (c : Cycle) (on : cpu.State) (b : B) → IsUnderWay part w plain far n until lines sure start s since → s.due < until → s.due + (n - 1) < far → next_cycle part s.cpu ≡ Some c →
+        IsQuick w s.bus s.due c (Some byte) b → on ≡ after_byte part s.cpu byte → next_cycle part on ≡ None → Came part w until lines sure start (at_of on (w.close b (s.due + 1)) (s.due + (n - 1)))
+    quick-last n s since byte c on b way low far_on is done gave over =
+        let came = quick-on n s since byte c on b way low far_on is done gave in (
+          came.0,
+          subst (λ (x : At B). Looks (moves_of part w) until (shown_lines lines sure) came.0 start x)
+              (ap (λ (o : Option Cycle). at_of on (w.close b (s.due + 1)) (if is_none o then s.due + (n - 1) else s.due + n)) over) came.1,
+        )
+
+    -- after which comes another access
+    pub quick-past : (n : ℕ) (s : At B) (since byte : ℕ) (c : Cycle) (on : cpu.State) (b : B) (new : At B) → IsUnderWay part w plain far n until lines sure start s since → s.due < until → s.due + (n - 1) < far → next_cycle part s.cpu ≡ Some c →
+        IsQuick w s.bus s.due c (Some byte) b → on ≡ after_byte part s.cpu byte → w.closed b ≤ s.due + 1 → next_cycle part on ≡ None → plain start.bus lines ≡ true → s.due + (n - 1) < until → s.due + (n - 1) < sure →
+        (t : ℕ) → t ≡ s.due + (n - 1) → new ≡ after_look part w (closed_to w (at_of on b t) (t + 1)) lines → IsUnderWay part w plain far n until lines sure start new new.due
+    quick-past n s since byte c on b new way low far_on is done gave before over first in_run early t here look =
+        let some : 1 < n = omega (arith, way.cycle, wired.some s.bus) in
+        let came = quick-last n s since byte c on b way low far_on is done gave over in
+        let at : Came part w until lines sure start (at_of on (w.close b (s.due + 1)) t) =
+        (came.0, subst (λ (k : ℕ). Looks (moves_of part w) until (shown_lines lines sure) came.0 start (at_of on (w.close b (s.due + 1)) k)) (sym here) came.1) in
+        let free : IsFree part w far b = quick-free s.due byte s.bus b c way.free done in
+        let saw = sees-on on b t (s.due + 1) new at (omega (arith, here, some)) over (omega (arith, here, in_run)) (omega (arith, here, early)) (free t (omega (arith, here, far_on))) look in
+        let is_plain : plain b lines ≡ true = quick-plain s.due byte s.bus b c done ∙ way.kept first in
+        let looked = after-look lines (at_of on b t) new (t + 1) (omega (arith, before, here, some)) is_plain look in
+        caught-up n new (way.cycle ∙ quick-clock s.due byte s.bus b c done ∙ looked.cycle) looked.goes_on (omega (arith, looked.closed, looked.due)) (looked.free far free) (λ _. looked.is_plain) saw
+
+    -- after an access there is a cycle before the next one
+    pub cycle-before : (n : ℕ) (s : At B) (since : ℕ) → until ≤ 1073741824 → IsUnderWay part w plain far n until lines sure start s since → since < s.due →
+        (0 < n) × (n ≤ s.due) × (s.due < 281474976710656)
+    cycle-before n s since room way gone = elim way.since_then [
+      | inl e ↦ absurd (omega (arith, e, gone))
+      | inr e ↦ (omega (arith, way.cycle, wired.some s.bus), omega (arith, e.0), omega (arith, e.1, room, way.cycle, wired.few s.bus))
+    ]

@@ -1,0 +1,141 @@
+use Rattle.std.proofs.Common.{rules, ◌≡◌, ◌+◌, ◌-◌, ◌∙◌, ℕ, None, IsSome, length, sym, ap, subst, refl, arith}
+use Rattle.op_table.specs.declared.names.Part.TheVariants.{Cmos}
+use Rattle.cpu_core.specs.Sequences.{next_cycle}
+use Rattle.tube_party.specs.Moves.{Looks, shown_lines}
+use Rattle.tube_machine.specs.Step.{At, at_of, moves_of}
+use Rattle.tube_machine.specs.Exchange.{spent, ready, HasSpent, Spends}
+use Rattle.tube_machine.specs.declared.run.Stop.TheVariants as stop
+use Rattle.tube_machine.proofs.UnderWay.{IsUnderWay, at-look, caught-up, quick-more, quick-last, quick-past, quick-plain}
+use Rattle.tube_machine.proofs.Spends.{none-spent, spent-more, spent-past, spent-look, seen-more, ready-look, ready-on}
+use Rattle.tube_machine.proofs.run.go_on.Goals as goal
+use Rattle.tube_machine.proofs.run.go_on.Goals.{then-last+else-due-bound, else-last}
+
+pub loop-due-init : goal.loop-due-init
+loop-due-init g c =
+    let part = g.P.Processor.part in
+    let w = g.B.TubeBus.wiring in
+    let start : At g.B.TubeBus.State = at_of (g.P.Processor.core c.args.cpu.now) (g.B.TubeBus.state c.args.bus.now) c.args.from in
+    elim c.if-last.branch [
+      | then-last+else-due-bound v ↦
+          let new : At g.B.TubeBus.State = at_of (g.P.Processor.core v.see.new.cpu) (g.B.TubeBus.state v.see.new.bus) (c.args.from + 1) in
+          let over : next_cycle part (g.P.Processor.core c.args.cpu.now) ≡ None = search rules in
+          let plain = c.bound_of-bound.ensures.plain (omega (arith, v.if-due-bound.false)) in
+          let way : IsUnderWay part w g.B.TubeBus.plain c.break_tick-next_break.result c.cycle-cycle.result c.args.until c.args.lines.now c.args.sure start new new.due =
+          at-look part w g.B.TubeBus.wired g.B.TubeBus.plain g.B.TubeBus.stays_plain c.break_tick-next_break.result c.args.until c.args.lines.now c.args.sure start c.cycle-cycle.result new c.cycle-cycle.ensures.value over
+          c.requires.before c.break_tick-next_break.ensures.none plain (omega (arith, v.if-due-bound.false, c.bound_of-bound.ensures.until)) (omega (arith, v.if-due-bound.false, c.bound_of-bound.ensures.sure))
+          (omega (arith, v.if-due-bound.false, c.bound_of-bound.ensures.free)) v.see.ensures.seen in
+          let due : c.args.from + 1 ≡ c.if-last.due = sym v.due-is in
+          let same : new ≡ at_of (g.P.Processor.core c.if-last.cpu) (g.B.TubeBus.state c.if-last.bus) c.if-last.due =
+          ap (λ x. at_of (g.P.Processor.core x) (g.B.TubeBus.state v.see.new.bus) (c.args.from + 1)) (sym v.cpu-is)
+          ∙ ap (λ x. at_of (g.P.Processor.core c.if-last.cpu) (g.B.TubeBus.state x) (c.args.from + 1)) (sym v.bus-is)
+          ∙ ap (λ (k : ℕ). at_of (g.P.Processor.core c.if-last.cpu) (g.B.TubeBus.state c.if-last.bus) k) due in
+          record {
+            way = subst (λ (x : At g.B.TubeBus.State). IsUnderWay part w g.B.TubeBus.plain c.break_tick-next_break.result c.cycle-cycle.result c.args.until c.args.lines.now c.args.sure start x x.due) same way;
+            noted = ap (λ x. g.B.TubeBus.before c.args.notes.now x) v.bus-is ∙ v.see.ensures.kept c.args.notes.now;
+            spent = spent-look (part ≡ Cmos) c.cycle-cycle.result c.args.sure (g.B.TubeBus.room c.args.notes.now) (ready part (g.P.Processor.core c.args.cpu.now) c.args.from) c.if-last.due _ _ (v.due-is ∙ sym (ready-look part (g.P.Processor.core c.args.cpu.now) c.args.from over)) (omega (arith, due, v.if-due-bound.false, c.bound_of-bound.ensures.sure));
+          }
+      | else-last v ↦
+          let on : IsSome (next_cycle part (g.P.Processor.core c.args.cpu.now)) = search rules in
+          let way : IsUnderWay part w g.B.TubeBus.plain c.break_tick-next_break.result c.cycle-cycle.result c.args.until c.args.lines.now c.args.sure start start start.due =
+          caught-up part w g.B.TubeBus.wired g.B.TubeBus.plain g.B.TubeBus.stays_plain c.break_tick-next_break.result c.args.until c.args.lines.now c.args.sure start c.cycle-cycle.result start c.cycle-cycle.ensures.value on
+          c.requires.before c.break_tick-next_break.ensures.none (λ is. is) (0, refl) in
+          let same : start ≡ at_of (g.P.Processor.core c.if-last.cpu) (g.B.TubeBus.state c.if-last.bus) c.if-last.due =
+          ap (λ x. at_of (g.P.Processor.core x) (g.B.TubeBus.state c.args.bus.now) c.args.from) (sym v.cpu-is)
+          ∙ ap (λ x. at_of (g.P.Processor.core c.if-last.cpu) (g.B.TubeBus.state x) c.args.from) (sym v.bus-is)
+          ∙ ap (λ (k : ℕ). at_of (g.P.Processor.core c.if-last.cpu) (g.B.TubeBus.state c.if-last.bus) k) (sym v.due-is) in
+          record {
+            way = subst (λ (x : At g.B.TubeBus.State). IsUnderWay part w g.B.TubeBus.plain c.break_tick-next_break.result c.cycle-cycle.result c.args.until c.args.lines.now c.args.sure start x x.due) same way;
+            noted = ap (λ x. g.B.TubeBus.before c.args.notes.now x) v.bus-is;
+            spent = subst (λ (x : At g.B.TubeBus.State). HasSpent (part ≡ Cmos) c.cycle-cycle.result c.args.sure (spent (ready g.P.Processor.part (g.P.Processor.core c.args.cpu.now) c.args.from) (g.B.TubeBus.room c.args.notes.now) (length start.cpu.seen)) (spent x.due (g.B.TubeBus.room c.args.notes.now) (length x.cpu.seen)))
+                same (subst (λ (k : ℕ). HasSpent (part ≡ Cmos) c.cycle-cycle.result c.args.sure (spent k (g.B.TubeBus.room c.args.notes.now) (length start.cpu.seen)) (spent c.args.from (g.B.TubeBus.room c.args.notes.now) (length start.cpu.seen))) (sym (ready-on part (g.P.Processor.core c.args.cpu.now) c.args.from on))
+                (none-spent (part ≡ Cmos) c.cycle-cycle.result c.args.sure (spent c.args.from (g.B.TubeBus.room c.args.notes.now) (length start.cpu.seen))));
+          }
+    ]
+
+pub returns-then-due-bound-2-clause-looks : goal.returns-then-due-bound-2-clause-looks
+returns-then-due-bound-2-clause-looks g c =
+    let part = g.P.Processor.part in
+    let w = g.B.TubeBus.wiring in
+    let n : ℕ = c.cycle-cycle.result in
+    let b = g.B.TubeBus.state c.quick.new.self in
+    let on = g.P.Processor.core c.give.new.self in
+    let start : At g.B.TubeBus.State = at_of (g.P.Processor.core c.args.cpu.now) (g.B.TubeBus.state c.args.bus.now) c.args.from in
+    let s : At g.B.TubeBus.State = at_of (g.P.Processor.core c.loop-due.cpu) (g.B.TubeBus.state c.loop-due.bus) c.loop-due.due in
+    let over : next_cycle part on ≡ None = search rules in
+    let came = quick-last part w g.B.TubeBus.wired g.B.TubeBus.plain g.B.TubeBus.stays_plain c.break_tick-next_break.result c.args.until c.args.lines.now c.args.sure start n s c.loop-due.caught_up c.in-Some.byte c.want.result on b
+    c.loop-due.invariant.way (omega (arith, c.loop-due-test.true, c.min-end.ensures))
+    (omega (arith, c.loop-due-test.true, c.min-end.ensures, c.saturating_sub.ensures, c.requires.room, c.cycle-cycle.ensures.bound)) c.want.ensures c.in-Some.ensures.done c.give.ensures over in
+    let tick : c.loop-due.due + (n - 1) ≡ c.loop-due.due + n - 1 = omega (arith, c.cycle-cycle.ensures.some) in
+    let closed : c.loop-due.due + 1 ≡ c.loop-due.due + n - (n - 1) = omega (arith, c.cycle-cycle.ensures.some) in
+    let bus = ap (λ (t : ℕ). w.close b t) closed ∙ sym c.close.ensures.closed in (
+      came.0,
+      subst (λ (t : ℕ). Looks (moves_of part w) c.args.until (shown_lines c.args.lines.now c.args.sure) came.0 start (at_of on (g.B.TubeBus.state c.close.new.self) t)) tick
+          (subst (λ (d : g.B.TubeBus.State). Looks (moves_of part w) c.args.until (shown_lines c.args.lines.now c.args.sure) came.0 start (at_of on d (c.loop-due.due + (n - 1)))) bus came.1),
+    )
+
+pub see-requires-then-last-2-clause-plain : goal.see-requires-then-last-2-clause-plain
+see-requires-then-last-2-clause-plain g c =
+    let first = c.bound_of-bound.ensures.plain (omega (arith, c.if-due-bound-2.false, c.cycle-cycle.ensures.some)) in
+    quick-plain g.P.Processor.part g.B.TubeBus.wiring g.B.TubeBus.wired g.B.TubeBus.plain g.B.TubeBus.stays_plain 0 0 c.args.lines.now 0 (at_of (g.P.Processor.core c.args.cpu.now) (g.B.TubeBus.state c.args.bus.now) c.args.from) c.loop-due.due c.in-Some.byte (g.B.TubeBus.state c.loop-due.bus) (g.B.TubeBus.state c.quick.new.self) c.want.result c.in-Some.ensures.done
+    ∙ c.loop-due.invariant.way.kept first
+
+pub loop-due-preserved-then-last-2 : goal.loop-due-preserved-then-last-2
+loop-due-preserved-then-last-2 g c =
+    let part = g.P.Processor.part in
+    let w = g.B.TubeBus.wiring in
+    let n : ℕ = c.cycle-cycle.result in
+    let b = g.B.TubeBus.state c.quick.new.self in
+    let on = g.P.Processor.core c.give.new.self in
+    let start : At g.B.TubeBus.State = at_of (g.P.Processor.core c.args.cpu.now) (g.B.TubeBus.state c.args.bus.now) c.args.from in
+    let s : At g.B.TubeBus.State = at_of (g.P.Processor.core c.loop-due.cpu) (g.B.TubeBus.state c.loop-due.bus) c.loop-due.due in
+    let t : ℕ = c.loop-due.due + n - 1 in
+    let new : At g.B.TubeBus.State = at_of (g.P.Processor.core c.see-then-last-2.new.cpu) (g.B.TubeBus.state c.see-then-last-2.new.bus) (t + 1) in
+    let over : next_cycle part on ≡ None = search rules in
+    let first = c.bound_of-bound.ensures.plain (omega (arith, c.if-due-bound-2.false, c.cycle-cycle.ensures.some)) in
+    let way = quick-past part w g.B.TubeBus.wired g.B.TubeBus.plain g.B.TubeBus.stays_plain c.break_tick-next_break.result c.args.until c.args.lines.now c.args.sure start n s c.loop-due.caught_up c.in-Some.byte c.want.result on b new
+    c.loop-due.invariant.way (omega (arith, c.loop-due-test.true, c.min-end.ensures))
+    (omega (arith, c.loop-due-test.true, c.min-end.ensures, c.saturating_sub.ensures, c.requires.room, c.cycle-cycle.ensures.bound)) c.want.ensures c.in-Some.ensures.done c.give.ensures c.in-Some.ensures.closed over first
+    (omega (arith, c.if-due-bound-2.false, c.bound_of-bound.ensures.until, c.cycle-cycle.ensures.some)) (omega (arith, c.if-due-bound-2.false, c.bound_of-bound.ensures.sure, c.cycle-cycle.ensures.some))
+    t (omega (arith, c.cycle-cycle.ensures.some)) c.see-then-last-2.ensures.seen in
+    let tick : t + 1 ≡ c.loop-due.due + n = omega (arith, c.cycle-cycle.ensures.some) in
+    record {
+      way = subst (λ (k : ℕ). IsUnderWay part w g.B.TubeBus.plain c.break_tick-next_break.result n c.args.until c.args.lines.now c.args.sure start (record new { due = k }) k) tick way;
+      noted = c.see-then-last-2.ensures.kept c.quick.new.notes ∙ c.quick.ensures.noted ∙ c.loop-due.invariant.noted;
+      spent = spent-past (part ≡ Cmos) n c.args.sure (g.B.TubeBus.room c.quick.new.notes) (c.loop-due.due + n) _ _ _ c.loop-due.invariant.spent c.quick.ensures.room refl (omega (arith, c.if-due-bound-2.false, c.bound_of-bound.ensures.sure));
+    }
+
+pub loop-due-preserved : goal.loop-due-preserved
+loop-due-preserved g c =
+    let part = g.P.Processor.part in
+    let w = g.B.TubeBus.wiring in
+    let n : ℕ = c.cycle-cycle.result in
+    let b = g.B.TubeBus.state c.quick.new.self in
+    let on = g.P.Processor.core c.give.new.self in
+    let start : At g.B.TubeBus.State = at_of (g.P.Processor.core c.args.cpu.now) (g.B.TubeBus.state c.args.bus.now) c.args.from in
+    let s : At g.B.TubeBus.State = at_of (g.P.Processor.core c.loop-due.cpu) (g.B.TubeBus.state c.loop-due.bus) c.loop-due.due in
+    let more : IsSome (next_cycle part on) = search rules in
+    record {
+      way = quick-more part w g.B.TubeBus.wired g.B.TubeBus.plain g.B.TubeBus.stays_plain c.break_tick-next_break.result c.args.until c.args.lines.now c.args.sure start n s c.loop-due.caught_up c.in-Some.byte c.want.result on b
+          c.loop-due.invariant.way (omega (arith, c.loop-due-test.true, c.min-end.ensures))
+          (omega (arith, c.loop-due-test.true, c.min-end.ensures, c.saturating_sub.ensures, c.requires.room, c.cycle-cycle.ensures.bound)) c.want.ensures c.in-Some.ensures.done c.give.ensures c.in-Some.ensures.closed more;
+      noted = c.quick.ensures.noted ∙ c.loop-due.invariant.noted;
+      spent = spent-more (part ≡ Cmos) n c.args.sure (g.B.TubeBus.room c.quick.new.notes) (c.loop-due.due + n) (length on.seen) _ _ c.loop-due.invariant.spent c.quick.ensures.room (λ _. refl) (seen-more part (g.P.Processor.core c.loop-due.cpu) on c.in-Some.byte c.give.ensures);
+    }
+
+pub returns-in-None-clause-spends : goal.returns-in-None-clause-spends
+returns-in-None-clause-spends g c =
+    let cpu = g.P.Processor.core c.loop-due.cpu in
+    let old = spent (ready g.P.Processor.part (g.P.Processor.core c.args.cpu.now) c.args.from) (g.B.TubeBus.room c.args.notes.now) (length (g.P.Processor.core c.args.cpu.now).seen) in
+    let so_far : Spends g.P.Processor.part c.cycle-cycle.result c.args.sure old stop.Access (spent c.loop-due.due (g.B.TubeBus.room c.loop-due.notes) (length cpu.seen)) =
+    c.loop-due.invariant.spent in
+    let still : g.B.TubeBus.room c.loop-due.notes ≡ g.B.TubeBus.room c.quick.new.notes = ap g.B.TubeBus.room (sym (c.quick.ensures.still c.in-None.is)) in
+    subst (λ (n : ℕ). Spends g.P.Processor.part n c.args.sure old stop.Access (spent c.loop-due.due (g.B.TubeBus.room c.quick.new.notes) (length cpu.seen))) c.cycle-cycle.ensures.value
+    (subst (λ (r : ℕ). Spends g.P.Processor.part c.cycle-cycle.result c.args.sure old stop.Access (spent c.loop-due.due r (length cpu.seen))) still so_far)
+
+pub returns-then-due-until-clause-spends : goal.returns-then-due-until-clause-spends
+returns-then-due-until-clause-spends g c =
+    let cpu = g.P.Processor.core c.loop-due.cpu in
+    let old = spent (ready g.P.Processor.part (g.P.Processor.core c.args.cpu.now) c.args.from) (g.B.TubeBus.room c.args.notes.now) (length (g.P.Processor.core c.args.cpu.now).seen) in
+    let so_far : Spends g.P.Processor.part c.cycle-cycle.result c.args.sure old stop.Access (spent c.loop-due.due (g.B.TubeBus.room c.loop-due.notes) (length cpu.seen)) =
+    c.loop-due.invariant.spent in
+    subst (λ (n : ℕ). Spends g.P.Processor.part n c.args.sure old stop.Access (spent c.loop-due.due (g.B.TubeBus.room c.loop-due.notes) (length cpu.seen))) c.cycle-cycle.ensures.value so_far

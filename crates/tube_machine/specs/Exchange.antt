@@ -1,0 +1,107 @@
+-- What an access comes to, and where steps leave off.
+use Rattle.std.specs.Prelude.{ℕ, true, max, is_none, ◌≡◌, ◌≤◌, ◌<◌, ◌+◌, ◌-◌, ◌*◌, nat_lt, if◌then◌else◌, Option, Some, None, IsSome, MatchOption, Result, Ok, Err}
+use Rattle.op_table.specs.declared.names.Part.{Part}
+use Rattle.op_table.specs.declared.names.Part.TheVariants.{Cmos}
+use Rattle.cpu_alu.specs.declared.Cycle.{Cycle}
+use Rattle.cpu_alu.specs.declared.Cycle.TheVariants.{Read, Write}
+use Rattle.cpu_core.specs.State as cpu
+use Rattle.cpu_core.specs.Sequences.{next_cycle}
+use Rattle.tube_chip.specs.Act.{access}
+use Rattle.tube_chip.specs.declared.Answer.TheVariants.{Byte}
+use Rattle.tube_chip.specs.declared.Lines.{Lines}
+use Rattle.tube_party.specs.Moves.{FitsAnswer, Looks, Sees, shown_lines}
+use Rattle.tube_machine.specs.declared.bus.Done.{Done}
+use Rattle.tube_machine.specs.declared.bus.Unable.{Unable}
+use Rattle.tube_machine.specs.declared.bus.Unable.TheVariants.{Tube, Full}
+use Rattle.tube_machine.specs.declared.steps.Attempt.{Attempt}
+use Rattle.tube_machine.specs.declared.steps.Attempt.TheVariants as attempt
+use Rattle.tube_machine.specs.declared.steps.Left.{Left}
+use Rattle.tube_machine.specs.declared.steps.Left.TheVariants as left
+use Rattle.tube_machine.specs.declared.run.Stop.{Stop}
+use Rattle.tube_machine.specs.declared.run.Stop.TheVariants.{Look, Access, End}
+use Rattle.tube_machine.specs.Wiring.{Wiring}
+use Rattle.tube_machine.specs.Step.{At, asks, asks_by, byte_of, next_state, moves_of}
+
+module _ {B : Type 0} (w : Wiring B) where
+  -- an access at an address of the Tube
+  abbrev pub IsAtTube : Cycle → Type 0
+  IsAtTube (Read at) = w.is_tube at ≡ true
+  IsAtTube (Write at byte) = w.is_tube at ≡ true
+
+  -- An access at tick t is done, with the devices closed before it, or it asks the Tube, or it cannot be noted.
+  abbrev pub IsExchanged : B → ℕ → Cycle → Result Done Unable → B → Type 0
+  IsExchanged b t c (Ok done) new =
+      (asks_by w (Some c) ≡ None)
+      × (done.byte ≡ byte_of w (w.close b (t + 1)) t None c)
+      × (new ≡ w.after (w.close b (t + 1)) c)
+      × (done.ticks ≡ w.takes (w.close b (t + 1)) t c)
+  IsExchanged b t c (Err (Tube o)) new = (asks_by w (Some c) ≡ Some (access o)) × (new ≡ b)
+  IsExchanged b t c (Err Full) new = new ≡ b
+
+  -- An access at tick t is done in one cycle, and the bus that it leaves need not be closed yet; or nothing has changed.
+  abbrev pub IsQuick : B → ℕ → Cycle → Option ℕ → B → Type 0
+  IsQuick b t c None new = new ≡ b
+  IsQuick b t c (Some byte) new =
+      (asks_by w (Some c) ≡ None)
+      × (byte ≡ byte_of w (w.close b (t + 1)) t None c)
+      × (w.close new (t + 1) ≡ w.after (w.close b (t + 1)) c)
+      × (w.takes (w.close b (t + 1)) t c ≡ w.cycle b)
+
+-- How far the devices count as closed before a step at the tick due: up to the access of the cycle before, of so many ticks, if there was one since
+-- another tick.
+abbrev pub owed_at : ℕ → ℕ → ℕ → ℕ → ℕ
+owed_at cycle since due closed = if nat_lt since due then due - (cycle - 1) else closed
+
+module _ (part : Part) {B : Type 0} (w : Wiring B) where
+  -- the next step is done, or it asks the Tube, or it cannot be noted
+  abbrev pub IsDone : At B → Attempt → At B → Type 0
+  IsDone old attempt.Done new = (asks part w old ≡ None) × (new ≡ next_state part w old None)
+  IsDone old (attempt.Tube o) new = (asks part w old ≡ Some (access o)) × (new ≡ old)
+  IsDone old attempt.Full new = new ≡ old
+
+  -- the next step is an access to the Tube
+  abbrev pub IsAskedByte : At B → Type 0
+  IsAskedByte s = MatchOption (asks part w s) ⊥ (λ q. FitsAnswer q (Byte 0))
+
+  -- Where steps leave off: at a look that is not sure, or one that is not plain, or a break; or at another step that is no quick access; or past
+  -- the end.
+  abbrev pub IsStop : ℕ → Stop → At B → Type 0
+  IsStop until Look s = next_cycle part s.cpu ≡ None
+  IsStop until Access s = IsSome (next_cycle part s.cpu) × (s.due < until)
+  IsStop until End s = until ≤ s.due
+
+-- A machine at a tick, with room for so many notes, in a sequence of which so many cycles were seen.
+pub record Spent : Type 0 where
+  pub due : ℕ
+  pub room : ℕ
+  pub seen : ℕ
+
+abbrev pub spent : ℕ → ℕ → ℕ → Spent
+spent due room seen = record { due = due; room = room; seen = seen }
+
+-- What is left at a tick, by what there was, if that holds.
+pub record HasSpent (counts : Type 0) (cycle sure : ℕ) (old new : Spent) : Type 0 where
+  pub room : counts → old.due + cycle * old.room ≤ new.due + cycle * new.room
+  pub late : counts → (top : ℕ) → sure ≤ top → old.due ≤ top + cycle * old.seen → new.due ≤ top + cycle * new.seen
+
+-- the tick from which on accesses come, behind the look at the tick due or at it
+abbrev pub ready : Part → cpu.State → ℕ → ℕ
+ready part c due = if is_none (next_cycle part c) then due + 1 else due
+
+-- Notes cost no more than a cycle each, and so do the cycles of a sequence that began below a tick: what is left at an access by what there was.
+abbrev pub Spends : Part → ℕ → ℕ → Spent → Stop → Spent → Type 0
+Spends part cycle sure old Access new = HasSpent (part ≡ Cmos) cycle sure old new
+Spends part cycle sure old _ new = Unit {0}
+
+-- The steps asked nothing or saw these lines, up to a look, which may see them or not; or with them what is asked. Of a run that cannot be noted
+-- nothing is told.
+module _ (part : Part) {B : Type 0} (w : Wiring B) where
+  abbrev pub IsRun : ℕ → Lines → ℕ → At B → Left → At B → Type 0
+  IsRun until lines sure old left.Full new = Unit {0}
+  IsRun until lines sure old (left.Asked ask) new = Sees (moves_of part w) until (shown_lines lines sure) old ask new
+  IsRun until lines sure old left.Look new = ((k : ℕ) × Looks (moves_of part w) until (shown_lines lines sure) k old new) × (next_cycle part new.cpu ≡ None)
+
+-- A run from a tick came to the end of its room in a sequence that began below the tick sure, or with the run: a write takes a cycle, and so do all
+-- of the fewer than 16 accesses of that sequence that are done.
+abbrev pub IsCramped : ℕ → ℕ → ℕ → ℕ → Type 0
+IsCramped cycle sure from room = from + cycle * room ≤ max sure from + cycle * 15

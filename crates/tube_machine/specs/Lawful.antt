@@ -1,0 +1,95 @@
+-- A machine at the Tube is a party.
+use Rattle.std.specs.Prelude.{ℕ, ◌≡◌, ◌≤◌, ◌<◌, ◌+◌, ◌-◌, ◌%◌, ◌&&◌, ◌||◌, Bool, true, false, IsTrue, is_none, Option, None, Some, refl, if◌then◌else◌}
+use Rattle.std.proofs.Common.{arith, ap, ◌∙◌}
+use Rattle.op_table.specs.declared.names.Part.{Part}
+use Rattle.beeb_bits.specs.declared.Side.{Side}
+use Rattle.cpu_alu.specs.declared.Cycle.{Cycle}
+use Rattle.cpu_alu.specs.declared.Cycle.TheVariants.{Read, Write}
+use Rattle.cpu_core.specs.Sequences.{next_cycle, after_byte, halted}
+use Rattle.tube_chip.specs.declared.Lines.{Lines}
+use Rattle.tube_chip.specs.declared.Op.{Op}
+use Rattle.tube_chip.specs.declared.Op.TheVariants as op
+use Rattle.tube_chip.specs.declared.Answer.{Answer}
+use Rattle.tube_chip.specs.Act.{access, MayDo}
+use Rattle.tube_party.specs.Moves.{IsLawful, IsPermitted, MayAsk}
+use Rattle.tube_machine.specs.Wiring.{Wiring, IsWired}
+use Rattle.tube_machine.specs.Step.{At, is_last_tick, is_break, asks_by, byte_of, after_break, after_step, closed_to, lines_in, next_state, moves_of}
+
+later : (over : Bool) (t n : ℕ) → 1 < n → t < (if over then t + (n - 1) else t + n)
+later true t n some = omega (arith, some)
+later false t n some = omega (arith, some)
+
+module _ (part : Part) {B : Type 0} (w : Wiring B) (wired : IsWired w) where
+  looks_by : (resets prst : Bool) (s held reset taken : At B) → s.due < held.due → s.due < reset.due → s.due < taken.due →
+      s.due < (if resets then (if prst then held else reset) else taken).due
+  looks_by true true s held reset taken a b c = a
+  looks_by true false s held reset taken a b c = b
+  looks_by false prst s held reset taken a b c = c
+
+  rises : (c : Option Cycle) (s : At B) (a : Option Answer) → s.due < (after_step part w c s a).due
+  rises None s a =
+      let l : Lines = lines_in a in
+      looks_by (w.resets s.bus l) l.prst s _ _ _ (omega (arith, wired.some s.bus)) (omega arith) (omega arith)
+  rises (Some c) s a =
+      let n : ℕ = w.takes s.bus s.due c in
+      let some : 1 < n = omega (arith, wired.ticks s.bus s.due c, wired.some s.bus) in
+      let breaks : Bool = w.pending s.bus (s.due + (n - 1)) && halted part s.cpu in
+      later (breaks || is_none (next_cycle part (after_byte part s.cpu (byte_of w s.bus s.due a c)))) s.due n some
+
+  -- with either kind of step
+  rises_by : (breaks : Bool) (c : Option Cycle) (s : At B) (a : Option Answer) → s.due < (if breaks then after_break part w s else after_step part w c s a).due
+  rises_by true c s a = omega arith
+  rises_by false c s a = rises c s a
+
+  -- closing a machine so far and then further is closing it further at once
+  pub again : (s : At B) (t u : ℕ) → t ≤ u → closed_to w (closed_to w s t) u ≡ closed_to w s u
+  again s t u high = ap (λ (b : B). record s { bus = b }) (wired.again s.bus t u high)
+
+  -- and changes nothing of the next step
+  pub break_closed : (s : At B) (t : ℕ) → is_break part w (closed_to w s t) ≡ is_break part w s
+  break_closed s t =
+      ap (λ (p : Bool). p && (is_none (next_cycle part s.cpu) || (halted part s.cpu && is_last_tick (w.cycle (w.close s.bus t)) s.due))) (wired.pending_close s.bus t s.due)
+      ∙ ap (λ (n : ℕ). w.pending s.bus s.due && (is_none (next_cycle part s.cpu) || (halted part s.cpu && is_last_tick n s.due))) (wired.cycle_close s.bus t)
+
+  pub next_closed : (s : At B) (t : ℕ) (a : Option Answer) → t ≤ s.due + 1 → next_state part w (closed_to w s t) a ≡ next_state part w s a
+  next_closed s t a high =
+      ap (λ (b : Bool). if b then after_break part w (closed_to w (closed_to w s t) (s.due + 1))
+      else after_step part w (next_cycle part s.cpu) (closed_to w (closed_to w s t) (s.due + 1)) a) (break_closed s t)
+      ∙ ap (λ (x : At B). if is_break part w s then after_break part w x else after_step part w (next_cycle part s.cpu) x a) (again s t (s.due + 1) high)
+
+  pub lawful : IsLawful (moves_of part w)
+  lawful = record {
+    rises = λ s a. rises_by (is_break part w s) (next_cycle part s.cpu) (closed_to w s (s.due + 1)) a;
+    within = λ s. omega arith;
+    closing = λ s t low high. record {
+      closed = omega (arith, low, high, wired.closed s.bus t);
+      due = refl;
+      asks = ap (λ (b : Bool). if b then Some (access op.Reset) else asks_by w (next_cycle part s.cpu)) (break_closed s t);
+      next = λ a. next_closed s t a (omega (arith, high));
+      again = λ u low2 high2. again s t u low2;
+    };
+  }
+
+-- a number below 8, where it asks
+may_ask : (b : Bool) (side : Side) (o : Op) → MayDo side o → MayAsk side (if b then Some (access o) else None)
+may_ask true side o may = may
+may_ask false side o may = tt
+
+module _ {B : Type 0} (w : Wiring B) where
+  permitted : (side : Side) (c : Option Cycle) → MayAsk side (asks_by w c)
+  permitted side None = tt
+  permitted side (Some (Read at)) = may_ask (w.is_tube at) side (op.Read (at % 8)) (omega arith)
+  permitted side (Some (Write at byte)) = may_ask (w.is_tube at) side (op.Write (at % 8) byte) (omega arith)
+
+  permitted_by : (breaks : Bool) (side : Side) (c : Option Cycle) → (breaks ≡ true → MayDo side op.Reset) → MayAsk side (if breaks then Some (access op.Reset) else asks_by w c)
+  permitted_by true side c may = may refl
+  permitted_by false side c may = permitted side c
+
+module _ (part : Part) {B : Type 0} (w : Wiring B) where
+  -- A machine may play a side that may ask for the reset operation, or any side, if no break is ever pending.
+  pub may_play : (plays : Side → Bool) → ((b : B) (t : ℕ) (side : Side) → IsTrue (plays side) → w.pending b t ≡ true → MayDo side op.Reset) → IsPermitted (moves_of part w) plays
+  may_play plays may s side plays_it = permitted_by w (is_break part w s) side (next_cycle part s.cpu) (λ breaks. may s.bus s.due side plays_it (pending_at (w.pending s.bus s.due) _ breaks))
+    where
+      pending_at : (p q : Bool) → (p && q) ≡ true → p ≡ true
+      pending_at true q e = refl
+      pending_at false q e = cc

@@ -1,0 +1,5 @@
+pub mod Wiring
+pub mod Step
+pub mod Lawful
+pub mod Exchange
+pub mod NoBreak

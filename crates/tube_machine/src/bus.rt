@@ -1,0 +1,155 @@
+//! What a machine's processor reaches.
+ghost use Rattle.std.specs.Prelude.{ℕ, Bool, ◌≡◌, ◌≤◌, ◌<◌, ◌+◌, ◌^◌, true, false, None, IfOk, Err};
+ghost use Rattle.cpu_alu.specs.declared.Cycle.{Cycle};
+ghost use Rattle.tube_chip.specs.declared.Lines.{Lines};
+ghost use Rattle.tube_machine.specs.Wiring.{Wiring, IsWired, StaysPlain};
+ghost use Rattle.tube_machine.specs.Exchange.{IsExchanged, IsQuick, IsAtTube};
+
+use beeb_bits::Tick;
+use cpu_alu::Cycle;
+use tube_chip::{Lines, Op};
+
+/// An access that is done: the byte that was read, or 0, and how many ticks it took.
+#[derive(Clone, Copy, Debug, PartialEq, Eq)]
+pub struct Done {
+    pub byte: u8,
+    pub ticks: u64,
+}
+
+/// Why an access is not done.
+#[derive(Clone, Copy, Debug, PartialEq, Eq)]
+pub enum Unable {
+    /// It is the Tube's.
+    Tube(Op),
+    /// It is a write for whose note there is no room.
+    Full,
+}
+
+/// What a look asks the processor for.
+#[derive(Clone, Copy, Debug, PartialEq, Eq)]
+pub struct Interrupts {
+    pub nmi: bool,
+    pub irq: bool,
+}
+
+/// A bus with its devices, one of which is the Tube, and what is taken of the counts of its lines. What is done to it may be noted in an `N`.
+pub trait TubeBus<N>: Drop {
+    /// What contracts see of it.
+    ghost State: { Type 0 };
+
+    ghost state: { Self → State };
+
+    /// How it answers, and what it becomes.
+    ghost wiring: { Wiring State };
+
+    ghost wired: { IsWired wiring };
+
+    /// Looks that see these lines take no reset, and the loop may do them.
+    ghost plain: { State → Lines → Bool };
+
+    ghost stays_plain: { StaysPlain wiring plain };
+
+    /// What notes can take back: what is left of it by what is noted.
+    ghost Kept: { Type 0 };
+
+    ghost before: { N → Self → Kept };
+
+    /// There is always room for a note.
+    ghost endless: { Bool };
+
+    /// For how many notes there is room at least.
+    ghost room: { N → ℕ };
+
+    /// Where writes are noted each access takes one cycle.
+    ghost even: { endless ≡ false → (b : State) (t : ℕ) (c : Cycle) → wiring.takes b t c ≡ wiring.cycle b };
+
+    /// A cycle, in ticks.
+    fn cycle(&self) -> u64
+        ensures value { result ≡ wiring.cycle (state self.now) }
+        ensures some { 2 ≤ result }
+        ensures bound { result ≤ 6 };
+
+    /// Does all device steps below `t`.
+    fn close(&mut self, t: u64)
+        requires low { wiring.closed (state self.old) ≤ t }
+        requires room { t < 2 ^ 48 }
+        ensures closed { state self.new ≡ wiring.close (state self.old) t }
+        ensures kept { (notes : N) → before notes self.new ≡ before notes self.old };
+
+    /// The tick of the first break, or the last number where none is left: before it none is pending, and from it on one is.
+    fn break_tick(&self) -> u64
+        ensures none { (t : ℕ) → t < result → wiring.pending (state self.now) t ≡ false }
+        ensures some { (t : ℕ) → result ≤ t → t < 2 ^ 63 → wiring.pending (state self.now) t ≡ true };
+
+    /// Whether looks that see these lines are plain.
+    fn is_plain(&self, lines: &Lines) -> bool
+        ensures { result ≡ plain (state self.now) lines.now };
+
+    /// The device steps below this tick are done.
+    fn closed(&self) -> u64
+        ensures { result ≡ wiring.closed (state self.now) };
+
+    /// Takes every break that is pending at tick `t`, with the devices closed behind it.
+    fn take_break(&mut self, t: u64)
+        requires low { wiring.closed (state self.old) ≤ t + 1 }
+        requires room { t < 2 ^ 40 }
+        requires pending { wiring.pending (state self.old) t ≡ true }
+        ensures { state self.new ≡ wiring.broken (wiring.close (state self.old) (t + 1)) t };
+
+    /// Whether a look that sees these lines is to take a reset.
+    fn resets(&self, lines: &Lines) -> bool
+        ensures { result ≡ wiring.resets (state self.now) lines.now };
+
+    /// A look that finds the processor held.
+    fn hold(&mut self)
+        ensures held { state self.new ≡ wiring.held (state self.old) }
+        ensures kept { (notes : N) → before notes self.new ≡ before notes self.old };
+
+    /// A look at which a reset begins.
+    fn reset(&mut self, lines: &Lines)
+        ensures { state self.new ≡ wiring.reset (state self.old) lines.now };
+
+    /// Any other look.
+    fn take(&mut self, lines: &Lines) -> Interrupts
+        requires { wiring.resets (state self.old) lines.now ≡ false }
+        ensures nmi { result.nmi ≡ wiring.nmi (state self.old) lines.now }
+        ensures irq { result.irq ≡ wiring.irq (state self.old) lines.now }
+        ensures taken { state self.new ≡ wiring.taken (state self.old) lines.now };
+
+    /// The same, where it is plain.
+    fn take_plain(&mut self, lines: &Lines) -> Interrupts
+        requires { plain (state self.old) lines.now ≡ true }
+        ensures nmi { result.nmi ≡ wiring.nmi (state self.old) lines.now }
+        ensures irq { result.irq ≡ wiring.irq (state self.old) lines.now }
+        ensures taken { state self.new ≡ wiring.taken (state self.old) lines.now }
+        ensures kept { (notes : N) → before notes self.new ≡ before notes self.old };
+
+    /// An access that the Tube answered.
+    fn answered(&mut self, cycle: Cycle)
+        requires { IsAtTube wiring cycle }
+        ensures after { state self.new ≡ wiring.after (state self.old) cycle }
+        ensures fast { (t : ℕ) → wiring.takes (state self.old) t cycle ≡ wiring.cycle (state self.old) }
+        ensures closed { wiring.closed (state self.new) ≡ wiring.closed (state self.old) };
+
+    /// Does an access at tick `t` that takes one cycle and few tests, and gives its byte, or 0 for a write. Any other is left. It may leave the bus
+    /// as far as it is closed.
+    fn quick(&mut self, t: u64, cycle: Cycle, notes: &mut N) -> Option<u8>
+        requires closed { wiring.closed (state self.old) ≤ t + 1 }
+        requires room { t < 2 ^ 40 }
+        ensures closed { wiring.closed (state self.new) ≤ t + 1 }
+        ensures done { IsQuick wiring (state self.old) t cycle result (state self.new) }
+        ensures noted { before notes.new self.new ≡ before notes.old self.old }
+        ensures room { room notes.old ≤ room notes.new + 1 }
+        ensures still { result ≡ None → notes.new ≡ notes.old };
+
+    /// Does any access at tick `t`, or tells what it asks of the Tube.
+    fn exchange(&mut self, t: u64, cycle: Cycle, notes: &mut N) -> Result<Done, Unable>
+        requires closed { wiring.closed (state self.old) ≤ t + 1 }
+        requires room { t < 2 ^ 40 }
+        ensures closed { IfOk result (λ done. wiring.closed (state self.new) ≡ t + 1) }
+        ensures bound { IfOk result (λ done. done.ticks ≤ 18) }
+        ensures done { IsExchanged wiring (state self.old) t cycle result (state self.new) }
+        ensures noted { before notes.new self.new ≡ before notes.old self.old }
+        ensures room { room notes.old ≤ room notes.new + 1 }
+        ensures full { result ≡ Err Unable.Full → (endless ≡ false) × (room notes.old ≡ 0) };
+}

@@ -1,0 +1,114 @@
+//! The processors.
+ghost use Rattle.std.specs.Prelude.{◌≡◌, ◌↔◌, IsTrue, IsSome, IsNone, Some};
+ghost use Rattle.op_table.specs.declared.Part.{Part};
+ghost use Rattle.op_table.specs.declared.Part.TheVariants.{Nmos, Cmos};
+ghost use Rattle.cpu_core.specs.State.{State};
+ghost use Rattle.cpu_core.specs.Sequences.{next_cycle, after_byte, halted, HasEnded, after, sequence_at_look, fresh};
+ghost use Rattle.cpu_core.specs.declared.Sequence.TheVariants.{Reset};
+
+use cpu_alu::Cycle;
+
+/// A processor that does one access to the bus in each cycle. Contracts see its state, and which part it is.
+pub trait Processor: Drop {
+    ghost core: { Self → State };
+
+    ghost part: { Part };
+
+    /// The access of the cycle in progress.
+    fn want(&self) -> Cycle
+        requires { IsSome (next_cycle part (core self.now)) }
+        ensures { next_cycle part (core self.now) ≡ Some result };
+
+    /// The cycle in progress is done, with the byte that was read.
+    fn give(&mut self, byte: u8)
+        requires { IsSome (next_cycle part (core self.old)) }
+        ensures { core self.new ≡ after_byte part (core self.old) byte };
+
+    /// Whether the cycle just given was the last of its sequence.
+    fn last(&self) -> bool
+        ensures { IsTrue result ↔ IsNone (next_cycle part (core self.now)) };
+
+    /// Whether an opcode without an instruction has halted it.
+    fn halted(&self) -> bool
+        ensures { result ≡ halted part (core self.now) };
+
+    /// The look at the lines: an NMI begins, else an IRQ if the flag I is clear, else the next instruction.
+    fn take_lines(&mut self, nmi: bool, irq: bool)
+        requires { IsNone (next_cycle part (core self.old)) }
+        ensures { core self.new ≡ fresh (sequence_at_look nmi irq (after part (core self.old))) (after part (core self.old)) };
+
+    /// A reset begins in place of the look, or where it is halted.
+    fn begin_reset(&mut self)
+        requires { HasEnded part (core self.old) }
+        ensures { core self.new ≡ fresh Reset (after part (core self.old)) };
+}
+
+impl Processor for cpu6502::Cpu {
+    ghost core = { λ c. c };
+
+    ghost part = { Nmos };
+
+    #[inline(always)]
+    fn want(&self) -> Cycle {
+        self.want()
+    }
+
+    #[inline(always)]
+    fn give(&mut self, byte: u8) {
+        self.give(byte);
+    }
+
+    #[inline(always)]
+    fn last(&self) -> bool {
+        self.last()
+    }
+
+    #[inline(always)]
+    fn halted(&self) -> bool {
+        self.halted()
+    }
+
+    #[inline(always)]
+    fn take_lines(&mut self, nmi: bool, irq: bool) {
+        self.take_lines(nmi, irq);
+    }
+
+    fn begin_reset(&mut self) {
+        self.begin_reset();
+    }
+}
+
+impl Processor for cpu65c02::Cpu {
+    ghost core = { λ c. c };
+
+    ghost part = { Cmos };
+
+    #[inline(always)]
+    fn want(&self) -> Cycle {
+        self.want()
+    }
+
+    #[inline(always)]
+    fn give(&mut self, byte: u8) {
+        self.give(byte);
+    }
+
+    #[inline(always)]
+    fn last(&self) -> bool {
+        self.last()
+    }
+
+    #[inline(always)]
+    fn halted(&self) -> bool {
+        false
+    }
+
+    #[inline(always)]
+    fn take_lines(&mut self, nmi: bool, irq: bool) {
+        self.take_lines(nmi, irq);
+    }
+
+    fn begin_reset(&mut self) {
+        self.begin_reset();
+    }
+}

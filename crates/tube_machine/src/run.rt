@@ -1,0 +1,138 @@
+//! Steps one after another, as long as they are quick accesses and plain looks that are sure of their lines. They go over the parts of the
+//! machine, with the tick of the next step beside them.
+ghost use Rattle.std.specs.Prelude.{◌≡◌, ◌≤◌, ◌<◌, ◌+◌, ◌-◌, ◌^◌, ℕ, List, [], length, None, true};
+ghost use Rattle.cpu_core.specs.Sequences.{next_cycle};
+ghost use Rattle.tube_party.specs.Moves.{Looks, shown_lines};
+ghost use Rattle.tube_machine.specs.Step.{at_of, moves_of, closed_to, after_look};
+ghost use Rattle.tube_machine.specs.Exchange.{owed_at, ready, spent, IsStop, Spends};
+
+use crate::bus::TubeBus;
+use crate::processor::Processor;
+use tube_chip::Lines;
+
+/// Where the steps leave off.
+#[derive(Clone, Copy, Debug, PartialEq, Eq)]
+pub(crate) enum Stop {
+    /// At a look that is not below the end of the run, or not sure of its lines, or not plain, or at a break in place of it.
+    Look,
+    /// At an access that is not quick, or one whose cycle could end at a break, or at that break.
+    Access,
+    /// At an access that is not below the end of the run.
+    End,
+}
+
+/// A plain look at tick `t`.
+#[inline(always)]
+pub(crate) fn see<N, P: Processor, B: TubeBus<N>>(cpu: &mut P, bus: &mut B, t: u64, lines: &Lines)
+    requires room { t < 2 ^ 40 }
+    requires before { (B.wiring).closed (B.state bus.old) ≤ t + 1 }
+    requires plain { B.plain (B.state bus.old) lines.now ≡ true }
+    requires over { next_cycle P.part (P.core cpu.old) ≡ None }
+    ensures seen { let old = at_of (P.core cpu.old) (B.state bus.old) t in
+        at_of (P.core cpu.new) (B.state bus.new) (t + 1)
+        ≡ after_look P.part B.wiring (closed_to B.wiring old (t + 1)) lines.now }
+    ensures kept { (notes : N) → B.before notes bus.new ≡ B.before notes bus.old }
+    ensures fresh { (P.core cpu.new).seen ≡ [] }
+{
+    bus.close(t + 1);
+    let interrupts = bus.take_plain(lines);
+    cpu.take_lines(interrupts.nmi, interrupts.irq);
+}
+
+// Does the device steps that quick accesses left for later: those before the access of the last cycle, if there was one since the tick
+// `caught_up`. A cycle has so many ticks.
+fn catch_up<N, B: TubeBus<N>>(bus: &mut B, cycle: u64, caught_up: u64, due: u64)
+    requires gone { caught_up < due → (0 < cycle) × (cycle ≤ due) × (due < 2 ^ 48) }
+    requires low { let closed = (B.wiring).closed (B.state bus.old) in closed ≤ owed_at cycle caught_up due closed }
+    ensures closed { let old = B.state bus.old in
+        B.state bus.new ≡ (B.wiring).close old (owed_at cycle caught_up due ((B.wiring).closed old)) }
+    ensures kept { (notes : N) → B.before notes bus.new ≡ B.before notes bus.old }
+{
+    if caught_up < due {
+        bus.close(due - (cycle - 1));
+    }
+}
+
+// The tick below which each look is plain and sees these lines.
+#[inline(always)]
+fn bound_of<N, B: TubeBus<N>>(bus: &B, until: u64, sure: u64, next_break: u64, lines: &Lines) -> u64
+    ensures until { result ≤ until }
+    ensures sure { result ≤ sure }
+    ensures free { result ≤ next_break }
+    ensures plain { 0 < result → B.plain (B.state bus.now) lines.now ≡ true }
+{
+    if !bus.is_plain(lines) {
+        return 0;
+    }
+    until.min(sure).min(next_break)
+}
+
+/// Goes on from a step at tick `from`, and gives the tick of the step at which it leaves off. It does no look at which a break is pending, and no
+/// access whose cycle could end at one.
+#[inline(always)]
+pub(crate) fn go_on<N, P: Processor, B: TubeBus<N>>(
+    cpu: &mut P,
+    bus: &mut B,
+    notes: &mut N,
+    from: u64,
+    until: u64,
+    sure: u64,
+    lines: &Lines,
+) -> (u64, Stop)
+    requires room { until ≤ 2 ^ 30 }
+    requires before { (B.wiring).closed (B.state bus.old) ≤ from + 1 }
+    ensures before { (B.wiring).closed (B.state bus.new) ≤ result.0 + 1 }
+    ensures looks { let old = at_of (P.core cpu.old) (B.state bus.old) from in
+        let new = at_of (P.core cpu.new) (B.state bus.new) result.0 in
+        (k : ℕ) × Looks (moves_of P.part B.wiring) until (shown_lines lines.now sure) k old new }
+    ensures stops { let new = at_of (P.core cpu.new) (B.state bus.new) result.0 in
+        IsStop P.part B.wiring until result.1 new }
+    ensures noted { B.before notes.new bus.new ≡ B.before notes.old bus.old }
+    ensures spends { let cycle = (B.wiring).cycle (B.state bus.old) in
+        let old = spent (ready P.part (P.core cpu.old) from) (B.room notes.old) (length (P.core cpu.old).seen) in
+        let new = spent result.0 (B.room notes.new) (length (P.core cpu.new).seen) in
+        Spends P.part cycle sure old result.1 new }
+{
+    let cycle = bus.cycle();
+    let next_break = bus.break_tick();
+    let bound = bound_of::<N, B>(bus, until, sure, next_break, lines);
+    let end = until.min(next_break.saturating_sub(cycle - 1));
+    let mut due = from;
+    if cpu.last() {
+        if due >= bound {
+            return (due, Stop::Look);
+        }
+        see::<N, P, B>(cpu, bus, due, lines);
+        due += 1;
+    }
+    // No access from this tick on has left device steps for later.
+    let mut caught_up = due;
+    while due < end {
+        match bus.quick(due, cpu.want(), notes) {
+            Some(byte) => {
+                cpu.give(byte);
+                if cpu.last() {
+                    due += cycle;
+                    if due > bound {
+                        bus.close(due - (cycle - 1));
+                        return (due - 1, Stop::Look);
+                    }
+                    see::<N, P, B>(cpu, bus, due - 1, lines);
+                    caught_up = due;
+                } else {
+                    due += cycle;
+                }
+            }
+            None => {
+                catch_up::<N, B>(bus, cycle, caught_up, due);
+                return (due, Stop::Access);
+            }
+        }
+    }
+    catch_up::<N, B>(bus, cycle, caught_up, due);
+    if due < until {
+        (due, Stop::Access)
+    } else {
+        (due, Stop::End)
+    }
+}

@@ -1,0 +1,335 @@
+//! What a machine does as a party, over its parts: the processor, the bus, and the tick of the next step.
+ghost use Rattle.std.specs.Prelude.{◌≡◌, ◌≤◌, ◌<◌, ◌+◌, ◌-◌, ◌*◌, ◌^◌, ◌&&◌, ℕ, length, IsSome, None, Some, true, false};
+ghost use Rattle.op_table.specs.declared.Part.TheVariants.{Cmos};
+ghost use Rattle.cpu_core.specs.Sequences.{next_cycle, after_byte, halted};
+ghost use Rattle.tube_chip.specs.declared.Answer.TheVariants.{Byte, Seen};
+ghost use Rattle.tube_party.specs.Moves.{Looks, Sees, IsAsk, IsAskedFor, close_leaves, shown_lines};
+ghost use Rattle.tube_machine.specs.Step.{at_of, moves_of, closed_to, next_state, is_last_tick, is_break, after_break, after_cycle};
+ghost use Rattle.tube_machine.specs.Exchange.{ready, IsDone, IsRun, IsCramped, IsAskedByte};
+
+use crate::bus::{TubeBus, Unable};
+use crate::processor::Processor;
+use crate::run::{Stop, go_on};
+use beeb_bits::Tick;
+use tube_chip::{Answer, Lines, Op};
+use tube_party::Ask;
+
+/// Where a run leaves off.
+#[derive(Clone, Copy, Debug, PartialEq, Eq)]
+pub enum Left {
+    /// At what is asked.
+    Asked(Ask),
+    /// At a look, which may be sure or not, or at a break in place of it.
+    Look,
+    /// At a write that cannot be noted.
+    Full,
+}
+
+/// What comes of the access of the next step.
+#[derive(Clone, Copy, Debug, PartialEq, Eq)]
+enum Attempt {
+    Done,
+    /// It asks the Tube.
+    Tube(Op),
+    /// It is a write that cannot be noted.
+    Full,
+}
+
+// Whether a break is pending at tick `t`.
+#[inline(always)]
+fn is_pending<N, B: TubeBus<N>>(bus: &B, t: u64) -> bool
+    requires { t < 2 ^ 63 }
+    ensures { result ≡ (B.wiring).pending (B.state bus.now) t }
+{
+    bus.break_tick() <= t
+}
+
+// Whether tick `t` is the last of a cycle of so many ticks.
+#[inline(always)]
+fn is_last_tick(cycle: u64, t: u64) -> bool
+    requires { 0 < cycle }
+    ensures { result ≡ is_last_tick cycle t }
+{
+    t % cycle == cycle - 1
+}
+
+// Whether the next step is a break step.
+#[inline(always)]
+fn is_break<N, P: Processor, B: TubeBus<N>>(cpu: &P, bus: &B, due: u64) -> bool
+    requires { due < 2 ^ 63 }
+    ensures { result ≡ is_break P.part B.wiring (at_of (P.core cpu.now) (B.state bus.now) due) }
+{
+    is_pending::<N, B>(bus, due) && (cpu.last() || cpu.halted() && is_last_tick(bus.cycle(), due))
+}
+
+// Closes the bus at a tick that is not above the next step's, or leaves it closed as far as it is.
+#[inline(always)]
+fn shut<N, P: Processor, B: TubeBus<N>>(cpu: &P, bus: &mut B, due: u64, until: Tick)
+    requires room { until.0 < 2 ^ 40 }
+    requires low { until.0 ≤ due }
+    requires before { (B.wiring).closed (B.state bus.old) ≤ due + 1 }
+    ensures before { (B.wiring).closed (B.state bus.new) ≤ due + 1 }
+    ensures shut { at_of (P.core cpu.now) (B.state bus.new) due
+        ≡ close_leaves (moves_of P.part B.wiring) (at_of (P.core cpu.now) (B.state bus.old) due) until.0 }
+    ensures kept { (notes : N) → B.before notes bus.new ≡ B.before notes bus.old }
+{
+    if bus.closed() < until.0 {
+        bus.close(until.0);
+    }
+}
+
+/// The look of the next step or the break in place of it, or none where its tick is not below `until`.
+#[inline(always)]
+pub fn look<N, P: Processor, B: TubeBus<N>>(cpu: &P, bus: &mut B, due: u64, until: Tick) -> Ask
+    requires room { until.0 < 2 ^ 40 }
+    requires over { next_cycle P.part (P.core cpu.now) ≡ None }
+    requires before { (B.wiring).closed (B.state bus.old) ≤ due + 1 }
+    ensures before { (B.wiring).closed (B.state bus.new) ≤ due + 1 }
+    ensures asks { let old = at_of (P.core cpu.now) (B.state bus.old) due in
+        let new = at_of (P.core cpu.now) (B.state bus.new) due in
+        IsAsk (moves_of P.part B.wiring) until.0 old result new }
+    ensures kept { (notes : N) → B.before notes bus.new ≡ B.before notes bus.old }
+{
+    if due < until.0 {
+        if is_break::<N, P, B>(cpu, bus, due) {
+            return Ask::Access(Tick(due), Op::Reset);
+        }
+        return Ask::Look(Tick(due));
+    }
+    shut::<N, P, B>(cpu, bus, due, until);
+    Ask::Nothing
+}
+
+// Ends the cycle of an access, of so many ticks, with the byte that was read. A processor that was halted before it has a break step at the
+// last of them, where a break is pending there. It gives the tick of the next step.
+#[inline(always)]
+fn end_cycle<N, P: Processor, B: TubeBus<N>>(
+    cpu: &mut P,
+    bus: &B,
+    due: u64,
+    byte: u8,
+    ticks: u64,
+) -> u64
+    requires room { due < 2 ^ 40 }
+    requires some { 1 < ticks }
+    requires few { ticks < 2 ^ 8 }
+    requires goes_on { IsSome (next_cycle P.part (P.core cpu.old)) }
+    ensures cycled { let old = at_of (P.core cpu.old) (B.state bus.now) due in
+        let breaks = (B.wiring).pending old.bus (due + (ticks - 1)) && halted P.part old.cpu in
+        at_of (P.core cpu.new) (B.state bus.now) result
+        ≡ after_cycle P.part B.wiring old breaks (after_byte P.part old.cpu byte) ticks }
+    ensures later { due < result }
+{
+    let last_tick = due + (ticks - 1);
+    let breaks = is_pending::<N, B>(bus, last_tick) && cpu.halted();
+    cpu.give(byte);
+    if breaks || cpu.last() {
+        last_tick
+    } else {
+        last_tick + 1
+    }
+}
+
+// The access of the next step, if it asks nothing; else what it asks. Kept out of the loop, whose frame has no room for it.
+#[inline(never)]
+fn access<N, P: Processor, B: TubeBus<N>>(
+    cpu: &mut P,
+    bus: &mut B,
+    due: &mut u64,
+    notes: &mut N,
+) -> Attempt
+    requires room { due.old < 2 ^ 32 }
+    requires goes_on { IsSome (next_cycle P.part (P.core cpu.old)) }
+    requires before { (B.wiring).closed (B.state bus.old) ≤ due.old + 1 }
+    ensures before { (B.wiring).closed (B.state bus.new) ≤ due.new + 1 }
+    ensures done { let old = at_of (P.core cpu.old) (B.state bus.old) due.old in
+        let new = at_of (P.core cpu.new) (B.state bus.new) due.new in
+        IsDone P.part B.wiring old result new }
+    ensures noted { B.before notes.new bus.new ≡ B.before notes.old bus.old }
+    ensures room { B.room notes.old ≤ B.room notes.new + 1 }
+    ensures full { result ≡ Attempt.Full → (B.endless ≡ false) × (B.room notes.old ≡ 0) }
+{
+    if is_break::<N, P, B>(cpu, bus, *due) {
+        return Attempt::Tube(Op::Reset);
+    }
+    match bus.exchange(*due, cpu.want(), notes) {
+        Ok(done) => {
+            *due = end_cycle::<N, P, B>(cpu, bus, *due, done.byte, done.ticks);
+            Attempt::Done
+        }
+        Err(Unable::Tube(op)) => Attempt::Tube(op),
+        Err(Unable::Full) => Attempt::Full,
+    }
+}
+
+/// The steps in a row, and where they leave off.
+#[inline(always)]
+pub fn carry_on<N, P: Processor, B: TubeBus<N>>(
+    cpu: &mut P,
+    bus: &mut B,
+    due: &mut u64,
+    notes: &mut N,
+    until: Tick,
+    lines: &Lines,
+    sure: Tick,
+) -> Left
+    requires room { until.0 ≤ 2 ^ 30 }
+    requires before { (B.wiring).closed (B.state bus.old) ≤ due.old + 1 }
+    ensures before { (B.wiring).closed (B.state bus.new) ≤ due.new + 1 }
+    ensures ran { let old = at_of (P.core cpu.old) (B.state bus.old) due.old in
+        let new = at_of (P.core cpu.new) (B.state bus.new) due.new in
+        IsRun P.part B.wiring until.0 lines.now sure.0 old result new }
+    ensures noted { B.before notes.new bus.new ≡ B.before notes.old bus.old }
+    ensures full { let from = ready P.part (P.core cpu.old) due.old in
+        let cramped = IsCramped ((B.wiring).cycle (B.state bus.old)) sure.0 from (B.room notes.old) in
+        result ≡ Left.Full → (B.endless ≡ false) × (P.part ≡ Cmos → cramped) }
+{
+    loop {
+        let (at, stop) = go_on::<N, P, B>(cpu, bus, notes, *due, until.0, sure.0, lines);
+        *due = at;
+        match stop {
+            Stop::Look => return Left::Look,
+            Stop::Access => match access::<N, P, B>(cpu, bus, due, notes) {
+                Attempt::Done => (),
+                Attempt::Tube(op) => return Left::Asked(Ask::Access(Tick(*due), op)),
+                Attempt::Full => return Left::Full,
+            },
+            Stop::End => {
+                shut::<N, P, B>(cpu, bus, *due, until);
+                return Left::Asked(Ask::Nothing);
+            }
+        }
+    }
+}
+
+// The break step, behind the Tube's reset.
+#[inline(never)]
+fn take_break<N, P: Processor, B: TubeBus<N>>(cpu: &mut P, bus: &mut B, due: &mut u64)
+    requires room { due.old < 2 ^ 40 }
+    requires before { (B.wiring).closed (B.state bus.old) ≤ due.old + 1 }
+    requires asked { is_break P.part B.wiring (at_of (P.core cpu.old) (B.state bus.old) due.old) ≡ true }
+    ensures before { (B.wiring).closed (B.state bus.new) ≤ due.new + 1 }
+    ensures broken { let old = at_of (P.core cpu.old) (B.state bus.old) due.old in
+        at_of (P.core cpu.new) (B.state bus.new) due.new
+        ≡ after_break P.part B.wiring (closed_to B.wiring old (due.old + 1)) }
+{
+    bus.take_break(*due);
+    cpu.begin_reset();
+    *due += 1;
+}
+
+// The Tube's answer to an access.
+#[inline(never)]
+fn take_byte<N, P: Processor, B: TubeBus<N>>(cpu: &mut P, bus: &mut B, due: &mut u64, byte: u8)
+    requires room { due.old < 2 ^ 32 }
+    requires before { (B.wiring).closed (B.state bus.old) ≤ due.old + 1 }
+    requires access { is_break P.part B.wiring (at_of (P.core cpu.old) (B.state bus.old) due.old) ≡ false }
+    requires asked { IsAskedByte P.part B.wiring (at_of (P.core cpu.old) (B.state bus.old) due.old) }
+    ensures before { (B.wiring).closed (B.state bus.new) ≤ due.new + 1 }
+    ensures taken { let old = at_of (P.core cpu.old) (B.state bus.old) due.old in
+        at_of (P.core cpu.new) (B.state bus.new) due.new
+        ≡ next_state P.part B.wiring old (Some (Byte byte)) }
+{
+    bus.close(*due + 1);
+    bus.answered(cpu.want());
+    let cycle = bus.cycle();
+    *due = end_cycle::<N, P, B>(cpu, bus, *due, byte, cycle);
+}
+
+/// The Tube's lines at a look.
+#[inline(always)]
+pub fn take_lines<N, P: Processor, B: TubeBus<N>>(
+    cpu: &mut P,
+    bus: &mut B,
+    due: &mut u64,
+    lines: &Lines,
+)
+    requires room { due.old < 2 ^ 40 }
+    requires before { (B.wiring).closed (B.state bus.old) ≤ due.old + 1 }
+    requires look { is_break P.part B.wiring (at_of (P.core cpu.old) (B.state bus.old) due.old) ≡ false }
+    requires over { next_cycle P.part (P.core cpu.old) ≡ None }
+    ensures before { (B.wiring).closed (B.state bus.new) ≤ due.new + 1 }
+    ensures taken { let old = at_of (P.core cpu.old) (B.state bus.old) due.old in
+        at_of (P.core cpu.new) (B.state bus.new) due.new
+        ≡ next_state P.part B.wiring old (Some (Seen lines.now)) }
+{
+    bus.close(*due + 1);
+    if !bus.resets(lines) {
+        let interrupts = bus.take(lines);
+        cpu.take_lines(interrupts.nmi, interrupts.irq);
+        *due += 1;
+        return;
+    }
+    if lines.prst {
+        let cycle = bus.cycle();
+        bus.hold();
+        *due += cycle;
+        return;
+    }
+    bus.reset(lines);
+    cpu.begin_reset();
+    *due += 1;
+}
+
+/// Does the steps below `until` that ask nothing, and with them each look below tick `sure`, which sees these lines; up to the first step that asks
+/// for more.
+#[inline(always)]
+pub fn advance_seeing<N, P: Processor, B: TubeBus<N>>(
+    cpu: &mut P,
+    bus: &mut B,
+    due: &mut u64,
+    notes: &mut N,
+    until: Tick,
+    lines: &Lines,
+    sure: Tick,
+) -> Ask
+    requires room { until.0 ≤ 2 ^ 30 }
+    requires before { (B.wiring).closed (B.state bus.old) ≤ due.old + 1 }
+    requires endless { B.endless ≡ true }
+    ensures before { (B.wiring).closed (B.state bus.new) ≤ due.new + 1 }
+    ensures sees { let old = at_of (P.core cpu.old) (B.state bus.old) due.old in
+        let new = at_of (P.core cpu.new) (B.state bus.new) due.new in
+        Sees (moves_of P.part B.wiring) until.0 (shown_lines lines.now sure.0) old result new }
+{
+    loop {
+        match carry_on::<N, P, B>(cpu, bus, due, notes, until, lines, sure) {
+            Left::Asked(ask) => return ask,
+            Left::Look => {
+                if *due >= until.0.min(sure.0) || is_break::<N, P, B>(cpu, bus, *due) {
+                    return look::<N, P, B>(cpu, bus, *due, until);
+                }
+                take_lines::<N, P, B>(cpu, bus, due, lines);
+            }
+            Left::Full => unreachable!(),
+        }
+    }
+}
+
+/// Does the step that asks.
+#[inline(always)]
+pub fn answer<N, P: Processor, B: TubeBus<N>>(
+    cpu: &mut P,
+    bus: &mut B,
+    due: &mut u64,
+    answer: Answer,
+)
+    requires room { due.old < 2 ^ 32 }
+    requires before { (B.wiring).closed (B.state bus.old) ≤ due.old + 1 }
+    requires asked { let old = at_of (P.core cpu.old) (B.state bus.old) due.old in
+        IsAskedFor (moves_of P.part B.wiring) 1073741824 old answer }
+    ensures before { (B.wiring).closed (B.state bus.new) ≤ due.new + 1 }
+    ensures taken { let old = at_of (P.core cpu.old) (B.state bus.old) due.old in
+        at_of (P.core cpu.new) (B.state bus.new) due.new
+        ≡ next_state P.part B.wiring old (Some answer) }
+{
+    match answer {
+        Answer::Byte(byte) => {
+            if is_break::<N, P, B>(cpu, bus, *due) {
+                take_break::<N, P, B>(cpu, bus, due);
+            } else {
+                take_byte::<N, P, B>(cpu, bus, due, byte);
+            }
+        }
+        Answer::Seen(lines) => take_lines::<N, P, B>(cpu, bus, due, &lines),
+    }
+}
