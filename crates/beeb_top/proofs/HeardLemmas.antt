@@ -88,13 +88,9 @@ one_output o name is = rw is (record { front = []; is = refl })
 outputs_end : (l : Left) (name : List ℕ) → l.names.wav ≡ Some name → EndsIn Sound (machine_outputs l)
 unfolding machine_outputs
 outputs_end l name is =
-    behind Sound (Report ∷ []) _
-    (behind Sound (if_there (Memory Host) l.host) _
-    (behind Sound (if_there (Memory Para) l.para) _
-    (behind Sound (of_host discs l.host) _
-    (behind Sound (of_host shots l.host) _
-    (behind Sound (if_there Trace l.kept) _
-    (behind Sound (of_host spills l.host) _ (one_output l.names.wav name is)))))))
+    let front : List Output = Report ∷ (if_there (Memory Host) l.host ++ if_there (Memory Para) l.para ++ of_host discs l.host ++ of_host shots l.host
+    ++ if_there Trace l.kept ++ of_host spills l.host) in
+    behind Sound front (if_there Sound l.names.wav) (one_output l.names.wav name is)
 
 sound_is : (l : Left) (s : HostState) (name : List ℕ) → l.host ≡ Some s → l.names.wav ≡ Some name → file_of l Sound ≡ (name, sound_bytes l.clock l.ticks s)
 sound_is l s name host wav = rw (host, wav) refl
@@ -134,7 +130,7 @@ module _ (plugs : List Plug) (ticks : ℕ) (out : List ℕ) (given : Values) (na
       (λ m. kept_verdict (clock_of given) ticks keep (names_of out given) (reference host_moves para_moves m.0 m.1 ticks)) v refl comes in
       let w : Worlds HostState ParaState = reference host_moves para_moves got.0.0 got.0.1 ticks in (
         w.host,
-        rw got.1 refl,
+        ap (λ (r : Result (HostState × ParaState) (Refusal Cause)). r >>= λ m. Ok (reference host_moves para_moves m.0 m.1 ticks).host) got.1,
         left_heard (both_left (clock_of given) ticks (length (accesses w.list)) (names_of out given) w.host w.para (kept_of (clock_of given) keep w.list))
             w.host name old new refl wav (is ∙ ap (λ (x : Verdict Ending). put_all x.files old) got.2),
       )
@@ -151,7 +147,7 @@ module _ (plugs : List Plug) (ticks : ℕ) (out : List ℕ) (given : Values) (na
       let right = right_trace (wrong got.0.0) (verdict_of_end (after got.0.0) e) fine in
       let there = no_place (after got.0.0) e.machine e.place (fine ∙ ap (λ (x : Verdict Ending). x.ending) right) in (
         e.machine,
-        rw got.1 refl,
+        ap (λ (r : Result (List Entry × HostState) (Refusal Cause)). r >>= λ m. Ok (replay_of host_moves Host m.0 ticks m.1).machine) got.1,
         left_heard (left (side_count Host ticks got.0.0) e.machine) e.machine name old new refl wav
             (is ∙ ap (λ (x : Verdict Ending). put_all x.files old) (got.2 ∙ right ∙ there)),
       )

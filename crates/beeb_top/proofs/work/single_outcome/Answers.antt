@@ -4,6 +4,7 @@ use Rattle.beeb_stages.specs.Plan.{Verdict}
 use Rattle.beeb_stages.specs.declared.stop.Refusal.{Refusal}
 use Rattle.beeb_status.specs.declared.status.Ending.{Ending}
 use Rattle.beeb_status.specs.declared.status.Cause.{Cause}
+use Rattle.beeb_outcome.specs.Names.{names_of}
 use Rattle.beeb_outcome.specs.View.{verdict_of}
 use Rattle.beeb_words.specs.Reads.{reads}
 use Rattle.beeb_words.specs.View.{seen_command, seen_given}
@@ -33,5 +34,6 @@ pub returns-in-Replay : goal.returns-in-Replay
 returns-in-Replay g c =
     rw c.in-Replay.is
     (subst (λ (i : Inputs). Gives (verdict_of g.D.BusDevice.plug) c.replay_outcome.result
-    (replay_after (setup_of (seen_given c.in-Replay.given) (map g.D.BusDevice.plug c.args.plugs.items)) c.in-Replay.side c.in-Replay.ticks c.in-Replay.out.now i))
-    c.in_ok-inputs.ensures (rw c.of-setup.ensures at c.replay_outcome.ensures))
+    (replay_after (setup_of (seen_given c.in-Replay.given) (map g.D.BusDevice.plug c.args.plugs.items)) c.in-Replay.side c.in-Replay.ticks
+    (names_of c.in-Replay.out.now (seen_given c.in-Replay.given)) i))
+    c.in_ok-inputs.ensures (rw (c.of-setup.ensures, c.of-names.ensures) at c.replay_outcome.ensures))
