@@ -1,0 +1,5 @@
+pub mod Loop
+pub mod Standing
+pub mod PartLaws
+pub mod EntryLaws
+pub mod FileLaws

@@ -1,0 +1,6 @@
+pub mod Fields
+pub mod Saved
+pub mod Parts
+pub mod Entries
+pub mod File
+pub mod Laws
