@@ -86,10 +86,11 @@ impl<D: BusDevice> TubeBus<()> for HostBus<D> {
         self.bus.break_tick()
     }
 
-    #[inline(always)]
     fn take_break(&mut self, t: u64) {
-        self.bus.take_break(Tick(t));
-        self.nmis = self.bus.nmis_now();
+        if self.bus.break_pending(Tick(t)) {
+            self.bus.take_break(Tick(t));
+            self.nmis = self.bus.nmis_now();
+        }
     }
 
     #[inline(always)]

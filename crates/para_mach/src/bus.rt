@@ -88,9 +88,7 @@ impl<N: Notes> TubeBus<N> for ParaBus {
         u64::MAX
     }
 
-    fn take_break(&mut self, _t: u64) {
-        unreachable!()
-    }
+    fn take_break(&mut self, _t: u64) {}
 
     #[inline(always)]
     fn is_plain(&self, lines: &Lines) -> bool {

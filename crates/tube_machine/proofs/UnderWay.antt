@@ -1,5 +1,5 @@
 -- A machine, of which device steps are owed: it stands for the one in which they are done.
-use Rattle.std.proofs.Common.{◌≡◌, ◌≤◌, ◌<◌, ◌∙◌, ◌+◌, ◌-◌, ◌⊎◌, inl, inr, refl, sym, ap, subst, ℕ, suc, Bool, true, false, ◌&&◌, ◌||◌, is_none, Option, Some, None, IsSome, arith, if◌then◌else◌}
+use Rattle.std.proofs.Common.{◌≡◌, ◌≤◌, ◌<◌, ◌∙◌, ◌+◌, ◌-◌, ◌⊎◌, inl, inr, refl, sym, ap, subst, ℕ, suc, Bool, true, false, ◌&&◌, is_none, Option, Some, None, IsSome, arith, if◌then◌else◌}
 use Rattle.std.proofs.lemmas.Bool.{lt-ltb, le-ltb}
 use Rattle.op_table.specs.declared.names.Part.{Part}
 use Rattle.cpu_alu.specs.declared.Cycle.{Cycle}
@@ -9,14 +9,11 @@ use Rattle.cpu_core.specs.declared.Sequence.TheVariants.{Instruction, Reset, Nmi
 use Rattle.cpu_core.specs.State as cpu
 use Rattle.cpu_core.specs.Sequences.{next_cycle, after_byte, halted, after, sequence_at_look, fresh}
 use Rattle.tube_chip.specs.declared.Lines.{Lines}
-use Rattle.tube_chip.specs.declared.Answer.{Answer}
 use Rattle.tube_chip.specs.declared.Answer.TheVariants.{Seen}
-use Rattle.tube_chip.specs.declared.Op.TheVariants as op
-use Rattle.tube_chip.specs.Act.{access}
 use Rattle.tube_party.specs.Moves.{Looks, shown_lines}
 use Rattle.tube_party.specs.Steps.{silent_last, look_last}
 use Rattle.tube_machine.specs.Wiring.{Wiring, IsWired, StaysPlain}
-use Rattle.tube_machine.specs.Step.{At, at_of, is_last_tick, is_break, after_break, begin_leaves, after_held_cycle, asks, asks_by, byte_of, after_cycle, after_step, closed_to, next_state, after_look, moves_of}
+use Rattle.tube_machine.specs.Step.{At, at_of, is_break, begin_leaves, after_held_cycle, asks_by, byte_of, after_cycle, after_step, closed_to, next_state, after_look, moves_of}
 use Rattle.tube_machine.specs.Lawful.{break_closed, next_closed}
 use Rattle.tube_machine.specs.NoBreak.{no-break, plain-asks, plain-next}
 use Rattle.tube_machine.specs.Exchange.{IsQuick, owed_at}

@@ -89,12 +89,12 @@ pub trait TubeBus<N>: Drop {
     fn closed(&self) -> u64
         ensures { result ≡ wiring.closed (state self.now) };
 
-    /// Takes every break that is pending at tick `t`, with the devices closed behind it.
+    /// Takes every break that is pending at tick `t`, if one is, with the devices closed behind it.
     fn take_break(&mut self, t: u64)
         requires low { wiring.closed (state self.old) ≤ t + 1 }
         requires room { t < 2 ^ 40 }
-        requires pending { wiring.pending (state self.old) t ≡ true }
-        ensures { state self.new ≡ wiring.broken (wiring.close (state self.old) (t + 1)) t };
+        ensures { wiring.pending (state self.old) t ≡ true →
+            state self.new ≡ wiring.broken (wiring.close (state self.old) (t + 1)) t };
 
     /// Whether a look that sees these lines is to take a reset.
     fn resets(&self, lines: &Lines) -> bool
