@@ -16,13 +16,13 @@ step_time v = if v % 4 == 0 then 6000 else if v % 4 == 1 then 12000 else if v % 
 
 -- So many steps of the selected head in a direction. They take their whole time, but at least one microsecond. Bit 2 asks for
 -- verification.
-abbrev pub motion_of : ℕ → ℕ → Bool → TrackChange → State → Command
-motion_of v steps inward track s =
+abbrev pub head_motion : ℕ → ℕ → Bool → TrackChange → State → Command
+head_motion v steps inward track s =
     Moving (record { drive = drive_or_0 (drive_selected s.latch); steps = steps; inward = inward; track = track; verifies = bit v 2 }) (max 1 (steps * step_time v))
 
 -- 0x, restore: to track 0
 abbrev pub restore : ℕ → State → Command
-restore v s = motion_of v (head_selected s) false (Becomes 0) s
+restore v s = head_motion v (head_selected s) false (Becomes 0) s
 
 -- by how much two numbers differ
 abbrev pub difference : ℕ → ℕ → ℕ
@@ -30,11 +30,11 @@ difference a b = max a b - min a b
 
 -- 1x, seek: as many steps as the data and track registers differ, in the direction of that difference
 abbrev pub seek : ℕ → State → Command
-seek v s = motion_of v (difference s.byte s.track) (nat_lt s.track s.byte) (Becomes s.byte) s
+seek v s = head_motion v (difference s.byte s.track) (nat_lt s.track s.byte) (Becomes s.byte) s
 
 -- 2x to 7x: one step. The track register follows it where bit 4 is set.
 abbrev pub step_once : ℕ → Bool → State → Command
-step_once v inward s = motion_of v 1 inward (if bit v 4 then Follows else Stays) s
+step_once v inward s = head_motion v 1 inward (if bit v 4 then Follows else Stays) s
 
 -- 2x and 3x step in the last direction, 4x and 5x inward, 6x and 7x outward
 abbrev pub motion_of : ℕ → State → Command

@@ -1,6 +1,6 @@
 //! Type I commands.
 ghost use Rattle.std.specs.Prelude.{◌≡◌, ◌≤◌, ◌<◌};
-ghost use Rattle.wd1770.specs.Motion.{step_time, motion_of, restore, difference, seek, step_once, head_after, track_after, move_leaves, motion_step};
+ghost use Rattle.wd1770.specs.Motion.{step_time, head_motion, restore, difference, seek, step_once, motion_of, head_after, track_after, move_leaves, motion_step};
 
 use crate::command::{Command, Motion, TrackChange};
 use crate::controller::Controller;
@@ -50,7 +50,7 @@ impl Controller {
 
     // So many steps of the selected head.
     fn moving(&self, v: u8, steps: u8, inward: bool, track: TrackChange) -> Command
-        ensures { result ≡ motion_of v steps inward track self.now }
+        ensures { result ≡ head_motion v steps inward track self.now }
     {
         let motion = Motion {
             drive: drive_or_0(drive_selected(self.latch)),
