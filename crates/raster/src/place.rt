@@ -75,7 +75,9 @@ impl Place {
 
     /// It goes down so many lines of a character each, some of which begin vertical sync.
     pub(crate) fn rest(&mut self, n: u64, done: Finished)
-        ensures place { self.new ≡ record self.old { y = min (if done.frames == 0 then self.old.y + n else done.past) 1023 } }
+        ensures place { self.new ≡ record self.old {
+          y = min (if done.frames == 0 then self.old.y + n else done.past) 1023;
+        } }
         ensures bound { self.old.y ≤ 1023 }
     {
         if done.frames == 0 {
