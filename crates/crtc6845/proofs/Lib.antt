@@ -7,6 +7,7 @@ pub mod Addresses
 pub mod SyncHeight
 pub mod Rest
 pub mod Rests
+pub mod RestsOn
 pub mod Calm
 pub mod CalmClocks
 pub mod Spans

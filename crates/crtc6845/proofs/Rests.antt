@@ -27,6 +27,8 @@ pub record Facts (c : State) : Type 0 where
   pub rows : (c.row == c.registers.vertical_total) ≡ true
   pub none : (c.registers.vertical_adjust == 0) ≡ true
   pub base : c.base ≡ start_address c.registers
+  pub hidden : c.registers.horizontal_displayed ≡ 0
+  pub last : is_last_line_in c.adjust c ≡ true
 
 eq_of : (a b : ℕ) → (a == b) ≡ true → a ≡ b
 eq_of a b h = grind (arith, nat_tests)
@@ -76,6 +78,8 @@ facts c h =
       rows = and_right (is_row_done c) (c.row == c.registers.vertical_total) rows;
       none = and_right (is_row_done c && c.row == c.registers.vertical_total) (c.registers.vertical_adjust == 0) ends;
       base = eq_of _ _ (and_right p6 base h);
+      hidden = eq_of _ _ (and_right p1 (c.registers.horizontal_displayed == 0) h2);
+      last = and_right p5 last h6;
     }
 
 same_place : (c : State) (character row raster base : ℕ) (adjust : Option ℕ) → c.character ≡ character → c.row ≡ row → c.raster ≡ raster → c.base ≡ base → c.adjust ≡ adjust →
@@ -88,7 +92,7 @@ same_place c character row raster base adjust e1 e2 e3 e4 e5 =
     ∙ ap (λ (n : Option ℕ). record c { adjust = n }) (sym e5)
 
 -- the line ends, and the next finds all as it was
-counted_rest : (c : State) → is_quiet c ≡ true → count_leaves c ≡ c
+pub counted_rest : (c : State) → is_quiet c ≡ true → count_leaves c ≡ c
 counted_rest c h =
     let f = facts c h in
     let z : State = record c { character = 0 } in

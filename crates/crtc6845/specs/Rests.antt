@@ -1,7 +1,8 @@
 -- What several clocks tell of the frames that they finish.
-use Rattle.std.specs.Prelude.{ℕ, zero, suc, ◌+◌, ◌-◌, ◌/◌, ◌%◌, ◌^◌, if◌then◌else◌}
+use Rattle.std.specs.Prelude.{ℕ, zero, suc, ◌+◌, ◌-◌, ◌/◌, ◌%◌, ◌^◌, ◌≡◌, true, if◌then◌else◌}
 use Rattle.crtc6845.specs.State.{State}
-use Rattle.crtc6845.specs.Clock.{sync_height, finishes_frame, clock_leaves}
+use Rattle.crtc6845.specs.Clock.{sync_height, finishes_frame, clock_leaves, beam_of}
+use Rattle.crtc6845.specs.CodeSteps.{is_quiet, quiet_beam}
 
 -- how many of the next n clocks finish a frame
 abbrev pub frames_in : ℕ → State → ℕ
@@ -20,3 +21,12 @@ sync_after past c = record c {
   sync_lines = sync_height c.registers - past % sync_height c.registers;
   fields = (c.fields + 1 + past / sync_height c.registers) % 2 ^ 32;
 }
+
+-- A clock of a chip at rest leaves all but vertical sync, so that the chip is quiet again, and tells what each such clock tells.
+pub record RestsOn (c : State) : Type 0 where
+  pub rest : is_quiet (clock_leaves c) ≡ true
+  pub stays : clock_leaves c ≡ record c { sync_lines = (clock_leaves c).sync_lines; fields = (clock_leaves c).fields }
+  pub told : beam_of c ≡ quiet_beam (finishes_frame c) (clock_leaves c)
+
+abbrev pub ClocksAtRestAreAlike : Type 0
+ClocksAtRestAreAlike = (c : State) → is_quiet c ≡ true → RestsOn c

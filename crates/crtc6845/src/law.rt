@@ -1,5 +1,6 @@
 //! Laws over whole frames.
 ghost use Rattle.crtc6845.specs.Laws.{LinesHaveTheirCharacters, SyncComesInEachLine, FramesHaveTheirClocks};
+ghost use Rattle.crtc6845.specs.Rests.{ClocksAtRestAreAlike};
 ghost use Rattle.crtc6845.specs.Pictures.{VerticalSyncComesInEachFrame, NoSyncBeyondTheRows, VerticalSyncHasItsLines, ShownAddressesCount};
 
 /// A line has R0 + 1 characters.
@@ -38,4 +39,9 @@ pub fn shown_addresses_count()
 /// the frame.
 pub fn vertical_sync_has_its_lines()
     ensures { VerticalSyncHasItsLines }
+{}
+
+/// A clock of a chip at rest leaves all but vertical sync, and tells what each such clock tells.
+pub fn clocks_at_rest_are_alike()
+    ensures { ClocksAtRestAreAlike }
 {}

@@ -12,9 +12,9 @@ mod shown;
 
 pub use crtc::Crtc;
 pub use law::{
-    frames_have_their_clocks, lines_have_their_characters, no_sync_beyond_the_rows,
-    shown_addresses_count, sync_comes_in_each_line, vertical_sync_comes_in_each_frame,
-    vertical_sync_has_its_lines,
+    clocks_at_rest_are_alike, frames_have_their_clocks, lines_have_their_characters,
+    no_sync_beyond_the_rows, shown_addresses_count, sync_comes_in_each_line,
+    vertical_sync_comes_in_each_frame, vertical_sync_has_its_lines,
 };
 
 /// What one character clock tells.

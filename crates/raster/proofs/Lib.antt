@@ -5,3 +5,4 @@ pub mod Eights
 pub mod Told
 pub mod Quiet
 pub mod ReadBytes
+pub mod RestMany

@@ -15,13 +15,13 @@ use Rattle.raster.specs.Clock.{begin_leaves, pass_leaves, tell_leaves, char_cloc
 use Rattle.raster.specs.CodeQuiet.{IsQuiet}
 use Rattle.raster.proofs.Told.{told_after}
 
-sixteen : (control : ℕ) → bit control 4 ≡ false → dots_of control ≡ 16
+pub sixteen : (control : ℕ) → bit control 4 ≡ false → dots_of control ≡ 16
 sixteen control h = rw h refl
 
-one_clock : (b : Bool) (x y : State) → b ≡ false → y ≡ (if b then x else y)
+pub one_clock : (b : Bool) (x y : State) → b ≡ false → y ≡ (if b then x else y)
 one_clock b x y h = rw h refl
 
-cursor_far : (c : Cursor) → c ≡ first_cursor → c ≡ cursor_past false c
+pub cursor_far : (c : Cursor) → c ≡ first_cursor → c ≡ cursor_past false c
 cursor_far c h = rw h refl
 
 -- how far along its line a character clock leaves the beam

@@ -1,9 +1,9 @@
 //! The place of the beam.
-ghost use Rattle.std.specs.Prelude.{◌≡◌, ◌+◌, min, if◌then◌else◌};
+ghost use Rattle.std.specs.Prelude.{◌≡◌, ◌+◌, ◌≤◌, ◌==◌, min, if◌then◌else◌};
 ghost use Rattle.raster.specs.Beam.{place_at, place_past};
 ghost use Rattle.raster.specs.State.{first_place};
 
-use crtc6845::Beam;
+use crtc6845::{Beam, Finished};
 use std::marker::Model;
 
 /// A number of lines that the beam's count does not pass.
@@ -71,6 +71,21 @@ impl Place {
         if self.y < MOST_LINES {
             self.y += 1;
         }
+    }
+
+    /// It goes down so many lines of a character each, some of which begin vertical sync.
+    pub(crate) fn rest(&mut self, n: u64, done: Finished)
+        ensures place { self.new ≡ record self.old {
+          y = min (if done.frames == 0 then self.old.y + n else done.past) 1023;
+        } }
+        ensures bound { self.old.y ≤ 1023 }
+    {
+        if done.frames == 0 {
+            self.y = u64::from(self.y).saturating_add(n).min(1023) as u16;
+            return;
+        }
+        let _ = &self.y;
+        self.y = done.past.min(1023) as u16;
     }
 
     /// Horizontal sync begins.

@@ -141,6 +141,19 @@ impl Raster {
         requires size { IsScreenSize size }
         ensures { self.new ≡ microseconds ram.now size font.now.font n self.old }
     {
+        if self.quiet {
+            self.screen.rest(n);
+        } else {
+            self.advance_by_steps(ram, size, font, n);
+        }
+    }
+
+    // One after the other.
+    fn advance_by_steps(&mut self, ram: &[u8], size: u16, font: &RomSet, n: u64)
+        requires ram { length ram.now ≡ 32768 }
+        requires size { IsScreenSize size }
+        ensures { self.new ≡ microseconds ram.now size font.now.font n self.old }
+    {
         for _ in 0..n {
             self.step(ram, size, font);
         }

@@ -1,16 +1,18 @@
 //! The picture's chips, and the beam over their frames.
-ghost use Rattle.std.specs.Prelude.{◌≡◌, ◌<◌, ◌%◌, ℕ, List, false, true, length, map, take, IfOk, if◌then◌else◌};
+ghost use Rattle.std.specs.Prelude.{◌≡◌, ◌<◌, ◌≤◌, ◌%◌, min, ℕ, List, false, true, length, map, take, IfOk, if◌then◌else◌};
 ghost use Rattle.beeb_bits.specs.Bits.{bit};
 ghost use Rattle.video_ula.specs.Pixels.{dots_of, under_cursor, colours};
 ghost use Rattle.crtc6845.specs.Clock.{starts_line, ends_line};
 ghost use Rattle.crtc6845.specs.CodeSteps.{is_quiet};
+ghost use Rattle.crtc6845.specs.Laws.{clocks};
+ghost use Rattle.crtc6845.specs.Rests.{frames_in, clocks_past_frame};
 ghost use Rattle.saa5050.specs.Shapes.{Font};
 ghost use Rattle.raster.specs.Beam.{IsScreenSize};
 ghost use Rattle.raster.specs.Frame.{black};
 ghost use Rattle.raster.specs.State.{power_on, first_cursor};
 ghost use Rattle.raster.specs.CodeQuiet.{IsQuiet};
 ghost use Rattle.raster.specs.CodeSteps.{eight_of, dots_drawn, cell_drawn_on};
-ghost use Rattle.raster.specs.Clock.{begin_leaves, byte_dots, draw_byte_leaves, cell_dots, draw_cell_leaves, draw_leaves, show_leaves, pass_leaves, tell_leaves, char_clock_leaves};
+ghost use Rattle.raster.specs.Clock.{begin_leaves, byte_dots, draw_byte_leaves, cell_dots, draw_cell_leaves, draw_leaves, show_leaves, pass_leaves, tell_leaves, char_clock_leaves, microseconds};
 
 use crate::beam::{Cursor, byte_address};
 use crate::canvas::Canvas;
@@ -18,7 +20,7 @@ use crate::frame::Frame;
 use crate::place::Place;
 use crate::text::Text;
 use beeb_bits::{NoMemory, bit};
-use crtc6845::{Beam, Crtc};
+use crtc6845::{Beam, Crtc, clocks_at_rest_are_alike};
 use rom_set::RomSet;
 use std::alloc::Global;
 use std::marker::Model;
@@ -131,6 +133,39 @@ impl Screen {
         self.begin(&beam);
         self.pass(&beam);
         self.stays_at(before)
+    }
+
+    /// Does `n` microseconds of a screen that is quiet.
+    pub(crate) fn rest(&mut self, n: u64)
+        requires { IsQuiet self.old }
+        ensures state { (ram : List ℕ) (size : ℕ) (font : Font) → self.new ≡ microseconds ram size font n self.old }
+        ensures quiet { IsQuiet self.new }
+    {
+        clocks_at_rest_are_alike();
+        let frames = self.fall(n);
+        if frames == 0 {
+            return;
+        }
+        self.finish();
+        if frames == 1 {
+            return;
+        }
+        self.finish();
+    }
+
+    // The 6845 and the beam's line do that, and it answers how many frames are finished.
+    fn fall(&mut self, n: u64) -> u64
+        requires { is_quiet self.old.crtc ≡ true }
+        ensures state { self.new ≡ record self.old {
+          crtc = clocks n self.old.crtc;
+          place = record self.old.place { y = min (clocks_past_frame n self.old.place.y self.old.crtc) 1023 };
+        } }
+        ensures frames { result ≡ frames_in n self.old.crtc }
+        ensures bound { self.old.place.y ≤ 1023 }
+    {
+        let done = self.crtc.rest(n);
+        self.place.rest(n, done);
+        done.frames
     }
 
     // The beam is at `x` again, and no cursor and no second character clock makes a difference.

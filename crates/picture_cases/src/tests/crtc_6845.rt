@@ -1,8 +1,8 @@
 //! Whole frames, counted character by character, beside a computation from the registers.
 use crtc6845::{
-    Beam, Crtc, Finished, Windows, frames_have_their_clocks, lines_have_their_characters,
-    no_sync_beyond_the_rows, shown_addresses_count, sync_comes_in_each_line,
-    vertical_sync_comes_in_each_frame, vertical_sync_has_its_lines,
+    Beam, Crtc, Finished, Windows, clocks_at_rest_are_alike, frames_have_their_clocks,
+    lines_have_their_characters, no_sync_beyond_the_rows, shown_addresses_count,
+    sync_comes_in_each_line, vertical_sync_comes_in_each_frame, vertical_sync_has_its_lines,
 };
 use std::process::Abort;
 
@@ -270,6 +270,7 @@ fn vertical_sync_stays_as_long_as_it_is_calm(rt: HostRuntime) {
 
 #[test]
 fn a_chip_at_rest_does_many_clocks_at_once(rt: HostRuntime) {
+    clocks_at_rest_are_alike();
     // Vertical sync has sixteen lines of one character, and the clock before these was the first of them.
     for n in [0, 1, 15, 16, 17, 31, 32, 100, 1_000_000_000_000u64] {
         let mut crtc = Crtc::new();

@@ -413,6 +413,26 @@ fn vertical_sync_stays_as_long_as_it_is_calm(rt: HostRuntime) -> Result<(), Fail
 }
 
 #[test]
+fn a_raster_at_rest_does_many_microseconds_at_once(rt: HostRuntime) -> Result<(), Fail> {
+    let mut scene = Scene {
+        raster: Raster::make(rt.alloc())?,
+        ram: vec![in rt.alloc(); 0; 32_768]?,
+        roms: roms(rt.alloc())?,
+    };
+    scene.poke(0x5800, &[0xa5]);
+    scene.advance(16, 2_000);
+    scene.advance(16, 1_000_000_000_000);
+    assert!(rt; scene.raster.vsync());
+    assert_eq!(rt; scene.raster.calm(), u64::MAX);
+    // The picture of a program comes in its place then.
+    program(&mut scene.raster, &GRAPHICS, 0x08);
+    scene.two_colours(0, 7);
+    scene.advance(16, FRAMES);
+    assert!(rt; scene.shows(0, b"7700770000770077") && scene.count(7) == 8);
+    Ok(())
+}
+
+#[test]
 fn nothing_below_the_lowest_byte_is_read(rt: HostRuntime) -> Result<(), Fail> {
     reads_go_on();
     stores_below_are_unseen();

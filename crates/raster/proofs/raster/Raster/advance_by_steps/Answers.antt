@@ -1,7 +1,7 @@
 use Rattle.std.proofs.Common.{◌≡◌, ◌∙◌, sym, ap, arith}
 use Rattle.raster.specs.Clock.{microsecond, microseconds}
 use Rattle.raster.proofs.Runs.{one_more}
-use Rattle.raster.proofs.raster.Raster.advance.Goals as goal
+use Rattle.raster.proofs.raster.Raster.advance_by_steps.Goals as goal
 
 pub loop-preserved : goal.loop-preserved
 loop-preserved c =

@@ -1,0 +1,5 @@
+use Rattle.crtc6845.proofs.RestsOn.{rests_on}
+use Rattle.crtc6845.proofs.law.clocks_at_rest_are_alike.Goals as goal
+
+pub returns : goal.returns
+returns c = rests_on
