@@ -1,6 +1,7 @@
 //! Tables of cases, by the public calls of each crate.
 mod chip;
 mod parties;
+mod sessions;
 mod shared_cell;
 mod steady;
 mod traces;

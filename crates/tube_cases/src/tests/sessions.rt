@@ -1,0 +1,242 @@
+//! Session files, whole, damaged and cut.
+use beeb_bits::{Clock, Side, Tick};
+use save_state::{Blob, Saved, StateError, decode, encode};
+use std::alloc::{AllocError, Global};
+use std::test::Fail;
+use tube_chip::Op;
+use tube_trace::Entry;
+
+/// Where the fields begin behind both ROMs: the lengths of the sixteen slots, of the font, of a disc with its kind and its bytes, of the other,
+/// of the key script with its bytes, the number of the accesses, three of them, and the end.
+const TAIL: [usize; 29] = [
+    18451, 18455, 18459, 18463, 18467, 18471, 18475, 18479, 18483, 18487, 18491, 18495, 18499,
+    18503, 18507, 18511, 18515, 18519, 18523, 18524, 18527, 18531, 18532, 18533, 18537, 18539,
+    18543, 18550, 18557,
+];
+
+/// How many bytes the file has.
+const LENGTH: usize = 18564;
+
+/// A file by hand: speed 03, tick 1000, two devices, both ROMs, a DSD of three bytes, an SSD of one, a script of two, and three accesses.
+fn file(alloc: Global) -> Result<Vec<u8>, AllocError> {
+    let mut file = Vec::new(alloc);
+    file.extend_from_slice(&[b'B', b'T', b'U', b'B', 1, 3, 0, 0, 0x03, 0xe8, 2])?;
+    file.extend_from_slice(&[0, 0, 0x40, 0])?;
+    for _ in 0..16384 {
+        file.push(0xa5)?;
+    }
+    file.extend_from_slice(&[0, 0, 8, 0])?;
+    for _ in 0..2048 {
+        file.push(0x5a)?;
+    }
+    for _ in 0..17 {
+        file.extend_from_slice(&[0xff, 0xff, 0xff, 0xff])?;
+    }
+    file.extend_from_slice(&[0, 0, 0, 3, 1, 7, 8, 9])?;
+    file.extend_from_slice(&[0, 0, 0, 1, 0, 6])?;
+    file.extend_from_slice(&[0, 0, 0, 2, b'h', b'i'])?;
+    file.extend_from_slice(&[0, 0, 0, 3])?;
+    file.extend_from_slice(&[0, 0, 0, 0, 5, 0x21, 0x48])?;
+    file.extend_from_slice(&[0, 0, 0, 0, 5, 0x86, 0x33])?;
+    file.extend_from_slice(&[0, 0, 0, 3, 0xe7, 0x40, 0])?;
+    Ok(file)
+}
+
+/// The file with these bytes from an offset on.
+fn damaged(alloc: Global, at: usize, bytes: &[u8]) -> Result<Vec<u8>, AllocError> {
+    let mut other = Vec::new(alloc);
+    for (place, byte) in file(alloc)?.iter().enumerate() {
+        let mut new = *byte;
+        for (more, damage) in bytes.iter().enumerate() {
+            if place == at.saturating_add(more) {
+                new = *damage;
+            }
+        }
+        other.push(new)?;
+    }
+    Ok(other)
+}
+
+/// The offset of the fault, if there is one.
+fn fault(alloc: Global, bytes: &[u8]) -> Option<u64> {
+    match decode(alloc, bytes) {
+        Ok(_) | Err(StateError::NoMemory) => None,
+        Err(StateError::BadField { at }) => Some(at),
+    }
+}
+
+fn same(blob: Option<&Option<Blob>>, bytes: &[u8]) -> bool {
+    match blob {
+        Some(Some(blob)) => blob.bytes() == bytes,
+        _ => false,
+    }
+}
+
+#[test]
+fn a_session_by_hand(rt: HostRuntime) -> Result<(), Fail> {
+    let bytes = file(rt.alloc())?;
+    assert_eq!(rt; bytes.len(), LENGTH);
+    let saved = decode(rt.alloc(), &bytes)?;
+    assert_eq!(rt; saved.clock, Clock::Three);
+    assert_eq!(rt; saved.ticks, Tick(1000));
+    assert_eq!(rt; saved.plugs, 2);
+    assert_eq!(rt; saved.parts.len(), 22);
+    for (place, part) in saved.parts.iter().enumerate() {
+        let is_there = place < 2 || place > 18;
+        assert_eq!(rt; part.is_some(), is_there);
+    }
+    assert!(rt; same(saved.parts.get(19), &[7, 8, 9]));
+    assert!(rt; same(saved.parts.get(20), &[6]));
+    assert!(rt; same(saved.parts.get(21), b"hi"));
+    assert_eq!(rt; saved.dsd, [true, false]);
+    let entries = [
+        Entry {
+            tick: Tick(5),
+            side: Side::Host,
+            op: Op::Write(1, 0x48),
+            answer: 0,
+        },
+        Entry {
+            tick: Tick(5),
+            side: Side::Para,
+            op: Op::Read(6),
+            answer: 0x33,
+        },
+        Entry {
+            tick: Tick(999),
+            side: Side::Host,
+            op: Op::Reset,
+            answer: 0,
+        },
+    ];
+    assert_eq!(rt; saved.entries.as_slice(), entries.as_slice());
+    let again = encode(rt.alloc(), &saved)?;
+    assert_eq!(rt; again.as_slice(), bytes.as_slice());
+    Ok(())
+}
+
+#[test]
+fn the_first_field_at_fault_is_told(rt: HostRuntime) -> Result<(), Fail> {
+    let rows: [(usize, &[u8], Option<u64>); 43] = [
+        (0, b"b", Some(0)),
+        (3, b"b", Some(0)),
+        (4, &[0], Some(4)),
+        (4, &[2], Some(4)),
+        (5, &[2], Some(5)),
+        (5, &[5], Some(5)),
+        (5, &[4], None),
+        (6, &[0x40, 0, 0, 0], None),
+        (6, &[0x40, 0, 0, 1], Some(6)),
+        (10, &[8], None),
+        (10, &[9], Some(10)),
+        (11, &[0, 0, 0x3f, 0xff], Some(11)),
+        (11, &[0xff, 0xff, 0xff, 0xff], Some(11)),
+        (16399, &[0, 0, 8, 1], Some(16399)),
+        (16399, &[0xff, 0xff, 0xff, 0xff], Some(16399)),
+        (18451, &[0, 0, 0, 0], Some(18451)),
+        (18511, &[0, 0, 0x30, 0], Some(18511)),
+        (18511, &[0, 0, 0x40, 0], Some(18564)),
+        (18511, &[0, 0, 0x20, 0], Some(18564)),
+        (18515, &[0, 0, 3, 0xbf], Some(18515)),
+        (18519, &[0, 6, 0x40, 1], Some(18519)),
+        (18523, &[2], Some(18523)),
+        // An SSD has at most 204,800 bytes: past that the kind is at fault, below it the file ends.
+        (18527, &[0, 3, 0x20, 1, 0], Some(18531)),
+        (18527, &[0, 3, 0x20, 1, 1], Some(18564)),
+        (18527, &[0, 3, 0x20, 0, 0], Some(18564)),
+        (18527, &[0, 6, 0x40, 0, 1], Some(18564)),
+        (18531, &[1], None),
+        (18533, &[0, 0x10, 0, 1], Some(18533)),
+        (18533, &[0, 0x10, 0, 0], Some(18564)),
+        (18539, &[0, 0x40, 0, 1], Some(18539)),
+        (18539, &[0, 0x40, 0, 0], Some(18564)),
+        (18539, &[0, 0, 0, 2], Some(18557)),
+        (18543, &[1], Some(18543)),
+        (18547, &[6], Some(18550)),
+        (18548, &[0x29], Some(18543)),
+        (18548, &[0x31], Some(18543)),
+        (18548, &[0x61], Some(18543)),
+        // The parasite's, and at its tick another.
+        (18548, &[0xa1], Some(18550)),
+        (18562, &[0xc0], Some(18557)),
+        (18562, &[0x41], Some(18557)),
+        (18562, &[0x40, 1], Some(18557)),
+        (18561, &[0xe8], Some(18557)),
+        (18562, &[0], None),
+    ];
+    for (at, bytes, want) in rows {
+        let other = damaged(rt.alloc(), at, bytes)?;
+        assert_eq!(rt; fault(rt.alloc(), &other), want);
+    }
+    Ok(())
+}
+
+#[test]
+fn a_file_that_ends_early_or_late(rt: HostRuntime) -> Result<(), Fail> {
+    let bytes = file(rt.alloc())?;
+    for len in 0..17 {
+        let cut = &bytes[..bytes.len().min(len)];
+        assert_eq!(rt; fault(rt.alloc(), cut), Some(cut.len() as u64));
+    }
+    for place in TAIL {
+        for less in 0..3 {
+            let len = bytes.len().min(place.saturating_sub(less));
+            assert_eq!(rt; fault(rt.alloc(), &bytes[..len]), Some(len as u64));
+        }
+    }
+    let mut longer = file(rt.alloc())?;
+    longer.push(0)?;
+    assert_eq!(rt; fault(rt.alloc(), &longer), Some(LENGTH as u64));
+    Ok(())
+}
+
+/// A file of both ROMs and 49 accesses, of which the last is the host's at 3FC.
+fn file_of_letters(alloc: Global) -> Result<Vec<u8>, AllocError> {
+    let mut file = Vec::new(alloc);
+    file.extend_from_slice(&[b'B', b'T', b'U', b'B', 1, 3, 0, 0, 0x07, 0xd0, 0])?;
+    file.extend_from_slice(&[0, 0, 0x40, 0])?;
+    for _ in 0..16384 {
+        file.push(0)?;
+    }
+    file.extend_from_slice(&[0, 0, 8, 0])?;
+    for _ in 0..2048 {
+        file.push(0)?;
+    }
+    for _ in 0..20 {
+        file.extend_from_slice(&[0xff, 0xff, 0xff, 0xff])?;
+    }
+    file.extend_from_slice(&[0, 0, 0, 49])?;
+    for place in 0..49 {
+        file.extend_from_slice(&[0, 0, 0, 3, 0xcc + place, 1, 0x49])?;
+    }
+    Ok(file)
+}
+
+#[test]
+fn a_session_of_49_accesses(rt: HostRuntime) -> Result<(), Fail> {
+    let bytes = file_of_letters(rt.alloc())?;
+    assert_eq!(rt; bytes.len(), 18878);
+    let saved = decode(rt.alloc(), &bytes)?;
+    assert_eq!(rt; saved.ticks, Tick(2000));
+    assert_eq!(rt; saved.entries.len(), 49);
+    let again = encode(rt.alloc(), &saved)?;
+    assert_eq!(rt; again.as_slice(), bytes.as_slice());
+    assert!(rt; again.as_slice().ends_with(&[0, 0, 0, 3, 0xfc, 1, 0x49]));
+    let less = bytes.len().saturating_sub(1);
+    assert_eq!(rt; fault(rt.alloc(), &bytes[..less]), Some(18877));
+    Ok(())
+}
+
+#[test]
+fn the_parts_of_a_session_are_handed_on(rt: HostRuntime) -> Result<(), Fail> {
+    let Saved { parts, .. } = decode(rt.alloc(), &file(rt.alloc())?)?;
+    let mut sizes = 0;
+    for part in parts {
+        if let Some(blob) = part {
+            let bytes = Blob::new(blob.into_bytes()).into_bytes();
+            sizes = bytes.len().saturating_add(sizes);
+        }
+    }
+    assert_eq!(rt; sizes, 16384 + 2048 + 3 + 1 + 2);
+    Ok(())
+}
