@@ -6,7 +6,7 @@ use Rattle.std.specs.Int.{div_ceil}
 use Rattle.beeb_bits.specs.declared.clock.Clock.{Clock}
 use Rattle.beeb_bits.specs.declared.clock.Clock.TheVariants.{Three, Four}
 use Rattle.beeb_bits.specs.Clock.{micro}
-use Rattle.beeb_outcome.specs.Sound.{begun}
+use Rattle.beeb_outcome.specs.Sound.{microseconds_below}
 
 whole : (a : ℕ) → a ≡ 0 → (a == 0) ≡ true
 whole a is = grind (arith, nat_tests)
@@ -14,7 +14,7 @@ whole a is = grind (arith, nat_tests)
 part : (a : ℕ) → a ≢ 0 → (a == 0) ≡ false
 part a some = grind (arith, nat_tests)
 
-of_six : (n : ℕ) → begun 6 n ≡ div_ceil n 6
+of_six : (n : ℕ) → microseconds_below 6 n ≡ div_ceil n 6
 of_six zero = refl
 of_six (suc n) =
     let before = of_six n in
@@ -23,7 +23,7 @@ of_six (suc n) =
       | inr some ↦ rw (part (n % 6) some) (omega (arith, before, some))
     ]
 
-of_twelve : (n : ℕ) → begun 12 n ≡ div_ceil n 12
+of_twelve : (n : ℕ) → microseconds_below 12 n ≡ div_ceil n 12
 of_twelve zero = refl
 of_twelve (suc n) =
     let before = of_twelve n in
@@ -32,6 +32,6 @@ of_twelve (suc n) =
       | inr some ↦ rw (part (n % 12) some) (omega (arith, before, some))
     ]
 
-pub begun_is : (clock : Clock) (n : ℕ) → begun (micro clock) n ≡ div_ceil n (micro clock)
+pub begun_is : (clock : Clock) (n : ℕ) → microseconds_below (micro clock) n ≡ div_ceil n (micro clock)
 begun_is Three n = of_six n
 begun_is Four n = of_twelve n

@@ -8,13 +8,13 @@ use Rattle.sn76489.specs.Wav.{wav}
 use Rattle.host_mach.specs.State.{HostState}
 
 -- How many microseconds begin below tick n, where each has u ticks and one begins at tick 0: as many as there are m with u m below n.
-abbrev pub begun : ℕ → ℕ → ℕ
-begun u zero = 0
-begun u (suc n) = begun u n + (if n % u == 0 then 1 else 0)
+abbrev pub microseconds_below : ℕ → ℕ → ℕ
+microseconds_below u zero = 0
+microseconds_below u (suc n) = microseconds_below u n + (if n % u == 0 then 1 else 0)
 
 -- the sound file of these writes after a run of so many ticks: the samples of a step for each microsecond
 unfoldable pub sound_file : Clock → ℕ → List SoundWrite → List ℕ
-sound_file clock ticks writes = wav (samples writes (begun (micro clock) ticks))
+sound_file clock ticks writes = wav (samples writes (microseconds_below (micro clock) ticks))
 
 -- the writes of a host
 abbrev pub sound_writes : HostState → List SoundWrite

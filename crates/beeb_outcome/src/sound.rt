@@ -3,7 +3,7 @@ ghost use Rattle.std.specs.Prelude.{◌≡◌, ◌≤◌, ◌^◌, IfOk};
 ghost use Rattle.beeb_bits.specs.Clock.{micro};
 ghost use Rattle.sn76489.specs.Samples.{NeverFallFrom};
 ghost use Rattle.host_mach.specs.View.{host_seen};
-ghost use Rattle.beeb_outcome.specs.Sound.{begun, sound_file, sound_bytes};
+ghost use Rattle.beeb_outcome.specs.Sound.{microseconds_below, sound_file, sound_bytes};
 
 use beeb_bits::{Clock, Tick};
 use bus_plug::BusDevice;
@@ -13,9 +13,9 @@ use std::alloc::{AllocError, Global};
 use tube_party::MOST;
 
 // How many microseconds begin below tick `n`.
-fn begun(clock: Clock, n: Tick) -> u64
+fn microseconds_below(clock: Clock, n: Tick) -> u64
     requires { n.0 ≤ MOST }
-    ensures value { result ≡ begun (micro clock) n.0 }
+    ensures value { result ≡ microseconds_below (micro clock) n.0 }
     ensures most { result ≤ 2 ^ 28 }
 {
     n.0.div_ceil(clock.micro())
@@ -33,7 +33,7 @@ fn sound_file(
     requires order { NeverFallFrom 0 writes.now }
     ensures { IfOk result (λ v. v.items ≡ sound_file clock ticks.0 writes.now) }
 {
-    let Ok(samples) = render(alloc, writes, begun(clock, ticks)) else {
+    let Ok(samples) = render(alloc, writes, microseconds_below(clock, ticks)) else {
         return Err(AllocError);
     };
     match wav(alloc, &samples) {

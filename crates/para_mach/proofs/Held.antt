@@ -24,7 +24,7 @@ use Rattle.tube_machine.specs.Exchange.{IsCramped}
 use Rattle.para_mach.specs.declared.notes.Stood.{Stood}
 use Rattle.para_mach.specs.State.{ParaBusState, ParaState}
 use Rattle.para_mach.specs.Step.{para_wiring, para_moves, next_state, is_tube, ram_after, rom_in_after}
-use Rattle.para_mach.specs.CodeNotes.{IsHeldAtLook, IsNear, kept, put_back}
+use Rattle.para_mach.specs.CodeNotes.{IsHeldAtLook, IsNear, part_kept, put_back}
 
 -- no step changes that
 look_by : (resets prst : Bool) (s held reset taken : ParaState) → (next_cycle held.cpu ≡ None) → (reset.bus.is_held ≡ false) → (taken.bus.is_held ≡ false) →
@@ -82,7 +82,7 @@ held_look s l over stands other =
 pub record IsHeldOn (n : ℕ) (lines : Lines) (sure : ℕ) (start s : ParaState) : Type 0 where
   pub came : (k : ℕ) × Looks para_moves n (shown_lines lines sure) k start s
   pub over : next_cycle s.cpu ≡ None
-  pub kept : kept s.bus.ram s.bus ≡ kept start.bus.ram start.bus
+  pub kept : part_kept s.bus.ram s.bus ≡ part_kept start.bus.ram start.bus
   pub before : s.bus.closed ≤ s.due + 1
 
 pub held_more : (n : ℕ) (lines : Lines) (sure : ℕ) (start s new : ParaState) → IsHeldOn n lines sure start s → lines.prst ≡ true → (lines.resets ≡ start.bus.resets → ⊥) → s.due < n → s.due < sure →
@@ -97,7 +97,7 @@ held_more n lines sure start s new so_far stands other low early is before =
             (look_last para_moves n lines sure so_far.came.0 start s so_far.came.1 low (ap (asks_by para_wiring) so_far.over) early),
       );
       over = ap (λ (x : ParaState). next_cycle x.cpu) stays ∙ so_far.over;
-      kept = ap (λ (x : ParaState). kept x.bus.ram x.bus) stays ∙ so_far.kept;
+      kept = ap (λ (x : ParaState). part_kept x.bus.ram x.bus) stays ∙ so_far.kept;
       before = before;
     }
 
@@ -122,15 +122,15 @@ sees_wider n lines near sure old new ask low sees = record { steps = sees.steps;
 -- ---- Taken back
 
 -- what is kept of a bus, as it was
-pub back : (ram : List ℕ) (b old : ParaBusState) → kept ram b ≡ kept old.ram old → record b { ram = ram; is_held = old.is_held; closed = old.closed } ≡ old
+pub back : (ram : List ℕ) (b old : ParaBusState) → part_kept ram b ≡ part_kept old.ram old → record b { ram = ram; is_held = old.is_held; closed = old.closed } ≡ old
 back ram b old is = ap (λ (x : ParaBusState). record x { is_held = old.is_held; closed = old.closed }) is
 
 -- the Tube's answer to a read leaves the memory, with the boot ROM switched out
 byte_by : (o : Option Cycle) (s : ParaState) (byte : ℕ) (ram : List ℕ) → MatchOption (asks_by para_wiring o) ⊥ (λ q. FitsAnswer q (Byte byte)) → s.bus.rom_in ≡ false →
-    kept ram (after_step Cmos para_wiring o s (Some (Byte byte))).bus ≡ kept ram s.bus
+    part_kept ram (after_step Cmos para_wiring o s (Some (Byte byte))).bus ≡ part_kept ram s.bus
 byte_by None s byte ram asked out = absurd asked
-byte_by (Some (Read at)) s byte ram asked out = ap (λ (r : Bool). record (kept ram s.bus) { rom_in = rom_in_after r (Read at) }) out ∙ ap (λ (r : Bool). record (kept ram s.bus) { rom_in = r }) (sym out)
-byte_by (Some (Write at v)) s byte ram asked out = ap (λ (r : Bool). record (kept ram s.bus) { rom_in = rom_in_after r (Write at v) }) out ∙ ap (λ (r : Bool). record (kept ram s.bus) { rom_in = r }) (sym out)
+byte_by (Some (Read at)) s byte ram asked out = ap (λ (r : Bool). record (part_kept ram s.bus) { rom_in = rom_in_after r (Read at) }) out ∙ ap (λ (r : Bool). record (part_kept ram s.bus) { rom_in = r }) (sym out)
+byte_by (Some (Write at v)) s byte ram asked out = ap (λ (r : Bool). record (part_kept ram s.bus) { rom_in = rom_in_after r (Write at v) }) out ∙ ap (λ (r : Bool). record (part_kept ram s.bus) { rom_in = r }) (sym out)
 
 ram_by : (o : Option Cycle) (s : ParaState) (byte : ℕ) → MatchOption (asks_by para_wiring o) ⊥ (λ q. FitsAnswer q (Byte byte)) → (after_step Cmos para_wiring o s (Some (Byte byte))).bus.ram ≡ s.bus.ram
 ram_by None s byte asked = absurd asked
@@ -142,8 +142,8 @@ ram_by (Some (Write at v)) s byte asked = by (is_tube at) refl asked
     by false e asked = absurd asked
 
 pub byte_kept : (s : ParaState) (byte : ℕ) (stood : List Stood) → MatchOption (para_moves.asks s) ⊥ (λ q. FitsAnswer q (Byte byte)) → s.bus.rom_in ≡ false →
-    kept (put_back stood (next_state s (Some (Byte byte))).bus.ram) (next_state s (Some (Byte byte))).bus ≡ kept (put_back stood s.bus.ram) s.bus
+    part_kept (put_back stood (next_state s (Some (Byte byte))).bus.ram) (next_state s (Some (Byte byte))).bus ≡ part_kept (put_back stood s.bus.ram) s.bus
 byte_kept s byte stood asked out =
     let x : ParaState = closed_to para_wiring s (s.due + 1) in
     let new : ParaState = next_state s (Some (Byte byte)) in
-    ap (λ (r : List ℕ). kept (put_back stood r) new.bus) (ram_by (next_cycle s.cpu) x byte asked) ∙ byte_by (next_cycle s.cpu) x byte (put_back stood s.bus.ram) asked out
+    ap (λ (r : List ℕ). part_kept (put_back stood r) new.bus) (ram_by (next_cycle s.cpu) x byte asked) ∙ byte_by (next_cycle s.cpu) x byte (put_back stood s.bus.ram) asked out

@@ -14,8 +14,8 @@ put_back [] ram = ram
 put_back (x ∷ xs) ram = slice_set (put_back xs ram) x.at x.byte
 
 -- the bus before accesses and looks that left the counts as they were taken, but for what they leave at each step
-abbrev pub kept : List ℕ → ParaBusState → ParaBusState
-kept ram b = record b { ram = ram; is_held = false; closed = 0 }
+abbrev pub part_kept : List ℕ → ParaBusState → ParaBusState
+part_kept ram b = record b { ram = ram; is_held = false; closed = 0 }
 
 -- the machine before them
 abbrev pub roll_back_leaves : cpu.State → Bool → ℕ → ℕ → List Stood → ParaState → ParaState

@@ -44,7 +44,7 @@ impl<N: Notes> TubeBus<N> for ParaBus {
     ghost use Rattle.para_mach.specs.State.{ParaBusState};
     ghost use Rattle.para_mach.specs.Step.{para_wiring};
     ghost use Rattle.para_mach.specs.Lawful.{para_wired, para_plain, is_plain};
-    ghost use Rattle.para_mach.specs.CodeNotes.{kept};
+    ghost use Rattle.para_mach.specs.CodeNotes.{part_kept};
 
     ghost State = { ParaBusState };
 
@@ -60,7 +60,7 @@ impl<N: Notes> TubeBus<N> for ParaBus {
 
     ghost Kept = { ParaBusState };
 
-    ghost before = { λ notes b. kept (N.before notes b.ram) b };
+    ghost before = { λ notes b. part_kept (N.before notes b.ram) b };
 
     ghost endless = { N.endless };
 

@@ -4,7 +4,7 @@ ghost use Rattle.cpu65c02.specs.Sequences.{next_cycle, starting};
 ghost use Rattle.tube_party.specs.Moves.{Goes, shown_lines};
 ghost use Rattle.para_mach.specs.State.{power_on, shown_regs};
 ghost use Rattle.para_mach.specs.Step.{para_moves};
-ghost use Rattle.para_mach.specs.CodeNotes.{IsNoted, IsNear, IsHeldAtLook, kept, put_back};
+ghost use Rattle.para_mach.specs.CodeNotes.{IsNoted, IsNear, IsHeldAtLook, part_kept, put_back};
 ghost use Rattle.para_mach.specs.Lawful.{para_lawful, para_permitted};
 
 use crate::bus::ParaBus;
@@ -166,7 +166,7 @@ impl ParaMachine {
         requires room { until.0 ≤ 2 ^ 30 }
         requires looks { next_cycle self.old.cpu ≡ None }
         ensures goes { Goes para_moves until.0 (shown_lines lines.now sure.0) self.old result self.new }
-        ensures kept { kept (self.new).bus.ram (self.new).bus ≡ kept (self.old).bus.ram (self.old).bus }
+        ensures kept { part_kept (self.new).bus.ram (self.new).bus ≡ part_kept (self.old).bus.ram (self.old).bus }
     {
         let bound = until.0.min(sure.0);
         if lines.prst && lines.resets != self.bus.resets {
@@ -190,8 +190,8 @@ impl ParaMachine {
         ensures goes { Goes para_moves until.0 (shown_lines lines.now sure.0) self.old result self.new }
         ensures noted { let old = self.old.bus in
             let new = self.new.bus in
-            kept (put_back undo_log.new.stood.items new.ram) new
-            ≡ kept (put_back undo_log.old.stood.items old.ram) old }
+            part_kept (put_back undo_log.new.stood.items new.ram) new
+            ≡ part_kept (put_back undo_log.old.stood.items old.ram) old }
     {
         let near = self.near(sure, undo_log);
         let left = carry_on::<UndoLog, Cpu, ParaBus>(

@@ -3,7 +3,7 @@ use Rattle.std.proofs.Common.{◌≡◌, ◌≢◌, ◌∙◌, sym, ap, refl, �
 use Rattle.std.proofs.lemmas.Bool.{cases_eq}
 use Rattle.sn76489.specs.State.{State, Tone, Noise}
 use Rattle.sn76489.specs.Clock.{tone_clock_leaves, rises, shift_clocks, shifts_at, noise_clock_leaves, clock_leaves, clocks}
-use Rattle.sn76489.specs.Quiet.{tone_quiet, noise_quiet, tone_lowered, lowered, IsQuiet}
+use Rattle.sn76489.specs.Quiet.{tone_quiet, noise_quiet, tone_lowered, lower_leaves, IsQuiet}
 use Rattle.sn76489.proofs.Catching.{le_false}
 use Rattle.sn76489.proofs.Playing.{test_true, test_false}
 use Rattle.sn76489.proofs.Runs.{no_clocks, clock_behind}
@@ -69,21 +69,21 @@ clocked_as : (s : State) (t1 t2 t3 : Tone) (z : Noise) (k : ℕ) → tone_clock_
     clock_leaves s ≡ record s { tone1 = t1; tone2 = t2; tone3 = t3; noise = z; count = k }
 clocked_as s t1 t2 t3 z k is1 is2 is3 noise count = λ i. record s { tone1 = is1 i; tone2 = is2 i; tone3 = is3 i; noise = noise i; count = count i }
 
-one_lower : (n : ℕ) (c : State) → IsQuiet (suc n) c → clock_leaves (lowered n c) ≡ lowered (suc n) c
+one_lower : (n : ℕ) (c : State) → IsQuiet (suc n) c → clock_leaves (lower_leaves n c) ≡ lower_leaves (suc n) c
 one_lower n c q =
-    clocked_as (lowered n c) _ _ _ _ _ (tone_step n c.tone1 q.tone1) (tone_step n c.tone2 q.tone2) (tone_step n c.tone3 q.tone3)
+    clocked_as (lower_leaves n c) _ _ _ _ _ (tone_step n c.tone1 q.tone1) (tone_step n c.tone2 q.tone2) (tone_step n c.tone3 q.tone3)
     (noise_stays (((c.count + n) % 128 + 1) % 128) (rises (tone_lowered n c.tone3)) c.noise (stays_low n c.tone3 q.tone3) (no_shift c.count n c.noise q.noise))
     (omega arith)
 
 tone_none : (t : Tone) → t ≡ tone_lowered 0 t
 tone_none t = let same : t.counter ≡ t.counter - 0 = omega arith in λ i. record t { counter = same i }
 
-none_lower : (c : State) → c.count < 128 → c ≡ lowered 0 c
+none_lower : (c : State) → c.count < 128 → c ≡ lower_leaves 0 c
 none_lower c few =
     let same : c.count ≡ (c.count + 0) % 128 = omega (arith, few) in
     λ i. record c { tone1 = tone_none c.tone1 i; tone2 = tone_none c.tone2 i; tone3 = tone_none c.tone3 i; count = same i }
 
-pub quiet_clocks : (n : ℕ) (c : State) → IsQuiet n c → lowered n c ≡ clocks n c
+pub quiet_clocks : (n : ℕ) (c : State) → IsQuiet n c → lower_leaves n c ≡ clocks n c
 quiet_clocks zero c q = sym (none_lower c q.count) ∙ sym (no_clocks c)
 quiet_clocks (suc n) c q =
     sym (one_lower n c q) ∙ ap clock_leaves (quiet_clocks n c (fewer n (suc n) c (omega arith) q)) ∙ sym (clock_behind n c)

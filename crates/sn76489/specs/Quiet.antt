@@ -16,8 +16,8 @@ noise_quiet number n = shift_clocks (n.control % 4) - 1 - number % shift_clocks 
 abbrev pub tone_lowered : ℕ → Tone → Tone
 tone_lowered n t = record t { counter = t.counter - n }
 
-abbrev pub lowered : ℕ → State → State
-lowered n c = record c {
+abbrev pub lower_leaves : ℕ → State → State
+lower_leaves n c = record c {
   tone1 = tone_lowered n c.tone1;
   tone2 = tone_lowered n c.tone2;
   tone3 = tone_lowered n c.tone3;

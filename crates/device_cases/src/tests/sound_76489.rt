@@ -1,5 +1,5 @@
 //! Programs of the sound chip, with values by hand from the data sheet, its samples and their file.
-ghost use Rattle.std.specs.Prelude.{◌≡◌, ◌≤◌, ◌^◌};
+ghost use Rattle.std.specs.Prelude.{◌≡◌, ◌≤◌, ◌^◌, length, IfOk};
 ghost use Rattle.sn76489.specs.Samples.{NeverFallFrom};
 
 use crate::tests::words::{byte, number};
@@ -177,6 +177,22 @@ fn samples_are_levels_after_the_writes(rt: HostRuntime) -> Result<(), Fail> {
     // Writes that no sample follows, and that no step comes to.
     expect_samples(&rt, alloc, &[at(31, 0x90)], 32, &[0])?;
     expect_samples(&rt, alloc, &[at(0, 0x90), at(1_000, 0x9f)], 32, &[8191])?;
+    Ok(())
+}
+
+// So many samples of silence.
+fn silence(alloc: Global, n: usize) -> Result<Vec<i16>, Fail>
+    ensures { IfOk result (λ samples. length samples.items ≡ n) }
+{
+    Ok(vec![in alloc; 0; n]?)
+}
+
+#[test]
+fn a_file_has_room_for_2_to_the_24_samples(rt: HostRuntime) -> Result<(), Fail> {
+    let samples = silence(rt.alloc(), 16_777_216)?;
+    let bytes = wav(rt.alloc(), &samples)?;
+    assert_eq!(rt; bytes.len(), 33_554_476);
+    assert_eq!(rt; &bytes[40..44], [0x00, 0x00, 0x00, 0x02].as_slice());
     Ok(())
 }
 

@@ -1,7 +1,7 @@
 use Rattle.std.proofs.Common.{◌∙◌, sym, ap}
 use Rattle.std.specs.Int.{div_ceil}
 use Rattle.beeb_outcome.proofs.SoundLemmas.{begun_is}
-use Rattle.beeb_outcome.proofs.sound.begun.Goals as goal
+use Rattle.beeb_outcome.proofs.sound.microseconds_below.Goals as goal
 
 pub returns-clause-value : goal.returns-clause-value
 returns-clause-value c =
