@@ -1,6 +1,6 @@
 #!/usr/bin/env python3
 """fuzz.py [--seed S] [--from N] [--count N] [--seconds T] [-j N] [--only KIND] [--finds FOLDER]: calls the program with made-up words and files,
-and says where it does not what the pages promise. Input N of seed S is always the same one. --count is 1,000 where neither it nor --seconds, how
+and says where it does not what the pages promise. Input N of seed S is always the same one, save with --only, which makes all of one kind. --count is 1,000 where neither it nor --seconds, how
 long to go on, is said; -j is the number of processes.
 
 The words, the forms of traces and key scripts and the lengths of images are written here once more, in a few lines each, from docs/COMMANDS.md:
@@ -24,7 +24,8 @@ import sys
 import tempfile
 import time
 
-from program import TOP, form_fault, program
+sys.dont_write_bytecode = True
+from program import TOP, form_fault, program  # noqa: E402
 
 LIMIT = 20  # seconds of a call
 MOST_TICKS = 1073741824
@@ -825,7 +826,8 @@ def base_of(judge):
 
 def case_of(seed, place, base, only):
     r = random.Random("%d %d" % (seed, place))
-    kind = only or r.choices(list(KINDS), [weight for _, weight, _ in KINDS.values()])[0]
+    kind = r.choices(list(KINDS), [weight for _, weight, _ in KINDS.values()])[0]
+    kind = only or kind
     words, files = KINDS[kind][0](r, base)
     return Case(kind, words, files, r.random() < KINDS[kind][2])
 

@@ -15,7 +15,8 @@ import subprocess
 import sys
 import tempfile
 
-from program import TOP, program
+sys.dont_write_bytecode = True
+from program import TOP, program  # noqa: E402
 
 EXAMPLES = TOP + "/examples/"
 

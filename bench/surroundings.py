@@ -18,7 +18,8 @@ import sys
 import tempfile
 import time
 
-from program import TOP, program
+sys.dont_write_bytecode = True
+from program import TOP, program  # noqa: E402
 
 LIMIT = 60  # seconds of a call
 WAITS = 2  # seconds after which a call that waits for others is ended
