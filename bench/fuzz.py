@@ -56,6 +56,7 @@ OPTIONS = {
     "--plugs": (HOSTS, (0, 8)),
     "--keep": (PAIRS, (0, 4194304)),
     "--speed": (MACHINES, ("3", "4")),
+    "--wav": (HOSTS, "output"),
 }
 CAPS = {"trace": 100663296, "source": 4194304}
 CAP = 1048576
@@ -189,7 +190,7 @@ def script_of(text):
     last = lines.pop()
     before, shots = 0, []
     for place, line in enumerate(lines + ([None] if last else []), 1):
-        found = line is not None and re.fullmatch(rb"at (0|[1-9][0-9]*) (shot|break|(down|up) [0-7][0-9A-F])", line)
+        found = line is not None and re.fullmatch(rb"at (0|[1-9][0-9]*) (shot|break|(down|up) [0-7][0-9A-F]|adc [0-3] [0-9A-F]{4})", line)
         if not found or int(found.group(1)) > MOST_TICKS or int(found.group(1)) < before:
             return place, shots
         before = int(found.group(1))
@@ -255,6 +256,13 @@ def expected(words):
     return may, outputs
 
 
+def ending(r, what):
+    """How a line of a script goes on; some of these are refused."""
+    if what == "adc":
+        return " %d %04X" % (r.choice((0, 1, 2, 3, 3, 4)), r.choice((0, 0x8000, 0xFFFF, r.randrange(65536))))
+    return " %02X" % r.randrange(130) if what in ("down", "up") else ""
+
+
 def outputs_of(words, shots):
     """The files that are written, in their order."""
     if "out" not in words.alone:
@@ -272,7 +280,7 @@ def outputs_of(words, shots):
     if words.command in PAIRS:
         ends.append(b".trace")
     ends += [b".plug%d" % plug for plug in range(min(2, words.number_of("--plugs", 0)))]
-    return [out + end for end in ends]
+    return [out + end for end in ends] + ([words.values["--wav"]] if "--wav" in words.values else [])
 
 
 # --- The call, and what came of it ---
@@ -364,6 +372,9 @@ class Judge:
             if int(out.split()[1]) != (len(lines) - (3 if lines.startswith(b"T2") else 0)) // 20:
                 raise Differs("check: %r" % out)
         elif words.command in ("replay", "solo", "run"):
+            outputs, heard = self.heard(words, outputs)
+            if heard in {os.path.normpath(name) for name in outputs}:
+                return
             for name in outputs:
                 end = name[name.rindex(b".") :]
                 if end in lengths and os.path.getsize(name) != lengths[end]:
@@ -374,6 +385,17 @@ class Judge:
                     raise Differs("report: lacks %r: %r" % (part, report))
             if words.command in PAIRS:
                 self.look_at_pair(case, words, outputs, report)
+
+    def heard(self, words, outputs):
+        """The other outputs, and the sound file, whose length is looked at: a sample of two bytes each 32 microseconds."""
+        if "--wav" not in words.values:
+            return outputs, None
+        name = words.values["--wav"]
+        micro = 12 if words.values.get("--speed") == b"4" else 6
+        samples = (words.alone["ticks"] + 32 * micro - 1) // (32 * micro)
+        if os.path.getsize(name) != 44 + 2 * samples:
+            raise Differs("sound: %d bytes for %d samples" % (os.path.getsize(name), samples))
+        return outputs[:-1], os.path.normpath(name)
 
     def parts(self, words, outputs):
         state = rb" PC=[0-9A-F]{4} A=[0-9A-F]{2} X=[0-9A-F]{2} Y=[0-9A-F]{2} S=[0-9A-F]{2} P=[0-9A-F]{2}"
@@ -431,10 +453,14 @@ class Judge:
         if len(place) != 1:
             return
         again[place[0]] = name
+        # An output with a name of its own is written under another one too.
+        if b"--wav" in again:
+            again[again.index(b"--wav") + 1] = name + b".wav"
         self.good(again, what)
         for file in outputs:
-            if content(file, CAPS["trace"]) != content(name + file[len(out) :], CAPS["trace"]):
-                raise Differs("%s: they write another %r" % (what, file[len(out) :]))
+            other = name + (b".wav" if file == words.values.get("--wav") and b"--wav" in again else file[len(out) :])
+            if content(file, CAPS["trace"]) != content(other, CAPS["trace"]):
+                raise Differs("%s: they write another %r" % (what, file))
 
 
 class Differs(Exception):
@@ -467,7 +493,7 @@ def examples(*ends):
 BYTES = [bytes([n]) for n in (0, 9, 10, 13, 32, 45, 48, 57, 65, 70, 127, 128, 195, 255)]
 TOKENS = {
     "trace": [b"T2\n", b"0000000000 H R 0 40\n", b"FFFFFFFFFF P W 7 FF\n", b"00000000C8 H X 0 00\n", b"0000000000 P X 0 00\n", b" H ", b" P ", b"X"],
-    "keys": [b"at ", b"down ", b"up ", b"shot", b"break", b"at 0 shot\n", b"at 1073741824 shot\n", b"at 1073741825 break\n", b" 7F", b" 80", b"007"],
+    "keys": [b"at ", b"down ", b"up ", b"shot", b"break", b"adc ", b"adc 3 FFF0\n", b"adc 4 0000\n", b"at 0 shot\n", b"at 1073741824 shot\n", b"at 1073741825 break\n", b" 7F", b" 80", b"007"],
     "source": [b"org &FFFF\n", b"byte 0", b"word &FFFF,a", b"a:", b"<", b">", b"+65535", b"&10000", b"100000", b"(&70),Y", b"JMP (a)", b";", b"\t", b"ASL A"],
     "image": [b"\x00\xff", b"\x80\xfe", b"\xd0\x80", b"\x10\x7f", b"\x6c", b"\x02", b"\x20\x00\xc0"],
 }
@@ -539,12 +565,12 @@ def a_script(r, base, ticks):
     lines, tick, shots = [], 0, r.choice((0, 1, 2, 3))
     for _ in range(r.randrange(12)):
         tick += r.choice((0, 1, 7, r.randrange(max(1, ticks // 4)), r.randrange(3000)))
-        what = r.choice(("down", "down", "up", "up", "break", "shot"))
+        what = r.choice(("down", "down", "up", "up", "break", "shot", "adc"))
         if what == "shot":
             shots -= 1
             if shots < 0:
                 continue
-        lines.append("at %d %s" % (tick, what + (" %02X" % r.randrange(130) if what in ("down", "up") else "")))
+        lines.append("at %d %s" % (tick, what + ending(r, what)))
     if r.random() < 0.1:
         lines += ["at %d shot" % max(tick, ticks + 1)] * r.choice((252, 256, 257, 300))
     text = ("\n".join(lines) + "\n").encode() if lines else b""
@@ -714,6 +740,8 @@ def pair(r, base, command=b"solo"):
         options.append((b"--keep", r.choice((0, 1, 2, 5, r.randrange(200), 4194304, 4194305))))
     if r.random() < 0.3:
         options.append((b"--speed", r.choice((3, 4, 4, 4))))
+    if r.random() < 0.2:
+        options.append((b"--wav", r.choice((b"wave", b"wave", b"dir/wave", b"out.report", b"-"))))
     r.shuffle(options)
     return put_options(r, [command, b"%d" % ticks, b"out"], options), files
 
