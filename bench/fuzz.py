@@ -372,10 +372,10 @@ class Judge:
             if int(out.split()[1]) != (len(lines) - (3 if lines.startswith(b"T2") else 0)) // 20:
                 raise Differs("check: %r" % out)
         elif words.command in ("replay", "solo", "run"):
-            outputs, heard = self.heard(words, outputs)
-            if heard in {os.path.normpath(name) for name in outputs}:
+            others, heard = self.heard(words, outputs)
+            if heard in {os.path.normpath(name) for name in others}:
                 return
-            for name in outputs:
+            for name in others:
                 end = name[name.rindex(b".") :]
                 if end in lengths and os.path.getsize(name) != lengths[end]:
                     raise Differs("length: %r has %d bytes" % (name, os.path.getsize(name)))
