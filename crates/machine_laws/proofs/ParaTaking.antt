@@ -14,7 +14,7 @@ use Rattle.cpu65c02.specs.Sequences.{next_cycle, after_byte, after, sequence_at_
 use Rattle.tube_chip.specs.declared.Answer.{Answer}
 use Rattle.tube_chip.specs.declared.Lines.{Lines}
 use Rattle.para_mach.specs.State.{ParaState}
-use Rattle.tube_machine.specs.Step.{byte_of, lines_in, stepped, closed_to}
+use Rattle.tube_machine.specs.Step.{byte_of, lines_in, after_step, closed_to}
 use Rattle.para_mach.specs.Step.{para_wiring, next_state}
 use Rattle.machine_laws.specs.Cycles.{the_cycle}
 use Rattle.machine_laws.specs.ParaTicks.{run, cycles, AllAccess, ParaTakes, ParaTakesTheTable}
@@ -30,7 +30,7 @@ due_tail c false t = omega arith
 
 -- an access, of the machine closed behind its first tick
 one : (o : Option Cycle) (s : ParaState) (a : Option Answer) → is_none o ≡ false →
-    (stepped Cmos para_wiring o s a).due + tail (stepped Cmos para_wiring o s a) ≡ s.due + para s.bus.clock
+    (after_step Cmos para_wiring o s a).due + tail (after_step Cmos para_wiring o s a) ≡ s.due + para s.bus.clock
 unfolding tail
 one None s a some = absurd (true≢false some)
 one (Some c) s a some = due_tail s.bus.clock (is_none (next_cycle (after_byte s.cpu (byte_of para_wiring s.bus s.due a c)))) s.due
@@ -38,7 +38,7 @@ one (Some c) s a some = due_tail s.bus.clock (is_none (next_cycle (after_byte s.
 first : (s : ParaState) (a : Option Answer) → is_none (next_cycle s.cpu) ≡ false → (next_state s a).due + tail (next_state s a) ≡ s.due + para s.bus.clock
 first s a some = one (next_cycle s.cpu) (closed_to para_wiring s (s.due + 1)) a some
 
-clock_by : (o : Option Cycle) (s : ParaState) (a : Option Answer) → is_none o ≡ false → (stepped Cmos para_wiring o s a).bus.clock ≡ s.bus.clock
+clock_by : (o : Option Cycle) (s : ParaState) (a : Option Answer) → is_none o ≡ false → (after_step Cmos para_wiring o s a).bus.clock ≡ s.bus.clock
 clock_by None s a some = absurd (true≢false some)
 clock_by (Some c) s a some = refl
 
@@ -86,7 +86,7 @@ begins true true due h r t eh er et free = absurd (true≢false (sym eh ∙ free
 begins true false due h r t eh er et free = er
 begins false prst due h r t eh er et free = et
 
-looks_on : (o : Option Cycle) (s : ParaState) (a : Option Answer) → o ≡ None → (stepped Cmos para_wiring o s a).bus.is_held ≡ false → (stepped Cmos para_wiring o s a).due ≡ s.due + 1
+looks_on : (o : Option Cycle) (s : ParaState) (a : Option Answer) → o ≡ None → (after_step Cmos para_wiring o s a).bus.is_held ≡ false → (after_step Cmos para_wiring o s a).due ≡ s.due + 1
 looks_on None s a over free = let l = lines_in a in begins (not (l.resets == s.bus.resets)) l.prst s.due _ _ _ refl refl refl free
 looks_on (Some c) s a over free = cc
 
@@ -100,7 +100,7 @@ para_takes = record {
 
 -- ---- How many cycles.
 
-handed : (o : Option Cycle) (s : ParaState) (a : Option Answer) → is_none o ≡ false → (byte : ℕ) × ((stepped Cmos para_wiring o s a).cpu ≡ after_byte s.cpu byte)
+handed : (o : Option Cycle) (s : ParaState) (a : Option Answer) → is_none o ≡ false → (byte : ℕ) × ((after_step Cmos para_wiring o s a).cpu ≡ after_byte s.cpu byte)
 handed None s a some = absurd (true≢false some)
 handed (Some c) s a some = (byte_of para_wiring s.bus s.due a c, refl)
 
