@@ -11,6 +11,7 @@ pub mod Replayed
 pub mod TraceLemmas
 pub mod First
 pub mod Kept
+pub mod Noted
 pub mod Calm
 pub mod Early
 pub mod UnderWay
