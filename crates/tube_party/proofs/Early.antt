@@ -35,7 +35,7 @@ like_on w v u a b = record { host = a.host ∙ b.host; para = a.para ∙ b.para;
 abbrev pub SameAccesses : List Event → List Event → Type 0
 SameAccesses l m = (side : Side) → accesses (of_side side l) ≡ accesses (of_side side m)
 
-same_after : (l m more : List Event) → SameAccesses l m → SameAccesses (l ++ more) (m ++ more)
+pub same_after : (l m more : List Event) → SameAccesses l m → SameAccesses (l ++ more) (m ++ more)
 same_after l m more same side = grows side l more ∙ ap (λ (x : List Entry). x ++ accesses (of_side side more)) (same side) ∙ sym (grows side m more)
 
 no_accesses : (of : Side) (t : ℕ) (lines : Lines) (side : Side) → accesses (of_side side (event t of look (Seen lines) ∷ [])) ≡ []

@@ -9,6 +9,8 @@ pub mod Listed
 pub mod Followed
 pub mod Replayed
 pub mod TraceLemmas
+pub mod Joined
+pub mod Resumed
 pub mod First
 pub mod Kept
 pub mod Noted

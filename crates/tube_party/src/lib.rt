@@ -13,8 +13,8 @@ mod tape;
 
 pub use forward::Forward;
 pub use law::{
-    legal_merge_is_reference, party_goes_on, reference_is_followed, reference_is_replayed,
-    reference_is_trace, replay_is_following,
+    brought_back_is_reference, legal_merge_is_reference, party_goes_on, reference_is_followed,
+    reference_is_replayed, reference_is_trace, replay_is_following,
 };
 pub use log::note;
 pub use noting::Room;
