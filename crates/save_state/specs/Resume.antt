@@ -1,5 +1,5 @@
 -- Going on from the accesses of a session.
-use Rattle.std.specs.Prelude.{ℕ, ◌×◌, List, Option, None, Some}
+use Rattle.std.specs.Prelude.{ℕ, List, Option, None, Some}
 use Rattle.beeb_bits.specs.declared.Side.TheVariants.{Host, Para}
 use Rattle.tube_trace.specs.declared.Entry.{Entry}
 use Rattle.tube_party.specs.declared.replaying.Doing.{Doing}
