@@ -17,10 +17,10 @@ use tube_trace::read;
 /// Looks at tick 5 and every 10 ticks, and reads register 0 five ticks after each look.
 #[derive(Drop)]
 pub struct Probe {
-    due: u64,
+    pub(crate) due: u64,
     looks: bool,
     // How far it is closed, in ticks before the next step.
-    lag: u64,
+    pub(crate) lag: u64,
     last: Option<Answer>,
 }
 
@@ -77,7 +77,7 @@ impl Party for Probe {
     }
 }
 
-fn at_power_on() -> Probe
+pub(crate) fn at_power_on() -> Probe
     ensures { (result.due ≡ 5) × (result.lag ≡ 5) }
 {
     Probe {
@@ -252,10 +252,10 @@ fn looks_below_a_tick_see_these_lines(rt: HostRuntime) -> Result<(), Fail> {
 /// Writes to register 1 at tick `due` and every ten ticks, one byte after another, as the host.
 #[derive(Drop)]
 pub struct Writer {
-    due: u64,
-    byte: u8,
+    pub(crate) due: u64,
+    pub(crate) byte: u8,
     // How far it is closed, in ticks before the next step.
-    lag: u64,
+    pub(crate) lag: u64,
 }
 
 impl Party for Writer {

@@ -1,10 +1,17 @@
-//! Session files, whole, damaged and cut.
+//! Session files, whole, damaged and cut; and two parties that go on from the accesses of a session.
+ghost use Rattle.std.specs.Prelude.{◌≡◌, All, true};
+ghost use Rattle.tube_chip.specs.Events.{Rises};
+ghost use Rattle.tube_trace.specs.Entries.{IsEntry, events_of};
+ghost use Rattle.tube_party.specs.Reference.{IsTraceBelow};
+
+use crate::tests::parties::{Probe, Writer, at_power_on};
 use beeb_bits::{Clock, Side, Tick};
-use save_state::{Blob, Saved, StateError, decode, encode};
+use save_state::{Blob, ResumeError, Saved, StateError, decode, encode, resume};
 use std::alloc::{AllocError, Global};
 use std::test::Fail;
 use tube_chip::Op;
-use tube_trace::Entry;
+use tube_party::{Doing, Done, Forward, brought_back_is_reference, solo};
+use tube_trace::{Entry, first_wrong, read};
 
 /// Where the fields begin behind both ROMs: the lengths of the sixteen slots, of the font, of a disc with its kind and its bytes, of the other,
 /// of the key script with its bytes, the number of the accesses, three of them, and the end.
@@ -238,5 +245,230 @@ fn the_parts_of_a_session_are_handed_on(rt: HostRuntime) -> Result<(), Fail> {
         }
     }
     assert_eq!(rt; sizes, 16384 + 2048 + 3 + 1 + 2);
+    Ok(())
+}
+
+/// The entries lie below a tick, and the chip gives their answers.
+fn is_legal(entries: &[Entry], at: Tick) -> bool
+    requires each { All IsEntry entries.now }
+    requires rises { Rises (events_of entries.now) }
+    ensures { result ≡ true → IsTraceBelow at.0 entries.now }
+{
+    for entry in entries {
+        if at <= entry.tick {
+            return false;
+        }
+    }
+    first_wrong(entries).is_none()
+}
+
+/// The writer of a session, which writes 1 to register 1 at tick 10.
+fn writer() -> Writer
+    ensures { (result.due ≡ 10) × (result.lag ≡ 10) }
+{
+    Writer {
+        due: 10,
+        byte: 1,
+        lag: 10,
+    }
+}
+
+/// Two runs ended alike.
+fn same_end(one: &Done<Writer, Forward<Probe>>, other: &Done<Writer, Forward<Probe>>) -> bool {
+    let parties = one.host.due == other.host.due
+        && one.host.byte == other.host.byte
+        && one.host.lag == other.host.lag
+        && one.para.party.due == other.para.party.due
+        && one.para.party.lag == other.para.party.lag;
+    parties
+        && one.chip.lines() == other.chip.lines()
+        && one.host_list == other.host_list
+        && one.para_list == other.para_list
+        && one.host_count == other.host_count
+        && one.para_count == other.para_count
+}
+
+#[test]
+fn a_session_goes_on_as_the_whole_run(rt: HostRuntime) -> Result<(), Fail> {
+    // The accesses of the session, its tick, the ticks of the run, how many accesses are kept, those of each side as a trace, and their
+    // whole number on either side.
+    let rows: [(&str, u16, u16, u32, &str, &str, u8); 9] = [
+        // Nothing was done before, since there were no ticks, or none with an access.
+        (
+            "",
+            0,
+            26,
+            9,
+            "000000000A H W 1 01\n0000000014 H W 1 02\n",
+            "000000000A P R 0 C0\n0000000014 P R 0 C0\n",
+            2,
+        ),
+        (
+            "",
+            10,
+            26,
+            1,
+            "000000000A H W 1 01\n",
+            "000000000A P R 0 C0\n",
+            2,
+        ),
+        ("", 0, 0, 9, "", "", 0),
+        // The moment lies between the accesses.
+        (
+            "000000000A H W 1 01\n000000000A P R 0 C0\n",
+            11,
+            26,
+            9,
+            "000000000A H W 1 01\n0000000014 H W 1 02\n",
+            "000000000A P R 0 C0\n0000000014 P R 0 C0\n",
+            2,
+        ),
+        (
+            "000000000A H W 1 01\n000000000A P R 0 C0\n",
+            20,
+            36,
+            2,
+            "000000000A H W 1 01\n0000000014 H W 1 02\n",
+            "000000000A P R 0 C0\n0000000014 P R 0 C0\n",
+            3,
+        ),
+        // As many or fewer are kept than the session has.
+        (
+            "000000000A H W 1 01\n000000000A P R 0 C0\n0000000014 H W 1 02\n0000000014 P R 0 C0\n",
+            21,
+            36,
+            1,
+            "000000000A H W 1 01\n",
+            "000000000A P R 0 C0\n",
+            3,
+        ),
+        (
+            "000000000A H W 1 01\n000000000A P R 0 C0\n",
+            15,
+            36,
+            0,
+            "",
+            "",
+            3,
+        ),
+        // The run ends at the moment.
+        (
+            "000000000A H W 1 01\n000000000A P R 0 C0\n",
+            20,
+            20,
+            9,
+            "000000000A H W 1 01\n",
+            "000000000A P R 0 C0\n",
+            1,
+        ),
+        ("", 10, 10, 9, "", "", 0),
+    ];
+    for (text, at, n, keep, host_text, para_text, count) in rows {
+        let entries = read(rt.alloc(), text.as_bytes())?.entries;
+        let (at, n) = (Tick(at as u64), Tick(n as u64));
+        let probe = Forward {
+            party: at_power_on(),
+        };
+        if n < at || !is_legal(&entries, at) {
+            return Err(Fail::from("no session"));
+        }
+        let Ok(done) = resume(rt.alloc(), writer(), probe, &entries, at, n, keep) else {
+            return Err(Fail::from("no memory, or a difference"));
+        };
+        assert_eq!(rt;
+            done.host_list,
+            read(rt.alloc(), host_text.as_bytes())?.entries
+        );
+        assert_eq!(rt;
+            done.para_list,
+            read(rt.alloc(), para_text.as_bytes())?.entries
+        );
+        assert_eq!(rt;
+            (done.host_count, done.para_count),
+            (count as u64, count as u64)
+        );
+        let probe = Forward {
+            party: at_power_on(),
+        };
+        let Ok(whole) = solo(rt.alloc(), writer(), probe, n, keep) else {
+            return Err(Fail::from("no memory"));
+        };
+        assert!(rt; same_end(&done, &whole));
+    }
+    brought_back_is_reference::<Writer, Probe>();
+    Ok(())
+}
+
+fn done_at(tick: u64, side: Side, op: Op) -> Option<Doing> {
+    Some(Doing {
+        tick: Tick(tick),
+        side,
+        op,
+    })
+}
+
+#[test]
+fn the_first_difference_of_a_session_is_told(rt: HostRuntime) -> Result<(), Fail> {
+    // The accesses of the session, its tick, the line where a party differs, and what it does there.
+    let rows: [(&str, u16, u64, Option<Doing>); 6] = [
+        // The host's difference comes first, also where the parasite's stands before it.
+        (
+            "0000000004 P R 0 40\n000000000A H W 1 02\n",
+            20,
+            2,
+            done_at(10, Side::Host, Op::Write(1, 1)),
+        ),
+        // The parasite's, where the host has none.
+        (
+            "0000000004 P R 0 40\n000000000A H W 1 01\n",
+            20,
+            1,
+            done_at(10, Side::Para, Op::Read(0)),
+        ),
+        // No access of the side is left: one past the list.
+        (
+            "000000000A H W 1 01\n",
+            20,
+            2,
+            done_at(10, Side::Para, Op::Read(0)),
+        ),
+        ("", 11, 1, done_at(10, Side::Host, Op::Write(1, 1))),
+        // One is left, where the party does nothing more.
+        (
+            "000000000A H W 1 01\n000000000A P R 0 C0\n000000000E H W 1 02\n",
+            15,
+            3,
+            None,
+        ),
+        (
+            "000000000A H W 1 01\n000000000A P R 0 C0\n000000000E P R 0 C0\n",
+            15,
+            3,
+            None,
+        ),
+    ];
+    for (text, at, line, doing) in rows {
+        let entries = read(rt.alloc(), text.as_bytes())?.entries;
+        let at = Tick(at as u64);
+        let probe = Forward {
+            party: at_power_on(),
+        };
+        if !is_legal(&entries, at) {
+            return Err(Fail::from("no session"));
+        }
+        match resume(rt.alloc(), writer(), probe, &entries, at, Tick(70_000), 9) {
+            Ok(_) | Err(ResumeError::NoMemory { .. }) => {
+                return Err(Fail::from("no difference"));
+            }
+            Err(
+                ResumeError::Differs {
+                    line: found,
+                    doing: told,
+                },
+            ) => {
+                assert_eq!(rt; (found, told), (line, doing));
+            }
+        }
+    }
     Ok(())
 }
