@@ -1,3 +1,6 @@
 pub mod Sight
 pub mod Watched
+pub mod Listing
 pub mod Machines
+pub mod CodeStart
+pub mod CodeTrail

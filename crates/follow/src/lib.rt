@@ -1,7 +1,11 @@
 //! A listing of the instructions that a machine carries out in a replay.
 #![tactic(auto)]
 
+mod choice;
 mod machines;
 mod seen;
+mod start;
+mod trail;
 
+pub use choice::Choice;
 pub use seen::Seen;
