@@ -2,6 +2,7 @@
 #![tactic(auto)]
 
 mod choice;
+mod line;
 mod machines;
 mod seen;
 mod start;
