@@ -4,3 +4,4 @@ pub mod Listing
 pub mod Machines
 pub mod CodeStart
 pub mod CodeTrail
+pub mod CodeNotes

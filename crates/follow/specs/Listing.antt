@@ -115,7 +115,7 @@ pub record ListingState : Type 0 where
   pub chosen : ℕ
 
 -- the lines of the first 1,048,576 chosen starts
-abbrev pub lines_of_starts : Part → List StartState → List ℕ
+unfoldable pub lines_of_starts : Part → List StartState → List ℕ
 lines_of_starts part chosen = flat_map (λ s. start_line part s) (take 1048576 chosen)
 
 abbrev pub listing_of_chosen : Part → List StartState → ListingState

@@ -4,6 +4,7 @@
 mod choice;
 mod line;
 mod machines;
+mod notes;
 mod seen;
 mod start;
 mod trail;
