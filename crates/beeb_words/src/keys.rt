@@ -293,8 +293,9 @@ fn is_four_digits(word: &str) -> bool
 pub(crate) fn address_of(word: &str) -> Option<u16>
     ensures { result ≡ address_of word.now }
 {
-    if is_four_digits(word) {
-        Some(hex_number(word.as_bytes()) as u16)
+    let digits = word.as_bytes();
+    if digits.len() == 4 && all_hex(digits) {
+        Some(hex_number(digits) as u16)
     } else {
         None
     }

@@ -17,6 +17,7 @@ pub use blob::Blob;
 pub use decoding::decode;
 pub use encoding::encode;
 pub use law::file_reads_back;
+pub use parts::Kind;
 use std::alloc::{AllocError, AllocFailed};
 use thiserror::Error;
 use tube_trace::Entry;
