@@ -1,2 +1,4 @@
 pub mod PlugLemmas
 pub mod LengthLemmas
+pub mod SessionLemmas
+pub mod BegunLemmas

@@ -7,6 +7,7 @@ mod law;
 mod machines;
 mod roms;
 mod script;
+mod sessions;
 mod setup;
 
 pub use discs::discs_of;
@@ -15,4 +16,5 @@ pub use law::lengths_come_first;
 pub use machines::{machine_of, machines_of};
 pub use roms::roms_of;
 pub use script::script_of;
+pub use sessions::{begun, begun_is_session, inputs_in, setup_in};
 pub use setup::Setup;

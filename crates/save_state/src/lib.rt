@@ -18,6 +18,7 @@ pub use blob::Blob;
 pub use decoding::decode;
 pub use encoding::encode;
 pub use law::file_reads_back;
+pub use parts::Kind;
 pub use resuming::{ResumeError, resume};
 use std::alloc::{AllocError, AllocFailed};
 use thiserror::Error;
