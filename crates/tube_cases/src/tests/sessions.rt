@@ -1,5 +1,5 @@
 //! Session files, whole, damaged and cut; and two parties that go on from the accesses of a session.
-ghost use Rattle.std.specs.Prelude.{◌≡◌, All, true};
+ghost use Rattle.std.specs.Prelude.{◌≡◌, ◌<◌, All, true};
 ghost use Rattle.tube_chip.specs.Events.{Rises};
 ghost use Rattle.tube_trace.specs.Entries.{IsEntry, events_of};
 ghost use Rattle.tube_party.specs.Reference.{IsTraceBelow};
@@ -248,18 +248,31 @@ fn the_parts_of_a_session_are_handed_on(rt: HostRuntime) -> Result<(), Fail> {
     Ok(())
 }
 
-/// The entries lie below a tick, and the chip gives their answers.
-fn is_legal(entries: &[Entry], at: Tick) -> bool
-    requires each { All IsEntry entries.now }
-    requires rises { Rises (events_of entries.now) }
-    ensures { result ≡ true → IsTraceBelow at.0 entries.now }
+/// The entries lie below a tick.
+fn are_below(entries: &[Entry], at: Tick) -> bool
+    ensures { result ≡ true → All (λ e. (e.tick).0 < at.0) entries.now }
 {
     for entry in entries {
         if at <= entry.tick {
             return false;
         }
     }
-    first_wrong(entries).is_none()
+    true
+}
+
+/// They lie below it, and the chip gives their answers.
+fn is_legal(entries: &[Entry], at: Tick) -> bool
+    requires each { All IsEntry entries.now }
+    requires rises { Rises (events_of entries.now) }
+    ensures { result ≡ true → IsTraceBelow at.0 entries.now }
+{
+    if !are_below(entries, at) {
+        return false;
+    }
+    match first_wrong(entries) {
+        None => true,
+        Some(_) => false,
+    }
 }
 
 /// The writer of a session, which writes 1 to register 1 at tick 10.
