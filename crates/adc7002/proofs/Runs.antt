@@ -59,7 +59,8 @@ steps_to_end levels (suc n) a some enough =
 
 -- the line stays while no conversion goes on, and while one does
 pub stays_at_rest : (n : ℕ) (a : State) → a.left ≡ 0 → KeepsItsLine n a
-stays_at_rest n a none = λ levels k low. ap cb1 (no_steps_left levels k a none)
+stays_at_rest n a none = λ levels few. ap cb1 (after_at_rest levels a none)
 
 pub stays_before : (n : ℕ) (a : State) → n < a.left → KeepsItsLine n a
-stays_before n a more = λ levels k low. ap cb1 (steps_inside levels k (a.left - k) a (omega (arith, low, more)) (omega (arith, low, more)))
+stays_before n a more = λ levels few.
+    ap cb1 (after_inside levels a (a.left - length levels) (omega (arith, few, more)) (omega (arith, few, more)))
