@@ -3,8 +3,9 @@ use Rattle.std.proofs.Common.{◌≡◌, ◌≢◌, ◌∙◌, ap, refl, ℕ, ze
 use Rattle.std.proofs.lemmas.Bool.{cases_eq}
 use Rattle.std.proofs.lemmas.Bool.Decides.{nat_tests}
 use Rattle.adc7002.specs.State.{State}
-use Rattle.adc7002.specs.Registers.{channel}
+use Rattle.adc7002.specs.Registers.{channel, cb1}
 use Rattle.adc7002.specs.Step.{end_leaves, step, after_steps, steps}
+use Rattle.adc7002.specs.Calm.{KeepsItsLine}
 
 test_true : (a b : ℕ) → a ≡ b → (a == b) ≡ true
 test_true a b h = grind (arith, nat_tests)
@@ -55,3 +56,11 @@ steps_to_end levels (suc n) a some enough =
       | inl last ↦ ap (steps levels n) (step_last levels a last) ∙ no_steps_left levels n (end_leaves (slice_index levels (channel a.kept)) a) refl
       | inr more ↦ ap (steps levels n) (step_inside levels a (omega arith)) ∙ steps_to_end levels n (record a { left = a.left - 1 }) (omega arith) (omega arith)
     ]
+
+-- the line stays while no conversion goes on, and while one does
+pub stays_at_rest : (n : ℕ) (a : State) → a.left ≡ 0 → KeepsItsLine n a
+stays_at_rest n a none = λ levels few. ap cb1 (after_at_rest levels a none)
+
+pub stays_before : (n : ℕ) (a : State) → n < a.left → KeepsItsLine n a
+stays_before n a more = λ levels few.
+    ap cb1 (after_inside levels a (a.left - length levels) (omega (arith, few, more)) (omega (arith, few, more)))

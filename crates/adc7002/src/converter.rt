@@ -3,6 +3,7 @@ ghost use Rattle.std.specs.Prelude.{◌≡◌, ◌<◌};
 ghost use Rattle.adc7002.specs.State.{power_on};
 ghost use Rattle.adc7002.specs.Registers.{status, answer_of, write_leaves, cb1, is_at_rest};
 ghost use Rattle.adc7002.specs.Step.{low_byte, end_leaves, steps};
+ghost use Rattle.adc7002.specs.Calm.{KeepsItsLine};
 
 use beeb_bits::bit;
 use std::marker::Model;
@@ -125,6 +126,18 @@ impl Adc {
         ensures { result ≡ cb1 self.now }
     {
         !self.has_ended
+    }
+
+    /// A number of steps for which the line surely stays what it is, whatever the levels.
+    #[inline(always)]
+    pub fn calm(&self) -> u64
+        ensures { KeepsItsLine result self.now }
+    {
+        if self.left == 0 {
+            u64::MAX
+        } else {
+            u64::from(self.left) - 1
+        }
     }
 
     /// No conversion goes on, and none has ended: so it is from power-on to the first write to register 0. No step changes the converter.

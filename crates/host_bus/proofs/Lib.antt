@@ -4,7 +4,8 @@ pub mod Beats
 pub mod Places
 pub mod Played
 pub mod Heard
-pub mod Resting
+pub mod Steady
 pub mod Closed
+pub mod Unseen
 pub mod Pressed
 pub mod Peeks

@@ -4,7 +4,7 @@ use Rattle.std.proofs.lemmas.Bool.{cases_eq, ne_eqb, eq-eqb}
 use Rattle.std.proofs.lemmas.List.{drop_more, append_assoc, append-nil, get_or-set_same, get_or-set_other}
 use Rattle.std.proofs.lemmas.List.Sums.{sum_by-append}
 use Rattle.std.specs.Prelude.{unwrap_or, slice_set}
-use Rattle.keyboard.specs.Keys.{Keys}
+use Rattle.keyboard.specs.Keys.{Keys, keys_of}
 use Rattle.key_script.specs.declared.Event.{Event}
 use Rattle.key_script.specs.declared.What.{What}
 use Rattle.key_script.specs.declared.What.TheVariants.{Down, Up, Shot, Break, Level}
@@ -196,3 +196,12 @@ played-later p t u h low high = record {
   later = h.later;
   early = high;
 }
+
+-- before the next event the keys and the levels are what they are now
+pub keys-stay : (p : Playback) (t k : ℕ) → IsPlayed p t → t ≤ k + 1 → k < p.event → keys_of p.keys ≡ keys_at k p.script
+keys-stay p t k h late early =
+    keys-are p.script (drop p.place p.script) (keys_of p.keys) k p.event (left-later made_of false p.script (drop p.place p.script) (keys_of p.keys) t (k + 1) h.is_left late) h.later (omega (arith, early))
+
+pub levels-stay : (p : Playback) (t k : ℕ) → IsPlayed p t → t ≤ k + 1 → k < p.event → p.levels ≡ levels_at k p.script
+levels-stay p t k h late early =
+    levels-are p.script (drop p.place p.script) p.levels k p.event h.four (left-later level_given 0 p.script (drop p.place p.script) (level_of p.levels) t (k + 1) h.at_level late) h.later (omega (arith, early))

@@ -1,5 +1,5 @@
 -- Which breaks of a script are before a place, and which are up to a tick.
-use Rattle.std.proofs.Common.{◌≡◌, ◌∙◌, sym, refl, ap, ℕ, ◌+◌, ◌<◌, ◌≤◌, ◌&&◌, zero, suc, Bool, true, false, cond, nat_le, nat_lt, zero-add, List, [], ◌∷◌, ◌++◌, All, length, drop, take, get_or, filter, count_by, Option, Some, None, inl, inr, arith}
+use Rattle.std.proofs.Common.{◌≡◌, ◌∙◌, sym, refl, ap, ℕ, ◌+◌, ◌<◌, ◌≤◌, ◌&&◌, zero, suc, Bool, true, false, cond, nat_le, nat_lt, zero-add, List, [], ◌∷◌, ◌++◌, All, length, drop, take, get_or, filter, count_by, Some, None, inl, inr, arith}
 use Rattle.std.specs.Prelude.{unwrap_or}
 use Rattle.std.proofs.lemmas.Bool.{cases_lt}
 use Rattle.std.proofs.lemmas.List.{drop_all, drop_more, take_more, take-append-drop}

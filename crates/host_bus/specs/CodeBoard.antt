@@ -1,10 +1,14 @@
 -- What contracts see of the board's fields, and what the fields keep.
-use Rattle.std.specs.Prelude.{◌≡◌, ◌<◌, length}
+use Rattle.std.specs.Prelude.{ℕ, List, ◌≡◌, ◌<◌, length}
+use Rattle.beeb_bits.specs.declared.clock.Clock.{Clock}
 use Rattle.beeb_bits.specs.Clock.{micro}
+use Rattle.saa5050.specs.Shapes.{Font}
+use Rattle.key_script.specs.declared.Event.{Event}
 use Rattle.host_bus.specs.declared.board.Board.TheInside.{Inside}
-use Rattle.host_bus.specs.Board.{BoardState}
+use Rattle.host_bus.specs.Devices.{Devices}
+use Rattle.host_bus.specs.Board.{BoardState, Around, Moving}
 use Rattle.host_bus.specs.CodeReads.{Shows}
-use Rattle.host_bus.specs.CodePlayback.{IsPlayed, IsOnTime, IsShort}
+use Rattle.host_bus.specs.CodePlayback.{IsPlayed, IsOnTime}
 use Rattle.host_bus.specs.CodeBreaks.{IsNextBreak, breaks_before}
 use Rattle.host_bus.specs.Sound.{IsInTime}
 
@@ -22,14 +26,19 @@ board_seen b = record {
   closed = b.closed;
 }
 
+-- what a tick goes by, and what it changes, by their parts
+abbrev pub around_by : Clock → List ℕ → Font → List Event → Around
+around_by clock ram font script = record { clock = clock; ram = ram; font = font; script = script }
+
+abbrev pub moving : Devices → List (List ℕ) → Moving
+moving devices shots = record { devices = devices; shots = shots }
+
 pub record IsValid (b : Inside) : Type 0 where
-  pub ticks : b.micro ≡ micro b.clock
   pub memory : length b.ram.items ≡ 32768
   pub addresses : length b.shown.items ≡ 65536
   pub shows : Shows b.ram.items b.roms.os b.shown.items
   pub slot : b.latch < 16
   pub played : IsPlayed b.playback b.closed
   pub on_time : IsOnTime (micro b.clock) b.closed b.playback.event b.next
-  pub short : IsShort b.short b.playback.event b.devices.converter
   pub next_break : IsNextBreak b.breaks b.playback.script
   pub in_time : IsInTime (micro b.clock) b.closed b.sound

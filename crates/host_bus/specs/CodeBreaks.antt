@@ -1,5 +1,5 @@
 -- What the board's code keeps of the breaks: a place in the script, and the tick of the first break from there on.
-use Rattle.std.specs.Prelude.{ℕ, ◌≡◌, ◌≤◌, List, Option, length, drop, take, count_by, filter, unwrap_or}
+use Rattle.std.specs.Prelude.{ℕ, ◌≡◌, ◌≤◌, List, length, drop, take, count_by, filter, unwrap_or}
 use Rattle.key_script.specs.declared.Event.{Event}
 use Rattle.key_script.specs.Events.{IsScript}
 use Rattle.host_bus.specs.Breaks.{is_break, first_tick}

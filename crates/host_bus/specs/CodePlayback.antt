@@ -1,6 +1,6 @@
 -- What the board's code keeps beside what contracts see: tables of keys and levels with a place in the script, memory for the shots that are left, and
 -- the ticks at which something comes next.
-use Rattle.std.specs.Prelude.{ℕ, ◌≡◌, ◌≤◌, ◌<◌, ◌+◌, ◌%◌, ◌⊎◌, min, true, false, List, Option, length, drop, slice_set, slice_index_or, unwrap_or}
+use Rattle.std.specs.Prelude.{ℕ, ◌≡◌, ◌≤◌, ◌<◌, ◌+◌, ◌%◌, min, true, false, List, Option, length, drop, slice_set, slice_index_or, unwrap_or}
 use Rattle.keyboard.specs.Keys.{Keys, keys_of, with_key}
 use Rattle.key_script.specs.declared.Event.{Event}
 use Rattle.key_script.specs.declared.What.{What}
@@ -9,8 +9,6 @@ use Rattle.key_script.specs.Events.{NeverFallsFrom, shots}
 use Rattle.key_script.specs.Last.{last_said}
 use Rattle.key_script.specs.Keys.{made_of}
 use Rattle.key_script.specs.Levels.{level_given}
-use Rattle.adc7002.specs.State as adc
-use Rattle.adc7002.specs.Registers.{is_at_rest}
 use Rattle.host_bus.specs.Shots.{shots_at}
 use Rattle.host_bus.specs.declared.playback.Playback.{Playback}
 
@@ -62,7 +60,3 @@ pub record IsOnTime (u closed event next : ℕ) : Type 0 where
   pub first : closed ≤ step
   pub near : step < closed + u
   pub least : next ≡ min step event
-
--- Ticks below this one go the short way, of microseconds without an event, where the converter is at rest.
-abbrev pub IsShort : ℕ → ℕ → adc.State → Type 0
-IsShort short event a = (short ≡ 0) ⊎ ((short ≡ event) × (is_at_rest a ≡ true))

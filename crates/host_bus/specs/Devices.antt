@@ -1,7 +1,7 @@
 -- The devices of the host that go by microseconds, and how they are wired: the picture, the disc controller, the converter, and the two 6522s,
 -- with the keyboard and the addressable latch at the system's. (Acorn, BBC Microcomputer Advanced User Guide, The system VIA, The user/printer VIA, and
 -- analogue to digital converter.)
-use Rattle.std.specs.Prelude.{ℕ, ◌==◌, ◌||◌, ◌%◌, Bool, true, false, List, [], ◌∷◌, replicate, Option, if◌then◌else◌}
+use Rattle.std.specs.Prelude.{ℕ, zero, suc, ◌==◌, ◌||◌, ◌%◌, Bool, true, false, List, [], ◌∷◌, replicate, Option, if◌then◌else◌}
 use Rattle.saa5050.specs.Shapes.{Font}
 use Rattle.crtc6845.specs.Registers as crtc
 use Rattle.video_ula.specs.State as ula
@@ -73,6 +73,11 @@ microsecond ram font keys levels d = record d {
   system = step (system_pins (beam.vsync_of (raster_after ram font d)) (converter.cb1 (conversion.step levels d.converter)) keys d) d.system;
   user = step user_pins d.user;
 }
+
+-- n microseconds, one after the other, while the keys and the levels stay what they are
+abbrev pub microseconds : List ℕ → Font → Keys → List ℕ → ℕ → Devices → Devices
+microseconds ram font keys levels zero d = d
+microseconds ram font keys levels (suc n) d = microseconds ram font keys levels n (microsecond ram font keys levels d)
 
 -- the last frame that was finished, or a black one
 unfoldable pub last_frame : Devices → List ℕ

@@ -1,5 +1,6 @@
 pub mod Map
 pub mod Devices
+pub mod Apart
 pub mod Shots
 pub mod Breaks
 pub mod Sound
@@ -10,9 +11,12 @@ pub mod CodePlayback
 pub mod CodeBreaks
 pub mod SameBreaks
 pub mod CodeReads
+pub mod CodeDevices
 pub mod CodeBoard
-pub mod View
 pub mod Closing
+pub mod Lag
+pub mod CodeLag
+pub mod View
 pub mod AtTube
 pub mod SameClock
 pub mod Peek

@@ -1,14 +1,17 @@
 //! The board: memory, and what answers beside it.
-ghost use Rattle.std.specs.Prelude.{◌≡◌, ◌≤◌, ◌<◌, ◌+◌, ◌%◌, ◌^◌, ◌==◌, ◌⊎◌, ℕ, true, false, unwrap_or, length, IfOk, None, Some, MatchOption, slice_index, slice_set, if◌then◌else◌};
+ghost use Rattle.std.specs.Prelude.{◌≡◌, ◌≤◌, ◌<◌, ◌+◌, ◌-◌, ◌*◌, ◌%◌, ◌^◌, ◌==◌, ◌⊎◌, ℕ, true, false, min, unwrap_or, length, IfOk, None, Some, MatchOption, slice_index, slice_set, if◌then◌else◌};
 ghost use Rattle.keyboard.specs.Keys.{keys_of};
 ghost use Rattle.wd1770.specs.Select.{disc_of};
 ghost use Rattle.sn76489.specs.Samples.{NeverFallFrom};
 ghost use Rattle.host_bus.specs.Map.{place_of};
 ghost use Rattle.host_bus.specs.Shots.{shot_at};
-ghost use Rattle.host_bus.specs.CodePlayback.{IsPlayed, IsOnTime, IsShort};
-ghost use Rattle.host_bus.specs.Devices.{microsecond, last_frame, system_written, converter_written};
-ghost use Rattle.host_bus.specs.Board.{board_closed, answer_at, read_at, written_at, with_sound, board_irq, board_nmis, break_pending, break_taken, next_break, first_board, clear_ram};
+ghost use Rattle.host_bus.specs.CodePlayback.{IsPlayed, IsOnTime};
+ghost use Rattle.host_bus.specs.Devices.{microsecond, last_frame, system_written};
+ghost use Rattle.host_bus.specs.Board.{ticks, board_closed, answer_at, read_at, written_at, with_sound, board_irq, board_nmis, break_pending, break_taken, next_break, first_board, clear_ram};
 ghost use Rattle.host_bus.specs.CodeReads.{Covered, Shows};
+ghost use Rattle.host_bus.specs.Lag.{IsCalm, ReadsAbove};
+ghost use Rattle.host_bus.specs.CodeBoard.{around_by, moving};
+ghost use Rattle.beeb_bits.specs.Clock.{micro};
 
 use crate::breaks::Breaks;
 use crate::devices::Devices;
@@ -38,10 +41,8 @@ const OS_SIZE: u16 = 16_384;
 
 /// All of the host's bus but the plugged devices. Every tick below `closed` is done.
 #[derive(Drop)]
-pub struct Board {
+pub(crate) struct Board {
     clock: Clock,
-    // A microsecond in ticks.
-    micro: u64,
     ram: Vec<u8>,
     // What a read shows of the RAM and the operating system, so that it takes one load. The bytes of the paged ROM are not read here.
     shown: Vec<u8>,
@@ -54,8 +55,6 @@ pub struct Board {
     closed: u64,
     // The tick of the next microsecond or event, whichever comes first.
     next: u64,
-    // The tick of the next event, if the converter is at rest; or 0.
-    short: u64,
 }
 
 impl Model for Board {
@@ -90,60 +89,64 @@ fn first_shown(alloc: Global, roms: &RomSet) -> Result<Vec<u8>, NoMemory>
     Ok(shown)
 }
 
-// Tick `k`, the next one at which something comes: its shots are taken, and then comes the microsecond, if it is one. Answers the tick behind
-// it at which something comes next. Most ticks at which something comes are microseconds with no event, and in most machines no program has begun
-// a conversion: then they are below `short`. A microsecond has so many ticks.
-#[inline(always)]
-fn tick(
-    devices: &mut Devices,
-    playback: &mut Playback,
-    short: &mut u64,
-    ram: &[u8],
-    roms: &RomSet,
-    micro: &u64,
-    k: u64,
-) -> u64
-    requires ram { length ram.now ≡ RAM_SIZE }
-    requires micro { (0 < micro.now) × (micro.now < 2 ^ 48) }
-    requires room { k < 2 ^ 48 }
-    requires played { IsPlayed playback.old k }
-    requires due { k < playback.old.event → k % micro.now ≡ 0 }
-    requires short { IsShort short.old playback.old.event (devices.old).converter }
-    ensures script { playback.new.script ≡ playback.old.script }
-    ensures shots { let frame = last_frame devices.old in
-        playback.new.shots.frames ≡ shot_at k playback.old.script frame playback.old.shots.frames }
-    ensures played { IsPlayed playback.new (k + 1) }
-    ensures devices { let keys = keys_of playback.new.keys in
-        let after = microsecond ram.now roms.now.font keys playback.new.levels devices.old in
-        devices.new ≡ (if k % micro.now == 0 then after else devices.old) }
-    ensures next { IsOnTime micro.now (k + 1) playback.new.event result }
-    ensures short { IsShort short.new playback.new.event (devices.new).converter }
+// How many microseconds begin in a span of so many ticks that begins with one.
+fn beats(clock: Clock, span: u64) -> u64
+    requires { span < 2 ^ 48 }
+    ensures all { span ≤ result * micro clock }
+    ensures no_more { result * micro clock < span + micro clock }
 {
-    if k < *short {
-        devices.step_at_rest(ram, roms, &playback.keys);
-        (k + *micro).min(*short)
-    } else if k < playback.event {
-        devices.step(ram, roms, &playback.keys, playback.levels);
-        (k + *micro).min(playback.event)
-    } else {
-        tick_with_events(devices, playback, short, ram, roms, *micro, k)
+    match clock {
+        Clock::Three => span.div_ceil(6),
+        Clock::Four => span.div_ceil(12),
     }
 }
 
-// The same for any tick `k`.
+// From tick `k` on, the next one at which something comes and below `t`: all microseconds below `t` and before the next event, or the events of
+// that tick. Answers the tick behind them at which something comes next.
+#[inline(always)]
+fn go_on(
+    devices: &mut Devices,
+    playback: &mut Playback,
+    ram: &[u8],
+    roms: &RomSet,
+    clock: Clock,
+    k: u64,
+    t: u64,
+) -> u64
+    requires ram { length ram.now ≡ RAM_SIZE }
+    requires due { k < t }
+    requires room { t < 2 ^ 48 }
+    requires played { IsPlayed playback.old k }
+    requires begins { k < playback.old.event → k % micro clock ≡ 0 }
+    ensures on { k < result }
+    ensures script { playback.new.script ≡ playback.old.script }
+    ensures ticks { let a = around_by clock ram.now roms.now.font playback.old.script in
+        let old = moving devices.old playback.old.shots.frames in
+        moving devices.new playback.new.shots.frames ≡ ticks a (min t result - k) k old }
+    ensures played { IsPlayed playback.new (min t result) }
+    ensures next { IsOnTime (micro clock) (min t result) playback.new.event result }
+{
+    if k < playback.event {
+        let n = beats(clock, t.min(playback.event) - k);
+        devices.advance(ram, roms, &playback.keys, playback.levels, n);
+        (k + n * clock.micro()).min(playback.event)
+    } else {
+        tick_with_events(devices, playback, ram, roms, clock, k)
+    }
+}
+
+// Tick `k`: its shots are taken, and then comes the microsecond, if it is one.
 #[cold]
 #[inline(never)]
 fn tick_with_events(
     devices: &mut Devices,
     playback: &mut Playback,
-    short: &mut u64,
     ram: &[u8],
     roms: &RomSet,
-    micro: u64,
+    clock: Clock,
     k: u64,
 ) -> u64
     requires ram { length ram.now ≡ RAM_SIZE }
-    requires micro { (0 < micro) × (micro < 2 ^ 48) }
     requires room { k < 2 ^ 48 }
     requires played { IsPlayed playback.old k }
     ensures script { playback.new.script ≡ playback.old.script }
@@ -152,24 +155,21 @@ fn tick_with_events(
     ensures played { IsPlayed playback.new (k + 1) }
     ensures devices { let keys = keys_of playback.new.keys in
         let after = microsecond ram.now roms.now.font keys playback.new.levels devices.old in
-        devices.new ≡ (if k % micro == 0 then after else devices.old) }
-    ensures next { IsOnTime micro (k + 1) playback.new.event result }
-    ensures short { IsShort short.new playback.new.event (devices.new).converter }
+        devices.new ≡ (if k % micro clock == 0 then after else devices.old) }
+    ensures next { IsOnTime (micro clock) (k + 1) playback.new.event result }
 {
+    let micro = clock.micro();
     playback.play(devices.last_frame(), k);
-    devices.tick(ram, roms, &playback.keys, playback.levels, micro, k);
-    *short = if devices.is_at_rest() {
-        playback.event
-    } else {
-        0
-    };
+    if k % micro == 0 {
+        devices.advance(ram, roms, &playback.keys, playback.levels, 1);
+    }
     (k + micro - k % micro).min(playback.event)
 }
 
 impl Board {
     /// The board at power-on, at this clock, with these images, the discs of both drives, and this script. It takes the memory of all shots of
     /// the script, and of all sound writes.
-    pub fn make(
+    pub(crate) fn make(
         alloc: Global,
         clock: Clock,
         roms: RomSet,
@@ -185,10 +185,8 @@ impl Board {
         let playback = Playback::make(alloc, script)?;
         let breaks = Breaks::new(playback.script.events());
         let sound = SoundLog::make(alloc)?;
-        let short = playback.event;
         Ok(Board {
             clock,
-            micro: clock.micro(),
             ram,
             shown,
             roms,
@@ -199,13 +197,12 @@ impl Board {
             sound,
             closed: 0,
             next: 0,
-            short,
         })
     }
 
     /// How long its ticks are.
     #[inline(always)]
-    pub fn clock(&self) -> Clock
+    pub(crate) fn clock(&self) -> Clock
         ensures { result ≡ (self.now).clock }
     {
         self.clock
@@ -213,54 +210,58 @@ impl Board {
 
     /// All ticks below this one are done.
     #[inline(always)]
-    pub fn closed(&self) -> u64
+    pub(crate) fn closed(&self) -> u64
         ensures { result ≡ self.now.closed }
     {
         self.closed
     }
 
-    // Does all ticks below `t`. The fields that say how far it came are written once, behind the loop.
-    #[inline(never)]
-    fn catch_up(&mut self, t: u64)
+    /// Does all ticks below `t`. The fields that say how far it came are written once, behind the loop.
+    pub(crate) fn close(&mut self, t: u64)
         requires low { self.old.closed ≤ t }
         requires room { t < 2 ^ 48 }
         ensures { self.new ≡ board_closed self.old t }
     {
         let mut next = self.next;
         while next < t {
-            next = tick(
+            next = go_on(
                 &mut self.devices,
                 &mut self.playback,
-                &mut self.short,
                 &self.ram,
                 &self.roms,
-                &self.micro,
+                self.clock,
                 next,
+                t,
             );
         }
         self.next = next;
         self.closed = t;
     }
 
-    /// Does all ticks below `t`. Where nothing comes there, this is one number.
-    #[inline(always)]
-    pub fn close(&mut self, t: u64)
-        requires low { self.old.closed ≤ t }
-        requires room { t < 2 ^ 48 }
-        ensures { self.new ≡ board_closed self.old t }
+    /// A tick up to which the lines to the processor surely stay as they are.
+    pub(crate) fn calm(&self) -> u64
+        ensures low { self.now.closed ≤ result }
+        ensures calm { IsCalm result self.now }
     {
-        if t <= self.next {
-            self.closed = t;
-        } else {
-            self.catch_up(t);
-        }
+        let ticks = self
+            .devices
+            .calm(&self.playback.keys)
+            .saturating_mul(self.clock.micro());
+        self.next.saturating_add(ticks).min(self.playback.event)
+    }
+
+    /// An address of the RAM below which the picture reads nothing, until a register is written.
+    pub(crate) fn lowest(&self) -> u16
+        ensures { ReadsAbove result self.now }
+    {
+        self.devices.lowest()
     }
 
     /// The byte of the RAM or of a ROM.
     #[inline(always)]
-    pub fn memory(&self, at: u16) -> u8
+    pub(crate) fn memory(&self, at: u16) -> u8
         requires { (at < 0xfc00) ⊎ (0xff00 ≤ at) }
-        ensures { (t : ℕ) → result ≡ answer_at (place_of at) self.now t at }
+        ensures { (t u : ℕ) → result ≡ answer_at (place_of at) (board_closed self.now u) t at }
     {
         if 0x8000 <= at && at < 0xc000 {
             self.roms.byte(self.latch, at - 0x8000)
@@ -271,7 +272,7 @@ impl Board {
 
     /// A write to the RAM.
     #[inline(always)]
-    pub fn store(&mut self, at: u16, v: u8)
+    pub(crate) fn store(&mut self, at: u16, v: u8)
         requires { at < 0x8000 }
         ensures { self.new ≡ record self.old { ram = slice_set (self.old).ram at v } }
     {
@@ -281,7 +282,7 @@ impl Board {
 
     /// A read in SHEILA at the last tick that is done.
     #[tactic(auto, unfolding(crate::specs::Devices::system_read, crate::specs::Devices::user_read, crate::specs::Devices::disc_read))]
-    pub fn read(&mut self, at: u16) -> u8
+    pub(crate) fn read(&mut self, at: u16) -> u8
         requires low { 0xfe00 ≤ at }
         requires high { at ≤ 0xfeff }
         ensures answer { (t : ℕ) → self.old.closed ≡ t + 1 → result ≡ answer_at (place_of at) self.old t at }
@@ -312,24 +313,15 @@ impl Board {
         self.devices.write_system(reg, v);
         if was_high && !self.devices.sound_line() {
             self.sound.tell(SoundWrite {
-                moment: self.closed.div_ceil(self.micro),
+                moment: self.closed.div_ceil(self.clock.micro()),
                 byte: self.devices.sound_data(),
             });
         }
     }
 
-    // A write to the converter, which may begin a conversion.
-    fn write_converter(&mut self, reg: u8, v: u8)
-        ensures { let d = converter_written reg v (self.old).devices in
-            self.new ≡ record self.old { devices = d } }
-    {
-        self.devices.write_converter(reg, v);
-        self.short = 0;
-    }
-
     /// A write in SHEILA.
     #[tactic(auto, unfolding(crate::specs::Devices::crtc_written, crate::specs::Devices::ula_written, crate::specs::Devices::user_written, crate::specs::Devices::disc_latched, crate::specs::Devices::disc_written))]
-    pub fn write(&mut self, at: u16, v: u8)
+    pub(crate) fn write(&mut self, at: u16, v: u8)
         requires low { 0xfe00 ≤ at }
         requires high { at ≤ 0xfeff }
         ensures after { self.new ≡ written_at (place_of at) at v self.old }
@@ -343,7 +335,7 @@ impl Board {
             Place::UserVia => self.devices.write_user((at % 16) as u8, v),
             Place::DiscLatch => self.devices.latch_disc(v),
             Place::DiscController => self.devices.write_disc((at % 4) as u8, v),
-            Place::Adc => self.write_converter((at % 4) as u8, v),
+            Place::Adc => self.devices.write_converter((at % 4) as u8, v),
             Place::Acia | Place::SerialUla | Place::Absent | Place::Tube => {}
             Place::Ram | Place::PagedRom | Place::OsRom | Place::Plugs => unreachable!(),
         }
@@ -351,7 +343,7 @@ impl Board {
 
     /// Whether a device asks for an interrupt.
     #[inline(always)]
-    pub fn irq(&self) -> bool
+    pub(crate) fn irq(&self) -> bool
         ensures { result ≡ board_irq self.now }
     {
         self.devices.ask()
@@ -359,7 +351,7 @@ impl Board {
 
     /// How often the NMI line has risen.
     #[inline(always)]
-    pub fn nmis(&self) -> u64
+    pub(crate) fn nmis(&self) -> u64
         ensures { result ≡ board_nmis self.now }
     {
         self.devices.nmis()
@@ -367,7 +359,7 @@ impl Board {
 
     /// The tick of the first break that was not taken, or the last number where none is left: before it none is pending, and from it on one is.
     #[inline(always)]
-    pub fn break_tick(&self) -> u64
+    pub(crate) fn break_tick(&self) -> u64
         ensures value { result ≡ unwrap_or (next_break self.now) 18446744073709551615 }
         ensures none { (t : ℕ) → t < result → break_pending self.now t ≡ false }
         ensures some { (t : ℕ) → result ≤ t → t < 2 ^ 63 → break_pending self.now t ≡ true }
@@ -376,7 +368,7 @@ impl Board {
     }
 
     /// The tick of the first break that was not taken.
-    pub fn next_break(&self) -> Option<Tick>
+    pub(crate) fn next_break(&self) -> Option<Tick>
         ensures { let next = next_break self.now in
             MatchOption result (next ≡ None) (λ t. next ≡ Some t.0) }
     {
@@ -385,7 +377,7 @@ impl Board {
 
     /// Takes every break up to tick `t`, of which one is pending. It takes no memory.
     #[tactic(auto, unfolding(crate::specs::Devices::devices_reset))]
-    pub fn take_break(&mut self, t: u64)
+    pub(crate) fn take_break(&mut self, t: u64)
         requires pending { break_pending self.old t ≡ true }
         requires room { t < 2 ^ 63 }
         ensures { self.new ≡ break_taken self.old t }
@@ -395,7 +387,7 @@ impl Board {
     }
 
     /// The disc in a drive.
-    pub fn disc(&self, drive: u8) -> Option<&Disc>
+    pub(crate) fn disc(&self, drive: u8) -> Option<&Disc>
         ensures { let there = disc_of drive (self.now).devices.disc in
             MatchOption result (there ≡ None) (λ disc. there ≡ Some disc.now) }
     {
@@ -403,14 +395,14 @@ impl Board {
     }
 
     /// The frames that shots took so far, the oldest first.
-    pub fn frames(&self) -> &[Frame]
+    pub(crate) fn frames(&self) -> &[Frame]
         ensures { result.now ≡ (self.now).shots }
     {
         self.playback.shots.frames()
     }
 
     /// The writes to the sound chip, the first 1,048,576 of them.
-    pub fn sound(&self) -> &[SoundWrite]
+    pub(crate) fn sound(&self) -> &[SoundWrite]
         ensures value { result.now ≡ (self.now).sound }
         ensures order { NeverFallFrom 0 result.now }
         ensures few { length result.now ≤ 1048576 }
@@ -419,7 +411,7 @@ impl Board {
     }
 
     /// The RAM.
-    pub fn ram(&self) -> &[u8]
+    pub(crate) fn ram(&self) -> &[u8]
         ensures { result.now ≡ (self.now).ram }
     {
         &self.ram

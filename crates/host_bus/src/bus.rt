@@ -4,9 +4,9 @@ ghost use Rattle.sn76489.specs.Samples.{NeverFallFrom};
 ghost use Rattle.host_bus.specs.Map.{stretch};
 ghost use Rattle.host_bus.specs.Bus.{bus_closed, closed_at, clock_of, bus_answer, bus_after_read, bus_after_write, bus_irq, bus_nmis, bus_break_pending, bus_next_break, bus_break_taken, bus_disc, bus_power_on};
 ghost use Rattle.host_bus.specs.Peek.{bus_peek};
-ghost use Rattle.host_bus.specs.View.{bus_seen};
+ghost use Rattle.host_bus.specs.View.{bus_seen, IsSettled};
 
-use crate::board::Board;
+use crate::lag::LaggingBoard;
 use crate::plugged::{read_first, write_first};
 use beeb_bits::{Clock, NoMemory, Tick};
 use bus_plug::BusDevice;
@@ -20,7 +20,7 @@ use std::alloc::Global;
 /// The host's bus: the board, and the plugged devices on FRED and JIM.
 #[derive(Drop)]
 pub struct Bus<D = Box<dyn BusDevice + Send>> {
-    board: Board,
+    board: LaggingBoard,
     plugs: Vec<D>,
 }
 
@@ -39,7 +39,7 @@ impl<D: BusDevice> Bus<D> {
         ensures { let devices = map D.plug plugs.items in
             IfOk result (λ b. bus_seen D.plug b ≡ bus_power_on clock roms d0 d1 script devices) }
     {
-        let board = Board::make(alloc, clock, roms, d0, d1, script)?;
+        let board = LaggingBoard::make(alloc, clock, roms, d0, d1, script)?;
         Ok(Bus { board, plugs })
     }
 
@@ -248,11 +248,21 @@ impl<D: BusDevice> Bus<D> {
     /// Closes the bus at `n`, or leaves it closed as far as it is.
     pub fn finish(&mut self, n: Tick)
         requires { n.0 < 2 ^ 40 }
-        ensures { bus_seen D.plug self.new ≡ bus_closed (bus_seen D.plug self.old) n.0 }
+        ensures closed { bus_seen D.plug self.new ≡ bus_closed (bus_seen D.plug self.old) n.0 }
+        ensures settled { IsSettled self.new }
     {
         if self.closed() < n.0 {
             self.close(n.0);
         }
+        self.settle();
+    }
+
+    /// Steps the devices as far as the bus is closed. They may lag behind, which is seen nowhere but in `disc` and `frames`.
+    pub fn settle(&mut self)
+        ensures same { bus_seen D.plug self.new ≡ bus_seen D.plug self.old }
+        ensures settled { IsSettled self.new }
+    {
+        self.board.settle();
     }
 
     /// The RAM.
@@ -262,10 +272,10 @@ impl<D: BusDevice> Bus<D> {
         self.board.ram()
     }
 
-    /// The frames that shots took so far, the oldest first. A shot takes the last frame that was finished, or a black one, before the
-    /// device step at its tick.
+    /// The frames that shots took so far, the oldest first, as far as the devices are stepped: all of them where the bus is settled. A shot takes
+    /// the last frame that was finished, or a black one, before the device step at its tick.
     pub fn frames(&self) -> &[Frame]
-        ensures { result.now ≡ (bus_seen D.plug self.now).board.shots }
+        ensures { IsSettled self.now → result.now ≡ (bus_seen D.plug self.now).board.shots }
     {
         self.board.frames()
     }
@@ -280,10 +290,11 @@ impl<D: BusDevice> Bus<D> {
         self.board.sound()
     }
 
-    /// The disc in drive 0 or 1. None where the drive has none, and for any other number.
+    /// The disc in drive 0 or 1, as far as the devices are stepped: as it is where the bus is settled. None where the drive has none, and for any
+    /// other number.
     pub fn disc(&self, drive: u8) -> Option<&Disc>
         ensures { let there = bus_disc drive (bus_seen D.plug self.now) in
-            MatchOption result (there ≡ None) (λ disc. there ≡ Some disc.now) }
+            IsSettled self.now → MatchOption result (there ≡ None) (λ disc. there ≡ Some disc.now) }
     {
         self.board.disc(drive)
     }

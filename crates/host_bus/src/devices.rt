@@ -1,17 +1,20 @@
 //! The devices that go by microseconds, and how they are wired.
 ghost use Rattle.std.specs.Prelude.{◌≡◌, ◌≤◌, ◌<◌, ◌+◌, ◌%◌, ◌^◌, ◌==◌, ℕ, Bool, true, List, None, Some, MatchOption, IfOk, length, if◌then◌else◌};
-ghost use Rattle.adc7002.specs.Registers.{is_at_rest};
 ghost use Rattle.adc7002.specs.Step.{step};
 ghost use Rattle.raster.specs.Clock.{vsync_of};
+ghost use Rattle.raster.specs.Reads.{ReadsFrom};
 ghost use Rattle.wd1770.specs.Select.{disc_of};
 ghost use Rattle.keyboard.specs.Keys.{keys_of};
-ghost use Rattle.host_bus.specs.Devices.{system_pins, raster_after, microsecond, last_frame, crtc_answer, crtc_written, ula_written, system_answer, system_read, system_written, sound_line, sound_data, after_latch, converter_answer, converter_written, user_answer, user_read, user_written, disc_latched, disc_answer, disc_read, disc_written, devices_ask, devices_reset, first_devices};
+ghost use Rattle.keyboard.specs.Latch.{screen_size};
+ghost use Rattle.host_bus.specs.Apart.{AreCalm};
+ghost use Rattle.host_bus.specs.Devices.{system_pins, raster_after, microsecond, last_frame, microseconds, crtc_answer, crtc_written, ula_written, system_answer, system_read, system_written, sound_line, sound_data, after_latch, converter_answer, converter_written, user_answer, user_read, user_written, disc_latched, disc_answer, disc_read, disc_written, devices_ask, devices_reset, first_devices};
 
+use crate::law::devices_go_on_apart;
 use adc7002::Adc;
 use beeb_bits::NoMemory;
 use disc_image::Disc;
 use keyboard::{Keys, Latch};
-use raster::{Frame, Raster};
+use raster::{Frame, Raster, sync_stays_on};
 use rom_set::RomSet;
 use std::alloc::Global;
 use std::marker::Model;
@@ -39,19 +42,20 @@ pub(crate) struct Devices {
     converter: Adc,
     system: Via,
     user: Via,
+    // For so many microseconds vertical sync and the converter's line surely stay as they are.
+    steady: u64,
 }
 
 impl Model for Devices {
-    ghost use Rattle.std.specs.Prelude.{◌≡◌};
-    ghost use Rattle.keyboard.specs.Latch.{screen_size};
     ghost use Rattle.host_bus.specs.Devices.{Devices};
+    ghost use Rattle.host_bus.specs.CodeDevices.{AreInStep};
 
     ghost Value = { Devices };
 
     ghost view = { λ d.
         record { video = d.video; disc = d.disc; latch = d.latch.bits; converter = d.converter; system = d.system; user = d.user } };
 
-    ghost invariant = { λ d. d.size ≡ screen_size d.latch.bits };
+    ghost invariant = { AreInStep };
 }
 
 impl Devices {
@@ -74,6 +78,7 @@ impl Devices {
             converter: Adc::new(),
             system: Via::new(),
             user: Via::new(),
+            steady: 0,
         })
     }
 
@@ -97,45 +102,38 @@ impl Devices {
         }
     }
 
-    // One microsecond of the picture.
+    // One microsecond of the picture, which may change vertical sync.
     #[inline(always)]
+    #[tactic(auto, using(crate::proofs::Steady::no_microsecond, crate::proofs::Steady::no_step))]
     fn draw(&mut self, ram: &[u8], roms: &RomSet)
         requires { length ram.now ≡ 32768 }
         ensures { self.new ≡ record self.old { video = raster_after ram.now roms.now.font self.old } }
     {
+        self.steady = 0;
         self.video.step(ram, self.size, roms);
     }
 
-    /// One microsecond, over this RAM and with the font of these ROMs, while the converter is at rest: so the levels of its channels do not
-    /// matter.
+    // One microsecond of the converter, which may change its line.
     #[inline(always)]
-    #[tactic(auto, unfolding(crate::specs::Devices::microsecond))]
-    pub(crate) fn step_at_rest(&mut self, ram: &[u8], roms: &RomSet, keys: &Keys)
-        requires ram { length ram.now ≡ 32768 }
-        requires rests { is_at_rest (self.old).converter ≡ true }
-        ensures after { (levels : List ℕ) → self.new ≡ microsecond ram.now roms.now.font (keys_of keys.now) levels self.old }
-        ensures rests { is_at_rest (self.new).converter ≡ true }
-    {
-        self.draw(ram, roms);
-        self.disc.step();
-        let pins = self.system_pins(true, keys);
-        self.system.step(pins);
-        self.user.step(USER_PINS);
-    }
-
-    // One microsecond of the converter.
-    #[inline(always)]
-    #[tactic(auto, using(crate::proofs::Resting::one_step))]
+    #[tactic(auto, using(crate::proofs::Steady::one_step, crate::proofs::Steady::no_microsecond, crate::proofs::Steady::no_step))]
     fn convert(&mut self, levels: [u16; 4])
         ensures { self.new ≡ record self.old { converter = step levels (self.old).converter } }
     {
+        self.steady = 0;
         self.converter.advance(levels, 1);
     }
 
-    /// Any microsecond, with these levels of the converter's channels. Kept out of the loop, whose frame has no room for it.
+    // Finds out how long vertical sync and the converter's line stay as they are.
+    fn look_ahead(&mut self)
+        ensures { self.new ≡ self.old }
+    {
+        self.steady = self.video.calm().min(self.converter.calm());
+    }
+
+    // Any microsecond. One follows at which a line between two devices may change.
     #[inline(never)]
     #[tactic(auto, unfolding(crate::specs::Devices::microsecond))]
-    pub(crate) fn step(&mut self, ram: &[u8], roms: &RomSet, keys: &Keys, levels: [u16; 4])
+    fn step(&mut self, ram: &[u8], roms: &RomSet, keys: &Keys, levels: [u16; 4])
         requires { length ram.now ≡ 32768 }
         ensures { self.new ≡ microsecond ram.now roms.now.font (keys_of keys.now) levels self.old }
     {
@@ -146,33 +144,68 @@ impl Devices {
         let pins = self.system_pins(line, keys);
         self.system.step(pins);
         self.user.step(USER_PINS);
+        self.look_ahead();
     }
 
-    /// Tick `k`, which is a microsecond, where these have so many ticks, or not.
-    pub(crate) fn tick(
+    // Does some of `n` microseconds, and answers how many are left: those in which the lines between the devices stay as they are, of each
+    // device by itself, or one by one where one of them may change.
+    fn go_on(&mut self, ram: &[u8], roms: &RomSet, keys: &Keys, levels: [u16; 4], n: u64) -> u64
+        requires ram { length ram.now ≡ 32768 }
+        requires some { 0 < n }
+        ensures fewer { result < n }
+        ensures rest { let after = microseconds ram.now roms.now.font (keys_of keys.now) levels in
+            after result self.new ≡ after n self.old }
+    {
+        if self.steady == 0 {
+            self.step(ram, roms, keys, levels);
+            return n - 1;
+        }
+        devices_go_on_apart();
+        sync_stays_on();
+        let steps = n.min(self.steady);
+        let pins = self.system_pins(self.converter.cb1(), keys);
+        self.video.advance(ram, self.size, roms, steps);
+        self.disc.advance(steps);
+        self.converter.advance(levels, steps);
+        self.system.advance(pins, steps);
+        self.user.advance(USER_PINS, steps);
+        self.steady -= steps;
+        n - steps
+    }
+
+    /// Does `n` microseconds, over this RAM and with the font of these ROMs, these keys and these levels of the converter's channels.
+    pub(crate) fn advance(
         &mut self,
         ram: &[u8],
         roms: &RomSet,
         keys: &Keys,
         levels: [u16; 4],
-        micro: u64,
-        k: u64,
+        n: u64,
     )
-        requires ram { length ram.now ≡ 32768 }
-        requires micro { 0 < micro }
-        ensures { let after = microsecond ram.now roms.now.font (keys_of keys.now) levels self.old in
-            self.new ≡ (if k % micro == 0 then after else self.old) }
+        requires { length ram.now ≡ 32768 }
+        ensures { self.new ≡ microseconds ram.now roms.now.font (keys_of keys.now) levels n self.old }
     {
-        if k % micro == 0 {
-            self.step(ram, roms, keys, levels);
+        let mut left = n;
+        while left > 0 {
+            left = self.go_on(ram, roms, keys, levels, left);
         }
     }
 
-    /// No conversion goes on, and none has ended.
-    pub(crate) fn is_at_rest(&self) -> bool
-        ensures { result ≡ is_at_rest (self.now).converter }
+    /// A number of microseconds for which, with these keys, the lines to the processor surely stay as they are.
+    pub(crate) fn calm(&self, keys: &Keys) -> u64
+        ensures { AreCalm (keys_of keys.now) result self.now }
     {
-        self.converter.is_at_rest()
+        let pins = self.system_pins(self.converter.cb1(), keys);
+        devices_go_on_apart();
+        let chips = self.disc.calm().min(self.user.calm(USER_PINS));
+        chips.min(self.system.calm(pins)).min(self.steady)
+    }
+
+    /// An address of the RAM below which the picture reads nothing, until a register is written.
+    pub(crate) fn lowest(&self) -> u16
+        ensures { ReadsFrom result (screen_size (self.now).latch) (self.now).video }
+    {
+        self.video.lowest(self.size)
     }
 
     /// The last frame that was finished, or a black one.
@@ -189,6 +222,7 @@ impl Devices {
         ensures answer { result ≡ crtc_answer at self.old }
         ensures after { self.new ≡ self.old }
     {
+        self.steady = 0;
         if at % 2 == 0 {
             0xfe
         } else {
@@ -201,6 +235,7 @@ impl Devices {
     pub(crate) fn write_crtc(&mut self, at: u16, v: u8)
         ensures { self.new ≡ crtc_written at v self.old }
     {
+        self.steady = 0;
         if at % 2 == 0 {
             self.video.crtc().select(v);
         } else {
@@ -213,6 +248,7 @@ impl Devices {
     pub(crate) fn write_ula(&mut self, at: u16, v: u8)
         ensures { self.new ≡ ula_written at v self.old }
     {
+        self.steady = 0;
         if at % 2 == 0 {
             self.video.ula().control(v);
         } else {
@@ -301,6 +337,7 @@ impl Devices {
     pub(crate) fn write_converter(&mut self, reg: u8, v: u8)
         ensures { self.new ≡ converter_written reg v self.old }
     {
+        self.steady = 0;
         self.converter.write(reg, v);
     }
 

@@ -5,6 +5,8 @@ mod board;
 mod breaks;
 mod bus;
 mod devices;
+mod lag;
+mod law;
 mod map;
 mod playback;
 mod plugged;
@@ -12,4 +14,5 @@ mod shots;
 mod sound;
 
 pub use bus::Bus;
+pub use law::devices_go_on_apart;
 pub use map::stretch;

@@ -1,5 +1,6 @@
 -- What a host is, by what its plugged devices are.
 use Rattle.bus_plug.specs.Plug.{Plug}
+use Rattle.host_bus.specs.View as bus
 use Rattle.host_bus.specs.View.{bus_seen}
 use Rattle.tube_machine.specs.Step.{at_of}
 use Rattle.host_mach.specs.declared.bus.HostBus.{HostBus}
@@ -11,3 +12,7 @@ host_bus_seen plug b = host_bus_of (bus_seen plug b.bus) b.nmis
 
 abbrev pub host_seen : {D : Type 0} → (D → Plug) → HostMachine D → HostState
 host_seen plug m = at_of m.cpu (host_bus_seen plug m.bus) m.due
+
+-- Its devices are stepped as far as its bus is closed.
+abbrev pub IsSettled : {D : Type 0} → HostMachine D → Type 0
+IsSettled m = bus.IsSettled m.bus.bus

@@ -13,7 +13,7 @@ use Rattle.saa5050.specs.Shapes.{Font}
 use Rattle.raster.specs.Beam.{byte_address}
 use Rattle.raster.specs.State.{State}
 use Rattle.raster.specs.Clock.{begin_leaves, char_clock_leaves, draw_byte_leaves, draw_cell_leaves, show_leaves, pass_leaves, microsecond, microseconds}
-use Rattle.raster.specs.Reads.{ReadsFrom, StaysInSync}
+use Rattle.raster.specs.Reads.{ReadsFrom, StaysInSync, SyncStaysOn}
 
 crtc_by : (b c : Bool) (x y s : State) → x.crtc ≡ s.crtc → y.crtc ≡ s.crtc → (if b then (if c then x else y) else s).crtc ≡ s.crtc
 crtc_by true true x y s p q = p
@@ -127,3 +127,28 @@ calm_micro n calm true s e stays few ram size font k h =
     ap (λ (c : CrtcState). is_in_sync c) (crtc_after k true ram size font s e) ∙ stays (k * 2) (omega arith)
 calm_micro n calm false s e stays few ram size font k h =
     ap (λ (c : CrtcState). is_in_sync c) (crtc_after k false ram size font s e) ∙ stays (k * 1) (omega arith)
+
+-- it goes by the clocks alone, whatever is drawn
+ula_after : (n : ℕ) (ram : List ℕ) (size : ℕ) (font : Font) (s : State) → (microseconds ram size font n s).ula ≡ s.ula
+ula_after zero ram size font s = refl
+ula_after (suc n) ram size font s =
+    ula_after n ram size font (microsecond ram size font s) ∙ micro_ula_by (bit s.ula.control 4) ram size font s
+
+crtc_on : (ram ram_on : List ℕ) (size size_on m k : ℕ) (font font_on : Font) (s : State) →
+    (microseconds ram_on size_on font_on k (microseconds ram size font m s)).crtc ≡ (microseconds ram size font (m + k) s).crtc
+crtc_on ram ram_on size size_on m k font font_on s =
+    let b = bit s.ula.control 4 in
+    let there = microseconds ram size font m s in
+    let same : bit there.ula.control 4 ≡ b = ap (λ (u : UlaState). bit u.control 4) (ula_after m ram size font s) in
+    let sum : m * rate_by b + k * rate_by b ≡ (m + k) * rate_by b = grind arith in
+    crtc_after k b ram_on size_on font_on there same
+    ∙ ap (λ (c : CrtcState). clocks (k * rate_by b) c) (crtc_after m b ram size font s refl)
+    ∙ clocks_more (k * rate_by b) (m * rate_by b) s.crtc
+    ∙ ap (λ n. clocks n s.crtc) sum
+    ∙ sym (crtc_after (m + k) b ram size font s refl)
+
+pub sync_on : SyncStaysOn
+sync_on n m size ram font s less stays ram_on size_on font_on k low =
+    ap (λ (c : CrtcState). is_in_sync c) (crtc_on ram ram_on size size_on m k font font_on s)
+    ∙ stays ram size font (m + k) (omega (arith, less, low))
+    ∙ sym (stays ram size font m less)

@@ -1,5 +1,5 @@
 -- Which bytes of the RAM the beam reads, and how long vertical sync stays what it is.
-use Rattle.std.specs.Prelude.{ℕ, ◌≡◌, ◌<◌, ◌≤◌, true, List, slice_set}
+use Rattle.std.specs.Prelude.{ℕ, ◌-◌, ◌≡◌, ◌<◌, ◌≤◌, true, List, slice_set}
 use Rattle.crtc6845.specs.Laws.{tells}
 use Rattle.crtc6845.specs.Windows.{IsInWindow}
 use Rattle.saa5050.specs.Shapes.{Font}
@@ -28,6 +28,12 @@ StoresBelowAreUnseen =
 abbrev pub StaysInSync : ℕ → State → Type 0
 StaysInSync n s =
     (ram : List ℕ) (size : ℕ) (font : Font) (k : ℕ) → k ≤ n → vsync_of (microseconds ram size font k s) ≡ vsync_of s
+
+-- What is left of that after m of them goes on, whatever is drawn, until a register is written.
+abbrev pub SyncStaysOn : Type 0
+SyncStaysOn =
+    (n m size : ℕ) (ram : List ℕ) (font : Font) (s : State) → m ≤ n → StaysInSync n s →
+    StaysInSync (n - m) (microseconds ram size font m s)
 
 -- No byte below this address is shown of the characters of a window.
 abbrev pub IsLowest : ℕ → ℕ → ℕ → ℕ → Type 0

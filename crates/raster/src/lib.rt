@@ -11,5 +11,5 @@ mod screen;
 mod text;
 
 pub use frame::Frame;
-pub use law::{reads_go_on, stores_below_are_unseen};
+pub use law::{reads_go_on, stores_below_are_unseen, sync_stays_on};
 pub use raster::Raster;

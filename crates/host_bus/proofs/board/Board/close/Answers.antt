@@ -1,17 +1,63 @@
-use Rattle.std.proofs.Common.{◌≡◌, ◌∙◌, ap, arith}
-use Rattle.host_bus.specs.Board.{BoardState, board_closed}
-use Rattle.host_bus.proofs.Closed.{valid-later, seen-later}
+use Rattle.std.proofs.Common.{◌≡◌, ◌≤◌, ◌-◌, ◌∙◌, sym, ap, subst, ℕ, min, List, arith}
+use Rattle.beeb_bits.specs.Clock.{micro}
+use Rattle.key_script.specs.declared.Event.{Event}
+use Rattle.host_bus.specs.Board.{BoardState, around, moving_part, ticks, board_closed}
+use Rattle.host_bus.specs.CodeBoard.{board_seen, moving}
+use Rattle.host_bus.specs.CodeBreaks.{IsNextBreak, breaks_before}
+use Rattle.host_bus.proofs.Heard.{in-time-later}
+use Rattle.host_bus.proofs.Closed.{valid-later, seen-later, gone, caught}
 use Rattle.host_bus.proofs.board.Board.close.Goals as goal
+
+pub loop-next-init : goal.loop-next-init
+loop-next-init c =
+    let b = c.self.inside in
+    let valid = c.self.invariant in
+    let u = min b.next c.args.t in
+    let same : b.closed ≡ c.args.self.now.closed = ap (λ (s : BoardState). s.closed) c.self.view_is in
+    let low : b.closed ≤ u = omega (arith, same, c.requires.low, valid.on_time.first, valid.on_time.least, valid.played.early) in
+    let high : u ≤ b.next = omega arith in
+    record {
+      valid = valid-later b u valid low high;
+      same = caught (board_seen b) (board_seen (record b { closed = u })) (board_closed c.args.self.now c.args.t) u c.args.t (seen-later b u valid low high) (omega arith) (ap (λ (s : BoardState). board_closed s c.args.t) c.self.view_is);
+    }
+
+pub loop-next-preserved : goal.loop-next-preserved
+loop-next-preserved c =
+    let next = c.loop-next.next in
+    let b = record c.loop-next.self-inside { closed = min next c.args.t; next = next } in
+    let valid = c.loop-next.invariant.valid in
+    let done = rw c.deref.ensures.value at c.go_on-next.ensures in
+    let p = c.go_on-next.new.playback in
+    let u = min c.args.t c.go_on-next.result in
+    let same : min c.go_on-next.result c.args.t ≡ u = omega arith in
+    let here : next ≡ min next c.args.t = omega (arith, c.loop-next-test.true) in
+    let past : next ≤ u = omega (arith, c.loop-next-test.true, done.on) in
+    let moved = subst (λ (k : ℕ). moving c.go_on-next.new.devices p.shots.frames ≡ ticks (around (board_seen b)) (u - k) k (moving_part (board_seen b))) here done.ticks in
+    let went : board_seen (record b { playback = p; devices = c.go_on-next.new.devices; closed = u }) ≡ board_closed (board_seen b) u =
+    ap (λ (script : List Event). let s : BoardState = record (board_seen b) { script = script; breaks = breaks_before b.breaks.place script; devices = c.go_on-next.new.devices; shots = p.shots.frames; closed = u } in s) done.script
+    ∙ gone (board_seen b) u (moving c.go_on-next.new.devices p.shots.frames) (omega (arith, past, here)) moved in
+    rw same (record {
+      valid = record {
+        memory = valid.memory;
+        addresses = valid.addresses;
+        shows = valid.shows;
+        slot = valid.slot;
+        played = done.played;
+        on_time = done.next;
+        next_break = subst (λ (script : List Event). IsNextBreak b.breaks script) (sym done.script) valid.next_break;
+        in_time = in-time-later (micro b.clock) b.closed u b.sound valid.in_time (omega (arith, past, here));
+      };
+      same = caught (board_seen b) (board_seen (record b { playback = p; devices = c.go_on-next.new.devices; closed = u })) (board_closed c.args.self.now c.args.t) u c.args.t went (omega arith) c.loop-next.invariant.same;
+    })
 
 pub invariant_of-self : goal.invariant_of-self
 invariant_of-self c =
-    let b = c.self.inside in
-    let same : b.closed ≡ c.args.self.now.closed = ap (λ (s : BoardState). s.closed) c.self.view_is in
-    valid-later b c.args.t c.self.invariant (omega (arith, same, c.requires.low)) c.if-t-self.true
+    let next = c.loop-next.next in
+    let b = record c.loop-next.self-inside { closed = min next c.args.t; next = next } in
+    valid-later b c.args.t c.loop-next.invariant.valid (omega arith) c.loop-next-test.false
 
-pub returns-then-t-self : goal.returns-then-t-self
-returns-then-t-self c =
-    let b = c.self.inside in
-    let same : b.closed ≡ c.args.self.now.closed = ap (λ (s : BoardState). s.closed) c.self.view_is in
-    seen-later b c.args.t c.self.invariant (omega (arith, same, c.requires.low)) c.if-t-self.true
-    ∙ ap (λ (s : BoardState). board_closed s c.args.t) c.self.view_is
+pub returns : goal.returns
+returns c =
+    let next = c.loop-next.next in
+    let b = record c.loop-next.self-inside { closed = min next c.args.t; next = next } in
+    seen-later b c.args.t c.loop-next.invariant.valid (omega arith) c.loop-next-test.false ∙ c.loop-next.invariant.same

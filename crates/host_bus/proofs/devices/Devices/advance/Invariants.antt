@@ -1,0 +1,13 @@
+use Rattle.std.proofs.Common.{◌≡◌}
+use Rattle.keyboard.specs.Keys.{keys_of}
+use Rattle.host_bus.specs.Devices.{microseconds}
+use Rattle.host_bus.proofs.devices.Devices.advance.Given as goal
+
+-- what is left of them comes to all of them
+abbrev pub invariant-loop-left : goal.invariant-loop-left
+invariant-loop-left l =
+    microseconds l.ram l.roms.font (keys_of l.keys) l.levels l.left l.self
+    ≡ microseconds l.ram l.roms.font (keys_of l.keys) l.levels l.n l.fn.self
+
+abbrev pub decreases-loop-left : goal.decreases-loop-left
+decreases-loop-left l = l.left

@@ -1,0 +1,26 @@
+use Rattle.std.proofs.Common.{◌≡◌, ◌∙◌, ap, sym, subst, arith}
+use Rattle.host_bus.specs.declared.map.Place.TheVariants.{Ram}
+use Rattle.host_bus.specs.Board.{BoardState, board_closed, written_at}
+use Rattle.host_bus.specs.Lag.{Lag, caught_up, IsCalm, ReadsAbove}
+use Rattle.host_bus.proofs.Unseen.{stored-behind, calm-stored}
+use Rattle.host_bus.proofs.lag.LaggingBoard.store.Goals as goal
+
+pub invariant_of-self : goal.invariant_of-self
+invariant_of-self c =
+    let b = c.self.inside in
+    let h = c.self.invariant in
+    let there : c.store.new.self.closed ≡ b.board.closed = ap (λ (s : BoardState). s.closed) c.store.ensures in
+    record {
+      reached = omega (arith, there, h.reached);
+      near = h.near;
+      room = h.room;
+      lines = subst (λ (s : BoardState). IsCalm b.calm s) (sym c.store.ensures) (calm-stored c.reads_go_on.ensures c.stores_below_are_unseen.ensures b.lowest c.args.at c.args.v b.board b.calm h.reads c.if-at-self.true h.lines);
+      reads = subst (λ (s : BoardState). ReadsAbove b.lowest s) (sym c.store.ensures) h.reads;
+    }
+
+pub returns-then-at-self : goal.returns-then-at-self
+returns-then-at-self c =
+    let b = c.self.inside in
+    ap (λ (s : BoardState). board_closed s b.closed) c.store.ensures
+    ∙ stored-behind c.reads_go_on.ensures c.stores_below_are_unseen.ensures b.lowest c.args.at c.args.v b.board b.closed c.self.invariant.reads c.if-at-self.true
+    ∙ ap (λ (l : Lag). written_at Ram c.args.at c.args.v (caught_up l)) c.self.view_is
