@@ -1,5 +1,5 @@
 -- Sixteen dots at a time are the dots by themselves.
-use Rattle.std.proofs.Common.{◌≡◌, ◌∙◌, sym, ap, subst, refl, ℕ, zero, suc, ◌+◌, ◌-◌, ◌*◌, ◌/◌, ◌%◌, ◌^◌, ◌<◌, ◌==◌, ◌≢◌, ◌≤◌, Bool, true, false, List, [], ◌∷◌, ◌++◌, map, take, drop, length, slice_index_or, ltb, arith}
+use Rattle.std.proofs.Common.{◌≡◌, ◌∙◌, sym, ap, subst, refl, ℕ, zero, suc, ◌+◌, ◌-◌, ◌*◌, ◌/◌, ◌%◌, ◌^◌, ◌<◌, ◌==◌, ◌≢◌, Bool, true, false, List, [], ◌∷◌, ◌++◌, map, take, drop, length, slice_index_or, ltb, arith}
 use Rattle.std.proofs.lemmas.Bool.{agree_below_at, ltb-true}
 use Rattle.std.proofs.lemmas.Bool.Decides.{nat_tests}
 use Rattle.std.proofs.lemmas.List.{take_more_set, take_all}
@@ -69,11 +69,11 @@ dots-same : (u : State) (byte : ℕ) (cursor : Bool) (xs : List ℕ) →
 dots-same u byte cursor xs =
     same_for_all _ _ (λ d. dot-same u (bit u.control 0) byte cursor (d / pixel_width u.control)) xs
 
-first-dots : (u : State) (byte : ℕ) (cursor : Bool) → bit u.control 4 ≡ true → colours u byte cursor ≡ map (dot_colour u byte cursor) (range_with_len 0 8)
-first-dots u byte cursor on = rw on refl
+pub first_dots : (u : State) (byte : ℕ) (cursor : Bool) → bit u.control 4 ≡ true → colours u byte cursor ≡ map (dot_colour u byte cursor) (range_with_len 0 8)
+first_dots u byte cursor on = rw on refl
 
-all-dots : (u : State) (byte : ℕ) (cursor : Bool) → bit u.control 4 ≡ false → colours u byte cursor ≡ map (dot_colour u byte cursor) (range_with_len 0 16)
-all-dots u byte cursor off = rw off refl
+pub all_dots : (u : State) (byte : ℕ) (cursor : Bool) → bit u.control 4 ≡ false → colours u byte cursor ≡ map (dot_colour u byte cursor) (range_with_len 0 16)
+all_dots u byte cursor off = rw off refl
 
 eight-dots : (u : State) → bit u.control 4 ≡ true → dots_of u.control ≡ 8
 eight-dots u on = rw on refl
@@ -85,13 +85,13 @@ pub first_eight-are : (u : State) (byte : ℕ) (cursor : Bool) (dots part to : L
     part ++ drop 8 to ≡ colours u byte cursor ++ drop (dots_of u.control) to
 first_eight-are u byte cursor dots part to on is first =
     let here : part ≡ colours u byte cursor =
-    first ∙ ap (take 8) is ∙ dots-same u byte cursor (range_with_len 0 8) ∙ sym (first-dots u byte cursor on) in
+    first ∙ ap (take 8) is ∙ dots-same u byte cursor (range_with_len 0 8) ∙ sym (first_dots u byte cursor on) in
     ap (λ xs. xs ++ drop 8 to) here ∙ ap (λ n. colours u byte cursor ++ drop n to) (sym (eight-dots u on))
 
 pub all-are : (u : State) (byte : ℕ) (cursor : Bool) (dots to : List ℕ) → bit u.control 4 ≡ false → drop 16 to ≡ [] → dots ≡ kept u byte cursor →
     dots ≡ colours u byte cursor ++ drop (dots_of u.control) to
 all-are u byte cursor dots to off none is =
-    let here : dots ≡ colours u byte cursor = is ∙ dots-same u byte cursor (range_with_len 0 16) ∙ sym (all-dots u byte cursor off) in
+    let here : dots ≡ colours u byte cursor = is ∙ dots-same u byte cursor (range_with_len 0 16) ∙ sym (all_dots u byte cursor off) in
     let rest : drop (dots_of u.control) to ≡ [] = ap (λ n. drop n to) (sixteen-dots u off) ∙ none in
     here ∙ sym (append-nil (colours u byte cursor)) ∙ ap (λ xs. colours u byte cursor ++ xs) (sym rest)
 

@@ -1,2 +1,4 @@
 pub mod EntryTable
 pub mod DotLemmas
+pub mod Rows
+pub mod ReadyRows

@@ -1,6 +1,6 @@
 -- What the code keeps and computes for the pixels: the colours of the palette's entries, and sixteen dots of a byte by the width of a
 -- pixel.
-use Rattle.std.specs.Prelude.{ℕ, ◌/◌, ◌≡◌, Bool, false, List, map, slice_index}
+use Rattle.std.specs.Prelude.{ℕ, ◌/◌, ◌<◌, ◌≡◌, Bool, false, List, [], ◌++◌, length, map, slice_index, slice_index_or}
 use Rattle.std.specs.List.{range_with_len}
 use Rattle.video_ula.specs.State.{State}
 use Rattle.video_ula.specs.Pixels.{shifted_byte, entry_of, under_cursor, colour_of, dot_colour}
@@ -32,3 +32,15 @@ table_of entries width = map (λ byte. eight_in entries byte false width) (range
 -- the table is right, or said not to be
 abbrev pub IsReady : List ℕ → ℕ → Ready → Type 0
 IsReady entries width r = r.waits ≡ 0 → r.table ≡ table_of entries width
+
+-- what is looked up there for a byte: its first eight dots, and sixteen of them, the last eight being the first of the byte as pixel
+-- `pixels` finds it
+abbrev pub eight_at : List (List ℕ) → ℕ → List ℕ
+eight_at table byte = slice_index_or table byte []
+
+abbrev pub sixteen_at : List (List ℕ) → ℕ → ℕ → List ℕ
+sixteen_at table pixels byte = eight_at table byte ++ eight_at table (shifted_byte byte pixels)
+
+-- eight dots stand there for each byte
+abbrev pub HasEights : List (List ℕ) → Type 0
+HasEights table = (byte : ℕ) → byte < 256 → length (eight_at table byte) ≡ 8

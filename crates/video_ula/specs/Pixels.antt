@@ -1,5 +1,5 @@
 -- The pixels of a byte, each dot by itself.
-use Rattle.std.specs.Prelude.{ℕ, ◌+◌, ◌-◌, ◌*◌, ◌/◌, ◌%◌, ◌^◌, ◌&&◌, Bool, List, ◌++◌, map, drop, bit_xor, slice_index, if◌then◌else◌}
+use Rattle.std.specs.Prelude.{ℕ, zero, suc, ◌+◌, ◌-◌, ◌*◌, ◌/◌, ◌%◌, ◌^◌, ◌&&◌, Bool, false, List, [], ◌++◌, map, bit_xor, slice_index, if◌then◌else◌}
 use Rattle.std.specs.List.{range_with_len}
 use Rattle.beeb_bits.specs.Bits.{bit}
 use Rattle.video_ula.specs.State.{State}
@@ -39,3 +39,12 @@ dot_colour u byte cursor d =
 -- the colours of a byte's dots
 abbrev pub colours : State → ℕ → Bool → List ℕ
 colours u byte cursor = map (dot_colour u byte cursor) (range_with_len 0 (dots_of u.control))
+
+-- The dots of n characters, one beside the other: those of the k-th are `dots k`, and they are counted from 0.
+abbrev pub side_by_side : (ℕ → List ℕ) → ℕ → List ℕ
+side_by_side dots zero = []
+side_by_side dots (suc n) = side_by_side dots n ++ dots n
+
+-- the colours of n characters side by side that the cursor does not mark, whose bytes are `step` apart
+abbrev pub row_colours : State → List ℕ → ℕ → ℕ → List ℕ
+row_colours u bytes step n = side_by_side (λ k. colours u (slice_index bytes (k * step)) false) n

@@ -1,8 +1,9 @@
 //! The first eight dots of all bytes, computed once for many.
-ghost use Rattle.std.specs.Prelude.{◌≡◌, ◌<◌, ◌≤◌, ◌==◌, ◌-◌, ◌^◌, ◌⊎◌, true, slice_index_or, []};
-ghost use Rattle.video_ula.specs.Colours.{eight_in, table_of, IsReady};
+ghost use Rattle.std.specs.Prelude.{ℕ, ◌≡◌, ◌<◌, ◌≤◌, ◌==◌, ◌-◌, ◌*◌, ◌^◌, ◌⊎◌, true, length, slice_index, slice_index_or, []};
+ghost use Rattle.video_ula.specs.Pixels.{side_by_side};
+ghost use Rattle.video_ula.specs.Colours.{eight_in, table_of, IsReady, eight_at, sixteen_at, HasEights};
 
-use crate::dots::eight;
+use crate::dots::{eight, shifted};
 
 /// How many bytes are computed each by itself before all are computed: as many as cost about as much.
 const PATIENCE: u8 = 100;
@@ -69,6 +70,48 @@ impl Ready {
     {
         fill(&mut self.table, entries, width);
         self.waits = 0;
+    }
+
+    // The dots of a byte by the table, as a copy: so that each is written whole.
+    #[inline(always)]
+    fn eight_at(&self, byte: u8) -> [u8; 8]
+        requires { HasEights self.now.table }
+        ensures dots { result ≡ eight_at self.now.table byte }
+        ensures eight { length result ≡ 8 }
+    {
+        self.table[byte as usize]
+    }
+
+    /// Writes the dots of `n` bytes, `step` apart, one beside the other: the first eight of each.
+    #[inline(always)]
+    pub(crate) fn narrow_row(&self, bytes: &[u8], step: usize, n: usize, to: &mut [u8])
+        requires table { HasEights self.now.table }
+        requires bytes { (k : ℕ) → k < n → k * step < length bytes.now }
+        requires room { length to.old ≡ n * 8 }
+        ensures { to.new ≡ side_by_side (λ k. eight_at self.now.table (slice_index bytes.now (k * step))) n }
+    {
+        for i in 0..n {
+            let eight = self.eight_at(bytes[i * step]);
+            to[8 * i..8 * i + 8].copy_from_slice(&eight);
+        }
+    }
+
+    /// Likewise sixteen of each, where the last eight are the first of the byte as pixel `pixels` finds it.
+    #[inline(always)]
+    pub(crate) fn wide_row(&self, bytes: &[u8], step: usize, n: usize, pixels: u32, to: &mut [u8])
+        requires table { HasEights self.now.table }
+        requires pixels { pixels < 16 }
+        requires bytes { (k : ℕ) → k < n → k * step < length bytes.now }
+        requires room { length to.old ≡ n * 16 }
+        ensures { to.new ≡ side_by_side (λ k. sixteen_at self.now.table pixels (slice_index bytes.now (k * step))) n }
+    {
+        for i in 0..n {
+            let byte = bytes[i * step];
+            let [a, b, c, d, e, f, g, h] = self.eight_at(byte);
+            let [q, r, s, t, u, v, w, x] = self.eight_at(shifted(byte, pixels));
+            let sixteen = [a, b, c, d, e, f, g, h, q, r, s, t, u, v, w, x];
+            to[16 * i..16 * i + 16].copy_from_slice(&sixteen);
+        }
     }
 
     /// The dots of a byte by the table.

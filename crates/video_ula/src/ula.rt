@@ -1,8 +1,8 @@
 //! The chip.
-ghost use Rattle.std.specs.Prelude.{◌≡◌, ◌++◌, false, drop, IfSome};
+ghost use Rattle.std.specs.Prelude.{ℕ, ◌≡◌, ◌<◌, ◌*◌, ◌++◌, true, false, drop, length, IfSome};
 ghost use Rattle.beeb_bits.specs.Bits.{bit};
 ghost use Rattle.video_ula.specs.State.{power_on, control_leaves, palette_leaves};
-ghost use Rattle.video_ula.specs.Pixels.{dots_of, pixel_width, colour_of, colours};
+ghost use Rattle.video_ula.specs.Pixels.{dots_of, pixel_width, colour_of, colours, row_colours};
 ghost use Rattle.video_ula.specs.Colours.{entry_colours, dots_in, eight_dots};
 
 use crate::dots::{shifted, sixteen};
@@ -125,6 +125,9 @@ impl Ula {
     pub fn prepare(&mut self)
         ensures { self.new ≡ self.old }
     {
+        if self.ready.is_ready() {
+            return;
+        }
         if self.ready.wait() {
             let entries = if bit(self.control, 0) {
                 self.flashed
@@ -157,6 +160,27 @@ impl Ula {
         } else {
             None
         }
+    }
+
+    /// Writes the colours of the dots of `n` characters side by side that the cursor does not mark, where they are ready, and tells whether
+    /// they are. Their bytes are `step` apart, and `to` has room for their dots and no more.
+    #[inline(always)]
+    pub fn row_ready(&self, bytes: &[u8], step: usize, n: usize, to: &mut [u8]) -> bool
+        requires bytes { (k : ℕ) → k < n → k * step < length bytes.now }
+        requires room { length to.old ≡ n * dots_of self.now.control }
+        ensures dots { result ≡ true → to.new ≡ row_colours self.now bytes.now step n }
+        ensures stays { result ≡ false → to.new ≡ to.old }
+    {
+        if !self.ready.is_ready() {
+            return false;
+        }
+        if bit(self.control, 4) {
+            self.ready.narrow_row(bytes, step, n, to);
+        } else {
+            self.ready
+                .wide_row(bytes, step, n, 1 << (self.control / 4 % 4), to);
+        }
+        true
     }
 
     // The colours of the entries, as the control byte's bit 0 says.

@@ -1,6 +1,6 @@
 use Rattle.std.proofs.Common.{ap, ℕ}
 use Rattle.std.specs.Prelude.{slice_index}
-use Rattle.video_ula.specs.Pixels.{shifted_byte, entry_of, under_cursor}
+use Rattle.video_ula.specs.Pixels.{entry_of, under_cursor}
 use Rattle.video_ula.proofs.DotLemmas.{ones-9, ones-10, ones-11, ones-12, ones-13, ones-14, ones-15}
 use Rattle.video_ula.proofs.dots.one_wide.Goals as goal
 

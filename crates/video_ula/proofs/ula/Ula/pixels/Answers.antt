@@ -1,4 +1,4 @@
-use Rattle.std.proofs.Common.{rules, ◌≡◌, ◌∙◌, sym, ap, true, false, List, ℕ, ◌≤◌, length, arith}
+use Rattle.std.proofs.Common.{rules, ◌≡◌, true, false, ◌≤◌, length, arith}
 use Rattle.std.proofs.Math.ListN.{drop_of_length-le}
 use Rattle.beeb_bits.specs.Bits.{bit}
 use Rattle.video_ula.proofs.DotLemmas.{first_eight-are, all-are}
