@@ -1,0 +1,4 @@
+pub mod Cycles
+pub mod Operands
+pub mod Masks
+pub mod Operations

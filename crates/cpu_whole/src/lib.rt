@@ -1,0 +1,7 @@
+//! A whole instruction of either part at once, on the registers alone, where each of its accesses is of plain memory.
+#![tactic(auto)]
+
+mod plain;
+mod ways;
+
+pub use plain::Plain;
