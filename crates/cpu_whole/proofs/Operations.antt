@@ -15,9 +15,10 @@ use Rattle.cpu_alu.specs.declared.flags.TheConstants.{INTERRUPT}
 use Rattle.cpu_alu.specs.Flags.{has_flag}
 use Rattle.cpu_alu.specs.Addresses.{with_pc_past}
 use Rattle.cpu_alu.specs.Instructions.{bus_use, is_decimal, stored_value, modified_value, read_result, modify_result}
+use Rattle.cpu_core.specs.declared.Sequence.TheVariants.{Instruction}
 use Rattle.cpu_core.specs.Accesses.{byte, row_at, waits, reach, address, operand, last_place, lasts_longer, cycle_between, modify_form, form}
 use Rattle.cpu_core.specs.Results.{after_row, after_opcode}
-use Rattle.cpu_core.specs.Sequences.{next_cycle, shown_byte, after}
+use Rattle.cpu_core.specs.Sequences.{next_cycle, shown_byte, after, fresh}
 use Rattle.cpu_whole.specs.Whole.{Reach, IsPlain, IsDone, Carried, is_plain, shows, leaves}
 use Rattle.cpu_whole.specs.CodeWays.{Follows, IsReached, on_the_way, more_by}
 use Rattle.cpu_whole.proofs.Cycles.{behind, next-row, from_fetch, more_by-suc, byte-seam, beyond}
@@ -54,17 +55,17 @@ module _ {M : Type 0} (g : Reach M) where
     operand-there x rest = byte-seam reached.seen rest op x (length (reach part way always r (Some op ∷ reached.seen ++ Some x ∷ rest))) (reached.steps (Some x ∷ rest))
 
   -- the registers of a row
-  pub after-row : (part : Part) (row : Row) (r : Regs) (op : ℕ) (use : BusUse) (f : List (Option ℕ)) → row_at part op ≡ Some row → bus_use row.mnemonic ≡ use
-      → after part (behind r op f) ≡ after_row part use row r (Some op ∷ f)
-  after-row part row r op use f decoded uses =
-      ap (λ (o : Option Row). after_opcode part o r (Some op ∷ f)) decoded ∙ ap (λ u. after_row part u row r (Some op ∷ f)) uses
+  pub after-row : (part : Part) (row : Row) (r : Regs) (op : ℕ) (uses : BusUse) (f : List (Option ℕ)) → row_at part op ≡ Some row → bus_use row.mnemonic ≡ uses
+      → after part (behind r op f) ≡ after_row part uses row r (Some op ∷ f)
+  after-row part row r op uses f decoded is =
+      ap (λ (o : Option Row). after_opcode part o r (Some op ∷ f)) decoded ∙ ap (λ u. after_row part u row r (Some op ∷ f)) is
 
   -- so many cycles
   pub counted : (part : Part) (r : Regs) (m : M) (k k2 : ℕ) (last : List (Option ℕ)) (op : ℕ) (there : M) → k ≡ k2
-      → Carried g part k (Rattle.cpu_core.specs.Sequences.fresh Rattle.cpu_core.specs.declared.Sequence.TheVariants.Instruction r) m (behind r op last) there
-      → Carried g part k2 (Rattle.cpu_core.specs.Sequences.fresh Rattle.cpu_core.specs.declared.Sequence.TheVariants.Instruction r) m (behind r op last) there
+      → Carried g part k (fresh Instruction r) m (behind r op last) there
+      → Carried g part k2 (fresh Instruction r) m (behind r op last) there
   counted part r m k k2 last op there h done =
-      subst (λ (j : ℕ). Carried g part j (Rattle.cpu_core.specs.Sequences.fresh Rattle.cpu_core.specs.declared.Sequence.TheVariants.Instruction r) m (behind r op last) there) h done
+      subst (λ (j : ℕ). Carried g part j (fresh Instruction r) m (behind r op last) there) h done
 
   module _ (part : Part) (row : Row) (r : Regs) (m : M) (at n : ℕ) (p : g.reads r.pc ≡ true) (decoded : row_at part (g.byte m r.pc) ≡ Some row) where
     abbrev code : ℕ
