@@ -1,5 +1,5 @@
 -- What is done at the operand, behind any way there.
-use Rattle.std.proofs.Common.{◌≡◌, ℕ, zero, suc, ◌+◌, List, [], ◌∷◌, ◌++◌, length, Bool, true, false, cond, Option, Some, None, slice_get, MatchOption, refl, sym, subst, ap, ◌∙◌, arith, append_assoc, length-append}
+use Rattle.std.proofs.Common.{◌≡◌, ◌≢◌, ℕ, zero, suc, ◌+◌, List, [], ◌∷◌, ◌++◌, length, Bool, true, false, cond, Option, Some, None, slice_get, MatchOption, refl, sym, subst, ap, ◌∙◌, arith, append_assoc, length-append}
 use Rattle.std.proofs.lemmas.List.{append-nil}
 use Rattle.op_table.specs.declared.names.Part.{Part}
 use Rattle.op_table.specs.declared.names.Part.TheVariants.{Nmos, Cmos}
@@ -123,3 +123,72 @@ module _ {M : Type 0} (g : Reach M) where
           regs = after-row part row r code Stores last decoded uses ∙ sym is;
           masks = ap (λ (q : Regs). has_flag q.p INTERRUPT) is;
         }
+
+    -- the forms that read and write back, but for A
+    in_memory : (way : Mode) (always : Bool) (f : List (Option ℕ)) → way ≢ Acc
+        → modify_form part row way always r (Some code ∷ f)
+        ≡ reach part way always r (Some code ∷ f) ++ Read (address way r (Some code ∷ f))
+        ∷ cycle_between part (address way r (Some code ∷ f)) (operand part way always r (Some code ∷ f))
+        ∷ Write (address way r (Some code ∷ f)) (modified_value row.mnemonic r (operand part way always r (Some code ∷ f))) ∷ []
+    in_memory Acc always f h = absurd (h refl)
+    in_memory _ always f h = refl
+
+    -- it is read and written back
+    pub changed : IsPlain g → (uses : BusUse) (always : Bool) → bus_use row.mnemonic ≡ uses
+        → ((f : List (Option ℕ)) → form part uses row r f ≡ modify_form part row row.mode always r f)
+        → ((f : List (Option ℕ)) → after_row part uses row r f ≡ modify_result row.mnemonic row.mode (with_pc_past r row.bytes) (operand part row.mode always r f))
+        → row.mode ≢ Acc → IsReached part g row.mode always r m at n → g.reads at ≡ true → g.writes at ≡ true
+        → (k : ℕ) (new : Regs) (there : M) → k ≡ n + 3 → new ≡ modify_result row.mnemonic row.mode (with_pc_past r row.bytes) (g.byte m at)
+        → there ≡ g.put m (n + 2) at (modified_value row.mnemonic r (g.byte m at)) → IsDone part g r m k new there
+    changed lawful uses always is_use forms results apart reached read written k new there count is put =
+        let x : ℕ = g.byte m at in
+        let v : ℕ = modified_value row.mnemonic r x in
+        let between : Cycle = cycle_between part at x in
+        let y : Option ℕ = shown_byte (Some between) (shows g m between) in
+        let seen : List (Option ℕ) = reached.seen in
+        let last : List (Option ℕ) = seen ++ Some x ∷ y ∷ None ∷ [] in
+        let m1 : M = leaves g m (n + 1) between in
+        let tail : List (Option ℕ) → List Cycle = λ f. Read (address row.mode r (Some code ∷ f))
+            ∷ cycle_between part (address row.mode r (Some code ∷ f)) (operand part row.mode always r (Some code ∷ f))
+            ∷ Write (address row.mode r (Some code ∷ f)) (modified_value row.mnemonic r (operand part row.mode always r (Some code ∷ f))) ∷ [] in
+        let next : List (Option ℕ) → Option Cycle = on_the_way part row.mode always r code tail in
+        let same : (f : List (Option ℕ)) → slice_get (form part (bus_use row.mnemonic) row r (Some code ∷ f)) (length f) ≡ next f = λ f.
+            ap (λ u. slice_get (form part u row r (Some code ∷ f)) (length f)) is_use
+            ∙ ap (λ l. slice_get l (length f)) (forms (Some code ∷ f) ∙ in_memory row.mode always f apart) in
+        let there_tail : (rest : List (Option ℕ)) → tail (seen ++ Some x ∷ rest) ≡ Read at ∷ between ∷ Write at v ∷ [] = λ rest.
+            ap (λ a. Read a ∷ cycle_between part a (operand part row.mode always r (Some code ∷ seen ++ Some x ∷ rest))
+                ∷ Write a (modified_value row.mnemonic r (operand part row.mode always r (Some code ∷ seen ++ Some x ∷ rest))) ∷ []) (reached.found (Some x ∷ rest))
+            ∙ ap (λ o. Read at ∷ cycle_between part at o ∷ Write at (modified_value row.mnemonic r o) ∷ []) (operand-there part row.mode always r m at n reached x rest) in
+        let here : next seen ≡ Some (Read at) = next-first part row.mode always r m at n reached tail ∙ ap (λ a. Some (Read a)) (found-first part row.mode always r m at n reached) in
+        let here1 : next (seen ++ Some x ∷ []) ≡ Some between =
+            next-there part row.mode always r m at n reached tail (Some x ∷ []) 1 refl ∙ ap (λ l. slice_get l 1) (there_tail []) in
+        let here2 : next (seen ++ Some x ∷ y ∷ []) ≡ Some (Write at v) =
+            next-there part row.mode always r m at n reached tail (Some x ∷ y ∷ []) 2 refl ∙ ap (λ l. slice_get l 2) (there_tail (y ∷ [])) in
+        let past : next last ≡ None =
+            next-there part row.mode always r m at n reached tail (Some x ∷ y ∷ None ∷ []) 3 refl ∙ ap (λ l. slice_get l 3) (there_tail (y ∷ None ∷ [])) in
+        let at1 : suc (length (seen ++ Some x ∷ [])) ≡ n + 1 = omega (arith, reached.count, length-append seen (Some x ∷ [])) in
+        let at2 : suc (length (seen ++ Some x ∷ y ∷ [])) ≡ n + 2 = omega (arith, reached.count, length-append seen (Some x ∷ y ∷ [])) in
+        let left : g.put m1 (suc (length (seen ++ Some x ∷ y ∷ []))) at v ≡ there = ap (λ (j : ℕ). g.put m1 j at v) at2 ∙ over_old part ∙ sym put in
+        let follows : Follows g next 3 seen m last there =
+            step next 2 seen m (Read at) (seen ++ Some x ∷ []) m last there here read refl refl
+            (step next 1 (seen ++ Some x ∷ []) m between (seen ++ Some x ∷ y ∷ []) m1 last there here1 (plain_between part) (append_assoc seen (Some x ∷ []) (y ∷ [])) (ap (λ (j : ℕ). leaves g m j between) at1)
+            (step next 0 (seen ++ Some x ∷ y ∷ []) m1 (Write at v) last there last there here2 written (append_assoc seen (Some x ∷ y ∷ []) (None ∷ [])) left (refl, refl))) in
+        let all = from_fetch g part row r m p decoded next same (more_by seen 3) last there (reached.goes tail 3 last there follows) in
+        record {
+          last = behind r code last;
+          carried = counted part r m (suc (more_by seen 3)) k last code there (omega (arith, more_by-suc seen 3, reached.count, count)) all;
+          over = next-row part code row r last decoded ∙ same last ∙ past;
+          regs = after-row part row r code uses last decoded is_use ∙ results (Some code ∷ last) ∙ ap (modify_result row.mnemonic row.mode (with_pc_past r row.bytes)) (operand-there part row.mode always r m at n reached x (y ∷ None ∷ [])) ∙ sym is;
+          masks = ap (λ (q : Regs). has_flag q.p INTERRUPT) is ∙ modify_kept row.mnemonic row.mode (with_pc_past r row.bytes) x;
+        }
+      where
+        plain_between : (part : Part) → is_plain g (cycle_between part at (g.byte m at)) ≡ true
+        plain_between Nmos = written
+        plain_between Cmos = read
+        two : suc (n + 1) ≡ n + 2
+        two = omega arith
+        over_old : (part : Part) → g.put (leaves g m (n + 1) (cycle_between part at (g.byte m at))) (n + 2) at (modified_value row.mnemonic r (g.byte m at)) ≡ g.put m (n + 2) at (modified_value row.mnemonic r (g.byte m at))
+        over_old Nmos =
+            let v : ℕ = modified_value row.mnemonic r (g.byte m at) in
+            ap (λ (j : ℕ). g.put (g.put m (n + 1) at (g.byte m at)) j at v) (sym two) ∙ lawful.again m (n + 1) at v ∙ ap (λ (j : ℕ). g.put m j at v) two
+        over_old Cmos = refl
