@@ -2,4 +2,4 @@ pub mod Cycles
 pub mod Operands
 pub mod Masks
 pub mod Operations
-pub mod Alone
+pub mod Forms

@@ -20,7 +20,7 @@ use Rattle.cpu_core.specs.Accesses.{byte, row_at, waits, reach, address, operand
 use Rattle.cpu_core.specs.Results.{after_row, after_opcode}
 use Rattle.cpu_core.specs.Sequences.{next_cycle, shown_byte, after, fresh}
 use Rattle.cpu_whole.specs.Whole.{Reach, IsPlain, IsDone, Carried, is_plain, shows, leaves}
-use Rattle.cpu_whole.specs.CodeWays.{Follows, IsReached, on_the_way, more_by}
+use Rattle.cpu_whole.specs.CodeWays.{Follows, IsReached, IsModifying, on_the_way, more_by}
 use Rattle.cpu_whole.proofs.Cycles.{behind, next-row, from_fetch, more_by-suc, byte-seam, beyond}
 use Rattle.cpu_whole.proofs.Masks.{read_kept, modify_kept}
 
@@ -88,8 +88,8 @@ module _ {M : Type 0} (g : Reach M) where
         let tail : List (Option ℕ) → List Cycle = λ f. Read (address row.mode r (Some code ∷ f)) ∷ [] in
         let next : List (Option ℕ) → Option Cycle = on_the_way part row.mode always r code tail in
         let same : (f : List (Option ℕ)) → slice_get (form part (bus_use row.mnemonic) row r (Some code ∷ f)) (length f) ≡ next f = λ f.
-            ap (λ u. slice_get (form part u row r (Some code ∷ f)) (length f)) uses
-            ∙ ap (λ b. slice_get (reach part row.mode always r (Some code ∷ f) ++ Read (address row.mode r (Some code ∷ f)) ∷ cond b (Read (last_place row.mode r) ∷ []) []) (length f)) (not_longer binary) in
+        ap (λ u. slice_get (form part u row r (Some code ∷ f)) (length f)) uses
+        ∙ ap (λ b. slice_get (reach part row.mode always r (Some code ∷ f) ++ Read (address row.mode r (Some code ∷ f)) ∷ cond b (Read (last_place row.mode r) ∷ []) []) (length f)) (not_longer binary) in
         let here : next reached.seen ≡ Some (Read at) = next-first part row.mode always r m at n reached tail ∙ ap (λ a. Some (Read a)) (found-first part row.mode always r m at n reached) in
         let follows = step next 0 reached.seen m (Read at) last m last m here plain refl refl (refl, refl) in
         let all = from_fetch g part row r m p decoded next same (more_by reached.seen 1) last m (reached.goes tail 1 last m follows) in
@@ -111,7 +111,7 @@ module _ {M : Type 0} (g : Reach M) where
         let tail : List (Option ℕ) → List Cycle = λ f. Write (address row.mode r (Some code ∷ f)) v ∷ [] in
         let next : List (Option ℕ) → Option Cycle = on_the_way part row.mode always r code tail in
         let same : (f : List (Option ℕ)) → slice_get (form part (bus_use row.mnemonic) row r (Some code ∷ f)) (length f) ≡ next f = λ f.
-            ap (λ u. slice_get (form part u row r (Some code ∷ f)) (length f)) uses in
+        ap (λ u. slice_get (form part u row r (Some code ∷ f)) (length f)) uses in
         let here : next reached.seen ≡ Some (Write at v) = next-first part row.mode always r m at n reached tail ∙ ap (λ a. Some (Write a v)) (found-first part row.mode always r m at n reached) in
         let left : g.put m (suc (length reached.seen)) at v ≡ there = ap (λ (j : ℕ). g.put m j at v) (sym reached.count) ∙ sym put in
         let follows = step next 0 reached.seen m (Write at v) last there last there here plain refl left (refl, refl) in
@@ -134,13 +134,10 @@ module _ {M : Type 0} (g : Reach M) where
     in_memory _ always f h = refl
 
     -- it is read and written back
-    pub changed : IsPlain g → (uses : BusUse) (always : Bool) → bus_use row.mnemonic ≡ uses
-        → ((f : List (Option ℕ)) → form part uses row r f ≡ modify_form part row row.mode always r f)
-        → ((f : List (Option ℕ)) → after_row part uses row r f ≡ modify_result row.mnemonic row.mode (with_pc_past r row.bytes) (operand part row.mode always r f))
-        → row.mode ≢ Acc → IsReached part g row.mode always r m at n → g.reads at ≡ true → g.writes at ≡ true
+    pub changed : IsPlain g → (always : Bool) → IsModifying part row always → row.mode ≢ Acc → IsReached part g row.mode always r m at n → g.reads at ≡ true → g.writes at ≡ true
         → (k : ℕ) (new : Regs) (there : M) → k ≡ n + 3 → new ≡ modify_result row.mnemonic row.mode (with_pc_past r row.bytes) (g.byte m at)
         → there ≡ g.put m (n + 2) at (modified_value row.mnemonic r (g.byte m at)) → IsDone part g r m k new there
-    changed lawful uses always is_use forms results apart reached read written k new there count is put =
+    changed lawful always uses apart reached read written k new there count is put =
         let x : ℕ = g.byte m at in
         let v : ℕ = modified_value row.mnemonic r x in
         let between : Cycle = cycle_between part at x in
@@ -149,46 +146,56 @@ module _ {M : Type 0} (g : Reach M) where
         let last : List (Option ℕ) = seen ++ Some x ∷ y ∷ None ∷ [] in
         let m1 : M = leaves g m (n + 1) between in
         let tail : List (Option ℕ) → List Cycle = λ f. Read (address row.mode r (Some code ∷ f))
-            ∷ cycle_between part (address row.mode r (Some code ∷ f)) (operand part row.mode always r (Some code ∷ f))
-            ∷ Write (address row.mode r (Some code ∷ f)) (modified_value row.mnemonic r (operand part row.mode always r (Some code ∷ f))) ∷ [] in
+        ∷ cycle_between part (address row.mode r (Some code ∷ f)) (operand part row.mode always r (Some code ∷ f))
+        ∷ Write (address row.mode r (Some code ∷ f)) (modified_value row.mnemonic r (operand part row.mode always r (Some code ∷ f))) ∷ [] in
         let next : List (Option ℕ) → Option Cycle = on_the_way part row.mode always r code tail in
         let same : (f : List (Option ℕ)) → slice_get (form part (bus_use row.mnemonic) row r (Some code ∷ f)) (length f) ≡ next f = λ f.
-            ap (λ u. slice_get (form part u row r (Some code ∷ f)) (length f)) is_use
-            ∙ ap (λ l. slice_get l (length f)) (forms (Some code ∷ f) ∙ in_memory row.mode always f apart) in
+        ap (λ l. slice_get l (length f)) (uses.forms r (Some code ∷ f) ∙ in_memory row.mode always f apart) in
         let there_tail : (rest : List (Option ℕ)) → tail (seen ++ Some x ∷ rest) ≡ Read at ∷ between ∷ Write at v ∷ [] = λ rest.
-            ap (λ a. Read a ∷ cycle_between part a (operand part row.mode always r (Some code ∷ seen ++ Some x ∷ rest))
-                ∷ Write a (modified_value row.mnemonic r (operand part row.mode always r (Some code ∷ seen ++ Some x ∷ rest))) ∷ []) (reached.found (Some x ∷ rest))
-            ∙ ap (λ o. Read at ∷ cycle_between part at o ∷ Write at (modified_value row.mnemonic r o) ∷ []) (operand-there part row.mode always r m at n reached x rest) in
+        ap (λ a. Read a ∷ cycle_between part a (operand part row.mode always r (Some code ∷ seen ++ Some x ∷ rest))
+        ∷ Write a (modified_value row.mnemonic r (operand part row.mode always r (Some code ∷ seen ++ Some x ∷ rest))) ∷ []) (reached.found (Some x ∷ rest))
+        ∙ ap (λ o. Read at ∷ cycle_between part at o ∷ Write at (modified_value row.mnemonic r o) ∷ []) (operand-there part row.mode always r m at n reached x rest) in
         let here : next seen ≡ Some (Read at) = next-first part row.mode always r m at n reached tail ∙ ap (λ a. Some (Read a)) (found-first part row.mode always r m at n reached) in
         let here1 : next (seen ++ Some x ∷ []) ≡ Some between =
-            next-there part row.mode always r m at n reached tail (Some x ∷ []) 1 refl ∙ ap (λ l. slice_get l 1) (there_tail []) in
+        next-there part row.mode always r m at n reached tail (Some x ∷ []) 1 refl ∙ ap (λ l. slice_get l 1) (there_tail []) in
         let here2 : next (seen ++ Some x ∷ y ∷ []) ≡ Some (Write at v) =
-            next-there part row.mode always r m at n reached tail (Some x ∷ y ∷ []) 2 refl ∙ ap (λ l. slice_get l 2) (there_tail (y ∷ [])) in
+        next-there part row.mode always r m at n reached tail (Some x ∷ y ∷ []) 2 refl ∙ ap (λ l. slice_get l 2) (there_tail (y ∷ [])) in
         let past : next last ≡ None =
-            next-there part row.mode always r m at n reached tail (Some x ∷ y ∷ None ∷ []) 3 refl ∙ ap (λ l. slice_get l 3) (there_tail (y ∷ None ∷ [])) in
+        next-there part row.mode always r m at n reached tail (Some x ∷ y ∷ None ∷ []) 3 refl ∙ ap (λ l. slice_get l 3) (there_tail (y ∷ None ∷ [])) in
         let at1 : suc (length (seen ++ Some x ∷ [])) ≡ n + 1 = omega (arith, reached.count, length-append seen (Some x ∷ [])) in
         let at2 : suc (length (seen ++ Some x ∷ y ∷ [])) ≡ n + 2 = omega (arith, reached.count, length-append seen (Some x ∷ y ∷ [])) in
         let left : g.put m1 (suc (length (seen ++ Some x ∷ y ∷ []))) at v ≡ there = ap (λ (j : ℕ). g.put m1 j at v) at2 ∙ over_old part ∙ sym put in
         let follows : Follows g next 3 seen m last there =
-            step next 2 seen m (Read at) (seen ++ Some x ∷ []) m last there here read refl refl
-            (step next 1 (seen ++ Some x ∷ []) m between (seen ++ Some x ∷ y ∷ []) m1 last there here1 (plain_between part) (append_assoc seen (Some x ∷ []) (y ∷ [])) (ap (λ (j : ℕ). leaves g m j between) at1)
-            (step next 0 (seen ++ Some x ∷ y ∷ []) m1 (Write at v) last there last there here2 written (append_assoc seen (Some x ∷ y ∷ []) (None ∷ [])) left (refl, refl))) in
+        step next 2 seen m (Read at) (seen ++ Some x ∷ []) m last there here read refl refl
+        (step next 1 (seen ++ Some x ∷ []) m between (seen ++ Some x ∷ y ∷ []) m1 last there here1 (plain_between part) (append_assoc seen (Some x ∷ []) (y ∷ [])) (ap (λ (j : ℕ). leaves g m j between) at1)
+        (step next 0 (seen ++ Some x ∷ y ∷ []) m1 (Write at v) last there last there here2 written (append_assoc seen (Some x ∷ y ∷ []) (None ∷ [])) left (refl, refl))) in
         let all = from_fetch g part row r m p decoded next same (more_by seen 3) last there (reached.goes tail 3 last there follows) in
         record {
           last = behind r code last;
           carried = counted part r m (suc (more_by seen 3)) k last code there (omega (arith, more_by-suc seen 3, reached.count, count)) all;
           over = next-row part code row r last decoded ∙ same last ∙ past;
-          regs = after-row part row r code uses last decoded is_use ∙ results (Some code ∷ last) ∙ ap (modify_result row.mnemonic row.mode (with_pc_past r row.bytes)) (operand-there part row.mode always r m at n reached x (y ∷ None ∷ [])) ∙ sym is;
+          regs = after-row part row r code (bus_use row.mnemonic) last decoded refl ∙ uses.results r (Some code ∷ last) ∙ ap (modify_result row.mnemonic row.mode (with_pc_past r row.bytes)) (operand-there part row.mode always r m at n reached x (y ∷ None ∷ [])) ∙ sym is;
           masks = ap (λ (q : Regs). has_flag q.p INTERRUPT) is ∙ modify_kept row.mnemonic row.mode (with_pc_past r row.bytes) x;
         }
       where
         plain_between : (part : Part) → is_plain g (cycle_between part at (g.byte m at)) ≡ true
         plain_between Nmos = written
         plain_between Cmos = read
+
         two : suc (n + 1) ≡ n + 2
         two = omega arith
+
         over_old : (part : Part) → g.put (leaves g m (n + 1) (cycle_between part at (g.byte m at))) (n + 2) at (modified_value row.mnemonic r (g.byte m at)) ≡ g.put m (n + 2) at (modified_value row.mnemonic r (g.byte m at))
         over_old Nmos =
             let v : ℕ = modified_value row.mnemonic r (g.byte m at) in
             ap (λ (j : ℕ). g.put (g.put m (n + 1) at (g.byte m at)) j at v) (sym two) ∙ lawful.again m (n + 1) at v ∙ ap (λ (j : ℕ). g.put m j at v) two
         over_old Cmos = refl
+
+-- which forms take their cycle for a carry always
+pub loads_wait : (part : Part) → false ≡ waits part Reads
+loads_wait Nmos = refl
+loads_wait Cmos = refl
+
+pub stores_wait : (part : Part) → true ≡ waits part Stores
+stores_wait Nmos = refl
+stores_wait Cmos = refl

@@ -7,7 +7,12 @@ use Rattle.op_table.specs.declared.names.Mnemonic.{Mnemonic}
 use Rattle.op_table.specs.declared.names.Mnemonic.TheVariants.{Cli, Pla, Plx, Ply, Sei}
 use Rattle.cpu_alu.specs.declared.Regs.{Regs}
 use Rattle.cpu_alu.specs.declared.Cycle.{Cycle}
-use Rattle.cpu_core.specs.Accesses.{reach, address}
+use Rattle.cpu_alu.specs.declared.Cycle.TheVariants.{Read}
+use Rattle.op_table.specs.declared.rows.Row.{Row}
+use Rattle.cpu_alu.specs.Addresses.{place, with_pc_past}
+use Rattle.cpu_alu.specs.Instructions.{bus_use, modify_result}
+use Rattle.cpu_core.specs.Accesses.{reach, address, operand, modify_form, form, jump_form, through}
+use Rattle.cpu_core.specs.Results.{after_row, indirect_target, jump_target}
 use Rattle.cpu_core.specs.Sequences.{shown_byte}
 use Rattle.cpu_whole.specs.Whole.{Reach, is_plain, shows, leaves}
 
@@ -61,3 +66,16 @@ pulls_flags Pla = false
 pulls_flags Plx = false
 pulls_flags Ply = false
 pulls_flags _ = true
+
+-- A row of an instruction that reads and writes back, or works on A: always says whether it takes its cycle for a carry also where there is none.
+pub record IsModifying (part : Part) (row : Row) (always : Bool) : Type 0 where
+  pub forms : (r : Regs) (f : List (Option ℕ)) → form part (bus_use row.mnemonic) row r f ≡ modify_form part row row.mode always r f
+  pub results : (r : Regs) (f : List (Option ℕ)) → after_row part (bus_use row.mnemonic) row r f
+      ≡ modify_result row.mnemonic row.mode (with_pc_past r row.bytes) (operand part row.mode always r f)
+
+-- The pointer of a jump is at this address: what follows the two bytes behind the opcode goes through it.
+pub record IsPointer (part : Part) (way : Mode) {M : Type 0} (g : Reach M) (r : Regs) (m : M) (at : ℕ) : Type 0 where
+  pub pointer : List (Option ℕ) → ℕ
+  pub forms : (f : List (Option ℕ)) → jump_form part way r f ≡ Read (place r 1) ∷ Read (place r 2) ∷ through part (pointer f) (place r 2)
+  pub targets : (f : List (Option ℕ)) → jump_target part way f ≡ indirect_target part f
+  pub found : (f : List (Option ℕ)) → pointer (Some (g.byte m r.pc) ∷ Some (g.byte m (place r 1)) ∷ Some (g.byte m (place r 2)) ∷ f) ≡ at

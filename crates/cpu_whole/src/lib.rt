@@ -1,6 +1,8 @@
 //! A whole instruction of either part at once, on the registers alone, where each of its accesses is of plain memory.
 #![tactic(auto)]
 
+mod alone;
+mod operate;
 mod plain;
 mod ways;
 

@@ -33,7 +33,9 @@ pub trait Plain {
 
     /// Whether reads of this address and writes to it are of plain memory, and there is room for two writes. False says nothing.
     fn writes(&self, at: u16) -> bool
-        ensures { result ≡ true → (reach.reads at ≡ true) × (reach.writes at ≡ true) × (2 ≤ room self.now) };
+        ensures read { result ≡ true → reach.reads at ≡ true }
+        ensures written { result ≡ true → reach.writes at ≡ true }
+        ensures room { result ≡ true → 2 ≤ room self.now };
 
     /// The byte at an address of plain memory.
     fn byte(&self, at: u16) -> u8

@@ -54,6 +54,7 @@ fn indexed<M: Plain>(
     requires few { before < 8 }
     ensures at { result.at ≡ wrap (word low high + index) }
     ensures cycles { 0 < result.cycles → result.cycles ≡ cond (always || crosses_page low index) (before + 1) before }
+    ensures few { result.cycles ≤ before + 1 }
     ensures idle { 0 < result.cycles → (always || crosses_page low index) ≡ true → (last : ℕ) → (M.reach).reads last ≡ true →
         (M.reach).reads (idle part (in_page low high index) last) ≡ true }
 {
@@ -76,7 +77,8 @@ fn indexed<M: Plain>(
 fn absolute_x<M: Plain>(part: Part, always: bool, r: &Regs, memory: &M, first: u8) -> Reached
     requires runs { AreRead M.reach r.now.pc }
     requires first { first ≡ (M.reach).byte (M.state memory.now) (place r.now 1) }
-    ensures { 0 < result.cycles → IsReached part M.reach Mode.AbsX always r.now (M.state memory.now) result.at result.cycles }
+    ensures reached { 0 < result.cycles → IsReached part M.reach Mode.AbsX always r.now (M.state memory.now) result.at result.cycles }
+    ensures few { result.cycles ≤ 5 }
 {
     let high = memory.byte(r.place(2));
     indexed::<M>(part, always, memory, first, high, r.x, 3)
@@ -87,7 +89,8 @@ fn absolute_x<M: Plain>(part: Part, always: bool, r: &Regs, memory: &M, first: u
 fn absolute_y<M: Plain>(part: Part, always: bool, r: &Regs, memory: &M, first: u8) -> Reached
     requires runs { AreRead M.reach r.now.pc }
     requires first { first ≡ (M.reach).byte (M.state memory.now) (place r.now 1) }
-    ensures { 0 < result.cycles → IsReached part M.reach Mode.AbsY always r.now (M.state memory.now) result.at result.cycles }
+    ensures reached { 0 < result.cycles → IsReached part M.reach Mode.AbsY always r.now (M.state memory.now) result.at result.cycles }
+    ensures few { result.cycles ≤ 5 }
 {
     let high = memory.byte(r.place(2));
     indexed::<M>(part, always, memory, first, high, r.y, 3)
@@ -98,7 +101,8 @@ fn absolute_y<M: Plain>(part: Part, always: bool, r: &Regs, memory: &M, first: u
 fn pointer_y<M: Plain>(part: Part, always: bool, r: &Regs, memory: &M, first: u8) -> Reached
     requires runs { AreRead M.reach r.now.pc }
     requires first { first ≡ (M.reach).byte (M.state memory.now) (place r.now 1) }
-    ensures { 0 < result.cycles → IsReached part M.reach Mode.IndY always r.now (M.state memory.now) result.at result.cycles }
+    ensures reached { 0 < result.cycles → IsReached part M.reach Mode.IndY always r.now (M.state memory.now) result.at result.cycles }
+    ensures few { result.cycles ≤ 5 }
 {
     let low = low_byte::<M>(memory, first as u16);
     let high = low_byte::<M>(memory, in_zero_page(first, 1));
@@ -110,7 +114,8 @@ fn pointer_y<M: Plain>(part: Part, always: bool, r: &Regs, memory: &M, first: u8
 fn pointer<M: Plain>(part: Part, always: bool, r: &Regs, memory: &M, first: u8) -> Reached
     requires runs { AreRead M.reach r.now.pc }
     requires first { first ≡ (M.reach).byte (M.state memory.now) (place r.now 1) }
-    ensures { IsReached part M.reach Mode.IndZp always r.now (M.state memory.now) result.at result.cycles }
+    ensures reached { IsReached part M.reach Mode.IndZp always r.now (M.state memory.now) result.at result.cycles }
+    ensures few { result.cycles ≤ 5 }
 {
     let low = low_byte::<M>(memory, first as u16);
     let high = low_byte::<M>(memory, in_zero_page(first, 1));
@@ -125,7 +130,8 @@ fn pointer<M: Plain>(part: Part, always: bool, r: &Regs, memory: &M, first: u8) 
 fn pointer_x<M: Plain>(part: Part, always: bool, r: &Regs, memory: &M, first: u8) -> Reached
     requires runs { AreRead M.reach r.now.pc }
     requires first { first ≡ (M.reach).byte (M.state memory.now) (place r.now 1) }
-    ensures { IsReached part M.reach Mode.IndX always r.now (M.state memory.now) result.at result.cycles }
+    ensures reached { IsReached part M.reach Mode.IndX always r.now (M.state memory.now) result.at result.cycles }
+    ensures few { result.cycles ≤ 5 }
 {
     let low = low_byte::<M>(memory, in_zero_page(first, r.x as u16));
     let high = low_byte::<M>(memory, in_zero_page(first, r.x as u16 + 1));
@@ -140,7 +146,8 @@ fn pointer_x<M: Plain>(part: Part, always: bool, r: &Regs, memory: &M, first: u8
 fn zero_page_x<M: Plain>(part: Part, always: bool, r: &Regs, memory: &M, first: u8) -> Reached
     requires runs { AreRead M.reach r.now.pc }
     requires first { first ≡ (M.reach).byte (M.state memory.now) (place r.now 1) }
-    ensures { IsReached part M.reach Mode.ZpX always r.now (M.state memory.now) result.at result.cycles }
+    ensures reached { IsReached part M.reach Mode.ZpX always r.now (M.state memory.now) result.at result.cycles }
+    ensures few { result.cycles ≤ 5 }
 {
     Reached {
         at: in_zero_page(first, r.x as u16),
@@ -153,7 +160,8 @@ fn zero_page_x<M: Plain>(part: Part, always: bool, r: &Regs, memory: &M, first: 
 fn zero_page_y<M: Plain>(part: Part, always: bool, r: &Regs, memory: &M, first: u8) -> Reached
     requires runs { AreRead M.reach r.now.pc }
     requires first { first ≡ (M.reach).byte (M.state memory.now) (place r.now 1) }
-    ensures { IsReached part M.reach Mode.ZpY always r.now (M.state memory.now) result.at result.cycles }
+    ensures reached { IsReached part M.reach Mode.ZpY always r.now (M.state memory.now) result.at result.cycles }
+    ensures few { result.cycles ≤ 5 }
 {
     Reached {
         at: in_zero_page(first, r.y as u16),
@@ -166,7 +174,8 @@ fn zero_page_y<M: Plain>(part: Part, always: bool, r: &Regs, memory: &M, first: 
 fn zero_page<M: Plain>(part: Part, always: bool, r: &Regs, memory: &M, first: u8) -> Reached
     requires runs { AreRead M.reach r.now.pc }
     requires first { first ≡ (M.reach).byte (M.state memory.now) (place r.now 1) }
-    ensures { IsReached part M.reach Mode.Zp always r.now (M.state memory.now) result.at result.cycles }
+    ensures reached { IsReached part M.reach Mode.Zp always r.now (M.state memory.now) result.at result.cycles }
+    ensures few { result.cycles ≤ 5 }
 {
     Reached {
         at: first as u16,
@@ -179,7 +188,8 @@ fn zero_page<M: Plain>(part: Part, always: bool, r: &Regs, memory: &M, first: u8
 fn absolute<M: Plain>(part: Part, always: bool, r: &Regs, memory: &M, first: u8) -> Reached
     requires runs { AreRead M.reach r.now.pc }
     requires first { first ≡ (M.reach).byte (M.state memory.now) (place r.now 1) }
-    ensures { IsReached part M.reach Mode.Abs always r.now (M.state memory.now) result.at result.cycles }
+    ensures reached { IsReached part M.reach Mode.Abs always r.now (M.state memory.now) result.at result.cycles }
+    ensures few { result.cycles ≤ 5 }
 {
     Reached {
         at: word(first, memory.byte(r.place(2))),
@@ -191,7 +201,8 @@ fn absolute<M: Plain>(part: Part, always: bool, r: &Regs, memory: &M, first: u8)
 #[inline(always)]
 fn immediate<M: Plain>(part: Part, mode: Mode, always: bool, r: &Regs, memory: &M) -> Reached
     requires { is_beside mode ≡ true }
-    ensures { IsReached part M.reach mode always r.now (M.state memory.now) result.at result.cycles }
+    ensures reached { IsReached part M.reach mode always r.now (M.state memory.now) result.at result.cycles }
+    ensures few { result.cycles ≤ 5 }
 {
     Reached {
         at: r.place(1),
@@ -212,7 +223,8 @@ pub(crate) fn find<M: Plain>(
 ) -> Reached
     requires runs { AreRead M.reach r.now.pc }
     requires first { first ≡ (M.reach).byte (M.state memory.now) (place r.now 1) }
-    ensures { 0 < result.cycles → IsReached part M.reach mode always r.now (M.state memory.now) result.at result.cycles }
+    ensures reached { 0 < result.cycles → IsReached part M.reach mode always r.now (M.state memory.now) result.at result.cycles }
+    ensures few { result.cycles ≤ 5 }
 {
     if (mode as u8) < Mode::Abs as u8 {
         if (mode as u8) < Mode::ZpX as u8 {

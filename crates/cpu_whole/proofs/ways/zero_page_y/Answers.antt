@@ -4,8 +4,8 @@ use Rattle.cpu_alu.specs.Addresses.{word, wrap, place, crosses_page}
 use Rattle.cpu_whole.proofs.Operands.{reached_as, idle_read, zero_page_y}
 use Rattle.cpu_whole.proofs.ways.zero_page_y.Goals as goal
 
-pub returns : goal.returns
-returns g c =
+pub returns-clause-reached : goal.returns-clause-reached
+returns-clause-reached g c =
     let M = g.M.Plain.State in
     let reach = g.M.Plain.reach in
     let m = g.M.Plain.state c.args.memory.now in

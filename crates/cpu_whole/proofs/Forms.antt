@@ -15,13 +15,13 @@ use Rattle.cpu_alu.specs.Flags.{has_flag}
 use Rattle.cpu_alu.specs.Addresses.{word, wrap, place, stack, target, with_pc_past, with_stack_moved}
 use Rattle.cpu_alu.specs.Instructions.{bus_use, takes_branch, pushed_value, modify_result, implied_result, pull_result}
 use Rattle.cpu_core.specs.declared.Sequence.TheVariants.{Instruction}
-use Rattle.cpu_core.specs.Accesses.{byte, row_at, idle, with_low, second, through, branch_form, jump_form, implied_form, modify_form, operand, form}
-use Rattle.cpu_core.specs.Results.{after_row, jump_target}
+use Rattle.cpu_core.specs.Accesses.{byte, by_part, row_at, idle, with_low, second, through, branch_form, jump_form, implied_form, modify_form, operand, form}
+use Rattle.cpu_core.specs.Results.{after_row, indirect_target, jump_target}
 use Rattle.cpu_core.specs.Sequences.{next_cycle, shown_byte, after, fresh}
 use Rattle.cpu_whole.specs.Whole.{Reach, IsPlain, IsDone, is_plain, shows, leaves}
-use Rattle.cpu_whole.specs.CodeWays.{Follows, moves_i, pulls_flags}
+use Rattle.cpu_whole.specs.CodeWays.{Follows, IsModifying, IsPointer, moves_i, pulls_flags}
 use Rattle.cpu_whole.proofs.Cycles.{behind, next-row, from_fetch}
-use Rattle.cpu_whole.proofs.Operations.{after-row, counted}
+use Rattle.cpu_whole.proofs.Operations.{after-row, counted, step}
 use Rattle.cpu_whole.proofs.Masks.{modify_kept, implied_kept, pull_kept}
 
 module _ {M : Type 0} (g : Reach M) (part : Part) (row : Row) (r : Regs) (m : M) (p : g.reads r.pc ≡ true) (decoded : row_at part (g.byte m r.pc) ≡ Some row) where
@@ -34,7 +34,7 @@ module _ {M : Type 0} (g : Reach M) (part : Part) (row : Row) (r : Regs) (m : M)
       → (k2 : ℕ) (new : Regs) → k2 ≡ suc k → new ≡ after_row part uses row r (Some code ∷ last) → has_flag new.p INTERRUPT ≡ has_flag r.p INTERRUPT → IsDone part g r m k2 new there
   by_list uses is_use list forms k last there follows past k2 new count is kept =
       let same : (f : List (Option ℕ)) → slice_get (form part (bus_use row.mnemonic) row r (Some code ∷ f)) (length f) ≡ slice_get (list f) (length f) = λ f.
-          ap (λ u. slice_get (form part u row r (Some code ∷ f)) (length f)) is_use ∙ ap (λ l. slice_get l (length f)) (forms f) in
+      ap (λ u. slice_get (form part u row r (Some code ∷ f)) (length f)) is_use ∙ ap (λ l. slice_get l (length f)) (forms f) in
       record {
         last = behind r code last;
         carried = counted g part r m (suc k) k2 last code there (sym count) (from_fetch g part row r m p decoded (λ f. slice_get (list f) (length f)) same k last there follows);
@@ -53,15 +53,12 @@ module _ {M : Type 0} (g : Reach M) (part : Part) (row : Row) (r : Regs) (m : M)
       by Spare h = absurd (h refl)
       by _ h = refl
 
-  pub accumulator : (uses : BusUse) (always : Bool) → bus_use row.mnemonic ≡ uses
-      → ((f : List (Option ℕ)) → form part uses row r f ≡ modify_form part row row.mode always r f)
-      → ((f : List (Option ℕ)) → after_row part uses row r f ≡ modify_result row.mnemonic row.mode (with_pc_past r row.bytes) (operand part row.mode always r f))
-      → row.mode ≡ Acc → g.reads (place r 1) ≡ true
+  pub accumulator : (always : Bool) → IsModifying part row always → row.mode ≡ Acc → g.reads (place r 1) ≡ true
       → (new : Regs) (x : ℕ) → new ≡ modify_result row.mnemonic Acc (with_pc_past r row.bytes) x → IsDone part g r m 2 new m
-  accumulator uses always is_use forms results acc q new x is =
+  accumulator always uses acc q new x is =
       let last : List (Option ℕ) = Some (g.byte m (place r 1)) ∷ [] in
-      by_list uses is_use (λ f. Read (place r 1) ∷ []) (λ f. forms (Some code ∷ f) ∙ ap (λ way. modify_form part row way always r (Some code ∷ f)) acc) 1 last m (q, (refl, refl)) refl 2 new refl
-      (is ∙ sym (results (Some code ∷ last) ∙ ap (λ way. modify_result row.mnemonic way (with_pc_past r row.bytes) (operand part row.mode always r (Some code ∷ last))) acc))
+      by_list (bus_use row.mnemonic) refl (λ f. Read (place r 1) ∷ []) (λ f. uses.forms r (Some code ∷ f) ∙ ap (λ way. modify_form part row way always r (Some code ∷ f)) acc) 1 last m (q, (refl, refl)) refl 2 new refl
+      (is ∙ sym (uses.results r (Some code ∷ last) ∙ ap (λ way. modify_result row.mnemonic way (with_pc_past r row.bytes) (operand part row.mode always r (Some code ∷ last))) acc))
       (ap (λ (q : Regs). has_flag q.p INTERRUPT) is ∙ modify_kept row.mnemonic Acc (with_pc_past r row.bytes) x)
 
   -- a branch that is not taken
@@ -99,8 +96,8 @@ module _ {M : Type 0} (g : Reach M) (part : Part) (row : Row) (r : Regs) (m : M)
       let list : List (Option ℕ) → List Cycle = λ f. Read (place r 1) ∷ Read at ∷ cond (eqb (to f / 256) (place r 2 / 256)) [] (Read (idle part (with_low (place r 2) (to f)) (place r 1)) ∷ []) in
       let next : List (Option ℕ) → Option Cycle = λ f. slice_get (list f) (length f) in
       let ends : Follows g next 1 (Some (g.byte m (place r 1)) ∷ Some (g.byte m at) ∷ []) m last m =
-          subst (λ (b : Bool). MatchOption (slice_get (Read (place r 1) ∷ Read at ∷ cond b [] (Read at2 ∷ [])) 2) ⊥
-              (λ c. (is_plain g c ≡ true) × Follows g next 0 ((Some (g.byte m (place r 1)) ∷ Some (g.byte m at) ∷ []) ++ shown_byte (Some c) (shows g m c) ∷ []) (leaves g m 3 c) last m)) (sym far) (j, (refl, refl)) in
+      subst (λ (b : Bool). MatchOption (slice_get (Read (place r 1) ∷ Read at ∷ cond b [] (Read at2 ∷ [])) 2) ⊥
+      (λ c. (is_plain g c ≡ true) × Follows g next 0 ((Some (g.byte m (place r 1)) ∷ Some (g.byte m at) ∷ []) ++ shown_byte (Some c) (shows g m c) ∷ []) (leaves g m 3 c) last m)) (sym far) (j, (refl, refl)) in
       by_list Branches uses list (λ f. ap (λ b. branch_form part b r (Some code ∷ f)) taken) 3 last m (q, (i, ends))
       (ap (λ b. slice_get (Read (place r 1) ∷ Read at ∷ cond b [] (Read at2 ∷ [])) 3) far) 4 new refl
       (is ∙ ap (λ (b : Bool). record r { pc = cond b (target r (byte (Some code ∷ last) 1)) (place r 2) }) (sym taken))
@@ -136,7 +133,7 @@ module _ {M : Type 0} (g : Reach M) (part : Part) (row : Row) (r : Regs) (m : M)
       let to : ℕ = word (g.byte m (stack r 1)) (g.byte m (stack r 2)) in
       let last : List (Option ℕ) = Some (g.byte m (place r 1)) ∷ Some (g.byte m (stack r 0)) ∷ Some (g.byte m (stack r 1)) ∷ Some (g.byte m (stack r 2)) ∷ Some (g.byte m to) ∷ [] in
       let list : List (Option ℕ) → List Cycle = λ f.
-          Read (place r 1) ∷ Read (stack r 0) ∷ Read (stack r 1) ∷ Read (stack r 2) ∷ Read (word (byte (Some code ∷ f) 3) (byte (Some code ∷ f) 4)) ∷ [] in
+      Read (place r 1) ∷ Read (stack r 0) ∷ Read (stack r 1) ∷ Read (stack r 2) ∷ Read (word (byte (Some code ∷ f) 3) (byte (Some code ∷ f) 4)) ∷ [] in
       let low : (k : ℕ) → g.reads (stack r k) ≡ true = λ k. lawful.low_read (stack r k) (omega arith) in
       by_list Returns uses list (λ f. refl) 5 last m (q, (low 0, (low 1, (low 2, (s, (refl, refl)))))) refl 6 new refl is
       (ap (λ (q : Regs). has_flag q.p INTERRUPT) is)
@@ -157,3 +154,75 @@ module _ {M : Type 0} (g : Reach M) (part : Part) (row : Row) (r : Regs) (m : M)
       by_list Pulls uses (λ f. Read (place r 1) ∷ Read (stack r 0) ∷ Read (stack r 1) ∷ []) (λ f. refl) 3 last m
       (q, (low 0, (low 1, (refl, refl)))) refl 4 new refl is
       (ap (λ (q : Regs). has_flag q.p INTERRUPT) is ∙ pull_kept row.mnemonic (with_stack_moved (with_pc_past r row.bytes) 1) (g.byte m (stack r 1)) fixed)
+
+-- JMP through a pointer
+module _ {M : Type 0} (g : Reach M) (row : Row) (r : Regs) (m : M) (p : g.reads r.pc ≡ true) where
+  abbrev first_byte : ℕ
+  first_byte = g.byte m (place r 1)
+
+  abbrev second_byte : ℕ
+  second_byte = g.byte m (place r 2)
+
+  through_nmos : (at : ℕ) → row_at Nmos (g.byte m r.pc) ≡ Some row → bus_use row.mnemonic ≡ Jumps → IsPointer Nmos row.mode g r m at
+      → g.reads (place r 1) ≡ true → g.reads (place r 2) ≡ true → g.reads at ≡ true → g.reads (second Nmos at) ≡ true
+      → (new : Regs) → new ≡ record r { pc = word (g.byte m at) (g.byte m (second Nmos at)) } → IsDone Nmos g r m 5 new m
+  through_nmos at decoded uses there q s a b new is =
+      let op : ℕ = g.byte m r.pc in
+      let seen : List (Option ℕ) = Some first_byte ∷ Some second_byte ∷ [] in
+      let last : List (Option ℕ) = seen ++ Some (g.byte m at) ∷ Some (g.byte m (second Nmos at)) ∷ [] in
+      let list : List (Option ℕ) → List Cycle = λ f. Read (place r 1) ∷ Read (place r 2) ∷ through Nmos (there.pointer (Some op ∷ f)) (place r 2) in
+      let next : List (Option ℕ) → Option Cycle = λ f. slice_get (list f) (length f) in
+      let low : next seen ≡ Some (Read at) = ap (λ (k : ℕ). Some (Read k)) (there.found []) in
+      let high : next (seen ++ Some (g.byte m at) ∷ []) ≡ Some (Read (second Nmos at)) = ap (λ (k : ℕ). Some (Read (second Nmos k))) (there.found (Some (g.byte m at) ∷ [])) in
+      let ends : Follows g next 2 seen m last m =
+      step g next 1 seen m (Read at) (seen ++ Some (g.byte m at) ∷ []) m last m low a refl refl
+      (step g next 0 (seen ++ Some (g.byte m at) ∷ []) m (Read (second Nmos at)) last m last m high b refl refl (refl, refl)) in
+      by_list g Nmos row r m p decoded Jumps uses list (λ f. there.forms (Some op ∷ f)) 4 last m (q, (s, ends)) refl 5 new refl
+      (is ∙ ap (λ k. record r { pc = k }) (sym (there.targets (Some op ∷ last))))
+      (ap (λ (q : Regs). has_flag q.p INTERRUPT) is)
+
+  through_cmos : (at : ℕ) → row_at Cmos (g.byte m r.pc) ≡ Some row → bus_use row.mnemonic ≡ Jumps → IsPointer Cmos row.mode g r m at
+      → g.reads (place r 1) ≡ true → g.reads (place r 2) ≡ true → g.reads at ≡ true → g.reads (second Cmos at) ≡ true
+      → (new : Regs) → new ≡ record r { pc = word (g.byte m at) (g.byte m (second Cmos at)) } → IsDone Cmos g r m 6 new m
+  through_cmos at decoded uses there q s a b new is =
+      let op : ℕ = g.byte m r.pc in
+      let seen : List (Option ℕ) = Some first_byte ∷ Some second_byte ∷ Some second_byte ∷ [] in
+      let last : List (Option ℕ) = seen ++ Some (g.byte m at) ∷ Some (g.byte m (second Cmos at)) ∷ [] in
+      let list : List (Option ℕ) → List Cycle = λ f. Read (place r 1) ∷ Read (place r 2) ∷ through Cmos (there.pointer (Some op ∷ f)) (place r 2) in
+      let next : List (Option ℕ) → Option Cycle = λ f. slice_get (list f) (length f) in
+      let low : next seen ≡ Some (Read at) = ap (λ (k : ℕ). Some (Read k)) (there.found (Some second_byte ∷ [])) in
+      let high : next (seen ++ Some (g.byte m at) ∷ []) ≡ Some (Read (second Cmos at)) =
+      ap (λ (k : ℕ). Some (Read (second Cmos k))) (there.found (Some second_byte ∷ Some (g.byte m at) ∷ [])) in
+      let ends : Follows g next 2 seen m last m =
+      step g next 1 seen m (Read at) (seen ++ Some (g.byte m at) ∷ []) m last m low a refl refl
+      (step g next 0 (seen ++ Some (g.byte m at) ∷ []) m (Read (second Cmos at)) last m last m high b refl refl (refl, refl)) in
+      by_list g Cmos row r m p decoded Jumps uses list (λ f. there.forms (Some op ∷ f)) 5 last m (q, (s, (s, ends))) refl 6 new refl
+      (is ∙ ap (λ k. record r { pc = k }) (sym (there.targets (Some op ∷ last))))
+      (ap (λ (q : Regs). has_flag q.p INTERRUPT) is)
+
+  pub jumped_through : (part : Part) (at : ℕ) → row_at part (g.byte m r.pc) ≡ Some row → bus_use row.mnemonic ≡ Jumps → IsPointer part row.mode g r m at
+      → g.reads (place r 1) ≡ true → g.reads (place r 2) ≡ true → g.reads at ≡ true → g.reads (second part at) ≡ true
+      → (k : ℕ) (new : Regs) → k ≡ by_part part 5 6 → new ≡ record r { pc = word (g.byte m at) (g.byte m (second part at)) } → IsDone part g r m k new m
+  jumped_through Nmos at decoded uses there q s a b k new count is = subst (λ (j : ℕ). IsDone Nmos g r m j new m) (sym count) (through_nmos at decoded uses there q s a b new is)
+  jumped_through Cmos at decoded uses there q s a b k new count is = subst (λ (j : ℕ). IsDone Cmos g r m j new m) (sym count) (through_cmos at decoded uses there q s a b new is)
+
+-- the pointers
+pub pointer_absolute : {M : Type 0} → (g : Reach M) (part : Part) (way : Mode) (r : Regs) (m : M) (at : ℕ) → way ≡ Ind
+    → at ≡ word (g.byte m (place r 1)) (g.byte m (place r 2)) → IsPointer part way g r m at
+pointer_absolute g part way r m at is found =
+    subst (λ (w : Mode). IsPointer part w g r m at) (sym is) (record {
+      pointer = λ f. word (byte f 1) (byte f 2);
+      forms = λ f. refl;
+      targets = λ f. refl;
+      found = λ f. sym found;
+    })
+
+pub pointer_with_x : {M : Type 0} → (g : Reach M) (part : Part) (way : Mode) (r : Regs) (m : M) (at : ℕ) → way ≡ IndAbsX
+    → at ≡ wrap (word (g.byte m (place r 1)) (g.byte m (place r 2)) + r.x) → IsPointer part way g r m at
+pointer_with_x g part way r m at is found =
+    subst (λ (w : Mode). IsPointer part w g r m at) (sym is) (record {
+      pointer = λ f. wrap (word (byte f 1) (byte f 2) + r.x);
+      forms = λ f. refl;
+      targets = λ f. refl;
+      found = λ f. sym found;
+    })
