@@ -20,7 +20,7 @@ use Rattle.cpu_core.specs.Accesses.{byte, row_at, waits, reach, address, operand
 use Rattle.cpu_core.specs.Results.{after_row, after_opcode}
 use Rattle.cpu_core.specs.Sequences.{next_cycle, shown_byte, after, fresh}
 use Rattle.cpu_whole.specs.Whole.{Reach, IsPlain, IsDone, Carried, is_plain, shows, leaves}
-use Rattle.cpu_whole.specs.CodeWays.{Follows, IsReached, IsModifying, on_the_way, more_by}
+use Rattle.cpu_whole.specs.CodeWays.{Follows, IsReached, IsModifying, is_modifying, on_the_way, more_by}
 use Rattle.cpu_whole.proofs.Cycles.{behind, next-row, from_fetch, more_by-suc, byte-seam, beyond}
 use Rattle.cpu_whole.proofs.Masks.{read_kept, modify_kept}
 
@@ -199,3 +199,22 @@ loads_wait Cmos = refl
 pub stores_wait : (part : Part) → true ≡ waits part Stores
 stores_wait Nmos = refl
 stores_wait Cmos = refl
+
+pub modifying : (part : Part) (row : Row) (uses : BusUse) (always : Bool) → bus_use row.mnemonic ≡ uses → is_modifying uses ≡ true → always ≡ waits part uses → IsModifying part row always
+modifying part row uses always is kind same =
+    record {
+      forms = λ r f. ap (λ u. form part u row r f) is ∙ forms uses kind r f ∙ ap (λ b. modify_form part row row.mode b r f) (sym same);
+      results = λ r f. ap (λ u. after_row part u row r f) is ∙ results uses kind r f
+          ∙ ap (λ b. modify_result row.mnemonic row.mode (with_pc_past r row.bytes) (operand part row.mode b r f)) (sym same);
+    }
+  where
+    forms : (u : BusUse) → is_modifying u ≡ true → (r : Regs) (f : List (Option ℕ)) → form part u row r f ≡ modify_form part row row.mode (waits part u) r f
+    forms Shifts h r f = refl
+    forms Modifies h r f = refl
+    forms _ h r f = cc
+
+    results : (u : BusUse) → is_modifying u ≡ true → (r : Regs) (f : List (Option ℕ))
+        → after_row part u row r f ≡ modify_result row.mnemonic row.mode (with_pc_past r row.bytes) (operand part row.mode (waits part u) r f)
+    results Shifts h r f = refl
+    results Modifies h r f = refl
+    results _ h r f = cc

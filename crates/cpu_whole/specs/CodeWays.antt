@@ -7,6 +7,8 @@ use Rattle.op_table.specs.declared.names.Mnemonic.{Mnemonic}
 use Rattle.op_table.specs.declared.names.Mnemonic.TheVariants.{Cli, Pla, Plx, Ply, Sei}
 use Rattle.cpu_alu.specs.declared.Regs.{Regs}
 use Rattle.cpu_alu.specs.declared.Cycle.{Cycle}
+use Rattle.cpu_alu.specs.declared.uses.BusUse.{BusUse}
+use Rattle.cpu_alu.specs.declared.uses.BusUse.TheVariants.{Shifts, Modifies}
 use Rattle.cpu_alu.specs.declared.Cycle.TheVariants.{Read}
 use Rattle.op_table.specs.declared.rows.Row.{Row}
 use Rattle.cpu_alu.specs.Addresses.{place, with_pc_past}
@@ -79,3 +81,9 @@ pub record IsPointer (part : Part) (way : Mode) {M : Type 0} (g : Reach M) (r : 
   pub forms : (f : List (Option ℕ)) → jump_form part way r f ≡ Read (place r 1) ∷ Read (place r 2) ∷ through part (pointer f) (place r 2)
   pub targets : (f : List (Option ℕ)) → jump_target part way f ≡ indirect_target part f
   pub found : (f : List (Option ℕ)) → pointer (Some (g.byte m r.pc) ∷ Some (g.byte m (place r 1)) ∷ Some (g.byte m (place r 2)) ∷ f) ≡ at
+
+-- whether an instruction reads and writes back, or works on A
+abbrev pub is_modifying : BusUse → Bool
+is_modifying Shifts = true
+is_modifying Modifies = true
+is_modifying _ = false

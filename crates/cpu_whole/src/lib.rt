@@ -2,8 +2,10 @@
 #![tactic(auto)]
 
 mod alone;
+mod at_once;
 mod operate;
 mod plain;
 mod ways;
 
+pub use at_once::whole;
 pub use plain::Plain;
