@@ -1,0 +1,18 @@
+use Rattle.std.proofs.Common.{rules, ◌≡◌, ◌<◌, ◌+◌, ◌*◌, ◌/◌, ◌%◌, ◌∙◌, ℕ, Bool, true, false, eqb, ap, refl, subst, sym, arith}
+use Rattle.cpu_alu.specs.Instructions.{implied_result}
+use Rattle.cpu_whole.specs.CodeWays.{moves_i}
+use Rattle.cpu_alu.specs.declared.Regs.{Regs}
+use Rattle.cpu_alu.specs.Addresses.{word, wrap, place, stack, target, with_pc_past, with_stack_moved}
+use Rattle.cpu_whole.proofs.Forms.{implied}
+use Rattle.cpu_whole.proofs.alone.implied.Goals as goal
+
+pub returns-in_default-clause-done : goal.returns-in_default-clause-done
+returns-in_default-clause-done g c =
+    λ some.
+    let reach = g.M.Plain.reach in
+    let m = g.M.Plain.state c.args.memory.now in
+    let r = c.args.r.now in
+    let row = c.args.row in
+    let fixed : moves_i row.mnemonic ≡ false = search rules in
+    implied reach c.args.part row r m c.requires.runs.first c.requires.row c.requires.uses c.in_default.not-Spare fixed c.requires.runs.second _
+    (c.do_implied.ensures ∙ ap (implied_result row.mnemonic) c.move_past.ensures)

@@ -1,0 +1,21 @@
+use Rattle.std.proofs.Common.{◌≡◌, ◌+◌, ◌%◌, ◌||◌, ◌∙◌, ℕ, Bool, true, cond, ap, refl, subst, sym, arith}
+use Rattle.op_table.specs.declared.names.Mode.TheVariants.{IndZp}
+use Rattle.cpu_alu.specs.Addresses.{word, wrap, place, crosses_page}
+use Rattle.cpu_whole.proofs.Operands.{reached_as, pointer}
+use Rattle.cpu_whole.proofs.ways.pointer.Goals as goal
+
+pub returns-clause-reached : goal.returns-clause-reached
+returns-clause-reached g c =
+    let M = g.M.Plain.State in
+    let reach = g.M.Plain.reach in
+    let m = g.M.Plain.state c.args.memory.now in
+    let r = c.args.r.now in
+    let one : c.args.first ≡ reach.byte m (place r 1) = c.requires.first in
+    let low : reach.reads (reach.byte m (place r 1)) ≡ true = subst (λ k. reach.reads k ≡ true) one (g.M.Plain.is_plain.low_read c.args.first (omega arith)) in
+    let p0 : reach.byte m (reach.byte m (place r 1)) ≡ c.low_byte-low.result = ap (reach.byte m) (sym one) ∙ sym c.low_byte-low.ensures.byte in
+    let p1 : reach.byte m ((reach.byte m (place r 1) + 1) % 256) ≡ c.low_byte-high.result =
+    ap (λ (k : ℕ). reach.byte m ((k + 1) % 256)) (sym one) ∙ ap (reach.byte m) (sym c.in_zero_page.ensures) ∙ sym c.low_byte-high.ensures.byte in
+    let next : reach.reads ((reach.byte m (place r 1) + 1) % 256) ≡ true = g.M.Plain.is_plain.low_read _ (omega arith) in
+    let at : word (reach.byte m (reach.byte m (place r 1))) (reach.byte m ((reach.byte m (place r 1) + 1) % 256)) ≡ c.word.result =
+    ap (λ k. word k (reach.byte m ((reach.byte m (place r 1) + 1) % 256))) p0 ∙ ap (word c.low_byte-low.result) p1 ∙ sym c.word.ensures in
+    reached_as reach c.args.part c.args.always r m IndZp _ 4 _ 4 at refl (pointer reach c.args.part c.args.always r m c.requires.runs.second low next)

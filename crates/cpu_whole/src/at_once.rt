@@ -1,0 +1,131 @@
+//! From the opcode to what is done.
+ghost use Rattle.std.specs.Prelude.{ℕ, ◌≡◌, ◌<◌, ◌≤◌, ◌+◌, Some, true};
+ghost use Rattle.cpu_alu.specs.Addresses.{place};
+ghost use Rattle.cpu_alu.specs.Instructions.{bus_use};
+ghost use Rattle.cpu_core.specs.Accesses.{row_at};
+ghost use Rattle.cpu_whole.specs.Whole.{AreRead, IsDone};
+ghost use Rattle.cpu_whole.specs.CodeWays.{IsModifying, is_modifying};
+
+use crate::alone::{accumulator, branch, call, go_back, implied, jump, pull, push};
+use crate::operate::{change, load, store};
+use crate::plain::Plain;
+use cpu_alu::{BusUse, Regs, bus_use};
+use op_table::{Mode, Part, Row, cmos, nmos};
+
+/// The instruction of an opcode.
+#[inline(always)]
+fn row_at(part: Part, op: u8) -> Option<Row>
+    ensures { result ≡ row_at part op }
+{
+    match part {
+        Part::Nmos => nmos(op),
+        Part::Cmos => Some(cmos(op)),
+    }
+}
+
+/// Whether an instruction that reads and writes back takes its cycle for a carry also where there is none: on the 65C02 a shift does not.
+#[inline(always)]
+fn waits(part: Part, row: Row, uses: BusUse) -> bool
+    requires uses { bus_use row.mnemonic ≡ uses }
+    requires modifying { is_modifying uses ≡ true }
+    ensures { IsModifying part row result }
+{
+    match uses {
+        BusUse::Shifts => match part {
+            Part::Nmos => true,
+            Part::Cmos => false,
+        },
+        _ => true,
+    }
+}
+
+/// An instruction that reads and writes back, or works on A.
+#[inline(always)]
+fn modify<M: Plain>(
+    part: Part,
+    row: Row,
+    always: bool,
+    r: &mut Regs,
+    memory: &mut M,
+    first: u8,
+) -> u64
+    requires runs { AreRead M.reach r.old.pc }
+    requires first { first ≡ (M.reach).byte (M.state memory.old) (place r.old 1) }
+    requires row { row_at part ((M.reach).byte (M.state memory.old) r.old.pc) ≡ Some row }
+    requires uses { IsModifying part row always }
+    ensures done { 0 < result → IsDone part M.reach r.old (M.state memory.old) result r.new (M.state memory.new) }
+    ensures still { result ≡ 0 → (r.new ≡ r.old) × (memory.new ≡ memory.old) }
+    ensures kept { M.kept memory.new ≡ M.kept memory.old }
+    ensures room { M.room memory.old ≤ M.room memory.new + result }
+    ensures few { result ≤ 8 }
+{
+    match row.mode {
+        Mode::Acc => accumulator::<M>(part, row, always, r, memory),
+        _ => change::<M>(part, row, always, r, memory, first),
+    }
+}
+
+/// An instruction by how it uses the bus, which is found by comparisons, as the mode is.
+#[inline(always)]
+fn carry_out<M: Plain>(part: Part, row: Row, r: &mut Regs, memory: &mut M, first: u8) -> u64
+    requires runs { AreRead M.reach r.old.pc }
+    requires first { first ≡ (M.reach).byte (M.state memory.old) (place r.old 1) }
+    requires row { row_at part ((M.reach).byte (M.state memory.old) r.old.pc) ≡ Some row }
+    ensures done { 0 < result → IsDone part M.reach r.old (M.state memory.old) result r.new (M.state memory.new) }
+    ensures still { result ≡ 0 → (r.new ≡ r.old) × (memory.new ≡ memory.old) }
+    ensures kept { M.kept memory.new ≡ M.kept memory.old }
+    ensures room { M.room memory.old ≤ M.room memory.new + result }
+    ensures few { result ≤ 8 }
+{
+    let uses = bus_use(row.mnemonic);
+    if (uses as u8) < BusUse::Shifts as u8 {
+        match uses {
+            BusUse::Reads => load::<M>(part, row, r, memory, first),
+            BusUse::Implied => implied::<M>(part, row, r, memory),
+            // Stores
+            _ => store::<M>(part, row, r, memory, first),
+        }
+    } else if (uses as u8) < BusUse::Pushes as u8 {
+        let always = waits(part, row, uses);
+        modify::<M>(part, row, always, r, memory, first)
+    } else if (uses as u8) < BusUse::Jumps as u8 {
+        match uses {
+            BusUse::Branches => branch::<M>(part, row, r, memory, first),
+            BusUse::Pushes => push::<M>(part, row, r, memory),
+            // Pulls
+            _ => pull::<M>(part, row, r, memory),
+        }
+    } else if (uses as u8) < BusUse::Resumes as u8 {
+        match uses {
+            BusUse::Calls => call::<M>(part, row, r, memory, first),
+            BusUse::Returns => go_back::<M>(part, row, r, memory),
+            // Jumps
+            _ => jump::<M>(part, row, r, memory, first),
+        }
+    } else {
+        0
+    }
+}
+
+/// Carries out the instruction at PC at once, if all its accesses are of plain memory: the number of its cycles, at most 8. Else nothing is done,
+/// and that number is 0. It is 0 too for BRK, RTI, PLP, CLI and SEI, for sums and differences in decimal mode, and for opcodes that do nothing
+/// or halt: what is done leaves the flag I as it was.
+/// Source: the MCS6500 Hardware Manual, summary of single cycle execution, and the 65C02's data sheet.
+#[inline(always)]
+pub fn whole<M: Plain>(part: Part, r: &mut Regs, memory: &mut M) -> u64
+    ensures done { 0 < result → IsDone part M.reach r.old (M.state memory.old) result r.new (M.state memory.new) }
+    ensures still { result ≡ 0 → (r.new ≡ r.old) × (memory.new ≡ memory.old) }
+    ensures kept { M.kept memory.new ≡ M.kept memory.old }
+    ensures room { M.room memory.old ≤ M.room memory.new + result }
+    ensures few { result ≤ 8 }
+{
+    if !memory.runs(r.pc) {
+        return 0;
+    }
+    let op = memory.byte(r.pc);
+    let first = memory.byte(r.place(1));
+    match row_at(part, op) {
+        Some(row) => carry_out::<M>(part, row, r, memory, first),
+        None => 0,
+    }
+}

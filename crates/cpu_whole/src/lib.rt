@@ -1,0 +1,11 @@
+//! A whole instruction of either part at once, on the registers alone, where each of its accesses is of plain memory.
+#![tactic(auto)]
+
+mod alone;
+mod at_once;
+mod operate;
+mod plain;
+mod ways;
+
+pub use at_once::whole;
+pub use plain::Plain;

@@ -1,0 +1,260 @@
+//! The ways to the operand of an instruction in memory.
+ghost use Rattle.std.specs.Prelude.{ℕ, ◌≡◌, ◌<◌, ◌≤◌, ◌+◌, ◌%◌, ◌||◌, true, cond};
+ghost use Rattle.cpu_alu.specs.Addresses.{word, wrap, place, crosses_page};
+ghost use Rattle.cpu_core.specs.Accesses.{idle, in_page};
+ghost use Rattle.cpu_whole.specs.Whole.{AreRead};
+ghost use Rattle.cpu_whole.specs.CodeWays.{IsReached, is_beside};
+
+use crate::plain::Plain;
+use cpu_alu::{Regs, crosses_page, in_zero_page, word, wrapping_sum};
+use op_table::{Mode, Part};
+
+/// Where the operand is.
+#[derive(Clone, Copy, Debug, PartialEq, Eq)]
+pub(crate) struct Reached {
+    /// Its address.
+    pub(crate) at: u16,
+    /// The cycles before its own, or 0 where one of them is not of plain memory.
+    pub(crate) cycles: u64,
+}
+
+/// A byte of the zero page or the stack.
+#[inline(always)]
+pub(crate) fn low_byte<M: Plain>(memory: &M, at: u16) -> u8
+    requires { at < 512 }
+    ensures byte { result ≡ (M.reach).byte (M.state memory.now) at }
+    ensures read { (M.reach).reads at ≡ true }
+{
+    memory.byte(at)
+}
+
+/// Whether a cycle is one of plain memory whose byte is not used: the NMOS part reads the address that it has so far.
+#[inline(always)]
+pub(crate) fn idles<M: Plain>(part: Part, memory: &M, so_far: u16) -> bool
+    ensures { result ≡ true → (last : ℕ) → (M.reach).reads last ≡ true → (M.reach).reads (idle part so_far last) ≡ true }
+{
+    match part {
+        Part::Nmos => memory.reads(so_far),
+        Part::Cmos => true,
+    }
+}
+
+/// An index is added to an address that took so many cycles.
+#[inline(always)]
+fn indexed<M: Plain>(
+    part: Part,
+    always: bool,
+    memory: &M,
+    low: u8,
+    high: u8,
+    index: u8,
+    before: u64,
+) -> Reached
+    requires some { 0 < before }
+    requires few { before < 8 }
+    ensures at { result.at ≡ wrap (word low high + index) }
+    ensures cycles { 0 < result.cycles → result.cycles ≡ cond (always || crosses_page low index) (before + 1) before }
+    ensures few { result.cycles ≤ before + 1 }
+    ensures idle { 0 < result.cycles → (always || crosses_page low index) ≡ true → (last : ℕ) → (M.reach).reads last ≡ true →
+        (M.reach).reads (idle part (in_page low high index) last) ≡ true }
+{
+    let at = wrapping_sum(word(low, high), index as u16);
+    let waits = always || crosses_page(low, index);
+    if !waits {
+        return Reached { at, cycles: before };
+    }
+    if !idles::<M>(part, memory, word(low.wrapping_add(index), high)) {
+        return Reached { at, cycles: 0 };
+    }
+    Reached {
+        at,
+        cycles: before + 1,
+    }
+}
+
+/// An absolute address with X.
+#[inline(always)]
+fn absolute_x<M: Plain>(part: Part, always: bool, r: &Regs, memory: &M, first: u8) -> Reached
+    requires runs { AreRead M.reach r.now.pc }
+    requires first { first ≡ (M.reach).byte (M.state memory.now) (place r.now 1) }
+    ensures reached { 0 < result.cycles → IsReached part M.reach Mode.AbsX always r.now (M.state memory.now) result.at result.cycles }
+    ensures few { result.cycles ≤ 5 }
+{
+    let high = memory.byte(r.place(2));
+    indexed::<M>(part, always, memory, first, high, r.x, 3)
+}
+
+/// An absolute address with Y.
+#[inline(always)]
+fn absolute_y<M: Plain>(part: Part, always: bool, r: &Regs, memory: &M, first: u8) -> Reached
+    requires runs { AreRead M.reach r.now.pc }
+    requires first { first ≡ (M.reach).byte (M.state memory.now) (place r.now 1) }
+    ensures reached { 0 < result.cycles → IsReached part M.reach Mode.AbsY always r.now (M.state memory.now) result.at result.cycles }
+    ensures few { result.cycles ≤ 5 }
+{
+    let high = memory.byte(r.place(2));
+    indexed::<M>(part, always, memory, first, high, r.y, 3)
+}
+
+/// A pointer in the zero page, and Y added.
+#[inline(always)]
+fn pointer_y<M: Plain>(part: Part, always: bool, r: &Regs, memory: &M, first: u8) -> Reached
+    requires runs { AreRead M.reach r.now.pc }
+    requires first { first ≡ (M.reach).byte (M.state memory.now) (place r.now 1) }
+    ensures reached { 0 < result.cycles → IsReached part M.reach Mode.IndY always r.now (M.state memory.now) result.at result.cycles }
+    ensures few { result.cycles ≤ 5 }
+{
+    let low = low_byte::<M>(memory, first as u16);
+    let high = low_byte::<M>(memory, in_zero_page(first, 1));
+    indexed::<M>(part, always, memory, low, high, r.y, 4)
+}
+
+/// A pointer in the zero page.
+#[inline(always)]
+fn pointer<M: Plain>(part: Part, always: bool, r: &Regs, memory: &M, first: u8) -> Reached
+    requires runs { AreRead M.reach r.now.pc }
+    requires first { first ≡ (M.reach).byte (M.state memory.now) (place r.now 1) }
+    ensures reached { IsReached part M.reach Mode.IndZp always r.now (M.state memory.now) result.at result.cycles }
+    ensures few { result.cycles ≤ 5 }
+{
+    let low = low_byte::<M>(memory, first as u16);
+    let high = low_byte::<M>(memory, in_zero_page(first, 1));
+    Reached {
+        at: word(low, high),
+        cycles: 4,
+    }
+}
+
+/// A pointer in the zero page that is found with X.
+#[inline(always)]
+fn pointer_x<M: Plain>(part: Part, always: bool, r: &Regs, memory: &M, first: u8) -> Reached
+    requires runs { AreRead M.reach r.now.pc }
+    requires first { first ≡ (M.reach).byte (M.state memory.now) (place r.now 1) }
+    ensures reached { IsReached part M.reach Mode.IndX always r.now (M.state memory.now) result.at result.cycles }
+    ensures few { result.cycles ≤ 5 }
+{
+    let low = low_byte::<M>(memory, in_zero_page(first, r.x as u16));
+    let high = low_byte::<M>(memory, in_zero_page(first, r.x as u16 + 1));
+    Reached {
+        at: word(low, high),
+        cycles: 5,
+    }
+}
+
+/// An address in the zero page with X.
+#[inline(always)]
+fn zero_page_x<M: Plain>(part: Part, always: bool, r: &Regs, memory: &M, first: u8) -> Reached
+    requires runs { AreRead M.reach r.now.pc }
+    requires first { first ≡ (M.reach).byte (M.state memory.now) (place r.now 1) }
+    ensures reached { IsReached part M.reach Mode.ZpX always r.now (M.state memory.now) result.at result.cycles }
+    ensures few { result.cycles ≤ 5 }
+{
+    Reached {
+        at: in_zero_page(first, r.x as u16),
+        cycles: 3,
+    }
+}
+
+/// An address in the zero page with Y.
+#[inline(always)]
+fn zero_page_y<M: Plain>(part: Part, always: bool, r: &Regs, memory: &M, first: u8) -> Reached
+    requires runs { AreRead M.reach r.now.pc }
+    requires first { first ≡ (M.reach).byte (M.state memory.now) (place r.now 1) }
+    ensures reached { IsReached part M.reach Mode.ZpY always r.now (M.state memory.now) result.at result.cycles }
+    ensures few { result.cycles ≤ 5 }
+{
+    Reached {
+        at: in_zero_page(first, r.y as u16),
+        cycles: 3,
+    }
+}
+
+/// An address in the zero page.
+#[inline(always)]
+fn zero_page<M: Plain>(part: Part, always: bool, r: &Regs, memory: &M, first: u8) -> Reached
+    requires runs { AreRead M.reach r.now.pc }
+    requires first { first ≡ (M.reach).byte (M.state memory.now) (place r.now 1) }
+    ensures reached { IsReached part M.reach Mode.Zp always r.now (M.state memory.now) result.at result.cycles }
+    ensures few { result.cycles ≤ 5 }
+{
+    Reached {
+        at: first as u16,
+        cycles: 2,
+    }
+}
+
+/// An absolute address.
+#[inline(always)]
+fn absolute<M: Plain>(part: Part, always: bool, r: &Regs, memory: &M, first: u8) -> Reached
+    requires runs { AreRead M.reach r.now.pc }
+    requires first { first ≡ (M.reach).byte (M.state memory.now) (place r.now 1) }
+    ensures reached { IsReached part M.reach Mode.Abs always r.now (M.state memory.now) result.at result.cycles }
+    ensures few { result.cycles ≤ 5 }
+{
+    Reached {
+        at: word(first, memory.byte(r.place(2))),
+        cycles: 3,
+    }
+}
+
+/// The operand is the byte behind the opcode.
+#[inline(always)]
+fn immediate<M: Plain>(part: Part, mode: Mode, always: bool, r: &Regs, memory: &M) -> Reached
+    requires { is_beside mode ≡ true }
+    ensures reached { IsReached part M.reach mode always r.now (M.state memory.now) result.at result.cycles }
+    ensures few { result.cycles ≤ 5 }
+{
+    Reached {
+        at: r.place(1),
+        cycles: 1,
+    }
+}
+
+/// The operand's address, by the mode. It is found by comparisons with the order of the modes: they take less time than a jump through a table
+/// where the processor does not foresee such a jump.
+#[inline(always)]
+pub(crate) fn find<M: Plain>(
+    part: Part,
+    mode: Mode,
+    always: bool,
+    r: &Regs,
+    memory: &M,
+    first: u8,
+) -> Reached
+    requires runs { AreRead M.reach r.now.pc }
+    requires first { first ≡ (M.reach).byte (M.state memory.now) (place r.now 1) }
+    ensures reached { 0 < result.cycles → IsReached part M.reach mode always r.now (M.state memory.now) result.at result.cycles }
+    ensures few { result.cycles ≤ 5 }
+{
+    if (mode as u8) < Mode::Abs as u8 {
+        if (mode as u8) < Mode::ZpX as u8 {
+            match mode {
+                Mode::Zp => zero_page::<M>(part, always, r, memory, first),
+                // Imm
+                _ => immediate::<M>(part, mode, always, r, memory),
+            }
+        } else {
+            match mode {
+                Mode::ZpX => zero_page_x::<M>(part, always, r, memory, first),
+                // ZpY
+                _ => zero_page_y::<M>(part, always, r, memory, first),
+            }
+        }
+    } else if (mode as u8) < Mode::IndX as u8 {
+        match mode {
+            Mode::Abs => absolute::<M>(part, always, r, memory, first),
+            Mode::AbsX => absolute_x::<M>(part, always, r, memory, first),
+            // AbsY
+            _ => absolute_y::<M>(part, always, r, memory, first),
+        }
+    } else if (mode as u8) < Mode::Rel as u8 {
+        match mode {
+            Mode::IndY => pointer_y::<M>(part, always, r, memory, first),
+            Mode::IndZp => pointer::<M>(part, always, r, memory, first),
+            // IndX
+            _ => pointer_x::<M>(part, always, r, memory, first),
+        }
+    } else {
+        immediate::<M>(part, mode, always, r, memory)
+    }
+}
