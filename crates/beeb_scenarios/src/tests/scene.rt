@@ -8,9 +8,9 @@
 //! The steps:
 //!
 //! - `# TITLE` begins a scene: nothing lies on the shelf, and no call fails. `## MORE` goes on with its title.
-//! - `t`: the files `t`, `t.dsd` and `game.ssd` have these bytes, and with `keys` the file `keys`. `os`, `lang` and `dfs`, and `tube`: the files of these
-//!   names are the images of these source texts, for the 6502 and the 65C02. `ticks A, B`: the file `t` is a trace of these accesses, one at
-//!   each tick from 0.
+//! - `t`: the files `t`, `t.dsd` and `game.ssd` have these bytes, and with `keys` the file `keys`. `os`, `lang` and `dfs`, and `tube`: the files of
+//!   these names are the images of these source texts, for the 6502 and the 65C02. `ticks A, B`: the file `t` is a trace of these accesses, one
+//!   at each tick from 0.
 //! - `plugs NAME..`: these devices are handed in: `card` and `latch`, which are handed in where no others are named, a `counter`, or a `mute`.
 //! - `fails N,.. M,..`: these calls of the shelf and these of the outlet fail, where `-` is none.
 //! - `$ WORDS`: the words are carried out, where `''` is a word of no letters. `run ..`: these very words are carried out, in two threads, and
@@ -20,7 +20,8 @@
 //! - `file NAME`: the file was written with these bytes. `none NAME..`: these were not written. `line NAME TEXT`: this is one of
 //!   its lines. `size NAME N` is its length, and `at NAME ADDRESS BYTES` are its bytes from an address on.
 //! - `trace`: the file `o.trace` becomes the file `t`, the chip gives all its answers, and the outputs are kept. `keep`: the outputs are
-//!   kept, and nothing else. `same NAME..`: these files are the same as in the outputs that were kept. `take NAME`: the file becomes the file `t`.
+//!   kept, and nothing else. `same NAME..`: these files are the same as in the outputs that were kept. `take NAME`: the file becomes the file
+//!   `t`.
 ghost use Rattle.std.specs.Prelude.{◌≡◌, IfOk, string_bytes};
 
 use super::guests::devices;
