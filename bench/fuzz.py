@@ -4,9 +4,12 @@ and says where it does not what the pages promise. Input N of seed S is always t
 long to go on, is said; -j is the number of processes.
 
 The words, the forms of traces and key scripts and the lengths of images are written here once more, in a few lines each, from docs/COMMANDS.md:
-they say which status and text has to come, and which files have to stand. Besides: no signal, no call above 20 seconds, nothing written with the
-statuses 1 to 4, 6 and 8; `check` of what `solo` wrote says `ok` and its number of accesses; both replays of it do the same; `run` writes the same
-files; `asm` of what `dis` wrote gives its bytes; the same words twice give the same bytes.
+they say which status and text has to come, and which files have to stand; session_file.py has the form of session files, and listing.py that of
+listings. Besides: no signal, no call above 20 seconds, nothing written with the statuses 1 to 4, 6 and 8; `check` of what `solo` wrote says `ok` and
+its number of accesses; both replays of it do the same; `run` writes the same files; a session that was saved has the bytes that it has to, and is
+taken up again below, at and above its moment, and once more from there; `resume` says what `check` and both replays say of the entries, and writes
+what `solo` writes; `follow` says what the replay says, and its lines are what replays that end there tell; `asm` of what `dis` wrote gives its bytes;
+the same words twice give the same bytes.
 
 What differs is printed with its number, made smaller, and put into a folder of --finds (./finds) with its files and a script `again` that calls
 the program so. The exit status is 1 where anything differs."""
@@ -25,14 +28,19 @@ import tempfile
 import time
 
 sys.dont_write_bytecode = True
+import listing  # noqa: E402
+import session_file  # noqa: E402
 from program import TOP, form_fault, program  # noqa: E402
 
 LIMIT = 20  # seconds of a call
 MOST_TICKS = 1073741824
-MACHINES = ("replay host", "replay para", "solo", "run")
-HOSTS = ("replay host", "solo", "run")
-PARAS = ("replay para", "solo", "run")
 PAIRS = ("solo", "run")
+LISTS = ("follow host", "follow para")
+HOSTS = ("replay host", "follow host") + PAIRS
+PARAS = ("replay para", "follow para") + PAIRS
+MACHINES = ("replay host", "replay para") + LISTS + PAIRS
+RUNS = PAIRS + ("resume",)
+HEARD = ("replay host",) + RUNS
 
 # Each command: its words that stand alone. What they are is told by `Words.word`.
 COMMANDS = {
@@ -42,9 +50,11 @@ COMMANDS = {
     "replay": "side trace ticks out",
     "solo": "ticks out",
     "run": "ticks out",
+    "resume": "state ticks out",
+    "follow": "side trace ticks out",
     "gen": "seed",
 }
-# Each option: who takes it, and what its value is: a file that is read, an output, a number or one of some words.
+# Each option: who takes it, and what its value is: a file that is read, an output, an address, a number or one of some words.
 OPTIONS = {
     "--os": (HOSTS, "file"),
     "--tube": (PARAS, "file"),
@@ -54,13 +64,17 @@ OPTIONS = {
     "--disc1": (HOSTS, "file"),
     "--keys": (HOSTS, "file"),
     "--plugs": (HOSTS, (0, 8)),
-    "--keep": (PAIRS, (0, 4194304)),
+    "--keep": (RUNS, (0, 4194304)),
     "--speed": (MACHINES, ("3", "4")),
-    "--wav": (HOSTS, "output"),
+    "--wav": (HEARD, "output"),
+    "--save": (RUNS, "output"),
+    "--at": (LISTS, "address"),
+    "--watch": (LISTS, "address"),
 }
-CAPS = {"trace": 100663296, "source": 4194304}
+CAPS = {"trace": 100663296, "source": 4194304, "state": 33554432}
 CAP = 1048576
-NEEDED = {"replay host": ("--os",), "replay para": ("--tube",), "solo": ("--os", "--tube"), "run": ("--os", "--tube")}
+NAMED = ("--wav", "--save")  # the options that name an output, in its order
+NEEDED = {taker: tuple(option for option, takers in (("--os", HOSTS), ("--tube", PARAS)) if taker in takers) for taker in MACHINES + RUNS}
 
 
 # --- What has to come: the words ---
@@ -74,6 +88,10 @@ def number(word, most):
 
 def is_name(word):
     return bool(word) and not word.startswith(b"-")
+
+
+def is_address(word):
+    return re.fullmatch(rb"[0-9A-F]{4}", word) is not None
 
 
 class Words:
@@ -90,7 +108,7 @@ class Words:
             return
         kinds = COMMANDS[self.command].split()
         rest = words[1:]
-        takes = self.command in ("replay", "solo", "run")
+        takes = self.command in ("replay", "follow", "solo", "run", "resume")
         if takes:
             alone, options = [], []
             while rest:
@@ -116,6 +134,8 @@ class Words:
                     return
                 if form in ("file", "output"):
                     fits = is_name(value)
+                elif form == "address":
+                    fits = is_address(value)
                 elif isinstance(form[0], int):
                     fits = number(value, form[1]) is not None and number(value, form[1]) >= form[0]
                 else:
@@ -128,19 +148,19 @@ class Words:
         self.good = True
 
     def word(self, kind, word):
-        if kind in ("trace", "source", "image", "out"):
+        if kind in ("trace", "source", "image", "state", "out"):
             return word if is_name(word) else None
         if kind == "ticks":
             return number(word, MOST_TICKS)
         if kind == "seed":
             return number(word, 2**64 - 1)
         if kind == "origin":
-            return int(word, 16) if re.fullmatch(rb"[0-9A-F]{4}", word) else None
+            return int(word, 16) if is_address(word) else None
         return word if word in {"part": (b"6502", b"65c02"), "side": (b"host", b"para")}[kind] else None
 
     def reads(self):
         """What is read, in its order: what it is, and its name."""
-        first = [(kind, self.alone[kind]) for kind in ("trace", "source", "image") if kind in self.alone]
+        first = [(kind, self.alone[kind]) for kind in ("trace", "source", "image", "state") if kind in self.alone]
         return first + [(option, self.values[option]) for option in OPTIONS if OPTIONS[option][1] == "file" and option in self.values]
 
     def number_of(self, option, without):
@@ -214,46 +234,65 @@ def can_write(name):
     return bool(last) and len(last) <= 255 and len(name) < 4096 and os.path.isdir(folder or b".") and not os.path.isdir(name)
 
 
+class Expected:
+    """What has to come: `may` are pairs of a status and a text, or None for a text that is not known here; `outputs` are the files of status 0, and
+    `session` is what the machines of the words are made of."""
+
+    def __init__(self, *may, outputs=(), session=None):
+        self.may, self.outputs, self.session = list(may), list(outputs), session
+
+
+def made_of(words, files):
+    """What the machines of the words are made of, as a session that has no entries yet; or what is wrong with the state."""
+    if words.command != "resume":
+        dsd = {option for option in session_file.DISCS if words.values.get(option, b"").endswith(b".dsd")}
+        return session_file.Session(words.number_of("--speed", 3), 0, words.number_of("--plugs", 0), {option: files[option] for option in session_file.PARTS if option in files}, dsd, [])
+    try:
+        return session_file.decode(files["state"])
+    except session_file.BadField as found:
+        return found
+
+
 def expected(words):
-    """What has to come: a list of pairs of a status and a text, or None for a text that is not known here, and the outputs of status 0."""
     if not words.good:
-        return [(1, b"usage")], []
+        return Expected((1, b"usage"))
     files = {}
     for what, name in words.reads():
         cap = CAPS.get(what, CAP)
         files[what] = content(name, cap)
         if files[what] is None:
-            return [(2, b"cannot read " + name)], []
+            return Expected((2, b"cannot read " + name))
         if len(files[what]) > cap:
-            return [(2, b"too long " + name)], []
+            return Expected((2, b"too long " + name))
     if words.command == "dis" and words.alone["origin"] + len(files["image"]) > 65536:
-        return [(3, b"bad image image %d" % len(files["image"]))], []
+        return Expected((3, b"bad image image %d" % len(files["image"])))
     for what, name in words.reads():
         if not is_length(what, name, len(files[what])):
-            return [(3, b"bad image %s %d" % (what[2:].encode(), len(files[what])))], []
+            return Expected((3, b"bad image %s %d" % (what[2:].encode(), len(files[what]))))
     if "trace" in files:
         line, fast = trace_fault(files["trace"])
         if line is None and words.command != "check" and fast != (words.number_of("--speed", 3) == 4):
             line = 1
         if line is not None:
-            return [(4, b"bad trace %d" % line)], []
-    shots = []
-    if "--keys" in files:
-        line, shots = script_of(files["--keys"])
-        if line is not None:
-            return [(4, b"bad script %d" % line)], []
+            return Expected((4, b"bad trace %d" % line))
+    session = made_of(words, files)
+    if isinstance(session, session_file.BadField):
+        return Expected((4, b"bad state %d" % session.at))
+    line, shots = script_of(session.parts.get("--keys", b""))
+    if line is not None:
+        return Expected((4, b"bad script %d" % line))
     may = []
-    if words.command in ("check", "replay"):
+    if words.command in ("check", "replay", "follow", "resume"):
         may.append((8, None))
     if words.command == "asm":
         may.append((4, None))
-    outputs = outputs_of(words, shots)
+    outputs = outputs_of(words, session, shots)
     wrong = [name for name in outputs if not can_write(name)]
     if wrong:
         may.append((5, b"cannot write " + wrong[0]))
     else:
         may.append((0, None))
-    return may, outputs
+    return Expected(*may, outputs=outputs, session=session)
 
 
 def ending(r, what):
@@ -263,24 +302,26 @@ def ending(r, what):
     return " %02X" % r.randrange(130) if what in ("down", "up") else ""
 
 
-def outputs_of(words, shots):
+def outputs_of(words, session, shots):
     """The files that are written, in their order."""
     if "out" not in words.alone:
         return []
     out = words.alone["out"]
     if words.command in ("asm", "dis"):
         return [out]
+    if words.command == "follow":
+        return [out + b".list"]
     ends = [b".report"]
     if words.taker != "replay para":
         ends.append(b".host")
     if words.taker != "replay host":
         ends.append(b".para")
-    ends += [b".d%d" % drive for drive in (0, 1) if "--disc%d" % drive in words.values]
+    ends += [b".d%d" % drive for drive in (0, 1) if "--disc%d" % drive in session.parts]
     ends += [b".%03d.ppm" % shot for shot in range(sum(1 for tick in shots if tick < words.alone["ticks"]))]
-    if words.command in PAIRS:
+    if words.command in RUNS:
         ends.append(b".trace")
-    ends += [b".plug%d" % plug for plug in range(min(2, words.number_of("--plugs", 0)))]
-    return [out + end for end in ends] + ([words.values["--wav"]] if "--wav" in words.values else [])
+    ends += [b".plug%d" % plug for plug in range(min(2, session.plugs))]
+    return [out + end for end in ends] + [words.values[option] for option in NAMED if option in words.values]
 
 
 # --- The call, and what came of it ---
@@ -327,7 +368,8 @@ class Judge:
         """The status, where all is as promised."""
         self.lay(case.files)
         words = Words(case.words)
-        may, outputs = expected(words)
+        wanted = expected(words)
+        may, outputs = wanted.may, wanted.outputs
         before = stand()
         status, out, err = self.call(case.words)
         after = stand()
@@ -346,10 +388,15 @@ class Judge:
         if status == 0:
             if changed != {os.path.normpath(name) for name in outputs}:
                 raise Differs("files: status 0 wrote %r, wanted %r" % (sorted(changed)[:20], outputs[:20]))
-            self.look(case, words, out, outputs)
+            self.look(case, words, out, wanted)
+        if status in (0, 5, 8) and words.command == "resume":
+            self.look_at_resume(words, status, out, wanted)
+        if status in (0, 5, 8) and words.command == "follow":
+            self.look_at_follow(words, status, out, outputs, case.files)
         if status == 8 and out.startswith(b"wrong") or status == 4 and err.startswith(b"bad source"):
             first = next(name for what, name in words.reads())
-            if int(re.search(rb" ([0-9]+)", out + err).group(1)) > content(first, CAPS["trace"]).count(b"\n") + 1:
+            lines = len(wanted.session.entries) if words.command == "resume" else content(first, CAPS["trace"]).count(b"\n")
+            if int(re.search(rb" ([0-9]+)", out + err).group(1)) > lines + 1:
                 raise Differs("lines: there are fewer, %r" % (out + err))
         if case.more and words.good:
             # What was an input and is an output too has other bytes now.
@@ -362,8 +409,9 @@ class Judge:
                     raise Differs("twice: other files")
         return status
 
-    def look(self, case, words, out, outputs):
+    def look(self, case, words, out, wanted):
         """Looks at what status 0 left."""
+        outputs = wanted.outputs
         lengths = {b".host": 32768, b".para": 65536, b".plug0": 65536, b".ppm": 491535}
         if words.command in ("asm", "dis"):
             self.both_ways(words)
@@ -371,41 +419,35 @@ class Judge:
             lines = content(words.alone["trace"], CAPS["trace"])
             if int(out.split()[1]) != (len(lines) - (3 if lines.startswith(b"T2") else 0)) // 20:
                 raise Differs("check: %r" % out)
-        elif words.command in ("replay", "solo", "run"):
-            others, heard = self.heard(words, outputs)
-            if heard in {os.path.normpath(name) for name in others}:
-                return
-            for name in others:
-                end = name[name.rindex(b".") :]
+        elif words.command in ("replay",) + RUNS and are_apart(outputs):
+            for name in outputs:
+                end = name[name.rindex(b".") :] if b"." in name and name not in [words.values.get(option) for option in NAMED] else None
                 if end in lengths and os.path.getsize(name) != lengths[end]:
                     raise Differs("length: %r has %d bytes" % (name, os.path.getsize(name)))
+            self.look_at_sound(words, wanted.session.clock)
             report = content(outputs[0], CAP)
             for part in self.parts(words, outputs):
                 if not re.search(part, report, re.M):
                     raise Differs("report: lacks %r: %r" % (part, report))
-            if words.command in PAIRS:
-                self.look_at_pair(case, words, outputs, report)
+            if words.command in RUNS:
+                self.look_at_pair(case, words, wanted, report)
 
-    def heard(self, words, outputs):
-        """The other outputs, and the sound file, whose length is looked at: a sample of two bytes each 32 microseconds."""
-        if "--wav" not in words.values:
-            return outputs, None
-        name = words.values["--wav"]
-        micro = 12 if words.values.get("--speed") == b"4" else 6
-        samples = (words.alone["ticks"] + 32 * micro - 1) // (32 * micro)
-        if os.path.getsize(name) != 44 + 2 * samples:
-            raise Differs("sound: %d bytes for %d samples" % (os.path.getsize(name), samples))
-        return outputs[:-1], os.path.normpath(name)
+    def look_at_sound(self, words, clock):
+        """The length of the sound file: a sample of two bytes each 32 microseconds."""
+        if "--wav" in words.values:
+            micro = 12 if clock == 4 else 6
+            samples = (words.alone["ticks"] + 32 * micro - 1) // (32 * micro)
+            if os.path.getsize(words.values["--wav"]) != 44 + 2 * samples:
+                raise Differs("sound: %d bytes for %d samples" % (os.path.getsize(words.values["--wav"]), samples))
 
     def parts(self, words, outputs):
-        state = rb" PC=[0-9A-F]{4} A=[0-9A-F]{2} X=[0-9A-F]{2} Y=[0-9A-F]{2} S=[0-9A-F]{2} P=[0-9A-F]{2}"
         yield rb"^ticks %d$" % words.alone["ticks"]
         yield rb"^tube [0-9]+$"
         if words.taker != "replay para":
-            yield b"^host" + state
+            yield b"^host PC=[0-9A-F]{4} " + listing.REGISTERS
             yield rb"^frames %d$" % sum(1 for name in outputs if name.endswith(b".ppm"))
         if words.taker != "replay host":
-            yield b"^para" + state
+            yield b"^para PC=[0-9A-F]{4} " + listing.REGISTERS
 
     def both_ways(self, words):
         """`asm` of what `dis` wrote gives its bytes: of the image of `dis`, or of the one that `asm` wrote."""
@@ -423,7 +465,8 @@ class Judge:
         if content(b"again.image", CAP) != content(image, CAP):
             raise Differs("both ways: asm of what dis wrote gives other bytes")
 
-    def look_at_pair(self, case, words, outputs, report):
+    def look_at_pair(self, case, words, wanted, report):
+        outputs = wanted.outputs
         numbers = dict(line.split() for line in report.splitlines() if line.split()[0] in (b"tube", b"kept", b"frames"))
         tube, kept = int(numbers[b"tube"]), int(numbers[b"kept"])
         out = words.alone["out"]
@@ -432,8 +475,10 @@ class Judge:
         said = self.good([b"check", out + b".trace"], "check of the trace")
         if said != b"ok %d\n" % kept:
             raise Differs("check of the trace: %r, kept %d" % (said, kept))
+        if "--save" in words.values:
+            self.look_at_saved(case, words, wanted.session, tube)
         inputs = {os.path.normpath(name) for what, name in words.reads()}
-        if not case.more or inputs & {os.path.normpath(name) for name in outputs}:
+        if not case.more or words.command not in PAIRS or inputs & {os.path.normpath(name) for name in outputs}:
             return
         other = b"run" if words.command == "solo" else b"solo"
         again = [other if place == 0 else word for place, word in enumerate(case.words)]
@@ -446,6 +491,163 @@ class Judge:
                 if content(b"played" + taken, CAP) != content(out + taken, CAP):
                     raise Differs("replay: another memory of %s" % taker)
 
+    def look_at_saved(self, case, words, session, tube):
+        """The session file that a run wrote: its bytes, and for a share of runs what comes of it when it is taken up again below, at and above its
+        moment, and of the session that is saved then."""
+        ticks, kept = words.alone["ticks"], session_file.entries_of(content(words.alone["out"] + b".trace", CAPS["trace"]))
+        saved = session_file.saved(session.clock, ticks, session.plugs, session.parts, session.dsd, kept, tube)
+        if session_file.encode(saved) != content(words.values["--save"], CAPS["state"]):
+            raise Differs("saved: the session has other bytes")
+        if not case.more:
+            return
+        os.makedirs(b"back", exist_ok=True)
+        shutil.copy(words.values["--save"], b"back/state")
+        for state, upto in ((b"back/state", ticks // 2), (b"back/state", ticks), (b"back/first", ticks), (b"back/state", min(MOST_TICKS, ticks + 997))):
+            wanted = self.files_of(b"made", [b"solo"] + self.made(session) + [b"--keep", b"4194304"], upto)
+            found = self.files_of(b"back", [b"resume", state, b"--keep", b"4194304"], upto)
+            if found != wanted:
+                raise Differs("resumed: %d ticks from %d: other %r" % (upto, saved.ticks, different(found, wanted)))
+            if state == b"back/state" and upto == ticks // 2:
+                os.rename(b"back/o.save", b"back/first")
+
+    def made(self, session, side=None):
+        """Lays what the machines of a session are made of into a folder of its own, and tells the options of a run of both, or of one side."""
+        os.makedirs(b"made", exist_ok=True)
+        options = [b"--speed", b"%d" % session.clock]
+        if side != b"para":
+            options += [b"--plugs", b"%d" % session.plugs]
+        for option, text in session.parts.items():
+            if (option == "--tube") != (side == b"para") and side:
+                continue
+            name = b"made/" + option[2:].encode() + (b".dsd" if option in session.dsd else b"")
+            with open(name, "wb") as file:
+                file.write(text)
+            options += [option.encode(), name]
+        return options
+
+    def files_of(self, folder, words, ticks, named=NAMED):
+        """The files that words write under a name in this folder."""
+        ways = [b"%s=%s/o.%s" % (option.encode(), folder, option[2:].encode()) for option in named]
+        for name in os.listdir(folder):
+            if name.startswith(b"o."):
+                os.unlink(folder + b"/" + name)
+        first = 2 if words[0] == b"resume" else 1
+        self.good(words[:first] + [b"%d" % ticks, folder + b"/o"] + words[first:] + [part for way in ways for part in way.split(b"=")], words[0].decode())
+        return {name[1:]: content(folder + b"/" + name, CAPS["trace"]) for name in os.listdir(folder) if name.startswith(b"o.")}
+
+    def first_refusal(self, session, ticks):
+        """What is said of a session whose entries the chip or a machine does not give, by `check` and both replays; else nothing."""
+        os.makedirs(b"made", exist_ok=True)
+        for side, entries in ((None, session.entries), (b"host", None), (b"para", None)):
+            until = min(ticks, session.ticks)
+            if entries is None:
+                entries = [entry for entry in session.entries if entry.tick < until]
+            with open(b"made/trace", "wb") as file:
+                file.write(session_file.trace(session.clock, entries))
+            words = [b"check", b"made/trace"] if side is None else [b"replay", side, b"made/trace", b"%d" % until, b"made/o"] + self.made(session, side)
+            status, out, err = self.call(words)
+            if status == 8:
+                return out
+            if status != 0:
+                raise Differs("%s of a session's entries: status %d" % (words[0].decode(), status))
+        return None
+
+    def look_at_resume(self, words, status, out, wanted):
+        """A session that is taken up again: what `check`, both replays and `solo` say and write of it."""
+        session, ticks = wanted.session, words.alone["ticks"]
+        refusal = self.first_refusal(session, ticks)
+        if (status, out) != (8, refusal) if refusal else status == 8:
+            raise Differs("resume: status %d, %r, but %r" % (status, out, refusal))
+        if status == 0 and are_apart(wanted.outputs):
+            named = [option for option in NAMED if option in words.values]
+            keep = [b"--keep", b"%d" % words.number_of("--keep", 1048576)]
+            files = self.files_of(b"made", [b"solo"] + self.made(session) + keep, ticks, named)
+            ends = {name: b"." + option[2:].encode() for option in named for name in (words.values[option],)}
+            found = {ends.get(name, name[len(words.alone["out"]) :]): content(name, CAPS["trace"]) for name in wanted.outputs}
+            if found != files:
+                raise Differs("resume and solo: they write another %r" % different(found, files))
+
+    def look_at_follow(self, words, status, out, outputs, files):
+        """A listing: the status of the replay, and the lines."""
+        side = words.alone["side"]
+        inputs = {name for what, name in words.reads()}
+        if any(os.path.normpath(name) in [os.path.normpath(other) for other in outputs] for name in inputs):
+            return
+        options = [part for option, value in words.values.items() if OPTIONS[option][1] != "address" for part in (option.encode(), value)]
+        played = [b"replay", side, words.alone["trace"], b"%d" % words.alone["ticks"], b"played"] + options
+        again, said, _ = self.call(played)
+        if status != again if status != 5 else again != 0:
+            raise Differs("follow: status %d, but replay %d" % (status, again))
+        if status == 8 and said != out:
+            raise Differs("follow: %r, but replay %r" % (out, said))
+        if status != 0:
+            return
+        found = self.listed(out, content(outputs[0], 2**30))
+        fault = listing.form_fault(found, words.alone["ticks"])
+        if fault:
+            raise Differs("listing: %s" % fault)
+        choices = {option: int(words.values[option], 16) for option in ("--at", "--watch") if option in words.values}
+        every = found
+        if choices:
+            all_of = [b"follow" if place == 0 else b"whole" if place == 4 else word for place, word in enumerate(played)]
+            every = self.listed(self.good(all_of, "follow of all"), content(b"whole.list", 2**30))
+        fault = listing.listing_fault(every, {(b"host", False): 3, (b"host", True): 6, (b"para", False): 2, (b"para", True): 3}[side, words.values.get("--speed") == b"4"], side == b"host")
+        if fault:
+            raise Differs("listing: %s" % fault)
+        self.look_at_choice(words, found, every, choices, played)
+        self.look_at_starts(words, every, played)
+
+    def listed(self, said, text):
+        lines = listing.lines_of(text)
+        if isinstance(lines, str):
+            raise Differs("listing: %s" % lines)
+        chosen = int(said.split()[3])
+        if said != b"listed %d of %d\n" % (min(chosen, listing.MOST_LINES), chosen) or len(lines) != min(chosen, listing.MOST_LINES):
+            raise Differs("listing: %r of %d lines" % (said, len(lines)))
+        return lines
+
+    def at(self, played, tick):
+        """The registers and the memory of a replay that ends in front of a tick."""
+        self.good([b"%d" % tick if place == 3 else word for place, word in enumerate(played)], "replay to a start")
+        side = played[1]
+        registers = re.search(side + rb" PC=([0-9A-F]{4}) (" + listing.REGISTERS + b")", content(b"played.report", CAP))
+        return int(registers.group(1), 16), registers.group(2), content(b"played." + side, CAP)
+
+    def look_at_choice(self, words, found, every, choices, played):
+        """The lines are those of all that are chosen: by their address, and by a byte of memory that changed since the start before."""
+        if "--at" in choices and any(line.pc != choices["--at"] for line in found):
+            raise Differs("choice: a line at another address")
+        if "--watch" not in choices:
+            if choices and found != [line for line in every if line.pc == choices["--at"]]:
+                raise Differs("choice: other lines")
+            return
+        if not set(found) <= set(every) or (every and every[0] in found):
+            raise Differs("choice: lines that are not of the listing, or the first")
+        known = choices["--watch"] < (0x8000 if words.alone["side"] == b"host" else 0xF800)
+        places = [every.index(line) for line in found[:2]] + [len(every) // 2, len(every) - 1]
+        for place in places if known else []:
+            if place > 0 and ("--at" not in choices or every[place].pc == choices["--at"]):
+                before, here = (self.at(played, every[n].tick)[2][choices["--watch"]] for n in (place - 1, place))
+                if (before != here) != (every[place] in found):
+                    raise Differs("choice: at %010X the byte was %02X and is %02X" % (every[place].tick, before, here))
+
+    def look_at_starts(self, words, every, played):
+        """Some lines are what a replay that ends there tells: registers, and bytes of memory as they are disassembled."""
+        host = words.alone["side"] == b"host"
+        for place in sorted({0, 1, len(every) // 3, len(every) - 1}):
+            if not 0 <= place < len(every):
+                continue
+            line = every[place]
+            pc, registers, memory = self.at(played, line.tick)
+            if (pc, registers) != (line.pc, line.registers):
+                raise Differs("start: at %010X a replay has PC=%04X %r, not %r" % (line.tick, pc, registers, line))
+            if (pc + 2 < 0x8000) if host else (pc + 2 < 0xF800):
+                with open(b"bytes", "wb") as file:
+                    file.write(memory[pc : pc + 3])
+                self.good([b"dis", b"6502" if host else b"65c02", b"bytes", b"%04X" % pc, b"text"], "dis of what stands there")
+                if content(b"text", CAP).split(b"\n")[1].decode() != line.text:
+                    raise Differs("start: at %010X stands %r, not %r" % (line.tick, content(b"text", CAP), line.text))
+
     def other(self, again, words, name, outputs, what):
         """These words, with another name for the outputs, write the same files."""
         out = words.alone["out"]
@@ -454,17 +656,28 @@ class Judge:
             return
         again[place[0]] = name
         # An output with a name of its own is written under another one too.
-        if b"--wav" in again:
-            again[again.index(b"--wav") + 1] = name + b".wav"
+        others = {}
+        for option in NAMED:
+            if option in words.values:
+                others[words.values[option]] = again[again.index(option.encode()) + 1] = name + b"." + option[2:].encode()
         self.good(again, what)
         for file in outputs:
-            other = name + (b".wav" if file == words.values.get("--wav") and b"--wav" in again else file[len(out) :])
-            if content(file, CAPS["trace"]) != content(other, CAPS["trace"]):
+            if content(file, CAPS["trace"]) != content(others.get(file, name + file[len(out) :]), CAPS["trace"]):
                 raise Differs("%s: they write another %r" % (what, file))
 
 
 class Differs(Exception):
     pass
+
+
+def are_apart(names):
+    """No two of these are the same name."""
+    return len({os.path.normpath(name) for name in names}) == len(names)
+
+
+def different(found, wanted):
+    """The ends of the files that are not in both with the same bytes."""
+    return sorted(end for end in set(found) | set(wanted) if found.get(end) != wanted.get(end))
 
 
 def stand():
@@ -742,6 +955,8 @@ def pair(r, base, command=b"solo"):
         options.append((b"--speed", r.choice((3, 4, 4, 4))))
     if r.random() < 0.2:
         options.append((b"--wav", r.choice((b"wave", b"wave", b"dir/wave", b"out.report", b"-"))))
+    if r.random() < 0.3:
+        options.append((b"--save", r.choice((b"saved", b"saved", b"saved", b"saved", b"dir/saved", b"os", b"out.trace", b"wave", b"nowhere/saved"))))
     r.shuffle(options)
     return put_options(r, [command, b"%d" % ticks, b"out"], options), files
 
@@ -751,8 +966,8 @@ def of_words(r, base):
     command = r.choice(list(COMMANDS))
     if command in PAIRS:
         words, files = pair(r, base, command.encode())
-    elif command == "replay":
-        words, files = of_replay(r, base)
+    elif command in ("replay", "follow", "resume"):
+        words, files = {"replay": of_replay, "follow": of_follow, "resume": of_session}[command](r, base)
     else:
         values = {"part": b"6502", "source": b"source", "image": b"image", "trace": b"trace", "out": b"out", "origin": b"C000", "seed": b"1"}
         words = [command.encode()] + [values[kind] for kind in COMMANDS[command].split()]
@@ -783,11 +998,11 @@ def of_words(r, base):
     return words, files
 
 
-def of_replay(r, base):
+def of_replay(r, base, command=b"replay", whole=0.3):
     side = r.choice((b"host", b"para"))
     trace, os_rom, tube_rom, ticks, clock = r.choice(base["runs"])
-    files = {b"os": os_rom, b"tube": tube_rom, b"trace": trace if r.random() < 0.3 else mutate(r, trace, "trace") if r.random() < 0.7 else a_trace(r, base)}
-    words = [b"replay", side, b"trace", b"%d" % (ticks if r.random() < 0.6 else r.randrange(2 * ticks)), b"out"]
+    files = {b"os": os_rom, b"tube": tube_rom, b"trace": trace if r.random() < whole else mutate(r, trace, "trace") if r.random() < 0.7 else a_trace(r, base)}
+    words = [command, side, b"trace", b"%d" % (ticks if r.random() < 0.6 else r.randrange(2 * ticks)), b"out"]
     options = [(b"--os", b"os")] if side == b"host" else [(b"--tube", b"tube")]
     if clock == 4 or r.random() < 0.05:
         options.append((b"--speed", clock if r.random() < 0.9 else r.choice((3, 4))))
@@ -795,6 +1010,105 @@ def of_replay(r, base):
         files[b"keys"] = a_script(r, base, ticks)
         options.append((b"--keys", b"keys"))
     return put_options(r, words, options), files
+
+
+def of_follow(r, base):
+    words, files = of_replay(r, base, b"follow", 0.8)
+    low = 0xC000 if b"--os" in words else 0xF800
+    options = []
+    if r.random() < 0.3:
+        options.append((b"--at", b"%04X" % r.choice((low, low + r.randrange(0x40), low + r.randrange(0x100), 0xFEF8, 0, r.randrange(65536)))))
+    if r.random() < 0.3:
+        options.append((b"--watch", b"%04X" % r.choice((0x70, 0x71, 0x80, 0x100 + r.randrange(256), low, 0x7C00 + r.randrange(1000), 0xFC00, 0xFEF8, 0xFF00, 0xFFFF, r.randrange(65536)))))
+    return put_options(r, words, options), files
+
+
+def a_session(r, base):
+    """A session, most often of a run of the examples, with some parts more; of others the entries differ from what its machines do."""
+    trace, os_rom, tube_rom, ticks, clock = r.choice(base["runs"])
+    ticks = r.choice((ticks, ticks, r.randrange(ticks + 1), r.randrange(200)))
+    parts = {"--os": os_rom, "--tube": tube_rom}
+    dsd = set()
+    if r.random() < 0.2:
+        parts["--rom%d" % r.randrange(16)] = r.randbytes(r.choice((8192, 16384)))
+    if r.random() < 0.1:
+        parts["--font"] = r.randbytes(960)
+    for disc in session_file.DISCS:
+        if r.random() < 0.15:
+            parts[disc] = r.randbytes(r.choice((0, 1, 255, 256, 1024, 2560, 5000)))
+            if r.random() < 0.05:
+                parts[disc] += bytes(r.choice((204800, 204801, 409600)) - len(parts[disc]))
+            if r.random() < 0.4 or len(parts[disc]) > session_file.LARGEST_SSD:
+                dsd.add(disc)
+    if r.random() < 0.3:
+        parts["--keys"] = a_script(r, base, ticks)
+    entries = [entry for entry in session_file.entries_of(trace) if entry.tick < ticks]
+    session = session_file.Session(clock, ticks, r.choice((0, 0, 0, 1, 2, 3, 8)), parts, dsd, entries)
+    while r.random() < 0.35:
+        session = session_file.Session(*a_change(r, base, *session))
+    return session
+
+
+def a_change(r, base, clock, ticks, plugs, parts, dsd, entries):
+    """Changes one thing of a session; what comes of it may be no session any more."""
+    how, entries = r.randrange(10), list(entries)
+    place = r.randrange(len(entries)) if entries else None
+    if how == 0:
+        ticks = min(2**32 - 1, max(0, r.choice((ticks + 1, ticks + r.randrange(3000), ticks - r.randrange(100), entries[-1].tick if entries else 0, MOST_TICKS, MOST_TICKS + 1))))
+    elif how == 1 and entries:
+        entries[place] = entries[place]._replace(byte=r.choice((0, entries[place].byte ^ 1 << r.randrange(8))))
+    elif how == 2 and entries:
+        entries[place] = entries[place]._replace(tick=max(0, entries[place].tick + r.choice((-1, 1, r.randrange(-30, 30)))))
+    elif how == 3 and entries:
+        entries[place] = entries[place]._replace(**r.choice(({"register": r.randrange(8)}, {"side": "P"}, {"side": "H"}, {"what": "X", "register": 0, "byte": 0}, {"what": "W"}, {"what": "R"})))
+    elif how == 4 and entries:
+        del entries[place : place + r.choice((1, 1, 2, len(entries)))]
+    elif how == 5 and entries:
+        entries.insert(place, entries[place])
+    elif how == 6:
+        entries.append(session_file.Entry(min(2**40 - 1, r.choice((ticks - 1 if ticks else 0, ticks, entries[-1].tick + 1 if entries else 0))), r.choice("HP"), "R", r.randrange(8), r.choice((0x40, 0x3F, r.randrange(256)))))
+    elif how == 7:
+        parts = {**parts, **r.choice(({"--os": an_os(r, base)}, {"--tube": a_tube(r, base)}, {"--keys": a_script(r, base, max(1, ticks))}, {"--font": r.randbytes(r.choice((0, 959, 960, 961)))}))}
+    elif how == 8:
+        plugs, clock = r.choice((plugs, 8, 9, 255)), r.choice((3, 4, clock, clock, 2, 5))
+    else:
+        parts = {option: part for option, part in parts.items() if r.random() < 0.8}
+    return clock, ticks, plugs, parts, dsd, entries
+
+
+def of_session(r, base):
+    session = a_session(r, base)
+    text = session_file.encode(session)
+    places = session_file.places(text)
+    how = r.random()
+    if how < 0.15:
+        # A field, one of those that stand before an image more often than not.
+        small = [field for field in places if 0 < field[1] < 8]
+        begin, length = r.choice(small[:40] if r.random() < 0.6 else small)
+        value = r.choice((0, 1, 3, 4, 255, 2 ** (8 * length) - 1, session_file.number(text[begin : begin + length]) + r.choice((-1, 1)), 8192, 16384, 204801, 409601, 1048577, 4194305, MOST_TICKS + 1))
+        text = text[:begin] + (value % 2 ** (8 * length)).to_bytes(length, "big") + text[begin + length :]
+    elif how < 0.2:
+        begin, length = r.choice(places)
+        text = text[: begin + r.choice((0, 0, 1, length - 1, length // 2))] if length else text
+    elif how < 0.24:
+        text += r.choice((b"\0", b"\xff", text[-7:], r.randbytes(r.randrange(1, 30))))
+    elif how < 0.3:
+        at = r.randrange(len(text))
+        text = text[:at] + bytes((text[at] ^ 1 << r.randrange(8),)) + text[at + 1 :]
+    elif how < 0.31:
+        text = r.choice((b"", b"BTUB", b"BTUB\1", text[:11], b"BTUC" + text[4:], text * 2, b"T2\n" + text))
+    ticks = max(0, r.choice((session.ticks, session.ticks - 1, session.ticks + 1, session.ticks + r.randrange(5000), r.randrange(min(session.ticks, 20000) + 1), 0, r.randrange(20000))))
+    words = [b"resume", b"state", b"%d" % min(ticks, 3000000), b"out"]
+    options = []
+    if r.random() < 0.2:
+        options.append((b"--keep", r.choice((0, 1, 2, 5, r.randrange(200), 4194304, 4194305))))
+    if r.random() < 0.2:
+        options.append((b"--wav", r.choice((b"wave", b"wave", b"dir/wave", b"state", b"out.host"))))
+    if r.random() < 0.35:
+        options.append((b"--save", r.choice((b"saved", b"saved", b"saved", b"state", b"wave", b"dir/saved", b"out.trace"))))
+    if r.random() < 0.03:
+        options.append((r.choice((b"--os", b"--plugs", b"--speed", b"--at")), b"3"))
+    return put_options(r, words, options), {b"state": text}
 
 
 def of_check(r, base):
@@ -819,12 +1133,14 @@ def of_solo(r, base):
 
 # Each kind of input: who makes it, how often, and the share of which more is asked (the same words twice; `run` beside `solo`, and both replays).
 KINDS = {
-    "words": (of_words, 25, 0.1),
-    "check": (of_check, 15, 0.1),
-    "replay": (of_replay, 10, 0.1),
-    "source": (of_source, 15, 0.1),
-    "image": (of_image, 15, 0.1),
-    "pair": (of_solo, 19, 0.25),
+    "words": (of_words, 20, 0.1),
+    "check": (of_check, 10, 0.1),
+    "replay": (of_replay, 8, 0.1),
+    "source": (of_source, 10, 0.1),
+    "image": (of_image, 10, 0.1),
+    "pair": (of_solo, 16, 0.25),
+    "session": (of_session, 15, 0.1),
+    "follow": (of_follow, 10, 0.1),
     "seed": (of_seed, 1, 0.1),
 }
 

@@ -59,10 +59,21 @@ COMMANDS = [
     ("run", "run 2000 out --os os --tube tube"),
     ("solo", "solo 2000 out " + BOTH),
     ("run", "run 2000 out " + BOTH),
+    ("solo", "solo 2000 out --os os --tube tube --save save"),
+    ("run", "run 2000 out --os os --tube tube --save save"),
+    ("solo", "solo 2000 out --os os --tube tube --wav wav"),
+    ("run", "run 2000 out --os os --tube tube --wav wav"),
+    ("run", "run 2000 out " + BOTH + " --wav wav --save save"),
+    ("resume", "resume state 2000 out"),
+    ("resume", "resume state 1000 out"),
+    ("resume", "resume state 3000 out --wav wav --save save"),
+    ("resume", "resume full 2000 out --wav wav --save save"),
+    ("follow", "follow host letters.trace 2000 out --os os"),
+    ("follow", "follow para letters.trace 2000 out --tube tube --watch F000"),
     ("gen", "gen 1"),
 ]
 # The order in which outputs are written.
-ORDER = ("out", "out.report", "out.host", "out.para", "out.d0", "out.000.ppm", "out.trace", "out.plug0", "out.plug1")
+ORDER = ("out", "out.list", "out.report", "out.host", "out.para", "out.d0", "out.000.ppm", "out.trace", "out.plug0", "out.plug1", "wav", "save")
 
 
 def prepare(path):
@@ -73,6 +84,8 @@ def prepare(path):
     for name, text in (("keys", b"at 100 down 25\nat 1000 shot\n"), ("disc", b"disc" * 1000), ("rom", bytes(range(256)) * 32)):
         with open(name, "wb") as file:
             file.write(text)
+    for name, options in (("state", "--os os --tube tube"), ("full", BOTH)):
+        subprocess.run([path, "solo", "2000", "out", *options.split(), "--save", name], check=True)
 
 
 def lay():

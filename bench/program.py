@@ -13,17 +13,19 @@ ERRORS = {
     1: rb"usage\n",
     2: rb"(cannot read|too long) .+\n",
     3: rb"bad image (image|os|tube|rom([0-9]|1[0-5])|font|disc[01]) [0-9]+\n",
-    4: rb"bad (script|trace|source) [1-9][0-9]*\n",
+    4: rb"bad ((script|trace|source) [1-9][0-9]*|state (0|[1-9][0-9]*))\n",
     5: rb"cannot write .+\n",
     6: rb"no thread\n",
     7: rb"no memory\n",
     8: rb"",
 }
+DIFFERS = rb"(wrong [1-9][0-9]* [0-9A-F]{2}|differs [1-9][0-9]* ([0-9A-F]{10} [HP] [RWX] [0-7] ([0-9A-F]{2}|--)|-))\n"
 SAYS = {
     (0, "check"): rb"ok (0|[1-9][0-9]*)\n",
+    (0, "follow"): rb"listed (0|[1-9][0-9]*) of (0|[1-9][0-9]*)\n",
     (0, "gen"): rb"seed [0-9]+\nbytes 4096\nsum [0-9A-F]{4}\nticks 1000000\n",
     (8, "check"): rb"wrong [1-9][0-9]* [0-9A-F]{2}\n",
-    (8, "replay"): rb"(wrong [1-9][0-9]* [0-9A-F]{2}|differs [1-9][0-9]* ([0-9A-F]{10} [HP] [RWX] [0-7] ([0-9A-F]{2}|--)|-))\n",
+    **{(8, command): DIFFERS for command in ("replay", "follow", "resume")},
 }
 
 

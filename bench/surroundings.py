@@ -19,6 +19,7 @@ import tempfile
 import time
 
 sys.dont_write_bytecode = True
+import session_file  # noqa: E402
 from program import TOP, program  # noqa: E402
 
 LIMIT = 60  # seconds of a call
@@ -213,9 +214,9 @@ def tell_cases():
     add(group, "a disk with room for two files of four", ["solo", "2000", "disk/out"] + list(SOLO), 5, "cannot write disk/out.para",
         changed={**outputs("disk/out", ends=(".report", ".host")), "disk/out.para": lambda text: wanted["good.para"].startswith(text)}, before=a_disk, needs="a disk of its own")
     add(group, "a disk without any room", ["asm", "6502", "small.asm", "disk/image"], 5, "cannot write disk/image",
-        changed={"disk/image": b""}, before=both(lambda: a_disk(), lambda: fill("disk/filled")), needs="a disk of its own")
+        changed={"disk/image": b""}, before=both(a_disk, lambda: fill("disk/filled")), needs="a disk of its own")
     add(group, "a disk that is read only", ["asm", "6502", "small.asm", "disk/image"], 5, "cannot write disk/image",
-        before=both(lambda: a_disk(), lambda: subprocess.run(["mount", "-o", "remount,ro", "disk"], check=True)), needs="a disk of its own")
+        before=both(a_disk, lambda: subprocess.run(["mount", "-o", "remount,ro", "disk"], check=True)), needs="a disk of its own")
     over = {**outputs("out", ends=(".report", ".host")), "out.para": lambda text: wanted["good.para"].startswith(text)}
     add(group, "a file may have 40,000 bytes (`ulimit -f`), and the signal of that is ignored", solo("out"), 5, "cannot write out.para",
         changed=over, command=("bash", "-c", "ulimit -f 40; trap '' XFSZ; exec \"$@\"", "bash"))
@@ -265,6 +266,118 @@ def tell_cases():
         command=AS_OTHER + ("prlimit", "--nproc=1"), needs="another user")
 
 
+def tell_session_cases():
+    group = "Session files that are read"
+    back = outputs("out")
+    add(group, "missing", resume("missing"), 2, "cannot read missing")
+    add(group, "a folder", resume("folder"), 2, "cannot read folder")
+    add(group, "without leave to read", resume("secret"), 2, "cannot read secret", before=put("secret", mode=0o000), command=AS_OTHER, needs="another user")
+    add(group, "a link to a session", resume("to-state"), 0, changed=back, before=link("state", "to-state"))
+    add(group, "a link that goes round", resume("round"), 2, "cannot read round", before=both(link("other", "round"), link("round", "other")))
+    add(group, "a FIFO with a writer", resume("fifo"), 0, changed=back, before=fifo("fifo", "cat state >fifo"))
+    add(group, "a FIFO whose writer is slow", resume("fifo"), 0, changed=back, before=fifo("fifo", "{ head -c 18000 state; sleep 0.3; tail -c +18001 state; } >fifo"))
+    add(group, "a FIFO whose writer never ends", resume("fifo"), 2, "too long fifo", before=fifo("fifo", "exec yes >fifo"))
+    add(group, "a FIFO without a writer", resume("fifo"), None, before=fifo("fifo"), page="waits for a writer")
+    add(group, "standard input, a pipe", resume("/dev/stdin"), 0, changed=back, how={"input": wanted["state"]})
+    add(group, "a device without an end", resume("/dev/zero"), 2, "too long /dev/zero", memory=250)
+    add(group, "a device with nothing", resume("/dev/null"), 4, "bad state 0")
+    add(group, "a socket", resume("socket"), 2, "cannot read socket", before=a_socket)
+    add(group, "empty", resume("empty"), 4, "bad state 0")
+    add(group, "a trace", resume("nmi.trace"), 4, "bad state 0")
+    add(group, "one byte short", resume("short"), 4, "bad state 18877", before=put("short", wanted["state"][:-1]))
+    add(group, "one byte more", resume("long"), 4, "bad state 18878", before=put("long", wanted["state"] + b"\0"))
+    add(group, "of its cap, all 00", resume("long"), 4, "bad state 0", before=put("long", length=33554432), memory=250)
+    add(group, "of its cap, a session and 00", resume("long"), 4, "bad state 18878", before=put("long", wanted["state"], length=33554432), memory=250)
+    add(group, "one byte more", resume("long"), 2, "too long long", before=put("long", wanted["state"], length=33554433), memory=250)
+    add(group, "20 GB of 00", resume("long"), 2, "too long long", before=put("long", length=BIG), memory=250)
+    add(group, "as many accesses as it may have, which the host does not make", resume("most"), 8, out="differs 1 0000000024 H R 0 --\n", before=most_entries(0), memory=600)
+    add(group, "the same, taken up at tick 0, above which the chip alone gives them", resume("most", ticks="0"), 0, changed=outputs("out", like="none"),
+        before=most_entries(0), memory=600)
+    add(group, "one access more", resume("most"), 4, "bad state 18531", before=most_entries(1))
+    add(group, "another byte in its last access", resume("other"), 8, out="wrong 49 49\n", before=lambda: put("other", wanted["state"][:-1] + b"\x48")())
+
+    group = "Session files that are written"
+    saved = {**back, "saved": "state"}
+    add(group, "as any output", solo("out", "--save", "saved"), 0, changed=saved)
+    add(group, "with `run`", ("run",) + solo("out", "--save", "saved")[1:], 0, changed=saved)
+    add(group, "over a longer file", solo("out", "--save", "saved"), 0, changed=saved, before=put("saved", b"\xaa" * 100000))
+    add(group, "over the operating system", solo("out", "--save", "os"), 0, changed={**back, "os": "state"})
+    add(group, "over the report", solo("out", "--save", "out.report"), 0, changed={**back, "out.report": "state"})
+    add(group, "over the sound file", solo("out", "--wav", "saved", "--save", "saved"), 0, changed=saved)
+    add(group, "over the session that is taken up", resume("state", "--save", "state"), 0, changed={**back, "state": "state"})
+    add(group, "over the same by a link", resume("to-state", "--save", "to-state"), 0, changed={**back, "state": "state"}, before=link("state", "to-state"))
+    add(group, "the session is `OUT.trace` of its own run", resume("out.trace"), 0, changed=back, before=lambda: shutil.copy("state", "out.trace"))
+    add(group, "the session is `OUT.report`, and is saved there", resume("out.report", "--save", "out.report"), 0, changed={**back, "out.report": "state"}, before=lambda: shutil.copy("state", "out.report"))
+    add(group, "in a folder that is missing", solo("out", "--save", "nowhere/saved"), 5, "cannot write nowhere/saved", changed=back)
+    add(group, "a folder", solo("out", "--save", "folder"), 5, "cannot write folder", changed=back)
+    add(group, "a folder, of `run`", ("run",) + solo("out", "--save", "folder")[1:], 5, "cannot write folder", changed=back)
+    add(group, "a folder, of `resume`", resume("state", "--save", "folder"), 5, "cannot write folder", changed=back)
+    add(group, "without leave to write", solo("open/out", "--save", "kept"), 5, "cannot write kept", changed=outputs("open/out"), before=both(an_open_folder, put("kept", b"kept", mode=0o444)),
+        command=AS_OTHER, needs="another user")
+    add(group, "a device that is full", solo("out", "--save", "/dev/full"), 5, "cannot write /dev/full", changed=back)
+    add(group, "a disk with room for the other files alone", solo("out", "--save", "disk/saved"), 5, "cannot write disk/saved",
+        changed={**back, "disk/saved": lambda text: wanted["state"].startswith(text)}, before=both(a_disk, lambda: fill("disk/fill")), needs="a disk of its own")
+    add(group, "the same disk for the files of `resume`", resume("state", out="disk/out"), 5, "cannot write disk/out.para",
+        changed={**outputs("disk/out", ends=(".report", ".host")), "disk/out.para": lambda text: wanted["good.para"].startswith(text)}, before=a_disk, needs="a disk of its own")
+    add(group, "a FIFO with a reader", solo("out", "--save", "fifo"), 0, changed={**back, "read": "state"}, before=fifo("fifo", "cat fifo >read"))
+    add(group, "a FIFO whose reader goes", solo("out", "--save", "fifo", "--disc0", "large"), 5, "cannot write fifo", changed={**back, "out.d0": None},
+        before=both(put("large", length=204800), fifo("fifo", "head -c 1 fifo >/dev/null")))
+    add(group, "standard output closed, where nothing is said", resume("state"), 0, changed=back, **closed(1))
+    add(group, "standard output closed, where an access is wrong", resume("other"), 5, "cannot write -", before=lambda: put("other", wanted["state"][:-1] + b"\x48")(), **closed(1))
+    add(group, "no thread may be started", resume("state", out="open/out"), 0, changed=outputs("open/out"), before=an_open_folder, command=AS_OTHER + ("prlimit", "--nproc=1"), needs="another user")
+
+    group = "Listings"
+    listed = {"out.list": "good.list"}
+    told = "listed %d of %d\n" % ((wanted["good.list"].count(b"\n"),) * 2)
+    add(group, "as any output", follow("good.trace"), 0, out=told, changed=listed)
+    for title, how in (("closed", closed(1)), ("a full device", {"how": {"stdout": "/dev/full"}}), ("a pipe without a reader", {"how": {"stdout": "broken"}})):
+        add(group, "standard output %s" % title, follow("good.trace"), 5, "cannot write -", changed=listed, **how)
+    add(group, "standard output closed, where the host differs", follow("empty"), 5, "cannot write -", **closed(1))
+    add(group, "the host differs", follow("empty"), 8, out="differs 1 0000000024 H R 0 --\n")
+    add(group, "all three closed", follow("good.trace"), 5, changed=listed, command=("sh", "-c", "exec \"$@\" <&- >&- 2>&-", "sh"))
+    add(group, "over its trace", follow("out.list"), 0, out=told, changed=listed, before=put("out.list", wanted["good.trace"]))
+    add(group, "over a longer file", follow("good.trace"), 0, out=told, changed=listed, before=put("out.list", b"\xaa" * 100000))
+    add(group, "a folder", follow("good.trace"), 5, "cannot write out.list", before=lambda: os.mkdir("out.list"))
+    add(group, "in a folder that is missing", follow("good.trace", out="nowhere/out"), 5, "cannot write nowhere/out.list")
+    add(group, "in a folder without leave to write", follow("good.trace", out="folder/out"), 5, "cannot write folder/out.list",
+        command=AS_OTHER, needs="another user")
+    add(group, "a device that is full", follow("good.trace"), 5, "cannot write out.list", before=link("/dev/full", "out.list"))
+    add(group, "a disk without any room", follow("good.trace", out="disk/out"), 5, "cannot write disk/out.list", changed={"disk/out.list": lambda text: wanted["good.list"].startswith(text)},
+        before=both(a_disk, lambda: fill("disk/fill")), needs="a disk of its own")
+    add(group, "a FIFO with a reader", follow("good.trace"), 0, out=told, changed={"read": "good.list"}, before=fifo("out.list", "cat out.list >read"))
+    add(group, "a name of 255 bytes", follow("good.trace", out="n" * 250), 0, out=told, changed={"n" * 250 + ".list": "good.list"},
+        page="follow host good.trace 2000 NAME --os os")
+    add(group, "one byte more", follow("good.trace", out="n" * 251), 5, "cannot write " + "n" * 251 + ".list",
+        page="follow host good.trace 2000 NAME --os os")
+    add(group, "more lines than it may have", ("follow", "para", "empty", "6291471", "out", "--tube", "loop"), 0, out="listed 1048576 of 1048577\n",
+        changed={"out.list": lambda text: text.count(b"\n") == 1048576 and text.endswith(b"\n0000600008 F800 A=00 X=00 Y=00 S=FD P=24 JMP &F800\n")}, memory=600)
+    add(group, "20 GB of 00 as the trace", follow("long"), 2, "too long long", before=put("long", length=BIG), memory=250)
+
+
+def resume(state, *options, out="out", ticks="2000"):
+    return ("resume", state, ticks, out) + options
+
+
+def follow(trace, *options, out="out"):
+    return ("follow", "host", trace, "2000", out, "--os", "os") + options
+
+
+def an_open_folder():
+    os.mkdir("open")
+    os.chmod("open", 0o777)
+
+
+def most_entries(more):
+    """A session with as many accesses as it may have, and some more."""
+    def prepare():
+        count = session_file.MOST_ENTRIES + more
+        head = wanted["state"][:18531]
+        with open("most", "wb") as file:
+            file.write(head[:6] + (3 * count).to_bytes(4, "big") + head[10:] + count.to_bytes(4, "big"))
+            file.write(b"".join((3 * n).to_bytes(5, "big") + b"\0\x40" for n in range(count)))
+    return prepare
+
+
 def a_socket():
     held = socket.socket(socket.AF_UNIX)
     held.bind("socket")
@@ -310,6 +423,9 @@ def make_plain(path):
     put("empty")()
     call("solo", "2000", "good", *SOLO)
     call("solo", "3000000", "copied", "--os", "disc-os", "--tube", "loop", "--disc0", "some.ssd")
+    call("solo", "0", "none", *SOLO)
+    call("follow", "host", "good.trace", "2000", "good", "--os", "os")
+    put("state", session_file.encode(session_file.saved(3, 2000, 0, {"--os": text_of("os"), "--tube": text_of("tube")}, set(), session_file.entries_of(text_of("good.trace")), 49)))()
     for name in os.listdir("."):
         plain[name] = wanted[name] = text_of(name)
 
@@ -471,6 +587,7 @@ def main():
         other_user = root and shutil.which("setpriv") is not None and subprocess.run(AS_OTHER + ("true",)).returncode == 0
         disk = root and can_mount(work + "/mount")
         tell_cases()
+        tell_session_cases()
         group = None
         for case in cases:
             if not has(case.needs, other_user, disk):

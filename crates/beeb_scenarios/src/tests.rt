@@ -4,6 +4,7 @@ mod cycles;
 mod devices;
 mod discs;
 mod guests;
+mod hostile;
 mod hosts;
 mod keys;
 mod ordinary;

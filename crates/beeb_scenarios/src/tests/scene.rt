@@ -8,19 +8,20 @@
 //! The steps:
 //!
 //! - `# TITLE` begins a scene: nothing lies on the shelf, and no call fails. `## MORE` goes on with its title.
-//! - `t`: the files `t` and `t.dsd` have these bytes, and with `keys` the file `keys`. `os`, `lang` and `dfs`, and `tube`: the files of these
-//!   names are the images of these source texts, for the 6502 and the 65C02. `ticks A, B`: the file `t` is a trace of these accesses, one at
-//!   each tick from 0.
+//! - `t`: the files `t`, `t.dsd` and `game.ssd` have these bytes, and with `keys` the file `keys`. `os`, `lang` and `dfs`, and `tube`: the files of
+//!   these names are the images of these source texts, for the 6502 and the 65C02. `ticks A, B`: the file `t` is a trace of these accesses, one
+//!   at each tick from 0.
 //! - `plugs NAME..`: these devices are handed in: `card` and `latch`, which are handed in where no others are named, a `counter`, or a `mute`.
 //! - `fails N,.. M,..`: these calls of the shelf and these of the outlet fail, where `-` is none.
 //! - `$ WORDS`: the words are carried out, where `''` is a word of no letters. `run ..`: these very words are carried out, in two threads, and
 //!   `alone WORDS` by a crew that starts no thread.
 //! - `= STATUS`: they ended with this number and text, the kind of the offence where there is one, and what was said behind a
 //!   colon, or below. `! WORDS` carries out words that are outside the grammar.
-//! - `file NAME`: the file was written with these bytes. `none NAME`: it was not written. `line NAME TEXT`: this is one of
+//! - `file NAME`: the file was written with these bytes. `none NAME..`: these were not written. `line NAME TEXT`: this is one of
 //!   its lines. `size NAME N` is its length, and `at NAME ADDRESS BYTES` are its bytes from an address on.
 //! - `trace`: the file `o.trace` becomes the file `t`, the chip gives all its answers, and the outputs are kept. `keep`: the outputs are
-//!   kept, and nothing else. `same NAME`: the file is the same as in the outputs that were kept. `take NAME`: the file becomes the file `t`.
+//!   kept, and nothing else. `same NAME..`: these files are the same as in the outputs that were kept. `take NAME`: the file becomes the file
+//!   `t`.
 ghost use Rattle.std.specs.Prelude.{◌≡◌, IfOk, string_bytes};
 
 use super::guests::devices;
@@ -179,6 +180,7 @@ impl Scene {
             "run" => self.share(rt, step, &mut ThreadCrew::make()),
             "alone" => self.share(rt, rest, &mut FailCrew::make()),
             "$" | "!" | "trace" | "keep" => self.act(word, rest),
+            "none" | "same" => self.are_left(word, rest),
             _ => self.is_left(word, rest, bytes),
         }
     }
@@ -281,12 +283,13 @@ impl Scene {
         let alloc = self.alloc;
         let t = entry(alloc, "t", &self.t)?;
         let dsd = entry(alloc, "t.dsd", &self.t)?;
+        let ssd = entry(alloc, "game.ssd", &self.t)?;
         let os = entry(alloc, "os", &self.os)?;
         let tube = entry(alloc, "tube", &self.tube)?;
         let lang = entry(alloc, "lang", &self.lang)?;
         let dfs = entry(alloc, "dfs", &self.dfs)?;
         let keys = entry(alloc, "keys", &self.keys)?;
-        let files = vec![in alloc; t, dsd, os, tube, lang, dfs, keys]?;
+        let files = vec![in alloc; t, dsd, ssd, os, tube, lang, dfs, keys]?;
         Ok(MemShelf::make(files, self.get_fails.to_vec(alloc)?))
     }
 
@@ -310,6 +313,16 @@ impl Scene {
             Some(rest) if said.is_empty() => rest.is_empty(),
             Some(rest) => rest.strip_prefix(b": ") == said.strip_suffix(b"\n"),
         }
+    }
+
+    // Each of these files was not written, or is the same as in the outputs that were kept.
+    fn are_left(&self, word: &str, names: &str) -> Result<bool, Fail> {
+        for name in names.split(' ') {
+            if !self.is_left(word, name, &[])? {
+                return Ok(false);
+            }
+        }
+        Ok(true)
     }
 
     // What the last words ended with, and what they left.

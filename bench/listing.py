@@ -1,0 +1,99 @@
+"""Listings of `follow`, looked at without the machine: the form of their lines, and what stands between two instructions that follow each other: how
+long the first takes, where it goes, and what it loads."""
+import collections
+import re
+
+MOST_LINES = 1048576
+REGISTERS = rb"A=[0-9A-F]{2} X=[0-9A-F]{2} Y=[0-9A-F]{2} S=[0-9A-F]{2} P=[0-9A-F]{2}"
+LINE = re.compile(rb"([0-9A-F]{10}) ([0-9A-F]{4}) (" + REGISTERS + rb") (\?|byte &[0-9A-F]{2}|[A-Z]{3}(?: [^ ]+)?)")
+STORES = ("STA", "STX", "STY", "STZ")
+CHANGES = ("ASL", "LSR", "ROL", "ROR", "INC", "DEC", "TSB", "TRB")
+# The cycles of a form, at least: where it reads, stores and changes. A page that is crossed and decimal mode take one more each.
+FORMS = {"#2": (2, 2, 2), "2": (3, 3, 5), "2,X": (4, 4, 6), "2,Y": (4, 4, 6), "4": (4, 4, 6), "4,X": (4, 5, 6), "4,Y": (4, 5, 7), "(2,X)": (6, 6, 8), "(2),Y": (5, 6, 8), "(2)": (5, 5, 5)}
+BYTES = {"": 1, "A": 1, "#2": 2, "2": 2, "2,X": 2, "2,Y": 2, "(2,X)": 2, "(2),Y": 2, "(2)": 2, "4": 3, "4,X": 3, "4,Y": 3, "(4)": 3, "(4,X)": 3}
+SEQUENCE = 7  # cycles of a reset or an interrupt
+
+Line = collections.namedtuple("Line", "tick pc registers text")
+
+
+def lines_of(text):
+    """The lines of a listing, or what is not in their form as a text."""
+    lines = []
+    for line in text.split(b"\n")[:-1]:
+        found = LINE.fullmatch(line)
+        if not found:
+            return "a line is %r" % line[:100]
+        lines.append(Line(int(found.group(1), 16), int(found.group(2), 16), found.group(3), found.group(4).decode()))
+    return "the last line has no end" if text and not text.endswith(b"\n") else lines
+
+
+def form_fault(lines, ticks):
+    """What is wrong with the ticks of lines, or nothing: they rise, and are below those of the run; no instruction starts before a reset is over."""
+    for before, line in zip([None] + lines, lines):
+        if line.tick >= ticks or line.tick < (before.tick + 1 if before else 2 * SEQUENCE):
+            return "the tick %010X" % line.tick
+    return None
+
+
+def steps(text):
+    """An instruction's form, its bytes, its fewest cycles, and where it may go: a list of places, `next` for the one behind it, or nothing for any."""
+    name, _, operand = text.partition(" ")
+    form = re.sub(r"&([0-9A-F]+)", lambda found: str(len(found.group(1))), operand)
+    if name in ("byte", "?") or form not in BYTES:
+        return None
+    place = int(operand.strip("#()&,XY").partition(")")[0].partition(",")[0], 16) if "&" in operand else None
+    if name in ("RTS", "RTI", "BRK"):
+        return form, 1, 7 if name == "BRK" else 6, None
+    if name == "JMP":
+        return form, 3, {"4": 3, "(4)": 5, "(4,X)": 6}[form], [place] if form == "4" else None
+    if name == "JSR":
+        return form, 3, 6, [place]
+    if name[0] == "B" and name != "BIT":
+        return form, 2, 3 if name == "BRA" else 2, [place] + (["next"] if name != "BRA" else [])
+    if form in ("", "A"):
+        return form, 1, {"PH": 3, "PL": 4}.get(name[:2], 2), ["next"]
+    kind = 1 if name in STORES else 2 if name in CHANGES else 0
+    return form, BYTES[form], FORMS[form][kind], ["next"]
+
+
+def is_plain(form, text, host):
+    """No access of the instruction is one that the host's bus stretches, so far as its text tells."""
+    if not host:
+        return True
+    if form in ("4", "4,X", "4,Y"):
+        return not 0xFB00 <= int(re.search("&([0-9A-F]{4})", text).group(1), 16) <= 0xFEFF
+    return form in ("", "A", "#2", "2", "2,X", "2,Y")
+
+
+def pair_fault(line, after, cycle, host):
+    """What cannot be of an instruction and the one that starts next, or nothing. `cycle` are the ticks of a cycle."""
+    gap = after.tick - line.tick
+    if gap % cycle:
+        return "a start is within a cycle"
+    known = steps(line.text)
+    # What stands in the stack may change while it is carried out.
+    if known is None or 0x00FD < line.pc < 0x0200:
+        return None
+    form, length, least, ways = known
+    cycles = gap // cycle
+    if cycles < least:
+        return "it takes %d cycles" % cycles
+    if cycles > least + 2:
+        # A reset, an interrupt or accesses that are stretched stand between them, or a start is missing.
+        between = cycles >= least + SEQUENCE or not is_plain(form, line.text, host) or 0xFB00 <= line.pc <= 0xFEFF
+        return None if between else "it takes %d cycles, or a start is missing" % cycles
+    if ways and after.pc not in [(line.pc + length) % 65536 if way == "next" else way for way in ways]:
+        return "it goes to %04X" % after.pc
+    loads = re.fullmatch(r"LD([AXY]) #&([0-9A-F]{2})", line.text)
+    if loads and (loads.group(1) + "=" + loads.group(2)).encode() not in after.registers:
+        return "it loads something else"
+    return None
+
+
+def listing_fault(lines, cycle, host):
+    """What is wrong with a listing of all starts, or nothing."""
+    for line, after in zip(lines, lines[1:]):
+        fault = pair_fault(line, after, cycle, host)
+        if fault:
+            return "at %010X %04X %s: %s" % (line.tick, line.pc, line.text, fault)
+    return None
