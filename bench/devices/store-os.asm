@@ -1,0 +1,78 @@
+; Stores into the shown screen of 80 characters all the time.
+        org &C000
+start:  NOP
+        LDA #&9C
+        STA &FE20
+        LDA #&00
+        STA &FE00
+        LDA #&7F
+        STA &FE01
+        LDA #&01
+        STA &FE00
+        LDA #&50
+        STA &FE01
+        LDA #&02
+        STA &FE00
+        LDA #&62
+        STA &FE01
+        LDA #&03
+        STA &FE00
+        LDA #&28
+        STA &FE01
+        LDA #&04
+        STA &FE00
+        LDA #&26
+        STA &FE01
+        LDA #&05
+        STA &FE00
+        LDA #&00
+        STA &FE01
+        LDA #&06
+        STA &FE00
+        LDA #&20
+        STA &FE01
+        LDA #&07
+        STA &FE00
+        LDA #&22
+        STA &FE01
+        LDA #&08
+        STA &FE00
+        LDA #&01
+        STA &FE01
+        LDA #&09
+        STA &FE00
+        LDA #&07
+        STA &FE01
+        LDA #&0A
+        STA &FE00
+        LDA #&67
+        STA &FE01
+        LDA #&0B
+        STA &FE00
+        LDA #&08
+        STA &FE01
+        LDA #&0C
+        STA &FE00
+        LDA #&06
+        STA &FE01
+        LDA #&0D
+        STA &FE00
+        LDA #&00
+        STA &FE01
+        LDA #0
+        STA &70
+        LDY #0
+page:   LDA #&30
+        STA &71
+next:   TYA
+        EOR &71
+        STA (&70),Y
+        INY
+        BNE next
+        INC &71
+        BPL next
+        JMP page
+nmi:    RTI
+irq:    RTI
+        org &FFFA
+        word nmi, start, irq
