@@ -4,3 +4,4 @@ pub mod PartLaws
 pub mod EntryLaws
 pub mod FileLaws
 pub mod GoesOn
+pub mod Again

@@ -17,7 +17,7 @@ use beeb_bits::{Clock, Tick};
 pub use blob::Blob;
 pub use decoding::decode;
 pub use encoding::encode;
-pub use law::file_reads_back;
+pub use law::{file_reads_back, saved_run_is_resumed};
 pub use parts::Kind;
 pub use resuming::{ResumeError, resume};
 use std::alloc::{AllocError, AllocFailed};

@@ -14,7 +14,7 @@ use Rattle.tube_party.specs.OneThread.{IsKept}
 use Rattle.tube_party.specs.Turn.{note_leaves, note_all_leaves}
 use Rattle.tube_party.proofs.Runs.{event}
 
-accesses-append : (xs ys : List Event) → accesses (xs ++ ys) ≡ accesses xs ++ accesses ys
+pub accesses-append : (xs ys : List Event) → accesses (xs ++ ys) ≡ accesses xs ++ accesses ys
 accesses-append [] ys = refl
 accesses-append (x ∷ xs) ys =
     ap (λ z. entry_of x.tick x.side x.query x.answer ++ z) (accesses-append xs ys)

@@ -11,6 +11,7 @@ pub mod Replayed
 pub mod TraceLemmas
 pub mod Joined
 pub mod Resumed
+pub mod Begun
 pub mod First
 pub mod Kept
 pub mod Noted

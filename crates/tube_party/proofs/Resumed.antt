@@ -92,7 +92,7 @@ module _ {S T : Type 0} (h : Moves S) (p : Moves T) where
   ticks_alike n (suc j) k w v same = ticks_alike n j (k + 1) (tick h p k w) (tick h p k v) (tick_alike n k w v same)
 
   -- so many ticks, and then so many more
-  ticks_then : (i j k : ℕ) (w : World S T) → ticks h p (i + j) k w ≡ ticks h p j (k + i) (ticks h p i k w)
+  pub ticks_then : (i j k : ℕ) (w : World S T) → ticks h p (i + j) k w ≡ ticks h p j (k + i) (ticks h p i k w)
   ticks_then zero j k w =
       let none : 0 + j ≡ j = omega arith in
       let here : k ≡ k + 0 = omega arith in

@@ -1,5 +1,5 @@
 -- A run that goes on from a moment: each party is brought back to it by its replay, and then both are at one chip again.
-use Rattle.std.specs.Prelude.{ℕ, ◌≡◌, ◌≤◌, None, List}
+use Rattle.std.specs.Prelude.{ℕ, ◌≡◌, ◌≤◌, nat_lt, None, List, filter}
 use Rattle.beeb_bits.specs.declared.Side.{Side}
 use Rattle.beeb_bits.specs.declared.Side.TheVariants.{Host, Para}
 use Rattle.tube_chip.specs.Events.{after, of_side}
@@ -39,3 +39,14 @@ BroughtBackIsReference {S} {T} h p =
     IsBroughtBack h p entries at s u t v →
     IsLike (reference h p s t at) (after_entries u v entries)
     × IsLike (reference h p s t n) (reference_from h p (after_entries u v entries) n)
+
+-- the entries below a tick
+abbrev pub entries_below : ℕ → List Entry → List Entry
+entries_below at entries = filter (λ e. nat_lt (e.tick).0 at) entries
+
+-- The accesses of the reference run to a tick are those of a longer one that lie below it.
+abbrev pub ShorterRunIsBeginning : {S T : Type 0} → Moves S → Moves T → Type 0
+ShorterRunIsBeginning {S} {T} h p =
+    (s : S) (t : T) (at n : ℕ) →
+    at ≤ n →
+    accesses (reference h p s t at).list ≡ entries_below at (accesses (reference h p s t n).list)

@@ -3,7 +3,7 @@ ghost use Rattle.std.specs.Prelude.{IsTrue};
 ghost use Rattle.beeb_bits.specs.declared.Side.TheVariants.{Host, Para};
 ghost use Rattle.tube_party.specs.CodeClosing.{MayBeShut, FollowsOn};
 ghost use Rattle.tube_party.specs.Reference.{LegalMergeIsReference, ReferenceIsFollowed, ReferenceIsTrace};
-ghost use Rattle.tube_party.specs.GoingOn.{BroughtBackIsReference};
+ghost use Rattle.tube_party.specs.GoingOn.{BroughtBackIsReference, ShorterRunIsBeginning};
 ghost use Rattle.tube_party.specs.ReplayLaws.{ReplayIsFollowing, ReplayTellsDifference, ReferenceIsReplayed};
 
 use crate::party::Party;
@@ -52,4 +52,9 @@ pub fn reference_is_replayed<H: Party, P: Party>()
 /// accesses are the reference run at that tick; and the reference run that goes on from there is the reference run.
 pub fn brought_back_is_reference<H: Party, P: Party>()
     ensures { BroughtBackIsReference H.moves P.moves }
+{}
+
+/// The reference run to a tick makes the accesses that a longer one makes below it.
+pub fn shorter_run_is_beginning<H: Party, P: Party>()
+    ensures { ShorterRunIsBeginning H.moves P.moves }
 {}

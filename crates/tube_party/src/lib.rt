@@ -14,7 +14,7 @@ mod tape;
 pub use forward::Forward;
 pub use law::{
     brought_back_is_reference, legal_merge_is_reference, party_goes_on, reference_is_followed,
-    reference_is_replayed, reference_is_trace, replay_is_following,
+    reference_is_replayed, reference_is_trace, replay_is_following, shorter_run_is_beginning,
 };
 pub use log::note;
 pub use noting::Room;

@@ -25,6 +25,8 @@ pub struct Room<P: Rewinds> {
 }
 
 impl<P: Rewinds> Room<P> {
+    /// Takes it.
+    ///
     /// # Errors
     /// Want of memory.
     pub fn new(alloc: Global, keep: u32) -> Result<Room<P>, AllocError>

@@ -170,8 +170,8 @@ const FEWEST: u64 = 16;
 /// The most of them.
 const FURTHEST: u64 = 4_096;
 
-/// Goes on with two parties at one chip for the ticks below `n`, as the reference run does that goes on from the chip after these accesses, which
-/// were made before, with both parties as they are. They count among the accesses of each side, of which the first that `room` has room for are kept.
+/// Goes on with two parties at one chip for the ticks below `n`, as the reference run does that goes on from where both parties are and from the chip
+/// after these accesses, which were made before. They count among the accesses of each side, of which as many are kept as `room` has room for.
 ///
 /// Both parties take turns: the one whose ask comes first does that step, and goes on. The host goes on past the looks before which the parasite
 /// makes no access. The parasite goes ahead of the host, as if the host changed none of its lines, and is rolled back where it does.
