@@ -7,7 +7,7 @@ use Rattle.std.proofs.lemmas.List.{append-nil, take-append-le}
 use Rattle.std.proofs.lemmas.Bool.{cases_lt}
 use Rattle.op_table.specs.declared.names.Part.{Part}
 use Rattle.follow.specs.declared.choice.Choice.{Choice}
-use Rattle.follow.specs.Watched.{StartState}
+use Rattle.follow.specs.Start.{StartState}
 use Rattle.follow.specs.Listing.{is_chosen, chosen_from, chosen_of, start_line, lines_of_starts}
 use Rattle.follow.specs.CodeNotes.{last_watched, IsKept}
 

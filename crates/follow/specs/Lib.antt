@@ -1,7 +1,9 @@
 pub mod Sight
-pub mod Watched
+pub mod Start
 pub mod Listing
 pub mod Machines
 pub mod CodeStart
 pub mod CodeTrail
 pub mod CodeNotes
+pub mod CodeWatched
+pub mod View

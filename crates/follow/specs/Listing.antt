@@ -15,7 +15,7 @@ use Rattle.tube_party.specs.Moves.{Moves}
 use Rattle.tube_party.specs.Replay.{Numbered, own_from, is_that, chip_before}
 use Rattle.follow.specs.declared.choice.Choice.{Choice}
 use Rattle.follow.specs.Sight.{Sight}
-use Rattle.follow.specs.Watched.{StartState, start_of}
+use Rattle.follow.specs.Start.{StartState, start_of}
 
 -- ---- The run: the states from which a replay does a step
 

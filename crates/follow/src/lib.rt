@@ -3,11 +3,14 @@
 
 mod choice;
 mod line;
+mod listing;
 mod machines;
 mod notes;
 mod seen;
 mod start;
 mod trail;
+mod watcher;
 
 pub use choice::Choice;
+pub use listing::{FollowError, Listing, list};
 pub use seen::Seen;
