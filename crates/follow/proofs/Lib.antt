@@ -1,3 +1,4 @@
 pub mod Walks
 pub mod Noting
 pub mod Watching
+pub mod Listed

@@ -36,16 +36,18 @@ module _ {X S T : Type 0} (state : X → S) (m : Moves S) (inside : X → T) (w 
   silent_to : (n k : ℕ) (s last : S) → SilentIn m n k s last → SilentIn w n k (same.to s) (same.to last)
   silent_to n zero s last h = (refl, ap (λ (u : S). same.to u) h.1)
   silent_to n (suc k) s last h =
-      let low : m.due s < n = h.0 in
-      (subst (λ (t : ℕ). t < n) (sym (same.due s)) low,
-      subst (λ (o : Option Query). MatchOption o (SilentIn w n k (w.next (same.to s) None) (same.to last)) (λ q. ⊥)) (sym (same.asks s))
-          (silent_by n k s last (m.asks s) (λ u on. silent_to n k u last on) h.1))
+      let low : m.due s < n = h.0 in (
+        subst (λ (t : ℕ). t < n) (sym (same.due s)) low,
+        subst (λ (o : Option Query). MatchOption o (SilentIn w n k (w.next (same.to s) None) (same.to last)) (λ q. ⊥)) (sym (same.asks s))
+            (silent_by n k s last (m.asks s) (λ u on. silent_to n k u last on) h.1),
+      )
 
   ask_to : (n : ℕ) (last : S) (ask : Ask) (y : X) → IsAsk m n last ask (state y) → IsAsk w n (same.to last) ask (inside y)
-  ask_to n last Nothing y h =
-      (subst (λ (t : ℕ). n ≤ t) (sym (same.due last)) h.0,
-      sym (same.is y) ∙ ap (λ (s : S). same.to s) h.1 ∙ sym (same.close last (max n (m.closed last)))
-          ∙ ap (λ (c : ℕ). w.close (same.to last) (max n c)) (sym (same.closed last)))
+  ask_to n last Nothing y h = (
+    subst (λ (t : ℕ). n ≤ t) (sym (same.due last)) h.0,
+    sym (same.is y) ∙ ap (λ (s : S). same.to s) h.1 ∙ sym (same.close last (max n (m.closed last)))
+        ∙ ap (λ (c : ℕ). w.close (same.to last) (max n c)) (sym (same.closed last)),
+  )
   ask_to n last (Access t op) y h =
       (h.0 ∙ sym (same.due last), h.1, same.asks last ∙ h.2, sym (same.is y) ∙ ap (λ (s : S). same.to s) h.3)
   ask_to n last (Look t) y h =
@@ -105,9 +107,11 @@ module _ {T : Type 0} (w : Moves T) (sights : T → Sight) (seen : IsSeen w sigh
   silent_later : (n k : ℕ) (t last : T) (starts : List StartState) → (sights t).starting ≡ false → Silent n k t last → SilentWith n k t starts last starts
   silent_later n zero t last starts is h = (refl, ap (λ (u : T). with_starts u starts) h.1)
   silent_later n (suc k) t last starts is h =
-      let same : noted w sights t watch starts ≡ starts = ap (λ (b : Bool). with_start b (start_of w sights watch t) starts) is in
-      (h.0, with_notes n k t last starts (noted w sights t watch starts) starts (w.asks t) same
-          (later_by n k t last starts (w.asks t) refl (λ u no_more on. silent_later n k u last starts no_more on) h.1))
+      let same : noted w sights t watch starts ≡ starts = ap (λ (b : Bool). with_start b (start_of w sights watch t) starts) is in (
+        h.0,
+        with_notes n k t last starts (noted w sights t watch starts) starts (w.asks t) same
+            (later_by n k t last starts (w.asks t) refl (λ u no_more on. silent_later n k u last starts no_more on) h.1),
+      )
 
   -- some steps from any state, which is noted if it is one
   silent_first : (n k : ℕ) (t last : T) (starts : List StartState) → Silent n (suc k) t last → SilentWith n (suc k) t starts last (noted w sights t watch starts)
@@ -146,7 +150,6 @@ module _ {T : Type 0} (w : Moves T) (sights : T → Sight) (seen : IsSeen w sigh
   ask_with n last Nothing new starts h = (h.0, ap (λ (t : T). with_starts t starts) h.1)
   ask_with n last (Access t op) new starts h = (h.0, h.1, h.2, ap (λ (u : T). with_starts u starts) h.3)
   ask_with n last (Look t) new starts h = (h.0, h.1, h.2, ap (λ (u : T). with_starts u starts) h.3)
-
 
   -- the tick never falls
   pub due_advanced : (n : ℕ) (t new : T) (ask : Ask) → Advances w n t ask new → w.due t ≤ w.due new

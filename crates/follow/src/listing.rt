@@ -64,8 +64,11 @@ pub fn list<M: Seen>(
         notes: Notes::new(alloc, part, choice),
     };
     let (watcher, place) = replay(watcher, side, trace, n);
-    if let Some((line, doing)) = place {
-        return Err(FollowError::Differs { line, doing });
+    match place {
+        Some((line, doing)) => Err(FollowError::Differs { line, doing }),
+        None => match watcher.notes.finish() {
+            Some(listing) => Ok(listing),
+            None => Err(FollowError::NoMemory),
+        },
     }
-    watcher.notes.finish().ok_or(FollowError::NoMemory)
 }
