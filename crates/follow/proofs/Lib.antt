@@ -2,3 +2,4 @@ pub mod Walks
 pub mod Noting
 pub mod Watching
 pub mod Listed
+pub mod Referred

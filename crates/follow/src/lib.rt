@@ -2,6 +2,7 @@
 #![tactic(auto)]
 
 mod choice;
+mod law;
 mod line;
 mod listing;
 mod machines;
@@ -12,5 +13,6 @@ mod trail;
 mod watcher;
 
 pub use choice::Choice;
+pub use law::{host_listing_is_reference, para_listing_is_reference};
 pub use listing::{FollowError, Listing, list};
 pub use seen::Seen;
