@@ -1,23 +1,21 @@
 -- The reference run of a party that is watched is that of the party, and the starts of its run are noted.
-use Rattle.std.proofs.Common.{ℕ, zero, suc, ◌≡◌, ◌+◌, ◌∙◌, max, nat_eq, refl, sym, ap, List, [], ◌∷◌, ◌++◌, Bool, true, false, Option, Some, None, if◌then◌else◌, append_assoc}
+use Rattle.std.proofs.Common.{ℕ, zero, suc, ◌≡◌, ◌+◌, ◌∙◌, nat_eq, refl, sym, ap, List, [], ◌∷◌, ◌++◌, Bool, true, false, Option, Some, None, if◌then◌else◌}
 use Rattle.std.proofs.lemmas.List.{append-nil}
 use Rattle.beeb_bits.specs.declared.Side.{Side}
 use Rattle.beeb_bits.specs.declared.Side.TheVariants.{Host, Para}
-use Rattle.op_table.specs.declared.names.Part.{Part}
 use Rattle.tube_chip.specs.State.{State}
 use Rattle.tube_chip.specs.Act.{Query}
 use Rattle.tube_chip.specs.Events.{Event}
 use Rattle.tube_trace.specs.Entries.{accesses}
-use Rattle.tube_party.specs.Moves.{Moves, close_leaves}
+use Rattle.tube_party.specs.Moves.{Moves}
 use Rattle.tube_party.specs.Replay.{Ended, replay_of}
 use Rattle.tube_party.specs.Reference.{Seat, step_leaves, step_if_due, World, with_host, para_part, tick, ticks, start, close_both_leaves, reference}
-use Rattle.follow.specs.declared.choice.Choice.{Choice}
 use Rattle.follow.specs.Sight.{Sight}
-use Rattle.follow.specs.Start.{StartState, start_of}
-use Rattle.follow.specs.Listing.{run_of, starts_of, listing_of}
+use Rattle.follow.specs.Start.{StartState}
+use Rattle.follow.specs.Listing.{run_of, starts_of}
 use Rattle.follow.specs.Reference.{due_at, host_run, para_run}
-use Rattle.follow.specs.CodeWatched.{Order, order, Watched, watched_of, watched_moves, noted, with_start}
-use Rattle.follow.proofs.Listed.{noted_on, replay_watched, ended_with}
+use Rattle.follow.specs.CodeWatched.{Order, Watched, watched_of, watched_moves, noted}
+use Rattle.follow.proofs.Listed.{noted_on, replay_watched}
 
 abbrev pub seat : {S : Type 0} → S → State → List Event → Seat S
 seat s c l = record { state = s; chip = c; list = l }
@@ -47,7 +45,7 @@ module _ {S : Type 0} (m : Moves S) (sights : S → Sight) (set : Order) where
   due_by side x starts true =
       step_same side x starts (m.asks x.state)
       ∙ ap (λ (l : List StartState). watched_seat (step_leaves m side x (m.asks x.state)) l)
-          (sym (append-nil (noted m sights x.state set.choice.watch starts)) ∙ noted_on m sights set x.state starts [])
+      (sym (append-nil (noted m sights x.state set.choice.watch starts)) ∙ noted_on m sights set x.state starts [])
   due_by side x starts false = ap (λ (l : List StartState). watched_seat x l) (sym (append-nil starts))
 
   pub due_same : (side : Side) (k : ℕ) (x : Seat S) (starts : List StartState) →

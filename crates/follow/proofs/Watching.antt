@@ -1,13 +1,13 @@
 -- The steps of a party are those of the party that is watched, with the starts noted.
-use Rattle.std.proofs.Common.{ℕ, zero, suc, ◌≡◌, ◌≤◌, ◌<◌, ◌+◌, ◌∙◌, max, refl, sym, ap, subst, arith, List, [], ◌∷◌, ◌++◌, Bool, true, false, Option, Some, None, ◌⊎◌, inl, inr}
+use Rattle.std.proofs.Common.{ℕ, zero, suc, ◌≡◌, ◌≤◌, ◌<◌, ◌∙◌, max, refl, sym, ap, subst, arith, List, [], ◌∷◌, ◌++◌, Bool, true, false, Option, Some, None, ◌⊎◌, inl, inr}
 use Rattle.std.specs.Prelude.{MatchOption}
 use Rattle.std.proofs.lemmas.Bool.{cases_lt}
 use Rattle.beeb_bits.specs.declared.Side.TheVariants.{Host}
-use Rattle.tube_chip.specs.Act.{Query, access, look}
+use Rattle.tube_chip.specs.Act.{Query, look}
 use Rattle.tube_chip.specs.declared.Answer.{Answer}
 use Rattle.tube_party.specs.declared.party.Ask.{Ask}
 use Rattle.tube_party.specs.declared.party.Ask.TheVariants.{Nothing, Access, Look}
-use Rattle.tube_party.specs.Moves.{Moves, IsLawful, IsClosing, Runs, Advances, IsAsk, IsAskedFor, FitsAnswer, close_leaves, course}
+use Rattle.tube_party.specs.Moves.{Moves, IsClosing, Runs, Advances, IsAsk, IsAskedFor, FitsAnswer, course}
 use Rattle.follow.specs.Sight.{Sight, IsSeen, IsSame}
 use Rattle.follow.specs.Start.{StartState, start_of}
 use Rattle.follow.specs.CodeWatched.{Order, Watched, watched_of, watched_moves, noted, with_start}

@@ -1,7 +1,5 @@
 -- What is noted of a start.
-use Rattle.std.specs.Prelude.{ℕ, ◌≡◌, List, [], ◌∷◌, Option, refl}
-use Rattle.std.specs.Coded.{Coded, code_by, coded×, coded_ℕ, coded_list, coded_option}
-use Rattle.cpu_alu.specs.declared.Regs.{Regs}
+use Rattle.std.specs.Prelude.{ℕ, List, []}
 use Rattle.follow.specs.declared.start.Start.{Start}
 use Rattle.follow.specs.Start.{StartState, front}
 

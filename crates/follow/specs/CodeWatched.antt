@@ -3,7 +3,6 @@ use Rattle.std.specs.Prelude.{ℕ, zero, suc, ◌≡◌, ◌+◌, nat_lt, List, 
 use Rattle.std.proofs.Common.{ap, ◌∙◌}
 use Rattle.op_table.specs.declared.names.Part.{Part}
 use Rattle.cpu_alu.specs.declared.Regs.{Regs}
-use Rattle.tube_chip.specs.declared.Answer.{Answer}
 use Rattle.tube_party.specs.Moves.{Moves, IsLawful, IsClosing}
 use Rattle.follow.specs.declared.choice.Choice.{Choice}
 use Rattle.follow.specs.Sight.{Sight, IsSameSight, IsSeen}

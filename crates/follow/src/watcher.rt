@@ -56,8 +56,8 @@ impl<M: Seen> Party for Watcher<M> {
             self.machine.answer(answer);
             return;
         }
-        let start = start_of(&self.machine, self.notes.choice.watch);
+        let begun = start_of(&self.machine, self.notes.choice.watch);
         self.machine.answer(answer);
-        self.notes.note(&start);
+        self.notes.note(&begun);
     }
 }

@@ -2,14 +2,12 @@ use Rattle.std.proofs.Common.{◌≡◌, ◌↔◌, ◌∙◌, sym, ap, ℕ, Lis
 use Rattle.tube_party.specs.declared.replaying.Doing.{Doing}
 use Rattle.tube_party.specs.Moves.{Moves}
 use Rattle.tube_party.specs.Replay.{replay_of}
-use Rattle.op_table.specs.declared.names.Part.{Part}
-use Rattle.follow.specs.declared.choice.Choice.{Choice}
 use Rattle.follow.specs.declared.listing.FollowError.{FollowError}
 use Rattle.follow.specs.declared.listing.FollowError.TheVariants.{Differs, NoMemory}
 use Rattle.follow.specs.declared.listing.Listing.{Listing}
 use Rattle.follow.specs.Start.{StartState}
 use Rattle.follow.specs.Listing.{listing_of, run_of, starts_of}
-use Rattle.follow.specs.CodeWatched.{Order, order, Watched, watched_of}
+use Rattle.follow.specs.CodeWatched.{Order, order, watched_of}
 use Rattle.follow.proofs.Listed.{started, place_of, starts_after, order_after}
 use Rattle.follow.proofs.listing.list.Goals as goal
 

@@ -1,9 +1,7 @@
-use Rattle.std.proofs.Common.{◌≡◌, ◌≤◌, ◌<◌, ℕ, length, arith, sym, ◌∙◌, ap, subst}
-use Rattle.tube_party.specs.declared.party.Ask.{Ask}
+use Rattle.std.proofs.Common.{◌≡◌, ◌≤◌, ◌<◌, arith, sym, ◌∙◌, ap, subst}
 use Rattle.tube_party.specs.Moves.{Moves, Advances}
-use Rattle.follow.specs.Sight.{Sight}
 use Rattle.follow.specs.CodeStart.{start_seen}
-use Rattle.follow.specs.CodeWatched.{Watched, Order, order, watched_of, watched_moves}
+use Rattle.follow.specs.CodeWatched.{Watched, order, watched_of, watched_moves}
 use Rattle.follow.proofs.Watching.{advances_inside, inside_due, due_advanced, advances_plain, advances_noted, advances_still, step_below, is_noted}
 use Rattle.follow.proofs.watcher.WatcherParty.advance.Goals as goal
 
