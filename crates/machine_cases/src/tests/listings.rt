@@ -2,6 +2,7 @@
 use beeb_bits::{Clock, NoMemory, Side, Tick};
 use bus_plug::BusDevice;
 use follow::{Choice, FollowError, Listing, Seen, list};
+use host_bus::Bus;
 use host_mach::HostMachine;
 use op_table::Part;
 use para_mach::ParaMachine;
@@ -10,7 +11,7 @@ use std::alloc::Global;
 use std::test::Fail;
 use std::vec::Vec;
 use tube_chip::Op;
-use tube_party::{Doing, solo};
+use tube_party::{Doing, replay, solo};
 use tube_trace::{Entry, merge, read};
 
 // Bytes 00 but for some parts.
@@ -77,7 +78,7 @@ fn para(alloc: Global, name: &str) -> Result<ParaMachine, Fail> {
     Ok(ParaMachine::make(alloc, Clock::Three, bytes)?)
 }
 
-// A plugged device that owns nothing, of which there is none.
+// None is plugged.
 type Plug = Box<dyn BusDevice + Send>;
 
 // What stands at C000, and at another place of the operating system, of the host's program of a name.
@@ -178,11 +179,10 @@ writer 60 F802 0080@2 of 2;0000000018 F802 A=00 X=00 Y=00 S=FD P=24 PHA;00000000
 writer 60 F803 0080@0 of 0;@
 # An interrupt's sequence is no start.
 open 70 - -@8 of 8;000000000E F800 A=00 X=00 Y=00 S=FD P=24 CLI;0000000012 F801 A=00 X=00 Y=00 S=FD P=20 JMP &F801;0000000018 F801 A=00 X=00 Y=00 S=FD P=20 JMP &F801;000000001E F801 A=00 X=00 Y=00 S=FD P=20 JMP &F801;0000000024 F801 A=00 X=00 Y=00 S=FD P=20 JMP &F801;000000002A F801 A=00 X=00 Y=00 S=FD P=20 JMP &F801;000000003E F840 A=00 X=00 Y=00 S=FA P=24 JMP &F840;0000000044 F840 A=00 X=00 Y=00 S=FA P=24 JMP &F840;@0000000028 H W 0 82;000000002B H W 1 00;
-# Held from tick 103 to 129, and then a reset: no start until tick 144. The stack pointer shows which start is behind it.
-loop 144 F800 01FA@0 of 0;@0000000062 H W 0 A0;0000000080 H W 0 20;
-loop 104 - -@15 of 15;@0000000062 H W 0 A0;0000000080 H W 0 20;
-loop 144 - -@15 of 15;@0000000062 H W 0 A0;0000000080 H W 0 20;
-loop 145 - -@16 of 16;@0000000062 H W 0 A0;0000000080 H W 0 20;
+# Held from tick 103 to 129, and then a reset: no start until tick 144.
+loop 104 - -@15 of 15;..;0000000062 F800 A=00 X=00 Y=00 S=FD P=24 JMP &F800;@0000000062 H W 0 A0;0000000080 H W 0 20;
+loop 144 - -@15 of 15;..;0000000062 F800 A=00 X=00 Y=00 S=FD P=24 JMP &F800;@0000000062 H W 0 A0;0000000080 H W 0 20;
+loop 145 - -@16 of 16;..;0000000062 F800 A=00 X=00 Y=00 S=FD P=24 JMP &F800;0000000090 F800 A=00 X=00 Y=00 S=FA P=24 JMP &F800;@0000000062 H W 0 A0;0000000080 H W 0 20;
 # Bytes of the Tube are none: one byte is not all of LDA, and an opcode of the Tube is told as none.
 gate 24 - -@2 of 2;000000000E F800 A=00 X=00 Y=00 S=FD P=24 JMP &FEF7;0000000014 FEF7 A=00 X=00 Y=00 S=FD P=24 byte &A9;@0000000016 P R 0 40;0000000018 P R 1 00;
 gate 25 FEF9 -@1 of 1;0000000018 FEF9 A=40 X=00 Y=00 S=FD P=24 ?;@0000000016 P R 0 40;0000000018 P R 1 00;
@@ -200,12 +200,12 @@ halted 100 - -@1 of 1;0000000015 C000 A=00 X=00 Y=00 S=FD P=24 byte &02;@
 gate 31 FBFF -@1 of 1;000000001E FBFF A=00 X=00 Y=00 S=FD P=24 byte &A9;@
 ";
 
-// Whether it is told so. Where no lines are wanted behind the counts, they are not looked at.
+// Whether it is told so. Lines that are not looked at stand as `..`.
 fn is_told(told: &str, want: &str) -> bool {
-    if want.ends_with("15 of 15;") || want.ends_with("16 of 16;") {
-        return told.starts_with(want);
+    match want.split_once("..") {
+        Some((head, tail)) => told.starts_with(head) && told.ends_with(tail),
+        None => told == want,
     }
-    told == want
 }
 
 fn is_right<M: Seen>(
@@ -286,5 +286,95 @@ fn a_byte_is_watched_against_the_trace_of_both(rt: HostRuntime) -> Result<(), Fa
         told(rt.alloc(), listing)?.as_str(),
         "1 of 1;00000003CC C00C A=48 X=00 Y=00 S=FD P=24 INX;"
     );
+    Ok(())
+}
+
+// What a machine is asked for at an address, and what it has there.
+type Peek = (u16, Option<u8>);
+
+// The first address at which a machine has another byte.
+fn first_other<M: Seen>(machine: &M, peeks: &[Peek]) -> Option<u16> {
+    for (at, byte) in peeks {
+        if machine.peek(*at) != *byte {
+            return Some(*at);
+        }
+    }
+    None
+}
+
+// The RAM is clear, and the slot of the latch empty.
+const HOST_PEEKS: &[Peek] = &[
+    (0x0000, Some(0x00)),
+    (0x7fff, Some(0x00)),
+    (0x8000, Some(0xff)),
+    (0xbfff, Some(0xff)),
+    (0xc000, Some(0x4c)),
+    (0xfbff, Some(0xa9)),
+    (0xfc00, None),
+    (0xfdff, None),
+    (0xfe40, None),
+    (0xfeff, None),
+    (0xff00, Some(0x00)),
+    (0xfffd, Some(0xc0)),
+];
+
+// The boot ROM lies over the clear RAM.
+const PARA_PEEKS: &[Peek] = &[
+    (0x0000, Some(0x00)),
+    (0xf7ff, Some(0x00)),
+    (0xf800, Some(0x4c)),
+    (0xfef7, Some(0xa9)),
+    (0xfef8, None),
+    (0xfeff, None),
+    (0xff00, Some(0x00)),
+    (0xffff, Some(0xf8)),
+];
+
+// And behind the first access to the Tube it does not.
+const LATER_PEEKS: &[Peek] = &[
+    (0xf800, Some(0x00)),
+    (0xfef7, Some(0x00)),
+    (0xfef8, None),
+    (0xffff, Some(0x00)),
+];
+
+#[test]
+fn what_stands_in_memory_is_seen(rt: HostRuntime) -> Result<(), Fail> {
+    let first = host(rt.alloc(), "gate")?;
+    assert_eq!(rt; first_other(&first, HOST_PEEKS), None);
+    assert!(rt; !Seen::starting(&first) && Seen::regs(&first) == first.regs());
+    let second = para(rt.alloc(), "gate")?;
+    assert_eq!(rt; first_other(&second, PARA_PEEKS), None);
+    assert!(rt; !Seen::starting(&second) && Seen::regs(&second) == second.regs());
+    let trace = entries_of(rt.alloc(), "0000000016 P R 0 40;")?;
+    let (later, place) = replay(second, Side::Para, &trace, Tick(24));
+    assert_eq!(rt; place, None);
+    assert_eq!(rt; first_other(&later, LATER_PEEKS), None);
+    assert!(rt; later.starting());
+    Ok(())
+}
+
+#[test]
+fn the_bus_has_its_memory(rt: HostRuntime) -> Result<(), Fail> {
+    let os = image(rt.alloc(), 16_384, &[(0x3bff, &[0xa9])])?;
+    let rom = image(rt.alloc(), 8_192, &[(0, &[0x23])])?;
+    let roms = RomSet::read(os, vec![in rt.alloc(); (5, rom)]?, None)?;
+    let script = key_script::read(rt.alloc(), b"")?;
+    let plugs: Vec<Plug> = Vec::new(rt.alloc());
+    let mut bus = Bus::make(rt.alloc(), Clock::Three, roms, None, None, script, plugs)?;
+    assert_eq!(rt; bus.peek(0x8000), Some(0xff));
+    bus.write(Tick(0), 0xfe30, 5);
+    bus.write(Tick(6), 0x7fff, 0x42);
+    for at in 0..=u16::MAX {
+        let there = bus.peek(at);
+        if (0xfc00..=0xfeff).contains(&at) {
+            assert_eq!(rt; there, None);
+        } else {
+            assert_eq!(rt; there, Some(bus.read(Tick(12), at)));
+        }
+    }
+    assert_eq!(rt; bus.peek(0x8000), Some(0x23));
+    assert_eq!(rt; bus.peek(0xa000), Some(0x23));
+    assert_eq!(rt; bus.peek(0x7fff), Some(0x42));
     Ok(())
 }
