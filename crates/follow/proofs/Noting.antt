@@ -1,5 +1,5 @@
 -- One more start behind others.
-use Rattle.std.proofs.Common.{ℕ, ◌≡◌, ◌≤◌, ◌<◌, ◌+◌, ◌∙◌, refl, sym, ap, subst, arith, List, [], ◌∷◌, ◌++◌, length, take, Bool, true, false, nat_lt, min, Option, Some, None, if◌then◌else◌, length-append, take_all, ◌⊎◌, inl, inr}
+use Rattle.std.proofs.Common.{ℕ, ◌≡◌, ◌≤◌, ◌<◌, ◌+◌, ◌∙◌, refl, sym, ap, arith, List, [], ◌∷◌, ◌++◌, length, take, Bool, true, false, nat_lt, Option, Some, None, if◌then◌else◌, length-append, take_all, ◌⊎◌, inl, inr}
 use Rattle.std.specs.Prelude.{flat_map}
 use Rattle.std.proofs.lemmas.Bool.Decides.{nat_tests}
 use Rattle.std.proofs.lemmas.Grind.{flat_map-append}
@@ -7,7 +7,7 @@ use Rattle.std.proofs.lemmas.List.{append-nil, take-append-le}
 use Rattle.std.proofs.lemmas.Bool.{cases_lt}
 use Rattle.op_table.specs.declared.names.Part.{Part}
 use Rattle.follow.specs.declared.choice.Choice.{Choice}
-use Rattle.follow.specs.Watched.{StartState}
+use Rattle.follow.specs.Start.{StartState}
 use Rattle.follow.specs.Listing.{is_chosen, chosen_from, chosen_of, start_line, lines_of_starts}
 use Rattle.follow.specs.CodeNotes.{last_watched, IsKept}
 
@@ -82,7 +82,7 @@ module _ (part : Part) (choice : Choice) (starts : List StartState) (x : StartSt
       after ≡ more → false ≡ chooses choice before x → IsKept part choice after text is_short chosen (Some x.watched)
   kept_passed text is_short chosen before after kept is passed =
       let same : chosen_of choice after ≡ chosen_of choice starts =
-          ap (λ (l : List StartState). chosen_of choice l) is ∙ chosen_with before false kept.last (sym passed) ∙ append-nil (chosen_of choice starts) in record {
+      ap (λ (l : List StartState). chosen_of choice l) is ∙ chosen_with before false kept.last (sym passed) ∙ append-nil (chosen_of choice starts) in record {
         lines = λ ok. kept.lines ok ∙ ap (λ (l : List StartState). lines_of_starts part l) (sym same);
         count = kept.count ∙ ap (λ (l : List StartState). length l) (sym same);
         last = sym (ap (λ (l : List StartState). last_watched None l) is ∙ last_more None starts x);
@@ -95,7 +95,7 @@ module _ (part : Part) (choice : Choice) (starts : List StartState) (x : StartSt
       IsKept part choice after new is_short (chosen + 1) (Some x.watched)
   kept_added text new was_short is_short chosen before after kept is added ok lines =
       let same : chosen_of choice after ≡ chosen_of choice starts ++ x ∷ [] =
-          ap (λ (l : List StartState). chosen_of choice l) is ∙ chosen_with before true kept.last (sym added) in record {
+      ap (λ (l : List StartState). chosen_of choice l) is ∙ chosen_with before true kept.last (sym added) in record {
         lines = λ done.
             lines done
             ∙ ap (λ (t : List ℕ). t ++ (if nat_lt chosen 1048576 then start_line part x else [])) (kept.lines (ok done))

@@ -2,7 +2,7 @@
 use Rattle.std.specs.Prelude.{ℕ, ◌≡◌, List, [], ◌∷◌, length, Bool, false, Option, Some, None}
 use Rattle.op_table.specs.declared.names.Part.{Part}
 use Rattle.follow.specs.declared.choice.Choice.{Choice}
-use Rattle.follow.specs.Watched.{StartState}
+use Rattle.follow.specs.Start.{StartState}
 use Rattle.follow.specs.Listing.{chosen_of, lines_of_starts}
 
 -- the byte watched at the last of some starts, or at the one before them, if there is one

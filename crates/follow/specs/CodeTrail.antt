@@ -1,8 +1,7 @@
 -- How the logic stores what is told of starts.
-use Rattle.std.specs.Prelude.{ℕ, ◌≡◌, List, Option, refl}
+use Rattle.std.specs.Prelude.{ℕ, List, Option, refl}
 use Rattle.std.specs.Coded.{Coded, code_by, coded×, coded_ℕ, coded_list, coded_option}
-use Rattle.cpu_alu.specs.declared.Regs.{Regs}
-use Rattle.follow.specs.Watched.{StartState}
+use Rattle.follow.specs.Start.{StartState}
 
 -- PC, A, X, Y, S and P
 abbrev Registers : Type 0

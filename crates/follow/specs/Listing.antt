@@ -1,5 +1,5 @@
 -- The listing of a replay: the starts of its run, those that are chosen, and a line for each of the first of them. (This project's own format.)
-use Rattle.std.specs.Prelude.{ℕ, zero, suc, ◌+◌, ◌==◌, ◌&&◌, nat_lt, min, not, List, [], ◌∷◌, ◌++◌, length, map, filter, take, flat_map, Bool, true, false, Option, None, Some, if◌then◌else◌, codes}
+use Rattle.std.specs.Prelude.{ℕ, zero, suc, ◌==◌, ◌&&◌, nat_lt, min, not, List, [], ◌∷◌, ◌++◌, length, map, filter, take, flat_map, Bool, true, false, Option, None, Some, if◌then◌else◌, codes}
 use Rattle.digits.specs.Hexadecimal.{hex_digits}
 use Rattle.beeb_bits.specs.declared.Side.{Side}
 use Rattle.op_table.specs.declared.names.Part.{Part}
@@ -15,7 +15,7 @@ use Rattle.tube_party.specs.Moves.{Moves}
 use Rattle.tube_party.specs.Replay.{Numbered, own_from, is_that, chip_before}
 use Rattle.follow.specs.declared.choice.Choice.{Choice}
 use Rattle.follow.specs.Sight.{Sight}
-use Rattle.follow.specs.Watched.{StartState, start_of}
+use Rattle.follow.specs.Start.{StartState, start_of}
 
 -- ---- The run: the states from which a replay does a step
 

@@ -47,12 +47,7 @@ fn has_changed(watch: Option<u16>, before: Option<Option<u8>>, now: Option<u8>) 
 impl Choice {
     /// Whether a start at this PC, with this watched byte, is listed, by the byte that was watched at the start before it.
     #[inline(always)]
-    pub(crate) fn chooses(
-        &self,
-        before: Option<Option<u8>>,
-        pc: u16,
-        watched: Option<u8>,
-    ) -> bool
+    pub(crate) fn chooses(&self, before: Option<Option<u8>>, pc: u16, watched: Option<u8>) -> bool
         ensures { result ≡ is_chosen self.now before pc watched }
     {
         is_at(self.at, pc) && has_changed(self.watch, before, watched)

@@ -32,7 +32,7 @@ impl<D: BusDevice> Seen for HostMachine<D> {
 
     #[inline(always)]
     fn starting(&self) -> bool {
-        self.starting()
+        HostMachine::starting(self)
     }
 
     #[inline]
@@ -67,7 +67,7 @@ impl Seen for ParaMachine {
 
     #[inline(always)]
     fn starting(&self) -> bool {
-        self.starting()
+        ParaMachine::starting(self)
     }
 
     #[inline]

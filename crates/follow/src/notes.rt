@@ -1,12 +1,13 @@
 //! What is kept of the starts so far: the lines of those that are chosen.
-ghost use Rattle.std.specs.Prelude.{◌≡◌, ◌+◌, ◌++◌, ◌≤◌, ◌<◌, ◌^◌, [], ◌∷◌, nat_lt, if◌then◌else◌, false, true, length};
-ghost use Rattle.follow.specs.Listing.{start_line};
+ghost use Rattle.std.specs.Prelude.{◌≡◌, ◌+◌, ◌++◌, ◌≤◌, ◌<◌, ◌^◌, [], ◌∷◌, nat_lt, if◌then◌else◌, false, true, length, IfSome};
+ghost use Rattle.follow.specs.Listing.{start_line, listing_of};
 ghost use Rattle.follow.specs.CodeStart.{start_seen, code_seen};
 ghost use Rattle.follow.specs.CodeNotes.{IsKept};
 ghost use Rattle.std.proofs.Props.{props};
 
 use crate::choice::Choice;
 use crate::line::push_line;
+use crate::listing::Listing;
 use crate::start::Start;
 use crate::trail::Trail;
 use op_table::Part;
@@ -19,7 +20,7 @@ const MOST_LINES: u64 = 1_048_576;
 #[derive(Drop)]
 pub(crate) struct Notes {
     alloc: Global,
-    part: Part,
+    pub(crate) part: Part,
     pub(crate) choice: Choice,
     text: Vec<u8>,
     // Memory for a line was wanting.
@@ -54,6 +55,8 @@ fn add_line(
 }
 
 impl Notes {
+    ghost use Rattle.follow.specs.View.{listing_seen};
+
     /// No start yet.
     pub(crate) fn new(alloc: Global, part: Part, choice: Choice) -> Notes
         ensures part { result.part ≡ part }
@@ -97,5 +100,18 @@ impl Notes {
             self.is_short,
         );
         self.chosen += 1;
+    }
+    /// The listing, if memory was not short.
+    pub(crate) fn finish(self) -> Option<Listing>
+        ensures { IfSome result (λ l. listing_seen l ≡ listing_of self.part self.choice self.trail.starts) }
+    {
+        if self.is_short {
+            return None;
+        }
+        Some(Listing {
+            text: self.text,
+            listed: self.chosen.min(MOST_LINES),
+            chosen: self.chosen,
+        })
     }
 }

@@ -1,6 +1,6 @@
 //! What is told of the start of an instruction.
 ghost use Rattle.std.specs.Prelude.{◌≡◌, ◌+◌, ◌≤◌, length};
-ghost use Rattle.follow.specs.Watched.{byte_at, watched_byte, start_of};
+ghost use Rattle.follow.specs.Start.{byte_at, watched_byte, start_of};
 ghost use Rattle.follow.specs.CodeStart.{start_seen, code_seen};
 
 use crate::seen::Seen;

@@ -1,7 +1,7 @@
 //! The starts that were told of. Only contracts see them: they take no memory, and the methods do nothing at run time.
 ghost use Rattle.std.specs.Prelude.{◌≡◌, List, [], ◌∷◌, ◌++◌};
 ghost use Rattle.std.specs.Borrow.{ftrue};
-ghost use Rattle.follow.specs.Watched.{StartState};
+ghost use Rattle.follow.specs.Start.{StartState};
 ghost use Rattle.follow.specs.CodeTrail.{starts_coded};
 
 use crate::start::Start;

@@ -13,7 +13,7 @@ invariant_of-self c =
 pub overflow_add-self : goal.overflow_add-self
 overflow_add-self c =
     let few : c.args.self.now.chosen ≤ length c.args.self.now.trail.starts =
-        kept_few c.args.self.now.part c.args.self.now.choice c.args.self.now.trail.starts (start_seen c.args.start.now) _ _ _ _ c.args.self.now.kept in
+    kept_few c.args.self.now.part c.args.self.now.choice c.args.self.now.trail.starts (start_seen c.args.start.now) _ _ _ _ c.args.self.now.kept in
     omega (arith, few, c.requires.few)
 
 pub invariant_of-self-2 : goal.invariant_of-self-2

@@ -1,52 +1,29 @@
--- What is told of the starts of instructions, and a party that keeps it.
+-- A party that keeps what is told of the starts from which it did a step.
 use Rattle.std.specs.Prelude.{ℕ, zero, suc, ◌≡◌, ◌+◌, nat_lt, List, [], ◌∷◌, ◌++◌, Bool, Option, None, Some, if◌then◌else◌, refl}
 use Rattle.std.proofs.Common.{ap, ◌∙◌}
+use Rattle.op_table.specs.declared.names.Part.{Part}
 use Rattle.cpu_alu.specs.declared.Regs.{Regs}
-use Rattle.tube_chip.specs.declared.Answer.{Answer}
 use Rattle.tube_party.specs.Moves.{Moves, IsLawful, IsClosing}
+use Rattle.follow.specs.declared.choice.Choice.{Choice}
 use Rattle.follow.specs.Sight.{Sight, IsSameSight, IsSeen}
+use Rattle.follow.specs.Start.{StartState, front, byte_at, bytes_from, watched_byte, start_at, start_of}
 
--- A start: the tick of its first cycle, the registers, the bytes that stand from PC on, and the byte that is watched.
-pub record StartState : Type 0 where
-  pub tick : ℕ
-  pub regs : Regs
-  pub code : List ℕ
-  pub watched : Option ℕ
+-- what is listed of a machine of this part
+pub record Order : Type 0 where
+  pub part : Part
+  pub choice : Choice
 
--- a byte before others, or none before none
-abbrev pub front : Option ℕ → List ℕ → List ℕ
-front None bytes = []
-front (Some b) bytes = b ∷ bytes
+abbrev pub order : Part → Choice → Order
+order part choice = record { part = part; choice = choice }
 
--- the byte that stands at an address, if it does not pass FFFF
-abbrev pub byte_at : (ℕ → Option ℕ) → ℕ → Option ℕ
-byte_at peek at = if nat_lt at 65536 then peek at else None
-
--- The bytes that stand from an address on, without a gap and not past FFFF: as many as there are, and at most so many.
-abbrev pub bytes_from : (ℕ → Option ℕ) → ℕ → ℕ → List ℕ
-bytes_from peek zero at = []
-bytes_from peek (suc k) at = front (byte_at peek at) (bytes_from peek k (at + 1))
-
--- the byte at an address that is watched, if one is, and if one stands there
-abbrev pub watched_byte : Option ℕ → (ℕ → Option ℕ) → Option ℕ
-watched_byte None peek = None
-watched_byte (Some at) peek = peek at
-
--- what is told of a state that starts an instruction
-abbrev pub start_at : ℕ → Option ℕ → Sight → StartState
-start_at tick watch x = record { tick = tick; regs = x.regs; code = bytes_from x.peek 3 x.regs.pc; watched = watched_byte watch x.peek }
-
-abbrev pub start_of : {S : Type 0} → Moves S → (S → Sight) → Option ℕ → S → StartState
-start_of m sights watch s = start_at (m.due s) watch (sights s)
-
--- A party, what is watched, and the starts from which it did a step, in order.
+-- A party, what is to be listed of it, and the starts from which it did a step.
 pub record Watched (S : Type 0) : Type 0 where
   pub now : S
-  pub watch : Option ℕ
+  pub order : Order
   pub starts : List StartState
 
-abbrev pub watched_of : {S : Type 0} → S → Option ℕ → List StartState → Watched S
-watched_of s watch starts = record { now = s; watch = watch; starts = starts }
+abbrev pub watched_of : {S : Type 0} → S → Order → List StartState → Watched S
+watched_of s order starts = record { now = s; order = order; starts = starts }
 
 abbrev pub with_start : Bool → StartState → List StartState → List StartState
 with_start is x starts = if is then starts ++ x ∷ [] else starts
@@ -61,9 +38,9 @@ module _ {S : Type 0} (m : Moves S) (sights : S → Sight) where
   watched_moves = record {
     due = λ w. m.due w.now;
     asks = λ w. m.asks w.now;
-    next = λ w a. watched_of (m.next w.now a) w.watch (noted w.now w.watch w.starts);
+    next = λ w a. watched_of (m.next w.now a) w.order (noted w.now w.order.choice.watch w.starts);
     closed = λ w. m.closed w.now;
-    close = λ w t. watched_of (m.close w.now t) w.watch w.starts;
+    close = λ w t. watched_of (m.close w.now t) w.order w.starts;
   }
 
   front_same : (a b : Option ℕ) (xs ys : List ℕ) → a ≡ b → xs ≡ ys → front a xs ≡ front b ys
@@ -102,8 +79,8 @@ module _ {S : Type 0} (m : Moves S) (sights : S → Sight) where
           due = closing.due;
           asks = closing.asks;
           next = λ a.
-              ap (λ (s : S). watched_of s w.watch (noted (m.close w.now t) w.watch w.starts)) (closing.next a)
-              ∙ ap (λ (l : List StartState). watched_of (m.next w.now a) w.watch l) (noted_closed w.now w.watch w.starts t (seen.closing w.now t) closing.due);
-          again = λ u low2 high2. ap (λ (s : S). watched_of s w.watch w.starts) (closing.again u low2 high2);
+              ap (λ (s : S). watched_of s w.order (noted (m.close w.now t) w.order.choice.watch w.starts)) (closing.next a)
+              ∙ ap (λ (l : List StartState). watched_of (m.next w.now a) w.order l) (noted_closed w.now w.order.choice.watch w.starts t (seen.closing w.now t) closing.due);
+          again = λ u low2 high2. ap (λ (s : S). watched_of s w.order w.starts) (closing.again u low2 high2);
         };
   }
