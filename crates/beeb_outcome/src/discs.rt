@@ -1,6 +1,6 @@
 //! The discs in drive 0 and drive 1.
 ghost use Rattle.std.specs.Prelude.{◌≡◌, ◌++◌, IfOk};
-ghost use Rattle.host_mach.specs.View.{host_seen};
+ghost use Rattle.host_mach.specs.View.{host_seen, IsSettled};
 ghost use Rattle.beeb_outcome.specs.Files.{disc_bytes};
 ghost use Rattle.beeb_outcome.specs.Outputs.{discs};
 
@@ -11,6 +11,7 @@ use std::alloc::{AllocError, Global};
 
 /// The bytes of the disc in a drive, none where there is no disc.
 pub(crate) fn disc_bytes<D: BusDevice>(host: &HostMachine<D>, drive: u8) -> &[u8]
+    requires { IsSettled host.now }
     ensures { result.now ≡ disc_bytes drive (host_seen D.plug host.now) }
 {
     match host.disc(drive) {
@@ -24,6 +25,7 @@ pub(crate) fn push_discs<D: BusDevice>(
     outputs: &mut Vec<Output>,
     host: &HostMachine<D>,
 ) -> Result<(), AllocError>
+    requires { IsSettled host.now }
     ensures { IfOk result (λ _. outputs.new.items ≡ outputs.old.items ++ discs (host_seen D.plug host.now)) }
 {
     match (host.disc(0), host.disc(1)) {

@@ -1,6 +1,7 @@
 //! The file of each output.
 ghost use Rattle.std.specs.Prelude.{◌≡◌, ◌++◌, [], IfOk, option_map, string_bytes, unwrap_or};
-ghost use Rattle.host_mach.specs.View.{host_seen};
+ghost use Rattle.std.specs.Option.{ForSome};
+ghost use Rattle.host_mach.specs.View.{host_seen, IsSettled};
 ghost use Rattle.beeb_stages.specs.View.{seen_file};
 ghost use Rattle.beeb_outcome.specs.Files.{bytes_in, disc_bytes, frame_bytes, plug_bytes, trace_text, file_of};
 ghost use Rattle.beeb_outcome.specs.Sound.{sound_bytes};
@@ -25,6 +26,7 @@ fn disc_in<D: BusDevice>(
     host: &Option<HostMachine<D>>,
     drive: u8,
 ) -> Result<Vec<u8>, AllocError>
+    requires { ForSome host.now (λ machine. IsSettled machine) }
     ensures { IfOk result (λ v. v.items ≡ bytes_in (disc_bytes drive) (option_map (host_seen D.plug) host.now)) }
 {
     match host {
@@ -39,6 +41,7 @@ fn frame_in<D: BusDevice>(
     host: &Option<HostMachine<D>>,
     number: usize,
 ) -> Result<Vec<u8>, AllocError>
+    requires { ForSome host.now (λ machine. IsSettled machine) }
     ensures { IfOk result (λ v. v.items ≡ bytes_in (frame_bytes number) (option_map (host_seen D.plug) host.now)) }
 {
     match host {

@@ -1,7 +1,7 @@
 //! The frames that shots took.
 ghost use Rattle.std.specs.Prelude.{◌≡◌, ◌++◌, IfOk, string_bytes};
 ghost use Rattle.frame_out.specs.Pixmap.{pixmap};
-ghost use Rattle.host_mach.specs.View.{host_seen};
+ghost use Rattle.host_mach.specs.View.{host_seen, IsSettled};
 ghost use Rattle.beeb_outcome.specs.Files.{three_digits, frame_name, frame_bytes};
 ghost use Rattle.beeb_outcome.specs.Outputs.{frames};
 
@@ -44,6 +44,7 @@ pub(crate) fn frame_bytes<D: BusDevice>(
     host: &HostMachine<D>,
     number: usize,
 ) -> Result<Vec<u8>, AllocError>
+    requires { IsSettled host.now }
     ensures { IfOk result (λ v. v.items ≡ frame_bytes number (host_seen D.plug host.now)) }
 {
     match host.frames().get(number) {

@@ -1,5 +1,7 @@
 //! What a command leaves, of which the files of its outputs are made.
 ghost use Rattle.std.specs.Prelude.{◌≤◌};
+ghost use Rattle.std.specs.Option.{ForSome};
+ghost use Rattle.host_mach.specs.View.{IsSettled};
 
 use crate::names::Names;
 use beeb_bits::{Clock, Tick};
@@ -24,7 +26,7 @@ pub struct Left<'a, D> {
     pub ticks: Tick,
     /// How many accesses to the Tube the machines that are there had.
     pub tube: u64,
-    /// The host where it ended.
+    /// The host where it ended, with its devices stepped as far as its bus is closed.
     pub host: Option<HostMachine<D>>,
     /// The second processor where it ended.
     pub para: Option<ParaMachine>,
@@ -34,4 +36,5 @@ pub struct Left<'a, D> {
     /// Bytes that are an output by themselves.
     pub bytes: Vec<u8>,
     ghost most: { ticks.0 ≤ 1073741824 },
+    ghost settled: { ForSome host (λ machine. IsSettled machine) },
 }

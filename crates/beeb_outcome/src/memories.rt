@@ -1,6 +1,7 @@
 //! The memories of the machines, their lines in a report, and the report.
 ghost use Rattle.std.specs.Prelude.{◌≡◌, IfOk, option_map};
-ghost use Rattle.host_mach.specs.View.{host_seen};
+ghost use Rattle.std.specs.Option.{ForSome};
+ghost use Rattle.host_mach.specs.View.{host_seen, IsSettled};
 ghost use Rattle.beeb_outcome.specs.Files.{host_line, para_line, frame_count, kept_count, ram_of, report_text};
 ghost use Rattle.beeb_outcome.specs.View.{kept_seen, left_seen};
 
@@ -40,6 +41,7 @@ fn para_line(para: &Option<ParaMachine>) -> Option<Line>
 
 // How many frames the host has.
 fn frame_count<D: BusDevice>(host: &Option<HostMachine<D>>) -> Option<u64>
+    requires { ForSome host.now (λ machine. IsSettled machine) }
     ensures { result ≡ option_map frame_count (option_map (host_seen D.plug) host.now) }
 {
     match host {

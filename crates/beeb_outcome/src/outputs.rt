@@ -1,6 +1,7 @@
 //! Which outputs the machines have.
 ghost use Rattle.std.specs.Prelude.{◌≡◌, ◌++◌, IfOk, option_map, is_some, List};
-ghost use Rattle.host_mach.specs.View.{host_seen};
+ghost use Rattle.std.specs.Option.{ForSome};
+ghost use Rattle.host_mach.specs.View.{host_seen, IsSettled};
 ghost use Rattle.host_mach.specs.State.{HostState};
 ghost use Rattle.beeb_outcome.specs.Outputs.{if_there, of_host, discs, shots, spills, machine_outputs};
 ghost use Rattle.beeb_outcome.specs.View.{left_seen};
@@ -30,6 +31,7 @@ fn push_media<D: BusDevice>(
     outputs: &mut Vec<Output>,
     host: &Option<HostMachine<D>>,
 ) -> Result<(), AllocError>
+    requires { ForSome host.now (λ machine. IsSettled machine) }
     ensures { let there = option_map (host_seen D.plug) host.now in
         IfOk result (λ _. outputs.new.items ≡ outputs.old.items ++ (of_host discs there ++ of_host shots there)) }
 {

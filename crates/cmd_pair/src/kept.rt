@@ -63,12 +63,13 @@ pub(crate) fn kept_outcome<'a, D: BusDevice>(
     reference_is_trace::<HostMachine<D>, ParaMachine>();
     let kept = kept_of(alloc, clock, &done.host_list, &done.para_list, keep)?;
     let tube = done.host_count + done.para_count;
+    let host = done.host.settled();
     let left = Left {
         names,
         clock,
         ticks: Tick(ticks),
         tube,
-        host: Some(done.host),
+        host: Some(host),
         para: Some(done.para),
         kept: Some(kept),
         bytes: Vec::new(alloc),

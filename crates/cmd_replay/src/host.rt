@@ -44,12 +44,13 @@ fn ran<'a, D: BusDevice>(
     let (machine, place) = replay(machine, Side::Host, entries, n);
     match place {
         None => {
+            let settled = machine.settled();
             let left = Left {
                 names,
                 clock,
                 ticks: n,
                 tube: side_count(Side::Host, entries, n),
-                host: Some(machine),
+                host: Some(settled),
                 para: None,
                 kept: None,
                 bytes: Vec::new(alloc),

@@ -112,6 +112,16 @@ impl<D: BusDevice> HostMachine<D> {
         self.bus.bus.settle();
     }
 
+    /// The same machine, settled.
+    pub fn settled(self) -> HostMachine<D>
+        ensures same { host_seen D.plug result ≡ host_seen D.plug self }
+        ensures settled { IsSettled result }
+    {
+        let mut machine = self;
+        machine.settle();
+        machine
+    }
+
     /// The frames that shots took so far, the oldest first, as far as the devices are stepped: all of them where the machine is settled. A shot
     /// takes the last frame that was finished, or a black one, before the device step at its tick.
     pub fn frames(&self) -> &[Frame]

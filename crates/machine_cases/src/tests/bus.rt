@@ -43,10 +43,10 @@ fn disc(alloc: Global) -> Result<Disc, Fail> {
 }
 
 // Both clocks.
-const CLOCKS: [Clock; 2] = [Clock::Three, Clock::Four];
+pub(super) const CLOCKS: [Clock; 2] = [Clock::Three, Clock::Four];
 
 // How many ticks of a clock pass in a tick of the tables, which have those of a second processor at 3 MHz.
-fn scale(clock: Clock) -> u64 {
+pub(super) fn scale(clock: Clock) -> u64 {
     clock.micro() / Clock::Three.micro()
 }
 
@@ -64,7 +64,7 @@ fn later(alloc: Global, script: &str, times: u64) -> Result<String, Fail> {
 }
 
 // It has that disc in drive 0. The script has the ticks of the tables, and in it `;` ends a line.
-fn bus_with(alloc: Global, clock: Clock, script: &str) -> Result<Bus, Fail> {
+pub(super) fn bus_with(alloc: Global, clock: Clock, script: &str) -> Result<Bus, Fail> {
     let text = later(alloc, script, scale(clock))?;
     let script = read(alloc, text.as_bytes())?;
     Ok(Bus::make(
@@ -150,7 +150,10 @@ fn is_right<D: BusDevice>(bus: &mut Bus<D>, t: u64, act: Act) -> bool {
         Read(at, want) => bus.read(Tick(t), at) == want,
         Look(want) => bus.irq(Tick(t)) == want,
         Rises(want) => bus.nmis(Tick(t)) == want,
-        DiscOf(drive, want) => bus.disc(drive).map(|disc| disc.bytes().len()) == want,
+        DiscOf(drive, want) => {
+            bus.settle();
+            bus.disc(drive).map(|disc| disc.bytes().len()) == want
+        }
         Next(want) => bus.next_break() == in_ticks(want, scale(bus.clock())),
         Due(want) => bus.break_pending(Tick(t)) == want,
         Break => {

@@ -48,6 +48,6 @@ returns g c =
       para_is = c.deref-2.ensures.value ∙ run.para_kept.list_is;
     } in
     ap machine_verdict (both_is c.args.clock c.args.ticks (c.args.done.host_count + c.args.done.para_count) (names_seen c.args.names) c.new.result.items
-    (host_seen g.D.BusDevice.plug c.args.done.host) c.args.done.para (kept_seen c.in_ok-kept.kept) c.new.ensures.items)
+    (host_seen g.D.BusDevice.plug c.settled-host.result) c.args.done.para (kept_seen c.in_ok-kept.kept) c.new.ensures.items)
     ∙ kept_is c.args.clock c.args.ticks c.args.keep (names_seen c.args.names) w _ _ _ _ _
-    run.host_is run.para_is run.host_kept.count_is run.para_kept.count_is (c.in_ok-kept.ensures c.args.ticks w.list first))
+    (c.settled-host.ensures.same ∙ run.host_is) run.para_is run.host_kept.count_is run.para_kept.count_is (c.in_ok-kept.ensures c.args.ticks w.list first))

@@ -17,10 +17,10 @@ pub returns-in-None : goal.returns-in-None
 unfolding host_ended
 returns-in-None g c =
     subst (λ (v : Verdict Ending). IfOk c.machine_outcome.result (λ outcome. verdict_of g.D.BusDevice.plug outcome ≡ v))
-    (ap machine_verdict (host_is c.args.clock c.args.ticks c.side_count.result (names_seen c.args.names) c.new.result.items (host_seen g.D.BusDevice.plug c.replay-machine.result.0) c.new.ensures.items)
+    (ap machine_verdict (host_is c.args.clock c.args.ticks c.side_count.result (names_seen c.args.names) c.new.result.items (host_seen g.D.BusDevice.plug c.settled-settled.result) c.new.ensures.items)
     ∙ done_is (λ (tube : ℕ) (s : HostState). machine_verdict (host_left c.args.clock c.args.ticks tube (names_seen c.args.names) s)) c.side_count.result (side_count Host c.args.ticks c.args.entries.now)
     (replay_of host_moves Host c.args.entries.now c.args.ticks (host_seen g.D.BusDevice.plug c.args.machine))
-    (host_seen g.D.BusDevice.plug c.replay-machine.result.0) (sym c.replay-machine.ensures.place ∙ c.in-None.is) c.replay-machine.ensures.machine c.side_count.ensures)
+    (host_seen g.D.BusDevice.plug c.settled-settled.result) (sym c.replay-machine.ensures.place ∙ c.in-None.is) (c.settled-settled.ensures.same ∙ c.replay-machine.ensures.machine) c.side_count.ensures)
     c.machine_outcome.ensures
 
 pub returns-in-Some : goal.returns-in-Some
