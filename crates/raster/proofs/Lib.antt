@@ -7,3 +7,4 @@ pub mod ReadBytes
 pub mod RestMany
 pub mod Spans
 pub mod Micros
+pub mod Cells

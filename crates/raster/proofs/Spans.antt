@@ -40,7 +40,7 @@ chars_more ram size font n (suc m) s =
     chars_more ram size font n m (char_clock_leaves ram size font s) ∙ ap (λ k. char_clocks ram size font k s) z
 
 -- what a character of a plain span is
-plain_beam : Span → ℕ → Beam
+unfoldable pub plain_beam : Span → ℕ → Beam
 plain_beam span k = record {
   shown = span.shown;
   ma = (span.ma + k) % 16384;
@@ -73,7 +73,7 @@ unfolding plain_beam beam_with
 told_plain span n s k h below = h.told k below ∙ rw (h.cursor, h.sync) refl
 
 -- n characters further, with this text and this frame
-abbrev built : ℕ → Text → List ℕ → State → State
+abbrev pub built : ℕ → Text → List ℕ → State → State
 built k text working s = record s {
   crtc = clocks k s.crtc;
   place = place_past (k * dots_of s.ula.control) s.place;
@@ -81,7 +81,7 @@ built k text working s = record s {
   working = working;
 }
 
-shown_here : (ram : List ℕ) (size : ℕ) (font : Font) (span : Span) (n : ℕ) (s : State) (k : ℕ) (text : Text) (working : List ℕ) → ArePlain span n s → k < n →
+pub shown_here : (ram : List ℕ) (size : ℕ) (font : Font) (span : Span) (n : ℕ) (s : State) (k : ℕ) (text : Text) (working : List ℕ) → ArePlain span n s → k < n →
     char_clock_leaves ram size font (built k text working s)
     ≡ pass_leaves (plain_beam span k) (show_leaves ram size font (plain_beam span k) (record (built k text working s) { crtc = clocks (suc k) s.crtc }))
 unfolding char_clock_leaves plain_beam
@@ -98,7 +98,7 @@ further k d p =
     few : (a b : ℕ) → a + d ≡ b → min (min (p.x + a) 4095 + d) 4095 ≡ min (p.x + b) 4095
     few a b e = omega (arith, e)
 
-passed : (span : Span) (k : ℕ) (text : Text) (working : List ℕ) (s : State) → s.cursor ≡ first_cursor →
+pub passed : (span : Span) (k : ℕ) (text : Text) (working : List ℕ) (s : State) → s.cursor ≡ first_cursor →
     pass_leaves (plain_beam span k) (record (built k text working s) { crtc = clocks (suc k) s.crtc }) ≡ built (suc k) text working s
 unfolding plain_beam
 passed span k text working s far =
@@ -107,7 +107,7 @@ passed span k text working s far =
     ap (λ (p : Place). next p (cursor_past false s.cursor)) (further k d s.place)
     ∙ ap (λ (c : Cursor). next (place_past (suc k * d) s.place) c) (sym (cursor_far s.cursor far))
 
-none_built : (s : State) → s.place.x ≤ 4095 → built 0 s.text s.working s ≡ s
+pub none_built : (s : State) → s.place.x ≤ 4095 → built 0 s.text s.working s ≡ s
 none_built s small =
     let z : min (s.place.x + 0 * dots_of s.ula.control) 4095 ≡ s.place.x = omega (arith, small) in
     ap (λ (x : ℕ). record s { place = record s.place { x = x } }) z
@@ -181,7 +181,7 @@ capped_dots left y a dots frame l =
       | inr end ↦ past_the_end left (min a 4095) y dots frame (omega arith) ∙ sym (past_the_end left a y dots frame (omega arith))
     ]
 
-beside : (left x y at : ℕ) (row dots frame : List ℕ) → left ≤ 240 → length row ≡ at →
+pub beside : (left x y at : ℕ) (row dots frame : List ℕ) → left ≤ 240 → length row ≡ at →
     dots_set left (min (x + at) 4095) y dots (dots_set left x y row frame) ≡ dots_set left x y (row ++ dots) frame
 beside left x y at row dots frame l long =
     capped_dots left y (x + at) dots (dots_set left x y row frame) l ∙ ap (λ k. dots_set left (x + k) y dots (dots_set left x y row frame)) (sym long)
@@ -322,7 +322,7 @@ row_colours_long u bytes step n =
     row_long (λ k. colours u (slice_index bytes (k * step)) false) (dots_of u.control) n
     (λ k. colours_long_by (bit u.control 4) u (slice_index bytes (k * step)) false refl)
 
-same_row : (f g : ℕ → List ℕ) (n : ℕ) → ((k : ℕ) → k < n → f k ≡ g k) → side_by_side f n ≡ side_by_side g n
+pub same_row : (f g : ℕ → List ℕ) (n : ℕ) → ((k : ℕ) → k < n → f k ≡ g k) → side_by_side f n ≡ side_by_side g n
 same_row f g zero h = refl
 same_row f g (suc n) h =
     ap (λ (ds : List ℕ). ds ++ f n) (same_row f g n (λ k below. h k (omega (arith, below)))) ∙ ap (λ (ds : List ℕ). side_by_side g n ++ ds) (h n (omega arith))

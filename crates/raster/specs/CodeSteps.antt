@@ -1,5 +1,5 @@
 -- What the code does of a character that is shown apart from the rest.
-use Rattle.std.specs.Prelude.{ℕ, zero, suc, ◌+◌, ◌*◌, ◌%◌, ◌<◌, ◌≡◌, Bool, false, List, replicate, if◌then◌else◌}
+use Rattle.std.specs.Prelude.{ℕ, zero, suc, ◌+◌, ◌*◌, ◌%◌, ◌<◌, ◌≡◌, Bool, false, List, replicate, slice_index, if◌then◌else◌}
 use Rattle.beeb_bits.specs.Bits.{bit}
 use Rattle.crtc6845.specs.declared.Span.{Span}
 use Rattle.crtc6845.specs.Clock.{beam_of}
@@ -58,3 +58,15 @@ wide narrow = if narrow then 8 else 16
 pub record AreApart (ma : ℕ) (ra : ℕ) (size : ℕ) (n : ℕ) (at : ℕ) (step : ℕ) : Type 0 where
   pub stand : (k : ℕ) → k < n → byte_address ((ma + k) % 16384) ra size ≡ at + k * step
   pub within : (k : ℕ) → k < n → at + k * step < 32768
+
+-- the codes of a teletext row, whose bytes are `step` apart
+abbrev pub code_in : List ℕ → ℕ → ℕ → ℕ
+code_in bytes step k = slice_index bytes (k * step) % 128
+
+-- what the first n codes leave of a row, and the cell of the k-th after those before it
+abbrev pub texts : (ℕ → ℕ) → ℕ → Text → Text
+texts codes zero t = t
+texts codes (suc n) t = text_after (codes n) (texts codes n t)
+
+abbrev pub cells : Font → (ℕ → ℕ) → ℕ → ℕ → Text → ℕ → List ℕ
+cells font codes ra fields t k = cell_on font (codes k) ra fields (texts codes k t)

@@ -125,9 +125,9 @@ impl Canvas {
         }
     }
 
-    // Draws dots that lie in the frame, one beside the other, the first of them at `x` and `y`.
+    /// Draws dots that lie in the frame, one beside the other, the first of them at `x` and `y`.
     #[inline(always)]
-    fn put(&mut self, left: u16, x: u16, y: u16, dots: &[u8])
+    pub(crate) fn put(&mut self, left: u16, x: u16, y: u16, dots: &[u8])
         requires along { (left ≤ x) × (x + length dots.now ≤ left + 640) }
         requires down { (40 ≤ y) × (y < 296) }
         ensures { self.new ≡ dots_set left x y dots.now self.old }
