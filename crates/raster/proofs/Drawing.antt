@@ -108,3 +108,10 @@ counted left eights y dots frame l small =
       | inl below ↦ let e : min (8 * eights) 4095 ≡ 8 * eights = omega arith in rw e refl
       | inr end ↦ past_the_end left (8 * eights) y dots frame (omega arith) ∙ sym (past_the_end left (min (8 * eights) 4095) y dots frame (omega arith))
     ]
+
+-- so many dots that are put into the frame's list
+pub put_inside : (left x y at count : ℕ) (dots frame new : List ℕ) → length dots ≡ count → left ≤ x → x + count ≤ left + 640 → 40 ≤ y → y < 296 →
+    at ≡ 640 * (y - 40) + (x - left) → length frame ≡ 163840 → new ≡ take at frame ++ (dots ++ drop (at + count) frame) → new ≡ dots_set left x y dots frame
+put_inside left x y at count dots frame new long from to top bottom place size is =
+    is ∙ ap (λ k. take at frame ++ (dots ++ drop (at + k) frame)) (sym long)
+    ∙ sym (all_inside left x y at dots frame from (omega (arith, long, to)) top bottom place (omega (arith, long, to, place, size)))

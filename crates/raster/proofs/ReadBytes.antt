@@ -20,7 +20,7 @@ crtc_by true true x y s p q = p
 crtc_by true false x y s p q = q
 crtc_by false c x y s p q = refl
 
-control_by : (b c : Bool) (x y s : State) → x.ula ≡ s.ula → y.ula ≡ s.ula → (if b then (if c then x else y) else s).ula ≡ s.ula
+pub control_by : (b c : Bool) (x y s : State) → x.ula ≡ s.ula → y.ula ≡ s.ula → (if b then (if c then x else y) else s).ula ≡ s.ula
 control_by true true x y s p q = p
 control_by true false x y s p q = q
 control_by false c x y s p q = refl

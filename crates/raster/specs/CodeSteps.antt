@@ -1,6 +1,10 @@
 -- What the code does of a character that is shown apart from the rest.
-use Rattle.std.specs.Prelude.{ℕ, Bool, List, replicate, if◌then◌else◌}
+use Rattle.std.specs.Prelude.{ℕ, zero, suc, ◌+◌, ◌*◌, ◌%◌, ◌<◌, ◌≡◌, Bool, false, List, replicate, slice_index, if◌then◌else◌}
 use Rattle.beeb_bits.specs.Bits.{bit}
+use Rattle.crtc6845.specs.declared.Span.{Span}
+use Rattle.crtc6845.specs.Clock.{beam_of}
+use Rattle.crtc6845.specs.Laws.{clocks}
+use Rattle.crtc6845.specs.Spans.{beam_in_span}
 use Rattle.video_ula.specs.State.{State as UlaState}
 use Rattle.video_ula.specs.Pixels.{under_cursor}
 use Rattle.video_ula.specs.Colours.{eight_dots}
@@ -8,8 +12,9 @@ use Rattle.saa5050.specs.Shapes.{Font}
 use Rattle.saa5050.specs.Row.{cell}
 use Rattle.raster.specs.Frame.{dots_set}
 use Rattle.raster.specs.Text.{Text, text_after}
-use Rattle.raster.specs.State.{State}
-use Rattle.raster.specs.Clock.{cell_dots}
+use Rattle.raster.specs.Beam.{byte_address}
+use Rattle.raster.specs.State.{State, first_cursor}
+use Rattle.raster.specs.Clock.{cell_dots, char_clock_leaves}
 
 -- eight dots of a byte, from the first one named on
 abbrev pub eight_of : ℕ → UlaState → ℕ → ℕ → Bool → List ℕ
@@ -28,3 +33,40 @@ cell_drawn_on font code ra fields marked s = record s {
   text = text_after code s.text;
   working = dots_set 208 s.place.x s.place.y (cell_dots s.ula (cell_on font code ra fields s.text) marked) s.working;
 }
+
+-- n character clocks, one after the other
+abbrev pub char_clocks : List ℕ → ℕ → Font → ℕ → State → State
+char_clocks ram size font zero s = s
+char_clocks ram size font (suc n) s = char_clocks ram size font n (char_clock_leaves ram size font s)
+
+-- what they leave, but for the 6845 and the beam's place
+abbrev pub drawn_ahead : List ℕ → ℕ → Font → ℕ → State → State
+drawn_ahead ram size font n s = record (char_clocks ram size font n s) { crtc = s.crtc; place = s.place }
+
+-- n characters come as the span tells them, no horizontal sync begins with any, and the cursor is on none of them and not near.
+pub record ArePlain (span : Span) (n : ℕ) (s : State) : Type 0 where
+  pub told : (k : ℕ) → k < n → beam_of (clocks k s.crtc) ≡ beam_in_span span k
+  pub cursor : span.cursor ≡ false
+  pub sync : span.sync ≡ false
+  pub far : s.cursor ≡ first_cursor
+
+-- how many dots a character has
+abbrev pub wide : Bool → ℕ
+wide narrow = if narrow then 8 else 16
+
+-- The bytes of n characters whose addresses count up from one on: `step` apart from `at` on, all of them in the RAM.
+pub record AreApart (ma : ℕ) (ra : ℕ) (size : ℕ) (n : ℕ) (at : ℕ) (step : ℕ) : Type 0 where
+  pub stand : (k : ℕ) → k < n → byte_address ((ma + k) % 16384) ra size ≡ at + k * step
+  pub within : (k : ℕ) → k < n → at + k * step < 32768
+
+-- the codes of a teletext row, whose bytes are `step` apart
+abbrev pub code_in : List ℕ → ℕ → ℕ → ℕ
+code_in bytes step k = slice_index bytes (k * step) % 128
+
+-- what the first n codes leave of a row, and the cell of the k-th after those before it
+abbrev pub texts : (ℕ → ℕ) → ℕ → Text → Text
+texts codes zero t = t
+texts codes (suc n) t = text_after (codes n) (texts codes n t)
+
+abbrev pub cells : Font → (ℕ → ℕ) → ℕ → ℕ → Text → ℕ → List ℕ
+cells font codes ra fields t k = cell_on font (codes k) ra fields (texts codes k t)

@@ -1,8 +1,9 @@
 //! What the beam meets: the byte that is shown, and the cursor's marks.
-ghost use Rattle.std.specs.Prelude.{◌≡◌, ◌<◌, true};
+ghost use Rattle.std.specs.Prelude.{◌≡◌, ◌<◌, ◌≤◌, ◌+◌, ◌%◌, true};
 ghost use Rattle.raster.specs.Beam.{IsScreenSize, byte_address, cursor_past, is_marked};
 ghost use Rattle.raster.specs.State.{first_cursor};
 ghost use Rattle.raster.specs.Reads.{IsLowest};
+ghost use Rattle.raster.specs.CodeSteps.{AreApart};
 
 use beeb_bits::bit;
 use std::marker::Model;
@@ -21,6 +22,41 @@ pub(crate) fn byte_address(ma: u16, ra: u8, size: u16) -> usize
         let at = ma % 0x2000 * 8 + u16::from(ra % 8);
         let at = if at >= 0x8000 { at - size } else { at };
         usize::from(at % 0x8000)
+    }
+}
+
+/// Where the bytes of characters stand whose addresses count up: `step` apart from `at` on.
+#[derive(Clone, Copy)]
+pub(crate) struct Bytes {
+    pub(crate) at: usize,
+    pub(crate) step: usize,
+    /// How many of them come before the end of the RAM, past which they go on elsewhere.
+    pub(crate) count: u16,
+}
+
+/// The bytes of `n` characters in one block of 1,024 addresses.
+#[inline(always)]
+pub(crate) fn bytes_from(ma: u16, ra: u8, size: u16, n: u16) -> Bytes
+    requires size { IsScreenSize size }
+    requires page { ma % 1024 + n ≤ 1024 }
+    ensures most { result.count ≤ n }
+    ensures apart { AreApart ma ra size result.count result.at result.step }
+    ensures bound { result.at < 32768 }
+{
+    let at = byte_address(ma, ra, size);
+    let rest = (0x8000 - at) as u16;
+    if ma / 0x2000 % 2 == 1 {
+        Bytes {
+            at,
+            step: 1,
+            count: n.min(rest),
+        }
+    } else {
+        Bytes {
+            at,
+            step: 8,
+            count: n.min(rest / 8 + u16::from(rest % 8 != 0)),
+        }
     }
 }
 

@@ -1,12 +1,15 @@
 //! A frame that is drawn or shown, and whether it is still black.
-ghost use Rattle.std.specs.Prelude.{◌≡◌, ◌≤◌, ◌<◌, ◌+◌, ◌%◌, ◌++◌, length, take, IfOk, if◌then◌else◌};
+ghost use Rattle.std.specs.Prelude.{ℕ, ◌≡◌, ◌≤◌, ◌<◌, ◌+◌, ◌-◌, ◌*◌, ◌%◌, ◌++◌, true, false, length, take, replicate, IfOk, if◌then◌else◌};
+ghost use Rattle.video_ula.specs.Pixels.{dots_of, row_colours};
 ghost use Rattle.raster.specs.Frame.{black, is_in_frame, dots_set};
+ghost use Rattle.raster.specs.CodeSteps.{wide};
 
 use crate::frame::Frame;
 use crate::place::Place;
-use beeb_bits::NoMemory;
+use beeb_bits::{NoMemory, bit};
 use std::alloc::Global;
 use std::marker::Model;
+use video_ula::Ula;
 
 /// How many lines above the frame the beam meets after vertical sync.
 const TOP: u16 = 40;
@@ -45,6 +48,62 @@ fn is_in_frame(left: u16, x: u16, y: u16) -> bool
     left <= x && x < left + WIDTH && TOP <= y && y < TOP + LINES
 }
 
+// How many dots a character has.
+#[inline(always)]
+fn wide(narrow: bool) -> usize
+    ensures { result ≡ wide narrow }
+{
+    if narrow { 8 } else { 16 }
+}
+
+// How many characters of 8 or 16 dots so many times eight dots have room for.
+#[inline(always)]
+fn characters(eights: u16, narrow: bool) -> u16
+    ensures { result * wide narrow ≤ 8 * eights }
+{
+    if narrow { eights } else { eights / 2 }
+}
+
+/// How many of the next `n` characters, the first of them at this place, are surely outside the frame: 0 where the first may not be.
+#[inline(always)]
+pub(crate) fn outside(left: u16, place: &Place, narrow: bool, n: u16) -> u16
+    requires { (left ≤ 240) × (left % 8 ≡ 0) }
+    ensures most { result ≤ n }
+    ensures out { (k : ℕ) → k < result * wide narrow → is_in_frame left (place.now.x + k) place.now.y ≡ false }
+{
+    if place.y < TOP || TOP + LINES <= place.y || (left + WIDTH) / 8 <= place.eights {
+        n
+    } else {
+        n.min(characters((left / 8).saturating_sub(place.eights), narrow))
+    }
+}
+
+/// How many of the next `n` characters, the first of them at this place, are surely in the frame: 0 where the first may not be.
+#[inline(always)]
+pub(crate) fn inside(left: u16, place: &Place, narrow: bool, n: u16) -> u16
+    requires { (left ≤ 240) × (left % 8 ≡ 0) }
+    ensures most { result ≤ n }
+    ensures along { 0 < result → (left ≤ place.now.x) × (place.now.x + result * wide narrow ≤ left + 640) }
+    ensures down { 0 < result → (40 ≤ place.now.y) × (place.now.y < 296) }
+{
+    if place.y < TOP || TOP + LINES <= place.y || place.eights < left / 8 {
+        0
+    } else {
+        n.min(characters(((left + WIDTH) / 8).saturating_sub(place.eights), narrow))
+    }
+}
+
+// Where the dot at a place in the frame stands there.
+#[inline(always)]
+fn dot_at(left: u16, place: &Place) -> usize
+    requires left { left ≤ 240 }
+    requires along { (left ≤ place.now.x) × (place.now.x ≤ left + 640) }
+    requires down { (40 ≤ place.now.y) × (place.now.y < 296) }
+    ensures { result ≡ 640 * (place.now.y - 40) + (place.now.x - left) }
+{
+    WIDTH as usize * usize::from(place.y - TOP) + usize::from(8 * place.eights - left)
+}
+
 impl Canvas {
     pub(crate) fn make(alloc: Global) -> Result<Canvas, NoMemory>
         ensures { IfOk result (λ p. p ≡ black) }
@@ -66,9 +125,9 @@ impl Canvas {
         }
     }
 
-    // Draws dots that lie in the frame, one beside the other, the first of them at `x` and `y`.
+    /// Draws dots that lie in the frame, one beside the other, the first of them at `x` and `y`.
     #[inline(always)]
-    fn put(&mut self, left: u16, x: u16, y: u16, dots: &[u8])
+    pub(crate) fn put(&mut self, left: u16, x: u16, y: u16, dots: &[u8])
         requires along { (left ≤ x) × (x + length dots.now ≤ left + 640) }
         requires down { (40 ≤ y) × (y < 296) }
         ensures { self.new ≡ dots_set left x y dots.now self.old }
@@ -149,5 +208,44 @@ impl Canvas {
         } else {
             self.draw_sixteen(left, x, place.y, dots);
         }
+    }
+
+    /// Draws the dots of `n` characters side by side, all of which lie in the frame, where the ULA has them ready, and tells whether it has.
+    #[inline(always)]
+    pub(crate) fn draw_row(
+        &mut self,
+        left: u16,
+        place: &Place,
+        ula: &Ula,
+        bytes: &[u8],
+        step: usize,
+        n: u16,
+    ) -> bool
+        requires along { (left ≤ place.now.x) × (place.now.x + n * dots_of ula.now.control ≤ left + 640) }
+        requires down { (40 ≤ place.now.y) × (place.now.y < 296) }
+        requires left { left ≤ 240 }
+        requires bytes { (k : ℕ) → k < n → k * step < length bytes.now }
+        ensures drawn { result ≡ true → self.new ≡ dots_set left place.now.x place.now.y (row_colours ula.now bytes.now step n) self.old }
+        ensures stays { result ≡ false → self.new ≡ self.old }
+    {
+        let at = dot_at(left, place);
+        let count = usize::from(n) * wide(bit(ula.mode(), 4));
+        self.is_clear = false;
+        self.frame
+            .put_row(at, count, ula, bytes, step, usize::from(n))
+    }
+
+    /// Draws `n` characters side by side that are black.
+    #[inline(never)]
+    pub(crate) fn draw_black(&mut self, left: u16, place: &Place, narrow: bool, n: u16)
+        requires along { (left ≤ place.now.x) × (place.now.x + n * wide narrow ≤ left + 640) }
+        requires down { (40 ≤ place.now.y) × (place.now.y < 296) }
+        requires left { left ≤ 240 }
+        ensures { self.new ≡ dots_set left place.now.x place.now.y (replicate (n * wide narrow) 0) self.old }
+    {
+        let at = dot_at(left, place);
+        let count = usize::from(n) * wide(narrow);
+        self.is_clear = false;
+        self.frame.blacken(at, count);
     }
 }

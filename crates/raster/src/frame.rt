@@ -1,10 +1,12 @@
 //! A frame.
-ghost use Rattle.std.specs.Prelude.{◌≡◌, ◌+◌, ◌≤◌, ◌++◌, length, take, drop, IfOk};
+ghost use Rattle.std.specs.Prelude.{ℕ, ◌≡◌, ◌+◌, ◌*◌, ◌<◌, ◌≤◌, ◌++◌, true, false, length, take, drop, replicate, IfOk};
+ghost use Rattle.video_ula.specs.Pixels.{dots_of, row_colours};
 ghost use Rattle.raster.specs.Frame.{black};
 
 use beeb_bits::{NoMemory, zeroed};
 use std::alloc::Global;
 use std::marker::Model;
+use video_ula::Ula;
 
 /// How many dots a frame has: 256 lines of 640.
 const FRAME_SIZE: usize = 163_840;
@@ -60,5 +62,35 @@ impl Frame {
         ensures put { self.new ≡ take at self.old ++ (dots.now ++ drop (at + length dots.now) self.old) }
     {
         self.colours[at..at + dots.len()].copy_from_slice(dots);
+    }
+
+    /// Sets the dots of `n` characters side by side, from `at` on, `count` in all, where the ULA has them ready, and tells whether it has.
+    #[inline(always)]
+    pub(crate) fn put_row(
+        &mut self,
+        at: usize,
+        count: usize,
+        ula: &Ula,
+        bytes: &[u8],
+        step: usize,
+        n: usize,
+    ) -> bool
+        requires within { at + count ≤ FRAME_SIZE }
+        requires room { count ≡ n * dots_of ula.now.control }
+        requires bytes { (k : ℕ) → k < n → k * step < length bytes.now }
+        ensures size { length self.old ≡ FRAME_SIZE }
+        ensures put { result ≡ true → self.new ≡ take at self.old ++ (row_colours ula.now bytes.now step n ++ drop (at + count) self.old) }
+        ensures stays { result ≡ false → self.new ≡ self.old }
+    {
+        ula.row_ready(bytes, step, n, &mut self.colours[at..at + count])
+    }
+
+    /// Makes dots black, `count` of them from `at` on.
+    pub(crate) fn blacken(&mut self, at: usize, count: usize)
+        requires within { at + count ≤ FRAME_SIZE }
+        ensures size { length self.old ≡ FRAME_SIZE }
+        ensures put { self.new ≡ take at self.old ++ (replicate count 0 ++ drop (at + count) self.old) }
+    {
+        self.colours[at..at + count].fill(0);
     }
 }

@@ -1,5 +1,5 @@
 //! The place of the beam.
-ghost use Rattle.std.specs.Prelude.{◌≡◌, ◌+◌, ◌≤◌, ◌==◌, min, if◌then◌else◌};
+ghost use Rattle.std.specs.Prelude.{◌≡◌, ◌+◌, ◌*◌, ◌≤◌, ◌==◌, min, if◌then◌else◌};
 ghost use Rattle.raster.specs.Beam.{place_at, place_past};
 ghost use Rattle.raster.specs.State.{first_place};
 
@@ -44,7 +44,8 @@ impl Place {
     /// The dots since the beginning of horizontal sync, as far as they are counted.
     #[inline(always)]
     pub(crate) fn x(&self) -> u16
-        ensures { result ≡ self.now.x }
+        ensures value { result ≡ self.now.x }
+        ensures bound { result ≤ MOST_DOTS }
     {
         (8 * self.eights).min(MOST_DOTS)
     }
@@ -103,5 +104,15 @@ impl Place {
     {
         let eights = if narrow { 1 } else { 2 };
         self.eights = (self.eights + eights).min(MOST_EIGHTS);
+    }
+
+    /// It leaves `n` characters of 8 or 16 dots.
+    #[inline(always)]
+    pub(crate) fn pass_many(&mut self, narrow: bool, n: u16)
+        ensures { self.new ≡ place_past (n * (if narrow then 8 else 16)) self.old }
+    {
+        let eights = if narrow { 1 } else { 2 };
+        let all = u32::from(self.eights) + eights * u32::from(n);
+        self.eights = all.min(u32::from(MOST_EIGHTS)) as u16;
     }
 }

@@ -1,10 +1,11 @@
 //! The raster, with a short way for where the beam goes down a line and nothing else changes.
-ghost use Rattle.std.specs.Prelude.{◌≡◌, length, IfOk};
+ghost use Rattle.std.specs.Prelude.{◌≡◌, ◌<◌, ◌≤◌, length, IfOk};
 ghost use Rattle.std.specs.Borrow.{sem};
 ghost use Rattle.raster.specs.Beam.{IsScreenSize};
 ghost use Rattle.raster.specs.State.{power_on};
 ghost use Rattle.raster.specs.Lending.{LendsCrtc, LendsUla};
 ghost use Rattle.raster.specs.Clock.{char_clock_leaves, microsecond, microseconds, vsync_of};
+ghost use Rattle.raster.specs.CodeSteps.{char_clocks};
 ghost use Rattle.beeb_bits.specs.Bits.{bit};
 ghost use Rattle.crtc6845.specs.Calm.{StaysInSync as CrtcStaysInSync};
 ghost use Rattle.raster.specs.Reads.{ReadsFrom, StaysInSync};
@@ -141,21 +142,45 @@ impl Raster {
         requires size { IsScreenSize size }
         ensures { self.new ≡ microseconds ram.now size font.now.font n self.old }
     {
-        if self.quiet {
-            self.screen.rest(n);
+        if self.is_fast() {
+            // Two character clocks each.
+            self.char_clocks(ram, size, font, n);
+            self.char_clocks(ram, size, font, n);
         } else {
-            self.advance_by_steps(ram, size, font, n);
+            self.char_clocks(ram, size, font, n);
         }
     }
 
-    // One after the other.
-    fn advance_by_steps(&mut self, ram: &[u8], size: u16, font: &RomSet, n: u64)
+    // Does `n` character clocks, those that are alike at once.
+    fn char_clocks(&mut self, ram: &[u8], size: u16, font: &RomSet, n: u64)
         requires ram { length ram.now ≡ 32768 }
         requires size { IsScreenSize size }
-        ensures { self.new ≡ microseconds ram.now size font.now.font n self.old }
+        ensures { self.new ≡ char_clocks ram.now size font.now.font n self.old }
     {
-        for _ in 0..n {
-            self.step(ram, size, font);
+        let mut left = n;
+        while left > 0 {
+            left -= self.some_clocks(ram, size, font, left);
+        }
+    }
+
+    // Does some of the next `most` character clocks, at least one, and tells how many.
+    #[inline(always)]
+    fn some_clocks(&mut self, ram: &[u8], size: u16, font: &RomSet, most: u64) -> u64
+        requires ram { length ram.now ≡ 32768 }
+        requires size { IsScreenSize size }
+        requires some { 0 < most }
+        ensures some { 0 < result }
+        ensures most { result ≤ most }
+        ensures state { self.new ≡ char_clocks ram.now size font.now.font result self.old }
+    {
+        if self.quiet {
+            self.screen.rest(most);
+            most
+        } else if self.screen.crtc.is_edge() {
+            self.char_clock(ram, size, font);
+            1
+        } else {
+            self.screen.stretch(ram, size, font, most)
         }
     }
 

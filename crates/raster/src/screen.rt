@@ -1,26 +1,27 @@
 //! The picture's chips, and the beam over their frames.
-ghost use Rattle.std.specs.Prelude.{◌≡◌, ◌<◌, ◌≤◌, ◌%◌, min, ℕ, List, false, true, length, map, take, IfOk, if◌then◌else◌};
+ghost use Rattle.std.specs.Prelude.{◌≡◌, ◌<◌, ◌≤◌, ◌+◌, ◌*◌, ◌%◌, min, ℕ, List, false, true, length, map, take, IfOk, if◌then◌else◌};
 ghost use Rattle.beeb_bits.specs.Bits.{bit};
-ghost use Rattle.video_ula.specs.Pixels.{dots_of, under_cursor, colours};
-ghost use Rattle.crtc6845.specs.Clock.{starts_line, ends_line};
+ghost use Rattle.video_ula.specs.Pixels.{dots_of, under_cursor, colours, side_by_side};
+ghost use Rattle.crtc6845.specs.Clock.{starts_line, ends_line, beam_of};
+ghost use Rattle.crtc6845.specs.Spans.{inside_clocks, beam_in_span};
 ghost use Rattle.crtc6845.specs.CodeSteps.{is_quiet};
 ghost use Rattle.crtc6845.specs.Laws.{clocks};
 ghost use Rattle.crtc6845.specs.Rests.{frames_in, clocks_past_frame};
 ghost use Rattle.saa5050.specs.Shapes.{Font};
-ghost use Rattle.raster.specs.Beam.{IsScreenSize};
-ghost use Rattle.raster.specs.Frame.{black};
+ghost use Rattle.raster.specs.Beam.{IsScreenSize, place_past};
+ghost use Rattle.raster.specs.Frame.{black, dots_set};
 ghost use Rattle.raster.specs.State.{power_on, first_cursor};
 ghost use Rattle.raster.specs.CodeQuiet.{IsQuiet};
-ghost use Rattle.raster.specs.CodeSteps.{eight_of, dots_drawn, cell_drawn_on};
+ghost use Rattle.raster.specs.CodeSteps.{eight_of, dots_drawn, cell_drawn_on, char_clocks, drawn_ahead, ArePlain, code_in, texts, cells};
 ghost use Rattle.raster.specs.Clock.{begin_leaves, byte_dots, draw_byte_leaves, cell_dots, draw_cell_leaves, draw_leaves, show_leaves, pass_leaves, tell_leaves, char_clock_leaves, microseconds};
 
-use crate::beam::{Cursor, byte_address};
-use crate::canvas::Canvas;
+use crate::beam::{Cursor, byte_address, bytes_from};
+use crate::canvas::{Canvas, inside, outside};
 use crate::frame::Frame;
 use crate::place::Place;
 use crate::text::Text;
 use beeb_bits::{NoMemory, bit};
-use crtc6845::{Beam, Crtc, clocks_at_rest_are_alike};
+use crtc6845::{Beam, Crtc, Span, clocks_at_rest_are_alike};
 use rom_set::RomSet;
 use std::alloc::Global;
 use std::marker::Model;
@@ -90,6 +91,34 @@ fn mark(dots: &mut [u8; 16], marked: bool)
     let ink = if marked { 7 } else { 0 };
     for i in 0..16 {
         dots[i] ^= ink;
+    }
+}
+
+// Draws teletext cells side by side that are in the frame and that the cursor does not mark.
+#[inline(never)]
+fn draw_cells(
+    text: &mut Text,
+    canvas: &mut Canvas,
+    place: &Place,
+    font: &RomSet,
+    span: Span,
+    bytes: &[u8],
+    step: usize,
+    n: u16,
+)
+    requires along { (208 ≤ place.now.x) × (place.now.x + n * 16 ≤ 848) }
+    requires down { (40 ≤ place.now.y) × (place.now.y < 296) }
+    requires bytes { (k : ℕ) → k < n → k * step < length bytes.now }
+    ensures text { text.new ≡ texts (code_in bytes.now step) n text.old }
+    ensures drawn { let row = cells font.now.font (code_in bytes.now step) span.ra span.fields text.old in
+        canvas.new ≡ dots_set 208 place.now.x place.now.y (side_by_side row n) canvas.old }
+{
+    let x = place.x();
+    for i in 0..n {
+        let code = bytes[usize::from(i) * step] % 128;
+        let mut dots = [0; 16];
+        text.put(font, code, span.ra, span.fields, &mut dots);
+        canvas.put(TEXT_LEFT, x + 16 * i, place.y, &dots);
     }
 }
 
@@ -201,6 +230,172 @@ impl Screen {
     {
         let beam = self.crtc.clock_inside();
         self.tell_inside(ram, size, font, &beam);
+    }
+
+    /// Does character clocks inside a line, at least one and at most `most`, and tells how many.
+    #[inline(always)]
+    pub(crate) fn stretch(&mut self, ram: &[u8], size: u16, font: &RomSet, most: u64) -> u64
+        requires ram { length ram.now ≡ 32768 }
+        requires size { IsScreenSize size }
+        requires start { starts_line self.old.crtc ≡ false }
+        requires end { ends_line self.old.crtc ≡ false }
+        requires some { 0 < most }
+        ensures some { 0 < result }
+        ensures most { result ≤ most }
+        ensures state { self.new ≡ char_clocks ram.now size font.now.font result self.old }
+    {
+        let span = self.crtc.span();
+        let most = most.min(u64::from(span.clocks)) as u16;
+        let n = self.draw_some(ram, size, font, span, most);
+        if n == 0 {
+            self.clock_inside(ram, size, font);
+            return 1;
+        }
+        self.pass_span(n);
+        u64::from(n)
+    }
+
+    // The beam goes past characters of a span.
+    #[inline(always)]
+    fn pass_span(&mut self, n: u16)
+        requires start { starts_line self.old.crtc ≡ false }
+        requires inside { n ≤ inside_clocks self.old.crtc }
+        ensures { self.new ≡ record self.old {
+          crtc = clocks n self.old.crtc;
+          place = place_past (n * dots_of self.old.ula.control) self.old.place;
+        } }
+    {
+        self.place.pass_many(bit(self.ula.mode(), 4), n);
+        self.crtc.pass(n);
+    }
+
+    // The cursor was on none of the last three characters.
+    #[inline(always)]
+    fn is_cursor_far(&self) -> bool
+        ensures far { result ≡ true → self.now.cursor ≡ first_cursor }
+        ensures counted { self.now.place.x ≤ 4095 }
+    {
+        let _x = self.place.x();
+        self.cursor.is_clear()
+    }
+
+    // Draws some of the next characters of a span, at most `n`, and tells how many: 0 where the first is to be done by itself.
+    #[inline(always)]
+    fn draw_some(&mut self, ram: &[u8], size: u16, font: &RomSet, span: Span, n: u16) -> u16
+        requires ram { length ram.now ≡ 32768 }
+        requires size { IsScreenSize size }
+        requires told { (k : ℕ) → k < n → beam_of (clocks k self.old.crtc) ≡ beam_in_span span k }
+        requires page { span.shown ≡ true → span.ma % 1024 + n ≤ 1024 }
+        ensures most { result ≤ n }
+        ensures plain { 0 < result → ArePlain span result self.old }
+        ensures counted { 0 < result → self.old.place.x ≤ 4095 }
+        ensures drawn { self.new ≡ drawn_ahead ram.now size font.now.font result self.old }
+    {
+        if span.cursor || span.sync || !self.is_cursor_far() {
+            return 0;
+        }
+        if !span.shown {
+            return n;
+        }
+        if bit(self.ula.mode(), 1) {
+            self.draw_text(ram, size, font, span, n)
+        } else {
+            self.draw_span(ram, size, span, n)
+        }
+    }
+
+    // Draws some of the next characters of a span that is shown, in teletext.
+    #[inline(always)]
+    fn draw_text(&mut self, ram: &[u8], size: u16, font: &RomSet, span: Span, n: u16) -> u16
+        requires ram { length ram.now ≡ 32768 }
+        requires size { IsScreenSize size }
+        requires plain { ArePlain span n self.old }
+        requires shown { span.shown ≡ true }
+        requires page { span.ma % 1024 + n ≤ 1024 }
+        requires cells { bit self.old.ula.control 1 ≡ true }
+        requires counted { self.old.place.x ≤ 4095 }
+        ensures most { result ≤ n }
+        ensures drawn { self.new ≡ drawn_ahead ram.now size font.now.font result self.old }
+    {
+        if bit(self.ula.mode(), 4) {
+            return 0;
+        }
+        let n = inside(TEXT_LEFT, &self.place, false, n);
+        if n == 0 {
+            return 0;
+        }
+        let bytes = bytes_from(span.ma, span.ra, size, n);
+        draw_cells(
+            &mut self.text,
+            &mut self.working,
+            &self.place,
+            font,
+            span,
+            &ram[bytes.at..],
+            bytes.step,
+            bytes.count,
+        );
+        bytes.count
+    }
+
+    // Draws some of the next characters of a span that is shown, without teletext.
+    #[inline(always)]
+    fn draw_span(&mut self, ram: &[u8], size: u16, span: Span, n: u16) -> u16
+        requires ram { length ram.now ≡ 32768 }
+        requires size { IsScreenSize size }
+        requires plain { ArePlain span n self.old }
+        requires shown { span.shown ≡ true }
+        requires page { span.ma % 1024 + n ≤ 1024 }
+        requires bits { bit self.old.ula.control 1 ≡ false }
+        requires counted { self.old.place.x ≤ 4095 }
+        ensures most { result ≤ n }
+        ensures drawn { (font : Font) → self.new ≡ drawn_ahead ram.now size font result self.old }
+    {
+        let narrow = bit(self.ula.mode(), 4);
+        let away = outside(LEFT, &self.place, narrow, n);
+        if away > 0 {
+            return away;
+        }
+        let n = inside(LEFT, &self.place, narrow, n);
+        if n == 0 {
+            return 0;
+        }
+        if bit(span.ra, 3) {
+            self.working.draw_black(LEFT, &self.place, narrow, n);
+            return n;
+        }
+        self.draw_bytes(ram, size, span, n)
+    }
+
+    // Draws characters that are in the frame, by their bytes: as many as stand before the end of the RAM, or none where the dots are not
+    // ready.
+    #[inline(always)]
+    fn draw_bytes(&mut self, ram: &[u8], size: u16, span: Span, n: u16) -> u16
+        requires ram { length ram.now ≡ 32768 }
+        requires size { IsScreenSize size }
+        requires plain { ArePlain span n self.old }
+        requires shown { span.shown ≡ true }
+        requires page { span.ma % 1024 + n ≤ 1024 }
+        requires bits { bit self.old.ula.control 1 ≡ false }
+        requires dots { bit span.ra 3 ≡ false }
+        requires along { (240 ≤ self.old.place.x) × (self.old.place.x + n * dots_of self.old.ula.control ≤ 880) }
+        requires down { (40 ≤ self.old.place.y) × (self.old.place.y < 296) }
+        ensures most { result ≤ n }
+        ensures drawn { (font : Font) → self.new ≡ drawn_ahead ram.now size font result self.old }
+    {
+        let bytes = bytes_from(span.ma, span.ra, size, n);
+        if self.working.draw_row(
+            LEFT,
+            &self.place,
+            &self.ula,
+            &ram[bytes.at..],
+            bytes.step,
+            bytes.count,
+        ) {
+            bytes.count
+        } else {
+            0
+        }
     }
 
     // The beam goes past a character with which neither a line nor a row nor a frame begins or ends.

@@ -17,4 +17,4 @@ returns-clause-quiet c = λ stays.
     let beam = c.clock_quiet-beam.result in
     settles (the_view c.self.inside) c.pass.new.self c.clock_quiet-beam.new.self beam c.clock_quiet-beam.ensures.told c.clock_quiet-beam.ensures.rest
     (c.pass.ensures ∙ ap (pass_leaves beam) c.begin.ensures) (c.stays_at.ensures.clock stays) (c.stays_at.ensures.far stays)
-    (c.stays_at.ensures.back stays ∙ c.x-before.ensures)
+    (c.stays_at.ensures.back stays ∙ c.x-before.ensures.value)
