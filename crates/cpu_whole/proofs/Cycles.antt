@@ -39,50 +39,50 @@ on part op row r f c b h n =
     ∙ ap (λ c. behind r op (f ++ shown_byte c b ∷ [])) n
 
 -- the cycles that follow are those of the definition
-pub carried : {M : Type 0} → (g : Reach M) (part : Part) (op : ℕ) (row : Row) (r : Regs) → row_at part op ≡ Some row
+pub carried : {M : Type 0} → (g : Reach M) (t : ℕ) (part : Part) (op : ℕ) (row : Row) (r : Regs) → row_at part op ≡ Some row
     → (k : ℕ) (f : List (Option ℕ)) (m : M) (last : List (Option ℕ)) (there : M)
-    → Follows g (λ f. next_cycle part (behind r op f)) k f m last there → Carried g part k (behind r op f) m (behind r op last) there
-carried g part op row r h zero f m last there done = (ap (behind r op) done.0, done.1)
-carried {M} g part op row r h (suc k) f m last there done =
-    by (carried g part op row r h k) (next_cycle part (behind r op f)) refl done
+    → Follows g t (λ f. next_cycle part (behind r op f)) k f m last there → Carried g t part k (behind r op f) m (behind r op last) there
+carried g t part op row r h zero f m last there done = (ap (behind r op) done.0, done.1)
+carried {M} g t part op row r h (suc k) f m last there done =
+    by (carried g t part op row r h k) (next_cycle part (behind r op f)) refl done
   where
     by : ((f : List (Option ℕ)) (m : M) (last : List (Option ℕ)) (there : M)
-        → Follows g (λ f. next_cycle part (behind r op f)) k f m last there → Carried g part k (behind r op f) m (behind r op last) there)
+        → Follows g t (λ f. next_cycle part (behind r op f)) k f m last there → Carried g t part k (behind r op f) m (behind r op last) there)
         → (o : Option Cycle) → next_cycle part (behind r op f) ≡ o
-        → MatchOption o ⊥ (λ c. (is_plain g c ≡ true) × Follows g (λ f. next_cycle part (behind r op f)) k (f ++ shown_byte (Some c) (shows g m c) ∷ []) (leaves g m (suc (length f)) c) last there)
-        → MatchOption o ⊥ (λ c. (is_plain g c ≡ true) × Carried g part k (after_byte part (behind r op f) (shows g m c)) (leaves g m (suc (length f)) c) (behind r op last) there)
+        → MatchOption o ⊥ (λ c. (is_plain g c ≡ true) × Follows g t (λ f. next_cycle part (behind r op f)) k (f ++ shown_byte (Some c) (shows g m c) ∷ []) (leaves g t m (suc (length f)) c) last there)
+        → MatchOption o ⊥ (λ c. (is_plain g c ≡ true) × Carried g t part k (after_byte part (behind r op f) (shows g m c)) (leaves g t m (suc (length f)) c) (behind r op last) there)
     by rest None is done = done
     by rest (Some c) is done = (
       done.0,
-      subst (λ (s : State). Carried g part k s (leaves g m (suc (length f)) c) (behind r op last) there) (sym (on part op row r f c (shows g m c) h is))
-          (rest (f ++ shown_byte (Some c) (shows g m c) ∷ []) (leaves g m (suc (length f)) c) last there done.1),
+      subst (λ (s : State). Carried g t part k s (leaves g t m (suc (length f)) c) (behind r op last) there) (sym (on part op row r f c (shows g m c) h is))
+          (rest (f ++ shown_byte (Some c) (shows g m c) ∷ []) (leaves g t m (suc (length f)) c) last there done.1),
     )
 
 -- and those of any equal function
-pub along : {M : Type 0} → (g : Reach M) (next other : List (Option ℕ) → Option Cycle) → ((f : List (Option ℕ)) → next f ≡ other f)
-    → (k : ℕ) (f : List (Option ℕ)) (m : M) (last : List (Option ℕ)) (there : M) → Follows g other k f m last there → Follows g next k f m last there
-along g next other same zero f m last there done = done
-along {M} g next other same (suc k) f m last there done = subst there_by (sym (same f)) (by (along g next other same k) (other f) done)
+pub along : {M : Type 0} → (g : Reach M) (t : ℕ) (next other : List (Option ℕ) → Option Cycle) → ((f : List (Option ℕ)) → next f ≡ other f)
+    → (k : ℕ) (f : List (Option ℕ)) (m : M) (last : List (Option ℕ)) (there : M) → Follows g t other k f m last there → Follows g t next k f m last there
+along g t next other same zero f m last there done = done
+along {M} g t next other same (suc k) f m last there done = subst there_by (sym (same f)) (by (along g t next other same k) (other f) done)
   where
     there_by : Option Cycle → Type 0
-    there_by o = MatchOption o ⊥ (λ c. (is_plain g c ≡ true) × Follows g next k (f ++ shown_byte (Some c) (shows g m c) ∷ []) (leaves g m (suc (length f)) c) last there)
+    there_by o = MatchOption o ⊥ (λ c. (is_plain g c ≡ true) × Follows g t next k (f ++ shown_byte (Some c) (shows g m c) ∷ []) (leaves g t m (suc (length f)) c) last there)
 
-    by : ((f : List (Option ℕ)) (m : M) (last : List (Option ℕ)) (there : M) → Follows g other k f m last there → Follows g next k f m last there)
-        → (o : Option Cycle) → MatchOption o ⊥ (λ c. (is_plain g c ≡ true) × Follows g other k (f ++ shown_byte (Some c) (shows g m c) ∷ []) (leaves g m (suc (length f)) c) last there)
-        → MatchOption o ⊥ (λ c. (is_plain g c ≡ true) × Follows g next k (f ++ shown_byte (Some c) (shows g m c) ∷ []) (leaves g m (suc (length f)) c) last there)
+    by : ((f : List (Option ℕ)) (m : M) (last : List (Option ℕ)) (there : M) → Follows g t other k f m last there → Follows g t next k f m last there)
+        → (o : Option Cycle) → MatchOption o ⊥ (λ c. (is_plain g c ≡ true) × Follows g t other k (f ++ shown_byte (Some c) (shows g m c) ∷ []) (leaves g t m (suc (length f)) c) last there)
+        → MatchOption o ⊥ (λ c. (is_plain g c ≡ true) × Follows g t next k (f ++ shown_byte (Some c) (shows g m c) ∷ []) (leaves g t m (suc (length f)) c) last there)
     by rest None done = done
-    by rest (Some c) done = (done.0, rest (f ++ shown_byte (Some c) (shows g m c) ∷ []) (leaves g m (suc (length f)) c) last there done.1)
+    by rest (Some c) done = (done.0, rest (f ++ shown_byte (Some c) (shows g m c) ∷ []) (leaves g t m (suc (length f)) c) last there done.1)
 
 -- the opcode's cycle before them
-pub from_fetch : {M : Type 0} → (g : Reach M) (part : Part) (row : Row) (r : Regs) (m : M) → g.reads r.pc ≡ true → row_at part (g.byte m r.pc) ≡ Some row
+pub from_fetch : {M : Type 0} → (g : Reach M) (t : ℕ) (part : Part) (row : Row) (r : Regs) (m : M) → g.reads r.pc ≡ true → row_at part (g.byte m r.pc) ≡ Some row
     → (next : List (Option ℕ) → Option Cycle) → ((f : List (Option ℕ)) → slice_get (form part (bus_use row.mnemonic) row r (Some (g.byte m r.pc) ∷ f)) (length f) ≡ next f)
-    → (k : ℕ) (last : List (Option ℕ)) (there : M) → Follows g next k [] m last there
-    → Carried g part (suc k) (fresh Instruction r) m (behind r (g.byte m r.pc) last) there
-from_fetch {M} g part row r m p decoded next same k last there done = (
+    → (k : ℕ) (last : List (Option ℕ)) (there : M) → Follows g t next k [] m last there
+    → Carried g t part (suc k) (fresh Instruction r) m (behind r (g.byte m r.pc) last) there
+from_fetch {M} g t part row r m p decoded next same k last there done = (
   p,
-  subst (λ (s : State). Carried g part k s m (behind r (g.byte m r.pc) last) there) (sym (begun part))
-      (carried g part (g.byte m r.pc) row r decoded k [] m last there
-      (along g (λ f. next_cycle part (behind r (g.byte m r.pc) f)) next (λ f. next-row part (g.byte m r.pc) row r f decoded ∙ same f) k [] m last there done)),
+  subst (λ (s : State). Carried g t part k s m (behind r (g.byte m r.pc) last) there) (sym (begun part))
+      (carried g t part (g.byte m r.pc) row r decoded k [] m last there
+      (along g t (λ f. next_cycle part (behind r (g.byte m r.pc) f)) next (λ f. next-row part (g.byte m r.pc) row r f decoded ∙ same f) k [] m last there done)),
 )
   where
     begun : (part : Part) → after_byte part (fresh Instruction r) (g.byte m r.pc) ≡ behind r (g.byte m r.pc) []

@@ -24,27 +24,27 @@ use Rattle.cpu_whole.proofs.Cycles.{behind, next-row, from_fetch}
 use Rattle.cpu_whole.proofs.Operations.{after-row, counted, step}
 use Rattle.cpu_whole.proofs.Masks.{modify_kept, implied_kept, pull_kept}
 
-module _ {M : Type 0} (g : Reach M) (part : Part) (row : Row) (r : Regs) (m : M) (p : g.reads r.pc ≡ true) (decoded : row_at part (g.byte m r.pc) ≡ Some row) where
+module _ {M : Type 0} (g : Reach M) (t : ℕ) (part : Part) (row : Row) (r : Regs) (m : M) (p : g.reads r.pc ≡ true) (decoded : row_at part (g.byte m r.pc) ≡ Some row) where
   abbrev code : ℕ
   code = g.byte m r.pc
 
   -- by the list of its accesses behind that of the opcode
   by_list : (uses : BusUse) → bus_use row.mnemonic ≡ uses → (list : List (Option ℕ) → List Cycle) → ((f : List (Option ℕ)) → form part uses row r (Some code ∷ f) ≡ list f)
-      → (k : ℕ) (last : List (Option ℕ)) (there : M) → Follows g (λ f. slice_get (list f) (length f)) k [] m last there → slice_get (list last) (length last) ≡ None
-      → (k2 : ℕ) (new : Regs) → k2 ≡ suc k → new ≡ after_row part uses row r (Some code ∷ last) → has_flag new.p INTERRUPT ≡ has_flag r.p INTERRUPT → IsDone part g r m k2 new there
+      → (k : ℕ) (last : List (Option ℕ)) (there : M) → Follows g t (λ f. slice_get (list f) (length f)) k [] m last there → slice_get (list last) (length last) ≡ None
+      → (k2 : ℕ) (new : Regs) → k2 ≡ suc k → new ≡ after_row part uses row r (Some code ∷ last) → has_flag new.p INTERRUPT ≡ has_flag r.p INTERRUPT → IsDone part g t r m k2 new there
   by_list uses is_use list forms k last there follows past k2 new count is kept =
       let same : (f : List (Option ℕ)) → slice_get (form part (bus_use row.mnemonic) row r (Some code ∷ f)) (length f) ≡ slice_get (list f) (length f) = λ f.
       ap (λ u. slice_get (form part u row r (Some code ∷ f)) (length f)) is_use ∙ ap (λ l. slice_get l (length f)) (forms f) in
       record {
         last = behind r code last;
-        carried = counted g part r m (suc k) k2 last code there (sym count) (from_fetch g part row r m p decoded (λ f. slice_get (list f) (length f)) same k last there follows);
+        carried = counted g t part r m (suc k) k2 last code there (sym count) (from_fetch g t part row r m p decoded (λ f. slice_get (list f) (length f)) same k last there follows);
         over = next-row part code row r last decoded ∙ same last ∙ past;
-        regs = after-row g part row r code uses last decoded is_use ∙ sym is;
+        regs = after-row g t part row r code uses last decoded is_use ∙ sym is;
         masks = kept;
       }
 
   pub implied : bus_use row.mnemonic ≡ Implied → row.mode ≢ Spare → moves_i row.mnemonic ≡ false → g.reads (place r 1) ≡ true
-      → (new : Regs) → new ≡ implied_result row.mnemonic (with_pc_past r row.bytes) → IsDone part g r m 2 new m
+      → (new : Regs) → new ≡ implied_result row.mnemonic (with_pc_past r row.bytes) → IsDone part g t r m 2 new m
   implied uses apart fixed q new is =
       by_list Implied uses (λ f. Read (place r 1) ∷ []) (λ f. by row.mode apart) 1 (Some (g.byte m (place r 1)) ∷ []) m (q, (refl, refl)) refl 2 new refl is
       (ap (λ (q : Regs). has_flag q.p INTERRUPT) is ∙ implied_kept row.mnemonic (with_pc_past r row.bytes) fixed)
@@ -54,7 +54,7 @@ module _ {M : Type 0} (g : Reach M) (part : Part) (row : Row) (r : Regs) (m : M)
       by _ h = refl
 
   pub accumulator : (always : Bool) → IsModifying part row always → row.mode ≡ Acc → g.reads (place r 1) ≡ true
-      → (new : Regs) (x : ℕ) → new ≡ modify_result row.mnemonic Acc (with_pc_past r row.bytes) x → IsDone part g r m 2 new m
+      → (new : Regs) (x : ℕ) → new ≡ modify_result row.mnemonic Acc (with_pc_past r row.bytes) x → IsDone part g t r m 2 new m
   accumulator always uses acc q new x is =
       let last : List (Option ℕ) = Some (g.byte m (place r 1)) ∷ [] in
       by_list (bus_use row.mnemonic) refl (λ f. Read (place r 1) ∷ []) (λ f. uses.forms r (Some code ∷ f) ∙ ap (λ way. modify_form part row way always r (Some code ∷ f)) acc) 1 last m (q, (refl, refl)) refl 2 new refl
@@ -63,7 +63,7 @@ module _ {M : Type 0} (g : Reach M) (part : Part) (row : Row) (r : Regs) (m : M)
 
   -- a branch that is not taken
   pub branch_past : bus_use row.mnemonic ≡ Branches → takes_branch row.mnemonic r ≡ false → g.reads (place r 1) ≡ true
-      → (new : Regs) → new ≡ record r { pc = place r 2 } → IsDone part g r m 2 new m
+      → (new : Regs) → new ≡ record r { pc = place r 2 } → IsDone part g t r m 2 new m
   branch_past uses taken q new is =
       let last : List (Option ℕ) = Some (g.byte m (place r 1)) ∷ [] in
       by_list Branches uses (λ f. Read (place r 1) ∷ []) (λ f. ap (λ b. branch_form part b r (Some code ∷ f)) taken) 1 last m (q, (refl, refl)) refl 2 new refl
@@ -73,7 +73,7 @@ module _ {M : Type 0} (g : Reach M) (part : Part) (row : Row) (r : Regs) (m : M)
   -- one that is, in the page and into another
   pub branch_taken : bus_use row.mnemonic ≡ Branches → takes_branch row.mnemonic r ≡ true → g.reads (place r 1) ≡ true
       → g.reads (idle part (place r 2) (place r 1)) ≡ true → eqb (target r (g.byte m (place r 1)) / 256) (place r 2 / 256) ≡ true
-      → (new : Regs) → new ≡ record r { pc = target r (g.byte m (place r 1)) } → IsDone part g r m 3 new m
+      → (new : Regs) → new ≡ record r { pc = target r (g.byte m (place r 1)) } → IsDone part g t r m 3 new m
   branch_taken uses taken q i near new is =
       let at : ℕ = idle part (place r 2) (place r 1) in
       let last : List (Option ℕ) = Some (g.byte m (place r 1)) ∷ Some (g.byte m at) ∷ [] in
@@ -87,7 +87,7 @@ module _ {M : Type 0} (g : Reach M) (part : Part) (row : Row) (r : Regs) (m : M)
   pub branch_crossed : bus_use row.mnemonic ≡ Branches → takes_branch row.mnemonic r ≡ true → g.reads (place r 1) ≡ true
       → g.reads (idle part (place r 2) (place r 1)) ≡ true → eqb (target r (g.byte m (place r 1)) / 256) (place r 2 / 256) ≡ false
       → g.reads (idle part (with_low (place r 2) (target r (g.byte m (place r 1)))) (place r 1)) ≡ true
-      → (new : Regs) → new ≡ record r { pc = target r (g.byte m (place r 1)) } → IsDone part g r m 4 new m
+      → (new : Regs) → new ≡ record r { pc = target r (g.byte m (place r 1)) } → IsDone part g t r m 4 new m
   branch_crossed uses taken q i far j new is =
       let at : ℕ = idle part (place r 2) (place r 1) in
       let at2 : ℕ = idle part (with_low (place r 2) (target r (g.byte m (place r 1)))) (place r 1) in
@@ -95,16 +95,16 @@ module _ {M : Type 0} (g : Reach M) (part : Part) (row : Row) (r : Regs) (m : M)
       let to : List (Option ℕ) → ℕ = λ f. target r (byte (Some code ∷ f) 1) in
       let list : List (Option ℕ) → List Cycle = λ f. Read (place r 1) ∷ Read at ∷ cond (eqb (to f / 256) (place r 2 / 256)) [] (Read (idle part (with_low (place r 2) (to f)) (place r 1)) ∷ []) in
       let next : List (Option ℕ) → Option Cycle = λ f. slice_get (list f) (length f) in
-      let ends : Follows g next 1 (Some (g.byte m (place r 1)) ∷ Some (g.byte m at) ∷ []) m last m =
+      let ends : Follows g t next 1 (Some (g.byte m (place r 1)) ∷ Some (g.byte m at) ∷ []) m last m =
       subst (λ (b : Bool). MatchOption (slice_get (Read (place r 1) ∷ Read at ∷ cond b [] (Read at2 ∷ [])) 2) ⊥
-      (λ c. (is_plain g c ≡ true) × Follows g next 0 ((Some (g.byte m (place r 1)) ∷ Some (g.byte m at) ∷ []) ++ shown_byte (Some c) (shows g m c) ∷ []) (leaves g m 3 c) last m)) (sym far) (j, (refl, refl)) in
+      (λ c. (is_plain g c ≡ true) × Follows g t next 0 ((Some (g.byte m (place r 1)) ∷ Some (g.byte m at) ∷ []) ++ shown_byte (Some c) (shows g m c) ∷ []) (leaves g t m 3 c) last m)) (sym far) (j, (refl, refl)) in
       by_list Branches uses list (λ f. ap (λ b. branch_form part b r (Some code ∷ f)) taken) 3 last m (q, (i, ends))
       (ap (λ b. slice_get (Read (place r 1) ∷ Read at ∷ cond b [] (Read at2 ∷ [])) 3) far) 4 new refl
       (is ∙ ap (λ (b : Bool). record r { pc = cond b (target r (byte (Some code ∷ last) 1)) (place r 2) }) (sym taken))
       (ap (λ (q : Regs). has_flag q.p INTERRUPT) is)
 
   pub jumped : bus_use row.mnemonic ≡ Jumps → row.mode ≡ Abs → g.reads (place r 1) ≡ true → g.reads (place r 2) ≡ true
-      → (new : Regs) → new ≡ record r { pc = word (g.byte m (place r 1)) (g.byte m (place r 2)) } → IsDone part g r m 3 new m
+      → (new : Regs) → new ≡ record r { pc = word (g.byte m (place r 1)) (g.byte m (place r 2)) } → IsDone part g t r m 3 new m
   jumped uses way q s new is =
       let last : List (Option ℕ) = Some (g.byte m (place r 1)) ∷ Some (g.byte m (place r 2)) ∷ [] in
       by_list Jumps uses (λ f. Read (place r 1) ∷ Read (place r 2) ∷ []) (λ f. ap (λ w. jump_form part w r (Some code ∷ f)) way) 2 last m (q, (s, (refl, refl))) refl 3 new refl
@@ -113,22 +113,22 @@ module _ {M : Type 0} (g : Reach M) (part : Part) (row : Row) (r : Regs) (m : M)
 
   -- JSR
   pub called : IsPlain g → bus_use row.mnemonic ≡ Calls → g.reads (place r 1) ≡ true → g.reads (place r 2) ≡ true
-      → (new : Regs) (there : M) → there ≡ g.put (g.put m 3 (stack r 0) (place r 2 / 256)) 4 (stack r 255) (place r 2 % 256)
-      → new ≡ record (with_stack_moved r 254) { pc = word (g.byte m (place r 1)) (g.byte there (place r 2)) } → IsDone part g r m 6 new there
+      → (new : Regs) (there : M) → there ≡ g.put (g.put m t 3 (stack r 0) (place r 2 / 256)) t 4 (stack r 255) (place r 2 % 256)
+      → new ≡ record (with_stack_moved r 254) { pc = word (g.byte m (place r 1)) (g.byte there (place r 2)) } → IsDone part g t r m 6 new there
   called lawful uses q s new there put is =
-      let m2 : M = g.put (g.put m 3 (stack r 0) (place r 2 / 256)) 4 (stack r 255) (place r 2 % 256) in
+      let m2 : M = g.put (g.put m t 3 (stack r 0) (place r 2 / 256)) t 4 (stack r 255) (place r 2 % 256) in
       let last : List (Option ℕ) = Some (g.byte m (place r 1)) ∷ Some (g.byte m (stack r 0)) ∷ None ∷ None ∷ Some (g.byte m2 (place r 2)) ∷ [] in
       let list : List (Option ℕ) → List Cycle = λ f. Read (place r 1) ∷ Read (stack r 0) ∷ Write (stack r 0) (place r 2 / 256) ∷ Write (stack r 255) (place r 2 % 256) ∷ Read (place r 2) ∷ [] in
       let low0 : stack r 0 < 512 = omega arith in
       let low1 : stack r 255 < 512 = omega arith in
       by_list Calls uses list (λ f. refl) 5 last there
       (q, (lawful.low_read (stack r 0) low0, (lawful.low_written (stack r 0) low0, (lawful.low_written (stack r 255) low1, (s, (refl, sym put)))))) refl 6 new refl
-      (is ∙ ap (λ (t : M). record (with_stack_moved r 254) { pc = word (g.byte m (place r 1)) (g.byte t (place r 2)) }) put)
+      (is ∙ ap (λ (s : M). record (with_stack_moved r 254) { pc = word (g.byte m (place r 1)) (g.byte s (place r 2)) }) put)
       (ap (λ (q : Regs). has_flag q.p INTERRUPT) is)
 
   -- RTS
   pub returned : IsPlain g → bus_use row.mnemonic ≡ Returns → g.reads (place r 1) ≡ true → g.reads (word (g.byte m (stack r 1)) (g.byte m (stack r 2))) ≡ true
-      → (new : Regs) → new ≡ record (with_stack_moved r 2) { pc = wrap (word (g.byte m (stack r 1)) (g.byte m (stack r 2)) + 1) } → IsDone part g r m 6 new m
+      → (new : Regs) → new ≡ record (with_stack_moved r 2) { pc = wrap (word (g.byte m (stack r 1)) (g.byte m (stack r 2)) + 1) } → IsDone part g t r m 6 new m
   returned lawful uses q s new is =
       let to : ℕ = word (g.byte m (stack r 1)) (g.byte m (stack r 2)) in
       let last : List (Option ℕ) = Some (g.byte m (place r 1)) ∷ Some (g.byte m (stack r 0)) ∷ Some (g.byte m (stack r 1)) ∷ Some (g.byte m (stack r 2)) ∷ Some (g.byte m to) ∷ [] in
@@ -139,7 +139,7 @@ module _ {M : Type 0} (g : Reach M) (part : Part) (row : Row) (r : Regs) (m : M)
       (ap (λ (q : Regs). has_flag q.p INTERRUPT) is)
 
   pub pushed : IsPlain g → bus_use row.mnemonic ≡ Pushes → g.reads (place r 1) ≡ true
-      → (new : Regs) (there : M) → there ≡ g.put m 2 (stack r 0) (pushed_value row.mnemonic r) → new ≡ with_stack_moved (with_pc_past r row.bytes) 255 → IsDone part g r m 3 new there
+      → (new : Regs) (there : M) → there ≡ g.put m t 2 (stack r 0) (pushed_value row.mnemonic r) → new ≡ with_stack_moved (with_pc_past r row.bytes) 255 → IsDone part g t r m 3 new there
   pushed lawful uses q new there put is =
       let last : List (Option ℕ) = Some (g.byte m (place r 1)) ∷ None ∷ [] in
       by_list Pushes uses (λ f. Read (place r 1) ∷ Write (stack r 0) (pushed_value row.mnemonic r) ∷ []) (λ f. refl) 2 last there
@@ -147,7 +147,7 @@ module _ {M : Type 0} (g : Reach M) (part : Part) (row : Row) (r : Regs) (m : M)
       (ap (λ (q : Regs). has_flag q.p INTERRUPT) is)
 
   pub pulled : IsPlain g → bus_use row.mnemonic ≡ Pulls → pulls_flags row.mnemonic ≡ false → g.reads (place r 1) ≡ true
-      → (new : Regs) → new ≡ pull_result row.mnemonic (with_stack_moved (with_pc_past r row.bytes) 1) (g.byte m (stack r 1)) → IsDone part g r m 4 new m
+      → (new : Regs) → new ≡ pull_result row.mnemonic (with_stack_moved (with_pc_past r row.bytes) 1) (g.byte m (stack r 1)) → IsDone part g t r m 4 new m
   pulled lawful uses fixed q new is =
       let last : List (Option ℕ) = Some (g.byte m (place r 1)) ∷ Some (g.byte m (stack r 0)) ∷ Some (g.byte m (stack r 1)) ∷ [] in
       let low : (k : ℕ) → g.reads (stack r k) ≡ true = λ k. lawful.low_read (stack r k) (omega arith) in
@@ -156,7 +156,7 @@ module _ {M : Type 0} (g : Reach M) (part : Part) (row : Row) (r : Regs) (m : M)
       (ap (λ (q : Regs). has_flag q.p INTERRUPT) is ∙ pull_kept row.mnemonic (with_stack_moved (with_pc_past r row.bytes) 1) (g.byte m (stack r 1)) fixed)
 
 -- JMP through a pointer
-module _ {M : Type 0} (g : Reach M) (row : Row) (r : Regs) (m : M) (p : g.reads r.pc ≡ true) where
+module _ {M : Type 0} (g : Reach M) (t : ℕ) (row : Row) (r : Regs) (m : M) (p : g.reads r.pc ≡ true) where
   abbrev first_byte : ℕ
   first_byte = g.byte m (place r 1)
 
@@ -165,7 +165,7 @@ module _ {M : Type 0} (g : Reach M) (row : Row) (r : Regs) (m : M) (p : g.reads 
 
   through_nmos : (at : ℕ) → row_at Nmos (g.byte m r.pc) ≡ Some row → bus_use row.mnemonic ≡ Jumps → IsPointer Nmos row.mode g r m at
       → g.reads (place r 1) ≡ true → g.reads (place r 2) ≡ true → g.reads at ≡ true → g.reads (second Nmos at) ≡ true
-      → (new : Regs) → new ≡ record r { pc = word (g.byte m at) (g.byte m (second Nmos at)) } → IsDone Nmos g r m 5 new m
+      → (new : Regs) → new ≡ record r { pc = word (g.byte m at) (g.byte m (second Nmos at)) } → IsDone Nmos g t r m 5 new m
   through_nmos at decoded uses there q s a b new is =
       let op : ℕ = g.byte m r.pc in
       let seen : List (Option ℕ) = Some first_byte ∷ Some second_byte ∷ [] in
@@ -174,16 +174,16 @@ module _ {M : Type 0} (g : Reach M) (row : Row) (r : Regs) (m : M) (p : g.reads 
       let next : List (Option ℕ) → Option Cycle = λ f. slice_get (list f) (length f) in
       let low : next seen ≡ Some (Read at) = ap (λ (k : ℕ). Some (Read k)) (there.found []) in
       let high : next (seen ++ Some (g.byte m at) ∷ []) ≡ Some (Read (second Nmos at)) = ap (λ (k : ℕ). Some (Read (second Nmos k))) (there.found (Some (g.byte m at) ∷ [])) in
-      let ends : Follows g next 2 seen m last m =
-      step g next 1 seen m (Read at) (seen ++ Some (g.byte m at) ∷ []) m last m low a refl refl
-      (step g next 0 (seen ++ Some (g.byte m at) ∷ []) m (Read (second Nmos at)) last m last m high b refl refl (refl, refl)) in
-      by_list g Nmos row r m p decoded Jumps uses list (λ f. there.forms (Some op ∷ f)) 4 last m (q, (s, ends)) refl 5 new refl
+      let ends : Follows g t next 2 seen m last m =
+      step g t next 1 seen m (Read at) (seen ++ Some (g.byte m at) ∷ []) m last m low a refl refl
+      (step g t next 0 (seen ++ Some (g.byte m at) ∷ []) m (Read (second Nmos at)) last m last m high b refl refl (refl, refl)) in
+      by_list g t Nmos row r m p decoded Jumps uses list (λ f. there.forms (Some op ∷ f)) 4 last m (q, (s, ends)) refl 5 new refl
       (is ∙ ap (λ k. record r { pc = k }) (sym (there.targets (Some op ∷ last))))
       (ap (λ (q : Regs). has_flag q.p INTERRUPT) is)
 
   through_cmos : (at : ℕ) → row_at Cmos (g.byte m r.pc) ≡ Some row → bus_use row.mnemonic ≡ Jumps → IsPointer Cmos row.mode g r m at
       → g.reads (place r 1) ≡ true → g.reads (place r 2) ≡ true → g.reads at ≡ true → g.reads (second Cmos at) ≡ true
-      → (new : Regs) → new ≡ record r { pc = word (g.byte m at) (g.byte m (second Cmos at)) } → IsDone Cmos g r m 6 new m
+      → (new : Regs) → new ≡ record r { pc = word (g.byte m at) (g.byte m (second Cmos at)) } → IsDone Cmos g t r m 6 new m
   through_cmos at decoded uses there q s a b new is =
       let op : ℕ = g.byte m r.pc in
       let seen : List (Option ℕ) = Some first_byte ∷ Some second_byte ∷ Some second_byte ∷ [] in
@@ -193,18 +193,18 @@ module _ {M : Type 0} (g : Reach M) (row : Row) (r : Regs) (m : M) (p : g.reads 
       let low : next seen ≡ Some (Read at) = ap (λ (k : ℕ). Some (Read k)) (there.found (Some second_byte ∷ [])) in
       let high : next (seen ++ Some (g.byte m at) ∷ []) ≡ Some (Read (second Cmos at)) =
       ap (λ (k : ℕ). Some (Read (second Cmos k))) (there.found (Some second_byte ∷ Some (g.byte m at) ∷ [])) in
-      let ends : Follows g next 2 seen m last m =
-      step g next 1 seen m (Read at) (seen ++ Some (g.byte m at) ∷ []) m last m low a refl refl
-      (step g next 0 (seen ++ Some (g.byte m at) ∷ []) m (Read (second Cmos at)) last m last m high b refl refl (refl, refl)) in
-      by_list g Cmos row r m p decoded Jumps uses list (λ f. there.forms (Some op ∷ f)) 5 last m (q, (s, (s, ends))) refl 6 new refl
+      let ends : Follows g t next 2 seen m last m =
+      step g t next 1 seen m (Read at) (seen ++ Some (g.byte m at) ∷ []) m last m low a refl refl
+      (step g t next 0 (seen ++ Some (g.byte m at) ∷ []) m (Read (second Cmos at)) last m last m high b refl refl (refl, refl)) in
+      by_list g t Cmos row r m p decoded Jumps uses list (λ f. there.forms (Some op ∷ f)) 5 last m (q, (s, (s, ends))) refl 6 new refl
       (is ∙ ap (λ k. record r { pc = k }) (sym (there.targets (Some op ∷ last))))
       (ap (λ (q : Regs). has_flag q.p INTERRUPT) is)
 
   pub jumped_through : (part : Part) (at : ℕ) → row_at part (g.byte m r.pc) ≡ Some row → bus_use row.mnemonic ≡ Jumps → IsPointer part row.mode g r m at
       → g.reads (place r 1) ≡ true → g.reads (place r 2) ≡ true → g.reads at ≡ true → g.reads (second part at) ≡ true
-      → (k : ℕ) (new : Regs) → k ≡ by_part part 5 6 → new ≡ record r { pc = word (g.byte m at) (g.byte m (second part at)) } → IsDone part g r m k new m
-  jumped_through Nmos at decoded uses there q s a b k new count is = subst (λ (j : ℕ). IsDone Nmos g r m j new m) (sym count) (through_nmos at decoded uses there q s a b new is)
-  jumped_through Cmos at decoded uses there q s a b k new count is = subst (λ (j : ℕ). IsDone Cmos g r m j new m) (sym count) (through_cmos at decoded uses there q s a b new is)
+      → (k : ℕ) (new : Regs) → k ≡ by_part part 5 6 → new ≡ record r { pc = word (g.byte m at) (g.byte m (second part at)) } → IsDone part g t r m k new m
+  jumped_through Nmos at decoded uses there q s a b k new count is = subst (λ (j : ℕ). IsDone Nmos g t r m j new m) (sym count) (through_nmos at decoded uses there q s a b new is)
+  jumped_through Cmos at decoded uses there q s a b k new count is = subst (λ (j : ℕ). IsDone Cmos g t r m j new m) (sym count) (through_cmos at decoded uses there q s a b new is)
 
 -- the pointers
 pub pointer_absolute : {M : Type 0} → (g : Reach M) (part : Part) (way : Mode) (r : Regs) (m : M) (at : ℕ) → way ≡ Ind

@@ -13,7 +13,7 @@ use Rattle.cpu_core.specs.Sequences.{shown_byte}
 use Rattle.cpu_whole.specs.Whole.{Reach, is_plain, shows, leaves}
 use Rattle.cpu_whole.specs.CodeWays.{Follows, IsReached, on_the_way, is_beside}
 
-module _ {M : Type 0} (g : Reach M) (part : Part) (always : Bool) (r : Regs) (m : M) where
+module _ {M : Type 0} (g : Reach M) (t : ℕ) (part : Part) (always : Bool) (r : Regs) (m : M) where
   -- the first bytes of the instruction
   abbrev op : ℕ
   op = g.byte m r.pc
@@ -24,7 +24,7 @@ module _ {M : Type 0} (g : Reach M) (part : Part) (always : Bool) (r : Regs) (m 
   abbrev two : ℕ
   two = g.byte m (place r 2)
 
-  pub immediate : (way : Mode) → is_beside way ≡ true → IsReached part g way always r m (place r 1) 1
+  pub immediate : (way : Mode) → is_beside way ≡ true → IsReached part g t way always r m (place r 1) 1
   immediate Imp h = record { seen = []; count = refl; found = λ f. refl; steps = λ f. refl; goes = λ tail k last there rest. rest }
   immediate Acc h = record { seen = []; count = refl; found = λ f. refl; steps = λ f. refl; goes = λ tail k last there rest. rest }
   immediate Imm h = record { seen = []; count = refl; found = λ f. refl; steps = λ f. refl; goes = λ tail k last there rest. rest }
@@ -34,7 +34,7 @@ module _ {M : Type 0} (g : Reach M) (part : Part) (always : Bool) (r : Regs) (m 
   immediate Spare h = record { seen = []; count = refl; found = λ f. refl; steps = λ f. refl; goes = λ tail k last there rest. rest }
   immediate _ h = cc
 
-  pub zero_page : g.reads (place r 1) ≡ true → IsReached part g Zp always r m one 2
+  pub zero_page : g.reads (place r 1) ≡ true → IsReached part g t Zp always r m one 2
   zero_page p = record {
     seen = Some one ∷ [];
     count = refl;
@@ -43,7 +43,7 @@ module _ {M : Type 0} (g : Reach M) (part : Part) (always : Bool) (r : Regs) (m 
     goes = λ tail k last there rest. (p, rest);
   }
 
-  pub absolute : g.reads (place r 1) ≡ true → g.reads (place r 2) ≡ true → IsReached part g Abs always r m (word one two) 3
+  pub absolute : g.reads (place r 1) ≡ true → g.reads (place r 2) ≡ true → IsReached part g t Abs always r m (word one two) 3
   absolute p q = record {
     seen = Some one ∷ Some two ∷ [];
     count = refl;
@@ -52,7 +52,7 @@ module _ {M : Type 0} (g : Reach M) (part : Part) (always : Bool) (r : Regs) (m 
     goes = λ tail k last there rest. (p, (q, rest));
   }
 
-  pub zero_page_x : g.reads (place r 1) ≡ true → g.reads (idle part one (place r 1)) ≡ true → IsReached part g ZpX always r m ((one + r.x) % 256) 3
+  pub zero_page_x : g.reads (place r 1) ≡ true → g.reads (idle part one (place r 1)) ≡ true → IsReached part g t ZpX always r m ((one + r.x) % 256) 3
   zero_page_x p q = record {
     seen = Some one ∷ Some (g.byte m (idle part one (place r 1))) ∷ [];
     count = refl;
@@ -61,7 +61,7 @@ module _ {M : Type 0} (g : Reach M) (part : Part) (always : Bool) (r : Regs) (m 
     goes = λ tail k last there rest. (p, (q, rest));
   }
 
-  pub zero_page_y : g.reads (place r 1) ≡ true → g.reads (idle part one (place r 1)) ≡ true → IsReached part g ZpY always r m ((one + r.y) % 256) 3
+  pub zero_page_y : g.reads (place r 1) ≡ true → g.reads (idle part one (place r 1)) ≡ true → IsReached part g t ZpY always r m ((one + r.y) % 256) 3
   zero_page_y p q = record {
     seen = Some one ∷ Some (g.byte m (idle part one (place r 1))) ∷ [];
     count = refl;
@@ -71,7 +71,7 @@ module _ {M : Type 0} (g : Reach M) (part : Part) (always : Bool) (r : Regs) (m 
   }
 
   pub pointer : g.reads (place r 1) ≡ true → g.reads one ≡ true → g.reads ((one + 1) % 256) ≡ true
-      → IsReached part g IndZp always r m (word (g.byte m one) (g.byte m ((one + 1) % 256))) 4
+      → IsReached part g t IndZp always r m (word (g.byte m one) (g.byte m ((one + 1) % 256))) 4
   pointer p q s = record {
     seen = Some one ∷ Some (g.byte m one) ∷ Some (g.byte m ((one + 1) % 256)) ∷ [];
     count = refl;
@@ -81,7 +81,7 @@ module _ {M : Type 0} (g : Reach M) (part : Part) (always : Bool) (r : Regs) (m 
   }
 
   pub pointer_x : g.reads (place r 1) ≡ true → g.reads (idle part one (place r 1)) ≡ true → g.reads ((one + r.x) % 256) ≡ true → g.reads ((one + r.x + 1) % 256) ≡ true
-      → IsReached part g IndX always r m (word (g.byte m ((one + r.x) % 256)) (g.byte m ((one + r.x + 1) % 256))) 5
+      → IsReached part g t IndX always r m (word (g.byte m ((one + r.x) % 256)) (g.byte m ((one + r.x + 1) % 256))) 5
   pointer_x p i q s = record {
     seen = Some one ∷ Some (g.byte m (idle part one (place r 1))) ∷ Some (g.byte m ((one + r.x) % 256)) ∷ Some (g.byte m ((one + r.x + 1) % 256)) ∷ [];
     count = refl;
@@ -91,23 +91,23 @@ module _ {M : Type 0} (g : Reach M) (part : Part) (always : Bool) (r : Regs) (m 
   }
 
   -- the same address and number of cycles
-  pub reached_as : (way : Mode) (at n at2 n2 : ℕ) → at ≡ at2 → n ≡ n2 → IsReached part g way always r m at n → IsReached part g way always r m at2 n2
-  reached_as way at n at2 n2 a b h = subst (λ k. IsReached part g way always r m at2 k) b (subst (λ k. IsReached part g way always r m k n) a h)
+  pub reached_as : (way : Mode) (at n at2 n2 : ℕ) → at ≡ at2 → n ≡ n2 → IsReached part g t way always r m at n → IsReached part g t way always r m at2 n2
+  reached_as way at n at2 n2 a b h = subst (λ k. IsReached part g t way always r m at2 k) b (subst (λ k. IsReached part g t way always r m k n) a h)
 
   -- the cycle for a carry, where there is one
   carry : (way : Mode) (b : Bool) (at : ℕ) (tail : List (Option ℕ) → List Cycle) (k : ℕ) (f last : List (Option ℕ)) (there : M) → b ≡ true → g.reads at ≡ true
-      → Follows g (on_the_way part way always r op tail) k (f ++ Some (g.byte m at) ∷ []) m last there
+      → Follows g t (on_the_way part way always r op tail) k (f ++ Some (g.byte m at) ∷ []) m last there
       → MatchOption (slice_get (cond b (Read at ∷ []) [] ++ tail f) 0) ⊥ (λ c. (is_plain g c ≡ true)
-      × Follows g (on_the_way part way always r op tail) k (f ++ shown_byte (Some c) (shows g m c) ∷ []) (leaves g m (suc (length f)) c) last there)
+      × Follows g t (on_the_way part way always r op tail) k (f ++ shown_byte (Some c) (shows g m c) ∷ []) (leaves g t m (suc (length f)) c) last there)
   carry way b at tail k f last there is p rest =
       subst (λ (b : Bool). MatchOption (slice_get (cond b (Read at ∷ []) [] ++ tail f) 0) ⊥ (λ c. (is_plain g c ≡ true)
-      × Follows g (on_the_way part way always r op tail) k (f ++ shown_byte (Some c) (shows g m c) ∷ []) (leaves g m (suc (length f)) c) last there)) (sym is) (p, rest)
+      × Follows g t (on_the_way part way always r op tail) k (f ++ shown_byte (Some c) (shows g m c) ∷ []) (leaves g t m (suc (length f)) c) last there)) (sym is) (p, rest)
 
   waited : (b c : Bool) (at n : ℕ) → b ≡ c → n + length (cond b (Read at ∷ []) []) ≡ n + length (cond c (Read at ∷ []) [])
   waited b c at n h = ap (λ b. n + length (cond b (Read at ∷ []) [])) h
 
   pub absolute_x : (c : Bool) → (always || crosses_page one r.x) ≡ c → g.reads (place r 1) ≡ true → g.reads (place r 2) ≡ true
-      → (c ≡ true → g.reads (idle part (in_page one two r.x) (place r 2)) ≡ true) → IsReached part g AbsX always r m (wrap (word one two + r.x)) (cond c 4 3)
+      → (c ≡ true → g.reads (idle part (in_page one two r.x) (place r 2)) ≡ true) → IsReached part g t AbsX always r m (wrap (word one two + r.x)) (cond c 4 3)
   absolute_x true h p q i =
       let at : ℕ = idle part (in_page one two r.x) (place r 2) in
       record {
@@ -128,7 +128,7 @@ module _ {M : Type 0} (g : Reach M) (part : Part) (always : Bool) (r : Regs) (m 
       }
 
   pub absolute_y : (c : Bool) → (always || crosses_page one r.y) ≡ c → g.reads (place r 1) ≡ true → g.reads (place r 2) ≡ true
-      → (c ≡ true → g.reads (idle part (in_page one two r.y) (place r 2)) ≡ true) → IsReached part g AbsY always r m (wrap (word one two + r.y)) (cond c 4 3)
+      → (c ≡ true → g.reads (idle part (in_page one two r.y) (place r 2)) ≡ true) → IsReached part g t AbsY always r m (wrap (word one two + r.y)) (cond c 4 3)
   absolute_y true h p q i =
       let at : ℕ = idle part (in_page one two r.y) (place r 2) in
       record {
@@ -156,7 +156,7 @@ module _ {M : Type 0} (g : Reach M) (part : Part) (always : Bool) (r : Regs) (m 
   high = g.byte m ((one + 1) % 256)
 
   pub pointer_y : (c : Bool) → (always || crosses_page low r.y) ≡ c → g.reads (place r 1) ≡ true → g.reads one ≡ true → g.reads ((one + 1) % 256) ≡ true
-      → (c ≡ true → g.reads (idle part (in_page low high r.y) (place r 1)) ≡ true) → IsReached part g IndY always r m (wrap (word low high + r.y)) (cond c 5 4)
+      → (c ≡ true → g.reads (idle part (in_page low high r.y) (place r 1)) ≡ true) → IsReached part g t IndY always r m (wrap (word low high + r.y)) (cond c 5 4)
   pointer_y true h p q s i =
       let at : ℕ = idle part (in_page low high r.y) (place r 1) in
       record {

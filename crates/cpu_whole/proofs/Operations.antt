@@ -24,16 +24,16 @@ use Rattle.cpu_whole.specs.CodeWays.{Follows, IsReached, IsModifying, is_modifyi
 use Rattle.cpu_whole.proofs.Cycles.{behind, next-row, from_fetch, more_by-suc, byte-seam, beyond}
 use Rattle.cpu_whole.proofs.Masks.{read_kept, modify_kept}
 
-module _ {M : Type 0} (g : Reach M) where
+module _ {M : Type 0} (g : Reach M) (t : ℕ) where
   -- one cycle before others
   pub step : (next : List (Option ℕ) → Option Cycle) (k : ℕ) (f : List (Option ℕ)) (m : M) (c : Cycle) (f2 : List (Option ℕ)) (m2 : M) (last : List (Option ℕ)) (there : M)
-      → next f ≡ Some c → is_plain g c ≡ true → f ++ shown_byte (Some c) (shows g m c) ∷ [] ≡ f2 → leaves g m (suc (length f)) c ≡ m2
-      → Follows g next k f2 m2 last there → Follows g next (suc k) f m last there
+      → next f ≡ Some c → is_plain g c ≡ true → f ++ shown_byte (Some c) (shows g m c) ∷ [] ≡ f2 → leaves g t m (suc (length f)) c ≡ m2
+      → Follows g t next k f2 m2 last there → Follows g t next (suc k) f m last there
   step next k f m c f2 m2 last there is plain shown left rest =
-      subst (λ o. MatchOption o ⊥ (λ c. (is_plain g c ≡ true) × Follows g next k (f ++ shown_byte (Some c) (shows g m c) ∷ []) (leaves g m (suc (length f)) c) last there)) (sym is)
-      (plain, subst (λ (l : List (Option ℕ)). Follows g next k l (leaves g m (suc (length f)) c) last there) (sym shown) (subst (λ (n : M). Follows g next k f2 n last there) (sym left) rest))
+      subst (λ o. MatchOption o ⊥ (λ c. (is_plain g c ≡ true) × Follows g t next k (f ++ shown_byte (Some c) (shows g m c) ∷ []) (leaves g t m (suc (length f)) c) last there)) (sym is)
+      (plain, subst (λ (l : List (Option ℕ)). Follows g t next k l (leaves g t m (suc (length f)) c) last there) (sym shown) (subst (λ (n : M). Follows g t next k f2 n last there) (sym left) rest))
 
-  module _ (part : Part) (way : Mode) (always : Bool) (r : Regs) (m : M) (at n : ℕ) (reached : IsReached part g way always r m at n) where
+  module _ (part : Part) (way : Mode) (always : Bool) (r : Regs) (m : M) (at n : ℕ) (reached : IsReached part g t way always r m at n) where
     abbrev op : ℕ
     op = g.byte m r.pc
 
@@ -62,10 +62,10 @@ module _ {M : Type 0} (g : Reach M) where
 
   -- so many cycles
   pub counted : (part : Part) (r : Regs) (m : M) (k k2 : ℕ) (last : List (Option ℕ)) (op : ℕ) (there : M) → k ≡ k2
-      → Carried g part k (fresh Instruction r) m (behind r op last) there
-      → Carried g part k2 (fresh Instruction r) m (behind r op last) there
+      → Carried g t part k (fresh Instruction r) m (behind r op last) there
+      → Carried g t part k2 (fresh Instruction r) m (behind r op last) there
   counted part r m k k2 last op there h done =
-      subst (λ (j : ℕ). Carried g part j (fresh Instruction r) m (behind r op last) there) h done
+      subst (λ (j : ℕ). Carried g t part j (fresh Instruction r) m (behind r op last) there) h done
 
   module _ (part : Part) (row : Row) (r : Regs) (m : M) (at n : ℕ) (p : g.reads r.pc ≡ true) (decoded : row_at part (g.byte m r.pc) ≡ Some row) where
     abbrev code : ℕ
@@ -79,8 +79,8 @@ module _ {M : Type 0} (g : Reach M) where
         by Cmos = binary
 
     -- it is read
-    pub loaded : bus_use row.mnemonic ≡ Reads → is_decimal row.mnemonic r ≡ false → IsReached part g row.mode (waits part Reads) r m at n → g.reads at ≡ true
-        → (k : ℕ) (new : Regs) → k ≡ n + 1 → new ≡ read_result part row.mnemonic row.mode (with_pc_past r row.bytes) (g.byte m at) → IsDone part g r m k new m
+    pub loaded : bus_use row.mnemonic ≡ Reads → is_decimal row.mnemonic r ≡ false → IsReached part g t row.mode (waits part Reads) r m at n → g.reads at ≡ true
+        → (k : ℕ) (new : Regs) → k ≡ n + 1 → new ≡ read_result part row.mnemonic row.mode (with_pc_past r row.bytes) (g.byte m at) → IsDone part g t r m k new m
     loaded uses binary reached plain k new count is =
         let always : Bool = waits part Reads in
         let x : ℕ = g.byte m at in
@@ -92,7 +92,7 @@ module _ {M : Type 0} (g : Reach M) where
         ∙ ap (λ b. slice_get (reach part row.mode always r (Some code ∷ f) ++ Read (address row.mode r (Some code ∷ f)) ∷ cond b (Read (last_place row.mode r) ∷ []) []) (length f)) (not_longer binary) in
         let here : next reached.seen ≡ Some (Read at) = next-first part row.mode always r m at n reached tail ∙ ap (λ a. Some (Read a)) (found-first part row.mode always r m at n reached) in
         let follows = step next 0 reached.seen m (Read at) last m last m here plain refl refl (refl, refl) in
-        let all = from_fetch g part row r m p decoded next same (more_by reached.seen 1) last m (reached.goes tail 1 last m follows) in
+        let all = from_fetch g t part row r m p decoded next same (more_by reached.seen 1) last m (reached.goes tail 1 last m follows) in
         record {
           last = behind r code last;
           carried = counted part r m (suc (more_by reached.seen 1)) k last code m (omega (arith, more_by-suc reached.seen 1, reached.count, count)) all;
@@ -102,8 +102,8 @@ module _ {M : Type 0} (g : Reach M) where
         }
 
     -- it is written
-    pub stored : bus_use row.mnemonic ≡ Stores → IsReached part g row.mode (waits part Stores) r m at n → g.writes at ≡ true
-        → (k : ℕ) (new : Regs) (there : M) → k ≡ n + 1 → new ≡ with_pc_past r row.bytes → there ≡ g.put m n at (stored_value row.mnemonic r) → IsDone part g r m k new there
+    pub stored : bus_use row.mnemonic ≡ Stores → IsReached part g t row.mode (waits part Stores) r m at n → g.writes at ≡ true
+        → (k : ℕ) (new : Regs) (there : M) → k ≡ n + 1 → new ≡ with_pc_past r row.bytes → there ≡ g.put m t n at (stored_value row.mnemonic r) → IsDone part g t r m k new there
     stored uses reached plain k new there count is put =
         let always : Bool = waits part Stores in
         let v : ℕ = stored_value row.mnemonic r in
@@ -113,9 +113,9 @@ module _ {M : Type 0} (g : Reach M) where
         let same : (f : List (Option ℕ)) → slice_get (form part (bus_use row.mnemonic) row r (Some code ∷ f)) (length f) ≡ next f = λ f.
         ap (λ u. slice_get (form part u row r (Some code ∷ f)) (length f)) uses in
         let here : next reached.seen ≡ Some (Write at v) = next-first part row.mode always r m at n reached tail ∙ ap (λ a. Some (Write a v)) (found-first part row.mode always r m at n reached) in
-        let left : g.put m (suc (length reached.seen)) at v ≡ there = ap (λ (j : ℕ). g.put m j at v) (sym reached.count) ∙ sym put in
+        let left : g.put m t (suc (length reached.seen)) at v ≡ there = ap (λ (j : ℕ). g.put m t j at v) (sym reached.count) ∙ sym put in
         let follows = step next 0 reached.seen m (Write at v) last there last there here plain refl left (refl, refl) in
-        let all = from_fetch g part row r m p decoded next same (more_by reached.seen 1) last there (reached.goes tail 1 last there follows) in
+        let all = from_fetch g t part row r m p decoded next same (more_by reached.seen 1) last there (reached.goes tail 1 last there follows) in
         record {
           last = behind r code last;
           carried = counted part r m (suc (more_by reached.seen 1)) k last code there (omega (arith, more_by-suc reached.seen 1, reached.count, count)) all;
@@ -134,9 +134,9 @@ module _ {M : Type 0} (g : Reach M) where
     in_memory _ always f h = refl
 
     -- it is read and written back
-    pub changed : IsPlain g → (always : Bool) → IsModifying part row always → row.mode ≢ Acc → IsReached part g row.mode always r m at n → g.reads at ≡ true → g.writes at ≡ true
+    pub changed : IsPlain g → (always : Bool) → IsModifying part row always → row.mode ≢ Acc → IsReached part g t row.mode always r m at n → g.reads at ≡ true → g.writes at ≡ true
         → (k : ℕ) (new : Regs) (there : M) → k ≡ n + 3 → new ≡ modify_result row.mnemonic row.mode (with_pc_past r row.bytes) (g.byte m at)
-        → there ≡ g.put m (n + 2) at (modified_value row.mnemonic r (g.byte m at)) → IsDone part g r m k new there
+        → there ≡ g.put m t (n + 2) at (modified_value row.mnemonic r (g.byte m at)) → IsDone part g t r m k new there
     changed lawful always uses apart reached read written k new there count is put =
         let x : ℕ = g.byte m at in
         let v : ℕ = modified_value row.mnemonic r x in
@@ -144,7 +144,7 @@ module _ {M : Type 0} (g : Reach M) where
         let y : Option ℕ = shown_byte (Some between) (shows g m between) in
         let seen : List (Option ℕ) = reached.seen in
         let last : List (Option ℕ) = seen ++ Some x ∷ y ∷ None ∷ [] in
-        let m1 : M = leaves g m (n + 1) between in
+        let m1 : M = leaves g t m (n + 1) between in
         let tail : List (Option ℕ) → List Cycle = λ f. Read (address row.mode r (Some code ∷ f))
         ∷ cycle_between part (address row.mode r (Some code ∷ f)) (operand part row.mode always r (Some code ∷ f))
         ∷ Write (address row.mode r (Some code ∷ f)) (modified_value row.mnemonic r (operand part row.mode always r (Some code ∷ f))) ∷ [] in
@@ -164,12 +164,12 @@ module _ {M : Type 0} (g : Reach M) where
         next-there part row.mode always r m at n reached tail (Some x ∷ y ∷ None ∷ []) 3 refl ∙ ap (λ l. slice_get l 3) (there_tail (y ∷ None ∷ [])) in
         let at1 : suc (length (seen ++ Some x ∷ [])) ≡ n + 1 = omega (arith, reached.count, length-append seen (Some x ∷ [])) in
         let at2 : suc (length (seen ++ Some x ∷ y ∷ [])) ≡ n + 2 = omega (arith, reached.count, length-append seen (Some x ∷ y ∷ [])) in
-        let left : g.put m1 (suc (length (seen ++ Some x ∷ y ∷ []))) at v ≡ there = ap (λ (j : ℕ). g.put m1 j at v) at2 ∙ over_old part ∙ sym put in
-        let follows : Follows g next 3 seen m last there =
+        let left : g.put m1 t (suc (length (seen ++ Some x ∷ y ∷ []))) at v ≡ there = ap (λ (j : ℕ). g.put m1 t j at v) at2 ∙ over_old part ∙ sym put in
+        let follows : Follows g t next 3 seen m last there =
         step next 2 seen m (Read at) (seen ++ Some x ∷ []) m last there here read refl refl
-        (step next 1 (seen ++ Some x ∷ []) m between (seen ++ Some x ∷ y ∷ []) m1 last there here1 (plain_between part) (append_assoc seen (Some x ∷ []) (y ∷ [])) (ap (λ (j : ℕ). leaves g m j between) at1)
+        (step next 1 (seen ++ Some x ∷ []) m between (seen ++ Some x ∷ y ∷ []) m1 last there here1 (plain_between part) (append_assoc seen (Some x ∷ []) (y ∷ [])) (ap (λ (j : ℕ). leaves g t m j between) at1)
         (step next 0 (seen ++ Some x ∷ y ∷ []) m1 (Write at v) last there last there here2 written (append_assoc seen (Some x ∷ y ∷ []) (None ∷ [])) left (refl, refl))) in
-        let all = from_fetch g part row r m p decoded next same (more_by seen 3) last there (reached.goes tail 3 last there follows) in
+        let all = from_fetch g t part row r m p decoded next same (more_by seen 3) last there (reached.goes tail 3 last there follows) in
         record {
           last = behind r code last;
           carried = counted part r m (suc (more_by seen 3)) k last code there (omega (arith, more_by-suc seen 3, reached.count, count)) all;
@@ -185,10 +185,10 @@ module _ {M : Type 0} (g : Reach M) where
         two : suc (n + 1) ≡ n + 2
         two = omega arith
 
-        over_old : (part : Part) → g.put (leaves g m (n + 1) (cycle_between part at (g.byte m at))) (n + 2) at (modified_value row.mnemonic r (g.byte m at)) ≡ g.put m (n + 2) at (modified_value row.mnemonic r (g.byte m at))
+        over_old : (part : Part) → g.put (leaves g t m (n + 1) (cycle_between part at (g.byte m at))) t (n + 2) at (modified_value row.mnemonic r (g.byte m at)) ≡ g.put m t (n + 2) at (modified_value row.mnemonic r (g.byte m at))
         over_old Nmos =
             let v : ℕ = modified_value row.mnemonic r (g.byte m at) in
-            ap (λ (j : ℕ). g.put (g.put m (n + 1) at (g.byte m at)) j at v) (sym two) ∙ lawful.again m (n + 1) at v ∙ ap (λ (j : ℕ). g.put m j at v) two
+            ap (λ (j : ℕ). g.put (g.put m t (n + 1) at (g.byte m at)) t j at v) (sym two) ∙ lawful.again m t (n + 1) at v ∙ ap (λ (j : ℕ). g.put m t j at v) two
         over_old Cmos = refl
 
 -- which forms take their cycle for a carry always

@@ -19,10 +19,10 @@ use Rattle.cpu_core.specs.Sequences.{shown_byte}
 use Rattle.cpu_whole.specs.Whole.{Reach, is_plain, shows, leaves}
 
 -- so many cycles behind the opcode's, each the access that is next after what those before it showed
-abbrev pub Follows : {M : Type 0} → Reach M → (List (Option ℕ) → Option Cycle) → ℕ → List (Option ℕ) → M → List (Option ℕ) → M → Type 0
-Follows g next zero seen m last there = (seen ≡ last) × (m ≡ there)
-Follows g next (suc k) seen m last there =
-    MatchOption (next seen) ⊥ (λ c. (is_plain g c ≡ true) × Follows g next k (seen ++ shown_byte (Some c) (shows g m c) ∷ []) (leaves g m (suc (length seen)) c) last there)
+abbrev pub Follows : {M : Type 0} → Reach M → ℕ → (List (Option ℕ) → Option Cycle) → ℕ → List (Option ℕ) → M → List (Option ℕ) → M → Type 0
+Follows g t next zero seen m last there = (seen ≡ last) × (m ≡ there)
+Follows g t next (suc k) seen m last there =
+    MatchOption (next seen) ⊥ (λ c. (is_plain g c ≡ true) × Follows g t next k (seen ++ shown_byte (Some c) (shows g m c) ∷ []) (leaves g t m (suc (length seen)) c) last there)
 
 -- as many more as a list has elements
 abbrev pub more_by : List (Option ℕ) → ℕ → ℕ
@@ -34,14 +34,14 @@ abbrev pub on_the_way : Part → Mode → Bool → Regs → ℕ → (List (Optio
 on_the_way part way always r op tail f = slice_get (reach part way always r (Some op ∷ f) ++ tail f) (length f)
 
 -- The cycles before the operand's are plain: n, the opcode's among them. at is the operand's address. Whatever follows goes on from there.
-pub record IsReached (part : Part) {M : Type 0} (g : Reach M) (way : Mode) (always : Bool) (r : Regs) (m : M) (at n : ℕ) : Type 0 where
+pub record IsReached (part : Part) {M : Type 0} (g : Reach M) (t : ℕ) (way : Mode) (always : Bool) (r : Regs) (m : M) (at n : ℕ) : Type 0 where
   pub seen : List (Option ℕ)
   pub count : n ≡ suc (length seen)
   pub found : (f : List (Option ℕ)) → address way r (Some (g.byte m r.pc) ∷ seen ++ f) ≡ at
   pub steps : (f : List (Option ℕ)) → length (reach part way always r (Some (g.byte m r.pc) ∷ seen ++ f)) ≡ length seen
   pub goes : (tail : List (Option ℕ) → List Cycle) (k : ℕ) (last : List (Option ℕ)) (there : M)
-      → Follows g (on_the_way part way always r (g.byte m r.pc) tail) k seen m last there
-      → Follows g (on_the_way part way always r (g.byte m r.pc) tail) (more_by seen k) [] m last there
+      → Follows g t (on_the_way part way always r (g.byte m r.pc) tail) k seen m last there
+      → Follows g t (on_the_way part way always r (g.byte m r.pc) tail) (more_by seen k) [] m last there
 
 -- whether a mode has no address of its operand
 abbrev pub is_beside : Mode → Bool

@@ -18,15 +18,15 @@ pub record Reach (M : Type 0) : Type 0 where
   pub writes : ℕ → Bool
   -- the byte that a read shows
   pub byte : M → ℕ → ℕ
-  -- the memory after a write, in this cycle of an instruction whose first is cycle 0, to an address, of a byte
-  pub put : M → ℕ → ℕ → ℕ → M
+  -- the memory after a write by an instruction that begins at a tick, in this cycle of it, its first being cycle 0, to an address, of a byte
+  pub put : M → ℕ → ℕ → ℕ → ℕ → M
 
 -- What holds of it: the zero page and the stack are plain, and a byte that is written back as it was leaves no trace when the next cycle
 -- writes another one there.
 pub record IsPlain {M : Type 0} (g : Reach M) : Type 0 where
   pub low_read : (at : ℕ) → at < 512 → g.reads at ≡ true
   pub low_written : (at : ℕ) → at < 512 → g.writes at ≡ true
-  pub again : (m : M) (n at byte : ℕ) → g.put (g.put m n at (g.byte m at)) (suc n) at byte ≡ g.put m (suc n) at byte
+  pub again : (m : M) (t n at byte : ℕ) → g.put (g.put m t n at (g.byte m at)) t (suc n) at byte ≡ g.put m t (suc n) at byte
 
 -- the three bytes from an address on are read as plain memory
 pub record AreRead {M : Type 0} (g : Reach M) (pc : ℕ) : Type 0 where
@@ -45,22 +45,24 @@ module _ {M : Type 0} (g : Reach M) where
   shows m (Read at) = g.byte m at
   shows m (Write at byte) = 0
 
-  -- the memory after it, in cycle n of the instruction
+-- an instruction that begins at tick t
+module _ {M : Type 0} (g : Reach M) (t : ℕ) where
+  -- the memory after an access in its cycle n
   abbrev pub leaves : M → ℕ → Cycle → M
   leaves m n (Read at) = m
-  leaves m n (Write at byte) = g.put m n at byte
+  leaves m n (Write at byte) = g.put m t n at byte
 
   -- So many cycles, one after another, each the next access of the definition and plain, lead from a processor and a memory to others.
   abbrev pub Carried : Part → ℕ → State → M → State → M → Type 0
   Carried part zero s m last there = (s ≡ last) × (m ≡ there)
   Carried part (suc k) s m last there =
-      MatchOption (next_cycle part s) ⊥ (λ c. (is_plain c ≡ true) × Carried part k (after_byte part s (shows m c)) (leaves m (length s.seen) c) last there)
+      MatchOption (next_cycle part s) ⊥ (λ c. (is_plain g c ≡ true) × Carried part k (after_byte part s (shows g m c)) (leaves m (length s.seen) c) last there)
 
--- An instruction from registers r and memory m on is over after so many cycles, all of them plain, and leaves these registers and this memory. The
+-- An instruction that begins at tick t, from registers r and memory m on, is over after so many cycles, all of them plain, and leaves these registers and this memory. The
 -- flag I is as before, so that what it held back during the instruction stays held back behind it.
-pub record IsDone (part : Part) {M : Type 0} (g : Reach M) (r : Regs) (m : M) (cycles : ℕ) (new : Regs) (there : M) : Type 0 where
+pub record IsDone (part : Part) {M : Type 0} (g : Reach M) (t : ℕ) (r : Regs) (m : M) (cycles : ℕ) (new : Regs) (there : M) : Type 0 where
   pub last : State
-  pub carried : Carried g part cycles (fresh Instruction r) m last there
+  pub carried : Carried g t part cycles (fresh Instruction r) m last there
   pub over : next_cycle part last ≡ None
   pub regs : after part last ≡ new
   pub masks : has_flag new.p INTERRUPT ≡ has_flag r.p INTERRUPT

@@ -1,5 +1,5 @@
 //! The instructions without an operand in memory.
-ghost use Rattle.std.specs.Prelude.{ℕ, ◌≡◌, ◌≢◌, ◌<◌, ◌≤◌, ◌+◌, ◌/◌, ◌*◌, ◌%◌, Some, true};
+ghost use Rattle.std.specs.Prelude.{ℕ, ◌≡◌, ◌≢◌, ◌<◌, ◌≤◌, ◌+◌, ◌/◌, ◌*◌, ◌%◌, ◌^◌, Some, true};
 ghost use Rattle.cpu_alu.specs.Addresses.{place};
 ghost use Rattle.cpu_alu.specs.Instructions.{bus_use, takes_branch};
 ghost use Rattle.cpu_core.specs.Accesses.{row_at, second};
@@ -38,11 +38,11 @@ fn pulls_flags(mnemonic: Mnemonic) -> bool
 
 /// An instruction without an operand.
 #[inline(always)]
-pub(crate) fn implied<M: Plain>(part: Part, row: Row, r: &mut Regs, memory: &M) -> u64
+pub(crate) fn implied<N, M: Plain<N>>(part: Part, row: Row, r: &mut Regs, memory: &M) -> u64
     requires runs { AreRead M.reach r.old.pc }
     requires row { row_at part ((M.reach).byte (M.state memory.now) r.old.pc) ≡ Some row }
     requires uses { bus_use row.mnemonic ≡ BusUse.Implied }
-    ensures done { 0 < result → IsDone part M.reach r.old (M.state memory.now) result r.new (M.state memory.now) }
+    ensures done { (t : ℕ) → 0 < result → IsDone part M.reach t r.old (M.state memory.now) result r.new (M.state memory.now) }
     ensures still { result ≡ 0 → r.new ≡ r.old }
     ensures few { result ≤ 8 }
 {
@@ -61,7 +61,7 @@ pub(crate) fn implied<M: Plain>(part: Part, row: Row, r: &mut Regs, memory: &M) 
 
 /// A shift, INC or DEC of A.
 #[inline(always)]
-pub(crate) fn accumulator<M: Plain>(
+pub(crate) fn accumulator<N, M: Plain<N>>(
     part: Part,
     row: Row,
     always: bool,
@@ -72,7 +72,7 @@ pub(crate) fn accumulator<M: Plain>(
     requires row { row_at part ((M.reach).byte (M.state memory.now) r.old.pc) ≡ Some row }
     requires uses { IsModifying part row always }
     requires mode { row.mode ≡ Mode.Acc }
-    ensures done { IsDone part M.reach r.old (M.state memory.now) result r.new (M.state memory.now) }
+    ensures done { (t : ℕ) → IsDone part M.reach t r.old (M.state memory.now) result r.new (M.state memory.now) }
     ensures some { 0 < result }
     ensures few { result ≤ 8 }
 {
@@ -83,13 +83,13 @@ pub(crate) fn accumulator<M: Plain>(
 
 /// A branch that is taken.
 #[inline(always)]
-fn branch_on<M: Plain>(part: Part, row: Row, r: &mut Regs, memory: &M, first: u8) -> u64
+fn branch_on<N, M: Plain<N>>(part: Part, row: Row, r: &mut Regs, memory: &M, first: u8) -> u64
     requires runs { AreRead M.reach r.old.pc }
     requires first { first ≡ (M.reach).byte (M.state memory.now) (place r.old 1) }
     requires row { row_at part ((M.reach).byte (M.state memory.now) r.old.pc) ≡ Some row }
     requires uses { bus_use row.mnemonic ≡ BusUse.Branches }
     requires taken { takes_branch row.mnemonic r.old ≡ true }
-    ensures done { 0 < result → IsDone part M.reach r.old (M.state memory.now) result r.new (M.state memory.now) }
+    ensures done { (t : ℕ) → 0 < result → IsDone part M.reach t r.old (M.state memory.now) result r.new (M.state memory.now) }
     ensures still { result ≡ 0 → r.new ≡ r.old }
     ensures few { result ≤ 8 }
 {
@@ -99,7 +99,7 @@ fn branch_on<M: Plain>(part: Part, row: Row, r: &mut Regs, memory: &M, first: u8
         r.pc = to;
         return 3;
     }
-    if !idles::<M>(part, memory, next / 256 * 256 + to % 256) {
+    if !idles::<N, M>(part, memory, next / 256 * 256 + to % 256) {
         return 0;
     }
     r.pc = to;
@@ -108,17 +108,23 @@ fn branch_on<M: Plain>(part: Part, row: Row, r: &mut Regs, memory: &M, first: u8
 
 /// A branch.
 #[inline(always)]
-pub(crate) fn branch<M: Plain>(part: Part, row: Row, r: &mut Regs, memory: &M, first: u8) -> u64
+pub(crate) fn branch<N, M: Plain<N>>(
+    part: Part,
+    row: Row,
+    r: &mut Regs,
+    memory: &M,
+    first: u8,
+) -> u64
     requires runs { AreRead M.reach r.old.pc }
     requires first { first ≡ (M.reach).byte (M.state memory.now) (place r.old 1) }
     requires row { row_at part ((M.reach).byte (M.state memory.now) r.old.pc) ≡ Some row }
     requires uses { bus_use row.mnemonic ≡ BusUse.Branches }
-    ensures done { 0 < result → IsDone part M.reach r.old (M.state memory.now) result r.new (M.state memory.now) }
+    ensures done { (t : ℕ) → 0 < result → IsDone part M.reach t r.old (M.state memory.now) result r.new (M.state memory.now) }
     ensures still { result ≡ 0 → r.new ≡ r.old }
     ensures few { result ≤ 8 }
 {
     if r.takes(row.mnemonic) {
-        return branch_on::<M>(part, row, r, memory, first);
+        return branch_on::<N, M>(part, row, r, memory, first);
     }
     r.move_past(2);
     2
@@ -126,24 +132,35 @@ pub(crate) fn branch<M: Plain>(part: Part, row: Row, r: &mut Regs, memory: &M, f
 
 /// JSR, which reads the high byte of where it goes behind its pushes.
 #[inline(always)]
-pub(crate) fn call<M: Plain>(part: Part, row: Row, r: &mut Regs, memory: &mut M, first: u8) -> u64
+pub(crate) fn call<N, M: Plain<N>>(
+    part: Part,
+    row: Row,
+    r: &mut Regs,
+    memory: &mut M,
+    first: u8,
+    t: u64,
+    notes: &mut N,
+) -> u64
+    requires order { M.may_come (M.state memory.old) t 0 }
+    requires tick { t < 2 ^ 40 }
     requires runs { AreRead M.reach r.old.pc }
     requires first { first ≡ (M.reach).byte (M.state memory.old) (place r.old 1) }
     requires row { row_at part ((M.reach).byte (M.state memory.old) r.old.pc) ≡ Some row }
     requires uses { bus_use row.mnemonic ≡ BusUse.Calls }
-    ensures done { 0 < result → IsDone part M.reach r.old (M.state memory.old) result r.new (M.state memory.new) }
-    ensures still { result ≡ 0 → (r.new ≡ r.old) × (memory.new ≡ memory.old) }
-    ensures kept { M.kept memory.new ≡ M.kept memory.old }
-    ensures room { M.room memory.old ≤ M.room memory.new + result }
+    ensures done { 0 < result → IsDone part M.reach t r.old (M.state memory.old) result r.new (M.state memory.new) }
+    ensures still { result ≡ 0 → (r.new ≡ r.old) × (memory.new ≡ memory.old) × (notes.new ≡ notes.old) }
+    ensures order { M.may_come (M.state memory.new) t result }
+    ensures noted { M.before notes.new memory.new ≡ M.before notes.old memory.old }
+    ensures room { M.room notes.old ≤ M.room notes.new + result }
     ensures few { result ≤ 8 }
 {
     let top = r.stack(0);
-    if !memory.writes(top) {
+    if !memory.writes(top, notes) {
         return 0;
     }
     let back = r.place(2);
-    memory.put(3, top, (back / 256) as u8);
-    memory.put(4, r.stack(255), (back % 256) as u8);
+    memory.put(t, 3, top, (back / 256) as u8, notes);
+    memory.put(t, 4, r.stack(255), (back % 256) as u8, notes);
     let high = memory.byte(back);
     r.move_stack(254);
     r.pc = word(first, high);
@@ -152,16 +169,16 @@ pub(crate) fn call<M: Plain>(part: Part, row: Row, r: &mut Regs, memory: &mut M,
 
 /// RTS.
 #[inline(always)]
-pub(crate) fn go_back<M: Plain>(part: Part, row: Row, r: &mut Regs, memory: &M) -> u64
+pub(crate) fn go_back<N, M: Plain<N>>(part: Part, row: Row, r: &mut Regs, memory: &M) -> u64
     requires runs { AreRead M.reach r.old.pc }
     requires row { row_at part ((M.reach).byte (M.state memory.now) r.old.pc) ≡ Some row }
     requires uses { bus_use row.mnemonic ≡ BusUse.Returns }
-    ensures done { 0 < result → IsDone part M.reach r.old (M.state memory.now) result r.new (M.state memory.now) }
+    ensures done { (t : ℕ) → 0 < result → IsDone part M.reach t r.old (M.state memory.now) result r.new (M.state memory.now) }
     ensures still { result ≡ 0 → r.new ≡ r.old }
     ensures few { result ≤ 8 }
 {
-    let low = low_byte::<M>(memory, r.stack(1));
-    let high = low_byte::<M>(memory, r.stack(2));
+    let low = low_byte::<N, M>(memory, r.stack(1));
+    let high = low_byte::<N, M>(memory, r.stack(2));
     let to = word(low, high);
     if !memory.reads(to) {
         return 0;
@@ -173,21 +190,31 @@ pub(crate) fn go_back<M: Plain>(part: Part, row: Row, r: &mut Regs, memory: &M) 
 
 /// A push.
 #[inline(always)]
-pub(crate) fn push<M: Plain>(part: Part, row: Row, r: &mut Regs, memory: &mut M) -> u64
+pub(crate) fn push<N, M: Plain<N>>(
+    part: Part,
+    row: Row,
+    r: &mut Regs,
+    memory: &mut M,
+    t: u64,
+    notes: &mut N,
+) -> u64
+    requires order { M.may_come (M.state memory.old) t 0 }
+    requires tick { t < 2 ^ 40 }
     requires runs { AreRead M.reach r.old.pc }
     requires row { row_at part ((M.reach).byte (M.state memory.old) r.old.pc) ≡ Some row }
     requires uses { bus_use row.mnemonic ≡ BusUse.Pushes }
-    ensures done { 0 < result → IsDone part M.reach r.old (M.state memory.old) result r.new (M.state memory.new) }
-    ensures still { result ≡ 0 → (r.new ≡ r.old) × (memory.new ≡ memory.old) }
-    ensures kept { M.kept memory.new ≡ M.kept memory.old }
-    ensures room { M.room memory.old ≤ M.room memory.new + result }
+    ensures done { 0 < result → IsDone part M.reach t r.old (M.state memory.old) result r.new (M.state memory.new) }
+    ensures still { result ≡ 0 → (r.new ≡ r.old) × (memory.new ≡ memory.old) × (notes.new ≡ notes.old) }
+    ensures order { M.may_come (M.state memory.new) t result }
+    ensures noted { M.before notes.new memory.new ≡ M.before notes.old memory.old }
+    ensures room { M.room notes.old ≤ M.room notes.new + result }
     ensures few { result ≤ 8 }
 {
     let top = r.stack(0);
-    if !memory.writes(top) {
+    if !memory.writes(top, notes) {
         return 0;
     }
-    memory.put(2, top, r.pushed(row.mnemonic));
+    memory.put(t, 2, top, r.pushed(row.mnemonic), notes);
     r.move_past(row.bytes);
     r.move_stack(255);
     3
@@ -195,18 +222,18 @@ pub(crate) fn push<M: Plain>(part: Part, row: Row, r: &mut Regs, memory: &mut M)
 
 /// A pull, but for that of the flags.
 #[inline(always)]
-pub(crate) fn pull<M: Plain>(part: Part, row: Row, r: &mut Regs, memory: &M) -> u64
+pub(crate) fn pull<N, M: Plain<N>>(part: Part, row: Row, r: &mut Regs, memory: &M) -> u64
     requires runs { AreRead M.reach r.old.pc }
     requires row { row_at part ((M.reach).byte (M.state memory.now) r.old.pc) ≡ Some row }
     requires uses { bus_use row.mnemonic ≡ BusUse.Pulls }
-    ensures done { 0 < result → IsDone part M.reach r.old (M.state memory.now) result r.new (M.state memory.now) }
+    ensures done { (t : ℕ) → 0 < result → IsDone part M.reach t r.old (M.state memory.now) result r.new (M.state memory.now) }
     ensures still { result ≡ 0 → r.new ≡ r.old }
     ensures few { result ≤ 8 }
 {
     if pulls_flags(row.mnemonic) {
         return 0;
     }
-    let byte = low_byte::<M>(memory, r.stack(1));
+    let byte = low_byte::<N, M>(memory, r.stack(1));
     r.move_past(row.bytes);
     r.move_stack(1);
     r.do_pull(row.mnemonic, byte);
@@ -226,14 +253,21 @@ fn second(part: Part, p: u16) -> u16
 
 /// JMP to an absolute address.
 #[inline(always)]
-fn jump_to<M: Plain>(part: Part, row: Row, r: &mut Regs, memory: &M, first: u8, high: u8) -> u64
+fn jump_to<N, M: Plain<N>>(
+    part: Part,
+    row: Row,
+    r: &mut Regs,
+    memory: &M,
+    first: u8,
+    high: u8,
+) -> u64
     requires runs { AreRead M.reach r.old.pc }
     requires first { first ≡ (M.reach).byte (M.state memory.now) (place r.old 1) }
     requires high { high ≡ (M.reach).byte (M.state memory.now) (place r.old 2) }
     requires row { row_at part ((M.reach).byte (M.state memory.now) r.old.pc) ≡ Some row }
     requires uses { bus_use row.mnemonic ≡ BusUse.Jumps }
     requires mode { row.mode ≡ Mode.Abs }
-    ensures done { IsDone part M.reach r.old (M.state memory.now) result r.new (M.state memory.now) }
+    ensures done { (t : ℕ) → IsDone part M.reach t r.old (M.state memory.now) result r.new (M.state memory.now) }
     ensures some { 0 < result }
     ensures few { result ≤ 8 }
 {
@@ -243,12 +277,12 @@ fn jump_to<M: Plain>(part: Part, row: Row, r: &mut Regs, memory: &M, first: u8, 
 
 /// JMP through the pointer at `at`.
 #[inline(always)]
-fn jump_through<M: Plain>(part: Part, row: Row, r: &mut Regs, memory: &M, at: u16) -> u64
+fn jump_through<N, M: Plain<N>>(part: Part, row: Row, r: &mut Regs, memory: &M, at: u16) -> u64
     requires runs { AreRead M.reach r.old.pc }
     requires row { row_at part ((M.reach).byte (M.state memory.now) r.old.pc) ≡ Some row }
     requires uses { bus_use row.mnemonic ≡ BusUse.Jumps }
     requires pointer { IsPointer part row.mode (M.reach) r.old (M.state memory.now) at }
-    ensures done { 0 < result → IsDone part M.reach r.old (M.state memory.now) result r.new (M.state memory.now) }
+    ensures done { (t : ℕ) → 0 < result → IsDone part M.reach t r.old (M.state memory.now) result r.new (M.state memory.now) }
     ensures still { result ≡ 0 → r.new ≡ r.old }
     ensures few { result ≤ 8 }
 {
@@ -268,20 +302,20 @@ fn jump_through<M: Plain>(part: Part, row: Row, r: &mut Regs, memory: &M, at: u1
 
 /// JMP.
 #[inline(always)]
-pub(crate) fn jump<M: Plain>(part: Part, row: Row, r: &mut Regs, memory: &M, first: u8) -> u64
+pub(crate) fn jump<N, M: Plain<N>>(part: Part, row: Row, r: &mut Regs, memory: &M, first: u8) -> u64
     requires runs { AreRead M.reach r.old.pc }
     requires first { first ≡ (M.reach).byte (M.state memory.now) (place r.old 1) }
     requires row { row_at part ((M.reach).byte (M.state memory.now) r.old.pc) ≡ Some row }
     requires uses { bus_use row.mnemonic ≡ BusUse.Jumps }
-    ensures done { 0 < result → IsDone part M.reach r.old (M.state memory.now) result r.new (M.state memory.now) }
+    ensures done { (t : ℕ) → 0 < result → IsDone part M.reach t r.old (M.state memory.now) result r.new (M.state memory.now) }
     ensures still { result ≡ 0 → r.new ≡ r.old }
     ensures few { result ≤ 8 }
 {
     let high = memory.byte(r.place(2));
     match row.mode {
-        Mode::Abs => jump_to::<M>(part, row, r, memory, first, high),
-        Mode::Ind => jump_through::<M>(part, row, r, memory, word(first, high)),
-        Mode::IndAbsX => jump_through::<M>(
+        Mode::Abs => jump_to::<N, M>(part, row, r, memory, first, high),
+        Mode::Ind => jump_through::<N, M>(part, row, r, memory, word(first, high)),
+        Mode::IndAbsX => jump_through::<N, M>(
             part,
             row,
             r,

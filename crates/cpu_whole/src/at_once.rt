@@ -1,5 +1,5 @@
 //! From the opcode to what is done.
-ghost use Rattle.std.specs.Prelude.{ℕ, ◌≡◌, ◌<◌, ◌≤◌, ◌+◌, Some, true};
+ghost use Rattle.std.specs.Prelude.{ℕ, ◌≡◌, ◌<◌, ◌≤◌, ◌+◌, ◌^◌, Some, true};
 ghost use Rattle.cpu_alu.specs.Addresses.{place};
 ghost use Rattle.cpu_alu.specs.Instructions.{bus_use};
 ghost use Rattle.cpu_core.specs.Accesses.{row_at};
@@ -41,66 +41,82 @@ fn waits(part: Part, row: Row, uses: BusUse) -> bool
 
 /// An instruction that reads and writes back, or works on A.
 #[inline(always)]
-fn modify<M: Plain>(
+fn modify<N, M: Plain<N>>(
     part: Part,
     row: Row,
     always: bool,
     r: &mut Regs,
     memory: &mut M,
     first: u8,
+    t: u64,
+    notes: &mut N,
 ) -> u64
+    requires order { M.may_come (M.state memory.old) t 0 }
+    requires tick { t < 2 ^ 40 }
     requires runs { AreRead M.reach r.old.pc }
     requires first { first ≡ (M.reach).byte (M.state memory.old) (place r.old 1) }
     requires row { row_at part ((M.reach).byte (M.state memory.old) r.old.pc) ≡ Some row }
     requires uses { IsModifying part row always }
-    ensures done { 0 < result → IsDone part M.reach r.old (M.state memory.old) result r.new (M.state memory.new) }
-    ensures still { result ≡ 0 → (r.new ≡ r.old) × (memory.new ≡ memory.old) }
-    ensures kept { M.kept memory.new ≡ M.kept memory.old }
-    ensures room { M.room memory.old ≤ M.room memory.new + result }
+    ensures done { 0 < result → IsDone part M.reach t r.old (M.state memory.old) result r.new (M.state memory.new) }
+    ensures still { result ≡ 0 → (r.new ≡ r.old) × (memory.new ≡ memory.old) × (notes.new ≡ notes.old) }
+    ensures order { M.may_come (M.state memory.new) t result }
+    ensures noted { M.before notes.new memory.new ≡ M.before notes.old memory.old }
+    ensures room { M.room notes.old ≤ M.room notes.new + result }
     ensures few { result ≤ 8 }
 {
     match row.mode {
-        Mode::Acc => accumulator::<M>(part, row, always, r, memory),
-        _ => change::<M>(part, row, always, r, memory, first),
+        Mode::Acc => accumulator::<N, M>(part, row, always, r, memory),
+        _ => change::<N, M>(part, row, always, r, memory, first, t, notes),
     }
 }
 
 /// An instruction by how it uses the bus, which is found by comparisons, as the mode is.
 #[inline(always)]
-fn carry_out<M: Plain>(part: Part, row: Row, r: &mut Regs, memory: &mut M, first: u8) -> u64
+fn carry_out<N, M: Plain<N>>(
+    part: Part,
+    row: Row,
+    r: &mut Regs,
+    memory: &mut M,
+    first: u8,
+    t: u64,
+    notes: &mut N,
+) -> u64
+    requires order { M.may_come (M.state memory.old) t 0 }
+    requires tick { t < 2 ^ 40 }
     requires runs { AreRead M.reach r.old.pc }
     requires first { first ≡ (M.reach).byte (M.state memory.old) (place r.old 1) }
     requires row { row_at part ((M.reach).byte (M.state memory.old) r.old.pc) ≡ Some row }
-    ensures done { 0 < result → IsDone part M.reach r.old (M.state memory.old) result r.new (M.state memory.new) }
-    ensures still { result ≡ 0 → (r.new ≡ r.old) × (memory.new ≡ memory.old) }
-    ensures kept { M.kept memory.new ≡ M.kept memory.old }
-    ensures room { M.room memory.old ≤ M.room memory.new + result }
+    ensures done { 0 < result → IsDone part M.reach t r.old (M.state memory.old) result r.new (M.state memory.new) }
+    ensures still { result ≡ 0 → (r.new ≡ r.old) × (memory.new ≡ memory.old) × (notes.new ≡ notes.old) }
+    ensures order { M.may_come (M.state memory.new) t result }
+    ensures noted { M.before notes.new memory.new ≡ M.before notes.old memory.old }
+    ensures room { M.room notes.old ≤ M.room notes.new + result }
     ensures few { result ≤ 8 }
 {
     let uses = bus_use(row.mnemonic);
     if (uses as u8) < BusUse::Shifts as u8 {
         match uses {
-            BusUse::Reads => load::<M>(part, row, r, memory, first),
-            BusUse::Implied => implied::<M>(part, row, r, memory),
+            BusUse::Reads => load::<N, M>(part, row, r, memory, first),
+            BusUse::Implied => implied::<N, M>(part, row, r, memory),
             // Stores
-            _ => store::<M>(part, row, r, memory, first),
+            _ => store::<N, M>(part, row, r, memory, first, t, notes),
         }
     } else if (uses as u8) < BusUse::Pushes as u8 {
         let always = waits(part, row, uses);
-        modify::<M>(part, row, always, r, memory, first)
+        modify::<N, M>(part, row, always, r, memory, first, t, notes)
     } else if (uses as u8) < BusUse::Jumps as u8 {
         match uses {
-            BusUse::Branches => branch::<M>(part, row, r, memory, first),
-            BusUse::Pushes => push::<M>(part, row, r, memory),
+            BusUse::Branches => branch::<N, M>(part, row, r, memory, first),
+            BusUse::Pushes => push::<N, M>(part, row, r, memory, t, notes),
             // Pulls
-            _ => pull::<M>(part, row, r, memory),
+            _ => pull::<N, M>(part, row, r, memory),
         }
     } else if (uses as u8) < BusUse::Resumes as u8 {
         match uses {
-            BusUse::Calls => call::<M>(part, row, r, memory, first),
-            BusUse::Returns => go_back::<M>(part, row, r, memory),
+            BusUse::Calls => call::<N, M>(part, row, r, memory, first, t, notes),
+            BusUse::Returns => go_back::<N, M>(part, row, r, memory),
             // Jumps
-            _ => jump::<M>(part, row, r, memory, first),
+            _ => jump::<N, M>(part, row, r, memory, first),
         }
     } else {
         0
@@ -112,11 +128,14 @@ fn carry_out<M: Plain>(part: Part, row: Row, r: &mut Regs, memory: &mut M, first
 /// or halt: what is done leaves the flag I as it was.
 /// Source: the MCS6500 Hardware Manual, summary of single cycle execution, and the 65C02's data sheet.
 #[inline(always)]
-pub fn whole<M: Plain>(part: Part, r: &mut Regs, memory: &mut M) -> u64
-    ensures done { 0 < result → IsDone part M.reach r.old (M.state memory.old) result r.new (M.state memory.new) }
-    ensures still { result ≡ 0 → (r.new ≡ r.old) × (memory.new ≡ memory.old) }
-    ensures kept { M.kept memory.new ≡ M.kept memory.old }
-    ensures room { M.room memory.old ≤ M.room memory.new + result }
+pub fn whole<N, M: Plain<N>>(part: Part, r: &mut Regs, memory: &mut M, t: u64, notes: &mut N) -> u64
+    requires order { M.may_come (M.state memory.old) t 0 }
+    requires tick { t < 2 ^ 40 }
+    ensures done { 0 < result → IsDone part M.reach t r.old (M.state memory.old) result r.new (M.state memory.new) }
+    ensures still { result ≡ 0 → (r.new ≡ r.old) × (memory.new ≡ memory.old) × (notes.new ≡ notes.old) }
+    ensures order { M.may_come (M.state memory.new) t result }
+    ensures noted { M.before notes.new memory.new ≡ M.before notes.old memory.old }
+    ensures room { M.room notes.old ≤ M.room notes.new + result }
     ensures few { result ≤ 8 }
 {
     if !memory.runs(r.pc) {
@@ -125,7 +144,7 @@ pub fn whole<M: Plain>(part: Part, r: &mut Regs, memory: &mut M) -> u64
     let op = memory.byte(r.pc);
     let first = memory.byte(r.place(1));
     match row_at(part, op) {
-        Some(row) => carry_out::<M>(part, row, r, memory, first),
+        Some(row) => carry_out::<N, M>(part, row, r, memory, first, t, notes),
         None => 0,
     }
 }

@@ -1,5 +1,5 @@
 //! What is done at an operand in memory.
-ghost use Rattle.std.specs.Prelude.{ℕ, ◌≡◌, ◌≢◌, ◌<◌, ◌≤◌, ◌+◌, Some};
+ghost use Rattle.std.specs.Prelude.{ℕ, ◌≡◌, ◌≢◌, ◌<◌, ◌≤◌, ◌+◌, ◌^◌, Some};
 ghost use Rattle.cpu_alu.specs.Addresses.{place};
 ghost use Rattle.cpu_alu.specs.Instructions.{bus_use};
 ghost use Rattle.cpu_core.specs.Accesses.{row_at, waits, modify_form};
@@ -13,16 +13,16 @@ use op_table::{Mode, Part, Row};
 
 /// The operand is read.
 #[inline(always)]
-pub(crate) fn load<M: Plain>(part: Part, row: Row, r: &mut Regs, memory: &M, first: u8) -> u64
+pub(crate) fn load<N, M: Plain<N>>(part: Part, row: Row, r: &mut Regs, memory: &M, first: u8) -> u64
     requires runs { AreRead M.reach r.old.pc }
     requires first { first ≡ (M.reach).byte (M.state memory.now) (place r.old 1) }
     requires row { row_at part ((M.reach).byte (M.state memory.now) r.old.pc) ≡ Some row }
     requires uses { bus_use row.mnemonic ≡ BusUse.Reads }
-    ensures done { 0 < result → IsDone part M.reach r.old (M.state memory.now) result r.new (M.state memory.now) }
+    ensures done { (t : ℕ) → 0 < result → IsDone part M.reach t r.old (M.state memory.now) result r.new (M.state memory.now) }
     ensures still { result ≡ 0 → r.new ≡ r.old }
     ensures few { result ≤ 8 }
 {
-    let to = find::<M>(part, row.mode, false, r, memory, first);
+    let to = find::<N, M>(part, row.mode, false, r, memory, first);
     if to.cycles == 0 {
         return 0;
     }
@@ -40,59 +40,81 @@ pub(crate) fn load<M: Plain>(part: Part, row: Row, r: &mut Regs, memory: &M, fir
 
 /// The operand is written.
 #[inline(always)]
-pub(crate) fn store<M: Plain>(part: Part, row: Row, r: &mut Regs, memory: &mut M, first: u8) -> u64
+pub(crate) fn store<N, M: Plain<N>>(
+    part: Part,
+    row: Row,
+    r: &mut Regs,
+    memory: &mut M,
+    first: u8,
+    t: u64,
+    notes: &mut N,
+) -> u64
+    requires order { M.may_come (M.state memory.old) t 0 }
+    requires tick { t < 2 ^ 40 }
     requires runs { AreRead M.reach r.old.pc }
     requires first { first ≡ (M.reach).byte (M.state memory.old) (place r.old 1) }
     requires row { row_at part ((M.reach).byte (M.state memory.old) r.old.pc) ≡ Some row }
     requires uses { bus_use row.mnemonic ≡ BusUse.Stores }
-    ensures done { 0 < result → IsDone part M.reach r.old (M.state memory.old) result r.new (M.state memory.new) }
-    ensures still { result ≡ 0 → (r.new ≡ r.old) × (memory.new ≡ memory.old) }
-    ensures kept { M.kept memory.new ≡ M.kept memory.old }
-    ensures room { M.room memory.old ≤ M.room memory.new + result }
+    ensures done { 0 < result → IsDone part M.reach t r.old (M.state memory.old) result r.new (M.state memory.new) }
+    ensures still { result ≡ 0 → (r.new ≡ r.old) × (memory.new ≡ memory.old) × (notes.new ≡ notes.old) }
+    ensures order { M.may_come (M.state memory.new) t result }
+    ensures noted { M.before notes.new memory.new ≡ M.before notes.old memory.old }
+    ensures room { M.room notes.old ≤ M.room notes.new + result }
     ensures few { result ≤ 8 }
 {
-    let to = find::<M>(part, row.mode, true, r, memory, first);
+    let to = find::<N, M>(part, row.mode, true, r, memory, first);
     if to.cycles == 0 {
         return 0;
     }
-    if !memory.writes(to.at) {
+    if !memory.writes(to.at, notes) {
         return 0;
     }
-    memory.put(to.cycles, to.at, r.stored(row.mnemonic));
+    memory.put(t, to.cycles, to.at, r.stored(row.mnemonic), notes);
     r.move_past(row.bytes);
     to.cycles + 1
 }
 
 /// The operand is read and written back. Of the two bytes that the NMOS part writes there the first is the one that stands there.
 #[inline(always)]
-pub(crate) fn change<M: Plain>(
+pub(crate) fn change<N, M: Plain<N>>(
     part: Part,
     row: Row,
     always: bool,
     r: &mut Regs,
     memory: &mut M,
     first: u8,
+    t: u64,
+    notes: &mut N,
 ) -> u64
+    requires order { M.may_come (M.state memory.old) t 0 }
+    requires tick { t < 2 ^ 40 }
     requires runs { AreRead M.reach r.old.pc }
     requires first { first ≡ (M.reach).byte (M.state memory.old) (place r.old 1) }
     requires row { row_at part ((M.reach).byte (M.state memory.old) r.old.pc) ≡ Some row }
     requires uses { IsModifying part row always }
     requires apart { row.mode ≢ Mode.Acc }
-    ensures done { 0 < result → IsDone part M.reach r.old (M.state memory.old) result r.new (M.state memory.new) }
-    ensures still { result ≡ 0 → (r.new ≡ r.old) × (memory.new ≡ memory.old) }
-    ensures kept { M.kept memory.new ≡ M.kept memory.old }
-    ensures room { M.room memory.old ≤ M.room memory.new + result }
+    ensures done { 0 < result → IsDone part M.reach t r.old (M.state memory.old) result r.new (M.state memory.new) }
+    ensures still { result ≡ 0 → (r.new ≡ r.old) × (memory.new ≡ memory.old) × (notes.new ≡ notes.old) }
+    ensures order { M.may_come (M.state memory.new) t result }
+    ensures noted { M.before notes.new memory.new ≡ M.before notes.old memory.old }
+    ensures room { M.room notes.old ≤ M.room notes.new + result }
     ensures few { result ≤ 8 }
 {
-    let to = find::<M>(part, row.mode, always, r, memory, first);
+    let to = find::<N, M>(part, row.mode, always, r, memory, first);
     if to.cycles == 0 {
         return 0;
     }
-    if !memory.writes(to.at) {
+    if !memory.writes(to.at, notes) {
         return 0;
     }
     let byte = memory.byte(to.at);
-    memory.put(to.cycles + 2, to.at, r.modified(row.mnemonic, byte));
+    memory.put(
+        t,
+        to.cycles + 2,
+        to.at,
+        r.modified(row.mnemonic, byte),
+        notes,
+    );
     r.move_past(row.bytes);
     r.do_modify(row.mnemonic, row.mode, byte);
     to.cycles + 3

@@ -8,9 +8,10 @@ use Rattle.cpu_whole.proofs.alone.accumulator.Goals as goal
 
 pub returns-clause-done : goal.returns-clause-done
 returns-clause-done g c =
+    λ t.
     let reach = g.M.Plain.reach in
     let m = g.M.Plain.state c.args.memory.now in
     let r = c.args.r.now in
     let row = c.args.row in
-    accumulator reach c.args.part row r m c.requires.runs.first c.requires.row c.args.always c.requires.uses c.requires.mode c.requires.runs.second _ 0
+    accumulator reach t c.args.part row r m c.requires.runs.first c.requires.row c.args.always c.requires.uses c.requires.mode c.requires.runs.second _ 0
     (c.do_modify.ensures ∙ ap (λ (q : Regs). modify_result row.mnemonic Acc q 0) c.move_past.ensures)

@@ -6,7 +6,7 @@ use Rattle.cpu_whole.proofs.alone.go_back.Goals as goal
 
 pub returns-clause-done : goal.returns-clause-done
 returns-clause-done g c =
-    λ some.
+    λ t some.
     let reach = g.M.Plain.reach in
     let m = g.M.Plain.state c.args.memory.now in
     let r = c.args.r.now in
@@ -18,5 +18,5 @@ returns-clause-done g c =
     let yes : c.reads.result ≡ true = search rules in
     let plain = subst (λ k. reach.reads k ≡ true) to (c.reads.ensures yes) in
     let pc : c.wrapping_sum-r.result ≡ wrap (word (reach.byte m (stack r 1)) (reach.byte m (stack r 2)) + 1) = c.wrapping_sum-r.ensures ∙ ap (λ k. wrap (k + 1)) to in
-    returned reach c.args.part row r m c.requires.runs.first c.requires.row g.M.Plain.is_plain c.requires.uses c.requires.runs.second plain _
+    returned reach t c.args.part row r m c.requires.runs.first c.requires.row g.M.Plain.is_plain c.requires.uses c.requires.runs.second plain _
     (ap (λ (q : Regs). record q { pc = c.wrapping_sum-r.result }) c.move_stack.ensures ∙ ap (λ k. record (with_stack_moved r 2) { pc = k }) pc)

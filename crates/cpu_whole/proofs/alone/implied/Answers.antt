@@ -8,11 +8,11 @@ use Rattle.cpu_whole.proofs.alone.implied.Goals as goal
 
 pub returns-in_default-clause-done : goal.returns-in_default-clause-done
 returns-in_default-clause-done g c =
-    λ some.
+    λ t some.
     let reach = g.M.Plain.reach in
     let m = g.M.Plain.state c.args.memory.now in
     let r = c.args.r.now in
     let row = c.args.row in
     let fixed : moves_i row.mnemonic ≡ false = search rules in
-    implied reach c.args.part row r m c.requires.runs.first c.requires.row c.requires.uses c.in_default.not-Spare fixed c.requires.runs.second _
+    implied reach t c.args.part row r m c.requires.runs.first c.requires.row c.requires.uses c.in_default.not-Spare fixed c.requires.runs.second _
     (c.do_implied.ensures ∙ ap (implied_result row.mnemonic) c.move_past.ensures)

@@ -8,10 +8,11 @@ pub returns-clause-done : goal.returns-clause-done
 returns-clause-done g c =
     λ some.
     let reach = g.M.Plain.reach in
+    let t = c.args.t in
     let m = g.M.Plain.state c.args.memory.now in
     let r = c.args.r.now in
     let row = c.args.row in
     let there = g.M.Plain.state c.put.new.self in
-    let put = c.put.ensures.put ∙ ap (λ (k : ℕ). reach.put m 2 k c.pushed.result) c.stack-top.ensures ∙ ap (reach.put m 2 (stack r 0)) c.pushed.ensures in
-    pushed reach c.args.part row r m c.requires.runs.first c.requires.row g.M.Plain.is_plain c.requires.uses c.requires.runs.second _ there put
+    let put = c.put.ensures.put ∙ ap (λ (k : ℕ). reach.put m t 2 k c.pushed.result) c.stack-top.ensures ∙ ap (reach.put m t 2 (stack r 0)) c.pushed.ensures in
+    pushed reach t c.args.part row r m c.requires.runs.first c.requires.row g.M.Plain.is_plain c.requires.uses c.requires.runs.second _ there put
     (c.move_stack.ensures ∙ ap (λ (q : Regs). with_stack_moved q 255) c.move_past.ensures)

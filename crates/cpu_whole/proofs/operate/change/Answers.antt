@@ -9,6 +9,7 @@ pub returns-clause-done : goal.returns-clause-done
 returns-clause-done g c =
     λ some.
     let reach = g.M.Plain.reach in
+    let t = c.args.t in
     let m = g.M.Plain.state c.args.memory.now in
     let r = c.args.r.now in
     let row = c.args.row in
@@ -16,7 +17,7 @@ returns-clause-done g c =
     let n = c.find-to.result.cycles in
     let went : 0 < n = omega arith in
     let yes : c.writes.result ≡ true = search rules in
-    changed reach c.args.part row r m at n c.requires.runs.first c.requires.row g.M.Plain.is_plain c.args.always c.requires.uses c.requires.apart (c.find-to.ensures.reached went) (c.writes.ensures.read yes) (c.writes.ensures.written yes) _ _ _ refl
+    changed reach t c.args.part row r m at n c.requires.runs.first c.requires.row g.M.Plain.is_plain c.args.always c.requires.uses c.requires.apart (c.find-to.ensures.reached t went) (c.writes.ensures.read yes) (c.writes.ensures.written yes) _ _ _ refl
     (c.do_modify.ensures ∙ ap (λ (q : Regs). modify_result row.mnemonic row.mode q c.byte-byte.result) c.move_past.ensures
     ∙ ap (modify_result row.mnemonic row.mode (with_pc_past r row.bytes)) c.byte-byte.ensures)
-    (c.put.ensures.put ∙ ap (reach.put m (n + 2) at) (c.modified.ensures ∙ ap (modified_value row.mnemonic r) c.byte-byte.ensures))
+    (c.put.ensures.put ∙ ap (reach.put m t (n + 2) at) (c.modified.ensures ∙ ap (modified_value row.mnemonic r) c.byte-byte.ensures))

@@ -8,7 +8,7 @@ use Rattle.cpu_whole.proofs.operate.load.Goals as goal
 
 pub returns-clause-done : goal.returns-clause-done
 returns-clause-done g c =
-    λ some.
+    λ t some.
     let reach = g.M.Plain.reach in
     let m = g.M.Plain.state c.args.memory.now in
     let r = c.args.r.now in
@@ -17,7 +17,7 @@ returns-clause-done g c =
     let went : 0 < c.find-to.result.cycles = omega arith in
     let yes : c.reads.result ≡ true = search rules in
     let binary : is_decimal row.mnemonic r ≡ false = search rules in
-    let reached = subst (λ b. IsReached c.args.part reach row.mode b r m at c.find-to.result.cycles) (loads_wait c.args.part) (c.find-to.ensures.reached went) in
-    loaded reach c.args.part row r m at c.find-to.result.cycles c.requires.runs.first c.requires.row c.requires.uses binary reached (c.reads.ensures yes) _ _ refl
+    let reached = subst (λ b. IsReached c.args.part reach t row.mode b r m at c.find-to.result.cycles) (loads_wait c.args.part) (c.find-to.ensures.reached t went) in
+    loaded reach t c.args.part row r m at c.find-to.result.cycles c.requires.runs.first c.requires.row c.requires.uses binary reached (c.reads.ensures yes) _ _ refl
     (c.do_read.ensures ∙ ap (λ (q : Regs). read_result c.args.part row.mnemonic row.mode q c.byte-byte.result) c.move_past.ensures
     ∙ ap (read_result c.args.part row.mnemonic row.mode (with_pc_past r row.bytes)) c.byte-byte.ensures)

@@ -6,6 +6,7 @@ use Rattle.cpu_whole.proofs.ways.pointer.Goals as goal
 
 pub returns-clause-reached : goal.returns-clause-reached
 returns-clause-reached g c =
+    λ t.
     let M = g.M.Plain.State in
     let reach = g.M.Plain.reach in
     let m = g.M.Plain.state c.args.memory.now in
@@ -18,4 +19,4 @@ returns-clause-reached g c =
     let next : reach.reads ((reach.byte m (place r 1) + 1) % 256) ≡ true = g.M.Plain.is_plain.low_read _ (omega arith) in
     let at : word (reach.byte m (reach.byte m (place r 1))) (reach.byte m ((reach.byte m (place r 1) + 1) % 256)) ≡ c.word.result =
     ap (λ k. word k (reach.byte m ((reach.byte m (place r 1) + 1) % 256))) p0 ∙ ap (word c.low_byte-low.result) p1 ∙ sym c.word.ensures in
-    reached_as reach c.args.part c.args.always r m IndZp _ 4 _ 4 at refl (pointer reach c.args.part c.args.always r m c.requires.runs.second low next)
+    reached_as reach t c.args.part c.args.always r m IndZp _ 4 _ 4 at refl (pointer reach t c.args.part c.args.always r m c.requires.runs.second low next)

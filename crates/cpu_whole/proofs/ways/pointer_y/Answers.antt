@@ -16,7 +16,7 @@ returns-clause-reached g c =
     let p1 : reach.byte m ((reach.byte m (place r 1) + 1) % 256) ≡ c.low_byte-high.result =
     ap (λ (k : ℕ). reach.byte m ((k + 1) % 256)) (sym one) ∙ ap (reach.byte m) (sym c.in_zero_page.ensures) ∙ sym c.low_byte-high.ensures.byte in
     let next : reach.reads ((reach.byte m (place r 1) + 1) % 256) ≡ true = g.M.Plain.is_plain.low_read _ (omega arith) in
-    λ some.
+    λ t some.
     let lo = reach.byte m (reach.byte m (place r 1)) in
     let hi = reach.byte m ((reach.byte m (place r 1) + 1) % 256) in
     let waits : Bool = c.args.always || crosses_page lo r.y in
@@ -24,6 +24,6 @@ returns-clause-reached g c =
     let at : wrap (word lo hi + r.y) ≡ c.indexed.result.at =
     ap (λ k. wrap (word k hi + r.y)) p0 ∙ ap (λ k. wrap (word c.low_byte-low.result k + r.y)) p1 ∙ sym c.indexed.ensures.at in
     let cycles : cond waits 5 4 ≡ c.indexed.result.cycles = ap (λ b. cond b 5 4) (sym same) ∙ sym (c.indexed.ensures.cycles some) in
-    reached_as reach c.args.part c.args.always r m IndY _ _ _ _ at cycles
-    (pointer_y reach c.args.part c.args.always r m waits refl c.requires.runs.second low next
+    reached_as reach t c.args.part c.args.always r m IndY _ _ _ _ at cycles
+    (pointer_y reach t c.args.part c.args.always r m waits refl c.requires.runs.second low next
     (λ h. let plain = c.indexed.ensures.idle some (same ∙ h) (place r 1) c.requires.runs.second in rw (← p0, ← p1) at plain))
