@@ -1,16 +1,26 @@
 -- What a run begins with keeps the rules of a session, where its machines can be made.
-use Rattle.std.proofs.Common.{◌≡◌, ◌∙◌, sym, refl, ℕ, ◌≤◌, ◌==◌, ◌||◌, nat_lt, Bool, true, false, not, List, [], ◌∷◌, ◌++◌, length, find, map, Option, Some, None, option_map, IfSome, Result, Ok, arith, if◌then◌else◌}
+use Rattle.std.proofs.Common.{subst, ◌≡◌, ◌∙◌, sym, refl, ℕ, ◌≤◌, ◌==◌, ◌||◌, nat_lt, Bool, true, false, not, List, [], ◌∷◌, ◌++◌, length, find, map, Option, Some, None, option_map, IfSome, Result, Ok, arith, if◌then◌else◌}
 use Rattle.std.proofs.lemmas.List.Elements.{All-nil}
 use Rattle.std.proofs.lemmas.Bool.Decides.{nat_tests}
 use Rattle.disc_image.specs.declared.Kind.{Kind}
 use Rattle.disc_image.specs.declared.Kind.TheVariants.{Ssd, Dsd}
 use Rattle.rom_set.specs.Roms.{Rom}
 use Rattle.save_state.specs.declared.Kind.TheVariants as parts
-use Rattle.save_state.specs.File.{IsPart, IsDisc}
+use Rattle.save_state.specs.File.{IsPart, IsDisc, IsSession}
 use Rattle.beeb_stages.specs.declared.stop.Refusal.{Refusal}
 use Rattle.beeb_status.specs.declared.status.Cause.{Cause}
+use Rattle.std.specs.declared.vec.Vec.{Vec}
+use Rattle.std.specs.declared.alloc.Global.{Global}
+use Rattle.host_mach.specs.State.{HostState}
+use Rattle.para_mach.specs.State.{ParaState}
+use Rattle.power_on.specs.View.{items}
+use Rattle.power_on.specs.Inputs.{Inputs}
+use Rattle.power_on.specs.Setup.{Setup}
+use Rattle.power_on.specs.Machines.{machines_of}
 use Rattle.power_on.specs.Lengths.{Sized, os_image, tube_image, rom_image, font_images, disc_images, further_images, both_images, first_misfit, unless_caused}
-use Rattle.power_on.specs.Sessions.{part_slots, rom_of_slot, has_two_sides, begun, BegunIsSession}
+use Rattle.save_state.specs.declared.Saved.{Saved}
+use Rattle.save_state.specs.Saved.{session}
+use Rattle.power_on.specs.Sessions.{part_slots, rom_of_slot, has_two_sides, begun, begun_if, BegunIsSession}
 use Rattle.power_on.proofs.LengthLemmas.{lengths_come_first}
 
 none_caused : {A : Type 0} (o : Option Cause) (next : Result A (Refusal Cause)) (x : A) → unless_caused o next ≡ Ok x → o ≡ None
@@ -86,3 +96,22 @@ begun_is set i m made few short =
       below = All-nil _;
       rises = tt;
     }
+
+same_some : {A : Type 0} {x y : A} → Some x ≡ Some y → x ≡ y
+same_some is = cc
+
+by_name : (save : Option (List ℕ)) (b : Option Saved) (set : Setup) (i : Inputs) → option_map session b ≡ begun_if save set i → IsSession (begun set i) →
+    IfSome b (λ (s : Saved). IsSession (session s))
+by_name None None set i is keeps = tt
+by_name None (Some b) set i is keeps = cc
+by_name (Some name) None set i is keeps = cc
+by_name (Some name) (Some b) set i is keeps = subst IsSession (sym (same_some is)) keeps
+
+pub keys_short : (keys : Option (Vec ℕ Global)) → IfSome keys (λ bytes. length bytes.items ≤ 1048576) → IfSome (option_map items keys) (λ bytes. length bytes ≤ 1048576)
+keys_short None short = tt
+keys_short (Some bytes) short = short
+
+-- what is to be saved keeps the rules
+pub begun_keeps : (law : BegunIsSession) (save : Option (List ℕ)) (b : Option Saved) (set : Setup) (i : Inputs) (m : HostState × ParaState) → machines_of set i ≡ Ok m → set.number ≤ 8 →
+    IfSome i.keys (λ keys. length keys ≤ 1048576) → option_map session b ≡ begun_if save set i → IfSome b (λ (s : Saved). IsSession (session s))
+begun_keeps law save b set i m made few short is = by_name save b set i is (law set i m made few short)

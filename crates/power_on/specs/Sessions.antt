@@ -55,6 +55,10 @@ begun set i = record {
   entries = [];
 }
 
+-- the same, where the run is to be saved under a name
+abbrev pub begun_if : Option (List ℕ) → Setup → Inputs → Option Session
+begun_if save set i = option_map (λ (name : List ℕ). begun set i) save
+
 -- a part, if it is there, with what it is
 abbrev pub if_there : Slot → Option (List ℕ) → List (Slot × List ℕ)
 if_there slot None = []

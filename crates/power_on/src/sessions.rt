@@ -1,10 +1,10 @@
 //! A run as a session file holds it.
-ghost use Rattle.std.specs.Prelude.{◌≡◌, ◌≤◌, ◌++◌, IfOk, Option, List, ℕ, option_map, map};
+ghost use Rattle.std.specs.Prelude.{◌≡◌, ◌<◌, ◌≤◌, ◌++◌, All, IfOk, IfSome, length, Option, List, ℕ, option_copied, option_map, map};
 ghost use Rattle.beeb_stages.specs.View.{seen_input};
 ghost use Rattle.rom_set.specs.Roms.{roms_seen};
 ghost use Rattle.save_state.specs.Saved.{Session, session};
 ghost use Rattle.save_state.specs.File.{IsSession};
-ghost use Rattle.power_on.specs.Sessions.{part_slots, rom_of_slot, part_of, has_two_sides, begun, if_there, there, inputs_in, kind_by, setup_in, BegunIsSession};
+ghost use Rattle.power_on.specs.Sessions.{part_slots, rom_of_slot, part_of, has_two_sides, begun, begun_if, if_there, there, inputs_in, kind_by, setup_in, BegunIsSession};
 ghost use Rattle.power_on.specs.View.{items, seen_inputs, seen_setup};
 
 use crate::inputs::Inputs;
@@ -118,10 +118,10 @@ fn has_two_sides(kind: Kind, bytes: &Option<Vec<u8>>) -> bool
     }
 }
 
-/// What a run begins with, of what was read and of what the words say of the machines: a session of no ticks. The images and the script are
-/// copied, since the machines are made of those that were read, and write on their discs.
+// What a run begins with, of what was read and of what the words say of the machines: a session of no ticks. The images and the script are
+// copied, since the machines are made of those that were read, and write on their discs.
 #[tactic(auto, unfolding(crate::specs::Sessions::begun))]
-pub fn begun<D: BusDevice>(
+fn begun<D: BusDevice>(
     alloc: Global,
     setup: &Setup<D>,
     inputs: &Inputs,
@@ -139,6 +139,23 @@ pub fn begun<D: BusDevice>(
         ],
         entries: Vec::new(alloc),
     })
+}
+
+/// What a run begins with that is to be saved under a name, of what was read and of what the words say of the machines: a session of no ticks.
+/// The images and the script are copied.
+pub(crate) fn begun_if<D: BusDevice>(
+    alloc: Global,
+    save: Option<&str>,
+    setup: &Setup<D>,
+    inputs: &Inputs,
+) -> Result<Option<Saved>, AllocError>
+    ensures { let there = begun_if (option_copied save.entry) (seen_setup D.plug setup.now) (seen_inputs inputs.now) in
+        IfOk result (λ b. option_map session b ≡ there) }
+{
+    match save {
+        Some(_) => Ok(Some(begun(alloc, setup, inputs)?)),
+        None => Ok(None),
+    }
 }
 
 // Appends a part, if it is there, with what it is.
@@ -175,7 +192,10 @@ fn there(alloc: Global, parts: Vec<Option<Blob>>) -> Result<Vec<(Slot, Vec<u8>)>
 /// What the machines of a session are made of, of its parts.
 #[tactic(auto, unfolding(crate::specs::Sessions::inputs_in))]
 pub fn inputs_in(alloc: Global, parts: Vec<Option<Blob>>) -> Result<Inputs, AllocError>
-    ensures { (s : Session) → s.parts ≡ parts.items → IfOk result (λ i. seen_inputs i ≡ inputs_in s) }
+    ensures inputs { (s : Session) → s.parts ≡ parts.items → IfOk result (λ i. seen_inputs i ≡ inputs_in s) }
+    ensures slots { IfOk result (λ i. All (λ slot. slot.0 < 16) i.roms.items) }
+    ensures keys { (s : Session) → IsSession s → s.parts ≡ parts.items →
+        IfOk result (λ i. IfSome i.keys (λ keys. length keys.items ≤ 1048576)) }
 {
     let list = there(alloc, parts)?;
     Inputs::of(alloc, list)
@@ -206,6 +226,6 @@ pub fn setup_in<D: BusDevice>(saved: &Saved, plugs: Vec<D>) -> Setup<D>
 
 /// A run whose machines can be made, of a script that is no longer than a session's, begins as a session that keeps the rules.
 #[tactic(auto, using(crate::proofs::BegunLemmas::begun_is))]
-pub fn begun_is_session()
+pub(crate) fn begun_is_session()
     ensures { BegunIsSession }
 {}
