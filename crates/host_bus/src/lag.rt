@@ -103,10 +103,10 @@ impl LaggingBoard {
         ensures same { caught_up self.new ≡ board_closed (caught_up self.old) t }
         ensures settled { IsSettled self.new }
     {
-        reads_go_on();
         self.board.close(t);
         self.closed = t;
         self.calm = self.board.calm();
+        self.lowest = self.board.lowest();
     }
 
     /// Steps the devices as far as the board is closed.

@@ -1,8 +1,7 @@
-use Rattle.std.proofs.Common.{◌≡◌, ◌≤◌, ◌∙◌, ap, sym, subst, max, arith}
+use Rattle.std.proofs.Common.{◌≡◌, ◌≤◌, ◌∙◌, ap, sym, max, arith}
 use Rattle.host_bus.specs.Board.{BoardState, board_closed}
 use Rattle.host_bus.specs.Closing.{board-again}
-use Rattle.host_bus.specs.Lag.{Lag, caught_up, ReadsAbove}
-use Rattle.host_bus.proofs.Unseen.{reads-closed}
+use Rattle.host_bus.specs.Lag.{Lag, caught_up}
 use Rattle.host_bus.proofs.lag.LaggingBoard.catch_up.Goals as goal
 
 pub invariant_of-self : goal.invariant_of-self
@@ -16,7 +15,7 @@ invariant_of-self c =
       near = omega (arith, there, c.calm-self-inside.ensures.low);
       room = c.requires.room;
       lines = c.calm-self-inside.ensures.calm;
-      reads = subst (λ (s : BoardState). ReadsAbove b.lowest s) (sym c.close.ensures) (reads-closed c.reads_go_on.ensures b.lowest b.board t c.self.invariant.reads);
+      reads = c.lowest-self-inside.ensures;
     }
 
 pub returns-clause-same : goal.returns-clause-same
