@@ -63,8 +63,10 @@ pub(crate) fn note_all(host_log: &mut Log, para_log: &mut Log, entries: &[Entry]
     requires host_none { IsFresh host_log.old.keep host_log.old }
     requires para_none { IsFresh para_log.old.keep para_log.old }
     ensures chip { result ≡ after (events_of entries.now) }
-    ensures host { let log = host_log.new in IsKept Host (events_of entries.now) host_log.old.keep log.list.items log.count }
-    ensures para { let log = para_log.new in IsKept Para (events_of entries.now) para_log.old.keep log.list.items log.count }
+    ensures host { let log = host_log.new in
+        IsKept Host (events_of entries.now) host_log.old.keep log.list.items log.count }
+    ensures para { let log = para_log.new in
+        IsKept Para (events_of entries.now) para_log.old.keep log.list.items log.count }
     ensures keep { (host_log.new.keep ≡ host_log.old.keep) × (para_log.new.keep ≡ para_log.old.keep) }
     ensures few { (host_log.new.count ≤ length entries.now) × (para_log.new.count ≤ length entries.now) }
 {

@@ -6,11 +6,16 @@ ghost use Rattle.tube_party.specs.Reference.{IsTraceBelow};
 
 use crate::tests::parties::{Probe, Writer, at_power_on};
 use beeb_bits::{Clock, Side, Tick};
-use save_state::{Blob, ResumeError, Saved, StateError, decode, encode, resume};
+use save_state::{
+    Blob, ResumeError, Saved, StateError, decode, encode, resume, saved_run_is_resumed,
+};
 use std::alloc::{AllocError, Global};
 use std::test::Fail;
 use tube_chip::Op;
-use tube_party::{Doing, Done, Forward, brought_back_is_reference, solo};
+use tube_party::{
+    Doing, Done, Forward, Room, brought_back_is_reference, go_on_from, shorter_run_is_beginning,
+    solo,
+};
 use tube_trace::{Entry, first_wrong, read};
 
 /// Where the fields begin behind both ROMs: the lengths of the sixteen slots, of the font, of a disc with its kind and its bytes, of the other,
@@ -409,6 +414,57 @@ fn a_session_goes_on_as_the_whole_run(rt: HostRuntime) -> Result<(), Fail> {
         assert!(rt; same_end(&done, &whole));
     }
     brought_back_is_reference::<Writer, Probe>();
+    shorter_run_is_beginning::<Writer, Probe>();
+    saved_run_is_resumed::<Writer, Probe>();
+    Ok(())
+}
+
+#[test]
+fn two_parties_go_on_behind_others(rt: HostRuntime) -> Result<(), Fail> {
+    // Accesses of other parties, whose byte the parasite's machine finds at its first read, how many are kept, those of each side as a trace, and their
+    // whole numbers.
+    let rows: [(&str, u32, &str, &str, u8, u8); 3] = [
+        ("", 9, "", "000000000A P R 0 40\n", 0, 1),
+        (
+            "0000000001 H W 1 41\n0000000003 P R 0 C0\n",
+            9,
+            "0000000001 H W 1 41\n",
+            "0000000003 P R 0 C0\n000000000A P R 0 C0\n",
+            1,
+            2,
+        ),
+        (
+            "0000000001 H W 1 41\n0000000003 P R 0 C0\n",
+            1,
+            "0000000001 H W 1 41\n",
+            "0000000003 P R 0 C0\n",
+            1,
+            2,
+        ),
+    ];
+    for (text, keep, host_text, para_text, host_count, para_count) in rows {
+        let entries = read(rt.alloc(), text.as_bytes())?.entries;
+        let late = Writer {
+            due: 40,
+            byte: 1,
+            lag: 40,
+        };
+        let probe = Forward {
+            party: at_power_on(),
+        };
+        let room = Room::new(rt.alloc(), keep)?;
+        let done = go_on_from(late, probe, &entries, Tick(20), room);
+        assert_eq!(rt;
+            done.host_list,
+            read(rt.alloc(), host_text.as_bytes())?.entries
+        );
+        assert_eq!(rt;
+            done.para_list,
+            read(rt.alloc(), para_text.as_bytes())?.entries
+        );
+        assert_eq!(rt; done.host_count, host_count as u64);
+        assert_eq!(rt; done.para_count, para_count as u64);
+    }
     Ok(())
 }
 
