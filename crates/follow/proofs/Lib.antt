@@ -3,3 +3,4 @@ pub mod Noting
 pub mod Watching
 pub mod Listed
 pub mod Referred
+pub mod Inside
