@@ -1,5 +1,5 @@
 -- A replay of a party is the same, in whichever way its states are seen.
-use Rattle.std.proofs.Common.{ℕ, zero, suc, ◌≡◌, ◌+◌, ◌∙◌, max, nat_lt, refl, sym, ap, List, [], ◌∷◌, length, Bool, true, false, Option, Some, None, if◌then◌else◌}
+use Rattle.std.proofs.Common.{ℕ, zero, suc, ◌≡◌, ◌+◌, ◌∙◌, max, nat_lt, sym, ap, List, [], ◌∷◌, length, Bool, true, false, Option, Some, None, if◌then◌else◌}
 use Rattle.beeb_bits.specs.declared.Side.{Side}
 use Rattle.tube_chip.specs.declared.Op.{Op}
 use Rattle.tube_chip.specs.declared.Answer.{Answer}

@@ -4,3 +4,4 @@ pub mod Watching
 pub mod Listed
 pub mod Referred
 pub mod Inside
+pub mod Followed

@@ -1,4 +1,3 @@
 //! Tables of cases, by the public calls of each crate.
 mod bus;
-mod listings;
 mod second_processor;
