@@ -3,3 +3,5 @@ pub mod Noting
 pub mod Watching
 pub mod Listed
 pub mod Referred
+pub mod Inside
+pub mod Followed

@@ -1,6 +1,7 @@
 pub mod Sight
 pub mod Start
 pub mod Listing
+pub mod Steps
 pub mod Reference
 pub mod Machines
 pub mod CodeStart

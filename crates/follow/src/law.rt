@@ -1,9 +1,16 @@
-//! The law of listings in the reference run.
+//! Laws of the runs of which listings tell.
+ghost use Rattle.follow.specs.Steps.{RunIsFollowed};
 ghost use Rattle.follow.specs.Reference.{HostListingIsReference, ParaListingIsReference};
 
 use crate::seen::Seen;
 use crate::watcher::Watcher;
 use tube_party::{Party, reference_is_replayed};
+
+/// Where a party follows a trace up to a tick, the run of its replay is the states from which it does the steps that use up the events that it
+/// follows.
+pub fn run_is_followed<M: Party>()
+    ensures { RunIsFollowed M.moves }
+{}
 
 /// Replayed against the accesses of the reference run of both, the host has the listing of the starts from which it does its steps in the
 /// reference run, whatever is chosen.

@@ -13,6 +13,6 @@ mod trail;
 mod watcher;
 
 pub use choice::Choice;
-pub use law::{host_listing_is_reference, para_listing_is_reference};
+pub use law::{host_listing_is_reference, para_listing_is_reference, run_is_followed};
 pub use listing::{FollowError, Listing, list};
 pub use seen::Seen;

@@ -8,6 +8,7 @@ use Rattle.follow.specs.declared.listing.Listing.{Listing}
 use Rattle.follow.specs.Start.{StartState}
 use Rattle.follow.specs.Listing.{listing_of, run_of, starts_of}
 use Rattle.follow.specs.CodeWatched.{Order, order, watched_of}
+use Rattle.follow.proofs.Inside.{place_inside}
 use Rattle.follow.proofs.Listed.{started, place_of, starts_after, order_after}
 use Rattle.follow.proofs.listing.list.Goals as goal
 
@@ -31,8 +32,8 @@ returns-in-Some-clause-differs g c =
     let s : g.M.Seen.Inside = g.M.Seen.inside c.args.machine in
     let begun : watched_of s (order c.new.result.part c.new.result.choice) c.new.result.trail.starts ≡ watched_of s (order c.args.part c.args.choice) [] =
     started s c.args.part c.args.choice c.new.result.part c.new.result.choice c.new.result.trail.starts c.new.ensures.part c.new.ensures.choice c.new.ensures.none in
-    let place : (replay_of w c.args.side c.args.trace.now c.args.n.0 s).place ≡ Some (c.in-Some.line, c.in-Some.doing) =
-    sym (place_of w g.M.Seen.sights (order c.args.part c.args.choice) c.args.side c.args.trace.now c.args.n.0 s _ begun) ∙ sym c.replay-watcher.ensures.place ∙ c.in-Some.is in
+    let place : (replay_of g.M.Party.moves c.args.side c.args.trace.now c.args.n.0 (g.M.Party.state c.args.machine)).place ≡ Some (c.in-Some.line, c.in-Some.doing) =
+    sym (place_inside g.M.Party.state g.M.Party.moves g.M.Seen.inside w g.met.M.Seen.same c.args.side c.args.trace.now c.args.n.0 c.args.machine) ∙ sym (place_of w g.M.Seen.sights (order c.args.part c.args.choice) c.args.side c.args.trace.now c.args.n.0 s _ begun) ∙ sym c.replay-watcher.ensures.place ∙ c.in-Some.is in
     λ line doing. told_place _ c.in-Some.line line c.in-Some.doing doing _ place refl
 
 pub returns-in-Some-finish-clause-differs : goal.returns-in-Some-finish-clause-differs
@@ -41,8 +42,8 @@ returns-in-Some-finish-clause-differs g c =
     let s : g.M.Seen.Inside = g.M.Seen.inside c.args.machine in
     let begun : watched_of s (order c.new.result.part c.new.result.choice) c.new.result.trail.starts ≡ watched_of s (order c.args.part c.args.choice) [] =
     started s c.args.part c.args.choice c.new.result.part c.new.result.choice c.new.result.trail.starts c.new.ensures.part c.new.ensures.choice c.new.ensures.none in
-    let place : (replay_of w c.args.side c.args.trace.now c.args.n.0 s).place ≡ None =
-    sym (place_of w g.M.Seen.sights (order c.args.part c.args.choice) c.args.side c.args.trace.now c.args.n.0 s _ begun) ∙ sym c.replay-watcher.ensures.place ∙ c.in-None.is in
+    let place : (replay_of g.M.Party.moves c.args.side c.args.trace.now c.args.n.0 (g.M.Party.state c.args.machine)).place ≡ None =
+    sym (place_inside g.M.Party.state g.M.Party.moves g.M.Seen.inside w g.met.M.Seen.same c.args.side c.args.trace.now c.args.n.0 c.args.machine) ∙ sym (place_of w g.M.Seen.sights (order c.args.part c.args.choice) c.args.side c.args.trace.now c.args.n.0 s _ begun) ∙ sym c.replay-watcher.ensures.place ∙ c.in-None.is in
     λ line doing. (λ same. cc, λ there. cc)
 
 pub returns-in-Some-finish-clause-follows : goal.returns-in-Some-finish-clause-follows
@@ -51,7 +52,7 @@ returns-in-Some-finish-clause-follows g c =
     let s : g.M.Seen.Inside = g.M.Seen.inside c.args.machine in
     let begun : watched_of s (order c.new.result.part c.new.result.choice) c.new.result.trail.starts ≡ watched_of s (order c.args.part c.args.choice) [] =
     started s c.args.part c.args.choice c.new.result.part c.new.result.choice c.new.result.trail.starts c.new.ensures.part c.new.ensures.choice c.new.ensures.none in
-    sym (place_of w g.M.Seen.sights (order c.args.part c.args.choice) c.args.side c.args.trace.now c.args.n.0 s _ begun) ∙ sym c.replay-watcher.ensures.place ∙ c.in-None.is
+    sym (place_inside g.M.Party.state g.M.Party.moves g.M.Seen.inside w g.met.M.Seen.same c.args.side c.args.trace.now c.args.n.0 c.args.machine) ∙ sym (place_of w g.M.Seen.sights (order c.args.part c.args.choice) c.args.side c.args.trace.now c.args.n.0 s _ begun) ∙ sym c.replay-watcher.ensures.place ∙ c.in-None.is
 
 pub returns-in-Some-finish-clause-listing : goal.returns-in-Some-finish-clause-listing
 returns-in-Some-finish-clause-listing g c =
@@ -74,6 +75,6 @@ returns-clause-differs g c =
     let s : g.M.Seen.Inside = g.M.Seen.inside c.args.machine in
     let begun : watched_of s (order c.new.result.part c.new.result.choice) c.new.result.trail.starts ≡ watched_of s (order c.args.part c.args.choice) [] =
     started s c.args.part c.args.choice c.new.result.part c.new.result.choice c.new.result.trail.starts c.new.ensures.part c.new.ensures.choice c.new.ensures.none in
-    let place : (replay_of w c.args.side c.args.trace.now c.args.n.0 s).place ≡ None =
-    sym (place_of w g.M.Seen.sights (order c.args.part c.args.choice) c.args.side c.args.trace.now c.args.n.0 s _ begun) ∙ sym c.replay-watcher.ensures.place ∙ c.in-None.is in
+    let place : (replay_of g.M.Party.moves c.args.side c.args.trace.now c.args.n.0 (g.M.Party.state c.args.machine)).place ≡ None =
+    sym (place_inside g.M.Party.state g.M.Party.moves g.M.Seen.inside w g.met.M.Seen.same c.args.side c.args.trace.now c.args.n.0 c.args.machine) ∙ sym (place_of w g.M.Seen.sights (order c.args.part c.args.choice) c.args.side c.args.trace.now c.args.n.0 s _ begun) ∙ sym c.replay-watcher.ensures.place ∙ c.in-None.is in
     λ line doing. (λ same. cc, λ there. cc)

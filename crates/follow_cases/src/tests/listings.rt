@@ -289,6 +289,19 @@ fn a_byte_is_watched_against_the_trace_of_both(rt: HostRuntime) -> Result<(), Fa
     Ok(())
 }
 
+#[test]
+fn a_refusal_is_told(rt: HostRuntime) -> Result<(), Fail> {
+    let doing = None;
+    let text = format!(in rt.alloc(); "{}", FollowError::Differs { line: 3, doing })?;
+    assert_eq!(rt;
+        text.as_str(),
+        "the machine differs from line 3 of the trace"
+    );
+    let text = format!(in rt.alloc(); "{}", FollowError::NoMemory)?;
+    assert_eq!(rt; text.as_str(), "no memory");
+    Ok(())
+}
+
 // What a machine is asked for at an address, and what it has there.
 type Peek = (u16, Option<u8>);
 

@@ -1,0 +1,5 @@
+//! Cases of listings.
+#![tactic(auto)]
+
+#[cfg(test)]
+mod tests;

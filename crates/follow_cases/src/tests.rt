@@ -1,0 +1,2 @@
+//! Tables of cases, by the public calls.
+mod listings;
