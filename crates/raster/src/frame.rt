@@ -1,6 +1,7 @@
 //! A frame.
 ghost use Rattle.std.specs.Prelude.{ℕ, ◌≡◌, ◌+◌, ◌*◌, ◌<◌, ◌≤◌, ◌++◌, true, false, length, take, drop, replicate, IfOk};
 ghost use Rattle.video_ula.specs.Pixels.{dots_of, row_colours};
+ghost use Rattle.beeb_bits.specs.Zeros.{zeros};
 ghost use Rattle.raster.specs.Frame.{black};
 
 use beeb_bits::{NoMemory, zeroed};
@@ -10,6 +11,10 @@ use video_ula::Ula;
 
 /// How many dots a frame has: 256 lines of 640.
 const FRAME_SIZE: usize = 163_840;
+
+const LINES: usize = 256;
+
+const LINE: usize = 640;
 
 /// A frame of 256 lines of 640 dots, by lines from the top. Each dot is a colour from 0 to 7: bit 0 is red, bit 1 green and bit 2 blue.
 #[derive(Drop)]
@@ -26,6 +31,25 @@ impl Model for Frame {
     ghost view = { λ f. f.colours.items };
 
     ghost invariant = { λ f. length f.colours.items ≡ 163840 };
+}
+
+// Makes the dots of one line black.
+#[inline(never)]
+fn clear_line(dots: &mut [u8])
+    requires { length dots.old ≡ LINE }
+    ensures { dots.new ≡ zeros LINE }
+{
+    dots.fill(0);
+}
+
+// Makes all dots black, a line at a time: a fill of so few bytes takes stores of many of them each.
+fn clear_lines(dots: &mut [u8])
+    requires { length dots.old ≡ FRAME_SIZE }
+    ensures { dots.new ≡ black }
+{
+    for y in 0..LINES {
+        clear_line(&mut dots[LINE * y..LINE * y + LINE]);
+    }
 }
 
 impl Frame {
@@ -51,7 +75,7 @@ impl Frame {
     pub(crate) fn clear(&mut self)
         ensures { self.new ≡ black }
     {
-        self.colours.fill(0);
+        clear_lines(&mut self.colours);
     }
 
     /// Sets dots, from `at` on.

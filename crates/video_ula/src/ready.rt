@@ -91,7 +91,8 @@ impl Ready {
         ensures { to.new ≡ side_by_side (λ k. eight_at self.now.table (slice_index bytes.now (k * step))) n }
     {
         for i in 0..n {
-            let eight = self.eight_at(bytes[i * step]);
+            let [a, b, c, d, e, f, g, h] = self.eight_at(bytes[i * step]);
+            let eight = [a, b, c, d, e, f, g, h];
             to[8 * i..8 * i + 8].copy_from_slice(&eight);
         }
     }
