@@ -130,7 +130,7 @@ impl Devices {
         self.steady = self.video.calm().min(self.converter.calm());
     }
 
-    // Any microsecond. One follows at which a line between two devices may change.
+    // Any microsecond, also one in which a line between two devices changes.
     #[inline(never)]
     #[tactic(auto, unfolding(crate::specs::Devices::microsecond))]
     fn step(&mut self, ram: &[u8], roms: &RomSet, keys: &Keys, levels: [u16; 4])
