@@ -1,8 +1,10 @@
 //! Listings of both machines, against short traces.
-use beeb_bits::{Clock, NoMemory, Side, Tick};
-use bus_plug::BusDevice;
+ghost use Rattle.std.specs.Prelude.{All, IfOk, IsTrue};
+ghost use Rattle.tube_trace.specs.Entries.{IsEntry};
+
+use beeb_bits::{Clock, Side, Tick};
+use bus_plug::RamCard;
 use follow::{Choice, FollowError, Listing, Seen, list};
-use host_bus::Bus;
 use host_mach::HostMachine;
 use op_table::Part;
 use para_mach::ParaMachine;
@@ -11,8 +13,8 @@ use std::alloc::Global;
 use std::test::Fail;
 use std::vec::Vec;
 use tube_chip::Op;
-use tube_party::{Doing, replay, solo};
-use tube_trace::{Entry, merge, read};
+use tube_party::{Doing, replay};
+use tube_trace::{Entry, read};
 
 // Bytes 00 but for some parts.
 fn image(alloc: Global, length: usize, parts: &[(usize, &[u8])]) -> Result<Vec<u8>, Fail> {
@@ -26,12 +28,6 @@ fn image(alloc: Global, length: usize, parts: &[(usize, &[u8])]) -> Result<Vec<u
     }
     Ok(bytes)
 }
-
-// A copy of itself to the RAM below it, and then two letters to register 1.
-const LETTERS: &[u8] = &[
-    0xa2, 0x1f, 0xbd, 0x00, 0xf8, 0x9d, 0x00, 0xf8, 0xca, 0x10, 0xf7, 0xa9, 0x48, 0x8d, 0xf9, 0xfe,
-    0xa9, 0x49, 0x8d, 0xf9, 0xfe, 0x4c, 0x15, 0xf8,
-];
 
 // Two letters from register 1 to 0070 and 0071, and then JMP C011.
 const TWO_LETTERS: &[u8] = &[
@@ -78,9 +74,6 @@ fn para(alloc: Global, name: &str) -> Result<ParaMachine, Fail> {
     Ok(ParaMachine::make(alloc, Clock::Three, bytes)?)
 }
 
-// None is plugged.
-type Plug = Box<dyn BusDevice + Send>;
-
 // What stands at C000, and at another place of the operating system, of the host's program of a name.
 fn os_of(name: &str) -> (&'static [u8], usize, &'static [u8]) {
     match name {
@@ -93,7 +86,7 @@ fn os_of(name: &str) -> (&'static [u8], usize, &'static [u8]) {
     }
 }
 
-fn host(alloc: Global, name: &str) -> Result<HostMachine<Plug>, Fail> {
+fn host(alloc: Global, name: &str) -> Result<HostMachine<RamCard>, Fail> {
     let (code, start, other) = os_of(name);
     let os = image(
         alloc,
@@ -102,7 +95,7 @@ fn host(alloc: Global, name: &str) -> Result<HostMachine<Plug>, Fail> {
     )?;
     let roms = RomSet::read(os, Vec::new(alloc), None)?;
     let script = key_script::read(alloc, b"")?;
-    let plugs: Vec<Plug> = Vec::new(alloc);
+    let plugs: Vec<RamCard> = Vec::new(alloc);
     Ok(HostMachine::make(alloc, Clock::Three, roms, None, None, script, plugs)?)
 }
 
@@ -142,17 +135,19 @@ fn address(digits: &str) -> Option<u16> {
 }
 
 // The program, the ticks and what is chosen.
-fn head_of(row: &str) -> Option<(&str, Tick, Choice)> {
+fn head_of(row: &str) -> Option<(&str, u16, Choice)> {
     let mut words = row.split(' ');
     let name = words.next()?;
-    let ticks: u32 = words.next()?.parse().ok()?;
+    let ticks = words.next()?.parse().ok()?;
     let at = address(words.next()?);
     let watch = address(words.next()?);
-    Some((name, Tick(u64::from(ticks)), Choice { at, watch }))
+    Some((name, ticks, Choice { at, watch }))
 }
 
 // The trace, in which `;` ends a line.
-fn entries_of(alloc: Global, text: &str) -> Result<Vec<Entry>, Fail> {
+fn entries_of(alloc: Global, text: &str) -> Result<Vec<Entry>, Fail>
+    ensures { IfOk result (λ entries. All IsEntry entries.items) }
+{
     let mut bytes = text.as_bytes().to_vec(alloc)?;
     for byte in bytes.iter_mut() {
         if *byte == b';' {
@@ -213,11 +208,16 @@ fn is_right<M: Seen>(
     machine: M,
     part: Part,
     side: Side,
-    (ticks, choice): (Tick, Choice),
-    (want, trace): (&str, &str),
-) -> Result<bool, Fail> {
+    ticks: u16,
+    choice: Choice,
+    row: (&str, &str),
+) -> Result<bool, Fail>
+    requires { IsTrue (M.plays side) }
+{
+    let (want, trace) = row;
     let entries = entries_of(alloc, trace)?;
-    let listing = list(alloc, machine, part, side, &entries, ticks, choice);
+    let n = Tick(u64::from(ticks));
+    let listing = list(alloc, machine, part, side, &entries, n, choice);
     Ok(is_told(told(alloc, listing)?.as_str(), want))
 }
 
@@ -233,10 +233,15 @@ fn first_wrong(
             let Some((name, ticks, choice)) = head_of(head) else {
                 return Ok(Some(line));
             };
-            let run = (ticks, choice);
             let right = match side {
-                Side::Host => is_right(alloc, host(alloc, name)?, Part::Nmos, side, run, told)?,
-                Side::Para => is_right(alloc, para(alloc, name)?, Part::Cmos, side, run, told)?,
+                Side::Host => {
+                    let machine = host(alloc, name)?;
+                    is_right(alloc, machine, Part::Nmos, Side::Host, ticks, choice, told)?
+                }
+                Side::Para => {
+                    let machine = para(alloc, name)?;
+                    is_right(alloc, machine, Part::Cmos, Side::Para, ticks, choice, told)?
+                }
             };
             if !right {
                 return Ok(Some(line));
@@ -258,34 +263,33 @@ fn the_hosts_starts_are_listed(rt: HostRuntime) -> Result<(), Fail> {
     Ok(())
 }
 
+// The host asks for a letter every 21 ticks, and is given two.
+const LAST_LINES: &str = "\
+000000039A P W 1 48;00000003A6 P W 1 49;00000003AB H R 0 C0;00000003BD H R 1 48;00000003EA H R 0 C0;00000003FC H R 1 49;";
+
 #[test]
-fn a_byte_is_watched_against_the_trace_of_both(rt: HostRuntime) -> Result<(), Fail> {
-    let boot = image(rt.alloc(), 2_048, &[(0, LETTERS), (0x7fc, &[0x00, 0xf8])])?;
-    let second = ParaMachine::make(rt.alloc(), Clock::Three, boot)?;
-    let first = host(rt.alloc(), "letters")?;
-    let Ok(done) = solo(rt.alloc(), first, second, Tick(2_000), 100) else {
-        return Err(NoMemory.into());
-    };
-    let trace = merge(rt.alloc(), &done.host_list, &done.para_list, 100)?;
-    assert_eq!(rt; trace.len(), 49);
+fn a_byte_is_watched_against_a_trace_of_both(rt: HostRuntime) -> Result<(), Fail> {
+    let mut trace = String::new(rt.alloc());
+    for time in 0_u64..43 {
+        write!(trace, "{:010X} H R 0 40;", 36 + 21 * time)?;
+    }
+    trace.push_str(LAST_LINES)?;
+    let machine = host(rt.alloc(), "letters")?;
     let choice = Choice {
         at: None,
         watch: Some(0x70),
     };
-    let again = host(rt.alloc(), "letters")?;
-    let listing = list(
+    let want = "1 of 1;00000003CC C00C A=48 X=00 Y=00 S=FD P=24 INX;";
+    let right = is_right(
         rt.alloc(),
-        again,
+        machine,
         Part::Nmos,
         Side::Host,
-        &trace,
-        Tick(2_000),
+        2_000,
         choice,
-    );
-    assert_eq!(rt;
-        told(rt.alloc(), listing)?.as_str(),
-        "1 of 1;00000003CC C00C A=48 X=00 Y=00 S=FD P=24 INX;"
-    );
+        (want, trace.as_str()),
+    )?;
+    assert!(rt; right);
     Ok(())
 }
 
@@ -306,7 +310,7 @@ fn a_refusal_is_told(rt: HostRuntime) -> Result<(), Fail> {
 type Peek = (u16, Option<u8>);
 
 // The first address at which a machine has another byte.
-fn first_other<M: Seen>(machine: &M, peeks: &[Peek]) -> Option<u16> {
+fn first_other<M: Seen>(machine: M, peeks: &[Peek]) -> Option<u16> {
     for (at, byte) in peeks {
         if machine.peek(*at) != *byte {
             return Some(*at);
@@ -354,40 +358,14 @@ const LATER_PEEKS: &[Peek] = &[
 #[test]
 fn what_stands_in_memory_is_seen(rt: HostRuntime) -> Result<(), Fail> {
     let first = host(rt.alloc(), "gate")?;
-    assert_eq!(rt; first_other(&first, HOST_PEEKS), None);
-    assert!(rt; !Seen::starting(&first) && Seen::regs(&first) == first.regs());
+    assert_eq!(rt; first_other(first, HOST_PEEKS), None);
     let second = para(rt.alloc(), "gate")?;
-    assert_eq!(rt; first_other(&second, PARA_PEEKS), None);
-    assert!(rt; !Seen::starting(&second) && Seen::regs(&second) == second.regs());
+    assert_eq!(rt; first_other(second, PARA_PEEKS), None);
     let trace = entries_of(rt.alloc(), "0000000016 P R 0 40;")?;
+    let second = para(rt.alloc(), "gate")?;
     let (later, place) = replay(second, Side::Para, &trace, Tick(24));
     assert_eq!(rt; place, None);
-    assert_eq!(rt; first_other(&later, LATER_PEEKS), None);
     assert!(rt; later.starting());
-    Ok(())
-}
-
-#[test]
-fn the_bus_has_its_memory(rt: HostRuntime) -> Result<(), Fail> {
-    let os = image(rt.alloc(), 16_384, &[(0x3bff, &[0xa9])])?;
-    let rom = image(rt.alloc(), 8_192, &[(0, &[0x23])])?;
-    let roms = RomSet::read(os, vec![in rt.alloc(); (5, rom)]?, None)?;
-    let script = key_script::read(rt.alloc(), b"")?;
-    let plugs: Vec<Plug> = Vec::new(rt.alloc());
-    let mut bus = Bus::make(rt.alloc(), Clock::Three, roms, None, None, script, plugs)?;
-    assert_eq!(rt; bus.peek(0x8000), Some(0xff));
-    bus.write(Tick(0), 0xfe30, 5);
-    bus.write(Tick(6), 0x7fff, 0x42);
-    for at in 0..=u16::MAX {
-        let there = bus.peek(at);
-        if (0xfc00..=0xfeff).contains(&at) {
-            assert_eq!(rt; there, None);
-        } else {
-            assert_eq!(rt; there, Some(bus.read(Tick(12), at)));
-        }
-    }
-    assert_eq!(rt; bus.peek(0x8000), Some(0x23));
-    assert_eq!(rt; bus.peek(0xa000), Some(0x23));
-    assert_eq!(rt; bus.peek(0x7fff), Some(0x42));
+    assert_eq!(rt; first_other(later, LATER_PEEKS), None);
     Ok(())
 }
