@@ -294,7 +294,8 @@ impl Screen {
         if span.cursor || span.sync || !self.is_cursor_far() {
             return 0;
         }
-        if !span.shown {
+        let hidden = !span.shown;
+        if hidden {
             return n;
         }
         if bit(self.ula.mode(), 1) {

@@ -17,6 +17,14 @@ const TELETEXT: [u8; 16] = [
     0x3f, 0x28, 0x33, 0x24, 0x1e, 2, 0x19, 0x1b, 0x93, 0x12, 0x72, 0x13, 0x28, 0, 0, 0,
 ];
 
+/// The screen of 80 characters of 8 dots, with the cursor in its second row.
+const EIGHTY: [u8; 16] = [
+    0x7f, 0x50, 0x62, 0x28, 0x26, 0, 0x20, 0x22, 1, 7, 2, 8, 6, 0, 6, 0x75,
+];
+
+/// What is changed for rows of ten lines, the last two black.
+const SPACED: [(usize, u8); 5] = [(4, 0x1e), (5, 2), (6, 0x19), (7, 0x1b), (9, 9)];
+
 /// The microseconds of three frames, or a little more.
 const FRAMES: u64 = 60_000;
 
@@ -99,6 +107,13 @@ impl Scene {
         if self.ram.len() == 32_768 {
             self.raster
                 .advance(&self.ram, screen_size(kilobytes), &self.roms, n);
+        }
+    }
+
+    fn step(&mut self, kilobytes: u8) {
+        if self.ram.len() == 32_768 {
+            self.raster
+                .step(&self.ram, screen_size(kilobytes), &self.roms);
         }
     }
 
@@ -383,6 +398,90 @@ fn agree_after(alloc: Global, control: u8, clocks: u8) -> Result<bool, Fail> {
 fn microseconds_at_once_are_microseconds_one_by_one(rt: HostRuntime) -> Result<(), Fail> {
     for (control, clocks) in [(0x00, 1), (0x10, 2)] {
         assert!(rt; agree_after(rt.alloc(), control, clocks)?, "{control}");
+    }
+    Ok(())
+}
+
+/// A screen of all bytes in all colours.
+fn colourful(
+    alloc: Global,
+    registers: &[u8; 16],
+    changes: &[(usize, u8)],
+    control: u8,
+) -> Result<Scene, Fail> {
+    let mut scene = Scene::make(alloc, &changed(registers, changes), control)?;
+    for at in 0..scene.ram.len() {
+        scene.ram[at] = (at % 251) as u8;
+    }
+    for entry in 0..16u8 {
+        scene.raster.ula().palette(16 * entry + (entry ^ 5));
+    }
+    Ok(scene)
+}
+
+/// Does so many microseconds, first one, then two at once, and so on: so that each stretch of characters is cut somewhere.
+fn more_and_more(scene: &mut Scene, kilobytes: u8, n: u64) {
+    let mut left = n;
+    for k in 1..1_000u64 {
+        let some = if k < left { k } else { left };
+        scene.advance(kilobytes, some);
+        left -= some;
+    }
+}
+
+fn step_by_step(scene: &mut Scene, kilobytes: u8, n: u64) {
+    for _ in 0..n {
+        scene.step(kilobytes);
+    }
+}
+
+/// Two frames of this screen are the same step by step, and by more and more steps at once, and they have more than one colour.
+fn is_same(
+    alloc: Global,
+    (registers, changes, control, kilobytes): (&[u8; 16], &[(usize, u8)], u8, u8),
+) -> Result<bool, Fail> {
+    let mut one = colourful(alloc, registers, changes, control)?;
+    let mut other = colourful(alloc, registers, changes, control)?;
+    step_by_step(&mut one, kilobytes, 45_000);
+    more_and_more(&mut other, kilobytes, 45_000);
+    let same = one.raster.frame().colours[..] == other.raster.frame().colours[..];
+    let coloured = one.count(0) < 163_840 && one.count(7) < 163_840;
+    Ok(same && coloured && one.raster.vsync() == other.raster.vsync())
+}
+
+#[test]
+fn stretches_of_characters_are_drawn_as_each_by_itself(rt: HostRuntime) -> Result<(), Fail> {
+    let rows: [(&[u8; 16], &[(usize, u8)], u8, u8); 20] = [
+        // Modes 0 to 7, with the cursor.
+        (&EIGHTY, &[], 0x9c, 20),
+        (&EIGHTY, &[], 0xd8, 20),
+        (&EIGHTY, &[], 0xf4, 20),
+        (&EIGHTY, &SPACED, 0x9c, 16),
+        (&GRAPHICS, &[(14, 0x0b), (15, 0x2a)], 0x88, 10),
+        (&GRAPHICS, &[(14, 0x0b), (15, 0x2a)], 0xc4, 10),
+        (&GRAPHICS, &SPACED, 0x88, 8),
+        (&TELETEXT, &[(14, 0x28), (15, 0x29)], 0x4b, 16),
+        // Without it, and with one of four characters.
+        (&EIGHTY, &[(10, 0x20)], 0x9c, 20),
+        (&TELETEXT, &[(10, 0x20)], 0x4b, 16),
+        (&EIGHTY, &[], 0xfc, 20),
+        // Half of each cell, at the clock of 2 MHz.
+        (&TELETEXT, &[], 0x5b, 16),
+        // Over the frame's right and left edge, and its upper one.
+        (&EIGHTY, &[(2, 0x52)], 0x9c, 20),
+        (&EIGHTY, &[(2, 0x7b)], 0x9c, 20),
+        (&GRAPHICS, &[(2, 0x29)], 0x88, 10),
+        (&TELETEXT, &[(2, 0x3c), (7, 0x1e)], 0x4b, 16),
+        // Up to the end of the RAM and on from elsewhere, from bit-mapped addresses to those of teletext, and back.
+        (&EIGHTY, &[(12, 0x0f), (13, 0xd7)], 0x9c, 20),
+        (&GRAPHICS, &[(12, 0x1f), (13, 0xd7)], 0x88, 10),
+        (&TELETEXT, &[(12, 0x3f), (13, 0xd7)], 0x4b, 8),
+        // Lines that are shown whole.
+        (&GRAPHICS, &[(1, 0xff)], 0x88, 10),
+    ];
+    for row in rows {
+        let (_, _, control, kilobytes) = row;
+        assert!(rt; is_same(rt.alloc(), row)?, "{control} {kilobytes}");
     }
     Ok(())
 }

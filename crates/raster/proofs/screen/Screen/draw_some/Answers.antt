@@ -3,8 +3,8 @@ use Rattle.raster.specs.CodeSteps.{ArePlain}
 use Rattle.raster.proofs.Spans.{hidden_drawn}
 use Rattle.raster.proofs.screen.Screen.draw_some.Goals as goal
 
-pub returns-then-not-span-clause-drawn : goal.returns-then-not-span-clause-drawn
-returns-then-not-span-clause-drawn c =
+pub returns-then-hidden-clause-drawn : goal.returns-then-hidden-clause-drawn
+returns-then-hidden-clause-drawn c =
     let s = c.args.self.now in
     let not : c.args.span.shown ≡ false = search rules in
     let h : ArePlain c.args.span c.args.n s = record {
