@@ -1,5 +1,5 @@
 pub mod Cycles
 pub mod Operands
 pub mod Masks
-pub mod Operations
+pub mod AtOperand
 pub mod Forms

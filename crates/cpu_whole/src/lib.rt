@@ -4,6 +4,7 @@
 mod alone;
 mod at_once;
 mod operate;
+mod operations;
 mod plain;
 mod ways;
 

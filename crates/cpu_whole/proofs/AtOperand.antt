@@ -4,7 +4,9 @@ use Rattle.std.proofs.lemmas.List.{append-nil}
 use Rattle.op_table.specs.declared.names.Part.{Part}
 use Rattle.op_table.specs.declared.names.Part.TheVariants.{Nmos, Cmos}
 use Rattle.op_table.specs.declared.names.Mode.{Mode}
-use Rattle.op_table.specs.declared.names.Mode.TheVariants.{Acc}
+use Rattle.op_table.specs.declared.names.Mode.TheVariants.{Acc, Zp}
+use Rattle.op_table.specs.declared.names.Mnemonic.{Mnemonic}
+use Rattle.op_table.specs.declared.names.Mnemonic.TheVariants.{Asl, Dec, Inc, Lsr, Rol, Ror, Trb, Tsb}
 use Rattle.op_table.specs.declared.rows.Row.{Row}
 use Rattle.cpu_alu.specs.declared.Regs.{Regs}
 use Rattle.cpu_alu.specs.declared.Cycle.{Cycle}
@@ -218,3 +220,19 @@ modifying part row uses always is kind same =
     results Shifts h r f = refl
     results Modifies h r f = refl
     results _ h r f = cc
+
+-- what is made of a byte does not go by PC, nor the registers after it by the mode, but for A
+pub value_past : (name : Mnemonic) (r : Regs) (bytes m : ℕ) → modified_value name (with_pc_past r bytes) m ≡ modified_value name r m
+value_past Asl r bytes m = refl
+value_past Lsr r bytes m = refl
+value_past Rol r bytes m = refl
+value_past Ror r bytes m = refl
+value_past Inc r bytes m = refl
+value_past Dec r bytes m = refl
+value_past Tsb r bytes m = refl
+value_past Trb r bytes m = refl
+value_past _ r bytes m = refl
+
+pub modify_elsewhere : (name : Mnemonic) (way : Mode) (r : Regs) (m : ℕ) → way ≢ Acc → modify_result name Zp r m ≡ modify_result name way r m
+modify_elsewhere name Acc r m apart = absurd (apart refl)
+modify_elsewhere name _ r m apart = refl
