@@ -12,7 +12,7 @@ use Rattle.frame_out.specs.Pixmap.{pixmap}
 use Rattle.report.specs.declared.Line.{Line}
 use Rattle.report.specs.Text.{text}
 use Rattle.beeb_outcome.specs.declared.output.Output.{Output}
-use Rattle.beeb_outcome.specs.declared.output.Output.TheVariants.{Report, Memory, Disc, Frame, Trace, Plug, Sound, Bytes}
+use Rattle.beeb_outcome.specs.declared.output.Output.TheVariants.{Report, Memory, Disc, Frame, Trace, Plug, Sound, Session, Listing, Bytes}
 use Rattle.beeb_outcome.specs.Left.{Kept, Left}
 use Rattle.beeb_outcome.specs.Sound.{sound_bytes}
 
@@ -93,5 +93,7 @@ file_of l (Frame number) = (frame_name l.names.out number, bytes_in (frame_bytes
 file_of l Trace = (l.names.out ++ codes ".trace", bytes_in trace_text l.kept)
 file_of l (Plug number) = (l.names.out ++ (codes ".plug" ++ decimal number), bytes_in (plug_bytes number) l.host)
 file_of l Sound = (own_name l.names.wav, bytes_in (sound_bytes l.clock l.ticks) l.host)
+file_of l Session = (own_name l.names.save, unwrap_or l.saved [])
+file_of l Listing = (l.names.out ++ codes ".list", l.bytes)
 -- under the given name itself
 file_of l Bytes = (l.names.out, l.bytes)

@@ -20,5 +20,7 @@ pub record Left : Type 0 where
   pub host : Option HostState
   pub para : Option ParaState
   pub kept : Option Kept
+  -- the session file of the run, if it is to be saved
+  pub saved : Option (List ℕ)
   -- bytes that are an output by themselves
   pub bytes : List ℕ

@@ -4,7 +4,7 @@ use Rattle.beeb_bits.specs.declared.Side.TheVariants as sides
 use Rattle.host_bus.specs.Bus.{bus_disc}
 use Rattle.host_mach.specs.State.{HostState}
 use Rattle.beeb_outcome.specs.declared.output.Output.{Output}
-use Rattle.beeb_outcome.specs.declared.output.Output.TheVariants.{Report, Memory, Disc, Frame, Trace, Plug, Sound}
+use Rattle.beeb_outcome.specs.declared.output.Output.TheVariants.{Report, Memory, Disc, Frame, Trace, Plug, Sound, Session}
 use Rattle.beeb_outcome.specs.Left.{Left}
 
 -- this output, where what it is made of is there
@@ -49,3 +49,4 @@ machine_outputs l =
     ++ if_there Trace l.kept
     ++ of_host spills l.host
     ++ if_there Sound l.names.wav
+    ++ if_there Session l.names.save

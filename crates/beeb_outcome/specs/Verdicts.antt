@@ -1,5 +1,5 @@
 -- The verdicts that several commands have.
-use Rattle.std.specs.Prelude.{ℕ, List, [], ◌∷◌, map, Some, None}
+use Rattle.std.specs.Prelude.{ℕ, List, [], ◌∷◌, ◌++◌, map, Option, Some, None, codes}
 use Rattle.beeb_bits.specs.declared.clock.Clock.{Clock}
 use Rattle.host_mach.specs.State.{HostState}
 use Rattle.para_mach.specs.State.{ParaState}
@@ -19,6 +19,10 @@ said_verdict ending text = record { ending = ending; files = []; said = text }
 abbrev pub file_verdict : List ℕ → List ℕ → Verdict Ending
 file_verdict out bytes = record { ending = Done; files = (out, bytes) ∷ []; said = [] }
 
+-- the file of a listing, and then a text
+abbrev pub listing_verdict : List ℕ → List ℕ → List ℕ → Verdict Ending
+listing_verdict out bytes said = record { ending = Done; files = (out ++ codes ".list", bytes) ∷ []; said = said }
+
 -- what machines leave where they ended
 unfoldable pub machine_verdict : Left → Verdict Ending
 machine_verdict l = record { ending = Done; files = map (file_of l) (machine_outputs l); said = [] }
@@ -26,14 +30,14 @@ machine_verdict l = record { ending = Done; files = map (file_of l) (machine_out
 -- what the host leaves after a replay
 abbrev pub host_left : Clock → ℕ → ℕ → Names → HostState → Left
 host_left clock ticks tube names s =
-    record { names = names; clock = clock; ticks = ticks; tube = tube; host = Some s; para = None; kept = None; bytes = [] }
+    record { names = names; clock = clock; ticks = ticks; tube = tube; host = Some s; para = None; kept = None; saved = None; bytes = [] }
 
 -- what the second processor leaves after a replay
 abbrev pub para_left : Clock → ℕ → ℕ → Names → ParaState → Left
 para_left clock ticks tube names s =
-    record { names = names; clock = clock; ticks = ticks; tube = tube; host = None; para = Some s; kept = None; bytes = [] }
+    record { names = names; clock = clock; ticks = ticks; tube = tube; host = None; para = Some s; kept = None; saved = None; bytes = [] }
 
--- what both machines leave after a run
-abbrev pub both_left : Clock → ℕ → ℕ → Names → HostState → ParaState → Kept → Left
-both_left clock ticks tube names s p kept =
-    record { names = names; clock = clock; ticks = ticks; tube = tube; host = Some s; para = Some p; kept = Some kept; bytes = [] }
+-- what both machines leave after a run, with its session file, if it is to be saved
+abbrev pub both_left : Clock → ℕ → ℕ → Names → HostState → ParaState → Kept → Option (List ℕ) → Left
+both_left clock ticks tube names s p kept saved =
+    record { names = names; clock = clock; ticks = ticks; tube = tube; host = Some s; para = Some p; kept = Some kept; saved = saved; bytes = [] }

@@ -1,5 +1,7 @@
 -- What the code holds, as the definitions see it.
-use Rattle.std.specs.Prelude.{option_map, option_copied}
+use Rattle.std.specs.Prelude.{ℕ, List, option_map, option_copied}
+use Rattle.std.specs.declared.vec.Vec.{Vec}
+use Rattle.std.specs.declared.alloc.Global.{Global}
 use Rattle.bus_plug.specs.Plug.{Plug}
 use Rattle.host_mach.specs.View.{host_seen}
 use Rattle.beeb_stages.specs.Plan.{Verdict}
@@ -14,8 +16,11 @@ use Rattle.beeb_outcome.specs.Names as names
 use Rattle.beeb_outcome.specs.Left as lefts
 use Rattle.beeb_outcome.specs.Files.{file_of}
 
+abbrev pub items : Vec ℕ Global → List ℕ
+items v = v.items
+
 abbrev pub names_seen : Names → names.Names
-names_seen n = record { out = n.out.now; wav = option_copied n.wav }
+names_seen n = record { out = n.out.now; wav = option_copied n.wav; save = option_copied n.save }
 
 abbrev pub kept_seen : Kept → lefts.Kept
 kept_seen k = record { count = k.count; trace = k.trace.items }
@@ -30,6 +35,7 @@ left_seen plug l = record {
   host = option_map (host_seen plug) l.host;
   para = l.para;
   kept = option_map kept_seen l.kept;
+  saved = option_map items l.saved;
   bytes = l.bytes.items;
 }
 

@@ -1,10 +1,10 @@
 //! The file of each output.
-ghost use Rattle.std.specs.Prelude.{◌≡◌, ◌++◌, IfOk, option_map, string_bytes};
+ghost use Rattle.std.specs.Prelude.{◌≡◌, ◌++◌, [], IfOk, option_map, string_bytes, unwrap_or};
 ghost use Rattle.host_mach.specs.View.{host_seen};
 ghost use Rattle.beeb_stages.specs.View.{seen_file};
 ghost use Rattle.beeb_outcome.specs.Files.{bytes_in, disc_bytes, frame_bytes, plug_bytes, trace_text, file_of};
 ghost use Rattle.beeb_outcome.specs.Sound.{sound_bytes};
-ghost use Rattle.beeb_outcome.specs.View.{kept_seen, left_seen};
+ghost use Rattle.beeb_outcome.specs.View.{items, kept_seen, left_seen};
 
 use crate::discs::disc_bytes;
 use crate::frames::{frame_bytes, frame_name};
@@ -71,6 +71,16 @@ fn trace_in(alloc: Global, kept: &Option<Kept>) -> Result<Vec<u8>, AllocError>
     }
 }
 
+// The session file of a run that is to be saved.
+fn session_in(alloc: Global, saved: &Option<Vec<u8>>) -> Result<Vec<u8>, AllocError>
+    ensures { IfOk result (λ v. v.items ≡ unwrap_or (option_map items saved.now) []) }
+{
+    match saved {
+        Some(bytes) => bytes.to_vec(alloc),
+        None => Ok(Vec::new(alloc)),
+    }
+}
+
 // What is heard of the host.
 fn sound_in<D: BusDevice>(alloc: Global, left: &Left<'_, D>) -> Result<Vec<u8>, AllocError>
     ensures { let there = option_map (host_seen D.plug) left.now.host in
@@ -123,6 +133,14 @@ impl<'a, D: BusDevice> Leaves for Left<'a, D> {
             Output::Sound => Ok((
                 String::from_str(alloc, self.names.wav.unwrap_or(""))?,
                 sound_in(alloc, self)?,
+            )),
+            Output::Session => Ok((
+                String::from_str(alloc, self.names.save.unwrap_or(""))?,
+                session_in(alloc, &self.saved)?,
+            )),
+            Output::Listing => Ok((
+                format!(in alloc; "{out}.list")?,
+                self.bytes.to_vec(alloc)?,
             )),
             Output::Bytes => Ok((String::from_str(alloc, out)?, self.bytes.to_vec(alloc)?)),
         }

@@ -29,6 +29,8 @@ pub struct Left<'a, D> {
     /// The second processor where it ended.
     pub para: Option<ParaMachine>,
     pub kept: Option<Kept>,
+    /// The session file of the run, if it is to be saved.
+    pub saved: Option<Vec<u8>>,
     /// Bytes that are an output by themselves.
     pub bytes: Vec<u8>,
     ghost most: { ticks.0 ≤ 1073741824 },

@@ -17,5 +17,5 @@ mod trace;
 pub use left::{Kept, Left};
 pub use names::Names;
 pub use output::Output;
-pub use product::{Outcome, file_outcome, machine_outcome, said_outcome};
+pub use product::{Outcome, file_outcome, listing_outcome, machine_outcome, said_outcome};
 pub use trace::{entries_of, trace_of, wrong_outcome};

@@ -13,6 +13,8 @@ pub struct Names<'a> {
     pub out: &'a str,
     /// That of the sound file, if one is asked for.
     pub wav: Option<&'a str>,
+    /// That of the session file, if one is to be saved.
+    pub save: Option<&'a str>,
 }
 
 impl<'a> Names<'a> {
@@ -23,6 +25,7 @@ impl<'a> Names<'a> {
         Names {
             out,
             wav: given.wav(),
+            save: given.save(),
         }
     }
 }

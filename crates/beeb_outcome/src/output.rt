@@ -19,6 +19,10 @@ pub enum Output {
     Plug(usize),
     /// The name that `--wav` gives: what is heard of the host's writes to its sound chip.
     Sound,
+    /// The name that `--save` gives: the run as a session file.
+    Session,
+    /// `OUT.list`: a listing of instructions, made before.
+    Listing,
     /// `OUT`: bytes that were made before.
     Bytes,
 }

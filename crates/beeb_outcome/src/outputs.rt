@@ -72,5 +72,6 @@ pub(crate) fn machine_outputs<D: BusDevice>(
     push_if(&mut outputs, Output::Trace, &left.kept)?;
     push_spills(&mut outputs, &left.host)?;
     push_if(&mut outputs, Output::Sound, &left.names.wav)?;
+    push_if(&mut outputs, Output::Session, &left.names.save)?;
     Ok(outputs)
 }

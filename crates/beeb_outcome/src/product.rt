@@ -3,7 +3,7 @@ ghost use Rattle.std.specs.Prelude.{◌≡◌, IfOk, Ok, []};
 ghost use Rattle.beeb_status.specs.declared.status.Ending.TheVariants.{Done};
 ghost use Rattle.beeb_outcome.specs.View.{left_seen, names_seen, verdict_of};
 ghost use Rattle.beeb_outcome.specs.Names.{one_name};
-ghost use Rattle.beeb_outcome.specs.Verdicts.{said_verdict, file_verdict, machine_verdict};
+ghost use Rattle.beeb_outcome.specs.Verdicts.{said_verdict, file_verdict, listing_verdict, machine_verdict};
 
 use crate::left::Left;
 use crate::names::Names;
@@ -23,13 +23,18 @@ fn bytes_left<'a, D: BusDevice>(out: &'a str, bytes: Vec<u8>) -> Left<'a, D>
     ensures bytes { result.bytes.items ≡ bytes.items }
 {
     Left {
-        names: Names { out, wav: None },
+        names: Names {
+            out,
+            wav: None,
+            save: None,
+        },
         clock: Clock::Three,
         ticks: Tick(0),
         tube: 0,
         host: None,
         para: None,
         kept: None,
+        saved: None,
         bytes,
     }
 }
@@ -48,6 +53,25 @@ pub fn said_outcome<'a, D: BusDevice>(
         said,
         left: bytes_left("", Vec::new(alloc)),
     }
+}
+
+/// The file of a listing with these bytes, and a text.
+pub fn listing_outcome<'a, D: BusDevice>(
+    alloc: Global,
+    out: &'a str,
+    bytes: Vec<u8>,
+    said: Vec<u8>,
+) -> Result<Outcome<'a, D>, AllocError>
+    ensures { IfOk result (λ outcome. verdict_of D.plug outcome ≡ listing_verdict out.now bytes.items said.items) }
+{
+    let mut outputs = Vec::new(alloc);
+    outputs.push(Output::Listing)?;
+    Ok(beeb_stages::Outcome {
+        ending: Ending::Done,
+        outputs,
+        said,
+        left: bytes_left(out, bytes),
+    })
 }
 
 /// One file of this name with these bytes.

@@ -2,7 +2,7 @@
 use Rattle.std.specs.Prelude.{ℕ, List, [], ◌++◌, Option, Some, None, Result, Ok, Err, codes}
 use Rattle.std.specs.Fmt.{decimal}
 use Rattle.beeb_status.specs.declared.status.Status.{Status}
-use Rattle.beeb_status.specs.declared.status.Status.TheVariants.{Done, Usage, ReadFault, TooLong, BadImage, BadScript, BadTrace, BadSource, WriteFault, NoThread, NoMemory, Wrong, Differs}
+use Rattle.beeb_status.specs.declared.status.Status.TheVariants.{Done, Usage, ReadFault, TooLong, BadImage, BadScript, BadTrace, BadSource, BadState, WriteFault, NoThread, NoMemory, Wrong, Differs}
 use Rattle.beeb_status.specs.declared.status.Ending.{Ending}
 use Rattle.beeb_status.specs.declared.status.Ending.TheVariants as endings
 use Rattle.beeb_status.specs.declared.status.Cause.{Cause}
@@ -21,6 +21,7 @@ number (BadImage which len) = 3
 number (BadScript line kind) = 4
 number (BadTrace line kind) = 4
 number (BadSource line kind) = 4
+number (BadState at) = 4
 number (WriteFault name) = 5
 number NoThread = 6
 number NoMemory = 7
@@ -45,6 +46,7 @@ text (BadImage which len) = codes "bad image " ++ which_text which ++ codes " " 
 text (BadScript line kind) = codes "bad script " ++ decimal line
 text (BadTrace line kind) = codes "bad trace " ++ decimal line
 text (BadSource line kind) = codes "bad source " ++ decimal line
+text (BadState at) = codes "bad state " ++ decimal at
 text (WriteFault name) = codes "cannot write " ++ name
 text NoThread = codes "no thread"
 text NoMemory = codes "no memory"
@@ -61,6 +63,7 @@ end_of (BadImage which len) = Some (Err (stops.Refused (causes.BadImage which le
 end_of (BadScript line kind) = Some (Err (stops.Refused (causes.BadScript line kind)))
 end_of (BadTrace line kind) = Some (Err (stops.Refused (causes.BadTrace line kind)))
 end_of (BadSource line kind) = Some (Err (stops.Refused (causes.BadSource line kind)))
+end_of (BadState at) = Some (Err (stops.Refused (causes.BadState at)))
 end_of (WriteFault name) = Some (Err (stops.WriteFault name))
 end_of NoThread = Some (Err stops.NoThread)
 end_of NoMemory = Some (Err stops.NoMemory)

@@ -45,6 +45,9 @@ pub enum Status {
     /// The source text's first offending line, counted from 1: syntax (kind 1), no such form (2), unknown label (3), repeated
     /// label (4), out of range (5), past the end of memory (6).
     BadSource { line: u64, kind: u8 },
+    /// The offset of the session file's first field at fault; its length, where it ends before that field or inside it; or the offset of the
+    /// first byte that stands behind its last field.
+    BadState { at: u64 },
     /// The file of this name could not be written, or, for `-`, the text not said.
     WriteFault { name: Name },
     /// No thread could be started.
@@ -80,6 +83,8 @@ pub enum Cause {
     BadTrace { line: u64, kind: u8 },
     /// The source text's first offending line, counted from 1, and the kind of its offence.
     BadSource { line: u64, kind: u8 },
+    /// Where the session file is outside its form.
+    BadState { at: u64 },
 }
 
 /// The status of a command's end.
@@ -94,6 +99,7 @@ pub fn status_of(end: Result<Ending, Stop<Cause>>) -> Status
         Err(Stop::Refused(Cause::BadScript { line, kind })) => Status::BadScript { line, kind },
         Err(Stop::Refused(Cause::BadTrace { line, kind })) => Status::BadTrace { line, kind },
         Err(Stop::Refused(Cause::BadSource { line, kind })) => Status::BadSource { line, kind },
+        Err(Stop::Refused(Cause::BadState { at })) => Status::BadState { at },
         Err(Stop::ReadFault(name)) => Status::ReadFault { name },
         Err(Stop::TooLong(name)) => Status::TooLong { name },
         Err(Stop::WriteFault(name)) => Status::WriteFault { name },
@@ -149,7 +155,10 @@ impl Status {
             Status::Usage => 1,
             Status::ReadFault { .. } | Status::TooLong { .. } => 2,
             Status::BadImage { .. } => 3,
-            Status::BadScript { .. } | Status::BadTrace { .. } | Status::BadSource { .. } => 4,
+            Status::BadScript { .. }
+            | Status::BadTrace { .. }
+            | Status::BadSource { .. }
+            | Status::BadState { .. } => 4,
             Status::WriteFault { .. } => 5,
             Status::NoThread => 6,
             Status::NoMemory => 7,
@@ -170,6 +179,7 @@ impl Status {
             Status::BadScript { line, .. } => numbered(alloc, "bad script ", *line),
             Status::BadTrace { line, .. } => numbered(alloc, "bad trace ", *line),
             Status::BadSource { line, .. } => numbered(alloc, "bad source ", *line),
+            Status::BadState { at } => numbered(alloc, "bad state ", *at),
             Status::WriteFault { name } => joined(alloc, "cannot write ", name.as_bytes()),
             Status::NoThread => joined(alloc, "no thread", &[]),
             Status::NoMemory => joined(alloc, "no memory", &[]),

@@ -3,10 +3,10 @@ use Rattle.std.proofs.Common.{◌≡◌, ◌∙◌, sym, refl, ap, ℕ, List, []
 use Rattle.std.specs.Prelude.{option_and_then, option_map}
 use Rattle.beeb_words.specs.declared.keys.Taker.{Taker}
 use Rattle.beeb_words.specs.declared.keys.Taker.TheVariants as takers
-use Rattle.beeb_words.specs.Alone.{is_dashed, alone, two, four}
+use Rattle.beeb_words.specs.Alone.{is_dashed, alone, two, three, four}
 use Rattle.beeb_words.specs.Given.{Values, no_values, options, is_closed, put_options, closed_options, options_of}
-use Rattle.beeb_words.specs.Command.{solo, run}
-use Rattle.beeb_words.specs.Words.{Both, both_by, both_words, replay_of, replay_by, replay_words, solo_words, run_words, command}
+use Rattle.beeb_words.specs.Command.{replay, solo, run, follow}
+use Rattle.beeb_words.specs.Words.{Both, both_by, both_words, Sided, by_side, sided_by, sided_words, replay_words, solo_words, run_words, resume_by, resume_words, follow_words, command}
 use Rattle.beeb_words.specs.Places.{StandAnywhere}
 use Rattle.beeb_words.proofs.OrderLemmas.{order_free}
 use Rattle.digits.specs.Decimal.{decimal_number}
@@ -132,10 +132,15 @@ module _ (key value : List ℕ) (front over back : List (List ℕ)) (dashed : is
   unfolding options_of closed_options
   given_same taker = rw (closed_same, put_same taker) refl
 
-  replay_same : replay_words before ≡ replay_words after
-  replay_same =
-      rw alone_same (under (four (alone false after)) (replay_by before) (replay_by after)
-      (λ w. under (side_of w.0) _ _ (λ side. under (decimal_number 1073741824 w.2) _ _ (λ ticks. rw (given_same (replay_of side)) refl))))
+  sided_same : (host para : Taker) → sided_words host para before ≡ sided_words host para after
+  sided_same host para =
+      rw alone_same (under (four (alone false after)) (sided_by host para before) (sided_by host para after)
+      (λ w. under (side_of w.0) _ _ (λ side. under (decimal_number 1073741824 w.2) _ _ (λ ticks. rw (given_same (by_side host para side)) refl))))
+
+  resume_same : resume_words before ≡ resume_words after
+  resume_same =
+      rw alone_same (under (three (alone false after)) (resume_by before) (resume_by after)
+      (λ w. under (decimal_number 1073741824 w.1) _ _ (λ ticks. rw (given_same takers.Resume) refl)))
 
   both_same : (taker : Taker) → both_words taker before ≡ both_words taker after
   both_same taker =
@@ -154,10 +159,21 @@ run_is : (ws : List (List ℕ)) → command (codes "run" ∷ ws) ≡ run_words w
 unfolding command
 run_is ws = refl
 
+resume_is : (ws : List (List ℕ)) → command (codes "resume" ∷ ws) ≡ resume_words ws
+unfolding command
+resume_is ws = refl
+
+follow_is : (ws : List (List ℕ)) → command (codes "follow" ∷ ws) ≡ follow_words ws
+unfolding command
+follow_is ws = refl
+
 pub stand_anywhere : StandAnywhere
 stand_anywhere = (
   λ key value front over back dashed one closed.
-      replay_is _ ∙ replay_same key value front over back dashed one closed ∙ sym (replay_is _),
+      replay_is _
+      ∙ ap (λ (o : Option Sided). option_map (λ (s : Sided). replay s.side s.trace s.ticks s.out s.given) o)
+      (sided_same key value front over back dashed one closed takers.ReplayHost takers.ReplayPara)
+      ∙ sym (replay_is _),
   λ key value front over back dashed one closed.
       solo_is _
       ∙ ap (λ (o : Option Both). option_map (λ (b : Both). solo b.ticks b.out b.keep b.given) o) (both_same key value front over back dashed one closed takers.Solo)
@@ -166,4 +182,11 @@ stand_anywhere = (
       run_is _
       ∙ ap (λ (o : Option Both). option_map (λ (b : Both). run b.ticks b.out b.keep b.given) o) (both_same key value front over back dashed one closed takers.Run)
       ∙ sym (run_is _),
+  λ key value front over back dashed one closed.
+      resume_is _ ∙ resume_same key value front over back dashed one closed ∙ sym (resume_is _),
+  λ key value front over back dashed one closed.
+      follow_is _
+      ∙ ap (λ (o : Option Sided). option_map (λ (s : Sided). follow s.side s.trace s.ticks s.out s.given) o)
+      (sided_same key value front over back dashed one closed takers.FollowHost takers.FollowPara)
+      ∙ sym (follow_is _),
 )

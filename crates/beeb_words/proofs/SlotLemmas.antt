@@ -5,8 +5,8 @@ use Rattle.std.specs.List.{filter_map, cons_option}
 use Rattle.beeb_words.specs.declared.keys.Slot.{Slot}
 use Rattle.beeb_words.specs.Keys.{Value, file, output, numeric, one_of, four_digits, Key, keys}
 use Rattle.beeb_words.specs.Given.{Values}
-use Rattle.beeb_words.specs.Command.{Command, check, asm, dis, replay, solo, run, gen, ticks_of}
-use Rattle.beeb_words.specs.Reads.{reads, file_of, files_of, rom_slot, rise_from, HaveRomSlots, IsWithin}
+use Rattle.beeb_words.specs.Command.{Command, check, asm, dis, replay, solo, run, resume, follow, gen}
+use Rattle.beeb_words.specs.Reads.{reads, file_of, files_of, rom_slot, rise_from, HaveRomSlots, IsLimited, IsWithin}
 
 -- numbers that rise from one number on rise from a smaller one on
 from_below : (low high : ℕ) (ns : List ℕ) → low ≤ high → IsTrue (rise_from high ns) → IsTrue (rise_from low ns)
@@ -64,7 +64,9 @@ have_rom_slots (dis part image origin out) = refl
 have_rom_slots (replay side trace ticks out given) = files_rise keys given 0 keys_rise
 have_rom_slots (solo ticks out keep given) = files_rise keys given 0 keys_rise
 have_rom_slots (run ticks out keep given) = files_rise keys given 0 keys_rise
+have_rom_slots (resume state ticks out keep given) = refl
+have_rom_slots (follow side trace ticks out given) = files_rise keys given 0 keys_rise
 have_rom_slots (gen seed) = refl
 
-pub is_within : (c : Command) → ticks_of c ≤ 1073741824 → IsWithin c
-is_within c few = record { ticks = few; roms = have_rom_slots c }
+pub is_within : (c : Command) → IsLimited c → IsWithin c
+is_within c few = record { ticks = few.0; keep = few.1; roms = have_rom_slots c }

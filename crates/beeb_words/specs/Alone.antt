@@ -24,6 +24,14 @@ two (a ∷ []) = None
 two (a ∷ b ∷ []) = Some (a, b)
 two (a ∷ b ∷ c ∷ ws) = None
 
+-- the three words that stand alone
+abbrev pub three : List (List ℕ) → Option (List ℕ × List ℕ × List ℕ)
+three [] = None
+three (a ∷ []) = None
+three (a ∷ b ∷ []) = None
+three (a ∷ b ∷ c ∷ []) = Some (a, b, c)
+three (a ∷ b ∷ c ∷ d ∷ ws) = None
+
 -- the four words that stand alone
 abbrev pub four : List (List ℕ) → Option (List ℕ × List ℕ × List ℕ × List ℕ)
 four [] = None

@@ -4,9 +4,9 @@ use Rattle.std.specs.Str.{bytes_eq}
 use Rattle.beeb_bits.specs.declared.clock.Clock.{Clock}
 use Rattle.beeb_bits.specs.declared.clock.Clock.TheVariants.{Three, Four}
 use Rattle.beeb_words.specs.declared.keys.Taker.{Taker}
-use Rattle.beeb_words.specs.declared.keys.Taker.TheVariants.{ReplayHost, ReplayPara, Solo, Run}
+use Rattle.beeb_words.specs.declared.keys.Taker.TheVariants.{ReplayHost, ReplayPara, Solo, Run, Resume, FollowHost, FollowPara}
 use Rattle.beeb_words.specs.Alone.{is_dashed}
-use Rattle.beeb_words.specs.Keys.{Key, keys, place_of, fits}
+use Rattle.beeb_words.specs.Keys.{Key, keys, place_of, fits, address_of}
 use Rattle.digits.specs.Decimal.{decimal_number}
 
 -- the options among the words, in order, where the word before them may be the key of the first
@@ -81,18 +81,33 @@ clock_of values = clock_in (value_of values (codes "--speed"))
 abbrev pub wav_of : Values → Option (List ℕ)
 wav_of values = value_of values (codes "--wav")
 
+-- the name of the session file, if one is to be saved
+abbrev pub save_of : Values → Option (List ℕ)
+save_of values = value_of values (codes "--save")
+
+-- the address of the instructions that are listed, if only those of one address are
+abbrev pub at_of : Values → Option ℕ
+at_of values = option_and_then address_of (value_of values (codes "--at"))
+
+-- the address that is watched, if only instructions in front of which its byte changed are listed
+abbrev pub watch_of : Values → Option ℕ
+watch_of values = option_and_then address_of (value_of values (codes "--watch"))
+
 abbrev pub has_os : Values → Bool
 has_os values = is_some (value_of values (codes "--os"))
 
 abbrev pub has_tube : Values → Bool
 has_tube values = is_some (value_of values (codes "--tube"))
 
--- the machines of a command have their image: `--os` the host, `--tube` the second processor
+-- The machines of a command have their image: `--os` the host, `--tube` the second processor. Those of `resume` have it in the session file.
 abbrev pub has_images : Taker → Values → Bool
 has_images ReplayHost values = has_os values
 has_images ReplayPara values = has_tube values
 has_images Solo values = has_os values && has_tube values
 has_images Run values = has_os values && has_tube values
+has_images Resume values = true
+has_images FollowHost values = has_os values
+has_images FollowPara values = has_tube values
 
 abbrev pub if_images : Taker → Values → Option Values
 if_images taker values = if has_images taker values then Some values else None

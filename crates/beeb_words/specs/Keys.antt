@@ -5,11 +5,11 @@ use Rattle.std.specs.Str.{bytes_eq}
 use Rattle.beeb_words.specs.declared.keys.Slot.{Slot}
 use Rattle.beeb_words.specs.declared.keys.Slot.TheVariants.{Os, Tube, Rom, Font, Disc, Keys}
 use Rattle.beeb_words.specs.declared.keys.Taker.{Taker}
-use Rattle.beeb_words.specs.declared.keys.Taker.TheVariants.{ReplayHost, ReplayPara, Solo, Run}
+use Rattle.beeb_words.specs.declared.keys.Taker.TheVariants.{ReplayHost, ReplayPara, Solo, Run, Resume, FollowHost, FollowPara}
 use Rattle.beeb_words.specs.declared.keys.Takers.{Takers}
 use Rattle.beeb_words.specs.Alone.{is_name}
 use Rattle.digits.specs.Decimal.{decimal_number}
-use Rattle.digits.specs.Hexadecimal.{is_hex}
+use Rattle.digits.specs.Hexadecimal.{hex_number, is_hex}
 
 -- what the value of an option is
 pub data Value : Type 0 where
@@ -33,21 +33,29 @@ pub record Key : Type 0 where
 abbrev pub key : List ℕ → Takers → Value → Key
 key word takers value = record { word = word; takers = takers; value = value }
 
--- the commands that have a host
+-- the commands that have a host made of what the words give
 abbrev pub hosts : Takers
-hosts = record { replay_host = true; replay_para = false; solo = true; run = true }
+hosts = record { replay_host = true; replay_para = false; solo = true; run = true; resume = false; follow_host = true; follow_para = false }
 
--- the commands that have a second processor
+-- the commands that have such a second processor
 abbrev pub paras : Takers
-paras = record { replay_host = false; replay_para = true; solo = true; run = true }
+paras = record { replay_host = false; replay_para = true; solo = true; run = true; resume = false; follow_host = false; follow_para = true }
 
--- the commands that have both
-abbrev pub pairs : Takers
-pairs = record { replay_host = false; replay_para = false; solo = true; run = true }
-
--- the commands that have a machine
+-- the commands that have one of both
 abbrev pub machines : Takers
-machines = record { replay_host = true; replay_para = true; solo = true; run = true }
+machines = record { replay_host = true; replay_para = true; solo = true; run = true; resume = false; follow_host = true; follow_para = true }
+
+-- the commands that run both machines, of what the words give or of a session file
+abbrev pub runs : Takers
+runs = record { replay_host = false; replay_para = false; solo = true; run = true; resume = true; follow_host = false; follow_para = false }
+
+-- the commands that leave a host
+abbrev pub heard : Takers
+heard = record { replay_host = true; replay_para = false; solo = true; run = true; resume = true; follow_host = false; follow_para = false }
+
+-- the commands that list instructions
+abbrev pub lists : Takers
+lists = record { replay_host = false; replay_para = false; solo = false; run = false; resume = false; follow_host = true; follow_para = true }
 
 -- The keys. Those of files stand in the order in which the files are read.
 unfoldable pub keys : List Key
@@ -75,14 +83,21 @@ keys =
     ∷ key (codes "--disc1") hosts (file (Disc 1))
     ∷ key (codes "--keys") hosts (file Keys)
     ∷ key (codes "--plugs") hosts (numeric 0 8)
-    ∷ key (codes "--keep") pairs (numeric 0 4194304)
+    ∷ key (codes "--keep") runs (numeric 0 4194304)
     ∷ key (codes "--speed") machines (one_of (codes "3" ∷ codes "4" ∷ []))
-    ∷ key (codes "--wav") hosts output
+    ∷ key (codes "--wav") heard output
+    ∷ key (codes "--save") runs output
+    ∷ key (codes "--at") lists four_digits
+    ∷ key (codes "--watch") lists four_digits
     ∷ []
+
+-- no command
+abbrev pub no_takers : Takers
+no_takers = record { replay_host = false; replay_para = false; solo = false; run = false; resume = false; follow_host = false; follow_para = false }
 
 -- what stands past the last key
 abbrev pub no_key : Key
-no_key = key [] (record { replay_host = false; replay_para = false; solo = false; run = false }) output
+no_key = key [] no_takers output
 
 abbrev pub key_at : ℕ → Key
 key_at place = slice_index_or keys place no_key
@@ -102,6 +117,9 @@ takes ReplayHost takers = takers.replay_host
 takes ReplayPara takers = takers.replay_para
 takes Solo takers = takers.solo
 takes Run takers = takers.run
+takes Resume takers = takers.resume
+takes FollowHost takers = takers.follow_host
+takes FollowPara takers = takers.follow_para
 
 -- a number that was read, if it is not too small
 abbrev pub is_from : ℕ → Option ℕ → Bool
@@ -115,6 +133,10 @@ is_among (w ∷ ws) word = if bytes_eq w word then true else is_among ws word
 
 abbrev pub is_four_digits : List ℕ → Bool
 is_four_digits word = length word == 4 && list_all is_hex word
+
+-- the number of four upper-case hexadecimal digits
+abbrev pub address_of : List ℕ → Option ℕ
+address_of word = if is_four_digits word then Some (hex_number word) else None
 
 -- a word may be such a value
 abbrev pub is_value : Value → List ℕ → Bool

@@ -13,4 +13,4 @@ MayMove word =
 
 -- of each command that takes options
 abbrev pub StandAnywhere : Type 0
-StandAnywhere = MayMove (codes "replay") × MayMove (codes "solo") × MayMove (codes "run")
+StandAnywhere = MayMove (codes "replay") × MayMove (codes "solo") × MayMove (codes "run") × MayMove (codes "resume") × MayMove (codes "follow")

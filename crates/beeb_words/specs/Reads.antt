@@ -2,10 +2,10 @@
 use Rattle.std.specs.Prelude.{ℕ, ◌+◌, ◌≤◌, ◌&&◌, nat_le, nat_lt, Bool, true, IsTrue, List, [], ◌∷◌, ◌++◌, map, Option, Some, None}
 use Rattle.std.specs.List.{filter_map}
 use Rattle.beeb_words.specs.declared.keys.Slot.{Slot}
-use Rattle.beeb_words.specs.declared.keys.Slot.TheVariants.{Trace, Source, Image, Os, Tube, Rom, Font, Disc, Keys}
+use Rattle.beeb_words.specs.declared.keys.Slot.TheVariants.{Trace, Source, Image, State, Os, Tube, Rom, Font, Disc, Keys}
 use Rattle.beeb_words.specs.Keys.{Value, file, output, numeric, one_of, four_digits, Key, keys}
 use Rattle.beeb_words.specs.Given.{Values}
-use Rattle.beeb_words.specs.Command.{Command, check, asm, dis, replay, solo, run, gen, ticks_of}
+use Rattle.beeb_words.specs.Command.{Command, check, asm, dis, replay, solo, run, resume, follow, gen, ticks_of, keep_of}
 
 -- the file that an option gives
 abbrev pub file_of : Value → Option (List ℕ) → List (Slot × List ℕ × ℕ)
@@ -30,6 +30,8 @@ reads (dis part image origin out) = (Image, image, 1048576) ∷ []
 reads (replay side trace ticks out given) = (Trace, trace, 100663296) ∷ files_of keys given
 reads (solo ticks out keep given) = files_of keys given
 reads (run ticks out keep given) = files_of keys given
+reads (resume state ticks out keep given) = (State, state, 33554432) ∷ []
+reads (follow side trace ticks out given) = (Trace, trace, 100663296) ∷ files_of keys given
 reads (gen seed) = []
 
 -- the number of a paged ROM's slot
@@ -38,11 +40,16 @@ rom_slot (Rom number) = Some number
 rom_slot Trace = None
 rom_slot Source = None
 rom_slot Image = None
+rom_slot State = None
 rom_slot Os = None
 rom_slot Tube = None
 rom_slot Font = None
 rom_slot (Disc number) = None
 rom_slot Keys = None
+
+-- the numbers that the words give are within their limits
+abbrev pub IsLimited : Command → Type 0
+IsLimited c = (ticks_of c ≤ 1073741824) × (keep_of c ≤ 4194304)
 
 -- numbers below 16 that rise, from this one on
 abbrev pub rise_from : ℕ → List ℕ → Bool
@@ -56,4 +63,5 @@ HaveRomSlots slots = IsTrue (rise_from 0 (filter_map rom_slot slots))
 -- the numbers of a command are within their limits
 pub record IsWithin (c : Command) : Type 0 where
   pub ticks : ticks_of c ≤ 1073741824
+  pub keep : keep_of c ≤ 4194304
   pub roms : HaveRomSlots (map (λ w. w.0) (reads c))

@@ -4,12 +4,13 @@ use Rattle.std.specs.Borrow.{Bor}
 use Rattle.std.specs.declared.string.String.{String}
 use Rattle.std.specs.declared.alloc.Global.{Global}
 use Rattle.beeb_words.specs.declared.command.Command.{Command}
-use Rattle.beeb_words.specs.declared.command.Command.TheVariants.{Check, Asm, Dis, Replay, Solo, Run, Gen}
+use Rattle.beeb_words.specs.declared.command.Command.TheVariants.{Check, Asm, Dis, Replay, Solo, Run, Resume, Follow, Gen}
 use Rattle.beeb_words.specs.declared.given.Given.{Given}
 use Rattle.beeb_words.specs.declared.keys.Key.{Key}
 use Rattle.beeb_words.specs.declared.keys.Value.{Value}
 use Rattle.beeb_words.specs.declared.keys.Value.TheVariants.{File, Output, Number, OneOf, FourDigits}
 use Rattle.beeb_words.specs.declared.words.Both.{Both}
+use Rattle.beeb_words.specs.declared.words.Sided.{Sided}
 use Rattle.beeb_words.specs.declared.keys.Slot.{Slot}
 use Rattle.beeb_words.specs.Command as commands
 use Rattle.beeb_words.specs.Given.{Values}
@@ -35,6 +36,8 @@ seen_command (Dis part image origin out) = commands.dis part image.now origin ou
 seen_command (Replay side trace ticks out given) = commands.replay side trace.now ticks out.now (seen_given given)
 seen_command (Solo ticks out keep given) = commands.solo ticks out.now keep (seen_given given)
 seen_command (Run ticks out keep given) = commands.run ticks out.now keep (seen_given given)
+seen_command (Resume state ticks out keep given) = commands.resume state.now ticks out.now keep (seen_given given)
+seen_command (Follow side trace ticks out given) = commands.follow side trace.now ticks out.now (seen_given given)
 seen_command (Gen seed) = commands.gen seed
 
 -- a word of a row
@@ -54,6 +57,9 @@ seen_key k = keys.key k.word.now k.takers (seen_value k.value)
 -- what a file is, its name and its cap
 abbrev pub seen_want : Slot × Bor (List ℕ) × ℕ → Slot × List ℕ × ℕ
 seen_want w = (w.0, w.1.now, w.2)
+
+abbrev pub seen_sided : Sided → words.Sided
+seen_sided s = record { side = s.side; trace = s.trace.now; ticks = s.ticks; out = s.out.now; given = seen_given s.given }
 
 abbrev pub seen_both : Both → words.Both
 seen_both b = record { ticks = b.ticks; out = b.out.now; keep = b.keep; given = seen_given b.given }

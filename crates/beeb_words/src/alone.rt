@@ -1,6 +1,6 @@
 //! The words that stand alone among the options.
 ghost use Rattle.std.specs.Prelude.{◌≡◌, map, option_map, MatchOption, false, [], ◌∷◌, string_bytes};
-ghost use Rattle.beeb_words.specs.Alone.{is_dashed, is_name, alone, two, four};
+ghost use Rattle.beeb_words.specs.Alone.{is_dashed, is_name, alone, two, three, four};
 
 /// A word that begins with `-`.
 pub(crate) fn is_dashed(word: &str) -> bool
@@ -48,6 +48,20 @@ pub(crate) fn two_alone(words: &[String]) -> Option<(&str, &str)>
     let (second, rest) = next_alone(rest)?;
     match next_alone(rest) {
         None => Some((first, second)),
+        Some(_) => None,
+    }
+}
+
+/// The three words that stand alone, if they are three.
+pub(crate) fn three_alone(words: &[String]) -> Option<(&str, &str, &str)>
+    ensures { let all = alone false (map string_bytes words.now) in
+        option_map (λ p. (p.0.now, p.1.now, p.2.now)) result ≡ three all }
+{
+    let (first, rest) = next_alone(words)?;
+    let (second, rest) = next_alone(rest)?;
+    let (third, rest) = next_alone(rest)?;
+    match next_alone(rest) {
+        None => Some((first, second, third)),
         Some(_) => None,
     }
 }

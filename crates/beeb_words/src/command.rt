@@ -49,6 +49,22 @@ pub enum Command<'a> {
         keep: u32,
         given: Given<'a>,
     },
+    /// `resume STATE TICKS OUT` and options, with the number of accesses that are kept
+    Resume {
+        state: &'a str,
+        ticks: u64,
+        out: &'a str,
+        keep: u32,
+        given: Given<'a>,
+    },
+    /// `follow SIDE TRACE TICKS OUT` and options
+    Follow {
+        side: Side,
+        trace: &'a str,
+        ticks: u64,
+        out: &'a str,
+        given: Given<'a>,
+    },
     /// `gen SEED`
     Gen {
         seed: u64,

@@ -15,6 +15,9 @@ const TRACE_CAP: u64 = 100_663_296;
 /// The most bytes of a source text.
 const SOURCE_CAP: u64 = 4_194_304;
 
+/// The most bytes of a session file.
+const STATE_CAP: u64 = 33_554_432;
+
 /// The most bytes of every other file.
 const FILE_CAP: u64 = 1_048_576;
 
@@ -73,12 +76,13 @@ impl<'a> Command<'a> {
             Command::Check { trace } => one(alloc, (Slot::Trace, *trace, TRACE_CAP)),
             Command::Asm { source, .. } => one(alloc, (Slot::Source, *source, SOURCE_CAP)),
             Command::Dis { image, .. } => one(alloc, (Slot::Image, *image, FILE_CAP)),
-            Command::Replay { trace, given, .. } => {
+            Command::Replay { trace, given, .. } | Command::Follow { trace, given, .. } => {
                 with_options(one(alloc, (Slot::Trace, *trace, TRACE_CAP))?, *given)
             }
             Command::Solo { given, .. } | Command::Run { given, .. } => {
                 with_options(Vec::new(alloc), *given)
             }
+            Command::Resume { state, .. } => one(alloc, (Slot::State, *state, STATE_CAP)),
             Command::Gen { .. } => Ok(Vec::new(alloc)),
         }
     }

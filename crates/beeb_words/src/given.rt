@@ -1,12 +1,13 @@
 //! Options among the words.
-ghost use Rattle.std.specs.Prelude.{◌≡◌, ◌<◌, ◌≤◌, map, length, option_map, option_copied, IfSome};
+ghost use Rattle.std.specs.Prelude.{◌≡◌, ◌<◌, ◌≤◌, map, length, option_map, option_and_then, option_copied, IfSome};
 ghost use Rattle.std.specs.Prelude.{string_bytes};
 ghost use Rattle.beeb_words.specs.Given.{options_of, closed_options, value_at, value_of, put_at, put_option};
-ghost use Rattle.beeb_words.specs.Given.{keep_in, keep_of, plugs_in, plugs_of, clock_in, clock_of, wav_of, has_os, has_tube, has_images};
+ghost use Rattle.beeb_words.specs.Given.{keep_in, keep_of, plugs_in, plugs_of, clock_in, clock_of, wav_of, save_of, at_of, watch_of, has_os, has_tube, has_images};
+ghost use Rattle.beeb_words.specs.Keys.{address_of};
 ghost use Rattle.beeb_words.specs.View.{seen_given, word_at};
 
 use crate::alone::is_dashed;
-use crate::keys::{COUNT, Taker, fits, place_of};
+use crate::keys::{COUNT, Taker, address_of, fits, place_of};
 use beeb_bits::Clock;
 use digits::decimal_number;
 
@@ -18,7 +19,8 @@ const DEFAULT_KEEP: u32 = 1_048_576;
 
 // The number of accesses that are kept, by the value of its key.
 fn keep_in(value: Option<&str>) -> u32
-    ensures { result ≡ keep_in (option_copied value.entry) }
+    ensures number { result ≡ keep_in (option_copied value.entry) }
+    ensures bound { result ≤ MOST_KEEP }
 {
     let Some(word) = value else {
         return DEFAULT_KEEP;
@@ -56,6 +58,16 @@ fn clock_in(value: Option<&str>) -> Clock
     }
 }
 
+// The address that is the value of a key.
+fn address_in(value: Option<&str>) -> Option<u16>
+    ensures { result ≡ option_and_then address_of (option_copied value.entry) }
+{
+    match value {
+        Some(word) => address_of(word),
+        None => None,
+    }
+}
+
 /// The options among the words, by the places of their keys: where the value of each stands among the words.
 #[derive(Clone, Copy)]
 pub struct Given<'a> {
@@ -87,7 +99,8 @@ impl<'a> Given<'a> {
 
     /// The number of accesses that are kept.
     pub(crate) fn keep(&self) -> u32
-        ensures { result ≡ keep_of (seen_given self.now) }
+        ensures number { result ≡ keep_of (seen_given self.now) }
+        ensures bound { result ≤ MOST_KEEP }
     {
         keep_in(self.value_of("--keep"))
     }
@@ -114,6 +127,27 @@ impl<'a> Given<'a> {
         self.value_of("--wav")
     }
 
+    /// The name of the session file, if the words ask for one.
+    pub fn save(&self) -> Option<&'a str>
+        ensures { option_copied result ≡ save_of (seen_given self.now) }
+    {
+        self.value_of("--save")
+    }
+
+    /// The address of the instructions that are listed, where the words ask for those of one address alone.
+    pub fn at(&self) -> Option<u16>
+        ensures { result ≡ at_of (seen_given self.now) }
+    {
+        address_in(self.value_of("--at"))
+    }
+
+    /// The address that is watched, where the words ask for the instructions in front of which its byte changed alone.
+    pub fn watch(&self) -> Option<u16>
+        ensures { result ≡ watch_of (seen_given self.now) }
+    {
+        address_in(self.value_of("--watch"))
+    }
+
     fn has_os(&self) -> bool
         ensures { result ≡ has_os (seen_given self.now) }
     {
@@ -131,9 +165,10 @@ impl<'a> Given<'a> {
         ensures { result ≡ has_images taker (seen_given self.now) }
     {
         match taker {
-            Taker::ReplayHost => self.has_os(),
-            Taker::ReplayPara => self.has_tube(),
+            Taker::ReplayHost | Taker::FollowHost => self.has_os(),
+            Taker::ReplayPara | Taker::FollowPara => self.has_tube(),
             Taker::Solo | Taker::Run => self.has_os() && self.has_tube(),
+            Taker::Resume => true,
         }
     }
 

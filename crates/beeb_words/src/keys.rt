@@ -2,11 +2,11 @@
 ghost use Rattle.std.specs.Prelude.{◌≡◌, ◌<◌, map, IfSome};
 ghost use Rattle.digits.specs.Decimal.{decimal_number};
 ghost use Rattle.beeb_words.specs.View.{seen_word, seen_value, seen_key};
-ghost use Rattle.beeb_words.specs.Keys.{key_at, place_of, fits, takes, is_from, is_among, is_four_digits, is_value};
+ghost use Rattle.beeb_words.specs.Keys.{key_at, place_of, fits, takes, is_from, is_among, is_four_digits, address_of, is_value};
 ghost use Rattle.beeb_words.specs.Keys as keys;
 
 use crate::alone::is_name;
-use digits::{all_hex, decimal_number};
+use digits::{all_hex, decimal_number, hex_number};
 
 /// What a file is to a command.
 #[derive(Clone, Copy, Debug, PartialEq, Eq)]
@@ -17,6 +17,8 @@ pub enum Slot {
     Source,
     /// An image to be disassembled.
     Image,
+    /// A session file.
+    State,
     /// The host's operating system.
     Os,
     /// The second processor's boot ROM.
@@ -42,6 +44,12 @@ pub(crate) enum Taker {
     Solo,
     /// `run`
     Run,
+    /// `resume`
+    Resume,
+    /// `follow host`
+    FollowHost,
+    /// `follow para`
+    FollowPara,
 }
 
 /// Which commands take an option.
@@ -51,38 +59,75 @@ pub(crate) struct Takers {
     pub(crate) replay_para: bool,
     pub(crate) solo: bool,
     pub(crate) run: bool,
+    pub(crate) resume: bool,
+    pub(crate) follow_host: bool,
+    pub(crate) follow_para: bool,
 }
 
-/// The commands that have a host.
+/// The commands that have a host made of what the words give.
 const HOSTS: Takers = Takers {
     replay_host: true,
     replay_para: false,
     solo: true,
     run: true,
+    resume: false,
+    follow_host: true,
+    follow_para: false,
 };
 
-/// The commands that have a second processor.
+/// The commands that have such a second processor.
 const PARAS: Takers = Takers {
     replay_host: false,
     replay_para: true,
     solo: true,
     run: true,
+    resume: false,
+    follow_host: false,
+    follow_para: true,
 };
 
-/// The commands that have both.
-const PAIRS: Takers = Takers {
-    replay_host: false,
-    replay_para: false,
-    solo: true,
-    run: true,
-};
-
-/// The commands that have a machine.
+/// The commands that have one of both.
 const MACHINES: Takers = Takers {
     replay_host: true,
     replay_para: true,
     solo: true,
     run: true,
+    resume: false,
+    follow_host: true,
+    follow_para: true,
+};
+
+/// The commands that run both machines, of what the words give or of a session file.
+const RUNS: Takers = Takers {
+    replay_host: false,
+    replay_para: false,
+    solo: true,
+    run: true,
+    resume: true,
+    follow_host: false,
+    follow_para: false,
+};
+
+/// The commands that leave a host.
+const HEARD: Takers = Takers {
+    replay_host: true,
+    replay_para: false,
+    solo: true,
+    run: true,
+    resume: true,
+    follow_host: false,
+    follow_para: false,
+};
+
+/// The commands that list instructions.
+const LISTS: Takers = Takers {
+    replay_host: false,
+    replay_para: false,
+    solo: false,
+    run: false,
+    resume: false,
+    follow_host: true,
+    follow_para: true,
 };
 
 /// What the value of an option is.
@@ -109,7 +154,7 @@ struct Key {
 }
 
 /// The number of keys.
-pub(crate) const COUNT: usize = 26;
+pub(crate) const COUNT: usize = 29;
 
 /// The speeds of the second processor, in MHz.
 const SPEEDS: &[&str] = &["3", "4"];
@@ -156,14 +201,17 @@ fn table() -> [Key; COUNT]
         row("--plugs", HOSTS, Value::Number { least: 0, most: 8 }),
         row(
             "--keep",
-            PAIRS,
+            RUNS,
             Value::Number {
                 least: 0,
                 most: 4_194_304,
             },
         ),
         row("--speed", MACHINES, Value::OneOf(SPEEDS)),
-        row("--wav", HOSTS, Value::Output),
+        row("--wav", HEARD, Value::Output),
+        row("--save", RUNS, Value::Output),
+        row("--at", LISTS, Value::FourDigits),
+        row("--watch", LISTS, Value::FourDigits),
     ]
 }
 
@@ -205,6 +253,9 @@ fn takes(taker: Taker, takers: Takers) -> bool
         Taker::ReplayPara => takers.replay_para,
         Taker::Solo => takers.solo,
         Taker::Run => takers.run,
+        Taker::Resume => takers.resume,
+        Taker::FollowHost => takers.follow_host,
+        Taker::FollowPara => takers.follow_para,
     }
 }
 
@@ -236,6 +287,18 @@ fn is_four_digits(word: &str) -> bool
 {
     let digits = word.as_bytes();
     digits.len() == 4 && all_hex(digits)
+}
+
+/// The number of four upper-case hexadecimal digits.
+pub(crate) fn address_of(word: &str) -> Option<u16>
+    ensures { result ≡ address_of word.now }
+{
+    let digits = word.as_bytes();
+    if digits.len() == 4 && all_hex(digits) {
+        Some(hex_number(digits) as u16)
+    } else {
+        None
+    }
 }
 
 // A word may be such a value.

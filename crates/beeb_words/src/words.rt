@@ -1,18 +1,17 @@
 //! The grammar of the words.
 ghost use Rattle.std.specs.Prelude.{◌≡◌, ◌≤◌, map, option_map, string_bytes, IsTrue, IfSome};
-ghost use Rattle.beeb_words.specs.Command.{ticks_of};
-ghost use Rattle.beeb_words.specs.Words.{part_of, origin_of, side_of, replay_of, command};
+ghost use Rattle.beeb_words.specs.Words.{part_of, side_of, by_side, sided_words, command};
 ghost use Rattle.beeb_words.specs.Words.{check_words, asm_words, dis_words, replay_words, both_words};
-ghost use Rattle.beeb_words.specs.Words.{solo_words, run_words, gen_words};
-ghost use Rattle.beeb_words.specs.Reads.{IsWithin};
-ghost use Rattle.beeb_words.specs.View.{seen_command, seen_both};
+ghost use Rattle.beeb_words.specs.Words.{solo_words, run_words, resume_words, follow_words, gen_words};
+ghost use Rattle.beeb_words.specs.Reads.{IsLimited, IsWithin};
+ghost use Rattle.beeb_words.specs.View.{seen_command, seen_sided, seen_both};
 
-use crate::alone::{four_alone, is_name, two_alone};
+use crate::alone::{four_alone, is_name, three_alone, two_alone};
 use crate::command::Command;
 use crate::given::{Given, options_among};
-use crate::keys::Taker;
+use crate::keys::{Taker, address_of};
 use beeb_bits::Side;
-use digits::{all_hex, decimal_number, hex_number};
+use digits::decimal_number;
 use op_table::Part;
 
 /// The most ticks of a run.
@@ -20,7 +19,7 @@ const MOST_TICKS: u64 = 1_073_741_824;
 
 fn check_words(words: &[String]) -> Option<Command<'_>>
     ensures command { option_map seen_command result ≡ check_words (map string_bytes words.now) }
-    ensures ticks { IfSome result (λ c. ticks_of (seen_command c) ≤ MOST_TICKS) }
+    ensures limits { IfSome result (λ c. IsLimited (seen_command c)) }
 {
     match words {
         [trace] if is_name(trace.as_str()) => Some(Command::Check {
@@ -42,21 +41,9 @@ fn part_of(word: &str) -> Option<Part>
     }
 }
 
-// Four upper-case hexadecimal digits.
-fn origin_of(word: &str) -> Option<u16>
-    ensures { result ≡ origin_of word.now }
-{
-    let digits = word.as_bytes();
-    if digits.len() == 4 && all_hex(digits) {
-        Some(hex_number(digits) as u16)
-    } else {
-        None
-    }
-}
-
 fn asm_words(words: &[String]) -> Option<Command<'_>>
     ensures command { option_map seen_command result ≡ asm_words (map string_bytes words.now) }
-    ensures ticks { IfSome result (λ c. ticks_of (seen_command c) ≤ MOST_TICKS) }
+    ensures limits { IfSome result (λ c. IsLimited (seen_command c)) }
 {
     match words {
         [part, source, out] => {
@@ -77,12 +64,12 @@ fn asm_words(words: &[String]) -> Option<Command<'_>>
 
 fn dis_words(words: &[String]) -> Option<Command<'_>>
     ensures command { option_map seen_command result ≡ dis_words (map string_bytes words.now) }
-    ensures ticks { IfSome result (λ c. ticks_of (seen_command c) ≤ MOST_TICKS) }
+    ensures limits { IfSome result (λ c. IsLimited (seen_command c)) }
 {
     match words {
         [part, image, origin, out] => {
             let part = part_of(part.as_str())?;
-            let origin = origin_of(origin.as_str())?;
+            let origin = address_of(origin.as_str())?;
             if is_name(image.as_str()) && is_name(out.as_str()) {
                 Some(Command::Dis {
                     part,
@@ -110,19 +97,29 @@ fn side_of(word: &str) -> Option<Side>
     }
 }
 
-// The replay of a side.
-fn replay_of(side: Side) -> Taker
-    ensures { result ≡ replay_of side }
+// The one of two that is of a side.
+fn by_side(host: Taker, para: Taker, side: Side) -> Taker
+    ensures { result ≡ by_side host para side }
 {
     match side {
-        Side::Host => Taker::ReplayHost,
-        Side::Para => Taker::ReplayPara,
+        Side::Host => host,
+        Side::Para => para,
     }
 }
 
-fn replay_words(words: &[String]) -> Option<Command<'_>>
-    ensures command { option_map seen_command result ≡ replay_words (map string_bytes words.now) }
-    ensures ticks { IfSome result (λ c. ticks_of (seen_command c) ≤ MOST_TICKS) }
+// What `replay` and `follow` are told.
+#[derive(Clone, Copy)]
+struct Sided<'a> {
+    side: Side,
+    trace: &'a str,
+    ticks: u64,
+    out: &'a str,
+    given: Given<'a>,
+}
+
+fn sided_words(words: &[String], host: Taker, para: Taker) -> Option<Sided<'_>>
+    ensures told { option_map seen_sided result ≡ sided_words host para (map string_bytes words.now) }
+    ensures ticks { IfSome result (λ s. s.ticks ≤ MOST_TICKS) }
 {
     let (side, trace, ticks, out) = four_alone(words)?;
     let side = side_of(side)?;
@@ -130,13 +127,41 @@ fn replay_words(words: &[String]) -> Option<Command<'_>>
     if !is_name(trace) || !is_name(out) {
         return None;
     }
-    let given = options_among(words, replay_of(side))?;
-    Some(Command::Replay {
+    let given = options_among(words, by_side(host, para, side))?;
+    Some(Sided {
         side,
         trace,
         ticks,
         out,
         given,
+    })
+}
+
+fn replay_words(words: &[String]) -> Option<Command<'_>>
+    ensures command { option_map seen_command result ≡ replay_words (map string_bytes words.now) }
+    ensures limits { IfSome result (λ c. IsLimited (seen_command c)) }
+{
+    let told = sided_words(words, Taker::ReplayHost, Taker::ReplayPara)?;
+    Some(Command::Replay {
+        side: told.side,
+        trace: told.trace,
+        ticks: told.ticks,
+        out: told.out,
+        given: told.given,
+    })
+}
+
+fn follow_words(words: &[String]) -> Option<Command<'_>>
+    ensures command { option_map seen_command result ≡ follow_words (map string_bytes words.now) }
+    ensures limits { IfSome result (λ c. IsLimited (seen_command c)) }
+{
+    let told = sided_words(words, Taker::FollowHost, Taker::FollowPara)?;
+    Some(Command::Follow {
+        side: told.side,
+        trace: told.trace,
+        ticks: told.ticks,
+        out: told.out,
+        given: told.given,
     })
 }
 
@@ -152,6 +177,7 @@ struct Both<'a> {
 fn both_words(words: &[String], taker: Taker) -> Option<Both<'_>>
     ensures told { option_map seen_both result ≡ both_words taker (map string_bytes words.now) }
     ensures ticks { IfSome result (λ b. b.ticks ≤ MOST_TICKS) }
+    ensures keep { IfSome result (λ b. b.keep ≤ 4194304) }
 {
     let (ticks, out) = two_alone(words)?;
     let ticks = decimal_number(ticks.as_bytes(), MOST_TICKS)?;
@@ -169,7 +195,7 @@ fn both_words(words: &[String], taker: Taker) -> Option<Both<'_>>
 
 fn solo_words(words: &[String]) -> Option<Command<'_>>
     ensures command { option_map seen_command result ≡ solo_words (map string_bytes words.now) }
-    ensures ticks { IfSome result (λ c. ticks_of (seen_command c) ≤ MOST_TICKS) }
+    ensures limits { IfSome result (λ c. IsLimited (seen_command c)) }
 {
     let told = both_words(words, Taker::Solo)?;
     Some(Command::Solo {
@@ -182,7 +208,7 @@ fn solo_words(words: &[String]) -> Option<Command<'_>>
 
 fn run_words(words: &[String]) -> Option<Command<'_>>
     ensures command { option_map seen_command result ≡ run_words (map string_bytes words.now) }
-    ensures ticks { IfSome result (λ c. ticks_of (seen_command c) ≤ MOST_TICKS) }
+    ensures limits { IfSome result (λ c. IsLimited (seen_command c)) }
 {
     let told = both_words(words, Taker::Run)?;
     Some(Command::Run {
@@ -193,9 +219,28 @@ fn run_words(words: &[String]) -> Option<Command<'_>>
     })
 }
 
+fn resume_words(words: &[String]) -> Option<Command<'_>>
+    ensures command { option_map seen_command result ≡ resume_words (map string_bytes words.now) }
+    ensures limits { IfSome result (λ c. IsLimited (seen_command c)) }
+{
+    let (state, ticks, out) = three_alone(words)?;
+    let ticks = decimal_number(ticks.as_bytes(), MOST_TICKS)?;
+    if !is_name(state) || !is_name(out) {
+        return None;
+    }
+    let given = options_among(words, Taker::Resume)?;
+    Some(Command::Resume {
+        state,
+        ticks,
+        out,
+        keep: given.keep(),
+        given,
+    })
+}
+
 fn gen_words(words: &[String]) -> Option<Command<'_>>
     ensures command { option_map seen_command result ≡ gen_words (map string_bytes words.now) }
-    ensures ticks { IfSome result (λ c. ticks_of (seen_command c) ≤ MOST_TICKS) }
+    ensures limits { IfSome result (λ c. IsLimited (seen_command c)) }
 {
     match words {
         [seed] => {
@@ -209,7 +254,7 @@ fn gen_words(words: &[String]) -> Option<Command<'_>>
 #[tactic(auto, unfolding(crate::specs::Words::command))]
 fn command_within(words: &[String]) -> Option<Command<'_>>
     ensures command { option_map seen_command result ≡ command (map string_bytes words.now) }
-    ensures ticks { IfSome result (λ c. ticks_of (seen_command c) ≤ MOST_TICKS) }
+    ensures limits { IfSome result (λ c. IsLimited (seen_command c)) }
 {
     let (word, rest) = words.split_first()?;
     if word.as_str() == "check" {
@@ -224,6 +269,10 @@ fn command_within(words: &[String]) -> Option<Command<'_>>
         solo_words(rest)
     } else if word.as_str() == "run" {
         run_words(rest)
+    } else if word.as_str() == "resume" {
+        resume_words(rest)
+    } else if word.as_str() == "follow" {
+        follow_words(rest)
     } else if word.as_str() == "gen" {
         gen_words(rest)
     } else {

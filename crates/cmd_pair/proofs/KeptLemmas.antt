@@ -1,5 +1,5 @@
 -- What is kept of the accesses of a reference run: the first of both sides' first are the first of all.
-use Rattle.std.proofs.Common.{◌≡◌, ◌∙◌, sym, refl, ap, subst, ℕ, zero, suc, ◌+◌, ◌*◌, ◌<◌, ◌≤◌, length, take, List, [], ◌∷◌, ◌++◌, Bool, true, false, IsTrue, nat_lt, cond, All, Option, Some, Result, Ok, Err, IfOk, arith}
+use Rattle.std.proofs.Common.{◌≡◌, ◌∙◌, sym, refl, ap, subst, ℕ, zero, suc, ◌+◌, ◌*◌, ◌<◌, ◌≤◌, length, take, List, [], ◌∷◌, ◌++◌, Bool, true, false, IsTrue, nat_lt, nat_le, cond, All, Option, Some, option_map, Result, Ok, Err, IfOk, arith}
 use Rattle.std.proofs.lemmas.List.Elements.{All-nil, All-cons, All-head, All-tail, All-take}
 use Rattle.std.proofs.lemmas.Bool.Decides.{nat_tests}
 use Rattle.beeb_bits.specs.Order.{before}
@@ -17,13 +17,16 @@ use Rattle.tube_chip.specs.Laws.{RisingListIsMerge}
 use Rattle.tube_trace.specs.declared.Entry.{Entry}
 use Rattle.tube_trace.specs.Entries.{IsEntry, entry_of, event_of, events_of, accesses}
 use Rattle.tube_trace.specs.Merge.{IsOfSide}
-use Rattle.tube_trace.specs.Text.{HasLine, IsAnswer, text_of}
+use Rattle.tube_trace.specs.Text.{HasLine, IsAnswer}
 use Rattle.tube_party.specs.Reference.{World, IsTraceBelow}
 use Rattle.host_mach.specs.State.{HostState}
 use Rattle.para_mach.specs.State.{ParaState}
+use Rattle.save_state.specs.Saved.{Session}
+use Rattle.save_state.specs.File.{file_of}
 use Rattle.beeb_outcome.specs.Names.{Names}
 use Rattle.beeb_outcome.specs.Left.{Kept}
 use Rattle.beeb_outcome.specs.Verdicts.{machine_verdict, both_left}
+use Rattle.cmd_pair.specs.Save.{saved_of}
 use Rattle.cmd_pair.specs.Solo.{kept_of, kept_verdict}
 
 -- ---- taking of merged lists
@@ -141,14 +144,14 @@ few_rise_after zero x es rises = tt
 few_rise_after (suc k) x [] rises = tt
 few_rise_after (suc k) x (e ∷ es) rises = (rises.0, few_rise_after k e es rises.1)
 
-few_rise : (k : ℕ) (es : List Event) → Rises es → Rises (take k es)
+pub few_rise : (k : ℕ) (es : List Event) → Rises es → Rises (take k es)
 few_rise zero es rises = tt
 few_rise (suc k) [] rises = tt
 few_rise (suc k) (e ∷ es) rises = few_rise_after k e es rises
 
 -- ---- entries and their events
 
-events_take : (k : ℕ) (xs : List Entry) → events_of (take k xs) ≡ take k (events_of xs)
+pub events_take : (k : ℕ) (xs : List Entry) → events_of (take k xs) ≡ take k (events_of xs)
 events_take zero xs = refl
 events_take (suc k) [] = refl
 events_take (suc k) (x ∷ xs) = ap (λ (z : List Event). event_of x ∷ z) (events_take k xs)
@@ -193,17 +196,13 @@ answers_0 c side (Read number) b is = tt
 answers_0 c side (Write number byte) b is = cc
 answers_0 c side Reset b is = cc
 
-all_lines : (c : State) (n : ℕ) (xs : List Entry) → n ≤ 1073741824 → All IsEntry xs → All (λ (x : Entry). (x.tick).0 < n) xs → IsAnsweredFrom c (events_of xs) → All HasLine xs
+pub all_lines : (c : State) (n : ℕ) (xs : List Entry) → n ≤ 1073741824 → All IsEntry xs → All (λ (x : Entry). (x.tick).0 < n) xs → IsAnsweredFrom c (events_of xs) → All HasLine xs
 all_lines c n [] most may below answered = All-nil HasLine
 all_lines c n (x ∷ xs) most may below answered =
     let low : (x.tick).0 < n = All-head (λ (y : Entry). (y.tick).0 < n) x xs below in
     All-cons HasLine x xs
     (record { may = All-head IsEntry x xs may; tick = omega (arith, low, most); answer = answers_0 c x.side x.op x.answer answered.0 })
     (all_lines (act c x.side (access x.op)).0 n xs most (All-tail IsEntry x xs may) (All-tail (λ (y : Entry). (y.tick).0 < n) x xs below) answered.1)
-
-pub kept_lines : (n keep : ℕ) (all kept : List Entry) → n ≤ 1073741824 → IsTraceBelow n all → kept ≡ take keep all → All HasLine kept
-kept_lines n keep all kept most is few =
-    subst (λ (xs : List Entry). All HasLine xs) (sym few) (All-take HasLine keep all (all_lines power_on n all most is.entries is.below is.answered))
 
 -- the place of a side in a tick
 half : Side → ℕ
@@ -270,20 +269,23 @@ few_counted n list host para most is is_host is_para =
 
 -- ---- the verdict
 
--- what is kept, by the list of its accesses
-pub kept_same : (clock : Clock) (keep count : ℕ) (trace : List ℕ) (list : List Event) (kept : List Entry) → count ≡ length kept → trace ≡ text_of clock kept →
-    kept ≡ take keep (accesses list) → record { count = count; trace = trace } ≡ kept_of clock keep list
-kept_same clock keep count trace list kept many text is = rw (many, text, is) refl
-
-pub kept_is : (clock : Clock) (ticks keep : ℕ) (names : Names) (w : World HostState ParaState) (host : HostState) (para : ParaState) (host_count para_count : ℕ) (kept : Kept) →
+pub kept_is : (clock : Clock) (begun : Option Session) (ticks keep : ℕ) (names : Names) (w : World HostState ParaState) (host : HostState) (para : ParaState) (host_count para_count : ℕ)
+    (entries : List Entry) (kept : Kept) (saved : Option (List ℕ)) →
     host ≡ w.host → para ≡ w.para → host_count ≡ length (accesses (of_side Host w.list)) → para_count ≡ length (accesses (of_side Para w.list)) →
-    kept ≡ kept_of clock keep w.list → machine_verdict (both_left clock ticks (host_count + para_count) names host para kept) ≡ kept_verdict clock ticks keep names w
+    entries ≡ take keep (accesses w.list) → kept ≡ kept_of clock entries →
+    saved ≡ option_map (λ (b : Session). file_of (saved_of b ticks (nat_le (host_count + para_count) keep) entries)) begun →
+    machine_verdict (both_left clock ticks (host_count + para_count) names host para kept saved) ≡ kept_verdict clock begun ticks keep names w
 unfolding kept_verdict
-kept_is clock ticks keep names w host para host_count para_count kept is_host is_para h p is_kept =
-    ap (λ (x : HostState). machine_verdict (both_left clock ticks (host_count + para_count) names x para kept)) is_host
-    ∙ ap (λ (x : ParaState). machine_verdict (both_left clock ticks (host_count + para_count) names w.host x kept)) is_para
-    ∙ ap (λ (x : ℕ). machine_verdict (both_left clock ticks x names w.host w.para kept)) (counted w.list host_count para_count h p)
-    ∙ ap (λ (x : Kept). machine_verdict (both_left clock ticks (length (accesses w.list)) names w.host w.para x)) is_kept
+kept_is clock begun ticks keep names w host para host_count para_count entries kept saved is_host is_para h p first is_kept is_saved =
+    let many : host_count + para_count ≡ length (accesses w.list) = counted w.list host_count para_count h p in
+    ap (λ (x : HostState). machine_verdict (both_left clock ticks (host_count + para_count) names x para kept saved)) is_host
+    ∙ ap (λ (x : ParaState). machine_verdict (both_left clock ticks (host_count + para_count) names w.host x kept saved)) is_para
+    ∙ ap (λ (x : Kept). machine_verdict (both_left clock ticks (host_count + para_count) names w.host w.para x saved)) is_kept
+    ∙ ap (λ (x : Option (List ℕ)). machine_verdict (both_left clock ticks (host_count + para_count) names w.host w.para (kept_of clock entries) x)) is_saved
+    ∙ ap (λ (x : ℕ). machine_verdict (both_left clock ticks x names w.host w.para (kept_of clock entries)
+    (option_map (λ (b : Session). file_of (saved_of b ticks (nat_le x keep) entries)) begun))) many
+    ∙ ap (λ (xs : List Entry). machine_verdict (both_left clock ticks (length (accesses w.list)) names w.host w.para (kept_of clock xs)
+    (option_map (λ (b : Session). file_of (saved_of b ticks (nat_le (length (accesses w.list)) keep) xs)) begun))) first
 
 -- what is so of a view is so of each run
 pub for_each : {X E V : Type 0} (r : Result X E) (view : X → V) (v : V) (P : HostState → ParaState → Type 0) (w : HostState → ParaState → V) → IfOk r (λ x. view x ≡ v) →
@@ -292,7 +294,7 @@ for_each (Ok x) view v P w is all = λ s t run. is ∙ all s t run
 for_each (Err e) view v P w is all = tt
 
 -- what both machines leave, where no bytes stand beside them
-pub both_is : (clock : Clock) (ticks tube : ℕ) (names : Names) (bytes : List ℕ) (s : HostState) (p : ParaState) (kept : Kept) → bytes ≡ [] →
-    record { names = names; clock = clock; ticks = ticks; tube = tube; host = Some s; para = Some p; kept = Some kept; bytes = bytes }
-    ≡ both_left clock ticks tube names s p kept
-both_is clock ticks tube names bytes s p kept none = rw none refl
+pub both_is : (clock : Clock) (ticks tube : ℕ) (names : Names) (bytes : List ℕ) (s : HostState) (p : ParaState) (kept : Kept) (saved : Option (List ℕ)) → bytes ≡ [] →
+    record { names = names; clock = clock; ticks = ticks; tube = tube; host = Some s; para = Some p; kept = Some kept; saved = saved; bytes = bytes }
+    ≡ both_left clock ticks tube names s p kept saved
+both_is clock ticks tube names bytes s p kept saved none = rw none refl

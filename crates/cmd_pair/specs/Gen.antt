@@ -48,7 +48,7 @@ gen_verdict seed s = said_verdict Done (summary seed s.bus.bus.board.ram)
 
 -- a second processor at 3 MHz, and nothing plugged
 abbrev pub gen_setup : Setup
-gen_setup = setup Three (Ssd, Ssd) []
+gen_setup = setup Three (Ssd, Ssd) 0 []
 
 -- the ticks of the run
 unfoldable pub gen_ticks : ℕ

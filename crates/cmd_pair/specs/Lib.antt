@@ -1,3 +1,4 @@
+pub mod Save
 pub mod Solo
 pub mod Gen
 pub mod Code

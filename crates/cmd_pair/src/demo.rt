@@ -89,6 +89,7 @@ pub fn gen_outcome<'a, D: BusDevice>(
     let setup = Setup {
         clock: Clock::Three,
         kinds: (Kind::Ssd, Kind::Ssd),
+        number: 0,
         plugs,
     };
     let (host, para) = machines_of(alloc, setup, inputs)?;

@@ -1,5 +1,5 @@
 //! `run TICKS OUT --os NAME --tube NAME` and options: both machines, each in a thread of its own.
-ghost use Rattle.std.specs.Prelude.{◌≡◌, ◌<◌, ◌≤◌, All, IfOk, IsTrue, Ok, map, true};
+ghost use Rattle.std.specs.Prelude.{◌≡◌, ◌<◌, ◌≤◌, All, IfOk, IfSome, IsTrue, Ok, length, map, true};
 ghost use Rattle.beeb_files.specs.Crew.{Grows};
 ghost use Rattle.beeb_bits.specs.declared.Side.TheVariants.{Host, Para};
 ghost use Rattle.tube_party.specs.Reference.{reference};
@@ -18,7 +18,7 @@ use beeb_outcome::{Names, Outcome};
 use beeb_stages::Stop;
 use beeb_status::Cause;
 use bus_plug::BusDevice;
-use power_on::{Inputs, Setup, machines_of};
+use power_on::{Inputs, Setup, started};
 use session::{PairError, run_pair};
 use std::alloc::Global;
 use std::sync::Wait;
@@ -69,15 +69,17 @@ pub fn run_outcome<'a, D: BusDevice + Send, C: Crew, R: Threads + Wait + Sync>(
     inputs: Inputs,
 ) -> Result<Outcome<'a, D>, Stop<Cause>>
     requires ticks { ticks ≤ MOST }
+    requires keep { keep ≤ 4194304 }
     requires slots { All (λ slot. slot.0 < 16) inputs.roms.items }
+    requires keys { IfSome inputs.keys (λ keys. length keys.items ≤ 1048576) }
     ensures works { let names = names_seen names.entry in
         let after = solo_after (seen_setup D.plug setup) ticks keep names (seen_inputs inputs) in
         Works (verdict_of D.plug) true (C.counts crew.old) (C.counts crew.new) result after }
     ensures crew { IsCrewAfter true (C.counts crew.old) (C.counts crew.new) }
 {
     let clock = setup.clock;
-    let (host, para) = machines_of(alloc, setup, inputs)?;
+    let (begun, host, para) = started(alloc, names.save, setup, inputs)?;
     let done = run_parties(rt, alloc, crew, host, para, Tick(ticks), keep)?;
-    let outcome = kept_outcome(alloc, clock, done, ticks, keep, names)?;
+    let outcome = kept_outcome(alloc, clock, begun, done, ticks, keep, names)?;
     Ok(outcome)
 }

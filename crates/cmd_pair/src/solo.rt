@@ -1,5 +1,5 @@
 //! `solo TICKS OUT --os NAME --tube NAME` and options: both machines on one thread.
-ghost use Rattle.std.specs.Prelude.{◌<◌, ◌≤◌, All, map};
+ghost use Rattle.std.specs.Prelude.{◌<◌, ◌≤◌, All, IfSome, length, map};
 ghost use Rattle.beeb_stages.specs.View.{Gives};
 ghost use Rattle.cmd_pair.specs.Solo.{solo_after};
 ghost use Rattle.power_on.specs.View.{seen_inputs, seen_setup};
@@ -12,7 +12,7 @@ use beeb_outcome::{Names, Outcome};
 use beeb_stages::Refusal;
 use beeb_status::Cause;
 use bus_plug::BusDevice;
-use power_on::{Inputs, Setup, machines_of};
+use power_on::{Inputs, Setup, started};
 use std::alloc::Global;
 use tube_party::MOST;
 
@@ -27,14 +27,16 @@ pub fn solo_outcome<'a, D: BusDevice>(
     inputs: Inputs,
 ) -> Result<Outcome<'a, D>, Refusal<Cause>>
     requires ticks { ticks ≤ MOST }
+    requires keep { keep ≤ 4194304 }
     requires slots { All (λ slot. slot.0 < 16) inputs.roms.items }
+    requires keys { IfSome inputs.keys (λ keys. length keys.items ≤ 1048576) }
     ensures { let names = names_seen names.entry in
         let after = solo_after (seen_setup D.plug setup) ticks keep names (seen_inputs inputs) in
         Gives (verdict_of D.plug) result after }
 {
     let clock = setup.clock;
-    let (host, para) = machines_of(alloc, setup, inputs)?;
+    let (begun, host, para) = started(alloc, names.save, setup, inputs)?;
     let done = run_alone(alloc, host, para, Tick(ticks), keep)?;
-    let outcome = kept_outcome(alloc, clock, done, ticks, keep, names)?;
+    let outcome = kept_outcome(alloc, clock, begun, done, ticks, keep, names)?;
     Ok(outcome)
 }

@@ -22,11 +22,11 @@ differs_is done e place some = rw some refl
 
 -- what a machine leaves, where no bytes stand beside it
 pub host_is : (clock : Clock) (ticks tube : ℕ) (names : Names) (bytes : List ℕ) (s : HostState) → bytes ≡ [] →
-    record { names = names; clock = clock; ticks = ticks; tube = tube; host = Some s; para = None; kept = None; bytes = bytes }
+    record { names = names; clock = clock; ticks = ticks; tube = tube; host = Some s; para = None; kept = None; saved = None; bytes = bytes }
     ≡ host_left clock ticks tube names s
 host_is clock ticks tube names bytes s none = rw none refl
 
 pub para_is : (clock : Clock) (ticks tube : ℕ) (names : Names) (bytes : List ℕ) (s : ParaState) → bytes ≡ [] →
-    record { names = names; clock = clock; ticks = ticks; tube = tube; host = None; para = Some s; kept = None; bytes = bytes }
+    record { names = names; clock = clock; ticks = ticks; tube = tube; host = None; para = Some s; kept = None; saved = None; bytes = bytes }
     ≡ para_left clock ticks tube names s
 para_is clock ticks tube names bytes s none = rw none refl

@@ -23,9 +23,11 @@ unfoldable pub para_ended : Clock → ℕ → Names → List Entry → ParaState
 para_ended clock ticks names entries s =
     verdict_of_end (λ e. machine_verdict (para_left clock ticks (side_count Para ticks entries) names e)) (replay_of para_moves Para entries ticks s)
 
--- the ROM's length, the trace's form, its clock, its answers, and the machine
+-- The entries that the second processor is replayed against, and it at power-on. Refused are in order the ROM's length, the trace's form, and its
+-- clock.
+unfoldable pub para_of : Clock → Inputs → Result (List Entry × ParaState) (Refusal Cause)
+para_of clock i = rom_of i.tube >>= λ rom. entries_of clock i.trace >>= λ entries. Ok (entries, power_on clock rom)
+
+-- the trace's answers are checked before the machine goes
 unfoldable pub para_after : Clock → ℕ → Names → Inputs → Result (Verdict Ending) (Refusal Cause)
-para_after clock ticks names i =
-    rom_of i.tube
-    >>= λ rom. entries_of clock i.trace
-    >>= λ entries. Ok (unless_wrong (wrong entries) (para_ended clock ticks names entries (power_on clock rom)))
+para_after clock ticks names i = para_of clock i >>= λ m. Ok (unless_wrong (wrong m.0) (para_ended clock ticks names m.0 m.1))

@@ -52,6 +52,7 @@ fn ran<'a, D: BusDevice>(
                 host: Some(machine),
                 para: None,
                 kept: None,
+                saved: None,
                 bytes: Vec::new(alloc),
             };
             machine_outcome(alloc, left)
@@ -60,25 +61,24 @@ fn ran<'a, D: BusDevice>(
     }
 }
 
-// What comes of the bytes of a trace and of what the host is made of.
-#[tactic(auto, unfolding(crate::specs::Host::host_of, crate::specs::Host::host_after))]
-fn replay_outcome<'a, D: BusDevice>(
+// The entries of a trace, and the host at power-on that is replayed against them.
+#[tactic(auto, unfolding(crate::specs::Host::host_of))]
+fn made<D: BusDevice>(
     alloc: Global,
     setup: Setup<D>,
-    ticks: u64,
-    names: Names<'a>,
     trace: &[u8],
     files: HostFiles,
-) -> Result<Outcome<'a, D>, Refusal<Cause>>
-    requires ticks { ticks ≤ MOST }
-    requires slots { All (λ slot. slot.0 < 16) files.roms.items }
-    ensures { let read : held.Inputs = record (seen_files files) { trace = trace.now } in
-        Gives (verdict_of D.plug) result (host_after (seen_setup D.plug setup) ticks (names_seen names.entry) read) }
+) -> Result<(Vec<Entry>, HostMachine<D>), Refusal<Cause>>
+    requires { All (λ slot. slot.0 < 16) files.roms.items }
+    ensures told { let read : held.Inputs = record (seen_files files) { trace = trace.now } in
+        Gives (λ m. (m.0.items, host_seen D.plug m.1)) result (host_of (seen_setup D.plug setup) read) }
+    ensures entries { IfOk result (λ m. All IsEntry m.0.items) }
 {
     let Setup {
         clock,
         kinds,
         plugs,
+        ..
     } = setup;
     let HostFiles {
         os,
@@ -92,26 +92,21 @@ fn replay_outcome<'a, D: BusDevice>(
     let (d0, d1) = discs_of(alloc, kinds, disc0, disc1)?;
     let entries = entries_of(alloc, clock, trace)?;
     let script = script_of(alloc, keys)?;
-    if let Some((at, byte)) = first_wrong(&entries) {
-        return Ok(wrong_outcome(alloc, at as u64 + 1, byte)?);
-    }
     let machine = HostMachine::make(alloc, clock, roms, d0, d1, script, plugs)?;
-    Ok(ran(alloc, machine, clock, ticks, names, &entries)?)
+    Ok((entries, machine))
 }
 
-/// What comes of a replay of the host that the words tell of.
-#[tactic(auto, unfolding(crate::specs::Host::host_of, crate::specs::Host::host_after))]
-pub fn host_outcome<'a, D: BusDevice>(
+/// The entries of the trace that was read, and the host at power-on that is replayed against them.
+#[tactic(auto, unfolding(crate::specs::Host::host_of))]
+pub fn host_made<D: BusDevice>(
     alloc: Global,
     setup: Setup<D>,
-    ticks: u64,
-    names: Names<'a>,
     inputs: Inputs,
-) -> Result<Outcome<'a, D>, Refusal<Cause>>
-    requires ticks { ticks ≤ MOST }
-    requires slots { All (λ slot. slot.0 < 16) inputs.roms.items }
-    ensures { let after = host_after (seen_setup D.plug setup) ticks (names_seen names.entry) (seen_inputs inputs) in
-        Gives (verdict_of D.plug) result after }
+) -> Result<(Vec<Entry>, HostMachine<D>), Refusal<Cause>>
+    requires { All (λ slot. slot.0 < 16) inputs.roms.items }
+    ensures told { let made = host_of (seen_setup D.plug setup) (seen_inputs inputs) in
+        Gives (λ m. (m.0.items, host_seen D.plug m.1)) result made }
+    ensures entries { IfOk result (λ m. All IsEntry m.0.items) }
 {
     let Inputs {
         trace,
@@ -131,5 +126,30 @@ pub fn host_outcome<'a, D: BusDevice>(
         disc1,
         keys,
     };
-    replay_outcome(alloc, setup, ticks, names, &trace, files)
+    made(alloc, setup, &trace, files)
+}
+
+/// What comes of a replay of the host that the words tell of.
+#[tactic(auto, unfolding(crate::specs::Host::host_after))]
+pub fn host_outcome<'a, D: BusDevice>(
+    alloc: Global,
+    setup: Setup<D>,
+    ticks: u64,
+    names: Names<'a>,
+    inputs: Inputs,
+) -> Result<Outcome<'a, D>, Refusal<Cause>>
+    requires ticks { ticks ≤ MOST }
+    requires slots { All (λ slot. slot.0 < 16) inputs.roms.items }
+    ensures { let after = host_after (seen_setup D.plug setup) ticks (names_seen names.entry) (seen_inputs inputs) in
+        Gives (verdict_of D.plug) result after }
+{
+    let clock = setup.clock;
+    let (entries, machine) = host_made(alloc, setup, inputs)?;
+    match first_wrong(&entries) {
+        Some((at, byte)) => {
+            drop(machine);
+            Ok(wrong_outcome(alloc, at as u64 + 1, byte)?)
+        }
+        None => Ok(ran(alloc, machine, clock, ticks, names, &entries)?),
+    }
 }

@@ -1,4 +1,4 @@
-//! What the replays come to by what they read: `replay host` and `replay para`.
+//! What the replays come to by what they read: `replay host` and `replay para`; the machines that are replayed, and what is said where one differs.
 #![tactic(auto)]
 
 mod differing;
@@ -6,5 +6,6 @@ mod host;
 mod para;
 mod replay;
 
-pub use host::host_outcome;
-pub use para::para_outcome;
+pub use host::{host_made, host_outcome};
+pub use para::{para_made, para_outcome};
+pub use replay::differs_outcome;

@@ -6,9 +6,7 @@ ghost use Rattle.tube_party.specs.Replay.{replay_of};
 ghost use Rattle.para_mach.specs.Step.{para_moves};
 ghost use Rattle.beeb_stages.specs.View.{Gives};
 ghost use Rattle.cmd_replay.specs.Replay.{side_count, verdict_of_end};
-ghost use Rattle.cmd_replay.specs.Para.{para_ended, para_after};
-ghost use Rattle.power_on.specs.Inputs.{no_inputs};
-ghost use Rattle.power_on.specs.Inputs as held;
+ghost use Rattle.cmd_replay.specs.Para.{para_ended, para_of, para_after};
 ghost use Rattle.power_on.specs.View.{seen_inputs};
 ghost use Rattle.beeb_outcome.specs.View.{names_seen, verdict_of};
 
@@ -51,6 +49,7 @@ fn ran<'a, D: BusDevice>(
                 host: None,
                 para: Some(machine),
                 kept: None,
+                saved: None,
                 bytes: Vec::new(alloc),
             };
             machine_outcome(alloc, left)
@@ -59,26 +58,20 @@ fn ran<'a, D: BusDevice>(
     }
 }
 
-// What comes of the bytes of a trace and of a boot ROM.
-#[tactic(auto, unfolding(crate::specs::Para::para_after))]
-fn replay_outcome<'a, D: BusDevice>(
+/// The entries of the trace that was read, and the second processor of this clock at power-on that is replayed against them.
+#[tactic(auto, unfolding(crate::specs::Para::para_of))]
+pub fn para_made(
     alloc: Global,
     clock: Clock,
-    ticks: u64,
-    names: Names<'a>,
-    trace: &[u8],
-    rom: Vec<u8>,
-) -> Result<Outcome<'a, D>, Refusal<Cause>>
-    requires { ticks ≤ MOST }
-    ensures { let read : held.Inputs = record no_inputs { trace = trace.now; tube = rom.items } in
-        Gives (verdict_of D.plug) result (para_after clock ticks (names_seen names.entry) read) }
+    inputs: Inputs,
+) -> Result<(Vec<Entry>, ParaMachine), Refusal<Cause>>
+    ensures told { Gives (λ m. (m.0.items, m.1)) result (para_of clock (seen_inputs inputs)) }
+    ensures entries { IfOk result (λ m. All IsEntry m.0.items) }
 {
-    let machine = machine_of(alloc, clock, rom)?;
-    let entries = entries_of(alloc, clock, trace)?;
-    if let Some((at, byte)) = first_wrong(&entries) {
-        return Ok(wrong_outcome(alloc, at as u64 + 1, byte)?);
-    }
-    Ok(ran(alloc, machine, clock, ticks, names, &entries)?)
+    let Inputs { trace, tube, .. } = inputs;
+    let machine = machine_of(alloc, clock, tube)?;
+    let entries = entries_of(alloc, clock, &trace)?;
+    Ok((entries, machine))
 }
 
 /// What comes of a replay of the second processor of this clock.
@@ -93,6 +86,12 @@ pub fn para_outcome<'a, D: BusDevice>(
     requires { ticks ≤ MOST }
     ensures { Gives (verdict_of D.plug) result (para_after clock ticks (names_seen names.entry) (seen_inputs inputs)) }
 {
-    let Inputs { trace, tube, .. } = inputs;
-    replay_outcome(alloc, clock, ticks, names, &trace, tube)
+    let (entries, machine) = para_made(alloc, clock, inputs)?;
+    match first_wrong(&entries) {
+        Some((at, byte)) => {
+            drop(machine);
+            Ok(wrong_outcome(alloc, at as u64 + 1, byte)?)
+        }
+        None => Ok(ran(alloc, machine, clock, ticks, names, &entries)?),
+    }
 }

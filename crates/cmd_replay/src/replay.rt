@@ -28,7 +28,7 @@ pub(crate) fn side_count(side: Side, entries: &[Entry], n: Tick) -> u64
 }
 
 /// The place where a machine differs from a trace.
-pub(crate) fn differs_outcome<'a, D: BusDevice>(
+pub fn differs_outcome<'a, D: BusDevice>(
     alloc: Global,
     line: u64,
     doing: Option<Doing>,

@@ -7,3 +7,4 @@ pub mod Heard
 pub mod Resting
 pub mod Closed
 pub mod Pressed
+pub mod Peeks

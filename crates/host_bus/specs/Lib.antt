@@ -15,3 +15,4 @@ pub mod View
 pub mod Closing
 pub mod AtTube
 pub mod SameClock
+pub mod Peek

@@ -1,8 +1,9 @@
 //! The bus.
-ghost use Rattle.std.specs.Prelude.{◌≡◌, ◌≤◌, ◌<◌, ◌+◌, ◌^◌, ◌⊎◌, ℕ, true, false, unwrap_or, IfOk, None, Some, MatchOption, length, map};
+ghost use Rattle.std.specs.Prelude.{◌≡◌, ◌≤◌, ◌<◌, ◌+◌, ◌^◌, ◌⊎◌, ◌↔◌, ℕ, true, false, unwrap_or, IfOk, IfSome, None, Some, MatchOption, length, map};
 ghost use Rattle.sn76489.specs.Samples.{NeverFallFrom};
 ghost use Rattle.host_bus.specs.Map.{stretch};
 ghost use Rattle.host_bus.specs.Bus.{bus_closed, closed_at, clock_of, bus_answer, bus_after_read, bus_after_write, bus_irq, bus_nmis, bus_break_pending, bus_next_break, bus_break_taken, bus_disc, bus_power_on};
+ghost use Rattle.host_bus.specs.Peek.{bus_peek};
 ghost use Rattle.host_bus.specs.View.{bus_seen};
 
 use crate::board::Board;
@@ -77,6 +78,22 @@ impl<D: BusDevice> Bus<D> {
         ensures fast { (cycle : ℕ) → stretch at cycle ≡ 1 }
     {
         self.board.memory(at)
+    }
+
+    /// The byte that a read of this address would give now, at whatever tick. None exactly from FC00 to FEFF, where devices answer. Nothing
+    /// changes.
+    pub fn peek(&self, at: u16) -> Option<u8>
+        ensures value { result ≡ bus_peek (bus_seen D.plug self.now) at }
+        ensures read { IfSome result (λ byte. (t : ℕ) → byte ≡ bus_answer (bus_seen D.plug self.now) t at) }
+        ensures none { (result ≡ None) ↔ ((0xFC00 ≤ at) × (at ≤ 0xFEFF)) }
+    {
+        if at < 0xfc00 {
+            return Some(self.memory(at));
+        }
+        if at <= 0xfeff {
+            return None;
+        }
+        Some(self.memory(at))
     }
 
     /// A write to the RAM.

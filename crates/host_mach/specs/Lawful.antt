@@ -1,5 +1,5 @@
 -- The host is a party that plays the host's side.
-use Rattle.std.specs.Prelude.{ℕ, ◌≡◌, ◌≤◌, ◌*◌, ◌/◌, ◌%◌, ◌==◌, Bool, true, false, IsTrue, refl, if◌then◌else◌}
+use Rattle.std.specs.Prelude.{ℕ, ◌≡◌, ◌≤◌, ◌/◌, ◌%◌, ◌==◌, Bool, true, false, IsTrue, refl, if◌then◌else◌}
 use Rattle.std.proofs.Common.{arith, ap}
 use Rattle.std.proofs.Math.Nat.{le-mul_of_pos_right}
 use Rattle.beeb_bits.specs.declared.Side.{Side}

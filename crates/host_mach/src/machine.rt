@@ -1,9 +1,11 @@
 //! The machine.
-ghost use Rattle.std.specs.Prelude.{◌≡◌, ◌≤◌, ◌<◌, ◌+◌, ℕ, IfOk, None, Some, MatchOption, false, length, map, min, unwrap_or};
+ghost use Rattle.std.specs.Prelude.{◌≡◌, ◌≤◌, ◌<◌, ◌+◌, ◌↔◌, ℕ, IfOk, IfSome, None, Some, MatchOption, false, length, map, min, unwrap_or};
 ghost use Rattle.host_bus.specs.Bus.{bus_disc, bus_break_pending, bus_next_break};
 ghost use Rattle.sn76489.specs.Samples.{NeverFallFrom};
-ghost use Rattle.cpu6502.specs.Sequences.{halted};
+ghost use Rattle.cpu6502.specs.Sequences.{halted, starting};
 ghost use Rattle.host_mach.specs.State.{power_on};
+ghost use Rattle.host_mach.specs.Step.{host_wiring};
+ghost use Rattle.host_mach.specs.Peek.{host_peek};
 
 use crate::bus::{HostBus, is_tube};
 use beeb_bits::{Clock, Crosses, NoMemory, Tick};
@@ -74,6 +76,24 @@ impl<D: BusDevice> HostMachine<D> {
         ensures { result ≡ halted (host_seen D.plug self.now).cpu }
     {
         self.cpu.halted()
+    }
+
+    /// Whether the next step is the first cycle of an instruction: not of a reset or an interrupt, nor one in which the processor stays halted.
+    #[inline]
+    pub fn starting(&self) -> bool
+        ensures { result ≡ starting (host_seen D.plug self.now).cpu }
+    {
+        self.cpu.starting()
+    }
+
+    /// The byte that a read of this address would give now: of the RAM, the ROM in the latch's slot, or the operating system. None exactly from
+    /// FC00 to FEFF, where devices answer. Nothing changes.
+    pub fn peek(&self, at: u16) -> Option<u8>
+        ensures value { result ≡ host_peek (host_seen D.plug self.now) at }
+        ensures read { IfSome result (λ byte. (t : ℕ) → byte ≡ host_wiring.answer (host_seen D.plug self.now).bus t at) }
+        ensures none { (result ≡ None) ↔ ((0xFC00 ≤ at) × (at ≤ 0xFEFF)) }
+    {
+        self.bus.bus.peek(at)
     }
 
     /// The 32,768 bytes of the RAM.

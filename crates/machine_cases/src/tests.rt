@@ -1,3 +1,4 @@
 //! Tables of cases, by the public calls of each crate.
 mod bus;
+mod listings;
 mod second_processor;

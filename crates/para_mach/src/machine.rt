@@ -1,9 +1,10 @@
 //! The machine.
-ghost use Rattle.std.specs.Prelude.{◌≡◌, ◌≤◌, ◌≢◌, ◌↔◌, ◌⊎◌, ◌<◌, ◌+◌, ◌-◌, ◌^◌, IfOk, IfErr, length, Err, None, MatchOption, IsSome, is_none, true, vec_len, vec_capacity};
+ghost use Rattle.std.specs.Prelude.{◌≡◌, ◌≤◌, ◌≢◌, ◌↔◌, ◌⊎◌, ◌<◌, ◌+◌, ◌-◌, ◌^◌, ℕ, IfOk, IfErr, IfSome, length, Err, None, MatchOption, IsSome, is_none, true, vec_len, vec_capacity};
 ghost use Rattle.cpu65c02.specs.Sequences.{next_cycle, starting};
 ghost use Rattle.tube_party.specs.Moves.{Goes, shown_lines};
 ghost use Rattle.para_mach.specs.State.{power_on, shown_regs};
-ghost use Rattle.para_mach.specs.Step.{para_moves};
+ghost use Rattle.para_mach.specs.Step.{para_moves, para_wiring};
+ghost use Rattle.para_mach.specs.Peek.{para_peek};
 ghost use Rattle.para_mach.specs.CodeNotes.{IsNoted, IsNear, IsHeldAtLook, part_kept, put_back};
 ghost use Rattle.para_mach.specs.Lawful.{para_lawful, para_permitted};
 
@@ -135,6 +136,16 @@ impl ParaMachine {
         ensures { result ≡ starting self.now.cpu }
     {
         self.cpu.starting()
+    }
+
+    /// The byte that a read of this address would give now: the boot ROM's from F800 to FFFF while it is in, and else the RAM's. None exactly
+    /// from FEF8 to FEFF, where the Tube answers. Nothing changes.
+    pub fn peek(&self, at: u16) -> Option<u8>
+        ensures value { result ≡ para_peek self.now at }
+        ensures read { IfSome result (λ byte. (t : ℕ) → byte ≡ para_wiring.answer self.now.bus t at) }
+        ensures none { (result ≡ None) ↔ ((0xFEF8 ≤ at) × (at ≤ 0xFEFF)) }
+    {
+        self.bus.memory.peek(at)
     }
 
     // Notes where the machine is.

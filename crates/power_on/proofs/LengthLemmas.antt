@@ -1,11 +1,11 @@
 -- The first image in order whose length is outside its set.
-use Rattle.std.proofs.Common.{◌≡◌, ◌∙◌, sym, refl, ap, ℕ, ◌==◌, ◌||◌, nat_lt, Bool, true, false, not, List, [], ◌∷◌, ◌++◌, map, length, find, Option, Some, None, Result, Ok, Err, if◌then◌else◌}
+use Rattle.std.proofs.Common.{◌≡◌, ◌∙◌, refl, ℕ, ◌==◌, nat_lt, Bool, true, false, not, List, [], ◌∷◌, ◌++◌, map, length, find, Option, Some, None, Result, Ok, Err, if◌then◌else◌}
 use Rattle.std.specs.Option.{option_or}
 use Rattle.disc_image.specs.declared.Kind.{Kind}
 use Rattle.disc_image.specs.Image.{Image, largest}
-use Rattle.rom_set.specs.Roms.{Rom, Roms, fits, bad_slot, bad_font, refusal}
+use Rattle.rom_set.specs.Roms.{Rom, Roms, fits, bad_slot, bad_font}
 use Rattle.rom_set.specs.declared.RomError.{RomError}
-use Rattle.rom_set.specs.declared.RomError.TheVariants.{BadSlot, BadFont}
+use Rattle.rom_set.specs.declared.RomError.TheVariants.{BadFont}
 use Rattle.host_mach.specs.State as host
 use Rattle.para_mach.specs.State as para
 use Rattle.beeb_stages.specs.Plan.{◌>>=◌}
@@ -16,10 +16,10 @@ use Rattle.beeb_status.specs.declared.status.Cause.{Cause}
 use Rattle.beeb_status.specs.declared.status.Cause.TheVariants.{BadImage}
 use Rattle.power_on.specs.Inputs.{Inputs}
 use Rattle.power_on.specs.Script.{script_of}
-use Rattle.power_on.specs.Roms.{rom_cause, unless_refused, roms_of}
+use Rattle.power_on.specs.Roms.{unless_refused, roms_of}
 use Rattle.power_on.specs.Discs.{disc_of, discs_of}
 use Rattle.power_on.specs.Machines.{rom_of, os_of, machines_of}
-use Rattle.power_on.specs.Lengths.{Sized, rom_image, font_images, disc_images, further_images, host_images, para_images, both_images, first_misfit, unless_caused, if_fit, disc_in, roms_in, LengthsComeFirst}
+use Rattle.power_on.specs.Lengths.{Sized, rom_image, font_images, disc_images, further_images, host_images, first_misfit, unless_caused, if_fit, disc_in, roms_in, LengthsComeFirst}
 
 module _ {A B : Type 0} where
   -- one test, and what follows it

@@ -1,2 +1,5 @@
 pub mod PlugLemmas
 pub mod LengthLemmas
+pub mod SessionLemmas
+pub mod BegunLemmas
+pub mod PartLemmas

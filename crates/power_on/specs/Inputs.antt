@@ -1,7 +1,7 @@
 -- The bytes that a command read, by what they are to it.
 use Rattle.std.specs.Prelude.{ℕ, ◌==◌, List, [], ◌∷◌, ◌++◌, Option, Some, None, if◌then◌else◌}
 use Rattle.beeb_words.specs.declared.keys.Slot.{Slot}
-use Rattle.beeb_words.specs.declared.keys.Slot.TheVariants.{Trace, Source, Image, Os, Tube, Font, Disc, Keys}
+use Rattle.beeb_words.specs.declared.keys.Slot.TheVariants.{Trace, Source, Image, State, Os, Tube, Font, Disc, Keys}
 use Rattle.beeb_words.specs.declared.keys.Slot.TheVariants as slots
 use Rattle.rom_set.specs.Roms.{Rom}
 
@@ -10,6 +10,8 @@ pub record Inputs : Type 0 where
   pub trace : List ℕ
   pub source : List ℕ
   pub image : List ℕ
+  -- a session file
+  pub state : List ℕ
   pub os : List ℕ
   pub tube : List ℕ
   -- the paged ROMs
@@ -24,6 +26,7 @@ no_inputs = record {
   trace = [];
   source = [];
   image = [];
+  state = [];
   os = [];
   tube = [];
   roms = [];
@@ -37,6 +40,7 @@ abbrev pub with_input : Slot → List ℕ → Inputs → Inputs
 with_input Trace bytes i = record i { trace = bytes }
 with_input Source bytes i = record i { source = bytes }
 with_input Image bytes i = record i { image = bytes }
+with_input State bytes i = record i { state = bytes }
 with_input Os bytes i = record i { os = bytes }
 with_input Tube bytes i = record i { tube = bytes }
 with_input (slots.Rom n) bytes i = record i { roms = i.roms ++ record { slot = n; bytes = bytes } ∷ [] }

@@ -6,3 +6,4 @@ pub mod Machines
 pub mod Setup
 pub mod View
 pub mod Lengths
+pub mod Sessions

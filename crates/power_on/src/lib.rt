@@ -7,7 +7,9 @@ mod law;
 mod machines;
 mod roms;
 mod script;
+mod sessions;
 mod setup;
+mod starting;
 
 pub use discs::discs_of;
 pub use inputs::{HostFiles, Inputs};
@@ -15,4 +17,6 @@ pub use law::lengths_come_first;
 pub use machines::{machine_of, machines_of};
 pub use roms::roms_of;
 pub use script::script_of;
+pub use sessions::{inputs_in, setup_in};
 pub use setup::Setup;
+pub use starting::started;

@@ -73,6 +73,7 @@ pub fn machines_of<D: BusDevice>(
         clock,
         kinds,
         plugs,
+        ..
     } = setup;
     test_os(&inputs.os)?;
     let para = machine_of(alloc, clock, inputs.tube)?;

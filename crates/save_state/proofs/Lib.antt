@@ -3,3 +3,4 @@ pub mod Standing
 pub mod PartLaws
 pub mod EntryLaws
 pub mod FileLaws
+pub mod GoesOn

@@ -4,3 +4,4 @@ pub mod Parts
 pub mod Entries
 pub mod File
 pub mod Laws
+pub mod Resume

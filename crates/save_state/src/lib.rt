@@ -8,6 +8,7 @@ mod entries;
 mod fields;
 mod law;
 mod parts;
+mod resuming;
 
 ghost use Rattle.std.specs.Prelude.{◌≡◌};
 ghost use Rattle.save_state.specs.declared.StateError.TheVariants.{NoMemory};
@@ -17,6 +18,8 @@ pub use blob::Blob;
 pub use decoding::decode;
 pub use encoding::encode;
 pub use law::file_reads_back;
+pub use parts::Kind;
+pub use resuming::{ResumeError, resume};
 use std::alloc::{AllocError, AllocFailed};
 use thiserror::Error;
 use tube_trace::Entry;

@@ -9,7 +9,7 @@ use std::alloc::Global;
 
 /// What a part is of.
 #[derive(Clone, Copy)]
-pub(crate) enum Kind {
+pub enum Kind {
     Os,
     Tube,
     Rom,

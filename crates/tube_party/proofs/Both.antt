@@ -1,7 +1,7 @@
 -- The loop over both parties.
 use Rattle.std.proofs.Common.{ℕ, zero, suc, ◌≡◌, ◌+◌, ◌-◌, ◌<◌, ◌≤◌, ◌⊎◌, inl, inr, nat_lt, Bool, true, false, if◌then◌else◌, refl, sym, ◌∙◌, ap, subst, arith, List, [], ◌∷◌, ◌++◌, length, take, Option, None, Some, MatchOption}
 use Rattle.std.proofs.lemmas.Bool.{ltb-true}
-use Rattle.tube_chip.specs.State.{State, power_on, lines_of}
+use Rattle.tube_chip.specs.State.{State, lines_of}
 use Rattle.tube_chip.specs.declared.Lines.{Lines}
 use Rattle.tube_chip.specs.Act.{Query, look, act}
 use Rattle.tube_chip.specs.Events.{Event, of_side}
@@ -13,7 +13,8 @@ use Rattle.beeb_bits.specs.declared.Side.TheVariants.{Host, Para}
 use Rattle.tube_party.specs.declared.party.Ask.{Ask}
 use Rattle.tube_party.specs.declared.party.Ask.TheVariants.{Nothing, Access, Look}
 use Rattle.tube_party.specs.Moves.{Moves, IsLawful, IsAsk, Advances, Looks, Goes, Sees, IsUnsure, Runs, close_leaves, shown_lines, course}
-use Rattle.tube_party.specs.Reference.{ticks, start, reference, step_leaves, with_host}
+use Rattle.tube_party.specs.Reference.{World, ticks, step_leaves, with_host}
+use Rattle.tube_party.specs.GoingOn.{IsLike, reference_from}
 use Rattle.tube_trace.specs.Entries.{accesses, entry_of}
 use Rattle.tube_party.specs.OneThread.{IsKept, Played, IsPlayed}
 use Rattle.tube_party.specs.Turn.{IsPending, first_of, first_due, ticks_left, tick_of, note_all_leaves, IsSure}
@@ -25,7 +26,7 @@ use Rattle.tube_party.proofs.Kept.{kept_own, kept_host_by_para, kept_para_by_hos
 use Rattle.tube_party.proofs.UnderWay.{IsUnderWay, IsAt, IsGoing}
 use Rattle.tube_party.specs.Steps.{due_rises}
 use Rattle.tube_party.proofs.Calm.{IsCalm, access_calm, calm_late, calm_before, calm_after, tight}
-use Rattle.tube_party.proofs.Early.{IsLike, alike, like_on, like_ticks, look_left_out, early_host, early_para}
+use Rattle.tube_party.proofs.Early.{alike, like_on, like_ticks, look_left_out, early_host, early_para}
 use Rattle.tube_party.proofs.First.{HostFirst, ParaFirst, host_first, para_first, none_left}
 
 -- a side at work, by its parts
@@ -80,10 +81,6 @@ tick_of_first r n s last Nothing h here = absurd h
 tick_of_first r n s last (Access t op) h here = h.0 ∙ ap r.due here
 tick_of_first r n s last (Look t) h here = h.0 ∙ ap r.due here
 
-nothing_taken : (keep : ℕ) → take keep (let e : List Entry = [] in e) ≡ []
-nothing_taken zero = refl
-nothing_taken (suc k) = refl
-
 moved_kept : (side : Side) (events : List Event) (keep : ℕ) (l m : List Entry) (a b : ℕ) → l ≡ m → a ≡ b → IsKept side events keep m b → IsKept side events keep l a
 moved_kept side events keep l m a b el ea k = record { list_is = el ∙ k.list_is; count_is = ea ∙ k.count_is }
 
@@ -96,7 +93,7 @@ in_time r n slack sure s last Nothing is told x low early = omega (arith, is.0, 
 in_time r n slack sure s last (Access t op) is told x low early = omega (arith, is.0, told, early)
 in_time r n slack sure s last (Look t) is told x low early = omega (arith, is.0, told, early)
 
-module _ {S T : Type 0} (h : Moves S) (p : Moves T) (lh : IsLawful h) (lp : IsLawful p) (n : ℕ) where
+module _ {S T : Type 0} (h : Moves S) (p : Moves T) (lh : IsLawful h) (lp : IsLawful p) (n few : ℕ) where
   silent_host_by : (side : Side) (k : ℕ) (s m : S) (t : T) (c : State) (l : List Event)
       → ((u : S) → Runs h side n k u (course [] m) → ticks h p n 0 (world u t c l) ≡ ticks h p n 0 (world m t c l))
       → First h side n (suc k) s [] m → ticks h p n 0 (world s t c l) ≡ ticks h p n 0 (world m t c l)
@@ -127,24 +124,24 @@ module _ {S T : Type 0} (h : Moves S) (p : Moves T) (lh : IsLawful h) (lp : IsLa
   silent_para side (suc k) s t m c l r =
       silent_para_by side k s t m c l (λ u. silent_para side k s u m c l) (first_of_runs p side n (suc k) t [] m r)
 
-  pub begins : (keep : ℕ) (s0 s : S) (t0 t : T) (c : State) (ask_h ask_p : Ask) (hl pl : List Entry) (hc pc : ℕ)
-      → Advances h n s0 ask_h s → Advances p n t0 ask_p t → c ≡ power_on → (hl ≡ []) × (hc ≡ 0) → (pl ≡ []) × (pc ≡ 0)
-      → IsUnderWay h p n keep s0 t0 s t c ask_h ask_p hl pl hc pc
-  begins keep s0 s t0 t c ask_h ask_p hl pl hc pc ah ap' ec eh ep =
+  pub begins : (keep : ℕ) (s0 s : S) (t0 t : T) (c0 c : State) (l : List Event) (ask_h ask_p : Ask) (hl pl : List Entry) (hc pc : ℕ)
+      → Advances h n s0 ask_h s → Advances p n t0 ask_p t → c ≡ c0 → IsKept Host l keep hl hc → IsKept Para l keep pl pc → hc ≤ few → pc ≤ few
+      → IsUnderWay h p n few keep (world s0 t0 c0 l) s t c ask_h ask_p hl pl hc pc
+  begins keep s0 s t0 t c0 c l ask_h ask_p hl pl hc pc ah ap' ec kh kp fh fp =
       record {
         para_last = ap'.last;
         at = record {
           host_last = ah.last;
-          events = [];
+          events = l;
           host_asked = ah.asked;
           same = alike _ _ (
-              silent_host Host ah.steps s0 ah.last t0 power_on [] ah.runs
-              ∙ silent_para Host ap'.steps ah.last t0 ap'.last power_on [] ap'.runs
-              ∙ ap (λ (x : State). ticks h p n 0 (world ah.last ap'.last x [])) (sym ec));
-          host_kept = record { list_is = eh.0 ∙ sym (nothing_taken keep); count_is = eh.1 };
-          para_kept = record { list_is = ep.0 ∙ sym (nothing_taken keep); count_is = ep.1 };
-          host_few = omega (arith, eh.1);
-          para_few = omega (arith, ep.1);
+              silent_host Host ah.steps s0 ah.last t0 c0 l ah.runs
+              ∙ silent_para Host ap'.steps ah.last t0 ap'.last c0 l ap'.runs
+              ∙ ap (λ (x : State). ticks h p n 0 (world ah.last ap'.last x l)) (sym ec));
+          host_kept = kh;
+          para_kept = kp;
+          host_few = omega (arith, fh);
+          para_few = omega (arith, fp);
         };
         para_asked = ap'.asked;
       }
@@ -240,14 +237,14 @@ module _ {S T : Type 0} (h : Moves S) (p : Moves T) (lh : IsLawful h) (lp : IsLa
       (λ v more on a b. para_saw keep sure far k s v last c more hl pl hc pc first calm on a b) looks.1 kh kp
 
   -- the host's step, which the reference does too, and its looks below a tick before which the parasite makes no access
-  host_does : (keep sure far : ℕ) (s0 s s2 s3 : S) (t0 t : T) (c c2 : State) (ask_h ask2 : Ask) (hl pl hl2 : List Entry) (hc pc hc2 : ℕ)
-      → (w : IsAt h p n keep s0 t0 s t c ask_h hl pl hc pc) → s ≡ w.host_last
+  host_does : (keep sure far : ℕ) (w0 : World S T) (s s2 s3 : S) (t : T) (c c2 : State) (ask_h ask2 : Ask) (hl pl hl2 : List Entry) (hc pc hc2 : ℕ)
+      → (w : IsAt h p n few keep w0 s t c ask_h hl pl hc pc) → s ≡ w.host_last
       → (d : Acts h Host keep (seated s c hl hc) (seated s2 c2 hl2 hc2))
       → IsLike (ticks h p n 0 (world s t c w.events)) (ticks h p n 0 (world (h.next s (Some (act c Host d.query).1)) t (act c Host d.query).0 (w.events ++ event (h.due s) Host d.query (act c Host d.query).1 ∷ [])))
       → ((x : ℕ) → x < n → x < sure → x < far + 1) → ((i : ℕ) → IsCalm p (lines_of c2) far i t)
       → Sees h n (shown_lines (lines_of c2) sure) s2 ask2 s3
-      → IsAt h p n keep s0 t0 s3 t c2 ask2 hl2 pl hc2 pc
-  host_does keep sure far s0 s s2 s3 t0 t c c2 ask_h ask2 hl pl hl2 hc pc hc2 w here d does first calm sees =
+      → IsAt h p n few keep w0 s3 t c2 ask2 hl2 pl hc2 pc
+  host_does keep sure far w0 s s2 s3 t c c2 ask_h ask2 hl pl hl2 hc pc hc2 w here d does first calm sees =
       let a : Answer = (act c Host d.query).1 in
       let done : List Event = w.events ++ event (h.due s) Host d.query a ∷ [] in
       let same_due : h.due s ≡ h.due w.host_last = ap h.due here in
@@ -278,18 +275,18 @@ module _ {S T : Type 0} (h : Moves S) (p : Moves T) (lh : IsLawful h) (lp : IsLa
       }
 
   -- the host's turn
-  host_turn : (keep sure : ℕ) (s0 s s2 s3 : S) (t0 t : T) (c c2 : State) (ask_h ask_p ask2 : Ask) (hl pl hl2 : List Entry) (hc pc hc2 : ℕ)
-      → (w : IsUnderWay h p n keep s0 t0 s t c ask_h ask_p hl pl hc pc)
+  host_turn : (keep sure : ℕ) (w0 : World S T) (s s2 s3 : S) (t : T) (c c2 : State) (ask_h ask_p ask2 : Ask) (hl pl hl2 : List Entry) (hc pc hc2 : ℕ)
+      → (w : IsUnderWay h p n few keep w0 s t c ask_h ask_p hl pl hc pc)
       → HostFirst h p n s w.at.host_last w.para_last ask_h
       → Acts h Host keep (seated s c hl hc) (seated s2 c2 hl2 hc2)
       → IsSure 1 ask_p sure
       → Sees h n (shown_lines (lines_of c2) sure) s2 ask2 s3
-      → IsUnderWay h p n keep s0 t0 s3 t c2 ask2 ask_p hl2 pl hc2 pc
-  host_turn keep sure s0 s s2 s3 t0 t c c2 ask_h ask_p ask2 hl pl hl2 hc pc hc2 w f d told sees =
+      → IsUnderWay h p n few keep w0 s3 t c2 ask2 ask_p hl2 pl hc2 pc
+  host_turn keep sure w0 s s2 s3 t c c2 ask_h ask_p ask2 hl pl hl2 hc pc hc2 w f d told sees =
       let same_due : h.due s ≡ h.due w.at.host_last = ap h.due f.here in
       record {
         para_last = w.para_last;
-        at = host_does keep sure (p.due w.para_last) s0 s s2 s3 t0 w.para_last c c2 ask_h ask2 hl pl hl2 hc pc hc2 w.at f.here d
+        at = host_does keep sure (p.due w.para_last) w0 s s2 s3 w.para_last c c2 ask_h ask2 hl pl hl2 hc pc hc2 w.at f.here d
             (alike _ _ (
             host_next h p lh lp n 0 s w.para_last c w.at.events (omega arith) (omega (arith, f.below)) (omega (arith, f.first))
             ∙ ap (λ (o : Option Query). ticks h p n 0 (host_done (step_leaves h Host (record { state = s; chip = c; list = w.at.events }) o) w.para_last)) d.asks))
@@ -298,30 +295,30 @@ module _ {S T : Type 0} (h : Moves S) (p : Moves T) (lh : IsLawful h) (lp : IsLa
       }
 
   -- the host's turn while the parasite is ahead, where it leaves the lines
-  host_meanwhile : (keep sure far : ℕ) (s0 s s2 s3 : S) (t0 mark t : T) (c c2 : State) (ask_h ask_p ask2 : Ask) (hl pl hl2 : List Entry) (hc pc hc2 : ℕ)
-      → (w : IsAt h p n keep s0 t0 s mark c ask_h hl pl hc pc)
+  host_meanwhile : (keep sure far : ℕ) (w0 : World S T) (s s2 s3 : S) (mark t : T) (c c2 : State) (ask_h ask_p ask2 : Ask) (hl pl hl2 : List Entry) (hc pc hc2 : ℕ)
+      → (w : IsAt h p n few keep w0 s mark c ask_h hl pl hc pc)
       → (g : Goes p n (shown_lines (lines_of c) far) mark ask_p t)
       → HostFirst h p n s w.host_last g.last ask_h
       → Acts h Host keep (seated s c hl hc) (seated s2 c2 hl2 hc2)
       → lines_of c2 ≡ lines_of c
       → IsSure 1 ask_p sure
       → Sees h n (shown_lines (lines_of c2) sure) s2 ask2 s3
-      → IsAt h p n keep s0 t0 s3 mark c2 ask2 hl2 pl hc2 pc
-  host_meanwhile keep sure far s0 s s2 s3 t0 mark t c c2 ask_h ask_p ask2 hl pl hl2 hc pc hc2 w g f d lines told sees =
+      → IsAt h p n few keep w0 s3 mark c2 ask2 hl2 pl hc2 pc
+  host_meanwhile keep sure far w0 s s2 s3 mark t c c2 ask_h ask_p ask2 hl pl hl2 hc pc hc2 w g f d lines told sees =
       let same_due : h.due s ≡ h.due w.host_last = ap h.due f.here in
       let calm : (i : ℕ) → IsCalm p (lines_of c) (p.due g.last) i mark =
       calm_before p (lines_of c) (p.due g.last) n far g.steps mark g.last g.looks (λ i. calm_late p (lines_of c) (p.due g.last) i g.last lp (omega arith)) in
-      host_does keep sure (p.due g.last) s0 s s2 s3 t0 mark c c2 ask_h ask2 hl pl hl2 hc pc hc2 w f.here d
+      host_does keep sure (p.due g.last) w0 s s2 s3 mark c c2 ask_h ask2 hl pl hl2 hc pc hc2 w f.here d
       (early_host h p lh lp n 0 s mark c d.query w.events (p.due g.last) (omega arith) (omega (arith, f.below)) (omega (arith, f.first)) calm d.asks (ap lines_of (sym d.chip_is) ∙ lines))
       (in_time p n 1 sure t g.last ask_p g.asked told) (λ i. subst (λ (x : Lines). IsCalm p x (p.due g.last) i mark) (sym lines) (calm i)) sees
 
   -- the parasite's step
-  para_step : (keep : ℕ) (s0 s : S) (t0 t t2 : T) (c c2 : State) (ask_h ask_p : Ask) (hl pl pl2 : List Entry) (hc pc pc2 : ℕ)
-      → IsUnderWay h p n keep s0 t0 s t c ask_h ask_p hl pl hc pc
+  para_step : (keep : ℕ) (w0 : World S T) (s : S) (t t2 : T) (c c2 : State) (ask_h ask_p : Ask) (hl pl pl2 : List Entry) (hc pc pc2 : ℕ)
+      → IsUnderWay h p n few keep w0 s t c ask_h ask_p hl pl hc pc
       → first_of ask_h ask_p ≡ Some Para
       → Acts p Para keep (seated t c pl pc) (seated t2 c2 pl2 pc2)
-      → IsAt h p n keep s0 t0 s t2 c2 ask_h hl pl2 hc pc2
-  para_step keep s0 s t0 t t2 c c2 ask_h ask_p hl pl pl2 hc pc pc2 w e d =
+      → IsAt h p n few keep w0 s t2 c2 ask_h hl pl2 hc pc2
+  para_step keep w0 s t t2 c c2 ask_h ask_p hl pl pl2 hc pc pc2 w e d =
       let f : ParaFirst h p n t w.para_last w.at.host_last ask_p = para_first h p n s w.at.host_last t w.para_last ask_h ask_p w.at.host_asked w.para_asked e in
       let a : Answer = (act c Para d.query).1 in
       let same_due : p.due t ≡ p.due w.para_last = ap p.due f.here in
@@ -347,12 +344,12 @@ module _ {S T : Type 0} (h : Moves S) (p : Moves T) (lh : IsLawful h) (lp : IsLa
       }
 
   -- the parasite's looks are the reference's where the host makes no access before them
-  catch_up : (keep sure : ℕ) (s0 s : S) (t0 mark last t : T) (c : State) (ask_h ask_p : Ask) (hl pl : List Entry) (hc pc k : ℕ)
-      → (w : IsAt h p n keep s0 t0 s mark c ask_h hl pl hc pc)
+  catch_up : (keep sure : ℕ) (w0 : World S T) (s : S) (mark last t : T) (c : State) (ask_h ask_p : Ask) (hl pl : List Entry) (hc pc k : ℕ)
+      → (w : IsAt h p n few keep w0 s mark c ask_h hl pl hc pc)
       → Looks p n (shown_lines (lines_of c) sure) k mark last → IsAsk p n last ask_p t
       → ((x : ℕ) → x < n → x < sure → x < h.due w.host_last + 0)
-      → IsUnderWay h p n keep s0 t0 s t c ask_h ask_p hl pl hc pc
-  catch_up keep sure s0 s t0 mark last t c ask_h ask_p hl pl hc pc k w looks asked first =
+      → IsUnderWay h p n few keep w0 s t c ask_h ask_p hl pl hc pc
+  catch_up keep sure w0 s mark last t c ask_h ask_p hl pl hc pc k w looks asked first =
       let saw : ParaSaw keep w.host_last mark last c w.events hl pl hc pc =
       para_saw keep sure (h.due w.host_last) k w.host_last mark last c w.events hl pl hc pc first (λ i. calm_late h (lines_of c) (h.due w.host_last) i w.host_last lh (omega arith)) looks w.host_kept w.para_kept in
       let on : p.due mark ≤ p.due last = due_rises p n (lines_of c) sure k mark last lp looks in
@@ -382,39 +379,39 @@ module _ {S T : Type 0} (h : Moves S) (p : Moves T) (lh : IsLawful h) (lp : IsLa
   not_first s hl t last (Look u) (Look v) ah ap' never x low early = omega (arith, ah.0, ap'.0, para_not_after u.0 v.0 never)
 
   -- so that all of the parasite's looks are the reference's
-  caught_up : (keep : ℕ) (s0 s : S) (t0 mark t : T) (c : State) (ask_h ask_p : Ask) (hl pl : List Entry) (hc pc far : ℕ)
-      → IsAt h p n keep s0 t0 s mark c ask_h hl pl hc pc → Goes p n (shown_lines (lines_of c) far) mark ask_p t → (first_of ask_h ask_p ≡ Some Host → ⊥)
-      → IsUnderWay h p n keep s0 t0 s t c ask_h ask_p hl pl hc pc
-  caught_up keep s0 s t0 mark t c ask_h ask_p hl pl hc pc far w g never =
-      catch_up keep (p.due g.last) s0 s t0 mark g.last t c ask_h ask_p hl pl hc pc g.steps w
+  caught_up : (keep : ℕ) (w0 : World S T) (s : S) (mark t : T) (c : State) (ask_h ask_p : Ask) (hl pl : List Entry) (hc pc far : ℕ)
+      → IsAt h p n few keep w0 s mark c ask_h hl pl hc pc → Goes p n (shown_lines (lines_of c) far) mark ask_p t → (first_of ask_h ask_p ≡ Some Host → ⊥)
+      → IsUnderWay h p n few keep w0 s t c ask_h ask_p hl pl hc pc
+  caught_up keep w0 s mark t c ask_h ask_p hl pl hc pc far w g never =
+      catch_up keep (p.due g.last) w0 s mark g.last t c ask_h ask_p hl pl hc pc g.steps w
       (tight p n (lines_of c) lp far (p.due g.last) g.steps mark g.last refl g.looks) g.asked
       (λ x low early. omega (arith, not_first s w.host_last t g.last ask_h ask_p w.host_asked g.asked never x low early))
 
-  pub settled : (keep : ℕ) (s0 s : S) (t0 mark t : T) (c : State) (ask_h ask_p : Ask) (hl pl : List Entry) (hc pc : ℕ) (ahead : Bool)
-      → IsGoing h p n keep s0 t0 ahead s mark t c ask_h ask_p hl pl hc pc → (first_of ask_h ask_p ≡ Some Host → ⊥)
-      → IsUnderWay h p n keep s0 t0 s t c ask_h ask_p hl pl hc pc
-  settled keep s0 s t0 mark t c ask_h ask_p hl pl hc pc false w never = w
-  settled keep s0 s t0 mark t c ask_h ask_p hl pl hc pc true w never = caught_up keep s0 s t0 mark t c ask_h ask_p hl pl hc pc w.1.0 w.0 w.1.1 never
+  pub settled : (keep : ℕ) (w0 : World S T) (s : S) (mark t : T) (c : State) (ask_h ask_p : Ask) (hl pl : List Entry) (hc pc : ℕ) (ahead : Bool)
+      → IsGoing h p n few keep w0 ahead s mark t c ask_h ask_p hl pl hc pc → (first_of ask_h ask_p ≡ Some Host → ⊥)
+      → IsUnderWay h p n few keep w0 s t c ask_h ask_p hl pl hc pc
+  settled keep w0 s mark t c ask_h ask_p hl pl hc pc false w never = w
+  settled keep w0 s mark t c ask_h ask_p hl pl hc pc true w never = caught_up keep w0 s mark t c ask_h ask_p hl pl hc pc w.1.0 w.0 w.1.1 never
 
   -- the parasite's turn
-  pub para_turn : (keep sure : ℕ) (s0 s : S) (t0 mark t t2 mark3 t3 : T) (c c2 : State) (ask_h ask_p ask2 : Ask) (hl pl pl2 : List Entry) (hc pc pc2 : ℕ) (ahead ahead2 : Bool)
-      → IsGoing h p n keep s0 t0 ahead s mark t c ask_h ask_p hl pl hc pc
+  pub para_turn : (keep sure : ℕ) (w0 : World S T) (s : S) (mark t t2 mark3 t3 : T) (c c2 : State) (ask_h ask_p ask2 : Ask) (hl pl pl2 : List Entry) (hc pc pc2 : ℕ) (ahead ahead2 : Bool)
+      → IsGoing h p n few keep w0 ahead s mark t c ask_h ask_p hl pl hc pc
       → first_of ask_h ask_p ≡ Some Para
       → Acts p Para keep (seated t c pl pc) (seated t2 c2 pl2 pc2)
       → IsSure 0 ask_h sure
       → IsGone p n (lines_of c2) sure t2 (standing_of ahead2 ask2 mark3 t3)
-      → IsGoing h p n keep s0 t0 ahead2 s mark3 t3 c2 ask_h ask2 hl pl2 hc pc2
-  para_turn keep sure s0 s t0 mark t t2 mark3 t3 c c2 ask_h ask_p ask2 hl pl pl2 hc pc pc2 ahead ahead2 w e d told gone =
+      → IsGoing h p n few keep w0 ahead2 s mark3 t3 c2 ask_h ask2 hl pl2 hc pc2
+  para_turn keep sure w0 s mark t t2 mark3 t3 c c2 ask_h ask_p ask2 hl pl pl2 hc pc pc2 ahead ahead2 w e d told gone =
       let never : first_of ask_h ask_p ≡ Some Host → ⊥ = λ x. host_or_para (sym x ∙ e) in
-      let at : IsAt h p n keep s0 t0 s t2 c2 ask_h hl pl2 hc pc2 =
-      para_step keep s0 s t0 t t2 c c2 ask_h ask_p hl pl pl2 hc pc pc2 (settled keep s0 s t0 mark t c ask_h ask_p hl pl hc pc ahead w never) e d in
+      let at : IsAt h p n few keep w0 s t2 c2 ask_h hl pl2 hc pc2 =
+      para_step keep w0 s t t2 c c2 ask_h ask_p hl pl pl2 hc pc pc2 (settled keep w0 s mark t c ask_h ask_p hl pl hc pc ahead w never) e d in
       by ahead2 at gone
     where
-      by : (b : Bool) → IsAt h p n keep s0 t0 s t2 c2 ask_h hl pl2 hc pc2 → IsGone p n (lines_of c2) sure t2 (standing_of b ask2 mark3 t3) → IsGoing h p n keep s0 t0 b s mark3 t3 c2 ask_h ask2 hl pl2 hc pc2
+      by : (b : Bool) → IsAt h p n few keep w0 s t2 c2 ask_h hl pl2 hc pc2 → IsGone p n (lines_of c2) sure t2 (standing_of b ask2 mark3 t3) → IsGoing h p n few keep w0 b s mark3 t3 c2 ask_h ask2 hl pl2 hc pc2
       by true at g =
-          (subst (λ (x : T). IsAt h p n keep s0 t0 s x c2 ask_h hl pl2 hc pc2) (sym g.1) at, (g.0.0, subst (λ (x : T). Goes p n (shown_lines (lines_of c2) g.0.0) x ask2 t3) (sym g.1) g.0.1))
+          (subst (λ (x : T). IsAt h p n few keep w0 s x c2 ask_h hl pl2 hc pc2) (sym g.1) at, (g.0.0, subst (λ (x : T). Goes p n (shown_lines (lines_of c2) g.0.0) x ask2 t3) (sym g.1) g.0.1))
       by false at g =
-          catch_up keep sure s0 s t0 t2 g.last t3 c2 ask_h ask2 hl pl2 hc pc2 g.steps at g.looks g.asked (in_time h n 0 sure s at.host_last ask_h at.host_asked told)
+          catch_up keep sure w0 s t2 g.last t3 c2 ask_h ask2 hl pl2 hc pc2 g.steps at g.looks g.asked (in_time h n 0 sure s at.host_last ask_h at.host_asked told)
 
   -- where the host makes its access at once after what the parasite went back to
   rewound_first : (s hl : S) (mark last last2 t2 : T) (lines : Lines) (far at j k : ℕ) (ask_h ask_p ask2 : Ask)
@@ -436,43 +433,43 @@ module _ {S T : Type 0} (h : Moves S) (p : Moves T) (lh : IsLawful h) (lp : IsLa
       by (Access v op) asks u = let past : p.due last ≤ p.due last2 = access_calm p lines (p.due last) last2 op asks.2 (late 1) in omega (arith, f.first)
 
   -- the host's turn, after which the parasite is still ahead or not
-  pub host_goes : (keep sure : ℕ) (s0 s s2 s3 : S) (t0 mark t mark2 t2 : T) (c c2 : State) (ask_h ask_p ask_p2 ask2 : Ask) (hl pl hl2 : List Entry) (hc pc hc2 : ℕ) (ahead ahead2 : Bool)
-      → IsGoing h p n keep s0 t0 ahead s mark t c ask_h ask_p hl pl hc pc
+  pub host_goes : (keep sure : ℕ) (w0 : World S T) (s s2 s3 : S) (mark t mark2 t2 : T) (c c2 : State) (ask_h ask_p ask_p2 ask2 : Ask) (hl pl hl2 : List Entry) (hc pc hc2 : ℕ) (ahead ahead2 : Bool)
+      → IsGoing h p n few keep w0 ahead s mark t c ask_h ask_p hl pl hc pc
       → first_of ask_h ask_p ≡ Some Host
       → Acts h Host keep (seated s c hl hc) (seated s2 c2 hl2 hc2)
       → IsSettled p n (lines_of c) (lines_of c2) (tick_of ask_h) (standing_of ahead ask_p mark t) (standing_of ahead2 ask_p2 mark2 t2)
       → IsSure 1 ask_p2 sure
       → Sees h n (shown_lines (lines_of c2) sure) s2 ask2 s3
-      → IsGoing h p n keep s0 t0 ahead2 s3 mark2 t2 c2 ask2 ask_p2 hl2 pl hc2 pc
+      → IsGoing h p n few keep w0 ahead2 s3 mark2 t2 c2 ask2 ask_p2 hl2 pl hc2 pc
   unfolding catch_up
-  host_goes keep sure s0 s s2 s3 t0 mark t mark2 t2 c c2 ask_h ask_p ask_p2 ask2 hl pl hl2 hc pc hc2 ahead ahead2 w e d (inl kept) told sees =
+  host_goes keep sure w0 s s2 s3 mark t mark2 t2 c c2 ask_h ask_p ask_p2 ask2 hl pl hl2 hc pc hc2 ahead ahead2 w e d (inl kept) told sees =
       moved ahead2 ask_p2 t2 mark2 (ap (λ (x : Standing T). x.ahead) kept.0) (ap (λ (x : Standing T). x.ask) kept.0)
       (ap (λ (x : Standing T). x.state) kept.0) (ap (λ (x : Standing T). x.mark) kept.0) (by ahead w kept.1) told
     where
       moved : (b : Bool) (a : Ask) (u v : T) → b ≡ ahead → a ≡ ask_p → u ≡ t → v ≡ mark
-          → (IsSure 1 ask_p sure → IsGoing h p n keep s0 t0 ahead s3 mark t c2 ask2 ask_p hl2 pl hc2 pc)
-          → IsSure 1 a sure → IsGoing h p n keep s0 t0 b s3 v u c2 ask2 a hl2 pl hc2 pc
+          → (IsSure 1 ask_p sure → IsGoing h p n few keep w0 ahead s3 mark t c2 ask2 ask_p hl2 pl hc2 pc)
+          → IsSure 1 a sure → IsGoing h p n few keep w0 b s3 v u c2 ask2 a hl2 pl hc2 pc
       moved b a u v eb ea eu ev on told =
-          let r : IsGoing h p n keep s0 t0 ahead s3 mark t c2 ask2 ask_p hl2 pl hc2 pc =
+          let r : IsGoing h p n few keep w0 ahead s3 mark t c2 ask2 ask_p hl2 pl hc2 pc =
           on (subst (λ (x : Ask). IsSure 1 x sure) ea told) in
-          subst (λ (x : T). IsGoing h p n keep s0 t0 b s3 x u c2 ask2 a hl2 pl hc2 pc) (sym ev)
-          (subst (λ (x : T). IsGoing h p n keep s0 t0 b s3 mark x c2 ask2 a hl2 pl hc2 pc) (sym eu)
-          (subst (λ (x : Ask). IsGoing h p n keep s0 t0 b s3 mark t c2 ask2 x hl2 pl hc2 pc) (sym ea)
-          (subst (λ (x : Bool). IsGoing h p n keep s0 t0 x s3 mark t c2 ask2 ask_p hl2 pl hc2 pc) (sym eb) r)))
+          subst (λ (x : T). IsGoing h p n few keep w0 b s3 x u c2 ask2 a hl2 pl hc2 pc) (sym ev)
+          (subst (λ (x : T). IsGoing h p n few keep w0 b s3 mark x c2 ask2 a hl2 pl hc2 pc) (sym eu)
+          (subst (λ (x : Ask). IsGoing h p n few keep w0 b s3 mark t c2 ask2 x hl2 pl hc2 pc) (sym ea)
+          (subst (λ (x : Bool). IsGoing h p n few keep w0 x s3 mark t c2 ask2 ask_p hl2 pl hc2 pc) (sym eb) r)))
 
-      by : (b : Bool) → IsGoing h p n keep s0 t0 b s mark t c ask_h ask_p hl pl hc pc → (b ≡ true → lines_of c2 ≡ lines_of c)
-          → IsSure 1 ask_p sure → IsGoing h p n keep s0 t0 b s3 mark t c2 ask2 ask_p hl2 pl hc2 pc
+      by : (b : Bool) → IsGoing h p n few keep w0 b s mark t c ask_h ask_p hl pl hc pc → (b ≡ true → lines_of c2 ≡ lines_of c)
+          → IsSure 1 ask_p sure → IsGoing h p n few keep w0 b s3 mark t c2 ask2 ask_p hl2 pl hc2 pc
       by false w lines told =
-          host_turn keep sure s0 s s2 s3 t0 t c c2 ask_h ask_p ask2 hl pl hl2 hc pc hc2 w (host_first h p n s w.at.host_last t w.para_last ask_h ask_p w.at.host_asked w.para_asked e) d told sees
+          host_turn keep sure w0 s s2 s3 t c c2 ask_h ask_p ask2 hl pl hl2 hc pc hc2 w (host_first h p n s w.at.host_last t w.para_last ask_h ask_p w.at.host_asked w.para_asked e) d told sees
       by true w lines told =
           let g : Goes p n (shown_lines (lines_of c) w.1.0) mark ask_p t = w.1.1 in (
-            host_meanwhile keep sure w.1.0 s0 s s2 s3 t0 mark t c c2 ask_h ask_p ask2 hl pl hl2 hc pc hc2 w.0 g (host_first h p n s w.0.host_last t g.last ask_h ask_p w.0.host_asked g.asked e) d (lines refl) told sees,
+            host_meanwhile keep sure w.1.0 w0 s s2 s3 mark t c c2 ask_h ask_p ask2 hl pl hl2 hc pc hc2 w.0 g (host_first h p n s w.0.host_last t g.last ask_h ask_p w.0.host_asked g.asked e) d (lines refl) told sees,
             (w.1.0, subst (λ (x : Lines). Goes p n (shown_lines x w.1.0) mark ask_p t) (sym (lines refl)) g),
           )
-  host_goes keep sure s0 s s2 s3 t0 mark t mark2 t2 c c2 ask_h ask_p ask_p2 ask2 hl pl hl2 hc pc hc2 ahead ahead2 w e d (inr back) told sees =
+  host_goes keep sure w0 s s2 s3 mark t mark2 t2 c c2 ask_h ask_p ask_p2 ask2 hl pl hl2 hc pc hc2 ahead ahead2 w e d (inr back) told sees =
       by ahead ahead2 back.0 back.1 w
     where
-      by : (b b2 : Bool) → b ≡ true → b2 ≡ false → IsGoing h p n keep s0 t0 b s mark t c ask_h ask_p hl pl hc pc → IsGoing h p n keep s0 t0 b2 s3 mark2 t2 c2 ask2 ask_p2 hl2 pl hc2 pc
+      by : (b b2 : Bool) → b ≡ true → b2 ≡ false → IsGoing h p n few keep w0 b s mark t c ask_h ask_p hl pl hc pc → IsGoing h p n few keep w0 b2 s3 mark2 t2 c2 ask2 ask_p2 hl2 pl hc2 pc
       by false b2 is is2 w = cc
       by true true is is2 w = cc
       by true false is is2 w =
@@ -480,16 +477,16 @@ module _ {S T : Type 0} (h : Moves S) (p : Moves T) (lh : IsLawful h) (lp : IsLa
           let r : Sees p n (shown_lines (lines_of c) (tick_of ask_h)) mark ask_p2 t2 = back.2 in
           let f : HostFirst h p n s w.0.host_last g.last ask_h = host_first h p n s w.0.host_last t g.last ask_h ask_p w.0.host_asked g.asked e in
           let at : tick_of ask_h ≡ h.due w.0.host_last = tick_of_first h n s w.0.host_last ask_h f.pending f.here in
-          let way : IsUnderWay h p n keep s0 t0 s t2 c ask_h ask_p2 hl pl hc pc =
-          catch_up keep (tick_of ask_h) s0 s t0 mark r.last t2 c ask_h ask_p2 hl pl hc pc r.steps w.0 r.looks r.asked (λ x low early. omega (arith, at, early)) in
-          host_turn keep sure s0 s s2 s3 t0 t2 c c2 ask_h ask_p2 ask2 hl pl hl2 hc pc hc2 way
+          let way : IsUnderWay h p n few keep w0 s t2 c ask_h ask_p2 hl pl hc pc =
+          catch_up keep (tick_of ask_h) w0 s mark r.last t2 c ask_h ask_p2 hl pl hc pc r.steps w.0 r.looks r.asked (λ x low early. omega (arith, at, early)) in
+          host_turn keep sure w0 s s2 s3 t2 c c2 ask_h ask_p2 ask2 hl pl hl2 hc pc hc2 way
           (rewound_first s w.0.host_last mark g.last r.last t2 (lines_of c) w.1.0 (tick_of ask_h) g.steps r.steps ask_h ask_p ask_p2 f at g.looks r.looks r.asked r.unsure) d told sees
 
   -- there are fewer accesses than ticks
-  pub para_count : (keep : ℕ) (s0 s : S) (t0 mark t : T) (c : State) (ask_h ask_p : Ask) (hl pl : List Entry) (hc pc : ℕ) (ahead : Bool)
-      → IsGoing h p n keep s0 t0 ahead s mark t c ask_h ask_p hl pl hc pc → first_of ask_h ask_p ≡ Some Para → pc < n
-  para_count keep s0 s t0 mark t c ask_h ask_p hl pl hc pc ahead w e =
-      let way : IsUnderWay h p n keep s0 t0 s t c ask_h ask_p hl pl hc pc = settled keep s0 s t0 mark t c ask_h ask_p hl pl hc pc ahead w (λ x. host_or_para (sym x ∙ e)) in
+  pub para_count : (keep : ℕ) (w0 : World S T) (s : S) (mark t : T) (c : State) (ask_h ask_p : Ask) (hl pl : List Entry) (hc pc : ℕ) (ahead : Bool)
+      → IsGoing h p n few keep w0 ahead s mark t c ask_h ask_p hl pl hc pc → first_of ask_h ask_p ≡ Some Para → pc < few + n
+  para_count keep w0 s mark t c ask_h ask_p hl pl hc pc ahead w e =
+      let way : IsUnderWay h p n few keep w0 s t c ask_h ask_p hl pl hc pc = settled keep w0 s mark t c ask_h ask_p hl pl hc pc ahead w (λ x. host_or_para (sym x ∙ e)) in
       let f : ParaFirst h p n t way.para_last way.at.host_last ask_p = para_first h p n s way.at.host_last t way.para_last ask_h ask_p way.at.host_asked way.para_asked e in
       omega (arith, way.at.para_few, f.below)
 
@@ -502,14 +499,14 @@ module _ {S T : Type 0} (h : Moves S) (p : Moves T) (lh : IsLawful h) (lp : IsLa
   most_left last t (Access u op) d is low = omega (arith, is.0)
   most_left last t (Look u) d is low = omega (arith, is.0)
 
-  pub host_smaller : (keep sure : ℕ) (s0 s s2 s3 : S) (t0 mark t mark2 t2 : T) (c c2 : State) (ask_h ask_p ask_p2 ask2 : Ask) (hl pl hl2 : List Entry) (hc pc hc2 : ℕ) (ahead ahead2 : Bool)
-      → IsGoing h p n keep s0 t0 ahead s mark t c ask_h ask_p hl pl hc pc
+  pub host_smaller : (keep sure : ℕ) (w0 : World S T) (s s2 s3 : S) (mark t mark2 t2 : T) (c c2 : State) (ask_h ask_p ask_p2 ask2 : Ask) (hl pl hl2 : List Entry) (hc pc hc2 : ℕ) (ahead ahead2 : Bool)
+      → IsGoing h p n few keep w0 ahead s mark t c ask_h ask_p hl pl hc pc
       → first_of ask_h ask_p ≡ Some Host
       → Acts h Host keep (seated s c hl hc) (seated s2 c2 hl2 hc2)
       → IsSettled p n (lines_of c) (lines_of c2) (tick_of ask_h) (standing_of ahead ask_p mark t) (standing_of ahead2 ask_p2 mark2 t2)
       → Sees h n (shown_lines (lines_of c2) sure) s2 ask2 s3
       → ticks_left n ask2 + rest_of ahead2 mark2 ask_p2 < ticks_left n ask_h + rest_of ahead mark ask_p
-  host_smaller keep sure s0 s s2 s3 t0 mark t mark2 t2 c c2 ask_h ask_p ask_p2 ask2 hl pl hl2 hc pc hc2 ahead ahead2 w e d settled_so sees =
+  host_smaller keep sure w0 s s2 s3 mark t mark2 t2 c c2 ask_h ask_p ask_p2 ask2 hl pl hl2 hc pc hc2 ahead ahead2 w e d settled_so sees =
       let less : ticks_left n ask2 < ticks_left n ask_h = by_ahead ahead w in
       let same : rest_of ahead2 mark2 ask_p2 ≤ rest_of ahead mark ask_p = by settled_so in
       omega arith
@@ -521,7 +518,7 @@ module _ {S T : Type 0} (h : Moves S) (p : Moves T) (lh : IsLawful h) (lp : IsLa
           let low : h.due s < n = due_of_pending h n s ask_h pending in
           omega (arith, tick_of_pending h n s ask_h pending, left_after h lh n (lines_of c2) sure sees.steps s2 sees.last s3 ask2 (h.due s) sees.looks sees.asked low (omega arith))
 
-      by_ahead : (b : Bool) → IsGoing h p n keep s0 t0 b s mark t c ask_h ask_p hl pl hc pc → ticks_left n ask2 < ticks_left n ask_h
+      by_ahead : (b : Bool) → IsGoing h p n few keep w0 b s mark t c ask_h ask_p hl pl hc pc → ticks_left n ask2 < ticks_left n ask_h
       by_ahead false v = by_pending (host_first h p n s v.at.host_last t v.para_last ask_h ask_p v.at.host_asked v.para_asked e).pending
       by_ahead true v = by_pending (host_first h p n s v.0.host_last t v.1.1.last ask_h ask_p v.0.host_asked v.1.1.asked e).pending
 
@@ -538,19 +535,19 @@ module _ {S T : Type 0} (h : Moves S) (p : Moves T) (lh : IsLawful h) (lp : IsLa
           omega (arith, same)
       by (inr back) = back_by ahead ahead2 back.0 back.1 back.2
 
-  pub para_smaller : (keep sure : ℕ) (s0 s : S) (t0 mark t t2 mark3 t3 : T) (c c2 : State) (ask_h ask_p ask2 : Ask) (hl pl pl2 : List Entry) (hc pc pc2 : ℕ) (ahead ahead2 : Bool)
-      → IsGoing h p n keep s0 t0 ahead s mark t c ask_h ask_p hl pl hc pc
+  pub para_smaller : (keep sure : ℕ) (w0 : World S T) (s : S) (mark t t2 mark3 t3 : T) (c c2 : State) (ask_h ask_p ask2 : Ask) (hl pl pl2 : List Entry) (hc pc pc2 : ℕ) (ahead ahead2 : Bool)
+      → IsGoing h p n few keep w0 ahead s mark t c ask_h ask_p hl pl hc pc
       → first_of ask_h ask_p ≡ Some Para
       → Acts p Para keep (seated t c pl pc) (seated t2 c2 pl2 pc2)
       → IsGone p n (lines_of c2) sure t2 (standing_of ahead2 ask2 mark3 t3)
       → ticks_left n ask_h + rest_of ahead2 mark3 ask2 < ticks_left n ask_h + rest_of ahead mark ask_p
-  para_smaller keep sure s0 s t0 mark t t2 mark3 t3 c c2 ask_h ask_p ask2 hl pl pl2 hc pc pc2 ahead ahead2 w e d gone =
+  para_smaller keep sure w0 s mark t t2 mark3 t3 c c2 ask_h ask_p ask2 hl pl pl2 hc pc pc2 ahead ahead2 w e d gone =
       let before : n - p.due t ≤ rest_of ahead mark ask_p = old ahead w in
       let after : rest_of ahead2 mark3 ask2 < n - p.due t = new ahead2 gone in
       omega arith
     where
-      way : IsUnderWay h p n keep s0 t0 s t c ask_h ask_p hl pl hc pc
-      way = settled keep s0 s t0 mark t c ask_h ask_p hl pl hc pc ahead w (λ x. host_or_para (sym x ∙ e))
+      way : IsUnderWay h p n few keep w0 s t c ask_h ask_p hl pl hc pc
+      way = settled keep w0 s mark t c ask_h ask_p hl pl hc pc ahead w (λ x. host_or_para (sym x ∙ e))
 
       first : ParaFirst h p n t way.para_last way.at.host_last ask_p
       first = para_first h p n s way.at.host_last t way.para_last ask_h ask_p way.at.host_asked way.para_asked e
@@ -564,7 +561,7 @@ module _ {S T : Type 0} (h : Moves S) (p : Moves T) (lh : IsLawful h) (lp : IsLa
       low : p.due t < n
       low = due_of_pending p n t ask_p first.pending
 
-      old : (b : Bool) → IsGoing h p n keep s0 t0 b s mark t c ask_h ask_p hl pl hc pc → n - p.due t ≤ rest_of b mark ask_p
+      old : (b : Bool) → IsGoing h p n few keep w0 b s mark t c ask_h ask_p hl pl hc pc → n - p.due t ≤ rest_of b mark ask_p
       old false v = omega (arith, tick_of_pending p n t ask_p first.pending)
       old true v =
           let f : ParaFirst h p n t v.1.1.last v.0.host_last ask_p = para_first h p n s v.0.host_last t v.1.1.last ask_h ask_p v.0.host_asked v.1.1.asked e in
@@ -576,14 +573,14 @@ module _ {S T : Type 0} (h : Moves S) (p : Moves T) (lh : IsLawful h) (lp : IsLa
       new true g = let at : p.due mark3 ≡ p.due t2 = ap p.due g.1 in omega (arith, up, low)
       new false g = omega (arith, left_after p lp n (lines_of c2) sure g.steps t2 g.last t3 ask2 (p.due t) g.looks g.asked low up)
 
-  finish_by : (keep : ℕ) (s0 s : S) (t0 t : T) (c : State) (ask_h ask_p : Ask) (hl pl : List Entry) (hc pc : ℕ)
-      → IsUnderWay h p n keep s0 t0 s t c ask_h ask_p hl pl hc pc
+  finish_by : (keep : ℕ) (w0 : World S T) (s : S) (t : T) (c : State) (ask_h ask_p : Ask) (hl pl : List Entry) (hc pc : ℕ)
+      → IsUnderWay h p n few keep w0 s t c ask_h ask_p hl pl hc pc
       → (ask_h ≡ Nothing) × (ask_p ≡ Nothing)
-      → IsPlayed (reference h p s0 t0 n) keep (left_as s t c hl pl hc pc)
-  finish_by keep s0 s t0 t c ask_h ask_p hl pl hc pc w none =
+      → IsPlayed (reference_from h p w0 n) keep (left_as s t c hl pl hc pc)
+  finish_by keep w0 s t c ask_h ask_p hl pl hc pc w none =
       let ah : IsAsk h n w.at.host_last Nothing s = subst (λ (x : Ask). IsAsk h n w.at.host_last x s) none.0 w.at.host_asked in
       let ap' : IsAsk p n w.para_last Nothing t = subst (λ (x : Ask). IsAsk p n w.para_last x t) none.1 w.para_asked in
-      let e : IsLike (ticks h p n 0 (start s0 t0)) (world w.at.host_last w.para_last c w.at.events) =
+      let e : IsLike (ticks h p n 0 w0) (world w.at.host_last w.para_last c w.at.events) =
       like_on _ _ _ w.at.same (alike _ _ (rest h p lh lp n 0 w.at.host_last w.para_last c w.at.events (omega (arith, ah.0)) (omega (arith, ap'.0)))) in
       record {
         host_is = ah.1 ∙ ap (λ (x : S). close_leaves h x n) (sym e.host);
@@ -593,11 +590,11 @@ module _ {S T : Type 0} (h : Moves S) (p : Moves T) (lh : IsLawful h) (lp : IsLa
         para_kept = kept_alike Para _ _ keep pl pc (λ side. sym (e.listed side)) w.at.para_kept;
       }
 
-  pub finishes : (keep : ℕ) (s0 s : S) (t0 t : T) (c : State) (ask_h ask_p : Ask) (hl pl : List Entry) (hc pc : ℕ)
-      → IsUnderWay h p n keep s0 t0 s t c ask_h ask_p hl pl hc pc
+  pub finishes : (keep : ℕ) (w0 : World S T) (s : S) (t : T) (c : State) (ask_h ask_p : Ask) (hl pl : List Entry) (hc pc : ℕ)
+      → IsUnderWay h p n few keep w0 s t c ask_h ask_p hl pl hc pc
       → first_of ask_h ask_p ≡ None
-      → IsPlayed (reference h p s0 t0 n) keep (left_as s t c hl pl hc pc)
-  finishes keep s0 s t0 t c ask_h ask_p hl pl hc pc w e = finish_by keep s0 s t0 t c ask_h ask_p hl pl hc pc w (none_left ask_h ask_p e)
+      → IsPlayed (reference_from h p w0 n) keep (left_as s t c hl pl hc pc)
+  finishes keep w0 s t c ask_h ask_p hl pl hc pc w e = finish_by keep w0 s t c ask_h ask_p hl pl hc pc w (none_left ask_h ask_p e)
 
 pub acts_keep : {S : Type 0} {r : Moves S} {side : Side} {k k2 : ℕ} {x y : Desk S} → k ≡ k2 → Acts r side k x y → Acts r side k2 x y
 acts_keep {r = r} {side = side} {x = x} e t =

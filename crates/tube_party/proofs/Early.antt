@@ -14,17 +14,11 @@ use Rattle.tube_trace.specs.Entries.{accesses}
 use Rattle.tube_chip.specs.declared.Lines.{Lines}
 use Rattle.tube_party.specs.Moves.{Moves, IsLawful}
 use Rattle.tube_party.proofs.Calm.{IsCalm, silent_calm, look_calm, access_calm}
+use Rattle.tube_party.specs.GoingOn.{IsLike}
 use Rattle.tube_party.specs.Reference.{Seat, World, step_leaves, step_if_due, with_host, para_part, tick, ticks}
 use Rattle.tube_party.proofs.Ticks.{seat, world, host_done, still, now, same_or_above, host_here}
 use Rattle.tube_party.proofs.Runs.{event}
 use Rattle.tube_party.proofs.Kept.{grows}
-
--- Two worlds that differ only in where looks stand in their lists.
-pub record IsLike {S T : Type 0} (w v : World S T) : Type 0 where
-  pub host : w.host ≡ v.host
-  pub para : w.para ≡ v.para
-  pub chip : w.chip ≡ v.chip
-  pub listed : (side : Side) → accesses (of_side side w.list) ≡ accesses (of_side side v.list)
 
 pub alike : {S T : Type 0} (w v : World S T) → w ≡ v → IsLike w v
 alike w v e = record {
@@ -41,7 +35,7 @@ like_on w v u a b = record { host = a.host ∙ b.host; para = a.para ∙ b.para;
 abbrev pub SameAccesses : List Event → List Event → Type 0
 SameAccesses l m = (side : Side) → accesses (of_side side l) ≡ accesses (of_side side m)
 
-same_after : (l m more : List Event) → SameAccesses l m → SameAccesses (l ++ more) (m ++ more)
+pub same_after : (l m more : List Event) → SameAccesses l m → SameAccesses (l ++ more) (m ++ more)
 same_after l m more same side = grows side l more ∙ ap (λ (x : List Entry). x ++ accesses (of_side side more)) (same side) ∙ sym (grows side m more)
 
 no_accesses : (of : Side) (t : ℕ) (lines : Lines) (side : Side) → accesses (of_side side (event t of look (Seen lines) ∷ [])) ≡ []

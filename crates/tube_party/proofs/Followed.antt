@@ -17,7 +17,7 @@ use Rattle.tube_party.proofs.Kept.{of_side-append}
 use Rattle.tube_party.proofs.Ticks.{seat, same_or_above, still, now}
 use Rattle.tube_party.proofs.Listed.{IsEarlier, Listed, listed_on, listed_more}
 
-side_self : (side : Side) → is_side side side ≡ true
+pub side_self : (side : Side) → is_side side side ≡ true
 side_self Host = refl
 side_self Para = refl
 
@@ -80,7 +80,7 @@ module _ {S : Type 0} (m : Moves S) (lm : IsLawful m) (side : Side) (n : ℕ) (s
 
 module _ {S T : Type 0} (h : Moves S) (p : Moves T) (lh : IsLawful h) (lp : IsLawful p) (s : S) (t : T) (n : ℕ) where
   -- the reference run before tick k
-  record SoFar (k : ℕ) (w : World S T) : Type 0 where
+  pub record SoFar (k : ℕ) (w : World S T) : Type 0 where
     pub host_runs : SomeRuns h Host n s (of_side Host w.list) w.host
     pub para_runs : SomeRuns p Para n t (of_side Para w.list) w.para
     pub host_due : k ≤ h.due w.host
@@ -110,7 +110,7 @@ module _ {S T : Type 0} (h : Moves S) (p : Moves T) (lh : IsLawful h) (lp : IsLa
       subst (λ (i : ℕ). SoFar i (ticks h p j (k + 1) (tick h p k w))) (omega arith)
       (all_ticks j (k + 1) (tick h p k w) (omega arith) (one_tick k w (omega arith) x))
 
-  so_far : SoFar n (ticks h p n 0 (start s t))
+  pub so_far : SoFar n (ticks h p n 0 (start s t))
   so_far =
       subst (λ (i : ℕ). SoFar i (ticks h p n 0 (start s t))) (omega arith)
       (all_ticks n 0 (start s t) (omega arith)

@@ -60,7 +60,7 @@ noted_all_take keep xs (y ∷ ys) =
 pub grows : (side : Side) (events more : List Event) → accesses (of_side side (events ++ more)) ≡ accesses (of_side side events) ++ accesses (of_side side more)
 grows side events more = ap accesses (of_side-append side events more) ∙ accesses-append (of_side side events) (of_side side more)
 
-kept_more : (side : Side) (events more : List Event) (keep : ℕ) (list : List Entry) (count : ℕ)
+pub kept_more : (side : Side) (events more : List Event) (keep : ℕ) (list : List Entry) (count : ℕ)
     → IsKept side events keep list count
     → IsKept side (events ++ more) keep (note_all_leaves keep list (accesses (of_side side more))) (count + length (accesses (of_side side more)))
 kept_more side events more keep list count k =

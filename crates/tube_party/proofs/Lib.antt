@@ -9,8 +9,11 @@ pub mod Listed
 pub mod Followed
 pub mod Replayed
 pub mod TraceLemmas
+pub mod Joined
+pub mod Resumed
 pub mod First
 pub mod Kept
+pub mod Noted
 pub mod Calm
 pub mod Early
 pub mod UnderWay

@@ -60,7 +60,7 @@ answered-push : (c : State) (l : List Event) (e : Event) → IsAnsweredFrom c l 
 answered-push c [] e h is = (is, tt)
 answered-push c (f ∷ l) e h is = (h.0, answered-push (act c f.side f.query).0 l e h.1 is)
 
-after-push : (c : State) (l : List Event) (e : Event) → after_from c (l ++ e ∷ []) ≡ (act (after_from c l) e.side e.query).0
+pub after-push : (c : State) (l : List Event) (e : Event) → after_from c (l ++ e ∷ []) ≡ (act (after_from c l) e.side e.query).0
 after-push c [] e = refl
 after-push c (f ∷ l) e = after-push (act c f.side f.query).0 l e
 

@@ -17,10 +17,10 @@ use Rattle.tube_party.proofs.Ticks.{world, rest, host_next, host_silent, para_ne
 merge_host : (a : Event) (host para : List Event) → merge (a ∷ host) [] ≡ a ∷ merge host []
 merge_host a host para = refl
 
-merge_first : (a b : Event) (host para : List Event) → a.tick ≤ b.tick → merge (a ∷ host) (b ∷ para) ≡ a ∷ merge host (b ∷ para)
+pub merge_first : (a b : Event) (host para : List Event) → a.tick ≤ b.tick → merge (a ∷ host) (b ∷ para) ≡ a ∷ merge host (b ∷ para)
 merge_first a b host para le = rw (le-ltb b.tick a.tick le) refl
 
-merge_second : (a b : Event) (host para : List Event) → b.tick < a.tick → merge (a ∷ host) (b ∷ para) ≡ b ∷ merge (a ∷ host) para
+pub merge_second : (a b : Event) (host para : List Event) → b.tick < a.tick → merge (a ∷ host) (b ∷ para) ≡ b ∷ merge (a ∷ host) para
 merge_second a b host para lt = rw (lt-ltb b.tick a.tick lt) refl
 
 module _ {S T : Type 0} (h : Moves S) (p : Moves T) (lh : IsLawful h) (lp : IsLawful p) (n : ℕ) (m : S) (v : T) (over_m : n ≤ h.due m) (over_v : n ≤ p.due v) where

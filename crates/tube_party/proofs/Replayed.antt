@@ -55,11 +55,11 @@ own_accesses side n (e ∷ l) h =
 -- what its looks see
 
 -- as `IsAnsweredBy`, from chip c on
-abbrev IsAnsweredOn : State → List Entry → ℕ → Side → Query → Answer → Type 0
+abbrev pub IsAnsweredOn : State → List Entry → ℕ → Side → Query → Answer → Type 0
 IsAnsweredOn c trace t side (access op) a = FitsAnswer (access op) a
 IsAnsweredOn c trace t side look a = a ≡ Seen (lines_of (chip_before side t c trace))
 
-abbrev On : State → List Entry → Event → Type 0
+abbrev pub On : State → List Entry → Event → Type 0
 On c trace e = IsAnsweredOn c trace e.tick e.side e.query e.answer
 
 -- an event after the look stops it
@@ -84,7 +84,7 @@ head_by : (c : State) (t : ℕ) (side : Side) (q : Query) (a : Answer) (more : L
 head_by c t side (access op) a more is still = subst (FitsAnswer (access op)) is tt
 head_by c t side look a more is still = sym is ∙ ap (λ (d : State). Seen (lines_of d)) (sym still)
 
-tail_by : (c d : State) (trace more : List Entry) (t : ℕ) (side : Side) (q : Query) (a : Answer) → chip_before side t c trace ≡ chip_before side t d more → IsAnsweredOn d more t side q a → IsAnsweredOn c trace t side q a
+pub tail_by : (c d : State) (trace more : List Entry) (t : ℕ) (side : Side) (q : Query) (a : Answer) → chip_before side t c trace ≡ chip_before side t d more → IsAnsweredOn d more t side q a → IsAnsweredOn c trace t side q a
 tail_by c d trace more t side (access op) a same h = h
 tail_by c d trace more t side look a same h = h ∙ ap (λ (x : State). Seen (lines_of x)) (sym same)
 

@@ -62,7 +62,7 @@ placed_by P t side (access op) (Byte b) xs h on = All-cons (λ (x : Entry). P (x
 placed_by P t side (access op) (Seen l) xs h on = on
 placed_by P t side look a xs h on = on
 
-placed : (P : ℕ → Side → Type 0) (l : List Event) → All (λ (e : Event). P e.tick e.side) l → All (λ (x : Entry). P (x.tick).0 x.side) (accesses l)
+pub placed : (P : ℕ → Side → Type 0) (l : List Event) → All (λ (e : Event). P e.tick e.side) l → All (λ (x : Entry). P (x.tick).0 x.side) (accesses l)
 placed P [] h = All-nil (λ (x : Entry). P (x.tick).0 x.side)
 placed P (e ∷ l) h =
     placed_by P e.tick e.side e.query e.answer (accesses l) (All-head (λ (f : Event). P f.tick f.side) e l h) (placed P l (All-tail (λ (f : Event). P f.tick f.side) e l h))

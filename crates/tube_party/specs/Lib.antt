@@ -6,6 +6,7 @@ pub mod Replay
 pub mod ReplayLaws
 pub mod CodeTape
 pub mod Reference
+pub mod GoingOn
 pub mod OneThread
 pub mod Turn
 pub mod CodeDesk

@@ -3,6 +3,7 @@ ghost use Rattle.std.specs.Prelude.{IsTrue};
 ghost use Rattle.beeb_bits.specs.declared.Side.TheVariants.{Host, Para};
 ghost use Rattle.tube_party.specs.CodeClosing.{MayBeShut, FollowsOn};
 ghost use Rattle.tube_party.specs.Reference.{LegalMergeIsReference, ReferenceIsFollowed, ReferenceIsTrace};
+ghost use Rattle.tube_party.specs.GoingOn.{BroughtBackIsReference};
 ghost use Rattle.tube_party.specs.ReplayLaws.{ReplayIsFollowing, ReplayTellsDifference, ReferenceIsReplayed};
 
 use crate::party::Party;
@@ -45,4 +46,10 @@ pub fn replay_is_following<M: Party>()
 /// reference run leaves it.
 pub fn reference_is_replayed<H: Party, P: Party>()
     ensures { ReferenceIsReplayed H.moves P.moves }
+{}
+
+/// Two parties that were brought back to a tick, each by its replay against a trace below it, the chip after that trace and its
+/// accesses are the reference run at that tick; and the reference run that goes on from there is the reference run.
+pub fn brought_back_is_reference<H: Party, P: Party>()
+    ensures { BroughtBackIsReference H.moves P.moves }
 {}

@@ -4,6 +4,7 @@
 mod forward;
 mod law;
 mod log;
+mod noting;
 mod one_thread;
 mod party;
 mod replaying;
@@ -12,11 +13,12 @@ mod tape;
 
 pub use forward::Forward;
 pub use law::{
-    legal_merge_is_reference, party_goes_on, reference_is_followed, reference_is_replayed,
-    reference_is_trace, replay_is_following,
+    brought_back_is_reference, legal_merge_is_reference, party_goes_on, reference_is_followed,
+    reference_is_replayed, reference_is_trace, replay_is_following,
 };
 pub use log::note;
-pub use one_thread::{Done, solo};
+pub use noting::Room;
+pub use one_thread::{Done, go_on_from, solo};
 pub use party::{Ask, MOST, NO_LINES, Party};
 pub use replaying::{Doing, replay};
 pub use rewinds::Rewinds;

@@ -1,14 +1,17 @@
 //! Two parties on one thread.
-ghost use Rattle.std.specs.Prelude.{◌≡◌, ◌≤◌, ◌<◌, ◌^◌, ◌⊎◌, [], IfOk, IfErr, IsTrue};
+ghost use Rattle.std.specs.Prelude.{◌≡◌, ◌≤◌, ◌<◌, ◌^◌, ◌⊎◌, All, IfOk, IfErr, IsTrue};
 ghost use Rattle.beeb_bits.specs.declared.Side.TheVariants.{Host, Para};
 ghost use Rattle.tube_chip.specs.State.{lines_of};
 ghost use Rattle.tube_party.specs.OneThread.{IsPlayed, played_of};
 ghost use Rattle.tube_party.specs.Turn.{IsPending, first_of, tick_of, IsSure};
 ghost use Rattle.tube_party.specs.CodeDesk.{desk, Acts};
 ghost use Rattle.tube_party.specs.CodeStanding.{standing_of, IsGone, StandsStill, IsRolledBack};
+ghost use Rattle.tube_trace.specs.Entries.{IsEntry};
 ghost use Rattle.tube_party.specs.Reference.{reference};
+ghost use Rattle.tube_party.specs.GoingOn.{reference_from, after_entries};
 
 use crate::log::Log;
+use crate::noting::{Room, note_all};
 use crate::party::{Ask, MOST, Party};
 use crate::rewinds::Rewinds;
 use beeb_bits::{Side, Tick};
@@ -167,26 +170,32 @@ const FEWEST: u64 = 16;
 /// The most of them.
 const FURTHEST: u64 = 4_096;
 
-/// Both parties in turn: the one whose ask comes first does that step, and goes on. The host goes on past the looks before which the parasite
+/// Goes on with two parties at one chip for the ticks below `n`, as the reference run does that goes on from the chip after these accesses, which
+/// were made before, with both parties as they are. They count among the accesses of each side, of which the first that `room` has room for are kept.
+///
+/// Both parties take turns: the one whose ask comes first does that step, and goes on. The host goes on past the looks before which the parasite
 /// makes no access. The parasite goes ahead of the host, as if the host changed none of its lines, and is rolled back where it does.
-fn both<H: Party, P: Rewinds>(
+pub fn go_on_from<H: Party, P: Rewinds>(
     mut host: H,
     mut para: P,
+    entries: &[Entry],
     n: Tick,
-    mut host_log: Log,
-    mut para_log: Log,
-    mut past: P::Past,
+    room: Room<P>,
 ) -> Done<H, P>
     requires ticks { n.0 ≤ MOST }
     requires host_plays { IsTrue (H.plays Host) }
     requires para_plays { IsTrue (P.Party.plays Para) }
-    requires host_none { (host_log.list.items ≡ []) × (host_log.count ≡ 0) }
-    requires para_none { (para_log.list.items ≡ []) × (para_log.count ≡ 0) }
-    requires one_keep { para_log.keep ≡ host_log.keep }
-    ensures { let w = reference H.moves P.Party.moves (H.state host) (P.Party.state para) n.0 in
-        IsPlayed w host_log.keep (played_of H.state P.Party.state result) }
+    requires entries { All IsEntry entries.now }
+    ensures { let w = after_entries (H.state host) (P.Party.state para) entries.now in
+        IsPlayed (reference_from H.moves P.Party.moves w n.0) room.keep (played_of H.state P.Party.state result) }
 {
-    let mut chip = Chip::new();
+    let Room {
+        mut host_log,
+        mut para_log,
+        mut past,
+        ..
+    } = room;
+    let mut chip = note_all(&mut host_log, &mut para_log, entries);
     let mut lines = chip.lines();
     let mut host_ask = host.advance(n);
     let mut para_ask = para.advance(n);
@@ -270,14 +279,8 @@ pub fn solo<H: Party, P: Rewinds>(
         IfOk result (λ d. IsPlayed w keep (played_of H.state P.Party.state d)) }
     ensures back { IfErr result (λ b. (b.0 ≡ host) × (b.1 ≡ para)) }
 {
-    let Ok(host_log) = Log::new(alloc, keep) else {
-        return Err((host, para));
-    };
-    let Ok(para_log) = Log::new(alloc, keep) else {
-        return Err((host, para));
-    };
-    let Ok(past) = P::past(alloc) else {
-        return Err((host, para));
-    };
-    Ok(both(host, para, n, host_log, para_log, past))
+    match Room::new(alloc, keep) {
+        Ok(room) => Ok(go_on_from(host, para, &[], n, room)),
+        Err(_) => Err((host, para)),
+    }
 }

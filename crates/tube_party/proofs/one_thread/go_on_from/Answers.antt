@@ -1,16 +1,18 @@
-use Rattle.std.proofs.Common.{◌≡◌, ◌∙◌, sym, ap, refl, arith, Some, None}
+use Rattle.std.proofs.Common.{◌≡◌, ◌∙◌, sym, ap, arith, Some, None}
 use Rattle.beeb_bits.specs.declared.Side.TheVariants.{Host, Para}
 use Rattle.tube_party.specs.Turn.{first_of}
 use Rattle.tube_party.proofs.Both.{begins, host_goes, para_turn, finishes, settled, host_smaller, para_smaller, para_count, acts_keep, host_or_none, gone_seeing, sees_seeing, settled_seeing}
-use Rattle.tube_party.proofs.one_thread.both.Goals as goal
+use Rattle.tube_party.proofs.Noted.{kept_of}
+use Rattle.tube_party.proofs.one_thread.go_on_from.Goals as goal
 
 pub loop-side-init : goal.loop-side-init
 loop-side-init g c = record {
-  way = begins g.H.Party.moves g.P.Party.moves g.met.H.Party.lawful g.met.P.Party.lawful _ _ _ _ _ _ _ _ _ _ _ _ _
-      c.advance-host_ask.ensures c.advance-para_ask.ensures c.new-chip.ensures c.requires.host_none c.requires.para_none;
+  way = begins g.H.Party.moves g.P.Party.moves g.met.H.Party.lawful g.met.P.Party.lawful _ _ _ _ _ _ _ _ _ _ _ _ _ _ _ _
+      c.advance-host_ask.ensures c.advance-para_ask.ensures c.note_all-chip.ensures.chip (kept_of c.args.room.host.keep_is c.note_all-chip.ensures.host) (kept_of c.args.room.para.keep_is c.note_all-chip.ensures.para)
+      c.note_all-chip.ensures.few.0 c.note_all-chip.ensures.few.1;
   lines = c.lines-lines.ensures;
-  host_keep = refl;
-  para_keep = c.requires.one_keep;
+  host_keep = c.note_all-chip.ensures.keep.0 ∙ c.args.room.host.keep_is;
+  para_keep = c.note_all-chip.ensures.keep.1 ∙ c.args.room.para.keep_is;
 }
 
 pub loop-side-smaller-in-Host : goal.loop-side-smaller-in-Host

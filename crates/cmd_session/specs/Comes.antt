@@ -1,0 +1,35 @@
+-- What comes of both machines, once they are back.
+use Rattle.std.specs.Prelude.{ℕ, ◌≡◌, ⊤, Option}
+use Rattle.beeb_bits.specs.declared.clock.Clock.{Clock}
+use Rattle.bus_plug.specs.Plug.{Plug}
+use Rattle.tube_party.specs.Reference.{reference}
+use Rattle.host_mach.specs.declared.machine.HostMachine.{HostMachine}
+use Rattle.host_mach.specs.State.{HostState}
+use Rattle.host_mach.specs.Step.{host_moves}
+use Rattle.para_mach.specs.State.{ParaState}
+use Rattle.para_mach.specs.Step.{para_moves}
+use Rattle.save_state.specs.Saved.{Session}
+use Rattle.beeb_stages.specs.Plan.{Verdict}
+use Rattle.beeb_status.specs.declared.status.Ending.{Ending}
+use Rattle.beeb_status.specs.declared.status.Ending.TheVariants as endings
+use Rattle.beeb_outcome.specs.Names.{Names}
+use Rattle.beeb_outcome.specs.Trace.{wrong_verdict}
+use Rattle.beeb_outcome.specs.Verdicts.{said_verdict}
+use Rattle.cmd_replay.specs.Replay.{differs_text}
+use Rattle.cmd_pair.specs.Code.{IsRun}
+use Rattle.cmd_pair.specs.Solo.{kept_verdict}
+use Rattle.cmd_session.specs.declared.going.Back.{Back}
+use Rattle.cmd_session.specs.declared.going.Back.TheVariants.{On, Wrong, Differs}
+
+-- both machines, where they went on, were run from some states as the reference run does
+abbrev pub Went : {D : Type 0} → (D → Plug) → ℕ → ℕ → Back (HostMachine D) ParaState → Type 0
+Went plug n keep (On done) = (s : HostState) × (t : ParaState) × IsRun plug s t n keep done
+Went plug n keep (Wrong line byte) = ⊤
+Went plug n keep (Differs line doing) = ⊤
+
+-- what the reference run leaves, or what is said of a wrong access or of a difference
+abbrev pub Comes : {D : Type 0} → (D → Plug) → Clock → Option Session → ℕ → ℕ → Names → Back (HostMachine D) ParaState → Verdict Ending → Type 0
+Comes plug clock begun n keep names (On done) v =
+    (s : HostState) (t : ParaState) → IsRun plug s t n keep done → v ≡ kept_verdict clock begun n keep names (reference host_moves para_moves s t n)
+Comes plug clock begun n keep names (Wrong line byte) v = v ≡ wrong_verdict line byte
+Comes plug clock begun n keep names (Differs line doing) v = v ≡ said_verdict (endings.Differs line doing) (differs_text line doing)

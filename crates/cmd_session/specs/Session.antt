@@ -1,0 +1,56 @@
+-- `resume STATE TICKS OUT` and options: a run goes on from a session file.
+use Rattle.std.specs.Prelude.{ℕ, min, List, Option, Result, Ok}
+use Rattle.bus_plug.specs.Plug.{Plug}
+use Rattle.tube_trace.specs.declared.Entry.{Entry}
+use Rattle.tube_trace.specs.FirstWrong.{wrong}
+use Rattle.tube_party.specs.declared.Doing.{Doing}
+use Rattle.tube_party.specs.Reference.{reference}
+use Rattle.host_mach.specs.State.{HostState}
+use Rattle.host_mach.specs.Step.{host_moves}
+use Rattle.para_mach.specs.State.{ParaState}
+use Rattle.para_mach.specs.Step.{para_moves}
+use Rattle.save_state.specs.declared.StateError.{StateError}
+use Rattle.save_state.specs.declared.StateError.TheVariants as state_errors
+use Rattle.save_state.specs.Saved.{Session}
+use Rattle.save_state.specs.File.{file}
+use Rattle.save_state.specs.Resume.{first_difference}
+use Rattle.beeb_stages.specs.Plan.{Verdict, ◌>>=◌, or_refusal}
+use Rattle.beeb_stages.specs.declared.stop.Refusal.{Refusal}
+use Rattle.beeb_stages.specs.declared.stop.Refusal.TheVariants as refusals
+use Rattle.beeb_status.specs.declared.status.Ending.{Ending}
+use Rattle.beeb_status.specs.declared.status.Cause.{Cause}
+use Rattle.beeb_status.specs.declared.status.Cause.TheVariants.{BadState}
+use Rattle.power_on.specs.Inputs.{Inputs}
+use Rattle.power_on.specs.Machines.{machines_of}
+use Rattle.power_on.specs.Sessions.{setup_in, inputs_in, begun_if}
+use Rattle.beeb_outcome.specs.Names.{Names}
+use Rattle.cmd_replay.specs.Replay.{verdict_of_place, unless_wrong}
+use Rattle.cmd_pair.specs.Save.{below}
+use Rattle.cmd_pair.specs.Solo.{kept_verdict}
+
+-- the refusal that an error of a session file is
+abbrev pub state_refusal : StateError → Refusal Cause
+state_refusal (state_errors.BadField at) = refusals.Cause (BadState at)
+state_refusal state_errors.NoMemory = refusals.NoMemory
+
+-- the session that a file holds
+unfoldable pub state_of : List ℕ → Result Session (Refusal Cause)
+state_of bytes = or_refusal state_refusal (file bytes)
+
+-- Where both machines from power-on and the accesses of a session differ first: the accesses below its moment and below the end of a run.
+abbrev pub place_of : Session → ℕ → HostState × ParaState → Option (ℕ × Option Doing)
+place_of s ticks m = first_difference host_moves para_moves (below (min s.ticks ticks) s.entries) (min s.ticks ticks) m.0 m.1
+
+-- The reference run of both machines from power-on, where they and the accesses of the session differ nowhere.
+unfoldable pub session_ended : List Plug → ℕ → ℕ → Names → Session → HostState × ParaState → Verdict Ending
+session_ended plugs ticks keep names s m =
+    verdict_of_place (kept_verdict s.clock (begun_if names.save (setup_in s plugs) (inputs_in s)) ticks keep names)
+    (reference host_moves para_moves m.0 m.1 ticks) (place_of s ticks m)
+
+-- A session's machines are made of its parts. Refused are in order the form of the file and that of the script. The answers of all its accesses are
+-- checked before the machines go.
+unfoldable pub session_after : List Plug → ℕ → ℕ → Names → Inputs → Result (Verdict Ending) (Refusal Cause)
+session_after plugs ticks keep names i =
+    state_of i.state
+    >>= λ s. machines_of (setup_in s plugs) (inputs_in s)
+    >>= λ m. Ok (unless_wrong (wrong s.entries) (session_ended plugs ticks keep names s m))

@@ -1,0 +1,64 @@
+//! Two parties that are brought back to a moment and go on.
+ghost use Rattle.std.specs.Prelude.{◌≡◌, ◌≤◌, IfOk, IsTrue, min};
+ghost use Rattle.beeb_bits.specs.declared.Side.TheVariants.{Host, Para};
+ghost use Rattle.cmd_session.specs.Back.{AreAccesses, Goes};
+
+use beeb_bits::Tick;
+use cmd_pair::entries_below;
+use save_state::{ResumeError, resume};
+use std::alloc::{AllocError, Global};
+use tube_party::{Doing, Done, MOST, Party, Rewinds};
+use tube_trace::{Entry, first_wrong};
+
+/// What comes of two parties and the accesses of a session.
+#[derive(Drop)]
+pub(crate) enum Back<H, P> {
+    /// Both went on from the moment to the end of the run.
+    On(Done<H, P>),
+    /// The access, counted from 1, whose answer the chip would not give, and the byte that it would.
+    Wrong { line: u64, byte: u8 },
+    /// The access, counted from 1, that a party does not do, and what it does there, if it does something.
+    Differs { line: u64, doing: Option<Doing> },
+}
+
+// The smaller of two ticks.
+fn earlier(a: Tick, b: Tick) -> Tick
+    ensures { result.0 ≡ min a.0 b.0 }
+{
+    if a.0 <= b.0 { a } else { b }
+}
+
+/// Two parties against the accesses of a session up to a moment: where the chip gives all their answers, and each party does its own below the end
+/// of the run, both go on from there. It stands apart from the machines, since a proof over any two parties goes through no machine's parts.
+pub(crate) fn bring_back<H: Party, P: Rewinds>(
+    alloc: Global,
+    host: H,
+    para: P,
+    entries: &[Entry],
+    moment: Tick,
+    n: Tick,
+    keep: u32,
+) -> Result<Back<H, P>, AllocError>
+    requires ticks { n.0 ≤ MOST }
+    requires entries { AreAccesses moment.0 entries.now }
+    requires host_plays { IsTrue (H.plays Host) }
+    requires para_plays { IsTrue (P.plays Para) }
+    requires host_open { H.moves.closed (H.state host) ≡ 0 }
+    requires para_open { P.moves.closed (P.state para) ≡ 0 }
+    ensures { let s = H.state host in let t = P.state para in
+        IfOk result (λ b. Goes H.state P.state H.moves P.moves s t entries.now moment.0 n.0 keep b) }
+{
+    if let Some((place, byte)) = first_wrong(entries) {
+        return Ok(Back::Wrong {
+            line: place as u64 + 1,
+            byte,
+        });
+    }
+    let at = earlier(moment, n);
+    let before = entries_below(entries, at);
+    match resume(alloc, host, para, before, at, n, keep) {
+        Ok(done) => Ok(Back::On(done)),
+        Err(ResumeError::Differs { line, doing }) => Ok(Back::Differs { line, doing }),
+        Err(ResumeError::NoMemory { .. }) => Err(AllocError),
+    }
+}

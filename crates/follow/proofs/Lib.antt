@@ -1,0 +1,5 @@
+pub mod Walks
+pub mod Noting
+pub mod Watching
+pub mod Listed
+pub mod Referred

@@ -1,0 +1,10 @@
+pub mod Sight
+pub mod Start
+pub mod Listing
+pub mod Reference
+pub mod Machines
+pub mod CodeStart
+pub mod CodeTrail
+pub mod CodeNotes
+pub mod CodeWatched
+pub mod View

@@ -1,0 +1,55 @@
+//! Which starts of instructions are listed.
+ghost use Rattle.std.specs.Prelude.{◌≡◌};
+ghost use Rattle.follow.specs.Listing.{is_at, is_same_byte, has_changed, is_chosen};
+
+/// Which starts of instructions are listed: those at an address, if one is given, and those at which the byte at another, if one is given, is
+/// not what it was at the start before.
+#[derive(Clone, Copy, Debug, PartialEq, Eq)]
+pub struct Choice {
+    pub at: Option<u16>,
+    pub watch: Option<u16>,
+}
+
+#[inline(always)]
+fn is_at(at: Option<u16>, pc: u16) -> bool
+    ensures { result ≡ is_at at pc }
+{
+    match at {
+        None => true,
+        Some(at) => at == pc,
+    }
+}
+
+#[inline(always)]
+fn is_same_byte(one: Option<u8>, other: Option<u8>) -> bool
+    ensures { result ≡ is_same_byte one other }
+{
+    match (one, other) {
+        (None, None) => true,
+        (Some(a), Some(b)) => a == b,
+        _ => false,
+    }
+}
+
+#[inline(always)]
+fn has_changed(watch: Option<u16>, before: Option<Option<u8>>, now: Option<u8>) -> bool
+    ensures { result ≡ has_changed watch before now }
+{
+    if watch.is_none() {
+        return true;
+    }
+    match before {
+        None => false,
+        Some(before) => !is_same_byte(before, now),
+    }
+}
+
+impl Choice {
+    /// Whether a start at this PC, with this watched byte, is listed, by the byte that was watched at the start before it.
+    #[inline(always)]
+    pub(crate) fn chooses(&self, before: Option<Option<u8>>, pc: u16, watched: Option<u8>) -> bool
+        ensures { result ≡ is_chosen self.now before pc watched }
+    {
+        is_at(self.at, pc) && has_changed(self.watch, before, watched)
+    }
+}

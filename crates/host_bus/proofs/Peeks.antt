@@ -1,0 +1,68 @@
+-- Where the memory is, and that a read there gives the byte that stands there.
+use Rattle.std.proofs.Common.{ℕ, ◌≡◌, ◌≤◌, ◌<◌, Bool, true, false, Some, None, refl, arith}
+use Rattle.std.proofs.lemmas.Grind.{common_steps}
+use Rattle.host_bus.specs.declared.map.Place.{Place}
+use Rattle.host_bus.specs.declared.map.Place.TheVariants.{Ram, PagedRom, OsRom, Plugs, Crtc, Acia, SerialUla, VideoUla, RomLatch, SystemVia, UserVia, DiscLatch, DiscController, Absent, Adc, Tube}
+use Rattle.host_bus.specs.Map.{place_of}
+use Rattle.host_bus.specs.Bus.{BusState, answer_of, bus_answer}
+use Rattle.host_bus.specs.Peek.{memory_at, bus_peek}
+
+abbrev is_memory : Place → Bool
+is_memory Ram = true
+is_memory PagedRom = true
+is_memory OsRom = true
+is_memory _ = false
+
+low-memory : (at : ℕ) → at < 0xfc00 → is_memory (place_of at) ≡ true
+low-memory at h = grind (arith, common_steps)
+
+top-memory : (at : ℕ) → 0xff00 ≤ at → at < 65536 → is_memory (place_of at) ≡ true
+top-memory at h top = grind (arith, common_steps)
+
+no-memory : (at : ℕ) → 0xfc00 ≤ at → at < 0xff00 → is_memory (place_of at) ≡ false
+no-memory at low high = grind (arith, common_steps)
+
+stands : (p : Place) (b : BusState) (t at : ℕ) → is_memory p ≡ true → memory_at p b.board at ≡ Some (answer_of p b t at)
+stands Ram b t at is = refl
+stands PagedRom b t at is = refl
+stands OsRom b t at is = refl
+stands Plugs b t at is = cc
+stands Crtc b t at is = cc
+stands Acia b t at is = cc
+stands SerialUla b t at is = cc
+stands VideoUla b t at is = cc
+stands RomLatch b t at is = cc
+stands SystemVia b t at is = cc
+stands UserVia b t at is = cc
+stands DiscLatch b t at is = cc
+stands DiscController b t at is = cc
+stands Absent b t at is = cc
+stands Adc b t at is = cc
+stands Tube b t at is = cc
+
+none : (p : Place) (b : BusState) (at : ℕ) → is_memory p ≡ false → memory_at p b.board at ≡ None
+none Ram b at is = cc
+none PagedRom b at is = cc
+none OsRom b at is = cc
+none Plugs b at is = refl
+none Crtc b at is = refl
+none Acia b at is = refl
+none SerialUla b at is = refl
+none VideoUla b at is = refl
+none RomLatch b at is = refl
+none SystemVia b at is = refl
+none UserVia b at is = refl
+none DiscLatch b at is = refl
+none DiscController b at is = refl
+none Absent b at is = refl
+none Adc b at is = refl
+none Tube b at is = refl
+
+pub peek-low : (b : BusState) (t at : ℕ) → at < 0xfc00 → bus_peek b at ≡ Some (bus_answer b t at)
+peek-low b t at h = stands (place_of at) b t at (low-memory at h)
+
+pub peek-top : (b : BusState) (t at : ℕ) → 0xff00 ≤ at → at < 65536 → bus_peek b at ≡ Some (bus_answer b t at)
+peek-top b t at h top = stands (place_of at) b t at (top-memory at h top)
+
+pub peek-none : (b : BusState) (at : ℕ) → 0xfc00 ≤ at → at < 0xff00 → bus_peek b at ≡ None
+peek-none b at low high = none (place_of at) b at (no-memory at low high)

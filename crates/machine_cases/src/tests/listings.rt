@@ -1,0 +1,380 @@
+//! Listings of both machines, against short traces.
+use beeb_bits::{Clock, NoMemory, Side, Tick};
+use bus_plug::BusDevice;
+use follow::{Choice, FollowError, Listing, Seen, list};
+use host_bus::Bus;
+use host_mach::HostMachine;
+use op_table::Part;
+use para_mach::ParaMachine;
+use rom_set::RomSet;
+use std::alloc::Global;
+use std::test::Fail;
+use std::vec::Vec;
+use tube_chip::Op;
+use tube_party::{Doing, replay, solo};
+use tube_trace::{Entry, merge, read};
+
+// Bytes 00 but for some parts.
+fn image(alloc: Global, length: usize, parts: &[(usize, &[u8])]) -> Result<Vec<u8>, Fail> {
+    let mut bytes = vec![in alloc; 0; length]?;
+    for (start, part) in parts {
+        for (i, byte) in part.iter().enumerate() {
+            if let Some(at) = bytes.get_mut(start.wrapping_add(i)) {
+                *at = *byte;
+            }
+        }
+    }
+    Ok(bytes)
+}
+
+// A copy of itself to the RAM below it, and then two letters to register 1.
+const LETTERS: &[u8] = &[
+    0xa2, 0x1f, 0xbd, 0x00, 0xf8, 0x9d, 0x00, 0xf8, 0xca, 0x10, 0xf7, 0xa9, 0x48, 0x8d, 0xf9, 0xfe,
+    0xa9, 0x49, 0x8d, 0xf9, 0xfe, 0x4c, 0x15, 0xf8,
+];
+
+// Two letters from register 1 to 0070 and 0071, and then JMP C011.
+const TWO_LETTERS: &[u8] = &[
+    0xa2, 0x00, 0xad, 0xe0, 0xfe, 0x10, 0xfb, 0xad, 0xe1, 0xfe, 0x95, 0x70, 0xe8, 0xe0, 0x02, 0xd0,
+    0xf1, 0x4c, 0x11, 0xc0,
+];
+
+// What stands at F800, and at another place of the boot ROM, of the second processor's program of a name. NMI goes to F820, and IRQ to F840 where
+// JMP F840 stands.
+fn boot_of(name: &str) -> (&'static [u8], usize, &'static [u8]) {
+    match name {
+        // JMP F800
+        "loop" => (&[0x4c, 0x00, 0xf8], 0, &[0x4c]),
+        // CLI, and JMP F801
+        "open" => (&[0x58, 0x4c, 0x01, 0xf8], 0, &[0x58]),
+        // INC 80, PHA, STA F900, and JMP F800
+        "writer" => (
+            &[0xe6, 0x80, 0x48, 0x8d, 0x00, 0xf9, 0x4c, 0x00, 0xf8],
+            0,
+            &[0xe6],
+        ),
+        // JMP FEF7, and the opcode of LDA # there, below the Tube
+        "gate" => (&[0x4c, 0xf7, 0xfe], 0x6f7, &[0xa9]),
+        // JMP FFFE, and the first two bytes of a JMP there
+        "end" => (&[0x4c, 0xfe, 0xff], 0x7fe, &[0x4c, 0x12]),
+        // JMP FFFE, and LDA #&12 there
+        "last" => (&[0x4c, 0xfe, 0xff], 0x7fe, &[0xa9, 0x12]),
+        _ => (&[0x02], 0, &[0x02]),
+    }
+}
+
+fn para(alloc: Global, name: &str) -> Result<ParaMachine, Fail> {
+    let (code, start, other) = boot_of(name);
+    let bytes = image(
+        alloc,
+        2_048,
+        &[
+            (0x40, &[0x4c, 0x40, 0xf8]),
+            (0x7fa, &[0x20, 0xf8, 0x00, 0xf8, 0x40, 0xf8]),
+            (0, code),
+            (start, other),
+        ],
+    )?;
+    Ok(ParaMachine::make(alloc, Clock::Three, bytes)?)
+}
+
+// None is plugged.
+type Plug = Box<dyn BusDevice + Send>;
+
+// What stands at C000, and at another place of the operating system, of the host's program of a name.
+fn os_of(name: &str) -> (&'static [u8], usize, &'static [u8]) {
+    match name {
+        "letters" => (TWO_LETTERS, 0, &[0xa2]),
+        // An opcode that halts
+        "halted" => (&[0x02], 0, &[0x02]),
+        // JMP FBFF, and the opcode of LDA # there, below FRED
+        "gate" => (&[0x4c, 0xff, 0xfb], 0x3bff, &[0xa9]),
+        _ => (&[0x02], 0, &[0x02]),
+    }
+}
+
+fn host(alloc: Global, name: &str) -> Result<HostMachine<Plug>, Fail> {
+    let (code, start, other) = os_of(name);
+    let os = image(
+        alloc,
+        16_384,
+        &[(0x3ffc, &[0x00, 0xc0]), (0, code), (start, other)],
+    )?;
+    let roms = RomSet::read(os, Vec::new(alloc), None)?;
+    let script = key_script::read(alloc, b"")?;
+    let plugs: Vec<Plug> = Vec::new(alloc);
+    Ok(HostMachine::make(alloc, Clock::Three, roms, None, None, script, plugs)?)
+}
+
+// `N of M` and the lines, each ended by `;`; or where it differs.
+fn told(alloc: Global, listing: Result<Listing, FollowError>) -> Result<String, Fail> {
+    match listing {
+        Ok(listing) => {
+            let mut text = format!(in alloc; "{} of {};", listing.listed, listing.chosen)?;
+            for byte in &listing.text {
+                text.push(if *byte == b'\n' {
+                    ';'
+                } else {
+                    char::from(*byte)
+                })?;
+            }
+            Ok(text)
+        }
+        Err(FollowError::Differs { line, doing }) => {
+            let what = match doing {
+                Some(
+                    Doing {
+                        tick,
+                        side: Side::Host,
+                        op: Op::Read(number),
+                    },
+                ) => format!(in alloc; "H {:X} R {number}", tick.0)?,
+                _ => format!(in alloc; "-")?,
+            };
+            Ok(format!(in alloc; "differs {line} {what}")?)
+        }
+        Err(FollowError::NoMemory) => Ok(format!(in alloc; "no memory")?),
+    }
+}
+
+fn address(digits: &str) -> Option<u16> {
+    u16::from_str_radix(digits, 16).ok()
+}
+
+// The program, the ticks and what is chosen.
+fn head_of(row: &str) -> Option<(&str, Tick, Choice)> {
+    let mut words = row.split(' ');
+    let name = words.next()?;
+    let ticks: u32 = words.next()?.parse().ok()?;
+    let at = address(words.next()?);
+    let watch = address(words.next()?);
+    Some((name, Tick(u64::from(ticks)), Choice { at, watch }))
+}
+
+// The trace, in which `;` ends a line.
+fn entries_of(alloc: Global, text: &str) -> Result<Vec<Entry>, Fail> {
+    let mut bytes = text.as_bytes().to_vec(alloc)?;
+    for byte in bytes.iter_mut() {
+        if *byte == b';' {
+            *byte = b'\n';
+        }
+    }
+    Ok(read(alloc, &bytes)?.entries)
+}
+
+// A line is a program, the ticks, the address of `--at` and that of `--watch` or `-`; behind `@` what is told; and behind another the trace.
+const PARA: &str = "\
+# The first start is at tick 14, behind the reset; a start is listed where its own tick is below the end.
+loop 14 - -@0 of 0;@
+loop 15 - -@1 of 1;000000000E F800 A=00 X=00 Y=00 S=FD P=24 JMP &F800;@
+loop 30 - -@3 of 3;000000000E F800 A=00 X=00 Y=00 S=FD P=24 JMP &F800;0000000014 F800 A=00 X=00 Y=00 S=FD P=24 JMP &F800;000000001A F800 A=00 X=00 Y=00 S=FD P=24 JMP &F800;@
+loop 20 F800 -@1 of 1;000000000E F800 A=00 X=00 Y=00 S=FD P=24 JMP &F800;@
+loop 2000 F801 -@0 of 0;@
+# Two bytes that are none do not differ, and the first start has none before it.
+loop 2000 - FEF8@0 of 0;@
+loop 2000 - F800@0 of 0;@
+# INC takes 5 cycles, PHA 3, STA 4 and JMP 3: what is written shows at the start behind it.
+writer 60 - 0080@2 of 2;0000000018 F802 A=00 X=00 Y=00 S=FD P=24 PHA;0000000036 F802 A=00 X=00 Y=00 S=FC P=24 PHA;@
+writer 60 F802 0080@2 of 2;0000000018 F802 A=00 X=00 Y=00 S=FD P=24 PHA;0000000036 F802 A=00 X=00 Y=00 S=FC P=24 PHA;@
+writer 60 F803 0080@0 of 0;@
+# An interrupt's sequence is no start.
+open 70 - -@8 of 8;000000000E F800 A=00 X=00 Y=00 S=FD P=24 CLI;0000000012 F801 A=00 X=00 Y=00 S=FD P=20 JMP &F801;0000000018 F801 A=00 X=00 Y=00 S=FD P=20 JMP &F801;000000001E F801 A=00 X=00 Y=00 S=FD P=20 JMP &F801;0000000024 F801 A=00 X=00 Y=00 S=FD P=20 JMP &F801;000000002A F801 A=00 X=00 Y=00 S=FD P=20 JMP &F801;000000003E F840 A=00 X=00 Y=00 S=FA P=24 JMP &F840;0000000044 F840 A=00 X=00 Y=00 S=FA P=24 JMP &F840;@0000000028 H W 0 82;000000002B H W 1 00;
+# Held from tick 103 to 129, and then a reset: no start until tick 144.
+loop 104 - -@15 of 15;..;0000000062 F800 A=00 X=00 Y=00 S=FD P=24 JMP &F800;@0000000062 H W 0 A0;0000000080 H W 0 20;
+loop 144 - -@15 of 15;..;0000000062 F800 A=00 X=00 Y=00 S=FD P=24 JMP &F800;@0000000062 H W 0 A0;0000000080 H W 0 20;
+loop 145 - -@16 of 16;..;0000000062 F800 A=00 X=00 Y=00 S=FD P=24 JMP &F800;0000000090 F800 A=00 X=00 Y=00 S=FA P=24 JMP &F800;@0000000062 H W 0 A0;0000000080 H W 0 20;
+# Bytes of the Tube are none: one byte is not all of LDA, and an opcode of the Tube is told as none.
+gate 24 - -@2 of 2;000000000E F800 A=00 X=00 Y=00 S=FD P=24 JMP &FEF7;0000000014 FEF7 A=00 X=00 Y=00 S=FD P=24 byte &A9;@0000000016 P R 0 40;0000000018 P R 1 00;
+gate 25 FEF9 -@1 of 1;0000000018 FEF9 A=40 X=00 Y=00 S=FD P=24 ?;@0000000016 P R 0 40;0000000018 P R 1 00;
+# No byte is past FFFF.
+end 21 FFFE -@1 of 1;0000000014 FFFE A=00 X=00 Y=00 S=FD P=24 byte &4C;@
+last 21 FFFE -@1 of 1;0000000014 FFFE A=00 X=00 Y=00 S=FD P=24 LDA #&12;@
+";
+
+const HOST: &str = "\
+# A read of the Tube that the trace has not.
+letters 2000 - 0070@differs 1 H 24 R 0@
+# Halted: the opcode's own fetch is a start, and no later cycle is.
+halted 100 - -@1 of 1;0000000015 C000 A=00 X=00 Y=00 S=FD P=24 byte &02;@
+# Bytes of FRED are none.
+gate 31 FBFF -@1 of 1;000000001E FBFF A=00 X=00 Y=00 S=FD P=24 byte &A9;@
+";
+
+// Whether it is told so. Lines that are not looked at stand as `..`.
+fn is_told(told: &str, want: &str) -> bool {
+    match want.split_once("..") {
+        Some((head, tail)) => told.starts_with(head) && told.ends_with(tail),
+        None => told == want,
+    }
+}
+
+fn is_right<M: Seen>(
+    alloc: Global,
+    machine: M,
+    part: Part,
+    side: Side,
+    (ticks, choice): (Tick, Choice),
+    (want, trace): (&str, &str),
+) -> Result<bool, Fail> {
+    let entries = entries_of(alloc, trace)?;
+    let listing = list(alloc, machine, part, side, &entries, ticks, choice);
+    Ok(is_told(told(alloc, listing)?.as_str(), want))
+}
+
+// The first line that is not right.
+fn first_wrong(
+    alloc: Global,
+    side: Side,
+    rows: &'static str,
+) -> Result<Option<&'static str>, Fail> {
+    for line in rows.lines() {
+        if let Some((head, rest)) = line.split_once('@') {
+            let told = rest.split_once('@').unwrap_or(("no trace", rest));
+            let Some((name, ticks, choice)) = head_of(head) else {
+                return Ok(Some(line));
+            };
+            let run = (ticks, choice);
+            let right = match side {
+                Side::Host => is_right(alloc, host(alloc, name)?, Part::Nmos, side, run, told)?,
+                Side::Para => is_right(alloc, para(alloc, name)?, Part::Cmos, side, run, told)?,
+            };
+            if !right {
+                return Ok(Some(line));
+            }
+        }
+    }
+    Ok(None)
+}
+
+#[test]
+fn the_second_processors_starts_are_listed(rt: HostRuntime) -> Result<(), Fail> {
+    assert_eq!(rt; first_wrong(rt.alloc(), Side::Para, PARA)?, None);
+    Ok(())
+}
+
+#[test]
+fn the_hosts_starts_are_listed(rt: HostRuntime) -> Result<(), Fail> {
+    assert_eq!(rt; first_wrong(rt.alloc(), Side::Host, HOST)?, None);
+    Ok(())
+}
+
+#[test]
+fn a_byte_is_watched_against_the_trace_of_both(rt: HostRuntime) -> Result<(), Fail> {
+    let boot = image(rt.alloc(), 2_048, &[(0, LETTERS), (0x7fc, &[0x00, 0xf8])])?;
+    let second = ParaMachine::make(rt.alloc(), Clock::Three, boot)?;
+    let first = host(rt.alloc(), "letters")?;
+    let Ok(done) = solo(rt.alloc(), first, second, Tick(2_000), 100) else {
+        return Err(NoMemory.into());
+    };
+    let trace = merge(rt.alloc(), &done.host_list, &done.para_list, 100)?;
+    assert_eq!(rt; trace.len(), 49);
+    let choice = Choice {
+        at: None,
+        watch: Some(0x70),
+    };
+    let again = host(rt.alloc(), "letters")?;
+    let listing = list(
+        rt.alloc(),
+        again,
+        Part::Nmos,
+        Side::Host,
+        &trace,
+        Tick(2_000),
+        choice,
+    );
+    assert_eq!(rt;
+        told(rt.alloc(), listing)?.as_str(),
+        "1 of 1;00000003CC C00C A=48 X=00 Y=00 S=FD P=24 INX;"
+    );
+    Ok(())
+}
+
+// What a machine is asked for at an address, and what it has there.
+type Peek = (u16, Option<u8>);
+
+// The first address at which a machine has another byte.
+fn first_other<M: Seen>(machine: &M, peeks: &[Peek]) -> Option<u16> {
+    for (at, byte) in peeks {
+        if machine.peek(*at) != *byte {
+            return Some(*at);
+        }
+    }
+    None
+}
+
+// The RAM is clear, and the slot of the latch empty.
+const HOST_PEEKS: &[Peek] = &[
+    (0x0000, Some(0x00)),
+    (0x7fff, Some(0x00)),
+    (0x8000, Some(0xff)),
+    (0xbfff, Some(0xff)),
+    (0xc000, Some(0x4c)),
+    (0xfbff, Some(0xa9)),
+    (0xfc00, None),
+    (0xfdff, None),
+    (0xfe40, None),
+    (0xfeff, None),
+    (0xff00, Some(0x00)),
+    (0xfffd, Some(0xc0)),
+];
+
+// The boot ROM lies over the clear RAM.
+const PARA_PEEKS: &[Peek] = &[
+    (0x0000, Some(0x00)),
+    (0xf7ff, Some(0x00)),
+    (0xf800, Some(0x4c)),
+    (0xfef7, Some(0xa9)),
+    (0xfef8, None),
+    (0xfeff, None),
+    (0xff00, Some(0x00)),
+    (0xffff, Some(0xf8)),
+];
+
+// And behind the first access to the Tube it does not.
+const LATER_PEEKS: &[Peek] = &[
+    (0xf800, Some(0x00)),
+    (0xfef7, Some(0x00)),
+    (0xfef8, None),
+    (0xffff, Some(0x00)),
+];
+
+#[test]
+fn what_stands_in_memory_is_seen(rt: HostRuntime) -> Result<(), Fail> {
+    let first = host(rt.alloc(), "gate")?;
+    assert_eq!(rt; first_other(&first, HOST_PEEKS), None);
+    assert!(rt; !Seen::starting(&first) && Seen::regs(&first) == first.regs());
+    let second = para(rt.alloc(), "gate")?;
+    assert_eq!(rt; first_other(&second, PARA_PEEKS), None);
+    assert!(rt; !Seen::starting(&second) && Seen::regs(&second) == second.regs());
+    let trace = entries_of(rt.alloc(), "0000000016 P R 0 40;")?;
+    let (later, place) = replay(second, Side::Para, &trace, Tick(24));
+    assert_eq!(rt; place, None);
+    assert_eq!(rt; first_other(&later, LATER_PEEKS), None);
+    assert!(rt; later.starting());
+    Ok(())
+}
+
+#[test]
+fn the_bus_has_its_memory(rt: HostRuntime) -> Result<(), Fail> {
+    let os = image(rt.alloc(), 16_384, &[(0x3bff, &[0xa9])])?;
+    let rom = image(rt.alloc(), 8_192, &[(0, &[0x23])])?;
+    let roms = RomSet::read(os, vec![in rt.alloc(); (5, rom)]?, None)?;
+    let script = key_script::read(rt.alloc(), b"")?;
+    let plugs: Vec<Plug> = Vec::new(rt.alloc());
+    let mut bus = Bus::make(rt.alloc(), Clock::Three, roms, None, None, script, plugs)?;
+    assert_eq!(rt; bus.peek(0x8000), Some(0xff));
+    bus.write(Tick(0), 0xfe30, 5);
+    bus.write(Tick(6), 0x7fff, 0x42);
+    for at in 0..=u16::MAX {
+        let there = bus.peek(at);
+        if (0xfc00..=0xfeff).contains(&at) {
+            assert_eq!(rt; there, None);
+        } else {
+            assert_eq!(rt; there, Some(bus.read(Tick(12), at)));
+        }
+    }
+    assert_eq!(rt; bus.peek(0x8000), Some(0x23));
+    assert_eq!(rt; bus.peek(0xa000), Some(0x23));
+    assert_eq!(rt; bus.peek(0x7fff), Some(0x42));
+    Ok(())
+}
