@@ -3,8 +3,8 @@ use Rattle.std.specs.Prelude.{◌≡◌, ⊤, ℕ, List, Option, Some, None, IfS
 use Rattle.beeb_files.specs.Counts.{Rose}
 use Rattle.beeb_files.specs.Files.{Files}
 use Rattle.beeb_words.specs.declared.keys.Slot.{Slot}
-use Rattle.beeb_words.specs.Command.{Command, check, asm, dis, replay, solo, run, gen}
-use Rattle.beeb_words.specs.Given.{Values, clock_of}
+use Rattle.beeb_words.specs.Command.{Command, check, asm, dis, replay, solo, run, resume, follow, gen}
+use Rattle.beeb_words.specs.Given.{Values, clock_of, save_of}
 use Rattle.beeb_words.specs.Keys.{keys}
 use Rattle.beeb_words.specs.Reads.{files_of}
 use Rattle.beeb_stages.specs.Plan as plans
@@ -19,6 +19,7 @@ use Rattle.beeb_status.specs.declared.status.Cause.{Cause}
 use Rattle.power_on.specs.Inputs.{inputs_of}
 use Rattle.power_on.specs.Setup.{setup_of}
 use Rattle.power_on.specs.Machines.{machines_of}
+use Rattle.power_on.specs.Sessions.{begun_if}
 use Rattle.beeb_outcome.specs.Names.{names_of}
 use Rattle.cmd_pair.specs.Solo.{kept_verdict}
 
@@ -32,11 +33,12 @@ pub record IsReferenceRun (plugs : List Plug) (ticks keep : ℕ) (out : List ℕ
   pub host : HostState
   pub para : ParaState
   pub machines : machines_of (setup_of given plugs) (inputs_of inputs) ≡ Ok (host, para)
-  -- The report, both memories, the discs, the frames, the trace, what the plugged devices spill and, if it is asked for, the sound file, of
-  -- their reference run, were put into what the outlet held.
+  -- The report, both memories, the discs, the frames, the trace, what the plugged devices spill and, where they are asked for, the sound file and
+  -- the session file, of their reference run, were put into what the outlet held.
   pub written :
       new.outlet.files
-      ≡ put_all (kept_verdict (clock_of given) ticks keep (names_of out given) (reference host_moves para_moves host para ticks)).files
+      ≡ put_all (kept_verdict (clock_of given) (begun_if (save_of given) (setup_of given plugs) (inputs_of inputs)) ticks keep (names_of out given)
+      (reference host_moves para_moves host para ticks)).files
       old.outlet.files
   -- nothing was said
   pub said : new.outlet.said ≡ old.outlet.said
@@ -51,4 +53,6 @@ Headline plugs (Some (dis part image origin out)) old new = ⊤
 Headline plugs (Some (replay side trace ticks out given)) old new = ⊤
 Headline plugs (Some (solo ticks out keep given)) old new = ⊤
 Headline plugs (Some (run ticks out keep given)) old new = IfSome old.shelf.files (IsReferenceRun plugs ticks keep out given old new)
+Headline plugs (Some (resume state ticks out keep given)) old new = ⊤
+Headline plugs (Some (follow side trace ticks out given)) old new = ⊤
 Headline plugs (Some (gen seed)) old new = ⊤

@@ -3,7 +3,7 @@ use Rattle.std.specs.Prelude.{◌≡◌, ⊤, ℕ, List, Option, Some, None, IfS
 use Rattle.beeb_bits.specs.declared.Side.TheVariants.{Host, Para}
 use Rattle.beeb_files.specs.Files.{Files, bytes_of}
 use Rattle.beeb_words.specs.declared.keys.Slot.{Slot}
-use Rattle.beeb_words.specs.Command.{Command, check, asm, dis, replay, solo, run, gen, ticks_of}
+use Rattle.beeb_words.specs.Command.{Command, check, asm, dis, replay, solo, run, resume, follow, gen, ticks_of}
 use Rattle.beeb_words.specs.Given.{Values, clock_of, wav_of}
 use Rattle.beeb_words.specs.Reads.{reads}
 use Rattle.beeb_stages.specs.Plan as plans
@@ -37,13 +37,13 @@ WereRead ws None inputs = AreWithin ws inputs
 WereRead ws (Some files) inputs = plans.read_all {C = Cause} files ws ≡ Ok inputs
 
 -- Under this name stands the sound file of the host that comes of what the command read.
-pub record IsHeard (c : Command) (given : Values) (host : Inputs → Result HostState (Refusal Cause)) (old new : World) (name : List ℕ) : Type 0 where
+pub record IsHeard (c : Command) (given : Values) (host : Inputs → Result (Clock × HostState) (Refusal Cause)) (old new : World) (name : List ℕ) : Type 0 where
   pub inputs : plans.Inputs Slot
   pub read : WereRead (reads c) old.shelf.files inputs
   pub last : HostState
   pub ended : host (inputs_of inputs) ≡ Ok last
-  -- where the outlet tells its files
-  pub file : IfSome new.outlet.files (λ files. bytes_of files name ≡ Some (sound_bytes (clock_of given) (ticks_of c) last))
+  -- where the outlet tells its files, and the session file, which is put later, has another name
+  pub file : (save_of given ≡ Some name → ⊥) → IfSome new.outlet.files (λ files. bytes_of files name ≡ Some (sound_bytes clock (ticks_of c) last))
 
 -- of each command that has a host, where the words ask for the sound file
 unfoldable pub Heard : List Plug → Option Command → World → World → Type 0

@@ -1,5 +1,5 @@
 -- What comes of a session.
-use Rattle.std.proofs.Common.{◌≡◌, ◌∙◌, sym, refl, ap, ℕ, Option, All, List}
+use Rattle.std.proofs.Common.{◌≡◌, ◌∙◌, sym, refl, ap, subst, ℕ, Option, All, List, Result, Ok}
 use Rattle.beeb_bits.specs.declared.clock.Clock.{Clock}
 use Rattle.bus_plug.specs.Plug.{Plug}
 use Rattle.tube_trace.specs.declared.Entry.{Entry}
@@ -11,15 +11,24 @@ use Rattle.host_mach.specs.Step.{host_moves}
 use Rattle.host_mach.specs.View.{host_seen}
 use Rattle.para_mach.specs.State.{ParaState}
 use Rattle.para_mach.specs.Step.{para_moves}
+use Rattle.tube_trace.specs.Entries.{IsEntry}
 use Rattle.save_state.specs.Saved.{Session}
+use Rattle.save_state.specs.File.{IsSession}
+use Rattle.beeb_stages.specs.declared.stop.Refusal.{Refusal}
+use Rattle.beeb_status.specs.declared.status.Cause.{Cause}
+use Rattle.power_on.specs.Inputs.{Inputs}
+use Rattle.power_on.specs.Setup.{Setup}
+use Rattle.power_on.specs.Machines.{machines_of}
+use Rattle.power_on.specs.Sessions.{setup_in, inputs_in, begun_if}
+use Rattle.cmd_session.specs.Session.{state_of, session_ended, session_after}
 use Rattle.beeb_stages.specs.Plan.{Verdict}
 use Rattle.beeb_status.specs.declared.status.Ending.{Ending}
 use Rattle.beeb_outcome.specs.Names.{Names}
 use Rattle.cmd_replay.specs.Replay.{verdict_of_place, unless_wrong}
 use Rattle.cmd_pair.specs.Solo.{kept_verdict}
-use Rattle.cmd_session.specs.declared.back.Back.{Back}
-use Rattle.cmd_session.specs.declared.back.Back.TheVariants.{On, Wrong, Differs}
-use Rattle.cmd_session.specs.Back.{place_of, Goes}
+use Rattle.cmd_session.specs.declared.going.Back.{Back}
+use Rattle.cmd_session.specs.declared.going.Back.TheVariants.{On, Wrong, Differs}
+use Rattle.cmd_session.specs.Back.{AreAccesses, place_of, Goes}
 use Rattle.cmd_session.specs.Comes.{Went, Comes}
 
 module _ {D : Type 0} (plug : D → Plug) (clock : Clock) (begun : Option Session) (n keep : ℕ) (names : Names) (s : HostState) (t : ParaState) (entries : List Entry) (moment : ℕ) where
@@ -37,3 +46,26 @@ module _ {D : Type 0} (plug : D → Plug) (clock : Clock) (begun : Option Sessio
   comes_so (On done) v goes comes = rw (goes.0, goes.1) (sym (comes s t goes.2))
   comes_so (Wrong line byte) v goes comes = rw (goes.1, sym goes.2) (sym comes)
   comes_so (Differs line doing) v goes comes = rw (goes.0, goes.1) (sym comes)
+
+-- the accesses of a session
+pub accesses_are : (s : Session) (entries : List Entry) → IsSession s → entries ≡ s.entries → AreAccesses s.ticks entries
+accesses_are s entries keeps is =
+    subst (λ (xs : List Entry). AreAccesses s.ticks xs) (sym is)
+    (record { each = λ k d h. (keeps.lines k d h).may; rises = keeps.rises; low = keeps.below })
+
+-- what a session comes to, by its parts
+pub session_gives : (plugs : List Plug) (ticks keep : ℕ) (names : Names) (i made : Inputs) (bytes : List ℕ) (s : Session) (set : Setup) (m : HostState × ParaState) (begun : Option Session)
+    (entries : List Entry) (v : Verdict Ending) → bytes ≡ i.state → state_of bytes ≡ Ok s → set ≡ setup_in s plugs → made ≡ inputs_in s → machines_of set made ≡ Ok m →
+    begun ≡ begun_if names.save set made → entries ≡ s.entries →
+    unless_wrong (wrong entries)
+    (verdict_of_place (kept_verdict s.clock begun ticks keep names) (reference host_moves para_moves m.0 m.1 ticks) (place_of host_moves para_moves entries s.ticks ticks m.0 m.1))
+    ≡ v → session_after plugs ticks keep names i ≡ Ok v
+unfolding session_after session_ended
+session_gives plugs ticks keep names i made bytes s set m begun entries v read told setup parts machines saved listed is =
+    let there : state_of i.state ≡ Ok s = rw (← read) told in
+    let both : machines_of (setup_in s plugs) (inputs_in s) ≡ Ok m = rw (← setup, ← parts) machines in
+    let begins : begun ≡ begun_if names.save (setup_in s plugs) (inputs_in s) = rw (← setup, ← parts) saved in
+    let ends : unless_wrong (wrong s.entries)
+    (verdict_of_place (kept_verdict s.clock (begun_if names.save (setup_in s plugs) (inputs_in s)) ticks keep names) (reference host_moves para_moves m.0 m.1 ticks)
+    (place_of host_moves para_moves s.entries s.ticks ticks m.0 m.1)) ≡ v = rw (← begins, ← listed) is in
+    rw (there, both) (ap Ok ends)

@@ -10,8 +10,8 @@ use Rattle.tube_party.specs.OneThread.{IsPlayed, played_of}
 use Rattle.tube_party.specs.Reference.{reference}
 use Rattle.save_state.specs.Resume.{first_difference}
 use Rattle.cmd_pair.specs.Save.{below}
-use Rattle.cmd_session.specs.declared.back.Back.{Back}
-use Rattle.cmd_session.specs.declared.back.Back.TheVariants.{On, Wrong, Differs}
+use Rattle.cmd_session.specs.declared.going.Back.{Back}
+use Rattle.cmd_session.specs.declared.going.Back.TheVariants.{On, Wrong, Differs}
 
 -- entries of operations that their sides may do, each before the next and all below a moment
 pub record AreAccesses (moment : ℕ) (entries : List Entry) : Type 0 where

@@ -18,8 +18,8 @@ use Rattle.beeb_outcome.specs.Verdicts.{said_verdict}
 use Rattle.cmd_replay.specs.Replay.{differs_text}
 use Rattle.cmd_pair.specs.Code.{IsRun}
 use Rattle.cmd_pair.specs.Solo.{kept_verdict}
-use Rattle.cmd_session.specs.declared.back.Back.{Back}
-use Rattle.cmd_session.specs.declared.back.Back.TheVariants.{On, Wrong, Differs}
+use Rattle.cmd_session.specs.declared.going.Back.{Back}
+use Rattle.cmd_session.specs.declared.going.Back.TheVariants.{On, Wrong, Differs}
 
 -- both machines, where they went on, were run from some states as the reference run does
 abbrev pub Went : {D : Type 0} → (D → Plug) → ℕ → ℕ → Back (HostMachine D) ParaState → Type 0

@@ -1,7 +1,7 @@
 //! What a session file comes to when its run goes on: `resume`.
 #![tactic(auto)]
 
-mod back;
+mod going;
 mod session;
 mod state;
 

@@ -8,7 +8,7 @@ ghost use Rattle.beeb_outcome.specs.View.{names_seen, verdict_of};
 ghost use Rattle.cmd_session.specs.Session.{session_after};
 ghost use Rattle.cmd_session.specs.Comes.{Went, Comes};
 
-use crate::back::{Back, back};
+use crate::going::{Back, bring_back};
 use crate::state::state_of;
 use beeb_bits::{Clock, Tick};
 use beeb_outcome::{Names, Outcome, wrong_outcome};
@@ -76,6 +76,6 @@ pub fn session_outcome<'a, D: BusDevice>(
     } = saved;
     let parts = inputs_in(alloc, parts)?;
     let (begun, host, para) = started(alloc, names.save, setup, parts)?;
-    let there = back(alloc, host, para, &entries, moment, Tick(ticks), keep)?;
+    let there = bring_back(alloc, host, para, &entries, moment, Tick(ticks), keep)?;
     Ok(ended(alloc, clock, begun, there, ticks, keep, names)?)
 }

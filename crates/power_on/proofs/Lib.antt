@@ -2,3 +2,4 @@ pub mod PlugLemmas
 pub mod LengthLemmas
 pub mod SessionLemmas
 pub mod BegunLemmas
+pub mod PartLemmas

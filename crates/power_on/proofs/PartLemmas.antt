@@ -1,5 +1,5 @@
 -- What the machines of a session are made of: slots below 16, and a script that is no longer than a session's.
-use Rattle.std.proofs.Common.{◌≡◌, ◌∙◌, sym, refl, ap, subst, ℕ, zero, suc, ◌<◌, ◌≤◌, ◌==◌, Bool, true, false, length, map, slice_index_or, get_or, List, [], ◌∷◌, ◌++◌, Option, Some, None, option_map, IfSome, IsTrue, nat_le, arith, if◌then◌else◌}
+use Rattle.std.proofs.Common.{◌≡◌, ◌∙◌, sym, refl, ap, subst, ℕ, zero, suc, ◌<◌, ◌≤◌, ◌==◌, Bool, true, false, length, map, slice_index_or, get_or, List, [], ◌∷◌, ◌++◌, Option, Some, None, option_map, Result, Ok, Err, IfOk, IfSome, IsTrue, nat_le, arith, if◌then◌else◌}
 use Rattle.std.proofs.lemmas.Bool.Decides.{nat_tests}
 use Rattle.std.specs.List.{All, range_with_len}
 use Rattle.std.specs.declared.vec.Vec.{Vec}
@@ -114,3 +114,26 @@ rom_at (x ∷ xs) (suc k) d below h = rom_at xs k d below.1 (omega (arith, h))
 keys_held : (keys : Option (Vec ℕ Global)) → IfSome (option_map items keys) (λ keys. length keys ≤ 1048576) → IfSome keys (λ keys. length keys.items ≤ 1048576)
 keys_held None short = tt
 keys_held (Some bytes) short = short
+
+module _ (i : held.Inputs) (s : Session) (keeps : IsSession s) (is : seen_inputs i ≡ inputs_in s) where
+  stands : MayStand (seen_inputs i)
+  stands = subst MayStand (sym is) (in_stand s keeps.keys)
+
+  slots_low : All (λ (slot : ℕ × Vec ℕ Global). slot.0 < 16) i.roms.items
+  slots_low = λ k d h. rom_at i.roms.items k d stands.roms h
+
+  keys_short : IfSome i.keys (λ keys. length keys.items ≤ 1048576)
+  keys_short = keys_held i.keys stands.keys
+
+module _ (list : List (Slot × List ℕ)) (ps : List (Option (List ℕ))) (listed : list ≡ there part_slots ps) (s : Session) (keeps : IsSession s) (same : s.parts ≡ ps) where
+  made : inputs_of list ≡ inputs_in s
+  unfolding inputs_in
+  made = ap inputs_of (listed ∙ ap (there part_slots) (sym same))
+
+  pub all_low : {E : Type 0} (r : Result held.Inputs E) → IfOk r (λ i. seen_inputs i ≡ inputs_of list) → IfOk r (λ i. All (λ (slot : ℕ × Vec ℕ Global). slot.0 < 16) i.roms.items)
+  all_low (Ok i) is = slots_low i s keeps (is ∙ made)
+  all_low (Err e) is = tt
+
+  pub all_short : {E : Type 0} (r : Result held.Inputs E) → IfOk r (λ i. seen_inputs i ≡ inputs_of list) → IfOk r (λ i. IfSome i.keys (λ keys. length keys.items ≤ 1048576))
+  all_short (Ok i) is = keys_short i s keeps (is ∙ made)
+  all_short (Err e) is = tt

@@ -193,7 +193,7 @@ fn there(alloc: Global, parts: Vec<Option<Blob>>) -> Result<Vec<(Slot, Vec<u8>)>
 #[tactic(auto, unfolding(crate::specs::Sessions::inputs_in))]
 pub fn inputs_in(alloc: Global, parts: Vec<Option<Blob>>) -> Result<Inputs, AllocError>
     ensures inputs { (s : Session) → s.parts ≡ parts.items → IfOk result (λ i. seen_inputs i ≡ inputs_in s) }
-    ensures slots { IfOk result (λ i. All (λ slot. slot.0 < 16) i.roms.items) }
+    ensures slots { (s : Session) → IsSession s → s.parts ≡ parts.items → IfOk result (λ i. All (λ slot. slot.0 < 16) i.roms.items) }
     ensures keys { (s : Session) → IsSession s → s.parts ≡ parts.items →
         IfOk result (λ i. IfSome i.keys (λ keys. length keys.items ≤ 1048576)) }
 {

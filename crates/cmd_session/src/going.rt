@@ -30,7 +30,7 @@ fn earlier(a: Tick, b: Tick) -> Tick
 
 /// Two parties against the accesses of a session up to a moment: where the chip gives all their answers, and each party does its own below the end
 /// of the run, both go on from there. It stands apart from the machines, since a proof over any two parties goes through no machine's parts.
-pub(crate) fn back<H: Party, P: Rewinds>(
+pub(crate) fn bring_back<H: Party, P: Rewinds>(
     alloc: Global,
     host: H,
     para: P,

@@ -1,0 +1,50 @@
+-- `follow SIDE TRACE TICKS OUT` and options: the instructions that a machine starts against a trace.
+use Rattle.std.specs.Prelude.{ℕ, List, ◌++◌, Result, Ok, codes}
+use Rattle.std.specs.Fmt.{decimal}
+use Rattle.beeb_bits.specs.declared.clock.Clock.{Clock}
+use Rattle.beeb_bits.specs.declared.Side.{Side}
+use Rattle.beeb_bits.specs.declared.Side.TheVariants.{Host, Para}
+use Rattle.op_table.specs.declared.names.Part.{Part}
+use Rattle.op_table.specs.declared.names.Part.TheVariants.{Nmos, Cmos}
+use Rattle.tube_trace.specs.declared.Entry.{Entry}
+use Rattle.tube_trace.specs.FirstWrong.{wrong}
+use Rattle.tube_party.specs.Moves.{Moves}
+use Rattle.tube_party.specs.Replay.{replay_of}
+use Rattle.follow.specs.declared.Choice.{Choice}
+use Rattle.follow.specs.Sight.{Sight}
+use Rattle.follow.specs.Machines.{host_sight, para_sight}
+use Rattle.follow.specs.Listing.{ListingState, replay_listing}
+use Rattle.host_mach.specs.Step.{host_moves}
+use Rattle.para_mach.specs.Step.{para_moves}
+use Rattle.beeb_stages.specs.Plan.{Verdict, ◌>>=◌}
+use Rattle.beeb_stages.specs.declared.stop.Refusal.{Refusal}
+use Rattle.beeb_status.specs.declared.status.Ending.{Ending}
+use Rattle.beeb_status.specs.declared.status.Cause.{Cause}
+use Rattle.power_on.specs.Inputs.{Inputs}
+use Rattle.power_on.specs.Setup.{Setup}
+use Rattle.beeb_outcome.specs.Verdicts.{listing_verdict}
+use Rattle.cmd_replay.specs.Replay.{verdict_of_place, unless_wrong}
+use Rattle.cmd_replay.specs.Host.{host_of}
+use Rattle.cmd_replay.specs.Para.{para_of}
+
+-- `listed N of M` and a line feed
+unfoldable pub listed_text : ℕ → ℕ → List ℕ
+listed_text listed chosen = codes "listed " ++ decimal listed ++ codes " of " ++ decimal chosen ++ codes "\n"
+
+-- the file of the listing, and then how many lines it has, of how many starts that are chosen
+abbrev pub listed_verdict : List ℕ → ListingState → Verdict Ending
+listed_verdict out l = listing_verdict out l.text (listed_text l.listed l.chosen)
+
+-- what comes of a machine against the entries of a trace: its listing, or the place where both differ
+unfoldable pub listed_ended : {S : Type 0} → Moves S → (S → Sight) → Part → Side → ℕ → Choice → List ℕ → List Entry → S → Verdict Ending
+listed_ended m sights part side ticks choice out entries s =
+    verdict_of_place (λ x. listed_verdict out (replay_listing m sights part side entries ticks choice x)) s (replay_of m side entries ticks s).place
+
+-- what is read and what is refused is what `replay` reads and refuses
+unfoldable pub follow_host_after : Setup → ℕ → Choice → List ℕ → Inputs → Result (Verdict Ending) (Refusal Cause)
+follow_host_after set ticks choice out i =
+    host_of set i >>= λ m. Ok (unless_wrong (wrong m.0) (listed_ended host_moves host_sight Nmos Host ticks choice out m.0 m.1))
+
+unfoldable pub follow_para_after : Clock → ℕ → Choice → List ℕ → Inputs → Result (Verdict Ending) (Refusal Cause)
+follow_para_after clock ticks choice out i =
+    para_of clock i >>= λ m. Ok (unless_wrong (wrong m.0) (listed_ended para_moves para_sight Cmos Para ticks choice out m.0 m.1))
