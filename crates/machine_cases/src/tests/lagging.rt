@@ -1,10 +1,11 @@
-//! A bus whose devices lag behind, beside one whose devices are stepped at each tick: both tell the same at each act, and come to the same.
+//! A bus whose devices lag behind, beside one whose devices are stepped at each tick before an act: both tell the same at each act, and come to the same.
 //!
 //! A program is words of a tick, a colon and what is done at it: `AAAA=VV` writes a byte to an address, `AAAA?` reads it there, and `look` looks at
 //! both lines to the processor.
 use super::bus::{CLOCKS, bus_with, scale};
 use beeb_bits::{Clock, Tick};
 use host_bus::Bus;
+use raster::Frame;
 use std::alloc::Global;
 use std::test::Fail;
 
@@ -49,7 +50,18 @@ fn told(bus: &mut Bus, t: u64, act: Act) -> Option<(u64, bool)> {
     }
 }
 
-// Both buses, of which the second is stepped at each tick.
+// Whether both frames are there, with the same colours.
+fn are_alike(one: Option<&Frame>, other: Option<&Frame>) -> bool {
+    match (one, other) {
+        (Some(frame), Some(same)) => frame.colours.iter().eq(same.colours.iter()),
+        _ => false,
+    }
+}
+
+// How many ticks before an act are stepped one by one.
+const SINGLE: u64 = 400;
+
+// Both buses, of which the second is stepped at each tick before an act.
 #[derive(Drop)]
 struct Both {
     lagging: Bus,
@@ -64,9 +76,10 @@ impl Both {
         })
     }
 
-    // Steps the second up to a tick.
+    // Steps the second up to a tick, the last ticks before it one by one.
     fn step(&mut self, t: u64) {
-        for k in self.stepped.closed()..=t % (1 << 40) {
+        let t = t % (1 << 40);
+        for k in t.saturating_sub(SINGLE)..=t {
             self.stepped.finish(Tick(k));
         }
     }
@@ -82,20 +95,19 @@ impl Both {
     fn come_to_the_same(&mut self, t: u64) -> bool {
         self.step(t);
         self.lagging.finish(Tick(t % (1 << 40)));
-        self.have_the_same_media() && self.have_the_same_memory()
+        self.have_the_same_frames() && self.have_the_same_disc() && self.have_the_same_memory()
     }
 
-    fn have_the_same_media(&self) -> bool {
+    fn have_the_same_frames(&self) -> bool {
         let (one, other) = (self.lagging.frames(), self.stepped.frames());
-        let discs = match (self.lagging.disc(0), self.stepped.disc(0)) {
+        one.len() == other.len() && (0..one.len()).all(|i| are_alike(one.get(i), other.get(i)))
+    }
+
+    fn have_the_same_disc(&self) -> bool {
+        match (self.lagging.disc(0), self.stepped.disc(0)) {
             (Some(disc), Some(same)) => disc.bytes() == same.bytes(),
             _ => false,
-        };
-        let alike = |i: usize| match (one.get(i), other.get(i)) {
-            (Some(frame), Some(same)) => frame.colours.iter().eq(same.colours.iter()),
-            _ => false,
-        };
-        discs && one.len() == other.len() && (0..one.len()).all(alike)
+        }
     }
 
     fn have_the_same_memory(&self) -> bool {
@@ -121,19 +133,31 @@ fn at_tick(alloc: Global, line: &str, tick: u64) -> Result<String, Fail> {
     Ok(text)
 }
 
-// Whether both buses of a clock agree at each word of a program, and come to the same at a tick.
-fn agree_on(alloc: Global, clock: Clock, script: &str, program: &str, end: u64) -> Result<bool, Fail> {
-    let times = scale(clock);
-    let mut both = Both::new(alloc, clock, script)?;
+// Whether both buses agree at each word of a program, each tick of which is so many of theirs.
+fn agree_at_words(both: &mut Both, times: u64, program: &str) -> bool {
     for word in program.split(' ') {
         let Some((t, act)) = word_of(word) else {
-            return Ok(false);
+            return false;
         };
         if !both.agree(t.wrapping_mul(times), act) {
-            return Ok(false);
+            return false;
         }
     }
-    Ok(both.come_to_the_same(end.wrapping_mul(times)))
+    true
+}
+
+// Whether both buses of a clock agree on a program, and come to the same at a tick.
+fn agree_on(
+    alloc: Global,
+    clock: Clock,
+    script: &str,
+    program: &str,
+    end: u64,
+) -> Result<bool, Fail> {
+    let times = scale(clock);
+    let mut both = Both::new(alloc, clock, script)?;
+    let agree = agree_at_words(&mut both, times, program);
+    Ok(agree && both.come_to_the_same(end.wrapping_mul(times)))
 }
 
 // Three rows of eight lines of 64 characters, of which one row of 40 characters is shown, from 5800 on: a frame has 1,536 microseconds, or 9,216
@@ -186,7 +210,13 @@ fn row_of(line: &str) -> Option<Row<'_>> {
     let script = words.next()?;
     let from = words.next()?.parse().ok()?;
     let to = words.next()?.parse().ok()?;
-    Some((screen, script, (from, to), words.next()?.parse().ok()?, words.next()?))
+    Some((
+        screen,
+        script,
+        (from, to),
+        words.next()?.parse().ok()?,
+        words.next()?,
+    ))
 }
 
 // Whether both buses agree on a row at one of its ticks.
@@ -211,7 +241,10 @@ fn an_act_at_each_tick_finds_the_devices_where_they_are(rt: HostRuntime) -> Resu
         };
         for clock in CLOCKS {
             for tick in row.2.0..=row.2.1 {
-                assert!(rt; agree_at(rt.alloc(), clock, row, tick)?, "{clock:?} {tick} {line}");
+                assert!(rt;
+                    agree_at(rt.alloc(), clock, row, tick)?,
+                    "{clock:?} {tick} {line}"
+                );
             }
         }
     }
@@ -262,7 +295,7 @@ impl Chance {
     // How many ticks pass up to the next act: mostly few, and at times many.
     fn wait(&mut self) -> u64 {
         match self.below(16) {
-            0 => self.below(9000),
+            0 => self.below(6000),
             1 | 2 => self.below(700),
             3 | 4 | 5 => self.below(80),
             _ => self.below(9),
@@ -273,8 +306,8 @@ impl Chance {
 // Registers of all devices; bytes that are shown; and registers that small numbers make busy: the 6845's, with those that select one, timers' low bytes,
 // the latch, and the controller's.
 const REGISTERS: [u16; 24] = [
-    0xfe00, 0xfe01, 0xfe20, 0xfe21, 0xfe40, 0xfe41, 0xfe43, 0xfe44, 0xfe45, 0xfe48, 0xfe49, 0xfe4b, 0xfe4c, 0xfe4d,
-    0xfe4e, 0xfe4f, 0xfe64, 0xfe65, 0xfe68, 0xfe69, 0xfe6b, 0xfe6e, 0xfe84, 0xfe87,
+    0xfe00, 0xfe01, 0xfe20, 0xfe21, 0xfe40, 0xfe41, 0xfe43, 0xfe44, 0xfe45, 0xfe48, 0xfe49, 0xfe4b,
+    0xfe4c, 0xfe4d, 0xfe4e, 0xfe4f, 0xfe64, 0xfe65, 0xfe68, 0xfe69, 0xfe6b, 0xfe6e, 0xfe84, 0xfe87,
 ];
 
 const SHOWN: [u16; 4] = [0x5800, 0x5801, 0x5888, 0x593f];
@@ -288,44 +321,41 @@ const EVENTS: &str = "\
 at 100 down 41;at 333 up 41;at 2000 adc 1 8000;at 9217 shot;at 9222 down 11;at 12345 shot;at 20000 adc 2 1234;at 26000 down 7F;\
 at 30011 break;at 31000 shot;at 31000 shot;at 40000 up 11;at 55555 shot;at 70001 up 7F;at 90000 shot;at 123456 shot;";
 
-// How many acts each seed has.
-const ACTS: u32 = 500;
+// The direction of the latch's pins, drive 0, and interrupts.
+const SETTINGS: &str = "1:FE42=0F 1:FE80=29 1:FE4E=FF 1:FE6E=FF";
 
-// Whether both buses agree on the acts of a seed.
-fn agree_by_chance(alloc: Global, clock: Clock, seed: u64) -> Result<bool, Fail> {
-    let mut both = Both::new(alloc, clock, EVENTS)?;
+// How many acts each seed has.
+const ACTS: u32 = 250;
+
+// Whether both buses agree on the acts of a seed, and come to the same behind them.
+fn agree_by_chance(both: &mut Both, seed: u64) -> bool {
     let mut chance = Chance { state: seed };
-    let mut t: u64 = 0;
-    for word in SMALL_SCREEN.split(' ') {
-        let Some((_, act)) = word_of(word) else {
-            return Ok(false);
-        };
-        if !both.agree(t, act) {
-            return Ok(false);
-        }
-    }
-    for setting in ["FE42=0F", "FE80=29", "FE4E=FF", "FE6E=FF"] {
-        if let Some(act) = act_of(setting) {
-            if !both.agree(t, act) {
-                return Ok(false);
-            }
-        }
-    }
+    let mut t: u64 = 1;
     for _ in 0..ACTS {
         let act = chance.act();
         t = t.wrapping_add(chance.wait());
         if !both.agree(t, act) {
-            return Ok(false);
+            return false;
         }
     }
-    Ok(both.come_to_the_same(t.wrapping_add(20_000)))
+    both.come_to_the_same(t.wrapping_add(20_000))
+}
+
+// The same of new buses with the small screen.
+fn new_ones_agree(alloc: Global, clock: Clock, seed: u64) -> Result<bool, Fail> {
+    let mut both = Both::new(alloc, clock, EVENTS)?;
+    let set = agree_at_words(&mut both, 1, SMALL_SCREEN) && agree_at_words(&mut both, 1, SETTINGS);
+    Ok(set && agree_by_chance(&mut both, seed))
 }
 
 #[test]
 fn any_acts_find_the_devices_where_they_are(rt: HostRuntime) -> Result<(), Fail> {
     for clock in CLOCKS {
-        for seed in 0..12 {
-            assert!(rt; agree_by_chance(rt.alloc(), clock, seed)?, "{clock:?} {seed}");
+        for seed in 0..4 {
+            assert!(rt;
+                new_ones_agree(rt.alloc(), clock, seed)?,
+                "{clock:?} {seed}"
+            );
         }
     }
     Ok(())
