@@ -26,6 +26,28 @@ fn fill(table: &mut [[u8; 8]; 256], entries: &[u8; 16], width: u8)
     }
 }
 
+// Writes eight dots as one array: a copy of a slice would test whether both overlap.
+#[inline(always)]
+fn put_eight(to: &mut [u8], eight: [u8; 8])
+    requires { length to.old ≡ 8 }
+    ensures { to.new ≡ eight }
+{
+    if let Some(dots) = to.as_mut_array::<8>() {
+        *dots = eight;
+    }
+}
+
+// Writes sixteen.
+#[inline(always)]
+fn put_sixteen(to: &mut [u8], sixteen: [u8; 16])
+    requires { length to.old ≡ 16 }
+    ensures { to.new ≡ sixteen }
+{
+    if let Some(dots) = to.as_mut_array::<16>() {
+        *dots = sixteen;
+    }
+}
+
 impl Ready {
     /// Nothing is computed.
     pub(crate) fn nothing() -> Ready
@@ -91,9 +113,8 @@ impl Ready {
         ensures { to.new ≡ side_by_side (λ k. eight_at self.now.table (slice_index bytes.now (k * step))) n }
     {
         for i in 0..n {
-            let [a, b, c, d, e, f, g, h] = self.eight_at(bytes[i * step]);
-            let eight = [a, b, c, d, e, f, g, h];
-            to[8 * i..8 * i + 8].copy_from_slice(&eight);
+            let eight = self.eight_at(bytes[i * step]);
+            put_eight(&mut to[8 * i..8 * i + 8], eight);
         }
     }
 
@@ -111,7 +132,7 @@ impl Ready {
             let [a, b, c, d, e, f, g, h] = self.eight_at(byte);
             let [q, r, s, t, u, v, w, x] = self.eight_at(shifted(byte, pixels));
             let sixteen = [a, b, c, d, e, f, g, h, q, r, s, t, u, v, w, x];
-            to[16 * i..16 * i + 16].copy_from_slice(&sixteen);
+            put_sixteen(&mut to[16 * i..16 * i + 16], sixteen);
         }
     }
 

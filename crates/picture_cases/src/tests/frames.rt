@@ -414,7 +414,7 @@ fn colourful(
         scene.ram[at] = (at % 251) as u8;
     }
     for entry in 0..16u8 {
-        scene.raster.ula().palette(16 * entry + (entry ^ 5));
+        scene.raster.ula().palette(16 * entry ^ entry ^ 5);
     }
     Ok(scene)
 }

@@ -12,4 +12,4 @@ loop-i-preserved c =
     let both : c.eight_at.result ++ c.eight_at-in-loop-i.result ≡ sixteen_at table c.args.pixels byte =
     ap (λ (ds : List ℕ). ds ++ c.eight_at-in-loop-i.result) c.eight_at.ensures.dots
     ∙ ap (λ (ds : List ℕ). eight_at table byte ++ ds) (c.eight_at-in-loop-i.ensures.dots ∙ ap (λ (k : ℕ). eight_at table k) c.shifted.ensures) in
-    row_more (λ k. sixteen_at c.args.self.now.table c.args.pixels (slice_index c.args.bytes.now (k * c.args.step))) i (16 * i) _ (16 * (i + 1)) c.loop-i.to _ c.loop-i.invariant (omega arith) (c.copy_from_slice.ensures.after ∙ sixteen_are _ _ c.eight_at.ensures.eight c.eight_at-in-loop-i.ensures.eight ∙ both) (omega arith)
+    row_more (λ k. sixteen_at c.args.self.now.table c.args.pixels (slice_index c.args.bytes.now (k * c.args.step))) i (16 * i) _ (16 * (i + 1)) c.loop-i.to _ c.loop-i.invariant (omega arith) (c.put_sixteen.ensures ∙ sixteen_are _ _ c.eight_at.ensures.eight c.eight_at-in-loop-i.ensures.eight ∙ both) (omega arith)
