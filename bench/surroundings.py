@@ -315,7 +315,7 @@ def tell_session_cases():
     add(group, "without leave to write", solo("open/out", "--save", "kept"), 5, "cannot write kept", changed=outputs("open/out"), before=both(an_open_folder, put("kept", b"kept", mode=0o444)),
         command=AS_OTHER, needs="another user")
     add(group, "a device that is full", solo("out", "--save", "/dev/full"), 5, "cannot write /dev/full", changed=back)
-    add(group, "a disk with room for the other files alone", solo("out", "--save", "disk/saved"), 5, "cannot write disk/saved",
+    add(group, "a disk without any room, the other files elsewhere", solo("out", "--save", "disk/saved"), 5, "cannot write disk/saved",
         changed={**back, "disk/saved": lambda text: wanted["state"].startswith(text)}, before=both(a_disk, lambda: fill("disk/fill")), needs="a disk of its own")
     add(group, "the same disk for the files of `resume`", resume("state", out="disk/out"), 5, "cannot write disk/out.para",
         changed={**outputs("disk/out", ends=(".report", ".host")), "disk/out.para": lambda text: wanted["good.para"].startswith(text)}, before=a_disk, needs="a disk of its own")

@@ -382,6 +382,9 @@ none o.report o.host
 $ replay para t 2000 o --tube tube
 = 4 bad trace 2 kind 1
 none o.report o.para
+$ follow para t 2000 o --tube tube
+= 4 bad trace 2 kind 1
+none o.list
 t
 | T2
 | 0000000014 H R 0 40
@@ -391,6 +394,9 @@ $ check t
 $ replay para t 2000 o --speed 4 --tube tube
 = 4 bad trace 2 kind 1
 none o.report o.para
+$ follow host t 2000 o --speed 4 --os os
+= 4 bad trace 2 kind 1
+none o.list
 t
 + T
 $ check t
@@ -560,6 +566,12 @@ none o.report o.trace w
 $ replay host t 100 o --os os --keys keys --wav w
 = 4 bad script 2 kind 1
 none o.report w
+run 100 o --os os --tube tube --keys keys --save s
+= 4 bad script 2 kind 1
+none o.report o.trace s
+$ follow host t 100 o --os os --keys keys
+= 4 bad script 2 kind 1
+none o.list
 ";
 
 const MACHINES: &str = "\
@@ -576,7 +588,7 @@ tube
 | loop: JMP loop
 | org &FFFC
 | word loop, 0
-$ solo 1000000 o --os os --tube tube --wav w
+$ solo 1000000 o --os os --tube tube --wav w --save s
 = 0
 file o.report
 | ticks 1000000
@@ -588,10 +600,21 @@ file o.report
 file o.trace
 | 0000000024 H W 0 A0
 size w 10462
+size s 18542
 keep
-run 1000000 o --os os --tube tube --wav w
+run 1000000 o --os os --tube tube --wav w --save s
 = 0
-same o.report o.host o.para o.trace w
+same o.report o.host o.para o.trace w s
+take s
+$ resume t 1000000 o --wav w --save s
+= 0
+same o.report o.host o.para o.trace w s
+run 1000 o --os os --tube tube --save s
+= 0
+take s
+$ resume t 1000000 o --wav w --save s
+= 0
+same o.report o.host o.para o.trace w s
 t
 | 0000000024 H W 0 A0
 $ replay host t 1000000 o --os os --wav w
@@ -602,8 +625,23 @@ $ replay para t 1000000 o --tube tube
 = 0
 line o.report para PC=F800 A=00 X=00 Y=00 S=FD P=24 held
 same o.para
+$ follow host t 1000000 o --os os
+= 0
+| listed 3 of 3
+file o.list
+| 0000000015 C000 A=00 X=00 Y=00 S=FD P=24 LDA #&A0
+| 000000001B C002 A=A0 X=00 Y=00 S=FD P=A4 STA &FEE0
+| 0000000027 C005 A=A0 X=00 Y=00 S=FD P=A4 byte &02
+$ follow para t 1000000 o --tube tube
+= 0
+| listed 4 of 4
+file o.list
+| 000000000E F800 A=00 X=00 Y=00 S=FD P=24 JMP &F800
+| 0000000014 F800 A=00 X=00 Y=00 S=FD P=24 JMP &F800
+| 000000001A F800 A=00 X=00 Y=00 S=FD P=24 JMP &F800
+| 0000000020 F800 A=00 X=00 Y=00 S=FD P=24 JMP &F800
 ## The same at 4 MHz.
-$ solo 1000000 o --speed 4 --os os --tube tube --wav w
+$ solo 1000000 o --speed 4 --os os --tube tube --wav w --save s
 = 0
 file o.report
 | ticks 1000000
@@ -616,10 +654,21 @@ file o.trace
 | T2
 | 0000000048 H W 0 A0
 size w 5254
+size s 18542
 keep
-run 1000000 o --speed 4 --os os --tube tube --wav w
+run 1000000 o --speed 4 --os os --tube tube --wav w --save s
 = 0
-same o.report o.host o.para o.trace w
+same o.report o.host o.para o.trace w s
+take s
+$ resume t 1000000 o --wav w --save s
+= 0
+same o.report o.host o.para o.trace w s
+run 1000 o --speed 4 --os os --tube tube --save s
+= 0
+take s
+$ resume t 1000000 o --wav w --save s
+= 0
+same o.report o.host o.para o.trace w s
 t
 | T2
 | 0000000048 H W 0 A0
@@ -631,6 +680,23 @@ $ replay para t 1000000 o --speed 4 --tube tube
 = 0
 line o.report para PC=F800 A=00 X=00 Y=00 S=FD P=24 held
 same o.para
+$ follow host t 1000000 o --speed 4 --os os
+= 0
+| listed 3 of 3
+file o.list
+| 000000002A C000 A=00 X=00 Y=00 S=FD P=24 LDA #&A0
+| 0000000036 C002 A=A0 X=00 Y=00 S=FD P=A4 STA &FEE0
+| 000000004E C005 A=A0 X=00 Y=00 S=FD P=A4 byte &02
+$ follow para t 1000000 o --speed 4 --tube tube
+= 0
+| listed 6 of 6
+file o.list
+| 0000000015 F800 A=00 X=00 Y=00 S=FD P=24 JMP &F800
+| 000000001E F800 A=00 X=00 Y=00 S=FD P=24 JMP &F800
+| 0000000027 F800 A=00 X=00 Y=00 S=FD P=24 JMP &F800
+| 0000000030 F800 A=00 X=00 Y=00 S=FD P=24 JMP &F800
+| 0000000039 F800 A=00 X=00 Y=00 S=FD P=24 JMP &F800
+| 0000000042 F800 A=00 X=00 Y=00 S=FD P=24 JMP &F800
 # Code from the Tube, which ends in breaks without end at 0000, for a million ticks.
 os
 | org &C000
@@ -642,7 +708,7 @@ tube
 | start: JMP &FEF8
 | org &FFFC
 | word start, 0
-$ solo 1000000 o --os os --tube tube --wav w
+$ solo 1000000 o --os os --tube tube --wav w --save s
 = 0
 line o.report para PC=0000 A=00 X=00 Y=00 S=FA P=24
 line o.report tube 2
@@ -650,9 +716,19 @@ file o.trace
 | 0000000014 P R 0 40
 | 0000000016 P R 1 00
 keep
-run 1000000 o --os os --tube tube --wav w
+run 1000000 o --os os --tube tube --wav w --save s
 = 0
-same o.report o.host o.para o.trace w
+same o.report o.host o.para o.trace w s
+take s
+$ resume t 1000000 o --wav w --save s
+= 0
+same o.report o.host o.para o.trace w s
+run 22 o --os os --tube tube --save s
+= 0
+take s
+$ resume t 1000000 o --wav w --save s
+= 0
+same o.report o.host o.para o.trace w s
 t
 | 0000000014 P R 0 40
 | 0000000016 P R 1 00
@@ -660,8 +736,24 @@ $ replay para t 1000000 o --tube tube
 = 0
 line o.report para PC=0000 A=00 X=00 Y=00 S=FA P=24
 same o.para
+$ follow para t 33 o --tube tube
+= 0
+| listed 3 of 3
+file o.list
+| 000000000E F800 A=00 X=00 Y=00 S=FD P=24 JMP &FEF8
+| 0000000014 FEF8 A=00 X=00 Y=00 S=FD P=24 ?
+| 0000000020 0000 A=00 X=00 Y=00 S=00 P=20 BRK
+$ follow para t 33 o --tube tube --at FEF8
+= 0
+| listed 1 of 1
+file o.list
+| 0000000014 FEF8 A=00 X=00 Y=00 S=FD P=24 ?
+$ follow para t 1000000 o --tube tube --watch FEF8
+= 0
+| listed 0 of 0
+size o.list 0
 ## The same at 4 MHz.
-$ solo 1000000 o --speed 4 --os os --tube tube --wav w
+$ solo 1000000 o --speed 4 --os os --tube tube --wav w --save s
 = 0
 line o.report para PC=0000 A=00 X=00 Y=00 S=00 P=24
 line o.report tube 2
@@ -670,9 +762,19 @@ file o.trace
 | 000000001E P R 0 40
 | 0000000021 P R 1 00
 keep
-run 1000000 o --speed 4 --os os --tube tube --wav w
+run 1000000 o --speed 4 --os os --tube tube --wav w --save s
 = 0
-same o.report o.host o.para o.trace w
+same o.report o.host o.para o.trace w s
+take s
+$ resume t 1000000 o --wav w --save s
+= 0
+same o.report o.host o.para o.trace w s
+run 33 o --speed 4 --os os --tube tube --save s
+= 0
+take s
+$ resume t 1000000 o --wav w --save s
+= 0
+same o.report o.host o.para o.trace w s
 t
 | T2
 | 000000001E P R 0 40
@@ -681,6 +783,22 @@ $ replay para t 1000000 o --speed 4 --tube tube
 = 0
 line o.report para PC=0000 A=00 X=00 Y=00 S=00 P=24
 same o.para
+$ follow para t 49 o --speed 4 --tube tube
+= 0
+| listed 3 of 3
+file o.list
+| 0000000015 F800 A=00 X=00 Y=00 S=FD P=24 JMP &FEF8
+| 000000001E FEF8 A=00 X=00 Y=00 S=FD P=24 ?
+| 0000000030 0000 A=00 X=00 Y=00 S=00 P=20 BRK
+$ follow para t 49 o --speed 4 --tube tube --at FEF8
+= 0
+| listed 1 of 1
+file o.list
+| 000000001E FEF8 A=00 X=00 Y=00 S=FD P=24 ?
+$ follow para t 1000000 o --speed 4 --tube tube --watch FEF8
+= 0
+| listed 0 of 0
+size o.list 0
 # A device that owns all of FRED and JIM, in front of a RAM card, which nothing reaches.
 plugs counter card
 os
@@ -701,7 +819,7 @@ tube
 | loop: JMP loop
 | org &FFFC
 | word loop, 0
-$ solo 1000 o --os os --tube tube --plugs 2
+$ solo 1000 o --os os --tube tube --plugs 2 --save s
 = 0
 at o.host 0070 03
 file o.trace
@@ -714,6 +832,22 @@ keep
 run 1000 o --os os --tube tube --plugs 8
 = 0
 same o.report o.host o.para o.trace o.plug0 o.plug1
+$ solo 1000 o --os os --tube tube --plugs 2 --save s
+= 0
+take s
+$ resume t 1000 o --save s
+= 0
+same o.report o.host o.para o.trace o.plug0 o.plug1 s
+$ resume t 111 o --save s
+= 0
+line o.report tube 0
+file o.plug0
+x 04
+size o.plug1 65536
+take s
+$ resume t 1000 o --save s
+= 0
+same o.report o.host o.para o.trace o.plug0 o.plug1 s
 run 2000 o --speed 4 --os os --tube tube --plugs 2
 = 0
 same o.host o.plug0 o.plug1
@@ -722,11 +856,31 @@ t
 $ replay host t 1000 o --os os --plugs 2
 = 0
 same o.host o.plug0 o.plug1
+$ follow host t 1000 o --os os --plugs 2 --at C00D --watch FD00
+= 0
+| listed 0 of 0
+size o.list 0
+$ follow host t 112 o --os os --plugs 2 --at C00D
+= 0
+| listed 1 of 1
+file o.list
+| 0000000054 C00D A=77 X=00 Y=00 S=FD P=24 LDA &FD00
 ## With the card in front, the host does something else.
 plugs card counter
-$ replay host t 1000 o --os os --plugs 2
+$ follow host t 1000 o --os os --plugs 2
 = 8: differs 1 000000006F H W 1 77
-none o.report o.plug0 o.plug1
+none o.list
+plugs counter card
+$ solo 1000 o --os os --tube tube --plugs 2 --save s
+= 0
+take s
+plugs card counter
+$ resume t 1000 o
+= 8: differs 1 000000006F H W 1 77
+none o.report o.host o.para o.trace o.plug0 o.plug1
+$ resume t 111 o
+= 0
+file o.trace
 # No access is kept.
 os
 | org &C000
@@ -755,7 +909,7 @@ tube
 | stop: JMP stop
 | org &FFFC
 | word start, 0
-$ solo 2000 o --keep 0 --os os --tube tube --wav w
+$ solo 2000 o --keep 0 --os os --tube tube --wav w --save s
 = 0
 file o.report
 | ticks 2000
@@ -767,10 +921,21 @@ file o.report
 at o.host 0070 48 49 00
 size o.trace 0
 size w 66
+size s 18535
+at s 0005 03 00 00 00 00 00
 keep
-run 2000 o --os os --tube tube --keep 0 --wav w
+run 2000 o --os os --tube tube --keep 0 --wav w --save s
 = 0
-same o.report o.host o.para o.trace w
+same o.report o.host o.para o.trace w s
+take s
+$ resume t 2000 o --keep 0 --wav w --save s
+= 0
+same o.report o.host o.para o.trace w s
+$ resume t 2000 o
+= 0
+same o.host o.para
+line o.report kept 49
+size o.trace 980
 run 4000 o --os os --tube tube --keep 0 --speed 4
 = 0
 line o.report tube 38
@@ -822,10 +987,10 @@ alone dis 65c02 t C000 out
 file out
 | org &C000
 | NOP
-$ solo 2000 o --os os --tube tube --wav w
+$ solo 2000 o --os os --tube tube --wav w --save s
 = 0
 trace
-alone solo 2000 o --os os --tube tube --wav w
+alone solo 2000 o --os os --tube tube --wav w --save s
 = 0
 same o.report o.host o.para o.trace w
 alone replay host t 2000 o --os os --wav w
@@ -834,16 +999,27 @@ same o.host w
 alone replay para t 2000 o --tube tube
 = 0
 same o.para
+alone follow host t 2000 o --os os --watch 0070
+= 0
+| listed 1 of 1
+file o.list
+| 00000003CC C00C A=48 X=00 Y=00 S=FD P=24 INX
+alone solo 1000 o --os os --tube tube --save s
+= 0
+take s
+alone resume t 2000 o --wav w --save s
+= 0
+same o.report o.host o.para o.trace w s
 alone gen 1
 = 0
 | seed 1
 | bytes 4096
 | sum 5D40
 | ticks 1000000
-alone run 2000 o --os os --tube tube --wav w
+alone run 2000 o --os os --tube tube --wav w --save s
 = 6 no thread
 none o.report o.host o.para o.trace w s
-alone run 2000 o --speed 4 --keep 0 --os os --tube tube --wav w
+alone run 2000 o --speed 4 --keep 0 --os os --tube tube --wav w --save s
 = 6 no thread
 none o.report o.host o.para o.trace w s
 ";
