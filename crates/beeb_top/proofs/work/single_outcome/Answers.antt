@@ -11,7 +11,7 @@ use Rattle.beeb_words.specs.View.{seen_command, seen_given}
 use Rattle.power_on.specs.Inputs.{Inputs}
 use Rattle.power_on.specs.Setup.{setup_of}
 use Rattle.beeb_top.specs.Plans.{replay_after}
-use Rattle.beeb_top.proofs.SlotLemmas.{slots_below}
+use Rattle.beeb_top.proofs.SlotLemmas.{slots_below, keys_short}
 use Rattle.beeb_top.proofs.WorkLemmas.{both_after}
 use Rattle.beeb_top.proofs.work.single_outcome.Goals as goal
 
@@ -21,6 +21,14 @@ replay_outcome-requires-clause-slots g c =
 
 pub solo_outcome-requires-clause-slots : goal.solo_outcome-requires-clause-slots
 solo_outcome-requires-clause-slots g c =
+    slots_below (reads (seen_command c.args.command)) (map seen_input c.args.inputs.items) c.in_ok-inputs.inputs c.requires.inputs c.requires.within.roms c.in_ok-inputs.ensures
+
+pub solo_outcome-requires-clause-keys : goal.solo_outcome-requires-clause-keys
+solo_outcome-requires-clause-keys g c =
+    keys_short (seen_command c.args.command) (map seen_input c.args.inputs.items) c.in_ok-inputs.inputs c.requires.inputs c.in_ok-inputs.ensures
+
+pub follow_outcome-requires-clause-slots : goal.follow_outcome-requires-clause-slots
+follow_outcome-requires-clause-slots g c =
     slots_below (reads (seen_command c.args.command)) (map seen_input c.args.inputs.items) c.in_ok-inputs.inputs c.requires.inputs c.requires.within.roms c.in_ok-inputs.ensures
 
 pub returns-in-Solo : goal.returns-in-Solo
