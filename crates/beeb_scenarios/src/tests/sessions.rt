@@ -33,7 +33,7 @@ tube
 | word start, 0
 $ solo 1000 o --os os --tube tube --save half
 = 0
-size half 18871
+size half 18864
 keep
 $ solo 2000 o --os os --tube tube --save s
 = 0
@@ -52,7 +52,7 @@ same s
 ## A session of a session, which is another length, and each goes on below, at and above its moment.
 $ resume t 1000 o --save half
 = 0
-size half 18871
+size half 18864
 keep
 $ solo 1000 o --os os --tube tube --save half
 = 0
