@@ -1,5 +1,5 @@
 -- The headline follows from what `run` promises.
-use Rattle.std.proofs.Common.{◌≡◌, ◌∙◌, refl, ap, ℕ, Bool, true, false, List, [], Option, Some, None, Result, Ok, Err, IfSome, inl, inr, append-nil}
+use Rattle.std.proofs.Common.{◌≡◌, ◌∙◌, refl, ap, ℕ, true, List, [], Option, Some, None, Result, Ok, Err, IfSome, append-nil}
 use Rattle.beeb_files.specs.Files.{Files, say}
 use Rattle.beeb_words.specs.declared.keys.Slot.{Slot}
 use Rattle.beeb_words.specs.Command.{Command, check, asm, dis, replay, solo, run, resume, follow, gen}

@@ -1,8 +1,7 @@
 -- The theorem of the sound file follows from what each command promises.
-use Rattle.std.proofs.Common.{◌≡◌, ◌∙◌, sym, refl, ap, subst, cond, ℕ, Bool, true, false, take, unwrap_or, List, [], ◌∷◌, ◌++◌, map, length, Option, Some, None, Result, Ok, Err, IfSome, append_assoc}
+use Rattle.std.proofs.Common.{◌≡◌, ◌∙◌, sym, refl, ap, subst, cond, ℕ, Bool, true, false, take, unwrap_or, List, [], ◌∷◌, ◌++◌, map, length, Option, Some, None, Result, Ok, Err, IfSome}
 use Rattle.std.proofs.lemmas.List.{map-append}
-use Rattle.std.specs.Ordering.{nat_cmp}
-use Rattle.std.specs.Cmp.Lexicographic.{slice_cmp, nat_list_cmp_total, bytes_decides, texts_ties}
+use Rattle.std.specs.Cmp.Lexicographic.{nat_list_cmp_total, bytes_decides, texts_ties}
 use Rattle.std.proofs.lemmas.Cmp.{eq_by_cmp_equiv}
 use Rattle.std.specs.FinMap.{get-insert}
 use Rattle.beeb_bits.specs.declared.clock.Clock.{Clock}
@@ -64,16 +63,16 @@ last_put name bytes (Some files) =
     ∙ ap (λ b. cond b (Some bytes) (bytes_of files name)) ((eq_by_cmp_equiv nat_list_cmp_total).refl name)
 
 cond_other : {A : Type 0} (t : Bool) (x y : A) → (t ≡ true → ⊥) → cond t x y ≡ y
-cond_other true x y no = absurd (no refl)
-cond_other false x y no = refl
+cond_other true x y differ = absurd (differ refl)
+cond_other false x y differ = refl
 
 -- what is put under another name leaves this one
 other_put : (other name put_bytes bytes : List ℕ) (files : Option Files) → (other ≡ name → ⊥) → IfSome files (λ now. bytes_of now name ≡ Some bytes) →
     IfSome (put other put_bytes files) (λ now. bytes_of now name ≡ Some bytes)
-other_put other name put_bytes bytes None no is = tt
-other_put other name put_bytes bytes (Some files) no is =
+other_put other name put_bytes bytes None differ is = tt
+other_put other name put_bytes bytes (Some files) differ is =
     get-insert nat_list_cmp_total files other put_bytes name
-    ∙ cond_other _ (Some put_bytes) (bytes_of files name) (λ h. no ((bytes_decides other name).0 (texts_ties other name ∙ h)))
+    ∙ cond_other _ (Some put_bytes) (bytes_of files name) (λ h. differ (sym ((bytes_decides name other).0 (texts_ties name other ∙ h))))
     ∙ is
 
 put_behind : (fs gs : List (List ℕ × List ℕ)) (files : Option Files) → put_all (fs ++ gs) files ≡ put_all gs (put_all fs files)
@@ -100,14 +99,14 @@ one_sound l s name (Some other) files host wav is =
 
 session_behind : (l : Left) (name bytes : List ℕ) (o : Option (List ℕ)) (files : Option Files) → l.names.save ≡ o → (o ≡ Some name → ⊥) →
     IfSome files (λ now. bytes_of now name ≡ Some bytes) → IfSome (put_all (map (file_of l) (if_there Session o)) files) (λ now. bytes_of now name ≡ Some bytes)
-session_behind l name bytes None files save no is = is
-session_behind l name bytes (Some other) files save no is =
-    other_put (own_name l.names.save) name (unwrap_or l.saved []) bytes files (λ same. no (ap Some (sym (ap own_name save) ∙ same))) is
+session_behind l name bytes None files save differ is = is
+session_behind l name bytes (Some other) files save differ is =
+    other_put (own_name l.names.save) name (unwrap_or l.saved []) bytes files (λ same. differ (ap Some (sym (ap own_name save) ∙ same))) is
 
 left_heard : (l : Left) (s : HostState) (name : List ℕ) (old new : Option Files) → l.host ≡ Some s → l.names.wav ≡ Some name → (l.names.save ≡ Some name → ⊥) →
     new ≡ put_all (machine_verdict l).files old → IfSome new (λ files. bytes_of files name ≡ Some (sound_bytes l.clock l.ticks s))
-unfolding machine_verdict machine_outputs
-left_heard l s name old new host wav no is =
+unfolding machine_verdict machine_outputs front_of
+left_heard l s name old new host wav differ is =
     let f : Output → List ℕ × List ℕ = file_of l in
     let sound : List Output = if_there Sound l.names.wav in
     let saved : List Output = if_there Session l.names.save in
@@ -118,7 +117,7 @@ left_heard l s name old new host wav no is =
     ∙ put_behind (map f (front_of l ++ sound)) (map f saved) old
     ∙ ap (put_all (map f saved)) (ap (λ (fs : List (List ℕ × List ℕ)). put_all fs old) (map-append f (front_of l) sound) ∙ put_behind (map f (front_of l)) (map f sound) old) in
     subst (λ (o : Option Files). IfSome o (λ files. bytes_of files name ≡ Some (sound_bytes l.clock l.ticks s))) (sym whole)
-    (session_behind l name (sound_bytes l.clock l.ticks s) l.names.save (put_all (map f sound) before) refl no
+    (session_behind l name (sound_bytes l.clock l.ticks s) l.names.save (put_all (map f sound) before) refl differ
     (one_sound l s name l.names.wav before host refl wav))
 
 -- ---- what each command comes to
@@ -181,10 +180,10 @@ module _ (plugs : List Plug) (ticks : ℕ) (out : List ℕ) (given : Values) (na
         clock_of given,
         w.host,
         ap (λ (r : Result (HostState × ParaState) (Refusal Cause)). r >>= λ m. Ok (clock_of given, (reference host_moves para_moves m.0 m.1 ticks).host)) got.1,
-        λ no.
+        λ differ.
             left_heard (both_left (clock_of given) ticks (length (accesses w.list)) (names_of out given) w.host w.para (kept_of (clock_of given) (take keep (accesses w.list)))
             (saved_file begun ticks keep w.list))
-            w.host name old new refl wav no (is ∙ ap (λ (x : Verdict Ending). put_all x.files old) got.2),
+            w.host name old new refl wav differ (is ∙ ap (λ (x : Verdict Ending). put_all x.files old) got.2),
       )
 
   session_heard : (keep : ℕ) → or_stop (session_after plugs ticks keep (names_of out given) i) ≡ Ok v → endings.Done ≡ v.ending → Hears (session_host plugs ticks i)
@@ -198,10 +197,10 @@ module _ (plugs : List Plug) (ticks : ℕ) (out : List ℕ) (given : Values) (na
         w.host,
         ap (λ (r : Result sessions.Session (Refusal Cause)). r >>= λ s. machines_of (setup_in s plugs) (inputs_in s) >>= λ m. Ok (s.clock, (reference host_moves para_moves m.0 m.1 ticks).host)) got.2
             ∙ ap (λ (r : Result (HostState × ParaState) (Refusal Cause)). r >>= λ m. Ok (s.clock, (reference host_moves para_moves m.0 m.1 ticks).host)) got.3,
-        λ no.
+        λ differ.
             left_heard (both_left s.clock ticks (length (accesses w.list)) (names_of out given) w.host w.para (kept_of s.clock (take keep (accesses w.list)))
             (saved_file begun ticks keep w.list))
-            w.host name old new refl wav no (is ∙ ap (λ (x : Verdict Ending). put_all x.files old) got.4),
+            w.host name old new refl wav differ (is ∙ ap (λ (x : Verdict Ending). put_all x.files old) got.4),
       )
 
   replay_heard : or_stop (host_after (setup_of given plugs) ticks (names_of out given) i) ≡ Ok v → endings.Done ≡ v.ending → Hears (replayed_host plugs ticks given i)
@@ -215,8 +214,8 @@ module _ (plugs : List Plug) (ticks : ℕ) (out : List ℕ) (given : Values) (na
         clock_of given,
         e.machine,
         ap (λ (r : Result (List Entry × HostState) (Refusal Cause)). r >>= λ m. Ok (clock_of given, (replay_of host_moves Host m.0 ticks m.1).machine)) got.1,
-        λ no.
-            left_heard (left (side_count Host ticks got.0.0) e.machine) e.machine name old new refl wav no
+        λ differ.
+            left_heard (left (side_count Host ticks got.0.0) e.machine) e.machine name old new refl wav differ
             (is ∙ ap (λ (x : Verdict Ending). put_all x.files old) (placed (after got.0.0) e.machine e.place (wrong got.0.0) v got.2 done)),
       )
 

@@ -1,5 +1,5 @@
 use Rattle.std.proofs.Common.{map, subst, true, Result}
-use Rattle.beeb_stages.specs.View.{Gives, seen_input}
+use Rattle.beeb_stages.specs.View.{seen_input}
 use Rattle.beeb_stages.specs.Plan.{Verdict}
 use Rattle.beeb_stages.specs.declared.stop.Refusal.{Refusal}
 use Rattle.beeb_status.specs.declared.status.Ending.{Ending}
@@ -7,7 +7,7 @@ use Rattle.beeb_status.specs.declared.status.Cause.{Cause}
 use Rattle.beeb_outcome.specs.View.{verdict_of}
 use Rattle.beeb_stages.specs.Stages.{Works}
 use Rattle.beeb_words.specs.Reads.{reads}
-use Rattle.beeb_words.specs.View.{seen_command, seen_given}
+use Rattle.beeb_words.specs.View.{seen_command}
 use Rattle.beeb_top.proofs.SlotLemmas.{slots_below, keys_short}
 use Rattle.beeb_top.proofs.WorkLemmas.{both_after}
 use Rattle.beeb_top.proofs.work.paired_outcome.Goals as goal
