@@ -1,5 +1,5 @@
 -- What is done at the operand, behind any way there.
-use Rattle.std.proofs.Common.{◌≡◌, ◌≢◌, ℕ, zero, suc, ◌+◌, List, [], ◌∷◌, ◌++◌, length, Bool, true, false, cond, Option, Some, None, slice_get, MatchOption, refl, sym, subst, ap, ◌∙◌, arith, append_assoc, length-append}
+use Rattle.std.proofs.Common.{◌≡◌, ◌≢◌, ℕ, suc, ◌+◌, List, [], ◌∷◌, ◌++◌, length, Bool, true, false, cond, Option, Some, None, slice_get, MatchOption, refl, sym, subst, ap, ◌∙◌, arith, append_assoc, length-append}
 use Rattle.std.proofs.lemmas.List.{append-nil}
 use Rattle.op_table.specs.declared.names.Part.{Part}
 use Rattle.op_table.specs.declared.names.Part.TheVariants.{Nmos, Cmos}
@@ -18,9 +18,9 @@ use Rattle.cpu_alu.specs.Flags.{has_flag}
 use Rattle.cpu_alu.specs.Addresses.{with_pc_past}
 use Rattle.cpu_alu.specs.Instructions.{bus_use, is_decimal, stored_value, modified_value, read_result, modify_result}
 use Rattle.cpu_core.specs.declared.Sequence.TheVariants.{Instruction}
-use Rattle.cpu_core.specs.Accesses.{byte, row_at, waits, reach, address, operand, last_place, lasts_longer, cycle_between, modify_form, form}
+use Rattle.cpu_core.specs.Accesses.{row_at, waits, reach, address, operand, last_place, lasts_longer, cycle_between, modify_form, form}
 use Rattle.cpu_core.specs.Results.{after_row, after_opcode}
-use Rattle.cpu_core.specs.Sequences.{next_cycle, shown_byte, after, fresh}
+use Rattle.cpu_core.specs.Sequences.{shown_byte, after, fresh}
 use Rattle.cpu_whole.specs.Whole.{Reach, IsPlain, IsDone, Carried, is_plain, shows, leaves}
 use Rattle.cpu_whole.specs.CodeWays.{Follows, IsReached, IsModifying, is_modifying, on_the_way, more_by}
 use Rattle.cpu_whole.proofs.Cycles.{behind, next-row, from_fetch, more_by-suc, byte-seam, beyond}

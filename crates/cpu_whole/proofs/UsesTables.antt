@@ -1,5 +1,5 @@
 -- The tables of uses in the code are the definition, opcode by opcode.
-use Rattle.std.proofs.Common.{◌≡◌, ℕ, ◌<◌, List, Option, Some, map, refl, sym, ap, ◌∙◌, slice_index_or, arith}
+use Rattle.std.proofs.Common.{◌≡◌, ℕ, ◌<◌, List, Some, map, refl, sym, ap, ◌∙◌, slice_index_or, arith}
 use Rattle.std.specs.List.{range_with_len}
 use Rattle.std.proofs.lemmas.List.FromFn.{get_or-map-range_with_len}
 use Rattle.op_table.specs.Rows.{nmos_row, cmos_row}

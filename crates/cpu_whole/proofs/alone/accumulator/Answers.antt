@@ -1,8 +1,7 @@
-use Rattle.std.proofs.Common.{rules, ◌≡◌, ◌<◌, ◌+◌, ◌*◌, ◌/◌, ◌%◌, ◌∙◌, ℕ, Bool, true, false, eqb, ap, refl, subst, sym, arith}
+use Rattle.std.proofs.Common.{◌∙◌, ap}
 use Rattle.op_table.specs.declared.names.Mode.TheVariants.{Acc}
 use Rattle.cpu_alu.specs.Instructions.{modify_result}
 use Rattle.cpu_alu.specs.declared.Regs.{Regs}
-use Rattle.cpu_alu.specs.Addresses.{word, wrap, place, stack, target, with_pc_past, with_stack_moved}
 use Rattle.cpu_whole.proofs.Forms.{accumulator}
 use Rattle.cpu_whole.proofs.alone.accumulator.Goals as goal
 
