@@ -1,12 +1,12 @@
 -- What is done at the operand, behind any way there.
-use Rattle.std.proofs.Common.{◌≡◌, ◌≢◌, ℕ, zero, suc, ◌+◌, List, [], ◌∷◌, ◌++◌, length, Bool, true, false, cond, Option, Some, None, slice_get, MatchOption, refl, sym, subst, ap, ◌∙◌, arith, append_assoc, length-append}
+use Rattle.std.proofs.Common.{◌≡◌, ◌≢◌, ℕ, suc, ◌+◌, List, [], ◌∷◌, ◌++◌, length, Bool, true, false, cond, Option, Some, None, slice_get, MatchOption, refl, sym, subst, ap, ◌∙◌, arith, append_assoc, length-append}
 use Rattle.std.proofs.lemmas.List.{append-nil}
 use Rattle.op_table.specs.declared.names.Part.{Part}
 use Rattle.op_table.specs.declared.names.Part.TheVariants.{Nmos, Cmos}
 use Rattle.op_table.specs.declared.names.Mode.{Mode}
-use Rattle.op_table.specs.declared.names.Mode.TheVariants.{Acc, Zp}
+use Rattle.op_table.specs.declared.names.Mode.TheVariants.{Acc}
 use Rattle.op_table.specs.declared.names.Mnemonic.{Mnemonic}
-use Rattle.op_table.specs.declared.names.Mnemonic.TheVariants.{Asl, Dec, Inc, Lsr, Rol, Ror, Trb, Tsb}
+use Rattle.op_table.specs.declared.names.Mnemonic.TheVariants.{Adc, Asl, Dec, Inc, Lsr, Rol, Ror, Sbc, Trb, Tsb}
 use Rattle.op_table.specs.declared.rows.Row.{Row}
 use Rattle.cpu_alu.specs.declared.Regs.{Regs}
 use Rattle.cpu_alu.specs.declared.Cycle.{Cycle}
@@ -18,9 +18,9 @@ use Rattle.cpu_alu.specs.Flags.{has_flag}
 use Rattle.cpu_alu.specs.Addresses.{with_pc_past}
 use Rattle.cpu_alu.specs.Instructions.{bus_use, is_decimal, stored_value, modified_value, read_result, modify_result}
 use Rattle.cpu_core.specs.declared.Sequence.TheVariants.{Instruction}
-use Rattle.cpu_core.specs.Accesses.{byte, row_at, waits, reach, address, operand, last_place, lasts_longer, cycle_between, modify_form, form}
+use Rattle.cpu_core.specs.Accesses.{row_at, waits, reach, address, operand, last_place, lasts_longer, cycle_between, modify_form, form}
 use Rattle.cpu_core.specs.Results.{after_row, after_opcode}
-use Rattle.cpu_core.specs.Sequences.{next_cycle, shown_byte, after, fresh}
+use Rattle.cpu_core.specs.Sequences.{shown_byte, after, fresh}
 use Rattle.cpu_whole.specs.Whole.{Reach, IsPlain, IsDone, Carried, is_plain, shows, leaves}
 use Rattle.cpu_whole.specs.CodeWays.{Follows, IsReached, IsModifying, is_modifying, on_the_way, more_by}
 use Rattle.cpu_whole.proofs.Cycles.{behind, next-row, from_fetch, more_by-suc, byte-seam, beyond}
@@ -205,6 +205,7 @@ stores_wait Cmos = refl
 pub modifying : (part : Part) (row : Row) (uses : BusUse) (always : Bool) → bus_use row.mnemonic ≡ uses → is_modifying uses ≡ true → always ≡ waits part uses → IsModifying part row always
 modifying part row uses always is kind same =
     record {
+      kind = ap is_modifying is ∙ kind;
       forms = λ r f. ap (λ u. form part u row r f) is ∙ forms uses kind r f ∙ ap (λ b. modify_form part row row.mode b r f) (sym same);
       results = λ r f. ap (λ u. after_row part u row r f) is ∙ results uses kind r f
           ∙ ap (λ b. modify_result row.mnemonic row.mode (with_pc_past r row.bytes) (operand part row.mode b r f)) (sym same);
@@ -221,7 +222,7 @@ modifying part row uses always is kind same =
     results Modifies h r f = refl
     results _ h r f = cc
 
--- what is made of a byte does not go by PC, nor the registers after it by the mode, but for A
+-- what is made of a byte does not go by PC, nor whether a sum is decimal
 pub value_past : (name : Mnemonic) (r : Regs) (bytes m : ℕ) → modified_value name (with_pc_past r bytes) m ≡ modified_value name r m
 value_past Asl r bytes m = refl
 value_past Lsr r bytes m = refl
@@ -233,6 +234,7 @@ value_past Tsb r bytes m = refl
 value_past Trb r bytes m = refl
 value_past _ r bytes m = refl
 
-pub modify_elsewhere : (name : Mnemonic) (way : Mode) (r : Regs) (m : ℕ) → way ≢ Acc → modify_result name Zp r m ≡ modify_result name way r m
-modify_elsewhere name Acc r m apart = absurd (apart refl)
-modify_elsewhere name _ r m apart = refl
+pub decimal_past : (name : Mnemonic) (r : Regs) (bytes : ℕ) → is_decimal name (with_pc_past r bytes) ≡ is_decimal name r
+decimal_past Adc r bytes = refl
+decimal_past Sbc r bytes = refl
+decimal_past _ r bytes = refl

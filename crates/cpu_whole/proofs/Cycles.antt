@@ -1,18 +1,17 @@
 -- Cycles behind that of the opcode, from what is next after what was seen to the definition's states.
-use Rattle.std.proofs.Common.{◌≡◌, ℕ, zero, suc, ◌+◌, ◌≤◌, List, [], ◌∷◌, ◌++◌, length, Bool, true, false, cond, Option, Some, None, is_none, slice_get, MatchOption, refl, sym, subst, ap, ◌∙◌, arith, append_assoc, length-append}
-use Rattle.std.proofs.lemmas.List.{append-nil}
+use Rattle.std.proofs.Common.{◌≡◌, ℕ, zero, suc, ◌+◌, List, [], ◌∷◌, ◌++◌, length, true, false, cond, Option, Some, None, is_none, slice_get, MatchOption, refl, sym, subst, ap, ◌∙◌, arith}
 use Rattle.std.proofs.lemmas.Option.{slice_get_past}
 use Rattle.op_table.specs.declared.names.Part.{Part}
 use Rattle.op_table.specs.declared.names.Part.TheVariants.{Nmos, Cmos}
 use Rattle.op_table.specs.declared.rows.Row.{Row}
 use Rattle.cpu_alu.specs.declared.Regs.{Regs}
 use Rattle.cpu_alu.specs.declared.Cycle.{Cycle}
-use Rattle.cpu_alu.specs.declared.Cycle.TheVariants.{Read, Write}
+use Rattle.cpu_alu.specs.declared.Cycle.TheVariants.{Read}
 use Rattle.cpu_alu.specs.Instructions.{bus_use}
 use Rattle.cpu_core.specs.declared.Sequence.TheVariants.{Instruction}
 use Rattle.cpu_core.specs.State.{State}
 use Rattle.cpu_core.specs.Accesses.{byte, row_at, form, form_of, or_zero}
-use Rattle.cpu_core.specs.Sequences.{accesses, next_cycle, after_byte, shown_byte, halted, halts, fresh}
+use Rattle.cpu_core.specs.Sequences.{next_cycle, after_byte, shown_byte, halted, fresh}
 use Rattle.cpu_whole.specs.Whole.{Reach, Carried, is_plain, shows, leaves}
 use Rattle.cpu_whole.specs.CodeWays.{Follows, more_by}
 

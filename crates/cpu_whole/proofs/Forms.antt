@@ -1,5 +1,5 @@
 -- The instructions without an operand in memory, each straight from the definition's list of accesses.
-use Rattle.std.proofs.Common.{◌≡◌, ◌≢◌, ◌<◌, ℕ, zero, suc, ◌+◌, ◌/◌, ◌%◌, List, [], ◌∷◌, ◌++◌, length, Bool, true, false, cond, eqb, Option, Some, None, slice_get, MatchOption, refl, sym, subst, ap, ◌∙◌, arith}
+use Rattle.std.proofs.Common.{◌≡◌, ◌≢◌, ◌<◌, ℕ, suc, ◌+◌, ◌/◌, ◌%◌, List, [], ◌∷◌, ◌++◌, length, Bool, true, false, cond, eqb, Option, Some, None, slice_get, MatchOption, refl, sym, subst, ap, ◌∙◌, arith}
 use Rattle.op_table.specs.declared.names.Part.{Part}
 use Rattle.op_table.specs.declared.names.Part.TheVariants.{Nmos, Cmos}
 use Rattle.op_table.specs.declared.names.Mode.{Mode}
@@ -9,15 +9,14 @@ use Rattle.cpu_alu.specs.declared.Regs.{Regs}
 use Rattle.cpu_alu.specs.declared.Cycle.{Cycle}
 use Rattle.cpu_alu.specs.declared.Cycle.TheVariants.{Read, Write}
 use Rattle.cpu_alu.specs.declared.uses.BusUse.{BusUse}
-use Rattle.cpu_alu.specs.declared.uses.BusUse.TheVariants.{Implied, Shifts, Modifies, Pushes, Pulls, Branches, Jumps, Calls, Returns}
+use Rattle.cpu_alu.specs.declared.uses.BusUse.TheVariants.{Implied, Pushes, Pulls, Branches, Jumps, Calls, Returns}
 use Rattle.cpu_alu.specs.declared.flags.TheConstants.{INTERRUPT}
 use Rattle.cpu_alu.specs.Flags.{has_flag}
 use Rattle.cpu_alu.specs.Addresses.{word, wrap, place, stack, target, with_pc_past, with_stack_moved}
 use Rattle.cpu_alu.specs.Instructions.{bus_use, takes_branch, pushed_value, modify_result, implied_result, pull_result}
-use Rattle.cpu_core.specs.declared.Sequence.TheVariants.{Instruction}
 use Rattle.cpu_core.specs.Accesses.{byte, by_part, row_at, idle, with_low, second, through, branch_form, jump_form, implied_form, modify_form, operand, form}
-use Rattle.cpu_core.specs.Results.{after_row, indirect_target, jump_target}
-use Rattle.cpu_core.specs.Sequences.{next_cycle, shown_byte, after, fresh}
+use Rattle.cpu_core.specs.Results.{after_row, jump_target}
+use Rattle.cpu_core.specs.Sequences.{shown_byte}
 use Rattle.cpu_whole.specs.Whole.{Reach, IsPlain, IsDone, is_plain, shows, leaves}
 use Rattle.cpu_whole.specs.CodeWays.{Follows, IsModifying, IsPointer, moves_i, pulls_flags}
 use Rattle.cpu_whole.proofs.Cycles.{behind, next-row, from_fetch}

@@ -3,3 +3,4 @@ pub mod Operands
 pub mod Masks
 pub mod AtOperand
 pub mod Forms
+pub mod UsesTables

@@ -1,12 +1,12 @@
 -- The ways to the operand, each straight from the definition's list of accesses.
-use Rattle.std.proofs.Common.{◌≡◌, ℕ, zero, suc, ◌+◌, ◌%◌, ◌||◌, List, [], ◌∷◌, ◌++◌, length, Bool, true, false, cond, Option, Some, None, slice_get, MatchOption, refl, sym, subst, ap, ◌∙◌, arith}
+use Rattle.std.proofs.Common.{◌≡◌, ℕ, suc, ◌+◌, ◌%◌, ◌||◌, List, [], ◌∷◌, ◌++◌, length, Bool, true, false, cond, Option, Some, slice_get, MatchOption, refl, sym, subst, ap}
 use Rattle.op_table.specs.declared.names.Part.{Part}
 use Rattle.op_table.specs.declared.names.Part.TheVariants.{Nmos, Cmos}
 use Rattle.op_table.specs.declared.names.Mode.{Mode}
 use Rattle.op_table.specs.declared.names.Mode.TheVariants.{Imp, Acc, Imm, Zp, ZpX, ZpY, Abs, AbsX, AbsY, IndX, IndY, IndZp, Rel, Ind, IndAbsX, Spare}
 use Rattle.cpu_alu.specs.declared.Regs.{Regs}
 use Rattle.cpu_alu.specs.declared.Cycle.{Cycle}
-use Rattle.cpu_alu.specs.declared.Cycle.TheVariants.{Read, Write}
+use Rattle.cpu_alu.specs.declared.Cycle.TheVariants.{Read}
 use Rattle.cpu_alu.specs.Addresses.{place, word, wrap, crosses_page}
 use Rattle.cpu_core.specs.Accesses.{idle, in_page}
 use Rattle.cpu_core.specs.Sequences.{shown_byte}

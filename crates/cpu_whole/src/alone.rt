@@ -78,7 +78,8 @@ pub(crate) fn accumulator<N, M: Plain<N>>(
     ensures few { result ≤ 8 }
 {
     r.move_past(row.bytes);
-    r.do_modify(row.mnemonic, Mode::Acc, 0);
+    let a = r.a;
+    operations::change(row.mnemonic, Mode::Acc, r, a);
     2
 }
 
@@ -313,8 +314,13 @@ pub(crate) fn jump<N, M: Plain<N>>(part: Part, row: Row, r: &mut Regs, memory: &
     ensures few { result ≤ 8 }
 {
     let high = memory.byte(r.place(2));
+    if (row.mode as u8) < Mode::Ind as u8 {
+        return match row.mode {
+            Mode::Abs => jump_to::<N, M>(part, row, r, memory, first, high),
+            _ => 0,
+        };
+    }
     match row.mode {
-        Mode::Abs => jump_to::<N, M>(part, row, r, memory, first, high),
         Mode::Ind => jump_through::<N, M>(part, row, r, memory, word(first, high)),
         Mode::IndAbsX => jump_through::<N, M>(
             part,

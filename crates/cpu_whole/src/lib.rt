@@ -6,6 +6,7 @@ mod at_once;
 mod operate;
 mod operations;
 mod plain;
+mod uses;
 mod ways;
 
 pub use at_once::whole;

@@ -116,7 +116,7 @@ pub(crate) fn change<N, M: Plain<N>>(
     }
     let byte = memory.byte(to.at);
     r.move_past(row.bytes);
-    let value = operations::change(row.mnemonic, r, byte);
+    let value = operations::change(row.mnemonic, row.mode, r, byte);
     memory.put(t, to.cycles + 2, to.at, value, notes);
     to.cycles + 3
 }

@@ -1,21 +1,52 @@
 //! Operations found by comparisons with the order of the mnemonics, each then by its own name: comparisons take less time than a jump through
 //! a table where the processor does not foresee such a jump, and a name that is a constant leaves the operation alone.
-ghost use Rattle.std.specs.Prelude.{◌≡◌};
-ghost use Rattle.cpu_alu.specs.Instructions.{bus_use, stored_value, pushed_value, takes_branch, read_result, modified_value, modify_result, implied_result, pull_result};
+ghost use Rattle.std.specs.Prelude.{◌≡◌, true, false};
+ghost use Rattle.cpu_alu.specs.Arithmetic.{adc, sbc};
+ghost use Rattle.cpu_alu.specs.Flags.{has_flag};
+ghost use Rattle.cpu_alu.specs.declared.flags.TheConstants.{CARRY};
+ghost use Rattle.cpu_whole.specs.CodeWays.{is_modifying};
+ghost use Rattle.cpu_alu.specs.Instructions.{bus_use, is_decimal, with_sum, stored_value, pushed_value, takes_branch, read_result, modified_value, modify_result, implied_result, pull_result};
 
-use cpu_alu::{BusUse, Regs};
+use cpu_alu::{BusUse, CARRY, NEGATIVE, OVERFLOW, Regs, Sum, ZERO, adc, has_flag, sbc, with_flag};
 use op_table::{Mnemonic, Mode, Part};
 
-/// What an instruction that reads the byte `m` makes of the registers, PC apart.
+/// A sum, with its flags.
+#[inline(always)]
+fn take_sum(r: &mut Regs, sum: Sum)
+    ensures { r.new ≡ with_sum r.old sum }
+{
+    r.a = sum.value;
+    let n_z = with_flag(with_flag(r.p, NEGATIVE, sum.n), ZERO, sum.z);
+    r.p = with_flag(with_flag(n_z, CARRY, sum.c), OVERFLOW, sum.v);
+}
+
+/// ADC of the byte `m` in binary.
+#[inline(always)]
+fn add(part: Part, r: &mut Regs, m: u8)
+    ensures { r.new ≡ with_sum r.old (adc part false r.old.a m (has_flag r.old.p CARRY)) }
+{
+    take_sum(r, adc(part, false, r.a, m, has_flag(r.p, CARRY)));
+}
+
+/// SBC of the byte `m` in binary.
+#[inline(always)]
+fn subtract(part: Part, r: &mut Regs, m: u8)
+    ensures { r.new ≡ with_sum r.old (sbc part false r.old.a m (has_flag r.old.p CARRY)) }
+{
+    take_sum(r, sbc(part, false, r.a, m, has_flag(r.p, CARRY)));
+}
+
+/// What an instruction that reads the byte `m` makes of the registers, PC apart. A sum or a difference is one in binary.
 #[inline(always)]
 pub(crate) fn read(part: Part, mnemonic: Mnemonic, mode: Mode, r: &mut Regs, m: u8)
-    requires { bus_use mnemonic ≡ BusUse.Reads }
+    requires uses { bus_use mnemonic ≡ BusUse.Reads }
+    requires binary { is_decimal mnemonic r.old ≡ false }
     ensures { r.new ≡ read_result part mnemonic mode r.old m }
 {
     if (mnemonic as u8) < Mnemonic::Lda as u8 {
         if (mnemonic as u8) < Mnemonic::Cmp as u8 {
             match mnemonic {
-                Mnemonic::Adc => r.do_read(part, Mnemonic::Adc, mode, m),
+                Mnemonic::Adc => add(part, r, m),
                 Mnemonic::And => r.do_read(part, Mnemonic::And, mode, m),
                 // Bit
                 _ => r.do_read(part, Mnemonic::Bit, mode, m),
@@ -41,7 +72,7 @@ pub(crate) fn read(part: Part, mnemonic: Mnemonic, mode: Mode, r: &mut Regs, m: 
         match mnemonic {
             Mnemonic::Ora => r.do_read(part, Mnemonic::Ora, mode, m),
             // Sbc
-            _ => r.do_read(part, Mnemonic::Sbc, mode, m),
+            _ => subtract(part, r, m),
         }
     }
 }
@@ -114,39 +145,41 @@ pub(crate) fn takes(branch: Mnemonic, r: &Regs) -> bool
 
 /// What a modify instruction makes of the byte `m` of the memory and, PC apart, of the registers, by its name.
 #[inline(always)]
-fn change_by(mnemonic: Mnemonic, r: &mut Regs, m: u8) -> u8
+fn change_by(mnemonic: Mnemonic, mode: Mode, r: &mut Regs, m: u8) -> u8
     ensures value { result ≡ modified_value mnemonic r.old m }
-    ensures regs { r.new ≡ modify_result mnemonic Mode.Zp r.old m }
+    ensures regs { r.new ≡ modify_result mnemonic mode r.old m }
 {
     let value = r.modified(mnemonic, m);
-    r.do_modify(mnemonic, Mode::Zp, m);
+    r.do_modify(mnemonic, mode, m);
     value
 }
 
 /// What a modify instruction makes of the byte `m` of the memory and, PC apart, of the registers.
 #[inline(always)]
-pub(crate) fn change(mnemonic: Mnemonic, r: &mut Regs, m: u8) -> u8
+pub(crate) fn change(mnemonic: Mnemonic, mode: Mode, r: &mut Regs, m: u8) -> u8
+    requires { is_modifying (bus_use mnemonic) ≡ true }
     ensures value { result ≡ modified_value mnemonic r.old m }
-    ensures regs { r.new ≡ modify_result mnemonic Mode.Zp r.old m }
+    ensures regs { r.new ≡ modify_result mnemonic mode r.old m }
 {
     if (mnemonic as u8) < Mnemonic::Lsr as u8 {
         match mnemonic {
-            Mnemonic::Inc => change_by(Mnemonic::Inc, r, m),
-            Mnemonic::Dec => change_by(Mnemonic::Dec, r, m),
+            Mnemonic::Inc => change_by(Mnemonic::Inc, mode, r, m),
+            Mnemonic::Dec => change_by(Mnemonic::Dec, mode, r, m),
             // Asl
-            _ => change_by(mnemonic, r, m),
+            _ => change_by(Mnemonic::Asl, mode, r, m),
         }
     } else if (mnemonic as u8) < Mnemonic::Ror as u8 {
         match mnemonic {
-            Mnemonic::Lsr => change_by(Mnemonic::Lsr, r, m),
-            Mnemonic::Rol => change_by(Mnemonic::Rol, r, m),
-            _ => change_by(mnemonic, r, m),
+            Mnemonic::Lsr => change_by(Mnemonic::Lsr, mode, r, m),
+            // Rol
+            _ => change_by(Mnemonic::Rol, mode, r, m),
         }
     } else {
         match mnemonic {
-            Mnemonic::Ror => change_by(Mnemonic::Ror, r, m),
-            // Trb, Tsb
-            _ => change_by(mnemonic, r, m),
+            Mnemonic::Ror => change_by(Mnemonic::Ror, mode, r, m),
+            Mnemonic::Trb => change_by(Mnemonic::Trb, mode, r, m),
+            // Tsb
+            _ => change_by(Mnemonic::Tsb, mode, r, m),
         }
     }
 }

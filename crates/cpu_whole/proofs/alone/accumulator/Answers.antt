@@ -1,8 +1,7 @@
-use Rattle.std.proofs.Common.{rules, ◌≡◌, ◌<◌, ◌+◌, ◌*◌, ◌/◌, ◌%◌, ◌∙◌, ℕ, Bool, true, false, eqb, ap, refl, subst, sym, arith}
+use Rattle.std.proofs.Common.{◌∙◌, ap}
 use Rattle.op_table.specs.declared.names.Mode.TheVariants.{Acc}
 use Rattle.cpu_alu.specs.Instructions.{modify_result}
 use Rattle.cpu_alu.specs.declared.Regs.{Regs}
-use Rattle.cpu_alu.specs.Addresses.{word, wrap, place, stack, target, with_pc_past, with_stack_moved}
 use Rattle.cpu_whole.proofs.Forms.{accumulator}
 use Rattle.cpu_whole.proofs.alone.accumulator.Goals as goal
 
@@ -13,5 +12,5 @@ returns-clause-done g c =
     let m = g.M.Plain.state c.args.memory.now in
     let r = c.args.r.now in
     let row = c.args.row in
-    accumulator reach t c.args.part row r m c.requires.runs.first c.requires.row c.args.always c.requires.uses c.requires.mode c.requires.runs.second _ 0
-    (c.do_modify.ensures ∙ ap (λ (q : Regs). modify_result row.mnemonic Acc q 0) c.move_past.ensures)
+    accumulator reach t c.args.part row r m c.requires.runs.first c.requires.row c.args.always c.requires.uses c.requires.mode c.requires.runs.second _ c.move_past.new.self.a
+    (c.change.ensures.regs ∙ ap (λ (q : Regs). modify_result row.mnemonic Acc q c.move_past.new.self.a) c.move_past.ensures)

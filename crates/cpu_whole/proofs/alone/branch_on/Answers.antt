@@ -1,9 +1,7 @@
-use Rattle.std.proofs.Common.{rules, ◌≡◌, ◌<◌, ◌+◌, ◌*◌, ◌/◌, ◌%◌, ◌∙◌, ℕ, Bool, true, false, eqb, ap, refl, subst, sym, arith}
-use Rattle.std.proofs.lemmas.Grind.{common_steps}
+use Rattle.std.proofs.Common.{rules, ◌≡◌, ◌+◌, ◌*◌, ◌/◌, ◌%◌, ◌∙◌, true, false, eqb, ap, arith}
 use Rattle.std.proofs.lemmas.Bool.Decides.{nat_tests}
-use Rattle.cpu_core.specs.Accesses.{idle, with_low}
-use Rattle.cpu_alu.specs.declared.Regs.{Regs}
-use Rattle.cpu_alu.specs.Addresses.{word, wrap, place, stack, target, with_pc_past, with_stack_moved}
+use Rattle.cpu_core.specs.Accesses.{idle}
+use Rattle.cpu_alu.specs.Addresses.{place, target}
 use Rattle.cpu_whole.proofs.Operands.{idle_read}
 use Rattle.cpu_whole.proofs.Forms.{branch_taken, branch_crossed}
 use Rattle.cpu_whole.proofs.alone.branch_on.Goals as goal

@@ -1,6 +1,6 @@
-use Rattle.std.proofs.Common.{rules, ◌≡◌, ◌<◌, ◌+◌, ◌*◌, ◌/◌, ◌%◌, ◌∙◌, ℕ, Bool, true, false, eqb, ap, refl, subst, sym, arith}
+use Rattle.std.proofs.Common.{◌≡◌, ◌/◌, ◌%◌, ◌∙◌, ℕ, ap, arith}
 use Rattle.cpu_alu.specs.declared.Regs.{Regs}
-use Rattle.cpu_alu.specs.Addresses.{word, wrap, place, stack, target, with_pc_past, with_stack_moved}
+use Rattle.cpu_alu.specs.Addresses.{word, place, stack, with_stack_moved}
 use Rattle.cpu_whole.proofs.Forms.{called}
 use Rattle.cpu_whole.proofs.alone.call.Goals as goal
 

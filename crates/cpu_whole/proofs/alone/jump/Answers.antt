@@ -1,6 +1,5 @@
-use Rattle.std.proofs.Common.{rules, ◌≡◌, ◌<◌, ◌+◌, ◌*◌, ◌/◌, ◌%◌, ◌∙◌, ℕ, Bool, true, false, eqb, ap, refl, subst, sym, arith}
-use Rattle.cpu_alu.specs.declared.Regs.{Regs}
-use Rattle.cpu_alu.specs.Addresses.{word, wrap, place, stack, target, with_pc_past, with_stack_moved}
+use Rattle.std.proofs.Common.{◌≡◌, ◌+◌, ◌∙◌, ap}
+use Rattle.cpu_alu.specs.Addresses.{word, wrap, place}
 use Rattle.cpu_whole.proofs.Forms.{pointer_absolute, pointer_with_x}
 use Rattle.cpu_whole.proofs.alone.jump.Goals as goal
 

@@ -1,7 +1,6 @@
-use Rattle.std.proofs.Common.{rules, ◌≡◌, ◌<◌, ◌+◌, ◌*◌, ◌/◌, ◌%◌, ◌∙◌, ℕ, Bool, true, false, eqb, ap, refl, subst, sym, arith}
+use Rattle.std.proofs.Common.{rules, ◌≡◌, ◌∙◌, true, ap, subst, sym}
 use Rattle.cpu_core.specs.Accesses.{by_part, second}
-use Rattle.cpu_alu.specs.declared.Regs.{Regs}
-use Rattle.cpu_alu.specs.Addresses.{word, wrap, place, stack, target, with_pc_past, with_stack_moved}
+use Rattle.cpu_alu.specs.Addresses.{word}
 use Rattle.cpu_whole.proofs.Forms.{jumped_through}
 use Rattle.cpu_whole.proofs.alone.jump_through.Goals as goal
 

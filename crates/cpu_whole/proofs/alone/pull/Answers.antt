@@ -1,8 +1,8 @@
-use Rattle.std.proofs.Common.{rules, ◌≡◌, ◌<◌, ◌+◌, ◌*◌, ◌/◌, ◌%◌, ◌∙◌, ℕ, Bool, true, false, eqb, ap, refl, subst, sym, arith}
+use Rattle.std.proofs.Common.{rules, ◌≡◌, ◌∙◌, false, ap}
 use Rattle.cpu_alu.specs.Instructions.{pull_result}
 use Rattle.cpu_whole.specs.CodeWays.{pulls_flags}
 use Rattle.cpu_alu.specs.declared.Regs.{Regs}
-use Rattle.cpu_alu.specs.Addresses.{word, wrap, place, stack, target, with_pc_past, with_stack_moved}
+use Rattle.cpu_alu.specs.Addresses.{stack, with_pc_past, with_stack_moved}
 use Rattle.cpu_whole.proofs.Forms.{pulled}
 use Rattle.cpu_whole.proofs.alone.pull.Goals as goal
 

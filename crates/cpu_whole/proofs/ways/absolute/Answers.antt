@@ -1,6 +1,6 @@
-use Rattle.std.proofs.Common.{◌≡◌, ◌+◌, ◌%◌, ◌||◌, ◌∙◌, ℕ, Bool, true, cond, ap, refl, subst, sym, arith}
+use Rattle.std.proofs.Common.{◌≡◌, refl}
 use Rattle.op_table.specs.declared.names.Mode.TheVariants.{Abs}
-use Rattle.cpu_alu.specs.Addresses.{word, wrap, place, crosses_page}
+use Rattle.cpu_alu.specs.Addresses.{word, place}
 use Rattle.cpu_whole.proofs.Operands.{reached_as, absolute}
 use Rattle.cpu_whole.proofs.ways.absolute.Goals as goal
 

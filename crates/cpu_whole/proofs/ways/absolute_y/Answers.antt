@@ -1,4 +1,4 @@
-use Rattle.std.proofs.Common.{◌≡◌, ◌+◌, ◌%◌, ◌||◌, ◌∙◌, ℕ, Bool, true, cond, ap, refl, subst, sym, arith}
+use Rattle.std.proofs.Common.{◌≡◌, ◌+◌, ◌||◌, ◌∙◌, Bool, cond, ap, refl, sym}
 use Rattle.op_table.specs.declared.names.Mode.TheVariants.{AbsY}
 use Rattle.cpu_alu.specs.Addresses.{word, wrap, place, crosses_page}
 use Rattle.cpu_whole.proofs.Operands.{reached_as, absolute_y}

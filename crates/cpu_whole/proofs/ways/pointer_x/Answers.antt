@@ -1,6 +1,6 @@
-use Rattle.std.proofs.Common.{◌≡◌, ◌+◌, ◌%◌, ◌||◌, ◌∙◌, ℕ, Bool, true, cond, ap, refl, subst, sym, arith}
+use Rattle.std.proofs.Common.{◌≡◌, ◌+◌, ◌%◌, ◌∙◌, ℕ, true, ap, refl, subst, sym, arith}
 use Rattle.op_table.specs.declared.names.Mode.TheVariants.{IndX}
-use Rattle.cpu_alu.specs.Addresses.{word, wrap, place, crosses_page}
+use Rattle.cpu_alu.specs.Addresses.{word, place}
 use Rattle.cpu_whole.proofs.Operands.{reached_as, idle_read, pointer_x}
 use Rattle.cpu_whole.proofs.ways.pointer_x.Goals as goal
 

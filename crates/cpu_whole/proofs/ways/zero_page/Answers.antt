@@ -1,6 +1,6 @@
-use Rattle.std.proofs.Common.{◌≡◌, ◌+◌, ◌%◌, ◌||◌, ◌∙◌, ℕ, Bool, true, cond, ap, refl, subst, sym, arith}
+use Rattle.std.proofs.Common.{◌≡◌, refl, sym}
 use Rattle.op_table.specs.declared.names.Mode.TheVariants.{Zp}
-use Rattle.cpu_alu.specs.Addresses.{word, wrap, place, crosses_page}
+use Rattle.cpu_alu.specs.Addresses.{place}
 use Rattle.cpu_whole.proofs.Operands.{reached_as, zero_page}
 use Rattle.cpu_whole.proofs.ways.zero_page.Goals as goal
 

@@ -1,6 +1,6 @@
-use Rattle.std.proofs.Common.{◌≡◌, ◌+◌, ◌%◌, ◌||◌, ◌∙◌, ℕ, Bool, true, cond, ap, refl, subst, sym, arith}
+use Rattle.std.proofs.Common.{◌≡◌, ◌+◌, ◌%◌, ◌∙◌, ℕ, true, ap, refl, subst, sym, arith}
 use Rattle.op_table.specs.declared.names.Mode.TheVariants.{ZpX}
-use Rattle.cpu_alu.specs.Addresses.{word, wrap, place, crosses_page}
+use Rattle.cpu_alu.specs.Addresses.{place}
 use Rattle.cpu_whole.proofs.Operands.{reached_as, idle_read, zero_page_x}
 use Rattle.cpu_whole.proofs.ways.zero_page_x.Goals as goal
 
