@@ -15,7 +15,8 @@ import textwrap
 TOP = os.path.dirname(os.path.dirname(os.path.realpath(__file__)))
 
 # The commands that take options, by the names of the table's fields.
-TAKERS = {"replay_host": "replay host", "replay_para": "replay para", "solo": "solo", "run": "run"}
+TAKERS = {"replay_host": "replay host", "replay_para": "replay para", "solo": "solo", "run": "run", "resume": "resume",
+          "follow_host": "follow host", "follow_para": "follow para"}
 
 # Each option: the name of its value, and what it is. The sixteen of paged ROMs are one.
 TEXTS = {
@@ -30,6 +31,9 @@ TEXTS = {
     "--keep": ("K", "how many accesses to the Tube the trace has at most; 1,048,576 without it"),
     "--speed": ("MHZ", "the second processor's clock; 3 without it"),
     "--wav": ("FILE", "what is heard of the sound chip, as a sound file"),
+    "--save": ("FILE", "the run as a session file, from which resume goes on"),
+    "--at": ("AAAA", "only instructions at this address"),
+    "--watch": ("AAAA", "only instructions in front of which the byte at this address changed"),
 }
 
 COMMANDS = [
@@ -40,6 +44,9 @@ COMMANDS = [
     ("replay para TRACE TICKS OUT [OPTION ..]", "runs the second processor alone against a trace"),
     ("solo TICKS OUT [OPTION ..]", "runs both machines on one thread"),
     ("run TICKS OUT [OPTION ..]", "runs both machines, each in a thread of its own"),
+    ("resume STATE TICKS OUT [OPTION ..]", "goes on with the run that a session file holds"),
+    ("follow host TRACE TICKS OUT [OPTION ..]", "lists the instructions that the BBC Micro carries out against a trace"),
+    ("follow para TRACE TICKS OUT [OPTION ..]", "lists those of the second processor"),
     ("gen SEED", "makes and runs a demonstration of a seed, a number below 2^64"),
 ]
 
@@ -48,9 +55,11 @@ OUTPUTS = [
     ("OUT.host, OUT.para", "the memories, 32,768 and 65,536 bytes"),
     ("OUT.d0, OUT.d1", "the discs, where drives have any"),
     ("OUT.000.ppm ..", "the frames that the shots of the key script took, 640 by 256"),
-    ("OUT.trace", "the Tube trace, of solo and run"),
+    ("OUT.trace", "the Tube trace, of solo, run and resume"),
     ("OUT.plug0, OUT.plug1", "what the plugged devices hold"),
     ("the FILE of --wav", "the sound: one channel of 16 bits, 31,250 samples a second"),
+    ("the FILE of --save", "the session: all images, the script, and the accesses to the Tube that are kept"),
+    ("OUT.list", "the listing, of follow: a line for each instruction, at most 1,048,576"),
 ]
 
 STATUSES = [
@@ -58,7 +67,7 @@ STATUSES = [
     (1, "usage: the words spell no command"),
     (2, "a file could not be read, or is too long"),
     (3, "an image has a wrong length"),
-    (4, "a trace, script or source is outside its form; the line is said"),
+    (4, "a trace, script, source or session file is outside its form; the line, or the byte, is said"),
     (5, "a file could not be written"),
     (6, "no thread could be started"),
     (7, "no memory"),
@@ -174,14 +183,14 @@ def completion_of(options):
         "# Made by docs/options.py. For bash: source tools/completion.bash",
         "_beebtube() {",
         "    local word=${COMP_WORDS[COMP_CWORD]} before=${COMP_WORDS[COMP_CWORD - 1]} command=${COMP_WORDS[1]:-} words=",
-        "    [ \"$command\" != replay ] || command=\"replay ${COMP_WORDS[2]:-}\"",
+        "    [[ $command != @(replay|follow) ]] || command=\"$command ${COMP_WORDS[2]:-}\"",
         "    COMPREPLY=()",
         "    if [ \"$COMP_CWORD\" -eq 1 ]; then",
         "        mapfile -t COMPREPLY < <(compgen -W '%s' -- \"$word\")" % " ".join(dict.fromkeys(words.split()[0] for words, _ in COMMANDS)),
         "        return",
         "    fi",
         "    case $before in",
-        "        replay) words='host para' ;;",
+        "        replay | follow) words='host para' ;;",
         "        asm | dis) words='6502 65c02' ;;",
     ]
     for option in options:

@@ -1,17 +1,17 @@
 # Made by docs/options.py. For bash: source tools/completion.bash
 _beebtube() {
     local word=${COMP_WORDS[COMP_CWORD]} before=${COMP_WORDS[COMP_CWORD - 1]} command=${COMP_WORDS[1]:-} words=
-    [ "$command" != replay ] || command="replay ${COMP_WORDS[2]:-}"
+    [[ $command != @(replay|follow) ]] || command="$command ${COMP_WORDS[2]:-}"
     COMPREPLY=()
     if [ "$COMP_CWORD" -eq 1 ]; then
-        mapfile -t COMPREPLY < <(compgen -W 'check asm dis replay solo run gen' -- "$word")
+        mapfile -t COMPREPLY < <(compgen -W 'check asm dis replay solo run resume follow gen' -- "$word")
         return
     fi
     case $before in
-        replay) words='host para' ;;
+        replay | follow) words='host para' ;;
         asm | dis) words='6502 65c02' ;;
         --speed) words='3 4' ;;
-        --plugs | --keep) return ;;
+        --plugs | --keep | --at | --watch) return ;;
     esac
     if [ -z "$words" ] && [ "${word:0:1}" = - ]; then
         case $command in
@@ -21,10 +21,15 @@ _beebtube() {
             'replay para') words='--tube --speed' ;;
             'solo') words='--os --tube --rom0 --rom1 --rom2 --rom3 --rom4 --rom5 --rom6 --rom7 --rom8 --rom9
                 --rom10 --rom11 --rom12 --rom13 --rom14 --rom15 --font --disc0 --disc1 --keys --plugs
-                --keep --speed --wav' ;;
+                --keep --speed --wav --save' ;;
             'run') words='--os --tube --rom0 --rom1 --rom2 --rom3 --rom4 --rom5 --rom6 --rom7 --rom8 --rom9
                 --rom10 --rom11 --rom12 --rom13 --rom14 --rom15 --font --disc0 --disc1 --keys --plugs
-                --keep --speed --wav' ;;
+                --keep --speed --wav --save' ;;
+            'resume') words='--keep --wav --save' ;;
+            'follow host') words='--os --rom0 --rom1 --rom2 --rom3 --rom4 --rom5 --rom6 --rom7 --rom8 --rom9 --rom10
+                --rom11 --rom12 --rom13 --rom14 --rom15 --font --disc0 --disc1 --keys --plugs --speed
+                --at --watch' ;;
+            'follow para') words='--tube --speed --at --watch' ;;
         esac
     fi
     if [ -n "$words" ]; then

@@ -1,9 +1,9 @@
 -- The headline follows from what `run` promises.
-use Rattle.std.proofs.Common.{◌≡◌, ◌∙◌, refl, ap, ℕ, Bool, true, false, List, [], Option, Some, None, Result, Ok, Err, IfSome, inl, inr, append-nil}
+use Rattle.std.proofs.Common.{◌≡◌, ◌∙◌, refl, ap, ℕ, true, List, [], Option, Some, None, Result, Ok, Err, IfSome, append-nil}
 use Rattle.beeb_files.specs.Files.{Files, say}
 use Rattle.beeb_words.specs.declared.keys.Slot.{Slot}
-use Rattle.beeb_words.specs.Command.{Command, check, asm, dis, replay, solo, run, gen}
-use Rattle.beeb_words.specs.Given.{Values, clock_of}
+use Rattle.beeb_words.specs.Command.{Command, check, asm, dis, replay, solo, run, resume, follow, gen}
+use Rattle.beeb_words.specs.Given.{Values, clock_of, save_of}
 use Rattle.beeb_words.specs.Keys.{keys}
 use Rattle.beeb_words.specs.Reads.{files_of}
 use Rattle.beeb_stages.specs.declared.stop.Stop.{Stop}
@@ -29,6 +29,7 @@ use Rattle.beeb_top.specs.Commands.{EndsWith}
 use Rattle.beeb_top.specs.Headline.{IsReferenceRun, Headline}
 use Rattle.power_on.specs.Inputs.{Inputs, inputs_of}
 use Rattle.power_on.specs.Machines.{machines_of}
+use Rattle.power_on.specs.Sessions.{begun_if}
 use Rattle.beeb_outcome.specs.Names.{names_of}
 use Rattle.cmd_pair.specs.Solo.{kept_verdict, solo_after}
 use Rattle.beeb_outcome.specs.Verdicts.{machine_verdict}
@@ -54,9 +55,9 @@ module _ (plugs : List Plug) (ticks keep : ℕ) (out : List ℕ) (given : Values
       HasPaired true old.crew new.crew → IsReferenceRun plugs ticks keep out given old new files
   unfolding solo_after kept_verdict machine_verdict
   is_reference files v is written said worked =
-      let run_of : HostState × ParaState → Verdict Ending = λ m. kept_verdict (clock_of given) ticks keep (names_of out given) (reference host_moves para_moves m.0 m.1 ticks) in
       let after : plans.Inputs Slot → Result (Verdict Ending) (Stop Cause) = λ list. or_stop (solo_after (setup_of given plugs) ticks keep (names_of out given) (inputs_of list)) in
       let got = read_ok (files_of keys given) files (read_all files (files_of keys given)) after v refl is in
+      let run_of : HostState × ParaState → Verdict Ending = λ m. kept_verdict (clock_of given) (begun_if (save_of given) (setup_of given plugs) (inputs_of got.0)) ticks keep (names_of out given) (reference host_moves para_moves m.0 m.1 ticks) in
       let made = machines_ok (setup_of given plugs) (inputs_of got.0) (machines_of (setup_of given plugs) (inputs_of got.0)) run_of v refl got.2 in
       record {
         inputs = got.0;
@@ -86,6 +87,8 @@ done_headline plugs (dis part image origin out) old new e = tt
 done_headline plugs (replay side trace ticks out given) old new e = tt
 done_headline plugs (solo ticks out keep given) old new e = tt
 done_headline plugs (run ticks out keep given) old new e = run_done plugs ticks keep out given old new e
+done_headline plugs (resume state ticks out keep given) old new e = tt
+done_headline plugs (follow side trace ticks out given) old new e = tt
 done_headline plugs (gen seed) old new e = tt
 
 pub headline : (plugs : List Plug) (c : Option Command) (old new : World) (status : Status) → IfSome c (λ command. EndsWith plugs command old new status) → status ≡ Done →

@@ -1,15 +1,15 @@
 -- The theorem of the sound file follows from what each command promises.
-use Rattle.std.proofs.Common.{◌≡◌, ◌∙◌, sym, refl, ap, subst, cond, ℕ, false, List, [], ◌∷◌, ◌++◌, map, length, Option, Some, None, Result, Ok, Err, IfSome, append_assoc}
+use Rattle.std.proofs.Common.{◌≡◌, ◌∙◌, sym, refl, ap, subst, cond, ℕ, Bool, true, false, take, unwrap_or, List, [], ◌∷◌, ◌++◌, map, length, Option, Some, None, Result, Ok, Err, IfSome}
 use Rattle.std.proofs.lemmas.List.{map-append}
-use Rattle.std.specs.Ordering.{nat_cmp}
-use Rattle.std.specs.Cmp.Lexicographic.{slice_cmp, nat_list_cmp_total}
+use Rattle.std.specs.Cmp.Lexicographic.{nat_list_cmp_total, bytes_decides, texts_ties}
 use Rattle.std.proofs.lemmas.Cmp.{eq_by_cmp_equiv}
 use Rattle.std.specs.FinMap.{get-insert}
+use Rattle.beeb_bits.specs.declared.clock.Clock.{Clock}
 use Rattle.beeb_bits.specs.declared.Side.TheVariants.{Host, Para}
 use Rattle.beeb_files.specs.Files.{Files, bytes_of, put}
 use Rattle.beeb_words.specs.declared.keys.Slot.{Slot}
-use Rattle.beeb_words.specs.Command.{Command, check, asm, dis, replay, solo, run, gen, is_paired}
-use Rattle.beeb_words.specs.Given.{Values, clock_of, wav_of}
+use Rattle.beeb_words.specs.Command.{Command, check, asm, dis, replay, solo, run, resume, follow, gen, is_paired}
+use Rattle.beeb_words.specs.Given.{Values, clock_of, save_of, wav_of}
 use Rattle.beeb_stages.specs.declared.stop.Stop.{Stop}
 use Rattle.beeb_stages.specs.declared.stop.Refusal.{Refusal}
 use Rattle.beeb_stages.specs.Plan as plans
@@ -35,20 +35,23 @@ use Rattle.para_mach.specs.Step.{para_moves}
 use Rattle.power_on.specs.Inputs.{Inputs, inputs_of}
 use Rattle.power_on.specs.Setup.{setup_of}
 use Rattle.power_on.specs.Machines.{machines_of}
+use Rattle.power_on.specs.Sessions.{setup_in, inputs_in, begun_if}
 use Rattle.beeb_outcome.specs.declared.output.Output.{Output}
-use Rattle.beeb_outcome.specs.declared.output.Output.TheVariants.{Report, Memory, Sound, Trace}
-use Rattle.beeb_outcome.specs.Names.{names_of}
+use Rattle.beeb_outcome.specs.declared.output.Output.TheVariants.{Report, Memory, Sound, Session, Trace}
+use Rattle.beeb_outcome.specs.Names.{Names, names_of}
 use Rattle.beeb_outcome.specs.Left.{Left}
 use Rattle.beeb_outcome.specs.Sound.{sound_bytes}
-use Rattle.beeb_outcome.specs.Files.{file_of}
+use Rattle.beeb_outcome.specs.Files.{file_of, own_name}
 use Rattle.beeb_outcome.specs.Outputs.{if_there, of_host, discs, shots, spills, machine_outputs}
 use Rattle.beeb_outcome.specs.Verdicts.{machine_verdict, both_left, host_left}
 use Rattle.cmd_replay.specs.Replay.{side_count, verdict_of_place, verdict_of_end, unless_wrong}
 use Rattle.cmd_replay.specs.Host.{host_of, host_ended, host_after}
-use Rattle.cmd_pair.specs.Solo.{kept_of, kept_verdict, solo_after}
+use Rattle.cmd_pair.specs.Solo.{kept_of, saved_file, kept_verdict, solo_after}
+use Rattle.cmd_session.specs.Session.{state_of, place_of, session_ended, session_after}
+use Rattle.save_state.specs.Saved as sessions
 use Rattle.beeb_top.specs.Plans.{plan}
 use Rattle.beeb_top.specs.Commands.{EndsWith, if_unpaired}
-use Rattle.beeb_top.specs.Heard.{WereRead, IsHeard, Heard, reference_host, replayed_host}
+use Rattle.beeb_top.specs.Heard.{WereRead, IsHeard, Heard, reference_host, replayed_host, session_host}
 use Rattle.beeb_top.proofs.HeadlineLemmas.{read_ok}
 
 -- ---- what is put last
@@ -59,50 +62,63 @@ last_put name bytes (Some files) =
     get-insert nat_list_cmp_total files name bytes name
     ∙ ap (λ b. cond b (Some bytes) (bytes_of files name)) ((eq_by_cmp_equiv nat_list_cmp_total).refl name)
 
+cond_other : {A : Type 0} (t : Bool) (x y : A) → (t ≡ true → ⊥) → cond t x y ≡ y
+cond_other true x y differ = absurd (differ refl)
+cond_other false x y differ = refl
+
+-- what is put under another name leaves this one
+other_put : (other name put_bytes bytes : List ℕ) (files : Option Files) → (other ≡ name → ⊥) → IfSome files (λ now. bytes_of now name ≡ Some bytes) →
+    IfSome (put other put_bytes files) (λ now. bytes_of now name ≡ Some bytes)
+other_put other name put_bytes bytes None differ is = tt
+other_put other name put_bytes bytes (Some files) differ is =
+    get-insert nat_list_cmp_total files other put_bytes name
+    ∙ cond_other _ (Some put_bytes) (bytes_of files name) (λ h. differ (sym ((bytes_decides name other).0 (texts_ties name other ∙ h))))
+    ∙ is
+
 put_behind : (fs gs : List (List ℕ × List ℕ)) (files : Option Files) → put_all (fs ++ gs) files ≡ put_all gs (put_all fs files)
 put_behind [] gs files = refl
 put_behind (f ∷ fs) gs files = put_behind fs gs (put f.0 f.1 files)
 
--- a list has this last
-record EndsIn {A : Type 0} (x : A) (xs : List A) : Type 0 where
-  front : List A
-  is : xs ≡ front ++ x ∷ []
-
-behind : {A : Type 0} (x : A) (ys xs : List A) → EndsIn x xs → EndsIn x (ys ++ xs)
-behind x ys xs e = record { front = ys ++ e.front; is = ap (λ l. ys ++ l) e.is ∙ sym (append_assoc ys e.front (x ∷ [])) }
-
-mapped : (f : Output → List ℕ × List ℕ) (x : Output) (xs : List Output) → EndsIn x xs → EndsIn (f x) (map f xs)
-mapped f x xs e = record { front = map f e.front; is = ap (map f) e.is ∙ map-append f e.front (x ∷ []) }
-
-put_last : (name bytes : List ℕ) (fs : List (List ℕ × List ℕ)) (old new : Option Files) → EndsIn (name, bytes) fs → new ≡ put_all fs old →
-    IfSome new (λ files. bytes_of files name ≡ Some bytes)
-put_last name bytes fs old new e is =
-    let whole : new ≡ put name bytes (put_all e.front old) = is ∙ ap (λ l. put_all l old) e.is ∙ put_behind e.front ((name, bytes) ∷ []) old in
-    subst (λ o. IfSome o (λ files. bytes_of files name ≡ Some bytes)) (sym whole) (last_put name bytes (put_all e.front old))
-
 -- ---- what machines leave
 
-one_output : (o : Option (List ℕ)) (name : List ℕ) → o ≡ Some name → EndsIn Sound (if_there Sound o)
-one_output o name is = rw is (record { front = []; is = refl })
-
-outputs_end : (l : Left) (name : List ℕ) → l.names.wav ≡ Some name → EndsIn Sound (machine_outputs l)
-unfolding machine_outputs
-outputs_end l name is =
-    let front : List Output = Report ∷ (if_there (Memory Host) l.host ++ if_there (Memory Para) l.para ++ of_host discs l.host ++ of_host shots l.host
-    ++ if_there Trace l.kept ++ of_host spills l.host) in
-    behind Sound front (if_there Sound l.names.wav) (one_output l.names.wav name is)
+-- what stands in front of the sound file
+front_of : Left → List Output
+front_of l =
+    Report ∷ (if_there (Memory Host) l.host ++ if_there (Memory Para) l.para ++ of_host discs l.host ++ of_host shots l.host
+    ++ if_there Trace l.kept ++ of_host spills l.host)
 
 sound_is : (l : Left) (s : HostState) (name : List ℕ) → l.host ≡ Some s → l.names.wav ≡ Some name → file_of l Sound ≡ (name, sound_bytes l.clock l.ticks s)
 sound_is l s name host wav = rw (host, wav) refl
 
-left_heard : (l : Left) (s : HostState) (name : List ℕ) (old new : Option Files) → l.host ≡ Some s → l.names.wav ≡ Some name →
+one_sound : (l : Left) (s : HostState) (name : List ℕ) (o : Option (List ℕ)) (files : Option Files) → l.host ≡ Some s → l.names.wav ≡ o → o ≡ Some name →
+    IfSome (put_all (map (file_of l) (if_there Sound o)) files) (λ now. bytes_of now name ≡ Some (sound_bytes l.clock l.ticks s))
+one_sound l s name None files host wav is = cc
+one_sound l s name (Some other) files host wav is =
+    subst (λ (f : List ℕ × List ℕ). IfSome (put f.0 f.1 files) (λ now. bytes_of now name ≡ Some (sound_bytes l.clock l.ticks s))) (sym (sound_is l s name host (wav ∙ is)))
+    (last_put name (sound_bytes l.clock l.ticks s) files)
+
+session_behind : (l : Left) (name bytes : List ℕ) (o : Option (List ℕ)) (files : Option Files) → l.names.save ≡ o → (o ≡ Some name → ⊥) →
+    IfSome files (λ now. bytes_of now name ≡ Some bytes) → IfSome (put_all (map (file_of l) (if_there Session o)) files) (λ now. bytes_of now name ≡ Some bytes)
+session_behind l name bytes None files save differ is = is
+session_behind l name bytes (Some other) files save differ is =
+    other_put (own_name l.names.save) name (unwrap_or l.saved []) bytes files (λ same. differ (ap Some (sym (ap own_name save) ∙ same))) is
+
+left_heard : (l : Left) (s : HostState) (name : List ℕ) (old new : Option Files) → l.host ≡ Some s → l.names.wav ≡ Some name → (l.names.save ≡ Some name → ⊥) →
     new ≡ put_all (machine_verdict l).files old → IfSome new (λ files. bytes_of files name ≡ Some (sound_bytes l.clock l.ticks s))
-unfolding machine_verdict
-left_heard l s name old new host wav is =
-    let last : EndsIn (name, sound_bytes l.clock l.ticks s) (map (file_of l) (machine_outputs l)) =
-    subst (λ f. EndsIn f (map (file_of l) (machine_outputs l))) (sound_is l s name host wav)
-    (mapped (file_of l) Sound (machine_outputs l) (outputs_end l name wav)) in
-    put_last name (sound_bytes l.clock l.ticks s) (map (file_of l) (machine_outputs l)) old new last is
+unfolding machine_verdict machine_outputs front_of
+left_heard l s name old new host wav differ is =
+    let f : Output → List ℕ × List ℕ = file_of l in
+    let sound : List Output = if_there Sound l.names.wav in
+    let saved : List Output = if_there Session l.names.save in
+    let before : Option Files = put_all (map f (front_of l)) old in
+    let whole : new ≡ put_all (map f saved) (put_all (map f sound) before) =
+    is
+    ∙ ap (λ (fs : List (List ℕ × List ℕ)). put_all fs old) (map-append f (front_of l ++ sound) saved)
+    ∙ put_behind (map f (front_of l ++ sound)) (map f saved) old
+    ∙ ap (put_all (map f saved)) (ap (λ (fs : List (List ℕ × List ℕ)). put_all fs old) (map-append f (front_of l) sound) ∙ put_behind (map f (front_of l)) (map f sound) old) in
+    subst (λ (o : Option Files). IfSome o (λ files. bytes_of files name ≡ Some (sound_bytes l.clock l.ticks s))) (sym whole)
+    (session_behind l name (sound_bytes l.clock l.ticks s) l.names.save (put_all (map f sound) before) refl differ
+    (one_sound l s name l.names.wav before host refl wav))
 
 -- ---- what each command comes to
 
@@ -119,20 +135,72 @@ no_place : {S : Type 0} (done : S → Verdict Ending) (s : S) (place : Option (�
 no_place done s None is = refl
 no_place done s (Some place) is = cc
 
+stage_two : {A B : Type 0} (r : Result A (Refusal Cause)) (g : A → Result B (Refusal Cause)) (f : A → B → Verdict Ending) (v : Verdict Ending) →
+    or_stop (r >>= λ x. g x >>= λ y. Ok (f x y)) ≡ Ok v → (x : A) × (y : B) × (r ≡ Ok x) × (g x ≡ Ok y) × (v ≡ f x y)
+stage_two (Err e) g f v is = cc
+stage_two (Ok x) g f v is = let got = stage_ok (g x) (g x) (f x) v refl is in (x, got.0, refl, got.1, got.2)
+
+placed : {S : Type 0} (done : S → Verdict Ending) (s : S) (place : Option (ℕ × Option Doing)) (w : Option (ℕ × ℕ)) (v : Verdict Ending) →
+    v ≡ unless_wrong w (verdict_of_place done s place) → endings.Done ≡ v.ending → v ≡ done s
+placed done s place w v is ends =
+    let fine : endings.Done ≡ (unless_wrong w (verdict_of_place done s place)).ending = ends ∙ ap (λ (x : Verdict Ending). x.ending) is in
+    let right = right_trace w (verdict_of_place done s place) fine in
+    is ∙ right ∙ no_place done s place (fine ∙ ap (λ (x : Verdict Ending). x.ending) right)
+
+-- a session that ended as it was asked: its machines' reference run
+pub session_done : (plugs : List Plug) (ticks keep : ℕ) (names : Names) (i : Inputs) (v : Verdict Ending) → or_stop (session_after plugs ticks keep names i) ≡ Ok v → endings.Done ≡ v.ending →
+    (s : sessions.Session) × (m : HostState × ParaState) × (state_of i.state ≡ Ok s) × (machines_of (setup_in s plugs) (inputs_in s) ≡ Ok m)
+    × (v ≡ kept_verdict s.clock (begun_if names.save (setup_in s plugs) (inputs_in s)) ticks keep names (reference host_moves para_moves m.0 m.1 ticks))
+unfolding session_after session_ended
+session_done plugs ticks keep names i v comes done =
+    let got = stage_two (state_of i.state) (λ s. machines_of (setup_in s plugs) (inputs_in s))
+    (λ s m. unless_wrong (wrong s.entries) (session_ended plugs ticks keep names s m)) v comes in
+    let s : sessions.Session = got.0 in
+    let m : HostState × ParaState = got.1 in (
+      s,
+      m,
+      got.2,
+      got.3,
+      placed (kept_verdict s.clock (begun_if names.save (setup_in s plugs) (inputs_in s)) ticks keep names) (reference host_moves para_moves m.0 m.1 ticks)
+          (place_of s ticks m) (wrong s.entries) v got.4 done,
+    )
+
 module _ (plugs : List Plug) (ticks : ℕ) (out : List ℕ) (given : Values) (name : List ℕ) (wav : wav_of given ≡ Some name) (i : Inputs) (v : Verdict Ending) (old new : Option Files) (is : new ≡ put_all v.files old) where
-  abbrev Hears : Result HostState (Refusal Cause) → Type 0
-  Hears host = (last : HostState) × (host ≡ Ok last) × IfSome new (λ files. bytes_of files name ≡ Some (sound_bytes (clock_of given) ticks last))
+  abbrev Hears : Result (Clock × HostState) (Refusal Cause) → Type 0
+  Hears host =
+      (clock : Clock) × (last : HostState) × (host ≡ Ok (clock, last)) × ((save_of given ≡ Some name → ⊥) → IfSome new (λ files. bytes_of files name ≡ Some (sound_bytes clock ticks last)))
 
   run_heard : (keep : ℕ) → or_stop (solo_after (setup_of given plugs) ticks keep (names_of out given) i) ≡ Ok v → Hears (reference_host plugs ticks given i)
   unfolding solo_after kept_verdict
   run_heard keep comes =
+      let begun : Option sessions.Session = begun_if (save_of given) (setup_of given plugs) i in
       let got = stage_ok (machines_of (setup_of given plugs) i) (machines_of (setup_of given plugs) i)
-      (λ m. kept_verdict (clock_of given) ticks keep (names_of out given) (reference host_moves para_moves m.0 m.1 ticks)) v refl comes in
+      (λ m. kept_verdict (clock_of given) begun ticks keep (names_of out given) (reference host_moves para_moves m.0 m.1 ticks)) v refl comes in
       let w : Worlds HostState ParaState = reference host_moves para_moves got.0.0 got.0.1 ticks in (
+        clock_of given,
         w.host,
-        ap (λ (r : Result (HostState × ParaState) (Refusal Cause)). r >>= λ m. Ok (reference host_moves para_moves m.0 m.1 ticks).host) got.1,
-        left_heard (both_left (clock_of given) ticks (length (accesses w.list)) (names_of out given) w.host w.para (kept_of (clock_of given) keep w.list))
-            w.host name old new refl wav (is ∙ ap (λ (x : Verdict Ending). put_all x.files old) got.2),
+        ap (λ (r : Result (HostState × ParaState) (Refusal Cause)). r >>= λ m. Ok (clock_of given, (reference host_moves para_moves m.0 m.1 ticks).host)) got.1,
+        λ differ.
+            left_heard (both_left (clock_of given) ticks (length (accesses w.list)) (names_of out given) w.host w.para (kept_of (clock_of given) (take keep (accesses w.list)))
+            (saved_file begun ticks keep w.list))
+            w.host name old new refl wav differ (is ∙ ap (λ (x : Verdict Ending). put_all x.files old) got.2),
+      )
+
+  session_heard : (keep : ℕ) → or_stop (session_after plugs ticks keep (names_of out given) i) ≡ Ok v → endings.Done ≡ v.ending → Hears (session_host plugs ticks i)
+  unfolding kept_verdict
+  session_heard keep comes done =
+      let got = session_done plugs ticks keep (names_of out given) i v comes done in
+      let s : sessions.Session = got.0 in
+      let begun : Option sessions.Session = begun_if (save_of given) (setup_in s plugs) (inputs_in s) in
+      let w : Worlds HostState ParaState = reference host_moves para_moves got.1.0 got.1.1 ticks in (
+        s.clock,
+        w.host,
+        ap (λ (r : Result sessions.Session (Refusal Cause)). r >>= λ s. machines_of (setup_in s plugs) (inputs_in s) >>= λ m. Ok (s.clock, (reference host_moves para_moves m.0 m.1 ticks).host)) got.2
+            ∙ ap (λ (r : Result (HostState × ParaState) (Refusal Cause)). r >>= λ m. Ok (s.clock, (reference host_moves para_moves m.0 m.1 ticks).host)) got.3,
+        λ differ.
+            left_heard (both_left s.clock ticks (length (accesses w.list)) (names_of out given) w.host w.para (kept_of s.clock (take keep (accesses w.list)))
+            (saved_file begun ticks keep w.list))
+            w.host name old new refl wav differ (is ∙ ap (λ (x : Verdict Ending). put_all x.files old) got.4),
       )
 
   replay_heard : or_stop (host_after (setup_of given plugs) ticks (names_of out given) i) ≡ Ok v → endings.Done ≡ v.ending → Hears (replayed_host plugs ticks given i)
@@ -142,14 +210,13 @@ module _ (plugs : List Plug) (ticks : ℕ) (out : List ℕ) (given : Values) (na
       let after : List Entry → HostState → Verdict Ending = λ entries s. machine_verdict (left (side_count Host ticks entries) s) in
       let whole : List Entry × HostState → Verdict Ending = λ m. unless_wrong (wrong m.0) (verdict_of_end (after m.0) (replay_of host_moves Host m.0 ticks m.1)) in
       let got = stage_ok (host_of (setup_of given plugs) i) (host_of (setup_of given plugs) i) whole v refl comes in
-      let e : Ended HostState = replay_of host_moves Host got.0.0 ticks got.0.1 in
-      let fine : endings.Done ≡ (whole got.0).ending = done ∙ ap (λ (x : Verdict Ending). x.ending) got.2 in
-      let right = right_trace (wrong got.0.0) (verdict_of_end (after got.0.0) e) fine in
-      let there = no_place (after got.0.0) e.machine e.place (fine ∙ ap (λ (x : Verdict Ending). x.ending) right) in (
+      let e : Ended HostState = replay_of host_moves Host got.0.0 ticks got.0.1 in (
+        clock_of given,
         e.machine,
-        ap (λ (r : Result (List Entry × HostState) (Refusal Cause)). r >>= λ m. Ok (replay_of host_moves Host m.0 ticks m.1).machine) got.1,
-        left_heard (left (side_count Host ticks got.0.0) e.machine) e.machine name old new refl wav
-            (is ∙ ap (λ (x : Verdict Ending). put_all x.files old) (got.2 ∙ right ∙ there)),
+        ap (λ (r : Result (List Entry × HostState) (Refusal Cause)). r >>= λ m. Ok (clock_of given, (replay_of host_moves Host m.0 ticks m.1).machine)) got.1,
+        λ differ.
+            left_heard (left (side_count Host ticks got.0.0) e.machine) e.machine name old new refl wav differ
+            (is ∙ ap (λ (x : Verdict Ending). put_all x.files old) (placed (after got.0.0) e.machine e.place (wrong got.0.0) v got.2 done)),
       )
 
 -- ---- from the promise of a command
@@ -172,21 +239,28 @@ module _ (plugs : List Plug) (old new : World) where
   solo_done ticks keep out given c = if_name (wav_of given) _ (λ name wav.
       let got = was_read (plan plugs (solo ticks out keep given)) old.shelf.files c.ends.0 c.ends.1.0 in
       let heard = run_heard plugs ticks out given name wav (inputs_of got.0) c.ends.0 old.outlet.files new.outlet.files c.ends.3.files keep got.2 in
-      record { inputs = got.0; read = got.1; last = heard.0; ended = heard.1; file = heard.2 })
+      record { inputs = got.0; read = got.1; clock = heard.0; last = heard.1; ended = heard.2; file = heard.3 })
 
   run_done : (ticks keep : ℕ) (out : List ℕ) (given : Values) → Ends (run ticks out keep given) →
       IfSome (wav_of given) (IsHeard (run ticks out keep given) given (reference_host plugs ticks given) old new)
   run_done ticks keep out given c = if_name (wav_of given) _ (λ name wav.
       let got = was_read (plan plugs (run ticks out keep given)) old.shelf.files c.ends.0 c.ends.1.0 in
       let heard = run_heard plugs ticks out given name wav (inputs_of got.0) c.ends.0 old.outlet.files new.outlet.files c.ends.3.files keep got.2 in
-      record { inputs = got.0; read = got.1; last = heard.0; ended = heard.1; file = heard.2 })
+      record { inputs = got.0; read = got.1; clock = heard.0; last = heard.1; ended = heard.2; file = heard.3 })
+
+  resume_done : (state : List ℕ) (ticks keep : ℕ) (out : List ℕ) (given : Values) → Ends (resume state ticks out keep given) →
+      IfSome (wav_of given) (IsHeard (resume state ticks out keep given) given (session_host plugs ticks) old new)
+  resume_done state ticks keep out given c = if_name (wav_of given) _ (λ name wav.
+      let got = was_read (plan plugs (resume state ticks out keep given)) old.shelf.files c.ends.0 c.ends.1.0 in
+      let heard = session_heard plugs ticks out given name wav (inputs_of got.0) c.ends.0 old.outlet.files new.outlet.files c.ends.3.files keep got.2 c.ends.2 in
+      record { inputs = got.0; read = got.1; clock = heard.0; last = heard.1; ended = heard.2; file = heard.3 })
 
   replay_done : (ticks : ℕ) (trace out : List ℕ) (given : Values) → Ends (replay Host trace ticks out given) →
       IfSome (wav_of given) (IsHeard (replay Host trace ticks out given) given (replayed_host plugs ticks given) old new)
   replay_done ticks trace out given c = if_name (wav_of given) _ (λ name wav.
       let got = was_read (plan plugs (replay Host trace ticks out given)) old.shelf.files c.ends.0 c.ends.1.0 in
       let heard = replay_heard plugs ticks out given name wav (inputs_of got.0) c.ends.0 old.outlet.files new.outlet.files c.ends.3.files got.2 c.ends.2 in
-      record { inputs = got.0; read = got.1; last = heard.0; ended = heard.1; file = heard.2 })
+      record { inputs = got.0; read = got.1; clock = heard.0; last = heard.1; ended = heard.2; file = heard.3 })
 
 done_heard : (plugs : List Plug) (c : Command) (old new : World) → EndsWith plugs c old new Done → Heard plugs (Some c) old new
 unfolding EndsWith Heard
@@ -197,6 +271,8 @@ done_heard plugs (replay Host trace ticks out given) old new e = replay_done plu
 done_heard plugs (replay Para trace ticks out given) old new e = tt
 done_heard plugs (solo ticks out keep given) old new e = solo_done plugs old new ticks keep out given e
 done_heard plugs (run ticks out keep given) old new e = run_done plugs old new ticks keep out given e
+done_heard plugs (resume state ticks out keep given) old new e = resume_done plugs old new state ticks keep out given e
+done_heard plugs (follow side trace ticks out given) old new e = tt
 done_heard plugs (gen seed) old new e = tt
 
 -- a command that was carried out as its status says

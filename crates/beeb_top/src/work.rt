@@ -11,18 +11,21 @@ ghost use Rattle.power_on.specs.Inputs.{inputs_of};
 ghost use Rattle.power_on.specs.Setup.{setup_of};
 ghost use Rattle.power_on.specs.View.{seen_inputs, seen_setup};
 ghost use Rattle.beeb_outcome.specs.View.{names_seen, verdict_of};
-ghost use Rattle.beeb_top.specs.Plans.{replay_after, after};
+ghost use Rattle.beeb_top.specs.Plans.{replay_after, choice_of, follow_after, after};
 
 use beeb_bits::Side;
 use beeb_files::Crew;
 use beeb_outcome::{Names, Outcome};
 use beeb_stages::{Refusal, Stop};
 use beeb_status::Cause;
-use beeb_words::{Command, Slot};
+use beeb_words::{Command, Given, Slot};
 use bus_plug::BusDevice;
+use cmd_follow::{follow_host, follow_para};
 use cmd_pair::{gen_outcome, run_outcome, solo_outcome};
 use cmd_replay::{host_outcome, para_outcome};
+use cmd_session::session_outcome;
 use cmd_tools::{asm_outcome, check_outcome, dis_outcome};
+use follow::Choice;
 use power_on::{Inputs, Setup};
 use std::alloc::Global;
 use std::sync::Wait;
@@ -47,6 +50,37 @@ fn replay_outcome<'a, D: BusDevice>(
     match side {
         Side::Host => host_outcome(alloc, setup, ticks, names, inputs),
         Side::Para => para_outcome(alloc, setup.clock, ticks, names, inputs),
+    }
+}
+
+// Which instructions are listed.
+fn choice_of(given: &Given<'_>) -> Choice
+    ensures { result ≡ choice_of (seen_given given.now) }
+{
+    Choice {
+        at: given.at(),
+        watch: given.watch(),
+    }
+}
+
+// What comes of a replay of a side whose instructions are listed, by what the words say of the machines.
+fn follow_outcome<'a, D: BusDevice>(
+    alloc: Global,
+    side: Side,
+    ticks: u64,
+    choice: Choice,
+    out: &'a str,
+    setup: Setup<D>,
+    inputs: Inputs,
+) -> Result<Outcome<'a, D>, Refusal<Cause>>
+    requires ticks { ticks ≤ MOST }
+    requires slots { All (λ slot. slot.0 < 16) inputs.roms.items }
+    ensures { let after = follow_after (seen_setup D.plug setup) side ticks choice out.now (seen_inputs inputs) in
+        Gives (verdict_of D.plug) result after }
+{
+    match side {
+        Side::Host => follow_host(alloc, setup, ticks, choice, out, inputs),
+        Side::Para => follow_para(alloc, setup.clock, ticks, choice, out, inputs),
     }
 }
 
@@ -93,6 +127,27 @@ pub(crate) fn single_outcome<'a, D: BusDevice>(
             let setup = Setup::of(&given, plugs);
             let names = Names::of(out, &given);
             solo_outcome(alloc, setup, ticks, keep, names, inputs)
+        }
+        Command::Resume {
+            ticks,
+            out,
+            keep,
+            given,
+            ..
+        } => {
+            let names = Names::of(out, &given);
+            session_outcome(alloc, ticks, keep, names, plugs, inputs)
+        }
+        Command::Follow {
+            side,
+            ticks,
+            out,
+            given,
+            ..
+        } => {
+            let choice = choice_of(&given);
+            let setup = Setup::of(&given, plugs);
+            follow_outcome(alloc, side, ticks, choice, out, setup, inputs)
         }
         Command::Gen { seed } => gen_outcome(alloc, seed),
         Command::Run { .. } => unreachable!(),

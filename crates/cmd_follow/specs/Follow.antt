@@ -29,7 +29,7 @@ use Rattle.cmd_replay.specs.Para.{para_of}
 
 -- `listed N of M` and a line feed
 unfoldable pub listed_text : ℕ → ℕ → List ℕ
-listed_text listed chosen = codes "listed " ++ decimal listed ++ codes " of " ++ decimal chosen ++ codes "\n"
+listed_text listed chosen = codes "listed " ++ (decimal listed ++ (codes " of " ++ (decimal chosen ++ codes "\n")))
 
 -- the file of the listing, and then how many lines it has, of how many starts that are chosen
 abbrev pub listed_verdict : List ℕ → ListingState → Verdict Ending

@@ -34,7 +34,16 @@ pub fn follow_host<'a, D: BusDevice>(
         Gives (verdict_of D.plug) result after }
 {
     let (entries, machine) = host_made(alloc, setup, inputs)?;
-    Ok(listed(alloc, machine, Part::Nmos, Side::Host, ticks, choice, out, &entries)?)
+    Ok(listed(
+        alloc,
+        machine,
+        Part::Nmos,
+        Side::Host,
+        ticks,
+        choice,
+        out,
+        &entries,
+    )?)
 }
 
 /// What comes of the second processor of this clock against the trace that was read, its instructions listed.
@@ -52,5 +61,14 @@ pub fn follow_para<'a, D: BusDevice>(
         Gives (verdict_of D.plug) result after }
 {
     let (entries, machine) = para_made(alloc, clock, inputs)?;
-    Ok(listed(alloc, machine, Part::Cmos, Side::Para, ticks, choice, out, &entries)?)
+    Ok(listed(
+        alloc,
+        machine,
+        Part::Cmos,
+        Side::Para,
+        ticks,
+        choice,
+        out,
+        &entries,
+    )?)
 }

@@ -21,7 +21,8 @@
 //!   its lines. `size NAME N` is its length, and `at NAME ADDRESS BYTES` are its bytes from an address on.
 //! - `trace`: the file `o.trace` becomes the file `t`, the chip gives all its answers, and the outputs are kept. `keep`: the outputs are
 //!   kept, and nothing else. `same NAME..`: these files are the same as in the outputs that were kept. `take NAME`: the file becomes the file
-//!   `t`.
+//!   `t`, and `back NAME` that of the outputs that were kept. `poke AT BYTE`: the byte at this place of `t` becomes another; `cut N`: `t` has its
+//!   first N bytes alone.
 ghost use Rattle.std.specs.Prelude.{◌≡◌, IfOk, string_bytes};
 
 use super::guests::devices;
@@ -175,7 +176,9 @@ impl Scene {
     ) -> Result<bool, Fail> {
         let (word, rest) = step.split_once(' ').unwrap_or((step, ""));
         match word {
-            "" | "#" | "##" | "ticks" | "plugs" | "fails" | "take" => self.lay(word, rest),
+            "" | "#" | "##" | "ticks" | "plugs" | "fails" | "take" | "back" | "poke" | "cut" => {
+                self.lay(word, rest)
+            }
             "t" | "keys" | "os" | "lang" | "dfs" | "tube" => self.lay_file(word, bytes),
             "run" => self.share(rt, step, &mut ThreadCrew::make()),
             "alone" => self.share(rt, rest, &mut FailCrew::make()),
@@ -196,6 +199,14 @@ impl Scene {
             "ticks" => self.t = trace(alloc, rest)?,
             "plugs" => self.plugs = rest.as_bytes().to_vec(alloc)?,
             "take" => self.t = self.out.file(rest).unwrap_or(b"nothing").to_vec(alloc)?,
+            "back" => self.t = self.kept.file(rest).unwrap_or(b"nothing").to_vec(alloc)?,
+            "poke" => {
+                let (at, byte) = rest.split_once(' ').unwrap_or((rest, ""));
+                if let Some(held) = self.t.get_mut(number(at) as usize) {
+                    *held = (hex(byte) % 256) as u8;
+                }
+            }
+            "cut" => self.t.truncate(number(rest) as usize),
             "fails" => {
                 let (get, put) = rest.split_once(' ').unwrap_or((rest, ""));
                 self.get_fails = calls_of(alloc, get)?;

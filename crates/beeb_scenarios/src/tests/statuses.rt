@@ -29,6 +29,7 @@ const TEXTS: &str = "\
 3 bad image image 65537
 4 bad script 258
 6 no thread
+4 bad state 18877
 ";
 
 fn image_status(at: usize) -> Status {
@@ -80,6 +81,7 @@ fn status(alloc: Global, at: usize) -> Result<Status, AllocError> {
         },
         17 => Status::BadScript { line: 258, kind: 3 },
         18 => Status::NoThread,
+        19 => Status::BadState { at: 18_877 },
         _ => image_status(at),
     })
 }

@@ -126,6 +126,59 @@ $ solo 7 o --os n --tube n --disc1 os
 $ solo 7 o --os n --tube n --plugs 0 --font os
 = 2 cannot read n
 ! solo 7 o --os n --tube n --plugs -1
+# Words of a session that goes on.
+$ resume n 1073741824 o
+= 2 cannot read n
+$ resume n 0 --keep 0 o --wav w --save s
+= 2 cannot read n
+$ resume --save s n --keep 4194304 7 o
+= 2 cannot read n
+! resume n 1073741825 o
+! resume n 07 o
+! resume '' 7 o
+! resume -n 7 o
+! resume n 7 ''
+! resume n 7
+! resume n 7 o more
+! resume n 7 o --keep 4194305
+! resume n 7 o --save
+! resume n 7 o --save ''
+! resume n 7 o --save -s
+! resume n 7 o --save a --save b
+! resume n 7 o --os os
+! resume n 7 o --tube tube
+! resume n 7 o --plugs 1
+! resume n 7 o --speed 3
+! resume n 7 o --at C000
+$ solo 7 o --os n --tube n --save s
+= 2 cannot read n
+! solo 7 o --os n --tube n --save ''
+! solo 7 o --os n --tube n --save s --save s
+! replay host t 7 o --os n --save s
+! gen 1 --save s
+# Words of a listing of instructions.
+$ follow host n 7 o --os rom --at C000 --watch 0070
+= 2 cannot read n
+$ follow para n 7 o --watch FFFF --tube rom --speed 4
+= 2 cannot read n
+$ follow host n 7 o --plugs 8 --os rom --font rom --disc0 d --keys k --rom15 r
+= 2 cannot read n
+! follow host n 7 o
+! follow para n 7 o --os rom
+! follow both n 7 o --os rom
+! follow host n 7 --os rom
+! follow host n 7 o more --os rom
+! follow host n 7 o --os rom --wav w
+! follow host n 7 o --os rom --save s
+! follow host n 7 o --os rom --keep 7
+! follow host n 7 o --os rom --at c000
+! follow host n 7 o --os rom --at C00
+! follow host n 7 o --os rom --at 0C000
+! follow host n 7 o --os rom --at
+! follow host n 7 o --os rom --at C000 --at C000
+! follow host n 7 o --os rom --watch 70
+! replay host n 7 o --os rom --at C000
+! solo 7 o --os n --tube n --watch 0070
 # Words of the demonstration.
 ! gen
 ! gen ''

@@ -1,5 +1,5 @@
 use Rattle.std.proofs.Common.{map, subst, true, Result}
-use Rattle.beeb_stages.specs.View.{Gives, seen_input}
+use Rattle.beeb_stages.specs.View.{seen_input}
 use Rattle.beeb_stages.specs.Plan.{Verdict}
 use Rattle.beeb_stages.specs.declared.stop.Refusal.{Refusal}
 use Rattle.beeb_status.specs.declared.status.Ending.{Ending}
@@ -7,14 +7,18 @@ use Rattle.beeb_status.specs.declared.status.Cause.{Cause}
 use Rattle.beeb_outcome.specs.View.{verdict_of}
 use Rattle.beeb_stages.specs.Stages.{Works}
 use Rattle.beeb_words.specs.Reads.{reads}
-use Rattle.beeb_words.specs.View.{seen_command, seen_given}
-use Rattle.beeb_top.proofs.SlotLemmas.{slots_below}
+use Rattle.beeb_words.specs.View.{seen_command}
+use Rattle.beeb_top.proofs.SlotLemmas.{slots_below, keys_short}
 use Rattle.beeb_top.proofs.WorkLemmas.{both_after}
 use Rattle.beeb_top.proofs.work.paired_outcome.Goals as goal
 
 pub run_outcome-requires-clause-slots : goal.run_outcome-requires-clause-slots
 run_outcome-requires-clause-slots g c κs within =
     slots_below (reads (seen_command c.args.command)) (map seen_input c.args.inputs.items) c.in_ok-inputs.inputs c.requires.inputs c.requires.within.roms c.in_ok-inputs.ensures
+
+pub run_outcome-requires-clause-keys : goal.run_outcome-requires-clause-keys
+run_outcome-requires-clause-keys g c κs within =
+    keys_short (seen_command c.args.command) (map seen_input c.args.inputs.items) c.in_ok-inputs.inputs c.requires.inputs c.in_ok-inputs.ensures
 
 pub returns-clause-works : goal.returns-clause-works
 returns-clause-works g c =

@@ -1,4 +1,4 @@
-use Rattle.std.proofs.Common.{map, subst, true, Result}
+use Rattle.std.proofs.Common.{map, subst, Result}
 use Rattle.beeb_stages.specs.View.{Gives, seen_input}
 use Rattle.beeb_stages.specs.Plan.{Verdict}
 use Rattle.beeb_stages.specs.declared.stop.Refusal.{Refusal}
@@ -10,8 +10,9 @@ use Rattle.beeb_words.specs.Reads.{reads}
 use Rattle.beeb_words.specs.View.{seen_command, seen_given}
 use Rattle.power_on.specs.Inputs.{Inputs}
 use Rattle.power_on.specs.Setup.{setup_of}
-use Rattle.beeb_top.specs.Plans.{replay_after}
-use Rattle.beeb_top.proofs.SlotLemmas.{slots_below}
+use Rattle.beeb_top.specs.Plans.{replay_after, choice_of, follow_after}
+use Rattle.cmd_session.specs.Session.{session_after}
+use Rattle.beeb_top.proofs.SlotLemmas.{slots_below, keys_short}
 use Rattle.beeb_top.proofs.WorkLemmas.{both_after}
 use Rattle.beeb_top.proofs.work.single_outcome.Goals as goal
 
@@ -21,6 +22,14 @@ replay_outcome-requires-clause-slots g c =
 
 pub solo_outcome-requires-clause-slots : goal.solo_outcome-requires-clause-slots
 solo_outcome-requires-clause-slots g c =
+    slots_below (reads (seen_command c.args.command)) (map seen_input c.args.inputs.items) c.in_ok-inputs.inputs c.requires.inputs c.requires.within.roms c.in_ok-inputs.ensures
+
+pub solo_outcome-requires-clause-keys : goal.solo_outcome-requires-clause-keys
+solo_outcome-requires-clause-keys g c =
+    keys_short (seen_command c.args.command) (map seen_input c.args.inputs.items) c.in_ok-inputs.inputs c.requires.inputs c.in_ok-inputs.ensures
+
+pub follow_outcome-requires-clause-slots : goal.follow_outcome-requires-clause-slots
+follow_outcome-requires-clause-slots g c =
     slots_below (reads (seen_command c.args.command)) (map seen_input c.args.inputs.items) c.in_ok-inputs.inputs c.requires.inputs c.requires.within.roms c.in_ok-inputs.ensures
 
 pub returns-in-Solo : goal.returns-in-Solo
@@ -37,3 +46,18 @@ returns-in-Replay g c =
     (replay_after (setup_of (seen_given c.in-Replay.given) (map g.D.BusDevice.plug c.args.plugs.items)) c.in-Replay.side c.in-Replay.ticks
     (names_of c.in-Replay.out.now (seen_given c.in-Replay.given)) i))
     c.in_ok-inputs.ensures (rw (c.of-setup.ensures, c.of-names.ensures) at c.replay_outcome.ensures))
+
+pub returns-in-Resume : goal.returns-in-Resume
+returns-in-Resume g c =
+    rw c.in-Resume.is
+    (subst (λ (i : Inputs). Gives (verdict_of g.D.BusDevice.plug) c.session_outcome.result
+    (session_after (map g.D.BusDevice.plug c.args.plugs.items) c.in-Resume.ticks c.in-Resume.keep (names_of c.in-Resume.out.now (seen_given c.in-Resume.given)) i))
+    c.in_ok-inputs.ensures (rw c.of-names-in-Resume.ensures at c.session_outcome.ensures))
+
+pub returns-in-Follow : goal.returns-in-Follow
+returns-in-Follow g c =
+    rw c.in-Follow.is
+    (subst (λ (i : Inputs). Gives (verdict_of g.D.BusDevice.plug) c.follow_outcome.result
+    (follow_after (setup_of (seen_given c.in-Follow.given) (map g.D.BusDevice.plug c.args.plugs.items)) c.in-Follow.side c.in-Follow.ticks
+    (choice_of (seen_given c.in-Follow.given)) c.in-Follow.out.now i))
+    c.in_ok-inputs.ensures (rw (c.of-setup-in-Follow.ensures, c.choice_of-choice.ensures) at c.follow_outcome.ensures))
