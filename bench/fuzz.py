@@ -329,6 +329,10 @@ def outputs_of(words, session, shots):
 Case = collections.namedtuple("Case", "kind words files more")
 
 
+# Ticks of a cycle, of the host or the second processor, with the second processor at 3 or 4 MHz.
+TICKS = {(True, 3): 3, (True, 4): 6, (False, 3): 2, (False, 4): 3}
+
+
 class Judge:
     """Calls the program in a folder of its own. What differs is raised as a text."""
 
@@ -490,6 +494,9 @@ class Judge:
                 self.good([b"replay", side, out + b".trace", b"%d" % words.alone["ticks"], b"played"] + options, "replay of the trace")
                 if content(b"played" + taken, CAP) != content(out + taken, CAP):
                     raise Differs("replay: another memory of %s" % taker)
+                if words.alone["ticks"] <= 60000:
+                    options = [part for option, value in words.values.items() if "follow " + side.decode() in OPTIONS[option][0] for part in (option.encode(), value)]
+                    self.look_at_all([b"replay", side, out + b".trace", b"%d" % words.alone["ticks"], b"played"] + options, wanted.session.clock)
 
     def look_at_saved(self, case, words, session, tube):
         """The session file that a run wrote: its bytes, and for a share of runs what comes of it when it is taken up again below, at and above its
@@ -587,15 +594,22 @@ class Judge:
         if fault:
             raise Differs("listing: %s" % fault)
         choices = {option: int(words.values[option], 16) for option in ("--at", "--watch") if option in words.values}
-        every = found
+        every = self.look_at_all(played, words.number_of("--speed", 3))
         if choices:
-            all_of = [b"follow" if place == 0 else b"whole" if place == 4 else word for place, word in enumerate(played)]
-            every = self.listed(self.good(all_of, "follow of all"), content(b"whole.list", 2**30))
-        fault = listing.listing_fault(every, {(b"host", False): 3, (b"host", True): 6, (b"para", False): 2, (b"para", True): 3}[side, words.values.get("--speed") == b"4"], side == b"host")
+            self.look_at_choice(words, found, every, choices, played)
+        elif found != every:
+            raise Differs("listing: another one the second time")
+
+    def look_at_all(self, played, clock):
+        """The listing of all starts of what is replayed with these words."""
+        host = played[1] == b"host"
+        whole = [b"follow" if place == 0 else b"whole" if place == 4 else word for place, word in enumerate(played)]
+        every = self.listed(self.good(whole, "follow"), content(b"whole.list", 2**30))
+        fault = listing.form_fault(every, int(played[3])) or listing.listing_fault(every, TICKS[host, clock], host)
         if fault:
             raise Differs("listing: %s" % fault)
-        self.look_at_choice(words, found, every, choices, played)
-        self.look_at_starts(words, every, played)
+        self.look_at_starts(every, played, host)
+        return every
 
     def listed(self, said, text):
         lines = listing.lines_of(text)
@@ -631,9 +645,8 @@ class Judge:
                 if (before != here) != (every[place] in found):
                     raise Differs("choice: at %010X the byte was %02X and is %02X" % (every[place].tick, before, here))
 
-    def look_at_starts(self, words, every, played):
+    def look_at_starts(self, every, played, host):
         """Some lines are what a replay that ends there tells: registers, and bytes of memory as they are disassembled."""
-        host = words.alone["side"] == b"host"
         for place in sorted({0, 1, len(every) // 3, len(every) - 1}):
             if not 0 <= place < len(every):
                 continue

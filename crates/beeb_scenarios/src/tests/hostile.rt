@@ -148,6 +148,58 @@ run 6000000 demo --wav w --speed 4 --os os --rom15 lang --rom14 dfs --tube tube 
 = 5 cannot write w
 same demo.report demo.host demo.para demo.d0 demo.000.ppm demo.001.ppm demo.trace
 none w
+## Saved, and taken up again.
+fails - -
+run 3000000 demo --wav w --save s --os os --rom15 lang --rom14 dfs --tube tube --disc0 game.ssd --keys keys
+= 0
+keep
+fails - 8
+run 3000000 demo --wav w --save s --os os --rom15 lang --rom14 dfs --tube tube --disc0 game.ssd --keys keys
+= 5 cannot write s
+same demo.report demo.host demo.para demo.d0 demo.000.ppm demo.001.ppm demo.trace w
+none s
+fails 5 -
+run 3000000 demo --wav w --save s --os os --rom15 lang --rom14 dfs --tube tube --disc0 game.ssd --keys keys
+= 2 cannot read keys
+none demo.report demo.host demo.para demo.d0 demo.000.ppm demo.001.ppm demo.trace w s
+back s
+fails 0 -
+$ resume t 3000000 demo --wav w --save s
+= 2 cannot read t
+none demo.report demo.host demo.para demo.d0 demo.000.ppm demo.001.ppm demo.trace w s
+fails 1 9
+$ resume t 3000000 demo --wav w --save s
+= 0
+same demo.report demo.host demo.para demo.d0 demo.000.ppm demo.001.ppm demo.trace w s
+fails - 0
+$ resume t 3000000 demo --wav w --save s
+= 5 cannot write demo.report
+none demo.report demo.host demo.para demo.d0 demo.000.ppm demo.001.ppm demo.trace w s
+fails - 3
+$ resume t 3000000 demo --wav w --save s
+= 5 cannot write demo.d0
+same demo.report demo.host demo.para
+none demo.d0 demo.000.ppm demo.001.ppm demo.trace w s
+fails - 5
+$ resume t 3000000 demo --wav w --save s
+= 5 cannot write demo.001.ppm
+same demo.report demo.host demo.para demo.d0 demo.000.ppm
+none demo.001.ppm demo.trace w s
+fails - 6
+$ resume t 3000000 demo --wav w --save s
+= 5 cannot write demo.trace
+same demo.report demo.host demo.para demo.d0 demo.000.ppm demo.001.ppm
+none demo.trace w s
+fails - 7
+$ resume t 3000000 demo --wav w --save s
+= 5 cannot write w
+same demo.report demo.host demo.para demo.d0 demo.000.ppm demo.001.ppm demo.trace
+none w s
+fails - 8
+$ resume t 3000000 demo --wav w --save s
+= 5 cannot write s
+same demo.report demo.host demo.para demo.d0 demo.000.ppm demo.001.ppm demo.trace w
+none s
 ";
 
 const FILES: &str = "\
