@@ -10,3 +10,4 @@ mod nmos_6502;
 mod numbers;
 mod reports;
 mod shelves_and_crews;
+mod whole_instructions;

@@ -21,7 +21,7 @@ use Rattle.cpu_core.specs.Sequences.{next_cycle, shown_byte, after, fresh}
 use Rattle.cpu_whole.specs.Whole.{Reach, IsPlain, IsDone, is_plain, shows, leaves}
 use Rattle.cpu_whole.specs.CodeWays.{Follows, IsModifying, IsPointer, moves_i, pulls_flags}
 use Rattle.cpu_whole.proofs.Cycles.{behind, next-row, from_fetch}
-use Rattle.cpu_whole.proofs.Operations.{after-row, counted, step}
+use Rattle.cpu_whole.proofs.AtOperand.{after-row, counted, step}
 use Rattle.cpu_whole.proofs.Masks.{modify_kept, implied_kept, pull_kept}
 
 module _ {M : Type 0} (g : Reach M) (t : ℕ) (part : Part) (row : Row) (r : Regs) (m : M) (p : g.reads r.pc ≡ true) (decoded : row_at part (g.byte m r.pc) ≡ Some row) where

@@ -1,5 +1,6 @@
 pub mod Cycles
 pub mod Operands
 pub mod Masks
-pub mod Operations
+pub mod AtOperand
 pub mod Forms
+pub mod UsesTables

@@ -1,5 +1,5 @@
 -- The cycles of an instruction behind that of its opcode, and those before its operand.
-use Rattle.std.specs.Prelude.{◌≡◌, ℕ, zero, suc, Bool, true, false, List, [], ◌∷◌, ◌++◌, length, Option, Some, MatchOption, slice_get}
+use Rattle.std.specs.Prelude.{◌≡◌, ℕ, zero, suc, Bool, true, false, List, [], ◌∷◌, ◌++◌, length, Option, Some, None, MatchOption, slice_get}
 use Rattle.op_table.specs.declared.names.Part.{Part}
 use Rattle.op_table.specs.declared.names.Mode.{Mode}
 use Rattle.op_table.specs.declared.names.Mode.TheVariants.{Zp, ZpX, ZpY, Abs, AbsX, AbsY, IndX, IndY, IndZp}
@@ -8,12 +8,12 @@ use Rattle.op_table.specs.declared.names.Mnemonic.TheVariants.{Cli, Pla, Plx, Pl
 use Rattle.cpu_alu.specs.declared.Regs.{Regs}
 use Rattle.cpu_alu.specs.declared.Cycle.{Cycle}
 use Rattle.cpu_alu.specs.declared.uses.BusUse.{BusUse}
-use Rattle.cpu_alu.specs.declared.uses.BusUse.TheVariants.{Shifts, Modifies}
+use Rattle.cpu_alu.specs.declared.uses.BusUse.TheVariants.{Shifts, Modifies, Breaks}
 use Rattle.cpu_alu.specs.declared.Cycle.TheVariants.{Read}
 use Rattle.op_table.specs.declared.rows.Row.{Row}
 use Rattle.cpu_alu.specs.Addresses.{place, with_pc_past}
 use Rattle.cpu_alu.specs.Instructions.{bus_use, modify_result}
-use Rattle.cpu_core.specs.Accesses.{reach, address, operand, modify_form, form, jump_form, through}
+use Rattle.cpu_core.specs.Accesses.{row_at, reach, address, operand, modify_form, form, jump_form, through}
 use Rattle.cpu_core.specs.Results.{after_row, indirect_target, jump_target}
 use Rattle.cpu_core.specs.Sequences.{shown_byte}
 use Rattle.cpu_whole.specs.Whole.{Reach, is_plain, shows, leaves}
@@ -69,8 +69,15 @@ pulls_flags Plx = false
 pulls_flags Ply = false
 pulls_flags _ = true
 
+-- whether an instruction reads and writes back, or works on A
+abbrev pub is_modifying : BusUse → Bool
+is_modifying Shifts = true
+is_modifying Modifies = true
+is_modifying _ = false
+
 -- A row of an instruction that reads and writes back, or works on A: always says whether it takes its cycle for a carry also where there is none.
 pub record IsModifying (part : Part) (row : Row) (always : Bool) : Type 0 where
+  pub kind : is_modifying (bus_use row.mnemonic) ≡ true
   pub forms : (r : Regs) (f : List (Option ℕ)) → form part (bus_use row.mnemonic) row r f ≡ modify_form part row row.mode always r f
   pub results : (r : Regs) (f : List (Option ℕ)) → after_row part (bus_use row.mnemonic) row r f
       ≡ modify_result row.mnemonic row.mode (with_pc_past r row.bytes) (operand part row.mode always r f)
@@ -82,8 +89,10 @@ pub record IsPointer (part : Part) (way : Mode) {M : Type 0} (g : Reach M) (r : 
   pub targets : (f : List (Option ℕ)) → jump_target part way f ≡ indirect_target part f
   pub found : (f : List (Option ℕ)) → pointer (Some (g.byte m r.pc) ∷ Some (g.byte m (place r 1)) ∷ Some (g.byte m (place r 2)) ∷ f) ≡ at
 
--- whether an instruction reads and writes back, or works on A
-abbrev pub is_modifying : BusUse → Bool
-is_modifying Shifts = true
-is_modifying Modifies = true
-is_modifying _ = false
+-- how the instruction of an opcode uses the bus; an opcode without one counts as BRK
+abbrev pub uses_in : Option Row → BusUse
+uses_in None = Breaks
+uses_in (Some row) = bus_use row.mnemonic
+
+abbrev pub uses_at : Part → ℕ → BusUse
+uses_at part op = uses_in (row_at part op)

@@ -6,6 +6,7 @@ ghost use Rattle.cpu_core.specs.Accesses.{row_at, second};
 ghost use Rattle.cpu_whole.specs.Whole.{AreRead, IsDone};
 ghost use Rattle.cpu_whole.specs.CodeWays.{IsModifying, IsPointer, moves_i, pulls_flags};
 
+use crate::operations;
 use crate::plain::Plain;
 use crate::ways::{idles, low_byte};
 use cpu_alu::{BusUse, Regs, word, wrapping_sum};
@@ -53,7 +54,7 @@ pub(crate) fn implied<N, M: Plain<N>>(part: Part, row: Row, r: &mut Regs, memory
         Mode::Spare => 0,
         _ => {
             r.move_past(row.bytes);
-            r.do_implied(row.mnemonic);
+            operations::implied(row.mnemonic, r);
             2
         }
     }
@@ -77,7 +78,8 @@ pub(crate) fn accumulator<N, M: Plain<N>>(
     ensures few { result ≤ 8 }
 {
     r.move_past(row.bytes);
-    r.do_modify(row.mnemonic, Mode::Acc, 0);
+    let a = r.a;
+    operations::change(row.mnemonic, Mode::Acc, r, a);
     2
 }
 
@@ -123,7 +125,7 @@ pub(crate) fn branch<N, M: Plain<N>>(
     ensures still { result ≡ 0 → r.new ≡ r.old }
     ensures few { result ≤ 8 }
 {
-    if r.takes(row.mnemonic) {
+    if operations::takes(row.mnemonic, r) {
         return branch_on::<N, M>(part, row, r, memory, first);
     }
     r.move_past(2);
@@ -214,7 +216,7 @@ pub(crate) fn push<N, M: Plain<N>>(
     if !memory.writes(top, notes) {
         return 0;
     }
-    memory.put(t, 2, top, r.pushed(row.mnemonic), notes);
+    memory.put(t, 2, top, operations::pushed(row.mnemonic, r), notes);
     r.move_past(row.bytes);
     r.move_stack(255);
     3
@@ -236,7 +238,7 @@ pub(crate) fn pull<N, M: Plain<N>>(part: Part, row: Row, r: &mut Regs, memory: &
     let byte = low_byte::<N, M>(memory, r.stack(1));
     r.move_past(row.bytes);
     r.move_stack(1);
-    r.do_pull(row.mnemonic, byte);
+    operations::pull(row.mnemonic, r, byte);
     4
 }
 
@@ -312,8 +314,13 @@ pub(crate) fn jump<N, M: Plain<N>>(part: Part, row: Row, r: &mut Regs, memory: &
     ensures few { result ≤ 8 }
 {
     let high = memory.byte(r.place(2));
+    if (row.mode as u8) < Mode::Ind as u8 {
+        return match row.mode {
+            Mode::Abs => jump_to::<N, M>(part, row, r, memory, first, high),
+            _ => 0,
+        };
+    }
     match row.mode {
-        Mode::Abs => jump_to::<N, M>(part, row, r, memory, first, high),
         Mode::Ind => jump_through::<N, M>(part, row, r, memory, word(first, high)),
         Mode::IndAbsX => jump_through::<N, M>(
             part,

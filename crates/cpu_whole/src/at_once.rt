@@ -9,7 +9,8 @@ ghost use Rattle.cpu_whole.specs.CodeWays.{IsModifying, is_modifying};
 use crate::alone::{accumulator, branch, call, go_back, implied, jump, pull, push};
 use crate::operate::{change, load, store};
 use crate::plain::Plain;
-use cpu_alu::{BusUse, Regs, bus_use};
+use crate::uses::uses_at;
+use cpu_alu::{BusUse, Regs};
 use op_table::{Mode, Part, Row, cmos, nmos};
 
 /// The instruction of an opcode.
@@ -75,6 +76,7 @@ fn modify<N, M: Plain<N>>(
 fn carry_out<N, M: Plain<N>>(
     part: Part,
     row: Row,
+    uses: BusUse,
     r: &mut Regs,
     memory: &mut M,
     first: u8,
@@ -86,6 +88,7 @@ fn carry_out<N, M: Plain<N>>(
     requires runs { AreRead M.reach r.old.pc }
     requires first { first ≡ (M.reach).byte (M.state memory.old) (place r.old 1) }
     requires row { row_at part ((M.reach).byte (M.state memory.old) r.old.pc) ≡ Some row }
+    requires uses { bus_use row.mnemonic ≡ uses }
     ensures done { 0 < result → IsDone part M.reach t r.old (M.state memory.old) result r.new (M.state memory.new) }
     ensures still { result ≡ 0 → (r.new ≡ r.old) × (memory.new ≡ memory.old) × (notes.new ≡ notes.old) }
     ensures order { M.may_come (M.state memory.new) t result }
@@ -93,7 +96,6 @@ fn carry_out<N, M: Plain<N>>(
     ensures room { M.room notes.old ≤ M.room notes.new + result }
     ensures few { result ≤ 8 }
 {
-    let uses = bus_use(row.mnemonic);
     if (uses as u8) < BusUse::Shifts as u8 {
         match uses {
             BusUse::Reads => load::<N, M>(part, row, r, memory, first),
@@ -144,7 +146,7 @@ pub fn whole<N, M: Plain<N>>(part: Part, r: &mut Regs, memory: &mut M, t: u64, n
     let op = memory.byte(r.pc);
     let first = memory.byte(r.place(1));
     match row_at(part, op) {
-        Some(row) => carry_out::<N, M>(part, row, r, memory, first, t, notes),
+        Some(row) => carry_out::<N, M>(part, row, uses_at(part, op), r, memory, first, t, notes),
         None => 0,
     }
 }

@@ -4,7 +4,9 @@
 mod alone;
 mod at_once;
 mod operate;
+mod operations;
 mod plain;
+mod uses;
 mod ways;
 
 pub use at_once::whole;

@@ -6,6 +6,7 @@ ghost use Rattle.cpu_core.specs.Accesses.{row_at, waits, modify_form};
 ghost use Rattle.cpu_whole.specs.Whole.{AreRead, IsDone};
 ghost use Rattle.cpu_whole.specs.CodeWays.{IsModifying};
 
+use crate::operations;
 use crate::plain::Plain;
 use crate::ways::find;
 use cpu_alu::{BusUse, Regs};
@@ -34,7 +35,7 @@ pub(crate) fn load<N, M: Plain<N>>(part: Part, row: Row, r: &mut Regs, memory: &
     }
     let byte = memory.byte(to.at);
     r.move_past(row.bytes);
-    r.do_read(part, row.mnemonic, row.mode, byte);
+    operations::read(part, row.mnemonic, row.mode, r, byte);
     to.cycles + 1
 }
 
@@ -69,7 +70,13 @@ pub(crate) fn store<N, M: Plain<N>>(
     if !memory.writes(to.at, notes) {
         return 0;
     }
-    memory.put(t, to.cycles, to.at, r.stored(row.mnemonic), notes);
+    memory.put(
+        t,
+        to.cycles,
+        to.at,
+        operations::stored(row.mnemonic, r),
+        notes,
+    );
     r.move_past(row.bytes);
     to.cycles + 1
 }
@@ -108,14 +115,8 @@ pub(crate) fn change<N, M: Plain<N>>(
         return 0;
     }
     let byte = memory.byte(to.at);
-    memory.put(
-        t,
-        to.cycles + 2,
-        to.at,
-        r.modified(row.mnemonic, byte),
-        notes,
-    );
     r.move_past(row.bytes);
-    r.do_modify(row.mnemonic, row.mode, byte);
+    let value = operations::change(row.mnemonic, row.mode, r, byte);
+    memory.put(t, to.cycles + 2, to.at, value, notes);
     to.cycles + 3
 }

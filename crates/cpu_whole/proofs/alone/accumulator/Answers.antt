@@ -13,5 +13,5 @@ returns-clause-done g c =
     let m = g.M.Plain.state c.args.memory.now in
     let r = c.args.r.now in
     let row = c.args.row in
-    accumulator reach t c.args.part row r m c.requires.runs.first c.requires.row c.args.always c.requires.uses c.requires.mode c.requires.runs.second _ 0
-    (c.do_modify.ensures ∙ ap (λ (q : Regs). modify_result row.mnemonic Acc q 0) c.move_past.ensures)
+    accumulator reach t c.args.part row r m c.requires.runs.first c.requires.row c.args.always c.requires.uses c.requires.mode c.requires.runs.second _ c.move_past.new.self.a
+    (c.change.ensures.regs ∙ ap (λ (q : Regs). modify_result row.mnemonic Acc q c.move_past.new.self.a) c.move_past.ensures)

@@ -15,4 +15,4 @@ returns-in_default-clause-done g c =
     let row = c.args.row in
     let fixed : moves_i row.mnemonic ≡ false = search rules in
     implied reach t c.args.part row r m c.requires.runs.first c.requires.row c.requires.uses c.in_default.not-Spare fixed c.requires.runs.second _
-    (c.do_implied.ensures ∙ ap (implied_result row.mnemonic) c.move_past.ensures)
+    (c.implied.ensures ∙ ap (implied_result row.mnemonic) c.move_past.ensures)

@@ -16,5 +16,5 @@ returns-clause-done g c =
     let fixed : pulls_flags row.mnemonic ≡ false = search rules in
     let byte : c.low_byte-byte.result ≡ reach.byte m (stack r 1) = c.low_byte-byte.ensures.byte ∙ ap (reach.byte m) c.stack.ensures in
     pulled reach t c.args.part row r m c.requires.runs.first c.requires.row g.M.Plain.is_plain c.requires.uses fixed c.requires.runs.second _
-    (c.do_pull.ensures ∙ ap (λ (q : Regs). pull_result row.mnemonic q c.low_byte-byte.result) (c.move_stack.ensures ∙ ap (λ (q : Regs). with_stack_moved q 1) c.move_past.ensures)
+    (c.pull.ensures ∙ ap (λ (q : Regs). pull_result row.mnemonic q c.low_byte-byte.result) (c.move_stack.ensures ∙ ap (λ (q : Regs). with_stack_moved q 1) c.move_past.ensures)
     ∙ ap (pull_result row.mnemonic (with_stack_moved (with_pc_past r row.bytes) 1)) byte)

@@ -1,6 +1,6 @@
 use Rattle.std.proofs.Common.{rules, ◌≡◌, ◌<◌, ◌∙◌, ℕ, Bool, true, false, ap, refl, subst, arith}
 use Rattle.cpu_whole.specs.CodeWays.{IsReached}
-use Rattle.cpu_whole.proofs.Operations.{stored, stores_wait}
+use Rattle.cpu_whole.proofs.AtOperand.{stored, stores_wait}
 use Rattle.cpu_whole.proofs.operate.store.Goals as goal
 
 pub returns-clause-done : goal.returns-clause-done

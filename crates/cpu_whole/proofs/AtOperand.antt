@@ -5,6 +5,8 @@ use Rattle.op_table.specs.declared.names.Part.{Part}
 use Rattle.op_table.specs.declared.names.Part.TheVariants.{Nmos, Cmos}
 use Rattle.op_table.specs.declared.names.Mode.{Mode}
 use Rattle.op_table.specs.declared.names.Mode.TheVariants.{Acc}
+use Rattle.op_table.specs.declared.names.Mnemonic.{Mnemonic}
+use Rattle.op_table.specs.declared.names.Mnemonic.TheVariants.{Adc, Asl, Dec, Inc, Lsr, Rol, Ror, Sbc, Trb, Tsb}
 use Rattle.op_table.specs.declared.rows.Row.{Row}
 use Rattle.cpu_alu.specs.declared.Regs.{Regs}
 use Rattle.cpu_alu.specs.declared.Cycle.{Cycle}
@@ -203,6 +205,7 @@ stores_wait Cmos = refl
 pub modifying : (part : Part) (row : Row) (uses : BusUse) (always : Bool) → bus_use row.mnemonic ≡ uses → is_modifying uses ≡ true → always ≡ waits part uses → IsModifying part row always
 modifying part row uses always is kind same =
     record {
+      kind = ap is_modifying is ∙ kind;
       forms = λ r f. ap (λ u. form part u row r f) is ∙ forms uses kind r f ∙ ap (λ b. modify_form part row row.mode b r f) (sym same);
       results = λ r f. ap (λ u. after_row part u row r f) is ∙ results uses kind r f
           ∙ ap (λ b. modify_result row.mnemonic row.mode (with_pc_past r row.bytes) (operand part row.mode b r f)) (sym same);
@@ -218,3 +221,20 @@ modifying part row uses always is kind same =
     results Shifts h r f = refl
     results Modifies h r f = refl
     results _ h r f = cc
+
+-- what is made of a byte does not go by PC, nor whether a sum is decimal
+pub value_past : (name : Mnemonic) (r : Regs) (bytes m : ℕ) → modified_value name (with_pc_past r bytes) m ≡ modified_value name r m
+value_past Asl r bytes m = refl
+value_past Lsr r bytes m = refl
+value_past Rol r bytes m = refl
+value_past Ror r bytes m = refl
+value_past Inc r bytes m = refl
+value_past Dec r bytes m = refl
+value_past Tsb r bytes m = refl
+value_past Trb r bytes m = refl
+value_past _ r bytes m = refl
+
+pub decimal_past : (name : Mnemonic) (r : Regs) (bytes : ℕ) → is_decimal name (with_pc_past r bytes) ≡ is_decimal name r
+decimal_past Adc r bytes = refl
+decimal_past Sbc r bytes = refl
+decimal_past _ r bytes = refl
