@@ -21,5 +21,5 @@ pub ram_plain : IsPlain ram
 ram_plain = record {
   low_read = λ at low. refl;
   low_written = λ at low. refl;
-  again = λ m t n at byte. set_again m at (slice_index m at) byte;
+  again = λ m t n at byte plain. set_again m at (slice_index m at) byte;
 }

@@ -1,7 +1,7 @@
 //! The processor.
 ghost use Rattle.std.specs.Prelude.{◌≡◌, ◌↔◌, IsTrue, IsSome, IsNone, Some};
 ghost use Rattle.cpu6502.specs.Sequences.{next_cycle, after_byte, starting, halted, HasEnded, after, sequence_at_look, fresh, power_on};
-ghost use Rattle.cpu_core.specs.declared.Sequence.TheVariants.{Reset};
+ghost use Rattle.cpu_core.specs.declared.Sequence.TheVariants.{Instruction, Reset};
 
 use cpu_alu::{Cycle, Regs};
 use cpu_core::Core;
@@ -98,7 +98,16 @@ impl Cpu {
         self.core.begin_reset();
     }
 
+    /// The next cycle is the first of an instruction, with these registers, whatever was in progress.
+    #[inline(always)]
+    pub fn set_out(&mut self, regs: &Regs)
+        ensures { self.new ≡ fresh Instruction regs.now }
+    {
+        self.core.set_out(regs);
+    }
+
     /// The registers at the start of the sequence.
+    #[inline(always)]
     pub fn at_start(&self) -> Regs
         ensures { result ≡ self.now.regs }
     {

@@ -287,7 +287,22 @@ impl Core {
         self.begin(Sequence::Reset);
     }
 
+    /// The next cycle is the first of an instruction, with these registers, whatever was in progress.
+    #[inline(always)]
+    pub fn set_out(&mut self, regs: &Regs)
+        ensures part { self.new.part ≡ self.old.part }
+        ensures state { self.new.state ≡ fresh Sequence.Instruction regs.now }
+    {
+        self.machine.work = *regs;
+        set_off(self.part, &mut self.machine, Sequence::Instruction);
+        self.start = *regs;
+        self.trail = self
+            .trail
+            .after(&Turn::Begins(Sequence::Instruction, self.start));
+    }
+
     /// The registers at the start of the sequence.
+    #[inline(always)]
     pub fn at_start(&self) -> Regs
         ensures { result ≡ self.now.state.regs }
     {

@@ -190,7 +190,7 @@ module _ {M : Type 0} (g : Reach M) (t : ℕ) where
         over_old : (part : Part) → g.put (leaves g t m (n + 1) (cycle_between part at (g.byte m at))) t (n + 2) at (modified_value row.mnemonic r (g.byte m at)) ≡ g.put m t (n + 2) at (modified_value row.mnemonic r (g.byte m at))
         over_old Nmos =
             let v : ℕ = modified_value row.mnemonic r (g.byte m at) in
-            ap (λ (j : ℕ). g.put (g.put m t (n + 1) at (g.byte m at)) t j at v) (sym two) ∙ lawful.again m t (n + 1) at v ∙ ap (λ (j : ℕ). g.put m t j at v) two
+            ap (λ (j : ℕ). g.put (g.put m t (n + 1) at (g.byte m at)) t j at v) (sym two) ∙ lawful.again m t (n + 1) at v written ∙ ap (λ (j : ℕ). g.put m t j at v) two
         over_old Cmos = refl
 
 -- which forms take their cycle for a carry always

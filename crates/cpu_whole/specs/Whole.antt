@@ -26,7 +26,7 @@ pub record Reach (M : Type 0) : Type 0 where
 pub record IsPlain {M : Type 0} (g : Reach M) : Type 0 where
   pub low_read : (at : ℕ) → at < 512 → g.reads at ≡ true
   pub low_written : (at : ℕ) → at < 512 → g.writes at ≡ true
-  pub again : (m : M) (t n at byte : ℕ) → g.put (g.put m t n at (g.byte m at)) t (suc n) at byte ≡ g.put m t (suc n) at byte
+  pub again : (m : M) (t n at byte : ℕ) → g.writes at ≡ true → g.put (g.put m t n at (g.byte m at)) t (suc n) at byte ≡ g.put m t (suc n) at byte
 
 -- the three bytes from an address on are read as plain memory
 pub record AreRead {M : Type 0} (g : Reach M) (pc : ℕ) : Type 0 where

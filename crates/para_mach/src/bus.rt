@@ -1,10 +1,12 @@
 //! The second processor's bus: its memory and the Tube, and what is taken of the counts of the Tube's lines.
 ghost use Rattle.std.specs.Prelude.{◌≡◌, true};
 
-use crate::memory::Memory;
+use crate::memory::{Memory, ROM_START, TUBE};
 use crate::notes::Notes;
 use beeb_bits::Clock;
-use cpu_alu::Cycle;
+use cpu_alu::{Cycle, Regs};
+use cpu_whole::{Plain, whole};
+use op_table::Part;
 use std::marker::Model;
 use tube_chip::Lines;
 use tube_machine::{Done, Interrupts, TubeBus, Unable};
@@ -44,6 +46,7 @@ impl<N: Notes> TubeBus<N> for ParaBus {
     ghost use Rattle.para_mach.specs.State.{ParaBusState};
     ghost use Rattle.para_mach.specs.Step.{para_wiring};
     ghost use Rattle.para_mach.specs.Lawful.{para_wired, para_plain, is_plain};
+    ghost use Rattle.para_mach.specs.Whole.{plain_read, plain_write, rests, para_memory, para_rests};
     ghost use Rattle.para_mach.specs.CodeNotes.{part_kept};
 
     ghost State = { ParaBusState };
@@ -67,6 +70,16 @@ impl<N: Notes> TubeBus<N> for ParaBus {
     ghost room = { N.room };
 
     ghost even = { λ is b t c. refl };
+
+    ghost reads = { plain_read };
+
+    ghost writes = { plain_write };
+
+    ghost memory = { para_memory };
+
+    ghost rests = { rests };
+
+    ghost stays_at_rest = { para_rests };
 
     #[inline(always)]
     fn cycle(&self) -> u64 {
@@ -143,6 +156,20 @@ impl<N: Notes> TubeBus<N> for ParaBus {
     }
 
     #[inline(always)]
+    fn rests_until(&self, lines: &Lines, masks: bool) -> u64 {
+        if self.is_held || lines.pirq && !masks {
+            0
+        } else {
+            u64::MAX
+        }
+    }
+
+    #[inline(always)]
+    fn whole(&mut self, part: Part, regs: &mut Regs, t: u64, notes: &mut N) -> u64 {
+        whole::<N, ParaBus>(part, regs, self, t, notes)
+    }
+
+    #[inline(always)]
     fn exchange(&mut self, t: u64, cycle: Cycle, notes: &mut N) -> Result<Done, Unable> {
         match self.memory.exchange(cycle, notes) {
             Ok(byte) => {
@@ -154,5 +181,59 @@ impl<N: Notes> TubeBus<N> for ParaBus {
             }
             Err(unable) => Err(unable),
         }
+    }
+}
+
+impl<N: Notes> Plain<N> for ParaBus {
+    ghost use Rattle.std.specs.Prelude.{◌≤◌, ◌+◌, ◌*◌, max};
+    ghost use Rattle.beeb_bits.specs.Clock.{para};
+    ghost use Rattle.tube_machine.specs.Whole.{reach_of};
+    ghost use Rattle.para_mach.specs.State.{ParaBusState};
+    ghost use Rattle.para_mach.specs.Step.{para_wiring};
+    ghost use Rattle.para_mach.specs.Whole.{plain_read, plain_write, para_memory, comes_later};
+    ghost use Rattle.para_mach.specs.CodeNotes.{part_kept};
+
+    ghost State = { ParaBusState };
+
+    ghost state = { λ b. b };
+
+    ghost reach = { reach_of para_wiring plain_read plain_write };
+
+    ghost is_plain = { para_memory.plain };
+
+    ghost may_come = { λ b t n. b.closed ≤ t + max 1 (para b.clock * n) };
+
+    ghost later = { λ b t n k low high. comes_later b.closed (para b.clock) t n k low high };
+
+    ghost Kept = { ParaBusState };
+
+    ghost before = { λ notes b. part_kept (N.before notes b.ram) b };
+
+    ghost room = { N.room };
+
+    #[inline(always)]
+    fn runs(&self, pc: u16) -> bool {
+        pc < TUBE - 2
+    }
+
+    #[inline(always)]
+    fn reads(&self, at: u16) -> bool {
+        at < TUBE
+    }
+
+    #[inline(always)]
+    fn writes(&self, at: u16, notes: &N) -> bool {
+        at < ROM_START as u16 && notes.has_room()
+    }
+
+    #[inline(always)]
+    fn byte(&self, at: u16) -> u8 {
+        self.memory.byte(at)
+    }
+
+    #[inline(always)]
+    fn put(&mut self, t: u64, cycle: u64, at: u16, byte: u8, notes: &mut N) {
+        self.closed = t + self.clock.para() * cycle + 1;
+        self.memory.put(at, byte, notes);
     }
 }

@@ -15,6 +15,10 @@ pub(crate) trait Notes {
     /// For how many writes there is room at least.
     ghost room: { Self → ℕ };
 
+    /// Whether there is room for two writes.
+    fn has_room(&self) -> bool
+        ensures { result ≡ true → 2 ≤ room self.now };
+
     /// Notes the byte that stands at an address. False, and nothing is noted, where there is no room.
     fn note(&mut self, at: u16, byte: u8) -> bool
         ensures noted { result ≡ true → (ram : List ℕ) (x : ℕ) → slice_index ram at ≡ byte → before self.new (slice_set ram at x) ≡ before self.old ram }
@@ -31,7 +35,12 @@ impl Notes for NoNotes {
 
     ghost endless = { true };
 
-    ghost room = { λ notes. 0 };
+    ghost room = { λ notes. 2 };
+
+    #[inline(always)]
+    fn has_room(&self) -> bool {
+        true
+    }
 
     #[inline(always)]
     fn note(&mut self, _at: u16, _byte: u8) -> bool {
@@ -90,6 +99,11 @@ impl Notes for UndoLog {
     ghost endless = { false };
 
     ghost room = { λ notes. vec_capacity notes.stood - vec_len notes.stood };
+
+    #[inline(always)]
+    fn has_room(&self) -> bool {
+        self.stood.len() < self.stood.capacity().saturating_sub(1)
+    }
 
     #[inline(always)]
     fn note(&mut self, at: u16, byte: u8) -> bool {

@@ -3,3 +3,4 @@ pub mod Taken
 pub mod Spends
 pub mod Lengths
 pub mod Stops
+pub mod WholeSteps

@@ -56,6 +56,16 @@ spent-past counts cycle sure room due seen old now so_far one here early = recor
   late = λ is top high late. omega (arith, early, high);
 }
 
+-- instructions done whole, of so many cycles
+pub spent-whole : (counts : Type 0) (cycle sure k room due seen : ℕ) (old now : Spent) → HasSpent counts cycle sure old now → now.room ≤ room + k → due ≡ now.due + cycle * k → due ≤ sure → HasSpent counts cycle sure old (spent due room seen)
+spent-whole counts cycle sure k room due seen old now so_far few here early = record {
+  room = λ is.
+      let least : cycle * now.room ≤ cycle * (room + k) = mul-le-mul_left cycle few in
+      let sum : cycle * (room + k) ≡ cycle * room + cycle * k = mul-add cycle room k in
+      omega (arith, so_far.room is, least, sum, here);
+  late = λ is top high late. omega (arith, early, high);
+}
+
 -- or before the first access
 pub spent-look : (counts : Type 0) (cycle sure room from due seen first : ℕ) → due ≡ from → due ≤ sure → HasSpent counts cycle sure (spent from room first) (spent due room seen)
 spent-look counts cycle sure room from due seen first here early = record {

@@ -3,3 +3,4 @@ pub mod Step
 pub mod Lawful
 pub mod Exchange
 pub mod NoBreak
+pub mod Whole

@@ -1,12 +1,15 @@
 //! What a machine's processor reaches.
-ghost use Rattle.std.specs.Prelude.{ℕ, Bool, ◌≡◌, ◌≤◌, ◌<◌, ◌+◌, ◌^◌, true, false, None, IfOk, Err};
+ghost use Rattle.std.specs.Prelude.{ℕ, Bool, ◌≡◌, ◌≤◌, ◌<◌, ◌+◌, ◌*◌, ◌^◌, true, false, None, IfOk, Err};
 ghost use Rattle.cpu_alu.specs.declared.Cycle.{Cycle};
 ghost use Rattle.tube_chip.specs.declared.Lines.{Lines};
 ghost use Rattle.tube_machine.specs.Wiring.{Wiring, IsWired, StaysPlain};
 ghost use Rattle.tube_machine.specs.Exchange.{IsExchanged, IsQuick, IsAtTube};
+ghost use Rattle.tube_machine.specs.Whole.{reach_of, IsMemory, StaysAtRest};
+ghost use Rattle.cpu_whole.specs.Whole as whole;
 
 use beeb_bits::Tick;
-use cpu_alu::Cycle;
+use cpu_alu::{Cycle, Regs};
+use op_table::Part;
 use tube_chip::{Lines, Op};
 
 /// An access that is done: the byte that was read, or 0, and how many ticks it took.
@@ -62,6 +65,18 @@ pub trait TubeBus<N>: Drop {
 
     /// Where writes are noted each access takes one cycle.
     ghost even: { endless ≡ false → (b : State) (t : ℕ) (c : Cycle) → wiring.takes b t c ≡ wiring.cycle b };
+
+    /// Addresses of plain memory, for reads and for writes.
+    ghost reads: { ℕ → Bool };
+
+    ghost writes: { ℕ → Bool };
+
+    ghost memory: { IsMemory wiring reads writes };
+
+    /// Looks below this tick that see these lines, with the flag I so, ask for nothing and leave the bus.
+    ghost rests: { State → Lines → Bool → ℕ → Type 0 };
+
+    ghost stays_at_rest: { StaysAtRest wiring writes rests };
 
     /// A cycle, in ticks.
     fn cycle(&self) -> u64
@@ -141,6 +156,24 @@ pub trait TubeBus<N>: Drop {
         ensures noted { before notes.new self.new ≡ before notes.old self.old }
         ensures room { room notes.old ≤ room notes.new + 1 }
         ensures still { result ≡ None → notes.new ≡ notes.old };
+
+    /// A tick below which looks that see these lines, with the flag I so, ask for nothing and leave the bus; 0 where none is known.
+    fn rests_until(&self, lines: &Lines, masks: bool) -> u64
+        requires { plain (state self.now) lines.now ≡ true }
+        ensures { rests (state self.now) lines.now masks result };
+
+    /// Does the instruction whose first cycle is at tick `t`, whole, if all its accesses are of plain memory, and gives the number of its cycles.
+    /// Else nothing is done, and that number is 0.
+    fn whole(&mut self, part: Part, regs: &mut Regs, t: u64, notes: &mut N) -> u64
+        requires closed { wiring.closed (state self.old) ≤ t + 1 }
+        requires room { t < 2 ^ 40 }
+        ensures closed { 0 < result → wiring.closed (state self.new) ≤ t + wiring.cycle (state self.old) * result }
+        ensures done { let reach = reach_of wiring reads writes in
+            0 < result → whole.IsDone part reach t regs.old (state self.old) result regs.new (state self.new) }
+        ensures still { result ≡ 0 → (regs.new ≡ regs.old) × (state self.new ≡ state self.old) }
+        ensures noted { before notes.new self.new ≡ before notes.old self.old }
+        ensures room { room notes.old ≤ room notes.new + result }
+        ensures few { result ≤ 8 };
 
     /// Does any access at tick `t`, or tells what it asks of the Tube.
     fn exchange(&mut self, t: u64, cycle: Cycle, notes: &mut N) -> Result<Done, Unable>

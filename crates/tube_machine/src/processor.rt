@@ -2,11 +2,12 @@
 ghost use Rattle.std.specs.Prelude.{◌≡◌, ◌↔◌, IsTrue, IsSome, IsNone, Some};
 ghost use Rattle.op_table.specs.declared.Part.{Part};
 ghost use Rattle.op_table.specs.declared.Part.TheVariants.{Nmos, Cmos};
+ghost use Rattle.cpu_core.specs.declared.Sequence.TheVariants.{Instruction, Reset};
 ghost use Rattle.cpu_core.specs.State.{State};
-ghost use Rattle.cpu_core.specs.Sequences.{next_cycle, after_byte, halted, HasEnded, after, sequence_at_look, fresh};
-ghost use Rattle.cpu_core.specs.declared.Sequence.TheVariants.{Reset};
+ghost use Rattle.cpu_core.specs.Sequences.{next_cycle, after_byte, halted, starting, HasEnded, after, sequence_at_look, fresh};
 
-use cpu_alu::Cycle;
+use cpu_alu::{Cycle, Regs};
+use op_table::Part;
 
 /// A processor that does one access to the bus in each cycle. Contracts see its state, and which part it is.
 pub trait Processor: Drop {
@@ -41,6 +42,22 @@ pub trait Processor: Drop {
     fn begin_reset(&mut self)
         requires { HasEnded part (core self.old) }
         ensures { core self.new ≡ fresh Reset (after part (core self.old)) };
+
+    /// Which part it is.
+    fn kind(&self) -> Part
+        ensures { result ≡ part };
+
+    /// Whether the next cycle is the first of an instruction.
+    fn starting(&self) -> bool
+        ensures { result ≡ starting (core self.now) };
+
+    /// The registers at the start of the sequence.
+    fn at_start(&self) -> Regs
+        ensures { result ≡ (core self.now).regs };
+
+    /// The next cycle is the first of an instruction, with these registers.
+    fn set_out(&mut self, regs: &Regs)
+        ensures { core self.new ≡ fresh Instruction regs.now };
 }
 
 impl Processor for cpu6502::Cpu {
@@ -76,6 +93,26 @@ impl Processor for cpu6502::Cpu {
     fn begin_reset(&mut self) {
         self.begin_reset();
     }
+
+    #[inline(always)]
+    fn kind(&self) -> Part {
+        Part::Nmos
+    }
+
+    #[inline(always)]
+    fn starting(&self) -> bool {
+        self.starting()
+    }
+
+    #[inline(always)]
+    fn at_start(&self) -> Regs {
+        self.at_start()
+    }
+
+    #[inline(always)]
+    fn set_out(&mut self, regs: &Regs) {
+        self.set_out(regs);
+    }
 }
 
 impl Processor for cpu65c02::Cpu {
@@ -110,5 +147,25 @@ impl Processor for cpu65c02::Cpu {
 
     fn begin_reset(&mut self) {
         self.begin_reset();
+    }
+
+    #[inline(always)]
+    fn kind(&self) -> Part {
+        Part::Cmos
+    }
+
+    #[inline(always)]
+    fn starting(&self) -> bool {
+        self.starting()
+    }
+
+    #[inline(always)]
+    fn at_start(&self) -> Regs {
+        self.at_start()
+    }
+
+    #[inline(always)]
+    fn set_out(&mut self, regs: &Regs) {
+        self.set_out(regs);
     }
 }

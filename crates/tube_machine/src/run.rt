@@ -1,13 +1,16 @@
 //! Steps one after another, as long as they are quick accesses and plain looks that are sure of their lines. They go over the parts of the
 //! machine, with the tick of the next step beside them.
-ghost use Rattle.std.specs.Prelude.{◌≡◌, ◌≤◌, ◌<◌, ◌+◌, ◌-◌, ◌^◌, ℕ, List, [], length, None, true};
-ghost use Rattle.cpu_core.specs.Sequences.{next_cycle};
+ghost use Rattle.std.specs.Prelude.{◌≡◌, ◌≤◌, ◌<◌, ◌+◌, ◌-◌, ◌^◌, ℕ, List, [], length, None, IsSome, true, false};
+ghost use Rattle.op_table.specs.declared.Part.TheVariants.{Cmos};
+ghost use Rattle.cpu_core.specs.Sequences.{next_cycle, starting};
 ghost use Rattle.tube_party.specs.Moves.{Looks, shown_lines};
 ghost use Rattle.tube_machine.specs.Step.{at_of, moves_of, closed_to, after_look};
-ghost use Rattle.tube_machine.specs.Exchange.{owed_at, ready, spent, IsStop, Spends};
+ghost use Rattle.tube_machine.specs.Exchange.{owed_at, ready, spent, HasSpent, IsStop, Spends};
+ghost use Rattle.tube_machine.specs.Whole.{IsOnward};
 
 use crate::bus::TubeBus;
 use crate::processor::Processor;
+use cpu_alu::{INTERRUPT, Regs, has_flag};
 use tube_chip::Lines;
 
 /// Where the steps leave off.
@@ -67,6 +70,96 @@ fn bound_of<N, B: TubeBus<N>>(bus: &B, until: u64, sure: u64, next_break: u64, l
     until.min(sure).min(next_break)
 }
 
+/// How many cycles an instruction may have that is done whole.
+const LONGEST: u64 = 8;
+
+// Instructions one after another, each done whole with the look behind it, from the first cycle of one at tick `from` on. Each ends below tick
+// `bound`: up to there a look is plain and sees these lines, and no break is pending. It gives the tick of the next step.
+#[inline(never)]
+fn go_whole<N, P: Processor, B: TubeBus<N>>(
+    cpu: &mut P,
+    bus: &mut B,
+    notes: &mut N,
+    from: u64,
+    bound: u64,
+    lines: &Lines,
+) -> u64
+    requires room { bound ≤ 2 ^ 30 }
+    requires from { from ≤ bound }
+    requires before { (B.wiring).closed (B.state bus.old) ≤ from + 1 }
+    requires plain { B.plain (B.state bus.old) lines.now ≡ true }
+    requires free { (t : ℕ) → t < bound → (B.wiring).pending (B.state bus.old) t ≡ false }
+    requires starts { starting (P.core cpu.old) ≡ true }
+    ensures onward { let old = at_of (P.core cpu.old) (B.state bus.old) from in
+        let new = at_of (P.core cpu.new) (B.state bus.new) result in
+        IsOnward P.part B.wiring B.plain lines.now bound old new }
+    ensures low { from ≤ result }
+    ensures high { result ≤ bound }
+    ensures noted { B.before notes.new bus.new ≡ B.before notes.old bus.old }
+    ensures spends { let cycle = (B.wiring).cycle (B.state bus.old) in
+        let old = spent from (B.room notes.old) (length (P.core cpu.old).seen) in
+        let new = spent result (B.room notes.new) (length (P.core cpu.new).seen) in
+        (sure : ℕ) → bound ≤ sure → HasSpent (P.part ≡ Cmos) cycle sure old new }
+{
+    let cycle = bus.cycle();
+    let first = cpu.at_start();
+    let mut regs = Regs {
+        pc: first.pc,
+        a: first.a,
+        x: first.x,
+        y: first.y,
+        s: first.s,
+        p: first.p,
+    };
+    let masks = has_flag(regs.p, INTERRUPT);
+    let quiet = bus.rests_until(lines, masks);
+    let end = bound.min(quiet);
+    let mut due = from;
+    while due + LONGEST * cycle <= end {
+        let cycles = bus.whole(cpu.kind(), &mut regs, due, notes);
+        if cycles == 0 {
+            break;
+        }
+        due += cycle * cycles;
+        bus.close(due);
+    }
+    cpu.set_out(&regs);
+    due
+}
+
+// The same, where the next cycle is the first of an instruction that surely ends below the bound; else nothing is done.
+#[inline(always)]
+fn go_whole_at_start<N, P: Processor, B: TubeBus<N>>(
+    cpu: &mut P,
+    bus: &mut B,
+    notes: &mut N,
+    from: u64,
+    bound: u64,
+    lines: &Lines,
+) -> u64
+    requires room { bound ≤ 2 ^ 30 }
+    requires from { from ≤ bound }
+    requires before { (B.wiring).closed (B.state bus.old) ≤ from + 1 }
+    requires plain { B.plain (B.state bus.old) lines.now ≡ true }
+    requires free { (t : ℕ) → t < bound → (B.wiring).pending (B.state bus.old) t ≡ false }
+    requires goes_on { IsSome (next_cycle P.part (P.core cpu.old)) }
+    ensures onward { let old = at_of (P.core cpu.old) (B.state bus.old) from in
+        let new = at_of (P.core cpu.new) (B.state bus.new) result in
+        IsOnward P.part B.wiring B.plain lines.now bound old new }
+    ensures low { from ≤ result }
+    ensures high { result ≤ bound }
+    ensures noted { B.before notes.new bus.new ≡ B.before notes.old bus.old }
+    ensures spends { let cycle = (B.wiring).cycle (B.state bus.old) in
+        let old = spent from (B.room notes.old) (length (P.core cpu.old).seen) in
+        let new = spent result (B.room notes.new) (length (P.core cpu.new).seen) in
+        (sure : ℕ) → bound ≤ sure → HasSpent (P.part ≡ Cmos) cycle sure old new }
+{
+    if !cpu.starting() || from + LONGEST * bus.cycle() > bound {
+        return from;
+    }
+    go_whole::<N, P, B>(cpu, bus, notes, from, bound, lines)
+}
+
 /// Goes on from a step at tick `from`, and gives the tick of the step at which it leaves off. It does no look at which a break is pending, and no
 /// access whose cycle could end at one.
 #[inline(always)]
@@ -103,7 +196,7 @@ pub(crate) fn go_on<N, P: Processor, B: TubeBus<N>>(
             return (due, Stop::Look);
         }
         see::<N, P, B>(cpu, bus, due, lines);
-        due += 1;
+        due = go_whole_at_start::<N, P, B>(cpu, bus, notes, due + 1, bound, lines);
     }
     // No access from this tick on has left device steps for later.
     let mut caught_up = due;
@@ -118,6 +211,7 @@ pub(crate) fn go_on<N, P: Processor, B: TubeBus<N>>(
                         return (due - 1, Stop::Look);
                     }
                     see::<N, P, B>(cpu, bus, due - 1, lines);
+                    due = go_whole_at_start::<N, P, B>(cpu, bus, notes, due, bound, lines);
                     caught_up = due;
                 } else {
                     due += cycle;

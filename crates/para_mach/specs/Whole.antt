@@ -1,0 +1,123 @@
+-- Which of the second processor's addresses are plain memory, and which of its looks ask for nothing.
+use Rattle.std.specs.Prelude.{ℕ, suc, ◌≡◌, ◌≤◌, ◌<◌, ◌+◌, ◌*◌, ◌==◌, ◌&&◌, max, nat_lt, nat_le, Bool, true, false, not, refl, List, slice_set, if◌then◌else◌}
+use Rattle.std.proofs.Common.{arith, ap, ◌∙◌, sym}
+use Rattle.std.proofs.lemmas.Bool.{and_left, ltb-true, lt-ltb, lt-leb, eq-eqb}
+use Rattle.std.proofs.lemmas.List.{set-set}
+use Rattle.std.proofs.Math.Nat.{mul-le-mul_left, mul-add, mul-one}
+use Rattle.cpu_alu.specs.declared.Cycle.TheVariants.{Read, Write}
+use Rattle.tube_chip.specs.declared.Lines.{Lines}
+use Rattle.cpu_whole.specs.Whole.{IsPlain, AreRead}
+use Rattle.cpu_alu.specs.Addresses.{wrap}
+use Rattle.beeb_bits.specs.Clock.{para}
+use Rattle.tube_machine.specs.Whole.{reach_of, IsMemory, IsAtRest, StaysAtRest}
+use Rattle.para_mach.specs.State.{ParaBusState}
+use Rattle.para_mach.specs.Step.{is_tube, para_wiring}
+
+-- reads below the Tube, and writes below the boot ROM
+abbrev pub plain_read : ℕ → Bool
+plain_read at = nat_lt at 0xFEF8
+
+abbrev pub plain_write : ℕ → Bool
+plain_write at = nat_lt at 0xF800
+
+-- Looks ask for nothing where the count of NMIs is the one taken, and the line for an IRQ is off or the flag I holds it back.
+abbrev pub rests : ParaBusState → Lines → Bool → ℕ → Type 0
+rests b l masks far = 0 < far → (l.nmis ≡ b.nmis) × (b.is_held ≡ false) × ((l.pirq && not masks) ≡ false)
+
+read-apart : (at : ℕ) → plain_read at ≡ true → is_tube at ≡ false
+read-apart at low = and_left (nat_le 0xFEF8 at) (nat_le at 0xFEFF) (lt-leb 0xFEF8 at (ltb-true at 0xFEF8 low))
+
+write-apart : (at : ℕ) → plain_write at ≡ true → is_tube at ≡ false
+write-apart at low =
+    let below : at < 0xF800 = ltb-true at 0xF800 low in
+    and_left (nat_le 0xFEF8 at) (nat_le at 0xFEFF) (lt-leb 0xFEF8 at (omega (arith, below)))
+
+and-true : (b : Bool) → (b && true) ≡ b
+and-true true = refl
+and-true false = refl
+
+-- a write, by whether the address is the Tube's
+abbrev written_by : Bool → ParaBusState → ℕ → ℕ → ParaBusState
+written_by tube b at x = record b { ram = (if tube then b.ram else slice_set b.ram at x); rom_in = b.rom_in && not tube }
+
+abbrev closed_at : ParaBusState → ℕ → ParaBusState
+closed_at b t = record b { closed = max t b.closed }
+
+latest : (c t u : ℕ) → t ≤ u → max u (max t c) ≡ max u c
+latest c t u high = omega (arith, high)
+
+twice-apart : (b : ParaBusState) (t u at x y : ℕ) → t ≤ u → written_by false (closed_at (written_by false (closed_at b t) at x) u) at y ≡ written_by false (closed_at b u) at y
+twice-apart b t u at x y high =
+    ap (λ (r : List ℕ). record b { ram = r; rom_in = (b.rom_in && true) && true; closed = max u (max t b.closed) }) (set-set b.ram at x y)
+    ∙ ap (λ (i : Bool). record b { ram = slice_set b.ram at y; rom_in = i && true; closed = max u (max t b.closed) }) (and-true b.rom_in)
+    ∙ ap (λ (c : ℕ). record b { ram = slice_set b.ram at y; rom_in = b.rom_in && true; closed = c }) (latest b.closed t u high)
+
+-- a byte that is written twice
+twice : (tube : Bool) → tube ≡ false → (b : ParaBusState) (t u at x y : ℕ) → t ≤ u → written_by tube (closed_at (written_by tube (closed_at b t) at x) u) at y ≡ written_by tube (closed_at b u) at y
+twice false is b t u at x y high = twice-apart b t u at x y high
+twice true is b t u at x y high = absurd (cc)
+
+later : (c t n : ℕ) → t + c * n + 1 ≤ t + c * suc n + 1
+later c t n = let more : c * n ≤ c * suc n = mul-le-mul_left c (omega arith) in omega (arith, more)
+
+-- an instruction's cycles begin one after another, and each closes the bus no further than behind its first tick
+pub comes_later : (closed c t n k : ℕ) → closed ≤ t + max 1 (c * n) → n ≤ k → closed ≤ t + max 1 (c * k)
+comes_later closed c t n k low high = let more : c * n ≤ c * k = mul-le-mul_left c high in omega (arith, low, more)
+
+read-leaves : (b : ParaBusState) (at : ℕ) → plain_read at ≡ true → para_wiring.after b (Read at) ≡ b
+read-leaves b at low = ap (λ (tube : Bool). record b { rom_in = b.rom_in && not tube }) (read-apart at low) ∙ ap (λ (i : Bool). record b { rom_in = i }) (and-true b.rom_in)
+
+pub para_memory : IsMemory para_wiring plain_read plain_write
+para_memory = record {
+  plain = record {
+    low_read = λ at low. lt-ltb at 0xFEF8 (omega (arith, low));
+    low_written = λ at low. lt-ltb at 0xF800 (omega (arith, low));
+    again = λ m t n at byte low. twice (is_tube at) (write-apart at low) m (t + para m.clock * n + 1) (t + para m.clock * suc n + 1) at _ byte (later (para m.clock) t n);
+  };
+  read_apart = read-apart;
+  read_leaves = read-leaves;
+  read_ticks = λ b t at low. refl;
+  shows = λ b t u at low. refl;
+  write_apart = write-apart;
+  write_ticks = λ b t at byte low. refl;
+  write_closed = λ b at byte low. refl;
+}
+
+at-rest : (b : ParaBusState) (l : Lines) (masks : Bool) → l.nmis ≡ b.nmis → b.is_held ≡ false → (l.pirq && not masks) ≡ false → IsAtRest para_wiring b l masks
+at-rest b l masks nmis held irq = record {
+  nmi = ap not (eq-eqb l.nmis b.nmis nmis);
+  irq = irq;
+  taken = ap (λ (n : ℕ). record b { nmis = n; is_held = false }) nmis ∙ ap (λ (h : Bool). record b { is_held = h }) (sym held);
+}
+
+pub para_rests : StaysAtRest para_wiring plain_write rests
+para_rests = record {
+  looks = λ b l masks far t rest low. let there = rest (omega (arith, low)) in at-rest (record b { closed = max (t + 1) b.closed }) l masks there.0 there.1 there.2;
+  close = λ b l masks far t rest low. rest;
+  write = λ b l masks far at byte rest low. rest;
+}
+
+-- an instruction below the Tube
+pub runs-low : (pc : ℕ) → pc < 0xFEF6 → AreRead (reach_of para_wiring plain_read plain_write) pc
+runs-low pc low = record {
+  first = lt-ltb pc 0xFEF8 (omega (arith, low));
+  second = lt-ltb (wrap (pc + 1)) 0xFEF8 (omega (arith, low));
+  third = lt-ltb (wrap (pc + 2)) 0xFEF8 (omega (arith, low));
+}
+
+-- a write below the boot ROM
+pub put-low : (b : ParaBusState) (t n at byte : ℕ) → plain_write at ≡ true → b.closed ≤ t + max 1 (para b.clock * n) →
+    record b { ram = slice_set b.ram at byte; closed = t + para b.clock * n + 1 } ≡ (reach_of para_wiring plain_read plain_write).put b t n at byte
+put-low b t n at byte low before =
+    let u : ℕ = t + para b.clock * n + 1 in
+    let far : u ≡ max u b.closed = omega (arith, before) in
+    ap (λ (c : ℕ). record b { ram = slice_set b.ram at byte; closed = c }) far
+    ∙ ap (λ (i : Bool). record b { ram = slice_set b.ram at byte; rom_in = i; closed = max u b.closed }) (sym (and-true b.rom_in))
+    ∙ ap (λ (tube : Bool). record b { ram = (if tube then b.ram else slice_set b.ram at byte); rom_in = b.rom_in && not tube; closed = max u b.closed }) (sym (write-apart at low))
+
+-- the next cycle comes behind it
+pub comes_next : (c t n : ℕ) → 1 < c → t + c * n + 1 ≤ t + max 1 (c * (n + 1))
+comes_next c t n some = let sum : c * (n + 1) ≡ c * n + c * 1 = mul-add c n 1 in let one : c * 1 ≡ c = mul-one c in omega (arith, sum, one, some)
+
+pub comes_behind : (c t n closed : ℕ) → 1 < c → 0 < n → closed ≤ t + max 1 (c * n) → closed ≤ t + c * n
+comes_behind c t n closed some more low = let least : c * 1 ≤ c * n = mul-le-mul_left c more in let one : c * 1 ≡ c = mul-one c in omega (arith, least, one, some, low)

@@ -1,0 +1,30 @@
+use Rattle.std.proofs.Common.{◌≡◌, ◌≤◌, ◌-◌, ◌+◌, ◌<◌, ℕ, length}
+use Rattle.op_table.specs.declared.names.Part.TheVariants.{Cmos}
+use Rattle.cpu_alu.specs.declared.flags.TheConstants.{INTERRUPT}
+use Rattle.cpu_alu.specs.Flags.{has_flag}
+use Rattle.cpu_core.specs.declared.Sequence.TheVariants.{Instruction}
+use Rattle.cpu_core.specs.Sequences.{fresh}
+use Rattle.tube_machine.specs.Step.{at_of}
+use Rattle.tube_machine.specs.Exchange.{spent, HasSpent}
+use Rattle.tube_machine.proofs.UnderWay.{IsUnderWay, IsFree}
+use Rattle.tube_machine.proofs.run.go_whole.Given as goal
+
+-- an instruction begins, and all so far asked for nothing
+abbrev pub invariant-loop-due : goal.invariant-loop-due
+invariant-loop-due g l = record {
+  way : (far until sure : ℕ) → l.bound ≤ far → l.bound ≤ until → l.bound ≤ sure → IsFree g.P.Processor.part g.B.TubeBus.wiring far (g.B.TubeBus.state l.fn.bus) → IsUnderWay g.P.Processor.part g.B.TubeBus.wiring g.B.TubeBus.plain far l.cycle until l.lines sure
+      (at_of (g.P.Processor.core l.fn.cpu) (g.B.TubeBus.state l.fn.bus) l.from)
+      (at_of (fresh Instruction l.regs) (g.B.TubeBus.state l.bus) l.due)
+      l.due;
+  before : (g.B.TubeBus.wiring).closed (g.B.TubeBus.state l.bus) ≤ l.due + 1;
+  rests : g.B.TubeBus.rests (g.B.TubeBus.state l.bus) l.lines l.masks l.quiet;
+  held : has_flag l.regs.p INTERRUPT ≡ l.masks;
+  low : l.from ≤ l.due;
+  high : l.due ≤ l.bound;
+  noted : g.B.TubeBus.before l.notes l.bus ≡ g.B.TubeBus.before l.fn.notes l.fn.bus;
+  spent : (sure : ℕ) → l.bound ≤ sure → HasSpent (g.P.Processor.part ≡ Cmos) l.cycle sure (spent l.from (g.B.TubeBus.room l.fn.notes) (length (g.P.Processor.core l.fn.cpu).seen))
+      (spent l.due (g.B.TubeBus.room l.notes) 0);
+}
+
+abbrev pub decreases-loop-due : goal.decreases-loop-due
+decreases-loop-due g l = l.end - l.due

@@ -1,0 +1,54 @@
+-- Whole instructions at a bus: which of its accesses are of plain memory, and what the looks behind them find.
+use Rattle.std.specs.Prelude.{ℕ, ◌≡◌, ◌≤◌, ◌<◌, ◌+◌, ◌*◌, ◌&&◌, length, Bool, true, false, not, IsSome}
+use Rattle.op_table.specs.declared.names.Part.{Part}
+use Rattle.cpu_alu.specs.declared.Cycle.TheVariants.{Read, Write}
+use Rattle.cpu_core.specs.Sequences.{next_cycle}
+use Rattle.cpu_whole.specs.Whole.{Reach, IsPlain}
+use Rattle.tube_chip.specs.declared.Lines.{Lines}
+use Rattle.tube_party.specs.Moves.{Looks, shown_lines}
+use Rattle.tube_machine.specs.Wiring.{Wiring}
+use Rattle.tube_machine.specs.Step.{At, moves_of}
+
+-- The memory of a bus, by the addresses that are plain for reads and for writes. A read shows at each tick what it shows at tick 0. The cycles of
+-- an instruction follow one another, and a write closes the devices before it.
+abbrev pub reach_of : {B : Type 0} → Wiring B → (ℕ → Bool) → (ℕ → Bool) → Reach B
+reach_of w reads writes = record {
+  reads = reads;
+  writes = writes;
+  byte = λ b at. w.answer b 0 at;
+  put = λ b t n at byte. w.after (w.close b (t + w.cycle b * n + 1)) (Write at byte);
+}
+
+-- What holds of it: an access there is not the Tube's and takes one cycle, a read leaves the bus and shows the same at each tick, however far
+-- the devices are closed.
+pub record IsMemory {B : Type 0} (w : Wiring B) (reads writes : ℕ → Bool) : Type 0 where
+  pub plain : IsPlain (reach_of w reads writes)
+  pub read_apart : (at : ℕ) → reads at ≡ true → w.is_tube at ≡ false
+  pub read_leaves : (b : B) (at : ℕ) → reads at ≡ true → w.after b (Read at) ≡ b
+  pub read_ticks : (b : B) (t at : ℕ) → reads at ≡ true → w.takes b t (Read at) ≡ w.cycle b
+  pub shows : (b : B) (t u at : ℕ) → reads at ≡ true → w.answer (w.close b u) t at ≡ w.answer b 0 at
+  pub write_apart : (at : ℕ) → writes at ≡ true → w.is_tube at ≡ false
+  pub write_ticks : (b : B) (t at byte : ℕ) → writes at ≡ true → w.takes b t (Write at byte) ≡ w.cycle b
+  pub write_closed : (b : B) (at byte : ℕ) → writes at ≡ true → w.closed (w.after b (Write at byte)) ≡ w.closed b
+
+-- A look that sees these lines, with the flag I so, asks for no interrupt and leaves the bus.
+pub record IsAtRest {B : Type 0} (w : Wiring B) (b : B) (lines : Lines) (masks : Bool) : Type 0 where
+  pub nmi : w.nmi b lines ≡ false
+  pub irq : (w.irq b lines && not masks) ≡ false
+  pub taken : w.taken b lines ≡ b
+
+-- Looks below a tick that see these lines do so: closing the bus up to there and plain writes change nothing of that.
+pub record StaysAtRest {B : Type 0} (w : Wiring B) (writes : ℕ → Bool) (rests : B → Lines → Bool → ℕ → Type 0) : Type 0 where
+  pub looks : (b : B) (lines : Lines) (masks : Bool) (far t : ℕ) → rests b lines masks far → t < far → IsAtRest w (w.close b (t + 1)) lines masks
+  pub close : (b : B) (lines : Lines) (masks : Bool) (far t : ℕ) → rests b lines masks far → t ≤ far → rests (w.close b t) lines masks far
+  pub write : (b : B) (lines : Lines) (masks : Bool) (far at byte : ℕ) → rests b lines masks far → writes at ≡ true → rests (w.after b (Write at byte)) lines masks far
+
+-- Steps from one machine to another, up to an access: each asks nothing, or is a look below a tick, as all of them are. Cycles, breaks and plain
+-- looks are as before.
+pub record IsOnward (part : Part) {B : Type 0} (w : Wiring B) (plain : B → Lines → Bool) (lines : Lines) (bound : ℕ) (old new : At B) : Type 0 where
+  pub looks : (until sure : ℕ) → bound ≤ until → bound ≤ sure → (k : ℕ) × Looks (moves_of part w) until (shown_lines lines sure) k old new
+  pub goes_on : IsSome (next_cycle part new.cpu)
+  pub closed : w.closed new.bus ≤ new.due + 1
+  pub cycle : w.cycle old.bus ≡ w.cycle new.bus
+  pub free : (far : ℕ) → bound ≤ far → ((t : ℕ) → t < far → w.pending old.bus t ≡ false) → (t : ℕ) → t < far → w.pending new.bus t ≡ false
+  pub is_plain : plain new.bus lines ≡ true
