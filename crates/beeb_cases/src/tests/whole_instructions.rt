@@ -1,7 +1,6 @@
 //! Whole instructions beside the same ones cycle by cycle: every opcode of both parts, with operands and registers at edges.
 use cpu_alu::Cycle::{Read, Write};
 use cpu_alu::{Cycle, DECIMAL, Regs};
-use cpu_core::Core;
 use cpu_whole::{Plain, whole};
 use op_table::{Mnemonic, Mode, Part, Row, cmos, nmos};
 use std::test::Fail;
@@ -114,45 +113,92 @@ impl Plain<Unnoted> for Ram {
     }
 }
 
+/// Either processor, cycle by cycle.
+#[derive(Drop)]
+enum Guest {
+    Nmos(cpu6502::Cpu),
+    Cmos(cpu65c02::Cpu),
+}
+
+impl Guest {
+    fn new(part: Part) -> Guest {
+        match part {
+            Part::Nmos => Guest::Nmos(cpu6502::Cpu::new()),
+            Part::Cmos => Guest::Cmos(cpu65c02::Cpu::new()),
+        }
+    }
+
+    /// Does a cycle. False where the sequence is over.
+    fn step(&mut self, ram: &mut Ram) -> bool {
+        match self {
+            Guest::Nmos(cpu) => {
+                if cpu.last() {
+                    return false;
+                }
+                let byte = ram.access(cpu.want());
+                cpu.give(byte);
+            }
+            Guest::Cmos(cpu) => {
+                if cpu.last() {
+                    return false;
+                }
+                let byte = ram.access(cpu.want());
+                cpu.give(byte);
+            }
+        }
+        true
+    }
+
+    /// A look at lines that ask nothing, where the sequence is over.
+    fn look(&mut self) {
+        match self {
+            Guest::Nmos(cpu) => {
+                if cpu.last() {
+                    cpu.take_lines(false, false);
+                }
+            }
+            Guest::Cmos(cpu) => {
+                if cpu.last() {
+                    cpu.take_lines(false, false);
+                }
+            }
+        }
+    }
+
+    /// The registers, once a sequence has ended.
+    fn end(&self) -> Option<Regs> {
+        match self {
+            Guest::Nmos(cpu) => { if cpu.last() { Some(cpu.at_end()) } else { None } }
+            Guest::Cmos(cpu) => { if cpu.last() { Some(cpu.at_end()) } else { None } }
+        }
+    }
+}
+
 /// Does what is left of a sequence, and counts its cycles.
-fn finish(core: &mut Core, part: Part, ram: &mut Ram) -> u64 {
-    let mut cycles = 0;
+fn finish(guest: &mut Guest, ram: &mut Ram) -> u64 {
+    let mut cycles = 0u64;
     for _ in 0..9u8 {
-        if !core.last() {
-            let cycle = core.want();
-            let byte = ram.access(cycle);
-            core.give(part, byte);
-            cycles += 1;
+        if guest.step(ram) {
+            cycles = cycles.saturating_add(1);
         }
     }
     cycles
 }
 
-/// The registers, once a sequence has ended.
-fn end(core: &Core) -> Option<Regs> {
-    if core.last() {
-        Some(core.at_end())
-    } else {
-        None
-    }
-}
-
 /// Comes to `r` from a reset on, cycle by cycle.
-fn set_up(part: Part, ram: &mut Ram, r: Regs) -> Core {
+fn set_up(part: Part, ram: &mut Ram, r: Regs) -> Guest {
     ram.place(0xFFFC, &[0x00, 0x06]);
     // LDX #s, TXS, LDA #p, PHA, LDX #x, LDY #y, LDA #a, PLP, JMP pc
     ram.place(0x0600, &[0xA2, r.s, 0x9A, 0xA9, r.p, 0x48]);
     ram.place(0x0606, &[0xA2, r.x, 0xA0, r.y, 0xA9, r.a, 0x28]);
     ram.place(0x060D, &[0x4C, (r.pc % 256) as u8, (r.pc / 256) as u8]);
-    let mut core = Core::new(part);
-    finish(&mut core, part, ram);
+    let mut guest = Guest::new(part);
+    finish(&mut guest, ram);
     for _ in 0..9u8 {
-        if core.last() {
-            core.take_lines(false, false);
-        }
-        finish(&mut core, part, ram);
+        guest.look();
+        finish(&mut guest, ram);
     }
-    core
+    guest
 }
 
 fn row_at(part: Part, op: u8) -> Option<Row> {
@@ -182,9 +228,9 @@ fn both(
     r: Regs,
     code: [u8; 3],
 ) -> Option<(u64, Regs, u64, Regs)> {
-    let mut core = set_up(part, ram, r);
+    let mut guest = set_up(part, ram, r);
     set_up(part, other, r);
-    if end(&core) != Some(r) {
+    if guest.end() != Some(r) {
         return None;
     }
     ram.place(r.pc, &code);
@@ -202,9 +248,9 @@ fn both(
     if cycles == 0 {
         return Some((0, r, 0, now));
     }
-    core.take_lines(false, false);
-    let count = finish(&mut core, part, ram);
-    let after = end(&core)?;
+    guest.look();
+    let count = finish(&mut guest, ram);
+    let after = guest.end()?;
     Some((count, after, cycles, now))
 }
 
