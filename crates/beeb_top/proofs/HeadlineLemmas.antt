@@ -34,7 +34,7 @@ use Rattle.beeb_outcome.specs.Names.{names_of}
 use Rattle.cmd_pair.specs.Solo.{kept_verdict, solo_after}
 use Rattle.beeb_outcome.specs.Verdicts.{machine_verdict}
 
-say_nothing : (said : Option (List ℕ)) → say [] said ≡ said
+pub say_nothing : (said : Option (List ℕ)) → say [] said ≡ said
 say_nothing None = refl
 say_nothing (Some bytes) = ap Some (append-nil bytes)
 

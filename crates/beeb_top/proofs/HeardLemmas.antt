@@ -122,7 +122,7 @@ left_heard l s name old new host wav differ is =
 
 -- ---- what each command comes to
 
-stage_ok : {A : Type 0} (r m : Result A (Refusal Cause)) (f : A → Verdict Ending) (v : Verdict Ending) → r ≡ m → or_stop (m >>= λ x. Ok (f x)) ≡ Ok v →
+pub stage_ok : {A : Type 0} (r m : Result A (Refusal Cause)) (f : A → Verdict Ending) (v : Verdict Ending) → r ≡ m → or_stop (m >>= λ x. Ok (f x)) ≡ Ok v →
     (x : A) × (r ≡ Ok x) × (v ≡ f x)
 stage_ok r (Ok x) f v is same = (x, is, cc)
 stage_ok r (Err refusal) f v is same = cc
@@ -140,7 +140,7 @@ stage_two : {A B : Type 0} (r : Result A (Refusal Cause)) (g : A → Result B (R
 stage_two (Err e) g f v is = cc
 stage_two (Ok x) g f v is = let got = stage_ok (g x) (g x) (f x) v refl is in (x, got.0, refl, got.1, got.2)
 
-placed : {S : Type 0} (done : S → Verdict Ending) (s : S) (place : Option (ℕ × Option Doing)) (w : Option (ℕ × ℕ)) (v : Verdict Ending) →
+pub placed : {S : Type 0} (done : S → Verdict Ending) (s : S) (place : Option (ℕ × Option Doing)) (w : Option (ℕ × ℕ)) (v : Verdict Ending) →
     v ≡ unless_wrong w (verdict_of_place done s place) → endings.Done ≡ v.ending → v ≡ done s
 placed done s place w v is ends =
     let fine : endings.Done ≡ (unless_wrong w (verdict_of_place done s place)).ending = ends ∙ ap (λ (x : Verdict Ending). x.ending) is in
@@ -221,7 +221,7 @@ module _ (plugs : List Plug) (ticks : ℕ) (out : List ℕ) (given : Values) (na
 
 -- ---- from the promise of a command
 
-was_read : (p : Plan Slot Ending Cause) (o : Option Files) (v : Verdict Ending) → ComesTo p o (Ok v) →
+pub was_read : (p : Plan Slot Ending Cause) (o : Option Files) (v : Verdict Ending) → ComesTo p o (Ok v) →
     (inputs : plans.Inputs Slot) × WereRead p.reads o inputs × (or_stop (p.after inputs) ≡ Ok v)
 was_read p None v comes = comes
 was_read p (Some files) v comes = read_ok p.reads files (read_all files p.reads) (λ list. or_stop (p.after list)) v refl comes

@@ -3,3 +3,4 @@ pub mod StageLemmas
 pub mod WorkLemmas
 pub mod HeadlineLemmas
 pub mod HeardLemmas
+pub mod GoneLemmas

@@ -2,3 +2,4 @@ pub mod Plans
 pub mod Commands
 pub mod Headline
 pub mod Heard
+pub mod Gone

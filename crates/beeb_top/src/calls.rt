@@ -3,6 +3,7 @@ ghost use Rattle.std.specs.Prelude.{◌≡◌, ◌↔◌, None, IfSome, IfNone, 
 ghost use Rattle.beeb_stages.specs.Promise.{world, nobody};
 ghost use Rattle.beeb_top.specs.Commands.{EndsWith, command_of_words, if_unpaired};
 ghost use Rattle.beeb_top.specs.Headline.{Headline};
+ghost use Rattle.beeb_top.specs.Gone.{Gone};
 ghost use Rattle.beeb_top.specs.Heard.{Heard};
 
 use crate::road::{paired, single};
@@ -36,6 +37,12 @@ pub fn plain<S: Shelf, O: Outlet>(
         let old = world (S.shelf shelf.old) (O.outlet out.old) nobody in
         let new = world (S.shelf shelf.new) (O.outlet out.new) nobody in
         result ≡ Status.Done → Heard devices (if_unpaired (command_of_words words.now)) old new }
+    // The theorems of sessions and of listings: where `resume` ends with `Done`, what is written is what the reference run of the session's
+    // machines leaves; where `follow` does, it is the listing of the machine's replay, and then how many lines it has is said.
+    ensures gone { let devices = map ⟦<Box<dyn BusDevice + Send> as BusDevice>⟧.plug plugs.items in
+        let old = world (S.shelf shelf.old) (O.outlet out.old) nobody in
+        let new = world (S.shelf shelf.new) (O.outlet out.new) nobody in
+        result ≡ Status.Done → Gone devices (if_unpaired (command_of_words words.now)) old new }
     // Else the command is carried out, with the devices as they were handed in.
     ensures ran { let devices = map ⟦<Box<dyn BusDevice + Send> as BusDevice>⟧.plug plugs.items in
         let old = world (S.shelf shelf.old) (O.outlet out.old) nobody in
@@ -80,6 +87,12 @@ pub fn top<S: Shelf, O: Outlet, C: Crew, R: Threads + Wait + Sync>(
         let old = world (S.shelf shelf.old) (O.outlet out.old) (C.counts crew.old) in
         let new = world (S.shelf shelf.new) (O.outlet out.new) (C.counts crew.new) in
         result ≡ Status.Done → Heard devices (command_of_words words.now) old new }
+    // The theorems of sessions and of listings: where `resume` ends with `Done`, what is written is what the reference run of the session's
+    // machines leaves; where `follow` does, it is the listing of the machine's replay, and then how many lines it has is said.
+    ensures gone { let devices = map ⟦<Box<dyn BusDevice + Send> as BusDevice>⟧.plug plugs.items in
+        let old = world (S.shelf shelf.old) (O.outlet out.old) (C.counts crew.old) in
+        let new = world (S.shelf shelf.new) (O.outlet out.new) (C.counts crew.new) in
+        result ≡ Status.Done → Gone devices (command_of_words words.now) old new }
     // Each command is carried out, `run` as `solo` with a crew: no clause names an order in which the steps of the two threads fell.
     ensures ran { let devices = map ⟦<Box<dyn BusDevice + Send> as BusDevice>⟧.plug plugs.items in
         let old = world (S.shelf shelf.old) (O.outlet out.old) (C.counts crew.old) in

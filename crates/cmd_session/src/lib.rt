@@ -2,7 +2,7 @@
 #![tactic(auto)]
 
 mod going;
-mod session;
+mod resumed;
 mod state;
 
-pub use session::session_outcome;
+pub use resumed::session_outcome;

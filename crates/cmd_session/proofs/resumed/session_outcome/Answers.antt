@@ -4,7 +4,7 @@ use Rattle.host_mach.specs.View.{host_seen}
 use Rattle.beeb_outcome.specs.View.{names_seen, verdict_of}
 use Rattle.power_on.specs.View.{seen_inputs, seen_setup}
 use Rattle.cmd_session.proofs.SessionLemmas.{went_so, comes_so, accesses_are, session_gives}
-use Rattle.cmd_session.proofs.session.session_outcome.Goals as goal
+use Rattle.cmd_session.proofs.resumed.session_outcome.Goals as goal
 
 pub started-requires-clause-slots : goal.started-requires-clause-slots
 started-requires-clause-slots g c = c.in_ok-parts.ensures.slots (session c.in_ok-saved.saved) c.in_ok-saved.ensures.keeps refl
