@@ -41,7 +41,7 @@ size s 18878
 at s 0 42 54 55 42 01 03 00 00 07 D0 00 00 00 40 00
 at s 49B7 00 00 00 03 FC 01 49
 keep
-take s
+back s
 $ resume t 2000 o --save s
 = 0
 same o.report
@@ -88,7 +88,7 @@ line o.report ticks 0
 $ solo 2000 o --os os --tube tube --keep 48 --save few
 = 0
 keep
-take few
+back few
 $ resume t 2000 o --save s
 = 0
 line o.report tube 49
@@ -137,7 +137,7 @@ tube
 $ solo 2000 o --os os --tube tube --save s
 = 0
 keep
-take s
+back s
 poke 18877 48
 $ resume t 2000 o
 = 8: wrong 49 49
@@ -210,7 +210,7 @@ tube
 $ solo 2000 o --os os --tube tube --save s
 = 0
 keep
-take s
+back s
 poke 18875 FB
 $ resume t 2000 o
 = 8: differs 49 00000003FC H R 1 --
@@ -258,7 +258,7 @@ $ solo 3000 o --os os --tube tube --keys keys --speed 4 --plugs 2 --wav w --save
 at s 5 04
 at s A 02
 keep
-take s
+back s
 $ resume t 3000 o --wav w --save s
 = 0
 same o.report
