@@ -6,8 +6,9 @@ ghost use Rattle.host_mach.specs.Step.{is_tube};
 
 use beeb_bits::{Clock, Tick};
 use bus_plug::BusDevice;
-use cpu_alu::Cycle;
+use cpu_alu::{Cycle, Regs};
 use host_bus::{Bus, stretch};
+use op_table::Part;
 use tube_chip::{Lines, Op};
 use tube_machine::{Done, Interrupts, TubeBus, Unable};
 
@@ -43,6 +44,7 @@ impl<D: BusDevice> TubeBus<()> for HostBus<D> {
     ghost use Rattle.host_mach.specs.View.{host_bus_seen};
     ghost use Rattle.host_mach.specs.Step.{host_wiring};
     ghost use Rattle.host_mach.specs.Lawful.{host_wired, host_plain, host_even};
+    ghost use Rattle.host_mach.specs.Whole.{plain_read, plain_write, rests, host_memory, host_rests};
 
     ghost State = { HostBusState };
 
@@ -65,6 +67,16 @@ impl<D: BusDevice> TubeBus<()> for HostBus<D> {
     ghost room = { λ notes. 0 };
 
     ghost even = { host_even };
+
+    ghost reads = { plain_read };
+
+    ghost writes = { plain_write };
+
+    ghost memory = { host_memory };
+
+    ghost rests = { rests };
+
+    ghost stays_at_rest = { host_rests };
 
     #[inline(always)]
     fn cycle(&self) -> u64 {
@@ -147,6 +159,16 @@ impl<D: BusDevice> TubeBus<()> for HostBus<D> {
                 Some(0)
             }
         }
+    }
+
+    #[inline(always)]
+    fn rests_until(&self, _lines: &Lines, _masks: bool) -> u64 {
+        0
+    }
+
+    #[inline(always)]
+    fn whole(&mut self, _part: Part, _regs: &mut Regs, _t: u64, _notes: &mut ()) -> u64 {
+        0
     }
 
     fn exchange(&mut self, t: u64, cycle: Cycle, _notes: &mut ()) -> Result<Done, Unable> {

@@ -2,6 +2,8 @@
 //! machine, with the tick of the next step beside them.
 ghost use Rattle.std.specs.Prelude.{◌≡◌, ◌≤◌, ◌<◌, ◌+◌, ◌-◌, ◌^◌, ℕ, List, [], length, None, IsSome, true, false};
 ghost use Rattle.op_table.specs.declared.Part.TheVariants.{Cmos};
+ghost use Rattle.cpu_alu.specs.Flags.{has_flag};
+ghost use Rattle.cpu_alu.specs.declared.flags.TheConstants.{INTERRUPT};
 ghost use Rattle.cpu_core.specs.Sequences.{next_cycle, starting};
 ghost use Rattle.tube_party.specs.Moves.{Looks, shown_lines};
 ghost use Rattle.tube_machine.specs.Step.{at_of, moves_of, closed_to, after_look};
@@ -74,7 +76,8 @@ fn bound_of<N, B: TubeBus<N>>(bus: &B, until: u64, sure: u64, next_break: u64, l
 const LONGEST: u64 = 8;
 
 // Instructions one after another, each done whole with the look behind it, from the first cycle of one at tick `from` on. Each ends below tick
-// `bound`: up to there a look is plain and sees these lines, and no break is pending. It gives the tick of the next step.
+// `bound`: up to there a look is plain and sees these lines, and no break is pending; and below `quiet`, up to which looks ask for nothing. It
+// gives the tick of the next step.
 #[inline(never)]
 fn go_whole<N, P: Processor, B: TubeBus<N>>(
     cpu: &mut P,
@@ -82,6 +85,7 @@ fn go_whole<N, P: Processor, B: TubeBus<N>>(
     notes: &mut N,
     from: u64,
     bound: u64,
+    quiet: u64,
     lines: &Lines,
 ) -> u64
     requires room { bound ≤ 2 ^ 30 }
@@ -90,6 +94,7 @@ fn go_whole<N, P: Processor, B: TubeBus<N>>(
     requires plain { B.plain (B.state bus.old) lines.now ≡ true }
     requires free { (t : ℕ) → t < bound → (B.wiring).pending (B.state bus.old) t ≡ false }
     requires starts { starting (P.core cpu.old) ≡ true }
+    requires rests { B.rests (B.state bus.old) lines.now (has_flag (P.core cpu.old).regs.p INTERRUPT) quiet }
     ensures onward { let old = at_of (P.core cpu.old) (B.state bus.old) from in
         let new = at_of (P.core cpu.new) (B.state bus.new) result in
         IsOnward P.part B.wiring B.plain lines.now bound old new }
@@ -111,8 +116,6 @@ fn go_whole<N, P: Processor, B: TubeBus<N>>(
         s: first.s,
         p: first.p,
     };
-    let masks = has_flag(regs.p, INTERRUPT);
-    let quiet = bus.rests_until(lines, masks);
     let end = bound.min(quiet);
     let mut due = from;
     while due + LONGEST * cycle <= end {
@@ -154,10 +157,15 @@ fn go_whole_at_start<N, P: Processor, B: TubeBus<N>>(
         let new = spent result (B.room notes.new) (length (P.core cpu.new).seen) in
         (sure : ℕ) → bound ≤ sure → HasSpent (P.part ≡ Cmos) cycle sure old new }
 {
-    if !cpu.starting() || from + LONGEST * bus.cycle() > bound {
+    let first_end = from + LONGEST * bus.cycle();
+    if !cpu.starting() || first_end > bound {
         return from;
     }
-    go_whole::<N, P, B>(cpu, bus, notes, from, bound, lines)
+    let quiet = bus.rests_until(lines, has_flag(cpu.at_start().p, INTERRUPT));
+    if first_end > quiet {
+        return from;
+    }
+    go_whole::<N, P, B>(cpu, bus, notes, from, bound, quiet, lines)
 }
 
 /// Goes on from a step at tick `from`, and gives the tick of the step at which it leaves off. It does no look at which a break is pending, and no

@@ -3,6 +3,8 @@ use Rattle.std.proofs.Math.Nat.{mul-le-mul_left}
 use Rattle.op_table.specs.declared.names.Part.{Part}
 use Rattle.op_table.specs.declared.names.Part.TheVariants.{Cmos}
 use Rattle.cpu_alu.specs.declared.Regs.{Regs}
+use Rattle.cpu_alu.specs.declared.flags.TheConstants.{INTERRUPT}
+use Rattle.cpu_alu.specs.Flags.{has_flag}
 use Rattle.cpu_core.specs.State as cpu
 use Rattle.cpu_core.specs.declared.Sequence.TheVariants.{Instruction}
 use Rattle.cpu_core.specs.Sequences.{next_cycle, fresh}
@@ -29,8 +31,8 @@ loop-due-init g c =
           subst (λ (x : cpu.State). IsUnderWay part w g.B.TubeBus.plain far c.cycle-cycle.result until c.args.lines.now sure start (at_of x (g.B.TubeBus.state c.args.bus.now) c.args.from) c.args.from) there
           (caught-up part w g.B.TubeBus.wired g.B.TubeBus.plain g.B.TubeBus.stays_plain far until c.args.lines.now sure start c.cycle-cycle.result start c.cycle-cycle.ensures.value on c.requires.before free (λ is. is) (0, refl));
       before = c.requires.before;
-      rests = c.rests_until-quiet.ensures;
-      held = sym c.has_flag-masks.ensures;
+      rests = c.requires.rests;
+      held = ap (λ (r : Regs). has_flag r.p INTERRUPT) c.at_start-first.ensures;
       low = omega arith;
       high = c.requires.from;
       noted = refl;
@@ -61,10 +63,10 @@ loop-due-preserved g c =
     let few : n * k ≤ n * 8 = mul-le-mul_left n c.whole-cycles.ensures.few in
     let ends : top ≤ c.min-end.result = omega (arith, few, c.loop-due-test.true) in
     let in_bound : top ≤ c.args.bound = omega (arith, ends, c.min-end.ensures) in
-    let still : top ≤ c.rests_until-quiet.result = omega (arith, ends, c.min-end.ensures) in
+    let still : top ≤ c.args.quiet = omega (arith, ends, c.min-end.ensures) in
     let went = λ (far until sure : ℕ) (far_on : c.args.bound ≤ far) (in_run : c.args.bound ≤ until) (early : c.args.bound ≤ sure) (free : IsFree part w far (g.B.TubeBus.state c.args.bus.now)).
     whole-on part w g.B.TubeBus.wired g.B.TubeBus.reads g.B.TubeBus.writes g.B.TubeBus.memory g.B.TubeBus.rests g.B.TubeBus.stays_at_rest g.B.TubeBus.plain g.B.TubeBus.stays_plain
-    far until c.args.lines.now sure n start c.has_flag-masks.result c.rests_until-quiet.result c.requires.plain k due c.loop-due.regs new m there some
+    far until c.args.lines.now sure n start (has_flag (g.P.Processor.core c.args.cpu.now).regs.p INTERRUPT) c.args.quiet c.requires.plain k due c.loop-due.regs new m there some
     (c.loop-due.invariant.way far until sure far_on in_run early free) done c.loop-due.invariant.before (omega (arith, in_bound, far_on)) (omega (arith, in_bound, in_run)) (omega (arith, in_bound, early)) still
     c.loop-due.invariant.rests c.loop-due.invariant.held in
     let close : w.close there top ≡ g.B.TubeBus.state c.close.new.self = sym c.close.ensures.closed in
@@ -75,7 +77,7 @@ loop-due-preserved g c =
           let closed = ap w.closed (sym close) ∙ g.B.TubeBus.wired.closed there top in
           let reached : w.closed there ≤ top = subst (λ (x : ℕ). w.closed there ≤ due + x * k) (sym ((c.loop-due.invariant.way c.args.bound c.args.bound c.args.bound (omega arith) (omega arith) (omega arith) c.requires.free).cycle)) (c.whole-cycles.ensures.closed some) in
           omega (arith, closed, reached);
-      rests = subst (λ (b : g.B.TubeBus.State). g.B.TubeBus.rests b c.args.lines.now c.has_flag-masks.result c.rests_until-quiet.result) close (went c.args.bound c.args.bound c.args.bound (omega arith) (omega arith) (omega arith) c.requires.free).1;
+      rests = subst (λ (b : g.B.TubeBus.State). g.B.TubeBus.rests b c.args.lines.now (has_flag (g.P.Processor.core c.args.cpu.now).regs.p INTERRUPT) c.args.quiet) close (went c.args.bound c.args.bound c.args.bound (omega arith) (omega arith) (omega arith) c.requires.free).1;
       held = done.masks ∙ c.loop-due.invariant.held;
       low = omega (arith, c.loop-due.invariant.low);
       high = in_bound;

@@ -17,8 +17,8 @@ invariant-loop-due g l = record {
       (at_of (fresh Instruction l.regs) (g.B.TubeBus.state l.bus) l.due)
       l.due;
   before : (g.B.TubeBus.wiring).closed (g.B.TubeBus.state l.bus) ≤ l.due + 1;
-  rests : g.B.TubeBus.rests (g.B.TubeBus.state l.bus) l.lines l.masks l.quiet;
-  held : has_flag l.regs.p INTERRUPT ≡ l.masks;
+  rests : g.B.TubeBus.rests (g.B.TubeBus.state l.bus) l.lines (has_flag (g.P.Processor.core l.fn.cpu).regs.p INTERRUPT) l.quiet;
+  held : has_flag l.regs.p INTERRUPT ≡ has_flag (g.P.Processor.core l.fn.cpu).regs.p INTERRUPT;
   low : l.from ≤ l.due;
   high : l.due ≤ l.bound;
   noted : g.B.TubeBus.before l.notes l.bus ≡ g.B.TubeBus.before l.fn.notes l.fn.bus;
