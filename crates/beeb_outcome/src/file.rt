@@ -138,10 +138,7 @@ impl<'a, D: BusDevice> Leaves for Left<'a, D> {
                 String::from_str(alloc, self.names.save.unwrap_or(""))?,
                 session_in(alloc, &self.saved)?,
             )),
-            Output::Listing => Ok((
-                format!(in alloc; "{out}.list")?,
-                self.bytes.to_vec(alloc)?,
-            )),
+            Output::Listing => Ok((format!(in alloc; "{out}.list")?, self.bytes.to_vec(alloc)?)),
             Output::Bytes => Ok((String::from_str(alloc, out)?, self.bytes.to_vec(alloc)?)),
         }
     }

@@ -1,5 +1,5 @@
 -- The theorems of sessions and of listings follow from what each command promises.
-use Rattle.std.proofs.Common.{◌≡◌, ◌∙◌, refl, ap, ℕ, List, Option, Some, None, Result, Ok, append-nil}
+use Rattle.std.proofs.Common.{◌≡◌, ◌∙◌, refl, ap, ℕ, List, Option, Some, Result, Ok}
 use Rattle.beeb_bits.specs.declared.Side.{Side}
 use Rattle.beeb_bits.specs.declared.Side.TheVariants.{Host, Para}
 use Rattle.op_table.specs.declared.names.Part.{Part}
@@ -33,6 +33,7 @@ use Rattle.follow.specs.Listing.{replay_listing}
 use Rattle.power_on.specs.Inputs.{inputs_of}
 use Rattle.power_on.specs.Setup.{setup_of}
 use Rattle.beeb_outcome.specs.Names.{names_of}
+use Rattle.beeb_outcome.specs.Verdicts.{machine_verdict}
 use Rattle.cmd_replay.specs.Replay.{unless_wrong}
 use Rattle.cmd_pair.specs.Solo.{kept_verdict}
 use Rattle.cmd_follow.specs.Follow.{listed_verdict, listed_ended, follow_host_after, follow_para_after}
@@ -59,7 +60,7 @@ module _ (plugs : List Plug) (old new : World) where
   Ends c = CarriesOut (plan plugs c) old new (Ok endings.Done)
 
   resume_gone : (state : List ℕ) (ticks keep : ℕ) (out : List ℕ) (given : Values) → Ends (resume state ticks out keep given) → IsResumed plugs (resume state ticks out keep given) keep out given old new
-  unfolding kept_verdict
+  unfolding kept_verdict machine_verdict
   resume_gone state ticks keep out given c =
       let read = was_read (plan plugs (resume state ticks out keep given)) old.shelf.files c.ends.0 c.ends.1.0 in
       let got = session_done plugs ticks keep (names_of out given) (inputs_of read.0) c.ends.0 read.2 c.ends.2 in
