@@ -3,6 +3,7 @@ mod breaks;
 mod cycles;
 mod devices;
 mod discs;
+mod failing;
 mod guests;
 mod hostile;
 mod hosts;
