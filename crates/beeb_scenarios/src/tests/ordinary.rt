@@ -312,6 +312,24 @@ none demo.para
 none demo.d0
 none demo.000.ppm
 none demo.trace
+## The same saved, and taken up again half a million ticks further on.
+fails - -
+run 3000000 demo --save s --os os --rom15 lang --rom14 dfs --tube tube --disc0 t --keys keys
+= 0
+keep
+$ solo 3500000 demo --os os --rom15 lang --rom14 dfs --tube tube --disc0 t --keys keys
+= 0
+keep
+take s
+$ resume t 3500000 demo
+= 0
+same demo.report
+same demo.host
+same demo.para
+same demo.d0
+same demo.000.ppm
+same demo.001.ppm
+same demo.trace
 # The demonstration of a seed: the sum of its bytes, sixteen times each, from a generator of another making.
 $ gen 1
 = 0
