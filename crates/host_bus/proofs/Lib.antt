@@ -9,3 +9,4 @@ pub mod Closed
 pub mod Unseen
 pub mod Pressed
 pub mod Peeks
+pub mod CalmThere

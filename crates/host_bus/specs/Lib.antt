@@ -20,3 +20,4 @@ pub mod View
 pub mod AtTube
 pub mod SameClock
 pub mod Peek
+pub mod StoredLines

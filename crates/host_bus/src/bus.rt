@@ -4,6 +4,7 @@ ghost use Rattle.sn76489.specs.Samples.{NeverFallFrom};
 ghost use Rattle.host_bus.specs.Map.{stretch};
 ghost use Rattle.host_bus.specs.Bus.{bus_closed, closed_at, clock_of, bus_answer, bus_after_read, bus_after_write, bus_irq, bus_nmis, bus_break_pending, bus_next_break, bus_break_taken, bus_disc, bus_power_on};
 ghost use Rattle.host_bus.specs.Peek.{bus_peek};
+ghost use Rattle.host_bus.specs.Lag.{IsCalm};
 ghost use Rattle.host_bus.specs.View.{bus_seen, IsSettled};
 
 use crate::lag::LaggingBoard;
@@ -160,6 +161,14 @@ impl<D: BusDevice> Bus<D> {
         let next = t.0 + 1;
         self.close(next);
         self.write_now(at, v);
+    }
+
+    /// A tick up to which the lines to the processor surely stay as they are, wherever the bus is closed.
+    #[inline(always)]
+    pub fn calm(&self) -> u64
+        ensures { IsCalm result (bus_seen D.plug self.now).board }
+    {
+        self.board.calm()
     }
 
     /// Whether a device asks for an interrupt at tick `t`: first the devices are closed at `t` + 1.

@@ -5,7 +5,7 @@ ghost use Rattle.sn76489.specs.Samples.{NeverFallFrom};
 ghost use Rattle.host_bus.specs.declared.map.Place.TheVariants.{Ram};
 ghost use Rattle.host_bus.specs.Map.{place_of};
 ghost use Rattle.host_bus.specs.Board.{board_closed, answer_at, read_at, written_at, board_irq, board_nmis, break_pending, break_taken, next_break, first_board};
-ghost use Rattle.host_bus.specs.Lag.{caught_up, IsSettled};
+ghost use Rattle.host_bus.specs.Lag.{caught_up, IsCalm, IsSettled};
 
 use crate::board::Board;
 use beeb_bits::{Clock, NoMemory, Tick};
@@ -181,6 +181,14 @@ impl LaggingBoard {
         self.board.write(at, v);
         self.calm = self.board.calm();
         self.lowest = self.board.lowest();
+    }
+
+    /// A tick up to which the lines to the processor surely stay as they are, wherever the board is closed.
+    #[inline(always)]
+    pub fn calm(&self) -> u64
+        ensures { IsCalm result (caught_up self.now) }
+    {
+        self.calm
     }
 
     /// Whether a device asks for an interrupt.

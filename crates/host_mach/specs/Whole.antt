@@ -1,21 +1,30 @@
 -- Which of the host's addresses are plain memory.
-use Rattle.std.specs.Prelude.{ℕ, suc, ◌≡◌, ◌≤◌, ◌<◌, ◌+◌, ◌*◌, ◌/◌, ◌%◌, ◌==◌, max, nat_lt, nat_le, Bool, true, false, refl, slice_index, slice_set, List, if◌then◌else◌}
-use Rattle.std.proofs.Common.{arith, ap, ◌∙◌, sym}
-use Rattle.std.proofs.lemmas.Bool.{ltb-true, lt-ltb}
+use Rattle.std.specs.Prelude.{ℕ, zero, suc, length, Option, None, Some, MatchOption, ◌≡◌, ◌≤◌, ◌<◌, ◌+◌, ◌*◌, ◌/◌, ◌%◌, ◌==◌, max, nat_lt, nat_le, ◌&&◌, ◌||◌, ◌⊎◌, not, Bool, true, false, refl, slice_index, slice_set, List, if◌then◌else◌}
+use Rattle.std.proofs.Common.{arith, ap, ◌∙◌, sym, subst, inl, inr}
+use Rattle.std.proofs.lemmas.Bool.{ltb-true, lt-ltb, eq-eqb, cases_lt}
 use Rattle.std.proofs.lemmas.Grind.{common_steps}
 use Rattle.std.proofs.lemmas.List.{set-set, set-get_or}
-use Rattle.std.proofs.Math.Nat.{mul-le-mul_left, mul-one}
+use Rattle.std.proofs.Math.Nat.{mul-le-mul_left, mul-add, mul-one}
+use Rattle.op_table.specs.declared.names.Part.{Part}
+use Rattle.cpu_alu.specs.declared.Cycle.{Cycle}
 use Rattle.cpu_alu.specs.declared.Cycle.TheVariants.{Read, Write}
+use Rattle.cpu_core.specs.State.{State}
+use Rattle.cpu_core.specs.Sequences.{next_cycle, after_byte}
 use Rattle.beeb_bits.specs.Clock.{host}
 use Rattle.tube_chip.specs.declared.Lines.{Lines}
 use Rattle.host_bus.specs.declared.map.Place.{Place}
 use Rattle.host_bus.specs.declared.map.Place.TheVariants.{Ram, PagedRom, OsRom}
 use Rattle.host_bus.specs.Map.{place_of, stretch, stretched_in, memory_map}
 use Rattle.host_bus.specs.Board.{BoardState}
-use Rattle.host_bus.specs.Bus.{BusState, clock_of, bus_closed, answer_of, after_read_of, after_write_of, bus_answer, bus_after_read, bus_after_write}
+use Rattle.host_bus.specs.Bus.{BusState, clock_of, bus_closed, closed_at, bus_irq, bus_nmis, answer_of, after_read_of, after_write_of, bus_answer, bus_after_read, bus_after_write}
 use Rattle.host_bus.specs.Closing.{closed-again, closed-still}
-use Rattle.tube_machine.specs.Whole.{reach_of, IsMemory, StaysAtRest}
+use Rattle.tube_machine.specs.Whole.{reach_of, IsMemory, IsAtRest, StaysAtRest}
+use Rattle.cpu_whole.specs.Whole.{AreRead, Carried, is_plain, shows, leaves}
+use Rattle.cpu_alu.specs.Addresses.{wrap}
+use Rattle.host_bus.specs.Lag.{IsCalm}
+use Rattle.host_bus.specs.StoredLines.{irq-stored, nmis-stored}
 use Rattle.host_mach.specs.State.{HostBusState}
+use Rattle.host_mach.specs.SameClock.{access-same}
 use Rattle.host_mach.specs.Step.{is_tube, host_wiring, bus_after}
 
 -- reads below the devices, and writes to the RAM
@@ -112,13 +121,85 @@ host_memory = record {
   write_closed = λ b at byte low. ap (λ (x : BusState). x.board.closed) (writes-store b.bus at byte (ltb-true at 0x8000 low));
 }
 
--- of no look it is known yet that it asks for nothing
+-- Looks up to a tick ask for nothing where, however far the bus is closed below it, the count of NMIs is the one taken, and no line for an IRQ is
+-- on or the flag I holds it back.
+abbrev pub AsksNothing : BusState → ℕ → Lines → Bool → Type 0
+AsksNothing b nmis l masks = (bus_nmis b ≡ nmis) × (((bus_irq b || l.hirq) && not masks) ≡ false)
+
 abbrev pub rests : HostBusState → Lines → Bool → ℕ → Type 0
-rests b lines masks far = far ≡ 0
+rests b l masks far = 0 < far → (u : ℕ) → u ≤ far → AsksNothing (bus_closed b.bus u) b.nmis l masks
+
+at-rest : (b : HostBusState) (l : Lines) (masks : Bool) → AsksNothing b.bus b.nmis l masks → IsAtRest host_wiring b l masks
+at-rest b l masks h = record {
+  nmi = ap not (eq-eqb (bus_nmis b.bus) b.nmis h.0);
+  irq = h.1;
+  taken = ap (λ (n : ℕ). record b { nmis = n }) h.0;
+}
+
+closed-rests : (b : HostBusState) (l : Lines) (masks : Bool) (far t : ℕ) → rests b l masks far → t ≤ far → rests (record b { bus = bus_closed b.bus t }) l masks far
+closed-rests b l masks far t rest low some u near = by (cases_lt u t)
+  where
+    by : (u < t) ⊎ (t ≤ u) → AsksNothing (bus_closed (bus_closed b.bus t) u) b.nmis l masks
+    by (inl less) =
+        let still : u ≤ max t (closed_at b.bus) = omega (arith, less) in
+        subst (λ (x : BusState). AsksNothing x b.nmis l masks) (sym (closed-still (bus_closed b.bus t) u still)) (rest some t low)
+    by (inr more) = subst (λ (x : BusState). AsksNothing x b.nmis l masks) (sym (closed-again b.bus t u more)) (rest some u near)
+
+stored-rests : (b : HostBusState) (l : Lines) (masks : Bool) (far at v : ℕ) → at < 0x8000 → rests b l masks far → rests (record b { bus = bus_after_write b.bus at v }) l masks far
+stored-rests b l masks far at v low rest some u near =
+    let there = rest some u near in
+    subst (λ (x : BusState). AsksNothing (bus_closed x u) b.nmis l masks) (sym (writes-store b.bus at v low))
+    (nmis-stored b.bus.board at v u ∙ there.0, ap (λ (i : Bool). (i || l.hirq) && not masks) (irq-stored b.bus.board at v u) ∙ there.1)
 
 pub host_rests : StaysAtRest host_wiring plain_write rests
 host_rests = record {
-  looks = λ b l masks far t none low. absurd (omega (arith, none, low));
-  close = λ b l masks far t none low. none;
-  write = λ b l masks far at byte none low. none;
+  looks = λ b l masks far t rest low. at-rest (record b { bus = bus_closed b.bus (t + 1) }) l masks (rest (omega (arith, low)) (t + 1) (omega (arith, low)));
+  close = λ b l masks far t rest low. closed-rests b l masks far t rest low;
+  write = λ b l masks far at byte rest low. stored-rests b l masks far at byte (ltb-true at 0x8000 low) rest;
 }
+
+-- where the lines stay up to a tick and ask for nothing now
+pub calm-rests : (b : HostBusState) (l : Lines) (masks : Bool) (far : ℕ) → bus_nmis b.bus ≡ b.nmis → ((bus_irq b.bus || l.hirq) && not masks) ≡ false → IsCalm far b.bus.board → rests b l masks far
+calm-rests b l masks far nmis irq calm some u near = (calm.nmis u near ∙ nmis, ap (λ (i : Bool). (i || l.hirq) && not masks) (calm.irq u near) ∙ irq)
+
+-- an instruction below the devices
+pub runs-low : (pc : ℕ) → pc < 0xFBFE → AreRead (reach_of host_wiring plain_read plain_write) pc
+runs-low pc low = record {
+  first = lt-ltb pc 0xFC00 (omega (arith, low));
+  second = lt-ltb (wrap (pc + 1)) 0xFC00 (omega (arith, low));
+  third = lt-ltb (wrap (pc + 2)) 0xFC00 (omega (arith, low));
+}
+
+-- an instruction's cycles begin one after another, and each closes the bus no further than behind its first tick
+pub comes_later : (closed c t n k : ℕ) → closed ≤ t + max 1 (c * n) → n ≤ k → closed ≤ t + max 1 (c * k)
+comes_later closed c t n k low high = let more : c * n ≤ c * k = mul-le-mul_left c high in omega (arith, low, more)
+
+pub comes_next : (c t n : ℕ) → 1 < c → t + c * n + 1 ≤ t + max 1 (c * (n + 1))
+comes_next c t n some = let sum : c * (n + 1) ≡ c * n + c * 1 = mul-add c n 1 in let one : c * 1 ≡ c = mul-one c in omega (arith, sum, one, some)
+
+pub comes_behind : (c t n closed : ℕ) → 1 < c → 0 < n → closed ≤ t + max 1 (c * n) → closed ≤ t + c * n
+comes_behind c t n closed some more low = let least : c * 1 ≤ c * n = mul-le-mul_left c more in let one : c * 1 ≡ c = mul-one c in omega (arith, least, one, some, low)
+
+-- the clock, and how far the bus is closed, after a write
+pub clock-written : (b : BusState) (at v : ℕ) → at < 0x8000 → clock_of (bus_after_write b at v) ≡ clock_of b
+clock-written b at v low = clock-stays b at v low
+
+pub closed-written : (b : BusState) (at v : ℕ) → at < 0x8000 → closed_at (bus_after_write b at v) ≡ closed_at b
+closed-written b at v low = ap (λ (x : BusState). closed_at x) (writes-store b at v low)
+
+-- no access changes how long ticks are
+leaves-clock : (t n : ℕ) (m : HostBusState) (c : Cycle) → clock_of (leaves (reach_of host_wiring plain_read plain_write) t m n c).bus ≡ clock_of m.bus
+leaves-clock t n m (Read at) = refl
+leaves-clock t n m (Write at v) = access-same (bus_closed m.bus (t + host (clock_of m.bus) * n + 1)) (Write at v)
+
+carried-by : (part : Part) (t k : ℕ) (s : State) (m : HostBusState) (last : State) (there : HostBusState) (o : Option Cycle) →
+    ((on : State) (b : HostBusState) → Carried (reach_of host_wiring plain_read plain_write) t part k on b last there → clock_of there.bus ≡ clock_of b.bus) →
+    MatchOption o ⊥ (λ (c : Cycle). (is_plain (reach_of host_wiring plain_read plain_write) c ≡ true)
+    × Carried (reach_of host_wiring plain_read plain_write) t part k (after_byte part s (shows (reach_of host_wiring plain_read plain_write) m c)) (leaves (reach_of host_wiring plain_read plain_write) t m (length s.seen) c) last there) →
+    clock_of there.bus ≡ clock_of m.bus
+carried-by part t k s m last there None on h = absurd h
+carried-by part t k s m last there (Some c) on h = on _ _ h.1 ∙ leaves-clock t (length s.seen) m c
+
+pub carried-clock : (part : Part) (t k : ℕ) (s : State) (m : HostBusState) (last : State) (there : HostBusState) → Carried (reach_of host_wiring plain_read plain_write) t part k s m last there → clock_of there.bus ≡ clock_of m.bus
+carried-clock part t zero s m last there h = ap (λ (x : HostBusState). clock_of x.bus) (sym h.1)
+carried-clock part t (suc k) s m last there h = carried-by part t k s m last there (next_cycle part s) (λ on b more. carried-clock part t k on b last there more) h

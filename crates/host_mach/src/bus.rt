@@ -7,6 +7,7 @@ ghost use Rattle.host_mach.specs.Step.{is_tube};
 use beeb_bits::{Clock, Tick};
 use bus_plug::BusDevice;
 use cpu_alu::{Cycle, Regs};
+use cpu_whole::{Plain, whole};
 use host_bus::{Bus, stretch};
 use op_table::Part;
 use tube_chip::{Lines, Op};
@@ -162,13 +163,19 @@ impl<D: BusDevice> TubeBus<()> for HostBus<D> {
     }
 
     #[inline(always)]
-    fn rests_until(&self, _lines: &Lines, _masks: bool) -> u64 {
-        0
+    fn rests_until(&self, lines: &Lines, masks: bool) -> u64 {
+        if self.bus.nmis_now() != self.nmis {
+            return 0;
+        }
+        if (self.bus.irq_now() || lines.hirq) && !masks {
+            return 0;
+        }
+        self.bus.calm()
     }
 
     #[inline(always)]
-    fn whole(&mut self, _part: Part, _regs: &mut Regs, _t: u64, _notes: &mut ()) -> u64 {
-        0
+    fn whole(&mut self, part: Part, regs: &mut Regs, t: u64, notes: &mut ()) -> u64 {
+        whole::<(), HostBus<D>>(part, regs, self, t, notes)
     }
 
     fn exchange(&mut self, t: u64, cycle: Cycle, _notes: &mut ()) -> Result<Done, Unable> {
@@ -194,5 +201,60 @@ impl<D: BusDevice> TubeBus<()> for HostBus<D> {
                 })
             }
         }
+    }
+}
+
+impl<D: BusDevice> Plain<()> for HostBus<D> {
+    ghost use Rattle.std.specs.Prelude.{◌≤◌, ◌+◌, ◌*◌, max};
+    ghost use Rattle.beeb_bits.specs.Clock.{host};
+    ghost use Rattle.host_bus.specs.Bus.{clock_of, closed_at};
+    ghost use Rattle.tube_machine.specs.Whole.{reach_of};
+    ghost use Rattle.host_mach.specs.State.{HostBusState};
+    ghost use Rattle.host_mach.specs.View.{host_bus_seen};
+    ghost use Rattle.host_mach.specs.Step.{host_wiring};
+    ghost use Rattle.host_mach.specs.Whole.{plain_read, plain_write, host_memory, comes_later};
+
+    ghost State = { HostBusState };
+
+    ghost state = { λ b. host_bus_seen D.plug b };
+
+    ghost reach = { reach_of host_wiring plain_read plain_write };
+
+    ghost is_plain = { host_memory.plain };
+
+    ghost may_come = { λ b t n. closed_at b.bus ≤ t + max 1 (host (clock_of b.bus) * n) };
+
+    ghost later = { λ b t n k low high. comes_later (closed_at b.bus) (host (clock_of b.bus)) t n k low high };
+
+    ghost Kept = { Unit {0} };
+
+    ghost before = { λ notes b. tt };
+
+    ghost room = { λ notes. 2 };
+
+    #[inline(always)]
+    fn runs(&self, pc: u16) -> bool {
+        pc < 0xfbfe
+    }
+
+    #[inline(always)]
+    fn reads(&self, at: u16) -> bool {
+        at < 0xfc00
+    }
+
+    #[inline(always)]
+    fn writes(&self, at: u16, _notes: &()) -> bool {
+        at < 0x8000
+    }
+
+    #[inline(always)]
+    fn byte(&self, at: u16) -> u8 {
+        self.bus.memory(at)
+    }
+
+    #[inline(always)]
+    fn put(&mut self, t: u64, cycle: u64, at: u16, byte: u8, _notes: &mut ()) {
+        self.bus.close(t + self.bus.clock().host() * cycle + 1);
+        self.bus.store(at, byte);
     }
 }
