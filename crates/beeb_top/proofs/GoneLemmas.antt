@@ -29,14 +29,14 @@ use Rattle.tube_party.specs.Moves.{Moves}
 use Rattle.tube_party.specs.Replay.{replay_of}
 use Rattle.follow.specs.declared.Choice.{Choice}
 use Rattle.follow.specs.Sight.{Sight}
-use Rattle.follow.specs.Listing.{replay_listing}
+use Rattle.follow.specs.Listing.{ListingState, replay_listing}
 use Rattle.power_on.specs.Inputs.{inputs_of}
 use Rattle.power_on.specs.Setup.{setup_of}
 use Rattle.beeb_outcome.specs.Names.{names_of}
 use Rattle.beeb_outcome.specs.Verdicts.{machine_verdict}
 use Rattle.cmd_replay.specs.Replay.{unless_wrong}
 use Rattle.cmd_pair.specs.Solo.{kept_verdict}
-use Rattle.cmd_follow.specs.Follow.{listed_verdict, listed_ended, follow_host_after, follow_para_after}
+use Rattle.cmd_follow.specs.Follow.{listed_verdict, listed_by, listed_ended, follow_host_after, follow_para_after}
 use Rattle.beeb_top.specs.Plans.{plan, choice_of}
 use Rattle.beeb_top.specs.Commands.{EndsWith}
 use Rattle.beeb_top.specs.Gone.{IsResumed, IsListed, Gone}
@@ -47,12 +47,13 @@ use Rattle.beeb_top.proofs.HeardLemmas.{stage_ok, placed, session_done, was_read
 listed_done : {S : Type 0} (m : Moves S) (sights : S → Sight) (part : Part) (side : Side) (ticks : ℕ) (choice : Choice) (out : List ℕ) (r : Result (List Entry × S) (Refusal Cause))
     (v : Verdict Ending) → or_stop (r >>= λ x. Ok (unless_wrong (wrong x.0) (listed_ended m sights part side ticks choice out x.0 x.1))) ≡ Ok v → endings.Done ≡ v.ending →
     (x : List Entry × S) × (r ≡ Ok x) × (v ≡ listed_verdict out (replay_listing m sights part side x.0 ticks choice x.1))
-unfolding listed_ended
+unfolding listed_by
 listed_done m sights part side ticks choice out r v comes done =
     let got = stage_ok r r (λ x. unless_wrong (wrong x.0) (listed_ended m sights part side ticks choice out x.0 x.1)) v refl comes in (
       got.0,
       got.1,
-      placed (λ s. listed_verdict out (replay_listing m sights part side got.0.0 ticks choice s)) got.0.1 (replay_of m side got.0.0 ticks got.0.1).place (wrong got.0.0) v got.2 done,
+      placed (λ (l : ListingState). listed_verdict out l) (replay_listing m sights part side got.0.0 ticks choice got.0.1)
+          (replay_of m side got.0.0 ticks got.0.1).place (wrong got.0.0) v got.2 done,
     )
 
 module _ (plugs : List Plug) (old new : World) where

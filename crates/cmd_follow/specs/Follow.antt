@@ -1,5 +1,5 @@
 -- `follow SIDE TRACE TICKS OUT` and options: the instructions that a machine starts against a trace.
-use Rattle.std.specs.Prelude.{ℕ, List, ◌++◌, Result, Ok, codes}
+use Rattle.std.specs.Prelude.{ℕ, List, ◌++◌, Option, Result, Ok, codes}
 use Rattle.std.specs.Fmt.{decimal}
 use Rattle.beeb_bits.specs.declared.clock.Clock.{Clock}
 use Rattle.beeb_bits.specs.declared.Side.{Side}
@@ -8,6 +8,7 @@ use Rattle.op_table.specs.declared.names.Part.{Part}
 use Rattle.op_table.specs.declared.names.Part.TheVariants.{Nmos, Cmos}
 use Rattle.tube_trace.specs.declared.Entry.{Entry}
 use Rattle.tube_trace.specs.FirstWrong.{wrong}
+use Rattle.tube_party.specs.declared.Doing.{Doing}
 use Rattle.tube_party.specs.Moves.{Moves}
 use Rattle.tube_party.specs.Replay.{replay_of}
 use Rattle.follow.specs.declared.Choice.{Choice}
@@ -35,10 +36,14 @@ listed_text listed chosen = codes "listed " ++ (decimal listed ++ (codes " of " 
 abbrev pub listed_verdict : List ℕ → ListingState → Verdict Ending
 listed_verdict out l = listing_verdict out l.text (listed_text l.listed l.chosen)
 
--- what comes of a machine against the entries of a trace: its listing, or the place where both differ
-unfoldable pub listed_ended : {S : Type 0} → Moves S → (S → Sight) → Part → Side → ℕ → Choice → List ℕ → List Entry → S → Verdict Ending
+-- what comes of a replay that ended at this place, with this listing: the listing, or the place where machine and trace differ
+unfoldable pub listed_by : List ℕ → Option (ℕ × Option Doing) → ListingState → Verdict Ending
+listed_by out place listing = verdict_of_place (λ (l : ListingState). listed_verdict out l) listing place
+
+-- what comes of a machine against the entries of a trace
+abbrev pub listed_ended : {S : Type 0} → Moves S → (S → Sight) → Part → Side → ℕ → Choice → List ℕ → List Entry → S → Verdict Ending
 listed_ended m sights part side ticks choice out entries s =
-    verdict_of_place (λ x. listed_verdict out (replay_listing m sights part side entries ticks choice x)) s (replay_of m side entries ticks s).place
+    listed_by out (replay_of m side entries ticks s).place (replay_listing m sights part side entries ticks choice s)
 
 -- what is read and what is refused is what `replay` reads and refuses
 unfoldable pub follow_host_after : Setup → ℕ → Choice → List ℕ → Inputs → Result (Verdict Ending) (Refusal Cause)

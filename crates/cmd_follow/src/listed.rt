@@ -5,7 +5,8 @@ ghost use Rattle.tube_trace.specs.FirstWrong.{wrong};
 ghost use Rattle.beeb_outcome.specs.View.{verdict_of};
 ghost use Rattle.cmd_replay.specs.Replay.{unless_wrong};
 ghost use Rattle.follow.specs.Listing.{replay_listing};
-ghost use Rattle.cmd_follow.specs.Follow.{listed_text, listed_ended};
+ghost use Rattle.tube_party.specs.Replay.{replay_of};
+ghost use Rattle.cmd_follow.specs.Follow.{listed_text, listed_by};
 
 use beeb_bits::{Side, Tick};
 use beeb_outcome::{Outcome, listing_outcome, wrong_outcome};
@@ -27,7 +28,7 @@ fn listed_text(alloc: Global, listed: u64, chosen: u64) -> Result<Vec<u8>, Alloc
 }
 
 // What comes of the machine, once the trace is checked.
-#[tactic(auto, unfolding(crate::specs::Follow::listed_ended))]
+#[tactic(auto, unfolding(crate::specs::Follow::listed_by))]
 fn ended<'a, D: BusDevice, M: Seen>(
     alloc: Global,
     machine: M,
@@ -41,8 +42,9 @@ fn ended<'a, D: BusDevice, M: Seen>(
     requires ticks { ticks ≤ MOST }
     requires plays { IsTrue (M.plays side) }
     requires entries { All IsEntry entries.now }
-    ensures { let there = listed_ended M.steps M.sights part side ticks choice out.now entries.now (M.inside machine) in
-        IfOk result (λ outcome. verdict_of D.plug outcome ≡ there) }
+    ensures { let place = (replay_of M.moves side entries.now ticks (M.state machine)).place in
+        let there = replay_listing M.steps M.sights part side entries.now ticks choice (M.inside machine) in
+        IfOk result (λ outcome. verdict_of D.plug outcome ≡ listed_by out.now place there) }
 {
     match list(alloc, machine, part, side, entries, Tick(ticks), choice) {
         Ok(listing) => {
@@ -69,8 +71,10 @@ pub(crate) fn listed<'a, D: BusDevice, M: Seen>(
     requires ticks { ticks ≤ MOST }
     requires plays { IsTrue (M.plays side) }
     requires entries { All IsEntry entries.now }
-    ensures { let there = listed_ended M.steps M.sights part side ticks choice out.now entries.now (M.inside machine) in
-        IfOk result (λ outcome. verdict_of D.plug outcome ≡ unless_wrong (wrong entries.now) there) }
+    ensures { let place = (replay_of M.moves side entries.now ticks (M.state machine)).place in
+        let there = replay_listing M.steps M.sights part side entries.now ticks choice (M.inside machine) in
+        let ended = listed_by out.now place there in
+        IfOk result (λ outcome. verdict_of D.plug outcome ≡ unless_wrong (wrong entries.now) ended) }
 {
     if let Some((at, byte)) = first_wrong(entries) {
         return wrong_outcome(alloc, at as u64 + 1, byte);
