@@ -1,0 +1,5 @@
+pub mod Parts
+pub mod Begun
+pub mod Saved
+pub mod Goes
+pub mod Written
