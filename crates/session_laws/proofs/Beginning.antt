@@ -5,20 +5,20 @@ use Rattle.std.proofs.lemmas.List.{map-append}
 use Rattle.std.proofs.lemmas.Bool.Decides.{nat_tests}
 use Rattle.std.specs.List.{filter_map, cons_option}
 use Rattle.bus_plug.specs.Plug.{Plug}
-use Rattle.digits.specs.Decimal.{is_decimal, decimal_value, decimal_number}
+use Rattle.digits.specs.Decimal.{is_decimal, decimal_value}
 use Rattle.rom_set.specs.Roms.{Rom}
 use Rattle.host_mach.specs.State.{HostState}
 use Rattle.para_mach.specs.State.{ParaState}
 use Rattle.beeb_words.specs.declared.keys.Slot.{Slot}
 use Rattle.beeb_words.specs.declared.keys.Slot.TheVariants as slots
 use Rattle.beeb_words.specs.Keys.{Value, file, output, numeric, one_of, four_digits, Key, keys}
-use Rattle.beeb_words.specs.Given.{Values, value_of, plugs_in, plugs_of}
+use Rattle.beeb_words.specs.Given.{Values, value_of, plugs_in}
 use Rattle.beeb_words.specs.Reads.{file_of, files_of, rom_slot, rise_from, HaveRomSlots}
 use Rattle.beeb_stages.specs.Plan.{Want, Inputs, AreWithin}
 use Rattle.power_on.specs.Inputs as inputs
 use Rattle.power_on.specs.Setup.{setup_of}
 use Rattle.power_on.specs.Machines.{machines_of}
-use Rattle.session_laws.specs.OneRun.{Begins, RiseBySlot}
+use Rattle.session_laws.specs.OneRun.{Begins}
 use Rattle.session_laws.specs.Words.{WordsBegin}
 
 -- ---- the slots of the paged ROMs
