@@ -1,19 +1,14 @@
 -- What a run begins with keeps the rules of a session, where its machines can be made.
-use Rattle.std.proofs.Common.{subst, ◌≡◌, ◌∙◌, sym, refl, ℕ, ◌≤◌, ◌==◌, ◌||◌, nat_lt, Bool, true, false, not, List, [], ◌∷◌, ◌++◌, length, find, map, Option, Some, None, option_map, IfSome, Result, Ok, arith, if◌then◌else◌}
+use Rattle.std.proofs.Common.{◌≡◌, ◌∙◌, sym, refl, ℕ, ◌≤◌, ◌==◌, ◌||◌, nat_lt, Bool, true, false, not, List, [], ◌∷◌, ◌++◌, length, find, map, Option, Some, None, option_map, IfSome, Result, Ok, arith, if◌then◌else◌}
 use Rattle.std.proofs.lemmas.List.Elements.{All-nil}
 use Rattle.std.proofs.lemmas.Bool.Decides.{nat_tests}
 use Rattle.disc_image.specs.declared.Kind.{Kind}
 use Rattle.disc_image.specs.declared.Kind.TheVariants.{Ssd, Dsd}
 use Rattle.rom_set.specs.Roms.{Rom}
 use Rattle.save_state.specs.declared.Kind.TheVariants as parts
-use Rattle.save_state.specs.File.{IsPart, IsDisc, IsSession}
+use Rattle.save_state.specs.File.{IsPart, IsDisc}
 use Rattle.beeb_stages.specs.declared.stop.Refusal.{Refusal}
 use Rattle.beeb_status.specs.declared.status.Cause.{Cause}
-use Rattle.host_mach.specs.State.{HostState}
-use Rattle.para_mach.specs.State.{ParaState}
-use Rattle.power_on.specs.Inputs.{Inputs}
-use Rattle.power_on.specs.Setup.{Setup}
-use Rattle.power_on.specs.Machines.{machines_of}
 use Rattle.power_on.specs.Lengths.{Sized, os_image, tube_image, rom_image, font_images, disc_images, further_images, both_images, first_misfit, unless_caused, LengthsComeFirst}
 use Rattle.power_on.specs.Sessions.{part_slots, rom_of_slot, has_two_sides, begun, BegunIsSession}
 

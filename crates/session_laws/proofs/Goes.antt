@@ -1,5 +1,5 @@
 -- A run that goes on from its session file.
-use Rattle.std.proofs.Common.{◌≡◌, ◌∙◌, sym, refl, ap, subst, ℕ, ◌≤◌, ◌<◌, min, nat_le, List, [], ◌∷◌, ◌++◌, length, map, take, Option, Some, None, option_map, Result, Ok, arith, append_assoc}
+use Rattle.std.proofs.Common.{◌≡◌, ◌∙◌, refl, ap, ℕ, ◌≤◌, min, nat_le, List, length, take, None, option_map, Ok, arith}
 use Rattle.bus_plug.specs.Plug.{Plug}
 use Rattle.tube_trace.specs.FirstWrong.{wrong}
 use Rattle.tube_party.specs.Reference.{reference}
@@ -9,7 +9,7 @@ use Rattle.para_mach.specs.State.{ParaState}
 use Rattle.para_mach.specs.Step.{para_moves}
 use Rattle.save_state.specs.Saved.{Session}
 use Rattle.save_state.specs.Resume.{SavedRunIsResumed}
-use Rattle.beeb_stages.specs.Plan.{Verdict, ◌>>=◌}
+use Rattle.beeb_stages.specs.Plan.{Verdict}
 use Rattle.beeb_status.specs.declared.status.Ending.{Ending}
 use Rattle.beeb_status.specs.declared.status.Ending.TheVariants.{Done}
 use Rattle.beeb_outcome.specs.Names.{Names}
@@ -21,7 +21,7 @@ use Rattle.power_on.specs.Sessions.{begun, begun_if, setup_in, inputs_in}
 use Rattle.cmd_pair.specs.Save.{saved_tick, saved_of, below}
 use Rattle.cmd_pair.specs.Solo.{kept_verdict, solo_after}
 use Rattle.cmd_session.specs.Session.{state_of, place_of, session_ended, session_after}
-use Rattle.session_laws.specs.OneRun.{Begins, accesses_of, saved_run, MachinesAreMadeAgain, SavedRunIsRead, SavedRunIsOneRun}
+use Rattle.session_laws.specs.OneRun.{accesses_of, saved_run, MachinesAreMadeAgain, SavedRunIsRead, SavedRunIsOneRun}
 use Rattle.session_laws.proofs.Saved.{none_wrong}
 
 -- what a session of these machines comes to, whose accesses are theirs

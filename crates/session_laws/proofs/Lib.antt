@@ -3,3 +3,4 @@ pub mod Begun
 pub mod Saved
 pub mod Goes
 pub mod Written
+pub mod Beginning

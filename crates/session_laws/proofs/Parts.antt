@@ -1,5 +1,5 @@
 -- The parts of a session are what was read.
-use Rattle.std.proofs.Common.{◌≡◌, ◌≢◌, ◌∙◌, sym, refl, ap, subst, ℕ, zero, suc, ◌+◌, ◌<◌, ◌≤◌, ◌==◌, ◌&&◌, nat_le, nat_lt, Bool, true, false, List, [], ◌∷◌, ◌++◌, length, find, map, take, IsTrue, Option, Some, None, option_map, Result, Ok, arith, append_assoc, append-nil, if◌then◌else◌}
+use Rattle.std.proofs.Common.{◌≡◌, ◌∙◌, sym, refl, ap, subst, ℕ, zero, suc, ◌+◌, ◌<◌, ◌≤◌, ◌==◌, Bool, true, false, List, [], ◌∷◌, ◌++◌, map, IsTrue, Option, Some, None, Result, Ok, arith, append_assoc, append-nil}
 use Rattle.std.proofs.lemmas.Bool.Decides.{nat_tests}
 use Rattle.std.specs.List.{range_with_len}
 use Rattle.disc_image.specs.declared.Kind.{Kind}
@@ -7,7 +7,6 @@ use Rattle.disc_image.specs.declared.Kind.TheVariants.{Ssd, Dsd}
 use Rattle.disc_image.specs.Image.{Image}
 use Rattle.bus_plug.specs.Plug.{Plug}
 use Rattle.rom_set.specs.Roms.{Rom}
-use Rattle.tube_trace.specs.declared.Entry.{Entry}
 use Rattle.beeb_words.specs.declared.keys.Slot.{Slot}
 use Rattle.beeb_words.specs.declared.keys.Slot.TheVariants as slots
 use Rattle.beeb_words.specs.Reads.{rise_from}

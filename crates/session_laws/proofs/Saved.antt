@@ -1,5 +1,5 @@
 -- The session of a run.
-use Rattle.std.proofs.Common.{◌≡◌, ◌∙◌, sym, refl, ap, subst, ℕ, zero, suc, ◌+◌, ◌-◌, ◌<◌, ◌≤◌, ◌==◌, min, nat_le, nat_lt, Bool, true, false, List, [], ◌∷◌, length, map, take, filter, Option, Some, None, Result, Ok, arith, if◌then◌else◌}
+use Rattle.std.proofs.Common.{◌≡◌, refl, ap, ℕ, zero, suc, ◌+◌, ◌<◌, ◌≤◌, ◌==◌, nat_le, nat_lt, Bool, true, false, List, [], ◌∷◌, length, take, None, arith, if◌then◌else◌}
 use Rattle.std.specs.Prelude.{All}
 use Rattle.std.proofs.lemmas.List.Elements.{All-nil, All-cons, All-head, All-tail}
 use Rattle.std.proofs.lemmas.Bool.Decides.{nat_tests}
@@ -21,9 +21,9 @@ use Rattle.host_mach.specs.Step.{host_moves}
 use Rattle.para_mach.specs.State.{ParaState}
 use Rattle.para_mach.specs.Step.{para_moves}
 use Rattle.save_state.specs.Saved.{Session}
-use Rattle.save_state.specs.File.{file, file_of, IsSession}
+use Rattle.save_state.specs.File.{IsSession}
 use Rattle.save_state.specs.Laws.{FileReadsBack}
-use Rattle.save_state.specs.Resume.{SavedRunIsResumed, IsResumed}
+use Rattle.save_state.specs.Resume.{SavedRunIsResumed}
 use Rattle.power_on.specs.Inputs.{Inputs}
 use Rattle.power_on.specs.Setup.{Setup}
 use Rattle.power_on.specs.Sessions.{begun, BegunIsSession}

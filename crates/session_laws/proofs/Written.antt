@@ -1,5 +1,5 @@
 -- What a run writes that is to be saved.
-use Rattle.std.proofs.Common.{◌≡◌, ◌∙◌, sym, refl, ap, ℕ, List, [], ◌∷◌, ◌++◌, length, map, take, Option, Some, Ok, append_assoc}
+use Rattle.std.proofs.Common.{◌≡◌, ◌∙◌, sym, refl, ap, ℕ, List, [], ◌∷◌, ◌++◌, length, map, take, Option, Some, append_assoc}
 use Rattle.std.proofs.lemmas.List.{map-append}
 use Rattle.beeb_bits.specs.declared.Side.TheVariants as sides
 use Rattle.tube_trace.specs.Entries.{accesses}

@@ -1,5 +1,5 @@
 -- A run that was saved, and the run that goes on from its session file: they are one run.
-use Rattle.std.specs.Prelude.{ℕ, ◌≡◌, ◌≤◌, nat_le, List, [], ◌∷◌, ◌++◌, length, map, take, Option, Some, IfSome, IsTrue, Result, Ok}
+use Rattle.std.specs.Prelude.{ℕ, ◌≡◌, ◌≤◌, nat_le, List, [], ◌∷◌, ◌++◌, length, map, take, Some, IfSome, IsTrue, Ok}
 use Rattle.bus_plug.specs.Plug.{Plug}
 use Rattle.rom_set.specs.Roms.{Rom}
 use Rattle.tube_trace.specs.declared.Entry.{Entry}

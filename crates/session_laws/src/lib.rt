@@ -4,6 +4,8 @@
 
 mod machines;
 mod runs;
+mod words;
 
 pub use machines::machines_are_made_again;
 pub use runs::{saved_run_is_one_run, saved_run_is_read, session_is_written};
+pub use words::words_begin;
