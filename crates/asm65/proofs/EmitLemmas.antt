@@ -9,9 +9,9 @@ use Rattle.op_table.specs.declared.Mode.{Mode}
 use Rattle.op_table.specs.declared.Mode.TheVariants.{Imp, Acc, Imm, Zp, ZpX, ZpY, Abs, AbsX, AbsY, IndX, IndY, IndZp, Rel, Ind, IndAbsX}
 use Rattle.op_table.specs.Names.{same_mnemonic}
 use Rattle.op_table.specs.Rows.{bytes_of}
-use Rattle.asm65.specs.declared.syntax.Value as code
-use Rattle.asm65.specs.Code.{seen_value}
-use Rattle.asm65.specs.Syntax.{Value, Operand, nothing, accumulator, immediate, direct, direct_x, direct_y, indirect, indirect_x, indirect_y}
+use Rattle.asm_lines.specs.declared.syntax.Value as code
+use Rattle.asm_lines.specs.Code.{seen_value}
+use Rattle.asm_lines.specs.Syntax.{Value, Operand, nothing, accumulator, immediate, direct, direct_x, direct_y, indirect, indirect_x, indirect_y}
 use Rattle.asm65.specs.Placement.{is_byte, has_form, if_formed, shorter, mode_in_parentheses, mode_of, operand_values}
 use Rattle.asm65.specs.Source.{Labels, value_in, is_out, operand_out, operand_bytes}
 use Rattle.asm65.specs.CodeLabels.{room_of, base_or_zero}

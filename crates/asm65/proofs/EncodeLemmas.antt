@@ -7,7 +7,7 @@ use Rattle.op_table.specs.declared.Part.{Part}
 use Rattle.op_table.specs.declared.Mode.{Mode}
 use Rattle.op_table.specs.declared.Mnemonic.{Mnemonic}
 use Rattle.asm65.specs.declared.AsmError.{AsmError}
-use Rattle.asm65.specs.Syntax.{Value, Operand, Line, Statement, instruction, org, bytes, words}
+use Rattle.asm_lines.specs.Syntax.{Value, Operand, Line, Statement, instruction, org, bytes, words}
 use Rattle.asm65.specs.Placement.{Placed, line_names, or_later, mode_of, mode_bytes, is_past, is_long, first_fault, first_pass, after_statement, after_line, placed_from}
 use Rattle.asm65.specs.Source.{Labels, value_in, word_bytes, instruction_bytes, statement_bytes, second_fault, second_pass, line_bytes}
 use Rattle.asm65.specs.Passes.{IsEncoded, IsProgram, line_is_long, program_bytes}

@@ -1,6 +1,3 @@
-pub mod TokenLemmas
-pub mod NumberLemmas
-pub mod ValueLemmas
 pub mod LabelLemmas
 pub mod PlacementLemmas
 pub mod EmitLemmas

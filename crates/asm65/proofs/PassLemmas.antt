@@ -7,7 +7,7 @@ use Rattle.std.proofs.lemmas.List.{map-append}
 use Rattle.op_table.specs.declared.Part.{Part}
 use Rattle.asm65.specs.declared.AsmError.{AsmError}
 use Rattle.asm65.specs.declared.AsmError.TheVariants.{NoSuchForm, Repeated, OutOfRange, TooLong}
-use Rattle.asm65.specs.Syntax.{Line}
+use Rattle.asm_lines.specs.Syntax.{Line}
 use Rattle.asm65.specs.Placement.{Placed, is_among, line_names, or_else, formless, is_past, is_long, first_fault, first_pass, after_line, placed_from}
 use Rattle.asm65.specs.Source.{Labels, labels_of, label_with, line_labels, value_of_label}
 use Rattle.asm65.specs.CodeLabels.{labels_in, names_in}

@@ -2,7 +2,7 @@
 use Rattle.std.proofs.Common.{◌≡◌, ap, ℕ, List, [], ◌∷◌, Bool, ◌||◌, append-nil}
 use Rattle.std.specs.List.{list_any}
 use Rattle.std.proofs.lemmas.List.Folds.{list_any-append}
-use Rattle.asm65.specs.Syntax.{Value}
+use Rattle.asm_lines.specs.Syntax.{Value}
 use Rattle.asm65.specs.Placement.{base_numbers, values_numbers}
 
 pub any_number_more : (p : ℕ → Bool) (v : Value) (values : List Value)

@@ -5,7 +5,7 @@ use Rattle.op_table.specs.declared.Part.{Part}
 use Rattle.op_table.specs.declared.Mnemonic.{Mnemonic}
 use Rattle.op_table.specs.declared.Mode.{Mode}
 use Rattle.op_table.specs.declared.Mode.TheVariants.{Imm, Rel}
-use Rattle.asm65.specs.Syntax.{Base, number, label, beyond, Value, Operand, Line, Statement, instruction, org, bytes, words}
+use Rattle.asm_lines.specs.Syntax.{Base, number, label, beyond, Value, Operand, Line, Statement, instruction, org, bytes, words}
 use Rattle.asm65.specs.Placement.{Placed, operand_values, mode_of}
 use Rattle.asm65.specs.Source.{Labels, value_of_label, base_value, portion_in, value_in, is_unknown, is_out, is_near, distance, operand_out, values_in, statement_out, second_fault, second_pass, word_bytes, instruction_bytes, statement_bytes, line_bytes}
 use Rattle.asm65.specs.Passes.{program_bytes}

@@ -4,7 +4,7 @@ use Rattle.std.specs.Borrow.{Bor}
 use Rattle.std.specs.BTreeMap.{BTreeMap}
 use Rattle.op_table.specs.declared.Mode.{Mode}
 use Rattle.op_table.specs.declared.Mode.TheVariants.{Imp, Acc, Imm, Zp, ZpX, ZpY, Abs, AbsX, AbsY, IndX, IndY, IndZp, Rel, Ind, IndAbsX, Spare}
-use Rattle.asm65.specs.Syntax.{Value}
+use Rattle.asm_lines.specs.Syntax.{Value}
 use Rattle.asm65.specs.Source.{Labels, base_value}
 
 abbrev pub seen_name : Bor (List ℕ) → List ℕ

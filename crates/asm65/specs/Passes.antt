@@ -4,7 +4,7 @@ use Rattle.std.specs.Borrow.{Bor}
 use Rattle.std.specs.BTreeMap.{BTreeMap}
 use Rattle.std.specs.List.{concat}
 use Rattle.op_table.specs.declared.Part.{Part}
-use Rattle.asm65.specs.Syntax.{Line}
+use Rattle.asm_lines.specs.Syntax.{Line}
 use Rattle.asm65.specs.Placement.{Placed, origin_of, after_line, is_long, first_fault, first_pass}
 use Rattle.asm65.specs.Source.{Labels, labels_of, value_of_label, line_labels, second_fault, second_pass, line_bytes}
 use Rattle.asm65.specs.CodeLabels.{labels_in, names_in}

@@ -9,7 +9,7 @@ use Rattle.op_table.specs.declared.Mode.TheVariants.{Imm, Abs, AbsX, AbsY, Rel, 
 use Rattle.op_table.specs.Forms.{find_form}
 use Rattle.asm65.specs.declared.AsmError.{AsmError}
 use Rattle.asm65.specs.declared.AsmError.TheVariants.{UnknownLabel, OutOfRange}
-use Rattle.asm65.specs.Syntax.{Base, number, label, beyond, Portion, whole, low_byte, high_byte, Value, Operand, Statement, instruction, org, bytes, words, Line, parsed_text}
+use Rattle.asm_lines.specs.Syntax.{Base, number, label, beyond, Portion, whole, low_byte, high_byte, Value, Operand, Statement, instruction, org, bytes, words, Line, parsed_text}
 use Rattle.asm65.specs.Placement.{Placed, placement, origin_of, mode_of, operand_values, first_pass, or_later, or_else}
 
 -- labels with their values

@@ -3,13 +3,13 @@ ghost use Rattle.std.specs.Prelude.{◌≡◌, ◌<◌, ◌≤◌, ◌-◌, ◌+
 ghost use Rattle.std.specs.List.{list_any, concat};
 ghost use Rattle.asm65.specs.Placement.{mode_of};
 ghost use Rattle.asm65.specs.Source.{value_in, is_out, operand_out, statement_out, word_bytes, operand_bytes, instruction_bytes, statement_bytes};
-ghost use Rattle.asm65.specs.Code.{seen_list, seen_operand, seen_statement};
+ghost use Rattle.asm_lines.specs.Code.{seen_list, seen_operand, seen_statement};
 ghost use Rattle.asm65.specs.CodeLabels.{labels_in, room_of};
 
 use crate::encode::{distance, evaluate};
 use crate::labels::Labels;
 use crate::placement::{mode_of, operand_value};
-use crate::syntax::{Operand, Statement, ValueList};
+use asm_lines::{Operand, Statement, ValueList};
 use op_table::{Mnemonic, Mode, Part, find};
 use std::alloc::AllocError;
 

@@ -4,13 +4,13 @@ ghost use Rattle.std.specs.List.{list_any, list_all};
 ghost use Rattle.op_table.specs.declared.Mode.TheVariants.{Rel};
 ghost use Rattle.asm65.specs.Placement.{is_byte_base, is_byte, mode_of, operand_values};
 ghost use Rattle.asm65.specs.Source.{base_value, portion_in, value_in, is_unknown, is_out, distance, is_near, operand_out, values_in, statement_out, second_fault};
-ghost use Rattle.asm65.specs.Code.{seen_portion, seen_base, seen_value, seen_list, seen_operand, seen_statement, seen_line};
+ghost use Rattle.asm_lines.specs.Code.{seen_portion, seen_base, seen_value, seen_list, seen_operand, seen_statement, seen_line};
 ghost use Rattle.asm65.specs.CodeLabels.{labels_in, base_or_zero};
 
 use crate::AsmError;
 use crate::labels::{Labels, address_of};
 use crate::placement::{mode_of, operand_value};
-use crate::syntax::{Base, Line, Operand, Portion, Statement, Value, ValueList};
+use asm_lines::{Base, Line, Operand, Portion, Statement, Value, ValueList};
 use op_table::{Mode, Part};
 
 // What a value is taken of, if its label is known.

@@ -10,8 +10,6 @@ mod encode;
 mod labels;
 mod passes;
 mod placement;
-mod syntax;
-mod tokens;
 
 use op_table::Part;
 use std::alloc::Global;

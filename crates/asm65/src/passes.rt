@@ -1,10 +1,10 @@
 //! Both passes over the lines of a text.
 ghost use Rattle.std.specs.Prelude.{◌≡◌, ◌≤◌, false, [], ◌⊎◌, None, Some, option_map, vec_len, MatchResult};
 ghost use Rattle.asm65.specs.declared.AsmError.TheVariants.{NoMemory};
-ghost use Rattle.asm65.specs.Syntax.{parsed_text};
+ghost use Rattle.asm_lines.specs.Syntax.{parsed_text};
 ghost use Rattle.asm65.specs.Placement.{origin_of, placed_from, first_fault, first_pass};
 ghost use Rattle.asm65.specs.Source.{second_fault, second_pass};
-ghost use Rattle.asm65.specs.Code.{seen_line};
+ghost use Rattle.asm_lines.specs.Code.{seen_line};
 ghost use Rattle.asm65.specs.CodeLabels.{labels_in, names_in};
 ghost use Rattle.asm65.specs.Passes.{SettlesOrigin, IsPlaced, IsLabelled, IsEncoded, IsProgram, line_is_long};
 
@@ -13,7 +13,7 @@ use crate::emit::push_statement;
 use crate::encode::second_fault;
 use crate::labels::{Labels, define};
 use crate::placement::{address_behind, is_formless, statement_fault};
-use crate::syntax::{Line, Statement, next_line};
+use asm_lines::{Line, Statement, next_line};
 use op_table::Part;
 use std::alloc::Global;
 use std::collections::BTreeMap;

@@ -3,10 +3,10 @@ ghost use Rattle.std.specs.Prelude.{◌≡◌, ◌+◌, ◌-◌, ◌^◌, ◌≤
 ghost use Rattle.std.specs.List.{list_any};
 ghost use Rattle.asm65.specs.Placement.{is_byte_base, is_byte, has_form, if_formed, shorter, mode_in_parentheses, mode_of, size_of, after_statement, base_numbers, values_numbers, statement_numbers, formless, is_past, is_long, or_else, operand_values};
 ghost use Rattle.asm65.specs.declared.AsmError.TheVariants.{OutOfRange, TooLong};
-ghost use Rattle.asm65.specs.Code.{seen_base, seen_value, seen_list, seen_operand, seen_statement};
+ghost use Rattle.asm_lines.specs.Code.{seen_base, seen_value, seen_list, seen_operand, seen_statement};
 
 use crate::AsmError;
-use crate::syntax::{Base, Number, Operand, Portion, Statement, Value, ValueList};
+use asm_lines::{Base, Number, Operand, Portion, Statement, Value, ValueList};
 use op_table::{Mnemonic, Mode, Part, find};
 
 // How many bytes there are in the memory.

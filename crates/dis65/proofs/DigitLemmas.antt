@@ -2,8 +2,8 @@
 use Rattle.std.proofs.Common.{◌≡◌, ℕ, ◌+◌, ◌*◌, ◌/◌, ◌%◌, ◌<◌, ◌==◌, List, [], ◌∷◌, refl, Some, Bool, true, false, not, ◌&&◌, eqb, eqb-true, zero-add, arith}
 use Rattle.std.specs.List.{list_all}
 use Rattle.std.proofs.lemmas.Bool.{agree_below_at}
-use Rattle.asm65.specs.Tokens.{is_word_byte}
-use Rattle.asm65.specs.Syntax.{hex_number}
+use Rattle.asm_lines.specs.Tokens.{is_word_byte}
+use Rattle.asm_lines.specs.Syntax.{hex_number}
 use Rattle.digits.specs.Hexadecimal.{hex_digit, hex_digits, is_hex_any_case, hex_value}
 
 -- neither a line feed nor the beginning of a comment

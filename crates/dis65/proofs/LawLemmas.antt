@@ -6,7 +6,7 @@ use Rattle.std.proofs.lemmas.List.Elements.{All-from_get_or}
 use Rattle.std.proofs.lemmas.List.{take-append-drop, length-take-le}
 use Rattle.op_table.specs.declared.Part.{Part}
 use Rattle.op_table.specs.Forms.{forms, form_at}
-use Rattle.asm65.specs.Syntax.{Line, Statement, org}
+use Rattle.asm_lines.specs.Syntax.{Line, Statement, org}
 use Rattle.asm65.specs.Placement.{Placed, placed_from, placement, origin_of, after_line, first_pass}
 use Rattle.asm65.specs.Source.{Labels, labels_of, second_pass, line_bytes, program_of, source}
 use Rattle.dis65.specs.Listing.{form_here, bytes_behind, decode}

@@ -10,7 +10,7 @@ use Rattle.op_table.specs.declared.Mode.{Mode}
 use Rattle.op_table.specs.declared.Mode.TheVariants.{Imp, Acc, Imm, Zp, ZpX, ZpY, Abs, AbsX, AbsY, IndX, IndY, IndZp, Rel, Ind, IndAbsX, Spare}
 use Rattle.op_table.specs.Names.{same_mode}
 use Rattle.op_table.specs.Forms.{Form, forms, form_at, find_form}
-use Rattle.asm65.specs.Syntax.{number, whole, Value, Operand, nothing, accumulator, immediate, direct, direct_x, direct_y, indirect, indirect_x, indirect_y}
+use Rattle.asm_lines.specs.Syntax.{number, whole, Value, Operand, nothing, accumulator, immediate, direct, direct_x, direct_y, indirect, indirect_x, indirect_y}
 use Rattle.asm65.specs.Placement.{mode_of}
 use Rattle.dis65.specs.Listing.{target}
 use Rattle.dis65.proofs.FormLemmas.{both, not_true, found_passes}

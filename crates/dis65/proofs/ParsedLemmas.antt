@@ -6,8 +6,8 @@ use Rattle.std.proofs.lemmas.List.Sums.{take_while-cons}
 use Rattle.op_table.specs.declared.Part.{Part}
 use Rattle.op_table.specs.Names.{name_of}
 use Rattle.op_table.specs.Forms.{Form}
-use Rattle.asm65.specs.Tokens.{lines_of, code_of, tokens_of}
-use Rattle.asm65.specs.Syntax.{Statement, instruction, org, bytes, Line, line_of, parsed_text}
+use Rattle.asm_lines.specs.Tokens.{lines_of, code_of, tokens_of}
+use Rattle.asm_lines.specs.Syntax.{Statement, instruction, org, bytes, Line, line_of, parsed_text}
 use Rattle.digits.specs.Hexadecimal.{hex_digits}
 use Rattle.dis65.specs.Listing.{lines_from, line_text, form_here, bytes_behind, decode, operand_text}
 use Rattle.dis65.proofs.FormLemmas.{both, not_true}

@@ -10,7 +10,7 @@ use Rattle.op_table.specs.declared.Mode.TheVariants.{Imp, Acc, Imm, Zp, ZpX, ZpY
 use Rattle.op_table.specs.Names.{same_mode}
 use Rattle.op_table.specs.Forms.{Form, forms, form_at}
 use Rattle.op_table.specs.Rows.{bytes_of}
-use Rattle.asm65.specs.Syntax.{Statement, org, bytes}
+use Rattle.asm_lines.specs.Syntax.{Statement, org, bytes}
 use Rattle.asm65.specs.Placement.{operand_values, values_numbers, first_fault, after_line}
 use Rattle.asm65.specs.Source.{Labels, is_unknown, value_in, operand_out, operand_bytes, second_fault, line_bytes}
 use Rattle.dis65.specs.Listing.{target, if_whole, form_here, bytes_behind}

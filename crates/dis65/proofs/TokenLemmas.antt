@@ -7,8 +7,8 @@ use Rattle.op_table.specs.declared.Mnemonic.TheVariants.{Adc}
 use Rattle.op_table.specs.declared.Mode.{Mode}
 use Rattle.op_table.specs.declared.Mode.TheVariants.{Imp, Acc, Imm, Zp, ZpX, ZpY, Abs, AbsX, AbsY, IndX, IndY, IndZp, Rel, Ind, IndAbsX, Spare}
 use Rattle.op_table.specs.Names.{name_of, mnemonic_of}
-use Rattle.asm65.specs.Tokens.{Token, word, hex, colon, comma, hash, left, right, is_word_byte, cut_of, tokens_of, word_before, tokens_of_cut}
-use Rattle.asm65.specs.Syntax.{is_named, Operand, nothing, accumulator, immediate, direct, direct_x, direct_y, indirect, indirect_x, indirect_y, Statement, instruction, org, bytes, operand_of, line_of, rest_of}
+use Rattle.asm_lines.specs.Tokens.{Token, word, hex, colon, comma, hash, left, right, is_word_byte, cut_of, tokens_of, word_before, tokens_of_cut}
+use Rattle.asm_lines.specs.Syntax.{is_named, Operand, nothing, accumulator, immediate, direct, direct_x, direct_y, indirect, indirect_x, indirect_y, Statement, instruction, org, bytes, operand_of, line_of, rest_of}
 use Rattle.digits.specs.Hexadecimal.{hex_digits}
 use Rattle.dis65.specs.Listing.{operand_text, target}
 use Rattle.dis65.proofs.FormLemmas.{both}

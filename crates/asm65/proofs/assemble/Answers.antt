@@ -1,5 +1,5 @@
 use Rattle.std.proofs.Common.{arith}
-use Rattle.asm65.specs.Syntax.{parsed_text}
+use Rattle.asm_lines.specs.Syntax.{parsed_text}
 use Rattle.asm65.proofs.PassLemmas.{at_fault}
 use Rattle.asm65.proofs.SourceLemmas.{origin_small, source_first, source_second, source_program}
 use Rattle.asm65.proofs.assemble.Goals as goal

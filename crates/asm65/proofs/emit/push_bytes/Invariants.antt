@@ -1,7 +1,7 @@
 use Rattle.std.proofs.Common.{◌≡◌, ◌++◌, map, false}
 use Rattle.std.specs.List.{list_any}
 use Rattle.asm65.specs.Source.{value_in, is_out}
-use Rattle.asm65.specs.Code.{seen_list, length_left}
+use Rattle.asm_lines.specs.Code.{seen_list, length_left}
 use Rattle.asm65.specs.CodeLabels.{labels_in}
 use Rattle.asm65.proofs.emit.push_bytes.Given as goal
 

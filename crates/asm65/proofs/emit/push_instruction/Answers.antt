@@ -1,4 +1,4 @@
-use Rattle.asm65.specs.Code.{seen_operand}
+use Rattle.asm_lines.specs.Code.{seen_operand}
 use Rattle.asm65.specs.CodeLabels.{labels_in}
 use Rattle.asm65.proofs.EmitLemmas.{operand_fits}
 use Rattle.asm65.proofs.emit.push_instruction.Goals as goal

@@ -1,7 +1,7 @@
 use Rattle.std.proofs.Common.{◌≡◌}
 use Rattle.std.specs.List.{list_any}
 use Rattle.asm65.specs.Source.{is_unknown}
-use Rattle.asm65.specs.Code.{seen_list, length_left}
+use Rattle.asm_lines.specs.Code.{seen_list, length_left}
 use Rattle.asm65.specs.CodeLabels.{labels_in}
 use Rattle.asm65.proofs.encode.any_unknown.Given as goal
 

@@ -1,5 +1,5 @@
 use Rattle.std.proofs.Common.{◌+◌, ◌≤◌, length}
-use Rattle.asm65.specs.Syntax.{parsed_text}
+use Rattle.asm_lines.specs.Syntax.{parsed_text}
 use Rattle.asm65.specs.Placement.{placed_from}
 use Rattle.asm65.proofs.PassLemmas.{Passed}
 use Rattle.asm65.proofs.passes.first_pass.Given as goal

@@ -1,5 +1,5 @@
 use Rattle.std.proofs.Common.{sym, inr}
-use Rattle.asm65.specs.Code.{seen_line}
+use Rattle.asm_lines.specs.Code.{seen_line}
 use Rattle.asm65.specs.CodeLabels.{names_in}
 use Rattle.asm65.proofs.PassLemmas.{none_among, fault_behind}
 use Rattle.asm65.proofs.passes.place.Goals as goal

@@ -1,7 +1,7 @@
 use Rattle.std.proofs.Common.{◌≡◌, nat_lt}
 use Rattle.std.specs.List.{list_any}
 use Rattle.asm65.specs.Placement.{values_numbers}
-use Rattle.asm65.specs.Code.{seen_list, length_left}
+use Rattle.asm_lines.specs.Code.{seen_list, length_left}
 use Rattle.asm65.proofs.placement.any_large_number.Given as goal
 
 abbrev pub invariant-loop-value : goal.invariant-loop-value

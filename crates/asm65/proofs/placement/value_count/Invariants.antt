@@ -1,5 +1,5 @@
 use Rattle.std.proofs.Common.{◌≡◌, ◌+◌, ◌≤◌, length}
-use Rattle.asm65.specs.Code.{seen_list, length_left}
+use Rattle.asm_lines.specs.Code.{seen_list, length_left}
 use Rattle.asm65.proofs.placement.value_count.Given as goal
 
 abbrev pub invariant-loop-others : goal.invariant-loop-others

@@ -1,8 +1,8 @@
 -- A list of values by its first one, and a line by its label.
 use Rattle.std.proofs.Common.{◌≡◌, ◌∙◌, sym, refl, ap, ℕ, Bool, true, false, List, [], ◌∷◌, map, Option, Some, None, option_map, if◌then◌else◌, is_some}
-use Rattle.asm65.specs.Tokens.{Token, word, hex, colon, comma, low, high, plus}
-use Rattle.asm65.specs.Syntax as syntax
-use Rattle.asm65.specs.Code.{label_in_front, values_until, values_of_list}
+use Rattle.asm_lines.specs.Tokens.{Token, word, hex, colon, comma, low, high, plus}
+use Rattle.asm_lines.specs.Syntax as syntax
+use Rattle.asm_lines.specs.Code.{label_in_front, values_until, values_of_list}
 
 -- ---- lines
 

@@ -1,5 +1,5 @@
-use Rattle.asm65.proofs.TokenLemmas.{line_before_feed, line_to_end}
-use Rattle.asm65.proofs.tokens.first_line.Goals as goal
+use Rattle.asm_lines.proofs.TokenLemmas.{line_before_feed, line_to_end}
+use Rattle.asm_lines.proofs.tokens.first_line.Goals as goal
 
 pub returns-then-end-text-clause-lines : goal.returns-then-end-text-clause-lines
 returns-then-end-text-clause-lines c = line_before_feed c.args.text.now c.length_before-end.result c.requires c.length_before-end.ensures.value

@@ -1,6 +1,6 @@
 use Rattle.std.proofs.Common.{◌≡◌, ◌≤◌, length}
-use Rattle.asm65.specs.Tokens.{tokens_of}
-use Rattle.asm65.proofs.tokens.next_token.Given as goal
+use Rattle.asm_lines.specs.Tokens.{tokens_of}
+use Rattle.asm_lines.proofs.tokens.next_token.Given as goal
 
 abbrev pub invariant-loop-rest : goal.invariant-loop-rest
 invariant-loop-rest l = record {

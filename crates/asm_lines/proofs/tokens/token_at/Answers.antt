@@ -1,6 +1,6 @@
 use Rattle.std.proofs.Common.{◌<◌, length, arith}
-use Rattle.asm65.proofs.TokenLemmas.{word_has_byte}
-use Rattle.asm65.proofs.tokens.token_at.Goals as goal
+use Rattle.asm_lines.proofs.TokenLemmas.{word_has_byte}
+use Rattle.asm_lines.proofs.tokens.token_at.Goals as goal
 
 pub returns-then-is_word_byte-clause-shorter : goal.returns-then-is_word_byte-clause-shorter
 returns-then-is_word_byte-clause-shorter c =

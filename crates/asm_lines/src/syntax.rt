@@ -3,9 +3,9 @@ ghost use Rattle.std.specs.Prelude.{◌≡◌, ◌≤◌, ◌<◌, ◌^◌, nat_
 ghost use Rattle.std.specs.List.{list_all};
 ghost use Rattle.op_table.specs.Names.{mnemonic_of};
 ghost use Rattle.digits.specs.Hexadecimal.{is_hex_any_case, hex_number as hex_value};
-ghost use Rattle.asm65.specs.Tokens.{comma, right, word, tokens_of};
-ghost use Rattle.asm65.specs.Syntax.{decimal_number, hex_number, number_of, is_named, is_register, begins_name, is_label, label_at, word_at, base_at, portion_of, value_at, opening_of, from_value, closing_of, value_and_closing, operand_of, values_of, org_of, instruction_of, rest_of, line_of, parsed_text};
-ghost use Rattle.asm65.specs.Code.{seen_token, seen_number, seen_base_and_rest, seen_portion, seen_value_and_rest, seen_opening, seen_closing, seen_value_and_closing, seen_operand, values_of_list, length_left, seen_list, seen_first, seen_next_value, values_by_first, seen_statement, seen_line, seen_label_and_rest, word_statement, label_in_front};
+ghost use Rattle.asm_lines.specs.Tokens.{comma, right, word, tokens_of};
+ghost use Rattle.asm_lines.specs.Syntax.{decimal_number, hex_number, number_of, is_named, is_register, begins_name, is_label, label_at, word_at, base_at, portion_of, value_at, opening_of, from_value, closing_of, value_and_closing, operand_of, values_of, org_of, instruction_of, rest_of, line_of, parsed_text};
+ghost use Rattle.asm_lines.specs.Code.{seen_token, seen_number, seen_base_and_rest, seen_portion, seen_value_and_rest, seen_opening, seen_closing, seen_value_and_closing, seen_operand, values_of_list, length_left, seen_list, seen_first, seen_next_value, values_by_first, seen_statement, seen_line, seen_label_and_rest, word_statement, label_in_front};
 
 use crate::tokens::{Token, code_of, first_line, next_token};
 use digits::{all_digits, all_hex_any_case, decimal_value};
@@ -13,13 +13,16 @@ use op_table::Mnemonic;
 
 /// A number by its size: a byte-sized one takes one byte where the form allows it.
 #[derive(Clone, Copy)]
-pub(crate) enum Number {
+pub enum Number {
+    /// A byte-sized one: one or two hexadecimal digits, or a decimal number below 256.
     Byte(u8),
+    /// Any other, of at most five decimal digits.
     Word(u32),
 }
 
 impl Number {
-    pub(crate) fn value(self) -> u32
+    /// The number itself. A byte-sized one is below 256.
+    pub fn value(self) -> u32
         ensures value { result ≡ (seen_number self).value }
         ensures byte_sized { (seen_number self).byte_sized ≡ true → result < 256 }
     {
@@ -32,8 +35,10 @@ impl Number {
 
 /// What a value is taken of.
 #[derive(Clone, Copy)]
-pub(crate) enum Base<'a> {
+pub enum Base<'a> {
+    /// A number
     Number(Number),
+    /// The name of a label
     Label(&'a [u8]),
     /// `label + number`
     Beyond(&'a [u8], Number),
@@ -41,7 +46,8 @@ pub(crate) enum Base<'a> {
 
 /// Which part of it is taken.
 #[derive(Clone, Copy)]
-pub(crate) enum Portion {
+pub enum Portion {
+    /// All of it
     Whole,
     /// `<`
     Low,
@@ -51,8 +57,10 @@ pub(crate) enum Portion {
 
 /// `E`
 #[derive(Clone, Copy)]
-pub(crate) struct Value<'a> {
+pub struct Value<'a> {
+    /// Which part is taken.
     pub portion: Portion,
+    /// What it is taken of.
     pub base: Base<'a>,
 }
 
@@ -87,7 +95,8 @@ enum Closing {
 
 /// Operands, by their written forms.
 #[derive(Clone, Copy)]
-pub(crate) enum Operand<'a> {
+pub enum Operand<'a> {
+    /// No operand
     Nothing,
     /// `A`
     Accumulator,
@@ -109,22 +118,30 @@ pub(crate) enum Operand<'a> {
 
 /// The values of a `byte` or a `word`, which are read from the code of their line one by one.
 #[derive(Clone, Copy)]
-pub(crate) struct ValueList<'a> {
+pub struct ValueList<'a> {
     /// The code from the next value on, if there is one.
-    rest: Option<&'a [u8]>,
+    pub rest: Option<&'a [u8]>,
 }
 
+/// What stands on a line beside a label.
 #[derive(Clone, Copy)]
-pub(crate) enum Statement<'a> {
+pub enum Statement<'a> {
+    /// A mnemonic and its operand
     Instruction(Mnemonic, Operand<'a>),
+    /// `org N`
     Org(Number),
+    /// `byte E, E`
     Bytes(ValueList<'a>),
+    /// `word E, E`
     Words(ValueList<'a>),
 }
 
+/// What a line means.
 #[derive(Clone, Copy)]
-pub(crate) struct Line<'a> {
+pub struct Line<'a> {
+    /// The name in front of its colon, if one stands there.
     pub label: Option<&'a [u8]>,
+    /// What stands behind that, if anything does.
     pub statement: Option<Statement<'a>>,
 }
 
@@ -453,7 +470,7 @@ fn values_of<'a>(code: &'a [u8]) -> Option<ValueList<'a>>
 
 impl<'a> ValueList<'a> {
     /// The first value, and the others; none where no value is left.
-    pub(crate) fn next(self) -> Option<(Value<'a>, ValueList<'a>)>
+    pub fn next(self) -> Option<(Value<'a>, ValueList<'a>)>
         ensures values { seen_list self.entry ≡ seen_next_value result }
         ensures shorter { IfSome result (λ r. length_left r.1 < length_left self.entry) }
     {
@@ -549,7 +566,7 @@ fn line_of<'a>(code: &'a [u8]) -> Option<Line<'a>>
 }
 
 /// The first line of a text that has a byte, or none where it is outside the syntax, and the text behind it.
-pub(crate) fn next_line<'a>(text: &'a [u8]) -> (Option<Line<'a>>, &'a [u8])
+pub fn next_line<'a>(text: &'a [u8]) -> (Option<Line<'a>>, &'a [u8])
     requires { 0 < length text.now }
     ensures lines { parsed_text text.now ≡ option_map seen_line result.0 ∷ parsed_text result.1.now }
     ensures shorter { length result.1.now < length text.now }

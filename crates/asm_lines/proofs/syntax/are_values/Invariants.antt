@@ -1,8 +1,8 @@
 use Rattle.std.proofs.Common.{◌≡◌, is_some}
-use Rattle.asm65.specs.Syntax.{values_of}
-use Rattle.asm65.specs.Tokens.{tokens_of}
-use Rattle.asm65.specs.Code.{values_from, code_left}
-use Rattle.asm65.proofs.syntax.are_values.Given as goal
+use Rattle.asm_lines.specs.Syntax.{values_of}
+use Rattle.asm_lines.specs.Tokens.{tokens_of}
+use Rattle.asm_lines.specs.Code.{values_from, code_left}
+use Rattle.asm_lines.proofs.syntax.are_values.Given as goal
 
 abbrev pub invariant-loop-rest : goal.invariant-loop-rest
 invariant-loop-rest l = is_some (values_of (tokens_of l.fn.code)) ≡ is_some (values_from l.rest)

@@ -1,6 +1,6 @@
 use Rattle.std.proofs.Common.{◌<◌, ◌^◌, length, arith}
-use Rattle.asm65.proofs.NumberLemmas.{below_digits}
-use Rattle.asm65.proofs.syntax.hex_of_digits.Goals as goal
+use Rattle.asm_lines.proofs.NumberLemmas.{below_digits}
+use Rattle.asm_lines.proofs.syntax.hex_of_digits.Goals as goal
 
 pub overflow_cast-result : goal.overflow_cast-result
 overflow_cast-result c =

@@ -2,7 +2,7 @@
 use Rattle.std.proofs.Common.{◌≡◌, ◌∙◌, sym, refl, ap, ℕ, ◌+◌, ◌-◌, ◌<◌, ◌≤◌, List, [], ◌∷◌, length, take, drop, not, Bool, true, false, ◌==◌, arith, one-add}
 use Rattle.std.specs.List.{prefix_len}
 use Rattle.std.proofs.lemmas.List.{take_all, drop_all, length-drop}
-use Rattle.asm65.specs.Tokens.{lines_of, Cut, cut_of, cut_with, tokens_of_cut, tokens_of, is_word_byte, is_blank}
+use Rattle.asm_lines.specs.Tokens.{lines_of, Cut, cut_of, cut_with, tokens_of_cut, tokens_of, is_word_byte, is_blank}
 
 -- how many bytes stand before the first line feed
 abbrev pub before_feed : List ℕ → ℕ

@@ -1,27 +1,27 @@
 -- What the code holds, as the definitions see it.
 use Rattle.std.specs.Prelude.{ℕ, ◌+◌, length, true, false, List, [], ◌∷◌, map, Option, Some, None, option_map}
 use Rattle.std.specs.Borrow.{Bor}
-use Rattle.asm65.specs.declared.tokens.Token.{Token}
-use Rattle.asm65.specs.declared.tokens.Token.TheVariants.{Word, Hex, Colon, Comma, Hash, Left, Right, Low, High, Plus, Other}
-use Rattle.asm65.specs.declared.syntax.Number.{Number}
-use Rattle.asm65.specs.declared.syntax.Number.TheVariants.{Byte, Word as LongNumber}
-use Rattle.asm65.specs.declared.syntax.Base.{Base}
-use Rattle.asm65.specs.declared.syntax.Base.TheVariants.{Number as Plain, Label, Beyond}
-use Rattle.asm65.specs.declared.syntax.Portion.{Portion}
-use Rattle.asm65.specs.declared.syntax.Portion.TheVariants.{Whole, Low as LowByte, High as HighByte}
-use Rattle.asm65.specs.declared.syntax.Value.{Value}
-use Rattle.asm65.specs.declared.syntax.Opening.{Opening}
-use Rattle.asm65.specs.declared.syntax.Opening.TheVariants.{NoOperand, RegisterA, Hashed, Parenthesized, Bare}
-use Rattle.asm65.specs.declared.syntax.Closing.{Closing}
-use Rattle.asm65.specs.declared.syntax.Closing.TheVariants.{Ends, CommaX, CommaY, Closed, CommaXClosed, ClosedCommaY}
-use Rattle.asm65.specs.declared.syntax.ValueList.{ValueList}
-use Rattle.asm65.specs.declared.syntax.Operand.{Operand}
-use Rattle.asm65.specs.declared.syntax.Operand.TheVariants.{Nothing, Accumulator, Immediate, Direct, DirectX, DirectY, Indirect, IndirectX, IndirectY}
-use Rattle.asm65.specs.declared.syntax.Statement.{Statement}
-use Rattle.asm65.specs.declared.syntax.Statement.TheVariants.{Instruction, Org, Bytes, Words}
-use Rattle.asm65.specs.declared.syntax.Line.{Line}
-use Rattle.asm65.specs.Tokens as tokens
-use Rattle.asm65.specs.Syntax as syntax
+use Rattle.asm_lines.specs.declared.tokens.Token.{Token}
+use Rattle.asm_lines.specs.declared.tokens.Token.TheVariants.{Word, Hex, Colon, Comma, Hash, Left, Right, Low, High, Plus, Other}
+use Rattle.asm_lines.specs.declared.syntax.Number.{Number}
+use Rattle.asm_lines.specs.declared.syntax.Number.TheVariants.{Byte, Word as LongNumber}
+use Rattle.asm_lines.specs.declared.syntax.Base.{Base}
+use Rattle.asm_lines.specs.declared.syntax.Base.TheVariants.{Number as Plain, Label, Beyond}
+use Rattle.asm_lines.specs.declared.syntax.Portion.{Portion}
+use Rattle.asm_lines.specs.declared.syntax.Portion.TheVariants.{Whole, Low as LowByte, High as HighByte}
+use Rattle.asm_lines.specs.declared.syntax.Value.{Value}
+use Rattle.asm_lines.specs.declared.syntax.Opening.{Opening}
+use Rattle.asm_lines.specs.declared.syntax.Opening.TheVariants.{NoOperand, RegisterA, Hashed, Parenthesized, Bare}
+use Rattle.asm_lines.specs.declared.syntax.Closing.{Closing}
+use Rattle.asm_lines.specs.declared.syntax.Closing.TheVariants.{Ends, CommaX, CommaY, Closed, CommaXClosed, ClosedCommaY}
+use Rattle.asm_lines.specs.declared.syntax.ValueList.{ValueList}
+use Rattle.asm_lines.specs.declared.syntax.Operand.{Operand}
+use Rattle.asm_lines.specs.declared.syntax.Operand.TheVariants.{Nothing, Accumulator, Immediate, Direct, DirectX, DirectY, Indirect, IndirectX, IndirectY}
+use Rattle.asm_lines.specs.declared.syntax.Statement.{Statement}
+use Rattle.asm_lines.specs.declared.syntax.Statement.TheVariants.{Instruction, Org, Bytes, Words}
+use Rattle.asm_lines.specs.declared.syntax.Line.{Line}
+use Rattle.asm_lines.specs.Tokens as tokens
+use Rattle.asm_lines.specs.Syntax as syntax
 
 abbrev pub seen_token : Token → tokens.Token
 seen_token (Word run) = tokens.word run.now

@@ -1,8 +1,8 @@
 //! The lines of a source text, and the tokens of a line, one after another.
 ghost use Rattle.std.specs.Prelude.{◌≡◌, ◌+◌, ◌<◌, ◌≤◌, ◌==◌, not, false, length, IfSome, ◌∷◌};
 ghost use Rattle.std.specs.List.{prefix_len};
-ghost use Rattle.asm65.specs.Tokens.{is_word_byte, is_blank, mark, code_of, lines_of, tokens_of, cut_of};
-ghost use Rattle.asm65.specs.Code.{seen_token, seen_next};
+ghost use Rattle.asm_lines.specs.Tokens.{is_word_byte, is_blank, mark, code_of, lines_of, tokens_of, cut_of};
+ghost use Rattle.asm_lines.specs.Code.{seen_token, seen_next};
 
 /// A token of a line.
 #[derive(Clone, Copy)]

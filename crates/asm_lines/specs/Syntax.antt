@@ -7,7 +7,7 @@ use Rattle.op_table.specs.declared.Mnemonic.{Mnemonic}
 use Rattle.op_table.specs.Names.{mnemonic_of}
 use Rattle.digits.specs.Decimal.{is_digit, decimal_value}
 use Rattle.digits.specs.Hexadecimal.{is_hex_any_case, hex_number as hex_value}
-use Rattle.asm65.specs.Tokens.{Token, word, hex, colon, comma, hash, left, right, low, high, plus, other, is_letter, lines_of, code_of, tokens_of}
+use Rattle.asm_lines.specs.Tokens.{Token, word, hex, colon, comma, hash, left, right, low, high, plus, other, is_letter, lines_of, code_of, tokens_of}
 
 -- Numbers. A byte-sized one takes one byte where the form allows it.
 pub record Number : Type 0 where

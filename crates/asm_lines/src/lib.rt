@@ -1,0 +1,7 @@
+//! The lines of a source text for the assembler: the tokens of each, and what they mean.
+#![tactic(auto)]
+
+mod syntax;
+mod tokens;
+
+pub use syntax::{Base, Line, Number, Operand, Portion, Statement, Value, ValueList, next_line};
