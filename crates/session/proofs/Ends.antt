@@ -8,8 +8,8 @@ use Rattle.tube_cell.specs.Passes.{Carried}
 use Rattle.tube_party.specs.Moves.{Moves, Follows}
 use Rattle.tube_party.specs.Reference.{World, reference, LegalMergeIsReference}
 use Rattle.tube_party.specs.OneThread.{Played, IsPlayed}
-use Rattle.session.specs.CodeStation.{place, Station}
-use Rattle.session.specs.Work.{HasWorked}
+use Rattle.cell_work.specs.CodeStation.{place, Station}
+use Rattle.cell_work.specs.Work.{HasWorked}
 use Rattle.session.proofs.Merged.{sided, host_of_merge, para_of_merge}
 
 -- all events of a pass that began without one are those that joined its list

@@ -1,10 +1,2 @@
-pub mod Runs
-pub mod Kept
 pub mod Merged
-pub mod UnderWay
 pub mod Ends
-pub mod Observing
-pub mod Gone
-pub mod Trusts
-pub mod OnWay
-pub mod Waits

@@ -1,11 +1,10 @@
 -- Each side's events of a merge are its own list.
-use Rattle.std.proofs.Common.{ℕ, zero, suc, ◌≡◌, nat_lt, true, false, cond, refl, ◌∙◌, ap, List, [], ◌∷◌, Option, None, Some, if◌then◌else◌}
+use Rattle.std.proofs.Common.{ℕ, zero, suc, ◌≡◌, nat_lt, true, false, cond, refl, ◌∙◌, ap, List, [], ◌∷◌, Option, None, Some, MatchOption, if◌then◌else◌}
 use Rattle.beeb_bits.specs.declared.Side.{Side}
 use Rattle.beeb_bits.specs.declared.Side.TheVariants.{Host, Para}
 use Rattle.tube_chip.specs.Act.{Query}
 use Rattle.tube_chip.specs.Events.{Event, merge, put_in, of_side, is_side}
-use Rattle.tube_party.specs.Moves.{Moves, Runs, course}
-use Rattle.session.proofs.Runs.{Then}
+use Rattle.tube_party.specs.Moves.{Moves, Runs, Heads, course}
 
 -- all events are of this side
 abbrev pub Sided : Side → List Event → Type 0
@@ -13,9 +12,16 @@ Sided side [] = Unit {0}
 Sided side (e ∷ events) = (e.side ≡ side) × Sided side events
 
 module _ {S : Type 0} (r : Moves S) (side : Side) (n : ℕ) where
+  -- what follows a step, by what it asks
+  abbrev Then : ℕ → S → List Event → S → Option Query → Type 0
+  Then k s events last o =
+      MatchOption o
+      (Runs r side n k (r.next s None) (course events last))
+      (λ q. Heads events (λ e rest. (e.tick ≡ r.due s) × (e.side ≡ side) × (e.query ≡ q) × Runs r side n k (r.next s (Some e.answer)) (course rest last)))
+
   sided_by : (k : ℕ) (s last : S) (a : List Event) (o : Option Query)
       → ((t : S) (b : List Event) → Runs r side n k t (course b last) → Sided side b)
-      → Then r side n k s a last o → Sided side a
+      → Then k s a last o → Sided side a
   sided_by k s last a None on h = on (r.next s None) a h
   sided_by k s last [] (Some q) on h = absurd h
   sided_by k s last (e ∷ rest) (Some q) on h = (h.1, on (r.next s (Some e.answer)) rest h.3)

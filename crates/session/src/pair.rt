@@ -7,15 +7,14 @@ ghost use Rattle.beeb_files.specs.Crew.{Grows};
 ghost use Rattle.tube_cell.specs.Passes.{Carried};
 ghost use Rattle.tube_party.specs.OneThread.{IsPlayed, played_of};
 ghost use Rattle.tube_party.specs.Reference.{reference};
-ghost use Rattle.session.specs.CodeStation.{place, station};
-ghost use Rattle.session.specs.Work.{HasWorked};
+ghost use Rattle.cell_work.specs.CodeStation.{place, station};
+ghost use Rattle.cell_work.specs.Work.{HasWorked};
 ghost use Rattle.session.specs.declared.pair.PairError.TheVariants.{NoThread, NoMemory};
 
-use crate::half::Half;
 use crate::side_job::{AheadJob, SideJob};
-use crate::stride::{Strides, USUAL};
 use beeb_bits::Tick;
 use beeb_files::Crew;
+use cell_work::{Half, Strides, USUAL};
 use std::alloc::Global;
 use std::sync::{Arc, Wait};
 use std::thread::Threads;

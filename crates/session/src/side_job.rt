@@ -2,14 +2,12 @@
 ghost use Rattle.std.specs.Prelude.{◌≡◌, ◌≤◌, vec_capacity};
 ghost use Rattle.std.specs.Arc.{arc_value};
 ghost use Rattle.beeb_bits.specs.declared.Side.TheVariants.{Para};
-ghost use Rattle.session.specs.CodeStation.{station};
-ghost use Rattle.session.specs.Work.{MayWork, HasWorked};
+ghost use Rattle.cell_work.specs.CodeStation.{station};
+ghost use Rattle.cell_work.specs.Work.{MayWork, HasWorked};
 
-use crate::ahead::drive_ahead;
-use crate::half::{Half, drive};
-use crate::stride::Strides;
 use beeb_bits::Tick;
 use beeb_files::Job;
+use cell_work::{Half, Strides, drive, drive_ahead};
 use std::alloc::Global;
 use std::sync::{Arc, Wait};
 use tube_cell::TubeCell;

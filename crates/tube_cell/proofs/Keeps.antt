@@ -15,7 +15,7 @@ use Rattle.tube_chip.specs.Register.{empty}
 use Rattle.tube_chip.specs.Events.{Event, merge, after, IsLegal}
 use Rattle.tube_chip.specs.Packing.{packed_words, IsRegister, IsChip, PackingIsOneToOne}
 use Rattle.tube_cell.specs.Views.{Known, words_of, new_known, Role, undivided, one_side, rejoined, used, View, flip, word_of_other, own_bound, other_bound, pick, known_with, slack, Admits, admits, horizon, past_last, AllBelow, below, trust_after}
-use Rattle.tube_cell.specs.Rules.{Good, Knows, FitsAs, Kept, whole, spent_view, host_part, para_part, joined_view, GoesOn, firm, pending_events, found_view, published_view, Finds, Publishes, entrusted_view, Entrusts, told_view, PublishesAndEntrusts, added_view, look_at, looked_view, LooksAs, Looks, Ends}
+use Rattle.tube_cell.specs.Rules.{Good, Knows, FitsAs, Kept, whole, spent_view, host_part, para_part, joined_view, GoesOn, firm, pending_events, found_view, Exchanged, published_view, Finds, Publishes, entrusted_view, Entrusts, told_view, PublishesAndEntrusts, added_view, look_at, looked_view, LooksAs, Looks, Ends}
 use Rattle.tube_cell.specs.Steps.{Runs, Watches, MayPublish, MayLook, MayEntrust, MayPublishAndEntrust}
 use Rattle.tube_cell.proofs.Observed.{shows_itself}
 use Rattle.tube_cell.proofs.Law.{below_lies}
@@ -174,7 +174,12 @@ kept_found s words views k pass v at role =
     let fit = fit_of s words views k pass v at role in (
       kept_step s words words views k pass v (found_view v k.known) k.known k.host k.para at role k.words_are k.well k.good (λ j u f. f) role
           (fits_found s k.known k.host k.para k.host_seat k.para_seat pass v k.well fit),
-      (k.well, k.words_are, refl, subst (λ (r : Role). GoesOn r v.known k.known) (sym role) (goes_on s k.known v.known (knows_of s k.known k.host k.para k.host_seat k.para_seat pass v fit))),
+      record {
+        well = k.well;
+        words_are = k.words_are;
+        view_is = refl;
+        goes_on = subst (λ (r : Role). GoesOn r v.known k.known) (sym role) (goes_on s k.known v.known (knows_of s k.known k.host k.para k.host_seat k.para_seat pass v fit));
+      },
     )
 
 pub learns : (s : Side) (pass : ℕ) (v : View) → v.role ≡ one_side s → Turns Kept pass v (λ x. x) Finds
@@ -185,19 +190,19 @@ learns s pass v role words views k at =
 -- ---- exchanges
 
 -- an exchange after which the view is this one where the words were those known
-exchanges : (s : Side) (pass : ℕ) (v goal : View) (next : List ℕ) → v.role ≡ one_side s
-    → ((words : List ℕ) (views : List View) (k : Kept words views) → get_elem? views pass ≡ some v → words ≡ words_of v.known → Kept next (set views pass goal))
-    → Turns Kept pass v (λ x. if pointwise nat_eq x (words_of v.known) then next else x) (λ v x y w. (x ≡ words_of v.known → w ≡ goal) × (x ≢ words_of v.known → Finds v x y w))
+exchanges : (s : Side) (pass : ℕ) (v : View) (goal : View → View) (next : List ℕ) → v.role ≡ one_side s
+    → ((words : List ℕ) (views : List View) (k : Kept words views) → get_elem? views pass ≡ some v → words ≡ words_of v.known → Kept next (set views pass (goal v)))
+    → Turns Kept pass v (λ x. if pointwise nat_eq x (words_of v.known) then next else x) (Exchanged goal)
 exchanges s pass v goal next role hit words views k at = go (pointwise nat_eq words (words_of v.known)) refl
   where
     go : (b : Bool) → pointwise nat_eq words (words_of v.known) ≡ b
-        → (w : View) × Kept (if b then next else words) (slice_set views pass w) × ((words ≡ words_of v.known → w ≡ goal) × (words ≢ words_of v.known → Finds v words (if b then next else words) w))
+        → (w : View) × Kept (if b then next else words) (slice_set views pass w) × Exchanged goal v words (if b then next else words) w
     go true e =
         let is : words ≡ words_of v.known = (bytes_decides words (words_of v.known)).0 e in
-        (goal, hit words views k at is, ((λ _. refl), (λ not. absurd (not is))))
+        (goal v, hit words views k at is, record { hit = λ _. refl; missed = λ not. absurd (not is) })
     go false e =
         let f = kept_found s words views k pass v at role in
-        (found_view v k.known, f.0, ((λ is. absurd (true≢false (sym ((bytes_decides words (words_of v.known)).1 is) ∙ e))), (λ _. f.1)))
+        (found_view v k.known, f.0, record { hit = λ is. absurd (true≢false (sym ((bytes_decides words (words_of v.known)).1 is) ∙ e)); missed = λ _. f.1 })
 
 knows_with : (s : Side) (n x : Known) → IsChip n.chip → x ≡ n → Knows s n x
 knows_with s n x well is = subst (Knows s n) (sym is) (knows_all s n well)
@@ -267,8 +272,8 @@ para_publishes one pass v es last end next may well with_is words views k at is 
 pub publishes : PackingIsOneToOne → (s : Side) (pass : ℕ) (v : View) (es : List Event) (last : State) (end : ℕ) (next : Known) → MayPublish s es last end v → IsChip last
     → next ≡ known_with s last end (word_of_other s v.known) (trust_after s v.known.chip v.known.trust es)
     → Turns Kept pass v (λ x. if pointwise nat_eq x (words_of v.known) then words_of next else x) (Publishes es next)
-publishes one Host pass v es last end next may well is = exchanges Host pass v (published_view v es next) (words_of next) may.role (host_publishes one pass v es last end next may well is)
-publishes one Para pass v es last end next may well is = exchanges Para pass v (published_view v es next) (words_of next) may.role (para_publishes one pass v es last end next may well is)
+publishes one Host pass v es last end next may well is = exchanges Host pass v (λ u. published_view u es next) (words_of next) may.role (host_publishes one pass v es last end next may well is)
+publishes one Para pass v es last end next may well is = exchanges Para pass v (λ u. published_view u es next) (words_of next) may.role (para_publishes one pass v es last end next may well is)
 
 -- ---- events on trust
 
@@ -301,7 +306,7 @@ entrusts_hit one pass v es end next may with_is words views k at is =
 
 pub entrusts : PackingIsOneToOne → (pass : ℕ) (v : View) (es : List Event) (end : ℕ) (next : Known) → MayEntrust es end v → next ≡ trusting v.known end
     → Turns Kept pass v (λ x. if pointwise nat_eq x (words_of v.known) then words_of next else x) (Entrusts es next)
-entrusts one pass v es end next may is = exchanges Para pass v (entrusted_view v es next) (words_of next) may.role (entrusts_hit one pass v es end next may is)
+entrusts one pass v es end next may is = exchanges Para pass v (λ u. entrusted_view u es next) (words_of next) may.role (entrusts_hit one pass v es end next may is)
 
 -- ---- both at once: the rule is kept once some events are published, and then once others are on the list too
 
@@ -334,7 +339,7 @@ pub publishes_and_entrusts : PackingIsOneToOne → (pass : ℕ) (v : View) (es s
     → next ≡ known_with Para last word (word_of_other Para v.known) end
     → Turns Kept pass v (λ x. if pointwise nat_eq x (words_of v.known) then words_of next else x) (PublishesAndEntrusts es seen next)
 publishes_and_entrusts one pass v es seen last word end next may well is =
-    exchanges Para pass v (told_view v es seen next) (words_of next) may.publish.role (both_hit one pass v es seen last word end next may well is)
+    exchanges Para pass v (λ u. told_view u es seen next) (words_of next) may.publish.role (both_hit one pass v es seen last word end next may well is)
 
 -- ---- look
 
@@ -545,5 +550,5 @@ ends pass v role words views k at =
     let lists : merge k.host k.para ≡ merge v.mine v.theirs = λ i. merge (sym f.2 i) (sym f.3 i) in (
       v,
       subst (Kept words) (sym (set_again views pass v at)) k,
-      (k.known, k.well, k.words_are, k.good.chip_is ∙ ap after lists, subst IsLegal lists k.good.legal),
+      record { known = k.known; well = k.well; words_are = k.words_are; chip_is = k.good.chip_is ∙ ap after lists; legal = subst IsLegal lists k.good.legal },
     )

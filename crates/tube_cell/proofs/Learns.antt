@@ -9,9 +9,9 @@ use Rattle.tube_chip.specs.State.{State}
 use Rattle.tube_chip.specs.Events.{Event}
 use Rattle.tube_chip.specs.Packing.{IsChip}
 use Rattle.tube_cell.specs.Views.{Known, words_of, Role, one_side, View, word_of_other, own_bound, other_bound, bound_at, Admits, horizon, past_last, below, chip_after_event, same_readings, trust_past, trust_after}
-use Rattle.tube_cell.specs.Rules.{Trusts, GoesOn, rise, firm, pending_events, Finds}
+use Rattle.tube_cell.specs.Rules.{Trusts, GoesOn, rise, firm, pending_events, Found}
 use Rattle.tube_cell.specs.Passes.{Carried, carried_of, Learns, own_horizon, here}
-use Rattle.tube_cell.specs.Steps.{Runs, Found, IsPassOf, CutIs, Local}
+use Rattle.tube_cell.specs.Steps.{Runs, IsPassOf, CutIs, Local}
 use Rattle.tube_cell.proofs.Law.{All-below}
 use Rattle.tube_cell.proofs.Grows.{trusts_fall, past_append, below_same}
 use Rattle.tube_cell.proofs.Keeps.{firm_low}
@@ -55,9 +55,6 @@ later_of id s v p t view none later =
     omega arith
 
 -- ---- what becomes of a pass that finds the words
-
-pub found_of : (v w : View) (x : List ℕ) → Finds v x x w → Found x v w
-found_of v w x f = record { well = f.0; words_are = f.1; view_is = f.2; goes_on = f.3 }
 
 past_more : (b : Bool) (a c t : ℕ) → a ≤ c → cond b a (min a t) ≤ cond b c (min c t)
 past_more true a c t le = le

@@ -126,9 +126,21 @@ found_view v k = record v {
   higher = v.higher + rise v.role v.known k;
 }
 
--- learn, and a failed exchange: the words were found, and are known
+-- the words were found, and are known
+pub record Found (words : List ℕ) (v w : View) : Type 0 where
+  pub well : IsChip w.known.chip
+  pub words_are : words ≡ words_of w.known
+  pub view_is : w ≡ found_view v w.known
+  pub goes_on : GoesOn v.role v.known w.known
+
+-- learn, and a failed exchange
 abbrev pub Finds : View → List ℕ → List ℕ → View → Type 0
-Finds v x y w = IsChip w.known.chip × (x ≡ words_of w.known) × (w ≡ found_view v w.known) × GoesOn v.role v.known w.known
+Finds v x y w = Found x v w
+
+-- an exchange: where the words were those known, the view is the next one; else it failed
+pub record Exchanged (next : View → View) (v : View) (x y : List ℕ) (w : View) : Type 0 where
+  pub hit : x ≡ words_of v.known → w ≡ next v
+  pub missed : x ≢ words_of v.known → Finds v x y w
 
 -- the view once these events and words are published
 abbrev pub published_view : View → List Event → Known → View
@@ -136,9 +148,7 @@ published_view v events next = record v { mine = v.mine ++ events; ahead = []; k
 
 -- raise, and commit: where the words were those known, the events join the list and the words are the next; else it is a failed exchange
 abbrev pub Publishes : List Event → Known → View → List ℕ → List ℕ → View → Type 0
-Publishes events next v x y w =
-    (x ≡ words_of v.known → w ≡ published_view v events next)
-    × (x ≢ words_of v.known → Finds v x y w)
+Publishes events next = Exchanged (λ v. published_view v events next)
 
 -- the view once these events are on the list on trust, and these words in the cell
 abbrev pub entrusted_view : View → List Event → Known → View
@@ -146,9 +156,7 @@ entrusted_view v events next = record v { trusted = v.trusted ++ events; known =
 
 -- entrust: where the words were those known, the events join the list on trust; else it is a failed exchange
 abbrev pub Entrusts : List Event → Known → View → List ℕ → List ℕ → View → Type 0
-Entrusts events next v x y w =
-    (x ≡ words_of v.known → w ≡ entrusted_view v events next)
-    × (x ≢ words_of v.known → Finds v x y w)
+Entrusts events next = Exchanged (λ v. entrusted_view v events next)
 
 -- the view once some events are published, others on the list on trust, and these words in the cell
 abbrev pub told_view : View → List Event → List Event → Known → View
@@ -156,9 +164,7 @@ told_view v events trusted next = entrusted_view (published_view v events next) 
 
 -- publish_and_entrust: where the words were those known, some events join the list, and others do on trust; else it is a failed exchange
 abbrev pub PublishesAndEntrusts : List Event → List Event → Known → View → List ℕ → List ℕ → View → Type 0
-PublishesAndEntrusts events trusted next v x y w =
-    (x ≡ words_of v.known → w ≡ told_view v events trusted next)
-    × (x ≢ words_of v.known → Finds v x y w)
+PublishesAndEntrusts events trusted next = Exchanged (λ v. told_view v events trusted next)
 
 -- the view once these events are done, and not published yet
 abbrev pub added_view : View → List Event → View
@@ -181,7 +187,14 @@ LooksAs t r v x w = Unit {0}
 abbrev pub Looks : ℕ → View → List ℕ → List ℕ → View → Type 0
 Looks t v x y w = LooksAs t v.role v x w
 
--- the learn that ends a join: the chip found is the one after the two lists, whose merge is legal
+-- the words at the end of a join: the chip is the one after the two lists, whose merge is legal
+pub record Ended (v : View) (words : List ℕ) : Type 0 where
+  pub known : Known
+  pub well : IsChip known.chip
+  pub words_are : words ≡ words_of known
+  pub chip_is : known.chip ≡ after (merge v.mine v.theirs)
+  pub legal : IsLegal (merge v.mine v.theirs)
+
+-- the learn that ends a join
 abbrev pub Ends : View → List ℕ → List ℕ → View → Type 0
-Ends v x y w =
-    (k : Known) × IsChip k.chip × (x ≡ words_of k) × (k.chip ≡ after (merge v.mine v.theirs)) × IsLegal (merge v.mine v.theirs)
+Ends v x y w = Ended v x

@@ -55,14 +55,7 @@ pub record MayPublishAndEntrust (events : List Event) (last : State) (word : ℕ
   pub order : word ≤ end
   pub watches : Watches Para word last trusted end
 
--- the words were found, and are known
-pub record Found (words : List ℕ) (v w : View) : Type 0 where
-  pub well : IsChip w.known.chip
-  pub words_are : words ≡ words_of w.known
-  pub view_is : w ≡ found_view v w.known
-  pub goes_on : GoesOn v.role v.known w.known
-
--- the same, and a look at this tick joined the list where the words admit it
+-- the words were found, and are known, and a look at this tick joined the list where the words admit it
 pub record LookedAt (t : ℕ) (s : Side) (words : List ℕ) (v w : View) : Type 0 where
   pub well : IsChip w.known.chip
   pub words_are : words ≡ words_of w.known

@@ -7,10 +7,10 @@ ghost use Rattle.tube_chip.specs.declared.Op.TheVariants.{Read};
 ghost use Rattle.tube_chip.specs.Act.{MayDo, is_status, answer_of};
 ghost use Rattle.tube_chip.specs.Events.{merge, after, IsLegal};
 ghost use Rattle.tube_chip.specs.Packing.{IsChip};
-ghost use Rattle.tube_cell.specs.Views.{one_side, word_of_other, other_bound, slack, known_with, Admits, admits, AllBelow, words_of, readings_of, trust_after};
-ghost use Rattle.tube_cell.specs.Rules.{published_view, entrusted_view, told_view, added_view};
+ghost use Rattle.tube_cell.specs.Views.{one_side, rejoined, word_of_other, other_bound, slack, known_with, Admits, admits, AllBelow, words_of, readings_of, trust_after};
+ghost use Rattle.tube_cell.specs.Rules.{Found, published_view, entrusted_view, told_view, added_view, joined_view, Ended};
 ghost use Rattle.tube_cell.specs.Passes.{starts, own_horizon, Learns, access_at, lines_at, after_commit, after_raise, after_look, after_entrust, here, bound_here, after_add, after_publish};
-ghost use Rattle.tube_cell.specs.Steps.{MayPublish, MayLook, MayEntrust, MayPublishAndEntrust, Watches, Found, LookedAt};
+ghost use Rattle.tube_cell.specs.Steps.{MayPublish, MayLook, MayEntrust, MayPublishAndEntrust, Watches, LookedAt};
 
 use crate::local::{Readings, operate, peek, readings_of};
 use crate::rule::{
@@ -468,10 +468,8 @@ impl TubeCell {
             local: _,
             cut: _,
         } = para;
-        // A pass that stepped can't be taken in, so its view goes to a new one.
-        let fresh = self.cell.split_pass::<Parting>(&mut worn);
-        self.cell.join_pass::<Halves>(&mut whole, fresh);
-        let found = self.cell.load_as::<Ending, R>(rt, &mut whole);
+        take_in(&self.cell, &mut whole, &mut worn);
+        let found = end_at(&self.cell, rt, &mut whole);
         chip_of(&found)
     }
 }
@@ -606,4 +604,28 @@ fn load_at<M: Moment, R: Wait>(
     ensures view { LookedAt t _side result (cell_view seat.old) (cell_view seat.new) }
 {
     cell.load_as::<Looking<M>, R>(rt, seat)
+}
+
+// The host's pass takes in the list of the parasite's.
+fn take_in(cell: &Cell, host: &mut Seat<[u64; 9], PassView>, para: &mut Seat<[u64; 9], PassView>)
+    requires host_cell { host.old.table_id ≡ cell.now.table.shared.table_id }
+    requires para_cell { para.old.table_id ≡ cell.now.table.shared.table_id }
+    requires host_role { (cell_view host.old).role ≡ one_side Host }
+    requires para_role { (cell_view para.old).role ≡ one_side Para }
+    requires none_trusted { (cell_view para.old).trusted ≡ [] }
+    ensures cell { IsSamePass host.old host.new }
+    ensures joined { cell_view host.new ≡ joined_view (cell_view host.old) (cell_view para.old) }
+{
+    // A pass that stepped can't be taken in, so its view goes to a new one.
+    let fresh = cell.split_pass::<Parting>(para);
+    cell.join_pass::<Halves>(host, fresh);
+}
+
+// One load, once both lists are in one pass.
+fn end_at<R: Wait>(cell: &Cell, rt: &R, seat: &mut Seat<[u64; 9], PassView>) -> [u64; 9]
+    requires cell { seat.old.table_id ≡ cell.now.table.shared.table_id }
+    requires role { (cell_view seat.old).role ≡ rejoined }
+    ensures { Ended (cell_view seat.old) result }
+{
+    cell.load_as::<Ending, R>(rt, seat)
 }

@@ -1,24 +1,41 @@
-use Rattle.std.proofs.Common.{rules, sym, ap, ◌∙◌}
+use Rattle.std.proofs.Common.{sym, ap, ◌∙◌, subst}
+use Rattle.crossbeam_utils.specs.Seq.{cell_view}
+use Rattle.tube_chip.specs.Events.{merge, after, IsLegal}
 use Rattle.tube_cell.specs.Views.{one_side}
-use Rattle.tube_cell.proofs.Keeps.{parts, merges, ends}
 use Rattle.tube_cell.proofs.cell.TubeCell.join.Goals as goal
 
-pub split_pass-fresh-requires : goal.split_pass-fresh-requires
-split_pass-fresh-requires g c =
-    let table = ap (λ p. p.cell) c.para.view_is ∙ c.requires.cell.1 ∙ sym c.self.view_is in
-    let role = c.para.invariant.0.role ∙ ap one_side (ap (λ p. p.side) c.para.view_is ∙ c.requires.sides.1) in
-    (search rules, (search rules, (table, parts _ _ role)))
+pub take_in-requires-clause-host_cell : goal.take_in-requires-clause-host_cell
+take_in-requires-clause-host_cell g c = ap (λ p. p.cell) c.host.view_is ∙ c.requires.cell.0 ∙ sym c.self.view_is
 
-pub join_pass-requires : goal.join_pass-requires
-join_pass-requires g c =
-    let given = c.split_pass-fresh.ensures.given in
-    let host_table = ap (λ p. p.cell) c.host.view_is ∙ c.requires.cell.0 ∙ sym c.self.view_is in
-    let para_table = ap (λ p. p.cell) c.para.view_is ∙ c.requires.cell.1 ∙ sym c.self.view_is in
-    let host_role = c.host.invariant.0.role ∙ ap one_side (ap (λ p. p.side) c.host.view_is ∙ c.requires.sides.0) in
-    let para_role = c.para.invariant.0.role ∙ ap one_side (ap (λ p. p.side) c.para.view_is ∙ c.requires.sides.1) in
-    (search rules, (search rules, ((host_table, given.0 ∙ para_table ∙ sym host_table, given.2), merges _ _ _ _ host_role (ap (λ v. v.role) given.1 ∙ para_role) (ap (λ v. v.trusted) given.1 ∙ ap (λ p. p.trusted) c.para.view_is ∙ c.requires.none_trusted))))
+pub take_in-requires-clause-para_cell : goal.take_in-requires-clause-para_cell
+take_in-requires-clause-para_cell g c = ap (λ p. p.cell) c.para.view_is ∙ c.requires.cell.1 ∙ sym c.self.view_is
 
-pub load_as-found-requires : goal.load_as-found-requires
-load_as-found-requires g c =
-    let host_table = ap (λ p. p.cell) c.host.view_is ∙ c.requires.cell.0 ∙ sym c.self.view_is in
-    (search rules, (search rules, (c.join_pass.ensures.0.0 ∙ host_table, ends _ _ (ap (λ v. v.role) c.join_pass.ensures.1))))
+pub take_in-requires-clause-host_role : goal.take_in-requires-clause-host_role
+take_in-requires-clause-host_role g c = c.host.invariant.0.role ∙ ap one_side (ap (λ p. p.side) c.host.view_is ∙ c.requires.sides.0)
+
+pub take_in-requires-clause-para_role : goal.take_in-requires-clause-para_role
+take_in-requires-clause-para_role g c = c.para.invariant.0.role ∙ ap one_side (ap (λ p. p.side) c.para.view_is ∙ c.requires.sides.1)
+
+pub take_in-requires-clause-none_trusted : goal.take_in-requires-clause-none_trusted
+take_in-requires-clause-none_trusted g c = ap (λ p. p.trusted) c.para.view_is ∙ c.requires.none_trusted
+
+pub end_at-found-requires-clause-cell : goal.end_at-found-requires-clause-cell
+end_at-found-requires-clause-cell g c = c.take_in.ensures.cell.0 ∙ ap (λ p. p.cell) c.host.view_is ∙ c.requires.cell.0 ∙ sym c.self.view_is
+
+pub end_at-found-requires-clause-role : goal.end_at-found-requires-clause-role
+end_at-found-requires-clause-role g c = ap (λ v. v.role) c.take_in.ensures.joined
+
+pub chip_of-requires : goal.chip_of-requires
+chip_of-requires g c = let e = c.end_at-found.ensures in (e.known, e.well, e.words_are)
+
+pub returns-clause-chip : goal.returns-clause-chip
+returns-clause-chip g c =
+    let e = c.end_at-found.ensures in
+    c.chip_of.ensures e.known e.well e.words_are
+    ∙ e.chip_is
+    ∙ ap (λ v. after (merge v.mine v.theirs)) c.take_in.ensures.joined
+    ∙ (λ i. after (merge (c.host.view_is i).events (c.para.view_is i).events))
+
+pub returns-clause-legal : goal.returns-clause-legal
+returns-clause-legal g c =
+    subst IsLegal (ap (λ v. merge v.mine v.theirs) c.take_in.ensures.joined ∙ (λ i. merge (c.host.view_is i).events (c.para.view_is i).events)) c.end_at-found.ensures.legal

@@ -2,7 +2,7 @@ use Rattle.std.proofs.Common.{rules, sym, ap, ◌∙◌, subst, List, ℕ}
 use Rattle.crossbeam_utils.specs.Seq.{cell_view}
 use Rattle.tube_cell.specs.Steps.{IsPassOf}
 use Rattle.tube_cell.proofs.Keeps.{learns}
-use Rattle.tube_cell.proofs.Learns.{found_of, pass_found, cut_found, learned}
+use Rattle.tube_cell.proofs.Learns.{pass_found, cut_found, learned}
 use Rattle.tube_cell.proofs.cell.TubeCell.learn.Goals as goal
 
 pub load_as-found-requires : goal.load_as-found-requires
@@ -12,7 +12,7 @@ pub invariant_of-pass : goal.invariant_of-pass
 invariant_of-pass g c =
     let v = cell_view c.pass.inside.seat in
     let w = cell_view c.load_as-found.new.pass in
-    let f = found_of v w c.load_as-found.result c.load_as-found.ensures.rule in
+    let f = c.load_as-found.ensures.rule in
     let local = c.settle.ensures.local v.known w.known c.pass.invariant.0.well f.well c.pass.invariant.0.words_are f.words_are in (
       subst (λ (words : List ℕ). IsPassOf c.pass.inside.side words c.settle.new.local w) (sym c.settle.ensures.words)
           (pass_found c.pass.inside.side c.pass.inside.words c.load_as-found.result c.pass.inside.local c.settle.new.local v w c.pass.invariant.0 f local),
@@ -23,4 +23,4 @@ pub returns : goal.returns
 returns g c =
     let v = cell_view c.pass.inside.seat in
     let w = cell_view c.load_as-found.new.pass in
-    learned _ _ c.pass.inside.side c.pass.inside.words c.load_as-found.result c.pass.inside.local c.args.pass.now v w c.pass.view_is c.pass.invariant.0 c.load_as-found.ensures.cell.0 (found_of v w c.load_as-found.result c.load_as-found.ensures.rule)
+    learned _ _ c.pass.inside.side c.pass.inside.words c.load_as-found.result c.pass.inside.local c.args.pass.now v w c.pass.view_is c.pass.invariant.0 c.load_as-found.ensures.cell.0 c.load_as-found.ensures.rule

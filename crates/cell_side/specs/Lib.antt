@@ -1,0 +1,3 @@
+pub mod CodeSteps
+pub mod CodeWays
+pub mod CodeTrust

@@ -1,0 +1,12 @@
+//! One side at the shared cell: how it waits for the other, and what the parasite tells of a way ahead, on trust.
+#![tactic(auto)]
+
+mod at_cell;
+mod mark;
+mod pause;
+mod trust;
+
+pub use at_cell::{come, finish};
+pub use mark::{Ahead, Mark};
+pub use pause::Pause;
+pub use trust::{tell_first, tell_more, wait_passed};

@@ -1,0 +1,23 @@
+-- One side at the cell.
+use Rattle.std.specs.Prelude.{ℕ, List}
+use Rattle.tube_trace.specs.declared.Entry.{Entry}
+use Rattle.tube_cell.specs.Passes.{Carried}
+use Rattle.cell_work.specs.declared.half.Half.{Half}
+
+-- The state of a side's machine, and its pass.
+pub record Place (S : Type 0) : Type 0 where
+  pub state : S
+  pub pass : Carried
+
+abbrev pub place : {S : Type 0} → S → Carried → Place S
+place s p = record { state = s; pass = p }
+
+-- Where a side stands, what is kept of its accesses, and how many there were.
+pub record Station (S : Type 0) : Type 0 where
+  pub at : Place S
+  pub list : List Entry
+  pub count : ℕ
+
+-- that of a side whose machine's state this function tells
+abbrev pub station : {M S : Type 0} → (M → S) → Half M → Station S
+station state half = record { at = place (state half.machine) half.pass; list = half.list.items; count = half.count }

@@ -1,8 +1,0 @@
-pub mod CodeSteps
-pub mod CodeStation
-pub mod CodeTurn
-pub mod Work
-pub mod CodeSight
-pub mod CodeLookahead
-pub mod CodeWay
-pub mod CodeTrust
