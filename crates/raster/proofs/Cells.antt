@@ -27,13 +27,13 @@ cell_long font code ra fields t = refl
 pub cell_more : (font : Font) (codes : ℕ → ℕ) (ra fields i x y : ℕ) (t : Text) (dots old canvas : List ℕ) → canvas ≡ dots_set 208 x y (side_by_side (cells font codes ra fields t) i) old →
     dots ≡ cells font codes ra fields t i → dots_set 208 (x + 16 * i) y dots canvas ≡ dots_set 208 x y (side_by_side (cells font codes ra fields t) (i + 1)) old
 cell_more font codes ra fields i x y t dots old canvas so is =
-    let row = cells font codes ra fields t in
-    let long : length (side_by_side row i) ≡ i * 16 = row_long row 16 i (λ k. cell_long font (codes k) ra fields (texts codes k t)) in
-    let at : 16 * i ≡ length (side_by_side row i) = omega (arith, long) in
-    ap (λ (c : List ℕ). dots_set 208 (x + 16 * i) y dots c) so ∙ ap (λ (ds : List ℕ). dots_set 208 (x + 16 * i) y ds (dots_set 208 x y (side_by_side row i) old)) is
-    ∙ ap (λ (k : ℕ). dots_set 208 (x + k) y (row i) (dots_set 208 x y (side_by_side row i) old)) at
-    ∙ sym (dots_set-append 208 x y (side_by_side row i) (row i) old)
-    ∙ ap (λ (k : ℕ). dots_set 208 x y (side_by_side row k) old) (sym (add-one i))
+    let strip = cells font codes ra fields t in
+    let long : length (side_by_side strip i) ≡ i * 16 = row_long strip 16 i (λ k. cell_long font (codes k) ra fields (texts codes k t)) in
+    let at : 16 * i ≡ length (side_by_side strip i) = omega (arith, long) in
+    ap (λ (c : List ℕ). dots_set 208 (x + 16 * i) y dots c) so ∙ ap (λ (ds : List ℕ). dots_set 208 (x + 16 * i) y ds (dots_set 208 x y (side_by_side strip i) old)) is
+    ∙ ap (λ (k : ℕ). dots_set 208 (x + k) y (strip i) (dots_set 208 x y (side_by_side strip i) old)) at
+    ∙ sym (dots_set-append 208 x y (side_by_side strip i) (strip i) old)
+    ∙ ap (λ (k : ℕ). dots_set 208 x y (side_by_side strip k) old) (sym (add-one i))
 
 abbrev pub span_codes : List ℕ → ℕ → Span → ℕ → ℕ
 span_codes ram size span k = slice_index ram (byte_address ((span.ma + k) % 16384) span.ra size) % 128
@@ -80,20 +80,20 @@ cells_row ram size font span m zero s h few shown teletext off small = sym (none
 cells_row ram size font span m (suc n) s h few shown teletext off small =
     let d = dots_of s.ula.control in
     let codes = span_codes ram size span in
-    let row = cells font codes span.ra span.fields s.text in
+    let strip = cells font codes span.ra span.fields s.text in
     let text = texts codes n s.text in
     let working = cells_set font ram size span s n in
     let sixteen : 16 ≡ d = sym (sixteen_dots s.ula off) in
-    let long : length (side_by_side row n) ≡ n * d =
-    row_long row 16 n (λ k. cell_long font (codes k) span.ra span.fields (texts codes k s.text)) ∙ ap (λ k. n * k) sixteen in
+    let long : length (side_by_side strip n) ≡ n * d =
+    row_long strip 16 n (λ k. cell_long font (codes k) span.ra span.fields (texts codes k s.text)) ∙ ap (λ k. n * k) sixteen in
     chars_behind ram size font n s
     ∙ ap (λ (t : State). char_clock_leaves ram size font t) (cells_row ram size font span m n s h (omega (arith, few)) shown teletext off small)
     ∙ shown_here ram size font span m s n text working h (omega (arith, few))
     ∙ ap (λ (t : State). pass_leaves (plain_beam span n) t)
     (draws_cell ram size font span n (record (built n text working s) { crtc = clocks (suc n) s.crtc }) shown teletext off h.far)
-    ∙ passed span n (texts codes (suc n) s.text) (dots_set 208 (min (s.place.x + n * d) 4095) s.place.y (row n) working) s h.far
+    ∙ passed span n (texts codes (suc n) s.text) (dots_set 208 (min (s.place.x + n * d) 4095) s.place.y (strip n) working) s h.far
     ∙ ap (λ (w : List ℕ). built (suc n) (texts codes (suc n) s.text) w s)
-    (beside 208 s.place.x s.place.y (n * d) (side_by_side row n) (row n) s.working (omega arith) long)
+    (beside 208 s.place.x s.place.y (n * d) (side_by_side strip n) (strip n) s.working (omega arith) long)
 
 -- codes that are the same leave the same
 same_texts : (f g : ℕ → ℕ) (n : ℕ) (t : Text) → ((k : ℕ) → k < n → f k ≡ g k) → texts f n t ≡ texts g n t

@@ -1,10 +1,11 @@
 pub mod Drawing
 pub mod Marks
-pub mod Eights
+pub mod Dots
 pub mod Told
 pub mod Quiet
 pub mod ReadBytes
 pub mod RestMany
 pub mod Spans
+pub mod FromSync
 pub mod Micros
 pub mod Cells

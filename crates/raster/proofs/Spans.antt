@@ -81,14 +81,19 @@ built k text working s = record s {
   working = working;
 }
 
-pub shown_here : (ram : List ℕ) (size : ℕ) (font : Font) (span : Span) (n : ℕ) (s : State) (k : ℕ) (text : Text) (working : List ℕ) → ArePlain span n s → k < n →
+pub shown_here_by : (ram : List ℕ) (size : ℕ) (font : Font) (span : Span) (s : State) (k : ℕ) (text : Text) (working : List ℕ) → beam_of (clocks k s.crtc) ≡ plain_beam span k →
     char_clock_leaves ram size font (built k text working s)
     ≡ pass_leaves (plain_beam span k) (show_leaves ram size font (plain_beam span k) (record (built k text working s) { crtc = clocks (suc k) s.crtc }))
 unfolding char_clock_leaves plain_beam
-shown_here ram size font span n s k text working h below =
+shown_here_by ram size font span s k text working told =
     let here = built k text working s in
-    ap (λ (b : Beam). tell_leaves ram size font b (record here { crtc = clock_leaves (clocks k s.crtc) })) (told_plain span n s k h below)
+    ap (λ (b : Beam). tell_leaves ram size font b (record here { crtc = clock_leaves (clocks k s.crtc) })) told
     ∙ ap (λ (c : CrtcState). tell_leaves ram size font (plain_beam span k) (record here { crtc = c })) (sym (clocks_behind k s.crtc))
+
+pub shown_here : (ram : List ℕ) (size : ℕ) (font : Font) (span : Span) (n : ℕ) (s : State) (k : ℕ) (text : Text) (working : List ℕ) → ArePlain span n s → k < n →
+    char_clock_leaves ram size font (built k text working s)
+    ≡ pass_leaves (plain_beam span k) (show_leaves ram size font (plain_beam span k) (record (built k text working s) { crtc = clocks (suc k) s.crtc }))
+shown_here ram size font span n s k text working h below = shown_here_by ram size font span s k text working (told_plain span n s k h below)
 
 further : (k d : ℕ) (p : Place) → place_past d (place_past (k * d) p) ≡ place_past (suc k * d) p
 further k d p =
@@ -121,7 +126,7 @@ fewer span n m s few h = record {
 }
 
 -- characters that are not shown
-not_shown : (ram : List ℕ) (size : ℕ) (font : Font) (span : Span) (k : ℕ) (t : State) → span.shown ≡ false → show_leaves ram size font (plain_beam span k) t ≡ t
+pub not_shown : (ram : List ℕ) (size : ℕ) (font : Font) (span : Span) (k : ℕ) (t : State) → span.shown ≡ false → show_leaves ram size font (plain_beam span k) t ≡ t
 unfolding plain_beam
 not_shown ram size font span k t not = rw not refl
 

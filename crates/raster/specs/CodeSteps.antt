@@ -1,13 +1,9 @@
 -- What the code does of a character that is shown apart from the rest.
-use Rattle.std.specs.Prelude.{ℕ, zero, suc, ◌+◌, ◌*◌, ◌%◌, ◌<◌, ◌≡◌, Bool, false, List, replicate, slice_index, if◌then◌else◌}
-use Rattle.beeb_bits.specs.Bits.{bit}
+use Rattle.std.specs.Prelude.{ℕ, zero, suc, ◌+◌, ◌*◌, ◌%◌, ◌<◌, ◌≡◌, Bool, false, List, slice_index, if◌then◌else◌}
 use Rattle.crtc6845.specs.declared.Span.{Span}
 use Rattle.crtc6845.specs.Clock.{beam_of}
 use Rattle.crtc6845.specs.Laws.{clocks}
 use Rattle.crtc6845.specs.Spans.{beam_in_span}
-use Rattle.video_ula.specs.State.{State as UlaState}
-use Rattle.video_ula.specs.Pixels.{under_cursor}
-use Rattle.video_ula.specs.Colours.{eight_dots}
 use Rattle.saa5050.specs.Shapes.{Font}
 use Rattle.saa5050.specs.Row.{cell}
 use Rattle.raster.specs.Frame.{dots_set}
@@ -15,14 +11,6 @@ use Rattle.raster.specs.Text.{Text, text_after}
 use Rattle.raster.specs.Beam.{byte_address}
 use Rattle.raster.specs.State.{State, first_cursor}
 use Rattle.raster.specs.Clock.{cell_dots, char_clock_leaves}
-
--- eight dots of a byte, from the first one named on
-abbrev pub eight_of : ℕ → UlaState → ℕ → ℕ → Bool → List ℕ
-eight_of first u byte ra marked = if bit ra 3 then replicate 8 (under_cursor marked 0) else eight_dots first u byte marked
-
--- dots of a byte are drawn
-abbrev pub dots_drawn : List ℕ → State → State
-dots_drawn dots s = record s { working = dots_set 240 s.place.x s.place.y dots s.working }
 
 -- the colours of a cell on a raster
 unfoldable pub cell_on : Font → ℕ → ℕ → ℕ → Text → List ℕ

@@ -176,26 +176,6 @@ impl Canvas {
         self.draw_eight(left, x + 8, y, &dots[8..]);
     }
 
-    /// Draws the 8 dots of a character.
-    #[inline(always)]
-    pub(crate) fn draw_narrow(&mut self, left: u16, place: &Place, dots: &[u8; 8])
-        requires { (left ≤ 240) × (left % 8 ≡ 0) }
-        ensures { self.new ≡ dots_set left place.now.x place.now.y dots.now self.old }
-    {
-        self.draw_eight(left, 8 * place.eights, place.y, dots);
-    }
-
-    /// Draws the 16 dots of a character.
-    #[inline(always)]
-    pub(crate) fn draw_wide(&mut self, left: u16, place: &Place, first: &[u8; 8], last: &[u8; 8])
-        requires { (left ≤ 240) × (left % 8 ≡ 0) }
-        ensures { self.new ≡ dots_set left place.now.x place.now.y (first.now ++ last.now) self.old }
-    {
-        let x = 8 * place.eights;
-        self.draw_eight(left, x, place.y, first);
-        self.draw_eight(left, x + 8, place.y, last);
-    }
-
     /// Draws the 8 or 16 dots of a character.
     #[inline(always)]
     pub(crate) fn draw(&mut self, left: u16, place: &Place, dots: &[u8; 16], narrow: bool)

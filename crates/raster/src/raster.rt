@@ -142,11 +142,25 @@ impl Raster {
         requires size { IsScreenSize size }
         ensures { self.new ≡ microseconds ram.now size font.now.font n self.old }
     {
+        // Two character clocks each, or one.
         if self.is_fast() {
-            // Two character clocks each.
-            self.char_clocks(ram, size, font, n);
-            self.char_clocks(ram, size, font, n);
+            self.char_clock_pairs(ram, size, font, n);
         } else {
+            self.char_clocks(ram, size, font, n);
+        }
+    }
+
+    // Does `n` times two character clocks: in one row, where so many can be counted.
+    fn char_clock_pairs(&mut self, ram: &[u8], size: u16, font: &RomSet, n: u64)
+        requires ram { length ram.now ≡ 32768 }
+        requires size { IsScreenSize size }
+        ensures { let on = char_clocks ram.now size font.now.font n in
+            self.new ≡ on (on self.old) }
+    {
+        if n < 1 << 63 {
+            self.char_clocks(ram, size, font, 2 * n);
+        } else {
+            self.char_clocks(ram, size, font, n);
             self.char_clocks(ram, size, font, n);
         }
     }

@@ -1,7 +1,7 @@
 //! The picture's chips, and the beam over their frames.
 ghost use Rattle.std.specs.Prelude.{◌≡◌, ◌<◌, ◌≤◌, ◌+◌, ◌*◌, ◌%◌, min, ℕ, List, false, true, length, map, take, IfOk, if◌then◌else◌};
 ghost use Rattle.beeb_bits.specs.Bits.{bit};
-ghost use Rattle.video_ula.specs.Pixels.{dots_of, under_cursor, colours, side_by_side};
+ghost use Rattle.video_ula.specs.Pixels.{dots_of, under_cursor, side_by_side};
 ghost use Rattle.crtc6845.specs.Clock.{starts_line, ends_line, beam_of};
 ghost use Rattle.crtc6845.specs.Spans.{inside_clocks, beam_in_span};
 ghost use Rattle.crtc6845.specs.CodeSteps.{is_quiet};
@@ -12,7 +12,7 @@ ghost use Rattle.raster.specs.Beam.{IsScreenSize, place_past};
 ghost use Rattle.raster.specs.Frame.{black, dots_set};
 ghost use Rattle.raster.specs.State.{power_on, first_cursor};
 ghost use Rattle.raster.specs.CodeQuiet.{IsQuiet};
-ghost use Rattle.raster.specs.CodeSteps.{eight_of, dots_drawn, cell_drawn_on, char_clocks, drawn_ahead, ArePlain, code_in, texts, cells};
+ghost use Rattle.raster.specs.CodeSteps.{cell_drawn_on, char_clocks, drawn_ahead, ArePlain, code_in, texts, cells};
 ghost use Rattle.raster.specs.Clock.{begin_leaves, byte_dots, draw_byte_leaves, cell_dots, draw_cell_leaves, draw_leaves, show_leaves, pass_leaves, tell_leaves, char_clock_leaves, microseconds};
 
 use crate::beam::{Cursor, byte_address, bytes_from};
@@ -61,26 +61,16 @@ impl Model for Screen {
     } };
 }
 
-// The first eight dots of a byte.
-fn first_dots(ula: &Ula, byte: u8, ra: u8, marked: bool) -> [u8; 8]
-    ensures { result ≡ eight_of 0 ula.now byte ra marked }
+// The dots of a byte on a raster, and what stands behind the first eight where there are no more.
+#[inline(always)]
+fn dots_on(ula: &Ula, byte: u8, ra: u8, marked: bool) -> [u8; 16]
+    ensures { take (dots_of ula.now.control) result ≡ byte_dots ula.now byte ra marked }
 {
-    if bit(ra, 3) {
-        [if marked { 7 } else { 0 }; 8]
-    } else {
-        ula.first_eight(byte, marked)
+    let mut dots = [if marked { 7 } else { 0 }; 16];
+    if !bit(ra, 3) {
+        let _count = ula.pixels(byte, marked, &mut dots);
     }
-}
-
-// The last eight of sixteen.
-fn last_dots(ula: &Ula, byte: u8, ra: u8, marked: bool) -> [u8; 8]
-    ensures { result ≡ eight_of 8 ula.now byte ra marked }
-{
-    if bit(ra, 3) {
-        [if marked { 7 } else { 0 }; 8]
-    } else {
-        ula.last_eight(byte, marked)
-    }
+    dots
 }
 
 // The colours of a cell, inverted where the cursor marks it.
@@ -246,11 +236,38 @@ impl Screen {
     {
         let span = self.crtc.span();
         let most = most.min(u64::from(span.clocks)) as u16;
+        if span.sync {
+            return self.stretch_from_sync(ram, size, font, span, most);
+        }
         let n = self.draw_some(ram, size, font, span, most);
         if n == 0 {
             self.clock_inside(ram, size, font);
             return 1;
         }
+        self.pass_span(n);
+        u64::from(n)
+    }
+
+    // The same where horizontal sync begins with the first: as a rule none of them is shown then.
+    #[inline(always)]
+    fn stretch_from_sync(&mut self, ram: &[u8], size: u16, font: &RomSet, span: Span, n: u16) -> u64
+        requires ram { length ram.now ≡ 32768 }
+        requires size { IsScreenSize size }
+        requires start { starts_line self.old.crtc ≡ false }
+        requires end { ends_line self.old.crtc ≡ false }
+        requires some { 0 < n }
+        requires inside { n ≤ inside_clocks self.old.crtc }
+        requires sync { span.sync ≡ true }
+        requires told { (k : ℕ) → k < n → beam_of (clocks k self.old.crtc) ≡ beam_in_span span k }
+        ensures some { 0 < result }
+        ensures most { result ≤ n }
+        ensures state { self.new ≡ char_clocks ram.now size font.now.font result self.old }
+    {
+        if span.shown || span.cursor || !self.is_cursor_far() {
+            self.clock_inside(ram, size, font);
+            return 1;
+        }
+        self.place.start_sync();
         self.pass_span(n);
         u64::from(n)
     }
@@ -353,19 +370,15 @@ impl Screen {
         ensures drawn { (font : Font) → self.new ≡ drawn_ahead ram.now size font result self.old }
     {
         let narrow = bit(self.ula.mode(), 4);
-        let away = outside(LEFT, &self.place, narrow, n);
-        if away > 0 {
-            return away;
-        }
-        let n = inside(LEFT, &self.place, narrow, n);
-        if n == 0 {
-            return 0;
+        let seen = inside(LEFT, &self.place, narrow, n);
+        if seen == 0 {
+            return outside(LEFT, &self.place, narrow, n);
         }
         if bit(span.ra, 3) {
-            self.working.draw_black(LEFT, &self.place, narrow, n);
-            return n;
+            self.working.draw_black(LEFT, &self.place, narrow, seen);
+            return seen;
         }
-        self.draw_bytes(ram, size, span, n)
+        self.draw_bytes(ram, size, span, seen)
     }
 
     // Draws characters that are in the frame, by their bytes: as many as stand before the end of the RAM, or none where the dots are not
@@ -468,43 +481,10 @@ impl Screen {
         ensures { self.new ≡ draw_byte_leaves beam.now byte self.old }
     {
         let marked = self.cursor.is_marked(self.ula.mode(), beam.cursor);
-        if marked || bit(beam.ra, 3) || !self.draw_ready(byte) {
-            self.draw_by_itself(byte, beam.ra, marked);
-        }
-    }
-
-    // Draws a byte that the cursor does not mark, if its dots are ready.
-    #[inline(always)]
-    fn draw_ready(&mut self, byte: u8) -> bool
-        ensures { self.new ≡ (if result then dots_drawn (colours self.old.ula byte false) self.old else self.old) }
-    {
-        let Some(first) = self.ula.first_ready(byte) else {
-            return false;
-        };
-        if bit(self.ula.mode(), 4) {
-            self.working.draw_narrow(LEFT, &self.place, first);
-            return true;
-        }
-        let Some(last) = self.ula.last_ready(byte) else {
-            return false;
-        };
-        self.working.draw_wide(LEFT, &self.place, first, last);
-        true
-    }
-
-    // Draws any byte.
-    #[inline(never)]
-    fn draw_by_itself(&mut self, byte: u8, ra: u8, marked: bool)
-        ensures { self.new ≡ dots_drawn (byte_dots self.old.ula byte ra marked) self.old }
-    {
         self.ula.prepare();
-        let first = first_dots(&self.ula, byte, ra, marked);
-        if bit(self.ula.mode(), 4) {
-            self.working.draw_narrow(LEFT, &self.place, &first);
-        } else {
-            let last = last_dots(&self.ula, byte, ra, marked);
-            self.working.draw_wide(LEFT, &self.place, &first, &last);
-        }
+        let dots = dots_on(&self.ula, byte, beam.ra, marked);
+        self.working
+            .draw(LEFT, &self.place, &dots, bit(self.ula.mode(), 4));
     }
 
     #[inline(never)]

@@ -1,5 +1,5 @@
 -- Dots that stand side by side.
-use Rattle.std.proofs.Common.{◌≡◌, ◌∙◌, sym, ap, refl, ℕ, ◌+◌, ◌≤◌, List, [], ◌∷◌, ◌++◌, length, take, add-one, arith}
+use Rattle.std.proofs.Common.{◌≡◌, ◌∙◌, sym, ap, refl, ℕ, suc, ◌+◌, ◌≤◌, List, [], ◌∷◌, ◌++◌, length, take, append_assoc, add-one, arith}
 use Rattle.std.proofs.lemmas.Slice.{take-put_mid}
 use borrow.Rule.Slice.PartMut.{put_mid}
 use Rattle.video_ula.specs.Pixels.{side_by_side}
@@ -10,6 +10,18 @@ pub row_more : (f : ℕ → List ℕ) (i at k next : ℕ) (xs dots : List ℕ) �
     take next (put_mid at k xs dots) ≡ side_by_side f (i + 1)
 row_more f i at k next xs dots so fits is long =
     take-put_mid at k xs dots next long fits ∙ ap (λ (ys : List ℕ). ys ++ dots) so ∙ ap (λ (ys : List ℕ). side_by_side f i ++ ys) is ∙ ap (λ j. side_by_side f j) (sym (add-one i))
+
+-- Two characters more.
+pub pair_more : (f : ℕ → List ℕ) (i at k next : ℕ) (xs first last dots : List ℕ) → take at xs ≡ side_by_side f i → at ≤ length xs → first ≡ f i → last ≡ f (i + 1) →
+    dots ≡ first ++ last → next ≡ at + length dots → take next (put_mid at k xs dots) ≡ side_by_side f (i + 2)
+pair_more f i at k next xs first last dots so fits a b is long =
+    let one : suc i ≡ i + 1 = omega arith in
+    let two : suc (suc i) ≡ i + 2 = omega arith in
+    take-put_mid at k xs dots next long fits ∙ ap (λ (ys : List ℕ). ys ++ dots) so ∙ ap (λ (ys : List ℕ). side_by_side f i ++ ys) is
+    ∙ ap (λ (ys : List ℕ). side_by_side f i ++ (ys ++ last)) a ∙ ap (λ (ys : List ℕ). side_by_side f i ++ (f i ++ ys)) b
+    ∙ sym (append_assoc (side_by_side f i) (f i) (f (i + 1)))
+    ∙ ap (λ j. (side_by_side f i ++ f i) ++ f j) (sym one)
+    ∙ ap (λ j. side_by_side f j) two
 
 -- eight dots, one by one
 pub eight_are : (dots : List ℕ) → length dots ≡ 8 → first_of dots ≡ dots

@@ -1,14 +1,14 @@
 //! The sixteen dots of a byte, by the width of a pixel.
-ghost use Rattle.std.specs.Prelude.{◌≡◌, ◌<◌, ◌/◌, ◌-◌, ◌^◌, false, slice_index, map};
+ghost use Rattle.std.specs.Prelude.{◌≡◌, ◌<◌, ◌/◌, ◌-◌, ◌^◌, slice_index, map};
 ghost use Rattle.std.specs.List.{range_with_len};
 ghost use Rattle.video_ula.specs.Pixels.{shifted_byte, entry_of, under_cursor};
-ghost use Rattle.video_ula.specs.Colours.{pixel_of, dots_in, eight_in};
+ghost use Rattle.video_ula.specs.Colours.{pixel_of, dots_in};
 
 use crate::entries::entry_of;
 
 /// The byte as pixel `k` finds it.
 #[inline(always)]
-pub(crate) fn shifted(byte: u8, k: u32) -> u8
+fn shifted(byte: u8, k: u32) -> u8
     requires { k < 16 }
     ensures { result ≡ shifted_byte byte k }
 {
@@ -41,15 +41,6 @@ pub(crate) fn sixteen(colours: &[u8; 16], byte: u8, cursor: bool, width: u8) -> 
     } else {
         one_wide(colours, byte, cursor)
     }
-}
-
-/// The first eight of them, without the cursor.
-pub(crate) fn eight(colours: &[u8; 16], byte: u8, width: u8) -> [u8; 8]
-    requires { width < 4 }
-    ensures { result ≡ eight_in colours.now byte false (2 ^ (3 - width)) }
-{
-    let [a, b, c, d, e, f, g, h, ..] = sixteen(colours, byte, false, width);
-    [a, b, c, d, e, f, g, h]
 }
 
 /// Where a pixel is 8 dots wide.

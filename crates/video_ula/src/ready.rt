@@ -1,28 +1,34 @@
-//! The first eight dots of all bytes, computed once for many.
-ghost use Rattle.std.specs.Prelude.{ℕ, ◌≡◌, ◌<◌, ◌≤◌, ◌==◌, ◌-◌, ◌*◌, ◌^◌, ◌⊎◌, true, length, slice_index, slice_index_or, []};
+//! The dots of all bytes, computed once for many.
+ghost use Rattle.std.specs.Prelude.{ℕ, ◌≡◌, ◌<◌, ◌==◌, ◌-◌, ◌*◌, ◌^◌, ◌++◌, ◌⊎◌, true, length, slice_index};
 ghost use Rattle.video_ula.specs.Pixels.{side_by_side};
-ghost use Rattle.video_ula.specs.Colours.{eight_in, table_of, IsReady, eight_at, sixteen_at, HasEights};
+ghost use Rattle.video_ula.specs.Colours.{table_of, IsReady, eight_at, sixteen_at, HasEights};
 
-use crate::dots::{eight, shifted};
+use crate::dots::sixteen;
 
 /// How many bytes are computed each by itself before all are computed: as many as cost about as much.
 const PATIENCE: u8 = 100;
 
 #[derive(Drop)]
 pub(crate) struct Ready {
-    // The dots of each byte that the cursor does not mark.
-    table: [[u8; 8]; 256],
-    // For so many bytes more each is computed by itself: with 0 the table is right.
+    // The first eight dots of each byte that the cursor does not mark, and the last eight of its sixteen.
+    first: [[u8; 8]; 256],
+    last: [[u8; 8]; 256],
+    // For so many bytes more each is computed by itself: with 0 both tables are right.
     waits: u8,
 }
 
-// Puts all bytes into the table.
-fn fill(table: &mut [[u8; 8]; 256], entries: &[u8; 16], width: u8)
+// Puts all bytes into both tables.
+fn fill(first: &mut [[u8; 8]; 256], last: &mut [[u8; 8]; 256], entries: &[u8; 16], width: u8)
     requires { width < 4 }
-    ensures { table.new ≡ table_of entries.now (2 ^ (3 - width)) }
+    ensures first { first.new ≡ table_of 0 entries.now (2 ^ (3 - width)) }
+    ensures last { last.new ≡ table_of 8 entries.now (2 ^ (3 - width)) }
 {
     for byte in 0..256usize {
-        table[byte] = eight(entries, byte as u8, width);
+        let [a, b, c, d, e, f, g, h, q, r, s, t, u, v, w, x] = sixteen(
+            entries, byte as u8, false, width,
+        );
+        first[byte] = [a, b, c, d, e, f, g, h];
+        last[byte] = [q, r, s, t, u, v, w, x];
     }
 }
 
@@ -48,13 +54,25 @@ fn put_sixteen(to: &mut [u8], sixteen: [u8; 16])
     }
 }
 
+// Eight dots, and eight behind them.
+#[inline(always)]
+fn both(first: [u8; 8], last: [u8; 8]) -> [u8; 16]
+    ensures dots { result ≡ first ++ last }
+    ensures sixteen { length result ≡ 16 }
+{
+    let [a, b, c, d, e, f, g, h] = first;
+    let [q, r, s, t, u, v, w, x] = last;
+    [a, b, c, d, e, f, g, h, q, r, s, t, u, v, w, x]
+}
+
 impl Ready {
     /// Nothing is computed.
     pub(crate) fn nothing() -> Ready
         ensures { result.waits ≡ PATIENCE }
     {
         Ready {
-            table: [[0; 8]; 256],
+            first: [[0; 8]; 256],
+            last: [[0; 8]; 256],
             waits: PATIENCE,
         }
     }
@@ -66,7 +84,7 @@ impl Ready {
         self.waits = PATIENCE;
     }
 
-    /// The table is right.
+    /// The tables are right.
     #[inline(always)]
     pub(crate) fn is_ready(&self) -> bool
         ensures { result ≡ (self.now.waits == 0) }
@@ -90,57 +108,78 @@ impl Ready {
         requires { width < 4 }
         ensures { IsReady entries.now (2 ^ (3 - width)) self.new }
     {
-        fill(&mut self.table, entries, width);
+        fill(&mut self.first, &mut self.last, entries, width);
         self.waits = 0;
     }
 
-    // The dots of a byte by the table, as a copy: so that each is written whole.
+    // The first eight dots of a byte by the table, as a copy: so that they are written at once.
     #[inline(always)]
-    fn eight_at(&self, byte: u8) -> [u8; 8]
-        requires { HasEights self.now.table }
-        ensures dots { result ≡ eight_at self.now.table byte }
+    fn first(&self, byte: u8) -> [u8; 8]
+        requires { HasEights self.now }
+        ensures dots { result ≡ eight_at self.now.first byte }
         ensures eight { length result ≡ 8 }
     {
-        self.table[byte as usize]
+        self.first[byte as usize]
     }
 
-    /// Writes the dots of `n` bytes, `step` apart, one beside the other: the first eight of each.
+    // The last eight.
+    #[inline(always)]
+    fn last(&self, byte: u8) -> [u8; 8]
+        requires { HasEights self.now }
+        ensures dots { result ≡ eight_at self.now.last byte }
+        ensures eight { length result ≡ 8 }
+    {
+        self.last[byte as usize]
+    }
+
+    /// The sixteen dots of a byte by the tables.
+    #[inline(always)]
+    pub(crate) fn dots(&self, byte: u8) -> [u8; 16]
+        requires { HasEights self.now }
+        ensures dots { result ≡ sixteen_at self.now byte }
+        ensures sixteen { length result ≡ 16 }
+    {
+        both(self.first(byte), self.last(byte))
+    }
+
+    /// Writes the first eight dots of each of `n` bytes, `step` apart, side by side: sixteen at a time, and those that are left eight by
+    /// eight.
     #[inline(always)]
     pub(crate) fn narrow_row(&self, bytes: &[u8], step: usize, n: usize, to: &mut [u8])
-        requires table { HasEights self.now.table }
+        requires table { HasEights self.now }
         requires bytes { (k : ℕ) → k < n → k * step < length bytes.now }
         requires room { length to.old ≡ n * 8 }
-        ensures { to.new ≡ side_by_side (λ k. eight_at self.now.table (slice_index bytes.now (k * step))) n }
+        ensures { to.new ≡ side_by_side (λ k. eight_at self.now.first (slice_index bytes.now (k * step))) n }
     {
-        for i in 0..n {
-            let eight = self.eight_at(bytes[i * step]);
-            put_eight(&mut to[8 * i..8 * i + 8], eight);
+        for i in 0..n / 4 {
+            let one = both(
+                self.first(bytes[4 * i * step]),
+                self.first(bytes[(4 * i + 1) * step]),
+            );
+            let two = both(
+                self.first(bytes[(4 * i + 2) * step]),
+                self.first(bytes[(4 * i + 3) * step]),
+            );
+            put_sixteen(&mut to[32 * i..32 * i + 16], one);
+            put_sixteen(&mut to[32 * i + 16..32 * i + 32], two);
+        }
+        for k in n / 4 * 4..n {
+            let eight = self.first(bytes[k * step]);
+            put_eight(&mut to[8 * k..8 * k + 8], eight);
         }
     }
 
-    /// Likewise sixteen of each, where the last eight are the first of the byte as pixel `pixels` finds it.
+    /// Likewise the sixteen of each.
     #[inline(always)]
-    pub(crate) fn wide_row(&self, bytes: &[u8], step: usize, n: usize, pixels: u32, to: &mut [u8])
-        requires table { HasEights self.now.table }
-        requires pixels { pixels < 16 }
+    pub(crate) fn wide_row(&self, bytes: &[u8], step: usize, n: usize, to: &mut [u8])
+        requires table { HasEights self.now }
         requires bytes { (k : ℕ) → k < n → k * step < length bytes.now }
         requires room { length to.old ≡ n * 16 }
-        ensures { to.new ≡ side_by_side (λ k. sixteen_at self.now.table pixels (slice_index bytes.now (k * step))) n }
+        ensures { to.new ≡ side_by_side (λ k. sixteen_at self.now (slice_index bytes.now (k * step))) n }
     {
         for i in 0..n {
-            let byte = bytes[i * step];
-            let [a, b, c, d, e, f, g, h] = self.eight_at(byte);
-            let [q, r, s, t, u, v, w, x] = self.eight_at(shifted(byte, pixels));
-            let sixteen = [a, b, c, d, e, f, g, h, q, r, s, t, u, v, w, x];
-            put_sixteen(&mut to[16 * i..16 * i + 16], sixteen);
+            let dots = self.dots(bytes[i * step]);
+            put_sixteen(&mut to[16 * i..16 * i + 16], dots);
         }
-    }
-
-    /// The dots of a byte by the table.
-    #[inline(always)]
-    pub(crate) fn dots(&self, byte: u8) -> &[u8; 8]
-        ensures { result.now ≡ slice_index_or self.now.table byte [] }
-    {
-        &self.table[byte as usize]
     }
 }

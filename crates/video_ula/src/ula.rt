@@ -1,11 +1,11 @@
 //! The chip.
-ghost use Rattle.std.specs.Prelude.{ℕ, ◌≡◌, ◌<◌, ◌*◌, ◌++◌, true, false, drop, length, IfSome};
+ghost use Rattle.std.specs.Prelude.{ℕ, ◌≡◌, ◌<◌, ◌*◌, ◌++◌, true, false, drop, length};
 ghost use Rattle.beeb_bits.specs.Bits.{bit};
 ghost use Rattle.video_ula.specs.State.{power_on, control_leaves, palette_leaves};
 ghost use Rattle.video_ula.specs.Pixels.{dots_of, pixel_width, colour_of, colours, row_colours};
-ghost use Rattle.video_ula.specs.Colours.{entry_colours, dots_in, eight_dots};
+ghost use Rattle.video_ula.specs.Colours.{entry_colours, dots_in};
 
-use crate::dots::{shifted, sixteen};
+use crate::dots::sixteen;
 use crate::ready::Ready;
 use beeb_bits::bit;
 use std::marker::Model;
@@ -102,32 +102,21 @@ impl Ula {
         }
     }
 
-    /// The colours of the first eight dots of a byte.
-    #[inline(never)]
-    pub fn first_eight(&self, byte: u8, cursor: bool) -> [u8; 8]
-        ensures { result ≡ eight_dots 0 self.now byte cursor }
-    {
-        let [a, b, c, d, e, f, g, h, ..] = self.dots(byte, cursor);
-        [a, b, c, d, e, f, g, h]
-    }
-
-    /// The colours of the last eight dots of a byte that has sixteen.
-    #[inline(never)]
-    pub fn last_eight(&self, byte: u8, cursor: bool) -> [u8; 8]
-        ensures { result ≡ eight_dots 8 self.now byte cursor }
-    {
-        let [.., a, b, c, d, e, f, g, h] = self.dots(byte, cursor);
-        [a, b, c, d, e, f, g, h]
-    }
-
-    /// A byte was asked for that was not ready. Some time after the palette or the control byte is written, all are made ready. Nothing
-    /// that is seen changes.
+    /// A byte is asked for. Some time after the palette or the control byte is written, all are made ready. Nothing that is seen changes.
+    #[inline(always)]
     pub fn prepare(&mut self)
         ensures { self.new ≡ self.old }
     {
-        if self.ready.is_ready() {
-            return;
+        if !self.ready.is_ready() {
+            self.wait();
         }
+    }
+
+    // One byte more was not ready.
+    #[inline(never)]
+    fn wait(&mut self)
+        ensures { self.new ≡ self.old }
+    {
         if self.ready.wait() {
             let entries = if bit(self.control, 0) {
                 self.flashed
@@ -135,30 +124,6 @@ impl Ula {
                 self.steady
             };
             self.ready.compute(&entries, self.control / 4 % 4);
-        }
-    }
-
-    /// The colours of the first eight dots of a byte that the cursor does not mark, where they are ready.
-    #[inline(always)]
-    pub fn first_ready(&self, byte: u8) -> Option<&[u8; 8]>
-        ensures { IfSome result (λ dots. dots.now ≡ eight_dots 0 self.now byte false) }
-    {
-        if self.ready.is_ready() {
-            Some(self.ready.dots(byte))
-        } else {
-            None
-        }
-    }
-
-    /// The colours of the last eight dots of a byte that has sixteen, likewise.
-    #[inline(always)]
-    pub fn last_ready(&self, byte: u8) -> Option<&[u8; 8]>
-        ensures { IfSome result (λ dots. dots.now ≡ eight_dots 8 self.now byte false) }
-    {
-        if self.ready.is_ready() {
-            Some(self.ready.dots(shifted(byte, 1 << (self.control / 4 % 4))))
-        } else {
-            None
         }
     }
 
@@ -177,8 +142,7 @@ impl Ula {
         if bit(self.control, 4) {
             self.ready.narrow_row(bytes, step, n, to);
         } else {
-            self.ready
-                .wide_row(bytes, step, n, 1 << (self.control / 4 % 4), to);
+            self.ready.wide_row(bytes, step, n, to);
         }
         true
     }
@@ -195,9 +159,21 @@ impl Ula {
         }
     }
 
-    // Sixteen dots of a byte.
+    // Sixteen dots of a byte: looked up where they are ready.
     #[inline(always)]
     fn dots(&self, byte: u8, cursor: bool) -> [u8; 16]
+        ensures { result ≡ dots_in (entry_colours (bit self.now.control 0) self.now.palette) byte cursor (pixel_width self.now.control) }
+    {
+        if !cursor && self.ready.is_ready() {
+            self.ready.dots(byte)
+        } else {
+            self.dots_by_themselves(byte, cursor)
+        }
+    }
+
+    // The same without the table.
+    #[inline(never)]
+    fn dots_by_themselves(&self, byte: u8, cursor: bool) -> [u8; 16]
         ensures { result ≡ dots_in (entry_colours (bit self.now.control 0) self.now.palette) byte cursor (pixel_width self.now.control) }
     {
         sixteen(self.entries(), byte, cursor, self.control / 4 % 4)

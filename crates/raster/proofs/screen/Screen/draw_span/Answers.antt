@@ -7,23 +7,23 @@ use Rattle.raster.specs.CodeSteps.{wide}
 use Rattle.raster.proofs.Spans.{fewer, black_drawn, outside_drawn}
 use Rattle.raster.proofs.screen.Screen.draw_span.Goals as goal
 
-pub returns-then-away-gt0-clause-drawn : goal.returns-then-away-gt0-clause-drawn
-returns-then-away-gt0-clause-drawn c = λ font.
+pub returns-then-seen-eq0-clause-drawn : goal.returns-then-seen-eq0-clause-drawn
+returns-then-seen-eq0-clause-drawn c = λ font.
     let s = c.args.self.now in
-    let n = c.outside-away.result in
-    let h = fewer c.args.span n c.args.n s c.outside-away.ensures.most c.requires.plain in
+    let n = c.outside.result in
+    let h = fewer c.args.span n c.args.n s c.outside.ensures.most c.requires.plain in
     let width : wide c.bit-narrow.result ≡ dots_of s.ula.control = ap (λ (b : Bool). wide b) (c.bit-narrow.ensures ∙ ap (λ (k : ℕ). bit k 4) c.mode.ensures)
     ∙ ap (λ (t : State). dots_of t.ula.control) c.self.view_is in
     let out : (k : ℕ) → k < n * dots_of s.ula.control → is_in_frame 240 (s.place.x + k) s.place.y ≡ false =
     λ k below. ap (λ (t : State). is_in_frame 240 (t.place.x + k) t.place.y) (sym c.self.view_is)
-    ∙ c.outside-away.ensures.out k (subst (λ (w : ℕ). k < n * w) (sym width) below) in
+    ∙ c.outside.ensures.out k (subst (λ (w : ℕ). k < n * w) (sym width) below) in
     outside_drawn c.args.ram.now c.args.size font c.args.span n s h c.requires.shown c.requires.bits c.requires.counted out
 
 pub returns-then-bit-clause-drawn : goal.returns-then-bit-clause-drawn
 returns-then-bit-clause-drawn c = λ font.
     let s = c.args.self.now in
-    let n = c.inside-n.result in
-    let h = fewer c.args.span n c.args.n s c.inside-n.ensures.most c.requires.plain in
+    let n = c.inside-seen.result in
+    let h = fewer c.args.span n c.args.n s c.inside-seen.ensures.most c.requires.plain in
     let width : wide c.bit-narrow.result ≡ dots_of s.ula.control = ap (λ (b : Bool). wide b) (c.bit-narrow.ensures ∙ ap (λ (k : ℕ). bit k 4) c.mode.ensures)
     ∙ ap (λ (t : State). dots_of t.ula.control) c.self.view_is in
     let drawn = c.draw_black.ensures ∙ ap (λ (k : ℕ). dots_set 240 c.self.inside.place.x c.self.inside.place.y (replicate (n * k) 0) c.self.inside.working) width

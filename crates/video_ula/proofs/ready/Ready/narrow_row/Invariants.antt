@@ -6,4 +6,7 @@ use Rattle.video_ula.proofs.ready.Ready.narrow_row.Given as goal
 
 -- the dots so far
 abbrev pub invariant-loop-i : goal.invariant-loop-i
-invariant-loop-i l = take (8 * l.i) l.to ≡ side_by_side (λ k. eight_at l.self.table (slice_index l.bytes (k * l.step))) l.i
+invariant-loop-i l = take (32 * l.i) l.to ≡ side_by_side (λ k. eight_at l.self.first (slice_index l.bytes (k * l.step))) (4 * l.i)
+
+abbrev pub invariant-loop-k : goal.invariant-loop-k
+invariant-loop-k l = take (8 * l.k) l.to ≡ side_by_side (λ k. eight_at l.self.first (slice_index l.bytes (k * l.step))) l.k

@@ -1,7 +1,7 @@
-use Rattle.std.proofs.Common.{rules, ◌≡◌, ◌∙◌, ◌==◌, ◌/◌, ◌%◌, true, false, arith}
+use Rattle.std.proofs.Common.{rules, ◌≡◌, ◌∙◌, ◌==◌, true, false}
 use Rattle.beeb_bits.specs.Bits.{bit}
-use Rattle.video_ula.proofs.DotLemmas.{small_shift}
-use Rattle.video_ula.proofs.ReadyRows.{has_eights, narrow_is, wide_is}
+use Rattle.video_ula.proofs.DotLemmas.{has_eights}
+use Rattle.video_ula.proofs.ReadyRows.{narrow_is, wide_is}
 use Rattle.video_ula.proofs.ula.Ula.row_ready.Goals as goal
 
 pub narrow_row-requires-clause-table : goal.narrow_row-requires-clause-table
@@ -13,9 +13,6 @@ pub wide_row-requires-clause-table : goal.wide_row-requires-clause-table
 wide_row-requires-clause-table c =
     let none : (c.self.inside.ready.waits == 0) ≡ true = search rules in
     has_eights _ _ c.self.inside.ready c.self.invariant.2 none
-
-pub wide_row-requires-clause-pixels : goal.wide_row-requires-clause-pixels
-wide_row-requires-clause-pixels c = small_shift (c.self.inside.control / 4 % 4) (omega arith)
 
 pub returns-then-bit-clause-dots : goal.returns-then-bit-clause-dots
 returns-then-bit-clause-dots c = λ ready.

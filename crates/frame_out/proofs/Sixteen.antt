@@ -1,0 +1,107 @@
+-- The samples of sixteen colours at once.
+use Rattle.std.proofs.Common.{◌≡◌, ◌∙◌, sym, ap, refl, ℕ, ◌+◌, ◌*◌, ◌<◌, ◌≤◌, ◌==◌, List, [], ◌∷◌, ◌++◌, length, map, take, drop, replicate, append_assoc, bit_and, w8, Fits, arith}
+use Rattle.std.specs.Prelude.{flat_map, if◌then◌else◌}
+use Rattle.std.specs.List.{range_with_len}
+use Rattle.std.specs.Simd.Lanes.{zip2, sel_l, pick_l, chunk, Each1}
+use Rattle.std.proofs.lemmas.Simd.{pick_l_left, pick_l_whole}
+use Rattle.std.proofs.lemmas.Bool.{agree_below_at}
+use Rattle.std.proofs.lemmas.List.{take-append-drop, take-take, drop-drop, drop-take}
+use Rattle.std.proofs.lemmas.Grind.{flat_map-append}
+use Rattle.beeb_bits.specs.Bits.{bit}
+use Rattle.frame_out.specs.Pixmap.{sample, pixel}
+
+-- a sample by the bit itself
+abbrev lit : ℕ → ℕ → ℕ
+lit colour m = if bit_and colour m == m then 255 else 0
+
+abbrev lit_pixel : ℕ → List ℕ
+lit_pixel colour = lit colour 1 ∷ lit colour 2 ∷ lit colour 4 ∷ []
+
+lit_is : (colour : ℕ) → colour < 256 → lit_pixel colour ≡ pixel colour
+lit_is colour fits =
+    let a : (bit_and colour 1 == 1) ≡ bit colour 0 = agree_below_at (λ c. bit_and c 1 == 1) (λ c. bit c 0) 256 colour refl fits in
+    let b : (bit_and colour 2 == 2) ≡ bit colour 1 = agree_below_at (λ c. bit_and c 2 == 2) (λ c. bit c 1) 256 colour refl fits in
+    let c : (bit_and colour 4 == 4) ≡ bit colour 2 = agree_below_at (λ c. bit_and c 4 == 4) (λ c. bit c 2) 256 colour refl fits in
+    rw (a, b, c) refl
+
+all_lit : (xs : List ℕ) → Each1 (Fits w8) xs → flat_map lit_pixel xs ≡ flat_map pixel xs
+all_lit [] fits = refl
+all_lit (x ∷ xs) fits = ap (λ (p : List ℕ). p ++ flat_map lit_pixel xs) (lit_is x fits.0.fits) ∙ ap (λ (ps : List ℕ). pixel x ++ ps) (all_lit xs fits.1)
+
+-- the samples of sixteen colours, one by one
+abbrev listed : List ℕ → List ℕ
+listed v = flat_map lit_pixel (pick_l 0 v (range_with_len 0 16))
+
+listed_are : (v : List ℕ) → length v ≡ 16 → Each1 (Fits w8) v → listed v ≡ flat_map pixel v
+listed_are v long fits = ap (λ (xs : List ℕ). flat_map lit_pixel xs) (pick_l_whole 0 v 16 long) ∙ all_lit v fits
+
+abbrev pub picked : List ℕ → List ℕ → List ℕ
+picked colours bits = sel_l (zip2 (λ a b. a == b) (zip2 bit_and colours bits) bits) (replicate 16 255) (replicate 16 0)
+
+-- the first sixteen samples
+pub first_are : (v : List ℕ) → length v ≡ 16 → Each1 (Fits w8) v →
+    picked (pick_l 0 (v ++ v) (0 ∷ 0 ∷ 0 ∷ 1 ∷ 1 ∷ 1 ∷ 2 ∷ 2 ∷ 2 ∷ 3 ∷ 3 ∷ 3 ∷ 4 ∷ 4 ∷ 4 ∷ 5 ∷ [])) (1 ∷ 2 ∷ 4 ∷ 1 ∷ 2 ∷ 4 ∷ 1 ∷ 2 ∷ 4 ∷ 1 ∷ 2 ∷ 4 ∷ 1 ∷ 2 ∷ 4 ∷ 1 ∷ [])
+    ≡ take 16 (flat_map pixel v)
+first_are v long fits =
+    let left = pick_l_left 0 v v 16 (0 ∷ 0 ∷ 0 ∷ 1 ∷ 1 ∷ 1 ∷ 2 ∷ 2 ∷ 2 ∷ 3 ∷ 3 ∷ 3 ∷ 4 ∷ 4 ∷ 4 ∷ 5 ∷ []) long tt in
+    let each : picked (pick_l 0 v (0 ∷ 0 ∷ 0 ∷ 1 ∷ 1 ∷ 1 ∷ 2 ∷ 2 ∷ 2 ∷ 3 ∷ 3 ∷ 3 ∷ 4 ∷ 4 ∷ 4 ∷ 5 ∷ [])) (1 ∷ 2 ∷ 4 ∷ 1 ∷ 2 ∷ 4 ∷ 1 ∷ 2 ∷ 4 ∷ 1 ∷ 2 ∷ 4 ∷ 1 ∷ 2 ∷ 4 ∷ 1 ∷ [])
+    ≡ take 16 (listed v) = refl in
+    ap (λ (ds : List ℕ). picked ds (1 ∷ 2 ∷ 4 ∷ 1 ∷ 2 ∷ 4 ∷ 1 ∷ 2 ∷ 4 ∷ 1 ∷ 2 ∷ 4 ∷ 1 ∷ 2 ∷ 4 ∷ 1 ∷ [])) left ∙ each
+    ∙ ap (λ (ds : List ℕ). take 16 (ds)) (listed_are v long fits)
+
+-- the next sixteen samples
+pub next_are : (v : List ℕ) → length v ≡ 16 → Each1 (Fits w8) v →
+    picked (pick_l 0 (v ++ v) (5 ∷ 5 ∷ 6 ∷ 6 ∷ 6 ∷ 7 ∷ 7 ∷ 7 ∷ 8 ∷ 8 ∷ 8 ∷ 9 ∷ 9 ∷ 9 ∷ 10 ∷ 10 ∷ [])) (2 ∷ 4 ∷ 1 ∷ 2 ∷ 4 ∷ 1 ∷ 2 ∷ 4 ∷ 1 ∷ 2 ∷ 4 ∷ 1 ∷ 2 ∷ 4 ∷ 1 ∷ 2 ∷ [])
+    ≡ take 16 (drop 16 (flat_map pixel v))
+next_are v long fits =
+    let left = pick_l_left 0 v v 16 (5 ∷ 5 ∷ 6 ∷ 6 ∷ 6 ∷ 7 ∷ 7 ∷ 7 ∷ 8 ∷ 8 ∷ 8 ∷ 9 ∷ 9 ∷ 9 ∷ 10 ∷ 10 ∷ []) long tt in
+    let each : picked (pick_l 0 v (5 ∷ 5 ∷ 6 ∷ 6 ∷ 6 ∷ 7 ∷ 7 ∷ 7 ∷ 8 ∷ 8 ∷ 8 ∷ 9 ∷ 9 ∷ 9 ∷ 10 ∷ 10 ∷ [])) (2 ∷ 4 ∷ 1 ∷ 2 ∷ 4 ∷ 1 ∷ 2 ∷ 4 ∷ 1 ∷ 2 ∷ 4 ∷ 1 ∷ 2 ∷ 4 ∷ 1 ∷ 2 ∷ [])
+    ≡ take 16 (drop 16 (listed v)) = refl in
+    ap (λ (ds : List ℕ). picked ds (2 ∷ 4 ∷ 1 ∷ 2 ∷ 4 ∷ 1 ∷ 2 ∷ 4 ∷ 1 ∷ 2 ∷ 4 ∷ 1 ∷ 2 ∷ 4 ∷ 1 ∷ 2 ∷ [])) left ∙ each
+    ∙ ap (λ (ds : List ℕ). take 16 (drop 16 (ds))) (listed_are v long fits)
+
+-- the last sixteen samples
+pub last_are : (v : List ℕ) → length v ≡ 16 → Each1 (Fits w8) v →
+    picked (pick_l 0 (v ++ v) (10 ∷ 11 ∷ 11 ∷ 11 ∷ 12 ∷ 12 ∷ 12 ∷ 13 ∷ 13 ∷ 13 ∷ 14 ∷ 14 ∷ 14 ∷ 15 ∷ 15 ∷ 15 ∷ [])) (4 ∷ 1 ∷ 2 ∷ 4 ∷ 1 ∷ 2 ∷ 4 ∷ 1 ∷ 2 ∷ 4 ∷ 1 ∷ 2 ∷ 4 ∷ 1 ∷ 2 ∷ 4 ∷ [])
+    ≡ drop 32 (flat_map pixel v)
+last_are v long fits =
+    let left = pick_l_left 0 v v 16 (10 ∷ 11 ∷ 11 ∷ 11 ∷ 12 ∷ 12 ∷ 12 ∷ 13 ∷ 13 ∷ 13 ∷ 14 ∷ 14 ∷ 14 ∷ 15 ∷ 15 ∷ 15 ∷ []) long tt in
+    let each : picked (pick_l 0 v (10 ∷ 11 ∷ 11 ∷ 11 ∷ 12 ∷ 12 ∷ 12 ∷ 13 ∷ 13 ∷ 13 ∷ 14 ∷ 14 ∷ 14 ∷ 15 ∷ 15 ∷ 15 ∷ [])) (4 ∷ 1 ∷ 2 ∷ 4 ∷ 1 ∷ 2 ∷ 4 ∷ 1 ∷ 2 ∷ 4 ∷ 1 ∷ 2 ∷ 4 ∷ 1 ∷ 2 ∷ 4 ∷ [])
+    ≡ drop 32 (listed v) = refl in
+    ap (λ (ds : List ℕ). picked ds (4 ∷ 1 ∷ 2 ∷ 4 ∷ 1 ∷ 2 ∷ 4 ∷ 1 ∷ 2 ∷ 4 ∷ 1 ∷ 2 ∷ 4 ∷ 1 ∷ 2 ∷ 4 ∷ [])) left ∙ each
+    ∙ ap (λ (ds : List ℕ). drop 32 (ds)) (listed_are v long fits)
+
+-- all three
+pub thirds : (xs : List ℕ) → take 16 xs ++ (take 16 (drop 16 xs) ++ drop 32 xs) ≡ xs
+thirds xs =
+    let rest : drop 16 (drop 16 xs) ≡ drop 32 xs = drop-drop 16 16 xs in
+    ap (λ (ys : List ℕ). take 16 xs ++ (take 16 (drop 16 xs) ++ ys)) (sym rest)
+    ∙ ap (λ (ys : List ℕ). take 16 xs ++ ys) (take-append-drop 16 (drop 16 xs)) ∙ take-append-drop 16 xs
+
+pub added : (old first next last one two three all : List ℕ) → one ≡ old ++ first → two ≡ one ++ next → three ≡ two ++ last → first ≡ take 16 all → next ≡ take 16 (drop 16 all) →
+    last ≡ drop 32 all → three ≡ old ++ all
+added old first next last one two three all a b c d e f =
+    c ∙ ap (λ (xs : List ℕ). xs ++ last) (b ∙ ap (λ (xs : List ℕ). xs ++ next) a)
+    ∙ append_assoc (old ++ first) next last ∙ append_assoc old first (next ++ last)
+    ∙ ap (λ (xs : List ℕ). old ++ (xs ++ (next ++ last))) d
+    ∙ ap (λ (xs : List ℕ). old ++ (take 16 all ++ (xs ++ last))) e
+    ∙ ap (λ (xs : List ℕ). old ++ (take 16 all ++ (take 16 (drop 16 all) ++ xs))) f
+    ∙ ap (λ (xs : List ℕ). old ++ xs) (thirds all)
+
+take_sum : (n m : ℕ) (xs : List ℕ) → take (n + m) xs ≡ take n xs ++ take m (drop n xs)
+take_sum n m xs =
+    let low : n ≤ n + m = omega arith in
+    sym (take-append-drop n (take (n + m) xs)) ∙ ap (λ (ys : List ℕ). ys ++ drop n (take (n + m) xs)) (take-take n (n + m) xs low)
+    ∙ ap (λ (ys : List ℕ). take n xs ++ ys) (drop-take n m xs)
+
+-- sixteen colours more
+pub sixteen_more : (front xs old new : List ℕ) (i : ℕ) → old ≡ front ++ flat_map pixel (take (16 * i) xs) → new ≡ old ++ flat_map pixel (take 16 (drop (16 * i) xs)) →
+    new ≡ front ++ flat_map pixel (take (16 * (i + 1)) xs)
+sixteen_more front xs old new i so is =
+    let next : 16 * i + 16 ≡ 16 * (i + 1) = omega arith in
+    let parts : take (16 * i + 16) xs ≡ take (16 * i) xs ++ take 16 (drop (16 * i) xs) = take_sum (16 * i) 16 xs in
+    is ∙ ap (λ (ps : List ℕ). ps ++ flat_map pixel (take 16 (drop (16 * i) xs))) so
+    ∙ append_assoc front (flat_map pixel (take (16 * i) xs)) (flat_map pixel (take 16 (drop (16 * i) xs)))
+    ∙ ap (λ (ps : List ℕ). front ++ ps) (sym (flat_map-append pixel (take (16 * i) xs) (take 16 (drop (16 * i) xs))))
+    ∙ ap (λ (ys : List ℕ). front ++ flat_map pixel ys) (sym parts)
+    ∙ ap (λ k. front ++ flat_map pixel (take k xs)) next

@@ -1,4 +1,0 @@
-use Rattle.video_ula.proofs.ready.Ready.eight_at.Goals as goal
-
-pub returns-clause-eight : goal.returns-clause-eight
-returns-clause-eight c = c.requires c.args.byte c.ranges.byte.fits
