@@ -1,5 +1,5 @@
 -- The registers of the uPD7002. (uPD7002 data sheet, Register Description; BBC Microcomputer Advanced User Guide, analogue to digital converter.)
-use Rattle.std.specs.Prelude.{ℕ, ◌+◌, ◌*◌, ◌/◌, ◌%◌, ◌==◌, ◌&&◌, Bool, false, not, if◌then◌else◌}
+use Rattle.std.specs.Prelude.{ℕ, ◌+◌, ◌*◌, ◌/◌, ◌%◌, ◌==◌, Bool, false, not, if◌then◌else◌}
 use Rattle.beeb_bits.specs.Bits.{bit}
 use Rattle.adc7002.specs.State.{State}
 
@@ -33,7 +33,3 @@ answer_of reg a =
 -- The line to CB1 of the system VIA is low from a conversion's end to the next write to register 0.
 abbrev pub cb1 : State → Bool
 cb1 a = not a.has_ended
-
--- It is at rest from power-on to the first write to register 0: no conversion goes on, and none has ended.
-abbrev pub is_at_rest : State → Bool
-is_at_rest a = a.left == 0 && cb1 a

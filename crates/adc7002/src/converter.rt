@@ -1,7 +1,7 @@
 //! The converter.
 ghost use Rattle.std.specs.Prelude.{◌≡◌, ◌<◌};
 ghost use Rattle.adc7002.specs.State.{power_on};
-ghost use Rattle.adc7002.specs.Registers.{status, answer_of, write_leaves, cb1, is_at_rest};
+ghost use Rattle.adc7002.specs.Registers.{status, answer_of, write_leaves, cb1};
 ghost use Rattle.adc7002.specs.Step.{low_byte, end_leaves, steps};
 ghost use Rattle.adc7002.specs.Calm.{KeepsItsLine};
 
@@ -138,12 +138,5 @@ impl Adc {
         } else {
             u64::from(self.left) - 1
         }
-    }
-
-    /// No conversion goes on, and none has ended: so it is from power-on to the first write to register 0. No step changes the converter.
-    pub fn is_at_rest(&self) -> bool
-        ensures { result ≡ is_at_rest self.now }
-    {
-        self.left == 0 && !self.has_ended
     }
 }

@@ -1,7 +1,7 @@
 //! The images of the host's ROMs, and of its teletext font.
 #![tactic(auto)]
 
-ghost use Rattle.std.specs.Prelude.{◌≡◌, ◌<◌, ◌≤◌, ◌⊎◌, length, None, Some, All, MatchResult, IfOk, slice_index};
+ghost use Rattle.std.specs.Prelude.{ℕ, ◌≡◌, ◌<◌, ◌≤◌, ◌⊎◌, length, None, Some, All, MatchResult, MatchOption, IfOk, IfSome, slice_index};
 ghost use Rattle.std.specs.Option.{ForSome};
 ghost use Rattle.rom_set.specs.Roms.{roms_seen, font_seen, rom_byte, font_shape, refusal, first_refused, bad_font, in_slot};
 ghost use Rattle.rom_set.specs.Places.{IsPlaced};
@@ -153,6 +153,18 @@ impl RomSet {
             places,
             font,
         })
+    }
+
+    /// The ROM of a slot below 16, of 8,192 or 16,384 bytes. None where the slot is empty.
+    pub fn rom(&self, slot: u8) -> Option<&[u8]>
+        requires { slot < 16 }
+        ensures bytes { MatchOption result ((at : ℕ) → rom_byte self.now.slots slot at ≡ 0xFF) (λ rom. (at : ℕ) → rom_byte self.now.slots slot at ≡ slice_index (in_slot rom.now) at) }
+        ensures length { IfSome result (λ rom. (length rom.now ≡ HALF_SIZE) ⊎ (length rom.now ≡ ROM_SIZE)) }
+    {
+        match self.places[slot as usize] {
+            Some(place) => Some(&self.slots[place].1),
+            None => None,
+        }
     }
 
     /// A byte of a slot below 16, `at` from the slot's start on, below 16,384; FF where the slot is empty.

@@ -1,6 +1,7 @@
 //! The chip, step by step: the plain body behind the quick one.
-ghost use Rattle.std.specs.Prelude.{◌≡◌, ◌<◌};
+ghost use Rattle.std.specs.Prelude.{◌≡◌, ◌<◌, ◌≤◌};
 ghost use Rattle.beeb_bits.specs.Bits.{bit};
+ghost use Rattle.via6522.specs.declared.Pins.{Pins};
 ghost use Rattle.via6522.specs.State.{power_on};
 ghost use Rattle.via6522.specs.CodeQuiet.{levels_in, pins_with, ahead, IsQuiet};
 ghost use Rattle.via6522.specs.Registers.{port, out_a, out_b, asks, answer_of, port_a_noticed, port_b_noticed, enabled_by, read_leaves, write_leaves};
@@ -206,6 +207,22 @@ impl Chip {
             13 => weight(128, self.irq()) + self.flags.byte(),
             14 => 128 + self.enabled.byte(),
             _ => port(self.ddra, self.ora, pins.a),
+        }
+    }
+
+    /// The byte of a register, B to E, where it is known whether the chip asks for an interrupt.
+    #[inline(always)]
+    pub(crate) fn held(&self, reg: u8, is_asking: bool) -> u8
+        requires low { 11 ≤ reg }
+        requires high { reg ≤ 14 }
+        requires asks { is_asking ≡ asks self.now }
+        ensures { (pins : Pins) → result ≡ answer_of reg pins self.now }
+    {
+        match reg {
+            11 => self.acr,
+            12 => self.pcr,
+            13 => weight(128, is_asking) + self.flags.byte(),
+            _ => 128 + self.enabled.byte(),
         }
     }
 

@@ -1,5 +1,6 @@
 //! The 6522 as its callers see it, where most steps only count down.
-ghost use Rattle.std.specs.Prelude.{◌≡◌, ◌<◌};
+ghost use Rattle.std.specs.Prelude.{◌≡◌, ◌<◌, ◌≤◌};
+ghost use Rattle.via6522.specs.declared.Pins.{Pins};
 ghost use Rattle.via6522.specs.State.{power_on};
 ghost use Rattle.via6522.specs.Registers.{out_a, out_b, asks, answer_of, read_leaves, write_leaves};
 ghost use Rattle.via6522.specs.Step.{step, steps, edges_seen};
@@ -122,6 +123,18 @@ impl Via {
         self.quiet = self.chip.wind();
         self.is_asking = self.chip.irq();
         answer
+    }
+
+    /// The byte of one of the registers B to E, the control registers and those of the interrupts: whatever the pins, and a read leaves all as
+    /// it is.
+    #[inline(always)]
+    pub fn held(&self, reg: u8) -> u8
+        requires low { 11 ≤ reg }
+        requires high { reg ≤ 14 }
+        ensures answer { (pins : Pins) → result ≡ answer_of reg pins self.now }
+        ensures state { read_leaves reg self.now ≡ self.now }
+    {
+        self.chip.held(reg, self.is_asking)
     }
 
     /// Writes a byte to a register, 0 to F.

@@ -93,6 +93,10 @@ fn bytes_stand_by_slot_and_address(rt: HostRuntime) -> Result<(), Fail> {
     for (slot, at, want) in rows {
         assert_eq!(rt; roms.byte(slot, at), want, "slot {slot}, {at}");
     }
+    // Each ROM as it was handed in, and none where the slot is empty.
+    for (slot, want) in [(15, Some(8_192)), (3, Some(16_384)), (0, None)] {
+        assert_eq!(rt; roms.rom(slot).map(|rom| rom.len()), want, "slot {slot}");
+    }
     assert_eq!(rt; (roms.shape(0x20, 0), roms.shape(0x41, 3)), (0, 0));
     Ok(())
 }
