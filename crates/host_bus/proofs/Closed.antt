@@ -188,14 +188,14 @@ how-many clock span n few =
     (m, omega (arith, less), all, no_more)
 
 -- the devices of a board that is closed at the next microsecond, when it is closed later
-later-devices : (b : Inside) (n t : ℕ) → IsValid b → b.closed ≡ b.next → b.next < t → t ≤ b.playback.event → t - b.next ≤ n * micro b.clock → AreCalm (keys_of b.playback.keys) n b.devices →
-    (board_irq (board_closed (board_seen b) t) ≡ devices_ask b.devices) × (board_nmis (board_closed (board_seen b) t) ≡ b.devices.disc.nmis)
+later-devices : (b : Inside) (n t : ℕ) → IsValid b → b.closed ≡ b.next → b.next < t → t ≤ b.playback.event → t - b.next ≤ n * micro b.clock → AreCalm (keys_of b.playback.keys) n (board_seen b).devices →
+    (board_irq (board_closed (board_seen b) t) ≡ devices_ask (board_seen b).devices) × (board_nmis (board_closed (board_seen b) t) ≡ (board_seen b).devices.disc.nmis)
 later-devices b n t h here low early few calm =
     let p = b.playback in
     let u = micro b.clock in
     let (m, less, all, no_more) = how-many b.clock (t - b.next) n few in
     let begins : b.next % u ≡ 0 = subst (λ (k : ℕ). k % u ≡ 0) (omega (arith, h.on_time.least, low, early)) h.on_time.begins in
-    let moved : ticks (around (board_seen b)) (t - b.closed) b.closed (moving_part (board_seen b)) ≡ moving (microseconds b.ram.items b.roms.font (keys_of p.keys) p.levels m b.devices) p.shots.frames =
+    let moved : ticks (around (board_seen b)) (t - b.closed) b.closed (moving_part (board_seen b)) ≡ moving (microseconds b.ram.items b.roms.font (keys_of p.keys) p.levels m (board_seen b).devices) p.shots.frames =
     beats (around (board_seen b)) m b.closed t (keys_of p.keys) p.levels (moving_part (board_seen b)) (subst (λ (k : ℕ). k % u ≡ 0) (sym here) begins)
     (none-between p.script (drop p.place p.script) b.closed p.event t h.played.has_left h.played.later early)
     (λ i late high. keys-stay p b.closed i h.played (omega (arith, late)) (omega (arith, high, early)))
@@ -206,8 +206,8 @@ later-devices b n t h here low early few calm =
     )
 
 -- up to an event and the end of the microseconds that are calm
-pub calm-lines : (b : Inside) (n t : ℕ) → IsValid b → AreCalm (keys_of b.playback.keys) n b.devices → t ≤ b.playback.event → t ≤ b.next + n * micro b.clock →
-    (board_irq (board_closed (board_seen b) t) ≡ devices_ask b.devices) × (board_nmis (board_closed (board_seen b) t) ≡ b.devices.disc.nmis)
+pub calm-lines : (b : Inside) (n t : ℕ) → IsValid b → AreCalm (keys_of b.playback.keys) n (board_seen b).devices → t ≤ b.playback.event → t ≤ b.next + n * micro b.clock →
+    (board_irq (board_closed (board_seen b) t) ≡ devices_ask (board_seen b).devices) × (board_nmis (board_closed (board_seen b) t) ≡ (board_seen b).devices.disc.nmis)
 calm-lines b n t h calm early few = elim (cases_lt b.next t) [
   | inl less ↦
       let low : b.closed ≤ b.next = omega (arith, h.on_time.least, h.on_time.first, h.played.early) in

@@ -26,6 +26,16 @@ no_microsecond s = λ ram size font k low.
     let none : k ≡ 0 = omega (arith, low) in
     ap (λ (n : ℕ). beam.vsync_of (beam.microseconds ram size font n s)) none
 
+-- what stays for n microseconds stays for fewer
+pub fewer : (n m : ℕ) (s : picture.State) → m ≤ n → StaysInSync n s → StaysInSync m s
+fewer n m s less stays = λ ram size font k low. stays ram size font k (omega (arith, less, low))
+
+-- and nothing is owed where nothing is to stay
+pub nothing_owed : (owed : ℕ) (s : picture.State) → owed ≡ 0 → StaysInSync (owed + 0) s
+nothing_owed owed s none = λ ram size font k low.
+    let first : k ≡ 0 = omega (arith, none, low) in
+    ap (λ (n : ℕ). beam.vsync_of (beam.microseconds ram size font n s)) first
+
 pub no_step : (a : adc.State) → KeepsItsLine 0 a
 no_step a [] few = refl
 no_step a (l ∷ levels) few = absurd (omega (arith, few))
@@ -56,6 +66,16 @@ all_add ram font keys levels zero m d = let same : m ≡ 0 + m = omega arith in 
 all_add ram font keys levels (suc n) m d =
     let same : suc (n + m) ≡ suc n + m = omega arith in
     all_add ram font keys levels n m (microsecond ram font keys levels d) ∙ ap (λ (k : ℕ). microseconds ram font keys levels k d) same
+
+-- the picture that is drawn as far as it is owed has the same sync, and keeps it for what is left
+pub sync_owed : (ram : List ℕ) (size : ℕ) (font : Font) (owed steady : ℕ) (s : picture.State) → StaysInSync (owed + steady) s →
+    beam.vsync_of (beam.microseconds ram size font owed s) ≡ beam.vsync_of s
+sync_owed ram size font owed steady s stays = stays ram size font owed (omega arith)
+
+pub stays_ahead : SyncStaysOn → (ram : List ℕ) (size : ℕ) (font : Font) (owed steady n : ℕ) (s : picture.State) → n ≤ steady → StaysInSync (owed + steady) s →
+    StaysInSync n (beam.microseconds ram size font owed s)
+stays_ahead law ram size font owed steady n s few stays =
+    fewer ((owed + steady) - owed) n (beam.microseconds ram size font owed s) (omega (arith, few)) (law (owed + steady) owed size ram font s (omega arith) stays)
 
 -- the converter's line stays for the rest of those steps
 levels_add : (first then_ : List (List ℕ)) (a : adc.State) → conversion.after_steps then_ (conversion.after_steps first a) ≡ conversion.after_steps (first ++ then_) a

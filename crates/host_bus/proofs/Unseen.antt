@@ -11,11 +11,9 @@ use Rattle.adc7002.specs.Step as conversion
 use Rattle.via6522.specs.Step.{step}
 use Rattle.keyboard.specs.Keys.{Keys}
 use Rattle.keyboard.specs.Latch.{screen_size}
-use Rattle.host_bus.specs.declared.map.Place.{Place}
-use Rattle.host_bus.specs.declared.map.Place.TheVariants.{Ram, PagedRom, OsRom, Plugs, Crtc, Acia, SerialUla, VideoUla, RomLatch, SystemVia, UserVia, DiscLatch, DiscController, Absent, Adc, Tube}
-use Rattle.host_bus.specs.Devices.{Devices, keys_at, levels_at, system_pins, user_pins, raster_after, microsecond, system_read, user_read, disc_read}
-use Rattle.host_bus.specs.Board.{BoardState, Around, Moving, around, moving_part, closed_with, tick, ticks, board_closed, board_irq, board_nmis, read_at}
-use Rattle.host_bus.specs.Lag.{IsCalm, ReadsAbove}
+use Rattle.host_bus.specs.Devices.{Devices, keys_at, levels_at, system_pins, user_pins, raster_after, microsecond}
+use Rattle.host_bus.specs.Board.{BoardState, Around, Moving, around, moving_part, closed_with, tick, ticks, board_closed}
+use Rattle.host_bus.specs.Lag.{ReadsAbove}
 
 -- what the picture of the devices reads
 abbrev Reads : ℕ → Devices → Type 0
@@ -81,29 +79,3 @@ pub stored-behind : ReadsGoOn → StoresBelowAreUnseen → (low at v : ℕ) (b :
 unfolding stored
 stored-behind on law low at v b t reads below =
     ap (λ (x : Moving). closed_with (record b { ram = slice_set b.ram at v }) (max t b.closed) x) (unseen-ticks on law low at v (around b) (t - b.closed) b.closed (moving_part b) reads below)
-
-pub calm-stored : ReadsGoOn → StoresBelowAreUnseen → (low at v : ℕ) (b : BoardState) (t : ℕ) → ReadsAbove low b → at < low → IsCalm t b → IsCalm t (record b { ram = slice_set b.ram at v })
-calm-stored on law low at v b t reads below calm = record {
-  irq = λ u few. ap (λ (s : BoardState). board_irq s) (stored-behind on law low at v b u reads below) ∙ calm.irq u few;
-  nmis = λ u few. ap (λ (s : BoardState). board_nmis s) (stored-behind on law low at v b u reads below) ∙ calm.nmis u few;
-}
-
--- no read of a register changes it
-pub reads-read : (p : Place) (low at : ℕ) (b : BoardState) → ReadsAbove low b → ReadsAbove low (read_at p at b)
-unfolding system_read user_read disc_read
-reads-read Ram low at b reads = reads
-reads-read PagedRom low at b reads = reads
-reads-read OsRom low at b reads = reads
-reads-read Plugs low at b reads = reads
-reads-read Crtc low at b reads = reads
-reads-read Acia low at b reads = reads
-reads-read SerialUla low at b reads = reads
-reads-read VideoUla low at b reads = reads
-reads-read RomLatch low at b reads = reads
-reads-read SystemVia low at b reads = reads
-reads-read UserVia low at b reads = reads
-reads-read DiscLatch low at b reads = reads
-reads-read DiscController low at b reads = reads
-reads-read Absent low at b reads = reads
-reads-read Adc low at b reads = reads
-reads-read Tube low at b reads = reads

@@ -7,6 +7,7 @@ use Rattle.key_script.specs.declared.Event.{Event}
 use Rattle.host_bus.specs.declared.board.Board.TheInside.{Inside}
 use Rattle.host_bus.specs.Devices.{Devices}
 use Rattle.host_bus.specs.Board.{BoardState, Around, Moving}
+use Rattle.host_bus.specs.CodePicture.{drawn}
 use Rattle.host_bus.specs.CodeReads.{Shows}
 use Rattle.host_bus.specs.CodePlayback.{IsPlayed, IsOnTime}
 use Rattle.host_bus.specs.CodeBreaks.{IsNextBreak, breaks_before}
@@ -20,7 +21,7 @@ board_seen b = record {
   latch = b.latch;
   script = b.playback.script;
   breaks = breaks_before b.breaks.place b.playback.script;
-  devices = b.devices;
+  devices = drawn b.ram.items b.roms.font b.devices;
   shots = b.playback.shots.frames;
   sound = b.sound;
   closed = b.closed;
@@ -36,7 +37,7 @@ moving devices shots = record { devices = devices; shots = shots }
 pub record IsValid (b : Inside) : Type 0 where
   pub memory : length b.ram.items ≡ 32768
   pub addresses : length b.shown.items ≡ 65536
-  pub shows : Shows b.ram.items b.roms.os b.shown.items
+  pub shows : Shows b.ram.items b.roms.slots b.latch b.roms.os b.shown.items
   pub slot : b.latch < 16
   pub played : IsPlayed b.playback b.closed
   pub on_time : IsOnTime (micro b.clock) b.closed b.playback.event b.next

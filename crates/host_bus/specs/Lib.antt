@@ -11,6 +11,7 @@ pub mod CodePlayback
 pub mod CodeBreaks
 pub mod SameBreaks
 pub mod CodeReads
+pub mod CodePicture
 pub mod CodeDevices
 pub mod CodeBoard
 pub mod Closing

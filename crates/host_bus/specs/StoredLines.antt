@@ -1,6 +1,6 @@
 -- A byte that is written to the RAM changes no line to the processor, now or later: the picture alone reads the RAM, and of the picture the other
 -- devices see vertical sync, which the 6845 makes by itself.
-use Rattle.std.specs.Prelude.{ℕ, zero, suc, ◌≡◌, ◌+◌, ◌-◌, ◌%◌, ◌==◌, ◌||◌, max, Bool, true, false, refl, List, slice_index, slice_set, if◌then◌else◌}
+use Rattle.std.specs.Prelude.{ℕ, zero, suc, ◌≡◌, ◌+◌, ◌-◌, ◌%◌, ◌==◌, Bool, true, false, refl, List, slice_index, slice_set, if◌then◌else◌}
 use Rattle.std.proofs.Common.{ap, sym, ◌∙◌}
 use Rattle.beeb_bits.specs.Bits.{bit}
 use Rattle.beeb_bits.specs.Clock.{micro}
@@ -19,7 +19,7 @@ use Rattle.via6522.specs.Step.{step}
 use Rattle.keyboard.specs.Keys.{Keys}
 use Rattle.keyboard.specs.Latch as keyboard
 use Rattle.host_bus.specs.Devices.{Devices, keys_at, levels_at, system_pins, user_pins, raster_after, microsecond, devices_ask}
-use Rattle.host_bus.specs.Board.{BoardState, Around, Moving, around, moving_part, closed_with, beat, tick, ticks, board_closed, board_irq, board_nmis}
+use Rattle.host_bus.specs.Board.{BoardState, Around, Moving, around, moving_part, tick, ticks, board_closed, board_irq, board_nmis}
 
 -- what is drawn leaves the 6845 and the ULA
 show-crtc : (shown cell : Bool) (x y s : picture.State) → x.crtc ≡ s.crtc → y.crtc ≡ s.crtc → (if shown then (if cell then x else y) else s).crtc ≡ s.crtc

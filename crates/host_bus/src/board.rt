@@ -1,5 +1,5 @@
 //! The board: memory, and what answers beside it.
-ghost use Rattle.std.specs.Prelude.{◌≡◌, ◌≤◌, ◌<◌, ◌+◌, ◌-◌, ◌*◌, ◌%◌, ◌^◌, ◌==◌, ◌⊎◌, ℕ, true, false, min, unwrap_or, length, IfOk, None, Some, MatchOption, slice_index, slice_set, if◌then◌else◌};
+ghost use Rattle.std.specs.Prelude.{◌≡◌, ◌≤◌, ◌<◌, ◌+◌, ◌-◌, ◌*◌, ◌%◌, ◌^◌, ◌==◌, ◌⊎◌, ℕ, true, false, min, unwrap_or, length, List, IfOk, IfSome, None, Some, MatchOption, slice_index, slice_set, if◌then◌else◌};
 ghost use Rattle.keyboard.specs.Keys.{keys_of};
 ghost use Rattle.wd1770.specs.Select.{disc_of};
 ghost use Rattle.sn76489.specs.Samples.{NeverFallFrom};
@@ -8,7 +8,8 @@ ghost use Rattle.host_bus.specs.Shots.{shot_at};
 ghost use Rattle.host_bus.specs.CodePlayback.{IsPlayed, IsOnTime};
 ghost use Rattle.host_bus.specs.Devices.{microsecond, last_frame, system_written};
 ghost use Rattle.host_bus.specs.Board.{ticks, board_closed, answer_at, read_at, written_at, with_sound, board_irq, board_nmis, break_pending, break_taken, next_break, first_board, clear_ram};
-ghost use Rattle.host_bus.specs.CodeReads.{Covered, Shows};
+ghost use Rattle.host_bus.specs.CodePicture.{drawn};
+ghost use Rattle.host_bus.specs.CodeReads.{Covered, HasEmpty, HasHalf, HasSlot, Shows};
 ghost use Rattle.host_bus.specs.Lag.{IsCalm, ReadsAbove};
 ghost use Rattle.host_bus.specs.CodeBoard.{around_by, moving};
 ghost use Rattle.beeb_bits.specs.Clock.{micro};
@@ -21,7 +22,7 @@ use crate::sound::SoundLog;
 use beeb_bits::{Clock, NoMemory, Tick, zeroed};
 use disc_image::Disc;
 use key_script::Script;
-use raster::Frame;
+use raster::{Frame, reads_go_on};
 use rom_set::RomSet;
 use sn76489::SoundWrite;
 use std::alloc::Global;
@@ -36,6 +37,12 @@ const ADDRESSES: usize = 65_536;
 /// Where the operating system begins.
 const OS_START: usize = 0xc000;
 
+/// Where the paged ROM begins.
+const PAGED_START: usize = 0x8000;
+
+/// How many bytes half of a slot has.
+const HALF_SLOT: usize = 8_192;
+
 /// How many bytes the operating system has.
 const OS_SIZE: u16 = 16_384;
 
@@ -44,7 +51,7 @@ const OS_SIZE: u16 = 16_384;
 pub(crate) struct Board {
     clock: Clock,
     ram: Vec<u8>,
-    // What a read shows of the RAM and the operating system, so that it takes one load. The bytes of the paged ROM are not read here.
+    // What a read shows of the RAM, the paged ROM and the operating system, so that it takes one load.
     shown: Vec<u8>,
     roms: RomSet,
     latch: u8,
@@ -79,13 +86,74 @@ fn cover(shown: &mut [u8], roms: &RomSet)
     }
 }
 
-// What a read shows at power-on: clear RAM, and the operating system.
+// Copies half of a slot from the ROM's bytes from `skip` on to where it is read.
+fn cover_half(shown: &mut [u8], start: usize, rom: &[u8], skip: usize)
+    requires addresses { length shown.old ≡ ADDRESSES }
+    requires room { start + HALF_SLOT ≤ ADDRESSES }
+    requires half { skip + HALF_SLOT ≤ length rom.now }
+    ensures length { length shown.new ≡ ADDRESSES }
+    ensures covered { HasHalf shown.old start rom.now skip shown.new }
+{
+    shown[start..start + HALF_SLOT].copy_from_slice(&rom[skip..skip + HALF_SLOT]);
+}
+
+// An empty slot is read as FF.
+fn cover_empty(shown: &mut [u8])
+    requires { length shown.old ≡ ADDRESSES }
+    ensures length { length shown.new ≡ ADDRESSES }
+    ensures covered { HasEmpty shown.old (2 * HALF_SLOT) shown.new }
+{
+    for i in 0..2 * HALF_SLOT {
+        shown[PAGED_START + i] = 0xff;
+    }
+}
+
+// Copies the ROM of a slot to where it is read. One of half the size stands there twice.
+fn cover_slot(shown: &mut [u8], roms: &RomSet, slot: u8)
+    requires addresses { length shown.old ≡ ADDRESSES }
+    requires slot { slot < 16 }
+    ensures length { length shown.new ≡ ADDRESSES }
+    ensures covered { HasSlot shown.old roms.now.slots slot shown.new }
+{
+    match roms.rom(slot) {
+        Some(rom) => {
+            cover_half(shown, PAGED_START, rom, 0);
+            cover_half(shown, PAGED_START + HALF_SLOT, rom, rom.len() - HALF_SLOT);
+        }
+        None => cover_empty(shown),
+    }
+}
+
+// Copies the ROM of a slot to where it is read, unless that of this slot stands there.
+fn show_slot(shown: &mut [u8], roms: &RomSet, was: u8, slot: u8)
+    requires addresses { length shown.old ≡ ADDRESSES }
+    requires slot { slot < 16 }
+    ensures length { length shown.new ≡ ADDRESSES }
+    ensures shows { (ram : List ℕ) → Shows ram roms.now.slots was roms.now.os shown.old → Shows ram roms.now.slots slot roms.now.os shown.new }
+{
+    if slot != was {
+        cover_slot(shown, roms, slot);
+    }
+}
+
+// Copies the ROM of slot 0 and the operating system to where they are read at power-on.
+fn cover_first(shown: &mut [u8], roms: &RomSet)
+    requires addresses { length shown.old ≡ ADDRESSES }
+    requires clear { (at : ℕ) → slice_index shown.old at ≡ 0 }
+    ensures length { length shown.new ≡ ADDRESSES }
+    ensures shows { Shows clear_ram roms.now.slots 0 roms.now.os shown.new }
+{
+    cover(shown, roms);
+    cover_slot(shown, roms, 0);
+}
+
+// What a read shows at power-on: clear RAM, the ROM of slot 0, and the operating system.
 fn first_shown(alloc: Global, roms: &RomSet) -> Result<Vec<u8>, NoMemory>
     ensures length { IfOk result (λ v. length v.items ≡ ADDRESSES) }
-    ensures shows { IfOk result (λ v. Shows clear_ram roms.now.os v.items) }
+    ensures shows { IfOk result (λ v. Shows clear_ram roms.now.slots 0 roms.now.os v.items) }
 {
     let mut shown = zeroed(alloc, ADDRESSES)?;
-    cover(&mut shown, roms);
+    cover_first(&mut shown, roms);
     Ok(shown)
 }
 
@@ -121,8 +189,9 @@ fn go_on(
     ensures on { k < result }
     ensures script { playback.new.script ≡ playback.old.script }
     ensures ticks { let a = around_by clock ram.now roms.now.font playback.old.script in
-        let old = moving devices.old playback.old.shots.frames in
-        moving devices.new playback.new.shots.frames ≡ ticks a (min t result - k) k old }
+        let see = drawn ram.now roms.now.font in
+        let old = moving (see devices.old) playback.old.shots.frames in
+        moving (see devices.new) playback.new.shots.frames ≡ ticks a (min t result - k) k old }
     ensures played { IsPlayed playback.new (min t result) }
     ensures next { IsOnTime (micro clock) (min t result) playback.new.event result }
 {
@@ -150,15 +219,17 @@ fn tick_with_events(
     requires room { k < 2 ^ 48 }
     requires played { IsPlayed playback.old k }
     ensures script { playback.new.script ≡ playback.old.script }
-    ensures shots { let frame = last_frame devices.old in
+    ensures shots { let frame = last_frame (drawn ram.now roms.now.font devices.old) in
         playback.new.shots.frames ≡ shot_at k playback.old.script frame playback.old.shots.frames }
     ensures played { IsPlayed playback.new (k + 1) }
     ensures devices { let keys = keys_of playback.new.keys in
-        let after = microsecond ram.now roms.now.font keys playback.new.levels devices.old in
-        devices.new ≡ (if k % micro clock == 0 then after else devices.old) }
+        let old = drawn ram.now roms.now.font devices.old in
+        let after = microsecond ram.now roms.now.font keys playback.new.levels old in
+        drawn ram.now roms.now.font devices.new ≡ (if k % micro clock == 0 then after else old) }
     ensures next { IsOnTime (micro clock) (k + 1) playback.new.event result }
 {
     let micro = clock.micro();
+    devices.draw(ram, roms);
     playback.play(devices.last_frame(), k);
     if k % micro == 0 {
         devices.advance(ram, roms, &playback.keys, playback.levels, 1);
@@ -251,9 +322,11 @@ impl Board {
     }
 
     /// An address of the RAM below which the picture reads nothing, until a register is written.
+    #[inline(always)]
     pub(crate) fn lowest(&self) -> u16
         ensures { ReadsAbove result self.now }
     {
+        reads_go_on();
         self.devices.lowest()
     }
 
@@ -263,25 +336,22 @@ impl Board {
         requires { (at < 0xfc00) ⊎ (0xff00 ≤ at) }
         ensures { (t u : ℕ) → result ≡ answer_at (place_of at) (board_closed self.now u) t at }
     {
-        if 0x8000 <= at && at < 0xc000 {
-            self.roms.byte(self.latch, at - 0x8000)
-        } else {
-            self.shown[at as usize]
-        }
+        self.shown[at as usize]
     }
 
-    /// A write to the RAM.
+    /// A write to the RAM. The picture is drawn before it where it may read the byte.
     #[inline(always)]
     pub(crate) fn store(&mut self, at: u16, v: u8)
         requires { at < 0x8000 }
         ensures { self.new ≡ record self.old { ram = slice_set (self.old).ram at v } }
     {
+        self.devices.make_way(&self.ram, &self.roms, at);
         self.ram[at as usize] = v;
         self.shown[at as usize] = v;
     }
 
     /// A read in SHEILA at the last tick that is done.
-    #[tactic(auto, unfolding(crate::specs::Devices::system_read, crate::specs::Devices::user_read, crate::specs::Devices::disc_read))]
+    #[tactic(auto, unfolding(crate::specs::Devices::system_read, crate::specs::Devices::user_read, crate::specs::Devices::disc_read, crate::specs::Devices::user_answer, crate::specs::Devices::disc_answer, crate::specs::Devices::converter_answer))]
     pub(crate) fn read(&mut self, at: u16) -> u8
         requires low { 0xfe00 ≤ at }
         requires high { at ≤ 0xfeff }
@@ -292,7 +362,7 @@ impl Board {
         match place_in_sheila(at) {
             Place::Acia => { if at % 2 == 0 { 0x02 } else { 0x00 } }
             Place::Adc => self.devices.read_converter((at % 4) as u8),
-            Place::Crtc => self.devices.read_crtc(at),
+            Place::Crtc => self.devices.read_crtc(&self.ram, &self.roms, at),
             Place::SerialUla | Place::VideoUla | Place::RomLatch => 0xfe,
             Place::DiscLatch | Place::Absent | Place::Tube => 0xfe,
             Place::SystemVia => self
@@ -304,13 +374,42 @@ impl Board {
         }
     }
 
+    /// The byte of a register of a 6522 that no pins matter to, and that a read leaves as it is.
+    #[inline(always)]
+    pub(crate) fn held(&self, at: u16) -> Option<u8>
+        requires low { 0xfe00 ≤ at }
+        requires high { at ≤ 0xfeff }
+        ensures answer { IfSome result (λ byte. (t : ℕ) → byte ≡ answer_at (place_of at) self.now t at) }
+        ensures after { IfSome result (λ byte. read_at (place_of at) at self.now ≡ self.now) }
+    {
+        let reg = (at % 16) as u8;
+        if reg < 11 || reg == 15 {
+            return None;
+        }
+        match place_in_sheila(at) {
+            Place::SystemVia => Some(self.devices.held_by_system(reg)),
+            Place::UserVia => Some(self.devices.held_by_user(reg)),
+            _ => None,
+        }
+    }
+
+    // The latch selects a slot. Its ROM is copied to where it is read, unless it stands there.
+    fn latch_slot(&mut self, slot: u8)
+        requires { slot < 16 }
+        ensures { self.new ≡ record self.old { latch = slot } }
+    {
+        show_slot(&mut self.shown, &self.roms, self.latch, slot);
+        self.latch = slot;
+    }
+
     // A write to the system's 6522, which may write the sound chip.
+    #[tactic(auto, unfolding(crate::specs::Devices::sound_line, crate::specs::Devices::sound_data))]
     fn write_system(&mut self, reg: u8, v: u8)
         requires { reg < 16 }
         ensures { self.new ≡ with_sound self.old (system_written reg v (self.old).devices) }
     {
         let was_high = self.devices.sound_line();
-        self.devices.write_system(reg, v);
+        self.devices.write_system(&self.ram, &self.roms, reg, v);
         if was_high && !self.devices.sound_line() {
             self.sound.tell(SoundWrite {
                 moment: self.closed.div_ceil(self.clock.micro()),
@@ -320,7 +419,7 @@ impl Board {
     }
 
     /// A write in SHEILA.
-    #[tactic(auto, unfolding(crate::specs::Devices::crtc_written, crate::specs::Devices::ula_written, crate::specs::Devices::user_written, crate::specs::Devices::disc_latched, crate::specs::Devices::disc_written))]
+    #[tactic(auto, unfolding(crate::specs::Devices::crtc_written, crate::specs::Devices::ula_written, crate::specs::Devices::user_written, crate::specs::Devices::disc_latched, crate::specs::Devices::disc_written, crate::specs::Devices::converter_written))]
     pub(crate) fn write(&mut self, at: u16, v: u8)
         requires low { 0xfe00 ≤ at }
         requires high { at ≤ 0xfeff }
@@ -328,9 +427,9 @@ impl Board {
         ensures closed { (self.new).closed ≡ (self.old).closed }
     {
         match place_in_sheila(at) {
-            Place::Crtc => self.devices.write_crtc(at, v),
-            Place::VideoUla => self.devices.write_ula(at, v),
-            Place::RomLatch => self.latch = v % 16,
+            Place::Crtc => self.devices.write_crtc(&self.ram, &self.roms, at, v),
+            Place::VideoUla => self.devices.write_ula(&self.ram, &self.roms, at, v),
+            Place::RomLatch => self.latch_slot(v % 16),
             Place::SystemVia => self.write_system((at % 16) as u8, v),
             Place::UserVia => self.devices.write_user((at % 16) as u8, v),
             Place::DiscLatch => self.devices.latch_disc(v),

@@ -107,6 +107,19 @@ impl<D: BusDevice> Bus<D> {
         self.board.store(at, v);
     }
 
+    /// Does all device steps below `t`, and then a write to the RAM.
+    #[inline(always)]
+    pub fn put(&mut self, t: u64, at: u16, v: u8)
+        requires low { closed_at (bus_seen D.plug self.old) ≤ t }
+        requires room { t < 2 ^ 48 }
+        requires ram { at < 0x8000 }
+        ensures after { let closed = bus_closed (bus_seen D.plug self.old) t in
+            bus_seen D.plug self.new ≡ bus_after_write closed at v }
+        ensures fast { (cycle : ℕ) → stretch at cycle ≡ 1 }
+    {
+        self.board.put(t, at, v);
+    }
+
     // A read at the last tick that is done.
     fn read_now(&mut self, at: u16) -> u8
         ensures answer { let old = bus_seen D.plug self.old in

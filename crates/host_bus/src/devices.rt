@@ -1,12 +1,16 @@
 //! The devices that go by microseconds, and how they are wired.
-ghost use Rattle.std.specs.Prelude.{◌≡◌, ◌≤◌, ◌<◌, ◌+◌, ◌%◌, ◌^◌, ◌==◌, ℕ, Bool, true, List, None, Some, MatchOption, IfOk, length, if◌then◌else◌};
+ghost use Rattle.std.specs.Prelude.{◌≡◌, ◌≤◌, ◌<◌, ◌+◌, ◌%◌, ◌^◌, ◌==◌, ℕ, Bool, true, List, None, Some, MatchOption, IfOk, length, slice_set, if◌then◌else◌};
+ghost use Rattle.saa5050.specs.Shapes.{Font};
 ghost use Rattle.adc7002.specs.Step.{step};
+ghost use Rattle.via6522.specs.declared.Pins.{Pins};
+ghost use Rattle.via6522.specs.Registers.{answer_of, read_leaves};
 ghost use Rattle.raster.specs.Clock.{vsync_of};
 ghost use Rattle.raster.specs.Reads.{ReadsFrom};
 ghost use Rattle.wd1770.specs.Select.{disc_of};
 ghost use Rattle.keyboard.specs.Keys.{keys_of};
 ghost use Rattle.keyboard.specs.Latch.{screen_size};
 ghost use Rattle.host_bus.specs.Apart.{AreCalm};
+ghost use Rattle.host_bus.specs.CodePicture.{drawn};
 ghost use Rattle.host_bus.specs.Devices.{system_pins, raster_after, microsecond, last_frame, microseconds, crtc_answer, crtc_written, ula_written, system_answer, system_read, system_written, sound_line, sound_data, after_latch, converter_answer, converter_written, user_answer, user_read, user_written, disc_latched, disc_answer, disc_read, disc_written, devices_ask, devices_reset, first_devices};
 
 use crate::law::devices_go_on_apart;
@@ -14,7 +18,7 @@ use adc7002::Adc;
 use beeb_bits::NoMemory;
 use disc_image::Disc;
 use keyboard::{Keys, Latch};
-use raster::{Frame, Raster, sync_stays_on};
+use raster::{Frame, Raster, reads_go_on, stores_below_are_unseen, sync_stays_on};
 use rom_set::RomSet;
 use std::alloc::Global;
 use std::marker::Model;
@@ -31,7 +35,8 @@ const USER_PINS: Pins = Pins {
     cb2: true,
 };
 
-/// The picture, the disc controller, the converter, the two 6522s, and the addressable latch behind the system's.
+/// The picture, the disc controller, the converter, the two 6522s, and the addressable latch behind the system's. The picture is drawn later
+/// than the others are stepped: where a line may change, or a register or a byte of the RAM that it reads.
 #[derive(Drop)]
 pub(crate) struct Devices {
     video: Raster,
@@ -42,18 +47,24 @@ pub(crate) struct Devices {
     converter: Adc,
     system: Via,
     user: Via,
-    // For so many microseconds vertical sync and the converter's line surely stay as they are.
+    // So many microseconds the picture is behind the other devices.
+    owed: u64,
+    // For so many more vertical sync and the converter's line surely stay as they are.
     steady: u64,
+    // The picture reads no byte of the RAM below this address.
+    lowest: u16,
 }
 
 impl Model for Devices {
-    ghost use Rattle.host_bus.specs.Devices.{Devices};
+    ghost use Rattle.host_bus.specs.CodePicture.{Behind};
     ghost use Rattle.host_bus.specs.CodeDevices.{AreInStep};
 
-    ghost Value = { Devices };
+    ghost Value = { Behind };
 
-    ghost view = { λ d.
-        record { video = d.video; disc = d.disc; latch = d.latch.bits; converter = d.converter; system = d.system; user = d.user } };
+    ghost view = { λ d. record {
+      devices = record { video = d.video; disc = d.disc; latch = d.latch.bits; converter = d.converter; system = d.system; user = d.user };
+      owed = d.owed;
+    } };
 
     ghost invariant = { AreInStep };
 }
@@ -66,7 +77,7 @@ impl Devices {
         d0: Option<Disc>,
         d1: Option<Disc>,
     ) -> Result<Devices, NoMemory>
-        ensures { IfOk result (λ d. d ≡ first_devices d0 d1) }
+        ensures { IfOk result (λ d. d ≡ record { devices = first_devices d0 d1; owed = 0 }) }
     {
         let video = Raster::make(alloc)?;
         let latch = Latch::new();
@@ -78,14 +89,17 @@ impl Devices {
             converter: Adc::new(),
             system: Via::new(),
             user: Via::new(),
+            owed: 0,
             steady: 0,
+            lowest: 0,
         })
     }
 
     // The pins of the system's 6522, where the converter's line is at this level. CA1 is vertical sync.
     #[inline(always)]
     fn system_pins(&self, cb1: bool, keys: &Keys) -> Pins
-        ensures { result ≡ system_pins (vsync_of (self.now).video) cb1 (keys_of keys.now) self.now }
+        ensures { let d = (self.now).devices in
+            result ≡ system_pins (vsync_of d.video) cb1 (keys_of keys.now) d }
     {
         let port_a = self.system.out_a();
         Pins {
@@ -102,32 +116,64 @@ impl Devices {
         }
     }
 
-    // One microsecond of the picture, which may change vertical sync.
-    #[inline(always)]
-    #[tactic(auto, using(crate::proofs::Steady::no_microsecond, crate::proofs::Steady::no_step))]
-    fn draw(&mut self, ram: &[u8], roms: &RomSet)
+    /// Draws what the picture owes.
+    #[inline(never)]
+    pub(crate) fn draw(&mut self, ram: &[u8], roms: &RomSet)
         requires { length ram.now ≡ 32768 }
-        ensures { self.new ≡ record self.old { video = raster_after ram.now roms.now.font self.old } }
+        ensures { self.new ≡ record { devices = drawn ram.now roms.now.font self.old; owed = 0 } }
+    {
+        sync_stays_on();
+        reads_go_on();
+        self.video.advance(ram, self.size, roms, self.owed);
+        self.owed = 0;
+    }
+
+    /// Draws what the picture owes where it may read the byte at this address, which is then written.
+    #[inline(always)]
+    pub(crate) fn make_way(&mut self, ram: &[u8], roms: &RomSet, at: u16)
+        requires { length ram.now ≡ 32768 }
+        ensures { let font = roms.now.font in
+            (v : ℕ) → drawn (slice_set ram.now at v) font self.new ≡ drawn ram.now font self.old }
+    {
+        stores_below_are_unseen();
+        if at >= self.lowest {
+            self.draw(ram, roms);
+        }
+    }
+
+    // One microsecond of a picture that owes nothing, which may change vertical sync.
+    #[inline(always)]
+    #[tactic(auto, using(crate::proofs::Steady::nothing_owed, crate::proofs::Steady::no_step))]
+    fn show(&mut self, ram: &[u8], roms: &RomSet)
+        requires ram { length ram.now ≡ 32768 }
+        requires drawn { (self.old).owed ≡ 0 }
+        ensures { let old = (self.old).devices in
+            self.new ≡ record self.old { devices = record old { video = raster_after ram.now roms.now.font old } } }
     {
         self.steady = 0;
+        self.lowest = 0;
         self.video.step(ram, self.size, roms);
     }
 
     // One microsecond of the converter, which may change its line.
     #[inline(always)]
-    #[tactic(auto, using(crate::proofs::Steady::one_step, crate::proofs::Steady::no_microsecond, crate::proofs::Steady::no_step))]
+    #[tactic(auto, using(crate::proofs::Steady::one_step, crate::proofs::Steady::nothing_owed, crate::proofs::Steady::no_step))]
     fn convert(&mut self, levels: [u16; 4])
-        ensures { self.new ≡ record self.old { converter = step levels (self.old).converter } }
+        requires drawn { (self.old).owed ≡ 0 }
+        ensures { let old = (self.old).devices in
+            self.new ≡ record self.old { devices = record old { converter = step levels old.converter } } }
     {
         self.steady = 0;
         self.converter.advance(levels, 1);
     }
 
-    // Finds out how long vertical sync and the converter's line stay as they are.
+    // Finds out how long vertical sync and the converter's line stay as they are, and what the picture reads.
     fn look_ahead(&mut self)
+        requires drawn { (self.old).owed ≡ 0 }
         ensures { self.new ≡ self.old }
     {
         self.steady = self.video.calm().min(self.converter.calm());
+        self.lowest = self.video.lowest(self.size);
     }
 
     // Any microsecond, also one in which a line between two devices changes.
@@ -135,9 +181,11 @@ impl Devices {
     #[tactic(auto, unfolding(crate::specs::Devices::microsecond))]
     fn step(&mut self, ram: &[u8], roms: &RomSet, keys: &Keys, levels: [u16; 4])
         requires { length ram.now ≡ 32768 }
-        ensures { self.new ≡ microsecond ram.now roms.now.font (keys_of keys.now) levels self.old }
+        ensures { let see = drawn ram.now roms.now.font in
+            see self.new ≡ microsecond ram.now roms.now.font (keys_of keys.now) levels (see self.old) }
     {
         self.draw(ram, roms);
+        self.show(ram, roms);
         self.disc.step();
         self.convert(levels);
         let line = self.converter.cb1();
@@ -148,13 +196,14 @@ impl Devices {
     }
 
     // Does some of `n` microseconds, and answers how many are left: those in which the lines between the devices stay as they are, of each
-    // device by itself, or one by one where one of them may change.
+    // device by itself, where the picture owes them, or one by one where a line may change.
     fn go_on(&mut self, ram: &[u8], roms: &RomSet, keys: &Keys, levels: [u16; 4], n: u64) -> u64
         requires ram { length ram.now ≡ 32768 }
         requires some { 0 < n }
         ensures fewer { result < n }
-        ensures rest { let after = microseconds ram.now roms.now.font (keys_of keys.now) levels in
-            after result self.new ≡ after n self.old }
+        ensures rest { let see = drawn ram.now roms.now.font in
+            let after = microseconds ram.now roms.now.font (keys_of keys.now) levels in
+            after result (see self.new) ≡ after n (see self.old) }
     {
         if self.steady == 0 {
             self.step(ram, roms, keys, levels);
@@ -164,7 +213,7 @@ impl Devices {
         sync_stays_on();
         let steps = n.min(self.steady);
         let pins = self.system_pins(self.converter.cb1(), keys);
-        self.video.advance(ram, self.size, roms, steps);
+        self.owed += steps;
         self.disc.advance(steps);
         self.converter.advance(levels, steps);
         self.system.advance(pins, steps);
@@ -183,7 +232,8 @@ impl Devices {
         n: u64,
     )
         requires { length ram.now ≡ 32768 }
-        ensures { self.new ≡ microseconds ram.now roms.now.font (keys_of keys.now) levels n self.old }
+        ensures { let see = drawn ram.now roms.now.font in
+            see self.new ≡ microseconds ram.now roms.now.font (keys_of keys.now) levels n (see self.old) }
     {
         let mut left = n;
         while left > 0 {
@@ -193,36 +243,42 @@ impl Devices {
 
     /// A number of microseconds for which, with these keys, the lines to the processor surely stay as they are.
     pub(crate) fn calm(&self, keys: &Keys) -> u64
-        ensures { AreCalm (keys_of keys.now) result self.now }
+        ensures { (ram : List ℕ) (font : Font) → AreCalm (keys_of keys.now) result (drawn ram font self.now) }
     {
         let pins = self.system_pins(self.converter.cb1(), keys);
         devices_go_on_apart();
+        sync_stays_on();
         let chips = self.disc.calm().min(self.user.calm(USER_PINS));
         chips.min(self.system.calm(pins)).min(self.steady)
     }
 
     /// An address of the RAM below which the picture reads nothing, until a register is written.
+    #[inline(always)]
     pub(crate) fn lowest(&self) -> u16
-        ensures { ReadsFrom result (screen_size (self.now).latch) (self.now).video }
+        ensures { ReadsFrom result (screen_size (self.now).devices.latch) (self.now).devices.video }
     {
-        self.video.lowest(self.size)
+        self.lowest
     }
 
-    /// The last frame that was finished, or a black one.
+    /// The last frame that was finished, or a black one, as far as all is drawn.
     #[tactic(auto, unfolding(crate::specs::Devices::last_frame))]
     pub(crate) fn last_frame(&self) -> &Frame
-        ensures { result.now ≡ last_frame self.now }
+        ensures { result.now ≡ last_frame (self.now).devices }
     {
         self.video.frame()
     }
 
     /// A read of the 6845.
-    #[tactic(auto, unfolding(crate::specs::Devices::crtc_answer))]
-    pub(crate) fn read_crtc(&mut self, at: u16) -> u8
-        ensures answer { result ≡ crtc_answer at self.old }
-        ensures after { self.new ≡ self.old }
+    #[tactic(auto, unfolding(crate::specs::Devices::crtc_answer), using(crate::proofs::Steady::nothing_owed))]
+    pub(crate) fn read_crtc(&mut self, ram: &[u8], roms: &RomSet, at: u16) -> u8
+        requires { length ram.now ≡ 32768 }
+        ensures answer { result ≡ crtc_answer at (drawn ram.now roms.now.font self.old) }
+        ensures after { let see = drawn ram.now roms.now.font in
+            see self.new ≡ see self.old }
     {
+        self.draw(ram, roms);
         self.steady = 0;
+        self.lowest = 0;
         if at % 2 == 0 {
             0xfe
         } else {
@@ -231,11 +287,15 @@ impl Devices {
     }
 
     /// A write to the 6845.
-    #[tactic(auto, unfolding(crate::specs::Devices::crtc_written))]
-    pub(crate) fn write_crtc(&mut self, at: u16, v: u8)
-        ensures { self.new ≡ crtc_written at v self.old }
+    #[tactic(auto, unfolding(crate::specs::Devices::crtc_written), using(crate::proofs::Steady::nothing_owed))]
+    pub(crate) fn write_crtc(&mut self, ram: &[u8], roms: &RomSet, at: u16, v: u8)
+        requires { length ram.now ≡ 32768 }
+        ensures { let see = drawn ram.now roms.now.font in
+            see self.new ≡ crtc_written at v (see self.old) }
     {
+        self.draw(ram, roms);
         self.steady = 0;
+        self.lowest = 0;
         if at % 2 == 0 {
             self.video.crtc().select(v);
         } else {
@@ -244,11 +304,15 @@ impl Devices {
     }
 
     /// A write to the video ULA.
-    #[tactic(auto, unfolding(crate::specs::Devices::ula_written))]
-    pub(crate) fn write_ula(&mut self, at: u16, v: u8)
-        ensures { self.new ≡ ula_written at v self.old }
+    #[tactic(auto, unfolding(crate::specs::Devices::ula_written), using(crate::proofs::Steady::nothing_owed))]
+    pub(crate) fn write_ula(&mut self, ram: &[u8], roms: &RomSet, at: u16, v: u8)
+        requires { length ram.now ≡ 32768 }
+        ensures { let see = drawn ram.now roms.now.font in
+            see self.new ≡ ula_written at v (see self.old) }
     {
+        self.draw(ram, roms);
         self.steady = 0;
+        self.lowest = 0;
         if at % 2 == 0 {
             self.video.ula().control(v);
         } else {
@@ -260,38 +324,56 @@ impl Devices {
     #[tactic(auto, unfolding(crate::specs::Devices::system_answer, crate::specs::Devices::system_read))]
     pub(crate) fn read_system(&mut self, reg: u8, keys: &Keys) -> u8
         requires { reg < 16 }
-        ensures answer { result ≡ system_answer reg (keys_of keys.now) self.old }
-        ensures after { self.new ≡ system_read reg self.old }
+        ensures answer { (ram : List ℕ) (font : Font) →
+            result ≡ system_answer reg (keys_of keys.now) (drawn ram font self.old) }
+        ensures after { self.new ≡ record self.old { devices = system_read reg (self.old).devices } }
     {
         let pins = self.system_pins(self.converter.cb1(), keys);
         self.system.read(reg, pins)
     }
 
-    /// A write to the system's 6522.
-    #[tactic(auto, unfolding(crate::specs::Devices::system_written))]
-    pub(crate) fn write_system(&mut self, reg: u8, v: u8)
-        requires { reg < 16 }
-        ensures { self.new ≡ system_written reg v self.old }
+    /// The byte of one of the registers B to E of the system's 6522.
+    #[inline(always)]
+    pub(crate) fn held_by_system(&self, reg: u8) -> u8
+        requires low { 11 ≤ reg }
+        requires high { reg ≤ 14 }
+        ensures answer { (pins : Pins) → result ≡ answer_of reg pins (self.now).devices.system }
+        ensures state { read_leaves reg (self.now).devices.system ≡ (self.now).devices.system }
     {
-        self.system.write(reg, v);
-        self.latch_port_b(reg);
+        self.system.held(reg)
     }
 
-    // A write to register 0 or 2 puts the pins of port B into the addressable latch.
+    /// A write to the system's 6522.
+    #[tactic(auto, unfolding(crate::specs::Devices::system_written))]
+    pub(crate) fn write_system(&mut self, ram: &[u8], roms: &RomSet, reg: u8, v: u8)
+        requires ram { length ram.now ≡ 32768 }
+        requires register { reg < 16 }
+        ensures { let see = drawn ram.now roms.now.font in
+            see self.new ≡ system_written reg v (see self.old) }
+    {
+        self.system.write(reg, v);
+        self.latch_port_b(ram, roms, reg);
+    }
+
+    // A write to register 0 or 2 puts the pins of port B into the addressable latch, which may change the size of the screen.
     #[tactic(auto, unfolding(crate::specs::Devices::after_latch))]
-    fn latch_port_b(&mut self, reg: u8)
-        ensures { self.new ≡ after_latch reg self.old }
+    fn latch_port_b(&mut self, ram: &[u8], roms: &RomSet, reg: u8)
+        requires { length ram.now ≡ 32768 }
+        ensures { let see = drawn ram.now roms.now.font in
+            see self.new ≡ after_latch reg (see self.old) }
     {
         if reg == 0 || reg == 2 {
+            self.draw(ram, roms);
             self.latch.write(self.system.out_b());
             self.size = self.latch.screen_size();
+            self.lowest = self.video.lowest(self.size);
         }
     }
 
     /// The write line of the sound chip, which is active where it is low: bit 0 of the addressable latch.
     #[tactic(auto, unfolding(crate::specs::Devices::sound_line))]
     pub(crate) fn sound_line(&self) -> bool
-        ensures { result ≡ sound_line self.now }
+        ensures { result ≡ sound_line (self.now).devices }
     {
         self.latch.bits[0]
     }
@@ -299,7 +381,7 @@ impl Devices {
     /// The byte at the sound chip: the pins of port A of the system's 6522.
     #[tactic(auto, unfolding(crate::specs::Devices::sound_data))]
     pub(crate) fn sound_data(&self) -> u8
-        ensures { result ≡ sound_data self.now }
+        ensures { result ≡ sound_data (self.now).devices }
     {
         self.system.out_a()
     }
@@ -308,17 +390,28 @@ impl Devices {
     #[tactic(auto, unfolding(crate::specs::Devices::user_answer, crate::specs::Devices::user_read))]
     pub(crate) fn read_user(&mut self, reg: u8) -> u8
         requires { reg < 16 }
-        ensures answer { result ≡ user_answer reg self.old }
-        ensures after { self.new ≡ user_read reg self.old }
+        ensures answer { result ≡ user_answer reg (self.old).devices }
+        ensures after { self.new ≡ record self.old { devices = user_read reg (self.old).devices } }
     {
         self.user.read(reg, USER_PINS)
+    }
+
+    /// The byte of one of the registers B to E of the user's 6522.
+    #[inline(always)]
+    pub(crate) fn held_by_user(&self, reg: u8) -> u8
+        requires low { 11 ≤ reg }
+        requires high { reg ≤ 14 }
+        ensures answer { (pins : Pins) → result ≡ answer_of reg pins (self.now).devices.user }
+        ensures state { read_leaves reg (self.now).devices.user ≡ (self.now).devices.user }
+    {
+        self.user.held(reg)
     }
 
     /// A write to the user's 6522.
     #[tactic(auto, unfolding(crate::specs::Devices::user_written))]
     pub(crate) fn write_user(&mut self, reg: u8, v: u8)
         requires { reg < 16 }
-        ensures { self.new ≡ user_written reg v self.old }
+        ensures { self.new ≡ record self.old { devices = user_written reg v (self.old).devices } }
     {
         self.user.write(reg, v);
     }
@@ -327,7 +420,7 @@ impl Devices {
     #[tactic(auto, unfolding(crate::specs::Devices::converter_answer))]
     pub(crate) fn read_converter(&self, reg: u8) -> u8
         requires { reg < 4 }
-        ensures { result ≡ converter_answer reg self.now }
+        ensures { result ≡ converter_answer reg (self.now).devices }
     {
         self.converter.read(reg)
     }
@@ -335,7 +428,7 @@ impl Devices {
     /// A write to the converter.
     #[tactic(auto, unfolding(crate::specs::Devices::converter_written))]
     pub(crate) fn write_converter(&mut self, reg: u8, v: u8)
-        ensures { self.new ≡ converter_written reg v self.old }
+        ensures { self.new ≡ record self.old { devices = converter_written reg v (self.old).devices } }
     {
         self.steady = 0;
         self.converter.write(reg, v);
@@ -344,7 +437,7 @@ impl Devices {
     /// A write to the disc latch.
     #[tactic(auto, unfolding(crate::specs::Devices::disc_latched))]
     pub(crate) fn latch_disc(&mut self, v: u8)
-        ensures { self.new ≡ disc_latched v self.old }
+        ensures { self.new ≡ record self.old { devices = disc_latched v (self.old).devices } }
     {
         self.disc.latch(v);
     }
@@ -353,8 +446,8 @@ impl Devices {
     #[tactic(auto, unfolding(crate::specs::Devices::disc_answer, crate::specs::Devices::disc_read))]
     pub(crate) fn read_disc(&mut self, reg: u8) -> u8
         requires { reg < 4 }
-        ensures answer { result ≡ disc_answer reg self.old }
-        ensures after { self.new ≡ disc_read reg self.old }
+        ensures answer { result ≡ disc_answer reg (self.old).devices }
+        ensures after { self.new ≡ record self.old { devices = disc_read reg (self.old).devices } }
     {
         self.disc.read(reg)
     }
@@ -363,7 +456,7 @@ impl Devices {
     #[tactic(auto, unfolding(crate::specs::Devices::disc_written))]
     pub(crate) fn write_disc(&mut self, reg: u8, v: u8)
         requires { reg < 4 }
-        ensures { self.new ≡ disc_written reg v self.old }
+        ensures { self.new ≡ record self.old { devices = disc_written reg v (self.old).devices } }
     {
         self.disc.write(reg, v);
     }
@@ -371,7 +464,7 @@ impl Devices {
     /// BREAK: 00 is written to the disc latch, and the user's 6522 is as at power-on.
     #[tactic(auto, unfolding(crate::specs::Devices::devices_reset))]
     pub(crate) fn reset(&mut self)
-        ensures { self.new ≡ devices_reset self.old }
+        ensures { self.new ≡ record self.old { devices = devices_reset (self.old).devices } }
     {
         self.disc.latch(0);
         self.user = Via::new();
@@ -379,7 +472,7 @@ impl Devices {
 
     /// The disc in a drive.
     pub(crate) fn disc(&self, drive: u8) -> Option<&Disc>
-        ensures { let there = disc_of drive (self.now).disc in
+        ensures { let there = disc_of drive (self.now).devices.disc in
             MatchOption result (there ≡ None) (λ disc. there ≡ Some disc.now) }
     {
         self.disc.disc(drive)
@@ -388,7 +481,7 @@ impl Devices {
     /// How often the disc controller's "DRQ or INTRQ" has risen.
     #[inline(always)]
     pub(crate) fn nmis(&self) -> u64
-        ensures { result ≡ (self.now).disc.nmis }
+        ensures { result ≡ (self.now).devices.disc.nmis }
     {
         self.disc.nmis()
     }
@@ -397,7 +490,7 @@ impl Devices {
     #[inline(always)]
     #[tactic(auto, unfolding(crate::specs::Devices::devices_ask))]
     pub(crate) fn ask(&self) -> bool
-        ensures { result ≡ devices_ask self.now }
+        ensures { result ≡ devices_ask (self.now).devices }
     {
         self.system.irq() || self.user.irq()
     }

@@ -18,7 +18,8 @@ use std::alloc::Global;
 use std::marker::Model;
 
 /// The board, of which every tick below `closed` counts as done. The devices are stepped later: at an access of one of them, at a tick
-/// from which on a line to the processor may change, and before a store into memory that the picture may read.
+/// from which on a line to the processor may change, and before a store into memory that the picture may read. The picture lags further, as the
+/// devices say.
 #[derive(Drop)]
 pub struct LaggingBoard {
     // As far as its devices are stepped.
@@ -26,8 +27,6 @@ pub struct LaggingBoard {
     closed: u64,
     // Up to this tick the lines to the processor stay as they are.
     calm: u64,
-    // The picture reads no byte of the RAM below this address.
-    lowest: u16,
 }
 
 impl Model for LaggingBoard {
@@ -56,12 +55,10 @@ impl LaggingBoard {
     {
         let board = Board::make(alloc, clock, roms, d0, d1, script)?;
         let calm = board.calm();
-        let lowest = board.lowest();
         Ok(LaggingBoard {
             board,
             closed: 0,
             calm,
-            lowest,
         })
     }
 
@@ -106,7 +103,6 @@ impl LaggingBoard {
         self.board.close(t);
         self.closed = t;
         self.calm = self.board.calm();
-        self.lowest = self.board.lowest();
     }
 
     /// Steps the devices as far as the board is closed.
@@ -134,11 +130,42 @@ impl LaggingBoard {
     {
         reads_go_on();
         stores_below_are_unseen();
-        if at < self.lowest {
+        if at < self.board.lowest() {
             self.board.store(at, v);
         } else {
             self.store_shown(at, v);
         }
+    }
+
+    /// Does all ticks below `t`, and then a write to the RAM. Where no line to the processor changes before `t`, and the picture reads no byte so
+    /// low, this is one number and the byte.
+    #[inline(always)]
+    pub fn put(&mut self, t: u64, at: u16, v: u8)
+        requires low { (caught_up self.old).closed ≤ t }
+        requires room { t < 2 ^ 48 }
+        requires ram { at < 0x8000 }
+        ensures { caught_up self.new ≡ written_at Ram at v (board_closed (caught_up self.old) t) }
+    {
+        reads_go_on();
+        stores_below_are_unseen();
+        if t <= self.calm && at < self.board.lowest() {
+            self.closed = t;
+            self.board.store(at, v);
+        } else {
+            self.put_stepped(t, at, v);
+        }
+    }
+
+    // The same where the devices may have to be stepped, or the picture drawn.
+    #[inline(never)]
+    fn put_stepped(&mut self, t: u64, at: u16, v: u8)
+        requires low { (caught_up self.old).closed ≤ t }
+        requires room { t < 2 ^ 48 }
+        requires ram { at < 0x8000 }
+        ensures { caught_up self.new ≡ written_at Ram at v (board_closed (caught_up self.old) t) }
+    {
+        self.close(t);
+        self.store_shown(at, v);
     }
 
     // A write to memory that the picture may read.
@@ -147,11 +174,9 @@ impl LaggingBoard {
         requires { at < 0x8000 }
         ensures { caught_up self.new ≡ written_at Ram at v (caught_up self.old) }
     {
-        reads_go_on();
         let now = self.closed;
         self.board.close(now);
         self.board.store(at, v);
-        self.calm = self.board.calm();
     }
 
     /// A read in SHEILA at the last tick that is done.
@@ -163,8 +188,10 @@ impl LaggingBoard {
         ensures after { caught_up self.new ≡ read_at (place_of at) at (caught_up self.old) }
         ensures closed { (caught_up self.new).closed ≡ (caught_up self.old).closed }
     {
-        reads_go_on();
         self.board.close(self.closed);
+        if let Some(byte) = self.board.held(at) {
+            return byte;
+        }
         let byte = self.board.read(at);
         self.calm = self.board.calm();
         byte
@@ -180,7 +207,6 @@ impl LaggingBoard {
         self.board.close(self.closed);
         self.board.write(at, v);
         self.calm = self.board.calm();
-        self.lowest = self.board.lowest();
     }
 
     /// A tick up to which the lines to the processor surely stay as they are, wherever the board is closed.
@@ -234,7 +260,6 @@ impl LaggingBoard {
         self.board.close(self.closed);
         self.board.take_break(t);
         self.calm = self.board.calm();
-        self.lowest = self.board.lowest();
     }
 
     /// The disc in a drive, as far as the devices are stepped: that of the board, where it is settled.

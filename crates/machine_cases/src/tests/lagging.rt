@@ -76,11 +76,14 @@ impl Both {
         })
     }
 
-    // Steps the second up to a tick, the last ticks before it one by one.
+    // Steps the second up to a tick, the last ticks before it one by one. A read of the 6845 each six ticks has the picture drawn too.
     fn step(&mut self, t: u64) {
         let t = t % (1 << 40);
         for k in t.saturating_sub(SINGLE)..=t {
             self.stepped.finish(Tick(k));
+            if k < t && k % 6 == 0 {
+                let _ = told(&mut self.stepped, k, Act::Read(0xfe00));
+            }
         }
     }
 

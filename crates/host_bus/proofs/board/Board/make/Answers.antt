@@ -12,7 +12,7 @@ pub invariant_of-result : goal.invariant_of-result
 invariant_of-result c = record {
   memory = c.in_ok-ram.ensures.length;
   addresses = c.in_ok-shown.ensures.length;
-  shows = subst (λ (ram : List ℕ). Shows ram c.args.roms.os c.in_ok-shown.shown.items) (sym c.in_ok-ram.ensures.items) c.in_ok-shown.ensures.shows;
+  shows = subst (λ (ram : List ℕ). Shows ram c.args.roms.slots 0 c.args.roms.os c.in_ok-shown.shown.items) (sym c.in_ok-ram.ensures.items) c.in_ok-shown.ensures.shows;
   slot = omega arith;
   played = c.in_ok-playback.ensures.played;
   on_time = record { step = 0; begins = zero-mod (micro c.args.clock); first = omega arith; near = omega (arith, some-micro c.args.clock); least = omega arith };

@@ -16,7 +16,7 @@ returns-in-SystemVia-clause-answer c = λ t at.
     let p = b.playback in
     let closed : b.closed ≡ t + 1 = ap (λ (s : BoardState). s.closed) c.self.view_is ∙ at in
     let left : IsLeft made_of false p.script (drop p.place p.script) (keys_of p.keys) (t + 1) = subst (λ (n : ℕ). IsLeft made_of false p.script (drop p.place p.script) (keys_of p.keys) n) closed c.self.invariant.played.is_left in
-    c.read_system.ensures.answer
-    ∙ ap (λ (f : Keys). system_answer (c.args.at % 16) f b.devices) (keys-are p.script (drop p.place p.script) (keys_of p.keys) t p.event left c.self.invariant.played.later (omega (arith, closed, c.self.invariant.played.early)))
+    c.read_system.ensures.answer b.ram.items b.roms.font
+    ∙ ap (λ (f : Keys). system_answer (c.args.at % 16) f (board_seen b).devices) (keys-are p.script (drop p.place p.script) (keys_of p.keys) t p.event left c.self.invariant.played.later (omega (arith, closed, c.self.invariant.played.early)))
     ∙ ap (λ (p : Place). answer_at p (board_seen b) t c.args.at) c.in-SystemVia.ensures.place
     ∙ ap (λ (s : BoardState). answer_at (place_of c.args.at) s t c.args.at) c.self.view_is

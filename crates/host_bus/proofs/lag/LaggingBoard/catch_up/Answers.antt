@@ -15,7 +15,6 @@ invariant_of-self c =
       near = omega (arith, there, c.calm-self-inside.ensures.low);
       room = c.requires.room;
       lines = c.calm-self-inside.ensures.calm;
-      reads = c.lowest-self-inside.ensures;
     }
 
 pub returns-clause-same : goal.returns-clause-same

@@ -1,8 +1,9 @@
 use Rattle.std.proofs.Common.{◌≡◌, ◌∙◌, ap, sym, subst, arith}
 use Rattle.host_bus.specs.declared.map.Place.TheVariants.{Ram}
 use Rattle.host_bus.specs.Board.{BoardState, board_closed, written_at}
-use Rattle.host_bus.specs.Lag.{Lag, caught_up, IsCalm, ReadsAbove}
-use Rattle.host_bus.proofs.Unseen.{stored-behind, calm-stored}
+use Rattle.host_bus.specs.Lag.{Lag, caught_up, IsCalm}
+use Rattle.host_bus.proofs.CalmThere.{calm-written}
+use Rattle.host_bus.proofs.Unseen.{stored-behind}
 use Rattle.host_bus.proofs.lag.LaggingBoard.store.Goals as goal
 
 pub invariant_of-self : goal.invariant_of-self
@@ -14,13 +15,12 @@ invariant_of-self c =
       reached = omega (arith, there, h.reached);
       near = h.near;
       room = h.room;
-      lines = subst (λ (s : BoardState). IsCalm b.calm s) (sym c.store.ensures) (calm-stored c.reads_go_on.ensures c.stores_below_are_unseen.ensures b.lowest c.args.at c.args.v b.board b.calm h.reads c.if-at-self.true h.lines);
-      reads = subst (λ (s : BoardState). ReadsAbove b.lowest s) (sym c.store.ensures) h.reads;
+      lines = subst (λ (s : BoardState). IsCalm b.calm s) (sym c.store.ensures) (calm-written b.board b.calm c.args.at c.args.v h.lines);
     }
 
-pub returns-then-at-self : goal.returns-then-at-self
-returns-then-at-self c =
+pub returns-then-at-lowest : goal.returns-then-at-lowest
+returns-then-at-lowest c =
     let b = c.self.inside in
     ap (λ (s : BoardState). board_closed s b.closed) c.store.ensures
-    ∙ stored-behind c.reads_go_on.ensures c.stores_below_are_unseen.ensures b.lowest c.args.at c.args.v b.board b.closed c.self.invariant.reads c.if-at-self.true
+    ∙ stored-behind c.reads_go_on.ensures c.stores_below_are_unseen.ensures c.lowest.result c.args.at c.args.v b.board b.closed c.lowest.ensures c.if-at-lowest.true
     ∙ ap (λ (l : Lag). written_at Ram c.args.at c.args.v (caught_up l)) c.self.view_is
