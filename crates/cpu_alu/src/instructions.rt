@@ -161,6 +161,7 @@ impl Regs {
     }
 
     /// What a modify instruction makes of the byte `m`.
+    #[inline(always)]
     pub fn modified(&self, mnemonic: Mnemonic, m: u8) -> u8
         ensures { result ≡ modified_value mnemonic self.now m }
     {
@@ -178,6 +179,7 @@ impl Regs {
         }
     }
 
+    #[inline(always)]
     fn modify_flags(&self, mnemonic: Mnemonic, m: u8) -> u8
         ensures { result ≡ modify_flags mnemonic self.now m }
     {
@@ -195,7 +197,7 @@ impl Regs {
 
     /// What a modify instruction makes of the registers, PC apart: on A in the accumulator's mode, else on the byte
     /// `m` of the memory.
-    #[inline]
+    #[inline(always)]
     pub fn do_modify(&mut self, mnemonic: Mnemonic, mode: Mode, m: u8)
         ensures { self.new ≡ modify_result mnemonic mode self.old m }
     {

@@ -4,3 +4,4 @@ pub mod Masks
 pub mod AtOperand
 pub mod Forms
 pub mod UsesTables
+pub mod RowBytes

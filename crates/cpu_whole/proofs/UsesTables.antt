@@ -1,5 +1,5 @@
 -- The tables of uses in the code are the definition, opcode by opcode.
-use Rattle.std.proofs.Common.{◌≡◌, ℕ, ◌<◌, List, Some, map, refl, sym, ap, ◌∙◌, slice_index_or, arith}
+use Rattle.std.proofs.Common.{◌≡◌, ℕ, ◌<◌, List, Some, None, map, refl, sym, ap, ◌∙◌, slice_index_or, arith}
 use Rattle.std.specs.List.{range_with_len}
 use Rattle.std.proofs.lemmas.List.FromFn.{get_or-map-range_with_len}
 use Rattle.op_table.specs.Rows.{nmos_row, cmos_row}
@@ -7,6 +7,7 @@ use Rattle.op_table.specs.declared.names.Part.{Part}
 use Rattle.op_table.specs.declared.names.Part.TheVariants.{Nmos, Cmos}
 use Rattle.op_table.specs.declared.rows.Row.{Row}
 use Rattle.cpu_alu.specs.declared.uses.BusUse.{BusUse}
+use Rattle.cpu_alu.specs.declared.uses.BusUse.TheVariants.{Breaks}
 use Rattle.cpu_core.specs.Accesses.{row_at}
 use Rattle.cpu_alu.specs.Instructions.{bus_use}
 use Rattle.cpu_whole.specs.declared.uses.TheConstants.{CMOS, NMOS}
@@ -33,3 +34,7 @@ CMOS-at op d h =
 -- of an opcode with an instruction
 pub uses-row : (part : Part) (op : ℕ) (row : Row) (uses : BusUse) → row_at part op ≡ Some row → uses ≡ uses_at part op → bus_use row.mnemonic ≡ uses
 uses-row part op row uses decoded is = ap uses_in (sym decoded) ∙ sym is
+
+-- and of one without
+pub uses-none : (part : Part) (op : ℕ) (uses : BusUse) → row_at part op ≡ None → uses ≡ uses_at part op → uses ≡ Breaks
+uses-none part op uses decoded is = is ∙ ap uses_in decoded

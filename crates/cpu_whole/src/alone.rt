@@ -53,7 +53,7 @@ pub(crate) fn implied<N, M: Plain<N>>(part: Part, row: Row, r: &mut Regs, memory
     match row.mode {
         Mode::Spare => 0,
         _ => {
-            r.move_past(row.bytes);
+            r.move_past(1);
             operations::implied(row.mnemonic, r);
             2
         }
@@ -77,7 +77,7 @@ pub(crate) fn accumulator<N, M: Plain<N>>(
     ensures some { 0 < result }
     ensures few { result ≤ 8 }
 {
-    r.move_past(row.bytes);
+    r.move_past(1);
     let a = r.a;
     operations::change(row.mnemonic, Mode::Acc, r, a);
     2
@@ -217,7 +217,7 @@ pub(crate) fn push<N, M: Plain<N>>(
         return 0;
     }
     memory.put(t, 2, top, operations::pushed(row.mnemonic, r), notes);
-    r.move_past(row.bytes);
+    r.move_past(1);
     r.move_stack(255);
     3
 }
@@ -236,7 +236,7 @@ pub(crate) fn pull<N, M: Plain<N>>(part: Part, row: Row, r: &mut Regs, memory: &
         return 0;
     }
     let byte = low_byte::<N, M>(memory, r.stack(1));
-    r.move_past(row.bytes);
+    r.move_past(1);
     r.move_stack(1);
     operations::pull(row.mnemonic, r, byte);
     4

@@ -1,10 +1,10 @@
 //! From the opcode to what is done.
-ghost use Rattle.std.specs.Prelude.{ℕ, ◌≡◌, ◌<◌, ◌≤◌, ◌+◌, ◌^◌, Some, true};
+ghost use Rattle.std.specs.Prelude.{ℕ, ◌≡◌, ◌≢◌, ◌<◌, ◌≤◌, ◌+◌, ◌^◌, Some, true};
 ghost use Rattle.cpu_alu.specs.Addresses.{place};
 ghost use Rattle.cpu_alu.specs.Instructions.{bus_use};
 ghost use Rattle.cpu_core.specs.Accesses.{row_at};
 ghost use Rattle.cpu_whole.specs.Whole.{AreRead, IsDone};
-ghost use Rattle.cpu_whole.specs.CodeWays.{IsModifying, is_modifying};
+ghost use Rattle.cpu_whole.specs.CodeWays.{IsModifying, is_modifying, uses_at};
 
 use crate::alone::{accumulator, branch, call, go_back, implied, jump, pull, push};
 use crate::operate::{change, load, store};
@@ -71,11 +71,25 @@ fn modify<N, M: Plain<N>>(
     }
 }
 
+/// The instruction of an opcode that has one.
+#[inline(always)]
+fn row_of(part: Part, op: u8, uses: BusUse) -> Row
+    requires uses { uses ≡ uses_at part op }
+    requires some { uses ≢ BusUse.Breaks }
+    ensures row { row_at part op ≡ Some result }
+    ensures uses { bus_use result.mnemonic ≡ uses }
+{
+    match row_at(part, op) {
+        Some(row) => row,
+        None => unreachable!(),
+    }
+}
+
 /// An instruction by how it uses the bus, which is found by comparisons, as the mode is.
 #[inline(always)]
 fn carry_out<N, M: Plain<N>>(
     part: Part,
-    row: Row,
+    op: u8,
     uses: BusUse,
     r: &mut Regs,
     memory: &mut M,
@@ -87,8 +101,8 @@ fn carry_out<N, M: Plain<N>>(
     requires tick { t < 2 ^ 40 }
     requires runs { AreRead M.reach r.old.pc }
     requires first { first ≡ (M.reach).byte (M.state memory.old) (place r.old 1) }
-    requires row { row_at part ((M.reach).byte (M.state memory.old) r.old.pc) ≡ Some row }
-    requires uses { bus_use row.mnemonic ≡ uses }
+    requires op { op ≡ (M.reach).byte (M.state memory.old) r.old.pc }
+    requires uses { uses ≡ uses_at part op }
     ensures done { 0 < result → IsDone part M.reach t r.old (M.state memory.old) result r.new (M.state memory.new) }
     ensures still { result ≡ 0 → (r.new ≡ r.old) × (memory.new ≡ memory.old) × (notes.new ≡ notes.old) }
     ensures order { M.may_come (M.state memory.new) t result }
@@ -98,27 +112,28 @@ fn carry_out<N, M: Plain<N>>(
 {
     if (uses as u8) < BusUse::Shifts as u8 {
         match uses {
-            BusUse::Reads => load::<N, M>(part, row, r, memory, first),
-            BusUse::Implied => implied::<N, M>(part, row, r, memory),
+            BusUse::Reads => load::<N, M>(part, row_of(part, op, uses), r, memory, first),
+            BusUse::Implied => implied::<N, M>(part, row_of(part, op, uses), r, memory),
             // Stores
-            _ => store::<N, M>(part, row, r, memory, first, t, notes),
+            _ => store::<N, M>(part, row_of(part, op, uses), r, memory, first, t, notes),
         }
     } else if (uses as u8) < BusUse::Pushes as u8 {
+        let row = row_of(part, op, uses);
         let always = waits(part, row, uses);
         modify::<N, M>(part, row, always, r, memory, first, t, notes)
     } else if (uses as u8) < BusUse::Jumps as u8 {
         match uses {
-            BusUse::Branches => branch::<N, M>(part, row, r, memory, first),
-            BusUse::Pushes => push::<N, M>(part, row, r, memory, t, notes),
+            BusUse::Branches => branch::<N, M>(part, row_of(part, op, uses), r, memory, first),
+            BusUse::Pushes => push::<N, M>(part, row_of(part, op, uses), r, memory, t, notes),
             // Pulls
-            _ => pull::<N, M>(part, row, r, memory),
+            _ => pull::<N, M>(part, row_of(part, op, uses), r, memory),
         }
     } else if (uses as u8) < BusUse::Resumes as u8 {
         match uses {
-            BusUse::Calls => call::<N, M>(part, row, r, memory, first, t, notes),
-            BusUse::Returns => go_back::<N, M>(part, row, r, memory),
+            BusUse::Calls => call::<N, M>(part, row_of(part, op, uses), r, memory, first, t, notes),
+            BusUse::Returns => go_back::<N, M>(part, row_of(part, op, uses), r, memory),
             // Jumps
-            _ => jump::<N, M>(part, row, r, memory, first),
+            _ => jump::<N, M>(part, row_of(part, op, uses), r, memory, first),
         }
     } else {
         0
@@ -145,8 +160,5 @@ pub fn whole<N, M: Plain<N>>(part: Part, r: &mut Regs, memory: &mut M, t: u64, n
     }
     let op = memory.byte(r.pc);
     let first = memory.byte(r.place(1));
-    match row_at(part, op) {
-        Some(row) => carry_out::<N, M>(part, row, uses_at(part, op), r, memory, first, t, notes),
-        None => 0,
-    }
+    carry_out::<N, M>(part, op, uses_at(part, op), r, memory, first, t, notes)
 }

@@ -23,19 +23,20 @@ pub(crate) fn load<N, M: Plain<N>>(part: Part, row: Row, r: &mut Regs, memory: &
     ensures still { result ≡ 0 → r.new ≡ r.old }
     ensures few { result ≤ 8 }
 {
-    let to = find::<N, M>(part, row.mode, false, r, memory, first);
+    let to = find::<N, M>(part, row.mode, row.bytes, false, r, memory, first);
     if to.cycles == 0 {
-        return 0;
-    }
-    if r.is_decimal(row.mnemonic) {
         return 0;
     }
     if !memory.reads(to.at) {
         return 0;
     }
     let byte = memory.byte(to.at);
-    r.move_past(row.bytes);
-    operations::read(part, row.mnemonic, row.mode, r, byte);
+    let pc = r.pc;
+    r.move_past(to.bytes);
+    if !operations::read(part, row.mnemonic, row.mode, r, byte) {
+        r.pc = pc;
+        return 0;
+    }
     to.cycles + 1
 }
 
@@ -63,7 +64,7 @@ pub(crate) fn store<N, M: Plain<N>>(
     ensures room { M.room notes.old ≤ M.room notes.new + result }
     ensures few { result ≤ 8 }
 {
-    let to = find::<N, M>(part, row.mode, true, r, memory, first);
+    let to = find::<N, M>(part, row.mode, row.bytes, true, r, memory, first);
     if to.cycles == 0 {
         return 0;
     }
@@ -77,7 +78,7 @@ pub(crate) fn store<N, M: Plain<N>>(
         operations::stored(row.mnemonic, r),
         notes,
     );
-    r.move_past(row.bytes);
+    r.move_past(to.bytes);
     to.cycles + 1
 }
 
@@ -107,7 +108,7 @@ pub(crate) fn change<N, M: Plain<N>>(
     ensures room { M.room notes.old ≤ M.room notes.new + result }
     ensures few { result ≤ 8 }
 {
-    let to = find::<N, M>(part, row.mode, always, r, memory, first);
+    let to = find::<N, M>(part, row.mode, row.bytes, always, r, memory, first);
     if to.cycles == 0 {
         return 0;
     }
@@ -115,7 +116,7 @@ pub(crate) fn change<N, M: Plain<N>>(
         return 0;
     }
     let byte = memory.byte(to.at);
-    r.move_past(row.bytes);
+    r.move_past(to.bytes);
     let value = operations::change(row.mnemonic, row.mode, r, byte);
     memory.put(t, to.cycles + 2, to.at, value, notes);
     to.cycles + 3

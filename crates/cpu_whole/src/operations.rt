@@ -1,13 +1,15 @@
 //! Operations found by comparisons with the order of the mnemonics, each then by its own name: comparisons take less time than a jump through
 //! a table where the processor does not foresee such a jump, and a name that is a constant leaves the operation alone.
-ghost use Rattle.std.specs.Prelude.{◌≡◌, true, false};
+ghost use Rattle.std.specs.Prelude.{◌≡◌, true, false, not};
 ghost use Rattle.cpu_alu.specs.Arithmetic.{adc, sbc};
 ghost use Rattle.cpu_alu.specs.Flags.{has_flag};
-ghost use Rattle.cpu_alu.specs.declared.flags.TheConstants.{CARRY};
+ghost use Rattle.cpu_alu.specs.declared.flags.TheConstants.{CARRY, DECIMAL};
 ghost use Rattle.cpu_whole.specs.CodeWays.{is_modifying};
 ghost use Rattle.cpu_alu.specs.Instructions.{bus_use, is_decimal, with_sum, stored_value, pushed_value, takes_branch, read_result, modified_value, modify_result, implied_result, pull_result};
 
-use cpu_alu::{BusUse, CARRY, NEGATIVE, OVERFLOW, Regs, Sum, ZERO, adc, has_flag, sbc, with_flag};
+use cpu_alu::{
+    BusUse, CARRY, DECIMAL, NEGATIVE, OVERFLOW, Regs, Sum, ZERO, adc, has_flag, sbc, with_flag,
+};
 use op_table::{Mnemonic, Mode, Part};
 
 /// A sum, with its flags.
@@ -20,33 +22,47 @@ fn take_sum(r: &mut Regs, sum: Sum)
     r.p = with_flag(with_flag(n_z, CARRY, sum.c), OVERFLOW, sum.v);
 }
 
-/// ADC of the byte `m` in binary.
+/// ADC of the byte `m` in binary. False, and nothing is done, in decimal mode.
 #[inline(always)]
-fn add(part: Part, r: &mut Regs, m: u8)
-    ensures { r.new ≡ with_sum r.old (adc part false r.old.a m (has_flag r.old.p CARRY)) }
+fn add(part: Part, r: &mut Regs, m: u8) -> bool
+    ensures binary { result ≡ not (has_flag r.old.p DECIMAL) }
+    ensures sum { result ≡ true → r.new ≡ with_sum r.old (adc part false r.old.a m (has_flag r.old.p CARRY)) }
+    ensures still { result ≡ false → r.new ≡ r.old }
 {
+    if has_flag(r.p, DECIMAL) {
+        return false;
+    }
     take_sum(r, adc(part, false, r.a, m, has_flag(r.p, CARRY)));
+    true
 }
 
-/// SBC of the byte `m` in binary.
+/// SBC of the byte `m` in binary. False, and nothing is done, in decimal mode.
 #[inline(always)]
-fn subtract(part: Part, r: &mut Regs, m: u8)
-    ensures { r.new ≡ with_sum r.old (sbc part false r.old.a m (has_flag r.old.p CARRY)) }
+fn subtract(part: Part, r: &mut Regs, m: u8) -> bool
+    ensures binary { result ≡ not (has_flag r.old.p DECIMAL) }
+    ensures sum { result ≡ true → r.new ≡ with_sum r.old (sbc part false r.old.a m (has_flag r.old.p CARRY)) }
+    ensures still { result ≡ false → r.new ≡ r.old }
 {
+    if has_flag(r.p, DECIMAL) {
+        return false;
+    }
     take_sum(r, sbc(part, false, r.a, m, has_flag(r.p, CARRY)));
+    true
 }
 
-/// What an instruction that reads the byte `m` makes of the registers, PC apart. A sum or a difference is one in binary.
+/// What an instruction that reads the byte `m` makes of the registers, PC apart. False, and nothing is done, for a sum or a difference in decimal
+/// mode.
 #[inline(always)]
-pub(crate) fn read(part: Part, mnemonic: Mnemonic, mode: Mode, r: &mut Regs, m: u8)
+pub(crate) fn read(part: Part, mnemonic: Mnemonic, mode: Mode, r: &mut Regs, m: u8) -> bool
     requires uses { bus_use mnemonic ≡ BusUse.Reads }
-    requires binary { is_decimal mnemonic r.old ≡ false }
-    ensures { r.new ≡ read_result part mnemonic mode r.old m }
+    ensures binary { result ≡ not (is_decimal mnemonic r.old) }
+    ensures read { result ≡ true → r.new ≡ read_result part mnemonic mode r.old m }
+    ensures still { result ≡ false → r.new ≡ r.old }
 {
     if (mnemonic as u8) < Mnemonic::Lda as u8 {
         if (mnemonic as u8) < Mnemonic::Cmp as u8 {
             match mnemonic {
-                Mnemonic::Adc => add(part, r, m),
+                Mnemonic::Adc => return add(part, r, m),
                 Mnemonic::And => r.do_read(part, Mnemonic::And, mode, m),
                 // Bit
                 _ => r.do_read(part, Mnemonic::Bit, mode, m),
@@ -72,9 +88,10 @@ pub(crate) fn read(part: Part, mnemonic: Mnemonic, mode: Mode, r: &mut Regs, m: 
         match mnemonic {
             Mnemonic::Ora => r.do_read(part, Mnemonic::Ora, mode, m),
             // Sbc
-            _ => subtract(part, r, m),
+            _ => return subtract(part, r, m),
         }
     }
+    true
 }
 
 /// What a store writes.

@@ -41,6 +41,7 @@ fn ticks_of(clock: Clock, t: u64, at: u16) -> u64
 
 impl<D: BusDevice> TubeBus<()> for HostBus<D> {
     ghost use Rattle.std.specs.Prelude.{true};
+    ghost use Rattle.host_bus.specs.Peek.{bus_peek};
     ghost use Rattle.host_mach.specs.State.{HostBusState};
     ghost use Rattle.host_mach.specs.View.{host_bus_seen};
     ghost use Rattle.host_mach.specs.Step.{host_wiring};
@@ -78,6 +79,8 @@ impl<D: BusDevice> TubeBus<()> for HostBus<D> {
     ghost rests = { rests };
 
     ghost stays_at_rest = { host_rests };
+
+    ghost peek = { λ b at. bus_peek b.bus at };
 
     #[inline(always)]
     fn cycle(&self) -> u64 {
@@ -155,8 +158,7 @@ impl<D: BusDevice> TubeBus<()> for HostBus<D> {
                 if at >= 0x8000 {
                     return None;
                 }
-                self.bus.close(t + 1);
-                self.bus.store(at, v);
+                self.bus.put(t + 1, at, v);
                 Some(0)
             }
         }
@@ -171,6 +173,11 @@ impl<D: BusDevice> TubeBus<()> for HostBus<D> {
             return 0;
         }
         self.bus.calm()
+    }
+
+    #[inline(always)]
+    fn peek(&self, at: u16) -> Option<u8> {
+        self.bus.peek(at)
     }
 
     #[inline(always)]
@@ -254,7 +261,6 @@ impl<D: BusDevice> Plain<()> for HostBus<D> {
 
     #[inline(always)]
     fn put(&mut self, t: u64, cycle: u64, at: u16, byte: u8, _notes: &mut ()) {
-        self.bus.close(t + self.bus.clock().host() * cycle + 1);
-        self.bus.store(at, byte);
+        self.bus.put(t + self.bus.clock().host() * cycle + 1, at, byte);
     }
 }

@@ -1,11 +1,13 @@
 //! The machine.
-ghost use Rattle.std.specs.Prelude.{◌≡◌, ◌≤◌, ◌<◌, ◌+◌, ◌↔◌, ℕ, IfOk, IfSome, None, Some, MatchOption, false, length, map, min, unwrap_or};
+ghost use Rattle.std.specs.Prelude.{◌≡◌, ◌≤◌, ◌<◌, ◌+◌, ◌^◌, ◌↔◌, ℕ, IfOk, IfSome, None, Some, MatchOption, false, length, map, min, unwrap_or};
 ghost use Rattle.host_bus.specs.Lag.{caught_up};
 ghost use Rattle.host_bus.specs.Bus.{bus_disc, bus_break_pending, bus_next_break};
 ghost use Rattle.sn76489.specs.Samples.{NeverFallFrom};
 ghost use Rattle.cpu6502.specs.Sequences.{halted, starting};
 ghost use Rattle.host_mach.specs.State.{power_on};
-ghost use Rattle.host_mach.specs.Step.{host_wiring};
+ghost use Rattle.tube_party.specs.Moves.{shown_lines};
+ghost use Rattle.tube_machine.specs.Passing.{IsOver, Passes};
+ghost use Rattle.host_mach.specs.Step.{host_wiring, host_moves};
 ghost use Rattle.host_mach.specs.Peek.{host_peek};
 
 use crate::bus::{HostBus, is_tube};
@@ -21,7 +23,7 @@ use rom_set::RomSet;
 use sn76489::SoundWrite;
 use std::alloc::Global;
 use tube_chip::{Answer, Lines};
-use tube_machine::{advance_seeing, answer};
+use tube_machine::{Passing, advance_seeing, answer, pass_over};
 use tube_party::{Ask, MOST, NO_LINES, Party};
 
 /// The BBC Micro: a 6502 at 2 MHz and its bus, with the Tube at FEE0 to FEFF. The key BREAK, which the script presses, resets the processor, the
@@ -95,6 +97,27 @@ impl<D: BusDevice> HostMachine<D> {
         ensures none { (result ≡ None) ↔ ((0xFC00 ≤ at) × (at ≤ 0xFEFF)) }
     {
         self.bus.bus.peek(at)
+    }
+
+    /// Does instructions whole, each from a start that is passed over, with the look behind it, which sees these lines and is below `until` and
+    /// `sure`. It leaves off at a start, maybe at once; elsewhere nothing is done.
+    #[inline(always)]
+    pub fn pass(&mut self, until: Tick, lines: &Lines, sure: Tick, passing: Passing)
+        requires { until.0 ≤ 2 ^ 30 }
+        ensures { let old = host_seen D.plug self.old in
+            let new = host_seen D.plug self.new in
+            (k : ℕ) × Passes host_moves (λ s. IsOver passing s.cpu.regs.pc (host_peek s)) until.0 (shown_lines lines.now sure.0) k old new }
+    {
+        pass_over::<(), Cpu, HostBus<D>>(
+            &mut self.cpu,
+            &mut self.bus,
+            &mut self.due,
+            &mut (),
+            until,
+            lines,
+            sure,
+            passing,
+        );
     }
 
     /// The 32,768 bytes of the RAM.

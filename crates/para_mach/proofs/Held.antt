@@ -1,5 +1,5 @@
--- A machine that is held stands at a look, and goes past looks there.
-use Rattle.std.proofs.Common.{◌≡◌, ◌∙◌, refl, sym, ap, subst, ℕ, zero, suc, ◌+◌, ◌<◌, ◌≤◌, ◌==◌, not, Bool, true, false, is_none, Option, None, Some, MatchOption, List, arith, if◌then◌else◌}
+-- A machine that is held stands at a look, and goes past looks there; one that starts an instruction is not.
+use Rattle.std.proofs.Common.{◌≡◌, ◌∙◌, refl, sym, ap, subst, ℕ, zero, suc, ◌+◌, ◌<◌, ◌≤◌, ◌==◌, not, Bool, true, false, is_none, Option, None, Some, MatchOption, List, [], arith, if◌then◌else◌}
 use Rattle.std.specs.Prelude.{◌%◌, slice_set}
 use Rattle.std.proofs.lemmas.Bool.{ne_eqb}
 use Rattle.beeb_bits.specs.declared.clock.Clock.{Clock}
@@ -8,21 +8,28 @@ use Rattle.beeb_bits.specs.Clock.{para}
 use Rattle.op_table.specs.declared.names.Part.TheVariants.{Cmos}
 use Rattle.cpu_alu.specs.declared.Cycle.{Cycle}
 use Rattle.cpu_alu.specs.declared.Cycle.TheVariants.{Read, Write}
-use Rattle.cpu_core.specs.declared.Sequence.TheVariants.{Reset}
-use Rattle.cpu65c02.specs.Sequences.{next_cycle, after, sequence_at_look, fresh}
+use Rattle.cpu_alu.specs.declared.Regs.{Regs}
+use Rattle.cpu_core.specs.State as cpu
+use Rattle.cpu_core.specs.declared.Sequence.{Sequence}
+use Rattle.cpu_core.specs.declared.Sequence.TheVariants.{Instruction, Reset}
+use Rattle.cpu_core.specs.Sequences.{is_start}
+use Rattle.cpu65c02.specs.Sequences.{next_cycle, after, sequence_at_look, fresh, starting}
 use Rattle.tube_chip.specs.Act.{Query, access, look}
 use Rattle.tube_chip.specs.declared.Op.TheVariants as op
 use Rattle.tube_chip.specs.declared.Lines.{Lines}
 use Rattle.tube_chip.specs.declared.Answer.{Answer}
 use Rattle.tube_chip.specs.declared.Answer.TheVariants.{Byte, Seen}
-use Rattle.tube_party.specs.Moves.{Looks, Sees, Goes, IsAsk, FitsAnswer, shown_lines}
-use Rattle.tube_party.specs.Steps.{look_last, looks_on, looks_wider}
+use Rattle.tube_party.specs.Moves.{Shown, Looks, Sees, Goes, IsAsk, FitsAnswer, shown_lines}
+use Rattle.tube_party.specs.Steps.{look_last, looks_on, looks_wider, silent_all}
 use Rattle.tube_party.specs.declared.party.Ask.{Ask}
 use Rattle.tube_party.specs.declared.party.Ask.TheVariants.{Nothing, Access, Look}
 use Rattle.tube_machine.specs.Step.{asks_by, begin_leaves, after_held_cycle, after_step, closed_to, lines_in}
 use Rattle.tube_machine.specs.Exchange.{IsCramped}
+use Rattle.tube_machine.specs.declared.pass.Passing.{Passing}
+use Rattle.tube_machine.specs.Passing.{IsOver, ToLook, Passes, over_at}
 use Rattle.para_mach.specs.declared.notes.Stood.{Stood}
-use Rattle.para_mach.specs.State.{ParaBusState, ParaState}
+use Rattle.para_mach.specs.State.{ParaBusState, ParaState, shown_regs}
+use Rattle.para_mach.specs.Peek.{peek_of, para_peek}
 use Rattle.para_mach.specs.Step.{para_wiring, para_moves, next_state, is_tube, ram_after, rom_in_after}
 use Rattle.para_mach.specs.CodeNotes.{IsHeldAtLook, IsNear, part_kept, put_back}
 
@@ -147,3 +154,36 @@ byte_kept s byte stood asked out =
     let x : ParaState = closed_to para_wiring s (s.due + 1) in
     let new : ParaState = next_state s (Some (Byte byte)) in
     ap (λ (r : List ℕ). part_kept (put_back stood r) new.bus) (ram_by (next_cycle s.cpu) x byte asked) ∙ byte_by (next_cycle s.cpu) x byte (put_back stood s.bus.ram) asked out
+
+-- ---- Starts that are passed over
+
+goes_on : (c : cpu.State) → starting c ≡ true → is_none (next_cycle c) ≡ false
+goes_on c is = by c.seen c.sequence is
+  where
+    by : (seen : List (Option ℕ)) (q : Sequence) → is_start seen q ≡ true → is_none (next_cycle (record c { seen = seen; sequence = q })) ≡ false
+    by [] Instruction h = refl
+    by _ _ h = cc
+
+-- a machine that starts an instruction is not held
+shown_at : (s : ParaState) → IsHeldAtLook s → starting s.cpu ≡ true → shown_regs s ≡ s.cpu.regs
+shown_at s held is = by s.bus.is_held refl
+  where
+    by : (b : Bool) → s.bus.is_held ≡ b → (if b then after s.cpu else s.cpu.regs) ≡ s.cpu.regs
+    by false e = refl
+    by true e = let no : true ≡ false = sym (held e) ∙ goes_on s.cpu is in cc
+
+to_look_held : (n : ℕ) (v : Shown) (s u : ParaState) → IsHeldAtLook s → ToLook para_moves n v s u → IsHeldAtLook u
+to_look_held n v s u held looks =
+    let last : ParaState = looks.goes.last in
+    let there : IsHeldAtLook last = looks_held n v.lines 0 looks.goes.steps s last held (silent_all para_moves n v.lines 0 looks.goes.steps s last looks.goes.runs) in
+    subst IsHeldAtLook (sym looks.next) (next_held looks.last (Some (Seen v.lines)) (subst IsHeldAtLook (sym looks.goes.asked.3) there))
+
+-- by the registers that are shown
+pub passes_held : (passing : Passing) (n : ℕ) (v : Shown) (k : ℕ) (s last : ParaState) → IsHeldAtLook s → Passes para_moves (over_at (λ b at. peek_of b.ram b.rom b.rom_in at) passing) n v k s last →
+    Passes para_moves (λ (x : ParaState). IsOver passing (shown_regs x).pc (para_peek x)) n v k s last × IsHeldAtLook last
+passes_held passing n v zero s last held h = (h, subst IsHeldAtLook h held)
+passes_held passing n v (suc k) s last held h =
+    let u : ParaState = h.1.0 in
+    let rest = passes_held passing n v k u last (to_look_held n v s u held h.1.1.0) h.1.1.1 in
+    let over : IsOver passing (shown_regs s).pc (para_peek s) = subst (λ (r : Regs). IsOver passing r.pc (para_peek s)) (sym (shown_at s held h.0.0)) h.0.1 in
+    ((over, (u, (h.1.1.0, rest.0))), rest.1)

@@ -47,6 +47,7 @@ impl<N: Notes> TubeBus<N> for ParaBus {
     ghost use Rattle.para_mach.specs.Step.{para_wiring};
     ghost use Rattle.para_mach.specs.Lawful.{para_wired, para_plain, is_plain};
     ghost use Rattle.para_mach.specs.Whole.{plain_read, plain_write, rests, para_memory, para_rests};
+    ghost use Rattle.para_mach.specs.Peek.{peek_of};
     ghost use Rattle.para_mach.specs.CodeNotes.{part_kept};
 
     ghost State = { ParaBusState };
@@ -80,6 +81,8 @@ impl<N: Notes> TubeBus<N> for ParaBus {
     ghost rests = { rests };
 
     ghost stays_at_rest = { para_rests };
+
+    ghost peek = { λ b at. peek_of b.ram b.rom b.rom_in at };
 
     #[inline(always)]
     fn cycle(&self) -> u64 {
@@ -162,6 +165,11 @@ impl<N: Notes> TubeBus<N> for ParaBus {
         } else {
             u64::MAX
         }
+    }
+
+    #[inline(always)]
+    fn peek(&self, at: u16) -> Option<u8> {
+        self.memory.peek(at)
     }
 
     #[inline(always)]

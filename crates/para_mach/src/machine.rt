@@ -2,6 +2,7 @@
 ghost use Rattle.std.specs.Prelude.{◌≡◌, ◌≤◌, ◌≢◌, ◌↔◌, ◌⊎◌, ◌<◌, ◌+◌, ◌-◌, ◌^◌, ℕ, IfOk, IfErr, IfSome, length, Err, None, MatchOption, IsSome, is_none, true, vec_len, vec_capacity};
 ghost use Rattle.cpu65c02.specs.Sequences.{next_cycle, starting};
 ghost use Rattle.tube_party.specs.Moves.{Goes, shown_lines};
+ghost use Rattle.tube_machine.specs.Passing.{IsOver, Passes};
 ghost use Rattle.para_mach.specs.State.{power_on, shown_regs};
 ghost use Rattle.para_mach.specs.Step.{para_moves, para_wiring};
 ghost use Rattle.para_mach.specs.Peek.{para_peek};
@@ -18,7 +19,7 @@ use std::alloc::{AllocError, Global};
 use std::marker::Model;
 use thiserror::Error;
 use tube_chip::{Answer, Lines};
-use tube_machine::{Left, advance_seeing, answer, carry_on, look, take_lines};
+use tube_machine::{Left, Passing, advance_seeing, answer, carry_on, look, pass_over, take_lines};
 use tube_party::{Ask, NO_LINES, Party, Rewinds};
 
 /// Why no second processor can be made.
@@ -146,6 +147,25 @@ impl ParaMachine {
         ensures none { (result ≡ None) ↔ ((0xFEF8 ≤ at) × (at ≤ 0xFEFF)) }
     {
         self.bus.memory.peek(at)
+    }
+
+    /// Does instructions whole, each from a start that is passed over, with the look behind it, which sees these lines and is below `until` and
+    /// `sure`. It leaves off at a start, maybe at once; elsewhere nothing is done.
+    #[inline(always)]
+    pub fn pass(&mut self, until: Tick, lines: &Lines, sure: Tick, passing: Passing)
+        requires { until.0 ≤ 2 ^ 30 }
+        ensures { (k : ℕ) × Passes para_moves (λ s. IsOver passing (shown_regs s).pc (para_peek s)) until.0 (shown_lines lines.now sure.0) k self.old self.new }
+    {
+        pass_over::<NoNotes, Cpu, ParaBus>(
+            &mut self.cpu,
+            &mut self.bus,
+            &mut self.due,
+            &mut NoNotes,
+            until,
+            lines,
+            sure,
+            passing,
+        );
     }
 
     // Notes where the machine is.

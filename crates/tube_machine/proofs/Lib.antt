@@ -4,3 +4,4 @@ pub mod Spends
 pub mod Lengths
 pub mod Stops
 pub mod WholeSteps
+pub mod ToLooks

@@ -1,5 +1,6 @@
 -- A machine, of which device steps are owed: it stands for the one in which they are done.
 use Rattle.std.proofs.Common.{◌≡◌, ◌≤◌, ◌<◌, ◌∙◌, ◌+◌, ◌-◌, ◌⊎◌, inl, inr, refl, sym, ap, subst, ℕ, suc, Bool, true, false, ◌&&◌, is_none, Option, Some, None, IsSome, arith, if◌then◌else◌}
+use Rattle.std.specs.Prelude.{nat_lt}
 use Rattle.std.proofs.lemmas.Bool.{lt-ltb, le-ltb}
 use Rattle.op_table.specs.declared.names.Part.{Part}
 use Rattle.cpu_alu.specs.declared.Cycle.{Cycle}
@@ -16,7 +17,7 @@ use Rattle.tube_machine.specs.Wiring.{Wiring, IsWired, StaysPlain}
 use Rattle.tube_machine.specs.Step.{At, at_of, is_break, begin_leaves, after_held_cycle, asks_by, byte_of, after_cycle, after_step, closed_to, next_state, after_look, moves_of}
 use Rattle.tube_machine.specs.Lawful.{break_closed, next_closed}
 use Rattle.tube_machine.specs.NoBreak.{no-break, plain-asks, plain-next}
-use Rattle.tube_machine.specs.Exchange.{IsQuick, owed_at}
+use Rattle.tube_machine.specs.Exchange.{IsQuick, behind, owed_at}
 
 -- up to where the device steps are owed
 
@@ -25,6 +26,19 @@ owed-none n t closed = rw (le-ltb t t (omega arith)) refl
 
 pub owed-some : (n since due closed : ℕ) → since < due → owed_at n since due closed ≡ due - (n - 1)
 owed-some n since due closed gone = rw (lt-ltb since due gone) refl
+
+pub behind-none : (t : ℕ) → behind t t ≡ 0
+behind-none t = rw (le-ltb t t (omega arith)) refl
+
+pub behind-some : (from due : ℕ) → from < due → behind from due ≡ due
+behind-some from due gone = rw (lt-ltb from due gone) refl
+
+pub behind-most : (from due : ℕ) → behind from due ≤ due
+behind-most from due = by (nat_lt from due)
+  where
+    by : (b : Bool) → (if b then due else 0) ≤ due
+    by true = omega arith
+    by false = omega arith
 
 -- a sequence that begins has a first access
 pub begins : (part : Part) (sequence : Sequence) (r : Regs) → IsSome (next_cycle part (fresh sequence r))

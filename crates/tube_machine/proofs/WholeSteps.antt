@@ -28,7 +28,7 @@ use Rattle.tube_machine.proofs.Stops.{then-on}
 one-more : (c n : ℕ) → c * (n + 1) ≡ c * n + c
 one-more c n = mul-add c n 1 ∙ ap (λ (k : ℕ). c * n + k) (mul-one c)
 
-next-more : (c n : ℕ) → c * suc n ≡ c * n + c
+pub next-more : (c n : ℕ) → c * suc n ≡ c * n + c
 next-more c n = let same : suc n ≡ n + 1 = omega arith in ap (λ (k : ℕ). c * k) same ∙ one-more c n
 
 -- a processor at the start of an instruction
@@ -74,7 +74,7 @@ module _ (part : Part) where
   none-some (Some c) is more = cc
 
   -- so that none of an instruction that comes to its end is halted
-  none-halted : {M : Type 0} → (g : Reach M) (t k : ℕ) (s : cpu.State) (m : M) (last : cpu.State) (there : M) → Carried g t part (suc k) s m last there → next_cycle part last ≡ None → halted part s ≡ false
+  pub none-halted : {M : Type 0} → (g : Reach M) (t k : ℕ) (s : cpu.State) (m : M) (last : cpu.State) (there : M) → Carried g t part (suc k) s m last there → next_cycle part last ≡ None → halted part s ≡ false
   none-halted g t k s m last there h over = by (halted part s) refl
     where
       by : (b : Bool) → halted part s ≡ b → b ≡ false
@@ -83,7 +83,7 @@ module _ (part : Part) where
 
 module _ (part : Part) {B : Type 0} (w : Wiring B) (wired : IsWired w) (reads writes : ℕ → Bool) (memory : IsMemory w reads writes) where
   -- a plain access of an instruction that begins at tick t, in its cycle j, is quick
-  is-quick : (t j due : ℕ) (m : B) (c : Cycle) → is_plain (reach_of w reads writes) c ≡ true → due ≡ t + w.cycle m * j → w.closed m ≤ due + 1 →
+  pub is-quick : (t j due : ℕ) (m : B) (c : Cycle) → is_plain (reach_of w reads writes) c ≡ true → due ≡ t + w.cycle m * j → w.closed m ≤ due + 1 →
       IsQuick w m due c (Some (shows (reach_of w reads writes) m c)) (leaves (reach_of w reads writes) t m j c)
   is-quick t j due m (Read at) is there before =
       let x : B = w.close m (due + 1) in (
@@ -110,8 +110,36 @@ module _ (part : Part) {B : Type 0} (w : Wiring B) (wired : IsWired w) (reads wr
       let closed : w.closed (w.after x (Write at byte)) ≡ max (t + w.cycle m * j + 1) (w.closed m) = memory.write_closed x at byte is ∙ wired.closed m (t + w.cycle m * j + 1) in
       omega (arith, closed, there, before)
 
+  -- Cycles over a bus whose devices are closed at a tick already, up to which the first of them closes them: they lead to one that is the same
+  -- once it is closed from that tick on.
+  abbrev Comes : ℕ → ℕ → cpu.State → Option Cycle → B → cpu.State → B → Type 0
+  Comes t k s o m last there =
+      MatchOption o ⊥ (λ (c : Cycle). (is_plain (reach_of w reads writes) c ≡ true) × Carried (reach_of w reads writes) t part k (after_byte part s (shows (reach_of w reads writes) m c)) (leaves (reach_of w reads writes) t m (length s.seen) c) last there)
+
+  abbrev Closes : ℕ → ℕ → cpu.State → B → cpu.State → B → ℕ → Type 0
+  Closes t k s m last there u = (far : B) × (Carried (reach_of w reads writes) t part k s (w.close m u) last far × ((v : ℕ) → u ≤ v → w.close far v ≡ w.close there v))
+
+  closes-by : (t k : ℕ) (s : cpu.State) (m : B) (last : cpu.State) (there : B) (u : ℕ) (o : Option Cycle) → u ≤ t + 1 →
+      ((on : cpu.State) → Carried (reach_of w reads writes) t part k on m last there → Closes t k on m last there u) → Comes t k s o m last there →
+      (far : B) × (Comes t k s o (w.close m u) last far × ((v : ℕ) → u ≤ v → w.close far v ≡ w.close there v))
+  closes-by t k s m last there u None low rec h = absurd h
+  closes-by t k s m last there u (Some (Read at)) low rec h =
+      let same : w.answer (w.close m u) 0 at ≡ w.answer m 0 at = memory.shows m 0 u at h.0 in
+      let c : Closes t k (after_byte part s (w.answer m 0 at)) m last there u = rec (after_byte part s (w.answer m 0 at)) h.1 in
+      (c.0, ((h.0, subst (λ (x : ℕ). Carried (reach_of w reads writes) t part k (after_byte part s x) (w.close m u) last c.0) (sym same) c.1.0), c.1.1))
+  closes-by t k s m last there u (Some (Write at byte)) low rec h =
+      let j : ℕ = length s.seen in
+      let same : w.after (w.close (w.close m u) (t + w.cycle (w.close m u) * j + 1)) (Write at byte) ≡ w.after (w.close m (t + w.cycle m * j + 1)) (Write at byte) =
+      ap (λ (n : ℕ). w.after (w.close (w.close m u) (t + n * j + 1)) (Write at byte)) (wired.cycle_close m u)
+      ∙ ap (λ (b : B). w.after b (Write at byte)) (wired.again m u (t + w.cycle m * j + 1) (omega (arith, low))) in
+      (there, ((h.0, subst (λ (x : B). Carried (reach_of w reads writes) t part k (after_byte part s 0) x last there) (sym same) h.1), λ v from. refl))
+
+  carried-closed : (t k : ℕ) (s : cpu.State) (m : B) (last : cpu.State) (there : B) (u : ℕ) → u ≤ t + 1 → Carried (reach_of w reads writes) t part k s m last there → Closes t k s m last there u
+  carried-closed t zero s m last there u low h = (w.close m u, ((h.0, refl), λ v from. wired.again m u v from ∙ ap (λ (b : B). w.close b v) h.1))
+  carried-closed t (suc k) s m last there u low h = closes-by t k s m last there u (next_cycle part s) low (λ on c. carried-closed t k on m last there u low c) h
+
   module _ (rests : B → Lines → Bool → ℕ → Type 0) (stays_at_rest : StaysAtRest w writes rests) where
-    rests-on : (t j due : ℕ) (m : B) (c : Cycle) (lines : Lines) (masks : Bool) (far : ℕ) → is_plain (reach_of w reads writes) c ≡ true → due ≡ t + w.cycle m * j → due < far →
+    pub rests-on : (t j due : ℕ) (m : B) (c : Cycle) (lines : Lines) (masks : Bool) (far : ℕ) → is_plain (reach_of w reads writes) c ≡ true → due ≡ t + w.cycle m * j → due < far →
         rests m lines masks far → rests (leaves (reach_of w reads writes) t m j c) lines masks far
     rests-on t j due m (Read at) lines masks far is there low rest = rest
     rests-on t j due m (Write at byte) lines masks far is there low rest =
@@ -119,7 +147,7 @@ module _ (part : Part) {B : Type 0} (w : Wiring B) (wired : IsWired w) (reads wr
         stays_at_rest.write (w.close m u) lines masks far at byte (stays_at_rest.close m lines masks far u rest (omega (arith, there, low))) is
 
     -- the look behind an instruction, which is at rest
-    look-on : (plain : B → Lines → Bool) (stays : StaysPlain w plain) (on : cpu.State) (b : B) (t far : ℕ) (lines : Lines) (masks : Bool) → plain b lines ≡ true → rests b lines masks far → t < far →
+    pub look-on : (plain : B → Lines → Bool) (stays : StaysPlain w plain) (on : cpu.State) (b : B) (t far : ℕ) (lines : Lines) (masks : Bool) → plain b lines ≡ true → rests b lines masks far → t < far →
         masks ≡ has_flag (after part on).p INTERRUPT →
         at_of (fresh Instruction (after part on)) (w.close b (t + 1)) (t + 1) ≡ after_look part w (closed_to w (at_of on b t) (t + 1)) lines
     look-on plain stays on b t far lines masks is_plain rest low held =
@@ -174,13 +202,13 @@ module _ (part : Part) {B : Type 0} (w : Wiring B) (wired : IsWired w) (reads wr
             stays_at_rest.close there lines masks quiet top (subst (λ (x : B). rests x lines masks quiet) h.1.1 rest_on) still,
           )
 
-      next-one : (k : ℕ) (s : At B) (since t : ℕ) (last : cpu.State) (there : B) (top : ℕ) (o : Option Cycle) → next_cycle part s.cpu ≡ o → IsUnderWay part w plain far n until lines sure start s since →
+      pub next-one : (R : Type 0) (k : ℕ) (s : At B) (since t : ℕ) (last : cpu.State) (there : B) (top : ℕ) (o : Option Cycle) → next_cycle part s.cpu ≡ o → IsUnderWay part w plain far n until lines sure start s since →
           Ahead t (suc k) s.cpu o s.bus last there → s.due ≡ t + n * length s.cpu.seen → w.closed s.bus ≤ s.due + 1 → halted part s.cpu ≡ false →
           s.due + n ≤ top → top ≤ far → top ≤ until → top ≤ quiet → rests s.bus lines masks quiet →
           ((on : cpu.State) (b : B) → IsUnderWay part w plain far n until lines sure start (at_of on b (s.due + n)) since → Carried (reach_of w reads writes) t part (suc k) on b last there →
-          s.due + n ≡ t + n * length on.seen → w.closed b ≤ s.due + n + 1 → rests b lines masks quiet → Begun last there top) → Begun last there top
-      next-one k s since t last there top None is way h here before goes fits far_on in_run still rest rec = absurd h
-      next-one k s since t last there top (Some c) is way h here before goes fits far_on in_run still rest rec =
+          s.due + n ≡ t + n * length on.seen → w.closed b ≤ s.due + n + 1 → rests b lines masks quiet → R) → R
+      next-one R k s since t last there top None is way h here before goes fits far_on in_run still rest rec = absurd h
+      next-one R k s since t last there top (Some c) is way h here before goes fits far_on in_run still rest rec =
           let g : Reach B = reach_of w reads writes in
           let j : ℕ = length s.cpu.seen in
           let byte : ℕ = shows g s.bus c in
@@ -204,7 +232,7 @@ module _ (part : Part) {B : Type 0} (w : Wiring B) (wired : IsWired w) (reads wr
           last-one s since t last there top (next_cycle part s.cpu) refl way h (here ∙ ap (λ (c : ℕ). t + c * length s.cpu.seen) way.cycle) before over (ap (λ (x : ℕ). s.due + x) (sym (mul-one n)) ∙ fits) far_on in_run early still rest held
       walk (suc k) s since t last there top way h here before over fits far_on in_run early still rest held =
           let sum : n * suc (suc k) ≡ n * suc k + n = next-more n (suc k) in
-          next-one k s since t last there top (next_cycle part s.cpu) refl way h here before (none-halted part (reach_of w reads writes) t (suc k) s.cpu s.bus last there h over) (omega (arith, fits, sum)) far_on in_run still rest
+          next-one (Begun last there top) k s since t last there top (next_cycle part s.cpu) refl way h here before (none-halted part (reach_of w reads writes) t (suc k) s.cpu s.bus last there h over) (omega (arith, fits, sum)) far_on in_run still rest
           (λ on b way_on h_on here_on before_on rest_on. walk k (at_of on b (s.due + n)) since t last there top way_on h_on here_on before_on over (omega (arith, fits, sum)) far_on in_run early still rest_on held)
 
       -- an instruction done whole, and the look behind it
@@ -220,6 +248,19 @@ module _ (part : Part) {B : Type 0} (w : Wiring B) (wired : IsWired w) (reads wr
           let none : due ≡ due + n * 0 = omega arith in
           subst (λ (x : Regs). IsUnderWay part w plain far n until lines sure start (at_of (fresh Instruction x) (w.close there top) top) top × rests (w.close there top) lines masks quiet) same
           (walk k (at_of (fresh Instruction r) m due) due due done.last there top way done.carried none before done.over refl far_on in_run early still rest masked)
+
+      -- the same from a bus whose devices need not be closed yet as far as it counts
+      pub whole-behind : (k due u : ℕ) (r new : Regs) (m there : B) → 0 < k → u ≤ due → IsUnderWay part w plain far n until lines sure start (at_of (fresh Instruction r) (w.close m u) due) due →
+          IsDone part (reach_of w reads writes) due r m k new there → w.closed m ≤ due + 1 → due + n * k ≤ far → due + n * k ≤ until → due + n * k ≤ sure → due + n * k ≤ quiet →
+          rests (w.close m u) lines masks quiet → has_flag r.p INTERRUPT ≡ masks →
+          IsUnderWay part w plain far n until lines sure start (at_of (fresh Instruction new) (w.close there (due + n * k)) (due + n * k)) (due + n * k) × rests (w.close there (due + n * k)) lines masks quiet
+      whole-behind k due u r new m there more low way done before far_on in_run early still rest held =
+          let top : ℕ = due + n * k in
+          let c : Closes due k (fresh Instruction r) m done.last there u = carried-closed due k (fresh Instruction r) m done.last there u (omega (arith, low)) done.carried in
+          let again : IsDone part (reach_of w reads writes) due r (w.close m u) k new c.0 = record { last = done.last; carried = c.1.0; over = done.over; regs = done.regs; masks = done.masks } in
+          let closed : w.closed (w.close m u) ≡ max u (w.closed m) = wired.closed m u in
+          subst (λ (b : B). IsUnderWay part w plain far n until lines sure start (at_of (fresh Instruction new) b top) top × rests b lines masks quiet) (c.1.1 top (omega (arith, low)))
+          (whole-on k due r new (w.close m u) c.0 more way again (omega (arith, closed, before, low)) far_on in_run early still rest held)
 
 module _ (part : Part) {B : Type 0} (w : Wiring B) (wired : IsWired w) (plain : B → Lines → Bool) (stays : StaysPlain w plain) where
   -- nothing is owed at a step before which there was no access

@@ -52,6 +52,10 @@ module _ {B : Type 0} (w : Wiring B) where
 abbrev pub owed_at : ℕ → ℕ → ℕ → ℕ → ℕ
 owed_at cycle since due closed = if nat_lt since due then due - (cycle - 1) else closed
 
+-- How far the devices count as closed behind whole instructions from one tick to another, if there were any.
+abbrev pub behind : ℕ → ℕ → ℕ
+behind from due = if nat_lt from due then due else 0
+
 module _ (part : Part) {B : Type 0} (w : Wiring B) where
   -- the next step is done, or it asks the Tube, or it cannot be noted
   abbrev pub IsDone : At B → Attempt → At B → Type 0

@@ -1,5 +1,5 @@
 //! What a machine's processor reaches.
-ghost use Rattle.std.specs.Prelude.{ℕ, Bool, ◌≡◌, ◌≤◌, ◌<◌, ◌+◌, ◌*◌, ◌^◌, true, false, None, IfOk, Err};
+ghost use Rattle.std.specs.Prelude.{ℕ, Bool, ◌≡◌, ◌≤◌, ◌<◌, ◌+◌, ◌*◌, ◌^◌, true, false, Option, None, IfOk, Err};
 ghost use Rattle.cpu_alu.specs.declared.Cycle.{Cycle};
 ghost use Rattle.tube_chip.specs.declared.Lines.{Lines};
 ghost use Rattle.tube_machine.specs.Wiring.{Wiring, IsWired, StaysPlain};
@@ -77,6 +77,9 @@ pub trait TubeBus<N>: Drop {
     ghost rests: { State → Lines → Bool → ℕ → Type 0 };
 
     ghost stays_at_rest: { StaysAtRest wiring writes rests };
+
+    /// The byte that stands at an address, if one does.
+    ghost peek: { State → ℕ → Option ℕ };
 
     /// A cycle, in ticks.
     fn cycle(&self) -> u64
@@ -161,6 +164,10 @@ pub trait TubeBus<N>: Drop {
     fn rests_until(&self, lines: &Lines, masks: bool) -> u64
         requires { plain (state self.now) lines.now ≡ true }
         ensures { rests (state self.now) lines.now masks result };
+
+    /// The byte that a read of this address would give now. None where a device answers.
+    fn peek(&self, at: u16) -> Option<u8>
+        ensures { result ≡ peek (state self.now) at };
 
     /// Does the instruction whose first cycle is at tick `t`, whole, if all its accesses are of plain memory, and gives the number of its cycles.
     /// Else nothing is done, and that number is 0.

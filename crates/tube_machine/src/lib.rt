@@ -2,10 +2,12 @@
 #![tactic(auto)]
 
 mod bus;
+mod pass;
 mod processor;
 mod run;
 mod steps;
 
 pub use bus::{Done, Interrupts, TubeBus, Unable};
+pub use pass::{Passing, pass_over};
 pub use processor::Processor;
 pub use steps::{Left, advance_seeing, answer, carry_on, look, take_lines};

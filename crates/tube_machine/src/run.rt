@@ -7,7 +7,7 @@ ghost use Rattle.cpu_alu.specs.declared.flags.TheConstants.{INTERRUPT};
 ghost use Rattle.cpu_core.specs.Sequences.{next_cycle, starting};
 ghost use Rattle.tube_party.specs.Moves.{Looks, shown_lines};
 ghost use Rattle.tube_machine.specs.Step.{at_of, moves_of, closed_to, after_look};
-ghost use Rattle.tube_machine.specs.Exchange.{owed_at, ready, spent, HasSpent, IsStop, Spends};
+ghost use Rattle.tube_machine.specs.Exchange.{behind, owed_at, ready, spent, HasSpent, IsStop, Spends};
 ghost use Rattle.tube_machine.specs.Whole.{IsOnward};
 
 use crate::bus::TubeBus;
@@ -58,9 +58,15 @@ fn catch_up<N, B: TubeBus<N>>(bus: &mut B, cycle: u64, caught_up: u64, due: u64)
     }
 }
 
-// The tick below which each look is plain and sees these lines.
+/// The tick below which each look is plain and sees these lines.
 #[inline(always)]
-fn bound_of<N, B: TubeBus<N>>(bus: &B, until: u64, sure: u64, next_break: u64, lines: &Lines) -> u64
+pub(crate) fn bound_of<N, B: TubeBus<N>>(
+    bus: &B,
+    until: u64,
+    sure: u64,
+    next_break: u64,
+    lines: &Lines,
+) -> u64
     ensures until { result ≤ until }
     ensures sure { result ≤ sure }
     ensures free { result ≤ next_break }
@@ -73,7 +79,20 @@ fn bound_of<N, B: TubeBus<N>>(bus: &B, until: u64, sure: u64, next_break: u64, l
 }
 
 /// How many cycles an instruction may have that is done whole.
-const LONGEST: u64 = 8;
+pub(crate) const LONGEST: u64 = 8;
+
+// Closes the devices behind instructions from tick `from` to `due`, if there were any.
+#[inline(always)]
+fn close_behind<N, B: TubeBus<N>>(bus: &mut B, from: u64, due: u64)
+    requires low { from < due → (B.wiring).closed (B.state bus.old) ≤ due }
+    requires room { due < 2 ^ 48 }
+    ensures closed { B.state bus.new ≡ (B.wiring).close (B.state bus.old) (behind from due) }
+    ensures kept { (notes : N) → B.before notes bus.new ≡ B.before notes bus.old }
+{
+    if from < due {
+        bus.close(due);
+    }
+}
 
 // Instructions one after another, each done whole with the look behind it, from the first cycle of one at tick `from` on. Each ends below tick
 // `bound`: up to there a look is plain and sees these lines, and no break is pending; and below `quiet`, up to which looks ask for nothing. It
@@ -117,15 +136,17 @@ fn go_whole<N, P: Processor, B: TubeBus<N>>(
         p: first.p,
     };
     let end = bound.min(quiet);
+    // An instruction that begins before this tick surely ends in time.
+    let late = (end + 1).saturating_sub(LONGEST * cycle);
     let mut due = from;
-    while due + LONGEST * cycle <= end {
+    while due < late {
         let cycles = bus.whole(cpu.kind(), &mut regs, due, notes);
         if cycles == 0 {
             break;
         }
         due += cycle * cycles;
-        bus.close(due);
     }
+    close_behind::<N, B>(bus, from, due);
     cpu.set_out(&regs);
     due
 }

@@ -1,10 +1,18 @@
-use Rattle.std.proofs.Common.{rules, ◌≡◌, ◌<◌, ◌∙◌, true, false, ap, refl, subst, arith}
+use Rattle.std.proofs.Common.{rules, ◌≡◌, ◌<◌, ◌∙◌, true, false, Bool, not, ap, sym, refl, subst, arith}
 use Rattle.cpu_alu.specs.declared.Regs.{Regs}
 use Rattle.cpu_alu.specs.Addresses.{with_pc_past}
 use Rattle.cpu_alu.specs.Instructions.{is_decimal, read_result}
 use Rattle.cpu_whole.specs.CodeWays.{IsReached}
 use Rattle.cpu_whole.proofs.AtOperand.{loaded, loads_wait, decimal_past}
+use Rattle.cpu_whole.proofs.RowBytes.{of_reads}
 use Rattle.cpu_whole.proofs.operate.load.Goals as goal
+
+no_by : (b : Bool) → not b ≡ true → b ≡ false
+no_by false h = refl
+no_by true h = sym h
+
+pub find-to-requires-clause-bytes : goal.find-to-requires-clause-bytes
+find-to-requires-clause-bytes g c = of_reads c.args.part _ c.args.row c.requires.row c.requires.uses
 
 pub returns-clause-done : goal.returns-clause-done
 returns-clause-done g c =
@@ -16,13 +24,11 @@ returns-clause-done g c =
     let at = c.find-to.result.at in
     let went : 0 < c.find-to.result.cycles = omega arith in
     let yes : c.reads.result ≡ true = search rules in
-    let binary : is_decimal row.mnemonic r ≡ false = search rules in
+    let read : c.read.result ≡ true = search rules in
+    let past : c.move_past.new.self ≡ with_pc_past r row.bytes = c.move_past.ensures ∙ ap (with_pc_past r) c.find-to.ensures.bytes in
+    let binary : is_decimal row.mnemonic r ≡ false =
+    sym (ap (is_decimal row.mnemonic) past ∙ decimal_past row.mnemonic r row.bytes) ∙ no_by (is_decimal row.mnemonic c.move_past.new.self) (sym c.read.ensures.binary ∙ read) in
     let reached = subst (λ b. IsReached c.args.part reach t row.mode b r m at c.find-to.result.cycles) (loads_wait c.args.part) (c.find-to.ensures.reached t went) in
     loaded reach t c.args.part row r m at c.find-to.result.cycles c.requires.runs.first c.requires.row c.requires.uses binary reached (c.reads.ensures yes) _ _ refl
-    (c.read.ensures ∙ ap (λ (q : Regs). read_result c.args.part row.mnemonic row.mode q c.byte-byte.result) c.move_past.ensures
+    (c.read.ensures.read read ∙ ap (λ (q : Regs). read_result c.args.part row.mnemonic row.mode q c.byte-byte.result) past
     ∙ ap (read_result c.args.part row.mnemonic row.mode (with_pc_past r row.bytes)) c.byte-byte.ensures)
-
-pub read-requires-clause-binary : goal.read-requires-clause-binary
-read-requires-clause-binary g c =
-    let binary : is_decimal c.args.row.mnemonic c.args.r.now ≡ false = search rules in
-    ap (is_decimal c.args.row.mnemonic) c.move_past.ensures ∙ decimal_past c.args.row.mnemonic c.args.r.now c.args.row.bytes ∙ binary

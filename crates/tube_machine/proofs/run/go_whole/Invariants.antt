@@ -5,19 +5,20 @@ use Rattle.cpu_alu.specs.Flags.{has_flag}
 use Rattle.cpu_core.specs.declared.Sequence.TheVariants.{Instruction}
 use Rattle.cpu_core.specs.Sequences.{fresh}
 use Rattle.tube_machine.specs.Step.{at_of}
-use Rattle.tube_machine.specs.Exchange.{spent, HasSpent}
+use Rattle.tube_machine.specs.Exchange.{behind, spent, HasSpent}
 use Rattle.tube_machine.proofs.UnderWay.{IsUnderWay, IsFree}
 use Rattle.tube_machine.proofs.run.go_whole.Given as goal
 
--- an instruction begins, and all so far asked for nothing
+-- an instruction begins, and all so far asked for nothing; the devices need not be closed yet as far as they count
 abbrev pub invariant-loop-due : goal.invariant-loop-due
 invariant-loop-due g l = record {
   way : (far until sure : ℕ) → l.bound ≤ far → l.bound ≤ until → l.bound ≤ sure → IsFree g.P.Processor.part g.B.TubeBus.wiring far (g.B.TubeBus.state l.fn.bus) → IsUnderWay g.P.Processor.part g.B.TubeBus.wiring g.B.TubeBus.plain far l.cycle until l.lines sure
       (at_of (g.P.Processor.core l.fn.cpu) (g.B.TubeBus.state l.fn.bus) l.from)
-      (at_of (fresh Instruction l.regs) (g.B.TubeBus.state l.bus) l.due)
+      (at_of (fresh Instruction l.regs) ((g.B.TubeBus.wiring).close (g.B.TubeBus.state l.bus) (behind l.from l.due)) l.due)
       l.due;
   before : (g.B.TubeBus.wiring).closed (g.B.TubeBus.state l.bus) ≤ l.due + 1;
-  rests : g.B.TubeBus.rests (g.B.TubeBus.state l.bus) l.lines (has_flag (g.P.Processor.core l.fn.cpu).regs.p INTERRUPT) l.quiet;
+  shut : l.from < l.due → (g.B.TubeBus.wiring).closed (g.B.TubeBus.state l.bus) ≤ l.due;
+  rests : g.B.TubeBus.rests ((g.B.TubeBus.wiring).close (g.B.TubeBus.state l.bus) (behind l.from l.due)) l.lines (has_flag (g.P.Processor.core l.fn.cpu).regs.p INTERRUPT) l.quiet;
   held : has_flag l.regs.p INTERRUPT ≡ has_flag (g.P.Processor.core l.fn.cpu).regs.p INTERRUPT;
   low : l.from ≤ l.due;
   high : l.due ≤ l.bound;

@@ -1,0 +1,32 @@
+-- Starts of instructions that are passed over, up to one that is not.
+use Rattle.std.specs.Prelude.{ℕ, zero, suc, ◌≡◌, ◌≢◌, ◌<◌, true, Option, Some}
+use Rattle.cpu_core.specs.Sequences.{starting}
+use Rattle.beeb_bits.specs.declared.Tick.{Tick}
+use Rattle.tube_chip.specs.declared.Answer.TheVariants.{Seen}
+use Rattle.tube_party.specs.declared.party.Ask.TheVariants.{Look}
+use Rattle.tube_party.specs.Moves.{Moves, Shown, Advances}
+use Rattle.tube_machine.specs.Step.{At}
+use Rattle.tube_machine.specs.declared.pass.Passing.{Passing}
+use Rattle.tube_machine.specs.declared.pass.Passing.TheVariants.{Elsewhere, Same}
+
+-- A start at this PC, of a machine in whose memory these bytes stand, is passed over.
+abbrev pub IsOver : Passing → ℕ → (ℕ → Option ℕ) → Type 0
+IsOver (Elsewhere at) pc peek = pc ≢ at
+IsOver (Same at byte) pc peek = peek at ≡ byte
+
+-- a machine starts an instruction, and that start is passed over
+abbrev pub over_at : {B : Type 0} → (B → ℕ → Option ℕ) → Passing → At B → Type 0
+over_at peek passing s = (starting s.cpu ≡ true) × IsOver passing s.cpu.regs.pc (peek s.bus)
+
+-- Steps below tick n that ask nothing, and then a look that is sure, and sees these lines.
+pub record ToLook {S : Type 0} (m : Moves S) (n : ℕ) (v : Shown) (s on : S) : Type 0 where
+  pub tick : Tick
+  pub last : S
+  pub goes : Advances m n s (Look tick) last
+  pub sure : tick.0 < v.sure
+  pub next : on ≡ m.next last (Some (Seen v.lines))
+
+-- so many times, each from a state of which this holds
+abbrev pub Passes : {S : Type 0} → Moves S → (S → Type 0) → ℕ → Shown → ℕ → S → S → Type 0
+Passes m over n v zero s last = s ≡ last
+Passes {S} m over n v (suc k) s last = over s × ((u : S) × (ToLook m n v s u × Passes m over n v k u last))

@@ -1,0 +1,167 @@
+//! Whole instructions that are passed over, up to a start of one that is not.
+ghost use Rattle.std.specs.Prelude.{◌≡◌, ◌≢◌, ◌≤◌, ◌<◌, ◌+◌, ◌*◌, ◌^◌, ℕ, true, false};
+ghost use Rattle.cpu_alu.specs.Flags.{has_flag};
+ghost use Rattle.cpu_alu.specs.declared.flags.TheConstants.{INTERRUPT};
+ghost use Rattle.cpu_core.specs.Sequences.{starting};
+ghost use Rattle.cpu_whole.specs.Whole as whole;
+ghost use Rattle.tube_party.specs.Moves.{shown_lines};
+ghost use Rattle.tube_machine.specs.Passing.{IsOver, Passes, over_at};
+ghost use Rattle.tube_machine.specs.Step.{at_of, moves_of};
+ghost use Rattle.tube_machine.specs.Whole.{reach_of};
+
+use crate::bus::TubeBus;
+use crate::processor::Processor;
+use crate::run::{LONGEST, bound_of};
+use beeb_bits::Tick;
+use cpu_alu::{INTERRUPT, Regs, has_flag};
+use op_table::Part;
+use tube_chip::Lines;
+
+/// Which starts of instructions are passed over.
+#[derive(Clone, Copy, Debug, PartialEq, Eq)]
+pub enum Passing {
+    /// Those whose PC is not this address.
+    Elsewhere(u16),
+    /// Those at which this byte stands at this address, or none as said.
+    Same(u16, Option<u8>),
+}
+
+#[inline(always)]
+fn is_same(one: Option<u8>, other: Option<u8>) -> bool
+    ensures same { result ≡ true → one ≡ other }
+    ensures other { result ≡ false → one ≢ other }
+{
+    match (one, other) {
+        (None, None) => true,
+        (Some(a), Some(b)) => a == b,
+        _ => false,
+    }
+}
+
+// Whether a start at this PC is passed over.
+#[inline(always)]
+fn is_over<N, B: TubeBus<N>>(passing: Passing, pc: u16, bus: &B) -> bool
+    ensures over { result ≡ true → IsOver passing pc (B.peek (B.state bus.now)) }
+    ensures stays { result ≡ false → IsOver passing pc (B.peek (B.state bus.now)) → ⊥ }
+{
+    match passing {
+        Passing::Elsewhere(at) => pc != at,
+        Passing::Same(at, byte) => is_same(bus.peek(at), byte),
+    }
+}
+
+// Does the instruction whose first cycle is at tick `t` whole, if its start is passed over and it can be done so, and gives the number of its cycles.
+// Else nothing is done, and that number is 0.
+#[inline(always)]
+fn whole_if_over<N, B: TubeBus<N>>(
+    bus: &mut B,
+    part: Part,
+    regs: &mut Regs,
+    t: u64,
+    notes: &mut N,
+    passing: Passing,
+) -> u64
+    requires closed { (B.wiring).closed (B.state bus.old) ≤ t + 1 }
+    requires room { t < 2 ^ 40 }
+    ensures over { 0 < result → IsOver passing (regs.old).pc (B.peek (B.state bus.old)) }
+    ensures closed { 0 < result → (B.wiring).closed (B.state bus.new) ≤ t + (B.wiring).cycle (B.state bus.old) * result }
+    ensures done { let reach = reach_of B.wiring B.reads B.writes in
+        0 < result → whole.IsDone part reach t regs.old (B.state bus.old) result regs.new (B.state bus.new) }
+    ensures still { result ≡ 0 → (regs.new ≡ regs.old) × (B.state bus.new ≡ B.state bus.old) }
+    ensures noted { B.before notes.new bus.new ≡ B.before notes.old bus.old }
+    ensures few { result ≤ 8 }
+{
+    if is_over::<N, B>(passing, regs.pc, bus) {
+        bus.whole(part, regs, t, notes)
+    } else {
+        0
+    }
+}
+
+// Instructions one after another that are passed over, each done whole with the look behind it, from the first cycle of one at tick `from` on. Each ends
+// below tick `bound`: up to there a look is plain and sees these lines, and no break is pending; and below `quiet`, up to which looks ask for nothing.
+// It gives the tick of the next step.
+#[inline(never)]
+fn pass_whole<N, P: Processor, B: TubeBus<N>>(
+    cpu: &mut P,
+    bus: &mut B,
+    notes: &mut N,
+    from: u64,
+    bound: u64,
+    quiet: u64,
+    lines: &Lines,
+    passing: Passing,
+) -> u64
+    requires room { bound ≤ 2 ^ 30 }
+    requires from { from ≤ bound }
+    requires before { (B.wiring).closed (B.state bus.old) ≤ from + 1 }
+    requires plain { B.plain (B.state bus.old) lines.now ≡ true }
+    requires free { (t : ℕ) → t < bound → (B.wiring).pending (B.state bus.old) t ≡ false }
+    requires starts { starting (P.core cpu.old) ≡ true }
+    requires rests { B.rests (B.state bus.old) lines.now (has_flag (P.core cpu.old).regs.p INTERRUPT) quiet }
+    ensures before { (B.wiring).closed (B.state bus.new) ≤ result + 1 }
+    ensures passes { let old = at_of (P.core cpu.old) (B.state bus.old) from in
+        let new = at_of (P.core cpu.new) (B.state bus.new) result in
+        (until sure : ℕ) → bound ≤ until → bound ≤ sure →
+        (k : ℕ) × Passes (moves_of P.part B.wiring) (over_at B.peek passing) until (shown_lines lines.now sure) k old new }
+    ensures noted { B.before notes.new bus.new ≡ B.before notes.old bus.old }
+{
+    let cycle = bus.cycle();
+    let first = cpu.at_start();
+    let mut regs = Regs {
+        pc: first.pc,
+        a: first.a,
+        x: first.x,
+        y: first.y,
+        s: first.s,
+        p: first.p,
+    };
+    let end = bound.min(quiet);
+    let mut due = from;
+    while due + LONGEST * cycle <= end {
+        let cycles = whole_if_over::<N, B>(bus, cpu.kind(), &mut regs, due, notes, passing);
+        if cycles == 0 {
+            break;
+        }
+        due += cycle * cycles;
+        bus.close(due);
+    }
+    cpu.set_out(&regs);
+    due
+}
+
+/// Does instructions whole, each from a start that is passed over, with the look behind it, which sees these lines, is below `until` and `sure`, and
+/// asks for nothing. It leaves off at a start, maybe at once; elsewhere nothing is done.
+#[inline(always)]
+pub fn pass_over<N, P: Processor, B: TubeBus<N>>(
+    cpu: &mut P,
+    bus: &mut B,
+    due: &mut u64,
+    notes: &mut N,
+    until: Tick,
+    lines: &Lines,
+    sure: Tick,
+    passing: Passing,
+)
+    requires room { until.0 ≤ 2 ^ 30 }
+    requires before { (B.wiring).closed (B.state bus.old) ≤ due.old + 1 }
+    ensures before { (B.wiring).closed (B.state bus.new) ≤ due.new + 1 }
+    ensures passes { let old = at_of (P.core cpu.old) (B.state bus.old) due.old in
+        let new = at_of (P.core cpu.new) (B.state bus.new) due.new in
+        (k : ℕ) × Passes (moves_of P.part B.wiring) (over_at B.peek passing) until.0 (shown_lines lines.now sure.0) k old new }
+    ensures noted { B.before notes.new bus.new ≡ B.before notes.old bus.old }
+{
+    let bound = bound_of::<N, B>(bus, until.0, sure.0, bus.break_tick(), lines);
+    if *due >= bound || !cpu.starting() {
+        return;
+    }
+    let first = cpu.at_start();
+    let first_end = *due + LONGEST * bus.cycle();
+    if first_end > bound || !is_over::<N, B>(passing, first.pc, bus) {
+        return;
+    }
+    let quiet = bus.rests_until(lines, has_flag(first.p, INTERRUPT));
+    if first_end <= quiet {
+        *due = pass_whole::<N, P, B>(cpu, bus, notes, *due, bound, quiet, lines, passing);
+    }
+}
