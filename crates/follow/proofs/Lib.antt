@@ -5,3 +5,4 @@ pub mod Listed
 pub mod Referred
 pub mod Inside
 pub mod Followed
+pub mod Seeing

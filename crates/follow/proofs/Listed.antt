@@ -1,4 +1,4 @@
--- A replay of a party that is watched is one of the party, and the starts of its run are noted.
+-- A replay of a party that is watched is one of the party, and the starts of its run are kept.
 use Rattle.std.proofs.Common.{ℕ, zero, suc, ◌≡◌, ◌+◌, ◌∙◌, nat_lt, refl, sym, ap, List, [], ◌∷◌, ◌++◌, length, Bool, true, false, Option, Some, None, if◌then◌else◌, append_assoc}
 use Rattle.std.proofs.lemmas.List.{append-nil}
 use Rattle.beeb_bits.specs.declared.Side.{Side}
@@ -13,16 +13,27 @@ use Rattle.op_table.specs.declared.names.Part.{Part}
 use Rattle.follow.specs.declared.choice.Choice.{Choice}
 use Rattle.follow.specs.Sight.{Sight}
 use Rattle.follow.specs.Start.{StartState, start_of}
-use Rattle.follow.specs.Listing.{access_run, step_run, run_from, run_of, starts_of}
-use Rattle.follow.specs.CodeWatched.{Order, order, Watched, watched_of, watched_moves, noted, with_start}
+use Rattle.follow.specs.Listing.{access_run, step_run, run_from, run_of, starts_of, is_chosen, chosen_from}
+use Rattle.follow.specs.CodeNotes.{Kept, none_kept, keep, keep_all}
+use Rattle.follow.specs.CodeWatched.{Order, order, Watched, watched_of, watched_moves, noted, keep_if}
 
 -- before any start
-pub started : {S : Type 0} (s : S) (part : Part) (choice : Choice) (p : Part) (c : Choice) (starts : List StartState) → p ≡ part → c ≡ choice → starts ≡ [] →
-    watched_of s (order p c) starts ≡ watched_of s (order part choice) []
-started s part choice p c starts one two none =
-    ap (λ (x : Part). watched_of s (order x c) starts) one
-    ∙ ap (λ (x : Choice). watched_of s (order part x) starts) two
-    ∙ ap (λ (l : List StartState). watched_of s (order part choice) l) none
+pub started : {S : Type 0} (s : S) (part : Part) (choice : Choice) (p : Part) (c : Choice) (kept : Kept) → p ≡ part → c ≡ choice → kept ≡ none_kept →
+    watched_of s (order p c) kept ≡ watched_of s (order part choice) none_kept
+started s part choice p c kept one two none =
+    ap (λ (x : Part). watched_of s (order x c) kept) one
+    ∙ ap (λ (x : Choice). watched_of s (order part x) kept) two
+    ∙ ap (λ (k : Kept). watched_of s (order part choice) k) none
+
+-- what is kept of some starts, and of those that are chosen
+some_more : (is : Bool) (x : StartState) (xs ys zs : List StartState) → zs ≡ (if is then xs ++ x ∷ [] else xs) ++ ys → zs ≡ xs ++ (if is then x ∷ ys else ys)
+some_more true x xs ys zs e = e ∙ append_assoc xs (x ∷ []) ys
+some_more false x xs ys zs e = e
+
+pub chosen_kept : (choice : Choice) (kept : Kept) (starts : List StartState) → (keep_all choice kept starts).chosen ≡ kept.chosen ++ chosen_from choice kept.before starts
+chosen_kept choice kept [] = sym (append-nil kept.chosen)
+chosen_kept choice kept (x ∷ starts) =
+    some_more (is_chosen choice kept.before x.regs.pc x.watched) x kept.chosen (chosen_from choice (Some x.watched) starts) _ (chosen_kept choice (keep choice kept x) starts)
 
 module _ {S : Type 0} (m : Moves S) (sights : S → Sight) (set : Order) where
   abbrev v : Moves (Watched S)
@@ -31,84 +42,84 @@ module _ {S : Type 0} (m : Moves S) (sights : S → Sight) (set : Order) where
   abbrev told : List S → List StartState
   told states = starts_of m sights set.choice.watch states
 
-  abbrev pub ended_with : Ended S → List StartState → Ended (Watched S)
-  ended_with e starts = record { machine = watched_of e.machine set starts; place = e.place }
+  abbrev pub ended_with : Ended S → Kept → Ended (Watched S)
+  ended_with e kept = record { machine = watched_of e.machine set kept; place = e.place }
 
-  with_by : (is : Bool) (x : StartState) (starts xs : List StartState) → with_start is x starts ++ xs ≡ starts ++ (if is then x ∷ xs else xs)
-  with_by true x starts xs = append_assoc starts (x ∷ []) xs
-  with_by false x starts xs = refl
+  with_by : (is : Bool) (x : StartState) (kept : Kept) (xs : List StartState) → keep_all set.choice (keep_if is set.choice kept x) xs ≡ keep_all set.choice kept (if is then x ∷ xs else xs)
+  with_by true x kept xs = refl
+  with_by false x kept xs = refl
 
   told_by : (is : Bool) (s : S) (states : List S) → (sights s).starting ≡ is → told (s ∷ states) ≡ (if is then start_of m sights set.choice.watch s ∷ told states else told states)
   told_by true s states is = rw is refl
   told_by false s states is = rw is refl
 
   -- a state of the run, and those behind it
-  pub noted_on : (s : S) (starts : List StartState) (states : List S) → noted m sights s set.choice.watch starts ++ told states ≡ starts ++ told (s ∷ states)
-  noted_on s starts states =
-      with_by (sights s).starting (start_of m sights set.choice.watch s) starts (told states)
-      ∙ ap (λ (l : List StartState). starts ++ l) (sym (told_by (sights s).starting s states refl))
+  pub noted_on : (s : S) (kept : Kept) (states : List S) → keep_all set.choice (noted m sights s set.choice kept) (told states) ≡ keep_all set.choice kept (told (s ∷ states))
+  noted_on s kept states =
+      with_by (sights s).starting (start_of m sights set.choice.watch s) kept (told states)
+      ∙ ap (λ (l : List StartState). keep_all set.choice kept l) (sym (told_by (sights s).starting s states refl))
 
-  none_more : (e : Ended S) (starts : List StartState) → ended_with e starts ≡ ended_with e (starts ++ told [])
-  none_more e starts = ap (λ (l : List StartState). ended_with e l) (sym (append-nil starts))
+  none_more : (e : Ended S) (kept : Kept) → ended_with e kept ≡ ended_with e (keep_all set.choice kept (told []))
+  none_more e kept = refl
 
   module _ (side : Side) (trace : List Entry) (n : ℕ) where
     -- that holds of so many steps
     abbrev Holds : ℕ → Type 0
-    Holds k = (s : S) (starts : List StartState) (own : List Numbered) →
-        replay_from v side trace n k (watched_of s set starts) own ≡ ended_with (replay_from m side trace n k s own) (starts ++ told (run_from m side trace n k s own))
+    Holds k = (s : S) (kept : Kept) (own : List Numbered) →
+        replay_from v side trace n k (watched_of s set kept) own ≡ ended_with (replay_from m side trace n k s own) (keep_all set.choice kept (told (run_from m side trace n k s own)))
 
     -- behind a step from s
-    on_by : (k : ℕ) → Holds k → (s t : S) (starts : List StartState) (own : List Numbered) →
-        replay_from v side trace n k (watched_of t set (noted m sights s set.choice.watch starts)) own
-        ≡ ended_with (replay_from m side trace n k t own) (starts ++ told (s ∷ run_from m side trace n k t own))
-    on_by k on s t starts own =
-        on t (noted m sights s set.choice.watch starts) own
-        ∙ ap (λ (l : List StartState). ended_with (replay_from m side trace n k t own) l) (noted_on s starts (run_from m side trace n k t own))
+    on_by : (k : ℕ) → Holds k → (s t : S) (kept : Kept) (own : List Numbered) →
+        replay_from v side trace n k (watched_of t set (noted m sights s set.choice kept)) own
+        ≡ ended_with (replay_from m side trace n k t own) (keep_all set.choice kept (told (s ∷ run_from m side trace n k t own)))
+    on_by k on s t kept own =
+        on t (noted m sights s set.choice kept) own
+        ∙ ap (λ (x : Kept). ended_with (replay_from m side trace n k t own) x) (noted_on s kept (run_from m side trace n k t own))
 
-    that_by : (k : ℕ) → Holds k → (s : S) (starts : List StartState) (op : Op) (x : Numbered) (own : List Numbered) (is : Bool) →
-        (if is then replay_from v side trace n k (v.next (watched_of s set starts) (Some (Byte x.entry.answer))) own else differs v side (watched_of s set starts) op x.line)
+    that_by : (k : ℕ) → Holds k → (s : S) (kept : Kept) (op : Op) (x : Numbered) (own : List Numbered) (is : Bool) →
+        (if is then replay_from v side trace n k (v.next (watched_of s set kept) (Some (Byte x.entry.answer))) own else differs v side (watched_of s set kept) op x.line)
         ≡ ended_with (if is then replay_from m side trace n k (m.next s (Some (Byte x.entry.answer))) own else differs m side s op x.line)
-        (starts ++ told (if is then s ∷ run_from m side trace n k (m.next s (Some (Byte x.entry.answer))) own else []))
-    that_by k on s starts op x own true = on_by k on s (m.next s (Some (Byte x.entry.answer))) starts own
-    that_by k on s starts op x own false = none_more (differs m side s op x.line) starts
+        (keep_all set.choice kept (told (if is then s ∷ run_from m side trace n k (m.next s (Some (Byte x.entry.answer))) own else [])))
+    that_by k on s kept op x own true = on_by k on s (m.next s (Some (Byte x.entry.answer))) kept own
+    that_by k on s kept op x own false = none_more (differs m side s op x.line) kept
 
-    access_by : (k : ℕ) → Holds k → (s : S) (starts : List StartState) (op : Op) (own : List Numbered) →
-        access_step v side (length trace) (watched_of s set starts) op own (replay_from v side trace n k)
-        ≡ ended_with (access_step m side (length trace) s op own (replay_from m side trace n k)) (starts ++ told (access_run m s op own (run_from m side trace n k)))
-    access_by k on s starts op [] = none_more (differs m side s op (length trace + 1)) starts
-    access_by k on s starts op (x ∷ own) = that_by k on s starts op x own (is_that x.entry (m.due s) op)
+    access_by : (k : ℕ) → Holds k → (s : S) (kept : Kept) (op : Op) (own : List Numbered) →
+        access_step v side (length trace) (watched_of s set kept) op own (replay_from v side trace n k)
+        ≡ ended_with (access_step m side (length trace) s op own (replay_from m side trace n k)) (keep_all set.choice kept (told (access_run m s op own (run_from m side trace n k))))
+    access_by k on s kept op [] = none_more (differs m side s op (length trace + 1)) kept
+    access_by k on s kept op (x ∷ own) = that_by k on s kept op x own (is_that x.entry (m.due s) op)
 
-    step_by : (k : ℕ) → Holds k → (s : S) (starts : List StartState) (own : List Numbered) (o : Option Query) →
-        one_step v side trace (watched_of s set starts) own o (replay_from v side trace n k)
-        ≡ ended_with (one_step m side trace s own o (replay_from m side trace n k)) (starts ++ told (step_run m side trace s own o (run_from m side trace n k)))
-    step_by k on s starts own None = on_by k on s (m.next s None) starts own
-    step_by k on s starts own (Some look) = on_by k on s (m.next s (Some (Seen (lines_of (chip_before side (m.due s) power_on trace))))) starts own
-    step_by k on s starts own (Some (access op)) = access_by k on s starts op own
+    step_by : (k : ℕ) → Holds k → (s : S) (kept : Kept) (own : List Numbered) (o : Option Query) →
+        one_step v side trace (watched_of s set kept) own o (replay_from v side trace n k)
+        ≡ ended_with (one_step m side trace s own o (replay_from m side trace n k)) (keep_all set.choice kept (told (step_run m side trace s own o (run_from m side trace n k))))
+    step_by k on s kept own None = on_by k on s (m.next s None) kept own
+    step_by k on s kept own (Some look) = on_by k on s (m.next s (Some (Seen (lines_of (chip_before side (m.due s) power_on trace))))) kept own
+    step_by k on s kept own (Some (access op)) = access_by k on s kept op own
 
-    low_by : (k : ℕ) → Holds k → (s : S) (starts : List StartState) (own : List Numbered) (low : Bool) →
-        (if low then one_step v side trace (watched_of s set starts) own (m.asks s) (replay_from v side trace n k) else finish_leaves v n (watched_of s set starts) own)
+    low_by : (k : ℕ) → Holds k → (s : S) (kept : Kept) (own : List Numbered) (low : Bool) →
+        (if low then one_step v side trace (watched_of s set kept) own (m.asks s) (replay_from v side trace n k) else finish_leaves v n (watched_of s set kept) own)
         ≡ ended_with (if low then one_step m side trace s own (m.asks s) (replay_from m side trace n k) else finish_leaves m n s own)
-        (starts ++ told (if low then step_run m side trace s own (m.asks s) (run_from m side trace n k) else []))
-    low_by k on s starts own true = step_by k on s starts own (m.asks s)
-    low_by k on s starts own false = none_more (finish_leaves m n s own) starts
+        (keep_all set.choice kept (told (if low then step_run m side trace s own (m.asks s) (run_from m side trace n k) else [])))
+    low_by k on s kept own true = step_by k on s kept own (m.asks s)
+    low_by k on s kept own false = none_more (finish_leaves m n s own) kept
 
     watched_from : (k : ℕ) → Holds k
-    watched_from zero s starts own = none_more (finish_leaves m n s own) starts
-    watched_from (suc k) s starts own = low_by k (watched_from k) s starts own (nat_lt (m.due s) n)
+    watched_from zero s kept own = none_more (finish_leaves m n s own) kept
+    watched_from (suc k) s kept own = low_by k (watched_from k) s kept own (nat_lt (m.due s) n)
 
-    pub replay_watched : (s : S) → replay_of v side trace n (watched_of s set []) ≡ ended_with (replay_of m side trace n s) (told (run_of m side trace n s))
+    pub replay_watched : (s : S) → replay_of v side trace n (watched_of s set none_kept) ≡ ended_with (replay_of m side trace n s) (keep_all set.choice none_kept (told (run_of m side trace n s)))
     unfolding replay_of run_of
-    replay_watched s = watched_from n s [] (own_from side n 1 trace)
+    replay_watched s = watched_from n s none_kept (own_from side n 1 trace)
 
-    pub place_of : (s : S) (w : Watched S) → w ≡ watched_of s set [] → (replay_of v side trace n w).place ≡ (replay_of m side trace n s).place
+    pub place_of : (s : S) (w : Watched S) → w ≡ watched_of s set none_kept → (replay_of v side trace n w).place ≡ (replay_of m side trace n s).place
     place_of s w is = ap (λ (x : Watched S). (replay_of v side trace n x).place) is ∙ ap (λ (e : Ended (Watched S)). e.place) (replay_watched s)
 
-    machine_of : (s : S) (w : Watched S) → w ≡ watched_of s set [] →
-        (replay_of v side trace n w).machine ≡ watched_of (replay_of m side trace n s).machine set (told (run_of m side trace n s))
+    machine_of : (s : S) (w : Watched S) → w ≡ watched_of s set none_kept →
+        (replay_of v side trace n w).machine ≡ watched_of (replay_of m side trace n s).machine set (keep_all set.choice none_kept (told (run_of m side trace n s)))
     machine_of s w is = ap (λ (x : Watched S). (replay_of v side trace n x).machine) is ∙ ap (λ (e : Ended (Watched S)). e.machine) (replay_watched s)
 
-    pub starts_after : (s : S) (w new : Watched S) → w ≡ watched_of s set [] → new ≡ (replay_of v side trace n w).machine → new.starts ≡ told (run_of m side trace n s)
-    starts_after s w new is ends = ap (λ (x : Watched S). x.starts) (ends ∙ machine_of s w is)
+    pub kept_after : (s : S) (w new : Watched S) → w ≡ watched_of s set none_kept → new ≡ (replay_of v side trace n w).machine → new.kept ≡ keep_all set.choice none_kept (told (run_of m side trace n s))
+    kept_after s w new is ends = ap (λ (x : Watched S). x.kept) (ends ∙ machine_of s w is)
 
-    pub order_after : (s : S) (w new : Watched S) → w ≡ watched_of s set [] → new ≡ (replay_of v side trace n w).machine → new.order ≡ set
+    pub order_after : (s : S) (w new : Watched S) → w ≡ watched_of s set none_kept → new ≡ (replay_of v side trace n w).machine → new.order ≡ set
     order_after s w new is ends = ap (λ (x : Watched S). x.order) (ends ∙ machine_of s w is)

@@ -1,16 +1,22 @@
--- The steps of a party are those of the party that is watched, with the starts noted.
-use Rattle.std.proofs.Common.{ℕ, zero, suc, ◌≡◌, ◌≤◌, ◌<◌, ◌∙◌, max, refl, sym, ap, subst, arith, List, [], ◌∷◌, ◌++◌, Bool, true, false, Option, Some, None, ◌⊎◌, inl, inr}
+-- The steps of a party are those of the party that is watched, with what is kept of the starts.
+use Rattle.std.proofs.Common.{ℕ, zero, suc, ◌≡◌, ◌≤◌, ◌<◌, ◌∙◌, max, refl, sym, ap, subst, arith, [], ◌∷◌, ◌++◌, Bool, true, false, Option, Some, None, if◌then◌else◌, ◌⊎◌, inl, inr}
 use Rattle.std.specs.Prelude.{MatchOption}
 use Rattle.std.proofs.lemmas.Bool.{cases_lt}
 use Rattle.beeb_bits.specs.declared.Side.TheVariants.{Host}
 use Rattle.tube_chip.specs.Act.{Query, look}
 use Rattle.tube_chip.specs.declared.Answer.{Answer}
+use Rattle.tube_chip.specs.declared.Answer.TheVariants.{Seen}
+use Rattle.tube_chip.specs.declared.Lines.{Lines}
 use Rattle.tube_party.specs.declared.party.Ask.{Ask}
 use Rattle.tube_party.specs.declared.party.Ask.TheVariants.{Nothing, Access, Look}
-use Rattle.tube_party.specs.Moves.{Moves, IsClosing, Runs, Advances, IsAsk, IsAskedFor, FitsAnswer, course}
+use Rattle.tube_party.specs.Moves.{Moves, IsClosing, Runs, Looks, Advances, IsAsk, IsAskedFor, FitsAnswer, shown_lines, course}
+use Rattle.tube_party.specs.Steps.{silent_all, look_last, looks_on}
+use Rattle.tube_machine.specs.declared.pass.Passing.{Passing}
+use Rattle.tube_machine.specs.Passing.{IsOver, ToLook, Passes}
 use Rattle.follow.specs.Sight.{Sight, IsSeen, IsSame}
 use Rattle.follow.specs.Start.{StartState, start_of}
-use Rattle.follow.specs.CodeWatched.{Order, Watched, watched_of, watched_moves, noted, with_start}
+use Rattle.follow.specs.CodeNotes.{Kept, LeavesKept, kept_of, keep}
+use Rattle.follow.specs.CodeWatched.{Order, Watched, watched_of, watched_moves, noted, keep_if}
 
 -- ---- A party seen in another way
 
@@ -77,8 +83,8 @@ module _ {T : Type 0} (w : Moves T) (sights : T → Sight) (seen : IsSeen w sigh
   abbrev watch : Option ℕ
   watch = set.choice.watch
 
-  abbrev with_starts : T → List StartState → Watched T
-  with_starts t starts = watched_of t set starts
+  abbrev with_kept : T → Kept → Watched T
+  with_kept t kept = watched_of t set kept
 
   abbrev v : Moves (Watched T)
   v = watched_moves w sights
@@ -86,37 +92,37 @@ module _ {T : Type 0} (w : Moves T) (sights : T → Sight) (seen : IsSeen w sigh
   abbrev Silent : ℕ → ℕ → T → T → Type 0
   Silent n k t last = Runs w Host n k t (course [] last)
 
-  abbrev SilentWith : ℕ → ℕ → T → List StartState → T → List StartState → Type 0
-  SilentWith n k t starts last more = Runs v Host n k (with_starts t starts) (course [] (with_starts last more))
+  abbrev SilentWith : ℕ → ℕ → T → Kept → T → Kept → Type 0
+  SilentWith n k t kept last more = Runs v Host n k (with_kept t kept) (course [] (with_kept last more))
 
   -- no start follows a step that asks nothing
   no_start : (t : T) → w.asks t ≡ None → (sights (w.next t None)).starting ≡ false
   no_start t none = never _ (λ is. let asks : w.asks t ≡ Some look = seen.behind t None is in cc)
 
-  later_by : (n k : ℕ) (t last : T) (starts : List StartState) (o : Option Query) → w.asks t ≡ o → ((u : T) → (sights u).starting ≡ false → Silent n k u last → SilentWith n k u starts last starts) →
+  later_by : (n k : ℕ) (t last : T) (kept : Kept) (o : Option Query) → w.asks t ≡ o → ((u : T) → (sights u).starting ≡ false → Silent n k u last → SilentWith n k u kept last kept) →
       MatchOption o (Silent n k (w.next t None) last) (λ q. ⊥) →
-      MatchOption o (SilentWith n k (w.next t None) starts last starts) (λ q. ⊥)
-  later_by n k t last starts None is on h = on (w.next t None) (no_start t is) h
-  later_by n k t last starts (Some q) is on h = h
+      MatchOption o (SilentWith n k (w.next t None) kept last kept) (λ q. ⊥)
+  later_by n k t last kept None is on h = on (w.next t None) (no_start t is) h
+  later_by n k t last kept (Some q) is on h = h
 
-  with_notes : (n k : ℕ) (t last : T) (one two more : List StartState) (o : Option Query) → two ≡ one →
+  with_notes : (n k : ℕ) (t last : T) (one two more : Kept) (o : Option Query) → two ≡ one →
       MatchOption o (SilentWith n k (w.next t None) one last more) (λ q. ⊥) → MatchOption o (SilentWith n k (w.next t None) two last more) (λ q. ⊥)
-  with_notes n k t last one two more o same h = subst (λ (l : List StartState). MatchOption o (SilentWith n k (w.next t None) l last more) (λ q. ⊥)) (sym same) h
+  with_notes n k t last one two more o same h = subst (λ (x : Kept). MatchOption o (SilentWith n k (w.next t None) x last more) (λ q. ⊥)) (sym same) h
 
   -- steps from a state that is no start
-  silent_later : (n k : ℕ) (t last : T) (starts : List StartState) → (sights t).starting ≡ false → Silent n k t last → SilentWith n k t starts last starts
-  silent_later n zero t last starts is h = (refl, ap (λ (u : T). with_starts u starts) h.1)
-  silent_later n (suc k) t last starts is h =
-      let same : noted w sights t watch starts ≡ starts = ap (λ (b : Bool). with_start b (start_of w sights watch t) starts) is in (
+  silent_later : (n k : ℕ) (t last : T) (kept : Kept) → (sights t).starting ≡ false → Silent n k t last → SilentWith n k t kept last kept
+  silent_later n zero t last kept is h = (refl, ap (λ (u : T). with_kept u kept) h.1)
+  silent_later n (suc k) t last kept is h =
+      let same : noted w sights t set.choice kept ≡ kept = ap (λ (b : Bool). keep_if b set.choice kept (start_of w sights watch t)) is in (
         h.0,
-        with_notes n k t last starts (noted w sights t watch starts) starts (w.asks t) same
-            (later_by n k t last starts (w.asks t) refl (λ u no_more on. silent_later n k u last starts no_more on) h.1),
+        with_notes n k t last kept (noted w sights t set.choice kept) kept (w.asks t) same
+            (later_by n k t last kept (w.asks t) refl (λ u no_more on. silent_later n k u last kept no_more on) h.1),
       )
 
   -- some steps from any state, which is noted if it is one
-  silent_first : (n k : ℕ) (t last : T) (starts : List StartState) → Silent n (suc k) t last → SilentWith n (suc k) t starts last (noted w sights t watch starts)
-  silent_first n k t last starts h =
-      (h.0, later_by n k t last (noted w sights t watch starts) (w.asks t) refl (λ u no_more on. silent_later n k u last _ no_more on) h.1)
+  silent_first : (n k : ℕ) (t last : T) (kept : Kept) → Silent n (suc k) t last → SilentWith n (suc k) t kept last (noted w sights t set.choice kept)
+  silent_first n k t last kept h =
+      (h.0, later_by n k t last (noted w sights t set.choice kept) (w.asks t) refl (λ u no_more on. silent_later n k u last _ no_more on) h.1)
 
   -- the tick rises
   rises_by : (n k : ℕ) (t last : T) (o : Option Query) → ((u : T) → Silent n k u last → w.due u ≤ w.due last) →
@@ -146,10 +152,10 @@ module _ {T : Type 0} (w : Moves T) (sights : T → Sight) (seen : IsSeen w sigh
   due_asked n last (Access t op) new h = ap (λ (u : T). w.due u) h.3
   due_asked n last (Look t) new h = ap (λ (u : T). w.due u) h.3
 
-  ask_with : (n : ℕ) (last : T) (ask : Ask) (new : T) (starts : List StartState) → IsAsk w n last ask new → IsAsk v n (with_starts last starts) ask (with_starts new starts)
-  ask_with n last Nothing new starts h = (h.0, ap (λ (t : T). with_starts t starts) h.1)
-  ask_with n last (Access t op) new starts h = (h.0, h.1, h.2, ap (λ (u : T). with_starts u starts) h.3)
-  ask_with n last (Look t) new starts h = (h.0, h.1, h.2, ap (λ (u : T). with_starts u starts) h.3)
+  ask_with : (n : ℕ) (last : T) (ask : Ask) (new : T) (kept : Kept) → IsAsk w n last ask new → IsAsk v n (with_kept last kept) ask (with_kept new kept)
+  ask_with n last Nothing new kept h = (h.0, ap (λ (t : T). with_kept t kept) h.1)
+  ask_with n last (Access t op) new kept h = (h.0, h.1, h.2, ap (λ (u : T). with_kept u kept) h.3)
+  ask_with n last (Look t) new kept h = (h.0, h.1, h.2, ap (λ (u : T). with_kept u kept) h.3)
 
   -- the tick never falls
   pub due_advanced : (n : ℕ) (t new : T) (ask : Ask) → Advances w n t ask new → w.due t ≤ w.due new
@@ -159,43 +165,43 @@ module _ {T : Type 0} (w : Moves T) (sights : T → Sight) (seen : IsSeen w sigh
       omega arith
 
   -- from a state that is no start
-  pub advances_plain : (n : ℕ) (t new : T) (ask : Ask) (starts : List StartState) → (sights t).starting ≡ false → Advances w n t ask new →
-      Advances v n (with_starts t starts) ask (with_starts new starts)
-  advances_plain n t new ask starts is h =
-      record { steps = h.steps; last = with_starts h.last starts; runs = silent_later n h.steps t h.last starts is h.runs; asked = ask_with n h.last ask new starts h.asked }
+  pub advances_plain : (n : ℕ) (t new : T) (ask : Ask) (kept : Kept) → (sights t).starting ≡ false → Advances w n t ask new →
+      Advances v n (with_kept t kept) ask (with_kept new kept)
+  advances_plain n t new ask kept is h =
+      record { steps = h.steps; last = with_kept h.last kept; runs = silent_later n h.steps t h.last kept is h.runs; asked = ask_with n h.last ask new kept h.asked }
 
-  by_steps : (n : ℕ) (t new last : T) (ask : Ask) (starts : List StartState) (k : ℕ) → Silent n k t last → IsAsk w n last ask new → w.due new ≤ w.due t →
-      Advances v n (with_starts t starts) ask (with_starts new starts)
-  by_steps n t new last ask starts zero runs asked low =
-      record { steps = zero; last = with_starts last starts; runs = (refl, ap (λ (u : T). with_starts u starts) runs.1); asked = ask_with n last ask new starts asked }
-  by_steps n t new last ask starts (suc k) runs asked low =
+  by_steps : (n : ℕ) (t new last : T) (ask : Ask) (kept : Kept) (k : ℕ) → Silent n k t last → IsAsk w n last ask new → w.due new ≤ w.due t →
+      Advances v n (with_kept t kept) ask (with_kept new kept)
+  by_steps n t new last ask kept zero runs asked low =
+      record { steps = zero; last = with_kept last kept; runs = (refl, ap (λ (u : T). with_kept u kept) runs.1); asked = ask_with n last ask new kept asked }
+  by_steps n t new last ask kept (suc k) runs asked low =
       let up : w.due t < w.due last = rises n k t last runs in
       let same : w.due new ≡ w.due last = due_asked n last ask new asked in
       absurd (omega arith)
 
   -- where no step was done
-  pub advances_still : (n : ℕ) (t new : T) (ask : Ask) (starts : List StartState) → Advances w n t ask new → w.due new ≤ w.due t →
-      Advances v n (with_starts t starts) ask (with_starts new starts)
-  advances_still n t new ask starts h low = by_steps n t new h.last ask starts h.steps h.runs h.asked low
+  pub advances_still : (n : ℕ) (t new : T) (ask : Ask) (kept : Kept) → Advances w n t ask new → w.due new ≤ w.due t →
+      Advances v n (with_kept t kept) ask (with_kept new kept)
+  advances_still n t new ask kept h low = by_steps n t new h.last ask kept h.steps h.runs h.asked low
 
-  first_by : (n : ℕ) (t new last : T) (ask : Ask) (starts : List StartState) (k : ℕ) → Silent n k t last → IsAsk w n last ask new → w.due t < w.due new →
-      Advances v n (with_starts t starts) ask (with_starts new (noted w sights t watch starts))
-  first_by n t new last ask starts zero runs asked up =
+  first_by : (n : ℕ) (t new last : T) (ask : Ask) (kept : Kept) (k : ℕ) → Silent n k t last → IsAsk w n last ask new → w.due t < w.due new →
+      Advances v n (with_kept t kept) ask (with_kept new (noted w sights t set.choice kept))
+  first_by n t new last ask kept zero runs asked up =
       let same : w.due new ≡ w.due last = due_asked n last ask new asked in
       let here : w.due t ≡ w.due last = ap (λ (u : T). w.due u) runs.1 in
       absurd (omega arith)
-  first_by n t new last ask starts (suc k) runs asked up =
+  first_by n t new last ask kept (suc k) runs asked up =
       record {
         steps = suc k;
-        last = with_starts last (noted w sights t watch starts);
-        runs = silent_first n k t last starts runs;
-        asked = ask_with n last ask new (noted w sights t watch starts) asked;
+        last = with_kept last (noted w sights t set.choice kept);
+        runs = silent_first n k t last kept runs;
+        asked = ask_with n last ask new (noted w sights t set.choice kept) asked;
       }
 
   -- where one was
-  pub advances_noted : (n : ℕ) (t new : T) (ask : Ask) (starts : List StartState) → Advances w n t ask new → w.due t < w.due new →
-      Advances v n (with_starts t starts) ask (with_starts new (noted w sights t watch starts))
-  advances_noted n t new ask starts h up = first_by n t new h.last ask starts h.steps h.runs h.asked up
+  pub advances_noted : (n : ℕ) (t new : T) (ask : Ask) (kept : Kept) → Advances w n t ask new → w.due t < w.due new →
+      Advances v n (with_kept t kept) ask (with_kept new (noted w sights t set.choice kept))
+  advances_noted n t new ask kept h up = first_by n t new h.last ask kept h.steps h.runs h.asked up
 
   -- where the next step is not below n
   pub no_step : (n : ℕ) (t new : T) (ask : Ask) → Advances w n t ask new → n ≤ w.due t → w.due new ≤ w.due t
@@ -220,10 +226,64 @@ module _ {T : Type 0} (w : Moves T) (sights : T → Sight) (seen : IsSeen w sigh
   step_below n t new ask h up = below n (w.due t) (λ high. let still : w.due new ≤ w.due t = no_step n t new ask h high in omega (arith, up, still))
 
   -- what was noted of a start
-  pub is_noted : (t new : T) (x : StartState) (starts more : List StartState) (other : Order) → (sights t).starting ≡ true → x ≡ start_of w sights watch t →
-      more ≡ starts ++ x ∷ [] → other ≡ set → watched_of new set (noted w sights t watch starts) ≡ watched_of new other more
-  is_noted t new x starts more other start told is same =
-      ap (λ (b : Bool). watched_of new set (with_start b (start_of w sights watch t) starts)) start
-      ∙ ap (λ (z : StartState). watched_of new set (starts ++ z ∷ [])) (sym told)
-      ∙ ap (λ (l : List StartState). watched_of new set l) (sym is)
-      ∙ ap (λ (o : Order). watched_of new o more) (sym same)
+  pub is_noted : (t new : T) (x : StartState) (kept after : Kept) (other : Order) → (sights t).starting ≡ true → x ≡ start_of w sights watch t →
+      after ≡ keep set.choice kept x → other ≡ set → watched_of new set (noted w sights t set.choice kept) ≡ watched_of new other after
+  is_noted t new x kept after other start told is same =
+      ap (λ (b : Bool). watched_of new set (keep_if b set.choice kept (start_of w sights watch t))) start
+      ∙ ap (λ (z : StartState). watched_of new set (keep set.choice kept z)) (sym told)
+      ∙ ap (λ (k : Kept). watched_of new set k) (sym is)
+      ∙ ap (λ (o : Order). watched_of new o after) (sym same)
+
+  -- ---- Starts that are passed over
+
+  module _ (n : ℕ) (kept : Kept) where
+    -- silent steps from a state that leaves what is kept, and each of them leaves it
+    quiet_by : (k : ℕ) (t last : T) (o : Option Query) → w.asks t ≡ o → ((u : T) → noted w sights u set.choice kept ≡ kept → Silent n k u last → SilentWith n k u kept last kept × (noted w sights last set.choice kept ≡ kept)) →
+        MatchOption o (Silent n k (w.next t None) last) (λ q. ⊥) →
+        MatchOption o (SilentWith n k (w.next t None) kept last kept) (λ q. ⊥) × (noted w sights last set.choice kept ≡ kept)
+    quiet_by k t last None is on h =
+        on (w.next t None) (ap (λ (b : Bool). keep_if b set.choice kept (start_of w sights watch (w.next t None))) (no_start t is)) h
+    quiet_by k t last (Some q) is on h = absurd h
+
+    quiet_on : (k : ℕ) (t last : T) → noted w sights t set.choice kept ≡ kept → Silent n k t last → SilentWith n k t kept last kept × (noted w sights last set.choice kept ≡ kept)
+    quiet_on zero t last leaves h =
+        ((refl, ap (λ (u : T). with_kept u kept) h.1), subst (λ (u : T). noted w sights u set.choice kept ≡ kept) h.1 leaves)
+    quiet_on (suc k) t last leaves h =
+        let more = quiet_by k t last (w.asks t) refl (λ u no_more on. quiet_on k u last no_more on) h.1 in
+        ((h.0, with_notes n k t last kept (noted w sights t set.choice kept) kept (w.asks t) leaves more.0), more.1)
+
+    module _ (lines : Lines) (sure : ℕ) where
+      -- and then the look
+      to_look : (t u : T) → noted w sights t set.choice kept ≡ kept → ToLook w n (shown_lines lines sure) t u → (k : ℕ) × Looks v n (shown_lines lines sure) k (with_kept t kept) (with_kept u kept)
+      to_look t u leaves looks =
+          let last : T = looks.goes.last in
+          let silent = quiet_on looks.goes.steps t last leaves looks.goes.runs in
+          let there : looks.last ≡ last = looks.goes.asked.3 in
+          let low : w.due last < n = omega (arith, looks.goes.asked.0, looks.goes.asked.1) in
+          let early : w.due last < sure = omega (arith, looks.goes.asked.0, looks.sure) in
+          let on : with_kept (w.next last (Some (Seen lines))) (noted w sights last set.choice kept) ≡ with_kept u kept =
+          ap (λ (x : Kept). with_kept (w.next last (Some (Seen lines))) x) silent.1 ∙ ap (λ (x : T). with_kept (w.next x (Some (Seen lines))) kept) (sym there) ∙ ap (λ (x : T). with_kept x kept) (sym looks.next) in
+          let all = look_last v n lines sure looks.goes.steps (with_kept t kept) (with_kept last kept) (silent_all v n lines sure looks.goes.steps (with_kept t kept) (with_kept last kept) silent.0)
+          low looks.goes.asked.2 early in
+          (suc looks.goes.steps, subst (λ (x : Watched T). Looks v n (shown_lines lines sure) (suc looks.goes.steps) (with_kept t kept) x) on all)
+
+      -- so many times
+      pub passes_on : (over : T → Type 0) (k : ℕ) (t last : T) → ((u : T) → over u → noted w sights u set.choice kept ≡ kept) → Passes w over n (shown_lines lines sure) k t last →
+          (j : ℕ) × Looks v n (shown_lines lines sure) j (with_kept t kept) (with_kept last kept)
+      passes_on over zero t last leaves h = (0, ap (λ (u : T). with_kept u kept) h)
+      passes_on over (suc k) t last leaves h =
+          let u : T = h.1.0 in
+          let one = to_look t u (leaves t h.0) h.1.1.0 in
+          let rest = passes_on over k u last leaves h.1.1.1 in
+          looks_on v n lines sure one.0 rest.0 (with_kept t kept) (with_kept u kept) (with_kept last kept) one.1 rest.1
+
+  -- a start that is passed over leaves what is kept
+  pub leaves_noted : (passing : Passing) (kept : Kept) (t : T) → LeavesKept set.choice kept.before passing → IsOver passing (sights t).regs.pc (sights t).peek → noted w sights t set.choice kept ≡ kept
+  leaves_noted passing kept t leaves over = by (sights t).starting
+    where
+      by : (is : Bool) → keep_if is set.choice kept (start_of w sights watch t) ≡ kept
+      by false = refl
+      by true =
+          let x : StartState = start_of w sights watch t in
+          let left = leaves (sights t).regs.pc (sights t).peek over in
+          ap (λ (b : Bool). kept_of (if b then kept.chosen ++ x ∷ [] else kept.chosen) (Some x.watched)) left.0 ∙ ap (λ (o : Option (Option ℕ)). kept_of kept.chosen o) (sym left.1)

@@ -1,11 +1,12 @@
--- A party that keeps what is told of the starts from which it did a step.
-use Rattle.std.specs.Prelude.{ℕ, zero, suc, ◌≡◌, ◌+◌, nat_lt, List, [], ◌∷◌, ◌++◌, Bool, Option, None, Some, if◌then◌else◌, refl}
+-- A party that keeps the chosen ones of the starts from which it did a step.
+use Rattle.std.specs.Prelude.{ℕ, zero, suc, ◌≡◌, ◌+◌, nat_lt, List, Bool, Option, None, Some, if◌then◌else◌, refl}
 use Rattle.std.proofs.Common.{ap, ◌∙◌}
 use Rattle.op_table.specs.declared.names.Part.{Part}
 use Rattle.cpu_alu.specs.declared.Regs.{Regs}
 use Rattle.tube_party.specs.Moves.{Moves, IsLawful, IsClosing}
 use Rattle.follow.specs.declared.choice.Choice.{Choice}
 use Rattle.follow.specs.Sight.{Sight, IsSameSight, IsSeen}
+use Rattle.follow.specs.CodeNotes.{Kept, keep}
 use Rattle.follow.specs.Start.{StartState, front, byte_at, bytes_from, watched_byte, start_at, start_of}
 
 -- what is listed of a machine of this part
@@ -16,31 +17,31 @@ pub record Order : Type 0 where
 abbrev pub order : Part → Choice → Order
 order part choice = record { part = part; choice = choice }
 
--- A party, what is to be listed of it, and the starts from which it did a step.
+-- A party, what is to be listed of it, and what is kept of the starts from which it did a step.
 pub record Watched (S : Type 0) : Type 0 where
   pub now : S
   pub order : Order
-  pub starts : List StartState
+  pub kept : Kept
 
-abbrev pub watched_of : {S : Type 0} → S → Order → List StartState → Watched S
-watched_of s order starts = record { now = s; order = order; starts = starts }
+abbrev pub watched_of : {S : Type 0} → S → Order → Kept → Watched S
+watched_of s order kept = record { now = s; order = order; kept = kept }
 
-abbrev pub with_start : Bool → StartState → List StartState → List StartState
-with_start is x starts = if is then starts ++ x ∷ [] else starts
+abbrev pub keep_if : Bool → Choice → Kept → StartState → Kept
+keep_if is choice k x = if is then keep choice k x else k
 
 module _ {S : Type 0} (m : Moves S) (sights : S → Sight) where
-  -- the starts, with this state if it is one
-  abbrev pub noted : S → Option ℕ → List StartState → List StartState
-  noted s watch starts = with_start (sights s).starting (start_of m sights watch s) starts
+  -- what is kept, with this state if it is a start
+  abbrev pub noted : S → Choice → Kept → Kept
+  noted s choice kept = keep_if (sights s).starting choice kept (start_of m sights choice.watch s)
 
   -- Its steps are the party's.
   abbrev pub watched_moves : Moves (Watched S)
   watched_moves = record {
     due = λ w. m.due w.now;
     asks = λ w. m.asks w.now;
-    next = λ w a. watched_of (m.next w.now a) w.order (noted w.now w.order.choice.watch w.starts);
+    next = λ w a. watched_of (m.next w.now a) w.order (noted w.now w.order.choice w.kept);
     closed = λ w. m.closed w.now;
-    close = λ w t. watched_of (m.close w.now t) w.order w.starts;
+    close = λ w t. watched_of (m.close w.now t) w.order w.kept;
   }
 
   front_same : (a b : Option ℕ) (xs ys : List ℕ) → a ≡ b → xs ≡ ys → front a xs ≡ front b ys
@@ -62,12 +63,12 @@ module _ {S : Type 0} (m : Moves S) (sights : S → Sight) where
       ∙ ap (λ (o : Option ℕ). record { tick = tick; regs = b.regs; code = bytes_from b.peek 3 b.regs.pc; watched = o }) (watched_same watch a.peek b.peek same.peek)
 
   -- closing the party changes nothing of what is noted
-  noted_closed : (s : S) (watch : Option ℕ) (starts : List StartState) (t : ℕ) → IsSameSight (sights (m.close s t)) (sights s) → m.due (m.close s t) ≡ m.due s →
-      noted (m.close s t) watch starts ≡ noted s watch starts
-  noted_closed s watch starts t same due =
-      ap (λ (b : Bool). with_start b (start_of m sights watch (m.close s t)) starts) same.starting
-      ∙ ap (λ (x : StartState). with_start (sights s).starting x starts)
-      (ap (λ (d : ℕ). start_at d watch (sights (m.close s t))) due ∙ start_same (m.due s) watch (sights (m.close s t)) (sights s) same)
+  noted_closed : (s : S) (choice : Choice) (kept : Kept) (t : ℕ) → IsSameSight (sights (m.close s t)) (sights s) → m.due (m.close s t) ≡ m.due s →
+      noted (m.close s t) choice kept ≡ noted s choice kept
+  noted_closed s choice kept t same due =
+      ap (λ (b : Bool). keep_if b choice kept (start_of m sights choice.watch (m.close s t))) same.starting
+      ∙ ap (λ (x : StartState). keep_if (sights s).starting choice kept x)
+      (ap (λ (d : ℕ). start_at d choice.watch (sights (m.close s t))) due ∙ start_same (m.due s) choice.watch (sights (m.close s t)) (sights s) same)
 
   pub watched_lawful : IsSeen m sights → IsLawful watched_moves
   watched_lawful seen = record {
@@ -79,8 +80,8 @@ module _ {S : Type 0} (m : Moves S) (sights : S → Sight) where
           due = closing.due;
           asks = closing.asks;
           next = λ a.
-              ap (λ (s : S). watched_of s w.order (noted (m.close w.now t) w.order.choice.watch w.starts)) (closing.next a)
-              ∙ ap (λ (l : List StartState). watched_of (m.next w.now a) w.order l) (noted_closed w.now w.order.choice.watch w.starts t (seen.closing w.now t) closing.due);
-          again = λ u low2 high2. ap (λ (s : S). watched_of s w.order w.starts) (closing.again u low2 high2);
+              ap (λ (s : S). watched_of s w.order (noted (m.close w.now t) w.order.choice w.kept)) (closing.next a)
+              ∙ ap (λ (k : Kept). watched_of (m.next w.now a) w.order k) (noted_closed w.now w.order.choice w.kept t (seen.closing w.now t) closing.due);
+          again = λ u low2 high2. ap (λ (s : S). watched_of s w.order w.kept) (closing.again u low2 high2);
         };
   }

@@ -1,9 +1,12 @@
 //! What is seen of the host and of the second processor.
 use crate::seen::Seen;
+use beeb_bits::Tick;
 use bus_plug::BusDevice;
 use cpu_alu::Regs;
 use host_mach::HostMachine;
 use para_mach::ParaMachine;
+use tube_chip::Lines;
+use tube_machine::Passing;
 
 impl<D: BusDevice> Seen for HostMachine<D> {
     ghost use Rattle.host_mach.specs.State.{HostState};
@@ -39,6 +42,11 @@ impl<D: BusDevice> Seen for HostMachine<D> {
     fn peek(&self, at: u16) -> Option<u8> {
         self.peek(at)
     }
+
+    #[inline(always)]
+    fn pass(&mut self, until: Tick, lines: &Lines, sure: Tick, passing: Passing) {
+        self.pass(until, lines, sure, passing);
+    }
 }
 
 impl Seen for ParaMachine {
@@ -73,5 +81,10 @@ impl Seen for ParaMachine {
     #[inline]
     fn peek(&self, at: u16) -> Option<u8> {
         self.peek(at)
+    }
+
+    #[inline(always)]
+    fn pass(&mut self, until: Tick, lines: &Lines, sure: Tick, passing: Passing) {
+        self.pass(until, lines, sure, passing);
     }
 }

@@ -1,8 +1,8 @@
 //! What is kept of the starts so far: the lines of those that are chosen.
-ghost use Rattle.std.specs.Prelude.{◌≡◌, ◌+◌, ◌++◌, ◌≤◌, ◌<◌, ◌^◌, [], ◌∷◌, nat_lt, if◌then◌else◌, false, true, length, IfSome};
-ghost use Rattle.follow.specs.Listing.{start_line, listing_of};
+ghost use Rattle.std.specs.Prelude.{◌≡◌, ◌+◌, ◌++◌, ◌≤◌, ◌<◌, ◌^◌, [], ◌∷◌, nat_lt, if◌then◌else◌, false, true, ℕ, length, Option, None, Some, IfSome};
+ghost use Rattle.follow.specs.Listing.{start_line, listing_of_chosen};
 ghost use Rattle.follow.specs.CodeStart.{start_seen, code_seen};
-ghost use Rattle.follow.specs.CodeNotes.{IsKept};
+ghost use Rattle.follow.specs.CodeNotes.{IsKept, LeavesKept, kept_of, none_kept, keep};
 ghost use Rattle.std.proofs.Props.{props};
 
 use crate::choice::Choice;
@@ -12,6 +12,7 @@ use crate::start::Start;
 use crate::trail::Trail;
 use op_table::Part;
 use std::alloc::Global;
+use tube_machine::Passing;
 
 /// The most lines of a listing.
 const MOST_LINES: u64 = 1_048_576;
@@ -27,9 +28,10 @@ pub(crate) struct Notes {
     is_short: bool,
     chosen: u64,
     // The byte watched at the last start, if there was one.
-    before: Option<Option<u8>>,
+    pub(crate) before: Option<Option<u8>>,
+    // The chosen starts.
     pub(crate) trail: Trail,
-    ghost kept: { IsKept part choice trail.starts text.items is_short chosen before } by { Prim.hlevel props },
+    ghost kept: { IsKept part trail.starts text.items is_short chosen } by { Prim.hlevel props },
 }
 
 // Appends the line of a chosen start, if fewer than the most stand there and memory was not short. Whether it is short.
@@ -61,7 +63,7 @@ impl Notes {
     pub(crate) fn new(alloc: Global, part: Part, choice: Choice) -> Notes
         ensures part { result.part ≡ part }
         ensures choice { result.choice ≡ choice }
-        ensures none { result.trail.starts ≡ [] }
+        ensures none { kept_of result.trail.starts result.before ≡ none_kept }
     {
         Notes {
             alloc,
@@ -79,7 +81,9 @@ impl Notes {
     pub(crate) fn note(&mut self, start: &Start)
         requires within { (start.now.regs).pc + length (code_seen start.now) ≤ 65536 }
         requires few { length self.old.trail.starts < 2 ^ 60 }
-        ensures starts { self.new.trail.starts ≡ self.old.trail.starts ++ start_seen start.now ∷ [] }
+        ensures kept { let old = kept_of self.old.trail.starts self.old.before in
+            kept_of self.new.trail.starts self.new.before ≡ keep self.old.choice old (start_seen start.now) }
+        ensures more { length self.new.trail.starts ≤ length self.old.trail.starts + 1 }
         ensures part { self.new.part ≡ self.old.part }
         ensures choice { self.new.choice ≡ self.old.choice }
     {
@@ -87,10 +91,10 @@ impl Notes {
             .choice
             .chooses(self.before, start.regs.pc, start.watched);
         self.before = Some(start.watched);
-        self.trail = self.trail.after(start);
         if !is_chosen {
             return;
         }
+        self.trail = self.trail.after(start);
         self.is_short = add_line(
             self.alloc,
             &mut self.text,
@@ -101,9 +105,28 @@ impl Notes {
         );
         self.chosen += 1;
     }
+
+    /// Starts that may be passed over: they are not chosen, and leave what is kept. None are known before the first start, nor where all are chosen.
+    #[inline(always)]
+    pub(crate) fn passing(&self) -> Option<Passing>
+        ensures leaves { IfSome result (λ passing. LeavesKept self.now.choice self.now.before passing) }
+        ensures same { (at : ℕ) (byte : Option ℕ) → self.now.choice.watch ≡ Some at → self.now.before ≡ Some byte → result ≡ Some (Passing.Same at byte) }
+        ensures elsewhere { let choice = self.now.choice in
+            (at : ℕ) → choice.watch ≡ None → choice.at ≡ Some at → self.now.before ≡ Some None → result ≡ Some (Passing.Elsewhere at) }
+    {
+        let Some(byte) = self.before else {
+            return None;
+        };
+        match (self.choice.watch, self.choice.at, byte) {
+            (Some(watch), _, _) => Some(Passing::Same(watch, byte)),
+            (None, Some(at), None) => Some(Passing::Elsewhere(at)),
+            _ => None,
+        }
+    }
+
     /// The listing, if memory was not short.
     pub(crate) fn finish(self) -> Option<Listing>
-        ensures { IfSome result (λ l. listing_seen l ≡ listing_of self.part self.choice self.trail.starts) }
+        ensures { IfSome result (λ l. listing_seen l ≡ listing_of_chosen self.part self.trail.starts) }
     {
         if self.is_short {
             return None;

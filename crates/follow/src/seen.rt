@@ -1,10 +1,14 @@
 //! A party with a processor that can be looked at.
-ghost use Rattle.std.specs.Prelude.{ℕ, ◌≡◌, Bool, true};
-ghost use Rattle.tube_party.specs.Moves.{Moves, IsPermitted};
+ghost use Rattle.std.specs.Prelude.{ℕ, ◌≡◌, ◌≤◌, Bool, true};
+ghost use Rattle.tube_party.specs.Moves.{Moves, IsPermitted, shown_lines};
+ghost use Rattle.tube_machine.specs.Passing.{IsOver, Passes};
 ghost use Rattle.follow.specs.Sight.{Sight, IsSeen, IsSame};
 
+use beeb_bits::Tick;
 use cpu_alu::Regs;
-use tube_party::Party;
+use tube_chip::Lines;
+use tube_machine::Passing;
+use tube_party::{MOST, Party};
 
 /// A party whose processor can be looked at. What is seen is a function of the party's state, and closing it leaves that as it is. The state and
 /// the steps are named once more here, since the members of a trait cannot name the types of the trait that it stands on.
@@ -31,6 +35,14 @@ pub trait Seen: Party {
     /// The byte that a read of this address would give now. None where a device answers.
     fn peek(&self, at: u16) -> Option<u8>
         ensures { result ≡ (sights (inside self.now)).peek at };
+
+    /// Does instructions whole, each from a start that is passed over, with the look behind it, which sees these lines and is below `until` and
+    /// `sure`. It may leave off at any start.
+    fn pass(&mut self, until: Tick, lines: &Lines, sure: Tick, passing: Passing)
+        requires { until.0 ≤ MOST }
+        ensures { let old = inside self.old in
+            let new = inside self.new in
+            (k : ℕ) × Passes steps (λ s. IsOver passing (sights s).regs.pc (sights s).peek) until.0 (shown_lines lines.now sure.0) k old new };
 
     ghost seen: { IsSeen steps sights };
 

@@ -1,4 +1,4 @@
-//! The starts that were told of. Only contracts see them: they take no memory, and the methods do nothing at run time.
+//! The starts that were chosen. Only contracts see them: they take no memory, and the methods do nothing at run time.
 ghost use Rattle.std.specs.Prelude.{◌≡◌, List, [], ◌∷◌, ◌++◌};
 ghost use Rattle.std.specs.Borrow.{ftrue};
 ghost use Rattle.follow.specs.Start.{StartState};

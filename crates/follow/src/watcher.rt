@@ -1,13 +1,14 @@
-//! A party that notes where instructions start.
+//! A party that notes where chosen instructions start.
 ghost use Rattle.std.specs.Prelude.{◌≡◌, ◌≤◌, length};
 
 use crate::notes::Notes;
 use crate::seen::Seen;
 use crate::start::start_of;
 use beeb_bits::Tick;
-use tube_party::{Answer, Ask, Party};
+use tube_chip::{Answer, Lines};
+use tube_party::{Ask, MOST, Party};
 
-/// A party beside notes of the starts from which it did a step. Its steps are the party's, so that a replay of it is one of the party.
+/// A party beside notes of the chosen starts from which it did a step. Its steps are the party's, so that a replay of it is one of the party.
 #[derive(Drop)]
 pub(crate) struct Watcher<M: Seen> {
     pub(crate) machine: M,
@@ -15,12 +16,36 @@ pub(crate) struct Watcher<M: Seen> {
     ghost few: { length notes.trail.starts ≤ M.steps.due (M.inside machine) },
 }
 
+impl<M: Seen> Watcher<M> {
+    ghost use Rattle.std.specs.Prelude.{ℕ};
+    ghost use Rattle.tube_party.specs.Moves.{Looks, shown_lines};
+    ghost use Rattle.follow.specs.CodeNotes.{kept_of};
+    ghost use Rattle.follow.specs.CodeWatched.{order, watched_of, watched_moves};
+
+    // Goes on, maybe, past starts that are not chosen.
+    #[inline(always)]
+    fn pass_over(&mut self, until: Tick, lines: &Lines, sure: Tick)
+        requires { until.0 ≤ MOST }
+        ensures { let moves = watched_moves M.steps M.sights in
+            let old_kept = kept_of self.old.notes.trail.starts self.old.notes.before in
+            let new_kept = kept_of self.new.notes.trail.starts self.new.notes.before in
+            let old = watched_of (M.inside self.old.machine) (order self.old.notes.part self.old.notes.choice) old_kept in
+            let new = watched_of (M.inside self.new.machine) (order self.new.notes.part self.new.notes.choice) new_kept in
+            (k : ℕ) × Looks moves until.0 (shown_lines lines.now sure.0) k old new }
+    {
+        if let Some(passing) = self.notes.passing() {
+            self.machine.pass(until, lines, sure, passing);
+        }
+    }
+}
+
 impl<M: Seen> Party for Watcher<M> {
+    ghost use Rattle.follow.specs.CodeNotes.{kept_of};
     ghost use Rattle.follow.specs.CodeWatched.{Watched, order, watched_of, watched_moves, watched_lawful};
 
     ghost State = { Watched M.Inside };
 
-    ghost state = { λ w. watched_of (M.inside w.machine) (order w.notes.part w.notes.choice) w.notes.trail.starts };
+    ghost state = { λ w. watched_of (M.inside w.machine) (order w.notes.part w.notes.choice) (kept_of w.notes.trail.starts w.notes.before) };
 
     ghost moves = { watched_moves M.steps M.sights };
 
@@ -48,6 +73,23 @@ impl<M: Seen> Party for Watcher<M> {
             self.notes.note(&start);
         }
         ask
+    }
+
+    // Most starts are passed over where few are chosen.
+    fn advance_seeing(&mut self, until: Tick, lines: &Lines, sure: Tick) -> Ask {
+        loop {
+            self.pass_over(until, lines, sure);
+            match self.advance(until) {
+                Ask::Nothing => return Ask::Nothing,
+                Ask::Access(tick, op) => return Ask::Access(tick, op),
+                Ask::Look(tick) => {
+                    if sure.0 <= tick.0 {
+                        return Ask::Look(tick);
+                    }
+                    self.answer(Answer::Seen(*lines));
+                }
+            }
+        }
     }
 
     #[inline(always)]

@@ -1,5 +1,5 @@
 //! Listings of both machines, against short traces.
-ghost use Rattle.std.specs.Prelude.{All, IfOk, IsTrue};
+ghost use Rattle.std.specs.Prelude.{◌<◌, All, IfOk, IsTrue};
 ghost use Rattle.tube_trace.specs.Entries.{IsEntry};
 
 use beeb_bits::{Clock, Side, Tick};
@@ -55,6 +55,8 @@ fn boot_of(name: &str) -> (&'static [u8], usize, &'static [u8]) {
         "end" => (&[0x4c, 0xfe, 0xff], 0x7fe, &[0x4c, 0x12]),
         // JMP FFFE, and LDA #&12 there
         "last" => (&[0x4c, 0xfe, 0xff], 0x7fe, &[0xa9, 0x12]),
+        // INX, TXA, PHA, PLA, and JMP F800
+        "pusher" => (&[0xe8, 0x8a, 0x48, 0x68, 0x4c, 0x00, 0xf8], 0, &[0xe8]),
         _ => (&[0x02], 0, &[0x02]),
     }
 }
@@ -74,6 +76,12 @@ fn para(alloc: Global, name: &str) -> Result<ParaMachine, Fail> {
     Ok(ParaMachine::make(alloc, Clock::Three, bytes)?)
 }
 
+// LDA #&0E, STA FE30, LDA #&0F, STA FE30, LDA #&03, STA FE30, and JMP C00F
+const PAGES: &[u8] = &[
+    0xa9, 0x0e, 0x8d, 0x30, 0xfe, 0xa9, 0x0f, 0x8d, 0x30, 0xfe, 0xa9, 0x03, 0x8d, 0x30, 0xfe, 0x4c,
+    0x0f, 0xc0,
+];
+
 // What stands at C000, and at another place of the operating system, of the host's program of a name.
 fn os_of(name: &str) -> (&'static [u8], usize, &'static [u8]) {
     match name {
@@ -82,8 +90,25 @@ fn os_of(name: &str) -> (&'static [u8], usize, &'static [u8]) {
         "halted" => (&[0x02], 0, &[0x02]),
         // JMP FBFF, and the opcode of LDA # there, below FRED
         "gate" => (&[0x4c, 0xff, 0xfb], 0x3bff, &[0xa9]),
+        // JMP FFFE, and the first two bytes of a JMP there
+        "end" => (&[0x4c, 0xfe, 0xff], 0x3ffe, &[0x4c, 0x12]),
+        // JMP FFFE, and LDA #&12 there
+        "last" => (&[0x4c, 0xfe, 0xff], 0x3ffe, &[0xa9, 0x12]),
+        // INX, TXA, PHA, PLA, and JMP C000
+        "pusher" => (&[0xe8, 0x8a, 0x48, 0x68, 0x4c, 0x00, 0xc0], 0, &[0xe8]),
+        // The slots 14, 15 and 3, one after the other, and JMP C00F
+        "pages" => (PAGES, 0, &[0xa9]),
         _ => (&[0x02], 0, &[0x02]),
     }
+}
+
+// Slot 14 has 8 KB that begin with 34, slot 15 has 16 KB that begin with 12, and the others nothing.
+fn paged(alloc: Global) -> Result<Vec<(u8, Vec<u8>)>, Fail>
+    ensures { IfOk result (λ roms. All (λ slot. slot.0 < 16) roms.items) }
+{
+    let short = image(alloc, 8_192, &[(0, &[0x34])])?;
+    let long = image(alloc, 16_384, &[(0, &[0x12])])?;
+    Ok(vec![in alloc; (14, short), (15, long)]?)
 }
 
 fn host(alloc: Global, name: &str) -> Result<HostMachine<RamCard>, Fail> {
@@ -93,7 +118,7 @@ fn host(alloc: Global, name: &str) -> Result<HostMachine<RamCard>, Fail> {
         16_384,
         &[(0x3ffc, &[0x00, 0xc0]), (0, code), (start, other)],
     )?;
-    let roms = RomSet::read(os, Vec::new(alloc), None)?;
+    let roms = RomSet::read(os, paged(alloc)?, None)?;
     let script = key_script::read(alloc, b"")?;
     let plugs: Vec<RamCard> = Vec::new(alloc);
     Ok(HostMachine::make(alloc, Clock::Three, roms, None, None, script, plugs)?)
@@ -172,12 +197,24 @@ loop 2000 - F800@0 of 0;@
 writer 60 - 0080@2 of 2;0000000018 F802 A=00 X=00 Y=00 S=FD P=24 PHA;0000000036 F802 A=00 X=00 Y=00 S=FC P=24 PHA;@
 writer 60 F802 0080@2 of 2;0000000018 F802 A=00 X=00 Y=00 S=FD P=24 PHA;0000000036 F802 A=00 X=00 Y=00 S=FC P=24 PHA;@
 writer 60 F803 0080@0 of 0;@
+# Of the stack: INX and TXA take 2 cycles each, PHA 3, PLA 4 and JMP 3.
+pusher 56 - 01FD@1 of 1;000000001C F803 A=01 X=01 Y=00 S=FC P=24 PLA;@
+pusher 57 - 01FD@2 of 2;000000001C F803 A=01 X=01 Y=00 S=FC P=24 PLA;0000000038 F803 A=02 X=02 Y=00 S=FC P=24 PLA;@
+pusher 2000 - 01FC@0 of 0;@
 # An interrupt's sequence is no start.
 open 70 - -@8 of 8;000000000E F800 A=00 X=00 Y=00 S=FD P=24 CLI;0000000012 F801 A=00 X=00 Y=00 S=FD P=20 JMP &F801;0000000018 F801 A=00 X=00 Y=00 S=FD P=20 JMP &F801;000000001E F801 A=00 X=00 Y=00 S=FD P=20 JMP &F801;0000000024 F801 A=00 X=00 Y=00 S=FD P=20 JMP &F801;000000002A F801 A=00 X=00 Y=00 S=FD P=20 JMP &F801;000000003E F840 A=00 X=00 Y=00 S=FA P=24 JMP &F840;0000000044 F840 A=00 X=00 Y=00 S=FA P=24 JMP &F840;@0000000028 H W 0 82;000000002B H W 1 00;
+# It pushes PC, F801, and the flags, 20.
+open 62 - 01FD@0 of 0;@0000000028 H W 0 82;000000002B H W 1 00;
+open 63 - 01FD@1 of 1;000000003E F840 A=00 X=00 Y=00 S=FA P=24 JMP &F840;@0000000028 H W 0 82;000000002B H W 1 00;
+open 2000 - 01FC@1 of 1;000000003E F840 A=00 X=00 Y=00 S=FA P=24 JMP &F840;@0000000028 H W 0 82;000000002B H W 1 00;
+open 2000 - 01FB@1 of 1;000000003E F840 A=00 X=00 Y=00 S=FA P=24 JMP &F840;@0000000028 H W 0 82;000000002B H W 1 00;
+open 2000 - 01FA@0 of 0;@0000000028 H W 0 82;000000002B H W 1 00;
 # Held from tick 103 to 129, and then a reset: no start until tick 144.
 loop 104 - -@15 of 15;..;0000000062 F800 A=00 X=00 Y=00 S=FD P=24 JMP &F800;@0000000062 H W 0 A0;0000000080 H W 0 20;
 loop 144 - -@15 of 15;..;0000000062 F800 A=00 X=00 Y=00 S=FD P=24 JMP &F800;@0000000062 H W 0 A0;0000000080 H W 0 20;
 loop 145 - -@16 of 16;..;0000000062 F800 A=00 X=00 Y=00 S=FD P=24 JMP &F800;0000000090 F800 A=00 X=00 Y=00 S=FA P=24 JMP &F800;@0000000062 H W 0 A0;0000000080 H W 0 20;
+# A reset takes three from S, and writes nothing.
+loop 145 - 01FD@0 of 0;@0000000062 H W 0 A0;0000000080 H W 0 20;
 # Bytes of the Tube are none: one byte is not all of LDA, and an opcode of the Tube is told as none.
 gate 24 - -@2 of 2;000000000E F800 A=00 X=00 Y=00 S=FD P=24 JMP &FEF7;0000000014 FEF7 A=00 X=00 Y=00 S=FD P=24 byte &A9;@0000000016 P R 0 40;0000000018 P R 1 00;
 gate 25 FEF9 -@1 of 1;0000000018 FEF9 A=40 X=00 Y=00 S=FD P=24 ?;@0000000016 P R 0 40;0000000018 P R 1 00;
@@ -193,6 +230,17 @@ letters 2000 - 0070@differs 1 H 24 R 0@
 halted 100 - -@1 of 1;0000000015 C000 A=00 X=00 Y=00 S=FD P=24 byte &02;@
 # Bytes of FRED are none.
 gate 31 FBFF -@1 of 1;000000001E FBFF A=00 X=00 Y=00 S=FD P=24 byte &A9;@
+# No byte is past FFFF.
+end 31 FFFE -@1 of 1;000000001E FFFE A=00 X=00 Y=00 S=FD P=24 byte &4C;@
+last 31 FFFE -@1 of 1;000000001E FFFE A=00 X=00 Y=00 S=FD P=24 LDA #&12;@
+# A byte of the stack.
+pusher 84 - 01FD@1 of 1;000000002A C003 A=01 X=01 Y=00 S=FC P=24 PLA;@
+pusher 85 - 01FD@2 of 2;000000002A C003 A=01 X=01 Y=00 S=FC P=24 PLA;0000000054 C003 A=02 X=02 Y=00 S=FC P=24 PLA;@
+# Bytes of the slot in the latch: at 8000 FF, 34, 12, FF; at 8001 FF, 00, 00, FF; at A000 FF, 34, 00, FF.
+pages 2000 - 8000@3 of 3;0000000027 C005 A=0E X=00 Y=00 S=FD P=24 LDA #&0F;0000000039 C00A A=0F X=00 Y=00 S=FD P=24 LDA #&03;000000004B C00F A=03 X=00 Y=00 S=FD P=24 JMP &C00F;@
+pages 2000 - 8001@2 of 2;0000000027 C005 A=0E X=00 Y=00 S=FD P=24 LDA #&0F;000000004B C00F A=03 X=00 Y=00 S=FD P=24 JMP &C00F;@
+pages 2000 C00A A000@1 of 1;0000000039 C00A A=0F X=00 Y=00 S=FD P=24 LDA #&03;@
+pages 2000 - 7FFF@0 of 0;@
 ";
 
 // Whether it is told so. Lines that are not looked at stand as `..`.
@@ -290,6 +338,40 @@ fn a_byte_is_watched_against_a_trace_of_both(rt: HostRuntime) -> Result<(), Fail
         (want, trace.as_str()),
     )?;
     assert!(rt; right);
+    Ok(())
+}
+
+// What stands behind the tick in a line of the loop.
+const BEHIND_TICK: &[u8] = b" F800 A=00 X=00 Y=00 S=FD P=24 JMP &F800\n";
+
+// The first of these lines that is not that of its tick. Each is 51 bytes, and 6 ticks behind the one before it.
+fn first_bad_line(text: &[u8]) -> Option<usize> {
+    let mut tick = 14_u64;
+    for (i, line) in text.chunks(51).enumerate() {
+        let (digits, rest) = line.split_at_checked(10).unwrap_or((line, &[]));
+        let digits = std::str::from_utf8(digits).unwrap_or("");
+        if u64::from_str_radix(digits, 16).ok() != Some(tick) || rest != BEHIND_TICK {
+            return Some(i);
+        }
+        tick = tick.wrapping_add(6);
+    }
+    None
+}
+
+// JMP takes 6 ticks, and the last of 1,048,577 starts is at tick 6,291,470.
+#[test]
+fn a_million_lines_are_written_and_the_next_is_counted(rt: HostRuntime) -> Result<(), Fail> {
+    let machine = para(rt.alloc(), "loop")?;
+    let choice = Choice {
+        at: None,
+        watch: None,
+    };
+    let n = Tick(6_291_471);
+    let listing = list(rt.alloc(), machine, Part::Cmos, Side::Para, &[], n, choice)?;
+    assert_eq!(rt; listing.listed, 1_048_576);
+    assert_eq!(rt; listing.chosen, 1_048_577);
+    assert_eq!(rt; listing.text.len(), 53_477_376);
+    assert_eq!(rt; first_bad_line(&listing.text), None);
     Ok(())
 }
 
