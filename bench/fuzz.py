@@ -1,38 +1,40 @@
 #!/usr/bin/env python3
 """fuzz.py [--seed S] [--from N] [--count N] [--seconds T] [-j N] [--only KIND] [--finds FOLDER]: calls the program with made-up words and files,
-and says where it does not what the pages promise. Input N of seed S is always the same one, save with --only, which makes all of one kind. --count is 1,000 where neither it nor --seconds, how
-long to go on, is said; -j is the number of processes.
+and says where it does not what the pages promise. Input N of seed S is always the same one, save with --only, which makes all of one kind; with
+another state of this script, of the examples or of the program, whose runs are changed, it may be another. --count is 1,000 where neither it nor
+--seconds, how long to go on, is said; -j is the number of processes. The files of an input stand in memory (/dev/shm), or under TMPDIR.
 
 The words, the forms of traces and key scripts and the lengths of images are written here once more, in a few lines each, from docs/COMMANDS.md:
 they say which status and text has to come, and which files have to stand; session_file.py has the form of session files, and listing.py that of
 listings. Besides: no signal, no call above 20 seconds, nothing written with the statuses 1 to 4, 6 and 8; `check` of what `solo` wrote says `ok` and
 its number of accesses; both replays of it do the same; `run` writes the same files; a session that was saved has the bytes that it has to, and is
-taken up again below, at and above its moment, and once more from there; `resume` says what `check` and both replays say of the entries, and writes
-what `solo` writes; `follow` says what the replay says, and its lines are what replays that end there tell; `asm` of what `dis` wrote gives its bytes;
-the same words twice give the same bytes.
+taken up again below, at and above its moment, and once more from there; `resume` says what `check` and both replays say of the entries (where `solo`
+makes just these, they are asked of a share only), and writes what `solo` writes; `follow` says what the replay says, and its lines are what replays
+that end there tell; `asm` of what `dis` wrote gives its bytes; the same words twice give the same bytes. The program is loaded once and goes on in
+copies (calls.py), but for the second time of the same words, which loads it anew; what is asked besides an input goes on in the copy of that input.
 
 What differs is printed with its number, made smaller, and put into a folder of --finds (./finds) with its files and a script `again` that calls
 the program so. The exit status is 1 where anything differs."""
 import argparse
 import collections
+import functools
+import gc
 import multiprocessing
 import os
 import random
 import re
 import resource
 import shutil
-import stat
-import subprocess
 import sys
 import tempfile
 import time
 
 sys.dont_write_bytecode = True
+import calls  # noqa: E402
 import listing  # noqa: E402
 import session_file  # noqa: E402
 from program import TOP, form_fault, program  # noqa: E402
 
-LIMIT = 20  # seconds of a call
 MOST_TICKS = 1073741824
 PAIRS = ("solo", "run")
 LISTS = ("follow host", "follow para")
@@ -80,8 +82,12 @@ NEEDED = {taker: tuple(option for option, takers in (("--os", HOSTS), ("--tube",
 # --- What has to come: the words ---
 
 
+NUMBER = re.compile(rb"0|[1-9][0-9]*")
+ADDRESS = re.compile(rb"[0-9A-F]{4}")
+
+
 def number(word, most):
-    if re.fullmatch(rb"0|[1-9][0-9]*", word) and int(word) <= most:
+    if NUMBER.fullmatch(word) and int(word) <= most:
         return int(word)
     return None
 
@@ -91,7 +97,7 @@ def is_name(word):
 
 
 def is_address(word):
-    return re.fullmatch(rb"[0-9A-F]{4}", word) is not None
+    return ADDRESS.fullmatch(word) is not None
 
 
 class Words:
@@ -188,20 +194,24 @@ def is_length(option, name, length):
     return True
 
 
+TRACE_LINES = re.compile(rb"(?:[0-9A-F]{10} (?:[HP] [RW] [0-7] [0-9A-F]{2}|H X 0 00)\n)*")
+
+
+@functools.lru_cache(64)
 def trace_fault(text):
     """The first line outside the form or the order, if there is one, and whether the ticks are those of 4 MHz."""
     fast = text.startswith(b"T2\n")
     lines = text[3 if fast else 0 :]
-    before = (-1, 0)
-    for place in range(0, len(lines), 20):
-        found = re.fullmatch(rb"([0-9A-F]{10}) ([HP]) (?:[RW] [0-7] [0-9A-F]{2}|X 0 00)\n", lines[place : place + 20])
-        if not found or (b"P X" in found.group(0)):
-            return place // 20 + 1, fast
-        here = (int(found.group(1), 16), found.group(2) == b"P")
+    good = TRACE_LINES.match(lines).end()
+    # Ticks have ten digits each, and H is before P.
+    order = [lines[place : place + 12] for place in range(0, good, 20)]
+    for place, (before, here) in enumerate(zip(order, order[1:]), 2):
         if here <= before:
-            return place // 20 + 1, fast
-        before = here
-    return None, fast
+            return place, fast
+    return good // 20 + 1 if good < len(lines) else None, fast
+
+
+SCRIPT_LINE = re.compile(rb"at (0|[1-9][0-9]*) (shot|break|(down|up) [0-7][0-9A-F]|adc [0-3] [0-9A-F]{4})")
 
 
 def script_of(text):
@@ -210,7 +220,7 @@ def script_of(text):
     last = lines.pop()
     before, shots = 0, []
     for place, line in enumerate(lines + ([None] if last else []), 1):
-        found = line is not None and re.fullmatch(rb"at (0|[1-9][0-9]*) (shot|break|(down|up) [0-7][0-9A-F]|adc [0-3] [0-9A-F]{4})", line)
+        found = line is not None and SCRIPT_LINE.fullmatch(line)
         if not found or int(found.group(1)) > MOST_TICKS or int(found.group(1)) < before:
             return place, shots
         before = int(found.group(1))
@@ -222,16 +232,37 @@ def script_of(text):
 
 
 def content(name, cap):
+    """The bytes of a file, of one that is longer than `cap` one more, or nothing where it cannot be read."""
     try:
-        with open(name, "rb") as file:
-            return file.read(cap + 1)
+        number = os.open(name, os.O_RDONLY)
     except OSError:
         return None
+    try:
+        return os.read(number, min(cap, os.fstat(number).st_size) + 1)
+    except OSError:
+        return None
+    finally:
+        os.close(number)
+
+
+def put(name, text):
+    number = os.open(name, os.O_WRONLY | os.O_CREAT | os.O_TRUNC)
+    try:
+        os.write(number, text)
+        # What is written later has another time.
+        os.utime(number, ns=(0, 0))
+    finally:
+        os.close(number)
+
+
+def path_of(name):
+    """A name, with no folders that can be left out."""
+    return os.path.normpath(name) if b"/" in name else name
 
 
 def can_write(name):
     folder, last = os.path.split(name)
-    return bool(last) and len(last) <= 255 and len(name) < 4096 and os.path.isdir(folder or b".") and not os.path.isdir(name)
+    return bool(last) and len(last) <= 255 and len(name) < 4096 and (not folder or os.path.isdir(folder)) and not os.path.isdir(name)
 
 
 class Expected:
@@ -253,13 +284,14 @@ def made_of(words, files):
         return found
 
 
-def expected(words):
+def expected(words, laid):
+    """What has to come of these words where these files stand."""
     if not words.good:
         return Expected((1, b"usage"))
     files = {}
     for what, name in words.reads():
         cap = CAPS.get(what, CAP)
-        files[what] = content(name, cap)
+        files[what] = laid[name] if name in laid else content(name, cap)
         if files[what] is None:
             return Expected((2, b"cannot read " + name))
         if len(files[what]) > cap:
@@ -336,19 +368,25 @@ TICKS = {(True, 3): 3, (True, 4): 6, (False, 3): 2, (False, 4): 3}
 class Judge:
     """Calls the program in a folder of its own. What differs is raised as a text."""
 
-    def __init__(self, path, folder):
-        self.path, self.folder = path, folder
+    def __init__(self, path, folder, library=None):
+        self.folder = folder
+        os.chdir(folder)
+        self.program = calls.Calls(path, library)
         self.calls = 0
+        self.laid = self.made_of = None
+        self.besides = False
+        self.known = collections.OrderedDict()
 
-    def call(self, words):
+    def call(self, words, anew=False):
         self.calls += 1
         try:
-            done = subprocess.run([self.path] + words, stdin=subprocess.DEVNULL, stdout=subprocess.PIPE, stderr=subprocess.PIPE, timeout=LIMIT)
-        except subprocess.TimeoutExpired:
-            raise Differs("hangs: more than %d seconds" % LIMIT)
-        if done.returncode < 0:
-            raise Differs("crashes: signal %d" % -done.returncode)
-        return done.returncode, done.stdout, done.stderr
+            status, out, err = self.program.call(words, anew, self.besides)
+        except calls.Hangs:
+            raise Differs("hangs: more than %d seconds" % calls.LIMIT)
+        if status < 0:
+            raise Differs("crashes: signal %d" % -status)
+        self.besides = True
+        return status, out, err
 
     def good(self, words, what):
         status, out, err = self.call(words)
@@ -357,44 +395,56 @@ class Judge:
         return out
 
     def lay(self, files):
+        """Lays these files, and a folder `dir`, into the folder, and nothing else."""
         os.chdir(self.folder)
-        for entry in os.scandir(b"."):
-            if entry.is_dir(follow_symlinks=False):
-                shutil.rmtree(entry.path)
-            else:
-                os.unlink(entry.path)
-        os.mkdir(b"dir")
+        for name in os.listdir(b"."):
+            try:
+                os.unlink(name)
+            except IsADirectoryError:
+                if name != b"dir" or os.listdir(name):
+                    shutil.rmtree(name)
+        os.makedirs(b"dir", exist_ok=True)
         for name, text in files.items():
-            with open(name, "wb") as file:
-                file.write(text)
+            put(name, text)
+        self.laid, self.made_of, self.besides = {path_of(name) for name in files}, None, False
+
+    def changed(self):
+        """What was written, made or taken away since the files were laid."""
+        found, missing = set(), set(self.laid)
+        for folder in (b"", b"dir/"):
+            for entry in os.scandir(folder or b"."):
+                state = entry.stat(follow_symlinks=False)
+                name = folder + entry.name
+                missing.discard(name)
+                if name != b"dir" and (state.st_mtime_ns != 0 or name not in self.laid):
+                    found.add(name)
+        return found | missing
 
     def judge(self, case):
         """The status, where all is as promised."""
         self.lay(case.files)
         words = Words(case.words)
-        wanted = expected(words)
+        wanted = expected(words, case.files)
         may, outputs = wanted.may, wanted.outputs
-        before = stand()
         status, out, err = self.call(case.words)
-        after = stand()
+        changed = self.changed()
         fault = form_fault(words.command if words.good else None, status, out, err)
         if fault:
             raise Differs("form: " + fault)
         if not any(status == number and (text is None or err == text + b"\n") for number, text in may):
             raise Differs("status: %d %r, wanted %r" % (status, (out + err)[:200], may))
-        changed = {name for name in set(before) | set(after) if before.get(name) != after.get(name)}
         if status in (1, 2, 3, 4, 6, 8) and changed:
             raise Differs("files: status %d, and changed: %r" % (status, sorted(changed)[:9]))
         if status == 5:
-            outputs = outputs[: 1 + [os.path.normpath(b"cannot write " + name) for name in outputs].index(os.path.normpath(err[:-1]))]
-            if not changed <= {os.path.normpath(name) for name in outputs}:
+            outputs = outputs[: 1 + [path_of(b"cannot write " + name) for name in outputs].index(path_of(err[:-1]))]
+            if not changed <= {path_of(name) for name in outputs}:
                 raise Differs("files: status 5, and changed: %r" % sorted(changed)[:9])
         if status == 0:
-            if changed != {os.path.normpath(name) for name in outputs}:
+            if changed != {path_of(name) for name in outputs}:
                 raise Differs("files: status 0 wrote %r, wanted %r" % (sorted(changed)[:20], outputs[:20]))
             self.look(case, words, out, wanted)
         if status in (0, 5, 8) and words.command == "resume":
-            self.look_at_resume(words, status, out, wanted)
+            self.look_at_resume(case, words, status, out, wanted)
         if status in (0, 5, 8) and words.command == "follow":
             self.look_at_follow(words, status, out, outputs, case.files)
         if status == 8 and out.startswith(b"wrong") or status == 4 and err.startswith(b"bad source"):
@@ -404,10 +454,10 @@ class Judge:
                 raise Differs("lines: there are fewer, %r" % (out + err))
         if case.more and words.good:
             # What was an input and is an output too has other bytes now.
-            inputs = {os.path.normpath(name) for what, name in words.reads()}
+            inputs = {path_of(name) for what, name in words.reads()}
             if not changed & inputs:
                 kept = {name: content(name, CAPS["trace"]) for name in outputs} if status == 0 else {}
-                if (status, out, err) != self.call(case.words):
+                if (status, out, err) != self.call(case.words, anew=True):
                     raise Differs("twice: another status or text")
                 if any(content(name, CAPS["trace"]) != text for name, text in kept.items()):
                     raise Differs("twice: other files")
@@ -481,8 +531,8 @@ class Judge:
             raise Differs("check of the trace: %r, kept %d" % (said, kept))
         if "--save" in words.values:
             self.look_at_saved(case, words, wanted.session, tube)
-        inputs = {os.path.normpath(name) for what, name in words.reads()}
-        if not case.more or words.command not in PAIRS or inputs & {os.path.normpath(name) for name in outputs}:
+        inputs = {path_of(name) for what, name in words.reads()}
+        if not case.more or words.command not in PAIRS or inputs & {path_of(name) for name in outputs}:
             return
         other = b"run" if words.command == "solo" else b"solo"
         again = [other if place == 0 else word for place, word in enumerate(case.words)]
@@ -494,7 +544,7 @@ class Judge:
                 self.good([b"replay", side, out + b".trace", b"%d" % words.alone["ticks"], b"played"] + options, "replay of the trace")
                 if content(b"played" + taken, CAP) != content(out + taken, CAP):
                     raise Differs("replay: another memory of %s" % taker)
-                if words.alone["ticks"] <= 60000:
+                if words.alone["ticks"] <= 10000:
                     options = [part for option, value in words.values.items() if "follow " + side.decode() in OPTIONS[option][0] for part in (option.encode(), value)]
                     self.look_at_all([b"replay", side, out + b".trace", b"%d" % words.alone["ticks"], b"played"] + options, wanted.session.clock)
 
@@ -518,18 +568,19 @@ class Judge:
                 os.rename(b"back/o.save", b"back/first")
 
     def made(self, session, side=None):
-        """Lays what the machines of a session are made of into a folder of its own, and tells the options of a run of both, or of one side."""
-        os.makedirs(b"made", exist_ok=True)
+        """Lays what the machines of a session are made of into a folder of its own, once, and tells the options of a run of both, or of one side."""
+        names = {option: b"made/" + option[2:].encode() + (b".dsd" if option in session.dsd else b"") for option in session.parts}
+        if self.made_of is not session:
+            os.makedirs(b"made", exist_ok=True)
+            for option, text in session.parts.items():
+                put(names[option], text)
+            self.made_of = session
         options = [b"--speed", b"%d" % session.clock]
         if side != b"para":
             options += [b"--plugs", b"%d" % session.plugs]
-        for option, text in session.parts.items():
-            if (option == "--tube") != (side == b"para") and side:
-                continue
-            name = b"made/" + option[2:].encode() + (b".dsd" if option in session.dsd else b"")
-            with open(name, "wb") as file:
-                file.write(text)
-            options += [option.encode(), name]
+        for option, name in names.items():
+            if not side or (option == "--tube") == (side == b"para"):
+                options += [option.encode(), name]
         return options
 
     def files_of(self, folder, words, ticks, named=NAMED):
@@ -549,8 +600,7 @@ class Judge:
             until = min(ticks, session.ticks)
             if entries is None:
                 entries = [entry for entry in session.entries if entry.tick < until]
-            with open(b"made/trace", "wb") as file:
-                file.write(session_file.trace(session.clock, entries))
+            put(b"made/trace", session_file.trace(session.clock, entries))
             words = [b"check", b"made/trace"] if side is None else [b"replay", side, b"made/trace", b"%d" % until, b"made/o"] + self.made(session, side)
             status, out, err = self.call(words)
             if status == 8:
@@ -559,16 +609,20 @@ class Judge:
                 raise Differs("%s of a session's entries: status %d" % (words[0].decode(), status))
         return None
 
-    def look_at_resume(self, words, status, out, wanted):
+    def look_at_resume(self, case, words, status, out, wanted):
         """A session that is taken up again: what `check`, both replays and `solo` say and write of it."""
         session, ticks = wanted.session, words.alone["ticks"]
-        refusal = self.first_refusal(session, ticks)
-        if (status, out) != (8, refusal) if refusal else status == 8:
-            raise Differs("resume: status %d, %r, but %r" % (status, out, refusal))
+        named = [option for option in NAMED if option in words.values]
+        files = None
         if status == 0 and are_apart(wanted.outputs):
-            named = [option for option in NAMED if option in words.values]
             keep = [b"--keep", b"%d" % words.number_of("--keep", 1048576)]
             files = self.files_of(b"made", [b"solo"] + self.made(session) + keep, ticks, named)
+        # Where `solo` does what the session holds, and nothing else, there is nothing to refuse.
+        if case.more or not files or not does(files, session, ticks):
+            refusal = self.first_refusal(session, ticks)
+            if (status, out) != (8, refusal) if refusal else status == 8:
+                raise Differs("resume: status %d, %r, but %r" % (status, out, refusal))
+        if files:
             ends = {name: b"." + option[2:].encode() for option in named for name in (words.values[option],)}
             found = {ends.get(name, name[len(words.alone["out"]) :]): content(name, CAPS["trace"]) for name in wanted.outputs}
             if found != files:
@@ -577,24 +631,30 @@ class Judge:
     def look_at_follow(self, words, status, out, outputs, files):
         """A listing: the status of the replay, and the lines."""
         side = words.alone["side"]
-        inputs = {name for what, name in words.reads()}
-        if any(os.path.normpath(name) in [os.path.normpath(other) for other in outputs] for name in inputs):
+        inputs = [name for what, name in words.reads()]
+        if any(path_of(name) in [path_of(other) for other in outputs] for name in inputs):
             return
         options = [part for option, value in words.values.items() if OPTIONS[option][1] != "address" for part in (option.encode(), value)]
         played = [b"replay", side, words.alone["trace"], b"%d" % words.alone["ticks"], b"played"] + options
-        again, said, _ = self.call(played)
-        if status != again if status != 5 else again != 0:
-            raise Differs("follow: status %d, but replay %d" % (status, again))
-        if status == 8 and said != out:
-            raise Differs("follow: %r, but replay %r" % (out, said))
-        if status != 0:
-            return
+        # What was replayed and listed before, with the same words and files, is not once more: its listing is known.
+        key = (*played, *(files.get(name) for name in inputs))
+        if status != 0 or key not in self.known:
+            again, said, _ = self.call(played)
+            if status != again if status != 5 else again != 0:
+                raise Differs("follow: status %d, but replay %d" % (status, again))
+            if status == 8 and said != out:
+                raise Differs("follow: %r, but replay %r" % (out, said))
+            if status != 0:
+                return
+            self.known[key] = self.look_at_all(played, words.number_of("--speed", 3))
+            if len(self.known) > 64:
+                self.known.popitem(last=False)
+        every = self.known[key]
         found = self.listed(out, content(outputs[0], 2**30))
         fault = listing.form_fault(found, words.alone["ticks"])
         if fault:
             raise Differs("listing: %s" % fault)
         choices = {option: int(words.values[option], 16) for option in ("--at", "--watch") if option in words.values}
-        every = self.look_at_all(played, words.number_of("--speed", 3))
         if choices:
             self.look_at_choice(words, found, every, choices, played)
         elif found != every:
@@ -629,37 +689,37 @@ class Judge:
 
     def look_at_choice(self, words, found, every, choices, played):
         """The lines are those of all that are chosen: by their address, and by a byte of memory that changed since the start before."""
-        if "--at" in choices and any(line.pc != choices["--at"] for line in found):
+        if "--at" in choices and any(start.pc != choices["--at"] for _, start in found):
             raise Differs("choice: a line at another address")
         if "--watch" not in choices:
-            if choices and found != [line for line in every if line.pc == choices["--at"]]:
+            if choices and found != tuple(line for line in every if line[1].pc == choices["--at"]):
                 raise Differs("choice: other lines")
             return
         if not set(found) <= set(every) or (every and every[0] in found):
             raise Differs("choice: lines that are not of the listing, or the first")
         known = choices["--watch"] < (0x8000 if words.alone["side"] == b"host" else 0xF800)
-        places = [every.index(line) for line in found[:2]] + [len(every) // 2, len(every) - 1]
+        places = {every.index(line) for line in found[:1]} | {len(every) // 2, len(every) - 1}
         for place in places if known else []:
-            if place > 0 and ("--at" not in choices or every[place].pc == choices["--at"]):
-                before, here = (self.at(played, every[n].tick)[2][choices["--watch"]] for n in (place - 1, place))
+            if place > 0 and ("--at" not in choices or every[place][1].pc == choices["--at"]):
+                before, here = (self.at(played, every[n][0])[2][choices["--watch"]] for n in (place - 1, place))
                 if (before != here) != (every[place] in found):
-                    raise Differs("choice: at %010X the byte was %02X and is %02X" % (every[place].tick, before, here))
+                    raise Differs("choice: at %010X the byte was %02X and is %02X" % (every[place][0], before, here))
 
     def look_at_starts(self, every, played, host):
-        """Some lines are what a replay that ends there tells: registers, and bytes of memory as they are disassembled."""
-        for place in sorted({0, 1, len(every) // 3, len(every) - 1}):
+        """Some lines are what a replay that ends there tells: registers, and bytes of memory as they are disassembled. The first two, which stand right
+        behind the reset, are looked at of one listing of eight."""
+        for place in sorted({len(every) // 3, len(every) - 1} | (set() if len(every) % 8 else {0, 1})):
             if not 0 <= place < len(every):
                 continue
-            line = every[place]
-            pc, registers, memory = self.at(played, line.tick)
-            if (pc, registers) != (line.pc, line.registers):
-                raise Differs("start: at %010X a replay has PC=%04X %r, not %r" % (line.tick, pc, registers, line))
+            tick, start = every[place]
+            pc, registers, memory = self.at(played, tick)
+            if (pc, registers) != (start.pc, start.registers):
+                raise Differs("start: at %010X a replay has PC=%04X %r, not %r" % (tick, pc, registers, start))
             if (pc + 2 < 0x8000) if host else (pc + 2 < 0xF800):
-                with open(b"bytes", "wb") as file:
-                    file.write(memory[pc : pc + 3])
+                put(b"bytes", memory[pc : pc + 3])
                 self.good([b"dis", b"6502" if host else b"65c02", b"bytes", b"%04X" % pc, b"text"], "dis of what stands there")
-                if content(b"text", CAP).split(b"\n")[1].decode() != line.text:
-                    raise Differs("start: at %010X stands %r, not %r" % (line.tick, content(b"text", CAP), line.text))
+                if content(b"text", CAP).split(b"\n")[1].decode() != start.text:
+                    raise Differs("start: at %010X stands %r, not %r" % (tick, content(b"text", CAP), start.text))
 
     def other(self, again, words, name, outputs, what):
         """These words, with another name for the outputs, write the same files."""
@@ -685,7 +745,15 @@ class Differs(Exception):
 
 def are_apart(names):
     """No two of these are the same name."""
-    return len({os.path.normpath(name) for name in names}) == len(names)
+    return len({path_of(name) for name in names}) == len(names)
+
+
+def does(files, session, ticks):
+    """A run that wrote these files has the accesses of the session up to its moment, and no others."""
+    said = session_file.trace(session.clock, session.entries)
+    rest = files[b".trace"][len(said) :]
+    is_whole = int(rest[:10], 16) >= session.ticks if rest else re.search(rb"^tube ([0-9]+)\nkept \1$", files[b".report"], re.M)
+    return ticks >= session.ticks and files[b".trace"].startswith(said) and is_whole
 
 
 def different(found, wanted):
@@ -693,18 +761,18 @@ def different(found, wanted):
     return sorted(end for end in set(found) | set(wanted) if found.get(end) != wanted.get(end))
 
 
-def stand():
-    """What stands in the folder: each file with what tells whether it was written."""
-    found = {}
-    for folder in (b".", b"dir"):
-        for entry in os.scandir(folder):
-            state = entry.stat(follow_symlinks=False)
-            if not stat.S_ISDIR(state.st_mode):
-                found[os.path.normpath(entry.path)] = (state.st_size, state.st_mtime_ns, state.st_ino)
-    return found
-
-
 # --- The inputs ---
+
+
+class Chance(random.Random):
+    """Makes small numbers in fewer steps; some are a little more often than others."""
+
+    def choice(self, values):
+        return values[int(self.random() * len(values))]
+
+    def randrange(self, first, end=None):
+        first, end = (0, first) if end is None else (first, end)
+        return first + int(self.random() * (end - first)) if 0 < end - first < 2**40 else super().randrange(first, end)
 
 
 def examples(*ends):
@@ -788,7 +856,7 @@ def a_trace(r, base):
 def a_script(r, base, ticks):
     if r.random() < 0.3:
         return mutate(r, r.choice(base["scripts"]), "keys")
-    lines, tick, shots = [], 0, r.choice((0, 1, 2, 3))
+    lines, tick, shots = [], 0, r.choice((0, 0, 0, 0, 0, 1, 1, 2, 3))
     for _ in range(r.randrange(12)):
         tick += r.choice((0, 1, 7, r.randrange(max(1, ticks // 4)), r.randrange(3000)))
         what = r.choice(("down", "down", "up", "up", "break", "shot", "adc"))
@@ -823,7 +891,8 @@ def a_careful_source(r):
     for _ in range(r.randrange(60)):
         line = r.choice(CAREFUL)
         for mark, values in (("B", lambda: r.choice(("&%02X", "%d")) % r.randrange(256)), ("W", lambda: "&%04X" % r.randrange(65536)), ("L", lambda: r.choice(("at", "b", "loop")))):
-            line = re.sub(r"(?<![A-Z])%s(?![A-Z])" % mark, lambda found: values(), line)
+            if mark in line:
+                line = re.sub(r"(?<![A-Z])%s(?![A-Z])" % mark, lambda found: values(), line)
         lines.insert(r.randrange(1 if lines[0].startswith("org") else 0, len(lines) + 1), r.choice(("", "\t", " ")) + line)
     return ("\n".join(lines) + "\n").encode()
 
@@ -927,7 +996,10 @@ def a_tube(r, base):
 
 
 def some_ticks(r):
-    return r.choice((0, 1, 2, 3, r.randrange(100), r.randrange(2000), r.randrange(20000), r.randrange(20000), r.randrange(300000))) if r.random() < 0.98 else r.randrange(3000000)
+    how = r.random()
+    if how < 0.001:
+        return r.randrange(3000000)
+    return r.randrange(300000) if how < 0.02 else r.choice((0, 1, 2, 3, r.randrange(100), r.randrange(2000), r.randrange(8000), r.randrange(20000)))
 
 
 def put_options(r, words, options):
@@ -976,7 +1048,8 @@ def pair(r, base, command=b"solo"):
 
 def of_words(r, base):
     """Words of any command, changed."""
-    command = r.choice(list(COMMANDS))
+    # What `gen` makes takes long, and is of one form.
+    command = r.choice([command for command in COMMANDS for _ in range(1 if command == "gen" else 4)])
     if command in PAIRS:
         words, files = pair(r, base, command.encode())
     elif command in ("replay", "follow", "resume"):
@@ -1015,7 +1088,7 @@ def of_replay(r, base, command=b"replay", whole=0.3):
     side = r.choice((b"host", b"para"))
     trace, os_rom, tube_rom, ticks, clock = r.choice(base["runs"])
     files = {b"os": os_rom, b"tube": tube_rom, b"trace": trace if r.random() < whole else mutate(r, trace, "trace") if r.random() < 0.7 else a_trace(r, base)}
-    words = [command, side, b"trace", b"%d" % (ticks if r.random() < 0.6 else r.randrange(2 * ticks)), b"out"]
+    words = [command, side, b"trace", b"%d" % (ticks if r.random() < 0.6 else r.randrange(ticks + ticks // 8)), b"out"]
     options = [(b"--os", b"os")] if side == b"host" else [(b"--tube", b"tube")]
     if clock == 4 or r.random() < 0.05:
         options.append((b"--speed", clock if r.random() < 0.9 else r.choice((3, 4))))
@@ -1092,16 +1165,15 @@ def a_change(r, base, clock, ticks, plugs, parts, dsd, entries):
 def of_session(r, base):
     session = a_session(r, base)
     text = session_file.encode(session)
-    places = session_file.places(text)
     how = r.random()
     if how < 0.15:
         # A field, one of those that stand before an image more often than not.
-        small = [field for field in places if 0 < field[1] < 8]
+        small = [field for field in session_file.places(text) if 0 < field[1] < 8]
         begin, length = r.choice(small[:40] if r.random() < 0.6 else small)
         value = r.choice((0, 1, 3, 4, 255, 2 ** (8 * length) - 1, session_file.number(text[begin : begin + length]) + r.choice((-1, 1)), 8192, 16384, 204801, 409601, 1048577, 4194305, MOST_TICKS + 1))
         text = text[:begin] + (value % 2 ** (8 * length)).to_bytes(length, "big") + text[begin + length :]
     elif how < 0.2:
-        begin, length = r.choice(places)
+        begin, length = r.choice(session_file.places(text))
         text = text[: begin + r.choice((0, 0, 1, length - 1, length // 2))] if length else text
     elif how < 0.24:
         text += r.choice((b"\0", b"\xff", text[-7:], r.randbytes(r.randrange(1, 30))))
@@ -1146,14 +1218,14 @@ def of_solo(r, base):
 
 # Each kind of input: who makes it, how often, and the share of which more is asked (the same words twice; `run` beside `solo`, and both replays).
 KINDS = {
-    "words": (of_words, 20, 0.1),
-    "check": (of_check, 10, 0.1),
-    "replay": (of_replay, 8, 0.1),
-    "source": (of_source, 10, 0.1),
-    "image": (of_image, 10, 0.1),
-    "pair": (of_solo, 16, 0.25),
-    "session": (of_session, 15, 0.1),
-    "follow": (of_follow, 10, 0.1),
+    "words": (of_words, 100, 0.1),
+    "check": (of_check, 50, 0.1),
+    "replay": (of_replay, 40, 0.1),
+    "source": (of_source, 50, 0.1),
+    "image": (of_image, 50, 0.1),
+    "pair": (of_solo, 80, 0.2),
+    "session": (of_session, 75, 0.1),
+    "follow": (of_follow, 50, 0.1),
     "seed": (of_seed, 1, 0.1),
 }
 
@@ -1171,8 +1243,8 @@ def base_of(judge):
     base["images"] = list(images.values())
     base["oses"] = [image for name, image in images.items() if name.endswith(b"-os") and len(image) == 16384]
     base["tubes"] = [image for name, image in images.items() if name.endswith(b"-tube") and len(image) == 2048]
-    for name, ticks in ((b"letters", 2000), (b"demo", 5000), (b"type", 20000), (b"keys", 20000)):
-        for clock in (3, 4):
+    for name, ticks, clocks in ((b"letters", 2000, (3, 4)), (b"demo", 5000, (3, 4)), (b"type", 6000, (3, 4)), (b"keys", 6000, (3, 4)), (b"type", 20000, (4,)), (b"keys", 12000, (3,))):
+        for clock in clocks:
             judge.lay({b"os": images[name + b"-os"], b"tube": images[name + b"-tube"]})
             judge.good([b"solo", b"%d" % ticks, b"out", b"--os", b"os", b"--tube", b"tube", b"--speed", b"%d" % clock], "solo of the examples")
             trace = content(b"out.trace", CAPS["trace"])
@@ -1182,7 +1254,7 @@ def base_of(judge):
 
 
 def case_of(seed, place, base, only):
-    r = random.Random("%d %d" % (seed, place))
+    r = Chance("%d %d" % (seed, place))
     kind = r.choices(list(KINDS), [weight for _, weight, _ in KINDS.values()])[0]
     kind = only or kind
     words, files = KINDS[kind][0](r, base)
@@ -1250,14 +1322,15 @@ def keep(folder, case, seed, place, what, path):
 worker = {}
 
 
-def begin(path, work, options):
-    resource.setrlimit(resource.RLIMIT_CORE, (0, 0))
-    folder = tempfile.mkdtemp(dir=work)
-    worker.update(judge=Judge(path, folder), options=options, path=path)
-    worker["base"] = base_of(worker["judge"])
+def begin(path, work, library, base, options):
+    worker.update(path=path, work=work, library=library, base=base, options=options)
+    gc.set_threshold(100000, 50, 1000)
 
 
 def work_on(places):
+    if "judge" not in worker:
+        # What goes wrong here is told; a process that does not begin would be begun again and again.
+        worker["judge"] = Judge(worker["path"], tempfile.mkdtemp(dir=worker["work"]), worker["library"])
     judge, options = worker["judge"], worker["options"]
     counts, finds = collections.Counter(), []
     judge.calls = 0
@@ -1287,14 +1360,18 @@ def main():
     parser.add_argument("--only", choices=KINDS)
     parser.add_argument("--finds", default="finds", type=os.path.abspath)
     options = parser.parse_args()
+    resource.setrlimit(resource.RLIMIT_CORE, (0, 0))
     count = options.count or (10**9 if options.seconds else 1000)
     begun = time.time()
     options.until = begun + options.seconds if options.seconds else None
     counts = collections.Counter()
-    with tempfile.TemporaryDirectory() as work:
+    # The files of inputs stand in memory, where there is such a folder.
+    with tempfile.TemporaryDirectory(dir="/dev/shm" if os.access("/dev/shm", os.W_OK) and not os.environ.get("TMPDIR") else None) as work:
         path = program()
+        library = calls.library(work)
+        base = base_of(Judge(path, tempfile.mkdtemp(dir=work), library))
         chunks = (range(first, min(first + 50, options.first + count)) for first in range(options.first, options.first + count, 50))
-        with multiprocessing.Pool(options.j, begin, (path, work, options)) as pool:
+        with multiprocessing.Pool(options.j, begin, (path, work, library, base, options)) as pool:
             waiting = collections.deque()
             while True:
                 while len(waiting) < 2 * options.j and (options.until is None or time.time() < options.until):
@@ -1308,13 +1385,13 @@ def main():
                 counts.update(more)
                 for found in finds:
                     print(found, flush=True)
-    calls = counts.pop("calls", 0)
+    called = counts.pop("calls", 0)
     for kind in KINDS:
         row = sorted((str(status), n) for (name, status), n in counts.items() if name == kind)
         if row:
             print("%s: %s" % (kind, ", ".join("%d with %s" % (n, status if status == "differs" else "status " + status) for status, n in row)))
     differ = sum(n for (_, status), n in counts.items() if status == "differs")
-    print("inputs %d, calls %d, seconds %.0f, differ %d" % (sum(counts.values()), calls, time.time() - begun, differ))
+    print("inputs %d, calls %d, seconds %.0f, differ %d" % (sum(counts.values()), called, time.time() - begun, differ))
     sys.exit(1 if differ else 0)
 
 

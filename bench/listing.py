@@ -1,11 +1,14 @@
 """Listings of `follow`, looked at without the machine: the form of their lines, and what stands between two instructions that follow each other: how
 long the first takes, where it goes, and what it loads."""
 import collections
+import functools
+import operator
 import re
 
 MOST_LINES = 1048576
 REGISTERS = rb"A=[0-9A-F]{2} X=[0-9A-F]{2} Y=[0-9A-F]{2} S=[0-9A-F]{2} P=[0-9A-F]{2}"
-LINE = re.compile(rb"([0-9A-F]{10}) ([0-9A-F]{4}) (" + REGISTERS + rb") (\?|byte &[0-9A-F]{2}|[A-Z]{3}(?: [^ ]+)?)")
+TICKS = re.compile(rb"(?:[0-9A-F]{10} [^\n]*\n)*")
+REST = re.compile(rb"([0-9A-F]{4}) (" + REGISTERS + rb") (\?|byte &[0-9A-F]{2}|[A-Z]{3}(?: [^ ]+)?)")
 STORES = ("STA", "STX", "STY", "STZ")
 CHANGES = ("ASL", "LSR", "ROL", "ROR", "INC", "DEC", "TSB", "TRB")
 # The cycles of a form, at least: where it reads, stores and changes. A page that is crossed and decimal mode take one more each.
@@ -13,28 +16,39 @@ FORMS = {"#2": (2, 2, 2), "2": (3, 3, 5), "2,X": (4, 4, 6), "2,Y": (4, 4, 6), "4
 BYTES = {"": 1, "A": 1, "#2": 2, "2": 2, "2,X": 2, "2,Y": 2, "(2,X)": 2, "(2),Y": 2, "(2)": 2, "4": 3, "4,X": 3, "4,Y": 3, "(4)": 3, "(4,X)": 3}
 SEQUENCE = 7  # cycles of a reset or an interrupt
 
-Line = collections.namedtuple("Line", "tick pc registers text")
+# A line is a tick, and what starts then.
+Start = collections.namedtuple("Start", "pc registers text")
 
 
+@functools.lru_cache(65536)
+def start_of(text):
+    """What stands behind a tick, or nothing where it is not in its form."""
+    found = REST.fullmatch(text)
+    return found and Start(int(found.group(1), 16), found.group(2), found.group(3).decode())
+
+
+@functools.lru_cache(4)
 def lines_of(text):
     """The lines of a listing, or what is not in their form as a text."""
-    lines = []
-    for line in text.split(b"\n")[:-1]:
-        found = LINE.fullmatch(line)
-        if not found:
-            return "a line is %r" % line[:100]
-        lines.append(Line(int(found.group(1), 16), int(found.group(2), 16), found.group(3), found.group(4).decode()))
-    return "the last line has no end" if text and not text.endswith(b"\n") else lines
+    end = TICKS.match(text).end()
+    if end < len(text):
+        return "a line is %r" % text[end : end + 100]
+    lines = text.split(b"\n")[:-1]
+    starts = [start_of(line[11:]) for line in lines]
+    if None in starts:
+        return "a line is %r" % lines[starts.index(None)][:100]
+    return tuple(zip([int(line[:10], 16) for line in lines], starts))
 
 
 def form_fault(lines, ticks):
     """What is wrong with the ticks of lines, or nothing: they rise, and are below those of the run; no instruction starts before a reset is over."""
-    for before, line in zip([None] + lines, lines):
-        if line.tick >= ticks or line.tick < (before.tick + 1 if before else 2 * SEQUENCE):
-            return "the tick %010X" % line.tick
-    return None
+    found = [2 * SEQUENCE - 1] + [tick for tick, _ in lines] + [ticks]
+    if not lines or all(map(operator.lt, found, found[1:])):
+        return None
+    return "a tick that does not rise, among %010X to %010X" % (found[1], found[-2])
 
 
+@functools.lru_cache(65536)
 def steps(text):
     """An instruction's form, its bytes, its fewest cycles, and where it may go: a list of places, `next` for the one behind it, or nothing for any."""
     name, _, operand = text.partition(" ")
@@ -65,14 +79,15 @@ def is_plain(form, text, host):
     return form in ("", "A", "#2", "2", "2,X", "2,Y")
 
 
-def pair_fault(line, after, cycle, host):
-    """What cannot be of an instruction and the one that starts next, or nothing. `cycle` are the ticks of a cycle."""
-    gap = after.tick - line.tick
+@functools.lru_cache(65536)
+def pair_fault(start, gap, after, cycle, host):
+    """What cannot be of an instruction and the one that starts `gap` ticks later, or nothing. `cycle` are the ticks of a cycle."""
+    pc, text = start.pc, start.text
     if gap % cycle:
         return "a start is within a cycle"
-    known = steps(line.text)
+    known = steps(text)
     # What stands in the stack may change while it is carried out.
-    if known is None or 0x00FD < line.pc < 0x0200:
+    if known is None or 0x00FD < pc < 0x0200:
         return None
     form, length, least, ways = known
     cycles = gap // cycle
@@ -80,11 +95,11 @@ def pair_fault(line, after, cycle, host):
         return "it takes %d cycles" % cycles
     if cycles > least + 2:
         # A reset, an interrupt or accesses that are stretched stand between them, or a start is missing.
-        between = cycles >= least + SEQUENCE or not is_plain(form, line.text, host) or 0xFB00 <= line.pc <= 0xFEFF
+        between = cycles >= least + SEQUENCE or not is_plain(form, text, host) or 0xFB00 <= pc <= 0xFEFF
         return None if between else "it takes %d cycles, or a start is missing" % cycles
-    if ways and after.pc not in [(line.pc + length) % 65536 if way == "next" else way for way in ways]:
+    if ways and after.pc not in [(pc + length) % 65536 if way == "next" else way for way in ways]:
         return "it goes to %04X" % after.pc
-    loads = re.fullmatch(r"LD([AXY]) #&([0-9A-F]{2})", line.text)
+    loads = re.fullmatch(r"LD([AXY]) #&([0-9A-F]{2})", text)
     if loads and (loads.group(1) + "=" + loads.group(2)).encode() not in after.registers:
         return "it loads something else"
     return None
@@ -92,8 +107,8 @@ def pair_fault(line, after, cycle, host):
 
 def listing_fault(lines, cycle, host):
     """What is wrong with a listing of all starts, or nothing."""
-    for line, after in zip(lines, lines[1:]):
-        fault = pair_fault(line, after, cycle, host)
+    for (tick, start), (later, after) in zip(lines, lines[1:]):
+        fault = pair_fault(start, later - tick, after, cycle, host)
         if fault:
-            return "at %010X %04X %s: %s" % (line.tick, line.pc, line.text, fault)
+            return "at %010X %04X %s: %s" % (tick, start.pc, start.text, fault)
     return None

@@ -1,6 +1,7 @@
 """Session files, described once more, from docs/COMMANDS.md: the bytes of a session, the session of some bytes, and of others the place of the first
 field that is at fault."""
 import collections
+import functools
 
 MOST_TICKS = 1073741824
 MOST_ENTRIES = 4194304
@@ -47,6 +48,7 @@ def encode(session):
     return b"".join(text)
 
 
+@functools.lru_cache(65536)
 def entry_bytes(entry):
     what = (0x80 if entry.side == "P" else 0) | KINDS[entry.what] | entry.register
     return entry.tick.to_bytes(5, "big") + bytes((what, entry.byte))
@@ -75,13 +77,28 @@ def number(field):
     return int.from_bytes(field, "big")
 
 
+@functools.lru_cache(65536)
 def entry_of(field):
-    what = field[5] & 0x78
-    return Entry(number(field[:5]), "P" if field[5] & 0x80 else "H", {kind: name for name, kind in KINDS.items()}.get(what), field[5] & 7, field[6])
+    """The entry of a field, or nothing where it is none, and what rises from one entry to the next: twice its tick, one more for `P`."""
+    what = {kind: name for name, kind in KINDS.items()}.get(field[5] & 0x78)
+    entry = Entry(number(field[:5]), "P" if field[5] & 0x80 else "H", what, field[5] & 7, field[6])
+    is_one = what and (what != "X" or entry[1:] == ("H", "X", 0, 0))
+    return entry if is_one else None, 2 * entry.tick + (entry.side == "P")
 
 
-def is_later(entry, before):
-    return before is None or (entry.tick, entry.side == "P") > (before.tick, before.side == "P")
+def read_entries(reader, count, ticks):
+    """The next entries, each a field of seven bytes, of a session that is `ticks` long."""
+    begin, text, entries, before = reader.at, reader.text, [], -1
+    for entry, here in map(entry_of, [text[at : at + 7] for at in range(begin, min(begin + 7 * count, len(text) - 6), 7)]):
+        if entry is None or here <= before or here >= 2 * ticks:
+            break
+        entries.append(entry)
+        before = here
+    reader.at = begin + 7 * len(entries)
+    reader.places += [(at, 7) for at in range(begin, reader.at, 7)]
+    if len(entries) < count:
+        raise BadField(reader.at if reader.at + 7 <= len(text) else len(text))
+    return entries
 
 
 def read(reader):
@@ -99,11 +116,7 @@ def read(reader):
         if option in DISCS and reader.field(1, lambda value: value == 1 or (value == 0 and length <= LARGEST_SSD), number):
             dsd.add(option)
         parts[option] = reader.field(length, lambda value: True)
-    entries = []
-    for _ in range(reader.field(4, lambda value: value <= MOST_ENTRIES, number)):
-        before = entries[-1] if entries else None
-        entries.append(reader.field(7, lambda value: value.what and value.tick < ticks and is_later(value, before)
-                                    and (value.what != "X" or value[1:] == ("H", "X", 0, 0)), entry_of))
+    entries = read_entries(reader, reader.field(4, lambda value: value <= MOST_ENTRIES, number), ticks)
     if reader.at != len(reader.text):
         raise BadField(reader.at)
     return Session(clock, ticks, plugs, parts, dsd, entries)
@@ -124,16 +137,26 @@ def places(text):
     return reader.places
 
 
+@functools.lru_cache(65536)
+def line_of(entry):
+    return "%010X %s %s %d %02X\n" % entry
+
+
+@functools.lru_cache(65536)
+def entry_of_line(line):
+    return Entry(int(line[:10], 16), line[11], line[13], int(line[15]), int(line[17:], 16))
+
+
 def trace(clock, entries):
     """The text of a trace of these entries."""
     lines = ["T2\n"] if clock == 4 else []
-    lines += ["%010X %s %s %d %02X\n" % entry for entry in entries]
+    lines += map(line_of, entries)
     return "".join(lines).encode()
 
 
 def entries_of(text):
     """The entries of the text of a trace."""
-    return [Entry(int(line[:10], 16), line[11], line[13], int(line[15]), int(line[17:], 16)) for line in text.decode().splitlines() if line != "T2"]
+    return [entry_of_line(line) for line in text.decode().splitlines() if line != "T2"]
 
 
 def saved(clock, ticks, plugs, parts, dsd, kept, tube):

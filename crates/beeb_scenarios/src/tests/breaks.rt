@@ -9,11 +9,7 @@ os
 | byte &02
 | org &FFFC
 | word &C000, 0
-tube
-| org &F800
-| loop: JMP loop
-| org &FFFC
-| word loop, 0
+tube loop
 keys
 | at 60 break
 t
@@ -31,10 +27,7 @@ file o.trace
 keep
 run 100 o --os os --tube tube --keys keys
 = 0
-same o.report
-same o.host
-same o.para
-same o.trace
+same o.report o.host o.para o.trace
 take o.trace
 $ check t
 = 0: ok 1
@@ -75,11 +68,7 @@ os
 | byte &02
 | org &FFFC
 | word &C000, 0
-tube
-| org &F800
-| loop: JMP loop
-| org &FFFC
-| word loop, 0
+tube loop
 keys
 | at 120 break
 $ solo 200 o --os os --tube tube --keys keys --speed 4
@@ -93,11 +82,7 @@ os
 | byte &02
 | org &FFFC
 | word &C000, 0
-tube
-| org &F800
-| loop: JMP loop
-| org &FFFC
-| word loop, 0
+tube loop
 keys
 | at 62 break
 $ solo 100 o --os os --tube tube --keys keys
@@ -130,11 +115,7 @@ os
 | byte &02
 | org &FFFC
 | word &C000, 0
-tube
-| org &F800
-| loop: JMP loop
-| org &FFFC
-| word loop, 0
+tube loop
 keys
 | at 0 break
 $ solo 40 o --os os --tube tube --keys keys
@@ -166,16 +147,8 @@ $ solo 40 o --os os --tube tube --keys keys
 file o.trace
 | 000000001D H X 0 00
 # A processor that goes on has the step in place of its next look: at the look's tick, one before it, and one behind. An access has none.
-os
-| org &C000
-| here: JMP here
-| org &FFFC
-| word here, 0
-tube
-| org &F800
-| loop: JMP loop
-| org &FFFC
-| word loop, 0
+os loop
+tube loop
 keys
 | at 29 break
 $ solo 50 o --os os --tube tube --keys keys
@@ -210,8 +183,7 @@ line o.report host PC=C000 A=00 X=00 Y=00 S=F7 P=24
 keep
 run 100 o --os os --tube tube --keys keys
 = 0
-same o.report
-same o.trace
+same o.report o.trace
 # A break within a stretched access waits for the look behind it. A shot at its tick is taken as ever.
 os
 | org &C000
@@ -219,11 +191,7 @@ os
 | here: JMP here
 | org &FFFC
 | word &C000, 0
-tube
-| org &F800
-| loop: JMP loop
-| org &FFFC
-| word loop, 0
+tube loop
 keys
 | at 31 shot
 | at 31 break
@@ -233,33 +201,8 @@ file o.trace
 | 0000000023 H X 0 00
 line o.report frames 1
 # BREAK in the midst of a transfer: both programs begin again, and what was on its way is gone.
-os
-| org &C000
-| LDX #0
-| wait: LDA &FEE0
-| BPL wait
-| LDA &FEE1
-| STA &70,X
-| INX
-| CPX #2
-| BNE wait
-| here: JMP here
-| org &FFFC
-| word &C000, 0
-tube
-| org &F800
-| start: LDX #31
-| copy: LDA &F800,X
-| STA &F800,X
-| DEX
-| BPL copy
-| LDA #&48
-| STA &FEF9
-| LDA #&49
-| STA &FEF9
-| stop: JMP stop
-| org &FFFC
-| word start, 0
+os letters
+tube letters
 keys
 | at 930 break
 $ solo 4000 o --os os --tube tube --keys keys
@@ -276,10 +219,7 @@ $ replay para t 4000 o --tube tube
 same o.para
 run 4000 o --os os --tube tube --keys keys
 = 0
-same o.report
-same o.host
-same o.para
-same o.trace
+same o.report o.host o.para o.trace
 # BREAK puts the user's 6522 and the disc latch in their power-on state, and leaves the system's 6522 and the memory.
 os
 | org &C000
@@ -297,11 +237,7 @@ os
 | there: JMP there
 | org &FFFC
 | word &C000, 0
-tube
-| org &F800
-| loop: JMP loop
-| org &FFFC
-| word loop, 0
+tube loop
 keys
 | at 600 break
 $ solo 1200 o --os os --tube tube --keys keys

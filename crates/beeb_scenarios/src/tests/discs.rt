@@ -9,11 +9,7 @@ os
 | here: JMP here
 | org &FFFC
 | word &C000, 0
-tube
-| org &F800
-| loop: JMP loop
-| org &FFFC
-| word loop, 0
+tube loop
 t
 x 07 01 02
 $ solo 700 o --os os --tube tube --disc0 t
@@ -34,19 +30,14 @@ file o.d1
 x 07 01 02
 $ solo 700 o --os os --tube tube
 = 0
-none o.d0
-none o.d1
+none o.d0 o.d1
 # A replay leaves the discs too. The disc's image is that of the trace.
 os
 | org &C000
 | here: JMP here
 | org &FFFC
 | word &C000, 0
-tube
-| org &F800
-| loop: JMP loop
-| org &FFFC
-| word loop, 0
+tube loop
 t
 | 0000000000 H R 0 40
 $ replay host t 0 o --os os --disc1 t
@@ -60,11 +51,7 @@ os
 | here: JMP here
 | org &FFFC
 | word &C000, 0
-tube
-| org &F800
-| loop: JMP loop
-| org &FFFC
-| word loop, 0
+tube loop
 t
 * 204800 x 07
 $ solo 7 o --os os --tube tube --disc0 t
@@ -77,8 +64,7 @@ t
 * 204801 x 07
 $ solo 7 o --os os --tube tube --disc0 t
 = 3 bad image disc0 204801
-none o.report
-none o.d0
+none o.report o.d0
 $ solo 7 o --os os --tube tube --disc1 t --disc0 t.dsd
 = 3 bad image disc1 204801
 $ solo 7 o --os os --tube tube --disc1 t --disc0 t
@@ -116,11 +102,7 @@ os
 | here: JMP here
 | org &FFFC
 | word &C000, 0
-tube
-| org &F800
-| loop: JMP loop
-| org &FFFC
-| word loop, 0
+tube loop
 t
 | 0000000000 H R 0 40
 fails 2 -
@@ -133,16 +115,13 @@ fails - 3
 $ solo 7 o --disc1 t --disc0 t.dsd --os os --tube tube
 = 5 cannot write o.d0
 size o.para 65536
-none o.d0
-none o.d1
-none o.trace
+none o.d0 o.d1 o.trace
 fails - 4
 $ solo 7 o --disc1 t --disc0 t.dsd --os os --tube tube
 = 5 cannot write o.d1
 file o.d0
 | 0000000000 H R 0 40
-none o.d1
-none o.trace
+none o.d1 o.trace
 fails - 3
 $ solo 7 o --disc1 t --os os --tube tube
 = 5 cannot write o.d1
@@ -178,11 +157,7 @@ os
 | done: RTI
 | org &FFFA
 | word &C200, &C000, 0
-tube
-| org &F800
-| loop: JMP loop
-| org &FFFC
-| word loop, 0
+tube loop
 t
 x 07 01 02
 $ solo 400000 o --os os --tube tube --disc0 t --disc1 t
@@ -263,11 +238,7 @@ os
 |         RTI
 |         org &FFFA
 |         word nmi, start, start
-tube
-| org &F800
-| loop: JMP loop
-| org &FFFC
-| word loop, 0
+tube loop
 t
 * 512 x 11
 x 00 01 02 03 04 05 06 07 08 09 0A 0B 0C 0D 0E 0F 10 11 12 13 14 15 16 17 18 19 1A 1B 1C 1D 1E 1F 20 21 22 23 24 25 26 27 28 29 2A 2B 2C 2D 2E 2F 30 31 32 33 34 35 36 37 38 39 3A 3B 3C 3D 3E 3F
@@ -314,12 +285,7 @@ size o.d1 10240
 keep
 run 2000000 o --os os --tube tube --disc1 t --disc0 t.dsd
 = 0
-same o.report
-same o.host
-same o.para
-same o.d0
-same o.d1
-same o.trace
+same o.report o.host o.para o.d0 o.d1 o.trace
 ";
 
 #[test]

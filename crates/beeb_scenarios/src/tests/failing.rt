@@ -4,19 +4,7 @@ use std::test::Fail;
 
 const CALLS: &str = "\
 # Ordinary use where calls fail, one after the other: each is told by its name, and what was written before is whole.
-os
-| org &C000
-| LDX #0
-| wait: LDA &FEE0
-| BPL wait
-| LDA &FEE1
-| STA &70,X
-| INX
-| CPX #2
-| BNE wait
-| here: JMP here
-| org &FFFC
-| word &C000, 0
+os letters
 dfs
 | org &8000
 | RTS
@@ -27,20 +15,7 @@ lang
 | RTS
 | org &BFFF
 | byte 0
-tube
-| org &F800
-| start: LDX #31
-| copy: LDA &F800,X
-| STA &F800,X
-| DEX
-| BPL copy
-| LDA #&48
-| STA &FEF9
-| LDA #&49
-| STA &FEF9
-| stop: JMP stop
-| org &FFFC
-| word start, 0
+tube letters
 t
 * 6400 x E5 E5 E5 E5 E5 E5 E5 E5 E5 E5 E5 E5 E5 E5 E5 E5
 keys
@@ -58,375 +33,155 @@ keys
 | at 2200000 down 25
 | at 2400000 down 54
 | at 2900000 shot
-fails 0 -
-run 3000000 demo --os os --rom15 lang --rom14 dfs --tube tube --disc0 game.ssd --keys keys
-= 2 cannot read os
-none demo.report demo.host demo.para demo.d0 demo.000.ppm demo.001.ppm demo.trace
-fails 1 -
-run 3000000 demo --os os --rom15 lang --rom14 dfs --tube tube --disc0 game.ssd --keys keys
-= 2 cannot read tube
-none demo.report demo.host demo.para demo.d0 demo.000.ppm demo.001.ppm demo.trace
-fails 2 -
-run 3000000 demo --os os --rom15 lang --rom14 dfs --tube tube --disc0 game.ssd --keys keys
-= 2 cannot read dfs
-none demo.report demo.host demo.para demo.d0 demo.000.ppm demo.001.ppm demo.trace
-fails 3 -
-run 3000000 demo --os os --rom15 lang --rom14 dfs --tube tube --disc0 game.ssd --keys keys
-= 2 cannot read lang
-none demo.report demo.host demo.para demo.d0 demo.000.ppm demo.001.ppm demo.trace
-fails 4 -
-run 3000000 demo --os os --rom15 lang --rom14 dfs --tube tube --disc0 game.ssd --keys keys
-= 2 cannot read game.ssd
-none demo.report demo.host demo.para demo.d0 demo.000.ppm demo.001.ppm demo.trace
-fails 5 -
-run 3000000 demo --os os --rom15 lang --rom14 dfs --tube tube --disc0 game.ssd --keys keys
+with --os os --rom15 lang --rom14 dfs --tube tube --disc0 game.ssd --keys keys
+outputs demo.report demo.host demo.para demo.d0 demo.000.ppm demo.001.ppm demo.trace w s
+each 0 os, 1 tube, 2 dfs, 3 lang, 4 game.ssd, 5 keys
+fails {1} -
+run 3000000 demo %
+= 2 cannot read {2}
+left 0
+end
+run 3000000 demo --speed 4 --wav w %
 = 2 cannot read keys
-none demo.report demo.host demo.para demo.d0 demo.000.ppm demo.001.ppm demo.trace
-fails 5 -
-run 3000000 demo --speed 4 --wav w --os os --rom15 lang --rom14 dfs --tube tube --disc0 game.ssd --keys keys
-= 2 cannot read keys
-none w demo.report demo.host demo.para demo.d0 demo.000.ppm demo.001.ppm demo.trace
+left 0
 fails - -
-run 3000000 demo --os os --rom15 lang --rom14 dfs --tube tube --disc0 game.ssd --keys keys
+run 3000000 demo %
 = 0
 size demo.001.ppm 491535
 size demo.trace 980
 keep
-fails - 0
-run 3000000 demo --os os --rom15 lang --rom14 dfs --tube tube --disc0 game.ssd --keys keys
-= 5 cannot write demo.report
-none demo.report demo.host demo.para demo.d0 demo.000.ppm demo.001.ppm demo.trace
-fails - 1
-run 3000000 demo --os os --rom15 lang --rom14 dfs --tube tube --disc0 game.ssd --keys keys
-= 5 cannot write demo.host
-same demo.report
-none demo.host demo.para demo.d0 demo.000.ppm demo.001.ppm demo.trace
-fails - 2
-run 3000000 demo --os os --rom15 lang --rom14 dfs --tube tube --disc0 game.ssd --keys keys
-= 5 cannot write demo.para
-same demo.report demo.host
-none demo.para demo.d0 demo.000.ppm demo.001.ppm demo.trace
-fails - 3
-run 3000000 demo --os os --rom15 lang --rom14 dfs --tube tube --disc0 game.ssd --keys keys
-= 5 cannot write demo.d0
-same demo.report demo.host demo.para
-none demo.d0 demo.000.ppm demo.001.ppm demo.trace
-fails - 4
-run 3000000 demo --os os --rom15 lang --rom14 dfs --tube tube --disc0 game.ssd --keys keys
-= 5 cannot write demo.000.ppm
-same demo.report demo.host demo.para demo.d0
-none demo.000.ppm demo.001.ppm demo.trace
-fails - 5
-run 3000000 demo --os os --rom15 lang --rom14 dfs --tube tube --disc0 game.ssd --keys keys
-= 5 cannot write demo.001.ppm
-same demo.report demo.host demo.para demo.d0 demo.000.ppm
-none demo.001.ppm demo.trace
-fails - 6
-run 3000000 demo --os os --rom15 lang --rom14 dfs --tube tube --disc0 game.ssd --keys keys
-= 5 cannot write demo.trace
-same demo.report demo.host demo.para demo.d0 demo.000.ppm demo.001.ppm
-none demo.trace
+each 0 demo.report, 1 demo.host, 2 demo.para, 3 demo.d0, 4 demo.000.ppm, 5 demo.001.ppm, 6 demo.trace
+fails - {1}
+run 3000000 demo %
+= 5 cannot write {2}
+left {1}
+end
 ## With the sound file, which is written behind all these, and the same at 4 MHz.
 fails - 7
-run 3000000 demo --wav w --os os --rom15 lang --rom14 dfs --tube tube --disc0 game.ssd --keys keys
+run 3000000 demo --wav w %
 = 5 cannot write w
-same demo.report demo.host demo.para demo.d0 demo.000.ppm demo.001.ppm demo.trace
-none w
+left 7
 fails - -
-run 6000000 demo --wav w --speed 4 --os os --rom15 lang --rom14 dfs --tube tube --disc0 game.ssd --keys keys
+run 6000000 demo --wav w --speed 4 %
 = 0
 size demo.trace 763
 keep
-fails - 6
-run 6000000 demo --wav w --speed 4 --os os --rom15 lang --rom14 dfs --tube tube --disc0 game.ssd --keys keys
-= 5 cannot write demo.trace
-same demo.report demo.host demo.para demo.d0 demo.000.ppm demo.001.ppm
-none demo.trace w
-fails - 7
-run 6000000 demo --wav w --speed 4 --os os --rom15 lang --rom14 dfs --tube tube --disc0 game.ssd --keys keys
-= 5 cannot write w
-same demo.report demo.host demo.para demo.d0 demo.000.ppm demo.001.ppm demo.trace
-none w
+each 6 demo.trace, 7 w
+fails - {1}
+run 6000000 demo --wav w --speed 4 %
+= 5 cannot write {2}
+left {1}
+end
 ## Saved, and taken up again.
 fails - -
-run 3000000 demo --wav w --save s --os os --rom15 lang --rom14 dfs --tube tube --disc0 game.ssd --keys keys
+run 3000000 demo --wav w --save s %
 = 0
 keep
 fails - 8
-run 3000000 demo --wav w --save s --os os --rom15 lang --rom14 dfs --tube tube --disc0 game.ssd --keys keys
+run 3000000 demo --wav w --save s %
 = 5 cannot write s
-same demo.report demo.host demo.para demo.d0 demo.000.ppm demo.001.ppm demo.trace w
-none s
+left 8
 fails 5 -
-run 3000000 demo --wav w --save s --os os --rom15 lang --rom14 dfs --tube tube --disc0 game.ssd --keys keys
+run 3000000 demo --wav w --save s %
 = 2 cannot read keys
-none demo.report demo.host demo.para demo.d0 demo.000.ppm demo.001.ppm demo.trace w s
+left 0
 back s
 fails 0 -
 $ resume t 3000000 demo --wav w --save s
 = 2 cannot read t
-none demo.report demo.host demo.para demo.d0 demo.000.ppm demo.001.ppm demo.trace w s
+left 0
 fails 1 9
 $ resume t 3000000 demo --wav w --save s
 = 0
-same demo.report demo.host demo.para demo.d0 demo.000.ppm demo.001.ppm demo.trace w s
-fails - 0
+left 9
+each 0 demo.report, 3 demo.d0, 5 demo.001.ppm, 6 demo.trace, 7 w, 8 s
+fails - {1}
 $ resume t 3000000 demo --wav w --save s
-= 5 cannot write demo.report
-none demo.report demo.host demo.para demo.d0 demo.000.ppm demo.001.ppm demo.trace w s
-fails - 3
-$ resume t 3000000 demo --wav w --save s
-= 5 cannot write demo.d0
-same demo.report demo.host demo.para
-none demo.d0 demo.000.ppm demo.001.ppm demo.trace w s
-fails - 5
-$ resume t 3000000 demo --wav w --save s
-= 5 cannot write demo.001.ppm
-same demo.report demo.host demo.para demo.d0 demo.000.ppm
-none demo.001.ppm demo.trace w s
-fails - 6
-$ resume t 3000000 demo --wav w --save s
-= 5 cannot write demo.trace
-same demo.report demo.host demo.para demo.d0 demo.000.ppm demo.001.ppm
-none demo.trace w s
-fails - 7
-$ resume t 3000000 demo --wav w --save s
-= 5 cannot write w
-same demo.report demo.host demo.para demo.d0 demo.000.ppm demo.001.ppm demo.trace
-none w s
-fails - 8
-$ resume t 3000000 demo --wav w --save s
-= 5 cannot write s
-same demo.report demo.host demo.para demo.d0 demo.000.ppm demo.001.ppm demo.trace w
-none s
+= 5 cannot write {2}
+left {1}
+end
 ";
 
 const FILES: &str = "\
 # Images one byte short and one byte long. The first of them is told, and nothing is written.
-os
-| org &C000
-| here: JMP here
-| org &FFFC
-| word here, 0
-tube
-| org &F800
-| loop: JMP loop
-| org &FFFC
-| word loop, 0
+os loop
+tube loop
+each 16383, 16385
 t
-* 16383 x EA
+* {} x EA
 $ solo 7 o --os t --tube tube
-= 3 bad image os 16383
-none o.report o.host o.para o.trace
+= 3 bad image os {}
+left 0
 run 7 o --speed 4 --os t --tube tube
-= 3 bad image os 16383
-none o.report o.host o.para o.trace
-$ solo 7 o --os os --tube tube --rom0 t
-= 3 bad image rom0 16383
-none o.report o.host o.para o.trace
-run 7 o --os os --tube tube --rom15 t
-= 3 bad image rom15 16383
-none o.report o.host o.para o.trace
-$ replay host keys 7 o --os os --rom9 t
-= 3 bad image rom9 16383
-none o.report o.host o.para o.trace
-t
-* 16385 x EA
-$ solo 7 o --os t --tube tube
-= 3 bad image os 16385
-none o.report o.host o.para o.trace
-run 7 o --speed 4 --os t --tube tube
-= 3 bad image os 16385
-none o.report o.host o.para o.trace
+= 3 bad image os {}
+left 0
 $ replay host keys 7 o --os t
-= 3 bad image os 16385
-none o.report o.host o.para o.trace
-$ solo 7 o --os os --tube tube --rom0 t
-= 3 bad image rom0 16385
-none o.report o.host o.para o.trace
-run 7 o --os os --tube tube --rom15 t
-= 3 bad image rom15 16385
-none o.report o.host o.para o.trace
-$ replay host keys 7 o --os os --rom9 t
-= 3 bad image rom9 16385
-none o.report o.host o.para o.trace
+= 3 bad image os {}
+left 0
+end
+each 16383, 16385, 8191, 8193
 t
-* 8191 x EA
-$ solo 7 o --os os --tube tube --rom0 t
-= 3 bad image rom0 8191
-none o.report o.host o.para o.trace
-run 7 o --os os --tube tube --rom15 t
-= 3 bad image rom15 8191
-none o.report o.host o.para o.trace
+* {} x EA
+$ solo 7 o % --rom0 t
+= 3 bad image rom0 {}
+left 0
+run 7 o % --rom15 t
+= 3 bad image rom15 {}
+left 0
 $ replay host keys 7 o --os os --rom9 t
-= 3 bad image rom9 8191
-none o.report o.host o.para o.trace
+= 3 bad image rom9 {}
+left 0
+end
+each 2047, 2049
 t
-* 8193 x EA
-$ solo 7 o --os os --tube tube --rom0 t
-= 3 bad image rom0 8193
-none o.report o.host o.para o.trace
-run 7 o --os os --tube tube --rom15 t
-= 3 bad image rom15 8193
-none o.report o.host o.para o.trace
-$ replay host keys 7 o --os os --rom9 t
-= 3 bad image rom9 8193
-none o.report o.host o.para o.trace
-t
-* 2047 x EA
+* {} x EA
 $ solo 7 o --os os --tube t --rom0 t
-= 3 bad image tube 2047
-none o.report o.host o.para o.trace
+= 3 bad image tube {}
+left 0
 run 7 o --os os --tube t --speed 4
-= 3 bad image tube 2047
-none o.report o.host o.para o.trace
-t
-* 2049 x EA
-$ solo 7 o --os os --tube t --rom0 t
-= 3 bad image tube 2049
-none o.report o.host o.para o.trace
-run 7 o --os os --tube t --speed 4
-= 3 bad image tube 2049
-none o.report o.host o.para o.trace
+= 3 bad image tube {}
+left 0
 $ replay para keys 7 o --tube t
-= 3 bad image tube 2049
-none o.report o.host o.para o.trace
+= 3 bad image tube {}
+left 0
+end
+each 959, 961
 t
-* 959 x 3F
-run 7 o --os os --tube tube --font t --disc0 t
-= 3 bad image font 959
-none o.report o.host o.para o.trace
-t
-* 961 x 3F
-run 7 o --os os --tube tube --font t --disc0 t
-= 3 bad image font 961
-none o.report o.host o.para o.trace
+* {} x 3F
+run 7 o % --font t --disc0 t
+= 3 bad image font {}
+left 0
+end
 t
 * 204799 x 07
-run 7 o --os os --tube tube --disc1 t
+run 7 o % --disc1 t
 = 0
 size o.d1 204799
 t
 * 204801 x 07
-run 7 o --os os --tube tube --disc0 t.dsd --disc1 t
+run 7 o % --disc0 t.dsd --disc1 t
 = 3 bad image disc1 204801
-none o.report o.host o.para o.trace
+left 0
 t
 * 409599 x 07
-run 7 o --os os --tube tube --disc0 t.dsd
+run 7 o % --disc0 t.dsd
 = 0
 size o.d0 409599
 t
 * 409601 x 07
-run 7 o --os os --tube tube --disc0 t.dsd
+run 7 o % --disc0 t.dsd
 = 3 bad image disc0 409601
-none o.report o.host o.para o.trace
+left 0
 # A trace that is cut in its last line, at each place, and one that is cut in its first.
-os
-| org &C000
-| here: JMP here
-| org &FFFC
-| word here, 0
-tube
-| org &F800
-| loop: JMP loop
-| org &FFFC
-| word loop, 0
+os loop
+tube loop
+cuts 000000001C P R 2 7F
 t
 | 0000000014 H R 0 40
-+ 0
++ {}
 $ check t
 = 4 bad trace 2 kind 1
-t
-| 0000000014 H R 0 40
-+ 00
-$ check t
-= 4 bad trace 2 kind 1
-t
-| 0000000014 H R 0 40
-+ 000
-$ check t
-= 4 bad trace 2 kind 1
-t
-| 0000000014 H R 0 40
-+ 0000
-$ check t
-= 4 bad trace 2 kind 1
-t
-| 0000000014 H R 0 40
-+ 00000
-$ check t
-= 4 bad trace 2 kind 1
-t
-| 0000000014 H R 0 40
-+ 000000
-$ check t
-= 4 bad trace 2 kind 1
-t
-| 0000000014 H R 0 40
-+ 0000000
-$ check t
-= 4 bad trace 2 kind 1
-t
-| 0000000014 H R 0 40
-+ 00000000
-$ check t
-= 4 bad trace 2 kind 1
-t
-| 0000000014 H R 0 40
-+ 000000001
-$ check t
-= 4 bad trace 2 kind 1
-t
-| 0000000014 H R 0 40
-+ 000000001C
-$ check t
-= 4 bad trace 2 kind 1
-t
-| 0000000014 H R 0 40
-+ 000000001C 
-$ check t
-= 4 bad trace 2 kind 1
-t
-| 0000000014 H R 0 40
-+ 000000001C P
-$ check t
-= 4 bad trace 2 kind 1
-t
-| 0000000014 H R 0 40
-+ 000000001C P 
-$ check t
-= 4 bad trace 2 kind 1
-t
-| 0000000014 H R 0 40
-+ 000000001C P R
-$ check t
-= 4 bad trace 2 kind 1
-t
-| 0000000014 H R 0 40
-+ 000000001C P R 
-$ check t
-= 4 bad trace 2 kind 1
-t
-| 0000000014 H R 0 40
-+ 000000001C P R 2
-$ check t
-= 4 bad trace 2 kind 1
-t
-| 0000000014 H R 0 40
-+ 000000001C P R 2 
-$ check t
-= 4 bad trace 2 kind 1
-t
-| 0000000014 H R 0 40
-+ 000000001C P R 2 7
-$ check t
-= 4 bad trace 2 kind 1
-t
-| 0000000014 H R 0 40
-+ 000000001C P R 2 7F
-$ check t
-= 4 bad trace 2 kind 1
+end
 $ replay host t 2000 o --os os
 = 4 bad trace 2 kind 1
 none o.report o.host
@@ -457,167 +212,44 @@ t
 $ check t
 = 4 bad trace 1 kind 1
 # A script that is cut in its last line, at each place.
-os
-| org &C000
-| here: JMP here
-| org &FFFC
-| word here, 0
-tube
-| org &F800
-| loop: JMP loop
-| org &FFFC
-| word loop, 0
+os loop
+tube loop
+cuts at 6 down 41
 keys
 | at 5 shot
-+ a
-$ solo 100 o --os os --tube tube --keys keys
++ {}
+$ solo 100 o % --keys keys
 = 4 bad script 2 kind 1
+left 0
+end
+cuts adc 3 FFF0
 keys
 | at 5 shot
-+ at
-$ solo 100 o --os os --tube tube --keys keys
++ at 6 {}
+$ solo 100 o % --keys keys
 = 4 bad script 2 kind 1
+left 0
+end
+cuts break
 keys
 | at 5 shot
-+ at 
-$ solo 100 o --os os --tube tube --keys keys
++ at 6 {}
+$ solo 100 o % --keys keys
 = 4 bad script 2 kind 1
+left 0
+end
+each down 41, adc 3 FFF0, break
 keys
 | at 5 shot
-+ at 6
-$ solo 100 o --os os --tube tube --keys keys
++ at 6 {}
+run 100 o % --keys keys --wav w --speed 4
 = 4 bad script 2 kind 1
-keys
-| at 5 shot
-+ at 6 
-$ solo 100 o --os os --tube tube --keys keys
-= 4 bad script 2 kind 1
-keys
-| at 5 shot
-+ at 6 d
-$ solo 100 o --os os --tube tube --keys keys
-= 4 bad script 2 kind 1
-keys
-| at 5 shot
-+ at 6 do
-$ solo 100 o --os os --tube tube --keys keys
-= 4 bad script 2 kind 1
-keys
-| at 5 shot
-+ at 6 dow
-$ solo 100 o --os os --tube tube --keys keys
-= 4 bad script 2 kind 1
-keys
-| at 5 shot
-+ at 6 down
-$ solo 100 o --os os --tube tube --keys keys
-= 4 bad script 2 kind 1
-keys
-| at 5 shot
-+ at 6 down 
-$ solo 100 o --os os --tube tube --keys keys
-= 4 bad script 2 kind 1
-keys
-| at 5 shot
-+ at 6 down 4
-$ solo 100 o --os os --tube tube --keys keys
-= 4 bad script 2 kind 1
-keys
-| at 5 shot
-+ at 6 down 41
-$ solo 100 o --os os --tube tube --keys keys
-= 4 bad script 2 kind 1
-none o.report o.trace
-run 100 o --os os --tube tube --keys keys --wav w --speed 4
-= 4 bad script 2 kind 1
-none o.report o.trace w
-keys
-| at 5 shot
-+ at 6 a
-$ solo 100 o --os os --tube tube --keys keys
-= 4 bad script 2 kind 1
-keys
-| at 5 shot
-+ at 6 ad
-$ solo 100 o --os os --tube tube --keys keys
-= 4 bad script 2 kind 1
-keys
-| at 5 shot
-+ at 6 adc
-$ solo 100 o --os os --tube tube --keys keys
-= 4 bad script 2 kind 1
-keys
-| at 5 shot
-+ at 6 adc 
-$ solo 100 o --os os --tube tube --keys keys
-= 4 bad script 2 kind 1
-keys
-| at 5 shot
-+ at 6 adc 3
-$ solo 100 o --os os --tube tube --keys keys
-= 4 bad script 2 kind 1
-keys
-| at 5 shot
-+ at 6 adc 3 
-$ solo 100 o --os os --tube tube --keys keys
-= 4 bad script 2 kind 1
-keys
-| at 5 shot
-+ at 6 adc 3 F
-$ solo 100 o --os os --tube tube --keys keys
-= 4 bad script 2 kind 1
-keys
-| at 5 shot
-+ at 6 adc 3 FF
-$ solo 100 o --os os --tube tube --keys keys
-= 4 bad script 2 kind 1
-keys
-| at 5 shot
-+ at 6 adc 3 FFF
-$ solo 100 o --os os --tube tube --keys keys
-= 4 bad script 2 kind 1
-keys
-| at 5 shot
-+ at 6 adc 3 FFF0
-$ solo 100 o --os os --tube tube --keys keys
-= 4 bad script 2 kind 1
-none o.report o.trace
-run 100 o --os os --tube tube --keys keys --wav w --speed 4
-= 4 bad script 2 kind 1
-none o.report o.trace w
-keys
-| at 5 shot
-+ at 6 b
-$ solo 100 o --os os --tube tube --keys keys
-= 4 bad script 2 kind 1
-keys
-| at 5 shot
-+ at 6 br
-$ solo 100 o --os os --tube tube --keys keys
-= 4 bad script 2 kind 1
-keys
-| at 5 shot
-+ at 6 bre
-$ solo 100 o --os os --tube tube --keys keys
-= 4 bad script 2 kind 1
-keys
-| at 5 shot
-+ at 6 brea
-$ solo 100 o --os os --tube tube --keys keys
-= 4 bad script 2 kind 1
-keys
-| at 5 shot
-+ at 6 break
-$ solo 100 o --os os --tube tube --keys keys
-= 4 bad script 2 kind 1
-none o.report o.trace
-run 100 o --os os --tube tube --keys keys --wav w --speed 4
-= 4 bad script 2 kind 1
-none o.report o.trace w
+left 0
+end
 $ replay host t 100 o --os os --keys keys --wav w
 = 4 bad script 2 kind 1
 none o.report w
-run 100 o --os os --tube tube --keys keys --save s
+run 100 o % --keys keys --save s
 = 4 bad script 2 kind 1
 none o.report o.trace s
 $ follow host t 100 o --os os --keys keys

@@ -12,12 +12,8 @@ os
 | byte 2
 | org &FFFC
 | word &C000, 0
-tube
-| org &F800
-| loop: JMP loop
-| org &FFFC
-| word loop, 0
-$ solo 1000000 o --os os --tube tube --wav w --save s
+tube loop
+$ solo 1000000 o % --wav w --save s
 = 0
 file o.report
 | ticks 1000000
@@ -31,19 +27,21 @@ file o.trace
 size w 10462
 size s 18542
 keep
-run 1000000 o --os os --tube tube --wav w --save s
+each 1000
+run 1000000 o % --wav w --save s
 = 0
-same o.report o.host o.para o.trace w s
+left 6
 take s
 $ resume t 1000000 o --wav w --save s
 = 0
-same o.report o.host o.para o.trace w s
-run 1000 o --os os --tube tube --save s
+left 6
+run {} o % --save s
 = 0
 take s
 $ resume t 1000000 o --wav w --save s
 = 0
-same o.report o.host o.para o.trace w s
+left 6
+end
 t
 | 0000000024 H W 0 A0
 $ replay host t 1000000 o --os os --wav w
@@ -70,7 +68,8 @@ file o.list
 | 000000001A F800 A=00 X=00 Y=00 S=FD P=24 JMP &F800
 | 0000000020 F800 A=00 X=00 Y=00 S=FD P=24 JMP &F800
 ## The same at 4 MHz.
-$ solo 1000000 o --speed 4 --os os --tube tube --wav w --save s
+with --speed 4 --os os --tube tube
+$ solo 1000000 o % --wav w --save s
 = 0
 file o.report
 | ticks 1000000
@@ -85,19 +84,7 @@ file o.trace
 size w 5254
 size s 18542
 keep
-run 1000000 o --speed 4 --os os --tube tube --wav w --save s
-= 0
-same o.report o.host o.para o.trace w s
-take s
-$ resume t 1000000 o --wav w --save s
-= 0
-same o.report o.host o.para o.trace w s
-run 1000 o --speed 4 --os os --tube tube --save s
-= 0
-take s
-$ resume t 1000000 o --wav w --save s
-= 0
-same o.report o.host o.para o.trace w s
+again 1000
 t
 | T2
 | 0000000048 H W 0 A0
@@ -127,17 +114,13 @@ file o.list
 | 0000000039 F800 A=00 X=00 Y=00 S=FD P=24 JMP &F800
 | 0000000042 F800 A=00 X=00 Y=00 S=FD P=24 JMP &F800
 # Code from the Tube, which ends in breaks without end at 0000, for a million ticks.
-os
-| org &C000
-| here: JMP here
-| org &FFFC
-| word here, 0
+os loop
 tube
 | org &F800
 | start: JMP &FEF8
 | org &FFFC
 | word start, 0
-$ solo 1000000 o --os os --tube tube --wav w --save s
+$ solo 1000000 o % --wav w --save s
 = 0
 line o.report para PC=0000 A=00 X=00 Y=00 S=FA P=24
 line o.report tube 2
@@ -145,19 +128,7 @@ file o.trace
 | 0000000014 P R 0 40
 | 0000000016 P R 1 00
 keep
-run 1000000 o --os os --tube tube --wav w --save s
-= 0
-same o.report o.host o.para o.trace w s
-take s
-$ resume t 1000000 o --wav w --save s
-= 0
-same o.report o.host o.para o.trace w s
-run 22 o --os os --tube tube --save s
-= 0
-take s
-$ resume t 1000000 o --wav w --save s
-= 0
-same o.report o.host o.para o.trace w s
+again 22
 t
 | 0000000014 P R 0 40
 | 0000000016 P R 1 00
@@ -182,7 +153,8 @@ $ follow para t 1000000 o --tube tube --watch FEF8
 | listed 0 of 0
 size o.list 0
 ## The same at 4 MHz.
-$ solo 1000000 o --speed 4 --os os --tube tube --wav w --save s
+with --speed 4 --os os --tube tube
+$ solo 1000000 o % --wav w --save s
 = 0
 line o.report para PC=0000 A=00 X=00 Y=00 S=00 P=24
 line o.report tube 2
@@ -191,19 +163,7 @@ file o.trace
 | 000000001E P R 0 40
 | 0000000021 P R 1 00
 keep
-run 1000000 o --speed 4 --os os --tube tube --wav w --save s
-= 0
-same o.report o.host o.para o.trace w s
-take s
-$ resume t 1000000 o --wav w --save s
-= 0
-same o.report o.host o.para o.trace w s
-run 33 o --speed 4 --os os --tube tube --save s
-= 0
-take s
-$ resume t 1000000 o --wav w --save s
-= 0
-same o.report o.host o.para o.trace w s
+again 33
 t
 | T2
 | 000000001E P R 0 40
@@ -243,12 +203,8 @@ os
 | here: JMP here
 | org &FFFC
 | word &C000, 0
-tube
-| org &F800
-| loop: JMP loop
-| org &FFFC
-| word loop, 0
-$ solo 1000 o --os os --tube tube --plugs 2 --save s
+tube loop
+$ solo 1000 o % --plugs 2 --save s
 = 0
 at o.host 0070 03
 file o.trace
@@ -258,10 +214,10 @@ x 04
 file o.plug1
 * 4096 x 00 00 00 00 00 00 00 00 00 00 00 00 00 00 00 00
 keep
-run 1000 o --os os --tube tube --plugs 8
+run 1000 o % --plugs 8
 = 0
 same o.report o.host o.para o.trace o.plug0 o.plug1
-$ solo 1000 o --os os --tube tube --plugs 2 --save s
+$ solo 1000 o % --plugs 2 --save s
 = 0
 take s
 $ resume t 1000 o --save s
@@ -277,7 +233,7 @@ take s
 $ resume t 1000 o --save s
 = 0
 same o.report o.host o.para o.trace o.plug0 o.plug1 s
-run 2000 o --speed 4 --os os --tube tube --plugs 2
+run 2000 o --speed 4 % --plugs 2
 = 0
 same o.host o.plug0 o.plug1
 t
@@ -300,7 +256,7 @@ $ follow host t 1000 o --os os --plugs 2
 = 8: differs 1 000000006F H W 1 77
 none o.list
 plugs counter card
-$ solo 1000 o --os os --tube tube --plugs 2 --save s
+$ solo 1000 o % --plugs 2 --save s
 = 0
 take s
 plugs card counter
@@ -311,34 +267,9 @@ $ resume t 111 o
 = 0
 file o.trace
 # No access is kept.
-os
-| org &C000
-| LDX #0
-| wait: LDA &FEE0
-| BPL wait
-| LDA &FEE1
-| STA &70,X
-| INX
-| CPX #2
-| BNE wait
-| here: JMP here
-| org &FFFC
-| word &C000, 0
-tube
-| org &F800
-| start: LDX #31
-| copy: LDA &F800,X
-| STA &F800,X
-| DEX
-| BPL copy
-| LDA #&48
-| STA &FEF9
-| LDA #&49
-| STA &FEF9
-| stop: JMP stop
-| org &FFFC
-| word start, 0
-$ solo 2000 o --keep 0 --os os --tube tube --wav w --save s
+os letters
+tube letters
+$ solo 2000 o --keep 0 % --wav w --save s
 = 0
 file o.report
 | ticks 2000
@@ -353,52 +284,27 @@ size w 66
 size s 18535
 at s 0005 03 00 00 00 00 00
 keep
-run 2000 o --os os --tube tube --keep 0 --wav w --save s
+run 2000 o % --keep 0 --wav w --save s
 = 0
-same o.report o.host o.para o.trace w s
+left 6
 take s
 $ resume t 2000 o --keep 0 --wav w --save s
 = 0
-same o.report o.host o.para o.trace w s
+left 6
 $ resume t 2000 o
 = 0
 same o.host o.para
 line o.report kept 49
 size o.trace 980
-run 4000 o --os os --tube tube --keep 0 --speed 4
+run 4000 o % --keep 0 --speed 4
 = 0
 line o.report tube 38
 line o.report kept 0
 file o.trace
 | T2
 # A crew that starts no thread: every command but `run` goes on without one.
-os
-| org &C000
-| LDX #0
-| wait: LDA &FEE0
-| BPL wait
-| LDA &FEE1
-| STA &70,X
-| INX
-| CPX #2
-| BNE wait
-| here: JMP here
-| org &FFFC
-| word &C000, 0
-tube
-| org &F800
-| start: LDX #31
-| copy: LDA &F800,X
-| STA &F800,X
-| DEX
-| BPL copy
-| LDA #&48
-| STA &FEF9
-| LDA #&49
-| STA &FEF9
-| stop: JMP stop
-| org &FFFC
-| word start, 0
+os letters
+tube letters
 t
 | 0000000014 H R 0 40
 alone check t
@@ -416,10 +322,10 @@ alone dis 65c02 t C000 out
 file out
 | org &C000
 | NOP
-$ solo 2000 o --os os --tube tube --wav w --save s
+$ solo 2000 o % --wav w --save s
 = 0
 trace
-alone solo 2000 o --os os --tube tube --wav w --save s
+alone solo 2000 o % --wav w --save s
 = 0
 same o.report o.host o.para o.trace w
 alone replay host t 2000 o --os os --wav w
@@ -433,24 +339,24 @@ alone follow host t 2000 o --os os --watch 0070
 | listed 1 of 1
 file o.list
 | 00000003CC C00C A=48 X=00 Y=00 S=FD P=24 INX
-alone solo 1000 o --os os --tube tube --save s
+alone solo 1000 o % --save s
 = 0
 take s
 alone resume t 2000 o --wav w --save s
 = 0
-same o.report o.host o.para o.trace w s
+left 6
 alone gen 1
 = 0
 | seed 1
 | bytes 4096
 | sum 5D40
 | ticks 1000000
-alone run 2000 o --os os --tube tube --wav w --save s
+alone run 2000 o % --wav w --save s
 = 6 no thread
-none o.report o.host o.para o.trace w s
-alone run 2000 o --speed 4 --keep 0 --os os --tube tube --wav w --save s
+left 0
+alone run 2000 o --speed 4 --keep 0 % --wav w --save s
 = 6 no thread
-none o.report o.host o.para o.trace w s
+left 0
 ";
 
 #[test]

@@ -377,11 +377,7 @@ os
 | RTI
 | org &FFFA
 | word &C200, &C000, 0
-tube
-| org &F800
-| loop: JMP loop
-| org &FFFC
-| word loop, 0
+tube loop
 t
 * 256 x 00
 x 01 02 03 04 05 06 07 08 09 0A 0B 0C 0D 0E 0F 10

@@ -85,11 +85,7 @@ $ solo 3000000 o --tube tube --os os
 at o.host 0070 31 FF
 at o.para 0080 00 00
 # The first line that is outside the form, or the order, or has the 257th shot.
-os
-| org &C000
-| here: JMP here
-| org &FFFC
-| word here, 0
+os loop
 tube
 | org &F800
 | here: JMP here
@@ -130,11 +126,7 @@ $ solo 100 o --os os --tube tube --keys t
 = 2 too long t
 none o.report
 # A replay tests the form of the trace first, then that of the script, and then the trace's answers.
-os
-| org &C000
-| here: JMP here
-| org &FFFC
-| word here, 0
+os loop
 t
 | 0000000000 H R
 $ replay host t 100 o --os os --keys t

@@ -225,13 +225,7 @@ none demo.002.ppm
 keep
 $ solo 3000000 demo --os os --rom15 lang --rom14 dfs --tube tube --disc0 t --keys keys
 = 0
-same demo.report
-same demo.host
-same demo.para
-same demo.d0
-same demo.000.ppm
-same demo.001.ppm
-same demo.trace
+same demo.report demo.host demo.para demo.d0 demo.000.ppm demo.001.ppm demo.trace
 ## The same at 4 MHz, in ticks of half the length: the host does the same.
 keys
 | at 400000 down 64
@@ -264,10 +258,7 @@ run 6000000 demo --speed 4 --os os --rom15 lang --rom14 dfs --tube tube --disc0 
 = 0
 line demo.report frames 2
 at demo.para 0080 64 22 65 43 23 35 36 56 41 10 25 54 00
-same demo.host
-same demo.d0
-same demo.000.ppm
-same demo.001.ppm
+same demo.host demo.d0 demo.000.ppm demo.001.ppm
 keys
 | at 200000 down 64
 | at 300000 up 64
@@ -297,21 +288,12 @@ keys
 | at 2900000 shot
 alone run 3000000 demo --os os --rom15 lang --rom14 dfs --tube tube --disc0 t --keys keys
 = 6 no thread
-none demo.report
-none demo.host
-none demo.para
-none demo.d0
-none demo.000.ppm
-none demo.trace
+none demo.report demo.host demo.para demo.d0 demo.000.ppm demo.trace
 fails - 2
 run 3000000 demo --os os --rom15 lang --rom14 dfs --tube tube --disc0 t --keys keys
 = 5 cannot write demo.para
-same demo.report
-same demo.host
-none demo.para
-none demo.d0
-none demo.000.ppm
-none demo.trace
+same demo.report demo.host
+none demo.para demo.d0 demo.000.ppm demo.trace
 ## The same saved, and taken up again half a million ticks further on.
 fails - -
 run 3000000 demo --save s --os os --rom15 lang --rom14 dfs --tube tube --disc0 t --keys keys
@@ -323,13 +305,7 @@ keep
 take s
 $ resume t 3500000 demo
 = 0
-same demo.report
-same demo.host
-same demo.para
-same demo.d0
-same demo.000.ppm
-same demo.001.ppm
-same demo.trace
+same demo.report demo.host demo.para demo.d0 demo.000.ppm demo.001.ppm demo.trace
 # The demonstration of a seed: the sum of its bytes, sixteen times each, from a generator of another making.
 $ gen 1
 = 0

@@ -4,16 +4,8 @@ use std::test::Fail;
 
 const SCENES: &str = "\
 # A shot before the first frame is finished is black. One at the last tick is not taken any more.
-os
-| org &C000
-| here: JMP here
-| org &FFFC
-| word here, 0
-tube
-| org &F800
-| loop: JMP loop
-| org &FFFC
-| word loop, 0
+os loop
+tube loop
 keys
 | at 1 shot
 | at 300000 shot
@@ -64,11 +56,7 @@ os
 | colours: byte &07,&17,&27,&37,&47,&57,&67,&77,&80,&90,&A0,&B0,&C0,&D0,&E0,&F0
 |        org &FFFC
 |        word start, 0
-tube
-| org &F800
-| loop: JMP loop
-| org &FFFC
-| word loop, 0
+tube loop
 keys
 | at 1 shot
 | at 400000 shot
@@ -87,19 +75,14 @@ size o.001.ppm 491535
 keep
 run 400001 o --tube tube --os os --keys keys
 = 0
-same o.report
-same o.000.ppm
-same o.001.ppm
-same o.002.ppm
+same o.report o.000.ppm o.001.ppm o.002.ppm
 keys
 | at 2 shot
 | at 800000 shot
 | at 800000 shot
 $ solo 800001 o --tube tube --os os --keys keys --speed 4
 = 0
-same o.000.ppm
-same o.001.ppm
-same o.002.ppm
+same o.000.ppm o.001.ppm o.002.ppm
 $ solo 800000 o --tube tube --os os --keys keys --speed 4
 = 0
 line o.report frames 1
@@ -120,11 +103,7 @@ os
 | timing: byte &3F,&28,&33,&24,&1E,&02,&19,&1B,&93,&12,&20,0,&28,0
 |        org &FFFC
 |        word start, 0
-tube
-| org &F800
-| loop: JMP loop
-| org &FFFC
-| word loop, 0
+tube loop
 keys
 | at 400000 shot
 t
@@ -139,16 +118,8 @@ $ solo 400001 o --tube tube --os os --keys keys
 = 0
 at o.000.ppm 0F0F 00 00 00
 # A font has 960 bytes. It is read after the ROMs and before the discs, and its length is tested there.
-os
-| org &C000
-| here: JMP here
-| org &FFFC
-| word here, 0
-tube
-| org &F800
-| loop: JMP loop
-| org &FFFC
-| word loop, 0
+os loop
+tube loop
 t
 * 959 x 3F
 $ solo 7 o --os os --tube tube --font t
@@ -173,16 +144,8 @@ $ solo 7 o --os os --tube tube --disc0 t --font os
 $ solo 7 o --os os --tube tube --font n
 = 2 cannot read n
 # A frame that cannot be written: the files before it are whole.
-os
-| org &C000
-| here: JMP here
-| org &FFFC
-| word here, 0
-tube
-| org &F800
-| loop: JMP loop
-| org &FFFC
-| word loop, 0
+os loop
+tube loop
 t
 x 07
 keys

@@ -23,11 +23,7 @@ os
 | here: JMP here
 | org &FFFC
 | word &C000, 0
-tube
-| org &F800
-| loop: JMP loop
-| org &FFFC
-| word loop, 0
+tube loop
 t
 $ solo 1000 o --plugs 2 --os os --tube tube
 = 0
@@ -40,17 +36,10 @@ none o.plug2
 keep
 run 1000 o --plugs 8 --os os --tube tube
 = 0
-same o.report
-same o.host
-same o.para
-same o.trace
-same o.plug0
-same o.plug1
+same o.report o.host o.para o.trace o.plug0 o.plug1
 $ replay host t 1000 o --os os --plugs 2
 = 0
-same o.host
-same o.plug0
-same o.plug1
+same o.host o.plug0 o.plug1
 $ replay host t 1000 o --os os --plugs 1
 = 0
 at o.host 0070 77 05 FF FF
@@ -69,16 +58,8 @@ $ solo 0 o --os os --tube tube --plugs 2
 size o.plug0 65536
 size o.plug1 0
 # They are written last.
-os
-| org &C000
-| here: JMP here
-| org &FFFC
-| word here, 0
-tube
-| org &F800
-| loop: JMP loop
-| org &FFFC
-| word loop, 0
+os loop
+tube loop
 fails - 4
 $ solo 7 o --os os --tube tube --plugs 2
 = 5 cannot write o.plug0
@@ -104,11 +85,7 @@ os
 | here: JMP here
 | org &FFFC
 | word &C000, 0
-tube
-| org &F800
-| loop: JMP loop
-| org &FFFC
-| word loop, 0
+tube loop
 $ solo 1000 o --os os --tube tube --plugs 3
 = 0
 at o.host 0070 00 01 06
@@ -120,27 +97,16 @@ size o.plug2 0
 keep
 run 1000 o --os os --tube tube --plugs 3
 = 0
-same o.host
-same o.plug0
-same o.plug1
+same o.host o.plug0 o.plug1
 # A device of whose bytes there is no memory for: what comes before them is written.
 plugs counter mute counter
-os
-| org &C000
-| here: JMP here
-| org &FFFC
-| word here, 0
-tube
-| org &F800
-| loop: JMP loop
-| org &FFFC
-| word loop, 0
+os loop
+tube loop
 $ solo 7 o --os os --tube tube --plugs 3
 = 7 no memory
 file o.plug0
 x 00
-none o.plug1
-none o.plug2
+none o.plug1 o.plug2
 $ solo 7 o --os os --tube tube --plugs 1
 = 0
 file o.plug0

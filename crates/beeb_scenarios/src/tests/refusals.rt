@@ -94,38 +94,29 @@ file out
 | org &FFFF
 | NOP
 # replay para: the first cause.
-tube
-| org &F800
-| loop: JMP loop
-| org &FFFC
-| word loop, 0
+tube loop
 t
 | 0000000014 H R 0 40
 fails - -
 $ replay para absent 100 o --tube absent
 = 2 cannot read absent
-none o.report
-none o.para
+none o.report o.para
 fails - -
 $ replay para t 100 o --tube absent
 = 2 cannot read absent
-none o.report
-none o.para
+none o.report o.para
 fails 0 -
 $ replay para t 100 o --tube tube
 = 2 cannot read t
-none o.report
-none o.para
+none o.report o.para
 fails 1 -
 $ replay para t 100 o --tube tube
 = 2 cannot read tube
-none o.report
-none o.para
+none o.report o.para
 fails - 0
 $ replay para t 100 o --tube tube
 = 5 cannot write o.report
-none o.report
-none o.para
+none o.report o.para
 fails - 1
 $ replay para t 100 o --tube tube
 = 5 cannot write o.para
@@ -146,72 +137,38 @@ t
 + x
 $ replay para t 100 o --tube tube
 = 3 bad image tube 2047
-none o.report
-none o.para
-tube
-| org &F800
-| loop: JMP loop
-| org &FFFC
-| word loop, 0
+none o.report o.para
+tube loop
 t
 | 0000000014 H R 0 00
 + x
 $ replay para t 100 o --tube tube
 = 4 bad trace 2 kind 1
-none o.report
-none o.para
+none o.report o.para
 # replay host: the first cause.
-os
-| org &C000
-| LDX #0
-| wait: LDA &FEE0
-| BPL wait
-| LDA &FEE1
-| STA &70,X
-| INX
-| CPX #2
-| BNE wait
-| here: JMP here
-| org &FFFC
-| word &C000, 0
+os letters
 t
 | 0000000000 H R 0 40
 fails 0 -
 $ replay host t 100 o --os os
 = 2 cannot read t
-none o.report
-none o.host
+none o.report o.host
 fails 1 -
 $ replay host t 100 o --os os
 = 2 cannot read os
-none o.report
-none o.host
+none o.report o.host
 # replay host: the operating system before the ROMs, these by their slots, and lengths before forms.
-os
-| org &C000
-| LDX #0
-| wait: LDA &FEE0
-| BPL wait
-| LDA &FEE1
-| STA &70,X
-| INX
-| CPX #2
-| BNE wait
-| here: JMP here
-| org &FFFC
-| word &C000, 0
+os letters
 t
 | 0000000000 H R 0 40
 fails 2 -
 $ replay host t 100 o --rom9 t --os os --rom7 t
 = 2 cannot read t
-none o.report
-none o.host
+none o.report o.host
 fails 3 -
 $ replay host t 100 o --rom9 t --os os --rom7 t
 = 2 cannot read t
-none o.report
-none o.host
+none o.report o.host
 fails - -
 t
 + x
@@ -222,33 +179,17 @@ os
 | byte 0
 $ replay host t 100 o --rom9 t --os os --rom7 t
 = 3 bad image os 16383
-none o.report
-none o.host
-os
-| org &C000
-| LDX #0
-| wait: LDA &FEE0
-| BPL wait
-| LDA &FEE1
-| STA &70,X
-| INX
-| CPX #2
-| BNE wait
-| here: JMP here
-| org &FFFC
-| word &C000, 0
+none o.report o.host
+os letters
 $ replay host t 100 o --rom9 t --os os --rom7 t
 = 3 bad image rom7 1
-none o.report
-none o.host
+none o.report o.host
 $ replay host t 100 o --os t --rom3 os
 = 3 bad image os 1
-none o.report
-none o.host
+none o.report o.host
 $ replay host t 100 o --os os
 = 4 bad trace 1 kind 1
-none o.report
-none o.host
+none o.report o.host
 # replay host: puts that fail.
 os
 | org &C000
@@ -259,8 +200,7 @@ t
 fails - 0
 $ replay host t 100 o --os os
 = 5 cannot write o.report
-none o.report
-none o.host
+none o.report o.host
 fails - 1
 $ replay host t 100 o --os os
 = 5 cannot write o.host
@@ -271,122 +211,60 @@ $ replay host t 100 o --os os
 = 0
 size o.host 32768
 # solo: the first cause.
-os
-| org &C000
-| LDX #0
-| wait: LDA &FEE0
-| BPL wait
-| LDA &FEE1
-| STA &70,X
-| INX
-| CPX #2
-| BNE wait
-| here: JMP here
-| org &FFFC
-| word &C000, 0
-tube
-| org &F800
-| loop: JMP loop
-| org &FFFC
-| word loop, 0
+os letters
+tube loop
 t
 + x
 fails - -
 $ solo 7 o --tube no --os none
 = 2 cannot read none
-none o.report
-none o.host
-none o.para
-none o.trace
+none o.report o.host o.para o.trace
 fails - -
 $ solo 7 o --rom0 os --tube no --os os
 = 2 cannot read no
-none o.report
-none o.host
-none o.para
-none o.trace
+none o.report o.host o.para o.trace
 fails 0 -
 $ solo 7 o --tube tube --os os
 = 2 cannot read os
-none o.report
-none o.host
-none o.para
-none o.trace
+none o.report o.host o.para o.trace
 fails 1 -
 $ solo 7 o --tube tube --os os
 = 2 cannot read tube
-none o.report
-none o.host
-none o.para
-none o.trace
+none o.report o.host o.para o.trace
 fails 2 -
 $ solo 7 o --rom0 os --tube tube --os os
 = 2 cannot read os
-none o.report
-none o.host
-none o.para
-none o.trace
+none o.report o.host o.para o.trace
 fails - -
 $ solo 7 o --tube t --os t
 = 3 bad image os 1
-none o.report
-none o.host
-none o.para
-none o.trace
+none o.report o.host o.para o.trace
 fails - -
 $ solo 7 o --rom3 t --tube t --os os
 = 3 bad image tube 1
-none o.report
-none o.host
-none o.para
-none o.trace
+none o.report o.host o.para o.trace
 fails - -
 $ solo 7 o --rom3 t --tube tube --os os
 = 3 bad image rom3 1
-none o.report
-none o.host
-none o.para
-none o.trace
+none o.report o.host o.para o.trace
 # solo: the files before the one that fails are whole, and no other is written.
-os
-| org &C000
-| LDX #0
-| wait: LDA &FEE0
-| BPL wait
-| LDA &FEE1
-| STA &70,X
-| INX
-| CPX #2
-| BNE wait
-| here: JMP here
-| org &FFFC
-| word &C000, 0
-tube
-| org &F800
-| loop: JMP loop
-| org &FFFC
-| word loop, 0
+os letters
+tube loop
 fails - 0
 $ solo 7 o --tube tube --os os
 = 5 cannot write o.report
-none o.report
-none o.host
-none o.para
-none o.trace
+none o.report o.host o.para o.trace
 fails - 1
 $ solo 7 o --tube tube --os os
 = 5 cannot write o.host
 line o.report ticks 7
-none o.host
-none o.para
-none o.trace
+none o.host o.para o.trace
 fails - 2
 $ solo 7 o --tube tube --os os
 = 5 cannot write o.para
 line o.report ticks 7
 size o.host 32768
-none o.para
-none o.trace
+none o.para o.trace
 fails - 3
 $ solo 7 o --tube tube --os os
 = 5 cannot write o.trace

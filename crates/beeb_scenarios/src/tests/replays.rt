@@ -4,11 +4,7 @@ use std::test::Fail;
 
 const SCENES: &str = "\
 # Reset, held and let go.
-tube
-| org &F800
-| loop: JMP loop
-| org &FFFC
-| word loop, 0
+tube loop
 t
 | 0000000062 H W 0 A0
 | 0000000065 H W 0 20
@@ -20,11 +16,7 @@ file o.report
 | tube 0
 size o.para 65536
 # Reset, held.
-tube
-| org &F800
-| loop: JMP loop
-| org &FFFC
-| word loop, 0
+tube loop
 t
 | 0000000062 H W 0 A0
 $ replay para t 200 o --tube tube
@@ -51,11 +43,7 @@ file o.report
 | tube 2
 size o.para 65536
 # The whole trace is checked, and entries from the last tick on are not replayed.
-tube
-| org &F800
-| loop: JMP loop
-| org &FFFC
-| word loop, 0
+tube loop
 t
 | 0000000000 H R 0 40
 | 0000000014 P R 0 40
@@ -67,20 +55,7 @@ file o.report
 | tube 0
 size o.para 65536
 # Two letters to register 1.
-tube
-| org &F800
-| start: LDX #31
-| copy: LDA &F800,X
-| STA &F800,X
-| DEX
-| BPL copy
-| LDA #&48
-| STA &FEF9
-| LDA #&49
-| STA &FEF9
-| stop: JMP stop
-| org &FFFC
-| word start, 0
+tube letters
 t
 | 000000039A P W 1 48
 | 00000003A6 P W 1 49
@@ -92,25 +67,11 @@ file o.report
 | tube 2
 size o.para 65536
 # No entry where the second processor writes or reads.
-tube
-| org &F800
-| start: LDX #31
-| copy: LDA &F800,X
-| STA &F800,X
-| DEX
-| BPL copy
-| LDA #&48
-| STA &FEF9
-| LDA #&49
-| STA &FEF9
-| stop: JMP stop
-| org &FFFC
-| word start, 0
+tube letters
 t
 $ replay --tube tube para t 2000 o
 = 8: differs 1 000000039A P W 1 48
-none o.report
-none o.para
+none o.report o.para
 tube
 | org &F800
 | start: JMP &FEF8
@@ -119,8 +80,7 @@ tube
 t
 $ replay --tube tube para t 2000 o
 = 8: differs 1 0000000014 P R 0 --
-none o.report
-none o.para
+none o.report o.para
 tube
 | org &F800
 | start: JMP &FEF8
@@ -131,8 +91,7 @@ t
 | 0000000014 P R 0 40
 $ replay --tube tube para t 2000 o
 = 8: differs 3 0000000016 P R 1 --
-none o.report
-none o.para
+none o.report o.para
 # Another register and another tick.
 tube
 | org &F800
@@ -143,8 +102,7 @@ t
 | 0000000014 P R 2 7F
 $ replay --tube tube para t 2000 o
 = 8: differs 1 0000000014 P R 0 --
-none o.report
-none o.para
+none o.report o.para
 tube
 | org &F800
 | start: JMP &FEF8
@@ -154,33 +112,22 @@ t
 | 0000000013 P R 0 40
 $ replay --tube tube para t 2000 o
 = 8: differs 1 0000000014 P R 0 --
-none o.report
-none o.para
+none o.report o.para
 # An entry where it does nothing more.
-tube
-| org &F800
-| loop: JMP loop
-| org &FFFC
-| word loop, 0
+tube loop
 t
 | 0000000001 H R 0 40
 | 0000000014 P R 0 40
 $ replay --tube tube para t 2000 o
 = 8: differs 2 -
-none o.report
-none o.para
+none o.report o.para
 # A trace that the chip would not give is told before it is replayed.
-tube
-| org &F800
-| loop: JMP loop
-| org &FFFC
-| word loop, 0
+tube loop
 t
 | 0000000014 P R 0 41
 $ replay --tube tube para t 2000 o
 = 8: wrong 1 40
-none o.report
-none o.para
+none o.report o.para
 # An opcode without an instruction.
 os
 | org &C000
@@ -233,19 +180,7 @@ file o.report
 at o.host 01FD 00
 size o.host 32768
 # Nothing is done in no ticks.
-os
-| org &C000
-| LDX #0
-| wait: LDA &FEE0
-| BPL wait
-| LDA &FEE1
-| STA &70,X
-| INX
-| CPX #2
-| BNE wait
-| here: JMP here
-| org &FFFC
-| word &C000, 0
+os letters
 t
 $ replay host t 0 o --os os
 = 0
@@ -274,43 +209,17 @@ $ replay --rom14 os host --os os t 200 o
 = 0
 at o.host 0070 FF
 # Where the host differs.
-os
-| org &C000
-| LDX #0
-| wait: LDA &FEE0
-| BPL wait
-| LDA &FEE1
-| STA &70,X
-| INX
-| CPX #2
-| BNE wait
-| here: JMP here
-| org &FFFC
-| word &C000, 0
+os letters
 t
 | 0000000001 P R 0 00
 $ replay host t 100 o --os os
 = 8: wrong 1 40
-none o.report
-none o.host
-os
-| org &C000
-| LDX #0
-| wait: LDA &FEE0
-| BPL wait
-| LDA &FEE1
-| STA &70,X
-| INX
-| CPX #2
-| BNE wait
-| here: JMP here
-| org &FFFC
-| word &C000, 0
+none o.report o.host
+os letters
 t
 $ replay host t 100 o --os os
 = 8: differs 1 0000000024 H R 0 --
-none o.report
-none o.host
+none o.report o.host
 os
 | org &C000
 | INC &FEE1
@@ -320,8 +229,7 @@ t
 | 0000000000 H R 0 40
 $ replay host t 100 o --os os
 = 8: differs 1 000000001E H R 1 --
-none o.report
-none o.host
+none o.report o.host
 os
 | org &C000
 | byte 2
@@ -331,8 +239,7 @@ t
 | 0000000000 H R 0 40
 $ replay host t 100 o --os os
 = 8: differs 1 -
-none o.report
-none o.host
+none o.report o.host
 ";
 
 #[test]

@@ -5,27 +5,32 @@
 //! - `| TEXT` is the text and a line feed, and `+ TEXT` the text alone,
 //! - `x 4C 00` are bytes, and `* N LINE` is one of these N times.
 //!
+//! Lines that are done for each of a list are written out first (`sheet.rt`).
+//!
 //! The steps:
 //!
 //! - `# TITLE` begins a scene: nothing lies on the shelf, and no call fails. `## MORE` goes on with its title.
 //! - `t`: the files `t`, `t.dsd` and `game.ssd` have these bytes, and with `keys` the file `keys`. `os`, `lang` and `dfs`, and `tube`: the files of
-//!   these names are the images of these source texts, for the 6502 and the 65C02. `ticks A, B`: the file `t` is a trace of these accesses, one
-//!   at each tick from 0.
+//!   these names are the images of these source texts, for the 6502 and the 65C02; with a name, as `os letters`, of the program of that name
+//!   (`programs.rt`). `ticks A, B`: the file `t` is a trace of these accesses, one at each tick from 0.
 //! - `plugs NAME..`: these devices are handed in: `card` and `latch`, which are handed in where no others are named, a `counter`, or a `mute`.
 //! - `fails N,.. M,..`: these calls of the shelf and these of the outlet fail, where `-` is none.
 //! - `$ WORDS`: the words are carried out, where `''` is a word of no letters. `run ..`: these very words are carried out, in two threads, and
-//!   `alone WORDS` by a crew that starts no thread.
+//!   `alone WORDS` by a crew that starts no thread. In words `%` is `--os os --tube tube`, or what a step `with WORDS` says in place of it.
 //! - `= STATUS`: they ended with this number and text, the kind of the offence where there is one, and what was said behind a
 //!   colon, or below. `! WORDS` carries out words that are outside the grammar.
 //! - `file NAME`: the file was written with these bytes. `none NAME..`: these were not written. `line NAME TEXT`: this is one of
 //!   its lines. `size NAME N` is its length, and `at NAME ADDRESS BYTES` are its bytes from an address on.
 //! - `trace`: the file `o.trace` becomes the file `t`, the chip gives all its answers, and the outputs are kept. `keep`: the outputs are
-//!   kept, and nothing else. `same NAME..`: these files are the same as in the outputs that were kept. `take NAME`: the file becomes the file
-//!   `t`, and `back NAME` that of the outputs that were kept. `poke AT BYTE`: the byte at this place of `t` becomes another; `cut N`: `t` has its
-//!   first N bytes alone.
+//!   kept, and nothing else. `same NAME..`: these files are the same as in the outputs that were kept. `left N`: so are the first N of the
+//!   names `o.report o.host o.para o.trace w s`, or of those of a step `outputs NAME..`, and the others were not written. `take NAME`: the file
+//!   becomes the file `t`, and `back NAME` that of the outputs that were kept. `poke AT BYTE`: the byte at this place of `t` becomes another;
+//!   `cut N`: `t` has its first N bytes alone.
 ghost use Rattle.std.specs.Prelude.{◌≡◌, IfOk, string_bytes};
 
 use super::guests::devices;
+use super::programs::program;
+use super::sheet::written_out;
 use asm65::assemble;
 use beeb_files::{Crew, FailCrew, MemOutlet, MemShelf, ThreadCrew};
 use beeb_top::{Status, plain, top};
@@ -49,6 +54,8 @@ struct Scene {
     dfs: Vec<u8>,
     keys: Vec<u8>,
     plugs: Vec<u8>,
+    with: Vec<u8>,
+    outputs: Vec<u8>,
     get_fails: Vec<u32>,
     put_fails: Vec<u32>,
     told: Vec<u8>,
@@ -62,7 +69,8 @@ pub(crate) fn all_hold<R: Threads + Wait + Sync + Abort>(
     alloc: Global,
     scenes: &str,
 ) -> Result<(), Fail> {
-    let wrong = first_wrong(rt, alloc, scenes)?;
+    let scenes = written_out(alloc, scenes)?;
+    let wrong = first_wrong(rt, alloc, scenes.as_str())?;
     assert!(rt; wrong.is_none(), "{}", wrong.unwrap_or(String::new(alloc)));
     Ok(())
 }
@@ -154,6 +162,8 @@ impl Scene {
             dfs: Vec::new(alloc),
             keys: Vec::new(alloc),
             plugs: Vec::new(alloc),
+            with: Vec::new(alloc),
+            outputs: Vec::new(alloc),
             get_fails: Vec::new(alloc),
             put_fails: Vec::new(alloc),
             told: Vec::new(alloc),
@@ -176,14 +186,19 @@ impl Scene {
     ) -> Result<bool, Fail> {
         let (word, rest) = step.split_once(' ').unwrap_or((step, ""));
         match word {
-            "" | "#" | "##" | "ticks" | "plugs" | "fails" | "take" | "back" | "poke" | "cut" => {
+            "" | "#" | "##" | "ticks" | "fails" | "take" | "back" | "poke" | "cut" => {
                 self.lay(word, rest)
+            }
+            "plugs" | "with" | "outputs" => self.note(word, rest),
+            "os" | "tube" if !rest.is_empty() => {
+                self.lay_file(word, program(word, rest).as_bytes())
             }
             "t" | "keys" | "os" | "lang" | "dfs" | "tube" => self.lay_file(word, bytes),
             "run" => self.share(rt, step, &mut ThreadCrew::make()),
             "alone" => self.share(rt, rest, &mut FailCrew::make()),
             "$" | "!" | "trace" | "keep" => self.act(word, rest),
             "none" | "same" => self.are_left(word, rest),
+            "left" => self.first_are_left(number(rest)),
             _ => self.is_left(word, rest, bytes),
         }
     }
@@ -197,7 +212,6 @@ impl Scene {
                 self.title = rest.as_bytes().to_vec(alloc)?;
             }
             "ticks" => self.t = trace(alloc, rest)?,
-            "plugs" => self.plugs = rest.as_bytes().to_vec(alloc)?,
             "take" => self.t = self.out.file(rest).unwrap_or(b"nothing").to_vec(alloc)?,
             "back" => self.t = self.kept.file(rest).unwrap_or(b"nothing").to_vec(alloc)?,
             "poke" => {
@@ -213,6 +227,17 @@ impl Scene {
                 self.put_fails = calls_of(alloc, put)?;
             }
             _ => {}
+        }
+        Ok(true)
+    }
+
+    // What is said of the steps to come.
+    fn note(&mut self, word: &str, rest: &str) -> Result<bool, Fail> {
+        let said = rest.as_bytes().to_vec(self.alloc)?;
+        match word {
+            "plugs" => self.plugs = said,
+            "with" => self.with = said,
+            _ => self.outputs = said,
         }
         Ok(true)
     }
@@ -252,7 +277,7 @@ impl Scene {
         let alloc = self.alloc;
         let mut shelf = self.shelf()?;
         let mut out = MemOutlet::make(alloc, self.put_fails.to_vec(alloc)?);
-        let words = words_of(alloc, words)?;
+        let words = self.words(words)?;
         let status = plain(alloc, &words, &mut shelf, &mut out, self.devices()?);
         self.told = told(alloc, &status, out.said())?;
         self.out = out;
@@ -269,7 +294,7 @@ impl Scene {
         let alloc = self.alloc;
         let mut shelf = self.shelf()?;
         let mut out = MemOutlet::make(alloc, self.put_fails.to_vec(alloc)?);
-        let words = words_of(alloc, words)?;
+        let words = self.words(words)?;
         let plugs = self.devices()?;
         let status = top(rt, alloc, &words, &mut shelf, &mut out, crew, plugs);
         self.told = told(alloc, &status, out.said())?;
@@ -277,17 +302,15 @@ impl Scene {
         Ok(true)
     }
 
+    fn words(&self, row: &str) -> Result<Vec<String>, AllocError> {
+        let with = said_or(&self.with, "--os os --tube tube");
+        let row = row.replace(self.alloc, "%", with)?;
+        words_of(self.alloc, row.as_str())
+    }
+
     // The devices that are handed in: the program's, where no others are named.
     fn devices(&self) -> Result<Vec<Box<dyn BusDevice + Send>>, Fail> {
-        let names = text_of(&self.plugs);
-        devices(
-            self.alloc,
-            if names.is_empty() {
-                "card latch"
-            } else {
-                names
-            },
-        )
+        devices(self.alloc, said_or(&self.plugs, "card latch"))
     }
 
     fn shelf(&self) -> Result<MemShelf, AllocError> {
@@ -336,6 +359,18 @@ impl Scene {
         Ok(true)
     }
 
+    // The first of the outputs are the same as those that were kept, and the others were not written.
+    fn first_are_left(&self, count: u32) -> Result<bool, Fail> {
+        let names = said_or(&self.outputs, "o.report o.host o.para o.trace w s");
+        for (i, name) in names.split(' ').enumerate() {
+            let word = if i < count as usize { "same" } else { "none" };
+            if !self.is_left(word, name, &[])? {
+                return Ok(false);
+            }
+        }
+        Ok(true)
+    }
+
     // What the last words ended with, and what they left.
     fn is_left(&self, word: &str, rest: &str, bytes: &[u8]) -> Result<bool, Fail> {
         if word == "=" {
@@ -366,6 +401,12 @@ fn entry(alloc: Global, name: &str, bytes: &[u8]) -> Result<(String, Vec<u8>), A
 // The file as a text, of no lines where it is none.
 fn text_of(file: &[u8]) -> &str {
     std::str::from_utf8(file).unwrap_or("")
+}
+
+// What a step said, or this where none did.
+fn said_or<'a>(said: &'a [u8], usual: &'a str) -> &'a str {
+    let said = text_of(said);
+    if said.is_empty() { usual } else { said }
 }
 
 // How many lines of a trace are entries: all but the one that tells a second processor at 4 MHz.

@@ -4,38 +4,13 @@ use std::test::Fail;
 
 const SCENES: &str = "\
 # A saved session: two letters.
-os
-| org &C000
-| LDX #0
-| wait: LDA &FEE0
-| BPL wait
-| LDA &FEE1
-| STA &70,X
-| INX
-| CPX #2
-| BNE wait
-| here: JMP here
-| org &FFFC
-| word &C000, 0
-tube
-| org &F800
-| start: LDX #31
-| copy: LDA &F800,X
-| STA &F800,X
-| DEX
-| BPL copy
-| LDA #&48
-| STA &FEF9
-| LDA #&49
-| STA &FEF9
-| stop: JMP stop
-| org &FFFC
-| word start, 0
-$ solo 1000 o --os os --tube tube --save half
+os letters
+tube letters
+$ solo 1000 o % --save half
 = 0
 size half 18864
 keep
-$ solo 2000 o --os os --tube tube --save s
+$ solo 2000 o % --save s
 = 0
 size s 18878
 at s 0 42 54 55 42 01 03 00 00 07 D0 00 00 00 40 00
@@ -44,48 +19,32 @@ keep
 back s
 $ resume t 2000 o --save s
 = 0
-same o.report
-same o.host
-same o.para
-same o.trace
-same s
+same o.report o.host o.para o.trace s
 ## A session of a session, which is another length, and each goes on below, at and above its moment.
 $ resume t 1000 o --save half
 = 0
 size half 18864
 keep
-$ solo 1000 o --os os --tube tube --save half
+$ solo 1000 o % --save half
 = 0
-same o.report
-same o.host
-same o.para
-same o.trace
-same half
+same o.report o.host o.para o.trace half
 take half
 $ resume t 1000 o --save half
 = 0
-same o.report
-same o.host
-same o.para
-same o.trace
-same half
+same o.report o.host o.para o.trace half
 keep
-$ solo 2000 o --os os --tube tube --save s
+$ solo 2000 o % --save s
 = 0
 keep
 $ resume t 2000 o --save s
 = 0
-same o.report
-same o.host
-same o.para
-same o.trace
-same s
+same o.report o.host o.para o.trace s
 $ resume t 0 o
 = 0
 line o.report kept 0
 line o.report ticks 0
 ## With fewer accesses kept than there were: the moment is the tick of the last of them, and it is none of the session's.
-$ solo 2000 o --os os --tube tube --keep 48 --save few
+$ solo 2000 o % --keep 48 --save few
 = 0
 keep
 back few
@@ -95,46 +54,18 @@ line o.report tube 49
 line o.report kept 49
 $ resume t 2000 o --keep 48 --save few
 = 0
-same o.report
-same o.trace
-same few
-$ solo 2000 o --os os --tube tube --keep 0 --save none
+same o.report o.trace few
+$ solo 2000 o % --keep 0 --save none
 = 0
 at none 6 00 00 00 00 00
 take none
 $ resume t 2000 o --keep 48
 = 0
-same o.report
-same o.trace
+same o.report o.trace
 # A damaged session: of all its fields the first at fault is told.
-os
-| org &C000
-| LDX #0
-| wait: LDA &FEE0
-| BPL wait
-| LDA &FEE1
-| STA &70,X
-| INX
-| CPX #2
-| BNE wait
-| here: JMP here
-| org &FFFC
-| word &C000, 0
-tube
-| org &F800
-| start: LDX #31
-| copy: LDA &F800,X
-| STA &F800,X
-| DEX
-| BPL copy
-| LDA #&48
-| STA &FEF9
-| LDA #&49
-| STA &FEF9
-| stop: JMP stop
-| org &FFFC
-| word start, 0
-$ solo 2000 o --os os --tube tube --save s
+os letters
+tube letters
+$ solo 2000 o % --save s
 = 0
 keep
 back s
@@ -150,24 +81,17 @@ $ resume t 2000 o
 = 4 bad state 18877
 none o.report
 back s
-poke 5 05
+each 5 05, 0 43
+poke {}
 $ resume t 2000 o
-= 4 bad state 5
-poke 0 43
-$ resume t 2000 o
-= 4 bad state 0
+= 4 bad state {1}
+end
+each 4 02, 6 40, 10 09
 back s
-poke 4 02
+poke {}
 $ resume t 2000 o
-= 4 bad state 4
-back s
-poke 6 40
-$ resume t 2000 o
-= 4 bad state 6
-back s
-poke 10 09
-$ resume t 2000 o
-= 4 bad state 10
+= 4 bad state {1}
+end
 back s
 poke 14 01
 $ resume t 2000 o
@@ -180,34 +104,9 @@ cut 0
 $ resume t 2000 o
 = 4 bad state 0
 # The host does not do what the session tells; at and above the end of the run the chip alone is asked.
-os
-| org &C000
-| LDX #0
-| wait: LDA &FEE0
-| BPL wait
-| LDA &FEE1
-| STA &70,X
-| INX
-| CPX #2
-| BNE wait
-| here: JMP here
-| org &FFFC
-| word &C000, 0
-tube
-| org &F800
-| start: LDX #31
-| copy: LDA &F800,X
-| STA &F800,X
-| DEX
-| BPL copy
-| LDA #&48
-| STA &FEF9
-| LDA #&49
-| STA &FEF9
-| stop: JMP stop
-| org &FFFC
-| word start, 0
-$ solo 2000 o --os os --tube tube --save s
+os letters
+tube letters
+$ solo 2000 o % --save s
 = 0
 keep
 back s
@@ -221,39 +120,14 @@ $ resume t 1019 o
 = 0
 line o.report kept 48
 # A script, two devices, breaks and a sound file at 4 MHz.
-os
-| org &C000
-| LDX #0
-| wait: LDA &FEE0
-| BPL wait
-| LDA &FEE1
-| STA &70,X
-| INX
-| CPX #2
-| BNE wait
-| here: JMP here
-| org &FFFC
-| word &C000, 0
-tube
-| org &F800
-| start: LDX #31
-| copy: LDA &F800,X
-| STA &F800,X
-| DEX
-| BPL copy
-| LDA #&48
-| STA &FEF9
-| LDA #&49
-| STA &FEF9
-| stop: JMP stop
-| org &FFFC
-| word start, 0
+os letters
+tube letters
 keys
 | at 60 down 12
 | at 900 break
 | at 1500 up 12
 t
-$ solo 3000 o --os os --tube tube --keys keys --speed 4 --plugs 2 --wav w --save s
+$ solo 3000 o % --keys keys --speed 4 --plugs 2 --wav w --save s
 = 0
 at s 5 04
 at s A 02
@@ -261,25 +135,13 @@ keep
 back s
 $ resume t 3000 o --wav w --save s
 = 0
-same o.report
-same o.host
-same o.para
-same o.trace
-same o.plug0
-same o.plug1
-same w
-same s
+same o.report o.host o.para o.trace o.plug0 o.plug1 w s
 $ resume t 1000 o --save half
 = 0
 take half
 $ resume t 3000 o --wav w --save s
 = 0
-same o.report
-same o.host
-same o.para
-same o.trace
-same w
-same s
+same o.report o.host o.para o.trace w s
 ## The script of a session is looked at behind the form of its file.
 back s
 poke 18531 62

@@ -4,33 +4,8 @@ use std::test::Fail;
 
 const SCENES: &str = "\
 # Two letters: the host looks 43 times in vain before the first of them.
-os
-| org &C000
-| LDX #0
-| wait: LDA &FEE0
-| BPL wait
-| LDA &FEE1
-| STA &70,X
-| INX
-| CPX #2
-| BNE wait
-| here: JMP here
-| org &FFFC
-| word &C000, 0
-tube
-| org &F800
-| start: LDX #31
-| copy: LDA &F800,X
-| STA &F800,X
-| DEX
-| BPL copy
-| LDA #&48
-| STA &FEF9
-| LDA #&49
-| STA &FEF9
-| stop: JMP stop
-| org &FFFC
-| word start, 0
+os letters
+tube letters
 $ solo --keep 49 2000 --tube tube o --os os
 = 0
 file o.report
@@ -195,24 +170,8 @@ file o.report
 | tube 2
 same o.para
 # Nothing is done in no ticks.
-os
-| org &C000
-| LDX #0
-| wait: LDA &FEE0
-| BPL wait
-| LDA &FEE1
-| STA &70,X
-| INX
-| CPX #2
-| BNE wait
-| here: JMP here
-| org &FFFC
-| word &C000, 0
-tube
-| org &F800
-| loop: JMP loop
-| org &FFFC
-| word loop, 0
+os letters
+tube loop
 $ solo 0 o --os os --tube tube
 = 0
 file o.report
@@ -249,11 +208,7 @@ os
 | JSR &C100
 | org &FFFC
 | word &C000, 0
-tube
-| org &F800
-| loop: JMP loop
-| org &FFFC
-| word loop, 0
+tube loop
 $ solo 31 o --os os --tube tube
 = 0
 file o.report
@@ -287,11 +242,7 @@ os
 | INC &FEE1
 | org &FFFC
 | word &C000, 0
-tube
-| org &F800
-| loop: JMP loop
-| org &FFFC
-| word loop, 0
+tube loop
 $ solo 40 o --os os --tube tube
 = 0
 file o.report

@@ -70,11 +70,7 @@ os
 | here: JMP here
 | org &FFFC
 | word &C000, 0
-tube
-| org &F800
-| loop: JMP loop
-| org &FFFC
-| word loop, 0
+tube loop
 t
 $ replay host t 36000 o --os os --plugs 2 --wav w
 = 0
@@ -94,10 +90,7 @@ same w
 fails - 4
 $ replay host t 36000 o --os os --plugs 2 --wav w
 = 5 cannot write w
-same o.report
-same o.host
-same o.plug0
-same o.plug1
+same o.report o.host o.plug0 o.plug1
 none w
 fails - 3
 $ replay host t 36000 o --os os --plugs 2 --wav w

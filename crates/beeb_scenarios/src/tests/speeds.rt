@@ -4,11 +4,7 @@ use std::test::Fail;
 
 const SCENES: &str = "\
 # One letter: the same cycle is another tick.
-os
-| org &C000
-| here: JMP here
-| org &FFFC
-| word here, 0
+os loop
 tube
 | org &F800
 | LDA #&48
@@ -31,10 +27,7 @@ file turbo.trace
 keep
 run 40 turbo --speed 4 --os os --tube tube
 = 0
-same turbo.report
-same turbo.host
-same turbo.para
-same turbo.trace
+same turbo.report turbo.host turbo.para turbo.trace
 $ solo 40 turbo --os os --tube tube --speed 3
 = 0
 file turbo.trace
@@ -54,11 +47,7 @@ file turbo.trace
 ! check t --speed 4
 ! gen 1 --speed 4
 # A trace of each clock is checked, and replayed by a machine of its clock alone. A text outside its form is told as that.
-tube
-| org &F800
-| loop: JMP loop
-| org &FFFC
-| word loop, 0
+tube loop
 t
 | 0000000062 H W 0 A0
 | 0000000065 H W 0 20
@@ -116,11 +105,7 @@ t
 $ replay para t 200 o --tube tube
 = 4 bad trace 2 kind 1
 # The clock of a trace is looked at before a script, and after the images.
-os
-| org &C000
-| here: JMP here
-| org &FFFC
-| word here, 0
+os loop
 t
 | T2
 keys
@@ -132,33 +117,8 @@ $ replay host t 100 o --os os --keys keys --speed 4
 $ replay host t 100 o --os t --keys keys
 = 3 bad image os 3
 # Two letters: with a second processor at 4 MHz the host looks 32 times in vain before the first of them, where it looked 43 times.
-os
-| org &C000
-| LDX #0
-| wait: LDA &FEE0
-| BPL wait
-| LDA &FEE1
-| STA &70,X
-| INX
-| CPX #2
-| BNE wait
-| here: JMP here
-| org &FFFC
-| word &C000, 0
-tube
-| org &F800
-| start: LDX #31
-| copy: LDA &F800,X
-| STA &F800,X
-| DEX
-| BPL copy
-| LDA #&48
-| STA &FEF9
-| LDA #&49
-| STA &FEF9
-| stop: JMP stop
-| org &FFFC
-| word start, 0
+os letters
+tube letters
 $ solo 4000 o --os os --tube tube --speed 4
 = 0
 file o.report
@@ -217,10 +177,7 @@ $ replay para t 4000 o --tube tube --speed 4
 same o.para
 run 4000 o --os os --tube tube --speed 4
 = 0
-same o.report
-same o.host
-same o.para
-same o.trace
+same o.report o.host o.para o.trace
 ";
 
 #[test]
