@@ -158,7 +158,8 @@ impl RomSet {
     /// The ROM of a slot below 16, of 8,192 or 16,384 bytes. None where the slot is empty.
     pub fn rom(&self, slot: u8) -> Option<&[u8]>
         requires { slot < 16 }
-        ensures bytes { MatchOption result ((at : ℕ) → rom_byte self.now.slots slot at ≡ 0xFF) (λ rom. (at : ℕ) → rom_byte self.now.slots slot at ≡ slice_index (in_slot rom.now) at) }
+        ensures bytes { MatchOption result ((at : ℕ) → rom_byte self.now.slots slot at ≡ 0xFF)
+            (λ rom. (at : ℕ) → rom_byte self.now.slots slot at ≡ slice_index (in_slot rom.now) at) }
         ensures length { IfSome result (λ rom. (length rom.now ≡ HALF_SIZE) ⊎ (length rom.now ≡ ROM_SIZE)) }
     {
         match self.places[slot as usize] {
