@@ -261,6 +261,7 @@ impl<D: BusDevice> Plain<()> for HostBus<D> {
 
     #[inline(always)]
     fn put(&mut self, t: u64, cycle: u64, at: u16, byte: u8, _notes: &mut ()) {
-        self.bus.put(t + self.bus.clock().host() * cycle + 1, at, byte);
+        self.bus
+            .put(t + self.bus.clock().host() * cycle + 1, at, byte);
     }
 }
