@@ -60,6 +60,9 @@ pub(crate) fn implied<N, M: Plain<N>>(part: Part, row: Row, r: &mut Regs, memory
     }
 }
 
+/// The place of an operand that is A.
+struct OnA;
+
 /// A shift, INC or DEC of A.
 #[inline(always)]
 pub(crate) fn accumulator<N, M: Plain<N>>(
@@ -79,7 +82,7 @@ pub(crate) fn accumulator<N, M: Plain<N>>(
 {
     r.move_past(1);
     let a = r.a;
-    operations::change(row.mnemonic, Mode::Acc, r, a);
+    operations::change::<OnA, N, M>(row.mnemonic, Mode::Acc, r, a);
     2
 }
 

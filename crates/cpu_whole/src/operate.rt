@@ -82,6 +82,9 @@ pub(crate) fn store<N, M: Plain<N>>(
     to.cycles + 1
 }
 
+/// The place of an operand in memory.
+struct InMemory;
+
 /// The operand is read and written back. Of the two bytes that the NMOS part writes there the first is the one that stands there.
 #[inline(always)]
 pub(crate) fn change<N, M: Plain<N>>(
@@ -117,7 +120,7 @@ pub(crate) fn change<N, M: Plain<N>>(
     }
     let byte = memory.byte(to.at);
     r.move_past(to.bytes);
-    let value = operations::change(row.mnemonic, row.mode, r, byte);
+    let value = operations::change::<InMemory, N, M>(row.mnemonic, row.mode, r, byte);
     memory.put(t, to.cycles + 2, to.at, value, notes);
     to.cycles + 3
 }

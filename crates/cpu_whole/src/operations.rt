@@ -7,6 +7,7 @@ ghost use Rattle.cpu_alu.specs.declared.flags.TheConstants.{CARRY, DECIMAL};
 ghost use Rattle.cpu_whole.specs.CodeWays.{is_modifying};
 ghost use Rattle.cpu_alu.specs.Instructions.{bus_use, is_decimal, with_sum, stored_value, pushed_value, takes_branch, read_result, modified_value, modify_result, implied_result, pull_result};
 
+use crate::plain::Plain;
 use cpu_alu::{
     BusUse, CARRY, DECIMAL, NEGATIVE, OVERFLOW, Regs, Sum, ZERO, adc, has_flag, sbc, with_flag,
 };
@@ -173,7 +174,7 @@ fn change_by(mnemonic: Mnemonic, mode: Mode, r: &mut Regs, m: u8) -> u8
 
 /// What a modify instruction makes of the byte `m` of the memory and, PC apart, of the registers.
 #[inline(always)]
-pub(crate) fn change(mnemonic: Mnemonic, mode: Mode, r: &mut Regs, m: u8) -> u8
+pub(crate) fn change<W, N, M: Plain<N>>(mnemonic: Mnemonic, mode: Mode, r: &mut Regs, m: u8) -> u8
     requires { is_modifying (bus_use mnemonic) ≡ true }
     ensures value { result ≡ modified_value mnemonic r.old m }
     ensures regs { r.new ≡ modify_result mnemonic mode r.old m }
