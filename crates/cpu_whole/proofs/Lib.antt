@@ -3,5 +3,5 @@ pub mod Operands
 pub mod Masks
 pub mod AtOperand
 pub mod Forms
-pub mod UsesTables
+pub mod KnownTables
 pub mod RowBytes

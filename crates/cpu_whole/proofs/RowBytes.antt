@@ -9,7 +9,7 @@ use Rattle.op_table.specs.declared.rows.Row.{Row}
 use Rattle.op_table.specs.Forms.{Form, forms, form_at}
 use Rattle.op_table.specs.Rows.{bytes_of, row_of, row_or_spare, nmos_row, cmos_row}
 use Rattle.cpu_alu.specs.declared.uses.BusUse.{BusUse}
-use Rattle.cpu_alu.specs.declared.uses.BusUse.TheVariants.{Implied, Pulls, Pushes, Reads, Stores}
+use Rattle.cpu_alu.specs.declared.uses.BusUse.TheVariants.{Implied, Pulls, Pushes}
 use Rattle.cpu_alu.specs.Instructions.{bus_use}
 use Rattle.cpu_core.specs.Accesses.{row_at}
 use Rattle.cpu_whole.specs.CodeWays.{is_modifying}
@@ -29,12 +29,6 @@ by_part : (part : Part) (op : ℕ) (row : Row) → row_at part op ≡ Some row �
 unfolding nmos_row cmos_row
 by_part Nmos op row decoded apart = by_form (form_at (forms Nmos) op) row decoded
 by_part Cmos op row decoded apart = by_spare op (form_at (forms Cmos) op) row decoded apart
-
-pub of_reads : (part : Part) (op : ℕ) (row : Row) → row_at part op ≡ Some row → bus_use row.mnemonic ≡ Reads → row.bytes ≡ bytes_of row.mode
-of_reads part op row decoded uses = by_part part op row decoded (λ e. let no : Reads ≡ Implied = sym uses ∙ e in cc)
-
-pub of_stores : (part : Part) (op : ℕ) (row : Row) → row_at part op ≡ Some row → bus_use row.mnemonic ≡ Stores → row.bytes ≡ bytes_of row.mode
-of_stores part op row decoded uses = by_part part op row decoded (λ e. let no : Stores ≡ Implied = sym uses ∙ e in cc)
 
 pub of_modifying : (part : Part) (op : ℕ) (row : Row) → row_at part op ≡ Some row → is_modifying (bus_use row.mnemonic) ≡ true → row.bytes ≡ bytes_of row.mode
 of_modifying part op row decoded uses = by_part part op row decoded (λ e. let no : false ≡ true = ap is_modifying (sym e) ∙ uses in cc)

@@ -2,9 +2,9 @@
 use Rattle.std.specs.Prelude.{◌≡◌, ℕ, zero, suc, Bool, true, false, List, [], ◌∷◌, ◌++◌, length, Option, Some, None, MatchOption, slice_get}
 use Rattle.op_table.specs.declared.names.Part.{Part}
 use Rattle.op_table.specs.declared.names.Mode.{Mode}
-use Rattle.op_table.specs.declared.names.Mode.TheVariants.{Zp, ZpX, ZpY, Abs, AbsX, AbsY, IndX, IndY, IndZp}
+use Rattle.op_table.specs.declared.names.Mode.TheVariants.{Spare, Zp, ZpX, ZpY, Abs, AbsX, AbsY, IndX, IndY, IndZp}
 use Rattle.op_table.specs.declared.names.Mnemonic.{Mnemonic}
-use Rattle.op_table.specs.declared.names.Mnemonic.TheVariants.{Cli, Pla, Plx, Ply, Sei}
+use Rattle.op_table.specs.declared.names.Mnemonic.TheVariants.{Cli, Nop, Pla, Plx, Ply, Sei}
 use Rattle.cpu_alu.specs.declared.Regs.{Regs}
 use Rattle.cpu_alu.specs.declared.Cycle.{Cycle}
 use Rattle.cpu_alu.specs.declared.uses.BusUse.{BusUse}
@@ -13,6 +13,7 @@ use Rattle.cpu_alu.specs.declared.Cycle.TheVariants.{Read}
 use Rattle.op_table.specs.declared.rows.Row.{Row}
 use Rattle.cpu_alu.specs.Addresses.{place, with_pc_past}
 use Rattle.cpu_alu.specs.Instructions.{bus_use, modify_result}
+use Rattle.cpu_whole.specs.declared.known.Known.{Known}
 use Rattle.cpu_core.specs.Accesses.{row_at, reach, address, operand, modify_form, form, jump_form, through}
 use Rattle.cpu_core.specs.Results.{after_row, indirect_target, jump_target}
 use Rattle.cpu_core.specs.Sequences.{shown_byte}
@@ -89,10 +90,10 @@ pub record IsPointer (part : Part) (way : Mode) {M : Type 0} (g : Reach M) (r : 
   pub targets : (f : List (Option ℕ)) → jump_target part way f ≡ indirect_target part f
   pub found : (f : List (Option ℕ)) → pointer (Some (g.byte m r.pc) ∷ Some (g.byte m (place r 1)) ∷ Some (g.byte m (place r 2)) ∷ f) ≡ at
 
--- how the instruction of an opcode uses the bus; an opcode without one counts as BRK
-abbrev pub uses_in : Option Row → BusUse
-uses_in None = Breaks
-uses_in (Some row) = bus_use row.mnemonic
+-- what is known of an opcode, by its row; one without an instruction counts as BRK
+abbrev pub known_in : Option Row → Known
+known_in None = record { uses = Breaks; mnemonic = Nop; mode = Spare; bytes = 1 }
+known_in (Some row) = record { uses = bus_use row.mnemonic; mnemonic = row.mnemonic; mode = row.mode; bytes = row.bytes }
 
-abbrev pub uses_at : Part → ℕ → BusUse
-uses_at part op = uses_in (row_at part op)
+abbrev pub known_at : Part → ℕ → Known
+known_at part op = known_in (row_at part op)

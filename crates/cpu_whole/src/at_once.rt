@@ -4,12 +4,12 @@ ghost use Rattle.cpu_alu.specs.Addresses.{place};
 ghost use Rattle.cpu_alu.specs.Instructions.{bus_use};
 ghost use Rattle.cpu_core.specs.Accesses.{row_at};
 ghost use Rattle.cpu_whole.specs.Whole.{AreRead, IsDone};
-ghost use Rattle.cpu_whole.specs.CodeWays.{IsModifying, is_modifying, uses_at};
+ghost use Rattle.cpu_whole.specs.CodeWays.{IsModifying, is_modifying, known_at};
 
 use crate::alone::{accumulator, branch, call, go_back, implied, jump, pull, push};
+use crate::known::{Known, known_at};
 use crate::operate::{change, load, store};
 use crate::plain::Plain;
-use crate::uses::uses_at;
 use cpu_alu::{BusUse, Regs};
 use op_table::{Mode, Part, Row, cmos, nmos};
 
@@ -73,14 +73,19 @@ fn modify<N, M: Plain<N>>(
 
 /// The instruction of an opcode that has one.
 #[inline(always)]
-fn row_of(part: Part, op: u8, uses: BusUse) -> Row
-    requires uses { uses ≡ uses_at part op }
-    requires some { uses ≢ BusUse.Breaks }
+fn row_of(part: Part, op: u8, known: &Known) -> Row
+    requires known { known.now ≡ known_at part op }
+    requires some { known.now.uses ≢ BusUse.Breaks }
     ensures row { row_at part op ≡ Some result }
-    ensures uses { bus_use result.mnemonic ≡ uses }
+    ensures uses { bus_use result.mnemonic ≡ known.now.uses }
 {
     match row_at(part, op) {
-        Some(row) => row,
+        Some(row) => Row {
+            mnemonic: known.mnemonic,
+            mode: known.mode,
+            bytes: known.bytes,
+            cycles: row.cycles,
+        },
         None => unreachable!(),
     }
 }
@@ -90,7 +95,7 @@ fn row_of(part: Part, op: u8, uses: BusUse) -> Row
 fn carry_out<N, M: Plain<N>>(
     part: Part,
     op: u8,
-    uses: BusUse,
+    known: &Known,
     r: &mut Regs,
     memory: &mut M,
     first: u8,
@@ -102,7 +107,7 @@ fn carry_out<N, M: Plain<N>>(
     requires runs { AreRead M.reach r.old.pc }
     requires first { first ≡ (M.reach).byte (M.state memory.old) (place r.old 1) }
     requires op { op ≡ (M.reach).byte (M.state memory.old) r.old.pc }
-    requires uses { uses ≡ uses_at part op }
+    requires known { known.now ≡ known_at part op }
     ensures done { 0 < result → IsDone part M.reach t r.old (M.state memory.old) result r.new (M.state memory.new) }
     ensures still { result ≡ 0 → (r.new ≡ r.old) × (memory.new ≡ memory.old) × (notes.new ≡ notes.old) }
     ensures order { M.may_come (M.state memory.new) t result }
@@ -110,30 +115,39 @@ fn carry_out<N, M: Plain<N>>(
     ensures room { M.room notes.old ≤ M.room notes.new + result }
     ensures few { result ≤ 8 }
 {
+    let uses = known.uses;
     if (uses as u8) < BusUse::Shifts as u8 {
         match uses {
-            BusUse::Reads => load::<N, M>(part, row_of(part, op, uses), r, memory, first),
-            BusUse::Implied => implied::<N, M>(part, row_of(part, op, uses), r, memory),
+            BusUse::Reads => load::<N, M>(part, row_of(part, op, known), r, memory, first),
+            BusUse::Implied => implied::<N, M>(part, row_of(part, op, known), r, memory),
             // Stores
-            _ => store::<N, M>(part, row_of(part, op, uses), r, memory, first, t, notes),
+            _ => store::<N, M>(part, row_of(part, op, known), r, memory, first, t, notes),
         }
     } else if (uses as u8) < BusUse::Pushes as u8 {
-        let row = row_of(part, op, uses);
+        let row = row_of(part, op, known);
         let always = waits(part, row, uses);
         modify::<N, M>(part, row, always, r, memory, first, t, notes)
     } else if (uses as u8) < BusUse::Jumps as u8 {
         match uses {
-            BusUse::Branches => branch::<N, M>(part, row_of(part, op, uses), r, memory, first),
-            BusUse::Pushes => push::<N, M>(part, row_of(part, op, uses), r, memory, t, notes),
+            BusUse::Branches => branch::<N, M>(part, row_of(part, op, known), r, memory, first),
+            BusUse::Pushes => push::<N, M>(part, row_of(part, op, known), r, memory, t, notes),
             // Pulls
-            _ => pull::<N, M>(part, row_of(part, op, uses), r, memory),
+            _ => pull::<N, M>(part, row_of(part, op, known), r, memory),
         }
     } else if (uses as u8) < BusUse::Resumes as u8 {
         match uses {
-            BusUse::Calls => call::<N, M>(part, row_of(part, op, uses), r, memory, first, t, notes),
-            BusUse::Returns => go_back::<N, M>(part, row_of(part, op, uses), r, memory),
+            BusUse::Calls => call::<N, M>(
+                part,
+                row_of(part, op, known),
+                r,
+                memory,
+                first,
+                t,
+                notes,
+            ),
+            BusUse::Returns => go_back::<N, M>(part, row_of(part, op, known), r, memory),
             // Jumps
-            _ => jump::<N, M>(part, row_of(part, op, uses), r, memory, first),
+            _ => jump::<N, M>(part, row_of(part, op, known), r, memory, first),
         }
     } else {
         0
@@ -160,5 +174,5 @@ pub fn whole<N, M: Plain<N>>(part: Part, r: &mut Regs, memory: &mut M, t: u64, n
     }
     let op = memory.byte(r.pc);
     let first = memory.byte(r.place(1));
-    carry_out::<N, M>(part, op, uses_at(part, op), r, memory, first, t, notes)
+    carry_out::<N, M>(part, op, known_at(part, op), r, memory, first, t, notes)
 }

@@ -3,10 +3,10 @@
 
 mod alone;
 mod at_once;
+mod known;
 mod operate;
 mod operations;
 mod plain;
-mod uses;
 mod ways;
 
 pub use at_once::whole;

@@ -23,7 +23,7 @@ pub(crate) fn load<N, M: Plain<N>>(part: Part, row: Row, r: &mut Regs, memory: &
     ensures still { result ≡ 0 → r.new ≡ r.old }
     ensures few { result ≤ 8 }
 {
-    let to = find::<N, M>(part, row.mode, row.bytes, false, r, memory, first);
+    let to = find::<N, M>(part, row.mode, false, r, memory, first);
     if to.cycles == 0 {
         return 0;
     }
@@ -32,7 +32,7 @@ pub(crate) fn load<N, M: Plain<N>>(part: Part, row: Row, r: &mut Regs, memory: &
     }
     let byte = memory.byte(to.at);
     let pc = r.pc;
-    r.move_past(to.bytes);
+    r.move_past(row.bytes);
     if !operations::read(part, row.mnemonic, row.mode, r, byte) {
         r.pc = pc;
         return 0;
@@ -64,7 +64,7 @@ pub(crate) fn store<N, M: Plain<N>>(
     ensures room { M.room notes.old ≤ M.room notes.new + result }
     ensures few { result ≤ 8 }
 {
-    let to = find::<N, M>(part, row.mode, row.bytes, true, r, memory, first);
+    let to = find::<N, M>(part, row.mode, true, r, memory, first);
     if to.cycles == 0 {
         return 0;
     }
@@ -78,7 +78,7 @@ pub(crate) fn store<N, M: Plain<N>>(
         operations::stored(row.mnemonic, r),
         notes,
     );
-    r.move_past(to.bytes);
+    r.move_past(row.bytes);
     to.cycles + 1
 }
 
@@ -111,7 +111,7 @@ pub(crate) fn change<N, M: Plain<N>>(
     ensures room { M.room notes.old ≤ M.room notes.new + result }
     ensures few { result ≤ 8 }
 {
-    let to = find::<N, M>(part, row.mode, row.bytes, always, r, memory, first);
+    let to = find::<N, M>(part, row.mode, always, r, memory, first);
     if to.cycles == 0 {
         return 0;
     }
@@ -119,7 +119,7 @@ pub(crate) fn change<N, M: Plain<N>>(
         return 0;
     }
     let byte = memory.byte(to.at);
-    r.move_past(to.bytes);
+    r.move_past(row.bytes);
     let value = operations::change::<InMemory, N, M>(row.mnemonic, row.mode, r, byte);
     memory.put(t, to.cycles + 2, to.at, value, notes);
     to.cycles + 3

@@ -1,6 +1,5 @@
 //! The ways to the operand of an instruction in memory.
 ghost use Rattle.std.specs.Prelude.{ℕ, ◌≡◌, ◌<◌, ◌≤◌, ◌+◌, ◌%◌, ◌||◌, true, cond};
-ghost use Rattle.op_table.specs.Rows.{bytes_of};
 ghost use Rattle.cpu_alu.specs.Addresses.{word, wrap, place, crosses_page};
 ghost use Rattle.cpu_core.specs.Accesses.{idle, in_page};
 ghost use Rattle.cpu_whole.specs.Whole.{AreRead};
@@ -17,8 +16,6 @@ pub(crate) struct Reached {
     pub(crate) at: u16,
     /// The cycles before its own, or 0 where one of them is not of plain memory.
     pub(crate) cycles: u64,
-    /// The bytes of the instruction.
-    pub(crate) bytes: u8,
 }
 
 /// A byte of the zero page or the stack.
@@ -42,7 +39,7 @@ pub(crate) fn idles<N, M: Plain<N>>(part: Part, memory: &M, so_far: u16) -> bool
     }
 }
 
-/// An index is added to an address that took so many cycles, in an instruction of so many bytes.
+/// An index is added to an address that took so many cycles.
 #[inline(always)]
 fn indexed<N, M: Plain<N>>(
     part: Part,
@@ -52,37 +49,26 @@ fn indexed<N, M: Plain<N>>(
     high: u8,
     index: u8,
     before: u64,
-    bytes: u8,
 ) -> Reached
     requires some { 0 < before }
     requires few { before < 8 }
     ensures at { result.at ≡ wrap (word low high + index) }
     ensures cycles { 0 < result.cycles → result.cycles ≡ cond (always || crosses_page low index) (before + 1) before }
     ensures few { result.cycles ≤ before + 1 }
-    ensures bytes { result.bytes ≡ bytes }
     ensures idle { 0 < result.cycles → (always || crosses_page low index) ≡ true → (last : ℕ) → (M.reach).reads last ≡ true →
         (M.reach).reads (idle part (in_page low high index) last) ≡ true }
 {
     let at = wrapping_sum(word(low, high), index as u16);
     let waits = always || crosses_page(low, index);
     if !waits {
-        return Reached {
-            at,
-            cycles: before,
-            bytes,
-        };
+        return Reached { at, cycles: before };
     }
     if !idles::<N, M>(part, memory, word(low.wrapping_add(index), high)) {
-        return Reached {
-            at,
-            cycles: 0,
-            bytes,
-        };
+        return Reached { at, cycles: 0 };
     }
     Reached {
         at,
         cycles: before + 1,
-        bytes,
     }
 }
 
@@ -93,10 +79,9 @@ fn absolute_x<N, M: Plain<N>>(part: Part, always: bool, r: &Regs, memory: &M, fi
     requires first { first ≡ (M.reach).byte (M.state memory.now) (place r.now 1) }
     ensures reached { (t : ℕ) → 0 < result.cycles → IsReached part M.reach t Mode.AbsX always r.now (M.state memory.now) result.at result.cycles }
     ensures few { result.cycles ≤ 5 }
-    ensures bytes { result.bytes ≡ 3 }
 {
     let high = memory.byte(r.place(2));
-    indexed::<N, M>(part, always, memory, first, high, r.x, 3, 3)
+    indexed::<N, M>(part, always, memory, first, high, r.x, 3)
 }
 
 /// An absolute address with Y.
@@ -106,10 +91,9 @@ fn absolute_y<N, M: Plain<N>>(part: Part, always: bool, r: &Regs, memory: &M, fi
     requires first { first ≡ (M.reach).byte (M.state memory.now) (place r.now 1) }
     ensures reached { (t : ℕ) → 0 < result.cycles → IsReached part M.reach t Mode.AbsY always r.now (M.state memory.now) result.at result.cycles }
     ensures few { result.cycles ≤ 5 }
-    ensures bytes { result.bytes ≡ 3 }
 {
     let high = memory.byte(r.place(2));
-    indexed::<N, M>(part, always, memory, first, high, r.y, 3, 3)
+    indexed::<N, M>(part, always, memory, first, high, r.y, 3)
 }
 
 /// A pointer in the zero page, and Y added.
@@ -119,11 +103,10 @@ fn pointer_y<N, M: Plain<N>>(part: Part, always: bool, r: &Regs, memory: &M, fir
     requires first { first ≡ (M.reach).byte (M.state memory.now) (place r.now 1) }
     ensures reached { (t : ℕ) → 0 < result.cycles → IsReached part M.reach t Mode.IndY always r.now (M.state memory.now) result.at result.cycles }
     ensures few { result.cycles ≤ 5 }
-    ensures bytes { result.bytes ≡ 2 }
 {
     let low = low_byte::<N, M>(memory, first as u16);
     let high = low_byte::<N, M>(memory, in_zero_page(first, 1));
-    indexed::<N, M>(part, always, memory, low, high, r.y, 4, 2)
+    indexed::<N, M>(part, always, memory, low, high, r.y, 4)
 }
 
 /// A pointer in the zero page.
@@ -133,14 +116,12 @@ fn pointer<N, M: Plain<N>>(part: Part, always: bool, r: &Regs, memory: &M, first
     requires first { first ≡ (M.reach).byte (M.state memory.now) (place r.now 1) }
     ensures reached { (t : ℕ) → IsReached part M.reach t Mode.IndZp always r.now (M.state memory.now) result.at result.cycles }
     ensures few { result.cycles ≤ 5 }
-    ensures bytes { result.bytes ≡ 2 }
 {
     let low = low_byte::<N, M>(memory, first as u16);
     let high = low_byte::<N, M>(memory, in_zero_page(first, 1));
     Reached {
         at: word(low, high),
         cycles: 4,
-        bytes: 2,
     }
 }
 
@@ -151,14 +132,12 @@ fn pointer_x<N, M: Plain<N>>(part: Part, always: bool, r: &Regs, memory: &M, fir
     requires first { first ≡ (M.reach).byte (M.state memory.now) (place r.now 1) }
     ensures reached { (t : ℕ) → IsReached part M.reach t Mode.IndX always r.now (M.state memory.now) result.at result.cycles }
     ensures few { result.cycles ≤ 5 }
-    ensures bytes { result.bytes ≡ 2 }
 {
     let low = low_byte::<N, M>(memory, in_zero_page(first, r.x as u16));
     let high = low_byte::<N, M>(memory, in_zero_page(first, r.x as u16 + 1));
     Reached {
         at: word(low, high),
         cycles: 5,
-        bytes: 2,
     }
 }
 
@@ -169,12 +148,10 @@ fn zero_page_x<N, M: Plain<N>>(part: Part, always: bool, r: &Regs, memory: &M, f
     requires first { first ≡ (M.reach).byte (M.state memory.now) (place r.now 1) }
     ensures reached { (t : ℕ) → IsReached part M.reach t Mode.ZpX always r.now (M.state memory.now) result.at result.cycles }
     ensures few { result.cycles ≤ 5 }
-    ensures bytes { result.bytes ≡ 2 }
 {
     Reached {
         at: in_zero_page(first, r.x as u16),
         cycles: 3,
-        bytes: 2,
     }
 }
 
@@ -185,12 +162,10 @@ fn zero_page_y<N, M: Plain<N>>(part: Part, always: bool, r: &Regs, memory: &M, f
     requires first { first ≡ (M.reach).byte (M.state memory.now) (place r.now 1) }
     ensures reached { (t : ℕ) → IsReached part M.reach t Mode.ZpY always r.now (M.state memory.now) result.at result.cycles }
     ensures few { result.cycles ≤ 5 }
-    ensures bytes { result.bytes ≡ 2 }
 {
     Reached {
         at: in_zero_page(first, r.y as u16),
         cycles: 3,
-        bytes: 2,
     }
 }
 
@@ -201,12 +176,10 @@ fn zero_page<N, M: Plain<N>>(part: Part, always: bool, r: &Regs, memory: &M, fir
     requires first { first ≡ (M.reach).byte (M.state memory.now) (place r.now 1) }
     ensures reached { (t : ℕ) → IsReached part M.reach t Mode.Zp always r.now (M.state memory.now) result.at result.cycles }
     ensures few { result.cycles ≤ 5 }
-    ensures bytes { result.bytes ≡ 2 }
 {
     Reached {
         at: first as u16,
         cycles: 2,
-        bytes: 2,
     }
 }
 
@@ -217,62 +190,48 @@ fn absolute<N, M: Plain<N>>(part: Part, always: bool, r: &Regs, memory: &M, firs
     requires first { first ≡ (M.reach).byte (M.state memory.now) (place r.now 1) }
     ensures reached { (t : ℕ) → IsReached part M.reach t Mode.Abs always r.now (M.state memory.now) result.at result.cycles }
     ensures few { result.cycles ≤ 5 }
-    ensures bytes { result.bytes ≡ 3 }
 {
     Reached {
         at: word(first, memory.byte(r.place(2))),
         cycles: 3,
-        bytes: 3,
     }
 }
 
 /// The operand is the byte behind the opcode.
 #[inline(always)]
-fn immediate<N, M: Plain<N>>(
-    part: Part,
-    mode: Mode,
-    bytes: u8,
-    always: bool,
-    r: &Regs,
-    memory: &M,
-) -> Reached
+fn immediate<N, M: Plain<N>>(part: Part, mode: Mode, always: bool, r: &Regs, memory: &M) -> Reached
     requires { is_beside mode ≡ true }
     ensures reached { (t : ℕ) → IsReached part M.reach t mode always r.now (M.state memory.now) result.at result.cycles }
     ensures few { result.cycles ≤ 5 }
-    ensures bytes { result.bytes ≡ bytes }
 {
     Reached {
         at: r.place(1),
         cycles: 1,
-        bytes,
     }
 }
 
-/// The operand's address, by the mode, in an instruction of so many bytes. It is found by comparisons with the order of the modes: they take less
+/// The operand's address, by the mode. It is found by comparisons with the order of the modes: they take less
 /// time than a jump through a table where the processor does not foresee such a jump.
 #[inline(always)]
 pub(crate) fn find<N, M: Plain<N>>(
     part: Part,
     mode: Mode,
-    bytes: u8,
     always: bool,
     r: &Regs,
     memory: &M,
     first: u8,
 ) -> Reached
-    requires bytes { bytes ≡ bytes_of mode }
     requires runs { AreRead M.reach r.now.pc }
     requires first { first ≡ (M.reach).byte (M.state memory.now) (place r.now 1) }
     ensures reached { (t : ℕ) → 0 < result.cycles → IsReached part M.reach t mode always r.now (M.state memory.now) result.at result.cycles }
     ensures few { result.cycles ≤ 5 }
-    ensures bytes { result.bytes ≡ bytes }
 {
     if (mode as u8) < Mode::Abs as u8 {
         if (mode as u8) < Mode::ZpX as u8 {
             match mode {
                 Mode::Zp => zero_page::<N, M>(part, always, r, memory, first),
                 // Imm
-                _ => immediate::<N, M>(part, mode, bytes, always, r, memory),
+                _ => immediate::<N, M>(part, mode, always, r, memory),
             }
         } else {
             match mode {
@@ -296,6 +255,6 @@ pub(crate) fn find<N, M: Plain<N>>(
             _ => pointer_x::<N, M>(part, always, r, memory, first),
         }
     } else {
-        immediate::<N, M>(part, mode, bytes, always, r, memory)
+        immediate::<N, M>(part, mode, always, r, memory)
     }
 }

@@ -3,11 +3,7 @@ use Rattle.cpu_alu.specs.declared.Regs.{Regs}
 use Rattle.cpu_alu.specs.Addresses.{with_pc_past}
 use Rattle.cpu_alu.specs.Instructions.{modified_value, modify_result}
 use Rattle.cpu_whole.proofs.AtOperand.{changed, value_past}
-use Rattle.cpu_whole.proofs.RowBytes.{of_modifying}
 use Rattle.cpu_whole.proofs.operate.change.Goals as goal
-
-pub find-to-requires-clause-bytes : goal.find-to-requires-clause-bytes
-find-to-requires-clause-bytes g c = of_modifying c.args.part _ c.args.row c.requires.row c.requires.uses.kind
 
 pub returns-clause-done : goal.returns-clause-done
 returns-clause-done g c =
@@ -21,7 +17,7 @@ returns-clause-done g c =
     let n = c.find-to.result.cycles in
     let went : 0 < n = omega arith in
     let yes : c.writes.result ≡ true = search rules in
-    let past : c.move_past.new.self ≡ with_pc_past r row.bytes = c.move_past.ensures ∙ ap (with_pc_past r) c.find-to.ensures.bytes in
+    let past : c.move_past.new.self ≡ with_pc_past r row.bytes = c.move_past.ensures in
     changed reach t c.args.part row r m at n c.requires.runs.first c.requires.row g.M.Plain.is_plain c.args.always c.requires.uses c.requires.apart (c.find-to.ensures.reached t went) (c.writes.ensures.read yes) (c.writes.ensures.written yes) _ _ _ refl
     (c.change-value.ensures.regs ∙ ap (λ (q : Regs). modify_result row.mnemonic row.mode q c.byte-byte.result) past
     ∙ ap (modify_result row.mnemonic row.mode (with_pc_past r row.bytes)) c.byte-byte.ensures)

@@ -4,15 +4,11 @@ use Rattle.cpu_alu.specs.Addresses.{with_pc_past}
 use Rattle.cpu_alu.specs.Instructions.{is_decimal, read_result}
 use Rattle.cpu_whole.specs.CodeWays.{IsReached}
 use Rattle.cpu_whole.proofs.AtOperand.{loaded, loads_wait, decimal_past}
-use Rattle.cpu_whole.proofs.RowBytes.{of_reads}
 use Rattle.cpu_whole.proofs.operate.load.Goals as goal
 
 no_by : (b : Bool) → not b ≡ true → b ≡ false
 no_by false h = refl
 no_by true h = sym h
-
-pub find-to-requires-clause-bytes : goal.find-to-requires-clause-bytes
-find-to-requires-clause-bytes g c = of_reads c.args.part _ c.args.row c.requires.row c.requires.uses
 
 pub returns-clause-done : goal.returns-clause-done
 returns-clause-done g c =
@@ -25,7 +21,7 @@ returns-clause-done g c =
     let went : 0 < c.find-to.result.cycles = omega arith in
     let yes : c.reads.result ≡ true = search rules in
     let read : c.read.result ≡ true = search rules in
-    let past : c.move_past.new.self ≡ with_pc_past r row.bytes = c.move_past.ensures ∙ ap (with_pc_past r) c.find-to.ensures.bytes in
+    let past : c.move_past.new.self ≡ with_pc_past r row.bytes = c.move_past.ensures in
     let binary : is_decimal row.mnemonic r ≡ false =
     sym (ap (is_decimal row.mnemonic) past ∙ decimal_past row.mnemonic r row.bytes) ∙ no_by (is_decimal row.mnemonic c.move_past.new.self) (sym c.read.ensures.binary ∙ read) in
     let reached = subst (λ b. IsReached c.args.part reach t row.mode b r m at c.find-to.result.cycles) (loads_wait c.args.part) (c.find-to.ensures.reached t went) in

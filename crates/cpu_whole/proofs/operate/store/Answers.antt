@@ -1,12 +1,7 @@
 use Rattle.std.proofs.Common.{rules, ◌≡◌, ◌<◌, ◌∙◌, true, ap, refl, subst, arith}
 use Rattle.cpu_whole.specs.CodeWays.{IsReached}
 use Rattle.cpu_whole.proofs.AtOperand.{stored, stores_wait}
-use Rattle.cpu_alu.specs.Addresses.{with_pc_past}
-use Rattle.cpu_whole.proofs.RowBytes.{of_stores}
 use Rattle.cpu_whole.proofs.operate.store.Goals as goal
-
-pub find-to-requires-clause-bytes : goal.find-to-requires-clause-bytes
-find-to-requires-clause-bytes g c = of_stores c.args.part _ c.args.row c.requires.row c.requires.uses
 
 pub returns-clause-done : goal.returns-clause-done
 returns-clause-done g c =
@@ -21,4 +16,4 @@ returns-clause-done g c =
     let yes : c.writes.result ≡ true = search rules in
     let reached = subst (λ b. IsReached c.args.part reach t row.mode b r m at c.find-to.result.cycles) (stores_wait c.args.part) (c.find-to.ensures.reached t went) in
     stored reach t c.args.part row r m at c.find-to.result.cycles c.requires.runs.first c.requires.row c.requires.uses reached (c.writes.ensures.written yes) _ _ _ refl
-    (c.move_past.ensures ∙ ap (with_pc_past r) c.find-to.ensures.bytes) (c.put.ensures.put ∙ ap (reach.put m t c.find-to.result.cycles at) c.stored.ensures)
+    c.move_past.ensures (c.put.ensures.put ∙ ap (reach.put m t c.find-to.result.cycles at) c.stored.ensures)
