@@ -71,7 +71,7 @@ fn modify<N, M: Plain<N>>(
     }
 }
 
-/// The instruction of an opcode that has one.
+/// The instruction of an opcode that has one. The number of its cycles is the only thing that is asked of its row.
 #[inline(always)]
 fn row_of(part: Part, op: u8, known: &Known) -> Row
     requires known { known.now ≡ known_at part op }

@@ -6,7 +6,8 @@ ghost use Rattle.cpu_whole.specs.CodeWays.{known_at};
 use cpu_alu::BusUse;
 use op_table::{Mnemonic, Mode, Part};
 
-/// What is known of an opcode, in four bytes: how its instruction uses the bus, and its row, but for the number of its cycles.
+/// What is known of an opcode: how its instruction uses the bus, and its row, but for the number of its cycles, which nobody asks for. So it has
+/// four bytes, and is found without a multiplication.
 #[derive(Clone, Copy, Debug, PartialEq, Eq)]
 pub(crate) struct Known {
     pub(crate) uses: BusUse,
@@ -173,7 +174,8 @@ static CMOS: [Known; 256] = table![
     /* FC */ [Nop Spare 3 Implied]  [Sbc AbsX 3 Reads]     [Inc AbsX 3 Modifies]  [Nop Spare 1 Implied]
 ];
 
-/// What is known of an opcode. One without an instruction counts as BRK, which is not done whole.
+/// What is known of an opcode. One without an instruction counts as BRK, which is not done whole. It is lent and not copied, so that each part of
+/// it is read where it is needed.
 #[inline(always)]
 pub(crate) fn known_at(part: Part, op: u8) -> &'static Known
     ensures { result.now ≡ known_at part op }
