@@ -39,7 +39,7 @@ fn pulls_flags(mnemonic: Mnemonic) -> bool
 
 /// An instruction without an operand.
 #[inline(always)]
-pub(crate) fn implied<N, M: Plain<N>>(part: Part, row: Row, r: &mut Regs, memory: &M) -> u64
+pub(crate) fn implied<N, M: Plain<N>, L>(part: Part, row: Row, r: &mut Regs, memory: &M) -> u64
     requires runs { AreRead M.reach r.old.pc }
     requires row { row_at part ((M.reach).byte (M.state memory.now) r.old.pc) ≡ Some row }
     requires uses { bus_use row.mnemonic ≡ BusUse.Implied }
@@ -65,7 +65,7 @@ struct OnA;
 
 /// A shift, INC or DEC of A.
 #[inline(always)]
-pub(crate) fn accumulator<N, M: Plain<N>>(
+pub(crate) fn accumulator<N, M: Plain<N>, L>(
     part: Part,
     row: Row,
     always: bool,
@@ -82,13 +82,13 @@ pub(crate) fn accumulator<N, M: Plain<N>>(
 {
     r.move_past(1);
     let a = r.a;
-    operations::change::<OnA, N, M>(row.mnemonic, Mode::Acc, r, a);
+    operations::change::<OnA, N, M, L>(row.mnemonic, Mode::Acc, r, a);
     2
 }
 
 /// A branch that is taken.
 #[inline(always)]
-fn branch_on<N, M: Plain<N>>(part: Part, row: Row, r: &mut Regs, memory: &M, first: u8) -> u64
+fn branch_on<N, M: Plain<N>, L>(part: Part, row: Row, r: &mut Regs, memory: &M, first: u8) -> u64
     requires runs { AreRead M.reach r.old.pc }
     requires first { first ≡ (M.reach).byte (M.state memory.now) (place r.old 1) }
     requires row { row_at part ((M.reach).byte (M.state memory.now) r.old.pc) ≡ Some row }
@@ -104,7 +104,7 @@ fn branch_on<N, M: Plain<N>>(part: Part, row: Row, r: &mut Regs, memory: &M, fir
         r.pc = to;
         return 3;
     }
-    if !idles::<N, M>(part, memory, next / 256 * 256 + to % 256) {
+    if !idles::<N, M, L>(part, memory, next / 256 * 256 + to % 256) {
         return 0;
     }
     r.pc = to;
@@ -113,7 +113,7 @@ fn branch_on<N, M: Plain<N>>(part: Part, row: Row, r: &mut Regs, memory: &M, fir
 
 /// A branch.
 #[inline(always)]
-pub(crate) fn branch<N, M: Plain<N>>(
+pub(crate) fn branch<N, M: Plain<N>, L>(
     part: Part,
     row: Row,
     r: &mut Regs,
@@ -129,7 +129,7 @@ pub(crate) fn branch<N, M: Plain<N>>(
     ensures few { result ≤ 8 }
 {
     if operations::takes(row.mnemonic, r) {
-        return branch_on::<N, M>(part, row, r, memory, first);
+        return branch_on::<N, M, L>(part, row, r, memory, first);
     }
     r.move_past(2);
     2
@@ -137,7 +137,7 @@ pub(crate) fn branch<N, M: Plain<N>>(
 
 /// JSR, which reads the high byte of where it goes behind its pushes.
 #[inline(always)]
-pub(crate) fn call<N, M: Plain<N>>(
+pub(crate) fn call<N, M: Plain<N>, L>(
     part: Part,
     row: Row,
     r: &mut Regs,
@@ -174,7 +174,7 @@ pub(crate) fn call<N, M: Plain<N>>(
 
 /// RTS.
 #[inline(always)]
-pub(crate) fn go_back<N, M: Plain<N>>(part: Part, row: Row, r: &mut Regs, memory: &M) -> u64
+pub(crate) fn go_back<N, M: Plain<N>, L>(part: Part, row: Row, r: &mut Regs, memory: &M) -> u64
     requires runs { AreRead M.reach r.old.pc }
     requires row { row_at part ((M.reach).byte (M.state memory.now) r.old.pc) ≡ Some row }
     requires uses { bus_use row.mnemonic ≡ BusUse.Returns }
@@ -182,8 +182,8 @@ pub(crate) fn go_back<N, M: Plain<N>>(part: Part, row: Row, r: &mut Regs, memory
     ensures still { result ≡ 0 → r.new ≡ r.old }
     ensures few { result ≤ 8 }
 {
-    let low = low_byte::<N, M>(memory, r.stack(1));
-    let high = low_byte::<N, M>(memory, r.stack(2));
+    let low = low_byte::<N, M, L>(memory, r.stack(1));
+    let high = low_byte::<N, M, L>(memory, r.stack(2));
     let to = word(low, high);
     if !memory.reads(to) {
         return 0;
@@ -195,7 +195,7 @@ pub(crate) fn go_back<N, M: Plain<N>>(part: Part, row: Row, r: &mut Regs, memory
 
 /// A push.
 #[inline(always)]
-pub(crate) fn push<N, M: Plain<N>>(
+pub(crate) fn push<N, M: Plain<N>, L>(
     part: Part,
     row: Row,
     r: &mut Regs,
@@ -227,7 +227,7 @@ pub(crate) fn push<N, M: Plain<N>>(
 
 /// A pull, but for that of the flags.
 #[inline(always)]
-pub(crate) fn pull<N, M: Plain<N>>(part: Part, row: Row, r: &mut Regs, memory: &M) -> u64
+pub(crate) fn pull<N, M: Plain<N>, L>(part: Part, row: Row, r: &mut Regs, memory: &M) -> u64
     requires runs { AreRead M.reach r.old.pc }
     requires row { row_at part ((M.reach).byte (M.state memory.now) r.old.pc) ≡ Some row }
     requires uses { bus_use row.mnemonic ≡ BusUse.Pulls }
@@ -238,7 +238,7 @@ pub(crate) fn pull<N, M: Plain<N>>(part: Part, row: Row, r: &mut Regs, memory: &
     if pulls_flags(row.mnemonic) {
         return 0;
     }
-    let byte = low_byte::<N, M>(memory, r.stack(1));
+    let byte = low_byte::<N, M, L>(memory, r.stack(1));
     r.move_past(1);
     r.move_stack(1);
     operations::pull(row.mnemonic, r, byte);
@@ -258,7 +258,7 @@ fn second(part: Part, p: u16) -> u16
 
 /// JMP to an absolute address.
 #[inline(always)]
-fn jump_to<N, M: Plain<N>>(
+fn jump_to<N, M: Plain<N>, L>(
     part: Part,
     row: Row,
     r: &mut Regs,
@@ -282,7 +282,7 @@ fn jump_to<N, M: Plain<N>>(
 
 /// JMP through the pointer at `at`.
 #[inline(always)]
-fn jump_through<N, M: Plain<N>>(part: Part, row: Row, r: &mut Regs, memory: &M, at: u16) -> u64
+fn jump_through<N, M: Plain<N>, L>(part: Part, row: Row, r: &mut Regs, memory: &M, at: u16) -> u64
     requires runs { AreRead M.reach r.old.pc }
     requires row { row_at part ((M.reach).byte (M.state memory.now) r.old.pc) ≡ Some row }
     requires uses { bus_use row.mnemonic ≡ BusUse.Jumps }
@@ -307,7 +307,13 @@ fn jump_through<N, M: Plain<N>>(part: Part, row: Row, r: &mut Regs, memory: &M, 
 
 /// JMP.
 #[inline(always)]
-pub(crate) fn jump<N, M: Plain<N>>(part: Part, row: Row, r: &mut Regs, memory: &M, first: u8) -> u64
+pub(crate) fn jump<N, M: Plain<N>, L>(
+    part: Part,
+    row: Row,
+    r: &mut Regs,
+    memory: &M,
+    first: u8,
+) -> u64
     requires runs { AreRead M.reach r.old.pc }
     requires first { first ≡ (M.reach).byte (M.state memory.now) (place r.old 1) }
     requires row { row_at part ((M.reach).byte (M.state memory.now) r.old.pc) ≡ Some row }
@@ -319,13 +325,13 @@ pub(crate) fn jump<N, M: Plain<N>>(part: Part, row: Row, r: &mut Regs, memory: &
     let high = memory.byte(r.place(2));
     if (row.mode as u8) < Mode::Ind as u8 {
         return match row.mode {
-            Mode::Abs => jump_to::<N, M>(part, row, r, memory, first, high),
+            Mode::Abs => jump_to::<N, M, L>(part, row, r, memory, first, high),
             _ => 0,
         };
     }
     match row.mode {
-        Mode::Ind => jump_through::<N, M>(part, row, r, memory, word(first, high)),
-        Mode::IndAbsX => jump_through::<N, M>(
+        Mode::Ind => jump_through::<N, M, L>(part, row, r, memory, word(first, high)),
+        Mode::IndAbsX => jump_through::<N, M, L>(
             part,
             row,
             r,

@@ -42,7 +42,7 @@ fn waits(part: Part, row: Row, uses: BusUse) -> bool
 
 /// An instruction that reads and writes back, or works on A.
 #[inline(always)]
-fn modify<N, M: Plain<N>>(
+fn modify<N, M: Plain<N>, L>(
     part: Part,
     row: Row,
     always: bool,
@@ -66,8 +66,8 @@ fn modify<N, M: Plain<N>>(
     ensures few { result ≤ 8 }
 {
     match row.mode {
-        Mode::Acc => accumulator::<N, M>(part, row, always, r, memory),
-        _ => change::<N, M>(part, row, always, r, memory, first, t, notes),
+        Mode::Acc => accumulator::<N, M, L>(part, row, always, r, memory),
+        _ => change::<N, M, L>(part, row, always, r, memory, first, t, notes),
     }
 }
 
@@ -92,7 +92,7 @@ fn row_of(part: Part, op: u8, known: &Known) -> Row
 
 /// An instruction by how it uses the bus, which is found by comparisons, as the mode is.
 #[inline(always)]
-fn carry_out<N, M: Plain<N>>(
+fn carry_out<N, M: Plain<N>, L>(
     part: Part,
     op: u8,
     known: &Known,
@@ -118,25 +118,25 @@ fn carry_out<N, M: Plain<N>>(
     let uses = known.uses;
     if (uses as u8) < BusUse::Shifts as u8 {
         match uses {
-            BusUse::Reads => load::<N, M>(part, row_of(part, op, known), r, memory, first),
-            BusUse::Implied => implied::<N, M>(part, row_of(part, op, known), r, memory),
+            BusUse::Reads => load::<N, M, L>(part, row_of(part, op, known), r, memory, first),
+            BusUse::Implied => implied::<N, M, L>(part, row_of(part, op, known), r, memory),
             // Stores
-            _ => store::<N, M>(part, row_of(part, op, known), r, memory, first, t, notes),
+            _ => store::<N, M, L>(part, row_of(part, op, known), r, memory, first, t, notes),
         }
     } else if (uses as u8) < BusUse::Pushes as u8 {
         let row = row_of(part, op, known);
         let always = waits(part, row, uses);
-        modify::<N, M>(part, row, always, r, memory, first, t, notes)
+        modify::<N, M, L>(part, row, always, r, memory, first, t, notes)
     } else if (uses as u8) < BusUse::Jumps as u8 {
         match uses {
-            BusUse::Branches => branch::<N, M>(part, row_of(part, op, known), r, memory, first),
-            BusUse::Pushes => push::<N, M>(part, row_of(part, op, known), r, memory, t, notes),
+            BusUse::Branches => branch::<N, M, L>(part, row_of(part, op, known), r, memory, first),
+            BusUse::Pushes => push::<N, M, L>(part, row_of(part, op, known), r, memory, t, notes),
             // Pulls
-            _ => pull::<N, M>(part, row_of(part, op, known), r, memory),
+            _ => pull::<N, M, L>(part, row_of(part, op, known), r, memory),
         }
     } else if (uses as u8) < BusUse::Resumes as u8 {
         match uses {
-            BusUse::Calls => call::<N, M>(
+            BusUse::Calls => call::<N, M, L>(
                 part,
                 row_of(part, op, known),
                 r,
@@ -145,9 +145,9 @@ fn carry_out<N, M: Plain<N>>(
                 t,
                 notes,
             ),
-            BusUse::Returns => go_back::<N, M>(part, row_of(part, op, known), r, memory),
+            BusUse::Returns => go_back::<N, M, L>(part, row_of(part, op, known), r, memory),
             // Jumps
-            _ => jump::<N, M>(part, row_of(part, op, known), r, memory, first),
+            _ => jump::<N, M, L>(part, row_of(part, op, known), r, memory, first),
         }
     } else {
         0
@@ -157,9 +157,16 @@ fn carry_out<N, M: Plain<N>>(
 /// Carries out the instruction at PC at once, if all its accesses are of plain memory: the number of its cycles, at most 8. Else nothing is done,
 /// and that number is 0. It is 0 too for BRK, RTI, PLP, CLI and SEI, for sums and differences in decimal mode, and for opcodes that do nothing
 /// or halt: what is done leaves the flag I as it was.
+/// `L` is any type of the loop that calls it: each such loop is compiled with a copy of all this in it, where one copy for several would be called.
 /// Source: the MCS6500 Hardware Manual, summary of single cycle execution, and the 65C02's data sheet.
 #[inline(always)]
-pub fn whole<N, M: Plain<N>>(part: Part, r: &mut Regs, memory: &mut M, t: u64, notes: &mut N) -> u64
+pub fn whole<N, M: Plain<N>, L>(
+    part: Part,
+    r: &mut Regs,
+    memory: &mut M,
+    t: u64,
+    notes: &mut N,
+) -> u64
     requires order { M.may_come (M.state memory.old) t 0 }
     requires tick { t < 2 ^ 40 }
     ensures done { 0 < result → IsDone part M.reach t r.old (M.state memory.old) result r.new (M.state memory.new) }
@@ -174,5 +181,5 @@ pub fn whole<N, M: Plain<N>>(part: Part, r: &mut Regs, memory: &mut M, t: u64, n
     }
     let op = memory.byte(r.pc);
     let first = memory.byte(r.place(1));
-    carry_out::<N, M>(part, op, known_at(part, op), r, memory, first, t, notes)
+    carry_out::<N, M, L>(part, op, known_at(part, op), r, memory, first, t, notes)
 }

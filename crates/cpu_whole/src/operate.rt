@@ -14,7 +14,13 @@ use op_table::{Mode, Part, Row};
 
 /// The operand is read.
 #[inline(always)]
-pub(crate) fn load<N, M: Plain<N>>(part: Part, row: Row, r: &mut Regs, memory: &M, first: u8) -> u64
+pub(crate) fn load<N, M: Plain<N>, L>(
+    part: Part,
+    row: Row,
+    r: &mut Regs,
+    memory: &M,
+    first: u8,
+) -> u64
     requires runs { AreRead M.reach r.old.pc }
     requires first { first ≡ (M.reach).byte (M.state memory.now) (place r.old 1) }
     requires row { row_at part ((M.reach).byte (M.state memory.now) r.old.pc) ≡ Some row }
@@ -23,7 +29,7 @@ pub(crate) fn load<N, M: Plain<N>>(part: Part, row: Row, r: &mut Regs, memory: &
     ensures still { result ≡ 0 → r.new ≡ r.old }
     ensures few { result ≤ 8 }
 {
-    let to = find::<N, M>(part, row.mode, false, r, memory, first);
+    let to = find::<N, M, L>(part, row.mode, false, r, memory, first);
     if to.cycles == 0 {
         return 0;
     }
@@ -42,7 +48,7 @@ pub(crate) fn load<N, M: Plain<N>>(part: Part, row: Row, r: &mut Regs, memory: &
 
 /// The operand is written.
 #[inline(always)]
-pub(crate) fn store<N, M: Plain<N>>(
+pub(crate) fn store<N, M: Plain<N>, L>(
     part: Part,
     row: Row,
     r: &mut Regs,
@@ -64,7 +70,7 @@ pub(crate) fn store<N, M: Plain<N>>(
     ensures room { M.room notes.old ≤ M.room notes.new + result }
     ensures few { result ≤ 8 }
 {
-    let to = find::<N, M>(part, row.mode, true, r, memory, first);
+    let to = find::<N, M, L>(part, row.mode, true, r, memory, first);
     if to.cycles == 0 {
         return 0;
     }
@@ -87,7 +93,7 @@ struct InMemory;
 
 /// The operand is read and written back. Of the two bytes that the NMOS part writes there the first is the one that stands there.
 #[inline(always)]
-pub(crate) fn change<N, M: Plain<N>>(
+pub(crate) fn change<N, M: Plain<N>, L>(
     part: Part,
     row: Row,
     always: bool,
@@ -111,7 +117,7 @@ pub(crate) fn change<N, M: Plain<N>>(
     ensures room { M.room notes.old ≤ M.room notes.new + result }
     ensures few { result ≤ 8 }
 {
-    let to = find::<N, M>(part, row.mode, always, r, memory, first);
+    let to = find::<N, M, L>(part, row.mode, always, r, memory, first);
     if to.cycles == 0 {
         return 0;
     }
@@ -120,7 +126,7 @@ pub(crate) fn change<N, M: Plain<N>>(
     }
     let byte = memory.byte(to.at);
     r.move_past(row.bytes);
-    let value = operations::change::<InMemory, N, M>(row.mnemonic, row.mode, r, byte);
+    let value = operations::change::<InMemory, N, M, L>(row.mnemonic, row.mode, r, byte);
     memory.put(t, to.cycles + 2, to.at, value, notes);
     to.cycles + 3
 }

@@ -175,7 +175,12 @@ fn change_by(mnemonic: Mnemonic, mode: Mode, r: &mut Regs, m: u8) -> u8
 /// What a modify instruction makes of the byte `m` of the memory and, PC apart, of the registers. It has its types for no other sake than that each
 /// place which calls it has one of its own: called from several places it would stay a call, for which the registers lie in memory.
 #[inline(always)]
-pub(crate) fn change<W, N, M: Plain<N>>(mnemonic: Mnemonic, mode: Mode, r: &mut Regs, m: u8) -> u8
+pub(crate) fn change<W, N, M: Plain<N>, L>(
+    mnemonic: Mnemonic,
+    mode: Mode,
+    r: &mut Regs,
+    m: u8,
+) -> u8
     requires { is_modifying (bus_use mnemonic) ≡ true }
     ensures value { result ≡ modified_value mnemonic r.old m }
     ensures regs { r.new ≡ modify_result mnemonic mode r.old m }

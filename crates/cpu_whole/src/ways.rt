@@ -20,7 +20,7 @@ pub(crate) struct Reached {
 
 /// A byte of the zero page or the stack.
 #[inline(always)]
-pub(crate) fn low_byte<N, M: Plain<N>>(memory: &M, at: u16) -> u8
+pub(crate) fn low_byte<N, M: Plain<N>, L>(memory: &M, at: u16) -> u8
     requires { at < 512 }
     ensures byte { result ≡ (M.reach).byte (M.state memory.now) at }
     ensures read { (M.reach).reads at ≡ true }
@@ -30,7 +30,7 @@ pub(crate) fn low_byte<N, M: Plain<N>>(memory: &M, at: u16) -> u8
 
 /// Whether a cycle is one of plain memory whose byte is not used: the NMOS part reads the address that it has so far.
 #[inline(always)]
-pub(crate) fn idles<N, M: Plain<N>>(part: Part, memory: &M, so_far: u16) -> bool
+pub(crate) fn idles<N, M: Plain<N>, L>(part: Part, memory: &M, so_far: u16) -> bool
     ensures { result ≡ true → (last : ℕ) → (M.reach).reads last ≡ true → (M.reach).reads (idle part so_far last) ≡ true }
 {
     match part {
@@ -41,7 +41,7 @@ pub(crate) fn idles<N, M: Plain<N>>(part: Part, memory: &M, so_far: u16) -> bool
 
 /// An index is added to an address that took so many cycles.
 #[inline(always)]
-fn indexed<N, M: Plain<N>>(
+fn indexed<N, M: Plain<N>, L>(
     part: Part,
     always: bool,
     memory: &M,
@@ -63,7 +63,7 @@ fn indexed<N, M: Plain<N>>(
     if !waits {
         return Reached { at, cycles: before };
     }
-    if !idles::<N, M>(part, memory, word(low.wrapping_add(index), high)) {
+    if !idles::<N, M, L>(part, memory, word(low.wrapping_add(index), high)) {
         return Reached { at, cycles: 0 };
     }
     Reached {
@@ -74,51 +74,69 @@ fn indexed<N, M: Plain<N>>(
 
 /// An absolute address with X.
 #[inline(always)]
-fn absolute_x<N, M: Plain<N>>(part: Part, always: bool, r: &Regs, memory: &M, first: u8) -> Reached
+fn absolute_x<N, M: Plain<N>, L>(
+    part: Part,
+    always: bool,
+    r: &Regs,
+    memory: &M,
+    first: u8,
+) -> Reached
     requires runs { AreRead M.reach r.now.pc }
     requires first { first ≡ (M.reach).byte (M.state memory.now) (place r.now 1) }
     ensures reached { (t : ℕ) → 0 < result.cycles → IsReached part M.reach t Mode.AbsX always r.now (M.state memory.now) result.at result.cycles }
     ensures few { result.cycles ≤ 5 }
 {
     let high = memory.byte(r.place(2));
-    indexed::<N, M>(part, always, memory, first, high, r.x, 3)
+    indexed::<N, M, L>(part, always, memory, first, high, r.x, 3)
 }
 
 /// An absolute address with Y.
 #[inline(always)]
-fn absolute_y<N, M: Plain<N>>(part: Part, always: bool, r: &Regs, memory: &M, first: u8) -> Reached
+fn absolute_y<N, M: Plain<N>, L>(
+    part: Part,
+    always: bool,
+    r: &Regs,
+    memory: &M,
+    first: u8,
+) -> Reached
     requires runs { AreRead M.reach r.now.pc }
     requires first { first ≡ (M.reach).byte (M.state memory.now) (place r.now 1) }
     ensures reached { (t : ℕ) → 0 < result.cycles → IsReached part M.reach t Mode.AbsY always r.now (M.state memory.now) result.at result.cycles }
     ensures few { result.cycles ≤ 5 }
 {
     let high = memory.byte(r.place(2));
-    indexed::<N, M>(part, always, memory, first, high, r.y, 3)
+    indexed::<N, M, L>(part, always, memory, first, high, r.y, 3)
 }
 
 /// A pointer in the zero page, and Y added.
 #[inline(always)]
-fn pointer_y<N, M: Plain<N>>(part: Part, always: bool, r: &Regs, memory: &M, first: u8) -> Reached
+fn pointer_y<N, M: Plain<N>, L>(
+    part: Part,
+    always: bool,
+    r: &Regs,
+    memory: &M,
+    first: u8,
+) -> Reached
     requires runs { AreRead M.reach r.now.pc }
     requires first { first ≡ (M.reach).byte (M.state memory.now) (place r.now 1) }
     ensures reached { (t : ℕ) → 0 < result.cycles → IsReached part M.reach t Mode.IndY always r.now (M.state memory.now) result.at result.cycles }
     ensures few { result.cycles ≤ 5 }
 {
-    let low = low_byte::<N, M>(memory, first as u16);
-    let high = low_byte::<N, M>(memory, in_zero_page(first, 1));
-    indexed::<N, M>(part, always, memory, low, high, r.y, 4)
+    let low = low_byte::<N, M, L>(memory, first as u16);
+    let high = low_byte::<N, M, L>(memory, in_zero_page(first, 1));
+    indexed::<N, M, L>(part, always, memory, low, high, r.y, 4)
 }
 
 /// A pointer in the zero page.
 #[inline(always)]
-fn pointer<N, M: Plain<N>>(part: Part, always: bool, r: &Regs, memory: &M, first: u8) -> Reached
+fn pointer<N, M: Plain<N>, L>(part: Part, always: bool, r: &Regs, memory: &M, first: u8) -> Reached
     requires runs { AreRead M.reach r.now.pc }
     requires first { first ≡ (M.reach).byte (M.state memory.now) (place r.now 1) }
     ensures reached { (t : ℕ) → IsReached part M.reach t Mode.IndZp always r.now (M.state memory.now) result.at result.cycles }
     ensures few { result.cycles ≤ 5 }
 {
-    let low = low_byte::<N, M>(memory, first as u16);
-    let high = low_byte::<N, M>(memory, in_zero_page(first, 1));
+    let low = low_byte::<N, M, L>(memory, first as u16);
+    let high = low_byte::<N, M, L>(memory, in_zero_page(first, 1));
     Reached {
         at: word(low, high),
         cycles: 4,
@@ -127,14 +145,20 @@ fn pointer<N, M: Plain<N>>(part: Part, always: bool, r: &Regs, memory: &M, first
 
 /// A pointer in the zero page that is found with X.
 #[inline(always)]
-fn pointer_x<N, M: Plain<N>>(part: Part, always: bool, r: &Regs, memory: &M, first: u8) -> Reached
+fn pointer_x<N, M: Plain<N>, L>(
+    part: Part,
+    always: bool,
+    r: &Regs,
+    memory: &M,
+    first: u8,
+) -> Reached
     requires runs { AreRead M.reach r.now.pc }
     requires first { first ≡ (M.reach).byte (M.state memory.now) (place r.now 1) }
     ensures reached { (t : ℕ) → IsReached part M.reach t Mode.IndX always r.now (M.state memory.now) result.at result.cycles }
     ensures few { result.cycles ≤ 5 }
 {
-    let low = low_byte::<N, M>(memory, in_zero_page(first, r.x as u16));
-    let high = low_byte::<N, M>(memory, in_zero_page(first, r.x as u16 + 1));
+    let low = low_byte::<N, M, L>(memory, in_zero_page(first, r.x as u16));
+    let high = low_byte::<N, M, L>(memory, in_zero_page(first, r.x as u16 + 1));
     Reached {
         at: word(low, high),
         cycles: 5,
@@ -143,7 +167,13 @@ fn pointer_x<N, M: Plain<N>>(part: Part, always: bool, r: &Regs, memory: &M, fir
 
 /// An address in the zero page with X.
 #[inline(always)]
-fn zero_page_x<N, M: Plain<N>>(part: Part, always: bool, r: &Regs, memory: &M, first: u8) -> Reached
+fn zero_page_x<N, M: Plain<N>, L>(
+    part: Part,
+    always: bool,
+    r: &Regs,
+    memory: &M,
+    first: u8,
+) -> Reached
     requires runs { AreRead M.reach r.now.pc }
     requires first { first ≡ (M.reach).byte (M.state memory.now) (place r.now 1) }
     ensures reached { (t : ℕ) → IsReached part M.reach t Mode.ZpX always r.now (M.state memory.now) result.at result.cycles }
@@ -157,7 +187,13 @@ fn zero_page_x<N, M: Plain<N>>(part: Part, always: bool, r: &Regs, memory: &M, f
 
 /// An address in the zero page with Y.
 #[inline(always)]
-fn zero_page_y<N, M: Plain<N>>(part: Part, always: bool, r: &Regs, memory: &M, first: u8) -> Reached
+fn zero_page_y<N, M: Plain<N>, L>(
+    part: Part,
+    always: bool,
+    r: &Regs,
+    memory: &M,
+    first: u8,
+) -> Reached
     requires runs { AreRead M.reach r.now.pc }
     requires first { first ≡ (M.reach).byte (M.state memory.now) (place r.now 1) }
     ensures reached { (t : ℕ) → IsReached part M.reach t Mode.ZpY always r.now (M.state memory.now) result.at result.cycles }
@@ -171,7 +207,13 @@ fn zero_page_y<N, M: Plain<N>>(part: Part, always: bool, r: &Regs, memory: &M, f
 
 /// An address in the zero page.
 #[inline(always)]
-fn zero_page<N, M: Plain<N>>(part: Part, always: bool, r: &Regs, memory: &M, first: u8) -> Reached
+fn zero_page<N, M: Plain<N>, L>(
+    part: Part,
+    always: bool,
+    r: &Regs,
+    memory: &M,
+    first: u8,
+) -> Reached
     requires runs { AreRead M.reach r.now.pc }
     requires first { first ≡ (M.reach).byte (M.state memory.now) (place r.now 1) }
     ensures reached { (t : ℕ) → IsReached part M.reach t Mode.Zp always r.now (M.state memory.now) result.at result.cycles }
@@ -185,7 +227,7 @@ fn zero_page<N, M: Plain<N>>(part: Part, always: bool, r: &Regs, memory: &M, fir
 
 /// An absolute address.
 #[inline(always)]
-fn absolute<N, M: Plain<N>>(part: Part, always: bool, r: &Regs, memory: &M, first: u8) -> Reached
+fn absolute<N, M: Plain<N>, L>(part: Part, always: bool, r: &Regs, memory: &M, first: u8) -> Reached
     requires runs { AreRead M.reach r.now.pc }
     requires first { first ≡ (M.reach).byte (M.state memory.now) (place r.now 1) }
     ensures reached { (t : ℕ) → IsReached part M.reach t Mode.Abs always r.now (M.state memory.now) result.at result.cycles }
@@ -199,7 +241,13 @@ fn absolute<N, M: Plain<N>>(part: Part, always: bool, r: &Regs, memory: &M, firs
 
 /// The operand is the byte behind the opcode.
 #[inline(always)]
-fn immediate<N, M: Plain<N>>(part: Part, mode: Mode, always: bool, r: &Regs, memory: &M) -> Reached
+fn immediate<N, M: Plain<N>, L>(
+    part: Part,
+    mode: Mode,
+    always: bool,
+    r: &Regs,
+    memory: &M,
+) -> Reached
     requires { is_beside mode ≡ true }
     ensures reached { (t : ℕ) → IsReached part M.reach t mode always r.now (M.state memory.now) result.at result.cycles }
     ensures few { result.cycles ≤ 5 }
@@ -213,7 +261,7 @@ fn immediate<N, M: Plain<N>>(part: Part, mode: Mode, always: bool, r: &Regs, mem
 /// The operand's address, by the mode. It is found by comparisons with the order of the modes: they take less
 /// time than a jump through a table where the processor does not foresee such a jump.
 #[inline(always)]
-pub(crate) fn find<N, M: Plain<N>>(
+pub(crate) fn find<N, M: Plain<N>, L>(
     part: Part,
     mode: Mode,
     always: bool,
@@ -229,32 +277,32 @@ pub(crate) fn find<N, M: Plain<N>>(
     if (mode as u8) < Mode::Abs as u8 {
         if (mode as u8) < Mode::ZpX as u8 {
             match mode {
-                Mode::Zp => zero_page::<N, M>(part, always, r, memory, first),
+                Mode::Zp => zero_page::<N, M, L>(part, always, r, memory, first),
                 // Imm
-                _ => immediate::<N, M>(part, mode, always, r, memory),
+                _ => immediate::<N, M, L>(part, mode, always, r, memory),
             }
         } else {
             match mode {
-                Mode::ZpX => zero_page_x::<N, M>(part, always, r, memory, first),
+                Mode::ZpX => zero_page_x::<N, M, L>(part, always, r, memory, first),
                 // ZpY
-                _ => zero_page_y::<N, M>(part, always, r, memory, first),
+                _ => zero_page_y::<N, M, L>(part, always, r, memory, first),
             }
         }
     } else if (mode as u8) < Mode::IndX as u8 {
         match mode {
-            Mode::Abs => absolute::<N, M>(part, always, r, memory, first),
-            Mode::AbsX => absolute_x::<N, M>(part, always, r, memory, first),
+            Mode::Abs => absolute::<N, M, L>(part, always, r, memory, first),
+            Mode::AbsX => absolute_x::<N, M, L>(part, always, r, memory, first),
             // AbsY
-            _ => absolute_y::<N, M>(part, always, r, memory, first),
+            _ => absolute_y::<N, M, L>(part, always, r, memory, first),
         }
     } else if (mode as u8) < Mode::Rel as u8 {
         match mode {
-            Mode::IndY => pointer_y::<N, M>(part, always, r, memory, first),
-            Mode::IndZp => pointer::<N, M>(part, always, r, memory, first),
+            Mode::IndY => pointer_y::<N, M, L>(part, always, r, memory, first),
+            Mode::IndZp => pointer::<N, M, L>(part, always, r, memory, first),
             // IndX
-            _ => pointer_x::<N, M>(part, always, r, memory, first),
+            _ => pointer_x::<N, M, L>(part, always, r, memory, first),
         }
     } else {
-        immediate::<N, M>(part, mode, always, r, memory)
+        immediate::<N, M, L>(part, mode, always, r, memory)
     }
 }

@@ -181,8 +181,8 @@ impl<D: BusDevice> TubeBus<()> for HostBus<D> {
     }
 
     #[inline(always)]
-    fn whole(&mut self, part: Part, regs: &mut Regs, t: u64, notes: &mut ()) -> u64 {
-        whole::<(), HostBus<D>>(part, regs, self, t, notes)
+    fn whole<L>(&mut self, part: Part, regs: &mut Regs, t: u64, notes: &mut ()) -> u64 {
+        whole::<(), HostBus<D>, L>(part, regs, self, t, notes)
     }
 
     fn exchange(&mut self, t: u64, cycle: Cycle, _notes: &mut ()) -> Result<Done, Unable> {

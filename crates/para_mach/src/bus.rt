@@ -173,8 +173,8 @@ impl<N: Notes> TubeBus<N> for ParaBus {
     }
 
     #[inline(always)]
-    fn whole(&mut self, part: Part, regs: &mut Regs, t: u64, notes: &mut N) -> u64 {
-        whole::<N, ParaBus>(part, regs, self, t, notes)
+    fn whole<L>(&mut self, part: Part, regs: &mut Regs, t: u64, notes: &mut N) -> u64 {
+        whole::<N, ParaBus, L>(part, regs, self, t, notes)
     }
 
     #[inline(always)]

@@ -170,8 +170,8 @@ pub trait TubeBus<N>: Drop {
         ensures { result ≡ peek (state self.now) at };
 
     /// Does the instruction whose first cycle is at tick `t`, whole, if all its accesses are of plain memory, and gives the number of its cycles.
-    /// Else nothing is done, and that number is 0.
-    fn whole(&mut self, part: Part, regs: &mut Regs, t: u64, notes: &mut N) -> u64
+    /// Else nothing is done, and that number is 0. `L` is any type of the loop that calls it, for which it is compiled.
+    fn whole<L>(&mut self, part: Part, regs: &mut Regs, t: u64, notes: &mut N) -> u64
         requires closed { wiring.closed (state self.old) ≤ t + 1 }
         requires room { t < 2 ^ 40 }
         ensures closed { 0 < result → wiring.closed (state self.new) ≤ t + wiring.cycle (state self.old) * result }

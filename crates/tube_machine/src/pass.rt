@@ -72,7 +72,7 @@ fn whole_if_over<N, B: TubeBus<N>>(
     ensures few { result ≤ 8 }
 {
     if is_over::<N, B>(passing, regs.pc, bus) {
-        bus.whole(part, regs, t, notes)
+        bus.whole::<Passing>(part, regs, t, notes)
     } else {
         0
     }

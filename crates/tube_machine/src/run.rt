@@ -140,7 +140,7 @@ fn go_whole<N, P: Processor, B: TubeBus<N>>(
     let late = (end + 1).saturating_sub(LONGEST * cycle);
     let mut due = from;
     while due < late {
-        let cycles = bus.whole(cpu.kind(), &mut regs, due, notes);
+        let cycles = bus.whole::<Stop>(cpu.kind(), &mut regs, due, notes);
         if cycles == 0 {
             break;
         }

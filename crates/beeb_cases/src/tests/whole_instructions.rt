@@ -244,7 +244,7 @@ fn both(
         s: r.s,
         p: r.p,
     };
-    let cycles = whole::<Unnoted, Ram>(part, &mut now, other, 0, &mut Unnoted);
+    let cycles = whole::<Unnoted, Ram, ()>(part, &mut now, other, 0, &mut Unnoted);
     if cycles == 0 {
         return Some((0, r, 0, now));
     }
@@ -354,7 +354,7 @@ fn an_instruction_that_leaves_plain_memory_is_left(rt: HostRuntime) -> Result<()
             p: 0x00,
         };
         ram.place(0x040D, &[op, low, high]);
-        let cycles = whole::<Unnoted, Ram>(Part::Nmos, &mut now, &mut ram, 0, &mut Unnoted);
+        let cycles = whole::<Unnoted, Ram, ()>(Part::Nmos, &mut now, &mut ram, 0, &mut Unnoted);
         assert!(rt; cycles == want, "{op} {low} {high}: {cycles}");
         assert!(rt; cycles != 0 || now.pc == 0x040D);
     }
