@@ -5,4 +5,3 @@ pub mod Listed
 pub mod Referred
 pub mod Inside
 pub mod Followed
-pub mod Seeing

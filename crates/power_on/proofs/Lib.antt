@@ -3,3 +3,4 @@ pub mod LengthLemmas
 pub mod SessionLemmas
 pub mod BegunLemmas
 pub mod PartLemmas
+pub mod ReadLemmas

@@ -13,7 +13,7 @@ mod starting;
 
 pub use discs::discs_of;
 pub use inputs::{HostFiles, Inputs};
-pub use law::lengths_come_first;
+pub use law::{begun_is_session, lengths_come_first};
 pub use machines::{machine_of, machines_of};
 pub use roms::roms_of;
 pub use script::script_of;

@@ -4,7 +4,7 @@ ghost use Rattle.beeb_stages.specs.View.{seen_input};
 ghost use Rattle.rom_set.specs.Roms.{roms_seen};
 ghost use Rattle.save_state.specs.Saved.{Session, session};
 ghost use Rattle.save_state.specs.File.{IsSession};
-ghost use Rattle.power_on.specs.Sessions.{part_slots, rom_of_slot, part_of, has_two_sides, begun, begun_if, if_there, there, inputs_in, kind_by, setup_in, BegunIsSession};
+ghost use Rattle.power_on.specs.Sessions.{part_slots, rom_of_slot, part_of, has_two_sides, begun, begun_if, if_there, there, inputs_in, kind_by, setup_in};
 ghost use Rattle.power_on.specs.View.{items, seen_inputs, seen_setup};
 
 use crate::inputs::Inputs;
@@ -223,9 +223,3 @@ pub fn setup_in<D: BusDevice>(saved: &Saved, plugs: Vec<D>) -> Setup<D>
         plugs,
     }
 }
-
-/// A run whose machines can be made, of a script that is no longer than a session's, begins as a session that keeps the rules.
-#[tactic(auto, using(crate::proofs::BegunLemmas::begun_is))]
-pub(crate) fn begun_is_session()
-    ensures { BegunIsSession }
-{}

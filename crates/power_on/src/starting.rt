@@ -11,8 +11,9 @@ ghost use Rattle.power_on.specs.Sessions.{begun_if};
 ghost use Rattle.power_on.specs.View.{seen_inputs, seen_setup};
 
 use crate::inputs::Inputs;
+use crate::law::begun_is_session;
 use crate::machines::machines_of;
-use crate::sessions::{begun_if, begun_is_session};
+use crate::sessions::begun_if;
 use crate::setup::Setup;
 use beeb_stages::Refusal;
 use beeb_status::Cause;

@@ -1,5 +1,4 @@
 pub mod Parts
-pub mod Begun
 pub mod Saved
 pub mod Goes
 pub mod Written

@@ -5,14 +5,14 @@ use crate::machines::machines_are_made_again;
 use bus_plug::RamCard;
 use host_mach::HostMachine;
 use para_mach::ParaMachine;
-use power_on::lengths_come_first;
+use power_on::begun_is_session;
 use save_state::{file_reads_back, saved_run_is_resumed};
 
 /// The session of a run keeps the rules of a session, and its file is read as that session.
 pub fn saved_run_is_read()
     ensures { SavedRunIsRead }
 {
-    lengths_come_first();
+    begun_is_session();
     file_reads_back();
     saved_run_is_resumed::<HostMachine<RamCard>, ParaMachine>();
 }

@@ -2,7 +2,7 @@ use Rattle.std.proofs.Common.{arith}
 use Rattle.tube_party.specs.Moves.{Moves}
 use Rattle.tube_party.specs.Steps.{due_rises, looks_on}
 use Rattle.follow.specs.CodeWatched.{Watched, watched_moves, watched_lawful}
-use Rattle.follow.proofs.Seeing.{stops_there, sees_one_more, rises_past}
+use Rattle.tube_party.proofs.Seeing.{stops_there, sees_one_more, rises_past}
 use Rattle.follow.proofs.watcher.WatcherParty.advance_seeing.Goals as goal
 
 pub returns-in-Nothing : goal.returns-in-Nothing
