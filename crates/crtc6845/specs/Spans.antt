@@ -33,6 +33,25 @@ beam_in_span span k = record {
 abbrev pub TellsSpan : Span → State → Type 0
 TellsSpan span c = (k : ℕ) → k < span.clocks → beam_of (clocks k c) ≡ beam_in_span span k
 
+-- What the k-th clock from here tells where nothing is shown, counted from 0: horizontal sync begins behind so many of them.
+abbrev pub hidden_beam : ℕ → ℕ → State → Beam
+hidden_beam to_sync k c = record {
+  shown = false;
+  ma = (address c + k) % 16384;
+  ra = c.raster;
+  cursor = false;
+  line_start = false;
+  sync_start = k == to_sync;
+  frame_end = false;
+  fields = c.fields;
+  row_end = false;
+  restart = false;
+}
+
+-- Each of the next n clocks tells that.
+abbrev pub TellsHidden : ℕ → ℕ → State → Type 0
+TellsHidden n to_sync c = (k : ℕ) → k < n → beam_of (clocks k c) ≡ hidden_beam to_sync k c
+
 -- The characters from this one on, the first aside, have no cursor.
 abbrev pub CursorIsFirst : ℕ → State → Type 0
 CursorIsFirst n c = (k : ℕ) → 0 < k → k < n → has_cursor (record c { character = c.character + k }) ≡ false

@@ -2,7 +2,7 @@
 ghost use Rattle.std.specs.Prelude.{◌≡◌, ◌<◌, ◌==◌, ◌||◌, false, true, if◌then◌else◌};
 ghost use Rattle.crtc6845.specs.State.{power_on};
 ghost use Rattle.crtc6845.specs.Registers.{select_leaves, set_leaves, answer_of};
-ghost use Rattle.crtc6845.specs.CodeSteps.{cursor_is_on, ends_row_line, is_quiet, quiet_beam};
+ghost use Rattle.crtc6845.specs.CodeSteps.{cursor_is_on, ends_inner_line, ends_row_line, is_quiet, quiet_beam};
 ghost use Rattle.crtc6845.specs.Clock.{starts_line, begins_sync, sync_counted, sync_begun, line_started, is_shown, blinks_on, has_cursor, address, ends_row, ends_frame, ends_line, is_row_done, are_rows_done, is_last_line, row_line_ended, adjust_line_ended, frame_begun, adjust_begun, line_ended, count_leaves, clock_leaves, beam_of, is_in_sync};
 
 use crate::Beam;
@@ -182,6 +182,59 @@ impl Chip {
         false
     }
 
+    /// Does the first character clock of a line that has more, and tells it.
+    #[inline(always)]
+    pub(crate) fn clock_at_start(&mut self) -> Beam
+        requires start { starts_line self.old ≡ true }
+        requires end { ends_line self.old ≡ false }
+        ensures beam { result ≡ beam_of self.old }
+        ensures state { self.new ≡ clock_leaves self.old }
+        ensures first { (result.line_start ≡ true) × (result.row_end ≡ false) × (result.restart ≡ false) }
+        ensures goes_on { starts_line self.new ≡ false }
+    {
+        let frame_end = self.start_line();
+        let beam = Beam {
+            shown: self.is_shown(),
+            ma: self.address(),
+            ra: self.raster,
+            cursor: self.has_cursor(),
+            line_start: true,
+            sync_start: self.character == self.registers.horizontal_sync_position,
+            frame_end,
+            fields: self.fields,
+            row_end: false,
+            restart: false,
+        };
+        self.character = 1;
+        beam
+    }
+
+    /// Does the last character clock of a line, and tells it, where the row goes on.
+    #[inline(always)]
+    pub(crate) fn clock_at_inner_end(&mut self) -> Beam
+        requires start { starts_line self.old ≡ false }
+        requires end { ends_inner_line self.old ≡ true }
+        ensures beam { result ≡ beam_of self.old }
+        ensures state { self.new ≡ clock_leaves self.old }
+        ensures inside { (result.line_start ≡ false) × (result.frame_end ≡ false) × (result.row_end ≡ false) × (result.restart ≡ false) }
+    {
+        let beam = Beam {
+            shown: self.is_shown(),
+            ma: self.address(),
+            ra: self.raster,
+            cursor: self.has_cursor(),
+            line_start: false,
+            sync_start: self.character == self.registers.horizontal_sync_position,
+            frame_end: false,
+            fields: self.fields,
+            row_end: false,
+            restart: false,
+        };
+        self.character = 0;
+        self.raster = (self.raster + self.registers.raster_step()) % 32;
+        beam
+    }
+
     /// Does one character clock, and tells it, where `is_edge` is false.
     #[inline(always)]
     pub(crate) fn clock_inside(&mut self) -> Beam
@@ -220,6 +273,14 @@ impl Chip {
         ensures { result ≡ starts_line self.now }
     {
         self.character == 0
+    }
+
+    /// The next character is the last of its line, and the row goes on.
+    #[inline(always)]
+    pub(crate) fn ends_inner_line(&self) -> bool
+        ensures { result ≡ ends_inner_line self.now }
+    {
+        self.ends_line() && self.adjust.is_none() && !self.is_row_done()
     }
 
     /// Each character is a line and the whole frame, and is not shown. So it is before the registers are written.

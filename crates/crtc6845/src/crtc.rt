@@ -2,16 +2,16 @@
 ghost use Rattle.std.specs.Prelude.{ℕ, ◌==◌, if◌then◌else◌, ◌≡◌, ◌+◌, ◌%◌, ◌<◌, ◌≤◌, ◌||◌, false, true};
 ghost use Rattle.crtc6845.specs.State.{power_on};
 ghost use Rattle.crtc6845.specs.Registers.{select_leaves, set_leaves, answer_of};
-ghost use Rattle.crtc6845.specs.Clock.{starts_line, sync_counted, clock_leaves, ends_line, beam_of, is_in_sync};
+ghost use Rattle.crtc6845.specs.Clock.{starts_line, sync_counted, clock_leaves, is_shown, ends_line, beam_of, is_in_sync};
 ghost use Rattle.crtc6845.specs.Calm.{StaysInSync};
-ghost use Rattle.crtc6845.specs.CodeSteps.{is_quiet, quiet_beam};
+ghost use Rattle.crtc6845.specs.CodeSteps.{ends_inner_line, is_quiet, quiet_beam};
 ghost use Rattle.crtc6845.specs.Laws.{clocks};
 ghost use Rattle.crtc6845.specs.Windows.{ShowsWindows};
 ghost use Rattle.crtc6845.specs.Rests.{frames_in, clocks_past_frame};
-ghost use Rattle.crtc6845.specs.Spans.{inside_clocks, TellsSpan};
+ghost use Rattle.crtc6845.specs.Spans.{inside_clocks, TellsSpan, TellsHidden};
 
 use crate::chip::Chip;
-use crate::{Beam, Finished, Span, Windows};
+use crate::{Beam, Finished, Hidden, Span, Windows};
 use std::marker::Model;
 
 /// A 6845.
@@ -99,6 +99,33 @@ impl Crtc {
         beam
     }
 
+    /// Does one character clock, and tells it, where `starts_line` is true and `ends_line` is false.
+    #[inline(always)]
+    pub fn clock_at_start(&mut self) -> Beam
+        requires start { starts_line self.old ≡ true }
+        requires end { ends_line self.old ≡ false }
+        ensures beam { result ≡ beam_of self.old }
+        ensures state { self.new ≡ clock_leaves self.old }
+        ensures first { (result.line_start ≡ true) × (result.row_end ≡ false) × (result.restart ≡ false) }
+        ensures goes_on { starts_line self.new ≡ false }
+    {
+        self.quiet = false;
+        self.chip.clock_at_start()
+    }
+
+    /// Does one character clock, and tells it, where `starts_line` is false and `ends_inner_line` is true.
+    #[inline(always)]
+    pub fn clock_at_inner_end(&mut self) -> Beam
+        requires start { starts_line self.old ≡ false }
+        requires end { ends_inner_line self.old ≡ true }
+        ensures beam { result ≡ beam_of self.old }
+        ensures state { self.new ≡ clock_leaves self.old }
+        ensures inside { (result.line_start ≡ false) × (result.frame_end ≡ false) × (result.row_end ≡ false) × (result.restart ≡ false) }
+    {
+        self.quiet = false;
+        self.chip.clock_at_inner_end()
+    }
+
     /// Does one character clock, and tells it, where `is_edge` is false.
     #[inline(always)]
     pub fn clock_inside(&mut self) -> Beam
@@ -176,7 +203,20 @@ impl Crtc {
         self.chip.span()
     }
 
-    /// Does so many character clocks inside the line, as `span` tells them.
+    /// The characters that come before the last of the line, where none of them is shown and `is_edge` is false.
+    #[inline(always)]
+    pub fn hidden(&self) -> Hidden
+        requires start { starts_line self.now ≡ false }
+        requires end { ends_line self.now ≡ false }
+        requires hidden { is_shown self.now ≡ false }
+        ensures some { 0 < result.clocks }
+        ensures inside { result.clocks ≤ inside_clocks self.now }
+        ensures told { TellsHidden result.clocks result.to_sync self.now }
+    {
+        self.chip.hidden()
+    }
+
+    /// Does so many character clocks inside the line, as `span` or `hidden` tells them.
     #[inline(always)]
     pub fn pass(&mut self, n: u16)
         requires start { starts_line self.old ≡ false }
@@ -201,6 +241,38 @@ impl Crtc {
         ensures { result ≡ true → is_quiet self.now ≡ true }
     {
         self.quiet
+    }
+
+    /// The next character is the first of its line.
+    #[inline(always)]
+    pub fn starts_line(&self) -> bool
+        ensures { result ≡ starts_line self.now }
+    {
+        self.chip.starts_line()
+    }
+
+    /// The next character is the last of its line.
+    #[inline(always)]
+    pub fn ends_line(&self) -> bool
+        ensures { result ≡ ends_line self.now }
+    {
+        self.chip.ends_line()
+    }
+
+    /// The next character is the last of its line, and the row goes on.
+    #[inline(always)]
+    pub fn ends_inner_line(&self) -> bool
+        ensures { result ≡ ends_inner_line self.now }
+    {
+        self.chip.ends_inner_line()
+    }
+
+    /// The next character is shown.
+    #[inline(always)]
+    pub fn is_shown(&self) -> bool
+        ensures { result ≡ is_shown self.now }
+    {
+        self.chip.is_shown()
     }
 
     /// The next character is the first or the last of its line: a line, a row or a frame may begin or end with it.

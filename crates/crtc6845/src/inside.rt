@@ -4,10 +4,10 @@ ghost use Rattle.crtc6845.specs.Registers.{cursor_address};
 ghost use Rattle.crtc6845.specs.Calm.{Fits};
 ghost use Rattle.crtc6845.specs.Clock.{begins_horizontal_sync, starts_line, is_shown, address, ends_line};
 ghost use Rattle.crtc6845.specs.Laws.{clocks};
-ghost use Rattle.crtc6845.specs.Spans.{inside_clocks, TellsSpan, CursorIsFirst, to_cursor};
+ghost use Rattle.crtc6845.specs.Spans.{inside_clocks, TellsSpan, TellsHidden, CursorIsFirst, to_cursor};
 
-use crate::Span;
 use crate::chip::Chip;
+use crate::{Hidden, Span};
 
 impl Chip {
     // So many characters come before the last of the line, or before they begin anew.
@@ -157,6 +157,34 @@ impl Chip {
             cursor: self.has_cursor(),
             sync: self.begins_horizontal_sync(),
             fields: self.fields_now(),
+        }
+    }
+
+    // So many characters come before the one with which horizontal sync begins, or more than are left of the line.
+    #[inline(always)]
+    fn to_sync(&self) -> u16
+        ensures here { self.now.character ≤ self.now.registers.horizontal_sync_position
+            → self.now.character + result ≡ self.now.registers.horizontal_sync_position }
+        ensures past { self.now.registers.horizontal_sync_position < self.now.character → result ≡ 256 }
+    {
+        let at = u16::from(self.character);
+        let sync = u16::from(self.registers.horizontal_sync_position);
+        if at <= sync { sync - at } else { 256 }
+    }
+
+    /// The characters that come before the last of the line, where none of them is shown and `is_edge` is false.
+    #[inline(always)]
+    pub(crate) fn hidden(&self) -> Hidden
+        requires start { starts_line self.now ≡ false }
+        requires end { ends_line self.now ≡ false }
+        requires hidden { is_shown self.now ≡ false }
+        ensures some { 0 < result.clocks }
+        ensures inside { result.clocks ≤ inside_clocks self.now }
+        ensures told { TellsHidden result.clocks result.to_sync self.now }
+    {
+        Hidden {
+            clocks: self.inside_clocks(),
+            to_sync: self.to_sync(),
         }
     }
 

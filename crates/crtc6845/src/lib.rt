@@ -70,6 +70,15 @@ pub struct Span {
     pub fields: u32,
 }
 
+/// Characters that come, all of them inside a line, and none of them shown.
+#[derive(Clone, Copy, Debug, PartialEq, Eq)]
+pub struct Hidden {
+    /// How many they are.
+    pub clocks: u16,
+    /// Horizontal sync begins behind so many of them.
+    pub to_sync: u16,
+}
+
 /// Two windows of addresses, of 14 bits: that of the frame that is on, and that of the frames to come.
 #[derive(Clone, Copy, Debug, PartialEq, Eq)]
 pub struct Windows {
