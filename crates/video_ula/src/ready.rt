@@ -142,10 +142,25 @@ impl Ready {
         both(self.first(byte), self.last(byte))
     }
 
-    /// Writes the first eight dots of each of `n` bytes, `step` apart, side by side: sixteen at a time, and those that are left eight by
-    /// eight.
+    /// Writes the first eight dots of each of `n` bytes, `step` apart, side by side.
     #[inline(always)]
     pub(crate) fn narrow_row(&self, bytes: &[u8], step: usize, n: usize, to: &mut [u8])
+        requires table { HasEights self.now }
+        requires bytes { (k : ℕ) → k < n → k * step < length bytes.now }
+        requires room { length to.old ≡ n * 8 }
+        ensures { to.new ≡ side_by_side (λ k. eight_at self.now.first (slice_index bytes.now (k * step))) n }
+    {
+        // The step of all pictures but teletext is a constant there.
+        if step == 8 {
+            self.narrow_row_by(bytes, 8, n, to);
+        } else {
+            self.narrow_row_by(bytes, step, n, to);
+        }
+    }
+
+    // Sixteen dots at a time, and those that are left eight by eight.
+    #[inline(always)]
+    fn narrow_row_by(&self, bytes: &[u8], step: usize, n: usize, to: &mut [u8])
         requires table { HasEights self.now }
         requires bytes { (k : ℕ) → k < n → k * step < length bytes.now }
         requires room { length to.old ≡ n * 8 }

@@ -4,7 +4,7 @@ use Rattle.video_ula.specs.Pixels.{side_by_side}
 use Rattle.video_ula.specs.Colours.{eight_at}
 use Rattle.video_ula.proofs.Rows.{row_more, pair_more}
 use borrow.Rule.Slice.PartMut.{put_mid}
-use Rattle.video_ula.proofs.ready.Ready.narrow_row.Goals as goal
+use Rattle.video_ula.proofs.ready.Ready.narrow_row_by.Goals as goal
 
 pub loop-i-preserved : goal.loop-i-preserved
 loop-i-preserved c =

@@ -2,7 +2,7 @@ use Rattle.std.proofs.Common.{◌≡◌, ◌*◌, take}
 use Rattle.std.specs.Prelude.{slice_index}
 use Rattle.video_ula.specs.Pixels.{side_by_side}
 use Rattle.video_ula.specs.Colours.{eight_at}
-use Rattle.video_ula.proofs.ready.Ready.narrow_row.Given as goal
+use Rattle.video_ula.proofs.ready.Ready.narrow_row_by.Given as goal
 
 -- the dots so far
 abbrev pub invariant-loop-i : goal.invariant-loop-i
