@@ -7,5 +7,7 @@ pub mod ReadBytes
 pub mod RestMany
 pub mod Spans
 pub mod FromSync
+pub mod FromStart
+pub mod HiddenRow
 pub mod Micros
 pub mod Cells

@@ -17,7 +17,7 @@ use Rattle.raster.specs.Frame.{dots_set, is_in_frame}
 use Rattle.raster.specs.Text.{Text}
 use Rattle.raster.specs.State.{State, first_cursor}
 use Rattle.raster.specs.Clock.{byte_dots, draw_byte_leaves, draw_cell_leaves, draw_leaves, show_leaves, pass_leaves, tell_leaves, char_clock_leaves}
-use Rattle.raster.specs.CodeSteps.{char_clocks, drawn_ahead, ArePlain, AreApart}
+use Rattle.raster.specs.CodeSteps.{char_clocks, drawn_ahead, ArePlain, AreApart, byte_row, bytes_put}
 use Rattle.raster.proofs.Drawing.{dots_set-append, past_the_end, all_outside}
 use Rattle.raster.proofs.Quiet.{cursor_far}
 use Rattle.raster.proofs.ReadBytes.{control_by, char_crtc, char_ula}
@@ -140,11 +140,6 @@ hidden_row ram size font span m (suc n) s h few not small =
     ∙ ap (λ (t : State). pass_leaves (plain_beam span n) t) (not_shown ram size font span n _ not)
     ∙ passed span n s.text s.working s h.far
 
-pub hidden_drawn : (ram : List ℕ) (size : ℕ) (font : Font) (span : Span) (n : ℕ) (s : State) → ArePlain span n s → span.shown ≡ false → s.place.x ≤ 4095 →
-    s ≡ drawn_ahead ram size font n s
-hidden_drawn ram size font span n s h not small =
-    ap (λ (t : State). record t { crtc = s.crtc; place = s.place }) (sym (hidden_row ram size font span n n s h (omega arith) not small))
-
 -- characters that are shown, without teletext
 abbrev pub span_dots : List ℕ → ℕ → Span → State → ℕ → List ℕ
 span_dots ram size span s k = byte_dots s.ula (slice_index ram (byte_address ((span.ma + k) % 16384) span.ra size)) span.ra false
@@ -175,7 +170,7 @@ none_marks false true false = refl
 none_marks false false true = refl
 none_marks false false false = refl
 
-not_marked : (control : ℕ) (c : Cursor) → c ≡ first_cursor → bit control 1 ≡ false → is_marked control false c ≡ false
+pub not_marked : (control : ℕ) (c : Cursor) → c ≡ first_cursor → bit control 1 ≡ false → is_marked control false c ≡ false
 not_marked control c far bits = rw (far, bits) (none_marks (bit control 7) (bit control 6) (bit control 5))
 
 -- a character's dots, where the beam's place is counted to its end, are set beside the others
@@ -207,7 +202,7 @@ draws ram size font span k t shown bits far =
     ∙ pick_second (bit t.ula.control 1) (draw_cell_leaves font (plain_beam span k) (byte % 128) t) (draw_byte_leaves (plain_beam span k) byte t) bits
     ∙ ap (λ (m : Bool). record t { working = dots_set 240 t.place.x t.place.y (byte_dots t.ula byte span.ra m) t.working }) (not_marked t.ula.control t.cursor far bits)
 
-abbrev row_set : List ℕ → ℕ → Span → State → ℕ → List ℕ
+abbrev pub row_set : List ℕ → ℕ → Span → State → ℕ → List ℕ
 row_set ram size span s n = dots_set 240 s.place.x s.place.y (side_by_side (span_dots ram size span s) n) s.working
 
 pub shown_row : (ram : List ℕ) (size : ℕ) (font : Font) (span : Span) (m n : ℕ) (s : State) → ArePlain span m s → n ≤ m → span.shown ≡ true → bit s.ula.control 1 ≡ false →
@@ -332,22 +327,20 @@ same_row f g zero h = refl
 same_row f g (suc n) h =
     ap (λ (ds : List ℕ). ds ++ f n) (same_row f g n (λ k below. h k (omega (arith, below)))) ∙ ap (λ (ds : List ℕ). side_by_side g n ++ ds) (h n (omega arith))
 
-plain_dots : (u : UlaState) (byte ra : ℕ) → bit ra 3 ≡ false → colours u byte false ≡ byte_dots u byte ra false
+pub plain_dots : (u : UlaState) (byte ra : ℕ) → bit ra 3 ≡ false → colours u byte false ≡ byte_dots u byte ra false
 plain_dots u byte ra low = rw low refl
 
-bytes_are : (ram : List ℕ) (size : ℕ) (span : Span) (n at step : ℕ) (s : State) → bit span.ra 3 ≡ false → AreApart span.ma span.ra size n at step →
-    row_colours s.ula (drop at ram) step n ≡ side_by_side (span_dots ram size span s) n
-bytes_are ram size span n at step s low apart =
+pub bytes_are : (ram : List ℕ) (size ma ra n at step : ℕ) (u : UlaState) → AreApart ma ra size n at step → row_colours u (drop at ram) step n ≡ byte_row ram size ma ra u n
+bytes_are ram size ma ra n at step u apart =
     same_row _ _ n (λ k below.
-    ap (λ byte. colours s.ula byte false) (get_or-drop at ram (k * step) 0 ∙ ap (λ j. slice_index ram j) (sym (apart.stand k below)))
-    ∙ plain_dots s.ula (slice_index ram (byte_address ((span.ma + k) % 16384) span.ra size)) span.ra low)
+    ap (λ byte. colours u byte false) (get_or-drop at ram (k * step) 0 ∙ ap (λ j. slice_index ram j) (sym (apart.stand k below))))
 
-pub bytes_drawn : (ram : List ℕ) (size : ℕ) (font : Font) (span : Span) (n at step : ℕ) (s : State) (new : List ℕ) → ArePlain span n s → span.shown ≡ true →
-    bit s.ula.control 1 ≡ false → s.place.x ≤ 4095 → bit span.ra 3 ≡ false → AreApart span.ma span.ra size n at step →
-    new ≡ dots_set 240 s.place.x s.place.y (row_colours s.ula (drop at ram) step n) s.working → record s { working = new } ≡ drawn_ahead ram size font n s
-bytes_drawn ram size font span n at step s new h shown bits small low apart is =
-    ap (λ (w : List ℕ). record s { working = w })
-    (is ∙ ap (λ (row : List ℕ). dots_set 240 s.place.x s.place.y row s.working) (bytes_are ram size span n at step s low apart))
+pub bytes_drawn : (ram : List ℕ) (size : ℕ) (font : Font) (span : Span) (n : ℕ) (s : State) → ArePlain span n s → span.shown ≡ true → bit s.ula.control 1 ≡ false →
+    s.place.x ≤ 4095 → bit span.ra 3 ≡ false → bytes_put ram size span.ma span.ra n s ≡ drawn_ahead ram size font n s
+bytes_drawn ram size font span n s h shown bits small low =
+    let byte = λ (k : ℕ). slice_index ram (byte_address ((span.ma + k) % 16384) span.ra size) in
+    ap (λ (row : List ℕ). record s { working = dots_set 240 s.place.x s.place.y row s.working })
+    (same_row (λ k. colours s.ula (byte k) false) (span_dots ram size span s) n (λ k below. plain_dots s.ula (byte k) span.ra low))
     ∙ shown_drawn ram size font span n s h shown bits small
 
 -- ---- black rasters, and outside of the frame

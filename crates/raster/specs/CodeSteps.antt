@@ -1,14 +1,18 @@
 -- What the code does of a character that is shown apart from the rest.
-use Rattle.std.specs.Prelude.{ℕ, zero, suc, ◌+◌, ◌*◌, ◌%◌, ◌<◌, ◌≡◌, Bool, false, List, slice_index, if◌then◌else◌}
+use Rattle.std.specs.Prelude.{ℕ, zero, suc, ◌+◌, ◌-◌, ◌*◌, ◌%◌, ◌<◌, ◌≤◌, ◌≡◌, nat_lt, Bool, true, false, List, slice_index, if◌then◌else◌}
+use Rattle.beeb_bits.specs.Bits.{bit}
+use Rattle.crtc6845.specs.declared.Beam.{Beam}
 use Rattle.crtc6845.specs.declared.Span.{Span}
 use Rattle.crtc6845.specs.Clock.{beam_of}
 use Rattle.crtc6845.specs.Laws.{clocks}
 use Rattle.crtc6845.specs.Spans.{beam_in_span}
+use Rattle.video_ula.specs.State.{State as UlaState}
+use Rattle.video_ula.specs.Pixels.{colours, side_by_side}
 use Rattle.saa5050.specs.Shapes.{Font}
 use Rattle.saa5050.specs.Row.{cell}
 use Rattle.raster.specs.Frame.{dots_set}
 use Rattle.raster.specs.Text.{Text, text_after}
-use Rattle.raster.specs.Beam.{byte_address}
+use Rattle.raster.specs.Beam.{Place, place_past, byte_address}
 use Rattle.raster.specs.State.{State, first_cursor}
 use Rattle.raster.specs.Clock.{cell_dots, char_clock_leaves}
 
@@ -37,6 +41,30 @@ pub record ArePlain (span : Span) (n : ℕ) (s : State) : Type 0 where
   pub cursor : span.cursor ≡ false
   pub sync : span.sync ≡ false
   pub far : s.cursor ≡ first_cursor
+
+-- Behind a character that a clock told come n that are shown beside it, and the cursor is on none of them and not near.
+pub record AreBehind (first : Beam) (n : ℕ) (s : State) : Type 0 where
+  pub span : Span
+  pub plain : ArePlain span n s
+  pub shown : span.shown ≡ true
+  pub ma : span.ma ≡ first.ma + 1
+  pub ra : span.ra ≡ first.ra
+  pub first_shown : first.shown ≡ true
+  pub first_cursor : first.cursor ≡ false
+  pub bits : bit s.ula.control 1 ≡ false
+  pub dots : bit first.ra 3 ≡ false
+  pub counted : s.place.x ≤ 4095
+
+-- The dots of n characters by their bytes, of which none has the cursor.
+abbrev pub byte_row : List ℕ → ℕ → ℕ → ℕ → UlaState → ℕ → List ℕ
+byte_row ram size ma ra u n = side_by_side (λ k. colours u (slice_index ram (byte_address ((ma + k) % 16384) ra size)) false) n
+
+abbrev pub bytes_put : List ℕ → ℕ → ℕ → ℕ → ℕ → State → State
+bytes_put ram size ma ra n s = record s { working = dots_set 240 s.place.x s.place.y (byte_row ram size ma ra s.ula n) s.working }
+
+-- Where n characters of d dots leave the beam that are not shown: horizontal sync begins behind so many of them, or later.
+abbrev pub place_hidden : ℕ → ℕ → ℕ → Place → Place
+place_hidden to_sync n d p = if nat_lt to_sync n then place_past ((n - to_sync) * d) (record p { x = 0 }) else place_past (n * d) p
 
 -- how many dots a character has
 abbrev pub wide : Bool → ℕ

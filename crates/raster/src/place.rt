@@ -2,6 +2,7 @@
 ghost use Rattle.std.specs.Prelude.{◌≡◌, ◌+◌, ◌*◌, ◌≤◌, ◌==◌, min, if◌then◌else◌};
 ghost use Rattle.raster.specs.Beam.{place_at, place_past};
 ghost use Rattle.raster.specs.State.{first_place};
+ghost use Rattle.raster.specs.CodeSteps.{place_hidden};
 
 use crtc6845::{Beam, Finished};
 use std::marker::Model;
@@ -114,5 +115,17 @@ impl Place {
         let eights = if narrow { 1 } else { 2 };
         let all = u32::from(self.eights) + eights * u32::from(n);
         self.eights = all.min(u32::from(MOST_EIGHTS)) as u16;
+    }
+    /// It leaves `n` characters of 8 or 16 dots that are not shown: horizontal sync begins behind so many of them, or later.
+    #[inline(always)]
+    pub(crate) fn pass_hidden(&mut self, narrow: bool, to_sync: u16, n: u16)
+        ensures { self.new ≡ place_hidden to_sync n (if narrow then 8 else 16) self.old }
+    {
+        if to_sync < n {
+            self.start_sync();
+            self.pass_many(narrow, n - to_sync);
+        } else {
+            self.pass_many(narrow, n);
+        }
     }
 }

@@ -190,11 +190,28 @@ impl Raster {
         if self.quiet {
             self.screen.rest(most);
             most
-        } else if self.screen.crtc.is_edge() {
-            self.char_clock(ram, size, font);
+        } else if self.screen.crtc.ends_line() {
+            self.end_line(ram, size, font);
             1
+        } else if self.screen.crtc.starts_line() {
+            self.screen.stretch_from_start(ram, size, font, most)
         } else {
             self.screen.stretch(ram, size, font, most)
+        }
+    }
+
+    // Does the last clock of a line.
+    #[inline(always)]
+    fn end_line(&mut self, ram: &[u8], size: u16, font: &RomSet)
+        requires ram { length ram.now ≡ 32768 }
+        requires size { IsScreenSize size }
+        ensures { self.new ≡ char_clock_leaves ram.now size font.now.font self.old }
+    {
+        if !self.screen.crtc.starts_line() && self.screen.crtc.ends_inner_line() {
+            self.quiet = false;
+            self.screen.clock_at_inner_end(ram, size, font);
+        } else {
+            self.char_clock(ram, size, font);
         }
     }
 

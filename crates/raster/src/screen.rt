@@ -1,10 +1,10 @@
 //! The picture's chips, and the beam over their frames.
-ghost use Rattle.std.specs.Prelude.{◌≡◌, ◌<◌, ◌≤◌, ◌+◌, ◌*◌, ◌%◌, min, ℕ, List, false, true, length, map, take, IfOk, if◌then◌else◌};
+ghost use Rattle.std.specs.Prelude.{◌≡◌, ◌<◌, ◌≤◌, ◌+◌, ◌-◌, ◌*◌, ◌%◌, min, ℕ, List, false, true, length, map, take, IfOk, if◌then◌else◌};
 ghost use Rattle.beeb_bits.specs.Bits.{bit};
 ghost use Rattle.video_ula.specs.Pixels.{dots_of, under_cursor, side_by_side};
-ghost use Rattle.crtc6845.specs.Clock.{starts_line, ends_line, beam_of};
+ghost use Rattle.crtc6845.specs.Clock.{starts_line, is_shown, ends_line, beam_of};
 ghost use Rattle.crtc6845.specs.Spans.{inside_clocks, beam_in_span};
-ghost use Rattle.crtc6845.specs.CodeSteps.{is_quiet};
+ghost use Rattle.crtc6845.specs.CodeSteps.{ends_inner_line, is_quiet};
 ghost use Rattle.crtc6845.specs.Laws.{clocks};
 ghost use Rattle.crtc6845.specs.Rests.{frames_in, clocks_past_frame};
 ghost use Rattle.saa5050.specs.Shapes.{Font};
@@ -12,7 +12,7 @@ ghost use Rattle.raster.specs.Beam.{IsScreenSize, place_past};
 ghost use Rattle.raster.specs.Frame.{black, dots_set};
 ghost use Rattle.raster.specs.State.{power_on, first_cursor};
 ghost use Rattle.raster.specs.CodeQuiet.{IsQuiet};
-ghost use Rattle.raster.specs.CodeSteps.{cell_drawn_on, char_clocks, drawn_ahead, ArePlain, code_in, texts, cells};
+ghost use Rattle.raster.specs.CodeSteps.{cell_drawn_on, char_clocks, drawn_ahead, ArePlain, AreBehind, bytes_put, place_hidden, code_in, texts, cells};
 ghost use Rattle.raster.specs.Clock.{begin_leaves, byte_dots, draw_byte_leaves, cell_dots, draw_cell_leaves, draw_leaves, show_leaves, pass_leaves, tell_leaves, char_clock_leaves, microseconds};
 
 use crate::beam::{Cursor, byte_address, bytes_from};
@@ -82,6 +82,24 @@ fn mark(dots: &mut [u8; 16], marked: bool)
     for i in 0..16 {
         dots[i] ^= ink;
     }
+}
+
+// A span goes on behind a character, in the same block of 1,024 addresses and with no cursor.
+#[inline(always)]
+fn follows(span: &Span, first: &Beam) -> bool
+    ensures shown { result ≡ true → span.now.shown ≡ true }
+    ensures cursor { result ≡ true → span.now.cursor ≡ false }
+    ensures sync { result ≡ true → span.now.sync ≡ false }
+    ensures ra { result ≡ true → span.now.ra ≡ first.now.ra }
+    ensures ma { result ≡ true → span.now.ma ≡ first.now.ma + 1 }
+    ensures page { result ≡ true → 0 < span.now.ma % 1024 }
+{
+    span.shown
+        && !span.cursor
+        && !span.sync
+        && span.ra == first.ra
+        && span.ma % 1024 != 0
+        && span.ma - 1 == first.ma
 }
 
 // Draws teletext cells side by side that are in the frame and that the cursor does not mark.
@@ -222,6 +240,105 @@ impl Screen {
         self.tell_inside(ram, size, font, &beam);
     }
 
+    /// Does the last clock of a line after which the row goes on.
+    #[inline(always)]
+    pub(crate) fn clock_at_inner_end(&mut self, ram: &[u8], size: u16, font: &RomSet)
+        requires ram { length ram.now ≡ 32768 }
+        requires size { IsScreenSize size }
+        requires start { starts_line self.old.crtc ≡ false }
+        requires end { ends_inner_line self.old.crtc ≡ true }
+        ensures { self.new ≡ char_clock_leaves ram.now size font.now.font self.old }
+    {
+        let beam = self.crtc.clock_at_inner_end();
+        self.tell_inside(ram, size, font, &beam);
+    }
+
+    /// Does character clocks from the first of a line on that has more, at least one and at most `most`, and tells how many.
+    #[inline(always)]
+    pub(crate) fn stretch_from_start(
+        &mut self,
+        ram: &[u8],
+        size: u16,
+        font: &RomSet,
+        most: u64,
+    ) -> u64
+        requires ram { length ram.now ≡ 32768 }
+        requires size { IsScreenSize size }
+        requires start { starts_line self.old.crtc ≡ true }
+        requires end { ends_line self.old.crtc ≡ false }
+        requires some { 0 < most }
+        ensures some { 0 < result }
+        ensures most { result ≤ most }
+        ensures state { self.new ≡ char_clocks ram.now size font.now.font result self.old }
+    {
+        let first = self.crtc.clock_at_start();
+        self.begin(&first);
+        let n = self.draw_from_first(ram, size, &first, most);
+        if n == 0 {
+            self.show(ram, size, font, &first);
+            self.pass_first(&first);
+            return 1;
+        }
+        self.pass_row(n);
+        u64::from(n)
+    }
+
+    // The beam goes past the first characters of a line, the first of which the 6845 has done.
+    #[inline(always)]
+    fn pass_row(&mut self, n: u16)
+        requires some { 0 < n }
+        requires start { starts_line self.old.crtc ≡ false }
+        requires inside { n - 1 ≤ inside_clocks self.old.crtc }
+        ensures { self.new ≡ record self.old {
+          crtc = clocks (n - 1) self.old.crtc;
+          place = place_past (n * dots_of self.old.ula.control) self.old.place;
+        } }
+    {
+        self.place.pass_many(bit(self.ula.mode(), 4), n);
+        self.crtc.pass(n - 1);
+    }
+
+    // The beam leaves the first character of a line, which is not the last of it.
+    #[inline(always)]
+    fn pass_first(&mut self, first: &Beam)
+        requires row { first.now.row_end ≡ false }
+        requires frame { first.now.restart ≡ false }
+        ensures { self.new ≡ pass_leaves first.now self.old }
+    {
+        self.place.pass(bit(self.ula.mode(), 4));
+        self.cursor.pass(first.cursor);
+    }
+
+    // Draws the character that was just told and some behind it, at most `most` in all, and tells how many: 0 where it is to be done by
+    // itself.
+    #[inline(always)]
+    fn draw_from_first(&mut self, ram: &[u8], size: u16, first: &Beam, most: u64) -> u16
+        requires ram { length ram.now ≡ 32768 }
+        requires size { IsScreenSize size }
+        requires start { starts_line self.old.crtc ≡ false }
+        ensures most { result ≤ most }
+        ensures behind { 0 < result → AreBehind first.now (result - 1) self.old }
+        ensures inside { 0 < result → result - 1 ≤ inside_clocks self.old.crtc }
+        ensures put { self.new ≡ bytes_put ram.now size first.now.ma first.now.ra result self.old }
+    {
+        if !first.shown || first.cursor || bit(first.ra, 3) || bit(self.ula.mode(), 1) {
+            return 0;
+        }
+        if self.crtc.is_edge() || !self.is_cursor_far() {
+            return 0;
+        }
+        let span = self.crtc.span();
+        if !follows(&span, first) {
+            return 0;
+        }
+        let n = most.min(u64::from(span.clocks) + 1) as u16;
+        let n = inside(LEFT, &self.place, bit(self.ula.mode(), 4), n);
+        if n == 0 {
+            return 0;
+        }
+        self.put_bytes(ram, size, first.ma, first.ra, n)
+    }
+
     /// Does character clocks inside a line, at least one and at most `most`, and tells how many.
     #[inline(always)]
     pub(crate) fn stretch(&mut self, ram: &[u8], size: u16, font: &RomSet, most: u64) -> u64
@@ -234,11 +351,11 @@ impl Screen {
         ensures most { result ≤ most }
         ensures state { self.new ≡ char_clocks ram.now size font.now.font result self.old }
     {
+        if !self.crtc.is_shown() && self.is_cursor_far() {
+            return self.stretch_hidden(most);
+        }
         let span = self.crtc.span();
         let most = most.min(u64::from(span.clocks)) as u16;
-        if span.sync {
-            return self.stretch_from_sync(ram, size, font, span, most);
-        }
         let n = self.draw_some(ram, size, font, span, most);
         if n == 0 {
             self.clock_inside(ram, size, font);
@@ -248,28 +365,37 @@ impl Screen {
         u64::from(n)
     }
 
-    // The same where horizontal sync begins with the first: as a rule none of them is shown then.
+    // The same where nothing is shown: horizontal sync may begin with one of them.
     #[inline(always)]
-    fn stretch_from_sync(&mut self, ram: &[u8], size: u16, font: &RomSet, span: Span, n: u16) -> u64
-        requires ram { length ram.now ≡ 32768 }
-        requires size { IsScreenSize size }
+    fn stretch_hidden(&mut self, most: u64) -> u64
         requires start { starts_line self.old.crtc ≡ false }
         requires end { ends_line self.old.crtc ≡ false }
-        requires some { 0 < n }
-        requires inside { n ≤ inside_clocks self.old.crtc }
-        requires sync { span.sync ≡ true }
-        requires told { (k : ℕ) → k < n → beam_of (clocks k self.old.crtc) ≡ beam_in_span span k }
+        requires hidden { is_shown self.old.crtc ≡ false }
+        requires far { self.old.cursor ≡ first_cursor }
+        requires counted { self.old.place.x ≤ 4095 }
+        requires some { 0 < most }
         ensures some { 0 < result }
-        ensures most { result ≤ n }
-        ensures state { self.new ≡ char_clocks ram.now size font.now.font result self.old }
+        ensures most { result ≤ most }
+        ensures state { (ram : List ℕ) (size : ℕ) (font : Font) → self.new ≡ char_clocks ram size font result self.old }
     {
-        if span.shown || span.cursor || !self.is_cursor_far() {
-            self.clock_inside(ram, size, font);
-            return 1;
-        }
-        self.place.start_sync();
-        self.pass_span(n);
+        let hidden = self.crtc.hidden();
+        let n = most.min(u64::from(hidden.clocks)) as u16;
+        self.pass_hidden(hidden.to_sync, n);
         u64::from(n)
+    }
+
+    // The beam goes past characters that are not shown: horizontal sync begins behind so many of them, or later.
+    #[inline(always)]
+    fn pass_hidden(&mut self, to_sync: u16, n: u16)
+        requires start { starts_line self.old.crtc ≡ false }
+        requires inside { n ≤ inside_clocks self.old.crtc }
+        ensures { self.new ≡ record self.old {
+          crtc = clocks n self.old.crtc;
+          place = place_hidden to_sync n (dots_of self.old.ula.control) self.old.place;
+        } }
+    {
+        self.place.pass_hidden(bit(self.ula.mode(), 4), to_sync, n);
+        self.crtc.pass(n);
     }
 
     // The beam goes past characters of a span.
@@ -308,12 +434,8 @@ impl Screen {
         ensures counted { 0 < result → self.old.place.x ≤ 4095 }
         ensures drawn { self.new ≡ drawn_ahead ram.now size font.now.font result self.old }
     {
-        if span.cursor || span.sync || !self.is_cursor_far() {
+        if !span.shown || span.cursor || span.sync || !self.is_cursor_far() {
             return 0;
-        }
-        let hidden = !span.shown;
-        if hidden {
-            return n;
         }
         if bit(self.ula.mode(), 1) {
             self.draw_text(ram, size, font, span, n)
@@ -397,7 +519,21 @@ impl Screen {
         ensures most { result ≤ n }
         ensures drawn { (font : Font) → self.new ≡ drawn_ahead ram.now size font result self.old }
     {
-        let bytes = bytes_from(span.ma, span.ra, size, n);
+        self.put_bytes(ram, size, span.ma, span.ra, n)
+    }
+
+    // Draws the bytes of characters that are in the frame: as many as stand before the end of the RAM, or none where the dots are not ready.
+    #[inline(always)]
+    fn put_bytes(&mut self, ram: &[u8], size: u16, ma: u16, ra: u8, n: u16) -> u16
+        requires ram { length ram.now ≡ 32768 }
+        requires size { IsScreenSize size }
+        requires page { ma % 1024 + n ≤ 1024 }
+        requires along { (240 ≤ self.old.place.x) × (self.old.place.x + n * dots_of self.old.ula.control ≤ 880) }
+        requires down { (40 ≤ self.old.place.y) × (self.old.place.y < 296) }
+        ensures most { result ≤ n }
+        ensures put { self.new ≡ bytes_put ram.now size ma ra result self.old }
+    {
+        let bytes = bytes_from(ma, ra, size, n);
         if self.working.draw_row(
             LEFT,
             &self.place,
