@@ -116,6 +116,7 @@ impl Place {
         let all = u32::from(self.eights) + eights * u32::from(n);
         self.eights = all.min(u32::from(MOST_EIGHTS)) as u16;
     }
+
     /// It leaves `n` characters of 8 or 16 dots that are not shown: horizontal sync begins behind so many of them, or later.
     #[inline(always)]
     pub(crate) fn pass_hidden(&mut self, narrow: bool, to_sync: u16, n: u16)
