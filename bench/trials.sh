@@ -1,0 +1,42 @@
+#!/usr/bin/env bash
+# trials.sh [N [SEED]]: N trials (1,000,000 if none is said) of each kind of crates/trials, on all processors: random programs of the second processor,
+# by whole instructions and cycle by cycle. Prints how many were done, in how many seconds, and the first seed of each processor that differs, and
+# ends with 0 where none does. The same seed (1 if none is said) makes the same trials.
+#
+# `rt run` in crates/trials proves the program and builds it, in crates/trials/out. TRIALS=PROGRAM runs one that was built by other means.
+. "$(dirname "$0")/common.sh"
+
+trials=$top/crates/trials/out/trials
+if [ -n "${TRIALS:-}" ]; then
+    cd "$OLDPWD"
+    trials=$(realpath "$TRIALS")
+    cd "$work"
+elif [ -n "$(cd "$top/crates/trials" && rt run -- all 1 1 </dev/null >"$work/said" 2>&1 || echo failed)" ]; then
+    tail -n 20 said
+    exit 1
+fi
+
+count=${1:-1000000}
+seed=${2:-1}
+parts=$(nproc)
+each=$(((count + parts - 1) / parts))
+status=0
+for kind in 65c02; do
+    begun=$(date +%s)
+    tasks=()
+    for part in $(seq "$parts"); do
+        "$trials" "$kind" $((seed + (part - 1) * each)) "$each" >"$kind.$part" &
+        tasks+=($!)
+    done
+    failed=0
+    for task in "${tasks[@]}"; do
+        wait "$task" || failed=$((failed + 1))
+    done
+    if [ "$failed" = 0 ]; then
+        echo "$kind: $((parts * each)) tried, 0 differ, $(($(date +%s) - begun)) s"
+    else
+        grep -hv ' tried, 0 differ$' "$kind".* || echo "$kind: $failed of $parts did not end"
+        status=1
+    fi
+done
+exit "$status"

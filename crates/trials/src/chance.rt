@@ -1,0 +1,54 @@
+//! Numbers that look like chance.
+ghost use Rattle.std.specs.Prelude.{◌<◌};
+
+use rand_core::utils::NextWord;
+use rand_pcg::Lcg64Xsh32;
+
+/// The PCG generator (XSH RR 64/32) of a seed.
+#[derive(Drop)]
+pub struct Chance {
+    words: Lcg64Xsh32,
+}
+
+impl Chance {
+    /// Each kind of trial has a stream of its own.
+    pub fn new(seed: u64, stream: u64) -> Chance {
+        Chance {
+            words: Lcg64Xsh32::new(seed, stream),
+        }
+    }
+
+    pub fn word(&mut self) -> u32 {
+        self.words.next_word()
+    }
+
+    pub fn byte(&mut self) -> u8 {
+        (self.word() % 256) as u8
+    }
+
+    /// A number below `n`, or 0.
+    pub fn below(&mut self, n: u32) -> u32
+        ensures { 0 < n → result < n }
+    {
+        if n == 0 { 0 } else { self.word() % n }
+    }
+
+    /// True once in `n` times.
+    pub fn once_in(&mut self, n: u32) -> bool {
+        self.below(n) == 0
+    }
+
+    /// One of some addresses.
+    pub fn among(&mut self, addresses: &[u16]) -> u16 {
+        let place = self.word() as usize;
+        if addresses.is_empty() {
+            return 0;
+        }
+        addresses[place % addresses.len()]
+    }
+
+    /// An address below 8000.
+    pub fn memory(&mut self) -> u16 {
+        (self.word() % 0x8000) as u16
+    }
+}
