@@ -24,10 +24,10 @@ counts() {
 if command -v valgrind >found; then
     "$launcher" asm 65c02 "$top/bench/busy-tube.asm" busy-tube
     "$launcher" asm 6502 "$top/bench/busy-os.asm" busy-os
-    counts 'second processor' '50, 0.4' $((ticks / 2)) para empty.trace TICKS out --tube busy-tube
+    counts 'second processor' '17, 0.1' $((ticks / 2)) para empty.trace TICKS out --tube busy-tube
     printf 'T2\n' >empty4.trace
-    counts 'second processor at 4 MHz' '50, 0.4' $((ticks / 3)) para empty4.trace TICKS out --tube busy-tube --speed 4
-    counts host '48, 0.4' $((ticks / 3)) host empty.trace TICKS out --os busy-os
+    counts 'second processor at 4 MHz' '17, 0.1' $((ticks / 3)) para empty4.trace TICKS out --tube busy-tube --speed 4
+    counts host '18, 0.1' $((ticks / 3)) host empty.trace TICKS out --os busy-os
     ticks=6000000
     "$launcher" asm 6502 "$top/examples/font.asm" font
     head -c 204800 /dev/zero >disc
@@ -39,7 +39,7 @@ if command -v valgrind >found; then
 disc 48,0.4 --disc0 disc
 timers 48,0.4
 handler 48,0.4
-screen 55,0.4
+screen 24,0.1
 screen40 55,0.4
 teletext 64,0.4 --font font
 store 64,0.4
