@@ -1,9 +1,7 @@
 -- Where the memory is, and that a read there gives the byte that stands there.
 use Rattle.std.proofs.Common.{ℕ, ◌≡◌, ◌≤◌, ◌<◌, Bool, true, false, Some, None, refl, arith}
 use Rattle.std.proofs.lemmas.Grind.{common_steps}
-use Rattle.host_bus.specs.declared.map.Place.{Place}
-use Rattle.host_bus.specs.declared.map.Place.TheVariants.{Ram, PagedRom, OsRom, Plugs, Crtc, Acia, SerialUla, VideoUla, RomLatch, SystemVia, UserVia, DiscLatch, DiscController, Absent, Adc, Tube}
-use Rattle.host_bus.specs.Map.{place_of}
+use Rattle.host_bus.specs.Map.{Place, Ram, PagedRom, OsRom, place_of}
 use Rattle.host_bus.specs.Bus.{BusState, answer_of, bus_answer}
 use Rattle.host_bus.specs.Peek.{memory_at, bus_peek}
 
@@ -26,37 +24,13 @@ stands : (p : Place) (b : BusState) (t at : ℕ) → is_memory p ≡ true → me
 stands Ram b t at is = refl
 stands PagedRom b t at is = refl
 stands OsRom b t at is = refl
-stands Plugs b t at is = cc
-stands Crtc b t at is = cc
-stands Acia b t at is = cc
-stands SerialUla b t at is = cc
-stands VideoUla b t at is = cc
-stands RomLatch b t at is = cc
-stands SystemVia b t at is = cc
-stands UserVia b t at is = cc
-stands DiscLatch b t at is = cc
-stands DiscController b t at is = cc
-stands Absent b t at is = cc
-stands Adc b t at is = cc
-stands Tube b t at is = cc
+stands _ b t at is = cc
 
 none : (p : Place) (b : BusState) (at : ℕ) → is_memory p ≡ false → memory_at p b.board at ≡ None
 none Ram b at is = cc
 none PagedRom b at is = cc
 none OsRom b at is = cc
-none Plugs b at is = refl
-none Crtc b at is = refl
-none Acia b at is = refl
-none SerialUla b at is = refl
-none VideoUla b at is = refl
-none RomLatch b at is = refl
-none SystemVia b at is = refl
-none UserVia b at is = refl
-none DiscLatch b at is = refl
-none DiscController b at is = refl
-none Absent b at is = refl
-none Adc b at is = refl
-none Tube b at is = refl
+none _ b at is = refl
 
 pub peek-low : (b : BusState) (t at : ℕ) → at < 0xfc00 → bus_peek b at ≡ Some (bus_answer b t at)
 peek-low b t at h = stands (place_of at) b t at (low-memory at h)

@@ -8,12 +8,12 @@ use Rattle.rom_set.specs.Roms.{Roms, rom_byte}
 use Rattle.disc_image.specs.Image.{Image}
 use Rattle.sn76489.specs.declared.SoundWrite.{SoundWrite}
 use Rattle.key_script.specs.declared.Event.{Event}
-use Rattle.host_bus.specs.declared.map.Place.{Place}
-use Rattle.host_bus.specs.declared.map.Place.TheVariants.{Ram, PagedRom, OsRom, Plugs, Crtc, Acia, SerialUla, VideoUla, RomLatch, SystemVia, UserVia, DiscLatch, DiscController, Absent, Adc, Tube}
+use Rattle.host_bus.specs.declared.map.Device.TheVariants.{RomLatch, SystemVia}
+use Rattle.host_bus.specs.Map.{Place, Ram, PagedRom, OsRom, Plugs, Sheila}
 use Rattle.host_bus.specs.Shots.{shot_at}
 use Rattle.host_bus.specs.Sound.{moment_at, with_write}
 use Rattle.host_bus.specs.Breaks.{breaks_until, break_number}
-use Rattle.host_bus.specs.Devices.{Devices, keys_at, levels_at, microsecond, last_frame, crtc_answer, crtc_written, ula_written, system_answer, system_read, system_written, sound_line, sound_data, converter_answer, converter_written, user_answer, user_read, user_written, disc_latched, disc_answer, disc_read, disc_written, devices_ask, devices_reset, first_devices}
+use Rattle.host_bus.specs.Devices.{Devices, keys_at, levels_at, microsecond, last_frame, register_answer, register_read, register_written, sound_line, sound_data, devices_ask, devices_reset, first_devices}
 
 pub record BoardState : Type 0 where
   -- how long a tick is
@@ -77,30 +77,17 @@ closed_with b t m = record b { devices = m.devices; shots = m.shots; closed = t 
 abbrev pub board_closed : BoardState → ℕ → BoardState
 board_closed b t = closed_with b (max t b.closed) (ticks (around b) (t - b.closed) b.closed (moving_part b))
 
--- What a read at tick t answers. FE is what the map does not give: of addresses that are only written, and of absent devices.
+-- what a read at tick t answers
 abbrev pub answer_at : Place → BoardState → ℕ → ℕ → ℕ
 answer_at Ram b t at = slice_index b.ram at
 answer_at PagedRom b t at = rom_byte b.roms.slots b.latch (at - 0x8000)
 answer_at OsRom b t at = slice_index b.roms.os (at - 0xC000)
 answer_at Plugs b t at = 0xFF
-answer_at Crtc b t at = crtc_answer at b.devices
-answer_at Acia b t at = if at % 2 == 0 then 0x02 else 0x00
-answer_at SerialUla b t at = 0xFE
-answer_at VideoUla b t at = 0xFE
-answer_at RomLatch b t at = 0xFE
-answer_at SystemVia b t at = system_answer (at % 16) (keys_at t b.script) b.devices
-answer_at UserVia b t at = user_answer (at % 16) b.devices
-answer_at DiscLatch b t at = 0xFE
-answer_at DiscController b t at = disc_answer (at % 4) b.devices
-answer_at Absent b t at = 0xFE
-answer_at Adc b t at = converter_answer (at % 4) b.devices
-answer_at Tube b t at = 0xFE
+answer_at (Sheila device) b t at = register_answer device at (keys_at t b.script) b.devices
 
 -- the board after a read
 abbrev pub read_at : Place → ℕ → BoardState → BoardState
-read_at SystemVia at b = record b { devices = system_read (at % 16) b.devices }
-read_at UserVia at b = record b { devices = user_read (at % 16) b.devices }
-read_at DiscController at b = record b { devices = disc_read (at % 4) b.devices }
+read_at (Sheila device) at b = record b { devices = register_read device at b.devices }
 read_at _ at b = b
 
 -- The board with these devices, after a write to the system's 6522. Where that turns bit 0 of the latch from 1 to 0, the sound chip is written.
@@ -109,17 +96,12 @@ with_sound b d =
     let write : SoundWrite = record { moment = moment_at (micro b.clock) b.closed; byte = sound_data d } in
     record b { devices = d; sound = if sound_line b.devices && not (sound_line d) then with_write write b.sound else b.sound }
 
--- The board after a write. ROMs, stubs and absent devices ignore it.
+-- The board after a write. ROMs ignore it.
 abbrev pub written_at : Place → ℕ → ℕ → BoardState → BoardState
 written_at Ram at v b = record b { ram = slice_set b.ram at v }
-written_at Crtc at v b = record b { devices = crtc_written at v b.devices }
-written_at VideoUla at v b = record b { devices = ula_written at v b.devices }
-written_at RomLatch at v b = record b { latch = v % 16 }
-written_at SystemVia at v b = with_sound b (system_written (at % 16) v b.devices)
-written_at UserVia at v b = record b { devices = user_written (at % 16) v b.devices }
-written_at DiscLatch at v b = record b { devices = disc_latched v b.devices }
-written_at Adc at v b = record b { devices = converter_written (at % 4) v b.devices }
-written_at DiscController at v b = record b { devices = disc_written (at % 4) v b.devices }
+written_at (Sheila RomLatch) at v b = record b { latch = v % 16 }
+written_at (Sheila SystemVia) at v b = with_sound b (register_written SystemVia at v b.devices)
+written_at (Sheila device) at v b = record b { devices = register_written device at v b.devices }
 written_at _ at v b = b
 
 -- The lines to the processor: whether a device asks for an interrupt, and how often the NMI line, the disc controller's "DRQ or INTRQ", has

@@ -25,6 +25,8 @@ use Rattle.keyboard.specs.Latch as keyboard
 use Rattle.key_script.specs.declared.Event.{Event}
 use Rattle.key_script.specs.Keys.{is_down}
 use Rattle.key_script.specs.Levels.{level_at}
+use Rattle.host_bus.specs.declared.map.Device.{Device}
+use Rattle.host_bus.specs.declared.map.Device.TheVariants.{Crtc, Acia, VideoUla, SystemVia, UserVia, DiscLatch, DiscController, Adc}
 
 pub record Devices : Type 0 where
   -- the 6845, the video ULA and the teletext chip, and what the beam draws
@@ -83,46 +85,41 @@ microseconds ram font keys levels (suc n) d = microseconds ram font keys levels 
 unfoldable pub last_frame : Devices → List ℕ
 last_frame d = d.video.finished
 
--- A write to the 6845: an even address selects a register, and an odd one is its value. A read of an odd address gives the register, as far
--- as it can be read.
-unfoldable pub crtc_written : ℕ → ℕ → Devices → Devices
-crtc_written at v d =
-    record d { video = with_crtc d.video (if at % 2 == 0 then crtc.select_leaves v d.video.crtc else crtc.set_leaves v d.video.crtc) }
+-- The registers in SHEILA, by their addresses there. What a read answers, with these keys. Of the 6845, an even address selects a register, and an
+-- odd one is its value, as far as it can be read. Both 6522s have sixteen registers, the disc controller and the converter four each. FE is what
+-- the map does not give: of addresses that are only written, and of absent devices. (Acorn, BBC Microcomputer Advanced User Guide, Sheila.)
+unfoldable pub register_answer : Device → ℕ → Keys → Devices → ℕ
+register_answer Crtc at keys d = if at % 2 == 0 then 0xFE else crtc.answer_of d.video.crtc
+register_answer Acia at keys d = if at % 2 == 0 then 0x02 else 0x00
+register_answer SystemVia at keys d = answer_of (at % 16) (system_pins (beam.vsync_of d.video) (converter.cb1 d.converter) keys d) d.system
+register_answer UserVia at keys d = answer_of (at % 16) user_pins d.user
+register_answer DiscController at keys d = controller.answer_of (at % 4) d.disc
+register_answer Adc at keys d = converter.answer_of (at % 4) d.converter
+register_answer _ at keys d = 0xFE
 
-unfoldable pub crtc_answer : ℕ → Devices → ℕ
-crtc_answer at d = if at % 2 == 0 then 0xFE else crtc.answer_of d.video.crtc
+-- what a read leaves
+unfoldable pub register_read : Device → ℕ → Devices → Devices
+register_read SystemVia at d = record d { system = read_leaves (at % 16) d.system }
+register_read UserVia at d = record d { user = read_leaves (at % 16) d.user }
+register_read DiscController at d = record d { disc = controller.read_leaves (at % 4) d.disc }
+register_read _ at d = d
 
--- a write to the video ULA: an even address is its control byte, and an odd one its palette
-unfoldable pub ula_written : ℕ → ℕ → Devices → Devices
-ula_written at v d =
-    record d { video = with_ula d.video (if at % 2 == 0 then ula.control_leaves v d.video.ula else ula.palette_leaves v d.video.ula) }
-
--- a write to the disc latch, and an access to the disc controller
-unfoldable pub disc_latched : ℕ → Devices → Devices
-disc_latched v d = record d { disc = latch_leaves v d.disc }
-
-unfoldable pub disc_answer : ℕ → Devices → ℕ
-disc_answer reg d = controller.answer_of reg d.disc
-
-unfoldable pub disc_read : ℕ → Devices → Devices
-disc_read reg d = record d { disc = controller.read_leaves reg d.disc }
-
-unfoldable pub disc_written : ℕ → ℕ → Devices → Devices
-disc_written reg v d = record d { disc = controller.write_leaves reg v d.disc }
-
--- an access to the system's 6522: the answer of a read, and what it leaves
-unfoldable pub system_answer : ℕ → Keys → Devices → ℕ
-system_answer reg keys d = answer_of reg (system_pins (beam.vsync_of d.video) (converter.cb1 d.converter) keys d) d.system
-
-unfoldable pub system_read : ℕ → Devices → Devices
-system_read reg d = record d { system = read_leaves reg d.system }
-
--- After a write to register 0 or 2 the pins of port B go to the addressable latch.
+-- After a write to register 0 or 2 of the system's 6522 the pins of port B go to the addressable latch.
 unfoldable pub after_latch : ℕ → Devices → Devices
 after_latch reg d = if reg == 0 || reg == 2 then record d { latch = keyboard.latch_after (out_b d.system) d.latch } else d
 
-unfoldable pub system_written : ℕ → ℕ → Devices → Devices
-system_written reg v d = after_latch reg (record d { system = write_leaves reg v d.system })
+-- What a write leaves. An even address of the video ULA is its control byte, and an odd one its palette. Stubs and absent devices ignore it.
+unfoldable pub register_written : Device → ℕ → ℕ → Devices → Devices
+register_written Crtc at v d =
+    record d { video = with_crtc d.video (if at % 2 == 0 then crtc.select_leaves v d.video.crtc else crtc.set_leaves v d.video.crtc) }
+register_written VideoUla at v d =
+    record d { video = with_ula d.video (if at % 2 == 0 then ula.control_leaves v d.video.ula else ula.palette_leaves v d.video.ula) }
+register_written SystemVia at v d = after_latch (at % 16) (record d { system = write_leaves (at % 16) v d.system })
+register_written UserVia at v d = record d { user = write_leaves (at % 16) v d.user }
+register_written DiscLatch at v d = record d { disc = latch_leaves v d.disc }
+register_written DiscController at v d = record d { disc = controller.write_leaves (at % 4) v d.disc }
+register_written Adc at v d = record d { converter = converter.write_leaves (at % 4) v d.converter }
+register_written _ at v d = d
 
 -- The write line of the sound chip is bit 0 of the latch, active low, and its data are the pins of port A: where the line falls, the chip takes
 -- them.
@@ -131,23 +128,6 @@ sound_line d = keyboard.latch_bit 0 d.latch
 
 unfoldable pub sound_data : Devices → ℕ
 sound_data d = out_a d.system
-
--- an access to the converter: reads leave nothing
-unfoldable pub converter_answer : ℕ → Devices → ℕ
-converter_answer reg d = converter.answer_of reg d.converter
-
-unfoldable pub converter_written : ℕ → ℕ → Devices → Devices
-converter_written reg v d = record d { converter = converter.write_leaves reg v d.converter }
-
--- an access to the user's 6522
-unfoldable pub user_answer : ℕ → Devices → ℕ
-user_answer reg d = answer_of reg user_pins d.user
-
-unfoldable pub user_read : ℕ → Devices → Devices
-user_read reg d = record d { user = read_leaves reg d.user }
-
-unfoldable pub user_written : ℕ → ℕ → Devices → Devices
-user_written reg v d = record d { user = write_leaves reg v d.user }
 
 -- BREAK is on the reset lines of the disc latch, which is then 00, and of the user's 6522. (Acorn, BBC Microcomputer Advanced User Guide.)
 unfoldable pub devices_reset : Devices → Devices

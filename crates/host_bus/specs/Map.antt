@@ -1,7 +1,16 @@
 -- The memory map of the host. (Acorn, BBC Microcomputer Advanced User Guide, memory map and Sheila.)
 use Rattle.std.specs.Prelude.{ℕ, ◌%◌, ◌==◌, nat_le, Bool, true, false, List, [], ◌∷◌, if◌then◌else◌}
-use Rattle.host_bus.specs.declared.map.Place.{Place}
-use Rattle.host_bus.specs.declared.map.Place.TheVariants.{Ram, PagedRom, OsRom, Plugs, Crtc, Acia, SerialUla, VideoUla, RomLatch, SystemVia, UserVia, DiscLatch, DiscController, Absent, Adc, Tube}
+use Rattle.host_bus.specs.declared.map.Device.{Device}
+use Rattle.host_bus.specs.declared.map.Device.TheVariants.{Crtc, Acia, SerialUla, VideoUla, RomLatch, SystemVia, UserVia, DiscLatch, DiscController, Absent, Adc, Tube}
+
+-- What answers at an address: the RAM, the ROM of the slot in the latch, the operating system's ROM, on FRED and JIM the plugged devices, and a
+-- device in SHEILA.
+pub data Place : Type 0 where
+  Ram : Place
+  PagedRom : Place
+  OsRom : Place
+  Plugs : Place
+  Sheila : Device → Place
 
 -- Addresses up to `last`, from where the area before it ends.
 pub record Area : Type 0 where
@@ -23,24 +32,24 @@ memory_map =
     ∷ fast 0xBFFF PagedRom
     ∷ fast 0xFBFF OsRom
     ∷ slow 0xFDFF Plugs
-    ∷ slow 0xFE07 Crtc
-    ∷ slow 0xFE0F Acia
-    ∷ slow 0xFE1F SerialUla
-    ∷ fast 0xFE2F VideoUla
-    ∷ fast 0xFE3F RomLatch
-    ∷ slow 0xFE5F SystemVia
-    ∷ slow 0xFE7F UserVia
-    ∷ fast 0xFE83 DiscLatch
-    ∷ fast 0xFE87 DiscController
-    ∷ fast 0xFEBF Absent
-    ∷ slow 0xFEDF Adc
-    ∷ fast 0xFEFF Tube
+    ∷ slow 0xFE07 (Sheila Crtc)
+    ∷ slow 0xFE0F (Sheila Acia)
+    ∷ slow 0xFE1F (Sheila SerialUla)
+    ∷ fast 0xFE2F (Sheila VideoUla)
+    ∷ fast 0xFE3F (Sheila RomLatch)
+    ∷ slow 0xFE5F (Sheila SystemVia)
+    ∷ slow 0xFE7F (Sheila UserVia)
+    ∷ fast 0xFE83 (Sheila DiscLatch)
+    ∷ fast 0xFE87 (Sheila DiscController)
+    ∷ fast 0xFEBF (Sheila Absent)
+    ∷ slow 0xFEDF (Sheila Adc)
+    ∷ fast 0xFEFF (Sheila Tube)
     ∷ fast 0xFFFF OsRom
     ∷ []
 
 -- the first area that reaches the address; there is none above FFFF
 abbrev pub place_in : List Area → ℕ → Place
-place_in [] at = Absent
+place_in [] at = Sheila Absent
 place_in (a ∷ areas) at = if nat_le at a.last then a.place else place_in areas at
 
 abbrev pub stretched_in : List Area → ℕ → Bool
@@ -53,11 +62,3 @@ place_of at = place_in memory_map at
 -- How many cycles an access takes that begins at this cycle: one, or, where it waits, two from an even cycle on and three from an odd one.
 abbrev pub stretch : ℕ → ℕ → ℕ
 stretch at cycle = if stretched_in memory_map at then (if cycle % 2 == 0 then 2 else 3) else 1
-
--- neither memory nor a plugged device
-abbrev pub IsInSheila : Place → Type 0
-IsInSheila Ram = ⊥
-IsInSheila PagedRom = ⊥
-IsInSheila OsRom = ⊥
-IsInSheila Plugs = ⊥
-IsInSheila _ = Unit {0}

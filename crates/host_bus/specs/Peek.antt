@@ -1,9 +1,7 @@
 -- The byte that stands at an address of the host's memory. No tick and no device changes what a read there gives.
 use Rattle.std.specs.Prelude.{ℕ, ◌≡◌, ◌-◌, Option, Some, None, slice_index, refl}
 use Rattle.rom_set.specs.Roms.{rom_byte}
-use Rattle.host_bus.specs.declared.map.Place.{Place}
-use Rattle.host_bus.specs.declared.map.Place.TheVariants.{Ram, PagedRom, OsRom, Plugs, Crtc, Acia, SerialUla, VideoUla, RomLatch, SystemVia, UserVia, DiscLatch, DiscController, Absent, Adc, Tube}
-use Rattle.host_bus.specs.Map.{place_of}
+use Rattle.host_bus.specs.Map.{Place, Ram, PagedRom, OsRom, place_of}
 use Rattle.host_bus.specs.Board.{BoardState}
 use Rattle.host_bus.specs.Bus.{BusState, bus_closed}
 
@@ -20,21 +18,7 @@ bus_peek b at = memory_at (place_of at) b.board at
 -- Closing the bus leaves it.
 leaves : (p : Place) (b : BusState) (t at : ℕ) → memory_at p (bus_closed b t).board at ≡ memory_at p b.board at
 leaves Ram b t at = refl
-leaves PagedRom b t at = refl
-leaves OsRom b t at = refl
-leaves Plugs b t at = refl
-leaves Crtc b t at = refl
-leaves Acia b t at = refl
-leaves SerialUla b t at = refl
-leaves VideoUla b t at = refl
-leaves RomLatch b t at = refl
-leaves SystemVia b t at = refl
-leaves UserVia b t at = refl
-leaves DiscLatch b t at = refl
-leaves DiscController b t at = refl
-leaves Absent b t at = refl
-leaves Adc b t at = refl
-leaves Tube b t at = refl
+leaves _ b t at = refl
 
 pub peek-leaves : (b : BusState) (t at : ℕ) → bus_peek (bus_closed b t) at ≡ bus_peek b at
 peek-leaves b t at = leaves (place_of at) b t at

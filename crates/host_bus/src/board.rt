@@ -6,7 +6,8 @@ ghost use Rattle.sn76489.specs.Samples.{NeverFallFrom};
 ghost use Rattle.host_bus.specs.Map.{place_of};
 ghost use Rattle.host_bus.specs.Shots.{shot_at};
 ghost use Rattle.host_bus.specs.CodePlayback.{IsPlayed, IsOnTime};
-ghost use Rattle.host_bus.specs.Devices.{microsecond, last_frame, system_written};
+ghost use Rattle.host_bus.specs.declared.map.Device.TheVariants.{SystemVia};
+ghost use Rattle.host_bus.specs.Devices.{microsecond, last_frame, register_written};
 ghost use Rattle.host_bus.specs.Board.{ticks, board_closed, answer_at, read_at, written_at, with_sound, board_irq, board_nmis, break_pending, break_taken, next_break, first_board, clear_ram};
 ghost use Rattle.host_bus.specs.CodePicture.{drawn};
 ghost use Rattle.host_bus.specs.CodeReads.{Covered, HasEmpty, HasHalf, HasSlot, Shows};
@@ -16,7 +17,7 @@ ghost use Rattle.beeb_bits.specs.Clock.{micro};
 
 use crate::breaks::Breaks;
 use crate::devices::Devices;
-use crate::map::{Place, place_in_sheila};
+use crate::map::{Device, device_at};
 use crate::playback::Playback;
 use crate::sound::SoundLog;
 use beeb_bits::{Clock, NoMemory, Tick, zeroed};
@@ -351,7 +352,6 @@ impl Board {
     }
 
     /// A read in SHEILA at the last tick that is done.
-    #[tactic(auto, unfolding(crate::specs::Devices::system_read, crate::specs::Devices::user_read, crate::specs::Devices::disc_read, crate::specs::Devices::user_answer, crate::specs::Devices::disc_answer, crate::specs::Devices::converter_answer))]
     pub(crate) fn read(&mut self, at: u16) -> u8
         requires low { 0xfe00 ≤ at }
         requires high { at ≤ 0xfeff }
@@ -359,19 +359,9 @@ impl Board {
         ensures after { self.new ≡ read_at (place_of at) at self.old }
         ensures closed { (self.new).closed ≡ (self.old).closed }
     {
-        match place_in_sheila(at) {
-            Place::Acia => { if at % 2 == 0 { 0x02 } else { 0x00 } }
-            Place::Adc => self.devices.read_converter((at % 4) as u8),
-            Place::Crtc => self.devices.read_crtc(&self.ram, &self.roms, at),
-            Place::SerialUla | Place::VideoUla | Place::RomLatch => 0xfe,
-            Place::DiscLatch | Place::Absent | Place::Tube => 0xfe,
-            Place::SystemVia => self
-                .devices
-                .read_system((at % 16) as u8, &self.playback.keys),
-            Place::UserVia => self.devices.read_user((at % 16) as u8),
-            Place::DiscController => self.devices.read_disc((at % 4) as u8),
-            Place::Ram | Place::PagedRom | Place::OsRom | Place::Plugs => unreachable!(),
-        }
+        let keys = &self.playback.keys;
+        self.devices
+            .read(&self.ram, &self.roms, keys, device_at(at), at)
     }
 
     /// The byte of a register of a 6522 that no pins matter to, and that a read leaves as it is.
@@ -382,15 +372,7 @@ impl Board {
         ensures answer { IfSome result (λ byte. (t : ℕ) → byte ≡ answer_at (place_of at) self.now t at) }
         ensures after { IfSome result (λ byte. read_at (place_of at) at self.now ≡ self.now) }
     {
-        let reg = (at % 16) as u8;
-        if reg < 11 || reg == 15 {
-            return None;
-        }
-        match place_in_sheila(at) {
-            Place::SystemVia => Some(self.devices.held_by_system(reg)),
-            Place::UserVia => Some(self.devices.held_by_user(reg)),
-            _ => None,
-        }
+        self.devices.held(device_at(at), at)
     }
 
     // The latch selects a slot. Its ROM is copied to where it is read, unless it stands there.
@@ -404,12 +386,12 @@ impl Board {
 
     // A write to the system's 6522, which may write the sound chip.
     #[tactic(auto, unfolding(crate::specs::Devices::sound_line, crate::specs::Devices::sound_data))]
-    fn write_system(&mut self, reg: u8, v: u8)
-        requires { reg < 16 }
-        ensures { self.new ≡ with_sound self.old (system_written reg v (self.old).devices) }
+    fn write_system(&mut self, at: u16, v: u8)
+        ensures { self.new ≡ with_sound self.old (register_written SystemVia at v (self.old).devices) }
     {
         let was_high = self.devices.sound_line();
-        self.devices.write_system(&self.ram, &self.roms, reg, v);
+        self.devices
+            .write(&self.ram, &self.roms, Device::SystemVia, at, v);
         if was_high && !self.devices.sound_line() {
             self.sound.tell(SoundWrite {
                 moment: self.closed.div_ceil(self.clock.micro()),
@@ -419,24 +401,16 @@ impl Board {
     }
 
     /// A write in SHEILA.
-    #[tactic(auto, unfolding(crate::specs::Devices::crtc_written, crate::specs::Devices::ula_written, crate::specs::Devices::user_written, crate::specs::Devices::disc_latched, crate::specs::Devices::disc_written, crate::specs::Devices::converter_written))]
     pub(crate) fn write(&mut self, at: u16, v: u8)
         requires low { 0xfe00 ≤ at }
         requires high { at ≤ 0xfeff }
         ensures after { self.new ≡ written_at (place_of at) at v self.old }
         ensures closed { (self.new).closed ≡ (self.old).closed }
     {
-        match place_in_sheila(at) {
-            Place::Crtc => self.devices.write_crtc(&self.ram, &self.roms, at, v),
-            Place::VideoUla => self.devices.write_ula(&self.ram, &self.roms, at, v),
-            Place::RomLatch => self.latch_slot(v % 16),
-            Place::SystemVia => self.write_system((at % 16) as u8, v),
-            Place::UserVia => self.devices.write_user((at % 16) as u8, v),
-            Place::DiscLatch => self.devices.latch_disc(v),
-            Place::DiscController => self.devices.write_disc((at % 4) as u8, v),
-            Place::Adc => self.devices.write_converter((at % 4) as u8, v),
-            Place::Acia | Place::SerialUla | Place::Absent | Place::Tube => {}
-            Place::Ram | Place::PagedRom | Place::OsRom | Place::Plugs => unreachable!(),
+        match device_at(at) {
+            Device::RomLatch => self.latch_slot(v % 16),
+            Device::SystemVia => self.write_system(at, v),
+            device => self.devices.write(&self.ram, &self.roms, device, at, v),
         }
     }
 

@@ -1,9 +1,8 @@
 //! The devices that go by microseconds, and how they are wired.
-ghost use Rattle.std.specs.Prelude.{◌≡◌, ◌≤◌, ◌<◌, ◌+◌, ◌%◌, ◌^◌, ◌==◌, ℕ, Bool, true, List, None, Some, MatchOption, IfOk, length, slice_set, if◌then◌else◌};
+ghost use Rattle.std.specs.Prelude.{◌≡◌, ◌≤◌, ◌<◌, ◌+◌, ◌%◌, ◌^◌, ◌==◌, ℕ, Bool, true, List, None, Some, MatchOption, IfOk, IfSome, length, slice_set, if◌then◌else◌};
 ghost use Rattle.saa5050.specs.Shapes.{Font};
 ghost use Rattle.adc7002.specs.Step.{step};
 ghost use Rattle.via6522.specs.declared.Pins.{Pins};
-ghost use Rattle.via6522.specs.Registers.{answer_of, read_leaves};
 ghost use Rattle.raster.specs.Clock.{vsync_of};
 ghost use Rattle.raster.specs.Reads.{ReadsFrom};
 ghost use Rattle.wd1770.specs.Select.{disc_of};
@@ -11,9 +10,10 @@ ghost use Rattle.keyboard.specs.Keys.{keys_of};
 ghost use Rattle.keyboard.specs.Latch.{screen_size};
 ghost use Rattle.host_bus.specs.Apart.{AreCalm};
 ghost use Rattle.host_bus.specs.CodePicture.{drawn};
-ghost use Rattle.host_bus.specs.Devices.{system_pins, raster_after, microsecond, last_frame, microseconds, crtc_answer, crtc_written, ula_written, system_answer, system_read, system_written, sound_line, sound_data, after_latch, converter_answer, converter_written, user_answer, user_read, user_written, disc_latched, disc_answer, disc_read, disc_written, devices_ask, devices_reset, first_devices};
+ghost use Rattle.host_bus.specs.Devices.{system_pins, raster_after, microsecond, last_frame, microseconds, register_answer, register_read, register_written, after_latch, sound_line, sound_data, devices_ask, devices_reset, first_devices};
 
 use crate::law::devices_go_on_apart;
+use crate::map::Device;
 use adc7002::Adc;
 use beeb_bits::NoMemory;
 use disc_image::Disc;
@@ -268,91 +268,107 @@ impl Devices {
         self.video.frame()
     }
 
-    /// A read of the 6845.
-    #[tactic(auto, unfolding(crate::specs::Devices::crtc_answer), using(crate::proofs::Steady::nothing_owed))]
-    pub(crate) fn read_crtc(&mut self, ram: &[u8], roms: &RomSet, at: u16) -> u8
+    /// A read of a register in SHEILA.
+    #[tactic(auto, unfolding(crate::specs::Devices::register_answer, crate::specs::Devices::register_read), using(crate::proofs::Steady::nothing_owed))]
+    pub(crate) fn read(
+        &mut self,
+        ram: &[u8],
+        roms: &RomSet,
+        keys: &Keys,
+        device: Device,
+        at: u16,
+    ) -> u8
         requires { length ram.now ≡ 32768 }
-        ensures answer { result ≡ crtc_answer at (drawn ram.now roms.now.font self.old) }
+        ensures answer { result ≡ register_answer device at (keys_of keys.now) (drawn ram.now roms.now.font self.old) }
         ensures after { let see = drawn ram.now roms.now.font in
-            see self.new ≡ see self.old }
+            see self.new ≡ register_read device at (see self.old) }
     {
-        self.draw(ram, roms);
-        self.steady = 0;
-        self.lowest = 0;
-        if at % 2 == 0 {
-            0xfe
-        } else {
-            self.video.crtc().get()
+        match device {
+            Device::Crtc => {
+                self.draw(ram, roms);
+                self.steady = 0;
+                self.lowest = 0;
+                if at % 2 == 0 {
+                    0xfe
+                } else {
+                    self.video.crtc().get()
+                }
+            }
+            Device::Acia => { if at % 2 == 0 { 0x02 } else { 0x00 } }
+            Device::SystemVia => {
+                let pins = self.system_pins(self.converter.cb1(), keys);
+                self.system.read((at % 16) as u8, pins)
+            }
+            Device::UserVia => self.user.read((at % 16) as u8, USER_PINS),
+            Device::DiscController => self.disc.read((at % 4) as u8),
+            Device::Adc => self.converter.read((at % 4) as u8),
+            _ => 0xfe,
         }
     }
 
-    /// A write to the 6845.
-    #[tactic(auto, unfolding(crate::specs::Devices::crtc_written), using(crate::proofs::Steady::nothing_owed))]
-    pub(crate) fn write_crtc(&mut self, ram: &[u8], roms: &RomSet, at: u16, v: u8)
-        requires { length ram.now ≡ 32768 }
-        ensures { let see = drawn ram.now roms.now.font in
-            see self.new ≡ crtc_written at v (see self.old) }
-    {
-        self.draw(ram, roms);
-        self.steady = 0;
-        self.lowest = 0;
-        if at % 2 == 0 {
-            self.video.crtc().select(v);
-        } else {
-            self.video.crtc().set(v);
-        }
-    }
-
-    /// A write to the video ULA.
-    #[tactic(auto, unfolding(crate::specs::Devices::ula_written), using(crate::proofs::Steady::nothing_owed))]
-    pub(crate) fn write_ula(&mut self, ram: &[u8], roms: &RomSet, at: u16, v: u8)
-        requires { length ram.now ≡ 32768 }
-        ensures { let see = drawn ram.now roms.now.font in
-            see self.new ≡ ula_written at v (see self.old) }
-    {
-        self.draw(ram, roms);
-        self.steady = 0;
-        self.lowest = 0;
-        if at % 2 == 0 {
-            self.video.ula().control(v);
-        } else {
-            self.video.ula().palette(v);
-        }
-    }
-
-    /// A read of the system's 6522.
-    #[tactic(auto, unfolding(crate::specs::Devices::system_answer, crate::specs::Devices::system_read))]
-    pub(crate) fn read_system(&mut self, reg: u8, keys: &Keys) -> u8
-        requires { reg < 16 }
-        ensures answer { (ram : List ℕ) (font : Font) →
-            result ≡ system_answer reg (keys_of keys.now) (drawn ram font self.old) }
-        ensures after { self.new ≡ record self.old { devices = system_read reg (self.old).devices } }
-    {
-        let pins = self.system_pins(self.converter.cb1(), keys);
-        self.system.read(reg, pins)
-    }
-
-    /// The byte of one of the registers B to E of the system's 6522.
+    /// The byte of a register of a 6522 that no pins matter to, and that a read leaves as it is.
     #[inline(always)]
-    pub(crate) fn held_by_system(&self, reg: u8) -> u8
-        requires low { 11 ≤ reg }
-        requires high { reg ≤ 14 }
-        ensures answer { (pins : Pins) → result ≡ answer_of reg pins (self.now).devices.system }
-        ensures state { read_leaves reg (self.now).devices.system ≡ (self.now).devices.system }
+    #[tactic(auto, unfolding(crate::specs::Devices::register_answer, crate::specs::Devices::register_read))]
+    pub(crate) fn held(&self, device: Device, at: u16) -> Option<u8>
+        ensures answer { IfSome result (λ byte. (ram : List ℕ) (font : Font) (keys : ℕ → Bool) →
+            byte ≡ register_answer device at keys (drawn ram font self.now)) }
+        ensures after { IfSome result (λ byte. (ram : List ℕ) (font : Font) →
+            register_read device at (drawn ram font self.now) ≡ drawn ram font self.now) }
     {
-        self.system.held(reg)
+        let via = match device {
+            Device::SystemVia => &self.system,
+            Device::UserVia => &self.user,
+            _ => return None,
+        };
+        let reg = (at % 16) as u8;
+        if reg < 11 || reg == 15 {
+            None
+        } else {
+            Some(via.held(reg))
+        }
     }
 
-    /// A write to the system's 6522.
-    #[tactic(auto, unfolding(crate::specs::Devices::system_written))]
-    pub(crate) fn write_system(&mut self, ram: &[u8], roms: &RomSet, reg: u8, v: u8)
-        requires ram { length ram.now ≡ 32768 }
-        requires register { reg < 16 }
+    /// A write to a register in SHEILA.
+    #[tactic(auto, unfolding(crate::specs::Devices::register_written), using(crate::proofs::Steady::nothing_owed))]
+    pub(crate) fn write(&mut self, ram: &[u8], roms: &RomSet, device: Device, at: u16, v: u8)
+        requires { length ram.now ≡ 32768 }
         ensures { let see = drawn ram.now roms.now.font in
-            see self.new ≡ system_written reg v (see self.old) }
+            see self.new ≡ register_written device at v (see self.old) }
     {
-        self.system.write(reg, v);
-        self.latch_port_b(ram, roms, reg);
+        match device {
+            Device::Crtc => {
+                self.draw(ram, roms);
+                self.steady = 0;
+                self.lowest = 0;
+                if at % 2 == 0 {
+                    self.video.crtc().select(v);
+                } else {
+                    self.video.crtc().set(v);
+                }
+            }
+            Device::VideoUla => {
+                self.draw(ram, roms);
+                self.steady = 0;
+                self.lowest = 0;
+                if at % 2 == 0 {
+                    self.video.ula().control(v);
+                } else {
+                    self.video.ula().palette(v);
+                }
+            }
+            Device::SystemVia => {
+                self.system.write((at % 16) as u8, v);
+                self.latch_port_b(ram, roms, (at % 16) as u8);
+            }
+            Device::UserVia => self.user.write((at % 16) as u8, v),
+            Device::DiscLatch => self.disc.latch(v),
+            Device::DiscController => self.disc.write((at % 4) as u8, v),
+            Device::Adc => {
+                self.steady = 0;
+                self.converter.write((at % 4) as u8, v);
+            }
+            _ => {}
+        }
     }
 
     // A write to register 0 or 2 puts the pins of port B into the addressable latch, which may change the size of the screen.
@@ -384,81 +400,6 @@ impl Devices {
         ensures { result ≡ sound_data (self.now).devices }
     {
         self.system.out_a()
-    }
-
-    /// A read of the user's 6522.
-    #[tactic(auto, unfolding(crate::specs::Devices::user_answer, crate::specs::Devices::user_read))]
-    pub(crate) fn read_user(&mut self, reg: u8) -> u8
-        requires { reg < 16 }
-        ensures answer { result ≡ user_answer reg (self.old).devices }
-        ensures after { self.new ≡ record self.old { devices = user_read reg (self.old).devices } }
-    {
-        self.user.read(reg, USER_PINS)
-    }
-
-    /// The byte of one of the registers B to E of the user's 6522.
-    #[inline(always)]
-    pub(crate) fn held_by_user(&self, reg: u8) -> u8
-        requires low { 11 ≤ reg }
-        requires high { reg ≤ 14 }
-        ensures answer { (pins : Pins) → result ≡ answer_of reg pins (self.now).devices.user }
-        ensures state { read_leaves reg (self.now).devices.user ≡ (self.now).devices.user }
-    {
-        self.user.held(reg)
-    }
-
-    /// A write to the user's 6522.
-    #[tactic(auto, unfolding(crate::specs::Devices::user_written))]
-    pub(crate) fn write_user(&mut self, reg: u8, v: u8)
-        requires { reg < 16 }
-        ensures { self.new ≡ record self.old { devices = user_written reg v (self.old).devices } }
-    {
-        self.user.write(reg, v);
-    }
-
-    /// A read of the converter.
-    #[tactic(auto, unfolding(crate::specs::Devices::converter_answer))]
-    pub(crate) fn read_converter(&self, reg: u8) -> u8
-        requires { reg < 4 }
-        ensures { result ≡ converter_answer reg (self.now).devices }
-    {
-        self.converter.read(reg)
-    }
-
-    /// A write to the converter.
-    #[tactic(auto, unfolding(crate::specs::Devices::converter_written))]
-    pub(crate) fn write_converter(&mut self, reg: u8, v: u8)
-        ensures { self.new ≡ record self.old { devices = converter_written reg v (self.old).devices } }
-    {
-        self.steady = 0;
-        self.converter.write(reg, v);
-    }
-
-    /// A write to the disc latch.
-    #[tactic(auto, unfolding(crate::specs::Devices::disc_latched))]
-    pub(crate) fn latch_disc(&mut self, v: u8)
-        ensures { self.new ≡ record self.old { devices = disc_latched v (self.old).devices } }
-    {
-        self.disc.latch(v);
-    }
-
-    /// A read of the disc controller.
-    #[tactic(auto, unfolding(crate::specs::Devices::disc_answer, crate::specs::Devices::disc_read))]
-    pub(crate) fn read_disc(&mut self, reg: u8) -> u8
-        requires { reg < 4 }
-        ensures answer { result ≡ disc_answer reg (self.old).devices }
-        ensures after { self.new ≡ record self.old { devices = disc_read reg (self.old).devices } }
-    {
-        self.disc.read(reg)
-    }
-
-    /// A write to the disc controller.
-    #[tactic(auto, unfolding(crate::specs::Devices::disc_written))]
-    pub(crate) fn write_disc(&mut self, reg: u8, v: u8)
-        requires { reg < 4 }
-        ensures { self.new ≡ record self.old { devices = disc_written reg v (self.old).devices } }
-    {
-        self.disc.write(reg, v);
     }
 
     /// BREAK: 00 is written to the disc latch, and the user's 6522 is as at power-on.

@@ -1,18 +1,10 @@
 //! The memory map.
 ghost use Rattle.std.specs.Prelude.{◌≡◌, ◌≤◌};
-ghost use Rattle.host_bus.specs.Map.{place_of, stretch, memory_map, stretched_in, IsInSheila};
+ghost use Rattle.host_bus.specs.Map.{Sheila, place_of, stretch, memory_map, stretched_in};
 
-/// What answers at an address. (Acorn, BBC Microcomputer Advanced User Guide, memory map and Sheila.)
+/// What answers in SHEILA. (Acorn, BBC Microcomputer Advanced User Guide, Sheila.)
 #[derive(Clone, Copy, Debug, PartialEq, Eq)]
-pub enum Place {
-    /// 32 KB of RAM.
-    Ram,
-    /// The ROM of the slot in the latch.
-    PagedRom,
-    /// The operating system's ROM.
-    OsRom,
-    /// FRED and JIM: the plugged devices.
-    Plugs,
+pub enum Device {
     /// The 6845.
     Crtc,
     /// A stub of the serial interface.
@@ -40,48 +32,46 @@ pub enum Place {
 }
 
 // What answers from FE00 to FE7F.
-fn place_in_lower_half(at: u16) -> Place
+fn device_in_lower_half(at: u16) -> Device
     requires low { 0xfe00 ≤ at }
     requires high { at ≤ 0xfe7f }
-    ensures place { result ≡ place_of at }
-    ensures device { IsInSheila result }
+    ensures { place_of at ≡ Sheila result }
 {
     if at <= 0xfe07 {
-        Place::Crtc
+        Device::Crtc
     } else if at <= 0xfe0f {
-        Place::Acia
+        Device::Acia
     } else if at <= 0xfe1f {
-        Place::SerialUla
+        Device::SerialUla
     } else if at <= 0xfe2f {
-        Place::VideoUla
+        Device::VideoUla
     } else if at <= 0xfe3f {
-        Place::RomLatch
+        Device::RomLatch
     } else if at <= 0xfe5f {
-        Place::SystemVia
+        Device::SystemVia
     } else {
-        Place::UserVia
+        Device::UserVia
     }
 }
 
 /// What answers in SHEILA, from FE00 to FEFF.
-pub(crate) fn place_in_sheila(at: u16) -> Place
+pub(crate) fn device_at(at: u16) -> Device
     requires low { 0xfe00 ≤ at }
     requires high { at ≤ 0xfeff }
-    ensures place { result ≡ place_of at }
-    ensures device { IsInSheila result }
+    ensures { place_of at ≡ Sheila result }
 {
     if at <= 0xfe7f {
-        place_in_lower_half(at)
+        device_in_lower_half(at)
     } else if at <= 0xfe83 {
-        Place::DiscLatch
+        Device::DiscLatch
     } else if at <= 0xfe87 {
-        Place::DiscController
+        Device::DiscController
     } else if at <= 0xfebf {
-        Place::Absent
+        Device::Absent
     } else if at <= 0xfedf {
-        Place::Adc
+        Device::Adc
     } else {
-        Place::Tube
+        Device::Tube
     }
 }
 

@@ -3,7 +3,7 @@ use Rattle.std.specs.Prelude.{ℕ, zero, suc, length, Option, None, Some, MatchO
 use Rattle.std.proofs.Common.{arith, ap, ◌∙◌, sym, subst, inl, inr}
 use Rattle.std.proofs.lemmas.Bool.{ltb-true, lt-ltb, eq-eqb, cases_lt}
 use Rattle.std.proofs.lemmas.Grind.{common_steps}
-use Rattle.std.proofs.lemmas.List.{set-set, set-get_or}
+use Rattle.std.proofs.lemmas.List.{set-get_or}
 use Rattle.std.proofs.Math.Nat.{mul-le-mul_left, mul-add, mul-one}
 use Rattle.op_table.specs.declared.names.Part.{Part}
 use Rattle.cpu_alu.specs.declared.Cycle.{Cycle}
@@ -12,10 +12,7 @@ use Rattle.cpu_core.specs.State.{State}
 use Rattle.cpu_core.specs.Sequences.{next_cycle, after_byte}
 use Rattle.beeb_bits.specs.Clock.{host}
 use Rattle.tube_chip.specs.declared.Lines.{Lines}
-use Rattle.host_bus.specs.declared.map.Place.{Place}
-use Rattle.host_bus.specs.declared.map.Place.TheVariants.{Ram, PagedRom, OsRom}
-use Rattle.host_bus.specs.Map.{place_of, stretch, stretched_in, memory_map}
-use Rattle.host_bus.specs.Board.{BoardState}
+use Rattle.host_bus.specs.Map.{Place, Ram, PagedRom, OsRom, place_of, stretch, stretched_in, memory_map}
 use Rattle.host_bus.specs.Bus.{BusState, clock_of, bus_closed, closed_at, bus_irq, bus_nmis, answer_of, after_read_of, after_write_of, bus_answer, bus_after_read, bus_after_write}
 use Rattle.host_bus.specs.Closing.{closed-again, closed-still}
 use Rattle.tube_machine.specs.Whole.{reach_of, IsMemory, IsAtRest, StaysAtRest}
@@ -25,7 +22,7 @@ use Rattle.host_bus.specs.Lag.{IsCalm}
 use Rattle.host_bus.specs.StoredLines.{irq-stored, nmis-stored}
 use Rattle.host_mach.specs.State.{HostBusState}
 use Rattle.host_mach.specs.SameClock.{access-same}
-use Rattle.host_mach.specs.Step.{is_tube, host_wiring, bus_after}
+use Rattle.host_mach.specs.Step.{is_tube, host_wiring}
 
 -- reads below the devices, and writes to the RAM
 abbrev pub plain_read : ℕ → Bool

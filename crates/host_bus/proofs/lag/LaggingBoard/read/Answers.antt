@@ -1,6 +1,8 @@
-use Rattle.std.proofs.Common.{◌≡◌, ap, sym, subst, max, arith}
-use Rattle.host_bus.specs.Board.{BoardState}
-use Rattle.host_bus.specs.Lag.{IsCalm}
+use Rattle.std.proofs.Common.{◌≡◌, ◌∙◌, ap, sym, subst, max, arith}
+use Rattle.host_bus.specs.Map.{place_of}
+use Rattle.host_bus.specs.Board.{BoardState, read_at}
+use Rattle.host_bus.specs.Closing.{board-still}
+use Rattle.host_bus.specs.Lag.{Lag, caught_up, IsCalm}
 use Rattle.host_bus.proofs.CalmThere.{calm-there}
 use Rattle.host_bus.proofs.lag.LaggingBoard.read.Goals as goal
 
@@ -15,3 +17,12 @@ invariant_of-self c =
       room = h.room;
       lines = subst (λ (s : BoardState). IsCalm b.calm s) (sym c.close.ensures) (calm-there b.board b.closed b.calm h.near h.lines);
     }
+
+pub returns-clause-after : goal.returns-clause-after
+returns-clause-after c =
+    let b = c.self.inside in
+    let there : c.close.new.self.closed ≡ max b.closed b.board.closed = ap (λ (s : BoardState). s.closed) c.close.ensures in
+    board-still c.read-byte.new.self b.closed (omega (arith, there, c.read-byte.ensures.closed))
+    ∙ c.read-byte.ensures.after
+    ∙ ap (λ (s : BoardState). read_at (place_of c.args.at) c.args.at s) c.close.ensures
+    ∙ ap (λ (l : Lag). read_at (place_of c.args.at) c.args.at (caught_up l)) c.self.view_is
