@@ -95,22 +95,15 @@ impl Place {
         0xea
     }
 
-    // What a branch has: mostly a short way.
-    fn distance(self, chance: &mut Chance) -> u8 {
-        if chance.once_in(4) {
-            chance.byte()
-        } else {
-            chance.byte() % 16
-        }
-    }
-
     // The bytes behind an opcode. Most that stand for themselves are opcodes too, for a jump into the middle of an instruction.
     fn operand(self, chance: &mut Chance, op: u8) -> [u8; 2] {
         let Some(row) = row_at(self.part, op) else {
             return [0xea, 0xea];
         };
         match row.mode {
-            Mode::Rel => [self.distance(chance), 0xea],
+            // mostly a short way
+            Mode::Rel if chance.once_in(4) => [chance.byte(), 0xea],
+            Mode::Rel => [chance.byte() % 16, 0xea],
             Mode::Abs => match row.mnemonic {
                 Mnemonic::Jmp | Mnemonic::Jsr => halves(self.target(chance)),
                 _ => halves(self.address(chance)),

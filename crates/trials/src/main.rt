@@ -1,18 +1,38 @@
-//! Trials by chance: what is done quickly beside the same one step after another, on random programs.
+//! Trials by chance: what is done quickly beside the same one step after another, on random programs and acts.
 //!
-//! `trials 65c02 SEED COUNT`: so many programs of the second processor, by whole instructions and cycle by cycle. `trials all SEED COUNT`: all that
-//! can be tried. The status is 0 where nothing differs, else 1.
+//! `trials 65c02 SEED COUNT`: so many programs of the second processor, by whole instructions and cycle by cycle. `trials 6502 SEED COUNT`: the
+//! same of the host. `trials acts SEED COUNT`: so many acts on the host's bus, whose devices lag behind, and on one that is closed at each tick.
+//! `trials all SEED COUNT`: all three, with ten times as many acts. The status is 0 where nothing differs, else 1.
 #![tactic(auto)]
 
+mod acts;
 mod chance;
 mod code;
+mod host;
 mod roads;
 mod second;
 
+use beeb_bits::NoMemory;
 use std::alloc::Global;
 use std::env;
 use std::process::ExitCode;
 use std::rt::Env;
+
+// What is tried.
+#[derive(Clone, Copy)]
+enum Kind {
+    Second,
+    Host,
+    Acts,
+}
+
+fn name_of(kind: Kind) -> &'static str {
+    match kind {
+        Kind::Second => "65c02",
+        Kind::Host => "6502",
+        Kind::Acts => "acts",
+    }
+}
 
 // How a row of trials ends.
 #[derive(Clone, Copy)]
@@ -22,12 +42,35 @@ enum Ended {
     NoMemory,
 }
 
+const LISTS: acts::Lists<'static> = acts::Lists {
+    script: acts::EVENTS,
+    settings: &acts::SETTINGS,
+    screen: &acts::SMALL_SCREEN,
+    size: 16_384,
+};
+
+// Whether what is tried for a seed comes to the same.
+fn agrees(alloc: Global, kind: Kind, seed: u64, left: u64) -> Result<bool, NoMemory> {
+    match kind {
+        Kind::Second => second::agrees(alloc, seed),
+        Kind::Host => host::agrees(alloc, seed),
+        Kind::Acts => acts::agrees(alloc, seed, left.min(acts::ACTS), LISTS),
+    }
+}
+
 // So many trials, from a seed on.
-fn trials(alloc: Global, seed: u64, count: u64) -> Ended {
+fn trials(alloc: Global, kind: Kind, seed: u64, count: u64) -> Ended {
+    let mut left = count;
     for i in 0..count {
+        if left == 0 {
+            break;
+        }
         let seed = seed.wrapping_add(i);
-        match second::agrees(alloc, seed) {
-            Ok(true) => (),
+        match agrees(alloc, kind, seed, left) {
+            Ok(true) => match kind {
+                Kind::Acts => left = left.saturating_sub(acts::ACTS),
+                _ => left = left.saturating_sub(1),
+            },
             Ok(false) => return Ended::Differs(seed),
             Err(_) => return Ended::NoMemory,
         }
@@ -36,8 +79,9 @@ fn trials(alloc: Global, seed: u64, count: u64) -> Ended {
 }
 
 // Does them and says how they end. True where nothing differs.
-fn tried<R: Print>(rt: &R, alloc: Global, name: &str, seed: u64, count: u64) -> bool {
-    let ended = trials(alloc, seed, count);
+fn tried<R: Print>(rt: &R, alloc: Global, kind: Kind, seed: u64, count: u64) -> bool {
+    let name = name_of(kind);
+    let ended = trials(alloc, kind, seed, count);
     let said = match ended {
         Ended::Same => println!(rt; "{name}: {count} tried, 0 differ"),
         Ended::Differs(seed) => println!(rt; "{name}: seed {seed} differs"),
@@ -46,24 +90,49 @@ fn tried<R: Print>(rt: &R, alloc: Global, name: &str, seed: u64, count: u64) -> 
     said.is_ok() && matches!(ended, Ended::Same)
 }
 
-// The seed and the count of the words, where these ask for trials.
-fn read_words<R: Env + AllocGlobal>(rt: &R) -> Option<(u64, u64)> {
+// What the words ask for.
+#[derive(Clone, Copy)]
+struct Request {
+    // None for all.
+    kind: Option<Kind>,
+    seed: u64,
+    count: u64,
+}
+
+fn read_words<R: Env + AllocGlobal>(rt: &R) -> Option<Request> {
     let mut args = env::args(rt).ok()?;
     let _ = args.next();
     let what = args.next()?;
-    if what.as_str() != "65c02" && what.as_str() != "all" {
-        return None;
-    }
+    let kind = match what.as_str() {
+        "65c02" => Some(Kind::Second),
+        "6502" => Some(Kind::Host),
+        "acts" => Some(Kind::Acts),
+        "all" => None,
+        _ => return None,
+    };
     let seed = args.next()?.as_str().parse::<u64>().ok()?;
     let count = args.next()?.as_str().parse::<u64>().ok()?;
-    Some((seed, count))
+    Some(Request { kind, seed, count })
+}
+
+// Whether nothing differs in what is asked for.
+fn carried_out<R: Print>(rt: &R, alloc: Global, request: Request) -> bool {
+    let Request { kind, seed, count } = request;
+    if let Some(kind) = kind {
+        return tried(rt, alloc, kind, seed, count);
+    }
+    let second = tried(rt, alloc, Kind::Second, seed, count);
+    let host = tried(rt, alloc, Kind::Host, seed, count);
+    let acts = tried(rt, alloc, Kind::Acts, seed, count.saturating_mul(10));
+    second && host && acts
 }
 
 fn main(rt: HostRuntime) -> ExitCode {
+    let alloc = rt.alloc();
     let is_same = match read_words(&rt) {
-        Some((seed, count)) => tried(&rt, rt.alloc(), "65c02", seed, count),
+        Some(request) => carried_out(&rt, alloc, request),
         None => {
-            let _ = eprintln!(rt; "usage: trials 65c02|all SEED COUNT");
+            let _ = eprintln!(rt; "usage: trials 65c02|6502|acts|all SEED COUNT");
             false
         }
     };

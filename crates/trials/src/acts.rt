@@ -1,0 +1,382 @@
+//! The host's bus, whose devices lag behind, beside one that is closed and stepped at each tick.
+use crate::chance::Chance;
+use beeb_bits::{Clock, NoMemory, Tick, zeroed};
+use disc_image::{Disc, Kind};
+use host_bus::Bus;
+use key_script::read;
+use raster::Frame;
+use rom_set::RomSet;
+use std::alloc::Global;
+
+// Keys, levels, breaks and shots.
+pub const EVENTS: &[u8] = b"at 100 down 41
+at 333 up 41
+at 2000 adc 1 8000
+at 4000 shot
+at 9217 shot
+at 9222 down 11
+at 12345 shot
+at 18500 shot
+at 20000 adc 2 1234
+at 23000 shot
+at 26000 down 7F
+at 27700 shot
+at 30011 break
+at 31000 shot
+at 31000 shot
+at 37000 shot
+at 40000 up 11
+at 41500 shot
+at 46100 shot
+at 50700 shot
+at 55555 shot
+at 60001 break
+at 60100 shot
+at 64700 shot
+at 70001 up 7F
+at 75000 shot
+at 90000 shot
+";
+
+// Registers of all devices: the 6845, the serial system and the ULA, the latch, both 6522s, the controller, the converter; and FRED and JIM.
+const REGISTERS: [u16; 32] = [
+    0xfe00, 0xfe01, 0xfe08, 0xfe20, 0xfe21, 0xfe30, 0xfe40, 0xfe41, 0xfe42, 0xfe43, 0xfe44, 0xfe45,
+    0xfe48, 0xfe49, 0xfe4b, 0xfe4c, 0xfe4d, 0xfe4e, 0xfe4f, 0xfe60, 0xfe64, 0xfe65, 0xfe68, 0xfe69,
+    0xfe6b, 0xfe6e, 0xfe84, 0xfe87, 0xfec0, 0xfec1, 0xfc00, 0xfd00,
+];
+
+// Registers that small numbers make busy: the 6845's, with those that select one, timers' high bytes, the latch, and the controller's.
+const SMALL: [u16; 12] = [
+    0xfe00, 0xfe01, 0xfe00, 0xfe40, 0xfe45, 0xfe49, 0xfe65, 0xfe69, 0xfe84, 0xfe87, 0xfec0, 0xfe20,
+];
+
+// Bytes at places that the small screen shows, the first and the last of them too, and one between its lines.
+const SHOWN: [u16; 6] = [0x5800, 0x5800, 0x5801, 0x5808, 0x5818, 0x5858];
+
+// Registers of the 6845 with a screen of 44 lines of 20 characters, of which the first four lines show three, from 5800 on. Vertical sync begins
+// behind them, so that the frame begins with them: its lines are the 41st and those after it.
+pub const SMALL_SCREEN: [(u8, u8); 12] = [
+    (0, 19),
+    (1, 3),
+    (2, 4),
+    (3, 0x22),
+    (4, 43),
+    (5, 0),
+    (6, 4),
+    (7, 4),
+    (8, 0),
+    (9, 0),
+    (12, 0x0b),
+    (13, 0),
+];
+
+// The latch's pins, drive 0, interrupts, and the ULA.
+pub const SETTINGS: [(u16, u8); 6] = [
+    (0xfe42, 0x0f),
+    (0xfe80, 0x29),
+    (0xfe4e, 0xff),
+    (0xfe6e, 0xff),
+    (0xfe20, 0x08),
+    (0xfe44, 0x40),
+];
+
+/// How many acts each seed has.
+pub const ACTS: u64 = 250;
+
+// What is done at a tick: a write, a read, a look at both lines, one at the NMI line alone, a write to the RAM behind the closing below its tick, a closing, the steps
+// that a board owes, or a break.
+#[derive(Clone, Copy)]
+enum Act {
+    Write(u16, u8),
+    Read(u16),
+    Look,
+    Rises,
+    Put(u16, u8),
+    Close,
+    Settle,
+    Break,
+}
+
+fn any_act(chance: &mut Chance) -> Act {
+    match chance.below(16) {
+        0 | 1 => Act::Look,
+        2 => Act::Rises,
+        3 => Act::Read(chance.among(&REGISTERS)),
+        // So that interrupts are asked for again.
+        4 => Act::Write(chance.among(&[0xfe4d, 0xfe6d]), 0x7f),
+        5 => Act::Write(chance.memory(), chance.byte()),
+        6 => Act::Write(chance.among(&SHOWN), chance.byte()),
+        7 | 8 => Act::Write(chance.among(&SMALL), chance.byte() % 16),
+        9 => Act::Put(chance.memory(), chance.byte()),
+        10 => Act::Put(chance.among(&SHOWN), chance.byte()),
+        11 => match chance.below(4) {
+            0 => Act::Settle,
+            1 => Act::Break,
+            _ => Act::Close,
+        },
+        12 => Act::Write(0xfe00 + u16::from(chance.byte()), chance.byte()),
+        _ => Act::Write(chance.among(&REGISTERS), chance.byte()),
+    }
+}
+
+// Whether an act may move the small screen: a write to the 6845 or to the ULA's control byte.
+fn moves_screen(act: Act) -> bool {
+    match act {
+        Act::Write(at, _) => at / 8 == 0x1fc0 || at / 8 == 0x1fc4 && at % 2 == 0,
+        _ => false,
+    }
+}
+
+// An act, which may leave the screen where it is.
+fn act_of(chance: &mut Chance, keeps: bool) -> Act {
+    let act = any_act(chance);
+    if keeps && moves_screen(act) {
+        Act::Write(chance.among(&SHOWN), chance.byte())
+    } else {
+        act
+    }
+}
+
+// How many ticks pass up to the next act: mostly few, and at times many.
+fn wait(chance: &mut Chance) -> u64 {
+    let most = match chance.below(16) {
+        0 => 6_000,
+        1 | 2 => 700,
+        3 | 4 | 5 => 80,
+        _ => 9,
+    };
+    u64::from(chance.below(most))
+}
+
+// The script and the size of a ROM are arguments so that no proof writes the lists out.
+fn bus(alloc: Global, clock: Clock, script: &[u8], size: usize) -> Result<Bus, NoMemory> {
+    let os = zeroed(alloc, size)?;
+    let Ok(roms) = RomSet::read(os, Vec::new(alloc), None) else {
+        return Err(NoMemory);
+    };
+    let mut bytes = zeroed(alloc, size / 4)?;
+    for (place, byte) in bytes.iter_mut().enumerate() {
+        *byte = (place % 251) as u8;
+    }
+    let Ok(disc) = Disc::make(alloc, Kind::Ssd, bytes) else {
+        return Err(NoMemory);
+    };
+    let Ok(script) = read(alloc, script) else {
+        return Err(NoMemory);
+    };
+    Bus::make(
+        alloc,
+        clock,
+        roms,
+        Some(disc),
+        None,
+        script,
+        Vec::new(alloc),
+    )
+}
+
+// Does it at a tick, and tells the byte that is read, or how often the NMI line rose, and whether an interrupt is asked for. None where its tick
+// is past.
+fn told(bus: &mut Bus, t: u64, act: Act) -> Option<(u64, bool)> {
+    let t = t % (1 << 40);
+    if bus.closed() > t {
+        return None;
+    }
+    let mut byte = 0;
+    match act {
+        Act::Write(at, v) => bus.write(Tick(t), at, v),
+        Act::Read(at) => byte = u64::from(bus.read(Tick(t), at)),
+        Act::Look => {
+            let asks = bus.irq(Tick(t));
+            return Some((bus.nmis_now(), asks));
+        }
+        Act::Rises => byte = bus.nmis(Tick(t)),
+        Act::Put(at, v) => bus.put(t, at % 0x8000, v),
+        Act::Close => bus.close(t),
+        Act::Settle => bus.finish(Tick(t)),
+        Act::Break => {
+            if bus.break_pending(Tick(t)) {
+                bus.take_break(Tick(t));
+            }
+        }
+    }
+    Some((byte, false))
+}
+
+// Whether both frames are there, with the same colours.
+fn are_alike(one: Option<&Frame>, other: Option<&Frame>) -> bool {
+    match (one, other) {
+        (Some(frame), Some(same)) => frame.colours.iter().eq(same.colours.iter()),
+        _ => false,
+    }
+}
+
+// Both buses. As far as `calm` the lines of the second are these.
+#[derive(Drop)]
+struct Both {
+    lagging: Bus,
+    stepped: Bus,
+    calm: u64,
+    lines: (u64, bool),
+}
+
+impl Both {
+    fn new(alloc: Global, clock: Clock, script: &[u8], size: usize) -> Result<Both, NoMemory> {
+        Ok(Both {
+            lagging: bus(alloc, clock, script, size)?,
+            stepped: bus(alloc, clock, script, size)?,
+            calm: 0,
+            lines: (0, false),
+        })
+    }
+
+    // Closes and steps the second at each tick up to this one, and answers whether its lines stay as the first was sure that they do. A read of
+    // the 6845 each six ticks has the picture drawn too.
+    fn step(&mut self, t: u64) -> bool {
+        let t = t % (1 << 40);
+        let mut stay = true;
+        for k in self.stepped.closed()..=t {
+            self.stepped.finish(Tick(k));
+            if k <= self.calm {
+                stay = stay && self.lines == (self.stepped.nmis_now(), self.stepped.irq_now());
+            }
+            if k < t && k % 6 == 0 {
+                let _ = told(&mut self.stepped, k, Act::Read(0xfe00));
+            }
+        }
+        stay
+    }
+
+    // Does an act at both, and answers whether both tell the same.
+    fn agree(&mut self, t: u64, act: Act) -> bool {
+        let stay = self.step(t);
+        let one = told(&mut self.lagging, t, act);
+        let is_same = one.is_some() && one == told(&mut self.stepped, t, act);
+        self.calm = self.lagging.calm();
+        self.lines = (self.lagging.nmis_now(), self.lagging.irq_now());
+        stay && is_same
+    }
+
+    // Whether both have the same some frames later.
+    fn come_to_the_same(&mut self) -> bool {
+        let t = self.stepped.closed().wrapping_add(20_000);
+        let stay = self.step(t);
+        self.lagging.finish(Tick(t % (1 << 40)));
+        stay && self.have_the_same_frames() && self.have_the_same_rest()
+    }
+
+    fn have_the_same_frames(&self) -> bool {
+        let (one, other) = (self.lagging.frames(), self.stepped.frames());
+        one.len() == other.len() && (0..one.len()).all(|i| are_alike(one.get(i), other.get(i)))
+    }
+
+    fn have_the_same_rest(&self) -> bool {
+        let is_same_disc = match (self.lagging.disc(0), self.stepped.disc(0)) {
+            (Some(disc), Some(same)) => disc.bytes() == same.bytes(),
+            _ => false,
+        };
+        is_same_disc
+            && self.lagging.ram() == self.stepped.ram()
+            && self.lagging.sound() == self.stepped.sound()
+    }
+
+    // The next tick, or one about the end of what the first is sure of.
+    fn near_calm(&self, chance: &mut Chance) -> u64 {
+        let next = self.stepped.closed();
+        let t = self
+            .calm
+            .saturating_add(u64::from(chance.below(4)))
+            .saturating_sub(2);
+        if t >= next && t - next < 6_000 {
+            t
+        } else {
+            next
+        }
+    }
+
+    // When the next act is.
+    fn next(&self, chance: &mut Chance) -> u64 {
+        if chance.once_in(8) {
+            self.near_calm(chance)
+        } else {
+            self.stepped.closed().wrapping_add(wait(chance))
+        }
+    }
+
+    // Whether both agree on so many acts.
+    fn agree_by_chance(&mut self, chance: &mut Chance, keeps: bool, acts: u64) -> bool {
+        for _ in 0..acts {
+            let t = self.next(chance);
+            let act = act_of(chance, keeps);
+            if !self.agree(t, act) {
+                return false;
+            }
+        }
+        true
+    }
+
+    // Whether both agree from their beginning on, and come to the same.
+    fn agree_on(&mut self, chance: &mut Chance, lists: Lists<'_>, acts: u64) -> bool {
+        let screen = !chance.once_in(4);
+        let keeps = screen && chance.once_in(2);
+        self.set_up(lists.settings)
+            && (!screen || self.set_screen(lists.screen))
+            && self.agree_by_chance(chance, keeps, acts)
+            && self.come_to_the_same()
+    }
+
+    // Does an act at the next tick.
+    fn agree_next(&mut self, act: Act) -> bool {
+        let t = self.stepped.closed();
+        self.agree(t, act)
+    }
+
+    // Whether both agree on the settings, and on a palette of many colours.
+    fn set_up(&mut self, settings: &[(u16, u8)]) -> bool {
+        for (at, v) in settings {
+            if !self.agree_next(Act::Write(*at, *v)) {
+                return false;
+            }
+        }
+        for entry in 0..16u8 {
+            if !self.agree_next(Act::Write(0xfe21, entry.wrapping_mul(17))) {
+                return false;
+            }
+        }
+        true
+    }
+
+    // Whether both agree on a screen's registers.
+    fn set_screen(&mut self, registers: &[(u8, u8)]) -> bool {
+        for (register, v) in registers {
+            if !self.agree_next(Act::Write(0xfe00, *register))
+                || !self.agree_next(Act::Write(0xfe01, *v))
+            {
+                return false;
+            }
+        }
+        true
+    }
+}
+
+/// What both buses begin with: the script, the settings and the screen's registers. They are handed in so that no long proof writes them out.
+#[derive(Clone, Copy)]
+pub struct Lists<'a> {
+    pub script: &'a [u8],
+    pub settings: &'a [(u16, u8)],
+    pub screen: &'a [(u8, u8)],
+    /// The bytes of a ROM.
+    pub size: usize,
+}
+
+/// Whether both buses agree on so many acts of a seed, and come to the same behind them.
+pub fn agrees(alloc: Global, seed: u64, acts: u64, lists: Lists<'_>) -> Result<bool, NoMemory> {
+    let mut chance = Chance::new(seed, 3);
+    let clock = if chance.once_in(2) {
+        Clock::Three
+    } else {
+        Clock::Four
+    };
+    let mut both = Both::new(alloc, clock, lists.script, lists.size)?;
+    Ok(both.agree_on(&mut chance, lists, acts))
+}
