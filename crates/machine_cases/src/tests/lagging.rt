@@ -163,12 +163,15 @@ fn agree_on(
     Ok(agree && both.come_to_the_same(end.wrapping_mul(times)))
 }
 
-// Three rows of eight lines of 64 characters, of which one row of 40 characters is shown, from 5800 on: a frame has 1,536 microseconds, or 9,216
-// ticks, and the second begins with the microsecond 1,537. Vertical sync begins with the third row.
+// Eight rows of eight lines of 64 characters, of which one row of 40 characters is shown, from 5800 on: a frame has 4,096 microseconds, or 24,576
+// ticks, and the second begins with the microsecond 4,097. Vertical sync begins with the third row, so that the row that is shown comes 48 lines
+// behind it, and is in the frame. Each colour of the palette is its own.
 const SMALL_SCREEN: &str = "\
-0:FE00=00 0:FE01=3F 0:FE00=01 0:FE01=28 0:FE00=02 0:FE01=31 0:FE00=03 0:FE01=24 0:FE00=04 0:FE01=02 0:FE00=05 0:FE01=00 0:FE00=06 \
+0:FE00=00 0:FE01=3F 0:FE00=01 0:FE01=28 0:FE00=02 0:FE01=31 0:FE00=03 0:FE01=24 0:FE00=04 0:FE01=07 0:FE00=05 0:FE01=00 0:FE00=06 \
 0:FE01=01 0:FE00=07 0:FE01=02 0:FE00=08 0:FE01=00 0:FE00=09 0:FE01=07 0:FE00=0C 0:FE01=0B 0:FE00=0D 0:FE01=00 0:FE20=08 \
-0:FE21=07 0:FE21=17 0:FE21=A0 0:FE21=B0 0:5800=A5 0:5801=5A 0:5808=3C";
+0:FE21=00 0:FE21=11 0:FE21=22 0:FE21=33 0:FE21=44 0:FE21=55 0:FE21=66 0:FE21=77 \
+0:FE21=80 0:FE21=91 0:FE21=A2 0:FE21=B3 0:FE21=C4 0:FE21=D5 0:FE21=E6 0:FE21=F7 \
+0:5800=A5 0:5801=5A 0:5808=3C";
 
 // A script, the first and the last of the ticks that stand for each `@`, the tick of the end, and a program, on the small screen or on none.
 const SWEPT: &str = "\
@@ -186,19 +189,19 @@ none|at @ down 41;at 66 up 41;|54|66|100|0:FE43=7F 0:FE4F=41 0:FE4C=04 65:FE4F? 
 none|at 60 down 41;at @ up 41;|60|73|100|0:FE43=7F 0:FE4F=41 0:FE4C=04 65:FE4F? 66:FE4D? 90:FE4D?
 # The first byte of a sector.
 none||131706|131718|140000|2:FE80=29 2:FE85=00 2:FE86=01 2:FE84=80 @:look @:FE84? @:FE87? 135000:look 135000:FE84?
-# A store to the byte that the beam reads in this microsecond, and to the next.
-small|at 20000 shot;|9215|9235|20001|@:5800=FF
-small|at 20000 shot;|9215|9235|20001|@:5808=FF
+# A store to the byte that the beam reads in this microsecond, and to the next, behind a look, from which on nothing needs the devices.
+small|at 36000 shot;|24575|24595|36001|24400:look @:5800=FF
+small|at 36000 shot;|24575|24595|36001|24400:look @:5808=FF
 # A store to a byte that was read, and to one that will not be.
-small|at 20000 shot;|9300|9306|20001|@:5800=FF @:3000=12 19000:5800? 19000:3000?
+small|at 36000 shot;|24660|24666|36001|24400:look @:5800=FF @:3000=12 35000:5800? 35000:3000?
 # A write of the palette, of the control byte, and of where the screen begins, within a line.
-small|at 20000 shot;|9222|9240|20001|@:FE21=05
-small|at 20000 shot;|9222|9240|20001|@:FE20=18
-small|at 20000 shot;|9210|9228|20001|0:FE00=0D @:FE01=01
+small|at 36000 shot;|24582|24600|36001|@:FE21=05
+small|at 36000 shot;|24582|24600|36001|@:FE20=18
+small|at 36000 shot;|24570|24588|36001|0:FE00=0D @:FE01=01
 # A write of the latch that changes the size of the screen, whose addresses go past the RAM's end.
-small|at 20000 shot;|9222|9240|20001|0:FE00=0C 0:FE01=10 0:FE42=0F 0:FE40=04 0:FE40=05 0:3000=F0 0:5800=0F 0:4000=33 @:FE40=0D
+small|at 36000 shot;|24582|24600|36001|0:FE00=0C 0:FE01=10 0:FE42=0F 0:FE40=04 0:FE40=05 0:3000=F0 0:5800=0F 0:4000=33 @:FE40=0D
 # A shot round the end of a frame.
-small|at @ shot;at 12000 shot;|9210|9228|12001|600:5800=FF
+small|at @ shot;at 36000 shot;|30714|30732|36001|600:5800=FF
 # Vertical sync at CA1.
 small||6144|6162|8000|1:FE4C=01 1:FE4E=82 @:look @:FE4D? 7000:look
 small||6912|6930|8000|1:FE4C=00 1:FE4E=82 @:look @:FE4D? 7500:look
