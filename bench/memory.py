@@ -11,6 +11,7 @@ import collections
 import os
 import resource
 import shutil
+import signal
 import subprocess
 import sys
 import tempfile
@@ -190,7 +191,12 @@ def refuse_size(told, path, words, good):
         if loads not in (1, 7):
             break
         least = size
-        told.one(counts, words, good, call(words, path, command=limit), "%d bytes for all" % size)
+        ended = call(words, path, command=limit)
+        if ended.status == -signal.SIGSEGV:
+            # The system ends the program, whose stack cannot grow any more: then its files have to be as they are where memory was refused.
+            counts["by the system"] += 1
+            ended = ended._replace(status=7)
+        told.one(counts, words, good, ended, "%d bytes for all" % size)
     what = told_of(counts)
     print("%s: 64 MB down to %.1f MB for all: %s" % (" ".join(words), (least or 0) / 2**20, what), flush=True)
 
