@@ -71,7 +71,7 @@ fn modify<N, M: Plain<N>, L>(
     }
 }
 
-/// The instruction of an opcode that has one. The number of its cycles is the only thing that is asked of its row.
+/// The instruction of an opcode that has one. The number of its cycles is the only thing that is asked of its row, and its row is there.
 #[inline(always)]
 fn row_of(part: Part, op: u8, known: &Known) -> Row
     requires known { known.now ≡ known_at part op }
@@ -79,14 +79,15 @@ fn row_of(part: Part, op: u8, known: &Known) -> Row
     ensures row { row_at part op ≡ Some result }
     ensures uses { bus_use result.mnemonic ≡ known.now.uses }
 {
-    match row_at(part, op) {
-        Some(row) => Row {
-            mnemonic: known.mnemonic,
-            mode: known.mode,
-            bytes: known.bytes,
-            cycles: row.cycles,
-        },
-        None => unreachable!(),
+    let cycles = match row_at(part, op) {
+        Some(row) => row.cycles,
+        None => 0,
+    };
+    Row {
+        mnemonic: known.mnemonic,
+        mode: known.mode,
+        bytes: known.bytes,
+        cycles,
     }
 }
 
