@@ -9,8 +9,8 @@ use beeb_bits::Tick;
 use std::sync::Wait;
 use tube_cell::{Pass, TubeCell};
 
-/// Lets the other side get on until it admits a step at this tick. Where it does not yet, all events are published first, with that tick as horizon, unless they are
-/// published already, and the trust says as much.
+/// Lets the other side get on until it admits a step at this tick. Where it does not yet, all events are published first, with that tick as
+/// horizon, unless they are published already, and the trust says as much.
 pub fn come<R: Wait>(
     rt: &R,
     cell: &TubeCell,

@@ -58,8 +58,8 @@ fn publish_on<W: Ahead, R: Wait>(
     publish_observed::<Brand, W, R>(rt, cell, pass, mark, t)
 }
 
-/// Tells the first stride past the mark, for as long as the chip shows what was observed in it. False where it shows something else, or where the machine left off
-/// at the mark, so that the host has to come nearer; nothing is told then.
+/// Tells the first stride past the mark, for as long as the chip shows what was observed in it. False where it shows something else, or
+/// where the machine left off at the mark, so that the host has to come nearer; nothing is told then.
 pub fn tell_first<W: Ahead, R: Wait>(
     rt: &R,
     cell: &TubeCell,

@@ -64,8 +64,8 @@ pub fn drive_ahead<M: Rewinds, R: Wait>(
     unreachable!()
 }
 
-// Goes ahead on trust. None, and no step was done, where the host's horizon admits the step, where it is an access that the host has to see, where the machine cannot
-// note what it does, or where the host changed meanwhile what is observed.
+// Goes ahead on trust. None, and no step was done, where the host's horizon admits the step, where it is an access that the host has to
+// see, where the machine cannot note what it does, or where the host changed meanwhile what is observed.
 fn go_past<M: Rewinds, R: Wait>(
     rt: &R,
     cell: &TubeCell,

@@ -30,8 +30,8 @@ pub(crate) fn reached(n: Tick, ask: Ask) -> Tick
     }
 }
 
-// Answers a read as the mark shows it, and goes on from there up to tick `end`. None, and it is where it was, where the mark does not show the register, or where the
-// machine cannot note that.
+// Answers a read as the mark shows it, and goes on from there up to tick `end`. None, and it is where it was, where the mark does not show
+// the register, or where the machine cannot note that.
 fn read_on<M: Rewinds>(
     half: &mut Half<M>,
     past: &mut M::Past,
@@ -273,7 +273,8 @@ fn go_anew<M: Rewinds, R: Wait>(
     unreachable!()
 }
 
-/// A party that went ahead up to tick t, of which what lies below `trust` stands: it stays where it is, or is rolled back to its mark, and goes to that tick anew.
+/// A party that went ahead up to tick t, of which what lies below `trust` stands: it stays where it is, or is rolled back to its mark, and
+/// goes to that tick anew.
 pub(crate) fn roll_back<M: Rewinds, R: Wait>(
     rt: &R,
     half: &mut Half<M>,

@@ -35,8 +35,8 @@ pub struct Sum {
     pub n: bool,
 }
 
-/// The registers: the MCS6500 Programming Manual, chapters 2, 3, 7 and 8. In `p` C is bit 0, Z bit 1, I bit 2, D bit 3, V bit 6 and N bit 7. Bits 4 and 5 exist only in pushed
-/// flags, and are clear in `p`.
+/// The registers: the MCS6500 Programming Manual, chapters 2, 3, 7 and 8. In `p` C is bit 0, Z bit 1, I bit 2, D bit 3, V bit 6 and N bit
+/// 7. Bits 4 and 5 exist only in pushed flags, and are clear in `p`.
 #[derive(Clone, Copy, Debug, PartialEq, Eq)]
 pub struct Regs {
     /// The program counter.
@@ -68,6 +68,8 @@ pub enum Cycle {
 pub fn decimal_mode_is_arithmetic()
     ensures sum { (part : Part) (c : Bool) (x y : ℕ) → x < 100 → y < 100 → (adc part true (digits x) (digits y) c).value ≡ digits (plus x y c % 100) }
     ensures sum_carry { (part : Part) (c : Bool) (x y : ℕ) → x < 100 → y < 100 → (adc part true (digits x) (digits y) c).c ≡ leb 100 (plus x y c) }
-    ensures difference { (part : Part) (c : Bool) (x y : ℕ) → x < 100 → y < 100 → (sbc part true (digits x) (digits y) c).value ≡ digits (less x y c % 100) }
-    ensures difference_carry { (part : Part) (c : Bool) (x y : ℕ) → x < 100 → y < 100 → (sbc part true (digits x) (digits y) c).c ≡ leb 100 (less x y c) }
+    ensures difference { (part : Part) (c : Bool) (x y : ℕ) → x < 100 → y < 100 →
+        (sbc part true (digits x) (digits y) c).value ≡ digits (less x y c % 100) }
+    ensures difference_carry { (part : Part) (c : Bool) (x y : ℕ) → x < 100 → y < 100 →
+        (sbc part true (digits x) (digits y) c).c ≡ leb 100 (less x y c) }
 {}

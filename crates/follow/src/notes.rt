@@ -110,7 +110,8 @@ impl Notes {
     #[inline(always)]
     pub(crate) fn passing(&self) -> Option<Passing>
         ensures leaves { IfSome result (λ passing. LeavesKept self.now.choice self.now.before passing) }
-        ensures same { (at : ℕ) (byte : Option ℕ) → self.now.choice.watch ≡ Some at → self.now.before ≡ Some byte → result ≡ Some (Passing.Same at byte) }
+        ensures same { (at : ℕ) (byte : Option ℕ) → self.now.choice.watch ≡ Some at → self.now.before ≡ Some byte →
+            result ≡ Some (Passing.Same at byte) }
         ensures elsewhere { let choice = self.now.choice in
             (at : ℕ) → choice.watch ≡ None → choice.at ≡ Some at → self.now.before ≡ Some None → result ≡ Some (Passing.Elsewhere at) }
     {

@@ -154,7 +154,8 @@ impl ParaMachine {
     #[inline(always)]
     pub fn pass(&mut self, until: Tick, lines: &Lines, sure: Tick, passing: Passing)
         requires { until.0 ≤ 2 ^ 30 }
-        ensures { (k : ℕ) × Passes para_moves (λ s. IsOver passing (shown_regs s).pc (para_peek s)) until.0 (shown_lines lines.now sure.0) k self.old self.new }
+        ensures { (k : ℕ) × Passes para_moves (λ s. IsOver passing (shown_regs s).pc (para_peek s)) until.0
+            (shown_lines lines.now sure.0) k self.old self.new }
     {
         pass_over::<NoNotes, Cpu, ParaBus>(
             &mut self.cpu,

@@ -21,7 +21,8 @@ pub(crate) trait Notes {
 
     /// Notes the byte that stands at an address. False, and nothing is noted, where there is no room.
     fn note(&mut self, at: u16, byte: u8) -> bool
-        ensures noted { result ≡ true → (ram : List ℕ) (x : ℕ) → slice_index ram at ≡ byte → before self.new (slice_set ram at x) ≡ before self.old ram }
+        ensures noted { result ≡ true → (ram : List ℕ) (x : ℕ) → slice_index ram at ≡ byte →
+            before self.new (slice_set ram at x) ≡ before self.old ram }
         ensures room { room self.old ≤ room self.new + 1 }
         ensures full { result ≡ false → (self.new ≡ self.old) × (endless ≡ false) × (room self.old ≡ 0) };
 }

@@ -12,8 +12,8 @@ pub fn file_reads_back()
     ensures only { OnlyFileReads }
 {}
 
-/// The accesses that are kept of a run, those below the moment that a session of it tells of, are a trace below that moment. The replays of both parties against
-/// them meet no difference, to that moment or to an earlier tick.
+/// The accesses that are kept of a run, those below the moment that a session of it tells of, are a trace below that moment. The replays of
+/// both parties against them meet no difference, to that moment or to an earlier tick.
 pub fn saved_run_is_resumed<H: Party, P: Party>()
     requires host_plays { IsTrue (H.plays Host) }
     requires para_plays { IsTrue (P.plays Para) }

@@ -83,8 +83,8 @@ pub const SETTINGS: [(u16, u8); 6] = [
 /// How many acts each seed has.
 pub const ACTS: u64 = 250;
 
-// What is done at a tick: a write, a read, a look at both lines, one at the NMI line alone, a write to the RAM behind the closing below its tick, a closing, the steps
-// that a board owes, or a break.
+// What is done at a tick: a write, a read, a look at both lines, one at the NMI line alone, a write to the RAM behind the closing below its
+// tick, a closing, the steps that a board owes, or a break.
 #[derive(Clone, Copy)]
 enum Act {
     Write(u16, u8),
