@@ -195,14 +195,14 @@ later-devices b n t h here low early few calm =
     let u = micro b.clock in
     let (m, less, all, no_more) = how-many b.clock (t - b.next) n few in
     let begins : b.next % u ≡ 0 = subst (λ (k : ℕ). k % u ≡ 0) (omega (arith, h.on_time.least, low, early)) h.on_time.begins in
-    let moved : ticks (around (board_seen b)) (t - b.closed) b.closed (moving_part (board_seen b)) ≡ moving (microseconds b.ram.items b.roms.font (keys_of p.keys) p.levels m (board_seen b).devices) p.shots.frames =
+    let moved : ticks (around (board_seen b)) (t - b.closed) b.closed (moving_part (board_seen b)) ≡ moving (microseconds b.ram.items b.letters.font (keys_of p.keys) p.levels m (board_seen b).devices) p.shots.frames =
     beats (around (board_seen b)) m b.closed t (keys_of p.keys) p.levels (moving_part (board_seen b)) (subst (λ (k : ℕ). k % u ≡ 0) (sym here) begins)
     (none-between p.script (drop p.place p.script) b.closed p.event t h.played.has_left h.played.later early)
     (λ i late high. keys-stay p b.closed i h.played (omega (arith, late)) (omega (arith, high, early)))
     (λ i late high. levels-stay p b.closed i h.played (omega (arith, late)) (omega (arith, high, early)))
     (omega (arith, here, low, all)) (omega (arith, here, low, no_more)) in (
-      ap (λ (x : Moving). devices_ask x.devices) moved ∙ calm.irq b.ram.items b.roms.font p.levels m less,
-      ap (λ (x : Moving). x.devices.disc.nmis) moved ∙ calm.nmis b.ram.items b.roms.font p.levels m less,
+      ap (λ (x : Moving). devices_ask x.devices) moved ∙ calm.irq b.ram.items b.letters.font p.levels m less,
+      ap (λ (x : Moving). x.devices.disc.nmis) moved ∙ calm.nmis b.ram.items b.letters.font p.levels m less,
     )
 
 -- up to an event and the end of the microseconds that are calm

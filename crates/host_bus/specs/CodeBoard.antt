@@ -17,11 +17,11 @@ abbrev pub board_seen : Inside → BoardState
 board_seen b = record {
   clock = b.clock;
   ram = b.ram.items;
-  roms = b.roms;
+  roms = b.letters;
   latch = b.latch;
   script = b.playback.script;
   breaks = breaks_before b.breaks.place b.playback.script;
-  devices = drawn b.ram.items b.roms.font b.devices;
+  devices = drawn b.ram.items b.letters.font b.devices;
   shots = b.playback.shots.frames;
   sound = b.sound;
   closed = b.closed;
@@ -37,7 +37,7 @@ moving devices shots = record { devices = devices; shots = shots }
 pub record IsValid (b : Inside) : Type 0 where
   pub memory : length b.ram.items ≡ 32768
   pub addresses : length b.shown.items ≡ 65536
-  pub shows : Shows b.ram.items b.roms.slots b.latch b.roms.os b.shown.items
+  pub shows : Shows b.ram.items b.letters.slots b.latch b.letters.os b.shown.items
   pub slot : b.latch < 16
   pub played : IsPlayed b.playback b.closed
   pub on_time : IsOnTime (micro b.clock) b.closed b.playback.event b.next

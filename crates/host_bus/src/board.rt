@@ -25,6 +25,7 @@ use disc_image::Disc;
 use key_script::Script;
 use raster::{Frame, reads_go_on};
 use rom_set::RomSet;
+use saa5050::Letters;
 use sn76489::SoundWrite;
 use std::alloc::Global;
 use std::marker::Model;
@@ -54,7 +55,7 @@ pub(crate) struct Board {
     ram: Vec<u8>,
     // What a read shows of the RAM, the paged ROM and the operating system, so that it takes one load.
     shown: Vec<u8>,
-    roms: RomSet,
+    letters: Letters,
     latch: u8,
     devices: Devices,
     playback: Playback,
@@ -177,7 +178,7 @@ fn go_on(
     devices: &mut Devices,
     playback: &mut Playback,
     ram: &[u8],
-    roms: &RomSet,
+    letters: &Letters,
     clock: Clock,
     k: u64,
     t: u64,
@@ -189,8 +190,8 @@ fn go_on(
     requires begins { k < playback.old.event → k % micro clock ≡ 0 }
     ensures on { k < result }
     ensures script { playback.new.script ≡ playback.old.script }
-    ensures ticks { let a = around_by clock ram.now roms.now.font playback.old.script in
-        let see = drawn ram.now roms.now.font in
+    ensures ticks { let a = around_by clock ram.now letters.now.font playback.old.script in
+        let see = drawn ram.now letters.now.font in
         let old = moving (see devices.old) playback.old.shots.frames in
         moving (see devices.new) playback.new.shots.frames ≡ ticks a (min t result - k) k old }
     ensures played { IsPlayed playback.new (min t result) }
@@ -198,10 +199,10 @@ fn go_on(
 {
     if k < playback.event {
         let n = beats(clock, t.min(playback.event) - k);
-        devices.advance(ram, roms, &playback.keys, playback.levels, n);
+        devices.advance(ram, letters, &playback.keys, playback.levels, n);
         (k + n * clock.micro()).min(playback.event)
     } else {
-        tick_with_events(devices, playback, ram, roms, clock, k)
+        tick_with_events(devices, playback, ram, letters, clock, k)
     }
 }
 
@@ -212,7 +213,7 @@ fn tick_with_events(
     devices: &mut Devices,
     playback: &mut Playback,
     ram: &[u8],
-    roms: &RomSet,
+    letters: &Letters,
     clock: Clock,
     k: u64,
 ) -> u64
@@ -220,20 +221,20 @@ fn tick_with_events(
     requires room { k < 2 ^ 48 }
     requires played { IsPlayed playback.old k }
     ensures script { playback.new.script ≡ playback.old.script }
-    ensures shots { let frame = last_frame (drawn ram.now roms.now.font devices.old) in
+    ensures shots { let frame = last_frame (drawn ram.now letters.now.font devices.old) in
         playback.new.shots.frames ≡ shot_at k playback.old.script frame playback.old.shots.frames }
     ensures played { IsPlayed playback.new (k + 1) }
     ensures devices { let keys = keys_of playback.new.keys in
-        let old = drawn ram.now roms.now.font devices.old in
-        let after = microsecond ram.now roms.now.font keys playback.new.levels old in
-        drawn ram.now roms.now.font devices.new ≡ (if k % micro clock == 0 then after else old) }
+        let old = drawn ram.now letters.now.font devices.old in
+        let after = microsecond ram.now letters.now.font keys playback.new.levels old in
+        drawn ram.now letters.now.font devices.new ≡ (if k % micro clock == 0 then after else old) }
     ensures next { IsOnTime (micro clock) (k + 1) playback.new.event result }
 {
     let micro = clock.micro();
-    devices.draw(ram, roms);
+    devices.draw(ram, letters);
     playback.play(devices.last_frame(), k);
     if k % micro == 0 {
-        devices.advance(ram, roms, &playback.keys, playback.levels, 1);
+        devices.advance(ram, letters, &playback.keys, playback.levels, 1);
     }
     (k + micro - k % micro).min(playback.event)
 }
@@ -253,6 +254,7 @@ impl Board {
     {
         let ram = zeroed(alloc, RAM_SIZE)?;
         let shown = first_shown(alloc, &roms)?;
+        let letters = Letters::make(alloc, roms)?;
         let devices = Devices::make(alloc, d0, d1)?;
         let playback = Playback::make(alloc, script)?;
         let breaks = Breaks::new(playback.script.events());
@@ -261,7 +263,7 @@ impl Board {
             clock,
             ram,
             shown,
-            roms,
+            letters,
             latch: 0,
             devices,
             playback,
@@ -300,7 +302,7 @@ impl Board {
                 &mut self.devices,
                 &mut self.playback,
                 &self.ram,
-                &self.roms,
+                &self.letters,
                 self.clock,
                 next,
                 t,
@@ -346,7 +348,7 @@ impl Board {
         requires { at < 0x8000 }
         ensures { self.new ≡ record self.old { ram = slice_set (self.old).ram at v } }
     {
-        self.devices.make_way(&self.ram, &self.roms, at);
+        self.devices.make_way(&self.ram, &self.letters, at);
         self.ram[at as usize] = v;
         self.shown[at as usize] = v;
     }
@@ -361,7 +363,7 @@ impl Board {
     {
         let keys = &self.playback.keys;
         self.devices
-            .read(&self.ram, &self.roms, keys, device_at(at), at)
+            .read(&self.ram, &self.letters, keys, device_at(at), at)
     }
 
     /// The byte of a register of a 6522 that no pins matter to, and that a read leaves as it is.
@@ -380,7 +382,7 @@ impl Board {
         requires { slot < 16 }
         ensures { self.new ≡ record self.old { latch = slot } }
     {
-        show_slot(&mut self.shown, &self.roms, self.latch, slot);
+        show_slot(&mut self.shown, self.letters.roms(), self.latch, slot);
         self.latch = slot;
     }
 
@@ -391,7 +393,7 @@ impl Board {
     {
         let was_high = self.devices.sound_line();
         self.devices
-            .write(&self.ram, &self.roms, Device::SystemVia, at, v);
+            .write(&self.ram, &self.letters, Device::SystemVia, at, v);
         if was_high && !self.devices.sound_line() {
             self.sound.tell(SoundWrite {
                 moment: self.closed.div_ceil(self.clock.micro()),
@@ -410,7 +412,7 @@ impl Board {
         match device_at(at) {
             Device::RomLatch => self.latch_slot(v % 16),
             Device::SystemVia => self.write_system(at, v),
-            device => self.devices.write(&self.ram, &self.roms, device, at, v),
+            device => self.devices.write(&self.ram, &self.letters, device, at, v),
         }
     }
 

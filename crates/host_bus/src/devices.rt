@@ -19,7 +19,7 @@ use beeb_bits::NoMemory;
 use disc_image::Disc;
 use keyboard::{Keys, Latch};
 use raster::{Frame, Raster, reads_go_on, stores_below_are_unseen, sync_stays_on};
-use rom_set::RomSet;
+use saa5050::Letters;
 use std::alloc::Global;
 use std::marker::Model;
 use via6522::{Pins, Via};
@@ -118,41 +118,41 @@ impl Devices {
 
     /// Draws what the picture owes.
     #[inline(never)]
-    pub(crate) fn draw(&mut self, ram: &[u8], roms: &RomSet)
+    pub(crate) fn draw(&mut self, ram: &[u8], letters: &Letters)
         requires { length ram.now ≡ 32768 }
-        ensures { self.new ≡ record { devices = drawn ram.now roms.now.font self.old; owed = 0 } }
+        ensures { self.new ≡ record { devices = drawn ram.now letters.now.font self.old; owed = 0 } }
     {
         sync_stays_on();
         reads_go_on();
-        self.video.advance(ram, self.size, roms, self.owed);
+        self.video.advance(ram, self.size, letters, self.owed);
         self.owed = 0;
     }
 
     /// Draws what the picture owes where it may read the byte at this address, which is then written.
     #[inline(always)]
-    pub(crate) fn make_way(&mut self, ram: &[u8], roms: &RomSet, at: u16)
+    pub(crate) fn make_way(&mut self, ram: &[u8], letters: &Letters, at: u16)
         requires { length ram.now ≡ 32768 }
-        ensures { let font = roms.now.font in
+        ensures { let font = letters.now.font in
             (v : ℕ) → drawn (slice_set ram.now at v) font self.new ≡ drawn ram.now font self.old }
     {
         stores_below_are_unseen();
         if at >= self.lowest {
-            self.draw(ram, roms);
+            self.draw(ram, letters);
         }
     }
 
     // One microsecond of a picture that owes nothing, which may change vertical sync.
     #[inline(always)]
     #[tactic(auto, using(crate::proofs::Steady::nothing_owed, crate::proofs::Steady::no_step))]
-    fn show(&mut self, ram: &[u8], roms: &RomSet)
+    fn show(&mut self, ram: &[u8], letters: &Letters)
         requires ram { length ram.now ≡ 32768 }
         requires drawn { (self.old).owed ≡ 0 }
         ensures { let old = (self.old).devices in
-            self.new ≡ record self.old { devices = record old { video = raster_after ram.now roms.now.font old } } }
+            self.new ≡ record self.old { devices = record old { video = raster_after ram.now letters.now.font old } } }
     {
         self.steady = 0;
         self.lowest = 0;
-        self.video.step(ram, self.size, roms);
+        self.video.step(ram, self.size, letters);
     }
 
     // One microsecond of the converter, which may change its line.
@@ -179,13 +179,13 @@ impl Devices {
     // Any microsecond, also one in which a line between two devices changes.
     #[inline(never)]
     #[tactic(auto, unfolding(crate::specs::Devices::microsecond))]
-    fn step(&mut self, ram: &[u8], roms: &RomSet, keys: &Keys, levels: [u16; 4])
+    fn step(&mut self, ram: &[u8], letters: &Letters, keys: &Keys, levels: [u16; 4])
         requires { length ram.now ≡ 32768 }
-        ensures { let see = drawn ram.now roms.now.font in
-            see self.new ≡ microsecond ram.now roms.now.font (keys_of keys.now) levels (see self.old) }
+        ensures { let see = drawn ram.now letters.now.font in
+            see self.new ≡ microsecond ram.now letters.now.font (keys_of keys.now) levels (see self.old) }
     {
-        self.draw(ram, roms);
-        self.show(ram, roms);
+        self.draw(ram, letters);
+        self.show(ram, letters);
         self.disc.step();
         self.convert(levels);
         let line = self.converter.cb1();
@@ -197,16 +197,16 @@ impl Devices {
 
     // Does some of `n` microseconds, and answers how many are left: those in which the lines between the devices stay as they are, of each
     // device by itself, where the picture owes them, or one by one where a line may change.
-    fn go_on(&mut self, ram: &[u8], roms: &RomSet, keys: &Keys, levels: [u16; 4], n: u64) -> u64
+    fn go_on(&mut self, ram: &[u8], letters: &Letters, keys: &Keys, levels: [u16; 4], n: u64) -> u64
         requires ram { length ram.now ≡ 32768 }
         requires some { 0 < n }
         ensures fewer { result < n }
-        ensures rest { let see = drawn ram.now roms.now.font in
-            let after = microseconds ram.now roms.now.font (keys_of keys.now) levels in
+        ensures rest { let see = drawn ram.now letters.now.font in
+            let after = microseconds ram.now letters.now.font (keys_of keys.now) levels in
             after result (see self.new) ≡ after n (see self.old) }
     {
         if self.steady == 0 {
-            self.step(ram, roms, keys, levels);
+            self.step(ram, letters, keys, levels);
             return n - 1;
         }
         devices_go_on_apart();
@@ -222,22 +222,22 @@ impl Devices {
         n - steps
     }
 
-    /// Does `n` microseconds, over this RAM and with the font of these ROMs, these keys and these levels of the converter's channels.
+    /// Does `n` microseconds, over this RAM and with these letters, keys and these levels of the converter's channels.
     pub(crate) fn advance(
         &mut self,
         ram: &[u8],
-        roms: &RomSet,
+        letters: &Letters,
         keys: &Keys,
         levels: [u16; 4],
         n: u64,
     )
         requires { length ram.now ≡ 32768 }
-        ensures { let see = drawn ram.now roms.now.font in
-            see self.new ≡ microseconds ram.now roms.now.font (keys_of keys.now) levels n (see self.old) }
+        ensures { let see = drawn ram.now letters.now.font in
+            see self.new ≡ microseconds ram.now letters.now.font (keys_of keys.now) levels n (see self.old) }
     {
         let mut left = n;
         while left > 0 {
-            left = self.go_on(ram, roms, keys, levels, left);
+            left = self.go_on(ram, letters, keys, levels, left);
         }
     }
 
@@ -273,19 +273,19 @@ impl Devices {
     pub(crate) fn read(
         &mut self,
         ram: &[u8],
-        roms: &RomSet,
+        letters: &Letters,
         keys: &Keys,
         device: Device,
         at: u16,
     ) -> u8
         requires { length ram.now ≡ 32768 }
-        ensures answer { result ≡ register_answer device at (keys_of keys.now) (drawn ram.now roms.now.font self.old) }
-        ensures after { let see = drawn ram.now roms.now.font in
+        ensures answer { result ≡ register_answer device at (keys_of keys.now) (drawn ram.now letters.now.font self.old) }
+        ensures after { let see = drawn ram.now letters.now.font in
             see self.new ≡ register_read device at (see self.old) }
     {
         match device {
             Device::Crtc => {
-                self.draw(ram, roms);
+                self.draw(ram, letters);
                 self.steady = 0;
                 self.lowest = 0;
                 if at % 2 == 0 {
@@ -330,14 +330,14 @@ impl Devices {
 
     /// A write to a register in SHEILA.
     #[tactic(auto, unfolding(crate::specs::Devices::register_written), using(crate::proofs::Steady::nothing_owed))]
-    pub(crate) fn write(&mut self, ram: &[u8], roms: &RomSet, device: Device, at: u16, v: u8)
+    pub(crate) fn write(&mut self, ram: &[u8], letters: &Letters, device: Device, at: u16, v: u8)
         requires { length ram.now ≡ 32768 }
-        ensures { let see = drawn ram.now roms.now.font in
+        ensures { let see = drawn ram.now letters.now.font in
             see self.new ≡ register_written device at v (see self.old) }
     {
         match device {
             Device::Crtc => {
-                self.draw(ram, roms);
+                self.draw(ram, letters);
                 self.steady = 0;
                 self.lowest = 0;
                 if at % 2 == 0 {
@@ -347,7 +347,7 @@ impl Devices {
                 }
             }
             Device::VideoUla => {
-                self.draw(ram, roms);
+                self.draw(ram, letters);
                 self.steady = 0;
                 self.lowest = 0;
                 if at % 2 == 0 {
@@ -358,7 +358,7 @@ impl Devices {
             }
             Device::SystemVia => {
                 self.system.write((at % 16) as u8, v);
-                self.latch_port_b(ram, roms, (at % 16) as u8);
+                self.latch_port_b(ram, letters, (at % 16) as u8);
             }
             Device::UserVia => self.user.write((at % 16) as u8, v),
             Device::DiscLatch => self.disc.latch(v),
@@ -373,13 +373,13 @@ impl Devices {
 
     // A write to register 0 or 2 puts the pins of port B into the addressable latch, which may change the size of the screen.
     #[tactic(auto, unfolding(crate::specs::Devices::after_latch))]
-    fn latch_port_b(&mut self, ram: &[u8], roms: &RomSet, reg: u8)
+    fn latch_port_b(&mut self, ram: &[u8], letters: &Letters, reg: u8)
         requires { length ram.now ≡ 32768 }
-        ensures { let see = drawn ram.now roms.now.font in
+        ensures { let see = drawn ram.now letters.now.font in
             see self.new ≡ after_latch reg (see self.old) }
     {
         if reg == 0 || reg == 2 {
-            self.draw(ram, roms);
+            self.draw(ram, letters);
             self.latch.write(self.system.out_b());
             self.size = self.latch.screen_size();
             self.lowest = self.video.lowest(self.size);

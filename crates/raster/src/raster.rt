@@ -15,7 +15,7 @@ use crate::frame::Frame;
 use crate::screen::Screen;
 use beeb_bits::{NoMemory, bit};
 use crtc6845::Crtc;
-use rom_set::RomSet;
+use saa5050::Letters;
 use std::alloc::Global;
 use std::marker::Model;
 use video_ula::Ula;
@@ -90,7 +90,7 @@ impl Raster {
 
     /// Does one character clock. `ram` has 32,768 bytes, and `size` is that of the screen: 16384, 8192, 20480 or 10240 bytes.
     #[inline(always)]
-    pub fn char_clock(&mut self, ram: &[u8], size: u16, font: &RomSet)
+    pub fn char_clock(&mut self, ram: &[u8], size: u16, font: &Letters)
         requires ram { length ram.now ≡ 32768 }
         requires size { IsScreenSize size }
         ensures { self.new ≡ char_clock_leaves ram.now size font.now.font self.old }
@@ -108,7 +108,7 @@ impl Raster {
     /// Does one microsecond: two character clocks where the ULA has set the clock of 2 MHz as it begins, else one. `ram` and `size` are as
     /// at `char_clock`.
     #[inline(always)]
-    pub fn step(&mut self, ram: &[u8], size: u16, font: &RomSet)
+    pub fn step(&mut self, ram: &[u8], size: u16, font: &Letters)
         requires ram { length ram.now ≡ 32768 }
         requires size { IsScreenSize size }
         ensures { self.new ≡ microsecond ram.now size font.now.font self.old }
@@ -123,7 +123,7 @@ impl Raster {
 
     // Does any microsecond.
     #[inline(always)]
-    fn step_in_full(&mut self, ram: &[u8], size: u16, font: &RomSet)
+    fn step_in_full(&mut self, ram: &[u8], size: u16, font: &Letters)
         requires ram { length ram.now ≡ 32768 }
         requires size { IsScreenSize size }
         ensures { self.new ≡ microsecond ram.now size font.now.font self.old }
@@ -137,7 +137,7 @@ impl Raster {
 
     /// Does `n` microseconds: of two character clocks each where the ULA has set the clock of 2 MHz, else of one. `ram` and `size` are as
     /// at `char_clock`.
-    pub fn advance(&mut self, ram: &[u8], size: u16, font: &RomSet, n: u64)
+    pub fn advance(&mut self, ram: &[u8], size: u16, font: &Letters, n: u64)
         requires ram { length ram.now ≡ 32768 }
         requires size { IsScreenSize size }
         ensures { self.new ≡ microseconds ram.now size font.now.font n self.old }
@@ -151,7 +151,7 @@ impl Raster {
     }
 
     // Does `n` times two character clocks: in one row, where so many can be counted.
-    fn char_clock_pairs(&mut self, ram: &[u8], size: u16, font: &RomSet, n: u64)
+    fn char_clock_pairs(&mut self, ram: &[u8], size: u16, font: &Letters, n: u64)
         requires ram { length ram.now ≡ 32768 }
         requires size { IsScreenSize size }
         ensures { let on = char_clocks ram.now size font.now.font n in
@@ -166,7 +166,7 @@ impl Raster {
     }
 
     // Does `n` character clocks, those that are alike at once.
-    fn char_clocks(&mut self, ram: &[u8], size: u16, font: &RomSet, n: u64)
+    fn char_clocks(&mut self, ram: &[u8], size: u16, font: &Letters, n: u64)
         requires ram { length ram.now ≡ 32768 }
         requires size { IsScreenSize size }
         ensures { self.new ≡ char_clocks ram.now size font.now.font n self.old }
@@ -179,7 +179,7 @@ impl Raster {
 
     // Does some of the next `most` character clocks, at least one, and tells how many.
     #[inline(always)]
-    fn some_clocks(&mut self, ram: &[u8], size: u16, font: &RomSet, most: u64) -> u64
+    fn some_clocks(&mut self, ram: &[u8], size: u16, font: &Letters, most: u64) -> u64
         requires ram { length ram.now ≡ 32768 }
         requires size { IsScreenSize size }
         requires some { 0 < most }
@@ -202,7 +202,7 @@ impl Raster {
 
     // Does the last clock of a line.
     #[inline(always)]
-    fn end_line(&mut self, ram: &[u8], size: u16, font: &RomSet)
+    fn end_line(&mut self, ram: &[u8], size: u16, font: &Letters)
         requires ram { length ram.now ≡ 32768 }
         requires size { IsScreenSize size }
         ensures { self.new ≡ char_clock_leaves ram.now size font.now.font self.old }

@@ -22,7 +22,7 @@ use crate::place::Place;
 use crate::text::Text;
 use beeb_bits::{NoMemory, bit};
 use crtc6845::{Beam, Crtc, Span, clocks_at_rest_are_alike};
-use rom_set::RomSet;
+use saa5050::Letters;
 use std::alloc::Global;
 use std::marker::Model;
 use std::mem::swap;
@@ -108,7 +108,7 @@ fn draw_cells(
     text: &mut Text,
     canvas: &mut Canvas,
     place: &Place,
-    font: &RomSet,
+    font: &Letters,
     span: Span,
     bytes: &[u8],
     step: usize,
@@ -217,7 +217,7 @@ impl Screen {
 
     /// Does any character clock.
     #[inline(never)]
-    pub(crate) fn clock_at_edge(&mut self, ram: &[u8], size: u16, font: &RomSet)
+    pub(crate) fn clock_at_edge(&mut self, ram: &[u8], size: u16, font: &Letters)
         requires ram { length ram.now ≡ 32768 }
         requires size { IsScreenSize size }
         ensures { self.new ≡ char_clock_leaves ram.now size font.now.font self.old }
@@ -230,7 +230,7 @@ impl Screen {
 
     /// Does one inside a line.
     #[inline(always)]
-    pub(crate) fn clock_inside(&mut self, ram: &[u8], size: u16, font: &RomSet)
+    pub(crate) fn clock_inside(&mut self, ram: &[u8], size: u16, font: &Letters)
         requires ram { length ram.now ≡ 32768 }
         requires size { IsScreenSize size }
         requires inside { (starts_line self.old.crtc ≡ false) × (ends_line self.old.crtc ≡ false) }
@@ -242,7 +242,7 @@ impl Screen {
 
     /// Does the last clock of a line after which the row goes on.
     #[inline(always)]
-    pub(crate) fn clock_at_inner_end(&mut self, ram: &[u8], size: u16, font: &RomSet)
+    pub(crate) fn clock_at_inner_end(&mut self, ram: &[u8], size: u16, font: &Letters)
         requires ram { length ram.now ≡ 32768 }
         requires size { IsScreenSize size }
         requires start { starts_line self.old.crtc ≡ false }
@@ -259,7 +259,7 @@ impl Screen {
         &mut self,
         ram: &[u8],
         size: u16,
-        font: &RomSet,
+        font: &Letters,
         most: u64,
     ) -> u64
         requires ram { length ram.now ≡ 32768 }
@@ -341,7 +341,7 @@ impl Screen {
 
     /// Does character clocks inside a line, at least one and at most `most`, and tells how many.
     #[inline(always)]
-    pub(crate) fn stretch(&mut self, ram: &[u8], size: u16, font: &RomSet, most: u64) -> u64
+    pub(crate) fn stretch(&mut self, ram: &[u8], size: u16, font: &Letters, most: u64) -> u64
         requires ram { length ram.now ≡ 32768 }
         requires size { IsScreenSize size }
         requires start { starts_line self.old.crtc ≡ false }
@@ -424,7 +424,7 @@ impl Screen {
 
     // Draws some of the next characters of a span, at most `n`, and tells how many: 0 where the first is to be done by itself.
     #[inline(always)]
-    fn draw_some(&mut self, ram: &[u8], size: u16, font: &RomSet, span: Span, n: u16) -> u16
+    fn draw_some(&mut self, ram: &[u8], size: u16, font: &Letters, span: Span, n: u16) -> u16
         requires ram { length ram.now ≡ 32768 }
         requires size { IsScreenSize size }
         requires told { (k : ℕ) → k < n → beam_of (clocks k self.old.crtc) ≡ beam_in_span span k }
@@ -446,7 +446,7 @@ impl Screen {
 
     // Draws some of the next characters of a span that is shown, in teletext.
     #[inline(always)]
-    fn draw_text(&mut self, ram: &[u8], size: u16, font: &RomSet, span: Span, n: u16) -> u16
+    fn draw_text(&mut self, ram: &[u8], size: u16, font: &Letters, span: Span, n: u16) -> u16
         requires ram { length ram.now ≡ 32768 }
         requires size { IsScreenSize size }
         requires plain { ArePlain span n self.old }
@@ -550,7 +550,7 @@ impl Screen {
 
     // The beam goes past a character with which neither a line nor a row nor a frame begins or ends.
     #[inline(always)]
-    fn tell_inside(&mut self, ram: &[u8], size: u16, font: &RomSet, beam: &Beam)
+    fn tell_inside(&mut self, ram: &[u8], size: u16, font: &Letters, beam: &Beam)
         requires ram { length ram.now ≡ 32768 }
         requires size { IsScreenSize size }
         requires inside { (beam.now.line_start ≡ false) × (beam.now.frame_end ≡ false) × (beam.now.row_end ≡ false) × (beam.now.restart ≡ false) }
@@ -586,7 +586,7 @@ impl Screen {
 
     // A character that is not shown draws nothing.
     #[inline(always)]
-    fn show(&mut self, ram: &[u8], size: u16, font: &RomSet, beam: &Beam)
+    fn show(&mut self, ram: &[u8], size: u16, font: &Letters, beam: &Beam)
         requires ram { length ram.now ≡ 32768 }
         requires size { IsScreenSize size }
         ensures { self.new ≡ show_leaves ram.now size font.now.font beam.now self.old }
@@ -598,7 +598,7 @@ impl Screen {
 
     // Draws a character that is shown.
     #[inline(always)]
-    fn draw(&mut self, ram: &[u8], size: u16, font: &RomSet, beam: &Beam)
+    fn draw(&mut self, ram: &[u8], size: u16, font: &Letters, beam: &Beam)
         requires ram { length ram.now ≡ 32768 }
         requires size { IsScreenSize size }
         ensures { self.new ≡ draw_leaves ram.now size font.now.font beam.now self.old }
@@ -624,7 +624,7 @@ impl Screen {
     }
 
     #[inline(never)]
-    fn draw_cell(&mut self, font: &RomSet, code: u8, ra: u8, fields: u32, marked: bool)
+    fn draw_cell(&mut self, font: &Letters, code: u8, ra: u8, fields: u32, marked: bool)
         requires { code < 128 }
         ensures { self.new ≡ cell_drawn_on font.now.font code ra fields marked self.old }
     {
@@ -637,7 +637,7 @@ impl Screen {
 
     // The cell of a control code, out of the way of the others.
     #[inline(never)]
-    fn draw_control(&mut self, font: &RomSet, code: u8, ra: u8, fields: u32, marked: bool)
+    fn draw_control(&mut self, font: &Letters, code: u8, ra: u8, fields: u32, marked: bool)
         requires { code < 128 }
         ensures { self.new ≡ cell_drawn_on font.now.font code ra fields marked self.old }
     {
@@ -645,7 +645,7 @@ impl Screen {
     }
 
     #[inline(always)]
-    fn draw_code(&mut self, font: &RomSet, code: u8, ra: u8, fields: u32, marked: bool)
+    fn draw_code(&mut self, font: &Letters, code: u8, ra: u8, fields: u32, marked: bool)
         requires { code < 128 }
         ensures { self.new ≡ cell_drawn_on font.now.font code ra fields marked self.old }
     {

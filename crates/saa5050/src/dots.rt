@@ -5,6 +5,7 @@ ghost use Rattle.saa5050.specs.Shapes.{letter_row, near_row, rounded_dot, letter
 ghost use Rattle.saa5050.specs.CodeDots.{IsLine, doubled_dot, columns};
 ghost use Rattle.beeb_bits.specs.Bits.{bit};
 
+use crate::letters::Letters;
 use crate::style::{Shape, Style};
 use beeb_bits::bit;
 use rom_set::RomSet;
@@ -22,7 +23,6 @@ static DOUBLED: [u16; 64] = [
 ];
 
 // A row of a letter's dots. Those outside 0 to 9 are blank.
-#[inline(always)]
 fn letter_row(font: &RomSet, code: u8, row: u8) -> u8
     requires code { (0x20 ≤ code) × (code ≤ 0x7F) }
     ensures { result ≡ letter_row font.now.font code row }
@@ -31,7 +31,6 @@ fn letter_row(font: &RomSet, code: u8, row: u8) -> u8
 }
 
 // The row of a letter's dots that a line is rounded by.
-#[inline(always)]
 fn near_row(font: &RomSet, code: u8, line: u8) -> u8
     requires code { (0x20 ≤ code) × (code ≤ 0x7F) }
     ensures { result ≡ near_row font.now.font code line }
@@ -47,7 +46,6 @@ fn near_row(font: &RomSet, code: u8, line: u8) -> u8
 }
 
 // The dots of a row, each of them twice.
-#[inline(always)]
 fn doubled(row: u8) -> u16
     ensures line { IsLine result (doubled_dot row) }
     ensures bound { result < 4096 }
@@ -57,7 +55,6 @@ fn doubled(row: u8) -> u16
 
 // A row of dots, rounded by the row near it. The half dot to the side is of the same dot or of the next: of the same dot, it changes
 // nothing, so that all twelve are done at once.
-#[inline(always)]
 fn rounded(row: u8, near: u8) -> u16
     ensures { IsLine result (rounded_dot row near) }
 {
@@ -117,9 +114,8 @@ fn sixel(code: u8, separated: bool, line: u8) -> u16
     }
 }
 
-// A line of a letter.
-#[inline(always)]
-fn letter(font: &RomSet, code: u8, line: u8) -> u16
+/// A line of a letter, made of the rows of the font.
+pub(crate) fn rounded_line(font: &RomSet, code: u8, line: u8) -> u16
     requires code { (0x20 ≤ code) × (code ≤ 0x7F) }
     ensures { IsLine result (letter_dot font.now.font code line) }
 {
@@ -131,7 +127,7 @@ fn letter(font: &RomSet, code: u8, line: u8) -> u16
 #[inline(always)]
 pub(crate) fn half_dots(
     style: &Style,
-    font: &RomSet,
+    font: &Letters,
     code: u8,
     ra: u8,
     bottom: bool,
@@ -143,13 +139,13 @@ pub(crate) fn half_dots(
     if style.is_special(code, ra, bottom) {
         special_dots(style, font, code, ra, bottom, fields)
     } else {
-        letter(font, code, ra)
+        font.line(code, ra)
     }
 }
 
 // The half dots of any cell.
 #[inline(always)]
-fn special_dots(style: &Style, font: &RomSet, code: u8, ra: u8, bottom: bool, fields: u32) -> u16
+fn special_dots(style: &Style, font: &Letters, code: u8, ra: u8, bottom: bool, fields: u32) -> u16
     requires { code < 0x80 }
     ensures { IsLine result (cell_dot font.now.font code ra bottom fields style.now) }
 {
@@ -159,7 +155,7 @@ fn special_dots(style: &Style, font: &RomSet, code: u8, ra: u8, bottom: bool, fi
     let line = style.line(ra, bottom);
     match style.shape(code) {
         Shape::Blank => 0,
-        Shape::Letter(code) => letter(font, code, line),
+        Shape::Letter(code) => font.line(code, line),
         Shape::Graphic(block) => sixel(block.code, block.separated, line),
     }
 }

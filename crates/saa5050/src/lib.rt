@@ -4,8 +4,10 @@
 
 mod dots;
 mod law;
+mod letters;
 mod row;
 mod style;
 
 pub use law::row_is_fold;
+pub use letters::Letters;
 pub use row::RowState;

@@ -3,8 +3,8 @@ ghost use Rattle.std.specs.Prelude.{◌≡◌, ◌≤◌, ◌<◌};
 ghost use Rattle.saa5050.specs.Row.{row_start, row_after, cell, styled_cell};
 
 use crate::dots::{half_dots, pixels};
+use crate::letters::Letters;
 use crate::style::Style;
-use rom_set::RomSet;
 use std::marker::Model;
 
 /// What the codes of a teletext row so far leave for its cells to come.
@@ -26,7 +26,7 @@ impl Model for RowState {
 #[inline(always)]
 fn styled_cell(
     style: &Style,
-    font: &RomSet,
+    font: &Letters,
     code: u8,
     ra: u8,
     bottom: bool,
@@ -55,7 +55,7 @@ impl RowState {
     #[inline(always)]
     pub fn put(
         &mut self,
-        font: &RomSet,
+        font: &Letters,
         code: u8,
         ra: u8,
         bottom: bool,
@@ -78,7 +78,7 @@ impl RowState {
     #[tactic(auto, using(crate::proofs::Codes::in_two_parts))]
     fn put_control(
         &mut self,
-        font: &RomSet,
+        font: &Letters,
         code: u8,
         ra: u8,
         bottom: bool,
@@ -100,7 +100,7 @@ impl RowState {
     #[tactic(auto, using(crate::proofs::Codes::kept_in_its_cell, crate::proofs::Codes::none_for_double))]
     fn put_character(
         &mut self,
-        font: &RomSet,
+        font: &Letters,
         code: u8,
         ra: u8,
         bottom: bool,

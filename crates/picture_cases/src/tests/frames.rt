@@ -3,6 +3,7 @@ ghost use Rattle.raster.specs.Beam.{IsScreenSize};
 
 use raster::{Frame, Raster, reads_go_on, stores_below_are_unseen};
 use rom_set::RomSet;
+use saa5050::Letters;
 use std::alloc::Global;
 use std::process::Abort;
 use std::test::Fail;
@@ -55,12 +56,13 @@ fn screen_size(kilobytes: u8) -> u16
 struct Scene {
     raster: Raster,
     ram: Vec<u8>,
-    roms: RomSet,
+    letters: Letters,
 }
 
-fn roms(alloc: Global) -> Result<RomSet, Fail> {
+fn letters(alloc: Global) -> Result<Letters, Fail> {
     let os = vec![in alloc; 0; 16_384]?;
-    Ok(RomSet::read(os, Vec::new(alloc), None)?)
+    let roms = RomSet::read(os, Vec::new(alloc), None)?;
+    Ok(Letters::make(alloc, roms)?)
 }
 
 fn program(raster: &mut Raster, registers: &[u8; 16], control: u8) {
@@ -74,11 +76,15 @@ fn program(raster: &mut Raster, registers: &[u8; 16], control: u8) {
 impl Scene {
     /// A raster with these registers of the 6845 and this control byte, over a RAM of zeros.
     fn make(alloc: Global, registers: &[u8; 16], control: u8) -> Result<Scene, Fail> {
-        let roms = roms(alloc)?;
+        let letters = letters(alloc)?;
         let ram = vec![in alloc; 0; 32_768]?;
         let mut raster = Raster::make(alloc)?;
         program(&mut raster, registers, control);
-        Ok(Scene { raster, ram, roms })
+        Ok(Scene {
+            raster,
+            ram,
+            letters,
+        })
     }
 
     fn poke(&mut self, at: usize, bytes: &[u8]) {
@@ -106,20 +112,20 @@ impl Scene {
     fn advance(&mut self, kilobytes: u8, n: u64) {
         if self.ram.len() == 32_768 {
             self.raster
-                .advance(&self.ram, screen_size(kilobytes), &self.roms, n);
+                .advance(&self.ram, screen_size(kilobytes), &self.letters, n);
         }
     }
 
     fn step(&mut self, kilobytes: u8) {
         if self.ram.len() == 32_768 {
             self.raster
-                .step(&self.ram, screen_size(kilobytes), &self.roms);
+                .step(&self.ram, screen_size(kilobytes), &self.letters);
         }
     }
 
     fn char_clock(&mut self) {
         if self.ram.len() == 32_768 {
-            self.raster.char_clock(&self.ram, 16_384, &self.roms);
+            self.raster.char_clock(&self.ram, 16_384, &self.letters);
         }
     }
 
@@ -516,7 +522,7 @@ fn a_raster_at_rest_does_many_microseconds_at_once(rt: HostRuntime) -> Result<()
     let mut scene = Scene {
         raster: Raster::make(rt.alloc())?,
         ram: vec![in rt.alloc(); 0; 32_768]?,
-        roms: roms(rt.alloc())?,
+        letters: letters(rt.alloc())?,
     };
     scene.poke(0x5800, &[0xa5]);
     scene.advance(16, 2_000);

@@ -1,6 +1,6 @@
 //! Rows of codes, and the colours of their cells.
 use rom_set::RomSet;
-use saa5050::{RowState, row_is_fold};
+use saa5050::{Letters, RowState, row_is_fold};
 use std::alloc::Global;
 use std::test::Fail;
 use std::vec::Vec;
@@ -31,17 +31,18 @@ fn put_shape(bytes: &mut Vec<u8>, line: &str) {
     }
 }
 
-fn font(alloc: Global) -> Result<RomSet, Fail> {
+fn font(alloc: Global) -> Result<Letters, Fail> {
     let mut bytes = vec![in alloc; 0; 960]?;
     for line in SHAPES.lines() {
         put_shape(&mut bytes, line);
     }
-    roms(alloc, Some(bytes))
+    letters(alloc, Some(bytes))
 }
 
-fn roms(alloc: Global, font: Option<Vec<u8>>) -> Result<RomSet, Fail> {
+fn letters(alloc: Global, font: Option<Vec<u8>>) -> Result<Letters, Fail> {
     let os = vec![in alloc; 0; 16_384]?;
-    Ok(RomSet::read(os, Vec::new(alloc), font)?)
+    let roms = RomSet::read(os, Vec::new(alloc), font)?;
+    Ok(Letters::make(alloc, roms)?)
 }
 
 // A line of a row: the scan line, whether it is of a bottom row, and the number of fields.
@@ -53,7 +54,7 @@ struct Line {
 }
 
 // The colours of eight cells that have one colour each, or 9 for one that has more.
-fn colours(font: &RomSet, codes: [u8; 8], line: Line) -> [u8; 8] {
+fn colours(font: &Letters, codes: [u8; 8], line: Line) -> [u8; 8] {
     let mut row = RowState::start();
     let mut colours = [9; 8];
     for (colour, code) in colours.iter_mut().zip(codes) {
@@ -75,7 +76,7 @@ fn colours(font: &RomSet, codes: [u8; 8], line: Line) -> [u8; 8] {
 }
 
 // The pixels of the last of three cells that are not black, the leftmost as the highest bit.
-fn lit(font: &RomSet, codes: [u8; 3], ra: u8, bottom: bool) -> u16 {
+fn lit(font: &Letters, codes: [u8; 3], ra: u8, bottom: bool) -> u16 {
     let mut row = RowState::start();
     let mut cell = [0; 16];
     for code in codes {
@@ -89,7 +90,7 @@ fn lit(font: &RomSet, codes: [u8; 3], ra: u8, bottom: bool) -> u16 {
 }
 
 // The colours of the cells of these codes, as digits, in one line of a row.
-fn are_cells(font: &RomSet, codes: &[u8], ra: u8, cells: &str) -> bool {
+fn are_cells(font: &Letters, codes: &[u8], ra: u8, cells: &str) -> bool {
     let mut row = RowState::start();
     for (code, digits) in codes.iter().zip(cells.split(' ')) {
         let mut cell = [9; 16];
@@ -115,7 +116,7 @@ const GAP: &str =
 
 #[test]
 fn held_and_separated_graphics_of_double_height(rt: HostRuntime) -> Result<(), Fail> {
-    let font = roms(rt.alloc(), None)?;
+    let font = letters(rt.alloc(), None)?;
     let codes = [0x0d, 0x11, 0x1a, 0x7f, 0x1e, 0x12, 0x1d];
     assert!(rt; are_cells(&font, &codes, 0, DOTS));
     assert!(rt; are_cells(&font, &codes, 8, GAP));
@@ -332,7 +333,7 @@ const DRAWN: &str = "\
 ";
 
 // Whether a shape is drawn as its line says.
-fn is_drawn(font: &RomSet, line: &str) -> Option<bool> {
+fn is_drawn(font: &Letters, line: &str) -> Option<bool> {
     let mut words = line.split(' ');
     let codes = [
         number(words.next()?),
@@ -353,7 +354,7 @@ fn shapes_are_drawn_by_half_dots(rt: HostRuntime) -> Result<(), Fail> {
             assert!(rt; is_drawn(&font, line) == Some(true), "{line}");
         }
     }
-    let blank = roms(rt.alloc(), None)?;
+    let blank = letters(rt.alloc(), None)?;
     assert_eq!(rt; lit(&blank, [0x20, 0x20, 0x41], 0, false), 0);
     Ok(())
 }
@@ -361,7 +362,7 @@ fn shapes_are_drawn_by_half_dots(rt: HostRuntime) -> Result<(), Fail> {
 #[test]
 fn a_row_tells_whether_it_had_double_height(rt: HostRuntime) -> Result<(), Fail> {
     row_is_fold();
-    let font = roms(rt.alloc(), None)?;
+    let font = letters(rt.alloc(), None)?;
     let mut row = RowState::start();
     assert!(rt; !row.had_double());
     for (code, want) in [(0x0c, false), (0x4d, false), (0x0d, true), (0x0c, true)] {

@@ -12,7 +12,7 @@ use Rattle.host_bus.proofs.board.go_on.Goals as goal
 pub returns-then-k-playback-clause-ticks : goal.returns-then-k-playback-clause-ticks
 returns-then-k-playback-clause-ticks c =
     let p = c.args.playback.now in
-    beaten c.args.clock c.args.ram.now c.args.roms.now.font p c.beats-n.result c.args.k c.args.t c.min-then-k-playback.result (drawn c.args.ram.now c.args.roms.now.font c.args.devices.now) (drawn c.args.ram.now c.args.roms.now.font c.advance.new.self)
+    beaten c.args.clock c.args.ram.now c.args.letters.now.font p c.beats-n.result c.args.k c.args.t c.min-then-k-playback.result (drawn c.args.ram.now c.args.letters.now.font c.args.devices.now) (drawn c.args.ram.now c.args.letters.now.font c.advance.new.self)
     c.requires.played (c.requires.begins c.if-k-playback.true) c.if-k-playback.true c.requires.due
     (rw c.min.ensures at c.beats-n.ensures.all) (rw c.min.ensures at c.beats-n.ensures.no_more)
     (rw c.micro.ensures.value at c.min-then-k-playback.ensures) c.advance.ensures
@@ -36,9 +36,9 @@ returns-else-k-playback-clause-ticks c =
     let done = c.tick_with_events.ensures in
     let p = c.tick_with_events.new.playback in
     let to = min c.args.t c.tick_with_events.result in
-    let a = around_by c.args.clock c.args.ram.now c.args.roms.now.font c.args.playback.now.script in
+    let a = around_by c.args.clock c.args.ram.now c.args.letters.now.font c.args.playback.now.script in
     let past : k + 1 ≤ c.tick_with_events.result = omega (arith, done.next.first, done.next.least, done.played.early) in
-    with-events a k p.event to (keys_of p.keys) p.levels (drawn c.args.ram.now c.args.roms.now.font c.args.devices.now) (drawn c.args.ram.now c.args.roms.now.font c.tick_with_events.new.devices)
+    with-events a k p.event to (keys_of p.keys) p.levels (drawn c.args.ram.now c.args.letters.now.font c.args.devices.now) (drawn c.args.ram.now c.args.letters.now.font c.tick_with_events.new.devices)
     c.args.playback.now.shots.frames p.shots.frames
     (keys-stay p (k + 1) k done.played (omega arith) (omega (arith, done.played.early)) ∙ ap (λ (script : List Event). keys_at k script) done.script)
     (levels-stay p (k + 1) k done.played (omega arith) (omega (arith, done.played.early)) ∙ ap (λ (script : List Event). levels_at k script) done.script)

@@ -12,6 +12,6 @@ returns-clause-calm c =
     let few : c.min.result ≤ b.next + c.calm.result * micro b.clock = rw c.micro.ensures.value at most in
     let early : c.min.result ≤ b.playback.event = omega (arith, c.min.ensures) in
     subst (λ (s : BoardState). IsCalm c.min.result s) c.self.view_is (record {
-      irq = λ t low. (calm-lines b c.calm.result t c.self.invariant (c.calm.ensures b.ram.items b.roms.font) (omega (arith, low, early)) (omega (arith, low, few))).0;
-      nmis = λ t low. (calm-lines b c.calm.result t c.self.invariant (c.calm.ensures b.ram.items b.roms.font) (omega (arith, low, early)) (omega (arith, low, few))).1;
+      irq = λ t low. (calm-lines b c.calm.result t c.self.invariant (c.calm.ensures b.ram.items b.letters.font) (omega (arith, low, early)) (omega (arith, low, few))).0;
+      nmis = λ t low. (calm-lines b c.calm.result t c.self.invariant (c.calm.ensures b.ram.items b.letters.font) (omega (arith, low, early)) (omega (arith, low, few))).1;
     })

@@ -33,10 +33,10 @@ loop-next-preserved c =
     let same : min c.go_on-next.result c.args.t ≡ u = omega arith in
     let here : next ≡ min next c.args.t = omega (arith, c.loop-next-test.true) in
     let past : next ≤ u = omega (arith, c.loop-next-test.true, done.on) in
-    let moved = subst (λ (k : ℕ). moving (drawn b.ram.items b.roms.font c.go_on-next.new.devices) p.shots.frames ≡ ticks (around (board_seen b)) (u - k) k (moving_part (board_seen b))) here done.ticks in
+    let moved = subst (λ (k : ℕ). moving (drawn b.ram.items b.letters.font c.go_on-next.new.devices) p.shots.frames ≡ ticks (around (board_seen b)) (u - k) k (moving_part (board_seen b))) here done.ticks in
     let went : board_seen (record b { playback = p; devices = c.go_on-next.new.devices; closed = u }) ≡ board_closed (board_seen b) u =
-    ap (λ (script : List Event). let s : BoardState = record (board_seen b) { script = script; breaks = breaks_before b.breaks.place script; devices = drawn b.ram.items b.roms.font c.go_on-next.new.devices; shots = p.shots.frames; closed = u } in s) done.script
-    ∙ gone (board_seen b) u (moving (drawn b.ram.items b.roms.font c.go_on-next.new.devices) p.shots.frames) (omega (arith, past, here)) moved in
+    ap (λ (script : List Event). let s : BoardState = record (board_seen b) { script = script; breaks = breaks_before b.breaks.place script; devices = drawn b.ram.items b.letters.font c.go_on-next.new.devices; shots = p.shots.frames; closed = u } in s) done.script
+    ∙ gone (board_seen b) u (moving (drawn b.ram.items b.letters.font c.go_on-next.new.devices) p.shots.frames) (omega (arith, past, here)) moved in
     rw same (record {
       valid = record {
         memory = valid.memory;

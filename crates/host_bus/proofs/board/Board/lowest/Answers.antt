@@ -9,4 +9,4 @@ returns c =
     let b = c.self.inside in
     let d = b.devices.devices in
     subst (λ (s : BoardState). ReadsAbove c.lowest.result s) c.self.view_is
-    (c.reads_go_on.ensures c.lowest.result (screen_size d.latch) b.devices.owed b.ram.items b.roms.font d.video c.lowest.ensures)
+    (c.reads_go_on.ensures c.lowest.result (screen_size d.latch) b.devices.owed b.ram.items b.letters.font d.video c.lowest.ensures)

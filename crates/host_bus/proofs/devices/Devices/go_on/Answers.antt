@@ -29,7 +29,7 @@ pub returns-clause-rest : goal.returns-clause-rest
 returns-clause-rest c =
     let b = c.self.inside in
     let ram = c.args.ram.now in
-    let font = c.args.roms.now.font in
+    let font = c.args.letters.now.font in
     let now : Devices = record { video = b.video; disc = b.disc; latch = b.latch.bits; converter = b.converter; system = b.system; user = b.user } in
     let behind : Behind = record { devices = now; owed = b.owed } in
     let d = drawn ram font behind in
@@ -53,7 +53,7 @@ returns-clause-rest c =
 pub returns-then-self-eq0-clause-rest : goal.returns-then-self-eq0-clause-rest
 returns-then-self-eq0-clause-rest c =
     let ram = c.args.ram.now in
-    let font = c.args.roms.now.font in
+    let font = c.args.letters.now.font in
     let keys = keys_of c.args.keys.now in
     let all : suc (c.args.n - 1) ≡ c.args.n = omega (arith, c.requires.some) in
     ap (λ (x : Devices). microseconds ram font keys c.args.levels (c.args.n - 1) x) c.step.ensures

@@ -1,0 +1,7 @@
+use Rattle.std.proofs.Common.{◌≡◌, length}
+use Rattle.saa5050.specs.CodeLetters.{HasLines}
+use Rattle.saa5050.proofs.letters.all_lines.Given as goal
+
+-- so far
+abbrev pub invariant-loop-i : goal.invariant-loop-i
+invariant-loop-i l = (length l.lines.items ≡ 1920) × HasLines l.roms.font l.lines.items l.i
