@@ -28,14 +28,26 @@ const BREAK: &[u8] = b"at 48000 break\n";
 
 const BREAK_AT_4: &[u8] = b"at 93000 break\n";
 
+fn keys(clock: Clock) -> &'static [u8] {
+    match clock {
+        Clock::Three => KEYS,
+        Clock::Four => KEYS_AT_4,
+    }
+}
+
+fn a_break(clock: Clock) -> &'static [u8] {
+    match clock {
+        Clock::Three => BREAK,
+        Clock::Four => BREAK_AT_4,
+    }
+}
+
 // What happens in the course of a program.
 fn events(chance: &mut Chance, clock: Clock) -> &'static [u8] {
-    match (chance.below(8), clock) {
-        (0, _) => b"",
-        (1, Clock::Three) => BREAK,
-        (1, Clock::Four) => BREAK_AT_4,
-        (_, Clock::Three) => KEYS,
-        (_, Clock::Four) => KEYS_AT_4,
+    match chance.below(8) {
+        0 => &[],
+        1 => a_break(clock),
+        _ => keys(clock),
     }
 }
 

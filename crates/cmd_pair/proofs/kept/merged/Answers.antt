@@ -12,3 +12,6 @@ pub returns-in-Ok : goal.returns-in-Ok
 returns-in-Ok c = λ n list first.
     of_both_sides list c.args.keep c.args.host.now c.args.para.now c.in-Ok.kept.items c.rising_list_is_merge.ensures first.trace.rises
     first.host_is first.para_is c.in-Ok.ensures.merged
+
+pub returns-in-Err : goal.returns-in-Err
+returns-in-Err c = tt
