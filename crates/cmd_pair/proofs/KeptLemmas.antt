@@ -18,6 +18,7 @@ use Rattle.tube_trace.specs.declared.Entry.{Entry}
 use Rattle.tube_trace.specs.Entries.{IsEntry, entry_of, event_of, events_of, accesses}
 use Rattle.tube_trace.specs.Merge.{IsOfSide}
 use Rattle.tube_trace.specs.Text.{HasLine, IsAnswer}
+use Rattle.tube_party.specs.declared.one_thread.Done.{Done}
 use Rattle.tube_party.specs.Reference.{World, IsTraceBelow}
 use Rattle.host_mach.specs.State.{HostState}
 use Rattle.para_mach.specs.State.{ParaState}
@@ -28,6 +29,7 @@ use Rattle.beeb_outcome.specs.Left.{Kept}
 use Rattle.beeb_outcome.specs.Verdicts.{machine_verdict, both_left}
 use Rattle.cmd_pair.specs.Save.{saved_of}
 use Rattle.cmd_pair.specs.Solo.{kept_of, kept_verdict}
+use Rattle.cmd_pair.specs.Code.{AreFirst, AreKept, AreFiles}
 
 -- ---- taking of merged lists
 
@@ -267,25 +269,25 @@ few_counted n list host para most is is_host is_para =
     let few = few_all n (accesses list) is.below is.rises in
     omega (arith, all, few, most)
 
+-- what is kept of both sides, as they are handed on
+pub first_of : {H P : Type 0} (n : ℕ) (list : List Event) (keep : ℕ) (d : Done H P) (host para : List Entry) → AreKept n list keep d → host ≡ d.host_list.items → para ≡ d.para_list.items →
+    AreFirst n list keep host para
+first_of n list keep d host para kept is_host is_para =
+    record { most = kept.most; trace = kept.trace; host_is = is_host ∙ kept.host_kept.list_is; para_is = is_para ∙ kept.para_kept.list_is }
+
 -- ---- the verdict
 
-pub kept_is : (clock : Clock) (begun : Option Session) (ticks keep : ℕ) (names : Names) (w : World HostState ParaState) (host : HostState) (para : ParaState) (host_count para_count : ℕ)
-    (entries : List Entry) (kept : Kept) (saved : Option (List ℕ)) →
-    host ≡ w.host → para ≡ w.para → host_count ≡ length (accesses (of_side Host w.list)) → para_count ≡ length (accesses (of_side Para w.list)) →
-    entries ≡ take keep (accesses w.list) → kept ≡ kept_of clock entries →
-    saved ≡ option_map (λ (b : Session). file_of (saved_of b ticks (nat_le (host_count + para_count) keep) entries)) begun →
-    machine_verdict (both_left clock ticks (host_count + para_count) names host para kept saved) ≡ kept_verdict clock begun ticks keep names w
+pub kept_is : (clock : Clock) (begun : Option Session) (ticks keep : ℕ) (names : Names) (w : World HostState ParaState) (host : HostState) (para : ParaState) (tube : ℕ)
+    (kept : Kept) (saved : Option (List ℕ)) → host ≡ w.host → para ≡ w.para → tube ≡ length (accesses w.list) → AreFiles clock begun ticks keep tube w.list kept saved →
+    machine_verdict (both_left clock ticks tube names host para kept saved) ≡ kept_verdict clock begun ticks keep names w
 unfolding kept_verdict
-kept_is clock begun ticks keep names w host para host_count para_count entries kept saved is_host is_para h p first is_kept is_saved =
-    let many : host_count + para_count ≡ length (accesses w.list) = counted w.list host_count para_count h p in
-    ap (λ (x : HostState). machine_verdict (both_left clock ticks (host_count + para_count) names x para kept saved)) is_host
-    ∙ ap (λ (x : ParaState). machine_verdict (both_left clock ticks (host_count + para_count) names w.host x kept saved)) is_para
-    ∙ ap (λ (x : Kept). machine_verdict (both_left clock ticks (host_count + para_count) names w.host w.para x saved)) is_kept
-    ∙ ap (λ (x : Option (List ℕ)). machine_verdict (both_left clock ticks (host_count + para_count) names w.host w.para (kept_of clock entries) x)) is_saved
-    ∙ ap (λ (x : ℕ). machine_verdict (both_left clock ticks x names w.host w.para (kept_of clock entries)
-    (option_map (λ (b : Session). file_of (saved_of b ticks (nat_le x keep) entries)) begun))) many
-    ∙ ap (λ (xs : List Entry). machine_verdict (both_left clock ticks (length (accesses w.list)) names w.host w.para (kept_of clock xs)
-    (option_map (λ (b : Session). file_of (saved_of b ticks (nat_le (length (accesses w.list)) keep) xs)) begun))) first
+kept_is clock begun ticks keep names w host para tube kept saved is_host is_para many files =
+    ap (λ (x : HostState). machine_verdict (both_left clock ticks tube names x para kept saved)) is_host
+    ∙ ap (λ (x : ParaState). machine_verdict (both_left clock ticks tube names w.host x kept saved)) is_para
+    ∙ ap (λ (x : Kept). machine_verdict (both_left clock ticks tube names w.host w.para x saved)) files.kept_is
+    ∙ ap (λ (x : Option (List ℕ)). machine_verdict (both_left clock ticks tube names w.host w.para (kept_of clock (take keep (accesses w.list))) x)) files.saved_is
+    ∙ ap (λ (x : ℕ). machine_verdict (both_left clock ticks x names w.host w.para (kept_of clock (take keep (accesses w.list)))
+    (option_map (λ (b : Session). file_of (saved_of b ticks (nat_le x keep) (take keep (accesses w.list)))) begun))) many
 
 -- what is so of a view is so of each run
 pub for_each : {X E V : Type 0} (r : Result X E) (view : X → V) (v : V) (P : HostState → ParaState → Type 0) (w : HostState → ParaState → V) → IfOk r (λ x. view x ≡ v) →

@@ -10,7 +10,7 @@ ghost use Rattle.save_state.specs.File.{IsSession, file_of};
 ghost use Rattle.beeb_outcome.specs.View.{items, kept_seen, names_seen, verdict_of};
 ghost use Rattle.cmd_pair.specs.Save.{saved_of};
 ghost use Rattle.cmd_pair.specs.Solo.{kept_of, kept_verdict};
-ghost use Rattle.cmd_pair.specs.Code.{AreFirst, IsRun};
+ghost use Rattle.cmd_pair.specs.Code.{AreFiles, AreFirst, AreKept, IsRun};
 ghost use Rattle.host_mach.specs.State.{HostState};
 ghost use Rattle.para_mach.specs.State.{ParaState};
 
@@ -79,6 +79,79 @@ fn saved_in(
     }
 }
 
+// What is kept of the accesses of a run, of which these are the first of each side and which are so many in all, and the session file, if it is to
+// be saved.
+fn kept_and_saved(
+    alloc: Global,
+    clock: Clock,
+    begun: Option<Saved>,
+    n: Tick,
+    keep: u32,
+    tube: u64,
+    host: &[Entry],
+    para: &[Entry],
+) -> Result<(Kept, Option<Vec<u8>>), AllocError>
+    requires ticks { n.0 ≤ MOST }
+    requires keep { keep ≤ 4194304 }
+    requires begun { IfSome begun (λ b. IsSession (session b)) }
+    requires first { (list : List Event) × AreFirst n.0 list keep host.now para.now }
+    ensures { let start = option_map session begun in
+        IfOk result (λ r. (list : List Event) → AreFirst n.0 list keep host.now para.now →
+        AreFiles clock start n.0 keep tube list (kept_seen r.0) (option_map items r.1)) }
+{
+    let entries = merged(alloc, host, para, keep)?;
+    let kept = kept_of(alloc, clock, &entries)?;
+    let saved = saved_in(alloc, begun, n, tube <= u64::from(keep), entries)?;
+    Ok((kept, saved))
+}
+
+// Two parties where their run ended, the number of their accesses, what is kept of these, and the session file, if it is to be saved.
+struct Parts<H, P> {
+    host: H,
+    para: P,
+    tube: u64,
+    kept: Kept,
+    saved: Option<Vec<u8>>,
+}
+
+// What a run of so many ticks left of two parties. It knows neither, since a proof over any two parties goes through no machine's parts.
+fn ended<H: Drop, P: Drop>(
+    alloc: Global,
+    clock: Clock,
+    begun: Option<Saved>,
+    done: Done<H, P>,
+    n: Tick,
+    keep: u32,
+) -> Result<Parts<H, P>, AllocError>
+    requires ticks { n.0 ≤ MOST }
+    requires keep { keep ≤ 4194304 }
+    requires begun { IfSome begun (λ b. IsSession (session b)) }
+    requires kept { (list : List Event) × AreKept n.0 list keep done }
+    ensures parties { IfOk result (λ e. (e.host ≡ done.host) × (e.para ≡ done.para)) }
+    ensures files { let start = option_map session begun in
+        IfOk result (λ e. (list : List Event) → AreKept n.0 list keep done →
+        (e.tube ≡ length (accesses list)) × AreFiles clock start n.0 keep e.tube list (kept_seen e.kept) (option_map items e.saved)) }
+{
+    let Done {
+        host,
+        para,
+        host_list,
+        para_list,
+        host_count,
+        para_count,
+        ..
+    } = done;
+    let tube = host_count + para_count;
+    let (kept, saved) = kept_and_saved(alloc, clock, begun, n, keep, tube, &host_list, &para_list)?;
+    Ok(Parts {
+        host,
+        para,
+        tube,
+        kept,
+        saved,
+    })
+}
+
 /// What comes of both machines where their run ended, of whose accesses the first `keep` are kept, and which began so, if it is to be saved.
 pub fn kept_outcome<'a, D: BusDevice>(
     alloc: Global,
@@ -98,18 +171,21 @@ pub fn kept_outcome<'a, D: BusDevice>(
         verdict_of D.plug outcome ≡ verdict (reference host_moves para_moves s t ticks)) }
 {
     reference_is_trace::<HostMachine<D>, ParaMachine>();
-    let entries = merged(alloc, &done.host_list, &done.para_list, keep)?;
-    let kept = kept_of(alloc, clock, &entries)?;
-    let tube = done.host_count + done.para_count;
-    let saved = saved_in(alloc, begun, Tick(ticks), tube <= u64::from(keep), entries)?;
-    let host = done.host.settled();
+    let parts = ended(alloc, clock, begun, done, Tick(ticks), keep)?;
+    let Parts {
+        host,
+        para,
+        tube,
+        kept,
+        saved,
+    } = parts;
     let left = Left {
         names,
         clock,
         ticks: Tick(ticks),
         tube,
-        host: Some(host),
-        para: Some(done.para),
+        host: Some(host.settled()),
+        para: Some(para),
         kept: Some(kept),
         saved,
         bytes: Vec::new(alloc),
