@@ -8,8 +8,8 @@ use Rattle.beeb_words.specs.Given.{Values, clock_of}
 use Rattle.host_mach.specs.Step.{host_moves}
 use Rattle.para_mach.specs.Step.{para_moves}
 use Rattle.follow.specs.Machines.{host_sight, para_sight}
-use Rattle.cmd_replay.specs.Host.{host_of}
-use Rattle.cmd_replay.specs.Para.{para_of}
+use Rattle.replay_outcome.specs.Host.{host_of}
+use Rattle.replay_outcome.specs.Para.{para_of}
 use Rattle.op_table.specs.declared.names.Part.TheVariants.{Nmos, Cmos}
 use Rattle.beeb_stages.specs.Plan.{Verdict, or_stop, ◌>>=◌}
 use Rattle.beeb_stages.specs.Promise.{World, CarriesOut, put_all}
@@ -34,8 +34,8 @@ use Rattle.power_on.specs.Inputs.{inputs_of}
 use Rattle.power_on.specs.Setup.{setup_of}
 use Rattle.beeb_outcome.specs.Names.{names_of}
 use Rattle.beeb_outcome.specs.Verdicts.{machine_verdict}
-use Rattle.cmd_replay.specs.Replay.{unless_wrong}
-use Rattle.cmd_pair.specs.Solo.{kept_verdict}
+use Rattle.replay_outcome.specs.Replay.{unless_wrong}
+use Rattle.pair_outcome.specs.Kept.{kept_verdict}
 use Rattle.cmd_follow.specs.Follow.{listed_verdict, listed_by, listed_ended, follow_host_after, follow_para_after}
 use Rattle.beeb_top.specs.Plans.{plan, choice_of}
 use Rattle.beeb_top.specs.Commands.{EndsWith}

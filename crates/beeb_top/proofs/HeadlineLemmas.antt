@@ -31,7 +31,8 @@ use Rattle.power_on.specs.Inputs.{Inputs, inputs_of}
 use Rattle.power_on.specs.Machines.{machines_of}
 use Rattle.power_on.specs.Sessions.{begun_if}
 use Rattle.beeb_outcome.specs.Names.{names_of}
-use Rattle.cmd_pair.specs.Solo.{kept_verdict, solo_after}
+use Rattle.pair_outcome.specs.Kept.{kept_verdict}
+use Rattle.cmd_pair.specs.Solo.{solo_after}
 use Rattle.beeb_outcome.specs.Verdicts.{machine_verdict}
 
 pub say_nothing : (said : Option (List ℕ)) → say [] said ≡ said

@@ -44,9 +44,12 @@ use Rattle.beeb_outcome.specs.Sound.{sound_bytes}
 use Rattle.beeb_outcome.specs.Files.{file_of, own_name}
 use Rattle.beeb_outcome.specs.Outputs.{if_there, of_host, discs, shots, spills, machine_outputs}
 use Rattle.beeb_outcome.specs.Verdicts.{machine_verdict, both_left, host_left}
-use Rattle.cmd_replay.specs.Replay.{side_count, verdict_of_place, verdict_of_end, unless_wrong}
-use Rattle.cmd_replay.specs.Host.{host_of, host_ended, host_after}
-use Rattle.cmd_pair.specs.Solo.{kept_of, saved_file, kept_verdict, solo_after}
+use Rattle.cmd_replay.specs.Replay.{side_count, verdict_of_end}
+use Rattle.replay_outcome.specs.Replay.{verdict_of_place, unless_wrong}
+use Rattle.replay_outcome.specs.Host.{host_of}
+use Rattle.cmd_replay.specs.Host.{host_ended, host_after}
+use Rattle.pair_outcome.specs.Kept.{kept_of, saved_file, kept_verdict}
+use Rattle.cmd_pair.specs.Solo.{solo_after}
 use Rattle.cmd_session.specs.Session.{state_of, place_of, session_ended, session_after}
 use Rattle.save_state.specs.Saved as sessions
 use Rattle.beeb_top.specs.Plans.{plan}

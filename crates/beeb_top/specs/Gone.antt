@@ -31,9 +31,9 @@ use Rattle.power_on.specs.Setup.{setup_of}
 use Rattle.power_on.specs.Machines.{machines_of}
 use Rattle.power_on.specs.Sessions.{setup_in, inputs_in, begun_if}
 use Rattle.beeb_outcome.specs.Names.{names_of}
-use Rattle.cmd_replay.specs.Host.{host_of}
-use Rattle.cmd_replay.specs.Para.{para_of}
-use Rattle.cmd_pair.specs.Solo.{kept_verdict}
+use Rattle.replay_outcome.specs.Host.{host_of}
+use Rattle.replay_outcome.specs.Para.{para_of}
+use Rattle.pair_outcome.specs.Kept.{kept_verdict}
 use Rattle.cmd_session.specs.Session.{state_of}
 use Rattle.cmd_follow.specs.Follow.{listed_text}
 use Rattle.beeb_top.specs.Heard.{WereRead}

@@ -21,7 +21,7 @@ use Rattle.power_on.specs.Setup.{setup_of}
 use Rattle.power_on.specs.Machines.{machines_of}
 use Rattle.power_on.specs.Sessions.{begun_if}
 use Rattle.beeb_outcome.specs.Names.{names_of}
-use Rattle.cmd_pair.specs.Solo.{kept_verdict}
+use Rattle.pair_outcome.specs.Kept.{kept_verdict}
 
 -- What was written is what the reference run leaves. It names no order in which the steps of two threads fell.
 pub record IsReferenceRun (plugs : List Plug) (ticks keep : ℕ) (out : List ℕ) (given : Values) (old new : World) (files : Files) : Type 0 where

@@ -23,7 +23,7 @@ use Rattle.power_on.specs.Setup.{setup_of}
 use Rattle.power_on.specs.Machines.{machines_of}
 use Rattle.power_on.specs.Sessions.{setup_in, inputs_in}
 use Rattle.beeb_outcome.specs.Sound.{sound_bytes}
-use Rattle.cmd_replay.specs.Host.{host_of}
+use Rattle.replay_outcome.specs.Host.{host_of}
 use Rattle.cmd_session.specs.Session.{state_of}
 
 -- the host of the reference run of both machines from power-on, where it ended, and its clock

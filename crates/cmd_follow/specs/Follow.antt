@@ -24,9 +24,9 @@ use Rattle.beeb_status.specs.declared.status.Cause.{Cause}
 use Rattle.power_on.specs.Inputs.{Inputs}
 use Rattle.power_on.specs.Setup.{Setup}
 use Rattle.beeb_outcome.specs.Verdicts.{listing_verdict}
-use Rattle.cmd_replay.specs.Replay.{verdict_of_place, unless_wrong}
-use Rattle.cmd_replay.specs.Host.{host_of}
-use Rattle.cmd_replay.specs.Para.{para_of}
+use Rattle.replay_outcome.specs.Replay.{verdict_of_place, unless_wrong}
+use Rattle.replay_outcome.specs.Host.{host_of}
+use Rattle.replay_outcome.specs.Para.{para_of}
 
 -- `listed N of M` and a line feed
 unfoldable pub listed_text : ℕ → ℕ → List ℕ

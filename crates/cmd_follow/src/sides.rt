@@ -11,10 +11,10 @@ use beeb_outcome::Outcome;
 use beeb_stages::Refusal;
 use beeb_status::Cause;
 use bus_plug::BusDevice;
-use cmd_replay::{host_made, para_made};
 use follow::Choice;
 use op_table::Part;
 use power_on::{Inputs, Setup};
+use replay_outcome::{host_made, para_made};
 use std::alloc::Global;
 use tube_party::MOST;
 

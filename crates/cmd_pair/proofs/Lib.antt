@@ -1,3 +1,1 @@
-pub mod KeptLemmas
 pub mod GenLemmas
-pub mod SaveLemmas

@@ -1,4 +1,3 @@
-pub mod Save
 pub mod Solo
 pub mod Gen
 pub mod Code

@@ -11,13 +11,13 @@ ghost use Rattle.beeb_outcome.specs.View.{names_seen, verdict_of};
 ghost use Rattle.cmd_pair.specs.Solo.{solo_after};
 ghost use Rattle.cmd_pair.specs.Code.{nothing};
 
-use crate::kept::kept_outcome;
 use beeb_bits::Tick;
 use beeb_files::Crew;
 use beeb_outcome::{Names, Outcome};
 use beeb_stages::Stop;
 use beeb_status::Cause;
 use bus_plug::BusDevice;
+use pair_outcome::kept_outcome;
 use power_on::{Inputs, Setup, started};
 use session::{PairError, run_pair};
 use std::alloc::Global;

@@ -6,12 +6,12 @@ ghost use Rattle.power_on.specs.View.{seen_inputs, seen_setup};
 ghost use Rattle.beeb_outcome.specs.View.{names_seen, verdict_of};
 
 use crate::alone::run_alone;
-use crate::kept::kept_outcome;
 use beeb_bits::Tick;
 use beeb_outcome::{Names, Outcome};
 use beeb_stages::Refusal;
 use beeb_status::Cause;
 use bus_plug::BusDevice;
+use pair_outcome::kept_outcome;
 use power_on::{Inputs, Setup, started};
 use std::alloc::Global;
 use tube_party::MOST;

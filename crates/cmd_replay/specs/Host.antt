@@ -5,7 +5,7 @@ use Rattle.beeb_bits.specs.declared.Side.TheVariants.{Host}
 use Rattle.tube_trace.specs.declared.Entry.{Entry}
 use Rattle.tube_trace.specs.FirstWrong.{wrong}
 use Rattle.tube_party.specs.Replay.{replay_of}
-use Rattle.host_mach.specs.State.{HostState, power_on}
+use Rattle.host_mach.specs.State.{HostState}
 use Rattle.host_mach.specs.Step.{host_moves}
 use Rattle.beeb_stages.specs.Plan.{Verdict, ◌>>=◌}
 use Rattle.beeb_stages.specs.declared.stop.Refusal.{Refusal}
@@ -13,28 +13,16 @@ use Rattle.beeb_status.specs.declared.status.Ending.{Ending}
 use Rattle.beeb_status.specs.declared.status.Cause.{Cause}
 use Rattle.power_on.specs.Inputs.{Inputs}
 use Rattle.power_on.specs.Setup.{Setup}
-use Rattle.power_on.specs.Roms.{roms_of}
 use Rattle.beeb_outcome.specs.Names.{Names}
-use Rattle.beeb_outcome.specs.Trace.{entries_of}
 use Rattle.beeb_outcome.specs.Verdicts.{machine_verdict, host_left}
-use Rattle.power_on.specs.Script.{script_of}
-use Rattle.power_on.specs.Discs.{discs_of}
-use Rattle.cmd_replay.specs.Replay.{side_count, verdict_of_end, unless_wrong}
+use Rattle.cmd_replay.specs.Replay.{side_count, verdict_of_end}
+use Rattle.replay_outcome.specs.Host.{host_of}
+use Rattle.replay_outcome.specs.Replay.{unless_wrong}
 
 -- what comes of the machine against the entries of a trace
 unfoldable pub host_ended : Clock → ℕ → Names → List Entry → HostState → Verdict Ending
 host_ended clock ticks names entries s =
     verdict_of_end (λ e. machine_verdict (host_left clock ticks (side_count Host ticks entries) names e)) (replay_of host_moves Host entries ticks s)
-
--- The entries that the host is replayed against, and the host at power-on. Refused are in order the lengths of the images, the discs' last, the
--- trace's form and its clock, and the script's form.
-unfoldable pub host_of : Setup → Inputs → Result (List Entry × HostState) (Refusal Cause)
-host_of set i =
-    roms_of (record { os = i.os; slots = i.roms; font = i.font })
-    >>= λ roms. discs_of set.kinds i.disc0 i.disc1
-    >>= λ discs. entries_of set.clock i.trace
-    >>= λ entries. script_of i.keys
-    >>= λ script. Ok (entries, power_on set.clock roms discs.0 discs.1 script set.plugs)
 
 -- the trace's answers are checked before the machine goes
 unfoldable pub host_after : Setup → ℕ → Names → Inputs → Result (Verdict Ending) (Refusal Cause)

@@ -5,28 +5,23 @@ use Rattle.beeb_bits.specs.declared.Side.TheVariants.{Para}
 use Rattle.tube_trace.specs.declared.Entry.{Entry}
 use Rattle.tube_trace.specs.FirstWrong.{wrong}
 use Rattle.tube_party.specs.Replay.{replay_of}
-use Rattle.para_mach.specs.State.{ParaState, power_on}
+use Rattle.para_mach.specs.State.{ParaState}
 use Rattle.para_mach.specs.Step.{para_moves}
 use Rattle.beeb_stages.specs.Plan.{Verdict, ◌>>=◌}
 use Rattle.beeb_stages.specs.declared.stop.Refusal.{Refusal}
 use Rattle.beeb_status.specs.declared.status.Ending.{Ending}
 use Rattle.beeb_status.specs.declared.status.Cause.{Cause}
 use Rattle.power_on.specs.Inputs.{Inputs}
-use Rattle.power_on.specs.Machines.{rom_of}
 use Rattle.beeb_outcome.specs.Names.{Names}
-use Rattle.beeb_outcome.specs.Trace.{entries_of}
 use Rattle.beeb_outcome.specs.Verdicts.{machine_verdict, para_left}
-use Rattle.cmd_replay.specs.Replay.{side_count, verdict_of_end, unless_wrong}
+use Rattle.cmd_replay.specs.Replay.{side_count, verdict_of_end}
+use Rattle.replay_outcome.specs.Para.{para_of}
+use Rattle.replay_outcome.specs.Replay.{unless_wrong}
 
 -- what comes of the machine against the entries of a trace
 unfoldable pub para_ended : Clock → ℕ → Names → List Entry → ParaState → Verdict Ending
 para_ended clock ticks names entries s =
     verdict_of_end (λ e. machine_verdict (para_left clock ticks (side_count Para ticks entries) names e)) (replay_of para_moves Para entries ticks s)
-
--- The entries that the second processor is replayed against, and it at power-on. Refused are in order the ROM's length, the trace's form, and its
--- clock.
-unfoldable pub para_of : Clock → Inputs → Result (List Entry × ParaState) (Refusal Cause)
-para_of clock i = rom_of i.tube >>= λ rom. entries_of clock i.trace >>= λ entries. Ok (entries, power_on clock rom)
 
 -- the trace's answers are checked before the machine goes
 unfoldable pub para_after : Clock → ℕ → Names → Inputs → Result (Verdict Ending) (Refusal Cause)

@@ -1,11 +1,10 @@
-//! What the replays come to by what they read: `replay host` and `replay para`; the machines that are replayed, and what is said where one differs.
+//! What the replays come to by what they read: `replay host` and `replay para`.
 #![tactic(auto)]
 
-mod differing;
+mod counting;
 mod host;
 mod para;
-mod replay;
+mod replayed;
 
-pub use host::{host_made, host_outcome};
-pub use para::{para_made, para_outcome};
-pub use replay::differs_outcome;
+pub use host::host_outcome;
+pub use para::para_outcome;

@@ -24,8 +24,8 @@ use Rattle.cmd_session.specs.Session.{state_of, session_ended, session_after}
 use Rattle.beeb_stages.specs.Plan.{Verdict}
 use Rattle.beeb_status.specs.declared.status.Ending.{Ending}
 use Rattle.beeb_outcome.specs.Names.{Names}
-use Rattle.cmd_replay.specs.Replay.{verdict_of_place, unless_wrong}
-use Rattle.cmd_pair.specs.Solo.{kept_verdict}
+use Rattle.replay_outcome.specs.Replay.{verdict_of_place, unless_wrong}
+use Rattle.pair_outcome.specs.Kept.{kept_verdict}
 use Rattle.cmd_session.specs.declared.going.Back.{Back}
 use Rattle.cmd_session.specs.declared.going.Back.TheVariants.{On, Wrong, Differs}
 use Rattle.cmd_session.specs.Back.{AreAccesses, place_of, Goes}

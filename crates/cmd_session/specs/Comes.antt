@@ -15,9 +15,9 @@ use Rattle.beeb_status.specs.declared.status.Ending.TheVariants as endings
 use Rattle.beeb_outcome.specs.Names.{Names}
 use Rattle.beeb_outcome.specs.Trace.{wrong_verdict}
 use Rattle.beeb_outcome.specs.Verdicts.{said_verdict}
-use Rattle.cmd_replay.specs.Replay.{differs_text}
-use Rattle.cmd_pair.specs.Code.{IsRun}
-use Rattle.cmd_pair.specs.Solo.{kept_verdict}
+use Rattle.replay_outcome.specs.Replay.{differs_text}
+use Rattle.pair_outcome.specs.Code.{IsRun}
+use Rattle.pair_outcome.specs.Kept.{kept_verdict}
 use Rattle.cmd_session.specs.declared.going.Back.{Back}
 use Rattle.cmd_session.specs.declared.going.Back.TheVariants.{On, Wrong, Differs}
 

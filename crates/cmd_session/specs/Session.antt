@@ -24,9 +24,9 @@ use Rattle.power_on.specs.Inputs.{Inputs}
 use Rattle.power_on.specs.Machines.{machines_of}
 use Rattle.power_on.specs.Sessions.{setup_in, inputs_in, begun_if}
 use Rattle.beeb_outcome.specs.Names.{Names}
-use Rattle.cmd_replay.specs.Replay.{verdict_of_place, unless_wrong}
-use Rattle.cmd_pair.specs.Save.{below}
-use Rattle.cmd_pair.specs.Solo.{kept_verdict}
+use Rattle.replay_outcome.specs.Replay.{verdict_of_place, unless_wrong}
+use Rattle.pair_outcome.specs.Save.{below}
+use Rattle.pair_outcome.specs.Kept.{kept_verdict}
 
 -- the refusal that an error of a session file is
 abbrev pub state_refusal : StateError → Refusal Cause

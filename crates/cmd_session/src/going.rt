@@ -4,7 +4,7 @@ ghost use Rattle.beeb_bits.specs.declared.Side.TheVariants.{Host, Para};
 ghost use Rattle.cmd_session.specs.Back.{AreAccesses, Goes};
 
 use beeb_bits::Tick;
-use cmd_pair::entries_below;
+use pair_outcome::entries_below;
 use save_state::{ResumeError, resume};
 use std::alloc::{AllocError, Global};
 use tube_party::{Doing, Done, MOST, Party, Rewinds};

@@ -18,8 +18,9 @@ use Rattle.power_on.specs.Inputs.{Inputs}
 use Rattle.power_on.specs.Setup.{Setup}
 use Rattle.power_on.specs.Machines.{machines_of}
 use Rattle.power_on.specs.Sessions.{begun, begun_if, setup_in, inputs_in}
-use Rattle.cmd_pair.specs.Save.{saved_tick, saved_of, below}
-use Rattle.cmd_pair.specs.Solo.{kept_verdict, solo_after}
+use Rattle.pair_outcome.specs.Save.{saved_tick, saved_of, below}
+use Rattle.pair_outcome.specs.Kept.{kept_verdict}
+use Rattle.cmd_pair.specs.Solo.{solo_after}
 use Rattle.cmd_session.specs.Session.{state_of, place_of, session_ended, session_after}
 use Rattle.session_laws.specs.OneRun.{accesses_of, saved_run, MachinesAreMadeAgain, SavedRunIsRead, SavedRunIsOneRun}
 use Rattle.session_laws.proofs.Saved.{none_wrong}

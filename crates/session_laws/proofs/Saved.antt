@@ -27,7 +27,7 @@ use Rattle.save_state.specs.Resume.{SavedRunIsResumed}
 use Rattle.power_on.specs.Inputs.{Inputs}
 use Rattle.power_on.specs.Setup.{Setup}
 use Rattle.power_on.specs.Sessions.{begun, BegunIsSession}
-use Rattle.cmd_pair.specs.Save.{below, saved_tick, saved_of}
+use Rattle.pair_outcome.specs.Save.{below, saved_tick, saved_of}
 use Rattle.beeb_stages.specs.Plan.{or_refusal}
 use Rattle.cmd_session.specs.Session.{state_refusal, state_of}
 use Rattle.session_laws.specs.OneRun.{Begins, accesses_of, saved_run, SavedRunIsRead}

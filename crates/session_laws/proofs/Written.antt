@@ -19,7 +19,8 @@ use Rattle.beeb_outcome.specs.Verdicts.{machine_verdict, both_left}
 use Rattle.power_on.specs.Inputs.{Inputs}
 use Rattle.power_on.specs.Setup.{Setup}
 use Rattle.power_on.specs.Sessions.{begun_if}
-use Rattle.cmd_pair.specs.Solo.{kept_of, saved_file, kept_verdict, solo_after}
+use Rattle.pair_outcome.specs.Kept.{kept_of, saved_file, kept_verdict}
+use Rattle.cmd_pair.specs.Solo.{solo_after}
 use Rattle.session_laws.specs.OneRun.{saved_run, SessionIsWritten}
 
 -- this is the last of some

@@ -20,7 +20,7 @@ use Rattle.beeb_stages.specs.Plan.{Verdict}
 use Rattle.beeb_status.specs.declared.status.Ending.{Ending}
 use Rattle.beeb_status.specs.declared.status.Ending.TheVariants.{Done}
 use Rattle.beeb_outcome.specs.Names.{Names}
-use Rattle.cmd_pair.specs.Save.{saved_of}
+use Rattle.pair_outcome.specs.Save.{saved_of}
 use Rattle.cmd_pair.specs.Solo.{solo_after}
 use Rattle.cmd_session.specs.Session.{state_of, session_after}
 

@@ -1,0 +1,3 @@
+pub mod Save
+pub mod Kept
+pub mod Code
