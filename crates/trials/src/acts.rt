@@ -1,5 +1,6 @@
 //! The host's bus, whose devices lag behind, beside one that is closed and stepped at each tick.
 use crate::chance::Chance;
+use crate::twins::{Tried, agree};
 use beeb_bits::{Clock, NoMemory, Tick, zeroed};
 use disc_image::{Disc, Kind};
 use host_bus::Bus;
@@ -213,23 +214,14 @@ fn are_alike(one: Option<&Frame>, other: Option<&Frame>) -> bool {
 
 // Both buses. As far as `calm` the lines of the second are these.
 #[derive(Drop)]
-struct Both {
-    lagging: Bus,
-    stepped: Bus,
+struct Both<'a> {
+    lagging: &'a mut Bus,
+    stepped: &'a mut Bus,
     calm: u64,
     lines: (u64, bool),
 }
 
-impl Both {
-    fn new(alloc: Global, clock: Clock, script: &[u8], size: usize) -> Result<Both, NoMemory> {
-        Ok(Both {
-            lagging: bus(alloc, clock, script, size)?,
-            stepped: bus(alloc, clock, script, size)?,
-            calm: 0,
-            lines: (0, false),
-        })
-    }
-
+impl Both<'_> {
     // Closes and steps the second at each tick up to this one, and answers whether its lines stay as the first was sure that they do. A read of
     // the 6845 each six ticks has the picture drawn too.
     fn step(&mut self, t: u64) -> bool {
@@ -241,7 +233,7 @@ impl Both {
                 stay = stay && self.lines == (self.stepped.nmis_now(), self.stepped.irq_now());
             }
             if k < t && k % 6 == 0 {
-                let _ = told(&mut self.stepped, k, Act::Read(0xfe00));
+                let _ = told(self.stepped, k, Act::Read(0xfe00));
             }
         }
         stay
@@ -250,8 +242,8 @@ impl Both {
     // Does an act at both, and answers whether both tell the same.
     fn agree(&mut self, t: u64, act: Act) -> bool {
         let stay = self.step(t);
-        let one = told(&mut self.lagging, t, act);
-        let is_same = one.is_some() && one == told(&mut self.stepped, t, act);
+        let one = told(self.lagging, t, act);
+        let is_same = one.is_some() && one == told(self.stepped, t, act);
         self.calm = self.lagging.calm();
         self.lines = (self.lagging.nmis_now(), self.lagging.irq_now());
         stay && is_same
@@ -369,6 +361,30 @@ pub struct Lists<'a> {
     pub size: usize,
 }
 
+// What both buses begin with, and how many acts they are tried by.
+#[derive(Clone, Copy)]
+struct Course<'a> {
+    clock: Clock,
+    lists: Lists<'a>,
+    acts: u64,
+}
+
+impl Tried<Course<'_>> for Bus {
+    fn make(alloc: Global, course: &Course<'_>) -> Result<Self, NoMemory> {
+        bus(alloc, course.clock, course.lists.script, course.lists.size)
+    }
+
+    fn agrees(&mut self, other: &mut Self, course: &Course<'_>, chance: &mut Chance) -> bool {
+        let mut both = Both {
+            lagging: self,
+            stepped: other,
+            calm: 0,
+            lines: (0, false),
+        };
+        both.agree_on(chance, course.lists, course.acts)
+    }
+}
+
 /// Whether both buses agree on so many acts of a seed, and come to the same behind them.
 pub fn agrees(alloc: Global, seed: u64, acts: u64, lists: Lists<'_>) -> Result<bool, NoMemory> {
     let mut chance = Chance::new(seed, 3);
@@ -377,6 +393,6 @@ pub fn agrees(alloc: Global, seed: u64, acts: u64, lists: Lists<'_>) -> Result<b
     } else {
         Clock::Four
     };
-    let mut both = Both::new(alloc, clock, lists.script, lists.size)?;
-    Ok(both.agree_on(&mut chance, lists, acts))
+    let course = Course { clock, lists, acts };
+    agree::<Course<'_>, Bus>(alloc, &course, &mut chance)
 }

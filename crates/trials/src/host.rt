@@ -1,7 +1,8 @@
 //! The host, an NMOS 6502.
 use crate::chance::Chance;
 use crate::code::Place;
-use crate::roads::agree;
+use crate::roads::come_to_the_same;
+use crate::twins::{Tried, agree};
 use beeb_bits::{Clock, NoMemory};
 use host_mach::HostMachine;
 use key_script::read;
@@ -51,23 +52,33 @@ fn events(chance: &mut Chance, clock: Clock) -> &'static [u8] {
     }
 }
 
-// A machine with this image as its operating system and in slot 0.
-fn machine(
-    alloc: Global,
+// What both machines begin with: a clock, an image, which is the operating system and the ROM in slot 0, and events.
+#[derive(Drop)]
+struct Course {
     clock: Clock,
-    image: &[u8],
-    events: &[u8],
-) -> Result<HostMachine, NoMemory> {
-    let Ok(slots) = vec![in alloc; (0, image.to_vec(alloc)?)] else {
+    image: Vec<u8>,
+    events: &'static [u8],
+}
+
+fn machine(alloc: Global, course: &Course) -> Result<HostMachine, NoMemory> {
+    let Ok(slots) = vec![in alloc; (0, course.image.to_vec(alloc)?)] else {
         return Err(NoMemory);
     };
-    let Ok(roms) = RomSet::read(image.to_vec(alloc)?, slots, None) else {
+    let Ok(roms) = RomSet::read(course.image.to_vec(alloc)?, slots, None) else {
         return Err(NoMemory);
     };
-    let Ok(script) = read(alloc, events) else {
+    let Ok(script) = read(alloc, course.events) else {
         return Err(NoMemory);
     };
-    HostMachine::make(alloc, clock, roms, None, None, script, Vec::new(alloc))
+    HostMachine::make(
+        alloc,
+        course.clock,
+        roms,
+        None,
+        None,
+        script,
+        Vec::new(alloc),
+    )
 }
 
 fn is_same(one: &HostMachine, other: &HostMachine) -> bool {
@@ -77,6 +88,19 @@ fn is_same(one: &HostMachine, other: &HostMachine) -> bool {
         && one.starting() == other.starting()
         && one.ram() == other.ram()
         && one.sound() == other.sound()
+}
+
+impl Tried<Course> for HostMachine {
+    fn make(alloc: Global, course: &Course) -> Result<Self, NoMemory> {
+        machine(alloc, course)
+    }
+
+    fn agrees(&mut self, other: &mut Self, course: &Course, chance: &mut Chance) -> bool {
+        // The way in takes 15,134 cycles.
+        let begun = course.clock.host() * (15_100 + u64::from(chance.below(60)));
+        let more = chance.below(6_000);
+        come_to_the_same(self, other, chance, begun, more) && is_same(self, other)
+    }
 }
 
 /// Whether a program of a seed comes to the same by both roads.
@@ -93,11 +117,10 @@ pub fn agrees(alloc: Global, seed: u64) -> Result<bool, NoMemory> {
         page: ((0x02 + chance.below(0x7e)) % 256 * 256) as u16,
     };
     let image = place.image(alloc, &mut chance, 16_384)?;
-    let events = events(&mut chance, clock);
-    let mut far = machine(alloc, clock, &image, events)?;
-    let mut near = machine(alloc, clock, &image, events)?;
-    // The way in takes 15,134 cycles.
-    let begun = clock.host() * (15_100 + u64::from(chance.below(60)));
-    let more = chance.below(6_000);
-    Ok(agree(&mut far, &mut near, &mut chance, begun, more) && is_same(&far, &near))
+    let course = Course {
+        clock,
+        image,
+        events: events(&mut chance, clock),
+    };
+    agree::<Course, HostMachine>(alloc, &course, &mut chance)
 }

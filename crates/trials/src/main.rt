@@ -11,6 +11,7 @@ mod code;
 mod host;
 mod roads;
 mod second;
+mod twins;
 
 use beeb_bits::NoMemory;
 use std::alloc::Global;

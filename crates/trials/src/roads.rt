@@ -154,7 +154,7 @@ fn go_by_ticks<M: Party>(machine: &mut M, end: u64, tube: &mut Tube)
 
 /// Goes to a tick with both, and from there so many ticks on, with each by its own road. True where both ask the same of the Tube, in the same
 /// order.
-pub fn agree<M: Party>(
+pub fn come_to_the_same<M: Party>(
     far: &mut M,
     near: &mut M,
     chance: &mut Chance,

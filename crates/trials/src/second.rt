@@ -1,18 +1,19 @@
 //! The second processor, a 65C02.
 use crate::chance::Chance;
 use crate::code::Place;
-use crate::roads::agree;
+use crate::roads::come_to_the_same;
+use crate::twins::{Tried, agree};
 use beeb_bits::{Clock, NoMemory};
 use op_table::Part;
 use para_mach::ParaMachine;
 use std::alloc::Global;
 use tube_party::Party;
 
-fn machine(alloc: Global, clock: Clock, rom: &[u8]) -> Result<ParaMachine, NoMemory> {
-    match ParaMachine::make(alloc, clock, rom.to_vec(alloc)?) {
-        Ok(machine) => Ok(machine),
-        Err(_) => Err(NoMemory),
-    }
+// What both machines begin with.
+#[derive(Drop)]
+struct Course {
+    clock: Clock,
+    rom: Vec<u8>,
 }
 
 fn is_same(one: &ParaMachine, other: &ParaMachine) -> bool {
@@ -21,6 +22,22 @@ fn is_same(one: &ParaMachine, other: &ParaMachine) -> bool {
         && one.held() == other.held()
         && one.starting() == other.starting()
         && one.ram() == other.ram()
+}
+
+impl Tried<Course> for ParaMachine {
+    fn make(alloc: Global, course: &Course) -> Result<Self, NoMemory> {
+        match ParaMachine::make(alloc, course.clock, course.rom.to_vec(alloc)?) {
+            Ok(machine) => Ok(machine),
+            Err(_) => Err(NoMemory),
+        }
+    }
+
+    fn agrees(&mut self, other: &mut Self, course: &Course, chance: &mut Chance) -> bool {
+        // The way in takes 15,134 cycles.
+        let begun = course.clock.para() * (15_100 + u64::from(chance.below(60)));
+        let more = chance.below(6_000);
+        come_to_the_same(self, other, chance, begun, more) && is_same(self, other)
+    }
 }
 
 /// Whether a program of a seed comes to the same by both roads.
@@ -42,10 +59,6 @@ pub fn agrees(alloc: Global, seed: u64) -> Result<bool, NoMemory> {
         page: ((page % 256) * 256) as u16,
     };
     let rom = place.image(alloc, &mut chance, 2_048)?;
-    let mut far = machine(alloc, clock, &rom)?;
-    let mut near = machine(alloc, clock, &rom)?;
-    // The way in takes 15,134 cycles.
-    let begun = clock.para() * (15_100 + u64::from(chance.below(60)));
-    let more = chance.below(6_000);
-    Ok(agree(&mut far, &mut near, &mut chance, begun, more) && is_same(&far, &near))
+    let course = Course { clock, rom };
+    agree::<Course, ParaMachine>(alloc, &course, &mut chance)
 }
