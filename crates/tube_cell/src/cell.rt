@@ -1,5 +1,7 @@
 //! The cell that both sides share.
-ghost use Rattle.std.specs.Prelude.{ℕ, ◌≡◌, ◌≢◌, ◌+◌, ◌<◌, ◌≤◌, ◌^◌, [], ◌∷◌, true, IfOk, IfErr, IfSome, IfNone, IsTrue, IsFalse};
+ghost use Rattle.std.specs.Prelude.{ℕ, ◌≡◌, ◌≢◌, ◌+◌, ◌<◌, ◌≤◌, ◌^◌, [], ◌∷◌, true, false, nat_eq, if◌then◌else◌, MatchResult, IfOk, IfErr, IfSome, IfNone, IsTrue, IsFalse};
+ghost use lib.Pointwise.{pointwise};
+ghost use Rattle.crossbeam_utils.specs.Register.{Turns, Forks, Merges};
 ghost use Rattle.crossbeam_utils.specs.Seq.{cell_view, IsSamePass};
 ghost use Rattle.beeb_bits.specs.declared.Side.TheVariants.{Host, Para};
 ghost use Rattle.tube_chip.specs.State.{lines_of};
@@ -8,7 +10,7 @@ ghost use Rattle.tube_chip.specs.Act.{MayDo, is_status, answer_of};
 ghost use Rattle.tube_chip.specs.Events.{merge, after, IsLegal};
 ghost use Rattle.tube_chip.specs.Packing.{IsChip};
 ghost use Rattle.tube_cell.specs.Views.{one_side, rejoined, word_of_other, other_bound, slack, known_with, Admits, admits, AllBelow, words_of, readings_of, trust_after};
-ghost use Rattle.tube_cell.specs.Rules.{Found, published_view, entrusted_view, told_view, added_view, joined_view, Ended};
+ghost use Rattle.tube_cell.specs.Rules.{Kept, Found, published_view, entrusted_view, told_view, added_view, joined_view, Ended};
 ghost use Rattle.tube_cell.specs.Passes.{starts, own_horizon, Learns, access_at, lines_at, after_commit, after_raise, after_look, after_entrust, here, bound_here, after_add, after_publish};
 ghost use Rattle.tube_cell.specs.Steps.{MayPublish, MayLook, MayEntrust, MayPublishAndEntrust, Watches, LookedAt};
 
@@ -21,8 +23,10 @@ use crate::words::{
     bound_of, chip_of, is_admitted, next_words, power_on, renew, settle, trust_of, with_trust,
     word_of,
 };
+use atomic_table::{Join, Split};
 use beeb_bits::{NoMemory, Side, Tick};
 use crossbeam_utils::atomic::seq_cell::{Pass as Seat, RuledSeqCell};
+use crossbeam_utils::rule::Outcome;
 use std::alloc::Global;
 use std::marker::{Brand, Model};
 use std::sync::Wait;
@@ -111,7 +115,7 @@ impl TubeCell {
     {
         let Whole { seat } = whole;
         let mut host = seat;
-        let para = self.cell.split_pass::<Halves>(&mut host);
+        let para = part::<Halves>(&self.cell, &mut host);
         (
             Pass {
                 seat: host,
@@ -135,7 +139,7 @@ impl TubeCell {
         requires { pass.old.cell ≡ self.now }
         ensures { Learns pass.old pass.new }
     {
-        let found = self.cell.load_as::<Learning, R>(rt, &mut pass.seat);
+        let found = load::<Learning, R>(&self.cell, rt, &mut pass.seat);
         settle(&mut pass.words, &mut pass.local, found);
     }
 
@@ -496,7 +500,7 @@ fn add<D: Deeds>(
     ensures cell { IsSamePass seat.old seat.new }
     ensures added { cell_view seat.new ≡ added_view (cell_view seat.old) D.events }
 {
-    cell.split_pass::<Adding<D>>(seat);
+    part::<Adding<D>>(cell, seat);
 }
 
 // One exchange: the access, if there is one, is published with the chip after it and this own word. At `Ok` these words are
@@ -526,7 +530,7 @@ fn exchange<W: Wish, R: Wait>(
 {
     packing_is_one_to_one();
     let next = next_words(side, chip, word, word_of(side, words), trust);
-    match cell.compare_exchange_as::<Publishing<W>, R>(rt, seat, *words, next) {
+    match swap::<Publishing<W>, R>(cell, rt, seat, words, next) {
         Ok(_) => Ok(next),
         Err(found) => Err(found),
     }
@@ -553,7 +557,7 @@ fn entrust_at<W: Wish, R: Wait>(
 {
     packing_is_one_to_one();
     let next = with_trust(words, trust);
-    match cell.compare_exchange_as::<Entrusting<W>, R>(rt, seat, *words, next) {
+    match swap::<Entrusting<W>, R>(cell, rt, seat, words, next) {
         Ok(_) => Ok(next),
         Err(found) => Err(found),
     }
@@ -583,7 +587,7 @@ fn publish_and_entrust_at<W: Wish, D: Deeds, R: Wait>(
 {
     packing_is_one_to_one();
     let next = next_words(Side::Para, chip, word, word_of(Side::Para, words), trust);
-    match cell.compare_exchange_as::<PublishingAndEntrusting<W, D>, R>(rt, seat, *words, next) {
+    match swap::<PublishingAndEntrusting<W, D>, R>(cell, rt, seat, words, next) {
         Ok(_) => Ok(next),
         Err(found) => Err(found),
     }
@@ -603,7 +607,7 @@ fn load_at<M: Moment, R: Wait>(
     ensures cell { IsSamePass seat.old seat.new }
     ensures view { LookedAt t _side result (cell_view seat.old) (cell_view seat.new) }
 {
-    cell.load_as::<Looking<M>, R>(rt, seat)
+    load::<Looking<M>, R>(cell, rt, seat)
 }
 
 // The host's pass takes in the list of the parasite's.
@@ -617,8 +621,8 @@ fn take_in(cell: &Cell, host: &mut Seat<[u64; 9], PassView>, para: &mut Seat<[u6
     ensures joined { cell_view host.new ≡ joined_view (cell_view host.old) (cell_view para.old) }
 {
     // A pass that stepped can't be taken in, so its view goes to a new one.
-    let fresh = cell.split_pass::<Parting>(para);
-    cell.join_pass::<Halves>(host, fresh);
+    let fresh = part::<Parting>(cell, para);
+    unite::<Halves>(cell, host, fresh);
 }
 
 // One load, once both lists are in one pass.
@@ -627,5 +631,64 @@ fn end_at<R: Wait>(cell: &Cell, rt: &R, seat: &mut Seat<[u64; 9], PassView>) -> 
     requires role { (cell_view seat.old).role ≡ rejoined }
     ensures { Ended (cell_view seat.old) result }
 {
-    cell.load_as::<Ending, R>(rt, seat)
+    load::<Ending, R>(cell, rt, seat)
+}
+
+// The steps on the cell that keep its rule, each stated once for all that it may tell. The rule and the words are written out here, so that a caller's
+// proof has only its own clause to show.
+
+// One load.
+fn load<M: Outcome<[u64; 9], PassView>, R: Wait>(
+    cell: &Cell,
+    rt: &R,
+    seat: &mut Seat<[u64; 9], PassView>,
+) -> [u64; 9]
+    requires cell { seat.old.table_id ≡ cell.now.table.shared.table_id }
+    requires rule { Turns Kept seat.old.id (cell_view seat.old) (λ x. x) M.then }
+    ensures cell { IsSamePass seat.old seat.new }
+    ensures rule { M.then (cell_view seat.old) result result (cell_view seat.new) }
+{
+    cell.load_as::<M, R>(rt, seat)
+}
+
+// One exchange. At `Ok` the next words are in the cell, at `Err` those that were found stay.
+fn swap<M: Outcome<[u64; 9], PassView>, R: Wait>(
+    cell: &Cell,
+    rt: &R,
+    seat: &mut Seat<[u64; 9], PassView>,
+    words: &[u64; 9],
+    next: [u64; 9],
+) -> Result<[u64; 9], [u64; 9]>
+    requires cell { seat.old.table_id ≡ cell.now.table.shared.table_id }
+    requires rule { Turns Kept seat.old.id (cell_view seat.old) (λ x. if pointwise nat_eq x words.now then next else x) M.then }
+    ensures cell { IsSamePass seat.old seat.new }
+    ensures rule { MatchResult result (λ x. (pointwise nat_eq x words.now ≡ true) × M.then (cell_view seat.old) x next (cell_view seat.new)) (λ x. (pointwise nat_eq x words.now ≡ false) × M.then (cell_view seat.old) x x (cell_view seat.new)) }
+{
+    cell.compare_exchange_as::<M, R>(rt, seat, *words, next)
+}
+
+// Cuts the view of a pass in two.
+fn part<M: Split<PassView>>(
+    cell: &Cell,
+    seat: &mut Seat<[u64; 9], PassView>,
+) -> Seat<[u64; 9], PassView>
+    requires cell { seat.old.table_id ≡ cell.now.table.shared.table_id }
+    requires rule { Forks Kept seat.old.id (cell_view seat.old) (M.left (cell_view seat.old)) (M.right (cell_view seat.old)) }
+    ensures kept { IsSamePass seat.old seat.new × (cell_view seat.new ≡ M.left (cell_view seat.old)) }
+    ensures given { (result.table_id ≡ seat.old.table_id) × (cell_view result ≡ M.right (cell_view seat.old)) × (result.me.1 ≡ []) }
+{
+    cell.split_pass::<M>(seat)
+}
+
+// Takes in a view that was cut off.
+fn unite<M: Join<PassView>>(
+    cell: &Cell,
+    seat: &mut Seat<[u64; 9], PassView>,
+    other: Seat<[u64; 9], PassView>,
+)
+    requires cell { (seat.old.table_id ≡ cell.now.table.shared.table_id) × (other.table_id ≡ seat.old.table_id) × (other.me.1 ≡ []) }
+    requires rule { Merges Kept seat.old.id (cell_view seat.old) other.id (cell_view other) (M.both (cell_view seat.old) (cell_view other)) M.spent }
+    ensures { IsSamePass seat.old seat.new × (cell_view seat.new ≡ M.both (cell_view seat.old) (cell_view other)) }
+{
+    cell.join_pass::<M>(seat, other);
 }

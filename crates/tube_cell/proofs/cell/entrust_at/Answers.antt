@@ -1,16 +1,11 @@
-use Rattle.std.proofs.Common.{rules, ◌∙◌, sym, ap}
+use Rattle.std.proofs.Common.{◌∙◌, sym, ap}
 use Rattle.crossbeam_utils.specs.Seq.{cell_view}
 use Rattle.tube_cell.specs.Views.{words_of}
 use Rattle.tube_cell.proofs.Raises.{entrusts_as}
 use Rattle.tube_cell.proofs.cell.entrust_at.Goals as goal
 
-pub compare_exchange_as-requires : goal.compare_exchange_as-requires
-compare_exchange_as-requires g c =
+pub swap-requires-clause-rule : goal.swap-requires-clause-rule
+swap-requires-clause-rule g c =
     let v = cell_view c.args.seat.now in
-    let next = c.with_trust-next.ensures v.known c.requires.words ∙ ap words_of (sym c.requires.next) in (
-      search rules,
-      (
-        search rules,
-        (c.requires.cell, entrusts_as c.packing_is_one_to_one.ensures _ v g.W.Wish.events c.args.trust g.W.Wish.next _ _ c.requires.may c.requires.next c.requires.words next),
-      ),
-    )
+    let next = c.with_trust-next.ensures v.known c.requires.words ∙ ap words_of (sym c.requires.next) in
+    entrusts_as c.packing_is_one_to_one.ensures _ v g.W.Wish.events c.args.trust g.W.Wish.next _ _ c.requires.may c.requires.next c.requires.words next

@@ -1,24 +1,16 @@
-use Rattle.std.proofs.Common.{rules, ◌∙◌, sym, ap}
+use Rattle.std.proofs.Common.{◌∙◌, sym, ap}
 use Rattle.crossbeam_utils.specs.Seq.{cell_view}
 use Rattle.beeb_bits.specs.declared.Side.TheVariants.{Para}
 use Rattle.tube_cell.specs.Views.{words_of, known_with}
 use Rattle.tube_cell.proofs.Publishes.{both_as}
 use Rattle.tube_cell.proofs.cell.publish_and_entrust_at.Goals as goal
 
-pub compare_exchange_as-requires : goal.compare_exchange_as-requires
-compare_exchange_as-requires g c =
+pub swap-requires-clause-rule : goal.swap-requires-clause-rule
+swap-requires-clause-rule g c =
     let v = cell_view c.args.seat.now in
     let next =
     c.next_words-next.ensures.words
     ∙ ap (λ t. words_of (known_with Para c.args.chip.now c.args.word t c.args.trust)) (c.word_of.ensures v.known c.requires.words)
-    ∙ ap words_of (sym c.requires.next) in (
-      search rules,
-      (
-        search rules,
-        (
-          c.requires.cell,
-          both_as c.packing_is_one_to_one.ensures _ v g.W.Wish.events g.D.Deeds.events c.args.chip.now c.args.word c.args.trust g.W.Wish.next _ _
-              c.requires.may c.next_words-next.ensures.bounds c.requires.next c.requires.words next,
-        ),
-      ),
-    )
+    ∙ ap words_of (sym c.requires.next) in
+    both_as c.packing_is_one_to_one.ensures _ v g.W.Wish.events g.D.Deeds.events c.args.chip.now c.args.word c.args.trust g.W.Wish.next _ _
+    c.requires.may c.next_words-next.ensures.bounds c.requires.next c.requires.words next

@@ -1,26 +1,29 @@
-use Rattle.std.proofs.Common.{rules, sym, ap, ◌∙◌, subst, List, ℕ}
+use Rattle.std.proofs.Common.{sym, ap, ◌∙◌, subst, List, ℕ}
 use Rattle.crossbeam_utils.specs.Seq.{cell_view}
 use Rattle.tube_cell.specs.Steps.{IsPassOf}
 use Rattle.tube_cell.proofs.Keeps.{learns}
 use Rattle.tube_cell.proofs.Learns.{pass_found, cut_found, learned}
 use Rattle.tube_cell.proofs.cell.TubeCell.learn.Goals as goal
 
-pub load_as-found-requires : goal.load_as-found-requires
-load_as-found-requires g c = (search rules, (search rules, (ap (λ p. p.cell) c.pass.view_is ∙ c.requires ∙ sym c.self.view_is, learns c.pass.inside.side _ _ c.pass.invariant.0.role)))
+pub load-found-requires-clause-cell : goal.load-found-requires-clause-cell
+load-found-requires-clause-cell g c = ap (λ p. p.cell) c.pass.view_is ∙ c.requires ∙ sym c.self.view_is
+
+pub load-found-requires-clause-rule : goal.load-found-requires-clause-rule
+load-found-requires-clause-rule g c = learns c.pass.inside.side _ _ c.pass.invariant.0.role
 
 pub invariant_of-pass : goal.invariant_of-pass
 invariant_of-pass g c =
     let v = cell_view c.pass.inside.seat in
-    let w = cell_view c.load_as-found.new.pass in
-    let f = c.load_as-found.ensures.rule in
+    let w = cell_view c.load-found.new.seat in
+    let f = c.load-found.ensures.rule in
     let local = c.settle.ensures.local v.known w.known c.pass.invariant.0.well f.well c.pass.invariant.0.words_are f.words_are in (
       subst (λ (words : List ℕ). IsPassOf c.pass.inside.side words c.settle.new.local w) (sym c.settle.ensures.words)
-          (pass_found c.pass.inside.side c.pass.inside.words c.load_as-found.result c.pass.inside.local c.settle.new.local v w c.pass.invariant.0 f local),
-      cut_found c.pass.inside.side c.pass.inside.words c.load_as-found.result c.pass.inside.local c.pass.inside.cut v w c.pass.invariant.0 c.pass.invariant.1 f,
+          (pass_found c.pass.inside.side c.pass.inside.words c.load-found.result c.pass.inside.local c.settle.new.local v w c.pass.invariant.0 f local),
+      cut_found c.pass.inside.side c.pass.inside.words c.load-found.result c.pass.inside.local c.pass.inside.cut v w c.pass.invariant.0 c.pass.invariant.1 f,
     )
 
 pub returns : goal.returns
 returns g c =
     let v = cell_view c.pass.inside.seat in
-    let w = cell_view c.load_as-found.new.pass in
-    learned _ _ c.pass.inside.side c.pass.inside.words c.load_as-found.result c.pass.inside.local c.args.pass.now v w c.pass.view_is c.pass.invariant.0 c.load_as-found.ensures.cell.0 c.load_as-found.ensures.rule
+    let w = cell_view c.load-found.new.seat in
+    learned _ _ c.pass.inside.side c.pass.inside.words c.load-found.result c.pass.inside.local c.args.pass.now v w c.pass.view_is c.pass.invariant.0 c.load-found.ensures.cell.0 c.load-found.ensures.rule
