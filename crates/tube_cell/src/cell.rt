@@ -1,5 +1,5 @@
 //! The cell that both sides share.
-ghost use Rattle.std.specs.Prelude.{ℕ, ◌≡◌, ◌≢◌, ◌+◌, ◌<◌, ◌≤◌, ◌^◌, [], ◌∷◌, true, false, nat_eq, if◌then◌else◌, MatchResult, IfOk, IfErr, IfSome, IfNone, IsTrue, IsFalse};
+ghost use Rattle.std.specs.Prelude.{ℕ, ◌≡◌, ◌≢◌, ◌+◌, ◌<◌, ◌≤◌, ◌^◌, [], ◌∷◌, true, false, nat_eq, if◌then◌else◌, IfOk, IfErr, IfSome, IfNone, IsTrue, IsFalse};
 ghost use lib.Pointwise.{pointwise};
 ghost use Rattle.crossbeam_utils.specs.Register.{Turns, Forks, Merges};
 ghost use Rattle.crossbeam_utils.specs.Seq.{cell_view, IsSamePass};
@@ -634,8 +634,8 @@ fn end_at<R: Wait>(cell: &Cell, rt: &R, seat: &mut Seat<[u64; 9], PassView>) -> 
     load::<Ending, R>(cell, rt, seat)
 }
 
-// The steps on the cell that keep its rule, each stated once for all that it may tell. The rule and the words are written out here, so that a caller's
-// proof has only its own clause to show.
+// The steps on the cell that keep its rule, each stated once for all that it may tell. A caller's proof has only its own clause to show:
+// what the cell's many type parameters ask of a call is shown here.
 
 // One load.
 fn load<M: Outcome<[u64; 9], PassView>, R: Wait>(
@@ -662,7 +662,8 @@ fn swap<M: Outcome<[u64; 9], PassView>, R: Wait>(
     requires cell { seat.old.table_id ≡ cell.now.table.shared.table_id }
     requires rule { Turns Kept seat.old.id (cell_view seat.old) (λ x. if pointwise nat_eq x words.now then next else x) M.then }
     ensures cell { IsSamePass seat.old seat.new }
-    ensures rule { MatchResult result (λ x. (pointwise nat_eq x words.now ≡ true) × M.then (cell_view seat.old) x next (cell_view seat.new)) (λ x. (pointwise nat_eq x words.now ≡ false) × M.then (cell_view seat.old) x x (cell_view seat.new)) }
+    ensures hit { IfOk result (λ x. (pointwise nat_eq x words.now ≡ true) × M.then (cell_view seat.old) x next (cell_view seat.new)) }
+    ensures missed { IfErr result (λ x. (pointwise nat_eq x words.now ≡ false) × M.then (cell_view seat.old) x x (cell_view seat.new)) }
 {
     cell.compare_exchange_as::<M, R>(rt, seat, *words, next)
 }
