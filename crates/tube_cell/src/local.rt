@@ -73,6 +73,17 @@ fn is_observation(op: Op) -> bool
     }
 }
 
+// The trust after an operation of the host at this tick, by what the parasite's observations showed before it and show after it.
+fn trust_left(before: Readings, after: Readings, tick: u64, trust: u64) -> u64
+    ensures { (c d : State) → before ≡ readings_of c → after ≡ readings_of d → result ≡ trust_next Host c d tick trust }
+{
+    if same_readings(before, after) {
+        trust
+    } else {
+        trust.min(tick)
+    }
+}
+
 // Does an operation of the host at this tick. Its answer, and the trust after it.
 fn host_operates(chip: &mut Chip, op: Op, tick: u64, trust: u64) -> (u8, u64)
     requires { MayDo Host op }
@@ -86,12 +97,7 @@ fn host_operates(chip: &mut Chip, op: Op, tick: u64, trust: u64) -> (u8, u64)
     }
     let before = readings_of(chip);
     let answer = chip.apply(Side::Host, op);
-    let after = readings_of(chip);
-    if same_readings(before, after) {
-        (answer, trust)
-    } else {
-        (answer, trust.min(tick))
-    }
+    (answer, trust_left(before, readings_of(chip), tick, trust))
 }
 
 /// Does an operation of a side at this tick. Its answer, and the trust after it.

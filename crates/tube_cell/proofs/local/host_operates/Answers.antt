@@ -1,6 +1,7 @@
-use Rattle.std.proofs.Common.{◌∙◌, sym}
+use Rattle.std.proofs.Common.{◌∙◌, sym, ap}
 use Rattle.beeb_bits.specs.declared.Side.TheVariants.{Host}
 use Rattle.tube_chip.specs.Act.{access}
+use Rattle.tube_cell.specs.Views.{readings_of}
 use Rattle.tube_cell.proofs.Observed.{observed_stays, trust_stays, early_stays}
 use Rattle.tube_cell.proofs.local.host_operates.Goals as goal
 use Rattle.tube_cell.proofs.local.host_operates.Goals.{then-is_observation-via-then-is_observation, then-is_observation-via-else-is_observation+then-trust-tick}
@@ -14,3 +15,8 @@ returns-then-is_observation-clause-trust c =
           sym (trust_stays Host old new c.args.tick c.args.trust (c.apply-answer.ensures.chip ∙ observed_stays old Host (access c.args.op) (sym c.is_observation.ensures ∙ w.if-is_observation.true)))
       | then-is_observation-via-else-is_observation+then-trust-tick w ↦ sym (early_stays old new c.args.tick c.args.trust w.if-trust-tick.true)
     ]
+
+pub returns-clause-trust : goal.returns-clause-trust
+returns-clause-trust c =
+    let new = c.readings_of.new.chip in
+    c.trust_left.ensures c.args.chip.now new c.readings_of-before.ensures.readings (c.readings_of.ensures.readings ∙ ap readings_of (sym c.readings_of.ensures.chip))
