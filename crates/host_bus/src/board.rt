@@ -1,5 +1,5 @@
 //! The board: memory, and what answers beside it.
-ghost use Rattle.std.specs.Prelude.{◌≡◌, ◌≤◌, ◌<◌, ◌+◌, ◌-◌, ◌*◌, ◌%◌, ◌^◌, ◌==◌, ◌⊎◌, ℕ, true, false, min, unwrap_or, length, List, IfOk, IfSome, None, Some, MatchOption, slice_index, slice_set, if◌then◌else◌};
+ghost use Rattle.std.specs.Prelude.{◌≡◌, ◌≤◌, ◌<◌, ◌+◌, ◌-◌, ◌*◌, ◌%◌, ◌^◌, ◌==◌, ◌⊎◌, ℕ, true, false, min, unwrap_or, length, List, IfOk, Ok, IfSome, None, Some, MatchOption, slice_index, slice_set, if◌then◌else◌};
 ghost use Rattle.keyboard.specs.Keys.{keys_of};
 ghost use Rattle.wd1770.specs.Select.{disc_of};
 ghost use Rattle.sn76489.specs.Samples.{NeverFallFrom};
@@ -159,6 +159,30 @@ fn first_shown(alloc: Global, roms: &RomSet) -> Result<Vec<u8>, NoMemory>
     Ok(shown)
 }
 
+// The RAM, what reads show of memory, and the images with the letters of their font, at power-on.
+fn first_memory(alloc: Global, roms: RomSet) -> Result<(Vec<u8>, Vec<u8>, Letters), NoMemory>
+    ensures ram { IfOk result (λ m. m.0.items ≡ clear_ram) }
+    ensures memory { IfOk result (λ m. length m.0.items ≡ RAM_SIZE) }
+    ensures addresses { IfOk result (λ m. length m.1.items ≡ ADDRESSES) }
+    ensures shows { IfOk result (λ m. Shows clear_ram m.2.slots 0 m.2.os m.1.items) }
+    ensures letters { IfOk result (λ m. m.2 ≡ roms) }
+{
+    let ram = zeroed(alloc, RAM_SIZE)?;
+    let shown = first_shown(alloc, &roms)?;
+    let letters = Letters::make(alloc, roms)?;
+    Ok((ram, shown, letters))
+}
+
+// Both parts, if there was memory for each. It is a function over any types, since a proof follows each field of what it sees dropped.
+fn both<A: Drop, B: Drop>(
+    a: Result<A, NoMemory>,
+    b: Result<B, NoMemory>,
+) -> Result<(A, B), NoMemory>
+    ensures { IfOk result (λ m. (a ≡ Ok m.0) × (b ≡ Ok m.1)) }
+{
+    Ok((a?, b?))
+}
+
 // How many microseconds begin in a span of so many ticks that begins with one.
 fn beats(clock: Clock, span: u64) -> u64
     requires { span < 2 ^ 48 }
@@ -252,18 +276,15 @@ impl Board {
     ) -> Result<Board, NoMemory>
         ensures { IfOk result (λ b. b ≡ first_board clock roms d0 d1 script) }
     {
-        let ram = zeroed(alloc, RAM_SIZE)?;
-        let shown = first_shown(alloc, &roms)?;
-        let letters = Letters::make(alloc, roms)?;
-        let devices = Devices::make(alloc, d0, d1)?;
-        let playback = Playback::make(alloc, script)?;
+        let kept = both(first_memory(alloc, roms), Playback::make(alloc, script));
+        let made = both(SoundLog::make(alloc), Devices::make(alloc, d0, d1));
+        let ((memory, playback), (sound, devices)) = both(kept, made)?;
         let breaks = Breaks::new(playback.script.events());
-        let sound = SoundLog::make(alloc)?;
         Ok(Board {
             clock,
-            ram,
-            shown,
-            letters,
+            ram: memory.0,
+            shown: memory.1,
+            letters: memory.2,
             latch: 0,
             devices,
             playback,
