@@ -8,18 +8,18 @@ use Rattle.beeb_bits.specs.Clock.{micro}
 use Rattle.keyboard.specs.Keys.{Keys, keys_of}
 use Rattle.saa5050.specs.Shapes.{Font}
 use Rattle.beeb_bits.specs.declared.clock.Clock.{Clock}
-use Rattle.host_bus.specs.Devices.{Devices, keys_at, levels_at, microsecond, microseconds, last_frame, devices_ask}
-use Rattle.host_bus.specs.Apart.{AreCalm}
-use Rattle.host_bus.specs.Shots.{shots_at, shot_at}
+use Rattle.host_devices.specs.Devices.{Devices, keys_at, levels_at, microsecond, microseconds, last_frame, devices_ask}
+use Rattle.host_devices.specs.Apart.{AreCalm}
+use Rattle.host_devices.specs.Shots.{shots_at, shot_at}
 use Rattle.host_bus.specs.Board.{BoardState, Around, Moving, around, moving_part, closed_with, beat, tick, ticks, board_closed, board_irq, board_nmis}
 use Rattle.host_bus.specs.CodeBoard.{board_seen, around_by, moving, IsValid}
-use Rattle.host_bus.specs.CodePlayback.{IsPlayed, IsOnTime}
+use Rattle.host_devices.specs.CodePlayback.{IsPlayed, IsOnTime}
 use Rattle.host_bus.specs.Closing.{ticks-add, board-again, board-still}
 use Rattle.host_bus.specs.declared.board.Board.TheInside.{Inside}
-use Rattle.host_bus.specs.declared.playback.Playback.{Playback}
-use Rattle.host_bus.proofs.Beats.{apart, next-one, some-micro}
-use Rattle.host_bus.proofs.Heard.{in-time-later}
-use Rattle.host_bus.proofs.Played.{HasNone, none-between, played-later, keys-stay, levels-stay}
+use Rattle.host_devices.specs.declared.playback.Playback.{Playback}
+use Rattle.host_devices.proofs.Beats.{apart, next-one, some-micro}
+use Rattle.host_devices.proofs.Heard.{in-time-later}
+use Rattle.host_devices.proofs.Played.{HasNone, none-between, played-later, keys-stay, levels-stay}
 
 -- before anything comes there is no shot
 pub quiet : (p : Playback) (u closed next : ℕ) → IsPlayed p closed → IsOnTime u closed p.event next → HasNone p.script closed next

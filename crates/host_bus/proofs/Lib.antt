@@ -1,12 +1,7 @@
 pub mod Owners
 pub mod Ram
-pub mod Beats
 pub mod Places
-pub mod Played
-pub mod Heard
-pub mod Steady
 pub mod Closed
 pub mod Unseen
-pub mod Pressed
 pub mod Peeks
 pub mod CalmThere

@@ -1,7 +1,7 @@
 -- Where the memory is, and that a read there gives the byte that stands there.
 use Rattle.std.proofs.Common.{ℕ, ◌≡◌, ◌≤◌, ◌<◌, Bool, true, false, Some, None, refl, arith}
 use Rattle.std.proofs.lemmas.Grind.{common_steps}
-use Rattle.host_bus.specs.Map.{Place, Ram, PagedRom, OsRom, place_of}
+use Rattle.host_devices.specs.Map.{Place, Ram, PagedRom, OsRom, place_of}
 use Rattle.host_bus.specs.Bus.{BusState, answer_of, bus_answer}
 use Rattle.host_bus.specs.Peek.{memory_at, bus_peek}
 

@@ -11,7 +11,7 @@ use Rattle.adc7002.specs.Step as conversion
 use Rattle.via6522.specs.Step.{step}
 use Rattle.keyboard.specs.Keys.{Keys}
 use Rattle.keyboard.specs.Latch.{screen_size}
-use Rattle.host_bus.specs.Devices.{Devices, keys_at, levels_at, system_pins, user_pins, raster_after, microsecond}
+use Rattle.host_devices.specs.Devices.{Devices, keys_at, levels_at, system_pins, user_pins, raster_after, microsecond}
 use Rattle.host_bus.specs.Board.{BoardState, Around, Moving, around, moving_part, closed_with, tick, ticks, board_closed}
 use Rattle.host_bus.specs.Lag.{ReadsAbove}
 

@@ -6,7 +6,7 @@ use Rattle.rom_set.specs.Roms.{Roms}
 use Rattle.disc_image.specs.Image.{Image}
 use Rattle.wd1770.specs.Select.{disc_of}
 use Rattle.key_script.specs.declared.Event.{Event}
-use Rattle.host_bus.specs.Map.{Place, Plugs, place_of}
+use Rattle.host_devices.specs.Map.{Place, Plugs, place_of}
 use Rattle.host_bus.specs.Board.{BoardState, board_closed, answer_at, read_at, written_at, board_irq, board_nmis, break_pending, next_break, break_taken, first_board}
 use Rattle.host_bus.specs.Plugs.{plugs_answer, plugs_after_read, plugs_after_write}
 

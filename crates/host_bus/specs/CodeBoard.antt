@@ -5,13 +5,13 @@ use Rattle.beeb_bits.specs.Clock.{micro}
 use Rattle.saa5050.specs.Shapes.{Font}
 use Rattle.key_script.specs.declared.Event.{Event}
 use Rattle.host_bus.specs.declared.board.Board.TheInside.{Inside}
-use Rattle.host_bus.specs.Devices.{Devices}
+use Rattle.host_devices.specs.Devices.{Devices}
 use Rattle.host_bus.specs.Board.{BoardState, Around, Moving}
-use Rattle.host_bus.specs.CodePicture.{drawn}
+use Rattle.host_devices.specs.CodePicture.{drawn}
 use Rattle.host_bus.specs.CodeReads.{Shows}
-use Rattle.host_bus.specs.CodePlayback.{IsPlayed, IsOnTime}
-use Rattle.host_bus.specs.CodeBreaks.{IsNextBreak, breaks_before}
-use Rattle.host_bus.specs.Sound.{IsInTime}
+use Rattle.host_devices.specs.CodePlayback.{IsPlayed, IsOnTime}
+use Rattle.host_devices.specs.CodeBreaks.{IsNextBreak, breaks_before}
+use Rattle.host_devices.specs.Sound.{IsInTime}
 
 abbrev pub board_seen : Inside → BoardState
 board_seen b = record {

@@ -1,7 +1,7 @@
 -- The byte that stands at an address of the host's memory. No tick and no device changes what a read there gives.
 use Rattle.std.specs.Prelude.{ℕ, ◌≡◌, ◌-◌, Option, Some, None, slice_index, refl}
 use Rattle.rom_set.specs.Roms.{rom_byte}
-use Rattle.host_bus.specs.Map.{Place, Ram, PagedRom, OsRom, place_of}
+use Rattle.host_devices.specs.Map.{Place, Ram, PagedRom, OsRom, place_of}
 use Rattle.host_bus.specs.Board.{BoardState}
 use Rattle.host_bus.specs.Bus.{BusState, bus_closed}
 

@@ -1,7 +1,7 @@
 -- No access changes how long ticks are.
 use Rattle.std.specs.Prelude.{ℕ, ◌≡◌, refl}
-use Rattle.host_bus.specs.declared.map.Device.TheVariants.{RomLatch}
-use Rattle.host_bus.specs.Map.{Place, Plugs, Sheila, place_of}
+use Rattle.host_devices.specs.declared.map.Device.TheVariants.{RomLatch}
+use Rattle.host_devices.specs.Map.{Place, Plugs, Sheila, place_of}
 use Rattle.host_bus.specs.Bus.{BusState, clock_of, after_read_of, after_write_of, bus_after_read, bus_after_write}
 
 read-at : (p : Place) (b : BusState) (at : ℕ) → clock_of (after_read_of p b at) ≡ clock_of b

@@ -18,7 +18,7 @@ use Rattle.adc7002.specs.Step as conversion
 use Rattle.via6522.specs.Step.{step}
 use Rattle.keyboard.specs.Keys.{Keys}
 use Rattle.keyboard.specs.Latch as keyboard
-use Rattle.host_bus.specs.Devices.{Devices, keys_at, levels_at, system_pins, user_pins, raster_after, microsecond, devices_ask}
+use Rattle.host_devices.specs.Devices.{Devices, keys_at, levels_at, system_pins, user_pins, raster_after, microsecond, devices_ask}
 use Rattle.host_bus.specs.Board.{BoardState, Around, Moving, around, moving_part, tick, ticks, board_closed, board_irq, board_nmis}
 
 -- what is drawn leaves the 6845 and the ULA

@@ -3,25 +3,21 @@ ghost use Rattle.std.specs.Prelude.{◌≡◌, ◌≤◌, ◌<◌, ◌+◌, ◌-
 ghost use Rattle.keyboard.specs.Keys.{keys_of};
 ghost use Rattle.wd1770.specs.Select.{disc_of};
 ghost use Rattle.sn76489.specs.Samples.{NeverFallFrom};
-ghost use Rattle.host_bus.specs.Map.{place_of};
-ghost use Rattle.host_bus.specs.Shots.{shot_at};
-ghost use Rattle.host_bus.specs.CodePlayback.{IsPlayed, IsOnTime};
-ghost use Rattle.host_bus.specs.declared.map.Device.TheVariants.{SystemVia};
-ghost use Rattle.host_bus.specs.Devices.{microsecond, last_frame, register_written};
+ghost use Rattle.host_devices.specs.Map.{place_of};
+ghost use Rattle.host_devices.specs.Shots.{shot_at};
+ghost use Rattle.host_devices.specs.CodePlayback.{IsPlayed, IsOnTime};
+ghost use Rattle.host_devices.specs.declared.map.Device.TheVariants.{SystemVia};
+ghost use Rattle.host_devices.specs.Devices.{microsecond, last_frame, register_written};
 ghost use Rattle.host_bus.specs.Board.{ticks, board_closed, answer_at, read_at, written_at, with_sound, board_irq, board_nmis, break_pending, break_taken, next_break, first_board, clear_ram};
-ghost use Rattle.host_bus.specs.CodePicture.{drawn};
+ghost use Rattle.host_devices.specs.CodePicture.{drawn};
 ghost use Rattle.host_bus.specs.CodeReads.{Covered, HasEmpty, HasHalf, HasSlot, Shows};
 ghost use Rattle.host_bus.specs.Lag.{IsCalm, ReadsAbove};
 ghost use Rattle.host_bus.specs.CodeBoard.{around_by, moving};
 ghost use Rattle.beeb_bits.specs.Clock.{micro};
 
-use crate::breaks::Breaks;
-use crate::devices::Devices;
-use crate::map::{Device, device_at};
-use crate::playback::Playback;
-use crate::sound::SoundLog;
 use beeb_bits::{Clock, NoMemory, Tick, zeroed};
 use disc_image::Disc;
+use host_devices::{Breaks, Device, Devices, Playback, SoundLog, device_at};
 use key_script::Script;
 use raster::{Frame, reads_go_on};
 use rom_set::RomSet;
@@ -408,7 +404,7 @@ impl Board {
     }
 
     // A write to the system's 6522, which may write the sound chip.
-    #[tactic(auto, unfolding(crate::specs::Devices::sound_line, crate::specs::Devices::sound_data))]
+    #[tactic(auto, unfolding(host_devices::specs::Devices::sound_line, host_devices::specs::Devices::sound_data))]
     fn write_system(&mut self, at: u16, v: u8)
         ensures { self.new ≡ with_sound self.old (register_written SystemVia at v (self.old).devices) }
     {
@@ -472,7 +468,7 @@ impl Board {
     }
 
     /// Takes every break up to tick `t`, of which one is pending. It takes no memory.
-    #[tactic(auto, unfolding(crate::specs::Devices::devices_reset))]
+    #[tactic(auto, unfolding(host_devices::specs::Devices::devices_reset))]
     pub(crate) fn take_break(&mut self, t: u64)
         requires pending { break_pending self.old t ≡ true }
         requires room { t < 2 ^ 63 }

@@ -1,7 +1,7 @@
 //! The bus.
 ghost use Rattle.std.specs.Prelude.{◌≡◌, ◌≤◌, ◌<◌, ◌+◌, ◌^◌, ◌⊎◌, ◌↔◌, ℕ, true, false, unwrap_or, IfOk, IfSome, None, Some, MatchOption, length, map};
 ghost use Rattle.sn76489.specs.Samples.{NeverFallFrom};
-ghost use Rattle.host_bus.specs.Map.{stretch};
+ghost use Rattle.host_devices.specs.Map.{stretch};
 ghost use Rattle.host_bus.specs.Bus.{bus_closed, closed_at, clock_of, bus_answer, bus_after_read, bus_after_write, bus_irq, bus_nmis, bus_break_pending, bus_next_break, bus_break_taken, bus_disc, bus_power_on};
 ghost use Rattle.host_bus.specs.Peek.{bus_peek};
 ghost use Rattle.host_bus.specs.Lag.{IsCalm};

@@ -2,7 +2,7 @@
 ghost use Rattle.std.specs.Prelude.{◌≡◌, ◌≤◌, ◌<◌, ◌+◌, ◌^◌, ◌⊎◌, ℕ, true, false, unwrap_or, length, IfOk, None, Some, MatchOption};
 ghost use Rattle.wd1770.specs.Select.{disc_of};
 ghost use Rattle.sn76489.specs.Samples.{NeverFallFrom};
-ghost use Rattle.host_bus.specs.Map.{Ram, place_of};
+ghost use Rattle.host_devices.specs.Map.{Ram, place_of};
 ghost use Rattle.host_bus.specs.Board.{board_closed, answer_at, read_at, written_at, board_irq, board_nmis, break_pending, break_taken, next_break, first_board};
 ghost use Rattle.host_bus.specs.Lag.{caught_up, IsCalm, IsSettled};
 

@@ -6,7 +6,7 @@ use Rattle.cpu_alu.specs.declared.Cycle.{Cycle}
 use Rattle.cpu_alu.specs.declared.Cycle.TheVariants.{Read}
 use Rattle.tube_chip.specs.Act.{access}
 use Rattle.tube_chip.specs.declared.Op.TheVariants as op
-use Rattle.host_bus.specs.Map.{Place, Ram, PagedRom, OsRom, place_of, stretch}
+use Rattle.host_devices.specs.Map.{Place, Ram, PagedRom, OsRom, place_of, stretch}
 use Rattle.host_bus.specs.Bus.{BusState, clock_of, bus_closed, answer_of, after_read_of, bus_answer, bus_after_read}
 use Rattle.tube_machine.specs.Step.{byte_in}
 use Rattle.tube_machine.specs.Exchange.{IsQuick}

@@ -12,7 +12,7 @@ use Rattle.tube_chip.specs.declared.Op.TheVariants as op
 use Rattle.tube_chip.specs.Act.{MayDo}
 use Rattle.tube_chip.specs.Events.{is_side}
 use Rattle.tube_party.specs.Moves.{IsLawful, IsPermitted}
-use Rattle.host_bus.specs.Map.{stretched_in, memory_map}
+use Rattle.host_devices.specs.Map.{stretched_in, memory_map}
 use Rattle.host_bus.specs.Bus.{BusState, clock_of}
 use Rattle.host_bus.specs.Closing.{closed-again, closed-still}
 use Rattle.tube_machine.specs.Wiring.{IsWired, StaysPlain}

@@ -8,7 +8,7 @@ use Rattle.cpu_alu.specs.declared.Cycle.{Cycle}
 use Rattle.cpu_alu.specs.declared.Cycle.TheVariants.{Read, Write}
 use Rattle.tube_chip.specs.declared.Answer.{Answer}
 use Rattle.tube_party.specs.Moves.{Moves}
-use Rattle.host_bus.specs.Map.{stretch}
+use Rattle.host_devices.specs.Map.{stretch}
 use Rattle.host_bus.specs.Bus.{BusState, clock_of, bus_closed, closed_at, bus_answer, bus_after_read, bus_after_write, bus_irq, bus_nmis, bus_break_pending, bus_break_taken}
 use Rattle.tube_machine.specs.Wiring.{Wiring}
 use Rattle.tube_machine.specs.Step as at

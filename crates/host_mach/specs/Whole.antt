@@ -12,7 +12,7 @@ use Rattle.cpu_core.specs.State.{State}
 use Rattle.cpu_core.specs.Sequences.{next_cycle, after_byte}
 use Rattle.beeb_bits.specs.Clock.{host}
 use Rattle.tube_chip.specs.declared.Lines.{Lines}
-use Rattle.host_bus.specs.Map.{Place, Ram, PagedRom, OsRom, place_of, stretch, stretched_in, memory_map}
+use Rattle.host_devices.specs.Map.{Place, Ram, PagedRom, OsRom, place_of, stretch, stretched_in, memory_map}
 use Rattle.host_bus.specs.Bus.{BusState, clock_of, bus_closed, closed_at, bus_irq, bus_nmis, answer_of, after_read_of, after_write_of, bus_answer, bus_after_read, bus_after_write}
 use Rattle.host_bus.specs.Closing.{closed-again, closed-still}
 use Rattle.tube_machine.specs.Whole.{reach_of, IsMemory, IsAtRest, StaysAtRest}

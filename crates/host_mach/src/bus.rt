@@ -1,14 +1,15 @@
 //! The bus, with what its processor has taken of the NMI line.
 ghost use Rattle.std.specs.Prelude.{◌≡◌, ◌≤◌, ◌*◌, ◌/◌};
 ghost use Rattle.beeb_bits.specs.Clock.{host};
-ghost use Rattle.host_bus.specs.Map.{stretch};
+ghost use Rattle.host_devices.specs.Map.{stretch};
 ghost use Rattle.host_mach.specs.Step.{is_tube};
 
 use beeb_bits::{Clock, Tick};
 use bus_plug::BusDevice;
 use cpu_alu::{Cycle, Regs};
 use cpu_whole::{Plain, whole};
-use host_bus::{Bus, stretch};
+use host_bus::Bus;
+use host_devices::stretch;
 use op_table::Part;
 use tube_chip::{Lines, Op};
 use tube_machine::{Done, Interrupts, TubeBus, Unable};

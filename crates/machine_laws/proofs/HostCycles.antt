@@ -12,7 +12,7 @@ use Rattle.cpu_core.specs.declared.Sequence.TheVariants.{Instruction, Reset, Nmi
 use Rattle.cpu6502.specs.State as cpu
 use Rattle.cpu6502.specs.Sequences.{next_cycle, halted, fresh}
 use Rattle.tube_chip.specs.declared.Answer.{Answer}
-use Rattle.host_bus.specs.Map.{stretched_in, memory_map, stretch}
+use Rattle.host_devices.specs.Map.{stretched_in, memory_map, stretch}
 use Rattle.host_bus.specs.Bus.{clock_of, bus_break_pending}
 use Rattle.host_mach.specs.State.{HostState, cycle_of, power_on}
 use Rattle.host_mach.specs.Step.{address, byte_of, is_break, after_break, after_step, host_closed}

@@ -10,7 +10,7 @@ use Rattle.cpu_alu.specs.declared.Cycle.{Cycle}
 use Rattle.cpu_core.specs.Sequences.{TakesAtLeast}
 use Rattle.cpu6502.specs.Sequences.{next_cycle, after_byte, halted}
 use Rattle.tube_chip.specs.declared.Answer.{Answer}
-use Rattle.host_bus.specs.Map.{stretched_in, memory_map}
+use Rattle.host_devices.specs.Map.{stretched_in, memory_map}
 use Rattle.host_bus.specs.Bus.{clock_of, bus_break_pending}
 use Rattle.host_mach.specs.State.{HostState}
 use Rattle.host_mach.specs.Step.{address, byte_of, cycle_ticks, is_break, after_break, after_step, host_closed, next_state}

@@ -15,7 +15,7 @@ use Rattle.bus_plug.specs.Plug.{Plug}
 use Rattle.rom_set.specs.Roms.{Roms}
 use Rattle.disc_image.specs.Image.{Image}
 use Rattle.key_script.specs.declared.Event.{Event}
-use Rattle.host_bus.specs.Map.{stretched_in, memory_map}
+use Rattle.host_devices.specs.Map.{stretched_in, memory_map}
 use Rattle.host_bus.specs.Bus.{clock_of}
 use Rattle.host_mach.specs.State.{HostState, cycle_of, power_on}
 use Rattle.host_mach.specs.Step.{address, is_break, next_state}

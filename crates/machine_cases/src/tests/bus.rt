@@ -5,7 +5,8 @@
 use beeb_bits::{Clock, NoMemory, Tick};
 use bus_plug::BusDevice;
 use disc_image::{Disc, Kind};
-use host_bus::{Bus, stretch};
+use host_bus::Bus;
+use host_devices::stretch;
 use key_script::read;
 use raster::Frame;
 use rom_set::RomSet;

@@ -2,10 +2,10 @@ use Rattle.std.proofs.Common.{◌≤◌, ◌+◌, ◌∙◌, ap, subst, min, Lis
 use Rattle.beeb_bits.specs.Clock.{micro}
 use Rattle.keyboard.specs.Keys.{keys_of}
 use Rattle.key_script.specs.declared.Event.{Event}
-use Rattle.host_bus.specs.Devices.{keys_at, levels_at}
-use Rattle.host_bus.specs.CodePicture.{drawn}
+use Rattle.host_devices.specs.Devices.{keys_at, levels_at}
+use Rattle.host_devices.specs.CodePicture.{drawn}
 use Rattle.host_bus.specs.CodeBoard.{around_by}
-use Rattle.host_bus.proofs.Played.{HasNone, played-later, keys-stay, levels-stay}
+use Rattle.host_devices.proofs.Played.{HasNone, played-later, keys-stay, levels-stay}
 use Rattle.host_bus.proofs.Closed.{quiet, beaten, beaten-on-time, with-events, still-on-time}
 use Rattle.host_bus.proofs.board.go_on.Goals as goal
 

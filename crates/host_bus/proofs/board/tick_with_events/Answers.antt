@@ -1,5 +1,5 @@
 use Rattle.beeb_bits.specs.Clock.{micro}
-use Rattle.host_bus.proofs.Beats.{some-micro, next-any}
+use Rattle.host_devices.proofs.Beats.{some-micro, next-any}
 use Rattle.host_bus.proofs.board.tick_with_events.Goals as goal
 
 pub returns-clause-next : goal.returns-clause-next

@@ -1,7 +1,7 @@
 use Rattle.std.proofs.Common.{◌∙◌, sym, ap, ℕ, Option, arith}
 use Rattle.std.specs.Prelude.{unwrap_or}
 use Rattle.host_bus.specs.Board.{BoardState, break_pending, next_break}
-use Rattle.host_bus.proofs.Pressed.{not-pending, pending, number-is}
+use Rattle.host_devices.proofs.Pressed.{not-pending, pending, number-is}
 use Rattle.host_bus.proofs.board.Board.break_tick.Goals as goal
 
 pub returns-clause-none : goal.returns-clause-none

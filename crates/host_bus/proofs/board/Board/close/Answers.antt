@@ -3,9 +3,9 @@ use Rattle.beeb_bits.specs.Clock.{micro}
 use Rattle.key_script.specs.declared.Event.{Event}
 use Rattle.host_bus.specs.Board.{BoardState, around, moving_part, ticks, board_closed}
 use Rattle.host_bus.specs.CodeBoard.{board_seen, moving}
-use Rattle.host_bus.specs.CodePicture.{drawn}
-use Rattle.host_bus.specs.CodeBreaks.{IsNextBreak, breaks_before}
-use Rattle.host_bus.proofs.Heard.{in-time-later}
+use Rattle.host_devices.specs.CodePicture.{drawn}
+use Rattle.host_devices.specs.CodeBreaks.{IsNextBreak, breaks_before}
+use Rattle.host_devices.proofs.Heard.{in-time-later}
 use Rattle.host_bus.proofs.Closed.{valid-later, seen-later, gone, caught}
 use Rattle.host_bus.proofs.board.Board.close.Goals as goal
 

@@ -1,5 +1,5 @@
 use Rattle.std.proofs.Common.{◌∙◌, ap}
-use Rattle.host_bus.specs.Devices.{devices_ask}
+use Rattle.host_devices.specs.Devices.{devices_ask}
 use Rattle.host_bus.specs.Board.{BoardState, board_irq}
 use Rattle.host_bus.proofs.board.Board.irq.Goals as goal
 

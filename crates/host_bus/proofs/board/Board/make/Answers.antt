@@ -4,10 +4,10 @@ use Rattle.beeb_bits.specs.Clock.{micro}
 use Rattle.key_script.specs.declared.Event.{Event}
 use Rattle.host_bus.specs.Board.{clear_ram}
 use Rattle.host_bus.specs.CodeReads.{Shows}
-use Rattle.host_bus.specs.CodeBreaks.{IsNextBreak}
-use Rattle.host_bus.specs.CodePlayback.{IsPlayed}
-use Rattle.host_bus.proofs.Beats.{some-micro}
-use Rattle.host_bus.proofs.Heard.{first-in-time}
+use Rattle.host_devices.specs.CodeBreaks.{IsNextBreak}
+use Rattle.host_devices.specs.CodePlayback.{IsPlayed}
+use Rattle.host_devices.proofs.Beats.{some-micro}
+use Rattle.host_devices.proofs.Heard.{first-in-time}
 use Rattle.host_bus.proofs.board.Board.make.Goals as goal
 
 -- what is so of a result is so of what was made

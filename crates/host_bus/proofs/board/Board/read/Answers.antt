@@ -1,13 +1,13 @@
 use Rattle.std.proofs.Common.{◌≡◌, ◌∙◌, ◌+◌, ap, sym, subst, drop, false, ℕ, List, arith}
 use Rattle.keyboard.specs.Keys.{Keys, keys_of}
 use Rattle.key_script.specs.Keys.{made_of}
-use Rattle.host_bus.specs.Map.{Place, place_of}
-use Rattle.host_bus.specs.Devices.{register_answer}
+use Rattle.host_devices.specs.Map.{Place, place_of}
+use Rattle.host_devices.specs.Devices.{register_answer}
 use Rattle.host_bus.specs.Board.{BoardState, answer_at}
-use Rattle.host_bus.specs.CodePicture.{drawn}
-use Rattle.host_bus.specs.CodePlayback.{IsLeft}
+use Rattle.host_devices.specs.CodePicture.{drawn}
+use Rattle.host_devices.specs.CodePlayback.{IsLeft}
 use Rattle.host_bus.specs.CodeBoard.{board_seen}
-use Rattle.host_bus.proofs.Played.{keys-are}
+use Rattle.host_devices.proofs.Played.{keys-are}
 use Rattle.host_bus.proofs.board.Board.read.Goals as goal
 
 pub returns-clause-answer : goal.returns-clause-answer

@@ -1,6 +1,6 @@
 use Rattle.std.proofs.Common.{◌∙◌, ap, arith}
 use Rattle.host_bus.specs.Board.{BoardState, break_pending}
-use Rattle.host_bus.proofs.Pressed.{pending-due}
+use Rattle.host_devices.proofs.Pressed.{pending-due}
 use Rattle.host_bus.proofs.board.Board.take_break.Goals as goal
 
 pub take-requires-clause-due : goal.take-requires-clause-due

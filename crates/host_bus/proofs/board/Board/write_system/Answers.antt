@@ -2,8 +2,8 @@ use Rattle.std.proofs.Common.{◌∙◌, ap, subst, sym, ℕ, List}
 use Rattle.std.specs.Int.{div_ceil}
 use Rattle.beeb_bits.specs.Clock.{micro}
 use Rattle.sn76489.specs.declared.SoundWrite.{SoundWrite}
-use Rattle.host_bus.specs.Sound.{IsInTime}
-use Rattle.host_bus.proofs.Heard.{rounded-up, in-time-with}
+use Rattle.host_devices.specs.Sound.{IsInTime}
+use Rattle.host_devices.proofs.Heard.{rounded-up, in-time-with}
 use Rattle.host_bus.proofs.board.Board.write_system.Goals as goal
 
 pub invariant_of-self : goal.invariant_of-self

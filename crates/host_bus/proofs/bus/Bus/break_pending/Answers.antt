@@ -1,6 +1,6 @@
 use Rattle.std.proofs.Common.{◌∙◌, sym, inl, inr, arith}
 use Rattle.std.proofs.lemmas.Bool.{cases_lt}
-use Rattle.host_bus.proofs.Pressed.{above, below}
+use Rattle.host_devices.proofs.Pressed.{above, below}
 use Rattle.host_bus.proofs.bus.Bus.break_pending.Goals as goal
 
 pub returns : goal.returns

@@ -1,5 +1,5 @@
 use Rattle.std.proofs.Common.{◌≡◌, ◌≤◌, ◌∙◌, ap, sym, subst, arith}
-use Rattle.host_bus.specs.Map.{Ram}
+use Rattle.host_devices.specs.Map.{Ram}
 use Rattle.host_bus.specs.Board.{BoardState, board_closed, written_at}
 use Rattle.host_bus.specs.Closing.{board-again}
 use Rattle.host_bus.specs.Lag.{Lag, caught_up, IsCalm}

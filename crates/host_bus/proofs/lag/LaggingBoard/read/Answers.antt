@@ -1,5 +1,5 @@
 use Rattle.std.proofs.Common.{◌≡◌, ◌∙◌, ap, sym, subst, max, arith}
-use Rattle.host_bus.specs.Map.{place_of}
+use Rattle.host_devices.specs.Map.{place_of}
 use Rattle.host_bus.specs.Board.{BoardState, read_at}
 use Rattle.host_bus.specs.Closing.{board-still}
 use Rattle.host_bus.specs.Lag.{Lag, caught_up, IsCalm}

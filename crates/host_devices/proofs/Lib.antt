@@ -1,0 +1,5 @@
+pub mod Beats
+pub mod Played
+pub mod Heard
+pub mod Steady
+pub mod Pressed

@@ -1,0 +1,60 @@
+use Rattle.std.proofs.Common.{◌≡◌, ◌≤◌, ◌+◌, ◌∙◌, ◌-◌, ap, refl, subst, sym, Bool, ℕ, suc, arith}
+use Rattle.keyboard.specs.Keys.{keys_of}
+use Rattle.keyboard.specs.Latch.{screen_size}
+use Rattle.raster.specs.Clock as beam
+use Rattle.raster.specs.Reads.{StaysInSync}
+use Rattle.adc7002.specs.State as adc
+use Rattle.adc7002.specs.Registers.{cb1}
+use Rattle.adc7002.specs.Calm.{KeepsItsLine}
+use Rattle.host_devices.specs.Devices.{Devices, system_pins, microseconds}
+use Rattle.host_devices.specs.CodePicture.{Behind, drawn}
+use Rattle.host_devices.proofs.Steady.{line_stays_on, gone_apart, pictures_add, stays_ahead, sync_owed}
+use Rattle.host_devices.proofs.devices.Devices.go_on.Goals as goal
+
+pub invariant_of-self : goal.invariant_of-self
+invariant_of-self c =
+    let b = c.self.inside in
+    let m = c.min-steps.result in
+    let few : m ≤ b.steady = omega (arith, c.min-steps.ensures) in
+    let all : b.owed + b.steady ≡ b.owed + m + (b.steady - m) = omega (arith, few) in
+    record {
+      size = c.self.invariant.size;
+      room = omega (arith, few, c.self.invariant.room);
+      sync = subst (λ (k : ℕ). StaysInSync k b.video) all c.self.invariant.sync;
+      line = subst (λ (a : adc.State). KeepsItsLine (b.steady - m) a) (sym c.advance-2.ensures) (line_stays_on c.args.levels b.steady m b.converter few c.self.invariant.line);
+      reads = c.self.invariant.reads;
+    }
+
+pub returns-clause-rest : goal.returns-clause-rest
+returns-clause-rest c =
+    let b = c.self.inside in
+    let ram = c.args.ram.now in
+    let font = c.args.letters.now.font in
+    let now : Devices = record { video = b.video; disc = b.disc; latch = b.latch.bits; converter = b.converter; system = b.system; user = b.user } in
+    let behind : Behind = record { devices = now; owed = b.owed } in
+    let d = drawn ram font behind in
+    let size = screen_size b.latch.bits in
+    let m = c.min-steps.result in
+    let keys = keys_of c.args.keys.now in
+    let few : m ≤ b.steady = omega (arith, c.min-steps.ensures) in
+    let is_pins : c.system_pins-pins.result ≡ system_pins (beam.vsync_of d.video) (cb1 d.converter) keys d =
+    c.system_pins-pins.ensures
+    ∙ ap (λ (x : Behind). system_pins (beam.vsync_of x.devices.video) c.cb1.result keys x.devices) (sym c.self.view_is)
+    ∙ ap (λ (line : Bool). system_pins (beam.vsync_of b.video) line keys now) c.cb1.ensures
+    ∙ ap (λ (sync : Bool). system_pins sync (cb1 b.converter) keys now) (sym (sync_owed ram size font b.owed b.steady b.video c.self.invariant.sync)) in
+    gone_apart c.devices_go_on_apart.ensures ram font keys c.args.levels c.args.n m size c.system_pins-pins.result d
+    (beam.microseconds ram size font (b.owed + m) b.video) c.advance.new.self c.advance-2.new.self c.advance-3.new.self c.advance-4.new.self
+    (omega (arith, c.min-steps.ensures))
+    (stays_ahead c.sync_stays_on.ensures ram size font b.owed b.steady m b.video few c.self.invariant.sync)
+    (λ l low. c.self.invariant.line l (omega (arith, low, few)))
+    refl is_pins (sym (pictures_add ram size font b.owed m b.video)) c.advance.ensures c.advance-2.ensures c.advance-3.ensures c.advance-4.ensures
+    ∙ ap (λ (x : Behind). microseconds ram font keys c.args.levels c.args.n (drawn ram font x)) c.self.view_is
+
+pub returns-then-self-eq0-clause-rest : goal.returns-then-self-eq0-clause-rest
+returns-then-self-eq0-clause-rest c =
+    let ram = c.args.ram.now in
+    let font = c.args.letters.now.font in
+    let keys = keys_of c.args.keys.now in
+    let all : suc (c.args.n - 1) ≡ c.args.n = omega (arith, c.requires.some) in
+    ap (λ (x : Devices). microseconds ram font keys c.args.levels (c.args.n - 1) x) c.step.ensures
+    ∙ ap (λ (k : ℕ). microseconds ram font keys c.args.levels k (drawn ram font c.args.self.now)) all

@@ -1,0 +1,13 @@
+-- What the fields of the devices keep.
+use Rattle.std.specs.Prelude.{◌≡◌, ◌<◌, ◌+◌, ◌^◌}
+use Rattle.raster.specs.Reads.{StaysInSync, ReadsFrom}
+use Rattle.adc7002.specs.Calm.{KeepsItsLine}
+use Rattle.keyboard.specs.Latch.{screen_size}
+use Rattle.host_devices.specs.declared.devices.Devices.TheInside.{Inside}
+
+pub record AreInStep (d : Inside) : Type 0 where
+  pub size : d.size ≡ screen_size d.latch.bits
+  pub room : d.owed + d.steady < 2 ^ 64
+  pub sync : StaysInSync (d.owed + d.steady) d.video
+  pub line : KeepsItsLine d.steady d.converter
+  pub reads : ReadsFrom d.lowest (screen_size d.latch.bits) d.video

@@ -1,0 +1,10 @@
+pub mod Map
+pub mod Devices
+pub mod Apart
+pub mod Shots
+pub mod Breaks
+pub mod Sound
+pub mod CodePlayback
+pub mod CodeBreaks
+pub mod CodePicture
+pub mod CodeDevices

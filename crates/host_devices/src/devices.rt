@@ -1,0 +1,427 @@
+//! The devices that go by microseconds, and how they are wired.
+ghost use Rattle.std.specs.Prelude.{◌≡◌, ◌≤◌, ◌<◌, ◌+◌, ◌%◌, ◌^◌, ◌==◌, ℕ, Bool, true, List, None, Some, MatchOption, IfOk, IfSome, length, slice_set, if◌then◌else◌};
+ghost use Rattle.saa5050.specs.Shapes.{Font};
+ghost use Rattle.adc7002.specs.Step.{step};
+ghost use Rattle.via6522.specs.declared.Pins.{Pins};
+ghost use Rattle.raster.specs.Clock.{vsync_of};
+ghost use Rattle.raster.specs.Reads.{ReadsFrom};
+ghost use Rattle.wd1770.specs.Select.{disc_of};
+ghost use Rattle.keyboard.specs.Keys.{keys_of};
+ghost use Rattle.keyboard.specs.Latch.{screen_size};
+ghost use Rattle.host_devices.specs.Apart.{AreCalm};
+ghost use Rattle.host_devices.specs.CodePicture.{drawn};
+ghost use Rattle.host_devices.specs.Devices.{system_pins, raster_after, microsecond, last_frame, microseconds, register_answer, register_read, register_written, after_latch, sound_line, sound_data, devices_ask, devices_reset, first_devices};
+
+use crate::law::devices_go_on_apart;
+use crate::map::Device;
+use adc7002::Adc;
+use beeb_bits::NoMemory;
+use disc_image::Disc;
+use keyboard::{Keys, Latch};
+use raster::{Frame, Raster, reads_go_on, stores_below_are_unseen, sync_stays_on};
+use saa5050::Letters;
+use std::alloc::Global;
+use std::marker::Model;
+use via6522::{Pins, Via};
+use wd1770::Fdc;
+
+/// The pins of the user's 6522.
+const USER_PINS: Pins = Pins {
+    a: 0xff,
+    b: 0xff,
+    ca1: true,
+    ca2: true,
+    cb1: true,
+    cb2: true,
+};
+
+/// The picture, the disc controller, the converter, the two 6522s, and the addressable latch behind the system's. The picture is drawn later
+/// than the others are stepped: where a line may change, or a register or a byte of the RAM that it reads.
+#[derive(Drop)]
+pub struct Devices {
+    video: Raster,
+    disc: Fdc,
+    latch: Latch,
+    // The size of the screen by the latch, which is asked for in each microsecond.
+    size: u16,
+    converter: Adc,
+    system: Via,
+    user: Via,
+    // So many microseconds the picture is behind the other devices.
+    owed: u64,
+    // For so many more vertical sync and the converter's line surely stay as they are.
+    steady: u64,
+    // The picture reads no byte of the RAM below this address.
+    lowest: u16,
+}
+
+impl Model for Devices {
+    ghost use Rattle.host_devices.specs.CodePicture.{Behind};
+    ghost use Rattle.host_devices.specs.CodeDevices.{AreInStep};
+
+    ghost Value = { Behind };
+
+    ghost view = { λ d. record {
+      devices = record { video = d.video; disc = d.disc; latch = d.latch.bits; converter = d.converter; system = d.system; user = d.user };
+      owed = d.owed;
+    } };
+
+    ghost invariant = { AreInStep };
+}
+
+impl Devices {
+    /// The devices at power-on, with the discs of both drives.
+    #[tactic(auto, unfolding(crate::specs::Devices::first_devices))]
+    pub fn make(alloc: Global, d0: Option<Disc>, d1: Option<Disc>) -> Result<Devices, NoMemory>
+        ensures { IfOk result (λ d. d ≡ record { devices = first_devices d0 d1; owed = 0 }) }
+    {
+        let video = Raster::make(alloc)?;
+        let latch = Latch::new();
+        Ok(Devices {
+            video,
+            disc: Fdc::new(d0, d1),
+            latch,
+            size: latch.screen_size(),
+            converter: Adc::new(),
+            system: Via::new(),
+            user: Via::new(),
+            owed: 0,
+            steady: 0,
+            lowest: 0,
+        })
+    }
+
+    // The pins of the system's 6522, where the converter's line is at this level. CA1 is vertical sync.
+    #[inline(always)]
+    fn system_pins(&self, cb1: bool, keys: &Keys) -> Pins
+        ensures { let d = (self.now).devices in
+            result ≡ system_pins (vsync_of d.video) cb1 (keys_of keys.now) d }
+    {
+        let port_a = self.system.out_a();
+        Pins {
+            a: if keys.port_a_bit_7(&self.latch, port_a) {
+                0xff
+            } else {
+                0x7f
+            },
+            b: 0xff,
+            ca1: self.video.vsync(),
+            ca2: keys.ca2(&self.latch, port_a),
+            cb1,
+            cb2: true,
+        }
+    }
+
+    /// Draws what the picture owes.
+    #[inline(never)]
+    pub fn draw(&mut self, ram: &[u8], letters: &Letters)
+        requires { length ram.now ≡ 32768 }
+        ensures { self.new ≡ record { devices = drawn ram.now letters.now.font self.old; owed = 0 } }
+    {
+        sync_stays_on();
+        reads_go_on();
+        self.video.advance(ram, self.size, letters, self.owed);
+        self.owed = 0;
+    }
+
+    /// Draws what the picture owes where it may read the byte at this address, which is then written.
+    #[inline(always)]
+    pub fn make_way(&mut self, ram: &[u8], letters: &Letters, at: u16)
+        requires { length ram.now ≡ 32768 }
+        ensures { let font = letters.now.font in
+            (v : ℕ) → drawn (slice_set ram.now at v) font self.new ≡ drawn ram.now font self.old }
+    {
+        stores_below_are_unseen();
+        if at >= self.lowest {
+            self.draw(ram, letters);
+        }
+    }
+
+    // One microsecond of a picture that owes nothing, which may change vertical sync.
+    #[inline(always)]
+    #[tactic(auto, using(crate::proofs::Steady::nothing_owed, crate::proofs::Steady::no_step))]
+    fn show(&mut self, ram: &[u8], letters: &Letters)
+        requires ram { length ram.now ≡ 32768 }
+        requires drawn { (self.old).owed ≡ 0 }
+        ensures { let old = (self.old).devices in
+            self.new ≡ record self.old { devices = record old { video = raster_after ram.now letters.now.font old } } }
+    {
+        self.steady = 0;
+        self.lowest = 0;
+        self.video.step(ram, self.size, letters);
+    }
+
+    // One microsecond of the converter, which may change its line.
+    #[inline(always)]
+    #[tactic(auto, using(crate::proofs::Steady::one_step, crate::proofs::Steady::nothing_owed, crate::proofs::Steady::no_step))]
+    fn convert(&mut self, levels: [u16; 4])
+        requires drawn { (self.old).owed ≡ 0 }
+        ensures { let old = (self.old).devices in
+            self.new ≡ record self.old { devices = record old { converter = step levels old.converter } } }
+    {
+        self.steady = 0;
+        self.converter.advance(levels, 1);
+    }
+
+    // Finds out how long vertical sync and the converter's line stay as they are, and what the picture reads.
+    fn look_ahead(&mut self)
+        requires drawn { (self.old).owed ≡ 0 }
+        ensures { self.new ≡ self.old }
+    {
+        self.steady = self.video.calm().min(self.converter.calm());
+        self.lowest = self.video.lowest(self.size);
+    }
+
+    // Any microsecond, also one in which a line between two devices changes.
+    #[inline(never)]
+    #[tactic(auto, unfolding(crate::specs::Devices::microsecond))]
+    fn step(&mut self, ram: &[u8], letters: &Letters, keys: &Keys, levels: [u16; 4])
+        requires { length ram.now ≡ 32768 }
+        ensures { let see = drawn ram.now letters.now.font in
+            see self.new ≡ microsecond ram.now letters.now.font (keys_of keys.now) levels (see self.old) }
+    {
+        self.draw(ram, letters);
+        self.show(ram, letters);
+        self.disc.step();
+        self.convert(levels);
+        let line = self.converter.cb1();
+        let pins = self.system_pins(line, keys);
+        self.system.step(pins);
+        self.user.step(USER_PINS);
+        self.look_ahead();
+    }
+
+    // Does some of `n` microseconds, and answers how many are left: those in which the lines between the devices stay as they are, of each
+    // device by itself, where the picture owes them, or one by one where a line may change.
+    fn go_on(&mut self, ram: &[u8], letters: &Letters, keys: &Keys, levels: [u16; 4], n: u64) -> u64
+        requires ram { length ram.now ≡ 32768 }
+        requires some { 0 < n }
+        ensures fewer { result < n }
+        ensures rest { let see = drawn ram.now letters.now.font in
+            let after = microseconds ram.now letters.now.font (keys_of keys.now) levels in
+            after result (see self.new) ≡ after n (see self.old) }
+    {
+        if self.steady == 0 {
+            self.step(ram, letters, keys, levels);
+            return n - 1;
+        }
+        devices_go_on_apart();
+        sync_stays_on();
+        let steps = n.min(self.steady);
+        let pins = self.system_pins(self.converter.cb1(), keys);
+        self.owed += steps;
+        self.disc.advance(steps);
+        self.converter.advance(levels, steps);
+        self.system.advance(pins, steps);
+        self.user.advance(USER_PINS, steps);
+        self.steady -= steps;
+        n - steps
+    }
+
+    /// Does `n` microseconds, over this RAM and with these letters, keys and these levels of the converter's channels.
+    pub fn advance(&mut self, ram: &[u8], letters: &Letters, keys: &Keys, levels: [u16; 4], n: u64)
+        requires { length ram.now ≡ 32768 }
+        ensures { let see = drawn ram.now letters.now.font in
+            see self.new ≡ microseconds ram.now letters.now.font (keys_of keys.now) levels n (see self.old) }
+    {
+        let mut left = n;
+        while left > 0 {
+            left = self.go_on(ram, letters, keys, levels, left);
+        }
+    }
+
+    /// A number of microseconds for which, with these keys, the lines to the processor surely stay as they are.
+    pub fn calm(&self, keys: &Keys) -> u64
+        ensures { (ram : List ℕ) (font : Font) → AreCalm (keys_of keys.now) result (drawn ram font self.now) }
+    {
+        let pins = self.system_pins(self.converter.cb1(), keys);
+        devices_go_on_apart();
+        sync_stays_on();
+        let chips = self.disc.calm().min(self.user.calm(USER_PINS));
+        chips.min(self.system.calm(pins)).min(self.steady)
+    }
+
+    /// An address of the RAM below which the picture reads nothing, until a register is written.
+    #[inline(always)]
+    pub fn lowest(&self) -> u16
+        ensures { ReadsFrom result (screen_size (self.now).devices.latch) (self.now).devices.video }
+    {
+        self.lowest
+    }
+
+    /// The last frame that was finished, or a black one, as far as all is drawn.
+    #[tactic(auto, unfolding(crate::specs::Devices::last_frame))]
+    pub fn last_frame(&self) -> &Frame
+        ensures { result.now ≡ last_frame (self.now).devices }
+    {
+        self.video.frame()
+    }
+
+    /// A read of a register in SHEILA.
+    #[tactic(auto, unfolding(crate::specs::Devices::register_answer, crate::specs::Devices::register_read), using(crate::proofs::Steady::nothing_owed))]
+    pub fn read(
+        &mut self,
+        ram: &[u8],
+        letters: &Letters,
+        keys: &Keys,
+        device: Device,
+        at: u16,
+    ) -> u8
+        requires { length ram.now ≡ 32768 }
+        ensures answer { result ≡ register_answer device at (keys_of keys.now) (drawn ram.now letters.now.font self.old) }
+        ensures after { let see = drawn ram.now letters.now.font in
+            see self.new ≡ register_read device at (see self.old) }
+    {
+        match device {
+            Device::Crtc => {
+                self.draw(ram, letters);
+                self.steady = 0;
+                self.lowest = 0;
+                if at % 2 == 0 {
+                    0xfe
+                } else {
+                    self.video.crtc().get()
+                }
+            }
+            Device::Acia => { if at % 2 == 0 { 0x02 } else { 0x00 } }
+            Device::SystemVia => {
+                let pins = self.system_pins(self.converter.cb1(), keys);
+                self.system.read((at % 16) as u8, pins)
+            }
+            Device::UserVia => self.user.read((at % 16) as u8, USER_PINS),
+            Device::DiscController => self.disc.read((at % 4) as u8),
+            Device::Adc => self.converter.read((at % 4) as u8),
+            _ => 0xfe,
+        }
+    }
+
+    /// The byte of a register of a 6522 that no pins matter to, and that a read leaves as it is.
+    #[inline(always)]
+    #[tactic(auto, unfolding(crate::specs::Devices::register_answer, crate::specs::Devices::register_read))]
+    pub fn held(&self, device: Device, at: u16) -> Option<u8>
+        ensures answer { IfSome result (λ byte. (ram : List ℕ) (font : Font) (keys : ℕ → Bool) →
+            byte ≡ register_answer device at keys (drawn ram font self.now)) }
+        ensures after { IfSome result (λ byte. (ram : List ℕ) (font : Font) →
+            register_read device at (drawn ram font self.now) ≡ drawn ram font self.now) }
+    {
+        let via = match device {
+            Device::SystemVia => &self.system,
+            Device::UserVia => &self.user,
+            _ => return None,
+        };
+        let reg = (at % 16) as u8;
+        if reg < 11 || reg == 15 {
+            None
+        } else {
+            Some(via.held(reg))
+        }
+    }
+
+    /// A write to a register in SHEILA.
+    #[tactic(auto, unfolding(crate::specs::Devices::register_written), using(crate::proofs::Steady::nothing_owed))]
+    pub fn write(&mut self, ram: &[u8], letters: &Letters, device: Device, at: u16, v: u8)
+        requires { length ram.now ≡ 32768 }
+        ensures { let see = drawn ram.now letters.now.font in
+            see self.new ≡ register_written device at v (see self.old) }
+    {
+        match device {
+            Device::Crtc => {
+                self.draw(ram, letters);
+                self.steady = 0;
+                self.lowest = 0;
+                if at % 2 == 0 {
+                    self.video.crtc().select(v);
+                } else {
+                    self.video.crtc().set(v);
+                }
+            }
+            Device::VideoUla => {
+                self.draw(ram, letters);
+                self.steady = 0;
+                self.lowest = 0;
+                if at % 2 == 0 {
+                    self.video.ula().control(v);
+                } else {
+                    self.video.ula().palette(v);
+                }
+            }
+            Device::SystemVia => {
+                self.system.write((at % 16) as u8, v);
+                self.latch_port_b(ram, letters, (at % 16) as u8);
+            }
+            Device::UserVia => self.user.write((at % 16) as u8, v),
+            Device::DiscLatch => self.disc.latch(v),
+            Device::DiscController => self.disc.write((at % 4) as u8, v),
+            Device::Adc => {
+                self.steady = 0;
+                self.converter.write((at % 4) as u8, v);
+            }
+            _ => {}
+        }
+    }
+
+    // A write to register 0 or 2 puts the pins of port B into the addressable latch, which may change the size of the screen.
+    #[tactic(auto, unfolding(crate::specs::Devices::after_latch))]
+    fn latch_port_b(&mut self, ram: &[u8], letters: &Letters, reg: u8)
+        requires { length ram.now ≡ 32768 }
+        ensures { let see = drawn ram.now letters.now.font in
+            see self.new ≡ after_latch reg (see self.old) }
+    {
+        if reg == 0 || reg == 2 {
+            self.draw(ram, letters);
+            self.latch.write(self.system.out_b());
+            self.size = self.latch.screen_size();
+            self.lowest = self.video.lowest(self.size);
+        }
+    }
+
+    /// The write line of the sound chip, which is active where it is low: bit 0 of the addressable latch.
+    #[tactic(auto, unfolding(crate::specs::Devices::sound_line))]
+    pub fn sound_line(&self) -> bool
+        ensures { result ≡ sound_line (self.now).devices }
+    {
+        self.latch.bits[0]
+    }
+
+    /// The byte at the sound chip: the pins of port A of the system's 6522.
+    #[tactic(auto, unfolding(crate::specs::Devices::sound_data))]
+    pub fn sound_data(&self) -> u8
+        ensures { result ≡ sound_data (self.now).devices }
+    {
+        self.system.out_a()
+    }
+
+    /// BREAK: 00 is written to the disc latch, and the user's 6522 is as at power-on.
+    #[tactic(auto, unfolding(crate::specs::Devices::devices_reset))]
+    pub fn reset(&mut self)
+        ensures { self.new ≡ record self.old { devices = devices_reset (self.old).devices } }
+    {
+        self.disc.latch(0);
+        self.user = Via::new();
+    }
+
+    /// The disc in a drive.
+    pub fn disc(&self, drive: u8) -> Option<&Disc>
+        ensures { let there = disc_of drive (self.now).devices.disc in
+            MatchOption result (there ≡ None) (λ disc. there ≡ Some disc.now) }
+    {
+        self.disc.disc(drive)
+    }
+
+    /// How often the disc controller's "DRQ or INTRQ" has risen.
+    #[inline(always)]
+    pub fn nmis(&self) -> u64
+        ensures { result ≡ (self.now).devices.disc.nmis }
+    {
+        self.disc.nmis()
+    }
+
+    /// Whether one of both 6522s asks for an interrupt.
+    #[inline(always)]
+    #[tactic(auto, unfolding(crate::specs::Devices::devices_ask))]
+    pub fn ask(&self) -> bool
+        ensures { result ≡ devices_ask (self.now).devices }
+    {
+        self.system.irq() || self.user.irq()
+    }
+}
