@@ -1,4 +1,5 @@
 //! Tables of cases, by the public calls of each crate.
 mod bus;
+mod held;
 mod lagging;
 mod second_processor;

@@ -2,6 +2,7 @@
 //!
 //! A program is words of a tick, a colon and what is done at it: `AAAA=VV` writes a byte to an address, and `AAAA?VV` reads it there; `irq` and
 //! `calm` look at the interrupt line; `+N` looks how often the NMI line rose; `D#N` looks how long the image in a drive is, or that there is none.
+use super::held::with_new;
 use beeb_bits::{Clock, NoMemory, Tick};
 use bus_plug::BusDevice;
 use disc_image::{Disc, Kind};
@@ -201,8 +202,8 @@ fn first_wrong(
     for clock in CLOCKS {
         for line in lines.lines() {
             if let Some((script, program)) = line.split_once('|') {
-                let mut bus = bus_with(alloc, clock, script)?;
-                if !does(&mut bus, before) || !does(&mut bus, program) {
+                let bus = bus_with(alloc, clock, script);
+                if !with_new(bus, |bus| does(bus, before) && does(bus, program))? {
                     return Ok(Some((clock, line)));
                 }
             }
@@ -261,14 +262,18 @@ FEA0 FEA3 FE FE fast
 FEE0 FEFF - - fast
 ";
 
-// Whether an address of a new bus of either clock reads these before and after a write of A5.
+// Whether an address reads these before and after a write of A5.
+fn reads_as_mapped(bus: &mut Bus, at: u16, before: u8, after: u8) -> bool {
+    is_right(bus, 30, Read(at, before))
+        && is_right(bus, 33, Write(at, 0xa5))
+        && is_right(bus, 39, Read(at, after))
+}
+
+// The same of a new bus of either clock.
 fn is_as_mapped(alloc: Global, at: u16, before: u8, after: u8) -> Result<bool, Fail> {
     for clock in CLOCKS {
-        let mut bus = bus_with(alloc, clock, "")?;
-        if !is_right(&mut bus, 30, Read(at, before))
-            || !is_right(&mut bus, 33, Write(at, 0xa5))
-            || !is_right(&mut bus, 39, Read(at, after))
-        {
+        let bus = bus_with(alloc, clock, "");
+        if !with_new(bus, |bus| reads_as_mapped(bus, at, before, after))? {
             return Ok(false);
         }
     }
@@ -359,8 +364,8 @@ fn has_its_ticks(alloc: Global, row: &str) -> Result<Option<bool>, Fail> {
     let Some(clock) = clock_of(megahertz) else {
         return Ok(None);
     };
-    let mut bus = bus_with(alloc, clock, "")?;
-    Ok(Some(does_by(&mut bus, 1, program)))
+    let bus = bus_with(alloc, clock, "");
+    Ok(Some(with_new(bus, |bus| does_by(bus, 1, program))?))
 }
 
 #[test]
@@ -432,18 +437,28 @@ impl BusDevice for Counter {
 const OWNERS: &str =
     "0:FC0F?14 3:FC10?0A 6:FCFF?0B 9:FD00?15 12:FDFE?16 15:FDFF?FF 18:FC10=77 21:FDFF=55 24:FC20?77 27:FC00?17";
 
+// A bus with two of them.
+fn bus_with_counters(alloc: Global) -> Result<Bus<Counter>, Fail> {
+    let device = |first, last, byte| Counter { first, last, byte };
+    let plugs = vec![in alloc; device(0xfc10, 0xfcff, 10), device(0xfc00, 0xfdfe, 20)]?;
+    let script = read(alloc, b"")?;
+    let roms = roms(alloc)?;
+    Ok(Bus::make(alloc, Clock::Three, roms, None, None, script, plugs)?)
+}
+
+// Whether each access is one call of its owner.
+fn first_owners_answer(bus: &mut Bus<Counter>) -> bool {
+    let is_right = does(bus, OWNERS);
+    let bytes = bus.plugs().iter().map(|device| device.byte);
+    let are_right = bytes.eq([0x78, 24]);
+    bus.finish(Tick(60));
+    is_right && are_right && bus.ram().len() == 32_768
+}
+
 #[test]
 fn the_first_owner_answers_and_no_other(rt: HostRuntime) -> Result<(), Fail> {
-    let device = |first, last, byte| Counter { first, last, byte };
-    let plugs = vec![in rt.alloc(); device(0xfc10, 0xfcff, 10), device(0xfc00, 0xfdfe, 20)]?;
-    let script = read(rt.alloc(), b"")?;
-    let roms = roms(rt.alloc())?;
-    let mut bus = Bus::make(rt.alloc(), Clock::Three, roms, None, None, script, plugs)?;
-    assert!(rt; does(&mut bus, OWNERS));
-    let bytes = bus.plugs().iter().map(|device| device.byte);
-    assert!(rt; bytes.eq([0x78, 24]));
-    bus.finish(Tick(60));
-    assert_eq!(rt; bus.ram().len(), 32_768);
+    let bus = bus_with_counters(rt.alloc());
+    assert!(rt; with_new(bus, |bus| first_owners_answer(bus))?);
     Ok(())
 }
 
@@ -539,16 +554,19 @@ fn are_frames(frames: &[Frame], is_shown: bool) -> bool {
     lit(frames) == [Some(0), Some(0), Some(count), Some(count)] && is_there == Some(is_shown)
 }
 
-// Whether the shots of a new bus are right after a program.
+// Whether the shots are right after a program.
+fn takes_shots(bus: &mut Bus, program: &str, shown: &str) -> bool {
+    does(bus, SCREEN)
+        && does(bus, program)
+        && are_taken(bus)
+        && are_frames(bus.frames(), shown == "shown")
+}
+
+// The same of a new bus.
 fn takes_its_shots(alloc: Global, clock: Clock, program: &str, shown: &str) -> Result<bool, Fail> {
     let script = "at 1 shot;at 224262 shot;at 224263 shot;at 224263 shot;";
-    let mut bus = bus_with(alloc, clock, script)?;
-    Ok(
-        does(&mut bus, SCREEN)
-            && does(&mut bus, program)
-            && are_taken(&mut bus)
-            && are_frames(bus.frames(), shown == "shown"),
-    )
+    let bus = bus_with(alloc, clock, script);
+    with_new(bus, |bus| takes_shots(bus, program, shown))
 }
 
 #[test]
@@ -678,14 +696,27 @@ fn are_sounds(sound: &[SoundWrite], words: &str) -> bool {
         .eq(sound.iter().map(|write| Some(*write)))
 }
 
+// Whether a program at a new bus makes these sound writes.
+fn makes_its_sounds(
+    alloc: Global,
+    clock: Clock,
+    program: &str,
+    sounds: &str,
+) -> Result<bool, Fail> {
+    let bus = bus_with(alloc, clock, "");
+    with_new(
+        bus,
+        |bus| does(bus, program) && are_sounds(bus.sound(), sounds),
+    )
+}
+
 #[test]
 fn the_sound_chip_is_written_where_bit_0_of_the_latch_falls(rt: HostRuntime) -> Result<(), Fail> {
     for clock in CLOCKS {
         for line in SOUNDS.lines() {
             if let Some((program, sounds)) = line.split_once('|') {
-                let mut bus = bus_with(rt.alloc(), clock, "")?;
                 assert!(rt;
-                    does(&mut bus, program) && are_sounds(bus.sound(), sounds),
+                    makes_its_sounds(rt.alloc(), clock, program, sounds)?,
                     "{clock:?} {line}"
                 );
             }
@@ -705,17 +736,24 @@ fn write_sound(bus: &mut Bus, v: u8, times: u32) -> bool {
     is_done
 }
 
-#[test]
-fn the_first_1048576_sound_writes_are_kept(rt: HostRuntime) -> Result<(), Fail> {
-    let mut bus = bus_with(rt.alloc(), Clock::Three, "")?;
-    assert!(rt; does(&mut bus, "0:FE42=FF 0:FE43=FF"));
-    assert!(rt; write_sound(&mut bus, 0x9f, 1_048_575));
-    assert_eq!(rt; bus.sound().len(), 1_048_575);
-    assert!(rt; write_sound(&mut bus, 0x80, 1) && write_sound(&mut bus, 0x81, 1));
+// Whether as many writes are kept as there is room for, and none behind them.
+fn keeps_the_first(bus: &mut Bus) -> bool {
     let last = SoundWrite {
         moment: 1,
         byte: 0x80,
     };
-    assert!(rt; bus.sound().len() == 1_048_576 && bus.sound().last() == Some(&last));
+    does(bus, "0:FE42=FF 0:FE43=FF")
+        && write_sound(bus, 0x9f, 1_048_575)
+        && bus.sound().len() == 1_048_575
+        && write_sound(bus, 0x80, 1)
+        && write_sound(bus, 0x81, 1)
+        && bus.sound().len() == 1_048_576
+        && bus.sound().last() == Some(&last)
+}
+
+#[test]
+fn the_first_1048576_sound_writes_are_kept(rt: HostRuntime) -> Result<(), Fail> {
+    let bus = bus_with(rt.alloc(), Clock::Three, "");
+    assert!(rt; with_new(bus, |bus| keeps_the_first(bus))?);
     Ok(())
 }

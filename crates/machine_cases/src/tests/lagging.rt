@@ -3,6 +3,7 @@
 //! A program is words of a tick, a colon and what is done at it: `AAAA=VV` writes a byte to an address, `AAAA?` reads it there, and `look` looks at
 //! both lines to the processor.
 use super::bus::{CLOCKS, bus_with, scale};
+use super::held::{pair, with_new};
 use beeb_bits::{Clock, Tick};
 use host_bus::Bus;
 use raster::Frame;
@@ -63,26 +64,19 @@ const SINGLE: u64 = 400;
 
 // Both buses, of which the second is stepped at each tick before an act.
 #[derive(Drop)]
-struct Both {
-    lagging: Bus,
-    stepped: Bus,
+struct Both<'a> {
+    lagging: &'a mut Bus,
+    stepped: &'a mut Bus,
 }
 
-impl Both {
-    fn new(alloc: Global, clock: Clock, script: &str) -> Result<Both, Fail> {
-        Ok(Both {
-            lagging: bus_with(alloc, clock, script)?,
-            stepped: bus_with(alloc, clock, script)?,
-        })
-    }
-
+impl Both<'_> {
     // Steps the second up to a tick, the last ticks before it one by one. A read of the 6845 each six ticks has the picture drawn too.
     fn step(&mut self, t: u64) {
         let t = t % (1 << 40);
         for k in t.saturating_sub(SINGLE)..=t {
             self.stepped.finish(Tick(k));
             if k < t && k % 6 == 0 {
-                let _ = told(&mut self.stepped, k, Act::Read(0xfe00));
+                let _ = told(self.stepped, k, Act::Read(0xfe00));
             }
         }
     }
@@ -90,8 +84,8 @@ impl Both {
     // Does an act at both, and answers whether both tell the same.
     fn agree(&mut self, t: u64, act: Act) -> bool {
         self.step(t);
-        let one = told(&mut self.lagging, t, act);
-        one.is_some() && one == told(&mut self.stepped, t, act)
+        let one = told(self.lagging, t, act);
+        one.is_some() && one == told(self.stepped, t, act)
     }
 
     // Whether both come to the same at a tick.
@@ -137,7 +131,7 @@ fn at_tick(alloc: Global, line: &str, tick: u64) -> Result<String, Fail> {
 }
 
 // Whether both buses agree at each word of a program, each tick of which is so many of theirs.
-fn agree_at_words(both: &mut Both, times: u64, program: &str) -> bool {
+fn agree_at_words(both: &mut Both<'_>, times: u64, program: &str) -> bool {
     for word in program.split(' ') {
         let Some((t, act)) = word_of(word) else {
             return false;
@@ -158,9 +152,11 @@ fn agree_on(
     end: u64,
 ) -> Result<bool, Fail> {
     let times = scale(clock);
-    let mut both = Both::new(alloc, clock, script)?;
-    let agree = agree_at_words(&mut both, times, program);
-    Ok(agree && both.come_to_the_same(end.wrapping_mul(times)))
+    let make = || bus_with(alloc, clock, script);
+    with_new(pair(make(), make), |(lagging, stepped)| {
+        let mut both = Both { lagging, stepped };
+        agree_at_words(&mut both, times, program) && both.come_to_the_same(end.wrapping_mul(times))
+    })
 }
 
 // Eight rows of eight lines of 64 characters, of which one row of 40 characters is shown, from 5800 on: a frame has 4,096 microseconds, or 24,576
@@ -334,7 +330,7 @@ const SETTINGS: &str = "1:FE42=0F 1:FE80=29 1:FE4E=FF 1:FE6E=FF";
 const ACTS: u32 = 250;
 
 // Whether both buses agree on the acts of a seed, and come to the same behind them.
-fn agree_by_chance(both: &mut Both, seed: u64) -> bool {
+fn agree_by_chance(both: &mut Both<'_>, seed: u64) -> bool {
     let mut chance = Chance { state: seed };
     let mut t: u64 = 1;
     for _ in 0..ACTS {
@@ -349,9 +345,13 @@ fn agree_by_chance(both: &mut Both, seed: u64) -> bool {
 
 // The same of new buses with the small screen.
 fn new_ones_agree(alloc: Global, clock: Clock, seed: u64) -> Result<bool, Fail> {
-    let mut both = Both::new(alloc, clock, EVENTS)?;
-    let set = agree_at_words(&mut both, 1, SMALL_SCREEN) && agree_at_words(&mut both, 1, SETTINGS);
-    Ok(set && agree_by_chance(&mut both, seed))
+    let make = || bus_with(alloc, clock, EVENTS);
+    with_new(pair(make(), make), |(lagging, stepped)| {
+        let mut both = Both { lagging, stepped };
+        agree_at_words(&mut both, 1, SMALL_SCREEN)
+            && agree_at_words(&mut both, 1, SETTINGS)
+            && agree_by_chance(&mut both, seed)
+    })
 }
 
 #[test]
