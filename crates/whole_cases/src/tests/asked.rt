@@ -272,16 +272,12 @@ const FIRST_BYTE: u64 = 21_900;
 const STRIDES: u64 = 120;
 
 // The microsecond up to which both differ first while a disc asks for NMIs.
-fn first_nmi<D: BusDevice>(
-    alloc: Global,
+fn first_apart<M: Kind>(
     clock: Clock,
-    program: Program,
+    far: Result<M, NoMemory>,
+    near: Result<M, NoMemory>,
 ) -> Result<Option<u64>, NoMemory> {
-    let mut setting = setting_by(alloc, program, &READ_SECTOR)?;
-    setting.patch(0xc040, &DISC_NMI);
-    let far = with_disc::<D>(alloc, clock, &setting)?;
-    let near = with_disc::<D>(alloc, clock, &setting)?;
-    let mut both = Both::new(far, near, Tube::new(NEVER, NEVER));
+    let mut both = Both::new(far?, near?, Tube::new(NEVER, NEVER));
     for k in 0..STRIDES {
         let micro = FIRST_BYTE + 149 * k;
         if !both.meet(clock.micro() * micro) {
@@ -294,6 +290,19 @@ fn first_nmi<D: BusDevice>(
     } else {
         Ok(Some(0))
     }
+}
+
+// The same of hosts with a disc and a program that reads it. They are made here and held there, where no proof sees their fields.
+fn first_nmi<D: BusDevice>(
+    alloc: Global,
+    clock: Clock,
+    program: Program,
+) -> Result<Option<u64>, NoMemory> {
+    let mut setting = setting_by(alloc, program, &READ_SECTOR)?;
+    setting.patch(0xc040, &DISC_NMI);
+    let far = with_disc::<D>(alloc, clock, &setting);
+    let near = with_disc::<D>(alloc, clock, &setting);
+    first_apart(clock, far, near)
 }
 
 // The first program but the last, which halts a host, and the microsecond where both differ while a disc asks for NMIs.

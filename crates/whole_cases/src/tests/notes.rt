@@ -6,7 +6,7 @@ use super::plane::Counted;
 use super::programs::{OWN_WRITERS, PROGRAMS, Program, setting_of};
 use beeb_bits::{Clock, NoMemory, Tick};
 use para_mach::ParaMachine;
-use std::alloc::Global;
+use std::alloc::{AllocError, Global};
 use std::test::Fail;
 use tube_party::{Ask, MOST, NO_LINES, Party, Rewinds};
 
@@ -133,27 +133,56 @@ const TAKEN_BACK: u64 = 120;
 
 // The first number of ticks behind the look at which a run with notes goes wrong; that number itself for one that goes as far as it can.
 fn first_stride(
+    machine: &mut ParaMachine,
+    past: &mut Past,
+    near: &mut ParaMachine,
+    twin: &ParaMachine,
+    is_writer: bool,
+) -> Option<u64> {
+    let look = twin.due().0;
+    for k in 0..TAKEN_BACK {
+        if !is_taken_back(machine, past, near, twin, look.saturating_add(k)) {
+            return Some(k);
+        }
+    }
+    let sure = look.saturating_add(TAKEN_BACK);
+    if is_writer && !is_taken_back_from_far(machine, past, near, twin, sure) {
+        return Some(TAKEN_BACK);
+    }
+    None
+}
+
+// What machines answer by a machine's notes. What holds them is generic, since a proof that sees their fields follows each of them over each way out.
+fn ask<M: Drop, P: Drop, F: FnOnce(&mut M, &mut P, &mut M, &M) -> Option<u64> + Drop>(
+    machine: Result<M, NoMemory>,
+    past: Result<P, AllocError>,
+    near: Result<M, NoMemory>,
+    twin: Result<M, NoMemory>,
+    answer: F,
+) -> Result<Option<u64>, NoMemory>
+    requires { F.IsAlwaysCallable answer }
+{
+    let mut machine = machine?;
+    let mut past = past?;
+    let mut near = near?;
+    let twin = twin?;
+    Ok(answer(&mut machine, &mut past, &mut near, &twin))
+}
+
+// That number for new machines in front of a program.
+fn first_stride_of(
     alloc: Global,
     clock: Clock,
     program: Program,
     is_writer: bool,
 ) -> Result<Option<u64>, NoMemory> {
-    let mut machine = before(alloc, clock, program, false)?;
-    let mut near = before(alloc, clock, program, true)?;
-    let twin = before(alloc, clock, program, true)?;
-    let mut past = ParaMachine::past(alloc)?;
-    let look = twin.due().0;
-    for k in 0..TAKEN_BACK {
-        let sure = look.saturating_add(k);
-        if !is_taken_back(&mut machine, &mut past, &mut near, &twin, sure) {
-            return Ok(Some(k));
-        }
-    }
-    let sure = look.saturating_add(TAKEN_BACK);
-    if is_writer && !is_taken_back_from_far(&mut machine, &mut past, &mut near, &twin, sure) {
-        return Ok(Some(TAKEN_BACK));
-    }
-    Ok(None)
+    ask(
+        before(alloc, clock, program, false),
+        ParaMachine::past(alloc),
+        before(alloc, clock, program, true),
+        before(alloc, clock, program, true),
+        |machine, past, near, twin| first_stride(machine, past, near, twin, is_writer),
+    )
 }
 
 // The first program of some, with that number.
@@ -164,7 +193,7 @@ fn first_noted(
 ) -> Result<Option<(usize, u64)>, NoMemory> {
     for (i, program) in programs.iter().enumerate() {
         for clock in [Clock::Three, Clock::Four] {
-            if let Some(k) = first_stride(alloc, clock, *program, are_writers)? {
+            if let Some(k) = first_stride_of(alloc, clock, *program, are_writers)? {
                 return Ok(Some((i, k)));
             }
         }
