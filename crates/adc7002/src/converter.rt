@@ -120,7 +120,7 @@ impl Adc {
         self.has_ended = true;
     }
 
-    /// The line to the system VIA's CB1: low from a conversion's end to the next write to register 0.
+    /// The end of conversion, EOC, which is the line to the system VIA's CB1: low from a conversion's end to the next write to register 0.
     #[inline(always)]
     pub fn cb1(&self) -> bool
         ensures { result ≡ cb1 self.now }

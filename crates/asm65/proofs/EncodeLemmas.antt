@@ -79,11 +79,6 @@ pub record Encoded (part : Part) (labels : Labels) (all : List Placed) (number o
   pub size : origin + length done ≡ at
   pub within : at ≤ 65536
 
-pub encoded_none : (part : Part) (labels : Labels) (all : List Placed) (origin : ℕ) → first_pass part 1 [] all ≡ None → origin ≤ 65535
-    → Encoded part labels all 0 origin origin [] all
-encoded_none part labels all origin clear within =
-    record { names = []; clear = clear; whole = refl; made = refl; size = add-zero origin; within = omega arith }
-
 pub no_fault : (o later : Option AsmError) → or_later o later ≡ None → (o ≡ None) × (later ≡ None)
 no_fault None later e = (refl, e)
 no_fault (Some fault) later e = cc
@@ -131,14 +126,6 @@ encoded_more part labels all number origin at next old new line lines so_far enc
       size = rw (encoded.bytes, encoded.behind) (let size = so_far.size in omega (arith, longer, reached.0, size));
       within = rw encoded.behind reached.1;
     }
-
-pub encoded_all : (part : Part) (labels : Labels) (all : List Placed) (number origin at : ℕ) (done : List ℕ)
-    → Encoded part labels all number origin at done [] → IsProgram part labels origin all done
-encoded_all part labels all number origin at done so_far = record {
-  clear = so_far.whole;
-  made = sym (so_far.made ∙ append-nil done);
-  fits = let size = so_far.size in let within = so_far.within in omega arith;
-}
 
 pub encoded_fault : (part : Part) (labels : Labels) (all : List Placed) (number origin at : ℕ) (done : List ℕ) (line : Option Line) (lines : List (Option Line)) (e : AsmError)
     → Encoded part labels all number origin at done (placed_from part at (line ∷ lines)) → second_fault part (number + 1) labels at line ≡ Some e

@@ -86,9 +86,6 @@ pub record Passed (part : Part) (all : List Placed) (number : ℕ) (map : BTreeM
   pub whole : first_pass part 1 [] all ≡ first_pass part (number + 1) (names before) left
   pub labels : labels_of all ≡ before ++ labels_of left
 
-pub passed_none : (part : Part) (all : List Placed) (map : BTreeMap (Bor (List ℕ)) ℕ) → map.entries ≡ [] → Passed part all 0 map all
-passed_none part all map e = record { before = []; same = λ q. rw e refl; whole = refl; labels = refl }
-
 -- the labels in the map have the names of the labels before
 among_before : (map : BTreeMap (Bor (List ℕ)) ℕ) (before : Labels) → ((q : List ℕ) → value_of_label (labels_in map) q ≡ value_of_label before q)
     → (name : List ℕ) → is_among (names_in map) name ≡ is_among (names before) name
@@ -124,12 +121,6 @@ passed_more part all number old new at next line lines passed placed =
       whole = passed.whole ∙ rw (clear, more, placed.behind) refl;
       labels = passed.labels ∙ rw placed.behind (sym (append_assoc passed.before (line_labels at line) (labels_of (placed_from part (after_line part at line) lines))));
     }
-
-pub passed_all : (part : Part) (all : List Placed) (number : ℕ) (map : BTreeMap (Bor (List ℕ)) ℕ) → Passed part all number map [] → IsLabelled part all map
-passed_all part all number map passed = record {
-  clear = passed.whole;
-  labelled = λ q. passed.same q ∙ sym (rw passed.labels (ap (λ labels. value_of_label labels q) (append-nil passed.before)));
-}
 
 pub passed_fault : (part : Part) (all : List Placed) (number : ℕ) (map : BTreeMap (Bor (List ℕ)) ℕ) (at : ℕ) (line : Option Line) (lines : List (Option Line)) (e : AsmError)
     → Passed part all number map (placed_from part at (line ∷ lines)) → first_fault part (number + 1) (names_in map) at line ≡ Some e

@@ -53,17 +53,19 @@ module _ (part : Part) (text : List ℕ) (origin : ℕ) (is : origin ≡ origin_
     pub source_second : (e : AsmError) → second_pass part 1 (labels_in labels) (placed_from part origin (parsed_text text)) ≡ Some e → source part text ≡ Err e
     unfolding source
     source_second e fault =
+        let lines = placed_from part origin (parsed_text text) in
         let clear = rw is at labelled.clear in
-        let same = sym (second_pass-same (labels_in labels) (labels_of (placed_from part origin (parsed_text text))) labelled.labelled part 1 (placed_from part origin (parsed_text text))) ∙ fault in
+        let same = sym (second_pass-same (labels_in labels) (labels_of lines) labelled.labelled part 1 lines) ∙ fault in
         let here = rw is at same in
         rw (clear, here) refl
 
     pub source_program : (made : List ℕ) → IsProgram part (labels_in labels) origin (placed_from part origin (parsed_text text)) made → source part text ≡ Ok (origin, made)
     unfolding source
     source_program made program =
+        let lines = placed_from part origin (parsed_text text) in
         let clear = rw is at labelled.clear in
-        let same = sym (second_pass-same (labels_in labels) (labels_of (placed_from part origin (parsed_text text))) labelled.labelled part 1 (placed_from part origin (parsed_text text))) ∙ program.clear in
+        let same = sym (second_pass-same (labels_in labels) (labels_of lines) labelled.labelled part 1 lines) ∙ program.clear in
         let here = rw is at same in
-        let its_bytes = program.made ∙ program_bytes-same (labels_in labels) (labels_of (placed_from part origin (parsed_text text))) labelled.labelled part (placed_from part origin (parsed_text text)) in
+        let its_bytes = program.made ∙ program_bytes-same (labels_in labels) (labels_of lines) labelled.labelled part lines in
         let done = rw is at its_bytes in
         rw (clear, here, done, is) refl

@@ -1,41 +1,8 @@
--- A text by its first line, and the code of a line from its end.
+-- The run at the front of code, and the tokens behind it.
 use Rattle.std.proofs.Common.{◌≡◌, ◌∙◌, sym, refl, ap, ℕ, ◌+◌, ◌-◌, ◌<◌, ◌≤◌, List, [], ◌∷◌, length, take, drop, not, Bool, true, false, ◌==◌, arith, one-add}
 use Rattle.std.specs.List.{prefix_len}
 use Rattle.std.proofs.lemmas.List.{take_all, drop_all, length-drop}
-use Rattle.asm_lines.specs.Tokens.{lines_of, Cut, cut_of, cut_with, tokens_of_cut, tokens_of, is_word_byte, is_blank}
-
--- how many bytes stand before the first line feed
-abbrev pub before_feed : List ℕ → ℕ
-before_feed text = prefix_len (λ b. not (b == 10)) text
-
-first_line_in : (b : ℕ) (text : List ℕ) (t : Bool) → (b == 10) ≡ t
-    → (0 < length text → lines_of text ≡ take (before_feed text) text ∷ lines_of (drop (1 + before_feed text) text))
-    → lines_of (b ∷ text) ≡ take (before_feed (b ∷ text)) (b ∷ text) ∷ lines_of (drop (1 + before_feed (b ∷ text)) (b ∷ text))
-first_line_in b text true e rest = rw e refl
-first_line_in b [] false e rest = rw e refl
-first_line_in b (x ∷ text) false e rest = rw (e, rest (omega arith)) (simp one-add)
-
-first_line_of : (text : List ℕ) → 0 < length text → lines_of text ≡ take (before_feed text) text ∷ lines_of (drop (1 + before_feed text) text)
-first_line_of [] h = absurd (omega arith)
-first_line_of (b ∷ text) h = first_line_in b text (b == 10) refl (first_line_of text)
-
--- the first line, which a line feed ends
-pub line_before_feed : (text : List ℕ) (n : ℕ) → 0 < length text → n ≡ before_feed text
-    → lines_of text ≡ take n text ∷ lines_of (take (length text - (n + 1)) (drop (n + 1) text))
-line_before_feed text n h e =
-    let all : take (length text - (n + 1)) (drop (n + 1) text) ≡ drop (n + 1) text = take_all _ _ (omega (arith, length-drop (n + 1) text)) in
-    let swap : n + 1 ≡ 1 + before_feed text = omega arith in
-    rw (all, swap, e) (first_line_of text h)
-
--- the first line, which the text ends with
-pub line_to_end : (text : List ℕ) (n : ℕ) → 0 < length text → n ≡ before_feed text → length text ≤ n
-    → lines_of text ≡ take n text ∷ lines_of (take (length text - n) (drop n text))
-line_to_end text n h e end =
-    let none : length text - n ≡ 0 = omega arith in
-    let past : drop (1 + before_feed text) text ≡ [] = drop_all (1 + before_feed text) text (omega arith) in
-    rw (none, e) (first_line_of text h ∙ rw past refl)
-
--- ---- the run at the front of code, and the tokens behind it
+use Rattle.asm_lines.specs.Tokens.{Cut, cut_of, cut_with, tokens_of_cut, tokens_of, is_word_byte, is_blank}
 
 -- a byte of no run ends it
 no_run : (b : ℕ) (c : Cut) → is_word_byte b ≡ false → (cut_with b c).run ≡ []

@@ -7,7 +7,8 @@ use Rattle.op_table.specs.declared.Mnemonic.{Mnemonic}
 use Rattle.op_table.specs.Names.{mnemonic_of}
 use Rattle.digits.specs.Decimal.{is_digit, decimal_value}
 use Rattle.digits.specs.Hexadecimal.{is_hex_any_case, hex_number as hex_value}
-use Rattle.asm_lines.specs.Tokens.{Token, word, hex, colon, comma, hash, left, right, low, high, plus, other, is_letter, lines_of, code_of, tokens_of}
+use Rattle.digits.specs.Lines.{text_lines}
+use Rattle.asm_lines.specs.Tokens.{Token, word, hex, colon, comma, hash, left, right, low, high, plus, other, is_letter, code_of, tokens_of}
 
 -- Numbers. A byte-sized one takes one byte where the form allows it.
 pub record Number : Type 0 where
@@ -282,4 +283,4 @@ line_of tokens = option_map (λ s. record { label = None; statement = s }) (rest
 
 -- The lines of a text.
 abbrev pub parsed_text : List ℕ → List (Option Line)
-parsed_text text = map (λ line. line_of (tokens_of (code_of line))) (lines_of text)
+parsed_text text = map (λ line. line_of (tokens_of (code_of line))) (text_lines text)

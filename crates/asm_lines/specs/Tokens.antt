@@ -1,20 +1,14 @@
--- The lines of a source text, and the tokens of a line.
+-- The code of a line of a source text, and its tokens.
 use Rattle.std.specs.Prelude.{ℕ, ◌==◌, ◌&&◌, ◌||◌, nat_le, Bool, not, List, [], ◌∷◌, take_while, if◌then◌else◌}
 use Rattle.digits.specs.Decimal.{is_digit}
 
--- a byte in front of the first line
-abbrev pub begin_with : ℕ → List (List ℕ) → List (List ℕ)
-begin_with b [] = (b ∷ []) ∷ []
-begin_with b (line ∷ lines) = (b ∷ line) ∷ lines
+-- neither a line feed nor `;`, with which a comment begins
+abbrev pub is_code : ℕ → Bool
+is_code b = not (b == 10) && not (b == 59)
 
--- The lines of a text, each without its line feed, which the last may lack.
-abbrev pub lines_of : List ℕ → List (List ℕ)
-lines_of [] = []
-lines_of (b ∷ text) = if b == 10 then [] ∷ lines_of text else begin_with b (lines_of text)
-
--- a line up to its comment, which begins with `;`
+-- a line up to its comment or its line feed
 abbrev pub code_of : List ℕ → List ℕ
-code_of line = take_while (λ b. not (b == 59)) line
+code_of line = take_while is_code line
 
 abbrev pub is_letter : ℕ → Bool
 is_letter b = (nat_le 65 b && nat_le b 90) || (nat_le 97 b && nat_le b 122)

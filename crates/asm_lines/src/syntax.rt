@@ -7,8 +7,8 @@ ghost use Rattle.asm_lines.specs.Tokens.{comma, right, word, tokens_of};
 ghost use Rattle.asm_lines.specs.Syntax.{decimal_number, hex_number, number_of, is_named, is_register, begins_name, is_label, label_at, word_at, base_at, portion_of, value_at, opening_of, from_value, closing_of, value_and_closing, operand_of, values_of, org_of, instruction_of, rest_of, line_of, parsed_text};
 ghost use Rattle.asm_lines.specs.Code.{seen_token, seen_number, seen_base_and_rest, seen_portion, seen_value_and_rest, seen_opening, seen_closing, seen_value_and_closing, seen_operand, values_of_list, length_left, seen_list, seen_first, seen_next_value, values_by_first, seen_statement, seen_line, seen_label_and_rest, word_statement, label_in_front};
 
-use crate::tokens::{Token, code_of, first_line, next_token};
-use digits::{all_digits, all_hex_any_case, decimal_value};
+use crate::tokens::{Token, code_of, next_token};
+use digits::{all_digits, all_hex_any_case, decimal_value, first_line};
 use op_table::Mnemonic;
 
 /// A number by its size: a byte-sized one takes one byte where the form allows it.

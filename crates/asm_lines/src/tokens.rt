@@ -1,7 +1,7 @@
-//! The lines of a source text, and the tokens of a line, one after another.
-ghost use Rattle.std.specs.Prelude.{◌≡◌, ◌+◌, ◌<◌, ◌≤◌, ◌==◌, not, false, length, IfSome, ◌∷◌};
+//! The code of a line, and its tokens, one after another.
+ghost use Rattle.std.specs.Prelude.{◌≡◌, ◌+◌, ◌<◌, ◌≤◌, false, length, IfSome, ◌∷◌};
 ghost use Rattle.std.specs.List.{prefix_len};
-ghost use Rattle.asm_lines.specs.Tokens.{is_word_byte, is_blank, mark, code_of, lines_of, tokens_of, cut_of};
+ghost use Rattle.asm_lines.specs.Tokens.{is_word_byte, is_blank, mark, is_code, code_of, tokens_of, cut_of};
 ghost use Rattle.asm_lines.specs.Code.{seen_token, seen_next};
 
 /// A token of a line.
@@ -23,34 +23,21 @@ pub(crate) enum Token<'a> {
     Other,
 }
 
-// How many bytes stand before the first of these, or all where there is none.
-fn length_before(end: u8, bytes: &[u8]) -> usize
-    ensures value { result ≡ prefix_len (λ b. not (b == end)) bytes.now }
-    ensures within { result ≤ length bytes.now }
+// How many bytes stand before the comment or the line feed, or all where there is neither.
+fn code_length(line: &[u8]) -> usize
+    ensures value { result ≡ prefix_len is_code line.now }
+    ensures within { result ≤ length line.now }
 {
-    bytes.iter().take_while(|b| **b != end).count()
+    line.iter()
+        .take_while(|b| **b != b'\n' && **b != b';')
+        .count()
 }
 
-/// The first line of a text that has a byte, without its line feed, and the text behind it.
-pub(crate) fn first_line(text: &[u8]) -> (&[u8], &[u8])
-    requires { 0 < length text.now }
-    ensures lines { lines_of text.now ≡ result.0.now ∷ lines_of result.1.now }
-    ensures shorter { length result.1.now < length text.now }
-{
-    let end = length_before(b'\n', text);
-    let line = &text[..end];
-    if end < text.len() {
-        (line, &text[end + 1..])
-    } else {
-        (line, &text[end..])
-    }
-}
-
-/// A line up to its comment.
+/// A line up to its comment or its line feed.
 pub(crate) fn code_of(line: &[u8]) -> &[u8]
     ensures { result.now ≡ code_of line.now }
 {
-    &line[..length_before(b';', line)]
+    &line[..code_length(line)]
 }
 
 fn is_word_byte(b: u8) -> bool

@@ -7,6 +7,7 @@ ghost use Rattle.beeb_files.specs.Outlet.{NoCountFell};
 ghost use Rattle.beeb_files.specs.Folder.{dir_shelf_state, dir_outlet_state};
 
 use crate::outlet::{Outlet, PutError};
+use crate::replacing;
 use crate::shelf::{Shelf, ShelfError};
 use std::alloc::Global;
 use std::fs::OpenFile;
@@ -135,7 +136,8 @@ impl<'a, R: Files + Print> DirOutlet<'a, R> {
 impl<'a, R: Files + Print> Outlet for DirOutlet<'a, R> {
     ghost outlet = { dir_outlet_state };
 
-    /// Fails, and counts, where the system refuses to write the whole file.
+    /// Fails, and counts, where the system refuses to write the whole file. A plain file that stands
+    /// there is replaced by the whole new one, or stays.
     fn put(&mut self, name: &str, bytes: &[u8]) -> Result<(), PutError>
         ensures ok { OnOk result
             ((dir_outlet_state self.new).files ≡ put name.now bytes.now (dir_outlet_state self.old).files) }
@@ -150,7 +152,7 @@ impl<'a, R: Files + Print> Outlet for DirOutlet<'a, R> {
         ensures counted { OnErr result (self.new ≡ one_more self.old) }
         ensures refusal { IsOkUnless result PutError.Failed }
     {
-        let done = fs::write(self.rt, name, bytes);
+        let done = replacing::write(self.rt, name, bytes);
         self.answer(done)
     }
 

@@ -1,11 +1,11 @@
 -- A machine that differs from its trace.
 use Rattle.std.proofs.Common.{◌≡◌, refl, ℕ, Option, Some}
 use Rattle.tube_party.specs.declared.Doing.{Doing}
-use Rattle.beeb_stages.specs.Plan.{Verdict}
-use Rattle.beeb_status.specs.declared.status.Ending.{Ending}
-use Rattle.beeb_status.specs.declared.status.Ending.TheVariants.{Differs}
-use Rattle.beeb_outcome.specs.Verdicts.{said_verdict}
-use Rattle.replay_outcome.specs.Replay.{differs_text, verdict_of_place}
+use Rattle.cmd_stages.specs.Plan.{Verdict}
+use Rattle.cmd_status.specs.declared.status.Ending.{Ending}
+use Rattle.cmd_status.specs.declared.status.Ending.TheVariants.{Differs}
+use Rattle.cmd_outcome.specs.Verdicts.{said_verdict}
+use Rattle.cmd_replayed.specs.Replay.{differs_text, verdict_of_place}
 
 pub differs_is : {S : Type 0} (done : S → Verdict Ending) (s : S) (place : Option (ℕ × Option Doing)) (line : ℕ) (doing : Option Doing) → place ≡ Some (line, doing) →
     said_verdict (Differs line doing) (differs_text line doing) ≡ verdict_of_place done s place

@@ -17,16 +17,16 @@ use Rattle.follow.specs.Machines.{host_sight, para_sight}
 use Rattle.follow.specs.Listing.{ListingState, replay_listing}
 use Rattle.host_mach.specs.Step.{host_moves}
 use Rattle.para_mach.specs.Step.{para_moves}
-use Rattle.beeb_stages.specs.Plan.{Verdict, ◌>>=◌}
-use Rattle.beeb_stages.specs.declared.stop.Refusal.{Refusal}
-use Rattle.beeb_status.specs.declared.status.Ending.{Ending}
-use Rattle.beeb_status.specs.declared.status.Cause.{Cause}
-use Rattle.power_on.specs.Inputs.{Inputs}
-use Rattle.power_on.specs.Setup.{Setup}
-use Rattle.beeb_outcome.specs.Verdicts.{listing_verdict}
-use Rattle.replay_outcome.specs.Replay.{verdict_of_place, unless_wrong}
-use Rattle.replay_outcome.specs.Host.{host_of}
-use Rattle.replay_outcome.specs.Para.{para_of}
+use Rattle.cmd_stages.specs.Plan.{Verdict, ◌>>=◌}
+use Rattle.cmd_stages.specs.declared.stop.Refusal.{Refusal}
+use Rattle.cmd_status.specs.declared.status.Ending.{Ending}
+use Rattle.cmd_status.specs.declared.status.Cause.{Cause}
+use Rattle.cmd_machines.specs.Inputs.{Inputs}
+use Rattle.cmd_machines.specs.Setup.{Setup}
+use Rattle.cmd_outcome.specs.Verdicts.{listing_verdict}
+use Rattle.cmd_replayed.specs.Replay.{verdict_of_place, unless_wrong}
+use Rattle.cmd_replayed.specs.Host.{host_of}
+use Rattle.cmd_replayed.specs.Para.{para_of}
 
 -- `listed N of M` and a line feed
 unfoldable pub listed_text : ℕ → ℕ → List ℕ

@@ -2,18 +2,18 @@
 ghost use Rattle.std.specs.Prelude.{◌≡◌, ◌≤◌, All, IfOk, IsTrue};
 ghost use Rattle.tube_trace.specs.Entries.{IsEntry};
 ghost use Rattle.tube_trace.specs.FirstWrong.{wrong};
-ghost use Rattle.beeb_outcome.specs.View.{verdict_of};
-ghost use Rattle.replay_outcome.specs.Replay.{unless_wrong};
+ghost use Rattle.cmd_outcome.specs.View.{verdict_of};
+ghost use Rattle.cmd_replayed.specs.Replay.{unless_wrong};
 ghost use Rattle.follow.specs.Listing.{replay_listing};
 ghost use Rattle.tube_party.specs.Replay.{replay_of};
 ghost use Rattle.cmd_follow.specs.Follow.{listed_text, listed_by};
 
 use beeb_bits::{Side, Tick};
-use beeb_outcome::{Outcome, listing_outcome, wrong_outcome};
 use bus_plug::BusDevice;
+use cmd_outcome::{Outcome, listing_outcome, wrong_outcome};
+use cmd_replayed::differs_outcome;
 use follow::{Choice, FollowError, Seen, list};
 use op_table::Part;
-use replay_outcome::differs_outcome;
 use std::alloc::{AllocError, Global};
 use tube_party::MOST;
 use tube_trace::{Entry, first_wrong};

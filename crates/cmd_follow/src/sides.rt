@@ -1,20 +1,20 @@
 //! `follow host TRACE TICKS OUT --os NAME` and options, and `follow para TRACE TICKS OUT --tube NAME` and options.
 ghost use Rattle.std.specs.Prelude.{◌<◌, ◌≤◌, All};
-ghost use Rattle.beeb_stages.specs.View.{Gives};
-ghost use Rattle.power_on.specs.View.{seen_inputs, seen_setup};
-ghost use Rattle.beeb_outcome.specs.View.{verdict_of};
+ghost use Rattle.cmd_stages.specs.View.{Gives};
+ghost use Rattle.cmd_machines.specs.View.{seen_inputs, seen_setup};
+ghost use Rattle.cmd_outcome.specs.View.{verdict_of};
 ghost use Rattle.cmd_follow.specs.Follow.{follow_host_after, follow_para_after};
 
 use crate::listed::listed;
 use beeb_bits::{Clock, Side};
-use beeb_outcome::Outcome;
-use beeb_stages::Refusal;
-use beeb_status::Cause;
 use bus_plug::BusDevice;
+use cmd_machines::{Inputs, Setup};
+use cmd_outcome::Outcome;
+use cmd_replayed::{host_made, para_made};
+use cmd_stages::Refusal;
+use cmd_status::Cause;
 use follow::Choice;
 use op_table::Part;
-use power_on::{Inputs, Setup};
-use replay_outcome::{host_made, para_made};
 use std::alloc::Global;
 use tube_party::MOST;
 

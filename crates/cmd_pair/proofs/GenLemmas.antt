@@ -1,8 +1,8 @@
 -- Want of memory, of which a promise says nothing.
 use Rattle.std.proofs.Common.{◌≡◌, Result, Ok, Err, IsErrAnd}
-use Rattle.beeb_stages.specs.declared.stop.Refusal.{Refusal}
-use Rattle.beeb_stages.specs.declared.stop.Refusal.TheVariants.{Cause, NoMemory}
-use Rattle.beeb_stages.specs.View.{Gives}
+use Rattle.cmd_stages.specs.declared.stop.Refusal.{Refusal}
+use Rattle.cmd_stages.specs.declared.stop.Refusal.TheVariants.{Cause, NoMemory}
+use Rattle.cmd_stages.specs.View.{Gives}
 
 pub no_memory_gives : {X Y C : Type 0} (view : X → Y) (r : Result X (Refusal C)) (stage : Result Y (Refusal C)) → IsErrAnd r (λ refusal. refusal ≡ NoMemory) →
     Gives view r stage

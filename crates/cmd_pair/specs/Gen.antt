@@ -12,16 +12,16 @@ use Rattle.disc_image.specs.declared.Kind.TheVariants.{Ssd}
 use Rattle.host_mach.specs.State.{HostState}
 use Rattle.host_mach.specs.Step.{host_moves}
 use Rattle.para_mach.specs.Step.{para_moves}
-use Rattle.beeb_stages.specs.Plan.{Verdict, ◌>>=◌, or_refusal}
-use Rattle.beeb_stages.specs.declared.stop.Refusal.{Refusal}
-use Rattle.beeb_stages.specs.declared.stop.Refusal.TheVariants as refusals
-use Rattle.beeb_status.specs.declared.status.Ending.{Ending}
-use Rattle.beeb_status.specs.declared.status.Ending.TheVariants.{Done}
-use Rattle.beeb_status.specs.declared.status.Cause.{Cause}
-use Rattle.power_on.specs.Inputs.{Inputs, no_inputs}
-use Rattle.power_on.specs.Setup.{Setup, setup}
-use Rattle.beeb_outcome.specs.Verdicts.{said_verdict}
-use Rattle.power_on.specs.Machines.{machines_of}
+use Rattle.cmd_stages.specs.Plan.{Verdict, ◌>>=◌, or_refusal}
+use Rattle.cmd_stages.specs.declared.stop.Refusal.{Refusal}
+use Rattle.cmd_stages.specs.declared.stop.Refusal.TheVariants as refusals
+use Rattle.cmd_status.specs.declared.status.Ending.{Ending}
+use Rattle.cmd_status.specs.declared.status.Ending.TheVariants.{Done}
+use Rattle.cmd_status.specs.declared.status.Cause.{Cause}
+use Rattle.cmd_machines.specs.Inputs.{Inputs, no_inputs}
+use Rattle.cmd_machines.specs.Setup.{Setup, setup}
+use Rattle.cmd_outcome.specs.Verdicts.{said_verdict}
+use Rattle.cmd_machines.specs.Machines.{machines_of}
 
 -- Both programs have images, so that this refusal never comes.
 abbrev pub no_image : AsmError → Refusal Cause

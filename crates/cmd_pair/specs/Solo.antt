@@ -3,16 +3,16 @@ use Rattle.std.specs.Prelude.{ℕ, Result, Ok}
 use Rattle.tube_party.specs.Reference.{reference}
 use Rattle.host_mach.specs.Step.{host_moves}
 use Rattle.para_mach.specs.Step.{para_moves}
-use Rattle.beeb_stages.specs.Plan.{Verdict, ◌>>=◌}
-use Rattle.beeb_stages.specs.declared.stop.Refusal.{Refusal}
-use Rattle.beeb_status.specs.declared.status.Ending.{Ending}
-use Rattle.beeb_status.specs.declared.status.Cause.{Cause}
-use Rattle.power_on.specs.Inputs.{Inputs}
-use Rattle.power_on.specs.Setup.{Setup}
-use Rattle.power_on.specs.Machines.{machines_of}
-use Rattle.power_on.specs.Sessions.{begun_if}
-use Rattle.beeb_outcome.specs.Names.{Names}
-use Rattle.pair_outcome.specs.Kept.{kept_verdict}
+use Rattle.cmd_stages.specs.Plan.{Verdict, ◌>>=◌}
+use Rattle.cmd_stages.specs.declared.stop.Refusal.{Refusal}
+use Rattle.cmd_status.specs.declared.status.Ending.{Ending}
+use Rattle.cmd_status.specs.declared.status.Cause.{Cause}
+use Rattle.cmd_machines.specs.Inputs.{Inputs}
+use Rattle.cmd_machines.specs.Setup.{Setup}
+use Rattle.cmd_machines.specs.Machines.{machines_of}
+use Rattle.cmd_machines.specs.Sessions.{begun_if}
+use Rattle.cmd_outcome.specs.Names.{Names}
+use Rattle.cmd_ended.specs.Kept.{kept_verdict}
 
 -- the reference run of both machines from power-on
 unfoldable pub solo_after : Setup → ℕ → ℕ → Names → Inputs → Result (Verdict Ending) (Refusal Cause)

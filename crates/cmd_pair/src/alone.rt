@@ -1,8 +1,7 @@
 //! A run of two parties on one thread.
-ghost use Rattle.std.specs.Prelude.{◌≤◌, IfOk, IsTrue};
-ghost use Rattle.beeb_bits.specs.declared.Side.TheVariants.{Host, Para};
+ghost use Rattle.std.specs.Prelude.{◌≤◌, IfOk};
 ghost use Rattle.tube_party.specs.Reference.{reference};
-ghost use Rattle.tube_party.specs.OneThread.{IsPlayed, played_of};
+ghost use Rattle.tube_party.specs.OneThread.{IsPlayed, played_of, TakeSides, AreClosedWithin};
 
 use beeb_bits::Tick;
 use std::alloc::{AllocError, Global};
@@ -17,10 +16,8 @@ pub(crate) fn run_alone<H: Party, P: Rewinds>(
     keep: u32,
 ) -> Result<Done<H, P>, AllocError>
     requires ticks { n.0 ≤ MOST }
-    requires host_plays { IsTrue (H.plays Host) }
-    requires para_plays { IsTrue (P.plays Para) }
-    requires host_open { H.moves.closed (H.state host) ≤ n.0 }
-    requires para_open { P.moves.closed (P.state para) ≤ n.0 }
+    requires sides { TakeSides H.plays P.plays }
+    requires closed { AreClosedWithin H.moves P.moves (H.state host) (P.state para) n.0 }
     ensures { let w = reference H.moves P.moves (H.state host) (P.state para) n.0 in
         IfOk result (λ d. IsPlayed w keep (played_of H.state P.state d)) }
 {

@@ -1,20 +1,20 @@
 //! `gen SEED`: the demonstration pair.
 ghost use Rattle.std.specs.Prelude.{◌≡◌, ◌≤◌, ◌++◌, IfOk, slice_index};
-ghost use Rattle.beeb_stages.specs.View.{Gives};
+ghost use Rattle.cmd_stages.specs.View.{Gives};
 ghost use Rattle.cmd_pair.specs.Gen.{pair_inputs, before_sum, behind_sum, summary, gen_ticks, gen_after};
-ghost use Rattle.power_on.specs.View.{seen_inputs};
-ghost use Rattle.beeb_outcome.specs.View.{verdict_of};
+ghost use Rattle.cmd_machines.specs.View.{seen_inputs};
+ghost use Rattle.cmd_outcome.specs.View.{verdict_of};
 
 use crate::alone::run_alone;
 use beeb_bits::{Clock, Tick};
-use beeb_outcome::{Outcome, said_outcome};
-use beeb_stages::Refusal;
-use beeb_status::{Cause, Ending};
 use bus_plug::BusDevice;
+use cmd_machines::{Inputs, Setup, machines_of};
+use cmd_outcome::{Outcome, said_outcome};
+use cmd_stages::Refusal;
+use cmd_status::{Cause, Ending};
 use demo_gen::{Demo, pair};
 use digits::two_digits;
 use disc_image::Kind;
-use power_on::{Inputs, Setup, machines_of};
 use std::alloc::{AllocError, Global};
 use tube_party::MOST;
 

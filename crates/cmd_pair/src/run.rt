@@ -1,24 +1,23 @@
 //! `run TICKS OUT --os NAME --tube NAME` and options: both machines, each in a thread of its own.
-ghost use Rattle.std.specs.Prelude.{◌≡◌, ◌<◌, ◌≤◌, All, IfOk, IfSome, IsTrue, Ok, length, map, true};
+ghost use Rattle.std.specs.Prelude.{◌≡◌, ◌<◌, ◌≤◌, All, IfOk, IfSome, Ok, length, map, true};
 ghost use Rattle.beeb_files.specs.Crew.{Grows};
-ghost use Rattle.beeb_bits.specs.declared.Side.TheVariants.{Host, Para};
 ghost use Rattle.tube_party.specs.Reference.{reference};
-ghost use Rattle.tube_party.specs.OneThread.{IsPlayed, played_of};
-ghost use Rattle.beeb_stages.specs.Promise.{IsCrewAfter};
-ghost use Rattle.beeb_stages.specs.Stages.{Works};
-ghost use Rattle.power_on.specs.View.{seen_inputs, seen_setup};
-ghost use Rattle.beeb_outcome.specs.View.{names_seen, verdict_of};
+ghost use Rattle.tube_party.specs.OneThread.{IsPlayed, played_of, TakeSides, AreClosedWithin};
+ghost use Rattle.cmd_stages.specs.Promise.{IsCrewAfter};
+ghost use Rattle.cmd_stages.specs.Stages.{Works};
+ghost use Rattle.cmd_machines.specs.View.{seen_inputs, seen_setup};
+ghost use Rattle.cmd_outcome.specs.View.{names_seen, verdict_of};
 ghost use Rattle.cmd_pair.specs.Solo.{solo_after};
 ghost use Rattle.cmd_pair.specs.Code.{nothing};
 
 use beeb_bits::Tick;
 use beeb_files::Crew;
-use beeb_outcome::{Names, Outcome};
-use beeb_stages::Stop;
-use beeb_status::Cause;
 use bus_plug::BusDevice;
-use pair_outcome::kept_outcome;
-use power_on::{Inputs, Setup, started};
+use cmd_ended::kept_outcome;
+use cmd_machines::{Inputs, Setup, started};
+use cmd_outcome::{Names, Outcome};
+use cmd_stages::Stop;
+use cmd_status::Cause;
 use session::{PairError, run_pair};
 use std::alloc::Global;
 use std::sync::Wait;
@@ -39,10 +38,8 @@ fn run_parties<E: Drop, C: Crew, H: Party + Send, P: Rewinds + Send, R: Threads 
 where
     P::Past: Send,
     requires ticks { n.0 ≤ MOST }
-    requires host_plays { IsTrue (H.plays Host) }
-    requires para_plays { IsTrue (P.Party.plays Para) }
-    requires host_open { H.moves.closed (H.state host) ≤ n.0 }
-    requires para_open { P.Party.moves.closed (P.Party.state para) ≤ n.0 }
+    requires sides { TakeSides H.plays P.Party.plays }
+    requires closed { AreClosedWithin H.moves P.Party.moves (H.state host) (P.Party.state para) n.0 }
     ensures played { let w = reference H.moves P.Party.moves (H.state host) (P.Party.state para) n.0 in
         IfOk result (λ d. IsPlayed w keep (played_of H.state P.Party.state d)) }
     // It comes to something, whatever that is taken for, or no thread could be started, or memory was wanting.

@@ -1,18 +1,18 @@
 //! `solo TICKS OUT --os NAME --tube NAME` and options: both machines on one thread.
 ghost use Rattle.std.specs.Prelude.{◌<◌, ◌≤◌, All, IfSome, length, map};
-ghost use Rattle.beeb_stages.specs.View.{Gives};
+ghost use Rattle.cmd_stages.specs.View.{Gives};
 ghost use Rattle.cmd_pair.specs.Solo.{solo_after};
-ghost use Rattle.power_on.specs.View.{seen_inputs, seen_setup};
-ghost use Rattle.beeb_outcome.specs.View.{names_seen, verdict_of};
+ghost use Rattle.cmd_machines.specs.View.{seen_inputs, seen_setup};
+ghost use Rattle.cmd_outcome.specs.View.{names_seen, verdict_of};
 
 use crate::alone::run_alone;
 use beeb_bits::Tick;
-use beeb_outcome::{Names, Outcome};
-use beeb_stages::Refusal;
-use beeb_status::Cause;
 use bus_plug::BusDevice;
-use pair_outcome::kept_outcome;
-use power_on::{Inputs, Setup, started};
+use cmd_ended::kept_outcome;
+use cmd_machines::{Inputs, Setup, started};
+use cmd_outcome::{Names, Outcome};
+use cmd_stages::Refusal;
+use cmd_status::Cause;
 use std::alloc::Global;
 use tube_party::MOST;
 

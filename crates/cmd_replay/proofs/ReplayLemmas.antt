@@ -3,16 +3,16 @@ use Rattle.std.proofs.Common.{◌≡◌, refl, ℕ, ◌+◌, List, [], Option, S
 use Rattle.beeb_bits.specs.declared.clock.Clock.{Clock}
 use Rattle.tube_party.specs.declared.Doing.{Doing}
 use Rattle.tube_party.specs.Replay.{Ended}
-use Rattle.beeb_stages.specs.Plan.{Verdict}
-use Rattle.beeb_status.specs.declared.status.Ending.{Ending}
-use Rattle.beeb_status.specs.declared.status.Ending.TheVariants.{Differs}
+use Rattle.cmd_stages.specs.Plan.{Verdict}
+use Rattle.cmd_status.specs.declared.status.Ending.{Ending}
+use Rattle.cmd_status.specs.declared.status.Ending.TheVariants.{Differs}
 use Rattle.host_mach.specs.State.{HostState}
 use Rattle.para_mach.specs.State.{ParaState}
-use Rattle.beeb_outcome.specs.Names.{Names}
-use Rattle.beeb_outcome.specs.Trace.{wrong_verdict}
-use Rattle.beeb_outcome.specs.Verdicts.{said_verdict, host_left, para_left}
+use Rattle.cmd_outcome.specs.Names.{Names}
+use Rattle.cmd_outcome.specs.Trace.{wrong_verdict}
+use Rattle.cmd_outcome.specs.Verdicts.{said_verdict, host_left, para_left}
 use Rattle.cmd_replay.specs.Replay.{verdict_of_end}
-use Rattle.replay_outcome.specs.Replay.{differs_text, unless_wrong}
+use Rattle.cmd_replayed.specs.Replay.{differs_text, unless_wrong}
 
 pub done_is : {S : Type 0} (done : ℕ → S → Verdict Ending) (tube count : ℕ) (e : Ended S) (machine : S) (w : Option (ℕ × ℕ)) → w ≡ None → e.place ≡ None → machine ≡ e.machine → tube ≡ count →
     done tube machine ≡ unless_wrong w (verdict_of_end (done count) e)

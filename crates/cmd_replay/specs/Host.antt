@@ -7,17 +7,17 @@ use Rattle.tube_trace.specs.FirstWrong.{wrong}
 use Rattle.tube_party.specs.Replay.{replay_of}
 use Rattle.host_mach.specs.State.{HostState}
 use Rattle.host_mach.specs.Step.{host_moves}
-use Rattle.beeb_stages.specs.Plan.{Verdict, ◌>>=◌}
-use Rattle.beeb_stages.specs.declared.stop.Refusal.{Refusal}
-use Rattle.beeb_status.specs.declared.status.Ending.{Ending}
-use Rattle.beeb_status.specs.declared.status.Cause.{Cause}
-use Rattle.power_on.specs.Inputs.{Inputs}
-use Rattle.power_on.specs.Setup.{Setup}
-use Rattle.beeb_outcome.specs.Names.{Names}
-use Rattle.beeb_outcome.specs.Verdicts.{machine_verdict, host_left}
+use Rattle.cmd_stages.specs.Plan.{Verdict, ◌>>=◌}
+use Rattle.cmd_stages.specs.declared.stop.Refusal.{Refusal}
+use Rattle.cmd_status.specs.declared.status.Ending.{Ending}
+use Rattle.cmd_status.specs.declared.status.Cause.{Cause}
+use Rattle.cmd_machines.specs.Inputs.{Inputs}
+use Rattle.cmd_machines.specs.Setup.{Setup}
+use Rattle.cmd_outcome.specs.Names.{Names}
+use Rattle.cmd_outcome.specs.Verdicts.{machine_verdict, host_left}
 use Rattle.cmd_replay.specs.Replay.{side_count, verdict_of_end}
-use Rattle.replay_outcome.specs.Host.{host_of}
-use Rattle.replay_outcome.specs.Replay.{unless_wrong}
+use Rattle.cmd_replayed.specs.Host.{host_of}
+use Rattle.cmd_replayed.specs.Replay.{unless_wrong}
 
 -- what comes of the machine against the entries of a trace
 unfoldable pub host_ended : Clock → ℕ → Names → List Entry → HostState → Verdict Ending

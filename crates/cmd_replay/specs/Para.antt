@@ -7,16 +7,16 @@ use Rattle.tube_trace.specs.FirstWrong.{wrong}
 use Rattle.tube_party.specs.Replay.{replay_of}
 use Rattle.para_mach.specs.State.{ParaState}
 use Rattle.para_mach.specs.Step.{para_moves}
-use Rattle.beeb_stages.specs.Plan.{Verdict, ◌>>=◌}
-use Rattle.beeb_stages.specs.declared.stop.Refusal.{Refusal}
-use Rattle.beeb_status.specs.declared.status.Ending.{Ending}
-use Rattle.beeb_status.specs.declared.status.Cause.{Cause}
-use Rattle.power_on.specs.Inputs.{Inputs}
-use Rattle.beeb_outcome.specs.Names.{Names}
-use Rattle.beeb_outcome.specs.Verdicts.{machine_verdict, para_left}
+use Rattle.cmd_stages.specs.Plan.{Verdict, ◌>>=◌}
+use Rattle.cmd_stages.specs.declared.stop.Refusal.{Refusal}
+use Rattle.cmd_status.specs.declared.status.Ending.{Ending}
+use Rattle.cmd_status.specs.declared.status.Cause.{Cause}
+use Rattle.cmd_machines.specs.Inputs.{Inputs}
+use Rattle.cmd_outcome.specs.Names.{Names}
+use Rattle.cmd_outcome.specs.Verdicts.{machine_verdict, para_left}
 use Rattle.cmd_replay.specs.Replay.{side_count, verdict_of_end}
-use Rattle.replay_outcome.specs.Para.{para_of}
-use Rattle.replay_outcome.specs.Replay.{unless_wrong}
+use Rattle.cmd_replayed.specs.Para.{para_of}
+use Rattle.cmd_replayed.specs.Replay.{unless_wrong}
 
 -- what comes of the machine against the entries of a trace
 unfoldable pub para_ended : Clock → ℕ → Names → List Entry → ParaState → Verdict Ending

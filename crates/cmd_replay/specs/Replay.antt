@@ -4,9 +4,9 @@ use Rattle.beeb_bits.specs.declared.Side.{Side}
 use Rattle.tube_chip.specs.Events.{is_side}
 use Rattle.tube_trace.specs.declared.Entry.{Entry}
 use Rattle.tube_party.specs.Replay.{Ended}
-use Rattle.beeb_stages.specs.Plan.{Verdict}
-use Rattle.beeb_status.specs.declared.status.Ending.{Ending}
-use Rattle.replay_outcome.specs.Replay.{verdict_of_place}
+use Rattle.cmd_stages.specs.Plan.{Verdict}
+use Rattle.cmd_status.specs.declared.status.Ending.{Ending}
+use Rattle.cmd_replayed.specs.Replay.{verdict_of_place}
 
 -- the number of a side's entries below a tick
 abbrev pub side_count : Side → ℕ → List Entry → ℕ

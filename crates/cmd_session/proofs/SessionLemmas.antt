@@ -14,18 +14,18 @@ use Rattle.para_mach.specs.Step.{para_moves}
 use Rattle.tube_trace.specs.Entries.{IsEntry}
 use Rattle.save_state.specs.Saved.{Session}
 use Rattle.save_state.specs.File.{IsSession}
-use Rattle.beeb_stages.specs.declared.stop.Refusal.{Refusal}
-use Rattle.beeb_status.specs.declared.status.Cause.{Cause}
-use Rattle.power_on.specs.Inputs.{Inputs}
-use Rattle.power_on.specs.Setup.{Setup}
-use Rattle.power_on.specs.Machines.{machines_of}
-use Rattle.power_on.specs.Sessions.{setup_in, inputs_in, begun_if}
+use Rattle.cmd_stages.specs.declared.stop.Refusal.{Refusal}
+use Rattle.cmd_status.specs.declared.status.Cause.{Cause}
+use Rattle.cmd_machines.specs.Inputs.{Inputs}
+use Rattle.cmd_machines.specs.Setup.{Setup}
+use Rattle.cmd_machines.specs.Machines.{machines_of}
+use Rattle.cmd_machines.specs.Sessions.{setup_in, inputs_in, begun_if}
 use Rattle.cmd_session.specs.Session.{state_of, session_ended, session_after}
-use Rattle.beeb_stages.specs.Plan.{Verdict}
-use Rattle.beeb_status.specs.declared.status.Ending.{Ending}
-use Rattle.beeb_outcome.specs.Names.{Names}
-use Rattle.replay_outcome.specs.Replay.{verdict_of_place, unless_wrong}
-use Rattle.pair_outcome.specs.Kept.{kept_verdict}
+use Rattle.cmd_stages.specs.Plan.{Verdict}
+use Rattle.cmd_status.specs.declared.status.Ending.{Ending}
+use Rattle.cmd_outcome.specs.Names.{Names}
+use Rattle.cmd_replayed.specs.Replay.{verdict_of_place, unless_wrong}
+use Rattle.cmd_ended.specs.Kept.{kept_verdict}
 use Rattle.cmd_session.specs.declared.going.Back.{Back}
 use Rattle.cmd_session.specs.declared.going.Back.TheVariants.{On, Wrong, Differs}
 use Rattle.cmd_session.specs.Back.{AreAccesses, place_of, Goes}

@@ -9,7 +9,7 @@ use Rattle.tube_party.specs.Moves.{Moves}
 use Rattle.tube_party.specs.OneThread.{IsPlayed, played_of}
 use Rattle.tube_party.specs.Reference.{reference}
 use Rattle.save_state.specs.Resume.{first_difference}
-use Rattle.pair_outcome.specs.Save.{below}
+use Rattle.cmd_ended.specs.Save.{below}
 use Rattle.cmd_session.specs.declared.going.Back.{Back}
 use Rattle.cmd_session.specs.declared.going.Back.TheVariants.{On, Wrong, Differs}
 

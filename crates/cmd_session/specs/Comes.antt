@@ -9,15 +9,15 @@ use Rattle.host_mach.specs.Step.{host_moves}
 use Rattle.para_mach.specs.State.{ParaState}
 use Rattle.para_mach.specs.Step.{para_moves}
 use Rattle.save_state.specs.Saved.{Session}
-use Rattle.beeb_stages.specs.Plan.{Verdict}
-use Rattle.beeb_status.specs.declared.status.Ending.{Ending}
-use Rattle.beeb_status.specs.declared.status.Ending.TheVariants as endings
-use Rattle.beeb_outcome.specs.Names.{Names}
-use Rattle.beeb_outcome.specs.Trace.{wrong_verdict}
-use Rattle.beeb_outcome.specs.Verdicts.{said_verdict}
-use Rattle.replay_outcome.specs.Replay.{differs_text}
-use Rattle.pair_outcome.specs.Code.{IsRun}
-use Rattle.pair_outcome.specs.Kept.{kept_verdict}
+use Rattle.cmd_stages.specs.Plan.{Verdict}
+use Rattle.cmd_status.specs.declared.status.Ending.{Ending}
+use Rattle.cmd_status.specs.declared.status.Ending.TheVariants as endings
+use Rattle.cmd_outcome.specs.Names.{Names}
+use Rattle.cmd_outcome.specs.Trace.{wrong_verdict}
+use Rattle.cmd_outcome.specs.Verdicts.{said_verdict}
+use Rattle.cmd_replayed.specs.Replay.{differs_text}
+use Rattle.cmd_ended.specs.Code.{IsRun}
+use Rattle.cmd_ended.specs.Kept.{kept_verdict}
 use Rattle.cmd_session.specs.declared.going.Back.{Back}
 use Rattle.cmd_session.specs.declared.going.Back.TheVariants.{On, Wrong, Differs}
 

@@ -14,19 +14,19 @@ use Rattle.save_state.specs.declared.StateError.TheVariants as state_errors
 use Rattle.save_state.specs.Saved.{Session}
 use Rattle.save_state.specs.File.{file}
 use Rattle.save_state.specs.Resume.{first_difference}
-use Rattle.beeb_stages.specs.Plan.{Verdict, ◌>>=◌, or_refusal}
-use Rattle.beeb_stages.specs.declared.stop.Refusal.{Refusal}
-use Rattle.beeb_stages.specs.declared.stop.Refusal.TheVariants as refusals
-use Rattle.beeb_status.specs.declared.status.Ending.{Ending}
-use Rattle.beeb_status.specs.declared.status.Cause.{Cause}
-use Rattle.beeb_status.specs.declared.status.Cause.TheVariants.{BadState}
-use Rattle.power_on.specs.Inputs.{Inputs}
-use Rattle.power_on.specs.Machines.{machines_of}
-use Rattle.power_on.specs.Sessions.{setup_in, inputs_in, begun_if}
-use Rattle.beeb_outcome.specs.Names.{Names}
-use Rattle.replay_outcome.specs.Replay.{verdict_of_place, unless_wrong}
-use Rattle.pair_outcome.specs.Save.{below}
-use Rattle.pair_outcome.specs.Kept.{kept_verdict}
+use Rattle.cmd_stages.specs.Plan.{Verdict, ◌>>=◌, or_refusal}
+use Rattle.cmd_stages.specs.declared.stop.Refusal.{Refusal}
+use Rattle.cmd_stages.specs.declared.stop.Refusal.TheVariants as refusals
+use Rattle.cmd_status.specs.declared.status.Ending.{Ending}
+use Rattle.cmd_status.specs.declared.status.Cause.{Cause}
+use Rattle.cmd_status.specs.declared.status.Cause.TheVariants.{BadState}
+use Rattle.cmd_machines.specs.Inputs.{Inputs}
+use Rattle.cmd_machines.specs.Machines.{machines_of}
+use Rattle.cmd_machines.specs.Sessions.{setup_in, inputs_in, begun_if}
+use Rattle.cmd_outcome.specs.Names.{Names}
+use Rattle.cmd_replayed.specs.Replay.{verdict_of_place, unless_wrong}
+use Rattle.cmd_ended.specs.Save.{below}
+use Rattle.cmd_ended.specs.Kept.{kept_verdict}
 
 -- the refusal that an error of a session file is
 abbrev pub state_refusal : StateError → Refusal Cause

@@ -1,10 +1,10 @@
 //! Two parties that are brought back to a moment and go on.
-ghost use Rattle.std.specs.Prelude.{◌≡◌, ◌≤◌, IfOk, IsTrue, min};
-ghost use Rattle.beeb_bits.specs.declared.Side.TheVariants.{Host, Para};
+ghost use Rattle.std.specs.Prelude.{◌≡◌, ◌≤◌, IfOk, min};
+ghost use Rattle.tube_party.specs.OneThread.{TakeSides, AreClosedWithin};
 ghost use Rattle.cmd_session.specs.Back.{AreAccesses, Goes};
 
 use beeb_bits::Tick;
-use pair_outcome::entries_below;
+use cmd_ended::entries_below;
 use save_state::{ResumeError, resume};
 use std::alloc::{AllocError, Global};
 use tube_party::{Doing, Done, MOST, Party, Rewinds};
@@ -41,10 +41,8 @@ pub(crate) fn bring_back<H: Party, P: Rewinds>(
 ) -> Result<Back<H, P>, AllocError>
     requires ticks { n.0 ≤ MOST }
     requires entries { AreAccesses moment.0 entries.now }
-    requires host_plays { IsTrue (H.plays Host) }
-    requires para_plays { IsTrue (P.plays Para) }
-    requires host_open { H.moves.closed (H.state host) ≡ 0 }
-    requires para_open { P.moves.closed (P.state para) ≡ 0 }
+    requires sides { TakeSides H.plays P.plays }
+    requires closed { AreClosedWithin H.moves P.moves (H.state host) (P.state para) 0 }
     ensures { let s = H.state host in let t = P.state para in
         IfOk result (λ b. Goes H.state P.state H.moves P.moves s t entries.now moment.0 n.0 keep b) }
 {

@@ -2,11 +2,11 @@
 ghost use Rattle.std.specs.Prelude.{IfOk};
 ghost use Rattle.save_state.specs.Saved.{session};
 ghost use Rattle.save_state.specs.File.{IsSession};
-ghost use Rattle.beeb_stages.specs.View.{Gives};
+ghost use Rattle.cmd_stages.specs.View.{Gives};
 ghost use Rattle.cmd_session.specs.Session.{state_of};
 
-use beeb_stages::Refusal;
-use beeb_status::Cause;
+use cmd_stages::Refusal;
+use cmd_status::Cause;
 use save_state::{Saved, StateError, decode};
 use std::alloc::Global;
 

@@ -5,9 +5,9 @@ use Rattle.asm65.specs.declared.AsmError.{AsmError}
 use Rattle.asm65.specs.declared.AsmError.TheVariants.{Syntax, NoSuchForm, UnknownLabel, Repeated, OutOfRange, TooLong, NoMemory}
 use Rattle.asm65.specs.Source.{source}
 use Rattle.bus_plug.specs.Plug.{Plug}
-use Rattle.beeb_stages.specs.View.{Gives}
+use Rattle.cmd_stages.specs.View.{Gives}
 use Rattle.cmd_tools.specs.Asm.{refusal_of, asm_after}
-use Rattle.beeb_outcome.specs.View.{verdict_of}
+use Rattle.cmd_outcome.specs.View.{verdict_of}
 
 pub asm_refused : {D : Type 0} (plug : D → Plug) (part : Part) (out text : List ℕ) (error : AsmError) → (error ≡ NoMemory) ⊎ (source part text ≡ Err error) →
     Gives (verdict_of plug) (Err (refusal_of error)) (asm_after part out text)

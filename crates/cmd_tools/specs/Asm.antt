@@ -5,14 +5,14 @@ use Rattle.asm65.specs.declared.AsmError.{AsmError}
 use Rattle.asm65.specs.declared.AsmError.TheVariants as asm_errors
 use Rattle.asm65.specs.Source.{source}
 use Rattle.dis65.specs.Listing.{decode}
-use Rattle.beeb_status.specs.declared.status.Which.TheVariants.{Image}
-use Rattle.beeb_stages.specs.declared.stop.Refusal.{Refusal}
-use Rattle.beeb_stages.specs.declared.stop.Refusal.TheVariants as refusals
-use Rattle.beeb_stages.specs.Plan.{Verdict, ◌>>=◌, or_refusal}
-use Rattle.beeb_status.specs.declared.status.Ending.{Ending}
-use Rattle.beeb_status.specs.declared.status.Cause.{Cause}
-use Rattle.beeb_status.specs.declared.status.Cause.TheVariants.{BadImage, BadSource}
-use Rattle.beeb_outcome.specs.Verdicts.{file_verdict}
+use Rattle.cmd_status.specs.declared.status.Which.TheVariants.{Image}
+use Rattle.cmd_stages.specs.declared.stop.Refusal.{Refusal}
+use Rattle.cmd_stages.specs.declared.stop.Refusal.TheVariants as refusals
+use Rattle.cmd_stages.specs.Plan.{Verdict, ◌>>=◌, or_refusal}
+use Rattle.cmd_status.specs.declared.status.Ending.{Ending}
+use Rattle.cmd_status.specs.declared.status.Cause.{Cause}
+use Rattle.cmd_status.specs.declared.status.Cause.TheVariants.{BadImage, BadSource}
+use Rattle.cmd_outcome.specs.Verdicts.{file_verdict}
 
 -- the refusal that an error of the assembler is
 abbrev pub refusal_of : AsmError → Refusal Cause

@@ -3,13 +3,13 @@ use Rattle.std.specs.Prelude.{ℕ, ◌+◌, List, ◌++◌, length, Option, Some
 use Rattle.std.specs.Fmt.{decimal}
 use Rattle.tube_trace.specs.declared.Entry.{Entry}
 use Rattle.tube_trace.specs.FirstWrong.{wrong}
-use Rattle.beeb_stages.specs.Plan.{Verdict, ◌>>=◌}
-use Rattle.beeb_stages.specs.declared.stop.Refusal.{Refusal}
-use Rattle.beeb_status.specs.declared.status.Ending.{Ending}
-use Rattle.beeb_status.specs.declared.status.Ending.TheVariants.{Done}
-use Rattle.beeb_status.specs.declared.status.Cause.{Cause}
-use Rattle.beeb_outcome.specs.Trace.{trace_of, wrong_verdict}
-use Rattle.beeb_outcome.specs.Verdicts.{said_verdict}
+use Rattle.cmd_stages.specs.Plan.{Verdict, ◌>>=◌}
+use Rattle.cmd_stages.specs.declared.stop.Refusal.{Refusal}
+use Rattle.cmd_status.specs.declared.status.Ending.{Ending}
+use Rattle.cmd_status.specs.declared.status.Ending.TheVariants.{Done}
+use Rattle.cmd_status.specs.declared.status.Cause.{Cause}
+use Rattle.cmd_outcome.specs.Trace.{trace_of, wrong_verdict}
+use Rattle.cmd_outcome.specs.Verdicts.{said_verdict}
 
 -- `ok N` and a line feed
 unfoldable pub ok_text : ℕ → List ℕ

@@ -1,16 +1,16 @@
 //! `asm PART SOURCE OUT` and `dis PART IMAGE ORIGIN OUT`.
 ghost use Rattle.std.specs.Prelude.{◌≡◌};
-ghost use Rattle.beeb_stages.specs.declared.stop.Refusal.TheVariants as refusals;
-ghost use Rattle.beeb_status.specs.declared.status.Cause.TheVariants.{BadSource};
+ghost use Rattle.cmd_stages.specs.declared.stop.Refusal.TheVariants as refusals;
+ghost use Rattle.cmd_status.specs.declared.status.Cause.TheVariants.{BadSource};
 ghost use Rattle.cmd_tools.specs.Asm.{refusal_of, asm_after, dis_after};
-ghost use Rattle.beeb_outcome.specs.View.{verdict_of};
-ghost use Rattle.beeb_stages.specs.View.{Gives};
+ghost use Rattle.cmd_outcome.specs.View.{verdict_of};
+ghost use Rattle.cmd_stages.specs.View.{Gives};
 
 use asm65::{AsmError, assemble};
-use beeb_outcome::{Outcome, file_outcome};
-use beeb_stages::Refusal;
-use beeb_status::{Cause, Which};
 use bus_plug::BusDevice;
+use cmd_outcome::{Outcome, file_outcome};
+use cmd_stages::Refusal;
+use cmd_status::{Cause, Which};
 use dis65::disassemble;
 use op_table::Part;
 use std::alloc::Global;

@@ -2,14 +2,14 @@
 ghost use Rattle.std.specs.Prelude.{◌≡◌, All, IfOk};
 ghost use Rattle.tube_trace.specs.Entries.{IsEntry};
 ghost use Rattle.tube_trace.specs.FirstWrong.{wrong};
-ghost use Rattle.beeb_stages.specs.View.{Gives};
-ghost use Rattle.beeb_outcome.specs.View.{verdict_of};
+ghost use Rattle.cmd_stages.specs.View.{Gives};
+ghost use Rattle.cmd_outcome.specs.View.{verdict_of};
 ghost use Rattle.cmd_tools.specs.Check.{check_after, check_verdict, ok_text};
 
-use beeb_outcome::{Outcome, said_outcome, trace_of, wrong_outcome};
-use beeb_stages::Refusal;
-use beeb_status::{Cause, Ending};
 use bus_plug::BusDevice;
+use cmd_outcome::{Outcome, said_outcome, trace_of, wrong_outcome};
+use cmd_stages::Refusal;
+use cmd_status::{Cause, Ending};
 use std::alloc::{AllocError, Global};
 use tube_trace::{Entry, first_wrong};
 

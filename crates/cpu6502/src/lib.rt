@@ -1,12 +1,21 @@
 //! The NMOS 6502, one bus access at a time.
 #![tactic(auto)]
 
-ghost use Rattle.std.specs.Prelude.{ℕ, ◌<◌};
+ghost use Rattle.std.specs.Prelude.{◌≡◌, ℕ, ◌<◌};
 ghost use Rattle.cpu6502.specs.Sequences.{TakesAtLeast, MayTakeJust};
 
-mod cpu;
+use cpu_core::{Core, Nmos};
+use op_table::Part;
 
-pub use cpu::Cpu;
+/// An NMOS 6502, with the calls of `Core`. An opcode outside the 151 of the manual halts it, until `begin_reset`.
+pub type Cpu = Core<Nmos>;
+
+/// Which part it is.
+pub fn part() -> Part
+    ensures { result ≡ Part.Nmos }
+{
+    Cpu::part()
+}
 
 /// A law and no work: the instruction table's cycles are the fewest that an opcode ever takes. It takes more only where
 /// a branch is taken, where an indexed address or a branch crosses a page.

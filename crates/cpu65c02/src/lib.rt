@@ -1,12 +1,21 @@
 //! The 65C02, one bus access at a time.
 #![tactic(auto)]
 
-ghost use Rattle.std.specs.Prelude.{ℕ, ◌<◌};
+ghost use Rattle.std.specs.Prelude.{◌≡◌, ℕ, ◌<◌};
 ghost use Rattle.cpu65c02.specs.Sequences.{TakesAtLeast, MayTakeJust};
 
-mod cpu;
+use cpu_core::{Cmos, Core};
+use op_table::Part;
 
-pub use cpu::Cpu;
+/// A 65C02, with the calls of `Core`.
+pub type Cpu = Core<Cmos>;
+
+/// Which part it is.
+pub fn part() -> Part
+    ensures { result ≡ Part.Cmos }
+{
+    Cpu::part()
+}
 
 /// A law and no work: the instruction table's cycles are the fewest that an opcode ever takes. It takes more only where
 /// a branch is taken, where an indexed address or a branch crosses a page, or in decimal mode.

@@ -5,7 +5,10 @@ use Rattle.op_table.specs.declared.names.Part.{Part}
 use Rattle.op_table.specs.declared.names.Mode.{Mode}
 use Rattle.op_table.specs.declared.names.Mode.TheVariants.{Acc, Imm}
 use Rattle.op_table.specs.declared.names.Mnemonic.{Mnemonic}
-use Rattle.op_table.specs.declared.names.Mnemonic.TheVariants.{Adc, And, Asl, Bcc, Bcs, Beq, Bit, Bmi, Bne, Bpl, Bra, Brk, Bvc, Bvs, Clc, Cld, Cli, Clv, Cmp, Cpx, Cpy, Dec, Dex, Dey, Eor, Inc, Inx, Iny, Jmp, Jsr, Lda, Ldx, Ldy, Lsr, Ora, Pha, Php, Phx, Phy, Pla, Plp, Plx, Ply, Rol, Ror, Rti, Rts, Sbc, Sec, Sed, Sei, Sta, Stx, Sty, Stz, Tax, Tay, Trb, Tsb, Tsx, Txa, Txs, Tya}
+use Rattle.op_table.specs.declared.names.Mnemonic.TheVariants.{Adc, And, Asl, Bcc, Bcs, Beq, Bit, Bmi, Bne, Bpl, Bra, Brk, Bvc, Bvs, Clc, Cld, Cli}
+use Rattle.op_table.specs.declared.names.Mnemonic.TheVariants.{Clv, Cmp, Cpx, Cpy, Dec, Dex, Dey, Eor, Inc, Inx, Iny, Jmp, Jsr, Lda, Ldx, Ldy, Lsr}
+use Rattle.op_table.specs.declared.names.Mnemonic.TheVariants.{Ora, Pha, Php, Phx, Phy, Pla, Plp, Plx, Ply, Rol, Ror, Rti, Rts, Sbc, Sec, Sed, Sei}
+use Rattle.op_table.specs.declared.names.Mnemonic.TheVariants.{Sta, Stx, Sty, Stz, Tax, Tay, Trb, Tsb, Tsx, Txa, Txs, Tya}
 use Rattle.cpu_alu.specs.declared.Sum.{Sum}
 use Rattle.cpu_alu.specs.declared.Regs.{Regs}
 use Rattle.cpu_alu.specs.declared.uses.BusUse.{BusUse}

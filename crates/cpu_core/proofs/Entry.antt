@@ -14,11 +14,11 @@ use Rattle.cpu_alu.specs.declared.uses.BusUse.{BusUse}
 use Rattle.cpu_alu.specs.declared.uses.BusUse.TheVariants.{Implied, Reads, Stores, Shifts, Modifies, Pushes, Pulls, Branches, Jumps, Calls, Returns, Resumes, Breaks}
 use Rattle.cpu_alu.specs.Addresses.{place, crosses_page}
 use Rattle.cpu_alu.specs.Instructions.{bus_use, takes_branch}
-use Rattle.cpu_core.specs.declared.machine.Access.{Access}
-use Rattle.cpu_core.specs.declared.machine.Access.TheVariants.{Load, Store, Change}
-use Rattle.cpu_core.specs.declared.machine.Machine.{Machine}
-use Rattle.cpu_core.specs.declared.machine.Phase.TheVariants as phase
-use Rattle.cpu_core.specs.declared.machine.Start.{Start}
+use Rattle.cpu_core.specs.declared.progress.Access.{Access}
+use Rattle.cpu_core.specs.declared.progress.Access.TheVariants.{Load, Store, Change}
+use Rattle.cpu_core.specs.declared.progress.Progress.{Progress}
+use Rattle.cpu_core.specs.declared.progress.Phase.TheVariants as phase
+use Rattle.cpu_core.specs.declared.progress.Start.{Start}
 use Rattle.cpu_core.specs.Accesses.{byte, row_at, waits, reach, address, operand, modify_form, branch_form}
 use Rattle.cpu_core.specs.CodePhases.{at_operand, after_operand, indexed_cycles, cycles_left, outcome, wants, is_fetch, is_stuck}
 use Rattle.cpu_core.specs.CodeStarts.{in_memory, start_by, start_change, start_implied, start_jump, start_in, start_at, start_leaves}
@@ -36,7 +36,7 @@ operand_by true a b d q o f = refl
 operand_by false a b d q o f = refl
 
 -- the accesses left are those of the form
-start_leaves-cycles_left : (part : Part) (w : Mode) (k : Access) (always : Bool) (m : Machine) (o : Option ℕ) (f : List (Option ℕ))
+start_leaves-cycles_left : (part : Part) (w : Mode) (k : Access) (always : Bool) (m : Progress) (o : Option ℕ) (f : List (Option ℕ))
     → reach part w always m.work (o ∷ f) ++ at_operand part k m.row (address w m.work (o ∷ f)) m.work (operand part w always m.work (o ∷ f))
     ≡ cycles_left part (start_leaves (in_memory k always w) m) f
 start_leaves-cycles_left part AbsX k always m o f =
@@ -54,7 +54,7 @@ start_leaves-cycles_left part IndY k always m o f =
 start_leaves-cycles_left part _ k always m o f = refl
 
 -- and so are the registers at the end
-start_leaves-outcome : (part : Part) (w : Mode) (k : Access) (always : Bool) (m : Machine) (o : Option ℕ) (f : List (Option ℕ))
+start_leaves-outcome : (part : Part) (w : Mode) (k : Access) (always : Bool) (m : Progress) (o : Option ℕ) (f : List (Option ℕ))
     → after_operand part k m.row m.work (operand part w always m.work (o ∷ f)) ≡ outcome part (start_leaves (in_memory k always w) m) f
 start_leaves-outcome part AbsX k always m o f =
     let r : Regs = m.work in
@@ -84,11 +84,11 @@ abbrev fits : Access → Mode → Bool
 fits Store w = is_memory w
 fits _ w = true
 
-at_once : (part : Part) (k : Access) (w : Mode) (a : ℕ) (m : Machine) → fits k w ≡ true → is_memory w ≡ false → Some (Read a) ≡ first (at_operand part k m.row a m.work 0)
+at_once : (part : Part) (k : Access) (w : Mode) (a : ℕ) (m : Progress) → fits k w ≡ true → is_memory w ≡ false → Some (Read a) ≡ first (at_operand part k m.row a m.work 0)
 at_once part Store w a m e n = cc
 at_once part _ w a m e n = refl
 
-start_leaves-wanted : (part : Part) (w : Mode) (k : Access) (always : Bool) (m : Machine) → fits k w ≡ true
+start_leaves-wanted : (part : Part) (w : Mode) (k : Access) (always : Bool) (m : Progress) → fits k w ≡ true
     → wants (start_leaves (in_memory k always w) m) ≡ first (cycles_left part (start_leaves (in_memory k always w) m) [])
 start_leaves-wanted part Zp k always m e = refl
 start_leaves-wanted part ZpX k always m e = refl
@@ -102,11 +102,11 @@ start_leaves-wanted part IndZp k always m e = refl
 start_leaves-wanted part w k always m e = at_once part k w (place m.work 1) m e refl
 
 -- it reads no opcode, and is not halted
-start_leaves-fetch : (w : Mode) (k : Access) (always : Bool) (m : Machine) → is_fetch (start_leaves (in_memory k always w) m).phase ≡ false
+start_leaves-fetch : (w : Mode) (k : Access) (always : Bool) (m : Progress) → is_fetch (start_leaves (in_memory k always w) m).phase ≡ false
 start_leaves-fetch Zp k always m = refl
 start_leaves-fetch _ k always m = refl
 
-start_leaves-stuck : (w : Mode) (k : Access) (always : Bool) (m : Machine) → is_stuck (start_leaves (in_memory k always w) m).phase ≡ false
+start_leaves-stuck : (w : Mode) (k : Access) (always : Bool) (m : Progress) → is_stuck (start_leaves (in_memory k always w) m).phase ≡ false
 start_leaves-stuck Zp k always m = refl
 start_leaves-stuck _ k always m = refl
 
@@ -116,11 +116,12 @@ modify_form-entered : (part : Part) (w : Mode) → (w ≡ Acc → ⊥) → (row 
 modify_form-entered part Acc n row always r seen = absurd (n refl)
 modify_form-entered part _ n row always r seen = refl
 
--- the phase that the machine has there
-abbrev at_opcode : Machine → Machine
+-- the phase that is there
+abbrev at_opcode : Progress → Progress
 at_opcode m = record m { phase = phase.Opcode }
 
-reads_go_on : (part : Part) (m : Machine) (op : ℕ) → m.phase ≡ phase.Opcode → row_at part op ≡ Some m.row → bus_use m.row.mnemonic ≡ Reads → GoesOn part m op (start_leaves (in_memory Load (waits part Reads) m.row.mode) m)
+reads_go_on : (part : Part) (m : Progress) (op : ℕ) → m.phase ≡ phase.Opcode → row_at part op ≡ Some m.row → bus_use m.row.mnemonic ≡ Reads
+    → GoesOn part m op (start_leaves (in_memory Load (waits part Reads) m.row.mode) m)
 reads_go_on part m op p e u = record {
   accesses_left = λ f. rw (p, e, u) (start_leaves-cycles_left part m.row.mode Load (waits part Reads) (at_opcode m) (Some op) f);
   end = λ f. rw (p, e, u) (start_leaves-outcome part m.row.mode Load (waits part Reads) (at_opcode m) (Some op) f);
@@ -129,7 +130,8 @@ reads_go_on part m op p e u = record {
   stuck = rw (p, e) (start_leaves-stuck m.row.mode Load (waits part Reads) (at_opcode m));
 }
 
-stores_go_on : (part : Part) (m : Machine) (op : ℕ) → m.phase ≡ phase.Opcode → row_at part op ≡ Some m.row → bus_use m.row.mnemonic ≡ Stores → fits Store m.row.mode ≡ true → GoesOn part m op (start_leaves (in_memory Store (waits part Stores) m.row.mode) m)
+stores_go_on : (part : Part) (m : Progress) (op : ℕ) → m.phase ≡ phase.Opcode → row_at part op ≡ Some m.row → bus_use m.row.mnemonic ≡ Stores → fits Store m.row.mode ≡ true
+    → GoesOn part m op (start_leaves (in_memory Store (waits part Stores) m.row.mode) m)
 stores_go_on part m op p e u n = record {
   accesses_left = λ f. rw (p, e, u) (start_leaves-cycles_left part m.row.mode Store (waits part Stores) (at_opcode m) (Some op) f);
   end = λ f. rw (p, e, u) (start_leaves-outcome part m.row.mode Store (waits part Stores) (at_opcode m) (Some op) f);
@@ -138,7 +140,8 @@ stores_go_on part m op p e u n = record {
   stuck = rw (p, e) (start_leaves-stuck m.row.mode Store (waits part Stores) (at_opcode m));
 }
 
-shifts_go_on : (part : Part) (m : Machine) (op : ℕ) → m.phase ≡ phase.Opcode → row_at part op ≡ Some m.row → bus_use m.row.mnemonic ≡ Shifts → (m.row.mode ≡ Acc → ⊥) → GoesOn part m op (start_leaves (in_memory Change (waits part Shifts) m.row.mode) m)
+shifts_go_on : (part : Part) (m : Progress) (op : ℕ) → m.phase ≡ phase.Opcode → row_at part op ≡ Some m.row → bus_use m.row.mnemonic ≡ Shifts → (m.row.mode ≡ Acc → ⊥)
+    → GoesOn part m op (start_leaves (in_memory Change (waits part Shifts) m.row.mode) m)
 shifts_go_on part m op p e u n = record {
   accesses_left = λ f.
       let g = modify_form-entered part m.row.mode n m.row (waits part Shifts) m.work (Some op ∷ f) in
@@ -149,7 +152,8 @@ shifts_go_on part m op p e u n = record {
   stuck = rw (p, e) (start_leaves-stuck m.row.mode Change (waits part Shifts) (at_opcode m));
 }
 
-modifies_go_on : (part : Part) (m : Machine) (op : ℕ) → m.phase ≡ phase.Opcode → row_at part op ≡ Some m.row → bus_use m.row.mnemonic ≡ Modifies → (m.row.mode ≡ Acc → ⊥) → GoesOn part m op (start_leaves (in_memory Change (waits part Modifies) m.row.mode) m)
+modifies_go_on : (part : Part) (m : Progress) (op : ℕ) → m.phase ≡ phase.Opcode → row_at part op ≡ Some m.row → bus_use m.row.mnemonic ≡ Modifies → (m.row.mode ≡ Acc → ⊥)
+    → GoesOn part m op (start_leaves (in_memory Change (waits part Modifies) m.row.mode) m)
 modifies_go_on part m op p e u n = record {
   accesses_left = λ f.
       let g = modify_form-entered part m.row.mode n m.row (waits part Modifies) m.work (Some op ∷ f) in
@@ -179,7 +183,8 @@ known_at Nmos op h = agree_below_at (λ k. known_in (row_at Nmos k)) (λ _. true
 known_at Cmos op h = agree_below_at (λ k. known_in (row_at Cmos k)) (λ _. true) 256 op refl h
 
 -- a shift, INC or DEC, of A or in memory
-shifts_by : (part : Part) (m : Machine) (op : ℕ) (w : Mode) → m.phase ≡ phase.Opcode → row_at part op ≡ Some m.row → bus_use m.row.mnemonic ≡ Shifts → m.row.mode ≡ w → GoesOn part m op (start_leaves (start_change (waits part Shifts) w) m)
+shifts_by : (part : Part) (m : Progress) (op : ℕ) (w : Mode) → m.phase ≡ phase.Opcode → row_at part op ≡ Some m.row → bus_use m.row.mnemonic ≡ Shifts → m.row.mode ≡ w
+    → GoesOn part m op (start_leaves (start_change (waits part Shifts) w) m)
 shifts_by part m op Acc p e b v = record {
   accesses_left = λ f. rw (p, e, b, v) refl;
   end = λ f. rw (p, e, b, v) refl;
@@ -189,7 +194,8 @@ shifts_by part m op Acc p e b v = record {
 }
 shifts_by part m op w p e b v = subst (λ (x : Mode). GoesOn part m op (start_leaves (in_memory Change (waits part Shifts) x) m)) v (shifts_go_on part m op p e b (λ a. cc))
 
-modifies_by : (part : Part) (m : Machine) (op : ℕ) (w : Mode) → m.phase ≡ phase.Opcode → row_at part op ≡ Some m.row → bus_use m.row.mnemonic ≡ Modifies → m.row.mode ≡ w → GoesOn part m op (start_leaves (start_change (waits part Modifies) w) m)
+modifies_by : (part : Part) (m : Progress) (op : ℕ) (w : Mode) → m.phase ≡ phase.Opcode → row_at part op ≡ Some m.row → bus_use m.row.mnemonic ≡ Modifies → m.row.mode ≡ w
+    → GoesOn part m op (start_leaves (start_change (waits part Modifies) w) m)
 modifies_by part m op Acc p e b v = record {
   accesses_left = λ f. rw (p, e, b, v) refl;
   end = λ f. rw (p, e, b, v) refl;
@@ -200,7 +206,9 @@ modifies_by part m op Acc p e b v = record {
 modifies_by part m op w p e b v = subst (λ (x : Mode). GoesOn part m op (start_leaves (in_memory Change (waits part Modifies) x) m)) v (modifies_go_on part m op p e b (λ a. cc))
 
 -- an instruction without an operand
-implied_by : (part : Part) (m : Machine) (op : ℕ) (w : Mode) → m.phase ≡ phase.Opcode → row_at part op ≡ Some m.row → bus_use m.row.mnemonic ≡ Implied → m.row.mode ≡ w → ((start_implied w).phase ≡ phase.Opcode → ⊥) → GoesOn part m op (start_leaves (start_implied w) m)
+implied_by : (part : Part) (m : Progress) (op : ℕ) (w : Mode) → m.phase ≡ phase.Opcode → row_at part op ≡ Some m.row
+    → bus_use m.row.mnemonic ≡ Implied → m.row.mode ≡ w → ((start_implied w).phase ≡ phase.Opcode → ⊥)
+    → GoesOn part m op (start_leaves (start_implied w) m)
 implied_by part m op Spare p e b v n = absurd (n refl)
 implied_by part m op _ p e b v n = record {
   accesses_left = λ f. rw (p, e, b, v) refl;
@@ -211,7 +219,8 @@ implied_by part m op _ p e b v n = record {
 }
 
 -- JMP
-jumps_by : (part : Part) (m : Machine) (op : ℕ) (w : Mode) → m.phase ≡ phase.Opcode → row_at part op ≡ Some m.row → bus_use m.row.mnemonic ≡ Jumps → m.row.mode ≡ w → known_by Jumps w ≡ true → GoesOn part m op (start_leaves (start_jump w) m)
+jumps_by : (part : Part) (m : Progress) (op : ℕ) (w : Mode) → m.phase ≡ phase.Opcode → row_at part op ≡ Some m.row → bus_use m.row.mnemonic ≡ Jumps → m.row.mode ≡ w → known_by Jumps w ≡ true
+    → GoesOn part m op (start_leaves (start_jump w) m)
 jumps_by part m op Abs p e b v k = record {
   accesses_left = λ f. rw (p, e, b, v) refl;
   end = λ f. rw (p, e, b, v) refl;
@@ -244,7 +253,7 @@ branch-first part true r seen = refl
 branch-first part false r seen = refl
 
 -- each opcode but those that do nothing
-goes_by : (part : Part) (m : Machine) (op : ℕ) (u : BusUse) (w : Mode) → m.phase ≡ phase.Opcode → row_at part op ≡ Some m.row → bus_use m.row.mnemonic ≡ u → m.row.mode ≡ w
+goes_by : (part : Part) (m : Progress) (op : ℕ) (u : BusUse) (w : Mode) → m.phase ≡ phase.Opcode → row_at part op ≡ Some m.row → bus_use m.row.mnemonic ≡ u → m.row.mode ≡ w
     → ((start_by part u w).phase ≡ phase.Opcode → ⊥) → known_by u w ≡ true → GoesOn part m op (start_leaves (start_by part u w) m)
 goes_by part m op Implied w p e b v n k = implied_by part m op w p e b v n
 goes_by part m op Reads w p e b v n k = subst (λ (x : Mode). GoesOn part m op (start_leaves (in_memory Load (waits part Reads) x) m)) v (reads_go_on part m op p e b)
@@ -303,10 +312,10 @@ goes_by part m op Breaks w p e b v n k = record {
   stuck = rw (p, e) refl;
 }
 
-start_is : (part : Part) (m : Machine) (op : ℕ) → row_at part op ≡ Some m.row → start_at part op ≡ start_by part (bus_use m.row.mnemonic) m.row.mode
+start_is : (part : Part) (m : Progress) (op : ℕ) → row_at part op ≡ Some m.row → start_at part op ≡ start_by part (bus_use m.row.mnemonic) m.row.mode
 start_is part m op e = ap (start_in part) e
 
-pub goes_on : (part : Part) (m : Machine) (op : ℕ) (s : Start) → op < 256 → m.phase ≡ phase.Opcode → row_at part op ≡ Some m.row → s ≡ start_at part op → (s.phase ≡ phase.Opcode → ⊥)
+pub goes_on : (part : Part) (m : Progress) (op : ℕ) (s : Start) → op < 256 → m.phase ≡ phase.Opcode → row_at part op ≡ Some m.row → s ≡ start_at part op → (s.phase ≡ phase.Opcode → ⊥)
     → GoesOn part m op (start_leaves s m)
 goes_on part m op s h p e is n =
     let same : s ≡ start_by part (bus_use m.row.mnemonic) m.row.mode = is ∙ start_is part m op e in
@@ -341,7 +350,7 @@ apart_by part Modifies w o = absurd (no_change (waits part Modifies) w o)
 apart_by part Jumps w o = absurd (no_jump w o)
 apart_by part _ w o = cc
 
-pub apart : (part : Part) (m : Machine) (op : ℕ) (s : Start) → row_at part op ≡ Some m.row → s ≡ start_at part op → s.phase ≡ phase.Opcode
+pub apart : (part : Part) (m : Progress) (op : ℕ) (s : Start) → row_at part op ≡ Some m.row → s ≡ start_at part op → s.phase ≡ phase.Opcode
     → (bus_use m.row.mnemonic ≡ Implied) × (m.row.mode ≡ Spare)
 apart part m op s e is o =
     let same : s ≡ start_by part (bus_use m.row.mnemonic) m.row.mode = is ∙ start_is part m op e in

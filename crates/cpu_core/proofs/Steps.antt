@@ -1,5 +1,6 @@
 -- A phase that is tied to the cycles seen, and goes on, stays tied.
-use Rattle.std.proofs.Common.{◌≡◌, ◌↔◌, IsSome, IsNone, ℕ, zero, suc, List, [], ◌∷◌, ◌++◌, length, drop, Bool, true, false, ◌&&◌, Option, Some, None, is_none, cond, slice_get, inl, inr, refl, sym, subst, ap, ◌∙◌, arith, append_assoc, length-append}
+use Rattle.std.proofs.Common.{◌≡◌, ◌↔◌, IsSome, IsNone, ℕ, zero, suc, List, [], ◌∷◌, ◌++◌, length, drop, Bool, true, false, ◌&&◌, Option, Some, None}
+use Rattle.std.proofs.Common.{is_none, cond, slice_get, inl, inr, refl, sym, subst, ap, ◌∙◌, arith, append_assoc, length-append}
 use Rattle.std.proofs.lemmas.List.{append-nil}
 use Rattle.op_table.specs.declared.names.Part.{Part}
 use Rattle.op_table.specs.declared.names.Part.TheVariants.{Nmos, Cmos}
@@ -10,12 +11,12 @@ use Rattle.cpu_core.specs.declared.Sequence.TheVariants.{Instruction, Reset, Nmi
 use Rattle.cpu_core.specs.State.{State}
 use Rattle.cpu_core.specs.Accesses.{row_at}
 use Rattle.cpu_core.specs.Sequences.{accesses, result_of, next_cycle, shown_byte, halts, halted, after_byte, is_start, after, HasEnded}
-use Rattle.cpu_core.specs.declared.machine.Machine.{Machine}
-use Rattle.cpu_core.specs.declared.machine.Access.{Access}
-use Rattle.cpu_core.specs.declared.machine.Access.TheVariants.{Store}
-use Rattle.cpu_core.specs.declared.machine.Phase.{Phase}
-use Rattle.cpu_core.specs.declared.machine.Phase.TheVariants.{Opcode, Halted, Over}
-use Rattle.cpu_core.specs.CodePhases.{cycles_left, cycles_left_in, outcome, wants, wants_in, at_operand, machine_at_operand, is_store, value_by, is_fetch, is_stuck}
+use Rattle.cpu_core.specs.declared.progress.Progress.{Progress}
+use Rattle.cpu_core.specs.declared.progress.Access.{Access}
+use Rattle.cpu_core.specs.declared.progress.Access.TheVariants.{Store}
+use Rattle.cpu_core.specs.declared.progress.Phase.{Phase}
+use Rattle.cpu_core.specs.declared.progress.Phase.TheVariants.{Opcode, Halted, Over}
+use Rattle.cpu_core.specs.CodePhases.{cycles_left, cycles_left_in, outcome, wants, wants_in, at_operand, progress_at_operand, is_store, value_by, is_fetch, is_stuck}
 use Rattle.cpu_core.specs.CodeTies.{Tied, GoesOn, StepsWhere, Steps, first}
 
 -- the n-th element is the first of what is left from n on
@@ -32,7 +33,7 @@ drop-suc (a ∷ l) zero = refl
 drop-suc (a ∷ l) (suc n) = drop-suc l n
 
 -- the next access is that in progress
-pub next_cycle-tied : (part : Part) (m : Machine) (s : State) → Tied part m s → next_cycle part s ≡ wants m
+pub next_cycle-tied : (part : Part) (m : Progress) (s : State) → Tied part m s → next_cycle part s ≡ wants m
 next_cycle-tied part m s t =
     slice_get-first (accesses part s.sequence s.regs s.seen) (length s.seen)
     ∙ (ap first (ap (λ (l : List (Option ℕ)). drop (length s.seen) (accesses part s.sequence s.regs l)) (sym (append-nil s.seen)) ∙ t.accesses_left []) ∙ sym t.wanted)
@@ -44,7 +45,7 @@ longer : (seen : List (Option ℕ)) (x : Option ℕ) → length (seen ++ x ∷ [
 longer seen x = omega (arith, length-append seen (x ∷ []))
 
 -- the cycle that reads an opcode shows it
-fetch-shows : (k : Phase) (part : Part) (m : Machine) (b : ℕ) → is_fetch k ≡ true → shown_byte (first (cycles_left_in part k m [])) b ≡ Some b
+fetch-shows : (k : Phase) (part : Part) (m : Progress) (b : ℕ) → is_fetch k ≡ true → shown_byte (first (cycles_left_in part k m [])) b ≡ Some b
 fetch-shows Opcode part m b e = refl
 fetch-shows _ part m b e = cc
 
@@ -84,7 +85,7 @@ abbrev pub one_more : Part → State → ℕ → State
 one_more part s byte = record s { seen = s.seen ++ shown_byte (next_cycle part s) byte ∷ [] }
 
 -- a phase that goes on keeps the tie
-pub tied-step : (part : Part) (m then : Machine) (s : State) (b : ℕ) → Tied part m s → GoesOn part m b then → Tied part then (one_more part s b)
+pub tied-step : (part : Part) (m then : Progress) (s : State) (b : ℕ) → Tied part m s → GoesOn part m b then → Tied part then (one_more part s b)
 tied-step part m then s b t g =
     let x : Option ℕ = shown_byte (first (cycles_left part m [])) b in
     let seen : List (Option ℕ) = s.seen in
@@ -107,21 +108,21 @@ some_none s = cc
 none_some : (c : Cycle) → IsNone (let o : Option Cycle = Some c in o) → ⊥
 none_some c s = cc
 
-wants_over : (k : Phase) (m : Machine) → IsNone (wants_in k m) → k ≡ Over
+wants_over : (k : Phase) (m : Progress) → IsNone (wants_in k m) → k ≡ Over
 wants_over Over m n = refl
 wants_over other m n = absurd (none_some (cond m.writes (Write m.at m.value) (Read m.at)) n)
 
-over_wants : (k : Phase) (m : Machine) → k ≡ Over → IsNone (wants_in k m)
+over_wants : (k : Phase) (m : Progress) → k ≡ Over → IsNone (wants_in k m)
 over_wants Over m e = refl
 over_wants other m e = cc
 
-pub over_iff : (part : Part) (m : Machine) (s : State) → Tied part m s → (m.phase ≡ Over) ↔ IsNone (next_cycle part s)
+pub over_iff : (part : Part) (m : Progress) (s : State) → Tied part m s → (m.phase ≡ Over) ↔ IsNone (next_cycle part s)
 over_iff part m s t = (
   (λ e. subst (λ (o : Option Cycle). IsNone o) (sym (next_cycle-tied part m s t)) (over_wants m.phase m e)),
   (λ n. wants_over m.phase m (subst (λ (o : Option Cycle). IsNone o) (next_cycle-tied part m s t) n)),
 )
 
-pub not_over : (part : Part) (m : Machine) (s : State) → Tied part m s → IsSome (next_cycle part s) → m.phase ≡ Over → ⊥
+pub not_over : (part : Part) (m : Progress) (s : State) → Tied part m s → IsSome (next_cycle part s) → m.phase ≡ Over → ⊥
 not_over part m s t h e =
     let n : wants m ≡ None = rw e refl in
     some_none (subst (λ (o : Option Cycle). IsSome o) (next_cycle-tied part m s t ∙ n) h)
@@ -137,7 +138,7 @@ halted-halts : (part : Part) (s : State) → halts s.seen part s.sequence ≡ ha
 halted-halts Nmos s = refl
 halted-halts Cmos s = halts-cmos s.seen s.sequence
 
-pub stuck-tied : (part : Part) (m : Machine) (s : State) → Tied part m s → is_stuck m.phase ≡ halted part s
+pub stuck-tied : (part : Part) (m : Progress) (s : State) → Tied part m s → is_stuck m.phase ≡ halted part s
 stuck-tied part m s t = t.stuck ∙ halted-halts part s
 
 stuck-is : (k : Phase) → is_stuck k ≡ true → k ≡ Halted
@@ -145,7 +146,7 @@ stuck-is Halted e = refl
 stuck-is other e = cc
 
 -- a step keeps it too: a halted part stays as it is
-tied-by : (stuck : Bool) (part : Part) (m then : Machine) (s : State) (b : ℕ) → Tied part m s → stuck ≡ halted part s → StepsWhere stuck part m b then → Tied part then (after_byte part s b)
+tied-by : (stuck : Bool) (part : Part) (m then : Progress) (s : State) (b : ℕ) → Tied part m s → stuck ≡ halted part s → StepsWhere stuck part m b then → Tied part then (after_byte part s b)
 tied-by true part m then s b t e stays =
     let h : halted part s ≡ true = sym e in
     rw stays (rw h t)
@@ -153,7 +154,7 @@ tied-by false part m then s b t e goes_on =
     let h : halted part s ≡ false = sym e in
     rw h (tied-step part m then s b t goes_on)
 
-pub tied-after_byte : (part : Part) (m then : Machine) (s : State) (b : ℕ) → Tied part m s → Steps part m b then → Tied part then (after_byte part s b)
+pub tied-after_byte : (part : Part) (m then : Progress) (s : State) (b : ℕ) → Tied part m s → Steps part m b then → Tied part then (after_byte part s b)
 tied-after_byte part m then s b t g = tied-by (is_stuck m.phase) part m then s b t (stuck-tied part m s t) g
 
 after_byte-regs : (h : Bool) (part : Part) (s : State) (b : ℕ) → (cond h s (one_more part s b)).regs ≡ s.regs
@@ -165,21 +166,13 @@ pub regs-after_byte : (part : Part) (s : State) (b : ℕ) → (after_byte part s
 regs-after_byte part s b = after_byte-regs (halted part s) part s b
 
 -- the registers at the end are those that are worked on
-work-over : (part : Part) (m : Machine) (s : State) → Tied part m s → outcome part m [] ≡ m.work → m.work ≡ after part s
+work-over : (part : Part) (m : Progress) (s : State) → Tied part m s → outcome part m [] ≡ m.work → m.work ≡ after part s
 work-over part m s t e = sym (ap (result_of part s.sequence s.regs) (sym (append-nil s.seen)) ∙ (t.end [] ∙ e))
 
-pub end-tied : (part : Part) (m : Machine) (s : State) → Tied part m s → HasEnded part s → m.work ≡ after part s
+pub end-tied : (part : Part) (m : Progress) (s : State) → Tied part m s → HasEnded part s → m.work ≡ after part s
 end-tied part m s t (inl n) =
     let k : m.phase ≡ Over = (over_iff part m s t).1 n in
     work-over part m s t (rw k refl)
 end-tied part m s t (inr h) =
     let k : m.phase ≡ Halted = stuck-is m.phase (stuck-tied part m s t ∙ h) in
     work-over part m s t (rw k refl)
-
-wanted_by : (part : Part) (k : Access) (m : Machine) (a : ℕ) → Some (cond (is_store k) (Write a (value_by k m)) (Read a)) ≡ first (at_operand part k m.row a m.work 0)
-wanted_by part Store m a = refl
-wanted_by part other m a = refl
-
--- the access at the operand
-pub machine_at_operand-wanted : (part : Part) (m : Machine) (a : ℕ) → wants (machine_at_operand m a) ≡ first (cycles_left part (machine_at_operand m a) [])
-machine_at_operand-wanted part m a = wanted_by part m.start.access m a

@@ -1,4 +1,4 @@
--- What is left of a sequence in each phase of the machine that carries it out.
+-- What is left of a sequence in each phase.
 use Rattle.std.specs.Prelude.{ℕ, ◌+◌, ◌/◌, ◌%◌, List, [], ◌∷◌, ◌++◌, Bool, true, false, cond, eqb, ◌||◌, Option, Some, None, bit_or, bit_and}
 use Rattle.op_table.specs.declared.Part.{Part}
 use Rattle.op_table.specs.declared.Row.{Row}
@@ -10,11 +10,21 @@ use Rattle.cpu_alu.specs.declared.flags.TheConstants.{PUSHED_BY_INTERRUPT, PUSHE
 use Rattle.cpu_alu.specs.Addresses.{word, wrap, place, stack, with_stack_moved, with_pc_past, crosses_page, target}
 use Rattle.cpu_alu.specs.Instructions.{stored_value, modified_value, pushed_value, takes_branch, read_result, modify_result, implied_result, pull_result}
 use Rattle.cpu_core.specs.declared.Sequence.TheVariants.{Instruction}
-use Rattle.cpu_core.specs.declared.machine.Access.{Access}
-use Rattle.cpu_core.specs.declared.machine.Access.TheVariants.{Load, Store, Change}
-use Rattle.cpu_core.specs.declared.machine.Machine.{Machine}
-use Rattle.cpu_core.specs.declared.machine.Phase.{Phase}
-use Rattle.cpu_core.specs.declared.machine.Phase.TheVariants.{Opcode, Implied, Accumulator, BranchCrossed, ZeroPage, ZeroPageBase, AbsoluteLow, AddressHigh, IndexedLow, IndexedHigh, IndexAdded, Pointer, PointerLow, PointerBase, PointerIndex, PointerIndexedLow, IndexedPointer, IndexedPointerLow, IndexedPointerHigh, Operand, ModifyAgain, ModifyWrite, Decimal, Branch, BranchTaken, JumpLow, JumpHigh, IndirectLow, IndirectHigh, IndirectIndexedLow, IndirectIndexedHigh, IndirectAgain, IndirectTargetLow, Break, InterruptPushHigh, InterruptPushLow, InterruptPushFlags, VectorLow, VectorHigh, InterruptFirst, InterruptSecond, ResetFirst, ResetSecond, ResetThird, ResetFourth, ResetFifth, Return, ReturnStack, ReturnLow, ReturnHigh, ReturnTarget, SpareSecond, SpareLast, Push, PushByte, Pull, PullStack, PullByte, CallLow, CallStack, CallPushHigh, CallPushLow, CallHigh, Resume, ResumeStack, ResumeFlags, ResumeLow, ResumeHigh, Halted, Over}
+use Rattle.cpu_core.specs.declared.progress.Access.{Access}
+use Rattle.cpu_core.specs.declared.progress.Access.TheVariants.{Load, Store, Change}
+use Rattle.cpu_core.specs.declared.progress.Progress.{Progress}
+use Rattle.cpu_core.specs.declared.progress.Phase.{Phase}
+use Rattle.cpu_core.specs.declared.progress.Phase.TheVariants.{Opcode, Implied, Accumulator, BranchCrossed, ZeroPage, ZeroPageBase, AbsoluteLow}
+use Rattle.cpu_core.specs.declared.progress.Phase.TheVariants.{AddressHigh, IndexedLow, IndexedHigh, IndexAdded, Pointer, PointerLow, PointerBase}
+use Rattle.cpu_core.specs.declared.progress.Phase.TheVariants.{PointerIndex, PointerIndexedLow, IndexedPointer, IndexedPointerLow}
+use Rattle.cpu_core.specs.declared.progress.Phase.TheVariants.{IndexedPointerHigh, Operand, ModifyAgain, ModifyWrite, Decimal, Branch, BranchTaken}
+use Rattle.cpu_core.specs.declared.progress.Phase.TheVariants.{JumpLow, JumpHigh, IndirectLow, IndirectHigh, IndirectIndexedLow, IndirectIndexedHigh}
+use Rattle.cpu_core.specs.declared.progress.Phase.TheVariants.{IndirectAgain, IndirectTargetLow, Break, InterruptPushHigh, InterruptPushLow}
+use Rattle.cpu_core.specs.declared.progress.Phase.TheVariants.{InterruptPushFlags, VectorLow, VectorHigh, InterruptFirst, InterruptSecond}
+use Rattle.cpu_core.specs.declared.progress.Phase.TheVariants.{ResetFirst, ResetSecond, ResetThird, ResetFourth, ResetFifth, Return, ReturnStack}
+use Rattle.cpu_core.specs.declared.progress.Phase.TheVariants.{ReturnLow, ReturnHigh, ReturnTarget, SpareSecond, SpareLast, Push, PushByte, Pull}
+use Rattle.cpu_core.specs.declared.progress.Phase.TheVariants.{PullStack, PullByte, CallLow, CallStack, CallPushHigh, CallPushLow, CallHigh, Resume}
+use Rattle.cpu_core.specs.declared.progress.Phase.TheVariants.{ResumeStack, ResumeFlags, ResumeLow, ResumeHigh, Halted, Over}
 use Rattle.cpu_core.specs.Accesses.{byte, by_part, idle, with_low, second, cycle_between, lasts_longer, carry_cycles, last_place, branch_form, through, again}
 use Rattle.cpu_core.specs.Results.{to_vector}
 use Rattle.cpu_core.specs.Sequences.{accesses, result_of}
@@ -58,11 +68,11 @@ abbrev pub after_resume : Regs → ℕ → ℕ → Regs
 after_resume r p to = record (with_stack_moved r 3) { pc = to; p = p }
 
 -- the index to be added
-abbrev pub index_of : Machine → ℕ
+abbrev pub index_of : Progress → ℕ
 index_of m = cond m.start.by_y m.work.y m.work.x
 
 -- the accesses that are left in a phase, f being what will be seen in it and after it
-abbrev pub cycles_left_in : Part → Phase → Machine → List (Option ℕ) → List Cycle
+abbrev pub cycles_left_in : Part → Phase → Progress → List (Option ℕ) → List Cycle
 cycles_left_in part Opcode m f = accesses part Instruction m.work f
 cycles_left_in part Implied m f = Read (place m.work 1) ∷ []
 cycles_left_in part Accumulator m f = Read (place m.work 1) ∷ []
@@ -189,7 +199,7 @@ cycles_left_in part Halted m f = Read m.at ∷ []
 cycles_left_in part Over m f = []
 
 -- the registers at the end, f being what will be seen in the phase and after it
-abbrev pub outcome_in : Part → Phase → Machine → List (Option ℕ) → Regs
+abbrev pub outcome_in : Part → Phase → Progress → List (Option ℕ) → Regs
 outcome_in part Opcode m f = result_of part Instruction m.work f
 outcome_in part Implied m f = implied_result m.row.mnemonic (with_pc_past m.work m.row.bytes)
 outcome_in part Accumulator m f = modify_result m.row.mnemonic Acc (with_pc_past m.work m.row.bytes) m.work.a
@@ -267,47 +277,47 @@ outcome_in part ResumeHigh m f = after_resume m.work m.index (word m.low (byte f
 outcome_in part Halted m f = m.work
 outcome_in part Over m f = m.work
 
-abbrev pub cycles_left : Part → Machine → List (Option ℕ) → List Cycle
+abbrev pub cycles_left : Part → Progress → List (Option ℕ) → List Cycle
 cycles_left part m f = cycles_left_in part m.phase m f
 
-abbrev pub outcome : Part → Machine → List (Option ℕ) → Regs
+abbrev pub outcome : Part → Progress → List (Option ℕ) → Regs
 outcome part m f = outcome_in part m.phase m f
 
 -- the access of the cycle in progress
-abbrev pub wants_in : Phase → Machine → Option Cycle
+abbrev pub wants_in : Phase → Progress → Option Cycle
 wants_in Over m = None
 wants_in _ m = Some (cond m.writes (Write m.at m.value) (Read m.at))
 
-abbrev pub wants : Machine → Option Cycle
+abbrev pub wants : Progress → Option Cycle
 wants m = wants_in m.phase m
 
 abbrev pub is_store : Access → Bool
 is_store Store = true
 is_store _ = false
 
-abbrev pub value_by : Access → Machine → ℕ
+abbrev pub value_by : Access → Progress → ℕ
 value_by Store m = stored_value m.row.mnemonic m.work
 value_by _ m = m.value
 
 -- a cycle that reads, and one that writes
-abbrev pub machine_reading : Machine → Phase → ℕ → Machine
-machine_reading m phase at = record m { phase = phase; at = at; writes = false }
+abbrev pub progress_reading : Progress → Phase → ℕ → Progress
+progress_reading m phase at = record m { phase = phase; at = at; writes = false }
 
-abbrev pub machine_writing : Machine → Phase → ℕ → ℕ → Machine
-machine_writing m phase at value = record m { phase = phase; at = at; writes = true; value = value }
+abbrev pub progress_writing : Progress → Phase → ℕ → ℕ → Progress
+progress_writing m phase at value = record m { phase = phase; at = at; writes = true; value = value }
 
 -- the end, with these registers
-abbrev pub machine_at_end : Machine → Regs → Machine
-machine_at_end m r = record m { phase = Over; work = r }
+abbrev pub progress_at_end : Progress → Regs → Progress
+progress_at_end m r = record m { phase = Over; work = r }
 
 -- the cycle at the operand, whose address is a
-abbrev pub machine_at_operand : Machine → ℕ → Machine
-machine_at_operand m a = record m { phase = Operand; at = a; writes = is_store m.start.access; value = value_by m.start.access m }
+abbrev pub progress_at_operand : Progress → ℕ → Progress
+progress_at_operand m a = record m { phase = Operand; at = a; writes = is_store m.start.access; value = value_by m.start.access m }
 
 -- the cycle that pushes the high byte of pc, before its low byte and the flags with the bits of set
-abbrev pub machine_pushing : Machine → ℕ → ℕ → Machine
-machine_pushing m pc set =
-    machine_writing (record m { index = pc % 256; low = bit_or m.work.p set }) InterruptPushHigh (stack m.work 0) (pc / 256)
+abbrev pub progress_pushing : Progress → ℕ → ℕ → Progress
+progress_pushing m pc set =
+    progress_writing (record m { index = pc % 256; low = bit_or m.work.p set }) InterruptPushHigh (stack m.work 0) (pc / 256)
 
 -- the first cycle of an instruction
 abbrev pub is_fetch : Phase → Bool

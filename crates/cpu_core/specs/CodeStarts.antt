@@ -8,12 +8,12 @@ use Rattle.cpu_alu.specs.declared.uses.BusUse.{BusUse}
 use Rattle.cpu_alu.specs.declared.uses.BusUse.TheVariants as bus
 use Rattle.cpu_alu.specs.Addresses.{place}
 use Rattle.cpu_alu.specs.Instructions.{bus_use}
-use Rattle.cpu_core.specs.declared.machine.Access.{Access}
-use Rattle.cpu_core.specs.declared.machine.Access.TheVariants.{Load, Store, Change}
-use Rattle.cpu_core.specs.declared.machine.Machine.{Machine}
-use Rattle.cpu_core.specs.declared.machine.Phase.{Phase}
-use Rattle.cpu_core.specs.declared.machine.Phase.TheVariants as phase
-use Rattle.cpu_core.specs.declared.machine.Start.{Start}
+use Rattle.cpu_core.specs.declared.progress.Access.{Access}
+use Rattle.cpu_core.specs.declared.progress.Access.TheVariants.{Load, Store, Change}
+use Rattle.cpu_core.specs.declared.progress.Progress.{Progress}
+use Rattle.cpu_core.specs.declared.progress.Phase.{Phase}
+use Rattle.cpu_core.specs.declared.progress.Phase.TheVariants as phase
+use Rattle.cpu_core.specs.declared.progress.Start.{Start}
 use Rattle.cpu_core.specs.Accesses.{row_at, waits}
 
 -- without an operand in memory
@@ -76,7 +76,7 @@ start_in part None = plain phase.Opcode
 abbrev pub start_at : Part → ℕ → Start
 start_at part op = start_in part (row_at part op)
 
--- the machine in the first cycle after the opcode
-abbrev pub start_leaves : Start → Machine → Machine
+-- the progress in the first cycle after the opcode
+abbrev pub start_leaves : Start → Progress → Progress
 start_leaves s m =
     record m { phase = s.phase; start = s; at = place m.work 1; writes = false }

@@ -2,7 +2,7 @@
 use Rattle.std.specs.Prelude.{◌≡◌, ℕ, List, [], ◌∷◌, ◌++◌, length, drop, Bool, true, false, ◌&&◌, Option, Some, None, is_none}
 use Rattle.op_table.specs.declared.names.Part.{Part}
 use Rattle.cpu_alu.specs.declared.Cycle.{Cycle}
-use Rattle.cpu_core.specs.declared.machine.Machine.{Machine}
+use Rattle.cpu_core.specs.declared.progress.Progress.{Progress}
 use Rattle.cpu_core.specs.State.{State}
 use Rattle.cpu_core.specs.Accesses.{row_at}
 use Rattle.cpu_core.specs.Sequences.{accesses, result_of, shown_byte, halts, is_start}
@@ -14,7 +14,7 @@ first (a ∷ rest) = Some a
 
 -- Whatever will be seen, the accesses left and the registers at the end are those of the phase, and it reads an opcode, or
 -- is halted, where the processor does.
-pub record Tied (part : Part) (m : Machine) (s : State) : Type 0 where
+pub record Tied (part : Part) (m : Progress) (s : State) : Type 0 where
   pub accesses_left : (f : List (Option ℕ)) → drop (length s.seen) (accesses part s.sequence s.regs (s.seen ++ f)) ≡ cycles_left part m f
   pub end : (f : List (Option ℕ)) → result_of part s.sequence s.regs (s.seen ++ f) ≡ outcome part m f
   pub wanted : wants m ≡ first (cycles_left part m [])
@@ -22,7 +22,7 @@ pub record Tied (part : Part) (m : Machine) (s : State) : Type 0 where
   pub stuck : is_stuck m.phase ≡ halts s.seen part s.sequence
 
 -- a phase goes on to the next one by the byte of its cycle
-pub record GoesOn (part : Part) (m : Machine) (byte : ℕ) (then : Machine) : Type 0 where
+pub record GoesOn (part : Part) (m : Progress) (byte : ℕ) (then : Progress) : Type 0 where
   pub accesses_left : (f : List (Option ℕ)) → drop 1 (cycles_left part m (shown_byte (first (cycles_left part m [])) byte ∷ f)) ≡ cycles_left part then f
   pub end : (f : List (Option ℕ)) → outcome part m (shown_byte (first (cycles_left part m [])) byte ∷ f) ≡ outcome part then f
   pub wanted : wants then ≡ first (cycles_left part then [])
@@ -30,9 +30,9 @@ pub record GoesOn (part : Part) (m : Machine) (byte : ℕ) (then : Machine) : Ty
   pub stuck : is_stuck then.phase ≡ (is_fetch m.phase && is_none (row_at part byte))
 
 -- a step: a halted part stays as it is
-abbrev pub StepsWhere : Bool → Part → Machine → ℕ → Machine → Type 0
+abbrev pub StepsWhere : Bool → Part → Progress → ℕ → Progress → Type 0
 StepsWhere true part m byte then = then ≡ m
 StepsWhere false part m byte then = GoesOn part m byte then
 
-abbrev pub Steps : Part → Machine → ℕ → Machine → Type 0
+abbrev pub Steps : Part → Progress → ℕ → Progress → Type 0
 Steps part m byte then = StepsWhere (is_stuck m.phase) part m byte then

@@ -1,47 +1,49 @@
 //! A processor of either part: it says which access it wants, and is given the byte.
-ghost use Rattle.std.specs.Prelude.{◌≡◌, ◌≢◌, ◌↔◌, ◌⊎◌, IsTrue, IsSome, IsNone, Some};
+ghost use Rattle.std.specs.Prelude.{◌≡◌, ◌≢◌, ◌↔◌, IsTrue, IsSome, IsNone, Some};
+ghost use Rattle.op_table.specs.declared.Part.{Part};
 ghost use Rattle.cpu_core.specs.Sequences.{next_cycle, after_byte, halted, starting, after, sequence_at_look, fresh, power_on, HasEnded};
 ghost use Rattle.cpu_core.specs.CodePhases.{wants, is_fetch, is_stuck};
 ghost use Rattle.cpu_core.specs.CodeTies.{Tied};
-ghost use Rattle.cpu_core.specs.declared.machine.Machine.{Machine};
 
 use crate::Sequence;
-use crate::machine::{Access, Machine, Phase, Start};
+use crate::kinds::Which;
+use crate::progress::{Access, Phase, Progress, Start};
 use crate::trail::{Trail, Turn};
 use cpu_alu::{Cycle, INTERRUPT, Regs, has_flag};
 use op_table::{Mnemonic, Mode, Part, Row};
-use std::marker::Model;
+use std::marker::{Model, PhantomData};
 
-/// A processor of either part. It does one access to the bus in each cycle: `want` says which, and `give` ends the cycle
+/// A processor of the part that `P` says. It does one access to the bus in each cycle: `want` says which, and `give` ends the cycle
 /// with the byte that was read. After the last cycle of an instruction, or of a reset or an interrupt, `take_lines` or
-/// `begin_reset` goes on. `give` is told its part again, as a constant that the code for the other part goes by.
+/// `begin_reset` goes on. An opcode without an instruction halts an NMOS part: then it reads the address of that opcode in each cycle,
+/// until `begin_reset`.
 /// Source: the MCS6500 Hardware Manual, summary of single cycle execution, and the 65C02's data sheet. Which address a
 /// cycle of the 65C02 reads whose byte is not used is this project's choice.
 #[derive(Drop)]
-pub struct Core {
-    machine: Machine,
+pub struct Core<P: Which> {
+    progress: Progress,
     start: Regs,
-    part: Part,
+    part: PhantomData<P>,
     // What contracts see, which takes no memory.
     trail: Trail,
 }
 
-impl Model for Core {
+impl<P: Which> Model for Core<P> {
     ghost use Rattle.std.specs.Prelude.{◌≡◌};
-    ghost use Rattle.cpu_core.specs.State.{CoreState};
+    ghost use Rattle.cpu_core.specs.State.{State};
     ghost use Rattle.cpu_core.specs.CodeTies.{Tied};
 
-    ghost Value = { CoreState };
+    ghost Value = { State };
 
-    ghost view = { λ c. record { part = c.part; state = c.trail.state } };
+    ghost view = { λ c. c.trail.state };
 
-    ghost invariant = { λ c. (c.start ≡ c.trail.state.regs) × Tied c.part c.machine c.trail.state };
+    ghost invariant = { λ c. (c.start ≡ c.trail.state.regs) × Tied P.part c.progress c.trail.state };
 }
 
-fn first_machine(part: Part, regs: Regs) -> Machine
-    ensures { Tied part result (fresh Sequence.Reset regs) }
+fn first_progress(regs: Regs) -> Progress
+    ensures { (part : Part) → Tied part result (fresh Sequence.Reset regs) }
 {
-    Machine {
+    Progress {
         phase: Phase::ResetFirst,
         writes: false,
         value: 0,
@@ -67,8 +69,8 @@ fn first_machine(part: Part, regs: Regs) -> Machine
 
 /// A sequence begins with the registers that are worked on.
 #[inline(always)]
-fn set_off(part: Part, m: &mut Machine, sequence: Sequence)
-    ensures tied { Tied part m.new (fresh sequence m.old.work) }
+fn set_off(m: &mut Progress, sequence: Sequence)
+    ensures tied { (part : Part) → Tied part m.new (fresh sequence m.old.work) }
     ensures work { m.new.work ≡ m.old.work }
 {
     m.at = m.work.pc;
@@ -131,7 +133,7 @@ fn is_fetch(phase: Phase) -> bool
 }
 
 #[inline(always)]
-fn in_progress(m: &Machine) -> Cycle
+fn in_progress(m: &Progress) -> Cycle
     requires { m.now.phase ≢ Phase.Over }
     ensures { wants m.now ≡ Some result }
 {
@@ -142,11 +144,18 @@ fn in_progress(m: &Machine) -> Cycle
     }
 }
 
-impl Core {
+impl<P: Which> Core<P> {
+    /// Which part it is.
+    #[inline(always)]
+    pub fn part() -> Part
+        ensures { result ≡ P.part }
+    {
+        P::kind()
+    }
+
     /// Power-on, before the first cycle of a reset: all registers and flags are clear.
-    pub fn new(part: Part) -> Self
-        ensures part { result.part ≡ part }
-        ensures state { result.state ≡ power_on }
+    pub fn new() -> Self
+        ensures { result ≡ power_on }
     {
         let regs = Regs {
             pc: 0,
@@ -157,107 +166,96 @@ impl Core {
             p: 0,
         };
         Core {
-            machine: first_machine(part, regs),
+            progress: first_progress(regs),
             start: regs,
-            part,
+            part: PhantomData,
             trail: Trail::new(),
         }
     }
 
     /// The processor once more, as it stands.
     #[inline]
-    pub fn copy(&self) -> Core
+    pub fn copy(&self) -> Self
         ensures { result ≡ self.now }
     {
         Core {
-            machine: self.machine,
+            progress: self.progress,
             start: self.start,
-            part: self.part,
+            part: PhantomData,
             trail: self.trail.after(&Turn::Rests),
         }
     }
 
     #[inline(always)]
     fn begin(&mut self, sequence: Sequence)
-        requires { HasEnded self.old.part self.old.state }
-        ensures part { self.new.part ≡ self.old.part }
-        ensures state { self.new.state ≡ fresh sequence (after self.old.part self.old.state) }
+        requires { HasEnded P.part self.old }
+        ensures { self.new ≡ fresh sequence (after P.part self.old) }
     {
-        set_off(self.part, &mut self.machine, sequence);
-        self.start = self.machine.work;
+        set_off(&mut self.progress, sequence);
+        self.start = self.progress.work;
         self.trail = self.trail.after(&Turn::Begins(sequence, self.start));
     }
 
     /// The access of the cycle in progress.
     #[inline(always)]
     pub fn want(&self) -> Cycle
-        requires { IsSome (next_cycle self.now.part self.now.state) }
-        ensures { next_cycle self.now.part self.now.state ≡ Some result }
+        requires { IsSome (next_cycle P.part self.now) }
+        ensures { next_cycle P.part self.now ≡ Some result }
     {
-        in_progress(&self.machine)
+        in_progress(&self.progress)
     }
 
     /// The cycle in progress is done, with the byte that was read. After a write the byte does not matter.
     #[inline(always)]
-    pub fn give(&mut self, part: Part, byte: u8)
-        requires part { self.old.part ≡ part }
-        requires more { IsSome (next_cycle part self.old.state) }
-        ensures part { self.new.part ≡ part }
-        ensures state { self.new.state ≡ after_byte part self.old.state byte }
+    pub fn give(&mut self, byte: u8)
+        requires { IsSome (next_cycle P.part self.old) }
+        ensures { self.new ≡ after_byte P.part self.old byte }
     {
+        let part = P::kind();
         self.trail = self.trail.after(&Turn::Given(part, byte));
-        self.machine.step(part, byte);
+        self.progress.step(part, byte);
     }
 
     /// Whether the cycle just given was the last of its sequence.
     #[inline(always)]
     pub fn last(&self) -> bool
-        ensures { IsTrue result ↔ IsNone (next_cycle self.now.part self.now.state) }
+        ensures { IsTrue result ↔ IsNone (next_cycle P.part self.now) }
     {
-        is_last(self.machine.phase)
-    }
-
-    #[inline(always)]
-    fn is_halted(&self, part: Part) -> bool
-        requires { self.now.part ≡ part }
-        ensures { result ≡ halted part self.now.state }
-    {
-        match part {
-            Part::Nmos => is_stuck(self.machine.phase),
-            Part::Cmos => false,
-        }
+        is_last(self.progress.phase)
     }
 
     /// Whether an opcode without an instruction has halted it.
     #[inline(always)]
     pub fn halted(&self) -> bool
-        ensures { result ≡ halted self.now.part self.now.state }
+        ensures { result ≡ halted P.part self.now }
     {
-        self.is_halted(self.part)
+        match P::kind() {
+            Part::Nmos => is_stuck(self.progress.phase),
+            Part::Cmos => false,
+        }
     }
 
     /// Whether the next cycle is the first of an instruction: not of a reset or an interrupt, nor one in which it is halted.
     #[inline(always)]
     pub fn starting(&self) -> bool
-        ensures { result ≡ starting self.now.state }
+        ensures { result ≡ starting self.now }
     {
-        is_fetch(self.machine.phase)
+        is_fetch(self.progress.phase)
     }
 
     #[inline(always)]
     fn look(&self, nmi: bool, irq: bool) -> Sequence
-        requires { IsNone (next_cycle self.now.part self.now.state) }
-        ensures { result ≡ sequence_at_look nmi irq (after self.now.part self.now.state) }
+        requires { IsNone (next_cycle P.part self.now) }
+        ensures { result ≡ sequence_at_look nmi irq (after P.part self.now) }
     {
-        looked(nmi, irq, &self.machine.work)
+        looked(nmi, irq, &self.progress.work)
     }
 
     // A look at lines of which one at least asks.
     #[inline(never)]
     fn take_asked(&mut self, nmi: bool, irq: bool)
-        requires { IsNone (next_cycle self.old.part self.old.state) }
-        ensures part { self.new.part ≡ self.old.part }
-        ensures state { self.new.state ≡ fresh (sequence_at_look nmi irq (after self.old.part self.old.state)) (after self.old.part self.old.state) }
+        requires { IsNone (next_cycle P.part self.old) }
+        ensures { self.new ≡ fresh (sequence_at_look nmi irq (after P.part self.old)) (after P.part self.old) }
     {
         let sequence = self.look(nmi, irq);
         self.begin(sequence);
@@ -267,9 +265,8 @@ impl Core {
     // Where nothing is asked for, the next instruction begins with constants.
     #[inline(always)]
     pub fn take_lines(&mut self, nmi: bool, irq: bool)
-        requires { IsNone (next_cycle self.old.part self.old.state) }
-        ensures part { self.new.part ≡ self.old.part }
-        ensures state { self.new.state ≡ fresh (sequence_at_look nmi irq (after self.old.part self.old.state)) (after self.old.part self.old.state) }
+        requires { IsNone (next_cycle P.part self.old) }
+        ensures { self.new ≡ fresh (sequence_at_look nmi irq (after P.part self.old)) (after P.part self.old) }
     {
         if nmi || irq {
             self.take_asked(nmi, irq);
@@ -280,9 +277,8 @@ impl Core {
 
     /// A reset begins in place of the look, or where it is halted.
     pub fn begin_reset(&mut self)
-        requires { HasEnded self.old.part self.old.state }
-        ensures part { self.new.part ≡ self.old.part }
-        ensures state { self.new.state ≡ fresh Sequence.Reset (after self.old.part self.old.state) }
+        requires { HasEnded P.part self.old }
+        ensures { self.new ≡ fresh Sequence.Reset (after P.part self.old) }
     {
         self.begin(Sequence::Reset);
     }
@@ -290,11 +286,10 @@ impl Core {
     /// The next cycle is the first of an instruction, with these registers, whatever was in progress.
     #[inline(always)]
     pub fn set_out(&mut self, regs: &Regs)
-        ensures part { self.new.part ≡ self.old.part }
-        ensures state { self.new.state ≡ fresh Sequence.Instruction regs.now }
+        ensures { self.new ≡ fresh Sequence.Instruction regs.now }
     {
-        self.machine.work = *regs;
-        set_off(self.part, &mut self.machine, Sequence::Instruction);
+        self.progress.work = *regs;
+        set_off(&mut self.progress, Sequence::Instruction);
         self.start = *regs;
         self.trail = self
             .trail
@@ -304,7 +299,7 @@ impl Core {
     /// The registers at the start of the sequence.
     #[inline(always)]
     pub fn at_start(&self) -> Regs
-        ensures { result ≡ self.now.state.regs }
+        ensures { result ≡ self.now.regs }
     {
         self.start
     }
@@ -312,9 +307,9 @@ impl Core {
     /// The registers after the sequence that has ended.
     #[inline]
     pub fn at_end(&self) -> Regs
-        requires { HasEnded self.now.part self.now.state }
-        ensures { result ≡ after self.now.part self.now.state }
+        requires { HasEnded P.part self.now }
+        ensures { result ≡ after P.part self.now }
     {
-        self.machine.work
+        self.progress.work
     }
 }

@@ -5,7 +5,7 @@ ghost use Rattle.cpu_core.specs.Results.{masked_flags, to_vector};
 ghost use Rattle.cpu_core.specs.CodePhases.{is_later, is_rare};
 ghost use Rattle.cpu_core.specs.CodeTies.{GoesOn, Steps};
 
-use crate::machine::{Access, Machine, Phase};
+use crate::progress::{Access, Phase, Progress};
 use cpu_alu::{
     DECIMAL, INTERRUPT, PULLED, PUSHED_BY_INTERRUPT, PUSHED_BY_PROGRAM, Regs, crosses_page,
     in_zero_page, with_flag, word, wrapping_sum,
@@ -86,7 +86,7 @@ fn go_to_vector(part: Part, r: &mut Regs, low: u8, high: u8)
     r.pc = word(low, high);
 }
 
-impl Machine {
+impl Progress {
     #[inline(never)]
     fn after_implied(&mut self, part: Part, byte: u8)
         requires { self.old.phase ≡ Phase.Implied }

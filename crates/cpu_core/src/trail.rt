@@ -1,5 +1,5 @@
 //! What the cycles of a sequence showed. Only contracts see it: it takes no memory, and its methods do nothing at run time. What ties it to
-//! the machine is the invariant of `Core`.
+//! the progress is the invariant of `Core`.
 ghost use Rattle.std.specs.Prelude.{◌≡◌};
 ghost use Rattle.std.specs.Borrow.{ftrue};
 ghost use Rattle.cpu_core.specs.State.{State};

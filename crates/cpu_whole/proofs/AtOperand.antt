@@ -1,5 +1,6 @@
 -- What is done at the operand, behind any way there.
-use Rattle.std.proofs.Common.{◌≡◌, ◌≢◌, ℕ, suc, ◌+◌, List, [], ◌∷◌, ◌++◌, length, Bool, true, false, cond, Option, Some, None, slice_get, MatchOption, refl, sym, subst, ap, ◌∙◌, arith, append_assoc, length-append}
+use Rattle.std.proofs.Common.{◌≡◌, ◌≢◌, ℕ, suc, ◌+◌, List, [], ◌∷◌, ◌++◌, length, Bool, true, false, cond, Option, Some, None, slice_get}
+use Rattle.std.proofs.Common.{MatchOption, refl, sym, subst, ap, ◌∙◌, arith, append_assoc, length-append}
 use Rattle.std.proofs.lemmas.List.{append-nil}
 use Rattle.op_table.specs.declared.names.Part.{Part}
 use Rattle.op_table.specs.declared.names.Part.TheVariants.{Nmos, Cmos}
@@ -91,7 +92,8 @@ module _ {M : Type 0} (g : Reach M) (t : ℕ) where
         let next : List (Option ℕ) → Option Cycle = on_the_way part row.mode always r code tail in
         let same : (f : List (Option ℕ)) → slice_get (form part (bus_use row.mnemonic) row r (Some code ∷ f)) (length f) ≡ next f = λ f.
         ap (λ u. slice_get (form part u row r (Some code ∷ f)) (length f)) uses
-        ∙ ap (λ b. slice_get (reach part row.mode always r (Some code ∷ f) ++ Read (address row.mode r (Some code ∷ f)) ∷ cond b (Read (last_place row.mode r) ∷ []) []) (length f)) (not_longer binary) in
+        ∙ ap (λ b. slice_get (reach part row.mode always r (Some code ∷ f) ++ Read (address row.mode r (Some code ∷ f))
+        ∷ cond b (Read (last_place row.mode r) ∷ []) []) (length f)) (not_longer binary) in
         let here : next reached.seen ≡ Some (Read at) = next-first part row.mode always r m at n reached tail ∙ ap (λ a. Some (Read a)) (found-first part row.mode always r m at n reached) in
         let follows = step next 0 reached.seen m (Read at) last m last m here plain refl refl (refl, refl) in
         let all = from_fetch g t part row r m p decoded next same (more_by reached.seen 1) last m (reached.goes tail 1 last m follows) in
@@ -99,7 +101,8 @@ module _ {M : Type 0} (g : Reach M) (t : ℕ) where
           last = behind r code last;
           carried = counted part r m (suc (more_by reached.seen 1)) k last code m (omega (arith, more_by-suc reached.seen 1, reached.count, count)) all;
           over = next-row part code row r last decoded ∙ same last ∙ next-there part row.mode always r m at n reached tail (Some x ∷ []) 1 refl;
-          regs = after-row part row r code Reads last decoded uses ∙ ap (read_result part row.mnemonic row.mode (with_pc_past r row.bytes)) (operand-there part row.mode always r m at n reached x []) ∙ sym is;
+          regs = after-row part row r code Reads last decoded uses
+              ∙ ap (read_result part row.mnemonic row.mode (with_pc_past r row.bytes)) (operand-there part row.mode always r m at n reached x []) ∙ sym is;
           masks = ap (λ (q : Regs). has_flag q.p INTERRUPT) is ∙ read_kept part row.mnemonic row.mode (with_pc_past r row.bytes) x;
         }
 
@@ -169,14 +172,16 @@ module _ {M : Type 0} (g : Reach M) (t : ℕ) where
         let left : g.put m1 t (suc (length (seen ++ Some x ∷ y ∷ []))) at v ≡ there = ap (λ (j : ℕ). g.put m1 t j at v) at2 ∙ over_old part ∙ sym put in
         let follows : Follows g t next 3 seen m last there =
         step next 2 seen m (Read at) (seen ++ Some x ∷ []) m last there here read refl refl
-        (step next 1 (seen ++ Some x ∷ []) m between (seen ++ Some x ∷ y ∷ []) m1 last there here1 (plain_between part) (append_assoc seen (Some x ∷ []) (y ∷ [])) (ap (λ (j : ℕ). leaves g t m j between) at1)
+        (step next 1 (seen ++ Some x ∷ []) m between (seen ++ Some x ∷ y ∷ []) m1 last there here1 (plain_between part)
+        (append_assoc seen (Some x ∷ []) (y ∷ [])) (ap (λ (j : ℕ). leaves g t m j between) at1)
         (step next 0 (seen ++ Some x ∷ y ∷ []) m1 (Write at v) last there last there here2 written (append_assoc seen (Some x ∷ y ∷ []) (None ∷ [])) left (refl, refl))) in
         let all = from_fetch g t part row r m p decoded next same (more_by seen 3) last there (reached.goes tail 3 last there follows) in
         record {
           last = behind r code last;
           carried = counted part r m (suc (more_by seen 3)) k last code there (omega (arith, more_by-suc seen 3, reached.count, count)) all;
           over = next-row part code row r last decoded ∙ same last ∙ past;
-          regs = after-row part row r code (bus_use row.mnemonic) last decoded refl ∙ uses.results r (Some code ∷ last) ∙ ap (modify_result row.mnemonic row.mode (with_pc_past r row.bytes)) (operand-there part row.mode always r m at n reached x (y ∷ None ∷ [])) ∙ sym is;
+          regs = after-row part row r code (bus_use row.mnemonic) last decoded refl ∙ uses.results r (Some code ∷ last)
+              ∙ ap (modify_result row.mnemonic row.mode (with_pc_past r row.bytes)) (operand-there part row.mode always r m at n reached x (y ∷ None ∷ [])) ∙ sym is;
           masks = ap (λ (q : Regs). has_flag q.p INTERRUPT) is ∙ modify_kept row.mnemonic row.mode (with_pc_past r row.bytes) x;
         }
       where
@@ -187,7 +192,9 @@ module _ {M : Type 0} (g : Reach M) (t : ℕ) where
         two : suc (n + 1) ≡ n + 2
         two = omega arith
 
-        over_old : (part : Part) → g.put (leaves g t m (n + 1) (cycle_between part at (g.byte m at))) t (n + 2) at (modified_value row.mnemonic r (g.byte m at)) ≡ g.put m t (n + 2) at (modified_value row.mnemonic r (g.byte m at))
+        over_old : (part : Part)
+            → g.put (leaves g t m (n + 1) (cycle_between part at (g.byte m at))) t (n + 2) at
+            (modified_value row.mnemonic r (g.byte m at)) ≡ g.put m t (n + 2) at (modified_value row.mnemonic r (g.byte m at))
         over_old Nmos =
             let v : ℕ = modified_value row.mnemonic r (g.byte m at) in
             ap (λ (j : ℕ). g.put (g.put m t (n + 1) at (g.byte m at)) t j at v) (sym two) ∙ lawful.again m t (n + 1) at v written ∙ ap (λ (j : ℕ). g.put m t j at v) two

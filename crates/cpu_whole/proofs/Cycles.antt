@@ -1,6 +1,5 @@
 -- Cycles behind that of the opcode, from what is next after what was seen to the definition's states.
 use Rattle.std.proofs.Common.{◌≡◌, ℕ, zero, suc, ◌+◌, List, [], ◌∷◌, ◌++◌, length, true, false, cond, Option, Some, None, is_none, slice_get, MatchOption, refl, sym, subst, ap, ◌∙◌, arith}
-use Rattle.std.proofs.lemmas.Option.{slice_get_past}
 use Rattle.op_table.specs.declared.names.Part.{Part}
 use Rattle.op_table.specs.declared.names.Part.TheVariants.{Nmos, Cmos}
 use Rattle.op_table.specs.declared.rows.Row.{Row}
@@ -99,9 +98,6 @@ at_seam [] c cs zero h = refl
 at_seam [] c cs (suc n) h = absurd (omega (arith, h))
 at_seam (x ∷ xs) c cs zero h = absurd (omega (arith, h))
 at_seam (x ∷ xs) c cs (suc n) h = at_seam xs c cs n (omega (arith, h))
-
-pub past_end : (xs : List Cycle) (n : ℕ) → length xs ≡ n → slice_get xs n ≡ None
-past_end xs n h = slice_get_past xs n (omega (arith, h))
 
 pub byte-seam : (seen rest : List (Option ℕ)) (op x n : ℕ) → n ≡ length seen → byte (Some op ∷ seen ++ Some x ∷ rest) (1 + n) ≡ x
 byte-seam seen rest op x n h =

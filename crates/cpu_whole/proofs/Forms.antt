@@ -1,5 +1,6 @@
 -- The instructions without an operand in memory, each straight from the definition's list of accesses.
-use Rattle.std.proofs.Common.{◌≡◌, ◌≢◌, ◌<◌, ℕ, suc, ◌+◌, ◌/◌, ◌%◌, List, [], ◌∷◌, ◌++◌, length, Bool, true, false, cond, eqb, Option, Some, None, slice_get, MatchOption, refl, sym, subst, ap, ◌∙◌, arith}
+use Rattle.std.proofs.Common.{◌≡◌, ◌≢◌, ◌<◌, ℕ, suc, ◌+◌, ◌/◌, ◌%◌, List, [], ◌∷◌, ◌++◌, length, Bool, true, false, cond, eqb, Option, Some, None}
+use Rattle.std.proofs.Common.{slice_get, MatchOption, refl, sym, subst, ap, ◌∙◌, arith}
 use Rattle.op_table.specs.declared.names.Part.{Part}
 use Rattle.op_table.specs.declared.names.Part.TheVariants.{Nmos, Cmos}
 use Rattle.op_table.specs.declared.names.Mode.{Mode}
@@ -56,7 +57,8 @@ module _ {M : Type 0} (g : Reach M) (t : ℕ) (part : Part) (row : Row) (r : Reg
       → (new : Regs) (x : ℕ) → new ≡ modify_result row.mnemonic Acc (with_pc_past r row.bytes) x → IsDone part g t r m 2 new m
   accumulator always uses acc q new x is =
       let last : List (Option ℕ) = Some (g.byte m (place r 1)) ∷ [] in
-      by_list (bus_use row.mnemonic) refl (λ f. Read (place r 1) ∷ []) (λ f. uses.forms r (Some code ∷ f) ∙ ap (λ way. modify_form part row way always r (Some code ∷ f)) acc) 1 last m (q, (refl, refl)) refl 2 new refl
+      by_list (bus_use row.mnemonic) refl (λ f. Read (place r 1) ∷ [])
+      (λ f. uses.forms r (Some code ∷ f) ∙ ap (λ way. modify_form part row way always r (Some code ∷ f)) acc) 1 last m (q, (refl, refl)) refl 2 new refl
       (is ∙ sym (uses.results r (Some code ∷ last) ∙ ap (λ way. modify_result row.mnemonic way (with_pc_past r row.bytes) (operand part row.mode always r (Some code ∷ last))) acc))
       (ap (λ (q : Regs). has_flag q.p INTERRUPT) is ∙ modify_kept row.mnemonic Acc (with_pc_past r row.bytes) x)
 
@@ -96,7 +98,8 @@ module _ {M : Type 0} (g : Reach M) (t : ℕ) (part : Part) (row : Row) (r : Reg
       let next : List (Option ℕ) → Option Cycle = λ f. slice_get (list f) (length f) in
       let ends : Follows g t next 1 (Some (g.byte m (place r 1)) ∷ Some (g.byte m at) ∷ []) m last m =
       subst (λ (b : Bool). MatchOption (slice_get (Read (place r 1) ∷ Read at ∷ cond b [] (Read at2 ∷ [])) 2) ⊥
-      (λ c. (is_plain g c ≡ true) × Follows g t next 0 ((Some (g.byte m (place r 1)) ∷ Some (g.byte m at) ∷ []) ++ shown_byte (Some c) (shows g m c) ∷ []) (leaves g t m 3 c) last m)) (sym far) (j, (refl, refl)) in
+      (λ c. (is_plain g c ≡ true)
+      × Follows g t next 0 ((Some (g.byte m (place r 1)) ∷ Some (g.byte m at) ∷ []) ++ shown_byte (Some c) (shows g m c) ∷ []) (leaves g t m 3 c) last m)) (sym far) (j, (refl, refl)) in
       by_list Branches uses list (λ f. ap (λ b. branch_form part b r (Some code ∷ f)) taken) 3 last m (q, (i, ends))
       (ap (λ b. slice_get (Read (place r 1) ∷ Read at ∷ cond b [] (Read at2 ∷ [])) 3) far) 4 new refl
       (is ∙ ap (λ (b : Bool). record r { pc = cond b (target r (byte (Some code ∷ last) 1)) (place r 2) }) (sym taken))

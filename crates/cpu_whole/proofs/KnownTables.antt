@@ -3,25 +3,22 @@ use Rattle.std.proofs.Common.{◌≡◌, ℕ, ◌<◌, List, map, refl, ap, ◌�
 use Rattle.std.specs.List.{range_with_len}
 use Rattle.std.proofs.lemmas.List.FromFn.{get_or-map-range_with_len}
 use Rattle.op_table.specs.Rows.{nmos_row, cmos_row}
+use Rattle.op_table.specs.declared.names.Part.{Part}
 use Rattle.op_table.specs.declared.names.Part.TheVariants.{Nmos, Cmos}
 use Rattle.cpu_whole.specs.declared.known.Known.{Known}
 use Rattle.cpu_whole.specs.declared.known.TheConstants.{CMOS, NMOS}
 use Rattle.cpu_whole.specs.CodeWays.{known_at}
 
-NMOS_is : NMOS ≡ map (known_at Nmos) (range_with_len 0 256)
-unfolding nmos_row
-NMOS_is = refl
+abbrev table : Part → List Known
+table Nmos = NMOS
+table Cmos = CMOS
 
-pub NMOS-at : (op : ℕ) (d : Known) → op < 256 → slice_index_or NMOS op d ≡ known_at Nmos op
-NMOS-at op d h =
-    ap (λ (t : List Known). slice_index_or t op d) NMOS_is
-    ∙ get_or-map-range_with_len (known_at Nmos) 0 256 op op d h (omega arith)
+table_is : (part : Part) → table part ≡ map (known_at part) (range_with_len 0 256)
+unfolding nmos_row cmos_row
+table_is Nmos = refl
+table_is Cmos = refl
 
-CMOS_is : CMOS ≡ map (known_at Cmos) (range_with_len 0 256)
-unfolding cmos_row
-CMOS_is = refl
-
-pub CMOS-at : (op : ℕ) (d : Known) → op < 256 → slice_index_or CMOS op d ≡ known_at Cmos op
-CMOS-at op d h =
-    ap (λ (t : List Known). slice_index_or t op d) CMOS_is
-    ∙ get_or-map-range_with_len (known_at Cmos) 0 256 op op d h (omega arith)
+pub table-at : (part : Part) (op : ℕ) (d : Known) → op < 256 → slice_index_or (table part) op d ≡ known_at part op
+table-at part op d h =
+    ap (λ (t : List Known). slice_index_or t op d) (table_is part)
+    ∙ get_or-map-range_with_len (known_at part) 0 256 op op d h (omega arith)

@@ -5,7 +5,9 @@ use Rattle.op_table.specs.declared.names.Part.{Part}
 use Rattle.op_table.specs.declared.names.Mode.{Mode}
 use Rattle.op_table.specs.declared.names.Mode.TheVariants.{Acc, Imm}
 use Rattle.op_table.specs.declared.names.Mnemonic.{Mnemonic}
-use Rattle.op_table.specs.declared.names.Mnemonic.TheVariants.{Adc, And, Asl, Bit, Clc, Cld, Cli, Clv, Cmp, Cpx, Cpy, Dec, Dex, Dey, Eor, Inc, Inx, Iny, Lda, Ldx, Ldy, Lsr, Ora, Pla, Plx, Ply, Rol, Ror, Sbc, Sec, Sed, Sei, Tax, Tay, Tsx, Txa, Tya}
+use Rattle.op_table.specs.declared.names.Mnemonic.TheVariants.{Adc, And, Asl, Bit, Clc, Cld, Cli, Clv, Cmp, Cpx, Cpy, Dec, Dex, Dey, Eor, Inc, Inx}
+use Rattle.op_table.specs.declared.names.Mnemonic.TheVariants.{Iny, Lda, Ldx, Ldy, Lsr, Ora, Pla, Plx, Ply, Rol, Ror, Sbc, Sec, Sed, Sei, Tax, Tay}
+use Rattle.op_table.specs.declared.names.Mnemonic.TheVariants.{Tsx, Txa, Tya}
 use Rattle.cpu_alu.specs.declared.Sum.{Sum}
 use Rattle.cpu_alu.specs.declared.Regs.{Regs}
 use Rattle.cpu_alu.specs.declared.flags.TheConstants.{CARRY, ZERO, INTERRUPT, DECIMAL, OVERFLOW, NEGATIVE}

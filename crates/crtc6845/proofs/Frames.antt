@@ -4,7 +4,9 @@ use Rattle.std.specs.Prelude.{if◌then◌else◌}
 use Rattle.std.proofs.lemmas.Bool.{cases_lt}
 use Rattle.std.proofs.Math.Nat.{add-mod_left, mod_self, mod-eq_of_lt, mul-le-mul_right, mul-le-mul_left}
 use Rattle.crtc6845.specs.State.{Registers, State}
-use Rattle.crtc6845.specs.Clock.{start_leaves, ends_line, is_row_done, is_last_line, is_last_line_in, ends_frame, frame_begun, adjust_begun, row_begun, raster_begun, row_line_ended, adjust_line_ended, line_ended_in, line_ended, count_leaves, clock_leaves, raster_step, last_raster, is_interlaced}
+use Rattle.crtc6845.specs.Clock.{start_leaves, ends_line, is_row_done, is_last_line, is_last_line_in, ends_frame, frame_begun, adjust_begun}
+use Rattle.crtc6845.specs.Clock.{row_begun, raster_begun, row_line_ended, adjust_line_ended, line_ended_in, line_ended, count_leaves, clock_leaves}
+use Rattle.crtc6845.specs.Clock.{raster_step, last_raster, is_interlaced}
 use Rattle.crtc6845.specs.Laws.{clocks, line_characters, row_lines, frame_lines, frame_clocks, HaveTheirBits, BeginsFrame}
 use Rattle.crtc6845.proofs.Lines.{test_true, test_false, start_leaves-kept, start_leaves-character, start_leaves-registers, count_leaves-registers, clock_leaves-inner, clock_leaves-last}
 

@@ -5,7 +5,8 @@ use Rattle.std.proofs.lemmas.Bool.{cases_lt}
 use Rattle.std.proofs.lemmas.Bool.Decides.{nat_tests}
 use Rattle.std.proofs.Math.Nat.{add-mod_left, mod-eq_of_lt}
 use Rattle.crtc6845.specs.State.{Registers, State}
-use Rattle.crtc6845.specs.Clock.{starts_line, begins_sync, sync_counted, sync_begun, start_leaves, ends_line, are_rows_done, is_row_done, frame_begun, adjust_begun, row_begun, raster_begun, line_ended_in, line_ended, count_leaves, clock_leaves}
+use Rattle.crtc6845.specs.Clock.{starts_line, begins_sync, sync_counted, sync_begun, start_leaves, ends_line, are_rows_done, is_row_done}
+use Rattle.crtc6845.specs.Clock.{frame_begun, adjust_begun, row_begun, raster_begun, line_ended_in, line_ended, count_leaves, clock_leaves}
 use Rattle.crtc6845.specs.Laws.{clocks}
 
 pub test_true : (a b : ℕ) → a ≡ b → (a == b) ≡ true

@@ -1,5 +1,6 @@
 -- Clocks of a chip at rest.
-use Rattle.std.proofs.Common.{◌≡◌, ◌∙◌, sym, ap, subst, refl, ℕ, zero, suc, ◌+◌, ◌-◌, ◌*◌, ◌/◌, ◌%◌, ◌^◌, ◌<◌, ◌≤◌, ◌≢◌, ◌==◌, ◌&&◌, ◌⊎◌, Bool, true, false, Option, Some, None, arith, inl, inr, true≢false}
+use Rattle.std.proofs.Common.{◌≡◌, ◌∙◌, sym, ap, subst, refl, ℕ, zero, suc, ◌+◌, ◌-◌, ◌*◌, ◌/◌, ◌%◌, ◌^◌, ◌<◌, ◌≤◌, ◌≢◌, ◌==◌, ◌&&◌, ◌⊎◌, Bool, true}
+use Rattle.std.proofs.Common.{false, Option, Some, None, arith, inl, inr, true≢false}
 use Rattle.std.specs.Prelude.{if◌then◌else◌, is_none}
 use Rattle.std.proofs.lemmas.Bool.{cases_lt}
 use Rattle.std.proofs.lemmas.Bool.Decides.{nat_tests}
@@ -174,7 +175,8 @@ within (suc n) before c s f h goes =
     let rest = within n (before + 1) c (s - 1) f h (elim goes [ inl p ↦ inl (omega arith) | inr p ↦ inr p ]) in
     let e : s - 1 - n ≡ s - suc n = omega arith in
     let g : before + 1 + n ≡ before + suc n = omega arith in
-    let all : Run (suc n) before (timed c s f) (timed c (s - 1 - n) f) 0 (before + 1 + n) = ahead n before (timed c s f) (timed c (s - 1) f) (timed c (s - 1 - n) f) false 0 (before + 1 + n) one.0 one.1 rest in
+    let all : Run (suc n) before (timed c s f) (timed c (s - 1 - n) f) 0 (before + 1 + n) =
+    ahead n before (timed c s f) (timed c (s - 1) f) (timed c (s - 1 - n) f) false 0 (before + 1 + n) one.0 one.1 rest in
     subst (λ k. Run (suc n) before (timed c s f) (timed c (s - suc n) f) 0 k) g (subst (λ k. Run (suc n) before (timed c s f) (timed c k f) 0 (before + 1 + n)) e all)
 
 -- the clocks up to the next beginning, that one, and those after it

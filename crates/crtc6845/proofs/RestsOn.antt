@@ -3,7 +3,8 @@ use Rattle.std.proofs.Common.{◌≡◌, ◌∙◌, sym, ap, refl, Bool, true, f
 use Rattle.std.specs.Prelude.{if◌then◌else◌}
 use Rattle.crtc6845.specs.declared.Beam.{Beam}
 use Rattle.crtc6845.specs.State.{State}
-use Rattle.crtc6845.specs.Clock.{starts_line, begins_sync, sync_counted, sync_begun, line_started, finishes_frame, begins_horizontal_sync, is_shown, has_cursor, address, ends_row, ends_frame, count_leaves, clock_leaves, beam_told}
+use Rattle.crtc6845.specs.Clock.{starts_line, begins_sync, sync_counted, sync_begun, line_started, finishes_frame, begins_horizontal_sync, is_shown}
+use Rattle.crtc6845.specs.Clock.{has_cursor, address, ends_row, ends_frame, count_leaves, clock_leaves, beam_told}
 use Rattle.crtc6845.specs.CodeSteps.{is_quiet, quiet_beam}
 use Rattle.crtc6845.specs.Rests.{RestsOn}
 use Rattle.crtc6845.proofs.Rest.{rest_kept}

@@ -11,7 +11,7 @@ use Rattle.crtc6845.specs.Registers.{cursor_address}
 use Rattle.crtc6845.specs.Clock.{starts_line, begins_sync, sync_counted, start_leaves, is_shown, address, has_cursor, ends_line, count_leaves, clock_leaves, beam_told, beam_of, begins_horizontal_sync}
 use Rattle.crtc6845.specs.Laws.{clocks}
 use Rattle.crtc6845.specs.CodeSteps.{cursor_is_on}
-use Rattle.crtc6845.specs.Spans.{inside_clocks, TellsSpan, TellsHidden, CursorIsFirst, to_cursor}
+use Rattle.crtc6845.specs.Spans.{inside_clocks, TellsSpan, CursorIsFirst, to_cursor}
 use Rattle.crtc6845.proofs.Lines.{test_false}
 use Rattle.crtc6845.proofs.Frames.{inner_is}
 use Rattle.crtc6845.proofs.SyncLines.{start_by}
@@ -128,15 +128,14 @@ and_yes : (p : Bool) → (p && true) ≡ p
 and_yes true = refl
 and_yes false = refl
 
-sync_as : (h k s : ℕ) → (h < s → h + k < s) → (h + k == s) ≡ (h == s && k == 0)
-sync_as h zero s p = grind (arith, nat_tests)
-sync_as h (suc k) s p = elim (cases_lt h s) [
-  | inl below ↦
-      let l = p below in
-      test_false _ _ (λ e. omega (arith, e)) ∙ ap (λ x. x && suc k == 0) (sym (test_false h s (λ e. omega (arith, e))))
-  | inr past ↦
-      let t : (suc k == 0) ≡ false = test_false _ _ (λ e. omega (arith, e)) in
-      test_false _ _ (λ e. omega (arith, e)) ∙ sym (ap (λ x. h == s && x) t ∙ and_no (h == s))
+sync_at : (h k s to : ℕ) → h + k < 256 → (h ≤ s → h + to ≡ s) → (s < h → to ≡ 256) → (h + k == s) ≡ (k == to)
+sync_at h k s to small here past = elim (cases_lt s h) [
+  | inl over ↦
+      let p = past over in
+      test_false _ _ (λ e. omega (arith, e, over)) ∙ sym (test_false _ _ (λ e. omega (arith, e, p, small)))
+  | inr within ↦
+      let p = here within in
+      grind (arith, nat_tests)
 ]
 
 cursor_as : (k n : ℕ) (c : State) → k < n → CursorIsFirst n c → has_cursor (at c (c.character + k)) ≡ (has_cursor c && k == 0)
@@ -154,10 +153,10 @@ pub record IsSpan (span : Span) (c : State) : Type 0 where
   pub ma : span.ma ≡ address c
   pub ra : span.ra ≡ c.raster
   pub cursor : span.cursor ≡ has_cursor c
-  pub sync : span.sync ≡ begins_horizontal_sync c
+  pub here : c.character ≤ c.registers.horizontal_sync_position → c.character + span.to_sync ≡ c.registers.horizontal_sync_position
+  pub past : c.registers.horizontal_sync_position < c.character → span.to_sync ≡ 256
   pub fields : span.fields ≡ c.fields
   pub within : is_shown c ≡ true → c.character + span.clocks ≤ c.registers.horizontal_displayed
-  pub before : c.character < c.registers.horizontal_sync_position → c.character + span.clocks ≤ c.registers.horizontal_sync_position
   pub first : CursorIsFirst span.clocks c
 
 pub span_tells : (span : Span) (c : State) → c.character ≢ 0 → c.character < 256 → c.registers.horizontal_total < 256 → IsSpan span c → TellsSpan span c
@@ -174,12 +173,12 @@ span_tells span c start fits wide is k less =
     let ma : address d ≡ (span.ma + k) % 16384 =
     ap (λ n. n % 16384) add ∙ sym (mod-add-mod (c.base + c.character) 16384 k) ∙ ap (λ n. (n + k) % 16384) (sym is.ma) in
     let shown : is_shown d ≡ span.shown = still_shown k c (λ x. let l = is.within x in omega arith) ∙ sym is.shown in
-    let sync : begins_horizontal_sync d ≡ (span.sync && k == 0) =
-    sync_as c.character k c.registers.horizontal_sync_position (λ x. let l = is.before x in omega arith) ∙ ap (λ x. x && k == 0) (sym is.sync) in
+    let sync : begins_horizontal_sync d ≡ (k == span.to_sync) =
+    sync_at c.character k c.registers.horizontal_sync_position span.to_sync low is.here is.past in
     let cursor : has_cursor d ≡ (span.cursor && k == 0) = cursor_as k span.clocks c less is.first ∙ ap (λ x. x && k == 0) (sym is.cursor) in
     ap (λ (s : State). beam_of s) there ∙ told
     ∙ mk_same (is_shown d) span.shown (address d) ((span.ma + k) % 16384) c.raster span.ra (has_cursor d) (span.cursor && k == 0)
-    (begins_horizontal_sync d) (span.sync && k == 0) c.fields span.fields shown ma (sym is.ra) cursor sync (sym is.fields)
+    (begins_horizontal_sync d) (k == span.to_sync) c.fields span.fields shown ma (sym is.ra) cursor sync (sym is.fields)
 
 -- where the cursor is
 no_cursor : (s a p q b : Bool) → (p && q && b) ≡ false → (s && a && p && q && b) ≡ false
@@ -214,34 +213,3 @@ cursor_hidden n c hidden k some less =
     let d = at c (c.character + k) in
     let same : is_shown d ≡ false = still_shown k c (λ e. absurd (true≢false (sym e ∙ hidden))) ∙ hidden in
     hidden_by (is_shown d) (address d == cursor_address c.registers) _ _ _ same
-
--- where nothing is shown
-sync_at : (h k s to : ℕ) → h + k < 256 → (h ≤ s → h + to ≡ s) → (s < h → to ≡ 256) → (h + k == s) ≡ (k == to)
-sync_at h k s to small here past = elim (cases_lt s h) [
-  | inl over ↦
-      let p = past over in
-      test_false _ _ (λ e. omega (arith, e, over)) ∙ sym (test_false _ _ (λ e. omega (arith, e, p, small)))
-  | inr within ↦
-      let p = here within in
-      grind (arith, nat_tests)
-]
-
-pub hidden_tells : (n to : ℕ) (c : State) → c.character ≢ 0 → c.character < 256 → c.registers.horizontal_total < 256 → n ≤ inside_clocks c → is_shown c ≡ false →
-    (c.character ≤ c.registers.horizontal_sync_position → c.character + to ≡ c.registers.horizontal_sync_position) →
-    (c.registers.horizontal_sync_position < c.character → to ≡ 256) → TellsHidden n to c
-hidden_tells n to c start fits wide inside hidden here past k less =
-    let e = inside_end c fits in
-    let ends = inside_is c fits in
-    let low : c.character + k < 256 = elim ends [ inl p ↦ omega (arith, p.0, p.1) | inr p ↦ omega (arith, p.0, p.1) ] in
-    let apart : c.character + k ≢ c.registers.horizontal_total = λ x. elim ends [ inl p ↦ omega (arith, p.0, p.1, x) | inr p ↦ omega (arith, p.0, p.1, x) ] in
-    let d = at c (c.character + k) in
-    let there : clocks k c ≡ d = pass_is k c start fits wide (omega arith) ∙ ap (λ n. at c n) (mod-eq_of_lt low) in
-    let told : beam_of d ≡ inside_told d = beam_in d (λ x. start (omega (arith, x))) apart in
-    let add : c.base + (c.character + k) ≡ c.base + c.character + k = omega arith in
-    let ma : address d ≡ (address c + k) % 16384 = ap (λ n. n % 16384) add ∙ sym (mod-add-mod (c.base + c.character) 16384 k) in
-    let shown : is_shown d ≡ false = still_shown k c (λ x. absurd (true≢false (sym x ∙ hidden))) ∙ hidden in
-    let cursor : has_cursor d ≡ false = hidden_by (is_shown d) (address d == cursor_address c.registers) _ _ _ shown in
-    let sync : begins_horizontal_sync d ≡ (k == to) = sync_at c.character k c.registers.horizontal_sync_position to low here past in
-    ap (λ (s : State). beam_of s) there ∙ told
-    ∙ mk_same (is_shown d) false (address d) ((address c + k) % 16384) c.raster c.raster (has_cursor d) false
-    (begins_horizontal_sync d) (k == to) c.fields c.fields shown ma refl cursor sync refl

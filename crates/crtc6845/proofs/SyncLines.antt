@@ -4,7 +4,9 @@ use Rattle.std.specs.Prelude.{if◌then◌else◌, is_none}
 use Rattle.std.proofs.lemmas.Bool.{cases_lt}
 use Rattle.std.proofs.Math.Nat.{mul-le-mul_right, mul-le-mul_left}
 use Rattle.crtc6845.specs.State.{Registers, State}
-use Rattle.crtc6845.specs.Clock.{starts_line, begins_sync, sync_counted, sync_begun, sync_height, line_started, start_leaves, ends_line, are_rows_done, is_row_done, frame_begun, adjust_begun, row_begun, raster_begun, line_ended_in, line_ended, count_leaves, raster_step, is_interlaced}
+use Rattle.crtc6845.specs.Clock.{starts_line, begins_sync, sync_counted, sync_begun, sync_height, line_started, start_leaves, ends_line}
+use Rattle.crtc6845.specs.Clock.{are_rows_done, is_row_done, frame_begun, adjust_begun, row_begun, raster_begun, line_ended_in, line_ended}
+use Rattle.crtc6845.specs.Clock.{count_leaves, raster_step, is_interlaced}
 use Rattle.crtc6845.specs.Laws.{row_lines}
 use Rattle.crtc6845.specs.Pictures.{sync_line}
 use Rattle.crtc6845.proofs.Lines.{test_true, test_false}

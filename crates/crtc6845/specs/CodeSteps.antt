@@ -10,10 +10,6 @@ abbrev pub cursor_is_on : State → Bool
 cursor_is_on c =
     nat_le (c.registers.cursor_start % 32) c.raster && nat_le c.raster c.registers.cursor_end && blinks_on c.registers.cursor_start c.fields
 
--- the character is the last of its line, and the row goes on
-abbrev pub ends_inner_line : State → Bool
-ends_inner_line c = ends_line c && is_none c.adjust && not (is_row_done c)
-
 -- the line is the last of its row, and another row follows
 abbrev pub ends_row_line : State → Bool
 ends_row_line c = is_none c.adjust && is_row_done c && not (is_last_line c)

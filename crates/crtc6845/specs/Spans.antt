@@ -13,8 +13,8 @@ inside_clocks c =
     if nat_le c.character c.registers.horizontal_total then c.registers.horizontal_total - c.character
     else 256 - c.character
 
--- What the k-th clock of a span tells, counted from 0: the addresses count up, and horizontal sync and the cursor come
--- with the first at most.
+-- What the k-th clock of a span tells, counted from 0: the addresses count up, the cursor comes with the first at most, and
+-- horizontal sync behind so many of them.
 abbrev pub beam_in_span : Span → ℕ → Beam
 beam_in_span span k = record {
   shown = span.shown;
@@ -22,7 +22,7 @@ beam_in_span span k = record {
   ra = span.ra;
   cursor = span.cursor && k == 0;
   line_start = false;
-  sync_start = span.sync && k == 0;
+  sync_start = k == span.to_sync;
   frame_end = false;
   fields = span.fields;
   row_end = false;
@@ -32,25 +32,6 @@ beam_in_span span k = record {
 -- Each clock of the span tells that.
 abbrev pub TellsSpan : Span → State → Type 0
 TellsSpan span c = (k : ℕ) → k < span.clocks → beam_of (clocks k c) ≡ beam_in_span span k
-
--- What the k-th clock from here tells where nothing is shown, counted from 0: horizontal sync begins behind so many of them.
-abbrev pub hidden_beam : ℕ → ℕ → State → Beam
-hidden_beam to_sync k c = record {
-  shown = false;
-  ma = (address c + k) % 16384;
-  ra = c.raster;
-  cursor = false;
-  line_start = false;
-  sync_start = k == to_sync;
-  frame_end = false;
-  fields = c.fields;
-  row_end = false;
-  restart = false;
-}
-
--- Each of the next n clocks tells that.
-abbrev pub TellsHidden : ℕ → ℕ → State → Type 0
-TellsHidden n to_sync c = (k : ℕ) → k < n → beam_of (clocks k c) ≡ hidden_beam to_sync k c
 
 -- The characters from this one on, the first aside, have no cursor.
 abbrev pub CursorIsFirst : ℕ → State → Type 0

@@ -1,5 +1,5 @@
 //! Many character clocks at rest.
-ghost use Rattle.std.specs.Prelude.{◌≡◌, ◌+◌, ◌-◌, ◌/◌, ◌%◌, ◌<◌, true};
+ghost use Rattle.std.specs.Prelude.{ℕ, ◌≡◌, ◌+◌, ◌-◌, ◌/◌, ◌%◌, ◌<◌, ◌==◌, true, if◌then◌else◌};
 ghost use Rattle.crtc6845.specs.Calm.{StaysInSync};
 ghost use Rattle.crtc6845.specs.CodeSteps.{is_quiet};
 ghost use Rattle.crtc6845.specs.Clock.{sync_height};
@@ -7,9 +7,9 @@ ghost use Rattle.crtc6845.specs.Laws.{clocks};
 ghost use Rattle.crtc6845.specs.Rests.{frames_in, clocks_past_frame, sync_after};
 
 use crate::Finished;
-use crate::chip::Chip;
+use crate::crtc::Crtc;
 
-impl Chip {
+impl Crtc {
     fn sync_row(&self) -> u8
         ensures { result ≡ self.now.registers.vertical_sync_position }
     {
@@ -47,8 +47,19 @@ impl Chip {
         }
     }
 
-    /// Does `n` character clocks where the chip is quiet, and tells what they finish.
-    pub(crate) fn rest(&mut self, n: u64) -> Finished
+    /// Does `n` character clocks where `is_quiet` is true, and tells what they finish.
+    pub fn rest(&mut self, n: u64) -> Finished
+        requires { is_quiet self.old ≡ true }
+        ensures state { self.new ≡ clocks n self.old }
+        ensures frames { result.frames ≡ frames_in n self.old }
+        ensures past { result.past ≡ clocks_past_frame n 0 self.old }
+        ensures from { (y : ℕ) → clocks_past_frame n y self.old ≡ (if result.frames == 0 then y + n else result.past) }
+        ensures rest { is_quiet self.new ≡ true }
+    {
+        self.rest_by_turns(n)
+    }
+
+    fn rest_by_turns(&mut self, n: u64) -> Finished
         requires { is_quiet self.old ≡ true }
         ensures state { self.new ≡ clocks n self.old }
         ensures frames { result.frames ≡ frames_in n self.old }
@@ -71,7 +82,7 @@ impl Chip {
         self.turn_sync(n - first)
     }
 
-    /// A number of character clocks for which vertical sync stays what it is, where the chip is quiet.
+    // A number of character clocks for which vertical sync stays what it is, where the chip is quiet.
     pub(crate) fn calm_at_rest(&self) -> u64
         requires { is_quiet self.now ≡ true }
         ensures { StaysInSync result self.now }

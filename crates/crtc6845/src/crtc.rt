@@ -1,37 +1,66 @@
-//! The chip, with a short way for where it is quiet.
-ghost use Rattle.std.specs.Prelude.{ℕ, ◌==◌, if◌then◌else◌, ◌≡◌, ◌+◌, ◌%◌, ◌<◌, ◌≤◌, ◌||◌, false, true};
+//! The chip, and what a character clock does to it.
+ghost use Rattle.std.specs.Prelude.{◌≡◌, ◌<◌, ◌==◌, ◌||◌, false, if◌then◌else◌};
 ghost use Rattle.crtc6845.specs.State.{power_on};
 ghost use Rattle.crtc6845.specs.Registers.{select_leaves, set_leaves, answer_of};
-ghost use Rattle.crtc6845.specs.Clock.{starts_line, sync_counted, clock_leaves, is_shown, ends_line, beam_of, is_in_sync};
-ghost use Rattle.crtc6845.specs.Calm.{StaysInSync};
-ghost use Rattle.crtc6845.specs.CodeSteps.{ends_inner_line, is_quiet, quiet_beam};
-ghost use Rattle.crtc6845.specs.Laws.{clocks};
-ghost use Rattle.crtc6845.specs.Windows.{ShowsWindows};
-ghost use Rattle.crtc6845.specs.Rests.{frames_in, clocks_past_frame};
-ghost use Rattle.crtc6845.specs.Spans.{inside_clocks, TellsSpan, TellsHidden};
+ghost use Rattle.crtc6845.specs.CodeSteps.{cursor_is_on, ends_row_line, is_quiet};
+ghost use Rattle.crtc6845.specs.Clock.{starts_line, begins_sync, begins_horizontal_sync, sync_counted, sync_begun, line_started, is_shown, blinks_on, has_cursor, address, ends_row, ends_frame, ends_line, is_row_done, are_rows_done, is_last_line, row_line_ended, adjust_line_ended, frame_begun, adjust_begun, line_ended, count_leaves, clock_leaves, beam_of, is_in_sync};
 
-use crate::chip::Chip;
-use crate::{Beam, Finished, Hidden, Span, Windows};
+use crate::Beam;
+use crate::registers::Registers;
+use beeb_bits::bit;
 use std::marker::Model;
 
 /// A 6845.
 #[derive(Drop)]
 pub struct Crtc {
-    chip: Chip,
-    // It is known to be quiet, as a chip without a program is: then only vertical sync changes.
-    quiet: bool,
+    pub(crate) selected: u8,
+    pub(crate) registers: Registers,
+    // Which character of the line comes next, in which row of the frame, and on which raster of the row.
+    pub(crate) character: u8,
+    pub(crate) row: u8,
+    pub(crate) raster: u8,
+    // The address of the row's first character.
+    pub(crate) base: u16,
+    // Which of the lines after the rows it is, if it is one.
+    pub(crate) adjust: Option<u8>,
+    // The lines of vertical sync that are left.
+    pub(crate) sync_lines: u8,
+    // How often vertical sync began.
+    pub(crate) fields: u32,
 }
 
 impl Model for Crtc {
-    ghost use Rattle.std.specs.Prelude.{◌≡◌, true};
+    ghost use Rattle.std.specs.Prelude.{◌<◌, ◌≤◌, IfSome};
     ghost use Rattle.crtc6845.specs.State.{State};
-    ghost use Rattle.crtc6845.specs.CodeSteps.{is_quiet};
 
     ghost Value = { State };
 
-    ghost view = { λ c. c.chip };
+    ghost view = { λ c. record {
+      selected = c.selected;
+      registers = c.registers;
+      character = c.character;
+      row = c.row;
+      raster = c.raster;
+      base = c.base;
+      adjust = c.adjust;
+      sync_lines = c.sync_lines;
+      fields = c.fields;
+    } };
 
-    ghost invariant = { λ c. c.quiet ≡ true → is_quiet c.chip ≡ true };
+    ghost invariant = { λ c. (c.row ≤ 128) × (c.raster < 32) × (c.base < 16384) × IfSome c.adjust (λ line. line < 32) };
+}
+
+// Whether the cursor is on, by bits 6 and 5 of R10.
+fn blinks_on(start: u8, fields: u32) -> bool
+    ensures { result ≡ blinks_on start fields }
+{
+    if !bit(start, 6) {
+        !bit(start, 5)
+    } else if !bit(start, 5) {
+        fields / 8 % 2 == 0
+    } else {
+        fields / 16 % 2 == 0
+    }
 }
 
 impl Crtc {
@@ -40,8 +69,15 @@ impl Crtc {
         ensures { result ≡ power_on }
     {
         Crtc {
-            chip: Chip::new(),
-            quiet: false,
+            selected: 0,
+            registers: Registers::new(),
+            character: 0,
+            row: 0,
+            raster: 0,
+            base: 0,
+            adjust: None,
+            sync_lines: 0,
+            fields: 0,
         }
     }
 
@@ -49,22 +85,27 @@ impl Crtc {
     pub fn select(&mut self, v: u8)
         ensures { self.new ≡ select_leaves v self.old }
     {
-        self.chip.select(v);
+        self.selected = v % 32;
     }
 
     /// Writes the selected register. Each has its number of bits, and there are none from R16 on.
     pub fn set(&mut self, v: u8)
         ensures { self.new ≡ set_leaves v self.old }
     {
-        self.quiet = false;
-        self.chip.set(v);
+        self.registers.write(self.selected, v);
     }
 
     /// Reads the selected register: R12 to R15 can be read, and the others read 00.
     pub fn get(&self) -> u8
         ensures { result ≡ answer_of self.now }
     {
-        self.chip.get()
+        match self.selected {
+            12 => self.registers.start_high,
+            13 => self.registers.start_low,
+            14 => self.registers.cursor_high(),
+            15 => self.registers.cursor_low(),
+            _ => 0,
+        }
     }
 
     /// Vertical sync is on.
@@ -72,7 +113,7 @@ impl Crtc {
     pub fn vsync(&self) -> bool
         ensures { result ≡ is_in_sync self.now }
     {
-        self.chip.vsync()
+        self.sync_lines > 0
     }
 
     /// Does one character clock, and tells it.
@@ -81,198 +122,41 @@ impl Crtc {
         ensures beam { result ≡ beam_of self.old }
         ensures state { self.new ≡ clock_leaves self.old }
     {
-        if self.is_edge() {
-            self.clock_at_edge()
-        } else {
-            self.clock_inside()
-        }
-    }
-
-    // The first or the last clock of a line.
-    #[inline(always)]
-    fn clock_at_edge(&mut self) -> Beam
-        ensures beam { result ≡ beam_of self.old }
-        ensures state { self.new ≡ clock_leaves self.old }
-    {
-        let beam = self.chip.clock_at_edge();
-        self.quiet = self.chip.is_quiet();
+        let line_start = self.starts_line();
+        let frame_end = line_start && self.start_line();
+        let beam = self.beam(line_start, frame_end);
+        self.count();
         beam
     }
 
-    /// Does one character clock, and tells it, where `starts_line` is true and `ends_line` is false.
+    // What the character clock tells, once its line and its frame have begun.
     #[inline(always)]
-    pub fn clock_at_start(&mut self) -> Beam
-        requires start { starts_line self.old ≡ true }
-        requires end { ends_line self.old ≡ false }
-        ensures beam { result ≡ beam_of self.old }
-        ensures state { self.new ≡ clock_leaves self.old }
-        ensures first { (result.line_start ≡ true) × (result.row_end ≡ false) × (result.restart ≡ false) }
-        ensures goes_on { starts_line self.new ≡ false }
+    fn beam(&self, line_start: bool, frame_end: bool) -> Beam
+        ensures { result ≡ record {
+          shown = is_shown self.now;
+          ma = address self.now;
+          ra = self.now.raster;
+          cursor = has_cursor self.now;
+          line_start = line_start;
+          sync_start = begins_horizontal_sync self.now;
+          frame_end = frame_end;
+          fields = self.now.fields;
+          row_end = ends_row self.now;
+          restart = ends_frame self.now;
+        } }
     {
-        self.quiet = false;
-        self.chip.clock_at_start()
-    }
-
-    /// Does one character clock, and tells it, where `starts_line` is false and `ends_inner_line` is true.
-    #[inline(always)]
-    pub fn clock_at_inner_end(&mut self) -> Beam
-        requires start { starts_line self.old ≡ false }
-        requires end { ends_inner_line self.old ≡ true }
-        ensures beam { result ≡ beam_of self.old }
-        ensures state { self.new ≡ clock_leaves self.old }
-        ensures inside { (result.line_start ≡ false) × (result.frame_end ≡ false) × (result.row_end ≡ false) × (result.restart ≡ false) }
-    {
-        self.quiet = false;
-        self.chip.clock_at_inner_end()
-    }
-
-    /// Does one character clock, and tells it, where `is_edge` is false.
-    #[inline(always)]
-    pub fn clock_inside(&mut self) -> Beam
-        requires start { starts_line self.old ≡ false }
-        requires end { ends_line self.old ≡ false }
-        ensures beam { result ≡ beam_of self.old }
-        ensures state { self.new ≡ clock_leaves self.old }
-        ensures inside { (result.line_start ≡ false) × (result.frame_end ≡ false) × (result.row_end ≡ false) × (result.restart ≡ false) }
-    {
-        self.chip.clock_inside()
-    }
-
-    /// Does one character clock, and tells it, where `is_quiet` is true.
-    #[inline(always)]
-    pub fn clock_quiet(&mut self) -> Beam
-        requires { is_quiet self.old ≡ true }
-        ensures beam { result ≡ beam_of self.old }
-        ensures state { self.new ≡ clock_leaves self.old }
-        ensures told { result ≡ quiet_beam result.frame_end self.new }
-        ensures rest { is_quiet self.new ≡ true }
-        ensures not_shown { result.shown ≡ false }
-    {
-        self.chip.clock_quiet()
-    }
-
-    /// Does one character clock, where `is_quiet` is true, if vertical sync goes on past it: then it has one line less left, and nothing
-    /// else changes.
-    #[inline(always)]
-    pub fn clock_within_sync(&mut self) -> bool
-        requires { is_quiet self.old ≡ true }
-        ensures beam { result ≡ true → beam_of self.old ≡ quiet_beam false self.new }
-        ensures state { result ≡ true → self.new ≡ clock_leaves self.old }
-        ensures counts { result ≡ true → self.new ≡ sync_counted self.old }
-        ensures sync { result ≡ true → is_in_sync self.new ≡ true }
-        ensures stays { result ≡ false → self.new ≡ self.old }
-        ensures rest { is_quiet self.new ≡ true }
-    {
-        self.chip.clock_within_sync()
-    }
-
-    /// A number of character clocks for which vertical sync surely stays what it is.
-    pub fn calm(&self) -> u64
-        ensures { StaysInSync result self.now }
-    {
-        if self.quiet {
-            self.chip.calm_at_rest()
-        } else {
-            self.chip.calm()
+        Beam {
+            shown: self.is_shown(),
+            ma: self.address(),
+            ra: self.raster,
+            cursor: self.has_cursor(),
+            line_start,
+            sync_start: self.character == self.registers.horizontal_sync_position,
+            frame_end,
+            fields: self.fields,
+            row_end: self.ends_row(),
+            restart: self.ends_frame(),
         }
-    }
-
-    /// Does `n` character clocks where `is_quiet` is true, and tells what they finish.
-    pub fn rest(&mut self, n: u64) -> Finished
-        requires { is_quiet self.old ≡ true }
-        ensures state { self.new ≡ clocks n self.old }
-        ensures frames { result.frames ≡ frames_in n self.old }
-        ensures past { result.past ≡ clocks_past_frame n 0 self.old }
-        ensures from { (y : ℕ) → clocks_past_frame n y self.old ≡ (if result.frames == 0 then y + n else result.past) }
-        ensures rest { is_quiet self.new ≡ true }
-    {
-        self.chip.rest(n)
-    }
-
-    /// The characters that come, all of them inside the line and alike, where `is_edge` is false. Where they are shown, they lie in one block
-    /// of 1,024 addresses.
-    #[inline(always)]
-    pub fn span(&self) -> Span
-        requires start { starts_line self.now ≡ false }
-        requires end { ends_line self.now ≡ false }
-        ensures some { 0 < result.clocks }
-        ensures inside { result.clocks ≤ inside_clocks self.now }
-        ensures told { TellsSpan result self.now }
-        ensures page { result.shown ≡ true → result.ma % 1024 + result.clocks ≤ 1024 }
-    {
-        self.chip.span()
-    }
-
-    /// The characters that come before the last of the line, where none of them is shown and `is_edge` is false.
-    #[inline(always)]
-    pub fn hidden(&self) -> Hidden
-        requires start { starts_line self.now ≡ false }
-        requires end { ends_line self.now ≡ false }
-        requires hidden { is_shown self.now ≡ false }
-        ensures some { 0 < result.clocks }
-        ensures inside { result.clocks ≤ inside_clocks self.now }
-        ensures told { TellsHidden result.clocks result.to_sync self.now }
-    {
-        self.chip.hidden()
-    }
-
-    /// Does so many character clocks inside the line, as `span` or `hidden` tells them.
-    #[inline(always)]
-    pub fn pass(&mut self, n: u16)
-        requires start { starts_line self.old ≡ false }
-        requires inside { n ≤ inside_clocks self.old }
-        ensures { self.new ≡ clocks n self.old }
-    {
-        self.chip.pass(n);
-    }
-
-    /// The addresses that are shown from now on, until a register is written.
-    pub fn windows(&self) -> Windows
-        ensures shown { ShowsWindows result.base result.count result.start result.frame self.now }
-        ensures base { result.base < 16384 }
-        ensures start { result.start < 16384 }
-    {
-        self.chip.windows()
-    }
-
-    /// Each character is known to be a whole frame of which nothing is shown, until a register is written.
-    #[inline(always)]
-    pub fn is_quiet(&self) -> bool
-        ensures { result ≡ true → is_quiet self.now ≡ true }
-    {
-        self.quiet
-    }
-
-    /// The next character is the first of its line.
-    #[inline(always)]
-    pub fn starts_line(&self) -> bool
-        ensures { result ≡ starts_line self.now }
-    {
-        self.chip.starts_line()
-    }
-
-    /// The next character is the last of its line.
-    #[inline(always)]
-    pub fn ends_line(&self) -> bool
-        ensures { result ≡ ends_line self.now }
-    {
-        self.chip.ends_line()
-    }
-
-    /// The next character is the last of its line, and the row goes on.
-    #[inline(always)]
-    pub fn ends_inner_line(&self) -> bool
-        ensures { result ≡ ends_inner_line self.now }
-    {
-        self.chip.ends_inner_line()
-    }
-
-    /// The next character is shown.
-    #[inline(always)]
-    pub fn is_shown(&self) -> bool
-        ensures { result ≡ is_shown self.now }
-    {
-        self.chip.is_shown()
     }
 
     /// The next character is the first or the last of its line: a line, a row or a frame may begin or end with it.
@@ -280,6 +164,223 @@ impl Crtc {
     pub fn is_edge(&self) -> bool
         ensures { result ≡ (starts_line self.now || ends_line self.now) }
     {
-        self.chip.is_edge()
+        self.starts_line() || self.ends_line()
+    }
+
+    /// The next character is the first of its line.
+    #[inline(always)]
+    pub fn starts_line(&self) -> bool
+        ensures { result ≡ starts_line self.now }
+    {
+        self.character == 0
+    }
+
+    /// Each character is a line and the whole frame, and is not shown. So it is before the registers are written.
+    #[inline(always)]
+    pub fn is_quiet(&self) -> bool
+        ensures { result ≡ is_quiet self.now }
+    {
+        self.starts_line()
+            && self.ends_line()
+            && self.registers.horizontal_displayed == 0
+            && self.row == 0
+            && self.raster == 0
+            && self.adjust.is_none()
+            && self.is_last_line()
+            && self.base == self.registers.start_address()
+    }
+
+    // At the start of a line: vertical sync goes on, or begins.
+    #[inline(always)]
+    fn start_line(&mut self) -> bool
+        ensures begins { result ≡ begins_sync (sync_counted self.old) }
+        ensures state { self.new ≡ line_started self.old }
+    {
+        self.sync_lines = self.sync_lines.saturating_sub(1);
+        if self.begins_sync() {
+            self.begin_sync();
+            return true;
+        }
+        false
+    }
+
+    #[inline(never)]
+    fn begin_sync(&mut self)
+        ensures { self.new ≡ sync_begun self.old }
+    {
+        self.sync_lines = self.registers.sync_height();
+        self.fields = self.fields.wrapping_add(1);
+    }
+
+    #[inline(always)]
+    fn begins_sync(&self) -> bool
+        ensures { result ≡ begins_sync self.now }
+    {
+        self.sync_lines == 0
+            && self.adjust.is_none()
+            && self.row == self.registers.vertical_sync_position
+            && self.raster == 0
+    }
+
+    #[inline(always)]
+    pub(crate) fn is_shown(&self) -> bool
+        ensures { result ≡ is_shown self.now }
+    {
+        self.character < self.registers.horizontal_displayed
+            && self.row < self.registers.vertical_displayed
+            && self.adjust.is_none()
+    }
+
+    #[inline(always)]
+    pub(crate) fn address(&self) -> u16
+        ensures { result ≡ address self.now }
+    {
+        (self.base + u16::from(self.character)) % 16384
+    }
+
+    #[inline(always)]
+    pub(crate) fn has_cursor(&self) -> bool
+        ensures { result ≡ has_cursor self.now }
+    {
+        self.is_shown() && self.address() == self.registers.cursor_address() && self.cursor_is_on()
+    }
+
+    // The cursor is on this raster, and blinks on.
+    #[inline(never)]
+    pub(crate) fn cursor_is_on(&self) -> bool
+        ensures { result ≡ cursor_is_on self.now }
+    {
+        self.registers.cursor_start % 32 <= self.raster
+            && self.raster <= self.registers.cursor_end
+            && blinks_on(self.registers.cursor_start, self.fields)
+    }
+
+    /// The next character is the last of its line.
+    #[inline(always)]
+    pub fn ends_line(&self) -> bool
+        ensures { result ≡ ends_line self.now }
+    {
+        self.character == self.registers.horizontal_total
+    }
+
+    // The row goes up with this character.
+    #[inline(always)]
+    fn ends_row(&self) -> bool
+        ensures { result ≡ ends_row self.now }
+    {
+        self.ends_line() && self.ends_row_line()
+    }
+
+    // The line is the last of its row, and another row follows.
+    #[inline(never)]
+    fn ends_row_line(&self) -> bool
+        ensures { result ≡ ends_row_line self.now }
+    {
+        self.adjust.is_none() && self.is_row_done() && !self.is_last_line()
+    }
+
+    // A new frame begins after this character.
+    #[inline(always)]
+    fn ends_frame(&self) -> bool
+        ensures { result ≡ ends_frame self.now }
+    {
+        self.ends_line() && self.is_last_line()
+    }
+
+    // The line is the last of its frame.
+    #[inline(never)]
+    fn is_last_line(&self) -> bool
+        ensures { result ≡ is_last_line self.now }
+    {
+        match self.adjust {
+            None => self.are_rows_done() && self.registers.vertical_adjust == 0,
+            Some(line) => (line + 1) % 32 == self.registers.vertical_adjust,
+        }
+    }
+
+    fn is_row_done(&self) -> bool
+        ensures { result ≡ is_row_done self.now }
+    {
+        self.raster == self.registers.last_raster()
+    }
+
+    fn are_rows_done(&self) -> bool
+        ensures { result ≡ are_rows_done self.now }
+    {
+        self.is_row_done() && self.row == self.registers.vertical_total
+    }
+
+    // The next character.
+    #[inline(always)]
+    fn count(&mut self)
+        ensures { self.new ≡ count_leaves self.old }
+    {
+        if self.ends_line() {
+            self.end_line();
+        } else {
+            self.character = self.character.wrapping_add(1);
+        }
+    }
+
+    #[inline(never)]
+    fn end_line(&mut self)
+        ensures { self.new ≡ line_ended self.old }
+    {
+        self.character = 0;
+        match self.adjust {
+            None => self.end_row_line(),
+            Some(line) => self.end_adjust_line(line),
+        }
+    }
+
+    fn begin_frame(&mut self)
+        ensures { self.new ≡ frame_begun self.old }
+    {
+        self.row = 0;
+        self.raster = 0;
+        self.adjust = None;
+        self.base = self.registers.start_address();
+    }
+
+    // A line of adjust ends.
+    fn end_adjust_line(&mut self, line: u8)
+        requires { line < 32 }
+        ensures { self.new ≡ adjust_line_ended line self.old }
+    {
+        let next = (line + 1) % 32;
+        if next == self.registers.vertical_adjust {
+            self.begin_frame();
+        } else {
+            self.adjust = Some(next);
+        }
+    }
+
+    // A line of a row ends.
+    fn end_row_line(&mut self)
+        ensures { self.new ≡ row_line_ended self.old }
+    {
+        if self.are_rows_done() {
+            self.end_rows();
+        } else if self.is_row_done() {
+            self.row = (self.row + 1) % 128;
+            self.raster = 0;
+            self.base = (self.base + u16::from(self.registers.horizontal_displayed)) % 16384;
+        } else {
+            self.raster = (self.raster + self.registers.raster_step()) % 32;
+        }
+    }
+
+    // The last row ends.
+    fn end_rows(&mut self)
+        requires { self.old.row ≡ self.old.registers.vertical_total }
+        ensures { self.new ≡ (if self.old.registers.vertical_adjust == 0 then frame_begun self.old else adjust_begun self.old) }
+    {
+        if self.registers.vertical_adjust == 0 {
+            self.begin_frame();
+        } else {
+            self.row += 1;
+            self.raster = 0;
+            self.adjust = Some(0);
+        }
     }
 }

@@ -2,14 +2,14 @@
 ghost use Rattle.std.specs.Prelude.{◌≡◌, ◌+◌, ◌%◌, ◌<◌, ◌≤◌, false, true};
 ghost use Rattle.crtc6845.specs.Registers.{cursor_address};
 ghost use Rattle.crtc6845.specs.Calm.{Fits};
-ghost use Rattle.crtc6845.specs.Clock.{begins_horizontal_sync, starts_line, is_shown, address, ends_line};
+ghost use Rattle.crtc6845.specs.Clock.{starts_line, is_shown, address, ends_line};
 ghost use Rattle.crtc6845.specs.Laws.{clocks};
-ghost use Rattle.crtc6845.specs.Spans.{inside_clocks, TellsSpan, TellsHidden, CursorIsFirst, to_cursor};
+ghost use Rattle.crtc6845.specs.Spans.{inside_clocks, TellsSpan, CursorIsFirst, to_cursor};
 
-use crate::chip::Chip;
-use crate::{Hidden, Span};
+use crate::Span;
+use crate::crtc::Crtc;
 
-impl Chip {
+impl Crtc {
     // So many characters come before the last of the line, or before they begin anew.
     #[inline(always)]
     fn inside_clocks(&self) -> u16
@@ -26,19 +26,16 @@ impl Chip {
         if at <= total { total - at } else { 256 - at }
     }
 
-    // How many of the next characters come before the next with which horizontal sync begins, this one aside.
+    // So many characters come before the one with which horizontal sync begins, or more than are left of the line.
     #[inline(always)]
-    fn before_sync(&self, n: u16) -> u16
-        requires { 0 < n }
-        ensures some { 0 < result }
-        ensures most { result ≤ n }
-        ensures before { self.now.character < self.now.registers.horizontal_sync_position
-            → self.now.character + result ≤ self.now.registers.horizontal_sync_position }
+    fn to_sync(&self) -> u16
+        ensures here { self.now.character ≤ self.now.registers.horizontal_sync_position
+            → self.now.character + result ≡ self.now.registers.horizontal_sync_position }
+        ensures past { self.now.registers.horizontal_sync_position < self.now.character → result ≡ 256 }
     {
-        let to = u16::from(self.registers.horizontal_sync_position).saturating_sub(u16::from(
-            self.character,
-        ));
-        if to == 0 || n < to { n } else { to }
+        let at = u16::from(self.character);
+        let sync = u16::from(self.registers.horizontal_sync_position);
+        if at <= sync { sync - at } else { 256 }
     }
 
     // How many of the next characters are shown, if this one is.
@@ -65,13 +62,6 @@ impl Chip {
         ensures page { address self.now % 1024 + result ≤ 1024 }
     {
         n.min(1024 - self.address() % 1024)
-    }
-
-    #[inline(always)]
-    fn begins_horizontal_sync(&self) -> bool
-        ensures { result ≡ begins_horizontal_sync self.now }
-    {
-        self.character == self.registers.horizontal_sync_position
     }
 
     #[inline(always)]
@@ -114,15 +104,17 @@ impl Chip {
         to
     }
 
-    // How many of the next characters are shown or not as this one is, with no cursor but on this one.
+    // How many of the next characters are shown as this one is, with neither cursor nor horizontal sync but on this one; or all, where it
+    // is not shown.
     #[inline(always)]
-    fn before_other(&self, shown: bool, n: u16) -> u16
+    fn before_other(&self, shown: bool, to_sync: u16, n: u16) -> u16
         requires some { 0 < n }
         requires bound { n ≤ 256 }
         requires cursor { cursor_address self.now.registers < 16384 }
         requires shown { shown ≡ is_shown self.now }
         ensures some { 0 < result }
         ensures most { result ≤ n }
+        ensures sync { is_shown self.now ≡ true → 0 < to_sync → result ≤ to_sync }
         ensures within { is_shown self.now ≡ true
             → self.now.character + result ≤ self.now.registers.horizontal_displayed }
         ensures page { is_shown self.now ≡ true → address self.now % 1024 + result ≤ 1024 }
@@ -131,66 +123,41 @@ impl Chip {
         if !shown {
             return n;
         }
+        let n = if to_sync == 0 { n } else { n.min(to_sync) };
         let n = self.before_hidden(n);
         let n = self.before_page(n);
         self.before_cursor(n)
     }
 
-    /// The characters that come, all of them inside the line and alike, where `is_edge` is false.
+    /// The characters that come, all of them inside the line and alike, where `is_edge` is false. Those that are shown lie in one block of
+    /// 1,024 addresses, and horizontal sync begins with none of them but the first.
     #[inline(always)]
-    pub(crate) fn span(&self) -> Span
+    pub fn span(&self) -> Span
         requires start { starts_line self.now ≡ false }
         requires end { ends_line self.now ≡ false }
         ensures some { 0 < result.clocks }
         ensures inside { result.clocks ≤ inside_clocks self.now }
         ensures told { TellsSpan result self.now }
         ensures page { result.shown ≡ true → result.ma % 1024 + result.clocks ≤ 1024 }
+        ensures sync { result.shown ≡ true → 0 < result.to_sync → result.clocks ≤ result.to_sync }
     {
         let shown = self.is_shown();
+        let to_sync = self.to_sync();
         let n = self.inside_clocks();
-        let n = self.before_sync(n);
         Span {
-            clocks: self.before_other(shown, n),
+            clocks: self.before_other(shown, to_sync, n),
             shown,
             ma: self.address(),
             ra: self.raster_now(),
             cursor: self.has_cursor(),
-            sync: self.begins_horizontal_sync(),
+            to_sync,
             fields: self.fields_now(),
         }
     }
 
-    // So many characters come before the one with which horizontal sync begins, or more than are left of the line.
+    /// Does so many character clocks inside the line, as `span` tells them.
     #[inline(always)]
-    fn to_sync(&self) -> u16
-        ensures here { self.now.character ≤ self.now.registers.horizontal_sync_position
-            → self.now.character + result ≡ self.now.registers.horizontal_sync_position }
-        ensures past { self.now.registers.horizontal_sync_position < self.now.character → result ≡ 256 }
-    {
-        let at = u16::from(self.character);
-        let sync = u16::from(self.registers.horizontal_sync_position);
-        if at <= sync { sync - at } else { 256 }
-    }
-
-    /// The characters that come before the last of the line, where none of them is shown and `is_edge` is false.
-    #[inline(always)]
-    pub(crate) fn hidden(&self) -> Hidden
-        requires start { starts_line self.now ≡ false }
-        requires end { ends_line self.now ≡ false }
-        requires hidden { is_shown self.now ≡ false }
-        ensures some { 0 < result.clocks }
-        ensures inside { result.clocks ≤ inside_clocks self.now }
-        ensures told { TellsHidden result.clocks result.to_sync self.now }
-    {
-        Hidden {
-            clocks: self.inside_clocks(),
-            to_sync: self.to_sync(),
-        }
-    }
-
-    /// Does so many character clocks inside a line.
-    #[inline(always)]
-    pub(crate) fn pass(&mut self, n: u16)
+    pub fn pass(&mut self, n: u16)
         requires start { starts_line self.old ≡ false }
         requires inside { n ≤ inside_clocks self.old }
         ensures { self.new ≡ clocks n self.old }

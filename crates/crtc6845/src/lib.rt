@@ -2,7 +2,6 @@
 #![tactic(auto)]
 
 mod at_rest;
-mod chip;
 mod crtc;
 mod inside;
 mod law;
@@ -20,19 +19,19 @@ pub use law::{
 /// What one character clock tells.
 #[derive(Clone, Copy, Debug, PartialEq, Eq)]
 pub struct Beam {
-    /// The character is shown.
+    /// The character is shown: display enable, DISPEN.
     pub shown: bool,
-    /// Its address, of 14 bits.
+    /// Its address, of 14 bits: MA0 to MA13.
     pub ma: u16,
-    /// Its raster of the row, of 5 bits.
+    /// Its raster of the row, of 5 bits: RA0 to RA4.
     pub ra: u8,
     /// The cursor is on it.
     pub cursor: bool,
     /// It is the first of its line.
     pub line_start: bool,
-    /// Horizontal sync begins with it.
+    /// Horizontal sync, HSYNC, begins with it.
     pub sync_start: bool,
-    /// Vertical sync began with it: the frame that was drawn is finished.
+    /// Vertical sync, VSYNC, began with it: the frame that was drawn is finished.
     pub frame_end: bool,
     /// How often vertical sync has begun, modulo 2^32.
     pub fields: u32,
@@ -64,19 +63,10 @@ pub struct Span {
     pub ra: u8,
     /// The cursor is on the first, and on no other.
     pub cursor: bool,
-    /// Horizontal sync begins with the first, and with no other.
-    pub sync: bool,
+    /// Horizontal sync begins behind so many of them, if they are as many.
+    pub to_sync: u16,
     /// How often vertical sync has begun, modulo 2^32.
     pub fields: u32,
-}
-
-/// Characters that come, all of them inside a line, and none of them shown.
-#[derive(Clone, Copy, Debug, PartialEq, Eq)]
-pub struct Hidden {
-    /// How many they are.
-    pub clocks: u16,
-    /// Horizontal sync begins behind so many of them.
-    pub to_sync: u16,
 }
 
 /// Two windows of addresses, of 14 bits: that of the frame that is on, and that of the frames to come.

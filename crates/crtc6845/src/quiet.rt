@@ -2,9 +2,9 @@
 ghost use Rattle.std.specs.Prelude.{◌≡◌, ◌<◌, ◌≤◌};
 ghost use Rattle.crtc6845.specs.Calm.{clocks_to_line, meets_last, lines_left, is_sync_line, lines_before_sync, quiet_lines, calm_of, Fits, StaysInSync};
 
-use crate::chip::Chip;
+use crate::crtc::Crtc;
 
-impl Chip {
+impl Crtc {
     // The clocks that come before the next that starts a line.
     fn clocks_to_line(&self) -> u64
         ensures value { result ≡ clocks_to_line self.now }
@@ -92,11 +92,15 @@ impl Chip {
         }
     }
 
-    /// A number of character clocks for which vertical sync stays what it is.
-    pub(crate) fn calm(&self) -> u64
+    /// A number of character clocks for which vertical sync surely stays what it is.
+    pub fn calm(&self) -> u64
         ensures { StaysInSync result self.now }
     {
-        self.calm_number()
+        if self.is_quiet() {
+            self.calm_at_rest()
+        } else {
+            self.calm_number()
+        }
     }
 
     fn calm_number(&self) -> u64

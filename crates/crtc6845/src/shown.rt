@@ -5,9 +5,9 @@ ghost use Rattle.crtc6845.specs.Laws.{HaveTheirBits};
 ghost use Rattle.crtc6845.specs.Windows.{ShowsWindows, now_count, shown_count};
 
 use crate::Windows;
-use crate::chip::Chip;
+use crate::crtc::Crtc;
 
-impl Chip {
+impl Crtc {
     // The characters that may be shown of the frame that is on now.
     fn now_count(&self) -> u16
         ensures { result ≡ now_count self.now }
@@ -43,7 +43,7 @@ impl Chip {
     }
 
     /// The addresses that are shown from now on, until a register is written.
-    pub(crate) fn windows(&self) -> Windows
+    pub fn windows(&self) -> Windows
         ensures shown { ShowsWindows result.base result.count result.start result.frame self.now }
         ensures base { result.base < 16384 }
         ensures start { result.start < 16384 }

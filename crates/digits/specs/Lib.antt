@@ -1,3 +1,4 @@
 pub mod Hexadecimal
 pub mod Decimal
 pub mod Laws
+pub mod Lines

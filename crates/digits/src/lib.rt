@@ -1,9 +1,10 @@
-//! Numbers as hexadecimal and decimal digits, written and read.
+//! Numbers as hexadecimal and decimal digits, written and read, and the lines of a text.
 #![tactic(auto)]
 
 mod decimal;
 mod hexadecimal;
 mod law;
+mod lines;
 
 pub use decimal::{all_digits, decimal_number, decimal_value, is_digit};
 pub use hexadecimal::{
@@ -11,3 +12,4 @@ pub use hexadecimal::{
     ten_digits, two_digits,
 };
 pub use law::{decimal_reads_back, hex_reads_back};
+pub use lines::first_line;

@@ -1,21 +1,17 @@
 -- Digits are read back as the number that they were made of.
-use Rattle.std.proofs.Common.{◌≡◌, ℕ, ◌+◌, ◌*◌, ◌/◌, ◌%◌, ◌<◌, ◌==◌, List, [], ◌∷◌, refl, Some, Bool, true, false, not, ◌&&◌, eqb, eqb-true, zero-add, arith}
+use Rattle.std.proofs.Common.{◌≡◌, ℕ, ◌+◌, ◌*◌, ◌/◌, ◌%◌, ◌<◌, List, [], ◌∷◌, refl, Some, Bool, true, false, eqb, eqb-true, zero-add, arith}
 use Rattle.std.specs.List.{list_all}
 use Rattle.std.proofs.lemmas.Bool.{agree_below_at}
-use Rattle.asm_lines.specs.Tokens.{is_word_byte}
+use Rattle.asm_lines.specs.Tokens.{is_code, is_word_byte}
 use Rattle.asm_lines.specs.Syntax.{hex_number}
 use Rattle.digits.specs.Hexadecimal.{hex_digit, hex_digits, is_hex_any_case, hex_value}
-
--- neither a line feed nor the beginning of a comment
-abbrev pub is_inner : ℕ → Bool
-is_inner b = not (b == 10) && not (b == 59)
 
 -- what the assembler sees in a digit
 pub digit_is_word : (d : ℕ) → d < 16 → is_word_byte (hex_digit d) ≡ true
 digit_is_word d h = agree_below_at (λ k. is_word_byte (hex_digit k)) (λ _. true) 16 d refl h
 
-pub digit_is_inner : (d : ℕ) → d < 16 → is_inner (hex_digit d) ≡ true
-digit_is_inner d h = agree_below_at (λ k. is_inner (hex_digit k)) (λ _. true) 16 d refl h
+pub digit_is_code : (d : ℕ) → d < 16 → is_code (hex_digit d) ≡ true
+digit_is_code d h = agree_below_at (λ k. is_code (hex_digit k)) (λ _. true) 16 d refl h
 
 digit_is_hex : (d : ℕ) → d < 16 → is_hex_any_case (hex_digit d) ≡ true
 digit_is_hex d h = agree_below_at (λ k. is_hex_any_case (hex_digit k)) (λ _. true) 16 d refl h
@@ -26,14 +22,14 @@ digit_value d h = eqb-true _ _ (agree_below_at (λ k. eqb (hex_value (hex_digit 
 -- a run of digits, and the number that it is
 pub record Spells (run : List ℕ) (n : ℕ) (small : Bool) : Type 0 where
   pub words : list_all is_word_byte run ≡ true
-  pub inner : list_all is_inner run ≡ true
+  pub inner : list_all is_code run ≡ true
   pub number : hex_number run ≡ Some (record { value = n; byte_sized = small })
 
 -- the number of two digits
 two : (a b : ℕ) → a < 16 → b < 16 → Spells (hex_digit a ∷ hex_digit b ∷ []) (16 * a + b) true
 two a b h i = record {
   words = rw (digit_is_word a h, digit_is_word b i) refl;
-  inner = rw (digit_is_inner a h, digit_is_inner b i) refl;
+  inner = rw (digit_is_code a h, digit_is_code b i) refl;
   number = rw (digit_is_hex a h, digit_is_hex b i, digit_value a h, digit_value b i, zero-add a) refl;
 }
 
@@ -42,7 +38,7 @@ four : (a b c d : ℕ) → a < 16 → b < 16 → c < 16 → d < 16
     → Spells (hex_digit a ∷ hex_digit b ∷ hex_digit c ∷ hex_digit d ∷ []) (16 * (16 * (16 * a + b) + c) + d) false
 four a b c d h i j k = record {
   words = rw (digit_is_word a h, digit_is_word b i, digit_is_word c j, digit_is_word d k) refl;
-  inner = rw (digit_is_inner a h, digit_is_inner b i, digit_is_inner c j, digit_is_inner d k) refl;
+  inner = rw (digit_is_code a h, digit_is_code b i, digit_is_code c j, digit_is_code d k) refl;
   number = rw (digit_is_hex a h, digit_is_hex b i, digit_is_hex c j, digit_is_hex d k, digit_value a h, digit_value b i, digit_value c j, digit_value d k, zero-add a) refl;
 }
 

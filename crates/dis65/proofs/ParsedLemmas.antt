@@ -6,12 +6,12 @@ use Rattle.std.proofs.lemmas.List.Sums.{take_while-cons}
 use Rattle.op_table.specs.declared.Part.{Part}
 use Rattle.op_table.specs.Names.{name_of}
 use Rattle.op_table.specs.Forms.{Form}
-use Rattle.asm_lines.specs.Tokens.{lines_of, code_of, tokens_of}
+use Rattle.asm_lines.specs.Tokens.{is_code, code_of, tokens_of}
 use Rattle.asm_lines.specs.Syntax.{Statement, instruction, org, bytes, Line, line_of, parsed_text}
 use Rattle.digits.specs.Hexadecimal.{hex_digits}
+use Rattle.digits.specs.Lines.{text_lines}
 use Rattle.dis65.specs.Listing.{lines_from, line_text, form_here, bytes_behind, decode, operand_text}
 use Rattle.dis65.proofs.FormLemmas.{both, not_true}
-use Rattle.dis65.proofs.DigitLemmas.{is_inner}
 use Rattle.dis65.proofs.ModeLemmas.{plain, is_small, number_at, operand_by}
 use Rattle.dis65.proofs.TokenLemmas.{Means, instruction_line, byte_line, org_line}
 
@@ -36,22 +36,21 @@ byte_at (b ∷ xs) (suc k) all = byte_at xs k (bytes_tail b xs all)
 -- ---- a line, and the lines behind it
 
 -- a line without a line feed inside is the first
-lines_first : (line rest : List ℕ) → list_all is_inner line ≡ true → lines_of (line ++ 10 ∷ rest) ≡ line ∷ lines_of rest
+lines_first : (line rest : List ℕ) → list_all is_code line ≡ true → text_lines (line ++ 10 ∷ rest) ≡ (line ++ 10 ∷ []) ∷ text_lines rest
 lines_first [] rest h = refl
 lines_first (b ∷ line) rest h =
-    let parts = both (is_inner b) (list_all is_inner line) h in
+    let parts = both (is_code b) (list_all is_code line) h in
     let one = both (not (b == 10)) (not (b == 59)) parts.0 in
     let other = not_true (b == 10) one.0 in
     let more = lines_first line rest parts.1 in
     rw (other, more) refl
 
--- and without a `;` it is all code
-no_comment : (line : List ℕ) → list_all is_inner line ≡ true → code_of line ≡ line
-no_comment [] h = refl
+-- and without a `;` it is all code up to its line feed
+no_comment : (line : List ℕ) → list_all is_code line ≡ true → code_of (line ++ 10 ∷ []) ≡ line
+no_comment [] h = take_while-cons is_code 10 []
 no_comment (b ∷ line) h =
-    let parts = both (is_inner b) (list_all is_inner line) h in
-    let one = both (not (b == 10)) (not (b == 59)) parts.0 in
-    take_while-cons (λ c. not (c == 59)) b line ∙ rw one.1 (ap (λ l. b ∷ l) (no_comment line parts.1))
+    let parts = both (is_code b) (list_all is_code line) h in
+    take_while-cons is_code b (line ++ 10 ∷ []) ∙ rw parts.0 (ap (λ l. b ∷ l) (no_comment line parts.1))
 
 -- a line of a statement alone
 abbrev pub unlabelled : Statement → Option Line

@@ -7,12 +7,12 @@ use Rattle.op_table.specs.declared.Mnemonic.TheVariants.{Adc}
 use Rattle.op_table.specs.declared.Mode.{Mode}
 use Rattle.op_table.specs.declared.Mode.TheVariants.{Imp, Acc, Imm, Zp, ZpX, ZpY, Abs, AbsX, AbsY, IndX, IndY, IndZp, Rel, Ind, IndAbsX, Spare}
 use Rattle.op_table.specs.Names.{name_of, mnemonic_of}
-use Rattle.asm_lines.specs.Tokens.{Token, word, hex, colon, comma, hash, left, right, is_word_byte, cut_of, tokens_of, word_before, tokens_of_cut}
+use Rattle.asm_lines.specs.Tokens.{Token, word, hex, colon, comma, hash, left, right, is_word_byte, is_code, cut_of, tokens_of, word_before, tokens_of_cut}
 use Rattle.asm_lines.specs.Syntax.{is_named, Operand, nothing, accumulator, immediate, direct, direct_x, direct_y, indirect, indirect_x, indirect_y, Statement, instruction, org, bytes, operand_of, line_of, rest_of}
 use Rattle.digits.specs.Hexadecimal.{hex_digits}
 use Rattle.dis65.specs.Listing.{operand_text, target}
 use Rattle.dis65.proofs.FormLemmas.{both}
-use Rattle.dis65.proofs.DigitLemmas.{is_inner, Spells, two_spell, four_spell}
+use Rattle.dis65.proofs.DigitLemmas.{Spells, two_spell, four_spell}
 use Rattle.dis65.proofs.BranchLemmas.{target_fits}
 use Rattle.dis65.proofs.ModeLemmas.{plain, is_small, number_at, operand_by}
 
@@ -40,7 +40,7 @@ cut_run (b ∷ run) h =
 -- what a mnemonic's name tells the assembler
 record IsName (run : List ℕ) (name : Mnemonic) : Type 0 where
   words : list_all is_word_byte run ≡ true
-  inner : list_all is_inner run ≡ true
+  inner : list_all is_code run ≡ true
   some : (tokens : List Token) → word_before run tokens ≡ word run ∷ tokens
   no_org : is_named (codes "ORG") run ≡ false
   no_byte : is_named (codes "BYTE") run ≡ false
@@ -86,11 +86,11 @@ record IsOperand (text : List ℕ) (operand : Operand) : Type 0 where
   cuts : cut_of text ≡ record { run = []; tokens = tokens }
   begins : begins_otherwise tokens ≡ true
   reads : operand_of tokens ≡ Some operand
-  inner : list_all is_inner text ≡ true
+  inner : list_all is_code text ≡ true
 
 -- one text behind another
-all_inner : (run rest : List ℕ) → list_all is_inner run ≡ true → list_all is_inner rest ≡ true → list_all is_inner (run ++ rest) ≡ true
-all_inner run rest h i = rw (list_all-append is_inner run rest, h) i
+all_code : (run rest : List ℕ) → list_all is_code run ≡ true → list_all is_code rest ≡ true → list_all is_code (run ++ rest) ≡ true
+all_code run rest h i = rw (list_all-append is_code run rest, h) i
 
 -- the written forms around a number
 module _ (run : List ℕ) (n : ℕ) (small : Bool) (s : Spells run n small) where
@@ -118,7 +118,7 @@ module _ (run : List ℕ) (n : ℕ) (small : Bool) (s : Spells run n small) wher
     cuts = rw (cut_word run (codes ",X") _ s.words refl) refl;
     begins = refl;
     reads = rw s.number refl;
-    inner = all_inner run (codes ",X") s.inner refl;
+    inner = all_code run (codes ",X") s.inner refl;
   }
 
   as_direct_y : IsOperand (codes " &" ++ run ++ codes ",Y") (direct_y (plain n small))
@@ -127,7 +127,7 @@ module _ (run : List ℕ) (n : ℕ) (small : Bool) (s : Spells run n small) wher
     cuts = rw (cut_word run (codes ",Y") _ s.words refl) refl;
     begins = refl;
     reads = rw s.number refl;
-    inner = all_inner run (codes ",Y") s.inner refl;
+    inner = all_code run (codes ",Y") s.inner refl;
   }
 
   as_indirect : IsOperand (codes " (&" ++ run ++ codes ")") (indirect (plain n small))
@@ -136,7 +136,7 @@ module _ (run : List ℕ) (n : ℕ) (small : Bool) (s : Spells run n small) wher
     cuts = rw (cut_word run (codes ")") _ s.words refl) refl;
     begins = refl;
     reads = rw s.number refl;
-    inner = all_inner run (codes ")") s.inner refl;
+    inner = all_code run (codes ")") s.inner refl;
   }
 
   as_indirect_x : IsOperand (codes " (&" ++ run ++ codes ",X)") (indirect_x (plain n small))
@@ -145,7 +145,7 @@ module _ (run : List ℕ) (n : ℕ) (small : Bool) (s : Spells run n small) wher
     cuts = rw (cut_word run (codes ",X)") _ s.words refl) refl;
     begins = refl;
     reads = rw s.number refl;
-    inner = all_inner run (codes ",X)") s.inner refl;
+    inner = all_code run (codes ",X)") s.inner refl;
   }
 
   as_indirect_y : IsOperand (codes " (&" ++ run ++ codes "),Y") (indirect_y (plain n small))
@@ -154,7 +154,7 @@ module _ (run : List ℕ) (n : ℕ) (small : Bool) (s : Spells run n small) wher
     cuts = rw (cut_word run (codes "),Y") _ s.words refl) refl;
     begins = refl;
     reads = rw s.number refl;
-    inner = all_inner run (codes "),Y") s.inner refl;
+    inner = all_code run (codes "),Y") s.inner refl;
   }
 
 -- and those without one
@@ -188,7 +188,7 @@ operand_is at Spare l h low_fits high_fits = as_nothing
 
 -- a line without its line feed, and what it means
 pub record Means (line : List ℕ) (statement : Statement) : Type 0 where
-  pub inner : list_all is_inner line ≡ true
+  pub inner : list_all is_code line ≡ true
   pub reads : line_of (tokens_of line) ≡ Some (record { label = None; statement = Some statement })
 
 -- the line of an instruction
@@ -198,7 +198,7 @@ instruction_line at name way l h low_fits high_fits =
     let o = operand_is at way l h low_fits high_fits in
     let n = name_is name in
     record {
-      inner = all_inner (name_of name) (operand_text at way l h) n.inner o.inner;
+      inner = all_code (name_of name) (operand_text at way l h) n.inner o.inner;
       reads = instruction_means name (operand_text at way l h) o.tokens _ o.cuts o.begins o.reads;
     }
 

@@ -1,5 +1,7 @@
 -- A disc keeps the largest image of its kind: what that shows of its own image.
-use Rattle.std.proofs.Common.{◌≡◌, ◌∙◌, sym, refl, ap, ℕ, ◌+◌, ◌-◌, ◌<◌, ◌≤◌, max, true, List, ◌++◌, length, take, drop, set, map, replicate, get_or, Some, get_or-take, get_or-drop, get_or-set_same, get_or-set_other, length-take, length-drop, length-set, length-append, arith, inl, inr}
+use Rattle.std.proofs.Common.{◌≡◌, ◌∙◌, sym, refl, ap, ℕ, ◌+◌, ◌-◌, ◌<◌, ◌≤◌, max, true, List, ◌++◌, length, take, drop, set, map, replicate, get_or}
+use Rattle.std.proofs.Common.{Some, get_or-take, get_or-drop, get_or-set_same, get_or-set_other, length-take, length-drop, length-set, length-append}
+use Rattle.std.proofs.Common.{arith, inl, inr}
 use Rattle.std.proofs.lemmas.Bool.{cases_lt, cases_eq}
 use Rattle.std.proofs.lemmas.List.{ext_get_or, get_or_append_left, get_or-append_right, get_or-replicate, get_or_past, length-replicate}
 use Rattle.std.proofs.lemmas.List.FromFn.{fill_by_all}

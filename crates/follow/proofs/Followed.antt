@@ -28,7 +28,8 @@ entry t side op b = record { tick = record { 0 = t }; side = side; op = op; answ
 abbrev entries : List Numbered → List Entry
 entries own = map (λ (x : Numbered). x.entry) own
 
-own_by : (side : Side) (n line : ℕ) (x : Entry) (trace : List Entry) (b : Bool) → (is_side side x.side && nat_lt (x.tick).0 n) ≡ b → entries (own_from side n (line + 1) trace) ≡ own_below side n trace →
+own_by : (side : Side) (n line : ℕ) (x : Entry) (trace : List Entry) (b : Bool) → (is_side side x.side && nat_lt (x.tick).0 n) ≡ b
+    → entries (own_from side n (line + 1) trace) ≡ own_below side n trace →
     entries (own_from side n line (x ∷ trace)) ≡ own_below side n (x ∷ trace)
 own_by side n line x trace true is on = rw is (ap (λ (l : List Entry). x ∷ l) on)
 own_by side n line x trace false is on = rw is on
@@ -58,7 +59,8 @@ module _ {S : Type 0} (m : Moves S) (lawful : IsLawful m) (side : Side) (trace :
   -- of so many steps
   abbrev Holds : ℕ → Type 0
   Holds k =
-      (more : ℕ) (s last : S) (events : List Event) (own : List Numbered) → n ≤ m.due s + more → n ≤ m.due last → Runs m side n k s (course events last) → All Told events → accesses events ≡ entries own →
+      (more : ℕ) (s last : S) (events : List Event) (own : List Numbered) → n ≤ m.due s + more → n ≤ m.due last
+      → Runs m side n k s (course events last) → All Told events → accesses events ≡ entries own →
       run_from m side trace n more s own ≡ states_of m k s events
 
   low_true : (a : ℕ) → a < n → nat_lt a n ≡ true
@@ -126,4 +128,5 @@ module _ {S : Type 0} (m : Moves S) (lawful : IsLawful m) (side : Side) (trace :
   pub run_followed : (s ended : S) (f : FollowsTrace m side trace n s ended) → run_of m side trace n s ≡ states_of m f.follows.steps s f.events
   unfolding run_of
   run_followed s ended f =
-      followed f.follows.steps n s f.follows.last f.events (own_from side n 1 trace) (let d : ℕ = m.due s in omega arith) f.follows.over f.follows.runs f.answered (f.own ∙ sym (own_entries side n 1 trace))
+      followed f.follows.steps n s f.follows.last f.events (own_from side n 1 trace)
+      (let d : ℕ = m.due s in omega arith) f.follows.over f.follows.runs f.answered (f.own ∙ sym (own_entries side n 1 trace))

@@ -118,7 +118,8 @@ module _ {S : Type 0} (m : Moves S) (sights : S → Sight) (set : Order) where
         (replay_of v side trace n w).machine ≡ watched_of (replay_of m side trace n s).machine set (keep_all set.choice none_kept (told (run_of m side trace n s)))
     machine_of s w is = ap (λ (x : Watched S). (replay_of v side trace n x).machine) is ∙ ap (λ (e : Ended (Watched S)). e.machine) (replay_watched s)
 
-    pub kept_after : (s : S) (w new : Watched S) → w ≡ watched_of s set none_kept → new ≡ (replay_of v side trace n w).machine → new.kept ≡ keep_all set.choice none_kept (told (run_of m side trace n s))
+    pub kept_after : (s : S) (w new : Watched S) → w ≡ watched_of s set none_kept → new ≡ (replay_of v side trace n w).machine
+        → new.kept ≡ keep_all set.choice none_kept (told (run_of m side trace n s))
     kept_after s w new is ends = ap (λ (x : Watched S). x.kept) (ends ∙ machine_of s w is)
 
     pub order_after : (s : S) (w new : Watched S) → w ≡ watched_of s set none_kept → new ≡ (replay_of v side trace n w).machine → new.order ≡ set

@@ -1,5 +1,6 @@
 -- One more start behind others.
-use Rattle.std.proofs.Common.{ℕ, ◌≡◌, ◌≤◌, ◌<◌, ◌+◌, ◌∙◌, sym, ap, arith, List, [], ◌∷◌, ◌++◌, length, take, Bool, true, false, nat_lt, Option, Some, if◌then◌else◌, length-append, take_all, ◌⊎◌, inl, inr}
+use Rattle.std.proofs.Common.{ℕ, ◌≡◌, ◌≤◌, ◌<◌, ◌+◌, ◌∙◌, sym, ap, arith, List, [], ◌∷◌, ◌++◌, length, take, Bool, true, false, nat_lt, Option, Some}
+use Rattle.std.proofs.Common.{if◌then◌else◌, length-append, take_all, ◌⊎◌, inl, inr}
 use Rattle.std.specs.Prelude.{flat_map}
 use Rattle.std.proofs.lemmas.Bool.Decides.{nat_tests}
 use Rattle.std.proofs.lemmas.Grind.{flat_map-append}
@@ -20,7 +21,8 @@ lines_by part n xs x (inl low) =
     let all : take n xs ≡ xs = take_all n xs few in
     let more : take n (xs ++ x ∷ []) ≡ xs ++ x ∷ [] = take_all n (xs ++ x ∷ []) fits in
     let here : nat_lt (length xs) n ≡ true = grind (arith, nat_tests) in
-    rw (here, all, more) (flat_map-append (λ (s : StartState). start_line part s) xs (x ∷ []) ∙ ap (λ (l : List ℕ). flat_map (λ (s : StartState). start_line part s) xs ++ l) (append-nil (start_line part x)))
+    rw (here, all, more) (flat_map-append (λ (s : StartState). start_line part s) xs (x ∷ [])
+    ∙ ap (λ (l : List ℕ). flat_map (λ (s : StartState). start_line part s) xs ++ l) (append-nil (start_line part x)))
 lines_by part n xs x (inr high) =
     let same : take n (xs ++ x ∷ []) ≡ take n xs = take-append-le n xs (x ∷ []) high in
     let here : nat_lt (length xs) n ≡ false = grind (arith, nat_tests) in

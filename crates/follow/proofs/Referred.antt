@@ -52,7 +52,8 @@ module _ {S : Type 0} (m : Moves S) (sights : S → Sight) (set : Order) where
   due_same side k x kept = due_by side x kept (nat_eq (m.due x.state) k)
 
   -- those of some states and others
-  pub told_more : (k : ℕ) (s : S) (kept : Kept) (states : List S) → keep_all set.choice (keep_all set.choice kept (told (due_at m k s))) (told states) ≡ keep_all set.choice kept (told (due_at m k s ++ states))
+  pub told_more : (k : ℕ) (s : S) (kept : Kept) (states : List S)
+      → keep_all set.choice (keep_all set.choice kept (told (due_at m k s))) (told states) ≡ keep_all set.choice kept (told (due_at m k s ++ states))
   told_more k s kept states = more_by (nat_eq (m.due s) k)
     where
       more_by : (is : Bool) → keep_all set.choice (keep_all set.choice kept (told (if is then s ∷ [] else []))) (told states) ≡ keep_all set.choice kept (told ((if is then s ∷ [] else []) ++ states))
@@ -85,8 +86,10 @@ module _ {S T : Type 0} (h : Moves S) (sights : S → Sight) (p : Moves T) (set 
 
   -- Where a replay of the watched party ends as its reference run does, the chosen starts are those of the reference run.
   pub host_starts : (s : S) (t : T) (n : ℕ) →
-      replay_of hv Host (accesses (reference hv p (watched_of s set none_kept) t n).list) n (watched_of s set none_kept) ≡ record { machine = (reference hv p (watched_of s set none_kept) t n).host; place = None } →
-      chosen_of set.choice (starts_of h sights set.choice.watch (run_of h Host (accesses (reference h p s t n).list) n s)) ≡ chosen_of set.choice (starts_of h sights set.choice.watch (host_run h p n 0 (start s t)))
+      replay_of hv Host (accesses (reference hv p (watched_of s set none_kept) t n).list) n
+      (watched_of s set none_kept) ≡ record { machine = (reference hv p (watched_of s set none_kept) t n).host; place = None } →
+      chosen_of set.choice (starts_of h sights set.choice.watch (run_of h Host (accesses (reference h p s t n).list) n s)) ≡ chosen_of set.choice
+      (starts_of h sights set.choice.watch (host_run h p n 0 (start s t)))
   host_starts s t n replayed =
       sym (chosen_kept set.choice none_kept (starts_of h sights set.choice.watch (run_of h Host (accesses (reference h p s t n).list) n s)))
       ∙ ap (λ (e : Ended (Watched S)). e.machine.kept.chosen) (sym (replay_watched h sights set Host (accesses (reference h p s t n).list) n s))
@@ -123,8 +126,10 @@ module _ {S T : Type 0} (h : Moves S) (p : Moves T) (sights : T → Sight) (set 
   para_reference s t n = ap (λ (x : World S (Watched T)). close_both_leaves h pv n x) (para_ticks n 0 (start s t) none_kept)
 
   pub para_starts : (s : S) (t : T) (n : ℕ) →
-      replay_of pv Para (accesses (reference h pv s (watched_of t set none_kept) n).list) n (watched_of t set none_kept) ≡ record { machine = (reference h pv s (watched_of t set none_kept) n).para; place = None } →
-      chosen_of set.choice (starts_of p sights set.choice.watch (run_of p Para (accesses (reference h p s t n).list) n t)) ≡ chosen_of set.choice (starts_of p sights set.choice.watch (para_run h p n 0 (start s t)))
+      replay_of pv Para (accesses (reference h pv s (watched_of t set none_kept) n).list) n
+      (watched_of t set none_kept) ≡ record { machine = (reference h pv s (watched_of t set none_kept) n).para; place = None } →
+      chosen_of set.choice (starts_of p sights set.choice.watch (run_of p Para (accesses (reference h p s t n).list) n t)) ≡ chosen_of set.choice
+      (starts_of p sights set.choice.watch (para_run h p n 0 (start s t)))
   para_starts s t n replayed =
       sym (chosen_kept set.choice none_kept (starts_of p sights set.choice.watch (run_of p Para (accesses (reference h p s t n).list) n t)))
       ∙ ap (λ (e : Ended (Watched T)). e.machine.kept.chosen) (sym (replay_watched p sights set Para (accesses (reference h p s t n).list) n t))

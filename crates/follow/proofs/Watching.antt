@@ -238,7 +238,8 @@ module _ {T : Type 0} (w : Moves T) (sights : T → Sight) (seen : IsSeen w sigh
 
   module _ (n : ℕ) (kept : Kept) where
     -- silent steps from a state that leaves what is kept, and each of them leaves it
-    quiet_by : (k : ℕ) (t last : T) (o : Option Query) → w.asks t ≡ o → ((u : T) → noted w sights u set.choice kept ≡ kept → Silent n k u last → SilentWith n k u kept last kept × (noted w sights last set.choice kept ≡ kept)) →
+    quiet_by : (k : ℕ) (t last : T) (o : Option Query) → w.asks t ≡ o → ((u : T) → noted w sights u set.choice kept ≡ kept → Silent n k u last
+        → SilentWith n k u kept last kept × (noted w sights last set.choice kept ≡ kept)) →
         MatchOption o (Silent n k (w.next t None) last) (λ q. ⊥) →
         MatchOption o (SilentWith n k (w.next t None) kept last kept) (λ q. ⊥) × (noted w sights last set.choice kept ≡ kept)
     quiet_by k t last None is on h =
@@ -262,7 +263,8 @@ module _ {T : Type 0} (w : Moves T) (sights : T → Sight) (seen : IsSeen w sigh
           let low : w.due last < n = omega (arith, looks.goes.asked.0, looks.goes.asked.1) in
           let early : w.due last < sure = omega (arith, looks.goes.asked.0, looks.sure) in
           let on : with_kept (w.next last (Some (Seen lines))) (noted w sights last set.choice kept) ≡ with_kept u kept =
-          ap (λ (x : Kept). with_kept (w.next last (Some (Seen lines))) x) silent.1 ∙ ap (λ (x : T). with_kept (w.next x (Some (Seen lines))) kept) (sym there) ∙ ap (λ (x : T). with_kept x kept) (sym looks.next) in
+          ap (λ (x : Kept). with_kept (w.next last (Some (Seen lines))) x) silent.1
+          ∙ ap (λ (x : T). with_kept (w.next x (Some (Seen lines))) kept) (sym there) ∙ ap (λ (x : T). with_kept x kept) (sym looks.next) in
           let all = look_last v n lines sure looks.goes.steps (with_kept t kept) (with_kept last kept) (silent_all v n lines sure looks.goes.steps (with_kept t kept) (with_kept last kept) silent.0)
           low looks.goes.asked.2 early in
           (suc looks.goes.steps, subst (λ (x : Watched T). Looks v n (shown_lines lines sure) (suc looks.goes.steps) (with_kept t kept) x) on all)

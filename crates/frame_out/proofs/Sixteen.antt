@@ -38,37 +38,56 @@ listed_are v long fits = ap (λ (xs : List ℕ). flat_map lit_pixel xs) (pick_l_
 abbrev pub picked : List ℕ → List ℕ → List ℕ
 picked colours bits = sel_l (zip2 (λ a b. a == b) (zip2 bit_and colours bits) bits) (replicate 16 255) (replicate 16 0)
 
+-- of which colours the samples of sixteen are, and which bit of each
+abbrev first_places : List ℕ
+first_places = 0 ∷ 0 ∷ 0 ∷ 1 ∷ 1 ∷ 1 ∷ 2 ∷ 2 ∷ 2 ∷ 3 ∷ 3 ∷ 3 ∷ 4 ∷ 4 ∷ 4 ∷ 5 ∷ []
+
+abbrev first_bits : List ℕ
+first_bits = 1 ∷ 2 ∷ 4 ∷ 1 ∷ 2 ∷ 4 ∷ 1 ∷ 2 ∷ 4 ∷ 1 ∷ 2 ∷ 4 ∷ 1 ∷ 2 ∷ 4 ∷ 1 ∷ []
+
+abbrev next_places : List ℕ
+next_places = 5 ∷ 5 ∷ 6 ∷ 6 ∷ 6 ∷ 7 ∷ 7 ∷ 7 ∷ 8 ∷ 8 ∷ 8 ∷ 9 ∷ 9 ∷ 9 ∷ 10 ∷ 10 ∷ []
+
+abbrev next_bits : List ℕ
+next_bits = 2 ∷ 4 ∷ 1 ∷ 2 ∷ 4 ∷ 1 ∷ 2 ∷ 4 ∷ 1 ∷ 2 ∷ 4 ∷ 1 ∷ 2 ∷ 4 ∷ 1 ∷ 2 ∷ []
+
+abbrev last_places : List ℕ
+last_places = 10 ∷ 11 ∷ 11 ∷ 11 ∷ 12 ∷ 12 ∷ 12 ∷ 13 ∷ 13 ∷ 13 ∷ 14 ∷ 14 ∷ 14 ∷ 15 ∷ 15 ∷ 15 ∷ []
+
+abbrev last_bits : List ℕ
+last_bits = 4 ∷ 1 ∷ 2 ∷ 4 ∷ 1 ∷ 2 ∷ 4 ∷ 1 ∷ 2 ∷ 4 ∷ 1 ∷ 2 ∷ 4 ∷ 1 ∷ 2 ∷ 4 ∷ []
+
 -- the first sixteen samples
 pub first_are : (v : List ℕ) → length v ≡ 16 → Each1 (Fits w8) v →
-    picked (pick_l 0 (v ++ v) (0 ∷ 0 ∷ 0 ∷ 1 ∷ 1 ∷ 1 ∷ 2 ∷ 2 ∷ 2 ∷ 3 ∷ 3 ∷ 3 ∷ 4 ∷ 4 ∷ 4 ∷ 5 ∷ [])) (1 ∷ 2 ∷ 4 ∷ 1 ∷ 2 ∷ 4 ∷ 1 ∷ 2 ∷ 4 ∷ 1 ∷ 2 ∷ 4 ∷ 1 ∷ 2 ∷ 4 ∷ 1 ∷ [])
+    picked (pick_l 0 (v ++ v) first_places) first_bits
     ≡ take 16 (flat_map pixel v)
 first_are v long fits =
-    let left = pick_l_left 0 v v 16 (0 ∷ 0 ∷ 0 ∷ 1 ∷ 1 ∷ 1 ∷ 2 ∷ 2 ∷ 2 ∷ 3 ∷ 3 ∷ 3 ∷ 4 ∷ 4 ∷ 4 ∷ 5 ∷ []) long tt in
-    let each : picked (pick_l 0 v (0 ∷ 0 ∷ 0 ∷ 1 ∷ 1 ∷ 1 ∷ 2 ∷ 2 ∷ 2 ∷ 3 ∷ 3 ∷ 3 ∷ 4 ∷ 4 ∷ 4 ∷ 5 ∷ [])) (1 ∷ 2 ∷ 4 ∷ 1 ∷ 2 ∷ 4 ∷ 1 ∷ 2 ∷ 4 ∷ 1 ∷ 2 ∷ 4 ∷ 1 ∷ 2 ∷ 4 ∷ 1 ∷ [])
+    let left = pick_l_left 0 v v 16 first_places long tt in
+    let each : picked (pick_l 0 v first_places) first_bits
     ≡ take 16 (listed v) = refl in
-    ap (λ (ds : List ℕ). picked ds (1 ∷ 2 ∷ 4 ∷ 1 ∷ 2 ∷ 4 ∷ 1 ∷ 2 ∷ 4 ∷ 1 ∷ 2 ∷ 4 ∷ 1 ∷ 2 ∷ 4 ∷ 1 ∷ [])) left ∙ each
+    ap (λ (ds : List ℕ). picked ds first_bits) left ∙ each
     ∙ ap (λ (ds : List ℕ). take 16 (ds)) (listed_are v long fits)
 
 -- the next sixteen samples
 pub next_are : (v : List ℕ) → length v ≡ 16 → Each1 (Fits w8) v →
-    picked (pick_l 0 (v ++ v) (5 ∷ 5 ∷ 6 ∷ 6 ∷ 6 ∷ 7 ∷ 7 ∷ 7 ∷ 8 ∷ 8 ∷ 8 ∷ 9 ∷ 9 ∷ 9 ∷ 10 ∷ 10 ∷ [])) (2 ∷ 4 ∷ 1 ∷ 2 ∷ 4 ∷ 1 ∷ 2 ∷ 4 ∷ 1 ∷ 2 ∷ 4 ∷ 1 ∷ 2 ∷ 4 ∷ 1 ∷ 2 ∷ [])
+    picked (pick_l 0 (v ++ v) next_places) next_bits
     ≡ take 16 (drop 16 (flat_map pixel v))
 next_are v long fits =
-    let left = pick_l_left 0 v v 16 (5 ∷ 5 ∷ 6 ∷ 6 ∷ 6 ∷ 7 ∷ 7 ∷ 7 ∷ 8 ∷ 8 ∷ 8 ∷ 9 ∷ 9 ∷ 9 ∷ 10 ∷ 10 ∷ []) long tt in
-    let each : picked (pick_l 0 v (5 ∷ 5 ∷ 6 ∷ 6 ∷ 6 ∷ 7 ∷ 7 ∷ 7 ∷ 8 ∷ 8 ∷ 8 ∷ 9 ∷ 9 ∷ 9 ∷ 10 ∷ 10 ∷ [])) (2 ∷ 4 ∷ 1 ∷ 2 ∷ 4 ∷ 1 ∷ 2 ∷ 4 ∷ 1 ∷ 2 ∷ 4 ∷ 1 ∷ 2 ∷ 4 ∷ 1 ∷ 2 ∷ [])
+    let left = pick_l_left 0 v v 16 next_places long tt in
+    let each : picked (pick_l 0 v next_places) next_bits
     ≡ take 16 (drop 16 (listed v)) = refl in
-    ap (λ (ds : List ℕ). picked ds (2 ∷ 4 ∷ 1 ∷ 2 ∷ 4 ∷ 1 ∷ 2 ∷ 4 ∷ 1 ∷ 2 ∷ 4 ∷ 1 ∷ 2 ∷ 4 ∷ 1 ∷ 2 ∷ [])) left ∙ each
+    ap (λ (ds : List ℕ). picked ds next_bits) left ∙ each
     ∙ ap (λ (ds : List ℕ). take 16 (drop 16 (ds))) (listed_are v long fits)
 
 -- the last sixteen samples
 pub last_are : (v : List ℕ) → length v ≡ 16 → Each1 (Fits w8) v →
-    picked (pick_l 0 (v ++ v) (10 ∷ 11 ∷ 11 ∷ 11 ∷ 12 ∷ 12 ∷ 12 ∷ 13 ∷ 13 ∷ 13 ∷ 14 ∷ 14 ∷ 14 ∷ 15 ∷ 15 ∷ 15 ∷ [])) (4 ∷ 1 ∷ 2 ∷ 4 ∷ 1 ∷ 2 ∷ 4 ∷ 1 ∷ 2 ∷ 4 ∷ 1 ∷ 2 ∷ 4 ∷ 1 ∷ 2 ∷ 4 ∷ [])
+    picked (pick_l 0 (v ++ v) last_places) last_bits
     ≡ drop 32 (flat_map pixel v)
 last_are v long fits =
-    let left = pick_l_left 0 v v 16 (10 ∷ 11 ∷ 11 ∷ 11 ∷ 12 ∷ 12 ∷ 12 ∷ 13 ∷ 13 ∷ 13 ∷ 14 ∷ 14 ∷ 14 ∷ 15 ∷ 15 ∷ 15 ∷ []) long tt in
-    let each : picked (pick_l 0 v (10 ∷ 11 ∷ 11 ∷ 11 ∷ 12 ∷ 12 ∷ 12 ∷ 13 ∷ 13 ∷ 13 ∷ 14 ∷ 14 ∷ 14 ∷ 15 ∷ 15 ∷ 15 ∷ [])) (4 ∷ 1 ∷ 2 ∷ 4 ∷ 1 ∷ 2 ∷ 4 ∷ 1 ∷ 2 ∷ 4 ∷ 1 ∷ 2 ∷ 4 ∷ 1 ∷ 2 ∷ 4 ∷ [])
+    let left = pick_l_left 0 v v 16 last_places long tt in
+    let each : picked (pick_l 0 v last_places) last_bits
     ≡ drop 32 (listed v) = refl in
-    ap (λ (ds : List ℕ). picked ds (4 ∷ 1 ∷ 2 ∷ 4 ∷ 1 ∷ 2 ∷ 4 ∷ 1 ∷ 2 ∷ 4 ∷ 1 ∷ 2 ∷ 4 ∷ 1 ∷ 2 ∷ 4 ∷ [])) left ∙ each
+    ap (λ (ds : List ℕ). picked ds last_bits) left ∙ each
     ∙ ap (λ (ds : List ℕ). drop 32 (ds)) (listed_are v long fits)
 
 -- all three

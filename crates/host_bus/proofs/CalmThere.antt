@@ -7,7 +7,8 @@ use Rattle.host_bus.specs.Lag.{IsCalm}
 use Rattle.host_bus.specs.StoredLines.{irq-stored, nmis-stored}
 
 module _ {A : Type 0} (f : BoardState → A) where
-  stays : (b : BoardState) (closed t u : ℕ) → closed ≤ t → u ≤ t → ((v : ℕ) → v ≤ t → f (board_closed b v) ≡ f b) → f (board_closed (board_closed b closed) u) ≡ f (board_closed b closed)
+  stays : (b : BoardState) (closed t u : ℕ) → closed ≤ t → u ≤ t → ((v : ℕ) → v ≤ t → f (board_closed b v) ≡ f b) →
+      f (board_closed (board_closed b closed) u) ≡ f (board_closed b closed)
   stays b closed t u near far calm = by (cases_lt u closed)
     where
       by : (u < closed) ⊎ (closed ≤ u) → f (board_closed (board_closed b closed) u) ≡ f (board_closed b closed)

@@ -1,5 +1,6 @@
 -- What the board's code does, as closing.
-use Rattle.std.proofs.Common.{◌≡◌, ◌∙◌, sym, refl, ap, inl, inr, ◌⊎◌, ℕ, zero, suc, ◌+◌, ◌-◌, ◌*◌, ◌/◌, ◌<◌, ◌≤◌, ◌%◌, subst, ◌==◌, min, max, Bool, List, ◌++◌, drop, replicate, if◌then◌else◌, arith}
+use Rattle.std.proofs.Common.{◌≡◌, ◌∙◌, sym, refl, ap, inl, inr, ◌⊎◌, ℕ, zero, suc, ◌+◌, ◌-◌, ◌*◌}
+use Rattle.std.proofs.Common.{◌/◌, ◌<◌, ◌≤◌, ◌%◌, subst, ◌==◌, min, max, Bool, List, ◌++◌, drop, replicate, if◌then◌else◌, arith}
 use Rattle.std.proofs.lemmas.Bool.{cases_lt, eq-eqb, ne_eqb}
 use Rattle.std.proofs.Math.Nat.{add-mod_right, add-mul-mod_self_right, lt_of_mul-lt-mul_right}
 use Rattle.std.proofs.lemmas.Grind.{div_ceil_times}
@@ -34,14 +35,16 @@ idle-tick a k closed event next m h none low high =
     (ne_eqb (k % micro a.clock) 0 (λ z. omega (arith, apart (micro a.clock) k h.step z h.begins (omega (arith, h.least, high)), h.near, low)))
 
 -- nothing happens in ticks before the next microsecond and the next event
-pub idle : (a : Around) (n k closed event next : ℕ) (m : Moving) → IsOnTime (micro a.clock) closed event next → HasNone a.script closed next → closed ≤ k → k + n ≤ next → ticks a n k m ≡ m
+pub idle : (a : Around) (n k closed event next : ℕ) (m : Moving) → IsOnTime (micro a.clock) closed event next → HasNone a.script closed next → closed ≤ k →
+    k + n ≤ next → ticks a n k m ≡ m
 idle a zero k closed event next m h none low high = refl
 idle a (suc n) k closed event next m h none low high =
     ap (λ (x : Moving). ticks a n (k + 1) x) (idle-tick a k closed event next m h none low (omega (arith, high)))
     ∙ idle a n (k + 1) closed event next m h none (omega (arith, low)) (omega (arith, high))
 
 -- a board that is closed before anything comes
-pub still-closed : (b : BoardState) (event next t : ℕ) → IsOnTime (micro b.clock) b.closed event next → HasNone b.script b.closed next → b.closed ≤ t → t ≤ next → record b { closed = t } ≡ board_closed b t
+pub still-closed : (b : BoardState) (event next t : ℕ) → IsOnTime (micro b.clock) b.closed event next → HasNone b.script b.closed next →
+    b.closed ≤ t → t ≤ next → record b { closed = t } ≡ board_closed b t
 still-closed b event next t h none low high =
     let most : t ≡ max t b.closed = omega (arith, low) in
     ap (λ (n : ℕ). record b { closed = n }) most
@@ -97,7 +100,8 @@ one-beat a k to m begins none low =
     ∙ ap (λ (x : Moving). ticks a (to - (k + 1)) (k + 1) x) (beat-tick a k m begins (none k (omega arith) low))
     ∙ ap (λ (n : ℕ). ticks a n (k + 1) next) parts
     ∙ sym (ticks-add a (behind - (k + 1)) (to - (k + u)) (k + 1) next)
-    ∙ ap (λ (x : Moving). ticks a (to - (k + u)) ((k + 1) + (behind - (k + 1))) x) (idle a (behind - (k + 1)) (k + 1) (k + 1) to behind next on (λ i late high. none i (omega (arith, late)) (omega (arith, high))) (omega arith) (omega (arith, low, some)))
+    ∙ ap (λ (x : Moving). ticks a (to - (k + u)) ((k + 1) + (behind - (k + 1))) x)
+    (idle a (behind - (k + 1)) (k + 1) (k + 1) to behind next on (λ i late high. none i (omega (arith, late)) (omega (arith, high))) (omega arith) (omega (arith, low, some)))
     ∙ shifted a (to - (k + u)) ((k + 1) + (behind - (k + 1))) (k + u) next (elim (cases_lt to (k + u)) [
       | inl less ↦ inl (omega (arith, less))
       | inr more ↦ inr (omega (arith, more, some))
@@ -155,7 +159,8 @@ beaten clock ram font p n k t next d e h begins early due all no_more is gone =
     (λ i late high. levels-stay p k i h (omega (arith, late)) (omega (arith, high, same)))
     first last)
 
-pub beaten-on-time : (clock : Clock) (n k t event next : ℕ) → k % micro clock ≡ 0 → k < event → k < t → min t event - k ≤ n * micro clock → n * micro clock < min t event - k + micro clock →
+pub beaten-on-time : (clock : Clock) (n k t event next : ℕ) → k % micro clock ≡ 0 → k < event → k < t → min t event - k ≤ n * micro clock →
+    n * micro clock < min t event - k + micro clock →
     next ≡ min (k + n * micro clock) event → IsOnTime (micro clock) (min t next) event next
 beaten-on-time clock n k t event next begins early due all no_more is = record {
   step = k + n * micro clock;
@@ -188,14 +193,16 @@ how-many clock span n few =
     (m, omega (arith, less), all, no_more)
 
 -- the devices of a board that is closed at the next microsecond, when it is closed later
-later-devices : (b : Inside) (n t : ℕ) → IsValid b → b.closed ≡ b.next → b.next < t → t ≤ b.playback.event → t - b.next ≤ n * micro b.clock → AreCalm (keys_of b.playback.keys) n (board_seen b).devices →
+later-devices : (b : Inside) (n t : ℕ) → IsValid b → b.closed ≡ b.next → b.next < t → t ≤ b.playback.event → t - b.next ≤ n * micro b.clock →
+    AreCalm (keys_of b.playback.keys) n (board_seen b).devices →
     (board_irq (board_closed (board_seen b) t) ≡ devices_ask (board_seen b).devices) × (board_nmis (board_closed (board_seen b) t) ≡ (board_seen b).devices.disc.nmis)
 later-devices b n t h here low early few calm =
     let p = b.playback in
     let u = micro b.clock in
     let (m, less, all, no_more) = how-many b.clock (t - b.next) n few in
     let begins : b.next % u ≡ 0 = subst (λ (k : ℕ). k % u ≡ 0) (omega (arith, h.on_time.least, low, early)) h.on_time.begins in
-    let moved : ticks (around (board_seen b)) (t - b.closed) b.closed (moving_part (board_seen b)) ≡ moving (microseconds b.ram.items b.letters.font (keys_of p.keys) p.levels m (board_seen b).devices) p.shots.frames =
+    let moved : ticks (around (board_seen b)) (t - b.closed) b.closed (moving_part (board_seen b))
+    ≡ moving (microseconds b.ram.items b.letters.font (keys_of p.keys) p.levels m (board_seen b).devices) p.shots.frames =
     beats (around (board_seen b)) m b.closed t (keys_of p.keys) p.levels (moving_part (board_seen b)) (subst (λ (k : ℕ). k % u ≡ 0) (sym here) begins)
     (none-between p.script (drop p.place p.script) b.closed p.event t h.played.has_left h.played.later early)
     (λ i late high. keys-stay p b.closed i h.played (omega (arith, late)) (omega (arith, high, early)))

@@ -1,5 +1,5 @@
 -- Where the memory is, and that a read there gives the byte that stands there.
-use Rattle.std.proofs.Common.{ℕ, ◌≡◌, ◌≤◌, ◌<◌, Bool, true, false, Some, None, refl, arith}
+use Rattle.std.proofs.Common.{ℕ, ◌≡◌, ◌≤◌, ◌<◌, Bool, true, false, Some, refl, arith}
 use Rattle.std.proofs.lemmas.Grind.{common_steps}
 use Rattle.host_devices.specs.Map.{Place, Ram, PagedRom, OsRom, place_of}
 use Rattle.host_bus.specs.Bus.{BusState, answer_of, bus_answer}
@@ -17,26 +17,14 @@ low-memory at h = grind (arith, common_steps)
 top-memory : (at : ℕ) → 0xff00 ≤ at → at < 65536 → is_memory (place_of at) ≡ true
 top-memory at h top = grind (arith, common_steps)
 
-no-memory : (at : ℕ) → 0xfc00 ≤ at → at < 0xff00 → is_memory (place_of at) ≡ false
-no-memory at low high = grind (arith, common_steps)
-
 stands : (p : Place) (b : BusState) (t at : ℕ) → is_memory p ≡ true → memory_at p b.board at ≡ Some (answer_of p b t at)
 stands Ram b t at is = refl
 stands PagedRom b t at is = refl
 stands OsRom b t at is = refl
 stands _ b t at is = cc
 
-none : (p : Place) (b : BusState) (at : ℕ) → is_memory p ≡ false → memory_at p b.board at ≡ None
-none Ram b at is = cc
-none PagedRom b at is = cc
-none OsRom b at is = cc
-none _ b at is = refl
-
 pub peek-low : (b : BusState) (t at : ℕ) → at < 0xfc00 → bus_peek b at ≡ Some (bus_answer b t at)
 peek-low b t at h = stands (place_of at) b t at (low-memory at h)
 
 pub peek-top : (b : BusState) (t at : ℕ) → 0xff00 ≤ at → at < 65536 → bus_peek b at ≡ Some (bus_answer b t at)
 peek-top b t at h top = stands (place_of at) b t at (top-memory at h top)
-
-pub peek-none : (b : BusState) (at : ℕ) → 0xfc00 ≤ at → at < 0xff00 → bus_peek b at ≡ None
-peek-none b at low high = none (place_of at) b at (no-memory at low high)

@@ -34,20 +34,14 @@ unfolding microsecond with-picture
 by-picture ram font keys levels d = refl
 
 -- what it reads goes on
-reads-by : ReadsGoOn → (b : Bool) (low : ℕ) (ram : List ℕ) (font : Font) (keys : Keys) (levels : List ℕ) (d : Devices) → Reads low d → Reads low (if b then microsecond ram font keys levels d else d)
+reads-by : ReadsGoOn → (b : Bool) (low : ℕ) (ram : List ℕ) (font : Font) (keys : Keys) (levels : List ℕ) (d : Devices) → Reads low d →
+    Reads low (if b then microsecond ram font keys levels d else d)
 unfolding microsecond
 reads-by on true low ram font keys levels d reads = on low (screen_size d.latch) 1 ram font d.video reads
 reads-by on false low ram font keys levels d reads = reads
 
 reads-tick : ReadsGoOn → (low : ℕ) (a : Around) (k : ℕ) (m : Moving) → Reads low m.devices → Reads low (tick a k m).devices
 reads-tick on low a k m reads = reads-by on (k % micro a.clock == 0) low a.ram a.font (keys_at k a.script) (levels_at k a.script) m.devices reads
-
-reads-ticks : ReadsGoOn → (low : ℕ) (a : Around) (n k : ℕ) (m : Moving) → Reads low m.devices → Reads low (ticks a n k m).devices
-reads-ticks on low a zero k m reads = reads
-reads-ticks on low a (suc n) k m reads = reads-ticks on low a n (k + 1) (tick a k m) (reads-tick on low a k m reads)
-
-pub reads-closed : ReadsGoOn → (low : ℕ) (b : BoardState) (t : ℕ) → ReadsAbove low b → ReadsAbove low (board_closed b t)
-reads-closed on low b t reads = reads-ticks on low (around b) (t - b.closed) b.closed (moving_part b) reads
 
 -- a byte below it may be written before or after a microsecond, a tick, many ticks
 unseen-by : StoresBelowAreUnseen → (b : Bool) (low at v : ℕ) (ram : List ℕ) (font : Font) (keys : Keys) (levels : List ℕ) (d : Devices) → Reads low d → at < low →

@@ -13,7 +13,8 @@ use Rattle.host_devices.specs.Map.{Place, Ram, PagedRom, OsRom, Plugs, Sheila}
 use Rattle.host_devices.specs.Shots.{shot_at}
 use Rattle.host_devices.specs.Sound.{moment_at, with_write}
 use Rattle.host_devices.specs.Breaks.{breaks_until, break_number}
-use Rattle.host_devices.specs.Devices.{Devices, keys_at, levels_at, microsecond, last_frame, register_answer, register_read, register_written, sound_line, sound_data, devices_ask, devices_reset, first_devices}
+use Rattle.host_devices.specs.Devices.{Devices, keys_at, levels_at, microsecond, last_frame, register_answer}
+use Rattle.host_devices.specs.Devices.{register_read, register_written, sound_line, sound_data, devices_ask, devices_reset, first_devices}
 
 pub record BoardState : Type 0 where
   -- how long a tick is

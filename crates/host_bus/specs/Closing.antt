@@ -1,8 +1,8 @@
 -- Laws of closing: closing a bus so far and then further is closing it further at once, and nothing comes undone.
-use Rattle.std.specs.Prelude.{ℕ, zero, suc, ◌≡◌, ◌≤◌, ◌+◌, ◌-◌, max, refl}
+use Rattle.std.specs.Prelude.{ℕ, zero, suc, ◌≡◌, ◌≤◌, ◌+◌, ◌-◌, max}
 use Rattle.std.proofs.Common.{arith, ap, ◌∙◌}
 use Rattle.host_bus.specs.Board.{BoardState, Around, Moving, around, moving_part, closed_with, tick, ticks, board_closed}
-use Rattle.host_bus.specs.Bus.{BusState, bus_closed, closed_at, bus_break_pending, bus_next_break}
+use Rattle.host_bus.specs.Bus.{BusState, bus_closed, closed_at}
 
 pub ticks-add : (a : Around) (n m k : ℕ) (s : Moving) → ticks a m (k + n) (ticks a n k s) ≡ ticks a (n + m) k s
 ticks-add a zero m k s =
@@ -42,10 +42,3 @@ board-still b t low =
 
 pub closed-still : (b : BusState) (t : ℕ) → t ≤ closed_at b → bus_closed b t ≡ b
 closed-still b t low = ap (λ (x : BoardState). record b { board = x }) (board-still b.board t low)
-
--- closing takes no break
-pub pending-closed : (b : BusState) (u t : ℕ) → bus_break_pending (bus_closed b u) t ≡ bus_break_pending b t
-pending-closed b u t = refl
-
-pub next-closed : (b : BusState) (u : ℕ) → bus_next_break (bus_closed b u) ≡ bus_next_break b
-next-closed b u = refl

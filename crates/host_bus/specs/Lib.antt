@@ -6,7 +6,6 @@ pub mod CodeReads
 pub mod CodeBoard
 pub mod Closing
 pub mod Lag
-pub mod CodeLag
 pub mod View
 pub mod AtTube
 pub mod SameClock

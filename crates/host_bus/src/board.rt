@@ -299,14 +299,6 @@ impl Board {
         self.clock
     }
 
-    /// All ticks below this one are done.
-    #[inline(always)]
-    pub(crate) fn closed(&self) -> u64
-        ensures { result ≡ self.now.closed }
-    {
-        self.closed
-    }
-
     /// Does all ticks below `t`. The fields that say how far it came are written once, behind the loop.
     pub(crate) fn close(&mut self, t: u64)
         requires low { self.old.closed ≤ t }

@@ -1,31 +1,40 @@
-//! The bus.
+//! The bus, whose devices lag behind: they are stepped where an access, a line or the picture needs them.
 ghost use Rattle.std.specs.Prelude.{◌≡◌, ◌≤◌, ◌<◌, ◌+◌, ◌^◌, ◌⊎◌, ◌↔◌, ℕ, true, false, unwrap_or, IfOk, IfSome, None, Some, MatchOption, length, map};
+ghost use Rattle.std.proofs.Props.{props};
 ghost use Rattle.sn76489.specs.Samples.{NeverFallFrom};
-ghost use Rattle.host_devices.specs.Map.{stretch};
+ghost use Rattle.host_devices.specs.Map.{place_of, stretch};
+ghost use Rattle.host_bus.specs.Board.{answer_at, read_at, written_at};
 ghost use Rattle.host_bus.specs.Bus.{bus_closed, closed_at, clock_of, bus_answer, bus_after_read, bus_after_write, bus_irq, bus_nmis, bus_break_pending, bus_next_break, bus_break_taken, bus_disc, bus_power_on};
 ghost use Rattle.host_bus.specs.Peek.{bus_peek};
-ghost use Rattle.host_bus.specs.Lag.{IsCalm};
-ghost use Rattle.host_bus.specs.View.{bus_seen, IsSettled};
+ghost use Rattle.host_bus.specs.Lag.{IsBehind, IsCalm};
 
-use crate::lag::LaggingBoard;
+use crate::board::Board;
 use crate::plugged::{read_first, write_first};
 use beeb_bits::{Clock, NoMemory, Tick};
 use bus_plug::BusDevice;
 use disc_image::Disc;
 use key_script::Script;
-use raster::Frame;
+use raster::{Frame, reads_go_on, stores_below_are_unseen};
 use rom_set::RomSet;
 use sn76489::SoundWrite;
 use std::alloc::Global;
 
-/// The host's bus: the board, and the plugged devices on FRED and JIM.
+/// The host's bus: the board, and the plugged devices on FRED and JIM. `closed` is the tick that contracts see, `board.closed` how far the devices
+/// are stepped: at an access of one of them, at a tick from which on a line to the processor may change, and before a store into memory that the
+/// picture may read. The picture is behind these by as many microseconds as they owe it.
 #[derive(Drop)]
 pub struct Bus<D = Box<dyn BusDevice + Send>> {
-    board: LaggingBoard,
+    board: Board,
     plugs: Vec<D>,
+    closed: u64,
+    // Up to this tick the lines to the processor stay as they are.
+    calm: u64,
+    ghost behind: { IsBehind board closed calm } by { Prim.hlevel props },
 }
 
 impl<D: BusDevice> Bus<D> {
+    ghost use Rattle.host_bus.specs.View.{bus_seen, bus_stepped, caught_up};
+
     /// The bus at power-on, at this clock. It takes the memory of all shots of the script, and of all sound writes. Where memory is
     /// wanting, all is dropped.
     pub fn make(
@@ -40,8 +49,14 @@ impl<D: BusDevice> Bus<D> {
         ensures { let devices = map D.plug plugs.items in
             IfOk result (λ b. bus_seen D.plug b ≡ bus_power_on clock roms d0 d1 script devices) }
     {
-        let board = LaggingBoard::make(alloc, clock, roms, d0, d1, script)?;
-        Ok(Bus { board, plugs })
+        let board = Board::make(alloc, clock, roms, d0, d1, script)?;
+        let calm = board.calm();
+        Ok(Bus {
+            board,
+            plugs,
+            closed: 0,
+            calm,
+        })
     }
 
     /// How long its ticks are.
@@ -57,17 +72,33 @@ impl<D: BusDevice> Bus<D> {
     pub fn closed(&self) -> u64
         ensures { result ≡ closed_at (bus_seen D.plug self.now) }
     {
-        self.board.closed()
+        self.closed
     }
 
-    /// Does all device steps below `t`.
+    /// Does all device steps below `t`. Where no line to the processor changes before it, this is one number.
     #[inline(always)]
     pub fn close(&mut self, t: u64)
         requires low { closed_at (bus_seen D.plug self.old) ≤ t }
         requires room { t < 2 ^ 48 }
         ensures { bus_seen D.plug self.new ≡ bus_closed (bus_seen D.plug self.old) t }
     {
+        if t <= self.calm {
+            self.closed = t;
+        } else {
+            self.catch_up(t);
+        }
+    }
+
+    // Steps the devices up to `t`.
+    #[inline(never)]
+    fn catch_up(&mut self, t: u64)
+        requires low { closed_at (bus_seen D.plug self.old) ≤ t }
+        requires room { t < 2 ^ 48 }
+        ensures { bus_seen D.plug self.new ≡ bus_closed (bus_seen D.plug self.old) t }
+    {
         self.board.close(t);
+        self.closed = t;
+        self.calm = self.board.calm();
     }
 
     /// The byte of the RAM or of a ROM, which no device step changes.
@@ -97,17 +128,8 @@ impl<D: BusDevice> Bus<D> {
         Some(self.memory(at))
     }
 
-    /// A write to the RAM.
-    #[inline(always)]
-    pub fn store(&mut self, at: u16, v: u8)
-        requires { at < 0x8000 }
-        ensures after { bus_seen D.plug self.new ≡ bus_after_write (bus_seen D.plug self.old) at v }
-        ensures fast { (cycle : ℕ) → stretch at cycle ≡ 1 }
-    {
-        self.board.store(at, v);
-    }
-
-    /// Does all device steps below `t`, and then a write to the RAM.
+    /// Does all device steps below `t`, and then a write to the RAM. Where no line to the processor changes before `t`, and the picture reads no
+    /// byte so low, this is one number and the byte.
     #[inline(always)]
     pub fn put(&mut self, t: u64, at: u16, v: u8)
         requires low { closed_at (bus_seen D.plug self.old) ≤ t }
@@ -117,7 +139,60 @@ impl<D: BusDevice> Bus<D> {
             bus_seen D.plug self.new ≡ bus_after_write closed at v }
         ensures fast { (cycle : ℕ) → stretch at cycle ≡ 1 }
     {
-        self.board.put(t, at, v);
+        reads_go_on();
+        stores_below_are_unseen();
+        if t <= self.calm && at < self.board.lowest() {
+            self.closed = t;
+            self.board.store(at, v);
+        } else {
+            self.put_stepped(t, at, v);
+        }
+    }
+
+    // The same where the devices may have to be stepped, or the picture drawn.
+    #[inline(never)]
+    fn put_stepped(&mut self, t: u64, at: u16, v: u8)
+        requires low { closed_at (bus_seen D.plug self.old) ≤ t }
+        requires room { t < 2 ^ 48 }
+        requires ram { at < 0x8000 }
+        ensures { let closed = bus_closed (bus_seen D.plug self.old) t in
+            bus_seen D.plug self.new ≡ bus_after_write closed at v }
+    {
+        self.close(t);
+        self.settle();
+        self.board.store(at, v);
+    }
+
+    // A read in SHEILA at the last tick that is done.
+    fn read_device(&mut self, at: u16) -> u8
+        requires low { 0xfe00 ≤ at }
+        requires high { at ≤ 0xfeff }
+        ensures answer { let old = caught_up self.old in
+            (t : ℕ) → old.closed ≡ t + 1 → result ≡ answer_at (place_of at) old t at }
+        ensures after { caught_up self.new ≡ read_at (place_of at) at (caught_up self.old) }
+        ensures closed { (caught_up self.new).closed ≡ (caught_up self.old).closed }
+        ensures plugs { self.new.plugs ≡ self.old.plugs }
+    {
+        self.board.close(self.closed);
+        if let Some(byte) = self.board.held(at) {
+            return byte;
+        }
+        let byte = self.board.read(at);
+        self.calm = self.board.calm();
+        byte
+    }
+
+    // A write in SHEILA.
+    fn write_device(&mut self, at: u16, v: u8)
+        requires low { 0xfe00 ≤ at }
+        requires high { at ≤ 0xfeff }
+        ensures after { caught_up self.new ≡ written_at (place_of at) at v (caught_up self.old) }
+        ensures closed { (caught_up self.new).closed ≡ (caught_up self.old).closed }
+        ensures plugs { self.new.plugs ≡ self.old.plugs }
+    {
+        self.board.close(self.closed);
+        self.board.write(at, v);
+        self.calm = self.board.calm();
     }
 
     // A read at the last tick that is done.
@@ -132,7 +207,7 @@ impl<D: BusDevice> Bus<D> {
         } else if at <= 0xfdff {
             read_first(&mut self.plugs, at)
         } else {
-            self.board.read(at)
+            self.read_device(at)
         }
     }
 
@@ -142,11 +217,11 @@ impl<D: BusDevice> Bus<D> {
         ensures closed { closed_at (bus_seen D.plug self.new) ≡ closed_at (bus_seen D.plug self.old) }
     {
         if at < 0x8000 {
-            self.store(at, v);
+            self.put(self.closed, at, v);
         } else if 0xfc00 <= at && at <= 0xfdff {
             write_first(&mut self.plugs, at, v);
         } else if 0xfe00 <= at && at <= 0xfeff {
-            self.board.write(at, v);
+            self.write_device(at, v);
         }
     }
 
@@ -181,7 +256,7 @@ impl<D: BusDevice> Bus<D> {
     pub fn calm(&self) -> u64
         ensures { IsCalm result (bus_seen D.plug self.now).board }
     {
-        self.board.calm()
+        self.calm
     }
 
     /// Whether a device asks for an interrupt at tick `t`: first the devices are closed at `t` + 1.
@@ -192,7 +267,8 @@ impl<D: BusDevice> Bus<D> {
         ensures after { bus_seen D.plug self.new ≡ bus_closed (bus_seen D.plug self.old) (t.0 + 1) }
         ensures answer { result ≡ bus_irq (bus_closed (bus_seen D.plug self.old) (t.0 + 1)) }
     {
-        self.close(t.0 + 1);
+        let behind = t.0 + 1;
+        self.close(behind);
         self.irq_now()
     }
 
@@ -245,7 +321,9 @@ impl<D: BusDevice> Bus<D> {
         ensures closed { closed_at (bus_seen D.plug self.new) ≡ t.0 + 1 }
     {
         self.close(t.0 + 1);
+        self.settle();
         self.board.take_break(t.0);
+        self.calm = self.board.calm();
     }
 
     /// The tick of the script's first break that was not taken. None where none is left.
@@ -267,11 +345,11 @@ impl<D: BusDevice> Bus<D> {
         self.board.break_tick()
     }
 
-    /// Closes the bus at `n`, or leaves it closed as far as it is.
+    /// Closes the bus at `n`, or leaves it closed as far as it is, and steps the devices so far.
     pub fn finish(&mut self, n: Tick)
         requires { n.0 < 2 ^ 40 }
         ensures closed { bus_seen D.plug self.new ≡ bus_closed (bus_seen D.plug self.old) n.0 }
-        ensures settled { IsSettled self.new }
+        ensures stepped { bus_stepped D.plug self.new ≡ bus_seen D.plug self.new }
     {
         if self.closed() < n.0 {
             self.close(n.0);
@@ -282,9 +360,9 @@ impl<D: BusDevice> Bus<D> {
     /// Steps the devices as far as the bus is closed. They may lag behind, which is seen nowhere but in `disc` and `frames`.
     pub fn settle(&mut self)
         ensures same { bus_seen D.plug self.new ≡ bus_seen D.plug self.old }
-        ensures settled { IsSettled self.new }
+        ensures stepped { bus_stepped D.plug self.new ≡ bus_seen D.plug self.new }
     {
-        self.board.settle();
+        self.board.close(self.closed);
     }
 
     /// The RAM.
@@ -294,10 +372,10 @@ impl<D: BusDevice> Bus<D> {
         self.board.ram()
     }
 
-    /// The frames that shots took so far, the oldest first, as far as the devices are stepped: all of them where the bus is settled. A shot takes
-    /// the last frame that was finished, or a black one, before the device step at its tick.
+    /// The frames that shots took so far, the oldest first, as far as the devices are stepped. A shot takes the last frame that was finished, or a
+    /// black one, before the device step at its tick.
     pub fn frames(&self) -> &[Frame]
-        ensures { IsSettled self.now → result.now ≡ (bus_seen D.plug self.now).board.shots }
+        ensures { result.now ≡ (bus_stepped D.plug self.now).board.shots }
     {
         self.board.frames()
     }
@@ -312,11 +390,10 @@ impl<D: BusDevice> Bus<D> {
         self.board.sound()
     }
 
-    /// The disc in drive 0 or 1, as far as the devices are stepped: as it is where the bus is settled. None where the drive has none, and for any
-    /// other number.
+    /// The disc in drive 0 or 1, as far as the devices are stepped. None where the drive has none, and for any other number.
     pub fn disc(&self, drive: u8) -> Option<&Disc>
-        ensures { let there = bus_disc drive (bus_seen D.plug self.now) in
-            IsSettled self.now → MatchOption result (there ≡ None) (λ disc. there ≡ Some disc.now) }
+        ensures { let there = bus_disc drive (bus_stepped D.plug self.now) in
+            MatchOption result (there ≡ None) (λ disc. there ≡ Some disc.now) }
     {
         self.board.disc(drive)
     }

@@ -3,7 +3,6 @@
 
 mod board;
 mod bus;
-mod lag;
 mod plugged;
 
 pub use bus::Bus;

@@ -43,6 +43,3 @@ next-any u k event next some is =
 -- how many ticks they have
 pub some-micro : (c : Clock) → 0 < micro c
 some-micro c = omega (arith, micro-is-two c, some-host c)
-
-pub few-micro : (c : Clock) → micro c < 281474976710656
-few-micro c = omega (arith, micro-is-two c, few-host c)

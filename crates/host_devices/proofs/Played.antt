@@ -1,5 +1,6 @@
 -- What the events of a script make of the tables of keys and levels.
-use Rattle.std.proofs.Common.{◌≡◌, ◌∙◌, sym, refl, ap, ℕ, ◌+◌, ◌<◌, ◌≤◌, ◌==◌, ◌&&◌, zero, suc, Bool, true, false, cond, nat_le, inl, inr, List, [], ◌∷◌, ◌++◌, replicate, length, drop, get_or, Option, Some, None, if◌then◌else◌, arith}
+use Rattle.std.proofs.Common.{◌≡◌, ◌∙◌, sym, refl, ap, ℕ, ◌+◌, ◌<◌, ◌≤◌, ◌==◌, ◌&&◌, zero, suc, Bool, true, false}
+use Rattle.std.proofs.Common.{cond, nat_le, inl, inr, List, [], ◌∷◌, ◌++◌, replicate, length, drop, get_or, Option, Some, None, if◌then◌else◌, arith}
 use Rattle.std.proofs.lemmas.Bool.{cases_eq, ne_eqb, eq-eqb}
 use Rattle.std.proofs.lemmas.List.{drop_more, append_assoc, append-nil, get_or-set_same, get_or-set_other}
 use Rattle.std.proofs.lemmas.List.Sums.{sum_by-append}
@@ -73,8 +74,10 @@ or-both (Some last) b d = refl
 or-both None b d = refl
 
 -- one event more is done, which turns a table as it says
-pub left-more : {A : Type 0} (kind : ℕ → What → Option A) (first : A) (script : List Event) (place : ℕ) (d : Event) (table on : ℕ → A) (t : ℕ) → place < length script → tick_of (get_or script place d) + 1 ≡ t →
-    ((i : ℕ) → unwrap_or (kind i ((get_or script place d).what)) (table i) ≡ on i) → IsLeft kind first script (drop place script) table t → IsLeft kind first script (drop (place + 1) script) on t
+pub left-more : {A : Type 0} (kind : ℕ → What → Option A) (first : A) (script : List Event) (place : ℕ) (d : Event) (table on : ℕ → A) (t : ℕ) →
+    place < length script → tick_of (get_or script place d) + 1 ≡ t →
+    ((i : ℕ) → unwrap_or (kind i ((get_or script place d).what)) (table i) ≡ on i) → IsLeft kind first script (drop place script) table t →
+    IsLeft kind first script (drop (place + 1) script) on t
 left-more {A} kind first script place d table on t low at turns left = λ k i late.
     let e = get_or script place d in
     let rest = drop (place + 1) script in
@@ -86,15 +89,18 @@ left-more {A} kind first script place d table on t low at turns left = λ k i la
     ∙ ap (λ (a : A). unwrap_or (last_said (kind i) k rest) a) (turns i)
 
 -- of a tick more
-pub left-later : {A : Type 0} (kind : ℕ → What → Option A) (first : A) (script left : List Event) (table : ℕ → A) (t u : ℕ) → IsLeft kind first script left table t → t ≤ u → IsLeft kind first script left table u
+pub left-later : {A : Type 0} (kind : ℕ → What → Option A) (first : A) (script left : List Event) (table : ℕ → A) (t u : ℕ) → IsLeft kind first script left table t →
+    t ≤ u → IsLeft kind first script left table u
 left-later kind first script left table t u h low = λ k i late. h k i (omega (arith, late, low))
 
 -- at the last tick that is done each thing is as the table says
-said-is : {A : Type 0} (kind : ℕ → What → Option A) (first : A) (script left : List Event) (table : ℕ → A) (t event : ℕ) → IsLeft kind first script left table (t + 1) → NeverFallsFrom event left → t + 1 ≤ event → (i : ℕ) → table i ≡ unwrap_or (last_said (kind i) t script) first
+said-is : {A : Type 0} (kind : ℕ → What → Option A) (first : A) (script left : List Event) (table : ℕ → A) (t event : ℕ) → IsLeft kind first script left table (t + 1) →
+    NeverFallsFrom event left → t + 1 ≤ event → (i : ℕ) → table i ≡ unwrap_or (last_said (kind i) t script) first
 said-is {A} kind first script left table t event h later early = λ i.
     sym (h t i (omega arith) ∙ ap (λ (o : Option A). unwrap_or o (table i)) (none-said (kind i) event t left later (omega (arith, early))))
 
-pub keys-are : (script left : List Event) (keys : Keys) (t event : ℕ) → IsLeft made_of false script left keys (t + 1) → NeverFallsFrom event left → t + 1 ≤ event → keys ≡ keys_at t script
+pub keys-are : (script left : List Event) (keys : Keys) (t event : ℕ) → IsLeft made_of false script left keys (t + 1) → NeverFallsFrom event left → t + 1 ≤ event →
+    keys ≡ keys_at t script
 keys-are script left keys t event h later early = λ i. λ key. said-is made_of false script left keys t event h later early key i
 
 -- no level is given yet
@@ -113,7 +119,8 @@ four-levels (a ∷ b ∷ []) four = absurd (omega (arith, four))
 four-levels (a ∷ b ∷ c ∷ []) four = absurd (omega (arith, four))
 four-levels (a ∷ b ∷ c ∷ d ∷ e ∷ more) four = absurd (omega (arith, four))
 
-pub levels-are : (script left : List Event) (levels : List ℕ) (t event : ℕ) → length levels ≡ 4 → IsLeft level_given 0 script left (level_of levels) (t + 1) → NeverFallsFrom event left → t + 1 ≤ event → levels ≡ levels_at t script
+pub levels-are : (script left : List Event) (levels : List ℕ) (t event : ℕ) → length levels ≡ 4 → IsLeft level_given 0 script left (level_of levels) (t + 1) →
+    NeverFallsFrom event left → t + 1 ≤ event → levels ≡ levels_at t script
 levels-are script left levels t event four h later early =
     let is = said-is level_given 0 script left (level_of levels) t event h later early in
     four-levels levels four ∙ rw (is 0, is 1, is 2, is 3) refl
@@ -149,7 +156,8 @@ shot-more script place k d frame old new low at is =
     ∙ sym (ap (λ (b : Bool). old ++ replicate (all b) frame) (eq-eqb (tick_of e) k at))
     ∙ sym (ap (λ (l : List Event). old ++ replicate (shots_at k l) frame) (drop_more script place d low))
 
-has-more : (script : List Event) (place k : ℕ) (d : Event) → place < length script → tick_of (get_or script place d) ≡ k → HasLeft script (drop place script) (k + 1) → HasLeft script (drop (place + 1) script) (k + 1)
+has-more : (script : List Event) (place k : ℕ) (d : Event) → place < length script → tick_of (get_or script place d) ≡ k → HasLeft script (drop place script) (k + 1) →
+    HasLeft script (drop (place + 1) script) (k + 1)
 has-more script place k d low at has = λ i late.
     let e = get_or script place d in
     let rest = drop (place + 1) script in
@@ -168,7 +176,8 @@ taken-more script place k d frame old new all low at is so =
     record { has_left = has-more script place k d low at so.has_left; taken = shot-more script place k d frame old new low at is ∙ so.taken }
 
 -- there is memory for the shots that are left behind it
-pub room-more : (script : List Event) (place : ℕ) (d : Event) (old new : ℕ) → place < length script → new + shots (get_or script place d ∷ []) ≡ old → shots (drop place script) ≤ old → shots (drop (place + 1) script) ≤ new
+pub room-more : (script : List Event) (place : ℕ) (d : Event) (old new : ℕ) → place < length script → new + shots (get_or script place d ∷ []) ≡ old →
+    shots (drop place script) ≤ old → shots (drop (place + 1) script) ≤ new
 room-more script place d old new low took room =
     let e = get_or script place d in
     let rest = drop (place + 1) script in
@@ -179,10 +188,6 @@ room-more script place d old new low took room =
 pub all-shot : (left : List Event) (k : ℕ) (frame : List ℕ) (new all : List (List ℕ)) → NeverFallsFrom (k + 1) left → new ++ replicate (shots_at k left) frame ≡ all → new ≡ all
 all-shot left k frame new all later so =
     sym (append-nil new) ∙ sym (ap (λ (n : ℕ). new ++ replicate n frame) (no-shots (k + 1) k left later (omega arith))) ∙ so
-
--- where there is none, nothing is taken
-pub none-shot : (script : List Event) (k : ℕ) (frame : List ℕ) (taken : List (List ℕ)) → shots_at k script ≡ zero → taken ≡ shot_at k script frame taken
-none-shot script k frame taken none = sym (append-nil taken) ∙ sym (ap (λ (n : ℕ). taken ++ replicate n frame) none)
 
 -- a tick before the next event
 pub played-later : (p : Playback) (t u : ℕ) → IsPlayed p t → t ≤ u → u ≤ p.event → IsPlayed p u
@@ -200,8 +205,10 @@ played-later p t u h low high = record {
 -- before the next event the keys and the levels are what they are now
 pub keys-stay : (p : Playback) (t k : ℕ) → IsPlayed p t → t ≤ k + 1 → k < p.event → keys_of p.keys ≡ keys_at k p.script
 keys-stay p t k h late early =
-    keys-are p.script (drop p.place p.script) (keys_of p.keys) k p.event (left-later made_of false p.script (drop p.place p.script) (keys_of p.keys) t (k + 1) h.is_left late) h.later (omega (arith, early))
+    keys-are p.script (drop p.place p.script) (keys_of p.keys) k p.event
+    (left-later made_of false p.script (drop p.place p.script) (keys_of p.keys) t (k + 1) h.is_left late) h.later (omega (arith, early))
 
 pub levels-stay : (p : Playback) (t k : ℕ) → IsPlayed p t → t ≤ k + 1 → k < p.event → p.levels ≡ levels_at k p.script
 levels-stay p t k h late early =
-    levels-are p.script (drop p.place p.script) p.levels k p.event h.four (left-later level_given 0 p.script (drop p.place p.script) (level_of p.levels) t (k + 1) h.at_level late) h.later (omega (arith, early))
+    levels-are p.script (drop p.place p.script) p.levels k p.event h.four
+    (left-later level_given 0 p.script (drop p.place p.script) (level_of p.levels) t (k + 1) h.at_level late) h.later (omega (arith, early))

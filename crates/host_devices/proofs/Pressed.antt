@@ -1,5 +1,6 @@
 -- Which breaks of a script are before a place, and which are up to a tick.
-use Rattle.std.proofs.Common.{◌≡◌, ◌∙◌, sym, refl, ap, ℕ, ◌+◌, ◌<◌, ◌≤◌, ◌&&◌, zero, suc, Bool, true, false, cond, nat_le, nat_lt, zero-add, List, [], ◌∷◌, ◌++◌, All, length, drop, take, get_or, filter, count_by, Some, None, inl, inr, arith}
+use Rattle.std.proofs.Common.{◌≡◌, ◌∙◌, sym, refl, ap, ℕ, ◌+◌, ◌<◌, ◌≤◌, ◌&&◌, zero, suc, Bool, true, false, cond, nat_le}
+use Rattle.std.proofs.Common.{nat_lt, zero-add, List, [], ◌∷◌, ◌++◌, All, length, drop, take, get_or, filter, count_by, Some, None, inl, inr, arith}
 use Rattle.std.specs.Prelude.{unwrap_or}
 use Rattle.std.proofs.lemmas.Bool.{cases_lt}
 use Rattle.std.proofs.lemmas.List.{drop_all, drop_more, take_more, take-append-drop}
@@ -102,18 +103,6 @@ all-before t from (suc place) (e ∷ events) order low room =
     ∙ ap (λ n. cond (is_break e) 1 0 + n) (all-before t (tick_of e) place events order.1 low room)
     ∙ sym (count-first is_break e (take place events))
 
--- one event more that has come
-pub before-more : (t place : ℕ) (events : List Event) (d : Event) → place < length events → tick_of (get_or events place d) ≤ t →
-    count_by (is_break_by t) (take place events) ≡ breaks_before place events → count_by (is_break_by t) (take (place + 1) events) ≡ breaks_before (place + 1) events
-before-more t place events d low come so =
-    let e = get_or events place d in
-    ap (λ (l : List Event). count_by (is_break_by t) l) (take_more events place d low)
-    ∙ sum_by-append (λ (x : Event). cond (is_break_by t x) 1 0) (take place events) (e ∷ [])
-    ∙ ap (λ b. count_by (is_break_by t) (take place events) + (0 + cond b 1 0)) (agree t e come)
-    ∙ ap (λ n. n + (0 + cond (is_break e) 1 0)) so
-    ∙ sym (sum_by-append (λ (x : Event). cond (is_break x) 1 0) (take place events) (e ∷ []))
-    ∙ sym (ap (λ (l : List Event). count_by is_break l) (take_more events place d low))
-
 -- those up to a tick are those before a place, if none comes from there on
 pub all-taken : (t place : ℕ) (events : List Event) → count_by (is_break_by t) (take place events) ≡ breaks_before place events →
     count_by (is_break_by t) (drop place events) ≡ 0 → breaks_until t events ≡ breaks_before place events
@@ -173,7 +162,8 @@ not-pending t place events order low =
     let all : breaks_until t events ≤ breaks_before place events = omega (arith, none, few) in
     grind arith
 
-pub pending : (t place : ℕ) (events : List Event) → NeverFallsFrom 0 events → break_tick (drop place events) ≤ t → t < 18446744073709551615 → nat_lt (breaks_before place events) (breaks_until t events) ≡ true
+pub pending : (t place : ℕ) (events : List Event) → NeverFallsFrom 0 events → break_tick (drop place events) ≤ t → t < 18446744073709551615 →
+    nat_lt (breaks_before place events) (breaks_until t events) ≡ true
 pending t place events order low room =
     let so = all-before t 0 place events order low room in
     let some = some-left t (drop place events) low room in
@@ -209,23 +199,9 @@ none-or-tick (e ∷ events) all high =
       | false ↦ λ is. rw is (none-or-tick events (λ k d h. all (suc k) d (omega (arith, h))) (omega (arith, tick-later e events is, high)))
     ] refl
 
--- the first break from a place on, by the event there
-pub skip-one : (place : ℕ) (events : List Event) (d : Event) → place < length events → is_break (get_or events place d) ≡ false → break_tick (drop (place + 1) events) ≡ break_tick (drop place events)
-skip-one place events d low is =
-    sym (tick-later (get_or events place d) (drop (place + 1) events) is) ∙ sym (ap (λ (l : List Event). break_tick l) (drop_more events place d low))
-
-pub is-here : (place : ℕ) (events : List Event) (d : Event) → place < length events → is_break (get_or events place d) ≡ true → tick_of (get_or events place d) ≡ break_tick (drop place events)
-is-here place events d low is =
-    sym (tick-here (get_or events place d) (drop (place + 1) events) is) ∙ sym (ap (λ (l : List Event). break_tick l) (drop_more events place d low))
-
-pub none-here : (place : ℕ) (events : List Event) → length events ≤ place → 18446744073709551615 ≡ break_tick (drop place events)
-none-here place events high = sym (ap (λ (l : List Event). break_tick l) (drop_all place events high))
-
-pub none-by-end : (t place : ℕ) (events : List Event) → length events ≤ place → count_by (is_break_by t) (drop place events) ≡ 0
-none-by-end t place events high = ap (λ (l : List Event). count_by (is_break_by t) l) (drop_all place events high)
-
 -- the tick of the next, as the code tells it
-pub next-some : (place : ℕ) (events : List Event) → IsScript events → break_tick (drop place events) < 18446744073709551615 → break_number (breaks_before place events) events ≡ Some (break_tick (drop place events))
+pub next-some : (place : ℕ) (events : List Event) → IsScript events → break_tick (drop place events) < 18446744073709551615 →
+    break_number (breaks_before place events) events ≡ Some (break_tick (drop place events))
 next-some place events rules low = number-is place events ∙ tick-or-none (drop place events) (All-drop IsEvent place events rules.each) low
 
 pub next-none : (place : ℕ) (events : List Event) → IsScript events → 18446744073709551615 ≤ break_tick (drop place events) → break_number (breaks_before place events) events ≡ None

@@ -20,17 +20,11 @@ use Rattle.keyboard.specs.Latch.{screen_size}
 use Rattle.host_devices.specs.Devices.{Devices, system_pins, user_pins, raster_after, microsecond, microseconds, devices_ask}
 use Rattle.host_devices.specs.Apart.{each_by_itself, AreApart, AreCalm}
 
--- no microsecond, and no step
-pub no_microsecond : (s : picture.State) → StaysInSync 0 s
-no_microsecond s = λ ram size font k low.
-    let none : k ≡ 0 = omega (arith, low) in
-    ap (λ (n : ℕ). beam.vsync_of (beam.microseconds ram size font n s)) none
-
 -- what stays for n microseconds stays for fewer
 pub fewer : (n m : ℕ) (s : picture.State) → m ≤ n → StaysInSync n s → StaysInSync m s
 fewer n m s less stays = λ ram size font k low. stays ram size font k (omega (arith, less, low))
 
--- and nothing is owed where nothing is to stay
+-- nothing is owed where nothing is to stay
 pub nothing_owed : (owed : ℕ) (s : picture.State) → owed ≡ 0 → StaysInSync (owed + 0) s
 nothing_owed owed s none = λ ram size font k low.
     let first : k ≡ 0 = omega (arith, none, low) in
@@ -141,7 +135,8 @@ apart on ram font keys levels (suc n) d stays keeps =
     let less : suc n - 1 ≡ n = omega arith in
     let sync : StaysInSync n (raster_after ram font d) = subst (λ (k : ℕ). StaysInSync k (raster_after ram font d)) less (on (suc n) 1 (screen_size d.latch) ram font d.video (omega arith) stays) in
     let line : KeepsItsLine n (conversion.step levels d.converter) =
-    subst (λ (a : adc.State). KeepsItsLine n a) (one_step levels d.converter) (subst (λ (k : ℕ). KeepsItsLine k (conversion.steps levels 1 d.converter)) less (line_stays_on levels (suc n) 1 d.converter (omega arith) keeps)) in
+    subst (λ (a : adc.State). KeepsItsLine n a) (one_step levels d.converter)
+    (subst (λ (k : ℕ). KeepsItsLine k (conversion.steps levels 1 d.converter)) less (line_stays_on levels (suc n) 1 d.converter (omega arith) keeps)) in
     let pins = system_pins (beam.vsync_of d.video) (cb1 d.converter) keys d in
     let system : steps (system_pins (beam.vsync_of (raster_after ram font d)) (cb1 (conversion.step levels d.converter)) keys d) n (step pins d.system) ≡ steps pins (suc n) d.system =
     ap (λ (b : Bool). steps (system_pins b (cb1 (conversion.step levels d.converter)) keys d) n (step pins d.system)) (stays ram (screen_size d.latch) font 1 (omega arith))
@@ -153,7 +148,8 @@ apart on ram font keys levels (suc n) d stays keeps =
     ∙ all_same d video video _ _ _ _ _ _ _ _ refl (disc_front n d.disc) (adc_front levels n d.converter) system (via_front user_pins n d.user)
 
 -- m microseconds of n, of each device by itself, and the rest
-pub gone_apart : AreApart → (ram : List ℕ) (font : Font) (keys : Keys) (levels : List ℕ) (n m size : ℕ) (pins : Pins) (d : Devices) (v : picture.State) (x : disc.State) (a : adc.State) (s u : via.State) →
+pub gone_apart : AreApart →
+    (ram : List ℕ) (font : Font) (keys : Keys) (levels : List ℕ) (n m size : ℕ) (pins : Pins) (d : Devices) (v : picture.State) (x : disc.State) (a : adc.State) (s u : via.State) →
     m ≤ n → StaysInSync m d.video → KeepsItsLine m d.converter → size ≡ screen_size d.latch → pins ≡ system_pins (beam.vsync_of d.video) (cb1 d.converter) keys d →
     v ≡ beam.microseconds ram size font m d.video → x ≡ turn.steps m d.disc → a ≡ conversion.steps levels m d.converter → s ≡ steps pins m d.system → u ≡ steps user_pins m d.user →
     microseconds ram font keys levels (n - m) (record d { video = v; disc = x; converter = a; system = s; user = u }) ≡ microseconds ram font keys levels n d

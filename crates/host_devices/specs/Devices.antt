@@ -61,12 +61,13 @@ system_pins vsync cb1 keys d = record {
 abbrev pub user_pins : Pins
 user_pins = record { a = 0xFF; b = 0xFF; ca1 = true; ca2 = true; cb1 = true; cb2 = true }
 
--- One microsecond of all devices, in order: the picture, from the RAM and by the screen size of the latch; the disc controller; the
--- keyboard's level; the converter, with the levels of its channels; the system's 6522, which sees vertical sync as the picture left it, and the
--- converter's line as that did; the user's.
+-- the picture after a microsecond, from the RAM and by the screen size of the latch
 abbrev pub raster_after : List ℕ → Font → Devices → picture.State
 raster_after ram font d = beam.microsecond ram (keyboard.screen_size d.latch) font d.video
 
+-- One microsecond of all devices, in order: the picture, from the RAM and by the screen size of the latch; the disc controller; the
+-- keyboard's level; the converter, with the levels of its channels; the system's 6522, which sees vertical sync as the picture left it, and the
+-- converter's line as that did; the user's.
 unfoldable pub microsecond : List ℕ → Font → Keys → List ℕ → Devices → Devices
 microsecond ram font keys levels d = record d {
   video = raster_after ram font d;

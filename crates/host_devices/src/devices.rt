@@ -148,7 +148,7 @@ impl Devices {
     {
         self.steady = 0;
         self.lowest = 0;
-        self.video.step(ram, self.size, letters);
+        self.video.advance(ram, self.size, letters, 1);
     }
 
     // One microsecond of the converter, which may change its line.

@@ -13,7 +13,7 @@ pub enum Device {
     SerialUla,
     /// The video ULA.
     VideoUla,
-    /// The latch of the paged ROM.
+    /// The latch of the paged ROM: ROMSEL, at FE30.
     RomLatch,
     /// The system's 6522.
     SystemVia,

@@ -46,7 +46,8 @@ not-tube : (at : ℕ) → at < 0xfc00 → is_tube at ≡ false
 not-tube at low = grind (arith, common_steps)
 
 -- so that a read is done without closing
-pub read-done : (b : HostBusState) (t at byte : ℕ) (c : Cycle) → c ≡ Read at → at < 0xfc00 → byte ≡ bus_answer b.bus t at → stretch at (t / host (clock_of b.bus)) ≡ 1 → IsQuick host_wiring b t c (Some byte) b
+pub read-done : (b : HostBusState) (t at byte : ℕ) (c : Cycle) → c ≡ Read at → at < 0xfc00 → byte ≡ bus_answer b.bus t at →
+    stretch at (t / host (clock_of b.bus)) ≡ 1 → IsQuick host_wiring b t c (Some byte) b
 read-done b t at byte c is low given fast =
     let no = not-tube at low in
     let n : ℕ = host (clock_of b.bus) in

@@ -1,5 +1,6 @@
 -- A halted host reads one address in every cycle.
-use Rattle.std.proofs.Common.{◌≡◌, ◌≤◌, ◌<◌, ◌∙◌, refl, ap, subst, arith, ℕ, zero, suc, ◌+◌, ◌%◌, List, [], ◌∷◌, ◌++◌, length, Bool, true, false, cond, is_none, if◌then◌else◌, Option, Some, None}
+use Rattle.std.proofs.Common.{◌≡◌, ◌≤◌, ◌<◌, ◌∙◌, refl, ap, subst, arith, ℕ, zero, suc, ◌+◌, ◌%◌}
+use Rattle.std.proofs.Common.{List, [], ◌∷◌, ◌++◌, length, Bool, true, false, cond, is_none, if◌then◌else◌, Option, Some, None}
 use Rattle.std.specs.Prelude.{slice_get, nat_le, max}
 use Rattle.std.proofs.lemmas.Bool.{leb-true, leb-false}
 use Rattle.op_table.specs.declared.names.Part.TheVariants.{Nmos}

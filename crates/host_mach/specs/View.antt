@@ -1,7 +1,6 @@
 -- What a host is, by what its plugged devices are.
 use Rattle.bus_plug.specs.Plug.{Plug}
-use Rattle.host_bus.specs.View as bus
-use Rattle.host_bus.specs.View.{bus_seen}
+use Rattle.host_bus.specs.View.{bus_seen, bus_stepped}
 use Rattle.tube_machine.specs.Step.{at_of}
 use Rattle.host_mach.specs.declared.bus.HostBus.{HostBus}
 use Rattle.host_mach.specs.declared.machine.HostMachine.{HostMachine}
@@ -13,6 +12,6 @@ host_bus_seen plug b = host_bus_of (bus_seen plug b.bus) b.nmis
 abbrev pub host_seen : {D : Type 0} → (D → Plug) → HostMachine D → HostState
 host_seen plug m = at_of m.cpu (host_bus_seen plug m.bus) m.due
 
--- Its devices are stepped as far as its bus is closed.
-abbrev pub IsSettled : {D : Type 0} → HostMachine D → Type 0
-IsSettled m = bus.IsSettled m.bus.bus
+-- the machine as far as its devices are stepped
+abbrev pub host_stepped : {D : Type 0} → (D → Plug) → HostMachine D → HostState
+host_stepped plug m = at_of m.cpu (host_bus_of (bus_stepped plug m.bus.bus) m.bus.nmis) m.due

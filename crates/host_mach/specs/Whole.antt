@@ -1,5 +1,6 @@
 -- Which of the host's addresses are plain memory.
-use Rattle.std.specs.Prelude.{ℕ, zero, suc, length, Option, None, Some, MatchOption, ◌≡◌, ◌≤◌, ◌<◌, ◌+◌, ◌*◌, ◌/◌, ◌%◌, ◌==◌, max, nat_lt, nat_le, ◌&&◌, ◌||◌, ◌⊎◌, not, Bool, true, false, refl, slice_index, slice_set, List, if◌then◌else◌}
+use Rattle.std.specs.Prelude.{ℕ, zero, suc, length, Option, None, Some, MatchOption, ◌≡◌, ◌≤◌, ◌<◌, ◌+◌, ◌*◌, ◌/◌, ◌%◌}
+use Rattle.std.specs.Prelude.{◌==◌, max, nat_lt, nat_le, ◌&&◌, ◌||◌, ◌⊎◌, not, Bool, true, false, refl, slice_index, slice_set, List, if◌then◌else◌}
 use Rattle.std.proofs.Common.{arith, ap, ◌∙◌, sym, subst, inl, inr}
 use Rattle.std.proofs.lemmas.Bool.{ltb-true, lt-ltb, eq-eqb, cases_lt}
 use Rattle.std.proofs.lemmas.Grind.{common_steps}
@@ -18,7 +19,6 @@ use Rattle.host_bus.specs.Closing.{closed-again, closed-still}
 use Rattle.tube_machine.specs.Whole.{reach_of, IsMemory, IsAtRest, StaysAtRest}
 use Rattle.cpu_whole.specs.Whole.{AreRead, Carried, is_plain, shows, leaves}
 use Rattle.cpu_alu.specs.Addresses.{wrap}
-use Rattle.host_bus.specs.Lag.{IsCalm}
 use Rattle.host_bus.specs.StoredLines.{irq-stored, nmis-stored}
 use Rattle.host_mach.specs.State.{HostBusState}
 use Rattle.host_mach.specs.SameClock.{access-same}
@@ -79,7 +79,8 @@ writes-store b at v low = ap (λ (p : Place). after_write_of p b at v) (is-ram a
 stands : (b : BusState) (at : ℕ) → at < 0x8000 → bus_answer b 0 at ≡ slice_index b.board.ram at
 stands b at low = ap (λ (p : Place). answer_of p b 0 at) (is-ram at low)
 
-twice : (b : BusState) (t u at v : ℕ) → at < 0x8000 → t ≤ u → bus_after_write (bus_closed (bus_after_write (bus_closed b t) at (bus_answer b 0 at)) u) at v ≡ bus_after_write (bus_closed b u) at v
+twice : (b : BusState) (t u at v : ℕ) → at < 0x8000 → t ≤ u →
+    bus_after_write (bus_closed (bus_after_write (bus_closed b t) at (bus_answer b 0 at)) u) at v ≡ bus_after_write (bus_closed b u) at v
 twice b t u at v low high =
     let c : BusState = bus_closed b t in
     let back : bus_after_write c at (bus_answer b 0 at) ≡ c =
@@ -95,7 +96,8 @@ clock-stays : (b : BusState) (at v : ℕ) → at < 0x8000 → clock_of (bus_afte
 clock-stays b at v low = ap clock_of (writes-store b at v low)
 
 again : (m : HostBusState) (t n at byte : ℕ) → at < 0x8000 →
-    (reach_of host_wiring plain_read plain_write).put ((reach_of host_wiring plain_read plain_write).put m t n at (bus_answer m.bus 0 at)) t (suc n) at byte ≡ (reach_of host_wiring plain_read plain_write).put m t (suc n) at byte
+    (reach_of host_wiring plain_read plain_write).put ((reach_of host_wiring plain_read plain_write).put m t n at (bus_answer m.bus 0 at)) t
+    (suc n) at byte ≡ (reach_of host_wiring plain_read plain_write).put m t (suc n) at byte
 again m t n at byte low =
     let c : ℕ = host (clock_of m.bus) in
     let x : BusState = bus_after_write (bus_closed m.bus (t + c * n + 1)) at (bus_answer m.bus 0 at) in
@@ -155,10 +157,6 @@ host_rests = record {
   write = λ b l masks far at byte rest low. stored-rests b l masks far at byte (ltb-true at 0x8000 low) rest;
 }
 
--- where the lines stay up to a tick and ask for nothing now
-pub calm-rests : (b : HostBusState) (l : Lines) (masks : Bool) (far : ℕ) → bus_nmis b.bus ≡ b.nmis → ((bus_irq b.bus || l.hirq) && not masks) ≡ false → IsCalm far b.bus.board → rests b l masks far
-calm-rests b l masks far nmis irq calm some u near = (calm.nmis u near ∙ nmis, ap (λ (i : Bool). (i || l.hirq) && not masks) (calm.irq u near) ∙ irq)
-
 -- an instruction below the devices
 pub runs-low : (pc : ℕ) → pc < 0xFBFE → AreRead (reach_of host_wiring plain_read plain_write) pc
 runs-low pc low = record {
@@ -177,13 +175,6 @@ comes_next c t n some = let sum : c * (n + 1) ≡ c * n + c * 1 = mul-add c n 1 
 pub comes_behind : (c t n closed : ℕ) → 1 < c → 0 < n → closed ≤ t + max 1 (c * n) → closed ≤ t + c * n
 comes_behind c t n closed some more low = let least : c * 1 ≤ c * n = mul-le-mul_left c more in let one : c * 1 ≡ c = mul-one c in omega (arith, least, one, some, low)
 
--- the clock, and how far the bus is closed, after a write
-pub clock-written : (b : BusState) (at v : ℕ) → at < 0x8000 → clock_of (bus_after_write b at v) ≡ clock_of b
-clock-written b at v low = clock-stays b at v low
-
-pub closed-written : (b : BusState) (at v : ℕ) → at < 0x8000 → closed_at (bus_after_write b at v) ≡ closed_at b
-closed-written b at v low = ap (λ (x : BusState). closed_at x) (writes-store b at v low)
-
 -- no access changes how long ticks are
 leaves-clock : (t n : ℕ) (m : HostBusState) (c : Cycle) → clock_of (leaves (reach_of host_wiring plain_read plain_write) t m n c).bus ≡ clock_of m.bus
 leaves-clock t n m (Read at) = refl
@@ -192,11 +183,13 @@ leaves-clock t n m (Write at v) = access-same (bus_closed m.bus (t + host (clock
 carried-by : (part : Part) (t k : ℕ) (s : State) (m : HostBusState) (last : State) (there : HostBusState) (o : Option Cycle) →
     ((on : State) (b : HostBusState) → Carried (reach_of host_wiring plain_read plain_write) t part k on b last there → clock_of there.bus ≡ clock_of b.bus) →
     MatchOption o ⊥ (λ (c : Cycle). (is_plain (reach_of host_wiring plain_read plain_write) c ≡ true)
-    × Carried (reach_of host_wiring plain_read plain_write) t part k (after_byte part s (shows (reach_of host_wiring plain_read plain_write) m c)) (leaves (reach_of host_wiring plain_read plain_write) t m (length s.seen) c) last there) →
+    × Carried (reach_of host_wiring plain_read plain_write) t part k (after_byte part s (shows (reach_of host_wiring plain_read plain_write) m c))
+    (leaves (reach_of host_wiring plain_read plain_write) t m (length s.seen) c) last there) →
     clock_of there.bus ≡ clock_of m.bus
 carried-by part t k s m last there None on h = absurd h
 carried-by part t k s m last there (Some c) on h = on _ _ h.1 ∙ leaves-clock t (length s.seen) m c
 
-pub carried-clock : (part : Part) (t k : ℕ) (s : State) (m : HostBusState) (last : State) (there : HostBusState) → Carried (reach_of host_wiring plain_read plain_write) t part k s m last there → clock_of there.bus ≡ clock_of m.bus
+pub carried-clock : (part : Part) (t k : ℕ) (s : State) (m : HostBusState) (last : State) (there : HostBusState) →
+    Carried (reach_of host_wiring plain_read plain_write) t part k s m last there → clock_of there.bus ≡ clock_of m.bus
 carried-clock part t zero s m last there h = ap (λ (x : HostBusState). clock_of x.bus) (sym h.1)
 carried-clock part t (suc k) s m last there h = carried-by part t k s m last there (next_cycle part s) (λ on b more. carried-clock part t k on b last there more) h

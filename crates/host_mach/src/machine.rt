@@ -1,6 +1,6 @@
 //! The machine.
 ghost use Rattle.std.specs.Prelude.{◌≡◌, ◌≤◌, ◌<◌, ◌+◌, ◌^◌, ◌↔◌, ℕ, IfOk, IfSome, None, Some, MatchOption, false, length, map, min, unwrap_or};
-ghost use Rattle.host_bus.specs.Lag.{caught_up};
+ghost use Rattle.host_bus.specs.Board.{board_closed};
 ghost use Rattle.host_bus.specs.Bus.{bus_disc, bus_break_pending, bus_next_break};
 ghost use Rattle.sn76489.specs.Samples.{NeverFallFrom};
 ghost use Rattle.cpu6502.specs.Sequences.{halted, starting};
@@ -36,14 +36,14 @@ pub struct HostMachine<D = Box<dyn BusDevice + Send>> {
     bus: HostBus<D>,
     // The tick of the next step.
     due: u64,
-    ghost before: { (caught_up bus.bus.board).closed ≤ due + 1 },
+    ghost before: { (board_closed bus.bus.board bus.bus.closed).closed ≤ due + 1 },
 }
 
 // Where its plugged devices can, as boxed ones.
 impl<D: BusDevice + Send> Crosses for HostMachine<D> {}
 
 impl<D: BusDevice> HostMachine<D> {
-    ghost use Rattle.host_mach.specs.View.{host_seen, IsSettled};
+    ghost use Rattle.host_mach.specs.View.{host_seen, host_stepped};
 
     /// The machine at power-on, at this clock, before the first cycle of a reset. It takes the memory of all shots of the script, and of
     /// all sound writes. Where memory is wanting, all is dropped.
@@ -127,28 +127,21 @@ impl<D: BusDevice> HostMachine<D> {
         self.bus.bus.ram()
     }
 
-    /// Steps the devices as far as its bus is closed. They may lag behind, which is seen nowhere but in `frames` and `disc`.
-    pub fn settle(&mut self)
-        ensures same { host_seen D.plug self.new ≡ host_seen D.plug self.old }
-        ensures settled { IsSettled self.new }
-    {
-        self.bus.bus.settle();
-    }
-
-    /// The same machine, settled.
+    /// The same machine, whose devices are stepped as far as its bus is closed. They may lag behind, which is seen nowhere but in `frames` and
+    /// `disc`.
     pub fn settled(self) -> HostMachine<D>
         ensures same { host_seen D.plug result ≡ host_seen D.plug self }
-        ensures settled { IsSettled result }
+        ensures stepped { host_stepped D.plug result ≡ host_seen D.plug self }
     {
         let mut machine = self;
-        machine.settle();
+        machine.bus.bus.settle();
         machine
     }
 
-    /// The frames that shots took so far, the oldest first, as far as the devices are stepped: all of them where the machine is settled. A shot
-    /// takes the last frame that was finished, or a black one, before the device step at its tick.
+    /// The frames that shots took so far, the oldest first, as far as the devices are stepped. A shot takes the last frame that was finished, or a
+    /// black one, before the device step at its tick.
     pub fn frames(&self) -> &[Frame]
-        ensures { IsSettled self.now → result.now ≡ (host_seen D.plug self.now).bus.bus.board.shots }
+        ensures { result.now ≡ (host_stepped D.plug self.now).bus.bus.board.shots }
     {
         self.bus.bus.frames()
     }
@@ -163,11 +156,10 @@ impl<D: BusDevice> HostMachine<D> {
         self.bus.bus.sound()
     }
 
-    /// The disc in drive 0 or 1, as far as the devices are stepped: as it is where the machine is settled. None where the drive has none, and for
-    /// any other number.
+    /// The disc in drive 0 or 1, as far as the devices are stepped. None where the drive has none, and for any other number.
     pub fn disc(&self, drive: u8) -> Option<&Disc>
-        ensures { let there = bus_disc drive (host_seen D.plug self.now).bus.bus in
-            IsSettled self.now → MatchOption result (there ≡ None) (λ disc. there ≡ Some disc.now) }
+        ensures { let there = bus_disc drive (host_stepped D.plug self.now).bus.bus in
+            MatchOption result (there ≡ None) (λ disc. there ≡ Some disc.now) }
     {
         self.bus.bus.disc(drive)
     }

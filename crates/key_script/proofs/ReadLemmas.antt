@@ -100,11 +100,3 @@ read_all text events last taken (b ∷ rest) so_far none = absurd (omega arith)
 pub read_bad_line : (text : List ℕ) (events : List Event) (last taken : ℕ) (rest : List ℕ) → ReadSoFar text events last taken rest → BeginsBadly rest →
     script text ≡ Err (BadLine (length events + 1))
 read_bad_line text events last taken rest so_far bad = so_far.whole ∙ rw bad.1 refl
-
-pub read_fault : (text : List ℕ) (events : List Event) (last taken : ℕ) (rest others : List ℕ) (e : Event) (error : ScriptError) →
-    ReadSoFar text events last taken rest → events_of rest ≡ Some e ∷ events_of others → fault (length events + 1) last taken e ≡ Some error →
-    script text ≡ Err error
-read_fault text events last taken rest others e error so_far next fails =
-    let last_is : last ≡ last_tick events = so_far.last_is in
-    let taken_is : taken ≡ shots events = so_far.taken_is in
-    so_far.whole ∙ rw (next, ← last_is, ← taken_is, fails) refl

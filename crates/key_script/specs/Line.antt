@@ -1,15 +1,15 @@
 -- One line of a key script: `at T down KK`, `at T up KK`, `at T shot`, `at T break` or `at T adc C VVVV`, with T in decimal, without leading zeros
 -- and at most 1073741824, KK in two upper-case hexadecimal digits from 00 to 7F, C from 0 to 3, and VVVV in four such digits. (This project's own
 -- format.)
-use Rattle.std.specs.Prelude.{ℕ, ◌==◌, ◌&&◌, nat_lt, List, [], ◌∷◌, length, Option, Some, None, option_map, codes, if◌then◌else◌}
-use Rattle.std.specs.List.{list_all}
+use Rattle.std.specs.Prelude.{ℕ, ◌-◌, ◌==◌, ◌&&◌, nat_eq, nat_lt, List, [], ◌∷◌, length, take, Option, Some, None, option_map, codes, if◌then◌else◌}
+use Rattle.std.specs.List.{ends_with, list_all}
 use Rattle.std.specs.Str.{bytes_eq}
 use Rattle.digits.specs.Decimal.{decimal_number}
 use Rattle.digits.specs.Hexadecimal.{is_hex, hex_number}
 use Rattle.key_script.specs.declared.Event.{Event}
 use Rattle.key_script.specs.declared.What.{What}
 use Rattle.key_script.specs.declared.What.TheVariants.{Down, Up, Shot, Break, Level}
-use Rattle.key_script.specs.Lines.{words_of}
+use Rattle.key_script.specs.Words.{words_of}
 
 -- the number of so many digits, below a bound
 abbrev pub number_of : ℕ → ℕ → List ℕ → Option ℕ
@@ -69,7 +69,6 @@ event_of_words [] = None
 event_of_words (first ∷ []) = None
 event_of_words (first ∷ tick ∷ words) = if bytes_eq first (codes "at") then event_at (decimal_number 1073741824 tick) (what_of words) else None
 
--- The event of a line, or none where it is outside the form or lacks its line feed.
-abbrev pub event_of : Option (List ℕ) → Option Event
-event_of None = None
-event_of (Some line) = event_of_words (words_of line)
+-- The event of a line with its line feed, or none where the bytes are outside the form.
+abbrev pub event_of : List ℕ → Option Event
+event_of line = if ends_with nat_eq line (10 ∷ []) then event_of_words (words_of (take (length line - 1) line)) else None

@@ -1,9 +1,9 @@
 -- The text of a key script: its events, or its first offending line.
 use Rattle.std.specs.Prelude.{ℕ, ◌≡◌, ◌+◌, ◌==◌, ◌&&◌, nat_lt, List, [], ◌∷◌, ◌++◌, length, map, Option, Some, None, Result, Ok, Err, if◌then◌else◌}
+use Rattle.digits.specs.Lines.{text_lines}
 use Rattle.key_script.specs.declared.Event.{Event}
 use Rattle.key_script.specs.declared.ScriptError.{ScriptError}
 use Rattle.key_script.specs.declared.ScriptError.TheVariants.{BadLine, BadOrder, TooManyShots}
-use Rattle.key_script.specs.Lines.{lines_of}
 use Rattle.key_script.specs.Events.{tick_of, is_shot, shots, last_tick}
 use Rattle.key_script.specs.Line.{event_of}
 
@@ -29,7 +29,7 @@ events_behind before (Some e ∷ lines) = unless (fault (length before + 1) (las
 
 -- the events of a text's lines, or none for a line that is outside the form
 abbrev pub events_of : List ℕ → List (Option Event)
-events_of text = map event_of (lines_of text)
+events_of text = map event_of (text_lines text)
 
 -- the first line of a text is outside the form
 abbrev pub BeginsBadly : List ℕ → Type 0

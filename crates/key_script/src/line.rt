@@ -1,9 +1,9 @@
 //! One line of a script.
 ghost use Rattle.std.specs.Prelude.{◌≡◌, ◌≤◌, ◌<◌, ◌∷◌, [], ◌++◌, All, ◌≢◌, IfSome, MatchOption};
 ghost use Rattle.std.specs.Str.{bytes_eq};
-ghost use Rattle.key_script.specs.Lines.{words_of};
+ghost use Rattle.key_script.specs.Words.{words_of};
 ghost use Rattle.key_script.specs.Events.{IsEvent, IsInRange};
-ghost use Rattle.key_script.specs.Line.{number_of, key_of, channel_of, level_of, what_alone, what_with, what_of_level, what_of, event_of_words};
+ghost use Rattle.key_script.specs.Line.{number_of, key_of, channel_of, level_of, what_alone, what_with, what_of_level, what_of, event_of_words, event_of};
 
 use crate::{Event, What};
 use beeb_bits::Tick;
@@ -12,20 +12,20 @@ use digits::{all_hex, decimal_number, hex_number};
 /// The tick of the longest run.
 const LAST_TICK: u64 = 1_073_741_824;
 
-/// What stands before the first byte of this value, and behind it.
-pub(crate) fn split_at_first(end: u8, bytes: &[u8]) -> Option<(&[u8], &[u8])>
-    ensures none { MatchOption result (All (λ b. b ≢ end) bytes.now) (λ parts. All (λ b. b ≢ end) parts.0.now) }
-    ensures parts { IfSome result (λ parts. bytes.now ≡ parts.0.now ++ end ∷ parts.1.now) }
+// What stands before the first space, and behind it.
+fn split_at_space(line: &[u8]) -> Option<(&[u8], &[u8])>
+    ensures none { MatchOption result (All (λ b. b ≢ 32) line.now) (λ parts. All (λ b. b ≢ 32) parts.0.now) }
+    ensures parts { IfSome result (λ parts. line.now ≡ parts.0.now ++ 32 ∷ parts.1.now) }
 {
-    let place = bytes.iter().position(|b| *b == end)?;
-    Some((&bytes[..place], &bytes[place + 1..]))
+    let place = line.iter().position(|b| *b == b' ')?;
+    Some((&line[..place], &line[place + 1..]))
 }
 
 // The first word of a line and what stands behind the space, if more words do.
 fn split_word(line: &[u8]) -> Option<(&[u8], &[u8])>
     ensures { MatchOption result (words_of line.now ≡ line.now ∷ []) (λ parts. words_of line.now ≡ parts.0.now ∷ words_of parts.1.now) }
 {
-    split_at_first(b' ', line)
+    split_at_space(line)
 }
 
 fn is_word(word: &[u8], want: &[u8]) -> bool
@@ -131,8 +131,8 @@ fn what_of(words: &[u8]) -> Option<What>
     }
 }
 
-/// The event of a line without its line feed, or none where the bytes are outside the form.
-pub(crate) fn event_of(line: &[u8]) -> Option<Event>
+// The event of a line without its line feed, or none where the bytes are outside the form.
+fn event_of_words(line: &[u8]) -> Option<Event>
     ensures value { result ≡ event_of_words (words_of line.now) }
     ensures event { IfSome result IsEvent }
 {
@@ -147,4 +147,12 @@ pub(crate) fn event_of(line: &[u8]) -> Option<Event>
         tick: Tick(tick),
         what,
     })
+}
+
+/// The event of a line with its line feed, or none where the bytes are outside the form.
+pub(crate) fn event_of(line: &[u8]) -> Option<Event>
+    ensures value { result ≡ event_of line.now }
+    ensures event { IfSome result IsEvent }
+{
+    event_of_words(line.strip_suffix(b"\n")?)
 }

@@ -4,9 +4,10 @@ ghost use Rattle.key_script.specs.declared.ScriptError.TheVariants.{NoMemory};
 ghost use Rattle.key_script.specs.Events.{IsEvent, is_shot};
 ghost use Rattle.key_script.specs.Text.{BeginsBadly, events_of, fault, script};
 
-use crate::line::{event_of, split_at_first};
+use crate::line::event_of;
 use crate::{Event, Script, ScriptError, What};
 use beeb_bits::Tick;
+use digits::first_line;
 use std::alloc::Global;
 
 /// How many shots a script may have.
@@ -19,7 +20,7 @@ fn next_event(text: &[u8]) -> Option<(Event, &[u8])>
     ensures shorter { IfSome result (λ next. length next.1.now < length text.now) }
     ensures event { IfSome result (λ next. IsEvent next.0) }
 {
-    let (line, rest) = split_at_first(b'\n', text)?;
+    let (line, rest) = first_line(text);
     let event = event_of(line)?;
     Some((event, rest))
 }

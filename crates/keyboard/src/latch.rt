@@ -1,4 +1,4 @@
-//! The addressable latch of the system VIA.
+//! The addressable latch of the system VIA: IC32, an LS259.
 ghost use Rattle.std.specs.Prelude.{◌≡◌, false, replicate};
 ghost use Rattle.keyboard.specs.Latch.{latch_after, scans_itself, screen_size};
 

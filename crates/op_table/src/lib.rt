@@ -1,6 +1,7 @@
 //! The instruction tables of the NMOS 6502 and of the plain 65C02.
 #![tactic(auto)]
 
+mod listings;
 mod names;
 mod opcodes;
 mod rows;

@@ -70,13 +70,15 @@ module _ (n : ℕ) (lines : Lines) (sure : ℕ) where
   sees_held old new ask held sees = ask_held sees.last new ask (looks_held sees.steps old sees.last held sees.looks) sees.asked
 
   -- so many steps, and then what is asked
-  pub goes_of : (old last new : ParaState) (ask : Ask) → (k : ℕ) × Looks para_moves n (shown_lines lines sure) k old last → IsAsk para_moves n last ask new → Goes para_moves n (shown_lines lines sure) old ask new
+  pub goes_of : (old last new : ParaState) (ask : Ask) → (k : ℕ) × Looks para_moves n (shown_lines lines sure) k old last
+      → IsAsk para_moves n last ask new → Goes para_moves n (shown_lines lines sure) old ask new
   goes_of old last new ask came asked = record { steps = came.0; last = last; looks = came.1; asked = asked }
 
 -- ---- Held
 
 -- the reset line stands for one more reset
-held_look : (s : ParaState) (l : Lines) → next_cycle s.cpu ≡ None → l.prst ≡ true → (l.resets ≡ s.bus.resets → ⊥) → next_state s (Some (Seen l)) ≡ after_held_cycle Cmos para_wiring (closed_to para_wiring s (s.due + 1))
+held_look : (s : ParaState) (l : Lines) → next_cycle s.cpu ≡ None → l.prst ≡ true → (l.resets ≡ s.bus.resets → ⊥)
+    → next_state s (Some (Seen l)) ≡ after_held_cycle Cmos para_wiring (closed_to para_wiring s (s.due + 1))
 held_look s l over stands other =
     let x : ParaState = closed_to para_wiring s (s.due + 1) in
     let taken : ParaState = begin_leaves x (fresh (sequence_at_look (para_wiring.nmi x.bus l) (para_wiring.irq x.bus l) (after s.cpu)) (after s.cpu)) (para_wiring.taken x.bus l) in
@@ -116,15 +118,23 @@ no_cramp Three sure due from room near is some low cramped = omega (arith, is.1,
 no_cramp Four sure due from room near is some low cramped = omega (arith, is.1, some, low, cramped)
 
 -- the steps of a run, and what is asked then; its looks may be nearer than they need be
-pub goes_wider : (n : ℕ) (lines : Lines) (near sure : ℕ) (old last new : ParaState) (ask : Ask) → near ≤ sure → (k : ℕ) × Looks para_moves n (shown_lines lines near) k old last → Goes para_moves n (shown_lines lines sure) last ask new →
+pub goes_wider : (n : ℕ) (lines : Lines) (near sure : ℕ) (old last new : ParaState) (ask : Ask) → near ≤ sure
+    → (k : ℕ) × Looks para_moves n (shown_lines lines near) k old last → Goes para_moves n (shown_lines lines sure) last ask new →
     Goes para_moves n (shown_lines lines sure) old ask new
 goes_wider n lines near sure old last new ask low came goes =
     let all : (i : ℕ) × Looks para_moves n (shown_lines lines sure) i old goes.last =
     looks_on para_moves n lines sure came.0 goes.steps old last goes.last (looks_wider para_moves n lines near sure came.0 old last low came.1) goes.looks in
     record { steps = all.0; last = goes.last; looks = all.1; asked = goes.asked }
 
-pub sees_wider : (n : ℕ) (lines : Lines) (near sure : ℕ) (old new : ParaState) (ask : Ask) → near ≤ sure → Sees para_moves n (shown_lines lines near) old ask new → Goes para_moves n (shown_lines lines sure) old ask new
-sees_wider n lines near sure old new ask low sees = record { steps = sees.steps; last = sees.last; looks = looks_wider para_moves n lines near sure sees.steps old sees.last low sees.looks; asked = sees.asked }
+pub sees_wider : (n : ℕ) (lines : Lines) (near sure : ℕ) (old new : ParaState) (ask : Ask) → near ≤ sure
+    → Sees para_moves n (shown_lines lines near) old ask new → Goes para_moves n (shown_lines lines sure) old ask new
+sees_wider n lines near sure old new ask low sees = record {
+  steps = sees.steps;
+  last = sees.last;
+  looks =
+      looks_wider para_moves n lines near sure sees.steps old sees.last low sees.looks;
+  asked = sees.asked;
+}
 
 -- ---- Taken back
 
@@ -136,10 +146,13 @@ back ram b old is = ap (λ (x : ParaBusState). record x { is_held = old.is_held;
 byte_by : (o : Option Cycle) (s : ParaState) (byte : ℕ) (ram : List ℕ) → MatchOption (asks_by para_wiring o) ⊥ (λ q. FitsAnswer q (Byte byte)) → s.bus.rom_in ≡ false →
     part_kept ram (after_step Cmos para_wiring o s (Some (Byte byte))).bus ≡ part_kept ram s.bus
 byte_by None s byte ram asked out = absurd asked
-byte_by (Some (Read at)) s byte ram asked out = ap (λ (r : Bool). record (part_kept ram s.bus) { rom_in = rom_in_after r (Read at) }) out ∙ ap (λ (r : Bool). record (part_kept ram s.bus) { rom_in = r }) (sym out)
-byte_by (Some (Write at v)) s byte ram asked out = ap (λ (r : Bool). record (part_kept ram s.bus) { rom_in = rom_in_after r (Write at v) }) out ∙ ap (λ (r : Bool). record (part_kept ram s.bus) { rom_in = r }) (sym out)
+byte_by (Some (Read at)) s byte ram asked out = ap (λ (r : Bool). record (part_kept ram s.bus) { rom_in = rom_in_after r (Read at) }) out
+    ∙ ap (λ (r : Bool). record (part_kept ram s.bus) { rom_in = r }) (sym out)
+byte_by (Some (Write at v)) s byte ram asked out = ap (λ (r : Bool). record (part_kept ram s.bus) { rom_in = rom_in_after r (Write at v) }) out
+    ∙ ap (λ (r : Bool). record (part_kept ram s.bus) { rom_in = r }) (sym out)
 
-ram_by : (o : Option Cycle) (s : ParaState) (byte : ℕ) → MatchOption (asks_by para_wiring o) ⊥ (λ q. FitsAnswer q (Byte byte)) → (after_step Cmos para_wiring o s (Some (Byte byte))).bus.ram ≡ s.bus.ram
+ram_by : (o : Option Cycle) (s : ParaState) (byte : ℕ) → MatchOption (asks_by para_wiring o) ⊥ (λ q. FitsAnswer q (Byte byte))
+    → (after_step Cmos para_wiring o s (Some (Byte byte))).bus.ram ≡ s.bus.ram
 ram_by None s byte asked = absurd asked
 ram_by (Some (Read at)) s byte asked = refl
 ram_by (Some (Write at v)) s byte asked = by (is_tube at) refl asked

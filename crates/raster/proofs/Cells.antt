@@ -88,7 +88,7 @@ cells_row ram size font span m (suc n) s h few shown teletext off small =
     row_long strip 16 n (λ k. cell_long font (codes k) span.ra span.fields (texts codes k s.text)) ∙ ap (λ k. n * k) sixteen in
     chars_behind ram size font n s
     ∙ ap (λ (t : State). char_clock_leaves ram size font t) (cells_row ram size font span m n s h (omega (arith, few)) shown teletext off small)
-    ∙ shown_here ram size font span m s n text working h (omega (arith, few))
+    ∙ shown_here ram size font span m s n text working h shown (omega (arith, few))
     ∙ ap (λ (t : State). pass_leaves (plain_beam span n) t)
     (draws_cell ram size font span n (record (built n text working s) { crtc = clocks (suc n) s.crtc }) shown teletext off h.far)
     ∙ passed span n (texts codes (suc n) s.text) (dots_set 208 (min (s.place.x + n * d) 4095) s.place.y (strip n) working) s h.far

@@ -1,12 +1,12 @@
 -- Characters that are shown from the first of a line on.
 use Rattle.std.proofs.Common.{◌≡◌, ◌∙◌, sym, ap, refl, ℕ, zero, suc, ◌+◌, ◌-◌, ◌*◌, ◌%◌, ◌<◌, ◌≤◌, ◌++◌, Bool, true, false, min, List, length, append_assoc, append-nil, arith}
-use Rattle.std.specs.Prelude.{slice_index, if◌then◌else◌}
+use Rattle.std.specs.Prelude.{slice_index, is_none, not, ◌&&◌, if◌then◌else◌}
 use Rattle.std.proofs.Math.Nat.{mod-eq_of_lt}
 use Rattle.beeb_bits.specs.Bits.{bit}
 use Rattle.crtc6845.specs.declared.Beam.{Beam}
 use Rattle.crtc6845.specs.declared.Span.{Span}
 use Rattle.crtc6845.specs.State.{State as CrtcState}
-use Rattle.crtc6845.specs.Clock.{start_leaves, address, beam_of, clock_leaves}
+use Rattle.crtc6845.specs.Clock.{starts_line, begins_sync, sync_counted, sync_begun, start_leaves, address, ends_line, ends_row, ends_frame, is_row_done, is_last_line, beam_of, clock_leaves}
 use Rattle.crtc6845.specs.Laws.{clocks}
 use Rattle.video_ula.specs.State.{State as UlaState}
 use Rattle.video_ula.specs.Pixels.{dots_of, colours, side_by_side}
@@ -118,12 +118,36 @@ row_behind ram size font first n t h small row frame =
     ∙ ap (λ (w : List ℕ). left (place_past (n * d) (place_past d t.place)) w) drawn
     ∙ ap (λ (p : Place). left p (dots_set 240 x y (byte_row ram size first.ma first.ra t.ula (suc n)) t.working)) (further n d t.place)
 
+-- with a line that has more neither a row nor a frame ends
+more_by : (a b : Bool) (c : CrtcState) → ends_line (if a then (if b then sync_begun (sync_counted c) else sync_counted c) else c) ≡ ends_line c
+more_by true true c = refl
+more_by true false c = refl
+more_by false b c = refl
+
+still_more : (c : CrtcState) → ends_line c ≡ false → ends_line (start_leaves c) ≡ false
+still_more c more = more_by (starts_line c) (begins_sync (sync_counted c)) c ∙ more
+
+none_with : (p q r s : Bool) → p ≡ false → (p && q && r && s) ≡ false
+none_with p q r s off = rw off refl
+
+none_of : (p q : Bool) → p ≡ false → (p && q) ≡ false
+none_of p q off = rw off refl
+
+no_row : (c : CrtcState) → ends_line c ≡ false → ends_row c ≡ false
+no_row c more = none_with (ends_line c) (is_none c.adjust) (is_row_done c) (not (is_last_line c)) more
+
+no_frame : (c : CrtcState) → ends_line c ≡ false → ends_frame c ≡ false
+no_frame c more = none_of (ends_line c) (is_last_line c) more
+
 -- the first clock by its parts, and the others
 pub from_start : (ram : List ℕ) (size : ℕ) (font : Font) (first : Beam) (n : ℕ) (inside s t u v : State) (chip : CrtcState) → inside ≡ s → first ≡ beam_of inside.crtc →
-    chip ≡ clock_leaves inside.crtc → t ≡ begin_leaves first (record inside { crtc = chip }) → first.row_end ≡ false → first.restart ≡ false → 0 < n → AreBehind first (n - 1) t →
+    chip ≡ clock_leaves inside.crtc → t ≡ begin_leaves first (record inside { crtc = chip }) → ends_line s.crtc ≡ false → 0 < n → AreBehind first (n - 1) t →
     u ≡ bytes_put ram size first.ma first.ra n t →
     v ≡ record u { crtc = clocks (n - 1) u.crtc; place = place_past (n * dots_of u.ula.control) u.place } → v ≡ char_clocks ram size font n s
-from_start ram size font first n inside s t u v chip same told after begun row frame some behind put is =
+from_start ram size font first n inside s t u v chip same told after begun more some behind put is =
+    let off = still_more inside.crtc (ap (λ (x : State). ends_line x.crtc) same ∙ more) in
+    let row : first.row_end ≡ false = ap (λ (b : Beam). b.row_end) told ∙ no_row (start_leaves inside.crtc) off in
+    let frame : first.restart ≡ false = ap (λ (b : Beam). b.restart) told ∙ no_frame (start_leaves inside.crtc) off in
     let m = n - 1 in
     let all : suc m ≡ n = omega (arith, some) in
     let ma : first.ma ≡ address (start_leaves inside.crtc) = ap (λ (b : Beam). b.ma) told in

@@ -6,8 +6,6 @@ pub mod Quiet
 pub mod ReadBytes
 pub mod RestMany
 pub mod Spans
-pub mod FromSync
 pub mod FromStart
-pub mod HiddenRow
 pub mod Micros
 pub mod Cells

@@ -1,7 +1,9 @@
 -- Several characters of a span at once.
-use Rattle.std.proofs.Common.{◌≡◌, ◌∙◌, sym, ap, refl, ℕ, zero, suc, ◌+◌, ◌*◌, ◌%◌, ◌<◌, ◌≤◌, ◌++◌, ◌&&◌, ◌||◌, Bool, true, false, min, List, length, length-append, drop, replicate, arith, inl, inr}
-use Rattle.std.specs.Prelude.{slice_index, if◌then◌else◌}
+use Rattle.std.proofs.Common.{◌≡◌, ◌∙◌, sym, ap, refl, ℕ, zero, suc, ◌+◌, ◌-◌, ◌*◌, ◌%◌, ◌<◌, ◌≤◌, ◌++◌, ◌==◌, ◌&&◌, ◌||◌, Bool, true, false, min}
+use Rattle.std.proofs.Common.{List, length, length-append, drop, replicate, arith, inl, inr}
+use Rattle.std.specs.Prelude.{slice_index, nat_lt, if◌then◌else◌}
 use Rattle.std.proofs.lemmas.Bool.{cases_lt}
+use Rattle.std.proofs.lemmas.Bool.Decides.{nat_tests}
 use Rattle.std.proofs.lemmas.List.{get_or-drop, replicate-append-replicate}
 use Rattle.beeb_bits.specs.Bits.{bit}
 use Rattle.crtc6845.specs.declared.Beam.{Beam}
@@ -9,6 +11,7 @@ use Rattle.crtc6845.specs.declared.Span.{Span}
 use Rattle.crtc6845.specs.State.{State as CrtcState}
 use Rattle.crtc6845.specs.Clock.{beam_of, clock_leaves}
 use Rattle.crtc6845.specs.Laws.{clocks}
+use Rattle.crtc6845.specs.Spans.{beam_in_span}
 use Rattle.video_ula.specs.State.{State as UlaState}
 use Rattle.video_ula.specs.Pixels.{dots_of, colours, side_by_side, row_colours}
 use Rattle.saa5050.specs.Shapes.{Font}
@@ -17,7 +20,7 @@ use Rattle.raster.specs.Frame.{dots_set, is_in_frame}
 use Rattle.raster.specs.Text.{Text}
 use Rattle.raster.specs.State.{State, first_cursor}
 use Rattle.raster.specs.Clock.{byte_dots, draw_byte_leaves, draw_cell_leaves, draw_leaves, show_leaves, pass_leaves, tell_leaves, char_clock_leaves}
-use Rattle.raster.specs.CodeSteps.{char_clocks, drawn_ahead, ArePlain, AreApart, byte_row, bytes_put}
+use Rattle.raster.specs.CodeSteps.{char_clocks, drawn_ahead, ArePlain, AreApart, byte_row, bytes_put, place_in_span}
 use Rattle.raster.proofs.Drawing.{dots_set-append, past_the_end, all_outside}
 use Rattle.raster.proofs.Quiet.{cursor_far}
 use Rattle.raster.proofs.ReadBytes.{control_by, char_crtc, char_ula}
@@ -68,9 +71,13 @@ beam_with span k cursor sync = record {
   restart = false;
 }
 
-told_plain : (span : Span) (n : ℕ) (s : State) (k : ℕ) → ArePlain span n s → k < n → beam_of (clocks k s.crtc) ≡ plain_beam span k
+early : (k to n : ℕ) → k < n → n ≤ to → (k == to) ≡ false
+early k to n below h = grind (arith, nat_tests)
+
+told_plain : (span : Span) (n : ℕ) (s : State) (k : ℕ) → ArePlain span n s → span.shown ≡ true → k < n → beam_of (clocks k s.crtc) ≡ plain_beam span k
 unfolding plain_beam beam_with
-told_plain span n s k h below = h.told k below ∙ rw (h.cursor, h.sync) refl
+told_plain span n s k h shown below =
+    h.told k below ∙ ap (λ (sync : Bool). beam_with span k (span.cursor && k == 0) sync) (early k span.to_sync n below (h.sync shown)) ∙ rw h.cursor refl
 
 -- n characters further, with this text and this frame
 abbrev pub built : ℕ → Text → List ℕ → State → State
@@ -81,19 +88,14 @@ built k text working s = record s {
   working = working;
 }
 
-pub shown_here_by : (ram : List ℕ) (size : ℕ) (font : Font) (span : Span) (s : State) (k : ℕ) (text : Text) (working : List ℕ) → beam_of (clocks k s.crtc) ≡ plain_beam span k →
+pub shown_here : (ram : List ℕ) (size : ℕ) (font : Font) (span : Span) (n : ℕ) (s : State) (k : ℕ) (text : Text) (working : List ℕ) → ArePlain span n s → span.shown ≡ true → k < n →
     char_clock_leaves ram size font (built k text working s)
     ≡ pass_leaves (plain_beam span k) (show_leaves ram size font (plain_beam span k) (record (built k text working s) { crtc = clocks (suc k) s.crtc }))
 unfolding char_clock_leaves plain_beam
-shown_here_by ram size font span s k text working told =
+shown_here ram size font span n s k text working h shown below =
     let here = built k text working s in
-    ap (λ (b : Beam). tell_leaves ram size font b (record here { crtc = clock_leaves (clocks k s.crtc) })) told
+    ap (λ (b : Beam). tell_leaves ram size font b (record here { crtc = clock_leaves (clocks k s.crtc) })) (told_plain span n s k h shown below)
     ∙ ap (λ (c : CrtcState). tell_leaves ram size font (plain_beam span k) (record here { crtc = c })) (sym (clocks_behind k s.crtc))
-
-pub shown_here : (ram : List ℕ) (size : ℕ) (font : Font) (span : Span) (n : ℕ) (s : State) (k : ℕ) (text : Text) (working : List ℕ) → ArePlain span n s → k < n →
-    char_clock_leaves ram size font (built k text working s)
-    ≡ pass_leaves (plain_beam span k) (show_leaves ram size font (plain_beam span k) (record (built k text working s) { crtc = clocks (suc k) s.crtc }))
-shown_here ram size font span n s k text working h below = shown_here_by ram size font span s k text working (told_plain span n s k h below)
 
 further : (k d : ℕ) (p : Place) → place_past d (place_past (k * d) p) ≡ place_past (suc k * d) p
 further k d p =
@@ -121,24 +123,92 @@ pub fewer : (span : Span) (n m : ℕ) (s : State) → n ≤ m → ArePlain span 
 fewer span n m s few h = record {
   told = λ k below. h.told k (omega (arith, below, few));
   cursor = h.cursor;
-  sync = h.sync;
+  sync = λ shown. let all = h.sync shown in omega (arith, all, few);
   far = h.far;
 }
 
--- characters that are not shown
-pub not_shown : (ram : List ℕ) (size : ℕ) (font : Font) (span : Span) (k : ℕ) (t : State) → span.shown ≡ false → show_leaves ram size font (plain_beam span k) t ≡ t
-unfolding plain_beam
-not_shown ram size font span k t not = rw not refl
+-- characters that are not shown: where the beam is before horizontal sync, and from it on
+pick_place : (b : Bool) (p q : Place) → b ≡ true → (if b then p else q) ≡ p
+pick_place b p q is = rw is refl
+
+other_place : (b : Bool) (p q : Place) → b ≡ false → (if b then p else q) ≡ q
+other_place b p q is = rw is refl
+
+before_sync : (to n d : ℕ) (p : Place) → n ≤ to → place_in_span to n d p ≡ place_past (n * d) p
+before_sync to n d p h = other_place (nat_lt to n) (place_past ((n - to) * d) (record p { x = 0 })) (place_past (n * d) p) (grind (arith, nat_tests))
+
+from_sync : (to n d : ℕ) (p : Place) → to < n → place_in_span to n d p ≡ place_past ((n - to) * d) (record p { x = 0 })
+from_sync to n d p h = pick_place (nat_lt to n) (place_past ((n - to) * d) (record p { x = 0 })) (place_past (n * d) p) (grind (arith, nat_tests))
+
+abbrev place_next : Bool → ℕ → Place → Place
+place_next sync d p = place_past d (record { x = if sync then 0 else p.x; y = p.y })
+
+place_more : (to n d : ℕ) (p : Place) → place_next (n == to) d (place_in_span to n d p) ≡ place_in_span to (suc n) d p
+place_more to n d p = elim (cases_lt n to) [
+  | inl less ↦
+      let no : (n == to) ≡ false = grind (arith, nat_tests) in
+      ap (λ (b : Bool). place_next b d (place_in_span to n d p)) no ∙ ap (λ (q : Place). place_next false d q) (before_sync to n d p (omega (arith, less)))
+      ∙ further n d p ∙ sym (before_sync to (suc n) d p (omega (arith, less)))
+  | inr late ↦ elim (cases_lt to n) [
+    | inl past ↦
+        let no : (n == to) ≡ false = grind (arith, nat_tests) in
+        let z : suc (n - to) ≡ suc n - to = omega (arith, past) in
+        ap (λ (b : Bool). place_next b d (place_in_span to n d p)) no ∙ ap (λ (q : Place). place_next false d q) (from_sync to n d p past)
+        ∙ further (n - to) d (record p { x = 0 }) ∙ ap (λ k. place_past (k * d) (record p { x = 0 })) z ∙ sym (from_sync to (suc n) d p (omega (arith, past)))
+    | inr at ↦
+        let yes : (n == to) ≡ true = grind (arith, nat_tests) in
+        let one : suc n - to ≡ 1 = omega (arith, late, at) in
+        let z : d ≡ 1 * d = omega arith in
+        ap (λ (b : Bool). place_next b d (place_in_span to n d p)) yes ∙ ap (λ (q : Place). place_next true d q) (before_sync to n d p at)
+        ∙ ap (λ k. place_past k (record p { x = 0 })) z ∙ ap (λ k. place_past (k * d) (record p { x = 0 })) (sym one)
+        ∙ sym (from_sync to (suc n) d p (omega (arith, late)))
+  ]
+]
+
+abbrev hidden_beam : Span → ℕ → Beam
+hidden_beam span k = record {
+  shown = false;
+  ma = (span.ma + k) % 16384;
+  ra = span.ra;
+  cursor = false;
+  line_start = false;
+  sync_start = k == span.to_sync;
+  frame_end = false;
+  fields = span.fields;
+  row_end = false;
+  restart = false;
+}
+
+hidden_told : (span : Span) (k : ℕ) → span.shown ≡ false → span.cursor ≡ false → beam_in_span span k ≡ hidden_beam span k
+hidden_told span k hidden cursor = rw (hidden, cursor) refl
+
+hidden_clock : (ram : List ℕ) (size : ℕ) (font : Font) (span : Span) (k : ℕ) (t : State) → beam_of t.crtc ≡ hidden_beam span k →
+    char_clock_leaves ram size font t
+    ≡ record t { crtc = clock_leaves t.crtc; place = place_next (k == span.to_sync) (dots_of t.ula.control) t.place; cursor = cursor_past false t.cursor }
+unfolding char_clock_leaves
+hidden_clock ram size font span k t told = ap (λ (b : Beam). tell_leaves ram size font b (record t { crtc = clock_leaves t.crtc })) told
 
 pub hidden_row : (ram : List ℕ) (size : ℕ) (font : Font) (span : Span) (m n : ℕ) (s : State) → ArePlain span m s → n ≤ m → span.shown ≡ false → s.place.x ≤ 4095 →
-    char_clocks ram size font n s ≡ built n s.text s.working s
-hidden_row ram size font span m zero s h few not small = sym (none_built s small)
-hidden_row ram size font span m (suc n) s h few not small =
+    char_clocks ram size font n s ≡ record s { crtc = clocks n s.crtc; place = place_in_span span.to_sync n (dots_of s.ula.control) s.place }
+hidden_row ram size font span m zero s h few hidden small =
+    let z : min (s.place.x + 0 * dots_of s.ula.control) 4095 ≡ s.place.x = omega (arith, small) in
+    sym (ap (λ (p : Place). record s { place = p }) (before_sync span.to_sync 0 (dots_of s.ula.control) s.place (omega arith) ∙ ap (λ (x : ℕ). record s.place { x = x }) z))
+hidden_row ram size font span m (suc n) s h few hidden small =
+    let d = dots_of s.ula.control in
+    let to = span.to_sync in
+    let here : State = record s { crtc = clocks n s.crtc; place = place_in_span to n d s.place } in
+    let next = λ (c : CrtcState) (p : Place) (cursor : Cursor). record s { crtc = c; place = p; cursor = cursor } in
     chars_behind ram size font n s
-    ∙ ap (λ (t : State). char_clock_leaves ram size font t) (hidden_row ram size font span m n s h (omega (arith, few)) not small)
-    ∙ shown_here ram size font span m s n s.text s.working h (omega (arith, few))
-    ∙ ap (λ (t : State). pass_leaves (plain_beam span n) t) (not_shown ram size font span n _ not)
-    ∙ passed span n s.text s.working s h.far
+    ∙ ap (λ (t : State). char_clock_leaves ram size font t) (hidden_row ram size font span m n s h (omega (arith, few)) hidden small)
+    ∙ hidden_clock ram size font span n here (h.told n (omega (arith, few)) ∙ hidden_told span n hidden h.cursor)
+    ∙ ap (λ (c : CrtcState). next c (place_next (n == to) d (place_in_span to n d s.place)) (cursor_past false s.cursor)) (sym (clocks_behind n s.crtc))
+    ∙ ap (λ (p : Place). next (clocks (suc n) s.crtc) p (cursor_past false s.cursor)) (place_more to n d s.place)
+    ∙ ap (λ (c : Cursor). next (clocks (suc n) s.crtc) (place_in_span to (suc n) d s.place) c) (sym (cursor_far s.cursor h.far))
+
+pub hidden_drawn : (ram : List ℕ) (size : ℕ) (font : Font) (span : Span) (n : ℕ) (s : State) → ArePlain span n s → span.shown ≡ false → s.place.x ≤ 4095 →
+    s ≡ drawn_ahead ram size font n s
+hidden_drawn ram size font span n s h hidden small =
+    ap (λ (t : State). record t { crtc = s.crtc; place = s.place }) (sym (hidden_row ram size font span n n s h (omega arith) hidden small))
 
 -- characters that are shown, without teletext
 abbrev pub span_dots : List ℕ → ℕ → Span → State → ℕ → List ℕ
@@ -214,7 +284,7 @@ shown_row ram size font span m (suc n) s h few shown bits small =
     let long : length (side_by_side dots n) ≡ n * d = row_long dots d n (λ k. dots_long s.ula (slice_index ram (byte_address ((span.ma + k) % 16384) span.ra size)) span.ra false) in
     chars_behind ram size font n s
     ∙ ap (λ (t : State). char_clock_leaves ram size font t) (shown_row ram size font span m n s h (omega (arith, few)) shown bits small)
-    ∙ shown_here ram size font span m s n s.text (row_set ram size span s n) h (omega (arith, few))
+    ∙ shown_here ram size font span m s n s.text (row_set ram size span s n) h shown (omega (arith, few))
     ∙ ap (λ (t : State). pass_leaves (plain_beam span n) t)
     (draws ram size font span n (record (built n s.text (row_set ram size span s n) s) { crtc = clocks (suc n) s.crtc }) shown bits h.far)
     ∙ passed span n s.text (dots_set 240 (min (s.place.x + n * d) 4095) s.place.y (dots n) (row_set ram size span s n)) s h.far
@@ -278,19 +348,19 @@ char_cursor ram size font span k t told far =
     ∙ ap (λ (c : Cursor). cursor_past false c) (show_cursor ram size font (plain_beam span k) d)
     ∙ sym (cursor_far t.cursor far)
 
-pub goes_ahead : (ram : List ℕ) (size : ℕ) (font : Font) (span : Span) (m n : ℕ) (s : State) → ArePlain span m s → n ≤ m → s.place.x ≤ 4095 →
+goes_ahead : (ram : List ℕ) (size : ℕ) (font : Font) (span : Span) (m n : ℕ) (s : State) → ArePlain span m s → n ≤ m → span.shown ≡ true → s.place.x ≤ 4095 →
     IsAhead n s (char_clocks ram size font n s)
-goes_ahead ram size font span m zero s h few small = record {
+goes_ahead ram size font span m zero s h few shown small = record {
   crtc = refl;
   ula = refl;
   place = let z : s.place.x ≡ min (s.place.x + 0 * dots_of s.ula.control) 4095 = omega (arith, small) in ap (λ (x : ℕ). record s.place { x = x }) z;
   cursor = refl;
 }
-goes_ahead ram size font span m (suc n) s h few small =
+goes_ahead ram size font span m (suc n) s h few shown small =
     let t = char_clocks ram size font n s in
-    let i = goes_ahead ram size font span m n s h (omega (arith, few)) small in
+    let i = goes_ahead ram size font span m n s h (omega (arith, few)) shown small in
     let behind = chars_behind ram size font n s in
-    let told : beam_of t.crtc ≡ plain_beam span n = ap (λ (c : CrtcState). beam_of c) i.crtc ∙ told_plain span m s n h (omega (arith, few)) in
+    let told : beam_of t.crtc ≡ plain_beam span n = ap (λ (c : CrtcState). beam_of c) i.crtc ∙ told_plain span m s n h shown (omega (arith, few)) in
     record {
       crtc = ap (λ (x : State). x.crtc) behind ∙ char_crtc ram size font t ∙ ap (λ (c : CrtcState). clock_leaves c) i.crtc ∙ sym (clocks_behind n s.crtc);
       ula = ap (λ (x : State). x.ula) behind ∙ char_ula ram size font t ∙ i.ula;
@@ -301,15 +371,28 @@ goes_ahead ram size font span m (suc n) s h few small =
     }
 
 -- what was drawn ahead is whole when the 6845 and the beam's place have come there
-pub caught_up : (ram : List ℕ) (size : ℕ) (font : Font) (span : Span) (n : ℕ) (s t u : State) → ArePlain span n s → s.place.x ≤ 4095 →
-    t ≡ drawn_ahead ram size font n s → u ≡ record t { crtc = clocks n t.crtc; place = place_past (n * dots_of t.ula.control) t.place } → u ≡ char_clocks ram size font n s
-caught_up ram size font span n s t u h small drawn is =
+abbrev come : ℕ → ℕ → State → State
+come to n t = record t { crtc = clocks n t.crtc; place = place_in_span to n (dots_of t.ula.control) t.place }
+
+caught_up_by : (shown : Bool) (ram : List ℕ) (size : ℕ) (font : Font) (span : Span) (n : ℕ) (s : State) → span.shown ≡ shown → ArePlain span n s → s.place.x ≤ 4095 →
+    come span.to_sync n (drawn_ahead ram size font n s) ≡ char_clocks ram size font n s
+caught_up_by true ram size font span n s shown h small =
     let all = char_clocks ram size font n s in
-    let i = goes_ahead ram size font span n n s h (omega arith) small in
-    is ∙ ap (λ (t : State). record t { crtc = clocks n t.crtc; place = place_past (n * dots_of t.ula.control) t.place }) drawn
-    ∙ ap (λ (w : UlaState). record all { crtc = clocks n s.crtc; place = place_past (n * dots_of w.control) s.place }) i.ula
-    ∙ ap (λ (c : CrtcState). record all { crtc = c; place = place_past (n * dots_of s.ula.control) s.place }) (sym i.crtc)
+    let i = goes_ahead ram size font span n n s h (omega arith) shown small in
+    let place = place_past (n * dots_of s.ula.control) s.place in
+    ap (λ (w : UlaState). record all { crtc = clocks n s.crtc; place = place_in_span span.to_sync n (dots_of w.control) s.place }) i.ula
+    ∙ ap (λ (p : Place). record all { crtc = clocks n s.crtc; place = p }) (before_sync span.to_sync n (dots_of s.ula.control) s.place (h.sync shown))
+    ∙ ap (λ (c : CrtcState). record all { crtc = c; place = place }) (sym i.crtc)
     ∙ ap (λ (p : Place). record all { place = p }) (sym i.place)
+caught_up_by false ram size font span n s hidden h small =
+    ap (λ (t : State). come span.to_sync n t) (sym (hidden_drawn ram size font span n s h hidden small))
+    ∙ sym (hidden_row ram size font span n n s h (omega arith) hidden small)
+
+pub caught_up : (ram : List ℕ) (size : ℕ) (font : Font) (span : Span) (n : ℕ) (s t u : State) → ArePlain span n s → s.place.x ≤ 4095 →
+    t ≡ drawn_ahead ram size font n s → u ≡ record t { crtc = clocks n t.crtc; place = place_in_span span.to_sync n (dots_of t.ula.control) t.place } →
+    u ≡ char_clocks ram size font n s
+caught_up ram size font span n s t u h small drawn is =
+    is ∙ ap (λ (t : State). come span.to_sync n t) drawn ∙ caught_up_by span.shown ram size font span n s refl h small
 
 -- ---- by the bytes of the RAM
 

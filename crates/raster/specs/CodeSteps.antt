@@ -35,11 +35,12 @@ char_clocks ram size font (suc n) s = char_clocks ram size font n (char_clock_le
 abbrev pub drawn_ahead : List ℕ → ℕ → Font → ℕ → State → State
 drawn_ahead ram size font n s = record (char_clocks ram size font n s) { crtc = s.crtc; place = s.place }
 
--- n characters come as the span tells them, no horizontal sync begins with any, and the cursor is on none of them and not near.
+-- n characters come as the span tells them, the cursor is on none of them and not near, and where they are shown horizontal sync begins
+-- with none.
 pub record ArePlain (span : Span) (n : ℕ) (s : State) : Type 0 where
   pub told : (k : ℕ) → k < n → beam_of (clocks k s.crtc) ≡ beam_in_span span k
   pub cursor : span.cursor ≡ false
-  pub sync : span.sync ≡ false
+  pub sync : span.shown ≡ true → n ≤ span.to_sync
   pub far : s.cursor ≡ first_cursor
 
 -- Behind a character that a clock told come n that are shown beside it, and the cursor is on none of them and not near.
@@ -62,9 +63,9 @@ byte_row ram size ma ra u n = side_by_side (λ k. colours u (slice_index ram (by
 abbrev pub bytes_put : List ℕ → ℕ → ℕ → ℕ → ℕ → State → State
 bytes_put ram size ma ra n s = record s { working = dots_set 240 s.place.x s.place.y (byte_row ram size ma ra s.ula n) s.working }
 
--- Where n characters of d dots leave the beam that are not shown: horizontal sync begins behind so many of them, or later.
-abbrev pub place_hidden : ℕ → ℕ → ℕ → Place → Place
-place_hidden to_sync n d p = if nat_lt to_sync n then place_past ((n - to_sync) * d) (record p { x = 0 }) else place_past (n * d) p
+-- Where n characters of d dots leave the beam: horizontal sync begins behind so many of them, or later.
+abbrev pub place_in_span : ℕ → ℕ → ℕ → Place → Place
+place_in_span to_sync n d p = if nat_lt to_sync n then place_past ((n - to_sync) * d) (record p { x = 0 }) else place_past (n * d) p
 
 -- how many dots a character has
 abbrev pub wide : Bool → ℕ

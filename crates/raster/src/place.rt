@@ -2,7 +2,7 @@
 ghost use Rattle.std.specs.Prelude.{◌≡◌, ◌+◌, ◌*◌, ◌≤◌, ◌==◌, min, if◌then◌else◌};
 ghost use Rattle.raster.specs.Beam.{place_at, place_past};
 ghost use Rattle.raster.specs.State.{first_place};
-ghost use Rattle.raster.specs.CodeSteps.{place_hidden};
+ghost use Rattle.raster.specs.CodeSteps.{place_in_span};
 
 use crtc6845::{Beam, Finished};
 use std::marker::Model;
@@ -65,16 +65,6 @@ impl Place {
         }
     }
 
-    /// It goes down a line.
-    #[inline(always)]
-    pub(crate) fn fall(&mut self)
-        ensures { self.new ≡ record self.old { y = min (self.old.y + 1) 1023 } }
-    {
-        if self.y < MOST_LINES {
-            self.y += 1;
-        }
-    }
-
     /// It goes down so many lines of a character each, some of which begin vertical sync.
     pub(crate) fn rest(&mut self, n: u64, done: Finished)
         ensures place { self.new ≡ record self.old {
@@ -107,6 +97,19 @@ impl Place {
         self.eights = (self.eights + eights).min(MOST_EIGHTS);
     }
 
+    /// It leaves `n` characters of 8 or 16 dots: horizontal sync begins behind so many of them, or later.
+    #[inline(always)]
+    pub(crate) fn pass_span(&mut self, narrow: bool, to_sync: u16, n: u16)
+        ensures { self.new ≡ place_in_span to_sync n (if narrow then 8 else 16) self.old }
+    {
+        if to_sync < n {
+            self.start_sync();
+            self.pass_many(narrow, n - to_sync);
+        } else {
+            self.pass_many(narrow, n);
+        }
+    }
+
     /// It leaves `n` characters of 8 or 16 dots.
     #[inline(always)]
     pub(crate) fn pass_many(&mut self, narrow: bool, n: u16)
@@ -115,18 +118,5 @@ impl Place {
         let eights = if narrow { 1 } else { 2 };
         let all = u32::from(self.eights) + eights * u32::from(n);
         self.eights = all.min(u32::from(MOST_EIGHTS)) as u16;
-    }
-
-    /// It leaves `n` characters of 8 or 16 dots that are not shown: horizontal sync begins behind so many of them, or later.
-    #[inline(always)]
-    pub(crate) fn pass_hidden(&mut self, narrow: bool, to_sync: u16, n: u16)
-        ensures { self.new ≡ place_hidden to_sync n (if narrow then 8 else 16) self.old }
-    {
-        if to_sync < n {
-            self.start_sync();
-            self.pass_many(narrow, n - to_sync);
-        } else {
-            self.pass_many(narrow, n);
-        }
     }
 }

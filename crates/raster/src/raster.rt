@@ -95,44 +95,7 @@ impl Raster {
         requires size { IsScreenSize size }
         ensures { self.new ≡ char_clock_leaves ram.now size font.now.font self.old }
     {
-        if !self.screen.crtc.is_edge() {
-            self.screen.clock_inside(ram, size, font);
-        } else if self.screen.crtc.is_quiet() {
-            self.quiet = self.screen.clock_quiet();
-        } else {
-            self.quiet = false;
-            self.screen.clock_at_edge(ram, size, font);
-        }
-    }
-
-    /// Does one microsecond: two character clocks where the ULA has set the clock of 2 MHz as it begins, else one. `ram` and `size` are as
-    /// at `char_clock`.
-    #[inline(always)]
-    pub fn step(&mut self, ram: &[u8], size: u16, font: &Letters)
-        requires ram { length ram.now ≡ 32768 }
-        requires size { IsScreenSize size }
-        ensures { self.new ≡ microsecond ram.now size font.now.font self.old }
-    {
-        if self.quiet && self.screen.crtc.clock_within_sync() {
-            // Nothing else goes on then.
-            self.screen.place.fall();
-        } else {
-            self.step_in_full(ram, size, font);
-        }
-    }
-
-    // Does any microsecond.
-    #[inline(always)]
-    fn step_in_full(&mut self, ram: &[u8], size: u16, font: &Letters)
-        requires ram { length ram.now ≡ 32768 }
-        requires size { IsScreenSize size }
-        ensures { self.new ≡ microsecond ram.now size font.now.font self.old }
-    {
-        let both = bit(self.screen.ula.mode(), 4);
-        self.char_clock(ram, size, font);
-        if both {
-            self.char_clock(ram, size, font);
-        }
+        self.quiet = self.screen.clock(ram, size, font);
     }
 
     /// Does `n` microseconds: of two character clocks each where the ULA has set the clock of 2 MHz, else of one. `ram` and `size` are as
@@ -191,27 +154,12 @@ impl Raster {
             self.screen.rest(most);
             most
         } else if self.screen.crtc.ends_line() {
-            self.end_line(ram, size, font);
+            self.char_clock(ram, size, font);
             1
         } else if self.screen.crtc.starts_line() {
             self.screen.stretch_from_start(ram, size, font, most)
         } else {
             self.screen.stretch(ram, size, font, most)
-        }
-    }
-
-    // Does the last clock of a line.
-    #[inline(always)]
-    fn end_line(&mut self, ram: &[u8], size: u16, font: &Letters)
-        requires ram { length ram.now ≡ 32768 }
-        requires size { IsScreenSize size }
-        ensures { self.new ≡ char_clock_leaves ram.now size font.now.font self.old }
-    {
-        if !self.screen.crtc.starts_line() && self.screen.crtc.ends_inner_line() {
-            self.quiet = false;
-            self.screen.clock_at_inner_end(ram, size, font);
-        } else {
-            self.char_clock(ram, size, font);
         }
     }
 

@@ -2,9 +2,9 @@
 ghost use Rattle.std.specs.Prelude.{◌≡◌, ◌<◌, ◌≤◌, ◌+◌, ◌-◌, ◌*◌, ◌%◌, min, ℕ, List, false, true, length, map, take, IfOk, if◌then◌else◌};
 ghost use Rattle.beeb_bits.specs.Bits.{bit};
 ghost use Rattle.video_ula.specs.Pixels.{dots_of, under_cursor, side_by_side};
-ghost use Rattle.crtc6845.specs.Clock.{starts_line, is_shown, ends_line, beam_of};
+ghost use Rattle.crtc6845.specs.Clock.{starts_line, ends_line, beam_of};
 ghost use Rattle.crtc6845.specs.Spans.{inside_clocks, beam_in_span};
-ghost use Rattle.crtc6845.specs.CodeSteps.{ends_inner_line, is_quiet};
+ghost use Rattle.crtc6845.specs.CodeSteps.{is_quiet};
 ghost use Rattle.crtc6845.specs.Laws.{clocks};
 ghost use Rattle.crtc6845.specs.Rests.{frames_in, clocks_past_frame};
 ghost use Rattle.saa5050.specs.Shapes.{Font};
@@ -12,8 +12,8 @@ ghost use Rattle.raster.specs.Beam.{IsScreenSize, place_past};
 ghost use Rattle.raster.specs.Frame.{black, dots_set};
 ghost use Rattle.raster.specs.State.{power_on, first_cursor};
 ghost use Rattle.raster.specs.CodeQuiet.{IsQuiet};
-ghost use Rattle.raster.specs.CodeSteps.{cell_drawn_on, char_clocks, drawn_ahead, ArePlain, AreBehind, bytes_put, place_hidden, code_in, texts, cells};
-ghost use Rattle.raster.specs.Clock.{begin_leaves, byte_dots, draw_byte_leaves, cell_dots, draw_cell_leaves, draw_leaves, show_leaves, pass_leaves, tell_leaves, char_clock_leaves, microseconds};
+ghost use Rattle.raster.specs.CodeSteps.{cell_drawn_on, char_clocks, drawn_ahead, ArePlain, AreBehind, bytes_put, place_in_span, code_in, texts, cells};
+ghost use Rattle.raster.specs.Clock.{begin_leaves, byte_dots, draw_byte_leaves, cell_dots, draw_cell_leaves, draw_leaves, show_leaves, pass_leaves, char_clock_leaves, microseconds};
 
 use crate::beam::{Cursor, byte_address, bytes_from};
 use crate::canvas::{Canvas, inside, outside};
@@ -89,14 +89,14 @@ fn mark(dots: &mut [u8; 16], marked: bool)
 fn follows(span: &Span, first: &Beam) -> bool
     ensures shown { result ≡ true → span.now.shown ≡ true }
     ensures cursor { result ≡ true → span.now.cursor ≡ false }
-    ensures sync { result ≡ true → span.now.sync ≡ false }
+    ensures sync { result ≡ true → 0 < span.now.to_sync }
     ensures ra { result ≡ true → span.now.ra ≡ first.now.ra }
     ensures ma { result ≡ true → span.now.ma ≡ first.now.ma + 1 }
     ensures page { result ≡ true → 0 < span.now.ma % 1024 }
 {
     span.shown
         && !span.cursor
-        && !span.sync
+        && span.to_sync != 0
         && span.ra == first.ra
         && span.ma % 1024 != 0
         && span.ma - 1 == first.ma
@@ -158,20 +158,6 @@ impl Screen {
         &self.finished.frame
     }
 
-    /// Does one character clock of a 6845 that is quiet. It tells whether the screen is quiet then.
-    #[inline(never)]
-    pub(crate) fn clock_quiet(&mut self) -> bool
-        requires { is_quiet self.old.crtc ≡ true }
-        ensures state { (ram : List ℕ) (size : ℕ) (font : Font) → self.new ≡ char_clock_leaves ram size font self.old }
-        ensures quiet { result ≡ true → IsQuiet self.new }
-    {
-        let before = self.place.x();
-        let beam = self.crtc.clock_quiet();
-        self.begin(&beam);
-        self.pass(&beam);
-        self.stays_at(before)
-    }
-
     /// Does `n` microseconds of a screen that is quiet.
     pub(crate) fn rest(&mut self, n: u64)
         requires { IsQuiet self.old }
@@ -205,52 +191,33 @@ impl Screen {
         done.frames
     }
 
-    // The beam is at `x` again, and no cursor and no second character clock makes a difference.
+    // The 6845 was quiet, the beam is at `x` again, and no cursor and no second character clock makes a difference.
     #[inline(always)]
-    fn stays_at(&self, x: u16) -> bool
+    fn is_settled(&self, rests: bool, x: u16) -> bool
+        ensures rests { result ≡ true → rests ≡ true }
         ensures back { result ≡ true → self.now.place.x ≡ x }
         ensures far { result ≡ true → self.now.cursor ≡ first_cursor }
         ensures clock { result ≡ true → bit self.now.ula.control 4 ≡ false }
     {
-        self.place.x() == x && self.cursor.is_clear() && !bit(self.ula.mode(), 4)
+        rests && self.place.x() == x && self.cursor.is_clear() && !bit(self.ula.mode(), 4)
     }
 
-    /// Does any character clock.
+    /// Does one character clock, and tells whether the screen is known to be quiet then.
     #[inline(never)]
-    pub(crate) fn clock_at_edge(&mut self, ram: &[u8], size: u16, font: &Letters)
+    pub(crate) fn clock(&mut self, ram: &[u8], size: u16, font: &Letters) -> bool
         requires ram { length ram.now ≡ 32768 }
         requires size { IsScreenSize size }
-        ensures { self.new ≡ char_clock_leaves ram.now size font.now.font self.old }
+        ensures state { self.new ≡ char_clock_leaves ram.now size font.now.font self.old }
+        ensures quiet { result ≡ true → IsQuiet self.new }
     {
+        clocks_at_rest_are_alike();
+        let rests = self.crtc.is_quiet();
+        let before = self.place.x();
         let beam = self.crtc.clock();
         self.begin(&beam);
         self.show(ram, size, font, &beam);
         self.pass(&beam);
-    }
-
-    /// Does one inside a line.
-    #[inline(always)]
-    pub(crate) fn clock_inside(&mut self, ram: &[u8], size: u16, font: &Letters)
-        requires ram { length ram.now ≡ 32768 }
-        requires size { IsScreenSize size }
-        requires inside { (starts_line self.old.crtc ≡ false) × (ends_line self.old.crtc ≡ false) }
-        ensures { self.new ≡ char_clock_leaves ram.now size font.now.font self.old }
-    {
-        let beam = self.crtc.clock_inside();
-        self.tell_inside(ram, size, font, &beam);
-    }
-
-    /// Does the last clock of a line after which the row goes on.
-    #[inline(always)]
-    pub(crate) fn clock_at_inner_end(&mut self, ram: &[u8], size: u16, font: &Letters)
-        requires ram { length ram.now ≡ 32768 }
-        requires size { IsScreenSize size }
-        requires start { starts_line self.old.crtc ≡ false }
-        requires end { ends_inner_line self.old.crtc ≡ true }
-        ensures { self.new ≡ char_clock_leaves ram.now size font.now.font self.old }
-    {
-        let beam = self.crtc.clock_at_inner_end();
-        self.tell_inside(ram, size, font, &beam);
+        self.is_settled(rests, before)
     }
 
     /// Does character clocks from the first of a line on that has more, at least one and at most `most`, and tells how many.
@@ -271,12 +238,12 @@ impl Screen {
         ensures most { result ≤ most }
         ensures state { self.new ≡ char_clocks ram.now size font.now.font result self.old }
     {
-        let first = self.crtc.clock_at_start();
+        let first = self.crtc.clock();
         self.begin(&first);
         let n = self.draw_from_first(ram, size, &first, most);
         if n == 0 {
             self.show(ram, size, font, &first);
-            self.pass_first(&first);
+            self.pass(&first);
             return 1;
         }
         self.pass_row(n);
@@ -298,26 +265,15 @@ impl Screen {
         self.crtc.pass(n - 1);
     }
 
-    // The beam leaves the first character of a line, which is not the last of it.
-    #[inline(always)]
-    fn pass_first(&mut self, first: &Beam)
-        requires row { first.now.row_end ≡ false }
-        requires frame { first.now.restart ≡ false }
-        ensures { self.new ≡ pass_leaves first.now self.old }
-    {
-        self.place.pass(bit(self.ula.mode(), 4));
-        self.cursor.pass(first.cursor);
-    }
-
     // Draws the character that was just told and some behind it, at most `most` in all, and tells how many: 0 where it is to be done by
     // itself.
     #[inline(always)]
     fn draw_from_first(&mut self, ram: &[u8], size: u16, first: &Beam, most: u64) -> u16
         requires ram { length ram.now ≡ 32768 }
         requires size { IsScreenSize size }
-        requires start { starts_line self.old.crtc ≡ false }
         ensures most { result ≤ most }
         ensures behind { 0 < result → AreBehind first.now (result - 1) self.old }
+        ensures start { 0 < result → starts_line self.old.crtc ≡ false }
         ensures inside { 0 < result → result - 1 ≤ inside_clocks self.old.crtc }
         ensures put { self.new ≡ bytes_put ram.now size first.now.ma first.now.ra result self.old }
     {
@@ -351,64 +307,28 @@ impl Screen {
         ensures most { result ≤ most }
         ensures state { self.new ≡ char_clocks ram.now size font.now.font result self.old }
     {
-        if !self.crtc.is_shown() && self.is_cursor_far() {
-            return self.stretch_hidden(most);
-        }
         let span = self.crtc.span();
         let most = most.min(u64::from(span.clocks)) as u16;
         let n = self.draw_some(ram, size, font, span, most);
         if n == 0 {
-            self.clock_inside(ram, size, font);
+            self.clock(ram, size, font);
             return 1;
         }
-        self.pass_span(n);
+        self.pass_span(span.to_sync, n);
         u64::from(n)
     }
 
-    // The same where nothing is shown: horizontal sync may begin with one of them.
+    // The beam goes past characters of a span: horizontal sync begins behind so many of them, or later.
     #[inline(always)]
-    fn stretch_hidden(&mut self, most: u64) -> u64
-        requires start { starts_line self.old.crtc ≡ false }
-        requires end { ends_line self.old.crtc ≡ false }
-        requires hidden { is_shown self.old.crtc ≡ false }
-        requires far { self.old.cursor ≡ first_cursor }
-        requires counted { self.old.place.x ≤ 4095 }
-        requires some { 0 < most }
-        ensures some { 0 < result }
-        ensures most { result ≤ most }
-        ensures state { (ram : List ℕ) (size : ℕ) (font : Font) → self.new ≡ char_clocks ram size font result self.old }
-    {
-        let hidden = self.crtc.hidden();
-        let n = most.min(u64::from(hidden.clocks)) as u16;
-        self.pass_hidden(hidden.to_sync, n);
-        u64::from(n)
-    }
-
-    // The beam goes past characters that are not shown: horizontal sync begins behind so many of them, or later.
-    #[inline(always)]
-    fn pass_hidden(&mut self, to_sync: u16, n: u16)
+    fn pass_span(&mut self, to_sync: u16, n: u16)
         requires start { starts_line self.old.crtc ≡ false }
         requires inside { n ≤ inside_clocks self.old.crtc }
         ensures { self.new ≡ record self.old {
           crtc = clocks n self.old.crtc;
-          place = place_hidden to_sync n (dots_of self.old.ula.control) self.old.place;
+          place = place_in_span to_sync n (dots_of self.old.ula.control) self.old.place;
         } }
     {
-        self.place.pass_hidden(bit(self.ula.mode(), 4), to_sync, n);
-        self.crtc.pass(n);
-    }
-
-    // The beam goes past characters of a span.
-    #[inline(always)]
-    fn pass_span(&mut self, n: u16)
-        requires start { starts_line self.old.crtc ≡ false }
-        requires inside { n ≤ inside_clocks self.old.crtc }
-        ensures { self.new ≡ record self.old {
-          crtc = clocks n self.old.crtc;
-          place = place_past (n * dots_of self.old.ula.control) self.old.place;
-        } }
-    {
-        self.place.pass_many(bit(self.ula.mode(), 4), n);
+        self.place.pass_span(bit(self.ula.mode(), 4), to_sync, n);
         self.crtc.pass(n);
     }
 
@@ -429,12 +349,19 @@ impl Screen {
         requires size { IsScreenSize size }
         requires told { (k : ℕ) → k < n → beam_of (clocks k self.old.crtc) ≡ beam_in_span span k }
         requires page { span.shown ≡ true → span.ma % 1024 + n ≤ 1024 }
+        requires sync { span.shown ≡ true → 0 < span.to_sync → n ≤ span.to_sync }
         ensures most { result ≤ n }
         ensures plain { 0 < result → ArePlain span result self.old }
         ensures counted { 0 < result → self.old.place.x ≤ 4095 }
         ensures drawn { self.new ≡ drawn_ahead ram.now size font.now.font result self.old }
     {
-        if !span.shown || span.cursor || span.sync || !self.is_cursor_far() {
+        if span.cursor || !self.is_cursor_far() {
+            return 0;
+        }
+        if !span.shown {
+            return n;
+        }
+        if span.to_sync == 0 {
             return 0;
         }
         if bit(self.ula.mode(), 1) {
@@ -500,26 +427,7 @@ impl Screen {
             self.working.draw_black(LEFT, &self.place, narrow, seen);
             return seen;
         }
-        self.draw_bytes(ram, size, span, seen)
-    }
-
-    // Draws characters that are in the frame, by their bytes: as many as stand before the end of the RAM, or none where the dots are not
-    // ready.
-    #[inline(always)]
-    fn draw_bytes(&mut self, ram: &[u8], size: u16, span: Span, n: u16) -> u16
-        requires ram { length ram.now ≡ 32768 }
-        requires size { IsScreenSize size }
-        requires plain { ArePlain span n self.old }
-        requires shown { span.shown ≡ true }
-        requires page { span.ma % 1024 + n ≤ 1024 }
-        requires bits { bit self.old.ula.control 1 ≡ false }
-        requires dots { bit span.ra 3 ≡ false }
-        requires along { (240 ≤ self.old.place.x) × (self.old.place.x + n * dots_of self.old.ula.control ≤ 880) }
-        requires down { (40 ≤ self.old.place.y) × (self.old.place.y < 296) }
-        ensures most { result ≤ n }
-        ensures drawn { (font : Font) → self.new ≡ drawn_ahead ram.now size font result self.old }
-    {
-        self.put_bytes(ram, size, span.ma, span.ra, n)
+        self.put_bytes(ram, size, span.ma, span.ra, seen)
     }
 
     // Draws the bytes of characters that are in the frame: as many as stand before the end of the RAM, or none where the dots are not ready.
@@ -546,22 +454,6 @@ impl Screen {
         } else {
             0
         }
-    }
-
-    // The beam goes past a character with which neither a line nor a row nor a frame begins or ends.
-    #[inline(always)]
-    fn tell_inside(&mut self, ram: &[u8], size: u16, font: &Letters, beam: &Beam)
-        requires ram { length ram.now ≡ 32768 }
-        requires size { IsScreenSize size }
-        requires inside { (beam.now.line_start ≡ false) × (beam.now.frame_end ≡ false) × (beam.now.row_end ≡ false) × (beam.now.restart ≡ false) }
-        ensures { self.new ≡ tell_leaves ram.now size font.now.font beam.now self.old }
-    {
-        if beam.sync_start {
-            self.place.start_sync();
-        }
-        self.show(ram, size, font, beam);
-        self.place.pass(bit(self.ula.mode(), 4));
-        self.cursor.pass(beam.cursor);
     }
 
     // The beam comes to a character.

@@ -89,27 +89,6 @@ fn push_option(
     }
 }
 
-fn lines(
-    alloc: Global,
-    n: Tick,
-    host: Option<Line>,
-    para: Option<Line>,
-    tube: u64,
-    kept: Option<u64>,
-    frames: Option<u64>,
-) -> Result<Vec<u8>, AllocError>
-    ensures { IfOk result (λ v. v.items ≡ text n.0 host para tube kept frames) }
-{
-    let mut text = Vec::new(alloc);
-    push_count(alloc, &mut text, b"ticks ", n.0)?;
-    push_line(&mut text, b"host", b" halted", host)?;
-    push_line(&mut text, b"para", b" held", para)?;
-    push_count(alloc, &mut text, b"tube ", tube)?;
-    push_option(alloc, &mut text, b"kept ", kept)?;
-    push_option(alloc, &mut text, b"frames ", frames)?;
-    Ok(text)
-}
-
 /// The report of `n` ticks: a line for each machine that is there, the number of its Tube accesses, how many of them are kept, and how many
 /// frames were taken. What is none is left out. P is told with bit 5 set and bit 4 clear.
 ///
@@ -126,5 +105,12 @@ pub fn text(
 ) -> Result<Vec<u8>, NoMemory>
     ensures { IfOk result (λ v. v.items ≡ text n.0 host para tube kept frames) }
 {
-    Ok(lines(alloc, n, host, para, tube, kept, frames)?)
+    let mut text = Vec::new(alloc);
+    push_count(alloc, &mut text, b"ticks ", n.0)?;
+    push_line(&mut text, b"host", b" halted", host)?;
+    push_line(&mut text, b"para", b" held", para)?;
+    push_count(alloc, &mut text, b"tube ", tube)?;
+    push_option(alloc, &mut text, b"kept ", kept)?;
+    push_option(alloc, &mut text, b"frames ", frames)?;
+    Ok(text)
 }

@@ -1,5 +1,6 @@
 -- The ROM of a slot is at the place that is kept.
-use Rattle.std.proofs.Common.{ℕ, zero, suc, ◌≡◌, ◌≤◌, ◌<◌, ◌+◌, ◌-◌, refl, ap, sym, ◌∙◌, Bool, true, false, not, cond, List, [], ◌∷◌, Option, Some, None, length, get_or, ◌==◌, ◌||◌, ◌⊎◌, if◌then◌else◌, arith}
+use Rattle.std.proofs.Common.{ℕ, zero, suc, ◌≡◌, ◌≤◌, ◌<◌, ◌+◌, ◌-◌, refl, ap, sym, ◌∙◌, Bool, true, false, not, cond, List, [], ◌∷◌, Option, Some}
+use Rattle.std.proofs.Common.{None, length, get_or, ◌==◌, ◌||◌, ◌⊎◌, if◌then◌else◌, arith}
 use Rattle.std.proofs.lemmas.Grind.{common_steps}
 use Rattle.std.specs.Prelude.{Vec, find, slice_index}
 use Rattle.std.specs.List.{position_from}
@@ -82,15 +83,18 @@ fits-by os roms font e = by-length (length os == 16384) e
     by-length true e = by-found (find (λ rom. not (fits rom)) roms) e
     by-length false e = let no : Some (BadOs (length os)) ≡ None = e in cc
 
-pub long : (os : List ℕ) (slots : List (ℕ × Vec ℕ Global)) (font : Option (List ℕ)) (t : Rom → Bool) (place : ℕ) (d : ℕ × Vec ℕ Global) (bytes : List ℕ) → refusal os (roms_seen slots) font ≡ None → IsAt t (roms_seen slots) 0 place → d ≡ get_or slots place d → bytes ≡ d.1.items →
+pub long : (os : List ℕ) (slots : List (ℕ × Vec ℕ Global)) (font : Option (List ℕ)) (t : Rom → Bool) (place : ℕ) (d : ℕ × Vec ℕ Global)
+    (bytes : List ℕ) → refusal os (roms_seen slots) font ≡ None → IsAt t (roms_seen slots) 0 place → d ≡ get_or slots place d → bytes ≡ d.1.items →
     (length bytes ≡ 8192) ⊎ (length bytes ≡ 16384)
 long os slots font t place d bytes none here is value =
     let low : place < length slots = omega (arith, here.within, as-long slots) in
     let same : get_or (roms_seen slots) place (rom_seen d) ≡ rom_seen d = rom-at slots place d low ∙ ap rom_seen (sym is) in
-    let test : not (fits (rom_seen d)) ≡ false = ap (λ rom. not (fits rom)) (sym same) ∙ none-passes (λ rom. not (fits rom)) (roms_seen slots) place (rom_seen d) (fits-by os (roms_seen slots) font none) (omega (arith, here.within)) in
+    let test : not (fits (rom_seen d)) ≡ false = ap (λ rom. not (fits rom)) (sym same) ∙ none-passes (λ rom. not (fits rom)) (roms_seen slots) place
+    (rom_seen d) (fits-by os (roms_seen slots) font none) (omega (arith, here.within)) in
     long-by (length bytes) (ap (λ xs. not (length xs == 8192 || length xs == 16384)) value ∙ test)
 
-pub shown : (slots : List (ℕ × Vec ℕ Global)) (slot at place : ℕ) (d : ℕ × Vec ℕ Global) (bytes : List ℕ) → IsAt (in_this slot) (roms_seen slots) 0 place → d ≡ get_or slots place d → bytes ≡ d.1.items →
+pub shown : (slots : List (ℕ × Vec ℕ Global)) (slot at place : ℕ) (d : ℕ × Vec ℕ Global) (bytes : List ℕ)
+    → IsAt (in_this slot) (roms_seen slots) 0 place → d ≡ get_or slots place d → bytes ≡ d.1.items →
     slice_index (in_slot bytes) at ≡ rom_byte (roms_seen slots) slot at
 shown slots slot at place d bytes here is value =
     let low : place < length slots = omega (arith, here.within, as-long slots) in

@@ -103,6 +103,8 @@ letter-line a b own near la lb fa fb = λ x low.
     ∙ ap (λ y. (doubled_dot own x || (y && (bit b i && not (bit (b * 2) i)))) || (bit (a / 2) i && (bit b i && not (bit (b / 2) i)))) (to-right a own x la low)
     ∙ ap (λ y. (doubled_dot own x || (doubled_dot own (x + 1) && (y && not (bit (b * 2) i)))) || (bit (a / 2) i && (y && not (bit (b / 2) i)))) (lb x low)
     ∙ ap (λ y. (doubled_dot own x || (doubled_dot own (x + 1) && (doubled_dot near x && not y))) || (bit (a / 2) i && (doubled_dot near x && not (bit (b / 2) i)))) (to-right b near x lb low)
-    ∙ ap (λ y. (doubled_dot own x || (doubled_dot own (x + 1) && (doubled_dot near x && not (doubled_dot near (x + 1))))) || (y && (doubled_dot near x && not (bit (b / 2) i)))) (to-left a own x la fa low)
-    ∙ ap (λ y. (doubled_dot own x || (doubled_dot own (x + 1) && (doubled_dot near x && not (doubled_dot near (x + 1))))) || (before own x && (doubled_dot near x && not y))) (to-left b near x lb fb low)
+    ∙ ap (λ y. (doubled_dot own x || (doubled_dot own (x + 1) && (doubled_dot near x && not (doubled_dot near (x + 1))))) ||
+    (y && (doubled_dot near x && not (bit (b / 2) i)))) (to-left a own x la fa low)
+    ∙ ap (λ y. (doubled_dot own x || (doubled_dot own (x + 1) && (doubled_dot near x && not (doubled_dot near (x + 1))))) ||
+    (before own x && (doubled_dot near x && not y))) (to-left b near x lb fb low)
     ∙ sides own near x low

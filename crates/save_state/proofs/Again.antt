@@ -1,5 +1,6 @@
 -- What is kept of a run below its moment is the run to that moment.
-use Rattle.std.proofs.Common.{ℕ, zero, suc, ◌≡◌, ◌-◌, ◌<◌, ◌≤◌, nat_lt, nat_le, refl, sym, ◌∙◌, ap, subst, arith, Bool, true, false, List, [], ◌∷◌, ◌++◌, length, map, take, drop, slice_index_or, None, if◌then◌else◌}
+use Rattle.std.proofs.Common.{ℕ, zero, suc, ◌≡◌, ◌-◌, ◌<◌, ◌≤◌, nat_lt, nat_le, refl, sym, ◌∙◌, ap, subst, arith, Bool, true, false, List, [], ◌∷◌, ◌++◌, length, map, take, drop}
+use Rattle.std.proofs.Common.{slice_index_or, None, if◌then◌else◌}
 use Rattle.std.specs.Prelude.{All, IsTrue}
 use Rattle.std.proofs.lemmas.List.{append-nil, take_all, take-append-drop}
 use Rattle.std.proofs.lemmas.List.Elements.{All-nil, All-cons, All-head, All-tail, All-weaker, filter-append, All-take}
@@ -51,7 +52,8 @@ last_cons x y ys =
     ap (λ (i : ℕ). slice_index_or ((x.tick).0 ∷ ticks) i 0) at
 
 -- those behind the first `keep` are not sooner than the last of these
-behind_by : (keep : ℕ) (x : Entry) (xs kept : List Entry) → take keep xs ≡ kept → RisesAfter (event_of x) (events_of xs) → All (IsFrom (last_tick kept)) (drop keep xs) → All (IsFrom (last_tick (x ∷ kept))) (drop keep xs)
+behind_by : (keep : ℕ) (x : Entry) (xs kept : List Entry) → take keep xs ≡ kept → RisesAfter (event_of x) (events_of xs) → All (IsFrom (last_tick kept)) (drop keep xs)
+    → All (IsFrom (last_tick (x ∷ kept))) (drop keep xs)
 behind_by zero x xs [] is rises on = all_from (x.tick).0 x xs (let d : ℕ = (x.tick).0 in omega arith) rises
 behind_by (suc k) x [] [] is rises on = All-nil (IsFrom (last_tick (x ∷ [])))
 behind_by (suc k) x (y ∷ xs) [] is rises on = cc
@@ -73,7 +75,8 @@ below_twice : (c at : ℕ) (xs : List Entry) → c ≤ at → entries_below c (e
 below_twice c at [] le = refl
 below_twice c at (x ∷ xs) le = by (nat_lt (x.tick).0 at) (nat_lt (x.tick).0 c) refl refl (below_twice c at xs le)
   where
-    by : (a b : Bool) → nat_lt (x.tick).0 at ≡ a → nat_lt (x.tick).0 c ≡ b → entries_below c (entries_below at xs) ≡ entries_below c xs → entries_below c (entries_below at (x ∷ xs)) ≡ entries_below c (x ∷ xs)
+    by : (a b : Bool) → nat_lt (x.tick).0 at ≡ a → nat_lt (x.tick).0 c ≡ b → entries_below c (entries_below at xs) ≡ entries_below c xs
+        → entries_below c (entries_below at (x ∷ xs)) ≡ entries_below c (x ∷ xs)
     by true true ea eb on = rw (ea, eb) (ap (λ (l : List Entry). x ∷ l) on)
     by true false ea eb on = rw (ea, eb) on
     by false false ea eb on = rw (ea, eb) on
@@ -103,7 +106,8 @@ record IsMoment (n keep at : ℕ) (all : List Entry) : Type 0 where
   low : at ≤ n
   same : (c : ℕ) → c ≤ at → entries_below c (take keep all) ≡ entries_below c all
 
-moment_by : (n keep : ℕ) (all : List Entry) (b : Bool) → nat_le (length all) keep ≡ b → Rises (events_of all) → All (λ (e : Entry). (e.tick).0 < n) all → IsMoment n keep (if b then n else last_tick (take keep all)) all
+moment_by : (n keep : ℕ) (all : List Entry) (b : Bool) → nat_le (length all) keep ≡ b → Rises (events_of all) → All (λ (e : Entry). (e.tick).0 < n) all
+    → IsMoment n keep (if b then n else last_tick (take keep all)) all
 moment_by n keep all true is rises low =
     let few : length all ≤ keep = grind (arith, nat_tests) in
     let d : ℕ = n in

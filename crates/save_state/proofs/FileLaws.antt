@@ -1,5 +1,6 @@
 -- A session that is read is in its one file, and is read of it.
-use Rattle.std.proofs.Common.{◌≡◌, ◌∙◌, refl, sym, ap, ap₂, subst, ℕ, suc, ◌+◌, ◌<◌, ◌≤◌, ◌^◌, Bool, true, false, cond, List, [], ◌∷◌, ◌++◌, length, get_or, take, drop, Option, None, Some, Result, Ok, Err, codes, All, IfSome, append-nil, zero-add, arith, eqb, eqb-true, eq-eqb, leb, leb-true, le-leb, bytes_eq}
+use Rattle.std.proofs.Common.{◌≡◌, ◌∙◌, refl, sym, ap, subst, ℕ, ◌+◌, ◌<◌, ◌≤◌, ◌^◌, Bool, true, false, cond, List, [], ◌∷◌, ◌++◌, length, get_or, take, drop, Option, None, Some, Ok, codes}
+use Rattle.std.proofs.Common.{Result, All, IfSome, append-nil, zero-add, arith, eqb, eqb-true, eq-eqb, leb, leb-true, le-leb, bytes_eq}
 use Rattle.std.specs.List.{flat_map}
 use Rattle.std.specs.Int.{w32, to_be_bytes}
 use Rattle.std.proofs.lemmas.List.Elements.{All-push}
@@ -18,7 +19,8 @@ use Rattle.save_state.specs.Parts.{Parts, parts_at, part_at, disc_at, each_at, f
 use Rattle.save_state.specs.Entries.{entries_at, entry_bytes}
 use Rattle.save_state.specs.File.{clock_in, Header, header_at, list_at, file, speed_of, header_bytes, part, is_dsd, parts_bytes, list_bytes, file_of, IsSession, IsPart, IsDisc, ArePartsOf}
 use Rattle.save_state.specs.Laws.{AreBytes, FileReadsBack, OnlyFileReads}
-use Rattle.save_state.proofs.Standing.{Stands, stands_then, stands_first, stands_second, bind_ok, ok_is, some_is, if_some, if_ok, field_held, field_again, number_reads, number_again, byte_held, byte_again}
+use Rattle.save_state.proofs.Standing.{Stands, stands_then, stands_first, stands_second, bind_ok, ok_is, some_is, if_some, if_ok, field_held, field_again, number_reads, number_again}
+use Rattle.save_state.proofs.Standing.{byte_held, byte_again}
 use Rattle.save_state.proofs.Loop.{pushes}
 use Rattle.save_state.proofs.PartLaws.{part_short, disc_short, each_short, part_reads, part_again, disc_reads, disc_again, each_reads, each_again, as_many}
 use Rattle.save_state.proofs.EntryLaws.{Behind, entries_read, entries_again, behind_rises, behind_lines, behind_below, behind_of}
@@ -46,15 +48,25 @@ clock_again : (clock : Clock) → clock_in (speed_of clock) ≡ Some clock
 clock_again Three = refl
 clock_again Four = refl
 
+-- what is read of the header behind each field
+abbrev plugs_left : List ℕ → (Clock × ℕ) → (ℕ × ℕ) → Result (Header × ℕ) StateError
+plugs_left bytes clock ticks = field 1 (λ b. up_to 8 (byte b)) bytes ticks.1 >>= λ plugs. Ok (record { clock = clock.0; ticks = ticks.0; plugs = plugs.0 }, plugs.1)
+
+abbrev ticks_left : List ℕ → (Clock × ℕ) → Result (Header × ℕ) StateError
+ticks_left bytes clock = field 4 (λ b. up_to 1073741824 (number b)) bytes clock.1 >>= λ ticks. plugs_left bytes clock ticks
+
+abbrev clock_left : List ℕ → ℕ → Result (Header × ℕ) StateError
+clock_left bytes at = field 1 (λ b. clock_in (byte b)) bytes at >>= λ clock. ticks_left bytes clock
+
 -- What was read of the header.
 header_reads : (bytes : List ℕ) (x : Header × ℕ) → AreBytes bytes → header_at bytes 0 ≡ Ok x →
     Stands bytes 0 (header_bytes x.0.clock x.0.ticks x.0.plugs) x.1 × (x.0.ticks ≤ 1073741824) × (x.0.plugs ≤ 8)
 unfolding header_at
 header_reads bytes x are e =
-    let a = bind_ok (field 4 (exactly (codes "BTUB")) bytes 0) (λ name. field 1 (exactly (1 ∷ [])) bytes name.1 >>= λ form. field 1 (λ b. clock_in (byte b)) bytes form.1 >>= λ clock. field 4 (λ b. up_to 1073741824 (number b)) bytes clock.1 >>= λ ticks. field 1 (λ b. up_to 8 (byte b)) bytes ticks.1 >>= λ plugs. Ok (record { clock = clock.0; ticks = ticks.0; plugs = plugs.0 }, plugs.1)) x e in
-    let b = bind_ok (field 1 (exactly (1 ∷ [])) bytes a.0.1) (λ form. field 1 (λ b. clock_in (byte b)) bytes form.1 >>= λ clock. field 4 (λ b. up_to 1073741824 (number b)) bytes clock.1 >>= λ ticks. field 1 (λ b. up_to 8 (byte b)) bytes ticks.1 >>= λ plugs. Ok (record { clock = clock.0; ticks = ticks.0; plugs = plugs.0 }, plugs.1)) x a.2 in
-    let c = bind_ok (field 1 (λ b. clock_in (byte b)) bytes b.0.1) (λ clock. field 4 (λ b. up_to 1073741824 (number b)) bytes clock.1 >>= λ ticks. field 1 (λ b. up_to 8 (byte b)) bytes ticks.1 >>= λ plugs. Ok (record { clock = clock.0; ticks = ticks.0; plugs = plugs.0 }, plugs.1)) x b.2 in
-    let d = bind_ok (field 4 (λ b. up_to 1073741824 (number b)) bytes c.0.1) (λ ticks. field 1 (λ b. up_to 8 (byte b)) bytes ticks.1 >>= λ plugs. Ok (record { clock = c.0.0; ticks = ticks.0; plugs = plugs.0 }, plugs.1)) x c.2 in
+    let a = bind_ok (field 4 (exactly (codes "BTUB")) bytes 0) (λ name. field 1 (exactly (1 ∷ [])) bytes name.1 >>= λ form. clock_left bytes form.1) x e in
+    let b = bind_ok (field 1 (exactly (1 ∷ [])) bytes a.0.1) (λ form. clock_left bytes form.1) x a.2 in
+    let c = bind_ok (field 1 (λ b. clock_in (byte b)) bytes b.0.1) (λ clock. ticks_left bytes clock) x b.2 in
+    let d = bind_ok (field 4 (λ b. up_to 1073741824 (number b)) bytes c.0.1) (λ ticks. plugs_left bytes c.0 ticks) x c.2 in
     let g = bind_ok (field 1 (λ b. up_to 8 (byte b)) bytes d.0.1) (λ plugs. Ok (record { clock = c.0.0; ticks = d.0.0; plugs = plugs.0 }, plugs.1)) x d.2 in
     let name : Stands bytes 0 (codes "BTUB") a.0.1 = exactly_reads (codes "BTUB") bytes 0 a.0.0 a.0.1 a.1 in
     let form : Stands bytes a.0.1 (1 ∷ []) b.0.1 = exactly_reads (1 ∷ []) bytes a.0.1 b.0.0 b.0.1 b.1 in
@@ -100,10 +112,6 @@ header_again bytes h next early few s0 =
     ) refl
 
 -- ---- the parts
-
--- 22 parts are the first nineteen, both discs and the key script
-nth : List (Option (List ℕ)) → ℕ → Option (List ℕ)
-nth parts place = get_or parts place None
 
 three : (xs : List (Option (List ℕ))) → length xs ≡ 3 → xs ≡ get_or xs 0 None ∷ get_or xs 1 None ∷ get_or xs 2 None ∷ []
 three [] l = absurd (omega arith)
@@ -166,13 +174,24 @@ parts_by bytes at next first d0 b0 d1 b1 k are is0 is1 isk stands =
       },
     )
 
+-- what is read behind the first parts, and behind each disc
+abbrev keys_left : List ℕ → (List (Option (List ℕ)) × ℕ) → ((Option (List ℕ) × Bool) × ℕ) → ((Option (List ℕ) × Bool) × ℕ) → Result (Parts × ℕ) StateError
+keys_left bytes first disc0 disc1 =
+    part_at Keys bytes disc1.1 >>= λ keys. Ok (record { parts = first.0 ++ disc0.0.0 ∷ disc1.0.0 ∷ keys.0 ∷ []; dsd = disc0.0.1 ∷ disc1.0.1 ∷ [] }, keys.1)
+
+abbrev disc1_left : List ℕ → (List (Option (List ℕ)) × ℕ) → ((Option (List ℕ) × Bool) × ℕ) → Result (Parts × ℕ) StateError
+disc1_left bytes first disc0 = disc_at bytes disc0.1 >>= λ disc1. keys_left bytes first disc0 disc1
+
+abbrev disc0_left : List ℕ → (List (Option (List ℕ)) × ℕ) → Result (Parts × ℕ) StateError
+disc0_left bytes first = disc_at bytes first.1 >>= λ disc0. disc1_left bytes first disc0
+
 parts_read : (bytes : List ℕ) (at : ℕ) (x : Parts × ℕ) → AreBytes bytes → at ≤ length bytes → parts_at bytes at ≡ Ok x →
     Stands bytes at (text_of x.0.parts x.0.dsd) x.1 × ArePart x.0.parts x.0.dsd
 unfolding parts_at
 parts_read bytes at x are le e =
-    let a = bind_ok (each_at first_kinds bytes at) (λ first. disc_at bytes first.1 >>= λ disc0. disc_at bytes disc0.1 >>= λ disc1. part_at Keys bytes disc1.1 >>= λ keys. Ok (record { parts = first.0 ++ disc0.0.0 ∷ disc1.0.0 ∷ keys.0 ∷ []; dsd = disc0.0.1 ∷ disc1.0.1 ∷ [] }, keys.1)) x e in
-    let b = bind_ok (disc_at bytes a.0.1) (λ disc0. disc_at bytes disc0.1 >>= λ disc1. part_at Keys bytes disc1.1 >>= λ keys. Ok (record { parts = a.0.0 ++ disc0.0.0 ∷ disc1.0.0 ∷ keys.0 ∷ []; dsd = disc0.0.1 ∷ disc1.0.1 ∷ [] }, keys.1)) x a.2 in
-    let c = bind_ok (disc_at bytes b.0.1) (λ disc1. part_at Keys bytes disc1.1 >>= λ keys. Ok (record { parts = a.0.0 ++ b.0.0.0 ∷ disc1.0.0 ∷ keys.0 ∷ []; dsd = b.0.0.1 ∷ disc1.0.1 ∷ [] }, keys.1)) x b.2 in
+    let a = bind_ok (each_at first_kinds bytes at) (λ first. disc0_left bytes first) x e in
+    let b = bind_ok (disc_at bytes a.0.1) (λ disc0. disc1_left bytes a.0 disc0) x a.2 in
+    let c = bind_ok (disc_at bytes b.0.1) (λ disc1. keys_left bytes a.0 b.0 disc1) x b.2 in
     let d = bind_ok (part_at Keys bytes c.0.1) (λ keys. Ok (record { parts = a.0.0 ++ b.0.0.0 ∷ c.0.0.0 ∷ keys.0 ∷ []; dsd = b.0.0.1 ∷ c.0.0.1 ∷ [] }, keys.1)) x c.2 in
     let first = each_reads first_kinds bytes at a.0 are le a.1 in
     let disc0 = disc_reads bytes a.0.1 b.0 are b.1 in
@@ -241,11 +260,15 @@ ended_ok bytes x s e = let p = if_ok (eqb (length bytes) x.1) x.0 s (BadField x.
 abbrev session_of : Header → Parts → List Entry → Session
 session_of h p es = record { clock = h.clock; ticks = h.ticks; plugs = h.plugs; parts = p.parts; dsd = p.dsd; entries = es }
 
+-- what is read behind the parts
+abbrev list_left : List ℕ → (Header × ℕ) → (Parts × ℕ) → Result Session StateError
+list_left bytes head parts = list_at head.0.ticks bytes parts.1 >>= λ list. with_nothing_behind bytes (session_of head.0 parts.0 list.0, list.1)
+
 pub file_only : OnlyFileReads
 unfolding file file_of
 file_only bytes s are e =
-    let a = bind_ok (header_at bytes 0) (λ head. parts_at bytes head.1 >>= λ parts. list_at head.0.ticks bytes parts.1 >>= λ list. with_nothing_behind bytes (session_of head.0 parts.0 list.0, list.1)) s e in
-    let b = bind_ok (parts_at bytes a.0.1) (λ parts. list_at a.0.0.ticks bytes parts.1 >>= λ list. with_nothing_behind bytes (session_of a.0.0 parts.0 list.0, list.1)) s a.2 in
+    let a = bind_ok (header_at bytes 0) (λ head. parts_at bytes head.1 >>= λ parts. list_left bytes head parts) s e in
+    let b = bind_ok (parts_at bytes a.0.1) (λ parts. list_left bytes a.0 parts) s a.2 in
     let c = bind_ok (list_at a.0.0.ticks bytes b.0.1) (λ list. with_nothing_behind bytes (session_of a.0.0 b.0.0 list.0, list.1)) s b.2 in
     let over = ended_ok bytes (session_of a.0.0 b.0.0 c.0.0, c.0.1) s c.2 in
     let head = header_reads bytes a.0 are a.1 in

@@ -17,7 +17,8 @@ ended e u place at same none =
     ap (λ x. record { machine = x; place = e.place }) (sym at)
     ∙ ap (λ (o : Option (ℕ × Option Doing)). record { machine = u; place = o }) (sym same ∙ none)
 
-kept_alike : (side : Side) (l m : List Event) (keep : ℕ) (list : List Entry) (count : ℕ) → accesses (of_side side m) ≡ accesses (of_side side l) → IsKept side l keep list count → IsKept side m keep list count
+kept_alike : (side : Side) (l m : List Event) (keep : ℕ) (list : List Entry) (count : ℕ) → accesses (of_side side m) ≡ accesses (of_side side l) → IsKept side l keep list count
+    → IsKept side m keep list count
 kept_alike side l m keep list count same k = record { list_is = k.list_is ∙ ap (take keep) (sym same); count_is = k.count_is ∙ ap length (sym same) }
 
 played_alike : {S T : Type 0} (w v : World S T) (keep : ℕ) (d : Played S T) → IsLike w v → IsPlayed v keep d → IsPlayed w keep d

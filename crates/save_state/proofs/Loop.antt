@@ -1,5 +1,6 @@
 -- Reading and writing one after the other, as loops do.
-use Rattle.std.proofs.Common.{◌≡◌, ℕ, zero, suc, ◌-◌, ◌+◌, ◌≤◌, ◌<◌, List, [], ◌∷◌, ◌++◌, length, get_or, take, drop, Option, None, Some, Result, Ok, Err, refl, sym, ap, ◌∙◌, append_assoc, append-nil, arith}
+use Rattle.std.proofs.Common.{◌≡◌, ℕ, suc, ◌-◌, ◌+◌, ◌≤◌, ◌<◌, List, [], ◌∷◌, ◌++◌, length, get_or, take, drop, Option, Some, Result, Ok, Err, refl, sym, ap, ◌∙◌, append_assoc, append-nil}
+use Rattle.std.proofs.Common.{arith}
 use Rattle.std.specs.List.{flat_map}
 use Rattle.std.proofs.lemmas.List.{take_more, drop_more}
 use Rattle.std.proofs.lemmas.List.Concat.{flat_map-append}
@@ -16,17 +17,14 @@ use Rattle.save_state.specs.Entries.{next_entry, entries_at}
 abbrev pub with_front : {A : Type 0} → List A → Result (List A × ℕ) StateError → Result (List A × ℕ) StateError
 with_front front read = read >>= λ x. Ok (front ++ x.0, x.1)
 
-pub none_in_front : {A : Type 0} (read : Result (List A × ℕ) StateError) → with_front [] read ≡ read
-none_in_front (Ok x) = refl
-none_in_front (Err e) = refl
-
 regroup : {A : Type 0} (front : List A) (a : A) (read : Result (List A × ℕ) StateError) → with_front front (read >>= λ x. Ok (a ∷ x.0, x.1)) ≡ with_front (front ++ a ∷ []) read
 regroup {A} front a (Ok x) = ap (λ (all : List A). Ok (all, x.1)) (sym (append_assoc front (a ∷ []) x.0))
 regroup front a (Err e) = refl
 
 -- ---- parts
 
-pub part_more : (front : List (Option (List ℕ))) (kinds : List Kind) (i : ℕ) (d : Kind) (bytes : List ℕ) (at : ℕ) (p : Option (List ℕ)) (next : ℕ) (total : Result (List (Option (List ℕ)) × ℕ) StateError) →
+pub part_more : (front : List (Option (List ℕ))) (kinds : List Kind) (i : ℕ) (d : Kind) (bytes : List ℕ) (at : ℕ) (p : Option (List ℕ)) (next : ℕ)
+    (total : Result (List (Option (List ℕ)) × ℕ) StateError) →
     i < length kinds → part_at (get_or kinds i d) bytes at ≡ Ok (p, next) →
     with_front front (each_at (drop i kinds) bytes at) ≡ total → with_front (front ++ p ∷ []) (each_at (drop (i + 1) kinds) bytes next) ≡ total
 unfolding each_at

@@ -1,6 +1,6 @@
 -- The accesses in a session file: each is one field of seven bytes, the tick in five, the side with the operation and the register, and the byte
 -- that a line of a trace has.
-use Rattle.std.specs.Prelude.{ℕ, zero, suc, ◌+◌, ◌/◌, ◌%◌, ◌==◌, ◌&&◌, nat_lt, nat_le, Bool, true, false, List, [], ◌∷◌, ◌++◌, take, drop, slice_index, Option, None, Some, Result, Ok, Err, if◌then◌else◌}
+use Rattle.std.specs.Prelude.{ℕ, zero, suc, ◌+◌, ◌/◌, ◌%◌, ◌==◌, ◌&&◌, nat_lt, nat_le, List, [], ◌∷◌, ◌++◌, take, drop, slice_index, Option, None, Some, Ok, if◌then◌else◌}
 use Rattle.std.specs.Int.{w64, from_be_bytes, to_be_bytes}
 use Rattle.beeb_bits.specs.Bits.{bit}
 use Rattle.beeb_bits.specs.declared.Side.{Side}

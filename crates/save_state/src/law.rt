@@ -1,6 +1,5 @@
 //! Laws over the definitions: the file of a session is read as that session, and no other bytes are; a run that is saved is done again.
-ghost use Rattle.std.specs.Prelude.{IsTrue};
-ghost use Rattle.beeb_bits.specs.declared.Side.TheVariants.{Host, Para};
+ghost use Rattle.tube_party.specs.OneThread.{TakeSides};
 ghost use Rattle.save_state.specs.Laws.{FileReadsBack, OnlyFileReads};
 ghost use Rattle.save_state.specs.Resume.{SavedRunIsResumed};
 
@@ -15,8 +14,7 @@ pub fn file_reads_back()
 /// The accesses that are kept of a run, those below the moment that a session of it tells of, are a trace below that moment. The replays of
 /// both parties against them meet no difference, to that moment or to an earlier tick.
 pub fn saved_run_is_resumed<H: Party, P: Party>()
-    requires host_plays { IsTrue (H.plays Host) }
-    requires para_plays { IsTrue (P.plays Para) }
+    requires sides { TakeSides H.plays P.plays }
     ensures { SavedRunIsResumed H.moves P.moves }
 {
     reference_is_trace::<H, P>();

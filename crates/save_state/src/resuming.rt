@@ -1,8 +1,7 @@
 //! A run that goes on from a session.
-ghost use Rattle.std.specs.Prelude.{◌≡◌, ◌≤◌, ℕ, IsTrue, IfOk, Err, None, Some, Option};
-ghost use Rattle.beeb_bits.specs.declared.Side.TheVariants.{Host, Para};
+ghost use Rattle.std.specs.Prelude.{◌≡◌, ◌≤◌, ℕ, IfOk, Err, None, Some, Option};
 ghost use Rattle.tube_party.specs.declared.replaying.Doing.{Doing};
-ghost use Rattle.tube_party.specs.OneThread.{IsPlayed, played_of};
+ghost use Rattle.tube_party.specs.OneThread.{IsPlayed, played_of, TakeSides, AreClosedWithin};
 ghost use Rattle.tube_party.specs.Reference.{reference, IsTraceBelow};
 ghost use Rattle.save_state.specs.declared.resuming.ResumeError.TheVariants.{Differs, NoMemory};
 ghost use Rattle.save_state.specs.Resume.{first_difference};
@@ -39,11 +38,9 @@ pub fn resume<H: Party, P: Rewinds>(
     keep: u32,
 ) -> Result<Done<H, P>, ResumeError<H, P>>
     requires ticks { (at.0 ≤ n.0) × (n.0 ≤ MOST) }
-    requires host_plays { IsTrue (H.plays Host) }
-    requires para_plays { IsTrue (P.Party.plays Para) }
+    requires sides { TakeSides H.plays P.Party.plays }
     requires entries { IsTraceBelow at.0 entries.now }
-    requires host_open { H.moves.closed (H.state host) ≤ at.0 }
-    requires para_open { P.Party.moves.closed (P.Party.state para) ≤ at.0 }
+    requires closed { AreClosedWithin H.moves P.Party.moves (H.state host) (P.Party.state para) at.0 }
     ensures played { let w = reference H.moves P.Party.moves (H.state host) (P.Party.state para) n.0 in
         IfOk result (λ d. IsPlayed w keep (played_of H.state P.Party.state d)) }
     ensures agree { let s = H.state host in let t = P.Party.state para in

@@ -2,14 +2,15 @@
 use Rattle.std.proofs.Common.{ℕ, ◌≡◌, sym, ◌∙◌, ap, subst, List, [], ◌++◌, length, take}
 use Rattle.beeb_bits.specs.declared.Side.{Side}
 use Rattle.beeb_bits.specs.declared.Side.TheVariants.{Host, Para}
+use Rattle.tube_chip.specs.State.{State}
 use Rattle.tube_chip.specs.Events.{Event, merge, after, of_side, IsLegal}
 use Rattle.tube_trace.specs.Entries.{accesses}
 use Rattle.tube_cell.specs.Passes.{Carried}
 use Rattle.tube_party.specs.Moves.{Moves, Follows}
 use Rattle.tube_party.specs.Reference.{World, reference, LegalMergeIsReference}
 use Rattle.tube_party.specs.OneThread.{Played, IsPlayed}
-use Rattle.cell_work.specs.CodeStation.{place, Station}
-use Rattle.cell_work.specs.Work.{HasWorked}
+use Rattle.session.specs.CodeStation.{place, Station}
+use Rattle.session.specs.Work.{HasWorked}
 use Rattle.session.proofs.Merged.{sided, host_of_merge, para_of_merge}
 
 -- all events of a pass that began without one are those that joined its list
@@ -54,21 +55,31 @@ module _ {S T : Type 0} (h : Moves S) (p : Moves T) (law : LegalMergeIsReference
       };
     }
 
-  pub ended : (x x2 y y2 : Carried)
-      → (x.side ≡ Host) × (x.events ≡ []) → (y.side ≡ Para) × (y.events ≡ [])
-      → IsLegal (merge x2.events y2.events) → d.chip ≡ after (merge x2.events y2.events)
-      → HasWorked h n keep (place s x) (record { at = place d.host x2; list = d.host_list; count = d.host_count })
-      → HasWorked p n keep (place t y) (record { at = place d.para y2; list = d.para_list; count = d.para_count })
-      → IsPlayed (reference h p s t n) keep d
-  ended x x2 y y2 xs ys legal chip wh wp =
-      let ex : x2.events ≡ wh.added = events_are x x2 wh.added xs.1 wh.events in
-      let ey : y2.events ≡ wp.added = events_are y y2 wp.added ys.1 wp.events in
-      let both : merge x2.events y2.events ≡ merge wh.added wp.added = ap (λ (l : List Event). merge l y2.events) ex ∙ ap (λ (l : List Event). merge wh.added l) ey in
-      played wh.added wp.added
-      (subst (λ (z : Side). Follows h z s wh.added n d.host) xs.0 wh.follows)
-      (subst (λ (z : Side). Follows p z t wp.added n d.para) ys.0 wp.follows)
-      (subst IsLegal both legal)
-      (chip ∙ ap after both) wh.kept wh.counted wp.kept wp.counted
+-- that of two stations
+abbrev left_as : {S T : Type 0} → Station S → Station T → State → Played S T
+left_as x y chip = record {
+  host = x.at.state;
+  para = y.at.state;
+  chip = chip;
+  host_list = x.log.list.items;
+  para_list = y.log.list.items;
+  host_count = x.log.count;
+  para_count = y.log.count;
+}
+
+pub ended : {S T : Type 0} (h : Moves S) (p : Moves T) → LegalMergeIsReference h p → (s : S) (t : T) (n keep : ℕ) (p1 q1 : Carried) (x : Station S) (y : Station T) (chip : State)
+    → (p1.side ≡ Host) × (p1.events ≡ []) → (q1.side ≡ Para) × (q1.events ≡ [])
+    → IsLegal (merge x.at.pass.events y.at.pass.events) → chip ≡ after (merge x.at.pass.events y.at.pass.events)
+    → HasWorked h n keep (place s p1) x → HasWorked p n keep (place t q1) y → IsPlayed (reference h p s t n) keep (left_as x y chip)
+ended h p law s t n keep p1 q1 x y chip xs ys legal chip_is wh wp =
+    let ex : x.at.pass.events ≡ wh.added = events_are p1 x.at.pass wh.added xs.1 wh.events in
+    let ey : y.at.pass.events ≡ wp.added = events_are q1 y.at.pass wp.added ys.1 wp.events in
+    let both : merge x.at.pass.events y.at.pass.events ≡ merge wh.added wp.added = (λ i. merge (ex i) (ey i)) in
+    played h p law s t n keep (left_as x y chip) wh.added wp.added
+    (subst (λ (z : Side). Follows h z s wh.added n x.at.state) xs.0 wh.follows)
+    (subst (λ (z : Side). Follows p z t wp.added n y.at.state) ys.0 wp.follows)
+    (subst IsLegal both legal)
+    (chip_is ∙ ap after both) wh.kept wh.counted wp.kept wp.counted
 
 -- the same run, with its parts by other names
 pub worked_as : {S : Type 0} (m : Moves S) (n n2 keep keep2 : ℕ) (s s2 : S) (p : Carried) (y : Station S) → n2 ≡ n → keep2 ≡ keep → s2 ≡ s

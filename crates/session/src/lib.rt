@@ -1,8 +1,16 @@
-//! Both machines at once: each in a thread of its own, with the Tube chip in the cell that both share.
+//! Both machines at once: each in a thread of its own, with the Tube chip in the cell that both share; the parasite's goes ahead of the host.
 #![tactic(auto)]
 
+mod ahead;
+mod half;
+mod lookahead;
 mod pair;
 mod side_job;
+mod sight;
+mod stride;
+mod way;
 
-pub use cell_work::{Half, Strides, USUAL, drive, drive_ahead};
+pub use ahead::drive_ahead;
+pub use half::{Half, drive};
 pub use pair::{PairError, run_pair, run_pair_by};
+pub use stride::{Strides, USUAL};

@@ -1,26 +1,27 @@
 //! Both machines beside each other.
-ghost use Rattle.std.specs.Prelude.{◌≡◌, ◌≤◌, ℕ, true, [], Err, IfOk, IfSome, IsErr, IsTrue, vec_capacity};
+ghost use Rattle.std.specs.Prelude.{◌≡◌, ◌≤◌, ℕ, true, [], Err, IfOk, IfSome, IsErr};
 ghost use Rattle.std.specs.Arc.{arc_value};
 ghost use Rattle.beeb_bits.specs.declared.Side.TheVariants.{Host, Para};
 ghost use Rattle.beeb_files.specs.Counts.{Rose};
 ghost use Rattle.beeb_files.specs.Crew.{Grows};
 ghost use Rattle.tube_cell.specs.Passes.{Carried};
-ghost use Rattle.tube_party.specs.OneThread.{IsPlayed, played_of};
+ghost use Rattle.tube_party.specs.Logs.{IsFresh};
+ghost use Rattle.tube_party.specs.OneThread.{IsPlayed, played_of, TakeSides, AreClosedWithin};
 ghost use Rattle.tube_party.specs.Reference.{reference};
-ghost use Rattle.cell_work.specs.CodeStation.{place, station};
-ghost use Rattle.cell_work.specs.Work.{HasWorked};
+ghost use Rattle.session.specs.CodeStation.{place, station};
+ghost use Rattle.session.specs.Work.{HasWorked};
 ghost use Rattle.session.specs.declared.pair.PairError.TheVariants.{NoThread, NoMemory};
 
+use crate::half::Half;
 use crate::side_job::{AheadJob, SideJob};
+use crate::stride::{Strides, USUAL};
 use beeb_bits::Tick;
 use beeb_files::Crew;
-use cell_work::{Half, Strides, USUAL};
 use std::alloc::Global;
 use std::sync::{Arc, Wait};
 use std::thread::Threads;
 use tube_cell::{Pass, TubeCell, Whole};
-use tube_party::{Done, MOST, Party, Rewinds, legal_merge_is_reference};
-use tube_trace::Entry;
+use tube_party::{Done, Log, MOST, Party, Rewinds, legal_merge_is_reference};
 
 /// Why two parties were not run.
 #[derive(Drop)]
@@ -40,8 +41,8 @@ struct Supplies<P: Rewinds> {
     host_cell: Shared,
     para_cell: Shared,
     whole: Whole,
-    host_list: Vec<Entry>,
-    para_list: Vec<Entry>,
+    host_log: Log,
+    para_log: Log,
     past: P::Past,
 }
 
@@ -49,23 +50,22 @@ fn take_supplies<P: Rewinds>(alloc: Global, keep: u32) -> Option<Supplies<P>>
     ensures cells { IfSome result (λ s.
         (arc_value s.host_cell ≡ arc_value s.cell) × (arc_value s.para_cell ≡ arc_value s.cell)) }
     ensures whole { IfSome result (λ s. s.whole ≡ arc_value s.cell) }
-    ensures lists { IfSome result (λ s. (s.host_list.items ≡ []) × (s.para_list.items ≡ [])) }
-    ensures room { IfSome result (λ s. (keep ≤ vec_capacity s.host_list) × (keep ≤ vec_capacity s.para_list)) }
+    ensures logs { IfSome result (λ s. IsFresh keep s.host_log × IsFresh keep s.para_log) }
 {
     let (cell, whole) = TubeCell::make(alloc).ok()?;
     let cell = Arc::new(alloc, cell).ok()?;
     let host_cell = Arc::try_clone(&cell).ok()?;
     let para_cell = Arc::try_clone(&cell).ok()?;
-    let host_list = Vec::with_capacity(alloc, keep as usize).ok()?;
-    let para_list = Vec::with_capacity(alloc, keep as usize).ok()?;
+    let host_log = Log::new(alloc, keep).ok()?;
+    let para_log = Log::new(alloc, keep).ok()?;
     let past = P::past(alloc).ok()?;
     Some(Supplies {
         cell,
         host_cell,
         para_cell,
         whole,
-        host_list,
-        para_list,
+        host_log,
+        para_log,
         past,
     })
 }
@@ -88,10 +88,8 @@ pub fn run_pair<C: Crew, H: Party + Send, P: Rewinds + Send, R: Threads + Wait +
 where
     P::Past: Send,
     requires ticks { n.0 ≤ MOST }
-    requires host_plays { IsTrue (H.plays Host) }
-    requires para_plays { IsTrue (P.Party.plays Para) }
-    requires host_open { H.moves.closed (H.state host) ≤ n.0 }
-    requires para_open { P.Party.moves.closed (P.Party.state para) ≤ n.0 }
+    requires sides { TakeSides H.plays P.Party.plays }
+    requires closed { AreClosedWithin H.moves P.Party.moves (H.state host) (P.Party.state para) n.0 }
     ensures played { let w = reference H.moves P.Party.moves (H.state host) (P.Party.state para) n.0 in
         IfOk result (λ d. IsPlayed w keep (played_of H.state P.Party.state d)) }
     ensures worked { IfOk result (λ _. Rose (C.counts crew.old).pairs (C.counts crew.new).pairs) }
@@ -121,10 +119,8 @@ pub fn run_pair_by<C: Crew, H: Party + Send, P: Rewinds + Send, R: Threads + Wai
 where
     P::Past: Send,
     requires ticks { n.0 ≤ MOST }
-    requires host_plays { IsTrue (H.plays Host) }
-    requires para_plays { IsTrue (P.Party.plays Para) }
-    requires host_open { H.moves.closed (H.state host) ≤ n.0 }
-    requires para_open { P.Party.moves.closed (P.Party.state para) ≤ n.0 }
+    requires sides { TakeSides H.plays P.Party.plays }
+    requires closed { AreClosedWithin H.moves P.Party.moves (H.state host) (P.Party.state para) n.0 }
     ensures played { let w = reference H.moves P.Party.moves (H.state host) (P.Party.state para) n.0 in
         IfOk result (λ d. IsPlayed w keep (played_of H.state P.Party.state d)) }
     ensures worked { IfOk result (λ _. Rose (C.counts crew.old).pairs (C.counts crew.new).pairs) }
@@ -140,8 +136,8 @@ where
             host_cell,
             para_cell,
             whole,
-            host_list,
-            para_list,
+            host_log,
+            para_log,
             past,
         },
     ) = take_supplies::<P>(alloc, keep)
@@ -149,8 +145,8 @@ where
         return Err(PairError::NoMemory { host, para });
     };
     let (host_pass, para_pass) = cell.split(rt, whole);
-    let host_job = job(host, host_pass, host_list, host_cell, n, keep);
-    let para_side = job(para, para_pass, para_list, para_cell, n, keep);
+    let host_job = job(host, host_pass, host_log, host_cell, n);
+    let para_side = job(para, para_pass, para_log, para_cell, n);
     let para_job = AheadJob {
         side: para_side,
         past,
@@ -163,24 +159,17 @@ where
 }
 
 // The work of one side.
-fn job<M>(machine: M, pass: Pass, list: Vec<Entry>, cell: Shared, n: Tick, keep: u32) -> SideJob<M>
+fn job<M>(machine: M, pass: Pass, log: Log, cell: Shared, n: Tick) -> SideJob<M>
     ensures machine { result.half.machine ≡ machine }
     ensures pass { result.half.pass ≡ pass }
-    ensures list { result.half.list ≡ list }
-    ensures count { result.half.count ≡ 0 }
+    ensures log { result.half.log ≡ log }
     ensures cell { result.cell ≡ cell }
-    ensures limits { (result.n ≡ n) × (result.keep ≡ keep) }
+    ensures end { result.n ≡ n }
 {
     SideJob {
-        half: Half {
-            machine,
-            pass,
-            list,
-            count: 0,
-        },
+        half: Half { machine, pass, log },
         cell,
         n,
-        keep,
     }
 }
 
@@ -207,9 +196,9 @@ fn joined<H: Party, P: Party, R: Wait>(
         host: host.machine,
         para: para.machine,
         chip,
-        host_list: host.list,
-        para_list: para.list,
-        host_count: host.count,
-        para_count: para.count,
+        host_list: host.log.list,
+        para_list: para.log.list,
+        host_count: host.log.count,
+        para_count: para.log.count,
     }
 }

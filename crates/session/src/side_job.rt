@@ -1,13 +1,15 @@
 //! The jobs of both threads.
-ghost use Rattle.std.specs.Prelude.{◌≡◌, ◌≤◌, vec_capacity};
+ghost use Rattle.std.specs.Prelude.{◌≡◌};
 ghost use Rattle.std.specs.Arc.{arc_value};
 ghost use Rattle.beeb_bits.specs.declared.Side.TheVariants.{Para};
-ghost use Rattle.cell_work.specs.CodeStation.{station};
-ghost use Rattle.cell_work.specs.Work.{MayWork, HasWorked};
+ghost use Rattle.session.specs.CodeStation.{station};
+ghost use Rattle.session.specs.Work.{MayWork, HasWorked};
 
+use crate::ahead::drive_ahead;
+use crate::half::{Half, drive};
+use crate::stride::Strides;
 use beeb_bits::Tick;
 use beeb_files::Job;
-use cell_work::{Half, Strides, drive, drive_ahead};
 use std::alloc::Global;
 use std::sync::{Arc, Wait};
 use tube_cell::TubeCell;
@@ -19,25 +21,18 @@ pub(crate) struct SideJob<M> {
     pub(crate) half: Half<M>,
     pub(crate) cell: Arc<TubeCell, Global>,
     pub(crate) n: Tick,
-    pub(crate) keep: u32,
 }
 
 impl<M: Party + Send> Job for SideJob<M> {
     type Done = Half<M>;
 
-    ghost may_work = { λ j. MayWork M.moves M.plays (arc_value j.cell) j.n.0 (station M.state j.half)
-        × (j.keep ≤ vec_capacity j.half.list) };
+    ghost may_work = { λ j. MayWork M.moves M.plays (arc_value j.cell) j.n.0 (station M.state j.half) };
 
-    ghost gives = { λ j r. HasWorked M.moves j.n.0 j.keep (station M.state j.half).at (station M.state r) };
+    ghost gives = { λ j r. HasWorked M.moves j.n.0 j.half.log.keep (station M.state j.half).at (station M.state r) };
 
     fn work<R: Wait>(self, rt: &R) -> Half<M> {
-        let SideJob {
-            mut half,
-            cell,
-            n,
-            keep,
-        } = self;
-        drive(rt, &cell, &mut half, n, keep);
+        let SideJob { mut half, cell, n } = self;
+        drive(rt, &cell, &mut half, n);
         half
     }
 }
@@ -58,10 +53,10 @@ where
 
     ghost may_work = { λ j. let half = j.side.half in
         MayWork M.Party.moves M.Party.plays (arc_value j.side.cell) j.side.n.0 (station M.Party.state half)
-        × (j.side.keep ≤ vec_capacity half.list) × (half.pass.side ≡ Para) };
+        × (half.pass.side ≡ Para) };
 
     ghost gives = { λ j r. let state = M.Party.state in
-        HasWorked M.Party.moves j.side.n.0 j.side.keep (station state j.side.half).at (station state r) };
+        HasWorked M.Party.moves j.side.n.0 j.side.half.log.keep (station state j.side.half).at (station state r) };
 
     fn work<R: Wait>(self, rt: &R) -> Half<M> {
         let AheadJob {
@@ -69,13 +64,8 @@ where
             mut past,
             strides,
         } = self;
-        let SideJob {
-            mut half,
-            cell,
-            n,
-            keep,
-        } = side;
-        drive_ahead(rt, &cell, &mut half, &mut past, n, keep, strides);
+        let SideJob { mut half, cell, n } = side;
+        drive_ahead(rt, &cell, &mut half, &mut past, n, strides);
         half
     }
 }

@@ -16,6 +16,7 @@ const START: u16 = 0x4000;
 #[derive(Drop)]
 pub(crate) struct Noise {
     control: u8,
+    // The shift register, of 15 bits, with linear feedback (LFSR).
     register: u16,
     volume: u8,
 }

@@ -81,6 +81,12 @@ pub const SETTINGS: [(u16, u8); 6] = [
     (0xfe44, 0x40),
 ];
 
+/// The first sector is read.
+pub const SECTOR: [(u16, u8); 3] = [(0xfe85, 0), (0xfe86, 1), (0xfe84, 0x80)];
+
+// The microsecond in which its first byte comes, or a few before it.
+const FIRST_BYTE: u64 = 21_950;
+
 /// How many acts each seed has.
 pub const ACTS: u64 = 250;
 
@@ -217,6 +223,7 @@ fn are_alike(one: Option<&Frame>, other: Option<&Frame>) -> bool {
 struct Both<'a> {
     lagging: &'a mut Bus,
     stepped: &'a mut Bus,
+    micro: u64,
     calm: u64,
     lines: (u64, bool),
 }
@@ -311,8 +318,10 @@ impl Both<'_> {
     fn agree_on(&mut self, chance: &mut Chance, lists: Lists<'_>, acts: u64) -> bool {
         let screen = !chance.once_in(4);
         let keeps = screen && chance.once_in(2);
+        let reads = chance.once_in(4);
         self.set_up(lists.settings)
             && (!screen || self.set_screen(lists.screen))
+            && (!reads || self.read_sector(chance, lists.sector))
             && self.agree_by_chance(chance, keeps, acts)
             && self.come_to_the_same()
     }
@@ -338,6 +347,18 @@ impl Both<'_> {
         true
     }
 
+    // Whether both agree on a sector's being read, up to about its first byte.
+    fn read_sector(&mut self, chance: &mut Chance, sector: &[(u16, u8)]) -> bool {
+        for (at, v) in sector {
+            if !self.agree_next(Act::Write(*at, *v)) {
+                return false;
+            }
+        }
+        let first = self.micro.wrapping_mul(FIRST_BYTE);
+        let t = first.wrapping_add(u64::from(chance.below(200)));
+        self.agree(t, Act::Look)
+    }
+
     // Whether both agree on a screen's registers.
     fn set_screen(&mut self, registers: &[(u8, u8)]) -> bool {
         for (register, v) in registers {
@@ -351,12 +372,14 @@ impl Both<'_> {
     }
 }
 
-/// What both buses begin with: the script, the settings and the screen's registers. They are handed in so that no long proof writes them out.
+/// What both buses begin with: the script, the settings, the screen's registers and the reading of a sector. They are handed in so that no long
+/// proof writes them out.
 #[derive(Clone, Copy)]
 pub struct Lists<'a> {
     pub script: &'a [u8],
     pub settings: &'a [(u16, u8)],
     pub screen: &'a [(u8, u8)],
+    pub sector: &'a [(u16, u8)],
     /// The bytes of a ROM.
     pub size: usize,
 }
@@ -374,25 +397,28 @@ impl Tried<Course<'_>> for Bus {
         bus(alloc, course.clock, course.lists.script, course.lists.size)
     }
 
-    fn agrees(&mut self, other: &mut Self, course: &Course<'_>, chance: &mut Chance) -> bool {
+    fn agrees(
+        &mut self,
+        other: &mut Self,
+        _alloc: Global,
+        course: &Course<'_>,
+        chance: &mut Chance,
+    ) -> Result<bool, NoMemory> {
         let mut both = Both {
             lagging: self,
             stepped: other,
+            micro: course.clock.micro(),
             calm: 0,
             lines: (0, false),
         };
-        both.agree_on(chance, course.lists, course.acts)
+        Ok(both.agree_on(chance, course.lists, course.acts))
     }
 }
 
 /// Whether both buses agree on so many acts of a seed, and come to the same behind them.
 pub fn agrees(alloc: Global, seed: u64, acts: u64, lists: Lists<'_>) -> Result<bool, NoMemory> {
     let mut chance = Chance::new(seed, 3);
-    let clock = if chance.once_in(2) {
-        Clock::Three
-    } else {
-        Clock::Four
-    };
+    let clock = chance.clock();
     let course = Course { clock, lists, acts };
     agree::<Course<'_>, Bus>(alloc, &course, &mut chance)
 }

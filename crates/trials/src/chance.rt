@@ -1,6 +1,7 @@
 //! Numbers that look like chance.
 ghost use Rattle.std.specs.Prelude.{◌<◌};
 
+use beeb_bits::Clock;
 use rand_core::utils::NextWord;
 use rand_pcg::Lcg64Xsh32;
 
@@ -45,6 +46,14 @@ impl Chance {
             return 0;
         }
         addresses[place % addresses.len()]
+    }
+
+    pub fn clock(&mut self) -> Clock {
+        if self.once_in(2) {
+            Clock::Three
+        } else {
+            Clock::Four
+        }
     }
 
     /// An address below 8000.

@@ -7,7 +7,7 @@ use op_table::{Mnemonic, Mode, Part, Row, cmos, nmos};
 use std::alloc::{AllocError, Global};
 
 /// Where pages or devices begin and end, or memory wraps.
-const EDGES: [u16; 40] = [
+pub const EDGES: [u16; 40] = [
     0x0000, 0x0001, 0x00fe, 0x00ff, 0x0100, 0x01fe, 0x01ff, 0x0200, 0x02ff, 0x7ffe, 0x7fff, 0x8000,
     0xbfff, 0xc000, 0xf7ff, 0xf800, 0xf8ff, 0xfbfe, 0xfbff, 0xfc00, 0xfdff, 0xfe00, 0xfe01, 0xfe21,
     0xfe30, 0xfe44, 0xfe45, 0xfe4d, 0xfe4e, 0xfedf, 0xfee0, 0xfee1, 0xfef7, 0xfef8, 0xfef9, 0xfeff,
@@ -22,8 +22,8 @@ pub struct Place {
     pub page: u16,
 }
 
-// Writes bytes from a place on, as far as there is room.
-fn put(bytes: &mut [u8], start: usize, part: &[u8]) {
+/// Writes bytes from a place on, as far as there is room.
+pub fn put(bytes: &mut [u8], start: usize, part: &[u8]) {
     for (i, byte) in part.iter().enumerate() {
         if let Some(at) = bytes.get_mut(start.wrapping_add(i)) {
             *at = *byte;
@@ -31,12 +31,13 @@ fn put(bytes: &mut [u8], start: usize, part: &[u8]) {
     }
 }
 
-// The low byte and the high byte.
-fn halves(address: u16) -> [u8; 2] {
+/// The low byte and the high byte.
+pub fn halves(address: u16) -> [u8; 2] {
     [(address % 256) as u8, (address / 256) as u8]
 }
 
-fn row_at(part: Part, op: u8) -> Option<Row> {
+/// The instruction of an opcode.
+pub fn row_at(part: Part, op: u8) -> Option<Row> {
     match part {
         Part::Nmos => nmos(op),
         Part::Cmos => Some(cmos(op)),

@@ -1,15 +1,18 @@
 //! The host, an NMOS 6502.
 use crate::chance::Chance;
 use crate::code::Place;
-use crate::roads::come_to_the_same;
+use crate::roads::{Course, Stands, come_to_the_same};
 use crate::twins::{Tried, agree};
 use beeb_bits::{Clock, NoMemory};
+use bus_plug::RamCard;
+use cpu_alu::Regs;
+use disc_image::{Disc, Kind};
 use host_mach::HostMachine;
 use key_script::read;
 use op_table::Part;
 use rom_set::RomSet;
 use std::alloc::Global;
-use tube_party::Party;
+use tube_party::{Forward, Party};
 
 // Keys and levels, at ticks of a second processor at 3 MHz and at 4 MHz.
 const KEYS: &[u8] = b"at 45500 down 41
@@ -52,75 +55,87 @@ fn events(chance: &mut Chance, clock: Clock) -> &'static [u8] {
     }
 }
 
-// What both machines begin with: a clock, an image, which is the operating system and the ROM in slot 0, and events.
-#[derive(Drop)]
-struct Course {
-    clock: Clock,
-    image: Vec<u8>,
-    events: &'static [u8],
+// A disc, where a course has one.
+fn disc_of(alloc: Global, course: &Course) -> Result<Option<Disc>, NoMemory> {
+    if !course.has_disc {
+        return Ok(None);
+    }
+    let bytes = vec![in alloc; 0xa5; 2_560]?;
+    Ok(Disc::make(alloc, Kind::Ssd, bytes).ok())
 }
 
-fn machine(alloc: Global, course: &Course) -> Result<HostMachine, NoMemory> {
+/// The host as a party that notes nothing. No device is plugged in.
+pub type Host = Forward<HostMachine<RamCard>>;
+
+// A machine of a course, with its image as the operating system and as the ROM in slot 0.
+fn machine(alloc: Global, course: &Course) -> Result<HostMachine<RamCard>, NoMemory> {
+    let disc = disc_of(alloc, course)?;
     let Ok(slots) = vec![in alloc; (0, course.image.to_vec(alloc)?)] else {
         return Err(NoMemory);
     };
     let Ok(roms) = RomSet::read(course.image.to_vec(alloc)?, slots, None) else {
         return Err(NoMemory);
     };
-    let Ok(script) = read(alloc, course.events) else {
+    let Ok(script) = read(alloc, &course.script) else {
         return Err(NoMemory);
     };
-    HostMachine::make(
-        alloc,
-        course.clock,
-        roms,
-        None,
-        None,
-        script,
-        Vec::new(alloc),
-    )
+    let plugs = Vec::new(alloc);
+    HostMachine::make(alloc, course.clock, roms, disc, None, script, plugs)
 }
 
-fn is_same(one: &HostMachine, other: &HostMachine) -> bool {
-    one.regs() == other.regs()
-        && one.due() == other.due()
-        && one.halted() == other.halted()
-        && one.starting() == other.starting()
-        && one.ram() == other.ram()
-        && one.sound() == other.sound()
+// The same machine as one that notes nothing. Generic, as `agree` is.
+fn forward<P: Party>(made: Result<P, NoMemory>) -> Result<Forward<P>, NoMemory> {
+    Ok(Forward { party: made? })
 }
 
-impl Tried<Course> for HostMachine {
-    fn make(alloc: Global, course: &Course) -> Result<Self, NoMemory> {
-        machine(alloc, course)
+impl Stands for Host {
+    fn part() -> Part {
+        Part::Nmos
     }
 
-    fn agrees(&mut self, other: &mut Self, course: &Course, chance: &mut Chance) -> bool {
-        // The way in takes 15,134 cycles.
-        let begun = course.clock.host() * (15_100 + u64::from(chance.below(60)));
-        let more = chance.below(6_000);
-        come_to_the_same(self, other, chance, begun, more) && is_same(self, other)
+    fn registers(&self) -> Regs {
+        self.party.regs()
+    }
+
+    fn is_as(&self, other: &Host) -> bool {
+        let one = &self.party;
+        let other = &other.party;
+        one.regs() == other.regs()
+            && one.due() == other.due()
+            && one.halted() == other.halted()
+            && one.starting() == other.starting()
+            && one.ram() == other.ram()
+            && one.sound() == other.sound()
+    }
+}
+
+impl Tried<Course> for Host {
+    fn make(alloc: Global, course: &Course) -> Result<Self, NoMemory> {
+        forward(machine(alloc, course))
+    }
+
+    fn agrees(
+        &mut self,
+        other: &mut Self,
+        alloc: Global,
+        course: &Course,
+        chance: &mut Chance,
+    ) -> Result<bool, NoMemory> {
+        come_to_the_same(alloc, self, other, course, chance)
     }
 }
 
 /// Whether a program of a seed comes to the same by both roads.
 pub fn agrees(alloc: Global, seed: u64) -> Result<bool, NoMemory> {
     let mut chance = Chance::new(seed, 2);
-    let clock = if chance.once_in(2) {
-        Clock::Three
-    } else {
-        Clock::Four
-    };
+    let clock = chance.clock();
     let place = Place {
         part: Part::Nmos,
         base: 0xc000,
         page: ((0x02 + chance.below(0x7e)) % 256 * 256) as u16,
     };
     let image = place.image(alloc, &mut chance, 16_384)?;
-    let course = Course {
-        clock,
-        image,
-        events: events(&mut chance, clock),
-    };
-    agree::<Course, HostMachine>(alloc, &course, &mut chance)
+    let script = events(&mut chance, clock).to_vec(alloc)?;
+    let course = Course::of_program(&mut chance, clock, clock.host(), image, script);
+    agree::<Course, Host>(alloc, &course, &mut chance)
 }

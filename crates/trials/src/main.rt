@@ -1,16 +1,19 @@
 //! Trials by chance: what is done quickly beside the same one step after another, on random programs and acts.
 //!
 //! `trials 65c02 SEED COUNT`: so many programs of the second processor, by whole instructions and cycle by cycle. `trials 6502 SEED COUNT`: the
-//! same of the host. `trials acts SEED COUNT`: so many acts on the host's bus, whose devices lag behind, and on one that is closed at each tick.
-//! `trials all SEED COUNT`: all three, with ten times as many acts. The status is 0 where nothing differs, else 1.
+//! same of the host. `trials edges SEED COUNT`: instructions of both at edges, and lines that turn about them. `trials acts SEED COUNT`: so many
+//! acts on the host's bus, whose devices lag behind, and on one that is closed at each tick. `trials all SEED COUNT`: all four, with ten times as
+//! many edges and acts. The status is 0 where nothing differs, else 1.
 #![tactic(auto)]
 
 mod acts;
 mod chance;
 mod code;
+mod edges;
 mod host;
 mod roads;
 mod second;
+mod setting;
 mod twins;
 
 use beeb_bits::NoMemory;
@@ -24,6 +27,7 @@ use std::rt::Env;
 enum Kind {
     Second,
     Host,
+    Edges,
     Acts,
 }
 
@@ -31,6 +35,7 @@ fn name_of(kind: Kind) -> &'static str {
     match kind {
         Kind::Second => "65c02",
         Kind::Host => "6502",
+        Kind::Edges => "edges",
         Kind::Acts => "acts",
     }
 }
@@ -47,6 +52,7 @@ const LISTS: acts::Lists<'static> = acts::Lists {
     script: acts::EVENTS,
     settings: &acts::SETTINGS,
     screen: &acts::SMALL_SCREEN,
+    sector: &acts::SECTOR,
     size: 16_384,
 };
 
@@ -55,6 +61,7 @@ fn agrees(alloc: Global, kind: Kind, seed: u64, left: u64) -> Result<bool, NoMem
     match kind {
         Kind::Second => second::agrees(alloc, seed),
         Kind::Host => host::agrees(alloc, seed),
+        Kind::Edges => edges::agrees(alloc, seed),
         Kind::Acts => acts::agrees(alloc, seed, left.min(acts::ACTS), LISTS),
     }
 }
@@ -107,6 +114,7 @@ fn read_words<R: Env + AllocGlobal>(rt: &R) -> Option<Request> {
     let kind = match what.as_str() {
         "65c02" => Some(Kind::Second),
         "6502" => Some(Kind::Host),
+        "edges" => Some(Kind::Edges),
         "acts" => Some(Kind::Acts),
         "all" => None,
         _ => return None,
@@ -124,8 +132,10 @@ fn carried_out<R: Print>(rt: &R, alloc: Global, request: Request) -> bool {
     }
     let second = tried(rt, alloc, Kind::Second, seed, count);
     let host = tried(rt, alloc, Kind::Host, seed, count);
-    let acts = tried(rt, alloc, Kind::Acts, seed, count.saturating_mul(10));
-    second && host && acts
+    let more = count.saturating_mul(10);
+    let edges = tried(rt, alloc, Kind::Edges, seed, more);
+    let acts = tried(rt, alloc, Kind::Acts, seed, more);
+    second && host && edges && acts
 }
 
 fn main(rt: HostRuntime) -> ExitCode {
@@ -133,7 +143,7 @@ fn main(rt: HostRuntime) -> ExitCode {
     let is_same = match read_words(&rt) {
         Some(request) => carried_out(&rt, alloc, request),
         None => {
-            let _ = eprintln!(rt; "usage: trials 65c02|6502|acts|all SEED COUNT");
+            let _ = eprintln!(rt; "usage: trials 65c02|6502|edges|acts|all SEED COUNT");
             false
         }
     };

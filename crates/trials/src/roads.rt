@@ -2,9 +2,13 @@
 ghost use Rattle.std.specs.Prelude.{◌≤◌, ◌^◌};
 
 use crate::chance::Chance;
-use beeb_bits::Tick;
+use crate::setting::is_handler;
+use beeb_bits::{Clock, NoMemory, Tick};
+use cpu_alu::{DECIMAL, INTERRUPT, Regs};
+use op_table::Part;
+use std::alloc::Global;
 use tube_chip::{Answer, Lines, Op};
-use tube_party::{Ask, MOST, NO_LINES, Party};
+use tube_party::{Ask, MOST, NO_LINES, Party, Rewinds};
 
 // A Tube that answers by chance: bytes to accesses, of which it keeps a sum, and lines that stay as they are for a while.
 #[derive(Drop)]
@@ -25,8 +29,8 @@ impl Tube {
     // The same seed answers the same.
     fn new(seed: u64, from: u64) -> Tube {
         let mut answers = Chance::new(seed, 7);
-        let stay = 16_u64 << answers.below(8);
-        let drives = if answers.once_in(2) {
+        let stay = 4_u64 << answers.below(10);
+        let drives = if answers.once_in(3) {
             0
         } else {
             u64::from(answers.word())
@@ -66,7 +70,8 @@ impl Tube {
 
     // In which stay of lines a tick is.
     fn number(&self, t: u64) -> u64 {
-        if self.stay == 0 { 0 } else { t / self.stay }
+        let since = t.saturating_sub(self.from);
+        if self.stay == 0 { 0 } else { since / self.stay }
     }
 
     fn lines(&self, t: u64) -> Lines {
@@ -98,7 +103,8 @@ impl Tube {
         if t < self.from {
             return self.from;
         }
-        self.number(t).wrapping_add(1).wrapping_mul(self.stay)
+        let stays = self.number(t).wrapping_add(1).wrapping_mul(self.stay);
+        self.from.wrapping_add(stays)
     }
 
     // Whether both were asked the same, in the same order.
@@ -123,8 +129,53 @@ fn step<M: Party>(machine: &mut M, until: u64, tube: &mut Tube)
     }
 }
 
-// With horizons that are mostly far.
-fn go_far<M: Party>(machine: &mut M, end: u64, tube: &mut Tube, chance: &mut Chance)
+// Goes ahead with notes from where it is, as if lines stayed as they are, as long as there is room, or some ticks.
+#[tactic(auto, using(tube_party::specs::Steps::left_at_look))]
+fn note<M: Rewinds>(machine: &mut M, past: &mut M::Past, lines: &Lines, sure: Tick, more: Tick) {
+    let end = Tick(MOST);
+    let Some(Ask::Look(_)) = machine.advance_noting(end, lines, sure, past) else {
+        return;
+    };
+    let Ask::Look(_) = machine.advance_on(end, lines, more, past) else {
+        return;
+    };
+    let Ask::Look(_) = machine.advance_on(end, lines, more, past) else {
+        return;
+    };
+    let _ = machine.advance_on(end, lines, more, past);
+}
+
+// Goes ahead with notes and back again; or up to a tick, and stays there.
+fn go_ahead<M: Rewinds>(
+    machine: &mut M,
+    past: &mut M::Past,
+    until: u64,
+    tube: &Tube,
+    chance: &mut Chance,
+)
+    requires { until ≤ MOST }
+{
+    let t = machine.due().0;
+    let lines = tube.lines(t);
+    if chance.once_in(2) {
+        let _ = machine.advance_noting(Tick(until), &lines, Tick(tube.sure(t)), past);
+        return;
+    }
+    let sure = t.saturating_add(u64::from(chance.below(64)));
+    let more = if chance.once_in(4) { 50_000 } else { 64 };
+    let more = sure.saturating_add(u64::from(chance.below(more)));
+    note(machine, past, &lines, Tick(sure), Tick(more));
+    machine.rewind(past);
+}
+
+// With horizons that are mostly far, and at times with notes.
+fn go_far<M: Rewinds>(
+    machine: &mut M,
+    past: &mut M::Past,
+    end: u64,
+    tube: &mut Tube,
+    chance: &mut Chance,
+)
     requires { end ≤ MOST }
 {
     for _ in 0..end {
@@ -137,39 +188,122 @@ fn go_far<M: Party>(machine: &mut M, end: u64, tube: &mut Tube, chance: &mut Cha
             1 => chance.below(400),
             _ => 0x4000_0000,
         };
-        step(machine, end.min(t.saturating_add(u64::from(ahead))), tube);
+        let until = end.min(t.saturating_add(u64::from(ahead)));
+        if chance.once_in(8) {
+            go_ahead(machine, past, until, tube, chance);
+        }
+        step(machine, until, tube);
     }
     step(machine, end, tube);
 }
 
-// With a horizon at each tick.
-fn go_by_ticks<M: Party>(machine: &mut M, end: u64, tube: &mut Tube)
+// Whether an interrupt, if there was one between, left the flags as it does: I is set, and on the 65C02 D clear.
+fn masks(part: Part, before: &Regs, now: &Regs) -> bool {
+    if !is_handler(part, now.pc) || now.s != before.s.wrapping_sub(3) {
+        return true;
+    }
+    let p = match part {
+        Part::Nmos => before.p,
+        Part::Cmos => before.p & !DECIMAL,
+    };
+    now.p == p | INTERRUPT
+}
+
+// With a horizon at each tick. Whether interrupts leave the flags as they do.
+fn go_by_ticks<M: Stands>(machine: &mut M, end: u64, tube: &mut Tube) -> bool
     requires { end ≤ MOST }
 {
+    let mut is_right = true;
+    let mut before = machine.registers();
     for t in machine.due().0..end {
         step(machine, t + 1, tube);
+        let now = machine.registers();
+        is_right = is_right && masks(M::part(), &before, &now);
+        before = now;
     }
     step(machine, end, tube);
+    is_right
 }
 
-/// Goes to a tick with both, and from there so many ticks on, with each by its own road. True where both ask the same of the Tube, in the same
-/// order.
-pub fn come_to_the_same<M: Party>(
+/// A machine whose registers are seen.
+pub trait Stands: Rewinds {
+    fn part() -> Part;
+
+    fn registers(&self) -> Regs;
+
+    /// Whether both are at the same step with the same registers, and hold the same.
+    fn is_as(&self, other: &Self) -> bool;
+}
+
+/// What both machines begin with: a clock, an image, a script and a disc or none; the tick to which both go by the same road, and from which on
+/// lines turn; and two at which they are to come to the same.
+#[derive(Drop)]
+pub struct Course {
+    pub clock: Clock,
+    pub image: Vec<u8>,
+    pub script: Vec<u8>,
+    pub has_disc: bool,
+    pub begun: u64,
+    pub from: u64,
+    pub middle: u64,
+    pub end: u64,
+}
+
+impl Course {
+    /// The course of a random program, whose way in takes 15,134 cycles.
+    pub fn of_program(
+        chance: &mut Chance,
+        clock: Clock,
+        cycle: u64,
+        image: Vec<u8>,
+        script: Vec<u8>,
+    ) -> Course
+        requires { cycle ≤ 6 }
+    {
+        let begun = cycle * (15_100 + u64::from(chance.below(60) % 60));
+        let middle = begun + u64::from(chance.below(3_000) % 3_000);
+        let end = middle + u64::from(chance.below(3_000) % 3_000);
+        Course {
+            clock,
+            image,
+            script,
+            has_disc: false,
+            begun,
+            from: begun,
+            middle,
+            end,
+        }
+    }
+}
+
+/// Goes to a tick with both, and from there on with each by its own road. Whether both ask the same of the Tube, in the same order, and come to
+/// the same.
+pub fn come_to_the_same<M: Stands>(
+    alloc: Global,
     far: &mut M,
     near: &mut M,
+    course: &Course,
     chance: &mut Chance,
-    begun: u64,
-    more: u32,
-) -> bool
-    requires { begun ≤ 2 ^ 20 }
-{
+) -> Result<bool, NoMemory> {
+    let mut past = M::past(alloc)?;
     let seed = u64::from(chance.word());
-    let mut far_tube = Tube::new(seed, begun);
-    let mut near_tube = Tube::new(seed, begun);
-    go_far(far, begun, &mut far_tube, chance);
-    go_far(near, begun, &mut near_tube, chance);
-    let end = begun + u64::from(more % 0x100_0000);
-    go_far(far, end, &mut far_tube, chance);
-    go_by_ticks(near, end, &mut near_tube);
-    far_tube.heard_the_same(&near_tube)
+    let mut far_tube = Tube::new(seed, course.from);
+    let mut near_tube = Tube::new(seed, course.from);
+    let begun = course.begun.min(MOST);
+    go_far(near, &mut past, begun, &mut near_tube, chance);
+    // Where it stops there, the instruction with which it goes on is done cycle by cycle.
+    if chance.once_in(4) {
+        go_far(far, &mut past, begun, &mut far_tube, chance);
+    }
+    for end in [course.middle, course.end] {
+        let end = end.min(MOST);
+        go_far(far, &mut past, end, &mut far_tube, chance);
+        if !go_by_ticks(near, end, &mut near_tube)
+            || !far_tube.heard_the_same(&near_tube)
+            || !far.is_as(near)
+        {
+            return Ok(false);
+        }
+    }
+    Ok(true)
 }

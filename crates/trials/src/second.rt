@@ -1,53 +1,57 @@
 //! The second processor, a 65C02.
 use crate::chance::Chance;
 use crate::code::Place;
-use crate::roads::come_to_the_same;
+use crate::roads::{Course, Stands, come_to_the_same};
 use crate::twins::{Tried, agree};
-use beeb_bits::{Clock, NoMemory};
+use beeb_bits::NoMemory;
+use cpu_alu::Regs;
 use op_table::Part;
 use para_mach::ParaMachine;
 use std::alloc::Global;
 use tube_party::Party;
 
-// What both machines begin with.
-#[derive(Drop)]
-struct Course {
-    clock: Clock,
-    rom: Vec<u8>,
-}
+impl Stands for ParaMachine {
+    fn part() -> Part {
+        Part::Cmos
+    }
 
-fn is_same(one: &ParaMachine, other: &ParaMachine) -> bool {
-    one.regs() == other.regs()
-        && one.due() == other.due()
-        && one.held() == other.held()
-        && one.starting() == other.starting()
-        && one.ram() == other.ram()
+    fn registers(&self) -> Regs {
+        self.regs()
+    }
+
+    fn is_as(&self, other: &ParaMachine) -> bool {
+        self.regs() == other.regs()
+            && self.due() == other.due()
+            && self.held() == other.held()
+            && self.starting() == other.starting()
+            && self.ram() == other.ram()
+            && self.peek(0xf800) == other.peek(0xf800)
+    }
 }
 
 impl Tried<Course> for ParaMachine {
     fn make(alloc: Global, course: &Course) -> Result<Self, NoMemory> {
-        match ParaMachine::make(alloc, course.clock, course.rom.to_vec(alloc)?) {
+        match ParaMachine::make(alloc, course.clock, course.image.to_vec(alloc)?) {
             Ok(machine) => Ok(machine),
             Err(_) => Err(NoMemory),
         }
     }
 
-    fn agrees(&mut self, other: &mut Self, course: &Course, chance: &mut Chance) -> bool {
-        // The way in takes 15,134 cycles.
-        let begun = course.clock.para() * (15_100 + u64::from(chance.below(60)));
-        let more = chance.below(6_000);
-        come_to_the_same(self, other, chance, begun, more) && is_same(self, other)
+    fn agrees(
+        &mut self,
+        other: &mut Self,
+        alloc: Global,
+        course: &Course,
+        chance: &mut Chance,
+    ) -> Result<bool, NoMemory> {
+        come_to_the_same(alloc, self, other, course, chance)
     }
 }
 
 /// Whether a program of a seed comes to the same by both roads.
 pub fn agrees(alloc: Global, seed: u64) -> Result<bool, NoMemory> {
     let mut chance = Chance::new(seed, 1);
-    let clock = if chance.once_in(2) {
-        Clock::Three
-    } else {
-        Clock::Four
-    };
+    let clock = chance.clock();
     let page = if chance.once_in(2) {
         0x02 + chance.below(0x7e)
     } else {
@@ -58,7 +62,8 @@ pub fn agrees(alloc: Global, seed: u64) -> Result<bool, NoMemory> {
         base: 0xf800,
         page: ((page % 256) * 256) as u16,
     };
-    let rom = place.image(alloc, &mut chance, 2_048)?;
-    let course = Course { clock, rom };
+    let image = place.image(alloc, &mut chance, 2_048)?;
+    let script = Vec::new(alloc);
+    let course = Course::of_program(&mut chance, clock, clock.para(), image, script);
     agree::<Course, ParaMachine>(alloc, &course, &mut chance)
 }

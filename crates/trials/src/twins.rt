@@ -9,7 +9,13 @@ pub trait Tried<C>: Drop {
     fn make(alloc: Global, course: &C) -> Result<Self, NoMemory>;
 
     /// Whether both come to the same on the course.
-    fn agrees(&mut self, other: &mut Self, course: &C, chance: &mut Chance) -> bool;
+    fn agrees(
+        &mut self,
+        other: &mut Self,
+        alloc: Global,
+        course: &C,
+        chance: &mut Chance,
+    ) -> Result<bool, NoMemory>;
 }
 
 /// Whether two that are made for a course come to the same on it. Generic, since a proof that sees the fields of a machine follows each of them
@@ -21,5 +27,5 @@ pub fn agree<C, T: Tried<C>>(
 ) -> Result<bool, NoMemory> {
     let mut one = T::make(alloc, course)?;
     let mut other = T::make(alloc, course)?;
-    Ok(one.agrees(&mut other, course, chance))
+    one.agrees(&mut other, alloc, course, chance)
 }

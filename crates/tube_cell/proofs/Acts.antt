@@ -8,7 +8,8 @@ use Rattle.tube_chip.specs.declared.Answer.TheVariants.{Byte, Seen}
 use Rattle.tube_chip.specs.State.{State, lines_of}
 use Rattle.tube_chip.specs.Act.{answer_of, chip_after}
 use Rattle.tube_chip.specs.Events.{Event, after_from}
-use Rattle.tube_cell.specs.Views.{Known, View, word_of_other, own_bound, other_bound, bound_at, slack, Admits, horizon, past_last, chip_after_event, Answers, same_readings, trust_next, trust_past, trust_after}
+use Rattle.tube_cell.specs.Views.{Known, View, word_of_other, own_bound, other_bound, bound_at, slack, Admits, horizon, past_last, chip_after_event}
+use Rattle.tube_cell.specs.Views.{Answers, same_readings, trust_next, trust_past, trust_after}
 use Rattle.tube_cell.specs.Rules.{added_view}
 use Rattle.tube_cell.specs.Passes.{Carried, carried_of, own_horizon, access_at, lines_at, here, trust_here, bound_here, after_add}
 use Rattle.tube_cell.specs.Steps.{Runs, Watches, IsPassOf, CutIs}
@@ -27,7 +28,8 @@ pub runs_later : (s : Side) (t a from : ℕ) (c : State) (es : List Event) (last
 runs_later s t a from c [] last end more h le = let x = h.1 in (h.0, omega arith)
 runs_later s t a from c (e ∷ es) last end more h le = (h.0, h.1, h.2, h.3, runs_later s t (trust_past s c e a) (e.tick + 1) (chip_after_event c e) es last end more h.4 le)
 
-runs_append : (s : Side) (t a from : ℕ) (c : State) (xs : List Event) (mid : State) (end : ℕ) (ys : List Event) (last : State) (stop : ℕ) → Runs s t a from c xs mid end → Runs s t (trust_after s c a xs) end mid ys last stop
+runs_append : (s : Side) (t a from : ℕ) (c : State) (xs : List Event) (mid : State) (end : ℕ) (ys : List Event) (last : State) (stop : ℕ)
+    → Runs s t a from c xs mid end → Runs s t (trust_after s c a xs) end mid ys last stop
     → Runs s t a from c (xs ++ ys) last stop
 runs_append s t a from c [] mid end ys last stop h k = runs_from s t a end from c ys last stop (subst (λ (d : State). Runs s t a end d ys last stop) h.0 k) h.1
 runs_append s t a from c (x ∷ xs) mid end ys last stop h k = (h.0, h.1, h.2, h.3, runs_append s t (trust_past s c x a) (x.tick + 1) (chip_after_event c x) xs mid end ys last stop h.4 k)
@@ -67,7 +69,8 @@ trust_after_append s c a (x ∷ xs) ys = trust_after_append s (chip_after_event 
 added_runs : (s : Side) (k : Known) (mine ahead : List Event) (here : State) (es : List Event) (last : State) (end : ℕ) → RunsOn s k mine ahead here
     → Runs s (word_of_other s k) (trust_after s k.chip k.trust ahead) (horizon (own_bound s k) (mine ++ ahead)) here es last end → RunsOn s k mine (ahead ++ es) last
 added_runs s k mine ahead here es last end on h =
-    runs_append s (word_of_other s k) k.trust (horizon (own_bound s k) mine) k.chip ahead here (horizon (own_bound s k) (mine ++ ahead)) es last (horizon (own_bound s k) (mine ++ (ahead ++ es))) on (go es h)
+    runs_append s (word_of_other s k) k.trust (horizon (own_bound s k) mine) k.chip ahead here (horizon (own_bound s k) (mine ++ ahead)) es last
+    (horizon (own_bound s k) (mine ++ (ahead ++ es))) on (go es h)
   where
     go : (es : List Event) → Runs s (word_of_other s k) (trust_after s k.chip k.trust ahead) (horizon (own_bound s k) (mine ++ ahead)) here es last end
         → Runs s (word_of_other s k) (trust_after s k.chip k.trust ahead) (horizon (own_bound s k) (mine ++ ahead)) here es last (horizon (own_bound s k) (mine ++ (ahead ++ es)))
@@ -76,7 +79,8 @@ added_runs s k mine ahead here es last end on h =
         let f = h.1 in
         let a = runs_grow s (word_of_other s k) (trust_after s k.chip k.trust ahead) (horizon (own_bound s k) (mine ++ ahead)) here e es last end h in
         let b : past_last (mine ++ (ahead ++ e ∷ es)) ≡ past_last (e ∷ es) = ap past_last (sym (append_assoc mine ahead (e ∷ es))) ∙ past_last-more (mine ++ ahead) e es in
-        runs_later s (word_of_other s k) (trust_after s k.chip k.trust ahead) (horizon (own_bound s k) (mine ++ ahead)) here (e ∷ es) last (horizon (horizon (own_bound s k) (mine ++ ahead)) (e ∷ es)) (horizon (own_bound s k) (mine ++ (ahead ++ e ∷ es)))
+        runs_later s (word_of_other s k) (trust_after s k.chip k.trust ahead) (horizon (own_bound s k) (mine ++ ahead)) here (e ∷ es) last
+        (horizon (horizon (own_bound s k) (mine ++ ahead)) (e ∷ es)) (horizon (own_bound s k) (mine ++ (ahead ++ e ∷ es)))
         (runs_tight s (word_of_other s k) (trust_after s k.chip k.trust ahead) (horizon (own_bound s k) (mine ++ ahead)) here (e ∷ es) last end h) (omega arith)
 
 pub pass_added : (s : Side) (words : List ℕ) (here last : State) (end : ℕ) (es : List Event) (v w : View) → IsPassOf s words here v → v.trusted ≡ [] → w ≡ added_view v es
@@ -105,7 +109,8 @@ here_of id s words old p v view is =
     runs_local s (word_of_other s v.known) v.known.trust (horizon (own_bound s v.known) v.mine) v.known.chip v.ahead old (horizon (own_bound s v.known) (v.mine ++ v.ahead)) is.runs ∙ ap here view
 
 -- the other's bound, as the code has it
-pub bound_is : (id : TableId) (s : Side) (p : Carried) (v : View) (bound known cut trust : ℕ) → carried_of id s v ≡ p → CutIs s cut v → known ≡ v.known.trust → known < 2 ^ 64 → trust ≡ min known cut → bound ≡ bound_at s (word_of_other s v.known) trust → bound ≡ bound_here p
+pub bound_is : (id : TableId) (s : Side) (p : Carried) (v : View) (bound known cut trust : ℕ) → carried_of id s v ≡ p → CutIs s cut v
+    → known ≡ v.known.trust → known < 2 ^ 64 → trust ≡ min known cut → bound ≡ bound_at s (word_of_other s v.known) trust → bound ≡ bound_here p
 bound_is id s p v bound known cut trust view cuts known_is small trust_is is =
     is ∙ ap (λ t. bound_at s (word_of_other s v.known) t) (trust_is ∙ ap (λ n. min n cut) known_is ∙ sym (cuts v.known.trust (omega arith))) ∙ ap bound_here view
 
@@ -116,7 +121,8 @@ pub is_added : (id id' : TableId) (s : Side) (p : Carried) (v w : View) (es : Li
 is_added id id' s p v w es view cell w_is = (λ i. carried_of (cell i) s (w_is i)) ∙ ap (λ (q : Carried). after_add q es) view
 
 -- one event at the local chip
-one_runs : (id : TableId) (s : Side) (words : List ℕ) (old : State) (p : Carried) (v : View) (e : Event) → carried_of id s v ≡ p → IsPassOf s words old v → e.side ≡ s → own_horizon p ≤ e.tick → Admits p.side (bound_here p) e.tick → Answers old e
+one_runs : (id : TableId) (s : Side) (words : List ℕ) (old : State) (p : Carried) (v : View) (e : Event) → carried_of id s v ≡ p
+    → IsPassOf s words old v → e.side ≡ s → own_horizon p ≤ e.tick → Admits p.side (bound_here p) e.tick → Answers old e
     → Runs s (word_of_other s v.known) (trust_after s v.known.chip v.known.trust v.ahead) (horizon (own_bound s v.known) (v.mine ++ v.ahead)) old (e ∷ []) (chip_after_event old e) (e.tick + 1)
 one_runs id s words old p v e view is side later admitted answers =
     let later' : own_horizon (carried_of id s v) ≤ e.tick = subst (λ (q : Carried). own_horizon q ≤ e.tick) (sym view) later in
@@ -130,14 +136,17 @@ act_of t s op v = access_at t s op (after_from v.known.chip v.ahead)
 abbrev pub see_of : ℕ → Side → View → Event
 see_of t s v = lines_at t s (lines_of (after_from v.known.chip v.ahead))
 
-pub is_acted : (id id' : TableId) (s : Side) (p : Carried) (v w : View) (t : ℕ) (op : Op) → carried_of id s v ≡ p → id' ≡ id → w ≡ added_view v (act_of t s op v ∷ []) → carried_of id' s w ≡ after_add p (access_at t p.side op (here p) ∷ [])
+pub is_acted : (id id' : TableId) (s : Side) (p : Carried) (v w : View) (t : ℕ) (op : Op) → carried_of id s v ≡ p → id' ≡ id
+    → w ≡ added_view v (act_of t s op v ∷ []) → carried_of id' s w ≡ after_add p (access_at t p.side op (here p) ∷ [])
 is_acted id id' s p v w t op view cell w_is = (λ i. carried_of (cell i) s (w_is i)) ∙ ap (λ (q : Carried). after_add q (access_at t q.side op (here q) ∷ [])) view
 
-pub is_seen : (id id' : TableId) (s : Side) (p : Carried) (v w : View) (t : ℕ) → carried_of id s v ≡ p → id' ≡ id → w ≡ added_view v (see_of t s v ∷ []) → carried_of id' s w ≡ after_add p (lines_at t p.side (lines_of (here p)) ∷ [])
+pub is_seen : (id id' : TableId) (s : Side) (p : Carried) (v w : View) (t : ℕ) → carried_of id s v ≡ p → id' ≡ id
+    → w ≡ added_view v (see_of t s v ∷ []) → carried_of id' s w ≡ after_add p (lines_at t p.side (lines_of (here p)) ∷ [])
 is_seen id id' s p v w t view cell w_is = (λ i. carried_of (cell i) s (w_is i)) ∙ ap (λ (q : Carried). after_add q (lines_at t q.side (lines_of (here q)) ∷ [])) view
 
 pub local_of : (s : Side) (words : List ℕ) (old : State) (v : View) → IsPassOf s words old v → old ≡ after_from v.known.chip v.ahead
-local_of s words old v is = runs_local s (word_of_other s v.known) v.known.trust (horizon (own_bound s v.known) v.mine) v.known.chip v.ahead old (horizon (own_bound s v.known) (v.mine ++ v.ahead)) is.runs
+local_of s words old v is = runs_local s (word_of_other s v.known) v.known.trust (horizon (own_bound s v.known) v.mine) v.known.chip v.ahead old
+    (horizon (own_bound s v.known) (v.mine ++ v.ahead)) is.runs
 
 pub acted : (id : TableId) (s : Side) (words : List ℕ) (old new : State) (p : Carried) (v w : View) (t : ℕ) (op : Op) → carried_of id s v ≡ p → IsPassOf s words old v → p.trusted ≡ []
     → own_horizon p ≤ t → Admits p.side (bound_here p) t → new ≡ chip_after old s op → w ≡ added_view v (act_of t s op v ∷ []) → IsPassOf s words new w
@@ -192,7 +201,8 @@ watch_runs s t a from c (e ∷ es) end h le =
           (runs_later s t a (e.tick + 1) c es c (max (e.tick + 1) end) (max from end) (watch_runs s t a (e.tick + 1) c es end h.5 le) (omega arith)),
     )
 
-watch_old : (id : TableId) (s : Side) (words : List ℕ) (old : State) (p : Carried) (v : View) (es : List Event) (end : ℕ) → carried_of id s v ≡ p → IsPassOf s words old v → Watches p.side (own_horizon p) (here p) es end
+watch_old : (id : TableId) (s : Side) (words : List ℕ) (old : State) (p : Carried) (v : View) (es : List Event) (end : ℕ) → carried_of id s v ≡ p
+    → IsPassOf s words old v → Watches p.side (own_horizon p) (here p) es end
     → Watches s (horizon (own_bound s v.known) (v.mine ++ v.ahead)) old es end
 watch_old id s words old p v es end view is h =
     subst (λ (c : State). Watches s (horizon (own_bound s v.known) (v.mine ++ v.ahead)) c es end) (sym (local_of s words old v is))
@@ -203,7 +213,8 @@ pub saw_all : (id : TableId) (s : Side) (words : List ℕ) (old : State) (p : Ca
 saw_all id s words old p v w es end view is trusted watches admitted w_is =
     let admitted' : end + slack s ≤ bound_here (carried_of id s v) + 1 = subst (λ (q : Carried). end + slack q.side ≤ bound_here q + 1) (sym view) admitted in
     pass_added s words old old (max (horizon (own_bound s v.known) (v.mine ++ v.ahead)) end) es v w is (none_of id s v p view trusted) w_is
-    (watch_runs s (word_of_other s v.known) (trust_after s v.known.chip v.known.trust v.ahead) (horizon (own_bound s v.known) (v.mine ++ v.ahead)) old es end (watch_old id s words old p v es end view is watches) admitted')
+    (watch_runs s (word_of_other s v.known) (trust_after s v.known.chip v.known.trust v.ahead)
+    (horizon (own_bound s v.known) (v.mine ++ v.ahead)) old es end (watch_old id s words old p v es end view is watches) admitted')
 
 pub saw_cut : (id : TableId) (s : Side) (words : List ℕ) (old : State) (p : Carried) (v w : View) (es : List Event) (end cut : ℕ) → carried_of id s v ≡ p → IsPassOf s words old v → CutIs s cut v
     → Watches p.side (own_horizon p) (here p) es end → w ≡ added_view v es → CutIs s cut w
@@ -231,7 +242,8 @@ here_watched p q es end watches is = ap here is ∙ after_append p.known.chip p.
 pub bound_watched : (p q : Carried) (es : List Event) (end : ℕ) → Watches p.side (own_horizon p) (here p) es end → q ≡ after_add p es → bound_here q ≡ bound_here p
 bound_watched p q es end watches is =
     ap bound_here is
-    ∙ ap (λ t. bound_at p.side (word_of_other p.side p.known) t) (trust_after_append p.side p.known.chip p.known.trust p.ahead es ∙ watch_trust p.side (own_horizon p) (here p) (trust_here p) es end watches)
+    ∙ ap (λ t. bound_at p.side (word_of_other p.side p.known) t)
+    (trust_after_append p.side p.known.chip p.known.trust p.ahead es ∙ watch_trust p.side (own_horizon p) (here p) (trust_here p) es end watches)
 
 pub horizon_past : (p q : Carried) (es : List Event) → q ≡ after_add p es → (t : ℕ) → own_horizon p ≤ t → All (λ e. e.tick < t) es → own_horizon q ≤ t
 horizon_past p q es is t le low =

@@ -1,5 +1,6 @@
 -- How the two lists and the words may grow.
-use Rattle.std.proofs.Common.{◌≡◌, ◌⊎◌, ℕ, ◌+◌, ◌<◌, ◌≤◌, min, max, nat_lt, true, false, true≢false, cond, List, [], ◌∷◌, ◌++◌, All, refl, sym, ap, ◌∙◌, subst, inl, inr, ⊎_elim, arith, append_assoc, append-nil}
+use Rattle.std.proofs.Common.{◌≡◌, ◌⊎◌, ℕ, ◌+◌, ◌<◌, ◌≤◌, min, max, nat_lt, true, false, true≢false, cond, List, [], ◌∷◌, ◌++◌, All, refl, sym, ap}
+use Rattle.std.proofs.Common.{◌∙◌, subst, inl, inr, ⊎_elim, arith, append_assoc, append-nil}
 use Rattle.std.specs.Prelude.{slice_index_or}
 use Rattle.std.proofs.lemmas.Bool.{cases_lt}
 use Rattle.std.proofs.lemmas.List.Elements.{All-nil, All-cons, All-head, All-tail, All-weaker, All-push}
@@ -12,7 +13,8 @@ use Rattle.tube_cell.specs.Views.{Known, own_bound, past_last, below, is_access,
 use Rattle.tube_cell.specs.Rules.{Climbs, HostFine, ParaFine, Good, Trusts, Knows}
 use Rattle.tube_cell.specs.Steps.{Runs, Watches}
 use Rattle.tube_cell.proofs.Observed.{observed_stays, ShowsSame, readings_from}
-use Rattle.tube_cell.proofs.Law.{gap, Precedes, Early, joins_para, legal_end, legal_placed, legal_cut, after-on, past_last-on, precedes_below, nat_lt-true, nat_lt-false, nat_lt-from_true, nat_lt-from_false, All-below, below_lies, below_append}
+use Rattle.tube_cell.proofs.Law.{gap, Precedes, Early, joins_para, legal_end, legal_placed, legal_cut, after-on, past_last-on, precedes_below}
+use Rattle.tube_cell.proofs.Law.{nat_lt-true, nat_lt-false, nat_lt-from_true, nat_lt-from_false, All-below, below_lies, below_append}
 
 -- ---- lists that climb
 
@@ -49,7 +51,8 @@ climbs_below n t (x ∷ xs) h = elim (nat_lt x.tick t) as (λ b. Climbs n (cond 
 after_end : (c : State) (k : Known) (host para list : List Event) (e : Event) → k.chip ≡ after (merge host para) → list ≡ merge host para ++ e ∷ [] → c ≡ chip_after_event k.chip e → c ≡ after list
 after_end c k host para list e chip is now = now ∙ ap (λ (d : State). chip_after_event d e) chip ∙ sym (after-on _ (merge host para) e) ∙ sym (ap after is)
 
-host_fine : (k : Known) (n : Known) (host : List Event) (e : Event) → HostFine k host → e.side ≡ Host → past_last host ≤ e.tick → k.host ≤ n.host → (is_access e.query ≡ true → e.tick < n.host) → e.tick ≤ own_bound Para n
+host_fine : (k : Known) (n : Known) (host : List Event) (e : Event) → HostFine k host → e.side ≡ Host → past_last host ≤ e.tick → k.host ≤ n.host
+    → (is_access e.query ≡ true → e.tick < n.host) → e.tick ≤ own_bound Para n
     → ((t : ℕ) → t ≤ e.tick → t ≤ own_bound Para k → t ≤ own_bound Para n) → HostFine n (host ++ e ∷ [])
 host_fine k n host e fine is late up low admitted keep =
     let before = low_of e.tick host fine.climbs late in
@@ -91,7 +94,8 @@ abbrev pub host_next : Known → Event → ℕ → ℕ → Known
 host_next k e m trust = record { chip = chip_after_event k.chip e; host = m; para = k.para; trust = trust }
 
 -- an event of the host that shows the parasite the same as before
-pub good_calm : (k : Known) (host para : List Event) (e : Event) (m : ℕ) → Good k host para → e.side ≡ Host → k.host ≤ e.tick → past_last host ≤ e.tick → e.tick ≤ own_bound Para k → Answers k.chip e → k.host ≤ m
+pub good_calm : (k : Known) (host para : List Event) (e : Event) (m : ℕ) → Good k host para → e.side ≡ Host → k.host ≤ e.tick
+    → past_last host ≤ e.tick → e.tick ≤ own_bound Para k → Answers k.chip e → k.host ≤ m
     → (is_access e.query ≡ true → e.tick < m) → ShowsSame k.chip (chip_after_event k.chip e) → Good (host_next k e m k.trust) (host ++ e ∷ []) para
 good_calm k host para e m good is from late admitted answers up low same =
     let r = legal_placed host para e is (low_of e.tick host good.host_fine.climbs late) good.para_fine.sided (early_of k e.tick para good.para_fine from) good.legal
@@ -104,7 +108,8 @@ good_calm k host para e m good is from late admitted answers up low same =
     }
 
 -- one that may not: what is on trust from its tick on goes
-pub good_cut : (k : Known) (host para : List Event) (e : Event) (m : ℕ) → Good k host para → e.side ≡ Host → k.host ≤ e.tick → past_last host ≤ e.tick → e.tick ≤ own_bound Para k → Answers k.chip e → e.tick < m
+pub good_cut : (k : Known) (host para : List Event) (e : Event) (m : ℕ) → Good k host para → e.side ≡ Host → k.host ≤ e.tick → past_last host ≤ e.tick
+    → e.tick ≤ own_bound Para k → Answers k.chip e → e.tick < m
     → Good (host_next k e m (min k.trust e.tick)) (host ++ e ∷ []) (below e.tick para)
 good_cut k host para e m good is from late admitted answers low =
     let n = host_next k e m (min k.trust e.tick) in
@@ -136,7 +141,8 @@ para_before para e climbs late = All-weaker (λ x. x.tick < e.tick) (Precedes e)
 abbrev pub para_next : Known → Event → ℕ → ℕ → Known
 para_next k e m trust = record { chip = chip_after_event k.chip e; host = k.host; para = m; trust = trust }
 
-pub good_para : (k : Known) (host para : List Event) (e : Event) (m a : ℕ) → Good k host para → e.side ≡ Para → own_bound Para k ≤ e.tick → past_last para ≤ e.tick → Answers k.chip e → k.para ≤ m → k.trust ≤ a
+pub good_para : (k : Known) (host para : List Event) (e : Event) (m a : ℕ) → Good k host para → e.side ≡ Para → own_bound Para k ≤ e.tick
+    → past_last para ≤ e.tick → Answers k.chip e → k.para ≤ m → k.trust ≤ a
     → (is_access e.query ≡ true → e.tick < max m a) → (is_access e.query ≡ true → e.tick < max k.host a) → (is_observation e.query ≡ false → (e.tick < m) × (e.tick < k.host))
     → Good (para_next k e m a) host (para ++ e ∷ [])
 good_para k host para e m a good is from late answers up trust_up low admitted changes =
@@ -248,7 +254,8 @@ host_then k m n host para list more a b = record {
       b.keeps mine trusted (All-weaker (λ x. x.tick < k.host) (λ x. x.tick < m.host) (λ x l. let up = a.host_up in omega arith) mine low) (a.keeps mine trusted low eq);
 }
   where
-    go : (m.trust ≡ k.trust) ⊎ ((k.host ≤ m.trust) × (m.trust < k.trust) × (m.trust < m.host)) → (n.trust ≡ m.trust) ⊎ ((m.host ≤ n.trust) × (n.trust < m.trust) × (n.trust < n.host)) → k.host ≤ m.host → m.host ≤ n.host
+    go : (m.trust ≡ k.trust) ⊎ ((k.host ≤ m.trust) × (m.trust < k.trust) × (m.trust < m.host))
+        → (n.trust ≡ m.trust) ⊎ ((m.host ≤ n.trust) × (n.trust < m.trust) × (n.trust < n.host)) → k.host ≤ m.host → m.host ≤ n.host
         → (n.trust ≡ k.trust) ⊎ ((k.host ≤ n.trust) × (n.trust < k.trust) × (n.trust < n.host))
     go (inl x) (inl y) p q = inl (y ∙ x)
     go (inl x) (inr y) p q = let y0 = y.0 in let y1 = y.1 in inr (omega arith, omega arith, y.2)
@@ -259,13 +266,15 @@ host_then k m n host para list more a b = record {
 abbrev pub host_last : Known → List Event → State → ℕ → Known
 host_last k es last end = record { chip = last; host = end; para = k.para; trust = trust_after Host k.chip k.trust es }
 
-pub host_runs : (es : List Event) (k : Known) (host para : List Event) (from : ℕ) (last : State) (end : ℕ) → Good k host para → k.host ≤ from → past_last host ≤ from → Runs Host k.para k.trust from k.chip es last end
+pub host_runs : (es : List Event) (k : Known) (host para : List Event) (from : ℕ) (last : State) (end : ℕ) → Good k host para → k.host ≤ from
+    → past_last host ≤ from → Runs Host k.para k.trust from k.chip es last end
     → HostStep k (host_last k es last end) host para (host ++ es)
 host_runs [] k host para from last end good le late h =
     let f = h.1 in
     record {
       rest = para;
-      good = subst (λ (l : List Event). Good (host_last k [] last end) l para) (sym (append-nil host)) (good_raised k (host_last k [] last end) host para good h.0 (omega arith) (omega arith) (omega arith));
+      good = subst (λ (l : List Event). Good (host_last k [] last end) l para) (sym (append-nil host))
+          (good_raised k (host_last k [] last end) host para good h.0 (omega arith) (omega arith) (omega arith));
       para_word = refl;
       host_up = omega arith;
       trust = inl refl;
@@ -290,7 +299,9 @@ pub trusts_fall : (x k : Known) → Trusts Para x k → k.trust ≤ x.trust
 trusts_fall x k t = ⊎_elim (λ (e : k.trust ≡ x.trust). omega arith) (λ (e : (x.host ≤ k.trust) × (k.trust < x.trust) × (k.trust < k.host)). let l = e.1 in omega arith) t
 
 -- what the parasite's pass knows, once the host took its steps
-pub para_knows : (k n x : Known) → Knows Para k x → n.para ≡ k.para → k.host ≤ n.host → (n.trust ≡ k.trust) ⊎ ((k.host ≤ n.trust) × (n.trust < k.trust) × (n.trust < n.host)) → (own_bound Para k < k.host → n.chip ≡ k.chip) → Knows Para n x
+pub para_knows : (k n x : Known) → Knows Para k x → n.para ≡ k.para → k.host ≤ n.host
+    → (n.trust ≡ k.trust) ⊎ ((k.host ≤ n.trust) × (n.trust < k.trust) × (n.trust < n.host)) → (own_bound Para k < k.host → n.chip ≡ k.chip)
+    → Knows Para n x
 para_knows k n x knows para up trust idle =
     let o = knows.other_word in
     let w = knows.own_word in
@@ -318,7 +329,8 @@ trust_after_para c a (e ∷ es) = trust_after_para (chip_after_event c e) a es
 abbrev pub para_last : Known → State → ℕ → Known
 para_last k last end = record { chip = last; host = k.host; para = end; trust = k.trust }
 
-pub para_runs : (es : List Event) (k : Known) (host para : List Event) (from : ℕ) (last : State) (end : ℕ) → Good k host para → own_bound Para k ≤ from → past_last para ≤ from → Runs Para k.host k.trust from k.chip es last end
+pub para_runs : (es : List Event) (k : Known) (host para : List Event) (from : ℕ) (last : State) (end : ℕ) → Good k host para
+    → own_bound Para k ≤ from → past_last para ≤ from → Runs Para k.host k.trust from k.chip es last end
     → Good (para_last k last end) host (para ++ es)
 para_runs [] k host para from last end good le late h =
     let f = h.1 in
@@ -328,7 +340,8 @@ para_runs (e ∷ es) k host para from last end good le late h =
     let admitted = h.2 in
     let m : Known = para_next k e (e.tick + 1) k.trust in
     let on = past_last-on para e in
-    let a = good_para k host para e (e.tick + 1) k.trust good h.0 (omega arith) (omega arith) h.3 (omega arith) (omega arith) (λ is. omega arith) (λ is. omega arith) (λ is. (omega arith, omega arith)) in
+    let a = good_para k host para e (e.tick + 1) k.trust good h.0 (omega arith) (omega arith) h.3 (omega arith) (omega arith) (λ is. omega arith)
+    (λ is. omega arith) (λ is. (omega arith, omega arith)) in
     subst (λ (l : List Event). Good (para_last k last end) host l) (append_assoc para (e ∷ []) es)
     (para_runs es m host (para ++ e ∷ []) (e.tick + 1) last end a (omega arith) (omega arith) h.4)
 
@@ -389,7 +402,8 @@ watched (e ∷ es) k host para from end good le late stop h =
     let l = h.3 in
     let t = e.tick + 1 in
     let on = past_last-on para e in
-    let first = good_para k host para e k.para t good h.0 (omega arith) (omega arith) h.4 (omega arith) (omega arith) (λ is. omega arith) (λ is. omega arith) (λ is. absurd (no_change e.query h.1 is)) in
+    let first = good_para k host para e k.para t good h.0 (omega arith) (omega arith) h.4 (omega arith) (omega arith) (λ is. omega arith)
+    (λ is. omega arith) (λ is. absurd (no_change e.query h.1 is)) in
     let stays = observed_stays k.chip e.side e.query h.1 in
     let good' : Good (trusting k t) host (para ++ e ∷ []) = subst (λ (c : State). Good (record k { chip = c; trust = t }) host (para ++ e ∷ [])) stays first in
     subst (λ (l : List Event). Good (trusting k end) host l) (append_assoc para (e ∷ []) es) (watched es (trusting k t) host (para ++ e ∷ []) t end good' (omega arith) (omega arith) (omega arith) h.5)

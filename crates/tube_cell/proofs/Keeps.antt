@@ -1,5 +1,7 @@
 -- Each step on the cell keeps the rule.
-use Rattle.std.proofs.Common.{◌≡◌, ◌≢◌, ◌⊎◌, ℕ, ◌+◌, ◌<◌, ◌≤◌, zero, suc, Bool, true, false, true≢false, MatchBool, if◌then◌else◌, cond, List, [], ◌∷◌, ◌++◌, All, length, set, drop, refl, sym, ap, ◌∙◌, subst, inl, inr, ⊎_elim, arith, nat_eq, nat_le, append_assoc, append-nil, set-set}
+use Rattle.std.proofs.Common.{◌≡◌, ◌≢◌, ◌⊎◌, ℕ, ◌+◌, ◌<◌, ◌≤◌, zero, suc, Bool, true, false, true≢false, MatchBool, if◌then◌else◌, cond, List, []}
+use Rattle.std.proofs.Common.{◌∷◌, ◌++◌, All, length, set, drop, refl, sym, ap, ◌∙◌, subst, inl, inr, ⊎_elim, arith, nat_eq, nat_le, append_assoc}
+use Rattle.std.proofs.Common.{append-nil, set-set}
 use Rattle.std.specs.Prelude.{slice_index, slice_set}
 use mathlib.Core.Option.{some, some-ne-none, some-injective}
 use lib.ListN.{get_elem?}
@@ -14,12 +16,17 @@ use Rattle.tube_chip.specs.State.{State, power_on}
 use Rattle.tube_chip.specs.Register.{empty}
 use Rattle.tube_chip.specs.Events.{Event, merge, after, IsLegal}
 use Rattle.tube_chip.specs.Packing.{packed_words, IsRegister, IsChip, PackingIsOneToOne}
-use Rattle.tube_cell.specs.Views.{Known, words_of, new_known, Role, undivided, one_side, rejoined, used, View, flip, word_of_other, own_bound, other_bound, pick, known_with, slack, Admits, admits, horizon, past_last, AllBelow, below, trust_after}
-use Rattle.tube_cell.specs.Rules.{Good, Knows, FitsAs, Kept, whole, spent_view, host_part, para_part, joined_view, GoesOn, firm, pending_events, found_view, Exchanged, published_view, Finds, Publishes, entrusted_view, Entrusts, told_view, PublishesAndEntrusts, added_view, look_at, looked_view, LooksAs, Looks, Ends}
+use Rattle.tube_cell.specs.Views.{Known, words_of, new_known, Role, undivided, one_side, rejoined, used, View, flip, word_of_other, own_bound}
+use Rattle.tube_cell.specs.Views.{other_bound, pick, known_with, slack, Admits, admits, horizon, past_last, AllBelow, below, trust_after}
+use Rattle.tube_cell.specs.Rules.{Good, Knows, FitsAs, Kept, whole, spent_view, host_part, para_part, joined_view, GoesOn, firm, pending_events}
+use Rattle.tube_cell.specs.Rules.{found_view, Exchanged, published_view, Finds, Publishes, entrusted_view, Entrusts, told_view, PublishesAndEntrusts}
+use Rattle.tube_cell.specs.Rules.{added_view, look_at, looked_view, LooksAs, Looks, Ends}
 use Rattle.tube_cell.specs.Steps.{Runs, Watches, MayPublish, MayLook, MayEntrust, MayPublishAndEntrust}
 use Rattle.tube_cell.proofs.Observed.{shows_itself}
 use Rattle.tube_cell.proofs.Law.{below_lies}
-use Rattle.tube_cell.proofs.Grows.{host_last, host_runs, host_idle, para_knows, para_last, para_runs, para_low, para_idle, runs_end, runs_low, trust_after_para, host_knows, trusts_fall, good_calm, good_para, trusting, watched, watches_low, past_append, below_same}
+use Rattle.tube_cell.proofs.Grows.{host_last, host_runs, host_idle, para_knows, para_last, para_runs, para_low, para_idle, runs_end, runs_low}
+use Rattle.tube_cell.proofs.Grows.{trust_after_para, host_knows, trusts_fall, good_calm, good_para, trusting, watched, watches_low, past_append}
+use Rattle.tube_cell.proofs.Grows.{below_same}
 
 nat_le-true : (m n : ℕ) → nat_le m n ≡ true → m ≤ n
 nat_le-true m n e = grind (arith, nat_tests)
@@ -102,7 +109,8 @@ module _ (k : Known) (a b : List Event) (hs ps : ℕ) where
       (λ (x : (j ≢ pass) × (get_elem? views j ≡ some u)). rest j u x.0 x.1)
       (at_set views pass j w u e)
 
-fit_of : (s : Side) (words : List ℕ) (views : List View) (k : Kept words views) (j : ℕ) (v : View) → get_elem? views j ≡ some v → v.role ≡ one_side s → FitsAs k.known k.host k.para k.host_seat k.para_seat (one_side s) j v
+fit_of : (s : Side) (words : List ℕ) (views : List View) (k : Kept words views) (j : ℕ) (v : View) → get_elem? views j ≡ some v → v.role ≡ one_side s
+    → FitsAs k.known k.host k.para k.host_seat k.para_seat (one_side s) j v
 fit_of s words views k j v at role = subst (λ (r : Role). FitsAs k.known k.host k.para k.host_seat k.para_seat r j v) role (k.each j v at)
 
 seat_of : (s : Side) (k : Known) (a b : List Event) (hs ps : ℕ) (j : ℕ) (u : View) → FitsAs k a b hs ps (one_side s) j u → j ≡ pick s hs ps
@@ -208,7 +216,8 @@ knows_with : (s : Side) (n x : Known) → IsChip n.chip → x ≡ n → Knows s 
 knows_with s n x well is = subst (Knows s n) (sym is) (knows_all s n well)
 
 -- where the words are those known, the pass knows the words as they are
-known_is : PackingIsOneToOne → (s : Side) (words : List ℕ) (views : List View) (k : Kept words views) (pass : ℕ) (v : View) → get_elem? views pass ≡ some v → v.role ≡ one_side s → words ≡ words_of v.known → v.known ≡ k.known
+known_is : PackingIsOneToOne → (s : Side) (words : List ℕ) (views : List View) (k : Kept words views) (pass : ℕ) (v : View)
+    → get_elem? views pass ≡ some v → v.role ≡ one_side s → words ≡ words_of v.known → v.known ≡ k.known
 known_is one s words views k pass v at role is =
     let fit = fit_of s words views k pass v at role in
     words-one one v.known k.known (knows_of s k.known k.host k.para k.host_seat k.para_seat pass v fit).well k.well (sym is ∙ k.words_are)
@@ -352,7 +361,8 @@ kept_looked Host words views k pass v t at may admitted =
     let word = fit.3.own_word in
     let later = may.later in
     let mine : past_last v.mine ≡ past_last k.host = ap past_last fit.1 in
-    let good = good_calm n k.host k.para (look_at t Host n.chip) n.host k.good refl (omega arith) (omega arith) (omega arith) refl (omega arith) (λ a. absurd (true≢false (sym a))) (shows_itself n.chip) in
+    let good = good_calm n k.host k.para (look_at t Host n.chip) n.host k.good refl (omega arith) (omega arith) (omega arith) refl (omega arith)
+    (λ a. absurd (true≢false (sym a))) (shows_itself n.chip) in
     kept_step Host words words views k pass v (looked_view v t Host n) n (k.host ++ look_at t Host n.chip ∷ []) k.para at may.role k.words_are k.well good (λ j u f. f) may.role
     (fit.0, ap (λ l. l ++ look_at t Host n.chip ∷ []) fit.1, ap (pending_events n) may.none_trusted, knows_all Host n k.well)
 kept_looked Para words views k pass v t at may admitted =
@@ -364,7 +374,8 @@ kept_looked Para words views k pass v t at may admitted =
     let bare : k.para ≡ v.mine = fit.1 ∙ ap (λ l. v.mine ++ below n.trust l) may.none_trusted ∙ append-nil v.mine in
     let mine : past_last v.mine ≡ past_last k.para = ap past_last (sym bare) in
     let look : Event = look_at t Para n.chip in
-    let good = good_para n k.host k.para look n.para n.trust k.good refl (omega arith) (omega arith) refl (omega arith) (omega arith) (λ a. absurd (true≢false (sym a))) (λ a. absurd (true≢false (sym a))) (λ a. absurd (true≢false a)) in
+    let good = good_para n k.host k.para look n.para n.trust k.good refl (omega arith) (omega arith) refl (omega arith) (omega arith)
+    (λ a. absurd (true≢false (sym a))) (λ a. absurd (true≢false (sym a))) (λ a. absurd (true≢false a)) in
     kept_step Para words words views k pass v (looked_view v t Para n) n k.host (k.para ++ look ∷ []) at may.role k.words_are k.well good (λ j u f. f) may.role (
       fit.0,
       ap (λ l. l ++ look ∷ []) bare ∙ sym (append-nil (v.mine ++ look ∷ [])) ∙ ap (λ l. (v.mine ++ look ∷ []) ++ below n.trust (pending_events n l)) (sym may.none_trusted),
@@ -381,7 +392,8 @@ looks s pass v t may words views k at = go (admits s (other_bound s k.known) t) 
         let fit = fit_of s words views k pass v at may.role in
         let on = goes_on s k.known v.known (knows_of s k.known k.host k.para k.host_seat k.para_seat pass v fit) in
         subst (λ (r : Role). LooksAs t r v words w) (sym may.role)
-        (subst (λ (x : Known). IsChip x.chip × (words ≡ words_of x) × GoesOn (one_side s) v.known x × MatchBool (admits s (other_bound s x) t) (w ≡ looked_view v t s w.known) (w ≡ found_view v w.known)) (sym same)
+        (subst (λ (x : Known). IsChip x.chip × (words ≡ words_of x) × GoesOn (one_side s) v.known x
+        × MatchBool (admits s (other_bound s x) t) (w ≡ looked_view v t s w.known) (w ≡ found_view v w.known)) (sym same)
         (k.well, k.words_are, on, subst (λ (b : Bool). MatchBool b (w ≡ looked_view v t s w.known) (w ≡ found_view v w.known)) (sym e) f))
 
     go : (b : Bool) → admits s (other_bound s k.known) t ≡ b → (w : View) × Kept words (slice_set views pass w) × Looks t v words words w
@@ -458,7 +470,8 @@ halves pass v role words views k at =
       good = k.good;
       each = λ j u e. ⊎_elim
           (λ was. after_set k.known k.host k.para k.host_seat seat views pass (host_part v)
-          (λ i x apart e'. nobody k.known k.known k.host k.para k.host k.para k.host_seat k.para_seat k.host_seat seat i x (λ same. apart (same ∙ sym f.0)) (λ same. apart (same ∙ sym f.1)) x.role (k.each i x e'))
+          (λ i x apart e'. nobody k.known k.known k.host k.para k.host k.para k.host_seat k.para_seat k.host_seat seat i x
+          (λ same. apart (same ∙ sym f.0)) (λ same. apart (same ∙ sym f.1)) x.role (k.each i x e'))
           host_fits j u was)
           (λ (t : (j ≡ seat) × (para_part v ≡ u)). subst (λ (y : ℕ × View). Fits k.known k.host k.para k.host_seat seat y.0 y.1) (λ i. (sym t.0 i, t.1 i)) para_fits)
           (at_snoc (set views pass (host_part v)) (para_part v) u j e);
@@ -523,7 +536,8 @@ adds s pass v es role words views k at =
 pub merges : (pass : ℕ) (v : View) (giver : ℕ) (w : View) → v.role ≡ one_side Host → w.role ≡ one_side Para → w.trusted ≡ [] → Merges Kept pass v giver w (joined_view v w) spent_view
 merges pass v giver w host para none words views k at apart there =
     let taken = joined_view v w in
-    let was : get_elem? views giver ≡ some w = ⊎_elim (λ (t : (giver ≡ pass) × (taken ≡ w)). absurd (apart t.0)) (λ (t : (giver ≢ pass) × (get_elem? views giver ≡ some w)). t.1) (at_set views pass giver taken w there) in
+    let was : get_elem? views giver ≡ some w = ⊎_elim (λ (t : (giver ≡ pass) × (taken ≡ w)). absurd (apart t.0))
+    (λ (t : (giver ≢ pass) × (get_elem? views giver ≡ some w)). t.1) (at_set views pass giver taken w there) in
     let f = fit_of Host words views k pass v at host in
     let g = fit_of Para words views k giver w was para in
     let joined_fits : Fits k.known k.host k.para pass pass pass taken = (refl, refl, f.1, sym (g.1 ∙ ap (λ l. w.mine ++ below k.known.trust l) none ∙ append-nil w.mine)) in
@@ -539,7 +553,8 @@ merges pass v giver w host para none words views k at apart there =
       each = after_set k.known k.host k.para pass pass (set views pass taken) giver spent_view
           (λ j u off e. ⊎_elim
           (λ (t : (j ≡ pass) × (taken ≡ u)). subst (λ (y : ℕ × View). Fits k.known k.host k.para pass pass y.0 y.1) (λ i. (sym t.0 i, t.1 i)) joined_fits)
-          (λ (t : (j ≢ pass) × (get_elem? views j ≡ some u)). nobody k.known k.known k.host k.para k.host k.para k.host_seat k.para_seat pass pass j u (λ same. t.0 (same ∙ sym f.0)) (λ same. off (same ∙ sym g.0)) u.role (k.each j u t.1))
+          (λ (t : (j ≢ pass) × (get_elem? views j ≡ some u)). nobody k.known k.known k.host k.para k.host k.para k.host_seat k.para_seat pass pass j u
+          (λ same. t.0 (same ∙ sym f.0)) (λ same. off (same ∙ sym g.0)) u.role (k.each j u t.1))
           (at_set views pass j taken u e))
           tt;
     }

@@ -280,7 +280,8 @@ pub legal_placed : (xs ys : List Event) (e : Event) → e.side ≡ Host → All 
 legal_placed xs ys e host low para early legal here same =
     let joined = joins_placed xs ys e low in
     let early' = All-merge (Early e.tick) xs ys (All-weaker (λ x. x.tick < e.tick) (Early e.tick) (λ x l _. l) xs low) early in
-    let behind = All-merge (Behind e.tick) xs ys (All-weaker (λ x. x.tick < e.tick) (Behind e.tick) (λ x l le. absurd (omega arith)) xs low) (All-weaker (λ y. y.side ≡ Para) (Behind e.tick) (λ y p _. p) ys para) in (
+    let behind = All-merge (Behind e.tick) xs ys (All-weaker (λ x. x.tick < e.tick) (Behind e.tick) (λ x l le. absurd (omega arith)) xs low)
+    (All-weaker (λ y. y.side ≡ Para) (Behind e.tick) (λ y p _. p) ys para) in (
       subst IsLegal (sym joined) (record {
         rises = rises-placed (merge xs ys) e host legal.rises behind;
         answered = answered-placed power_on (merge xs ys) e legal.rises early' behind legal.answered here same;
@@ -310,7 +311,8 @@ below_append t [] ys all = refl
 below_append t (x ∷ xs) ys all =
     rw (nat_lt-true x.tick t (All-head (λ x. x.tick < t) x xs all)) (ap (λ l. x ∷ l) (below_append t xs ys (All-tail (λ x. x.tick < t) x xs all)))
 
-below-put_in : (t : ℕ) (x : Event) (f : List Event → List Event) (ys : List Event) → x.tick < t → ((zs : List Event) → below t (f zs) ≡ f (below t zs)) → below t (put_in x f ys) ≡ put_in x f (below t ys)
+below-put_in : (t : ℕ) (x : Event) (f : List Event → List Event) (ys : List Event) → x.tick < t
+    → ((zs : List Event) → below t (f zs) ≡ f (below t zs)) → below t (put_in x f ys) ≡ put_in x f (below t ys)
 below-put_in t x f [] lt same = rw (nat_lt-true x.tick t lt) (ap (λ l. x ∷ l) (same []))
 below-put_in t x f (y ∷ ys) lt same =
     (elim (nat_lt y.tick x.tick) as (λ b. nat_lt y.tick x.tick ≡ b → below t (cond b (y ∷ put_in x f ys) (x ∷ f (y ∷ ys))) ≡ put_in x f (below t (y ∷ ys))) [

@@ -8,7 +8,8 @@ use Rattle.beeb_bits.specs.declared.Side.TheVariants.{Host, Para}
 use Rattle.tube_chip.specs.State.{State}
 use Rattle.tube_chip.specs.Events.{Event}
 use Rattle.tube_chip.specs.Packing.{IsChip}
-use Rattle.tube_cell.specs.Views.{Known, words_of, Role, one_side, View, word_of_other, own_bound, other_bound, bound_at, Admits, horizon, past_last, below, chip_after_event, same_readings, trust_past, trust_after}
+use Rattle.tube_cell.specs.Views.{Known, words_of, Role, one_side, View, word_of_other, own_bound, other_bound, bound_at, Admits, horizon, past_last}
+use Rattle.tube_cell.specs.Views.{below, chip_after_event, same_readings, trust_past, trust_after}
 use Rattle.tube_cell.specs.Rules.{Trusts, GoesOn, rise, firm, pending_events, Found}
 use Rattle.tube_cell.specs.Passes.{Carried, carried_of, Learns, own_horizon, here}
 use Rattle.tube_cell.specs.Steps.{Runs, IsPassOf, CutIs, Local}
@@ -26,16 +27,19 @@ abbrev pub RunsOn : Side → Known → List Event → List Event → State → T
 RunsOn s k mine es here = Runs s (word_of_other s k) k.trust (horizon (own_bound s k) mine) k.chip es here (horizon (own_bound s k) (mine ++ es))
 
 pub bare_local : (s : Side) (words : List ℕ) (here : State) (v : View) → IsPassOf s words here v → v.ahead ≡ [] → here ≡ v.known.chip
-bare_local s words here v is none = (subst (λ (es : List Event). Runs s (word_of_other s v.known) v.known.trust (horizon (own_bound s v.known) v.mine) v.known.chip es here (horizon (own_bound s v.known) (v.mine ++ v.ahead))) none is.runs).0
+bare_local s words here v is none = (subst (λ (es : List Event). Runs s (word_of_other s v.known) v.known.trust
+    (horizon (own_bound s v.known) v.mine) v.known.chip es here (horizon (own_bound s v.known) (v.mine ++ v.ahead))) none is.runs).0
 
-pub pass_fresh : (s : Side) (words : List ℕ) (here : State) (v : View) → v.role ≡ one_side s → IsChip v.known.chip → words ≡ words_of v.known → All (λ e. e.tick < v.known.trust) v.trusted → v.ahead ≡ [] → here ≡ v.known.chip → IsPassOf s words here v
+pub pass_fresh : (s : Side) (words : List ℕ) (here : State) (v : View) → v.role ≡ one_side s → IsChip v.known.chip → words ≡ words_of v.known
+    → All (λ e. e.tick < v.known.trust) v.trusted → v.ahead ≡ [] → here ≡ v.known.chip → IsPassOf s words here v
 pass_fresh s words here v role well words_are trusted none same = record {
   role = role;
   well = well;
   words_are = words_are;
   trusted = trusted;
   not_both = λ some. absurd (some none);
-  runs = subst (λ (es : List Event). Runs s (word_of_other s v.known) v.known.trust (horizon (own_bound s v.known) v.mine) v.known.chip es here (horizon (own_bound s v.known) (v.mine ++ v.ahead))) (sym none)
+  runs = subst (λ (es : List Event). Runs s (word_of_other s v.known) v.known.trust (horizon (own_bound s v.known) v.mine) v.known.chip es here
+      (horizon (own_bound s v.known) (v.mine ++ v.ahead))) (sym none)
       (same, let e = bare_horizon s v none in omega arith);
 }
 
@@ -74,7 +78,8 @@ para_more : (t u a b from : ℕ) (c : State) (es : List Event) (last : State) (e
 para_more t u a b from c [] last end h le = h
 para_more t u a b from c (e ∷ es) last end h le = (h.0, h.1, (let x = h.2 in omega arith), h.3, para_more t u a b (e.tick + 1) (chip_after_event c e) es last end h.4 le)
 
-runs_on : (s : Side) (v k : Known) (from : ℕ) (c : State) (es : List Event) (last : State) (end : ℕ) → GoesOn (one_side s) v k → Runs s (word_of_other s v) v.trust from c es last end → Runs s (word_of_other s k) k.trust from c es last end
+runs_on : (s : Side) (v k : Known) (from : ℕ) (c : State) (es : List Event) (last : State) (end : ℕ) → GoesOn (one_side s) v k
+    → Runs s (word_of_other s v) v.trust from c es last end → Runs s (word_of_other s k) k.trust from c es last end
 runs_on Host v k from c es last end on h = host_more v.para k.para v.trust k.trust from c es last end h on.1 on.2
 runs_on Para v k from c es last end on h = para_more v.host k.host v.trust k.trust from c es last end h on.1
 
@@ -193,16 +198,19 @@ firm_ahead k (x ∷ xs) lt = let e = le-false k.trust k.host lt in (ap (λ b. co
 abbrev pub finding : Carried → Known → ℕ → Carried
 finding p k n = record p { events = p.events ++ firm k p.trusted; trusted = pending_events k p.trusted; known = k; higher = n }
 
-pub is_taken : (p q : Carried) (n : ℕ) → q ≡ finding p q.known n → Trusts p.side p.known q.known → q.known.trust < p.known.trust → (q.events ≡ p.events ++ below q.known.trust p.trusted) × (q.trusted ≡ [])
+pub is_taken : (p q : Carried) (n : ℕ) → q ≡ finding p q.known n → Trusts p.side p.known q.known → q.known.trust < p.known.trust
+    → (q.events ≡ p.events ++ below q.known.trust p.trusted) × (q.trusted ≡ [])
 is_taken p q n rest trust lt =
     let f = firm_past q.known p.trusted (passed p.side trust) in
     (ap (λ x. x.events) rest ∙ ap (λ l. p.events ++ l) f.0, ap (λ x. x.trusted) rest ∙ f.1)
   where
     passed : (s : Side) → Trusts s p.known q.known → q.known.trust ≤ q.known.host
     passed Host t = absurd (omega arith)
-    passed Para t = ⊎_elim (λ (e : q.known.trust ≡ p.known.trust). absurd (omega arith)) (λ (e : (p.known.host ≤ q.known.trust) × (q.known.trust < p.known.trust) × (q.known.trust < q.known.host)). let x = e.2 in omega arith) t
+    passed Para t = ⊎_elim (λ (e : q.known.trust ≡ p.known.trust). absurd (omega arith))
+        (λ (e : (p.known.host ≤ q.known.trust) × (q.known.trust < p.known.trust) × (q.known.trust < q.known.host)). let x = e.2 in omega arith) t
 
-pub is_settled : (p q : Carried) (n : ℕ) → q ≡ finding p q.known n → All (λ e. e.tick < p.known.trust) p.trusted → q.known.trust ≡ p.known.trust → q.known.trust ≤ q.known.host → (q.events ≡ p.events ++ p.trusted) × (q.trusted ≡ [])
+pub is_settled : (p q : Carried) (n : ℕ) → q ≡ finding p q.known n → All (λ e. e.tick < p.known.trust) p.trusted → q.known.trust ≡ p.known.trust
+    → q.known.trust ≤ q.known.host → (q.events ≡ p.events ++ p.trusted) × (q.trusted ≡ [])
 is_settled p q n rest low same le =
     let f = firm_past q.known p.trusted le in
     let all = below_same q.known.trust p.trusted (subst (λ (t : ℕ). All (λ e. e.tick < t) p.trusted) (sym same) low) in
@@ -213,7 +221,8 @@ is_staying p q n rest lt =
     let f = firm_ahead q.known p.trusted lt in
     (ap (λ x. x.events) rest ∙ ap (λ l. p.events ++ l) f.0 ∙ append-nil p.events, ap (λ x. x.trusted) rest ∙ f.1)
 
-pub learned : (id id' : TableId) (s : Side) (words found : List ℕ) (old : State) (p : Carried) (v w : View) → carried_of id s v ≡ p → IsPassOf s words old v → id' ≡ id → Found found v w → Learns p (carried_of id' s w)
+pub learned : (id id' : TableId) (s : Side) (words found : List ℕ) (old : State) (p : Carried) (v w : View) → carried_of id s v ≡ p
+    → IsPassOf s words old v → id' ≡ id → Found found v w → Learns p (carried_of id' s w)
 learned id id' s words found old p v w view is cell f =
     let k : Known = w.known in
     let on = on_of s v k is.role f.goes_on in
@@ -251,7 +260,8 @@ learned id id' s words found old p v w view is cell f =
       other_word = on.1;
       trust = on.2;
       horizon = omega arith;
-      same_chip = λ some. sym (on.3 (runs_admit s (own_bound s v.known) (word_of_other s v.known) v.known.trust v.mine v.known.chip v.ahead old (horizon (own_bound s v.known) (v.mine ++ v.ahead)) is.runs some));
+      same_chip = λ some. sym (on.3 (runs_admit s (own_bound s v.known) (word_of_other s v.known) v.known.trust v.mine v.known.chip v.ahead old
+          (horizon (own_bound s v.known) (v.mine ++ v.ahead)) is.runs some));
     })
 
 -- ---- the tick at which the trust is cut
@@ -275,5 +285,6 @@ cut_found s words found old cut v w is cuts f a lt =
         → trust_after s v.known.chip a es ≡ min a cut → trust_after s w.known.chip a es ≡ min a cut
     go [] runs e = e
     go (x ∷ xs) runs e =
-        let admits = runs_admit s (own_bound s v.known) (word_of_other s v.known) v.known.trust v.mine v.known.chip (x ∷ xs) old (horizon (own_bound s v.known) (v.mine ++ v.ahead)) runs (λ no. absurd (cc)) in
+        let admits = runs_admit s (own_bound s v.known) (word_of_other s v.known) v.known.trust v.mine v.known.chip (x ∷ xs) old
+        (horizon (own_bound s v.known) (v.mine ++ v.ahead)) runs (λ no. absurd (cc)) in
         ap (λ (c : State). trust_after s c a (x ∷ xs)) (sym (on.3 admits)) ∙ e

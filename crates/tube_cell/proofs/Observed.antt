@@ -78,7 +78,8 @@ lines_from a b e =
 fourth : (k : ℕ) (c : State) → nat_eq k 1 ≡ false → nat_eq k 2 ≡ false → nat_eq k 3 ≡ false → status Para k c ≡ status Para 4 c
 fourth k c one two three = rw (one, two, three) refl
 
-four_from : (c d : State) → status Para 1 c ≡ status Para 1 d → status Para 2 c ≡ status Para 2 d → status Para 3 c ≡ status Para 3 d → status Para 4 c ≡ status Para 4 d → (k : ℕ) → status Para k d ≡ status Para k c
+four_from : (c d : State) → status Para 1 c ≡ status Para 1 d → status Para 2 c ≡ status Para 2 d → status Para 3 c ≡ status Para 3 d
+    → status Para 4 c ≡ status Para 4 d → (k : ℕ) → status Para k d ≡ status Para k c
 four_from c d first second third last k = go (nat_eq k 1) (nat_eq k 2) (nat_eq k 3) refl refl refl
   where
     at : (n : ℕ) → nat_eq k n ≡ true → status Para n c ≡ status Para n d → status Para k d ≡ status Para k c

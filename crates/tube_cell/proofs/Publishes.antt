@@ -21,7 +21,8 @@ use Rattle.tube_cell.proofs.Raises.{horizon_entrusted}
 
 -- ---- publish
 
-pub may_publish : (id : TableId) (s : Side) (words : List ℕ) (old : State) (p : Carried) (v : View) (h : ℕ) → carried_of id s v ≡ p → IsPassOf s words old v → p.trusted ≡ [] → own_horizon p ≤ h → MayPublish s v.ahead old h v
+pub may_publish : (id : TableId) (s : Side) (words : List ℕ) (old : State) (p : Carried) (v : View) (h : ℕ) → carried_of id s v ≡ p
+    → IsPassOf s words old v → p.trusted ≡ [] → own_horizon p ≤ h → MayPublish s v.ahead old h v
 may_publish id s words old p v h view is trusted later =
     let later' : own_horizon (carried_of id s v) ≤ h = subst (λ (q : Carried). own_horizon q ≤ h) (sym view) later in
     record {
@@ -30,10 +31,12 @@ may_publish id s words old p v h view is trusted later =
       runs = runs_later s (word_of_other s v.known) v.known.trust (horizon (own_bound s v.known) v.mine) v.known.chip v.ahead old (horizon (own_bound s v.known) (v.mine ++ v.ahead)) h is.runs later';
     }
 
-pub publish_trust : (s : Side) (v : View) (known cut trust : ℕ) → CutIs s cut v → known ≡ v.known.trust → known < 2 ^ 64 → trust ≡ min known cut → trust ≡ trust_after s v.known.chip v.known.trust v.ahead
+pub publish_trust : (s : Side) (v : View) (known cut trust : ℕ) → CutIs s cut v → known ≡ v.known.trust → known < 2 ^ 64 → trust ≡ min known cut
+    → trust ≡ trust_after s v.known.chip v.known.trust v.ahead
 publish_trust s v known cut trust cuts known_is small is = is ∙ ap (λ n. min n cut) known_is ∙ sym (cuts v.known.trust (omega arith))
 
-pub is_published : (id id' : TableId) (s : Side) (words : List ℕ) (old : State) (p : Carried) (v w : View) (h trust : ℕ) → carried_of id s v ≡ p → IsPassOf s words old v → id' ≡ id → trust ≡ trust_after s v.known.chip v.known.trust v.ahead
+pub is_published : (id id' : TableId) (s : Side) (words : List ℕ) (old : State) (p : Carried) (v w : View) (h trust : ℕ) → carried_of id s v ≡ p
+    → IsPassOf s words old v → id' ≡ id → trust ≡ trust_after s v.known.chip v.known.trust v.ahead
     → w ≡ published_view v v.ahead (known_with s old h (word_of_other s v.known) trust) → carried_of id' s w ≡ after_publish p h
 is_published id id' s words old p v w h trust view is cell trust_is w_is =
     (λ i. record {
@@ -56,7 +59,8 @@ both_as one pass v es seen last word trust next old new may well next_is old_is 
     let P : List ℕ → List ℕ → Type 0 = λ a b. Turns Kept pass v (λ x. if pointwise nat_eq x a then b else x) (PublishesAndEntrusts es seen next) in
     subst (λ (y : List ℕ × List ℕ). P y.0 y.1) (λ i. (sym old_is i, sym new_is i)) (publishes_and_entrusts one pass v es seen last word trust next may well next_is)
 
-pub may_both : (id : TableId) (s : Side) (words : List ℕ) (old : State) (p : Carried) (v : View) (seen : List Event) (h t : ℕ) → carried_of id s v ≡ p → IsPassOf s words old v → p.side ≡ Para → p.trusted ≡ [] → own_horizon p ≤ h → h ≤ t
+pub may_both : (id : TableId) (s : Side) (words : List ℕ) (old : State) (p : Carried) (v : View) (seen : List Event) (h t : ℕ) → carried_of id s v ≡ p
+    → IsPassOf s words old v → p.side ≡ Para → p.trusted ≡ [] → own_horizon p ≤ h → h ≤ t
     → Watches Para h (here p) seen t → MayPublishAndEntrust v.ahead old h seen t v
 may_both id s words old p v seen h t view is side trusted later order watches =
     let s_is : s ≡ Para = ap (λ q. q.side) view ∙ side in
@@ -66,8 +70,10 @@ may_both id s words old p v seen h t view is side trusted later order watches =
       watches = subst (λ (c : State). Watches Para h c seen t) (sym (here_of id s words old p v view is)) watches;
     }
 
-pub pass_both : (id : TableId) (s : Side) (words next : List ℕ) (old : State) (p : Carried) (v w : View) (seen : List Event) (h t : ℕ) → carried_of id s v ≡ p → IsPassOf s words old v → p.trusted ≡ [] → IsChip old
-    → Watches Para h (here p) seen t → w ≡ told_view v v.ahead seen (known_with Para old h (word_of_other Para v.known) t) → next ≡ words_of (known_with Para old h (word_of_other Para v.known) t) → IsPassOf s next old w
+pub pass_both : (id : TableId) (s : Side) (words next : List ℕ) (old : State) (p : Carried) (v w : View) (seen : List Event) (h t : ℕ)
+    → carried_of id s v ≡ p → IsPassOf s words old v → p.trusted ≡ [] → IsChip old
+    → Watches Para h (here p) seen t → w ≡ told_view v v.ahead seen (known_with Para old h (word_of_other Para v.known) t)
+    → next ≡ words_of (known_with Para old h (word_of_other Para v.known) t) → IsPassOf s next old w
 pass_both id s words next old p v w seen h t view is trusted well watches w_is words_are =
     let k : w.known ≡ known_with Para old h (word_of_other Para v.known) t = ap (λ u. u.known) w_is in
     let chip : w.known.chip ≡ old = ap (λ x. x.chip) k in
@@ -78,7 +84,8 @@ pass_both id s words next old p v w seen h t view is trusted well watches w_is w
 retrusted : (s : Side) (k : Known) (c : State) (h a t : ℕ) → s ≡ Para → known_with Para c h (word_of_other Para k) t ≡ record (known_with s c h (word_of_other s k) a) { trust = t }
 retrusted s k c h a t is = subst (λ (r : Side). known_with Para c h (word_of_other Para k) t ≡ record (known_with r c h (word_of_other r k) a) { trust = t }) (sym is) refl
 
-pub is_both : (id id' : TableId) (s : Side) (words : List ℕ) (old : State) (p : Carried) (v w : View) (seen : List Event) (h t : ℕ) → carried_of id s v ≡ p → IsPassOf s words old v → p.side ≡ Para → id' ≡ id
+pub is_both : (id id' : TableId) (s : Side) (words : List ℕ) (old : State) (p : Carried) (v w : View) (seen : List Event) (h t : ℕ)
+    → carried_of id s v ≡ p → IsPassOf s words old v → p.side ≡ Para → id' ≡ id
     → w ≡ told_view v v.ahead seen (known_with Para old h (word_of_other Para v.known) t) → carried_of id' s w ≡ after_entrust (after_publish p h) seen t
 is_both id id' s words old p v w seen h t view is side cell w_is =
     let s_is : s ≡ Para = ap (λ q. q.side) view ∙ side in
@@ -89,7 +96,8 @@ is_both id id' s words old p v w seen h t view is side cell w_is =
       events = (w_is i).mine;
       trusted = (w_is i).trusted;
       ahead = (w_is i).ahead;
-      known = (ap (λ u. u.known) w_is ∙ (λ j. known_with Para (local j) h (word_of_other Para v.known) t) ∙ retrusted s v.known (after_from v.known.chip v.ahead) h (trust_after s v.known.chip v.known.trust v.ahead) t s_is) i;
+      known = (ap (λ u. u.known) w_is ∙ (λ j. known_with Para (local j) h (word_of_other Para v.known) t)
+          ∙ retrusted s v.known (after_from v.known.chip v.ahead) h (trust_after s v.known.chip v.known.trust v.ahead) t s_is) i;
       commits = (w_is i).commits;
       higher = (w_is i).higher;
     }) ∙ ap (λ (q : Carried). after_entrust (after_publish q h) seen t) view

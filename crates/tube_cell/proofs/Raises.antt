@@ -24,7 +24,8 @@ use Rattle.tube_cell.proofs.Learns.{bare_horizon, bare_local, pass_fresh, none_l
 -- ---- steps
 
 pub publishes_as : PackingIsOneToOne → (s : Side) (pass : ℕ) (v : View) (es : List Event) (last : State) (end trust : ℕ) (next : Known) (old new : List ℕ)
-    → MayPublish s es last end v → IsChip last → trust ≡ trust_after s v.known.chip v.known.trust es → next ≡ known_with s last end (word_of_other s v.known) trust → old ≡ words_of v.known → new ≡ words_of next
+    → MayPublish s es last end v → IsChip last → trust ≡ trust_after s v.known.chip v.known.trust es
+    → next ≡ known_with s last end (word_of_other s v.known) trust → old ≡ words_of v.known → new ≡ words_of next
     → Turns Kept pass v (λ x. if pointwise nat_eq x old then new else x) (Publishes es next)
 publishes_as one s pass v es last end trust next old new may well trust_is next_is old_is new_is =
     let P : List ℕ → List ℕ → Type 0 = λ a b. Turns Kept pass v (λ x. if pointwise nat_eq x a then b else x) (Publishes es next) in
@@ -47,17 +48,20 @@ chip_with : (s : Side) (c : State) (m t a : ℕ) → (known_with s c m t a).chip
 chip_with Host c m t a = refl
 chip_with Para c m t a = refl
 
-pub may_raise : (id : TableId) (s : Side) (words : List ℕ) (here : State) (p : Carried) (v : View) (t : ℕ) → carried_of id s v ≡ p → IsPassOf s words here v → p.ahead ≡ [] → p.trusted ≡ [] → own_horizon p ≤ t → MayPublish s [] here t v
+pub may_raise : (id : TableId) (s : Side) (words : List ℕ) (here : State) (p : Carried) (v : View) (t : ℕ) → carried_of id s v ≡ p
+    → IsPassOf s words here v → p.ahead ≡ [] → p.trusted ≡ [] → own_horizon p ≤ t → MayPublish s [] here t v
 may_raise id s words here p v t view is none trusted later = record {
   role = is.role;
   none_trusted = none_of id s v p view trusted;
   runs = (bare_local s words here v is (bare_of id s v p view none), later_of id s v p t view none later);
 }
 
-pub may_look : (id : TableId) (s : Side) (words : List ℕ) (here : State) (p : Carried) (v : View) (t : ℕ) → carried_of id s v ≡ p → IsPassOf s words here v → p.ahead ≡ [] → p.trusted ≡ [] → own_horizon p ≤ t → MayLook s t v
+pub may_look : (id : TableId) (s : Side) (words : List ℕ) (here : State) (p : Carried) (v : View) (t : ℕ) → carried_of id s v ≡ p
+    → IsPassOf s words here v → p.ahead ≡ [] → p.trusted ≡ [] → own_horizon p ≤ t → MayLook s t v
 may_look id s words here p v t view is none trusted later = record { role = is.role; none_trusted = none_of id s v p view trusted; later = later_of id s v p t view none later }
 
-pub may_commit : (id : TableId) (s : Side) (words : List ℕ) (here next : State) (p : Carried) (v : View) (t : ℕ) (op : Op) → carried_of id s v ≡ p → IsPassOf s words here v → p.ahead ≡ [] → p.trusted ≡ [] → own_horizon p ≤ t
+pub may_commit : (id : TableId) (s : Side) (words : List ℕ) (here next : State) (p : Carried) (v : View) (t : ℕ) (op : Op) → carried_of id s v ≡ p
+    → IsPassOf s words here v → p.ahead ≡ [] → p.trusted ≡ [] → own_horizon p ≤ t
     → Admits p.side (other_bound p.side p.known) t → next ≡ chip_after here s op → MayPublish s (access_at t s op v.known.chip ∷ []) next (t + 1) v
 may_commit id s words here next p v t op view is none trusted later admitted next_is =
     let local = bare_local s words here v is (bare_of id s v p view none) in
@@ -69,7 +73,8 @@ may_commit id s words here next p v t op view is none trusted later admitted nex
     }
 
 -- the trust of a commit, as the code has it of its local chip
-pub commit_trust : (id : TableId) (s : Side) (words : List ℕ) (here next : State) (p : Carried) (v : View) (t trust known : ℕ) (op : Op) → carried_of id s v ≡ p → IsPassOf s words here v → p.ahead ≡ []
+pub commit_trust : (id : TableId) (s : Side) (words : List ℕ) (here next : State) (p : Carried) (v : View) (t trust known : ℕ) (op : Op)
+    → carried_of id s v ≡ p → IsPassOf s words here v → p.ahead ≡ []
     → next ≡ chip_after here s op → known ≡ v.known.trust → trust ≡ trust_next s here next t known → trust ≡ trust_next s v.known.chip (chip_after v.known.chip s op) t v.known.trust
 commit_trust id s words here next p v t trust known op view is none next_is known_is trust_is =
     let local = bare_local s words here v is (bare_of id s v p view none) in
@@ -81,9 +86,11 @@ pub pass_published : (s : Side) (words : List ℕ) (here : State) (end trust : �
 pass_published s words here end trust es v w role trusted well w_is words_are =
     let k : w.known ≡ known_with s here end (word_of_other s v.known) trust = ap (λ u. u.known) w_is in
     let chip : w.known.chip ≡ here = ap (λ x. x.chip) k ∙ chip_with s here end (word_of_other s v.known) trust in
-    pass_fresh s words here w (ap (λ u. u.role) w_is ∙ role) (subst IsChip (sym chip) well) (words_are ∙ ap words_of (sym k)) (none_low w.known.trust w.trusted (ap (λ u. u.trusted) w_is ∙ trusted)) (ap (λ u. u.ahead) w_is) (sym chip)
+    pass_fresh s words here w (ap (λ u. u.role) w_is ∙ role) (subst IsChip (sym chip) well) (words_are ∙ ap words_of (sym k))
+    (none_low w.known.trust w.trusted (ap (λ u. u.trusted) w_is ∙ trusted)) (ap (λ u. u.ahead) w_is) (sym chip)
 
-pub is_raised : (id id' : TableId) (s : Side) (words : List ℕ) (here : State) (p : Carried) (v w : View) (t trust : ℕ) → carried_of id s v ≡ p → IsPassOf s words here v → p.ahead ≡ [] → id' ≡ id → trust ≡ v.known.trust
+pub is_raised : (id id' : TableId) (s : Side) (words : List ℕ) (here : State) (p : Carried) (v w : View) (t trust : ℕ) → carried_of id s v ≡ p
+    → IsPassOf s words here v → p.ahead ≡ [] → id' ≡ id → trust ≡ v.known.trust
     → w ≡ published_view v [] (known_with s here t (word_of_other s v.known) trust) → carried_of id' s w ≡ after_raise p t
 is_raised id id' s words here p v w t trust view is none cell trust_is w_is =
     let bare = bare_of id s v p view none in
@@ -102,7 +109,8 @@ is_raised id id' s words here p v w t trust view is none cell trust_is w_is =
     no_more : (n : ℕ) → n + 0 ≡ n
     no_more n = omega arith
 
-pub is_committed : (id id' : TableId) (s : Side) (words : List ℕ) (here next : State) (p : Carried) (v w : View) (t trust : ℕ) (op : Op) → carried_of id s v ≡ p → IsPassOf s words here v → p.ahead ≡ [] → id' ≡ id
+pub is_committed : (id id' : TableId) (s : Side) (words : List ℕ) (here next : State) (p : Carried) (v w : View) (t trust : ℕ) (op : Op)
+    → carried_of id s v ≡ p → IsPassOf s words here v → p.ahead ≡ [] → id' ≡ id
     → next ≡ chip_after here s op → trust ≡ trust_next s v.known.chip (chip_after v.known.chip s op) t v.known.trust
     → w ≡ published_view v (access_at t s op v.known.chip ∷ []) (known_with s next (t + 1) (word_of_other s v.known) trust) → carried_of id' s w ≡ after_commit p t op
 is_committed id id' s words here next p v w t trust op view is none cell next_is trust_is w_is =
@@ -122,7 +130,8 @@ is_committed id id' s words here next p v w t trust op view is none cell next_is
 
 -- ---- entrust
 
-pub may_entrust : (id : TableId) (s : Side) (words : List ℕ) (here : State) (p : Carried) (v : View) (es : List Event) (t : ℕ) → carried_of id s v ≡ p → IsPassOf s words here v → p.side ≡ Para → p.ahead ≡ [] → own_horizon p ≤ t
+pub may_entrust : (id : TableId) (s : Side) (words : List ℕ) (here : State) (p : Carried) (v : View) (es : List Event) (t : ℕ) → carried_of id s v ≡ p
+    → IsPassOf s words here v → p.side ≡ Para → p.ahead ≡ [] → own_horizon p ≤ t
     → Watches Para (own_horizon p) p.known.chip es t → MayEntrust es t v
 may_entrust id s words here p v es t view is side none later watches =
     let s_is : s ≡ Para = ap (λ q. q.side) view ∙ side in
@@ -141,19 +150,22 @@ pass_entrusted s words next here t es v w is none may w_is words_are =
     let k : w.known ≡ trusting v.known t = ap (λ u. u.known) w_is in
     let stop = may.later in
     let low : All (λ e. e.tick < t) (v.trusted ++ es) =
-    All-append (λ e. e.tick < t) v.trusted es (All-weaker (λ e. e.tick < v.known.trust) (λ e. e.tick < t) (λ e l. omega arith) v.trusted is.trusted) (watches_low Para (horizon (own_bound Para v.known) v.mine) v.known.chip es t may.watches) in
+    All-append (λ e. e.tick < t) v.trusted es (All-weaker (λ e. e.tick < v.known.trust) (λ e. e.tick < t) (λ e l. omega arith) v.trusted is.trusted)
+    (watches_low Para (horizon (own_bound Para v.known) v.mine) v.known.chip es t may.watches) in
     let chip : w.known.chip ≡ v.known.chip = ap (λ x. x.chip) k in
     pass_fresh s next here w (ap (λ u. u.role) w_is ∙ is.role) (subst IsChip (sym chip) is.well) (words_are ∙ ap words_of (sym k))
     (subst (λ (u : View). All (λ e. e.tick < u.known.trust) u.trusted) (sym w_is) low)
     (ap (λ u. u.ahead) w_is ∙ none) (bare_local s words here v is none ∙ sym chip)
 
-pub is_entrusted : (id id' : TableId) (s : Side) (p : Carried) (v w : View) (es : List Event) (t : ℕ) → carried_of id s v ≡ p → id' ≡ id → w ≡ entrusted_view v es (trusting v.known t) → carried_of id' s w ≡ after_entrust p es t
+pub is_entrusted : (id id' : TableId) (s : Side) (p : Carried) (v w : View) (es : List Event) (t : ℕ) → carried_of id s v ≡ p → id' ≡ id
+    → w ≡ entrusted_view v es (trusting v.known t) → carried_of id' s w ≡ after_entrust p es t
 is_entrusted id id' s p v w es t view cell w_is = (λ i. carried_of (cell i) s (w_is i)) ∙ ap (λ (q : Carried). after_entrust q es t) view
 
 -- ---- look
 
 -- what a look leaves of the view, but for the list
-looked_as : (b : Bool) (t : ℕ) (s : Side) (v w : View) → MatchBool b (w ≡ looked_view v t s w.known) (w ≡ found_view v w.known) → (w.role ≡ v.role) × (w.ahead ≡ v.ahead) × (w.trusted ≡ pending_events w.known v.trusted)
+looked_as : (b : Bool) (t : ℕ) (s : Side) (v w : View) → MatchBool b (w ≡ looked_view v t s w.known) (w ≡ found_view v w.known)
+    → (w.role ≡ v.role) × (w.ahead ≡ v.ahead) × (w.trusted ≡ pending_events w.known v.trusted)
 looked_as true t s v w is = (ap (λ u. u.role) is, ap (λ u. u.ahead) is, ap (λ u. u.trusted) is)
 looked_as false t s v w is = (ap (λ u. u.role) is, ap (λ u. u.ahead) is, ap (λ u. u.trusted) is)
 
@@ -165,12 +177,15 @@ looked_local s words found old new v w is none local =
     let was = bare_local s words old v is none in
     ⊎_elim (λ (x : (w.known.chip ≡ v.known.chip) × (new ≡ old)). x.1 ∙ was ∙ sym x.0) (λ (x : (w.known.chip ≢ v.known.chip) × (new ≡ w.known.chip)). x.1) local
 
-pub pass_looked : (s : Side) (words found : List ℕ) (old new : State) (t : ℕ) (v w : View) → IsPassOf s words old v → v.ahead ≡ [] → v.trusted ≡ [] → LookedAt t s found v w → Local v.known.chip old w.known.chip new → IsPassOf s found new w
+pub pass_looked : (s : Side) (words found : List ℕ) (old new : State) (t : ℕ) (v w : View) → IsPassOf s words old v → v.ahead ≡ [] → v.trusted ≡ []
+    → LookedAt t s found v w → Local v.known.chip old w.known.chip new → IsPassOf s found new w
 pass_looked s words found old new t v w is none trusted f local =
     let left = looked_as (admits s (other_bound s w.known) t) t s v w f.view_is in
-    pass_fresh s found new w (left.0 ∙ is.role) f.well f.words_are (none_low w.known.trust w.trusted (left.2 ∙ ap (pending_events w.known) trusted)) (left.1 ∙ none) (looked_local s words found old new v w is none local)
+    pass_fresh s found new w (left.0 ∙ is.role) f.well f.words_are (none_low w.known.trust w.trusted (left.2 ∙ ap (pending_events w.known) trusted))
+    (left.1 ∙ none) (looked_local s words found old new v w is none local)
 
-pub is_looked : (id id' : TableId) (s : Side) (words found : List ℕ) (old : State) (p : Carried) (t : ℕ) (lines : Lines) (v w : View) → carried_of id s v ≡ p → IsPassOf s words old v → p.ahead ≡ [] → p.trusted ≡ [] → own_horizon p ≤ t → id' ≡ id
+pub is_looked : (id id' : TableId) (s : Side) (words found : List ℕ) (old : State) (p : Carried) (t : ℕ) (lines : Lines) (v w : View)
+    → carried_of id s v ≡ p → IsPassOf s words old v → p.ahead ≡ [] → p.trusted ≡ [] → own_horizon p ≤ t → id' ≡ id
     → LookedAt t s found v w → admits s (other_bound s w.known) t ≡ true → lines ≡ lines_of w.known.chip → Learns (after_look p t lines) (carried_of id' s w)
 is_looked id id' s words found old p t lines v w view is none trusted later cell f admitted lines_are =
     let k : Known = w.known in
@@ -214,7 +229,10 @@ is_looked id id' s words found old p t lines v w view is none trusted later cell
       own_word = on.0;
       other_word = on.1;
       trust = on.2;
-      horizon = let same : horizon (own_bound s k) (w.mine ++ w.ahead) ≡ horizon (own_bound s k) ((v.mine ++ lines_at t s lines ∷ []) ++ v.ahead) = λ i. horizon (own_bound s k) (mine i ++ ahead i) in omega arith;
+      horizon =
+          let same : horizon (own_bound s k) (w.mine ++ w.ahead) ≡ horizon (own_bound s k) ((v.mine ++ lines_at t s lines ∷ []) ++ v.ahead)
+          = λ i. horizon (own_bound s k) (mine i ++ ahead i) in
+          omega arith;
       same_chip = λ some. absurd (some bare);
     })
 
@@ -256,7 +274,9 @@ horizon_looked p q t lines none trusted later learns =
     let falls = learns.horizon in
     let was = ends_at (own_bound p.side p.known) p.events p.ahead (lines_at t p.side lines) none (omega arith) in
     let last : past_last (q.events ++ q.ahead) ≡ t + 1 =
-    (λ i. past_last ((is i).events ++ (is i).ahead)) ∙ ap past_last (ap (λ a. (p.events ++ lines_at t p.side lines ∷ []) ++ a) none ∙ append-nil (p.events ++ lines_at t p.side lines ∷ [])) ∙ past_last-on p.events (lines_at t p.side lines) in
+    (λ i. past_last ((is i).events ++ (is i).ahead))
+    ∙ ap past_last (ap (λ a. (p.events ++ lines_at t p.side lines ∷ []) ++ a) none ∙ append-nil (p.events ++ lines_at t p.side lines ∷ []))
+    ∙ past_last-on p.events (lines_at t p.side lines) in
     omega arith
 
 pub horizon_entrusted : (p q : Carried) (es : List Event) (t : ℕ) → p.side ≡ Para → own_horizon p ≤ t → q ≡ after_entrust p es t → own_horizon q ≡ t

@@ -10,7 +10,8 @@ use Rattle.tube_chip.specs.State.{State, lines_of}
 use Rattle.tube_chip.specs.Act.{look}
 use Rattle.tube_chip.specs.Events.{Event, merge, after, IsLegal}
 use Rattle.tube_chip.specs.Packing.{IsChip}
-use Rattle.tube_cell.specs.Views.{Known, words_of, new_known, Role, undivided, one_side, rejoined, used, View, word_of, word_of_other, own_bound, other_bound, Admits, admits, below, is_access, is_observation, has_access}
+use Rattle.tube_cell.specs.Views.{Known, words_of, new_known, Role, undivided, one_side, rejoined, used, View, word_of, word_of_other, own_bound}
+use Rattle.tube_cell.specs.Views.{other_bound, Admits, admits, below, is_access, is_observation, has_access}
 
 -- each event is at this tick or later, and at a later tick than the one before it
 abbrev pub Climbs : ℕ → List Event → Type 0

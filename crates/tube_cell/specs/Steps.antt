@@ -7,7 +7,8 @@ use Rattle.tube_chip.specs.declared.Op.{Op}
 use Rattle.tube_chip.specs.State.{State}
 use Rattle.tube_chip.specs.Events.{Event}
 use Rattle.tube_chip.specs.Packing.{IsChip}
-use Rattle.tube_cell.specs.Views.{Known, words_of, View, one_side, word_of_other, own_bound, bound_at, other_bound, Admits, admits, horizon, AllBelow, is_observation, chip_after_event, Answers, trust_past, trust_after}
+use Rattle.tube_cell.specs.Views.{Known, words_of, View, one_side, word_of_other, own_bound, bound_at, other_bound, Admits, admits, horizon}
+use Rattle.tube_cell.specs.Views.{AllBelow, is_observation, chip_after_event, Answers, trust_past, trust_after}
 use Rattle.tube_cell.specs.Rules.{GoesOn, found_view, looked_view}
 use Rattle.tube_cell.specs.Passes.{access_at}
 

@@ -487,7 +487,8 @@ impl Pass {
     }
 }
 
-// The events join the unpublished ones of the view: that of an access or a look at this tick, or many.
+// The events join the unpublished ones of the view: that of an access or a look at this tick, or many. The last three are read by the proof alone,
+// which names the event by them.
 fn add<D: Deeds>(
     cell: &Cell,
     seat: &mut Seat<[u64; 9], PassView>,

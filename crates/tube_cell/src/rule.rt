@@ -26,7 +26,8 @@ impl Protocol<[u64; 9], PassView> for CellRule {
     ghost first = { whole };
 }
 
-/// What an exchange wants: which events join the list, and the next words. Each call picks it.
+/// What an exchange wants: which events join the list, and the next words. No value of it exists: the proof of a call says what it is. `Brand` is what
+/// the call's code writes for it.
 pub trait Wish {
     ghost use Rattle.std.specs.Prelude.{List};
     ghost use Rattle.tube_chip.specs.Events.{Event};
@@ -46,7 +47,7 @@ impl Wish for Brand {
     ghost next = { new_known };
 }
 
-/// What a machine did without the cell: events that join the unpublished ones, or the list on trust. Each call picks it.
+/// What a machine did without the cell: events that join the unpublished ones, or the list on trust. The proof of a call says which, as with `Wish`.
 pub trait Deeds {
     ghost use Rattle.std.specs.Prelude.{List};
     ghost use Rattle.tube_chip.specs.Events.{Event};
@@ -60,7 +61,7 @@ impl Deeds for Brand {
     ghost events = { [] };
 }
 
-/// The tick of a look. Each call picks it.
+/// The tick of a look. The proof of a call says which, as with `Wish`.
 pub trait Moment {
     ghost use Rattle.std.specs.Prelude.{ℕ};
 

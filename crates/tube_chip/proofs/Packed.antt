@@ -1,5 +1,6 @@
 -- A chip is read back from its words.
-use Rattle.std.proofs.Common.{◌≡◌, ◌∙◌, refl, sym, ap, subst, ℕ, zero, suc, ◌+◌, ◌*◌, ◌/◌, ◌%◌, ◌^◌, ◌<◌, ◌≤◌, List, [], ◌∷◌, ◌++◌, map, take, length, get_or, slice_index, length-take-le, ◌==◌, Bool, true, false, All, arith}
+use Rattle.std.proofs.Common.{◌≡◌, ◌∙◌, refl, sym, ap, subst, ℕ, zero, suc, ◌+◌, ◌*◌, ◌/◌, ◌%◌, ◌^◌, ◌<◌, ◌≤◌, List, [], ◌∷◌, ◌++◌, map, take}
+use Rattle.std.proofs.Common.{length, get_or, slice_index, length-take-le, ◌==◌, Bool, true, false, All, arith}
 use Rattle.std.specs.List.{range_with_len}
 use Rattle.std.specs.Int.{w64, to_le_bytes}
 use Rattle.std.proofs.lemmas.Nat.{le_bytes_8}
@@ -9,7 +10,8 @@ use Rattle.tube_chip.specs.State.{State, Flags}
 use Rattle.beeb_bits.specs.Bits.{bit}
 use Rattle.beeb_bits.specs.Bits.{weight}
 use Rattle.tube_chip.specs.Act.{flags_byte}
-use Rattle.tube_chip.specs.Packing.{shown_bytes, IsRegister, IsChip, place, places, word, counts, host_bytes, para_bytes, packed_words, PackingIsOneToOne, flags_from, register_from, host_from, para_from, unpacked_chip}
+use Rattle.tube_chip.specs.Packing.{shown_bytes, IsRegister, IsChip, place, places, word, counts, host_bytes, para_bytes, packed_words}
+use Rattle.tube_chip.specs.Packing.{PackingIsOneToOne, flags_from, register_from, host_from, para_from, unpacked_chip}
 
 -- ---- bytes
 
@@ -130,7 +132,8 @@ host_back c well =
     let f2 = well.to_host.second.fits in
     let f3 = well.to_host.third.fits in
     let f4 = well.to_host.fourth.fits in
-    bytes_8 _ _ _ _ _ _ _ _ (flags_below c.flags) (omega arith) (omega arith) (place-byte 1 _ 0 well.to_host.second) (place-byte 2 _ 0 well.to_host.third) (place-byte 2 _ 1 well.to_host.third) (place-byte 1 _ 0 well.to_host.fourth) (omega arith)
+    bytes_8 _ _ _ _ _ _ _ _ (flags_below c.flags) (omega arith) (omega arith) (place-byte 1 _ 0 well.to_host.second)
+    (place-byte 2 _ 0 well.to_host.third) (place-byte 2 _ 1 well.to_host.third) (place-byte 1 _ 0 well.to_host.fourth) (omega arith)
 
 para_back : (c : State) → IsChip c → to_le_bytes w64 (word (para_bytes c.to_para)) ≡ para_bytes c.to_para
 para_back c well =
@@ -138,7 +141,8 @@ para_back c well =
     let f2 = well.to_para.second.fits in
     let f3 = well.to_para.third.fits in
     let f4 = well.to_para.fourth.fits in
-    bytes_8 _ _ _ _ _ _ _ _ (omega arith) (place-byte 1 _ 0 well.to_para.first) (place-byte 1 _ 0 well.to_para.second) (place-byte 2 _ 0 well.to_para.third) (place-byte 2 _ 1 well.to_para.third) (place-byte 1 _ 0 well.to_para.fourth) (omega arith) (omega arith)
+    bytes_8 _ _ _ _ _ _ _ _ (omega arith) (place-byte 1 _ 0 well.to_para.first) (place-byte 1 _ 0 well.to_para.second)
+    (place-byte 2 _ 0 well.to_para.third) (place-byte 2 _ 1 well.to_para.third) (place-byte 1 _ 0 well.to_para.fourth) (omega arith) (omega arith)
 
 host_bank : (c : State) → IsChip c → host_from (places c.to_host.r1 0 ++ places c.to_host.r1 8 ++ places c.to_host.r1 16) (host_bytes c.flags c.to_host) ≡ c.to_host
 host_bank c well =
@@ -184,8 +188,10 @@ from_bytes both b1 b2 b3 b4 b5 = record {
 pub read_back : (c : State) → IsChip c → unpacked_chip (packed_words c) ≡ c
 unfolding packed_words unpacked_chip from_bytes
 read_back c well =
-    let lists : unpacked_chip (packed_words c) ≡ from_bytes (c.nmis + 2 ^ 32 * c.resets) (places c.to_host.r1 0) (places c.to_host.r1 8) (places c.to_host.r1 16) (host_bytes c.flags c.to_host) (para_bytes c.to_para) =
-    λ i. from_bytes (c.nmis + 2 ^ 32 * c.resets) (places_back c.to_host.r1 0 well.to_host.first i) (places_back c.to_host.r1 8 well.to_host.first i) (places_back c.to_host.r1 16 well.to_host.first i) (host_back c well i) (para_back c well i) in
+    let lists : unpacked_chip (packed_words c) ≡ from_bytes (c.nmis + 2 ^ 32 * c.resets) (places c.to_host.r1 0) (places c.to_host.r1 8)
+    (places c.to_host.r1 16) (host_bytes c.flags c.to_host) (para_bytes c.to_para) =
+    λ i. from_bytes (c.nmis + 2 ^ 32 * c.resets) (places_back c.to_host.r1 0 well.to_host.first i) (places_back c.to_host.r1 8 well.to_host.first i)
+    (places_back c.to_host.r1 16 well.to_host.first i) (host_back c well i) (para_back c well i) in
     let n = well.nmis in
     let nmis : (c.nmis + 2 ^ 32 * c.resets) % 2 ^ 32 ≡ c.nmis = omega arith in
     let resets : (c.nmis + 2 ^ 32 * c.resets) / 2 ^ 32 ≡ c.resets = omega arith in

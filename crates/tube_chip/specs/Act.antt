@@ -8,7 +8,8 @@ use Rattle.tube_chip.specs.declared.Op.TheVariants.{Read, Write, Reset}
 use Rattle.tube_chip.specs.declared.Answer.{Answer}
 use Rattle.tube_chip.specs.declared.Answer.TheVariants.{Byte, Seen}
 use Rattle.tube_chip.specs.Register.{count, front_of, take_leaves, write_leaves}
-use Rattle.tube_chip.specs.State.{State, Flags, register, with_register, incoming_bank, outgoing_bank, with_incoming, with_outgoing, capacity, is_empty, is_ready, wants_service, asks_nmi, lines_of, clear_leaves, no_flags}
+use Rattle.tube_chip.specs.State.{State, Flags, register, with_register, incoming_bank, outgoing_bank, with_incoming, with_outgoing, capacity}
+use Rattle.tube_chip.specs.State.{is_empty, is_ready, wants_service, asks_nmi, lines_of, clear_leaves, no_flags}
 
 -- A side may do this operation: the number is one of the eight, and the reset is the host's.
 abbrev pub MayDo : Side → Op → Type 0

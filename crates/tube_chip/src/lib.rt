@@ -17,22 +17,22 @@ pub enum Op {
     Read(u8),
     /// A write to a number below 8, and the byte.
     Write(u8, u8),
-    /// The host's reset of the chip.
+    /// The host's reset of the chip, HRST.
     Reset,
 }
 
 /// The lines that the chip drives, and the counts of two of them, as a machine sees them when it looks.
 #[derive(Clone, Copy, Debug, PartialEq, Eq)]
 pub struct Lines {
-    /// The parasite's reset line is active.
+    /// The parasite's reset line, PRST, is active.
     pub prst: bool,
     /// How often it became active, modulo 2^32.
     pub resets: u32,
-    /// How often the parasite's NMI was asked for, modulo 2^32.
+    /// How often the parasite's NMI, PNMI, was asked for, modulo 2^32.
     pub nmis: u32,
-    /// The parasite's IRQ.
+    /// The parasite's IRQ, PIRQ.
     pub pirq: bool,
-    /// The host's IRQ.
+    /// The host's IRQ, HIRQ.
     pub hirq: bool,
 }
 

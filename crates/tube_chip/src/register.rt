@@ -1,4 +1,4 @@
-//! One direction of a register of the Tube.
+//! One direction of a register of the Tube: a FIFO.
 ghost use Rattle.std.specs.Prelude.{◌≡◌, ◌+◌, ◌<◌, ◌≤◌, []};
 ghost use Rattle.std.specs.List.{All};
 ghost use Rattle.tube_chip.specs.Register.{holds, empty, count, front_of, take_leaves, add_leaves};

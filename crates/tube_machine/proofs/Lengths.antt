@@ -1,5 +1,6 @@
 -- A sequence of the 65C02 makes fewer than seventeen accesses.
-use Rattle.std.proofs.Common.{◌≡◌, ◌<◌, ◌≤◌, ℕ, zero, suc, ◌+◌, ◌-◌, ◌%◌, ◌==◌, ◌||◌, List, [], ◌∷◌, ◌++◌, length, Bool, true, false, cond, eqb, if◌then◌else◌, Option, Some, None, is_none, refl, ap, arith, length-append}
+use Rattle.std.proofs.Common.{◌≡◌, ◌<◌, ◌≤◌, ℕ, zero, suc, ◌+◌, ◌-◌, ◌%◌, ◌==◌, ◌||◌, List, [], ◌∷◌, ◌++◌, length, Bool, true, false, cond, eqb}
+use Rattle.std.proofs.Common.{if◌then◌else◌, Option, Some, None, is_none, refl, ap, arith, length-append}
 use Rattle.std.proofs.lemmas.Option.{slice_get_within}
 use Rattle.std.specs.Prelude.{slice_get}
 use Rattle.op_table.specs.declared.names.Part.TheVariants.{Cmos}
@@ -9,7 +10,8 @@ use Rattle.op_table.specs.declared.names.Mnemonic.{Mnemonic}
 use Rattle.op_table.specs.declared.names.Mnemonic.TheVariants.{Brk, Jsr, Rti, Rts, Bra, Jmp}
 use Rattle.op_table.specs.declared.rows.Row.{Row}
 use Rattle.op_table.specs.Forms.{Form, forms, form_at}
-use Rattle.op_table.specs.Rows.{Use, Reads, Stores, Shifts, Modifies, Pushes, Pulls, Branches, use_of, read_cycles, store_cycles, modify_cycles, shift_cycles, jump_cycles, cycles_by, cycles_of, spare, row_or_spare, cmos_row}
+use Rattle.op_table.specs.Rows.{Use, Reads, Stores, Shifts, Modifies, Pushes, Pulls, Branches, use_of, read_cycles, store_cycles, modify_cycles}
+use Rattle.op_table.specs.Rows.{shift_cycles, jump_cycles, cycles_by, cycles_of, spare, row_or_spare, cmos_row}
 use Rattle.cpu_alu.specs.declared.Regs.{Regs}
 use Rattle.cpu_alu.specs.declared.Cycle.{Cycle}
 use Rattle.cpu_alu.specs.declared.Cycle.TheVariants.{Read, Write}
@@ -148,7 +150,9 @@ form_most uses.Stores row r seen few =
     with_more 4 1 (reach Cmos row.mode (waits Cmos uses.Stores) r seen) last (reach_most row.mode (waits Cmos uses.Stores) r seen) (omega arith) in
     omega arith
 form_most uses.Shifts row r seen few = let k : length (modify_form Cmos row row.mode (waits Cmos uses.Shifts) r seen) ≤ 7 = modify_most row.mode row (waits Cmos uses.Shifts) r seen in omega arith
-form_most uses.Modifies row r seen few = let k : length (modify_form Cmos row row.mode (waits Cmos uses.Modifies) r seen) ≤ 7 = modify_most row.mode row (waits Cmos uses.Modifies) r seen in omega arith
+form_most uses.Modifies row r seen few =
+    let k : length (modify_form Cmos row row.mode (waits Cmos uses.Modifies) r seen) ≤ 7 = modify_most row.mode row (waits Cmos uses.Modifies) r seen
+    in omega arith
 form_most uses.Branches row r seen few = branch_most (takes_branch row.mnemonic r) r seen
 form_most uses.Jumps row r seen few = jump_most row.mode r seen
 form_most _ row r seen few = omega arith

@@ -34,7 +34,8 @@ pub spent-on : (counts : Type 0) (cycle sure : ℕ) (old mid new : Spent) → Ha
 spent-on counts cycle sure old mid new a b = record { room = λ is. trans _ _ _ (a.room is) (b.room is); late = λ is top high late. b.late is top high (a.late is top high late) }
 
 -- an access
-pub spent-more : (counts : Type 0) (cycle sure room due seen : ℕ) (old now : Spent) → HasSpent counts cycle sure old now → now.room ≤ room + 1 → (counts → due ≡ now.due + cycle) → (counts → seen ≡ now.seen + 1) →
+pub spent-more : (counts : Type 0) (cycle sure room due seen : ℕ) (old now : Spent) → HasSpent counts cycle sure old now → now.room ≤ room + 1
+    → (counts → due ≡ now.due + cycle) → (counts → seen ≡ now.seen + 1) →
     HasSpent counts cycle sure old (spent due room seen)
 spent-more counts cycle sure room due seen old now so_far one there more = record {
   room = λ is.
@@ -47,7 +48,8 @@ spent-more counts cycle sure room due seen old now so_far one there more = recor
 }
 
 -- and a look behind it
-pub spent-past : (counts : Type 0) (cycle sure room due seen : ℕ) (old now : Spent) → HasSpent counts cycle sure old now → now.room ≤ room + 1 → due ≡ now.due + cycle → due ≤ sure → HasSpent counts cycle sure old (spent due room seen)
+pub spent-past : (counts : Type 0) (cycle sure room due seen : ℕ) (old now : Spent) → HasSpent counts cycle sure old now → now.room ≤ room + 1
+    → due ≡ now.due + cycle → due ≤ sure → HasSpent counts cycle sure old (spent due room seen)
 spent-past counts cycle sure room due seen old now so_far one here early = record {
   room = λ is.
       let least : cycle * now.room ≤ cycle * (room + 1) = mul-le-mul_left cycle one in
@@ -57,7 +59,8 @@ spent-past counts cycle sure room due seen old now so_far one here early = recor
 }
 
 -- instructions done whole, of so many cycles
-pub spent-whole : (counts : Type 0) (cycle sure k room due seen : ℕ) (old now : Spent) → HasSpent counts cycle sure old now → now.room ≤ room + k → due ≡ now.due + cycle * k → due ≤ sure → HasSpent counts cycle sure old (spent due room seen)
+pub spent-whole : (counts : Type 0) (cycle sure k room due seen : ℕ) (old now : Spent) → HasSpent counts cycle sure old now → now.room ≤ room + k
+    → due ≡ now.due + cycle * k → due ≤ sure → HasSpent counts cycle sure old (spent due room seen)
 spent-whole counts cycle sure k room due seen old now so_far few here early = record {
   room = λ is.
       let least : cycle * now.room ≤ cycle * (room + k) = mul-le-mul_left cycle few in

@@ -1,5 +1,6 @@
 -- Where the machine stops, and how it goes on from there.
-use Rattle.std.proofs.Common.{◌≡◌, ◌∙◌, ◌&&◌, ◌||◌, refl, sym, ap, subst, ℕ, zero, suc, ◌+◌, ◌-◌, ◌*◌, ◌<◌, ◌≤◌, ◌⊎◌, inl, inr, max, min, length, Bool, true, false, is_none, Option, Some, None, IsSome, MatchOption, arith, if◌then◌else◌}
+use Rattle.std.proofs.Common.{◌≡◌, ◌∙◌, ◌&&◌, ◌||◌, refl, sym, ap, subst, ℕ, zero, suc, ◌+◌, ◌-◌, ◌*◌, ◌<◌, ◌≤◌, ◌⊎◌, inl, inr, max, min, length}
+use Rattle.std.proofs.Common.{Bool, true, false, is_none, Option, Some, None, IsSome, MatchOption, arith, if◌then◌else◌}
 use Rattle.std.proofs.Math.Nat.{mul-le-mul_left, mul-zero}
 use Rattle.op_table.specs.declared.names.Part.{Part}
 use Rattle.op_table.specs.declared.names.Part.TheVariants.{Cmos}
@@ -94,11 +95,15 @@ module _ (part : Part) {B : Type 0} (w : Wiring B) (wired : IsWired w) where
 
     -- one more step that asks nothing
     pub more : (start s new : At B) → Came part w n lines sure start s → s.due < n → IsDone part w s attempt.Done new → Came part w n lines sure start new
-    more start s new came low done =
-        (suc came.0, subst (λ (x : At B). Looks (moves_of part w) n (shown_lines lines sure) (suc came.0) start x) (sym done.1) (silent_last (moves_of part w) n lines sure came.0 start s came.1 low done.0))
+    more start s new came low done = (
+      suc came.0,
+      subst (λ (x : At B). Looks (moves_of part w) n (shown_lines lines sure) (suc came.0) start x) (sym done.1)
+          (silent_last (moves_of part w) n lines sure came.0 start s came.1 low done.0),
+    )
 
     -- one more look, of any kind
-    pub more-look : (start s new : At B) → Came part w n lines sure start s → s.due < n → s.due < sure → is_break part w s ≡ false → next_cycle part s.cpu ≡ None → new ≡ next_state part w s (Some (Seen lines)) → Came part w n lines sure start new
+    pub more-look : (start s new : At B) → Came part w n lines sure start s → s.due < n → s.due < sure → is_break part w s ≡ false
+        → next_cycle part s.cpu ≡ None → new ≡ next_state part w s (Some (Seen lines)) → Came part w n lines sure start new
     more-look start s new came low early none over is = (
       suc came.0,
       subst (λ (x : At B). Looks (moves_of part w) n (shown_lines lines sure) (suc came.0) start x) (sym is)
@@ -106,7 +111,8 @@ module _ (part : Part) {B : Type 0} (w : Wiring B) (wired : IsWired w) where
     )
 
     -- the next step asks for an access
-    pub stops : (start s new : At B) (o : Op) → Came part w n lines sure start s → s.due < n → IsDone part w s (attempt.Tube o) new → Sees (moves_of part w) n (shown_lines lines sure) start (Access (record { 0 = new.due }) o) new
+    pub stops : (start s new : At B) (o : Op) → Came part w n lines sure start s → s.due < n → IsDone part w s (attempt.Tube o) new
+        → Sees (moves_of part w) n (shown_lines lines sure) start (Access (record { 0 = new.due }) o) new
     stops start s new o came low done =
         record {
           steps = came.0;

@@ -25,7 +25,8 @@ module _ (part : Part) {B : Type 0} (w : Wiring B) where
 
   -- An access that is done: the bus after it, the byte that it showed and its ticks make the next state.
   pub accessed-next : (wired : IsWired w) (s : At B) (a : Option Answer) (c : Cycle) (b : B) (byte n : ℕ) → next_cycle part s.cpu ≡ Some c → is_break part w s ≡ false →
-      after_byte part s.cpu byte ≡ after_byte part s.cpu (byte_of w (w.close s.bus (s.due + 1)) s.due a c) → b ≡ w.after (w.close s.bus (s.due + 1)) c → n ≡ w.takes (w.close s.bus (s.due + 1)) s.due c →
+      after_byte part s.cpu byte ≡ after_byte part s.cpu (byte_of w (w.close s.bus (s.due + 1)) s.due a c) → b ≡ w.after (w.close s.bus (s.due + 1)) c
+      → n ≡ w.takes (w.close s.bus (s.due + 1)) s.due c →
       after_cycle part w (at_of s.cpu b s.due) (w.pending b (s.due + (n - 1)) && halted part s.cpu) (after_byte part s.cpu byte) n ≡ next_state part w s a
   accessed-next wired s a c b byte n is none gave after ticks =
       let x : At B = closed_to w s (s.due + 1) in

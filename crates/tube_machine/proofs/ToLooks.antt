@@ -31,7 +31,8 @@ passes_more m over n v (suc k) s u new h is looks = (h.0, (h.1.0, (h.1.1.0, pass
 module _ (part : Part) {B : Type 0} (w : Wiring B) (wired : IsWired w) (plain : B → Lines → Bool) (stays : StaysPlain w plain) (far until : ℕ) (lines : Lines) (sure n : ℕ) (start : At B) where
   -- the look behind a quick access that ends a sequence
   look-there : (s : At B) (since byte : ℕ) (c : Cycle) (on : cpu.State) (b : B) (new : At B) → IsUnderWay part w plain far n until lines 0 start s since →
-      s.due + (n - 1) < until → s.due + (n - 1) < far → s.due + (n - 1) < sure → next_cycle part s.cpu ≡ Some c → IsQuick w s.bus s.due c (Some byte) b → on ≡ after_byte part s.cpu byte → next_cycle part on ≡ None →
+      s.due + (n - 1) < until → s.due + (n - 1) < far → s.due + (n - 1) < sure → next_cycle part s.cpu ≡ Some c
+      → IsQuick w s.bus s.due c (Some byte) b → on ≡ after_byte part s.cpu byte → next_cycle part on ≡ None →
       new ≡ after_look part w (closed_to w (at_of on b (s.due + (n - 1))) (s.due + (n - 1) + 1)) lines → ToLook (moves_of part w) until (shown_lines lines sure) start new
   look-there s since byte c on b new way in_run far_on early is done gave over look =
       let u : ℕ = s.due + (n - 1) in
@@ -48,18 +49,27 @@ module _ (part : Part) {B : Type 0} (w : Wiring B) (wired : IsWired w) (plain : 
       record {
         tick = record { 0 = u };
         last = at;
-        goes = record { steps = came.0; last = at; runs = none_seen (moves_of part w) until lines came.0 start at came.1; asked = (refl, in_run, plain-asks part w at free ∙ ap (asks_by w) over, refl) };
+        goes = record {
+          steps = came.0;
+          last = at;
+          runs = none_seen (moves_of part w) until lines came.0 start at came.1;
+          asked =
+              (refl, in_run, plain-asks part w at free ∙ ap (asks_by w) over, refl);
+        };
         sure = early;
         next = saw;
       }
 
-  module _ (reads writes : ℕ → Bool) (memory : IsMemory w reads writes) (rests : B → Lines → Bool → ℕ → Type 0) (stays_at_rest : StaysAtRest w writes rests) (masks : Bool) (quiet : ℕ) (first : plain start.bus lines ≡ true) where
+  module _ (reads writes : ℕ → Bool) (memory : IsMemory w reads writes) (rests : B → Lines → Bool → ℕ → Type 0)
+      (stays_at_rest : StaysAtRest w writes rests) (masks : Bool) (quiet : ℕ) (first : plain start.bus lines ≡ true) where
     -- at the start of the next instruction
     abbrev Looked : cpu.State → B → ℕ → Type 0
     Looked last there top = ToLook (moves_of part w) until (shown_lines lines sure) start (at_of (fresh Instruction (after part last)) (w.close there top) top)
 
     last-there : (s : At B) (since t : ℕ) (last : cpu.State) (there : B) (top : ℕ) (o : Option Cycle) → next_cycle part s.cpu ≡ o → IsUnderWay part w plain far n until lines 0 start s since →
-        MatchOption o ⊥ (λ (c : Cycle). (is_plain (reach_of w reads writes) c ≡ true) × Carried (reach_of w reads writes) t part zero (after_byte part s.cpu (shows (reach_of w reads writes) s.bus c)) (leaves (reach_of w reads writes) t s.bus (length s.cpu.seen) c) last there) →
+        MatchOption o ⊥ (λ (c : Cycle). (is_plain (reach_of w reads writes) c ≡ true) × Carried (reach_of w reads writes) t part zero
+        (after_byte part s.cpu (shows (reach_of w reads writes) s.bus c))
+        (leaves (reach_of w reads writes) t s.bus (length s.cpu.seen) c) last there) →
         s.due ≡ t + w.cycle s.bus * length s.cpu.seen → w.closed s.bus ≤ s.due + 1 → next_cycle part last ≡ None →
         s.due + n ≡ top → top ≤ far → top ≤ until → top ≤ sure → top ≤ quiet → rests s.bus lines masks quiet → masks ≡ has_flag (after part last).p INTERRUPT → Looked last there top
     last-there s since t last there top None is way h tick before over fits far_on in_run early still rest held = absurd h
@@ -91,12 +101,16 @@ module _ (part : Part) {B : Type 0} (w : Wiring B) (wired : IsWired w) (plain : 
         Carried (reach_of w reads writes) t part (suc k) s.cpu s.bus last there → s.due ≡ t + n * length s.cpu.seen → w.closed s.bus ≤ s.due + 1 → next_cycle part last ≡ None →
         s.due + n * suc k ≡ top → top ≤ far → top ≤ until → top ≤ sure → top ≤ quiet → rests s.bus lines masks quiet → masks ≡ has_flag (after part last).p INTERRUPT → Looked last there top
     walk-there zero s since t last there top way h here before over fits far_on in_run early still rest held =
-        last-there s since t last there top (next_cycle part s.cpu) refl way h (here ∙ ap (λ (c : ℕ). t + c * length s.cpu.seen) way.cycle) before over (ap (λ (x : ℕ). s.due + x) (sym (mul-one n)) ∙ fits) far_on in_run early still rest held
+        last-there s since t last there top (next_cycle part s.cpu) refl way h
+        (here ∙ ap (λ (c : ℕ). t + c * length s.cpu.seen) way.cycle) before over
+        (ap (λ (x : ℕ). s.due + x) (sym (mul-one n)) ∙ fits) far_on in_run early still rest held
     walk-there (suc k) s since t last there top way h here before over fits far_on in_run early still rest held =
         let sum : n * suc (suc k) ≡ n * suc k + n = next-more n (suc k) in
-        next-one part w wired reads writes memory rests stays_at_rest plain stays far until lines 0 n start masks quiet first (Looked last there top) k s since t last there top (next_cycle part s.cpu) refl way h here before
+        next-one part w wired reads writes memory rests stays_at_rest plain stays far until lines 0 n start masks quiet first
+        (Looked last there top) k s since t last there top (next_cycle part s.cpu) refl way h here before
         (none-halted part (reach_of w reads writes) t (suc k) s.cpu s.bus last there h over) (omega (arith, fits, sum)) far_on in_run still rest
-        (λ on b way_on h_on here_on before_on rest_on. walk-there k (at_of on b (s.due + n)) since t last there top way_on h_on here_on before_on over (omega (arith, fits, sum)) far_on in_run early still rest_on held)
+        (λ on b way_on h_on here_on before_on rest_on. walk-there k (at_of on b (s.due + n)) since t last there top way_on h_on here_on before_on over
+        (omega (arith, fits, sum)) far_on in_run early still rest_on held)
 
 module _ (part : Part) {B : Type 0} (w : Wiring B) (wired : IsWired w) (plain : B → Lines → Bool) (stays : StaysPlain w plain) (far until : ℕ) (lines : Lines) (sure n : ℕ)
     (reads writes : ℕ → Bool) (memory : IsMemory w reads writes) (rests : B → Lines → Bool → ℕ → Type 0) (stays_at_rest : StaysAtRest w writes rests) (masks : Bool) (quiet : ℕ) where
@@ -112,6 +126,8 @@ module _ (part : Part) {B : Type 0} (w : Wiring B) (wired : IsWired w) (plain : 
       let same : after part done.last ≡ new = done.regs in
       let masked : masks ≡ has_flag (after part done.last).p INTERRUPT = sym held ∙ sym done.masks ∙ ap (λ (x : Regs). has_flag x.p INTERRUPT) (sym same) in
       let none : due ≡ due + n * 0 = omega arith in
-      let way : IsUnderWay part w plain far n until lines 0 start start due = caught-up part w wired plain stays far until lines 0 start n start cycle (begins part Instruction r) before free (λ is. is) (0, refl) in
+      let way : IsUnderWay part w plain far n until lines 0 start start due =
+      caught-up part w wired plain stays far until lines 0 start n start cycle (begins part Instruction r) before free (λ is. is) (0, refl) in
       subst (λ (x : Regs). ToLook (moves_of part w) until (shown_lines lines sure) start (at_of (fresh Instruction x) (w.close there top) top)) same
-      (walk-there part w wired plain stays far until lines sure n start reads writes memory rests stays_at_rest masks quiet first k start due due done.last there top way done.carried none before done.over refl far_on in_run early still rest masked)
+      (walk-there part w wired plain stays far until lines sure n start reads writes memory rests stays_at_rest masks quiet first k start due due
+      done.last there top way done.carried none before done.over refl far_on in_run early still rest masked)

@@ -110,7 +110,8 @@ module _ (part : Part) {B : Type 0} (w : Wiring B) (wired : IsWired w) (plain : 
 
   module _ (far until : ℕ) (lines : Lines) (sure : ℕ) (start : At B) where
     -- before the next access, where no steps are owed
-    pub caught-up : (n : ℕ) (s : At B) → n ≡ w.cycle s.bus → IsSome (next_cycle part s.cpu) → w.closed s.bus ≤ s.due + 1 → IsFree part w far s.bus → (plain start.bus lines ≡ true → plain s.bus lines ≡ true) →
+    pub caught-up : (n : ℕ) (s : At B) → n ≡ w.cycle s.bus → IsSome (next_cycle part s.cpu) → w.closed s.bus ≤ s.due + 1 → IsFree part w far s.bus
+        → (plain start.bus lines ≡ true → plain s.bus lines ≡ true) →
         Came part w until lines sure start s → IsUnderWay part w plain far n until lines sure start s s.due
     caught-up n s cycle goes_on before free kept came =
         let none : owed_at n s.due s.due (w.closed s.bus) ≡ w.closed s.bus = owed-none n s.due (w.closed s.bus) in
@@ -126,7 +127,8 @@ module _ (part : Part) {B : Type 0} (w : Wiring B) (wired : IsWired w) (plain : 
         }
 
     -- a plain look that is sure, of a machine that stands for one closed further
-    pub sees-on : (c : cpu.State) (b : B) (t u : ℕ) (new : At B) → Came part w until lines sure start (at_of c (w.close b u) t) → u ≤ t + 1 → next_cycle part c ≡ None → t < until → t < sure → w.pending b t ≡ false →
+    pub sees-on : (c : cpu.State) (b : B) (t u : ℕ) (new : At B) → Came part w until lines sure start (at_of c (w.close b u) t) → u ≤ t + 1
+        → next_cycle part c ≡ None → t < until → t < sure → w.pending b t ≡ false →
         new ≡ after_look part w (closed_to w (at_of c b t) (t + 1)) lines → Came part w until lines sure start new
     sees-on c b t u new came high over low early none is =
         let at : At B = at_of c (w.close b u) t in
@@ -152,7 +154,8 @@ module _ (part : Part) {B : Type 0} (w : Wiring B) (wired : IsWired w) (plain : 
         caught-up n new (cycle ∙ looked.cycle) looked.goes_on (omega (arith, looked.closed, looked.due)) (looked.free far free) (λ _. looked.is_plain) saw
 
     -- a step that asked nothing, of the machine whose steps are owed
-    pub steps-on : (n : ℕ) (s : At B) (since : ℕ) → IsUnderWay part w plain far n until lines sure start s since → s.due < until → is_break part w s ≡ false → asks_by w (next_cycle part s.cpu) ≡ None →
+    pub steps-on : (n : ℕ) (s : At B) (since : ℕ) → IsUnderWay part w plain far n until lines sure start s since → s.due < until
+        → is_break part w s ≡ false → asks_by w (next_cycle part s.cpu) ≡ None →
         Came part w until lines sure start (next_state part w s None)
     steps-on n s since way low free none =
         let owed : ℕ = owed_at n since s.due (w.closed s.bus) in
@@ -164,8 +167,10 @@ module _ (part : Part) {B : Type 0} (w : Wiring B) (wired : IsWired w) (plain : 
         (suc way.looks.0, subst (λ (y : At B). Looks (moves_of part w) until (shown_lines lines sure) (suc way.looks.0) start y) again_is more)
 
     -- a quick access is such a step, which leaves the device steps before it for later
-    pub quick-on : (n : ℕ) (s : At B) (since byte : ℕ) (c : Cycle) (on : cpu.State) (b : B) → IsUnderWay part w plain far n until lines sure start s since → s.due < until → s.due + (n - 1) < far → next_cycle part s.cpu ≡ Some c →
-        IsQuick w s.bus s.due c (Some byte) b → on ≡ after_byte part s.cpu byte → Came part w until lines sure start (at_of on (w.close b (s.due + 1)) (if is_none (next_cycle part on) then s.due + (n - 1) else s.due + n))
+    pub quick-on : (n : ℕ) (s : At B) (since byte : ℕ) (c : Cycle) (on : cpu.State) (b : B)
+        → IsUnderWay part w plain far n until lines sure start s since → s.due < until → s.due + (n - 1) < far → next_cycle part s.cpu ≡ Some c →
+        IsQuick w s.bus s.due c (Some byte) b → on ≡ after_byte part s.cpu byte → Came part w until lines sure start
+        (at_of on (w.close b (s.due + 1)) (if is_none (next_cycle part on) then s.due + (n - 1) else s.due + n))
     quick-on n s since byte c on b way low far_on is done gave =
         let x : At B = closed_to w s (s.due + 1) in
         let none : is_break part w s ≡ false = no-break part w s (way.free s.due (omega (arith, far_on))) in
@@ -197,8 +202,10 @@ module _ (part : Part) {B : Type 0} (w : Wiring B) (wired : IsWired w) (plain : 
         sym (stays.close b lines (t + 1)) ∙ ap (λ (d : B). plain d lines) done.2 ∙ stays.after (w.close s (t + 1)) lines c ∙ stays.close s lines (t + 1)
 
     -- and then comes the next access
-    pub quick-more : (n : ℕ) (s : At B) (since byte : ℕ) (c : Cycle) (on : cpu.State) (b : B) → IsUnderWay part w plain far n until lines sure start s since → s.due < until → s.due + (n - 1) < far → next_cycle part s.cpu ≡ Some c →
-        IsQuick w s.bus s.due c (Some byte) b → on ≡ after_byte part s.cpu byte → w.closed b ≤ s.due + 1 → IsSome (next_cycle part on) → IsUnderWay part w plain far n until lines sure start (at_of on b (s.due + n)) since
+    pub quick-more : (n : ℕ) (s : At B) (since byte : ℕ) (c : Cycle) (on : cpu.State) (b : B)
+        → IsUnderWay part w plain far n until lines sure start s since → s.due < until → s.due + (n - 1) < far → next_cycle part s.cpu ≡ Some c →
+        IsQuick w s.bus s.due c (Some byte) b → on ≡ after_byte part s.cpu byte → w.closed b ≤ s.due + 1 → IsSome (next_cycle part on)
+        → IsUnderWay part w plain far n until lines sure start (at_of on b (s.due + n)) since
     quick-more n s since byte c on b way low far_on is done gave before more =
         let some : 1 < n = omega (arith, way.cycle, wired.some s.bus) in
         let came = quick-on n s since byte c on b way low far_on is done gave in
@@ -221,7 +228,8 @@ module _ (part : Part) {B : Type 0} (w : Wiring B) (wired : IsWired w) (plain : 
         }
 
     -- or the look at the end of the sequence
-    pub quick-last : (n : ℕ) (s : At B) (since byte : ℕ) (c : Cycle) (on : cpu.State) (b : B) → IsUnderWay part w plain far n until lines sure start s since → s.due < until → s.due + (n - 1) < far → next_cycle part s.cpu ≡ Some c →
+    pub quick-last : (n : ℕ) (s : At B) (since byte : ℕ) (c : Cycle) (on : cpu.State) (b : B)
+        → IsUnderWay part w plain far n until lines sure start s since → s.due < until → s.due + (n - 1) < far → next_cycle part s.cpu ≡ Some c →
         IsQuick w s.bus s.due c (Some byte) b → on ≡ after_byte part s.cpu byte → next_cycle part on ≡ None → Came part w until lines sure start (at_of on (w.close b (s.due + 1)) (s.due + (n - 1)))
     quick-last n s since byte c on b way low far_on is done gave over =
         let came = quick-on n s since byte c on b way low far_on is done gave in (
@@ -231,8 +239,10 @@ module _ (part : Part) {B : Type 0} (w : Wiring B) (wired : IsWired w) (plain : 
         )
 
     -- after which comes another access
-    pub quick-past : (n : ℕ) (s : At B) (since byte : ℕ) (c : Cycle) (on : cpu.State) (b : B) (new : At B) → IsUnderWay part w plain far n until lines sure start s since → s.due < until → s.due + (n - 1) < far → next_cycle part s.cpu ≡ Some c →
-        IsQuick w s.bus s.due c (Some byte) b → on ≡ after_byte part s.cpu byte → w.closed b ≤ s.due + 1 → next_cycle part on ≡ None → plain start.bus lines ≡ true → s.due + (n - 1) < until → s.due + (n - 1) < sure →
+    pub quick-past : (n : ℕ) (s : At B) (since byte : ℕ) (c : Cycle) (on : cpu.State) (b : B) (new : At B)
+        → IsUnderWay part w plain far n until lines sure start s since → s.due < until → s.due + (n - 1) < far → next_cycle part s.cpu ≡ Some c →
+        IsQuick w s.bus s.due c (Some byte) b → on ≡ after_byte part s.cpu byte → w.closed b ≤ s.due + 1 → next_cycle part on ≡ None
+        → plain start.bus lines ≡ true → s.due + (n - 1) < until → s.due + (n - 1) < sure →
         (t : ℕ) → t ≡ s.due + (n - 1) → new ≡ after_look part w (closed_to w (at_of on b t) (t + 1)) lines → IsUnderWay part w plain far n until lines sure start new new.due
     quick-past n s since byte c on b new way low far_on is done gave before over first in_run early t here look =
         let some : 1 < n = omega (arith, way.cycle, wired.some s.bus) in

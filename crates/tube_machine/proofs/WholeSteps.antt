@@ -1,5 +1,6 @@
 -- A whole instruction and the look behind it are steps of the machine.
-use Rattle.std.proofs.Common.{◌≡◌, ◌≤◌, ◌<◌, ◌∙◌, ◌+◌, ◌-◌, ◌*◌, ◌%◌, refl, sym, ap, subst, ℕ, zero, suc, max, length, ◌∷◌, ◌++◌, [], List, Bool, true, false, cond, ◌&&◌, not, Option, Some, None, IsSome, MatchOption, arith, if◌then◌else◌}
+use Rattle.std.proofs.Common.{◌≡◌, ◌≤◌, ◌<◌, ◌∙◌, ◌+◌, ◌-◌, ◌*◌, ◌%◌, refl, sym, ap, subst, ℕ, zero, suc, max, length, ◌∷◌, ◌++◌, [], List, Bool}
+use Rattle.std.proofs.Common.{true, false, cond, ◌&&◌, not, Option, Some, None, IsSome, MatchOption, arith, if◌then◌else◌}
 use Rattle.std.proofs.Math.Nat.{mul-add, mul-one}
 use Rattle.std.proofs.lemmas.List.{length_push}
 use Rattle.op_table.specs.declared.names.Part.{Part}
@@ -74,7 +75,8 @@ module _ (part : Part) where
   none-some (Some c) is more = cc
 
   -- so that none of an instruction that comes to its end is halted
-  pub none-halted : {M : Type 0} → (g : Reach M) (t k : ℕ) (s : cpu.State) (m : M) (last : cpu.State) (there : M) → Carried g t part (suc k) s m last there → next_cycle part last ≡ None → halted part s ≡ false
+  pub none-halted : {M : Type 0} → (g : Reach M) (t k : ℕ) (s : cpu.State) (m : M) (last : cpu.State) (there : M)
+      → Carried g t part (suc k) s m last there → next_cycle part last ≡ None → halted part s ≡ false
   none-halted g t k s m last there h over = by (halted part s) refl
     where
       by : (b : Bool) → halted part s ≡ b → b ≡ false
@@ -103,7 +105,8 @@ module _ (part : Part) {B : Type 0} (w : Wiring B) (wired : IsWired w) (reads wr
         memory.write_ticks x due at byte is ∙ wired.cycle_close m (due + 1),
       )
 
-  is-closed : (t j due : ℕ) (m : B) (c : Cycle) → is_plain (reach_of w reads writes) c ≡ true → due ≡ t + w.cycle m * j → w.closed m ≤ due + 1 → w.closed (leaves (reach_of w reads writes) t m j c) ≤ due + 1
+  is-closed : (t j due : ℕ) (m : B) (c : Cycle) → is_plain (reach_of w reads writes) c ≡ true → due ≡ t + w.cycle m * j → w.closed m ≤ due + 1
+      → w.closed (leaves (reach_of w reads writes) t m j c) ≤ due + 1
   is-closed t j due m (Read at) is there before = before
   is-closed t j due m (Write at byte) is there before =
       let x : B = w.close m (t + w.cycle m * j + 1) in
@@ -114,7 +117,8 @@ module _ (part : Part) {B : Type 0} (w : Wiring B) (wired : IsWired w) (reads wr
   -- once it is closed from that tick on.
   abbrev Comes : ℕ → ℕ → cpu.State → Option Cycle → B → cpu.State → B → Type 0
   Comes t k s o m last there =
-      MatchOption o ⊥ (λ (c : Cycle). (is_plain (reach_of w reads writes) c ≡ true) × Carried (reach_of w reads writes) t part k (after_byte part s (shows (reach_of w reads writes) m c)) (leaves (reach_of w reads writes) t m (length s.seen) c) last there)
+      MatchOption o ⊥ (λ (c : Cycle). (is_plain (reach_of w reads writes) c ≡ true) × Carried (reach_of w reads writes) t part k
+      (after_byte part s (shows (reach_of w reads writes) m c)) (leaves (reach_of w reads writes) t m (length s.seen) c) last there)
 
   abbrev Closes : ℕ → ℕ → cpu.State → B → cpu.State → B → ℕ → Type 0
   Closes t k s m last there u = (far : B) × (Carried (reach_of w reads writes) t part k s (w.close m u) last far × ((v : ℕ) → u ≤ v → w.close far v ≡ w.close there v))
@@ -147,7 +151,8 @@ module _ (part : Part) {B : Type 0} (w : Wiring B) (wired : IsWired w) (reads wr
         stays_at_rest.write (w.close m u) lines masks far at byte (stays_at_rest.close m lines masks far u rest (omega (arith, there, low))) is
 
     -- the look behind an instruction, which is at rest
-    pub look-on : (plain : B → Lines → Bool) (stays : StaysPlain w plain) (on : cpu.State) (b : B) (t far : ℕ) (lines : Lines) (masks : Bool) → plain b lines ≡ true → rests b lines masks far → t < far →
+    pub look-on : (plain : B → Lines → Bool) (stays : StaysPlain w plain) (on : cpu.State) (b : B) (t far : ℕ) (lines : Lines) (masks : Bool)
+        → plain b lines ≡ true → rests b lines masks far → t < far →
         masks ≡ has_flag (after part on).p INTERRUPT →
         at_of (fresh Instruction (after part on)) (w.close b (t + 1)) (t + 1) ≡ after_look part w (closed_to w (at_of on b t) (t + 1)) lines
     look-on plain stays on b t far lines masks is_plain rest low held =
@@ -170,7 +175,8 @@ module _ (part : Part) {B : Type 0} (w : Wiring B) (wired : IsWired w) (reads wr
 
       abbrev Ahead : ℕ → ℕ → cpu.State → Option Cycle → B → cpu.State → B → Type 0
       Ahead t k s o m last there =
-          MatchOption o ⊥ (λ (c : Cycle). (is_plain (reach_of w reads writes) c ≡ true) × Carried (reach_of w reads writes) t part k (after_byte part s (shows (reach_of w reads writes) m c)) (leaves (reach_of w reads writes) t m (length s.seen) c) last there)
+          MatchOption o ⊥ (λ (c : Cycle). (is_plain (reach_of w reads writes) c ≡ true) × Carried (reach_of w reads writes) t part k
+          (after_byte part s (shows (reach_of w reads writes) m c)) (leaves (reach_of w reads writes) t m (length s.seen) c) last there)
 
       last-one : (s : At B) (since t : ℕ) (last : cpu.State) (there : B) (top : ℕ) (o : Option Cycle) → next_cycle part s.cpu ≡ o → IsUnderWay part w plain far n until lines sure start s since →
           Ahead t zero s.cpu o s.bus last there → s.due ≡ t + w.cycle s.bus * length s.cpu.seen → w.closed s.bus ≤ s.due + 1 → next_cycle part last ≡ None →
@@ -191,9 +197,11 @@ module _ (part : Part) {B : Type 0} (w : Wiring B) (wired : IsWired w) (reads wr
           let rest_on : rests b lines masks quiet = rests-on t j s.due s.bus c lines masks quiet h.0 tick (omega (arith, fits, still, some)) rest in
           let held_on : masks ≡ has_flag (after part on).p INTERRUPT = held ∙ ap (λ (x : cpu.State). has_flag (after part x).p INTERRUPT) (sym h.1.0) in
           let new : At B = at_of (fresh Instruction (after part on)) (w.close b (u + 1)) (u + 1) in
-          let looked : new ≡ after_look part w (closed_to w (at_of on b u) (u + 1)) lines = look-on plain stays on b u quiet lines masks is_plain_on rest_on (omega (arith, fits, still, some)) held_on in
+          let looked : new ≡ after_look part w (closed_to w (at_of on b u) (u + 1)) lines =
+          look-on plain stays on b u quiet lines masks is_plain_on rest_on (omega (arith, fits, still, some)) held_on in
           let came : IsUnderWay part w plain far n until lines sure start new new.due =
-          quick-past part w wired plain stays far until lines sure start n s since byte c on b new way (omega (arith, fits, in_run, some)) (omega (arith, fits, far_on, some)) is done refl closed ended first
+          quick-past part w wired plain stays far until lines sure start n s since byte c on b new way (omega (arith, fits, in_run, some))
+          (omega (arith, fits, far_on, some)) is done refl closed ended first
           (omega (arith, fits, in_run, some)) (omega (arith, fits, early, some)) u refl looked in
           let there_is : u + 1 ≡ top = omega (arith, fits, some) in (
             subst (λ (v : ℕ). IsUnderWay part w plain far n until lines sure start (at_of (fresh Instruction (after part last)) (w.close there v) v) v) there_is
@@ -202,7 +210,8 @@ module _ (part : Part) {B : Type 0} (w : Wiring B) (wired : IsWired w) (reads wr
             stays_at_rest.close there lines masks quiet top (subst (λ (x : B). rests x lines masks quiet) h.1.1 rest_on) still,
           )
 
-      pub next-one : (R : Type 0) (k : ℕ) (s : At B) (since t : ℕ) (last : cpu.State) (there : B) (top : ℕ) (o : Option Cycle) → next_cycle part s.cpu ≡ o → IsUnderWay part w plain far n until lines sure start s since →
+      pub next-one : (R : Type 0) (k : ℕ) (s : At B) (since t : ℕ) (last : cpu.State) (there : B) (top : ℕ) (o : Option Cycle)
+          → next_cycle part s.cpu ≡ o → IsUnderWay part w plain far n until lines sure start s since →
           Ahead t (suc k) s.cpu o s.bus last there → s.due ≡ t + n * length s.cpu.seen → w.closed s.bus ≤ s.due + 1 → halted part s.cpu ≡ false →
           s.due + n ≤ top → top ≤ far → top ≤ until → top ≤ quiet → rests s.bus lines masks quiet →
           ((on : cpu.State) (b : B) → IsUnderWay part w plain far n until lines sure start (at_of on b (s.due + n)) since → Carried (reach_of w reads writes) t part (suc k) on b last there →
@@ -221,7 +230,8 @@ module _ (part : Part) {B : Type 0} (w : Wiring B) (wired : IsWired w) (reads wr
           let more : IsSome (next_cycle part on) = some-first part g t k on b last there h.1 in
           let one : length on.seen ≡ j + 1 = seen-on part s.cpu on byte refl goes in
           let sum : n * length on.seen ≡ n * j + n = ap (λ (x : ℕ). n * x) one ∙ one-more n j in
-          let way_on = quick-more part w wired plain stays far until lines sure start n s since byte c on b way (omega (arith, fits, in_run, some)) (omega (arith, fits, far_on, some)) is done refl closed more in
+          let way_on = quick-more part w wired plain stays far until lines sure start n s since byte c on b way (omega (arith, fits, in_run, some))
+          (omega (arith, fits, far_on, some)) is done refl closed more in
           rec on b way_on h.1 (omega (arith, here, sum)) (omega (arith, closed)) (rests-on t j s.due s.bus c lines masks quiet h.0 tick (omega (arith, fits, still, some)) rest)
 
       -- what follows of an instruction that is under way, whose look is at the tick before top
@@ -229,17 +239,22 @@ module _ (part : Part) {B : Type 0} (w : Wiring B) (wired : IsWired w) (reads wr
           Carried (reach_of w reads writes) t part (suc k) s.cpu s.bus last there → s.due ≡ t + n * length s.cpu.seen → w.closed s.bus ≤ s.due + 1 → next_cycle part last ≡ None →
           s.due + n * suc k ≡ top → top ≤ far → top ≤ until → top ≤ sure → top ≤ quiet → rests s.bus lines masks quiet → masks ≡ has_flag (after part last).p INTERRUPT → Begun last there top
       walk zero s since t last there top way h here before over fits far_on in_run early still rest held =
-          last-one s since t last there top (next_cycle part s.cpu) refl way h (here ∙ ap (λ (c : ℕ). t + c * length s.cpu.seen) way.cycle) before over (ap (λ (x : ℕ). s.due + x) (sym (mul-one n)) ∙ fits) far_on in_run early still rest held
+          last-one s since t last there top (next_cycle part s.cpu) refl way h
+          (here ∙ ap (λ (c : ℕ). t + c * length s.cpu.seen) way.cycle) before over
+          (ap (λ (x : ℕ). s.due + x) (sym (mul-one n)) ∙ fits) far_on in_run early still rest held
       walk (suc k) s since t last there top way h here before over fits far_on in_run early still rest held =
           let sum : n * suc (suc k) ≡ n * suc k + n = next-more n (suc k) in
-          next-one (Begun last there top) k s since t last there top (next_cycle part s.cpu) refl way h here before (none-halted part (reach_of w reads writes) t (suc k) s.cpu s.bus last there h over) (omega (arith, fits, sum)) far_on in_run still rest
-          (λ on b way_on h_on here_on before_on rest_on. walk k (at_of on b (s.due + n)) since t last there top way_on h_on here_on before_on over (omega (arith, fits, sum)) far_on in_run early still rest_on held)
+          next-one (Begun last there top) k s since t last there top (next_cycle part s.cpu) refl way h here before
+          (none-halted part (reach_of w reads writes) t (suc k) s.cpu s.bus last there h over) (omega (arith, fits, sum)) far_on in_run still rest
+          (λ on b way_on h_on here_on before_on rest_on. walk k (at_of on b (s.due + n)) since t last there top way_on h_on here_on before_on over
+          (omega (arith, fits, sum)) far_on in_run early still rest_on held)
 
       -- an instruction done whole, and the look behind it
       pub whole-on : (k due : ℕ) (r new : Regs) (m there : B) → 0 < k → IsUnderWay part w plain far n until lines sure start (at_of (fresh Instruction r) m due) due →
           IsDone part (reach_of w reads writes) due r m k new there → w.closed m ≤ due + 1 → due + n * k ≤ far → due + n * k ≤ until → due + n * k ≤ sure → due + n * k ≤ quiet →
           rests m lines masks quiet → has_flag r.p INTERRUPT ≡ masks →
-          IsUnderWay part w plain far n until lines sure start (at_of (fresh Instruction new) (w.close there (due + n * k)) (due + n * k)) (due + n * k) × rests (w.close there (due + n * k)) lines masks quiet
+          IsUnderWay part w plain far n until lines sure start (at_of (fresh Instruction new) (w.close there (due + n * k)) (due + n * k))
+          (due + n * k) × rests (w.close there (due + n * k)) lines masks quiet
       whole-on zero due r new m there more way done before far_on in_run early still rest held = absurd (omega (arith, more))
       whole-on (suc k) due r new m there more way done before far_on in_run early still rest held =
           let top : ℕ = due + n * suc k in
@@ -253,7 +268,8 @@ module _ (part : Part) {B : Type 0} (w : Wiring B) (wired : IsWired w) (reads wr
       pub whole-behind : (k due u : ℕ) (r new : Regs) (m there : B) → 0 < k → u ≤ due → IsUnderWay part w plain far n until lines sure start (at_of (fresh Instruction r) (w.close m u) due) due →
           IsDone part (reach_of w reads writes) due r m k new there → w.closed m ≤ due + 1 → due + n * k ≤ far → due + n * k ≤ until → due + n * k ≤ sure → due + n * k ≤ quiet →
           rests (w.close m u) lines masks quiet → has_flag r.p INTERRUPT ≡ masks →
-          IsUnderWay part w plain far n until lines sure start (at_of (fresh Instruction new) (w.close there (due + n * k)) (due + n * k)) (due + n * k) × rests (w.close there (due + n * k)) lines masks quiet
+          IsUnderWay part w plain far n until lines sure start (at_of (fresh Instruction new) (w.close there (due + n * k)) (due + n * k))
+          (due + n * k) × rests (w.close there (due + n * k)) lines masks quiet
       whole-behind k due u r new m there more low way done before far_on in_run early still rest held =
           let top : ℕ = due + n * k in
           let c : Closes due k (fresh Instruction r) m done.last there u = carried-closed due k (fresh Instruction r) m done.last there u (omega (arith, low)) done.carried in
@@ -272,7 +288,9 @@ module _ (part : Part) {B : Type 0} (w : Wiring B) (wired : IsWired w) (plain : 
   )
 
   -- steps that go on from there
-  pub onward-on : (far until : ℕ) (lines : Lines) (sure n bound : ℕ) (start s new : At B) → IsUnderWay part w plain far n until lines sure start s s.due → IsOnward part w plain lines bound s new → bound ≤ far → bound ≤ until → bound ≤ sure →
+  pub onward-on : (far until : ℕ) (lines : Lines) (sure n bound : ℕ) (start s new : At B)
+      → IsUnderWay part w plain far n until lines sure start s s.due → IsOnward part w plain lines bound s new → bound ≤ far → bound ≤ until
+      → bound ≤ sure →
       IsUnderWay part w plain far n until lines sure start new new.due
   onward-on far until lines sure n bound start s new way on far_on in_run early =
       let came : Came part w until lines sure start s = came-there far until lines sure n start s way in
@@ -295,6 +313,7 @@ module _ (part : Part) {B : Type 0} (w : Wiring B) (wired : IsWired w) (plain : 
       }
 
 -- the devices are closed no further than that
-pub before-there : (part : Part) {B : Type 0} (w : Wiring B) (far n until : ℕ) (lines : Lines) (sure : ℕ) (start s : At B) (plain : B → Lines → Bool) → IsUnderWay part w plain far n until lines sure start s s.due →
+pub before-there : (part : Part) {B : Type 0} (w : Wiring B) (far n until : ℕ) (lines : Lines) (sure : ℕ) (start s : At B) (plain : B → Lines → Bool)
+    → IsUnderWay part w plain far n until lines sure start s s.due →
     (due : ℕ) → s.due ≡ due → w.closed s.bus ≤ due + 1
 before-there part w far n until lines sure start s plain way due is = omega (arith, way.low, way.high, is)

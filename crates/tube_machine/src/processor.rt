@@ -1,12 +1,12 @@
 //! The processors.
 ghost use Rattle.std.specs.Prelude.{◌≡◌, ◌↔◌, IsTrue, IsSome, IsNone, Some};
 ghost use Rattle.op_table.specs.declared.Part.{Part};
-ghost use Rattle.op_table.specs.declared.Part.TheVariants.{Nmos, Cmos};
 ghost use Rattle.cpu_core.specs.declared.Sequence.TheVariants.{Instruction, Reset};
 ghost use Rattle.cpu_core.specs.State.{State};
 ghost use Rattle.cpu_core.specs.Sequences.{next_cycle, after_byte, halted, starting, HasEnded, after, sequence_at_look, fresh};
 
 use cpu_alu::{Cycle, Regs};
+use cpu_core::{Core, Which};
 use op_table::Part;
 
 /// A processor that does one access to the bus in each cycle. Contracts see its state, and which part it is.
@@ -60,10 +60,10 @@ pub trait Processor: Drop {
         ensures { core self.new ≡ fresh Instruction regs.now };
 }
 
-impl Processor for cpu6502::Cpu {
+impl<P: Which> Processor for Core<P> {
     ghost core = { λ c. c };
 
-    ghost part = { Nmos };
+    ghost part = { P.part };
 
     #[inline(always)]
     fn want(&self) -> Cycle {
@@ -96,62 +96,7 @@ impl Processor for cpu6502::Cpu {
 
     #[inline(always)]
     fn kind(&self) -> Part {
-        Part::Nmos
-    }
-
-    #[inline(always)]
-    fn starting(&self) -> bool {
-        self.starting()
-    }
-
-    #[inline(always)]
-    fn at_start(&self) -> Regs {
-        self.at_start()
-    }
-
-    #[inline(always)]
-    fn set_out(&mut self, regs: &Regs) {
-        self.set_out(regs);
-    }
-}
-
-impl Processor for cpu65c02::Cpu {
-    ghost core = { λ c. c };
-
-    ghost part = { Cmos };
-
-    #[inline(always)]
-    fn want(&self) -> Cycle {
-        self.want()
-    }
-
-    #[inline(always)]
-    fn give(&mut self, byte: u8) {
-        self.give(byte);
-    }
-
-    #[inline(always)]
-    fn last(&self) -> bool {
-        self.last()
-    }
-
-    #[inline(always)]
-    fn halted(&self) -> bool {
-        false
-    }
-
-    #[inline(always)]
-    fn take_lines(&mut self, nmi: bool, irq: bool) {
-        self.take_lines(nmi, irq);
-    }
-
-    fn begin_reset(&mut self) {
-        self.begin_reset();
-    }
-
-    #[inline(always)]
-    fn kind(&self) -> Part {
-        Part::Cmos
+        P::kind()
     }
 
     #[inline(always)]

@@ -17,7 +17,7 @@ use Rattle.tube_party.specs.GoingOn.{entries_below, ShorterRunIsBeginning}
 use Rattle.tube_party.proofs.Runs.{event}
 use Rattle.tube_party.proofs.Ticks.{seat}
 use Rattle.tube_party.proofs.ReplayLemmas.{low_true}
-use Rattle.tube_party.proofs.Kept.{accesses-append}
+use Rattle.tube_party.specs.Logs.{accesses-append}
 use Rattle.tube_party.proofs.Followed.{all_earlier}
 use Rattle.tube_party.proofs.Replayed.{below_end}
 use Rattle.tube_party.proofs.TraceLemmas.{placed}
@@ -44,7 +44,8 @@ grown_later : (k j : ℕ) (l grown : List Event) → k ≤ j → Grown j l grown
 grown_later k j l grown le a =
     record { more = a.more; is = a.is; late = All-weaker (λ (e : Event). j ≤ e.tick) (λ (e : Event). k ≤ e.tick) (λ e h. omega arith) a.more a.late }
 
-step_grown_by : {S : Type 0} (m : Moves S) (side : Side) (k : ℕ) (x : Seat S) (due : Bool) (o : Option Query) → nat_eq (m.due x.state) k ≡ due → m.asks x.state ≡ o → Grown k x.list (step_if_due m side k x).list
+step_grown_by : {S : Type 0} (m : Moves S) (side : Side) (k : ℕ) (x : Seat S) (due : Bool) (o : Option Query) → nat_eq (m.due x.state) k ≡ due → m.asks x.state ≡ o
+    → Grown k x.list (step_if_due m side k x).list
 step_grown_by m side k x false o d q = rw d (grown_not k x.list)
 step_grown_by m side k x true None d q = rw (d, q) (grown_not k x.list)
 step_grown_by m side k x true (Some y) d q =

@@ -1,5 +1,6 @@
 -- The loop over both parties.
-use Rattle.std.proofs.Common.{ℕ, zero, suc, ◌≡◌, ◌+◌, ◌-◌, ◌<◌, ◌≤◌, ◌⊎◌, inl, inr, nat_lt, Bool, true, false, if◌then◌else◌, refl, sym, ◌∙◌, ap, subst, arith, List, [], ◌∷◌, ◌++◌, length, take, Option, None, Some, MatchOption}
+use Rattle.std.proofs.Common.{ℕ, zero, suc, ◌≡◌, ◌+◌, ◌-◌, ◌<◌, ◌≤◌, ◌⊎◌, inl, inr, nat_lt, Bool, true, false, if◌then◌else◌, refl, sym, ◌∙◌, ap, subst, arith, List, [], ◌∷◌, ◌++◌, length}
+use Rattle.std.proofs.Common.{take, Option, None, Some, MatchOption}
 use Rattle.std.proofs.lemmas.Bool.{ltb-true}
 use Rattle.tube_chip.specs.State.{State, lines_of}
 use Rattle.tube_chip.specs.declared.Lines.{Lines}
@@ -22,7 +23,8 @@ use Rattle.tube_party.specs.CodeDesk.{Desk, Acts}
 use Rattle.tube_party.specs.CodeStanding.{Standing, standing_of, IsGone, StandsStill, IsRolledBack}
 use Rattle.tube_party.proofs.Ticks.{world, host_done, rest, host_next, host_silent, para_next, para_silent}
 use Rattle.tube_party.proofs.Runs.{event, First, Over, Silent, Asking, first_of_runs}
-use Rattle.tube_party.proofs.Kept.{kept_own, kept_host_by_para, kept_para_by_host, at_most_one}
+use Rattle.tube_party.proofs.Kept.{kept_own, kept_host_by_para, kept_para_by_host}
+use Rattle.tube_party.specs.Logs.{at_most_one}
 use Rattle.tube_party.proofs.UnderWay.{IsUnderWay, IsAt, IsGoing}
 use Rattle.tube_party.specs.Steps.{due_rises}
 use Rattle.tube_party.proofs.Calm.{IsCalm, access_calm, calm_late, calm_before, calm_after, tight}
@@ -57,7 +59,8 @@ left_of_ask r n last s (Access t op) d h lt up = omega (arith, h.0, h.1)
 left_of_ask r n last s (Look t) d h lt up = omega (arith, h.0, h.1)
 
 -- after steps from a state, what is left is less than from a tick before it
-pub left_after : {S : Type 0} (r : Moves S) → IsLawful r → (n : ℕ) (lines : Lines) (sure k : ℕ) (s last s2 : S) (ask : Ask) (d : ℕ) → Looks r n (shown_lines lines sure) k s last → IsAsk r n last ask s2 → d < n → d < r.due s → ticks_left n ask + d < n
+pub left_after : {S : Type 0} (r : Moves S) → IsLawful r → (n : ℕ) (lines : Lines) (sure k : ℕ) (s last s2 : S) (ask : Ask) (d : ℕ) → Looks r n (shown_lines lines sure) k s last
+    → IsAsk r n last ask s2 → d < n → d < r.due s → ticks_left n ask + d < n
 left_after r lr n lines sure k s last s2 ask d looks asked low up =
     let on : r.due s ≤ r.due last = due_rises r n lines sure k s last lr looks in
     left_of_ask r n last s2 ask d asked low (omega arith)
@@ -84,7 +87,8 @@ tick_of_first r n s last (Look t) h here = h.0 ∙ ap r.due here
 moved_kept : (side : Side) (events : List Event) (keep : ℕ) (l m : List Entry) (a b : ℕ) → l ≡ m → a ≡ b → IsKept side events keep m b → IsKept side events keep l a
 moved_kept side events keep l m a b el ea k = record { list_is = el ∙ k.list_is; count_is = ea ∙ k.count_is }
 
-kept_alike : (side : Side) (l m : List Event) (keep : ℕ) (list : List Entry) (count : ℕ) → ((of : Side) → accesses (of_side of l) ≡ accesses (of_side of m)) → IsKept side l keep list count → IsKept side m keep list count
+kept_alike : (side : Side) (l m : List Event) (keep : ℕ) (list : List Entry) (count : ℕ) → ((of : Side) → accesses (of_side of l) ≡ accesses (of_side of m))
+    → IsKept side l keep list count → IsKept side m keep list count
 kept_alike side l m keep list count same k = record { list_is = k.list_is ∙ ap (take keep) (same side); count_is = k.count_is ∙ ap length (same side) }
 
 -- looks that are sure by what a party asks come at most so many ticks behind its step
@@ -163,7 +167,8 @@ module _ {S T : Type 0} (h : Moves S) (p : Moves T) (lh : IsLawful h) (lp : IsLa
   host_saw_by : (keep sure far k : ℕ) (u last : S) (t : T) (c : State) (l : List Event) (hl pl : List Entry) (hc pc : ℕ)
       → ((x : ℕ) → x < n → x < sure → x < far + 1) → ((i : ℕ) → IsCalm p (lines_of c) far i t) → h.due u < n → (o : Option Query) → h.asks u ≡ o
       → ((v : S) (k2 : List Event) → Looks h n (shown_lines (lines_of c) sure) k v last → IsKept Host k2 keep hl hc → IsKept Para k2 keep pl pc → HostSaw keep v last t c k2 hl pl hc pc)
-      → MatchOption o (Looks h n (shown_lines (lines_of c) sure) k (h.next u None) last) (λ q. (q ≡ look) × (h.due u < sure) × Looks h n (shown_lines (lines_of c) sure) k (h.next u (Some (Seen (lines_of c)))) last)
+      → MatchOption o (Looks h n (shown_lines (lines_of c) sure) k (h.next u None) last)
+      (λ q. (q ≡ look) × (h.due u < sure) × Looks h n (shown_lines (lines_of c) sure) k (h.next u (Some (Seen (lines_of c)))) last)
       → IsKept Host l keep hl hc → IsKept Para l keep pl pc
       → HostSaw keep u last t c l hl pl hc pc
   host_saw_by keep sure far k u last t c l hl pl hc pc first calm low None is on looks kh kp =
@@ -190,7 +195,8 @@ module _ {S T : Type 0} (h : Moves S) (p : Moves T) (lh : IsLawful h) (lp : IsLa
       }
 
   host_saw : (keep sure far k : ℕ) (u last : S) (t : T) (c : State) (l : List Event) (hl pl : List Entry) (hc pc : ℕ)
-      → ((x : ℕ) → x < n → x < sure → x < far + 1) → ((i : ℕ) → IsCalm p (lines_of c) far i t) → Looks h n (shown_lines (lines_of c) sure) k u last → IsKept Host l keep hl hc → IsKept Para l keep pl pc
+      → ((x : ℕ) → x < n → x < sure → x < far + 1) → ((i : ℕ) → IsCalm p (lines_of c) far i t) → Looks h n (shown_lines (lines_of c) sure) k u last → IsKept Host l keep hl hc
+      → IsKept Para l keep pl pc
       → HostSaw keep u last t c l hl pl hc pc
   host_saw keep sure far zero u last t c l hl pl hc pc first calm looks kh kp =
       record { events = l; same = alike _ _ (ap (λ (x : S). ticks h p n 0 (world x t c l)) looks); host_kept = kh; para_kept = kp }
@@ -201,7 +207,8 @@ module _ {S T : Type 0} (h : Moves S) (p : Moves T) (lh : IsLawful h) (lp : IsLa
   para_saw_by : (keep sure far k : ℕ) (s : S) (u last : T) (c : State) (l : List Event) (hl pl : List Entry) (hc pc : ℕ)
       → ((x : ℕ) → x < n → x < sure → x < far + 0) → ((i : ℕ) → IsCalm h (lines_of c) far i s) → p.due u < n → (o : Option Query) → p.asks u ≡ o
       → ((v : T) (k2 : List Event) → Looks p n (shown_lines (lines_of c) sure) k v last → IsKept Host k2 keep hl hc → IsKept Para k2 keep pl pc → ParaSaw keep s v last c k2 hl pl hc pc)
-      → MatchOption o (Looks p n (shown_lines (lines_of c) sure) k (p.next u None) last) (λ q. (q ≡ look) × (p.due u < sure) × Looks p n (shown_lines (lines_of c) sure) k (p.next u (Some (Seen (lines_of c)))) last)
+      → MatchOption o (Looks p n (shown_lines (lines_of c) sure) k (p.next u None) last)
+      (λ q. (q ≡ look) × (p.due u < sure) × Looks p n (shown_lines (lines_of c) sure) k (p.next u (Some (Seen (lines_of c)))) last)
       → IsKept Host l keep hl hc → IsKept Para l keep pl pc
       → ParaSaw keep s u last c l hl pl hc pc
   para_saw_by keep sure far k s u last c l hl pl hc pc first calm low None is on looks kh kp =
@@ -229,7 +236,8 @@ module _ {S T : Type 0} (h : Moves S) (p : Moves T) (lh : IsLawful h) (lp : IsLa
       }
 
   para_saw : (keep sure far k : ℕ) (s : S) (u last : T) (c : State) (l : List Event) (hl pl : List Entry) (hc pc : ℕ)
-      → ((x : ℕ) → x < n → x < sure → x < far + 0) → ((i : ℕ) → IsCalm h (lines_of c) far i s) → Looks p n (shown_lines (lines_of c) sure) k u last → IsKept Host l keep hl hc → IsKept Para l keep pl pc
+      → ((x : ℕ) → x < n → x < sure → x < far + 0) → ((i : ℕ) → IsCalm h (lines_of c) far i s) → Looks p n (shown_lines (lines_of c) sure) k u last → IsKept Host l keep hl hc
+      → IsKept Para l keep pl pc
       → ParaSaw keep s u last c l hl pl hc pc
   para_saw keep sure far zero s u last c l hl pl hc pc first calm looks kh kp =
       record { events = l; same = alike _ _ (ap (λ (x : T). ticks h p n 0 (world s x c l)) looks); host_kept = kh; para_kept = kp }
@@ -240,7 +248,8 @@ module _ {S T : Type 0} (h : Moves S) (p : Moves T) (lh : IsLawful h) (lp : IsLa
   host_does : (keep sure far : ℕ) (w0 : World S T) (s s2 s3 : S) (t : T) (c c2 : State) (ask_h ask2 : Ask) (hl pl hl2 : List Entry) (hc pc hc2 : ℕ)
       → (w : IsAt h p n few keep w0 s t c ask_h hl pl hc pc) → s ≡ w.host_last
       → (d : Acts h Host keep (seated s c hl hc) (seated s2 c2 hl2 hc2))
-      → IsLike (ticks h p n 0 (world s t c w.events)) (ticks h p n 0 (world (h.next s (Some (act c Host d.query).1)) t (act c Host d.query).0 (w.events ++ event (h.due s) Host d.query (act c Host d.query).1 ∷ [])))
+      → IsLike (ticks h p n 0 (world s t c w.events)) (ticks h p n 0 (world (h.next s (Some (act c Host d.query).1)) t (act c Host d.query).0
+      (w.events ++ event (h.due s) Host d.query (act c Host d.query).1 ∷ [])))
       → ((x : ℕ) → x < n → x < sure → x < far + 1) → ((i : ℕ) → IsCalm p (lines_of c2) far i t)
       → Sees h n (shown_lines (lines_of c2) sure) s2 ask2 s3
       → IsAt h p n few keep w0 s3 t c2 ask2 hl2 pl hc2 pc
@@ -351,7 +360,8 @@ module _ {S T : Type 0} (h : Moves S) (p : Moves T) (lh : IsLawful h) (lp : IsLa
       → IsUnderWay h p n few keep w0 s t c ask_h ask_p hl pl hc pc
   catch_up keep sure w0 s mark last t c ask_h ask_p hl pl hc pc k w looks asked first =
       let saw : ParaSaw keep w.host_last mark last c w.events hl pl hc pc =
-      para_saw keep sure (h.due w.host_last) k w.host_last mark last c w.events hl pl hc pc first (λ i. calm_late h (lines_of c) (h.due w.host_last) i w.host_last lh (omega arith)) looks w.host_kept w.para_kept in
+      para_saw keep sure (h.due w.host_last) k w.host_last mark last c w.events hl pl hc pc first (λ i. calm_late h (lines_of c) (h.due w.host_last) i w.host_last lh (omega arith))
+      looks w.host_kept w.para_kept in
       let on : p.due mark ≤ p.due last = due_rises p n (lines_of c) sure k mark last lp looks in
       record {
         para_last = last;
@@ -407,7 +417,8 @@ module _ {S T : Type 0} (h : Moves S) (p : Moves T) (lh : IsLawful h) (lp : IsLa
       para_step keep w0 s t t2 c c2 ask_h ask_p hl pl pl2 hc pc pc2 (settled keep w0 s mark t c ask_h ask_p hl pl hc pc ahead w never) e d in
       by ahead2 at gone
     where
-      by : (b : Bool) → IsAt h p n few keep w0 s t2 c2 ask_h hl pl2 hc pc2 → IsGone p n (lines_of c2) sure t2 (standing_of b ask2 mark3 t3) → IsGoing h p n few keep w0 b s mark3 t3 c2 ask_h ask2 hl pl2 hc pc2
+      by : (b : Bool) → IsAt h p n few keep w0 s t2 c2 ask_h hl pl2 hc pc2 → IsGone p n (lines_of c2) sure t2 (standing_of b ask2 mark3 t3)
+          → IsGoing h p n few keep w0 b s mark3 t3 c2 ask_h ask2 hl pl2 hc pc2
       by true at g =
           (subst (λ (x : T). IsAt h p n few keep w0 s x c2 ask_h hl pl2 hc pc2) (sym g.1) at, (g.0.0, subst (λ (x : T). Goes p n (shown_lines (lines_of c2) g.0.0) x ask2 t3) (sym g.1) g.0.1))
       by false at g =
@@ -463,7 +474,8 @@ module _ {S T : Type 0} (h : Moves S) (p : Moves T) (lh : IsLawful h) (lp : IsLa
           host_turn keep sure w0 s s2 s3 t c c2 ask_h ask_p ask2 hl pl hl2 hc pc hc2 w (host_first h p n s w.at.host_last t w.para_last ask_h ask_p w.at.host_asked w.para_asked e) d told sees
       by true w lines told =
           let g : Goes p n (shown_lines (lines_of c) w.1.0) mark ask_p t = w.1.1 in (
-            host_meanwhile keep sure w.1.0 w0 s s2 s3 mark t c c2 ask_h ask_p ask2 hl pl hl2 hc pc hc2 w.0 g (host_first h p n s w.0.host_last t g.last ask_h ask_p w.0.host_asked g.asked e) d (lines refl) told sees,
+            host_meanwhile keep sure w.1.0 w0 s s2 s3 mark t c c2 ask_h ask_p ask2 hl pl hl2 hc pc hc2 w.0 g
+                (host_first h p n s w.0.host_last t g.last ask_h ask_p w.0.host_asked g.asked e) d (lines refl) told sees,
             (w.1.0, subst (λ (x : Lines). Goes p n (shown_lines x w.1.0) mark ask_p t) (sym (lines refl)) g),
           )
   host_goes keep sure w0 s s2 s3 mark t mark2 t2 c c2 ask_h ask_p ask_p2 ask2 hl pl hl2 hc pc hc2 ahead ahead2 w e d (inr back) told sees =

@@ -54,7 +54,8 @@ module _ {S : Type 0} (m : Moves S) (lines : Lines) (t : ℕ) where
     calm_before (suc j) s last looks calm (suc k) = before_by j k s last (m.asks s) (λ u on. calm_before j u last on calm k) looks.1
 
     -- and after such steps
-    calm_by : (j : ℕ) (s last : S) (o : Option Query) → m.asks s ≡ o → ((k : ℕ) → IsCalm k s) → ((u : S) → Looks m n (shown_lines lines sure) j u last → ((k : ℕ) → IsCalm k u) → (k : ℕ) → IsCalm k last) →
+    calm_by : (j : ℕ) (s last : S) (o : Option Query) → m.asks s ≡ o → ((k : ℕ) → IsCalm k s)
+        → ((u : S) → Looks m n (shown_lines lines sure) j u last → ((k : ℕ) → IsCalm k u) → (k : ℕ) → IsCalm k last) →
         After m n lines sure j s last o → (k : ℕ) → IsCalm k last
     calm_by j s last None is calm on h = on (m.next s None) h (λ k. silent_calm k s is (calm (suc k)))
     calm_by j s last (Some q) is calm on h =

@@ -81,7 +81,8 @@ record Calm {S : Type 0} (m : Moves S) (side : Side) (k : ℕ) (s : S) (lines : 
   is : (c : State) (l : List Event) → lines_of c ≡ lines → step_if_due m side k (seat s c l) ≡ seat state c (l ++ more)
   calm : (i : ℕ) → IsCalm m lines far i state
 
-calm_step_by : {S : Type 0} (m : Moves S) (side : Side) (k : ℕ) (s : S) (lines : Lines) (far : ℕ) → k < far → ((i : ℕ) → IsCalm m lines far i s) → (due : Bool) (o : Option Query) → nat_eq (m.due s) k ≡ due → m.asks s ≡ o →
+calm_step_by : {S : Type 0} (m : Moves S) (side : Side) (k : ℕ) (s : S) (lines : Lines) (far : ℕ) → k < far → ((i : ℕ) → IsCalm m lines far i s) → (due : Bool) (o : Option Query)
+    → nat_eq (m.due s) k ≡ due → m.asks s ≡ o →
     Calm m side k s lines far
 calm_step_by m side k s lines far low calm false o d q = record { state = s; more = []; none = λ of. refl; is = λ c l e. rw d (ap (seat s c) (sym (append-nil l))); calm = calm }
 calm_step_by m side k s lines far low calm true None d q = record {
@@ -140,7 +141,8 @@ module _ {S T : Type 0} (h : Moves S) (p : Moves T) (lh : IsLawful h) (lp : IsLa
       (like_on _ _ _ on (alike _ _ (sym (ap (λ (w : World S T). ticks h p j (k + 1) w) (x.is m)))))
 
   -- the host's step, where it leaves the lines and the parasite makes no access before it
-  pub early_host : (j k : ℕ) (s : S) (t : T) (c : State) (q : Query) (l : List Event) (far : ℕ) → k ≤ h.due s → h.due s < k + j → h.due s ≤ far → ((i : ℕ) → IsCalm p (lines_of c) far i t) → h.asks s ≡ Some q →
+  pub early_host : (j k : ℕ) (s : S) (t : T) (c : State) (q : Query) (l : List Event) (far : ℕ) → k ≤ h.due s → h.due s < k + j → h.due s ≤ far
+      → ((i : ℕ) → IsCalm p (lines_of c) far i t) → h.asks s ≡ Some q →
       lines_of (act c Host q).0 ≡ lines_of c →
       IsLike (ticks h p j k (world s t c l)) (ticks h p j k (world (h.next s (Some (act c Host q).1)) t (act c Host q).0 (l ++ event (h.due s) Host q (act c Host q).1 ∷ [])))
   early_host zero k s t c q l far lo hi near calm asks same = absurd (omega arith)
@@ -161,7 +163,8 @@ module _ {S T : Type 0} (h : Moves S) (p : Moves T) (lh : IsLawful h) (lp : IsLa
         (early_host j (k + 1) s y.state c q (l ++ y.more) far (omega arith) (omega arith) near y.calm asks same)
         (like_on _ _ _
         (like_ticks j (k + 1) on y.state d ((l ++ y.more) ++ done) ((l ++ done) ++ y.more) (behind l y.more done y.none))
-        (alike _ _ (sym (ap (λ (x : Seat S). ticks h p j (k + 1) (para_part p k x t)) (still h Host k (seat on d (l ++ done)) nx) ∙ ap (λ (z : Seat T). ticks h p j (k + 1) (with_host on z)) (y.is d (l ++ done) same))))))
+        (alike _ _ (sym (ap (λ (x : Seat S). ticks h p j (k + 1) (para_part p k x t)) (still h Host k (seat on d (l ++ done)) nx)
+        ∙ ap (λ (z : Seat T). ticks h p j (k + 1) (with_host on z)) (y.is d (l ++ done) same))))))
   ]
 
   -- the parasite's look, where the host makes no access at its tick or before it

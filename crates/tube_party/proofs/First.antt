@@ -81,7 +81,8 @@ host_first h p n s hl t pl Nothing Nothing ah ap e = cc
 host_first h p n s hl t pl Nothing (Access u po) ah ap e = cc
 host_first h p n s hl t pl Nothing (Look u) ah ap e = cc
 host_first h p n s hl t pl (Access x op) Nothing ah ap e = host_over h p n s hl pl (Access x op) x.0 (access_waits h n s hl x op ah) ap.0
-host_first h p n s hl t pl (Access x op) (Access u po) ah ap e = host_both h p n s hl t pl (Access x op) (Access u po) x.0 u.0 (access_waits h n s hl x op ah) (access_waits p n t pl u po ap) (host_before x.0 u.0 e)
+host_first h p n s hl t pl (Access x op) (Access u po) ah ap e = host_both h p n s hl t pl (Access x op) (Access u po) x.0 u.0 (access_waits h n s hl x op ah)
+    (access_waits p n t pl u po ap) (host_before x.0 u.0 e)
 host_first h p n s hl t pl (Access x op) (Look u) ah ap e = host_both h p n s hl t pl (Access x op) (Look u) x.0 u.0 (access_waits h n s hl x op ah) (look_waits p n t pl u ap) (host_before x.0 u.0 e)
 host_first h p n s hl t pl (Look x) Nothing ah ap e = host_over h p n s hl pl (Look x) x.0 (look_waits h n s hl x ah) ap.0
 host_first h p n s hl t pl (Look x) (Access u po) ah ap e = host_both h p n s hl t pl (Look x) (Access u po) x.0 u.0 (look_waits h n s hl x ah) (access_waits p n t pl u po ap) (host_before x.0 u.0 e)
@@ -95,7 +96,8 @@ para_first h p n s hl t pl (Access x op) Nothing ah ap e = cc
 para_first h p n s hl t pl (Look x) Nothing ah ap e = cc
 para_first h p n s hl t pl Nothing (Access u po) ah ap e = para_over h p n t pl hl (Access u po) u.0 (access_waits p n t pl u po ap) ah.0
 para_first h p n s hl t pl Nothing (Look u) ah ap e = para_over h p n t pl hl (Look u) u.0 (look_waits p n t pl u ap) ah.0
-para_first h p n s hl t pl (Access x op) (Access u po) ah ap e = para_both h p n s hl t pl (Access x op) (Access u po) x.0 u.0 (access_waits h n s hl x op ah) (access_waits p n t pl u po ap) (para_before x.0 u.0 e)
+para_first h p n s hl t pl (Access x op) (Access u po) ah ap e = para_both h p n s hl t pl (Access x op) (Access u po) x.0 u.0 (access_waits h n s hl x op ah)
+    (access_waits p n t pl u po ap) (para_before x.0 u.0 e)
 para_first h p n s hl t pl (Access x op) (Look u) ah ap e = para_both h p n s hl t pl (Access x op) (Look u) x.0 u.0 (access_waits h n s hl x op ah) (look_waits p n t pl u ap) (para_before x.0 u.0 e)
 para_first h p n s hl t pl (Look x) (Access u po) ah ap e = para_both h p n s hl t pl (Look x) (Access u po) x.0 u.0 (look_waits h n s hl x ah) (access_waits p n t pl u po ap) (para_before x.0 u.0 e)
 para_first h p n s hl t pl (Look x) (Look u) ah ap e = para_both h p n s hl t pl (Look x) (Look u) x.0 u.0 (look_waits h n s hl x ah) (look_waits p n t pl u ap) (para_before x.0 u.0 e)

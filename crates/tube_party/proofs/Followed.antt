@@ -48,7 +48,8 @@ module _ {S : Type 0} (m : Moves S) (lm : IsLawful m) (side : Side) (n : ℕ) (s
   one_more x a b runs more =
       runs_append m side n n (omega arith) x.state (m.next x.state a) b runs.0 s (of_side side x.list) runs.1 more
 
-  stepped_parts : (x : Seat S) (o : Option Query) → m.due x.state ≡ k → m.asks x.state ≡ o → SomeRuns m side n s (of_side side x.list) x.state → Listed k side x.chip x.list → Parted x (step_leaves m side x o)
+  stepped_parts : (x : Seat S) (o : Option Query) → m.due x.state ≡ k → m.asks x.state ≡ o → SomeRuns m side n s (of_side side x.list) x.state → Listed k side x.chip x.list
+      → Parted x (step_leaves m side x o)
   stepped_parts x None here is runs listed =
       let rise : m.due x.state < m.due (m.next x.state None) = lm.rises x.state None in
       let more : SomeRuns m side n x.state [] (m.next x.state None) = (suc zero, runs_silent m side n zero x.state [] (m.next x.state None) (omega arith) is (refl, refl)) in

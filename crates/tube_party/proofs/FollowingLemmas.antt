@@ -1,5 +1,6 @@
 -- A replay that meets no difference follows the trace, and the other way round.
-use Rattle.std.proofs.Common.{ℕ, zero, suc, ◌≡◌, ◌+◌, ◌<◌, ◌≤◌, inl, inr, ◌&&◌, ◌==◌, nat_lt, refl, sym, ◌∙◌, ap, subst, arith, Bool, true, false, if◌then◌else◌, List, [], ◌∷◌, ◌++◌, length, map, Option, None, Some}
+use Rattle.std.proofs.Common.{ℕ, zero, suc, ◌≡◌, ◌+◌, ◌<◌, ◌≤◌, inl, inr, ◌&&◌, ◌==◌, nat_lt, refl, sym, ◌∙◌, ap, subst, arith, Bool, true, false, if◌then◌else◌, List, [], ◌∷◌, ◌++◌, length}
+use Rattle.std.proofs.Common.{map, Option, None, Some}
 use Rattle.std.specs.Prelude.{All}
 use Rattle.std.proofs.lemmas.List.{append-nil}
 use Rattle.std.proofs.lemmas.List.Elements.{All-nil, All-cons, All-head, All-tail}
@@ -19,7 +20,7 @@ use Rattle.tube_trace.specs.Entries.{accesses}
 use Rattle.tube_party.specs.declared.replaying.Doing.{Doing}
 use Rattle.tube_party.specs.Moves.{Moves, IsLawful, Runs, course}
 use Rattle.tube_party.specs.Replay.{Numbered, Ended, own_from, same_op, is_that, next_line, finish_leaves, differs, doing_of, one_step, replay_from, replay_of, chip_before}
-use Rattle.tube_party.specs.CodeTape.{Misses}
+use Rattle.tube_party.specs.CodeCursor.{Misses}
 use Rattle.tube_party.specs.ReplayLaws.{own_below, IsAnsweredBy, FollowsTrace, ReplayIsFollowing, difference, IsDifference, DiffersAt, ReplayTellsDifference}
 use Rattle.tube_party.proofs.Runs.{event, First, Over, Silent, Asking, first_of_runs, runs_silent, runs_asking}
 use Rattle.tube_party.proofs.ReplayLemmas.{Goes, goes_all, goes_end, goes_none, goes_look, goes_access, goes_differs, at_end, step_now}
@@ -184,7 +185,8 @@ module _ {S : Type 0} (m : Moves S) (lawful : IsLawful m) (side : Side) (trace :
         ends = c.ends;
       }
 
-  comes_look : (s : S) (own : List Numbered) (e : Ended S) (a : Answer) → m.due s < n → m.asks s ≡ Some look → IsAnsweredBy trace (m.due s) side look a → Comes (m.next s (Some a)) own e → Comes s own e
+  comes_look : (s : S) (own : List Numbered) (e : Ended S) (a : Answer) → m.due s < n → m.asks s ≡ Some look → IsAnsweredBy trace (m.due s) side look a
+      → Comes (m.next s (Some a)) own e → Comes s own e
   comes_look s own e a low is told c =
       record {
         events = event (m.due s) side look a ∷ c.events;
@@ -258,7 +260,8 @@ module _ {S : Type 0} (m : Moves S) (lawful : IsLawful m) (side : Side) (trace :
 
   -- with no place, nothing is left
 
-  follows_by : (s ended : S) (c : Comes s (own_from side n 1 trace) (replay_of m side trace n s)) → Ending c.last c.left (replay_of m side trace n s) → replay_of m side trace n s ≡ ending ended → FollowsTrace m side trace n s ended
+  follows_by : (s ended : S) (c : Comes s (own_from side n 1 trace) (replay_of m side trace n s)) → Ending c.last c.left (replay_of m side trace n s)
+      → replay_of m side trace n s ≡ ending ended → FollowsTrace m side trace n s ended
   follows_by s ended c (Finishes over same) e =
       let ends : ending ended ≡ finish_leaves m n c.last c.left = sym e ∙ same in
       let none : c.left ≡ [] = no_line c.left (sym (ap (λ (y : Ended S). y.place) ends)) in
@@ -369,7 +372,8 @@ module _ {S : Type 0} (m : Moves S) (lawful : IsLawful m) (side : Side) (trace :
       f.follows.over
       ∙ ap ending (sym f.follows.ends)
 
-  place_by : (whole : Ended S) (last stopped : S) (left : List Numbered) (line : ℕ) (what : Option Doing) → Goes m side trace n whole last left → Whole last left line what stopped → At stopped whole line what
+  place_by : (whole : Ended S) (last stopped : S) (left : List Numbered) (line : ℕ) (what : Option Doing) → Goes m side trace n whole last left → Whole last left line what stopped
+      → At stopped whole line what
   place_by whole last stopped left line None goes d =
       goes_end m side trace n whole last left goes d.0
       ∙ ap (λ (x : S). record { machine = x; place = next_line left }) (sym d.2)

@@ -46,7 +46,8 @@ own_all side n (x ∷ trace) low =
     by (is_side side x.side) refl (low_and (is_side side x.side) (x.tick).0 n (All-head (λ (e : Entry). (e.tick).0 < n) x trace low))
     (own_all side n trace (All-tail (λ (e : Entry). (e.tick).0 < n) x trace low))
   where
-    by : (b : Bool) → is_side side x.side ≡ b → (is_side side x.side && nat_lt (x.tick).0 n) ≡ is_side side x.side → own_below side n trace ≡ own side trace → own_below side n (x ∷ trace) ≡ own side (x ∷ trace)
+    by : (b : Bool) → is_side side x.side ≡ b → (is_side side x.side && nat_lt (x.tick).0 n) ≡ is_side side x.side → own_below side n trace ≡ own side trace
+        → own_below side n (x ∷ trace) ≡ own side (x ∷ trace)
     by true is same on = rw (same ∙ is, is) (ap (λ (l : List Entry). x ∷ l) on)
     by false is same on = rw (same ∙ is, is) on
 
@@ -139,7 +140,8 @@ module _ (one other : Side) (apart : is_side one other ≡ false) (back : is_sid
   access_here : (c : State) (t : ℕ) (op : Op) (b : ℕ) (rest : List Entry) (l m : List Event) →
       let x : Event = event t one (access op) (Byte b) in
       let trace : List Entry = entry_of t one (access op) (Byte b) ++ rest in
-      All (IsBefore x) l → All (IsBefore x) m → Rises l → All (λ (e : Event). e.side ≡ one) l → accesses l ≡ own one rest → All (On c trace) l → IsPart other c trace m → IsTold c trace → Left c trace x l m
+      All (IsBefore x) l → All (IsBefore x) m → Rises l → All (λ (e : Event). e.side ≡ one) l → accesses l ≡ own one rest → All (On c trace) l → IsPart other c trace m → IsTold c trace
+      → Left c trace x l m
   access_here c t op b rest l m al am rises each own_is told part legal =
       let x : Entry = record { tick = record { 0 = t }; side = one; op = op; answer = b } in
       record {
@@ -154,7 +156,8 @@ module _ (one other : Side) (apart : is_side one other ≡ false) (back : is_sid
 
   access_by : (c : State) (t : ℕ) (op : Op) (b : ℕ) (trace : List Entry) (l m : List Event) →
       let x : Event = event t one (access op) (Byte b) in
-      All (IsBefore x) l → All (IsBefore x) m → Rises l → All (λ (e : Event). e.side ≡ one) l → entry_of t one (access op) (Byte b) ++ accesses l ≡ own one trace → All (On c trace) l → IsPart other c trace m → IsTold c trace → Left c trace x l m
+      All (IsBefore x) l → All (IsBefore x) m → Rises l → All (λ (e : Event). e.side ≡ one) l → entry_of t one (access op) (Byte b) ++ accesses l ≡ own one trace → All (On c trace) l
+      → IsPart other c trace m → IsTold c trace → Left c trace x l m
   access_by c t op b [] l m al am rises each own_is told part legal = cc
   access_by c t op b (e ∷ rest) l m al am rises each own_is told part legal = elim (which e.side) [
     | inl is ↦
@@ -199,7 +202,8 @@ module _ (one other : Side) (apart : is_side one other ≡ false) (back : is_sid
       by : (side : Side) → side ≡ one → (t : ℕ) (q : Query) (a : Answer) → All (IsBefore (event t side q a)) l → All (IsBefore (event t side q a)) m →
           entry_of t side q a ++ accesses l ≡ own one trace → IsAnsweredOn c trace t side q a → Left c trace (event t side q a) l m
       by side is t q a =
-          subst (λ (s : Side). All (IsBefore (event t s q a)) l → All (IsBefore (event t s q a)) m → entry_of t s q a ++ accesses l ≡ own one trace → IsAnsweredOn c trace t s q a → Left c trace (event t s q a) l m) (sym is)
+          subst (λ (s : Side). All (IsBefore (event t s q a)) l → All (IsBefore (event t s q a)) m → entry_of t s q a ++ accesses l ≡ own one trace → IsAnsweredOn c trace t s q a
+          → Left c trace (event t s q a) l m) (sym is)
           (λ al am own_is here.
           step_by c t q a trace l m al am (rises_tail x l part.rises) (All-tail (λ (e : Event). e.side ≡ one) x l part.each) own_is here (All-tail (On c trace) x l part.told) other_part legal)
 
@@ -247,14 +251,16 @@ Joins bound =
     (c : State) (trace : List Entry) (a b : List Event) → length a + length b < bound → IsPart Host c trace a → IsPart Para c trace b → IsTold c trace → IsJoined c trace (merge a b)
 
 -- the host's event comes first
-host_joins : (bound : ℕ) → Joins bound → (c : State) (trace : List Entry) (x : Event) (a b : List Event) → length a + length b < bound → IsPart Host c trace (x ∷ a) → IsPart Para c trace b → All (IsBefore x) b → IsTold c trace →
+host_joins : (bound : ℕ) → Joins bound → (c : State) (trace : List Entry) (x : Event) (a b : List Event) → length a + length b < bound → IsPart Host c trace (x ∷ a)
+    → IsPart Para c trace b → All (IsBefore x) b → IsTold c trace →
     IsJoined c trace (x ∷ merge a b)
 host_joins bound joins c trace x a b low part other am legal =
     let left : Left Host Para refl refl host_or_para c trace x a b = step Host Para refl refl host_or_para c trace x a b part other am legal in
     joined_more Host Para refl refl host_or_para c trace x a b (merge a b) left
     (joins (act c x.side x.query).0 left.rest a b low left.one_part left.other_part left.legal)
 
-para_joins : (bound : ℕ) → Joins bound → (c : State) (trace : List Entry) (y : Event) (a b : List Event) → length a + length b < bound → IsPart Host c trace a → IsPart Para c trace (y ∷ b) → All (IsBefore y) a → IsTold c trace →
+para_joins : (bound : ℕ) → Joins bound → (c : State) (trace : List Entry) (y : Event) (a b : List Event) → length a + length b < bound → IsPart Host c trace a
+    → IsPart Para c trace (y ∷ b) → All (IsBefore y) a → IsTold c trace →
     IsJoined c trace (y ∷ merge a b)
 para_joins bound joins c trace y a b low other part am legal =
     let left : Left Para Host refl refl para_or_host c trace y b a = step Para Host refl refl para_or_host c trace y b a part other am legal in

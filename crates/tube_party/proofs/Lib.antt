@@ -1,4 +1,4 @@
-pub mod TapeLemmas
+pub mod CursorLemmas
 pub mod ReplayLemmas
 pub mod Seeing
 pub mod FollowingLemmas

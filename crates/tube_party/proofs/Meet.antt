@@ -13,10 +13,6 @@ use Rattle.tube_party.specs.Reference.{World, step_leaves, ticks, close_both_lea
 use Rattle.tube_party.proofs.Runs.{event, First, Over, Silent, Asking, first_of_runs}
 use Rattle.tube_party.proofs.Ticks.{world, rest, host_next, host_silent, para_next, para_silent}
 
--- the merge begins with the host's where no parasite's is at a smaller tick
-merge_host : (a : Event) (host para : List Event) → merge (a ∷ host) [] ≡ a ∷ merge host []
-merge_host a host para = refl
-
 pub merge_first : (a b : Event) (host para : List Event) → a.tick ≤ b.tick → merge (a ∷ host) (b ∷ para) ≡ a ∷ merge host (b ∷ para)
 merge_first a b host para le = rw (le-ltb b.tick a.tick le) refl
 
@@ -43,7 +39,13 @@ module _ {S T : Type 0} (h : Moves S) (p : Moves T) (lh : IsLawful h) (lp : IsLa
       → Goes s t c l (event (h.due s) Host q a ∷ others)
   host_event s t c l q a others lt first is answered on =
       host_next h p lh lp n 0 s t c l (omega arith) (omega arith) first
-      ∙ ap (λ (o : Option Query). ticks h p n 0 (record { host = (step_leaves h Host (record { state = s; chip = c; list = l }) o).state; para = t; chip = (step_leaves h Host (record { state = s; chip = c; list = l }) o).chip; list = (step_leaves h Host (record { state = s; chip = c; list = l }) o).list })) is
+      ∙ ap (λ (o : Option Query). ticks h p n 0 (record {
+        host = (step_leaves h Host (record { state = s; chip = c; list = l }) o).state;
+        para = t;
+        chip =
+            (step_leaves h Host (record { state = s; chip = c; list = l }) o).chip;
+        list = (step_leaves h Host (record { state = s; chip = c; list = l }) o).list;
+      })) is
       ∙ ap (λ (x : Answer). ticks h p n 0 (world (h.next s (Some x)) t (act c Host q).0 (l ++ event (h.due s) Host q x ∷ []))) answered.0
       ∙ on answered.1
       ∙ ap (λ (x : List Event). world m v (after_from (act c Host q).0 others) x) (append_snoc l (event (h.due s) Host q a) others)
@@ -55,7 +57,13 @@ module _ {S T : Type 0} (h : Moves S) (p : Moves T) (lh : IsLawful h) (lp : IsLa
       → Goes s t c l (event (p.due t) Para q a ∷ others)
   para_event s t c l q a others lt first is answered on =
       para_next h p lh lp n 0 s t c l (omega arith) (omega arith) first
-      ∙ ap (λ (o : Option Query). ticks h p n 0 (record { host = s; para = (step_leaves p Para (record { state = t; chip = c; list = l }) o).state; chip = (step_leaves p Para (record { state = t; chip = c; list = l }) o).chip; list = (step_leaves p Para (record { state = t; chip = c; list = l }) o).list })) is
+      ∙ ap (λ (o : Option Query). ticks h p n 0 (record {
+        host = s;
+        para = (step_leaves p Para (record { state = t; chip = c; list = l }) o).state;
+        chip =
+            (step_leaves p Para (record { state = t; chip = c; list = l }) o).chip;
+        list = (step_leaves p Para (record { state = t; chip = c; list = l }) o).list;
+      })) is
       ∙ ap (λ (x : Answer). ticks h p n 0 (world s (p.next t (Some x)) (act c Para q).0 (l ++ event (p.due t) Para q x ∷ []))) answered.0
       ∙ on answered.1
       ∙ ap (λ (x : List Event). world m v (after_from (act c Para q).0 others) x) (append_snoc l (event (p.due t) Para q a) others)

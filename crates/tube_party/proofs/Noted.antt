@@ -1,5 +1,5 @@
 -- What is kept of the accesses that were made before a run goes on.
-use Rattle.std.proofs.Common.{ℕ, zero, suc, ◌≡◌, ◌+◌, ◌<◌, ◌≤◌, refl, sym, ◌∙◌, ap, subst, arith, Bool, true, false, if◌then◌else◌, List, [], ◌∷◌, ◌++◌, length, take, get_or}
+use Rattle.std.proofs.Common.{ℕ, ◌≡◌, ◌+◌, ◌<◌, ◌≤◌, sym, ◌∙◌, ap, subst, arith, Bool, true, false, if◌then◌else◌, List, [], ◌∷◌, ◌++◌, length, take, get_or}
 use Rattle.std.proofs.lemmas.List.{take_more, map-append}
 use Rattle.beeb_bits.specs.declared.Side.{Side}
 use Rattle.tube_chip.specs.State.{State, power_on}
@@ -8,7 +8,8 @@ use Rattle.tube_chip.specs.Events.{Event, is_side, after}
 use Rattle.tube_trace.specs.declared.Entry.{Entry}
 use Rattle.tube_trace.specs.Entries.{accesses, event_of, events_of}
 use Rattle.tube_party.specs.declared.log.Log.{Log}
-use Rattle.tube_party.specs.CodeDesk.{own_of, IsNoted, IsFresh}
+use Rattle.tube_party.specs.CodeDesk.{own_of}
+use Rattle.tube_party.specs.Logs.{HasNoted}
 use Rattle.tube_party.specs.OneThread.{IsKept}
 use Rattle.tube_party.specs.Turn.{note_all_leaves}
 use Rattle.tube_party.proofs.Kept.{kept_more}
@@ -25,15 +26,8 @@ chip_more xs i d c c2 lt so_far is =
     ∙ ap (λ (x : State). (act x (get_or xs i d).side (access (get_or xs i d).op)).0) so_far
     ∙ sym (ap after (events_more xs i d lt) ∙ after-push power_on (events_of (take i xs)) (event_of (get_or xs i d)))
 
-pub nothing_kept : (side : Side) (keep : ℕ) (log : Log) → IsFresh keep log → IsKept side [] keep log.list.items log.count
-nothing_kept side keep log fresh = record { list_is = fresh.list ∙ sym (nothing keep); count_is = fresh.count }
-  where
-    nothing : (k : ℕ) → take k (let e : List Entry = [] in e) ≡ []
-    nothing zero = refl
-    nothing (suc k) = refl
-
 pub noted_more : (side : Side) (xs : List Entry) (i keep : ℕ) (d : Entry) (log log2 : Log) → i < length xs →
-    IsKept side (events_of (take i xs)) keep log.list.items log.count → log.keep ≡ keep → IsNoted side (get_or xs i d) log log2 →
+    IsKept side (events_of (take i xs)) keep log.list.items log.count → log.keep ≡ keep → HasNoted (own_of side (get_or xs i d)) log log2 →
     IsKept side (events_of (take (i + 1) xs)) keep log2.list.items log2.count
 noted_more side xs i keep d log log2 lt kept same noted =
     let e : Entry = get_or xs i d in
@@ -42,8 +36,8 @@ noted_more side xs i keep d log log2 lt kept same noted =
     let all : IsKept side (events_of (take (i + 1) xs)) keep (note_all_leaves keep log.list.items (own_of side e)) (log.count + length (own_of side e)) =
     subst (λ (l : List Event). IsKept side l keep (note_all_leaves keep log.list.items (own_of side e)) (log.count + length (own_of side e))) (sym (events_more xs i d lt)) more in
     record {
-      list_is = noted.list ∙ ap (λ (k : ℕ). note_all_leaves k log.list.items (own_of side e)) same ∙ all.list_is;
-      count_is = noted.count ∙ all.count_is;
+      list_is = noted.list_is ∙ ap (λ (k : ℕ). note_all_leaves k log.list.items (own_of side e)) same ∙ all.list_is;
+      count_is = noted.count_is ∙ all.count_is;
     }
 
 most_by : (e : Entry) (b : Bool) → length (accesses (if b then event_of e ∷ [] else [])) ≤ 1
@@ -58,5 +52,5 @@ own_most side e = most_by e (is_side side e.side)
 pub kept_of : {side : Side} {l : List Event} {keep keep2 count : ℕ} {list : List Entry} → keep ≡ keep2 → IsKept side l keep list count → IsKept side l keep2 list count
 kept_of {side = side} {l = l} {count = count} {list = list} e k = subst (λ (x : ℕ). IsKept side l x list count) e k
 
-pub few_more : (side : Side) (e : Entry) (log log2 : Log) (i : ℕ) → log.count ≤ i → IsNoted side e log log2 → log2.count ≤ i + 1
-few_more side e log log2 i few noted = omega (arith, few, noted.count, own_most side e)
+pub few_more : (side : Side) (e : Entry) (log log2 : Log) (i : ℕ) → log.count ≤ i → HasNoted (own_of side e) log log2 → log2.count ≤ i + 1
+few_more side e log log2 i few noted = omega (arith, few, noted.count_is, own_most side e)

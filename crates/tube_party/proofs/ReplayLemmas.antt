@@ -14,7 +14,7 @@ use Rattle.tube_party.specs.declared.party.Ask.{Ask}
 use Rattle.tube_party.specs.declared.party.Ask.TheVariants.{Nothing, Access, Look}
 use Rattle.tube_party.specs.Moves.{Moves, IsLawful, Looks, Sees, IsAsk, IsAskedFor, FitsAnswer, close_leaves, shown_lines}
 use Rattle.tube_party.specs.Replay.{Numbered, Ended, own_from, finish_leaves, differs, access_step, one_step, replay_from, replay_of, chip_before}
-use Rattle.tube_party.specs.CodeTape.{Takes, Misses}
+use Rattle.tube_party.specs.CodeCursor.{Takes, Misses}
 use Rattle.tube_party.specs.Steps.{due_rises}
 
 pub low_true : (a n : ℕ) → a < n → nat_lt a n ≡ true
@@ -170,7 +170,8 @@ asked_for m most s q a low is fits = record { below = low; kind = subst (λ (o :
 
 -- where a party stands at a step that asks, and answers it
 
-pub smaller : {S : Type 0} (m : Moves S) (n : ℕ) (lines : Lines) (sure : ℕ) (old at new : S) (tick : ℕ) (q : Query) {a : Option Answer} → IsLawful m → Stands m n lines sure old at tick q → new ≡ m.next at a →
+pub smaller : {S : Type 0} (m : Moves S) (n : ℕ) (lines : Lines) (sure : ℕ) (old at new : S) (tick : ℕ) (q : Query) {a : Option Answer} → IsLawful m
+    → Stands m n lines sure old at tick q → new ≡ m.next at a →
     n - m.due new < n - m.due old
 smaller {S} m n lines sure old at new tick q {a} lawful stands is =
     let x : m.due old ≤ m.due at = due_rises m n lines sure stands.steps old at lawful stands.looks in
@@ -179,7 +180,8 @@ smaller {S} m n lines sure old at new tick q {a} lawful stands is =
     let w : m.due at < n = stands.below in
     omega arith
 
-pub earlier : {S : Type 0} (m : Moves S) (n : ℕ) (lines : Lines) (sure : ℕ) (old at new : S) (tick : ℕ) (q : Query) {a : Option Answer} → IsLawful m → Stands m n lines sure old at tick q → new ≡ m.next at a →
+pub earlier : {S : Type 0} (m : Moves S) (n : ℕ) (lines : Lines) (sure : ℕ) (old at new : S) (tick : ℕ) (q : Query) {a : Option Answer} → IsLawful m
+    → Stands m n lines sure old at tick q → new ≡ m.next at a →
     (t : ℕ) → m.due new ≤ t → m.due old ≤ t
 earlier {S} m n lines sure old at new tick q {a} lawful stands is t h =
     let x : m.due old ≤ m.due at = due_rises m n lines sure stands.steps old at lawful stands.looks in
@@ -187,7 +189,8 @@ earlier {S} m n lines sure old at new tick q {a} lawful stands is t h =
     let z : m.due new ≡ m.due (m.next at a) = ap m.due is in
     omega arith
 
-pub after_look : {S : Type 0} (m : Moves S) (n : ℕ) (lines : Lines) (sure : ℕ) (old at new : S) (tick : ℕ) (q : Query) {a : Option Answer} → IsLawful m → Stands m n lines sure old at tick q → new ≡ m.next at a →
+pub after_look : {S : Type 0} (m : Moves S) (n : ℕ) (lines : Lines) (sure : ℕ) (old at new : S) (tick : ℕ) (q : Query) {a : Option Answer} → IsLawful m
+    → Stands m n lines sure old at tick q → new ≡ m.next at a →
     (t : ℕ) → m.due new ≤ t → m.due at ≤ t
 after_look {S} m n lines sure old at new tick q {a} lawful stands is t h =
     let y : m.due at < m.due (m.next at a) = lawful.rises at a in

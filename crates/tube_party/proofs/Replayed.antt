@@ -39,7 +39,8 @@ pub below_end : (t n : ℕ) (side : Side) → IsTrue (before t side n Host) → 
 below_end t n Host h = grind (arith, nat_tests)
 below_end t n Para h = grind (arith, nat_tests)
 
-own_by : (side : Side) (e : Event) (l : List Event) (b : Bool) → accesses (if b then e ∷ of_side side l else of_side side l) ≡ (if b then entry_of e.tick e.side e.query e.answer else []) ++ accesses (of_side side l)
+own_by : (side : Side) (e : Event) (l : List Event) (b : Bool) → accesses
+    (if b then e ∷ of_side side l else of_side side l) ≡ (if b then entry_of e.tick e.side e.query e.answer else []) ++ accesses (of_side side l)
 own_by side e l true = refl
 own_by side e l false = refl
 
@@ -80,11 +81,13 @@ does_by f c t side (access op) (Byte b) more first is = rw first refl
 does_by f c t side (access op) (Seen l) more first is = cc
 does_by f c t side look a more first is = refl
 
-head_by : (c : State) (t : ℕ) (side : Side) (q : Query) (a : Answer) (more : List Entry) → (act c side q).1 ≡ a → chip_before side t c more ≡ c → IsAnsweredOn c (entry_of t side q a ++ more) t side q a
+head_by : (c : State) (t : ℕ) (side : Side) (q : Query) (a : Answer) (more : List Entry) → (act c side q).1 ≡ a → chip_before side t c more ≡ c
+    → IsAnsweredOn c (entry_of t side q a ++ more) t side q a
 head_by c t side (access op) a more is still = subst (FitsAnswer (access op)) is tt
 head_by c t side look a more is still = sym is ∙ ap (λ (d : State). Seen (lines_of d)) (sym still)
 
-pub tail_by : (c d : State) (trace more : List Entry) (t : ℕ) (side : Side) (q : Query) (a : Answer) → chip_before side t c trace ≡ chip_before side t d more → IsAnsweredOn d more t side q a → IsAnsweredOn c trace t side q a
+pub tail_by : (c d : State) (trace more : List Entry) (t : ℕ) (side : Side) (q : Query) (a : Answer) → chip_before side t c trace ≡ chip_before side t d more
+    → IsAnsweredOn d more t side q a → IsAnsweredOn c trace t side q a
 tail_by c d trace more t side (access op) a same h = h
 tail_by c d trace more t side look a same h = h ∙ ap (λ (x : State). Seen (lines_of x)) (sym same)
 

@@ -111,7 +111,8 @@ from_power_on trace t side (access op) a h = h
 from_power_on trace t side look a h = h
 
 -- what a party that follows the trace did is its side's part
-part_of : {S : Type 0} (m : Moves S) → IsLawful m → (side : Side) (trace : List Entry) (at : ℕ) (s u : S) → IsTraceBelow at trace → (f : FollowsTrace m side trace at s u) → IsPart side power_on trace f.events
+part_of : {S : Type 0} (m : Moves S) → IsLawful m → (side : Side) (trace : List Entry) (at : ℕ) (s u : S) → IsTraceBelow at trace → (f : FollowsTrace m side trace at s u)
+    → IsPart side power_on trace f.events
 part_of m lawful side trace at s u legal f =
     let line : IsLine side (m.due s) f.events = line_of_runs m lawful side at f.follows.steps s f.follows.last f.events f.follows.runs in
     record {
@@ -130,7 +131,8 @@ own_by side t of (access op) (Seen l) false is = refl
 own_by side t of look a true is = refl
 own_by side t of look a false is = refl
 
-side_by : (side : Side) (e : Event) (l : List Event) (b : Bool) → accesses (if b then e ∷ of_side side l else of_side side l) ≡ (if b then entry_of e.tick e.side e.query e.answer else []) ++ accesses (of_side side l)
+side_by : (side : Side) (e : Event) (l : List Event) (b : Bool) → accesses
+    (if b then e ∷ of_side side l else of_side side l) ≡ (if b then entry_of e.tick e.side e.query e.answer else []) ++ accesses (of_side side l)
 side_by side e l true = refl
 side_by side e l false = refl
 
@@ -170,7 +172,8 @@ module _ {S T : Type 0} (h : Moves S) (p : Moves T) (lh : IsLawful h) (lp : IsLa
   reached =
       let a = host_follows.follows in
       let b = para_follows.follows in
-      meets_all h p lh lp at a.last b.last a.over b.over (suc (a.steps + b.steps)) a.steps b.steps (omega arith) s t power_on [] host_follows.events para_follows.events a.runs b.runs all_joined.answered
+      meets_all h p lh lp at a.last b.last a.over b.over (suc (a.steps + b.steps)) a.steps b.steps (omega arith) s t power_on [] host_follows.events para_follows.events a.runs b.runs
+      all_joined.answered
 
   listed : SameAccesses all (events_of entries)
   listed = same_by_accesses all entries all_joined.same

@@ -14,7 +14,8 @@ event t side q a = record { tick = t; side = side; query = q; answer = a }
 pub data First {S : Type 0} (r : Moves S) (side : Side) (n k : ℕ) (s : S) (events : List Event) (m : S) : Type 0 where
   Over : events ≡ [] → s ≡ m → First r side n k s events m
   Silent : (i : ℕ) → k ≡ suc i → r.due s < n → r.asks s ≡ None → Runs r side n i (r.next s None) (course events m) → First r side n k s events m
-  Asking : (i : ℕ) (q : Query) (a : Answer) (others : List Event) → k ≡ suc i → r.due s < n → r.asks s ≡ Some q → events ≡ event (r.due s) side q a ∷ others → Runs r side n i (r.next s (Some a)) (course others m) → First r side n k s events m
+  Asking : (i : ℕ) (q : Query) (a : Answer) (others : List Event) → k ≡ suc i → r.due s < n → r.asks s ≡ Some q → events ≡ event (r.due s) side q a ∷ others
+      → Runs r side n i (r.next s (Some a)) (course others m) → First r side n k s events m
 
 abbrev Then : {S : Type 0} → Moves S → Side → ℕ → ℕ → S → List Event → S → Option Query → Type 0
 Then r side n k s events m o =
@@ -47,7 +48,8 @@ first_of_runs r side n zero s events m h = Over h.0 h.1
 first_of_runs r side n (suc i) s events m h = by_ask r side n i s events m (r.asks s) h.0 refl h.1
 
 -- one step in front that asks nothing
-pub runs_silent : {S : Type 0} (r : Moves S) (side : Side) (n k : ℕ) (s : S) (events : List Event) (m : S) → r.due s < n → r.asks s ≡ None → Runs r side n k (r.next s None) (course events m) → Runs r side n (suc k) s (course events m)
+pub runs_silent : {S : Type 0} (r : Moves S) (side : Side) (n k : ℕ) (s : S) (events : List Event) (m : S) → r.due s < n → r.asks s ≡ None
+    → Runs r side n k (r.next s None) (course events m) → Runs r side n (suc k) s (course events m)
 runs_silent {S} r side n k s events m low none runs =
     (low, subst (λ (o : Option Query). Then r side n k s events m o) (sym none) runs)
 

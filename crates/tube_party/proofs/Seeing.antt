@@ -11,18 +11,23 @@ use Rattle.tube_party.specs.Steps.{due_rises, silent_all, looks_on, look_last}
 
 module _ {S : Type 0} (m : Moves S) (n : ℕ) (lines : Lines) (sure : ℕ) where
   -- after some of them the party advanced, and stopped at a step that is no sure look
-  pub stops_there : (old cur new : S) (ask : Ask) → (k : ℕ) × Looks m n (shown_lines lines sure) k old cur → Advances m n cur ask new → IsUnsure sure ask → Sees m n (shown_lines lines sure) old ask new
+  pub stops_there : (old cur new : S) (ask : Ask) → (k : ℕ) × Looks m n (shown_lines lines sure) k old cur → Advances m n cur ask new → IsUnsure sure ask
+      → Sees m n (shown_lines lines sure) old ask new
   stops_there old cur new ask so_far told unsure =
-      let all : (i : ℕ) × Looks m n (shown_lines lines sure) i old told.last = looks_on m n lines sure so_far.0 told.steps old cur told.last so_far.1 (silent_all m n lines sure told.steps cur told.last told.runs) in
+      let all : (i : ℕ) × Looks m n (shown_lines lines sure) i old told.last =
+      looks_on m n lines sure so_far.0 told.steps old cur told.last so_far.1 (silent_all m n lines sure told.steps cur told.last told.runs) in
       record { steps = all.0; last = told.last; looks = all.1; asked = told.asked; unsure = unsure }
 
   -- or at one, which saw the lines
-  pub sees_one_more : (old cur at new : S) (ask : Ask) (t : Tick) → (k : ℕ) × Looks m n (shown_lines lines sure) k old cur → Advances m n cur ask at → ask ≡ Look t → t.0 < sure → new ≡ m.next at (Some (Seen lines)) →
+  pub sees_one_more : (old cur at new : S) (ask : Ask) (t : Tick) → (k : ℕ) × Looks m n (shown_lines lines sure) k old cur → Advances m n cur ask at → ask ≡ Look t → t.0 < sure
+      → new ≡ m.next at (Some (Seen lines)) →
       (k : ℕ) × Looks m n (shown_lines lines sure) k old new
   sees_one_more old cur at new ask t so_far told is early answered =
       let asked : (t.0 ≡ m.due told.last) × (t.0 < n) × (m.asks told.last ≡ Some look) × (at ≡ told.last) = subst (λ (a : Ask). IsAsk m n told.last a at) is told.asked in
-      let all : (i : ℕ) × Looks m n (shown_lines lines sure) i old told.last = looks_on m n lines sure so_far.0 told.steps old cur told.last so_far.1 (silent_all m n lines sure told.steps cur told.last told.runs) in
-      let more : Looks m n (shown_lines lines sure) (suc all.0) old (m.next told.last (Some (Seen lines))) = look_last m n lines sure all.0 old told.last all.1 (omega (arith, asked.0, asked.1)) asked.2 (omega (arith, asked.0, early)) in
+      let all : (i : ℕ) × Looks m n (shown_lines lines sure) i old told.last =
+      looks_on m n lines sure so_far.0 told.steps old cur told.last so_far.1 (silent_all m n lines sure told.steps cur told.last told.runs) in
+      let more : Looks m n (shown_lines lines sure) (suc all.0) old (m.next told.last (Some (Seen lines))) =
+      look_last m n lines sure all.0 old told.last all.1 (omega (arith, asked.0, asked.1)) asked.2 (omega (arith, asked.0, early)) in
       (suc all.0, subst (λ (x : S). Looks m n (shown_lines lines sure) (suc all.0) old x) (sym (subst (λ (x : S). new ≡ m.next x (Some (Seen lines))) asked.3 answered)) more)
 
   -- and then its tick, which was below n, is larger

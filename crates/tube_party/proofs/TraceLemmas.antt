@@ -57,7 +57,8 @@ all_entries [] h = All-nil IsEntry
 all_entries (e ∷ l) h = may_entry e.tick e.side e.query e.answer (accesses l) (All-head May e l h) (all_entries l (All-tail May e l h))
 
 -- what holds of the events' ticks and sides holds of their entries'
-placed_by : (P : ℕ → Side → Type 0) (t : ℕ) (side : Side) (q : Query) (a : Answer) (xs : List Entry) → P t side → All (λ (x : Entry). P (x.tick).0 x.side) xs → All (λ (x : Entry). P (x.tick).0 x.side) (entry_of t side q a ++ xs)
+placed_by : (P : ℕ → Side → Type 0) (t : ℕ) (side : Side) (q : Query) (a : Answer) (xs : List Entry) → P t side → All (λ (x : Entry). P (x.tick).0 x.side) xs
+    → All (λ (x : Entry). P (x.tick).0 x.side) (entry_of t side q a ++ xs)
 placed_by P t side (access op) (Byte b) xs h on = All-cons (λ (x : Entry). P (x.tick).0 x.side) _ xs h on
 placed_by P t side (access op) (Seen l) xs h on = on
 placed_by P t side look a xs h on = on
@@ -71,7 +72,8 @@ in_front : (e : Event) (xs : List Entry) → All (λ (x : Entry). IsTrue (before
 in_front e [] h rises = tt
 in_front e (x ∷ xs) h rises = (All-head (λ (y : Entry). IsTrue (before e.tick e.side (y.tick).0 y.side)) x xs h, rises)
 
-rises_by : (t : ℕ) (side : Side) (q : Query) (a : Answer) (xs : List Entry) → All (λ (x : Entry). IsTrue (before t side (x.tick).0 x.side)) xs → Rises (events_of xs) → Rises (events_of (entry_of t side q a ++ xs))
+rises_by : (t : ℕ) (side : Side) (q : Query) (a : Answer) (xs : List Entry) → All (λ (x : Entry). IsTrue (before t side (x.tick).0 x.side)) xs → Rises (events_of xs)
+    → Rises (events_of (entry_of t side q a ++ xs))
 rises_by t side (access op) (Byte b) xs h on = in_front (event t side (access op) (Byte b)) xs h on
 rises_by t side (access op) (Seen l) xs h on = on
 rises_by t side look a xs h on = on
@@ -81,7 +83,8 @@ all_rise [] h = tt
 all_rise (e ∷ l) h =
     rises_by e.tick e.side e.query e.answer (accesses l) (placed (λ t side. IsTrue (before e.tick e.side t side)) l (all_after e l h)) (all_rise l (rises_tail e l h))
 
-answered_by : (c : State) (t : ℕ) (side : Side) (q : Query) (a : Answer) (xs : List Entry) → (act c side q).1 ≡ a → IsAnsweredFrom (act c side q).0 (events_of xs) → IsAnsweredFrom c (events_of (entry_of t side q a ++ xs))
+answered_by : (c : State) (t : ℕ) (side : Side) (q : Query) (a : Answer) (xs : List Entry) → (act c side q).1 ≡ a → IsAnsweredFrom (act c side q).0 (events_of xs)
+    → IsAnsweredFrom c (events_of (entry_of t side q a ++ xs))
 answered_by c t side (access op) (Byte b) xs is on = (is, on)
 answered_by c t side (access op) (Seen l) xs is on = cc
 answered_by c t side look a xs is on = on
@@ -96,7 +99,8 @@ reference_trace {S} {T} h p lh lp may_h may_p s t n =
     let f : IsFollowed h p s t n w = followed h p lh lp s t n in
     record {
       entries = all_entries w.list
-          (both_sides May w.list (all_may h Host n may_h f.host.steps s f.host.last (of_side Host w.list) f.host.runs) (all_may p Para n may_p f.para.steps t f.para.last (of_side Para w.list) f.para.runs));
+          (both_sides May w.list (all_may h Host n may_h f.host.steps s f.host.last (of_side Host w.list) f.host.runs)
+          (all_may p Para n may_p f.para.steps t f.para.last (of_side Para w.list) f.para.runs));
       rises = all_rise w.list f.legal.rises;
       answered = all_answered power_on w.list f.legal.answered;
       below = All-weaker (λ (x : Entry). IsTrue (before (x.tick).0 x.side n Host)) (λ (x : Entry). (x.tick).0 < n) (λ x on. below_end (x.tick).0 n x.side on) (accesses w.list)

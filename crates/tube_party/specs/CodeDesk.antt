@@ -21,21 +21,9 @@ pub record Desk (S : Type 0) : Type 0 where
 abbrev pub desk : {S : Type 0} → S → State → Log → Desk S
 desk s c log = record { state = s; chip = c; list = log.list.items; count = log.count }
 
--- nothing was noted yet, and so many are to be kept
-pub record IsFresh (keep : ℕ) (log : Log) : Type 0 where
-  pub list : log.list.items ≡ []
-  pub count : log.count ≡ 0
-  pub keep_is : log.keep ≡ keep
-
--- the entry, where it is the side's
+-- the entry, where it is one of the side's
 abbrev pub own_of : Side → Entry → List Entry
 own_of side entry = accesses (of_side side (event_of entry ∷ []))
-
--- The side's log has this entry too, where it is the side's.
-pub record IsNoted (side : Side) (entry : Entry) (old new : Log) : Type 0 where
-  pub list : new.list.items ≡ note_all_leaves old.keep old.list.items (own_of side entry)
-  pub count : new.count ≡ old.count + length (own_of side entry)
-  pub keep_is : new.keep ≡ old.keep
 
 -- The step that asks was done at the chip.
 pub record Acts {S : Type 0} (m : Moves S) (side : Side) (keep : ℕ) (old new : Desk S) : Type 0 where

@@ -4,10 +4,11 @@ pub mod Steps
 pub mod Quiet
 pub mod Replay
 pub mod ReplayLaws
-pub mod CodeTape
+pub mod CodeCursor
 pub mod Reference
 pub mod GoingOn
 pub mod OneThread
 pub mod Turn
+pub mod Logs
 pub mod CodeDesk
 pub mod CodeStanding

@@ -1,5 +1,5 @@
 -- What a run of two parties on one thread keeps of the reference run.
-use Rattle.std.specs.Prelude.{ℕ, ◌≡◌, List, length, take}
+use Rattle.std.specs.Prelude.{ℕ, ◌≡◌, ◌≤◌, Bool, IsTrue, List, length, take}
 use Rattle.beeb_bits.specs.declared.Side.{Side}
 use Rattle.beeb_bits.specs.declared.Side.TheVariants.{Host, Para}
 use Rattle.tube_chip.specs.State.{State}
@@ -7,7 +7,16 @@ use Rattle.tube_chip.specs.Events.{Event, of_side}
 use Rattle.tube_trace.specs.declared.Entry.{Entry}
 use Rattle.tube_trace.specs.Entries.{accesses}
 use Rattle.tube_party.specs.declared.one_thread.Done.{Done}
+use Rattle.tube_party.specs.Moves.{Moves}
 use Rattle.tube_party.specs.Reference.{World}
+
+-- one party may play the host, the other the parasite
+abbrev pub TakeSides : (Side → Bool) → (Side → Bool) → Type 0
+TakeSides host para = IsTrue (host Host) × IsTrue (para Para)
+
+-- neither party is closed past n
+abbrev pub AreClosedWithin : {S T : Type 0} → Moves S → Moves T → S → T → ℕ → Type 0
+AreClosedWithin h p s t n = (h.closed s ≤ n) × (p.closed t ≤ n)
 
 -- The list holds the first `keep` accesses of a side, and the count is the number of all of them.
 pub record IsKept (side : Side) (events : List Event) (keep : ℕ) (list : List Entry) (count : ℕ) : Type 0 where

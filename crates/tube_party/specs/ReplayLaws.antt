@@ -13,7 +13,7 @@ use Rattle.tube_trace.specs.Entries.{accesses}
 use Rattle.tube_party.specs.declared.replaying.Doing.{Doing}
 use Rattle.tube_party.specs.Moves.{Moves, Runs, Follows, FitsAnswer, close_leaves, course}
 use Rattle.tube_party.specs.Replay.{Numbered, own_from, doing_of, next_line, chip_before, replay_of}
-use Rattle.tube_party.specs.CodeTape.{Misses}
+use Rattle.tube_party.specs.CodeCursor.{Misses}
 use Rattle.tube_party.specs.Reference.{World, reference}
 
 -- the side's entries below n, in their order

@@ -52,7 +52,8 @@ module _ {S : Type 0} (m : Moves S) (n : ℕ) (lines : Lines) (sure : ℕ) where
   silent_first k s last low none looks = (low, subst (After k s last) (sym none) looks)
 
   -- one look in front
-  pub look_first : (k : ℕ) (s last : S) → m.due s < n → m.asks s ≡ Some look → m.due s < sure → Looks m n (shown_lines lines sure) k (m.next s (Some (Seen lines))) last → Looks m n (shown_lines lines sure) (suc k) s last
+  pub look_first : (k : ℕ) (s last : S) → m.due s < n → m.asks s ≡ Some look → m.due s < sure → Looks m n (shown_lines lines sure) k (m.next s (Some (Seen lines))) last
+      → Looks m n (shown_lines lines sure) (suc k) s last
   look_first k s last low asks early looks = (low, subst (After k s last) (sym asks) (refl, early, looks))
 
   -- steps after the first of them
@@ -68,7 +69,8 @@ module _ {S : Type 0} (m : Moves S) (n : ℕ) (lines : Lines) (sure : ℕ) where
       (h.0, after_by k (suc k) s last (m.next last None) (m.asks s) (λ u on. silent_last k u last on low none) h.1)
 
   -- one more look
-  pub look_last : (k : ℕ) (s last : S) → Looks m n (shown_lines lines sure) k s last → m.due last < n → m.asks last ≡ Some look → m.due last < sure → Looks m n (shown_lines lines sure) (suc k) s (m.next last (Some (Seen lines)))
+  pub look_last : (k : ℕ) (s last : S) → Looks m n (shown_lines lines sure) k s last → m.due last < n → m.asks last ≡ Some look → m.due last < sure
+      → Looks m n (shown_lines lines sure) (suc k) s (m.next last (Some (Seen lines)))
   look_last zero s last h low asks early =
       look_first zero s (m.next last (Some (Seen lines))) (subst (λ (x : S). m.due x < n) (sym h) low) (ap m.asks h ∙ asks) (subst (λ (x : S). m.due x < sure) (sym h) early)
       (ap (λ (x : S). m.next x (Some (Seen lines))) h)
@@ -76,7 +78,8 @@ module _ {S : Type 0} (m : Moves S) (n : ℕ) (lines : Lines) (sure : ℕ) where
       (h.0, after_by k (suc k) s last (m.next last (Some (Seen lines))) (m.asks s) (λ u on. look_last k u last on low asks early) h.1)
 
   -- steps after steps
-  looks_on_by : (j k : ℕ) (s mid last : S) (o : Option Query) → ((u : S) → Looks m n (shown_lines lines sure) j u mid → (i : ℕ) × Looks m n (shown_lines lines sure) i u last) → m.asks s ≡ o → m.due s < n → After j s mid o →
+  looks_on_by : (j k : ℕ) (s mid last : S) (o : Option Query) → ((u : S) → Looks m n (shown_lines lines sure) j u mid → (i : ℕ) × Looks m n (shown_lines lines sure) i u last)
+      → m.asks s ≡ o → m.due s < n → After j s mid o →
       (i : ℕ) × Looks m n (shown_lines lines sure) i s last
   looks_on_by j k s mid last None on is low h = let more = on (m.next s None) h in (suc more.0, silent_first more.0 s last low is more.1)
   looks_on_by j k s mid last (Some q) on is low h =

@@ -1,8 +1,7 @@
 //! Laws over the definitions of parties, of the reference run and of a replay.
-ghost use Rattle.std.specs.Prelude.{IsTrue};
-ghost use Rattle.beeb_bits.specs.declared.Side.TheVariants.{Host, Para};
 ghost use Rattle.tube_party.specs.CodeClosing.{MayBeShut, FollowsOn};
 ghost use Rattle.tube_party.specs.Reference.{LegalMergeIsReference, ReferenceIsFollowed, ReferenceIsTrace};
+ghost use Rattle.tube_party.specs.OneThread.{TakeSides};
 ghost use Rattle.tube_party.specs.GoingOn.{BroughtBackIsReference, ShorterRunIsBeginning};
 ghost use Rattle.tube_party.specs.ReplayLaws.{ReplayIsFollowing, ReplayTellsDifference, ReferenceIsReplayed};
 
@@ -29,8 +28,7 @@ pub fn reference_is_followed<H: Party, P: Party>()
 /// The accesses of the reference run's list are operations that their sides may do; they rise, lie below the end of the run, and have
 /// the chip's answers.
 pub fn reference_is_trace<H: Party, P: Party>()
-    requires host_plays { IsTrue (H.plays Host) }
-    requires para_plays { IsTrue (P.plays Para) }
+    requires sides { TakeSides H.plays P.plays }
     ensures { ReferenceIsTrace H.moves P.moves }
 {}
 

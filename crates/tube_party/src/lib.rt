@@ -1,6 +1,7 @@
 //! Parties at the Tube: what a machine with a clock is, two of them at one chip, and one against a trace.
 #![tactic(auto)]
 
+mod cursor;
 mod forward;
 mod law;
 mod log;
@@ -9,14 +10,13 @@ mod one_thread;
 mod party;
 mod replaying;
 mod rewinds;
-mod tape;
 
 pub use forward::Forward;
 pub use law::{
     brought_back_is_reference, legal_merge_is_reference, party_goes_on, reference_is_followed,
     reference_is_replayed, reference_is_trace, replay_is_following, shorter_run_is_beginning,
 };
-pub use log::note;
+pub use log::{Log, LogMark};
 pub use noting::Room;
 pub use one_thread::{Done, go_on_from, solo};
 pub use party::{Ask, MOST, NO_LINES, Party};

@@ -3,7 +3,8 @@ ghost use Rattle.std.specs.Prelude.{◌≡◌, ◌≤◌, ◌<◌, ◌^◌, All,
 ghost use Rattle.beeb_bits.specs.declared.Side.TheVariants.{Host, Para};
 ghost use Rattle.tube_chip.specs.Events.{after};
 ghost use Rattle.tube_trace.specs.Entries.{IsEntry, events_of};
-ghost use Rattle.tube_party.specs.CodeDesk.{IsFresh, IsNoted};
+ghost use Rattle.tube_party.specs.CodeDesk.{own_of};
+ghost use Rattle.tube_party.specs.Logs.{IsFresh, HasNoted};
 ghost use Rattle.tube_party.specs.OneThread.{IsKept};
 
 use crate::log::Log;
@@ -48,8 +49,8 @@ impl<P: Rewinds> Room<P> {
 fn note_own(host_log: &mut Log, para_log: &mut Log, entry: Entry)
     requires host_count { host_log.old.count < 2 ^ 63 }
     requires para_count { para_log.old.count < 2 ^ 63 }
-    ensures host { IsNoted Host entry host_log.old host_log.new }
-    ensures para { IsNoted Para entry para_log.old para_log.new }
+    ensures host { HasNoted (own_of Host entry) host_log.old host_log.new }
+    ensures para { HasNoted (own_of Para entry) para_log.old para_log.new }
 {
     match entry.side {
         Side::Host => host_log.note(entry),

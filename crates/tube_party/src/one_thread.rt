@@ -1,8 +1,7 @@
 //! Two parties on one thread.
 ghost use Rattle.std.specs.Prelude.{◌≡◌, ◌≤◌, ◌<◌, ◌^◌, ◌⊎◌, All, IfOk, IfErr, IsTrue};
-ghost use Rattle.beeb_bits.specs.declared.Side.TheVariants.{Host, Para};
 ghost use Rattle.tube_chip.specs.State.{lines_of};
-ghost use Rattle.tube_party.specs.OneThread.{IsPlayed, played_of};
+ghost use Rattle.tube_party.specs.OneThread.{IsPlayed, played_of, TakeSides, AreClosedWithin};
 ghost use Rattle.tube_party.specs.Turn.{IsPending, first_of, tick_of, IsSure};
 ghost use Rattle.tube_party.specs.CodeDesk.{desk, Acts};
 ghost use Rattle.tube_party.specs.CodeStanding.{standing_of, IsGone, StandsStill, IsRolledBack};
@@ -183,8 +182,7 @@ pub fn go_on_from<H: Party, P: Rewinds>(
     room: Room<P>,
 ) -> Done<H, P>
     requires ticks { n.0 ≤ MOST }
-    requires host_plays { IsTrue (H.plays Host) }
-    requires para_plays { IsTrue (P.Party.plays Para) }
+    requires sides { TakeSides H.plays P.Party.plays }
     requires entries { All IsEntry entries.now }
     ensures { let w = after_entries (H.state host) (P.Party.state para) entries.now in
         IsPlayed (reference_from H.moves P.Party.moves w n.0) room.keep (played_of H.state P.Party.state result) }
@@ -271,10 +269,8 @@ pub fn solo<H: Party, P: Rewinds>(
     keep: u32,
 ) -> Result<Done<H, P>, (H, P)>
     requires ticks { n.0 ≤ MOST }
-    requires host_plays { IsTrue (H.plays Host) }
-    requires para_plays { IsTrue (P.Party.plays Para) }
-    requires host_open { H.moves.closed (H.state host) ≤ n.0 }
-    requires para_open { P.Party.moves.closed (P.Party.state para) ≤ n.0 }
+    requires sides { TakeSides H.plays P.Party.plays }
+    requires closed { AreClosedWithin H.moves P.Party.moves (H.state host) (P.Party.state para) n.0 }
     ensures played { let w = reference H.moves P.Party.moves (H.state host) (P.Party.state para) n.0 in
         IfOk result (λ d. IsPlayed w keep (played_of H.state P.Party.state d)) }
     ensures back { IfErr result (λ b. (b.0 ≡ host) × (b.1 ≡ para)) }

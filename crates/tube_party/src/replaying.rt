@@ -3,10 +3,10 @@ ghost use Rattle.std.specs.Prelude.{◌≡◌, ◌≤◌, ℕ, length, All, IsTr
 ghost use Rattle.beeb_bits.specs.declared.Side.{Side};
 ghost use Rattle.tube_trace.specs.Entries.{IsEntry};
 ghost use Rattle.tube_party.specs.Replay.{next_line, replay_of};
-ghost use Rattle.tube_party.specs.CodeTape.{own_left, IsOwnAt};
+ghost use Rattle.tube_party.specs.CodeCursor.{own_left, IsOwnAt};
 
+use crate::cursor::{lines_at, next_own, sure, take};
 use crate::party::{Ask, MOST, Party};
-use crate::tape::{lines_at, next_own, sure, take};
 use beeb_bits::{Side, Tick};
 use tube_chip::{Answer, Chip, Op};
 use tube_trace::Entry;

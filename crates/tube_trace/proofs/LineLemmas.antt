@@ -12,8 +12,8 @@ use Rattle.tube_chip.specs.declared.Op.TheVariants.{Read, Write, Reset}
 use Rattle.tube_chip.specs.Act.{MayDo}
 use Rattle.tube_trace.specs.declared.Entry.{Entry}
 use Rattle.digits.specs.Hexadecimal.{is_hex, hex_number}
+use Rattle.digits.specs.Lines.{text_lines}
 use Rattle.tube_trace.specs.Line.{is_space, is_octal, side_of, reset_of, op_of, answer_in, entry_by, entry_from, is_formed, entry_in, entry_of}
-use Rattle.tube_trace.specs.Trace.{lines_of}
 use Rattle.tube_trace.specs.Entries.{IsEntry}
 
 pub and_left : (a b : Bool) → IsTrue (a && b) → IsTrue a
@@ -63,9 +63,6 @@ hex_other b h = λ e. grind (arith, nat_tests)
 
 octal_other : (b : ℕ) → IsTrue (is_octal b) → b ≢ 10
 octal_other b h = λ e. grind (arith, nat_tests)
-
-space_other : (b : ℕ) → IsTrue (is_space b) → b ≢ 10
-space_other b h = λ e. grind (arith, nat_tests)
 
 spaces_each : (a b c d : ℕ) → IsTrue (list_all is_space (a ∷ b ∷ c ∷ d ∷ [])) → (a ≢ 10) × (b ≢ 10) × (c ≢ 10) × (d ≢ 10)
 spaces_each a b c d h = (λ e. grind (arith, nat_tests), λ e. grind (arith, nat_tests), λ e. grind (arith, nat_tests), λ e. grind (arith, nat_tests))
@@ -142,11 +139,11 @@ eqb_false b h = grind (arith, nat_tests)
 
 -- a text whose first line feed is at place n begins with the line up to it
 pub first_line : (n : ℕ) (text : List ℕ) → n < length text → ((k : ℕ) → k < n → slice_index text k ≢ 10) → slice_index text n ≡ 10 →
-    lines_of text ≡ take (suc n) text ∷ lines_of (drop (suc n) text)
+    text_lines text ≡ take (suc n) text ∷ text_lines (drop (suc n) text)
 first_line n [] h others at = absurd (omega arith)
 first_line zero (b ∷ text) h others at = rw at refl
 first_line (suc n) (b ∷ text) h others at =
-    let rest : lines_of text ≡ take (suc n) text ∷ lines_of (drop (suc n) text) =
+    let rest : text_lines text ≡ take (suc n) text ∷ text_lines (drop (suc n) text) =
     first_line n text (omega arith) (λ k le. others (suc k) (omega arith)) at in
     rw (eqb_false b (others zero (omega arith)), rest) refl
 

@@ -20,10 +20,12 @@ record IsNext (host para : List Entry) (x : Entry) (host_left para_left : List E
 next_host : (a : Entry) (host para : List Entry) → merge (events_of (a ∷ host)) (events_of para) ≡ event_of a ∷ merge (events_of host) (events_of para) → IsNext (a ∷ host) para a host para
 next_host a host para is = record { merged = is; lines = λ h p. (All-head HasLine a host h, All-tail HasLine a host h, p) }
 
-next_para : (host : List Entry) (b : Entry) (para : List Entry) → merge (events_of host) (events_of (b ∷ para)) ≡ event_of b ∷ merge (events_of host) (events_of para) → IsNext host (b ∷ para) b host para
+next_para : (host : List Entry) (b : Entry) (para : List Entry) → merge (events_of host) (events_of (b ∷ para)) ≡ event_of b ∷ merge (events_of host) (events_of para)
+    → IsNext host (b ∷ para) b host para
 next_para host b para is = record { merged = is; lines = λ h p. (All-head HasLine b para p, h, All-tail HasLine b para p) }
 
-same_next : (host para : List Entry) (x y : Entry) (h k p q : List Entry) → ◌≡◌ {A = Option (Entry × List Entry × List Entry)} (Some (x, h, p)) (Some (y, k, q)) → IsNext host para x h p → IsNext host para y k q
+same_next : (host para : List Entry) (x y : Entry) (h k p q : List Entry) → ◌≡◌ {A = Option (Entry × List Entry × List Entry)} (Some (x, h, p)) (Some (y, k, q))
+    → IsNext host para x h p → IsNext host para y k q
 same_next host para x y h k p q e next =
     let Is : Entry × List Entry × List Entry → Type 0 = λ r. IsNext host para r.0 r.1 r.2 in
     let same : (x, h, p) ≡ (y, k, q) = cc in
@@ -55,9 +57,6 @@ none_left (a ∷ host) (b ∷ para) is =
 pub record MergedSoFar (host para : List Entry) (keep : ℕ) (entries host_left para_left : List Entry) : Type 0 where
   pub whole : events_of entries ++ take (keep - length entries) (merge (events_of host_left) (events_of para_left)) ≡ take keep (merge (events_of host) (events_of para))
   pub lines : All HasLine host → All HasLine para → All HasLine entries × All HasLine host_left × All HasLine para_left
-
-pub merged_none : (host para : List Entry) (keep : ℕ) → MergedSoFar host para keep [] host para
-merged_none host para keep = record { whole = let all : keep - 0 ≡ keep = omega arith in rw all refl; lines = λ h p. (All-nil HasLine, h, p) }
 
 -- the first of what is left moves to the end of what is merged
 moved : (keep : ℕ) (entries : List Entry) (x : Entry) (all left : List Event) → length entries < keep → all ≡ event_of x ∷ left →

@@ -5,7 +5,8 @@ use Rattle.tube_trace.specs.declared.Entry.{Entry}
 use Rattle.tube_trace.specs.declared.TraceError.{TraceError}
 use Rattle.tube_trace.specs.declared.TraceError.TheVariants.{BadOrder}
 use Rattle.tube_trace.specs.Line.{entry_of}
-use Rattle.tube_trace.specs.Trace.{lines_of, follows, in_front, entries_behind}
+use Rattle.digits.specs.Lines.{text_lines}
+use Rattle.tube_trace.specs.Trace.{follows, in_front, entries_behind}
 use Rattle.tube_trace.specs.Entries.{event_of, events_of}
 
 -- the events rise, behind an entry if there is one
@@ -46,9 +47,9 @@ entries_behind-rises line last (Some e ∷ lines) entries h =
     (λ more is. entries_behind-rises (line + 1) (Some e) lines more is) h
 
 -- what lines mean rises
-pub lines-rise : (text : List ℕ) (entries : List Entry) → entries_behind 1 None (map entry_of (lines_of text)) ≡ Ok entries → Rises (events_of entries)
+pub lines-rise : (text : List ℕ) (entries : List Entry) → entries_behind 1 None (map entry_of (text_lines text)) ≡ Ok entries → Rises (events_of entries)
 unfolding RisesBehind
-lines-rise text entries h = entries_behind-rises 1 None (map entry_of (lines_of text)) entries h
+lines-rise text entries h = entries_behind-rises 1 None (map entry_of (text_lines text)) entries h
 
 -- ---- and rising entries are read
 

@@ -5,11 +5,12 @@ use Rattle.std.proofs.lemmas.List.{take_more, take_all, take-append-le, drop-app
 use Rattle.std.proofs.lemmas.List.Elements.{All-nil, All-cons, All-head, All-tail}
 use Rattle.std.proofs.lemmas.List.Concat.{flat_map-append}
 use Rattle.std.proofs.Math.ListN.{drop_of_length-le}
+use Rattle.digits.specs.Lines.{begin_with, text_lines}
 use Rattle.tube_trace.specs.declared.Entry.{Entry}
 use Rattle.tube_trace.specs.Line.{entry_of}
 use Rattle.tube_chip.specs.Events.{Rises}
 use Rattle.tube_trace.specs.Entries.{events_of}
-use Rattle.tube_trace.specs.Trace.{begin_with, lines_of, lines_read}
+use Rattle.tube_trace.specs.Trace.{lines_read}
 use Rattle.tube_trace.specs.Text.{line_text, lines_text, HasLine}
 use Rattle.tube_trace.specs.Laws.{IsOfByte, LineReadsBack, OnlyLineReads}
 use Rattle.tube_trace.proofs.LineLemmas.{has_entry}
@@ -26,7 +27,7 @@ drop_line line rest long =
     let past : length line ≤ 20 = omega arith in
     drop-append-le 20 line rest le ∙ rw (drop_of_length-le line past) refl
 
-entries_back : LineReadsBack → (entries : List Entry) → All HasLine entries → All IsOfByte entries → map entry_of (lines_of (lines_text entries)) ≡ map Some entries
+entries_back : LineReadsBack → (entries : List Entry) → All HasLine entries → All IsOfByte entries → map entry_of (text_lines (lines_text entries)) ≡ map Some entries
 entries_back line_read [] lines bytes = refl
 entries_back line_read (e ∷ entries) lines bytes =
     let rest : List ℕ = lines_text entries in
@@ -35,7 +36,7 @@ entries_back line_read (e ∷ entries) lines bytes =
     let front : take 20 (line_text e ++ rest) ≡ line_text e = take_line (line_text e) rest long in
     let back : drop 20 (line_text e ++ rest) ≡ rest = drop_line (line_text e) rest long in
     line_reads (line_text e ++ rest) e (ap entry_of front ∙ is)
-    ∙ ap (λ (t : List ℕ). Some e ∷ map entry_of (lines_of t)) back
+    ∙ ap (λ (t : List ℕ). Some e ∷ map entry_of (text_lines t)) back
     ∙ ap (λ (ls : List (Option Entry)). Some e ∷ ls) (entries_back line_read entries (All-tail HasLine e entries lines) (All-tail IsOfByte e entries bytes))
 
 pub lines_back : LineReadsBack → (entries : List Entry) → Rises (events_of entries) → All HasLine entries → All IsOfByte entries →
@@ -63,13 +64,13 @@ unfolding joined
 begin_joined b [] = refl
 begin_joined b (line ∷ lines) = refl
 
-lines_joined : (text : List ℕ) → joined (lines_of text) ≡ text
+lines_joined : (text : List ℕ) → joined (text_lines text) ≡ text
 unfolding joined
 lines_joined [] = refl
 lines_joined (b ∷ text) =
-    elim (b == 10) as (λ t. (b == 10) ≡ t → joined (lines_of (b ∷ text)) ≡ b ∷ text) [
+    elim (b == 10) as (λ t. (b == 10) ≡ t → joined (text_lines (b ∷ text)) ≡ b ∷ text) [
       | true ↦ λ e. rw e (ap (λ (t : List ℕ). b ∷ t) (lines_joined text))
-      | false ↦ λ e. rw e (begin_joined b (lines_of text) ∙ ap (λ (t : List ℕ). b ∷ t) (lines_joined text))
+      | false ↦ λ e. rw e (begin_joined b (text_lines text) ∙ ap (λ (t : List ℕ). b ∷ t) (lines_joined text))
     ] refl
 
 -- lines that have these entries are the lines of these entries
@@ -98,5 +99,5 @@ pub only_lines : OnlyLineReads → (text : List ℕ) (entries : List Entry) → 
     (text ≡ lines_text entries) × Rises (events_of entries) × All HasLine entries × All IsOfByte entries
 unfolding lines_read
 only_lines only text entries h =
-    let parts : AreLines (lines_of text) entries = lines_only only (lines_of text) entries (each_read 1 None _ entries h) in
+    let parts : AreLines (text_lines text) entries = lines_only only (text_lines text) entries (each_read 1 None _ entries h) in
     (sym (lines_joined text) ∙ parts.text, lines-rise text entries h, parts.each, parts.bytes)

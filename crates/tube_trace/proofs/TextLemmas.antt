@@ -5,11 +5,12 @@ use Rattle.std.proofs.lemmas.Bool.{cases_lt}
 use Rattle.std.proofs.lemmas.Bool.Decides.{nat_tests}
 use Rattle.std.proofs.Math.ListN.{drop_of_length-le}
 use Rattle.std.proofs.lemmas.List.{get_or-take, length-take, take_all, take-append-le}
+use Rattle.digits.specs.Lines.{text_lines}
 use Rattle.tube_trace.specs.declared.Entry.{Entry}
 use Rattle.tube_trace.specs.declared.TraceError.{TraceError}
 use Rattle.tube_trace.specs.declared.TraceError.TheVariants.{BadLine, BadOrder}
 use Rattle.tube_trace.specs.Line.{entry_of}
-use Rattle.tube_trace.specs.Trace.{lines_of, follows, in_front, entries_behind}
+use Rattle.tube_trace.specs.Trace.{follows, in_front, entries_behind}
 use Rattle.tube_trace.proofs.LineLemmas.{HasEntry, has_entry, formed_parts, other_before, first_line}
 
 -- a text that has a byte has a first line, and goes on behind it
@@ -17,13 +18,13 @@ pub record FirstLine (text : List ℕ) : Type 0 where
   pub line : List ℕ
   pub lines : List (List ℕ)
   pub rest : List ℕ
-  pub split : lines_of text ≡ line ∷ lines
+  pub split : text_lines text ≡ line ∷ lines
   pub whole : text ≡ line ++ rest
 
 begins : (b : ℕ) (text : List ℕ) → FirstLine text → FirstLine (b ∷ text)
 begins b text first =
     elim (b == 10) as (λ t. (b == 10) ≡ t → FirstLine (b ∷ text)) [
-      | true ↦ λ e. record { line = b ∷ []; lines = lines_of text; rest = text; split = rw e refl; whole = refl }
+      | true ↦ λ e. record { line = b ∷ []; lines = text_lines text; rest = text; split = rw e refl; whole = refl }
       | false ↦ λ e. record { line = b ∷ first.line; lines = first.lines; rest = first.rest; split = rw (e, first.split) refl; whole = ap (λ t. b ∷ t) first.whole }
     ] refl
 
@@ -45,7 +46,7 @@ take_front : (line rest : List ℕ) → length line ≡ 20 → take 20 (line ++ 
 take_front line rest h = let le : 20 ≤ length line = omega arith in rw take-append-le (take_all 20 line (omega arith))
 
 -- twenty bytes that have an entry are the first line
-pub line_reads : (text : List ℕ) (e : Entry) → entry_of (take 20 text) ≡ Some e → map entry_of (lines_of text) ≡ Some e ∷ map entry_of (lines_of (drop 20 text))
+pub line_reads : (text : List ℕ) (e : Entry) → entry_of (take 20 text) ≡ Some e → map entry_of (text_lines text) ≡ Some e ∷ map entry_of (text_lines (drop 20 text))
 line_reads text e is =
     let has : HasEntry (take 20 text) e = has_entry (take 20 text) e is in
     let long : 20 ≤ length text = take_long text has.long in
@@ -53,7 +54,7 @@ line_reads text e is =
     let others : (k : ℕ) → k < 19 → slice_index text k ≢ 10 =
     λ k h. rw (same k (omega arith)) at (other_before (take 20 text) e has k h) in
     let feed : slice_index text 19 ≡ 10 = let t = rw (same 19 (omega arith)) at (formed_parts (take 20 text) has.formed).feed in grind (arith, nat_tests) in
-    let split : lines_of text ≡ take 20 text ∷ lines_of (drop 20 text) = first_line 19 text (omega arith) others feed in
+    let split : text_lines text ≡ take 20 text ∷ text_lines (drop 20 text) = first_line 19 text (omega arith) others feed in
     rw (split, is) refl
 
 -- where they have none, the first line has none
@@ -65,7 +66,7 @@ stops_at text line rest whole none (Some entry) e =
     let here : entry_of line ≡ None = rw same at none in
     cc
 
-pub line_stops : (b : ℕ) (text : List ℕ) → entry_of (take 20 (b ∷ text)) ≡ None → (more : List (Option Entry)) × (map entry_of (lines_of (b ∷ text)) ≡ None ∷ more)
+pub line_stops : (b : ℕ) (text : List ℕ) → entry_of (take 20 (b ∷ text)) ≡ None → (more : List (Option Entry)) × (map entry_of (text_lines (b ∷ text)) ≡ None ∷ more)
 line_stops b text none =
     let first = first_of b text in
     let stop : entry_of first.line ≡ None = stops_at (b ∷ text) first.line first.rest first.whole none (entry_of first.line) refl in
@@ -73,7 +74,7 @@ line_stops b text none =
 
 -- what was read, with what is left of the text, is the whole text's
 pub record ReadSoFar (text : List ℕ) (entries : List Entry) (last : Option Entry) (rest : List ℕ) : Type 0 where
-  pub whole : entries_behind 1 None (map entry_of (lines_of text)) ≡ in_front entries (entries_behind (length entries + 1) last (map entry_of (lines_of rest)))
+  pub whole : entries_behind 1 None (map entry_of (text_lines text)) ≡ in_front entries (entries_behind (length entries + 1) last (map entry_of (text_lines rest)))
   pub size : 20 * length entries + length rest ≡ length text
 
 in_front_none : (r : Result (List Entry) TraceError) → r ≡ in_front [] r
@@ -90,7 +91,8 @@ read_none text = record { whole = in_front_none _; size = omega arith }
 pub read_more : (text : List ℕ) (entries : List Entry) (last : Option Entry) (rest : List ℕ) (e : Entry) →
     ReadSoFar text entries last rest → entry_of (take 20 rest) ≡ Some e → follows last e ≡ true → ReadSoFar text (entries ++ e ∷ []) (Some e) (drop 20 rest)
 read_more text entries last rest e so_far is after =
-    let step : entries_behind (length entries + 1) last (map entry_of (lines_of rest)) ≡ in_front (e ∷ []) (entries_behind (length entries + 1 + 1) (Some e) (map entry_of (lines_of (drop 20 rest)))) =
+    let step : entries_behind (length entries + 1) last (map entry_of (text_lines rest))
+    ≡ in_front (e ∷ []) (entries_behind (length entries + 1 + 1) (Some e) (map entry_of (text_lines (drop 20 rest)))) =
     rw (line_reads rest e is, after) refl in
     let long : 20 ≤ length rest = take_long rest (has_entry (take 20 rest) e is).long in
     let more : length (entries ++ e ∷ []) ≡ length entries + 1 = length-append entries (e ∷ []) in
@@ -100,17 +102,17 @@ read_more text entries last rest e so_far is after =
     }
 
 pub read_all : (text : List ℕ) (entries : List Entry) (last : Option Entry) (rest : List ℕ) →
-    ReadSoFar text entries last rest → length rest ≡ 0 → entries_behind 1 None (map entry_of (lines_of text)) ≡ Ok entries
+    ReadSoFar text entries last rest → length rest ≡ 0 → entries_behind 1 None (map entry_of (text_lines text)) ≡ Ok entries
 read_all text entries last [] so_far h = so_far.whole ∙ ap Ok (append-nil entries)
 read_all text entries last (b ∷ rest) so_far h = absurd (omega arith)
 
 pub read_bad_line : (text : List ℕ) (entries : List Entry) (last : Option Entry) (rest : List ℕ) →
-    ReadSoFar text entries last rest → 0 < length rest → entry_of (take 20 rest) ≡ None → entries_behind 1 None (map entry_of (lines_of text)) ≡ Err (BadLine (length entries + 1))
+    ReadSoFar text entries last rest → 0 < length rest → entry_of (take 20 rest) ≡ None → entries_behind 1 None (map entry_of (text_lines text)) ≡ Err (BadLine (length entries + 1))
 read_bad_line text entries last [] so_far h none = absurd (omega arith)
 read_bad_line text entries last (b ∷ rest) so_far h none = so_far.whole ∙ rw (line_stops b rest none).1 refl
 
 pub read_bad_order : (text : List ℕ) (entries : List Entry) (last : Option Entry) (rest : List ℕ) (e : Entry) →
-    ReadSoFar text entries last rest → entry_of (take 20 rest) ≡ Some e → follows last e ≡ false → entries_behind 1 None (map entry_of (lines_of text)) ≡ Err (BadOrder (length entries + 1))
+    ReadSoFar text entries last rest → entry_of (take 20 rest) ≡ Some e → follows last e ≡ false → entries_behind 1 None (map entry_of (text_lines text)) ≡ Err (BadOrder (length entries + 1))
 read_bad_order text entries last rest e so_far is after = so_far.whole ∙ rw (line_reads rest e is, after) refl
 
 -- the bytes that are taken for a line

@@ -1,6 +1,7 @@
 -- The text of a trace: the clock of the machines that it tells of, and its entries, or its first offending line.
 use Rattle.std.specs.Prelude.{ℕ, ◌+◌, ◌==◌, nat_eq, Bool, true, List, [], ◌∷◌, ◌++◌, map, drop, length, codes, Option, Some, None, Result, Ok, Err, if◌then◌else◌}
 use Rattle.std.specs.List.{starts_with}
+use Rattle.digits.specs.Lines.{text_lines}
 use Rattle.beeb_bits.specs.Order.{before}
 use Rattle.beeb_bits.specs.declared.clock.Clock.{Clock}
 use Rattle.beeb_bits.specs.declared.clock.Clock.TheVariants.{Three, Four}
@@ -8,16 +9,6 @@ use Rattle.tube_trace.specs.declared.Entry.{Entry}
 use Rattle.tube_trace.specs.declared.TraceError.{TraceError}
 use Rattle.tube_trace.specs.declared.TraceError.TheVariants.{BadLine, BadOrder}
 use Rattle.tube_trace.specs.Line.{entry_of}
-
--- a byte in front of the first line
-abbrev pub begin_with : ℕ → List (List ℕ) → List (List ℕ)
-begin_with b [] = (b ∷ []) ∷ []
-begin_with b (line ∷ lines) = (b ∷ line) ∷ lines
-
--- The lines of a text, each with its line feed, which the last may lack.
-abbrev pub lines_of : List ℕ → List (List ℕ)
-lines_of [] = []
-lines_of (b ∷ text) = if b == 10 then (b ∷ []) ∷ lines_of text else begin_with b (lines_of text)
 
 -- the entry comes after the one before it, if there is one
 abbrev pub follows : Option Entry → Entry → Bool
@@ -39,7 +30,7 @@ entries_behind line last (Some e ∷ lines) =
 
 -- What a text of lines means. Lines count from 1.
 unfoldable pub lines_read : List ℕ → Result (List Entry) TraceError
-lines_read text = entries_behind 1 None (map entry_of (lines_of text))
+lines_read text = entries_behind 1 None (map entry_of (text_lines text))
 
 -- what stands in front of the lines: `T2` and a line feed at clock Four
 abbrev pub beginning : Clock → List ℕ

@@ -98,13 +98,18 @@ pub counts_once1 : (n : ℕ) (t : Timer1) → t.counter < 65536 → t.reload ≡
     (timer1_later false n t ≡ put1 (counter_later n t.counter) (t.armed && not (nat_lt t.counter n)) t)
     × (timer1_flags_within false n t ≡ (t.armed && nat_lt t.counter n))
 unfolding put1 runs_out_in is_armed_behind
-counts_once1 zero t small loaded =
-    (ap (λ (k : ℕ). record t { counter = k }) (sym (begins t.counter small)) ∙ ap (λ (b : Bool). record t { counter = counter_later 0 t.counter; armed = b }) (sym (all_yet t.counter t.armed)), sym (none_yet t.counter t.armed))
+counts_once1 zero t small loaded = (
+  ap (λ (k : ℕ). record t { counter = k }) (sym (begins t.counter small))
+      ∙ ap (λ (b : Bool). record t { counter = counter_later 0 t.counter; armed = b }) (sym (all_yet t.counter t.armed)),
+  sym (none_yet t.counter t.armed),
+)
 counts_once1 (suc n) t small loaded =
     let before = counts_once1 n t small loaded in
     let more : OneMore n t.counter t.armed = one_more n t.counter t.armed small in
     let next = after1 (runs_out (counter_later n t.counter)) (counter_later n t.counter) (is_armed_behind n t.counter t.armed) t loaded refl in (
-      ap (timer1_after false) before.0 ∙ next.0 ∙ ap (λ (k : ℕ). put1 k (is_armed_behind n t.counter t.armed && not (runs_out (counter_later n t.counter))) t) (counter_more n t.counter) ∙ ap (λ (b : Bool). put1 (counter_later (suc n) t.counter) b t) more.rest,
+      ap (timer1_after false) before.0 ∙ next.0
+          ∙ ap (λ (k : ℕ). put1 k (is_armed_behind n t.counter t.armed && not (runs_out (counter_later n t.counter))) t) (counter_more n t.counter)
+          ∙ ap (λ (b : Bool). put1 (counter_later (suc n) t.counter) b t) more.rest,
       ap (λ (b : Bool). b || timer1_flags false (timer1_later false n t)) before.1
           ∙ ap (λ (u : Timer1). runs_out_in n t.counter t.armed || timer1_flags false u) before.0
           ∙ ap (λ (b : Bool). runs_out_in n t.counter t.armed || b) next.1 ∙ more.fires,
@@ -114,13 +119,18 @@ pub counts_once2 : (n : ℕ) (t : Timer2) → t.counter < 65536 → t.fresh ≡ 
     (timer2_later false n t ≡ put2 (counter_later n t.counter) (t.armed && not (nat_lt t.counter n)) t)
     × (timer2_flags_within false n t ≡ (t.armed && nat_lt t.counter n))
 unfolding put2 runs_out_in is_armed_behind
-counts_once2 zero t small begun =
-    (ap (λ (k : ℕ). record t { counter = k }) (sym (begins t.counter small)) ∙ ap (λ (b : Bool). record t { counter = counter_later 0 t.counter; armed = b }) (sym (all_yet t.counter t.armed)), sym (none_yet t.counter t.armed))
+counts_once2 zero t small begun = (
+  ap (λ (k : ℕ). record t { counter = k }) (sym (begins t.counter small))
+      ∙ ap (λ (b : Bool). record t { counter = counter_later 0 t.counter; armed = b }) (sym (all_yet t.counter t.armed)),
+  sym (none_yet t.counter t.armed),
+)
 counts_once2 (suc n) t small begun =
     let before = counts_once2 n t small begun in
     let more : OneMore n t.counter t.armed = one_more n t.counter t.armed small in
     let next = after2 (runs_out (counter_later n t.counter)) (counter_later n t.counter) (is_armed_behind n t.counter t.armed) t begun refl in (
-      ap (timer2_after false) before.0 ∙ next.0 ∙ ap (λ (k : ℕ). put2 k (is_armed_behind n t.counter t.armed && not (runs_out (counter_later n t.counter))) t) (counter_more n t.counter) ∙ ap (λ (b : Bool). put2 (counter_later (suc n) t.counter) b t) more.rest,
+      ap (timer2_after false) before.0 ∙ next.0
+          ∙ ap (λ (k : ℕ). put2 k (is_armed_behind n t.counter t.armed && not (runs_out (counter_later n t.counter))) t) (counter_more n t.counter)
+          ∙ ap (λ (b : Bool). put2 (counter_later (suc n) t.counter) b t) more.rest,
       ap (λ (b : Bool). b || timer2_flags false (timer2_later false n t)) before.1
           ∙ ap (λ (u : Timer2). runs_out_in n t.counter t.armed || timer2_flags false u) before.0
           ∙ ap (λ (b : Bool). runs_out_in n t.counter t.armed || b) next.1 ∙ more.fires,

@@ -26,8 +26,10 @@ pub(crate) struct Chip {
     pub(crate) timer1: Timer1,
     pub(crate) timer2: Timer2,
     sr: u8,
+    // The auxiliary control register, ACR, and the peripheral control register, PCR.
     pub(crate) acr: u8,
     pcr: u8,
+    // IFR, and IER.
     flags: Causes,
     enabled: Causes,
     levels: Levels,

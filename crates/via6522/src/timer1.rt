@@ -15,7 +15,9 @@ pub(crate) fn word(high: u8, low: u8) -> u16
 
 #[derive(Drop)]
 pub(crate) struct Timer1 {
+    // T1C.
     pub(crate) counter: u16,
+    // T1L, whose bytes are T1L-L and T1L-H.
     pub(crate) latch_low: u8,
     pub(crate) latch_high: u8,
     // The next step makes the counter the latch.

@@ -9,7 +9,9 @@ use std::marker::Model;
 
 #[derive(Drop)]
 pub(crate) struct Timer2 {
+    // T2C.
     pub(crate) counter: u16,
+    // T2L-L.
     pub(crate) latch_low: u8,
     // The next step does not count.
     pub(crate) fresh: bool,

@@ -1,5 +1,6 @@
 -- Sixteen dots at a time are the dots by themselves.
-use Rattle.std.proofs.Common.{◌≡◌, ◌∙◌, sym, ap, subst, refl, ℕ, zero, suc, ◌+◌, ◌-◌, ◌*◌, ◌/◌, ◌%◌, ◌^◌, ◌<◌, ◌==◌, ◌≢◌, Bool, true, false, List, [], ◌∷◌, ◌++◌, map, take, drop, length, slice_index_or, ltb, arith}
+use Rattle.std.proofs.Common.{◌≡◌, ◌∙◌, sym, ap, subst, refl, ℕ, zero, suc, ◌+◌, ◌-◌, ◌*◌, ◌/◌, ◌%◌, ◌^◌, ◌<◌, ◌==◌, ◌≢◌, Bool, true, false, List}
+use Rattle.std.proofs.Common.{[], ◌∷◌, ◌++◌, map, take, drop, length, slice_index_or, ltb, arith}
 use Rattle.std.proofs.lemmas.Bool.{agree_below_at, ltb-true}
 use Rattle.std.proofs.lemmas.Bool.Decides.{nat_tests}
 use Rattle.std.proofs.lemmas.List.{take_more_set, take_all}
@@ -98,10 +99,12 @@ all-are u byte cursor dots to off none is =
 -- ---- dots by the tables
 
 abbrev pub first_of : List ℕ → List ℕ
-first_of ds = slice_index_or ds 0 0 ∷ slice_index_or ds 1 0 ∷ slice_index_or ds 2 0 ∷ slice_index_or ds 3 0 ∷ slice_index_or ds 4 0 ∷ slice_index_or ds 5 0 ∷ slice_index_or ds 6 0 ∷ slice_index_or ds 7 0 ∷ []
+first_of ds = slice_index_or ds 0 0 ∷ slice_index_or ds 1 0 ∷ slice_index_or ds 2 0 ∷ slice_index_or ds 3 0 ∷ slice_index_or ds 4 0
+    ∷ slice_index_or ds 5 0 ∷ slice_index_or ds 6 0 ∷ slice_index_or ds 7 0 ∷ []
 
 abbrev pub last_of : List ℕ → List ℕ
-last_of ds = slice_index_or ds 8 0 ∷ slice_index_or ds 9 0 ∷ slice_index_or ds 10 0 ∷ slice_index_or ds 11 0 ∷ slice_index_or ds 12 0 ∷ slice_index_or ds 13 0 ∷ slice_index_or ds 14 0 ∷ slice_index_or ds 15 0 ∷ []
+last_of ds = slice_index_or ds 8 0 ∷ slice_index_or ds 9 0 ∷ slice_index_or ds 10 0 ∷ slice_index_or ds 11 0 ∷ slice_index_or ds 12 0
+    ∷ slice_index_or ds 13 0 ∷ slice_index_or ds 14 0 ∷ slice_index_or ds 15 0 ∷ []
 
 pub first_in : (entries : List ℕ) (byte width : ℕ) (dots : List ℕ) → dots ≡ dots_in entries byte false width → first_of dots ≡ eight_in 0 entries byte width
 first_in entries byte width dots is = ap first_of is

@@ -163,7 +163,8 @@ choice false s x y p q = q
 goes_on : (c : Command) (angle : ℕ) (s : State) → is_busy c ≡ true → is_busy s.command ≡ true → IsSound s → IsSound (command_step c angle s)
 goes_on Idle angle s b busy is = cc
 goes_on (Moving m left) angle s b busy is =
-    either (nat_lt 1 left) (record s { command = Moving m (left - 1) }) (move_leaves m s) (sound_step s (record s { command = Moving m (left - 1) }) is busy (on s (Moving m (left - 1)))) (motion_ends m s is busy)
+    either (nat_lt 1 left) (record s { command = Moving m (left - 1) }) (move_leaves m s)
+    (sound_step s (record s { command = Moving m (left - 1) }) is busy (on s (Moving m (left - 1)))) (motion_ends m s is busy)
 goes_on (Settling t left) angle s b busy is = sound_step s (settle_step t left s) is busy (record { head0 = refl; head1 = refl; latch = refl; quiet = λ h q. q })
 goes_on (Searching t left) angle s b busy is = sound_step s (search_step t left angle s) is busy (in_search t left angle s)
 goes_on (Transferring t k) angle s b busy is =
@@ -229,7 +230,8 @@ read_sound reg s is =
     is)
 
 -- A command that is written where the reset is off.
-accepted : (reset : Bool) (v : ℕ) (s : State) → is_reset s.latch ≡ reset → IsSound s → IsSound (if reset then s else if v / 16 == 0xD then force_leaves v s else if is_busy s.command then s else begin_leaves v s)
+accepted : (reset : Bool) (v : ℕ) (s : State) → is_reset s.latch ≡ reset → IsSound s
+    → IsSound (if reset then s else if v / 16 == 0xD then force_leaves v s else if is_busy s.command then s else begin_leaves v s)
 accepted true v s off is = is
 accepted false v s off is =
     either (v / 16 == 0xD) (force_leaves v s) (if is_busy s.command then s else begin_leaves v s)

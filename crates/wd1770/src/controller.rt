@@ -43,6 +43,7 @@ pub(crate) struct Controller {
     pub(crate) type_one: bool,
     pub(crate) record_not_found: bool,
     pub(crate) lost_data: bool,
+    // The data request, DRQ, and the interrupt request, INTRQ.
     pub(crate) drq: bool,
     pub(crate) intrq: bool,
     // While no command is in progress, in how many steps the motor goes off.
@@ -221,6 +222,7 @@ impl Controller {
         self.command.is_busy()
     }
 
+    // The motor's line, MO, so many steps later. A WD1770 has no line that loads the heads (HLD).
     fn is_motor_on(&self, n: u32) -> bool
         ensures { result ≡ is_motor_on (later n self.now) }
     {

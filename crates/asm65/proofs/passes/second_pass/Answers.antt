@@ -11,12 +11,13 @@ encode-requires-clause-short c =
 pub returns-in-Err : goal.returns-in-Err
 returns-in-Err c =
     let lines = c.next_line.ensures.lines in
-    at_fault (λ fault. encoded_fault c.args.part _ _ c.loop-rest.line_number c.args.origin c.loop-rest.address c.loop-rest.bytes.items _ _ c.in-Err.error (rw lines at c.loop-rest.invariant.encoded) fault) c.in-Err.ensures
+    let so_far = rw lines at c.loop-rest.invariant.encoded in
+    at_fault (λ fault. encoded_fault c.args.part _ _ _ _ _ _ _ _ c.in-Err.error so_far fault) c.in-Err.ensures
 
 pub loop-rest-preserved : goal.loop-rest-preserved
 loop-rest-preserved c =
     let lines = c.next_line.ensures.lines in
     record {
-      encoded = encoded_more c.args.part _ _ c.loop-rest.line_number c.args.origin c.loop-rest.address c.in-Ok.next c.loop-rest.bytes.items c.encode.new.bytes.items _ _ (rw lines at c.loop-rest.invariant.encoded) c.in-Ok.ensures;
+      encoded = encoded_more c.args.part _ _ _ _ _ _ _ _ _ _ (rw lines at c.loop-rest.invariant.encoded) c.in-Ok.ensures;
       count = let shorter = c.next_line.ensures.shorter in let count = c.loop-rest.invariant.count in omega (arith, shorter, count);
     }

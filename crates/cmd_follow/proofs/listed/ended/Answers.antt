@@ -1,9 +1,9 @@
 use Rattle.std.proofs.Common.{◌≡◌, ◌∙◌, ap, subst, Err, IfOk}
 use Rattle.tube_party.specs.Replay.{replay_of}
 use Rattle.follow.specs.Listing.{ListingState, replay_listing}
-use Rattle.beeb_stages.specs.Plan.{Verdict}
-use Rattle.beeb_status.specs.declared.status.Ending.{Ending}
-use Rattle.beeb_outcome.specs.View.{verdict_of}
+use Rattle.cmd_stages.specs.Plan.{Verdict}
+use Rattle.cmd_status.specs.declared.status.Ending.{Ending}
+use Rattle.cmd_outcome.specs.View.{verdict_of}
 use Rattle.cmd_follow.specs.Follow.{listed_verdict, listed_by}
 use Rattle.cmd_follow.proofs.FollowLemmas.{differs_is}
 use Rattle.cmd_follow.proofs.listed.ended.Goals as goal

@@ -1,5 +1,5 @@
 use Rattle.cmd_pair.specs.Gen.{gen_after}
-use Rattle.beeb_outcome.specs.View.{verdict_of}
+use Rattle.cmd_outcome.specs.View.{verdict_of}
 use Rattle.cmd_pair.proofs.GenLemmas.{no_memory_gives}
 use Rattle.cmd_pair.proofs.demo.gen_outcome.Goals as goal
 

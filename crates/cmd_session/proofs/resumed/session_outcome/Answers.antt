@@ -1,8 +1,8 @@
 use Rattle.std.proofs.Common.{refl, map, option_map}
 use Rattle.save_state.specs.Saved.{session}
 use Rattle.host_mach.specs.View.{host_seen}
-use Rattle.beeb_outcome.specs.View.{names_seen, verdict_of}
-use Rattle.power_on.specs.View.{seen_inputs, seen_setup}
+use Rattle.cmd_outcome.specs.View.{names_seen, verdict_of}
+use Rattle.cmd_machines.specs.View.{seen_inputs, seen_setup}
 use Rattle.cmd_session.proofs.SessionLemmas.{went_so, comes_so, accesses_are, session_gives}
 use Rattle.cmd_session.proofs.resumed.session_outcome.Goals as goal
 

@@ -1,11 +1,12 @@
 use Rattle.std.proofs.Common.{◌∙◌, sym, ap}
 use Rattle.op_table.specs.declared.names.Part.{Part}
+use Rattle.op_table.specs.declared.names.Part.TheVariants.{Nmos, Cmos}
 use Rattle.cpu_whole.specs.CodeWays.{known_at}
-use Rattle.cpu_whole.proofs.KnownTables.{NMOS-at, CMOS-at}
+use Rattle.cpu_whole.proofs.KnownTables.{table-at}
 use Rattle.cpu_whole.proofs.known.known_at.Goals as goal
 
 pub returns-in-Nmos : goal.returns-in-Nmos
-returns-in-Nmos c = NMOS-at c.args.op _ c.ranges.op.fits ∙ ap (λ (p : Part). known_at p c.args.op) (sym c.in-Nmos.is)
+returns-in-Nmos c = table-at Nmos c.args.op _ c.ranges.op.fits ∙ ap (λ (p : Part). known_at p c.args.op) (sym c.in-Nmos.is)
 
 pub returns-in-Cmos : goal.returns-in-Cmos
-returns-in-Cmos c = CMOS-at c.args.op _ c.ranges.op.fits ∙ ap (λ (p : Part). known_at p c.args.op) (sym c.in-Cmos.is)
+returns-in-Cmos c = table-at Cmos c.args.op _ c.ranges.op.fits ∙ ap (λ (p : Part). known_at p c.args.op) (sym c.in-Cmos.is)

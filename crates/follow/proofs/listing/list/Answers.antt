@@ -34,7 +34,9 @@ returns-in-Some-clause-differs g c =
     let begun : watched_of s (order c.new.result.part c.new.result.choice) (kept_of c.new.result.trail.starts c.new.result.before) ≡ watched_of s (order c.args.part c.args.choice) none_kept =
     started s c.args.part c.args.choice c.new.result.part c.new.result.choice (kept_of c.new.result.trail.starts c.new.result.before) c.new.ensures.part c.new.ensures.choice c.new.ensures.none in
     let place : (replay_of g.M.Party.moves c.args.side c.args.trace.now c.args.n.0 (g.M.Party.state c.args.machine)).place ≡ Some (c.in-Some.line, c.in-Some.doing) =
-    sym (place_inside g.M.Party.state g.M.Party.moves g.M.Seen.inside w g.met.M.Seen.same c.args.side c.args.trace.now c.args.n.0 c.args.machine) ∙ sym (place_of w g.M.Seen.sights (order c.args.part c.args.choice) c.args.side c.args.trace.now c.args.n.0 s _ begun) ∙ sym c.replay-watcher.ensures.place ∙ c.in-Some.is in
+    sym (place_inside g.M.Party.state g.M.Party.moves g.M.Seen.inside w g.met.M.Seen.same c.args.side c.args.trace.now c.args.n.0 c.args.machine)
+    ∙ sym (place_of w g.M.Seen.sights (order c.args.part c.args.choice) c.args.side c.args.trace.now c.args.n.0 s _ begun)
+    ∙ sym c.replay-watcher.ensures.place ∙ c.in-Some.is in
     λ line doing. told_place _ c.in-Some.line line c.in-Some.doing doing _ place refl
 
 pub returns-in-Some-finish-clause-differs : goal.returns-in-Some-finish-clause-differs
@@ -44,7 +46,9 @@ returns-in-Some-finish-clause-differs g c =
     let begun : watched_of s (order c.new.result.part c.new.result.choice) (kept_of c.new.result.trail.starts c.new.result.before) ≡ watched_of s (order c.args.part c.args.choice) none_kept =
     started s c.args.part c.args.choice c.new.result.part c.new.result.choice (kept_of c.new.result.trail.starts c.new.result.before) c.new.ensures.part c.new.ensures.choice c.new.ensures.none in
     let place : (replay_of g.M.Party.moves c.args.side c.args.trace.now c.args.n.0 (g.M.Party.state c.args.machine)).place ≡ None =
-    sym (place_inside g.M.Party.state g.M.Party.moves g.M.Seen.inside w g.met.M.Seen.same c.args.side c.args.trace.now c.args.n.0 c.args.machine) ∙ sym (place_of w g.M.Seen.sights (order c.args.part c.args.choice) c.args.side c.args.trace.now c.args.n.0 s _ begun) ∙ sym c.replay-watcher.ensures.place ∙ c.in-None.is in
+    sym (place_inside g.M.Party.state g.M.Party.moves g.M.Seen.inside w g.met.M.Seen.same c.args.side c.args.trace.now c.args.n.0 c.args.machine)
+    ∙ sym (place_of w g.M.Seen.sights (order c.args.part c.args.choice) c.args.side c.args.trace.now c.args.n.0 s _ begun)
+    ∙ sym c.replay-watcher.ensures.place ∙ c.in-None.is in
     λ line doing. (λ same. cc, λ there. cc)
 
 pub returns-in-Some-finish-clause-follows : goal.returns-in-Some-finish-clause-follows
@@ -53,7 +57,9 @@ returns-in-Some-finish-clause-follows g c =
     let s : g.M.Seen.Inside = g.M.Seen.inside c.args.machine in
     let begun : watched_of s (order c.new.result.part c.new.result.choice) (kept_of c.new.result.trail.starts c.new.result.before) ≡ watched_of s (order c.args.part c.args.choice) none_kept =
     started s c.args.part c.args.choice c.new.result.part c.new.result.choice (kept_of c.new.result.trail.starts c.new.result.before) c.new.ensures.part c.new.ensures.choice c.new.ensures.none in
-    sym (place_inside g.M.Party.state g.M.Party.moves g.M.Seen.inside w g.met.M.Seen.same c.args.side c.args.trace.now c.args.n.0 c.args.machine) ∙ sym (place_of w g.M.Seen.sights (order c.args.part c.args.choice) c.args.side c.args.trace.now c.args.n.0 s _ begun) ∙ sym c.replay-watcher.ensures.place ∙ c.in-None.is
+    sym (place_inside g.M.Party.state g.M.Party.moves g.M.Seen.inside w g.met.M.Seen.same c.args.side c.args.trace.now c.args.n.0 c.args.machine)
+    ∙ sym (place_of w g.M.Seen.sights (order c.args.part c.args.choice) c.args.side c.args.trace.now c.args.n.0 s _ begun)
+    ∙ sym c.replay-watcher.ensures.place ∙ c.in-None.is
 
 pub returns-in-Some-finish-clause-listing : goal.returns-in-Some-finish-clause-listing
 returns-in-Some-finish-clause-listing g c =
@@ -79,5 +85,7 @@ returns-clause-differs g c =
     let begun : watched_of s (order c.new.result.part c.new.result.choice) (kept_of c.new.result.trail.starts c.new.result.before) ≡ watched_of s (order c.args.part c.args.choice) none_kept =
     started s c.args.part c.args.choice c.new.result.part c.new.result.choice (kept_of c.new.result.trail.starts c.new.result.before) c.new.ensures.part c.new.ensures.choice c.new.ensures.none in
     let place : (replay_of g.M.Party.moves c.args.side c.args.trace.now c.args.n.0 (g.M.Party.state c.args.machine)).place ≡ None =
-    sym (place_inside g.M.Party.state g.M.Party.moves g.M.Seen.inside w g.met.M.Seen.same c.args.side c.args.trace.now c.args.n.0 c.args.machine) ∙ sym (place_of w g.M.Seen.sights (order c.args.part c.args.choice) c.args.side c.args.trace.now c.args.n.0 s _ begun) ∙ sym c.replay-watcher.ensures.place ∙ c.in-None.is in
+    sym (place_inside g.M.Party.state g.M.Party.moves g.M.Seen.inside w g.met.M.Seen.same c.args.side c.args.trace.now c.args.n.0 c.args.machine)
+    ∙ sym (place_of w g.M.Seen.sights (order c.args.part c.args.choice) c.args.side c.args.trace.now c.args.n.0 s _ begun)
+    ∙ sym c.replay-watcher.ensures.place ∙ c.in-None.is in
     λ line doing. (λ same. cc, λ there. cc)

@@ -12,7 +12,8 @@ use Rattle.host_bus.proofs.board.go_on.Goals as goal
 pub returns-then-k-playback-clause-ticks : goal.returns-then-k-playback-clause-ticks
 returns-then-k-playback-clause-ticks c =
     let p = c.args.playback.now in
-    beaten c.args.clock c.args.ram.now c.args.letters.now.font p c.beats-n.result c.args.k c.args.t c.min-then-k-playback.result (drawn c.args.ram.now c.args.letters.now.font c.args.devices.now) (drawn c.args.ram.now c.args.letters.now.font c.advance.new.self)
+    beaten c.args.clock c.args.ram.now c.args.letters.now.font p c.beats-n.result c.args.k c.args.t c.min-then-k-playback.result
+    (drawn c.args.ram.now c.args.letters.now.font c.args.devices.now) (drawn c.args.ram.now c.args.letters.now.font c.advance.new.self)
     c.requires.played (c.requires.begins c.if-k-playback.true) c.if-k-playback.true c.requires.due
     (rw c.min.ensures at c.beats-n.ensures.all) (rw c.min.ensures at c.beats-n.ensures.no_more)
     (rw c.micro.ensures.value at c.min-then-k-playback.ensures) c.advance.ensures
@@ -56,4 +57,5 @@ pub returns-else-k-playback-clause-next : goal.returns-else-k-playback-clause-ne
 returns-else-k-playback-clause-next c =
     let done = c.tick_with_events.ensures in
     let past : c.args.k + 1 ≤ c.tick_with_events.result = omega (arith, done.next.first, done.next.least, done.played.early) in
-    still-on-time (micro c.args.clock) (c.args.k + 1) c.tick_with_events.new.playback.event c.tick_with_events.result (min c.args.t c.tick_with_events.result) done.next (omega (arith, c.requires.due, past)) (omega arith)
+    still-on-time (micro c.args.clock) (c.args.k + 1) c.tick_with_events.new.playback.event c.tick_with_events.result
+    (min c.args.t c.tick_with_events.result) done.next (omega (arith, c.requires.due, past)) (omega arith)

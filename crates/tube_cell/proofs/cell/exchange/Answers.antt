@@ -7,5 +7,8 @@ use Rattle.tube_cell.proofs.cell.exchange.Goals as goal
 pub swap-requires-clause-rule : goal.swap-requires-clause-rule
 swap-requires-clause-rule g c =
     let v = cell_view c.args.seat.now in
-    let next = c.next_words-next.ensures.words ∙ ap (λ t. words_of (known_with c.args.side c.args.chip.now c.args.word t c.args.trust)) (c.word_of.ensures v.known c.requires.words) ∙ ap words_of (sym c.requires.next) in
-    publishes_as c.packing_is_one_to_one.ensures c.args.side _ v g.W.Wish.events c.args.chip.now c.args.word c.args.trust g.W.Wish.next _ _ c.requires.may c.next_words-next.ensures.bounds c.requires.trust c.requires.next c.requires.words next
+    let next = c.next_words-next.ensures.words
+    ∙ ap (λ t. words_of (known_with c.args.side c.args.chip.now c.args.word t c.args.trust)) (c.word_of.ensures v.known c.requires.words)
+    ∙ ap words_of (sym c.requires.next) in
+    publishes_as c.packing_is_one_to_one.ensures c.args.side _ v g.W.Wish.events c.args.chip.now c.args.word c.args.trust g.W.Wish.next _ _
+    c.requires.may c.next_words-next.ensures.bounds c.requires.trust c.requires.next c.requires.words next

@@ -27,8 +27,11 @@ loop-due-init g c =
     let there : core ≡ fresh Instruction c.at_start-first.result = begins-there core c.requires.starts ∙ ap (fresh Instruction) (sym c.at_start-first.ensures) in
     let on : IsSome (next_cycle part core) = subst (λ (x : cpu.State). IsSome (next_cycle part x)) (sym there) (begins part Instruction c.at_start-first.result) in
     record {
-      way = subst (λ (x : cpu.State). IsUnderWay part w g.B.TubeBus.plain c.args.bound c.cycle-cycle.result c.args.bound c.args.lines.now c.args.bound start (at_of x (g.B.TubeBus.state c.args.bus.now) c.args.from) c.args.from) there
-          (caught-up part w g.B.TubeBus.wired g.B.TubeBus.plain g.B.TubeBus.stays_plain c.args.bound c.args.bound c.args.lines.now c.args.bound start c.cycle-cycle.result start c.cycle-cycle.ensures.value on c.requires.before c.requires.free (λ is. is) (0, refl));
+      way = subst
+          (λ (x : cpu.State). IsUnderWay part w g.B.TubeBus.plain c.args.bound c.cycle-cycle.result c.args.bound c.args.lines.now c.args.bound start
+          (at_of x (g.B.TubeBus.state c.args.bus.now) c.args.from) c.args.from) there
+          (caught-up part w g.B.TubeBus.wired g.B.TubeBus.plain g.B.TubeBus.stays_plain c.args.bound c.args.bound c.args.lines.now c.args.bound start
+          c.cycle-cycle.result start c.cycle-cycle.ensures.value on c.requires.before c.requires.free (λ is. is) (0, refl));
       passes = λ until sure in_run early. (0, ap (λ (x : cpu.State). at_of x (g.B.TubeBus.state c.args.bus.now) c.args.from) there);
       before = c.requires.before;
       rests = c.requires.rests;
@@ -74,12 +77,17 @@ loop-due-preserved g c =
       way = subst (λ (b : g.B.TubeBus.State). IsUnderWay part w g.B.TubeBus.plain bound n bound c.args.lines.now bound start (at_of (fresh Instruction new) b top) top) close went.0;
       passes = λ until sure in_run early.
           let so_far = c.loop-due.invariant.passes until sure in_run early in
-          let looks : ToLook (moves_of part w) until (shown_lines c.args.lines.now sure) (at_of (fresh Instruction c.loop-due.regs) m due) (at_of (fresh Instruction new) (g.B.TubeBus.state c.close.new.self) top) =
-          subst (λ (b : g.B.TubeBus.State). ToLook (moves_of part w) until (shown_lines c.args.lines.now sure) (at_of (fresh Instruction c.loop-due.regs) m due) (at_of (fresh Instruction new) b top)) close
-          (whole-looks part w g.B.TubeBus.wired g.B.TubeBus.plain g.B.TubeBus.stays_plain bound until c.args.lines.now sure n g.B.TubeBus.reads g.B.TubeBus.writes g.B.TubeBus.memory g.B.TubeBus.rests g.B.TubeBus.stays_at_rest masks c.args.quiet
-          k due c.loop-due.regs new m there some way.cycle (way.kept c.requires.plain) way.free done c.loop-due.invariant.before in_bound (omega (arith, in_bound, in_run)) (omega (arith, in_bound, early)) still c.loop-due.invariant.rests c.loop-due.invariant.held) in (
+          let looks : ToLook (moves_of part w) until (shown_lines c.args.lines.now sure) (at_of (fresh Instruction c.loop-due.regs) m due)
+          (at_of (fresh Instruction new) (g.B.TubeBus.state c.close.new.self) top) =
+          subst (λ (b : g.B.TubeBus.State). ToLook (moves_of part w) until (shown_lines c.args.lines.now sure)
+          (at_of (fresh Instruction c.loop-due.regs) m due) (at_of (fresh Instruction new) b top)) close
+          (whole-looks part w g.B.TubeBus.wired g.B.TubeBus.plain g.B.TubeBus.stays_plain bound until c.args.lines.now sure n g.B.TubeBus.reads
+          g.B.TubeBus.writes g.B.TubeBus.memory g.B.TubeBus.rests g.B.TubeBus.stays_at_rest masks c.args.quiet
+          k due c.loop-due.regs new m there some way.cycle (way.kept c.requires.plain) way.free done c.loop-due.invariant.before in_bound
+          (omega (arith, in_bound, in_run)) (omega (arith, in_bound, early)) still c.loop-due.invariant.rests c.loop-due.invariant.held) in (
             suc so_far.0,
-            passes_more (moves_of part w) (over_at g.B.TubeBus.peek c.args.passing) until (shown_lines c.args.lines.now sure) so_far.0 start (at_of (fresh Instruction c.loop-due.regs) m due) (at_of (fresh Instruction new) (g.B.TubeBus.state c.close.new.self) top)
+            passes_more (moves_of part w) (over_at g.B.TubeBus.peek c.args.passing) until (shown_lines c.args.lines.now sure) so_far.0 start
+                (at_of (fresh Instruction c.loop-due.regs) m due) (at_of (fresh Instruction new) (g.B.TubeBus.state c.close.new.self) top)
                 so_far.1 (refl, c.whole_if_over-cycles.ensures.over some) looks,
           );
       before =

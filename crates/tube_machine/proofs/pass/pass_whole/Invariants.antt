@@ -16,7 +16,8 @@ invariant-loop-due g l = record {
       (at_of (g.P.Processor.core l.fn.cpu) (g.B.TubeBus.state l.fn.bus) l.from)
       (at_of (fresh Instruction l.regs) (g.B.TubeBus.state l.bus) l.due)
       l.due;
-  passes : (until sure : ℕ) → l.bound ≤ until → l.bound ≤ sure → (k : ℕ) × Passes (moves_of g.P.Processor.part g.B.TubeBus.wiring) (over_at g.B.TubeBus.peek l.passing) until (shown_lines l.lines sure) k
+  passes : (until sure : ℕ) → l.bound ≤ until → l.bound ≤ sure
+      → (k : ℕ) × Passes (moves_of g.P.Processor.part g.B.TubeBus.wiring) (over_at g.B.TubeBus.peek l.passing) until (shown_lines l.lines sure) k
       (at_of (g.P.Processor.core l.fn.cpu) (g.B.TubeBus.state l.fn.bus) l.from)
       (at_of (fresh Instruction l.regs) (g.B.TubeBus.state l.bus) l.due);
   before : (g.B.TubeBus.wiring).closed (g.B.TubeBus.state l.bus) ≤ l.due + 1;

@@ -22,44 +22,71 @@ loop-due-init g c =
           let over : next_cycle part (g.P.Processor.core c.args.cpu.now) ≡ None = search rules in
           let plain = c.bound_of-bound.ensures.plain (omega (arith, v.if-due-bound.false)) in
           let way : IsUnderWay part w g.B.TubeBus.plain c.break_tick-next_break.result c.cycle-cycle.result c.args.until c.args.lines.now c.args.sure start new new.due =
-          at-look part w g.B.TubeBus.wired g.B.TubeBus.plain g.B.TubeBus.stays_plain c.break_tick-next_break.result c.args.until c.args.lines.now c.args.sure start c.cycle-cycle.result new c.cycle-cycle.ensures.value over
-          c.requires.before c.break_tick-next_break.ensures.none plain (omega (arith, v.if-due-bound.false, c.bound_of-bound.ensures.until)) (omega (arith, v.if-due-bound.false, c.bound_of-bound.ensures.sure))
+          at-look part w g.B.TubeBus.wired g.B.TubeBus.plain g.B.TubeBus.stays_plain c.break_tick-next_break.result c.args.until c.args.lines.now
+          c.args.sure start c.cycle-cycle.result new c.cycle-cycle.ensures.value over
+          c.requires.before c.break_tick-next_break.ensures.none plain (omega (arith, v.if-due-bound.false, c.bound_of-bound.ensures.until))
+          (omega (arith, v.if-due-bound.false, c.bound_of-bound.ensures.sure))
           (omega (arith, v.if-due-bound.false, c.bound_of-bound.ensures.free)) v.see.ensures.seen in
           let late : At g.B.TubeBus.State = at_of (g.P.Processor.core v.go_whole_at_start-due.new.cpu) (g.B.TubeBus.state v.go_whole_at_start-due.new.bus) v.go_whole_at_start-due.result in
           let far_on = c.bound_of-bound.ensures.free in
           let in_run = c.bound_of-bound.ensures.until in
           let early = c.bound_of-bound.ensures.sure in
           let way_on : IsUnderWay part w g.B.TubeBus.plain c.break_tick-next_break.result c.cycle-cycle.result c.args.until c.args.lines.now c.args.sure start late late.due =
-          onward-on part w g.B.TubeBus.wired g.B.TubeBus.plain g.B.TubeBus.stays_plain c.break_tick-next_break.result c.args.until c.args.lines.now c.args.sure c.cycle-cycle.result c.bound_of-bound.result start new late way v.go_whole_at_start-due.ensures.onward far_on in_run early in
+          onward-on part w g.B.TubeBus.wired g.B.TubeBus.plain g.B.TubeBus.stays_plain c.break_tick-next_break.result c.args.until c.args.lines.now
+          c.args.sure c.cycle-cycle.result c.bound_of-bound.result start new late way v.go_whole_at_start-due.ensures.onward far_on in_run early
+          in
           let same : late ≡ at_of (g.P.Processor.core c.if-last.cpu) (g.B.TubeBus.state c.if-last.bus) c.if-last.due =
           ap (λ x. at_of (g.P.Processor.core x) (g.B.TubeBus.state v.go_whole_at_start-due.new.bus) v.go_whole_at_start-due.result) (sym v.cpu-is)
           ∙ ap (λ x. at_of (g.P.Processor.core c.if-last.cpu) (g.B.TubeBus.state x) v.go_whole_at_start-due.result) (sym v.bus-is)
           ∙ ap (λ (k : ℕ). at_of (g.P.Processor.core c.if-last.cpu) (g.B.TubeBus.state c.if-last.bus) k) (sym v.due-is) in
-          let looked : HasSpent (part ≡ Cmos) c.cycle-cycle.result c.args.sure (spent (ready part (g.P.Processor.core c.args.cpu.now) c.args.from) (g.B.TubeBus.room c.args.notes.now) (length start.cpu.seen)) (spent (c.args.from + 1) (g.B.TubeBus.room c.args.notes.now) (length new.cpu.seen)) =
-          spent-look (part ≡ Cmos) c.cycle-cycle.result c.args.sure (g.B.TubeBus.room c.args.notes.now) (ready part (g.P.Processor.core c.args.cpu.now) c.args.from) (c.args.from + 1) _ _ (sym (ready-look part (g.P.Processor.core c.args.cpu.now) c.args.from over)) (omega (arith, v.if-due-bound.false, c.bound_of-bound.ensures.sure)) in
+          let looked : HasSpent (part ≡ Cmos) c.cycle-cycle.result c.args.sure
+          (spent (ready part (g.P.Processor.core c.args.cpu.now) c.args.from) (g.B.TubeBus.room c.args.notes.now) (length start.cpu.seen))
+          (spent (c.args.from + 1) (g.B.TubeBus.room c.args.notes.now) (length new.cpu.seen)) =
+          spent-look (part ≡ Cmos) c.cycle-cycle.result c.args.sure (g.B.TubeBus.room c.args.notes.now)
+          (ready part (g.P.Processor.core c.args.cpu.now) c.args.from) (c.args.from + 1) _ _
+          (sym (ready-look part (g.P.Processor.core c.args.cpu.now) c.args.from over))
+          (omega (arith, v.if-due-bound.false, c.bound_of-bound.ensures.sure)) in
           let went = spent-on (part ≡ Cmos) c.cycle-cycle.result c.args.sure _ _ _ looked
-          (subst (λ (n : ℕ). HasSpent (part ≡ Cmos) n c.args.sure (spent (c.args.from + 1) (g.B.TubeBus.room c.args.notes.now) (length new.cpu.seen)) (spent late.due (g.B.TubeBus.room v.go_whole_at_start-due.new.notes) (length late.cpu.seen))) (sym way.cycle) (v.go_whole_at_start-due.ensures.spends c.args.sure early)) in
+          (subst (λ (n : ℕ). HasSpent (part ≡ Cmos) n c.args.sure (spent (c.args.from + 1) (g.B.TubeBus.room c.args.notes.now) (length new.cpu.seen))
+          (spent late.due (g.B.TubeBus.room v.go_whole_at_start-due.new.notes) (length late.cpu.seen))) (sym way.cycle)
+          (v.go_whole_at_start-due.ensures.spends c.args.sure early)) in
           record {
-            way = subst (λ (x : At g.B.TubeBus.State). IsUnderWay part w g.B.TubeBus.plain c.break_tick-next_break.result c.cycle-cycle.result c.args.until c.args.lines.now c.args.sure start x x.due) same way_on;
-            noted = ap (λ x. g.B.TubeBus.before x c.if-last.bus) v.notes-is ∙ ap (λ x. g.B.TubeBus.before v.go_whole_at_start-due.new.notes x) v.bus-is ∙ v.go_whole_at_start-due.ensures.noted ∙ v.see.ensures.kept c.args.notes.now;
-            spent = subst (λ x. HasSpent (part ≡ Cmos) c.cycle-cycle.result c.args.sure (spent (ready part (g.P.Processor.core c.args.cpu.now) c.args.from) (g.B.TubeBus.room c.args.notes.now) (length start.cpu.seen)) (spent c.if-last.due (g.B.TubeBus.room x) (length (g.P.Processor.core c.if-last.cpu).seen))) (sym v.notes-is)
-                (subst (λ (x : At g.B.TubeBus.State). HasSpent (part ≡ Cmos) c.cycle-cycle.result c.args.sure (spent (ready part (g.P.Processor.core c.args.cpu.now) c.args.from) (g.B.TubeBus.room c.args.notes.now) (length start.cpu.seen)) (spent x.due (g.B.TubeBus.room v.go_whole_at_start-due.new.notes) (length x.cpu.seen))) same went);
+            way = subst (λ (x : At g.B.TubeBus.State). IsUnderWay part w g.B.TubeBus.plain c.break_tick-next_break.result c.cycle-cycle.result
+                c.args.until c.args.lines.now c.args.sure start x x.due) same way_on;
+            noted = ap (λ x. g.B.TubeBus.before x c.if-last.bus) v.notes-is
+                ∙ ap (λ x. g.B.TubeBus.before v.go_whole_at_start-due.new.notes x) v.bus-is ∙ v.go_whole_at_start-due.ensures.noted
+                ∙ v.see.ensures.kept c.args.notes.now;
+            spent = subst (λ x. HasSpent (part ≡ Cmos) c.cycle-cycle.result c.args.sure
+                (spent (ready part (g.P.Processor.core c.args.cpu.now) c.args.from) (g.B.TubeBus.room c.args.notes.now) (length start.cpu.seen))
+                (spent c.if-last.due (g.B.TubeBus.room x) (length (g.P.Processor.core c.if-last.cpu).seen))) (sym v.notes-is)
+                (subst (λ (x : At g.B.TubeBus.State). HasSpent (part ≡ Cmos) c.cycle-cycle.result c.args.sure
+                (spent (ready part (g.P.Processor.core c.args.cpu.now) c.args.from) (g.B.TubeBus.room c.args.notes.now) (length start.cpu.seen))
+                (spent x.due (g.B.TubeBus.room v.go_whole_at_start-due.new.notes) (length x.cpu.seen))) same went);
           }
       | else-last v ↦
           let on : IsSome (next_cycle part (g.P.Processor.core c.args.cpu.now)) = search rules in
           let way : IsUnderWay part w g.B.TubeBus.plain c.break_tick-next_break.result c.cycle-cycle.result c.args.until c.args.lines.now c.args.sure start start start.due =
-          caught-up part w g.B.TubeBus.wired g.B.TubeBus.plain g.B.TubeBus.stays_plain c.break_tick-next_break.result c.args.until c.args.lines.now c.args.sure start c.cycle-cycle.result start c.cycle-cycle.ensures.value on
+          caught-up part w g.B.TubeBus.wired g.B.TubeBus.plain g.B.TubeBus.stays_plain c.break_tick-next_break.result c.args.until c.args.lines.now
+          c.args.sure start c.cycle-cycle.result start c.cycle-cycle.ensures.value on
           c.requires.before c.break_tick-next_break.ensures.none (λ is. is) (0, refl) in
           let same : start ≡ at_of (g.P.Processor.core c.if-last.cpu) (g.B.TubeBus.state c.if-last.bus) c.if-last.due =
           ap (λ x. at_of (g.P.Processor.core x) (g.B.TubeBus.state c.args.bus.now) c.args.from) (sym v.cpu-is)
           ∙ ap (λ x. at_of (g.P.Processor.core c.if-last.cpu) (g.B.TubeBus.state x) c.args.from) (sym v.bus-is)
           ∙ ap (λ (k : ℕ). at_of (g.P.Processor.core c.if-last.cpu) (g.B.TubeBus.state c.if-last.bus) k) (sym v.due-is) in
           record {
-            way = subst (λ (x : At g.B.TubeBus.State). IsUnderWay part w g.B.TubeBus.plain c.break_tick-next_break.result c.cycle-cycle.result c.args.until c.args.lines.now c.args.sure start x x.due) same way;
+            way = subst (λ (x : At g.B.TubeBus.State). IsUnderWay part w g.B.TubeBus.plain c.break_tick-next_break.result c.cycle-cycle.result
+                c.args.until c.args.lines.now c.args.sure start x x.due) same way;
             noted = ap (λ x. g.B.TubeBus.before x c.if-last.bus) v.notes-is ∙ ap (λ x. g.B.TubeBus.before c.args.notes.now x) v.bus-is;
-            spent = subst (λ x. HasSpent (part ≡ Cmos) c.cycle-cycle.result c.args.sure (spent (ready g.P.Processor.part (g.P.Processor.core c.args.cpu.now) c.args.from) (g.B.TubeBus.room c.args.notes.now) (length start.cpu.seen)) (spent c.if-last.due (g.B.TubeBus.room x) (length (g.P.Processor.core c.if-last.cpu).seen))) (sym v.notes-is)
-                (subst (λ (x : At g.B.TubeBus.State). HasSpent (part ≡ Cmos) c.cycle-cycle.result c.args.sure (spent (ready g.P.Processor.part (g.P.Processor.core c.args.cpu.now) c.args.from) (g.B.TubeBus.room c.args.notes.now) (length start.cpu.seen)) (spent x.due (g.B.TubeBus.room c.args.notes.now) (length x.cpu.seen)))
-                same (subst (λ (k : ℕ). HasSpent (part ≡ Cmos) c.cycle-cycle.result c.args.sure (spent k (g.B.TubeBus.room c.args.notes.now) (length start.cpu.seen)) (spent c.args.from (g.B.TubeBus.room c.args.notes.now) (length start.cpu.seen))) (sym (ready-on part (g.P.Processor.core c.args.cpu.now) c.args.from on))
+            spent = subst (λ x. HasSpent (part ≡ Cmos) c.cycle-cycle.result c.args.sure (spent
+                (ready g.P.Processor.part (g.P.Processor.core c.args.cpu.now) c.args.from) (g.B.TubeBus.room c.args.notes.now)
+                (length start.cpu.seen)) (spent c.if-last.due (g.B.TubeBus.room x) (length (g.P.Processor.core c.if-last.cpu).seen))) (sym v.notes-is)
+                (subst (λ (x : At g.B.TubeBus.State). HasSpent (part ≡ Cmos) c.cycle-cycle.result c.args.sure (spent
+                (ready g.P.Processor.part (g.P.Processor.core c.args.cpu.now) c.args.from) (g.B.TubeBus.room c.args.notes.now)
+                (length start.cpu.seen)) (spent x.due (g.B.TubeBus.room c.args.notes.now) (length x.cpu.seen)))
+                same (subst (λ (k : ℕ). HasSpent (part ≡ Cmos) c.cycle-cycle.result c.args.sure
+                (spent k (g.B.TubeBus.room c.args.notes.now) (length start.cpu.seen))
+                (spent c.args.from (g.B.TubeBus.room c.args.notes.now) (length start.cpu.seen))) (sym
+                (ready-on part (g.P.Processor.core c.args.cpu.now) c.args.from on))
                 (none-spent (part ≡ Cmos) c.cycle-cycle.result c.args.sure (spent c.args.from (g.B.TubeBus.room c.args.notes.now) (length start.cpu.seen)))));
           }
     ]
@@ -69,14 +96,18 @@ pub go_whole_at_start-due-requires-clause-before : goal.go_whole_at_start-due-re
 go_whole_at_start-due-requires-clause-before g c =
     let start : At g.B.TubeBus.State = at_of (g.P.Processor.core c.args.cpu.now) (g.B.TubeBus.state c.args.bus.now) c.args.from in
     let new : At g.B.TubeBus.State = at_of (g.P.Processor.core c.see.new.cpu) (g.B.TubeBus.state c.see.new.bus) (c.args.from + 1) in
-    let looked = after-look g.P.Processor.part g.B.TubeBus.wiring g.B.TubeBus.wired g.B.TubeBus.plain g.B.TubeBus.stays_plain c.args.lines.now start new (c.args.from + 1) c.requires.before (c.bound_of-bound.ensures.plain (omega (arith, c.if-due-bound.false))) c.see.ensures.seen in
+    let looked =
+    after-look g.P.Processor.part g.B.TubeBus.wiring g.B.TubeBus.wired g.B.TubeBus.plain g.B.TubeBus.stays_plain c.args.lines.now start new
+    (c.args.from + 1) c.requires.before (c.bound_of-bound.ensures.plain (omega (arith, c.if-due-bound.false))) c.see.ensures.seen in
     omega (arith, looked.closed)
 
 pub go_whole_at_start-due-requires-clause-free : goal.go_whole_at_start-due-requires-clause-free
 go_whole_at_start-due-requires-clause-free g c =
     let start : At g.B.TubeBus.State = at_of (g.P.Processor.core c.args.cpu.now) (g.B.TubeBus.state c.args.bus.now) c.args.from in
     let new : At g.B.TubeBus.State = at_of (g.P.Processor.core c.see.new.cpu) (g.B.TubeBus.state c.see.new.bus) (c.args.from + 1) in
-    let looked = after-look g.P.Processor.part g.B.TubeBus.wiring g.B.TubeBus.wired g.B.TubeBus.plain g.B.TubeBus.stays_plain c.args.lines.now start new (c.args.from + 1) c.requires.before (c.bound_of-bound.ensures.plain (omega (arith, c.if-due-bound.false))) c.see.ensures.seen in
+    let looked =
+    after-look g.P.Processor.part g.B.TubeBus.wiring g.B.TubeBus.wired g.B.TubeBus.plain g.B.TubeBus.stays_plain c.args.lines.now start new
+    (c.args.from + 1) c.requires.before (c.bound_of-bound.ensures.plain (omega (arith, c.if-due-bound.false))) c.see.ensures.seen in
     λ t low. looked.free c.break_tick-next_break.result c.break_tick-next_break.ensures.none t (omega (arith, low, c.bound_of-bound.ensures.free))
 
 pub returns-then-due-bound-2-clause-looks : goal.returns-then-due-bound-2-clause-looks
@@ -89,7 +120,8 @@ returns-then-due-bound-2-clause-looks g c =
     let start : At g.B.TubeBus.State = at_of (g.P.Processor.core c.args.cpu.now) (g.B.TubeBus.state c.args.bus.now) c.args.from in
     let s : At g.B.TubeBus.State = at_of (g.P.Processor.core c.loop-due.cpu) (g.B.TubeBus.state c.loop-due.bus) c.loop-due.due in
     let over : next_cycle part on ≡ None = search rules in
-    let came = quick-last part w g.B.TubeBus.wired g.B.TubeBus.plain g.B.TubeBus.stays_plain c.break_tick-next_break.result c.args.until c.args.lines.now c.args.sure start n s c.loop-due.caught_up c.in-Some.byte c.want.result on b
+    let came = quick-last part w g.B.TubeBus.wired g.B.TubeBus.plain g.B.TubeBus.stays_plain c.break_tick-next_break.result c.args.until
+    c.args.lines.now c.args.sure start n s c.loop-due.caught_up c.in-Some.byte c.want.result on b
     c.loop-due.invariant.way (omega (arith, c.loop-due-test.true, c.min-end.ensures))
     (omega (arith, c.loop-due-test.true, c.min-end.ensures, c.saturating_sub.ensures, c.requires.room, c.cycle-cycle.ensures.bound)) c.want.ensures c.in-Some.ensures.done c.give.ensures over in
     let tick : c.loop-due.due + (n - 1) ≡ c.loop-due.due + n - 1 = omega (arith, c.cycle-cycle.ensures.some) in
@@ -103,7 +135,9 @@ returns-then-due-bound-2-clause-looks g c =
 pub see-requires-then-last-2-clause-plain : goal.see-requires-then-last-2-clause-plain
 see-requires-then-last-2-clause-plain g c =
     let first = c.bound_of-bound.ensures.plain (omega (arith, c.if-due-bound-2.false, c.cycle-cycle.ensures.some)) in
-    quick-plain g.P.Processor.part g.B.TubeBus.wiring g.B.TubeBus.wired g.B.TubeBus.plain g.B.TubeBus.stays_plain 0 0 c.args.lines.now 0 (at_of (g.P.Processor.core c.args.cpu.now) (g.B.TubeBus.state c.args.bus.now) c.args.from) c.loop-due.due c.in-Some.byte (g.B.TubeBus.state c.loop-due.bus) (g.B.TubeBus.state c.quick.new.self) c.want.result c.in-Some.ensures.done
+    quick-plain g.P.Processor.part g.B.TubeBus.wiring g.B.TubeBus.wired g.B.TubeBus.plain g.B.TubeBus.stays_plain 0 0 c.args.lines.now 0
+    (at_of (g.P.Processor.core c.args.cpu.now) (g.B.TubeBus.state c.args.bus.now) c.args.from) c.loop-due.due c.in-Some.byte
+    (g.B.TubeBus.state c.loop-due.bus) (g.B.TubeBus.state c.quick.new.self) c.want.result c.in-Some.ensures.done
     ∙ c.loop-due.invariant.way.kept first
 
 pub go_whole_at_start-due-requires-then-last-2-clause-before : goal.go_whole_at_start-due-requires-then-last-2-clause-before
@@ -119,10 +153,13 @@ go_whole_at_start-due-requires-then-last-2-clause-before g c =
     let new : At g.B.TubeBus.State = at_of (g.P.Processor.core c.see-then-last-2.new.cpu) (g.B.TubeBus.state c.see-then-last-2.new.bus) (t + 1) in
     let over : next_cycle part on ≡ None = search rules in
     let first = c.bound_of-bound.ensures.plain (omega (arith, c.if-due-bound-2.false, c.cycle-cycle.ensures.some)) in
-    let way = quick-past part w g.B.TubeBus.wired g.B.TubeBus.plain g.B.TubeBus.stays_plain c.break_tick-next_break.result c.args.until c.args.lines.now c.args.sure start n s c.loop-due.caught_up c.in-Some.byte c.want.result on b new
+    let way = quick-past part w g.B.TubeBus.wired g.B.TubeBus.plain g.B.TubeBus.stays_plain c.break_tick-next_break.result c.args.until
+    c.args.lines.now c.args.sure start n s c.loop-due.caught_up c.in-Some.byte c.want.result on b new
     c.loop-due.invariant.way (omega (arith, c.loop-due-test.true, c.min-end.ensures))
-    (omega (arith, c.loop-due-test.true, c.min-end.ensures, c.saturating_sub.ensures, c.requires.room, c.cycle-cycle.ensures.bound)) c.want.ensures c.in-Some.ensures.done c.give.ensures c.in-Some.ensures.closed over first
-    (omega (arith, c.if-due-bound-2.false, c.bound_of-bound.ensures.until, c.cycle-cycle.ensures.some)) (omega (arith, c.if-due-bound-2.false, c.bound_of-bound.ensures.sure, c.cycle-cycle.ensures.some))
+    (omega (arith, c.loop-due-test.true, c.min-end.ensures, c.saturating_sub.ensures, c.requires.room, c.cycle-cycle.ensures.bound)) c.want.ensures
+    c.in-Some.ensures.done c.give.ensures c.in-Some.ensures.closed over first
+    (omega (arith, c.if-due-bound-2.false, c.bound_of-bound.ensures.until, c.cycle-cycle.ensures.some))
+    (omega (arith, c.if-due-bound-2.false, c.bound_of-bound.ensures.sure, c.cycle-cycle.ensures.some))
     t (omega (arith, c.cycle-cycle.ensures.some)) c.see-then-last-2.ensures.seen in
     before-there part w c.break_tick-next_break.result n c.args.until c.args.lines.now c.args.sure start new g.B.TubeBus.plain way (c.loop-due.due + n) (omega (arith, c.cycle-cycle.ensures.some))
 
@@ -139,10 +176,13 @@ go_whole_at_start-due-requires-then-last-2-clause-plain g c =
     let new : At g.B.TubeBus.State = at_of (g.P.Processor.core c.see-then-last-2.new.cpu) (g.B.TubeBus.state c.see-then-last-2.new.bus) (t + 1) in
     let over : next_cycle part on ≡ None = search rules in
     let first = c.bound_of-bound.ensures.plain (omega (arith, c.if-due-bound-2.false, c.cycle-cycle.ensures.some)) in
-    let way = quick-past part w g.B.TubeBus.wired g.B.TubeBus.plain g.B.TubeBus.stays_plain c.break_tick-next_break.result c.args.until c.args.lines.now c.args.sure start n s c.loop-due.caught_up c.in-Some.byte c.want.result on b new
+    let way = quick-past part w g.B.TubeBus.wired g.B.TubeBus.plain g.B.TubeBus.stays_plain c.break_tick-next_break.result c.args.until
+    c.args.lines.now c.args.sure start n s c.loop-due.caught_up c.in-Some.byte c.want.result on b new
     c.loop-due.invariant.way (omega (arith, c.loop-due-test.true, c.min-end.ensures))
-    (omega (arith, c.loop-due-test.true, c.min-end.ensures, c.saturating_sub.ensures, c.requires.room, c.cycle-cycle.ensures.bound)) c.want.ensures c.in-Some.ensures.done c.give.ensures c.in-Some.ensures.closed over first
-    (omega (arith, c.if-due-bound-2.false, c.bound_of-bound.ensures.until, c.cycle-cycle.ensures.some)) (omega (arith, c.if-due-bound-2.false, c.bound_of-bound.ensures.sure, c.cycle-cycle.ensures.some))
+    (omega (arith, c.loop-due-test.true, c.min-end.ensures, c.saturating_sub.ensures, c.requires.room, c.cycle-cycle.ensures.bound)) c.want.ensures
+    c.in-Some.ensures.done c.give.ensures c.in-Some.ensures.closed over first
+    (omega (arith, c.if-due-bound-2.false, c.bound_of-bound.ensures.until, c.cycle-cycle.ensures.some))
+    (omega (arith, c.if-due-bound-2.false, c.bound_of-bound.ensures.sure, c.cycle-cycle.ensures.some))
     t (omega (arith, c.cycle-cycle.ensures.some)) c.see-then-last-2.ensures.seen in
     way.kept first
 
@@ -159,10 +199,13 @@ go_whole_at_start-due-requires-then-last-2-clause-free g c =
     let new : At g.B.TubeBus.State = at_of (g.P.Processor.core c.see-then-last-2.new.cpu) (g.B.TubeBus.state c.see-then-last-2.new.bus) (t + 1) in
     let over : next_cycle part on ≡ None = search rules in
     let first = c.bound_of-bound.ensures.plain (omega (arith, c.if-due-bound-2.false, c.cycle-cycle.ensures.some)) in
-    let way = quick-past part w g.B.TubeBus.wired g.B.TubeBus.plain g.B.TubeBus.stays_plain c.break_tick-next_break.result c.args.until c.args.lines.now c.args.sure start n s c.loop-due.caught_up c.in-Some.byte c.want.result on b new
+    let way = quick-past part w g.B.TubeBus.wired g.B.TubeBus.plain g.B.TubeBus.stays_plain c.break_tick-next_break.result c.args.until
+    c.args.lines.now c.args.sure start n s c.loop-due.caught_up c.in-Some.byte c.want.result on b new
     c.loop-due.invariant.way (omega (arith, c.loop-due-test.true, c.min-end.ensures))
-    (omega (arith, c.loop-due-test.true, c.min-end.ensures, c.saturating_sub.ensures, c.requires.room, c.cycle-cycle.ensures.bound)) c.want.ensures c.in-Some.ensures.done c.give.ensures c.in-Some.ensures.closed over first
-    (omega (arith, c.if-due-bound-2.false, c.bound_of-bound.ensures.until, c.cycle-cycle.ensures.some)) (omega (arith, c.if-due-bound-2.false, c.bound_of-bound.ensures.sure, c.cycle-cycle.ensures.some))
+    (omega (arith, c.loop-due-test.true, c.min-end.ensures, c.saturating_sub.ensures, c.requires.room, c.cycle-cycle.ensures.bound)) c.want.ensures
+    c.in-Some.ensures.done c.give.ensures c.in-Some.ensures.closed over first
+    (omega (arith, c.if-due-bound-2.false, c.bound_of-bound.ensures.until, c.cycle-cycle.ensures.some))
+    (omega (arith, c.if-due-bound-2.false, c.bound_of-bound.ensures.sure, c.cycle-cycle.ensures.some))
     t (omega (arith, c.cycle-cycle.ensures.some)) c.see-then-last-2.ensures.seen in
     λ u low. way.free u (omega (arith, low, c.bound_of-bound.ensures.free))
 
@@ -179,25 +222,37 @@ loop-due-preserved-then-last-2 g c =
     let new : At g.B.TubeBus.State = at_of (g.P.Processor.core c.see-then-last-2.new.cpu) (g.B.TubeBus.state c.see-then-last-2.new.bus) (t + 1) in
     let over : next_cycle part on ≡ None = search rules in
     let first = c.bound_of-bound.ensures.plain (omega (arith, c.if-due-bound-2.false, c.cycle-cycle.ensures.some)) in
-    let way = quick-past part w g.B.TubeBus.wired g.B.TubeBus.plain g.B.TubeBus.stays_plain c.break_tick-next_break.result c.args.until c.args.lines.now c.args.sure start n s c.loop-due.caught_up c.in-Some.byte c.want.result on b new
+    let way = quick-past part w g.B.TubeBus.wired g.B.TubeBus.plain g.B.TubeBus.stays_plain c.break_tick-next_break.result c.args.until
+    c.args.lines.now c.args.sure start n s c.loop-due.caught_up c.in-Some.byte c.want.result on b new
     c.loop-due.invariant.way (omega (arith, c.loop-due-test.true, c.min-end.ensures))
-    (omega (arith, c.loop-due-test.true, c.min-end.ensures, c.saturating_sub.ensures, c.requires.room, c.cycle-cycle.ensures.bound)) c.want.ensures c.in-Some.ensures.done c.give.ensures c.in-Some.ensures.closed over first
-    (omega (arith, c.if-due-bound-2.false, c.bound_of-bound.ensures.until, c.cycle-cycle.ensures.some)) (omega (arith, c.if-due-bound-2.false, c.bound_of-bound.ensures.sure, c.cycle-cycle.ensures.some))
+    (omega (arith, c.loop-due-test.true, c.min-end.ensures, c.saturating_sub.ensures, c.requires.room, c.cycle-cycle.ensures.bound)) c.want.ensures
+    c.in-Some.ensures.done c.give.ensures c.in-Some.ensures.closed over first
+    (omega (arith, c.if-due-bound-2.false, c.bound_of-bound.ensures.until, c.cycle-cycle.ensures.some))
+    (omega (arith, c.if-due-bound-2.false, c.bound_of-bound.ensures.sure, c.cycle-cycle.ensures.some))
     t (omega (arith, c.cycle-cycle.ensures.some)) c.see-then-last-2.ensures.seen in
     let tick : t + 1 ≡ c.loop-due.due + n = omega (arith, c.cycle-cycle.ensures.some) in
     let seen : At g.B.TubeBus.State = at_of (g.P.Processor.core c.see-then-last-2.new.cpu) (g.B.TubeBus.state c.see-then-last-2.new.bus) (c.loop-due.due + n) in
     let way_there : IsUnderWay part w g.B.TubeBus.plain c.break_tick-next_break.result n c.args.until c.args.lines.now c.args.sure start seen seen.due =
     subst (λ (k : ℕ). IsUnderWay part w g.B.TubeBus.plain c.break_tick-next_break.result n c.args.until c.args.lines.now c.args.sure start (record new { due = k }) k) tick way in
-    let late : At g.B.TubeBus.State = at_of (g.P.Processor.core c.go_whole_at_start-due-then-last-2.new.cpu) (g.B.TubeBus.state c.go_whole_at_start-due-then-last-2.new.bus) c.go_whole_at_start-due-then-last-2.result in
+    let late : At g.B.TubeBus.State = at_of (g.P.Processor.core c.go_whole_at_start-due-then-last-2.new.cpu)
+    (g.B.TubeBus.state c.go_whole_at_start-due-then-last-2.new.bus) c.go_whole_at_start-due-then-last-2.result in
     let early = c.bound_of-bound.ensures.sure in
-    let looked : HasSpent (part ≡ Cmos) n c.args.sure (spent (ready part (g.P.Processor.core c.args.cpu.now) c.args.from) (g.B.TubeBus.room c.args.notes.now) (length start.cpu.seen)) (spent (c.loop-due.due + n) (g.B.TubeBus.room c.quick.new.notes) (length seen.cpu.seen)) =
-    spent-past (part ≡ Cmos) n c.args.sure (g.B.TubeBus.room c.quick.new.notes) (c.loop-due.due + n) _ _ _ c.loop-due.invariant.spent c.quick.ensures.room refl (omega (arith, c.if-due-bound-2.false, c.bound_of-bound.ensures.sure)) in
+    let looked : HasSpent (part ≡ Cmos) n c.args.sure
+    (spent (ready part (g.P.Processor.core c.args.cpu.now) c.args.from) (g.B.TubeBus.room c.args.notes.now) (length start.cpu.seen))
+    (spent (c.loop-due.due + n) (g.B.TubeBus.room c.quick.new.notes) (length seen.cpu.seen)) =
+    spent-past (part ≡ Cmos) n c.args.sure (g.B.TubeBus.room c.quick.new.notes)
+    (c.loop-due.due + n) _ _ _ c.loop-due.invariant.spent c.quick.ensures.room refl
+    (omega (arith, c.if-due-bound-2.false, c.bound_of-bound.ensures.sure)) in
     record {
-      way = onward-on part w g.B.TubeBus.wired g.B.TubeBus.plain g.B.TubeBus.stays_plain c.break_tick-next_break.result c.args.until c.args.lines.now c.args.sure n c.bound_of-bound.result start seen late way_there
+      way = onward-on part w g.B.TubeBus.wired g.B.TubeBus.plain g.B.TubeBus.stays_plain c.break_tick-next_break.result c.args.until c.args.lines.now
+          c.args.sure n c.bound_of-bound.result start seen late way_there
           c.go_whole_at_start-due-then-last-2.ensures.onward c.bound_of-bound.ensures.free c.bound_of-bound.ensures.until early;
       noted = c.go_whole_at_start-due-then-last-2.ensures.noted ∙ c.see-then-last-2.ensures.kept c.quick.new.notes ∙ c.quick.ensures.noted ∙ c.loop-due.invariant.noted;
       spent = spent-on (part ≡ Cmos) n c.args.sure _ _ _ looked
-          (subst (λ (n : ℕ). HasSpent (part ≡ Cmos) n c.args.sure (spent (c.loop-due.due + c.cycle-cycle.result) (g.B.TubeBus.room c.quick.new.notes) (length seen.cpu.seen)) (spent late.due (g.B.TubeBus.room c.go_whole_at_start-due-then-last-2.new.notes) (length late.cpu.seen))) (sym way.cycle) (c.go_whole_at_start-due-then-last-2.ensures.spends c.args.sure early));
+          (subst (λ (n : ℕ). HasSpent (part ≡ Cmos) n c.args.sure
+          (spent (c.loop-due.due + c.cycle-cycle.result) (g.B.TubeBus.room c.quick.new.notes) (length seen.cpu.seen))
+          (spent late.due (g.B.TubeBus.room c.go_whole_at_start-due-then-last-2.new.notes) (length late.cpu.seen))) (sym way.cycle)
+          (c.go_whole_at_start-due-then-last-2.ensures.spends c.args.sure early));
     }
 
 pub loop-due-preserved : goal.loop-due-preserved
@@ -211,11 +266,15 @@ loop-due-preserved g c =
     let s : At g.B.TubeBus.State = at_of (g.P.Processor.core c.loop-due.cpu) (g.B.TubeBus.state c.loop-due.bus) c.loop-due.due in
     let more : IsSome (next_cycle part on) = search rules in
     record {
-      way = quick-more part w g.B.TubeBus.wired g.B.TubeBus.plain g.B.TubeBus.stays_plain c.break_tick-next_break.result c.args.until c.args.lines.now c.args.sure start n s c.loop-due.caught_up c.in-Some.byte c.want.result on b
+      way = quick-more part w g.B.TubeBus.wired g.B.TubeBus.plain g.B.TubeBus.stays_plain c.break_tick-next_break.result c.args.until c.args.lines.now
+          c.args.sure start n s c.loop-due.caught_up c.in-Some.byte c.want.result on b
           c.loop-due.invariant.way (omega (arith, c.loop-due-test.true, c.min-end.ensures))
-          (omega (arith, c.loop-due-test.true, c.min-end.ensures, c.saturating_sub.ensures, c.requires.room, c.cycle-cycle.ensures.bound)) c.want.ensures c.in-Some.ensures.done c.give.ensures c.in-Some.ensures.closed more;
+          (omega (arith, c.loop-due-test.true, c.min-end.ensures, c.saturating_sub.ensures, c.requires.room, c.cycle-cycle.ensures.bound))
+          c.want.ensures c.in-Some.ensures.done c.give.ensures c.in-Some.ensures.closed more;
       noted = c.quick.ensures.noted ∙ c.loop-due.invariant.noted;
-      spent = spent-more (part ≡ Cmos) n c.args.sure (g.B.TubeBus.room c.quick.new.notes) (c.loop-due.due + n) (length on.seen) _ _ c.loop-due.invariant.spent c.quick.ensures.room (λ _. refl) (seen-more part (g.P.Processor.core c.loop-due.cpu) on c.in-Some.byte c.give.ensures);
+      spent = spent-more (part ≡ Cmos) n c.args.sure (g.B.TubeBus.room c.quick.new.notes) (c.loop-due.due + n)
+          (length on.seen) _ _ c.loop-due.invariant.spent c.quick.ensures.room (λ _. refl)
+          (seen-more part (g.P.Processor.core c.loop-due.cpu) on c.in-Some.byte c.give.ensures);
     }
 
 pub returns-in-None-clause-spends : goal.returns-in-None-clause-spends

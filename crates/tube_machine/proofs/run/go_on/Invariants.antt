@@ -14,7 +14,8 @@ invariant-loop-due g l = record {
       (at_of (g.P.Processor.core l.cpu) (g.B.TubeBus.state l.bus) l.due)
       l.caught_up;
   noted : g.B.TubeBus.before l.notes l.bus ≡ g.B.TubeBus.before l.fn.notes l.fn.bus;
-  spent : HasSpent (g.P.Processor.part ≡ Cmos) l.cycle l.sure (spent (ready g.P.Processor.part (g.P.Processor.core l.fn.cpu) l.from) (g.B.TubeBus.room l.fn.notes) (length (g.P.Processor.core l.fn.cpu).seen))
+  spent : HasSpent (g.P.Processor.part ≡ Cmos) l.cycle l.sure (spent (ready g.P.Processor.part (g.P.Processor.core l.fn.cpu) l.from)
+      (g.B.TubeBus.room l.fn.notes) (length (g.P.Processor.core l.fn.cpu).seen))
       (spent l.due (g.B.TubeBus.room l.notes) (length (g.P.Processor.core l.cpu).seen));
 }
 

@@ -30,9 +30,11 @@ loop-due-init g c =
     let none : m ≡ w.close m (behind c.args.from c.args.from) = sym (ap (w.close m) (behind-none c.args.from) ∙ (g.B.TubeBus.wired).still m 0 (omega arith)) in
     record {
       way = λ far until sure far_on in_run early free.
-          subst (λ (b : g.B.TubeBus.State). IsUnderWay part w g.B.TubeBus.plain far c.cycle-cycle.result until c.args.lines.now sure start (at_of (fresh Instruction c.at_start-first.result) b c.args.from) c.args.from) none
+          subst (λ (b : g.B.TubeBus.State). IsUnderWay part w g.B.TubeBus.plain far c.cycle-cycle.result until c.args.lines.now sure start
+          (at_of (fresh Instruction c.at_start-first.result) b c.args.from) c.args.from) none
           (subst (λ (x : cpu.State). IsUnderWay part w g.B.TubeBus.plain far c.cycle-cycle.result until c.args.lines.now sure start (at_of x m c.args.from) c.args.from) there
-          (caught-up part w g.B.TubeBus.wired g.B.TubeBus.plain g.B.TubeBus.stays_plain far until c.args.lines.now sure start c.cycle-cycle.result start c.cycle-cycle.ensures.value on c.requires.before free (λ is. is) (0, refl)));
+          (caught-up part w g.B.TubeBus.wired g.B.TubeBus.plain g.B.TubeBus.stays_plain far until c.args.lines.now sure start c.cycle-cycle.result
+          start c.cycle-cycle.ensures.value on c.requires.before free (λ is. is) (0, refl)));
       before = c.requires.before;
       shut = λ gone. absurd (omega (arith, gone));
       rests = subst (λ (b : g.B.TubeBus.State). g.B.TubeBus.rests b c.args.lines.now (has_flag core.regs.p INTERRUPT) c.args.quiet) none c.requires.rests;
@@ -40,7 +42,8 @@ loop-due-init g c =
       low = omega arith;
       high = c.requires.from;
       noted = refl;
-      spent = λ sure high. spent-look (part ≡ Cmos) c.cycle-cycle.result sure (g.B.TubeBus.room c.args.notes.now) c.args.from c.args.from 0 (length core.seen) refl (omega (arith, high, c.requires.from));
+      spent = λ sure high. spent-look (part ≡ Cmos) c.cycle-cycle.result sure (g.B.TubeBus.room c.args.notes.now) c.args.from c.args.from 0
+          (length core.seen) refl (omega (arith, high, c.requires.from));
     }
 
 pub loop-due-preserved : goal.loop-due-preserved
@@ -68,22 +71,31 @@ loop-due-preserved g c =
     let here : top ≡ behind c.args.from top = sym (behind-some c.args.from top gone) in
     let went = λ (far until sure : ℕ) (far_on : c.args.bound ≤ far) (in_run : c.args.bound ≤ until) (early : c.args.bound ≤ sure) (free : IsFree part w far (g.B.TubeBus.state c.args.bus.now)).
     whole-behind part w g.B.TubeBus.wired g.B.TubeBus.reads g.B.TubeBus.writes g.B.TubeBus.memory g.B.TubeBus.rests g.B.TubeBus.stays_at_rest g.B.TubeBus.plain g.B.TubeBus.stays_plain
-    far until c.args.lines.now sure n start (has_flag (g.P.Processor.core c.args.cpu.now).regs.p INTERRUPT) c.args.quiet c.requires.plain k due u c.loop-due.regs new m there some (behind-most c.args.from due)
-    (c.loop-due.invariant.way far until sure far_on in_run early free) done c.loop-due.invariant.before (omega (arith, in_bound, far_on)) (omega (arith, in_bound, in_run)) (omega (arith, in_bound, early)) still
+    far until c.args.lines.now sure n start
+    (has_flag (g.P.Processor.core c.args.cpu.now).regs.p INTERRUPT) c.args.quiet c.requires.plain k due u c.loop-due.regs new m there some
+    (behind-most c.args.from due)
+    (c.loop-due.invariant.way far until sure far_on in_run early free) done c.loop-due.invariant.before (omega (arith, in_bound, far_on))
+    (omega (arith, in_bound, in_run)) (omega (arith, in_bound, early)) still
     c.loop-due.invariant.rests c.loop-due.invariant.held in
-    let cycle : n ≡ w.cycle m = (c.loop-due.invariant.way c.args.bound c.args.bound c.args.bound (omega arith) (omega arith) (omega arith) c.requires.free).cycle ∙ (g.B.TubeBus.wired).cycle_close m u in
+    let cycle : n ≡ w.cycle m =
+    (c.loop-due.invariant.way c.args.bound c.args.bound c.args.bound (omega arith) (omega arith) (omega arith) c.requires.free).cycle
+    ∙ (g.B.TubeBus.wired).cycle_close m u in
     let reached : w.closed there ≤ top = subst (λ (x : ℕ). w.closed there ≤ due + x * k) (sym cycle) (c.whole-cycles.ensures.closed some) in
     record {
       way = λ far until sure far_on in_run early free.
-          subst (λ (v : ℕ). IsUnderWay part w g.B.TubeBus.plain far n until c.args.lines.now sure start (at_of (fresh Instruction new) (w.close there v) top) top) here (went far until sure far_on in_run early free).0;
+          subst (λ (v : ℕ). IsUnderWay part w g.B.TubeBus.plain far n until c.args.lines.now sure start
+          (at_of (fresh Instruction new) (w.close there v) top) top) here (went far until sure far_on in_run early free).0;
       before = omega (arith, reached);
       shut = λ _. reached;
-      rests = subst (λ (v : ℕ). g.B.TubeBus.rests (w.close there v) c.args.lines.now (has_flag (g.P.Processor.core c.args.cpu.now).regs.p INTERRUPT) c.args.quiet) here (went c.args.bound c.args.bound c.args.bound (omega arith) (omega arith) (omega arith) c.requires.free).1;
+      rests = subst (λ (v : ℕ). g.B.TubeBus.rests (w.close there v) c.args.lines.now
+          (has_flag (g.P.Processor.core c.args.cpu.now).regs.p INTERRUPT) c.args.quiet) here (went c.args.bound c.args.bound c.args.bound
+          (omega arith) (omega arith) (omega arith) c.requires.free).1;
       held = done.masks ∙ c.loop-due.invariant.held;
       low = omega (arith, c.loop-due.invariant.low);
       high = in_bound;
       noted = c.whole-cycles.ensures.noted ∙ c.loop-due.invariant.noted;
-      spent = λ sure high. spent-whole (part ≡ Cmos) n sure k (g.B.TubeBus.room c.whole-cycles.new.notes) top 0 _ _ (c.loop-due.invariant.spent sure high) c.whole-cycles.ensures.room refl (omega (arith, in_bound, high));
+      spent = λ sure high. spent-whole (part ≡ Cmos) n sure k (g.B.TubeBus.room c.whole-cycles.new.notes) top 0 _ _
+          (c.loop-due.invariant.spent sure high) c.whole-cycles.ensures.room refl (omega (arith, in_bound, high));
     }
 
 pub close_behind-requires-clause-low : goal.close_behind-requires-clause-low
@@ -118,7 +130,8 @@ returns-clause-onward g c =
     ∙ ap (λ (x : cpu.State). at_of x (w.close m u) c.loop-due.due) (sym c.set_out.ensures)
     ∙ ap (λ (b : g.B.TubeBus.State). at_of (g.P.Processor.core c.set_out.new.self) b c.loop-due.due) closed in
     subst (λ (x : At g.B.TubeBus.State). IsOnward part w g.B.TubeBus.plain c.args.lines.now c.args.bound start x) same
-    (onward part w g.B.TubeBus.wired g.B.TubeBus.plain g.B.TubeBus.stays_plain c.args.lines.now c.cycle-cycle.result c.args.bound start s c.loop-due.invariant.way c.requires.free c.cycle-cycle.ensures.value
+    (onward part w g.B.TubeBus.wired g.B.TubeBus.plain g.B.TubeBus.stays_plain c.args.lines.now c.cycle-cycle.result c.args.bound start s
+    c.loop-due.invariant.way c.requires.free c.cycle-cycle.ensures.value
     (omega (arith, before, behind-most c.args.from c.loop-due.due, c.loop-due.invariant.before)) c.requires.plain)
 
 pub returns-clause-spends : goal.returns-clause-spends
@@ -131,5 +144,10 @@ returns-clause-spends g c =
     ] in
     let none : c.loop-due.due ≡ c.loop-due.due + n * 0 = omega arith in
     λ sure high.
-    subst (λ (x : ℕ). HasSpent (part ≡ Cmos) x sure (spent c.args.from (g.B.TubeBus.room c.args.notes.now) (length (g.P.Processor.core c.args.cpu.now).seen)) (spent c.loop-due.due (g.B.TubeBus.room c.loop-due-test.notes) (length (g.P.Processor.core c.set_out.new.self).seen))) c.cycle-cycle.ensures.value
-    (spent-whole (part ≡ Cmos) n sure 0 (g.B.TubeBus.room c.loop-due-test.notes) c.loop-due.due (length (g.P.Processor.core c.set_out.new.self).seen) _ _ (c.loop-due.invariant.spent sure high) room none (omega (arith, high, c.loop-due.invariant.high)))
+    subst (λ (x : ℕ). HasSpent (part ≡ Cmos) x sure
+    (spent c.args.from (g.B.TubeBus.room c.args.notes.now) (length (g.P.Processor.core c.args.cpu.now).seen))
+    (spent c.loop-due.due (g.B.TubeBus.room c.loop-due-test.notes) (length (g.P.Processor.core c.set_out.new.self).seen)))
+    c.cycle-cycle.ensures.value
+    (spent-whole (part ≡ Cmos) n sure 0 (g.B.TubeBus.room c.loop-due-test.notes) c.loop-due.due
+    (length (g.P.Processor.core c.set_out.new.self).seen) _ _ (c.loop-due.invariant.spent sure high) room none
+    (omega (arith, high, c.loop-due.invariant.high)))

@@ -12,7 +12,9 @@ use Rattle.tube_machine.proofs.run.go_whole.Given as goal
 -- an instruction begins, and all so far asked for nothing; the devices need not be closed yet as far as they count
 abbrev pub invariant-loop-due : goal.invariant-loop-due
 invariant-loop-due g l = record {
-  way : (far until sure : ℕ) → l.bound ≤ far → l.bound ≤ until → l.bound ≤ sure → IsFree g.P.Processor.part g.B.TubeBus.wiring far (g.B.TubeBus.state l.fn.bus) → IsUnderWay g.P.Processor.part g.B.TubeBus.wiring g.B.TubeBus.plain far l.cycle until l.lines sure
+  way : (far until sure : ℕ) → l.bound ≤ far → l.bound ≤ until → l.bound ≤ sure
+      → IsFree g.P.Processor.part g.B.TubeBus.wiring far (g.B.TubeBus.state l.fn.bus)
+      → IsUnderWay g.P.Processor.part g.B.TubeBus.wiring g.B.TubeBus.plain far l.cycle until l.lines sure
       (at_of (g.P.Processor.core l.fn.cpu) (g.B.TubeBus.state l.fn.bus) l.from)
       (at_of (fresh Instruction l.regs) ((g.B.TubeBus.wiring).close (g.B.TubeBus.state l.bus) (behind l.from l.due)) l.due)
       l.due;

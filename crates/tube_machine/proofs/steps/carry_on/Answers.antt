@@ -32,7 +32,8 @@ loop-cpu-smaller g c =
     let left : IsStop part w c.args.until.0 stop.Access at = subst (λ (x : Stop). IsStop part w c.args.until.0 x at) c.in-Access.is c.go_on-at.ensures.stops in
     let done : IsDone part w at attempt.Done new = subst (λ (x : Attempt). IsDone part w at x new) c.in-Done.is c.access.ensures.done in
     let rises : at.due < new.due = subst (λ (x : At g.B.TubeBus.State). at.due < x.due) (sym done.1) ((lawful part w g.B.TubeBus.wired).rises at None) in
-    let risen : s.due ≤ at.due = due_rises (moves_of part w) c.args.until.0 c.args.lines.now c.args.sure.0 c.go_on-at.ensures.looks.0 s at (lawful part w g.B.TubeBus.wired) c.go_on-at.ensures.looks.1 in
+    let risen : s.due ≤ at.due = due_rises (moves_of part w) c.args.until.0 c.args.lines.now c.args.sure.0 c.go_on-at.ensures.looks.0 s at
+    (lawful part w g.B.TubeBus.wired) c.go_on-at.ensures.looks.1 in
     omega (arith, rises, left.1, risen)
 
 pub loop-cpu-preserved : goal.loop-cpu-preserved
@@ -101,7 +102,8 @@ returns-in-Full-clause-full g c =
     let all : HasSpent H (w.cycle start.bus) sure first there = spent-on H (w.cycle start.bus) sure first from there c.loop-cpu.invariant.spent on in
     λ _. (
       full.0,
-      λ cmos. cramped (w.cycle start.bus) sure first.due first.room at.due there.room there.seen (all.room (cmos, full.0)) (all.late (cmos, full.0) (max sure first.due) (omega arith) (omega arith)) full.1 (few part at.cpu cmos left.0),
+      λ cmos. cramped (w.cycle start.bus) sure first.due first.room at.due there.room there.seen (all.room (cmos, full.0))
+          (all.late (cmos, full.0) (max sure first.due) (omega arith) (omega arith)) full.1 (few part at.cpu cmos left.0),
     )
 
 pub returns-in-End-clause-ran : goal.returns-in-End-clause-ran

@@ -8,7 +8,8 @@ use Rattle.tube_party.proofs.one_thread.go_on_from.Goals as goal
 pub loop-side-init : goal.loop-side-init
 loop-side-init g c = record {
   way = begins g.H.Party.moves g.P.Party.moves g.met.H.Party.lawful g.met.P.Party.lawful _ _ _ _ _ _ _ _ _ _ _ _ _ _ _ _
-      c.advance-host_ask.ensures c.advance-para_ask.ensures c.note_all-chip.ensures.chip (kept_of c.args.room.host.keep_is c.note_all-chip.ensures.host) (kept_of c.args.room.para.keep_is c.note_all-chip.ensures.para)
+      c.advance-host_ask.ensures c.advance-para_ask.ensures c.note_all-chip.ensures.chip (kept_of c.args.room.host.keep_is c.note_all-chip.ensures.host)
+      (kept_of c.args.room.para.keep_is c.note_all-chip.ensures.para)
       c.note_all-chip.ensures.few.0 c.note_all-chip.ensures.few.1;
   lines = c.lines-lines.ensures;
   host_keep = c.note_all-chip.ensures.keep.0 ∙ c.args.room.host.keep_is;

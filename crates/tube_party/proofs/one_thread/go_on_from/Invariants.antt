@@ -18,4 +18,5 @@ invariant-loop-side g l = record {
 }
 
 abbrev pub decreases-loop-side : goal.decreases-loop-side
-decreases-loop-side g l = ticks_left l.n.0 l.host_ask + rest_of g.H.Party.moves g.P.Party.moves g.met.H.Party.lawful g.met.P.Party.lawful l.n.0 (length l.entries) l.is_ahead (g.P.Party.state (g.P.Rewinds.before l.past l.para)) l.para_ask
+decreases-loop-side g l = ticks_left l.n.0 l.host_ask + rest_of g.H.Party.moves g.P.Party.moves g.met.H.Party.lawful g.met.P.Party.lawful l.n.0 (length l.entries) l.is_ahead
+    (g.P.Party.state (g.P.Rewinds.before l.past l.para)) l.para_ask

@@ -1,4 +1,4 @@
-use Rattle.tube_party.proofs.TapeLemmas.{next_line_here, next_line_past}
+use Rattle.tube_party.proofs.CursorLemmas.{next_line_here, next_line_past}
 use Rattle.tube_party.proofs.replaying.next_line.Goals as goal
 
 pub returns-then-at-trace : goal.returns-then-at-trace

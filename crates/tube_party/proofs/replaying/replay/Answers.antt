@@ -4,8 +4,9 @@ use Rattle.tube_chip.specs.State.{power_on, lines_of}
 use Rattle.tube_chip.specs.Act.{access, look}
 use Rattle.tube_party.specs.Moves.{Moves}
 use Rattle.tube_party.specs.Replay.{Numbered, Ended, replay_of, chip_before, finish_leaves, differs}
-use Rattle.tube_party.specs.CodeTape.{own_left, Takes, Misses}
-use Rattle.tube_party.proofs.ReplayLemmas.{Goes, goes_seeing, goes_end, goes_access, goes_look, goes_differs, RanOut, ran_out, Stands, stands_access, stands_look, asked_for, smaller, earlier, after_look}
+use Rattle.tube_party.specs.CodeCursor.{own_left, Takes, Misses}
+use Rattle.tube_party.proofs.ReplayLemmas.{Goes, goes_seeing, goes_end, goes_access, goes_look, goes_differs, RanOut, ran_out, Stands, stands_access, stands_look, asked_for, smaller}
+use Rattle.tube_party.proofs.ReplayLemmas.{earlier, after_look}
 use Rattle.tube_party.specs.Steps.{due_rises}
 use Rattle.tube_chip.specs.State.{State}
 use Rattle.tube_chip.specs.declared.Lines.{Lines}
@@ -54,7 +55,8 @@ returns-in-Err g c =
 
 pub answer-requires : goal.answer-requires
 answer-requires g c =
-    let stands : Stands g.M.Party.moves c.args.n.0 c.steps.lines (c.sure.result).0 (g.M.Party.state c.steps.machine) (g.M.Party.state c.advance_seeing.new.self) c.in-Access.tick.0 (access c.in-Access.op) =
+    let stands : Stands g.M.Party.moves c.args.n.0 c.steps.lines (c.sure.result).0 (g.M.Party.state c.steps.machine) (g.M.Party.state c.advance_seeing.new.self) c.in-Access.tick.0
+    (access c.in-Access.op) =
     stands_access g.M.Party.moves c.args.n.0 _ _ _ _ c.advance_seeing.result c.in-Access.tick c.in-Access.op c.advance_seeing.ensures c.in-Access.is in
     let low : c.args.n.0 ≤ 1073741824 = c.requires.ticks in
     let below : g.M.Party.moves.due (g.M.Party.state c.advance_seeing.new.self) < c.args.n.0 = stands.below in
@@ -70,7 +72,8 @@ answer-requires-in-Look g c =
 
 pub steps-smaller-in-Ok : goal.steps-smaller-in-Ok
 steps-smaller-in-Ok g c =
-    let stands : Stands g.M.Party.moves c.args.n.0 c.steps.lines (c.sure.result).0 (g.M.Party.state c.steps.machine) (g.M.Party.state c.advance_seeing.new.self) c.in-Access.tick.0 (access c.in-Access.op) =
+    let stands : Stands g.M.Party.moves c.args.n.0 c.steps.lines (c.sure.result).0 (g.M.Party.state c.steps.machine) (g.M.Party.state c.advance_seeing.new.self) c.in-Access.tick.0
+    (access c.in-Access.op) =
     stands_access g.M.Party.moves c.args.n.0 _ _ _ _ c.advance_seeing.result c.in-Access.tick c.in-Access.op c.advance_seeing.ensures c.in-Access.is in
     smaller g.M.Party.moves c.args.n.0 _ _ _ _ _ _ (access c.in-Access.op) g.met.M.Party.lawful stands c.answer.ensures
 

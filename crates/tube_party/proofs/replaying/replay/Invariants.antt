@@ -1,7 +1,7 @@
 use Rattle.std.proofs.Common.{◌≡◌, ◌≤◌, ◌-◌, ℕ, length, drop}
 use Rattle.tube_chip.specs.State.{power_on, lines_of}
 use Rattle.tube_party.specs.Replay.{chip_before, replay_of}
-use Rattle.tube_party.specs.CodeTape.{own_left}
+use Rattle.tube_party.specs.CodeCursor.{own_left}
 use Rattle.tube_party.proofs.ReplayLemmas.{Goes}
 use Rattle.tube_party.proofs.replaying.replay.Given as goal
 

@@ -1,9 +1,9 @@
 use Rattle.std.proofs.Common.{◌∙◌, subst}
-use Rattle.cpu_core.specs.State.{CoreState}
+use Rattle.cpu_core.specs.State.{State}
 use Rattle.cpu_core.specs.CodeTies.{Tied}
 use Rattle.cpu_core.proofs.processor.Core.starting.Goals as goal
 
 pub returns : goal.returns
-returns c =
-    let t : Tied c.args.self.now.part c.self.inside.machine c.args.self.now.state = subst (λ (v : CoreState). Tied v.part c.self.inside.machine v.state) c.self.view_is c.self.invariant.1 in
+returns g c =
+    let t = subst (λ (s : State). Tied g.P.Which.part c.self.inside.progress s) c.self.view_is c.self.invariant.1 in
     c.is_fetch.ensures ∙ t.fetch

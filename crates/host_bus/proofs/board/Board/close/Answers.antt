@@ -19,7 +19,8 @@ loop-next-init c =
     let high : u ≤ b.next = omega arith in
     record {
       valid = valid-later b u valid low high;
-      same = caught (board_seen b) (board_seen (record b { closed = u })) (board_closed c.args.self.now c.args.t) u c.args.t (seen-later b u valid low high) (omega arith) (ap (λ (s : BoardState). board_closed s c.args.t) c.self.view_is);
+      same = caught (board_seen b) (board_seen (record b { closed = u })) (board_closed c.args.self.now c.args.t) u c.args.t
+          (seen-later b u valid low high) (omega arith) (ap (λ (s : BoardState). board_closed s c.args.t) c.self.view_is);
     }
 
 pub loop-next-preserved : goal.loop-next-preserved
@@ -33,10 +34,13 @@ loop-next-preserved c =
     let same : min c.go_on-next.result c.args.t ≡ u = omega arith in
     let here : next ≡ min next c.args.t = omega (arith, c.loop-next-test.true) in
     let past : next ≤ u = omega (arith, c.loop-next-test.true, done.on) in
-    let moved = subst (λ (k : ℕ). moving (drawn b.ram.items b.letters.font c.go_on-next.new.devices) p.shots.frames ≡ ticks (around (board_seen b)) (u - k) k (moving_part (board_seen b))) here done.ticks in
+    let after = drawn b.ram.items b.letters.font c.go_on-next.new.devices in
+    let moved = subst (λ (k : ℕ). moving after p.shots.frames ≡ ticks (around (board_seen b)) (u - k) k (moving_part (board_seen b))) here done.ticks in
+    let with_script : List Event → BoardState =
+    λ script. record (board_seen b) { script = script; breaks = breaks_before b.breaks.place script; devices = after; shots = p.shots.frames; closed = u } in
     let went : board_seen (record b { playback = p; devices = c.go_on-next.new.devices; closed = u }) ≡ board_closed (board_seen b) u =
-    ap (λ (script : List Event). let s : BoardState = record (board_seen b) { script = script; breaks = breaks_before b.breaks.place script; devices = drawn b.ram.items b.letters.font c.go_on-next.new.devices; shots = p.shots.frames; closed = u } in s) done.script
-    ∙ gone (board_seen b) u (moving (drawn b.ram.items b.letters.font c.go_on-next.new.devices) p.shots.frames) (omega (arith, past, here)) moved in
+    ap (λ (script : List Event). with_script script) done.script
+    ∙ gone (board_seen b) u (moving after p.shots.frames) (omega (arith, past, here)) moved in
     rw same (record {
       valid = record {
         memory = valid.memory;
@@ -48,7 +52,8 @@ loop-next-preserved c =
         next_break = subst (λ (script : List Event). IsNextBreak b.breaks script) (sym done.script) valid.next_break;
         in_time = in-time-later (micro b.clock) b.closed u b.sound valid.in_time (omega (arith, past, here));
       };
-      same = caught (board_seen b) (board_seen (record b { playback = p; devices = c.go_on-next.new.devices; closed = u })) (board_closed c.args.self.now c.args.t) u c.args.t went (omega arith) c.loop-next.invariant.same;
+      same = caught (board_seen b) (board_seen (record b { playback = p; devices = c.go_on-next.new.devices; closed = u }))
+          (board_closed c.args.self.now c.args.t) u c.args.t went (omega arith) c.loop-next.invariant.same;
     })
 
 pub invariant_of-self : goal.invariant_of-self

@@ -15,9 +15,11 @@ returns-clause-answer c = λ t at.
     let b = c.self.inside in
     let p = b.playback in
     let closed : b.closed ≡ t + 1 = ap (λ (s : BoardState). s.closed) c.self.view_is ∙ at in
-    let left : IsLeft made_of false p.script (drop p.place p.script) (keys_of p.keys) (t + 1) = subst (λ (n : ℕ). IsLeft made_of false p.script (drop p.place p.script) (keys_of p.keys) n) closed c.self.invariant.played.is_left in
+    let left : IsLeft made_of false p.script (drop p.place p.script) (keys_of p.keys) (t + 1) =
+    subst (λ (n : ℕ). IsLeft made_of false p.script (drop p.place p.script) (keys_of p.keys) n) closed c.self.invariant.played.is_left in
     c.read.ensures.answer
     ∙ ap (λ (ram : List ℕ). register_answer c.device_at.result c.args.at (keys_of p.keys) (drawn ram b.letters.font b.devices)) c.deref.ensures.value
-    ∙ ap (λ (f : Keys). register_answer c.device_at.result c.args.at f (board_seen b).devices) (keys-are p.script (drop p.place p.script) (keys_of p.keys) t p.event left c.self.invariant.played.later (omega (arith, closed, c.self.invariant.played.early)))
+    ∙ ap (λ (f : Keys). register_answer c.device_at.result c.args.at f (board_seen b).devices)
+    (keys-are p.script (drop p.place p.script) (keys_of p.keys) t p.event left c.self.invariant.played.later (omega (arith, closed, c.self.invariant.played.early)))
     ∙ ap (λ (place : Place). answer_at place (board_seen b) t c.args.at) (sym c.device_at.ensures)
     ∙ ap (λ (s : BoardState). answer_at (place_of c.args.at) s t c.args.at) c.self.view_is

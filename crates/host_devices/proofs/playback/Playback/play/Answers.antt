@@ -11,7 +11,8 @@ use Rattle.host_devices.proofs.playback.Playback.play.Goals as goal
 pub happen-requires-clause-later : goal.happen-requires-clause-later
 happen-requires-clause-later c =
     let p = c.args.self.now in
-    subst (λ (events : List Event). NeverFallsFrom c.args.k (drop p.place events)) (sym c.events-events.ensures.events) (not-before p.event c.args.k (drop p.place p.script) c.requires.played.later c.requires.played.early)
+    subst (λ (events : List Event). NeverFallsFrom c.args.k (drop p.place events)) (sym c.events-events.ensures.events)
+    (not-before p.event c.args.k (drop p.place p.script) c.requires.played.later c.requires.played.early)
 
 pub happen-requires-clause-has_left : goal.happen-requires-clause-has_left
 happen-requires-clause-has_left c =

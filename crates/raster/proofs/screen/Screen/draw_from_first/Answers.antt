@@ -8,6 +8,9 @@ use Rattle.raster.proofs.screen.Screen.draw_from_first.Goals as goal
 few : (k put seen n most from clocks : ℕ) → k < put - 1 → put ≤ seen → seen ≤ n → n ≡ min most (from + 1) → from ≡ clocks → k < clocks
 few k put seen n most from clocks a b c d e = omega (arith, a, b, c, d, e)
 
+fits : (put seen n most from clocks to : ℕ) → put ≤ seen → seen ≤ n → n ≡ min most (from + 1) → from ≡ clocks → clocks ≤ to → put - 1 ≤ to
+fits put seen n most from clocks to a b c d e = omega (arith, a, b, c, d, e)
+
 pub returns-clause-behind : goal.returns-clause-behind
 returns-clause-behind c = λ some.
     let s = c.args.self.now in
@@ -23,7 +26,8 @@ returns-clause-behind c = λ some.
       plain = record {
         told = λ k below. told k (few _ _ _ _ _ _ _ below c.put_bytes.ensures.most c.inside-n.ensures.most c.min-n.ensures c.from.ensures);
         cursor = follows.cursor yes;
-        sync = follows.sync yes;
+        sync = λ shown.
+            fits _ _ _ _ _ _ _ c.put_bytes.ensures.most c.inside-n.ensures.most c.min-n.ensures c.from.ensures (c.span-span.ensures.sync shown (follows.sync yes));
         far = c.is_cursor_far.ensures.far c.if-not-is_cursor_far.false;
       };
       shown = follows.shown yes;

@@ -1,10 +1,10 @@
-use Rattle.std.proofs.Common.{◌≡◌, ◌∙◌, sym, ap, subst, ℕ, ◌+◌, ◌*◌, ◌<◌, Bool, replicate, false}
+use Rattle.std.proofs.Common.{◌≡◌, ◌∙◌, sym, ap, subst, ℕ, ◌+◌, ◌*◌, ◌<◌, Bool, replicate, false, arith}
 use Rattle.beeb_bits.specs.Bits.{bit}
 use Rattle.video_ula.specs.Pixels.{dots_of}
 use Rattle.raster.specs.Frame.{dots_set, is_in_frame}
 use Rattle.raster.specs.State.{State}
 use Rattle.raster.specs.CodeSteps.{wide}
-use Rattle.raster.proofs.Spans.{fewer, black_drawn, outside_drawn}
+use Rattle.raster.proofs.Spans.{fewer, black_drawn, bytes_drawn, outside_drawn}
 use Rattle.raster.proofs.screen.Screen.draw_span.Goals as goal
 
 pub returns-then-seen-eq0-clause-drawn : goal.returns-then-seen-eq0-clause-drawn
@@ -30,3 +30,13 @@ returns-then-bit-clause-drawn c = λ font.
     ∙ ap (λ (t : State). dots_set 240 t.place.x t.place.y (replicate (n * dots_of s.ula.control) 0) t.working) c.self.view_is in
     ap (λ (t : State). record t { working = c.draw_black.new.self }) c.self.view_is
     ∙ black_drawn c.args.ram.now c.args.size font c.args.span n s c.draw_black.new.self h c.requires.shown c.requires.bits c.requires.counted (sym c.bit.ensures ∙ c.if-bit.true) drawn
+
+pub returns-clause-drawn : goal.returns-clause-drawn
+returns-clause-drawn c = λ font.
+    let s = c.args.self.now in
+    let n = c.put_bytes.result in
+    let put = c.put_bytes.ensures.most in
+    let seen = c.inside-seen.ensures.most in
+    let h = fewer c.args.span n c.args.n s (omega (arith, put, seen)) c.requires.plain in
+    c.put_bytes.ensures.put
+    ∙ bytes_drawn c.args.ram.now c.args.size font c.args.span n s h c.requires.shown c.requires.bits c.requires.counted (sym c.bit.ensures ∙ c.if-bit.false)

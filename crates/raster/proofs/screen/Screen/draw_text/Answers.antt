@@ -26,7 +26,8 @@ returns-clause-drawn c =
     let left = c.draw_cells.ensures.text ∙ ap (λ (part : List ℕ). texts (code_in part bytes.step) bytes.count c.self.inside.text) (rest_of bytes.at ram)
     ∙ ap (λ (t : State). texts (code_in (drop bytes.at ram) bytes.step) bytes.count t.text) c.self.view_is in
     let drawn = c.draw_cells.ensures.drawn
-    ∙ ap (λ (part : List ℕ). dots_set 208 c.self.inside.place.x c.self.inside.place.y (side_by_side (cells font (code_in part bytes.step) span.ra span.fields c.self.inside.text) bytes.count) c.self.inside.working)
+    ∙ ap (λ (part : List ℕ). dots_set 208 c.self.inside.place.x c.self.inside.place.y
+    (side_by_side (cells font (code_in part bytes.step) span.ra span.fields c.self.inside.text) bytes.count) c.self.inside.working)
     (rest_of bytes.at ram)
     ∙ ap (λ (t : State). dots_set 208 t.place.x t.place.y (side_by_side (cells font (code_in (drop bytes.at ram) bytes.step) span.ra span.fields t.text) bytes.count) t.working) c.self.view_is in
     ap (λ (t : State). record t { text = c.draw_cells.new.text; working = c.draw_cells.new.canvas }) c.self.view_is

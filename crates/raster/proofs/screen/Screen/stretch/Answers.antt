@@ -1,5 +1,5 @@
 use Rattle.std.proofs.Common.{◌≡◌, ◌∙◌, sym, ap, subst, ℕ, ◌<◌, ◌≤◌, min, arith}
-use Rattle.crtc6845.specs.Clock.{starts_line, ends_line}
+use Rattle.crtc6845.specs.Clock.{starts_line}
 use Rattle.crtc6845.specs.Spans.{inside_clocks}
 use Rattle.raster.specs.State.{State}
 use Rattle.raster.specs.Clock.{char_clock_leaves}
@@ -10,17 +10,12 @@ use Rattle.raster.proofs.screen.Screen.stretch.Goals as goal
 below : (n most left all clocks inside : ℕ) → n ≤ most → most ≡ min left all → all ≡ clocks → clocks ≤ inside → n ≤ inside
 below n most left all clocks inside a b c d = omega (arith, a, b, c, d)
 
-pub clock_inside-requires-clause-inside : goal.clock_inside-requires-clause-inside
-clock_inside-requires-clause-inside c =
-    let same = c.draw_some-n.ensures.drawn in
-    (ap (λ (t : State). starts_line t.crtc) same ∙ c.requires.start, ap (λ (t : State). ends_line t.crtc) same ∙ c.requires.end)
-
 pub returns-then-n-eq0-clause-state : goal.returns-then-n-eq0-clause-state
 returns-then-n-eq0-clause-state c =
     let font = c.args.font.now.font in
     let s = c.args.self.now in
     let same : c.draw_some-n.new.self ≡ s = c.draw_some-n.ensures.drawn ∙ ap (λ (k : ℕ). drawn_ahead c.args.ram.now c.args.size font k s) c.if-n-eq0.true in
-    c.clock_inside.ensures ∙ ap (λ (t : State). char_clock_leaves c.args.ram.now c.args.size font t) same
+    c.clock.ensures.state ∙ ap (λ (t : State). char_clock_leaves c.args.ram.now c.args.size font t) same
 
 pub pass_span-requires-clause-start : goal.pass_span-requires-clause-start
 pass_span-requires-clause-start c = ap (λ (t : State). starts_line t.crtc) (c.draw_some-n.ensures.drawn) ∙ c.requires.start

@@ -26,4 +26,5 @@ pub returns : goal.returns
 returns g c =
     let v = cell_view c.pass.inside.seat in
     let w = cell_view c.load-found.new.seat in
-    learned _ _ c.pass.inside.side c.pass.inside.words c.load-found.result c.pass.inside.local c.args.pass.now v w c.pass.view_is c.pass.invariant.0 c.load-found.ensures.cell.0 c.load-found.ensures.rule
+    learned _ _ c.pass.inside.side c.pass.inside.words c.load-found.result c.pass.inside.local c.args.pass.now v w c.pass.view_is c.pass.invariant.0
+    c.load-found.ensures.cell.0 c.load-found.ensures.rule

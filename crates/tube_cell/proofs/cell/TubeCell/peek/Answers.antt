@@ -10,4 +10,5 @@ use Rattle.tube_cell.proofs.cell.TubeCell.peek.Goals as goal
 pub returns-clause-byte : goal.returns-clause-byte
 returns-clause-byte c =
     c.peek.ensures.byte
-    ∙ ap (λ (d : State). answer_of d Para (Read c.args.number)) (here_of _ c.pass.inside.side c.pass.inside.words c.pass.inside.local c.args.pass.now (cell_view c.pass.inside.seat) c.pass.view_is c.pass.invariant.0)
+    ∙ ap (λ (d : State). answer_of d Para (Read c.args.number)) (here_of _ c.pass.inside.side c.pass.inside.words c.pass.inside.local c.args.pass.now
+    (cell_view c.pass.inside.seat) c.pass.view_is c.pass.invariant.0)

@@ -20,7 +20,8 @@ invariant_of-pass g c =
 
 pub returns-in-Ok-clause-entrusted : goal.returns-in-Ok-clause-entrusted
 returns-in-Ok-clause-entrusted g c = λ _.
-    is_both _ _ c.pass.inside.side c.pass.inside.words c.pass.inside.local c.args.pass.now (cell_view c.pass.inside.seat) (cell_view c.publish_and_entrust_at-told.new.seat) g.D.Deeds.events c.args.h.0 c.args.t.0
+    is_both _ _ c.pass.inside.side c.pass.inside.words c.pass.inside.local c.args.pass.now (cell_view c.pass.inside.seat)
+    (cell_view c.publish_and_entrust_at-told.new.seat) g.D.Deeds.events c.args.h.0 c.args.t.0
     c.pass.view_is c.pass.invariant.0 c.requires.side c.publish_and_entrust_at-told.ensures.cell.0 c.in-Ok.ensures.told
 
 pub returns-in-Ok-clause-horizon : goal.returns-in-Ok-clause-horizon

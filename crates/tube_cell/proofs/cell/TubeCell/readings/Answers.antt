@@ -5,4 +5,6 @@ use Rattle.tube_cell.proofs.Acts.{here_of}
 use Rattle.tube_cell.proofs.cell.TubeCell.readings.Goals as goal
 
 pub returns-clause-readings : goal.returns-clause-readings
-returns-clause-readings c = c.readings_of.ensures.readings ∙ ap readings_of (here_of _ c.pass.inside.side c.pass.inside.words c.pass.inside.local c.args.pass.now (cell_view c.pass.inside.seat) c.pass.view_is c.pass.invariant.0)
+returns-clause-readings c = c.readings_of.ensures.readings ∙ ap readings_of
+    (here_of _ c.pass.inside.side c.pass.inside.words c.pass.inside.local c.args.pass.now
+    (cell_view c.pass.inside.seat) c.pass.view_is c.pass.invariant.0)

@@ -21,4 +21,5 @@ loop-tick-smaller g c =
 
 pub loop-tick-preserved : goal.loop-tick-preserved
 loop-tick-preserved g c =
-    sees_one_more g.Self.Party.moves c.args.until.0 c.args.lines.now c.args.sure.0 _ _ _ _ _ c.in-Look.tick c.loop-tick.invariant c.advance.ensures c.in-Look.is (omega (arith, c.if-sure-tick.false)) c.answer.ensures
+    sees_one_more g.Self.Party.moves c.args.until.0 c.args.lines.now c.args.sure.0 _ _ _ _ _ c.in-Look.tick c.loop-tick.invariant c.advance.ensures c.in-Look.is
+    (omega (arith, c.if-sure-tick.false)) c.answer.ensures

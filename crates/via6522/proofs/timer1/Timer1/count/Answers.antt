@@ -7,7 +7,14 @@ use Rattle.via6522.proofs.timer1.Timer1.count.Goals as goal
 
 pub returns-then-n-counter-clause-timer : goal.returns-then-n-counter-clause-timer
 returns-then-n-counter-clause-timer c =
-    let t : Timer1 = record { counter = c.self.inside.counter; latch_low = c.self.inside.latch_low; latch_high = c.self.inside.latch_high; reload = c.self.inside.reload; armed = c.self.inside.armed } in
+    let t : Timer1 = record {
+      counter = c.self.inside.counter;
+      latch_low = c.self.inside.latch_low;
+      latch_high = c.self.inside.latch_high;
+      reload =
+          c.self.inside.reload;
+      armed = c.self.inside.armed;
+    } in
     let loaded : t.reload ≡ false = ap (λ (u : Timer1). u.reload) c.self.view_is ∙ c.requires in
     let small : t.counter < 65536 = omega arith in
     let inside : c.args.n ≤ t.counter = omega arith in
@@ -15,7 +22,14 @@ returns-then-n-counter-clause-timer c =
 
 pub returns-then-n-counter-clause-flag : goal.returns-then-n-counter-clause-flag
 returns-then-n-counter-clause-flag c =
-    let t : Timer1 = record { counter = c.self.inside.counter; latch_low = c.self.inside.latch_low; latch_high = c.self.inside.latch_high; reload = c.self.inside.reload; armed = c.self.inside.armed } in
+    let t : Timer1 = record {
+      counter = c.self.inside.counter;
+      latch_low = c.self.inside.latch_low;
+      latch_high = c.self.inside.latch_high;
+      reload =
+          c.self.inside.reload;
+      armed = c.self.inside.armed;
+    } in
     let loaded : t.reload ≡ false = ap (λ (u : Timer1). u.reload) c.self.view_is ∙ c.requires in
     let small : t.counter < 65536 = omega arith in
     let inside : c.args.n ≤ t.counter = omega arith in
@@ -23,7 +37,14 @@ returns-then-n-counter-clause-flag c =
 
 pub returns-then-runs_free-clause-timer : goal.returns-then-runs_free-clause-timer
 returns-then-runs_free-clause-timer c =
-    let t : Timer1 = record { counter = c.self.inside.counter; latch_low = c.self.inside.latch_low; latch_high = c.self.inside.latch_high; reload = c.self.inside.reload; armed = c.self.inside.armed } in
+    let t : Timer1 = record {
+      counter = c.self.inside.counter;
+      latch_low = c.self.inside.latch_low;
+      latch_high = c.self.inside.latch_high;
+      reload =
+          c.self.inside.reload;
+      armed = c.self.inside.armed;
+    } in
     let loaded : t.reload ≡ false = ap (λ (u : Timer1). u.reload) c.self.view_is ∙ c.requires in
     let small : t.counter < 65536 = omega arith in
     let over : t.counter < c.args.n = omega arith in
@@ -34,7 +55,14 @@ returns-then-runs_free-clause-timer c =
 
 pub returns-then-runs_free-clause-flag : goal.returns-then-runs_free-clause-flag
 returns-then-runs_free-clause-flag c =
-    let t : Timer1 = record { counter = c.self.inside.counter; latch_low = c.self.inside.latch_low; latch_high = c.self.inside.latch_high; reload = c.self.inside.reload; armed = c.self.inside.armed } in
+    let t : Timer1 = record {
+      counter = c.self.inside.counter;
+      latch_low = c.self.inside.latch_low;
+      latch_high = c.self.inside.latch_high;
+      reload =
+          c.self.inside.reload;
+      armed = c.self.inside.armed;
+    } in
     let loaded : t.reload ≡ false = ap (λ (u : Timer1). u.reload) c.self.view_is ∙ c.requires in
     let small : t.counter < 65536 = omega arith in
     let over : t.counter < c.args.n = omega arith in
@@ -42,7 +70,14 @@ returns-then-runs_free-clause-flag c =
 
 pub returns-clause-timer : goal.returns-clause-timer
 returns-clause-timer c =
-    let t : Timer1 = record { counter = c.self.inside.counter; latch_low = c.self.inside.latch_low; latch_high = c.self.inside.latch_high; reload = c.self.inside.reload; armed = c.self.inside.armed } in
+    let t : Timer1 = record {
+      counter = c.self.inside.counter;
+      latch_low = c.self.inside.latch_low;
+      latch_high = c.self.inside.latch_high;
+      reload =
+          c.self.inside.reload;
+      armed = c.self.inside.armed;
+    } in
     let loaded : t.reload ≡ false = ap (λ (u : Timer1). u.reload) c.self.view_is ∙ c.requires in
     let small : t.counter < 65536 = omega arith in
     let over : t.counter < c.args.n = omega arith in
@@ -50,7 +85,14 @@ returns-clause-timer c =
 
 pub returns-clause-flag : goal.returns-clause-flag
 returns-clause-flag c =
-    let t : Timer1 = record { counter = c.self.inside.counter; latch_low = c.self.inside.latch_low; latch_high = c.self.inside.latch_high; reload = c.self.inside.reload; armed = c.self.inside.armed } in
+    let t : Timer1 = record {
+      counter = c.self.inside.counter;
+      latch_low = c.self.inside.latch_low;
+      latch_high = c.self.inside.latch_high;
+      reload =
+          c.self.inside.reload;
+      armed = c.self.inside.armed;
+    } in
     let loaded : t.reload ≡ false = ap (λ (u : Timer1). u.reload) c.self.view_is ∙ c.requires in
     let small : t.counter < 65536 = omega arith in
     let over : t.counter < c.args.n = omega arith in

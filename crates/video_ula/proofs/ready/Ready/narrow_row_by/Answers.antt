@@ -23,4 +23,5 @@ loop-i-preserved c =
 pub loop-k-preserved : goal.loop-k-preserved
 loop-k-preserved c =
     let k = c.loop-k.k in
-    row_more (λ k. eight_at c.args.self.now.first (slice_index c.args.bytes.now (k * c.args.step))) k (8 * k) _ (8 * (k + 1)) c.loop-k.to _ c.loop-k.invariant (omega arith) (c.put_eight.ensures ∙ c.first-eight.ensures.dots) (omega arith)
+    row_more (λ k. eight_at c.args.self.now.first (slice_index c.args.bytes.now (k * c.args.step))) k (8 * k) _
+    (8 * (k + 1)) c.loop-k.to _ c.loop-k.invariant (omega arith) (c.put_eight.ensures ∙ c.first-eight.ensures.dots) (omega arith)

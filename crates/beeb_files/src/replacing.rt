@@ -1,0 +1,105 @@
+//! A file that is replaced whole or not at all.
+ghost use Rattle.std.specs.Prelude.{◌<◌};
+
+use std::fs::{Metadata, OpenFile, OpenOptions};
+use std::io::{ErrorKind, Write};
+use std::os::unix::fs::MetadataExt;
+use std::rt::Files;
+use std::{fs, io};
+
+/// The longest name that is asked for, in bytes.
+const LONGEST: usize = 4_096;
+
+/// What is added to a name for the file beside it, before a digit.
+const ADDED: &[u8] = b".new";
+
+/// How many names beside one are tried. A run that was ended in the midst of writing leaves its file there.
+const TRIES: u8 = 10;
+
+// The name with what is added to it, in this room; none where it is too long.
+fn name_beside<'a>(name: &str, n: u8, room: &'a mut [u8; LONGEST]) -> Option<&'a str>
+    requires { n < 10 }
+{
+    let len = name.len();
+    if len > LONGEST - 5 {
+        return None;
+    }
+    room[..len].copy_from_slice(name.as_bytes());
+    room[len..len + 4].copy_from_slice(ADDED);
+    room[len + 4] = b'0' + n;
+    str::from_utf8(&room[..len + 5]).ok()
+}
+
+// Whether what stands under the name can be replaced: nothing, or a plain file that has this one name and may be written.
+fn may_be_replaced<R: Files>(rt: &R, name: &str, there: &io::Result<Metadata>) -> bool {
+    match there {
+        Ok(there) => there.is_file()
+            && there.nlink() == 1
+            && OpenOptions::new().write(true).open(rt, name).is_ok(),
+        Err(error) => error.kind() == ErrorKind::NotFound,
+    }
+}
+
+// Makes a new file that belongs to whom the one belongs that it is to replace, with the same permissions; or none.
+fn make_beside<R: Files>(rt: &R, name: &str, there: Option<&Metadata>) -> Option<R::File> {
+    let file = OpenOptions::new()
+        .write(true)
+        .create_new(true)
+        .open(rt, name)
+        .ok()?;
+    let alike = match there {
+        None => true,
+        Some(there) => is_owned_alike(&file, there)
+            && file.set_permissions(there.permissions()).is_ok(),
+    };
+    if alike {
+        Some(file)
+    } else {
+        let _ = fs::remove_file(rt, name);
+        None
+    }
+}
+
+fn is_owned_alike<F: OpenFile>(file: &F, there: &Metadata) -> bool {
+    match file.metadata() {
+        Ok(made) => made.uid() == there.uid() && made.gid() == there.gid(),
+        Err(_) => false,
+    }
+}
+
+// Writes the bytes to the file beside, and gives it the name; where either fails, the file goes and what had the name keeps it.
+fn write_and_rename<R: Files>(
+    rt: &R,
+    mut file: R::File,
+    beside: &str,
+    name: &str,
+    bytes: &[u8],
+) -> io::Result<()> {
+    let mut done = file.write_all(bytes);
+    if done.is_ok() {
+        done = fs::rename(rt, beside, name);
+    }
+    if done.is_err() {
+        let _ = fs::remove_file(rt, beside);
+    }
+    done
+}
+
+/// Puts the bytes under the name. They are written to a new file beside, `NAME.new0` or the next digit, which is then renamed: what stood under the
+/// name stands there until all of them are written. A device, a pipe or a link is written as it is, and so is a plain file that has several names, or
+/// beside which no file can be made.
+pub(crate) fn write<R: Files>(rt: &R, name: &str, bytes: &[u8]) -> io::Result<()> {
+    let there = fs::symlink_metadata(rt, name);
+    if may_be_replaced(rt, name, &there) {
+        let mut room = [0; LONGEST];
+        for n in 0..TRIES {
+            let Some(beside) = name_beside(name, n, &mut room) else {
+                break;
+            };
+            if let Some(file) = make_beside(rt, beside, there.as_ref().ok()) {
+                return write_and_rename(rt, file, beside, name, bytes);
+            }
+        }
+    }
+    fs::write(rt, name, bytes)
+}

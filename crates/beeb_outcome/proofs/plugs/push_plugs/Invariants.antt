@@ -1,6 +1,0 @@
-use Rattle.std.proofs.Common.{◌≡◌, ◌≤◌, ◌++◌}
-use Rattle.beeb_outcome.specs.Outputs.{plugs}
-use Rattle.beeb_outcome.proofs.plugs.push_plugs.Given as goal
-
-abbrev pub invariant-loop-number : goal.invariant-loop-number
-invariant-loop-number l = (l.outputs.items ≡ l.initial.outputs.items ++ plugs l.number) × (l.number ≤ l.count)

@@ -1,0 +1,215 @@
+//! The NMOS 6502, by its manuals: each instruction's accesses, and what comes between instructions.
+mod rows;
+
+use cpu_alu::Cycle::{Read, Write};
+use cpu_alu::Regs;
+use cpu6502::{Cpu, cycles_of_the_table, part};
+use op_table::{Part, nmos};
+use rows::ROWS;
+use std::alloc::Global;
+use std::test::Fail;
+
+/// Gives it these bytes, one a cycle, and looks at the lines between, where none asks.
+fn feed(cpu: &mut Cpu, bytes: &[u8]) {
+    for byte in bytes {
+        if cpu.last() {
+            cpu.take_lines(false, false);
+        }
+        if !cpu.last() {
+            cpu.give(*byte);
+        }
+    }
+}
+
+/// The registers before an instruction. LOW: no indexed address crosses a page, and all flags are clear. HIGH: indexed addresses cross pages, the
+/// stack wraps at a push, and all flags but D are set. TOP: addresses wrap, and the stack wraps at a pull. DECIMAL: D and C are set.
+fn before(name: &str) -> Option<Regs> {
+    let (a, x, y, s, p) = match name {
+        "LOW" => (0x5A, 0x23, 0x14, 0xFD, 0x00),
+        "HIGH" => (0xC3, 0x23, 0xE4, 0x00, 0xC7),
+        "TOP" => (0x80, 0xFF, 0xFF, 0xFF, 0x04),
+        "DECIMAL" => (0x58, 0x23, 0x14, 0xFD, 0x09),
+        _ => return None,
+    };
+    let pc = 0x040D;
+    Some(Regs { pc, a, x, y, s, p })
+}
+
+/// A processor that has come to 040D with these registers, or none.
+fn set_up(before: Regs) -> Option<Cpu> {
+    let Regs { a, x, y, s, p, .. } = before;
+    let mut cpu = Cpu::new();
+    // the reset, with its vector
+    feed(&mut cpu, &[0, 0, 0, 0, 0, 0x00, 0x04]);
+    // LDX #s, TXS, LDA #p, PHA
+    feed(&mut cpu, &[0xA2, s, 0x9A, 0, 0xA9, p, 0x48, 0, 0]);
+    // LDX #x, LDY #y, LDA #a, PLP
+    feed(&mut cpu, &[0xA2, x, 0xA0, y, 0xA9, a, 0x28, 0, 0, p]);
+    if cpu.last() && cpu.at_end() == before {
+        Some(cpu)
+    } else {
+        None
+    }
+}
+
+fn registers(alloc: Global, r: Regs) -> Result<String, Fail> {
+    let text = format!(in alloc;
+        "{:04X} {:02X} {:02X} {:02X} {:02X} {:02X}",
+        r.pc, r.a, r.x, r.y, r.s, r.p
+    )?;
+    Ok(text)
+}
+
+/// Whether the next access is this one: a read, whose byte it gets, or a write.
+fn accesses(cpu: &mut Cpu, access: &str) -> Option<bool> {
+    let (at, digits) = access.split_once('=')?;
+    let byte = u8::from_str_radix(digits, 16).ok()?;
+    let (_, at) = at.split_once(if at.starts_with('w') { 'w' } else { 'r' })?;
+    let at = u16::from_str_radix(at, 16).ok()?;
+    if cpu.last() {
+        return None;
+    }
+    if access.starts_with('w') {
+        let is_wanted = cpu.want() == Write(at, byte);
+        cpu.give(0);
+        return Some(is_wanted);
+    }
+    let is_wanted = cpu.want() == Read(at);
+    cpu.give(byte);
+    Some(is_wanted)
+}
+
+/// Whether the sequence that began leaves these registers, and makes these accesses and no more.
+fn goes(alloc: Global, cpu: &mut Cpu, after: &str, list: &str) -> Result<bool, Fail> {
+    for access in list.split(' ') {
+        if accesses(cpu, access) != Some(true) {
+            return Ok(false);
+        }
+    }
+    if cpu.starting() {
+        return Ok(false);
+    }
+    if !cpu.last() {
+        return Ok(false);
+    }
+    Ok(registers(alloc, cpu.at_end())?.as_str() == after)
+}
+
+/// Whether an instruction goes as its line says.
+fn is_right(alloc: Global, line: &str) -> Result<bool, Fail> {
+    let (name, rest) = line.split_once('@').unwrap_or((line, ""));
+    let (after, list) = rest.split_once('@').unwrap_or((rest, ""));
+    let Some(before) = before(name) else {
+        return Ok(false);
+    };
+    let Some(mut cpu) = set_up(before) else {
+        return Ok(false);
+    };
+    if cpu.last() {
+        cpu.take_lines(false, false);
+    }
+    let starts = cpu.starting() && cpu.at_start() == before;
+    Ok(goes(alloc, &mut cpu, after, list)? && starts)
+}
+
+#[test]
+fn instructions_make_the_accesses_of_the_manual(rt: HostRuntime) -> Result<(), Fail> {
+    for line in ROWS.lines() {
+        assert!(rt; is_right(rt.alloc(), line)?, "{line}");
+    }
+    Ok(())
+}
+
+/// Whether an opcode is read again and again, and nothing else done, until a reset.
+fn halts(op: u8) -> bool {
+    let Some(low) = before("LOW") else {
+        return false;
+    };
+    let Some(mut cpu) = set_up(low) else {
+        return false;
+    };
+    let mut is_right = true;
+    for cycle in 0..12u8 {
+        is_right = is_right && cpu.halted() == (cycle > 0);
+        if cpu.last() {
+            cpu.take_lines(false, false);
+        }
+        is_right = is_right && cpu.starting() == (cycle == 0) && !cpu.last();
+        if !cpu.last() {
+            is_right = is_right && cpu.want() == Read(0x040D);
+            cpu.give(op);
+        }
+    }
+    is_right = is_right && cpu.at_start() == low && cpu.halted();
+    if cpu.halted() {
+        is_right = is_right && cpu.at_end() == low;
+        cpu.begin_reset();
+    }
+    is_right && !cpu.halted()
+}
+
+#[test]
+fn all_other_opcodes_halt(rt: HostRuntime) {
+    cycles_of_the_table();
+    assert_eq!(rt; part(), Part::Nmos);
+    let mut halting = 0u16;
+    for op in 0..=255u8 {
+        if nmos(op).is_none() {
+            halting = halting.saturating_add(1);
+            assert!(rt; halts(op), "{op}");
+        }
+    }
+    assert_eq!(rt; halting, 105);
+}
+
+/// A line is what the lines ask at a look; behind `@` PC, A, X, Y, S and P after the sequence that begins, and behind another its accesses.
+const LOOKS: &str = "\
+# NMI comes before IRQ, and whatever I is.
+nmi irq@1234 00 00 00 FA 04@rC000=00 rC000=00 w01FD=C0 w01FC=00 w01FB=24 rFFFA=34 rFFFB=12
+# SED and CLI: I holds IRQ back until CLI is done.
+- irq@1235 00 00 00 FA 0C@r1234=F8 r1235=58
+- irq@1236 00 00 00 FA 08@r1235=58 r1236=00
+# IRQ, after which D stands as before
+- irq@5678 00 00 00 F7 0C@r1236=00 r1236=00 w01FA=12 w01F9=36 w01F8=28 rFFFE=78 rFFFF=56
+# RTI leaves the bits 4 and 5 of the pulled flags out.
+- -@1236 00 00 00 FA 08@r5678=40 r5679=00 r01F7=00 r01F8=38 r01F9=36 r01FA=12
+# BRK pushes the address two above its own, and bit 4 beside the flags.
+- -@C000 00 00 00 F7 0C@r1236=00 r1237=00 w01FA=12 w01F9=38 w01F8=38 rFFFE=00 rFFFF=C0
+# JMP (&10FF) takes the high byte from 1000.
+- -@1234 00 00 00 F7 0C@rC000=6C rC001=FF rC002=10 r10FF=34 r1000=12
+# LDA #&99, CLC, SED, ADC #&01
+- -@1236 99 00 00 F7 8C@r1234=A9 r1235=99
+- -@1237 99 00 00 F7 8C@r1236=18 r1237=F8
+- -@1238 99 00 00 F7 8C@r1237=F8 r1238=69
+- -@123A 00 00 00 F7 8D@r1238=69 r1239=01
+# A reset keeps the registers but S, which goes down by three, and I.
+reset@C000 00 00 00 F4 8D@r123A=00 r123A=00 r01F7=00 r01F6=00 r01F5=00 rFFFC=00 rFFFD=C0
+";
+
+/// Begins the sequence of a line's beginning.
+fn begin(cpu: &mut Cpu, head: &str) {
+    if cpu.last() {
+        match head {
+            "reset" => cpu.begin_reset(),
+            "nmi irq" => cpu.take_lines(true, true),
+            _ => cpu.take_lines(false, head == "- irq"),
+        }
+    }
+}
+
+#[test]
+fn nmi_comes_before_irq_and_a_reset_keeps_the_registers(rt: HostRuntime) -> Result<(), Fail> {
+    let mut cpu = Cpu::new();
+    let start = registers(rt.alloc(), cpu.at_start())?;
+    assert!(rt; start.as_str() == "0000 00 00 00 00 00" && !cpu.starting());
+    let reset = "r0000=00 r0000=00 r0100=00 r01FF=00 r01FE=00 rFFFC=00 rFFFD=C0";
+    assert!(rt; goes(rt.alloc(), &mut cpu, "C000 00 00 00 FD 04", reset)?);
+    for line in LOOKS.lines() {
+        if let Some((head, rest)) = line.split_once('@') {
+            let (after, list) = rest.split_once('@').unwrap_or((rest, ""));
+            begin(&mut cpu, head);
+            assert!(rt; goes(rt.alloc(), &mut cpu, after, list)?, "{line}");
+        }
+    }
+    Ok(())
+}

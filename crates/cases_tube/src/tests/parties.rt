@@ -1,0 +1,393 @@
+//! A party of two kinds of step, against traces that fit it and traces that don't, and beside another at one chip.
+
+ghost use Rattle.std.specs.Prelude.{◌≡◌};
+
+use beeb_bits::{Side, Tick};
+use std::alloc::{AllocError, Global};
+use std::test::Fail;
+use std::vec::Vec;
+use tube_chip::{Chip, Op};
+use tube_party::{
+    Answer, Ask, Doing, Forward, MOST, Party, legal_merge_is_reference, party_goes_on,
+    reference_is_followed, reference_is_replayed, reference_is_trace, replay, replay_is_following,
+    solo,
+};
+use tube_trace::read;
+
+/// Looks at tick 5 and every 10 ticks, and reads register 0 five ticks after each look.
+#[derive(Drop)]
+pub struct Probe {
+    pub(crate) due: u64,
+    looks: bool,
+    // How far it is closed, in ticks before the next step.
+    pub(crate) lag: u64,
+    last: Option<Answer>,
+}
+
+impl Party for Probe {
+    ghost use Rattle.std.specs.Prelude.{◌+◌, ◌-◌, not, true, false, Some, refl, if◌then◌else◌};
+    ghost use Rattle.std.proofs.Common.{arith};
+    ghost use Rattle.tube_party.specs.Moves.{MayAsk};
+    ghost use Rattle.cases_tube.specs.declared.tests.parties.Probe.{Probe};
+    ghost use Rattle.tube_chip.specs.declared.Op.TheVariants as op;
+    ghost use Rattle.tube_chip.specs.Act.{access, look};
+
+    ghost State = { Probe };
+
+    ghost state = { λ m. m };
+
+    ghost moves = { record {
+      due = λ s. s.due;
+      asks = λ s. if s.looks then Some look else Some (access (op.Read 0));
+      next = λ s a. record { due = s.due + 5; looks = not s.looks; lag = 4; last = a };
+      closed = λ s. s.due - s.lag;
+      close = λ s t. record s { lag = s.due - t };
+    } };
+
+    ghost plays = { λ side. true };
+
+    ghost lawful = { record {
+      rises = λ s a. omega arith;
+      within = λ s. omega arith;
+      closing = λ s t low high. record { closed = omega arith; due = refl; asks = refl; next = λ a. refl; again = λ u low2 high2. refl };
+    } };
+
+    ghost permitted = { λ s side plays. elim s.looks as (λ looks. MayAsk side (if looks then Some look else Some (access (op.Read 0)))) [ true ↦ tt | false ↦ omega arith ] };
+
+    fn due(&self) -> Tick {
+        Tick(self.due)
+    }
+
+    fn advance(&mut self, until: Tick) -> Ask {
+        if self.due < until.0 {
+            if self.looks {
+                return Ask::Look(Tick(self.due));
+            }
+            return Ask::Access(Tick(self.due), Op::Read(0));
+        }
+        self.lag = self.lag.min(self.due - until.0);
+        Ask::Nothing
+    }
+
+    fn answer(&mut self, answer: Answer) {
+        self.last = Some(answer);
+        self.looks = !self.looks;
+        self.lag = 4;
+        self.due += 5;
+    }
+}
+
+pub(crate) fn at_power_on() -> Probe
+    ensures { (result.due ≡ 5) × (result.lag ≡ 5) }
+{
+    Probe {
+        due: 5,
+        looks: true,
+        lag: 5,
+        last: None,
+    }
+}
+
+// A line is the ticks of a replay, the line of the place at which it differs, or `-`, and the tick of the read that the party does there, or `-`;
+// the tick of the step at which it stands; and behind `@` the trace, in which `;` ends a line.
+const REPLAYS: &str = "\
+# Each read fits.
+30 - - 30@000000000A P R 0 01;0000000014 P R 0 02;
+# Entries from the end of the replay on are not asked for, and neither are the other side's.
+20 - - 20@000000000A P R 0 01;0000000014 P R 0 02;
+20 - - 20@0000000003 H W 0 01;000000000A P R 0 01;
+10 - - 10@
+0 - - 5@
+# An entry of another register, of another kind, and at another tick.
+30 2 20 20@000000000A P R 0 01;0000000014 P R 1 00;
+30 2 20 20@000000000A P R 0 01;0000000014 P W 0 00;
+30 3 20 20@000000000A P R 0 01;000000000F H W 0 00;0000000015 P R 0 00;
+30 1 10 10@0000000009 P R 0 01;
+# No entry where the party reads.
+30 2 20 20@000000000A P R 0 01;
+30 2 10 10@0000000003 H W 0 01;
+# An entry where the party does nothing more.
+15 3 - 15@0000000003 H W 0 01;000000000A P R 0 01;000000000B P R 0 02;
+";
+
+// The text of a trace, in which `;` ends a line.
+fn text_of(alloc: Global, trace: &str) -> Result<Vec<u8>, AllocError> {
+    let mut text = trace.as_bytes().to_vec(alloc)?;
+    for byte in text.iter_mut() {
+        if *byte == b';' {
+            *byte = b'\n';
+        }
+    }
+    Ok(text)
+}
+
+fn read_at(digits: &str) -> Option<Doing> {
+    Some(Doing {
+        tick: Tick(digits.parse().ok()?),
+        side: Side::Para,
+        op: Op::Read(0),
+    })
+}
+
+// The ticks of a line's replay, its place, and where the party stands.
+fn replay_of(head: &str) -> Option<(u16, Option<(u64, Option<Doing>)>, u64)> {
+    let mut words = head.split(' ');
+    let ticks = words.next()?.parse().ok()?;
+    let place = words.next()?.parse().ok();
+    let doing = read_at(words.next()?);
+    let due = words.next()?.parse().ok()?;
+    Some((ticks, place.map(|line| (line, doing)), due))
+}
+
+#[test]
+fn the_first_place_that_differs_is_told(rt: HostRuntime) -> Result<(), Fail> {
+    for line in REPLAYS.lines() {
+        if let Some((head, trace)) = line.split_once('@') {
+            let entries = read(rt.alloc(), &text_of(rt.alloc(), trace)?)?.entries;
+            let (ticks, place, due) = replay_of(head).unwrap_or((0, None, 0));
+            let n = Tick(u64::from(ticks));
+            let (party, found) = replay(at_power_on(), Side::Para, &entries, n);
+            assert!(rt; found == place && party.due == due, "{line}");
+        }
+    }
+    Ok(())
+}
+
+#[test]
+fn a_look_sees_the_entries_before_it(rt: HostRuntime) -> Result<(), Fail> {
+    // The side of the party, the trace, the place of its side's first entry, which the party has not made, the resets and the host's
+    // IRQ line that the look at tick 5 sees.
+    let rows: [(Side, &str, Option<u64>, u32, bool); 10] = [
+        (Side::Para, "", None, 0, false),
+        // P is set and cleared again: one reset. What the host does at the tick of the look comes before it, and what it does later
+        // doesn't.
+        (
+            Side::Para,
+            "0000000004 H W 0 A0\n0000000005 H W 0 20\n",
+            None,
+            1,
+            false,
+        ),
+        (Side::Para, "0000000005 H W 0 A0\n", None, 1, false),
+        (Side::Para, "0000000006 H W 0 A0\n", None, 0, false),
+        (
+            Side::Para,
+            "0000000001 H W 0 A0\n0000000002 H W 0 20\n0000000003 H W 0 A0\n0000000004 H W 0 20\n",
+            None,
+            2,
+            false,
+        ),
+        // Entries of its own side that it has not made are seen too: those before the look, and no others.
+        (
+            Side::Para,
+            "0000000001 H W 0 81\n0000000004 P W 7 41\n",
+            Some(2),
+            0,
+            true,
+        ),
+        (
+            Side::Para,
+            "0000000001 H W 0 81\n0000000005 P W 7 41\n",
+            Some(2),
+            0,
+            false,
+        ),
+        (
+            Side::Para,
+            "0000000001 H W 0 81\n0000000004 P W 7 41\n0000000005 H W 0 A0\n",
+            Some(2),
+            1,
+            true,
+        ),
+        (Side::Host, "0000000004 H W 0 A0\n", Some(1), 1, false),
+        (Side::Host, "0000000005 H W 0 A0\n", Some(1), 0, false),
+    ];
+    for (side, text, line, resets, hirq) in rows {
+        let entries = read(rt.alloc(), text.as_bytes())?.entries;
+        let (party, place) = replay(at_power_on(), side, &entries, Tick(10));
+        assert_eq!(rt; place, line.map(|line| (line, None)));
+        assert!(rt;
+            match party.last {
+                Some(Answer::Seen(lines)) => lines.resets == resets && lines.hirq == hirq,
+                _ => false,
+            }
+        );
+    }
+    replay_is_following::<Probe>();
+    Ok(())
+}
+
+#[test]
+fn looks_below_a_tick_see_these_lines(rt: HostRuntime) -> Result<(), Fail> {
+    // The end of the run, the tick below which looks are sure, what is asked, and whether the look at tick 5 saw the lines.
+    let rows: [(u8, u8, Ask, bool); 6] = [
+        (30, 5, Ask::Look(Tick(5)), false),
+        (30, 0, Ask::Look(Tick(5)), false),
+        (30, 6, Ask::Access(Tick(10), Op::Read(0)), true),
+        (10, 30, Ask::Nothing, true),
+        (6, 30, Ask::Nothing, true),
+        (5, 30, Ask::Nothing, false),
+    ];
+    let mut chip = Chip::new();
+    // P is set: one reset.
+    let _ = chip.apply(Side::Host, Op::Write(0, 0xa0));
+    let lines = chip.lines();
+    for (until, sure, ask, saw) in rows {
+        let mut party = at_power_on();
+        assert_eq!(rt;
+            party.advance_seeing(Tick(until as u64), &lines, Tick(sure as u64)),
+            ask
+        );
+        assert_eq!(rt; party.due, if saw { 10 } else { 5 });
+        assert!(rt;
+            match party.last {
+                Some(Answer::Seen(seen)) => saw && seen.resets == 1 && seen.prst,
+                _ => !saw,
+            }
+        );
+    }
+    Ok(())
+}
+
+/// Writes to register 1 at tick `due` and every ten ticks, one byte after another, as the host.
+#[derive(Drop)]
+pub struct Writer {
+    pub(crate) due: u64,
+    pub(crate) byte: u8,
+    // How far it is closed, in ticks before the next step.
+    pub(crate) lag: u64,
+}
+
+impl Party for Writer {
+    ghost use Rattle.std.specs.Prelude.{◌+◌, ◌-◌, ◌%◌, Some, refl};
+    ghost use Rattle.std.proofs.Common.{arith};
+    ghost use Rattle.beeb_bits.specs.declared.Side.TheVariants.{Host};
+    ghost use Rattle.tube_chip.specs.Events.{is_side};
+    ghost use Rattle.cases_tube.specs.declared.tests.parties.Writer.{Writer};
+    ghost use Rattle.tube_chip.specs.declared.Op.TheVariants as op;
+    ghost use Rattle.tube_chip.specs.Act.{access};
+
+    ghost State = { Writer };
+
+    ghost state = { λ m. m };
+
+    ghost moves = { record {
+      due = λ s. s.due;
+      asks = λ s. Some (access (op.Write 1 s.byte));
+      next = λ s a. record { due = s.due + 10; byte = (s.byte + 1) % 256; lag = 9 };
+      closed = λ s. s.due - s.lag;
+      close = λ s t. record s { lag = s.due - t };
+    } };
+
+    ghost plays = { is_side Host };
+
+    ghost lawful = { record {
+      rises = λ s a. omega arith;
+      within = λ s. omega arith;
+      closing = λ s t low high. record { closed = omega arith; due = refl; asks = refl; next = λ a. refl; again = λ u low2 high2. refl };
+    } };
+
+    ghost permitted = { λ s side plays. omega arith };
+
+    fn due(&self) -> Tick {
+        Tick(self.due)
+    }
+
+    fn advance(&mut self, until: Tick) -> Ask {
+        if self.due < until.0 {
+            return Ask::Access(Tick(self.due), Op::Write(1, self.byte));
+        }
+        self.lag = self.lag.min(self.due - until.0);
+        Ask::Nothing
+    }
+
+    fn answer(&mut self, _answer: Answer) {
+        self.byte = self.byte.wrapping_add(1);
+        self.lag = 9;
+        self.due += 10;
+    }
+}
+
+#[test]
+fn two_parties_share_one_chip(rt: HostRuntime) -> Result<(), Fail> {
+    // The tick of the writer's first write, the ticks of the run, how many accesses are kept, those of each side as a trace, and their
+    // whole numbers. The probe reads the status of register 1 at ticks 10, 20 and 30; bit 7 says that a byte came.
+    let rows: [(u16, u16, u32, &str, &str, u8, u8); 6] = [
+        // At equal ticks the host's write comes first.
+        (
+            10,
+            36,
+            9,
+            "000000000A H W 1 01\n0000000014 H W 1 02\n000000001E H W 1 03\n",
+            "000000000A P R 0 C0\n0000000014 P R 0 C0\n000000001E P R 0 C0\n",
+            3,
+            3,
+        ),
+        (
+            11,
+            30,
+            9,
+            "000000000B H W 1 01\n0000000015 H W 1 02\n",
+            "000000000A P R 0 40\n0000000014 P R 0 C0\n",
+            2,
+            2,
+        ),
+        (9, 10, 9, "0000000009 H W 1 01\n", "", 1, 0),
+        // Only the first accesses are kept.
+        (
+            10,
+            36,
+            1,
+            "000000000A H W 1 01\n",
+            "000000000A P R 0 C0\n",
+            3,
+            3,
+        ),
+        (10, 36, 0, "", "", 3, 3),
+        (10, 0, 9, "", "", 0, 0),
+    ];
+    for (first, ticks, keep, host_text, para_text, host_count, para_count) in rows {
+        let writer = Writer {
+            due: first as u64,
+            byte: 1,
+            lag: first as u64,
+        };
+        // The probe is never rolled back.
+        let probe = Forward {
+            party: at_power_on(),
+        };
+        let Ok(done) = solo(rt.alloc(), writer, probe, Tick(ticks as u64), keep) else {
+            return Err(Fail::from("no memory"));
+        };
+        assert_eq!(rt;
+            done.host_list,
+            read(rt.alloc(), host_text.as_bytes())?.entries
+        );
+        assert_eq!(rt;
+            done.para_list,
+            read(rt.alloc(), para_text.as_bytes())?.entries
+        );
+        assert_eq!(rt; done.host_count, host_count as u64);
+        assert_eq!(rt; done.para_count, para_count as u64);
+        assert_eq!(rt; done.host.due - done.host.lag, ticks as u64);
+        assert_eq!(rt; done.para.party.due - done.para.party.lag, ticks as u64);
+        // The last byte written is at the chip.
+        let mut chip = done.chip;
+        assert_eq!(rt; chip.apply(Side::Para, Op::Read(1)), host_count);
+        // Both may be run on, since neither is closed past its next step.
+        let due = done.host.due.max(done.para.party.due);
+        if due >= MOST {
+            return Err(Fail::from("too late"));
+        }
+        let Ok(more) = solo(rt.alloc(), done.host, done.para, Tick(due + 1), 0) else {
+            return Err(Fail::from("no memory"));
+        };
+        assert_eq!(rt; (more.host_count, more.para_count), (1, 1));
+    }
+    party_goes_on::<Writer>();
+    legal_merge_is_reference::<Writer, Probe>();
+    reference_is_followed::<Writer, Probe>();
+    reference_is_replayed::<Writer, Probe>();
+    reference_is_trace::<Writer, Probe>();
+    Ok(())
+}

@@ -1,6 +1,0 @@
-pub mod Runs
-pub mod Kept
-pub mod UnderWay
-pub mod Observing
-pub mod Gone
-pub mod OnWay

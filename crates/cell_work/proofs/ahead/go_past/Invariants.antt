@@ -1,5 +1,0 @@
-use Rattle.cell_work.specs.CodeWay.{way_of, outset}
-use Rattle.cell_work.proofs.ahead.go_past.Given as goal
-
-abbrev pub ghosts-go_ahead : goal.ghosts-go_ahead
-ghosts-go_ahead g a = record { way = way_of g.M.Party.moves a.n.0 (outset (g.M.Party.state a.half.now.machine) a.mark.now) }

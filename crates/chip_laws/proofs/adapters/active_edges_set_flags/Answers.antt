@@ -1,5 +1,0 @@
-use Rattle.chip_laws.proofs.Edges.{ca1_sees, ca2_sees, cb1_sees, cb2_sees}
-use Rattle.chip_laws.proofs.adapters.active_edges_set_flags.Goals as goal
-
-pub returns : goal.returns
-returns c = record { ca1 = ca1_sees; ca2 = ca2_sees; cb1 = cb1_sees; cb2 = cb2_sees }

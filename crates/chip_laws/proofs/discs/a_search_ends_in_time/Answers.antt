@@ -1,5 +1,0 @@
-use Rattle.chip_laws.proofs.Search.{search_ends}
-use Rattle.chip_laws.proofs.discs.a_search_ends_in_time.Goals as goal
-
-pub returns : goal.returns
-returns c = search_ends

@@ -1,6 +1,0 @@
-use Rattle.chip_laws.proofs.Reading.{sector_read}
-use Rattle.chip_laws.proofs.WholeReading.{searched_and_read}
-use Rattle.chip_laws.proofs.discs.a_sector_is_read.Goals as goal
-
-pub returns : goal.returns
-returns c = record { sector = sector_read; searched = searched_and_read }

@@ -1,5 +1,0 @@
-use Rattle.chip_laws.proofs.Typing.{all_typed}
-use Rattle.chip_laws.proofs.keys.a_script_is_its_keys_set_in_turn.Goals as goal
-
-pub returns : goal.returns
-returns c = all_typed

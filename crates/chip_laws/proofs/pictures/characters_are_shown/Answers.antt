@@ -1,5 +1,0 @@
-use Rattle.chip_laws.proofs.Rasters.{characters_are_shown}
-use Rattle.chip_laws.proofs.pictures.characters_are_shown.Goals as goal
-
-pub returns : goal.returns
-returns c = characters_are_shown c.lines_have_their_characters.ensures c.frames_have_their_clocks.ensures

@@ -1,5 +1,0 @@
-use Rattle.chip_laws.proofs.CrtcRuns.{registers_have_their_bits, rasters_have_their_bits}
-use Rattle.chip_laws.proofs.pictures.registers_have_their_bits.Goals as goal
-
-pub returns : goal.returns
-returns c = record { chip = registers_have_their_bits; raster = rasters_have_their_bits }

@@ -1,5 +1,0 @@
-use Rattle.chip_laws.proofs.Halves.{both_halves}
-use Rattle.chip_laws.proofs.roms.a_half_rom_stands_twice.Goals as goal
-
-pub returns : goal.returns
-returns c = both_halves

@@ -1,5 +1,0 @@
-use Rattle.chip_laws.proofs.Queueing.{all_queues, all_kept, fifo_kept}
-use Rattle.chip_laws.proofs.tube.registers_are_queues.Goals as goal
-
-pub returns : goal.returns
-returns c = record { all = all_queues; nothing_lost = all_kept; fifo = fifo_kept }

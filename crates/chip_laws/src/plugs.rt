@@ -1,7 +1,0 @@
-//! Devices on the 1 MHz bus.
-ghost use Rattle.chip_laws.specs.Cards.{CardRemembers};
-
-/// A byte of the RAM card is the one that was last written to it, and 00 where none was.
-pub fn a_ram_card_remembers()
-    ensures { CardRemembers }
-{}

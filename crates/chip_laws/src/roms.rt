@@ -1,7 +1,0 @@
-//! Paged ROMs.
-ghost use Rattle.chip_laws.specs.Roms.{HalfRomStandsTwice};
-
-/// A ROM of 8,192 bytes answers the same in both halves of its slot.
-pub fn a_half_rom_stands_twice()
-    ensures { HalfRomStandsTwice }
-{}

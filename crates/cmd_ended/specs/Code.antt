@@ -1,0 +1,47 @@
+-- What the code holds of a run, as the definitions see it.
+use Rattle.std.specs.Prelude.{◌≡◌, ℕ, ◌≤◌, nat_le, List, take, Option, option_map}
+use Rattle.beeb_bits.specs.declared.clock.Clock.{Clock}
+use Rattle.bus_plug.specs.Plug.{Plug}
+use Rattle.tube_party.specs.declared.one_thread.Done.{Done}
+use Rattle.tube_party.specs.OneThread.{IsKept, IsPlayed, played_of}
+use Rattle.tube_party.specs.Reference.{reference, IsTraceBelow}
+use Rattle.beeb_bits.specs.declared.Side.TheVariants as sides
+use Rattle.tube_chip.specs.Events.{Event, of_side}
+use Rattle.tube_trace.specs.declared.Entry.{Entry}
+use Rattle.tube_trace.specs.Entries.{accesses}
+use Rattle.host_mach.specs.declared.machine.HostMachine.{HostMachine}
+use Rattle.host_mach.specs.State.{HostState}
+use Rattle.host_mach.specs.Step.{host_moves}
+use Rattle.host_mach.specs.View.{host_seen}
+use Rattle.para_mach.specs.State.{ParaState}
+use Rattle.para_mach.specs.Step.{para_moves}
+use Rattle.save_state.specs.Saved.{Session}
+use Rattle.save_state.specs.File.{file_of}
+use Rattle.cmd_outcome.specs.Left.{Kept}
+use Rattle.cmd_ended.specs.Save.{saved_of}
+use Rattle.cmd_ended.specs.Kept.{kept_of}
+
+-- both machines were run from these states as the reference run does, and of the accesses of each side the first `keep` were kept
+abbrev pub IsRun : {D : Type 0} → (D → Plug) → HostState → ParaState → ℕ → ℕ → Done (HostMachine D) ParaState → Type 0
+IsRun plug s t n keep d =
+    IsPlayed (reference host_moves para_moves s t n) keep (played_of (host_seen plug) (λ m. m) d)
+
+-- Of a list of events whose accesses are a trace below a tick that a run may have, these are the first accesses of each side.
+pub record AreFirst (n : ℕ) (list : List Event) (keep : ℕ) (host para : List Entry) : Type 0 where
+  pub most : n ≤ 1073741824
+  pub trace : IsTraceBelow n (accesses list)
+  pub host_is : host ≡ take keep (accesses (of_side sides.Host list))
+  pub para_is : para ≡ take keep (accesses (of_side sides.Para list))
+
+-- Of such a list of events two parties kept the first accesses of each side, and counted all.
+pub record AreKept {H P : Type 0} (n : ℕ) (list : List Event) (keep : ℕ) (d : Done H P) : Type 0 where
+  pub most : n ≤ 1073741824
+  pub trace : IsTraceBelow n (accesses list)
+  pub host_kept : IsKept sides.Host list keep d.host_list.items d.host_count
+  pub para_kept : IsKept sides.Para list keep d.para_list.items d.para_count
+
+-- Of a run of so many ticks with this list of events, these are what is kept of its accesses, which are so many in all, and its session file, if it
+-- began so and is to be saved.
+pub record AreFiles (clock : Clock) (begun : Option Session) (n keep tube : ℕ) (list : List Event) (kept : Kept) (saved : Option (List ℕ)) : Type 0 where
+  pub kept_is : kept ≡ kept_of clock (take keep (accesses list))
+  pub saved_is : saved ≡ option_map (λ (b : Session). file_of (saved_of b n (nat_le tube keep) (take keep (accesses list)))) begun

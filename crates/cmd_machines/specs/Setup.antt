@@ -1,0 +1,23 @@
+-- What the words say of the machines.
+use Rattle.std.specs.Prelude.{ℕ, List, take}
+use Rattle.beeb_bits.specs.declared.clock.Clock.{Clock}
+use Rattle.disc_image.specs.declared.Kind.{Kind}
+use Rattle.bus_plug.specs.Plug.{Plug}
+use Rattle.cmd_words.specs.Given.{Values, clock_of, plugs_of}
+use Rattle.cmd_words.specs.Discs.{kinds_of}
+
+pub record Setup : Type 0 where
+  pub clock : Clock
+  -- the kinds of the discs in drive 0 and drive 1
+  pub kinds : Kind × Kind
+  -- how many devices are asked for
+  pub number : ℕ
+  -- the devices that are plugged
+  pub plugs : List Plug
+
+abbrev pub setup : Clock → Kind × Kind → ℕ → List Plug → Setup
+setup clock kinds number plugs = record { clock = clock; kinds = kinds; number = number; plugs = plugs }
+
+-- The devices that are plugged are the first of those that are handed in, as many as the words say, or all if they are fewer.
+abbrev pub setup_of : Values → List Plug → Setup
+setup_of given plugs = setup (clock_of given) (kinds_of given) (plugs_of given) (take (plugs_of given) plugs)

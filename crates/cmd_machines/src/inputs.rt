@@ -1,0 +1,86 @@
+//! The bytes that a command read.
+ghost use Rattle.std.specs.Prelude.{◌≡◌, map, IfOk};
+ghost use Rattle.cmd_stages.specs.View.{seen_input};
+ghost use Rattle.cmd_machines.specs.Inputs.{no_inputs, with_input, inputs_of};
+ghost use Rattle.cmd_machines.specs.View.{seen_inputs};
+
+use cmd_words::Slot;
+use std::alloc::{AllocError, Global};
+
+/// The bytes that a command read, by what they are to it. What has to be there is empty where it wasn't read.
+#[derive(Drop)]
+pub struct Inputs {
+    pub trace: Vec<u8>,
+    pub source: Vec<u8>,
+    pub image: Vec<u8>,
+    pub state: Vec<u8>,
+    pub os: Vec<u8>,
+    pub tube: Vec<u8>,
+    pub roms: Vec<(u8, Vec<u8>)>,
+    pub font: Option<Vec<u8>>,
+    pub disc0: Option<Vec<u8>>,
+    pub disc1: Option<Vec<u8>>,
+    pub keys: Option<Vec<u8>>,
+}
+
+/// What the host is made of: its ROMs and font, the discs of both drives and the key script.
+#[derive(Drop)]
+pub struct HostFiles {
+    pub os: Vec<u8>,
+    pub roms: Vec<(u8, Vec<u8>)>,
+    pub font: Option<Vec<u8>>,
+    pub disc0: Option<Vec<u8>>,
+    pub disc1: Option<Vec<u8>>,
+    pub keys: Option<Vec<u8>>,
+}
+
+impl Inputs {
+    pub fn none(alloc: Global) -> Inputs
+        ensures { seen_inputs result ≡ no_inputs }
+    {
+        Inputs {
+            trace: Vec::new(alloc),
+            source: Vec::new(alloc),
+            image: Vec::new(alloc),
+            state: Vec::new(alloc),
+            os: Vec::new(alloc),
+            tube: Vec::new(alloc),
+            roms: Vec::new(alloc),
+            font: None,
+            disc0: None,
+            disc1: None,
+            keys: None,
+        }
+    }
+
+    fn put(&mut self, slot: Slot, bytes: Vec<u8>) -> Result<(), AllocError>
+        ensures { IfOk result (λ _. seen_inputs self.new ≡ with_input slot bytes.items (seen_inputs self.old)) }
+    {
+        match slot {
+            Slot::Trace => self.trace = bytes,
+            Slot::Source => self.source = bytes,
+            Slot::Image => self.image = bytes,
+            Slot::State => self.state = bytes,
+            Slot::Os => self.os = bytes,
+            Slot::Tube => self.tube = bytes,
+            Slot::Rom(n) => self.roms.push((n, bytes))?,
+            Slot::Font => self.font = Some(bytes),
+            Slot::Disc(0) => self.disc0 = Some(bytes),
+            Slot::Disc(_) => self.disc1 = Some(bytes),
+            Slot::Keys => self.keys = Some(bytes),
+        }
+        Ok(())
+    }
+
+    /// What was read, each in its place.
+    #[tactic(auto, unfolding(crate::specs::Inputs::inputs_of))]
+    pub fn of(alloc: Global, list: Vec<(Slot, Vec<u8>)>) -> Result<Inputs, AllocError>
+        ensures { IfOk result (λ inputs. seen_inputs inputs ≡ inputs_of (map seen_input list.items)) }
+    {
+        let mut inputs = Inputs::none(alloc);
+        for (slot, bytes) in list {
+            inputs.put(slot, bytes)?;
+        }
+        Ok(inputs)
+    }
+}

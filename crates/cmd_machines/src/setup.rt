@@ -1,0 +1,40 @@
+//! What the words say of the machines.
+ghost use Rattle.std.specs.Prelude.{◌≡◌, ◌≤◌, map};
+
+use beeb_bits::Clock;
+use bus_plug::BusDevice;
+use cmd_words::Given;
+use disc_image::Kind;
+
+/// The clock of the machines, the kinds of the discs in drive 0 and drive 1, how many devices are asked for, and the devices that are plugged.
+#[derive(Drop)]
+pub struct Setup<D> {
+    pub clock: Clock,
+    pub kinds: (Kind, Kind),
+    pub number: u8,
+    pub plugs: Vec<D>,
+    ghost most: { number ≤ 8 },
+}
+
+impl<D: BusDevice> Setup<D> {
+    ghost use Rattle.cmd_words.specs.View.{seen_given};
+    ghost use Rattle.cmd_machines.specs.Setup.{setup_of};
+    ghost use Rattle.cmd_machines.specs.View.{seen_setup};
+
+    /// What the options say. Of these devices the first are plugged, as many as the options say, or all if they are fewer; the others are
+    /// dropped.
+    #[tactic(auto, using(crate::proofs::PlugLemmas::first_plugs))]
+    pub fn of(given: &Given<'_>, plugs: Vec<D>) -> Setup<D>
+        ensures { seen_setup D.plug result ≡ setup_of (seen_given given.now) (map D.plug plugs.items) }
+    {
+        let number = given.plugs();
+        let mut plugs = plugs;
+        plugs.truncate(number);
+        Setup {
+            clock: given.clock(),
+            kinds: given.disc_kinds(),
+            number: number as u8,
+            plugs,
+        }
+    }
+}

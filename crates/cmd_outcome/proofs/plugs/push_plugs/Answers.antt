@@ -1,0 +1,6 @@
+use Rattle.std.proofs.Common.{◌≡◌, arith}
+use Rattle.cmd_outcome.proofs.plugs.push_plugs.Goals as goal
+
+pub returns : goal.returns
+returns c =
+    let all : c.loop-number.number ≡ c.args.count = omega (arith, c.loop-number.invariant.1, c.loop-number-test.false) in rw (← all) c.loop-number.invariant.0

@@ -1,0 +1,127 @@
+//! What comes of a command.
+ghost use Rattle.std.specs.Prelude.{◌≡◌, IfOk, Ok, []};
+ghost use Rattle.cmd_status.specs.declared.status.Ending.TheVariants.{Done};
+ghost use Rattle.cmd_outcome.specs.View.{left_seen, names_seen, verdict_of};
+ghost use Rattle.cmd_outcome.specs.Names.{one_name};
+ghost use Rattle.cmd_outcome.specs.Verdicts.{said_verdict, file_verdict, listing_verdict, machine_verdict};
+
+use crate::left::Left;
+use crate::names::Names;
+use crate::output::Output;
+use crate::outputs::machine_outputs;
+use beeb_bits::{Clock, Tick};
+use bus_plug::BusDevice;
+use cmd_status::Ending;
+use std::alloc::{AllocError, Global};
+
+/// What comes of a command: how it ends, its outputs, its text, and what it leaves.
+pub type Outcome<'a, D> = cmd_stages::Outcome<Ending, Output, Left<'a, D>>;
+
+// Bytes under a name, and no machine.
+fn bytes_left<'a, D: BusDevice>(out: &'a str, bytes: Vec<u8>) -> Left<'a, D>
+    ensures name { names_seen result.names ≡ one_name out.now }
+    ensures bytes { result.bytes.items ≡ bytes.items }
+{
+    Left {
+        names: Names {
+            out,
+            wav: None,
+            save: None,
+        },
+        clock: Clock::Three,
+        ticks: Tick(0),
+        tube: 0,
+        host: None,
+        para: None,
+        kept: None,
+        saved: None,
+        bytes,
+    }
+}
+
+/// A text alone.
+pub fn said_outcome<'a, D: BusDevice>(
+    alloc: Global,
+    ending: Ending,
+    said: Vec<u8>,
+) -> Outcome<'a, D>
+    ensures { verdict_of D.plug result ≡ said_verdict ending said.items }
+{
+    cmd_stages::Outcome {
+        ending,
+        outputs: Vec::new(alloc),
+        said,
+        left: bytes_left("", Vec::new(alloc)),
+    }
+}
+
+/// The file of a listing with these bytes, and a text.
+pub fn listing_outcome<'a, D: BusDevice>(
+    alloc: Global,
+    out: &'a str,
+    bytes: Vec<u8>,
+    said: Vec<u8>,
+) -> Result<Outcome<'a, D>, AllocError>
+    ensures { IfOk result (λ outcome. verdict_of D.plug outcome ≡ listing_verdict out.now bytes.items said.items) }
+{
+    let mut outputs = Vec::new(alloc);
+    outputs.push(Output::Listing)?;
+    Ok(cmd_stages::Outcome {
+        ending: Ending::Done,
+        outputs,
+        said,
+        left: bytes_left(out, bytes),
+    })
+}
+
+/// One file of this name with these bytes.
+pub fn file_outcome<'a, D: BusDevice>(
+    alloc: Global,
+    out: &'a str,
+    bytes: Vec<u8>,
+) -> Result<Outcome<'a, D>, AllocError>
+    ensures { IfOk result (λ outcome. verdict_of D.plug outcome ≡ file_verdict out.now bytes.items) }
+{
+    let mut outputs = Vec::new(alloc);
+    outputs.push(Output::Bytes)?;
+    Ok(cmd_stages::Outcome {
+        ending: Ending::Done,
+        outputs,
+        said: Vec::new(alloc),
+        left: bytes_left(out, bytes),
+    })
+}
+
+// These outputs of what is left, if there was memory for their list. It knows no machine, since a proof over anything that is left goes through no
+// machine's parts.
+fn with_outputs<L: Drop>(
+    alloc: Global,
+    outputs: Result<Vec<Output>, AllocError>,
+    left: L,
+) -> Result<cmd_stages::Outcome<Ending, Output, L>, AllocError>
+    ensures outputs { IfOk result (λ o. outputs ≡ Ok o.outputs) }
+    ensures left { IfOk result (λ o. o.left ≡ left) }
+    ensures done { IfOk result (λ o. (o.ending ≡ Done) × (o.said.items ≡ [])) }
+{
+    match outputs {
+        Ok(outputs) => Ok(cmd_stages::Outcome {
+            ending: Ending::Done,
+            outputs,
+            said: Vec::new(alloc),
+            left,
+        }),
+        Err(error) => Err(error),
+    }
+}
+
+/// What machines leave where they ended.
+#[tactic(auto, unfolding(crate::specs::Verdicts::machine_verdict))]
+pub fn machine_outcome<'a, D: BusDevice>(
+    alloc: Global,
+    left: Left<'a, D>,
+) -> Result<Outcome<'a, D>, AllocError>
+    ensures { IfOk result (λ outcome. verdict_of D.plug outcome ≡ machine_verdict (left_seen D.plug left.entry)) }
+{
+    let outputs = machine_outputs(alloc, &left);
+    with_outputs(alloc, outputs, left)
+}

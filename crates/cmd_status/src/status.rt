@@ -1,0 +1,189 @@
+//! How the program ends.
+ghost use Rattle.std.specs.Prelude.{◌≡◌, ◌++◌, IfOk, Some, codes};
+ghost use Rattle.std.specs.Fmt.{decimal};
+ghost use Rattle.cmd_status.specs.Status.{number, which_text, text, end_of};
+
+use beeb_bits::NoMemory;
+use cmd_stages::{Name, Stop};
+use std::alloc::{AllocError, Global};
+use tube_party::Doing;
+
+/// An image, by its place among those that a command reads.
+#[derive(Clone, Copy, Debug, PartialEq, Eq)]
+pub enum Which {
+    /// The host's operating system.
+    Os,
+    /// The second processor's boot ROM.
+    Tube,
+    /// The paged ROM of a slot from 0 to 15.
+    Rom(u8),
+    /// The teletext font.
+    Font,
+    /// The disc of drive 0 or 1.
+    Disc(u8),
+    /// The image to be disassembled.
+    Image,
+}
+
+/// What a command ends with.
+#[derive(Debug, Drop)]
+pub enum Status {
+    /// The outputs stand.
+    Done,
+    /// The words spell no command.
+    Usage,
+    /// The file of this name could not be read.
+    ReadFault { name: Name },
+    /// The file of this name is longer than the command takes.
+    TooLong { name: Name },
+    /// The image has a length outside its set.
+    BadImage { which: Which, len: u64 },
+    /// The key script's first line, counted from 1, that is outside its form (kind 1) or its order (kind 2), or has the 257th shot (kind 3).
+    BadScript { line: u64, kind: u8 },
+    /// The trace's first line, counted from 1, that is outside its form (kind 1) or its order (kind 2).
+    BadTrace { line: u64, kind: u8 },
+    /// The source text's first offending line, counted from 1: syntax (kind 1), no such form (2), unknown label (3), repeated
+    /// label (4), out of range (5), past the end of memory (6).
+    BadSource { line: u64, kind: u8 },
+    /// The offset of the session file's first field at fault; its length, where it ends before that field or inside it; or the offset of the
+    /// first byte that stands behind its last field.
+    BadState { at: u64 },
+    /// The file of this name could not be written, or, for `-`, the text not said.
+    WriteFault { name: Name },
+    /// No thread could be started.
+    NoThread,
+    /// There was no memory.
+    NoMemory,
+    /// The trace's first line, counted from 1, whose answer the chip would not give, and the byte that it would.
+    Wrong { line: u64, byte: u8 },
+    /// The line of the trace, counted from 1, that the replayed machine does not do, and what it does there, if it does something.
+    /// Where the trace has no more lines of its side, it is one past the last line.
+    Differs { line: u64, doing: Option<Doing> },
+}
+
+/// How a command ends once its outputs stand.
+#[derive(Debug, Drop)]
+pub enum Ending {
+    /// As it was asked.
+    Done,
+    /// The trace's first line, counted from 1, whose answer the chip would not give, and the byte that it would.
+    Wrong { line: u64, byte: u8 },
+    /// The line of the trace, counted from 1, that the replayed machine does not do, and what it does there.
+    Differs { line: u64, doing: Option<Doing> },
+}
+
+/// Why a command refuses what it read.
+#[derive(Debug, Drop)]
+pub enum Cause {
+    /// The image has a length outside its set.
+    BadImage { which: Which, len: u64 },
+    /// The key script's first offending line, counted from 1, and the kind of its offence.
+    BadScript { line: u64, kind: u8 },
+    /// The trace's first line, counted from 1, that is outside its form (kind 1) or its order (kind 2).
+    BadTrace { line: u64, kind: u8 },
+    /// The source text's first offending line, counted from 1, and the kind of its offence.
+    BadSource { line: u64, kind: u8 },
+    /// Where the session file is outside its form.
+    BadState { at: u64 },
+}
+
+/// The status of a command's end.
+pub fn status_of(end: Result<Ending, Stop<Cause>>) -> Status
+    ensures { end_of result ≡ Some end }
+{
+    match end {
+        Ok(Ending::Done) => Status::Done,
+        Ok(Ending::Wrong { line, byte }) => Status::Wrong { line, byte },
+        Ok(Ending::Differs { line, doing }) => Status::Differs { line, doing },
+        Err(Stop::Refused(Cause::BadImage { which, len })) => Status::BadImage { which, len },
+        Err(Stop::Refused(Cause::BadScript { line, kind })) => Status::BadScript { line, kind },
+        Err(Stop::Refused(Cause::BadTrace { line, kind })) => Status::BadTrace { line, kind },
+        Err(Stop::Refused(Cause::BadSource { line, kind })) => Status::BadSource { line, kind },
+        Err(Stop::Refused(Cause::BadState { at })) => Status::BadState { at },
+        Err(Stop::ReadFault(name)) => Status::ReadFault { name },
+        Err(Stop::TooLong(name)) => Status::TooLong { name },
+        Err(Stop::WriteFault(name)) => Status::WriteFault { name },
+        Err(Stop::NoThread) => Status::NoThread,
+        Err(Stop::NoMemory) => Status::NoMemory,
+    }
+}
+
+fn joined(alloc: Global, front: &str, back: &[u8]) -> Result<Vec<u8>, AllocError>
+    ensures { IfOk result (λ v. v.items ≡ front.now ++ back.now) }
+{
+    let mut bytes = front.as_bytes().to_vec(alloc)?;
+    bytes.extend_from_slice(back)?;
+    Ok(bytes)
+}
+
+fn numbered(alloc: Global, front: &str, n: u64) -> Result<Vec<u8>, AllocError>
+    ensures { IfOk result (λ v. v.items ≡ front.now ++ decimal n) }
+{
+    let digits = format!(in alloc; "{n}")?;
+    joined(alloc, front, digits.as_bytes())
+}
+
+fn which_text(alloc: Global, which: Which) -> Result<Vec<u8>, AllocError>
+    ensures { IfOk result (λ v. v.items ≡ which_text which) }
+{
+    match which {
+        Which::Os => joined(alloc, "os", &[]),
+        Which::Tube => joined(alloc, "tube", &[]),
+        Which::Rom(slot) => numbered(alloc, "rom", u64::from(slot)),
+        Which::Font => joined(alloc, "font", &[]),
+        Which::Disc(drive) => numbered(alloc, "disc", u64::from(drive)),
+        Which::Image => joined(alloc, "image", &[]),
+    }
+}
+
+fn bad_image(alloc: Global, which: Which, len: u64) -> Result<Vec<u8>, AllocError>
+    ensures { IfOk result (λ v. v.items ≡ codes "bad image " ++ which_text which ++ codes " " ++ decimal len) }
+{
+    let mut bytes = joined(alloc, "bad image ", &[])?;
+    bytes.extend_from_slice(&which_text(alloc, which)?)?;
+    bytes.extend_from_slice(&numbered(alloc, " ", len)?)?;
+    Ok(bytes)
+}
+
+impl Status {
+    /// The number that the program ends with, from 0 to 8.
+    pub fn number(&self) -> u8
+        ensures { result ≡ number self.now }
+    {
+        match self {
+            Status::Done => 0,
+            Status::Usage => 1,
+            Status::ReadFault { .. } | Status::TooLong { .. } => 2,
+            Status::BadImage { .. } => 3,
+            Status::BadScript { .. }
+            | Status::BadTrace { .. }
+            | Status::BadSource { .. }
+            | Status::BadState { .. } => 4,
+            Status::WriteFault { .. } => 5,
+            Status::NoThread => 6,
+            Status::NoMemory => 7,
+            Status::Wrong { .. } | Status::Differs { .. } => 8,
+        }
+    }
+
+    /// The text for standard error, without a line feed: no bytes for `Done`, `Wrong` and `Differs`.
+    pub fn text(&self, alloc: Global) -> Result<Vec<u8>, NoMemory>
+        ensures { IfOk result (λ v. v.items ≡ text self.now) }
+    {
+        let bytes = match self {
+            Status::Done | Status::Wrong { .. } | Status::Differs { .. } => Ok(Vec::new(alloc)),
+            Status::Usage => joined(alloc, "usage", &[]),
+            Status::ReadFault { name } => joined(alloc, "cannot read ", name.as_bytes()),
+            Status::TooLong { name } => joined(alloc, "too long ", name.as_bytes()),
+            Status::BadImage { which, len } => bad_image(alloc, *which, *len),
+            Status::BadScript { line, .. } => numbered(alloc, "bad script ", *line),
+            Status::BadTrace { line, .. } => numbered(alloc, "bad trace ", *line),
+            Status::BadSource { line, .. } => numbered(alloc, "bad source ", *line),
+            Status::BadState { at } => numbered(alloc, "bad state ", *at),
+            Status::WriteFault { name } => joined(alloc, "cannot write ", name.as_bytes()),
+            Status::NoThread => joined(alloc, "no thread", &[]),
+            Status::NoMemory => joined(alloc, "no memory", &[]),
+        };
+        Ok(bytes?)
+    }
+}

@@ -1,0 +1,187 @@
+//! The work of each command, by what it read.
+ghost use Rattle.std.specs.Prelude.{◌≡◌, ◌<◌, ◌≤◌, All, map, true, false};
+ghost use Rattle.cmd_stages.specs.Plan.{AreWithin};
+ghost use Rattle.cmd_stages.specs.Promise.{IsCrewAfter};
+ghost use Rattle.cmd_stages.specs.View.{Gives, seen_input};
+ghost use Rattle.cmd_stages.specs.Stages.{Works};
+ghost use Rattle.cmd_words.specs.Command.{is_paired};
+ghost use Rattle.cmd_words.specs.Reads.{IsWithin, reads};
+ghost use Rattle.cmd_words.specs.View.{seen_command, seen_given};
+ghost use Rattle.cmd_machines.specs.Inputs.{inputs_of};
+ghost use Rattle.cmd_machines.specs.Setup.{setup_of};
+ghost use Rattle.cmd_machines.specs.View.{seen_inputs, seen_setup};
+ghost use Rattle.cmd_outcome.specs.View.{names_seen, verdict_of};
+ghost use Rattle.cmd_top.specs.Plans.{replay_after, choice_of, follow_after, after};
+
+use beeb_bits::Side;
+use beeb_files::Crew;
+use bus_plug::BusDevice;
+use cmd_follow::{follow_host, follow_para};
+use cmd_machines::{Inputs, Setup};
+use cmd_outcome::{Names, Outcome};
+use cmd_pair::{gen_outcome, run_outcome, solo_outcome};
+use cmd_replay::{host_outcome, para_outcome};
+use cmd_session::session_outcome;
+use cmd_stages::{Refusal, Stop};
+use cmd_status::Cause;
+use cmd_tools::{asm_outcome, check_outcome, dis_outcome};
+use cmd_words::{Command, Given, Slot};
+use follow::Choice;
+use std::alloc::Global;
+use std::sync::Wait;
+use std::thread::Threads;
+use tube_party::MOST;
+
+// What comes of a replay of a side, by what the words say of the machines.
+fn cmd_replayed<'a, D: BusDevice>(
+    alloc: Global,
+    side: Side,
+    ticks: u64,
+    names: Names<'a>,
+    setup: Setup<D>,
+    inputs: Inputs,
+) -> Result<Outcome<'a, D>, Refusal<Cause>>
+    requires ticks { ticks ≤ MOST }
+    requires slots { All (λ slot. slot.0 < 16) inputs.roms.items }
+    ensures { let names = names_seen names.entry in
+        let after = replay_after (seen_setup D.plug setup) side ticks names (seen_inputs inputs) in
+        Gives (verdict_of D.plug) result after }
+{
+    match side {
+        Side::Host => host_outcome(alloc, setup, ticks, names, inputs),
+        Side::Para => para_outcome(alloc, setup.clock, ticks, names, inputs),
+    }
+}
+
+// Which instructions are listed.
+fn choice_of(given: &Given<'_>) -> Choice
+    ensures { result ≡ choice_of (seen_given given.now) }
+{
+    Choice {
+        at: given.at(),
+        watch: given.watch(),
+    }
+}
+
+// What comes of a replay of a side whose instructions are listed, by what the words say of the machines.
+fn follow_outcome<'a, D: BusDevice>(
+    alloc: Global,
+    side: Side,
+    ticks: u64,
+    choice: Choice,
+    out: &'a str,
+    setup: Setup<D>,
+    inputs: Inputs,
+) -> Result<Outcome<'a, D>, Refusal<Cause>>
+    requires ticks { ticks ≤ MOST }
+    requires slots { All (λ slot. slot.0 < 16) inputs.roms.items }
+    ensures { let after = follow_after (seen_setup D.plug setup) side ticks choice out.now (seen_inputs inputs) in
+        Gives (verdict_of D.plug) result after }
+{
+    match side {
+        Side::Host => follow_host(alloc, setup, ticks, choice, out, inputs),
+        Side::Para => follow_para(alloc, setup.clock, ticks, choice, out, inputs),
+    }
+}
+
+/// What comes of a command without a pair of jobs, where these devices are handed in.
+pub(crate) fn single_outcome<'a, D: BusDevice>(
+    alloc: Global,
+    command: Command<'a>,
+    inputs: Vec<(Slot, Vec<u8>)>,
+    plugs: Vec<D>,
+) -> Result<Outcome<'a, D>, Refusal<Cause>>
+    requires within { IsWithin (seen_command command) }
+    requires unpaired { is_paired (seen_command command) ≡ false }
+    requires inputs { AreWithin (reads (seen_command command)) (map seen_input inputs.items) }
+    ensures { let read = inputs_of (map seen_input inputs.items) in
+        Gives (verdict_of D.plug) result (after (map D.plug plugs.items) (seen_command command.entry) read) }
+{
+    let inputs = Inputs::of(alloc, inputs)?;
+    match command {
+        Command::Check { .. } => check_outcome(alloc, &inputs.trace),
+        Command::Asm { part, out, .. } => asm_outcome(alloc, part, out, &inputs.source),
+        Command::Dis {
+            part,
+            origin,
+            out,
+            ..
+        } => dis_outcome(alloc, part, origin, out, &inputs.image),
+        Command::Replay {
+            side,
+            ticks,
+            out,
+            given,
+            ..
+        } => {
+            let setup = Setup::of(&given, plugs);
+            let names = Names::of(out, &given);
+            cmd_replayed(alloc, side, ticks, names, setup, inputs)
+        }
+        Command::Solo {
+            ticks,
+            out,
+            keep,
+            given,
+        } => {
+            let setup = Setup::of(&given, plugs);
+            let names = Names::of(out, &given);
+            solo_outcome(alloc, setup, ticks, keep, names, inputs)
+        }
+        Command::Resume {
+            ticks,
+            out,
+            keep,
+            given,
+            ..
+        } => {
+            let names = Names::of(out, &given);
+            session_outcome(alloc, ticks, keep, names, plugs, inputs)
+        }
+        Command::Follow {
+            side,
+            ticks,
+            out,
+            given,
+            ..
+        } => {
+            let choice = choice_of(&given);
+            let setup = Setup::of(&given, plugs);
+            follow_outcome(alloc, side, ticks, choice, out, setup, inputs)
+        }
+        Command::Gen { seed } => gen_outcome(alloc, seed),
+        Command::Run { .. } => unreachable!(),
+    }
+}
+
+/// What comes of a command whose pair of jobs the crew works, where these devices are handed in.
+pub(crate) fn paired_outcome<'a, D: BusDevice + Send, C: Crew, R: Threads + Wait + Sync>(
+    rt: &R,
+    alloc: Global,
+    crew: &mut C,
+    command: Command<'a>,
+    inputs: Vec<(Slot, Vec<u8>)>,
+    plugs: Vec<D>,
+) -> Result<Outcome<'a, D>, Stop<Cause>>
+    requires within { IsWithin (seen_command command) }
+    requires paired { is_paired (seen_command command) ≡ true }
+    requires inputs { AreWithin (reads (seen_command command)) (map seen_input inputs.items) }
+    ensures works { let read = inputs_of (map seen_input inputs.items) in
+        let after = after (map D.plug plugs.items) (seen_command command.entry) read in
+        Works (verdict_of D.plug) true (C.counts crew.old) (C.counts crew.new) result after }
+    ensures crew { IsCrewAfter true (C.counts crew.old) (C.counts crew.new) }
+{
+    let Command::Run {
+        ticks,
+        out,
+        keep,
+        given,
+    } = command
+    else {
+        unreachable!()
+    };
+    let inputs = Inputs::of(alloc, inputs)?;
+    let setup = Setup::of(&given, plugs);
+    let names = Names::of(out, &given);
+    run_outcome(rt, alloc, crew, setup, ticks, keep, names, inputs)
+}

@@ -1,0 +1,151 @@
+-- The keys of the options.
+use Rattle.std.specs.Prelude.{ℕ, ◌+◌, ◌&&◌, ◌==◌, nat_le, Bool, true, false, List, [], ◌∷◌, length, Option, Some, None, option_map, slice_index_or, if◌then◌else◌, codes}
+use Rattle.std.specs.List.{list_all}
+use Rattle.std.specs.Str.{bytes_eq}
+use Rattle.cmd_words.specs.declared.keys.Slot.{Slot}
+use Rattle.cmd_words.specs.declared.keys.Slot.TheVariants.{Os, Tube, Rom, Font, Disc, Keys}
+use Rattle.cmd_words.specs.declared.keys.Taker.{Taker}
+use Rattle.cmd_words.specs.declared.keys.Taker.TheVariants.{ReplayHost, ReplayPara, Solo, Run, Resume, FollowHost, FollowPara}
+use Rattle.cmd_words.specs.declared.keys.Takers.{Takers}
+use Rattle.cmd_words.specs.Alone.{is_name}
+use Rattle.digits.specs.Decimal.{decimal_number}
+use Rattle.digits.specs.Hexadecimal.{hex_number, is_hex}
+
+-- what the value of an option is
+pub data Value : Type 0 where
+  -- the name of a file that is read
+  file : (slot : Slot) → Value
+  -- the name of an output
+  output : Value
+  -- a decimal number within these limits
+  numeric : (least most : ℕ) → Value
+  -- one of these words
+  one_of : (words : List (List ℕ)) → Value
+  -- four upper-case hexadecimal digits
+  four_digits : Value
+
+-- a key: its word, the commands that take it, and what its value is
+pub record Key : Type 0 where
+  pub word : List ℕ
+  pub takers : Takers
+  pub value : Value
+
+abbrev pub key : List ℕ → Takers → Value → Key
+key word takers value = record { word = word; takers = takers; value = value }
+
+-- the commands that have a host made of what the words give
+abbrev pub hosts : Takers
+hosts = record { replay_host = true; replay_para = false; solo = true; run = true; resume = false; follow_host = true; follow_para = false }
+
+-- the commands that have such a second processor
+abbrev pub paras : Takers
+paras = record { replay_host = false; replay_para = true; solo = true; run = true; resume = false; follow_host = false; follow_para = true }
+
+-- the commands that have one of both
+abbrev pub machines : Takers
+machines = record { replay_host = true; replay_para = true; solo = true; run = true; resume = false; follow_host = true; follow_para = true }
+
+-- the commands that run both machines, of what the words give or of a session file
+abbrev pub runs : Takers
+runs = record { replay_host = false; replay_para = false; solo = true; run = true; resume = true; follow_host = false; follow_para = false }
+
+-- the commands that leave a host
+abbrev pub heard : Takers
+heard = record { replay_host = true; replay_para = false; solo = true; run = true; resume = true; follow_host = false; follow_para = false }
+
+-- the commands that list instructions
+abbrev pub lists : Takers
+lists = record { replay_host = false; replay_para = false; solo = false; run = false; resume = false; follow_host = true; follow_para = true }
+
+-- The keys. Those of files stand in the order in which the files are read.
+unfoldable pub keys : List Key
+keys =
+    key (codes "--os") hosts (file Os)
+    ∷ key (codes "--tube") paras (file Tube)
+    ∷ key (codes "--rom0") hosts (file (Rom 0))
+    ∷ key (codes "--rom1") hosts (file (Rom 1))
+    ∷ key (codes "--rom2") hosts (file (Rom 2))
+    ∷ key (codes "--rom3") hosts (file (Rom 3))
+    ∷ key (codes "--rom4") hosts (file (Rom 4))
+    ∷ key (codes "--rom5") hosts (file (Rom 5))
+    ∷ key (codes "--rom6") hosts (file (Rom 6))
+    ∷ key (codes "--rom7") hosts (file (Rom 7))
+    ∷ key (codes "--rom8") hosts (file (Rom 8))
+    ∷ key (codes "--rom9") hosts (file (Rom 9))
+    ∷ key (codes "--rom10") hosts (file (Rom 10))
+    ∷ key (codes "--rom11") hosts (file (Rom 11))
+    ∷ key (codes "--rom12") hosts (file (Rom 12))
+    ∷ key (codes "--rom13") hosts (file (Rom 13))
+    ∷ key (codes "--rom14") hosts (file (Rom 14))
+    ∷ key (codes "--rom15") hosts (file (Rom 15))
+    ∷ key (codes "--font") hosts (file Font)
+    ∷ key (codes "--disc0") hosts (file (Disc 0))
+    ∷ key (codes "--disc1") hosts (file (Disc 1))
+    ∷ key (codes "--keys") hosts (file Keys)
+    ∷ key (codes "--plugs") hosts (numeric 0 8)
+    ∷ key (codes "--keep") runs (numeric 0 4194304)
+    ∷ key (codes "--speed") machines (one_of (codes "3" ∷ codes "4" ∷ []))
+    ∷ key (codes "--wav") heard output
+    ∷ key (codes "--save") runs output
+    ∷ key (codes "--at") lists four_digits
+    ∷ key (codes "--watch") lists four_digits
+    ∷ []
+
+-- no command
+abbrev pub no_takers : Takers
+no_takers = record { replay_host = false; replay_para = false; solo = false; run = false; resume = false; follow_host = false; follow_para = false }
+
+-- what stands past the last key
+abbrev pub no_key : Key
+no_key = key [] no_takers output
+
+abbrev pub key_at : ℕ → Key
+key_at place = slice_index_or keys place no_key
+
+-- the place of a word among some keys
+abbrev pub place_in : List Key → List ℕ → Option ℕ
+place_in [] word = None
+place_in (k ∷ ks) word = if bytes_eq k.word word then Some 0 else option_map (λ place. place + 1) (place_in ks word)
+
+-- the place of a word among all keys
+abbrev pub place_of : List ℕ → Option ℕ
+place_of word = place_in keys word
+
+-- a command is among those that take an option
+abbrev pub takes : Taker → Takers → Bool
+takes ReplayHost takers = takers.replay_host
+takes ReplayPara takers = takers.replay_para
+takes Solo takers = takers.solo
+takes Run takers = takers.run
+takes Resume takers = takers.resume
+takes FollowHost takers = takers.follow_host
+takes FollowPara takers = takers.follow_para
+
+-- a number that was read, if it is not too small
+abbrev pub is_from : ℕ → Option ℕ → Bool
+is_from least None = false
+is_from least (Some n) = nat_le least n
+
+-- a word is one of some words
+abbrev pub is_among : List (List ℕ) → List ℕ → Bool
+is_among [] word = false
+is_among (w ∷ ws) word = if bytes_eq w word then true else is_among ws word
+
+abbrev pub is_four_digits : List ℕ → Bool
+is_four_digits word = length word == 4 && list_all is_hex word
+
+-- the number of four upper-case hexadecimal digits
+abbrev pub address_of : List ℕ → Option ℕ
+address_of word = if is_four_digits word then Some (hex_number word) else None
+
+-- a word may be such a value
+abbrev pub is_value : Value → List ℕ → Bool
+is_value (file slot) word = is_name word
+is_value output word = is_name word
+is_value (numeric least most) word = is_from least (decimal_number most word)
+is_value (one_of words) word = is_among words word
+is_value four_digits word = is_four_digits word
+
+-- an option of the key at a place may have this value where this command takes it
+abbrev pub fits : Taker → ℕ → List ℕ → Bool
+fits taker place value = takes taker (key_at place).takers && is_value (key_at place).value value

@@ -1,0 +1,16 @@
+-- Options stand in any place after the command word.
+use Rattle.std.specs.Prelude.{◌≡◌, true, false, List, ℕ, ◌∷◌, ◌++◌, codes}
+use Rattle.cmd_words.specs.Alone.{is_dashed}
+use Rattle.cmd_words.specs.Given.{is_closed}
+use Rattle.cmd_words.specs.Words.{command}
+
+-- After this command word an option, a key and its value, may be moved over any words among which each key has its value, and the words spell
+-- the same command, or still none.
+abbrev pub MayMove : List ℕ → Type 0
+MayMove word =
+    (key value : List ℕ) (front over back : List (List ℕ)) → is_dashed key ≡ true → is_closed false front ≡ true → is_closed false over ≡ true →
+    command (word ∷ (front ++ key ∷ value ∷ (over ++ back))) ≡ command (word ∷ (front ++ (over ++ key ∷ value ∷ back)))
+
+-- of each command that takes options
+abbrev pub StandAnywhere : Type 0
+StandAnywhere = MayMove (codes "replay") × MayMove (codes "solo") × MayMove (codes "run") × MayMove (codes "resume") × MayMove (codes "follow")

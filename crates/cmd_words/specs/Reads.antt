@@ -1,0 +1,67 @@
+-- The files that a command reads.
+use Rattle.std.specs.Prelude.{ℕ, ◌+◌, ◌≤◌, ◌&&◌, nat_le, nat_lt, Bool, true, IsTrue, List, [], ◌∷◌, ◌++◌, map, Option, Some, None}
+use Rattle.std.specs.List.{filter_map}
+use Rattle.cmd_words.specs.declared.keys.Slot.{Slot}
+use Rattle.cmd_words.specs.declared.keys.Slot.TheVariants.{Trace, Source, Image, State, Os, Tube, Rom, Font, Disc, Keys}
+use Rattle.cmd_words.specs.Keys.{Value, file, output, numeric, one_of, four_digits, Key, keys}
+use Rattle.cmd_words.specs.Given.{Values}
+use Rattle.cmd_words.specs.Command.{Command, check, asm, dis, replay, solo, run, resume, follow, gen, ticks_of, keep_of}
+
+-- the file that an option gives
+abbrev pub file_of : Value → Option (List ℕ) → List (Slot × List ℕ × ℕ)
+file_of (file slot) (Some name) = (slot, name, 1048576) ∷ []
+file_of (file slot) None = []
+file_of output given = []
+file_of (numeric least most) given = []
+file_of (one_of words) given = []
+file_of four_digits given = []
+
+-- the files that the options give, in the order of their keys
+abbrev pub files_of : List Key → Values → List (Slot × List ℕ × ℕ)
+files_of [] values = []
+files_of (k ∷ ks) [] = []
+files_of (k ∷ ks) (v ∷ vs) = file_of k.value v ++ files_of ks vs
+
+-- The files that a command reads, in their order: what each is, its name, and the most bytes that it takes.
+abbrev pub reads : Command → List (Slot × List ℕ × ℕ)
+reads (check trace) = (Trace, trace, 100663296) ∷ []
+reads (asm part source out) = (Source, source, 4194304) ∷ []
+reads (dis part image origin out) = (Image, image, 1048576) ∷ []
+reads (replay side trace ticks out given) = (Trace, trace, 100663296) ∷ files_of keys given
+reads (solo ticks out keep given) = files_of keys given
+reads (run ticks out keep given) = files_of keys given
+reads (resume state ticks out keep given) = (State, state, 33554432) ∷ []
+reads (follow side trace ticks out given) = (Trace, trace, 100663296) ∷ files_of keys given
+reads (gen seed) = []
+
+-- the number of a paged ROM's slot
+abbrev pub rom_slot : Slot → Option ℕ
+rom_slot (Rom number) = Some number
+rom_slot Trace = None
+rom_slot Source = None
+rom_slot Image = None
+rom_slot State = None
+rom_slot Os = None
+rom_slot Tube = None
+rom_slot Font = None
+rom_slot (Disc number) = None
+rom_slot Keys = None
+
+-- the numbers that the words give are within their limits
+abbrev pub IsLimited : Command → Type 0
+IsLimited c = (ticks_of c ≤ 1073741824) × (keep_of c ≤ 4194304)
+
+-- numbers below 16 that rise, from this one on
+abbrev pub rise_from : ℕ → List ℕ → Bool
+rise_from low [] = true
+rise_from low (n ∷ ns) = nat_le low n && nat_lt n 16 && rise_from (n + 1) ns
+
+-- the paged ROMs among some files have different slots below 16
+abbrev pub HaveRomSlots : List Slot → Type 0
+HaveRomSlots slots = IsTrue (rise_from 0 (filter_map rom_slot slots))
+
+-- the numbers of a command are within their limits
+pub record IsWithin (c : Command) : Type 0 where
+  pub ticks : ticks_of c ≤ 1073741824
+  pub keep : keep_of c ≤ 4194304
+  pub roms : HaveRomSlots (map (λ w. w.0) (reads c))

@@ -1,0 +1,82 @@
+//! The words that stand alone among the options.
+ghost use Rattle.std.specs.Prelude.{◌≡◌, map, option_map, MatchOption, false, [], ◌∷◌, string_bytes};
+ghost use Rattle.cmd_words.specs.Alone.{is_dashed, is_name, alone, two, three, four};
+
+/// A word that begins with `-`.
+pub(crate) fn is_dashed(word: &str) -> bool
+    ensures { result ≡ is_dashed word.now }
+{
+    match word.as_bytes().first() {
+        Some(b) => *b == b'-',
+        None => false,
+    }
+}
+
+/// A word that isn't empty and doesn't begin with `-`.
+pub(crate) fn is_name(word: &str) -> bool
+    ensures { result ≡ is_name word.now }
+{
+    match word.as_bytes().first() {
+        Some(b) => *b != b'-',
+        None => false,
+    }
+}
+
+/// The first word that stands alone, and the words after it.
+fn next_alone(words: &[String]) -> Option<(&str, &[String])>
+    ensures { let all = alone false (map string_bytes words.now) in
+        MatchOption result (all ≡ []) (λ p. all ≡ p.0.now ∷ alone false (map string_bytes p.1.now)) }
+{
+    let mut skip = false;
+    for (i, word) in words.iter().enumerate() {
+        if skip {
+            skip = false;
+        } else if is_dashed(word.as_str()) {
+            skip = true;
+        } else {
+            return Some((word.as_str(), &words[i + 1..]));
+        }
+    }
+    None
+}
+
+/// The two words that stand alone, if they are two.
+pub(crate) fn two_alone(words: &[String]) -> Option<(&str, &str)>
+    ensures { option_map (λ p. (p.0.now, p.1.now)) result ≡ two (alone false (map string_bytes words.now)) }
+{
+    let (first, rest) = next_alone(words)?;
+    let (second, rest) = next_alone(rest)?;
+    match next_alone(rest) {
+        None => Some((first, second)),
+        Some(_) => None,
+    }
+}
+
+/// The three words that stand alone, if they are three.
+pub(crate) fn three_alone(words: &[String]) -> Option<(&str, &str, &str)>
+    ensures { let all = alone false (map string_bytes words.now) in
+        option_map (λ p. (p.0.now, p.1.now, p.2.now)) result ≡ three all }
+{
+    let (first, rest) = next_alone(words)?;
+    let (second, rest) = next_alone(rest)?;
+    let (third, rest) = next_alone(rest)?;
+    match next_alone(rest) {
+        None => Some((first, second, third)),
+        Some(_) => None,
+    }
+}
+
+/// The four words that stand alone, if they are four.
+pub(crate) fn four_alone(words: &[String]) -> Option<(&str, &str, &str, &str)>
+    ensures { let all = alone false (map string_bytes words.now) in
+        option_map (λ p. (p.0.now, p.1.now, p.2.now, p.3.now)) result ≡ four all }
+{
+    let (first, rest) = next_alone(words)?;
+    let (second, rest) = next_alone(rest)?;
+    let (third, rest) = next_alone(rest)?;
+    let (fourth, rest) = next_alone(rest)?;
+    match next_alone(rest) {
+        None => Some((first, second, third, fourth)),
+        Some(_) => None,
+    }
+}

@@ -1,0 +1,89 @@
+//! The files that a command reads.
+ghost use Rattle.std.specs.Prelude.{◌≡◌, ◌∷◌, ◌++◌, [], map, IfOk, option_copied};
+ghost use Rattle.cmd_words.specs.Keys.{keys};
+ghost use Rattle.cmd_words.specs.Reads.{reads, file_of, files_of};
+ghost use Rattle.cmd_words.specs.View.{seen_command, seen_given, seen_value, seen_want};
+
+use crate::command::Command;
+use crate::given::Given;
+use crate::keys::{COUNT, Slot, Value, kind_of};
+use std::alloc::{AllocError, Global};
+
+/// The most bytes of a trace's file.
+const TRACE_CAP: u64 = 100_663_296;
+
+/// The most bytes of a source text.
+const SOURCE_CAP: u64 = 4_194_304;
+
+/// The most bytes of a session file.
+const STATE_CAP: u64 = 33_554_432;
+
+/// The most bytes of every other file.
+const FILE_CAP: u64 = 1_048_576;
+
+/// What a file is, its name, and the most bytes that it may have.
+type Want<'a> = (Slot, &'a str, u64);
+
+// One file.
+fn one<'a>(alloc: Global, want: Want<'a>) -> Result<Vec<Want<'a>>, AllocError>
+    ensures { IfOk result (λ v. map seen_want v.items ≡ seen_want want.entry ∷ []) }
+{
+    let mut wants = Vec::new(alloc);
+    wants.push(want)?;
+    Ok(wants)
+}
+
+// These files, and that of one option, if it gives one.
+fn with_option<'a>(
+    wants: Vec<Want<'a>>,
+    kind: Value,
+    name: Option<&'a str>,
+) -> Result<Vec<Want<'a>>, AllocError>
+    ensures { let more = file_of (seen_value kind) (option_copied name.entry) in
+        IfOk result (λ v. map seen_want v.items ≡ map seen_want wants.entry.items ++ more) }
+{
+    match (kind, name) {
+        (Value::File(slot), Some(name)) => {
+            let mut wants = wants;
+            wants.push((slot, name, FILE_CAP))?;
+            Ok(wants)
+        }
+        _ => Ok(wants),
+    }
+}
+
+// These files, and those that the options give.
+fn with_options<'a>(files: Vec<Want<'a>>, given: Given<'a>) -> Result<Vec<Want<'a>>, AllocError>
+    ensures { let more = files_of keys (seen_given given.entry) in
+        IfOk result (λ v. map seen_want v.items ≡ map seen_want files.entry.items ++ more) }
+{
+    let mut wants = files;
+    for i in 0..COUNT {
+        match with_option(wants, kind_of(i), given.value(i)) {
+            Ok(more) => wants = more,
+            Err(error) => return Err(error),
+        }
+    }
+    Ok(wants)
+}
+
+impl<'a> Command<'a> {
+    /// The files that the command reads, in their order: what each is, its name, and the most bytes that it takes.
+    pub fn reads(&self, alloc: Global) -> Result<Vec<(Slot, &'a str, u64)>, AllocError>
+        ensures { IfOk result (λ v. map seen_want v.items ≡ reads (seen_command self.now)) }
+    {
+        match self {
+            Command::Check { trace } => one(alloc, (Slot::Trace, *trace, TRACE_CAP)),
+            Command::Asm { source, .. } => one(alloc, (Slot::Source, *source, SOURCE_CAP)),
+            Command::Dis { image, .. } => one(alloc, (Slot::Image, *image, FILE_CAP)),
+            Command::Replay { trace, given, .. } | Command::Follow { trace, given, .. } => {
+                with_options(one(alloc, (Slot::Trace, *trace, TRACE_CAP))?, *given)
+            }
+            Command::Solo { given, .. } | Command::Run { given, .. } => {
+                with_options(Vec::new(alloc), *given)
+            }
+            Command::Resume { state, .. } => one(alloc, (Slot::State, *state, STATE_CAP)),
+            Command::Gen { .. } => Ok(Vec::new(alloc)),
+        }
+    }
+}

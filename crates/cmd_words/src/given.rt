@@ -1,0 +1,245 @@
+//! Options among the words.
+ghost use Rattle.std.specs.Prelude.{◌≡◌, ◌<◌, ◌≤◌, map, length, option_map, option_and_then, option_copied, IfSome};
+ghost use Rattle.std.specs.Prelude.{string_bytes};
+ghost use Rattle.cmd_words.specs.Given.{options_of, closed_options, value_at, value_of, put_at, put_option};
+ghost use Rattle.cmd_words.specs.Given.{keep_in, keep_of, plugs_in, plugs_of, clock_in, clock_of, wav_of, save_of, at_of, watch_of, has_os, has_tube, has_images};
+ghost use Rattle.cmd_words.specs.Keys.{address_of};
+ghost use Rattle.cmd_words.specs.View.{seen_given, word_at};
+
+use crate::alone::is_dashed;
+use crate::keys::{COUNT, MOST_KEEP, Taker, address_of, fits, place_of};
+use beeb_bits::Clock;
+use digits::decimal_number;
+
+/// The number of accesses that are kept, where no other is given.
+const DEFAULT_KEEP: u32 = 1_048_576;
+
+// The number of accesses that are kept, by the value of its key.
+fn keep_in(value: Option<&str>) -> u32
+    ensures number { result ≡ keep_in (option_copied value.entry) }
+    ensures bound { result ≤ MOST_KEEP }
+{
+    let Some(word) = value else {
+        return DEFAULT_KEEP;
+    };
+    match decimal_number(word.as_bytes(), MOST_KEEP) {
+        Some(keep) => keep as u32,
+        None => DEFAULT_KEEP,
+    }
+}
+
+/// The most devices that can be plugged.
+const MOST_PLUGS: u64 = 8;
+
+// The number of plugged devices, by the value of its key.
+fn plugs_in(value: Option<&str>) -> usize
+    ensures number { result ≡ plugs_in (option_copied value.entry) }
+    ensures bound { result ≤ 8 }
+{
+    let Some(word) = value else {
+        return 0;
+    };
+    match decimal_number(word.as_bytes(), MOST_PLUGS) {
+        Some(plugs) => plugs as usize,
+        None => 0,
+    }
+}
+
+// The clock of the machines, by the value of its key.
+fn clock_in(value: Option<&str>) -> Clock
+    ensures { result ≡ clock_in (option_copied value.entry) }
+{
+    match value {
+        Some("4") => Clock::Four,
+        _ => Clock::Three,
+    }
+}
+
+// The address that is the value of a key.
+fn address_in(value: Option<&str>) -> Option<u16>
+    ensures { result ≡ option_and_then address_of (option_copied value.entry) }
+{
+    match value {
+        Some(word) => address_of(word),
+        None => None,
+    }
+}
+
+/// The options among the words, by the places of their keys: where the value of each stands among the words.
+#[derive(Clone, Copy)]
+pub struct Given<'a> {
+    pub(crate) words: &'a [String],
+    pub(crate) places: [Option<usize>; COUNT],
+}
+
+impl<'a> Given<'a> {
+    /// The value of the key at a place.
+    pub(crate) fn value(&self, place: usize) -> Option<&'a str>
+        requires { place < COUNT }
+        ensures value { option_copied result ≡ value_at (seen_given self.now) place }
+        ensures many { length (seen_given self.now) ≡ COUNT }
+    {
+        let at = self.places[place]?;
+        let word = self.words.get(at)?;
+        Some(word.as_str())
+    }
+
+    /// The value of a key, by its word.
+    pub(crate) fn value_of(&self, key: &str) -> Option<&'a str>
+        ensures { option_copied result ≡ value_of (seen_given self.now) key.now }
+    {
+        match place_of(key) {
+            Some(place) => self.value(place),
+            None => None,
+        }
+    }
+
+    /// The number of accesses that are kept.
+    pub(crate) fn keep(&self) -> u32
+        ensures number { result ≡ keep_of (seen_given self.now) }
+        ensures bound { result ≤ MOST_KEEP }
+    {
+        keep_in(self.value_of("--keep"))
+    }
+
+    /// The number of devices that are to be plugged, 0 where the words do not say it. Where fewer devices are handed in, all are plugged.
+    pub fn plugs(&self) -> usize
+        ensures number { result ≡ plugs_of (seen_given self.now) }
+        ensures bound { result ≤ 8 }
+    {
+        plugs_in(self.value_of("--plugs"))
+    }
+
+    /// The clock of the machines: that of a second processor at 3 MHz, where the words do not give its speed.
+    pub fn clock(&self) -> Clock
+        ensures { result ≡ clock_of (seen_given self.now) }
+    {
+        clock_in(self.value_of("--speed"))
+    }
+
+    /// The name of the sound file, if the words ask for one.
+    pub fn wav(&self) -> Option<&'a str>
+        ensures { option_copied result ≡ wav_of (seen_given self.now) }
+    {
+        self.value_of("--wav")
+    }
+
+    /// The name of the session file, if the words ask for one.
+    pub fn save(&self) -> Option<&'a str>
+        ensures { option_copied result ≡ save_of (seen_given self.now) }
+    {
+        self.value_of("--save")
+    }
+
+    /// The address of the instructions that are listed, where the words ask for those of one address alone.
+    pub fn at(&self) -> Option<u16>
+        ensures { result ≡ at_of (seen_given self.now) }
+    {
+        address_in(self.value_of("--at"))
+    }
+
+    /// The address that is watched, where the words ask for the instructions in front of which its byte changed alone.
+    pub fn watch(&self) -> Option<u16>
+        ensures { result ≡ watch_of (seen_given self.now) }
+    {
+        address_in(self.value_of("--watch"))
+    }
+
+    fn has_os(&self) -> bool
+        ensures { result ≡ has_os (seen_given self.now) }
+    {
+        self.value_of("--os").is_some()
+    }
+
+    fn has_tube(&self) -> bool
+        ensures { result ≡ has_tube (seen_given self.now) }
+    {
+        self.value_of("--tube").is_some()
+    }
+
+    // The machines of a command have their image.
+    fn has_images(&self, taker: Taker) -> bool
+        ensures { result ≡ has_images taker (seen_given self.now) }
+    {
+        match taker {
+            Taker::ReplayHost | Taker::FollowHost => self.has_os(),
+            Taker::ReplayPara | Taker::FollowPara => self.has_tube(),
+            Taker::Solo | Taker::Run => self.has_os() && self.has_tube(),
+            Taker::Resume => true,
+        }
+    }
+
+    #[tactic(auto, using(crate::proofs::GivenLemmas::places_set))]
+    // These options, and one more, at a place that is to be empty, whose value is the word `at`.
+    fn put_at(self, taker: Taker, place: usize, at: usize) -> Option<Given<'a>>
+        requires place { place < COUNT }
+        requires at { at < length self.words.now }
+        ensures values { let word = word_at self.entry.words.now at in
+            option_map seen_given result ≡ put_at taker word (seen_given self.entry) place }
+        ensures words { IfSome result (λ g. g.words.now ≡ self.entry.words.now) }
+    {
+        if fits(taker, place, self.words[at].as_str()) && self.value(place).is_none() {
+            let mut places = self.places;
+            places[place] = Some(at);
+            Some(Given {
+                words: self.words,
+                places,
+            })
+        } else {
+            None
+        }
+    }
+
+    // These options, and one more, of this key, whose value is the word `at`.
+    fn put(self, taker: Taker, key: &str, at: usize) -> Option<Given<'a>>
+        requires { at < length self.words.now }
+        ensures values { let word = word_at self.entry.words.now at in
+            option_map seen_given result ≡ put_option taker (key.now, word) (seen_given self.entry) }
+        ensures words { IfSome result (λ g. g.words.now ≡ self.entry.words.now) }
+    {
+        match place_of(key) {
+            Some(place) => self.put_at(taker, place, at),
+            None => None,
+        }
+    }
+}
+
+#[tactic(auto, unfolding(crate::specs::Given::closed_options, crate::specs::Given::no_values))]
+// The options among the words, each in its place.
+fn put_options(words: &[String], taker: Taker) -> Option<Given<'_>>
+    ensures { option_map seen_given result ≡ closed_options taker (map string_bytes words.now) }
+{
+    let mut given = Given {
+        words,
+        places: [None; COUNT],
+    };
+    let mut key: Option<&str> = None;
+    for (i, word) in words.iter().enumerate() {
+        match key {
+            Some(held) => {
+                match given.put(taker, held, i) {
+                    Some(more) => given = more,
+                    None => return None,
+                }
+                key = None;
+            }
+            None => {
+                if is_dashed(word.as_str()) {
+                    key = Some(word.as_str());
+                }
+            }
+        }
+    }
+    if key.is_none() { Some(given) } else { None }
+}
+
+#[tactic(auto, unfolding(crate::specs::Given::options_of))]
+/// The options among the words, where this command takes them and its machines have their images.
+pub(crate) fn options_among(words: &[String], taker: Taker) -> Option<Given<'_>>
+    ensures { option_map seen_given result ≡ options_of taker (map string_bytes words.now) }
+{
+    match put_options(words, taker) {
+        Some(given) if given.has_images(taker) => Some(given),
+        _ => None,
+    }
+}

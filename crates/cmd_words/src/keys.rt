@@ -1,0 +1,326 @@
+//! The keys of the options.
+ghost use Rattle.std.specs.Prelude.{◌≡◌, ◌<◌, map, IfSome};
+ghost use Rattle.digits.specs.Decimal.{decimal_number};
+ghost use Rattle.cmd_words.specs.View.{seen_word, seen_value, seen_key};
+ghost use Rattle.cmd_words.specs.Keys.{key_at, place_of, fits, takes, is_from, is_among, is_four_digits, address_of, is_value};
+ghost use Rattle.cmd_words.specs.Keys as keys;
+
+use crate::alone::is_name;
+use digits::{all_hex, decimal_number, hex_number};
+
+/// What a file is to a command.
+#[derive(Clone, Copy, Debug, PartialEq, Eq)]
+pub enum Slot {
+    /// A trace.
+    Trace,
+    /// A source text.
+    Source,
+    /// An image to be disassembled.
+    Image,
+    /// A session file.
+    State,
+    /// The host's operating system.
+    Os,
+    /// The second processor's boot ROM.
+    Tube,
+    /// The paged ROM of a slot from 0 to 15.
+    Rom(u8),
+    /// The teletext font.
+    Font,
+    /// The disc of drive 0 or 1.
+    Disc(u8),
+    /// The key script.
+    Keys,
+}
+
+/// A command that takes options.
+#[derive(Clone, Copy, Debug, PartialEq, Eq)]
+pub(crate) enum Taker {
+    /// `replay host`
+    ReplayHost,
+    /// `replay para`
+    ReplayPara,
+    /// `solo`
+    Solo,
+    /// `run`
+    Run,
+    /// `resume`
+    Resume,
+    /// `follow host`
+    FollowHost,
+    /// `follow para`
+    FollowPara,
+}
+
+/// Which commands take an option.
+#[derive(Clone, Copy)]
+pub(crate) struct Takers {
+    pub(crate) replay_host: bool,
+    pub(crate) replay_para: bool,
+    pub(crate) solo: bool,
+    pub(crate) run: bool,
+    pub(crate) resume: bool,
+    pub(crate) follow_host: bool,
+    pub(crate) follow_para: bool,
+}
+
+/// The commands that have a host made of what the words give.
+const HOSTS: Takers = Takers {
+    replay_host: true,
+    replay_para: false,
+    solo: true,
+    run: true,
+    resume: false,
+    follow_host: true,
+    follow_para: false,
+};
+
+/// The commands that have such a second processor.
+const PARAS: Takers = Takers {
+    replay_host: false,
+    replay_para: true,
+    solo: true,
+    run: true,
+    resume: false,
+    follow_host: false,
+    follow_para: true,
+};
+
+/// The commands that have one of both.
+const MACHINES: Takers = Takers {
+    replay_host: true,
+    replay_para: true,
+    solo: true,
+    run: true,
+    resume: false,
+    follow_host: true,
+    follow_para: true,
+};
+
+/// The commands that run both machines, of what the words give or of a session file.
+const RUNS: Takers = Takers {
+    replay_host: false,
+    replay_para: false,
+    solo: true,
+    run: true,
+    resume: true,
+    follow_host: false,
+    follow_para: false,
+};
+
+/// The commands that leave a host.
+const HEARD: Takers = Takers {
+    replay_host: true,
+    replay_para: false,
+    solo: true,
+    run: true,
+    resume: true,
+    follow_host: false,
+    follow_para: false,
+};
+
+/// The commands that list instructions.
+const LISTS: Takers = Takers {
+    replay_host: false,
+    replay_para: false,
+    solo: false,
+    run: false,
+    resume: false,
+    follow_host: true,
+    follow_para: true,
+};
+
+/// What the value of an option is.
+#[derive(Clone, Copy)]
+pub(crate) enum Value {
+    /// The name of a file that is read.
+    File(Slot),
+    /// The name of an output.
+    Output,
+    /// A decimal number within these limits.
+    Number { least: u64, most: u64 },
+    /// One of these words.
+    OneOf(&'static [&'static str]),
+    /// Four upper-case hexadecimal digits.
+    FourDigits,
+}
+
+/// A key: its word, the commands that take it, and what its value is.
+#[derive(Clone, Copy)]
+struct Key {
+    word: &'static str,
+    takers: Takers,
+    value: Value,
+}
+
+/// The most accesses that can be kept.
+pub const MOST_KEEP: u64 = 4_194_304;
+
+/// The number of keys.
+pub(crate) const COUNT: usize = 29;
+
+/// The speeds of the second processor, in MHz.
+const SPEEDS: &[&str] = &["3", "4"];
+
+// A row of the table.
+fn row(word: &'static str, takers: Takers, value: Value) -> Key
+    ensures { seen_key result ≡ keys.key word.now takers (seen_value value) }
+{
+    Key {
+        word,
+        takers,
+        value,
+    }
+}
+
+// The table of the keys. Those of files stand in the order in which the files are read.
+#[tactic(auto, unfolding(crate::specs::Keys::keys))]
+fn table() -> [Key; COUNT]
+    ensures { map seen_key result ≡ keys.keys }
+{
+    [
+        row("--os", HOSTS, Value::File(Slot::Os)),
+        row("--tube", PARAS, Value::File(Slot::Tube)),
+        row("--rom0", HOSTS, Value::File(Slot::Rom(0))),
+        row("--rom1", HOSTS, Value::File(Slot::Rom(1))),
+        row("--rom2", HOSTS, Value::File(Slot::Rom(2))),
+        row("--rom3", HOSTS, Value::File(Slot::Rom(3))),
+        row("--rom4", HOSTS, Value::File(Slot::Rom(4))),
+        row("--rom5", HOSTS, Value::File(Slot::Rom(5))),
+        row("--rom6", HOSTS, Value::File(Slot::Rom(6))),
+        row("--rom7", HOSTS, Value::File(Slot::Rom(7))),
+        row("--rom8", HOSTS, Value::File(Slot::Rom(8))),
+        row("--rom9", HOSTS, Value::File(Slot::Rom(9))),
+        row("--rom10", HOSTS, Value::File(Slot::Rom(10))),
+        row("--rom11", HOSTS, Value::File(Slot::Rom(11))),
+        row("--rom12", HOSTS, Value::File(Slot::Rom(12))),
+        row("--rom13", HOSTS, Value::File(Slot::Rom(13))),
+        row("--rom14", HOSTS, Value::File(Slot::Rom(14))),
+        row("--rom15", HOSTS, Value::File(Slot::Rom(15))),
+        row("--font", HOSTS, Value::File(Slot::Font)),
+        row("--disc0", HOSTS, Value::File(Slot::Disc(0))),
+        row("--disc1", HOSTS, Value::File(Slot::Disc(1))),
+        row("--keys", HOSTS, Value::File(Slot::Keys)),
+        row("--plugs", HOSTS, Value::Number { least: 0, most: 8 }),
+        row(
+            "--keep",
+            RUNS,
+            Value::Number {
+                least: 0,
+                most: MOST_KEEP,
+            },
+        ),
+        row("--speed", MACHINES, Value::OneOf(SPEEDS)),
+        row("--wav", HEARD, Value::Output),
+        row("--save", RUNS, Value::Output),
+        row("--at", LISTS, Value::FourDigits),
+        row("--watch", LISTS, Value::FourDigits),
+    ]
+}
+
+// The key at a place.
+fn key_at(place: usize) -> Key
+    requires { place < COUNT }
+    ensures { seen_key result ≡ key_at place }
+{
+    table()[place]
+}
+
+/// What the value of the key at a place is.
+pub(crate) fn kind_of(place: usize) -> Value
+    requires { place < COUNT }
+    ensures { seen_value result ≡ (key_at place).value }
+{
+    key_at(place).value
+}
+
+/// The place of a key among all.
+pub(crate) fn place_of(word: &str) -> Option<usize>
+    ensures place { result ≡ place_of word.now }
+    ensures bound { IfSome result (λ i. i < COUNT) }
+{
+    for i in 0..COUNT {
+        if key_at(i).word == word {
+            return Some(i);
+        }
+    }
+    None
+}
+
+// A command is among those that take an option.
+fn takes(taker: Taker, takers: Takers) -> bool
+    ensures { result ≡ takes taker takers }
+{
+    match taker {
+        Taker::ReplayHost => takers.replay_host,
+        Taker::ReplayPara => takers.replay_para,
+        Taker::Solo => takers.solo,
+        Taker::Run => takers.run,
+        Taker::Resume => takers.resume,
+        Taker::FollowHost => takers.follow_host,
+        Taker::FollowPara => takers.follow_para,
+    }
+}
+
+// A word is one of some words.
+fn is_among(words: &[&str], word: &str) -> bool
+    ensures { result ≡ is_among (map seen_word words.now) word.now }
+{
+    for one in words {
+        if *one == word {
+            return true;
+        }
+    }
+    false
+}
+
+// A decimal number within these limits.
+fn is_number(word: &str, least: u64, most: u64) -> bool
+    ensures { result ≡ is_from least (decimal_number most word.now) }
+{
+    match decimal_number(word.as_bytes(), most) {
+        Some(n) => n >= least,
+        None => false,
+    }
+}
+
+// Four upper-case hexadecimal digits.
+fn is_four_digits(word: &str) -> bool
+    ensures { result ≡ is_four_digits word.now }
+{
+    let digits = word.as_bytes();
+    digits.len() == 4 && all_hex(digits)
+}
+
+/// The number of four upper-case hexadecimal digits.
+pub(crate) fn address_of(word: &str) -> Option<u16>
+    ensures { result ≡ address_of word.now }
+{
+    let digits = word.as_bytes();
+    if digits.len() == 4 && all_hex(digits) {
+        Some(hex_number(digits) as u16)
+    } else {
+        None
+    }
+}
+
+// A word may be such a value.
+fn is_value(kind: Value, word: &str) -> bool
+    ensures { result ≡ is_value (seen_value kind) word.now }
+{
+    match kind {
+        Value::File(_) | Value::Output => is_name(word),
+        Value::Number { least, most } => is_number(word, least, most),
+        Value::OneOf(words) => is_among(words, word),
+        Value::FourDigits => is_four_digits(word),
+    }
+}
+
+/// An option of the key at a place may have this value where this command takes it.
+pub(crate) fn fits(taker: Taker, place: usize, value: &str) -> bool
+    requires { place < COUNT }
+    ensures { result ≡ fits taker place value.now }
+{
+    let key = key_at(place);
+    takes(taker, key.takers) && is_value(key.value, value)
+}

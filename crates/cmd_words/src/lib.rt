@@ -1,0 +1,17 @@
+//! The words of beebtube: the grammar, and the files that a command reads.
+#![tactic(auto)]
+
+mod alone;
+mod command;
+mod discs;
+mod files;
+mod given;
+mod keys;
+mod law;
+mod words;
+
+pub use command::Command;
+pub use given::Given;
+pub use keys::{MOST_KEEP, Slot};
+pub use law::{options_are_order_free, options_stand_anywhere};
+pub use words::command_of;

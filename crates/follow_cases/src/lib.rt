@@ -1,5 +1,0 @@
-//! Cases of listings.
-#![tactic(auto)]
-
-#[cfg(test)]
-mod tests;

@@ -1,2 +1,0 @@
-//! Tables of cases, by the public calls.
-mod listings;

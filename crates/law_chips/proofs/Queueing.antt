@@ -1,0 +1,492 @@
+-- A register of the Tube, event by event.
+use Rattle.std.proofs.Common.{◌≡◌, ◌∙◌, sym, ap, subst, refl, ℕ, zero, suc, ◌+◌, ◌-◌, ◌*◌, ◌/◌, ◌%◌, ◌<◌, ◌≤◌, ◌==◌, ◌&&◌, ◌||◌, Bool, true, false, not, List, [], ◌∷◌, ◌++◌, length, arith, inl, inr}
+use Rattle.std.specs.Prelude.{Option, None, Some, is_some, nat_lt, if◌then◌else◌}
+use Rattle.std.proofs.lemmas.Bool.{cases_eq, eq-eqb, ne_eqb, eqb-true, eqb-false, lt-ltb, cases_Bool, or_parts, true≢false, false≢true}
+use Rattle.std.proofs.lemmas.List.{append-nil, append_assoc}
+use Rattle.beeb_bits.specs.Bits.{bit}
+use Rattle.beeb_bits.specs.declared.Side.{Side}
+use Rattle.beeb_bits.specs.declared.Side.TheVariants.{Host, Para}
+use Rattle.tube_chip.specs.declared.Op.TheVariants.{Read, Write, Reset}
+use Rattle.tube_chip.specs.declared.Answer.{Answer}
+use Rattle.tube_chip.specs.Register.{Register, empty, holds, held_bytes, count, front_of, take_leaves, write_leaves}
+use Rattle.tube_chip.specs.State.{State, Flags, Bank, register, with_register, incoming_bank, capacity, is_empty, power_on, clear_leaves}
+use Rattle.tube_chip.specs.Act.{Query, access, look, is_status, register_number, flags_after, answer_of, control_leaves, read_by, written_by, status_written, op_leaves, with_counts, chip_after, act}
+use Rattle.tube_chip.specs.Events.{Event, after_from}
+use Rattle.law_chips.specs.Queues.{reader, queue, byte_number, byte_sent, clears, destroys, byte_shown, is_read, read_out, the_byte, written_in}
+use Rattle.law_chips.specs.Queues.{leaves, comes, over, MayAsk, DestroysNothing, ClearsNothing, RegistersAreQueues, NothingIsLost, FifoLosesNothing}
+
+-- registers have numbers 1 to 4
+four : (P : ℕ → Type 0) → P 1 → P 2 → P 3 → P 4 → (k : ℕ) → 1 ≤ k → k ≤ 4 → P k
+four P a b c d zero low high = absurd (omega arith)
+four P a b c d (suc zero) low high = a
+four P a b c d (suc (suc zero)) low high = b
+four P a b c d (suc (suc (suc zero))) low high = c
+four P a b c d (suc (suc (suc (suc zero)))) low high = d
+four P a b c d (suc (suc (suc (suc (suc k))))) low high = absurd (omega arith)
+
+-- one register of a bank changes, and no other
+Changes : (ℕ → Register → Register) → Bank → ℕ → ℕ → Type 0
+Changes f bank j k = register k (with_register j (f j (register j bank)) bank) ≡ (if j == k then f k (register k bank) else register k bank)
+
+changes : (f : ℕ → Register → Register) (bank : Bank) (j k : ℕ) → 1 ≤ j → j ≤ 4 → 1 ≤ k → k ≤ 4 → Changes f bank j k
+unfolding Changes
+changes f bank j k lj hj lk hk =
+    four (λ i. Changes f bank i k)
+    (four (Changes f bank 1) refl refl refl refl k lk hk)
+    (four (Changes f bank 2) refl refl refl refl k lk hk)
+    (four (Changes f bank 3) refl refl refl refl k lk hk)
+    (four (Changes f bank 4) refl refl refl refl k lk hk)
+    j lj hj
+
+-- the count of rises is no part of a register
+counted_keeps : (from : Side) (k : ℕ) (old new : State) → queue from k (with_counts old new) ≡ queue from k new
+counted_keeps Host k old new = refl
+counted_keeps Para k old new = refl
+
+-- an odd number is that of a byte, and an even one that of a status
+odd_is : (number k : ℕ) → is_status number ≡ false → 1 ≤ k → (number == byte_number k) ≡ (register_number number == k)
+odd_is number k odd low =
+    let o : number % 2 ≡ 0 → ⊥ = eqb-false (number % 2) 0 odd in
+    elim (cases_eq number (2 * k - 1)) [
+      | inl same ↦ eq-eqb number (2 * k - 1) same ∙ sym (eq-eqb (number / 2 + 1) k (omega arith))
+      | inr other ↦ ne_eqb number (2 * k - 1) other ∙ sym (ne_eqb (number / 2 + 1) k (λ e. other (omega (arith, o, e))))
+    ]
+
+even_is : (number k : ℕ) → is_status number ≡ true → 1 ≤ k → (number == byte_number k) ≡ false
+even_is number k even low =
+    let e : number % 2 ≡ 0 = eqb-true (number % 2) 0 even in
+    ne_eqb number (2 * k - 1) (λ same. omega (arith, e, same))
+
+odd_not_0 : (number : ℕ) → is_status number ≡ false → (number == 0) ≡ false
+odd_not_0 number odd =
+    let o : number % 2 ≡ 0 → ⊥ = eqb-false (number % 2) 0 odd in
+    ne_eqb number 0 (λ e. omega (arith, o, e))
+
+-- What leaves a register and what comes into it, by what an event is for it: it clears all (z), writes this byte (s), reads (r).
+Balance : Bool → Option ℕ → Bool → ℕ → List ℕ → List ℕ → Register → Register → Type 0
+Balance z s r room shown made q after =
+    (if z || (is_some s && ((room == 1) && not (is_empty q))) then held_bytes q else if r && not (is_empty q) then shown else []) ++ held_bytes after
+    ≡ held_bytes q ++ (if z then made else if z || (is_some s && ((room == 1) && not (is_empty q))) then the_byte s else if nat_lt (count q) room then the_byte s else [])
+
+balanced : (z z' : Bool) (s s' : Option ℕ) (r : Bool) (room : ℕ) (shown made : List ℕ) (q after after' : Register) →
+    z ≡ z' → s ≡ s' → after ≡ after' → Balance z' s' r room shown made q after' → Balance z s r room shown made q after
+balanced z z' s s' r room shown made q after after' ez es ea t =
+    subst (λ x. Balance x s r room shown made q after) (sym ez)
+    (subst (λ x. Balance z' x r room shown made q after) (sym es) (subst (λ x. Balance z' s' r room shown made q x) (sym ea) t))
+
+nothing_comes : (b : Bool) (bytes : List ℕ) → bytes ≡ bytes ++ (if b then [] else [])
+nothing_comes true bytes = sym (append-nil bytes)
+nothing_comes false bytes = sym (append-nil bytes)
+
+-- an event that has nothing to do with the register
+apart : (room : ℕ) (shown made : List ℕ) (q : Register) → Balance false None false room shown made q q
+unfolding Balance
+apart room shown made q = nothing_comes (nat_lt (count q) room) (held_bytes q)
+
+is_some_held : (front : ℕ) (rest : List ℕ) → is_empty (holds front rest) ≡ false
+is_some_held front rest = ne_eqb (length (front ∷ rest)) 0 (λ e. omega (arith, e))
+
+-- a read, or none
+one_read : (b : Bool) (room : ℕ) (shown made : List ℕ) (q : Register) → (b ≡ true → shown ≡ front_of q ∷ []) →
+    Balance false None b room shown made q (if b then take_leaves q else q)
+unfolding Balance
+one_read false room shown made q is = nothing_comes (nat_lt (count q) room) (held_bytes q)
+one_read true room shown made (empty remembered) is = nothing_comes (nat_lt 0 room) []
+one_read true room shown made (holds front []) is =
+    ap (λ bytes. bytes ++ []) (is refl) ∙ nothing_comes (nat_lt 1 room) (front ∷ [])
+one_read true room shown made (holds front (next ∷ rest)) is =
+    ap (λ b. (if not b then shown else []) ++ next ∷ rest) (is_some_held front (next ∷ rest))
+    ∙ ap (λ bytes. bytes ++ next ∷ rest) (is refl) ∙ nothing_comes (nat_lt (count (holds front (next ∷ rest))) room) (front ∷ next ∷ rest)
+
+by_room : (has : Bool) (front byte : ℕ) (rest : List ℕ) →
+    held_bytes (if has then holds front (rest ++ byte ∷ []) else holds front rest) ≡ (front ∷ rest) ++ (if has then byte ∷ [] else [])
+by_room true front byte rest = refl
+by_room false front byte rest = sym (append-nil (front ∷ rest))
+
+-- a write to a register for one byte, or for more
+one_byte : (one : Bool) (room byte : ℕ) (shown made : List ℕ) (q : Register) → (room == 1) ≡ one → 1 ≤ room →
+    Balance false (Some byte) false room shown made q (write_leaves room byte q)
+unfolding Balance
+one_byte true room byte shown made (empty remembered) is some = rw (is, lt-ltb 0 room some) refl
+one_byte true room byte shown made (holds front rest) is some = rw (is, is_some_held front rest) refl
+one_byte false room byte shown made (empty remembered) is some = rw (is, lt-ltb 0 room some) refl
+one_byte false room byte shown made (holds front rest) is some = rw is (by_room (nat_lt (length (front ∷ rest)) room) front byte rest)
+
+one_write : (b : Bool) (room byte : ℕ) (shown made : List ℕ) (q : Register) → 1 ≤ room →
+    Balance false (if b then Some byte else None) false room shown made q (if b then write_leaves room byte q else q)
+one_write false room byte shown made q some = apart room shown made q
+one_write true room byte shown made q some = one_byte (room == 1) room byte shown made q refl some
+
+-- a clear, or none
+one_clear : (z : Bool) (room : ℕ) (shown made : List ℕ) (q after : Register) → (z ≡ true → held_bytes after ≡ made) → (z ≡ false → after ≡ q) →
+    Balance z None false room shown made q after
+unfolding Balance
+one_clear true room shown made q after cleared stays = ap (λ bytes. held_bytes q ++ bytes) (cleared refl)
+one_clear false room shown made q after cleared stays = ap held_bytes (stays refl) ∙ nothing_comes (nat_lt (count q) room) (held_bytes q)
+
+-- there is room for a byte at least
+one_or_two : (b : Bool) → 1 ≤ (if b then 2 else 1)
+one_or_two true = omega arith
+one_or_two false = omega arith
+
+or_more : (b : Bool) (n : ℕ) → 1 ≤ n → 1 ≤ (if b then 24 else n)
+or_more true n some = omega arith
+or_more false n some = some
+
+has_capacity : (from : Side) (k : ℕ) (flags : Flags) → 1 ≤ capacity from k flags
+has_capacity Host k flags = one_or_two ((k == 3) && flags.v)
+has_capacity Para k flags = or_more (k == 1) (if (k == 3) && flags.v then 2 else 1) (one_or_two ((k == 3) && flags.v))
+
+-- ---- What an event makes of a register.
+
+number_low : (number : ℕ) → number < 8 → register_number number ≤ 4
+number_low number low = omega arith
+
+number_some : (number : ℕ) → 1 ≤ register_number number
+number_some number = omega arith
+
+-- A read by the side that reads it takes its byte, where the number is that of the byte.
+read_by_reader : (from : Side) (k number : ℕ) (c : State) → number < 8 → 1 ≤ k → k ≤ 4 →
+    queue from k (read_by (reader from) (register_number number) c)
+    ≡ (if register_number number == k then take_leaves (queue from k c) else queue from k c)
+unfolding Changes
+read_by_reader Host k number c low lk hk =
+    changes (λ i r. take_leaves r) c.to_para (register_number number) k (number_some number) (number_low number low) lk hk
+read_by_reader Para k number c low lk hk =
+    changes (λ i r. take_leaves r) c.to_host (register_number number) k (number_some number) (number_low number low) lk hk
+
+after_read : (from : Side) (k number : ℕ) (c : State) → number < 8 → 1 ≤ k → k ≤ 4 →
+    queue from k (chip_after c (reader from) (Read number)) ≡ (if number == byte_number k then take_leaves (queue from k c) else queue from k c)
+after_read from k number c low lk hk =
+    counted_keeps from k c (op_leaves c (reader from) (Read number))
+    ∙ elim (cases_Bool (is_status number)) [
+      | inl even ↦
+          ap (λ b. queue from k (if b then c else read_by (reader from) (register_number number) c)) even
+          ∙ sym (ap (λ b. if b then take_leaves (queue from k c) else queue from k c) (even_is number k even lk))
+      | inr odd ↦
+          ap (λ b. queue from k (if b then c else read_by (reader from) (register_number number) c)) odd
+          ∙ read_by_reader from k number c low lk hk
+          ∙ sym (ap (λ b. if b then take_leaves (queue from k c) else queue from k c) (odd_is number k odd lk))
+    ]
+
+incoming_is : (from : Side) (k : ℕ) (c : State) → register k (incoming_bank (reader from) c) ≡ queue from k c
+incoming_is Host k c = refl
+incoming_is Para k c = refl
+
+-- It answers the front byte.
+read_shows : (from : Side) (k number : ℕ) (c : State) → 1 ≤ k → (number == byte_number k) ≡ true →
+    answer_of c (reader from) (Read number) ≡ front_of (queue from k c)
+read_shows from k number c low is =
+    let e : number ≡ 2 * k - 1 = eqb-true number (2 * k - 1) is in
+    let odd : is_status number ≡ false = ne_eqb (number % 2) 0 (λ z. omega (arith, e, z)) in
+    let same : register_number number ≡ k = omega (arith, e) in
+    rw odd (ap (λ i. front_of (register i (incoming_bank (reader from) c))) same ∙ ap front_of (incoming_is from k c))
+
+-- The side that writes it reads other registers.
+others_read : (from : Side) (k j : ℕ) (c : State) → queue from k (read_by from j c) ≡ queue from k c
+others_read Host k j c = refl
+others_read Para k j c = refl
+
+own_read : (from : Side) (k number : ℕ) (c : State) → queue from k (chip_after c from (Read number)) ≡ queue from k c
+own_read from k number c =
+    counted_keeps from k c (op_leaves c from (Read number))
+    ∙ elim (cases_Bool (is_status number)) [
+      | inl even ↦ ap (λ b. queue from k (if b then c else read_by from (register_number number) c)) even
+      | inr odd ↦ ap (λ b. queue from k (if b then c else read_by from (register_number number) c)) odd ∙ others_read from k (register_number number) c
+    ]
+
+-- A write by the side that writes it.
+write_by_own : (from : Side) (k number byte : ℕ) (c : State) → number < 8 → 1 ≤ k → k ≤ 4 →
+    queue from k (written_by from (register_number number) byte c)
+    ≡ (if register_number number == k then write_leaves (capacity from k c.flags) byte (queue from k c) else queue from k c)
+unfolding Changes
+write_by_own Host k number byte c low lk hk =
+    changes (λ i r. write_leaves (capacity Host i c.flags) byte r) c.to_para (register_number number) k (number_some number) (number_low number low) lk hk
+write_by_own Para k number byte c low lk hk =
+    changes (λ i r. write_leaves (capacity Para i c.flags) byte r) c.to_host (register_number number) k (number_some number) (number_low number low) lk hk
+
+after_odd_write : (from : Side) (k number byte : ℕ) (c : State) → is_status number ≡ false → number < 8 → 1 ≤ k → k ≤ 4 →
+    queue from k (chip_after c from (Write number byte))
+    ≡ (if number == byte_number k then write_leaves (capacity from k c.flags) byte (queue from k c) else queue from k c)
+after_odd_write from k number byte c odd low lk hk =
+    counted_keeps from k c (op_leaves c from (Write number byte))
+    ∙ ap (λ b. queue from k (if b then status_written from number byte c else written_by from (register_number number) byte c)) odd
+    ∙ write_by_own from k number byte c low lk hk
+    ∙ sym (ap (λ b. if b then write_leaves (capacity from k c.flags) byte (queue from k c) else queue from k c) (odd_is number k odd lk))
+
+-- The side that reads it writes other registers.
+others_written : (from : Side) (k j byte : ℕ) (c : State) → queue from k (written_by (reader from) j byte c) ≡ queue from k c
+others_written Host k j byte c = refl
+others_written Para k j byte c = refl
+
+after_odd_other : (from : Side) (k number byte : ℕ) (c : State) → is_status number ≡ false →
+    queue from k (chip_after c (reader from) (Write number byte)) ≡ queue from k c
+after_odd_other from k number byte c odd =
+    counted_keeps from k c (op_leaves c (reader from) (Write number byte))
+    ∙ ap (λ b. queue from k (if b then status_written (reader from) number byte c else written_by (reader from) (register_number number) byte c)) odd
+    ∙ others_written from k (register_number number) byte c
+
+-- a write to a status: the control register, or nothing
+after_control : (from : Side) (k number byte : ℕ) (c : State) → is_status number ≡ true →
+    queue from k (chip_after c Host (Write number byte)) ≡ queue from k (if number == 0 then control_leaves byte c else c)
+after_control from k number byte c even =
+    counted_keeps from k c (op_leaves c Host (Write number byte))
+    ∙ ap (λ b. queue from k (if b then status_written Host number byte c else written_by Host (register_number number) byte c)) even
+
+after_no_control : (from : Side) (k number byte : ℕ) (c : State) → is_status number ≡ true →
+    queue from k (chip_after c Para (Write number byte)) ≡ queue from k c
+after_no_control from k number byte c even =
+    counted_keeps from k c (op_leaves c Para (Write number byte))
+    ∙ ap (λ b. queue from k (if b then status_written Para number byte c else written_by Para (register_number number) byte c)) even
+
+has_cleared : (from : Side) (k : ℕ) (c : State) → held_bytes (queue from k (clear_leaves c)) ≡ held_bytes (queue from k power_on)
+has_cleared Host k c = refl
+has_cleared Para k c = refl
+
+flags_only : (from : Side) (k : ℕ) (flags : Flags) (c : State) → queue from k (record c { flags = flags }) ≡ queue from k c
+flags_only Host k flags c = refl
+flags_only Para k flags c = refl
+
+control : Bool → Bool → Flags → State → State
+control z t flags c = if z then (if t then clear_leaves (record c { flags = flags }) else record c { flags = flags }) else c
+
+cleared_by : (z t : Bool) (from : Side) (k : ℕ) (flags : Flags) (c : State) → (z && t) ≡ true →
+    held_bytes (queue from k (control z t flags c)) ≡ held_bytes (queue from k power_on)
+unfolding control
+cleared_by true true from k flags c is = has_cleared from k (record c { flags = flags })
+cleared_by true false from k flags c is = absurd (false≢true is)
+cleared_by false t from k flags c is = absurd (false≢true is)
+
+not_cleared : (z t : Bool) (from : Side) (k : ℕ) (flags : Flags) (c : State) → (z && t) ≡ false →
+    queue from k (control z t flags c) ≡ queue from k c
+unfolding control
+not_cleared true true from k flags c is = absurd (true≢false is)
+not_cleared true false from k flags c is = flags_only from k flags c
+not_cleared false t from k flags c is = refl
+
+has_reset : (from : Side) (k : ℕ) (c : State) → held_bytes (queue from k (chip_after c Host Reset)) ≡ held_bytes (queue from k power_on)
+has_reset Host k c = refl
+has_reset Para k c = refl
+
+-- ---- Each event.
+
+-- An event of these parts keeps the balance of a register.
+Keeps : Side → ℕ → State → Side → Query → Answer → Type 0
+Keeps from k c side query answer =
+    (tick : ℕ) → let e : Event = record { tick = tick; side = side; query = query; answer = answer } in
+    Balance (clears e) (byte_sent from k e) (is_read from k e) (capacity from k c.flags) (byte_shown answer) (held_bytes (queue from k power_on)) (queue from k c)
+    (queue from k (act c side query).0)
+
+-- a write to an odd number, by the side that writes the register
+own_write_odd : (from : Side) (k number byte : ℕ) (c : State) (answer : Answer) → is_status number ≡ false → number < 8 → 1 ≤ k → k ≤ 4 →
+    Keeps from k c from (access (Write number byte)) answer
+unfolding Keeps
+own_write_odd Host k number byte c answer odd low lk hk tick =
+    let q = queue Host k c in
+    let b = number == byte_number k in
+    balanced ((number == 0) && (bit byte 7 && bit byte 6)) false (if b then Some byte else None) (if b then Some byte else None) false
+    (capacity Host k c.flags) (byte_shown answer) (held_bytes (queue Host k power_on)) q (queue Host k (chip_after c Host (Write number byte)))
+    (if b then write_leaves (capacity Host k c.flags) byte q else q)
+    (ap (λ z. z && (bit byte 7 && bit byte 6)) (odd_not_0 number odd)) refl (after_odd_write Host k number byte c odd low lk hk)
+    (one_write b (capacity Host k c.flags) byte (byte_shown answer) (held_bytes (queue Host k power_on)) q (has_capacity Host k c.flags))
+own_write_odd Para k number byte c answer odd low lk hk tick =
+    let q = queue Para k c in
+    let b = number == byte_number k in
+    balanced false false (if b then Some byte else None) (if b then Some byte else None) false
+    (capacity Para k c.flags) (byte_shown answer) (held_bytes (queue Para k power_on)) q (queue Para k (chip_after c Para (Write number byte)))
+    (if b then write_leaves (capacity Para k c.flags) byte q else q)
+    refl refl (after_odd_write Para k number byte c odd low lk hk)
+    (one_write b (capacity Para k c.flags) byte (byte_shown answer) (held_bytes (queue Para k power_on)) q (has_capacity Para k c.flags))
+
+-- by the side that reads it
+other_write_odd : (from : Side) (k number byte : ℕ) (c : State) (answer : Answer) → is_status number ≡ false →
+    Keeps from k c (reader from) (access (Write number byte)) answer
+unfolding Keeps
+other_write_odd Host k number byte c answer odd tick =
+    let q = queue Host k c in
+    balanced false false None None false (capacity Host k c.flags) (byte_shown answer) (held_bytes (queue Host k power_on)) q
+    (queue Host k (chip_after c Para (Write number byte))) q refl refl (after_odd_other Host k number byte c odd)
+    (apart (capacity Host k c.flags) (byte_shown answer) (held_bytes (queue Host k power_on)) q)
+other_write_odd Para k number byte c answer odd tick =
+    let q = queue Para k c in
+    balanced ((number == 0) && (bit byte 7 && bit byte 6)) false None None false
+    (capacity Para k c.flags) (byte_shown answer) (held_bytes (queue Para k power_on)) q
+    (queue Para k (chip_after c Host (Write number byte))) q
+    (ap (λ z. z && (bit byte 7 && bit byte 6)) (odd_not_0 number odd)) refl (after_odd_other Para k number byte c odd)
+    (apart (capacity Para k c.flags) (byte_shown answer) (held_bytes (queue Para k power_on)) q)
+
+-- the host's write to an even number
+host_write_even : (from : Side) (k number byte : ℕ) (c : State) (answer : Answer) → is_status number ≡ true → 1 ≤ k →
+    Keeps from k c Host (access (Write number byte)) answer
+unfolding Keeps control
+host_write_even Host k number byte c answer even lk tick =
+    let q = queue Host k c in
+    let z = number == 0 in
+    let t = bit byte 7 && bit byte 6 in
+    let after = queue Host k (control z t (flags_after byte c.flags) c) in
+    balanced (z && t) (z && t) (if number == byte_number k then Some byte else None) None false
+    (capacity Host k c.flags) (byte_shown answer) (held_bytes (queue Host k power_on)) q (queue Host k (chip_after c Host (Write number byte))) after
+    refl (ap (λ b. if b then Some byte else None) (even_is number k even lk)) (after_control Host k number byte c even)
+    (one_clear (z && t) (capacity Host k c.flags) (byte_shown answer) (held_bytes (queue Host k power_on)) q after
+    (cleared_by z t Host k (flags_after byte c.flags) c) (not_cleared z t Host k (flags_after byte c.flags) c))
+host_write_even Para k number byte c answer even lk tick =
+    let q = queue Para k c in
+    let z = number == 0 in
+    let t = bit byte 7 && bit byte 6 in
+    let after = queue Para k (control z t (flags_after byte c.flags) c) in
+    balanced (z && t) (z && t) None None false
+    (capacity Para k c.flags) (byte_shown answer) (held_bytes (queue Para k power_on)) q (queue Para k (chip_after c Host (Write number byte))) after
+    refl refl (after_control Para k number byte c even)
+    (one_clear (z && t) (capacity Para k c.flags) (byte_shown answer) (held_bytes (queue Para k power_on)) q after
+    (cleared_by z t Para k (flags_after byte c.flags) c) (not_cleared z t Para k (flags_after byte c.flags) c))
+
+-- the parasite's
+para_write_even : (from : Side) (k number byte : ℕ) (c : State) (answer : Answer) → is_status number ≡ true → 1 ≤ k →
+    Keeps from k c Para (access (Write number byte)) answer
+unfolding Keeps
+para_write_even Host k number byte c answer even lk tick =
+    let q = queue Host k c in
+    balanced false false None None false (capacity Host k c.flags) (byte_shown answer) (held_bytes (queue Host k power_on)) q
+    (queue Host k (chip_after c Para (Write number byte))) q refl refl (after_no_control Host k number byte c even)
+    (apart (capacity Host k c.flags) (byte_shown answer) (held_bytes (queue Host k power_on)) q)
+para_write_even Para k number byte c answer even lk tick =
+    let q = queue Para k c in
+    balanced false false (if number == byte_number k then Some byte else None) None false
+    (capacity Para k c.flags) (byte_shown answer) (held_bytes (queue Para k power_on)) q
+    (queue Para k (chip_after c Para (Write number byte))) q
+    refl (ap (λ b. if b then Some byte else None) (even_is number k even lk)) (after_no_control Para k number byte c even)
+    (apart (capacity Para k c.flags) (byte_shown answer) (held_bytes (queue Para k power_on)) q)
+
+-- reads
+reader_reads : (from : Side) (k number : ℕ) (c : State) (answer : Answer) → number < 8 → 1 ≤ k → k ≤ 4 →
+    (act c (reader from) (access (Read number))).1 ≡ answer → Keeps from k c (reader from) (access (Read number)) answer
+unfolding Keeps
+reader_reads Host k number c answer low lk hk answered tick =
+    let q = queue Host k c in
+    let b = number == byte_number k in
+    balanced false false None None b (capacity Host k c.flags) (byte_shown answer) (held_bytes (queue Host k power_on)) q
+    (queue Host k (chip_after c Para (Read number))) (if b then take_leaves q else q) refl refl (after_read Host k number c low lk hk)
+    (one_read b (capacity Host k c.flags) (byte_shown answer) (held_bytes (queue Host k power_on)) q
+    (λ is. ap byte_shown (sym answered) ∙ ap (λ byte. byte ∷ []) (read_shows Host k number c lk is)))
+reader_reads Para k number c answer low lk hk answered tick =
+    let q = queue Para k c in
+    let b = number == byte_number k in
+    balanced false false None None b (capacity Para k c.flags) (byte_shown answer) (held_bytes (queue Para k power_on)) q
+    (queue Para k (chip_after c Host (Read number))) (if b then take_leaves q else q) refl refl (after_read Para k number c low lk hk)
+    (one_read b (capacity Para k c.flags) (byte_shown answer) (held_bytes (queue Para k power_on)) q
+    (λ is. ap byte_shown (sym answered) ∙ ap (λ byte. byte ∷ []) (read_shows Para k number c lk is)))
+
+own_reads : (from : Side) (k number : ℕ) (c : State) (answer : Answer) → Keeps from k c from (access (Read number)) answer
+unfolding Keeps
+own_reads Host k number c answer tick =
+    let q = queue Host k c in
+    balanced false false None None false (capacity Host k c.flags) (byte_shown answer) (held_bytes (queue Host k power_on)) q
+    (queue Host k (chip_after c Host (Read number))) q refl refl (own_read Host k number c)
+    (apart (capacity Host k c.flags) (byte_shown answer) (held_bytes (queue Host k power_on)) q)
+own_reads Para k number c answer tick =
+    let q = queue Para k c in
+    balanced false false None None false (capacity Para k c.flags) (byte_shown answer) (held_bytes (queue Para k power_on)) q
+    (queue Para k (chip_after c Para (Read number))) q refl refl (own_read Para k number c)
+    (apart (capacity Para k c.flags) (byte_shown answer) (held_bytes (queue Para k power_on)) q)
+
+-- a reset clears all
+resets : (from : Side) (k : ℕ) (c : State) (answer : Answer) → Keeps from k c Host (access Reset) answer
+unfolding Keeps
+resets Host k c answer tick =
+    one_clear true (capacity Host k c.flags) (byte_shown answer) (held_bytes (queue Host k power_on)) (queue Host k c)
+    (queue Host k (chip_after c Host Reset)) (λ e. has_reset Host k c) (λ e. absurd (true≢false e))
+resets Para k c answer tick =
+    one_clear true (capacity Para k c.flags) (byte_shown answer) (held_bytes (queue Para k power_on)) (queue Para k c)
+    (queue Para k (chip_after c Host Reset)) (λ e. has_reset Para k c) (λ e. absurd (true≢false e))
+
+resets_by : (from side : Side) (k : ℕ) (c : State) (answer : Answer) → side ≡ Host → Keeps from k c side (access Reset) answer
+resets_by from Host k c answer is = resets from k c answer
+resets_by from Para k c answer is = cc
+
+looks : (from side : Side) (k : ℕ) (c : State) (answer : Answer) → Keeps from k c side look answer
+unfolding Keeps
+looks Host Host k c answer tick = apart (capacity Host k c.flags) (byte_shown answer) (held_bytes (queue Host k power_on)) (queue Host k c)
+looks Host Para k c answer tick = apart (capacity Host k c.flags) (byte_shown answer) (held_bytes (queue Host k power_on)) (queue Host k c)
+looks Para Host k c answer tick = apart (capacity Para k c.flags) (byte_shown answer) (held_bytes (queue Para k power_on)) (queue Para k c)
+looks Para Para k c answer tick = apart (capacity Para k c.flags) (byte_shown answer) (held_bytes (queue Para k power_on)) (queue Para k c)
+
+each : (from side : Side) (query : Query) (k : ℕ) (c : State) (answer : Answer) → 1 ≤ k → k ≤ 4 → MayAsk side query →
+    (act c side query).1 ≡ answer → Keeps from k c side query answer
+each from side look k c answer lk hk may answered = looks from side k c answer
+each from side (access Reset) k c answer lk hk may answered = resets_by from side k c answer may
+each Host Host (access (Read number)) k c answer lk hk may answered = own_reads Host k number c answer
+each Host Para (access (Read number)) k c answer lk hk may answered = reader_reads Host k number c answer may lk hk answered
+each Para Host (access (Read number)) k c answer lk hk may answered = reader_reads Para k number c answer may lk hk answered
+each Para Para (access (Read number)) k c answer lk hk may answered = own_reads Para k number c answer
+each Host Host (access (Write number byte)) k c answer lk hk may answered = elim (cases_Bool (is_status number)) [
+  | inl even ↦ host_write_even Host k number byte c answer even lk
+  | inr odd ↦ own_write_odd Host k number byte c answer odd may lk hk
+]
+each Host Para (access (Write number byte)) k c answer lk hk may answered = elim (cases_Bool (is_status number)) [
+  | inl even ↦ para_write_even Host k number byte c answer even lk
+  | inr odd ↦ other_write_odd Host k number byte c answer odd
+]
+each Para Host (access (Write number byte)) k c answer lk hk may answered = elim (cases_Bool (is_status number)) [
+  | inl even ↦ host_write_even Para k number byte c answer even lk
+  | inr odd ↦ other_write_odd Para k number byte c answer odd
+]
+each Para Para (access (Write number byte)) k c answer lk hk may answered = elim (cases_Bool (is_status number)) [
+  | inl even ↦ para_write_even Para k number byte c answer even lk
+  | inr odd ↦ own_write_odd Para k number byte c answer odd may lk hk
+]
+
+one_event : (from : Side) (k : ℕ) (c : State) (e : Event) → 1 ≤ k → k ≤ 4 → MayAsk e.side e.query → (act c e.side e.query).1 ≡ e.answer →
+    leaves from k c e ++ held_bytes (queue from k (act c e.side e.query).0) ≡ held_bytes (queue from k c) ++ comes from k c e
+unfolding Keeps Balance
+one_event from k c e lk hk may answered = each from e.side e.query k c e.answer lk hk may answered e.tick
+
+-- ---- Runs.
+
+-- what leaves and what comes, one event in front
+one_more : (left lefts here next comes more last : List ℕ) → left ++ next ≡ here ++ comes → lefts ++ last ≡ next ++ more →
+    (left ++ lefts) ++ last ≡ here ++ (comes ++ more)
+one_more left lefts here next comes more last first rest =
+    append_assoc left lefts last ∙ ap (λ bytes. left ++ bytes) rest ∙ sym (append_assoc left next more)
+    ∙ ap (λ bytes. bytes ++ more) first ∙ append_assoc here comes more
+
+pub all_queues : RegistersAreQueues
+all_queues from k c [] lk hk may answered = sym (append-nil (held_bytes (queue from k c)))
+all_queues from k c (e ∷ events) lk hk may answered =
+    let d = (act c e.side e.query).0 in
+    one_more (leaves from k c e) (over (leaves from k) d events) (held_bytes (queue from k c)) (held_bytes (queue from k d)) (comes from k c e)
+    (over (comes from k) d events) (held_bytes (queue from k (after_from d events)))
+    (one_event from k c e lk hk may.0 answered.0) (all_queues from k d events lk hk may.1 answered.1)
+
+-- where nothing is destroyed
+only_read : (from : Side) (k : ℕ) (c : State) (e : Event) → destroys from k c e ≡ false → leaves from k c e ≡ read_out from k c e
+only_read from k c e keeps = ap (λ b. if b then held_bytes (queue from k c) else read_out from k c e) keeps
+
+only_written : (from : Side) (k : ℕ) (c : State) (e : Event) → destroys from k c e ≡ false → comes from k c e ≡ written_in from k c e
+only_written from k c e keeps =
+    let stays : clears e ≡ false = (or_parts (clears e) _ keeps).0 in
+    ap (λ b. if b then held_bytes (queue from k power_on) else if destroys from k c e then the_byte (byte_sent from k e) else written_in from k c e) stays
+    ∙ ap (λ b. if b then the_byte (byte_sent from k e) else written_in from k c e) keeps
+
+pub all_kept : NothingIsLost
+all_kept from k c [] lk hk may answered keeps = sym (append-nil (held_bytes (queue from k c)))
+all_kept from k c (e ∷ events) lk hk may answered keeps =
+    let d = (act c e.side e.query).0 in
+    one_more (read_out from k c e) (over (read_out from k) d events) (held_bytes (queue from k c)) (held_bytes (queue from k d)) (written_in from k c e)
+    (over (written_in from k) d events) (held_bytes (queue from k (after_from d events)))
+    (ap (λ bytes. bytes ++ held_bytes (queue from k d)) (sym (only_read from k c e keeps.0)) ∙ one_event from k c e lk hk may.0 answered.0
+    ∙ ap (λ bytes. held_bytes (queue from k c) ++ bytes) (only_written from k c e keeps.0))
+    (all_kept from k d events lk hk may.1 answered.1 keeps.1)
+
+-- register 1 to the host is for 24 bytes
+fifo_keeps : (z a b : Bool) → z ≡ false → (z || (a && (false && b))) ≡ false
+fifo_keeps z true b stays = rw stays refl
+fifo_keeps z false b stays = rw stays refl
+
+fifo_destroys_nothing : (c : State) (events : List Event) → ClearsNothing events → DestroysNothing Para 1 c events
+fifo_destroys_nothing c [] clear = tt
+fifo_destroys_nothing c (e ∷ events) clear =
+    (fifo_keeps (clears e) (is_some (byte_sent Para 1 e)) (not (is_empty (queue Para 1 c))) clear.0, fifo_destroys_nothing (act c e.side e.query).0 events clear.1)
+
+pub fifo_kept : FifoLosesNothing
+fifo_kept c events may answered clear =
+    all_kept Para 1 c events (omega arith) (omega arith) may answered (fifo_destroys_nothing c events clear)

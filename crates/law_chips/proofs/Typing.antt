@@ -1,0 +1,46 @@
+-- The last event for a key is the one that is set last.
+use Rattle.std.proofs.Common.{◌≡◌, ◌∙◌, sym, ap, refl, ℕ, ◌==◌, Bool, true, false, List, [], ◌∷◌, inl, inr}
+use Rattle.std.specs.Prelude.{nat_le, unwrap_or, Option, Some, None, if◌then◌else◌}
+use Rattle.std.proofs.lemmas.Bool.{cases_eq, eq-eqb, ne_eqb}
+use Rattle.key_script.specs.declared.Event.{Event}
+use Rattle.key_script.specs.declared.What.{What}
+use Rattle.key_script.specs.declared.What.TheVariants.{Down, Up, Shot, Break, Level}
+use Rattle.key_script.specs.Events.{tick_of}
+use Rattle.key_script.specs.Last.{or_earlier}
+use Rattle.key_script.specs.Keys.{made_of, made_by, last_made}
+use Rattle.keyboard.specs.Keys.{Keys, no_key}
+use Rattle.law_chips.specs.Typing.{keys_after, typed_by, ScriptIsTyped}
+
+set_one : (k key : ℕ) (down old : Bool) → (if key == k then down else old) ≡ unwrap_or (if k == key then Some down else None) old
+set_one k key down old = elim (cases_eq k key) [
+  | inl same ↦ rw (eq-eqb key k (sym same), eq-eqb k key same) refl
+  | inr other ↦ rw (ne_eqb key k (λ e. other (sym e)), ne_eqb k key other) refl
+]
+
+-- what an event makes of a key, or what it was
+one_key : (what : What) (key : ℕ) (keys : Keys) → keys_after what keys key ≡ unwrap_or (made_of key what) (keys key)
+one_key (Down k) key keys = set_one k key true (keys key)
+one_key (Up k) key keys = set_one k key false (keys key)
+one_key Shot key keys = refl
+one_key Break key keys = refl
+one_key (Level channel level) key keys = refl
+
+-- an event that has come, or not
+come : (is : Bool) (what : What) (key : ℕ) (keys : Keys) →
+    (if is then keys_after what keys else keys) key ≡ unwrap_or (if is then made_of key what else None) (keys key)
+come true what key keys = one_key what key keys
+come false what key keys = refl
+
+either : (last earlier : Option Bool) (old : Bool) → unwrap_or last (unwrap_or earlier old) ≡ unwrap_or (or_earlier last earlier) old
+either (Some down) earlier old = refl
+either None earlier old = refl
+
+by_then : (t : ℕ) (events : List Event) (keys : Keys) (key : ℕ) → typed_by t events keys key ≡ unwrap_or (last_made key t events) (keys key)
+by_then t [] keys key = refl
+by_then t (e ∷ events) keys key =
+    by_then t events (if nat_le (tick_of e) t then keys_after e.what keys else keys) key
+    ∙ ap (unwrap_or (last_made key t events)) (come (nat_le (tick_of e) t) e.what key keys)
+    ∙ either (last_made key t events) (made_by key t e) (keys key)
+
+pub all_typed : ScriptIsTyped
+all_typed events key t = sym (by_then t events no_key key)

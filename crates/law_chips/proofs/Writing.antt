@@ -1,0 +1,543 @@
+-- A sector that is written, event by event.
+use Rattle.std.proofs.Common.{◌≡◌, ◌≢◌, ◌∙◌, sym, ap, subst, refl, ℕ, ◌+◌, ◌-◌, ◌*◌, ◌/◌, ◌%◌, ◌<◌, ◌≤◌, ◌==◌, ◌&&◌, ◌||◌, min, not, Bool, true}
+use Rattle.std.proofs.Common.{false, List, [], ◌∷◌, ◌++◌, length, get_or, arith, inl, inr}
+use Rattle.std.specs.Prelude.{Option, None, Some, option_map, slice_set, nat_lt, nat_le, if◌then◌else◌}
+use Rattle.std.proofs.lemmas.Bool.{cases_eq, cases_lt, eq-eqb, ne_eqb, lt-ltb, le-ltb, le-leb, lt-leb, or_parts, and_parts, and_from, and_left, and_right, ltb-true, true≢false, false_from_ne_true}
+use Rattle.std.proofs.lemmas.List.{append-nil, append_assoc, length_push, get_or_append_left, get_or_push}
+use Rattle.std.proofs.lemmas.List.FromFn.{fill_by_all}
+use Rattle.disc_image.specs.declared.Kind.{Kind}
+use Rattle.disc_image.specs.Image.{Image, has_sector, place, byte_at, byte_put, with_zeros_to, sector_bytes}
+use Rattle.disc_image.specs.Laws.{IsReadBack, OthersStay}
+use Rattle.wd1770.specs.declared.drive.DriveNumber.{DriveNumber}
+use Rattle.wd1770.specs.declared.drive.DriveNumber.TheVariants.{Drive0, Drive1}
+use Rattle.wd1770.specs.declared.drive.Target.{Target}
+use Rattle.wd1770.specs.declared.command.Command.TheVariants.{Idle, Transferring}
+use Rattle.wd1770.specs.declared.command.Transfer.{Transfer}
+use Rattle.wd1770.specs.State.{State}
+use Rattle.wd1770.specs.Select.{is_reset, disc_in}
+use Rattle.wd1770.specs.Ends.{is_asking, count_leaves, finish_leaves}
+use Rattle.wd1770.specs.Commands.{command_written, latch_leaves, stop_leaves}
+use Rattle.wd1770.specs.Sectors.{search_of, places_into, is_byte_place, sector_ended, written_in, byte_written, reading_at, writing_at, transfer_step}
+use Rattle.wd1770.specs.Registers.{read_leaves, write_leaves}
+use Rattle.wd1770.specs.Step.{work_leaves, step}
+use Rattle.wd1770.specs.History.{Event, microsecond, read, write, latch, history, count_steps}
+use Rattle.law_chips.specs.SectorReads.{sector_steps, IsAtSector, command_behind}
+use Rattle.law_chips.specs.SectorWrites.{Writes, AllWritten, given_by, bytes_given, IsStored, SectorIsWritten}
+use Rattle.law_chips.proofs.Reading.{same_disc, no_place, a_place, worked_is}
+use Rattle.law_chips.proofs.Losing.{kept_before}
+
+-- how many bytes have been written m steps after the sector was found, and for how many DRQ was set
+gone : ℕ → ℕ
+gone m = min 256 (m / 64 - 29)
+
+asked : ℕ → ℕ
+asked m = min 256 (min 1 (m / 64 - 11) + min 256 (m / 64 - 29))
+
+owed : Bool → ℕ
+owed drq = if drq then 1 else 0
+
+-- where a byte of the sector is
+at_byte : Image → Transfer → ℕ → ℕ → ℕ
+at_byte d t k i = place d.kind t.target.side t.target.head k i
+
+-- m steps after sector k of disc d was found, where these bytes have been given
+record Inside (d : Image) (t : Transfer) (k : ℕ) (s : State) (m : ℕ) (bytes : List ℕ) : Type 0 where
+  pub going : m < 18432 → s.command ≡ Transferring t k
+  pub over : 18432 ≤ m → s.command ≡ command_behind t
+  pub angle : s.angle ≡ Some (64 * (312 * k) + m)
+  pub now : Image
+  pub disc : disc_in t.target.drive s ≡ Some now
+  pub kind : now.kind ≡ d.kind
+  pub count : length bytes + owed s.drq ≡ asked m
+  pub enough : gone m ≤ length bytes
+  pub stored : (i : ℕ) → i < gone m → byte_at now (at_byte d t k i) ≡ get_or bytes i 0
+  pub pending : s.drq ≡ false → gone m < asked m → get_or bytes (gone m) 0 ≡ s.byte
+  pub others : (n : ℕ) → ((i : ℕ) → i < 256 → n ≢ at_byte d t k i) → byte_at now n ≡ byte_at d n
+
+counted_inside : (d : Image) (t : Transfer) (k : ℕ) (s : State) (m : ℕ) (bytes : List ℕ) (before : Bool) →
+    Inside d t k s m bytes → Inside d t k (count_leaves before s) m bytes
+counted_inside d t k s m bytes before is = record {
+  going = is.going;
+  over = is.over;
+  angle = is.angle;
+  now = is.now;
+  disc = same_disc t.target.drive (count_leaves before s) s refl refl ∙ is.disc;
+  kind = is.kind;
+  count = is.count;
+  enough = is.enough;
+  stored = is.stored;
+  pending = is.pending;
+  others = is.others;
+}
+
+-- the step is at the next angle
+moved_on : State → ℕ → ℕ → State
+moved_on s k m = record s { angle = Some (64 * (312 * k) + m + 1) }
+
+next_place : (k m : ℕ) → Some (64 * (312 * k) + m + 1) ≡ Some (64 * (312 * k) + (m + 1))
+next_place k m = let e : 64 * (312 * k) + m + 1 ≡ 64 * (312 * k) + (m + 1) = omega arith in ap (λ (n : ℕ). Some n) e
+
+-- A step that changes only this much: the command, DRQ and the angle.
+plain : (d : Image) (t : Transfer) (k : ℕ) (s x : State) (m : ℕ) (bytes : List ℕ) → Inside d t k s m bytes →
+    (m + 1 < 18432 → x.command ≡ Transferring t k) → (18432 ≤ m + 1 → x.command ≡ command_behind t) → x.angle ≡ Some (64 * (312 * k) + m + 1) →
+    x.drive0 ≡ s.drive0 → x.drive1 ≡ s.drive1 → x.byte ≡ s.byte → gone (m + 1) ≡ gone m → length bytes + owed x.drq ≡ asked (m + 1) →
+    (x.drq ≡ false → gone m < asked (m + 1) → get_or bytes (gone m) 0 ≡ s.byte) →
+    Inside d t k x (m + 1) bytes
+plain d t k s x m bytes is going over angle drive0 drive1 byte same count pending = record {
+  going = going;
+  over = over;
+  angle = angle ∙ next_place k m;
+  now = is.now;
+  disc = same_disc t.target.drive x s drive0 drive1 ∙ is.disc;
+  kind = is.kind;
+  count = count;
+  enough = subst (λ n. n ≤ length bytes) (sym same) is.enough;
+  stored = λ i low. is.stored i (subst (λ n. i < n) same low);
+  pending = λ off more.
+      ap (λ n. get_or bytes n 0) same ∙ pending off (subst (λ n. n < asked (m + 1)) same more) ∙ sym byte;
+  others = is.others;
+}
+
+-- nothing comes
+passes : (d : Image) (t : Transfer) (k : ℕ) (s : State) (m : ℕ) (bytes : List ℕ) → m < 18432 → gone (m + 1) ≡ gone m → asked (m + 1) ≡ asked m →
+    (m + 1 ≡ 18432 → ⊥) → Inside d t k s m bytes → Inside d t k (moved_on s k m) (m + 1) bytes
+unfolding moved_on
+passes d t k s m bytes inside same none early is =
+    plain d t k s (moved_on s k m) m bytes is (λ h. is.going inside) (λ h. absurd (early (omega (arith, h, inside)))) refl refl refl refl same (is.count ∙ sym none)
+    (λ off more. is.pending off (subst (λ n. gone m < n) none more))
+
+-- DRQ becomes set for the first byte
+asks_first : (d : Image) (t : Transfer) (k : ℕ) (s : State) (m : ℕ) (bytes : List ℕ) → m + 1 ≡ 768 → Inside d t k s m bytes →
+    Inside d t k (record (moved_on s k m) { drq = true }) (m + 1) bytes
+unfolding moved_on gone asked owed
+asks_first d t k s m bytes now is =
+    let none : length bytes ≡ 0 = omega (arith, is.count, now) in
+    plain d t k s (record (moved_on s k m) { drq = true }) m bytes is (λ h. is.going (omega (arith, now))) (λ h. absurd (omega (arith, h, now))) refl refl refl refl
+    (omega (arith, now)) (omega (arith, now, none)) (λ off. absurd (true≢false off))
+
+-- what the end of a sector leaves
+record Ended (t : Transfer) (s x : State) : Type 0 where
+  pub command : x.command ≡ command_behind t
+  pub angle : x.angle ≡ s.angle
+  pub drive0 : x.drive0 ≡ s.drive0
+  pub drive1 : x.drive1 ≡ s.drive1
+  pub byte : x.byte ≡ s.byte
+  pub drq : x.drq ≡ s.drq
+
+ended_by : (b : Bool) (t : Transfer) (s : State) → t.multiple ≡ b → Ended t s (if b then record s { sector = (s.sector + 1) % 256; command = search_of t } else finish_leaves s)
+ended_by true t s is =
+    record { command = ap (λ b. if b then search_of t else Idle) (sym is); angle = refl; drive0 = refl; drive1 = refl; byte = refl; drq = refl }
+ended_by false t s is =
+    record { command = ap (λ b. if b then search_of t else Idle) (sym is); angle = refl; drive0 = refl; drive1 = refl; byte = refl; drq = refl }
+
+ends_so : (d : Image) (t : Transfer) (k : ℕ) (s : State) (m : ℕ) (bytes : List ℕ) → m + 1 ≡ 18432 →
+    Inside d t k s m bytes → Inside d t k (sector_ended t (moved_on s k m)) (m + 1) bytes
+unfolding moved_on gone asked owed
+ends_so d t k s m bytes now is =
+    let end = ended_by t.multiple t (moved_on s k m) refl in
+    let same : asked (m + 1) ≡ asked m = omega (arith, now) in
+    plain d t k s (sector_ended t (moved_on s k m)) m bytes is (λ h. absurd (omega (arith, h, now))) (λ h. end.command) end.angle end.drive0 end.drive1 end.byte
+    (omega (arith, now)) (ap (λ b. length bytes + owed b) end.drq ∙ is.count ∙ sym same)
+    (λ off more. is.pending (sym end.drq ∙ off) (subst (λ n. gone m < n) same more))
+
+-- what a byte that is written leaves of the state
+record Put (target : Target) (number : Option DriveNumber) (k i v : ℕ) (s x : State) : Type 0 where
+  pub command : x.command ≡ s.command
+  pub angle : x.angle ≡ s.angle
+  pub byte : x.byte ≡ s.byte
+  pub disc : (now : Image) → disc_in number s ≡ Some now → disc_in number x ≡ Some (byte_put target.side target.head k i v now)
+
+put : (target : Target) (number : Option DriveNumber) (k i v : ℕ) (s : State) → Put target number k i v s (written_in number target k i v s)
+put target None k i v s = record { command = refl; angle = refl; byte = refl; disc = λ now (h : None ≡ Some now). cc }
+put target (Some Drive0) k i v s =
+    record { command = refl; angle = refl; byte = refl; disc = λ now h. ap (option_map (byte_put target.side target.head k i v)) h }
+put target (Some Drive1) k i v s =
+    record { command = refl; angle = refl; byte = refl; disc = λ now h. ap (option_map (byte_put target.side target.head k i v)) h }
+
+by_kind : (b : Bool) (d : Image) (bytes : List ℕ) → (if b then record d { bytes = bytes } else d).kind ≡ d.kind
+by_kind true d bytes = refl
+by_kind false d bytes = refl
+
+same_kind : (side track sector i v : ℕ) (d : Image) → (byte_put side track sector i v d).kind ≡ d.kind
+same_kind side track sector i v d =
+    by_kind (has_sector d.kind side track sector) d
+    (slice_set (with_zeros_to d.bytes (place d.kind side track sector 256)) (place d.kind side track sector i) v)
+
+-- DRQ behind a byte
+owed_behind : (i : ℕ) (drq : Bool) → drq ≡ false → i < 256 → i + 1 + owed (drq || not (i == 255)) ≡ min 256 (i + 2)
+unfolding owed
+owed_behind i drq off low = elim (cases_eq i 255) [
+  | inl last ↦ rw (off, eq-eqb i 255 last) (omega (arith, last))
+  | inr other ↦ rw (off, ne_eqb i 255 other) (omega (arith, low, other))
+]
+
+last_of : (i : ℕ) (drq : Bool) → (drq || not (i == 255)) ≡ false → i ≡ 255
+last_of i drq off = elim (cases_eq i 255) [
+  | inl last ↦ last
+  | inr other ↦
+      let set : (i == 255) ≡ false = ne_eqb i 255 other in
+      let on : not (i == 255) ≡ true = ap not set in
+      absurd (true≢false (sym on ∙ (or_parts drq (not (i == 255)) off).1))
+]
+
+-- places of a sector differ
+places_differ : (kind : Kind) (side track k i j : ℕ) → place kind side track k j ≡ place kind side track k i → j ≡ i
+places_differ kind side track k i j e = omega (arith, e)
+
+-- Byte i is written.
+byte_goes : (back : IsReadBack) (others : OthersStay) (d : Image) (t : Transfer) (k : ℕ) (s : State) (m i : ℕ) (bytes : List ℕ) →
+    has_sector d.kind t.target.side t.target.head k ≡ true → m < 18432 → i < 256 → m + 1 ≡ 64 * (30 + i) → s.drq ≡ false → Inside d t k s m bytes →
+    Inside d t k (byte_written t.target k i (moved_on s k m)) (m + 1) bytes
+unfolding moved_on gone asked owed at_byte
+byte_goes back others d t k s m i bytes has inside low now off is =
+    let s1 = moved_on s k m in
+    let v = if s.drq then 0 else s.byte in
+    let side = t.target.side in
+    let head = t.target.head in
+    let p = put t.target t.target.drive k i v s1 in
+    let has_it : has_sector is.now.kind side head k ≡ true = ap (λ kind. has_sector kind side head k) is.kind ∙ has in
+    let here : gone m ≡ i = omega (arith, now, low) in
+    let there : gone (m + 1) ≡ i + 1 = omega (arith, now, low) in
+    let had : asked m ≡ i + 1 = omega (arith, now, low) in
+    let wants : asked (m + 1) ≡ min 256 (i + 2) = omega (arith, now, low) in
+    let long : length bytes ≡ i + 1 = sym (omega arith) ∙ ap (λ b. length bytes + owed b) (sym off) ∙ is.count ∙ had in
+    let is_v : v ≡ s.byte = ap (λ b. if b then 0 else s.byte) off in
+    let last : get_or bytes i 0 ≡ s.byte = ap (λ n. get_or bytes n 0) (sym here) ∙ is.pending off (omega (arith, here, had)) in
+    record {
+      going = λ h. p.command ∙ is.going inside;
+      over = λ h. absurd (omega (arith, h, now, low));
+      angle = p.angle ∙ next_place k m;
+      now = byte_put side head k i v is.now;
+      disc =
+          same_disc t.target.drive (byte_written t.target k i s1) (written_in t.target.drive t.target k i v s1) refl refl
+          ∙ p.disc is.now (same_disc t.target.drive s1 s refl refl ∙ is.disc);
+      kind = same_kind side head k i v is.now ∙ is.kind;
+      count = ap (λ n. n + owed (s.drq || not (i == 255))) long ∙ owed_behind i s.drq off low ∙ sym wants;
+      enough = omega (arith, there, long);
+      stored = λ j before. elim (cases_eq j i) [
+        | inl same ↦
+            ap (λ n. byte_at (byte_put side head k i v is.now) (place d.kind side head k n)) same
+            ∙ ap (λ kind. byte_at (byte_put side head k i v is.now) (place kind side head k i)) (sym is.kind)
+            ∙ back is.now side head k i v has_it low ∙ is_v ∙ sym last ∙ ap (λ n. get_or bytes n 0) (sym same)
+        | inr other ↦
+            others is.now side head k i v (place d.kind side head k j) has_it low
+            (λ e. other (places_differ d.kind side head k i j (e ∙ ap (λ kind. place kind side head k i) is.kind)))
+            ∙ is.stored j (omega (arith, before, there, here, other))
+      ];
+      pending = λ none more. absurd (omega (arith, more, there, wants, last_of i s.drq none));
+      others = λ n apart.
+          others is.now side head k i v n has_it low (λ e. apart i low (e ∙ ap (λ kind. place kind side head k i) is.kind)) ∙ is.others n apart;
+    }
+
+-- ---- What a step at a place does.
+
+byte_place : (place : ℕ) → 30 ≤ place → place < 286 → is_byte_place 30 place ≡ true
+byte_place place low high = rw (le-leb 30 place low, lt-ltb place 286 high) refl
+
+before_bytes : (place : ℕ) → place < 30 → is_byte_place 30 place ≡ false
+before_bytes place early = rw (lt-leb 30 place early) refl
+
+behind_bytes : (place : ℕ) → 286 ≤ place → is_byte_place 30 place ≡ false
+behind_bytes place late = and_right (nat_le 30 place) (nat_lt place 286) (le-ltb place 286 late)
+
+no_loss : (place : ℕ) (drq : Bool) → (place ≡ 22 → drq ≡ false) → ((place == 22) && drq) ≡ false
+no_loss place drq off = elim (cases_eq place 22) [
+  | inl is ↦ and_right (place == 22) drq (off is)
+  | inr other ↦ and_left (place == 22) drq (ne_eqb place 22 other)
+]
+
+-- the parts of a step at a place
+end_at : Transfer → ℕ → State → State
+end_at t place s = if place == 288 then sector_ended t s else s
+
+bytes_at : Transfer → ℕ → ℕ → State → State
+bytes_at t k place s = if is_byte_place 30 place then byte_written t.target k (place - 30) s else end_at t place s
+
+writing_behind : Transfer → ℕ → ℕ → State → State
+writing_behind t k place s = if (place == 22) && s.drq then finish_leaves (record s { lost_data = true }) else bytes_at t k place s
+
+w_first : (t : Transfer) (k place : ℕ) (s : State) → place ≡ 12 → writing_at t k (Some place) s ≡ record s { drq = true }
+w_first t k place s is = rw (eq-eqb place 12 is) refl
+
+w_late : (t : Transfer) (k place : ℕ) (s : State) → place ≡ 22 → s.drq ≡ true → writing_at t k (Some place) s ≡ finish_leaves (record s { lost_data = true })
+unfolding writing_behind bytes_at end_at
+w_late t k place s is on =
+    let other : place ≡ 12 → ⊥ = λ e. omega (arith, e, is) in
+    ap (λ b. if b then record s { drq = true } else writing_behind t k place s) (ne_eqb place 12 other)
+    ∙ ap (λ b. if b then finish_leaves (record s { lost_data = true }) else bytes_at t k place s) (and_from (place == 22) s.drq (eq-eqb place 22 is) on)
+
+w_byte : (t : Transfer) (k place : ℕ) (s : State) → 30 ≤ place → place < 286 → writing_at t k (Some place) s ≡ byte_written t.target k (place - 30) s
+unfolding writing_behind bytes_at end_at
+w_byte t k place s low high =
+    let other : place ≡ 12 → ⊥ = λ e. omega (arith, e, low) in
+    let off : place ≡ 22 → s.drq ≡ false = λ e. absurd (omega (arith, e, low)) in
+    ap (λ b. if b then record s { drq = true } else writing_behind t k place s) (ne_eqb place 12 other)
+    ∙ ap (λ b. if b then finish_leaves (record s { lost_data = true }) else bytes_at t k place s) (no_loss place s.drq off)
+    ∙ ap (λ b. if b then byte_written t.target k (place - 30) s else end_at t place s) (byte_place place low high)
+
+w_end : (t : Transfer) (k place : ℕ) (s : State) → place ≡ 288 → writing_at t k (Some place) s ≡ sector_ended t s
+unfolding writing_behind bytes_at end_at
+w_end t k place s is =
+    let other : place ≡ 12 → ⊥ = λ e. omega (arith, e, is) in
+    let off : place ≡ 22 → s.drq ≡ false = λ e. absurd (omega (arith, e, is)) in
+    ap (λ b. if b then record s { drq = true } else writing_behind t k place s) (ne_eqb place 12 other)
+    ∙ ap (λ b. if b then finish_leaves (record s { lost_data = true }) else bytes_at t k place s) (no_loss place s.drq off)
+    ∙ ap (λ b. if b then byte_written t.target k (place - 30) s else end_at t place s) (behind_bytes place (omega (arith, is)))
+    ∙ ap (λ b. if b then sector_ended t s else s) (eq-eqb place 288 is)
+
+w_none : (t : Transfer) (k place : ℕ) (s : State) → (place ≡ 12 → ⊥) → (place ≡ 22 → s.drq ≡ false) → is_byte_place 30 place ≡ false → (place ≡ 288 → ⊥) →
+    writing_at t k (Some place) s ≡ s
+unfolding writing_behind bytes_at end_at
+w_none t k place s other off none early =
+    ap (λ b. if b then record s { drq = true } else writing_behind t k place s) (ne_eqb place 12 other)
+    ∙ ap (λ b. if b then finish_leaves (record s { lost_data = true }) else bytes_at t k place s) (no_loss place s.drq off)
+    ∙ ap (λ b. if b then byte_written t.target k (place - 30) s else end_at t place s) none
+    ∙ ap (λ b. if b then sector_ended t s else s) (ne_eqb place 288 early)
+
+-- a step at a place that loses nothing
+at_place : (back : IsReadBack) (others : OthersStay) (d : Image) (t : Transfer) (k : ℕ) (s : State) (m : ℕ) (bytes : List ℕ) →
+    has_sector d.kind t.target.side t.target.head k ≡ true → m < 18432 → (m + 1) % 64 ≡ 0 → Inside d t k s m bytes →
+    (writing_at t k (Some ((m + 1) / 64)) (moved_on s k m)).lost_data ≡ false →
+    Inside d t k (writing_at t k (Some ((m + 1) / 64)) (moved_on s k m)) (m + 1) bytes
+unfolding moved_on gone asked
+at_place back others d t k s m bytes has inside is_place is kept =
+    let place = (m + 1) / 64 in
+    let s1 = moved_on s k m in
+    let To : State → Type 0 = λ x. Inside d t k x (m + 1) bytes in
+    elim (cases_eq place 12) [
+      | inl first ↦ subst To (sym (w_first t k place s1 first)) (asks_first d t k s m bytes (omega (arith, first, is_place)) is)
+      | inr not_first ↦
+          elim (cases_lt place 30) [
+            | inl early ↦
+                let off : place ≡ 22 → s.drq ≡ false =
+                λ late. false_from_ne_true s.drq (λ on. true≢false (sym (ap (λ (x : State). x.lost_data) (w_late t k place s1 late on)) ∙ kept)) in
+                subst To (sym (w_none t k place s1 not_first off (before_bytes place early) (λ e. omega (arith, e, early))))
+                (passes d t k s m bytes inside (omega (arith, early, is_place)) (omega (arith, early, not_first, is_place)) (λ e. omega (arith, e, early)) is)
+            | inr late ↦
+                elim (cases_lt place 286) [
+                  | inl low ↦
+                      let off : s.drq ≡ false = (or_parts s.lost_data s.drq (ap (λ (x : State). x.lost_data) (sym (w_byte t k place s1 late low)) ∙ kept)).1 in
+                      subst To (sym (w_byte t k place s1 late low))
+                      (byte_goes back others d t k s m (place - 30) bytes has inside (omega (arith, low)) (omega (arith, late, is_place)) off is)
+                  | inr high ↦
+                      elim (cases_eq place 288) [
+                        | inl end ↦ subst To (sym (w_end t k place s1 end)) (ends_so d t k s m bytes (omega (arith, end, is_place)) is)
+                        | inr other ↦
+                            subst To (sym (w_none t k place s1 not_first (λ e. absurd (omega (arith, e, high))) (behind_bytes place high) other))
+                            (passes d t k s m bytes inside (omega (arith, high, is_place)) (omega (arith, high, is_place)) (λ e. other (omega (arith, e))) is)
+                      ]
+                ]
+          ]
+    ]
+
+writes_is : (t : Transfer) (k angle : ℕ) (s : State) → t.writes ≡ true → transfer_step t k angle s ≡ writing_at t k (places_into k angle) s
+writes_is t k angle s writes = ap (λ b. if b then writing_at t k (places_into k angle) s else reading_at t k (places_into k angle) s) writes
+
+stepped : (back : IsReadBack) (others : OthersStay) (d : Image) (t : Transfer) (k : ℕ) (s : State) (m : ℕ) (bytes : List ℕ) → k < 10 →
+    has_sector d.kind t.target.side t.target.head k ≡ true → t.writes ≡ true → m < 18432 → Inside d t k s m bytes → (step s).lost_data ≡ false →
+    Inside d t k (step s) (m + 1) bytes
+unfolding moved_on gone asked
+stepped back others d t k s m bytes few has writes inside is kept =
+    let s1 = moved_on s k m in
+    let by_place = worked_is s t k m few inside (is.going inside) is.angle ∙ writes_is t k (64 * (312 * k) + m + 1) s1 writes in
+    counted_inside d t k (work_leaves s) (m + 1) bytes (is_asking s)
+    (elim (cases_eq ((m + 1) % 64) 0) [
+      | inl passes_by ↦
+          let by = by_place ∙ ap (λ p. writing_at t k p s1) (a_place k m passes_by) in
+          subst (λ x. Inside d t k x (m + 1) bytes) (sym by)
+          (at_place back others d t k s m bytes has inside passes_by is (ap (λ (x : State). x.lost_data) (sym by) ∙ kept))
+      | inr none ↦
+          subst (λ x. Inside d t k x (m + 1) bytes) (sym (by_place ∙ ap (λ p. writing_at t k p s1) (no_place k m none)))
+          (passes d t k s m bytes inside (omega (arith, none)) (omega (arith, none)) (λ e. none (omega (arith, e))) is)
+    ])
+
+-- ---- Accesses.
+
+-- an access that leaves command, angle, drives, data register and DRQ
+leaves_it : (d : Image) (t : Transfer) (k : ℕ) (s x : State) (m : ℕ) (bytes : List ℕ) → x.command ≡ s.command → x.angle ≡ s.angle →
+    x.drive0 ≡ s.drive0 → x.drive1 ≡ s.drive1 → x.byte ≡ s.byte → x.drq ≡ s.drq → Inside d t k s m bytes → Inside d t k x m (bytes ++ [])
+leaves_it d t k s x m bytes command angle drive0 drive1 byte drq is =
+    subst (λ xs. Inside d t k x m xs) (sym (append-nil bytes)) (record {
+      going = λ h. command ∙ is.going h;
+      over = λ h. command ∙ is.over h;
+      angle = angle ∙ is.angle;
+      now = is.now;
+      disc = same_disc t.target.drive x s drive0 drive1 ∙ is.disc;
+      kind = is.kind;
+      count = ap (λ b. length bytes + owed b) drq ∙ is.count;
+      enough = is.enough;
+      stored = is.stored;
+      pending = λ off more. is.pending (sym drq ∙ off) more ∙ sym byte;
+      others = is.others;
+    })
+
+-- a byte is given while DRQ is set
+byte_given : (d : Image) (t : Transfer) (k : ℕ) (s : State) (v m : ℕ) (bytes : List ℕ) → s.drq ≡ true → Inside d t k s m bytes →
+    Inside d t k (write_leaves 3 v s) m (bytes ++ v ∷ [])
+unfolding gone asked owed
+byte_given d t k s v m bytes on is =
+    let more : length (bytes ++ v ∷ []) ≡ length bytes + 1 = length_push bytes v in
+    let all : length bytes + 1 ≡ asked m = ap (λ b. length bytes + owed b) (sym on) ∙ is.count in
+    record {
+      going = is.going;
+      over = is.over;
+      angle = is.angle;
+      now = is.now;
+      disc = same_disc t.target.drive (write_leaves 3 v s) s refl refl ∙ is.disc;
+      kind = is.kind;
+      count = ap (λ n. n + 0) more ∙ let e : length bytes + 1 + 0 ≡ length bytes + 1 = omega arith in e ∙ all;
+      enough = omega (arith, is.enough, more);
+      stored = λ i low. is.stored i low ∙ sym (get_or_append_left bytes (v ∷ []) 0 i (omega (arith, low, is.enough)));
+      pending = λ off fewer. get_or_push bytes v 0 (gone m) (omega (arith, all, is.enough));
+      others = is.others;
+    }
+
+status_read : (d : Image) (t : Transfer) (k : ℕ) (s : State) (reg m : ℕ) (bytes : List ℕ) → reg ≤ 2 → Inside d t k s m bytes →
+    Inside d t k (read_leaves reg s) m (bytes ++ [])
+status_read d t k s reg m bytes low is = elim (cases_eq reg 0) [
+  | inl zero ↦
+      subst (λ r. Inside d t k (read_leaves r s) m (bytes ++ [])) (sym zero) (leaves_it d t k s (read_leaves 0 s) m bytes refl refl refl refl refl refl is)
+  | inr some ↦
+      elim (cases_eq reg 1) [
+        | inl one ↦
+            subst (λ r. Inside d t k (read_leaves r s) m (bytes ++ [])) (sym one) (leaves_it d t k s (read_leaves 1 s) m bytes refl refl refl refl refl refl is)
+        | inr more ↦
+            let two : reg ≡ 2 = omega (arith, low, some, more) in
+            subst (λ r. Inside d t k (read_leaves r s) m (bytes ++ [])) (sym two) (leaves_it d t k s (read_leaves 2 s) m bytes refl refl refl refl refl refl is)
+      ]
+]
+
+register_given : (d : Image) (t : Transfer) (k : ℕ) (s : State) (reg v m : ℕ) (bytes : List ℕ) → Writes s (write reg v) → Inside d t k s m bytes →
+    Inside d t k (write_leaves reg v s) m (bytes ++ given_by (write reg v))
+register_given d t k s reg v m bytes may is = elim (cases_eq reg 3) [
+  | inl three ↦
+      subst (λ r. Inside d t k (write_leaves r v s) m (bytes ++ given_by (write r v))) (sym three) (byte_given d t k s v m bytes (may.2 three) is)
+  | inr other ↦
+      elim (cases_eq reg 1) [
+        | inl one ↦
+            subst (λ r. Inside d t k (write_leaves r v s) m (bytes ++ given_by (write r v))) (sym one)
+            (leaves_it d t k s (write_leaves 1 v s) m bytes refl refl refl refl refl refl is)
+        | inr more ↦
+            let two : reg ≡ 2 = omega (arith, may.0, may.1, other, more) in
+            subst (λ r. Inside d t k (write_leaves r v s) m (bytes ++ given_by (write r v))) (sym two)
+            (leaves_it d t k s (write_leaves 2 v s) m bytes refl refl refl refl refl refl is)
+      ]
+]
+
+latched : (d : Image) (t : Transfer) (k : ℕ) (s : State) (v m : ℕ) (bytes : List ℕ) → is_reset v ≡ false → Inside d t k s m bytes →
+    Inside d t k (latch_leaves v s) m (bytes ++ [])
+latched d t k s v m bytes off is =
+    subst (λ b. Inside d t k (if b then stop_leaves (record s { latch = v }) else record s { latch = v }) m (bytes ++ [])) (sym off)
+    (leaves_it d t k s (record s { latch = v }) m bytes refl refl refl refl refl refl is)
+
+by_tests : (a b : Bool) (s : State) → (if a then record s { intrq = false } else if b then record s { drq = false } else s).lost_data ≡ s.lost_data
+by_tests true b s = refl
+by_tests false true s = refl
+by_tests false false s = refl
+
+by_registers : (a b : Bool) (v : ℕ) (s : State) →
+    (if a then record s { track = v } else if b then record s { sector = v } else record s { byte = v; drq = false }).lost_data ≡ s.lost_data
+by_registers true b v s = refl
+by_registers false true v s = refl
+by_registers false false v s = refl
+
+register_behind : ℕ → ℕ → State → State
+register_behind reg v s = if reg == 1 then record s { track = v } else if reg == 2 then record s { sector = v } else record s { byte = v; drq = false }
+
+-- no access loses anything
+read_loses : (reg : ℕ) (s : State) → (read_leaves reg s).lost_data ≡ s.lost_data
+read_loses reg s = by_tests (reg == 0) (reg == 3) s
+
+write_loses : (reg v : ℕ) (s : State) → 1 ≤ reg → (write_leaves reg v s).lost_data ≡ s.lost_data
+unfolding register_behind
+write_loses reg v s some =
+    let other : reg ≡ 0 → ⊥ = λ e. omega (arith, e, some) in
+    ap (λ b. (if b then command_written v s else register_behind reg v s).lost_data) (ne_eqb reg 0 other) ∙ by_registers (reg == 1) (reg == 2) v s
+
+latch_loses : (v : ℕ) (s : State) → is_reset v ≡ false → (latch_leaves v s).lost_data ≡ s.lost_data
+latch_loses v s off = ap (λ b. (if b then stop_leaves (record s { latch = v }) else record s { latch = v }).lost_data) off
+
+-- ---- Runs.
+
+-- what holds of a run as long as nothing is lost
+Within : Image → Transfer → ℕ → State → ℕ → List ℕ → Type 0
+Within d t k s m bytes = s.lost_data ≡ false → Inside d t k s m bytes
+
+run : (back : IsReadBack) (others : OthersStay) (d : Image) (t : Transfer) (k : ℕ) → k < 10 → has_sector d.kind t.target.side t.target.head k ≡ true →
+    t.writes ≡ true → (events : List Event) (s : State) (m : ℕ) (bytes : List ℕ) → AllWritten s events → m + count_steps events ≤ 18432 →
+    Within d t k s m bytes → Within d t k (history events s) (m + count_steps events) (bytes ++ bytes_given events)
+unfolding Within
+run back others d t k few has writes [] s m bytes all most is =
+    let same : m ≡ m + 0 = omega arith in
+    λ kept. subst (λ n. Inside d t k s n (bytes ++ [])) same (leaves_it d t k s s m bytes refl refl refl refl refl refl (is kept))
+run back others d t k few has writes (microsecond ∷ es) s m bytes all most is =
+    let same : m + 1 + count_steps es ≡ m + (count_steps es + 1) = omega arith in
+    λ kept. subst (λ n. Inside d t k (history es (step s)) n (bytes ++ bytes_given es)) same
+    (run back others d t k few has writes es (step s) (m + 1) bytes all.1 (omega (arith, most))
+    (λ k'. stepped back others d t k s m bytes few has writes (omega (arith, most)) (is (kept_before s k')) k') kept)
+run back others d t k few has writes (read reg ∷ es) s m bytes all most is =
+    λ kept. subst (λ xs. Inside d t k (history es (read_leaves reg s)) (m + count_steps es) xs) (append_assoc bytes [] (bytes_given es))
+    (run back others d t k few has writes es (read_leaves reg s) m (bytes ++ []) all.1 most
+    (λ k'. status_read d t k s reg m bytes all.0 (is (sym (read_loses reg s) ∙ k'))) kept)
+run back others d t k few has writes (write reg v ∷ es) s m bytes all most is =
+    λ kept. subst (λ xs. Inside d t k (history es (write_leaves reg v s)) (m + count_steps es) xs) (append_assoc bytes (given_by (write reg v)) (bytes_given es))
+    (run back others d t k few has writes es (write_leaves reg v s) m (bytes ++ given_by (write reg v)) all.1 most
+    (λ k'. register_given d t k s reg v m bytes all.0 (is (sym (write_loses reg v s all.0.0) ∙ k'))) kept)
+run back others d t k few has writes (latch v ∷ es) s m bytes all most is =
+    λ kept. subst (λ xs. Inside d t k (history es (latch_leaves v s)) (m + count_steps es) xs) (append_assoc bytes [] (bytes_given es))
+    (run back others d t k few has writes es (latch_leaves v s) m (bytes ++ []) all.1 most
+    (λ k'. latched d t k s v m bytes all.0 (is (sym (latch_loses v s all.0) ∙ k'))) kept)
+
+begins : (d : Image) (t : Transfer) (k : ℕ) (s : State) → IsAtSector s t k → disc_in t.target.drive s ≡ Some d → Inside d t k s 0 []
+unfolding gone asked owed
+begins d t k s at here = record {
+  going = λ h. at.command;
+  over = λ h. absurd (omega (arith, h));
+  angle = at.angle ∙ ap (λ (n : ℕ). Some n) (let e : 64 * (312 * k) ≡ 64 * (312 * k) + 0 = omega arith in e);
+  now = d;
+  disc = here;
+  kind = refl;
+  count = ap (λ b. 0 + owed b) at.drq;
+  enough = omega arith;
+  stored = λ i low. absurd (omega (arith, low));
+  pending = λ off more. absurd (omega (arith, more));
+  others = λ n apart. refl;
+}
+
+from_start : (back : IsReadBack) (others : OthersStay) (s : State) (t : Transfer) (k : ℕ) (d : Image) (events : List Event) →
+    IsAtSector s t k → disc_in t.target.drive s ≡ Some d → has_sector d.kind t.target.side t.target.head k ≡ true → t.writes ≡ true →
+    AllWritten s events → count_steps events ≡ sector_steps → (history events s).lost_data ≡ false → Inside d t k (history events s) 18432 (bytes_given events)
+unfolding Within
+from_start back others s t k d events at here has writes all count kept =
+    let few : k < 10 = ltb-true k 10 (and_parts _ _ has).1 in
+    let sum : 0 + count_steps events ≡ 18432 = omega (arith, count) in
+    subst (λ n. Inside d t k (history events s) n (bytes_given events)) sum
+    (run back others d t k few has writes events s 0 [] all (omega (arith, count)) (λ h. begins d t k s at here) kept)
+
+-- the sector as it is then
+whole : (d : Image) (t : Transfer) (k : ℕ) (s : State) (bytes : List ℕ) → has_sector d.kind t.target.side t.target.head k ≡ true →
+    Inside d t k s 18432 bytes → IsStored d t k bytes s
+unfolding gone asked owed at_byte
+whole d t k s bytes has is =
+    let side = t.target.side in
+    let head = t.target.head in
+    let has_it : has_sector is.now.kind side head k ≡ true = ap (λ kind. has_sector kind side head k) is.kind ∙ has in
+    let long : length bytes ≡ 256 = omega (arith, is.count, is.enough) in
+    let is_bytes : bytes ≡ sector_bytes is.now side head k =
+    fill_by_all (λ i. byte_at is.now (place is.now.kind side head k 0 + i)) bytes 256 0 long
+    (λ i low.
+    let e : place d.kind side head k i ≡ place d.kind side head k 0 + i = omega arith in
+    sym (is.stored i low) ∙ ap (byte_at is.now) (e ∙ ap (λ kind. place kind side head k 0 + i) (sym is.kind))) in
+    record {
+      now = is.now;
+      disc = is.disc;
+      sector = ap (λ b. if b then Some (sector_bytes is.now side head k) else None) has_it ∙ ap (λ (xs : List ℕ). Some xs) (sym is_bytes);
+      others = is.others;
+    }
+
+pub sector_written : (back : IsReadBack) (others : OthersStay) → SectorIsWritten
+sector_written back others = record {
+  stored = λ s t k d events at here has writes all count kept.
+      whole d t k (history events s) (bytes_given events) has (from_start back others s t k d events at here has writes all count kept);
+  end = λ s t k d events at here has writes all count kept. (from_start back others s t k d events at here has writes all count kept).over (omega arith);
+}

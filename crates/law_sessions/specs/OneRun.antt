@@ -1,0 +1,91 @@
+-- A run that was saved, and the run that goes on from its session file: they are one run.
+use Rattle.std.specs.Prelude.{ℕ, ◌≡◌, ◌≤◌, nat_le, List, [], ◌∷◌, ◌++◌, length, map, take, Some, IfSome, IsTrue, Ok}
+use Rattle.bus_plug.specs.Plug.{Plug}
+use Rattle.rom_set.specs.Roms.{Rom}
+use Rattle.tube_trace.specs.declared.Entry.{Entry}
+use Rattle.tube_trace.specs.Entries.{accesses}
+use Rattle.tube_party.specs.Reference.{reference}
+use Rattle.host_mach.specs.State.{HostState}
+use Rattle.host_mach.specs.Step.{host_moves}
+use Rattle.para_mach.specs.State.{ParaState}
+use Rattle.para_mach.specs.Step.{para_moves}
+use Rattle.save_state.specs.Saved.{Session}
+use Rattle.save_state.specs.File.{file_of, IsSession}
+use Rattle.cmd_words.specs.Reads.{rise_from}
+use Rattle.cmd_machines.specs.Inputs.{Inputs}
+use Rattle.cmd_machines.specs.Setup.{Setup}
+use Rattle.cmd_machines.specs.Machines.{machines_of}
+use Rattle.cmd_machines.specs.Sessions.{begun, setup_in, inputs_in}
+use Rattle.cmd_stages.specs.Plan.{Verdict}
+use Rattle.cmd_status.specs.declared.status.Ending.{Ending}
+use Rattle.cmd_status.specs.declared.status.Ending.TheVariants.{Done}
+use Rattle.cmd_outcome.specs.Names.{Names}
+use Rattle.cmd_ended.specs.Save.{saved_of}
+use Rattle.cmd_pair.specs.Solo.{solo_after}
+use Rattle.cmd_session.specs.Session.{state_of, session_after}
+
+-- paged ROMs in slots below 16, the lower slots first
+abbrev pub RiseBySlot : List Rom → Type 0
+RiseBySlot roms = IsTrue (rise_from 0 (map (λ (rom : Rom). rom.slot) roms))
+
+-- A run that begins: what the words say of its machines, the files that were read, the devices that were handed in, and both machines at power-on.
+pub record Begins (set : Setup) (i : Inputs) (plugs : List Plug) (m : HostState × ParaState) : Type 0 where
+  pub made : machines_of set i ≡ Ok m
+  pub number : set.number ≤ 8
+  -- of the devices the first are plugged, as many as the words say
+  pub plugged : set.plugs ≡ take set.number plugs
+  pub roms : RiseBySlot i.roms
+  pub keys : IfSome i.keys (λ keys. length keys ≤ 1048576)
+
+-- the accesses to the Tube of the reference run of so many ticks
+abbrev pub accesses_of : HostState × ParaState → ℕ → List Entry
+accesses_of m n = accesses (reference host_moves para_moves m.0 m.1 n).list
+
+-- the session of a run of n ticks, of whose accesses the first `keep` are kept
+abbrev pub saved_run : Setup → Inputs → HostState × ParaState → ℕ → ℕ → Session
+saved_run set i m n keep = saved_of (begun set i) n (nat_le (length (accesses_of m n)) keep) (take keep (accesses_of m n))
+
+-- The machines of a session of a run are those of the run, where the same devices are handed in; and what is saved of them begins as the run did.
+abbrev pub MachinesAreMadeAgain : Type 0
+MachinesAreMadeAgain =
+    (set : Setup) (i : Inputs) (plugs : List Plug) (n : ℕ) (list : List Entry) →
+    set.plugs ≡ take set.number plugs →
+    RiseBySlot i.roms →
+    let s : Session = record (begun set i) { ticks = n; entries = list } in
+    (machines_of (setup_in s plugs) (inputs_in s) ≡ machines_of set i) × (begun (setup_in s plugs) (inputs_in s) ≡ begun set i)
+
+-- The session of a run keeps the rules of a session, and its file is read as that session.
+abbrev pub SavedRunIsRead : Type 0
+SavedRunIsRead =
+    (set : Setup) (i : Inputs) (plugs : List Plug) (m : HostState × ParaState) (n keep : ℕ) →
+    Begins set i plugs m →
+    n ≤ 1073741824 →
+    keep ≤ 4194304 →
+    IsSession (saved_run set i m n keep) × (state_of (file_of (saved_run set i m n keep)) ≡ Ok (saved_run set i m n keep))
+
+-- What a command comes to is done, and the last of its files has this name and these bytes.
+pub record EndsWith (name bytes : List ℕ) (v : Verdict Ending) : Type 0 where
+  pub done : v.ending ≡ Done
+  pub others : List (List ℕ × List ℕ)
+  pub files : v.files ≡ others ++ (name, bytes) ∷ []
+
+-- The last file of a run that is to be saved under a name is its session file.
+abbrev pub SessionIsWritten : Type 0
+SessionIsWritten =
+    (set : Setup) (i : Inputs) (m : HostState × ParaState) (n keep : ℕ) (names : Names) (name : List ℕ) →
+    machines_of set i ≡ Ok m →
+    names.save ≡ Some name →
+    (v : Verdict Ending) × (solo_after set n keep names i ≡ Ok v) × EndsWith name (file_of (saved_run set i m n keep)) v
+
+-- A run that goes on from the session file of a run, with the same devices, comes to what the run from its beginning comes to, of as many ticks, below, at
+-- or above the moment of the session: it is refused nowhere, no answer is wrong and no machine differs.
+abbrev pub SavedRunIsOneRun : Type 0
+SavedRunIsOneRun =
+    (set : Setup) (i : Inputs) (plugs : List Plug) (m : HostState × ParaState) (n keep : ℕ) →
+    Begins set i plugs m →
+    n ≤ 1073741824 →
+    keep ≤ 4194304 →
+    (ticks kept : ℕ) (names : Names) (j : Inputs) →
+    j.state ≡ file_of (saved_run set i m n keep) →
+    (session_after plugs ticks kept names j ≡ solo_after set ticks kept names i)
+    × ((v : Verdict Ending) × (session_after plugs ticks kept names j ≡ Ok v) × (v.ending ≡ Done))

@@ -1,5 +1,0 @@
-//! Tables of cases, by the public calls of each crate.
-mod bus;
-mod held;
-mod lagging;
-mod second_processor;

@@ -1,6 +1,0 @@
-use Rattle.std.proofs.Common.{◌≡◌, ◌++◌, take, drop}
-use Rattle.pair_outcome.specs.Save.{below}
-use Rattle.pair_outcome.proofs.saving.count_below.Given as goal
-
-abbrev pub invariant-loop-place : goal.invariant-loop-place
-invariant-loop-place l = below l.tick.0 l.entries ≡ take l.place l.entries ++ below l.tick.0 (drop l.place l.entries)

@@ -1,8 +1,0 @@
-use Rattle.std.proofs.Common.{◌≡◌, ◌++◌, map, drop}
-use Rattle.power_on.specs.Sessions.{part_slots, part_of}
-use Rattle.power_on.specs.View.{seen_inputs}
-use Rattle.power_on.proofs.sessions.parts_of.Given as goal
-
-abbrev pub invariant-loop-slot : goal.invariant-loop-slot
-invariant-loop-slot l =
-    l.parts.items ++ map (part_of (seen_inputs l.inputs)) (drop l.slot-index l.slot-items) ≡ map (part_of (seen_inputs l.inputs)) part_slots

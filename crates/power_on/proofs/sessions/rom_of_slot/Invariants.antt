@@ -1,7 +1,0 @@
-use Rattle.std.proofs.Common.{◌≡◌, drop}
-use Rattle.rom_set.specs.Roms.{roms_seen}
-use Rattle.power_on.specs.Sessions.{rom_of_slot}
-use Rattle.power_on.proofs.sessions.rom_of_slot.Given as goal
-
-abbrev pub invariant-loop-number : goal.invariant-loop-number
-invariant-loop-number l = rom_of_slot (roms_seen l.roms) l.slot ≡ rom_of_slot (roms_seen (drop l.number-index l.roms)) l.slot

@@ -1,0 +1,405 @@
+-- Where a machine stands that went ahead, and once what it did there is settled.
+use Rattle.std.proofs.Common.{ℕ, zero, suc, ◌≡◌, ◌+◌, ◌<◌, ◌≤◌, inl, inr, refl, sym, ◌∙◌, ap, subst, arith, List, [], ◌∷◌, ◌++◌, append-nil, All, length, take, Option, None, Some, MatchOption}
+use Rattle.std.proofs.lemmas.List.{take_all}
+use Rattle.std.proofs.lemmas.List.Elements.{All-nil, All-cons, All-head, All-tail}
+use Rattle.beeb_bits.specs.declared.Side.{Side}
+use Rattle.beeb_bits.specs.declared.Side.TheVariants.{Para}
+use Rattle.beeb_bits.specs.declared.Tick.{Tick}
+use Rattle.tube_chip.specs.declared.Answer.{Answer}
+use Rattle.tube_chip.specs.declared.Answer.TheVariants.{Byte}
+use Rattle.tube_chip.specs.declared.Op.{Op}
+use Rattle.tube_chip.specs.Act.{Query, access, look}
+use Rattle.tube_chip.specs.Events.{Event}
+use Rattle.tube_trace.specs.declared.Entry.{Entry}
+use Rattle.tube_trace.specs.Entries.{accesses}
+use Rattle.tube_cell.specs.Views.{AllBelow}
+use Rattle.tube_cell.specs.Passes.{Carried, own_horizon}
+use Rattle.tube_party.specs.declared.log.Log.{Log}
+use Rattle.tube_party.specs.declared.log.LogMark.{LogMark}
+use Rattle.tube_party.specs.declared.party.Ask.{Ask}
+use Rattle.tube_party.specs.declared.party.Ask.TheVariants.{Nothing, Access, Look}
+use Rattle.tube_party.specs.Moves.{Moves, IsLawful, Runs, Heads, IsAsk, IsUnsure, Goes, shown_lines, course}
+use Rattle.tube_party.specs.Logs.{HasNoted}
+use Rattle.tube_party.specs.Turn.{note_all_leaves}
+use Rattle.tube_cell.specs.declared.local.Readings.{Readings}
+use Rattle.tube_side.specs.CodeSteps.{event_at, all_events}
+use Rattle.tube_side.specs.CodeWays.{Way, IsWay}
+use Rattle.session.specs.CodeSight.{Sight, byte_seen, byte_answer, readings_seen, observed_events, IsSeen}
+use Rattle.session.specs.CodeStation.{place, Station}
+use Rattle.session.specs.CodeLookahead.{MovedOn}
+use Rattle.session.specs.CodeWay.{way_of, Outset, observed_past, IsReached, IsNoted, IsOnWay, IsSettled, IsOver, IsAnew, IsNoEarlier, Trip, IsStillThere, IsOnTrip, HasGoneFurther}
+use Rattle.tube_side.specs.CodeTrust.{HasTrusted, HasPassed}
+use Rattle.session.specs.declared.way.Checkpoint.{Checkpoint}
+use Rattle.session.proofs.Runs.{append, rises}
+use Rattle.session.proofs.Kept.{noted_on, counted_on, still_kept}
+use Rattle.session.proofs.Gone.{events_low, events_under, events_few}
+use Rattle.session.proofs.Observing.{none_late, below_limit, cut, watches, made, looked, readings_show}
+
+-- what is observed makes a way
+pub is_way : {S : Type 0} (m : Moves S) (lawful : IsLawful m) (n : ℕ) (from : Outset S) → IsWay (way_of m n from)
+is_way m lawful n from =
+    let v = readings_seen from.at.mark.readings in record {
+      low = λ t. below_limit m lawful Para v t n from.state;
+      part = λ t limit le. cut m lawful Para v t limit n from.state le;
+      none = none_late m lawful Para v 0 n from.state (omega arith);
+      watches = λ c t is. watches m lawful Para v c t n from.state (m.due from.state) (readings_show c from.at.mark.readings is) (omega arith);
+    }
+
+seen_on : (v : Sight) (xs ys : List Event) → IsSeen v xs → IsSeen v ys → IsSeen v (xs ++ ys)
+seen_on v [] ys a b = b
+seen_on v (x ∷ xs) ys a b = (a.0, seen_on v xs ys a.1 b)
+
+low_on : (t : ℕ) (xs ys : List Event) → AllBelow t xs → AllBelow t ys → AllBelow t (xs ++ ys)
+low_on t [] ys a b = b
+low_on t (x ∷ xs) ys a b = All-cons (λ e. e.tick < t) x (xs ++ ys) (All-head (λ e. e.tick < t) x xs a) (low_on t xs ys (All-tail (λ e. e.tick < t) x xs a) b)
+
+module _ {S : Type 0} (m : Moves S) (lawful : IsLawful m) (n : ℕ) (from : Outset S) where
+  abbrev sight : Sight
+  sight = readings_seen from.at.mark.readings
+
+  -- it goes on: these events more, noted
+  module _ (ask ask2 : Ask) (x y : Station S) (w : IsOnWay m n from ask x) (here : x.at.state ≡ w.last) (events : List Event) (steps : ℕ) (last : S) where
+    goes_both : Runs m Para n steps x.at.state (course events last) → IsSeen sight events → IsAsk m n last ask2 y.at.state → HasNoted (accesses events) x.log y.log
+        → (e : IsOnWay m n from ask2 y) × ((t : ℕ) → AllBelow t w.events → AllBelow t events → AllBelow t e.events)
+    goes_both runs seen asked noted =
+        let all = append m Para n w.last last events w.steps from.state w.events w.runs (steps, subst (λ (z : S). Runs m Para n steps z (course events last)) here runs) in
+        let len = from.at.log.len in
+        let l0 = take len x.log.list.items in
+        let keep = x.log.keep in
+        let old = w.noted in
+        let grown = still_kept keep x.log.list.items (accesses events) in
+        let longer : length x.log.list.items ≤ length y.log.list.items = let g = grown.0 in let e = ap length noted.list_is in omega arith in
+        let kept = old.kept in
+        let same : take len y.log.list.items ≡ l0 = ap (take len) noted.list_is ∙ grown.1 len kept in (
+          record {
+            events = w.events ++ events;
+            steps = all.0;
+            last = last;
+            runs = all.1;
+            seen = seen_on sight w.events events w.seen seen;
+            asked = asked;
+            noted = record {
+              kept = omega arith;
+              list_is =
+                  noted.list_is ∙ ap (λ (l : List Entry). note_all_leaves keep l (accesses events)) old.list_is
+                  ∙ noted_on keep w.events events l0
+                  ∙ (λ i. note_all_leaves (sym noted.keep_is i) (sym same i) (accesses (w.events ++ events)));
+              count_is = noted.count_is ∙ ap (λ (z : ℕ). z + length (accesses events)) old.count_is ∙ counted_on w.events events from.at.log.count;
+            };
+            few = w.few;
+          },
+          λ t a b. low_on t w.events events a b,
+        )
+
+  -- what was noted before the mark is still there
+  pub still_there : (x y : Station S) (entries : List Entry) → from.at.log.len ≤ length x.log.list.items → HasNoted entries x.log y.log → IsStillThere from.at.log x.log y.log
+  still_there x y entries kept noted = record {
+    kept = ap (take from.at.log.len) noted.list_is ∙ (still_kept x.log.keep x.log.list.items entries).1 from.at.log.len kept;
+    keep_is = noted.keep_is;
+  }
+
+  -- at an access it stands where it left off, and so at a look
+  pub at_access : (t : Tick) (op : Op) (x : Station S) (w : IsOnWay m n from (Access t op) x) → (x.at.state ≡ w.last) × (t.0 ≡ m.due x.at.state) × (t.0 < n) × (m.asks x.at.state ≡ Some (access op))
+  at_access t op x w = (w.asked.3, w.asked.0 ∙ sym (ap m.due w.asked.3), w.asked.1, ap m.asks w.asked.3 ∙ w.asked.2)
+
+  pub at_look : (t : Tick) (x : Station S) (w : IsOnWay m n from (Look t) x) → (x.at.state ≡ w.last) × (t.0 ≡ m.due x.at.state) × (t.0 < n) × (m.asks x.at.state ≡ Some look)
+  at_look t x w = (w.asked.3, w.asked.0 ∙ sym (ap m.due w.asked.3), w.asked.1, ap m.asks w.asked.3 ∙ w.asked.2)
+
+  -- there are at most as many as ticks
+  pub few : (ask : Ask) (x : Station S) (w : IsOnWay m n from ask x) → x.log.count ≤ m.due w.last
+  few ask x w =
+      let a = events_few m lawful Para n w.steps from.state w.events w.last w.runs in
+      let b = w.noted.count_is in
+      let c = w.few in
+      omega arith
+
+  -- it is where it set out
+  pub sets_out : (ask : Ask) (far : ℕ) (y : Station S) → Goes m n (shown_lines from.at.mark.readings.lines far) from.state ask y.at.state
+      → length y.log.list.items ≡ from.at.log.len → y.log.count ≡ from.at.log.count → from.at.log.count ≤ m.due from.state
+      → (w : IsOnWay m n from ask y) × AllBelow far w.events
+  sets_out ask far y went len count few_were =
+      let looks = looked m lawful Para sight n from.at.mark.readings.lines refl far went.steps from.state went.last went.looks in (
+        record {
+          events = looks.events;
+          steps = went.steps;
+          last = went.last;
+          runs = looks.runs;
+          seen = looks.seen;
+          asked = went.asked;
+          noted = record {
+            kept = omega arith;
+            list_is =
+                sym (ap (note_all_leaves y.log.keep (take from.at.log.len y.log.list.items)) looks.silent ∙ take_all from.at.log.len y.log.list.items (omega arith));
+            count_is = let e = ap length looks.silent in omega arith;
+          };
+          few = few_were;
+        },
+        looks.low,
+      )
+
+  -- it goes on from a look
+  pub looks_on : (t : Tick) (ask2 : Ask) (far : ℕ) (x y : Station S) → IsOnWay m n from (Look t) x → Goes m n (shown_lines from.at.mark.readings.lines far) x.at.state ask2 y.at.state
+      → HasNoted [] x.log y.log
+      → IsOnWay m n from ask2 y
+  looks_on t ask2 far x y w went noted =
+      let looks = looked m lawful Para sight n from.at.mark.readings.lines refl far went.steps x.at.state went.last went.looks in
+      (goes_both (Look t) ask2 x y w (at_look t x w).0 looks.events went.steps went.last looks.runs looks.seen went.asked
+      (subst (λ (l : List Entry). HasNoted l x.log y.log) (sym looks.silent) noted)).0
+
+  -- a read that is answered, and the looks behind it
+  pub reads_on : (t : Tick) (op : Op) (byte : ℕ) (ask2 : Ask) (far : ℕ) (x y : Station S) (w : IsOnWay m n from (Access t op) x) → byte_seen from.at.mark.readings op ≡ Some byte
+      → Goes m n (shown_lines from.at.mark.readings.lines far) (m.next x.at.state (Some (Byte byte))) ask2 y.at.state
+      → HasNoted (record { tick = t; side = Para; op = op; answer = byte } ∷ []) x.log y.log
+      → (e : IsOnWay m n from ask2 y) × (AllBelow far w.events → t.0 < far → AllBelow far e.events)
+  reads_on t op byte ask2 far x y w shown went noted =
+      let entry : Entry = record { tick = t; side = Para; op = op; answer = byte } in
+      let read : Event = event_at t.0 Para (access op) (Byte byte) in
+      let h = at_access t op x w in
+      let due = h.1 in
+      let under = h.2 in
+      let looks = looked m lawful Para sight n from.at.mark.readings.lines refl far went.steps (m.next x.at.state (Some (Byte byte))) went.last went.looks in
+      let runs : Runs m Para n (suc went.steps) x.at.state (course (read ∷ looks.events) went.last) = (omega arith, rw h.3 (due, refl, refl, looks.runs)) in
+      let none : accesses (read ∷ looks.events) ≡ entry ∷ [] = ap (λ (l : List Entry). entry ∷ l) looks.silent in
+      let both = goes_both (Access t op) ask2 x y w h.0 (read ∷ looks.events) (suc went.steps) went.last runs (ap byte_answer shown, looks.seen) went.asked
+      (subst (λ (l : List Entry). HasNoted l x.log y.log) (sym none) noted) in
+      (both.0, λ a b. both.1 far a (All-cons (λ z. z.tick < far) read looks.events b looks.low))
+
+  -- ---- how far it goes
+
+  reaches : (last s : S) (ask : Ask) (t : ℕ) → IsAsk m n last ask s → IsReached n ask t → (t ≤ m.due last) × (t ≤ n) × ((u : ℕ) → u < n → u < m.due last → u < t)
+  reaches last s Nothing t a r = let x = a.0 in (omega arith, omega arith, λ u b c. omega arith)
+  reaches last s (Access v op) t a r = let x = a.0 in let y = a.1 in (omega arith, omega arith, λ u b c. omega arith)
+  reaches last s (Look v) t a r = let x = a.0 in let y = a.1 in (omega arith, omega arith, λ u b c. omega arith)
+
+  -- what asks something at a tick, and what is asked after it
+  pub no_earlier : (ask ask2 : Ask) (last s : S) → ((t : ℕ) → IsReached n ask t → (t ≤ n) × (t ≤ m.due last)) → IsAsk m n last ask2 s → IsNoEarlier n ask ask2
+  no_earlier ask Nothing last s up asked t u a b = let x = (up t a).0 in omega arith
+  no_earlier ask (Access v op) last s up asked t u a b = let x = (up t a).1 in let y = asked.0 in omega arith
+  no_earlier ask (Look v) last s up asked t u a b = let x = (up t a).1 in let y = asked.0 in omega arith
+
+  pub no_earlier_self : (ask : Ask) → IsNoEarlier n ask ask
+  no_earlier_self Nothing t u a b = omega arith
+  no_earlier_self (Access v op) t u a b = omega arith
+  no_earlier_self (Look v) t u a b = omega arith
+
+  pub past_look : (t : Tick) (ask2 : Ask) (far : ℕ) (x : Station S) (new : S) → IsOnWay m n from (Look t) x → Goes m n (shown_lines from.at.mark.readings.lines far) x.at.state ask2 new
+      → IsNoEarlier n (Look t) ask2
+  past_look t ask2 far x new w went =
+      let h = at_look t x w in
+      let due = h.1 in
+      let under = h.2 in
+      let looks = looked m lawful Para sight n from.at.mark.readings.lines refl far went.steps x.at.state went.last went.looks in
+      let up = (events_low m lawful Para n went.steps x.at.state looks.events went.last looks.runs).0 in
+      no_earlier (Look t) ask2 went.last new (λ u r. (omega arith, omega arith)) went.asked
+
+  pub past_read : (t : Tick) (op : Op) (byte : ℕ) (ask2 : Ask) (far : ℕ) (x : Station S) (new : S) → IsOnWay m n from (Access t op) x
+      → Goes m n (shown_lines from.at.mark.readings.lines far) (m.next x.at.state (Some (Byte byte))) ask2 new → IsNoEarlier n (Access t op) ask2
+  past_read t op byte ask2 far x new w went =
+      let h = at_access t op x w in
+      let due = h.1 in
+      let under = h.2 in
+      let rise = lawful.rises x.at.state (Some (Byte byte)) in
+      let looks = looked m lawful Para sight n from.at.mark.readings.lines refl far went.steps (m.next x.at.state (Some (Byte byte))) went.last went.looks in
+      let up = (events_low m lawful Para n went.steps (m.next x.at.state (Some (Byte byte))) looks.events went.last looks.runs).0 in
+      no_earlier (Access t op) ask2 went.last new (λ u r. (omega arith, omega arith)) went.asked
+
+  -- it did not go on
+  pub stays : (ask : Ask) (x y : Trip S) → IsOnTrip m n ask y → y.from.state ≡ x.from.state → IsStillThere x.from.at.log x.here.log y.here.log → HasGoneFurther m n ask x ask y
+  stays ask x y way is log = record { way = way; further = no_earlier_self ask; from_is = is; log = log }
+
+  pub stays_here : (ask : Ask) (x : Trip S) → IsOnTrip m n ask x → HasGoneFurther m n ask x ask x
+  stays_here ask x way = stays ask x x way refl (record { kept = refl; keep_is = refl })
+
+  -- ---- settled
+
+  -- what lies below the tick of what is asked is all that it did
+  pub stands : (t a : ℕ) (ask : Ask) (y : Station S) → a ≡ t → t ≤ n → IsReached n ask t → IsOnWay m n from ask y → IsSettled m n from a ask y
+  stands t a ask y is le at w =
+      let r = reaches w.last y.at.state ask t w.asked at in
+      let late = r.0 in
+      let low = reach_low w.events (events_low m lawful Para n w.steps from.state w.events w.last w.runs).1 (events_under m lawful Para n w.steps from.state w.events w.last w.runs) r.2 in
+      let same : w.events ≡ observed_past m n from t =
+      made m lawful Para sight n t w.last (λ k. none_late m lawful Para sight t k w.last late) w.steps n from.state w.events w.runs w.seen low (omega arith) in
+      subst (λ (x : ℕ). IsSettled m n from x ask y) (sym is) (record {
+        steps = w.steps;
+        last = w.last;
+        runs = subst (λ (l : List Event). Runs m Para n w.steps from.state (course l w.last)) same w.runs;
+        asked = w.asked;
+        late = late;
+        noted = subst (λ (l : List Event). IsNoted from.at.log l y.log) same w.noted;
+      })
+    where
+      reach_low : (events : List Event) → All (λ e. e.tick < m.due w.last) events → All (λ e. e.tick < n) events → ((u : ℕ) → u < n → u < m.due w.last → u < t) → AllBelow t events
+      reach_low [] a b f = All-nil (λ e. e.tick < t)
+      reach_low (e ∷ es) a b f =
+          All-cons (λ z. z.tick < t) e es (f e.tick (All-head (λ z. z.tick < n) e es b) (All-head (λ z. z.tick < m.due w.last) e es a))
+          (reach_low es (All-tail (λ z. z.tick < m.due w.last) e es a) (All-tail (λ z. z.tick < n) e es b) f)
+
+  module _ (two : S) (q : Query) (asks : m.asks two ≡ Some q) (none : sight q ≡ None) where
+    abbrev Rest : ℕ → S → List Event → S → Option Query → Type 0
+    Rest k s events last o =
+        MatchOption o (Runs m Para n k (m.next s None) (course events last))
+        (λ x. Heads events (λ e rest. (e.tick ≡ m.due s) × (e.side ≡ Para) × (e.query ≡ x) × Runs m Para n k (m.next s (Some e.answer)) (course rest last)))
+
+    stuck : (k : ℕ) (s last : S) (events : List Event) (o : Option Query) → o ≡ Some q → Rest k s events last o → IsSeen sight events → ⊥
+    stuck k s last events None is h seen = absurd (cc)
+    stuck k s last [] (Some x) is h seen = absurd h
+    stuck k s last (e ∷ rest) (Some x) is h seen =
+        let same : x ≡ q = cc in
+        let sees : (let o : Option Answer = None in o) ≡ Some e.answer = sym none ∙ ap sight (sym (h.2 ∙ same)) ∙ seen.0 in
+        absurd (cc)
+
+    both_by : (j k : ℕ) (s one : S) (es fs : List Event) (o : Option Query)
+        → ((u : S) (a b : List Event) → Runs m Para n j u (course a one) → IsSeen sight a → Runs m Para n k u (course b two) → IsSeen sight b → m.due one ≤ m.due two)
+        → Rest j s es one o → IsSeen sight es → Rest k s fs two o → IsSeen sight fs → m.due one ≤ m.due two
+    both_by j k s one es fs None on a sa b sb = on (m.next s None) es fs a sa b sb
+    both_by j k s one [] fs (Some x) on a sa b sb = absurd a
+    both_by j k s one (e ∷ es) [] (Some x) on a sa b sb = absurd b
+    both_by j k s one (e ∷ es) (f ∷ fs) (Some x) on a sa b sb =
+        let sees : (let o : Option Answer = Some e.answer in o) ≡ Some f.answer = sym sa.0 ∙ ap sight (a.2 ∙ sym b.2) ∙ sb.0 in
+        let same : e.answer ≡ f.answer = cc in
+        on (m.next s (Some e.answer)) es fs a.3 sa.1 (subst (λ (z : Answer). Runs m Para n k (m.next s (Some z)) (course fs two)) (sym same) b.3) sb.1
+
+    -- a run that ends at a query that is not answered ends no earlier than another from the same place
+    pub same_way : (j k : ℕ) (s one : S) (es fs : List Event) → Runs m Para n j s (course es one) → IsSeen sight es → Runs m Para n k s (course fs two) → IsSeen sight fs → m.due one ≤ m.due two
+    same_way zero k s one es fs a sa b sb = let e : m.due s ≡ m.due one = ap m.due a.1 in let r = rises m lawful Para n k s fs two b in omega arith
+    same_way (suc j) zero s one es fs a sa b sb = absurd (stuck j s one es (m.asks s) (ap m.asks b.1 ∙ asks) a.1 sa)
+    same_way (suc j) (suc k) s one es fs a sa b sb = both_by j k s one es fs (m.asks s) (λ u c d x sx y sy. same_way j k u one c d x sx y sy) a.1 sa b.1 sb
+
+  -- it went anew
+  pub went_anew : (t a : ℕ) (ask ask2 : Ask) (x y : Station S) → a ≤ t → t ≤ n → IsReached n ask t → IsOnWay m n from ask x → IsAnew m n from a ask2 y → IsSettled m n from a ask2 y
+  went_anew t a ask ask2 x y order le at first anew =
+      let w = anew.0 in
+      let same : w.events ≡ observed_past m n from a = made m lawful Para sight n a w.last (ends ask2 w.asked anew.2) w.steps n from.state w.events w.runs w.seen anew.1 (omega arith) in
+      record {
+        steps = w.steps;
+        last = w.last;
+        runs = subst (λ (l : List Event). Runs m Para n w.steps from.state (course l w.last)) same w.runs;
+        asked = w.asked;
+        late = late_by ask2 w.asked anew.2;
+        noted = subst (λ (l : List Event). IsNoted from.at.log l y.log) same w.noted;
+      }
+    where
+      far : t ≤ m.due first.last
+      far = (reaches first.last x.at.state ask t first.asked at).0
+
+      at_end : (op : Op) → m.asks anew.0.last ≡ Some (access op) → byte_seen from.at.mark.readings op ≡ None → a ≤ m.due anew.0.last
+      at_end op asks none =
+          let f = far in
+          let r = same_way anew.0.last (access op) asks (ap byte_answer none) first.steps anew.0.steps from.state first.last first.events anew.0.events first.runs first.seen anew.0.runs anew.0.seen in
+          omega arith
+
+      late_by : (k : Ask) → IsAsk m n anew.0.last k y.at.state → IsOver from.at.mark.readings a k → a ≤ m.due anew.0.last
+      late_by Nothing h over = let b = h.0 in omega arith
+      late_by (Access u op) h (inl late) = let b = h.0 in omega arith
+      late_by (Access u op) h (inr none) = at_end op h.2 none
+      late_by (Look u) h over = let b = h.0 in omega arith
+
+      ends : (k : Ask) → IsAsk m n anew.0.last k y.at.state → IsOver from.at.mark.readings a k → (i : ℕ) → observed_events m Para sight a i anew.0.last ≡ []
+      ends k h over i = let l = late_by k h over in none_late m lawful Para sight a i anew.0.last l
+
+-- it set out from the mark, and stands where the host let it
+pub went : {S : Type 0} (m : Moves S) (lawful : IsLawful m) (n t : ℕ) (from : Outset S) (x y : Station S) (ask2 : Ask) (q : Carried)
+    → x.at.pass.side ≡ Para → from.state ≡ x.at.state → take from.at.log.len y.log.list.items ≡ x.log.list.items → y.log.keep ≡ x.log.keep → from.at.log.count ≡ x.log.count
+    → HasPassed (way_of m n from) t x.at.pass q → t ≤ n → y.at.pass ≡ q → IsSettled m n from q.known.trust ask2 y → MovedOn m n x ask2 y × (y.at.pass.ahead ≡ [])
+went {S} m lawful n t from x y ask2 q side at list keep count passed under same back =
+    let p = x.at.pass in
+    let told = passed.told in
+    let trust = told.trust in
+    let far = told.far in
+    let new = observed_past m n from q.known.trust in
+    let all : all_events q ≡ all_events p ++ new = (λ i. passed.events i ++ told.ahead i) ∙ append-nil (all_events p ++ new) in
+    let up = (events_low m lawful Para n back.steps from.state new back.last back.runs).0 in
+    let late = back.late in
+    let low = passed.later in
+    let runs : Runs m p.side n back.steps from.state (course new back.last) = subst (λ (z : Side). Runs m z n back.steps from.state (course new back.last)) (sym side) back.runs in
+    let horizon : own_horizon y.at.pass ≡ own_horizon q = ap own_horizon same in (
+      record {
+        added = new;
+        steps = back.steps;
+        last = back.last;
+        runs = subst (λ (z : S). Runs m p.side n back.steps z (course new back.last)) at runs;
+        asked = back.asked;
+        noted = record {
+          list_is = back.noted.list_is ∙ (λ i. note_all_leaves (keep i) (list i) (accesses new));
+          count_is = back.noted.count_is ∙ ap (λ (z : ℕ). z + length (accesses new)) count;
+          keep_is = keep;
+        };
+        same = record {
+          cell = ap (λ z. z.cell) same ∙ told.cell;
+          side = ap (λ z. z.side) same ∙ told.side;
+          trusted = ap (λ z. z.trusted) same ∙ passed.trusted;
+        };
+        events = ap all_events same ∙ all;
+        next = omega arith;
+        open_ = omega arith;
+      },
+      ap (λ z. z.ahead) same ∙ told.ahead,
+    )
+
+pub at_reached : (n : ℕ) (ask : Ask) → (t : ℕ) × IsReached n ask t
+at_reached n Nothing = (n, refl)
+at_reached n (Access t op) = (t.0, refl)
+at_reached n (Look t) = (t.0, refl)
+
+pub one_reached : (n : ℕ) (ask : Ask) (t u : ℕ) → IsReached n ask t → IsReached n ask u → t ≡ u
+one_reached n Nothing t u a b = omega arith
+one_reached n (Access v op) t u a b = omega arith
+one_reached n (Look v) t u a b = omega arith
+
+pub no_earlier_on : (n : ℕ) (first mid last : Ask) → IsNoEarlier n first mid → IsNoEarlier n mid last → IsNoEarlier n first last
+no_earlier_on n first mid last f g t u at_t at_u =
+    let at = at_reached n mid in
+    let x = f t at.0 at_t at.1 in
+    let y = g at.0 u at.1 at_u in
+    omega arith
+
+pub reached_in : {S : Type 0} (m : Moves S) (n : ℕ) (from : Outset S) (ask : Ask) (y : Station S) (t : ℕ) → IsOnWay m n from ask y → IsReached n ask t → t ≤ n
+reached_in {S} m n from ask y t w at = go ask w.asked at
+  where
+    go : (a : Ask) → IsAsk m n w.last a y.at.state → IsReached n a t → t ≤ n
+    go Nothing h r = omega arith
+    go (Access u op) h r = let b = h.1 in omega arith
+    go (Look u) h r = let b = h.1 in omega arith
+
+-- what left off at no access is over
+pub over_unasked : (r : Readings) (t : ℕ) (ask : Ask) → ((u : Tick) (op : Op) → ask ≡ Access u op → ⊥) → IsUnsure t ask → IsOver r t ask
+over_unasked r t Nothing not h = tt
+over_unasked r t (Access u op) not h = absurd (not u op refl)
+over_unasked r t (Look u) not h = h
+
+-- it does not matter what the pass knows
+pub at_pass : {S : Type 0} (m : Moves S) (n : ℕ) (from : Outset S) (ask : Ask) (x : Station S) (p : Carried) → IsOnWay m n from ask x → IsOnWay m n from ask (record x { at = place x.at.state p })
+at_pass m n from ask x p w = record { events = w.events; steps = w.steps; last = w.last; runs = w.runs; seen = w.seen; asked = w.asked; noted = w.noted; few = w.few }
+
+-- it went further, and further; what the pass knows then does not matter
+pub further_on : {S : Type 0} (m : Moves S) (n : ℕ) (first mid last : Ask) (x y z : Trip S) (p : Carried) → y.from.at ≡ x.from.at
+    → HasGoneFurther m n first x mid y → HasGoneFurther m n mid y last z
+    → HasGoneFurther m n first x last (record z { here = record z.here { at = place z.here.at.state p } })
+further_on m n first mid last x y z p is f g =
+    let log = subst (λ (at : Checkpoint). IsStillThere at.log y.here.log z.here.log) is g.log in
+    record {
+      way = at_pass m n z.from last z.here p g.way;
+      further = no_earlier_on n first mid last f.further g.further;
+      from_is = g.from_is ∙ f.from_is;
+      log = record { kept = log.kept ∙ f.log.kept; keep_is = log.keep_is ∙ f.log.keep_is };
+    }
+
+-- what was told of it stands where it went further
+pub told_on : (w : Way) (n : ℕ) (first second : Ask) (t u : ℕ) (p q r : Carried) → r ≡ q → IsReached n first t → IsReached n second u → IsNoEarlier n first second
+    → HasTrusted w t p q → HasTrusted w u p r
+told_on w n first second t u p q r same at_t at_u further told =
+    let le = further t u at_t at_u in
+    let far = told.far in
+    let trust = told.trust in
+    subst (λ (x : Carried). HasTrusted w u p x) (sym same)
+    (record { cell = told.cell; side = told.side; ahead = told.ahead; far = omega arith; trust = omega arith; para = told.para; base = told.base; trusting = told.trusting })
+
+-- back at the mark nothing was noted
+pub cut_back : (at : LogMark) (x y z : Log) → at.len ≡ length x.list.items → at.count ≡ x.count → IsStillThere at x y
+    → z.list.items ≡ take at.len y.list.items → z.count ≡ at.count → z.keep ≡ y.keep → HasNoted [] x z
+cut_back at x y z len count still list counted keep = record {
+  list_is = list ∙ still.kept ∙ take_all at.len x.list.items (omega arith);
+  count_is = omega arith;
+  keep_is = keep ∙ still.keep_is;
+}

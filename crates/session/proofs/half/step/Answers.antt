@@ -1,0 +1,15 @@
+use Rattle.std.proofs.Common.{sym, subst, Option}
+use Rattle.beeb_bits.specs.declared.Side.{Side}
+use Rattle.tube_chip.specs.Act.{Query, MayDo}
+use Rattle.tube_party.specs.declared.party.Ask.TheVariants.{Access}
+use Rattle.tube_party.specs.Moves.{MayAsk}
+use Rattle.tube_party.specs.Turn.{IsPending}
+use Rattle.session.proofs.half.step.Goals as goal
+
+pub act-answer-requires-clause-operation : goal.act-answer-requires-clause-operation
+act-answer-requires-clause-operation g c =
+    let s = g.M.Party.state c.args.half.now.machine in
+    let pending : IsPending g.M.Party.moves c.args.n.0 s (Access c.in-Access.tick c.in-Access.op) =
+    subst (IsPending g.M.Party.moves c.args.n.0 s) c.in-Access.is c.requires.pending in
+    subst (λ (x : Side). MayDo x c.in-Access.op) (sym c.come.ensures.waited.same.side)
+    (subst (λ (o : Option Query). MayAsk c.args.half.now.pass.side o) pending.2 (g.met.M.Party.permitted s c.args.half.now.pass.side c.requires.plays))

@@ -1,0 +1,46 @@
+-- How a side goes on past what it may answer itself.
+use Rattle.std.specs.Prelude.{ℕ, ◌≡◌, ◌+◌, ◌≤◌, List, [], ◌++◌}
+use Rattle.tube_chip.specs.Events.{Event}
+use Rattle.tube_trace.specs.Entries.{accesses}
+use Rattle.tube_cell.specs.Passes.{own_horizon, here, bound_here, after_add}
+use Rattle.tube_party.specs.declared.party.Ask.{Ask}
+use Rattle.tube_party.specs.Moves.{Moves, Runs, IsAsk, course}
+use Rattle.tube_party.specs.Logs.{HasNoted}
+use Rattle.tube_side.specs.CodeSteps.{all_events, SameSeat, HasWaited}
+use Rattle.session.specs.CodeStation.{Place, Station}
+
+-- The steps that ask nothing were done, and with them looks that the pass's chip answers: they joined its unpublished events. This is asked next, and
+-- neither that step nor n is below the pass's horizon.
+pub record GoneOn {S : Type 0} (m : Moves S) (n : ℕ) (x : Place S) (ask : Ask) (y : Place S) : Type 0 where
+  pub events : List Event
+  pub steps : ℕ
+  pub last : S
+  pub runs : Runs m x.pass.side n steps x.state (course events last)
+  pub asked : IsAsk m n last ask y.state
+  pub silent : accesses events ≡ []
+  pub pass : y.pass ≡ after_add x.pass events
+  pub here_is : here y.pass ≡ here x.pass
+  pub bound : bound_here y.pass ≡ bound_here x.pass
+  pub next : own_horizon y.pass ≤ m.due last
+  pub open_ : own_horizon y.pass ≤ n
+
+-- The steps that ask nothing were done, and with them some that the side answered itself, which were added to the pass's events; accesses among them were noted. This
+-- is asked next, and neither that step nor n is below the pass's horizon.
+pub record MovedOn {S : Type 0} (m : Moves S) (n : ℕ) (x : Station S) (ask : Ask) (y : Station S) : Type 0 where
+  pub added : List Event
+  pub steps : ℕ
+  pub last : S
+  pub runs : Runs m x.at.pass.side n steps x.at.state (course added last)
+  pub asked : IsAsk m n last ask y.at.state
+  pub noted : HasNoted (accesses added) x.log y.log
+  pub same : SameSeat x.at.pass y.at.pass
+  pub events : all_events y.at.pass ≡ all_events x.at.pass ++ added
+  pub next : own_horizon y.at.pass ≤ m.due last
+  pub open_ : own_horizon y.at.pass ≤ n
+
+-- No step was done: only what the pass knows may have changed.
+pub record HasStayed {S : Type 0} (x y : Station S) : Type 0 where
+  pub waited : HasWaited x.at.pass y.at.pass
+  pub ahead : y.at.pass.ahead ≡ x.at.pass.ahead
+  pub state_is : y.at.state ≡ x.at.state
+  pub noted : HasNoted [] x.log y.log

@@ -1,0 +1,65 @@
+-- What a side observes that goes ahead.
+use Rattle.std.specs.Prelude.{ℕ, zero, suc, ◌≡◌, ◌==◌, nat_lt, Option, None, Some, List, [], ◌∷◌, slice_index, if◌then◌else◌}
+use Rattle.beeb_bits.specs.declared.Side.{Side}
+use Rattle.tube_chip.specs.declared.Answer.{Answer}
+use Rattle.tube_chip.specs.declared.Answer.TheVariants.{Byte, Seen}
+use Rattle.tube_chip.specs.declared.Lines.{Lines}
+use Rattle.tube_chip.specs.declared.Op.{Op}
+use Rattle.tube_chip.specs.declared.Op.TheVariants.{Read, Write, Reset}
+use Rattle.tube_chip.specs.Act.{Query, access, look}
+use Rattle.tube_chip.specs.Events.{Event}
+use Rattle.tube_cell.specs.declared.local.Readings.{Readings}
+use Rattle.tube_party.specs.Moves.{Moves}
+use Rattle.tube_side.specs.CodeSteps.{event_at}
+
+-- What each query sees that a side answers by itself.
+abbrev pub Sight : Type 0
+Sight = Query → Option Answer
+
+-- each look sees these lines, and no other query is answered
+abbrev pub lines_seen : Lines → Sight
+lines_seen lines look = Some (Seen lines)
+lines_seen lines (access op) = None
+
+-- the byte of a status register of the parasite, which have the numbers 0, 2, 4 and 6
+abbrev pub byte_seen : Readings → Op → Option ℕ
+byte_seen r (Read number) =
+    if number == 0 then Some (slice_index r.status 0)
+    else if number == 2 then Some (slice_index r.status 1)
+    else if number == 4 then Some (slice_index r.status 2)
+    else if number == 6 then Some (slice_index r.status 3)
+    else None
+byte_seen r (Write number byte) = None
+byte_seen r Reset = None
+
+abbrev pub byte_answer : Option ℕ → Option Answer
+byte_answer None = None
+byte_answer (Some b) = Some (Byte b)
+
+-- What the parasite sees of a chip with these readings: its lines, and its status registers.
+abbrev pub readings_seen : Readings → Sight
+readings_seen r look = Some (Seen r.lines)
+readings_seen r (access op) = byte_answer (byte_seen r op)
+
+-- a query that is answered joins what is observed later; after one that is not, there is nothing
+abbrev pub joins : Side → ℕ → Query → (Answer → List Event) → Option Answer → List Event
+joins side t q later None = []
+joins side t q later (Some a) = event_at t side q a ∷ later a
+
+-- by what a step at tick t asks
+abbrev pub observed_by : Sight → Side → ℕ → List Event → (Answer → List Event) → Option Query → List Event
+observed_by v side t silent later None = silent
+observed_by v side t silent later (Some q) = joins side t q later (v q)
+
+-- What is observed in at most so many steps below a limit, before the first query that is not answered by the side itself.
+abbrev pub observed_events : {S : Type 0} → Moves S → Side → Sight → ℕ → ℕ → S → List Event
+observed_events m side v limit zero s = []
+observed_events m side v limit (suc k) s =
+    if nat_lt (m.due s) limit then
+    observed_by v side (m.due s) (observed_events m side v limit k (m.next s None)) (λ a. observed_events m side v limit k (m.next s (Some a))) (m.asks s)
+    else []
+
+-- each event has the answer that its query sees
+abbrev pub IsSeen : Sight → List Event → Type 0
+IsSeen v [] = Unit {0}
+IsSeen v (e ∷ events) = (v e.query ≡ Some e.answer) × IsSeen v events

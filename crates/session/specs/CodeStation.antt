@@ -1,0 +1,21 @@
+-- One side at the cell.
+use Rattle.tube_cell.specs.Passes.{Carried}
+use Rattle.tube_party.specs.declared.log.Log.{Log}
+use Rattle.session.specs.declared.half.Half.{Half}
+
+-- The state of a side's machine, and its pass.
+pub record Place (S : Type 0) : Type 0 where
+  pub state : S
+  pub pass : Carried
+
+abbrev pub place : {S : Type 0} → S → Carried → Place S
+place s p = record { state = s; pass = p }
+
+-- Where a side stands, and the log of its accesses.
+pub record Station (S : Type 0) : Type 0 where
+  pub at : Place S
+  pub log : Log
+
+-- that of a side whose machine's state this function tells
+abbrev pub station : {M S : Type 0} → (M → S) → Half M → Station S
+station state half = record { at = place (state half.machine) half.pass; log = half.log }

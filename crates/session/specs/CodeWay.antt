@@ -1,0 +1,108 @@
+-- A way of the parasite ahead of the host.
+use Rattle.std.specs.Prelude.{ℕ, ◌≡◌, ◌+◌, ◌≤◌, ◌⊎◌, Option, None, Some, List, length, take}
+use Rattle.beeb_bits.specs.declared.Side.TheVariants.{Para}
+use Rattle.tube_chip.specs.Events.{Event}
+use Rattle.tube_trace.specs.Entries.{accesses}
+use Rattle.tube_cell.specs.declared.local.Readings.{Readings}
+use Rattle.tube_cell.specs.Views.{AllBelow}
+use Rattle.tube_party.specs.declared.log.Log.{Log}
+use Rattle.tube_party.specs.declared.log.LogMark.{LogMark}
+use Rattle.tube_party.specs.declared.party.Ask.{Ask}
+use Rattle.tube_party.specs.declared.party.Ask.TheVariants.{Nothing, Access, Look}
+use Rattle.tube_party.specs.Moves.{Moves, Runs, IsAsk, course}
+use Rattle.tube_party.specs.Turn.{note_all_leaves}
+use Rattle.tube_side.specs.CodeWays.{Way}
+use Rattle.session.specs.CodeSight.{byte_seen, readings_seen, observed_events, IsSeen}
+use Rattle.session.specs.CodeStation.{Station, station}
+use Rattle.session.specs.declared.half.Half.{Half}
+use Rattle.session.specs.declared.way.Checkpoint.{Checkpoint}
+
+-- A party's state where it set out, and what was marked there.
+pub record Outset (S : Type 0) : Type 0 where
+  pub state : S
+  pub at : Checkpoint
+
+abbrev pub outset : {S : Type 0} → S → Checkpoint → Outset S
+outset s at = record { state = s; at = at }
+
+-- what the party observes from there on, below a tick
+abbrev pub observed_past : {S : Type 0} → Moves S → ℕ → Outset S → ℕ → List Event
+observed_past m n from t = observed_events m Para (readings_seen from.at.mark.readings) t n from.state
+
+abbrev pub way_of : {S : Type 0} → Moves S → ℕ → Outset S → Way
+way_of m n from = record { tick = m.due from.state; readings = from.at.mark.readings; until = λ t. observed_past m n from t }
+
+-- The tick of what is asked next, or n where nothing is.
+abbrev pub IsReached : ℕ → Ask → ℕ → Type 0
+IsReached n Nothing at = at ≡ n
+IsReached n (Access t op) at = at ≡ t.0
+IsReached n (Look t) at = at ≡ t.0
+
+-- The accesses among these events were noted behind what was kept at the mark, and counted.
+pub record IsNoted (mark : LogMark) (events : List Event) (log : Log) : Type 0 where
+  pub kept : mark.len ≤ length log.list.items
+  pub list_is : log.list.items ≡ note_all_leaves log.keep (take mark.len log.list.items) (accesses events)
+  pub count_is : log.count ≡ mark.count + length (accesses events)
+
+-- The party went from there, some way: each query saw what the mark shows, accesses were noted, and this is asked next.
+pub record IsOnWay {S : Type 0} (m : Moves S) (n : ℕ) (from : Outset S) (ask : Ask) (y : Station S) : Type 0 where
+  pub events : List Event
+  pub steps : ℕ
+  pub last : S
+  pub runs : Runs m Para n steps from.state (course events last)
+  pub seen : IsSeen (readings_seen from.at.mark.readings) events
+  pub asked : IsAsk m n last ask y.at.state
+  pub noted : IsNoted from.at.log events y.log
+  pub few : from.at.log.count ≤ m.due from.state
+
+-- It went to a tick, or further past what asks nothing: its observations are those below the tick, and this is asked next, no earlier.
+pub record IsSettled {S : Type 0} (m : Moves S) (n : ℕ) (from : Outset S) (t : ℕ) (ask : Ask) (y : Station S) : Type 0 where
+  pub steps : ℕ
+  pub last : S
+  pub runs : Runs m Para n steps from.state (course (observed_past m n from t) last)
+  pub asked : IsAsk m n last ask y.at.state
+  pub late : t ≤ m.due last
+  pub noted : IsNoted from.at.log (observed_past m n from t) y.log
+
+-- what is asked is no query below the tick that the mark shows
+abbrev pub IsOver : Readings → ℕ → Ask → Type 0
+IsOver r t Nothing = Unit {0}
+IsOver r t (Access u op) = (t ≤ u.0) ⊎ (byte_seen r op ≡ None)
+IsOver r t (Look u) = t ≤ u.0
+
+-- It went anew from there, as far as it observes anything below the tick.
+abbrev pub IsAnew : {S : Type 0} → Moves S → ℕ → Outset S → ℕ → Ask → Station S → Type 0
+IsAnew m n from t ask y = (w : IsOnWay m n from ask y) × AllBelow t w.events × IsOver from.at.mark.readings t ask
+
+-- the second ask is no earlier than the first
+abbrev pub IsNoEarlier : ℕ → Ask → Ask → Type 0
+IsNoEarlier n first second = (t u : ℕ) → IsReached n first t → IsReached n second u → t ≤ u
+
+-- A side on its way: where it set out, and where it stands.
+pub record Trip (S : Type 0) : Type 0 where
+  pub from : Outset S
+  pub here : Station S
+
+-- that of a side whose machine's state and what it goes back to these functions tell
+abbrev pub trip : {M P S : Type 0} → (M → S) → (P → M → M) → P → Half M → Checkpoint → Trip S
+trip state before past half at = record { from = outset (state (before past half.machine)) at; here = station state half }
+
+abbrev pub IsOnTrip : {S : Type 0} → Moves S → ℕ → Ask → Trip S → Type 0
+IsOnTrip m n ask x = IsOnWay m n x.from ask x.here
+
+-- what was noted before the mark is still there
+pub record IsStillThere (mark : LogMark) (x y : Log) : Type 0 where
+  pub kept : take mark.len y.list.items ≡ take mark.len x.list.items
+  pub keep_is : y.keep ≡ x.keep
+
+-- It asked this and went on, or stayed: then it asks this, and would go back to where it would have gone back before.
+pub record HasGoneFurther {S : Type 0} (m : Moves S) (n : ℕ) (first : Ask) (x : Trip S) (second : Ask) (y : Trip S) : Type 0 where
+  pub way : IsOnTrip m n second y
+  pub further : IsNoEarlier n first second
+  pub from_is : y.from.state ≡ x.from.state
+  pub log : IsStillThere x.from.at.log x.here.log y.here.log
+
+-- it went on where there is an answer, and stayed where there is none
+abbrev pub GoesFurther : {S : Type 0} → Moves S → ℕ → Ask → Trip S → Option Ask → Trip S → Type 0
+GoesFurther m n first x None y = HasGoneFurther m n first x first y
+GoesFurther m n first x (Some second) y = HasGoneFurther m n first x second y

@@ -1,0 +1,177 @@
+//! The work of the parasite's thread: it goes ahead of the host on trust.
+ghost use Rattle.std.specs.Prelude.{◌≡◌, ◌≤◌, ◌<◌, ◌^◌, [], true, IsTrue, IfSome, IfNone, length};
+ghost use Rattle.beeb_bits.specs.declared.Side.TheVariants.{Para};
+ghost use Rattle.tube_cell.specs.Passes.{own_horizon};
+ghost use Rattle.tube_party.specs.Turn.{IsPending};
+ghost use Rattle.tube_side.specs.CodeSteps.{IsPaid, IsNearlyPaid};
+ghost use Rattle.session.specs.CodeStation.{station};
+ghost use Rattle.session.specs.CodeLookahead.{MovedOn, HasStayed};
+ghost use Rattle.tube_side.specs.CodeWays.{IsWay};
+ghost use Rattle.session.specs.CodeWay.{way_of, outset};
+ghost use Rattle.session.specs.Work.{MayWork, HasWorked};
+
+use crate::half::{Half, next_tick, step};
+use crate::lookahead::go_on;
+use crate::stride::{Stride, Strides};
+use crate::way::{Checkpoint, reached, roll_back, stride_to, strides_on};
+use beeb_bits::Tick;
+use std::marker::Brand;
+use std::sync::Wait;
+use tube_cell::TubeCell;
+use tube_chip::Op;
+use tube_party::{Ask, MOST, Rewinds};
+use tube_side::{Ahead, Mark, Pause, finish, tell_first, wait_passed};
+
+/// Runs the parasite's machine for the ticks below `n`, each of its steps that asks at the shared cell. Below the host's
+/// horizon it works as `drive` does. Past it, it goes ahead in strides, as if the host changed nothing that it observes, and is rolled back where it does.
+pub fn drive_ahead<M: Rewinds, R: Wait>(
+    rt: &R,
+    cell: &TubeCell,
+    half: &mut Half<M>,
+    past: &mut M::Past,
+    n: Tick,
+    strides: Strides,
+)
+    requires may { MayWork M.Party.moves M.Party.plays cell.now n.0 (station M.Party.state half.old) }
+    requires side { half.old.pass.side ≡ Para }
+    ensures worked { let state = M.Party.state in
+        HasWorked M.Party.moves n.0 half.old.log.keep (station state half.old).at (station state half.new) }
+    ensures paid { IsNearlyPaid half.old.pass half.new.pass }
+{
+    let mut pause = Pause::new();
+    let mut stride = Stride::new(strides);
+    let mut is_published = false;
+    let mut ask = go_on(rt, cell, &mut half.pass, &mut half.machine, n);
+    for _ in rt.forever() {
+        if ask == Ask::Nothing {
+            finish(rt, cell, &mut half.pass, n);
+            return;
+        }
+        match go_past(rt, cell, half, past, n, ask, &mut stride, &mut pause) {
+            Some(next) => {
+                is_published = true;
+                ask = next;
+            }
+            None => {
+                step(rt, cell, half, n, ask, is_published, &mut pause);
+                is_published = false;
+                ask = go_on(rt, cell, &mut half.pass, &mut half.machine, n);
+            }
+        }
+    }
+    unreachable!()
+}
+
+// Goes ahead on trust. None, and no step was done, where the host's horizon admits the step, where it is an access that the host has to
+// see, where the machine cannot note what it does, or where the host changed meanwhile what is observed.
+fn go_past<M: Rewinds, R: Wait>(
+    rt: &R,
+    cell: &TubeCell,
+    half: &mut Half<M>,
+    past: &mut M::Past,
+    n: Tick,
+    ask: Ask,
+    stride: &mut Stride,
+    pause: &mut Pause,
+) -> Option<Ask>
+    requires ticks { n.0 ≤ MOST }
+    requires cell { half.old.pass.cell ≡ cell.now }
+    requires side { half.old.pass.side ≡ Para }
+    requires none_trusted { half.old.pass.trusted ≡ [] }
+    requires few { half.old.log.count ≤ M.Party.moves.due (M.Party.state half.old.machine) }
+    requires pending { IsPending M.Party.moves n.0 (M.Party.state half.old.machine) ask }
+    requires later { own_horizon half.old.pass ≤ M.Party.moves.due (M.Party.state half.old.machine) }
+    ensures none { let state = M.Party.state in
+        IfNone result (HasStayed (station state half.old) (station state half.new)) }
+    ensures later { IfNone result (own_horizon half.new.pass ≤ M.Party.moves.due (M.Party.state half.old.machine)) }
+    ensures some { let state = M.Party.state in
+        IfSome result (λ next. MovedOn M.Party.moves n.0 (station state half.old) next (station state half.new)) }
+    ensures published { IfSome result (λ _. half.new.pass.ahead ≡ []) }
+    ensures paid { IsPaid half.old.pass half.new.pass }
+{
+    if !is_observed(ask) {
+        return None;
+    }
+    let tick = next_tick(&half.machine, n, ask);
+    if cell.admits(&half.pass, tick) {
+        return None;
+    }
+    let readings = cell.readings(&mut half.pass);
+    let from = Checkpoint {
+        mark: Mark { tick, readings },
+        log: half.log.mark(),
+    };
+    go_ahead::<Brand, M, R>(rt, cell, half, past, n, &from, stride, pause)
+}
+
+// A look, or a read of a status register.
+fn is_observed(ask: Ask) -> bool {
+    match ask {
+        Ask::Nothing => false,
+        Ask::Look(_) => true,
+        Ask::Access(_, op) => match op {
+            Op::Read(number) => number % 2 == 0,
+            Op::Write(..) | Op::Reset => false,
+        },
+    }
+}
+
+// Goes ahead from the mark, stride by stride, while the chip shows what it showed there. Waits until the host is past, or is rolled back to where the host
+// changed it. None, and nothing was done: no room to note it, nowhere to go, or the host was first.
+fn go_ahead<W: Ahead, M: Rewinds, R: Wait>(
+    rt: &R,
+    cell: &TubeCell,
+    half: &mut Half<M>,
+    past: &mut M::Past,
+    n: Tick,
+    from: &Checkpoint,
+    stride: &mut Stride,
+    pause: &mut Pause,
+) -> Option<Ask>
+    requires ticks { n.0 ≤ MOST }
+    requires cell { half.old.pass.cell ≡ cell.now }
+    requires side { half.old.pass.side ≡ Para }
+    requires none_trusted { half.old.pass.trusted ≡ [] }
+    requires mark { from.now.mark.tick.0 ≡ M.Party.moves.due (M.Party.state half.old.machine) }
+    requires kept { (from.now.log.len ≡ length half.old.log.list.items) × (from.now.log.count ≡ half.old.log.count) }
+    requires few { half.old.log.count ≤ from.now.mark.tick.0 }
+    requires way { W.way ≡ way_of M.Party.moves n.0 (outset (M.Party.state half.old.machine) from.now) }
+    requires is_way { IsWay W.way }
+    requires later { own_horizon half.old.pass ≤ from.now.mark.tick.0 }
+    requires open_ { from.now.mark.tick.0 ≤ n.0 }
+    requires far { half.old.pass.known.host ≤ from.now.mark.tick.0 }
+    ensures none { let state = M.Party.state in
+        IfNone result (HasStayed (station state half.old) (station state half.new)) }
+    ensures later { IfNone result (own_horizon half.new.pass ≤ from.now.mark.tick.0) }
+    ensures some { let state = M.Party.state in
+        let old = station state half.old in
+        IfSome result (λ next. MovedOn M.Party.moves n.0 old next (station state half.new)) }
+    ensures published { IfSome result (λ _. half.new.pass.ahead ≡ []) }
+    ensures paid { IsPaid half.old.pass half.new.pass }
+{
+    let end = stride.set_out(from.mark.tick);
+    let Some(first) = half
+        .machine
+        .advance_noting(n, &from.mark.readings.lines, end, past)
+    else {
+        return None;
+    };
+    let first = stride_to(rt, half, past, n, from, end, first);
+    let t = reached(n, first);
+    if !tell_first::<W, R>(rt, cell, &mut half.pass, &from.mark, t) {
+        half.machine.rewind(past);
+        half.log.cut(from.log);
+        return None;
+    }
+    stride.is_made();
+    let ask = strides_on::<W, M, R>(rt, cell, half, past, n, from, first, stride);
+    let t = reached(n, ask);
+    wait_passed::<W, R>(rt, cell, &mut half.pass, t, pause);
+    let trust = cell.trust(&half.pass);
+    if trust < t {
+        stride.is_cut(trust.0.saturating_sub(from.mark.tick.0));
+    } else {
+        stride.stands();
+    }
+    Some(roll_back(rt, half, past, n, from, t, trust, ask))
+}

@@ -1,0 +1,92 @@
+//! The work of one thread.
+ghost use Rattle.std.specs.Prelude.{◌≡◌, ◌≤◌, ◌<◌, ◌^◌, [], IsTrue};
+ghost use Rattle.tube_cell.specs.Passes.{own_horizon};
+ghost use Rattle.tube_party.specs.Turn.{IsPending};
+ghost use Rattle.tube_side.specs.CodeSteps.{IsPaid, IsNearlyPaid};
+ghost use Rattle.session.specs.CodeStation.{station};
+ghost use Rattle.session.specs.CodeTurn.{Turned};
+ghost use Rattle.session.specs.Work.{MayWork, HasWorked};
+
+use crate::lookahead::go_on;
+use beeb_bits::Tick;
+use std::sync::Wait;
+use tube_cell::{Pass, TubeCell};
+use tube_chip::Answer;
+use tube_party::{Ask, Log, MOST, Party};
+use tube_side::{Pause, come, finish};
+use tube_trace::Entry;
+
+/// One side at work: the machine, its pass to the cell, and the log of its accesses.
+#[derive(Drop)]
+pub struct Half<M> {
+    pub machine: M,
+    pub pass: Pass,
+    pub log: Log,
+}
+
+/// Runs the machine for the ticks below `n`, each of its steps that asks at the shared cell. Its log has room for the accesses that are kept. What the other
+/// side's bound admits is answered with no word to it, and published where the next step is not admitted.
+pub fn drive<M: Party, R: Wait>(rt: &R, cell: &TubeCell, half: &mut Half<M>, n: Tick)
+    requires may { MayWork M.moves M.plays cell.now n.0 (station M.state half.old) }
+    ensures worked { HasWorked M.moves n.0 half.old.log.keep (station M.state half.old).at (station M.state half.new) }
+    ensures paid { IsNearlyPaid half.old.pass half.new.pass }
+{
+    let mut pause = Pause::new();
+    let mut ask = go_on(rt, cell, &mut half.pass, &mut half.machine, n);
+    while ask != Ask::Nothing {
+        step(rt, cell, half, n, ask, false, &mut pause);
+        ask = go_on(rt, cell, &mut half.pass, &mut half.machine, n);
+    }
+    finish(rt, cell, &mut half.pass, n);
+}
+
+/// The tick of the step that is asked next. A party that asks is quiet up to that step.
+pub(crate) fn next_tick<M: Party>(machine: &M, n: Tick, ask: Ask) -> Tick
+    requires { IsPending M.moves n.0 (M.state machine.now) ask }
+    ensures { result.0 ≡ M.moves.due (M.state machine.now) }
+{
+    Tick(machine.quiet().0.min(n.0))
+}
+
+/// Does the step that asks, once the other side admits it. `is_published`: the pass has nothing unpublished.
+pub(crate) fn step<M: Party, R: Wait>(
+    rt: &R,
+    cell: &TubeCell,
+    half: &mut Half<M>,
+    n: Tick,
+    ask: Ask,
+    is_published: bool,
+    pause: &mut Pause,
+)
+    requires ticks { n.0 ≤ MOST }
+    requires cell { half.old.pass.cell ≡ cell.now }
+    requires none_trusted { half.old.pass.trusted ≡ [] }
+    requires published { IsTrue is_published → half.old.pass.ahead ≡ [] }
+    requires plays { IsTrue (M.plays half.old.pass.side) }
+    requires pending { IsPending M.moves n.0 (M.state half.old.machine) ask }
+    requires later { own_horizon half.old.pass ≤ M.moves.due (M.state half.old.machine) }
+    requires count { half.old.log.count < 2 ^ 63 }
+    ensures turned { Turned M.moves (station M.state half.old) (station M.state half.new) }
+    ensures paid { IsPaid half.old.pass half.new.pass }
+{
+    let t = next_tick(&half.machine, n, ask);
+    come(rt, cell, &mut half.pass, t, is_published, pause);
+    match ask {
+        Ask::Nothing => unreachable!(),
+        Ask::Access(tick, op) => {
+            let answer = cell.act(rt, &mut half.pass, tick, op);
+            half.machine.answer(Answer::Byte(answer));
+            let side = half.pass.side();
+            half.log.note(Entry {
+                tick,
+                side,
+                op,
+                answer,
+            });
+        }
+        Ask::Look(tick) => {
+            let lines = cell.see(rt, &mut half.pass, tick);
+            half.machine.answer(Answer::Seen(lines));
+        }
+    }
+}

@@ -1,0 +1,53 @@
+-- The entries of a side, and the chip, one entry at a time.
+use Rattle.std.proofs.Common.{◌≡◌, refl, subst, ℕ, ◌+◌, ◌<◌, ◌≤◌, List, [], ◌∷◌, length, get_or, Bool, true, false, ◌&&◌, nat_lt, Option, Some, None, MatchOption}
+use Rattle.std.specs.Prelude.{slice_get}
+use Rattle.std.proofs.lemmas.List.{drop_more}
+use Rattle.std.proofs.Math.ListN.{drop_of_length-le}
+use Rattle.std.proofs.lemmas.Option.{slice_get-get_or}
+use Rattle.beeb_bits.specs.declared.Side.{Side}
+use Rattle.beeb_bits.specs.declared.Side.TheVariants.{Host}
+use Rattle.tube_chip.specs.Events.{is_side}
+use Rattle.tube_trace.specs.declared.Entry.{Entry}
+use Rattle.tube_chip.specs.declared.Op.{Op}
+use Rattle.tube_chip.specs.declared.Op.TheVariants.{Read}
+use Rattle.tube_party.specs.Replay.{is_that, next_line}
+use Rattle.tube_party.specs.CodeCursor.{own_left, IsOwnAt, Takes, Misses}
+
+-- it is of the side, below n
+abbrev pub owned : Side → ℕ → Entry → Bool
+owned side n x = is_side side x.side && nat_lt (x.tick).0 n
+
+pub own_take : (trace : List Entry) (side : Side) (n at : ℕ) (d : Entry) → at < length trace → owned side n (get_or trace at d) ≡ true →
+    own_left trace side n at ≡ record { line = at + 1; entry = get_or trace at d } ∷ own_left trace side n (at + 1)
+own_take trace side n at d h is = rw (drop_more trace at d h, is) refl
+
+pub own_past : (trace : List Entry) (side : Side) (n at : ℕ) → length trace ≤ at → own_left trace side n at ≡ []
+own_past trace side n at h = rw (drop_of_length-le trace h) refl
+
+get_here : (trace : List Entry) (at : ℕ) (d : Entry) → at < length trace → slice_get trace at ≡ Some (get_or trace at d)
+get_here trace at d h = slice_get-get_or trace at d h
+
+pub own_at : (trace : List Entry) (side : Side) (n at : ℕ) (d : Entry) → at < length trace → IsOwnAt trace side n at → owned side n (get_or trace at d) ≡ true
+own_at trace side n at d h own =
+    subst (λ (o : Option Entry). MatchOption o (Unit {0}) (λ x. owned side n x ≡ true)) (get_here trace at d h) own
+
+-- the chip
+
+pub takes_here : (trace : List Entry) (side : Side) (n at tick : ℕ) (op : Op) (d : Entry) → at < length trace → is_that (get_or trace at d) tick op ≡ true → IsOwnAt trace side n at →
+    (at < length trace) × Takes (own_left trace side n at) (own_left trace side n (at + 1)) tick op (get_or trace at d).answer
+takes_here trace side n at tick op d h that own =
+    (h, record { next = record { line = at + 1; entry = get_or trace at d }; split = own_take trace side n at d h (own_at trace side n at d h own); that = that; answer = refl })
+
+pub misses_here : (trace : List Entry) (side : Side) (n at tick : ℕ) (op : Op) (d : Entry) → at < length trace → is_that (get_or trace at d) tick op ≡ false → IsOwnAt trace side n at →
+    Misses (own_left trace side n at) (length trace) tick op (at + 1)
+misses_here trace side n at tick op d h that own = rw (own_take trace side n at d h (own_at trace side n at d h own)) (refl, that)
+
+any_entry : Entry
+any_entry = record { tick = record { 0 = 0 }; side = Host; op = Read 0; answer = 0 }
+
+pub next_line_here : (trace : List Entry) (side : Side) (n at : ℕ) → at < length trace → IsOwnAt trace side n at → Some (at + 1, None) ≡ next_line (own_left trace side n at)
+next_line_here trace side n at h own =
+    rw (own_take trace side n at any_entry h (own_at trace side n at any_entry h own)) refl
+
+pub next_line_past : (trace : List Entry) (side : Side) (n at : ℕ) → length trace ≤ at → None ≡ next_line (own_left trace side n at)
+next_line_past trace side n at h = rw (own_past trace side n at h) refl

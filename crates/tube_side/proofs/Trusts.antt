@@ -1,0 +1,299 @@
+-- The parasite goes further ahead, and learns what becomes of it.
+use Rattle.std.proofs.Common.{Bool, IsTrue, IsFalse, ℕ, ◌≡◌, ◌⊎◌, ◌+◌, ◌<◌, ◌≤◌, max, nat_lt, cond, true, false, refl, sym, ◌∙◌, ap, subst, ⊎_elim, inl, inr, arith, List, [], ◌∷◌, ◌++◌, All}
+use Rattle.std.proofs.Common.{length, drop, append_assoc}
+use Rattle.std.proofs.lemmas.List.{append-nil}
+use Rattle.std.proofs.lemmas.List.Elements.{All-head, All-tail}
+use Rattle.std.proofs.lemmas.Bool.{cases_lt}
+use Rattle.std.proofs.lemmas.Bool.Decides.{nat_tests}
+use Rattle.beeb_bits.specs.declared.Side.{Side}
+use Rattle.beeb_bits.specs.declared.Side.TheVariants.{Para}
+use Rattle.tube_chip.specs.State.{State}
+use Rattle.tube_chip.specs.Events.{Event}
+use Rattle.tube_cell.specs.Views.{Known, word_of, word_of_other, own_bound, past_last, below, horizon, readings_of}
+use Rattle.tube_cell.specs.Rules.{Trusts}
+use Rattle.tube_cell.specs.Passes.{Carried, own_horizon, after_publish, after_entrust, Learns}
+use Rattle.tube_cell.specs.Steps.{Watches}
+use Rattle.tube_side.specs.CodeSteps.{all_events, HasWaited}
+use Rattle.tube_side.specs.CodeWays.{Way, IsWay}
+use Rattle.tube_side.specs.CodeTrust.{from_on, IsTrusting, HasTrusted, HasPassed}
+
+lt-yes : (m n : ℕ) → m < n → nat_lt m n ≡ true
+lt-yes m n h = grind (arith, nat_tests)
+
+lt-no : (m n : ℕ) → n ≤ m → nat_lt m n ≡ false
+lt-no m n h = grind (arith, nat_tests)
+
+lt-from_yes : (m n : ℕ) → nat_lt m n ≡ true → m < n
+lt-from_yes m n e = grind (arith, nat_tests)
+
+lt-from_no : (m n : ℕ) → nat_lt m n ≡ false → n ≤ m
+lt-from_no m n e = grind (arith, nat_tests)
+
+-- ---- parts of a list
+
+-- the part up to t, and the rest from t on
+below_and_rest : (t : ℕ) (es : List Event) → below t es ++ drop (length (below t es)) es ≡ es
+below_and_rest t [] = refl
+below_and_rest t (e ∷ es) = elim (nat_lt e.tick t) as (λ b. cond b (e ∷ below t es) [] ++ drop (length (cond b (e ∷ below t es) [])) (e ∷ es) ≡ e ∷ es) [
+  | true ↦ ap (λ l. e ∷ l) (below_and_rest t es)
+  | false ↦ refl
+]
+
+-- the parts up to f and from there to t are the part up to t
+join_parts : (f t : ℕ) (es : List Event) → f ≤ t → below f es ++ below t (from_on f es) ≡ below t es
+join_parts f t [] le = refl
+join_parts f t (e ∷ es) le =
+    (elim (nat_lt e.tick f) as (λ b. nat_lt e.tick f ≡ b → cond b (e ∷ below f es) [] ++ below t (drop (length (cond b (e ∷ below f es) [])) (e ∷ es)) ≡ below t (e ∷ es)) [
+      | true ↦ λ h. let l = lt-from_yes e.tick f h in rw (lt-yes e.tick t (omega arith)) (ap (λ l. e ∷ l) (join_parts f t es le))
+      | false ↦ λ h. refl
+    ]) refl
+
+-- the part from f to a, and the rest from a on, are the part from f on
+join_rest : (f a : ℕ) (es : List Event) → f ≤ a → from_on f (below a es) ++ from_on a es ≡ from_on f es
+join_rest f a [] le = refl
+join_rest f a (e ∷ es) le =
+    (elim (nat_lt e.tick a) as (λ b. nat_lt e.tick a ≡ b → from_on f (cond b (e ∷ below a es) []) ++ drop (length (cond b (e ∷ below a es) [])) (e ∷ es) ≡ from_on f (e ∷ es)) [
+      | true ↦ λ h.
+          (elim (nat_lt e.tick f) as (λ b. nat_lt e.tick f ≡ b → drop (length (cond b (e ∷ below f (below a es)) [])) (e ∷ below a es) ++ from_on a es ≡ drop
+          (length (cond b (e ∷ below f es) [])) (e ∷ es)) [
+            | true ↦ λ g. join_rest f a es le
+            | false ↦ λ g. ap (λ l. e ∷ l) (below_and_rest a es)
+          ]) refl
+      | false ↦ λ h.
+          let l = lt-from_no e.tick a h in
+          sym (rw (lt-no e.tick f (omega arith)) refl)
+    ]) refl
+
+-- nothing is left from the end of a part on
+none_left : (t : ℕ) (es : List Event) → from_on t (below t es) ≡ []
+none_left t [] = refl
+none_left t (e ∷ es) =
+    (elim (nat_lt e.tick t) as (λ b. nat_lt e.tick t ≡ b → from_on t (cond b (e ∷ below t es) []) ≡ []) [
+      | true ↦ λ h. rw h (none_left t es)
+      | false ↦ λ h. refl
+    ]) refl
+
+watch_from : (side : Side) (from more : ℕ) (c : State) (es : List Event) (end : ℕ) → Watches side from c es end → more ≤ from → Watches side more c es end
+watch_from side from more c [] end h le = tt
+watch_from side from more c (e ∷ es) end h le = let f = h.2 in (h.0, h.1, (omega arith), h.3, h.4, h.5)
+
+watch_rest : (side : Side) (t from : ℕ) (c : State) (es : List Event) (end : ℕ) → Watches side from c es end → Watches side (max t from) c (from_on t es) end
+watch_rest side t from c [] end h = tt
+watch_rest side t from c (e ∷ es) end h =
+    let f = h.2 in
+    (elim (nat_lt e.tick t) as (λ b. nat_lt e.tick t ≡ b → Watches side (max t from) c (drop (length (cond b (e ∷ below t es) [])) (e ∷ es)) end) [
+      | true ↦ λ x. watch_from side (max t (e.tick + 1)) (max t from) c (from_on t es) end (watch_rest side t (e.tick + 1) c es end h.5) (omega arith)
+      | false ↦ λ x. let l = lt-from_no e.tick t x in (h.0, h.1, (omega arith), h.3, h.4, h.5)
+    ]) refl
+
+-- all are left from the beginning on
+all_left : (es : List Event) → from_on 0 es ≡ es
+all_left [] = refl
+all_left (e ∷ es) = rw (lt-no e.tick 0 (omega arith)) refl
+
+past_low : (t : ℕ) (xs : List Event) → All (λ x. x.tick < t) xs → past_last xs ≤ t
+past_low t [] all = omega arith
+past_low t (x ∷ []) all = let h = All-head (λ y. y.tick < t) x [] all in omega arith
+past_low t (x ∷ y ∷ ys) all = past_low t (y ∷ ys) (All-tail (λ z. z.tick < t) x (y ∷ ys) all)
+
+-- events below a tick behind others
+past_both : (t : ℕ) (xs ys : List Event) → All (λ y. y.tick < t) ys → past_last (xs ++ ys) ≤ max t (past_last xs)
+past_both t [] ys all = let h = past_low t ys all in omega arith
+past_both t (x ∷ []) [] all = omega arith
+past_both t (x ∷ []) (y ∷ ys) all = let h = past_low t (y ∷ ys) all in omega arith
+past_both t (x ∷ z ∷ xs) ys all = past_both t (z ∷ xs) ys all
+
+module _ (w : Way) (law : IsWay w) (base : List Event) where
+  abbrev made : ℕ → List Event
+  made t = w.until t
+
+  part : (t limit : ℕ) → t ≤ limit → below t (made limit) ≡ made t
+  part t limit le = law.part t limit le
+
+  -- what may be put onto the list on trust next
+  pub may_trust : (p : Carried) (t : ℕ) → own_horizon p ≤ max p.known.trust w.tick → w.readings ≡ readings_of p.known.chip
+      → Watches Para (own_horizon p) p.known.chip (from_on p.known.trust (made t)) t
+  may_trust p t low same =
+      watch_from Para (max p.known.trust w.tick) (own_horizon p) p.known.chip (from_on p.known.trust (made t)) t
+      (watch_rest Para p.known.trust w.tick p.known.chip (made t) t (law.watches p.known.chip t same)) low
+
+  pub trusting_more : (p q : Carried) (t : ℕ) → IsTrusting w base p → p.known.trust ≤ t → q ≡ after_entrust p (from_on p.known.trust (made t)) t → IsTrusting w base q
+  trusting_more p q t is le q_is =
+      let f = is.order in
+      subst (λ (x : Carried). IsTrusting w base x) (sym q_is) (record {
+        firm = is.firm;
+        events = is.events;
+        trusted =
+            ap (λ l. l ++ from_on p.known.trust (made t)) (is.trusted ∙ ap (from_on is.firm) (sym (part p.known.trust t le)))
+            ∙ join_rest is.firm p.known.trust (made t) is.order;
+        passed = is.passed;
+        order = omega arith;
+      })
+
+  -- what a learn leaves: nothing is known anew; or the host has passed the trust that stands now, and what lies below it is on the list for good
+  pub trusting_learned : (p q : Carried) → p.side ≡ Para → IsTrusting w base p → Learns p q
+      → IsTrusting w base q × (((q.known.host < q.known.trust) × (q.known.trust ≡ p.known.trust)) ⊎ ((q.known.trust ≤ q.known.host) × (q.trusted ≡ []) × (q.events ≡ base ++ made q.known.trust)))
+  trusting_learned p q side is learns = go (subst (λ (x : Side). Trusts x p.known q.known) side learns.trust) (cases_lt q.known.host q.known.trust)
+    where
+      host_up : p.known.host ≤ q.known.host
+      host_up = subst (λ (x : Side). word_of_other x p.known ≤ word_of_other x q.known) side learns.other_word
+
+      settled : (t : ℕ) → t ≡ q.known.trust → t ≤ q.known.host → q.trusted ≡ [] → q.events ≡ base ++ made t
+          → IsTrusting w base q × (((q.known.host < q.known.trust) × (q.known.trust ≡ p.known.trust)) ⊎ ((q.known.trust ≤ q.known.host) × (q.trusted ≡ []) × (q.events ≡ base ++ made q.known.trust)))
+      settled t t_is le none events =
+          let same : q.events ≡ base ++ made q.known.trust = events ∙ ap (λ x. base ++ made x) t_is in (
+            record {
+              firm = q.known.trust;
+              events = same;
+              trusted = none ∙ sym (ap (from_on q.known.trust) (sym (part q.known.trust q.known.trust (omega arith))) ∙ none_left q.known.trust (made q.known.trust));
+              passed = omega arith;
+              order = omega arith;
+            },
+            inr (omega arith, none, same),
+          )
+
+      go : (q.known.trust ≡ p.known.trust) ⊎ ((p.known.host ≤ q.known.trust) × (q.known.trust < p.known.trust) × (q.known.trust < q.known.host))
+          → (q.known.host < q.known.trust) ⊎ (q.known.trust ≤ q.known.host)
+          → IsTrusting w base q × (((q.known.host < q.known.trust) × (q.known.trust ≡ p.known.trust)) ⊎ ((q.known.trust ≤ q.known.host) × (q.trusted ≡ []) × (q.events ≡ base ++ made q.known.trust)))
+      go (inl same) (inl lt) =
+          let k = learns.stays lt in
+          let o = is.order in
+          let h = is.passed in
+          let up = host_up in (
+            record {
+              firm = is.firm;
+              events = k.0 ∙ is.events;
+              trusted = k.1 ∙ is.trusted ∙ ap (λ t. from_on is.firm (made t)) (sym same);
+              passed = omega arith;
+              order = omega arith;
+            },
+            inl (lt, same),
+          )
+      go (inl same) (inr le) =
+          let k = learns.settled same le in
+          let all : made is.firm ++ from_on is.firm (made p.known.trust) ≡ made p.known.trust =
+          ap (λ l. l ++ from_on is.firm (made p.known.trust)) (sym (part is.firm p.known.trust is.order)) ∙ below_and_rest is.firm (made p.known.trust) in
+          settled p.known.trust (sym same) (omega arith) k.1
+          (k.0 ∙ (λ i. is.events i ++ is.trusted i) ∙ append_assoc base (made is.firm) (from_on is.firm (made p.known.trust)) ∙ ap (λ l. base ++ l) all)
+      go (inr taken) side_of =
+          let k = learns.taken taken.1 in
+          let t = q.known.trust in
+          let x = taken.0 in
+          let y = taken.1 in
+          let z = taken.2 in
+          let h = is.passed in
+          let all : made is.firm ++ below t (from_on is.firm (made p.known.trust)) ≡ made t =
+          ap (λ l. l ++ below t (from_on is.firm (made p.known.trust))) (sym (part is.firm p.known.trust is.order)) ∙ join_parts is.firm t (made p.known.trust) (omega arith)
+          ∙ part t p.known.trust (omega arith) in
+          settled t refl (omega arith) k.1
+          (k.0 ∙ (λ i. is.events i ++ below t (is.trusted i)) ∙ append_assoc base (made is.firm) (below t (from_on is.firm (made p.known.trust))) ∙ ap (λ l. base ++ l) all)
+
+-- ---- how the parasite stands
+
+own_of : (p : Carried) → p.side ≡ Para → own_horizon p ≡ max (max p.known.para p.known.trust) (past_last (p.events ++ p.ahead))
+own_of p side = ap (λ x. horizon (own_bound x p.known) (p.events ++ p.ahead)) side
+
+trust_fell : (x k : Known) → Trusts Para x k → k.trust ≤ x.trust
+trust_fell x k t = ⊎_elim (λ (e : k.trust ≡ x.trust). omega arith) (λ (e : (x.host ≤ k.trust) × (k.trust < x.trust) × (k.trust < k.host)). let l = e.1 in omega arith) t
+
+module _ (w : Way) (law : IsWay w) (t : ℕ) (p : Carried) where
+  -- the first stride was told
+  pub told_first : (q : Carried) (h : ℕ) → p.side ≡ Para → p.trusted ≡ [] → h ≡ w.tick → own_horizon p ≤ h → h ≤ t
+      → q ≡ after_entrust (after_publish p h) (w.until t) t → HasTrusted w t p q
+  told_first q h side none h_is low far is =
+      let own_is = own_of p side in
+      let trust : q.known.trust ≡ t = ap (λ x. x.known.trust) is in
+      let para : q.known.para ≡ h = ap (λ x. x.known.para) is ∙ para_of p side in
+      record {
+        cell = ap (λ x. x.cell) is;
+        side = ap (λ x. x.side) is;
+        ahead = ap (λ x. x.ahead) is;
+        far = omega arith;
+        trust = omega arith;
+        para = omega arith;
+        base = omega arith;
+        trusting = record {
+          firm = 0;
+          events = ap (λ x. x.events) is ∙ sym (append-nil (all_events p)) ∙ ap (λ l. all_events p ++ l) (sym law.none);
+          trusted = ap (λ x. x.trusted) is ∙ ap (λ l. l ++ w.until t) none ∙ sym (all_left (w.until t)) ∙ ap (λ x. from_on 0 (w.until x)) (sym trust);
+          passed = omega arith;
+          order = omega arith;
+        };
+      }
+    where
+      para_of : (x : Carried) → x.side ≡ Para → (after_publish x h).known.para ≡ h
+      para_of x at = subst (λ (y : Side). (after_publish (record x { side = y }) h).known.para ≡ h) (sym at) refl
+
+  -- its horizon
+  pub told_low : (q : Carried) → q.side ≡ Para → HasTrusted w t p q → own_horizon q ≤ max q.known.trust (w.tick)
+  told_low q side told =
+      let is = told.trusting in
+      let own_is = own_of q side in
+      let order = is.order in
+      let para = told.para in
+      let base = told.base in
+      let events : q.events ++ q.ahead ≡ all_events p ++ w.until is.firm = (λ i. is.events i ++ told.ahead i) ∙ append-nil (all_events p ++ w.until is.firm) in
+      let same : past_last (q.events ++ q.ahead) ≡ past_last (all_events p ++ w.until is.firm) = ap past_last events in
+      let most = past_both is.firm (all_events p) (w.until is.firm) (law.low is.firm) in
+      omega arith
+
+  -- the strides since were told too
+  pub told_more : (q r : Carried) → HasTrusted w t p q → r ≡ after_entrust q (from_on q.known.trust (w.until t)) t → HasTrusted w t p r
+  told_more q r told is =
+      let trust : r.known.trust ≡ t = ap (λ x. x.known.trust) is in
+      let para : r.known.para ≡ q.known.para = ap (λ x. x.known.para) is in
+      let low = told.para in
+      record {
+        cell = ap (λ x. x.cell) is ∙ told.cell;
+        side = ap (λ x. x.side) is ∙ told.side;
+        ahead = ap (λ x. x.ahead) is ∙ told.ahead;
+        far = told.far;
+        trust = omega arith;
+        para = omega arith;
+        base = told.base;
+        trusting = trusting_more w law (all_events p) q r t told.trusting told.trust is;
+      }
+
+  -- words were found
+  pub told_learned : (q r : Carried) → q.side ≡ Para → HasTrusted w t p q → Learns q r → HasTrusted w t p r
+  told_learned q r side told learns =
+      let fell = trust_fell q.known r.known (subst (λ (x : Side). Trusts x q.known r.known) side learns.trust) in
+      let was = told.trust in
+      let para : r.known.para ≡ q.known.para = subst (λ (x : Side). word_of x r.known ≡ word_of x q.known) side learns.own_word in
+      let low = told.para in
+      record {
+        cell = ap (λ x. x.cell) learns.rest ∙ told.cell;
+        side = ap (λ x. x.side) learns.rest ∙ told.side;
+        ahead = ap (λ x. x.ahead) learns.rest ∙ told.ahead;
+        far = told.far;
+        trust = omega arith;
+        para = omega arith;
+        base = told.base;
+        trusting = (trusting_learned w law (all_events p) q r side told.trusting learns).0;
+      }
+
+  -- the host has passed
+  pub passed_learned : (q r : Carried) → q.side ≡ Para → HasTrusted w t p q → Learns q r → r.known.trust ≤ r.known.host → HasPassed w t p r
+  passed_learned q r side told learns le =
+      let ends : (r.trusted ≡ []) × (r.events ≡ all_events p ++ w.until r.known.trust) = ⊎_elim
+      (λ (x : (r.known.host < r.known.trust) × (r.known.trust ≡ q.known.trust)). let y = x.0 in absurd (omega arith))
+      (λ (x : (r.known.trust ≤ r.known.host) × (r.trusted ≡ []) × (r.events ≡ all_events p ++ w.until r.known.trust)). (x.1, x.2))
+      (trusting_learned w law (all_events p) q r side told.trusting learns).1 in
+      let more = told_learned q r side told learns in
+      record { told = more; trusted = ends.0; events = ends.1; later = told_low r (ap (λ x. x.side) learns.rest ∙ side) more }
+
+pub passed_of : (q r : Carried) (a b : ℕ) → q.side ≡ Para → Learns q r → a ≡ r.known.trust → b ≡ word_of_other r.side r.known → a ≤ b → r.known.trust ≤ r.known.host
+passed_of q r a b side learns a_is b_is le =
+    let at : r.side ≡ Para = ap (λ x. x.side) learns.rest ∙ side in
+    let host : b ≡ r.known.host = b_is ∙ ap (λ (x : Side). word_of_other x r.known) at in
+    omega arith
+
+-- either way it stands so
+pub tried_told : (w : Way) (law : IsWay w) (t : ℕ) (p q r : Carried) (done : Bool) → q.side ≡ Para → HasTrusted w t p q
+    → (IsTrue done → r ≡ after_entrust q (from_on q.known.trust (w.until t)) t) → (IsFalse done → Learns q r) → HasTrusted w t p r
+tried_told w law t p q r true side told f g = told_more w law t p q r told (f refl)
+tried_told w law t p q r false side told f g = told_learned w law t p q r side told (g refl)
+
+pub tried_seat : (q r : Carried) (done : Bool) (t : ℕ) (looks : List Event) → (IsTrue done → r ≡ after_entrust q looks t) → (IsFalse done → Learns q r) → (r.cell ≡ q.cell) × (r.side ≡ q.side)
+tried_seat q r true t looks f g = let e = f refl in (ap (λ x. x.cell) e, ap (λ x. x.side) e)
+tried_seat q r false t looks f g = let e = (g refl).rest in (ap (λ x. x.cell) e, ap (λ x. x.side) e)

@@ -1,0 +1,14 @@
+use Rattle.std.proofs.Common.{◌≡◌, ◌≤◌}
+use Rattle.tube_cell.specs.Passes.{own_horizon}
+use Rattle.tube_side.specs.CodeSteps.{HasWaited}
+use Rattle.tube_side.proofs.at_cell.finish.Given as goal
+
+abbrev pub invariant-loop : goal.invariant-loop
+invariant-loop g l = record {
+  can_next : (goal.iterator-loop g).can_next l.iterator';
+  finite : (goal.iterator-loop g).is_finite l.iterator';
+  waited : HasWaited l.fn.pass l.pass;
+  later : own_horizon l.pass ≤ l.n.0;
+  commits : l.pass.commits ≡ l.fn.pass.commits;
+  higher : l.fn.pass.higher ≤ l.pass.higher;
+}

@@ -1,0 +1,32 @@
+use Rattle.std.proofs.Common.{rules, arith, ◌≡◌, ◌∙◌, sym, subst, ap}
+use Rattle.tube_cell.specs.Views.{readings_of}
+use Rattle.tube_cell.specs.Passes.{Carried, Learns, here}
+use Rattle.tube_side.specs.CodeSteps.{HasOnlyLearnt}
+use Rattle.tube_side.proofs.Waits.{waited_on, learned, still_learnt}
+use Rattle.tube_side.proofs.trust.tell_first.Goals as goal
+
+pub publish_on-requires-clause-way : goal.publish_on-requires-clause-way
+publish_on-requires-clause-way g c =
+    let same : c.readings.result ≡ c.args.mark.now.readings = search rules in
+    (c.requires.way.0, c.requires.way.1 ∙ sym same ∙ c.readings.ensures.readings ∙ ap (λ (x : Carried). readings_of (here x)) (sym c.readings.ensures.pass))
+
+pub returns-then-publish_on-clause-paid : goal.returns-then-publish_on-clause-paid
+returns-then-publish_on-clause-paid g c told =
+    c.publish_on.ensures.paid c.args.pass.now c.if-publish_on.true
+    (subst (λ (x : Carried). HasOnlyLearnt c.args.t.0 c.args.pass.now x) (sym c.readings.ensures.pass) c.loop.invariant.learnt)
+
+pub loop-preserved : goal.loop-preserved
+loop-preserved g c =
+    let p = c.loop.pass in
+    let q = c.publish_on.new.pass in
+    let l : Learns p q = subst (λ (x : Carried). Learns x q) c.readings.ensures.pass (c.publish_on.ensures.learns c.if-publish_on.false) in
+    let low = l.horizon in
+    let was = c.loop.invariant.later in
+    record {
+      can_next = tt;
+      finite = tt;
+      waited = waited_on c.args.pass.now p q c.loop.invariant.waited (learned p q c.loop.invariant.waited.same.trusted l);
+      ahead = ap (λ (x : Carried). x.ahead) l.rest ∙ c.loop.invariant.ahead;
+      learnt = still_learnt c.args.pass.now p q c.args.t.0 (c.loop.invariant.waited.same.side ∙ c.requires.side) c.loop.invariant.learnt l;
+      later = omega arith;
+    }

@@ -1,0 +1,108 @@
+//! How a side comes to its steps at the shared cell: it lets the other side get on until it is far enough.
+ghost use Rattle.std.specs.Prelude.{◌≡◌, ◌≤◌, ◌+◌, [], IsTrue, IsFalse};
+ghost use Rattle.tube_cell.specs.Views.{Admits};
+ghost use Rattle.tube_cell.specs.Passes.{own_horizon, bound_here};
+ghost use Rattle.tube_side.specs.CodeSteps.{HasWaited, IsPaid, IsNearlyPaid};
+
+use crate::pause::Pause;
+use beeb_bits::Tick;
+use std::sync::Wait;
+use tube_cell::{Pass, TubeCell};
+
+/// Lets the other side get on until it admits a step at this tick. Where it does not yet, all events are published first, with that tick as
+/// horizon, unless they are published already, and the trust says as much.
+pub fn come<R: Wait>(
+    rt: &R,
+    cell: &TubeCell,
+    pass: &mut Pass,
+    t: Tick,
+    is_published: bool,
+    pause: &mut Pause,
+)
+    requires cell { pass.old.cell ≡ cell.now }
+    requires none_trusted { pass.old.trusted ≡ [] }
+    requires published { IsTrue is_published → pass.old.ahead ≡ [] }
+    requires later { own_horizon pass.old ≤ t.0 }
+    ensures waited { HasWaited pass.old pass.new }
+    ensures later { own_horizon pass.new ≤ t.0 }
+    ensures admitted { Admits pass.new.side (bound_here pass.new) t.0 }
+    ensures paid { IsPaid pass.old pass.new }
+{
+    if cell.admits(pass, t) {
+        return;
+    }
+    cell.learn(rt, pass);
+    if is_published && t <= cell.trust(pass) {
+        if cell.admits(pass, t) {
+            return;
+        }
+    } else if tell(rt, cell, pass, t) {
+        return;
+    }
+    wait(rt, cell, pass, t, pause);
+}
+
+/// Publishes all events and the end of the run as horizon: no step below it is left.
+pub fn finish<R: Wait>(rt: &R, cell: &TubeCell, pass: &mut Pass, n: Tick)
+    requires cell { pass.old.cell ≡ cell.now }
+    requires none_trusted { pass.old.trusted ≡ [] }
+    requires later { own_horizon pass.old ≤ n.0 }
+    ensures waited { HasWaited pass.old pass.new }
+    ensures published { pass.new.ahead ≡ [] }
+    ensures horizon { own_horizon pass.new ≡ n.0 }
+    ensures paid { IsNearlyPaid pass.old pass.new }
+{
+    for _ in rt.forever() {
+        if cell.publish(rt, pass, n) {
+            return;
+        }
+    }
+    unreachable!()
+}
+
+// Publishes all events, and the tick of the step that waits as horizon, unless the other side admits the step by then: true.
+fn tell<R: Wait>(rt: &R, cell: &TubeCell, pass: &mut Pass, t: Tick) -> bool
+    requires cell { pass.old.cell ≡ cell.now }
+    requires none_trusted { pass.old.trusted ≡ [] }
+    requires later { own_horizon pass.old ≤ t.0 }
+    ensures waited { HasWaited pass.old pass.new }
+    ensures later { own_horizon pass.new ≤ t.0 }
+    ensures admitted { IsTrue result → Admits pass.new.side (bound_here pass.new) t.0 }
+    ensures paid { IsTrue result → IsPaid pass.old pass.new }
+    ensures told { IsFalse result → pass.new.ahead ≡ [] }
+    ensures far { IsFalse result → ¬ Admits pass.new.side (bound_here pass.new) t.0 }
+    ensures nearly_paid { IsFalse result → IsNearlyPaid pass.old pass.new }
+{
+    for _ in rt.forever() {
+        if cell.admits(pass, t) {
+            return true;
+        }
+        if cell.publish(rt, pass, t) {
+            return false;
+        }
+    }
+    unreachable!()
+}
+
+// Rests until the other side admits the step.
+fn wait<R: Wait>(rt: &R, cell: &TubeCell, pass: &mut Pass, t: Tick, pause: &mut Pause)
+    requires cell { pass.old.cell ≡ cell.now }
+    requires published { pass.old.ahead ≡ [] }
+    requires none_trusted { pass.old.trusted ≡ [] }
+    requires later { own_horizon pass.old ≤ t.0 }
+    requires far { ¬ Admits pass.old.side (bound_here pass.old) t.0 }
+    ensures waited { HasWaited pass.old pass.new }
+    ensures later { own_horizon pass.new ≤ t.0 }
+    ensures admitted { Admits pass.new.side (bound_here pass.new) t.0 }
+    ensures rose { pass.new.commits + pass.old.higher + 1 ≤ pass.old.commits + pass.new.higher }
+{
+    for _ in rt.forever() {
+        pause.rest();
+        cell.learn(rt, pass);
+        if cell.admits(pass, t) {
+            pause.end();
+            return;
+        }
+    }
+    unreachable!()
+}
