@@ -1,6 +1,7 @@
 # What the measurements share: the program, a working folder of their own, the pairs of programs that are timed, and a command timed against
 # sha256sum of its file. BEEBTUBE=PROGRAM runs that program in place of the one of this checkout, and then nothing is proved or built for it.
 set -eu
+if [ "${1:-}" = --help ]; then sed -n '2,/^[^#]/s/^# //p' "$0"; exit; fi
 top=$(cd "$(dirname "$0")/.." && pwd)
 program="$top/crates/beebtube/out/beebtube"
 launcher="$top/beebtube"

@@ -3,6 +3,10 @@
 files at all, disks that are full, outputs that cannot be written, and more. Each case has its words, the exit status and text that are wanted by
 the table of docs/COMMANDS.md, and what has to stand on disk afterwards; every other file has to be as it was.
 
+Then it saves a session over itself and ends the program at a hundred moments of it: fifty times by a signal while the file is written, once so many
+bytes of it are there (SIGXFSZ of a file's longest length), and fifty times by SIGKILL at times spread over the run. It tells how often the session
+was as before, was the new one, and was neither; the last differs.
+
 Prints a line for each case that differs, one for each that is known to, one for each that was skipped, and the counts; --all prints every case,
 and --page the tables of docs/FILES.md. The exit status is 1 where a case differs. As root it calls the program as another user too (setpriv) and mounts a small disk; else
 those cases are skipped."""
@@ -212,15 +216,15 @@ def tell_cases():
     add(group, "a FIFO whose reader goes", solo("out", "--keys", "shot"), 5, "cannot write out.000.ppm", changed={**outputs("out", ends=(".host", ".para")), "out.report": None},
         before=both(put("shot", b"at 0 shot\n"), fifo("out.000.ppm", "head -c 1 out.000.ppm >/dev/null")))
     add(group, "a disk with room for two files of four", ["solo", "2000", "disk/out"] + list(SOLO), 5, "cannot write disk/out.para",
-        changed={**outputs("disk/out", ends=(".report", ".host")), "disk/out.para": lambda text: wanted["good.para"].startswith(text)}, before=a_disk, needs="a disk of its own")
+        changed=outputs("disk/out", ends=(".report", ".host")), before=a_disk, needs="a disk of its own")
     add(group, "a disk without any room", ["asm", "6502", "small.asm", "disk/image"], 5, "cannot write disk/image",
-        changed={"disk/image": b""}, before=both(a_disk, lambda: fill("disk/filled")), needs="a disk of its own")
+        before=both(a_disk, lambda: fill("disk/filled")), needs="a disk of its own")
     add(group, "a disk that is read only", ["asm", "6502", "small.asm", "disk/image"], 5, "cannot write disk/image",
         before=both(a_disk, lambda: subprocess.run(["mount", "-o", "remount,ro", "disk"], check=True)), needs="a disk of its own")
-    over = {**outputs("out", ends=(".report", ".host")), "out.para": lambda text: wanted["good.para"].startswith(text)}
+    over = outputs("out", ends=(".report", ".host"))
     add(group, "a file may have 40,000 bytes (`ulimit -f`), and the signal of that is ignored", solo("out"), 5, "cannot write out.para",
         changed=over, command=("bash", "-c", "ulimit -f 40; trap '' XFSZ; exec \"$@\"", "bash"))
-    add(group, "the same, where the signal is not ignored", solo("out"), -signal.SIGXFSZ, changed=over, command=("bash", "-c", "ulimit -f 40; exec \"$@\"", "bash"),
+    add(group, "the same, where the signal is not ignored", solo("out"), -signal.SIGXFSZ, changed={**over, "out.para.new0": lambda text: wanted["good.para"].startswith(text)}, command=("bash", "-c", "ulimit -f 40; exec \"$@\"", "bash"),
         known="5 `cannot write out.para`")
     add(group, "the working folder is gone", ["asm", "6502", "../small.asm", "image"], 5, "cannot write image", command=("sh", "-c", "mkdir gone && cd gone && rmdir ../gone && exec \"$@\"", "sh"))
 
@@ -316,9 +320,11 @@ def tell_session_cases():
         command=AS_OTHER, needs="another user")
     add(group, "a device that is full", solo("out", "--save", "/dev/full"), 5, "cannot write /dev/full", changed=back)
     add(group, "a disk without any room, the other files elsewhere", solo("out", "--save", "disk/saved"), 5, "cannot write disk/saved",
-        changed={**back, "disk/saved": lambda text: wanted["state"].startswith(text)}, before=both(a_disk, lambda: fill("disk/fill")), needs="a disk of its own")
+        changed=back, before=both(a_disk, lambda: fill("disk/fill")), needs="a disk of its own")
+    add(group, "over the session that is taken up, on that disk, the other files elsewhere", resume("disk/state", "--save", "disk/state"), 5, "cannot write disk/state",
+        changed=back, before=both(a_disk, lambda: put("disk/state", wanted["state"])(), lambda: fill("disk/fill")), needs="a disk of its own")
     add(group, "the same disk for the files of `resume`", resume("state", out="disk/out"), 5, "cannot write disk/out.para",
-        changed={**outputs("disk/out", ends=(".report", ".host")), "disk/out.para": lambda text: wanted["good.para"].startswith(text)}, before=a_disk, needs="a disk of its own")
+        changed=outputs("disk/out", ends=(".report", ".host")), before=a_disk, needs="a disk of its own")
     add(group, "a FIFO with a reader", solo("out", "--save", "fifo"), 0, changed={**back, "read": "state"}, before=fifo("fifo", "cat fifo >read"))
     add(group, "a FIFO whose reader goes", solo("out", "--save", "fifo", "--disc0", "large"), 5, "cannot write fifo", changed={**back, "out.d0": None},
         before=both(put("large", length=204800), fifo("fifo", "head -c 1 fifo >/dev/null")))
@@ -342,7 +348,7 @@ def tell_session_cases():
     add(group, "in a folder without leave to write", follow("good.trace", out="folder/out"), 5, "cannot write folder/out.list",
         command=AS_OTHER, needs="another user")
     add(group, "a device that is full", follow("good.trace"), 5, "cannot write out.list", before=link("/dev/full", "out.list"))
-    add(group, "a disk without any room", follow("good.trace", out="disk/out"), 5, "cannot write disk/out.list", changed={"disk/out.list": lambda text: wanted["good.list"].startswith(text)},
+    add(group, "a disk without any room", follow("good.trace", out="disk/out"), 5, "cannot write disk/out.list",
         before=both(a_disk, lambda: fill("disk/fill")), needs="a disk of its own")
     add(group, "a FIFO with a reader", follow("good.trace"), 0, out=told, changed={"read": "good.list"}, before=fifo("out.list", "cat out.list >read"))
     add(group, "a name of 255 bytes", follow("good.trace", out="n" * 250), 0, out=told, changed={"n" * 250 + ".list": "good.list"},
@@ -542,6 +548,72 @@ def run(case, path):
     return faults, status, err or b"", took
 
 
+# --- Moments ---
+
+MOMENTS = 50
+
+
+class Moments:
+    """What stands of a session that is saved over itself where the program is ended in the midst of it."""
+
+    def __init__(self, path, folder):
+        self.path, self.folder = path, folder
+        # A session that is longer than all other outputs: it has sixteen paged ROMs.
+        put("rom", length=16384)()
+        roms = [word for slot in range(16) for word in ("--rom%d" % slot, "rom")]
+        self.call(["solo", "1000", "out", *SOLO, *roms, "--save", "long"])
+        self.old = text_of("long")
+        begun = time.time()
+        self.call(["resume", "long", "2000", "out", "--save", "other"])
+        self.took = time.time() - begun
+        self.new = text_of("other")
+        self.counts = {"as before": 0, "the new one": 0, "neither": 0}
+        self.beside = set()
+        self.known = set(os.listdir("."))
+
+    def call(self, words):
+        subprocess.run([self.path] + words, check=True, stdin=subprocess.DEVNULL)
+
+    def begin(self, **how):
+        put("long", self.old)()
+        return subprocess.Popen([self.path, "resume", "long", "2000", "out", "--save", "long"], stdin=subprocess.DEVNULL, stderr=subprocess.DEVNULL, **how)
+
+    def look(self):
+        found = text_of("long") if os.path.exists("long") else None
+        self.counts["as before" if found == self.old else "the new one" if found == self.new else "neither"] += 1
+        for name in set(os.listdir(".")) - self.known:
+            self.beside.add(name)
+            os.unlink(name)
+
+    def try_all(self):
+        largest_other = 65536
+        for moment in range(MOMENTS):
+            limit = largest_other + 1 + (len(self.new) - largest_other - 2) * moment // MOMENTS
+
+            def before(limit=limit):
+                signal.signal(signal.SIGXFSZ, signal.SIG_DFL)
+                resource.setrlimit(resource.RLIMIT_FSIZE, (limit, limit))
+            self.begin(preexec_fn=before, restore_signals=False).wait()
+            self.look()
+        for moment in range(MOMENTS):
+            child = self.begin()
+            time.sleep(1.2 * self.took * moment / MOMENTS)
+            child.kill()
+            child.wait()
+            self.look()
+
+    def told(self):
+        beside = ", ".join("`%s`" % name for name in sorted(self.beside)) or "nothing"
+        return "%d moments: %s; beside it was left: %s" % (2 * MOMENTS, ", ".join("%s %d" % (what, count) for what, count in self.counts.items()), beside)
+
+
+def try_moments(path, work):
+    fresh(work + "/at")
+    moments = Moments(path, work)
+    moments.try_all()
+    return moments
+
+
 def what_stands(case):
     if case.status is None:
         return "nothing"
@@ -612,6 +684,12 @@ def main():
                 print("known: %s: %s: %s, promised %s" % (case.group, case.title, end_of(status, err), case.known))
             elif show:
                 print("as wanted: %s: %s: %s, %.1f s" % (case.group, case.title, end_of(status, err), took))
+        moments = try_moments(path, work)
+        counts["differ" if moments.counts["neither"] else "as wanted"] += 1
+        if page:
+            print("\n### Ended in the midst of it\n\nA session that is saved over itself, %s." % moments.told())
+        elif moments.counts["neither"] or show:
+            print("%s: a session that is saved over itself, %s" % ("differs" if moments.counts["neither"] else "as wanted", moments.told()))
     finally:
         os.chdir("/")
         if os.path.ismount(work + "/at/disk"):

@@ -1,8 +1,8 @@
 #!/usr/bin/env bash
 # trials.sh [N [SEED]]: N trials (1,000,000 if none is said) of each kind of crates/trials, on all processors: random programs of the second processor
-# and of the host, each by whole instructions and cycle by cycle, and random acts on the host's bus, whose devices lag behind, beside one that is
-# closed at each tick. Prints how many were done, in how many seconds, and the first seed of each processor that differs, and
-# ends with 0 where none does. The same seed (1 if none is said) makes the same trials.
+# and of the host, and single instructions of both at edges, each by whole instructions and cycle by cycle, and random acts on the host's bus, whose
+# devices lag behind, beside one that is closed at each tick. Prints how many were done, in how many seconds, and the first seed of each processor
+# that differs, and ends with 0 where none does. The same seed (1 if none is said) makes the same trials.
 #
 # `rt run` in crates/trials proves the program and builds it, in crates/trials/out. TRIALS=PROGRAM runs one that was built by other means.
 . "$(dirname "$0")/common.sh"
@@ -22,7 +22,7 @@ seed=${2:-1}
 parts=$(nproc)
 each=$(((count + parts - 1) / parts))
 status=0
-for kind in 65c02 6502 acts; do
+for kind in 65c02 6502 edges acts; do
     begun=$(date +%s)
     tasks=()
     for part in $(seq "$parts"); do

@@ -3,6 +3,10 @@
 set -eu
 top=$(cd "$(dirname "$(readlink -f "$0")")/.." && pwd)
 folder=${1:-.}
+if [ "$folder" = --help ]; then
+    sed -n 's/^# //p' "$0"
+    exit
+fi
 mkdir -p "$folder"
 "$top/beebtube" asm 6502 "$top/examples/type-os.asm" "$folder/os"
 "$top/beebtube" asm 65c02 "$top/examples/type-tube.asm" "$folder/tube"

@@ -4,7 +4,7 @@ _beebtube() {
     [[ $command != @(replay|follow) ]] || command="$command ${COMP_WORDS[2]:-}"
     COMPREPLY=()
     if [ "$COMP_CWORD" -eq 1 ]; then
-        mapfile -t COMPREPLY < <(compgen -W 'check asm dis replay solo run resume follow gen' -- "$word")
+        mapfile -t COMPREPLY < <(compgen -W 'check asm dis replay solo run resume follow gen --help --version' -- "$word")
         return
     fi
     case $before in

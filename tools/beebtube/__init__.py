@@ -1,0 +1,45 @@
+"""beebtube from Python: runs of the emulator and what comes of them, for tests and tools.
+
+    import beebtube
+
+    os = beebtube.asm("6502", "host.asm")              # the name of a source's file, or its bytes
+    run = beebtube.run(6_000_000, os=os, tube="tube.rom", keys=beebtube.typed("HELLO{RETURN}"))
+    run.registers["host"].pc                           # registers: pc a x y s p halted
+    run.host[0x70], run.para                           # memories
+    run.frames, run.discs[0], run.plugs                # pictures of shots, discs afterwards, devices
+    for access in run.accesses: ...                    # the Tube's accesses, one after another
+    run.screen()[0]                                    # the first line of a teletext page
+
+What the program refuses is `Refused`, with `status`, `text` and `why`; what else is wrong is `Fault`. Python 3.9 and its standard
+library are all that it needs. docs/TOOLS.md has more.
+"""
+from __future__ import annotations
+
+from .disc import Catalogue, Disc
+from .explain import explain
+from .faults import Fault, Refused
+from .files import inside, read_file, sum_of, write_beside
+from .frame import Frame, picture_of
+from .labels import Labels
+from .program import Ended, Program, Run, Version, screen_of, version
+from .report import Registers, Report
+from .script import Event, Script, key, pressed, typed
+from .trace import Access, Trace
+
+__all__ = [
+    "Access", "Catalogue", "Disc", "Ended", "Event", "Fault", "Frame", "Labels", "Program", "Refused", "Registers", "Report", "Run",
+    "Script", "Trace", "Version", "asm", "check", "dis", "explain", "follow", "gen", "inside", "key", "labels_of", "picture_of", "pressed",
+    "read_file", "replay", "resume", "run", "screen_of", "solo", "sum_of", "typed", "version", "write_beside",
+]
+
+_program = Program()
+run = _program.run
+solo = _program.solo
+resume = _program.resume
+replay = _program.replay
+follow = _program.follow
+check = _program.check
+asm = _program.asm
+dis = _program.dis
+labels_of = _program.labels_of
+gen = _program.gen

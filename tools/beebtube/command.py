@@ -1,0 +1,165 @@
+"""What every tool has in common: its help, and how it ends.
+
+A tool is `main(function, __doc__)`, where the function takes the words and may return a status. It ends
+
+  0         done
+  1         what `Fault` says stands on standard error, behind the tool's name
+  2         its words are wrong (argparse, or `Usage`)
+  70        a fault of the tool itself, which is told in one line
+  141       who read standard output went away (`| head`), which is told nobody
+  128 + n   ended by signal n, once what it made for itself is cleared away
+"""
+from __future__ import annotations
+
+import argparse
+import errno
+import io
+import os
+import signal
+import sys
+from typing import Callable, IO, List, NoReturn, Optional, Sequence
+
+from .faults import Fault
+
+
+class Usage(Fault):
+    """The tool's words are wrong: its help follows the text."""
+
+
+class Reader(argparse.ArgumentParser):
+    """A reader of a tool's words, whose help is the tool's own text."""
+
+    def __init__(self, doc: str):
+        super().__init__(description=doc, formatter_class=argparse.RawDescriptionHelpFormatter, usage=argparse.SUPPRESS,
+                         prog=tool_name(), allow_abbrev=False)
+
+    def error(self, message: str) -> NoReturn:
+        raise Usage(message)
+
+    def _print_message(self, message: str, file: Optional[IO[str]] = None) -> None:
+        # argparse passes over a help that cannot be written.
+        print(message, end="", file=file or sys.stdout, flush=True)
+
+    def format_help(self) -> str:
+        return (self.description or "").strip() + "\n"
+
+
+def tool_name() -> str:
+    """The name by which the tool was called."""
+    return os.path.basename(sys.argv[0]) or "beebtube"
+
+
+def seconds(word: str) -> float:
+    """A time in seconds, from 0 up to an hour; argparse's error for any other word."""
+    try:
+        value = float(word)
+    except ValueError:
+        value = -1.0
+    if not 0 <= value <= 3600:
+        raise argparse.ArgumentTypeError("%s: a time is a number of seconds from 0 to 3,600" % word)
+    return value
+
+
+def _stop(number: int, _frame: object) -> NoReturn:
+    raise SystemExit(128 + number)
+
+
+# Files 0 to 2 that are closed are opened again, so that no file that is opened later takes their place. What is written to
+# standard output then fails, as it does where it is closed.
+def _hold_streams() -> None:
+    for number, way in ((0, os.O_WRONLY), (1, os.O_RDONLY), (2, os.O_RDWR)):
+        try:
+            os.fstat(number)
+        except OSError:
+            opened = os.open(os.devnull, way)
+            if opened != number:
+                os.dup2(opened, number)
+                os.close(opened)
+    # Without a buffer (PYTHONUNBUFFERED) a text of which the system takes a part counts as written.
+    if sys.stdout is None or isinstance(sys.stdout.buffer, io.RawIOBase):
+        sys.stdout = open(1, "w", closefd=False, encoding="utf-8")
+    if sys.stderr is None:
+        sys.stderr = open(2, "w", closefd=False, encoding="utf-8")
+    for stream in (sys.stdout, sys.stderr):
+        stream.reconfigure(encoding="utf-8", errors="surrogateescape")  # type: ignore[union-attr]
+
+
+def read_standard_input(most: int) -> bytes:
+    """The bytes of standard input, `most` at most; Fault where it is closed or has more."""
+    try:
+        data = b""
+        while len(data) <= most:
+            block = os.read(0, 1 << 16)
+            if not block:
+                return data
+            data += block
+    except OSError:
+        raise Fault("cannot read -") from None
+    raise Fault("too long -: it has more than %s bytes" % "{:,}".format(most))
+
+
+def _tell(text: str) -> None:
+    try:
+        sys.stderr.write(text + "\n")
+        sys.stderr.flush()
+    except (OSError, ValueError):
+        pass
+
+
+# Standard output goes nowhere from here on, so that nothing fails once more when Python ends.
+def _give_up_output() -> None:
+    nothing = os.open(os.devnull, os.O_WRONLY)
+    os.dup2(nothing, 1)
+    os.close(nothing)
+
+
+def main(function: Callable[[List[str]], Optional[int]], doc: str, words: Optional[Sequence[str]] = None) -> NoReturn:
+    """Calls a tool with its words, and ends as the table above says; `--help` as the first word prints `doc`."""
+    for number in (signal.SIGTERM, signal.SIGHUP):
+        if signal.getsignal(number) is not signal.SIG_IGN:
+            signal.signal(number, _stop)
+    _hold_streams()
+    given = list(sys.argv[1:] if words is None else words)
+    name = tool_name()
+    status: object = 0
+    try:
+        if given[:1] in (["--help"], ["-h"]):
+            print(doc.strip())
+        else:
+            status = function(given) or 0
+        sys.stdout.flush()
+    except Usage as fault:
+        _tell("%s: %s\n\n%s" % (name, fault, doc.strip()))
+        status = 2
+    except Fault as fault:
+        try:
+            sys.stdout.flush()
+        except (OSError, ValueError):
+            pass
+        _tell("%s: %s" % (name, fault))
+        status = 1
+    except SystemExit as ended:
+        status = ended.code
+    except KeyboardInterrupt:
+        status = 130
+    except BrokenPipeError:
+        status = 141
+    except OSError as error:
+        status = 141 if error.errno == errno.EPIPE else 1
+        if status == 1:
+            _tell("%s: cannot write -" % name if error.filename is None else "%s: %s: %s" % (name, os.fsdecode(error.filename), error.strerror))
+    except MemoryError:
+        status = 1
+        _tell("%s: no memory" % name)
+    except Exception as error:  # noqa: BLE001 # the last resort: a fault of the tool is told in a line
+        _tell("%s: a fault of this tool: %s: %s" % (name, type(error).__name__, error))
+        status = 70
+    try:
+        sys.stdout.flush()
+    except (OSError, ValueError) as error:
+        if not status:
+            status = 141 if isinstance(error, BrokenPipeError) else 1
+            if status == 1:
+                _tell("%s: cannot write -" % name)
+        _give_up_output()
+    sys.exit(status if isinstance(status, int) else 1)

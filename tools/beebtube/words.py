@@ -1,0 +1,235 @@
+"""The words of the program: what a call reads and writes, and which of its words is wrong.
+
+The table is that of docs/COMMANDS.md; docs/options.py compares it with the program's own.
+"""
+from __future__ import annotations
+
+import difflib
+import re
+from typing import Dict, List, NamedTuple, Optional, Tuple
+
+from .faults import Fault
+
+MOST_TICKS = 1073741824
+
+PAIRS = ("solo", "run")
+LISTS = ("follow host", "follow para")
+HOSTS = ("replay host", "follow host") + PAIRS
+PARAS = ("replay para", "follow para") + PAIRS
+MACHINES = ("replay host", "replay para") + LISTS + PAIRS
+RUNS = PAIRS + ("resume",)
+HEARD = ("replay host",) + RUNS
+
+# Each command, and its words that stand alone.
+COMMANDS: Dict[str, Tuple[str, ...]] = {
+    "check": ("TRACE",),
+    "asm": ("PART", "SOURCE", "OUT"),
+    "dis": ("PART", "IMAGE", "ORIGIN", "OUT"),
+    "replay": ("SIDE", "TRACE", "TICKS", "OUT"),
+    "solo": ("TICKS", "OUT"),
+    "run": ("TICKS", "OUT"),
+    "resume": ("STATE", "TICKS", "OUT"),
+    "follow": ("SIDE", "TRACE", "TICKS", "OUT"),
+    "gen": ("SEED",),
+}
+CHOICES = {"PART": ("6502", "65c02"), "SIDE": ("host", "para")}
+FILES_READ = ("TRACE", "SOURCE", "IMAGE", "STATE")
+
+
+class Option(NamedTuple):
+    """An option: the commands that take it, and its value: `file`, `output`, `address`, `number` within limits, or `choice`."""
+
+    takers: Tuple[str, ...]
+    kind: str
+    least: int = 0
+    most: int = 0
+    choices: Tuple[str, ...] = ()
+
+
+# In the order in which their files are read.
+OPTIONS: Dict[str, Option] = {
+    "--os": Option(HOSTS, "file"),
+    "--tube": Option(PARAS, "file"),
+    **{"--rom%d" % slot: Option(HOSTS, "file") for slot in range(16)},
+    "--font": Option(HOSTS, "file"),
+    "--disc0": Option(HOSTS, "file"),
+    "--disc1": Option(HOSTS, "file"),
+    "--keys": Option(HOSTS, "file"),
+    "--plugs": Option(HOSTS, "number", 0, 8),
+    "--keep": Option(RUNS, "number", 0, 4194304),
+    "--speed": Option(MACHINES, "choice", choices=("3", "4")),
+    "--wav": Option(HEARD, "output"),
+    "--save": Option(RUNS, "output"),
+    "--at": Option(LISTS, "address"),
+    "--watch": Option(LISTS, "address"),
+}
+NEEDED: Dict[str, Tuple[str, ...]] = {
+    taker: tuple(option for option, takers in (("--os", HOSTS), ("--tube", PARAS)) if taker in takers)
+    for taker in MACHINES + RUNS
+}
+
+NUMBER = re.compile(r"0|[1-9][0-9]*")
+ADDRESS = re.compile(r"[0-9A-F]{4}")
+
+
+class WrongWord(Fault):
+    """The words spell no command: which word is wrong, and what is meant."""
+
+
+def number_of(word: str) -> Optional[int]:
+    """The number of decimal digits without a zero in front; None for another word."""
+    return int(word) if NUMBER.fullmatch(word) and len(word) < 30 else None
+
+
+def shown(word: str) -> str:
+    """A word as a person reads it."""
+    text = "".join(letter if letter.isprintable() else "?" for letter in word[:60])
+    return (text + ("..." if len(word) > 60 else "")) or "an empty word"
+
+
+def _near(word: str, known: List[str]) -> str:
+    found = difflib.get_close_matches(word, known, 1, 0.5)
+    return ", %s?" % found[0] if found else ""
+
+
+def _grouped(number: int) -> str:
+    return "{:,}".format(number)
+
+
+def _is_text(word: str) -> bool:
+    try:
+        word.encode("utf-8")
+        return True
+    except UnicodeEncodeError:
+        return False
+
+
+class Call:
+    """A call of the program by its words. WrongWord where they spell no command.
+
+    command  the command word
+    taker    with the side where there is one: `replay host`
+    alone    the words that stand alone, by what they are: TRACE, TICKS, OUT ..
+    options  the options and their values
+    """
+
+    def __init__(self, words: List[str]):
+        self.words = list(words)
+        self.alone: Dict[str, str] = {}
+        self.options: Dict[str, str] = {}
+        for word in self.words:
+            if not _is_text(word):
+                raise WrongWord("%s: a word is in UTF-8" % shown(word))
+        if not words:
+            raise WrongWord("a command is wanted: %s" % ", ".join(COMMANDS))
+        self.command = self.words[0]
+        if self.command not in COMMANDS:
+            raise WrongWord("%s: no such command%s; there are %s"
+                            % (shown(self.command), _near(self.command, list(COMMANDS)), ", ".join(COMMANDS)))
+        self.taker = self.command
+        options = self._sort(self.words[1:])
+        for kind, word in self.alone.items():
+            self._look_at(kind, word)
+        if "SIDE" in self.alone:
+            self.taker = "%s %s" % (self.command, self.alone["SIDE"])
+        for option, value in options:
+            self._take(option, value)
+        for option in NEEDED.get(self.taker, ()):
+            if option not in self.options:
+                raise WrongWord("%s is wanted by `%s`" % (option, self.taker))
+
+    # Puts each word where it belongs; gives the options and their values.
+    def _sort(self, rest: List[str]) -> List[Tuple[str, str]]:
+        names, options, alone = COMMANDS[self.command], [], []
+        takes = self.command in ("replay", "follow", "solo", "run", "resume")
+        while rest:
+            word = rest.pop(0)
+            if not word.startswith("-") or not takes:
+                alone.append(word)
+                continue
+            self._known(word)
+            if not rest:
+                raise WrongWord("%s: its value is wanted behind it" % word)
+            options.append((word, rest.pop(0)))
+        form = " ".join((self.command,) + names)
+        if len(alone) < len(names):
+            raise WrongWord("%s is wanted: %s" % (names[len(alone)], form))
+        if len(alone) > len(names):
+            raise WrongWord("%s: a word too many: %s" % (shown(alone[len(names)]), form))
+        self.alone = dict(zip(names, alone))
+        return options
+
+    @staticmethod
+    def _known(word: str) -> None:
+        if word in OPTIONS:
+            return
+        name, equals, value = word.partition("=")
+        if equals and name in OPTIONS:
+            raise WrongWord("%s: write `%s %s`" % (shown(word), name, shown(value)))
+        if word.startswith("--") or len(word) > 2:
+            raise WrongWord("%s: no such option%s" % (shown(word), _near(name, list(OPTIONS))))
+        raise WrongWord("%s: no such option; a name that begins with `-` is written ./%s" % (shown(word), shown(word)))
+
+    def _look_at(self, kind: str, word: str) -> None:
+        if kind in CHOICES and word not in CHOICES[kind]:
+            raise WrongWord("%s: %s is %s" % (shown(word), kind, " or ".join(CHOICES[kind])))
+        if kind == "TICKS" and (number_of(word) is None or int(word) > MOST_TICKS):
+            raise WrongWord("%s: TICKS is a whole number up to %s, in decimal digits alone" % (shown(word), _grouped(MOST_TICKS)))
+        if kind == "SEED" and (number_of(word) is None or int(word) >= 2**64):
+            raise WrongWord("%s: SEED is a whole number below 2^64, in decimal digits alone" % shown(word))
+        if kind == "ORIGIN" and not ADDRESS.fullmatch(word):
+            raise WrongWord("%s: %s" % (shown(word), _address_fault("ORIGIN", word)))
+        if kind in FILES_READ + ("OUT",):
+            self._look_at_name(kind, word)
+
+    @staticmethod
+    def _look_at_name(kind: str, word: str) -> None:
+        if not word:
+            raise WrongWord("%s: the name of a file is wanted, and the word is empty" % kind)
+        if word.startswith("-"):
+            raise WrongWord("%s: no name begins with `-` (%s); write ./%s" % (shown(word), kind, shown(word)))
+
+    def _take(self, word: str, value: str) -> None:
+        option = OPTIONS[word]
+        if self.taker not in option.takers:
+            raise WrongWord("%s: `%s` does not take it, but %s do" % (word, self.taker, ", ".join("`%s`" % it for it in option.takers)))
+        if word in self.options:
+            raise WrongWord("%s: it stands twice" % word)
+        if option.kind in ("file", "output"):
+            self._look_at_name(word, value)
+        fault = value_fault(word, value)
+        if fault:
+            raise WrongWord("%s %s: %s" % (word, shown(value), fault))
+        self.options[word] = value
+
+    def reads(self) -> List[Tuple[str, str]]:
+        """What is read, in its order: what it is (`TRACE`, `--os` ..), and its name."""
+        first = [(kind, self.alone[kind]) for kind in FILES_READ if kind in self.alone]
+        return first + [(word, self.options[word]) for word in OPTIONS if OPTIONS[word].kind == "file" and word in self.options]
+
+    def outputs(self) -> List[Tuple[str, str]]:
+        """The words that name what is written: `OUT`, `--wav`, `--save`, and each name."""
+        first = [("OUT", self.alone["OUT"])] if "OUT" in self.alone else []
+        return first + [(word, self.options[word]) for word in ("--wav", "--save") if word in self.options]
+
+
+def value_fault(word: str, value: str) -> Optional[str]:
+    """What is wrong with the value of an option that is no name of a file; None where nothing is."""
+    option = OPTIONS[word]
+    if option.kind == "address" and not ADDRESS.fullmatch(value):
+        return _address_fault(word, value)
+    if option.kind == "number" and not (number_of(value) is not None and option.least <= int(value) <= option.most):
+        return "it is a whole number, at most %s" % _grouped(option.most)
+    if option.kind == "choice" and value not in option.choices:
+        return "it is %s" % " or ".join(option.choices)
+    return None
+
+
+def _address_fault(name: str, word: str) -> str:
+    bare = word.lstrip("&$")
+    bare = bare[2:] if bare[:2].lower() == "0x" else bare
+    if re.fullmatch("[0-9A-Fa-f]{1,4}", bare):
+        meant = bare.upper().rjust(4, "0")
+        what = "upper case" if bare == word and len(word) == 4 else "four upper-case hexadecimal digits alone"
+        return "%s wants %s: %s" % (name, what, meant)
+    return "%s wants four upper-case hexadecimal digits, as C000" % name
