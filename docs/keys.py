@@ -2,7 +2,7 @@
 """Makes docs/keys.png, the keyboard with its keys' numbers, from the table of docs/KEYS.md.
 
   docs/keys.py make     writes it
-  docs/keys.py check    says whether it is another picture, or tools/type has other keys, with status 1
+  docs/keys.py check    says whether it is another picture, or the tools have other keys, with status 1
 """
 import os
 import re
@@ -114,13 +114,13 @@ def check(lines):
     at = picture.index(b"IDAT") + 4
     if zlib.decompress(picture[at : at + int.from_bytes(picture[at - 8 : at - 4], "big")]) != lines:
         fail("docs/keys.png shows something else than the table of docs/KEYS.md")
-    typed = re.search(r'MATRIX = """\n(.*?)\n"""', read("tools/type"), re.S).group(1).replace("\\\\", "\\")
+    typed = re.search(r'MATRIX = """\n(.*?)\n"""', read("tools/beebtube/script.py"), re.S).group(1).replace("\\\\", "\\")
     table = {name: row for name, row in matrix().items()}
     for row, line in enumerate(typed.split("\n")):
         for column, name in enumerate(line.split()):
             plain = re.sub("^link", "link ", name.replace("_", " ") if len(name) > 1 else name)
             if table.get(plain) != "%d%d" % (row, column):
-                fail("tools/type has the key %s at %d%d" % (plain, row, column))
+                fail("tools/beebtube/script.py has the key %s at %d%d" % (plain, row, column))
 
 
 def main():

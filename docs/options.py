@@ -1,6 +1,7 @@
 #!/usr/bin/env python3
-"""Makes what tells the words of beebtube from the program's own table of options, crates/beeb_words/src/keys.rt:
-the man page docs/beebtube.1, the completion tools/completion.bash, and the list of options in docs/COMMANDS.md.
+"""Makes what tells the words of beebtube from the program's own table of options, crates/cmd_words/src/keys.rt:
+the man page docs/beebtube.1, the completion tools/completion.bash, the text of --help docs/help.txt, and the list of options in
+docs/COMMANDS.md; and compares the table of tools/beebtube/words.py.
 
   docs/options.py make     writes them
   docs/options.py check    says which of them is not what it would write, with status 1
@@ -50,6 +51,8 @@ COMMANDS = [
     ("gen SEED", "makes and runs a demonstration of a seed, a number below 2^64"),
 ]
 
+LAUNCHED = [("--help", "prints all words"), ("--version", "prints which program is run, its sum, and what proved it")]
+
 OUTPUTS = [
     ("OUT.report", "registers, and how many accesses and frames there were"),
     ("OUT.host, OUT.para", "the memories, 32,768 and 65,536 bytes"),
@@ -77,7 +80,7 @@ STATUSES = [
 
 class Option:
     def __init__(self, word, takers, form, detail):
-        self.word, self.takers = word, takers
+        self.word, self.takers, self.form = word, takers, form
         self.is_file = form in ("File", "Output")
         self.choices = detail if form == "OneOf" else []
         self.limits = detail if form == "Number" else None
@@ -97,19 +100,20 @@ class Option:
 
 
 def table():
-    with open(TOP + "/crates/beeb_words/src/keys.rt") as file:
+    with open(TOP + "/crates/cmd_words/src/keys.rt") as file:
         source = file.read()
     sets = {}
     for name, body in re.findall(r"const (\w+): Takers = Takers \{(.*?)\};", source, re.S):
         sets[name] = [field for field, yes in re.findall(r"(\w+): (true|false)", body) if yes == "true"]
     lists = {name: re.findall(r'"(.*?)"', body) for name, body in re.findall(r"const (\w+): &\[&str\] = &\[(.*?)\];", source)}
+    numbers = dict(re.findall(r"const (\w+): u64 = ([0-9_]+);", source))
     body = source[source.index("fn table()") :]
     body = body[: body.index("\n}\n")]
     options = []
     for word, takers, form, rest in re.findall(r'row\(\s*"(--\w+)",\s*(\w+),\s*Value::(\w+)(.*?)\)?,?\s*\)(?=,\n)', body, re.S):
         detail = None
         if form == "Number":
-            detail = [int(number.replace("_", "")) for number in re.findall(r"(?:least|most): ([0-9_]+)", rest)]
+            detail = [int(numbers.get(number, number).replace("_", "")) for number in re.findall(r"(?:least|most): (\w+)", rest)]
         elif form == "OneOf":
             detail = lists[rest.strip("( )\n,")]
         option = Option(re.sub(r"^--rom[0-9]+$", "--romN", word), [TAKERS[field] for field in sets[takers]], form, detail)
@@ -164,6 +168,8 @@ def man_of(options):
     ]
     for words, text in COMMANDS:
         lines += [".TP", ".B " + escaped(words), escaped(text) + "."]
+    for word, text in LAUNCHED:
+        lines += [".TP", ".B " + escaped(word), escaped(text) + "; of the launcher alone."]
     lines.append(".SH OPTIONS")
     for option in options:
         lines += [".TP", ".BI " + escaped(option.word) + " \\ " + TEXTS[option.word][0], escaped(option.text()) + ".",
@@ -186,7 +192,7 @@ def completion_of(options):
         "    [[ $command != @(replay|follow) ]] || command=\"$command ${COMP_WORDS[2]:-}\"",
         "    COMPREPLY=()",
         "    if [ \"$COMP_CWORD\" -eq 1 ]; then",
-        "        mapfile -t COMPREPLY < <(compgen -W '%s' -- \"$word\")" % " ".join(dict.fromkeys(words.split()[0] for words, _ in COMMANDS)),
+        "        mapfile -t COMPREPLY < <(compgen -W '%s' -- \"$word\")" % " ".join([*dict.fromkeys(words.split()[0] for words, _ in COMMANDS), *(word for word, _ in LAUNCHED)]),
         "        return",
         "    fi",
         "    case $before in",
@@ -222,6 +228,40 @@ def completion_of(options):
     return "\n".join(lines) + "\n"
 
 
+# What ./beebtube --help prints.
+def help_of(options):
+    lines = ["beebtube: the BBC Micro Model B and the 6502 Second Processor, joined by the Tube", "",
+             "  ./beebtube COMMAND .. [OPTION VALUE ..]", ""]
+    for words, text in COMMANDS:
+        lines += ["  " + words] + wrapped(text, "      ", "      ")
+    lines += [""] + ["  %-22s  %s" % ("./beebtube " + word, text) for word, text in LAUNCHED] + [""]
+    for option in options:
+        lines += ["  %s %s" % (option.word, TEXTS[option.word][0])] + wrapped(option.text(), "      ", "      ")
+        lines += wrapped("taken by " + ", ".join(option.takers), "      ", "      ")
+    lines += ["", "TICKS are of 1/6 microsecond, 6,000,000 a second, or with --speed 4 of 1/12; at most 1,073,741,824.",
+              "OUT begins the names of what is written: OUT.report, OUT.host, OUT.para and more.", "", "Exit status:"]
+    lines += ["  %d  %s" % status for status in STATUSES]
+    lines += ["", "docs/COMMANDS.md has all of it, docs/TOOLS.md the tools; man docs/beebtube.1"]
+    return "\n".join(lines) + "\n"
+
+
+# What of the package's table of words is another than in the program's.
+def faults_of_words(options):
+    sys.dont_write_bytecode = True
+    sys.path.insert(0, TOP + "/tools")
+    from beebtube import words
+
+    kinds = {"File": "file", "Output": "output", "Number": "number", "OneOf": "choice", "FourDigits": "address"}
+    wanted = {}
+    for option in options:
+        for word in option.words:
+            least, most = option.limits or (0, 0)
+            wanted[word] = (set(option.takers), kinds[option.form], least, most, list(option.choices))
+    got = {word: (set(it.takers), it.kind, it.least, it.most, list(it.choices)) for word, it in words.OPTIONS.items()}
+    commands = {form.split()[0] for form, _ in COMMANDS}
+    return [word for word in sorted(set(wanted) | set(got)) if wanted.get(word) != got.get(word)] + sorted(commands ^ set(words.COMMANDS))
+
+
 # The page with its list between the two marks made anew.
 def page_of(text, options):
     return re.sub(r"(<!-- options, made by docs/options.py -->\n).*?(<!-- end -->)",
@@ -235,8 +275,12 @@ def main():
     options = table()
     with open(TOP + "/docs/COMMANDS.md") as file:
         page = file.read()
-    files = {"docs/beebtube.1": man_of(options), "tools/completion.bash": completion_of(options), "docs/COMMANDS.md": page_of(page, options)}
+    files = {"docs/beebtube.1": man_of(options), "tools/completion.bash": completion_of(options), "docs/COMMANDS.md": page_of(page, options),
+             "docs/help.txt": help_of(options)}
     same = True
+    for word in faults_of_words(options):
+        print("tools/beebtube/words.py has another %s than the program" % word)
+        same = False
     for name, text in files.items():
         if how == ["make"]:
             with open(TOP + "/" + name, "w") as file:

@@ -1,18 +1,24 @@
 #!/usr/bin/env bash
 # Makes this folder's pictures anew from the frames that the program writes: the screens of
 # examples/screen-os.asm in modes 0 to 7, and the typed text of the README. With the
-# word `check` it tells which of them show something else.
+# word `check` it tells which of them show something else, and ends with 1 then.
 set -eu
+how=${1:-make}
+case $#$how in
+    0make | 1make | 1check) ;;
+    1--help) sed -n '2,/^set/s/^# //p' "$0"; exit ;;
+    *) echo "docs/pictures.sh: the words are none, or check" >&2; exit 2 ;;
+esac
 top=$(cd "$(dirname "$0")/.." && pwd)
 work=$(mktemp -d)
 trap 'rm -rf "$work"' EXIT
 cd "$work"
 
 picture() { # FRAME PICTURE
-    if [ "$how" = check ]; then "$top/tools/png" --compare "$top/docs/$2" "$1" || true; else "$top/tools/png" "$1" "$top/docs/$2"; fi
+    if [ "$how" = check ]; then "$top/tools/png" --compare "$top/docs/$2" "$1" || status=1; else "$top/tools/png" "$1" "$top/docs/$2"; fi
 }
 
-how=${1:-make}
+status=0
 "$top/beebtube" asm 6502 "$top/examples/font.asm" font
 "$top/beebtube" asm 6502 "$top/examples/screen-os.asm" os
 : >empty.trace
@@ -21,5 +27,6 @@ for mode in 0 1 2 3 4 5 6 7; do picture "screen.00$mode.ppm" "mode$mode.png"; do
 
 "$top/examples/typing.sh"
 "$top/tools/type" --shot 'Hello, world!{RETURN}' >hello.keys 2>told
-"$top/beebtube" run 15000000 hello --os os --tube tube --font font --keys hello.keys
+"$top/beebtube" run 24000000 hello --os os --tube tube --font font --keys hello.keys
 picture hello.000.ppm hello.png
+exit "$status"

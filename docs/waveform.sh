@@ -1,8 +1,13 @@
 #!/usr/bin/env bash
 # Makes scale.png of this folder anew: what examples/scale-os.asm plays, as the program writes it. With the word `check` it tells if the picture
-# shows something else. It needs python3, of which zlib packs the bytes. The strips are, from the top: the whole 2.6 seconds, the least and the
-# greatest sample of each column; 20 milliseconds of the first tone; and 20 milliseconds of the noise.
+# shows something else, and ends with 1 then. It needs python3, of which zlib packs the bytes. The strips are, from the top: the whole 2.6 seconds,
+# the least and the greatest sample of each column; 20 milliseconds of the first tone; and 20 milliseconds of the noise.
 set -eu
+case $#${1:-} in
+    0 | 1make | 1check) ;;
+    1--help) sed -n '2,/^set/s/^# //p' "$0"; exit ;;
+    *) echo "docs/waveform.sh: the words are none, or check" >&2; exit 2 ;;
+esac
 top=$(cd "$(dirname "$0")/.." && pwd)
 work=$(mktemp -d)
 trap 'rm -rf "$work"' EXIT
@@ -75,6 +80,7 @@ if sys.argv[2] == "check":
     with open(sys.argv[1], "rb") as picture:
         if lines_in(picture.read()) != lines:
             print("scale.png shows something else")
+            sys.exit(1)
 else:
     with open(sys.argv[1], "wb") as picture:
         picture.write(picture_of(lines))
