@@ -135,6 +135,9 @@ class Generator:
             # Any word may be the name under which is written, but none of what is read.
             if made.tool in ("catalogue", "png", "words"):
                 made.writes |= {os.path.normpath(word) for word in made.words if word and os.path.normpath(word) not in made.files and not os.path.isabs(word)}
+            if made.tool == "manifest":
+                ends = (".report", ".host", ".para", ".trace", ".list")
+                made.writes |= {os.path.normpath(word) + end for word in made.words if word and not os.path.isabs(word) for end in ends}
         made.around = dice.choices(("plain", "closed", "full", "broken", "deaf", "all closed", "short", "disk", "other", "others folder"),
                                    (60, 5, 5, 5, 3, 3, 5, 6, 4, 4))[0]
         return made
