@@ -1,4 +1,5 @@
 //! The commands, over shelves and outlets in memory.
+mod alone;
 mod asked_once;
 mod breaks;
 mod cycles;

@@ -4,6 +4,7 @@ mod parties;
 mod sessions;
 mod shared_cell;
 mod steady;
+mod strides;
 mod traces;
 mod trust;
 mod two_threads;

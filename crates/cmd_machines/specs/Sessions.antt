@@ -80,7 +80,7 @@ kind_by true = Dsd
 
 -- What a session says of the machines. Of the devices that are handed in the first are plugged, as many as it says, or all if they are fewer.
 unfoldable pub setup_in : Session → List Plug → Setup
-setup_in s plugs = setup s.clock (kind_by (is_dsd s 0), kind_by (is_dsd s 1)) s.plugs (take s.plugs plugs)
+setup_in s plugs = setup s.clock (kind_by (is_dsd s 0), kind_by (is_dsd s 1)) s.plugs (take s.plugs plugs) true
 
 -- A run whose machines can be made, of a script that is no longer than a session's, begins as a session that keeps the rules.
 abbrev pub BegunIsSession : Type 0

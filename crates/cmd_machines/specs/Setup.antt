@@ -1,9 +1,9 @@
 -- What the words say of the machines.
-use Rattle.std.specs.Prelude.{ℕ, List, take}
+use Rattle.std.specs.Prelude.{ℕ, Bool, List, take}
 use Rattle.beeb_bits.specs.declared.clock.Clock.{Clock}
 use Rattle.disc_image.specs.declared.Kind.{Kind}
 use Rattle.bus_plug.specs.Plug.{Plug}
-use Rattle.cmd_words.specs.Given.{Values, clock_of, plugs_of}
+use Rattle.cmd_words.specs.Given.{Values, clock_of, plugs_of, tube_of}
 use Rattle.cmd_words.specs.Discs.{kinds_of}
 
 pub record Setup : Type 0 where
@@ -14,10 +14,12 @@ pub record Setup : Type 0 where
   pub number : ℕ
   -- the devices that are plugged
   pub plugs : List Plug
+  -- whether the host has a Tube, which a pair always has
+  pub tube : Bool
 
-abbrev pub setup : Clock → Kind × Kind → ℕ → List Plug → Setup
-setup clock kinds number plugs = record { clock = clock; kinds = kinds; number = number; plugs = plugs }
+abbrev pub setup : Clock → Kind × Kind → ℕ → List Plug → Bool → Setup
+setup clock kinds number plugs tube = record { clock = clock; kinds = kinds; number = number; plugs = plugs; tube = tube }
 
 -- The devices that are plugged are the first of those that are handed in, as many as the words say, or all if they are fewer.
 abbrev pub setup_of : Values → List Plug → Setup
-setup_of given plugs = setup (clock_of given) (kinds_of given) (plugs_of given) (take (plugs_of given) plugs)
+setup_of given plugs = setup (clock_of given) (kinds_of given) (plugs_of given) (take (plugs_of given) plugs) (tube_of given)

@@ -41,4 +41,4 @@ seen_files f = record inputs.no_inputs {
 
 -- what the words say of the machines, by what the plugged devices are
 abbrev pub seen_setup : {D : Type 0} → (D → Plug) → Setup D → setups.Setup
-seen_setup plug s = setups.setup s.clock s.kinds s.number (map plug s.plugs.items)
+seen_setup plug s = setups.setup s.clock s.kinds s.number (map plug s.plugs.items) s.tube

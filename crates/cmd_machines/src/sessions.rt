@@ -221,5 +221,6 @@ pub fn setup_in<D: BusDevice>(saved: &Saved, plugs: Vec<D>) -> Setup<D>
         kinds: (kind_by(saved.dsd[0]), kind_by(saved.dsd[1])),
         number: saved.plugs,
         plugs,
+        tube: true,
     }
 }

@@ -6,13 +6,15 @@ use bus_plug::BusDevice;
 use cmd_words::Given;
 use disc_image::Kind;
 
-/// The clock of the machines, the kinds of the discs in drive 0 and drive 1, how many devices are asked for, and the devices that are plugged.
+/// The clock of the machines, the kinds of the discs in drive 0 and drive 1, how many devices are asked for, the devices that are plugged, and
+/// whether the host has a Tube.
 #[derive(Drop)]
 pub struct Setup<D> {
     pub clock: Clock,
     pub kinds: (Kind, Kind),
     pub number: u8,
     pub plugs: Vec<D>,
+    pub tube: bool,
     ghost most: { number ≤ 8 },
 }
 
@@ -35,6 +37,7 @@ impl<D: BusDevice> Setup<D> {
             kinds: given.disc_kinds(),
             number: number as u8,
             plugs,
+            tube: given.tube(),
         }
     }
 }

@@ -1,5 +1,5 @@
 -- `gen SEED`: the demonstration pair of a seed, run on one thread.
-use Rattle.std.specs.Prelude.{ℕ, List, [], ◌++◌, Result, Ok, slice_index, codes}
+use Rattle.std.specs.Prelude.{ℕ, true, List, [], ◌++◌, Result, Ok, slice_index, codes}
 use Rattle.std.specs.Fmt.{decimal}
 use Rattle.digits.specs.Hexadecimal.{hex_digits}
 use Rattle.op_table.specs.declared.Part.TheVariants.{Nmos, Cmos}
@@ -48,7 +48,7 @@ gen_verdict seed s = said_verdict Done (summary seed s.bus.bus.board.ram)
 
 -- a second processor at 3 MHz, and nothing plugged
 abbrev pub gen_setup : Setup
-gen_setup = setup Three (Ssd, Ssd) 0 []
+gen_setup = setup Three (Ssd, Ssd) 0 [] true
 
 -- the ticks of the run
 unfoldable pub gen_ticks : ℕ

@@ -91,6 +91,7 @@ pub fn gen_outcome<'a, D: BusDevice>(
         kinds: (Kind::Ssd, Kind::Ssd),
         number: 0,
         plugs,
+        tube: true,
     };
     let (host, para) = machines_of(alloc, setup, inputs)?;
     let done = run_alone(alloc, host, para, Tick(gen_ticks()), 0)?;

@@ -40,7 +40,8 @@ pub enum Status {
     BadImage { which: Which, len: u64 },
     /// The key script's first line, counted from 1, that is outside its form (kind 1) or its order (kind 2), or has the 257th shot (kind 3).
     BadScript { line: u64, kind: u8 },
-    /// The trace's first line, counted from 1, that is outside its form (kind 1) or its order (kind 2).
+    /// The trace's first line, counted from 1, that is outside its form (kind 1) or its order (kind 2), line 1 of a trace of another clock (kind 4), or
+    /// of any, where there is no Tube (kind 5).
     BadTrace { line: u64, kind: u8 },
     /// The source text's first offending line, counted from 1: syntax (kind 1), no such form (2), unknown label (3), repeated
     /// label (4), out of range (5), past the end of memory (6).
@@ -79,7 +80,8 @@ pub enum Cause {
     BadImage { which: Which, len: u64 },
     /// The key script's first offending line, counted from 1, and the kind of its offence.
     BadScript { line: u64, kind: u8 },
-    /// The trace's first line, counted from 1, that is outside its form (kind 1) or its order (kind 2).
+    /// The trace's first line, counted from 1, that is outside its form (kind 1) or its order (kind 2), line 1 of a trace of another clock (kind 4), or
+    /// of any, where there is no Tube (kind 5).
     BadTrace { line: u64, kind: u8 },
     /// The source text's first offending line, counted from 1, and the kind of its offence.
     BadSource { line: u64, kind: u8 },

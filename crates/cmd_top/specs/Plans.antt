@@ -4,7 +4,7 @@ use Rattle.cmd_stages.specs.Plan.{Verdict, Plan}
 use Rattle.cmd_stages.specs.declared.stop.Refusal.{Refusal}
 use Rattle.cmd_words.specs.declared.keys.Slot.{Slot}
 use Rattle.cmd_words.specs.Command.{Command, check, asm, dis, replay, solo, run, resume, follow, gen, is_paired}
-use Rattle.cmd_words.specs.Given.{Values, at_of, watch_of}
+use Rattle.cmd_words.specs.Given.{Values, at_of, from_of, watch_of}
 use Rattle.cmd_words.specs.Reads.{reads}
 use Rattle.follow.specs.declared.Choice.{Choice}
 use Rattle.cmd_status.specs.declared.status.Ending.{Ending}
@@ -30,7 +30,7 @@ replay_after set Para ticks names i = para_after set.clock ticks names i
 
 -- which instructions are listed
 abbrev pub choice_of : Values → Choice
-choice_of given = record { at = at_of given; watch = watch_of given }
+choice_of given = record { from = from_of given; at = at_of given; watch = watch_of given }
 
 abbrev pub follow_after : Setup → Side → ℕ → Choice → List ℕ → Inputs → Result (Verdict Ending) (Refusal Cause)
 follow_after set Host ticks choice out i = follow_host_after set ticks choice out i

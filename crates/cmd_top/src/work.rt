@@ -58,6 +58,7 @@ fn choice_of(given: &Given<'_>) -> Choice
     ensures { result ≡ choice_of (seen_given given.now) }
 {
     Choice {
+        from: given.from(),
         at: given.at(),
         watch: given.watch(),
     }

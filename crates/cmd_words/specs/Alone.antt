@@ -1,10 +1,19 @@
 -- The words that stand alone among the options.
-use Rattle.std.specs.Prelude.{ℕ, ◌==◌, Bool, true, false, not, List, [], ◌∷◌, Option, Some, None, if◌then◌else◌}
+use Rattle.std.specs.Prelude.{ℕ, ◌&&◌, ◌==◌, Bool, true, false, not, List, [], ◌∷◌, Option, Some, None, if◌then◌else◌, codes}
+use Rattle.std.specs.Str.{bytes_eq}
 
 -- a word that begins with `-`
 abbrev pub is_dashed : List ℕ → Bool
 is_dashed [] = false
 is_dashed (b ∷ bs) = b == 45
+
+-- an option that is one word, with no value behind it
+abbrev pub is_flag : List ℕ → Bool
+is_flag word = bytes_eq word (codes "--no-tube")
+
+-- a key, with its value behind it: every other word that begins with `-`
+abbrev pub takes_value : List ℕ → Bool
+takes_value word = not (is_flag word) && is_dashed word
 
 -- a word that isn't empty and doesn't begin with `-`
 abbrev pub is_name : List ℕ → Bool
@@ -14,7 +23,7 @@ is_name (b ∷ bs) = not (b == 45)
 -- the words that stand alone, where the first may be the value of a key before it
 abbrev pub alone : Bool → List (List ℕ) → List (List ℕ)
 alone skip [] = []
-alone false (w ∷ ws) = if is_dashed w then alone true ws else w ∷ alone false ws
+alone false (w ∷ ws) = if takes_value w then alone true ws else if is_flag w then alone false ws else w ∷ alone false ws
 alone true (v ∷ ws) = alone false ws
 
 -- the two words that stand alone

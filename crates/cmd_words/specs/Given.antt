@@ -1,24 +1,24 @@
--- Options: pairs of words that may stand in any place among the words that stand alone.
+-- Options: keys with their values, and flags, that may stand in any place among the words that stand alone.
 use Rattle.std.specs.Prelude.{ℕ, ◌&&◌, Bool, true, false, not, List, [], ◌∷◌, map, Option, Some, None, is_none, is_some, option_and_then, slice_index_or, slice_set, unwrap_or, if◌then◌else◌, codes}
 use Rattle.std.specs.Str.{bytes_eq}
 use Rattle.beeb_bits.specs.declared.clock.Clock.{Clock}
 use Rattle.beeb_bits.specs.declared.clock.Clock.TheVariants.{Three, Four}
 use Rattle.cmd_words.specs.declared.keys.Taker.{Taker}
 use Rattle.cmd_words.specs.declared.keys.Taker.TheVariants.{ReplayHost, ReplayPara, Solo, Run, Resume, FollowHost, FollowPara}
-use Rattle.cmd_words.specs.Alone.{is_dashed}
+use Rattle.cmd_words.specs.Alone.{is_flag, takes_value}
 use Rattle.cmd_words.specs.Keys.{Key, keys, place_of, fits, address_of}
 use Rattle.digits.specs.Decimal.{decimal_number}
 
--- the options among the words, in order, where the word before them may be the key of the first
+-- the options among the words, in order, where the word before them may be the key of the first; a flag is its own value
 abbrev pub options : Option (List ℕ) → List (List ℕ) → List (List ℕ × List ℕ)
 options key [] = []
-options None (w ∷ ws) = if is_dashed w then options (Some w) ws else options None ws
+options None (w ∷ ws) = if takes_value w then options (Some w) ws else if is_flag w then (w, w) ∷ options None ws else options None ws
 options (Some key) (v ∷ ws) = (key, v) ∷ options None ws
 
 -- each key has its value, where the words may begin with the value of a key
 abbrev pub is_closed : Bool → List (List ℕ) → Bool
 is_closed waits [] = not waits
-is_closed false (w ∷ ws) = is_closed (is_dashed w) ws
+is_closed false (w ∷ ws) = is_closed (takes_value w) ws
 is_closed true (v ∷ ws) = is_closed false ws
 
 -- the values of the options, by the places of their keys
@@ -92,6 +92,19 @@ at_of values = option_and_then address_of (value_of values (codes "--at"))
 -- the address that is watched, if only instructions in front of which its byte changed are listed
 abbrev pub watch_of : Values → Option ℕ
 watch_of values = option_and_then address_of (value_of values (codes "--watch"))
+
+-- the first tick whose starts are listed, by the value of its key
+abbrev pub from_in : Option (List ℕ) → ℕ
+from_in None = 0
+from_in (Some word) = unwrap_or (decimal_number 1073741824 word) 0
+
+-- the first tick whose starts are listed
+abbrev pub from_of : Values → ℕ
+from_of values = from_in (value_of values (codes "--from"))
+
+-- the host has a Tube: unless `--no-tube` is given
+abbrev pub tube_of : Values → Bool
+tube_of values = is_none (value_of values (codes "--no-tube"))
 
 abbrev pub has_os : Values → Bool
 has_os values = is_some (value_of values (codes "--os"))

@@ -57,6 +57,10 @@ heard = record { replay_host = true; replay_para = false; solo = true; run = tru
 abbrev pub lists : Takers
 lists = record { replay_host = false; replay_para = false; solo = false; run = false; resume = false; follow_host = true; follow_para = true }
 
+-- the commands that run a host alone
+abbrev pub host_alone : Takers
+host_alone = record { replay_host = true; replay_para = false; solo = false; run = false; resume = false; follow_host = true; follow_para = false }
+
 -- The keys. Those of files stand in the order in which the files are read.
 unfoldable pub keys : List Key
 keys =
@@ -89,6 +93,8 @@ keys =
     ∷ key (codes "--save") runs output
     ∷ key (codes "--at") lists four_digits
     ∷ key (codes "--watch") lists four_digits
+    ∷ key (codes "--from") lists (numeric 0 1073741824)
+    ∷ key (codes "--no-tube") host_alone (one_of (codes "--no-tube" ∷ []))
     ∷ []
 
 -- no command

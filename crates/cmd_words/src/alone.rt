@@ -1,15 +1,29 @@
 //! The words that stand alone among the options.
 ghost use Rattle.std.specs.Prelude.{◌≡◌, map, option_map, MatchOption, false, [], ◌∷◌, string_bytes};
-ghost use Rattle.cmd_words.specs.Alone.{is_dashed, is_name, alone, two, three, four};
+ghost use Rattle.cmd_words.specs.Alone.{is_dashed, is_flag, takes_value, is_name, alone, two, three, four};
 
-/// A word that begins with `-`.
-pub(crate) fn is_dashed(word: &str) -> bool
+// A word that begins with `-`.
+fn is_dashed(word: &str) -> bool
     ensures { result ≡ is_dashed word.now }
 {
     match word.as_bytes().first() {
         Some(b) => *b == b'-',
         None => false,
     }
+}
+
+/// An option that is one word, with no value behind it.
+pub(crate) fn is_flag(word: &str) -> bool
+    ensures { result ≡ is_flag word.now }
+{
+    word == "--no-tube"
+}
+
+/// A key, with its value behind it: every other word that begins with `-`.
+pub(crate) fn takes_value(word: &str) -> bool
+    ensures { result ≡ takes_value word.now }
+{
+    !is_flag(word) && is_dashed(word)
 }
 
 /// A word that isn't empty and doesn't begin with `-`.
@@ -31,9 +45,9 @@ fn next_alone(words: &[String]) -> Option<(&str, &[String])>
     for (i, word) in words.iter().enumerate() {
         if skip {
             skip = false;
-        } else if is_dashed(word.as_str()) {
+        } else if takes_value(word.as_str()) {
             skip = true;
-        } else {
+        } else if !is_flag(word.as_str()) {
             return Some((word.as_str(), &words[i + 1..]));
         }
     }

@@ -2,12 +2,13 @@
 ghost use Rattle.std.specs.Prelude.{◌≡◌, ◌<◌, ◌≤◌, map, length, option_map, option_and_then, option_copied, IfSome};
 ghost use Rattle.std.specs.Prelude.{string_bytes};
 ghost use Rattle.cmd_words.specs.Given.{options_of, closed_options, value_at, value_of, put_at, put_option};
-ghost use Rattle.cmd_words.specs.Given.{keep_in, keep_of, plugs_in, plugs_of, clock_in, clock_of, wav_of, save_of, at_of, watch_of, has_os, has_tube, has_images};
+ghost use Rattle.cmd_words.specs.Given.{keep_in, keep_of, plugs_in, plugs_of, clock_in, clock_of, wav_of, save_of, at_of, watch_of};
+ghost use Rattle.cmd_words.specs.Given.{from_in, from_of, tube_of, has_os, has_tube, has_images};
 ghost use Rattle.cmd_words.specs.Keys.{address_of};
 ghost use Rattle.cmd_words.specs.View.{seen_given, word_at};
 
-use crate::alone::is_dashed;
-use crate::keys::{COUNT, MOST_KEEP, Taker, address_of, fits, place_of};
+use crate::alone::{is_flag, takes_value};
+use crate::keys::{COUNT, MOST_KEEP, MOST_TICKS, Taker, address_of, fits, place_of};
 use beeb_bits::Clock;
 use digits::decimal_number;
 
@@ -62,6 +63,20 @@ fn address_in(value: Option<&str>) -> Option<u16>
     match value {
         Some(word) => address_of(word),
         None => None,
+    }
+}
+
+// The first tick whose starts are listed, by the value of its key.
+fn from_in(value: Option<&str>) -> u64
+    ensures number { result ≡ from_in (option_copied value.entry) }
+    ensures bound { result ≤ MOST_TICKS }
+{
+    let Some(word) = value else {
+        return 0;
+    };
+    match decimal_number(word.as_bytes(), MOST_TICKS) {
+        Some(from) => from,
+        None => 0,
     }
 }
 
@@ -145,6 +160,21 @@ impl<'a> Given<'a> {
         address_in(self.value_of("--watch"))
     }
 
+    /// The first tick whose starts are listed, 0 where the words do not say it.
+    pub fn from(&self) -> u64
+        ensures number { result ≡ from_of (seen_given self.now) }
+        ensures bound { result ≤ 1073741824 }
+    {
+        from_in(self.value_of("--from"))
+    }
+
+    /// Whether the host has a Tube: unless `--no-tube` is given.
+    pub fn tube(&self) -> bool
+        ensures { result ≡ tube_of (seen_given self.now) }
+    {
+        self.value_of("--no-tube").is_none()
+    }
+
     fn has_os(&self) -> bool
         ensures { result ≡ has_os (seen_given self.now) }
     {
@@ -224,8 +254,13 @@ fn put_options(words: &[String], taker: Taker) -> Option<Given<'_>>
                 key = None;
             }
             None => {
-                if is_dashed(word.as_str()) {
+                if takes_value(word.as_str()) {
                     key = Some(word.as_str());
+                } else if is_flag(word.as_str()) {
+                    match given.put(taker, word.as_str(), i) {
+                        Some(more) => given = more,
+                        None => return None,
+                    }
                 }
             }
         }

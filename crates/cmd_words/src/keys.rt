@@ -130,6 +130,17 @@ const LISTS: Takers = Takers {
     follow_para: true,
 };
 
+/// The commands that run a host alone.
+const HOST_ALONE: Takers = Takers {
+    replay_host: true,
+    replay_para: false,
+    solo: false,
+    run: false,
+    resume: false,
+    follow_host: true,
+    follow_para: false,
+};
+
 /// What the value of an option is.
 #[derive(Clone, Copy)]
 pub(crate) enum Value {
@@ -156,11 +167,17 @@ struct Key {
 /// The most accesses that can be kept.
 pub const MOST_KEEP: u64 = 4_194_304;
 
+/// The most ticks of a run.
+pub(crate) const MOST_TICKS: u64 = 1_073_741_824;
+
 /// The number of keys.
-pub(crate) const COUNT: usize = 29;
+pub(crate) const COUNT: usize = 31;
 
 /// The speeds of the second processor, in MHz.
 const SPEEDS: &[&str] = &["3", "4"];
+
+/// A flag is its own value.
+const NO_TUBE: &[&str] = &["--no-tube"];
 
 // A row of the table.
 fn row(word: &'static str, takers: Takers, value: Value) -> Key
@@ -215,6 +232,15 @@ fn table() -> [Key; COUNT]
         row("--save", RUNS, Value::Output),
         row("--at", LISTS, Value::FourDigits),
         row("--watch", LISTS, Value::FourDigits),
+        row(
+            "--from",
+            LISTS,
+            Value::Number {
+                least: 0,
+                most: MOST_TICKS,
+            },
+        ),
+        row("--no-tube", HOST_ALONE, Value::OneOf(NO_TUBE)),
     ]
 }
 

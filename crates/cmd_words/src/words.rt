@@ -9,13 +9,10 @@ ghost use Rattle.cmd_words.specs.View.{seen_command, seen_sided, seen_both};
 use crate::alone::{four_alone, is_name, three_alone, two_alone};
 use crate::command::Command;
 use crate::given::{Given, options_among};
-use crate::keys::{MOST_KEEP, Taker, address_of};
+use crate::keys::{MOST_KEEP, MOST_TICKS, Taker, address_of};
 use beeb_bits::Side;
 use digits::decimal_number;
 use op_table::Part;
-
-/// The most ticks of a run.
-const MOST_TICKS: u64 = 1_073_741_824;
 
 fn check_words(words: &[String]) -> Option<Command<'_>>
     ensures command { option_map seen_command result ≡ check_words (map string_bytes words.now) }

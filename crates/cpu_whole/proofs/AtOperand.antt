@@ -21,11 +21,18 @@ use Rattle.cpu_alu.specs.Instructions.{bus_use, is_decimal, stored_value, modifi
 use Rattle.cpu_core.specs.declared.Sequence.TheVariants.{Instruction}
 use Rattle.cpu_core.specs.Accesses.{row_at, waits, reach, address, operand, last_place, lasts_longer, cycle_between, modify_form, form}
 use Rattle.cpu_core.specs.Results.{after_row, after_opcode}
-use Rattle.cpu_core.specs.Sequences.{shown_byte, after, fresh}
+use Rattle.cpu_core.specs.Sequences.{shown_byte, next_cycle, after_byte, after, fresh}
 use Rattle.cpu_whole.specs.Whole.{Reach, IsPlain, IsDone, Carried, is_plain, shows, leaves}
 use Rattle.cpu_whole.specs.CodeWays.{Follows, IsReached, IsModifying, is_modifying, on_the_way, more_by}
-use Rattle.cpu_whole.proofs.Cycles.{behind, next-row, from_fetch, more_by-suc, byte-seam, beyond}
+use Rattle.cpu_whole.specs.Outside.{IsOutside, adds}
+use Rattle.cpu_whole.proofs.Cycles.{behind, next-row, on, from_fetch, more_by-suc, byte-seam, beyond}
 use Rattle.cpu_whole.proofs.Masks.{read_kept, modify_kept}
+
+-- no sum is decimal but those
+pub no-sum : (name : Mnemonic) (r : Regs) → adds name ≡ false → is_decimal name r ≡ false
+no-sum Adc r h = cc
+no-sum Sbc r h = cc
+no-sum _ r h = refl
 
 module _ {M : Type 0} (g : Reach M) (t : ℕ) where
   -- one cycle before others
@@ -127,6 +134,68 @@ module _ {M : Type 0} (g : Reach M) (t : ℕ) where
           over = next-row part code row r last decoded ∙ same last ∙ next-there part row.mode always r m at n reached tail (None ∷ []) 1 refl;
           regs = after-row part row r code Stores last decoded uses ∙ sym is;
           masks = ap (λ (q : Regs). has_flag q.p INTERRUPT) is;
+        }
+
+    -- all before it
+    up-to : (always : Bool) (tail : List (Option ℕ) → List Cycle)
+        → ((f : List (Option ℕ)) → slice_get (form part (bus_use row.mnemonic) row r (Some code ∷ f)) (length f) ≡ on_the_way part row.mode always r code tail f)
+        → (reached : IsReached part g t row.mode always r m at n) → Carried g t part n (fresh Instruction r) m (behind r code reached.seen) m
+    up-to always tail same reached =
+        let next : List (Option ℕ) → Option Cycle = on_the_way part row.mode always r code tail in
+        let all = from_fetch g t part row r m p decoded next same (more_by reached.seen 0) reached.seen m (reached.goes tail 0 reached.seen m (refl, refl)) in
+        counted part r m (suc (more_by reached.seen 0)) n reached.seen code m (omega (arith, more_by-suc reached.seen 0, reached.count)) all
+
+    -- it is read, wherever it is
+    pub read-last : bus_use row.mnemonic ≡ Reads → adds row.mnemonic ≡ false → IsReached part g t row.mode (waits part Reads) r m at n
+        → IsOutside part g t r m (record { cycles = n; at = at; value = None; mnemonic = row.mnemonic; mode = row.mode; bytes = row.bytes })
+    read-last uses single reached =
+        let always : Bool = waits part Reads in
+        let seen : List (Option ℕ) = reached.seen in
+        let tail : List (Option ℕ) → List Cycle = λ f. Read (address row.mode r (Some code ∷ f)) ∷ [] in
+        let next : List (Option ℕ) → Option Cycle = on_the_way part row.mode always r code tail in
+        let same : (f : List (Option ℕ)) → slice_get (form part (bus_use row.mnemonic) row r (Some code ∷ f)) (length f) ≡ next f = λ f.
+        ap (λ u. slice_get (form part u row r (Some code ∷ f)) (length f)) uses
+        ∙ ap (λ b. slice_get (reach part row.mode always r (Some code ∷ f) ++ Read (address row.mode r (Some code ∷ f))
+        ∷ cond b (Read (last_place row.mode r) ∷ []) []) (length f)) (not_longer (no-sum row.mnemonic r single)) in
+        let here : next seen ≡ Some (Read at) = next-first part row.mode always r m at n reached tail ∙ ap (λ a. Some (Read a)) (found-first part row.mode always r m at n reached) in
+        let there : next_cycle part (behind r code seen) ≡ Some (Read at) = next-row part code row r seen decoded ∙ same seen ∙ here in
+        let then_ : (x : ℕ) → after_byte part (behind r code seen) x ≡ behind r code (seen ++ Some x ∷ []) = λ x. on part code row r seen (Read at) x decoded there in
+        record {
+          last = behind r code seen;
+          carried = up-to always tail same reached;
+          next = there;
+          over = λ x. ap (next_cycle part) (then_ x) ∙ next-row part code row r (seen ++ Some x ∷ []) decoded ∙ same (seen ++ Some x ∷ [])
+              ∙ next-there part row.mode always r m at n reached tail (Some x ∷ []) 1 refl;
+          regs = λ x. ap (after part) (then_ x) ∙ after-row part row r code Reads (seen ++ Some x ∷ []) decoded uses
+              ∙ ap (read_result part row.mnemonic row.mode (with_pc_past r row.bytes)) (operand-there part row.mode always r m at n reached x []);
+          masks = λ x. read_kept part row.mnemonic row.mode (with_pc_past r row.bytes) x;
+          kind = λ _. (uses, single);
+        }
+
+    -- it is written, wherever it is
+    pub written-last : bus_use row.mnemonic ≡ Stores → IsReached part g t row.mode (waits part Stores) r m at n
+        → (v : ℕ) → v ≡ stored_value row.mnemonic r
+        → IsOutside part g t r m (record { cycles = n; at = at; value = Some v; mnemonic = row.mnemonic; mode = row.mode; bytes = row.bytes })
+    written-last uses reached v is =
+        let always : Bool = waits part Stores in
+        let seen : List (Option ℕ) = reached.seen in
+        let tail : List (Option ℕ) → List Cycle = λ f. Write (address row.mode r (Some code ∷ f)) (stored_value row.mnemonic r) ∷ [] in
+        let next : List (Option ℕ) → Option Cycle = on_the_way part row.mode always r code tail in
+        let same : (f : List (Option ℕ)) → slice_get (form part (bus_use row.mnemonic) row r (Some code ∷ f)) (length f) ≡ next f = λ f.
+        ap (λ u. slice_get (form part u row r (Some code ∷ f)) (length f)) uses in
+        let here : next seen ≡ Some (Write at v) = next-first part row.mode always r m at n reached tail
+        ∙ ap (λ a. Some (Write a (stored_value row.mnemonic r))) (found-first part row.mode always r m at n reached) ∙ ap (λ (b : ℕ). Some (Write at b)) (sym is) in
+        let there : next_cycle part (behind r code seen) ≡ Some (Write at v) = next-row part code row r seen decoded ∙ same seen ∙ here in
+        let then_ : (x : ℕ) → after_byte part (behind r code seen) x ≡ behind r code (seen ++ None ∷ []) = λ x. on part code row r seen (Write at v) x decoded there in
+        record {
+          last = behind r code seen;
+          carried = up-to always tail same reached;
+          next = there;
+          over = λ x. ap (next_cycle part) (then_ x) ∙ next-row part code row r (seen ++ None ∷ []) decoded ∙ same (seen ++ None ∷ [])
+              ∙ next-there part row.mode always r m at n reached tail (None ∷ []) 1 refl;
+          regs = λ x. ap (after part) (then_ x) ∙ after-row part row r code Stores (seen ++ None ∷ []) decoded uses;
+          masks = λ x. refl;
+          kind = λ none. cc;
         }
 
     -- the forms that read and write back, but for A

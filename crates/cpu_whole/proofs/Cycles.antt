@@ -30,7 +30,7 @@ going Nmos op row r (x ∷ f) h = refl
 going Cmos op row r f h = refl
 
 -- one cycle more
-on : (part : Part) (op : ℕ) (row : Row) (r : Regs) (f : List (Option ℕ)) (c : Cycle) (b : ℕ) → row_at part op ≡ Some row
+pub on : (part : Part) (op : ℕ) (row : Row) (r : Regs) (f : List (Option ℕ)) (c : Cycle) (b : ℕ) → row_at part op ≡ Some row
     → next_cycle part (behind r op f) ≡ Some c → after_byte part (behind r op f) b ≡ behind r op (f ++ shown_byte (Some c) b ∷ [])
 on part op row r f c b h n =
     ap (λ halt. cond halt (behind r op f) (record (behind r op f) { seen = (Some op ∷ f) ++ shown_byte (next_cycle part (behind r op f)) b ∷ [] })) (going part op row r f h)

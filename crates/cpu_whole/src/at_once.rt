@@ -73,7 +73,7 @@ fn modify<N, M: Plain<N>, L>(
 
 /// The instruction of an opcode that has one. The number of its cycles is the only thing that is asked of its row, and its row is there.
 #[inline(always)]
-fn row_of(part: Part, op: u8, known: &Known) -> Row
+pub(crate) fn row_of(part: Part, op: u8, known: &Known) -> Row
     requires known { known.now ≡ known_at part op }
     requires some { known.now.uses ≢ BusUse.Breaks }
     ensures row { row_at part op ≡ Some result }

@@ -6,8 +6,10 @@ mod at_once;
 mod known;
 mod operate;
 mod operations;
+mod outside;
 mod plain;
 mod ways;
 
 pub use at_once::whole;
+pub use outside::{LastAccess, last_access, take_in};
 pub use plain::Plain;

@@ -33,7 +33,7 @@ some_more false x xs ys zs e = e
 pub chosen_kept : (choice : Choice) (kept : Kept) (starts : List StartState) → (keep_all choice kept starts).chosen ≡ kept.chosen ++ chosen_from choice kept.before starts
 chosen_kept choice kept [] = sym (append-nil kept.chosen)
 chosen_kept choice kept (x ∷ starts) =
-    some_more (is_chosen choice kept.before x.regs.pc x.watched) x kept.chosen (chosen_from choice (Some x.watched) starts) _ (chosen_kept choice (keep choice kept x) starts)
+    some_more (is_chosen choice kept.before x.tick x.regs.pc x.watched) x kept.chosen (chosen_from choice (Some x.watched) starts) _ (chosen_kept choice (keep choice kept x) starts)
 
 module _ {S : Type 0} (m : Moves S) (sights : S → Sight) (set : Order) where
   abbrev v : Moves (Watched S)

@@ -52,7 +52,7 @@ module _ (part : Part) (choice : Choice) (starts : List StartState) (x : StartSt
       }
 
   -- what is kept then
-  pub keep_by : (before : Option (Option ℕ)) (is : Bool) (after : List StartState) → is ≡ is_chosen choice before x.regs.pc x.watched → after ≡ (if is then starts ++ x ∷ [] else starts) →
+  pub keep_by : (before : Option (Option ℕ)) (is : Bool) (after : List StartState) → is ≡ is_chosen choice before x.tick x.regs.pc x.watched → after ≡ (if is then starts ++ x ∷ [] else starts) →
       kept_of after (Some x.watched) ≡ keep choice (kept_of starts before) x
   keep_by before is after chosen same =
       ap (λ (l : List StartState). kept_of l (Some x.watched)) (same ∙ ap (λ (b : Bool). if b then starts ++ x ∷ [] else starts) chosen)

@@ -280,12 +280,12 @@ module _ {T : Type 0} (w : Moves T) (sights : T → Sight) (seen : IsSeen w sigh
           looks_on v n lines sure one.0 rest.0 (with_kept t kept) (with_kept u kept) (with_kept last kept) one.1 rest.1
 
   -- a start that is passed over leaves what is kept
-  pub leaves_noted : (passing : Passing) (kept : Kept) (t : T) → LeavesKept set.choice kept.before passing → IsOver passing (sights t).regs.pc (sights t).peek → noted w sights t set.choice kept ≡ kept
+  pub leaves_noted : (passing : Passing) (kept : Kept) (t : T) → LeavesKept set.choice kept.before passing → IsOver passing (w.due t) (sights t).regs.pc (sights t).peek → noted w sights t set.choice kept ≡ kept
   leaves_noted passing kept t leaves over = by (sights t).starting
     where
       by : (is : Bool) → keep_if is set.choice kept (start_of w sights watch t) ≡ kept
       by false = refl
       by true =
           let x : StartState = start_of w sights watch t in
-          let left = leaves (sights t).regs.pc (sights t).peek over in
+          let left = leaves (w.due t) (sights t).regs.pc (sights t).peek over in
           ap (λ (b : Bool). kept_of (if b then kept.chosen ++ x ∷ [] else kept.chosen) (Some x.watched)) left.0 ∙ ap (λ (o : Option (Option ℕ)). kept_of kept.chosen o) (sym left.1)

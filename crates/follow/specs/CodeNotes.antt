@@ -21,7 +21,7 @@ none_kept = kept_of [] None
 
 -- with one more start, and with more of them
 abbrev pub keep : Choice → Kept → StartState → Kept
-keep choice k x = kept_of (if is_chosen choice k.before x.regs.pc x.watched then k.chosen ++ x ∷ [] else k.chosen) (Some x.watched)
+keep choice k x = kept_of (if is_chosen choice k.before x.tick x.regs.pc x.watched then k.chosen ++ x ∷ [] else k.chosen) (Some x.watched)
 
 abbrev pub keep_all : Choice → Kept → List StartState → Kept
 keep_all choice k [] = k
@@ -35,5 +35,5 @@ pub record IsKept (part : Part) (starts : List StartState) (text : List ℕ) (is
 -- A start that is passed over is not chosen, and leaves the byte that was watched before it as it was.
 abbrev pub LeavesKept : Choice → Option (Option ℕ) → Passing → Type 0
 LeavesKept choice before passing =
-    (pc : ℕ) (peek : ℕ → Option ℕ) → IsOver passing pc peek →
-    (is_chosen choice before pc (watched_byte choice.watch peek) ≡ false) × (before ≡ Some (watched_byte choice.watch peek))
+    (tick pc : ℕ) (peek : ℕ → Option ℕ) → IsOver passing tick pc peek →
+    (is_chosen choice before tick pc (watched_byte choice.watch peek) ≡ false) × (before ≡ Some (watched_byte choice.watch peek))

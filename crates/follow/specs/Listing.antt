@@ -1,5 +1,5 @@
 -- The listing of a replay: the starts of its run, those that are chosen, and a line for each of the first of them. (This project's own format.)
-use Rattle.std.specs.Prelude.{ℕ, zero, suc, ◌==◌, ◌&&◌, nat_lt, min, not, List, [], ◌∷◌, ◌++◌, length, map, filter, take, flat_map, Bool, true, false, Option, None, Some, if◌then◌else◌, codes}
+use Rattle.std.specs.Prelude.{ℕ, zero, suc, ◌==◌, ◌&&◌, nat_le, nat_lt, min, not, List, [], ◌∷◌, ◌++◌, length, map, filter, take, flat_map, Bool, true, false, Option, None, Some, if◌then◌else◌, codes}
 use Rattle.digits.specs.Hexadecimal.{hex_digits}
 use Rattle.beeb_bits.specs.declared.Side.{Side}
 use Rattle.op_table.specs.declared.names.Part.{Part}
@@ -63,15 +63,15 @@ has_changed None before now = true
 has_changed (Some at) None now = false
 has_changed (Some at) (Some before) now = not (is_same_byte before now)
 
--- a start with this PC and this watched byte, by the watched byte of the start before it, if there was one
-abbrev pub is_chosen : Choice → Option (Option ℕ) → ℕ → Option ℕ → Bool
-is_chosen choice before pc watched = is_at choice.at pc && has_changed choice.watch before watched
+-- a start at this tick and PC with this watched byte, by the watched byte of the start before it, if there was one
+abbrev pub is_chosen : Choice → Option (Option ℕ) → ℕ → ℕ → Option ℕ → Bool
+is_chosen choice before tick pc watched = nat_le choice.from tick && is_at choice.at pc && has_changed choice.watch before watched
 
 -- those that are chosen, of starts with this one before them
 abbrev pub chosen_from : Choice → Option (Option ℕ) → List StartState → List StartState
 chosen_from choice before [] = []
 chosen_from choice before (s ∷ starts) =
-    if is_chosen choice before s.regs.pc s.watched then s ∷ chosen_from choice (Some s.watched) starts else chosen_from choice (Some s.watched) starts
+    if is_chosen choice before s.tick s.regs.pc s.watched then s ∷ chosen_from choice (Some s.watched) starts else chosen_from choice (Some s.watched) starts
 
 abbrev pub chosen_of : Choice → List StartState → List StartState
 chosen_of choice starts = chosen_from choice None starts

@@ -7,11 +7,10 @@ use Rattle.cpu_core.specs.State as cpu
 use Rattle.cpu_core.specs.declared.Sequence.{Sequence}
 use Rattle.cpu_core.specs.Sequences.{next_cycle, starting, is_start, halted, halts, after_byte}
 use Rattle.tube_chip.specs.declared.Answer.{Answer}
-use Rattle.tube_chip.specs.declared.Op.TheVariants as op
-use Rattle.tube_chip.specs.Act.{look, access}
+use Rattle.tube_chip.specs.Act.{look}
 use Rattle.tube_party.specs.Moves.{Moves}
 use Rattle.tube_machine.specs.Wiring.{Wiring}
-use Rattle.tube_machine.specs.Step.{At, asks_by, after_break, after_step, closed_to, is_break, byte_of, asks, next_state}
+use Rattle.tube_machine.specs.Step.{At, asks_by, asks_reset, after_break, after_step, closed_to, is_break, byte_of, asks, next_state}
 use Rattle.host_mach.specs.State.{HostState}
 use Rattle.host_mach.specs.Step.{host_wiring, host_moves}
 use Rattle.host_mach.specs.Lawful.{host_lawful}
@@ -50,14 +49,14 @@ begun : (part : Part) (c : cpu.State) (byte : ℕ) → starting (after_byte part
 begun part c byte = after_by (halted part c) c _ (λ is. halted_on part c is) (seen_more c.seen _ c.sequence)
 
 module _ (part : Part) {B : Type 0} (w : Wiring B) where
-  behind_by : (breaks : Bool) (c : Option Cycle) (s : At B) (a : Option Answer) → starting (if breaks then after_break part w s else after_step part w c s a).cpu ≡ true →
-      (if breaks then Some (access op.Reset) else asks_by w c) ≡ Some look
-  behind_by true c s a is = cc
-  behind_by false None s a is = refl
-  behind_by false (Some c) s a is = let no : starting (after_byte part s.cpu (byte_of w s.bus s.due a c)) ≡ false = begun part s.cpu _ in cc
+  behind_by : (breaks : Bool) (c : Option Cycle) (b : B) (s : At B) (a : Option Answer) → starting (if breaks then after_break part w s else after_step part w c s a).cpu ≡ true →
+      (if breaks then asks_reset w b else asks_by w b c) ≡ Some look
+  behind_by true c b s a is = cc
+  behind_by false None b s a is = refl
+  behind_by false (Some c) b s a is = let no : starting (after_byte part s.cpu (byte_of w s.bus s.due a c)) ≡ false = begun part s.cpu _ in cc
 
   behind_look : (s : At B) (a : Option Answer) → starting (next_state part w s a).cpu ≡ true → asks part w s ≡ Some look
-  behind_look s a is = behind_by (is_break part w s) (next_cycle part s.cpu) (closed_to w s (s.due + 1)) a is
+  behind_look s a is = behind_by (is_break part w s) (next_cycle part s.cpu) s.bus (closed_to w s (s.due + 1)) a is
 
 pub host_seen_laws : IsSeen host_moves host_sight
 host_seen_laws = record {

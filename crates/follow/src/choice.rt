@@ -2,10 +2,11 @@
 ghost use Rattle.std.specs.Prelude.{◌≡◌};
 ghost use Rattle.follow.specs.Listing.{is_at, is_same_byte, has_changed, is_chosen};
 
-/// Which starts of instructions are listed: those at an address, if one is given, and those at which the byte at another, if one is given, is
-/// not what it was at the start before.
+/// Which starts of instructions are listed: those at a tick or later, at an address, if one is given, and those at which the byte at another, if
+/// one is given, is not what it was at the start before, whether that is listed or not.
 #[derive(Clone, Copy, Debug, PartialEq, Eq)]
 pub struct Choice {
+    pub from: u64,
     pub at: Option<u16>,
     pub watch: Option<u16>,
 }
@@ -45,11 +46,17 @@ fn has_changed(watch: Option<u16>, before: Option<Option<u8>>, now: Option<u8>) 
 }
 
 impl Choice {
-    /// Whether a start at this PC, with this watched byte, is listed, by the byte that was watched at the start before it.
+    /// Whether a start at this tick and PC, with this watched byte, is listed, by the byte that was watched at the start before it.
     #[inline(always)]
-    pub(crate) fn chooses(&self, before: Option<Option<u8>>, pc: u16, watched: Option<u8>) -> bool
-        ensures { result ≡ is_chosen self.now before pc watched }
+    pub(crate) fn chooses(
+        &self,
+        before: Option<Option<u8>>,
+        tick: u64,
+        pc: u16,
+        watched: Option<u8>,
+    ) -> bool
+        ensures { result ≡ is_chosen self.now before tick pc watched }
     {
-        is_at(self.at, pc) && has_changed(self.watch, before, watched)
+        self.from <= tick && is_at(self.at, pc) && has_changed(self.watch, before, watched)
     }
 }

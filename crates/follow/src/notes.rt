@@ -89,7 +89,7 @@ impl Notes {
     {
         let is_chosen = self
             .choice
-            .chooses(self.before, start.regs.pc, start.watched);
+            .chooses(self.before, start.tick, start.regs.pc, start.watched);
         self.before = Some(start.watched);
         if !is_chosen {
             return;
@@ -106,20 +106,25 @@ impl Notes {
         self.chosen += 1;
     }
 
-    /// Starts that may be passed over: they are not chosen, and leave what is kept. None are known before the first start, nor where all are chosen.
+    /// Starts from tick `now` on that may be passed over: they are not chosen, and leave what is kept. None are known before the first start, nor
+    /// where all are chosen.
     #[inline(always)]
-    pub(crate) fn passing(&self) -> Option<Passing>
+    pub(crate) fn passing(&self, now: u64) -> Option<Passing>
         ensures leaves { IfSome result (λ passing. LeavesKept self.now.choice self.now.before passing) }
         ensures same { (at : ℕ) (byte : Option ℕ) → self.now.choice.watch ≡ Some at → self.now.before ≡ Some byte →
             result ≡ Some (Passing.Same at byte) }
+        ensures before { let choice = self.now.choice in
+            choice.watch ≡ None → now < choice.from → self.now.before ≡ Some None → result ≡ Some (Passing.Before choice.from) }
         ensures elsewhere { let choice = self.now.choice in
-            (at : ℕ) → choice.watch ≡ None → choice.at ≡ Some at → self.now.before ≡ Some None → result ≡ Some (Passing.Elsewhere at) }
+            (at : ℕ) → choice.watch ≡ None → choice.from ≤ now → choice.at ≡ Some at → self.now.before ≡ Some None →
+            result ≡ Some (Passing.Elsewhere at) }
     {
         let Some(byte) = self.before else {
             return None;
         };
         match (self.choice.watch, self.choice.at, byte) {
             (Some(watch), _, _) => Some(Passing::Same(watch, byte)),
+            (None, _, None) if now < self.choice.from => Some(Passing::Before(self.choice.from)),
             (None, Some(at), None) => Some(Passing::Elsewhere(at)),
             _ => None,
         }

@@ -42,7 +42,7 @@ pub trait Seen: Party {
         requires { until.0 ≤ MOST }
         ensures { let old = inside self.old in
             let new = inside self.new in
-            (k : ℕ) × Passes steps (λ s. IsOver passing (sights s).regs.pc (sights s).peek) until.0 (shown_lines lines.now sure.0) k old new };
+            (k : ℕ) × Passes steps (λ s. IsOver passing (steps.due s) (sights s).regs.pc (sights s).peek) until.0 (shown_lines lines.now sure.0) k old new };
 
     ghost seen: { IsSeen steps sights };
 

@@ -33,7 +33,7 @@ impl<M: Seen> Watcher<M> {
             let new = watched_of (M.inside self.new.machine) (order self.new.notes.part self.new.notes.choice) new_kept in
             (k : ℕ) × Looks moves until.0 (shown_lines lines.now sure.0) k old new }
     {
-        if let Some(passing) = self.notes.passing() {
+        if let Some(passing) = self.notes.passing(self.machine.due().0) {
             self.machine.pass(until, lines, sure, passing);
         }
     }

@@ -1,7 +1,7 @@
 -- The devices of the host that go by microseconds, and how they are wired: the picture, the disc controller, the converter, and the two 6522s,
 -- with the keyboard and the addressable latch at the system's. (Acorn, BBC Microcomputer Advanced User Guide, The system VIA, The user/printer VIA, and
 -- analogue to digital converter.)
-use Rattle.std.specs.Prelude.{ℕ, zero, suc, ◌==◌, ◌||◌, ◌%◌, Bool, true, false, List, [], ◌∷◌, replicate, Option, if◌then◌else◌}
+use Rattle.std.specs.Prelude.{ℕ, zero, suc, ◌==◌, ◌||◌, ◌&&◌, ◌%◌, nat_le, Bool, true, false, List, [], ◌∷◌, replicate, Option, if◌then◌else◌}
 use Rattle.saa5050.specs.Shapes.{Font}
 use Rattle.crtc6845.specs.Registers as crtc
 use Rattle.video_ula.specs.State as ula
@@ -97,6 +97,12 @@ register_answer UserVia at keys d = answer_of (at % 16) user_pins d.user
 register_answer DiscController at keys d = controller.answer_of (at % 4) d.disc
 register_answer Adc at keys d = converter.answer_of (at % 4) d.converter
 register_answer _ at keys d = 0xFE
+
+-- a register of a 6522 that no pins matter to, and that a read leaves as it is: registers 11 to 14
+abbrev pub holds_still : Device → ℕ → Bool
+holds_still SystemVia at = nat_le 11 (at % 16) && nat_le (at % 16) 14
+holds_still UserVia at = nat_le 11 (at % 16) && nat_le (at % 16) 14
+holds_still _ at = false
 
 -- what a read leaves
 unfoldable pub register_read : Device → ℕ → Devices → Devices

@@ -1,5 +1,5 @@
 //! The devices that go by microseconds, and how they are wired.
-ghost use Rattle.std.specs.Prelude.{◌≡◌, ◌≤◌, ◌<◌, ◌+◌, ◌%◌, ◌^◌, ◌==◌, ℕ, Bool, true, List, None, Some, MatchOption, IfOk, IfSome, length, slice_set, if◌then◌else◌};
+ghost use Rattle.std.specs.Prelude.{◌≡◌, ◌≤◌, ◌<◌, ◌+◌, ◌%◌, ◌^◌, ◌==◌, ℕ, Bool, true, false, List, None, Some, MatchOption, IfOk, IfSome, length, slice_set, if◌then◌else◌};
 ghost use Rattle.saa5050.specs.Shapes.{Font};
 ghost use Rattle.adc7002.specs.Step.{step};
 ghost use Rattle.via6522.specs.declared.Pins.{Pins};
@@ -10,7 +10,7 @@ ghost use Rattle.keyboard.specs.Keys.{keys_of};
 ghost use Rattle.keyboard.specs.Latch.{screen_size};
 ghost use Rattle.host_devices.specs.Apart.{AreCalm};
 ghost use Rattle.host_devices.specs.CodePicture.{drawn};
-ghost use Rattle.host_devices.specs.Devices.{system_pins, raster_after, microsecond, last_frame, microseconds, register_answer, register_read, register_written, after_latch, sound_line, sound_data, devices_ask, devices_reset, first_devices};
+ghost use Rattle.host_devices.specs.Devices.{system_pins, raster_after, microsecond, last_frame, microseconds, register_answer, holds_still, register_read, register_written, after_latch, sound_line, sound_data, devices_ask, devices_reset, first_devices};
 
 use crate::law::devices_go_on_apart;
 use crate::map::Device;
@@ -295,7 +295,7 @@ impl Devices {
         }
     }
 
-    /// The byte of a register of a 6522 that no pins matter to, and that a read leaves as it is.
+    /// The byte of a register of a 6522 that no pins matter to, and that a read leaves as it is. None of any other.
     #[inline(always)]
     #[tactic(auto, unfolding(crate::specs::Devices::register_answer, crate::specs::Devices::register_read))]
     pub fn held(&self, device: Device, at: u16) -> Option<u8>
@@ -303,6 +303,7 @@ impl Devices {
             byte ≡ register_answer device at keys (drawn ram font self.now)) }
         ensures after { IfSome result (λ byte. (ram : List ℕ) (font : Font) →
             register_read device at (drawn ram font self.now) ≡ drawn ram font self.now) }
+        ensures which { MatchOption result (holds_still device at ≡ false) (λ byte. holds_still device at ≡ true) }
     {
         let via = match device {
             Device::SystemVia => &self.system,

@@ -1,5 +1,5 @@
 -- The memory, which no device step changes.
-use Rattle.std.proofs.Common.{◌≡◌, ◌<◌, ◌∙◌, refl, sym, ap, subst, ℕ, ◌+◌, ◌*◌, ◌/◌, ◌%◌, nat_le, Bool, true, false, Some, None, arith, if◌then◌else◌}
+use Rattle.std.proofs.Common.{◌≡◌, ◌<◌, ◌∙◌, refl, sym, ap, subst, ℕ, ◌+◌, ◌*◌, ◌/◌, ◌%◌, ◌&&◌, nat_le, Bool, true, false, Some, None, arith, if◌then◌else◌}
 use Rattle.std.proofs.lemmas.Grind.{common_steps}
 use Rattle.beeb_bits.specs.Clock.{host}
 use Rattle.cpu_alu.specs.declared.Cycle.{Cycle}
@@ -42,6 +42,10 @@ answer-on b u t at low =
 pub read-still : (b : BusState) (at : ℕ) → at < 0xfc00 → bus_after_read b at ≡ b
 read-still b at low = ap (λ (p : Place). after_read_of p b at) (is-memory at low) ∙ same-read b at (nat_le at 0x7FFF) (nat_le at 0xBFFF)
 
+none-both : (has : Bool) → (has && false) ≡ false
+none-both true = refl
+none-both false = refl
+
 not-tube : (at : ℕ) → at < 0xfc00 → is_tube at ≡ false
 not-tube at low = grind (arith, common_steps)
 
@@ -49,7 +53,7 @@ not-tube at low = grind (arith, common_steps)
 pub read-done : (b : HostBusState) (t at byte : ℕ) (c : Cycle) → c ≡ Read at → at < 0xfc00 → byte ≡ bus_answer b.bus t at →
     stretch at (t / host (clock_of b.bus)) ≡ 1 → IsQuick host_wiring b t c (Some byte) b
 read-done b t at byte c is low given fast =
-    let no = not-tube at low in
+    let no = ap (λ (x : Bool). b.tube && x) (not-tube at low) ∙ none-both b.tube in
     let n : ℕ = host (clock_of b.bus) in
     let one : n * 1 ≡ n = omega arith in
     subst (λ (x : Cycle). IsQuick host_wiring b t x (Some byte) b) (sym is) (

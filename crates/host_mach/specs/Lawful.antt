@@ -40,6 +40,7 @@ host_wired = record {
   closed = λ b t. refl;
   again = λ b t u high. ap (λ (x : BusState). record b { bus = x }) (closed-again b.bus t u high);
   still = λ b t low. ap (λ (x : BusState). record b { bus = x }) (closed-still b.bus t low);
+  tube_close = λ b t. refl;
   cycle_close = λ b t. refl;
   cycle_after = λ b c. ap host (access-same b.bus c);
   cycle_taken = λ b l. refl;
@@ -62,6 +63,9 @@ host_plain = record { resets = λ b l is. refl; close = λ b l t. refl; after = 
 -- nothing is noted of it
 pub host_even : true ≡ false → (b : HostBusState) (t : ℕ) (c : Cycle) → host_wiring.takes b t c ≡ host_wiring.cycle b
 host_even is b t c = absurd (cc)
+
+pub host_joined : true ≡ false → (b : HostBusState) → host_wiring.has_tube b ≡ true
+host_joined is b = absurd (cc)
 
 pub host_lawful : IsLawful host_moves
 host_lawful = lawful Nmos host_wiring host_wired

@@ -1,5 +1,5 @@
 -- The host: a 6502 at its bus.
-use Rattle.std.specs.Prelude.{ℕ, List, Option}
+use Rattle.std.specs.Prelude.{ℕ, Bool, true, List, Option}
 use Rattle.beeb_bits.specs.declared.clock.Clock.{Clock}
 use Rattle.beeb_bits.specs.Clock.{host}
 use Rattle.bus_plug.specs.Plug.{Plug}
@@ -15,9 +15,11 @@ pub record HostBusState : Type 0 where
   pub bus : BusState
   -- how many rises of it
   pub nmis : ℕ
+  -- whether there is a Tube
+  pub tube : Bool
 
-abbrev pub host_bus_of : BusState → ℕ → HostBusState
-host_bus_of b n = record { bus = b; nmis = n }
+abbrev pub host_bus_of : BusState → ℕ → Bool → HostBusState
+host_bus_of b n tube = record { bus = b; nmis = n; tube = tube }
 
 abbrev pub HostState : Type 0
 HostState = At HostBusState
@@ -28,4 +30,8 @@ cycle_of s = host (clock_of s.bus.bus)
 
 -- the power-on state, at this clock, with these images, the discs of both drives, this script and these plugged devices
 abbrev pub power_on : Clock → Roms → Option Image → Option Image → List Event → List Plug → HostState
-power_on clock roms d0 d1 script plugs = at_of sequences.power_on (host_bus_of (bus_power_on clock roms d0 d1 script plugs) 0) 0
+power_on clock roms d0 d1 script plugs = at_of sequences.power_on (host_bus_of (bus_power_on clock roms d0 d1 script plugs) 0 true) 0
+
+-- the same machine with a Tube, or with nothing at its addresses
+abbrev pub with_tube : Bool → HostState → HostState
+with_tube there s = record s { bus = record s.bus { tube = there } }

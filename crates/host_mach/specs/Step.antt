@@ -1,4 +1,5 @@
--- How the host is wired: its addresses of the Tube, the 1 MHz bus, the lines to its processor, and BREAK. Its steps are those of a processor at
+-- How the host is wired: its addresses of the Tube, if it has one, the 1 MHz bus, the lines to its processor, and BREAK. Without a Tube its addresses
+-- are the memory map's, where nothing answers. Its steps are those of a processor at
 -- this bus. (Acorn, BBC Microcomputer Advanced User Guide, the 1 MHz bus and the BREAK key; the ticks, and what BREAK leaves, are this project's.)
 use Rattle.std.specs.Prelude.{ℕ, ◌*◌, ◌/◌, ◌==◌, ◌&&◌, ◌||◌, nat_le, Bool, false, not, Option}
 use Rattle.beeb_bits.specs.declared.clock.Clock.{Clock}
@@ -12,7 +13,7 @@ use Rattle.host_devices.specs.Map.{stretch}
 use Rattle.host_bus.specs.Bus.{BusState, clock_of, bus_closed, closed_at, bus_answer, bus_after_read, bus_after_write, bus_irq, bus_nmis, bus_break_pending, bus_break_taken}
 use Rattle.tube_machine.specs.Wiring.{Wiring}
 use Rattle.tube_machine.specs.Step as at
-use Rattle.host_mach.specs.State.{HostBusState, HostState, host_bus_of}
+use Rattle.host_mach.specs.State.{HostBusState, HostState}
 
 -- FEE0 to FEFF are the Tube, by their low three bits
 abbrev pub is_tube : ℕ → Bool
@@ -31,15 +32,16 @@ address (Write at byte) = at
 abbrev pub cycle_ticks : Clock → ℕ → Cycle → ℕ
 cycle_ticks clock t c = host clock * stretch (address c) (t / host clock)
 
--- after a break step the bus has taken every pending break, and the rises of the NMI line so far count as taken
-abbrev pub taken_with_nmis : BusState → HostBusState
-taken_with_nmis b = host_bus_of b (bus_nmis b)
+-- this bus, the rises of whose NMI line so far count as taken
+abbrev pub taken_with_nmis : HostBusState → BusState → HostBusState
+taken_with_nmis h b = record h { bus = b; nmis = bus_nmis b }
 
 -- An NMI is asked for where the count of its line's rises is not the one taken, an IRQ by the lines of the bus and of the Tube. The Tube's
 -- reset line does not reach the host.
 abbrev pub host_wiring : Wiring HostBusState
 host_wiring = record {
   cycle = λ b. host (clock_of b.bus);
+  has_tube = λ b. b.tube;
   is_tube = is_tube;
   answer = λ b t at. bus_answer b.bus t at;
   after = λ b c. record b { bus = bus_after b.bus c };
@@ -49,9 +51,9 @@ host_wiring = record {
   irq = λ b l. bus_irq b.bus || l.hirq;
   held = λ b. b;
   reset = λ b l. b;
-  taken = λ b l. taken_with_nmis b.bus;
+  taken = λ b l. taken_with_nmis b b.bus;
   pending = λ b t. bus_break_pending b.bus t;
-  broken = λ b t. taken_with_nmis (bus_break_taken b.bus t);
+  broken = λ b t. taken_with_nmis b (bus_break_taken b.bus t);
   closed = λ b. closed_at b.bus;
   close = λ b t. record b { bus = bus_closed b.bus t };
 }

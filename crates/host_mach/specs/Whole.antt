@@ -22,6 +22,7 @@ use Rattle.cpu_alu.specs.Addresses.{wrap}
 use Rattle.host_bus.specs.StoredLines.{irq-stored, nmis-stored}
 use Rattle.host_mach.specs.State.{HostBusState}
 use Rattle.host_mach.specs.SameClock.{access-same}
+use Rattle.host_mach.specs.TubeAccess.{tube-leaves}
 use Rattle.host_mach.specs.Step.{is_tube, host_wiring}
 
 -- reads below the devices, and writes to the RAM
@@ -155,6 +156,7 @@ host_rests = record {
   looks = λ b l masks far t rest low. at-rest (record b { bus = bus_closed b.bus (t + 1) }) l masks (rest (omega (arith, low)) (t + 1) (omega (arith, low)));
   close = λ b l masks far t rest low. closed-rests b l masks far t rest low;
   write = λ b l masks far at byte rest low. stored-rests b l masks far at byte (ltb-true at 0x8000 low) rest;
+  tube = λ b l masks far c rest at some u near. subst (λ (x : BusState). AsksNothing (bus_closed x u) b.nmis l masks) (sym (tube-leaves b c at)) (rest some u near);
 }
 
 -- an instruction below the devices

@@ -1,5 +1,5 @@
 //! The bus, with what its processor has taken of the NMI line.
-ghost use Rattle.std.specs.Prelude.{◌≡◌, ◌≤◌, ◌*◌, ◌/◌};
+ghost use Rattle.std.specs.Prelude.{◌≡◌, ◌≤◌, ◌*◌, ◌/◌, ◌&&◌};
 ghost use Rattle.beeb_bits.specs.Clock.{host};
 ghost use Rattle.host_devices.specs.Map.{stretch};
 ghost use Rattle.host_mach.specs.Step.{is_tube};
@@ -7,7 +7,7 @@ ghost use Rattle.host_mach.specs.Step.{is_tube};
 use beeb_bits::{Clock, Tick};
 use bus_plug::BusDevice;
 use cpu_alu::{Cycle, Regs};
-use cpu_whole::{Plain, whole};
+use cpu_whole::{LastAccess, Plain, last_access, whole};
 use host_bus::Bus;
 use host_devices::stretch;
 use op_table::Part;
@@ -20,11 +20,13 @@ pub(crate) struct HostBus<D> {
     pub(crate) bus: Bus<D>,
     // How many rises of it.
     pub(crate) nmis: u64,
+    // Whether there is a Tube.
+    pub(crate) tube: bool,
 }
 
 /// FEE0 to FEFF.
 #[inline(always)]
-pub(crate) fn is_tube(at: u16) -> bool
+fn is_tube(at: u16) -> bool
     ensures { result ≡ is_tube at }
 {
     0xfee0 <= at && at <= 0xfeff
@@ -40,13 +42,23 @@ fn ticks_of(clock: Clock, t: u64, at: u16) -> u64
     cycle * u64::from(stretch(at, t / cycle))
 }
 
+impl<D: BusDevice> HostBus<D> {
+    /// Whether the Tube answers at this address.
+    #[inline(always)]
+    pub(crate) fn answers(&self, at: u16) -> bool
+        ensures { result ≡ (self.now.tube && is_tube at) }
+    {
+        self.tube && is_tube(at)
+    }
+}
+
 impl<D: BusDevice> TubeBus<()> for HostBus<D> {
     ghost use Rattle.std.specs.Prelude.{true};
     ghost use Rattle.host_bus.specs.Peek.{bus_peek};
     ghost use Rattle.host_mach.specs.State.{HostBusState};
     ghost use Rattle.host_mach.specs.View.{host_bus_seen};
     ghost use Rattle.host_mach.specs.Step.{host_wiring};
-    ghost use Rattle.host_mach.specs.Lawful.{host_wired, host_plain, host_even};
+    ghost use Rattle.host_mach.specs.Lawful.{host_wired, host_plain, host_even, host_joined};
     ghost use Rattle.host_mach.specs.Whole.{plain_read, plain_write, rests, host_memory, host_rests};
 
     ghost State = { HostBusState };
@@ -71,6 +83,8 @@ impl<D: BusDevice> TubeBus<()> for HostBus<D> {
 
     ghost even = { host_even };
 
+    ghost joined = { host_joined };
+
     ghost reads = { plain_read };
 
     ghost writes = { plain_write };
@@ -86,6 +100,11 @@ impl<D: BusDevice> TubeBus<()> for HostBus<D> {
     #[inline(always)]
     fn cycle(&self) -> u64 {
         self.bus.clock().host()
+    }
+
+    #[inline(always)]
+    fn has_tube(&self) -> bool {
+        self.tube
     }
 
     #[inline(always)]
@@ -186,11 +205,25 @@ impl<D: BusDevice> TubeBus<()> for HostBus<D> {
         whole::<(), HostBus<D>, L>(part, regs, self, t, notes)
     }
 
+    #[inline(always)]
+    fn last_access<L>(&self, part: Part, regs: &Regs) -> LastAccess {
+        last_access::<(), HostBus<D>, L>(part, regs, self)
+    }
+
+    #[inline(always)]
+    fn asked(&self, cycle: Cycle) -> Option<Op> {
+        match cycle {
+            Cycle::Read(at) if self.answers(at) => Some(Op::Read((at % 8) as u8)),
+            Cycle::Write(at, v) if self.answers(at) => Some(Op::Write((at % 8) as u8, v)),
+            _ => None,
+        }
+    }
+
     fn exchange(&mut self, t: u64, cycle: Cycle, _notes: &mut ()) -> Result<Done, Unable> {
         let clock = self.bus.clock();
         match cycle {
             Cycle::Read(at) => {
-                if is_tube(at) {
+                if self.answers(at) {
                     return Err(Unable::Tube(Op::Read((at % 8) as u8)));
                 }
                 Ok(Done {
@@ -199,7 +232,7 @@ impl<D: BusDevice> TubeBus<()> for HostBus<D> {
                 })
             }
             Cycle::Write(at, v) => {
-                if is_tube(at) {
+                if self.answers(at) {
                     return Err(Unable::Tube(Op::Write((at % 8) as u8, v)));
                 }
                 self.bus.write(Tick(t), at, v);

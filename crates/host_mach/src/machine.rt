@@ -4,13 +4,13 @@ ghost use Rattle.host_bus.specs.Board.{board_closed};
 ghost use Rattle.host_bus.specs.Bus.{bus_disc, bus_break_pending, bus_next_break};
 ghost use Rattle.sn76489.specs.Samples.{NeverFallFrom};
 ghost use Rattle.cpu6502.specs.Sequences.{halted, starting};
-ghost use Rattle.host_mach.specs.State.{power_on};
+ghost use Rattle.host_mach.specs.State.{power_on, with_tube};
 ghost use Rattle.tube_party.specs.Moves.{shown_lines};
 ghost use Rattle.tube_machine.specs.Passing.{IsOver, Passes};
 ghost use Rattle.host_mach.specs.Step.{host_wiring, host_moves};
 ghost use Rattle.host_mach.specs.Peek.{host_peek};
 
-use crate::bus::{HostBus, is_tube};
+use crate::bus::HostBus;
 use beeb_bits::{Clock, Crosses, NoMemory, Tick};
 use bus_plug::BusDevice;
 use cpu_alu::Regs;
@@ -23,13 +23,13 @@ use rom_set::RomSet;
 use sn76489::SoundWrite;
 use std::alloc::Global;
 use tube_chip::{Answer, Lines};
-use tube_machine::{Passing, advance_seeing, answer, pass_over};
-use tube_party::{Ask, MOST, NO_LINES, Party};
+use tube_machine::{Passing, advance_at, advance_seeing, answer, pass_over};
+use tube_party::{Ask, Desk, MOST, NO_LINES, Party};
 
-/// The BBC Micro: a 6502 at 2 MHz and its bus, with the Tube at FEE0 to FEFF. The key BREAK, which the script presses, resets the processor, the
-/// user VIA, the disc controller, and by the Tube's reset the second processor. The system VIA and its latch, the picture, the ROM latch, the
-/// memory and the plugged devices stay as they are. It is heard at the end of an instruction, of a reset or of an interrupt, in place of an NMI
-/// or IRQ; a processor that an opcode has halted hears it at the end of any later cycle.
+/// The BBC Micro: a 6502 at 2 MHz and its bus, with the Tube at FEE0 to FEFF, unless it is made without one. The key BREAK, which the script
+/// presses, resets the processor, the user VIA, the disc controller, and by the Tube's reset the second processor. The system VIA and its latch,
+/// the picture, the ROM latch, the memory and the plugged devices stay as they are. It is heard at the end of an instruction, of a reset or of an
+/// interrupt, in place of an NMI or IRQ; a processor that an opcode has halted hears it at the end of any later cycle.
 #[derive(Drop)]
 pub struct HostMachine<D = Box<dyn BusDevice + Send>> {
     cpu: Cpu,
@@ -62,9 +62,23 @@ impl<D: BusDevice> HostMachine<D> {
         let bus = Bus::make(alloc, clock, roms, d0, d1, script, plugs)?;
         Ok(HostMachine {
             cpu: Cpu::new(),
-            bus: HostBus { bus, nmis: 0 },
+            bus: HostBus {
+                bus,
+                nmis: 0,
+                tube: true,
+            },
             due: 0,
         })
+    }
+
+    /// The same machine with a Tube at FEE0 to FEFF, as it is made, or with nothing there: a read gives FE, a write does nothing, and BREAK asks for no
+    /// reset of the Tube.
+    pub fn with_tube(self, there: bool) -> HostMachine<D>
+        ensures { host_seen D.plug result ≡ with_tube there (host_seen D.plug self) }
+    {
+        let mut machine = self;
+        machine.bus.tube = there;
+        machine
     }
 
     /// The registers at the start of the instruction, or of the reset or interrupt, to which the next step belongs.
@@ -106,7 +120,7 @@ impl<D: BusDevice> HostMachine<D> {
         requires { until.0 ≤ 2 ^ 30 }
         ensures { let old = host_seen D.plug self.old in
             let new = host_seen D.plug self.new in
-            (k : ℕ) × Passes host_moves (λ s. IsOver passing s.cpu.regs.pc (host_peek s)) until.0 (shown_lines lines.now sure.0) k old new }
+            (k : ℕ) × Passes host_moves (λ s. IsOver passing s.due s.cpu.regs.pc (host_peek s)) until.0 (shown_lines lines.now sure.0) k old new }
     {
         pass_over::<(), Cpu, HostBus<D>>(
             &mut self.cpu,
@@ -212,7 +226,7 @@ impl<D: BusDevice> Party for HostMachine<D> {
         ensures quiet { IsQuiet host_moves (host_seen D.plug self.now) result.0 }
         ensures tick { result.0 ≡ quiet_of (host_seen D.plug self.now) }
     {
-        if self.cpu.halted() && !is_tube(self.cpu.at_start().pc) {
+        if self.cpu.halted() && !self.bus.answers(self.cpu.at_start().pc) {
             Tick(self.due.max(self.next_break()))
         } else {
             Tick(self.due)
@@ -235,6 +249,20 @@ impl<D: BusDevice> Party for HostMachine<D> {
             until,
             lines,
             sure,
+        )
+    }
+
+    #[inline(always)]
+    fn advance_at<K: Desk>(&mut self, until: Tick, lines: &Lines, sure: Tick, desk: &mut K) -> Ask {
+        advance_at::<(), Cpu, HostBus<D>, K>(
+            &mut self.cpu,
+            &mut self.bus,
+            &mut self.due,
+            &mut (),
+            until,
+            lines,
+            sure,
+            desk,
         )
     }
 

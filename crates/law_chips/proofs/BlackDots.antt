@@ -5,35 +5,33 @@ use Rattle.std.proofs.lemmas.Bool.{cases_lt, cases_eq}
 use Rattle.std.proofs.lemmas.Bool.Decides.{nat_tests}
 use Rattle.std.proofs.lemmas.List.{get_or-replicate}
 use Rattle.std.proofs.Math.Nat.{mul-mod_left}
-use Rattle.beeb_bits.specs.Bits.{bit}
 use Rattle.beeb_bits.specs.Zeros.{zeros}
-use Rattle.crtc6845.specs.Laws.{tells, line_characters, frame_clocks}
-use Rattle.video_ula.specs.State as ula
+use Rattle.crtc6845.specs.Laws.{tells, frame_clocks}
 use Rattle.video_ula.specs.Pixels.{dots_of}
 use Rattle.saa5050.specs.Shapes.{Font}
 use Rattle.raster.specs.Frame.{is_in_frame, black, dots_set}
-use Rattle.raster.specs.Beam.{byte_address, is_marked}
 use Rattle.raster.specs.State.{State}
 use Rattle.law_chips.specs.ShownBytes.{char_clocks, sync_clock, beam_line, beam_dot, is_shown_at, has_dot, frame_start, CharactersAreShown, MakesFrames, RestIsBlack}
 use Rattle.law_chips.proofs.BeamPlaces.{test_true, Inside, inside, dot_index, IsApart, others}
-use Rattle.law_chips.proofs.Showing.{dots_at, frame_at, clock, same_ula}
+use Rattle.law_chips.proofs.Showing.{dots_at, frame_at}
 use Rattle.law_chips.proofs.BeamWalk.{Laws, place_in, sync_in_frame, frame_sync, column_walk, line_walk}
-use Rattle.law_chips.proofs.ShownDots.{dot_count, apart_at, no_sync, finished_stays}
+use Rattle.law_chips.proofs.Drawn.{Shows, apart_at, no_sync, finished_stays}
+use Rattle.law_chips.proofs.ShownDots.{bytes_shown}
 
-black_dot : (p q : ℕ) → Inside 240 p q → slice_index black (dot_index 240 p q) ≡ 0
+black_dot : (left p q : ℕ) → Inside left p q → slice_index black (dot_index left p q) ≡ 0
 unfolding zeros
-black_dot p q i =
+black_dot left p q i =
     let from = i.from in
     let to = i.to in
     let top = i.top in
     let bottom = i.bottom in
-    get_or-replicate {A = ℕ} 163840 (dot_index 240 p q) 0 0 (omega (arith, from, to, top, bottom))
+    get_or-replicate {A = ℕ} 163840 (dot_index left p q) 0 0 (omega (arith, from, to, top, bottom))
 
 -- a character that is not shown draws nothing, and one that is draws elsewhere
-stays_if : (is : Bool) (p q x y : ℕ) (dots frame : List ℕ) → Inside 240 p q → (is ≡ true → IsApart p q x y (length dots)) →
-    slice_index (if is then dots_set 240 x y dots frame else frame) (dot_index 240 p q) ≡ slice_index frame (dot_index 240 p q)
-stays_if true p q x y dots frame here apart = others 240 p q x y dots frame here (apart refl)
-stays_if false p q x y dots frame here apart = refl
+stays_if : (is : Bool) (left p q x y : ℕ) (dots frame : List ℕ) → Inside left p q → (is ≡ true → IsApart p q x y (length dots)) →
+    slice_index (if is then dots_set left x y dots frame else frame) (dot_index left p q) ≡ slice_index frame (dot_index left p q)
+stays_if true left p q x y dots frame here apart = others left p q x y dots frame here (apart refl)
+stays_if false left p q x y dots frame here apart = refl
 
 and_second : (a b : Bool) → (a && b) ≡ false → a ≡ true → b ≡ false
 and_second true b e is = e
@@ -59,7 +57,7 @@ elsewhere l x p q dots bottom other = elim (cases_eq l q) [
 ]
 
 -- no character of frame k has the dot
-abbrev IsFree : State → ℕ → ℕ → ℕ → Type 0
+abbrev pub IsFree : State → ℕ → ℕ → ℕ → Type 0
 IsFree s k x y =
     (n : ℕ) → frame_start s.crtc.registers k ≤ n → n < frame_start s.crtc.registers (k + 1) →
     (is_shown_at s.crtc.registers n && has_dot s.crtc.registers (dots_of s.ula.control) n x y) ≡ false
@@ -71,20 +69,19 @@ next_start s k =
     omega (arith, up)
 
 -- one clock of the frame
-stays_black : Laws → CharactersAreShown → (ram : ℕ → List ℕ) (size : ℕ → ℕ) (font : Font) (s : State) (k p q j : ℕ) → MakesFrames s.crtc →
-    bit s.ula.control 1 ≡ false → s.crtc.registers.horizontal_sync_position ≤ frame_start s.crtc.registers k →
-    is_in_frame 240 p q ≡ true → IsFree s k p q → j < frame_clocks s.crtc.registers →
+stays_black : Laws → CharactersAreShown → (left : ℕ) (ram : ℕ → List ℕ) (size : ℕ → ℕ) (font : Font) (s : State) (dots : ℕ → List ℕ) (k p q j : ℕ) →
+    MakesFrames s.crtc → Shows left ram size font s dots → s.crtc.registers.horizontal_sync_position ≤ frame_start s.crtc.registers k →
+    is_in_frame left p q ≡ true → IsFree s k p q → j < frame_clocks s.crtc.registers →
     let n = frame_start s.crtc.registers k + j in
-    slice_index (char_clocks ram size font (suc n) s).working (dot_index 240 p q)
-    ≡ slice_index (frame_at (tells n s.crtc) (char_clocks ram size font n s)) (dot_index 240 p q)
-stays_black laws characters ram size font s k p q j makes off late here free below =
+    slice_index (char_clocks ram size font (suc n) s).working (dot_index left p q)
+    ≡ slice_index (frame_at (tells n s.crtc) (char_clocks ram size font n s)) (dot_index left p q)
+stays_black laws characters left ram size font s dots k p q j makes shows late here free below =
     let r = s.crtc.registers in
-    let w = line_characters r in
     let f = frame_clocks r in
     let start = frame_start r k in
     let n = start + j in
-    let dots = dots_of s.ula.control in
-    let i : Inside 240 p q = inside 240 p q here in
+    let wide = dots_of s.ula.control in
+    let i : Inside left p q = inside left p q here in
     let bottom : q < 296 = i.bottom in
     let b = tells n s.crtc in
     let x = char_clocks ram size font n s in
@@ -93,38 +90,35 @@ stays_black laws characters ram size font s k p q j makes off late here free bel
     let t = n - sync_clock r in
     let vertical : sync_clock r + t ≡ n = omega arith in
     let horizontal : r.horizontal_sync_position + a ≡ n = omega (arith, late) in
-    let column : place.x ≡ beam_dot r dots n =
+    let column : place.x ≡ beam_dot r wide n =
     ap (λ i. (place_in ram size font s i).x) (sym horizontal) ∙ column_walk laws ram size font s makes a in
     let level : place.y ≡ min (beam_line r n) 1023 =
     ap (λ i. (place_in ram size font s i).y) (sym vertical) ∙ line_walk laws ram size font s makes t in
-    let bits : bit x.ula.control 1 ≡ false = ap (λ (u : ula.State). bit u.control 1) (same_ula ram size font s n) ∙ off in
-    let many : length (dots_at (ram n) (size n) b x) ≡ dots =
-    dot_count x.ula (slice_index (ram n) (byte_address b.ma b.ra (size n))) b.ra (is_marked x.ula.control b.cursor x.cursor)
-    ∙ ap (λ (u : ula.State). dots_of u.control) (same_ula ram size font s n) in
+    let many : length (dots n) ≡ wide = shows.many n in
     let next = next_start s k in
-    let none : (is_shown_at r n && has_dot r dots n p q) ≡ false = free n (omega arith) (omega (arith, next, below)) in
-    let apart : b.shown ≡ true → IsApart p q place.x place.y (length (dots_at (ram n) (size n) b x)) = λ is.
-    apart_at p q place.x place.y (beam_dot r dots n) (min (beam_line r n) 1023) _ column level
-    (rw many (elsewhere (beam_line r n) (beam_dot r dots n) p q dots bottom
-    (and_second (is_shown_at r n) (has_dot r dots n p q) none (sym (characters.which s.crtc n makes.bits makes.begins) ∙ is)))) in
-    ap (λ xs. slice_index xs (dot_index 240 p q)) ((clock ram size font s n).working bits)
-    ∙ stays_if b.shown p q place.x place.y (dots_at (ram n) (size n) b x) (frame_at b x) i apart
+    let none : (is_shown_at r n && has_dot r wide n p q) ≡ false = free n (omega arith) (omega (arith, next, below)) in
+    let apart : b.shown ≡ true → IsApart p q place.x place.y (length (dots n)) = λ is.
+    apart_at p q place.x place.y (beam_dot r wide n) (min (beam_line r n) 1023) _ column level
+    (rw many (elsewhere (beam_line r n) (beam_dot r wide n) p q wide bottom
+    (and_second (is_shown_at r n) (has_dot r wide n p q) none (sym (characters.which s.crtc n makes.bits makes.begins) ∙ is)))) in
+    ap (λ xs. slice_index xs (dot_index left p q)) (shows.working n)
+    ∙ stays_if b.shown left p q place.x place.y (dots n) (frame_at b x) i apart
 
-black_after : Laws → CharactersAreShown → (ram : ℕ → List ℕ) (size : ℕ → ℕ) (font : Font) (s : State) (k p q j : ℕ) → MakesFrames s.crtc →
-    bit s.ula.control 1 ≡ false → s.crtc.registers.horizontal_sync_position ≤ frame_start s.crtc.registers k →
-    is_in_frame 240 p q ≡ true → IsFree s k p q → j < frame_clocks s.crtc.registers →
-    slice_index (char_clocks ram size font (suc (frame_start s.crtc.registers k + j)) s).working (dot_index 240 p q) ≡ 0
-black_after laws characters ram size font s k p q zero makes off late here free below =
+black_after : Laws → CharactersAreShown → (left : ℕ) (ram : ℕ → List ℕ) (size : ℕ → ℕ) (font : Font) (s : State) (dots : ℕ → List ℕ) (k p q j : ℕ) →
+    MakesFrames s.crtc → Shows left ram size font s dots → s.crtc.registers.horizontal_sync_position ≤ frame_start s.crtc.registers k →
+    is_in_frame left p q ≡ true → IsFree s k p q → j < frame_clocks s.crtc.registers →
+    slice_index (char_clocks ram size font (suc (frame_start s.crtc.registers k + j)) s).working (dot_index left p q) ≡ 0
+black_after laws characters left ram size font s dots k p q zero makes shows late here free below =
     let r = s.crtc.registers in
     let n = frame_start r k + 0 in
     let e : sync_clock r + k * frame_clocks r ≡ n = omega arith in
     let ends : (tells n s.crtc).frame_end ≡ true =
     ap (λ i. (tells i s.crtc).frame_end) (sym e) ∙ frame_sync laws s.crtc makes (k * frame_clocks r)
     ∙ test_true (k * frame_clocks r % frame_clocks r) 0 (mul-mod_left k (frame_clocks r)) in
-    stays_black laws characters ram size font s k p q 0 makes off late here free below
-    ∙ ap (λ i. slice_index (if i then black else (char_clocks ram size font n s).working) (dot_index 240 p q)) ends
-    ∙ black_dot p q (inside 240 p q here)
-black_after laws characters ram size font s k p q (suc j) makes off late here free below =
+    stays_black laws characters left ram size font s dots k p q 0 makes shows late here free below
+    ∙ ap (λ i. slice_index (if i then black else (char_clocks ram size font n s).working) (dot_index left p q)) ends
+    ∙ black_dot left p q (inside left p q here)
+black_after laws characters left ram size font s dots k p q (suc j) makes shows late here free below =
     let r = s.crtc.registers in
     let f = frame_clocks r in
     let n = frame_start r k + suc j in
@@ -133,13 +127,19 @@ black_after laws characters ram size font s k p q (suc j) makes off late here fr
     let whole : k * f % f ≡ 0 = mul-mod_left k f in
     let runs : (tells n s.crtc).frame_end ≡ false =
     ap (λ i. (tells i s.crtc).frame_end) (sym e) ∙ (no_sync laws s (k * f) j makes (omega (arith, whole, below))).0 in
-    stays_black laws characters ram size font s k p q (suc j) makes off late here free below
-    ∙ ap (λ i. slice_index (if i then black else (char_clocks ram size font n s).working) (dot_index 240 p q)) runs
-    ∙ ap (λ i. slice_index (char_clocks ram size font i s).working (dot_index 240 p q)) (sym g)
-    ∙ black_after laws characters ram size font s k p q j makes off late here free (omega (arith, below))
+    stays_black laws characters left ram size font s dots k p q (suc j) makes shows late here free below
+    ∙ ap (λ i. slice_index (if i then black else (char_clocks ram size font n s).working) (dot_index left p q)) runs
+    ∙ ap (λ i. slice_index (char_clocks ram size font i s).working (dot_index left p q)) (sym g)
+    ∙ black_after laws characters left ram size font s dots k p q j makes shows late here free (omega (arith, below))
 
-pub rest_is_black : Laws → CharactersAreShown → RestIsBlack
-rest_is_black laws characters ram size font s k x y m makes off late here free after before =
+-- a dot that no character of a frame has is black in it
+pub free_is_black : Laws → CharactersAreShown → (left : ℕ) (ram : ℕ → List ℕ) (size : ℕ → ℕ) (font : Font) (s : State) (dots : ℕ → List ℕ) (k x y m : ℕ) →
+    let r = s.crtc.registers in
+    let finish = frame_start r (k + 1) in
+    MakesFrames s.crtc → Shows left ram size font s dots → r.horizontal_sync_position ≤ frame_start r k → is_in_frame left x y ≡ true → IsFree s k x y →
+    finish < m → m ≤ finish + frame_clocks r →
+    slice_index (char_clocks ram size font m s).finished (640 * (y - 40) + (x - left)) ≡ 0
+free_is_black laws characters left ram size font s dots k x y m makes shows late here free after before =
     let r = s.crtc.registers in
     let f = frame_clocks r in
     let finish = frame_start r (k + 1) in
@@ -149,8 +149,13 @@ rest_is_black laws characters ram size font s k x y m makes off late here free a
     let j = f - 1 in
     let last : suc (frame_start r k + j) ≡ finish = omega (arith, next, early) in
     let now : finish + suc i ≡ m = omega (arith, after) in
-    ap (λ n. slice_index (char_clocks ram size font n s).finished (dot_index 240 x y)) (sym now)
-    ∙ ap (λ xs. slice_index xs (dot_index 240 x y))
+    ap (λ n. slice_index (char_clocks ram size font n s).finished (dot_index left x y)) (sym now)
+    ∙ ap (λ xs. slice_index xs (dot_index left x y))
     (finished_stays laws ram size font s ((k + 1) * f) makes (mul-mod_left (k + 1) f) i (omega (arith, before, after)))
-    ∙ ap (λ n. slice_index (char_clocks ram size font n s).working (dot_index 240 x y)) (sym last)
-    ∙ black_after laws characters ram size font s k x y j makes off late here free (omega (arith, early))
+    ∙ ap (λ n. slice_index (char_clocks ram size font n s).working (dot_index left x y)) (sym last)
+    ∙ black_after laws characters left ram size font s dots k x y j makes shows late here free (omega (arith, early))
+
+pub rest_is_black : Laws → CharactersAreShown → RestIsBlack
+rest_is_black laws characters ram size font s k x y m makes off late here free after before =
+    free_is_black laws characters 240 ram size font s (λ n. dots_at (ram n) (size n) (tells n s.crtc) (char_clocks ram size font n s)) k x y m makes
+    (bytes_shown ram size font s off) late here free after before

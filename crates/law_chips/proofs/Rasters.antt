@@ -23,12 +23,12 @@ clocks_behind : (n : ℕ) (c : State) → clocks n (clock_leaves c) ≡ clock_le
 clocks_behind zero c = refl
 clocks_behind (suc n) c = clocks_behind n (clock_leaves c)
 
-keeps : (n : ℕ) (c : State) → (clocks n c).registers ≡ c.registers
+pub keeps : (n : ℕ) (c : State) → (clocks n c).registers ≡ c.registers
 keeps zero c = refl
 keeps (suc n) c = keeps n (clock_leaves c) ∙ count_keeps (start_leaves c) ∙ start_keeps c
 
 -- the start of a line changes the count of sync lines and of fields alone
-abbrev IsKept : State → State → Type 0
+abbrev pub IsKept : State → State → Type 0
 IsKept c d = (s : ℕ) × ((f : ℕ) × (d ≡ record c { sync_lines = s; fields = f }))
 
 kept_by : (p q : Bool) (c : State) → IsKept c (if p then (if q then sync_begun (sync_counted c) else sync_counted c) else c)
@@ -36,7 +36,7 @@ kept_by true true c = (_, (_, refl))
 kept_by true false c = (_, (_, refl))
 kept_by false q c = (_, (_, refl))
 
-kept : (c : State) → IsKept c (start_leaves c)
+pub kept : (c : State) → IsKept c (start_leaves c)
 kept c = kept_by (starts_line c) (begins_sync (sync_counted c)) c
 
 inner_is : (d : State) → ends_line d ≡ false → count_leaves d ≡ record d { character = (d.character + 1) % 256 }
@@ -50,7 +50,7 @@ last_is d h = rw h refl
 character_after : (d : State) → ((count_leaves d).character ≡ 0) ⊎ ((count_leaves d).character ≡ (d.character + 1) % 256)
 character_after d = grind arith
 
-characters : LinesHaveTheirCharacters → (c : State) → HaveTheirBits c.registers → c.character ≡ 0 → (n : ℕ) →
+pub characters : LinesHaveTheirCharacters → (c : State) → HaveTheirBits c.registers → c.character ≡ 0 → (n : ℕ) →
     (clocks n c).character ≡ column_at c.registers n
 characters lines c bits begins zero = begins ∙ sym (zero-mod (line_characters c.registers))
 characters lines c bits begins (suc n) =
@@ -81,35 +81,35 @@ characters lines c bits begins (suc n) =
 
 -- ---- The rasters of a row.
 
-last_of : (b : Bool) (m k : ℕ) → k + 1 ≡ (if b then m - m % 2 else m) / (if b then 2 else 1) + 1 →
+pub last_of : (b : Bool) (m k : ℕ) → k + 1 ≡ (if b then m - m % 2 else m) / (if b then 2 else 1) + 1 →
     k * (if b then 2 else 1) ≡ (if b then m - m % 2 else m)
 last_of true m k e = omega (arith, e)
 last_of false m k e = omega (arith, e)
 
 -- there is room for one more
-record HasNext (b : Bool) (m k : ℕ) : Type 0 where
+pub record HasNext (b : Bool) (m k : ℕ) : Type 0 where
   pub other : k * (if b then 2 else 1) ≡ (if b then m - m % 2 else m) → ⊥
   pub step : (k * (if b then 2 else 1) + (if b then 2 else 1)) % 32 ≡ (k + 1) * (if b then 2 else 1)
 
-next_of : (b : Bool) (m k : ℕ) → m < 32 → k + 1 < (if b then m - m % 2 else m) / (if b then 2 else 1) + 1 → HasNext b m k
+pub next_of : (b : Bool) (m k : ℕ) → m < 32 → k + 1 < (if b then m - m % 2 else m) / (if b then 2 else 1) + 1 → HasNext b m k
 next_of true m k small e = record { other = λ same. omega (arith, same, e); step = omega (arith, small, e) }
 next_of false m k small e = record { other = λ same. omega (arith, same, e); step = omega (arith, small, e) }
 
 -- ---- The line of the frame.
 
 -- line l of a frame is one of its rows, or of adjust
-record InRow (r : Registers) (l : ℕ) (adjust : Option ℕ) (row raster : ℕ) : Type 0 where
+pub record InRow (r : Registers) (l : ℕ) (adjust : Option ℕ) (row raster : ℕ) : Type 0 where
   pub none : adjust ≡ None
   pub rows : l < (r.vertical_total + 1) * row_lines r
   pub row_is : row ≡ l / row_lines r
   pub raster_is : raster ≡ l % row_lines r * raster_step r
 
-record InAdjust (r : Registers) (l : ℕ) (adjust : Option ℕ) : Type 0 where
+pub record InAdjust (r : Registers) (l : ℕ) (adjust : Option ℕ) : Type 0 where
   pub line : ℕ
   pub some : adjust ≡ Some line
   pub past : (r.vertical_total + 1) * row_lines r ≤ l
 
-abbrev IsAt : Registers → ℕ → State → Type 0
+abbrev pub IsAt : Registers → ℕ → State → Type 0
 IsAt r l c = InRow r l c.adjust c.row c.raster ⊎ InAdjust r l c.adjust
 
 first_line : (r : Registers) (row raster : ℕ) (adjust : Option ℕ) → row ≡ 0 → raster ≡ 0 → adjust ≡ None → InRow r 0 adjust row raster
@@ -230,7 +230,7 @@ at_line : (r : Registers) (c : State) (l k : ℕ) → l ≡ k → IsAt r l c →
 at_line r c l k e at = subst (λ (i : ℕ). IsAt r i c) e at
 
 -- the 6845 is at its line after each clock
-walk : LinesHaveTheirCharacters → FramesHaveTheirClocks → (c : State) → HaveTheirBits c.registers → BeginsFrame c → (n : ℕ) →
+pub walk : LinesHaveTheirCharacters → FramesHaveTheirClocks → (c : State) → HaveTheirBits c.registers → BeginsFrame c → (n : ℕ) →
     IsAt c.registers (line_at c.registers n) (clocks n c)
 walk lines frames c bits begins zero =
     let r = c.registers in

@@ -21,7 +21,7 @@ use Rattle.wd1770.specs.History.{Event, microsecond, read, write, latch, history
 use Rattle.law_chips.specs.SectorReads.{bytes_come, AllRead, taken_by, bytes_taken, waiting_byte, IsAtSector, HasBytes, command_behind, SectorIsRead}
 
 -- m steps after sector k was found in state s0, where these bytes have been taken
-record Inside (s0 : State) (t : Transfer) (k : ℕ) (bytes : List ℕ) (s : State) (m : ℕ) (got : List ℕ) : Type 0 where
+pub record Inside (s0 : State) (t : Transfer) (k : ℕ) (bytes : List ℕ) (s : State) (m : ℕ) (got : List ℕ) : Type 0 where
   pub going : m < 18432 → s.command ≡ Transferring t k
   pub over : 18432 ≤ m → s.command ≡ command_behind t
   pub angle : s.angle ≡ Some (64 * (312 * k) + m)
@@ -58,7 +58,7 @@ worked_is s t k m few inside goes at =
     let on : (64 * (312 * k) + m + 1) % 200000 ≡ 64 * (312 * k) + m + 1 = omega arith in
     rw (goes, at, on) refl
 
-reads_is : (t : Transfer) (k angle : ℕ) (s : State) → t.writes ≡ false → transfer_step t k angle s ≡ reading_at t k (places_into k angle) s
+pub reads_is : (t : Transfer) (k angle : ℕ) (s : State) → t.writes ≡ false → transfer_step t k angle s ≡ reading_at t k (places_into k angle) s
 reads_is t k angle s reads = ap (λ b. if b then writing_at t k (places_into k angle) s else reading_at t k (places_into k angle) s) reads
 
 -- Nothing comes.
@@ -120,13 +120,13 @@ ends_so s0 t k bytes s m got false many end is =
     })
 
 -- a place within the sector
-at_byte : (place : ℕ) → 31 ≤ place → place < 287 → is_byte_place 31 place ≡ true
+pub at_byte : (place : ℕ) → 31 ≤ place → place < 287 → is_byte_place 31 place ≡ true
 at_byte place low high = rw (le-leb 31 place low, lt-ltb place 287 high) refl
 
-before_bytes : (place : ℕ) → place < 31 → is_byte_place 31 place ≡ false
+pub before_bytes : (place : ℕ) → place < 31 → is_byte_place 31 place ≡ false
 before_bytes place early = rw (lt-leb 31 place early) refl
 
-behind_bytes : (place : ℕ) → 287 ≤ place → is_byte_place 31 place ≡ false
+pub behind_bytes : (place : ℕ) → 287 ≤ place → is_byte_place 31 place ≡ false
 behind_bytes place late = and_right (nat_le 31 place) (nat_lt place 287) (le-ltb place 287 late)
 
 -- what a disc with these bytes gives
@@ -308,7 +308,7 @@ bytes_long d side track k bytes is =
 all_come : (m : ℕ) (bytes : List ℕ) → m ≡ 18432 → length bytes ≡ 256 → take (bytes_come m) bytes ≡ bytes
 all_come m bytes now long = let all : length bytes ≤ bytes_come m = omega (arith, now, long) in take_all (bytes_come m) bytes all
 
-from_start : (s : State) (t : Transfer) (k : ℕ) (d : Image) (bytes : List ℕ) (events : List Event) → IsAtSector s t k → HasBytes s t k d bytes →
+pub from_start : (s : State) (t : Transfer) (k : ℕ) (d : Image) (bytes : List ℕ) (events : List Event) → IsAtSector s t k → HasBytes s t k d bytes →
     t.writes ≡ false → AllRead events → count_steps events ≤ 18432 → Inside s t k bytes (history events s) (count_steps events) (bytes_taken s events)
 from_start s t k d bytes events at has reads all most =
     let most' : 0 + count_steps events ≤ 18432 = omega (arith, most) in

@@ -13,7 +13,7 @@ use Rattle.wd1770.specs.Sectors.{is_on_disc, is_found, search_step}
 use Rattle.wd1770.specs.Registers.{read_leaves}
 use Rattle.wd1770.specs.Step.{next_angle, command_step, work_leaves, step}
 use Rattle.wd1770.specs.History.{Event, microsecond, read, write, latch, history, count_steps}
-use Rattle.law_chips.specs.Searches.{AllWait, sector_angle, has_match, SearchEnds}
+use Rattle.law_chips.specs.Searches.{AllWait, steps_to, sector_angle, has_match, SearchEnds}
 use Rattle.law_chips.proofs.Reading.{same_disc}
 
 -- what m steps of waiting leave of a state
@@ -24,6 +24,7 @@ record Same (s0 s : State) (m : ℕ) : Type 0 where
   pub drive0 : s.drive0 ≡ s0.drive0
   pub drive1 : s.drive1 ≡ s0.drive1
   pub drq : s0.drq ≡ false → s.drq ≡ false
+  pub lost : s.lost_data ≡ s0.lost_data
   pub angle : next_angle s.angle ≡ (next_angle s0.angle + m) % 200000
 
 -- and of the command, and of the last angle
@@ -31,18 +32,22 @@ record Going (s0 : State) (t : Transfer) (left : ℕ) (s : State) (m : ℕ) : Ty
   pub same : Same s0 s m
   pub command : s.command ≡ Searching t (left - m)
 
-record Found (s0 : State) (t : Transfer) (s : State) : Type 0 where
+pub record Found (s0 : State) (t : Transfer) (s : State) : Type 0 where
   pub drive0 : s.drive0 ≡ s0.drive0
   pub drive1 : s.drive1 ≡ s0.drive1
+  pub latch : s.latch ≡ s0.latch
+  pub track : s.track ≡ s0.track
   pub command : s.command ≡ Transferring t s0.sector
   pub angle : s.angle ≡ Some (sector_angle s0.sector)
   pub drq : s0.drq ≡ false → s.drq ≡ false
+  pub lost : s.lost_data ≡ s0.lost_data
+  pub sector : s.sector ≡ s0.sector
 
 record Lost (s : State) : Type 0 where
   pub command : s.command ≡ Idle
   pub none : s.record_not_found ≡ true
 
-small_angle : (a : Option ℕ) → next_angle a < 200000
+pub small_angle : (a : Option ℕ) → next_angle a < 200000
 small_angle None = omega arith
 small_angle (Some a) = omega arith
 
@@ -101,6 +106,7 @@ goes_on s0 s t left m going none more =
         drive0 = same.drive0;
         drive1 = same.drive1;
         drq = same.drq;
+        lost = same.lost;
         angle = later;
       };
       command = ap (Searching t) less;
@@ -118,9 +124,13 @@ finds s0 s t left m going has now =
     subst (λ y. Found s0 t (count_leaves (is_asking s) y)) (sym is) (record {
       drive0 = same.drive0;
       drive1 = same.drive1;
+      latch = same.latch;
+      track = same.track;
       command = ap (Transferring t) same.sector;
       angle = ap (λ (a : ℕ). Some a) (same.angle ∙ now);
       drq = same.drq;
+      lost = same.lost;
+      sector = same.sector;
     })
 
 loses : (s0 s : State) (t : Transfer) (left m : ℕ) → Going s0 t left s m → NoneAt s0 t m → m + 1 ≡ left → Lost (step s)
@@ -137,14 +147,14 @@ loses s0 s t left m going none end =
 
 -- ---- Reads of registers.
 
-read_makes : (a b : Bool) (s : State) →
+pub read_makes : (a b : Bool) (s : State) →
     (if a then record s { intrq = false } else if b then record s { drq = false } else s)
     ≡ record s { intrq = if a then false else s.intrq; drq = if a then s.drq else if b then false else s.drq }
 read_makes true b s = refl
 read_makes false true s = refl
 read_makes false false s = refl
 
-stays_off : (a b q : Bool) → q ≡ false → (if a then q else if b then false else q) ≡ false
+pub stays_off : (a b q : Bool) → q ≡ false → (if a then q else if b then false else q) ≡ false
 stays_off true b q off = off
 stays_off false true q off = refl
 stays_off false false q off = off
@@ -160,6 +170,7 @@ going_read s0 t left reg s m going =
         drive0 = same.drive0;
         drive1 = same.drive1;
         drq = λ off. stays_off (reg == 0) (reg == 3) s.drq (same.drq off);
+        lost = same.lost;
         angle = same.angle;
       };
       command = going.command;
@@ -170,9 +181,13 @@ found_read s0 t reg s found =
     subst (λ y. Found s0 t (count_leaves (is_asking s) y)) (sym (read_makes (reg == 0) (reg == 3) s)) (record {
       drive0 = found.drive0;
       drive1 = found.drive1;
+      latch = found.latch;
+      track = found.track;
       command = found.command;
       angle = found.angle;
       drq = λ off. stays_off (reg == 0) (reg == 3) s.drq (found.drq off);
+      lost = found.lost;
+      sector = found.sector;
     })
 
 lost_read : (reg : ℕ) (s : State) → Lost s → Lost (read_leaves reg s)
@@ -228,7 +243,7 @@ begins s t left is =
     let now : next_angle s.angle ≡ (next_angle s.angle + 0) % 200000 = omega (arith, small) in
     let all : left ≡ left - 0 = omega arith in
     record {
-      same = record { latch = refl; track = refl; sector = refl; drive0 = refl; drive1 = refl; drq = λ off. off; angle = now };
+      same = record { latch = refl; track = refl; sector = refl; drive0 = refl; drive1 = refl; drq = λ off. off; lost = refl; angle = now };
       command = is ∙ ap (Searching t) all;
     }
 
@@ -260,6 +275,15 @@ never s t none i = and_left (has_match t s) _ none
 turn : (s : State) → (sector_angle s.sector + 200000 - next_angle s.angle) % 200000 < 200000
 turn s = omega arith
 
+-- a search that finds its sector
+pub search_found : (s : State) (t : Transfer) (left : ℕ) (events : List Event) →
+    s.command ≡ Searching t left → 200000 ≤ left → has_match t s ≡ true → AllWait events →
+    count_steps events ≡ steps_to (sector_angle s.sector) s → Found s t (history events s)
+search_found s t left events is enough has all count =
+    let last = (sector_angle s.sector + 200000 - next_angle s.angle) % 200000 in
+    run_done (Found s t) (found_read s t) s t left last (λ x going. finds s x t left last going has (then_now s t has)) (omega (arith, turn s, enough)) (not_before s t has)
+    events s 0 all (omega (arith, count)) (omega arith) (begins s t left is)
+
 pub search_ends : SearchEnds
 search_ends = record {
   goes_on = λ s t left events is enough has all early.
@@ -268,11 +292,8 @@ search_ends = record {
       subst (λ n. (history events s).command ≡ Searching t (left - n)) none_first
       (run_going s t left last events s 0 all (omega (arith, early)) (omega (arith, turn s, enough)) (not_before s t has) (begins s t left is)).command;
   found = λ s t left events is enough has off all count.
-      let last = (sector_angle s.sector + 200000 - next_angle s.angle) % 200000 in
-      let found : Found s t (history events s) =
-      run_done (Found s t) (found_read s t) s t left last (λ x going. finds s x t left last going has (then_now s t has)) (omega (arith, turn s, enough)) (not_before s t has)
-      events s 0 all (omega (arith, count)) (omega arith) (begins s t left is) in
-      (record { command = found.command; angle = found.angle; drq = found.drq off }, same_disc t.target.drive (history events s) s found.drive0 found.drive1);
+      let found = search_found s t left events is enough has all count in
+      (record { command = found.command; angle = found.angle; drq = found.drq off }, same_disc t.target.drive (history events s) s found.drive0 found.drive1, found.lost, found.sector);
   waits = λ s t left events is none all early.
       let none_first : 0 + count_steps events ≡ count_steps events = omega arith in
       subst (λ n. (history events s).command ≡ Searching t (left - n)) none_first

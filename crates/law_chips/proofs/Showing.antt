@@ -91,7 +91,7 @@ clocks_behind : (n : ℕ) (c : crtc.State) → clocks n (clock_leaves c) ≡ clo
 clocks_behind zero c = refl
 clocks_behind (suc n) c = clocks_behind n (clock_leaves c)
 
-by_itself : (ram : ℕ → List ℕ) (size : ℕ → ℕ) (font : Font) (s : State) (n : ℕ) → (char_clocks ram size font n s).crtc ≡ clocks n s.crtc
+pub by_itself : (ram : ℕ → List ℕ) (size : ℕ → ℕ) (font : Font) (s : State) (n : ℕ) → (char_clocks ram size font n s).crtc ≡ clocks n s.crtc
 by_itself ram size font s zero = refl
 by_itself ram size font s (suc n) =
     one_crtc (ram n) (size n) font (char_clocks ram size font n s) ∙ ap clock_leaves (by_itself ram size font s n) ∙ sym (clocks_behind n s.crtc)

@@ -1,29 +1,23 @@
--- The dots of the frame that is drawn and of the one that is finished, while no register is written.
-use Rattle.std.proofs.Common.{◌≡◌, ◌∙◌, sym, ap, refl, ℕ, zero, suc, ◌+◌, ◌-◌, ◌*◌, ◌/◌, ◌%◌, ◌<◌, ◌≤◌, ◌⊎◌, Bool, true, false, min, map, List, length, arith, inl, inr}
+-- The dots of the finished frame in bit-mapped modes, while no register is written.
+use Rattle.std.proofs.Common.{◌≡◌, ◌∙◌, sym, ap, refl, ℕ, suc, ◌-◌, ◌<◌, ◌≤◌, Bool, true, false, map, List, length, arith}
 use Rattle.std.specs.Prelude.{slice_index, replicate, if◌then◌else◌}
 use Rattle.std.specs.List.{range_with_len}
-use Rattle.std.proofs.lemmas.Bool.{cases_lt, cases_eq}
 use Rattle.std.proofs.lemmas.List.{length-replicate, get_or-replicate}
 use Rattle.std.proofs.lemmas.List.FromFn.{length-map-range_with_len, get_or-map-range_with_len}
-use Rattle.std.proofs.lemmas.Nat.{div-add-mod', mod_below}
-use Rattle.std.proofs.Math.Nat.{zero-mod, mul-mod_left}
 use Rattle.beeb_bits.specs.Bits.{bit}
-use Rattle.beeb_bits.specs.Zeros.{zeros}
-use Rattle.crtc6845.specs.State as crtc
-use Rattle.crtc6845.specs.Laws.{tells, line_characters, frame_clocks}
+use Rattle.crtc6845.specs.Laws.{tells}
 use Rattle.crtc6845.specs.Pictures.{ShownAddressesCount}
 use Rattle.video_ula.specs.State as ula
 use Rattle.video_ula.specs.Pixels.{dots_of, under_cursor, dot_colour}
 use Rattle.saa5050.specs.Shapes.{Font}
-use Rattle.raster.specs.Frame.{is_in_frame, black, dots_set}
-use Rattle.raster.specs.Beam.{Cursor, place_at, byte_address, cursor_past, is_marked}
+use Rattle.raster.specs.Beam.{Cursor, byte_address, cursor_past, is_marked}
 use Rattle.raster.specs.State.{State}
 use Rattle.raster.specs.Clock.{byte_dots}
-use Rattle.law_chips.specs.ShownBytes.{char_clocks, sync_clock, character_address, raster_at, byte_at, shown_colour, cursor_before, is_marked_at}
+use Rattle.law_chips.specs.ShownBytes.{char_clocks, character_address, raster_at, byte_at, shown_colour, cursor_before, is_marked_at}
 use Rattle.law_chips.specs.ShownBytes.{colour_at, CharactersAreShown, MakesFrames, FramesShowTheirBytes}
-use Rattle.law_chips.proofs.BeamPlaces.{added, test_true, test_false, differs, Inside, inside, dot_index, IsApart, length_kept, others, drawn_dot}
-use Rattle.law_chips.proofs.Showing.{dots_at, frame_at, clock, same_ula}
-use Rattle.law_chips.proofs.BeamWalk.{Laws, place_in, eight_or_sixteen, sync_in_frame, frame_sync, column_walk, line_walk}
+use Rattle.law_chips.proofs.Showing.{dots_at, clock, same_ula}
+use Rattle.law_chips.proofs.BeamWalk.{Laws}
+use Rattle.law_chips.proofs.Drawn.{Shows, finished_dot}
 
 -- ---- The dots of a character.
 
@@ -45,7 +39,7 @@ dot_is u byte ra marked d within = by_test (bit ra 3) where
   by_test false = get_or-map-range_with_len (dot_colour u byte marked) 0 (dots_of u.control) d d 0 within (omega arith)
 
 -- on which characters the cursor was, by what was told at them
-cursor_was : (ram : ℕ → List ℕ) (size : ℕ → ℕ) (font : Font) (s : State) (n : ℕ) → 3 ≤ n →
+pub cursor_was : (ram : ℕ → List ℕ) (size : ℕ → ℕ) (font : Font) (s : State) (n : ℕ) → 3 ≤ n →
     (char_clocks ram size font n s).cursor ≡ cursor_before s.crtc n
 cursor_was ram size font s n three =
     let k = n - 3 in
@@ -82,237 +76,22 @@ colour_is count characters ram size font s n d makes three is within =
     ∙ ap (λ k. dot s.ula (character_address r n) k (cursor_before s.crtc n)) level
     ∙ dot_is s.ula (byte_at (ram n) (size n) r n) (raster_at r n) (is_marked_at s.ula.control s.crtc n) d within
 
--- ---- The frame has all of its dots.
-
-black_length : length black ≡ 163840
-unfolding zeros
-black_length = length-replicate {A = ℕ} 163840 0
-
-begun_length : (ends : Bool) (frame : List ℕ) → length frame ≡ 163840 → length (if ends then black else frame) ≡ 163840
-begun_length true frame is = black_length
-begun_length false frame is = is
-
-drawn_length : (is : Bool) (x y : ℕ) (dots frame : List ℕ) → length frame ≡ 163840 →
-    length (if is then dots_set 240 x y dots frame else frame) ≡ 163840
-drawn_length true x y dots frame long = length_kept 240 x y dots frame ∙ long
-drawn_length false x y dots frame long = long
-
-frame_length : Laws → (ram : ℕ → List ℕ) (size : ℕ → ℕ) (font : Font) (s : State) → MakesFrames s.crtc → bit s.ula.control 1 ≡ false → (t : ℕ) →
-    length (frame_at (tells (sync_clock s.crtc.registers + t) s.crtc) (char_clocks ram size font (sync_clock s.crtc.registers + t) s)) ≡ 163840
-frame_length laws ram size font s makes off zero =
-    let n = sync_clock s.crtc.registers in
-    let f = frame_clocks s.crtc.registers in
-    ap (λ q. length (if q then black else (char_clocks ram size font (n + 0) s).working))
-    (frame_sync laws s.crtc makes 0 ∙ test_true (0 % f) 0 (zero-mod f))
-    ∙ black_length
-frame_length laws ram size font s makes off (suc t) =
-    let n = sync_clock s.crtc.registers + t in
-    let e : sync_clock s.crtc.registers + suc t ≡ suc n = omega arith in
-    let b = tells n s.crtc in
-    let x = char_clocks ram size font n s in
-    let bits : bit x.ula.control 1 ≡ false = ap (λ (u : ula.State). bit u.control 1) (same_ula ram size font s n) ∙ off in
-    let long : length (char_clocks ram size font (suc n) s).working ≡ 163840 =
-    ap length ((clock ram size font s n).working bits)
-    ∙ drawn_length b.shown (place_at b x.place).x (place_at b x.place).y (dots_at (ram n) (size n) b x) (frame_at b x)
-    (frame_length laws ram size font s makes off t) in
-    begun_length (tells (sync_clock s.crtc.registers + suc t) s.crtc).frame_end _
-    (ap (λ k. length (char_clocks ram size font k s).working) e ∙ long)
-
--- ---- A dot of the frame that is drawn.
-
--- what is drawn elsewhere leaves the dot
-stays : (is : Bool) (p q x y : ℕ) (dots frame : List ℕ) → Inside 240 p q → IsApart p q x y (length dots) →
-    slice_index (if is then dots_set 240 x y dots frame else frame) (dot_index 240 p q) ≡ slice_index frame (dot_index 240 p q)
-stays true p q x y dots frame here apart = others 240 p q x y dots frame here apart
-stays false p q x y dots frame here apart = refl
-
--- another character of the same line, or one of another line, is elsewhere
-columns_apart : (a b dots d : ℕ) → (a ≡ b → ⊥) → d < dots → (dots ≡ 8) ⊎ (dots ≡ 16) → (a * dots + d < b * dots) ⊎ (b * dots + dots ≤ a * dots + d)
-columns_apart a b dots d other within (inl e) = elim (cases_lt a b) [
-  | inl before ↦ inl (rw e (omega (arith, before, within, e)))
-  | inr after ↦ inr (rw e (omega (arith, after, other, e)))
-]
-columns_apart a b dots d other within (inr e) = elim (cases_lt a b) [
-  | inl before ↦ inl (rw e (omega (arith, before, within, e)))
-  | inr after ↦ inr (rw e (omega (arith, after, other, e)))
-]
-
-same_line : (w u j : ℕ) → 0 < w → (u + j) / w ≡ u / w → j < w
-same_line w u j some same =
-    let e : u / w * w + u % w ≡ u = div-add-mod' u w in
-    let g : (u + j) / w * w + (u + j) % w ≡ u + j = div-add-mod' (u + j) w in
-    let k : (u + j) / w * w ≡ u / w * w = ap (λ i. i * w) same in
-    let lt : (u + j) % w < w = mod_below (u + j) w some in
-    omega (arith, e, g, k, lt)
-
-apart : (w a u j dots d many : ℕ) → 0 < w → 0 < j → d < dots → (dots ≡ 8) ⊎ (dots ≡ 16) → u / w < 296 → many ≡ dots →
-    IsApart (a % w * dots + d) (u / w) ((a + j) % w * dots) (min ((u + j) / w) 1023) many
-apart w a u j dots d many some more within widths bottom all = elim (cases_eq ((u + j) / w) (u / w)) [
-  | inl same ↦
-      inr (rw all (columns_apart (a % w) ((a + j) % w) dots d (differs w a j more (same_line w u j some same)) within widths))
-  | inr other ↦ inl (λ line. other (omega (arith, line, bottom)))
-]
-
-pub apart_at : (p q x y k l many : ℕ) → x ≡ k → y ≡ l → IsApart p q k l many → IsApart p q x y many
-apart_at p q x y k l many e g is = rw (e, g) is
-
--- clock n is so many clocks past the first vertical sync, and past the first horizontal one
-pub record IsClock (r : crtc.Registers) (n t a : ℕ) : Type 0 where
-  pub vertical : sync_clock r + t ≡ n
-  pub horizontal : r.horizontal_sync_position + a ≡ n
-
--- the dot is drawn
-drawn_now : Laws → (ram : ℕ → List ℕ) (size : ℕ → ℕ) (font : Font) (s : State) (n t a d : ℕ) → MakesFrames s.crtc → bit s.ula.control 1 ≡ false →
-    IsClock s.crtc.registers n t a → (tells n s.crtc).shown ≡ true → d < dots_of s.ula.control →
-    let p = a % line_characters s.crtc.registers * dots_of s.ula.control + d in
-    let q = t % frame_clocks s.crtc.registers / line_characters s.crtc.registers in
-    is_in_frame 240 p q ≡ true →
-    slice_index (char_clocks ram size font (suc n) s).working (dot_index 240 p q)
-    ≡ slice_index (dots_at (ram n) (size n) (tells n s.crtc) (char_clocks ram size font n s)) d
-drawn_now laws ram size font s n t a d makes off at is within here =
-    let w = line_characters s.crtc.registers in
-    let p = a % w * dots_of s.ula.control + d in
-    let q = t % frame_clocks s.crtc.registers / w in
-    let bottom : q < 296 = (inside 240 p q here).bottom in
-    let b = tells n s.crtc in
-    let x = char_clocks ram size font n s in
-    let place = place_in ram size font s n in
-    let dots = dots_at (ram n) (size n) b x in
-    let frame = frame_at b x in
-    let bits : bit x.ula.control 1 ≡ false = ap (λ (u : ula.State). bit u.control 1) (same_ula ram size font s n) ∙ off in
-    let column : place.x ≡ a % w * dots_of s.ula.control =
-    ap (λ k. (place_in ram size font s k).x) (sym at.horizontal) ∙ column_walk laws ram size font s makes a in
-    let level : place.y ≡ q =
-    ap (λ k. (place_in ram size font s k).y) (sym at.vertical) ∙ line_walk laws ram size font s makes t ∙ omega (arith, bottom) in
-    let long : length frame ≡ 163840 =
-    ap (λ k. length (frame_at (tells k s.crtc) (char_clocks ram size font k s))) (sym at.vertical) ∙ frame_length laws ram size font s makes off t in
-    let many : length dots ≡ dots_of s.ula.control =
-    dot_count x.ula (slice_index (ram n) (byte_address b.ma b.ra (size n))) b.ra (is_marked x.ula.control b.cursor x.cursor)
-    ∙ ap (λ (u : ula.State). dots_of u.control) (same_ula ram size font s n) in
-    ap (λ xs. slice_index xs (dot_index 240 p q)) ((clock ram size font s n).working bits)
-    ∙ ap (λ k. slice_index (if k then dots_set 240 place.x place.y dots frame else frame) (dot_index 240 p q)) is
-    ∙ ap (λ k. slice_index (dots_set 240 k place.y dots frame) (dot_index 240 p q)) column
-    ∙ ap (λ k. slice_index (dots_set 240 (a % w * dots_of s.ula.control) k dots frame) (dot_index 240 p q)) level
-    ∙ drawn_dot 240 (a % w * dots_of s.ula.control) q d dots frame (omega (arith, many, within)) here long
-
--- no sync is within a frame
-pub no_sync : Laws → (s : State) (t j : ℕ) → MakesFrames s.crtc → t % frame_clocks s.crtc.registers + suc j < frame_clocks s.crtc.registers →
-    ((tells (sync_clock s.crtc.registers + (t + suc j)) s.crtc).frame_end ≡ false)
-    × ((t + suc j) % frame_clocks s.crtc.registers ≡ t % frame_clocks s.crtc.registers + suc j)
-no_sync laws s t j makes below =
-    let f = frame_clocks s.crtc.registers in
-    let more : (t + suc j) % f ≡ t % f + suc j = elim (added f t (suc j) (omega (arith, below)) (omega (arith, below))) [
-      | inl is ↦ is
-      | inr is ↦ absurd (omega (arith, is, below))
-    ] in
-    (frame_sync laws s.crtc makes (t + suc j) ∙ test_false ((t + suc j) % f) 0 (λ none. omega (arith, none, more)), more)
-
--- and it stays to the end of the frame
-drawn_later : Laws → (ram : ℕ → List ℕ) (size : ℕ → ℕ) (font : Font) (s : State) (n t a d colour : ℕ) → MakesFrames s.crtc →
-    bit s.ula.control 1 ≡ false → IsClock s.crtc.registers n t a → d < dots_of s.ula.control →
-    let p = a % line_characters s.crtc.registers * dots_of s.ula.control + d in
-    let q = t % frame_clocks s.crtc.registers / line_characters s.crtc.registers in
-    is_in_frame 240 p q ≡ true →
-    slice_index (char_clocks ram size font (suc n) s).working (dot_index 240 p q) ≡ colour →
-    (j : ℕ) → t % frame_clocks s.crtc.registers + suc j ≤ frame_clocks s.crtc.registers →
-    slice_index (char_clocks ram size font (n + suc j) s).working (dot_index 240 p q) ≡ colour
-drawn_later laws ram size font s n t a d colour makes off at within here first zero below =
-    let w = line_characters s.crtc.registers in
-    let p = a % w * dots_of s.ula.control + d in
-    let q = t % frame_clocks s.crtc.registers / w in
-    let e : n + suc 0 ≡ suc n = omega arith in
-    ap (λ k. slice_index (char_clocks ram size font k s).working (dot_index 240 p q)) e ∙ first
-drawn_later laws ram size font s n t a d colour makes off at within here first (suc j) below =
-    let w = line_characters s.crtc.registers in
-    let f = frame_clocks s.crtc.registers in
-    let u = t % f in
-    let dots = dots_of s.ula.control in
-    let p = a % w * dots + d in
-    let q = u / w in
-    let i : Inside 240 p q = inside 240 p q here in
-    let bottom : q < 296 = i.bottom in
-    let m = n + suc j in
-    let e : n + suc (suc j) ≡ suc m = omega arith in
-    let b = tells m s.crtc in
-    let x = char_clocks ram size font m s in
-    let place = place_in ram size font s m in
-    let vertical : sync_clock s.crtc.registers + (t + suc j) ≡ m = let v = at.vertical in omega (arith, v) in
-    let horizontal : s.crtc.registers.horizontal_sync_position + (a + suc j) ≡ m = let h = at.horizontal in omega (arith, h) in
-    let bits : bit x.ula.control 1 ≡ false = ap (λ (u : ula.State). bit u.control 1) (same_ula ram size font s m) ∙ off in
-    let inner = no_sync laws s t j makes (omega (arith, below)) in
-    let runs : b.frame_end ≡ false = ap (λ k. (tells k s.crtc).frame_end) (sym vertical) ∙ inner.0 in
-    let column : place.x ≡ (a + suc j) % w * dots =
-    ap (λ k. (place_in ram size font s k).x) (sym horizontal) ∙ column_walk laws ram size font s makes (a + suc j) in
-    let level : place.y ≡ min ((u + suc j) / w) 1023 =
-    ap (λ k. (place_in ram size font s k).y) (sym vertical) ∙ line_walk laws ram size font s makes (t + suc j)
-    ∙ ap (λ k. min (k / w) 1023) inner.1 in
-    let many : length (dots_at (ram m) (size m) b x) ≡ dots =
-    dot_count x.ula (slice_index (ram m) (byte_address b.ma b.ra (size m))) b.ra (is_marked x.ula.control b.cursor x.cursor)
-    ∙ ap (λ (u : ula.State). dots_of u.control) (same_ula ram size font s m) in
-    let elsewhere : IsApart p q place.x place.y (length (dots_at (ram m) (size m) b x)) =
-    apart_at p q place.x place.y ((a + suc j) % w * dots) (min ((u + suc j) / w) 1023) (length (dots_at (ram m) (size m) b x)) column level
-    (apart w a u (suc j) dots d (length (dots_at (ram m) (size m) b x)) (omega arith) (omega arith) within (eight_or_sixteen s.ula.control) bottom many) in
-    ap (λ k. slice_index (char_clocks ram size font k s).working (dot_index 240 p q)) e
-    ∙ ap (λ xs. slice_index xs (dot_index 240 p q)) ((clock ram size font s m).working bits)
-    ∙ stays b.shown p q place.x place.y (dots_at (ram m) (size m) b x) (frame_at b x) i elsewhere
-    ∙ ap (λ k. slice_index (if k then black else x.working) (dot_index 240 p q)) runs
-    ∙ drawn_later laws ram size font s n t a d colour makes off at within here first j (omega (arith, below))
-
--- ---- The finished frame.
-
--- a frame that is finished at a clock stays until the next one is
-pub finished_stays : Laws → (ram : ℕ → List ℕ) (size : ℕ → ℕ) (font : Font) (s : State) (t : ℕ) → MakesFrames s.crtc →
-    t % frame_clocks s.crtc.registers ≡ 0 → (i : ℕ) → i < frame_clocks s.crtc.registers →
-    (char_clocks ram size font (sync_clock s.crtc.registers + t + suc i) s).finished
-    ≡ (char_clocks ram size font (sync_clock s.crtc.registers + t) s).working
-finished_stays laws ram size font s t makes whole zero below =
-    let n = sync_clock s.crtc.registers + t in
-    let e : n + suc 0 ≡ suc n = omega arith in
-    let x = char_clocks ram size font n s in
-    ap (λ k. (char_clocks ram size font k s).finished) e ∙ (clock ram size font s n).finished
-    ∙ ap (λ k. if k then x.working else x.finished) (frame_sync laws s.crtc makes t ∙ test_true (t % frame_clocks s.crtc.registers) 0 whole)
-finished_stays laws ram size font s t makes whole (suc i) below =
-    let n = sync_clock s.crtc.registers + t in
-    let m = n + suc i in
-    let e : n + suc (suc i) ≡ suc m = omega arith in
-    let g : sync_clock s.crtc.registers + (t + suc i) ≡ m = omega arith in
-    let x = char_clocks ram size font m s in
-    let runs : (tells m s.crtc).frame_end ≡ false =
-    ap (λ k. (tells k s.crtc).frame_end) (sym g) ∙ (no_sync laws s t i makes (omega (arith, whole, below))).0 in
-    ap (λ k. (char_clocks ram size font k s).finished) e ∙ (clock ram size font s m).finished
-    ∙ ap (λ k. if k then x.working else x.finished) runs
-    ∙ finished_stays laws ram size font s t makes whole i (omega (arith, below))
+-- what each character draws
+pub bytes_shown : (ram : ℕ → List ℕ) (size : ℕ → ℕ) (font : Font) (s : State) → bit s.ula.control 1 ≡ false →
+    Shows 240 ram size font s (λ n. dots_at (ram n) (size n) (tells n s.crtc) (char_clocks ram size font n s))
+bytes_shown ram size font s off = record {
+  many = λ n.
+      let b = tells n s.crtc in
+      let x = char_clocks ram size font n s in
+      dot_count x.ula (slice_index (ram n) (byte_address b.ma b.ra (size n))) b.ra (is_marked x.ula.control b.cursor x.cursor)
+      ∙ ap (λ (u : ula.State). dots_of u.control) (same_ula ram size font s n);
+  working = λ n.
+      (clock ram size font s n).working (ap (λ (u : ula.State). bit u.control 1) (same_ula ram size font s n) ∙ off);
+}
 
 pub frames_show_their_bytes : Laws → ShownAddressesCount → CharactersAreShown → FramesShowTheirBytes
 frames_show_their_bytes laws count characters ram size font s n d m makes off runs met within here after before =
-    let r = s.crtc.registers in
     let is : (tells n s.crtc).shown ≡ true = characters.which s.crtc n makes.bits makes.begins ∙ met in
-    let w = line_characters r in
-    let f = frame_clocks r in
-    let first = sync_clock r in
-    let t = n - first in
-    let a = n - r.horizontal_sync_position in
-    let u = t % f in
-    let p = a % w * dots_of s.ula.control + d in
-    let q = u / w in
-    let early : first < f = sync_in_frame s.crtc makes in
-    let some : 0 < f = omega (arith, early) in
-    let v : first ≤ n = runs.vertical in
-    let h : r.horizontal_sync_position ≤ n = runs.horizontal in
-    let at : IsClock r n t a = record { vertical = omega (arith, v); horizontal = omega (arith, h) } in
-    let below : u < f = mod_below t f some in
-    let turns = (t / f + 1) * f in
-    let split : t / f * f + u ≡ t = div-add-mod' t f in
-    let one_turn : turns ≡ t / f * f + f = grind arith in
-    let whole : turns % f ≡ 0 = mul-mod_left (t / f + 1) f in
-    let j = f - u - 1 in
-    let i = m - (first + turns) - 1 in
-    let last : n + suc j ≡ first + turns = omega (arith, split, one_turn, below, v) in
-    let now : first + turns + suc i ≡ m = omega (arith, after) in
-    ap (λ k. slice_index (char_clocks ram size font k s).finished (dot_index 240 p q)) (sym now)
-    ∙ ap (λ xs. slice_index xs (dot_index 240 p q))
-    (finished_stays laws ram size font s turns makes whole i (omega (arith, before, after)))
-    ∙ ap (λ k. slice_index (char_clocks ram size font k s).working (dot_index 240 p q)) (sym last)
-    ∙ drawn_later laws ram size font s n t a d _ makes off at within here
-    (drawn_now laws ram size font s n t a d makes off at is within here) j (omega (arith, below))
+    finished_dot laws 240 ram size font s (λ n. dots_at (ram n) (size n) (tells n s.crtc) (char_clocks ram size font n s)) n d m makes
+    (bytes_shown ram size font s off) runs is within here after before
     ∙ colour_is count characters ram size font s n d makes runs.three is within

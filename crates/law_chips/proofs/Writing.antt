@@ -27,21 +27,21 @@ use Rattle.law_chips.proofs.Reading.{same_disc, no_place, a_place, worked_is}
 use Rattle.law_chips.proofs.Losing.{kept_before}
 
 -- how many bytes have been written m steps after the sector was found, and for how many DRQ was set
-gone : ℕ → ℕ
+pub gone : ℕ → ℕ
 gone m = min 256 (m / 64 - 29)
 
-asked : ℕ → ℕ
+pub asked : ℕ → ℕ
 asked m = min 256 (min 1 (m / 64 - 11) + min 256 (m / 64 - 29))
 
-owed : Bool → ℕ
+pub owed : Bool → ℕ
 owed drq = if drq then 1 else 0
 
 -- where a byte of the sector is
-at_byte : Image → Transfer → ℕ → ℕ → ℕ
+unfoldable pub at_byte : Image → Transfer → ℕ → ℕ → ℕ
 at_byte d t k i = place d.kind t.target.side t.target.head k i
 
 -- m steps after sector k of disc d was found, where these bytes have been given
-record Inside (d : Image) (t : Transfer) (k : ℕ) (s : State) (m : ℕ) (bytes : List ℕ) : Type 0 where
+pub record Inside (d : Image) (t : Transfer) (k : ℕ) (s : State) (m : ℕ) (bytes : List ℕ) : Type 0 where
   pub going : m < 18432 → s.command ≡ Transferring t k
   pub over : 18432 ≤ m → s.command ≡ command_behind t
   pub angle : s.angle ≡ Some (64 * (312 * k) + m)
@@ -141,13 +141,13 @@ ends_so d t k s m bytes now is =
     (λ off more. is.pending (sym end.drq ∙ off) (subst (λ n. gone m < n) same more))
 
 -- what a byte that is written leaves of the state
-record Put (target : Target) (number : Option DriveNumber) (k i v : ℕ) (s x : State) : Type 0 where
+pub record Put (target : Target) (number : Option DriveNumber) (k i v : ℕ) (s x : State) : Type 0 where
   pub command : x.command ≡ s.command
   pub angle : x.angle ≡ s.angle
   pub byte : x.byte ≡ s.byte
   pub disc : (now : Image) → disc_in number s ≡ Some now → disc_in number x ≡ Some (byte_put target.side target.head k i v now)
 
-put : (target : Target) (number : Option DriveNumber) (k i v : ℕ) (s : State) → Put target number k i v s (written_in number target k i v s)
+pub put : (target : Target) (number : Option DriveNumber) (k i v : ℕ) (s : State) → Put target number k i v s (written_in number target k i v s)
 put target None k i v s = record { command = refl; angle = refl; byte = refl; disc = λ now (h : None ≡ Some now). cc }
 put target (Some Drive0) k i v s =
     record { command = refl; angle = refl; byte = refl; disc = λ now h. ap (option_map (byte_put target.side target.head k i v)) h }
@@ -234,10 +234,10 @@ byte_goes back others d t k s m i bytes has inside low now off is =
 byte_place : (place : ℕ) → 30 ≤ place → place < 286 → is_byte_place 30 place ≡ true
 byte_place place low high = rw (le-leb 30 place low, lt-ltb place 286 high) refl
 
-before_bytes : (place : ℕ) → place < 30 → is_byte_place 30 place ≡ false
+pub before_bytes : (place : ℕ) → place < 30 → is_byte_place 30 place ≡ false
 before_bytes place early = rw (lt-leb 30 place early) refl
 
-behind_bytes : (place : ℕ) → 286 ≤ place → is_byte_place 30 place ≡ false
+pub behind_bytes : (place : ℕ) → 286 ≤ place → is_byte_place 30 place ≡ false
 behind_bytes place late = and_right (nat_le 30 place) (nat_lt place 286) (le-ltb place 286 late)
 
 no_loss : (place : ℕ) (drq : Bool) → (place ≡ 22 → drq ≡ false) → ((place == 22) && drq) ≡ false
@@ -256,17 +256,17 @@ bytes_at t k place s = if is_byte_place 30 place then byte_written t.target k (p
 writing_behind : Transfer → ℕ → ℕ → State → State
 writing_behind t k place s = if (place == 22) && s.drq then finish_leaves (record s { lost_data = true }) else bytes_at t k place s
 
-w_first : (t : Transfer) (k place : ℕ) (s : State) → place ≡ 12 → writing_at t k (Some place) s ≡ record s { drq = true }
+pub w_first : (t : Transfer) (k place : ℕ) (s : State) → place ≡ 12 → writing_at t k (Some place) s ≡ record s { drq = true }
 w_first t k place s is = rw (eq-eqb place 12 is) refl
 
-w_late : (t : Transfer) (k place : ℕ) (s : State) → place ≡ 22 → s.drq ≡ true → writing_at t k (Some place) s ≡ finish_leaves (record s { lost_data = true })
+pub w_late : (t : Transfer) (k place : ℕ) (s : State) → place ≡ 22 → s.drq ≡ true → writing_at t k (Some place) s ≡ finish_leaves (record s { lost_data = true })
 unfolding writing_behind bytes_at end_at
 w_late t k place s is on =
     let other : place ≡ 12 → ⊥ = λ e. omega (arith, e, is) in
     ap (λ b. if b then record s { drq = true } else writing_behind t k place s) (ne_eqb place 12 other)
     ∙ ap (λ b. if b then finish_leaves (record s { lost_data = true }) else bytes_at t k place s) (and_from (place == 22) s.drq (eq-eqb place 22 is) on)
 
-w_byte : (t : Transfer) (k place : ℕ) (s : State) → 30 ≤ place → place < 286 → writing_at t k (Some place) s ≡ byte_written t.target k (place - 30) s
+pub w_byte : (t : Transfer) (k place : ℕ) (s : State) → 30 ≤ place → place < 286 → writing_at t k (Some place) s ≡ byte_written t.target k (place - 30) s
 unfolding writing_behind bytes_at end_at
 w_byte t k place s low high =
     let other : place ≡ 12 → ⊥ = λ e. omega (arith, e, low) in
@@ -275,7 +275,7 @@ w_byte t k place s low high =
     ∙ ap (λ b. if b then finish_leaves (record s { lost_data = true }) else bytes_at t k place s) (no_loss place s.drq off)
     ∙ ap (λ b. if b then byte_written t.target k (place - 30) s else end_at t place s) (byte_place place low high)
 
-w_end : (t : Transfer) (k place : ℕ) (s : State) → place ≡ 288 → writing_at t k (Some place) s ≡ sector_ended t s
+pub w_end : (t : Transfer) (k place : ℕ) (s : State) → place ≡ 288 → writing_at t k (Some place) s ≡ sector_ended t s
 unfolding writing_behind bytes_at end_at
 w_end t k place s is =
     let other : place ≡ 12 → ⊥ = λ e. omega (arith, e, is) in
@@ -285,7 +285,7 @@ w_end t k place s is =
     ∙ ap (λ b. if b then byte_written t.target k (place - 30) s else end_at t place s) (behind_bytes place (omega (arith, is)))
     ∙ ap (λ b. if b then sector_ended t s else s) (eq-eqb place 288 is)
 
-w_none : (t : Transfer) (k place : ℕ) (s : State) → (place ≡ 12 → ⊥) → (place ≡ 22 → s.drq ≡ false) → is_byte_place 30 place ≡ false → (place ≡ 288 → ⊥) →
+pub w_none : (t : Transfer) (k place : ℕ) (s : State) → (place ≡ 12 → ⊥) → (place ≡ 22 → s.drq ≡ false) → is_byte_place 30 place ≡ false → (place ≡ 288 → ⊥) →
     writing_at t k (Some place) s ≡ s
 unfolding writing_behind bytes_at end_at
 w_none t k place s other off none early =
@@ -330,10 +330,10 @@ at_place back others d t k s m bytes has inside is_place is kept =
           ]
     ]
 
-writes_is : (t : Transfer) (k angle : ℕ) (s : State) → t.writes ≡ true → transfer_step t k angle s ≡ writing_at t k (places_into k angle) s
+pub writes_is : (t : Transfer) (k angle : ℕ) (s : State) → t.writes ≡ true → transfer_step t k angle s ≡ writing_at t k (places_into k angle) s
 writes_is t k angle s writes = ap (λ b. if b then writing_at t k (places_into k angle) s else reading_at t k (places_into k angle) s) writes
 
-stepped : (back : IsReadBack) (others : OthersStay) (d : Image) (t : Transfer) (k : ℕ) (s : State) (m : ℕ) (bytes : List ℕ) → k < 10 →
+pub stepped : (back : IsReadBack) (others : OthersStay) (d : Image) (t : Transfer) (k : ℕ) (s : State) (m : ℕ) (bytes : List ℕ) → k < 10 →
     has_sector d.kind t.target.side t.target.head k ≡ true → t.writes ≡ true → m < 18432 → Inside d t k s m bytes → (step s).lost_data ≡ false →
     Inside d t k (step s) (m + 1) bytes
 unfolding moved_on gone asked
@@ -392,7 +392,7 @@ byte_given d t k s v m bytes on is =
       others = is.others;
     }
 
-status_read : (d : Image) (t : Transfer) (k : ℕ) (s : State) (reg m : ℕ) (bytes : List ℕ) → reg ≤ 2 → Inside d t k s m bytes →
+pub status_read : (d : Image) (t : Transfer) (k : ℕ) (s : State) (reg m : ℕ) (bytes : List ℕ) → reg ≤ 2 → Inside d t k s m bytes →
     Inside d t k (read_leaves reg s) m (bytes ++ [])
 status_read d t k s reg m bytes low is = elim (cases_eq reg 0) [
   | inl zero ↦
@@ -407,7 +407,7 @@ status_read d t k s reg m bytes low is = elim (cases_eq reg 0) [
       ]
 ]
 
-register_given : (d : Image) (t : Transfer) (k : ℕ) (s : State) (reg v m : ℕ) (bytes : List ℕ) → Writes s (write reg v) → Inside d t k s m bytes →
+pub register_given : (d : Image) (t : Transfer) (k : ℕ) (s : State) (reg v m : ℕ) (bytes : List ℕ) → Writes s (write reg v) → Inside d t k s m bytes →
     Inside d t k (write_leaves reg v s) m (bytes ++ given_by (write reg v))
 register_given d t k s reg v m bytes may is = elim (cases_eq reg 3) [
   | inl three ↦
@@ -445,10 +445,10 @@ register_behind : ℕ → ℕ → State → State
 register_behind reg v s = if reg == 1 then record s { track = v } else if reg == 2 then record s { sector = v } else record s { byte = v; drq = false }
 
 -- no access loses anything
-read_loses : (reg : ℕ) (s : State) → (read_leaves reg s).lost_data ≡ s.lost_data
+pub read_loses : (reg : ℕ) (s : State) → (read_leaves reg s).lost_data ≡ s.lost_data
 read_loses reg s = by_tests (reg == 0) (reg == 3) s
 
-write_loses : (reg v : ℕ) (s : State) → 1 ≤ reg → (write_leaves reg v s).lost_data ≡ s.lost_data
+pub write_loses : (reg v : ℕ) (s : State) → 1 ≤ reg → (write_leaves reg v s).lost_data ≡ s.lost_data
 unfolding register_behind
 write_loses reg v s some =
     let other : reg ≡ 0 → ⊥ = λ e. omega (arith, e, some) in
@@ -488,7 +488,7 @@ run back others d t k few has writes (latch v ∷ es) s m bytes all most is =
     (run back others d t k few has writes es (latch_leaves v s) m (bytes ++ []) all.1 most
     (λ k'. latched d t k s v m bytes all.0 (is (sym (latch_loses v s all.0) ∙ k'))) kept)
 
-begins : (d : Image) (t : Transfer) (k : ℕ) (s : State) → IsAtSector s t k → disc_in t.target.drive s ≡ Some d → Inside d t k s 0 []
+pub begins : (d : Image) (t : Transfer) (k : ℕ) (s : State) → IsAtSector s t k → disc_in t.target.drive s ≡ Some d → Inside d t k s 0 []
 unfolding gone asked owed
 begins d t k s at here = record {
   going = λ h. at.command;
@@ -515,7 +515,7 @@ from_start back others s t k d events at here has writes all count kept =
     (run back others d t k few has writes events s 0 [] all (omega (arith, count)) (λ h. begins d t k s at here) kept)
 
 -- the sector as it is then
-whole : (d : Image) (t : Transfer) (k : ℕ) (s : State) (bytes : List ℕ) → has_sector d.kind t.target.side t.target.head k ≡ true →
+pub whole : (d : Image) (t : Transfer) (k : ℕ) (s : State) (bytes : List ℕ) → has_sector d.kind t.target.side t.target.head k ≡ true →
     Inside d t k s 18432 bytes → IsStored d t k bytes s
 unfolding gone asked owed at_byte
 whole d t k s bytes has is =
@@ -534,6 +534,15 @@ whole d t k s bytes has is =
       sector = ap (λ b. if b then Some (sector_bytes is.now side head k) else None) has_it ∙ ap (λ (xs : List ℕ). Some xs) (sym is_bytes);
       others = is.others;
     }
+
+-- DRQ is off at the end
+pub off_at_end : (d : Image) (t : Transfer) (k : ℕ) (s : State) (bytes : List ℕ) → Inside d t k s 18432 bytes → s.drq ≡ false
+unfolding gone asked owed
+off_at_end d t k s bytes is =
+    false_from_ne_true s.drq (λ on.
+    let all : length bytes + 1 ≡ asked 18432 = ap (λ b. length bytes + owed b) (sym on) ∙ is.count in
+    let enough = is.enough in
+    omega (arith, all, enough))
 
 pub sector_written : (back : IsReadBack) (others : OthersStay) → SectorIsWritten
 sector_written back others = record {

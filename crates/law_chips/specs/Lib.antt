@@ -12,3 +12,13 @@ pub mod Colours
 pub mod CrtcBits
 pub mod ShownBytes
 pub mod ViaBytes
+pub mod LostData
+pub mod InTime
+pub mod Motions
+pub mod Interrupts
+pub mod AddressReads
+pub mod SeveralSectors
+pub mod ViaFlags
+pub mod ViaPorts
+pub mod TeletextCells
+pub mod TeletextFrames

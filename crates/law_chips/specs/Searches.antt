@@ -32,8 +32,8 @@ sector_angle k = 64 * (312 * k)
 abbrev pub has_match : Transfer → State → Bool
 has_match t s = is_single_density s.latch && ((t.target.head == s.track) && is_on_disc (disc_in t.target.drive s) t.target s.sector)
 
--- A search that has a turn left ends within that turn, at the step at which its sector begins, and at none before, and the disc stays as it is. One that has no sector
--- ends when its time is over, with record not found and INTRQ until the status is read.
+-- A search that has a turn left ends within that turn, at the step at which its sector begins, and at none before; the disc, lost data and the
+-- sector register stay as they are. One that has no sector ends when its time is over, with record not found and INTRQ until the status is read.
 pub record SearchEnds : Type 0 where
   pub goes_on : (s : State) (t : Transfer) (left : ℕ) (events : List Event) →
       s.command ≡ Searching t left → 200000 ≤ left → has_match t s ≡ true → AllWait events →
@@ -43,6 +43,7 @@ pub record SearchEnds : Type 0 where
       s.command ≡ Searching t left → 200000 ≤ left → has_match t s ≡ true → s.drq ≡ false → AllWait events →
       count_steps events ≡ steps_to (sector_angle s.sector) s →
       IsAtSector (history events s) t s.sector × (disc_in t.target.drive (history events s) ≡ disc_in t.target.drive s)
+      × ((history events s).lost_data ≡ s.lost_data) × ((history events s).sector ≡ s.sector)
   pub waits : (s : State) (t : Transfer) (left : ℕ) (events : List Event) →
       s.command ≡ Searching t left → has_match t s ≡ false → AllWait events → count_steps events < left →
       (history events s).command ≡ Searching t (left - count_steps events)

@@ -3,6 +3,8 @@ ghost use Rattle.law_chips.specs.CrtcBits.{RegistersHaveTheirBits, RastersHaveTh
 ghost use Rattle.law_chips.specs.Colours.{DotsAreColours};
 ghost use Rattle.law_chips.specs.ShownBytes.{CharactersAreShown, FramesShowTheirBytes, RestIsBlack};
 ghost use Rattle.law_chips.specs.ShownBytes.{MicrosecondsAreClocks};
+ghost use Rattle.law_chips.specs.TeletextCells.{CellsShowTheirCodes};
+ghost use Rattle.law_chips.specs.TeletextFrames.{FramesShowTheirCells, RestOfPageIsBlack, LowerRowsFollow};
 
 /// Whatever bytes are written to a 6845 from power-on on, its registers have their bits: what the laws over whole
 /// frames ask. So it is with the 6845 of a raster.
@@ -38,6 +40,38 @@ pub fn frames_show_their_bytes()
     crtc6845::lines_have_their_characters();
     crtc6845::sync_comes_in_each_line();
     crtc6845::vertical_sync_comes_in_each_frame();
+    crtc6845::shown_addresses_count();
+    characters_are_shown();
+}
+
+/// On each line of a teletext row a cell shows what the codes before it in the row, and its own, say.
+pub fn cells_show_their_codes()
+    ensures { CellsShowTheirCodes }
+{
+    saa5050::row_is_fold();
+}
+
+/// In teletext mode, while no register is written, each dot of a character that is shown has in the finished frame the colour
+/// that its cell has by the codes before it in its line, and each other dot is black.
+pub fn frames_show_their_cells()
+    ensures cells { FramesShowTheirCells }
+    ensures rest { RestOfPageIsBlack }
+{
+    crtc6845::lines_have_their_characters();
+    crtc6845::sync_comes_in_each_line();
+    crtc6845::vertical_sync_comes_in_each_frame();
+    crtc6845::shown_addresses_count();
+    saa5050::row_is_fold();
+    cells_show_their_codes();
+    characters_are_shown();
+}
+
+/// A row is a lower one of double height where the row above it is none and has the code for it on any of its lines.
+pub fn lower_rows_follow()
+    ensures { LowerRowsFollow }
+{
+    crtc6845::lines_have_their_characters();
+    crtc6845::frames_have_their_clocks();
     crtc6845::shown_addresses_count();
     characters_are_shown();
 }

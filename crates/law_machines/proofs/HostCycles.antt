@@ -30,7 +30,7 @@ begun : (clock : Clock) (t k : ℕ) → t % host clock ≡ 0 → (t + host clock
 begun Three t k h = omega (arith, h)
 begun Four t k h = omega (arith, h)
 
-ended : (clock : Clock) (t k : ℕ) → 0 < k → t % host clock ≡ 0 → (t + (host clock * k - 1)) % host clock ≡ host clock - 1
+pub ended : (clock : Clock) (t k : ℕ) → 0 < k → t % host clock ≡ 0 → (t + (host clock * k - 1)) % host clock ≡ host clock - 1
 ended Three t k some h = omega (arith, some, h)
 ended Four t k some h = omega (arith, some, h)
 
@@ -38,11 +38,11 @@ not_last : (clock : Clock) (t : ℕ) → t % host clock ≡ 0 → is_last_tick (
 not_last Three t h = ap (λ (m : ℕ). m == 2) h
 not_last Four t h = ap (λ (m : ℕ). m == 5) h
 
-last : (clock : Clock) (t : ℕ) → t % host clock ≡ host clock - 1 → is_last_tick (host clock) t ≡ true
+pub last : (clock : Clock) (t : ℕ) → t % host clock ≡ host clock - 1 → is_last_tick (host clock) t ≡ true
 last Three t h = ap (λ (m : ℕ). m == 2) h
 last Four t h = ap (λ (m : ℕ). m == 5) h
 
-some_cycles : (slow even : Bool) → 0 < (if slow then (if even then 2 else 3) else 1)
+pub some_cycles : (slow even : Bool) → 0 < (if slow then (if even then 2 else 3) else 1)
 some_cycles true true = omega arith
 some_cycles true false = omega arith
 some_cycles false even = omega arith

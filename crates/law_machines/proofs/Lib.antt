@@ -3,3 +3,8 @@ pub mod HostTaking
 pub mod ParaTaking
 pub mod Finishing
 pub mod HostCycles
+pub mod Beginning
+pub mod RomIn
+pub mod Interrupting
+pub mod Shooting
+pub mod Breaking

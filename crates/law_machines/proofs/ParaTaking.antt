@@ -7,12 +7,10 @@ use Rattle.beeb_bits.specs.declared.clock.Clock.TheVariants.{Three, Four}
 use Rattle.beeb_bits.specs.Clock.{para, some-para}
 use Rattle.op_table.specs.declared.names.Part.TheVariants.{Cmos}
 use Rattle.cpu_alu.specs.declared.Cycle.{Cycle}
-use Rattle.cpu_core.specs.declared.Sequence.TheVariants.{Reset, Nmi}
 use Rattle.cpu_core.specs.Sequences.{TakesAtLeast}
 use Rattle.cpu65c02.specs.State as cpu
-use Rattle.cpu65c02.specs.Sequences.{next_cycle, after_byte, after, sequence_at_look, fresh}
+use Rattle.cpu65c02.specs.Sequences.{next_cycle, after_byte}
 use Rattle.tube_chip.specs.declared.Answer.{Answer}
-use Rattle.tube_chip.specs.declared.Lines.{Lines}
 use Rattle.para_mach.specs.State.{ParaState}
 use Rattle.tube_machine.specs.Step.{byte_of, lines_in, after_step, closed_to}
 use Rattle.para_mach.specs.Step.{para_wiring, next_state}

@@ -2,3 +2,8 @@ pub mod Cycles
 pub mod HostTicks
 pub mod ParaTicks
 pub mod Frames
+pub mod Begins
+pub mod BootRom
+pub mod Interrupts
+pub mod Shots
+pub mod Breaks

@@ -1,5 +1,6 @@
-//! Frames and the cursor.
+//! Frames, shots and the cursor.
 ghost use Rattle.law_machines.specs.Frames.{FramesFinish, CursorStands};
+ghost use Rattle.law_machines.specs.Shots.{ShotsAreFinished};
 
 /// The finished frame changes only where a frame ends, which is once in each frame of the 6845.
 pub fn frames_finish()
@@ -7,6 +8,13 @@ pub fn frames_finish()
 {
     crtc6845::vertical_sync_comes_in_each_frame();
     crtc6845::no_sync_beyond_the_rows();
+}
+
+/// Over whole runs of the host a shot takes the last frame that was finished before its tick, or a black one.
+pub fn shots_are_finished()
+    ensures { ShotsAreFinished }
+{
+    frames_finish();
 }
 
 /// The cursor stands at its address.

@@ -8,7 +8,6 @@ use Rattle.digits.specs.Decimal.{is_decimal, decimal_value}
 use Rattle.host_mach.specs.State.{HostState}
 use Rattle.para_mach.specs.State.{ParaState}
 use Rattle.cmd_words.specs.declared.keys.Slot.{Slot}
-use Rattle.cmd_words.specs.declared.keys.Slot.TheVariants as slots
 use Rattle.cmd_words.specs.Keys.{keys}
 use Rattle.cmd_words.specs.Given.{Values, value_of, plugs_in}
 use Rattle.cmd_words.specs.Reads.{files_of, rom_slot, rise_from, HaveRomSlots}

@@ -14,19 +14,20 @@ use Rattle.cmd_status.specs.declared.status.Ending.{Ending}
 use Rattle.cmd_status.specs.declared.status.Ending.TheVariants.{Done}
 use Rattle.cmd_outcome.specs.Names.{Names}
 use Rattle.cmd_outcome.specs.Verdicts.{machine_verdict}
-use Rattle.cmd_machines.specs.Inputs.{Inputs}
-use Rattle.cmd_machines.specs.Setup.{Setup}
+use Rattle.cmd_machines.specs.Inputs.{Inputs, inputs_of}
+use Rattle.cmd_machines.specs.Setup.{Setup, setup_of}
 use Rattle.cmd_machines.specs.Machines.{machines_of}
 use Rattle.cmd_machines.specs.Sessions.{begun, begun_if, setup_in, inputs_in}
 use Rattle.cmd_ended.specs.Save.{saved_tick, saved_of, below}
 use Rattle.cmd_ended.specs.Kept.{kept_verdict}
 use Rattle.cmd_pair.specs.Solo.{solo_after}
 use Rattle.cmd_session.specs.Session.{state_of, place_of, session_ended, session_after}
-use Rattle.law_sessions.specs.OneRun.{accesses_of, saved_run, MachinesAreMadeAgain, SavedRunIsRead, SavedRunIsOneRun}
+use Rattle.law_sessions.specs.OneRun.{accesses_of, saved_run, MachinesAreMadeAgain, SavedRunIsRead, SavedRunIsOneRun, WordsGoOn}
+use Rattle.law_sessions.specs.Words.{WordsBegin}
 use Rattle.law_sessions.proofs.Saved.{none_wrong}
 
 -- what a session of these machines comes to, whose accesses are theirs
-one_run : (set : Setup) (i : Inputs) (plugs : List Plug) (m : HostState × ParaState) (s : Session) (ticks kept : ℕ) (names : Names) (j : Inputs) →
+pub one_run : (set : Setup) (i : Inputs) (plugs : List Plug) (m : HostState × ParaState) (s : Session) (ticks kept : ℕ) (names : Names) (j : Inputs) →
     state_of j.state ≡ Ok s → machines_of (setup_in s plugs) (inputs_in s) ≡ Ok m → machines_of set i ≡ Ok m → wrong s.entries ≡ None → place_of s ticks m ≡ None →
     begun_if names.save (setup_in s plugs) (inputs_in s) ≡ begun_if names.save set i → s.clock ≡ set.clock →
     session_after plugs ticks kept names j ≡ solo_after set ticks kept names i
@@ -55,3 +56,14 @@ module _ (again : MachinesAreMadeAgain) (reads : SavedRunIsRead) (resumes : Save
       (ap (λ (b : Session). option_map (λ (name : List ℕ). b) names.save) made.1) refl in
       let end = ends set i m ticks kept names there.made in
       (same, (end.0, same ∙ end.1, end.2))
+
+-- ---- from the words on
+
+module _ (begin : WordsBegin) (one : SavedRunIsOneRun) where
+  pub words_on : WordsGoOn
+  words_on = record {
+    solo = λ ticks out keep given within list plugs m fits made.
+        one (setup_of given plugs) (inputs_of list) plugs m ticks keep (begin.solo ticks out keep given within list plugs m fits made) within.ticks within.keep;
+    run = λ ticks out keep given within list plugs m fits made.
+        one (setup_of given plugs) (inputs_of list) plugs m ticks keep (begin.run ticks out keep given within list plugs m fits made) within.ticks within.keep;
+  }

@@ -200,7 +200,7 @@ sides_kept Dsd (Some bytes) = refl
 
 -- what a session of a run says of the machines
 abbrev set_again : Setup → Inputs → Setup
-set_again set i = setup set.clock (kind_by (has_two_sides set.kinds.0 i.disc0), kind_by (has_two_sides set.kinds.1 i.disc1)) set.number set.plugs
+set_again set i = setup set.clock (kind_by (has_two_sides set.kinds.0 i.disc0), kind_by (has_two_sides set.kinds.1 i.disc1)) set.number set.plugs true
 
 machines_kept : (set : Setup) (i : Inputs) → machines_of (set_again set i) (files_of i) ≡ machines_of set i
 unfolding machines_of
@@ -223,7 +223,7 @@ unfolding begun setup_in inputs_in
 made_again set i plugs n list plugged roms =
     let s : Session = record (begun set i) { ticks = n; entries = list } in
     let set_is : setup_in s plugs ≡ set_again set i =
-    ap (λ (ps : List Plug). setup set.clock (kind_by (has_two_sides set.kinds.0 i.disc0), kind_by (has_two_sides set.kinds.1 i.disc1)) set.number ps) (sym plugged) in
+    ap (λ (ps : List Plug). setup set.clock (kind_by (has_two_sides set.kinds.0 i.disc0), kind_by (has_two_sides set.kinds.1 i.disc1)) set.number ps true) (sym plugged) in
     let files_are : inputs_in s ≡ files_of i = read_again i roms in (
       ap (λ (a : Setup). machines_of a (inputs_in s)) set_is ∙ ap (machines_of (set_again set i)) files_are ∙ machines_kept set i,
       ap (λ (a : Setup). begun a (inputs_in s)) set_is ∙ ap (begun (set_again set i)) files_are ∙ begun_kept set i,

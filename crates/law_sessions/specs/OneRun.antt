@@ -11,12 +11,17 @@ use Rattle.para_mach.specs.State.{ParaState}
 use Rattle.para_mach.specs.Step.{para_moves}
 use Rattle.save_state.specs.Saved.{Session}
 use Rattle.save_state.specs.File.{file_of, IsSession}
-use Rattle.cmd_words.specs.Reads.{rise_from}
-use Rattle.cmd_machines.specs.Inputs.{Inputs}
-use Rattle.cmd_machines.specs.Setup.{Setup}
+use Rattle.save_state.specs.Laws.{AreBytes}
+use Rattle.cmd_words.specs.declared.keys.Slot.{Slot}
+use Rattle.cmd_words.specs.Given.{Values}
+use Rattle.cmd_words.specs.Command.{Command, solo, run}
+use Rattle.cmd_words.specs.Reads.{reads, rise_from, IsWithin}
+use Rattle.cmd_machines.specs.Inputs.{Inputs, inputs_of}
+use Rattle.cmd_machines.specs.Setup.{Setup, setup_of}
 use Rattle.cmd_machines.specs.Machines.{machines_of}
 use Rattle.cmd_machines.specs.Sessions.{begun, setup_in, inputs_in}
-use Rattle.cmd_stages.specs.Plan.{Verdict}
+use Rattle.cmd_stages.specs.Plan as plans
+use Rattle.cmd_stages.specs.Plan.{Verdict, AreWithin}
 use Rattle.cmd_status.specs.declared.status.Ending.{Ending}
 use Rattle.cmd_status.specs.declared.status.Ending.TheVariants.{Done}
 use Rattle.cmd_outcome.specs.Names.{Names}
@@ -79,13 +84,63 @@ SessionIsWritten =
 
 -- A run that goes on from the session file of a run, with the same devices, comes to what the run from its beginning comes to, of as many ticks, below, at
 -- or above the moment of the session: it is refused nowhere, no answer is wrong and no machine differs.
+abbrev pub IsOneRun : Setup → Inputs → List Plug → HostState × ParaState → ℕ → ℕ → Type 0
+IsOneRun set i plugs m n keep =
+    (ticks kept : ℕ) (names : Names) (j : Inputs) →
+    j.state ≡ file_of (saved_run set i m n keep) →
+    (session_after plugs ticks kept names j ≡ solo_after set ticks kept names i)
+    × ((v : Verdict Ending) × (session_after plugs ticks kept names j ≡ Ok v) × (v.ending ≡ Done))
+
 abbrev pub SavedRunIsOneRun : Type 0
 SavedRunIsOneRun =
     (set : Setup) (i : Inputs) (plugs : List Plug) (m : HostState × ParaState) (n keep : ℕ) →
     Begins set i plugs m →
     n ≤ 1073741824 →
     keep ≤ 4194304 →
-    (ticks kept : ℕ) (names : Names) (j : Inputs) →
-    j.state ≡ file_of (saved_run set i m n keep) →
-    (session_after plugs ticks kept names j ≡ solo_after set ticks kept names i)
-    × ((v : Verdict Ending) × (session_after plugs ticks kept names j ≡ Ok v) × (v.ending ≡ Done))
+    IsOneRun set i plugs m n keep
+
+-- ---- From the words on
+
+-- what a command reads and what its options say, of a run of n ticks of whose accesses the first `keep` are kept: it begins, and goes on from its session file
+abbrev pub GoesOn : Command → ℕ → ℕ → Values → Type 0
+GoesOn c n keep given =
+    IsWithin c →
+    (list : plans.Inputs Slot) (plugs : List Plug) (m : HostState × ParaState) →
+    AreWithin (reads c) list →
+    machines_of (setup_of given plugs) (inputs_of list) ≡ Ok m →
+    IsOneRun (setup_of given plugs) (inputs_of list) plugs m n keep
+
+pub record WordsGoOn : Type 0 where
+  pub solo : (ticks : ℕ) (out : List ℕ) (keep : ℕ) (given : Values) → GoesOn (solo ticks out keep given) ticks keep given
+  pub run : (ticks : ℕ) (out : List ℕ) (keep : ℕ) (given : Values) → GoesOn (run ticks out keep given) ticks keep given
+
+-- ---- From any session file on
+
+-- A session that a file holds is a run that begins, whoever wrote the file, where its machines can be made.
+abbrev pub SessionBegins : Type 0
+SessionBegins =
+    (bytes : List ℕ) (s : Session) (plugs : List Plug) (m : HostState × ParaState) →
+    AreBytes bytes →
+    state_of bytes ≡ Ok s →
+    machines_of (setup_in s plugs) (inputs_in s) ≡ Ok m →
+    Begins (setup_in s plugs) (inputs_in s) plugs m
+
+-- A run that goes on from any session file, and is done and saved: it is the run of that session's machines from power-on, of n ticks, the last of its files is the
+-- session file of that run, and what goes on from there is one run with it.
+pub record IsSavedAgain (s : Session) (plugs : List Plug) (n keep : ℕ) (name : List ℕ) (v : Verdict Ending) : Type 0 where
+  pub machines : HostState × ParaState
+  pub begins : Begins (setup_in s plugs) (inputs_in s) plugs machines
+  pub written : EndsWith name (file_of (saved_run (setup_in s plugs) (inputs_in s) machines n keep)) v
+  pub goes_on : IsOneRun (setup_in s plugs) (inputs_in s) plugs machines n keep
+
+abbrev pub ResumedRunIsOneRun : Type 0
+ResumedRunIsOneRun =
+    (s : Session) (plugs : List Plug) (n keep : ℕ) (names : Names) (name : List ℕ) (j : Inputs) (v : Verdict Ending) →
+    AreBytes j.state →
+    state_of j.state ≡ Ok s →
+    n ≤ 1073741824 →
+    keep ≤ 4194304 →
+    names.save ≡ Some name →
+    session_after plugs n keep names j ≡ Ok v →
+    v.ending ≡ Done →
+    IsSavedAgain s plugs n keep name v

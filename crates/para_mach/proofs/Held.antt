@@ -17,9 +17,10 @@ use Rattle.cpu65c02.specs.Sequences.{next_cycle, after, sequence_at_look, fresh,
 use Rattle.tube_chip.specs.Act.{Query, access, look}
 use Rattle.tube_chip.specs.declared.Op.TheVariants as op
 use Rattle.tube_chip.specs.declared.Lines.{Lines}
+use Rattle.tube_chip.specs.declared.Op.{Op}
 use Rattle.tube_chip.specs.declared.Answer.{Answer}
 use Rattle.tube_chip.specs.declared.Answer.TheVariants.{Byte, Seen}
-use Rattle.tube_party.specs.Moves.{Shown, Looks, Sees, Goes, IsAsk, FitsAnswer, shown_lines}
+use Rattle.tube_party.specs.Moves.{Shown, Looks, Talks, Sees, Hears, Goes, IsAsk, FitsAnswer, shown_lines}
 use Rattle.tube_party.specs.Steps.{look_last, looks_on, looks_wider, silent_all}
 use Rattle.tube_party.specs.declared.party.Ask.{Ask}
 use Rattle.tube_party.specs.declared.party.Ask.TheVariants.{Nothing, Access, Look}
@@ -69,6 +70,17 @@ module _ (n : ℕ) (lines : Lines) (sure : ℕ) where
   pub sees_held : (old new : ParaState) (ask : Ask) → IsHeldAtLook old → Sees para_moves n (shown_lines lines sure) old ask new → IsHeldAtLook new
   sees_held old new ask held sees = ask_held sees.last new ask (looks_held sees.steps old sees.last held sees.looks) sees.asked
 
+  talks_held : {D : Type 0} (answers : D → ℕ → Op → ℕ → D → Type 0) (j : ℕ) (s last : ParaState) (d e : D) → IsHeldAtLook s
+      → Talks para_moves answers n (shown_lines lines sure) j s d last e → IsHeldAtLook last
+  talks_held answers zero s last d e held h = looks_held h.1.0 s last held h.1.1
+  talks_held answers (suc j) s last d e held h =
+      let there : IsHeldAtLook h.0 = looks_held h.3.0 s h.0 held h.3.1 in
+      talks_held answers j h.1 last h.2 e (subst IsHeldAtLook (sym h.4.goes) (next_held h.0 (Some (Byte h.4.byte)) there)) h.5
+
+  pub hears_held : {D : Type 0} (answers : D → ℕ → Op → ℕ → D → Type 0) (old new : ParaState) (d e : D) (ask : Ask) → IsHeldAtLook old
+      → Hears para_moves answers n (shown_lines lines sure) old d ask new e → IsHeldAtLook new
+  hears_held answers old new d e ask held hears = ask_held hears.last new ask (talks_held answers hears.accesses old hears.last d e held hears.talks) hears.asked
+
   -- so many steps, and then what is asked
   pub goes_of : (old last new : ParaState) (ask : Ask) → (k : ℕ) × Looks para_moves n (shown_lines lines sure) k old last
       → IsAsk para_moves n last ask new → Goes para_moves n (shown_lines lines sure) old ask new
@@ -103,7 +115,7 @@ held_more n lines sure start s new so_far stands other low early is before =
       came = (
         suc so_far.came.0,
         subst (λ (x : ParaState). Looks para_moves n (shown_lines lines sure) (suc so_far.came.0) start x) (sym is)
-            (look_last para_moves n lines sure so_far.came.0 start s so_far.came.1 low (ap (asks_by para_wiring) so_far.over) early),
+            (look_last para_moves n lines sure so_far.came.0 start s so_far.came.1 low (ap (asks_by para_wiring s.bus) so_far.over) early),
       );
       over = ap (λ (x : ParaState). next_cycle x.cpu) stays ∙ so_far.over;
       kept = ap (λ (x : ParaState). part_kept x.bus.ram x.bus) stays ∙ so_far.kept;
@@ -143,7 +155,7 @@ pub back : (ram : List ℕ) (b old : ParaBusState) → part_kept ram b ≡ part_
 back ram b old is = ap (λ (x : ParaBusState). record x { is_held = old.is_held; closed = old.closed }) is
 
 -- the Tube's answer to a read leaves the memory, with the boot ROM switched out
-byte_by : (o : Option Cycle) (s : ParaState) (byte : ℕ) (ram : List ℕ) → MatchOption (asks_by para_wiring o) ⊥ (λ q. FitsAnswer q (Byte byte)) → s.bus.rom_in ≡ false →
+byte_by : (o : Option Cycle) (s : ParaState) (byte : ℕ) (ram : List ℕ) → MatchOption (asks_by para_wiring s.bus o) ⊥ (λ q. FitsAnswer q (Byte byte)) → s.bus.rom_in ≡ false →
     part_kept ram (after_step Cmos para_wiring o s (Some (Byte byte))).bus ≡ part_kept ram s.bus
 byte_by None s byte ram asked out = absurd asked
 byte_by (Some (Read at)) s byte ram asked out = ap (λ (r : Bool). record (part_kept ram s.bus) { rom_in = rom_in_after r (Read at) }) out
@@ -151,7 +163,7 @@ byte_by (Some (Read at)) s byte ram asked out = ap (λ (r : Bool). record (part_
 byte_by (Some (Write at v)) s byte ram asked out = ap (λ (r : Bool). record (part_kept ram s.bus) { rom_in = rom_in_after r (Write at v) }) out
     ∙ ap (λ (r : Bool). record (part_kept ram s.bus) { rom_in = r }) (sym out)
 
-ram_by : (o : Option Cycle) (s : ParaState) (byte : ℕ) → MatchOption (asks_by para_wiring o) ⊥ (λ q. FitsAnswer q (Byte byte))
+ram_by : (o : Option Cycle) (s : ParaState) (byte : ℕ) → MatchOption (asks_by para_wiring s.bus o) ⊥ (λ q. FitsAnswer q (Byte byte))
     → (after_step Cmos para_wiring o s (Some (Byte byte))).bus.ram ≡ s.bus.ram
 ram_by None s byte asked = absurd asked
 ram_by (Some (Read at)) s byte asked = refl
@@ -193,10 +205,10 @@ to_look_held n v s u held looks =
 
 -- by the registers that are shown
 pub passes_held : (passing : Passing) (n : ℕ) (v : Shown) (k : ℕ) (s last : ParaState) → IsHeldAtLook s → Passes para_moves (over_at (λ b at. peek_of b.ram b.rom b.rom_in at) passing) n v k s last →
-    Passes para_moves (λ (x : ParaState). IsOver passing (shown_regs x).pc (para_peek x)) n v k s last × IsHeldAtLook last
+    Passes para_moves (λ (x : ParaState). IsOver passing x.due (shown_regs x).pc (para_peek x)) n v k s last × IsHeldAtLook last
 passes_held passing n v zero s last held h = (h, subst IsHeldAtLook h held)
 passes_held passing n v (suc k) s last held h =
     let u : ParaState = h.1.0 in
     let rest = passes_held passing n v k u last (to_look_held n v s u held h.1.1.0) h.1.1.1 in
-    let over : IsOver passing (shown_regs s).pc (para_peek s) = subst (λ (r : Regs). IsOver passing r.pc (para_peek s)) (sym (shown_at s held h.0.0)) h.0.1 in
+    let over : IsOver passing s.due (shown_regs s).pc (para_peek s) = subst (λ (r : Regs). IsOver passing s.due r.pc (para_peek s)) (sym (shown_at s held h.0.0)) h.0.1 in
     ((over, (u, (h.1.1.0, rest.0))), rest.1)

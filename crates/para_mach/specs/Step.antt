@@ -34,6 +34,7 @@ rom_in_after rom_in (Write at byte) = rom_in && not (is_tube at)
 abbrev pub para_wiring : Wiring ParaBusState
 para_wiring = record {
   cycle = λ b. para b.clock;
+  has_tube = λ b. true;
   is_tube = is_tube;
   answer = λ b t at. memory b.ram b.rom b.rom_in at;
   after = λ b c. record b { ram = ram_after b.ram c; rom_in = rom_in_after b.rom_in c };

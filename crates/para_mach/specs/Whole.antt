@@ -1,12 +1,12 @@
 -- Which of the second processor's addresses are plain memory, and which of its looks ask for nothing.
-use Rattle.std.specs.Prelude.{ℕ, suc, ◌≡◌, ◌≤◌, ◌<◌, ◌+◌, ◌*◌, ◌==◌, ◌&&◌, max, nat_lt, nat_le, Bool, true, false, not, refl, List, slice_set, if◌then◌else◌}
+use Rattle.std.specs.Prelude.{ℕ, suc, ◌≡◌, ◌≤◌, ◌<◌, ◌+◌, ◌*◌, ◌&&◌, max, nat_lt, nat_le, Bool, true, false, not, refl, List, slice_set, if◌then◌else◌}
 use Rattle.std.proofs.Common.{arith, ap, ◌∙◌, sym}
 use Rattle.std.proofs.lemmas.Bool.{and_left, ltb-true, lt-ltb, lt-leb, eq-eqb}
 use Rattle.std.proofs.lemmas.List.{set-set}
 use Rattle.std.proofs.Math.Nat.{mul-le-mul_left, mul-add, mul-one}
-use Rattle.cpu_alu.specs.declared.Cycle.TheVariants.{Read, Write}
+use Rattle.cpu_alu.specs.declared.Cycle.TheVariants.{Read}
 use Rattle.tube_chip.specs.declared.Lines.{Lines}
-use Rattle.cpu_whole.specs.Whole.{IsPlain, AreRead}
+use Rattle.cpu_whole.specs.Whole.{AreRead}
 use Rattle.cpu_alu.specs.Addresses.{wrap}
 use Rattle.beeb_bits.specs.Clock.{para}
 use Rattle.tube_machine.specs.Whole.{reach_of, IsMemory, IsAtRest, StaysAtRest}
@@ -95,6 +95,7 @@ para_rests = record {
   looks = λ b l masks far t rest low. let there = rest (omega (arith, low)) in at-rest (record b { closed = max (t + 1) b.closed }) l masks there.0 there.1 there.2;
   close = λ b l masks far t rest low. rest;
   write = λ b l masks far at byte rest low. rest;
+  tube = λ b l masks far c rest at. rest;
 }
 
 -- an instruction below the Tube

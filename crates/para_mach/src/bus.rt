@@ -1,14 +1,14 @@
 //! The second processor's bus: its memory and the Tube, and what is taken of the counts of the Tube's lines.
 ghost use Rattle.std.specs.Prelude.{◌≡◌, true};
 
-use crate::memory::{Memory, ROM_START, TUBE};
+use crate::memory::{Memory, ROM_START, TUBE, asked};
 use crate::notes::Notes;
 use beeb_bits::Clock;
 use cpu_alu::{Cycle, Regs};
-use cpu_whole::{Plain, whole};
+use cpu_whole::{LastAccess, Plain, last_access, whole};
 use op_table::Part;
 use std::marker::Model;
-use tube_chip::Lines;
+use tube_chip::{Lines, Op};
 use tube_machine::{Done, Interrupts, TubeBus, Unable};
 
 /// The memory and the Tube, with what is taken of the counts of its lines.
@@ -72,6 +72,8 @@ impl<N: Notes> TubeBus<N> for ParaBus {
 
     ghost even = { λ is b t c. refl };
 
+    ghost joined = { λ is b. refl };
+
     ghost reads = { plain_read };
 
     ghost writes = { plain_write };
@@ -87,6 +89,11 @@ impl<N: Notes> TubeBus<N> for ParaBus {
     #[inline(always)]
     fn cycle(&self) -> u64 {
         self.clock.para()
+    }
+
+    #[inline(always)]
+    fn has_tube(&self) -> bool {
+        true
     }
 
     #[inline(always)]
@@ -175,6 +182,16 @@ impl<N: Notes> TubeBus<N> for ParaBus {
     #[inline(always)]
     fn whole<L>(&mut self, part: Part, regs: &mut Regs, t: u64, notes: &mut N) -> u64 {
         whole::<N, ParaBus, L>(part, regs, self, t, notes)
+    }
+
+    #[inline(always)]
+    fn last_access<L>(&self, part: Part, regs: &Regs) -> LastAccess {
+        last_access::<N, ParaBus, L>(part, regs, self)
+    }
+
+    #[inline(always)]
+    fn asked(&self, cycle: Cycle) -> Option<Op> {
+        asked(cycle)
     }
 
     #[inline(always)]

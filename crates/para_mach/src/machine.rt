@@ -19,8 +19,10 @@ use std::alloc::{AllocError, Global};
 use std::marker::Model;
 use thiserror::Error;
 use tube_chip::{Answer, Lines};
-use tube_machine::{Left, Passing, advance_seeing, answer, carry_on, look, pass_over, take_lines};
-use tube_party::{Ask, NO_LINES, Party, Rewinds};
+use tube_machine::{
+    Left, Passing, advance_at, advance_seeing, answer, carry_on, look, pass_over, take_lines,
+};
+use tube_party::{Ask, Desk, NO_LINES, Party, Rewinds};
 
 /// Why no second processor can be made.
 #[derive(Clone, Copy, Debug, PartialEq, Eq, Error)]
@@ -154,7 +156,7 @@ impl ParaMachine {
     #[inline(always)]
     pub fn pass(&mut self, until: Tick, lines: &Lines, sure: Tick, passing: Passing)
         requires { until.0 ≤ 2 ^ 30 }
-        ensures { (k : ℕ) × Passes para_moves (λ s. IsOver passing (shown_regs s).pc (para_peek s)) until.0
+        ensures { (k : ℕ) × Passes para_moves (λ s. IsOver passing s.due (shown_regs s).pc (para_peek s)) until.0
             (shown_lines lines.now sure.0) k self.old self.new }
     {
         pass_over::<NoNotes, Cpu, ParaBus>(
@@ -280,6 +282,20 @@ impl Party for ParaMachine {
             until,
             lines,
             sure,
+        )
+    }
+
+    #[inline(always)]
+    fn advance_at<K: Desk>(&mut self, until: Tick, lines: &Lines, sure: Tick, desk: &mut K) -> Ask {
+        advance_at::<NoNotes, Cpu, ParaBus, K>(
+            &mut self.cpu,
+            &mut self.bus,
+            &mut self.due,
+            &mut NoNotes,
+            until,
+            lines,
+            sure,
+            desk,
         )
     }
 

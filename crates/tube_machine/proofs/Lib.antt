@@ -4,4 +4,5 @@ pub mod Spends
 pub mod Lengths
 pub mod Stops
 pub mod WholeSteps
+pub mod Asked
 pub mod ToLooks

@@ -76,6 +76,13 @@ spent-look counts cycle sure room from due seen first here early = record {
   late = λ is top high late. omega (arith, early, high);
 }
 
+-- nothing is noted, up to a tick
+pub spent-later : (counts : Type 0) (cycle sure due seen : ℕ) (old now : Spent) → HasSpent counts cycle sure old now → now.due ≤ due → due ≤ sure → HasSpent counts cycle sure old (spent due now.room seen)
+spent-later counts cycle sure due seen old now so_far gone early = record {
+  room = λ is. omega (arith, so_far.room is, gone);
+  late = λ is top high late. omega (arith, early, high);
+}
+
 -- from which tick on accesses come
 pub ready-look : (part : Part) (c : cpu.State) (due : ℕ) → next_cycle part c ≡ None → ready part c due ≡ due + 1
 ready-look part c due over = ap (λ (o : Option Cycle). if is_none o then due + 1 else due) over

@@ -1,5 +1,7 @@
 -- Where the machine stops, and how it goes on from there.
 use Rattle.std.proofs.Common.{◌≡◌, ◌∙◌, ◌&&◌, ◌||◌, refl, sym, ap, subst, ℕ, zero, suc, ◌+◌, ◌-◌, ◌*◌, ◌<◌, ◌≤◌, ◌⊎◌, inl, inr, max, min, length}
+use Rattle.std.specs.Prelude.{nat_lt, not}
+use Rattle.std.proofs.lemmas.Bool.{ltb-true}
 use Rattle.std.proofs.Common.{Bool, true, false, is_none, Option, Some, None, IsSome, MatchOption, arith, if◌then◌else◌}
 use Rattle.std.proofs.Math.Nat.{mul-le-mul_left, mul-zero}
 use Rattle.op_table.specs.declared.names.Part.{Part}
@@ -18,7 +20,7 @@ use Rattle.tube_party.specs.Steps.{silent_last, look_last, looks_on}
 use Rattle.tube_party.specs.declared.party.Ask.{Ask}
 use Rattle.tube_party.specs.declared.party.Ask.TheVariants.{Nothing, Access, Look}
 use Rattle.tube_machine.specs.Wiring.{Wiring, IsWired}
-use Rattle.tube_machine.specs.Step.{At, is_break, after_break, asks, asks_by, byte_of, after_step, closed_to, lines_in, next_state, moves_of}
+use Rattle.tube_machine.specs.Step.{At, is_break, after_break, asks, asks_by, asks_reset, byte_of, after_step, closed_to, lines_in, next_state, moves_of}
 use Rattle.tube_machine.specs.Exchange.{IsDone, IsCramped, ready}
 use Rattle.tube_machine.specs.declared.steps.Attempt.TheVariants as attempt
 use Rattle.tube_machine.specs.NoBreak.{plain-asks, plain-next}
@@ -26,13 +28,15 @@ use Rattle.tube_machine.proofs.UnderWay.{Came}
 use Rattle.tube_machine.proofs.Spends.{seen-more}
 use Rattle.tube_machine.proofs.Lengths.{few_seen}
 
-silent-by : (breaks : Bool) (o : Option Query) → (if breaks then Some (access op.Reset) else o) ≡ None → breaks ≡ false
-silent-by true o asked = cc
-silent-by false o asked = refl
+silent-by : (breaks has : Bool) (o : Option Query) → has ≡ true → (if breaks then (if has then Some (access op.Reset) else None) else o) ≡ None → breaks ≡ false
+silent-by true true o is asked = cc
+silent-by true false o is asked = cc
+silent-by false has o is asked = refl
 
-look-by : (breaks : Bool) (o : Option Query) → (if breaks then Some (access op.Reset) else o) ≡ Some look → breaks ≡ true → ⊥
-look-by true o asked is = cc
-look-by false o asked is = cc
+look-by : (breaks has : Bool) (o : Option Query) → (if breaks then (if has then Some (access op.Reset) else None) else o) ≡ Some look → breaks ≡ true → ⊥
+look-by true true o asked is = cc
+look-by true false o asked is = cc
+look-by false has o asked is = cc
 
 none-both : (p : Bool) → (p && false) ≡ false
 none-both true = refl
@@ -41,6 +45,12 @@ none-both false = refl
 ready-tail : (over : Bool) (t n : ℕ) → 1 < n → (if over then (if false || over then t + (n - 1) else t + n) + 1 else (if false || over then t + (n - 1) else t + n)) ≡ t + n
 ready-tail true t n some = omega (arith, some)
 ready-tail false t n some = refl
+
+alone-parts : (low breaks has : Bool) → (low && breaks && not has) ≡ true → (low ≡ true) × ((breaks ≡ true) × (has ≡ false))
+alone-parts true true false is = (refl, (refl, refl))
+alone-parts true true true is = cc
+alone-parts true false has is = cc
+alone-parts false breaks has is = cc
 
 -- where no room is left, the run began with little of it
 pub cramped : (n sure from room due left seen : ℕ) → from + n * room ≤ due + n * left → due ≤ max sure from + n * seen → left ≡ 0 → seen < 16 → IsCramped n sure from room
@@ -56,6 +66,21 @@ few part c is on = few_seen c (some-of (next_cycle Cmos c) (subst (λ (p : Part)
     some-of : (o : Option Cycle) → IsSome o → is_none o ≡ false
     some-of (Some x) h = refl
     some-of None h = absurd (cc)
+
+-- a break step below a tick, without a Tube, asks nothing
+module _ (part : Part) {B : Type 0} (w : Wiring B) where
+  pub breaks-alone : (s : At B) (n : ℕ) → (nat_lt s.due n && is_break part w s && not (w.has_tube s.bus)) ≡ true →
+      (s.due < n) × ((new : At B) → new ≡ after_break part w (closed_to w s (s.due + 1)) → IsDone part w s attempt.Done new)
+  breaks-alone s n is =
+      let parts = alone-parts (nat_lt s.due n) (is_break part w s) (w.has_tube s.bus) is in (
+        ltb-true s.due n parts.0,
+        λ new broken. (
+          ap (λ (b : Bool). if b then asks_reset w s.bus else asks_by w s.bus (next_cycle part s.cpu)) parts.1.0
+              ∙ ap (λ (has : Bool). if has then Some (access op.Reset) else None) parts.1.1,
+          broken ∙ sym (ap (λ (b : Bool). if b then after_break part w (closed_to w s (s.due + 1))
+              else after_step part w (next_cycle part s.cpu) (closed_to w s (s.due + 1)) None) parts.1.0),
+        ),
+      )
 
 module _ (part : Part) {B : Type 0} (w : Wiring B) (wired : IsWired w) where
   -- no step changes how long a cycle is
@@ -107,7 +132,7 @@ module _ (part : Part) {B : Type 0} (w : Wiring B) (wired : IsWired w) where
     more-look start s new came low early none over is = (
       suc came.0,
       subst (λ (x : At B). Looks (moves_of part w) n (shown_lines lines sure) (suc came.0) start x) (sym is)
-          (look_last (moves_of part w) n lines sure came.0 start s came.1 low (plain-asks part w s none ∙ ap (asks_by w) over) early),
+          (look_last (moves_of part w) n lines sure came.0 start s came.1 low (plain-asks part w s none ∙ ap (asks_by w s.bus) over) early),
     )
 
     -- the next step asks for an access
@@ -127,7 +152,7 @@ module _ (part : Part) {B : Type 0} (w : Wiring B) (wired : IsWired w) where
     unsure-by last new Nothing is late = tt
     unsure-by last new (Access t o) is late = tt
     unsure-by last new (Look t) is late = elim late [
-      | inl breaks ↦ absurd (look-by (is_break part w last) (asks_by w (next_cycle part last.cpu)) is.2 breaks)
+      | inl breaks ↦ absurd (look-by (is_break part w last) (w.has_tube last.bus) (asks_by w last.bus (next_cycle part last.cpu)) is.2 breaks)
       | inr high ↦ omega (arith, is.0, is.1, high)
     ]
 
@@ -136,9 +161,9 @@ module _ (part : Part) {B : Type 0} (w : Wiring B) (wired : IsWired w) where
     stops-at-look start last new ask came is late = record { steps = came.0; last = last; looks = came.1; asked = is; unsure = unsure-by last new ask is late }
 
   -- what an access of one cycle costs
-  pub cost : (s new : At B) → IsDone part w s attempt.Done new → IsSome (next_cycle part s.cpu) → part ≡ Cmos → ((b : B) (t : ℕ) (c : Cycle) → w.takes b t c ≡ w.cycle b) →
+  pub cost : (s new : At B) → IsDone part w s attempt.Done new → IsSome (next_cycle part s.cpu) → part ≡ Cmos → w.has_tube s.bus ≡ true → ((b : B) (t : ℕ) (c : Cycle) → w.takes b t c ≡ w.cycle b) →
       (ready part new.cpu new.due ≡ s.due + w.cycle s.bus) × (length new.cpu.seen ≡ length s.cpu.seen + 1)
-  cost s new done some cmos even = by (next_cycle part s.cpu) refl some
+  cost s new done some cmos has even = by (next_cycle part s.cpu) refl some
     where
       by : (o : Option Cycle) → next_cycle part s.cpu ≡ o → IsSome o → (ready part new.cpu new.due ≡ s.due + w.cycle s.bus) × (length new.cpu.seen ≡ length s.cpu.seen + 1)
       by None is h = absurd (cc)
@@ -148,7 +173,7 @@ module _ (part : Part) {B : Type 0} (w : Wiring B) (wired : IsWired w) where
           let byte : ℕ = byte_of w x.bus s.due None c in
           let on : cpu.State = after_byte part s.cpu byte in
           let over : Bool = is_none (next_cycle part on) in
-          let free : is_break part w s ≡ false = silent-by (is_break part w s) (asks_by w (next_cycle part s.cpu)) done.0 in
+          let free : is_break part w s ≡ false = silent-by (is_break part w s) (w.has_tube s.bus) (asks_by w s.bus (next_cycle part s.cpu)) has done.0 in
           let step : new ≡ after_step part w (Some c) x None = done.1 ∙ plain-next part w s None free ∙ ap (λ (o : Option Cycle). after_step part w o x None) is in
           let n_is : n ≡ w.cycle s.bus = even x.bus s.due c ∙ wired.cycle_close s.bus (s.due + 1) in
           let runs : halted part s.cpu ≡ false = ap (λ (q : Part). halted q s.cpu) cmos in

@@ -1,16 +1,21 @@
 -- An access to the Tube that was answered, and one that asked nothing.
-use Rattle.std.proofs.Common.{◌≡◌, ◌∙◌, sym, ap, ℕ, ◌+◌, ◌-◌, ◌&&◌, ◌∷◌, ◌++◌, [], cond, Bool, false, Option, Some, if◌then◌else◌}
+use Rattle.std.proofs.Common.{◌≡◌, ◌∙◌, sym, ap, subst, ℕ, ◌+◌, ◌-◌, ◌&&◌, ◌∷◌, ◌++◌, [], cond, Bool, true, false, Option, Some, None, MatchOption, refl, if◌then◌else◌, ◌%◌}
 use Rattle.op_table.specs.declared.names.Part.{Part}
 use Rattle.cpu_alu.specs.declared.Cycle.{Cycle}
 use Rattle.cpu_alu.specs.declared.Cycle.TheVariants.{Read, Write}
 use Rattle.cpu_core.specs.State as cpu
 use Rattle.cpu_core.specs.Sequences.{next_cycle, after_byte, halted, shown_byte}
 use Rattle.tube_chip.specs.declared.Answer.{Answer}
-use Rattle.tube_chip.specs.declared.Answer.TheVariants.{Byte}
+use Rattle.tube_chip.specs.declared.Answer.TheVariants.{Byte, Seen}
+use Rattle.tube_chip.specs.declared.Lines.{Lines}
 use Rattle.tube_machine.specs.Wiring.{Wiring, IsWired}
-use Rattle.tube_machine.specs.Step.{At, at_of, is_break, byte_of, after_cycle, after_step, closed_to, next_state}
-use Rattle.tube_machine.specs.Exchange.{IsAtTube}
-use Rattle.tube_machine.specs.NoBreak.{plain-next}
+use Rattle.tube_machine.specs.Step.{At, at_of, is_break, asks, asks_by, asks_reset, byte_of, after_cycle, after_step, closed_to, next_state}
+use Rattle.tube_machine.specs.Exchange.{IsAtTube, IsAskedByte}
+use Rattle.tube_machine.specs.NoBreak.{plain-asks, plain-next}
+use Rattle.tube_chip.specs.declared.Op.{Op}
+use Rattle.tube_chip.specs.declared.Op.TheVariants as op
+use Rattle.tube_chip.specs.Act.{Query, access}
+use Rattle.tube_party.specs.Moves.{FitsAnswer}
 
 -- what a write shows does not hang on a byte
 after_byte-write : (part : Part) (s : cpu.State) (at v byte : ℕ) → next_cycle part s ≡ Some (Write at v) → after_byte part s byte ≡ after_byte part s 0
@@ -18,8 +23,37 @@ after_byte-write part s at v byte e =
     ap (λ (c : Option Cycle). cond (halted part s) s (record s { seen = s.seen ++ shown_byte c byte ∷ [] })) e
     ∙ sym (ap (λ (c : Option Cycle). cond (halted part s) s (record s { seen = s.seen ++ shown_byte c 0 ∷ [] })) e)
 
+asked-by : (b : Bool) (o : Op) → MatchOption (if b then Some (access o) else None) ⊥ (λ q. FitsAnswer q (Byte 0)) → b ≡ true
+asked-by true o asked = refl
+asked-by false o asked = absurd asked
+
+-- lines are no answer to an access
+none-seen : (b : Bool) (o : Op) (l : Lines) → MatchOption (if b then Some (access o) else None) ⊥ (λ q. FitsAnswer q (Seen l)) → ⊥
+none-seen true o l asked = asked
+none-seen false o l asked = asked
+
 module _ (part : Part) {B : Type 0} (w : Wiring B) where
-  given-shown : (s : cpu.State) (b : B) (t byte : ℕ) (c : Cycle) → next_cycle part s ≡ Some c → IsAtTube w c → after_byte part s byte ≡ after_byte part s (byte_of w b t (Some (Byte byte)) c)
+  over-by : (breaks : Bool) (b : B) (c : Option Cycle) (l : Lines) → MatchOption (if breaks then asks_reset w b else asks_by w b c) ⊥ (λ q. FitsAnswer q (Seen l)) → c ≡ None
+  over-by true b c l asked = absurd (none-seen (w.has_tube b) op.Reset l asked)
+  over-by false b None l asked = refl
+  over-by false b (Some (Read at)) l asked = absurd (none-seen (w.has_tube b && w.is_tube at) (op.Read (at % 8)) l asked)
+  over-by false b (Some (Write at v)) l asked = absurd (none-seen (w.has_tube b && w.is_tube at) (op.Write (at % 8) v) l asked)
+
+  -- where lines are asked for, the sequence is over
+  pub asked-over : (s : At B) (l : Lines) → MatchOption (asks part w s) ⊥ (λ q. FitsAnswer q (Seen l)) → next_cycle part s.cpu ≡ None
+  asked-over s l asked = over-by (is_break part w s) s.bus (next_cycle part s.cpu) l asked
+
+  pub at-tube : (b there : B) (c : Cycle) → w.has_tube there ≡ w.has_tube b → MatchOption (asks_by w b (Some c)) ⊥ (λ q. FitsAnswer q (Byte 0)) → IsAtTube w there c
+  at-tube b there (Read at) same asked = ap (λ (has : Bool). has && w.is_tube at) same ∙ asked-by (w.has_tube b && w.is_tube at) (op.Read (at % 8)) asked
+  at-tube b there (Write at v) same asked = ap (λ (has : Bool). has && w.is_tube at) same ∙ asked-by (w.has_tube b && w.is_tube at) (op.Write (at % 8) v) asked
+
+  -- where a byte is asked for, the Tube answers it
+  pub asked-at-tube : (wired : IsWired w) (s : At B) (c : Cycle) (t : ℕ) → next_cycle part s.cpu ≡ Some c → is_break part w s ≡ false → IsAskedByte part w s → IsAtTube w (w.close s.bus t) c
+  asked-at-tube wired s c t is none asked =
+      at-tube s.bus (w.close s.bus t) c (wired.tube_close s.bus t)
+      (subst (λ (o : Option Query). MatchOption o ⊥ (λ q. FitsAnswer q (Byte 0))) (plain-asks part w s none ∙ ap (asks_by w s.bus) is) asked)
+
+  given-shown : (s : cpu.State) (b : B) (t byte : ℕ) (c : Cycle) → next_cycle part s ≡ Some c → IsAtTube w b c → after_byte part s byte ≡ after_byte part s (byte_of w b t (Some (Byte byte)) c)
   given-shown s b t byte (Read at) is there = ap (λ (tube : Bool). after_byte part s (if tube then byte else w.answer b t at)) (sym there)
   given-shown s b t byte (Write at v) is there = after_byte-write part s at v byte is
 
@@ -38,7 +72,7 @@ module _ (part : Part) {B : Type 0} (w : Wiring B) where
       ∙ sym (ap (λ (o : Option Cycle). after_step part w o x a) is)
       ∙ sym (plain-next part w s a none)
 
-  pub taken : (wired : IsWired w) (s : At B) (c : Cycle) (b : B) (byte n : ℕ) → next_cycle part s.cpu ≡ Some c → is_break part w s ≡ false → IsAtTube w c →
+  pub taken : (wired : IsWired w) (s : At B) (c : Cycle) (b : B) (byte n : ℕ) → next_cycle part s.cpu ≡ Some c → is_break part w s ≡ false → IsAtTube w (w.close s.bus (s.due + 1)) c →
       b ≡ w.after (w.close s.bus (s.due + 1)) c → n ≡ w.cycle b → w.takes (w.close s.bus (s.due + 1)) s.due c ≡ w.cycle (w.close s.bus (s.due + 1)) →
       after_cycle part w (at_of s.cpu b s.due) (w.pending b (s.due + (n - 1)) && halted part s.cpu) (after_byte part s.cpu byte) n ≡ next_state part w s (Some (Byte byte))
   taken wired s c b byte n is none there after ticks fast =

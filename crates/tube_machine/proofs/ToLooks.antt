@@ -54,7 +54,7 @@ module _ (part : Part) {B : Type 0} (w : Wiring B) (wired : IsWired w) (plain : 
           last = at;
           runs = none_seen (moves_of part w) until lines came.0 start at came.1;
           asked =
-              (refl, in_run, plain-asks part w at free ∙ ap (asks_by w) over, refl);
+              (refl, in_run, plain-asks part w at free ∙ ap (asks_by w at.bus) over, refl);
         };
         sure = early;
         next = saw;

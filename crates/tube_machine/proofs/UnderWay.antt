@@ -15,7 +15,7 @@ use Rattle.tube_party.specs.Moves.{Looks, shown_lines}
 use Rattle.tube_party.specs.Steps.{silent_last, look_last}
 use Rattle.tube_machine.specs.Wiring.{Wiring, IsWired, StaysPlain}
 use Rattle.tube_machine.specs.Step.{At, at_of, is_break, begin_leaves, after_held_cycle, asks_by, byte_of, after_cycle, after_step, closed_to, next_state, after_look, moves_of}
-use Rattle.tube_machine.specs.Lawful.{break_closed, next_closed}
+use Rattle.tube_machine.specs.Lawful.{asked_closed, break_closed, next_closed}
 use Rattle.tube_machine.specs.NoBreak.{no-break, plain-asks, plain-next}
 use Rattle.tube_machine.specs.Exchange.{IsQuick, behind, owed_at}
 
@@ -139,7 +139,7 @@ module _ (part : Part) {B : Type 0} (w : Wiring B) (wired : IsWired w) (plain : 
         ∙ ap (λ (o : Option Cycle). after_step part w o (closed_to w at (t + 1)) (Some (Seen lines))) (sym over)
         ∙ sym (plain-next part w at (Some (Seen lines)) free) in
         let more : Looks (moves_of part w) until (shown_lines lines sure) (suc came.0) start (next_state part w at (Some (Seen lines))) =
-        look_last (moves_of part w) until lines sure came.0 start at came.1 low (plain-asks part w at free ∙ ap (asks_by w) over) early in
+        look_last (moves_of part w) until lines sure came.0 start at came.1 low (plain-asks part w at free ∙ ap (asks_by w at.bus) over) early in
         (suc came.0, subst (λ (x : At B). Looks (moves_of part w) until (shown_lines lines sure) (suc came.0) start x) (sym saw) more)
 
     -- a look that sees the lines, before the first access
@@ -155,7 +155,7 @@ module _ (part : Part) {B : Type 0} (w : Wiring B) (wired : IsWired w) (plain : 
 
     -- a step that asked nothing, of the machine whose steps are owed
     pub steps-on : (n : ℕ) (s : At B) (since : ℕ) → IsUnderWay part w plain far n until lines sure start s since → s.due < until
-        → is_break part w s ≡ false → asks_by w (next_cycle part s.cpu) ≡ None →
+        → is_break part w s ≡ false → asks_by w s.bus (next_cycle part s.cpu) ≡ None →
         Came part w until lines sure start (next_state part w s None)
     steps-on n s since way low free none =
         let owed : ℕ = owed_at n since s.due (w.closed s.bus) in
@@ -163,7 +163,7 @@ module _ (part : Part) {B : Type 0} (w : Wiring B) (wired : IsWired w) (plain : 
         let again_is : next_state part w x None ≡ next_state part w s None = next_closed part w wired s owed None way.high in
         let free_there : is_break part w x ≡ false = break_closed part w wired s owed ∙ free in
         let more : Looks (moves_of part w) until (shown_lines lines sure) (suc way.looks.0) start (next_state part w x None) =
-        silent_last (moves_of part w) until lines sure way.looks.0 start x way.looks.1 low (plain-asks part w x free_there ∙ none) in
+        silent_last (moves_of part w) until lines sure way.looks.0 start x way.looks.1 low (plain-asks part w x free_there ∙ asked_closed part w wired false (next_cycle part s.cpu) s.bus owed ∙ none) in
         (suc way.looks.0, subst (λ (y : At B). Looks (moves_of part w) until (shown_lines lines sure) (suc way.looks.0) start y) again_is more)
 
     -- a quick access is such a step, which leaves the device steps before it for later
@@ -185,7 +185,7 @@ module _ (part : Part) {B : Type 0} (w : Wiring B) (wired : IsWired w) (plain : 
         ∙ ap (λ (v : ℕ). after_cycle part w (record x { bus = then_ }) false (after_byte part s.cpu v) n) (sym done.1)
         ∙ ap (λ (p : cpu.State). after_cycle part w (record x { bus = then_ }) false p n) (sym gave)
         ∙ ap (λ (d : B). after_cycle part w (record x { bus = d }) false on n) (sym done.2) in
-        let came : Came part w until lines sure start (next_state part w s None) = steps-on n s since way low none (ap (asks_by w) is ∙ done.0) in
+        let came : Came part w until lines sure start (next_state part w s None) = steps-on n s since way low none (ap (asks_by w s.bus) is ∙ done.0) in
         (came.0, subst (λ (y : At B). Looks (moves_of part w) until (shown_lines lines sure) came.0 start y) same came.1)
 
     -- and leaves cycles, breaks and looks as they were

@@ -19,11 +19,15 @@ use Rattle.tube_chip.specs.declared.Op.TheVariants as op
 use Rattle.tube_chip.specs.Act.{access}
 use Rattle.tube_machine.specs.Wiring.{Wiring, IsWired, StaysPlain}
 use Rattle.tube_machine.specs.Step.{At, at_of, begin_leaves, byte_in, closed_to, after_look, moves_of}
-use Rattle.tube_machine.specs.Exchange.{IsQuick, owed_at}
+use Rattle.tube_machine.specs.Exchange.{IsQuick, IsAtTube}
 use Rattle.tube_party.specs.Moves.{Looks, shown_lines}
 use Rattle.tube_machine.specs.Whole.{reach_of, IsMemory, IsAtRest, StaysAtRest, IsOnward}
 use Rattle.tube_machine.proofs.UnderWay.{IsUnderWay, IsFree, Came, owed-none, none-owed, caught-up, plain-look, quick-more, quick-past, quick-plain}
 use Rattle.tube_machine.proofs.Stops.{then-on}
+
+none-both : (has tube : Bool) → tube ≡ false → (has && tube) ≡ false
+none-both true tube is = is
+none-both false tube is = refl
 
 -- one more cycle
 one-more : (c n : ℕ) → c * (n + 1) ≡ c * n + c
@@ -31,6 +35,9 @@ one-more c n = mul-add c n 1 ∙ ap (λ (k : ℕ). c * n + k) (mul-one c)
 
 pub next-more : (c n : ℕ) → c * suc n ≡ c * n + c
 next-more c n = let same : suc n ≡ n + 1 = omega arith in ap (λ (k : ℕ). c * k) same ∙ one-more c n
+
+true-false : true ≡ false → ⊥
+true-false is = cc
 
 -- a processor at the start of an instruction
 pub begins-there : (s : cpu.State) → starting s ≡ true → s ≡ fresh Instruction s.regs
@@ -89,8 +96,8 @@ module _ (part : Part) {B : Type 0} (w : Wiring B) (wired : IsWired w) (reads wr
       IsQuick w m due c (Some (shows (reach_of w reads writes) m c)) (leaves (reach_of w reads writes) t m j c)
   is-quick t j due m (Read at) is there before =
       let x : B = w.close m (due + 1) in (
-        ap (λ (tube : Bool). if tube then Some (access (op.Read (at % 8))) else None) (memory.read_apart at is),
-        sym (ap (λ (tube : Bool). if tube then byte_in None else w.answer x due at) (memory.read_apart at is) ∙ memory.shows m due (due + 1) at is),
+        ap (λ (tube : Bool). if tube then Some (access (op.Read (at % 8))) else None) (none-both (w.has_tube m) (w.is_tube at) (memory.read_apart at is)),
+        sym (ap (λ (tube : Bool). if tube then byte_in None else w.answer x due at) (none-both (w.has_tube x) (w.is_tube at) (memory.read_apart at is)) ∙ memory.shows m due (due + 1) at is),
         sym (memory.read_leaves x at is),
         memory.read_ticks x due at is ∙ wired.cycle_close m (due + 1),
       )
@@ -99,7 +106,7 @@ module _ (part : Part) {B : Type 0} (w : Wiring B) (wired : IsWired w) (reads wr
       let new : B = w.after x (Write at byte) in
       let same : w.after (w.close m (t + w.cycle m * j + 1)) (Write at byte) ≡ new = ap (λ (u : ℕ). w.after (w.close m (u + 1)) (Write at byte)) (sym there) in
       let closed : w.closed new ≡ max (due + 1) (w.closed m) = memory.write_closed x at byte is ∙ wired.closed m (due + 1) in (
-        ap (λ (tube : Bool). if tube then Some (access (op.Write (at % 8) byte)) else None) (memory.write_apart at is),
+        ap (λ (tube : Bool). if tube then Some (access (op.Write (at % 8) byte)) else None) (none-both (w.has_tube m) (w.is_tube at) (memory.write_apart at is)),
         refl,
         ap (λ (b : B). w.close b (due + 1)) same ∙ wired.still new (due + 1) (omega (arith, closed)),
         memory.write_ticks x due at byte is ∙ wired.cycle_close m (due + 1),
@@ -233,6 +240,75 @@ module _ (part : Part) {B : Type 0} (w : Wiring B) (wired : IsWired w) (reads wr
           let way_on = quick-more part w wired plain stays far until lines sure start n s since byte c on b way (omega (arith, fits, in_run, some))
           (omega (arith, fits, far_on, some)) is done refl closed more in
           rec on b way_on h.1 (omega (arith, here, sum)) (omega (arith, closed)) (rests-on t j s.due s.bus c lines masks quiet h.0 tick (omega (arith, fits, still, some)) rest)
+
+      -- the next access is the Tube's
+      abbrev pub AtTube : Option Cycle → Type 0
+      AtTube None = ⊥
+      AtTube (Some c) = (b : B) × IsAtTube w b c
+
+      apart : (c : Cycle) → is_plain (reach_of w reads writes) c ≡ true → (b : B) → IsAtTube w b c → ⊥
+      apart (Read at) is b tube = true-false (sym tube ∙ none-both (w.has_tube b) (w.is_tube at) (memory.read_apart at is))
+      apart (Write at byte) is b tube = true-false (sym tube ∙ none-both (w.has_tube b) (w.is_tube at) (memory.write_apart at is))
+
+      -- so that none of an instruction that comes to the Tube is halted
+      unhalted : (t k : ℕ) (s : cpu.State) (m : B) (last : cpu.State) (there : B) → Carried (reach_of w reads writes) t part (suc k) s m last there → AtTube (next_cycle part last) → halted part s ≡ false
+      unhalted t k s m last there h tube = by (halted part s) refl
+        where
+          clash : (o : Option Cycle) → AtTube o → Ahead t k s o m last there → ⊥
+          clash None at h = h
+          clash (Some c) at h = apart c h.0 at.0 at.1
+
+          by : (b : Bool) → halted part s ≡ b → b ≡ false
+          by false is = refl
+          by true is = absurd (clash (next_cycle part s) (subst (λ (x : cpu.State). AtTube (next_cycle part x)) (stays-halted part (reach_of w reads writes) t (suc k) s m last there is h) tube) h)
+
+      some-there : (o : Option Cycle) → AtTube o → IsSome o
+      some-there None at = absurd at
+      some-there (Some c) at = refl
+
+      more-there : (t k : ℕ) (on : cpu.State) (b : B) (last : cpu.State) (there : B) → Carried (reach_of w reads writes) t part k on b last there → AtTube (next_cycle part last) → IsSome (next_cycle part on)
+      more-there t zero on b last there h tube = some-there (next_cycle part on) (subst (λ (x : cpu.State). AtTube (next_cycle part x)) (sym h.0) tube)
+      more-there t (suc k) on b last there h tube = some-first part (reach_of w reads writes) t k on b last there h
+
+      next-to : (R : Type 0) (k : ℕ) (s : At B) (since t : ℕ) (last : cpu.State) (there : B) (top : ℕ) (o : Option Cycle) → next_cycle part s.cpu ≡ o → IsUnderWay part w plain far n until lines sure start s since →
+          Ahead t k s.cpu o s.bus last there → AtTube (next_cycle part last) → s.due ≡ t + n * length s.cpu.seen → w.closed s.bus ≤ s.due + 1 → halted part s.cpu ≡ false →
+          s.due + n ≤ top → top ≤ far → top ≤ until → top ≤ quiet → rests s.bus lines masks quiet →
+          ((on : cpu.State) (b : B) → IsUnderWay part w plain far n until lines sure start (at_of on b (s.due + n)) since → Carried (reach_of w reads writes) t part k on b last there →
+          s.due + n ≡ t + n * length on.seen → w.closed b ≤ s.due + n + 1 → rests b lines masks quiet → R) → R
+      next-to R k s since t last there top None is way h tube here before goes fits far_on in_run still rest rec = absurd h
+      next-to R k s since t last there top (Some c) is way h tube here before goes fits far_on in_run still rest rec =
+          let g : Reach B = reach_of w reads writes in
+          let j : ℕ = length s.cpu.seen in
+          let byte : ℕ = shows g s.bus c in
+          let b : B = leaves g t s.bus j c in
+          let on : cpu.State = after_byte part s.cpu byte in
+          let some : 1 < n = omega (arith, way.cycle, wired.some s.bus) in
+          let tick : s.due ≡ t + w.cycle s.bus * j = here ∙ ap (λ (c : ℕ). t + c * j) way.cycle in
+          let done : IsQuick w s.bus s.due c (Some byte) b = is-quick t j s.due s.bus c h.0 tick before in
+          let closed : w.closed b ≤ s.due + 1 = is-closed t j s.due s.bus c h.0 tick before in
+          let more : IsSome (next_cycle part on) = more-there t k on b last there h.1 tube in
+          let one : length on.seen ≡ j + 1 = seen-on part s.cpu on byte refl goes in
+          let sum : n * length on.seen ≡ n * j + n = ap (λ (x : ℕ). n * x) one ∙ one-more n j in
+          let way_on = quick-more part w wired plain stays far until lines sure start n s since byte c on b way (omega (arith, fits, in_run, some)) (omega (arith, fits, far_on, some)) is done refl closed more in
+          rec on b way_on h.1 (omega (arith, here, sum)) (omega (arith, closed)) (rests-on t j s.due s.bus c lines masks quiet h.0 tick (omega (arith, fits, still, some)) rest)
+
+      -- an instruction is under way, and all its accesses up to one of the Tube are plain: they are steps, and then comes that access
+      pub to-tube : (k : ℕ) (s : At B) (since t : ℕ) (last : cpu.State) (there : B) (top : ℕ) → IsUnderWay part w plain far n until lines sure start s since →
+          Carried (reach_of w reads writes) t part k s.cpu s.bus last there → AtTube (next_cycle part last) → s.due ≡ t + n * length s.cpu.seen → w.closed s.bus ≤ s.due + 1 →
+          s.due + n * k ≡ top → top ≤ far → top ≤ until → top ≤ quiet → rests s.bus lines masks quiet →
+          IsUnderWay part w plain far n until lines sure start (at_of last there top) since × rests there lines masks quiet
+      to-tube zero s since t last there top way h tube here before fits far_on in_run still rest =
+          let same : s.due ≡ top = omega (arith, fits) in (
+            subst (λ (x : ℕ). IsUnderWay part w plain far n until lines sure start (at_of last there x) since) same
+                (subst (λ (x : cpu.State). IsUnderWay part w plain far n until lines sure start (at_of x there s.due) since) h.0
+                (subst (λ (x : B). IsUnderWay part w plain far n until lines sure start (at_of s.cpu x s.due) since) h.1 way)),
+            subst (λ (x : B). rests x lines masks quiet) h.1 rest,
+          )
+      to-tube (suc k) s since t last there top way h tube here before fits far_on in_run still rest =
+          let sum : n * suc k ≡ n * k + n = next-more n k in
+          next-to (IsUnderWay part w plain far n until lines sure start (at_of last there top) since × rests there lines masks quiet) k s since t last there top (next_cycle part s.cpu) refl way h tube here before
+          (unhalted t k s.cpu s.bus last there h tube) (omega (arith, fits, sum)) far_on in_run still rest
+          (λ on b way_on h_on here_on before_on rest_on. to-tube k (at_of on b (s.due + n)) since t last there top way_on h_on tube here_on before_on (omega (arith, fits, sum)) far_on in_run still rest_on)
 
       -- what follows of an instruction that is under way, whose look is at the tick before top
       walk : (k : ℕ) (s : At B) (since t : ℕ) (last : cpu.State) (there : B) (top : ℕ) → IsUnderWay part w plain far n until lines sure start s since →

@@ -1,5 +1,5 @@
 -- What an access comes to, and where steps leave off.
-use Rattle.std.specs.Prelude.{ℕ, true, max, is_none, ◌≡◌, ◌≤◌, ◌<◌, ◌+◌, ◌-◌, ◌*◌, nat_lt, if◌then◌else◌, Option, Some, None, IsSome, MatchOption, Result, Ok, Err}
+use Rattle.std.specs.Prelude.{ℕ, true, max, is_none, ◌≡◌, ◌≤◌, ◌<◌, ◌+◌, ◌-◌, ◌*◌, ◌&&◌, nat_lt, if◌then◌else◌, Option, Some, None, IsSome, MatchOption, Result, Ok, Err}
 use Rattle.op_table.specs.declared.names.Part.{Part}
 use Rattle.op_table.specs.declared.names.Part.TheVariants.{Cmos}
 use Rattle.cpu_alu.specs.declared.Cycle.{Cycle}
@@ -9,7 +9,8 @@ use Rattle.cpu_core.specs.Sequences.{next_cycle}
 use Rattle.tube_chip.specs.Act.{access}
 use Rattle.tube_chip.specs.declared.Answer.TheVariants.{Byte}
 use Rattle.tube_chip.specs.declared.Lines.{Lines}
-use Rattle.tube_party.specs.Moves.{FitsAnswer, Looks, Sees, shown_lines}
+use Rattle.tube_chip.specs.declared.Op.{Op}
+use Rattle.tube_party.specs.Moves.{FitsAnswer, Looks, Sees, Talks, Hears, shown_lines}
 use Rattle.tube_machine.specs.declared.bus.Done.{Done}
 use Rattle.tube_machine.specs.declared.bus.Unable.{Unable}
 use Rattle.tube_machine.specs.declared.bus.Unable.TheVariants.{Tube, Full}
@@ -23,26 +24,26 @@ use Rattle.tube_machine.specs.Wiring.{Wiring}
 use Rattle.tube_machine.specs.Step.{At, asks, asks_by, byte_of, next_state, moves_of}
 
 module _ {B : Type 0} (w : Wiring B) where
-  -- an access at an address of the Tube
-  abbrev pub IsAtTube : Cycle → Type 0
-  IsAtTube (Read at) = w.is_tube at ≡ true
-  IsAtTube (Write at byte) = w.is_tube at ≡ true
+  -- an access that the Tube answers
+  abbrev pub IsAtTube : B → Cycle → Type 0
+  IsAtTube b (Read at) = (w.has_tube b && w.is_tube at) ≡ true
+  IsAtTube b (Write at byte) = (w.has_tube b && w.is_tube at) ≡ true
 
   -- An access at tick t is done, with the devices closed before it, or it asks the Tube, or it cannot be noted.
   abbrev pub IsExchanged : B → ℕ → Cycle → Result Done Unable → B → Type 0
   IsExchanged b t c (Ok done) new =
-      (asks_by w (Some c) ≡ None)
+      (asks_by w b (Some c) ≡ None)
       × (done.byte ≡ byte_of w (w.close b (t + 1)) t None c)
       × (new ≡ w.after (w.close b (t + 1)) c)
       × (done.ticks ≡ w.takes (w.close b (t + 1)) t c)
-  IsExchanged b t c (Err (Tube o)) new = (asks_by w (Some c) ≡ Some (access o)) × (new ≡ b)
+  IsExchanged b t c (Err (Tube o)) new = (asks_by w b (Some c) ≡ Some (access o)) × (new ≡ b)
   IsExchanged b t c (Err Full) new = new ≡ b
 
   -- An access at tick t is done in one cycle, and the bus that it leaves need not be closed yet; or nothing has changed.
   abbrev pub IsQuick : B → ℕ → Cycle → Option ℕ → B → Type 0
   IsQuick b t c None new = new ≡ b
   IsQuick b t c (Some byte) new =
-      (asks_by w (Some c) ≡ None)
+      (asks_by w b (Some c) ≡ None)
       × (byte ≡ byte_of w (w.close b (t + 1)) t None c)
       × (w.close new (t + 1) ≡ w.after (w.close b (t + 1)) c)
       × (w.takes (w.close b (t + 1)) t c ≡ w.cycle b)
@@ -92,6 +93,10 @@ pub record HasSpent (counts : Type 0) (cycle sure : ℕ) (old new : Spent) : Typ
 abbrev pub ready : Part → cpu.State → ℕ → ℕ
 ready part c due = if is_none (next_cycle part c) then due + 1 else due
 
+-- no access is answered in passing
+abbrev pub IsShut : {D : Type 0} → (D → ℕ → Op → ℕ → D → Type 0) → Type 0
+IsShut {D} answers = (d : D) (t : ℕ) (op : Op) (byte : ℕ) (e : D) → answers d t op byte e → ⊥
+
 -- Notes cost no more than a cycle each, and so do the cycles of a sequence that began below a tick: what is left at an access by what there was.
 abbrev pub Spends : Part → ℕ → ℕ → Spent → Stop → Spent → Type 0
 Spends part cycle sure old Access new = HasSpent (part ≡ Cmos) cycle sure old new
@@ -104,6 +109,14 @@ module _ (part : Part) {B : Type 0} (w : Wiring B) where
   IsRun until lines sure old left.Full new = Unit {0}
   IsRun until lines sure old (left.Asked ask) new = Sees (moves_of part w) until (shown_lines lines sure) old ask new
   IsRun until lines sure old left.Look new = ((k : ℕ) × Looks (moves_of part w) until (shown_lines lines sure) k old new) × (next_cycle part new.cpu ≡ None)
+
+-- The same, but with accesses that are answered in passing. What answers goes from d to e.
+module _ (part : Part) {B D : Type 0} (w : Wiring B) (answers : D → ℕ → Op → ℕ → D → Type 0) where
+  abbrev pub IsServedRun : ℕ → Lines → ℕ → At B → D → Left → At B → D → Type 0
+  IsServedRun until lines sure old d left.Full new e = Unit {0}
+  IsServedRun until lines sure old d (left.Asked ask) new e = Hears (moves_of part w) answers until (shown_lines lines sure) old d ask new e
+  IsServedRun until lines sure old d left.Look new e =
+      ((j : ℕ) × Talks (moves_of part w) answers until (shown_lines lines sure) j old d new e) × (next_cycle part new.cpu ≡ None)
 
 -- A run from a tick came to the end of its room in a sequence that began below the tick sure, or with the run: a write takes a cycle, and so do all
 -- of the fewer than 16 accesses of that sequence that are done.

@@ -13,7 +13,7 @@ use Rattle.tube_chip.specs.declared.Answer.{Answer}
 use Rattle.tube_chip.specs.Act.{access, MayDo}
 use Rattle.tube_party.specs.Moves.{IsLawful, IsPermitted, MayAsk}
 use Rattle.tube_machine.specs.Wiring.{Wiring, IsWired}
-use Rattle.tube_machine.specs.Step.{At, is_last_tick, is_break, asks_by, byte_of, after_break, after_step, closed_to, lines_in, next_state, moves_of}
+use Rattle.tube_machine.specs.Step.{At, is_last_tick, is_break, asks_by, asks_reset, byte_of, after_break, after_step, closed_to, lines_in, next_state, moves_of}
 
 later : (over : Bool) (t n : ℕ) → 1 < n → t < (if over then t + (n - 1) else t + n)
 later true t n some = omega (arith, some)
@@ -57,6 +57,14 @@ module _ (part : Part) {B : Type 0} (w : Wiring B) (wired : IsWired w) where
       else after_step part w (next_cycle part s.cpu) (closed_to w (closed_to w s t) (s.due + 1)) a) (break_closed s t)
       ∙ ap (λ (x : At B). if is_break part w s then after_break part w x else after_step part w (next_cycle part s.cpu) x a) (again s t (s.due + 1) high)
 
+  -- what a step asks stays too
+  pub asked_closed : (breaks : Bool) (c : Option Cycle) (b : B) (t : ℕ) →
+      (if breaks then asks_reset w (w.close b t) else asks_by w (w.close b t) c) ≡ (if breaks then asks_reset w b else asks_by w b c)
+  asked_closed true c b t = ap (λ (has : Bool). if has then Some (access op.Reset) else None) (wired.tube_close b t)
+  asked_closed false None b t = refl
+  asked_closed false (Some (Read at)) b t = ap (λ (has : Bool). if has && w.is_tube at then Some (access (op.Read (at % 8))) else None) (wired.tube_close b t)
+  asked_closed false (Some (Write at byte)) b t = ap (λ (has : Bool). if has && w.is_tube at then Some (access (op.Write (at % 8) byte)) else None) (wired.tube_close b t)
+
   pub lawful : IsLawful (moves_of part w)
   lawful = record {
     rises = λ s a. rises_by (is_break part w s) (next_cycle part s.cpu) (closed_to w s (s.due + 1)) a;
@@ -64,7 +72,8 @@ module _ (part : Part) {B : Type 0} (w : Wiring B) (wired : IsWired w) where
     closing = λ s t low high. record {
       closed = omega (arith, low, high, wired.closed s.bus t);
       due = refl;
-      asks = ap (λ (b : Bool). if b then Some (access op.Reset) else asks_by w (next_cycle part s.cpu)) (break_closed s t);
+      asks = ap (λ (b : Bool). if b then asks_reset w (w.close s.bus t) else asks_by w (w.close s.bus t) (next_cycle part s.cpu)) (break_closed s t)
+          ∙ asked_closed (is_break part w s) (next_cycle part s.cpu) s.bus t;
       next = λ a. next_closed s t a (omega (arith, high));
       again = λ u low2 high2. again s t u low2;
     };
@@ -76,19 +85,19 @@ may_ask true side o may = may
 may_ask false side o may = tt
 
 module _ {B : Type 0} (w : Wiring B) where
-  permitted : (side : Side) (c : Option Cycle) → MayAsk side (asks_by w c)
-  permitted side None = tt
-  permitted side (Some (Read at)) = may_ask (w.is_tube at) side (op.Read (at % 8)) (omega arith)
-  permitted side (Some (Write at byte)) = may_ask (w.is_tube at) side (op.Write (at % 8) byte) (omega arith)
+  permitted : (side : Side) (b : B) (c : Option Cycle) → MayAsk side (asks_by w b c)
+  permitted side b None = tt
+  permitted side b (Some (Read at)) = may_ask (w.has_tube b && w.is_tube at) side (op.Read (at % 8)) (omega arith)
+  permitted side b (Some (Write at byte)) = may_ask (w.has_tube b && w.is_tube at) side (op.Write (at % 8) byte) (omega arith)
 
-  permitted_by : (breaks : Bool) (side : Side) (c : Option Cycle) → (breaks ≡ true → MayDo side op.Reset) → MayAsk side (if breaks then Some (access op.Reset) else asks_by w c)
-  permitted_by true side c may = may refl
-  permitted_by false side c may = permitted side c
+  permitted_by : (breaks : Bool) (side : Side) (b : B) (c : Option Cycle) → (breaks ≡ true → MayDo side op.Reset) → MayAsk side (if breaks then asks_reset w b else asks_by w b c)
+  permitted_by true side b c may = may_ask (w.has_tube b) side op.Reset (may refl)
+  permitted_by false side b c may = permitted side b c
 
 module _ (part : Part) {B : Type 0} (w : Wiring B) where
   -- A machine may play a side that may ask for the reset operation, or any side, if no break is ever pending.
   pub may_play : (plays : Side → Bool) → ((b : B) (t : ℕ) (side : Side) → IsTrue (plays side) → w.pending b t ≡ true → MayDo side op.Reset) → IsPermitted (moves_of part w) plays
-  may_play plays may s side plays_it = permitted_by w (is_break part w s) side (next_cycle part s.cpu) (λ breaks. may s.bus s.due side plays_it (pending_at (w.pending s.bus s.due) _ breaks))
+  may_play plays may s side plays_it = permitted_by w (is_break part w s) side s.bus (next_cycle part s.cpu) (λ breaks. may s.bus s.due side plays_it (pending_at (w.pending s.bus s.due) _ breaks))
     where
       pending_at : (p q : Bool) → (p && q) ≡ true → p ≡ true
       pending_at true q e = refl

@@ -7,16 +7,17 @@ use Rattle.tube_party.specs.declared.party.Ask.TheVariants.{Look}
 use Rattle.tube_party.specs.Moves.{Moves, Shown, Advances}
 use Rattle.tube_machine.specs.Step.{At}
 use Rattle.tube_machine.specs.declared.pass.Passing.{Passing}
-use Rattle.tube_machine.specs.declared.pass.Passing.TheVariants.{Elsewhere, Same}
+use Rattle.tube_machine.specs.declared.pass.Passing.TheVariants.{Before, Elsewhere, Same}
 
--- A start at this PC, of a machine in whose memory these bytes stand, is passed over.
-abbrev pub IsOver : Passing → ℕ → (ℕ → Option ℕ) → Type 0
-IsOver (Elsewhere at) pc peek = pc ≢ at
-IsOver (Same at byte) pc peek = peek at ≡ byte
+-- A start at this tick and this PC, of a machine in whose memory these bytes stand, is passed over.
+abbrev pub IsOver : Passing → ℕ → ℕ → (ℕ → Option ℕ) → Type 0
+IsOver (Before end) tick pc peek = tick < end
+IsOver (Elsewhere at) tick pc peek = pc ≢ at
+IsOver (Same at byte) tick pc peek = peek at ≡ byte
 
 -- a machine starts an instruction, and that start is passed over
 abbrev pub over_at : {B : Type 0} → (B → ℕ → Option ℕ) → Passing → At B → Type 0
-over_at peek passing s = (starting s.cpu ≡ true) × IsOver passing s.cpu.regs.pc (peek s.bus)
+over_at peek passing s = (starting s.cpu ≡ true) × IsOver passing s.due s.cpu.regs.pc (peek s.bus)
 
 -- Steps below tick n that ask nothing, and then a look that is sure, and sees these lines.
 pub record ToLook {S : Type 0} (m : Moves S) (n : ℕ) (v : Shown) (s on : S) : Type 0 where

@@ -48,15 +48,20 @@ abbrev pub begin_leaves : {B : Type 0} → At B → cpu.State → B → At B
 begin_leaves s c b = record { cpu = c; bus = b; due = s.due + 1 }
 
 module _ {B : Type 0} (w : Wiring B) where
-  -- What any other step asks of the Tube: an access at an address of the Tube by its low three bits, and where the sequence is over, a look.
-  abbrev pub asks_by : Option Cycle → Option Query
-  asks_by None = Some look
-  asks_by (Some (Read at)) = if w.is_tube at then Some (access (op.Read (at % 8))) else None
-  asks_by (Some (Write at byte)) = if w.is_tube at then Some (access (op.Write (at % 8) byte)) else None
+  -- A break step asks for the reset operation, where there is a Tube.
+  abbrev pub asks_reset : B → Option Query
+  asks_reset b = if w.has_tube b then Some (access op.Reset) else None
+
+  -- What any other step asks of the Tube: an access at an address of the Tube by its low three bits, if there is one, and where the sequence is
+  -- over, a look.
+  abbrev pub asks_by : B → Option Cycle → Option Query
+  asks_by b None = Some look
+  asks_by b (Some (Read at)) = if w.has_tube b && w.is_tube at then Some (access (op.Read (at % 8))) else None
+  asks_by b (Some (Write at byte)) = if w.has_tube b && w.is_tube at then Some (access (op.Write (at % 8) byte)) else None
 
   -- the byte that an access at tick t shows the processor
   abbrev pub byte_of : B → ℕ → Option Answer → Cycle → ℕ
-  byte_of b t answer (Read at) = if w.is_tube at then byte_in answer else w.answer b t at
+  byte_of b t answer (Read at) = if w.has_tube b && w.is_tube at then byte_in answer else w.answer b t at
   byte_of b t answer (Write at byte) = 0
 
   abbrev pub closed_to : At B → ℕ → At B
@@ -67,9 +72,8 @@ module _ (part : Part) {B : Type 0} (w : Wiring B) where
   abbrev pub is_break : At B → Bool
   is_break s = w.pending s.bus s.due && (is_none (next_cycle part s.cpu) || (halted part s.cpu && is_last_tick (w.cycle s.bus) s.due))
 
-  -- A break step asks for the reset operation.
   abbrev pub asks : At B → Option Query
-  asks s = if is_break s then Some (access op.Reset) else asks_by w (next_cycle part s.cpu)
+  asks s = if is_break s then asks_reset w s.bus else asks_by w s.bus (next_cycle part s.cpu)
 
   -- After an access of so many ticks: the next step is at the last of them where a look or a break step ends it, and else behind them.
   abbrev pub after_cycle : At B → Bool → cpu.State → ℕ → At B

@@ -1,13 +1,21 @@
 -- Whole instructions at a bus: which of its accesses are of plain memory, and what the looks behind them find.
-use Rattle.std.specs.Prelude.{ℕ, ◌≡◌, ◌≤◌, ◌<◌, ◌+◌, ◌*◌, ◌&&◌, length, Bool, true, false, not, IsSome}
+use Rattle.std.specs.Prelude.{ℕ, ◌≡◌, ◌≤◌, ◌<◌, ◌+◌, ◌*◌, ◌&&◌, Bool, true, false, not, Some, IsSome}
 use Rattle.op_table.specs.declared.names.Part.{Part}
+use Rattle.cpu_alu.specs.declared.Cycle.{Cycle}
 use Rattle.cpu_alu.specs.declared.Cycle.TheVariants.{Read, Write}
-use Rattle.cpu_core.specs.Sequences.{next_cycle}
+use Rattle.cpu_core.specs.Sequences.{next_cycle, starting}
+use Rattle.cpu_alu.specs.declared.flags.TheConstants.{INTERRUPT}
+use Rattle.cpu_alu.specs.Flags.{has_flag}
+use Rattle.cpu_whole.specs.Outside.{IsOutside, access_of}
+use Rattle.cpu_whole.specs.declared.outside.LastAccess.{LastAccess}
+use Rattle.tube_chip.specs.Act.{access}
 use Rattle.cpu_whole.specs.Whole.{Reach, IsPlain}
 use Rattle.tube_chip.specs.declared.Lines.{Lines}
-use Rattle.tube_party.specs.Moves.{Looks, shown_lines}
+use Rattle.tube_chip.specs.declared.Op.{Op}
+use Rattle.tube_party.specs.Moves.{Looks, Talks, shown_lines}
 use Rattle.tube_machine.specs.Wiring.{Wiring}
-use Rattle.tube_machine.specs.Step.{At, moves_of}
+use Rattle.tube_machine.specs.Step.{At, asks_by, moves_of}
+use Rattle.tube_machine.specs.Exchange.{IsAtTube}
 
 -- The memory of a bus, by the addresses that are plain for reads and for writes. A read shows at each tick what it shows at tick 0. The cycles of
 -- an instruction follow one another, and a write closes the devices before it.
@@ -37,11 +45,12 @@ pub record IsAtRest {B : Type 0} (w : Wiring B) (b : B) (lines : Lines) (masks :
   pub irq : (w.irq b lines && not masks) ≡ false
   pub taken : w.taken b lines ≡ b
 
--- Looks below a tick that see these lines do so: closing the bus up to there and plain writes change nothing of that.
+-- Looks below a tick that see these lines do so: closing the bus up to there, plain writes and accesses of the Tube change nothing of that.
 pub record StaysAtRest {B : Type 0} (w : Wiring B) (writes : ℕ → Bool) (rests : B → Lines → Bool → ℕ → Type 0) : Type 0 where
   pub looks : (b : B) (lines : Lines) (masks : Bool) (far t : ℕ) → rests b lines masks far → t < far → IsAtRest w (w.close b (t + 1)) lines masks
   pub close : (b : B) (lines : Lines) (masks : Bool) (far t : ℕ) → rests b lines masks far → t ≤ far → rests (w.close b t) lines masks far
   pub write : (b : B) (lines : Lines) (masks : Bool) (far at byte : ℕ) → rests b lines masks far → writes at ≡ true → rests (w.after b (Write at byte)) lines masks far
+  pub tube : (b : B) (lines : Lines) (masks : Bool) (far : ℕ) (c : Cycle) → rests b lines masks far → IsAtTube w b c → rests (w.after b c) lines masks far
 
 -- Steps from one machine to another, up to an access: each asks nothing, or is a look below a tick, as all of them are. Cycles, breaks and plain
 -- looks are as before.
@@ -52,3 +61,26 @@ pub record IsOnward (part : Part) {B : Type 0} (w : Wiring B) (plain : B → Lin
   pub cycle : w.cycle old.bus ≡ w.cycle new.bus
   pub free : (far : ℕ) → bound ≤ far → ((t : ℕ) → t < far → w.pending old.bus t ≡ false) → (t : ℕ) → t < far → w.pending new.bus t ≡ false
   pub is_plain : plain new.bus lines ≡ true
+
+-- The same, but with accesses that are answered in passing. What answers goes from d to e.
+pub record IsServed (part : Part) {B D : Type 0} (w : Wiring B) (plain : B → Lines → Bool) (answers : D → ℕ → Op → ℕ → D → Type 0) (lines : Lines) (bound : ℕ)
+    (old : At B) (d : D) (new : At B) (e : D) : Type 0 where
+  pub talks : (until sure : ℕ) → bound ≤ until → bound ≤ sure → (j : ℕ) × Talks (moves_of part w) answers until (shown_lines lines sure) j old d new e
+  pub goes_on : IsSome (next_cycle part new.cpu)
+  pub closed : w.closed new.bus ≤ new.due + 1
+  pub cycle : w.cycle old.bus ≡ w.cycle new.bus
+  pub free : (far : ℕ) → bound ≤ far → ((t : ℕ) → t < far → w.pending old.bus t ≡ false) → (t : ℕ) → t < far → w.pending new.bus t ≡ false
+  pub is_plain : plain new.bus lines ≡ true
+
+-- An instruction begins whose last access asks this of the Tube, and all others are plain reads; it surely ends below a bound, and below a tick up to
+-- which looks ask for nothing.
+pub record IsAtHand (part : Part) {B : Type 0} (w : Wiring B) (reads writes : ℕ → Bool) (rests : B → Lines → Bool → ℕ → Type 0) (lines : Lines) (bound : ℕ)
+    (at : At B) (last : LastAccess) (op : Op) : Type 0 where
+  pub starts : starting at.cpu ≡ true
+  pub outside : (t : ℕ) → IsOutside part (reach_of w reads writes) t at.cpu.regs at.bus last
+  pub few : last.cycles ≤ 5
+  pub asks : asks_by w at.bus (Some (access_of last)) ≡ Some (access op)
+  pub fits : at.due + 8 * w.cycle at.bus ≤ bound
+  pub quiet : ℕ
+  pub still : at.due + 8 * w.cycle at.bus ≤ quiet
+  pub rest : rests at.bus lines (has_flag at.cpu.regs.p INTERRUPT) quiet

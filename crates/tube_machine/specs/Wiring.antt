@@ -7,9 +7,10 @@ use Rattle.tube_chip.specs.declared.Lines.{Lines}
 pub record Wiring (B : Type 0) : Type 0 where
   -- how many ticks a cycle has
   pub cycle : B → ℕ
-  -- whether an address is the Tube's
+  -- whether there is a Tube, and which addresses are its
+  pub has_tube : B → Bool
   pub is_tube : ℕ → Bool
-  -- the byte that a read at a tick shows, of any other address
+  -- the byte that a read at a tick shows where the Tube does not answer
   pub answer : B → ℕ → ℕ → ℕ
   -- the bus after an access
   pub after : B → Cycle → B
@@ -30,8 +31,8 @@ pub record Wiring (B : Type 0) : Type 0 where
   pub closed : B → ℕ
   pub close : B → ℕ → B
 
--- What holds of each bus: a cycle is some ticks, accesses and looks leave what a cycle is and which breaks are pending, and closing a bus so far
--- and then further is closing it further at once.
+-- What holds of each bus: a cycle is some ticks, accesses and looks leave what a cycle is and which breaks are pending, closing a bus so far and
+-- then further is closing it further at once, and it leaves whether there is a Tube.
 pub record IsWired {B : Type 0} (w : Wiring B) : Type 0 where
   pub some : (b : B) → 2 ≤ w.cycle b
   pub few : (b : B) → w.cycle b ≤ 6
@@ -39,6 +40,7 @@ pub record IsWired {B : Type 0} (w : Wiring B) : Type 0 where
   pub closed : (b : B) (t : ℕ) → w.closed (w.close b t) ≡ max t (w.closed b)
   pub again : (b : B) (t u : ℕ) → t ≤ u → w.close (w.close b t) u ≡ w.close b u
   pub still : (b : B) (t : ℕ) → t ≤ w.closed b → w.close b t ≡ b
+  pub tube_close : (b : B) (t : ℕ) → w.has_tube (w.close b t) ≡ w.has_tube b
   pub cycle_close : (b : B) (t : ℕ) → w.cycle (w.close b t) ≡ w.cycle b
   pub cycle_after : (b : B) (c : Cycle) → w.cycle (w.after b c) ≡ w.cycle b
   pub cycle_taken : (b : B) (l : Lines) → w.cycle (w.taken b l) ≡ w.cycle b

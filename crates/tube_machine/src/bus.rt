@@ -1,14 +1,18 @@
 //! What a machine's processor reaches.
-ghost use Rattle.std.specs.Prelude.{ℕ, Bool, ◌≡◌, ◌≤◌, ◌<◌, ◌+◌, ◌*◌, ◌^◌, true, false, Option, None, IfOk, Err};
+ghost use Rattle.std.specs.Prelude.{ℕ, Bool, ◌≡◌, ◌≤◌, ◌<◌, ◌+◌, ◌*◌, ◌^◌, true, false, Option, None, Some, MatchOption, IfOk, Err};
 ghost use Rattle.cpu_alu.specs.declared.Cycle.{Cycle};
 ghost use Rattle.tube_chip.specs.declared.Lines.{Lines};
+ghost use Rattle.tube_chip.specs.Act.{access};
 ghost use Rattle.tube_machine.specs.Wiring.{Wiring, IsWired, StaysPlain};
+ghost use Rattle.tube_machine.specs.Step.{asks_by};
 ghost use Rattle.tube_machine.specs.Exchange.{IsExchanged, IsQuick, IsAtTube};
 ghost use Rattle.tube_machine.specs.Whole.{reach_of, IsMemory, StaysAtRest};
 ghost use Rattle.cpu_whole.specs.Whole as whole;
+ghost use Rattle.cpu_whole.specs.Outside as outside;
 
 use beeb_bits::Tick;
 use cpu_alu::{Cycle, Regs};
+use cpu_whole::LastAccess;
 use op_table::Part;
 use tube_chip::{Lines, Op};
 
@@ -66,6 +70,9 @@ pub trait TubeBus<N>: Drop {
     /// Where writes are noted each access takes one cycle.
     ghost even: { endless ≡ false → (b : State) (t : ℕ) (c : Cycle) → wiring.takes b t c ≡ wiring.cycle b };
 
+    /// And there is a Tube.
+    ghost joined: { endless ≡ false → (b : State) → wiring.has_tube b ≡ true };
+
     /// Addresses of plain memory, for reads and for writes.
     ghost reads: { ℕ → Bool };
 
@@ -86,6 +93,10 @@ pub trait TubeBus<N>: Drop {
         ensures value { result ≡ wiring.cycle (state self.now) }
         ensures some { 2 ≤ result }
         ensures bound { result ≤ 6 };
+
+    /// Whether there is a Tube.
+    fn has_tube(&self) -> bool
+        ensures { result ≡ wiring.has_tube (state self.now) };
 
     /// Does all device steps below `t`.
     fn close(&mut self, t: u64)
@@ -111,8 +122,9 @@ pub trait TubeBus<N>: Drop {
     fn take_break(&mut self, t: u64)
         requires low { wiring.closed (state self.old) ≤ t + 1 }
         requires room { t < 2 ^ 40 }
-        ensures { wiring.pending (state self.old) t ≡ true →
-            state self.new ≡ wiring.broken (wiring.close (state self.old) (t + 1)) t };
+        ensures broken { wiring.pending (state self.old) t ≡ true →
+            state self.new ≡ wiring.broken (wiring.close (state self.old) (t + 1)) t }
+        ensures kept { wiring.has_tube (state self.old) ≡ false → (notes : N) → before notes self.new ≡ before notes self.old };
 
     /// Whether a look that sees these lines is to take a reset.
     fn resets(&self, lines: &Lines) -> bool
@@ -144,7 +156,7 @@ pub trait TubeBus<N>: Drop {
 
     /// An access that the Tube answered.
     fn answered(&mut self, cycle: Cycle)
-        requires { IsAtTube wiring cycle }
+        requires { IsAtTube wiring (state self.old) cycle }
         ensures after { state self.new ≡ wiring.after (state self.old) cycle }
         ensures fast { (t : ℕ) → wiring.takes (state self.old) t cycle ≡ wiring.cycle (state self.old) }
         ensures closed { wiring.closed (state self.new) ≡ wiring.closed (state self.old) };
@@ -181,6 +193,17 @@ pub trait TubeBus<N>: Drop {
         ensures noted { before notes.new self.new ≡ before notes.old self.old }
         ensures room { room notes.old ≤ room notes.new + result }
         ensures few { result ≤ 8 };
+
+    /// The last access of the instruction at PC, where all others are reads of plain memory. Where nothing is said its `cycles` are 0. `L` is any
+    /// type of the caller, for which it is compiled.
+    fn last_access<L>(&self, part: Part, regs: &Regs) -> LastAccess
+        ensures outside { let reach = reach_of wiring reads writes in
+            (t : ℕ) → 0 < result.cycles → outside.IsOutside part reach t regs.now (state self.now) result }
+        ensures few { result.cycles ≤ 5 };
+
+    /// What an access asks of the Tube. None where nothing is said.
+    fn asked(&self, cycle: Cycle) -> Option<Op>
+        ensures { MatchOption result (Unit {0}) (λ op. asks_by wiring (state self.now) (Some cycle) ≡ Some (access op)) };
 
     /// Does any access at tick `t`, or tells what it asks of the Tube.
     fn exchange(&mut self, t: u64, cycle: Cycle, notes: &mut N) -> Result<Done, Unable>

@@ -10,4 +10,4 @@ mod steps;
 pub use bus::{Done, Interrupts, TubeBus, Unable};
 pub use pass::{Passing, pass_over};
 pub use processor::Processor;
-pub use steps::{Left, advance_seeing, answer, carry_on, look, take_lines};
+pub use steps::{Left, advance_at, advance_seeing, answer, carry_on, look, take_lines};

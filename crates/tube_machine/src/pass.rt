@@ -20,6 +20,8 @@ use tube_chip::Lines;
 /// Which starts of instructions are passed over.
 #[derive(Clone, Copy, Debug, PartialEq, Eq)]
 pub enum Passing {
+    /// Those below this tick.
+    Before(u64),
     /// Those whose PC is not this address.
     Elsewhere(u16),
     /// Those at which this byte stands at this address, or none as said.
@@ -38,13 +40,14 @@ fn is_same(one: Option<u8>, other: Option<u8>) -> bool
     }
 }
 
-// Whether a start at this PC is passed over.
+// Whether a start at tick `t` and this PC is passed over.
 #[inline(always)]
-fn is_over<N, B: TubeBus<N>>(passing: Passing, pc: u16, bus: &B) -> bool
-    ensures over { result ≡ true → IsOver passing pc (B.peek (B.state bus.now)) }
-    ensures stays { result ≡ false → IsOver passing pc (B.peek (B.state bus.now)) → ⊥ }
+fn is_over<N, B: TubeBus<N>>(passing: Passing, t: u64, pc: u16, bus: &B) -> bool
+    ensures over { result ≡ true → IsOver passing t pc (B.peek (B.state bus.now)) }
+    ensures stays { result ≡ false → IsOver passing t pc (B.peek (B.state bus.now)) → ⊥ }
 {
     match passing {
+        Passing::Before(end) => t < end,
         Passing::Elsewhere(at) => pc != at,
         Passing::Same(at, byte) => is_same(bus.peek(at), byte),
     }
@@ -63,7 +66,7 @@ fn whole_if_over<N, B: TubeBus<N>>(
 ) -> u64
     requires closed { (B.wiring).closed (B.state bus.old) ≤ t + 1 }
     requires room { t < 2 ^ 40 }
-    ensures over { 0 < result → IsOver passing (regs.old).pc (B.peek (B.state bus.old)) }
+    ensures over { 0 < result → IsOver passing t (regs.old).pc (B.peek (B.state bus.old)) }
     ensures closed { 0 < result → (B.wiring).closed (B.state bus.new) ≤ t + (B.wiring).cycle (B.state bus.old) * result }
     ensures done { let reach = reach_of B.wiring B.reads B.writes in
         0 < result → whole.IsDone part reach t regs.old (B.state bus.old) result regs.new (B.state bus.new) }
@@ -71,7 +74,7 @@ fn whole_if_over<N, B: TubeBus<N>>(
     ensures noted { B.before notes.new bus.new ≡ B.before notes.old bus.old }
     ensures few { result ≤ 8 }
 {
-    if is_over::<N, B>(passing, regs.pc, bus) {
+    if is_over::<N, B>(passing, t, regs.pc, bus) {
         bus.whole::<Passing>(part, regs, t, notes)
     } else {
         0
@@ -157,7 +160,7 @@ pub fn pass_over<N, P: Processor, B: TubeBus<N>>(
     }
     let first = cpu.at_start();
     let first_end = *due + LONGEST * bus.cycle();
-    if first_end > bound || !is_over::<N, B>(passing, first.pc, bus) {
+    if first_end > bound || !is_over::<N, B>(passing, *due, first.pc, bus) {
         return;
     }
     let quiet = bus.rests_until(lines, has_flag(first.p, INTERRUPT));

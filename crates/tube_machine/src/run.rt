@@ -1,19 +1,22 @@
 //! Steps one after another, as long as they are quick accesses and plain looks that are sure of their lines. They go over the parts of the
 //! machine, with the tick of the next step beside them.
-ghost use Rattle.std.specs.Prelude.{◌≡◌, ◌≤◌, ◌<◌, ◌+◌, ◌-◌, ◌^◌, ℕ, List, [], length, None, IsSome, true, false};
+ghost use Rattle.std.specs.Prelude.{◌≡◌, ◌≤◌, ◌<◌, ◌+◌, ◌-◌, ◌^◌, ℕ, List, [], length, None, IsSome, MatchOption, true, false};
 ghost use Rattle.op_table.specs.declared.Part.TheVariants.{Cmos};
 ghost use Rattle.cpu_alu.specs.Flags.{has_flag};
 ghost use Rattle.cpu_alu.specs.declared.flags.TheConstants.{INTERRUPT};
 ghost use Rattle.cpu_core.specs.Sequences.{next_cycle, starting};
-ghost use Rattle.tube_party.specs.Moves.{Looks, shown_lines};
+ghost use Rattle.tube_party.specs.Moves.{Talks, shown_lines};
 ghost use Rattle.tube_machine.specs.Step.{at_of, moves_of, closed_to, after_look};
-ghost use Rattle.tube_machine.specs.Exchange.{behind, owed_at, ready, spent, HasSpent, IsStop, Spends};
-ghost use Rattle.tube_machine.specs.Whole.{IsOnward};
+ghost use Rattle.tube_machine.specs.Exchange.{behind, owed_at, ready, spent, HasSpent, IsShut, IsStop, Spends};
+ghost use Rattle.tube_machine.specs.Whole.{IsOnward, IsServed, IsAtHand};
 
 use crate::bus::TubeBus;
 use crate::processor::Processor;
+use beeb_bits::Tick;
 use cpu_alu::{INTERRUPT, Regs, has_flag};
-use tube_chip::Lines;
+use cpu_whole::{LastAccess, take_in};
+use tube_chip::{Lines, Op};
+use tube_party::Desk;
 
 /// Where the steps leave off.
 #[derive(Clone, Copy, Debug, PartialEq, Eq)]
@@ -189,10 +192,124 @@ fn go_whole_at_start<N, P: Processor, B: TubeBus<N>>(
     go_whole::<N, P, B>(cpu, bus, notes, from, bound, quiet, lines)
 }
 
+// The last access of the instruction whose first cycle is at tick `from`, and what it asks of the Tube, where that is known, all other accesses are
+// plain reads, and the instruction surely ends in time, as those above do.
+#[inline(always)]
+fn tube_access<N, P: Processor, B: TubeBus<N>>(
+    cpu: &P,
+    bus: &B,
+    from: u64,
+    bound: u64,
+    lines: &Lines,
+) -> Option<(LastAccess, Op)>
+    requires room { bound ≤ 2 ^ 30 }
+    requires from { from ≤ bound }
+    requires plain { B.plain (B.state bus.now) lines.now ≡ true }
+    ensures { let at = at_of (P.core cpu.now) (B.state bus.now) from in
+        MatchOption result (Unit {0}) (λ r. IsAtHand P.part B.wiring B.reads B.writes B.rests lines.now bound at r.0 r.1) }
+{
+    let first_end = from + LONGEST * bus.cycle();
+    if !cpu.starting() || first_end > bound {
+        return None;
+    }
+    let regs = cpu.at_start();
+    let last = bus.last_access::<Stop>(cpu.kind(), &regs);
+    if last.cycles == 0 {
+        return None;
+    }
+    let op = bus.asked(last.access())?;
+    if first_end > bus.rests_until(lines, has_flag(regs.p, INTERRUPT)) {
+        return None;
+    }
+    Some((last, op))
+}
+
+// That instruction, whole with the look behind it, where the desk answers its last access; else nothing is done.
+#[inline(never)]
+fn ask_whole<N, P: Processor, B: TubeBus<N>, D: Desk>(
+    cpu: &mut P,
+    bus: &mut B,
+    from: u64,
+    bound: u64,
+    lines: &Lines,
+    desk: &mut D,
+) -> u64
+    requires room { bound ≤ 2 ^ 30 }
+    requires from { from ≤ bound }
+    requires before { (B.wiring).closed (B.state bus.old) ≤ from + 1 }
+    requires plain { B.plain (B.state bus.old) lines.now ≡ true }
+    requires free { (t : ℕ) → t < bound → (B.wiring).pending (B.state bus.old) t ≡ false }
+    requires goes_on { IsSome (next_cycle P.part (P.core cpu.old)) }
+    ensures served { let old = at_of (P.core cpu.old) (B.state bus.old) from in
+        let new = at_of (P.core cpu.new) (B.state bus.new) result in
+        IsServed P.part B.wiring B.plain D.answers lines.now bound old (D.state desk.old) new (D.state desk.new) }
+    ensures low { from ≤ result }
+    ensures high { result ≤ bound }
+    ensures noted { IsShut D.answers → (notes : N) → B.before notes bus.new ≡ B.before notes bus.old }
+{
+    let Some((last, op)) = tube_access::<N, P, B>(cpu, bus, from, bound, lines) else {
+        return from;
+    };
+    let cycle = bus.cycle();
+    let tick = from + cycle * last.cycles;
+    let Some(byte) = desk.ask(Tick(tick), op) else {
+        return from;
+    };
+    bus.close(tick + 1);
+    bus.answered(last.access());
+    bus.close(tick + cycle);
+    let mut regs = cpu.at_start();
+    take_in(cpu.kind(), &last, &mut regs, byte);
+    cpu.set_out(&regs);
+    tick + cycle
+}
+
+// Whole instructions, where the next cycle is the first of one, and among them those whose last access is the Tube's and is answered by the desk.
+#[inline(always)]
+fn go_asking<N, P: Processor, B: TubeBus<N>, D: Desk>(
+    cpu: &mut P,
+    bus: &mut B,
+    notes: &mut N,
+    from: u64,
+    bound: u64,
+    lines: &Lines,
+    desk: &mut D,
+) -> u64
+    requires room { bound ≤ 2 ^ 30 }
+    requires from { from ≤ bound }
+    requires before { (B.wiring).closed (B.state bus.old) ≤ from + 1 }
+    requires plain { B.plain (B.state bus.old) lines.now ≡ true }
+    requires free { (t : ℕ) → t < bound → (B.wiring).pending (B.state bus.old) t ≡ false }
+    requires goes_on { IsSome (next_cycle P.part (P.core cpu.old)) }
+    ensures served { let old = at_of (P.core cpu.old) (B.state bus.old) from in
+        let new = at_of (P.core cpu.new) (B.state bus.new) result in
+        IsServed P.part B.wiring B.plain D.answers lines.now bound old (D.state desk.old) new (D.state desk.new) }
+    ensures low { from ≤ result }
+    ensures high { result ≤ bound }
+    ensures noted { IsShut D.answers → B.before notes.new bus.new ≡ B.before notes.old bus.old }
+    ensures spends { let cycle = (B.wiring).cycle (B.state bus.old) in
+        let old = spent from (B.room notes.old) (length (P.core cpu.old).seen) in
+        let new = spent result (B.room notes.new) (length (P.core cpu.new).seen) in
+        (sure : ℕ) → bound ≤ sure → HasSpent (P.part ≡ Cmos) cycle sure old new }
+{
+    let mut due = go_whole_at_start::<N, P, B>(cpu, bus, notes, from, bound, lines);
+    'asks: loop {
+        if !desk.awaits(Tick(due), Tick(due + LONGEST * bus.cycle())) {
+            return due;
+        }
+        let at = due;
+        due = ask_whole::<N, P, B, D>(cpu, bus, due, bound, lines, desk);
+        if due == at {
+            return due;
+        }
+        due = go_whole_at_start::<N, P, B>(cpu, bus, notes, due, bound, lines);
+    }
+}
+
 /// Goes on from a step at tick `from`, and gives the tick of the step at which it leaves off. It does no look at which a break is pending, and no
 /// access whose cycle could end at one.
 #[inline(always)]
-pub(crate) fn go_on<N, P: Processor, B: TubeBus<N>>(
+pub(crate) fn go_on<N, P: Processor, B: TubeBus<N>, D: Desk>(
     cpu: &mut P,
     bus: &mut B,
     notes: &mut N,
@@ -200,16 +317,17 @@ pub(crate) fn go_on<N, P: Processor, B: TubeBus<N>>(
     until: u64,
     sure: u64,
     lines: &Lines,
+    desk: &mut D,
 ) -> (u64, Stop)
     requires room { until ≤ 2 ^ 30 }
     requires before { (B.wiring).closed (B.state bus.old) ≤ from + 1 }
     ensures before { (B.wiring).closed (B.state bus.new) ≤ result.0 + 1 }
-    ensures looks { let old = at_of (P.core cpu.old) (B.state bus.old) from in
+    ensures talks { let old = at_of (P.core cpu.old) (B.state bus.old) from in
         let new = at_of (P.core cpu.new) (B.state bus.new) result.0 in
-        (k : ℕ) × Looks (moves_of P.part B.wiring) until (shown_lines lines.now sure) k old new }
+        (j : ℕ) × Talks (moves_of P.part B.wiring) D.answers until (shown_lines lines.now sure) j old (D.state desk.old) new (D.state desk.new) }
     ensures stops { let new = at_of (P.core cpu.new) (B.state bus.new) result.0 in
         IsStop P.part B.wiring until result.1 new }
-    ensures noted { B.before notes.new bus.new ≡ B.before notes.old bus.old }
+    ensures noted { IsShut D.answers → B.before notes.new bus.new ≡ B.before notes.old bus.old }
     ensures spends { let cycle = (B.wiring).cycle (B.state bus.old) in
         let old = spent (ready P.part (P.core cpu.old) from) (B.room notes.old) (length (P.core cpu.old).seen) in
         let new = spent result.0 (B.room notes.new) (length (P.core cpu.new).seen) in
@@ -225,7 +343,7 @@ pub(crate) fn go_on<N, P: Processor, B: TubeBus<N>>(
             return (due, Stop::Look);
         }
         see::<N, P, B>(cpu, bus, due, lines);
-        due = go_whole_at_start::<N, P, B>(cpu, bus, notes, due + 1, bound, lines);
+        due = go_asking::<N, P, B, D>(cpu, bus, notes, due + 1, bound, lines, desk);
     }
     // No access from this tick on has left device steps for later.
     let mut caught_up = due;
@@ -240,7 +358,7 @@ pub(crate) fn go_on<N, P: Processor, B: TubeBus<N>>(
                         return (due - 1, Stop::Look);
                     }
                     see::<N, P, B>(cpu, bus, due - 1, lines);
-                    due = go_whole_at_start::<N, P, B>(cpu, bus, notes, due, bound, lines);
+                    due = go_asking::<N, P, B, D>(cpu, bus, notes, due, bound, lines, desk);
                     caught_up = due;
                 } else {
                     due += cycle;

@@ -1,18 +1,18 @@
 //! What a machine does as a party, over its parts: the processor, the bus, and the tick of the next step.
-ghost use Rattle.std.specs.Prelude.{◌≡◌, ◌≤◌, ◌<◌, ◌+◌, ◌-◌, ◌*◌, ◌^◌, ◌&&◌, ℕ, length, IsSome, None, Some, true, false};
+ghost use Rattle.std.specs.Prelude.{◌≡◌, ◌≤◌, ◌<◌, ◌+◌, ◌-◌, ◌*◌, ◌^◌, ◌&&◌, nat_lt, not, ℕ, length, IsSome, None, Some, true, false};
 ghost use Rattle.op_table.specs.declared.Part.TheVariants.{Cmos};
 ghost use Rattle.cpu_core.specs.Sequences.{next_cycle, after_byte, halted};
 ghost use Rattle.tube_chip.specs.declared.Answer.TheVariants.{Byte, Seen};
-ghost use Rattle.tube_party.specs.Moves.{Looks, Sees, IsAsk, IsAskedFor, close_leaves, shown_lines};
-ghost use Rattle.tube_machine.specs.Step.{at_of, moves_of, closed_to, next_state, is_last_tick, is_break, after_break, after_cycle};
-ghost use Rattle.tube_machine.specs.Exchange.{ready, IsDone, IsRun, IsCramped, IsAskedByte};
+ghost use Rattle.tube_party.specs.Moves.{Sees, Hears, IsAsk, IsAskedFor, close_leaves, shown_lines};
+ghost use Rattle.tube_machine.specs.Step.{at_of, moves_of, asks, closed_to, next_state, is_last_tick, is_break, after_break, after_cycle};
+ghost use Rattle.tube_machine.specs.Exchange.{ready, IsDone, IsRun, IsServedRun, IsShut, IsCramped, IsAskedByte};
 
 use crate::bus::{TubeBus, Unable};
 use crate::processor::Processor;
 use crate::run::{Stop, go_on};
 use beeb_bits::Tick;
 use tube_chip::{Answer, Lines, Op};
-use tube_party::Ask;
+use tube_party::{Ask, Closed, Desk};
 
 /// Where a run leaves off.
 #[derive(Clone, Copy, Debug, PartialEq, Eq)]
@@ -83,6 +83,7 @@ fn shut<N, P: Processor, B: TubeBus<N>>(cpu: &P, bus: &mut B, due: u64, until: T
 pub fn look<N, P: Processor, B: TubeBus<N>>(cpu: &P, bus: &mut B, due: u64, until: Tick) -> Ask
     requires room { until.0 < 2 ^ 40 }
     requires over { next_cycle P.part (P.core cpu.now) ≡ None }
+    requires asks { due < until.0 → IsSome (asks P.part B.wiring (at_of (P.core cpu.now) (B.state bus.old) due)) }
     requires before { (B.wiring).closed (B.state bus.old) ≤ due + 1 }
     ensures before { (B.wiring).closed (B.state bus.new) ≤ due + 1 }
     ensures asks { let old = at_of (P.core cpu.now) (B.state bus.old) due in
@@ -130,7 +131,34 @@ fn end_cycle<N, P: Processor, B: TubeBus<N>>(
     }
 }
 
-// The access of the next step, if it asks nothing; else what it asks. Kept out of the loop, whose frame has no room for it.
+// The break step, behind the Tube's reset if there is a Tube.
+#[inline(never)]
+fn take_break<N, P: Processor, B: TubeBus<N>>(cpu: &mut P, bus: &mut B, due: &mut u64)
+    requires room { due.old < 2 ^ 40 }
+    requires before { (B.wiring).closed (B.state bus.old) ≤ due.old + 1 }
+    requires breaks { is_break P.part B.wiring (at_of (P.core cpu.old) (B.state bus.old) due.old) ≡ true }
+    ensures before { (B.wiring).closed (B.state bus.new) ≤ due.new + 1 }
+    ensures broken { let old = at_of (P.core cpu.old) (B.state bus.old) due.old in
+        at_of (P.core cpu.new) (B.state bus.new) due.new
+        ≡ after_break P.part B.wiring (closed_to B.wiring old (due.old + 1)) }
+    ensures kept { (B.wiring).has_tube (B.state bus.old) ≡ false → (notes : N) → B.before notes bus.new ≡ B.before notes bus.old }
+{
+    bus.take_break(*due);
+    cpu.begin_reset();
+    *due += 1;
+}
+
+// Whether the next step is a break step below `until` that asks nothing, since there is no Tube.
+#[inline(always)]
+fn breaks_alone<N, P: Processor, B: TubeBus<N>>(cpu: &P, bus: &B, due: u64, until: Tick) -> bool
+    requires { until.0 ≤ 2 ^ 30 }
+    ensures { let s = at_of (P.core cpu.now) (B.state bus.now) due in
+        result ≡ (nat_lt due until.0 && is_break P.part B.wiring s && not ((B.wiring).has_tube s.bus)) }
+{
+    due < until.0 && is_break::<N, P, B>(cpu, bus, due) && !bus.has_tube()
+}
+
+// The access of the next step, or its break, if it asks nothing; else what it asks. Kept out of the loop, whose frame has no room for it.
 #[inline(never)]
 fn access<N, P: Processor, B: TubeBus<N>>(
     cpu: &mut P,
@@ -150,7 +178,11 @@ fn access<N, P: Processor, B: TubeBus<N>>(
     ensures full { result ≡ Attempt.Full → (B.endless ≡ false) × (B.room notes.old ≡ 0) }
 {
     if is_break::<N, P, B>(cpu, bus, *due) {
-        return Attempt::Tube(Op::Reset);
+        if bus.has_tube() {
+            return Attempt::Tube(Op::Reset);
+        }
+        take_break::<N, P, B>(cpu, bus, due);
+        return Attempt::Done;
     }
     match bus.exchange(*due, cpu.want(), notes) {
         Ok(done) => {
@@ -184,8 +216,34 @@ pub fn carry_on<N, P: Processor, B: TubeBus<N>>(
         let cramped = IsCramped ((B.wiring).cycle (B.state bus.old)) sure.0 from (B.room notes.old) in
         result ≡ Left.Full → (B.endless ≡ false) × (P.part ≡ Cmos → cramped) }
 {
+    carry_asking::<N, P, B, Closed>(cpu, bus, due, notes, until, lines, sure, &mut Closed)
+}
+
+// The same, with the accesses that the desk answers.
+#[inline(always)]
+fn carry_asking<N, P: Processor, B: TubeBus<N>, D: Desk>(
+    cpu: &mut P,
+    bus: &mut B,
+    due: &mut u64,
+    notes: &mut N,
+    until: Tick,
+    lines: &Lines,
+    sure: Tick,
+    desk: &mut D,
+) -> Left
+    requires room { until.0 ≤ 2 ^ 30 }
+    requires before { (B.wiring).closed (B.state bus.old) ≤ due.old + 1 }
+    ensures before { (B.wiring).closed (B.state bus.new) ≤ due.new + 1 }
+    ensures ran { let old = at_of (P.core cpu.old) (B.state bus.old) due.old in
+        let new = at_of (P.core cpu.new) (B.state bus.new) due.new in
+        IsServedRun P.part B.wiring D.answers until.0 lines.now sure.0 old (D.state desk.old) result new (D.state desk.new) }
+    ensures noted { IsShut D.answers → B.before notes.new bus.new ≡ B.before notes.old bus.old }
+    ensures full { let from = ready P.part (P.core cpu.old) due.old in
+        let cramped = IsCramped ((B.wiring).cycle (B.state bus.old)) sure.0 from (B.room notes.old) in
+        result ≡ Left.Full → (B.endless ≡ false) × (P.part ≡ Cmos → cramped) }
+{
     loop {
-        let (at, stop) = go_on::<N, P, B>(cpu, bus, notes, *due, until.0, sure.0, lines);
+        let (at, stop) = go_on::<N, P, B, D>(cpu, bus, notes, *due, until.0, sure.0, lines, desk);
         *due = at;
         match stop {
             Stop::Look => return Left::Look,
@@ -200,22 +258,6 @@ pub fn carry_on<N, P: Processor, B: TubeBus<N>>(
             }
         }
     }
-}
-
-// The break step, behind the Tube's reset.
-#[inline(never)]
-fn take_break<N, P: Processor, B: TubeBus<N>>(cpu: &mut P, bus: &mut B, due: &mut u64)
-    requires room { due.old < 2 ^ 40 }
-    requires before { (B.wiring).closed (B.state bus.old) ≤ due.old + 1 }
-    requires asked { is_break P.part B.wiring (at_of (P.core cpu.old) (B.state bus.old) due.old) ≡ true }
-    ensures before { (B.wiring).closed (B.state bus.new) ≤ due.new + 1 }
-    ensures broken { let old = at_of (P.core cpu.old) (B.state bus.old) due.old in
-        at_of (P.core cpu.new) (B.state bus.new) due.new
-        ≡ after_break P.part B.wiring (closed_to B.wiring old (due.old + 1)) }
-{
-    bus.take_break(*due);
-    cpu.begin_reset();
-    *due += 1;
 }
 
 // The Tube's answer to an access.
@@ -291,14 +333,40 @@ pub fn advance_seeing<N, P: Processor, B: TubeBus<N>>(
         let new = at_of (P.core cpu.new) (B.state bus.new) due.new in
         Sees (moves_of P.part B.wiring) until.0 (shown_lines lines.now sure.0) old result new }
 {
+    advance_at::<N, P, B, Closed>(cpu, bus, due, notes, until, lines, sure, &mut Closed)
+}
+
+/// The same, but with the accesses that the desk answers.
+#[inline(always)]
+pub fn advance_at<N, P: Processor, B: TubeBus<N>, D: Desk>(
+    cpu: &mut P,
+    bus: &mut B,
+    due: &mut u64,
+    notes: &mut N,
+    until: Tick,
+    lines: &Lines,
+    sure: Tick,
+    desk: &mut D,
+) -> Ask
+    requires room { until.0 ≤ 2 ^ 30 }
+    requires before { (B.wiring).closed (B.state bus.old) ≤ due.old + 1 }
+    requires endless { B.endless ≡ true }
+    ensures before { (B.wiring).closed (B.state bus.new) ≤ due.new + 1 }
+    ensures hears { let old = at_of (P.core cpu.old) (B.state bus.old) due.old in
+        let new = at_of (P.core cpu.new) (B.state bus.new) due.new in
+        Hears (moves_of P.part B.wiring) D.answers until.0 (shown_lines lines.now sure.0) old (D.state desk.old) result new (D.state desk.new) }
+{
     loop {
-        match carry_on::<N, P, B>(cpu, bus, due, notes, until, lines, sure) {
+        match carry_asking::<N, P, B, D>(cpu, bus, due, notes, until, lines, sure, desk) {
             Left::Asked(ask) => return ask,
             Left::Look => {
-                if *due >= until.0.min(sure.0) || is_break::<N, P, B>(cpu, bus, *due) {
+                if breaks_alone::<N, P, B>(cpu, bus, *due, until) {
+                    take_break::<N, P, B>(cpu, bus, due);
+                } else if *due >= until.0.min(sure.0) || is_break::<N, P, B>(cpu, bus, *due) {
                     return look::<N, P, B>(cpu, bus, *due, until);
+                } else {
+                    take_lines::<N, P, B>(cpu, bus, due, lines);
                 }
-                take_lines::<N, P, B>(cpu, bus, due, lines);
             }
             Left::Full => unreachable!(),
         }

@@ -1,6 +1,10 @@
 -- The entries of a side, and the chip, one entry at a time.
-use Rattle.std.proofs.Common.{◌≡◌, refl, subst, ℕ, ◌+◌, ◌<◌, ◌≤◌, List, [], ◌∷◌, length, get_or, Bool, true, false, ◌&&◌, nat_lt, Option, Some, None, MatchOption}
-use Rattle.std.specs.Prelude.{slice_get}
+use Rattle.std.proofs.Common.{◌≡◌, refl, subst, ℕ, ◌+◌, ◌<◌, ◌≤◌, List, [], ◌∷◌, length, drop, get_or, Bool, true, false, ◌&&◌, nat_lt, Option, Some, None, MatchOption}
+use mathlib.Core.Bool.{beq}
+use Rattle.std.specs.Prelude.{slice_get, if◌then◌else◌}
+use Rattle.std.proofs.Common.{eqb, sym, ap, ◌∙◌}
+use Rattle.std.proofs.lemmas.Bool.{eqb-true}
+use Rattle.tube_chip.specs.declared.Lines.{Lines}
 use Rattle.std.proofs.lemmas.List.{drop_more}
 use Rattle.std.proofs.Math.ListN.{drop_of_length-le}
 use Rattle.std.proofs.lemmas.Option.{slice_get-get_or}
@@ -10,7 +14,11 @@ use Rattle.tube_chip.specs.Events.{is_side}
 use Rattle.tube_trace.specs.declared.Entry.{Entry}
 use Rattle.tube_chip.specs.declared.Op.{Op}
 use Rattle.tube_chip.specs.declared.Op.TheVariants.{Read}
-use Rattle.tube_party.specs.Replay.{is_that, next_line}
+use Rattle.beeb_bits.specs.Order.{before}
+use Rattle.tube_chip.specs.State.{State}
+use Rattle.tube_chip.specs.Act.{is_status, register_number, read_by, count_of_rises, with_counts, chip_after}
+use Rattle.tube_chip.specs.State.{asks_nmi}
+use Rattle.tube_party.specs.Replay.{chip_before, is_that, next_line}
 use Rattle.tube_party.specs.CodeCursor.{own_left, IsOwnAt, Takes, Misses}
 
 -- it is of the side, below n
@@ -32,6 +40,60 @@ own_at trace side n at d h own =
     subst (λ (o : Option Entry). MatchOption o (Unit {0}) (λ x. owned side n x ≡ true)) (get_here trace at d h) own
 
 -- the chip
+
+-- an entry that comes before a look is done, one that doesn't is not, and no entry beyond it
+pub chip_past : (trace : List Entry) (side : Side) (t at : ℕ) (d : Entry) (c : State) → at < length trace
+    → before (get_or trace at d).tick.0 (get_or trace at d).side t side ≡ true
+    → chip_before side t c (drop at trace) ≡ chip_before side t (chip_after c (get_or trace at d).side (get_or trace at d).op) (drop (at + 1) trace)
+chip_past trace side t at d c h is = rw (drop_more trace at d h, is) refl
+
+pub chip_here : (trace : List Entry) (side : Side) (t at : ℕ) (d : Entry) (c : State) → at < length trace
+    → before (get_or trace at d).tick.0 (get_or trace at d).side t side ≡ false → chip_before side t c (drop at trace) ≡ c
+chip_here trace side t at d c h is = rw (drop_more trace at d h, is) refl
+
+pub chip_end : (trace : List Entry) (side : Side) (t at : ℕ) (c : State) → length trace ≤ at → chip_before side t c (drop at trace) ≡ c
+chip_end trace side t at c h = rw (drop_of_length-le trace h) refl
+
+-- a read of a status register leaves the chip
+
+no-rise : (b : Bool) (n : ℕ) → count_of_rises b b n ≡ n
+no-rise true n = refl
+no-rise false n = refl
+
+pub status-leaves : (c : State) (side : Side) (number : ℕ) → is_status number ≡ true → chip_after c side (Read number) ≡ c
+status-leaves c side number is =
+    ap (λ (b : Bool). with_counts c (if b then c else read_by side (register_number number) c)) is
+    ∙ ap (λ (n : ℕ). record c { nmis = n; resets = count_of_rises c.flags.p c.flags.p c.resets }) (no-rise (asks_nmi c) c.nmis)
+    ∙ ap (λ (n : ℕ). record c { resets = n }) (no-rise c.flags.p c.resets)
+
+-- lines that a test finds the same
+
+same-flag : (a b : Bool) → beq a b ≡ true → a ≡ b
+same-flag true true e = refl
+same-flag true false e = sym e
+same-flag false true e = e
+same-flag false false e = refl
+
+both-of : (a b : Bool) → (a && b) ≡ true → (a ≡ true) × (b ≡ true)
+both-of true b e = (refl, e)
+both-of false b e = cc
+
+pub same-lines : (a b : Lines)
+    → (beq a.prst b.prst && (eqb a.resets b.resets && (eqb a.nmis b.nmis && (beq a.pirq b.pirq && beq a.hirq b.hirq)))) ≡ true → a ≡ b
+same-lines a b e =
+    let p = both-of (beq a.prst b.prst) (eqb a.resets b.resets && (eqb a.nmis b.nmis && (beq a.pirq b.pirq && beq a.hirq b.hirq))) e in
+    let q = both-of (eqb a.resets b.resets) (eqb a.nmis b.nmis && (beq a.pirq b.pirq && beq a.hirq b.hirq)) p.1 in
+    let r = both-of (eqb a.nmis b.nmis) (beq a.pirq b.pirq && beq a.hirq b.hirq) q.1 in
+    let s = both-of (beq a.pirq b.pirq) (beq a.hirq b.hirq) r.1 in
+    λ i. record {
+      prst = same-flag a.prst b.prst p.0 i;
+      resets = eqb-true a.resets b.resets q.0 i;
+      nmis = eqb-true a.nmis b.nmis r.0 i;
+      pirq = same-flag a.pirq b.pirq s.0 i;
+      hirq = same-flag a.hirq b.hirq s.1 i;
+    }
+
+-- the next entry of the side
 
 pub takes_here : (trace : List Entry) (side : Side) (n at tick : ℕ) (op : Op) (d : Entry) → at < length trace → is_that (get_or trace at d) tick op ≡ true → IsOwnAt trace side n at →
     (at < length trace) × Takes (own_left trace side n at) (own_left trace side n (at + 1)) tick op (get_or trace at d).answer

@@ -1,5 +1,5 @@
 -- A replay, step by step.
-use Rattle.std.proofs.Common.{◌≡◌, ◌∙◌, sym, refl, ap, subst, ℕ, zero, suc, ◌+◌, ◌-◌, ◌<◌, ◌≤◌, List, [], ◌∷◌, length, true, false, nat_lt, Option, Some, None, MatchOption, arith}
+use Rattle.std.proofs.Common.{◌≡◌, ◌∙◌, sym, refl, ap, subst, ℕ, zero, suc, ◌+◌, ◌<◌, ◌≤◌, List, [], ◌∷◌, length, true, false, nat_lt, Option, Some, None, MatchOption, arith}
 use Rattle.std.proofs.lemmas.Bool.Decides.{nat_tests}
 use Rattle.beeb_bits.specs.declared.Tick.{Tick}
 use Rattle.beeb_bits.specs.declared.Side.{Side}
@@ -12,9 +12,9 @@ use Rattle.tube_chip.specs.Act.{Query, access, look}
 use Rattle.tube_trace.specs.declared.Entry.{Entry}
 use Rattle.tube_party.specs.declared.party.Ask.{Ask}
 use Rattle.tube_party.specs.declared.party.Ask.TheVariants.{Nothing, Access, Look}
-use Rattle.tube_party.specs.Moves.{Moves, IsLawful, Looks, Sees, IsAsk, IsAskedFor, FitsAnswer, close_leaves, shown_lines}
+use Rattle.tube_party.specs.Moves.{Moves, IsLawful, Looks, Talks, Hears, IsAsk, IsUnsure, IsAskedFor, FitsAnswer, close_leaves, shown_lines}
 use Rattle.tube_party.specs.Replay.{Numbered, Ended, own_from, finish_leaves, differs, access_step, one_step, replay_from, replay_of, chip_before}
-use Rattle.tube_party.specs.CodeCursor.{Takes, Misses}
+use Rattle.tube_party.specs.CodeCursor.{Takes, Misses, Owned, IsTaken}
 use Rattle.tube_party.specs.Steps.{due_rises}
 
 pub low_true : (a n : ℕ) → a < n → nat_lt a n ≡ true
@@ -111,88 +111,79 @@ pub goes_all : {S : Type 0} (m : Moves S) (side : Side) (trace : List Entry) (n 
 unfolding replay_of
 goes_all m side trace n s = record { steps = n; enough = omega arith; same = refl }
 
--- what `advance_seeing` told
+-- steps with accesses that are answered in passing, each by the side's next entry
+module _ {S : Type 0} (m : Moves S) (side : Side) (trace : List Entry) (n : ℕ) (lawful : IsLawful m) (whole : Ended S) (lines : Lines) (sure : ℕ) where
+  -- what still has to be done after them, with the entries that are left
+  pub record Talked (old last : S) (d e : Owned) : Type 0 where
+    pub goes : Goes m side trace n whole last e.left
+    pub lines_same : e.lines ≡ d.lines
+    pub later : m.due old ≤ m.due last
 
--- it asks for nothing below n
-pub record RanOut {S : Type 0} (m : Moves S) (n : ℕ) (lines : Lines) (sure : ℕ) (old new : S) : Type 0 where
-  pub steps : ℕ
-  pub last : S
-  pub looks : Looks m n (shown_lines lines sure) steps old last
-  pub over : n ≤ m.due last
-  pub shut_is : new ≡ close_leaves m last n
+  pub goes_talking : (j : ℕ) (s last : S) (d e : Owned) → Goes m side trace n whole s d.left →
+      ((t : ℕ) → m.due s ≤ t → t < sure → lines_of (chip_before side t power_on trace) ≡ lines) → Talks m IsTaken n (shown_lines lines sure) j s d last e → Talked s last d e
+  goes_talking zero s last d e goes same h = record {
+    goes = subst (λ (o : Owned). Goes m side trace n whole last o.left) h.0 (goes_seeing m side trace n lawful whole d.left lines sure h.1.0 s last goes same h.1.1);
+    lines_same = ap (λ (o : Owned). o.lines) (sym h.0);
+    later = due_rises m n lines sure h.1.0 s last lawful h.1.1;
+  }
+  goes_talking (suc j) s last d e goes same h =
+      let at : S = h.0 in
+      let on : S = h.1 in
+      let f : Owned = h.2 in
+      let took = h.4 in
+      let up : m.due s ≤ m.due at = due_rises m n lines sure h.3.0 s at lawful h.3.1 in
+      let there : Goes m side trace n whole at d.left = goes_seeing m side trace n lawful whole d.left lines sure h.3.0 s at goes same h.3.1 in
+      let answered : Goes m side trace n whole (m.next at (Some (Byte took.byte))) f.left =
+      goes_access m side trace n lawful whole at d.left f.left took.op took.byte there took.below took.asks took.answered.0 in
+      let beyond : m.due at < m.due on = subst (λ (x : S). m.due at < m.due x) (sym took.goes) (lawful.rises at (Some (Byte took.byte))) in
+      let rest : Talked on last f e = goes_talking j on last f e (subst (λ (x : S). Goes m side trace n whole x f.left) (sym took.goes) answered)
+      (λ t a b. same t (omega (arith, up, beyond, a)) b) h.5 in
+      record { goes = rest.goes; lines_same = rest.lines_same ∙ took.answered.1; later = omega (arith, up, beyond, rest.later) }
 
-pub ran_out : {S : Type 0} (m : Moves S) (n : ℕ) (lines : Lines) (sure : ℕ) (old new : S) (ask : Ask) → Sees m n (shown_lines lines sure) old ask new → ask ≡ Nothing → RanOut m n lines sure old new
-ran_out m n lines sure old new ask told is =
-    let asked : (n ≤ m.due told.last) × (new ≡ close_leaves m told.last n) = subst (λ (a : Ask). IsAsk m n told.last a new) is told.asked in
-    record { steps = told.steps; last = told.last; looks = told.looks; over = asked.0; shut_is = asked.1 }
+  module _ (old new : S) (d e : Owned) (ask : Ask) (so_far : Goes m side trace n whole old d.left)
+      (same : (t : ℕ) → m.due old ≤ t → t < sure → lines_of (chip_before side t power_on trace) ≡ lines) (heard : Hears m IsTaken n (shown_lines lines sure) old d ask new e) where
+    talked : Talked old heard.last d e
+    talked = goes_talking heard.accesses old heard.last d e so_far same heard.talks
 
--- it asks this of the Tube at its next step
-pub record Stands {S : Type 0} (m : Moves S) (n : ℕ) (lines : Lines) (sure : ℕ) (old new : S) (tick : ℕ) (q : Query) : Type 0 where
-  pub steps : ℕ
-  pub looks : Looks m n (shown_lines lines sure) steps old new
-  pub tick_is : tick ≡ m.due new
-  pub below : m.due new < n
-  pub asks : m.asks new ≡ Some q
+    -- it asks for nothing below n
+    pub ran_out : ask ≡ Nothing → (whole ≡ finish_leaves m n heard.last e.left) × (new ≡ close_leaves m heard.last n)
+    ran_out is =
+        let asked : (n ≤ m.due heard.last) × (new ≡ close_leaves m heard.last n) = subst (λ (a : Ask). IsAsk m n heard.last a new) is heard.asked in
+        (goes_end m side trace n whole heard.last e.left talked.goes asked.0, asked.1)
 
-pub stands_access : {S : Type 0} (m : Moves S) (n : ℕ) (lines : Lines) (sure : ℕ) (old new : S) (ask : Ask) (t : Tick) (op : Op) → Sees m n (shown_lines lines sure) old ask new → ask ≡ Access t op →
-    Stands m n lines sure old new t.0 (access op)
-stands_access {S} m n lines sure old new ask t op told is =
-    let asked : (t.0 ≡ m.due told.last) × (t.0 < n) × (m.asks told.last ≡ Some (access op)) × (new ≡ told.last) =
-    subst (λ (a : Ask). IsAsk m n told.last a new) is told.asked in
-    let same : told.last ≡ new = sym asked.3 in
-    let due : t.0 ≡ m.due new = subst (λ (x : S). t.0 ≡ m.due x) same asked.0 in
-    record {
-      steps = told.steps;
-      looks = subst (λ (x : S). Looks m n (shown_lines lines sure) told.steps old x) same told.looks;
-      tick_is = due;
-      below = rw (← due) asked.1;
-      asks = subst (λ (x : S). m.asks x ≡ Some (access op)) same asked.2;
-    }
+    -- it asks this of the Tube at its next step
+    pub record Stands (tick : ℕ) (q : Query) : Type 0 where
+      pub goes : Goes m side trace n whole new e.left
+      pub lines_same : e.lines ≡ d.lines
+      pub later : m.due old ≤ m.due new
+      pub tick_is : tick ≡ m.due new
+      pub below : m.due new < n
+      pub asks : m.asks new ≡ Some q
 
-pub stands_look : {S : Type 0} (m : Moves S) (n : ℕ) (lines : Lines) (sure : ℕ) (old new : S) (ask : Ask) (t : Tick) → Sees m n (shown_lines lines sure) old ask new → ask ≡ Look t →
-    Stands m n lines sure old new t.0 look
-stands_look {S} m n lines sure old new ask t told is =
-    let asked : (t.0 ≡ m.due told.last) × (t.0 < n) × (m.asks told.last ≡ Some look) × (new ≡ told.last) =
-    subst (λ (a : Ask). IsAsk m n told.last a new) is told.asked in
-    let same : told.last ≡ new = sym asked.3 in
-    let due : t.0 ≡ m.due new = subst (λ (x : S). t.0 ≡ m.due x) same asked.0 in
-    record {
-      steps = told.steps;
-      looks = subst (λ (x : S). Looks m n (shown_lines lines sure) told.steps old x) same told.looks;
-      tick_is = due;
-      below = rw (← due) asked.1;
-      asks = subst (λ (x : S). m.asks x ≡ Some look) same asked.2;
-    }
+    stands : (tick : ℕ) (q : Query) → tick ≡ m.due heard.last → tick < n → m.asks heard.last ≡ Some q → new ≡ heard.last → Stands tick q
+    stands tick q due below asks is =
+        let same_due : m.due new ≡ m.due heard.last = ap m.due is in
+        record {
+          goes = subst (λ (x : S). Goes m side trace n whole x e.left) (sym is) talked.goes;
+          lines_same = talked.lines_same;
+          later = omega (arith, talked.later, same_due);
+          tick_is = due ∙ sym same_due;
+          below = omega (arith, due, below, same_due);
+          asks = ap m.asks is ∙ asks;
+        }
+
+    pub stands_access : (t : Tick) (op : Op) → ask ≡ Access t op → Stands t.0 (access op)
+    stands_access t op is =
+        let asked : (t.0 ≡ m.due heard.last) × (t.0 < n) × (m.asks heard.last ≡ Some (access op)) × (new ≡ heard.last) =
+        subst (λ (a : Ask). IsAsk m n heard.last a new) is heard.asked in
+        stands t.0 (access op) asked.0 asked.1 asked.2 asked.3
+
+    pub stands_look : (t : Tick) → ask ≡ Look t → Stands t.0 look × (sure ≤ t.0)
+    stands_look t is =
+        let asked : (t.0 ≡ m.due heard.last) × (t.0 < n) × (m.asks heard.last ≡ Some look) × (new ≡ heard.last) =
+        subst (λ (a : Ask). IsAsk m n heard.last a new) is heard.asked in
+        (stands t.0 look asked.0 asked.1 asked.2 asked.3, subst (λ (a : Ask). IsUnsure sure a) is heard.unsure)
 
 -- an answer to what is asked
 pub asked_for : {S : Type 0} (m : Moves S) (most : ℕ) (s : S) (q : Query) (a : Answer) → m.due s < most → m.asks s ≡ Some q → FitsAnswer q a → IsAskedFor m most s a
 asked_for m most s q a low is fits = record { below = low; kind = subst (λ (o : Option Query). MatchOption o ⊥ (λ p. FitsAnswer p a)) (sym is) fits }
-
--- where a party stands at a step that asks, and answers it
-
-pub smaller : {S : Type 0} (m : Moves S) (n : ℕ) (lines : Lines) (sure : ℕ) (old at new : S) (tick : ℕ) (q : Query) {a : Option Answer} → IsLawful m
-    → Stands m n lines sure old at tick q → new ≡ m.next at a →
-    n - m.due new < n - m.due old
-smaller {S} m n lines sure old at new tick q {a} lawful stands is =
-    let x : m.due old ≤ m.due at = due_rises m n lines sure stands.steps old at lawful stands.looks in
-    let y : m.due at < m.due (m.next at a) = lawful.rises at a in
-    let z : m.due new ≡ m.due (m.next at a) = ap m.due is in
-    let w : m.due at < n = stands.below in
-    omega arith
-
-pub earlier : {S : Type 0} (m : Moves S) (n : ℕ) (lines : Lines) (sure : ℕ) (old at new : S) (tick : ℕ) (q : Query) {a : Option Answer} → IsLawful m
-    → Stands m n lines sure old at tick q → new ≡ m.next at a →
-    (t : ℕ) → m.due new ≤ t → m.due old ≤ t
-earlier {S} m n lines sure old at new tick q {a} lawful stands is t h =
-    let x : m.due old ≤ m.due at = due_rises m n lines sure stands.steps old at lawful stands.looks in
-    let y : m.due at < m.due (m.next at a) = lawful.rises at a in
-    let z : m.due new ≡ m.due (m.next at a) = ap m.due is in
-    omega arith
-
-pub after_look : {S : Type 0} (m : Moves S) (n : ℕ) (lines : Lines) (sure : ℕ) (old at new : S) (tick : ℕ) (q : Query) {a : Option Answer} → IsLawful m
-    → Stands m n lines sure old at tick q → new ≡ m.next at a →
-    (t : ℕ) → m.due new ≤ t → m.due at ≤ t
-after_look {S} m n lines sure old at new tick q {a} lawful stands is t h =
-    let y : m.due at < m.due (m.next at a) = lawful.rises at a in
-    let z : m.due new ≡ m.due (m.next at a) = ap m.due is in
-    omega arith

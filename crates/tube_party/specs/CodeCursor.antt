@@ -25,3 +25,12 @@ pub record Takes (left others : List Numbered) (tick : ℕ) (op : Op) (byte : �
 abbrev pub Misses : List Numbered → ℕ → ℕ → Op → ℕ → Type 0
 Misses [] lines tick op line = line ≡ lines + 1
 Misses (x ∷ own) lines tick op line = (x.line ≡ line) × (is_that x.entry tick op ≡ false)
+
+-- The side's entries that are left of a trace with so many lines.
+pub record Owned : Type 0 where
+  pub left : List Numbered
+  pub lines : ℕ
+
+-- the next of them is this access, answered so, and is left no more
+abbrev pub IsTaken : Owned → ℕ → Op → ℕ → Owned → Type 0
+IsTaken old tick op byte new = Takes old.left new.left tick op byte × (new.lines ≡ old.lines)

@@ -4,6 +4,7 @@ use Rattle.beeb_bits.specs.declared.Side.{Side}
 use Rattle.beeb_bits.specs.declared.Side.TheVariants.{Host}
 use Rattle.tube_chip.specs.declared.Answer.{Answer}
 use Rattle.tube_chip.specs.declared.Lines.{Lines}
+use Rattle.tube_chip.specs.declared.Op.{Op}
 use Rattle.tube_chip.specs.declared.Answer.TheVariants.{Byte, Seen}
 use Rattle.tube_chip.specs.Act.{Query, access, look, MayDo}
 use Rattle.tube_chip.specs.Events.{Event}
@@ -133,6 +134,29 @@ pub record Goes {S : Type 0} (m : Moves S) (n : ℕ) (v : Shown) (old : S) (ask 
   pub last : S
   pub looks : Looks m n v steps old last
   pub asked : IsAsk m n last ask new
+
+-- The step from s asks for an access below n, which is answered in passing; new is the state behind it. What answers goes from d to e.
+pub record IsAnswered {S D : Type 0} (m : Moves S) (answers : D → ℕ → Op → ℕ → D → Type 0) (n : ℕ) (s : S) (d : D) (new : S) (e : D) : Type 0 where
+  pub op : Op
+  pub byte : ℕ
+  pub below : m.due s < n
+  pub asks : m.asks s ≡ Some (access op)
+  pub answered : answers d (m.due s) op byte e
+  pub goes : new ≡ m.next s (Some (Byte byte))
+
+-- From s to last, below n, so many accesses are answered in passing; each other step asks nothing, or is a look that is sure, and sees these lines.
+abbrev pub Talks : {S D : Type 0} → Moves S → (D → ℕ → Op → ℕ → D → Type 0) → ℕ → Shown → ℕ → S → D → S → D → Type 0
+Talks m answers n v zero s d last e = (d ≡ e) × ((k : ℕ) × Looks m n v k s last)
+Talks {S} {D} m answers n v (suc j) s d last e =
+    (at : S) × (on : S) × (f : D) × ((k : ℕ) × Looks m n v k s at) × IsAnswered m answers n at d on f × Talks m answers n v j on f last e
+
+-- They were done, and this is asked next.
+pub record Hears {S D : Type 0} (m : Moves S) (answers : D → ℕ → Op → ℕ → D → Type 0) (n : ℕ) (v : Shown) (old : S) (before : D) (ask : Ask) (new : S) (after : D) : Type 0 where
+  pub accesses : ℕ
+  pub last : S
+  pub talks : Talks m answers n v accesses old before last after
+  pub asked : IsAsk m n last ask new
+  pub unsure : IsUnsure v.sure ask
 
 -- It went on from a mark, some way, as if each look saw these lines; this is asked next.
 abbrev pub IsAhead : {S : Type 0} → Moves S → ℕ → Lines → S → Ask → S → Type 0

@@ -22,7 +22,7 @@ pub record IsQuiet {S : Type 0} (m : Moves S) (s : S) (q : ℕ) : Type 0 where
 
 module _ {S : Type 0} (m : Moves S) where
   -- the tick of the next step is such a tick
-  silent_rises : (k : ℕ) (s last : S) → IsLawful m → Silent m k s last → m.due s ≤ m.due last
+  pub silent_rises : (k : ℕ) (s last : S) → IsLawful m → Silent m k s last → m.due s ≤ m.due last
   silent_rises zero s last lawful h = subst (λ (x : S). m.due s ≤ m.due x) h (let d : ℕ = m.due s in omega arith)
   silent_rises (suc k) s last lawful h =
       let up : m.due s < m.due (m.next s None) = lawful.rises s None in

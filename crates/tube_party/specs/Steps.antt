@@ -10,7 +10,7 @@ use Rattle.tube_chip.specs.declared.Lines.{Lines}
 use Rattle.tube_chip.specs.declared.Op.{Op}
 use Rattle.tube_party.specs.declared.party.Ask.{Ask}
 use Rattle.tube_party.specs.declared.party.Ask.TheVariants.{Access, Look}
-use Rattle.tube_party.specs.Moves.{Moves, IsLawful, Runs, Looks, Advances, Sees, Goes, IsAtLook, IsAskedFor, FitsAnswer, shown_lines, course}
+use Rattle.tube_party.specs.Moves.{Moves, IsLawful, Runs, Looks, Talks, Advances, Sees, Hears, Goes, IsAtLook, IsAskedFor, FitsAnswer, shown_lines, course}
 
 silent_here : {S : Type 0} (m : Moves S) (side : Side) (n k : ℕ) (s last : S) (o : Option Query) →
     m.asks s ≡ o → o ≡ None → Runs m side n k (m.next s None) (course [] last) → m.due s < n →
@@ -167,3 +167,51 @@ module _ {S : Type 0} (m : Moves S) (n : ℕ) (lines : Lines) where
         below = omega (arith, due, went.asked.0, went.asked.1);
         kind = subst (λ (o : Option Query). MatchOption o ⊥ (λ q. FitsAnswer q (Byte byte))) (sym asks) tt;
       }
+
+-- ---- Steps with accesses that are answered in passing
+
+module _ {S D : Type 0} (m : Moves S) (answers : D → ℕ → Op → ℕ → D → Type 0) (n : ℕ) (lines : Lines) (sure : ℕ) where
+  -- other steps before them
+  talks_first : (j : ℕ) (s mid last : S) (d e : D) → (k : ℕ) × Looks m n (shown_lines lines sure) k s mid → Talks m answers n (shown_lines lines sure) j mid d last e
+      → Talks m answers n (shown_lines lines sure) j s d last e
+  talks_first zero s mid last d e so_far h = (h.0, looks_on m n lines sure so_far.0 h.1.0 s mid last so_far.1 h.1.1)
+  talks_first (suc j) s mid last d e so_far h = (h.0, h.1, h.2, looks_on m n lines sure so_far.0 h.3.0 s mid h.0 so_far.1 h.3.1, h.4, h.5)
+
+  -- some of them after others
+  pub talks_on : (i j : ℕ) (s mid last : S) (d f e : D) → Talks m answers n (shown_lines lines sure) i s d mid f → Talks m answers n (shown_lines lines sure) j mid f last e
+      → (k : ℕ) × Talks m answers n (shown_lines lines sure) k s d last e
+  talks_on zero j s mid last d f e h more = (j, talks_first j s mid last d e h.1 (subst (λ (x : D). Talks m answers n (shown_lines lines sure) j mid x last e) (sym h.0) more))
+  talks_on (suc i) j s mid last d f e h more =
+      let rest = talks_on i j h.1 mid last h.2 f e h.5 more in
+      (suc rest.0, (h.0, h.1, h.2, h.3, h.4, rest.1))
+
+  -- the tick rises
+  pub talks_rise : (j : ℕ) (s last : S) (d e : D) → IsLawful m → Talks m answers n (shown_lines lines sure) j s d last e → m.due s ≤ m.due last
+  talks_rise zero s last d e lawful h = due_rises m n lines sure h.1.0 s last lawful h.1.1
+  talks_rise (suc j) s last d e lawful h =
+      let up : m.due s ≤ m.due h.0 = due_rises m n lines sure h.3.0 s h.0 lawful h.3.1 in
+      let past : m.due h.0 < m.due h.1 = subst (λ (x : S). m.due h.0 < m.due x) (sym h.4.goes) (lawful.rises h.0 (Some (Byte h.4.byte))) in
+      let rest : m.due h.1 ≤ m.due last = talks_rise j h.1 last h.2 e lawful h.5 in
+      omega (arith, up, past, rest)
+
+  -- where nothing is answered there are only others
+  pub talks_shut : ((d : D) (t : ℕ) (op : Op) (byte : ℕ) (e : D) → answers d t op byte e → ⊥) → (j : ℕ) (s last : S) (d e : D) → Talks m answers n (shown_lines lines sure) j s d last e
+      → (k : ℕ) × Looks m n (shown_lines lines sure) k s last
+  talks_shut none zero s last d e h = h.1
+  talks_shut none (suc j) s last d e h = absurd (none d (m.due h.0) h.4.op h.4.byte h.2 h.4.answered)
+
+  -- what they come to
+  pub hears_after : (s mid new : S) (d f e : D) (ask : Ask) → (j : ℕ) × Talks m answers n (shown_lines lines sure) j s d mid f → Hears m answers n (shown_lines lines sure) mid f ask new e
+      → Hears m answers n (shown_lines lines sure) s d ask new e
+  hears_after s mid new d f e ask so_far hears =
+      let all = talks_on so_far.0 hears.accesses s mid hears.last d f e so_far.1 hears.talks in
+      record { accesses = all.0; last = hears.last; talks = all.1; asked = hears.asked; unsure = hears.unsure }
+
+  pub hears_sees : (s new : S) (d : D) (ask : Ask) → Sees m n (shown_lines lines sure) s ask new → Hears m answers n (shown_lines lines sure) s d ask new d
+  hears_sees s new d ask sees = record { accesses = 0; last = sees.last; talks = (refl, (sees.steps, sees.looks)); asked = sees.asked; unsure = sees.unsure }
+
+  pub hears_shut : ((d : D) (t : ℕ) (op : Op) (byte : ℕ) (e : D) → answers d t op byte e → ⊥) → (s new : S) (d e : D) (ask : Ask) → Hears m answers n (shown_lines lines sure) s d ask new e
+      → Sees m n (shown_lines lines sure) s ask new
+  hears_shut none s new d e ask hears =
+      let looks = talks_shut none hears.accesses s hears.last d e hears.talks in
+      record { steps = looks.0; last = hears.last; looks = looks.1; asked = hears.asked; unsure = hears.unsure }

@@ -1,14 +1,19 @@
 //! A trace as one side's machine meets it.
-ghost use Rattle.std.specs.Prelude.{◌≡◌, ◌≤◌, ◌<◌, ◌+◌, ℕ, length, drop, All, MatchResult, ◌&&◌, nat_lt};
+ghost use Rattle.std.specs.Prelude.{◌≡◌, ◌≤◌, ◌<◌, ◌+◌, ℕ, length, drop, All, MatchResult, ◌&&◌, nat_lt, true, false};
 ghost use Rattle.beeb_bits.specs.declared.Side.{Side};
+ghost use Rattle.beeb_bits.specs.Order.{before};
 ghost use Rattle.tube_chip.specs.Events.{is_side};
+ghost use Rattle.tube_chip.specs.Act.{chip_after};
 ghost use Rattle.tube_chip.specs.State.{State, lines_of};
 ghost use Rattle.tube_trace.specs.Entries.{IsEntry};
-ghost use Rattle.tube_party.specs.Replay.{chip_before, same_op, is_that};
-ghost use Rattle.tube_party.specs.CodeCursor.{own_left, IsOwnAt, Takes, Misses};
+ghost use Rattle.tube_party.specs.Replay.{chip_before, next_line, same_op, is_that};
+ghost use Rattle.tube_party.specs.CodeCursor.{own_left, IsOwnAt, IsTaken, Takes, Misses};
 
+use crate::desk::Desk;
 use crate::party::MOST;
+use crate::replaying::Doing;
 use beeb_bits::{Side, Tick, before};
+use std::marker::Model;
 use tube_chip::{Chip, Lines, Op};
 use tube_trace::Entry;
 
@@ -68,6 +73,98 @@ pub(crate) fn take(trace: &[Entry], at: usize, tick: Tick, op: Op) -> Result<u8,
     }
 }
 
+// The place where the side has an entry and the machine does nothing more, if there is one.
+fn next_line(trace: &[Entry], at: usize) -> Option<(u64, Option<Doing>)>
+    requires { at ≤ length trace.now }
+    ensures { (side : Side) (n : ℕ) → IsOwnAt trace.now side n at →
+        result ≡ next_line (own_left trace.now side n at) }
+{
+    if at < trace.len() {
+        Some((at as u64 + 1, None))
+    } else {
+        None
+    }
+}
+
+/// A side's entries below a tick, as far as they are left of a trace. They are a desk, which answers an access that is the next of them.
+#[derive(Drop)]
+pub(crate) struct OwnEntries<'a> {
+    trace: &'a [Entry],
+    side: Side,
+    until: Tick,
+    at: usize,
+}
+
+impl<'a> Model for OwnEntries<'a> {
+    ghost use Rattle.std.specs.Prelude.{◌≤◌, length};
+    ghost use Rattle.tube_party.specs.CodeCursor.{Owned, IsOwnAt, own_left};
+
+    ghost Value = { Owned };
+
+    ghost view = { λ o. record { left = own_left o.trace.now o.side o.until.0 o.at; lines = length o.trace.now } };
+
+    ghost invariant = { λ o. (o.at ≤ length o.trace.now) × IsOwnAt o.trace.now o.side o.until.0 o.at };
+}
+
+impl<'a> OwnEntries<'a> {
+    /// All of them.
+    pub(crate) fn new(trace: &'a [Entry], side: Side, until: Tick) -> OwnEntries<'a>
+        ensures left { result.left ≡ own_left trace.now side until.0 0 }
+        ensures lines { result.lines ≡ length trace.now }
+    {
+        let at = next_own(trace, side, until, 0);
+        OwnEntries {
+            trace,
+            side,
+            until,
+            at,
+        }
+    }
+
+    /// The byte of the next of them, if it is this access, or else the line where they differ.
+    #[inline(always)]
+    pub(crate) fn take(&mut self, tick: Tick, op: Op) -> Result<u8, u64>
+        ensures { MatchResult result (λ byte. IsTaken self.old tick.0 op byte self.new)
+            (λ line. (self.new ≡ self.old) × Misses (self.old).left (self.old).lines tick.0 op line) }
+    {
+        let byte = take(self.trace, self.at, tick, op)?;
+        self.at = next_own(self.trace, self.side, self.until, self.at + 1);
+        Ok(byte)
+    }
+
+    /// The place of the next of them, where the machine does nothing more.
+    pub(crate) fn next_line(&self) -> Option<(u64, Option<Doing>)>
+        ensures { result ≡ next_line (self.now).left }
+    {
+        next_line(self.trace, self.at)
+    }
+}
+
+impl<'a> Desk for OwnEntries<'a> {
+    ghost use Rattle.tube_party.specs.CodeCursor.{Owned, IsTaken};
+
+    ghost State = { Owned };
+
+    ghost state = { λ o. o };
+
+    ghost answers = { IsTaken };
+
+    #[inline(always)]
+    fn awaits(&self, from: Tick, to: Tick) -> bool {
+        self.at < self.trace.len()
+            && from <= self.trace[self.at].tick
+            && self.trace[self.at].tick < to
+    }
+
+    #[inline(always)]
+    fn ask(&mut self, tick: Tick, op: Op) -> Option<u8> {
+        match self.take(tick, op) {
+            Ok(byte) => Some(byte),
+            Err(_) => None,
+        }
+    }
+}
+
 // Does the entries that come before a look of the side at a tick, from a place on, and gives the place of the first that doesn't.
 #[inline(never)]
 fn catch_up(chip: &mut Chip, trace: &[Entry], seen: usize, side: Side, tick: Tick) -> usize
@@ -87,26 +184,82 @@ fn catch_up(chip: &mut Chip, trace: &[Entry], seen: usize, side: Side, tick: Tic
     at
 }
 
-/// The first tick at which a look of the side comes after the entry at a place: looks below it see the chip as it is. The last tick of a
-/// run where there is no such entry.
+// The first tick at which a look of the side comes after an entry, but no earlier than another.
 #[inline(always)]
-pub(crate) fn sure(trace: &[Entry], seen: usize, side: Side) -> Tick
-    requires { seen ≤ length trace.now }
-    ensures { (t : ℕ) (c : State) → t < result.0 → chip_before side t c (drop seen trace.now) ≡ c }
+fn first_look(entry: Entry, side: Side, least: u64) -> u64
+    ensures least { least ≤ result }
+    ensures below { (t : ℕ) → least ≤ t → t < result → before (entry.tick).0 entry.side t side ≡ false }
+    ensures from { (t : ℕ) → result ≤ t → t < MOST → before (entry.tick).0 entry.side t side ≡ true }
 {
-    if seen >= trace.len() {
-        return Tick(MOST);
-    }
-    let entry = trace[seen];
-    if before(entry.tick, entry.side, entry.tick, side) {
-        entry.tick
+    let first = if before(entry.tick, entry.side, entry.tick, side) {
+        entry.tick.0
     } else {
-        Tick(entry.tick.0.saturating_add(1))
+        entry.tick.0.saturating_add(1)
+    };
+    if first < least { least } else { first }
+}
+
+// Whether an operation surely leaves the chip: a read of a status register does.
+#[inline(always)]
+fn is_status(op: Op) -> bool
+    ensures { result ≡ true → (c : State) (side : Side) → chip_after c side op ≡ c }
+{
+    match op {
+        Op::Read(number) => number % 2 == 0,
+        _ => false,
     }
 }
 
-/// The lines at a look of the side at a tick: the entries that come before it are done, from a place on, and the lines kept up with
-/// the chip. Gives the place of the first entry that does not come before it.
+// Does an entry, and says whether it leaves these lines.
+#[inline(always)]
+fn leaves_lines(chip: &mut Chip, lines: &Lines, entry: Entry) -> bool
+    requires entry { IsEntry entry }
+    requires kept { lines.now ≡ lines_of chip.old }
+    ensures chip { chip.new ≡ chip_after chip.old entry.side entry.op }
+    ensures kept { result ≡ true → lines.now ≡ lines_of chip.new }
+{
+    if is_status(entry.op) {
+        return true;
+    }
+    let _ = chip.apply(entry.side, entry.op);
+    chip.lines() == *lines
+}
+
+// Does entries from a place on, as long as they leave these lines, and the first that does not. It gives the place behind that, and a tick: looks of
+// the side below it see the lines, and looks from there on in a run come after all entries that are done.
+#[inline(never)]
+fn go_past(
+    chip: &mut Chip,
+    lines: &Lines,
+    trace: &[Entry],
+    from: usize,
+    side: Side,
+) -> (usize, Tick)
+    requires within { from ≤ length trace.now }
+    requires entries { All IsEntry trace.now }
+    requires kept { lines.now ≡ lines_of chip.old }
+    ensures within { result.0 ≤ length trace.now }
+    ensures most { (result.1).0 ≤ MOST }
+    ensures early { (t : ℕ) → t < (result.1).0 → lines_of (chip_before side t chip.old (drop from trace.now)) ≡ lines.now }
+    ensures late { (t : ℕ) → (result.1).0 ≤ t → t < MOST →
+        chip_before side t chip.old (drop from trace.now) ≡ chip_before side t chip.new (drop result.0 trace.now) }
+{
+    let mut at = from;
+    let mut sure = 0;
+    while at < trace.len() {
+        let entry = trace[at];
+        sure = first_look(entry, side, sure);
+        at += 1;
+        if !leaves_lines(chip, lines, entry) {
+            return (at, Tick(sure.min(MOST)));
+        }
+    }
+    (at, Tick(MOST))
+}
+
+/// The lines at a look of the side at a tick: the entries that come before it are done, from a place on, and then others as long as they leave the
+/// lines, and the first that does not. It gives the place behind that, and a tick: looks below it see the lines, and looks from there on come after
+/// all entries that are done.
 #[inline(always)]
 pub(crate) fn lines_at(
     chip: &mut Chip,
@@ -115,21 +268,17 @@ pub(crate) fn lines_at(
     seen: usize,
     side: Side,
     tick: Tick,
-) -> usize
+) -> (usize, Tick)
     requires within { seen ≤ length trace.now }
     requires entries { All IsEntry trace.now }
-    requires kept { lines.old ≡ lines_of chip.old }
-    ensures within { result ≤ length trace.now }
-    ensures chip { chip.new ≡ chip_before side tick.0 chip.old (drop seen trace.now) }
-    ensures later { (t : ℕ) → tick.0 ≤ t →
-        chip_before side t chip.old (drop seen trace.now) ≡ chip_before side t chip.new (drop result trace.now) }
-    ensures lines { lines.new ≡ lines_of chip.new }
+    ensures within { result.0 ≤ length trace.now }
+    ensures most { (result.1).0 ≤ MOST }
+    ensures lines { lines.new ≡ lines_of (chip_before side tick.0 chip.old (drop seen trace.now)) }
+    ensures early { (t : ℕ) → tick.0 ≤ t → t < (result.1).0 → lines_of (chip_before side t chip.old (drop seen trace.now)) ≡ lines.new }
+    ensures late { (t : ℕ) → tick.0 ≤ t → (result.1).0 ≤ t → t < MOST →
+        chip_before side t chip.old (drop seen trace.now) ≡ chip_before side t chip.new (drop result.0 trace.now) }
 {
-    if seen < trace.len() && before(trace[seen].tick, trace[seen].side, tick, side) {
-        let at = catch_up(chip, trace, seen, side, tick);
-        *lines = chip.lines();
-        at
-    } else {
-        seen
-    }
+    let at = catch_up(chip, trace, seen, side, tick);
+    *lines = chip.lines();
+    go_past(chip, lines, trace, at, side)
 }

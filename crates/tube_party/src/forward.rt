@@ -1,4 +1,5 @@
 //! A party that is never rolled back.
+use crate::desk::Desk;
 use crate::party::{Ask, Party};
 use crate::rewinds::Rewinds;
 use beeb_bits::Tick;
@@ -43,6 +44,11 @@ impl<P: Party> Party for Forward<P> {
     #[inline(always)]
     fn advance_seeing(&mut self, until: Tick, lines: &Lines, sure: Tick) -> Ask {
         self.party.advance_seeing(until, lines, sure)
+    }
+
+    #[inline(always)]
+    fn advance_at<D: Desk>(&mut self, until: Tick, lines: &Lines, sure: Tick, desk: &mut D) -> Ask {
+        self.party.advance_at(until, lines, sure, desk)
     }
 
     #[inline(always)]

@@ -2,6 +2,7 @@
 #![tactic(auto)]
 
 mod cursor;
+mod desk;
 mod forward;
 mod law;
 mod log;
@@ -11,6 +12,7 @@ mod party;
 mod replaying;
 mod rewinds;
 
+pub use desk::{Closed, Desk};
 pub use forward::Forward;
 pub use law::{
     brought_back_is_reference, legal_merge_is_reference, party_goes_on, reference_is_followed,

@@ -1,9 +1,10 @@
 //! What a machine at the Tube is.
 ghost use Rattle.std.specs.Prelude.{◌≡◌, ◌≤◌, ℕ, Bool, Some};
 ghost use Rattle.beeb_bits.specs.declared.Side.{Side};
-ghost use Rattle.tube_party.specs.Moves.{Moves, IsLawful, IsPermitted, Advances, Sees, IsAskedFor, shown_lines};
+ghost use Rattle.tube_party.specs.Moves.{Moves, IsLawful, IsPermitted, Advances, Sees, Hears, IsAskedFor, shown_lines};
 ghost use Rattle.tube_party.specs.Quiet.{IsQuiet};
 
+use crate::desk::Desk;
 use beeb_bits::Tick;
 use tube_chip::{Answer, Lines, Op};
 
@@ -80,6 +81,15 @@ pub trait Party: Drop {
                 }
             }
         }
+    }
+
+    /// The same, but with the accesses that the desk answers.
+    fn advance_at<D: Desk>(&mut self, until: Tick, lines: &Lines, sure: Tick, desk: &mut D) -> Ask
+        requires { until.0 ≤ MOST }
+        ensures { Hears moves D.answers until.0 (shown_lines lines.now sure.0) (state self.old) (D.state desk.old) result (state self.new) (D.state desk.new) }
+    {
+        let _ = desk;
+        self.advance_seeing(until, lines, sure)
     }
 
     /// Does the step that asks.

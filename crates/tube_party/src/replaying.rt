@@ -1,11 +1,9 @@
 //! A party against its side of a trace.
-ghost use Rattle.std.specs.Prelude.{◌≡◌, ◌≤◌, ℕ, length, All, IsTrue};
-ghost use Rattle.beeb_bits.specs.declared.Side.{Side};
+ghost use Rattle.std.specs.Prelude.{◌≡◌, ◌≤◌, All, IsTrue};
 ghost use Rattle.tube_trace.specs.Entries.{IsEntry};
-ghost use Rattle.tube_party.specs.Replay.{next_line, replay_of};
-ghost use Rattle.tube_party.specs.CodeCursor.{own_left, IsOwnAt};
+ghost use Rattle.tube_party.specs.Replay.{replay_of};
 
-use crate::cursor::{lines_at, next_own, sure, take};
+use crate::cursor::{OwnEntries, lines_at};
 use crate::party::{Ask, MOST, Party};
 use beeb_bits::{Side, Tick};
 use tube_chip::{Answer, Chip, Op};
@@ -17,19 +15,6 @@ pub struct Doing {
     pub tick: Tick,
     pub side: Side,
     pub op: Op,
-}
-
-// The place where the side has an entry and the machine does nothing more, if there is one.
-fn next_line(trace: &[Entry], at: usize) -> Option<(u64, Option<Doing>)>
-    requires { at ≤ length trace.now }
-    ensures { (side : Side) (n : ℕ) → IsOwnAt trace.now side n at →
-        result ≡ next_line (own_left trace.now side n at) }
-{
-    if at < trace.len() {
-        Some((at as u64 + 1, None))
-    } else {
-        None
-    }
 }
 
 /// Runs a party up to tick `n` against the entries of its side: each access is answered by the next entry, each look by the lines
@@ -54,26 +39,17 @@ pub fn replay<M: Party>(
 {
     let mut chip = Chip::new();
     let mut lines = chip.lines();
-    let mut seen = 0;
-    let mut at = 0;
+    let (mut seen, mut sure) = lines_at(&mut chip, &mut lines, trace, 0, side, Tick(0));
+    let mut own = OwnEntries::new(trace, side, n);
     'steps: loop {
-        match machine.advance_seeing(n, &lines, sure(trace, seen, side)) {
-            Ask::Nothing => {
-                let next = next_own(trace, side, n, at);
-                return (machine, next_line(trace, next));
-            }
-            Ask::Access(tick, op) => {
-                at = next_own(trace, side, n, at);
-                match take(trace, at, tick, op) {
-                    Ok(byte) => {
-                        machine.answer(Answer::Byte(byte));
-                        at += 1;
-                    }
-                    Err(line) => return (machine, Some((line, Some(Doing { tick, side, op })))),
-                }
-            }
+        match machine.advance_at(n, &lines, sure, &mut own) {
+            Ask::Nothing => return (machine, own.next_line()),
+            Ask::Access(tick, op) => match own.take(tick, op) {
+                Ok(byte) => machine.answer(Answer::Byte(byte)),
+                Err(line) => return (machine, Some((line, Some(Doing { tick, side, op })))),
+            },
             Ask::Look(tick) => {
-                seen = lines_at(&mut chip, &mut lines, trace, seen, side, tick);
+                (seen, sure) = lines_at(&mut chip, &mut lines, trace, seen, side, tick);
                 machine.answer(Answer::Seen(lines));
             }
         }

@@ -1,5 +1,5 @@
 //! What the parasite tells the host of its way ahead, and how it waits until the host has passed.
-ghost use Rattle.std.specs.Prelude.{◌≡◌, ◌≤◌, [], IsTrue, IsFalse};
+ghost use Rattle.std.specs.Prelude.{◌≡◌, ◌≢◌, ◌≤◌, ◌⊎◌, [], IsTrue, IsFalse};
 ghost use Rattle.beeb_bits.specs.declared.Side.TheVariants.{Para};
 ghost use Rattle.tube_cell.specs.Views.{readings_of};
 ghost use Rattle.tube_cell.specs.Passes.{Carried, own_horizon, here, after_publish, after_entrust, Learns};
@@ -80,6 +80,7 @@ pub fn tell_first<W: Ahead, R: Wait>(
     ensures waited { IsFalse result → HasWaited pass.old pass.new }
     ensures unpublished { IsFalse result → pass.new.ahead ≡ pass.old.ahead }
     ensures later { IsFalse result → own_horizon pass.new ≤ mark.now.tick.0 }
+    ensures refused { IsFalse result → (t.0 ≤ mark.now.tick.0) ⊎ (readings_of (here pass.new) ≢ mark.now.readings) }
 {
     if t <= mark.tick {
         return false;
@@ -124,6 +125,7 @@ fn entrust_on<W: Ahead, R: Wait>(rt: &R, cell: &TubeCell, pass: &mut Pass, t: Ti
     ensures told { (p : Carried) → HasTrusted W.way t.0 p pass.old → HasTrusted W.way t.0 p pass.new }
     ensures paid { (p : Carried) → IsPaidOnTrust p pass.old → IsPaidOnTrust p pass.new }
     ensures seat { (pass.new.cell ≡ pass.old.cell) × (pass.new.side ≡ pass.old.side) }
+    ensures trust { IsTrue result → pass.new.known.trust ≡ t.0 }
 {
     entrust_observed::<Brand, W, R>(rt, cell, pass, t)
 }
@@ -144,6 +146,8 @@ pub fn tell_more<W: Ahead, R: Wait>(
     ensures told { (p : Carried) → HasTrusted W.way t.0 p pass.old → HasTrusted W.way t.0 p pass.new }
     ensures paid { (p : Carried) → IsPaidOnTrust p pass.old → IsPaidOnTrust p pass.new }
     ensures seat { (pass.new.cell ≡ pass.old.cell) × (pass.new.side ≡ pass.old.side) }
+    ensures trust { IsTrue result → pass.new.known.trust ≡ t.0 }
+    ensures refused { IsFalse result → readings_of (here pass.new) ≢ mark.now.readings }
 {
     for _ in rt.forever() {
         if mark.readings != cell.readings(pass) {

@@ -166,7 +166,7 @@ fn head_of(row: &str) -> Option<(&str, u16, Choice)> {
     let ticks = words.next()?.parse().ok()?;
     let at = address(words.next()?);
     let watch = address(words.next()?);
-    Some((name, ticks, Choice { at, watch }))
+    Some((name, ticks, Choice { from: 0, at, watch }))
 }
 
 // The trace, in which `;` ends a line.
@@ -324,6 +324,7 @@ fn a_byte_is_watched_against_a_trace_of_both(rt: HostRuntime) -> Result<(), Fail
     trace.push_str(LAST_LINES)?;
     let machine = host(rt.alloc(), "letters")?;
     let choice = Choice {
+        from: 0,
         at: None,
         watch: Some(0x70),
     };
@@ -363,6 +364,7 @@ fn first_bad_line(text: &[u8]) -> Option<usize> {
 fn a_million_lines_are_written_and_the_next_is_counted(rt: HostRuntime) -> Result<(), Fail> {
     let machine = para(rt.alloc(), "loop")?;
     let choice = Choice {
+        from: 0,
         at: None,
         watch: None,
     };

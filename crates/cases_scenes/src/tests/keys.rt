@@ -120,8 +120,16 @@ t
 $ solo 100 o --os os --tube tube --keys t
 = 0
 line o.report frames 0
+## A script of 1,048,576 bytes is read, and one byte more is too long.
 t
-* 55189 | at 1000000 down 41
+* 55188 | at 1000000 down 41
++ at 1
+$ solo 100 o --os os --tube tube --keys t
+= 4 bad script 55189 kind 1
+none o.report
+t
+* 55188 | at 1000000 down 41
++ at 10
 $ solo 100 o --os os --tube tube --keys t
 = 2 too long t
 none o.report

@@ -22,6 +22,22 @@ $ follow para t 30 o --tube tube --watch 0000
 = 0: listed 0 of 0
 $ follow para t 13 o --tube tube
 = 0: listed 0 of 0
+## From a tick on: at the first start, behind it, at the last, behind that, and at the end.
+each 0 3, 14 3, 15 2, 26 1, 27 0, 30 0, 1073741824 0
+$ follow para t 30 o --tube tube --from {1}
+= 0: listed {2} of {2}
+end
+$ follow para t 30 o --tube tube --from 15
+= 0: listed 2 of 2
+file o.list
+| 0000000014 F800 A=00 X=00 Y=00 S=FD P=24 JMP &F800
+| 000000001A F800 A=00 X=00 Y=00 S=FD P=24 JMP &F800
+$ follow para t 60000 o --tube tube --from 59990 --at F800
+= 0: listed 2 of 2
+! follow para t 30 o --tube tube --from 1073741825
+! follow para t 30 o --tube tube --from -1
+! follow para t 30 o --tube tube --from
+! replay para t 30 o --tube tube --from 3
 # A watched byte.
 os letters
 tube letters
@@ -33,6 +49,11 @@ $ follow host t 2000 o --os os --watch 0070
 file o.list
 | 00000003CC C00C A=48 X=00 Y=00 S=FD P=24 INX
 none o.report o.host
+## The start before stays the start before, whether it is listed or not.
+each 972 1, 973 0
+$ follow host t 2000 o --os os --watch 0070 --from {1}
+= 0: listed {2} of {2}
+end
 $ follow para t 2000 o --tube tube --at F80B
 = 0: listed 1 of 1
 ## A refused listing: the order of refusals is that of a replay.

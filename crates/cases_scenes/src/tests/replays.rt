@@ -220,6 +220,9 @@ t
 $ replay host t 100 o --os os
 = 8: differs 1 0000000024 H R 0 --
 none o.report o.host
+top replay host t 100 o --os os
+= 8: differs 1 0000000024 H R 0 --
+none o.report o.host
 os
 | org &C000
 | INC &FEE1

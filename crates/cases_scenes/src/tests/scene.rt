@@ -15,8 +15,8 @@
 //!   (`programs.rt`). `ticks A, B`: the file `t` is a trace of these accesses, one at each tick from 0.
 //! - `plugs NAME..`: these devices are handed in: `card` and `latch`, which are handed in where no others are named, a `counter`, or a `mute`.
 //! - `fails N,.. M,..`: these calls of the shelf and these of the outlet fail, where `-` is none.
-//! - `$ WORDS`: the words are carried out, where `''` is a word of no letters. `run ..`: these very words are carried out, in two threads, and
-//!   `alone WORDS` by a crew that starts no thread. In words `%` is `--os os --tube tube`, or what a step `with WORDS` says in place of it.
+//! - `$ WORDS`: the words are carried out, where `''` is a word of no letters. `run ..`: these very words are carried out, in two threads, `top
+//!   WORDS`: so are these, by the call that has a crew, and `alone WORDS` by a crew that starts no thread. In words `%` is `--os os --tube tube`, or what a step `with WORDS` says in place of it.
 //! - `= STATUS`: they ended with this number and text, the kind of the offence where there is one, and what was said behind a
 //!   colon, or below. `! WORDS` carries out words that are outside the grammar.
 //! - `file NAME`: the file was written with these bytes. `none NAME..`: these were not written. `line NAME TEXT`: this is one of
@@ -195,6 +195,7 @@ impl Scene {
             }
             "t" | "keys" | "os" | "lang" | "dfs" | "tube" => self.lay_file(word, bytes),
             "run" => self.share(rt, step, &mut ThreadCrew::make()),
+            "top" => self.share(rt, rest, &mut ThreadCrew::make()),
             "alone" => self.share(rt, rest, &mut FailCrew::make()),
             "$" | "!" | "trace" | "keep" => self.act(word, rest),
             "none" | "same" => self.are_left(word, rest),

@@ -78,6 +78,16 @@ $ replay para t 200 o --tube tube
 = 4 bad trace 1 kind 4
 t
 | T2
+| 0000000000 H R 0 40
+$ check t
+= 0: ok 1
+t
+| T2
+| 0000000024 H R 0 40
+$ check t
+= 0: ok 1
+t
+| T2
 | 0000000009 P R 0 40
 $ check t
 = 0: ok 1

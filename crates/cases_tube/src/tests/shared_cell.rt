@@ -125,7 +125,7 @@ fn turns_at_the_cell_are_answered_as_by_the_chip(rt: HostRuntime) {
 
 // ---- two threads
 
-const ACCESSES: u64 = 1_000;
+const ACCESSES: u64 = 250;
 
 // A side that is not admitted after so many tries gives up, and the test fails.
 const TRIES: u64 = 1_000_000_000;
@@ -171,8 +171,8 @@ fn access<R: Wait>(rt: &R, cell: &TubeCell, pass: &mut Pass, t: u64, op: Op) -> 
     None
 }
 
-// The own horizon past all ticks, so that the other side gets on.
-fn end<R: Wait>(rt: &R, cell: &TubeCell, pass: &mut Pass)
+/// The own horizon past all ticks, so that the other side gets on.
+pub(super) fn end<R: Wait>(rt: &R, cell: &TubeCell, pass: &mut Pass)
     requires cell { pass.old.cell ≡ cell.now }
     requires published { (pass.old.ahead ≡ []) × (pass.old.trusted ≡ []) }
     requires later { own_horizon pass.old ≤ 2 ^ 30 }
@@ -199,7 +199,7 @@ fn work<R: Wait>(
     ensures { IfSome result (λ r. (r.0.cell ≡ pass.cell) × (r.0.side ≡ pass.side) × (r.0.ahead ≡ []) × (r.0.trusted ≡ [])) }
 {
     let mut pass = pass;
-    let mut list = Vec::with_capacity(alloc, 1_000).ok()?;
+    let mut list = Vec::with_capacity(alloc, 250).ok()?;
     let mut random = seed;
     let mut tick = 0;
     for k in 0..ACCESSES {

@@ -2,18 +2,18 @@ use Rattle.std.proofs.Common.{◌-◌, ◌≡◌, length}
 use Rattle.op_table.specs.declared.names.Part.TheVariants.{Cmos}
 use Rattle.tube_machine.specs.Step.{at_of}
 use Rattle.tube_machine.specs.Exchange.{spent}
-use Rattle.tube_machine.proofs.UnderWay.{IsUnderWay}
-use Rattle.tube_machine.specs.Exchange.{HasSpent, ready}
+use Rattle.tube_machine.proofs.Asked.{IsTalking}
+use Rattle.tube_machine.specs.Exchange.{HasSpent, IsShut, ready}
 use Rattle.tube_machine.proofs.run.go_on.Given as goal
 
 -- the steps so far asked nothing or saw the lines, and the next one is an access
 abbrev pub invariant-loop-due : goal.invariant-loop-due
 invariant-loop-due g l = record {
-  way : IsUnderWay g.P.Processor.part g.B.TubeBus.wiring g.B.TubeBus.plain l.next_break l.cycle l.until l.lines l.sure
-      (at_of (g.P.Processor.core l.fn.cpu) (g.B.TubeBus.state l.fn.bus) l.from)
-      (at_of (g.P.Processor.core l.cpu) (g.B.TubeBus.state l.bus) l.due)
+  at : IsTalking g.P.Processor.part g.B.TubeBus.wiring g.B.TubeBus.plain g.D.Desk.answers l.next_break l.cycle l.until l.lines l.sure
+      (at_of (g.P.Processor.core l.fn.cpu) (g.B.TubeBus.state l.fn.bus) l.from) (g.D.Desk.state l.fn.desk)
+      (at_of (g.P.Processor.core l.cpu) (g.B.TubeBus.state l.bus) l.due) (g.D.Desk.state l.desk)
       l.caught_up;
-  noted : g.B.TubeBus.before l.notes l.bus ≡ g.B.TubeBus.before l.fn.notes l.fn.bus;
+  noted : IsShut g.D.Desk.answers → g.B.TubeBus.before l.notes l.bus ≡ g.B.TubeBus.before l.fn.notes l.fn.bus;
   spent : HasSpent (g.P.Processor.part ≡ Cmos) l.cycle l.sure (spent (ready g.P.Processor.part (g.P.Processor.core l.fn.cpu) l.from)
       (g.B.TubeBus.room l.fn.notes) (length (g.P.Processor.core l.fn.cpu).seen))
       (spent l.due (g.B.TubeBus.room l.notes) (length (g.P.Processor.core l.cpu).seen));

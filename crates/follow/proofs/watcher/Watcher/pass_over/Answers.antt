@@ -15,7 +15,7 @@ invariant_of-self g c =
     let x : g.M.Seen.Inside = g.M.Seen.inside c.args.self.now.machine in
     let y : g.M.Seen.Inside = g.M.Seen.inside c.pass.new.self in
     let came = passes_on w g.M.Seen.sights g.met.M.Seen.seen set c.args.until.0 kept c.args.lines.now c.args.sure.0
-    (λ s. IsOver c.in-Some.passing (g.M.Seen.sights s).regs.pc (g.M.Seen.sights s).peek) c.pass.ensures.0 x y
+    (λ s. IsOver c.in-Some.passing (w.due s) (g.M.Seen.sights s).regs.pc (g.M.Seen.sights s).peek) c.pass.ensures.0 x y
     (λ u over. leaves_noted w g.M.Seen.sights g.met.M.Seen.seen set c.in-Some.passing kept u c.in-Some.ensures.leaves over) c.pass.ensures.1 in
     let risen = due_rises (watched_moves w g.M.Seen.sights) c.args.until.0 c.args.lines.now c.args.sure.0 came.0 (watched_of x set kept)
     (watched_of y set kept) (watched_lawful w g.M.Seen.sights g.met.M.Seen.seen) came.1 in
@@ -27,6 +27,6 @@ returns-in-Some g c =
     let set : Order = order c.args.self.now.notes.part c.args.self.now.notes.choice in
     let kept : Kept = kept_of c.args.self.now.notes.trail.starts c.args.self.now.notes.before in
     passes_on w g.M.Seen.sights g.met.M.Seen.seen set c.args.until.0 kept c.args.lines.now c.args.sure.0
-    (λ s. IsOver c.in-Some.passing (g.M.Seen.sights s).regs.pc (g.M.Seen.sights s).peek) c.pass.ensures.0
+    (λ s. IsOver c.in-Some.passing (w.due s) (g.M.Seen.sights s).regs.pc (g.M.Seen.sights s).peek) c.pass.ensures.0
     (g.M.Seen.inside c.args.self.now.machine) (g.M.Seen.inside c.pass.new.self)
     (λ u over. leaves_noted w g.M.Seen.sights g.met.M.Seen.seen set c.in-Some.passing kept u c.in-Some.ensures.leaves over) c.pass.ensures.1

@@ -1,4 +1,4 @@
-use Rattle.std.proofs.Common.{◌≡◌, ◌∙◌, sym, ap, refl, false}
+use Rattle.std.proofs.Common.{◌≡◌, ◌∙◌, ◌&&◌, sym, ap, refl, false}
 use Rattle.cpu_alu.specs.declared.Regs.{Regs}
 use Rattle.tube_party.specs.Quiet.{quiet_at_due}
 use Rattle.host_mach.specs.State.{HostState}
@@ -8,10 +8,10 @@ use Rattle.host_mach.specs.View.{host_seen}
 use Rattle.host_mach.proofs.Quiet.{idle_quiet}
 use Rattle.host_mach.proofs.machine.HostMachineParty.quiet.Goals as goal
 
-pub returns-then-not-is_tube-clause-quiet : goal.returns-then-not-is_tube-clause-quiet
-returns-then-not-is_tube-clause-quiet g c =
+pub returns-then-not-answers-clause-quiet : goal.returns-then-not-answers-clause-quiet
+returns-then-not-answers-clause-quiet g c =
     let s : HostState = host_seen g.D.BusDevice.plug c.args.self.now in
-    let not_tube : is_tube s.cpu.regs.pc ≡ false = ap (λ (r : Regs). is_tube r.pc) (sym c.at_start.ensures) ∙ sym c.is_tube.ensures ∙ c.if-not-is_tube.true in
+    let not_tube : (s.bus.tube && is_tube s.cpu.regs.pc) ≡ false = ap (λ (r : Regs). s.bus.tube && is_tube r.pc) (sym c.at_start.ensures) ∙ sym c.answers.ensures ∙ c.if-not-answers.true in
     idle_quiet s c.next_break.result c.max.result (sym c.halted.ensures ∙ c.if-halted.true) not_tube c.next_break.ensures.none c.max.ensures
 
 pub returns-else-halted-clause-quiet : goal.returns-else-halted-clause-quiet

@@ -23,7 +23,7 @@ returns c =
     let new : ParaState = at_of c.pass_over.new.cpu c.pass_over.new.bus c.pass_over.new.due in
     let k : ℕ = c.pass_over.ensures.passes.0 in (
       k,
-      subst (λ (s : ParaState). Passes para_moves (λ (x : ParaState). IsOver c.args.passing (shown_regs x).pc (para_peek x)) c.args.until.0
+      subst (λ (s : ParaState). Passes para_moves (λ (x : ParaState). IsOver c.args.passing x.due (shown_regs x).pc (para_peek x)) c.args.until.0
           (shown_lines c.args.lines.now c.args.sure.0) k s new) c.self.view_is
           (passes_held c.args.passing c.args.until.0 (shown_lines c.args.lines.now c.args.sure.0) k old new c.self.invariant.0 c.pass_over.ensures.passes.1).0,
     )

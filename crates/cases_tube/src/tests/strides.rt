@@ -1,0 +1,264 @@
+//! How often the second processor tells of its way ahead: once for each stride, however many reads of status registers are on it.
+ghost use Rattle.std.specs.Prelude.{◌≡◌, ◌≤◌, ◌^◌, []};
+ghost use Rattle.beeb_bits.specs.declared.Side.TheVariants.{Para};
+ghost use Rattle.tube_cell.specs.Passes.{own_horizon};
+
+use super::shared_cell::end;
+use beeb_bits::Tick;
+use crossbeam_utils::Backoff;
+use session::{Half, Strides, drive_ahead};
+use std::alloc::{AllocError, Global};
+use std::sync::atomic::{AtomicU64, Ordering};
+use std::sync::{Arc, Wait};
+use std::test::Fail;
+use std::thread::{Threads, join};
+use tube_cell::{Pass, TubeCell, Whole};
+use tube_chip::{Lines, Op};
+use tube_party::{Answer, Ask, Log, Party, Rewinds};
+
+/// The end of the run.
+const END: u64 = 500;
+
+// From tick 0 on the strides end at 128 and 384, and the last at the end of the run.
+const DOUBLING: Strides = Strides {
+    first: 128,
+    fewest: 64,
+    most: 2_048,
+    span: 65_536,
+};
+
+// A side that has waited for so many turns gives up, and the test fails.
+const TURNS: u64 = 10_000_000;
+
+type Count = Arc<AtomicU64, Global>;
+
+fn count(alloc: Global) -> Result<Count, AllocError> {
+    Ok(Arc::new(alloc, AtomicU64::new(0))?)
+}
+
+/// Reads its first status register at tick `due` and every two ticks. Before each step it waits until the other side has looked.
+#[derive(Drop)]
+pub struct Poller {
+    due: u64,
+    // How far it is closed, in ticks before the next step.
+    lag: u64,
+    // How many steps it has come to, and up to which of them the other side has looked.
+    steps: Count,
+    seen: Count,
+}
+
+/// Where it was when it began to note.
+#[derive(Drop)]
+pub struct Begun {
+    due: u64,
+    lag: u64,
+}
+
+impl Poller {
+    fn is_seen(&self) {
+        let step = self.steps.load(Ordering::SeqCst).wrapping_add(1);
+        self.steps.store(step, Ordering::SeqCst);
+        let backoff = Backoff::new();
+        for _ in 0..TURNS {
+            if self.seen.load(Ordering::SeqCst) == step {
+                return;
+            }
+            backoff.snooze();
+        }
+    }
+}
+
+impl Party for Poller {
+    ghost use Rattle.std.specs.Prelude.{ℕ, ◌+◌, ◌-◌, Some, true, refl};
+    ghost use Rattle.std.proofs.Common.{arith};
+    ghost use Rattle.tube_party.specs.Moves.{MayAsk};
+    ghost use Rattle.tube_chip.specs.declared.Op.TheVariants as op;
+    ghost use Rattle.tube_chip.specs.Act.{access};
+    ghost use Rattle.cases_tube.specs.Steady.{Station};
+
+    ghost State = { Station };
+
+    ghost state = { λ m. record { due = m.due; lag = m.lag } };
+
+    ghost moves = { record {
+      due = λ s. s.due;
+      asks = λ s. Some (access (op.Read 0));
+      next = λ s a. record { due = s.due + 2; lag = 1 };
+      closed = λ s. s.due - s.lag;
+      close = λ s t. record s { lag = s.due - t };
+    } };
+
+    ghost plays = { λ side. true };
+
+    ghost lawful = { record {
+      rises = λ s a. omega arith;
+      within = λ s. omega arith;
+      closing = λ s t low high. record { closed = omega arith; due = refl; asks = refl; next = λ a. refl; again = λ u low2 high2. refl };
+    } };
+
+    ghost permitted = { λ s side plays. omega arith };
+
+    fn due(&self) -> Tick {
+        Tick(self.due)
+    }
+
+    fn advance(&mut self, until: Tick) -> Ask {
+        self.is_seen();
+        if self.due < until.0 {
+            return Ask::Access(Tick(self.due), Op::Read(0));
+        }
+        self.lag = self.lag.min(self.due - until.0);
+        Ask::Nothing
+    }
+
+    fn answer(&mut self, _answer: Answer) {
+        self.lag = 1;
+        self.due += 2;
+    }
+}
+
+impl Rewinds for Poller {
+    type Past = Begun;
+
+    ghost before = { λ past m. record m { due = past.due; lag = past.lag } };
+
+    fn past(_alloc: Global) -> Result<Begun, AllocError> {
+        Ok(Begun { due: 0, lag: 0 })
+    }
+
+    fn advance_noting(
+        &mut self,
+        until: Tick,
+        lines: &Lines,
+        sure: Tick,
+        past: &mut Begun,
+    ) -> Option<Ask> {
+        past.due = self.due;
+        past.lag = self.lag;
+        Some(self.advance_seeing(until, lines, sure))
+    }
+
+    fn answer_on(
+        &mut self,
+        byte: u8,
+        until: Tick,
+        lines: &Lines,
+        sure: Tick,
+        _past: &mut Begun,
+    ) -> Option<Ask> {
+        self.answer(Answer::Byte(byte));
+        Some(self.advance_seeing(until, lines, sure))
+    }
+
+    fn rewind(&mut self, past: &mut Begun) {
+        self.due = past.due;
+        self.lag = past.lag;
+    }
+}
+
+// Looks at the trust after each of the other side's steps, until it is at the end of the run. How often it was another than before.
+fn changes<R: Wait>(rt: &R, cell: &TubeCell, pass: &mut Pass, steps: &Count, seen: &Count) -> u32
+    requires cell { pass.old.cell ≡ cell.now }
+    requires published { (pass.old.ahead ≡ []) × (pass.old.trusted ≡ []) }
+    requires later { own_horizon pass.old ≤ 2 ^ 30 }
+    ensures same { (pass.new.cell ≡ pass.old.cell) × (pass.new.ahead ≡ []) × (pass.new.trusted ≡ []) }
+    ensures later { own_horizon pass.new ≤ 2 ^ 30 }
+{
+    let backoff = Backoff::new();
+    let mut trust = 0;
+    let mut changes = 0u32;
+    for _ in 0..TURNS {
+        let step = steps.load(Ordering::SeqCst);
+        cell.learn(rt, pass);
+        let found = cell.trust(pass).0;
+        if found != trust {
+            trust = found;
+            changes = changes.saturating_add(1);
+        }
+        seen.store(step, Ordering::SeqCst);
+        if found >= END {
+            return changes;
+        }
+        backoff.snooze();
+    }
+    changes
+}
+
+// The host's side: it looks, and lets the other go on at last.
+fn look_on<R: Wait>(rt: &R, cell: &TubeCell, pass: Pass, steps: Count, seen: Count) -> u32
+    requires cell { pass.cell ≡ cell.now }
+    requires published { (pass.ahead ≡ []) × (pass.trusted ≡ []) }
+    requires later { own_horizon pass ≤ 0 }
+{
+    let mut pass = pass;
+    let changes = changes(rt, cell, &mut pass, &steps, &seen);
+    end(rt, cell, &mut pass);
+    changes
+}
+
+// The parasite's side: how many accesses it did.
+fn go_ahead<R: Wait>(
+    rt: &R,
+    alloc: Global,
+    cell: &TubeCell,
+    pass: Pass,
+    steps: Count,
+    seen: Count,
+) -> Result<u64, AllocError>
+    requires cell { pass.cell ≡ cell.now }
+    requires side { pass.side ≡ Para }
+    requires published { (pass.ahead ≡ []) × (pass.trusted ≡ []) }
+    requires later { own_horizon pass ≤ 0 }
+{
+    let mut past = Begun { due: 0, lag: 0 };
+    let mut half = Half {
+        machine: Poller {
+            due: 0,
+            lag: 0,
+            steps,
+            seen,
+        },
+        pass,
+        log: Log::new(alloc, 0)?,
+    };
+    drive_ahead(rt, cell, &mut half, &mut past, Tick(END), DOUBLING);
+    Ok(half.log.count)
+}
+
+// Both sides in threads of their own: how often the trust changed, and how many reads there were.
+fn pair<R: Threads + Wait + Sync>(
+    rt: &R,
+    alloc: Global,
+    cell: &TubeCell,
+    whole: Whole,
+) -> Result<(u32, u64), AllocError>
+    requires { whole ≡ cell.now }
+{
+    let (steps, seen) = (count(alloc)?, count(alloc)?);
+    let (steps_too, seen_too) = (Arc::try_clone(&steps)?, Arc::try_clone(&seen)?);
+    let (host, para) = cell.split(rt, whole);
+    let (changes, reads) = join(
+        rt,
+        move || -> u32
+            requires cell { host.cell ≡ cell.now }
+            requires published { (host.ahead ≡ []) × (host.trusted ≡ []) }
+            requires later { own_horizon host ≤ 0 }
+        { look_on(rt, cell, host, steps, seen) },
+        move || -> Result<u64, AllocError>
+            requires cell { para.cell ≡ cell.now }
+            requires side { para.side ≡ Para }
+            requires published { (para.ahead ≡ []) × (para.trusted ≡ []) }
+            requires later { own_horizon para ≤ 0 }
+        { go_ahead(rt, alloc, cell, para, steps_too, seen_too) },
+    );
+    Ok((changes, reads?))
+}
+
+#[test]
+fn reads_ahead_are_told_stride_by_stride(rt: HostRuntime) -> Result<(), Fail> {
+    let Ok((cell, whole)) = TubeCell::make(rt.alloc()) else {
+        return Err(Fail::from("no memory"));
+    };
+    assert_eq!(rt; pair(&rt, rt.alloc(), &cell, whole)?, (3, 250));
+    Ok(())
+}

@@ -1,0 +1,99 @@
+-- A forced interrupt, and what comes behind it.
+use Rattle.std.proofs.Common.{◌≡◌, ◌∙◌, sym, ap, subst, refl, ℕ, ◌/◌, ◌≤◌, ◌==◌, ◌&&◌, ◌||◌, not, Bool, true, false, List, [], ◌∷◌, arith, inl, inr}
+use Rattle.std.specs.Prelude.{Some, if◌then◌else◌}
+use Rattle.std.proofs.lemmas.Bool.{cases_eq, eq-eqb}
+use Rattle.beeb_bits.specs.Bits.{bit}
+use Rattle.wd1770.specs.declared.command.Command.TheVariants.{Idle}
+use Rattle.wd1770.specs.State.{State}
+use Rattle.wd1770.specs.Select.{is_reset}
+use Rattle.wd1770.specs.Ends.{is_asking, is_busy, count_leaves}
+use Rattle.wd1770.specs.Commands.{begin_leaves, force_leaves, stop_leaves, latch_leaves}
+use Rattle.wd1770.specs.Registers.{read_leaves, write_leaves}
+use Rattle.wd1770.specs.Step.{next_angle, command_step, step}
+use Rattle.wd1770.specs.History.{Event, microsecond, read, write, latch, history}
+use Rattle.law_chips.specs.LostData.{AllLetGo}
+use Rattle.law_chips.specs.Interrupts.{status_is_read, LeavesRest, InterruptsAreForced}
+use Rattle.law_chips.proofs.Search.{read_makes}
+
+forced : (s : State) (v : ℕ) → is_reset s.latch ≡ false → v / 16 ≡ 0xD → write_leaves 0 v s ≡ count_leaves (is_asking s) (force_leaves v s)
+forced s v live is =
+    ap (λ b. count_leaves (is_asking s) (if b then s else if v / 16 == 0xD then force_leaves v s else if is_busy s.command then s else begin_leaves v s)) live
+    ∙ ap (λ b. count_leaves (is_asking s) (if b then force_leaves v s else if is_busy s.command then s else begin_leaves v s)) (eq-eqb (v / 16) 0xD is)
+
+-- no command, and INTRQ
+record Rests (asks : Bool) (s : State) : Type 0 where
+  pub command : s.command ≡ Idle
+  pub intrq : s.intrq ≡ asks
+
+stepped : (asks : Bool) (s : State) → Rests asks s → Rests asks (step s)
+stepped asks s is =
+    let s1 : State = record s { angle = Some (next_angle s.angle) } in
+    subst (λ y. Rests asks (count_leaves (is_asking s) y)) (sym (ap (λ c. command_step c (next_angle s.angle) s1) is.command))
+    (record { command = is.command; intrq = is.intrq })
+
+heard : (b asks intrq : Bool) → intrq ≡ asks → (if b then false else intrq) ≡ (asks && not b)
+heard true true intrq is = refl
+heard true false intrq is = refl
+heard false true intrq is = is
+heard false false intrq is = is
+
+was_read : (asks : Bool) (reg : ℕ) (s : State) → Rests asks s → Rests (asks && not (reg == 0)) (read_leaves reg s)
+was_read asks reg s is =
+    subst (λ y. Rests (asks && not (reg == 0)) (count_leaves (is_asking s) y)) (sym (read_makes (reg == 0) (reg == 3) s))
+    (record { command = is.command; intrq = heard (reg == 0) asks s.intrq is.intrq })
+
+was_written : (asks : Bool) (reg v : ℕ) (s : State) → 1 ≤ reg → reg ≤ 3 → Rests asks s → Rests asks (write_leaves reg v s)
+was_written asks reg v s low high is = elim (cases_eq reg 1) [
+  | inl one ↦ subst (λ r. Rests asks (write_leaves r v s)) (sym one) (record { command = is.command; intrq = is.intrq })
+  | inr more ↦
+      elim (cases_eq reg 2) [
+        | inl two ↦ subst (λ r. Rests asks (write_leaves r v s)) (sym two) (record { command = is.command; intrq = is.intrq })
+        | inr most ↦
+            let three : reg ≡ 3 = omega (arith, low, high, more, most) in
+            subst (λ r. Rests asks (write_leaves r v s)) (sym three) (record { command = is.command; intrq = is.intrq })
+      ]
+]
+
+was_latched : (asks : Bool) (v : ℕ) (s : State) → is_reset v ≡ false → Rests asks s → Rests asks (latch_leaves v s)
+was_latched asks v s off is =
+    subst (λ b. Rests asks (if b then stop_leaves (record s { latch = v }) else record s { latch = v })) (sym off) (record { command = is.command; intrq = is.intrq })
+
+both : (asks a b : Bool) → ((asks && not a) && not b) ≡ (asks && not (a || b))
+both true true b = refl
+both true false b = refl
+both false a b = refl
+
+unheard : (asks : Bool) → asks ≡ (asks && true)
+unheard true = refl
+unheard false = refl
+
+run : (asks : Bool) (events : List Event) (s : State) → AllLetGo events → Rests asks s → Rests (asks && not (status_is_read events)) (history events s)
+run asks [] s all is = subst (λ b. Rests b s) (unheard asks) is
+run asks (microsecond ∷ es) s all is = run asks es (step s) all.1 (stepped asks s is)
+run asks (read reg ∷ es) s all is =
+    subst (λ b. Rests b (history es (read_leaves reg s))) (both asks (reg == 0) (status_is_read es))
+    (run (asks && not (reg == 0)) es (read_leaves reg s) all.1 (was_read asks reg s is))
+run asks (write reg v ∷ es) s all is = run asks es (write_leaves reg v s) all.1 (was_written asks reg v s all.0.0 all.0.1 is)
+run asks (latch v ∷ es) s all is = run asks es (latch_leaves v s) all.1 (was_latched asks v s all.0 is)
+
+from_forced : (s : State) (v : ℕ) (events : List Event) → is_reset s.latch ≡ false → v / 16 ≡ 0xD → AllLetGo events →
+    Rests (bit v 3 && not (status_is_read events)) (history events (write_leaves 0 v s))
+from_forced s v events live is all =
+    run (bit v 3) events (write_leaves 0 v s) all (subst (Rests (bit v 3)) (sym (forced s v live is)) (record { command = refl; intrq = refl }))
+
+pub interrupts_are_forced : InterruptsAreForced
+interrupts_are_forced = record {
+  over = λ s v events live is all. (from_forced s v events live is all).command;
+  asks = λ s v events live is all. (from_forced s v events live is all).intrq;
+  rest = λ s v live is. subst (LeavesRest s) (sym (forced s v live is)) (record {
+    track = refl;
+    sector = refl;
+    byte = refl;
+    drive0 = refl;
+    drive1 = refl;
+    drq = refl;
+    lost_data = refl;
+    not_found = refl;
+    status = refl;
+  });
+}

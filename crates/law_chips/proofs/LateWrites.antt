@@ -1,0 +1,419 @@
+-- Lost data while a sector is written.
+use Rattle.std.proofs.Common.{◌≡◌, ◌∙◌, sym, ap, subst, refl, ℕ, ◌+◌, ◌-◌, ◌*◌, ◌/◌, ◌%◌, ◌<◌, ◌≤◌, ◌==◌, ◌&&◌, ◌||◌, not, Bool, true, false, List, [], ◌∷◌, ◌++◌, arith, inl, inr, ◌⊎◌}
+use Rattle.std.specs.Prelude.{Some, nat_lt, nat_le, if◌then◌else◌}
+use Rattle.std.specs.List.{list_any}
+use Rattle.std.proofs.lemmas.Bool.{cases_eq, cases_lt, eq-eqb, ne_eqb, lt-ltb, le-ltb, le-leb, lt-leb, true≢false}
+use Rattle.std.proofs.lemmas.List.{append-nil}
+use Rattle.wd1770.specs.declared.command.Command.TheVariants.{Transferring}
+use Rattle.wd1770.specs.declared.command.Transfer.{Transfer}
+use Rattle.wd1770.specs.State.{State}
+use Rattle.wd1770.specs.Ends.{is_asking, count_leaves, finish_leaves}
+use Rattle.wd1770.specs.Sectors.{search_of, byte_written, writing_at}
+use Rattle.wd1770.specs.Step.{work_leaves, step}
+use Rattle.wd1770.specs.History.{Event, history, count_steps}
+use Rattle.law_chips.specs.SectorReads.{sector_steps, IsAtSector}
+use Rattle.law_chips.specs.LostData.{AllLetGo, place_if, accesses, is_in_time, time_over, IsOver, is_served}
+use Rattle.law_chips.proofs.Reading.{no_place, a_place, worked_is}
+use Rattle.law_chips.proofs.Writing.{w_first, w_late, w_byte, w_end, w_none, put, before_bytes, behind_bytes, writes_is}
+use Rattle.law_chips.proofs.Streams.{has_place, any_stays, any_other, any_now, or_true, and_false, bool_cases, stays_lost, Accessed, runs}
+
+moved_on : State → ℕ → ℕ → State
+moved_on s k m = record s { angle = Some (64 * (312 * k) + m + 1) }
+
+next_place : (k m : ℕ) → Some (64 * (312 * k) + m + 1) ≡ Some (64 * (312 * k) + (m + 1))
+next_place k m = let e : 64 * (312 * k) + m + 1 ≡ 64 * (312 * k) + (m + 1) = omega arith in ap (λ (n : ℕ). Some n) e
+
+-- byte i was given
+given : ℕ → List ℕ → Bool
+given i ps = list_any (is_in_time true i) ps
+
+-- whether DRQ asks for a byte in this place
+wants : ℕ → List ℕ → Bool
+wants place ps = if nat_lt place 12 then false else if nat_lt place 22 then not (given 0 ps) else if nat_lt place 30 then false else not (has_place place ps)
+
+wants_none : (place : ℕ) (ps : List ℕ) → place < 12 → wants place ps ≡ false
+unfolding wants
+wants_none place ps low = ap (λ b. if b then false else if nat_lt place 22 then not (given 0 ps) else if nat_lt place 30 then false else not (has_place place ps)) (lt-ltb place 12 low)
+
+wants_first : (place : ℕ) (ps : List ℕ) → 12 ≤ place → place < 22 → wants place ps ≡ not (given 0 ps)
+unfolding wants
+wants_first place ps low high =
+    ap (λ b. if b then false else if nat_lt place 22 then not (given 0 ps) else if nat_lt place 30 then false else not (has_place place ps)) (le-ltb place 12 low)
+    ∙ ap (λ b. if b then not (given 0 ps) else if nat_lt place 30 then false else not (has_place place ps)) (lt-ltb place 22 high)
+
+wants_no_more : (place : ℕ) (ps : List ℕ) → 22 ≤ place → place < 30 → wants place ps ≡ false
+unfolding wants
+wants_no_more place ps low high =
+    ap (λ b. if b then false else if nat_lt place 22 then not (given 0 ps) else if nat_lt place 30 then false else not (has_place place ps)) (le-ltb place 12 (omega (arith, low)))
+    ∙ ap (λ b. if b then not (given 0 ps) else if nat_lt place 30 then false else not (has_place place ps)) (le-ltb place 22 low)
+    ∙ ap (λ b. if b then false else not (has_place place ps)) (lt-ltb place 30 high)
+
+wants_next : (place : ℕ) (ps : List ℕ) → 30 ≤ place → wants place ps ≡ not (has_place place ps)
+unfolding wants
+wants_next place ps low =
+    ap (λ b. if b then false else if nat_lt place 22 then not (given 0 ps) else if nat_lt place 30 then false else not (has_place place ps)) (le-ltb place 12 (omega (arith, low)))
+    ∙ ap (λ b. if b then not (given 0 ps) else if nat_lt place 30 then false else not (has_place place ps)) (le-ltb place 22 (omega (arith, low)))
+    ∙ ap (λ b. if b then false else not (has_place place ps)) (le-ltb place 30 low)
+
+-- a byte behind the first is given in one place
+given_in : (i place : ℕ) (ps : List ℕ) → 1 ≤ i → place ≡ 29 + i → given i ps ≡ has_place place ps
+unfolding given has_place
+given_in i place ps some is =
+    ap (λ b. list_any (λ p. if b then nat_le 12 p && nat_lt p 22 else p == 29 + i) ps) (ne_eqb i 0 (λ e. omega (arith, e, some)))
+    ∙ ap (λ n. list_any (λ p. p == n) ps) (sym is)
+
+over_first : (i : ℕ) → i ≡ 0 → time_over true i ≡ 22
+over_first i is = ap (λ b. if b then 22 else 30 + i) (eq-eqb i 0 is)
+
+over_next : (i : ℕ) → 1 ≤ i → time_over true i ≡ 30 + i
+over_next i some = ap (λ b. if b then 22 else 30 + i) (ne_eqb i 0 (λ e. omega (arith, e, some)))
+
+-- after its time a byte is not given
+not_in_time : (i place : ℕ) → time_over true i ≤ place → is_in_time true i place ≡ false
+not_in_time i place over = elim (cases_eq i 0) [
+  | inl zero ↦
+      let late : 22 ≤ place = omega (arith, over, over_first i zero) in
+      ap (λ b. if b then nat_le 12 place && nat_lt place 22 else place == 29 + i) (eq-eqb i 0 zero)
+      ∙ ap (λ b. nat_le 12 place && b) (le-ltb place 22 late) ∙ and_false (nat_le 12 place)
+  | inr some ↦
+      let late : 30 + i ≤ place = omega (arith, over, over_next i (omega (arith, some))) in
+      ap (λ b. if b then nat_le 12 place && nat_lt place 22 else place == 29 + i) (ne_eqb i 0 some) ∙ ne_eqb place (29 + i) (λ e. omega (arith, e, late))
+]
+
+-- After m steps, and accesses in these places, nothing is lost and each byte was given.
+record Fine (t : Transfer) (k : ℕ) (s : State) (m : ℕ) (ps : List ℕ) : Type 0 where
+  pub command : m < 18432 → s.command ≡ Transferring t k
+  pub angle : s.angle ≡ Some (64 * (312 * k) + m)
+  pub kept : s.lost_data ≡ false
+  pub drq : m < 64 * 285 → s.drq ≡ wants (m / 64) ps
+  pub served : (i : ℕ) → i < 256 → 64 * time_over true i ≤ m → given i ps ≡ true
+  pub ahead : (p : ℕ) → m / 64 < p → has_place p ps ≡ false
+  pub early : m / 64 < 12 → given 0 ps ≡ false
+
+-- A byte was not given, and is told to be lost.
+record Missed (s : State) (m : ℕ) (ps : List ℕ) : Type 0 where
+  pub lost : s.lost_data ≡ true
+  pub byte : ℕ
+  pub inside : byte < 256
+  pub over : 64 * time_over true byte ≤ m
+  pub missed : given byte ps ≡ false
+
+abbrev Either : Transfer → ℕ → State → ℕ → List ℕ → Type 0
+Either t k s m ps = Fine t k s m ps ⊎ Missed s m ps
+
+counted : (t : Transfer) (k : ℕ) (before : Bool) (s : State) (m : ℕ) (ps : List ℕ) → Either t k s m ps → Either t k (count_leaves before s) m ps
+counted t k before s m ps (inl is) = inl (record {
+  command = is.command;
+  angle = is.angle;
+  kept = is.kept;
+  drq = is.drq;
+  served = is.served;
+  ahead = is.ahead;
+  early = is.early;
+})
+counted t k before s m ps (inr is) = inr (record { lost = is.lost; byte = is.byte; inside = is.inside; over = is.over; missed = is.missed })
+
+-- the time of no byte ends with this step
+NoneOver : ℕ → Type 0
+NoneOver m = (i : ℕ) → i < 256 → 64 * time_over true i ≤ m + 1 → 64 * time_over true i ≤ m
+
+over_cases : (i : ℕ) → ((i ≡ 0) × (time_over true i ≡ 22)) ⊎ ((1 ≤ i) × (time_over true i ≡ 30 + i))
+over_cases i = elim (cases_eq i 0) [
+  | inl zero ↦ inl (zero, over_first i zero)
+  | inr some ↦ let more : 1 ≤ i = omega (arith, some) in inr (more, over_next i more)
+]
+
+none_over : (m : ℕ) → (m + 1 ≡ 64 * 22 → ⊥) → ((i : ℕ) → 1 ≤ i → i < 256 → m + 1 ≡ 64 * (30 + i) → ⊥) → NoneOver m
+unfolding NoneOver
+none_over m not_first not_next i inside over = elim (over_cases i) [
+  | inl first ↦
+      elim (cases_lt m (64 * time_over true i)) [
+        | inl new ↦ absurd (not_first (omega (arith, new, over, first.1)))
+        | inr old ↦ old
+      ]
+  | inr next ↦
+      elim (cases_lt m (64 * time_over true i)) [
+        | inl new ↦ absurd (not_next i next.0 inside (omega (arith, new, over, next.1)))
+        | inr old ↦ old
+      ]
+]
+
+-- a step that changes only the angle and DRQ, and at which the time of no byte ends
+plain : (t : Transfer) (k : ℕ) (s x : State) (m : ℕ) (ps : List ℕ) → NoneOver m → (m + 1 < 18432 → x.command ≡ Transferring t k) →
+    x.angle ≡ Some (64 * (312 * k) + m + 1) → x.lost_data ≡ s.lost_data → (m + 1 < 64 * 285 → x.drq ≡ wants ((m + 1) / 64) ps) → Fine t k s m ps →
+    Fine t k x (m + 1) ps
+unfolding NoneOver
+plain t k s x m ps none command angle kept drq is = record {
+  command = command;
+  angle = angle ∙ next_place k m;
+  kept = kept ∙ is.kept;
+  drq = drq;
+  served = λ i inside over. is.served i inside (none i inside over);
+  ahead = λ p more. is.ahead p (omega (arith, more));
+  early = λ low. is.early (omega (arith, low));
+}
+
+-- nothing comes in another place before the bytes
+same_wants : (m : ℕ) (ps : List ℕ) → (m + 1 ≡ 64 * 12 → ⊥) → (m + 1 ≡ 64 * 22 → ⊥) → m + 1 < 64 * 30 → wants ((m + 1) / 64) ps ≡ wants (m / 64) ps
+same_wants m ps not_12 not_22 early = elim (cases_lt (m / 64) 12) [
+  | inl low ↦ wants_none ((m + 1) / 64) ps (omega (arith, low, not_12)) ∙ sym (wants_none (m / 64) ps low)
+  | inr more ↦
+      elim (cases_lt (m / 64) 22) [
+        | inl first ↦
+            wants_first ((m + 1) / 64) ps (omega (arith, more)) (omega (arith, first, not_22)) ∙ sym (wants_first (m / 64) ps more first)
+        | inr late ↦
+            wants_no_more ((m + 1) / 64) ps (omega (arith, late)) (omega (arith, early)) ∙ sym (wants_no_more (m / 64) ps late (omega (arith, early)))
+      ]
+]
+
+-- DRQ is set for the first byte
+asks_first : (t : Transfer) (k : ℕ) (s : State) (m : ℕ) (ps : List ℕ) → m + 1 ≡ 64 * 12 → Fine t k s m ps →
+    Fine t k (record (moved_on s k m) { drq = true }) (m + 1) ps
+unfolding moved_on
+asks_first t k s m ps now is =
+    plain t k s (record (moved_on s k m) { drq = true }) m ps (none_over m (λ e. omega (arith, e, now)) (λ i some inside e. omega (arith, e, now)))
+    (λ h. is.command (omega (arith, now))) refl refl
+    (λ h. sym (wants_first ((m + 1) / 64) ps (omega (arith, now)) (omega (arith, now)) ∙ ap not (is.early (omega (arith, now))))) is
+
+-- place 22
+looks : (t : Transfer) (k : ℕ) (s : State) (m : ℕ) (ps : List ℕ) → m + 1 ≡ 64 * 22 → Fine t k s m ps →
+    Either t k (writing_at t k (Some ((m + 1) / 64)) (moved_on s k m)) (m + 1) ps
+unfolding moved_on
+looks t k s m ps now is =
+    let place : (m + 1) / 64 ≡ 22 = omega (arith, now) in
+    let was : s.drq ≡ not (given 0 ps) = is.drq (omega (arith, now)) ∙ wants_first (m / 64) ps (omega (arith, now)) (omega (arith, now)) in
+    elim (bool_cases (given 0 ps)) [
+      | inl had ↦
+          let off : s.drq ≡ false = was ∙ ap not had in
+          inl (subst (λ x. Fine t k x (m + 1) ps)
+          (sym (w_none t k ((m + 1) / 64) (moved_on s k m) (λ e. omega (arith, e, place)) (λ e. off) (before_bytes ((m + 1) / 64) (omega (arith, place))) (λ e. omega (arith, e, place))))
+          (record {
+            command = λ h. is.command (omega (arith, h));
+            angle = next_place k m;
+            kept = is.kept;
+            drq = λ h. off ∙ sym (wants_no_more ((m + 1) / 64) ps (omega (arith, now)) (omega (arith, now)));
+            served = λ i inside over. elim (over_cases i) [
+              | inl first ↦ ap (λ n. given n ps) first.0 ∙ had
+              | inr next ↦ absurd (omega (arith, over, now, next.0, next.1))
+            ];
+            ahead = λ p more. is.ahead p (omega (arith, more));
+            early = λ low. absurd (omega (arith, low, now));
+          }))
+      | inr none ↦
+          let on : s.drq ≡ true = was ∙ ap not none in
+          inr (subst (λ x. Missed x (m + 1) ps) (sym (w_late t k ((m + 1) / 64) (moved_on s k m) place on))
+          (record { lost = refl; byte = 0; inside = omega arith; over = omega (arith, now); missed = none }))
+    ]
+
+-- byte i is written
+byte_goes : (t : Transfer) (k : ℕ) (s : State) (m i : ℕ) (ps : List ℕ) → i < 256 → m + 1 ≡ 64 * (30 + i) → Fine t k s m ps →
+    Either t k (byte_written t.target k i (moved_on s k m)) (m + 1) ps
+unfolding moved_on
+byte_goes t k s m i ps inside now is =
+    let s1 = moved_on s k m in
+    let p = put t.target t.target.drive k i (if s.drq then 0 else s.byte) s1 in
+    let fine : s.drq ≡ false → given i ps ≡ true → Fine t k (byte_written t.target k i s1) (m + 1) ps =
+    λ off had. record {
+      command = λ h. p.command ∙ is.command (omega (arith, h));
+      angle = p.angle ∙ next_place k m;
+      kept = ap (λ b. b || s.drq) is.kept ∙ off;
+      drq = λ h.
+          let set : (i == 255) ≡ false = ne_eqb i 255 (λ e. omega (arith, e, h, now)) in
+          ap (λ b. b || not (i == 255)) off ∙ ap not set
+          ∙ sym (wants_next ((m + 1) / 64) ps (omega (arith, now)) ∙ ap not (is.ahead ((m + 1) / 64) (omega (arith, now))));
+      served = λ j few over. elim (cases_eq j i) [
+        | inl same ↦ ap (λ n. given n ps) same ∙ had
+        | inr other ↦
+            is.served j few (elim (over_cases j) [
+              | inl first ↦ omega (arith, first.1, now)
+              | inr next ↦ omega (arith, next.1, over, now, other)
+            ])
+      ];
+      ahead = λ q more. is.ahead q (omega (arith, more));
+      early = λ low. absurd (omega (arith, low, now));
+    } in
+    elim (cases_eq i 0) [
+      | inl zero ↦
+          let off : s.drq ≡ false = is.drq (omega (arith, now, zero)) ∙ wants_no_more (m / 64) ps (omega (arith, now, zero)) (omega (arith, now, zero)) in
+          inl (fine off (ap (λ n. given n ps) zero ∙ is.served 0 (omega arith) (omega (arith, now))))
+      | inr some ↦
+          let more : 1 ≤ i = omega (arith, some) in
+          let where_it_is : m / 64 ≡ 29 + i = omega (arith, now) in
+          let was : s.drq ≡ not (given i ps) =
+          is.drq (omega (arith, now, inside)) ∙ wants_next (m / 64) ps (omega (arith, now, more)) ∙ ap not (sym (given_in i (m / 64) ps more where_it_is)) in
+          elim (bool_cases (given i ps)) [
+            | inl had ↦ inl (fine (was ∙ ap not had) had)
+            | inr none ↦
+                let on : s.drq ≡ true = was ∙ ap not none in
+                inr (record {
+                  lost = ap (λ b. s.lost_data || b) on ∙ or_true s.lost_data;
+                  byte = i;
+                  inside = inside;
+                  over = omega (arith, over_next i more, now);
+                  missed = none;
+                })
+          ]
+    ]
+
+ends_so : (b : Bool) (t : Transfer) (k : ℕ) (s : State) (m : ℕ) (ps : List ℕ) → m + 1 ≡ 18432 → Fine t k s m ps →
+    Fine t k (if b then record (moved_on s k m) { sector = ((moved_on s k m).sector + 1) % 256; command = search_of t } else finish_leaves (moved_on s k m)) (m + 1) ps
+unfolding moved_on
+ends_so true t k s m ps now is =
+    plain t k s (record (moved_on s k m) { sector = ((moved_on s k m).sector + 1) % 256; command = search_of t }) m ps
+    (none_over m (λ e. omega (arith, e, now)) (λ i some inside e. omega (arith, e, now, inside))) (λ h. absurd (omega (arith, h, now))) refl refl (λ h. absurd (omega (arith, h, now))) is
+ends_so false t k s m ps now is =
+    plain t k s (finish_leaves (moved_on s k m)) m ps
+    (none_over m (λ e. omega (arith, e, now)) (λ i some inside e. omega (arith, e, now, inside))) (λ h. absurd (omega (arith, h, now))) refl refl (λ h. absurd (omega (arith, h, now))) is
+
+at_place : (t : Transfer) (k : ℕ) (s : State) (m : ℕ) (ps : List ℕ) → m < 18432 → (m + 1) % 64 ≡ 0 → Fine t k s m ps →
+    Either t k (writing_at t k (Some ((m + 1) / 64)) (moved_on s k m)) (m + 1) ps
+unfolding moved_on
+at_place t k s m ps inside is_place is =
+    let place = (m + 1) / 64 in
+    let s1 = moved_on s k m in
+    let To : State → Type 0 = λ x. Either t k x (m + 1) ps in
+    elim (cases_eq place 12) [
+      | inl first ↦ subst To (sym (w_first t k place s1 first)) (inl (asks_first t k s m ps (omega (arith, first, is_place)) is))
+      | inr not_first ↦
+          elim (cases_eq place 22) [
+            | inl look ↦ looks t k s m ps (omega (arith, look, is_place)) is
+            | inr no_look ↦
+                elim (cases_lt place 30) [
+                  | inl early ↦
+                      subst To (sym (w_none t k place s1 not_first (λ e. absurd (no_look e)) (before_bytes place early) (λ e. omega (arith, e, early))))
+                      (inl (plain t k s s1 m ps (none_over m (λ e. no_look (omega (arith, e))) (λ i some few e. omega (arith, e, early))) (λ h. is.command inside) refl refl
+                      (λ h. is.drq (omega (arith, h)) ∙ sym (same_wants m ps (λ e. not_first (omega (arith, e))) (λ e. no_look (omega (arith, e))) (omega (arith, early, is_place)))) is))
+                  | inr late ↦
+                      elim (cases_lt place 286) [
+                        | inl low ↦
+                            subst To (sym (w_byte t k place s1 late low)) (byte_goes t k s m (place - 30) ps (omega (arith, low)) (omega (arith, late, is_place)) is)
+                        | inr high ↦
+                            elim (cases_eq place 288) [
+                              | inl end ↦ subst To (sym (w_end t k place s1 end)) (inl (ends_so t.multiple t k s m ps (omega (arith, end, is_place)) is))
+                              | inr other ↦
+                                  subst To (sym (w_none t k place s1 not_first (λ e. absurd (no_look e)) (behind_bytes place high) other))
+                                  (inl (plain t k s s1 m ps (none_over m (λ e. no_look (omega (arith, e))) (λ i some few e. omega (arith, e, high, few))) (λ h. is.command inside) refl refl
+                                  (λ h. absurd (omega (arith, h, high))) is))
+                            ]
+                      ]
+                ]
+          ]
+    ]
+
+-- a step at no place
+at_none : (t : Transfer) (k : ℕ) (s : State) (m : ℕ) (ps : List ℕ) → m < 18432 → ((m + 1) % 64 ≡ 0 → ⊥) → Fine t k s m ps → Fine t k (moved_on s k m) (m + 1) ps
+unfolding moved_on
+at_none t k s m ps inside none is =
+    let same : m / 64 ≡ (m + 1) / 64 = omega (arith, none) in
+    plain t k s (moved_on s k m) m ps (none_over m (λ e. none (omega (arith, e))) (λ i some few e. none (omega (arith, e)))) (λ h. is.command inside) refl refl
+    (λ h. is.drq (omega (arith, h)) ∙ ap (λ n. wants n ps) same) is
+
+stepped : (t : Transfer) (k : ℕ) → k < 10 → t.writes ≡ true → (s : State) (m : ℕ) (ps : List ℕ) → m < 18432 → Either t k s m ps → Either t k (step s) (m + 1) ps
+unfolding moved_on
+stepped t k few writes s m ps inside (inl is) =
+    let s1 = moved_on s k m in
+    let by_place = worked_is s t k m few inside (is.command inside) is.angle ∙ writes_is t k (64 * (312 * k) + m + 1) s1 writes in
+    counted t k (is_asking s) (work_leaves s) (m + 1) ps
+    (elim (cases_eq ((m + 1) % 64) 0) [
+      | inl passes_by ↦
+          subst (λ x. Either t k x (m + 1) ps) (sym (by_place ∙ ap (λ p. writing_at t k p s1) (a_place k m passes_by))) (at_place t k s m ps inside passes_by is)
+      | inr none ↦
+          subst (λ x. Either t k x (m + 1) ps) (sym (by_place ∙ ap (λ p. writing_at t k p s1) (no_place k m none))) (inl (at_none t k s m ps inside none is))
+    ])
+stepped t k few writes s m ps inside (inr is) =
+    inr (record { lost = stays_lost s is.lost; byte = is.byte; inside = is.inside; over = omega (arith, is.over); missed = is.missed })
+
+in_place_now : (m : ℕ) → 12 ≤ m / 64 → m / 64 < 22 → is_in_time true 0 (m / 64) ≡ true
+in_place_now m low high = ap (λ b. b && nat_lt (m / 64) 22) (le-leb 12 (m / 64) low) ∙ lt-ltb (m / 64) 22 high
+
+-- DRQ is off after an access
+wants_after : (m : ℕ) (ps : List ℕ) → wants (m / 64) (ps ++ m / 64 ∷ []) ≡ false
+unfolding given has_place
+wants_after m ps = elim (cases_lt (m / 64) 12) [
+  | inl low ↦ wants_none (m / 64) (ps ++ m / 64 ∷ []) low
+  | inr more ↦
+      elim (cases_lt (m / 64) 22) [
+        | inl first ↦
+            wants_first (m / 64) (ps ++ m / 64 ∷ []) more first ∙ ap not (any_now (is_in_time true 0) ps (m / 64) (in_place_now m more first))
+        | inr late ↦
+            elim (cases_lt (m / 64) 30) [
+              | inl none ↦ wants_no_more (m / 64) (ps ++ m / 64 ∷ []) late none
+              | inr next ↦
+                  wants_next (m / 64) (ps ++ m / 64 ∷ []) next ∙ ap not (any_now (λ p. p == m / 64) ps (m / 64) (eq-eqb (m / 64) (m / 64) refl))
+            ]
+      ]
+]
+
+accessed : (t : Transfer) (k : ℕ) (b : Bool) (s x : State) (m : ℕ) (ps : List ℕ) → Accessed b s x → Either t k s m ps → Either t k x m (ps ++ place_if b m)
+unfolding given has_place
+accessed t k true s x m ps acc (inl is) = inl (record {
+  command = λ h. acc.command ∙ is.command h;
+  angle = acc.angle ∙ is.angle;
+  kept = acc.lost ∙ is.kept;
+  drq = λ h. acc.drq ∙ sym (wants_after m ps);
+  served = λ i inside over. any_stays (is_in_time true i) ps (m / 64) (is.served i inside over);
+  ahead = λ p more. any_other (λ q. q == p) ps (m / 64) (is.ahead p more) (ne_eqb (m / 64) p (λ e. omega (arith, e, more)));
+  early = λ low. any_other (is_in_time true 0) ps (m / 64) (is.early low) (ap (λ b. b && nat_lt (m / 64) 22) (lt-leb 12 (m / 64) low));
+})
+accessed t k false s x m ps acc (inl is) =
+    subst (λ qs. Either t k x m qs) (sym (append-nil ps)) (inl (record {
+      command = λ h. acc.command ∙ is.command h;
+      angle = acc.angle ∙ is.angle;
+      kept = acc.lost ∙ is.kept;
+      drq = λ h. acc.drq ∙ is.drq h;
+      served = is.served;
+      ahead = is.ahead;
+      early = is.early;
+    }))
+accessed t k true s x m ps acc (inr is) = inr (record {
+  lost = acc.lost ∙ is.lost;
+  byte = is.byte;
+  inside = is.inside;
+  over = is.over;
+  missed = any_other (is_in_time true is.byte) ps (m / 64) is.missed (not_in_time is.byte (m / 64) (omega (arith, is.over)));
+})
+accessed t k false s x m ps acc (inr is) =
+    subst (λ qs. Either t k x m qs) (sym (append-nil ps))
+    (inr (record { lost = acc.lost ∙ is.lost; byte = is.byte; inside = is.inside; over = is.over; missed = is.missed }))
+
+begins : (s : State) (t : Transfer) (k : ℕ) → IsAtSector s t k → s.lost_data ≡ false → Fine t k s 0 []
+unfolding given has_place
+begins s t k at kept = record {
+  command = λ h. at.command;
+  angle = at.angle ∙ ap (λ (n : ℕ). Some n) (let e : 64 * (312 * k) ≡ 64 * (312 * k) + 0 = omega arith in e);
+  kept = kept;
+  drq = λ h. at.drq ∙ sym (wants_none 0 [] (omega arith));
+  served = λ i inside over. elim (over_cases i) [
+    | inl first ↦ absurd (omega (arith, over, first.1))
+    | inr next ↦ absurd (omega (arith, over, next.1))
+  ];
+  ahead = λ p more. refl;
+  early = λ low. refl;
+}
+
+after_writes : (s : State) (t : Transfer) (k : ℕ) (events : List Event) → IsAtSector s t k → k < 10 → s.lost_data ≡ false → t.writes ≡ true →
+    AllLetGo events → count_steps events ≤ sector_steps → Either t k (history events s) (count_steps events) (accesses 0 events)
+after_writes s t k events at few kept writes all most =
+    let same : 0 + count_steps events ≡ count_steps events = omega arith in
+    subst (λ n. Either t k (history events s) n (accesses 0 events)) same
+    (runs (λ s m ps. Either t k s m ps) 18432 (λ s m ps inside is. stepped t k few writes s m ps inside is) (λ b s x m ps acc is. accessed t k b s x m ps acc is)
+    events s 0 [] all (omega (arith, most)) (inl (begins s t k at kept)))
+
+pub writes_kept : (s : State) (t : Transfer) (k : ℕ) (events : List Event) → IsAtSector s t k → k < 10 → s.lost_data ≡ false → t.writes ≡ true →
+    AllLetGo events → count_steps events ≤ sector_steps → ((i : ℕ) → IsOver true i (count_steps events) → is_served true i events ≡ true) →
+    (history events s).lost_data ≡ false
+unfolding given
+writes_kept s t k events at few kept writes all most served = elim (after_writes s t k events at few kept writes all most) [
+  | inl fine ↦ fine.kept
+  | inr missed ↦
+      absurd (true≢false (sym (served missed.byte (record { byte = missed.inside; over = missed.over })) ∙ missed.missed))
+]
+
+pub writes_told : (s : State) (t : Transfer) (k : ℕ) (events : List Event) → IsAtSector s t k → k < 10 → s.lost_data ≡ false → t.writes ≡ true →
+    AllLetGo events → count_steps events ≤ sector_steps → (i : ℕ) → IsOver true i (count_steps events) → is_served true i events ≡ false →
+    (history events s).lost_data ≡ true
+unfolding given
+writes_told s t k events at few kept writes all most i over missed = elim (after_writes s t k events at few kept writes all most) [
+  | inl fine ↦ absurd (true≢false (sym (fine.served i over.byte over.over) ∙ missed))
+  | inr lost ↦ lost.lost
+]

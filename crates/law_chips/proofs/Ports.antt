@@ -1,0 +1,96 @@
+-- The ports of the 6522, bit by bit.
+use Rattle.std.proofs.Common.{◌≡◌, ◌∙◌, sym, ap, refl, ℕ, zero, suc, ◌-◌, ◌/◌, ◌%◌, ◌<◌, ◌==◌, ◌&&◌, ◌||◌, min, max, not, Bool, true, false, arith, inl, inr}
+use Rattle.std.specs.Prelude.{bit_and, bit_or, if◌then◌else◌}
+use Rattle.std.specs.Int.{bit_at}
+use Rattle.std.proofs.lemmas.Bool.{cases_eq, ne_eqb, true≢false}
+use Rattle.std.proofs.lemmas.Nat.Bits.{bit_at_and, bit_at_or, bit_at-lt}
+use Rattle.beeb_bits.specs.Bits.{bit}
+use Rattle.via6522.specs.declared.Pins.{Pins}
+use Rattle.via6522.specs.State.{State}
+use Rattle.via6522.specs.Registers.{port, answer_of}
+use Rattle.law_chips.specs.ViaPorts.{PortsShowTheirBits}
+
+by_digits : (f : ℕ → ℕ → ℕ) (g : Bool → Bool → Bool) → (f 0 0 == 1) ≡ g false false → (f 0 1 == 1) ≡ g false true → (f 1 0 == 1) ≡ g true false → (f 1 1 == 1) ≡ g true true →
+    (p q : ℕ) → p < 2 → q < 2 → (f p q == 1) ≡ g (p == 1) (q == 1)
+by_digits f g a b c d zero zero lp lq = a
+by_digits f g a b c d zero (suc zero) lp lq = b
+by_digits f g a b c d (suc zero) zero lp lq = c
+by_digits f g a b c d (suc zero) (suc zero) lp lq = d
+by_digits f g a b c d zero (suc (suc q)) lp lq = absurd (omega arith)
+by_digits f g a b c d (suc zero) (suc (suc q)) lp lq = absurd (omega arith)
+by_digits f g a b c d (suc (suc p)) q lp lq = absurd (omega arith)
+
+and_bit : (a b n : ℕ) → bit (bit_and a b) n ≡ (bit a n && bit b n)
+and_bit a b n = ap (λ d. d == 1) (bit_at_and a b n) ∙ by_digits min ◌&&◌ refl refl refl refl (bit_at a n) (bit_at b n) (bit_at-lt a n) (bit_at-lt b n)
+
+or_bit : (a b n : ℕ) → bit (bit_or a b) n ≡ (bit a n || bit b n)
+or_bit a b n = ap (λ d. d == 1) (bit_at_or a b n) ∙ by_digits max ◌||◌ refl refl refl refl (bit_at a n) (bit_at b n) (bit_at-lt a n) (bit_at-lt b n)
+
+-- a law of bits 0 to 7
+by_bit : (P : ℕ → Type 0) → P 0 → P 1 → P 2 → P 3 → P 4 → P 5 → P 6 → P 7 → (n : ℕ) → n < 8 → P n
+by_bit P p0 p1 p2 p3 p4 p5 p6 p7 zero h = p0
+by_bit P p0 p1 p2 p3 p4 p5 p6 p7 (suc zero) h = p1
+by_bit P p0 p1 p2 p3 p4 p5 p6 p7 (suc (suc zero)) h = p2
+by_bit P p0 p1 p2 p3 p4 p5 p6 p7 (suc (suc (suc zero))) h = p3
+by_bit P p0 p1 p2 p3 p4 p5 p6 p7 (suc (suc (suc (suc zero)))) h = p4
+by_bit P p0 p1 p2 p3 p4 p5 p6 p7 (suc (suc (suc (suc (suc zero))))) h = p5
+by_bit P p0 p1 p2 p3 p4 p5 p6 p7 (suc (suc (suc (suc (suc (suc zero)))))) h = p6
+by_bit P p0 p1 p2 p3 p4 p5 p6 p7 (suc (suc (suc (suc (suc (suc (suc zero))))))) h = p7
+by_bit P p0 p1 p2 p3 p4 p5 p6 p7 (suc (suc (suc (suc (suc (suc (suc (suc n)))))))) h = absurd (omega arith)
+
+flipped : (p q : ℕ) → p < 2 → q ≡ 1 - p → (q == 1) ≡ not (p == 1)
+flipped zero q small is = ap (λ n. n == 1) is
+flipped (suc zero) q small is = ap (λ n. n == 1) is
+flipped (suc (suc p)) q small is = absurd (omega arith)
+
+-- each bit of 255 - d is the other one
+not_bit : (d n : ℕ) → d < 256 → n < 8 → bit (255 - d) n ≡ not (bit d n)
+not_bit d n byte inside =
+    by_bit (λ n. bit (255 - d) n ≡ not (bit d n))
+    (flipped (d / 1 % 2) ((255 - d) / 1 % 2) (omega arith) (omega (arith, byte)))
+    (flipped (d / 2 % 2) ((255 - d) / 2 % 2) (omega arith) (omega (arith, byte)))
+    (flipped (d / 4 % 2) ((255 - d) / 4 % 2) (omega arith) (omega (arith, byte)))
+    (flipped (d / 8 % 2) ((255 - d) / 8 % 2) (omega arith) (omega (arith, byte)))
+    (flipped (d / 16 % 2) ((255 - d) / 16 % 2) (omega arith) (omega (arith, byte)))
+    (flipped (d / 32 % 2) ((255 - d) / 32 % 2) (omega arith) (omega (arith, byte)))
+    (flipped (d / 64 % 2) ((255 - d) / 64 % 2) (omega arith) (omega (arith, byte)))
+    (flipped (d / 128 % 2) ((255 - d) / 128 % 2) (omega arith) (omega (arith, byte)))
+    n inside
+
+chosen : (d o p : Bool) → ((o && d) || (p && not d)) ≡ (if d then o else p)
+chosen true true true = refl
+chosen true true false = refl
+chosen true false true = refl
+chosen true false false = refl
+chosen false true true = refl
+chosen false true false = refl
+chosen false false true = refl
+chosen false false false = refl
+
+port_bit : (d o p n : ℕ) → n < 8 → d < 256 → bit (port d o p) n ≡ (if bit d n then bit o n else bit p n)
+port_bit d o p n inside byte =
+    or_bit (bit_and o d) (bit_and p (255 - d)) n ∙ ap (λ b. b || bit (bit_and p (255 - d)) n) (and_bit o d n)
+    ∙ ap (λ b. (bit o n && bit d n) || b) (and_bit p (255 - d) n ∙ ap (λ b. bit p n && b) (not_bit d n byte inside)) ∙ chosen (bit d n) (bit o n) (bit p n)
+
+-- all bits of FF are 1
+all_ones : (n : ℕ) → n < 8 → bit 255 n ≡ true
+all_ones n inside = by_bit (λ n. bit 255 n ≡ true) refl refl refl refl refl refl refl refl n inside
+
+a_register : (reg : ℕ) (pins : Pins) (c : State) → ((reg == 1) || (reg == 15)) ≡ true → answer_of reg pins c ≡ port c.ddra c.ora pins.a
+a_register reg pins c is = elim (cases_eq reg 1) [
+  | inl one ↦ ap (λ r. answer_of r pins c) one
+  | inr other ↦
+      elim (cases_eq reg 15) [
+        | inl last ↦ ap (λ r. answer_of r pins c) last
+        | inr none ↦
+            absurd (true≢false (sym is ∙ ap (λ b. b || (reg == 15)) (ne_eqb reg 1 other) ∙ ne_eqb reg 15 none))
+      ]
+]
+
+pub ports_show_their_bits : PortsShowTheirBits
+ports_show_their_bits = record {
+  port_b = λ n pins c inside byte. port_bit c.ddrb c.orb pins.b n inside byte;
+  port_a = λ n reg pins c inside byte is. ap (λ v. bit v n) (a_register reg pins c is) ∙ port_bit c.ddra c.ora pins.a n inside byte;
+  out_of_b = λ n c inside byte. port_bit c.ddrb c.orb 255 n inside byte ∙ ap (λ b. if bit c.ddrb n then bit c.orb n else b) (all_ones n inside);
+  out_of_a = λ n c inside byte. port_bit c.ddra c.ora 255 n inside byte ∙ ap (λ b. if bit c.ddra n then bit c.ora n else b) (all_ones n inside);
+}

@@ -1,0 +1,552 @@
+-- Which rows of a teletext page are the lower ones of double height, clock by clock.
+use Rattle.std.proofs.Common.{◌≡◌, ◌∙◌, sym, ap, subst, refl, ℕ, zero, suc, ◌+◌, ◌*◌, ◌/◌, ◌%◌, ◌<◌, ◌≤◌, ◌==◌, ◌&&◌, ◌||◌, ◌⊎◌, not, Bool, true, false, List, add-one, arith}
+use Rattle.std.proofs.Common.{inl, inr, true≢false}
+use Rattle.std.specs.Prelude.{is_none, if◌then◌else◌}
+use Rattle.std.proofs.lemmas.Bool.{cases_lt, cases_eq, eqb-true, eq-eqb}
+use Rattle.std.proofs.lemmas.Nat.{div-add-mod', le-div}
+use Rattle.std.proofs.Math.Nat.{zero-mod, zero-div, div-mul-le_self, mul_comm}
+use Rattle.std.proofs.Math.Arith.{mod-mul}
+use Rattle.beeb_bits.specs.Bits.{bit}
+use Rattle.crtc6845.specs.declared.Beam.{Beam}
+use Rattle.crtc6845.specs.State.{Registers, State as Crtc}
+use Rattle.crtc6845.specs.Clock.{is_interlaced, last_raster, start_leaves, ends_line, is_row_done, is_last_line, ends_row}
+use Rattle.crtc6845.specs.Laws.{clocks, tells, line_characters, row_lines, frame_lines, HaveTheirBits, LinesHaveTheirCharacters, FramesHaveTheirClocks}
+use Rattle.crtc6845.specs.Pictures.{line_at, row_at, ShownAddressesCount}
+use Rattle.saa5050.specs.Shapes.{Font}
+use Rattle.saa5050.specs.Row.{Row, row_start}
+use Rattle.raster.specs.Text.{Text, text_at, codes_after, text_after, next_row, first_row, text_past}
+use Rattle.raster.specs.State.{State}
+use Rattle.law_chips.specs.ShownBytes.{char_clocks, CharactersAreShown, MakesFrames}
+use Rattle.law_chips.specs.TeletextFrames.{frame_index, IsAbove, Doubles, is_lower, LowerRowsFollow}
+use Rattle.law_chips.proofs.BeamPlaces.{next_place, test_true, test_false}
+use Rattle.law_chips.proofs.CrtcRuns.{start_keeps}
+use Rattle.law_chips.proofs.Rasters.{keeps, kept, characters, last_of, HasNext, next_of, InRow, IsAt, walk}
+use Rattle.law_chips.proofs.PageDots.{told_code, told, codes_at, bottom_kept, here}
+
+-- what the laws of the 6845 say
+pub record Facts : Type 0 where
+  pub lines : LinesHaveTheirCharacters
+  pub frames : FramesHaveTheirClocks
+  pub count : ShownAddressesCount
+  pub shown : CharactersAreShown
+
+-- ---- Where the next clock is.
+
+frame_some : (r : Registers) → 0 < frame_lines r
+frame_some r =
+    let whole : (r.vertical_total + 1) * row_lines r ≡ r.vertical_total * row_lines r + row_lines r = grind arith in
+    omega (arith, whole)
+
+-- in the same row, in the next one, behind the rows, or in the next frame
+record Stays (c : Crtc) (n : ℕ) : Type 0 where
+  pub frame : frame_index c.registers (n + 1) ≡ frame_index c.registers n
+  pub row : row_at c.registers (n + 1) ≡ row_at c.registers n
+  pub restart : (tells n c).restart ≡ false
+  pub row_end : (tells n c).row_end ≡ false
+
+record Steps (c : Crtc) (n : ℕ) : Type 0 where
+  pub frame : frame_index c.registers (n + 1) ≡ frame_index c.registers n
+  pub row : row_at c.registers (n + 1) ≡ row_at c.registers n + 1
+  pub restart : (tells n c).restart ≡ false
+  pub row_end : (tells n c).row_end ≡ true
+
+record Begins (c : Crtc) (n : ℕ) : Type 0 where
+  pub frame : frame_index c.registers (n + 1) ≡ frame_index c.registers n + 1
+  pub row : row_at c.registers (n + 1) ≡ 0
+  pub restart : (tells n c).restart ≡ true
+
+-- It is behind the rows.
+Beyond : Crtc → ℕ → Type 0
+Beyond c n = c.registers.vertical_total < row_at c.registers (n + 1)
+
+abbrev Goes : Crtc → ℕ → Type 0
+Goes c n = (Stays c n ⊎ Steps c n) ⊎ (Begins c n ⊎ Beyond c n)
+
+-- whether a row ends, by the parts of its test
+ends_row_by : (e a d l : Bool) (w x y z : Bool) → e ≡ w → a ≡ x → d ≡ y → l ≡ z → (e && a && d && not l) ≡ (w && x && y && not z)
+ends_row_by e a d l w x y z p q s t = rw (p, q, s, t) refl
+
+-- the end of a line among the rows
+row_end_in : (c d : Crtc) (l : ℕ) → d.registers ≡ c.registers → HaveTheirBits c.registers → ends_line d ≡ true → is_last_line d ≡ false →
+    InRow c.registers l d.adjust d.row d.raster →
+    (((l + 1) / row_lines c.registers ≡ l / row_lines c.registers) × (ends_row d ≡ false))
+    ⊎ (((l + 1) / row_lines c.registers ≡ l / row_lines c.registers + 1) × (ends_row d ≡ true))
+row_end_in c d l regs bits end goes at =
+    let r = c.registers in
+    let h = row_lines r in
+    let b = is_interlaced r in
+    let none : is_none d.adjust ≡ true = ap is_none at.none in
+    let last : last_raster d.registers ≡ last_raster r = ap last_raster regs in
+    elim (next_place h l (omega arith)) [
+      | inl o ↦
+          let full : l % h + 1 ≡ h = o.1.1 in
+          let done : is_row_done d ≡ true = test_true d.raster (last_raster d.registers) (at.raster_is ∙ last_of b r.maximum_raster (l % h) full ∙ sym last) in
+          inr (o.1.0, ends_row_by (ends_line d) (is_none d.adjust) (is_row_done d) (is_last_line d) true true true false end none done goes)
+      | inr o ↦
+          let inner : l % h + 1 < h = o.1.1 in
+          let next : HasNext b r.maximum_raster (l % h) = next_of b r.maximum_raster (l % h) bits.maximum_raster inner in
+          let not_done : is_row_done d ≡ false = test_false d.raster (last_raster d.registers) (λ same. next.other (sym at.raster_is ∙ same ∙ last)) in
+          inl (o.1.0, ends_row_by (ends_line d) (is_none d.adjust) (is_row_done d) (is_last_line d) true true false false end none not_done goes)
+    ]
+
+and_true : (a b : Bool) → a ≡ true → (a && b) ≡ b
+and_true true b e = refl
+and_true false b e = absurd (true≢false (sym e))
+
+-- clock by clock
+goes : Facts → (c : Crtc) → MakesFrames c → (n : ℕ) → Goes c n
+unfolding Beyond
+goes facts c makes n =
+    let r = c.registers in
+    let w = line_characters r in
+    let f = frame_lines r in
+    let h = row_lines r in
+    let x = clocks n c in
+    let d = start_leaves x in
+    let k = kept x in
+    let some = frame_some r in
+    let regs : d.registers ≡ r = start_keeps x ∙ keeps n c in
+    let column : d.character ≡ n % w = ap (λ (e : Crtc). e.character) k.1.1 ∙ characters facts.lines c makes.bits makes.begins.character n in
+    let total : d.registers.horizontal_total ≡ r.horizontal_total = ap (λ (q : Registers). q.horizontal_total) regs in
+    let at : IsAt r (line_at r n) d = subst (IsAt r (line_at r n)) (sym k.1.1) (walk facts.lines facts.frames c makes.bits makes.begins n) in
+    let law : (tells n c).restart ≡ ((n + 1) % (w * f) == 0) = facts.frames c n makes.bits makes.begins in
+    let digits : (n + 1) % (w * f) ≡ (n + 1) / w % f * w + (n + 1) % w =
+    ap (λ k. (n + 1) % k) (mul_comm w f) ∙ mod-mul (n + 1) some (omega arith) in
+    elim (next_place w n (omega arith)) [
+      | inr o ↦
+          let inner : n % w + 1 < w = o.1.1 in
+          let line : (n + 1) / w ≡ n / w = o.1.0 in
+          let up : (n + 1) % w ≡ n % w + 1 = o.0 in
+          let test : ends_line d ≡ false = test_false d.character d.registers.horizontal_total (λ same. omega (arith, same, column, total, inner)) in
+          inl (inl (record {
+            frame = ap (λ i. i / f) line;
+            row = ap (λ i. i % f / h) line;
+            restart = law ∙ test_false ((n + 1) % (w * f)) 0 (λ none. omega (arith, none, digits, up));
+            row_end = ends_row_by (ends_line d) (is_none d.adjust) (is_row_done d) (is_last_line d) false (is_none d.adjust) (is_row_done d) (is_last_line d) test refl refl refl;
+          }))
+      | inl o ↦
+          let end : n % w + 1 ≡ w = o.1.1 in
+          let line : (n + 1) / w ≡ n / w + 1 = o.1.0 in
+          let test : ends_line d ≡ true = test_true d.character d.registers.horizontal_total (omega (arith, column, total, end)) in
+          elim (next_place f (n / w) some) [
+            | inl i ↦
+                let none : (n + 1) / w % f ≡ 0 = ap (λ k. k % f) line ∙ i.0 in
+                let zeroed : (n + 1) / w % f * w ≡ 0 = ap (λ k. k * w) none ∙ omega arith in
+                inr (inl (record {
+                  frame = ap (λ i. i / f) line ∙ i.1.0;
+                  row = ap (λ i. i / h) none ∙ zero-div h;
+                  restart = law ∙ test_true ((n + 1) % (w * f)) 0 (digits ∙ omega (arith, zeroed, o.0));
+                }))
+            | inr i ↦
+                let more : (n + 1) / w % f ≡ n / w % f + 1 = ap (λ k. k % f) line ∙ i.0 in
+                let up : (n / w % f + 1) * w ≡ n / w % f * w + w = grind arith in
+                let many : (n + 1) / w % f * w ≡ n / w % f * w + w = ap (λ k. k * w) more ∙ up in
+                let restart : (tells n c).restart ≡ false = law ∙ test_false ((n + 1) % (w * f)) 0 (λ none. omega (arith, none, digits, many)) in
+                let other : is_last_line d ≡ false = sym (and_true (ends_line d) (is_last_line d) test) ∙ restart in
+                let frame : frame_index r (n + 1) ≡ frame_index r n = ap (λ i. i / f) line ∙ i.1.0 in
+                let next : row_at r (n + 1) ≡ (line_at r n + 1) / h = ap (λ i. i / h) more in
+                elim at [
+                  | inl rows ↦
+                      elim (row_end_in c d (line_at r n) regs makes.bits test other rows) [
+                        | inl same ↦ inl (inl (record { frame = frame; row = next ∙ same.0; restart = restart; row_end = same.1 }))
+                        | inr over ↦ inl (inr (record { frame = frame; row = next ∙ over.0; restart = restart; row_end = over.1 }))
+                      ]
+                  | inr adjust ↦
+                      let past = adjust.past in
+                      let large : r.vertical_total + 1 ≤ (line_at r n + 1) / h = le-div (r.vertical_total + 1) (line_at r n + 1) h (omega arith) (omega (arith, past)) in
+                      inr (inr (omega (arith, large, next)))
+                ]
+          ]
+    ]
+
+-- ---- Earlier clocks are in no later row.
+
+div_grows : (m n k : ℕ) → 0 < k → m ≤ n → m / k ≤ n / k
+div_grows m n k some before = let least = div-mul-le_self m k in le-div (m / k) n k some (omega (arith, least, before))
+
+frame_grows : (r : Registers) (m n : ℕ) → m ≤ n → frame_index r m ≤ frame_index r n
+frame_grows r m n before =
+    div_grows (m / line_characters r) (n / line_characters r) (frame_lines r) (frame_some r) (div_grows m n (line_characters r) (omega arith) before)
+
+row_grows : (r : Registers) (m n : ℕ) → m ≤ n → frame_index r m ≡ frame_index r n → row_at r m ≤ row_at r n
+row_grows r m n before same =
+    let w = line_characters r in
+    let f = frame_lines r in
+    let a : m / w / f * f + m / w % f ≡ m / w = div-add-mod' (m / w) f in
+    let b : n / w / f * f + n / w % f ≡ n / w = div-add-mod' (n / w) f in
+    let e : m / w / f * f ≡ n / w / f * f = ap (λ i. i * f) same in
+    let lines : m / w ≤ n / w = div_grows m n w (omega arith) before in
+    div_grows (m / w % f) (n / w % f) (row_lines r) (omega arith) (omega (arith, a, b, e, lines))
+
+-- ---- What a clock makes of the text.
+
+or_left : (a b : Bool) → a ≡ true → (a || b) ≡ true
+or_left a b is = ap (λ x. x || b) is
+
+or_right : (a b : Bool) → b ≡ true → (a || b) ≡ true
+or_right true b is = refl
+or_right false b is = is
+
+-- the codes of the line have one for double height only where the row has
+Covers : Text → Type 0
+Covers t = t.codes.had_double ≡ true → t.doubled ≡ true
+
+-- the text behind a character, before the line or the row ends
+shown_text : Bool → ℕ → Text → Text
+shown_text shown code t = if shown then text_after code t else t
+
+covers_on : (shown : Bool) (code : ℕ) (t : Text) → Covers t → Covers (shown_text shown code t)
+unfolding Covers shown_text codes_after
+covers_on true code t is = λ had. or_right t.doubled (t.codes.had_double || code == 0x0D) had
+covers_on false code t is = is
+
+-- a row has such a code then if it had before, or the character has it
+doubled_on : (shown : Bool) (code : ℕ) (t : Text) → Covers t → (shown_text shown code t).doubled ≡ true →
+    (t.doubled ≡ true) ⊎ ((shown ≡ true) × (code ≡ 0x0D))
+unfolding Covers shown_text codes_after
+doubled_on false code t is had = inl had
+doubled_on true code t is had = by_cases t.doubled t.codes.had_double (code == 0x0D) refl refl refl had where
+  by_cases : (a b e : Bool) → t.doubled ≡ a → t.codes.had_double ≡ b → (code == 0x0D) ≡ e → (a || (b || e)) ≡ true →
+      (t.doubled ≡ true) ⊎ ((true ≡ true) × (code ≡ 0x0D))
+  by_cases true b e p q i h = inl p
+  by_cases false true e p q i h = inl (is q)
+  by_cases false false true p q i h = inr (refl, eqb-true code 0x0D i)
+  by_cases false false false p q i h = absurd (true≢false (sym h))
+
+doubled_before : (shown : Bool) (code : ℕ) (t : Text) → t.doubled ≡ true → (shown_text shown code t).doubled ≡ true
+unfolding shown_text codes_after
+doubled_before true code t is = or_left t.doubled (t.codes.had_double || code == 0x0D) is
+doubled_before false code t is = is
+
+doubled_here : (shown : Bool) (code : ℕ) (t : Text) → shown ≡ true → code ≡ 0x0D → (shown_text shown code t).doubled ≡ true
+unfolding shown_text codes_after
+doubled_here true code t is double = or_right t.doubled (t.codes.had_double || code == 0x0D) (or_right t.codes.had_double (code == 0x0D) (eq-eqb code 0x0D double))
+doubled_here false code t is double = absurd (true≢false (sym is))
+
+bottom_on : (shown : Bool) (code : ℕ) (t : Text) → (shown_text shown code t).bottom ≡ t.bottom
+unfolding shown_text
+bottom_on true code t = refl
+bottom_on false code t = refl
+
+-- a line that starts has no codes
+covers_at : (b : Beam) (t : Text) (p : Bool) → b.line_start ≡ p → (p ≡ false → Covers t) → Covers (text_at b t)
+unfolding Covers
+covers_at b t true is keeps = λ had. absurd (true≢false (sym had ∙ ap (λ (q : Row). q.had_double) (codes_at b t true is)))
+covers_at b t false is keeps = λ had.
+    ap (λ q. (if q then record t { codes = row_start } else t).doubled) is ∙ keeps refl (sym (ap (λ (q : Row). q.had_double) (codes_at b t false is)) ∙ had)
+
+doubled_kept : (b : Beam) (t : Text) → (text_at b t).doubled ≡ t.doubled
+doubled_kept b t = by_test b.line_start where
+  by_test : (p : Bool) → (if p then record t { codes = row_start } else t).doubled ≡ t.doubled
+  by_test true = refl
+  by_test false = refl
+
+past_plain : (b : Beam) (t : Text) → b.restart ≡ false → b.row_end ≡ false → text_past b t ≡ t
+past_plain b t p q = ap (λ i. if i then first_row t else if b.row_end then next_row t else t) p ∙ ap (λ i. if i then next_row t else t) q
+
+past_row : (b : Beam) (t : Text) → b.restart ≡ false → b.row_end ≡ true → text_past b t ≡ next_row t
+past_row b t p q = ap (λ i. if i then first_row t else if b.row_end then next_row t else t) p ∙ ap (λ i. if i then next_row t else t) q
+
+past_frame : (b : Beam) (t : Text) → b.restart ≡ true → text_past b t ≡ first_row t
+past_frame b t p = ap (λ i. if i then first_row t else if b.row_end then next_row t else t) p
+
+-- ---- What holds at each clock of a row.
+
+-- so far the row has a character with the code
+record Had (ram : ℕ → List ℕ) (size : ℕ → ℕ) (r : Registers) (n : ℕ) : Type 0 where
+  pub clock : ℕ
+  pub earlier : clock < n
+  pub frame : frame_index r clock ≡ frame_index r n
+  pub row : row_at r clock ≡ row_at r n
+  pub doubles : Doubles ram size r clock
+
+record Holds (ram : ℕ → List ℕ) (size : ℕ → ℕ) (font : Font) (s : State) (n : ℕ) : Type 0 where
+  pub found : (char_clocks ram size font n s).text.doubled ≡ true → Had ram size s.crtc.registers n
+  pub finds : Had ram size s.crtc.registers n → (char_clocks ram size font n s).text.doubled ≡ true
+  pub row : (m : ℕ) → m ≤ n → frame_index s.crtc.registers m ≡ frame_index s.crtc.registers n → row_at s.crtc.registers m ≡ row_at s.crtc.registers n →
+      is_lower ram size font s m ≡ is_lower ram size font s n
+  pub first : row_at s.crtc.registers n ≡ 0 → is_lower ram size font s n ≡ false
+  pub below : (m : ℕ) → IsAbove s.crtc.registers m n → Doubles ram size s.crtc.registers m → is_lower ram size font s n ≡ not (is_lower ram size font s m)
+  pub plain : ((m : ℕ) → IsAbove s.crtc.registers m n → Doubles ram size s.crtc.registers m → ⊥) → is_lower ram size font s n ≡ false
+
+-- the text during a clock, and behind its character
+during : (ℕ → List ℕ) → (ℕ → ℕ) → Font → State → ℕ → Text
+during ram size font s n = text_at (tells n s.crtc) (char_clocks ram size font n s).text
+
+behind : (ℕ → List ℕ) → (ℕ → ℕ) → Font → State → ℕ → Text
+behind ram size font s n = shown_text (tells n s.crtc).shown (told_code (ram n) (size n) (tells n s.crtc)) (during ram size font s n)
+
+next_text : (ram : ℕ → List ℕ) (size : ℕ → ℕ) (font : Font) (s : State) → bit s.ula.control 1 ≡ true → (n : ℕ) →
+    (char_clocks ram size font (n + 1) s).text ≡ text_past (tells n s.crtc) (behind ram size font s n)
+unfolding behind during shown_text
+next_text ram size font s on n = ap (λ i. (char_clocks ram size font i s).text) (add-one n) ∙ (told ram size font s on n).text
+
+-- the end of a row, or of a frame, is that of a line
+line_follows : Facts → (c : Crtc) → MakesFrames c → (n : ℕ) → (tells (n + 1) c).line_start ≡ false → ((tells n c).restart ≡ false) × ((tells n c).row_end ≡ false)
+line_follows facts c makes n inner =
+    let r = c.registers in
+    let w = line_characters r in
+    elim (next_place w n (omega arith)) [
+      | inl o ↦
+          absurd (true≢false (sym (facts.lines c (n + 1) makes.bits makes.begins.character ∙ test_true ((n + 1) % w) 0 o.0) ∙ inner))
+      | inr o ↦
+          let f = frame_lines r in
+          let up : (n + 1) % w ≡ n % w + 1 = o.0 in
+          let short : n % w + 1 < w = o.1.1 in
+          let x = clocks n c in
+          let d = start_leaves x in
+          let k = kept x in
+          let regs : d.registers ≡ r = start_keeps x ∙ keeps n c in
+          let column : d.character ≡ n % w = ap (λ (e : Crtc). e.character) k.1.1 ∙ characters facts.lines c makes.bits makes.begins.character n in
+          let total : d.registers.horizontal_total ≡ r.horizontal_total = ap (λ (q : Registers). q.horizontal_total) regs in
+          let digits : (n + 1) % (w * f) ≡ (n + 1) / w % f * w + (n + 1) % w =
+          ap (λ k. (n + 1) % k) (mul_comm w f) ∙ mod-mul (n + 1) (frame_some r) (omega arith) in
+          let test : ends_line d ≡ false = test_false d.character d.registers.horizontal_total (λ same. omega (arith, same, column, total, short)) in (
+            facts.frames c n makes.bits makes.begins ∙ test_false ((n + 1) % (w * f)) 0 (λ none. omega (arith, none, digits, up)),
+            ends_row_by (ends_line d) (is_none d.adjust) (is_row_done d) (is_last_line d) false (is_none d.adjust) (is_row_done d) (is_last_line d) test refl refl refl,
+          )
+    ]
+
+bool_is : (b : Bool) → (b ≡ true) ⊎ (b ≡ false)
+bool_is true = inl refl
+bool_is false = inr refl
+
+-- the codes of a line are covered at each clock
+covered : Facts → (ram : ℕ → List ℕ) (size : ℕ → ℕ) (font : Font) (s : State) → MakesFrames s.crtc → bit s.ula.control 1 ≡ true → (n : ℕ) →
+    Covers (during ram size font s n)
+unfolding during behind
+covered facts ram size font s makes on zero =
+    covers_at (tells 0 s.crtc) s.text true
+    (facts.lines s.crtc 0 makes.bits makes.begins.character ∙ test_true (0 % line_characters s.crtc.registers) 0 (zero-mod (line_characters s.crtc.registers)))
+    (λ h. absurd (true≢false h))
+covered facts ram size font s makes on (suc n) =
+    let e : n + 1 ≡ suc n = add-one n in
+    let b = tells n s.crtc in
+    subst (λ i. Covers (text_at (tells i s.crtc) (char_clocks ram size font i s).text)) e
+    (covers_at (tells (n + 1) s.crtc) (char_clocks ram size font (n + 1) s).text (tells (n + 1) s.crtc).line_start refl
+    (λ inner.
+    let ends = line_follows facts s.crtc makes n inner in
+    subst Covers (sym (next_text ram size font s on n ∙ past_plain b (behind ram size font s n) ends.0 ends.1))
+    (covers_on b.shown (told_code (ram n) (size n) b) (during ram size font s n) (covered facts ram size font s makes on n))))
+
+-- the row has the code behind a character
+had_behind : Facts → (ram : ℕ → List ℕ) (size : ℕ → ℕ) (font : Font) (s : State) → MakesFrames s.crtc → bit s.ula.control 1 ≡ true → (n : ℕ) →
+    Holds ram size font s n → (behind ram size font s n).doubled ≡ true →
+    Had ram size s.crtc.registers n ⊎ Doubles ram size s.crtc.registers n
+unfolding behind during
+had_behind facts ram size font s makes on n holds had =
+    let b = tells n s.crtc in
+    elim (doubled_on b.shown (told_code (ram n) (size n) b) (during ram size font s n) (covered facts ram size font s makes on n) had) [
+      | inl before ↦ inl (holds.found (sym (doubled_kept b (char_clocks ram size font n s).text) ∙ before))
+      | inr now ↦
+          inr (record {
+            shown = sym (facts.shown.which s.crtc n makes.bits makes.begins) ∙ now.0;
+            code = sym (here facts.count facts.shown ram size s n makes now.0).code ∙ now.1;
+          })
+    ]
+
+behind_had : Facts → (ram : ℕ → List ℕ) (size : ℕ → ℕ) (font : Font) (s : State) → MakesFrames s.crtc → bit s.ula.control 1 ≡ true → (n : ℕ) →
+    Holds ram size font s n → Had ram size s.crtc.registers n → (behind ram size font s n).doubled ≡ true
+unfolding behind during
+behind_had facts ram size font s makes on n holds had =
+    let b = tells n s.crtc in
+    doubled_before b.shown (told_code (ram n) (size n) b) (during ram size font s n) (doubled_kept b (char_clocks ram size font n s).text ∙ holds.finds had)
+
+behind_now : Facts → (ram : ℕ → List ℕ) (size : ℕ → ℕ) (font : Font) (s : State) → MakesFrames s.crtc → bit s.ula.control 1 ≡ true → (n : ℕ) →
+    Doubles ram size s.crtc.registers n → (behind ram size font s n).doubled ≡ true
+unfolding behind during
+behind_now facts ram size font s makes on n doubles =
+    let b = tells n s.crtc in
+    let shown : b.shown ≡ true = facts.shown.which s.crtc n makes.bits makes.begins ∙ doubles.shown in
+    doubled_here b.shown (told_code (ram n) (size n) b) (during ram size font s n) shown ((here facts.count facts.shown ram size s n makes shown).code ∙ doubles.code)
+
+behind_bottom : (ram : ℕ → List ℕ) (size : ℕ → ℕ) (font : Font) (s : State) (n : ℕ) → (behind ram size font s n).bottom ≡ is_lower ram size font s n
+unfolding behind during
+behind_bottom ram size font s n =
+    let b = tells n s.crtc in
+    bottom_on b.shown (told_code (ram n) (size n) b) (during ram size font s n) ∙ bottom_kept b (char_clocks ram size font n s).text
+
+and_on : (b : Bool) → (b && true) ≡ b
+and_on true = refl
+and_on false = refl
+
+and_off : (b : Bool) → (b && false) ≡ false
+and_off true = refl
+and_off false = refl
+
+too_far : (c : Crtc) (n : ℕ) → row_at c.registers (n + 1) ≤ c.registers.vertical_total → Beyond c n → ⊥
+unfolding Beyond
+too_far c n inside beyond = omega (arith, inside, beyond)
+
+-- one clock further, in the same row
+in_row : Facts → (ram : ℕ → List ℕ) (size : ℕ → ℕ) (font : Font) (s : State) → MakesFrames s.crtc → bit s.ula.control 1 ≡ true → (n : ℕ) →
+    Stays s.crtc n → Holds ram size font s n → Holds ram size font s (n + 1)
+in_row facts ram size font s makes on n stays holds =
+    let r = s.crtc.registers in
+    let text : (char_clocks ram size font (n + 1) s).text ≡ behind ram size font s n =
+    next_text ram size font s on n ∙ past_plain (tells n s.crtc) (behind ram size font s n) stays.restart stays.row_end in
+    let doubled : (char_clocks ram size font (n + 1) s).text.doubled ≡ (behind ram size font s n).doubled = ap (λ (t : Text). t.doubled) text in
+    let lower : is_lower ram size font s (n + 1) ≡ is_lower ram size font s n = ap (λ (t : Text). t.bottom) text ∙ behind_bottom ram size font s n in
+    let above : (m : ℕ) → IsAbove r m (n + 1) → IsAbove r m n = λ m is. record { frame = is.frame ∙ stays.frame; row = is.row ∙ stays.row } in
+    let above_back : (m : ℕ) → IsAbove r m n → IsAbove r m (n + 1) = λ m is. record { frame = is.frame ∙ sym stays.frame; row = is.row ∙ sym stays.row } in
+    record {
+      found = λ had. elim (had_behind facts ram size font s makes on n holds (sym doubled ∙ had)) [
+        | inl before ↦
+            let earlier = before.earlier in
+            record {
+              clock = before.clock;
+              earlier = omega (arith, earlier);
+              frame = before.frame ∙ sym stays.frame;
+              row = before.row ∙ sym stays.row;
+              doubles = before.doubles;
+            }
+        | inr now ↦ record { clock = n; earlier = omega arith; frame = sym stays.frame; row = sym stays.row; doubles = now }
+      ];
+      finds = λ had. doubled ∙ (elim (cases_eq had.clock n) [
+        | inl now ↦ behind_now facts ram size font s makes on n (subst (Doubles ram size r) now had.doubles)
+        | inr before ↦
+            let earlier = had.earlier in
+            behind_had facts ram size font s makes on n holds (record {
+              clock = had.clock;
+              earlier = omega (arith, earlier, before);
+              frame = had.frame ∙ stays.frame;
+              row = had.row ∙ stays.row;
+              doubles = had.doubles;
+            })
+      ]);
+      row = λ m before frame row. elim (cases_eq m (n + 1)) [
+        | inl same ↦ ap (is_lower ram size font s) same
+        | inr other ↦ holds.row m (omega (arith, before, other)) (frame ∙ stays.frame) (row ∙ stays.row) ∙ sym lower
+      ];
+      first = λ top. lower ∙ holds.first (sym stays.row ∙ top);
+      below = λ m is doubles. lower ∙ holds.below m (above m is) doubles;
+      plain = λ none. lower ∙ holds.plain (λ m is doubles. none m (above_back m is) doubles);
+    }
+
+-- no earlier clock is in the row that begins
+new_row : (r : Registers) (n m : ℕ) → frame_index r (n + 1) ≡ frame_index r n → row_at r (n + 1) ≡ row_at r n + 1 → m ≤ n →
+    frame_index r m ≡ frame_index r (n + 1) → row_at r m ≡ row_at r (n + 1) → ⊥
+new_row r n m frame row before same_frame same_row =
+    let low = row_grows r m n before (same_frame ∙ frame) in omega (arith, low, row, same_row)
+
+-- the next row begins
+to_row : Facts → (ram : ℕ → List ℕ) (size : ℕ → ℕ) (font : Font) (s : State) → MakesFrames s.crtc → bit s.ula.control 1 ≡ true → (n : ℕ) →
+    Steps s.crtc n → Holds ram size font s n → Holds ram size font s (n + 1)
+to_row facts ram size font s makes on n goes holds =
+    let r = s.crtc.registers in
+    let t = behind ram size font s n in
+    let text : (char_clocks ram size font (n + 1) s).text ≡ next_row t =
+    next_text ram size font s on n ∙ past_row (tells n s.crtc) t goes.restart goes.row_end in
+    let none : (char_clocks ram size font (n + 1) s).text.doubled ≡ false = ap (λ (t : Text). t.doubled) text in
+    let lower : is_lower ram size font s (n + 1) ≡ (not (is_lower ram size font s n) && t.doubled) =
+    ap (λ (t : Text). t.bottom) text ∙ ap (λ b. not b && t.doubled) (behind_bottom ram size font s n) in
+    let row = goes.row in
+    let in_it : (m : ℕ) → IsAbove r m (n + 1) → (m ≤ n) × (row_at r m ≡ row_at r n) = λ m is.
+    let up = is.row in
+    let same : row_at r m ≡ row_at r n = omega (arith, up, row) in (
+      elim (cases_lt n m) [
+        | inl later ↦
+            let high = row_grows r (n + 1) m (omega (arith, later)) (sym is.frame) in absurd (omega (arith, high, row, same))
+        | inr before ↦ before
+      ],
+      same,
+    ) in
+    let above_now : IsAbove r n (n + 1) = record { frame = sym goes.frame; row = sym row } in
+    record {
+      found = λ had. absurd (true≢false (sym had ∙ none));
+      finds = λ had.
+          let earlier = had.earlier in absurd (new_row r n had.clock goes.frame row (omega (arith, earlier)) had.frame had.row);
+      row = λ m before frame same. elim (cases_eq m (n + 1)) [
+        | inl is ↦ ap (is_lower ram size font s) is
+        | inr other ↦ absurd (new_row r n m goes.frame row (omega (arith, before, other)) frame same)
+      ];
+      first = λ top. absurd (omega (arith, top, row));
+      below = λ m is doubles.
+          let where_it_is = in_it m is in
+          let had : t.doubled ≡ true = elim (cases_eq m n) [
+            | inl now ↦ behind_now facts ram size font s makes on n (subst (Doubles ram size r) now doubles)
+            | inr other ↦
+                behind_had facts ram size font s makes on n holds (record {
+                  clock = m;
+                  earlier = let low = where_it_is.0 in omega (arith, low, other);
+                  frame = is.frame ∙ goes.frame;
+                  row = where_it_is.1;
+                  doubles = doubles;
+                })
+          ] in
+          lower ∙ ap (λ b. not (is_lower ram size font s n) && b) had ∙ and_on (not (is_lower ram size font s n))
+          ∙ ap not (sym (holds.row m where_it_is.0 (is.frame ∙ goes.frame) where_it_is.1));
+      plain = λ nothing.
+          let off : t.doubled ≡ false = elim (bool_is t.doubled) [
+            | inr off ↦ off
+            | inl had ↦
+                elim (had_behind facts ram size font s makes on n holds had) [
+                  | inl before ↦
+                      absurd (nothing before.clock (record { frame = before.frame ∙ sym goes.frame; row = ap (λ i. i + 1) before.row ∙ sym row }) before.doubles)
+                  | inr now ↦ absurd (nothing n above_now now)
+                ]
+          ] in
+          lower ∙ ap (λ b. not (is_lower ram size font s n) && b) off ∙ and_off (not (is_lower ram size font s n));
+    }
+
+-- the next frame begins
+to_frame : (ram : ℕ → List ℕ) (size : ℕ → ℕ) (font : Font) (s : State) → bit s.ula.control 1 ≡ true → (n : ℕ) → Begins s.crtc n → Holds ram size font s (n + 1)
+to_frame ram size font s on n begins =
+    let r = s.crtc.registers in
+    let text : (char_clocks ram size font (n + 1) s).text ≡ first_row (behind ram size font s n) =
+    next_text ram size font s on n ∙ past_frame (tells n s.crtc) (behind ram size font s n) begins.restart in
+    let none : (char_clocks ram size font (n + 1) s).text.doubled ≡ false = ap (λ (t : Text). t.doubled) text in
+    let lower : is_lower ram size font s (n + 1) ≡ false = ap (λ (t : Text). t.bottom) text in
+    let frame = begins.frame in
+    let row = begins.row in
+    let earlier_none : (m : ℕ) → m ≤ n → frame_index r m ≡ frame_index r (n + 1) → ⊥ = λ m before same.
+    let low = frame_grows r m n before in omega (arith, low, frame, same) in
+    record {
+      found = λ had. absurd (true≢false (sym had ∙ none));
+      finds = λ had. let earlier = had.earlier in absurd (earlier_none had.clock (omega (arith, earlier)) had.frame);
+      row = λ m before same same_row. elim (cases_eq m (n + 1)) [
+        | inl is ↦ ap (is_lower ram size font s) is
+        | inr other ↦ absurd (earlier_none m (omega (arith, before, other)) same)
+      ];
+      first = λ top. lower;
+      below = λ m is doubles. let up = is.row in absurd (omega (arith, up, row));
+      plain = λ nothing. lower;
+    }
+
+at_each : Facts → (ram : ℕ → List ℕ) (size : ℕ → ℕ) (font : Font) (s : State) → MakesFrames s.crtc → bit s.ula.control 1 ≡ true → (n : ℕ) →
+    1 ≤ frame_index s.crtc.registers n → row_at s.crtc.registers n ≤ s.crtc.registers.vertical_total → Holds ram size font s n
+at_each facts ram size font s makes on zero some inside =
+    let r = s.crtc.registers in
+    let none : frame_index r 0 ≡ 0 = ap (λ i. i / frame_lines r) (zero-div (line_characters r)) ∙ zero-div (frame_lines r) in
+    absurd (omega (arith, none, some))
+at_each facts ram size font s makes on (suc n) some inside =
+    let r = s.crtc.registers in
+    let e : suc n ≡ n + 1 = sym (add-one n) in
+    let some_too : 1 ≤ frame_index r (n + 1) = subst (λ i. 1 ≤ frame_index r i) e some in
+    let inside_too : row_at r (n + 1) ≤ r.vertical_total = subst (λ i. row_at r i ≤ r.vertical_total) e inside in
+    subst (Holds ram size font s) (sym e) (elim (goes facts s.crtc makes n) [
+      | inl on_it ↦
+          elim on_it [
+            | inl stays ↦
+                let frame = stays.frame in
+                let row = stays.row in
+                in_row facts ram size font s makes on n stays (at_each facts ram size font s makes on n (omega (arith, frame, some_too)) (omega (arith, row, inside_too)))
+            | inr next ↦
+                let frame = next.frame in
+                let row = next.row in
+                to_row facts ram size font s makes on n next (at_each facts ram size font s makes on n (omega (arith, frame, some_too)) (omega (arith, row, inside_too)))
+          ]
+      | inr far ↦
+          elim far [
+            | inl begins ↦ to_frame ram size font s on n begins
+            | inr beyond ↦ absurd (too_far s.crtc n inside_too beyond)
+          ]
+    ])
+
+pub lower_rows_follow : Facts → LowerRowsFollow
+lower_rows_follow facts = record {
+  first = λ ram size font s n makes on some top.
+      (at_each facts ram size font s makes on n some (omega (arith, top))).first top;
+  below = λ ram size font s n m makes on some inside is doubles. (at_each facts ram size font s makes on n some inside).below m is doubles;
+  plain = λ ram size font s n makes on some inside none. (at_each facts ram size font s makes on n some inside).plain none;
+}

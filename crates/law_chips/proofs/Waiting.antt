@@ -1,0 +1,112 @@
+-- A command that counts down, while a program waits.
+use Rattle.std.proofs.Common.{◌≡◌, sym, subst, refl, ℕ, ◌+◌, ◌%◌, ◌<◌, ◌≤◌, ◌==◌, false, List, [], ◌∷◌, arith}
+use Rattle.std.specs.Prelude.{Some}
+use Rattle.wd1770.specs.declared.command.Command.{Command}
+use Rattle.wd1770.specs.State.{State}
+use Rattle.wd1770.specs.Ends.{is_asking, count_leaves}
+use Rattle.wd1770.specs.Registers.{read_leaves}
+use Rattle.wd1770.specs.Step.{next_angle, work_leaves, step}
+use Rattle.wd1770.specs.History.{Event, microsecond, read, write, latch, history, count_steps}
+use Rattle.law_chips.specs.Searches.{AllWait}
+use Rattle.law_chips.proofs.Search.{read_makes, stays_off, small_angle}
+
+-- what m steps of waiting leave of a state
+pub record Waited (s0 : State) (c : Command) (s : State) (m : ℕ) : Type 0 where
+  pub command : s.command ≡ c
+  pub track : s.track ≡ s0.track
+  pub sector : s.sector ≡ s0.sector
+  pub byte : s.byte ≡ s0.byte
+  pub latch : s.latch ≡ s0.latch
+  pub drive0 : s.drive0 ≡ s0.drive0
+  pub drive1 : s.drive1 ≡ s0.drive1
+  pub last_inward : s.last_inward ≡ s0.last_inward
+  pub type_one : s.type_one ≡ s0.type_one
+  pub not_found : s.record_not_found ≡ s0.record_not_found
+  pub lost : s.lost_data ≡ s0.lost_data
+  pub drq : s0.drq ≡ false → s.drq ≡ false
+  pub angle : next_angle s.angle ≡ (next_angle s0.angle + m) % 200000
+
+-- its command after m steps, of which the first `last` only count
+abbrev pub CountsDown : (ℕ → Command) → ℕ → Type 0
+CountsDown c last = (s : State) (m : ℕ) → m < last → s.command ≡ c m → work_leaves s ≡ record s { angle = Some (next_angle s.angle); command = c (m + 1) }
+
+-- the same where the state before is one after m steps from s0
+abbrev pub CountsFrom : State → (ℕ → Command) → ℕ → Type 0
+CountsFrom s0 c last = (s : State) (m : ℕ) → m < last → Waited s0 (c m) s m → work_leaves s ≡ record s { angle = Some (next_angle s.angle); command = c (m + 1) }
+
+one_step : (c : ℕ → Command) (last : ℕ) (s0 : State) → CountsFrom s0 c last → (s : State) (m : ℕ) → m < last → Waited s0 (c m) s m → Waited s0 (c (m + 1)) (step s) (m + 1)
+one_step c last s0 counts s m inside is =
+    let later : (next_angle s.angle + 1) % 200000 ≡ (next_angle s0.angle + (m + 1)) % 200000 = omega (arith, is.angle) in
+    subst (λ y. Waited s0 (c (m + 1)) (count_leaves (is_asking s) y) (m + 1)) (sym (counts s m inside is)) (record {
+      command = refl;
+      track = is.track;
+      sector = is.sector;
+      byte = is.byte;
+      latch = is.latch;
+      drive0 = is.drive0;
+      drive1 = is.drive1;
+      last_inward = is.last_inward;
+      type_one = is.type_one;
+      not_found = is.not_found;
+      lost = is.lost;
+      drq = is.drq;
+      angle = later;
+    })
+
+pub waited_read : (s0 : State) (c : Command) (reg : ℕ) (s : State) (m : ℕ) → Waited s0 c s m → Waited s0 c (read_leaves reg s) m
+waited_read s0 c reg s m is =
+    subst (λ y. Waited s0 c (count_leaves (is_asking s) y) m) (sym (read_makes (reg == 0) (reg == 3) s)) (record {
+      command = is.command;
+      track = is.track;
+      sector = is.sector;
+      byte = is.byte;
+      latch = is.latch;
+      drive0 = is.drive0;
+      drive1 = is.drive1;
+      last_inward = is.last_inward;
+      type_one = is.type_one;
+      not_found = is.not_found;
+      lost = is.lost;
+      drq = λ off. stays_off (reg == 0) (reg == 3) s.drq (is.drq off);
+      angle = is.angle;
+    })
+
+run : (c : ℕ → Command) (last : ℕ) (s0 : State) → CountsFrom s0 c last → (events : List Event) (s : State) (m : ℕ) → AllWait events → m + count_steps events ≤ last →
+    Waited s0 (c m) s m → Waited s0 (c (m + count_steps events)) (history events s) (m + count_steps events)
+run c last s0 counts [] s m all most is =
+    let same : m ≡ m + 0 = omega arith in subst (λ n. Waited s0 (c n) s n) same is
+run c last s0 counts (microsecond ∷ es) s m all most is =
+    let same : m + 1 + count_steps es ≡ m + (count_steps es + 1) = omega arith in
+    subst (λ n. Waited s0 (c n) (history es (step s)) n) same
+    (run c last s0 counts es (step s) (m + 1) all.1 (omega (arith, most)) (one_step c last s0 counts s m (omega (arith, most)) is))
+run c last s0 counts (read reg ∷ es) s m all most is = run c last s0 counts es (read_leaves reg s) m all.1 most (waited_read s0 (c m) reg s m is)
+run c last s0 counts (write reg v ∷ es) s m all most is = absurd all.0
+run c last s0 counts (latch v ∷ es) s m all most is = absurd all.0
+
+pub waits_from : (c : ℕ → Command) (last : ℕ) (s : State) → CountsFrom s c last → (events : List Event) → AllWait events → count_steps events ≤ last →
+    s.command ≡ c 0 → Waited s (c (count_steps events)) (history events s) (count_steps events)
+waits_from c last s counts events all most is =
+    let none_first : 0 + count_steps events ≡ count_steps events = omega arith in
+    let small = small_angle s.angle in
+    let now : next_angle s.angle ≡ (next_angle s.angle + 0) % 200000 = omega (arith, small) in
+    subst (λ n. Waited s (c n) (history events s) n) none_first
+    (run c last s counts events s 0 all (omega (arith, most)) (record {
+      command = is;
+      track = refl;
+      sector = refl;
+      byte = refl;
+      latch = refl;
+      drive0 = refl;
+      drive1 = refl;
+      last_inward = refl;
+      type_one = refl;
+      not_found = refl;
+      lost = refl;
+      drq = λ off. off;
+      angle = now;
+    }))
+
+pub waits_so : (c : ℕ → Command) (last : ℕ) → CountsDown c last → (events : List Event) (s : State) → AllWait events → count_steps events ≤ last →
+    s.command ≡ c 0 → Waited s (c (count_steps events)) (history events s) (count_steps events)
+waits_so c last counts events s all most is =
+    waits_from c last s (λ x m inside w. counts x m inside w.command) events all most is

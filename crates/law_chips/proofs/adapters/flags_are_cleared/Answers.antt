@@ -1,0 +1,5 @@
+use Rattle.law_chips.proofs.Flags.{flags_are_cleared}
+use Rattle.law_chips.proofs.adapters.flags_are_cleared.Goals as goal
+
+pub returns : goal.returns
+returns c = flags_are_cleared

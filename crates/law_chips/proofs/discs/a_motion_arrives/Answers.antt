@@ -1,0 +1,5 @@
+use Rattle.law_chips.proofs.Moving.{motions_arrive}
+use Rattle.law_chips.proofs.discs.a_motion_arrives.Goals as goal
+
+pub returns : goal.returns
+returns c = motions_arrive

@@ -1,0 +1,78 @@
+-- Type I commands from their writing to their end: where the head and the track register are then, and what verification says. (WD1770 data sheet,
+-- Type I Commands: restore, seek, step, step-in and step-out.)
+use Rattle.std.specs.Prelude.{ℕ, ◌+◌, ◌-◌, ◌*◌, ◌%◌, ◌≡◌, ◌≤◌, ◌<◌, ◌==◌, ◌&&◌, nat_lt, min, max, not, Bool, true, false, List, if◌then◌else◌}
+use Rattle.beeb_bits.specs.Bits.{bit}
+use Rattle.wd1770.specs.declared.command.Command.TheVariants.{Idle}
+use Rattle.wd1770.specs.State.{State}
+use Rattle.wd1770.specs.Select.{is_reset, head_selected}
+use Rattle.wd1770.specs.Ends.{is_busy}
+use Rattle.wd1770.specs.Motion.{step_time}
+use Rattle.wd1770.specs.Registers.{write_leaves}
+use Rattle.wd1770.specs.Step.{step}
+use Rattle.wd1770.specs.History.{Event, history, count_steps}
+use Rattle.law_chips.specs.Searches.{AllWait}
+
+-- Type I commands are 0x to 7x. How many steps the head is to make: restore as many as it is from track 0, seek as many as the data and the track
+-- register differ, and the others one.
+abbrev pub head_steps : ℕ → State → ℕ
+head_steps v s =
+    if nat_lt v 0x10 then head_selected s
+    else if nat_lt v 0x20 then max s.byte s.track - min s.byte s.track
+    else 1
+
+-- their whole time, which is a microsecond at least
+abbrev pub motion_time : ℕ → State → ℕ
+motion_time v s = max 1 (head_steps v s * step_time v)
+
+-- A head n steps further in a direction: from track 0 to 83.
+abbrev pub head_moved : Bool → ℕ → ℕ → ℕ
+head_moved inward n head = if inward then min 83 (head + n) else head - n
+
+-- a track register that counts a step
+abbrev pub track_counted : Bool → ℕ → ℕ
+track_counted inward track = if inward then (track + 1) % 256 else (track + 255) % 256
+
+-- A command is written while none is in progress, and a program waits.
+pub record IsGiven (s : State) (waits : List Event) : Type 0 where
+  pub idle : s.command ≡ Idle
+  pub live : is_reset s.latch ≡ false
+  pub wait : AllWait waits
+
+-- after the waiting and one step more
+abbrev pub ended_after : ℕ → List Event → State → State
+ended_after v waits s = step (history waits (write_leaves 0 v s))
+
+-- The command is over, with INTRQ. The selected head is at this track, the track register has this value, and where bit 2 asked for verification
+-- there is a seek error (record not found) if the two differ.
+pub record Arrives (v there value : ℕ) (s : State) : Type 0 where
+  pub over : s.command ≡ Idle
+  pub asks : s.intrq ≡ true
+  pub head : head_selected s ≡ there
+  pub track : s.track ≡ value
+  pub seek_error : s.record_not_found ≡ (bit v 2 && not (value == there))
+
+pub record MotionsArrive : Type 0 where
+  -- as long as its time lasts the command is busy, and the head and the track register are where they were
+  pub until : (s : State) (v : ℕ) (waits : List Event) → v < 0x80 → IsGiven s waits → count_steps waits < motion_time v s →
+      (is_busy (history waits (write_leaves 0 v s)).command ≡ true)
+      × (head_selected (history waits (write_leaves 0 v s)) ≡ head_selected s)
+      × ((history waits (write_leaves 0 v s)).track ≡ s.track)
+  -- restore: to track 0, with the track register 0
+  pub restore : (s : State) (v : ℕ) (waits : List Event) → v < 0x10 → IsGiven s waits → count_steps waits + 1 ≡ motion_time v s →
+      Arrives v 0 0 (ended_after v waits s)
+  -- seek: the head moves by as much as the track register, which becomes the data register
+  pub seek : (s : State) (v : ℕ) (waits : List Event) → 0x10 ≤ v → v < 0x20 → IsGiven s waits → count_steps waits + 1 ≡ motion_time v s →
+      Arrives v (head_moved (nat_lt s.track s.byte) (head_steps v s) (head_selected s)) s.byte (ended_after v waits s)
+  -- where the track register is the head's track the head is then at that of the data register
+  pub sought : (s : State) (v : ℕ) (waits : List Event) → 0x10 ≤ v → v < 0x20 → IsGiven s waits → count_steps waits + 1 ≡ motion_time v s →
+      s.track ≡ head_selected s → s.byte ≤ 83 → Arrives v s.byte s.byte (ended_after v waits s)
+  -- step: once more in the last direction; step-in and step-out: one step, which sets that direction. The track register counts it where bit 4 is set.
+  pub step_on : (s : State) (v : ℕ) (waits : List Event) → 0x20 ≤ v → v < 0x40 → IsGiven s waits → count_steps waits + 1 ≡ motion_time v s →
+      Arrives v (head_moved s.last_inward 1 (head_selected s)) (if bit v 4 then track_counted s.last_inward s.track else s.track) (ended_after v waits s)
+      × ((ended_after v waits s).last_inward ≡ s.last_inward)
+  pub step_in : (s : State) (v : ℕ) (waits : List Event) → 0x40 ≤ v → v < 0x60 → IsGiven s waits → count_steps waits + 1 ≡ motion_time v s →
+      Arrives v (head_moved true 1 (head_selected s)) (if bit v 4 then track_counted true s.track else s.track) (ended_after v waits s)
+      × ((ended_after v waits s).last_inward ≡ true)
+  pub step_out : (s : State) (v : ℕ) (waits : List Event) → 0x60 ≤ v → v < 0x80 → IsGiven s waits → count_steps waits + 1 ≡ motion_time v s →
+      Arrives v (head_moved false 1 (head_selected s)) (if bit v 4 then track_counted false s.track else s.track) (ended_after v waits s)
+      × ((ended_after v waits s).last_inward ≡ false)

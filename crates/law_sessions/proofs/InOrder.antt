@@ -1,0 +1,539 @@
+-- The status of a command is that of the first of its causes that holds.
+use Rattle.std.proofs.Common.{◌≡◌, ◌∙◌, sym, refl, ap, append-nil, ℕ, ◌+◌, nat_lt, Bool, true, false, List, [], ◌∷◌, ◌++◌, map, length, Option, Some, None, Result, Ok, Err, Contains, arith, inl, inr, ◌⊎◌, if◌then◌else◌}
+use Rattle.std.specs.Prelude.{unwrap_or, IsSomeAnd}
+use Rattle.beeb_bits.specs.declared.clock.Clock.{Clock}
+use Rattle.beeb_bits.specs.declared.Side.{Side}
+use Rattle.beeb_bits.specs.declared.Side.TheVariants.{Host, Para}
+use Rattle.beeb_files.specs.Files.{Files, bytes_of}
+use Rattle.beeb_files.specs.Counts.{Rose, Stayed}
+use Rattle.beeb_files.specs.Crew.{Counts}
+use Rattle.asm65.specs.declared.AsmError.{AsmError}
+use Rattle.asm65.specs.declared.AsmError.TheVariants as asm_errors
+use Rattle.asm65.specs.Source.{Program, source}
+use Rattle.dis65.specs.Listing.{decode}
+use Rattle.bus_plug.specs.Plug.{Plug}
+use Rattle.disc_image.specs.Image.{Image}
+use Rattle.rom_set.specs.Roms.{Roms}
+use Rattle.key_script.specs.declared.Event.{Event}
+use Rattle.key_script.specs.declared.ScriptError.{ScriptError}
+use Rattle.key_script.specs.declared.ScriptError.TheVariants as script_errors
+use Rattle.key_script.specs.Text.{script}
+use Rattle.op_table.specs.declared.names.Part.TheVariants.{Nmos, Cmos}
+use Rattle.tube_trace.specs.declared.Entry.{Entry}
+use Rattle.tube_trace.specs.declared.TraceError.{TraceError}
+use Rattle.tube_trace.specs.declared.TraceError.TheVariants as trace_errors
+use Rattle.tube_trace.specs.Trace.{trace}
+use Rattle.tube_trace.specs.FirstWrong.{wrong}
+use Rattle.tube_party.specs.declared.Doing.{Doing}
+use Rattle.tube_party.specs.Replay.{Ended, replay_of}
+use Rattle.tube_party.specs.Reference.{reference}
+use Rattle.follow.specs.Machines.{host_sight, para_sight}
+use Rattle.follow.specs.Listing.{ListingState, replay_listing}
+use Rattle.host_mach.specs.State as host
+use Rattle.host_mach.specs.Step.{host_moves}
+use Rattle.para_mach.specs.State as para
+use Rattle.para_mach.specs.Step.{para_moves}
+use Rattle.save_state.specs.declared.StateError.{StateError}
+use Rattle.save_state.specs.declared.StateError.TheVariants as state_errors
+use Rattle.save_state.specs.Saved.{Session}
+use Rattle.save_state.specs.File as sessions
+use Rattle.cmd_words.specs.declared.keys.Slot.{Slot}
+use Rattle.cmd_words.specs.Command.{Command, check, asm, dis, replay, solo, run, resume, follow, gen}
+use Rattle.cmd_words.specs.Reads.{reads}
+use Rattle.cmd_stages.specs.declared.stop.Stop.{Stop}
+use Rattle.cmd_stages.specs.declared.stop.Stop.TheVariants as stops
+use Rattle.cmd_stages.specs.declared.stop.Refusal.{Refusal}
+use Rattle.cmd_stages.specs.declared.stop.Refusal.TheVariants as refusals
+use Rattle.cmd_stages.specs.Plan as plans
+use Rattle.cmd_stages.specs.Plan.{Verdict, Want, Plan, read_all, within, verdict, or_stop, or_refusal, ComesTo, ◌>>=◌}
+use Rattle.cmd_stages.specs.Promise.{World, CarriesOut, EndsAs, IsReached, HasNoThread, HasCrewStayed, read_names, names, ending_of}
+use Rattle.cmd_status.specs.declared.status.Status.{Status}
+use Rattle.cmd_status.specs.declared.status.Status.TheVariants.{Done, Usage, ReadFault, TooLong, BadImage, BadScript, BadTrace, BadSource, BadState, WriteFault, NoThread, NoMemory, Wrong, Differs}
+use Rattle.cmd_status.specs.declared.status.Ending.{Ending}
+use Rattle.cmd_status.specs.declared.status.Ending.TheVariants as endings
+use Rattle.cmd_status.specs.declared.status.Cause.{Cause}
+use Rattle.cmd_status.specs.declared.status.Cause.TheVariants as causes_of
+use Rattle.cmd_status.specs.declared.status.Which.TheVariants as places
+use Rattle.cmd_status.specs.Status.{number, end_of}
+use Rattle.cmd_machines.specs.Inputs.{Inputs, inputs_of}
+use Rattle.cmd_machines.specs.Setup.{Setup, setup_of}
+use Rattle.cmd_machines.specs.Machines.{machines_of, rom_of}
+use Rattle.cmd_machines.specs.Roms.{roms_of}
+use Rattle.cmd_machines.specs.Discs.{discs_of}
+use Rattle.cmd_machines.specs.Script.{script_refusal, script_of}
+use Rattle.cmd_machines.specs.Lengths.{Sized, host_images, para_images, both_images, first_misfit, unless_caused, if_fit, disc_in, roms_in, LengthsComeFirst}
+use Rattle.cmd_machines.specs.Sessions.{begun_if, setup_in, inputs_in}
+use Rattle.cmd_outcome.specs.Names.{Names, names_of}
+use Rattle.cmd_outcome.specs.Trace.{refusal_of, trace_of, is_same, if_same, entries_of}
+use Rattle.cmd_outcome.specs.Verdicts.{machine_verdict, file_verdict, host_left, para_left}
+use Rattle.cmd_ended.specs.Kept.{kept_verdict}
+use Rattle.cmd_replayed.specs.Host as replayed
+use Rattle.cmd_replayed.specs.Host.{host_of}
+use Rattle.cmd_replayed.specs.Para.{para_of}
+use Rattle.cmd_replayed.specs.Replay.{verdict_of_place, unless_wrong}
+use Rattle.cmd_replay.specs.Replay.{side_count}
+use Rattle.cmd_replay.specs.Host.{host_ended, host_after}
+use Rattle.cmd_replay.specs.Para.{para_ended, para_after}
+use Rattle.cmd_follow.specs.Follow.{listed_verdict, listed_by, listed_ended, follow_host_after, follow_para_after}
+use Rattle.cmd_pair.specs.Solo.{solo_after}
+use Rattle.cmd_session.specs.Session.{state_of, state_refusal, place_of, session_ended, session_after}
+use Rattle.cmd_tools.specs.Asm as tools
+use Rattle.cmd_tools.specs.Check.{check_after, ok_text}
+use Rattle.cmd_tools.specs.Check as tools_check
+use Rattle.follow.specs.declared.Choice.{Choice}
+use Rattle.cmd_top.specs.Plans.{plan, after, choice_of, replay_after, follow_after}
+use Rattle.cmd_top.specs.Commands.{EndsWith}
+use Rattle.law_sessions.specs.Refusals.{first_of, unread_by, unread, misfit, bad_trace, other_clock, bad_script_by, bad_script, bad_state, bad_source, wrong_by, differs_at, held, entries_in, entries_at, events_by, events_in, host_at, trace_causes, entry_causes, replay_causes, pair_causes, session_causes, read_causes, causes, IsAnswer, NoFault, ComesToWriting, RefusesInOrder, RefusalsInOrder}
+
+-- a command that comes to this tells the first of these causes
+abbrev Tells : Result (Verdict Ending) (Stop Cause) → List (Option Status) → Type 0
+Tells r list = end_of (first_of list) ≡ Some (ending_of r)
+
+-- the same before any reading
+abbrev Says : Result (Verdict Ending) (Refusal Cause) → List (Option Status) → Type 0
+Says r list = Tells (or_stop r) list
+
+-- ---- reading
+
+by_length : (b : Bool) (slot : Slot) (name bytes : List ℕ) (rest : Result (plans.Inputs Slot) (Stop Cause)) (k : plans.Inputs Slot → Result (Verdict Ending) (Stop Cause))
+    (list : List (Option Status)) → Tells (rest >>= λ more. k ((slot, bytes) ∷ more)) list →
+    Tells (((if b then Err (stops.TooLong name) else Ok bytes) >>= λ (x : List ℕ). rest >>= λ more. Ok ((slot, x) ∷ more)) >>= k) ((if b then Some (TooLong name) else None) ∷ list)
+by_length true slot name bytes rest k list tells = refl
+by_length false slot name bytes (Ok more) k list tells = tells
+by_length false slot name bytes (Err stop) k list tells = tells
+
+one_read : (w : Want Slot) (o : Option (List ℕ)) (rest : Result (plans.Inputs Slot) (Stop Cause)) (k : plans.Inputs Slot → Result (Verdict Ending) (Stop Cause))
+    (list : List (Option Status)) → Tells (rest >>= λ more. k ((w.0, unwrap_or o []) ∷ more)) list →
+    Tells ((within w.1 w.2 o >>= λ bytes. rest >>= λ more. Ok ((w.0, bytes) ∷ more)) >>= k) (unread_by w.1 w.2 o ∷ list)
+one_read w None rest k list tells = refl
+one_read w (Some bytes) rest k list tells = by_length (nat_lt w.2 (length bytes)) w.0 w.1 bytes rest k list tells
+
+all_read : (files : Files) (ws : List (Want Slot)) (k : plans.Inputs Slot → Result (Verdict Ending) (Stop Cause)) (list : List (Option Status)) →
+    Tells (k (held files ws)) list → Tells (read_all files ws >>= k) (map (unread files) ws ++ list)
+all_read files [] k list tells = tells
+all_read files (w ∷ ws) k list tells =
+    one_read w (bytes_of files w.1) (read_all files ws) k (map (unread files) ws ++ list)
+    (all_read files ws (λ more. k ((w.0, unwrap_or (bytes_of files w.1) []) ∷ more)) list tells)
+
+-- ---- lengths
+
+module _ (next : Result (Verdict Ending) (Refusal Cause)) (list : List (Option Status)) where
+  by_fit : (b : Bool) (s : Sized) (m : Option Cause) (more : List (Option Status)) → Says (unless_caused m next) more →
+      Says (unless_caused (if b then m else Some (causes_of.BadImage s.place s.len)) next) ((if b then None else Some (BadImage s.place s.len)) ∷ more)
+  by_fit true s m more says = says
+  by_fit false s m more says = refl
+
+  all_fit : (images : List Sized) → Says next list → Says (if_fit images next) (map misfit images ++ list)
+  all_fit [] says = says
+  all_fit (s ∷ images) says = by_fit s.fits s (first_misfit images) (map misfit images ++ list) (all_fit images says)
+
+-- what follows where all fit
+fit_bound : {A B : Type 0} (m : Option Cause) (next : Result A (Refusal Cause)) (g : A → Result B (Refusal Cause)) → (unless_caused m next >>= g) ≡ unless_caused m (next >>= g)
+fit_bound None next g = refl
+fit_bound (Some cause) next g = refl
+
+-- ---- traces and scripts
+
+module _ (clock : Clock) (g : List Entry → Result (Verdict Ending) (Refusal Cause)) (list : List (Option Status)) where
+  by_clock : (b : Bool) (entries : List Entry) → Says (g entries) list →
+      Says ((if b then Ok entries else Err (refusals.Cause (causes_of.BadTrace 1 4))) >>= g) ((if b then None else Some (BadTrace 1 4)) ∷ list)
+  by_clock true entries says = says
+  by_clock false entries says = refl
+
+  traced_by : (t : Result (Clock × List Entry) TraceError) → Says (g (entries_in t)) list →
+      Says ((or_refusal refusal_of t >>= if_same clock) >>= g) (bad_trace t ∷ other_clock clock t ∷ list)
+  traced_by (Ok t) says = by_clock (is_same clock t.0) t.1 says
+  traced_by (Err (trace_errors.BadLine line)) says = refl
+  traced_by (Err (trace_errors.BadOrder line)) says = refl
+  traced_by (Err trace_errors.NoMemory) says = refl
+
+  para_trace : (bytes : List ℕ) → Says (g (entries_at true bytes)) list → Says (entries_of clock bytes >>= g) (trace_causes true clock bytes ++ list)
+  unfolding entries_of trace_of
+  para_trace bytes says = traced_by (trace bytes) says
+
+  host_trace : (tube : Bool) (bytes : List ℕ) → Says (g (entries_at tube bytes)) list → Says (replayed.entries_at tube clock bytes >>= g) (trace_causes tube clock bytes ++ list)
+  unfolding replayed.entries_at
+  host_trace true bytes says = para_trace bytes says
+  host_trace false [] says = says
+  host_trace false (b ∷ bytes) says = refl
+
+module _ {A : Type 0} (f : List Event → Result A (Refusal Cause)) (g : A → Result (Verdict Ending) (Refusal Cause)) (list : List (Option Status)) where
+  scripted_by : (s : Result (List Event) ScriptError) → Says (f (events_by s) >>= g) list → Says ((or_refusal script_refusal s >>= f) >>= g) (bad_script_by s ∷ list)
+  scripted_by (Ok events) says = says
+  scripted_by (Err (script_errors.BadLine line)) says = refl
+  scripted_by (Err (script_errors.BadOrder line)) says = refl
+  scripted_by (Err (script_errors.TooManyShots line)) says = refl
+  scripted_by (Err script_errors.NoMemory) says = refl
+
+  scripted : (keys : Option (List ℕ)) → Says (f (events_in keys) >>= g) list → Says ((script_of keys >>= f) >>= g) (bad_script keys ∷ list)
+  unfolding script_of
+  scripted None says = says
+  scripted (Some text) says = scripted_by (script text) says
+
+-- ---- a wrong answer and a difference
+
+ends_by : {S : Type 0} (w : Option (ℕ × ℕ)) (place : Option (ℕ × Option Doing)) (done : S → Verdict Ending) (s : S) → (done s).ending ≡ endings.Done →
+    Says (Ok (unless_wrong w (verdict_of_place done s place))) (wrong_by w ∷ differs_at place ∷ [])
+ends_by (Some w) place done s is = refl
+ends_by None (Some place) done s is = refl
+ends_by None None done s is = rw is refl
+
+-- ---- a host against a trace
+
+-- what follows two parts, and then one more
+bound_both : {A B C D : Type 0} (a : Result A (Refusal Cause)) (b : Result B (Refusal Cause)) (f : A → B → Result C (Refusal Cause)) (g : C → Result D (Refusal Cause)) →
+    ((a >>= λ x. b >>= f x) >>= g) ≡ (a >>= λ x. b >>= λ y. f x y >>= g)
+bound_both (Err e) b f g = refl
+bound_both (Ok x) (Err e) f g = refl
+bound_both (Ok x) (Ok y) f g = refl
+
+bound : {A B C : Type 0} (r : Result A (Refusal Cause)) (f : A → Result B (Refusal Cause)) (g : B → Result C (Refusal Cause)) →
+    ((r >>= f) >>= g) ≡ (r >>= λ x. f x >>= g)
+bound (Ok x) f g = refl
+bound (Err e) f g = refl
+
+-- what a command says does not depend on how it is put
+put : (r q : Result (Verdict Ending) (Refusal Cause)) (list : List (Option Status)) → r ≡ q → Says q list → Says r list
+put r q list same says = rw same says
+
+module _ (lengths : LengthsComeFirst) where
+  -- the host against its entries, whatever comes of them
+  host_told : (set : Setup) (i : Inputs) (place : Option (ℕ × Option Doing)) (g : List Entry × host.HostState → Result (Verdict Ending) (Refusal Cause)) →
+      Says (g (entries_at set.tube i.trace, host.with_tube set.tube (host_at set i))) (entry_causes (entries_at set.tube i.trace) place) →
+      Says (host_of set i >>= g)
+      (map misfit (host_images set.kinds i) ++ (trace_causes set.tube set.clock i.trace ++ bad_script i.keys ∷ entry_causes (entries_at set.tube i.trace) place))
+  unfolding host_of
+  host_told set i place g says =
+      let made : Roms → Option Image × Option Image → List Event → host.HostState =
+      λ roms discs events. host.with_tube set.tube (host.power_on set.clock roms discs.0 discs.1 events set.plugs) in
+      let from_script : Roms → Option Image × Option Image → List Entry → Result (List Entry × host.HostState) (Refusal Cause) =
+      λ roms discs entries. script_of i.keys >>= λ events. Ok (entries, made roms discs events) in
+      let from_trace : Roms → Option Image × Option Image → Result (List Entry × host.HostState) (Refusal Cause) =
+      λ roms discs. replayed.entries_at set.tube set.clock i.trace >>= from_script roms discs in
+      let roms : Roms = roms_in i in
+      let discs : Option Image × Option Image = (disc_in set.kinds.0 i.disc0, disc_in set.kinds.1 i.disc1) in
+      let entries : List Entry = entries_at set.tube i.trace in
+      let last : List (Option Status) = entry_causes entries place in
+      let script_told : Says (from_script roms discs entries >>= g) (bad_script i.keys ∷ last) =
+      scripted (λ events. Ok (entries, made roms discs events)) g last i.keys says in
+      let trace_told : Says (from_trace roms discs >>= g) (trace_causes set.tube set.clock i.trace ++ bad_script i.keys ∷ last) =
+      put (from_trace roms discs >>= g) (replayed.entries_at set.tube set.clock i.trace >>= λ (es : List Entry). from_script roms discs es >>= g)
+      (trace_causes set.tube set.clock i.trace ++ bad_script i.keys ∷ last)
+      (bound (replayed.entries_at set.tube set.clock i.trace) (from_script roms discs) g)
+      (host_trace set.clock (λ (es : List Entry). from_script roms discs es >>= g) (bad_script i.keys ∷ last) set.tube i.trace script_told) in
+      put (host_of set i >>= g) (if_fit (host_images set.kinds i) (from_trace roms discs >>= g))
+      (map misfit (host_images set.kinds i) ++ (trace_causes set.tube set.clock i.trace ++ bad_script i.keys ∷ last))
+      (bound_both (roms_of roms) (discs_of set.kinds i.disc0 i.disc1) from_trace g ∙ lengths.host set.kinds i (λ r d. from_trace r d >>= g))
+      (all_fit (from_trace roms discs >>= g) (trace_causes set.tube set.clock i.trace ++ bad_script i.keys ∷ last) (host_images set.kinds i) trace_told)
+
+  -- the second processor against its entries
+  para_told : (clock : Clock) (i : Inputs) (place : Option (ℕ × Option Doing)) (g : List Entry × para.ParaState → Result (Verdict Ending) (Refusal Cause)) →
+      Says (g (entries_at true i.trace, para.power_on clock i.tube)) (entry_causes (entries_at true i.trace) place) →
+      Says (para_of clock i >>= g) (map misfit (para_images i) ++ (trace_causes true clock i.trace ++ entry_causes (entries_at true i.trace) place))
+  unfolding para_of
+  para_told clock i place g says =
+      let from_trace : List ℕ → Result (List Entry × para.ParaState) (Refusal Cause) = λ rom. entries_of clock i.trace >>= λ entries. Ok (entries, para.power_on clock rom) in
+      let last : List (Option Status) = entry_causes (entries_at true i.trace) place in
+      let trace_told : Says (from_trace i.tube >>= g) (trace_causes true clock i.trace ++ last) =
+      put (from_trace i.tube >>= g) (entries_of clock i.trace >>= λ (es : List Entry). g (es, para.power_on clock i.tube))
+      (trace_causes true clock i.trace ++ last)
+      (bound (entries_of clock i.trace) (λ (es : List Entry). Ok (es, para.power_on clock i.tube)) g)
+      (para_trace clock (λ (es : List Entry). g (es, para.power_on clock i.tube)) last i.trace says) in
+      put (para_of clock i >>= g) (if_fit (para_images i) (from_trace i.tube >>= g))
+      (map misfit (para_images i) ++ (trace_causes true clock i.trace ++ last))
+      (bound (rom_of i.tube) from_trace g ∙ lengths.para i (λ rom. from_trace rom >>= g))
+      (all_fit (from_trace i.tube >>= g) (trace_causes true clock i.trace ++ last) (para_images i) trace_told)
+
+  -- both machines
+  both_told : (set : Setup) (i : Inputs) (g : host.HostState × para.ParaState → Result (Verdict Ending) (Refusal Cause)) (list : List (Option Status)) →
+      Says (g (host_at set i, para.power_on set.clock i.tube)) list →
+      Says (machines_of set i >>= g) (map misfit (both_images set.kinds i) ++ bad_script i.keys ∷ list)
+  both_told set i g list says =
+      let discs : Option Image × Option Image = (disc_in set.kinds.0 i.disc0, disc_in set.kinds.1 i.disc1) in
+      let made : List Event → Result (host.HostState × para.ParaState) (Refusal Cause) =
+      λ events. Ok (host.power_on set.clock (roms_in i) discs.0 discs.1 events set.plugs, para.power_on set.clock i.tube) in
+      put (machines_of set i >>= g) (if_fit (both_images set.kinds i) ((script_of i.keys >>= made) >>= g))
+      (map misfit (both_images set.kinds i) ++ bad_script i.keys ∷ list)
+      (ap (λ r. r >>= g) (lengths.both set i) ∙ fit_bound (first_misfit (both_images set.kinds i)) (script_of i.keys >>= made) g)
+      (all_fit ((script_of i.keys >>= made) >>= g) (bad_script i.keys ∷ list) (both_images set.kinds i) (scripted made g list i.keys says))
+
+  -- ---- each command, by what it read
+
+  replay_told : (set : Setup) (side : Side) (ticks : ℕ) (names : Names) (i : Inputs) → Says (replay_after set side ticks names i) (replay_causes set side ticks i)
+  unfolding host_after host_ended para_after para_ended machine_verdict
+  replay_told set Host ticks names i =
+      let entries : List Entry = entries_at set.tube i.trace in
+      let end : Ended host.HostState = replay_of host_moves Host entries ticks (host.with_tube set.tube (host_at set i)) in
+      host_told set i end.place (λ (m : List Entry × host.HostState). Ok (unless_wrong (wrong m.0) (host_ended set.clock ticks names m.0 m.1)))
+      (ends_by (wrong entries) end.place (λ e. machine_verdict (host_left set.clock ticks (side_count Host ticks entries) names e)) end.machine refl)
+  replay_told set Para ticks names i =
+      let entries : List Entry = entries_at true i.trace in
+      let end : Ended para.ParaState = replay_of para_moves Para entries ticks (para.power_on set.clock i.tube) in
+      para_told set.clock i end.place (λ (m : List Entry × para.ParaState). Ok (unless_wrong (wrong m.0) (para_ended set.clock ticks names m.0 m.1)))
+      (ends_by (wrong entries) end.place (λ e. machine_verdict (para_left set.clock ticks (side_count Para ticks entries) names e)) end.machine refl)
+
+  follow_told : (set : Setup) (side : Side) (ticks : ℕ) (choice : Choice) (out : List ℕ) (i : Inputs) → Says (follow_after set side ticks choice out i) (replay_causes set side ticks i)
+  unfolding follow_host_after follow_para_after listed_by
+  follow_told set Host ticks choice out i =
+      let entries : List Entry = entries_at set.tube i.trace in
+      let start : host.HostState = host.with_tube set.tube (host_at set i) in
+      host_told set i (replay_of host_moves Host entries ticks start).place
+      (λ (m : List Entry × host.HostState). Ok (unless_wrong (wrong m.0) (listed_ended host_moves host_sight Nmos Host ticks choice out m.0 m.1)))
+      (ends_by (wrong entries) (replay_of host_moves Host entries ticks start).place (λ (l : ListingState). listed_verdict out l)
+      (replay_listing host_moves host_sight Nmos Host entries ticks choice start) refl)
+  follow_told set Para ticks choice out i =
+      let entries : List Entry = entries_at true i.trace in
+      let start : para.ParaState = para.power_on set.clock i.tube in
+      para_told set.clock i (replay_of para_moves Para entries ticks start).place
+      (λ (m : List Entry × para.ParaState). Ok (unless_wrong (wrong m.0) (listed_ended para_moves para_sight Cmos Para ticks choice out m.0 m.1)))
+      (ends_by (wrong entries) (replay_of para_moves Para entries ticks start).place (λ (l : ListingState). listed_verdict out l)
+      (replay_listing para_moves para_sight Cmos Para entries ticks choice start) refl)
+
+  solo_told : (set : Setup) (ticks keep : ℕ) (names : Names) (i : Inputs) → Says (solo_after set ticks keep names i) (pair_causes set i)
+  unfolding solo_after kept_verdict machine_verdict
+  solo_told set ticks keep names i =
+      both_told set i
+      (λ (m : host.HostState × para.ParaState). Ok (kept_verdict set.clock (begun_if names.save set i) ticks keep names (reference host_moves para_moves m.0 m.1 ticks))) [] refl
+
+  session_told_by : (plugs : List Plug) (ticks keep : ℕ) (names : Names) (f : Result Session StateError) →
+      Says (or_refusal state_refusal f >>= λ s. machines_of (setup_in s plugs) (inputs_in s) >>= λ m. Ok (unless_wrong (wrong s.entries) (session_ended plugs ticks keep names s m)))
+      (bad_state f ∷ session_causes plugs ticks f)
+  unfolding session_ended kept_verdict machine_verdict setup_in
+  session_told_by plugs ticks keep names (Err (state_errors.BadField at)) = refl
+  session_told_by plugs ticks keep names (Err state_errors.NoMemory) = refl
+  session_told_by plugs ticks keep names (Ok s) =
+      let m : host.HostState × para.ParaState = (host_at (setup_in s plugs) (inputs_in s), para.power_on s.clock (inputs_in s).tube) in
+      both_told (setup_in s plugs) (inputs_in s)
+      (λ (x : host.HostState × para.ParaState). Ok (unless_wrong (wrong s.entries) (session_ended plugs ticks keep names s x)))
+      (wrong_by (wrong s.entries) ∷ differs_at (place_of s ticks m) ∷ [])
+      (ends_by (wrong s.entries) (place_of s ticks m) (kept_verdict s.clock (begun_if names.save (setup_in s plugs) (inputs_in s)) ticks keep names)
+      (reference host_moves para_moves m.0 m.1 ticks) refl)
+
+  session_told : (plugs : List Plug) (ticks keep : ℕ) (names : Names) (i : Inputs) →
+      Says (session_after plugs ticks keep names i) (bad_state (sessions.file i.state) ∷ session_causes plugs ticks (sessions.file i.state))
+  unfolding session_after state_of
+  session_told plugs ticks keep names i = session_told_by plugs ticks keep names (sessions.file i.state)
+
+checked : (entries : List Entry) (w : Option (ℕ × ℕ)) → Says (Ok (tools_check.check_verdict entries w)) (wrong_by w ∷ [])
+checked entries None = refl
+checked entries (Some w) = refl
+
+check_told_by : (t : Result (Clock × List Entry) TraceError) → Says (or_refusal refusal_of t >>= λ x. Ok (tools_check.check_verdict x.1 (wrong x.1))) (bad_trace t ∷ wrong_by (wrong (entries_in t)) ∷ [])
+check_told_by (Err (trace_errors.BadLine line)) = refl
+check_told_by (Err (trace_errors.BadOrder line)) = refl
+check_told_by (Err trace_errors.NoMemory) = refl
+check_told_by (Ok t) = checked t.1 (wrong t.1)
+
+asm_told_by : (out : List ℕ) (p : Result Program AsmError) → Says (or_refusal tools.refusal_of p >>= λ x. Ok (file_verdict out x.1)) (bad_source p ∷ [])
+asm_told_by out (Ok p) = refl
+asm_told_by out (Err (asm_errors.Syntax line)) = refl
+asm_told_by out (Err (asm_errors.NoSuchForm line)) = refl
+asm_told_by out (Err (asm_errors.UnknownLabel line)) = refl
+asm_told_by out (Err (asm_errors.Repeated line)) = refl
+asm_told_by out (Err (asm_errors.OutOfRange line)) = refl
+asm_told_by out (Err (asm_errors.TooLong line)) = refl
+asm_told_by out (Err asm_errors.NoMemory) = refl
+
+dis_told_by : (b : Bool) (v : Verdict Ending) (n : ℕ) → v.ending ≡ endings.Done →
+    Says (if b then Err (refusals.Cause (causes_of.BadImage places.Image n)) else Ok v) ((if b then Some (BadImage places.Image n) else None) ∷ [])
+dis_told_by true v n done = refl
+dis_told_by false v n done = rw done refl
+
+-- what a command comes to by what it read
+read_told : LengthsComeFirst → (plugs : List Plug) (c : Command) (i : Inputs) → ((seed : ℕ) → Some c ≡ Some (gen seed) → ⊥) → Says (after plugs c i) (read_causes plugs c i)
+unfolding check_after trace_of tools.asm_after tools.dis_after
+read_told lengths plugs (check name) i alone = check_told_by (trace i.trace)
+read_told lengths plugs (asm part text out) i alone = asm_told_by out (source part i.source)
+read_told lengths plugs (dis part image origin out) i alone = dis_told_by (nat_lt 65536 (origin + length i.image)) (file_verdict out (decode part i.image origin)) (length i.image) refl
+read_told lengths plugs (replay side name ticks out given) i alone = replay_told lengths (setup_of given plugs) side ticks (names_of out given) i
+read_told lengths plugs (solo ticks out keep given) i alone = solo_told lengths (setup_of given plugs) ticks keep (names_of out given) i
+read_told lengths plugs (run ticks out keep given) i alone = solo_told lengths (setup_of given plugs) ticks keep (names_of out given) i
+read_told lengths plugs (resume state ticks out keep given) i alone = session_told lengths plugs ticks keep (names_of out given) i
+read_told lengths plugs (follow side name ticks out given) i alone = follow_told lengths (setup_of given plugs) side ticks (choice_of given) out i
+read_told lengths plugs (gen seed) i alone = absurd (alone seed refl)
+
+-- what it comes to on the files that the shelf holds
+verdict_told : LengthsComeFirst → (plugs : List Plug) (c : Command) (files : Files) → ((seed : ℕ) → Some c ≡ Some (gen seed) → ⊥) →
+    Tells (verdict (plan plugs c) files) (causes plugs files (Some c))
+verdict_told lengths plugs c files alone =
+    all_read files (reads c) (λ list. or_stop (after plugs c (inputs_of list))) (read_causes plugs c (inputs_of (held files (reads c))))
+    (read_told lengths plugs c (inputs_of (held files (reads c))) alone)
+
+-- ---- from what a command comes to, to its status
+
+-- the status that ends so
+abbrev status_by : Option (Result Ending (Stop Cause)) → Status
+status_by None = Usage
+status_by (Some (Ok endings.Done)) = Done
+status_by (Some (Ok (endings.Wrong line byte))) = Wrong line byte
+status_by (Some (Ok (endings.Differs line doing))) = Differs line doing
+status_by (Some (Err (stops.Refused (causes_of.BadImage which len)))) = BadImage which len
+status_by (Some (Err (stops.Refused (causes_of.BadScript line kind)))) = BadScript line kind
+status_by (Some (Err (stops.Refused (causes_of.BadTrace line kind)))) = BadTrace line kind
+status_by (Some (Err (stops.Refused (causes_of.BadSource line kind)))) = BadSource line kind
+status_by (Some (Err (stops.Refused (causes_of.BadState at)))) = BadState at
+status_by (Some (Err (stops.ReadFault name))) = ReadFault name
+status_by (Some (Err (stops.TooLong name))) = TooLong name
+status_by (Some (Err (stops.WriteFault name))) = WriteFault name
+status_by (Some (Err stops.NoThread)) = NoThread
+status_by (Some (Err stops.NoMemory)) = NoMemory
+
+back : (s : Status) → s ≡ status_by (end_of s)
+back Done = refl
+back Usage = refl
+back (ReadFault name) = refl
+back (TooLong name) = refl
+back (BadImage which len) = refl
+back (BadScript line kind) = refl
+back (BadTrace line kind) = refl
+back (BadSource line kind) = refl
+back (BadState at) = refl
+back (WriteFault name) = refl
+back NoThread = refl
+back NoMemory = refl
+back (Wrong line byte) = refl
+back (Differs line doing) = refl
+
+same_end : (a b : Status) → end_of a ≡ end_of b → a ≡ b
+same_end a b is = back a ∙ ap status_by is ∙ sym (back b)
+
+-- a status of an ending is of number 0 or 8
+comes_to : (s : Status) (ending : Ending) → end_of s ≡ Some (Ok ending) → (number s ≡ 0) ⊎ (number s ≡ 8)
+comes_to Done ending is = inl refl
+comes_to (Wrong line byte) ending is = inr refl
+comes_to (Differs line doing) ending is = inr refl
+comes_to Usage ending is = cc
+comes_to (ReadFault name) ending is = cc
+comes_to (TooLong name) ending is = cc
+comes_to (BadImage which len) ending is = cc
+comes_to (BadScript line kind) ending is = cc
+comes_to (BadTrace line kind) ending is = cc
+comes_to (BadSource line kind) ending is = cc
+comes_to (BadState at) ending is = cc
+comes_to (WriteFault name) ending is = cc
+comes_to NoThread ending is = cc
+comes_to NoMemory ending is = cc
+
+rose_not_stayed : (before now : ℕ) → Rose before now → Stayed before now → ⊥
+rose_not_stayed before now rose stayed = omega arith
+
+thread_not_stayed : (paired : Bool) (before now : Counts) → HasNoThread paired before now → HasCrewStayed paired before now → ⊥
+thread_not_stayed true before now rose stayed = rose_not_stayed before.faults now.faults rose stayed
+thread_not_stayed false before now none stayed = none
+
+-- both parts of what was read
+parts_read : (slot : Slot) (one : Result (List ℕ) (Stop Cause)) (more : Result (plans.Inputs Slot) (Stop Cause)) (inputs : plans.Inputs Slot) →
+    (one >>= λ bytes. more >>= λ m. Ok ((slot, bytes) ∷ m)) ≡ Ok inputs → (bytes : List ℕ) × (m : plans.Inputs Slot) × (one ≡ Ok bytes) × (more ≡ Ok m)
+parts_read slot (Ok bytes) (Ok m) inputs is = (bytes, m, refl, refl)
+parts_read slot (Ok bytes) (Err stop) inputs is = cc
+parts_read slot (Err stop) more inputs is = cc
+
+-- a file that is not there, behind files that were read
+stops_there : (files : Files) (front : List (Want Slot)) (w : Want Slot) (rest : List (Want Slot)) (inputs : plans.Inputs Slot) →
+    read_all {C = Cause} files front ≡ Ok inputs → bytes_of files w.1 ≡ None → read_all {C = Cause} files (front ++ w ∷ rest) ≡ Err (stops.ReadFault w.1)
+stops_there files [] w rest inputs read gone = rw gone refl
+stops_there files (x ∷ front) w rest inputs read gone =
+    let got = parts_read x.0 (within x.1 x.2 (bytes_of files x.1)) (read_all files front) inputs read in
+    rw (got.2, stops_there files front w rest got.1 got.3 gone) refl
+
+-- no cause holds of files that were read
+none_unread : (files : Files) (front : List (Want Slot)) (inputs : plans.Inputs Slot) → read_all {C = Cause} files front ≡ Ok inputs → first_of (map (unread files) front) ≡ Done
+none_unread files front inputs read =
+    let done : Verdict Ending = record { ending = endings.Done; files = []; said = [] } in
+    let tells : Tells (read_all files front >>= λ _. Ok done) (map (unread files) front ++ []) = all_read files front (λ _. Ok done) [] refl in
+    same_end (first_of (map (unread files) front)) Done
+    (ap (λ xs. end_of (first_of xs)) (sym (append-nil (map (unread files) front))) ∙ tells
+    ∙ ap (λ (r : Result (plans.Inputs Slot) (Stop Cause)). Some (ending_of (r >>= λ _. Ok done))) read)
+
+module _ (lengths : LengthsComeFirst) (plugs : List Plug) (files : Files) (c : Command) (old new : World) (told : old.shelf.files ≡ Some files)
+    (alone : (seed : ℕ) → Some c ≡ Some (gen seed) → ⊥) where
+  abbrev the_plan : Plan Slot Ending Cause
+  the_plan = plan plugs c
+
+  abbrev the_causes : List (Option Status)
+  the_causes = causes plugs files (Some c)
+
+  verdict_is : (r : Result (Verdict Ending) (Stop Cause)) → ComesTo the_plan old.shelf.files r → verdict the_plan files ≡ r
+  verdict_is r comes = rw told at comes
+
+  lands : (status : Status) (r : Result (Verdict Ending) (Stop Cause)) → verdict the_plan files ≡ r → end_of status ≡ Some (ending_of r) → status ≡ first_of the_causes
+  lands status r is end =
+      same_end status (first_of the_causes) (end ∙ sym (verdict_told lengths plugs c files alone ∙ ap (λ (x : Result (Verdict Ending) (Stop Cause)). Some (ending_of x)) is))
+
+  stopped : (r : Result (plans.Inputs Slot) (Stop Cause)) → read_all {C = Cause} files (reads c) ≡ r → verdict the_plan files ≡ (r >>= λ inputs. or_stop (the_plan.after inputs))
+  stopped r is = ap (λ (x : Result (plans.Inputs Slot) (Stop Cause)). x >>= λ inputs. or_stop (the_plan.after inputs)) is
+
+  unread_lands : (status : Status) (name : List ℕ) → end_of status ≡ Some (Err (stops.ReadFault name)) → IsReached Cause (reads c) name files → bytes_of files name ≡ None →
+      status ≡ first_of the_causes
+  unread_lands status name end (front, w, rest, inputs, split, is, read) gone =
+      let stop : read_all {C = Cause} files (reads c) ≡ Err (stops.ReadFault name) =
+      ap (λ ws. read_all {C = Cause} files ws) split ∙ stops_there files front w rest inputs read (ap (λ n. bytes_of files n) is ∙ gone)
+      ∙ ap (λ (n : List ℕ). Err (stops.ReadFault n)) is in
+      lands status (Err (stops.ReadFault name)) (stopped (Err (stops.ReadFault name)) stop) end
+
+  by_bytes : (status : Status) (name : List ℕ) (o : Option (List ℕ)) → bytes_of files name ≡ o → end_of status ≡ Some (Err (stops.ReadFault name)) → IsReached Cause (reads c) name files →
+      Contains (read_names (reads c)) name → Rose (old.shelf.faults name) (new.shelf.faults name) → NoFault plugs files old new c → status ≡ first_of the_causes
+  by_bytes status name None is end reached wanted rose none = unread_lands status name end reached is
+  by_bytes status name (Some bytes) is end reached wanted rose none = absurd (rose_not_stayed _ _ rose (none.read name bytes wanted is))
+
+  first_by : (status : Status) (end : Result Ending (Stop Cause)) → end_of status ≡ Some end → EndsAs the_plan old new end → NoFault plugs files old new c →
+      (status ≡ first_of the_causes) ⊎ (status ≡ NoMemory)
+  first_by status (Ok ending) is e none = inl (lands status (Ok e.0) (verdict_is (Ok e.0) e.1.0) (is ∙ ap (λ (x : Ending). Some (Ok x)) e.2))
+  first_by status (Err (stops.Refused cause)) is e none = inl (lands status (Err (stops.Refused cause)) (verdict_is (Err (stops.Refused cause)) e.0) is)
+  first_by status (Err (stops.ReadFault name)) is e none =
+      inl (by_bytes status name (bytes_of files name) refl is (rw told at e.0.reached) e.0.wanted e.0.rose none)
+  first_by status (Err (stops.TooLong name)) is e none =
+      let stop : Stayed (old.shelf.faults name) (new.shelf.faults name) × (read_all {C = Cause} files (reads c) ≡ Err (stops.TooLong name)) = rw told at e.0.told in
+      inl (lands status (Err (stops.TooLong name)) (stopped (Err (stops.TooLong name)) stop.1) is)
+  first_by status (Err (stops.WriteFault name)) is (v, comes, inl w) none =
+      absurd (rose_not_stayed _ _ w.1 (none.written v (verdict_is (Ok v) comes.0) name w.0))
+  first_by status (Err (stops.WriteFault name)) is (v, comes, inr w) none = absurd (rose_not_stayed _ _ w.2 none.said)
+  first_by status (Err stops.NoThread) is e none = absurd (thread_not_stayed the_plan.paired old.crew new.crew e.2 none.crew)
+  first_by status (Err stops.NoMemory) is e none = inr (same_end status NoMemory is)
+
+  by_end : (status : Status) (o : Option (Result Ending (Stop Cause))) → end_of status ≡ o → IsSomeAnd o (λ end. CarriesOut the_plan old new end) → NoFault plugs files old new c →
+      (status ≡ first_of the_causes) ⊎ (status ≡ NoMemory)
+  by_end status None is e none = absurd e
+  by_end status (Some end) is e none = first_by status end is e.ends none
+
+  -- it came to a verdict
+  written_behind : (v : Verdict Ending) → ComesTo the_plan old.shelf.files (Ok v) → ComesToWriting the_causes
+  written_behind v comes =
+      comes_to (first_of the_causes) v.ending (verdict_told lengths plugs c files alone ∙ ap (λ (x : Result (Verdict Ending) (Stop Cause)). Some (ending_of x)) (verdict_is (Ok v) comes))
+
+  carried_in_order : (status : Status) → EndsWith plugs c old new status → RefusesInOrder plugs files (Some c) old new status
+  unfolding EndsWith
+  carried_in_order status e = record {
+    first = λ none. by_end status (end_of status) refl e none;
+    reading = λ name is.
+        let end : CarriesOut the_plan old new (Err (stops.ReadFault name)) = rw is at e in
+        let reached : IsReached Cause (reads c) name files = rw told at end.ends.0.reached in
+        (c, reached.0, reached.1, reached.2, refl, reached.4, reached.5, none_unread files reached.0 reached.3 reached.6);
+    starting = λ is. let end : CarriesOut the_plan old new (Err stops.NoThread) = rw is at e in written_behind end.ends.0 end.ends.1;
+    writing = λ name is. let end : CarriesOut the_plan old new (Err (stops.WriteFault name)) = rw is at e in written_behind end.ends.0 end.ends.1.0;
+  }
+
+no_words : (plugs : List Plug) (files : Files) (old new : World) (status : Status) → status ≡ Usage → RefusesInOrder plugs files None old new status
+no_words plugs files old new status is = record {
+  first = λ none. inl is;
+  reading = λ name other. absurd (not_read status name is other);
+  starting = λ other. absurd (not_started status is other);
+  writing = λ name other. absurd (not_written status name is other);
+}
+  where
+    not_read : (status : Status) (name : List ℕ) → status ≡ Usage → status ≡ ReadFault name → ⊥
+    not_read status name is other = cc
+
+    not_started : (status : Status) → status ≡ Usage → status ≡ NoThread → ⊥
+    not_started status is other = cc
+
+    not_written : (status : Status) (name : List ℕ) → status ≡ Usage → status ≡ WriteFault name → ⊥
+    not_written status name is other = cc
+
+in_order : LengthsComeFirst → (plugs : List Plug) (files : Files) (spelt : Option Command) (old new : World) (status : Status) → old.shelf.files ≡ Some files →
+    ((seed : ℕ) → spelt ≡ Some (gen seed) → ⊥) → IsAnswer plugs spelt old new status → RefusesInOrder plugs files spelt old new status
+in_order lengths plugs files None old new status told alone answer = no_words plugs files old new status (answer.usage.1 refl)
+in_order lengths plugs files (Some c) old new status told alone answer = carried_in_order lengths plugs files c old new told alone status answer.ran
+
+pub refusals_in_order : LengthsComeFirst → RefusalsInOrder
+refusals_in_order lengths plugs files spelt old new status told alone answer = in_order lengths plugs files spelt old new status told alone answer
