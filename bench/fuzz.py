@@ -43,6 +43,7 @@ PARAS = ("replay para", "follow para") + PAIRS
 MACHINES = ("replay host", "replay para") + LISTS + PAIRS
 RUNS = PAIRS + ("resume",)
 HEARD = ("replay host",) + RUNS
+ALONE = ("replay host", "follow host")
 
 # Each command: its words that stand alone. What they are is told by `Words.word`.
 COMMANDS = {
@@ -56,7 +57,7 @@ COMMANDS = {
     "follow": "side trace ticks out",
     "gen": "seed",
 }
-# Each option: who takes it, and what its value is: a file that is read, an output, an address, a number or one of some words.
+# Each option: who takes it, and what its value is: a file that is read, an output, an address, a number or one of some words; a flag has none.
 OPTIONS = {
     "--os": (HOSTS, "file"),
     "--tube": (PARAS, "file"),
@@ -72,7 +73,10 @@ OPTIONS = {
     "--save": (RUNS, "output"),
     "--at": (LISTS, "address"),
     "--watch": (LISTS, "address"),
+    "--from": (LISTS, (0, MOST_TICKS)),
+    "--no-tube": (ALONE, "flag"),
 }
+CHOICES = ("--at", "--watch", "--from")  # the options of `follow` that `replay` does not take
 CAPS = {"trace": 100663296, "source": 4194304, "state": 33554432}
 CAP = 1048576
 NAMED = ("--wav", "--save")  # the options that name an output, in its order
@@ -120,6 +124,8 @@ class Words:
             while rest:
                 if not rest[0].startswith(b"-"):
                     alone.append(rest.pop(0))
+                elif OPTIONS.get(rest[0].decode(), (None, None))[1] == "flag":
+                    options.append((rest.pop(0).decode(), b""))
                 elif len(rest) > 1:
                     options.append((rest.pop(0).decode(), rest.pop(0)))
                 else:
@@ -142,6 +148,8 @@ class Words:
                     fits = is_name(value)
                 elif form == "address":
                     fits = is_address(value)
+                elif form == "flag":
+                    fits = True
                 elif isinstance(form[0], int):
                     fits = number(value, form[1]) is not None and number(value, form[1]) >= form[0]
                 else:
@@ -168,6 +176,11 @@ class Words:
         """What is read, in its order: what it is, and its name."""
         first = [(kind, self.alone[kind]) for kind in ("trace", "source", "image", "state") if kind in self.alone]
         return first + [(option, self.values[option]) for option in OPTIONS if OPTIONS[option][1] == "file" and option in self.values]
+
+    def options(self, taker=None, without=()):
+        """The options as words, but for these and those that a command does not take."""
+        chosen = [(option, value) for option, value in self.values.items() if option not in without and (taker is None or taker in OPTIONS[option][0])]
+        return [part for option, value in chosen for part in ([option.encode()] if OPTIONS[option][1] == "flag" else [option.encode(), value])]
 
     def number_of(self, option, without):
         return int(self.values.get(option, b"%d" % without))
@@ -303,7 +316,9 @@ def expected(words, laid):
             return Expected((3, b"bad image %s %d" % (what[2:].encode(), len(files[what]))))
     if "trace" in files:
         line, fast = trace_fault(files["trace"])
-        if line is None and words.command != "check" and fast != (words.number_of("--speed", 3) == 4):
+        if "--no-tube" in words.values:
+            line = 1 if files["trace"] else None
+        elif line is None and words.command != "check" and fast != (words.number_of("--speed", 3) == 4):
             line = 1
         if line is not None:
             return Expected((4, b"bad trace %d" % line))
@@ -540,12 +555,12 @@ class Judge:
         if kept == tube:
             for side, taken in ((b"host", b".host"), (b"para", b".para")):
                 taker = "replay " + side.decode()
-                options = [part for option, value in words.values.items() if taker in OPTIONS[option][0] for part in (option.encode(), value)]
+                options = words.options(taker)
                 self.good([b"replay", side, out + b".trace", b"%d" % words.alone["ticks"], b"played"] + options, "replay of the trace")
                 if content(b"played" + taken, CAP) != content(out + taken, CAP):
                     raise Differs("replay: another memory of %s" % taker)
                 if words.alone["ticks"] <= 10000:
-                    options = [part for option, value in words.values.items() if "follow " + side.decode() in OPTIONS[option][0] for part in (option.encode(), value)]
+                    options = words.options("follow " + side.decode())
                     self.look_at_all([b"replay", side, out + b".trace", b"%d" % words.alone["ticks"], b"played"] + options, wanted.session.clock)
 
     def look_at_saved(self, case, words, session, tube):
@@ -634,7 +649,7 @@ class Judge:
         inputs = [name for what, name in words.reads()]
         if any(path_of(name) in [path_of(other) for other in outputs] for name in inputs):
             return
-        options = [part for option, value in words.values.items() if OPTIONS[option][1] != "address" for part in (option.encode(), value)]
+        options = words.options(without=CHOICES)
         played = [b"replay", side, words.alone["trace"], b"%d" % words.alone["ticks"], b"played"] + options
         # What was replayed and listed before, with the same words and files, is not once more: its listing is known.
         key = (*played, *(files.get(name) for name in inputs))
@@ -655,6 +670,8 @@ class Judge:
         if fault:
             raise Differs("listing: %s" % fault)
         choices = {option: int(words.values[option], 16) for option in ("--at", "--watch") if option in words.values}
+        if "--from" in words.values:
+            choices["--from"] = int(words.values["--from"])
         if choices:
             self.look_at_choice(words, found, every, choices, played)
         elif found != every:
@@ -688,19 +705,20 @@ class Judge:
         return int(registers.group(1), 16), registers.group(2), content(b"played." + side, CAP)
 
     def look_at_choice(self, words, found, every, choices, played):
-        """The lines are those of all that are chosen: by their address, and by a byte of memory that changed since the start before."""
-        if "--at" in choices and any(start.pc != choices["--at"] for _, start in found):
-            raise Differs("choice: a line at another address")
+        """The lines are those of all that are chosen: by their tick, by their address, and by a byte of memory that changed since the start before."""
+        early = choices.get("--from", 0)
         if "--watch" not in choices:
-            if choices and found != tuple(line for line in every if line[1].pc == choices["--at"]):
+            if found != tuple(line for line in every if line[0] >= early and choices.get("--at", line[1].pc) == line[1].pc):
                 raise Differs("choice: other lines")
             return
+        if any(tick < early or start.pc != choices.get("--at", start.pc) for tick, start in found):
+            raise Differs("choice: a line at another address or tick")
         if not set(found) <= set(every) or (every and every[0] in found):
             raise Differs("choice: lines that are not of the listing, or the first")
         known = choices["--watch"] < (0x8000 if words.alone["side"] == b"host" else 0xF800)
         places = {every.index(line) for line in found[:1]} | {len(every) // 2, len(every) - 1}
         for place in places if known else []:
-            if place > 0 and ("--at" not in choices or every[place][1].pc == choices["--at"]):
+            if place > 0 and every[place][0] >= early and choices.get("--at", every[place][1].pc) == every[place][1].pc:
                 before, here = (self.at(played, every[n][0])[2][choices["--watch"]] for n in (place - 1, place))
                 if (before != here) != (every[place] in found):
                     raise Differs("choice: at %010X the byte was %02X and is %02X" % (every[place][0], before, here))
@@ -1095,6 +1113,13 @@ def of_replay(r, base, command=b"replay", whole=0.3):
     if side == b"host" and r.random() < 0.2:
         files[b"keys"] = a_script(r, base, ticks)
         options.append((b"--keys", b"keys"))
+    if side == b"host" and r.random() < 0.25 or r.random() < 0.01:
+        # A host by itself, mostly with an empty trace, and with an image that may have anything at FEE0.
+        options.append((b"--no-tube",))
+        if r.random() < 0.9:
+            files[b"trace"] = b""
+        if r.random() < 0.7:
+            files[b"os"] = an_os(r, base)
     return put_options(r, words, options), files
 
 
@@ -1106,6 +1131,9 @@ def of_follow(r, base):
         options.append((b"--at", b"%04X" % r.choice((low, low + r.randrange(0x40), low + r.randrange(0x100), 0xFEF8, 0, r.randrange(65536)))))
     if r.random() < 0.3:
         options.append((b"--watch", b"%04X" % r.choice((0x70, 0x71, 0x80, 0x100 + r.randrange(256), low, 0x7C00 + r.randrange(1000), 0xFC00, 0xFEF8, 0xFF00, 0xFFFF, r.randrange(65536)))))
+    if r.random() < 0.3:
+        ticks = int(words[3]) if words[3].isdigit() else 2000
+        options.append((b"--from", r.choice((0, 21, ticks // 2, r.randrange(ticks + 1), max(0, ticks - r.randrange(100)), ticks, MOST_TICKS, MOST_TICKS + 1))))
     return put_options(r, words, options), files
 
 
@@ -1192,7 +1220,7 @@ def of_session(r, base):
     if r.random() < 0.35:
         options.append((b"--save", r.choice((b"saved", b"saved", b"saved", b"state", b"wave", b"dir/saved", b"out.trace"))))
     if r.random() < 0.03:
-        options.append((r.choice((b"--os", b"--plugs", b"--speed", b"--at")), b"3"))
+        options.append((r.choice((b"--os", b"--plugs", b"--speed", b"--at", b"--from")), b"3"))
     return put_options(r, words, options), {b"state": text}
 
 

@@ -16,13 +16,15 @@ each call is looked at:
 Each tool is compiled once and goes on in a copy of this process for a call; one call in twenty is a process of its own. What differs is printed
 with its number. The exit status is 1 where anything differs."""
 import argparse
+import atexit
+import csv
 import gc
 import importlib
 import os
 import random
 import re
 import resource
-import shlex  # noqa: F401
+import shlex
 import shutil
 import signal
 import subprocess
@@ -35,7 +37,9 @@ sys.dont_write_bytecode = True
 TOP = os.path.dirname(os.path.dirname(os.path.realpath(__file__)))
 sys.path.insert(0, os.path.join(TOP, "tools"))
 from beebtube import program as beebtube_program  # noqa: E402
+from beebtube.capture import csv_of, vcd_of  # noqa: E402
 from beebtube.frame import Frame, lines_in  # noqa: E402
+from beebtube.trace import Trace  # noqa: E402
 from beebtube.words import OPTIONS, Call, WrongWord  # noqa: E402
 
 # What a tool imports is here before a copy of this process loses its rights, and with them perhaps the sight of a module's file.
@@ -43,13 +47,17 @@ for module in sorted(os.listdir(os.path.join(TOP, "tools", "beebtube"))):
     if module.endswith(".py") and module not in ("__init__.py", "__main__.py"):
         importlib.import_module("beebtube." + module[:-3])
 
-TOOLS = ("type", "png", "catalogue", "tube", "manifest", "words", "suite")
+# Each tool, and how often it is called beside the others.
+SHARES = {"type": 10, "png": 5, "catalogue": 13, "tube": 13, "manifest": 13, "words": 11, "suite": 6, "differs": 10, "screen": 8, "trace": 12, "page": 6, "debug": 8,
+          "labels": 12, "play": 8, "execute": 6}
+TOOLS = tuple(name for name in SHARES if os.path.exists(os.path.join(TOP, "tools", name)))
 BIG = 20 * 10**9
 LIMIT = 120
 OTHER = 65534
 EXAMPLES = os.path.join(TOP, "examples")
 # What a tool may end with: `manifest` has the program's statuses too.
-STATUSES = {**{name: (0, 1, 2, 141) for name in TOOLS}, "manifest": (0, 1, 2, 3, 4, 5, 6, 7, 8, 141)}
+# `manifest` has the program's statuses too, and `execute` any, of what it runs.
+STATUSES = {**{name: (0, 1, 2, 141) for name in TOOLS}, "manifest": (0, 1, 2, 3, 4, 5, 6, 7, 8, 141), "execute": range(256)}
 
 
 def text_of(name):
@@ -70,9 +78,17 @@ class Plain:
 
             for name, part, source in (("os", "6502", "letters-os"), ("tube", "65c02", "letters-tube"), ("some.dsd", "6502", "disc"), ("font", "6502", "font")):
                 made("asm", part, os.path.join(EXAMPLES, source + ".asm"), name)
-            made("solo", "2000", "good", "--os", "os", "--tube", "tube", "--save", "session")
-            self.files = {name: text_of(os.path.join(folder, name)) for name in ("os", "tube", "some.dsd", "font", "session", "good.trace")}
+            with open(os.path.join(folder, "keys"), "w") as file:
+                file.write("at 1000 shot\n")
+            made("solo", "2000", "good", "--os", "os", "--tube", "tube", "--save", "session", "--keys", "keys", "--disc0", "some.dsd", "--wav", "good.wav")
+            made("follow", "host", "good.trace", "2000", "good", "--os", "os", "--keys", "keys", "--disc0", "some.dsd")
+            made("dis", "6502", "os", "C000", "text")
+            self.run = [name for name in sorted(os.listdir(folder)) if name.startswith("good.")]
+            self.files = {name: text_of(os.path.join(folder, name)) for name in ["os", "tube", "some.dsd", "font", "session", "text"] + self.run}
+            trace = Trace(os.path.join(folder, "good.trace"))
+            self.files["good.vcd"], self.files["good.csv"] = b"".join(vcd_of(trace)), b"".join(csv_of(trace))
         self.files["small.asm"] = text_of(os.path.join(EXAMPLES, "small.asm"))
+        self.files["labels"] = b"al 00C000 .start\nal 00C002 .loop\nal 000070 .count\n"
         self.files["a.keys"] = b"at 100 down 41\nat 200 up 41\n"
         self.frame = b"P6\n640 256\n255\n" + bytes(range(0, 256, 255)) * (640 * 256 * 3 // 2)
         self.picture = Frame(self.frame).png()
@@ -115,10 +131,11 @@ def changed(dice, data):
 
 class Made:
     """A call: the tool and its words, the files of its folder (bytes, a length, or the target of a link), what is on standard input, the names that
-    it may write, and what is looked at where it ends with 0 in plain surroundings."""
+    it may write, the folders below which it may write what it likes, and what is looked at where it ends with 0 in plain surroundings."""
 
-    def __init__(self, tool, words, files, stdin=b"", writes=(), good=None, folders=()):
+    def __init__(self, tool, words, files, stdin=b"", writes=(), good=None, folders=(), below=()):
         self.tool, self.words, self.files, self.stdin, self.writes, self.good, self.folders = tool, words, files, stdin, set(writes), good, folders
+        self.below = tuple("at/%s/" % name for name in below)
         self.around = "plain"
 
 
@@ -127,16 +144,25 @@ class Generator:
         self.plain, self.program = plain, program
 
     def call(self, dice, only):
-        tool = only or dice.choices(TOOLS, (14, 6, 18, 18, 20, 16, 8))[0]
+        tool = only or dice.choices(TOOLS, [SHARES[name] for name in TOOLS])[0]
         made = getattr(self, "make_" + tool)(dice)
         if dice.random() < 0.12:
             made.words = self.other_words(dice, made.words)
             made.good = None
             # Any word may be the name under which is written, but none of what is read.
-            if made.tool in ("catalogue", "png", "words"):
-                made.writes |= {os.path.normpath(word) for word in made.words if word and os.path.normpath(word) not in made.files and not os.path.isabs(word)}
+            places = {os.path.normpath(word) for word in made.words if word and os.path.normpath(word) not in made.files and not os.path.isabs(word)}
+            if made.tool in ("catalogue", "png", "words", "trace", "execute"):
+                made.writes |= places
+            if made.tool == "differs":
+                made.writes |= places | {word + "/000.png" for word in places}
+            if made.tool in ("page", "play"):
+                made.writes |= {word + end for word in places for end in (".html", ".png", ".000.png", ".001.png", ".movie.png", ".wav")}
+            if made.tool == "suite":
+                # (any word may be the list, the folder of results, or that of what is kept)
+                made.below += tuple("at/%s/" % os.path.normpath(word) for word in made.words if word and os.path.normpath(word) not in made.files
+                                    and os.path.normpath(word).split("/")[0] not in ("..", ".", ""))
             if made.tool == "manifest":
-                ends = (".report", ".host", ".para", ".trace", ".list")
+                ends = (".report", ".host", ".para", ".trace", ".list", ".d0", ".000.ppm")
                 made.writes |= {os.path.normpath(word) + end for word in made.words if word and not os.path.isabs(word) for end in ends}
         made.around = dice.choices(("plain", "closed", "full", "broken", "deaf", "all closed", "short", "disk", "other", "others folder"),
                                    (60, 5, 5, 5, 3, 3, 5, 6, 4, 4))[0]
@@ -241,7 +267,7 @@ class Generator:
             "dis 6502 os C000 new", "check link", "check /dev/zero", "check fifo", "solo 9 o --os os --tube tube --keys good.trace", "run 9 o --oss x", "check missing",
             "follow host good.trace 2000 o --os os", "dis 6502 @/victim 0000 @/victim", "solo 9 ../outside/o --os os --tube tube", "asm 6502 small.asm below/new",
             "solo 9 o --os os --tube tube --save link", "asm small.asm ../outside/victim", "check good.trace --save @/victim")).replace("@", "OUTSIDE")
-        names = {"link", "o.report", "o.host", "o.para", "o.trace", "o.list", "new", "session.written", "small.asm.written", "own.written", "link.written", "session"}
+        names = {"link", "o.report", "o.host", "o.para", "o.trace", "o.list", "o.d0", "o.000.ppm", "new", "session.written", "small.asm.written", "own.written", "link.written", "session"}
         if dice.random() < 0.4:
             return Made("manifest", words.split(), files, writes=names)
         text = b"beebtube manifest 1\nsources 0\nwords " + words.encode() + b"\nstatus 0\n"
@@ -288,25 +314,183 @@ class Generator:
 
     def make_suite(self, dice):
         files = {"os": self.plain.files["os"], "tube": self.plain.files["tube"]}
-        count = dice.choice((0, 1, 1, 2, 2))
-        writes = set()
-        how = dice.choice(("make", "check"))
-        for number in range(count):
-            disc = "discs/%d.%s" % (number, dice.choice(("ssd", "dsd")))
-            files[disc] = self.nearly(dice, b"disc %d" % number * 20, 0.3)
+        for number in range(dice.choice((0, 1, 1, 2, 2))):
+            files["discs/%d.%s" % (number, dice.choice(("ssd", "dsd", "DSD")))] = self.nearly(dice, b"disc %d" % number * 20, 0.3)
             if dice.random() < 0.3:
                 files["discs/%d.keys" % number] = self.nearly(dice, self.plain.files["a.keys"], 0.3)
-            if dice.random() < 0.3:
-                files[disc + ".sums"] = dice.choice((b"", b"x\n", b"\xff", b"0" * 64 + b"  out.d0\n"))
-            writes |= {disc + ".sums"} if how == "make" else set()
-        words = [how, "discs", dice.choice(("100", "2000", "x"))] + "--os os --tube tube".split()
+            if dice.random() < 0.2:
+                files["discs/%d.set" % number] = self.nearly(dice, b"--speed 4\n", 0.3)
+        rows = ["a,2000,,", "b,,discs/0.ssd,solo", "a,9,,", "c,9,,--keep 5 --wav x", "d,x,,", "e,9,,replay host /dev/null", "f,9,../outside/victim,", "g,9,,--save /etc/no", "../h,9,,",
+                "i,9,fifo,", "j,9,,--oss x", "k,9,/dev/zero,", "=1,9,,\"--plugs 2\"", "l,9,,--no-tube", "m,9,,--new OUTSIDE/victim"]
+        table = "name,ticks,disc0,words\n" + "".join(row + "\n" for row in dice.choices(rows, [9, 9, 1, 9] + [1] * 11, k=dice.randrange(5)))
+        files["list.csv"] = self.nearly(dice, table.encode(), 0.4)
+        stored = "name,state,status,ticks,seconds,processor,words,words_sum,inputs,outputs,differs,said,key\na,done,0,2000,1,1,run,0,os=0,host=0,,,0\n"
+        files["stored.csv"] = self.nearly(dice, stored.encode(), 0.5)
+        how = dice.choice(("", "", "", "--jobs", "--gather"))
+        words = [how] * bool(how) + ["--ticks", dice.choice(("100", "2000", "2000", "x"))] + ["--shot"] * (dice.random() < 0.3)
+        for option, value in (("--against", "stored.csv"), ("--keep", "kept"), ("--pages", dice.choice(("none", "plain", "whole", "x"))), ("-j", dice.choice("120"))):
+            words += [option, value] * (dice.random() < 0.25)
+        words += [dice.choice(("discs", "list.csv")), "results", "--", "--os", "os", "--tube", "tube"]
 
         def good(made, at, out):
-            discs = [name for name in made.files if re.fullmatch(r"discs/.*\.[sd]sd", name)]
-            if not discs or out.splitlines()[-1] != b"suite: %d of %d discs" % (len(discs), len(discs)):
+            if how == "--jobs":
+                keys = [[word for word in shlex.split(line) if re.fullmatch("--key=[0-9a-f]{64}", word)] for line in out.decode().splitlines()]
+                return "" if all(len(it) == 1 for it in keys) and not os.path.exists(os.path.join(at, "results")) else "a job has no key, or something was written"
+            with open(os.path.join(at, "results", "results.csv"), newline="", encoding="utf-8") as file:
+                found = list(csv.DictReader(file))
+            wanted = b"suite: %d of %d are good: " % (len(found), len(found))
+            if not found or not any(line.startswith(wanted) for line in out.splitlines()):
                 return "the count is another one"
-            return "" if all(os.path.exists(os.path.join(at, name + ".sums")) for name in discs) else "a disc has no sums"
-        return Made("suite", words, files, writes=writes, good=good, folders=("discs",))
+            if any(row["state"] not in ("done", "same") or not os.path.exists(os.path.join(at, "results", "runs", row["key"] + ".json")) for row in found):
+                return "a run that is good has no result"
+            return "" if text_of(os.path.join(at, "results", "index.html")).count(b"<article") == len(found) else "the page has another number of runs"
+        return Made("suite", words, files, good=good, folders=("discs",), below=("results", "kept"))
+
+
+    # --- Runs, listings, captures ---
+
+    def outputs(self, dice, name, share=0.25):
+        """The outputs of a run under another name, some of them changed, some not there."""
+        made = {}
+        for old in self.plain.run:
+            if dice.random() < 0.95:
+                made[name + old[4:]] = self.nearly(dice, self.plain.files[old], share)
+        return made
+
+    def make_differs(self, dice):
+        if dice.random() < 0.4:
+            listing = self.plain.files["good.list"]
+            lines = []
+            for number, line in enumerate(listing.splitlines()):
+                words = line.split(b" ", 7)
+                logged = b"A=%b X=%b Y=%b S=1%b P=%b " % tuple(word[2:] for word in words[2:7])
+                lines.append((logged if number % 3 else b"") + words[1] + b": " + words[7].lower())
+                if number == 30:
+                    lines += [b"", b"   (loops for 8 instructions)", b""]
+            files = {"run.list": self.nearly(dice, listing, 0.4), "mame.tr": self.nearly(dice, b"\n".join(lines) + b"\n", 0.6)}
+            return Made("differs", ["--mame", "mame.tr", "run.list"], files)
+        files = {**self.outputs(dice, "one", 0.15), **self.outputs(dice, "two", 0.15)}
+        pictures = dice.random() < 0.4
+
+        def good(made, at, out):
+            for end in {name[3:] for name in made.files}:
+                one, two = (made.files.get(name + end) for name in ("one", "two"))
+                if one != two:
+                    return "%s differs, and is not told" % end
+            return "" if out.startswith(b"same: files ") else "it does not say that they are the same"
+        return Made("differs", ["--pictures", "pics"] * pictures + ["one", "two"], files, writes={"pics", "pics/000.png"} if pictures else (), good=good)
+
+    def make_screen(self, dice):
+        words = dice.choice((["run"], ["--start", dice.choice(("7C28", "7FFF", "7C0", "x")), "run"], ["--frame", dice.choice("019"), "run"],
+                             ["--frame", "0", "--colour", "--columns", dice.choice(("20", "80", "320", "0", "999")), "run"]))
+        return Made("screen", words, self.outputs(dice, "run", 0.5), good=lambda made, at, out: "" if "--frame" in made.words or out.count(b"\n") == 25 else "it has not 25 lines")
+
+    def make_trace(self, dice):
+        how = dice.choice((".vcd", ".csv", ".trace"))
+        source = "in" + how
+        files = {source: self.nearly(dice, self.plain.files["good" + how], 0.8)}
+        out = dice.choice(("out.trace", "out.trace", source, "below/out.trace", "nowhere/out.trace") if how != ".trace" else ("out.vcd", "out.csv", source, "/dev/null"))
+        words = (["--at", dice.choice(("0", "5", "-1", "9" * 15))] * (dice.random() < 0.2) + ["--speed", dice.choice("345")] * (dice.random() < 0.1)
+                 + ["--names", dice.choice(("HCLK=D3", "tick=time", "x", "HA0="))] * (dice.random() < 0.1)) + [source, out]
+
+        def good(made, at, _):
+            if not out.endswith(".trace") or made.words[-1] != out:
+                return ""
+            done = subprocess.run([self.program, "check", out], cwd=at, stdin=subprocess.DEVNULL, stdout=subprocess.PIPE, stderr=subprocess.PIPE)
+            return "" if done.returncode in (0, 8) else "the program says %r" % done.stderr[:200]
+        return Made("trace", words, files, writes={out} if out in ("out.trace", "below/out.trace", "out.vcd", "out.csv") else (), good=good)
+
+    def make_page(self, dice):
+        files = self.outputs(dice, "run", 0.3)
+        words = ["run"]
+        if dice.random() < 0.3:
+            files["run.html"] = dice.choice((b"mine", b"", b"<!DOCTYPE html>\n"))
+        if dice.random() < 0.3:
+            files["run.manifest"] = self.nearly(dice, b"beebtube manifest 1\nsources 0\nwords solo 2000 run --os os --tube tube\nstatus 0\n", 0.7)
+        if dice.random() < 0.3:
+            files.update(self.outputs(dice, "other", 0.3))
+            words += ["--against", "other"]
+        if dice.random() < 0.3:
+            files["k"] = self.nearly(dice, self.plain.files["a.keys"])
+            words += ["--keys", "k"]
+        words += ["--trace", dice.choice(("0", "10", "all", "x"))] * (dice.random() < 0.3)
+        return Made("page", words, files, writes={"run.html"}, good=lambda made, at, _: "" if text_of(at + "/run.html").startswith(b"<!DOCTYPE html>") else "it is no page")
+
+    def make_labels(self, dice):
+        how = dice.randrange(3)
+        if how == 0:
+            return Made("labels", ["small.asm", dice.choice(("6502", "65c02", "z80"))], {"small.asm": self.nearly(dice, self.plain.files["small.asm"] + b"a: b: c:\nlast: RTS\n")})
+        text = "good.list" if how == 1 else "text"
+        dump = b"Processed\n[{'start':49152L,'.loop':49154L,'K':1.5L}]\n"
+        labels = dice.choice((self.plain.files["labels"], dump, b"C000 start\nC002 loop\n"))
+        files = {"labels": self.nearly(dice, labels, 0.5), text: self.nearly(dice, self.plain.files[text], 0.4)}
+
+        def good(made, at, out):
+            if text != "text" or made.files[text] != self.plain.files[text]:
+                return ""
+            with open(at + "/named", "wb") as file:
+                file.write(out)
+            done = subprocess.run([self.program, "asm", "6502", "named", "again"], cwd=at, stdin=subprocess.DEVNULL, stdout=subprocess.PIPE, stderr=subprocess.PIPE)
+            same = done.returncode == 0 and text_of(at + "/again") == self.plain.files["os"]
+            for name in ("named", "again"):
+                if os.path.exists(at + "/" + name):
+                    os.unlink(at + "/" + name)
+            return "" if same else "the text with names is another source: %r" % done.stderr[:100]
+        return Made("labels", ["--in", "labels", text], files, good=good)
+
+    def make_debug(self, dice):
+        files = {name: self.plain.files[name] for name in ("os", "tube", "font")}
+        files["session"] = self.nearly(dice, self.plain.files["session"], 0.5)
+        files["labels"] = self.nearly(dice, self.plain.files["labels"], 0.3)
+        files["old.png"] = self.nearly(dice, self.plain.picture, 0.4)
+        words = dice.choice((["session"], ["solo", "500", "x", "--os", "os", "--tube", "tube"], ["host", "500", "x", "--os", "os"], ["host", "500", "x", "--os", "tube"],
+                             ["run", "300", "x", "--os", "os", "--tube", "missing"], ["os"], ["/dev/zero"]))
+        names = dice.choices(("step", "back", "step 30", "back 7", "next", "return", "go 100", "go +5", "go -1", "go end", "until C00C", "before C000", "change 0070", "who 0070",
+                              "access H R 0", "access P W 1 back", "sender", "memory 70 4", "list", "stack", "tube", "screen", "frame new.png", "frame old.png", "frame os", "where",
+                              "host", "para", "other", "beam", "help", "bogus", "step 0", "until start", "g", "s", "m", "quit", "frame ../outside/victim", "; ;", "\xff"), k=dice.randrange(1, 7))
+        script = "; ".join(names)
+        words += ["--host-labels", "labels"] * (dice.random() < 0.3) + ["--against", dice.choice(("session", "solo 400 y --os os --tube tube", "'"))] * (dice.random() < 0.2)
+        writes = {"new.png", "old.png"}
+        if dice.random() < 0.6:
+            return Made("debug", words + ["-c", script], files, writes=writes)
+        return Made("debug", words, files, stdin=script.replace("; ", "\n").encode("utf-8", "surrogateescape") + b"\n", writes=writes)
+
+    def make_play(self, dice):
+        files = {name: self.plain.files[name] for name in ("os", "tube", "font")}
+        disc = dice.choice(("game.ssd", "game.dsd", "-", "game.txt", "missing.ssd"))
+        if disc in ("game.ssd", "game.dsd", "game.txt"):
+            files[disc] = self.nearly(dice, self.plain.files["some.dsd"], 0.3)
+        lines = ["--os os", "--font font", "--tube tube", "--speed 4", "--plugs 1", "--disc1 os", "# text", "--keys os", "--disc0 font", "--os missing", "--rom15 os"]
+        text = "--os os\n" + "".join(line + "\n" for line in dice.choices(lines[1:], [9] * 6 + [1] * 4, k=dice.randrange(4)))
+        chosen = dice.choice(("set", "roms.set", None))
+        files[chosen or "roms.set"] = self.nearly(dice, text.encode(), 0.25)
+        name = dice.choice(("game", "screen"))
+        if dice.random() < 0.2:
+            files[name + ".png"] = self.nearly(dice, self.plain.picture, 0.5)
+        words = ["--start", "0.01", "--wait", dice.choice(("0", "0.02", "-1"))]
+        for option in ("--both", "--caps", "--movie", "--wav", "--ticks"):
+            words += [option] * (dice.random() < 0.2)
+        words += ["--out", dice.choice(("new", "below/new", "nowhere/new", "../outside/victim"))] * (dice.random() < 0.2)
+        words += ([chosen] if chosen else []) + [disc] + [dice.choice(("A", "a{SHOT}b", "{BREAK}", "{XX}", "", "\xe9"))] * (dice.random() < 0.7)
+        ends = (".png", ".000.png", ".movie.png", ".wav")
+
+        def good(made, at, out):
+            if "--ticks" in made.words:
+                return "" if out.strip().isdigit() else "it does not say the ticks"
+            for one in out.decode().split():
+                data = text_of(os.path.join(at, one))
+                if one.endswith(".png") and not lines_in(data):
+                    return "%s is no picture" % one
+            return "" if out else "it names nothing"
+        return Made("play", words, files, writes={base + end for base in ("game", "screen", "new", "below/new", "../outside/victim") for end in ends}, good=good)
+
+    def make_execute(self, dice):
+        built = os.path.join(EXAMPLES, "c", "built")
+        name = dice.choice(sorted(it for it in os.listdir(built) if not it.endswith(".labels")))
+        files = {name: self.nearly(dice, text_of(os.path.join(built, name)), 0.5)}
+        words = ["--limit", "0.2"] + ["--host"] * (dice.random() < 0.2) + ["--time"] * (dice.random() < 0.2)
+        words += ["--listing", "new.list"] * (dice.random() < 0.2) + ["--trace", "new.trace"] * (dice.random() < 0.2)
+        return Made("execute", words + [name, "word"], files, stdin=dice.randbytes(dice.choice((0, 20))), writes={"new.list", "new.trace"})
 
 
 # --- Calling ---
@@ -356,7 +540,7 @@ class Sandbox:
                     state = os.lstat(place)
                     if name in names:
                         found[os.path.relpath(place, self.base)] = (state.st_size, state.st_mtime_ns, state.st_ino, state.st_mode)
-                    elif name not in ("below", "discs"):
+                    elif name not in ("below", "discs", "pics"):
                         found[os.path.relpath(place, self.base) + "/"] = None
         return found
 
@@ -440,6 +624,8 @@ class Sandbox:
                 stream.flush()
             except (OSError, ValueError, AttributeError):
                 status = status or 120
+        # As an interpreter does that ends.
+        atexit._run_exitfuncs()  # noqa: SLF001
         os._exit(status)
 
 
@@ -500,14 +686,15 @@ class Judge:
         if b"Traceback" in err or b"a fault of this tool" in err or b"Exception ignored" in err:
             faults.append("it says %r" % err[-600:])
         deaf = around in ("deaf", "all closed") or status == 141
-        if status != 0 and not err.strip() and not out.strip() and not deaf:
+        if status != 0 and not err.strip() and not out.strip() and not deaf and (made.tool != "execute" or status in (124, 125, 132, 134, 153)):
             faults.append("status %d without a text" % status)
         return faults
 
     def of_files(self, made, before, after):
         allowed = {os.path.normpath("at/" + name) for name in made.writes}
         names = {name for name in set(before) | set(after) if before.get(name) != after.get(name) or (name in before) != (name in after)}
-        return ["it changed %s" % name for name in sorted(names - allowed)]
+        return ["it changed %s" % name for name in sorted(names - allowed) if not name.startswith(made.below)]
+        return ["it changed %s" % name for name in sorted(names - allowed - {name + "/" for name in allowed})]
 
     def of_trace(self, status, err):
         done = subprocess.run([self.program, "check", "t"], cwd=self.sandbox.at, stdin=subprocess.DEVNULL, stdout=subprocess.PIPE, stderr=subprocess.PIPE)
@@ -537,7 +724,6 @@ def work(asked, numbers, program, version):
     """Makes the calls of these numbers; gives how many differ."""
     signal.signal(signal.SIGTERM, lambda number, frame: sys.exit(2))
     os.environ["BEEBTUBE"] = program
-    os.environ.pop("JOBS", None)
     beebtube_program.version = lambda: version
     plain = Plain(program)
     generator = Generator(plain, program)
@@ -546,7 +732,6 @@ def work(asked, numbers, program, version):
         with open(os.path.join(TOP, "tools", name)) as file:
             codes[name] = compile(file.read(), name, "exec")
     import beebtube.command, beebtube.explain, beebtube.labels, beebtube.disc  # noqa: E401,F401 # once for all copies
-    import concurrent.futures.thread  # noqa: F401
     # So that a copy shares what is there, in place of going through it.
     gc.collect()
     gc.freeze()

@@ -1,10 +1,11 @@
 #!/usr/bin/env bash
 # Opens the pages of three runs in Chromium without a window, presses their buttons, and compares what stands there with what the program and the
-# tools say: a typed text, a sound with a disc, and a run whose names and files try to be more than data.
+# tools say: a typed text, a sound with a disc, and a run whose names and files try to be more than data. Then the contact sheet of a collection, with
+# a run that differs, one that fails, and one whose name tries to be more than data.
 #
 #   docs/browser.sh                   compares; status 1 where something differs, 77 where no browser is installed (Debian's package is `chromium`)
 #   docs/browser.sh pictures FOLDER   leaves pictures of the pages too: light, dark and narrow, and one page as it is printed
-#   docs/browser.sh make              makes docs/page.png anew
+#   docs/browser.sh make              makes docs/page.png and docs/sheet.png anew
 set -u
 top=$(cd "$(dirname "$(readlink -f "$0")")/.." && pwd)
 how=${1:-compare} folder=${2:-}
@@ -60,7 +61,7 @@ class Reader(html.parser.HTMLParser):
     def handle_starttag(self, tag, attributes):
         if self.depth:
             self.depth += tag not in EMPTY
-        elif dict(attributes).get("id", tag if tag == "html" else None) == sys.argv[1]:
+        elif dict(attributes).get("id", tag if tag in ("html", "title") else None) == sys.argv[1]:
             self.given, self.depth = dict(attributes), int(tag not in EMPTY)
 
     def handle_endtag(self, tag):
@@ -87,6 +88,32 @@ whole() { # WHAT
     compare "$1: faults" '' "$(inside fault)"
 }
 
+# A collection in `results` of the screen of each mode, one of which differs from that which is stored, of the typed text, of one that is refused, and
+# but for a picture of two with hostile names.
+hostile='<script>document.documentElement.dataset.ran=1</script><img src=x onerror=document.documentElement.dataset.ran=1>.ssd'
+make_collection() {
+    local number
+    "$top/beebtube" asm 6502 "$top/examples/screen-os.asm" screen-os
+    for number in 0 1 2 3 4 5 6 7; do
+        # The key of each digit, from 0 on.
+        printf 'at 100000 down %s\nat 300000 up %s\nat 2900000 shot\n' $(sed -n "s/^at [0-9]* down //p" "$top/examples/screen.keys" | sed -n "$((number + 1))p"){,} >"mode$number.keys"
+    done
+    {
+        echo 'name,ticks,keys,disc0,words'
+        for number in 0 1 2 3 4 5 6 7; do echo "mode $number,3000000,mode$number.keys,,replay host /dev/null --os screen-os --font font"; done
+        echo 'typed,8000000,typed.keys,,--os os --tube tube --font font --keep 60000'
+        echo 'too long,8000000,,long.ssd,--os os --tube tube'
+        [ "$how" = make ] || echo "\"${hostile//\//}\",100,,,"
+        [ "$how" = make ] || echo "\"${hostile//\//_}\",100,,,--os os --tube tube"
+    } >list.csv
+    head -c 204801 /dev/zero >long.ssd
+    "$top/tools/suite" list.csv results >told
+    cp results/results.csv stored.csv
+    # Another digit.
+    sed 's/^at 2900000/at 2000000/' mode1.keys >mode5.keys
+    "$top/tools/suite" --against stored.csv list.csv results >told
+}
+
 # --- A typed text ---
 
 "$top/examples/typing.sh"
@@ -97,6 +124,8 @@ if [ "$how" = make ]; then
     "$top/beebtube" run 8000000 page --os os --tube tube --font font --keys typed.keys
     "$top/tools/page" page --keys typed.keys
     picture page.html 'shot-at=2;address=7C00' "$top/docs/page.png" 900 2660 --force-device-scale-factor=0.5
+    make_collection
+    picture results/index.html '' "$top/docs/sheet.png" 1000 1900 --force-device-scale-factor=0.5
     exit
 fi
 opened typed.html 'shot-on'
@@ -173,6 +202,36 @@ opened put.html 'shot-on'
 whole 'a page that was changed'
 compare 'what was put in does not run' none "$(inside html data-ran)"
 
+# --- A collection ---
+
+make_collection
+opened results/index.html ''
+compare 'the sheet: parts' 'Differs from the stored run: 1|Failed: 2|The same as the stored run: 9' "$(inside differs-title)|$(inside failed-title)|$(inside same-title)"
+compare 'the sheet: the run that differs' yes "$(inside differs | grep -q '^mode 5' && echo yes)"
+compare 'the sheet: what differs of it' yes "$(inside differs | grep -qF '000.ppmwas ' && echo yes)"
+compare 'the sheet: nothing ran' none "$(inside html data-ran)"
+compare 'the sheet: a hostile name is shown as it is' yes "$(inside same | grep -qF "${hostile//\//_}" && echo yes)"
+compare 'the sheet: no script stands in it' 0 "$(grep -c '<script' dom)"
+sed 's|</main>|<script>document.documentElement.dataset.ran=1</script><img src="data:," onerror="document.documentElement.dataset.ran=1"></main>|' results/index.html >results/put.html
+opened results/put.html ''
+compare 'the sheet: what was put in does not run' none "$(inside html data-ran)"
+# Frames are there, and shown: a sheet whose frames were taken away looks otherwise.
+picture results/index.html '' sheet.png 1200 1800
+picture results/index.html '' sheet-dark.png 1200 1800 --blink-settings=preferredColorScheme=0
+picture results/index.html '' sheet-narrow.png 400 4000
+mkdir bare && cp results/index.html bare
+picture bare/index.html '' sheet-bare.png 1200 1800
+for one in sheet sheet-dark sheet-narrow; do
+    compare "a picture, $one" 89504e47 "$([ -e $one.png ] && xxd -p -l 4 $one.png)"
+done
+compare 'the sheet: light and dark differ' yes "$(cmp -s sheet.png sheet-dark.png || echo yes)"
+compare 'the sheet: with and without frames differ' yes "$(cmp -s sheet.png sheet-bare.png || echo yes)"
+link=$(grep -o 'href="runs/[0-9a-f]*.html">typed' results/index.html | cut -d'"' -f2)
+opened "results/$link" 'shot-on'
+whole 'a page of the sheet'
+compare 'its name' typed "$(inside title | cut -d: -f1)"
+wants 'its shot' shot-told 'Screen of shot 1, at 0.800 s; down: SHIFT'
+
 # --- Pictures ---
 
 picture typed.html 'shot-at=2;chart!End' light.png 1200 4000
@@ -184,6 +243,6 @@ done
 compare 'light and dark differ' yes "$(cmp -s light.png dark.png || echo yes)"
 timeout 300 "$browser" "${flags[@]}" --print-to-pdf=print.pdf "$(address_of typed.html '')" >told 2>&1
 compare 'a print' '%PDF' "$(head -c 4 print.pdf 2>/dev/null)"
-[ "$how" != pictures ] || cp light.png dark.png narrow.png print.pdf "$folder"
+[ "$how" != pictures ] || cp light.png dark.png narrow.png print.pdf sheet.png sheet-dark.png sheet-narrow.png "$folder"
 echo "browser: $("$browser" --version 2>/dev/null | head -n 1): $passed passed, $failed failed"
 [ "$failed" -eq 0 ]

@@ -19,7 +19,7 @@ TOP = os.path.dirname(os.path.dirname(os.path.realpath(__file__)))
 TAKERS = {"replay_host": "replay host", "replay_para": "replay para", "solo": "solo", "run": "run", "resume": "resume",
           "follow_host": "follow host", "follow_para": "follow para"}
 
-# Each option: the name of its value, and what it is. The sixteen of paged ROMs are one.
+# Each option: the name of its value, which a flag lacks, and what it is. The sixteen of paged ROMs are one.
 TEXTS = {
     "--os": ("ROM", "the host's operating system, 16,384 bytes"),
     "--tube": ("ROM", "the second processor's boot ROM, 2,048 bytes"),
@@ -35,6 +35,10 @@ TEXTS = {
     "--save": ("FILE", "the run as a session file, from which resume goes on"),
     "--at": ("AAAA", "only instructions at this address"),
     "--watch": ("AAAA", "only instructions in front of which the byte at this address changed"),
+    "--from": ("TICK", "only starts at this tick or later are listed; for --watch the start before stays the start before, whether it is "
+                       "listed or not"),
+    "--no-tube": (None, "nothing answers at FEE0 to FEFF: a read there gives FE, a write does nothing, BREAK makes no access; the trace "
+                        "must be empty (bad trace 1 otherwise): a Model B alone"),
 }
 
 COMMANDS = [
@@ -80,6 +84,9 @@ STATUSES = [
 
 class Option:
     def __init__(self, word, takers, form, detail):
+        # A flag is an option whose only value is its own word.
+        if detail == [word]:
+            form, detail = "Flag", None
         self.word, self.takers, self.form = word, takers, form
         self.is_file = form in ("File", "Output")
         self.choices = detail if form == "OneOf" else []
@@ -98,6 +105,11 @@ class Option:
         text = TEXTS[self.word][1]
         return text + ("; it is " + self.value_text() if self.value_text() else "")
 
+    # The words that stand for it among others.
+    def shown(self):
+        value = TEXTS[self.word][0]
+        return self.word + (" " + value if value else "")
+
 
 def table():
     with open(TOP + "/crates/cmd_words/src/keys.rt") as file:
@@ -110,7 +122,7 @@ def table():
     body = source[source.index("fn table()") :]
     body = body[: body.index("\n}\n")]
     options = []
-    for word, takers, form, rest in re.findall(r'row\(\s*"(--\w+)",\s*(\w+),\s*Value::(\w+)(.*?)\)?,?\s*\)(?=,\n)', body, re.S):
+    for word, takers, form, rest in re.findall(r'row\(\s*"(--[\w-]+)",\s*(\w+),\s*Value::(\w+)(.*?)\)?,?\s*\)(?=,\n)', body, re.S):
         detail = None
         if form == "Number":
             detail = [int(numbers.get(number, number).replace("_", "")) for number in re.findall(r"(?:least|most): (\w+)", rest)]
@@ -140,7 +152,7 @@ def list_of(options):
     lines = []
     for option in options:
         takers = ", ".join("`%s`" % taker for taker in option.takers)
-        lines += wrapped("`%s %s` (%s): %s." % (option.word, TEXTS[option.word][0], takers, option.text()), "- ", "  ")
+        lines += wrapped("`%s` (%s): %s." % (option.shown(), takers, option.text()), "- ", "  ")
     return "\n".join(lines)
 
 
@@ -172,7 +184,8 @@ def man_of(options):
         lines += [".TP", ".B " + escaped(word), escaped(text) + "; of the launcher alone."]
     lines.append(".SH OPTIONS")
     for option in options:
-        lines += [".TP", ".BI " + escaped(option.word) + " \\ " + TEXTS[option.word][0], escaped(option.text()) + ".",
+        value = TEXTS[option.word][0]
+        lines += [".TP", (".BI %s \\ " + value if value else ".B %s") % escaped(option.word), escaped(option.text()) + ".",
                   "Taken by " + ", ".join(option.takers) + "."]
     lines.append(".SH FILES")
     for name, text in OUTPUTS:
@@ -202,7 +215,7 @@ def completion_of(options):
     for option in options:
         if option.choices:
             lines.append("        %s) words='%s' ;;" % (option.word, " ".join(option.choices)))
-    plain = [option.word for option in options if not option.is_file and not option.choices]
+    plain = [option.word for option in options if option.form in ("Number", "FourDigits")]
     lines += [
         "        %s) return ;;" % " | ".join(plain),
         "    esac",
@@ -225,18 +238,37 @@ def completion_of(options):
         "}",
         "complete -o filenames -F _beebtube beebtube ./beebtube",
     ]
+    for tool in ("debug", "differs", "execute", "labels", "play", "suite"):
+        lines += [
+            "_beebtube_%s() {" % tool,
+            "    local word=${COMP_WORDS[COMP_CWORD]}",
+            "    if [ \"${word:0:1}\" = - ]; then",
+            "        mapfile -t COMPREPLY < <(compgen -W '%s' -- \"$word\")" % " ".join(words_of_tool(tool)),
+            "    else",
+            "        mapfile -t COMPREPLY < <(compgen -f -- \"$word\")",
+            "    fi",
+            "}",
+            "complete -o filenames -F _beebtube_%s %s tools/%s" % (tool, tool, tool),
+        ]
     return "\n".join(lines) + "\n"
+
+
+# The options of a tool, as its own text has them.
+def words_of_tool(tool):
+    with open(TOP + "/tools/" + tool) as file:
+        text = file.read().split('"""')[1]
+    return ["--help", *dict.fromkeys(re.findall(r"(?<= )(--?[a-z][a-z-]*)(?=[ ,:])", text))]
 
 
 # What ./beebtube --help prints.
 def help_of(options):
     lines = ["beebtube: the BBC Micro Model B and the 6502 Second Processor, joined by the Tube", "",
-             "  ./beebtube COMMAND .. [OPTION VALUE ..]", ""]
+             "  ./beebtube COMMAND .. [OPTION ..]", ""]
     for words, text in COMMANDS:
         lines += ["  " + words] + wrapped(text, "      ", "      ")
     lines += [""] + ["  %-22s  %s" % ("./beebtube " + word, text) for word, text in LAUNCHED] + [""]
     for option in options:
-        lines += ["  %s %s" % (option.word, TEXTS[option.word][0])] + wrapped(option.text(), "      ", "      ")
+        lines += ["  " + option.shown()] + wrapped(option.text(), "      ", "      ")
         lines += wrapped("taken by " + ", ".join(option.takers), "      ", "      ")
     lines += ["", "TICKS are of 1/6 microsecond, 6,000,000 a second, or with --speed 4 of 1/12; at most 1,073,741,824.",
               "OUT begins the names of what is written: OUT.report, OUT.host, OUT.para and more.", "", "Exit status:"]
@@ -251,7 +283,7 @@ def faults_of_words(options):
     sys.path.insert(0, TOP + "/tools")
     from beebtube import words
 
-    kinds = {"File": "file", "Output": "output", "Number": "number", "OneOf": "choice", "FourDigits": "address"}
+    kinds = {"File": "file", "Output": "output", "Number": "number", "OneOf": "choice", "FourDigits": "address", "Flag": "flag"}
     wanted = {}
     for option in options:
         for word in option.words:

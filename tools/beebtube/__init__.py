@@ -28,7 +28,7 @@ from .trace import Access, Trace
 
 __all__ = [
     "Access", "Catalogue", "Disc", "Ended", "Event", "Fault", "Frame", "Labels", "Program", "Refused", "Registers", "Report", "Run",
-    "Script", "Trace", "Version", "asm", "check", "dis", "explain", "follow", "gen", "inside", "key", "labels_of", "picture_of", "pressed",
+    "Script", "Trace", "Version", "asm", "check", "dis", "explain", "follow", "gen", "host", "inside", "key", "labels_of", "picture_of", "pressed",
     "read_file", "replay", "resume", "run", "screen_of", "solo", "sum_of", "typed", "version", "write_beside",
 ]
 
@@ -37,6 +37,7 @@ run = _program.run
 solo = _program.solo
 resume = _program.resume
 replay = _program.replay
+host = _program.host
 follow = _program.follow
 check = _program.check
 asm = _program.asm

@@ -1,21 +1,21 @@
 """The words of `tools/debug`: a moment of a run, what is there, and the ways from it to others."""
 from __future__ import annotations
 
-import os
+import contextlib
 import re
 import shlex
 import sys
 import time
-from typing import Callable, Dict, List, Optional, Sequence, TextIO
+from typing import Callable, Dict, Iterator, List, Optional, Sequence, TextIO
 
 from .accesses import words_of
 from .command import Usage
 from .faults import Fault
-from .files import is_plain, open_file, write_beside
-from .frame import SIGNATURE
+from .files import LONGEST, write_beside
+from .frame import look_at_place
 from .naming import Names
 from .naming import read as naming_read
-from .past import LETTERS, LINE, SIDES, Machine, Past, Start, parting
+from .past import LETTERS, LINE, MOST_ACCESSES, SIDES, Machine, Past, Start, parting
 from .program import Program, screen_of
 from .report import Registers
 
@@ -43,6 +43,7 @@ WORDS: Dict[str, List[str]] = {
     "stack": ["", "what is on the stack, the top first"],
     "tube": ["[N]", "accesses to the Tube, N before and N from now on; 5 if none is said"],
     "screen": ["[AAAA]", "a page of teletext as text, from 7C00 if no address is said"],
+    "beam": ["", "where the beam is, by the 6845; from then on `where` tells it"],
     "frame": ["FILE.png", "writes the last whole frame of the screen as a picture"],
     "other": ["", "with --against: goes over to the other run, at the same tick"],
     "help": ["[WORD]", "these words, or one of them"],
@@ -163,14 +164,32 @@ class Debugger:
         past = self.past
         states = past.states(self.tick)
         self._say("tick %d of %d, %.3f us; %s" % (self.tick, past.end, self.tick * 1e6 / past.second, self.side))
-        for side in SIDES:
+        self._say("     " + self._beam())
+        for side in past.sides:
             registers = states[side].registers
             text = self._text(side, registers.pc, past.machines[side].text_at(self.tick, registers.pc))
             halted = " halted" if registers.halted else ""
             self._say("%s %s %s%s %s" % (side, registers_of(registers), flags_of(registers), halted, text))
-            self._say("     " + self._last_access(side))
+            if past.has_tube:
+                self._say("     " + self._last_access(side))
+
+    def _beam(self) -> str:
+        if self.tick > self.past.held:
+            return "where the beam is cannot be told behind tick %d" % self.past.held
+        found = self.past.position(self.tick, at_once=True)
+        if found is not None:
+            return found.text()
+        second = self.past.second // 1000000
+        return "line %d of 312 by the clock, 64 us each from tick 0: `beam` counts it by the 6845" % (self.tick // (64 * second) % 312)
+
+    def do_beam(self) -> None:
+        found = self.past.position(self.tick)
+        assert found is not None
+        self._say(found.text())
 
     def _last_access(self, side: str) -> str:
+        if self.tick > self.past.held:
+            return "accesses to the Tube are at hand up to tick %d" % self.past.held
         place = self.past.trace.rfind((" %s " % LETTERS[side]).encode(), 0, LINE * self.past.lines_below(self.tick))
         return self._access_of(place - 10) if place >= 0 else "%s has not accessed the Tube" % FULL[side]
 
@@ -195,7 +214,12 @@ class Debugger:
         self.side = "host"
 
     def do_para(self) -> None:
+        self._need_tube()
         self.side = "para"
+
+    def _need_tube(self) -> None:
+        if not self.past.has_tube:
+            raise Fault("the host is alone: there is no second processor, and no Tube")
 
     def do_step(self, word: str = "1") -> None:
         count = self._count(word, 1 << 30)
@@ -272,6 +296,7 @@ class Debugger:
     def do_access(self, side: str, way: str, register: str, back: str = "") -> None:
         if side not in "HP" or way not in "RW" or register not in "01234567" or back not in ("", "back") or len(side + way + register) != 3:
             raise Fault("access H|P R|W N [back]: a side, a way, the number of the address from 0 to 7, as in `access H R 1`")
+        self._need_tube()
         form = (" %s %s %s " % (side, way, register)).encode()
         trace, here = self.past.trace, LINE * self.past.lines_below(self.tick)
         if back:
@@ -280,7 +305,8 @@ class Debugger:
             # From the accesses on that are behind this tick.
             place = trace.find(form, LINE * self.past.lines_below(self.tick + 1))
         if place < 0:
-            raise Fault("there is no such access %s" % ("before" if back else "before the run ends"))
+            ends = "before tick %d, up to which accesses are at hand" % self.past.held if self.past.held < self.past.end else "before the run ends"
+            raise Fault("there is no such access %s" % ("before" if back else ends))
         self.side = SIDES["HP".index(side)]
         tick = int(trace[place - 10 : place], 16)
         self._say(self._access_of(place - 10))
@@ -288,6 +314,8 @@ class Debugger:
         self._to(tick, start)
 
     def do_sender(self) -> None:
+        self._need_tube()
+        self._need_accesses()
         here = LINE * self.past.lines_below(self.tick + 1)
         place, giver = self.past.sender(LETTERS[self.side], here)
         self._say(self._access_of(place))
@@ -318,7 +346,13 @@ class Debugger:
         for at in range(0, len(data), 16):
             self._say("%04X  %s" % (0x101 + state.registers.s + at, " ".join("%02X" % byte for byte in data[at : at + 16])))
 
+    def _need_accesses(self) -> None:
+        if self.tick > self.past.held:
+            raise Fault("accesses to the Tube are at hand up to tick %d" % self.past.held)
+
     def do_tube(self, word: str = "5") -> None:
+        self._need_tube()
+        self._need_accesses()
         count, here = self._count(word, 1000), self.past.lines_below(self.tick)
         for number in range(max(0, here - count), min(len(self.past.trace) // LINE, here + count)):
             if number == here:
@@ -333,13 +367,7 @@ class Debugger:
             self._say(line)
 
     def do_frame(self, name: str) -> None:
-        if os.path.exists(name):
-            begin = b""
-            if is_plain(name):
-                with open_file(name) as file:
-                    begin = file.read(len(SIGNATURE))
-            if begin != SIGNATURE:
-                raise Fault("%s is there, and is no picture: it is not written over" % name)
+        look_at_place(name)
         write_beside(name, self.past.frame(self.tick).png())
 
     # --- Two runs, and the rest ---
@@ -349,6 +377,8 @@ class Debugger:
             raise Fault("there is one run alone: --against has another")
         self.past, self._other = self._other, self.past
         self.tick = min(self.tick, self.past.end)
+        if not self.past.has_tube:
+            self.side = "host"
         self._say(self.past.name)
 
     def compare(self) -> None:
@@ -404,14 +434,14 @@ class Asked:
             else:
                 self.options[word].append(left.pop(0))
         if not self.rest:
-            raise Usage("the words of `run` or `solo` are wanted, or a session file")
+            raise Usage("the words of `run` or `solo` are wanted, those of a host behind `host`, or a session file")
         if len(self.options["--against"]) > 1:
             raise Usage("--against: it stands twice")
 
 
 def past_of(program: Program, words: Sequence[str], progress: Callable[[str], None]) -> Past:
     """The past of the words of a run, or of a session file."""
-    if len(words) == 1 and words[0] not in ("run", "solo"):
+    if len(words) == 1 and words[0] not in ("run", "solo", "host"):
         return Past.of_session(program, words[0], progress)
     return Past.of_words(program, words, progress)
 
@@ -441,10 +471,10 @@ class Progress:
 
 def limit_of(past: Past) -> str:
     """What of a run cannot be reached; nothing where all can."""
-    if past.end >= past.asked:
+    if past.end <= past.held:
         return ""
-    return ("the session holds {:,} accesses to the Tube, which are those up to tick {}: what is behind, up to tick {}, "
-            "cannot be reached".format(past.fields.accesses, past.end, past.asked))
+    return ("a session holds {:,} accesses to the Tube at most, which are those up to tick {}: behind it, up to tick {}, states can be told, "
+            "but no instructions".format(MOST_ACCESSES, past.held, past.end))
 
 
 def ask(debugger: Debugger, progress: Progress) -> None:
@@ -474,26 +504,57 @@ def ask(debugger: Debugger, progress: Progress) -> None:
         progress.end()
 
 
+def _words_in(text: str) -> List[str]:
+    try:
+        return shlex.split(text)
+    except ValueError as error:
+        raise Usage("--against: %s" % error) from None
+
+
 def debug(words: Sequence[str]) -> int:
     """The tool: 0, or 1 where a word of a script was wrong."""
     asked, program, progress = Asked(words), Program(), Progress()
     names = {side: Names([naming_read(name) for name in asked.options["--%s-labels" % side]]) for side in SIDES}
-    past = past_of(program, asked.rest, progress)
-    other = past_of(program, shlex.split(asked.options["--against"][0]), progress) if asked.options["--against"] else None
-    debugger = Debugger(past, names, other)
-    for one in (past, other):
-        if one is not None and limit_of(one):
+    with contextlib.ExitStack() as stack:
+        past = past_of(program, asked.rest, progress)
+        stack.callback(past.close)
+        other = past_of(program, _words_in(asked.options["--against"][0]), progress) if asked.options["--against"] else None
+        if other is not None:
+            stack.callback(other.close)
+        return _debugged(asked, Debugger(past, names, other), progress, [one for one in (past, other) if one is not None])
+
+
+# The lines of standard input, as they come.
+def _given() -> Iterator[str]:
+    if sys.stdin is None:
+        raise Fault("cannot read -")
+    sys.stdin.reconfigure(errors="surrogateescape")  # type: ignore[union-attr]
+    while True:
+        try:
+            line = sys.stdin.readline(LONGEST)
+        except (OSError, ValueError):
+            raise Fault("cannot read -") from None
+        if not line:
+            return
+        if len(line) == LONGEST:
+            raise Fault("a line of standard input has {:,} letters or more".format(LONGEST))
+        yield line
+
+
+def _debugged(asked: Asked, debugger: Debugger, progress: Progress, pasts: List[Past]) -> int:
+    for one in pasts:
+        if limit_of(one):
             sys.stderr.write("debug: %s\n" % limit_of(one))
     debugger.compare()
     progress.end()
     if asked.options["-c"]:
         for line in asked.options["-c"]:
             debugger.try_to(line)
-    elif sys.stdin.isatty():
+    elif sys.stdin is not None and sys.stdin.isatty():
         ask(debugger, progress)
         return 0
     else:
-        for line in sys.stdin:
+        for line in _given():
             if line.strip() and not debugger.ended:
                 debugger.try_to(line)
     debugger.do_where()

@@ -66,6 +66,9 @@ class Disc:
 
     def span(self, start: int, length: int, side: int = 0) -> bytes:
         """So many bytes from the first of a sector on."""
+        if not self.double:
+            first = self._place(start, side)
+            return self.image[first : first + length].ljust(length, b"\0")
         sectors = range(start, start + (length + SECTOR - 1) // SECTOR)
         return b"".join(self.sector(number, side) for number in sectors)[:length]
 

@@ -112,7 +112,7 @@ def _of_text(text: str, call: "Call", names: Dict[str, str]) -> List[str]:
     if kind == "script":
         return _of_script(read_file(names["--keys"], IMAGE_CAP), number)
     if kind == "trace":
-        return _of_trace(names["TRACE"], number, call.options.get("--speed", "3"))
+        return _of_trace(names["TRACE"], number, call.options.get("--speed", "3"), "--no-tube" in call.options)
     if kind == "source":
         return _of_source(read_file(names["SOURCE"], SOURCE_CAP), number, call.alone["PART"])
     return _of_state(read_file(names["STATE"], SESSION_CAP), number)
@@ -128,7 +128,7 @@ def _of_script(data: bytes, number: int) -> List[str]:
     return lines
 
 
-def _of_trace(name: str, number: int, speed: str) -> List[str]:
+def _of_trace(name: str, number: int, speed: str, no_tube: bool) -> List[str]:
     # The line and the one before it, without holding the whole.
     before, line, at = b"", b"", 0
     with open_file(name) as file:
@@ -147,6 +147,8 @@ def _of_trace(name: str, number: int, speed: str) -> List[str]:
     fault = _trace_fault(line, before, number)
     if fault is None and number == 1 and not fast and line.startswith(b"T2"):
         fault = "`T2` stands alone on its line"
+    if fault is None and number == 1 and no_tube:
+        fault = "with `--no-tube` a trace has no line"
     return lines + ([fault] if fault else [])
 
 

@@ -27,7 +27,7 @@ TEXT_CAP = 4194304
 # Of a picture, and of any output of the program: a listing of 1,048,576 lines is the longest.
 OUTPUT_CAP = 268435456
 
-BLOCK = 1 << 20
+BLOCK = 1 << 18
 
 # The mode of a new file: asked once, since asking changes it for a moment.
 _mask = os.umask(0)
@@ -79,6 +79,28 @@ def blocks_of(name: Name, most: Optional[int] = None) -> Iterator[bytes]:
                 if left < 0:
                     raise Fault("too long %s: it has more than %s bytes" % (os.fspath(name), "{:,}".format(most or 0)))
             yield block
+
+
+LONGEST = 4096  # bytes of a line of a listing or a trace
+
+
+def lines_of(name: Name, most: int = OUTPUT_CAP) -> Iterator[bytes]:
+    """The lines of a file without their ends, one after another; Fault where it has more than `most` bytes, or a line is too long."""
+    read = 0
+    with open_file(name) as file:
+        while True:
+            try:
+                line = file.readline(LONGEST)
+            except (OSError, ValueError):
+                raise Fault("cannot read %s" % os.fspath(name)) from None
+            if not line:
+                return
+            read += len(line)
+            if read > most:
+                raise Fault("too long %s: it has more than %s bytes" % (os.fspath(name), "{:,}".format(most)))
+            if len(line) == LONGEST:
+                raise Fault("%s has a line of %s bytes or more" % (os.fspath(name), "{:,}".format(LONGEST)))
+            yield line.rstrip(b"\r\n")
 
 
 class Sum:

@@ -1,12 +1,13 @@
 """Frames, the pixmaps that shots write, and pictures (PNG, and animated ones, APNG) of them."""
 from __future__ import annotations
 
+import os
 import struct
 import zlib
 from typing import Iterator, List, Optional, Sequence, Tuple
 
 from .faults import Fault
-from .files import Name, read_file
+from .files import Name, is_plain, open_file, read_file
 
 WIDTH, HEIGHT = 640, 256
 HEADER = b"P6\n640 256\n255\n"
@@ -93,6 +94,15 @@ def picture_of(frames: Sequence[Frame], delay: Optional[int] = None) -> bytes:
             parts.append(_part(b"fdAT", struct.pack(">I", order) + data))
             order += 1
     return SIGNATURE + b"".join(parts) + _part(b"IEND", b"")
+
+
+def look_at_place(name: Name) -> None:
+    """Fault where a file of another kind stands under the name of a picture that is to be written: the name came there by a mistake."""
+    if is_plain(name):
+        with open_file(name) as file:
+            begin = file.read(len(SIGNATURE))
+        if begin not in (b"", SIGNATURE):
+            raise Fault("%s is there, and is no picture: it is not written over" % os.fspath(name))
 
 
 # The parts of a picture, by their names; Fault where it ends inside one, or a part has another sum.

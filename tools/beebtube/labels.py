@@ -106,9 +106,11 @@ def _told(program: "Program", part: str, source: bytes, names: List[str], origin
         try:
             image = program.asm(part, text)
         except Refused as refused:
+            if not refused.text.startswith("bad source "):
+                raise
             # A label behind the last byte of memory may not be used: its line is told, and its address is 65,536.
             number = int(refused.text.split()[-1]) - 2 if before else int(refused.text.split()[-1]) - source.count(b"\n") - 2
-            if not refused.text.startswith("bad source ") or not 0 <= number < len(wanted):
+            if not 0 <= number < len(wanted):
                 raise
             told[wanted.pop(number)] = 65536
             continue

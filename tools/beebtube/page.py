@@ -6,6 +6,7 @@ policy lets it run the one script of `page.js` and use the one style of `page.cs
 from __future__ import annotations
 
 import base64
+import functools
 import hashlib
 import html
 import json
@@ -22,6 +23,7 @@ from .disc import LARGEST, SECTOR, TRACK, Catalogue, Disc, File
 from .faults import Fault
 from .files import IMAGE_CAP, OUTPUT_CAP, TRACE_CAP, Name, Sum, is_plain, own_folder, read_file, read_text, sum_of, write_beside
 from .frame import Frame
+from .manifest import HEAD
 from .program import Program, screen_of, version
 from .report import Registers, Report
 from .report import parse as parse_report
@@ -45,8 +47,10 @@ class Asked(NamedTuple):
     manifest  the text of `tools/manifest`, if there is one
     wav       the sound
     keys      the key script, and `discs` the images before the run, by their drives: where no manifest tells them
-    trace     how many accesses stand in the page at most
+    trace     how many accesses stand in the page at most; None where the trace is not read at all
     against   the name behind which another run's outputs stand, which are compared; None where there is none
+    title     what the run is called, where that is not `out`
+    sums      sums that are known, by the files' paths: these files are not read once more for them
     """
 
     out: str
@@ -54,8 +58,10 @@ class Asked(NamedTuple):
     wav: Optional[str]
     keys: Optional[str]
     discs: Dict[int, str]
-    trace: int
+    trace: Optional[int]
     against: Optional[str] = None
+    title: Optional[str] = None
+    sums: Dict[str, Sum] = {}
 
 
 def shown(text: str) -> str:
@@ -93,10 +99,11 @@ def small(data: bytes) -> str:
 class Manifest:
     """A manifest: its words, and what it says of each file. Fault where it is none."""
 
-    def __init__(self, name: str):
+    def __init__(self, name: str, sums: Dict[str, Sum]):
         lines = read_text(name).splitlines()
-        if lines[:1] != ["beebtube manifest 1"]:
+        if lines[:1] != [HEAD]:
             raise Fault("%s is no manifest" % name)
+        self.sums = sums
         self.name, self.lines = name, [line for line in lines[1:] if not line.startswith(("read ", "wrote "))]
         self.files: List[Tuple[str, str, str]] = []
         for line in lines:
@@ -123,7 +130,8 @@ class Manifest:
         place = self.place(name)
         if not is_plain(place) or os.path.getsize(place) > OUTPUT_CAP:
             return "not here"
-        return "the same here" if str(sum_of(place)) == wanted else "another here"
+        found = self.sums.get(place) or sum_of(place)
+        return "the same here" if str(found) == wanted else "another here"
 
     def read(self, option: str) -> Optional[str]:
         """The path of the file that an option named, where it is here with the manifest's sum; else None."""
@@ -146,7 +154,7 @@ class Page:
         self.sums: List[Tuple[str, Sum]] = []
         self.data: Dict[str, Any] = {}
         self.sections: List[Tuple[str, str, str]] = []
-        self.manifest = Manifest(asked.manifest) if asked.manifest is not None else None
+        self.manifest = Manifest(asked.manifest, asked.sums) if asked.manifest is not None else None
         if asked.manifest is not None:
             self.reads.append(asked.manifest)
         report = self._output("report", 4096)
@@ -169,12 +177,12 @@ class Page:
             return None
         data = read_file(name, most)
         self.reads.append(name)
-        self.sums.append((name, Sum([data])))
+        self.sums.append((name, self.asked.sums.get(name) or Sum([data])))
         return data
 
     def _columns(self) -> Optional[Columns]:
         name = self.asked.out + ".trace"
-        if not os.path.lexists(name):
+        if self.asked.trace is None or not os.path.lexists(name):
             return None
         self.reads.append(name)
         columns = columns_of(name)
@@ -210,7 +218,8 @@ class Page:
         self.add_words()
         self.sections.insert(0, self.sections.pop())
         self.data.update(second=self.second, ticks=self.report.ticks)
-        return _whole(os.path.basename(self.asked.out), self.sections, self.data)
+        title = self.asked.title if self.asked.title is not None else os.path.basename(self.asked.out)
+        return _whole(title, self.sections, self.data)
 
     def add_words(self) -> None:
         known = dict((name, kind) for kind, name, _ in self.manifest.files) if self.manifest is not None else {}
@@ -222,8 +231,9 @@ class Page:
                 rows.append([shown(name), kind, grouped(int(length)), element("code", digits), self.manifest.found(name, wanted)])
         else:
             parts.append("<p>The words of the run are not told: there is no manifest beside it.</p>")
+        places = {os.path.realpath(self.manifest.place(name)) for name in known} if self.manifest is not None else set()
         for name, found in self.sums:
-            if not any(self.manifest and os.path.realpath(self.manifest.place(it)) == os.path.realpath(name) for it in known):
+            if os.path.realpath(name) not in places:
                 rows.append([shown(name), "found", grouped(found.length), element("code", found.digits), "in no manifest" if self.manifest else "here"])
         parts.append(table(["File", "What", "Bytes", "Sum (SHA-256)", "Now"], rows, "Files of the run"))
         self.add("sums", "Words and sums", *parts)
@@ -287,6 +297,9 @@ class Page:
     # --- The Tube ---
 
     def add_tube(self) -> None:
+        if self.asked.trace is None:
+            self.add("tube", "Tube", "<p>The trace was not read for this page.</p>")
+            return
         if self.columns is None:
             self.add("tube", "Tube", "<p>The run wrote no trace.</p>")
             return
@@ -308,7 +321,7 @@ class Page:
 
     # Puts accesses into the page; tells which.
     def _put_accesses(self, columns: Columns) -> str:
-        number, most = len(columns.codes), self.asked.trace
+        number, most = len(columns.codes), self.asked.trace or 0
         if number <= most:
             spans = [(0, number)]
         else:
@@ -362,7 +375,7 @@ class Page:
             self.add("memories", "Memories", "<p>The run wrote no memory.</p>")
             return
         self.data["memories"] = memories
-        self.data["instructions"] = _instructions()
+        self.data["instructions"] = instructions()
         options = "".join(element("option", memory["name"], value=str(at)) for at, memory in enumerate(memories))
         self.add("memories", "Memories", element("ul", "\n".join(parts)), _VIEW % options)
 
@@ -510,6 +523,8 @@ def _side(disc: Disc, before: Optional[Disc], side: int, name: str) -> str:
 
 
 def _changed(disc: Disc, before: Disc, side: int) -> List[str]:
+    if disc.image == before.image:
+        return []
     tracks = max(len(disc.image), len(before.image)) // (SECTOR * TRACK * (2 if disc.double else 1)) + 1
     return ["%X" % at for at in range(TRACK * tracks) if disc.sector(at, side) != before.sector(at, side)]
 
@@ -544,7 +559,8 @@ def _presses(script: Script, ticks: int) -> List[Tuple[int, Optional[int], str]]
 # --- Instructions ---
 
 
-def _instructions() -> Dict[str, List[str]]:
+@functools.lru_cache(maxsize=None)
+def instructions() -> Dict[str, List[str]]:
     """What `beebtube dis` has for each opcode of each part: `LDA &{2},X`, `BNE &{r}`, with {1} a byte and {2} two behind the opcode;
     nothing where there is no program."""
     try:
@@ -582,13 +598,15 @@ def _forms(program: Program, part: str) -> List[str]:
 # --- The whole ---
 
 
-def _asset(name: str) -> Tuple[str, str]:
-    text = read_text(os.path.join(HERE, name))
+@functools.lru_cache(maxsize=None)
+def asset(*names: str) -> Tuple[str, str]:
+    """The texts of files of this folder, one behind the other, and their sum as a page's policy has it."""
+    text = "".join(read_text(os.path.join(HERE, name)) for name in names)
     return text, "'sha256-%s'" % base64.b64encode(hashlib.sha256(text.encode()).digest()).decode()
 
 
 def _whole(title: str, sections: List[Tuple[str, str, str]], data: Dict[str, Any]) -> bytes:
-    (style, style_sum), (script, script_sum) = _asset("page.css"), _asset("page.js")
+    (style, style_sum), (script, script_sum) = asset("page.css"), asset("page.js")
     policy = ("default-src 'none'; script-src %s; style-src %s; img-src data:; media-src blob:; base-uri 'none'; form-action 'none'"
               % (script_sum, style_sum))
     links = "".join(element("li", '<a href="#%s">%s</a>' % (mark, name)) for mark, name, _ in sections)

@@ -5,7 +5,7 @@
     past.machines["host"].following(1000, 3)           # the third instruction that starts behind tick 1,000
 
 A run is a function of what it reads, so each of these is had again by the program: `replay` gives the state of one side at a tick,
-and `follow` the starts of its instructions. What is made for that stands in a folder of its own, which goes away.
+and `follow --from` the starts of its instructions from a tick on. What is made for that stands in a folder of its own, which goes away.
 """
 from __future__ import annotations
 
@@ -16,13 +16,17 @@ import itertools
 import mmap
 import os
 import re
+import threading
 import weakref
 from collections import OrderedDict
-from typing import Callable, Dict, Iterator, List, NamedTuple, Optional, Sequence, Tuple, Union
+from typing import Callable, Dict, Iterator, List, NamedTuple, NoReturn, Optional, Sequence, Tuple, Union
 
 from .faults import Fault
-from .files import OUTPUT_CAP, SESSION_CAP, Name, own_folder, read_file
+from .beam import Beam, Position
+from .disc import is_double
+from .files import IMAGE_CAP, OUTPUT_CAP, SESSION_CAP, Name, own_folder, read_file
 from .frame import Frame
+from .naming import length_of
 from .program import Program
 from .report import Registers
 from .report import parse as parse_report
@@ -32,9 +36,21 @@ SIDES = ("host", "para")
 LETTERS = {"host": "H", "para": "P"}
 MOST_ACCESSES = 4194304
 MOST_LINES = 1048576
-FAR_STEPS = 1000  # behind the starts that can be listed each takes a part of a second
+# Ticks whose instructions are listed at once, around a moment and where many are gone through. An instruction has two ticks at least,
+# so that the starts of the longer one can all be listed.
+NEAR = 1 << 18
+FAR = 1 << 21
+# The same of the starts at one address, and of changes of one byte.
+SOME = 1 << 23
+WIDE = 1 << 27
+OVERLAP = 256  # a listing begins so many ticks before: whether a byte changed is told from the start before
+AT_ONCE = 200000000  # ticks that are gone through without being asked, to tell where the beam is
+MANY = 200000  # so many instructions are not gone through, but counted
 RETURN = re.compile(rb" S=.. P=.. RT[SI]\n")
 LINE = 20  # bytes of a line of a trace
+# A store by absolute address, with or without an index, into FE00 to FE07 or FE20 to FE2F, or to there by an index below 20 more.
+STORE = re.compile(rb"(?s)[\x8c-\x8e\x99\x9d](?=[\x00-\x07\x20-\x2f]\xfe)")
+STORED = re.compile(r"ST[AXY] &FE[02]")
 START = re.compile(rb"([0-9A-F]{10}) ([0-9A-F]{4}) A=(..) X=(..) Y=(..) S=(..) P=(..) ([^\n]*)\n")
 LISTED = re.compile(rb"listed ([0-9]+) of ([0-9]+)\n")
 
@@ -58,18 +74,20 @@ class State(NamedTuple):
 class Listing:
     """What `follow` listed: lines in a file, found by their ticks.
 
-    total     how many starts there are; the file has the first 1,048,576 of them
-    ticks     below which tick they are
+    low      from which tick on they are
+    covers   below this tick all starts from `low` on are listed
+    first    the place of the first of them; `size` is the end
     """
 
-    def __init__(self, side: str, path: str, total: int, ticks: int, most: int):
-        self.side, self.path, self.total, self.ticks = side, path, total, ticks
-        self.whole = total <= most
+    def __init__(self, side: str, path: str, total: int, low: int, high: int):
+        self.side, self.path, self.low = side, path, low
         self._data: Union[bytes, mmap.mmap] = b""
         if os.path.getsize(path):
             with open(path, "rb") as file:
                 self._data = mmap.mmap(file.fileno(), 0, access=mmap.ACCESS_READ)
         self.size = len(self._data)
+        self.covers = high if total <= MOST_LINES else self.tick_at(self._data.rfind(b"\n", 0, self.size - 1) + 1) + 1
+        self.first = self.place_of(low)
 
     def close(self) -> None:
         """Removes the file."""
@@ -83,13 +101,6 @@ class Listing:
         """The tick of the line that begins there."""
         return int(self._data[place : place + 10], 16)
 
-    @property
-    def covers(self) -> int:
-        """Below this tick all starts are listed."""
-        if self.whole:
-            return self.ticks
-        return self.tick_at(self.before(self.size, 1)) + 1 if self.size else 0
-
     def place_of(self, tick: int) -> int:
         """Where the first line of this tick or a later one begins; the end where there is none."""
         low, high = 0, self.size
@@ -102,20 +113,20 @@ class Listing:
         return low
 
     def behind(self, place: int, count: int) -> Tuple[int, int]:
-        """The place `count` lines on, and how many of them there were."""
+        """The place `count` lines on, and how many of them there were: fewer where the listing ends before."""
         for done in range(count):
             if place >= self.size:
                 return self.size, done
             place = self._data.find(b"\n", place) + 1
         return place, count
 
-    def before(self, place: int, count: int) -> int:
-        """The place `count` lines before, or -1 where there are not as many."""
-        for _ in range(count):
-            if place <= 0:
-                return -1
+    def before(self, place: int, count: int) -> Tuple[int, int]:
+        """The place `count` lines before, and how many of them there were: fewer where the listing begins behind it."""
+        for done in range(count):
+            if place <= self.first:
+                return self.first, done
             place = self._data.rfind(b"\n", 0, place - 1) + 1
-        return place
+        return place, count
 
     def start(self, place: int) -> Start:
         """The start of the line that begins there."""
@@ -124,11 +135,15 @@ class Listing:
             raise Fault("a listing has a line outside its form")
         return _start_of(self.side, match)
 
-    def found(self, form: "re.Pattern[bytes]", place: int) -> Iterator[Tuple[int, Start]]:
-        """Each line from there on in which the form is found, and where it ends."""
+    def starts(self, place: int) -> Iterator[Start]:
+        """Each start from there on."""
+        for match in START.finditer(self._data, place):
+            yield _start_of(self.side, match)
+
+    def found(self, form: "re.Pattern[bytes]", place: int) -> Iterator[Start]:
+        """Each start from there on in whose line the form is found."""
         for match in form.finditer(self._data, place):
-            begin = self._data.rfind(b"\n", 0, match.start()) + 1
-            yield self._data.find(b"\n", begin) + 1, self.start(begin)
+            yield self.start(self._data.rfind(b"\n", 0, match.start()) + 1)
 
 
 def _start_of(side: str, match: "re.Match[bytes]") -> Start:
@@ -136,30 +151,59 @@ def _start_of(side: str, match: "re.Match[bytes]") -> Start:
     return Start(side, tick, Registers(pc, a, x, y, s, p, False), match.group(8).decode("ascii"))
 
 
-class Fields:
-    """What a session file holds, as docs/COMMANDS.md has its form. Fault where it is none.
+class Inputs:
+    """What a run reads.
 
-    speed, tick, plugs   the clock in MHz, the tick at which it was saved, how many devices are plugged
+    speed, tick, plugs   the clock in MHz, the tick up to which it goes, how many devices are plugged
     images               os, tube, rom0 .. rom15, font, disc0, disc1, keys: the bytes of each that is there
     double               the drives whose disc is a DSD
-    accesses             how many accesses to the Tube it has
+    """
+
+    def __init__(self) -> None:
+        self.speed, self.tick, self.plugs = 3, 0, 0
+        self.images: Dict[str, bytes] = {}
+        self.double: List[str] = []
+
+    @staticmethod
+    def of_host(call: Call) -> "Inputs":
+        """Those of the words of `replay host`."""
+        made = Inputs()
+        made.speed, made.tick, made.plugs = int(call.options.get("--speed", "3")), int(call.alone["TICKS"]), int(call.options.get("--plugs", "0"))
+        for option, name in call.reads():
+            if option.startswith("--"):
+                made.images[option[2:]] = read_file(name, IMAGE_CAP)
+                if option.startswith("--disc") and is_double(name):
+                    made.double.append(option[2:])
+        return made
+
+
+class Fields(Inputs):
+    """What a session file holds, as docs/COMMANDS.md has its form. Fault where it is none.
+
+    tick      the tick at which it was saved
+    accesses  how many accesses to the Tube it has
     """
 
     def __init__(self, data: bytes):
+        super().__init__()
         self._data, self._at = data, 0
         if self._take(5) != b"BTUB\x01":
             raise Fault("it is no session file: one begins with the letters BTUB and a byte 01")
         self.speed, self.tick, self.plugs = self._take(1)[0], self._number(4), self._take(1)[0]
-        self.images: Dict[str, bytes] = {}
-        self.double: List[str] = []
         for name in ("os", "tube") + tuple("rom%d" % slot for slot in range(16)) + ("font", "disc0", "disc1", "keys"):
-            length = self._number(4)
+            begin, length = self._at, self._number(4)
             if length == 0xFFFFFFFF:
                 continue
             if name.startswith("disc") and self._take(1) == b"\x01":
                 self.double.append(name)
             self.images[name] = self._take(length)
+        self._keys = (begin, self._at)
         self.accesses = self._number(4)
+
+    def with_keys(self, script: bytes) -> bytes:
+        """The session file with another key script."""
+        begin, end = self._keys
+        return self._data[:begin] + len(script).to_bytes(4, "big") + script + self._data[end:]
 
     def _take(self, length: int) -> bytes:
         self._at += length
@@ -174,60 +218,78 @@ class Fields:
 class Past:
     """A run with all its moments.
 
+    sides    the machines that it has: "host" and "para", or the host alone, without a Tube
     end      the last tick that can be reached
-    asked    the tick to which the words went
+    held     the tick up to which the accesses to the Tube are at hand: behind it states can be told, and no instructions
     second   ticks of a second
     trace    the accesses to the Tube, lines of 20 bytes
     """
 
-    def __init__(self, program: Program, session: bytes, name: str = "the session", progress: Optional[Callable[[str], None]] = None,
-                 trace: Optional[bytes] = None):
+    def __init__(self, program: Program, inputs: Inputs, name: str, progress: Optional[Callable[[str], None]] = None,
+                 trace: bytes = b"", end: Optional[int] = None):
         stack = contextlib.ExitStack()
         self.folder: str = stack.enter_context(own_folder())
         self._close = weakref.finalize(self, stack.close)
-        self.program, self.name = program, name
+        self.program, self.inputs, self.name = program, inputs, name
         self.progress = progress or (lambda _: None)
-        fields = Fields(session)
-        self.fields, self.end, self.asked = fields, fields.tick, fields.tick
-        self.speed = fields.speed
-        self.second = 12000000 if fields.speed == 4 else 6000000
+        self.sides: Tuple[str, ...] = SIDES if "tube" in inputs.images else ("host",)
+        self.held = inputs.tick
+        self.end = self.held if end is None else end
+        self.speed = inputs.speed
+        self.second = 12000000 if inputs.speed == 4 else 6000000
         self._numbers = itertools.count()
-        for image, data in fields.images.items():
-            self._put(image + (".dsd" if image in fields.double else ""), data)
-        script = fields.images.get("keys", b"").splitlines(keepends=True)
+        for image, data in inputs.images.items():
+            self._put(image + (".dsd" if image in inputs.double else ""), data)
+        script = inputs.images.get("keys", b"").splitlines(keepends=True)
         self.script = [line for line in script if not line.rstrip().endswith(b" shot")]
         self._put("keys", b"".join(self.script))
-        self._put("session", session)
-        if trace is None:
-            # The program itself brings both machines to the last moment, so that a session that is damaged is refused here.
-            self.program.done(["resume", "session", str(self.end), "whole", "--keep", str(MOST_ACCESSES)], self.folder)
-            trace = read_file(os.path.join(self.folder, "whole.trace"), OUTPUT_CAP)
         self.head, self.trace = (trace[:3], trace[3:]) if trace.startswith(b"T2\n") else (b"", trace)
         self._cut: Dict[int, str] = {}
+        self._beyond: "OrderedDict[int, Dict[str, State]]" = OrderedDict()
         self.pool = concurrent.futures.ThreadPoolExecutor(4)
-        self.machines = {side: Machine(self, side) for side in SIDES}
+        self.machines = {side: Machine(self, side) for side in self.sides}
 
     @staticmethod
     def of_words(program: Program, words: Sequence[str], progress: Optional[Callable[[str], None]] = None) -> "Past":
-        """The past of a run that the words of `run` or `solo` tell; what they say of outputs is left aside. Refused as the program
-        refuses them."""
+        """The past of a run that the words of `run` or `solo` tell, or behind `host` those of a host alone; what they say of outputs is
+        left aside. Refused as the program refuses them."""
+        if words[:1] == ["host"]:
+            return Past._of_host(program, list(words[1:]), progress)
         call = Call(list(words))
         if call.command not in ("run", "solo"):
-            raise WrongWord("%s: a debugger begins with the words of `run` or `solo`, or with a session file" % call.command)
+            raise WrongWord("%s: a debugger begins with the words of `run` or `solo`, with `host`, or with a session file" % call.command)
         with own_folder() as folder:
             kept = [word for option, value in call.options.items() if option not in ("--keep", "--wav", "--save")
                     for word in (option, value)]
             place = os.path.join(folder, "out")
             program.done([call.command, call.alone["TICKS"], place, "--save", place + ".session", "--keep", str(MOST_ACCESSES)] + kept)
             session, trace = read_file(place + ".session", SESSION_CAP), read_file(place + ".trace", OUTPUT_CAP)
-        past = Past(program, session, " ".join(words), progress, trace)
-        past.asked = int(call.alone["TICKS"])
+        return Past(program, Fields(session), " ".join(words), progress, trace, int(call.alone["TICKS"]))
+
+    @staticmethod
+    def _of_host(program: Program, words: List[str], progress: Optional[Callable[[str], None]]) -> "Past":
+        call = Call(["replay", "host", os.devnull] + [word for word in words if word != "--no-tube"])
+        past = Past(program, Inputs.of_host(call), " ".join(["host"] + words), progress)
+        past.machines["host"].state(past.end)
         return past
 
     @staticmethod
     def of_session(program: Program, name: Name, progress: Optional[Callable[[str], None]] = None) -> "Past":
-        """The past of a saved session."""
-        return Past(program, read_file(name, SESSION_CAP), os.fspath(name), progress)
+        """The past of a saved session. The program itself brings both machines to its last moment, so that one that is damaged is
+        refused here."""
+        session = read_file(name, SESSION_CAP)
+        fields = Fields(session)
+        with own_folder() as folder:
+            with open(os.path.join(folder, "session"), "wb") as file:
+                file.write(session)
+            program.done(["resume", "session", str(fields.tick), "whole", "--keep", str(MOST_ACCESSES)], folder)
+            trace = read_file(os.path.join(folder, "whole.trace"), OUTPUT_CAP)
+        return Past(program, fields, os.fspath(name), progress, trace)
+
+    @property
+    def has_tube(self) -> bool:
+        """There is a second processor; else the host is alone."""
+        return len(self.sides) > 1
 
     def close(self) -> None:
         """Removes the folder."""
@@ -296,40 +358,91 @@ class Past:
         words = ["--speed", str(self.speed)]
         if side == "para":
             return words + ["--tube", "tube"]
-        for image in self.fields.images:
+        for image in self.inputs.images:
             if image not in ("tube", "keys"):
-                words += ["--" + image, image + (".dsd" if image in self.fields.double else "")]
-        return words + ["--plugs", str(self.fields.plugs), "--keys", keys]
+                words += ["--" + image, image + (".dsd" if image in self.inputs.double else "")]
+        return words + ["--plugs", str(self.inputs.plugs), "--keys", keys] + ["--no-tube"] * (not self.has_tube)
 
     def frame(self, ticks: int) -> Frame:
         """What was on the screen: the last frame that was finished before a tick, a black one where there was none."""
         if ticks < 1:
             raise Fault("there is no frame before the first tick")
         below = [line for line in self.script if int(line.split()[1]) < ticks]
-        keys, out = self.fresh("keys"), self.fresh("frame")
-        self._put(keys, b"".join(below) + b"at %d shot\n" % (ticks - 1))
-        self.program.done(["replay", "host", self.cut(ticks), str(ticks), out] + self.options("host", keys), self.folder)
+        script, out = b"".join(below) + b"at %d shot\n" % (ticks - 1), self.fresh("frame")
+        if ticks > self.held:
+            self._resume(ticks, out, script)
+        else:
+            keys = self.fresh("keys")
+            self._put(keys, script)
+            self.program.done(["replay", "host", self.cut(ticks), str(ticks), out] + self.options("host", keys), self.folder)
         return Frame.read(os.path.join(self.folder, out + ".000.ppm"))
 
     def states(self, tick: int) -> Dict[str, State]:
-        """Both sides at a tick."""
+        """All sides at a tick."""
+        if tick > self.held:
+            return self.beyond(tick)
         self.cut(tick)
-        return dict(zip(SIDES, self.pool.map(lambda side: self.machines[side].state(tick), SIDES)))
+        return dict(zip(self.sides, self.pool.map(lambda side: self.machines[side].state(tick), self.sides)))
+
+    def beyond(self, tick: int) -> Dict[str, State]:
+        """Both sides at a tick behind those whose accesses are at hand: the run goes on from there to the tick."""
+        if tick not in self._beyond:
+            out = self.fresh("beyond")
+            self._resume(tick, out, b"".join(self.script))
+            place = os.path.join(self.folder, out)
+            report = parse_report(read_file(place + ".report"))
+            if report.host is None or report.para is None:
+                raise Fault("a report without registers")
+            self._beyond[tick] = {side: State(registers, read_file("%s.%s" % (place, side)))
+                                  for side, registers in (("host", report.host), ("para", report.para))}
+            self._remove(out)
+            while len(self._beyond) > 16:
+                self._beyond.popitem(last=False)
+        return self._beyond[tick]
+
+    def _resume(self, tick: int, out: str, script: bytes) -> None:
+        session = self.fresh("session")
+        assert isinstance(self.inputs, Fields)
+        self._put(session, self.inputs.with_keys(script))
+        self.progress("from tick %d to %d" % (self.held, tick))
+        self.program.done(["resume", session, str(tick), out, "--keep", "0"], self.folder)
+        os.unlink(os.path.join(self.folder, session))
+
+    def _remove(self, out: str) -> None:
+        for ending in ("report", "host", "para", "d0", "d1", "trace") + tuple("plug%d" % number for number in range(8)):
+            with contextlib.suppress(OSError):
+                os.unlink(os.path.join(self.folder, "%s.%s" % (out, ending)))
+
+    # --- The beam ---
+
+    def position(self, tick: int, at_once: bool = False) -> Optional[Position]:
+        """Where the beam is once all ticks below this one are done, by what was written to the 6845 and the video ULA. With `at_once`
+        None where the run would have to be gone through for longer than a person waits."""
+        if tick > self.held:
+            raise Fault("where the beam is cannot be told behind tick %d" % self.held)
+        machine = self.machines["host"]
+        addresses = machine.storing(tick)
+        if at_once and self.held * sum(not machine.knows(address) for address in addresses) > AT_ONCE:
+            return None
+        found = machine.stores_at(addresses)
+        beam = Beam(self.second // 1000000)
+        for start in found:
+            if start.tick >= tick:
+                break
+            beam.store(start)
+        return beam.at(tick)
 
 
 class Machine:
     """One side of a run. A machine stands before the first instruction that is not done: between two starts its registers are those
     of the start before."""
 
-    most = MOST_LINES
-
     def __init__(self, past: Past, side: str):
         self.past, self.side = past, side
-        cycle = 3 if side == "host" else 2
-        self.cycle = cycle if past.speed == 3 else {"host": 6, "para": 3}[side]
         self._states: "OrderedDict[int, State]" = OrderedDict()
-        self._lists: "OrderedDict[Tuple[str, int], Listing]" = OrderedDict()
-        self._all: Optional[Listing] = None
+        self._lists: List[Tuple[Tuple[str, ...], Listing]] = []  # the one that was used last comes last
+        self._stores: Dict[int, List[Start]] = {}
+        self._lock = threading.Lock()
 
     # --- States ---
 
@@ -337,7 +450,10 @@ class Machine:
         """Registers and memory once all ticks below this one are done."""
         if tick in self._states:
             return self._states[tick]
-        past, out = self.past, self.past.fresh("state")
+        past = self.past
+        if tick > past.held:
+            return past.beyond(tick)[self.side]
+        out = past.fresh("state")
         words = ["replay", self.side, past.cut(tick), str(tick), out] + past.options(self.side)
         past.program.done(words, past.folder)
         place = os.path.join(past.folder, out)
@@ -346,9 +462,7 @@ class Machine:
         if registers is None:
             raise Fault("a report without registers")
         found = State(registers, read_file("%s.%s" % (place, self.side)))
-        for ending in ("report", self.side, "d0", "d1") + tuple("plug%d" % number for number in range(8)):
-            with contextlib.suppress(OSError):
-                os.unlink("%s.%s" % (place, ending))
+        past._remove(out)
         self._states[tick] = found
         while len(self._states) > 64:
             self._states.popitem(last=False)
@@ -362,135 +476,108 @@ class Machine:
 
     # --- Listings ---
 
-    def _follow(self, ticks: int, extra: List[str], keep: bool = True) -> Tuple[str, int]:
+    # The file of a listing from a tick on, below another, and how many starts there are.
+    def _follow(self, low: int, high: int, extra: Sequence[str], keep: bool = True) -> Tuple[str, int]:
         past, out = self.past, self.past.fresh("list")
         place = os.path.join(past.folder, out + ".list")
         if not keep:
             os.symlink(os.devnull, place)
-        words = ["follow", self.side, past.cut(ticks), str(ticks), out] + past.options(self.side) + extra
-        match = LISTED.fullmatch(past.program.done(words, past.folder).out)
+        words = ["follow", self.side, past.cut(high), str(high), out] + past.options(self.side) + list(extra)
+        match = LISTED.fullmatch(past.program.done(words + (["--from", str(low)] if low else []), past.folder).out)
         if not match:
             raise Fault("`follow` did not tell how many it listed")
         return place, int(match.group(2))
 
-    def listing(self, kind: str, address: int) -> Listing:
-        """All starts "at" an address, or those in front of which the byte there changed, "watch"."""
-        key = (kind, address)
-        if key not in self._lists:
-            path, total = self._follow(self.past.end, ["--" + kind, "%04X" % address])
-            self._lists[key] = Listing(self.side, path, total, self.past.end, MOST_LINES)
-            while len(self._lists) > 24:
-                self._lists.popitem(last=False)[1].close()
-        self._lists.move_to_end(key)
-        return self._lists[key]
+    def _count(self, low: int, high: int) -> int:
+        self.past.progress("tick %d" % low)
+        return self._follow(low, high, (), keep=False)[1]
 
-    # All starts below a tick or more of them, as far as they can be listed.
-    def _starts(self, tick: int) -> Listing:
-        end = self.past.end
-        if self._all is not None and (self._all.ticks >= min(tick, end) or not self._all.whole):
-            return self._all
-        ticks = min(end, max(tick, 1000000 if self._all is None else 2 * self._all.ticks))
-        if self._all is not None:
-            self._all.close()
-        path, total = self._follow(ticks, [])
-        self._all = Listing(self.side, path, total, ticks, self.most)
-        if not self._all.whole and self.most < MOST_LINES:
-            self._all.size = self._all.behind(0, self.most)[0]
-        return self._all
+    def listing_count(self, kind: str, address: int) -> int:
+        """How many starts there are "at" an address, or in front of which the byte there changed, "watch"."""
+        return self._follow(0, self.past.held, ["--" + kind, "%04X" % address], keep=False)[1]
+
+    # A listing that has all starts of its kind at a tick and behind it, or at it and before it: of so many ticks, where there is none yet.
+    def _around(self, extra: Tuple[str, ...], tick: int, ticks: int, backwards: bool = False) -> Listing:
+        with self._lock:
+            for place in range(len(self._lists) - 1, -1, -1):
+                kind, listing = self._lists[place]
+                if kind == extra and listing.low <= tick < listing.covers:
+                    self._lists.append(self._lists.pop(place))
+                    return listing
+        low, high = (ticks, NEAR // 2) if backwards else (NEAR // 2, ticks)
+        low, high = max(0, tick - low), min(self.past.held, tick + high)
+        while True:
+            self.past.progress("tick %d" % low)
+            path, total = self._follow(max(0, low - OVERLAP), high, extra)
+            listing = Listing(self.side, path, total, low, high)
+            with self._lock:
+                self._lists.append((extra, listing))
+                old = self._lists[:-32]
+                self._lists = self._lists[-32:]
+            for _, one in old:
+                one.close()
+            if tick < listing.covers:
+                return listing
+            low = listing.covers
+
+    def _outside(self) -> NoReturn:
+        past = self.past
+        raise Fault("the session holds the accesses to the Tube up to tick {}: behind it instructions cannot be told, but `go`, `where`, "
+                    "`memory`, `stack`, `screen` and `frame` tell what is there".format(past.held))
+
+    # Nothing was found up to the last tick whose instructions can be told.
+    def _nothing(self) -> None:
+        if self.past.held < self.past.end:
+            self._outside()
 
     # --- Forwards and backwards ---
 
     def following(self, tick: int, count: int = 1) -> Optional[Start]:
         """The instruction whose start is the `count`th behind a tick; None where the run ends before it."""
-        listing = self._starts(min(self.past.end, tick + 24 * self.cycle * min(count, MOST_LINES)))
-        while True:
-            place, found = listing.behind(listing.place_of(tick + 1), count - 1)
+        low, left = tick + 1, count
+        while low < self.past.held:
+            if left > MANY:
+                low, left = self._counted(low, left, 1)
+                continue
+            listing = self._around((), low, FAR if left > 4096 else NEAR)
+            place, found = listing.behind(listing.place_of(low), left - 1)
             if place < listing.size:
                 return listing.start(place)
-            if not listing.whole:
-                break
-            if listing.ticks >= self.past.end:
-                return None
-            listing = self._starts(listing.ticks + 1)
-        left, at = count - found, max(tick, listing.covers - 1)
-        start: Optional[Start] = None
-        for number in range(left):
-            if number % 8 == 7:
-                self.past.progress("%d of %d" % (found + number + 1, count))
-            start = self._far_following(at)
-            if start is None:
-                return None
-            at = start.tick
-        return start
+            low, left = listing.covers, left - found
+        self._nothing()
+        return None
 
     def preceding(self, tick: int, count: int = 1) -> Optional[Start]:
         """The instruction whose start is the `count`th before a tick; None where there are not as many."""
-        listing = self._starts(tick)
-        at, left = tick, count
-        while left and not listing.whole and at > listing.covers:
-            start = self._far_preceding(at)
-            if start is None:
-                return None
-            at, left = start.tick, left - 1
-            if left == 0:
-                return start
-            if left % 8 == 0:
-                self.past.progress("%d of %d" % (count - left, count))
-        place = listing.before(listing.place_of(at), left)
-        return listing.start(place) if place >= 0 else None
+        if tick > self.past.held + 1:
+            self._outside()
+        high, left = min(tick, self.past.held), count
+        while high > 0:
+            if left > MANY:
+                high, left = self._counted(high, left, -1)
+                continue
+            listing = self._around((), high - 1, FAR if left > 4096 else NEAR, backwards=True)
+            place, found = listing.before(listing.place_of(high), left)
+            if found == left:
+                return listing.start(place)
+            high, left = listing.low, left - found
+        return None
+
+    # A tick that many instructions behind or before another, but not all of them; and how many are left from there.
+    def _counted(self, tick: int, count: int, way: int) -> Tuple[int, int]:
+        last, each = (self.past.held if way > 0 else 0), 12.0
+        while count > MANY and tick != last:
+            far = tick + way * max(1, int(0.98 * each * count))
+            far = min(far, last) if way > 0 else max(far, last)
+            found = self._count(min(tick, far), max(tick, far))
+            each = abs(far - tick) / max(1, found)
+            if found < count:
+                tick, count = far, count - found
+        return tick, count
 
     def current(self, tick: int) -> Optional[Start]:
         """The instruction in whose midst or before whose first cycle the machine stands; None before the first one."""
         return self.preceding(tick + 1)
-
-    # Behind the starts that can be listed: where the registers become others an instruction has ended, and the next starts there but
-    # where an interrupt or a reset comes first. Where they stay as they are (an instruction that jumps to itself, a processor that is
-    # halted or held) the starts are counted.
-    def _far_following(self, tick: int) -> Optional[Start]:
-        here, at = self.state(tick).registers, tick
-        first = 1
-        while first < 17:
-            ticks = [at + self.cycle * (first + k) for k in range(4) if at + self.cycle * (first + k) < self.past.end]
-            first += 4
-            for place, state in zip(ticks, self.states_at(ticks)):
-                if state.registers != here:
-                    at, here, first = place - place % self.cycle, state.registers, 1
-                    if self._begins(at, here.pc):
-                        return self._start_at(at, here)
-                    break
-            if first > 1 and len(ticks) < 4:
-                return None
-        return self._far_of([], tick, 1)
-
-    def _far_preceding(self, tick: int) -> Optional[Start]:
-        if tick <= 0:
-            return None
-        inside = self.state(tick - 1).registers
-        last, far = (tick - 1) // self.cycle * self.cycle, 0
-        while far < 16:
-            ticks = [at for at in (last - self.cycle * (far + k + 1) for k in range(4)) if at >= 0]
-            far += 4
-            for at, state in zip(ticks, self.states_at(ticks)):
-                if state.registers != inside:
-                    if self._begins(at + self.cycle, inside.pc):
-                        return self._start_at(at + self.cycle, inside)
-                    last, far, inside = at, 0, state.registers
-                    break
-        return self._far_of([], tick, -1)
-
-    # An instruction at this address starts at this tick.
-    def _begins(self, tick: int, address: int) -> bool:
-        listing = self.listing("at", address)
-        if tick < listing.covers:
-            place = listing.place_of(tick)
-            return place < listing.size and listing.tick_at(place) == tick
-        self.past.cut(tick + 1)
-        extra = ["--at", "%04X" % address]
-        one, other = self.past.pool.map(lambda ticks: self._follow(ticks, extra, keep=False)[1], (tick, tick + 1))
-        return one != other
-
-    def _start_at(self, tick: int, registers: Registers) -> Start:
-        return Start(self.side, tick, registers, self.text_at(tick, registers.pc))
 
     # --- Starts at an address, and changes of a byte ---
 
@@ -499,84 +586,72 @@ class Machine:
 
         stack  only a start with this stack pointer, where it is said
         """
-        listing = self.listing(kind, address)
-        place = listing.place_of(tick + 1)
-        while place < listing.size:
-            start = listing.start(place)
-            if stack is None or start.registers.s == stack:
-                return start
-            place = listing.behind(place, 1)[0]
-        if listing.whole:
-            return None
-        if stack is not None:
-            raise Fault("%04X is reached more than %s times, and this is behind them" % (address, "{:,}".format(MOST_LINES)))
-        return self._far_of(["--" + kind, "%04X" % address], tick, 1)
+        extra, low, ticks = ("--" + kind, "%04X" % address), tick + 1, SOME
+        while low < self.past.held:
+            listing = self._around(extra, low, ticks)
+            for start in listing.starts(listing.place_of(low)):
+                if stack is None or start.registers.s == stack:
+                    return start
+            low, ticks = listing.covers, WIDE
+        self._nothing()
+        return None
 
     def last_of(self, kind: str, address: int, tick: int) -> Optional[Start]:
         """The last such start below a tick."""
-        listing = self.listing(kind, address)
-        if tick > listing.covers:
-            return self._far_of(["--" + kind, "%04X" % address], tick, -1)
-        place = listing.before(listing.place_of(tick), 1)
-        return listing.start(place) if place >= 0 else None
+        if tick > self.past.held + 1:
+            self._outside()
+        extra, high, ticks = ("--" + kind, "%04X" % address), min(tick, self.past.held), SOME
+        while high > 0:
+            listing = self._around(extra, high - 1, ticks, backwards=True)
+            place, found = listing.before(listing.place_of(high), 1)
+            if found:
+                return listing.start(place)
+            high, ticks = listing.low, WIDE
+        return None
 
-    # More starts than can be listed: they are counted below ticks, and the tick at which the count grows is found by halves.
-    def _far_of(self, extra: List[str], tick: int, way: int) -> Optional[Start]:
-        def count(ticks: int) -> int:
-            self.past.progress("tick %d" % ticks)
-            return self._follow(ticks, extra, keep=False)[1]
-        end = self.past.end
-        far, here = 16 * self.cycle, count(tick + (way > 0))
-        if way > 0:
-            low, high = tick + 1, min(end, tick + far)
-            if low >= high:
-                return None
-            while count(high) == here:
-                if high == end:
-                    return None
-                low, far = high, 4 * far
-                high = min(end, high + far)
-            wanted = here
-        else:
-            low, high = max(0, tick - far), tick
-            while count(low) == here:
-                if low == 0:
-                    return None
-                high, far = low, 4 * far
-                low = max(0, low - far)
-            wanted = here - 1
-        # The least tick below which there are more than `wanted` starts is one behind the start.
-        while high - low > 1:
-            middle = (low + high) // 2
-            low, high = (low, middle) if count(middle) > wanted else (middle, high)
-        return self._start_at(high - 1, self.state(high - 1).registers)
+    def every(self, address: int, high: int) -> List[Start]:
+        """All starts at an address below a tick."""
+        extra, low, found = ("--at", "%04X" % address), 0, []
+        while low < high:
+            listing = self._around(extra, low, WIDE)
+            found += [start for start in listing.starts(listing.place_of(low)) if start.tick < high]
+            low = listing.covers
+        return found
 
     def leaving(self, tick: int, stack: int) -> Optional[Start]:
         """The first start behind an RTS or RTI that takes its address from `stack` or above: there the subroutine has come back."""
-        place = None
-        while True:
-            listing = self._starts(tick + 1)
-            if place is None or listing.size < place:
-                place = listing.place_of(tick)
-            for end, start in listing.found(RETURN, place):
+        low, ticks = tick, NEAR
+        while low < self.past.held:
+            if low > tick + SOME:
+                raise Fault("the subroutine does not come back within {:,} ticks: `until` goes further".format(SOME))
+            listing = self._around((), low, ticks)
+            for start in listing.found(RETURN, listing.place_of(low)):
                 if start.registers.s >= stack:
-                    return listing.start(end) if end < listing.size else self.following(start.tick)
-            if not listing.whole:
-                return self._far_leaving(max(tick, listing.covers - 1), stack)
-            if listing.ticks >= self.past.end:
-                return None
-            place, tick = listing.size, listing.ticks + 1
+                    return self.following(start.tick)
+            low, ticks = listing.covers, FAR
+        self._nothing()
+        return None
 
-    def _far_leaving(self, tick: int, stack: int) -> Optional[Start]:
-        start = self.current(tick)
-        for number in range(FAR_STEPS):
-            if start is None:
-                return None
-            if start.text in ("RTS", "RTI") and start.registers.s >= stack and start.tick >= tick:
-                return self._far_following(start.tick)
-            self.past.progress("%d instructions" % number)
-            start = self._far_following(start.tick)
-        raise Fault("the subroutine does not come back within %d instructions: `until` goes further" % FAR_STEPS)
+    # --- Stores to the 6845 and the video ULA ---
+
+    def storing(self, tick: int) -> List[int]:
+        """Where instructions stand that may store to the 6845 or the video ULA, by their bytes: in a ROM, or in memory at this tick."""
+        images, memory = self.past.inputs.images, self.state(tick).memory
+        places = [(0xC000, images["os"]), (0, memory)]
+        places += [(0x8000, (data * 2)[:16384]) for name, data in images.items() if name.startswith("rom")]
+        return sorted({origin + match.start() for origin, data in places for match in STORE.finditer(data)})
+
+    def knows(self, address: int) -> bool:
+        """The stores at an address were looked for."""
+        return address in self._stores
+
+    def stores_at(self, addresses: Sequence[int]) -> List[Start]:
+        """The starts at these addresses that store to the 6845 or the video ULA, in their order."""
+        self.past.cut(self.past.held)
+        wanted = [address for address in addresses if address not in self._stores]
+        for address, starts in zip(wanted, self.past.pool.map(lambda one: self.every(one, self.past.held), wanted)):
+            self._stores[address] = [start for start in starts if STORED.match(start.text)]
+        return sorted(start for address in addresses for start in self._stores[address])
 
     # --- Instructions ---
 
@@ -584,7 +659,7 @@ class Machine:
         """What the processor would read: memory, or the ROM that stands there. Of paged ROMs that of the slot which 00F4 tells, where
         the operating system keeps its number; Fault where there is none, and where devices are."""
         memory = self.state(tick).memory
-        images = self.past.fields.images
+        images = self.past.inputs.images
         if self.side == "para":
             if self._is_booting(tick):
                 memory = memory[:0xF800] + images["tube"]
@@ -628,18 +703,6 @@ class Machine:
         return told
 
 
-def length_of(text: str) -> int:
-    """How many bytes an instruction's text has."""
-    word, _, operand = text.strip().partition(" ")
-    if word.lower() == "byte":
-        return operand.count(",") + 1
-    if not operand or operand == "A":
-        return 1
-    if re.fullmatch(r"B(?!IT)[A-Z]{2}", word) or operand.startswith("#"):
-        return 2
-    return 3 if re.search(r"&[0-9A-F]{4}", operand) else 2
-
-
 class Parting(NamedTuple):
     """Where two runs part: the last tick at which all is the same, and the sides that are others behind it."""
 
@@ -654,11 +717,12 @@ def parting(one: Past, other: Past) -> Optional[Parting]:
     memory that was another for a while before that, and no more where it was looked at, is not seen.
     """
     end = min(one.end, other.end)
+    sides = [side for side in one.sides if side in other.sides]
 
     def differing(tick: int) -> List[str]:
         one.progress("tick %d" % tick)
         first, second = one.states(tick), other.states(tick)
-        return [side for side in SIDES if first[side] != second[side]]
+        return [side for side in sides if first[side] != second[side]]
     low, high = 0, end
     if differing(0):
         return Parting(0, differing(0))
@@ -690,4 +754,4 @@ def _same_lines(one: bytes, other: bytes) -> int:
     return low
 
 
-__all__ = ["Fields", "Listing", "Machine", "Parting", "Past", "Start", "State", "length_of", "parting"]
+__all__ = ["Fields", "Inputs", "Listing", "Machine", "Parting", "Past", "Start", "State", "parting"]

@@ -42,6 +42,11 @@ class Ended(NamedTuple):
         said = self.out if self.status == 8 else self.err
         return said.decode("utf-8", "replace").rstrip("\n")
 
+    @property
+    def is_cut_short(self) -> bool:
+        """It ended by what says more of this machine than of the call: no room, no thread, no memory, or a signal."""
+        return self.status in (5, 6, 7) or self.status < 0
+
 
 class Version(NamedTuple):
     """What `./beebtube --version` tells.
@@ -147,6 +152,10 @@ class Program:
     def replay(self, side: str, trace: Union[Data, Trace], ticks: int, timeout: Optional[float] = None, **options: Any) -> "Run":
         """Runs one machine, side "host" or "para", against a trace. Refused with status 8 where it does something else."""
         return self._machines(["replay", side, "trace", str(ticks)], options, timeout, {"trace": trace})
+
+    def host(self, ticks: int, timeout: Optional[float] = None, **options: Any) -> "Run":
+        """Runs a Model B alone: nothing answers where the Tube would. Takes the options of `replay host`."""
+        return self.replay("host", b"", ticks, timeout, no_tube=True, **options)
 
     def follow(self, side: str, trace: Union[Data, Trace], ticks: int, timeout: Optional[float] = None, **options: Any) -> "Run":
         """Lists the instructions of a machine against a trace; takes at and watch, numbers or four digits. `.listing` has them."""
@@ -352,7 +361,9 @@ def _option_words(folder: str, options: Dict[str, Any]) -> List[str]:
     for option, value in options.items():
         if value is None or value is False:
             continue
-        if option in ("wav", "save"):
+        if value is True and option == "no_tube":
+            words.append("--no-tube")
+        elif option in ("wav", "save"):
             words += ["--" + option, "out." + option]
         elif option in ("disc0", "disc1"):
             name = option + (".dsd" if _is_double(value) else ".ssd")

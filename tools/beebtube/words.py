@@ -19,6 +19,7 @@ PARAS = ("replay para", "follow para") + PAIRS
 MACHINES = ("replay host", "replay para") + LISTS + PAIRS
 RUNS = PAIRS + ("resume",)
 HEARD = ("replay host",) + RUNS
+HOST_ALONE = ("replay host", "follow host")
 
 # Each command, and its words that stand alone.
 COMMANDS: Dict[str, Tuple[str, ...]] = {
@@ -37,7 +38,8 @@ FILES_READ = ("TRACE", "SOURCE", "IMAGE", "STATE")
 
 
 class Option(NamedTuple):
-    """An option: the commands that take it, and its value: `file`, `output`, `address`, `number` within limits, or `choice`."""
+    """An option: the commands that take it, and its value: `file`, `output`, `address`, `number` within limits, or `choice`; a `flag` is one
+    word, and its value is that word."""
 
     takers: Tuple[str, ...]
     kind: str
@@ -62,6 +64,8 @@ OPTIONS: Dict[str, Option] = {
     "--save": Option(RUNS, "output"),
     "--at": Option(LISTS, "address"),
     "--watch": Option(LISTS, "address"),
+    "--from": Option(LISTS, "number", 0, MOST_TICKS),
+    "--no-tube": Option(HOST_ALONE, "flag"),
 }
 NEEDED: Dict[str, Tuple[str, ...]] = {
     taker: tuple(option for option, takers in (("--os", HOSTS), ("--tube", PARAS)) if taker in takers)
@@ -148,6 +152,9 @@ class Call:
                 alone.append(word)
                 continue
             self._known(word)
+            if OPTIONS[word].kind == "flag":
+                options.append((word, word))
+                continue
             if not rest:
                 raise WrongWord("%s: its value is wanted behind it" % word)
             options.append((word, rest.pop(0)))
@@ -164,6 +171,8 @@ class Call:
         if word in OPTIONS:
             return
         name, equals, value = word.partition("=")
+        if equals and name in OPTIONS and OPTIONS[name].kind == "flag":
+            raise WrongWord("%s: %s has no value" % (shown(word), name))
         if equals and name in OPTIONS:
             raise WrongWord("%s: write `%s %s`" % (shown(word), name, shown(value)))
         if word.startswith("--") or len(word) > 2:

@@ -12,7 +12,12 @@ sys.path.insert(0, os.path.join(TOP, "tools"))
 
 import beebtube  # noqa: E402
 
-TOOLS = ("type", "png", "catalogue", "tube", "manifest", "words", "suite", "differs", "screen", "trace", "page")
+# A program that was begun in the background of a script may take no heed of these, and nor would what it calls.
+for number in (signal.SIGINT, signal.SIGHUP, signal.SIGQUIT, signal.SIGTERM):
+    if signal.getsignal(number) == signal.SIG_IGN:
+        signal.signal(number, signal.default_int_handler if number == signal.SIGINT else signal.SIG_DFL)
+
+TOOLS = ("type", "png", "catalogue", "tube", "manifest", "words", "suite", "differs", "screen", "trace", "page", "debug", "labels", "play", "execute")
 EXAMPLES = os.path.join(TOP, "examples")
 IS_ROOT = os.getuid() == 0
 
@@ -35,17 +40,19 @@ def put(name, data=b"", length=None):
     return name
 
 
-def call(words, folder, stdin=b"", env=None, limit=None, **how):
-    """Calls a program in a folder; `limit` is the most bytes that a file may have."""
+def call(words, folder, stdin=b"", env=None, limit=None, preexec=None, **how):
+    """Calls a program in a folder; `limit` is the most bytes that a file may have, and `preexec` is done before."""
     def before():
+        if preexec is not None:
+            preexec()
         if limit is not None:
             import resource
             resource.setrlimit(resource.RLIMIT_FSIZE, (limit, limit))
     how.setdefault("stdout", subprocess.PIPE)
     how.setdefault("stderr", subprocess.PIPE)
-    if "stdin" not in how:
+    if "stdin" not in how and stdin is not None:
         how["input"] = stdin
-    done = subprocess.run(words, cwd=folder, env={**os.environ, **(env or {})}, preexec_fn=before if limit is not None else None, timeout=300, **how)
+    done = subprocess.run(words, cwd=folder, env={**os.environ, **(env or {})}, preexec_fn=before if limit is not None or preexec is not None else None, timeout=300, **how)
     return Done(done.returncode, (done.stdout or b"").decode("utf-8", "replace"), (done.stderr or b"").decode("utf-8", "replace"))
 
 

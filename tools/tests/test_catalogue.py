@@ -174,10 +174,8 @@ class Tool(Case):
         os.mkdir(self.at("discs"))
         for name in ("A.DSD", "b.dsd"):
             put(self.at("discs/" + name), some(300000))
-        words = ["discs", "2000", "--os", "os", "--tube", "tube"]
-        self.assertEqual(self.tool("suite", "make", *words).out, "made A.DSD\nmade b.dsd\nsuite: 2 of 2 discs\n")
-        self.assertEqual(text_of(self.at("discs/A.DSD.sums")), text_of(self.at("discs/b.dsd.sums")))
-        self.tool("suite", "check", *words)
+        done = self.tool("suite", "--ticks", "2000", "discs", "results", "--", "--os", "os", "--tube", "tube")
+        self.assertEqual(done.out, "done A.DSD\ndone b.dsd\nsuite: 2 of 2 are good: done 2\nsuite: run 1, there before 1; results/index.html\n")
         put(self.at("set"), b"--disc0 discs/A.DSD\n--disc1 discs/b.dsd\n")
         done = self.tool("words", "set")
         self.assertEqual((done.out, done.err), ("--disc0 discs/A.DSD --disc1 discs/b.dsd\n", "words: beebtube takes discs/A.DSD as an SSD: with it the name of a DSD ends in .dsd\n"))

@@ -1,8 +1,9 @@
 """The debugger: each way forwards and backwards, what it tells beside what the program tells, and what is wrong."""
+import bisect
+import contextlib
 import io
 import os
 import random
-import re
 import unittest
 
 from common import EXAMPLES, Case, put
@@ -124,6 +125,42 @@ irq:    INC &81
         org &FFFA
         word start, start, irq
 """
+# A loop that goes through one address more often than can be listed, and then another one.
+LONG_HOST = """
+        org &C000
+start:  LDY #0
+        LDA #18
+        STA &72
+        LDX #0
+hot:    DEX
+        BNE hot
+        DEY
+        BNE hot
+        DEC &72
+        BNE more
+rest:   INC &71
+        JMP rest
+more:   JMP hot
+        org &FFFA
+        word start, start, start
+"""
+# It asks for the Tube, and counts.
+ALONE_HOST = """
+        org &C000
+start:  LDX #&FF
+        TXS
+        LDA #&81
+        STA &FEE0
+        LDA &FEE0
+        STA &70
+loop:   INC &71
+        LDY #200
+wait:   DEY
+        BNE wait
+        JMP loop
+        org &FFFA
+        word start, start, start
+"""
 
 
 def source(name):
@@ -159,7 +196,7 @@ class Ways(Debugged):
             one = made()
             text = io.StringIO()
             debugger = Debugger(one, {side: Names() for side in past.SIDES}, out=text)
-            totals = {side: one.machines[side]._starts(one.end).total for side in past.SIDES}
+            totals = {side: one.machines[side]._count(0, one.end) for side in past.SIDES}
             for number in range(1000):
                 side = rng.choice(past.SIDES)
                 count = min(totals[side] // 2, int(2 ** rng.uniform(0, 14)))
@@ -191,48 +228,229 @@ class Ways(Debugged):
         for name, made in self.three().items():
             one = made()
             for side, text in handlers[name]:
-                address = next(start.registers.pc for _, start in one.machines[side]._starts(one.end).found(re.compile(re.escape(text.encode())), 0))
-                self.assertGreater(one.machines[side].listing("at", address).total, 2, (name, side))
+                address = next(start.registers.pc for start in self.whole(one, side) if start.text == text)
+                self.assertGreater(one.machines[side].listing_count("at", address), 2, (name, side))
             if name == "keys":
                 self.assertIn(b" H X 0 00", one.trace)
                 self.assertGreater(one.machines["host"].state(one.end).memory[0x70], 0)
 
-    def test_behind_what_can_be_listed(self):
-        """Where starts cannot be listed any more, what is told is what a listing tells: among it handlers, resets, and a jump to itself."""
+    def whole(self, one, side):
+        """All starts of a side, of one listing."""
+        path, total = one.machines[side]._follow(0, one.end, ())
+        starts = list(past.Listing(side, path, total, 0, one.end).starts(0))
+        self.assertEqual(len(starts), total)
+        return starts
+
+    def test_what_is_listed_in_parts(self):
+        """What listings of small parts tell is what one listing of the whole run tells, in any order of questions."""
         rng = random.Random(7)
         for name, made in self.three().items():
             one = made()
             for side in past.SIDES:
-                near, far = one.machines[side], past.Machine(one, side)
-                far.most = 300
-                handler = near.listing("at", 0xF800 if side == "para" else 0xC000)
-                ticks = [rng.randint(near.preceding(one.end, 1).tick // 2, one.end - 2000) for _ in range(1)]
-                ticks += [handler.start(handler.before(handler.size, 1)).tick]
-                for tick in ticks:
-                    tick = near.current(tick).tick
-                    if tick < far._starts(tick).covers:
-                        continue
-                    for count in (1, 2):
-                        self.assertEqual(far.following(tick, count), near.following(tick, count), (name, side, tick, count))
-                        self.assertEqual(far.preceding(tick, count), near.preceding(tick, count), (name, side, tick, -count))
-                self.assertEqual(far.following(0, 305), near.following(0, 305))
-                self.assertEqual(far.preceding(far.following(0, 303).tick, 302), near.following(0, 1))
+                starts = self.whole(one, side)
+                ticks = [start.tick for start in starts]
+                handlers = [start.registers.pc for start in rng.sample(starts, 3)]
+                watched = {address: beebtube_starts(one, side, address) for address in (0x70, 0x72, 0x81)}
+                with parts(NEAR=30000, FAR=60000, SOME=50000, WIDE=200000, MANY=1000):
+                    machine = past.Machine(one, side)
+                    for _ in range(12):
+                        tick = rng.choice([rng.randrange(one.end), rng.choice(starts).tick])
+                        here, count = bisect.bisect_right(ticks, tick), int(2 ** rng.uniform(0, 12))
+                        wanted = starts[here + count - 1] if here + count <= len(starts) else None
+                        self.assertEqual(machine.following(tick, count), wanted, (name, side, tick, count))
+                        here = bisect.bisect_left(ticks, tick)
+                        wanted = starts[here - count] if here >= count else None
+                        self.assertEqual(machine.preceding(tick, count), wanted, (name, side, tick, -count))
+                        address = rng.choice(handlers)
+                        behind = [start for start in starts if start.registers.pc == address and start.tick > tick]
+                        before = [start for start in starts if start.registers.pc == address and start.tick < tick]
+                        self.assertEqual(machine.next_of("at", address, tick), behind[0] if behind else None)
+                        self.assertEqual(machine.last_of("at", address, tick), before[-1] if before else None)
+                        address = rng.choice(list(watched))
+                        behind = [start for start in watched[address] if start.tick > tick]
+                        before = [start for start in watched[address] if start.tick < tick]
+                        self.assertEqual(machine.next_of("watch", address, tick), behind[0] if behind else None)
+                        self.assertEqual(machine.last_of("watch", address, tick), before[-1] if before else None)
+                        stack = rng.choice(starts).registers.s
+                        back = [at for at in range(bisect.bisect_left(ticks, tick), len(starts) - 1)
+                                if starts[at].text in ("RTS", "RTI") and starts[at].registers.s >= stack]
+                        try:
+                            self.assertEqual(machine.leaving(tick, stack), starts[back[0] + 1] if back else None)
+                        except Fault:
+                            # So far it does not look.
+                            self.assertTrue(not back or starts[back[0]].tick > tick + past.SOME, (name, side, tick, stack))
 
-    def test_counted_starts(self):
-        """Starts at an address that are too many to be listed are found by their count."""
-        one = self.past_of(NMI_HOST, NMI_PARA, ticks=100000)
-        machine = one.machines["host"]
-        more = beebtube.labels_of("6502", NMI_HOST.encode())["more"]
-        listing = machine.listing("at", more)
-        self.assertGreater(listing.total, 20)
-        place = listing.behind(0, listing.total // 2)[0]
-        middle = listing.start(place)
-        extra = ["--at", "%04X" % more]
-        self.assertEqual(machine._far_of(extra, middle.tick, 1), listing.start(listing.behind(place, 1)[0]))
-        self.assertEqual(machine._far_of(extra, middle.tick, -1), listing.start(listing.before(place, 1)))
-        last = listing.start(listing.before(listing.size, 1))
-        self.assertIsNone(machine._far_of(extra, last.tick, 1))
-        self.assertIsNone(machine._far_of(extra, listing.start(0).tick, -1))
+    def test_more_than_can_be_listed(self):
+        """An address at which more starts are than one listing has, and steps of more instructions than are gone through."""
+        put(self.at("os"), Program().asm("6502", LONG_HOST.encode()))
+        one = past.Past.of_words(Program(), ["host", "24000000", "x", "--os", self.at("os")])
+        self.addCleanup(one.close)
+        machine, labels = one.machines["host"], beebtube.labels_of("6502", LONG_HOST.encode())
+        last = machine.last_of("at", labels["hot"], one.end)
+        self.assertGreater(machine._follow(0, one.end, ["--at", "%04X" % labels["hot"]], keep=False)[1], past.MOST_LINES)
+        self.assertEqual((last.registers.x, last.registers.y), (1, 1))
+        self.assertIsNone(machine.next_of("at", labels["hot"], last.tick))
+        self.assertEqual(machine.last_of("at", labels["hot"], last.tick).registers.x, 2)
+        first = machine.next_of("at", labels["hot"], 0)
+        total = machine._count(first.tick, last.tick)
+        self.assertGreater(total, 2 * past.MANY)
+        self.assertEqual(machine.following(first.tick, total), last)
+        self.assertEqual(machine.preceding(last.tick, total), first)
+
+    def test_each_way_has_its_way_back(self):
+        """By the words themselves, on three programs and both sides: each way forwards and its way back lead to the same moment."""
+        rng = random.Random(52)
+        for name, made in self.three().items():
+            one = made()
+            text = io.StringIO()
+            debugger = Debugger(one, {side: Names() for side in past.SIDES}, out=text)
+            done = dict.fromkeys(("step", "go", "until", "change", "access", "next", "return"), 0)
+            for side in past.SIDES:
+                starts = self.whole(one, side)
+                machine = one.machines[side]
+                range_of = range(len(starts) // 20, len(starts) // 2)
+                calls = [place for place in range_of if starts[place].text.startswith("JSR")]
+                for place in rng.sample(range_of, 15) + rng.sample(calls, min(5, len(calls))):
+                    start = starts[place]
+
+                    def goes(forwards, backwards):
+                        debugger.side, debugger.tick = side, start.tick
+                        debugger.do(forwards)
+                        behind = debugger.tick
+                        self.assertGreater(behind, start.tick, (name, side, forwards))
+                        debugger.do(backwards)
+                        self.assertEqual((debugger.side, debugger.tick), (side, start.tick), (name, forwards, backwards))
+                        done[forwards.split()[0]] += 1
+                        return behind
+                    count = rng.randrange(1, 500)
+                    goes("step %d" % count, "back %d" % count)
+                    goes("go +%d" % count, "go -%d" % count)
+                    address = "%04X" % start.registers.pc
+                    if any(it.registers.pc == start.registers.pc for it in starts[place + 1 :]):
+                        goes("until " + address, "before " + address)
+                    if start.text.startswith("JSR"):
+                        goes("next", "before " + address)
+                        debugger.side, debugger.tick = side, start.tick
+                        debugger.do("step; return")
+                        self.assertEqual(machine.state(debugger.tick).registers.pc, (start.registers.pc + 3) & 65535)
+                        debugger.do("before " + address)
+                        self.assertEqual(debugger.tick, start.tick)
+                        done["return"] += 1
+                    # From a change of a byte on, the next one and back to the instruction that made it: the byte is what it was.
+                    changed = machine.next_of("watch", 0x70 if side == "host" else 0x81, start.tick)
+                    if changed is not None and machine.next_of("watch", 0x70 if side == "host" else 0x81, changed.tick) is not None:
+                        byte = 0x70 if side == "host" else 0x81
+                        debugger.side, debugger.tick = side, start.tick
+                        debugger.do("change %04X" % byte)
+                        here = debugger.tick
+                        self.assertEqual(here, changed.tick)
+                        debugger.do("who %04X" % byte)
+                        self.assertGreaterEqual(debugger.tick, start.tick)
+                        self.assertEqual(machine.following(debugger.tick).tick, here)
+                        done["change"] += 1
+                    letter = past.LETTERS[side]
+                    mine = [line for line in one.trace.splitlines() if (" %s " % letter).encode() in line and b" X " not in line]
+                    if len(mine) > 4:
+                        line = rng.choice(mine[:-2]).split()
+                        word = "access %s %s %s" % tuple(part.decode() for part in line[1:4])
+                        same = [int(it[:10], 16) for it in mine if it.split()[1:4] == line[1:4]]
+                        if len(same) > 1:
+                            debugger.side, debugger.tick = side, same[0]
+                            debugger.do(word)
+                            self.assertEqual((debugger.side, debugger.tick), (side, same[1]))
+                            debugger.do(word + " back")
+                            self.assertEqual((debugger.side, debugger.tick), (side, same[0]))
+                            done["access"] += 1
+            self.assertTrue(all(done[way] for way in ("step", "go", "until", "change", "access")), (name, done))
+            if name == "nmi":
+                self.assertTrue(done["next"] and done["return"], done)
+
+    def test_behind_what_is_held(self):
+        """Behind the last access that a session holds states are told, as a whole session tells them, and instructions are refused."""
+        whole = self.past_of(NMI_HOST, NMI_PARA, ticks=200000)
+        program = Program()
+        program.done(["solo", "200000", "part", "--os", "os", "--tube", "tube", "--keys", "keys", "--keep", "40", "--save", "session"], self.folder)
+        with open(self.at("session"), "rb") as file:
+            session = file.read()
+        with open(self.at("part.trace"), "rb") as file:
+            trace = file.read()
+        fields = past.Fields(session)
+        one = past.Past(program, fields, "part", None, trace, 200000)
+        self.addCleanup(one.close)
+        self.assertLess(one.held, 100000)
+        self.assertIn("but no instructions", limit_of(one))
+        self.assertEqual(limit_of(whole), "")
+        for tick in (one.held, one.held + 1, 150001, 200000):
+            self.assertEqual(one.states(tick), whole.states(tick), tick)
+            self.assertEqual(one.machines["host"].state(tick), whole.machines["host"].state(tick))
+            self.assertEqual(one.frame(tick), whole.frame(tick))
+        text = io.StringIO()
+        debugger = Debugger(one, {side: Names() for side in past.SIDES}, out=text)
+        debugger.do("go %d; step; back; go end; memory 70 4; stack; screen; list; where; para; list" % (one.held - 200))
+        self.assertIn("at hand up to tick %d" % one.held, text.getvalue())
+        for words in ("go end; step", "go end; back", "go end; who 70", "go end; before C000", "go 0; until 1234", "go 0; change 7F", "go end; tube", "go end; sender",
+                      "go end; return", "go end; access H R 5", "go %d; step 9" % (one.held - 1)):
+            debugger.side = "host"
+            with self.assertRaisesRegex(Fault, "at hand|hold", msg=words):
+                debugger.do(words)
+
+
+def beebtube_starts(one, side, address):
+    """The starts in front of which a byte changed, of one listing."""
+    path, total = one.machines[side]._follow(0, one.end, ["--watch", "%04X" % address])
+    return list(past.Listing(side, path, total, 0, one.end).starts(0))
+
+
+@contextlib.contextmanager
+def parts(**sizes):
+    """Listings of other sizes."""
+    old = {name: getattr(past, name) for name in sizes}
+    for name, size in sizes.items():
+        setattr(past, name, size)
+    try:
+        yield
+    finally:
+        for name, size in old.items():
+            setattr(past, name, size)
+
+
+class Alone(Debugged):
+    """A Model B alone, without a Tube."""
+
+    def setUp(self):
+        super().setUp()
+        put(self.at("os"), Program().asm("6502", ALONE_HOST.encode()))
+        put(self.at("keys"), b"at 1000 down 41\nat 40000 break\n")
+        self.one = past.Past.of_words(Program(), ["host", "100000", "x", "--os", self.at("os"), "--keys", self.at("keys")])
+        self.addCleanup(self.one.close)
+        self.text = io.StringIO()
+        self.debugger = Debugger(self.one, {side: Names() for side in past.SIDES}, out=self.text)
+
+    def test_nobody_answers(self):
+        """A read of the Tube's addresses gives FE, and a write leaves nothing, from a BREAK on too."""
+        self.assertEqual(self.one.sides, ("host",))
+        memory = self.one.machines["host"].state(100000).memory
+        self.assertEqual(memory[0x70], 0xFE)
+        self.assertGreater(memory[0x71], 3)
+        self.assertEqual(self.one.machines["host"].listing_count("at", 0xC000), 2)
+
+    def test_words(self):
+        debugger = self.debugger
+        debugger.do("go 1000; step 100; back 100; until C005; before C005; change 71; who 71; where; list; stack; screen; memory 70; frame %s" % self.at("x.png"))
+        self.assertTrue(os.path.exists(self.at("x.png")))
+        told = self.text.getvalue()
+        self.assertIn("INC &71", told)
+        self.assertNotIn("second processor", told)
+        for words in ("para", "access H R 1", "access P R 1", "sender", "tube", "go 0; back", "go end; step"):
+            self.assertRaises(Fault, debugger.do, words)
+
+    def test_against_another(self):
+        put(self.at("other"), Program().asm("6502", ALONE_HOST.replace("INC &71", "DEC &71").encode()))
+        other = past.Past.of_words(Program(), ["host", "100000", "x", "--os", self.at("other"), "--no-tube"])
+        self.addCleanup(other.close)
+        found = past.parting(self.one, other)
+        self.assertEqual(found.sides, ["host"])
+        self.assertIn("INC &71", self.one.machines["host"].current(found.tick).text)
 
 
 class Words(Debugged):
@@ -332,7 +550,7 @@ class Words(Debugged):
         self.assertEqual(self.do("tube 2").count("\n"), 5)
         where = self.do("where")
         self.assertIn("host %04X" % state.registers.pc, where)
-        self.assertEqual(where.count("\n"), 5)
+        self.assertEqual(where.count("\n"), 6)
         picture = self.at("now.png")
         self.do("frame %s" % picture)
         with open(picture, "rb") as file:
@@ -364,12 +582,6 @@ class Words(Debugged):
         found = past.parting(self.one, slower)
         self.assertEqual(self.one.machines["host"].current(found.tick).text, "LDY #&32")
 
-    def test_limit(self):
-        """What a session does not hold is said at once."""
-        self.assertEqual(limit_of(self.one), "")
-        self.one.asked = self.one.end + 1
-        self.assertIn("cannot be reached", limit_of(self.one))
-
 
 class Tool(Case):
     """The tool as a person calls it."""
@@ -379,12 +591,15 @@ class Tool(Case):
         words = ["run", "2000", "x", "--os", "os", "--tube", "tube", "--keep", "3", "--save", "kept"]
         before = sorted(os.listdir(self.folder))
         told = self.tool("debug", *words, "-c", "go 1500; step 3; back 3; where")
-        self.assertEqual(told.out.splitlines()[-5:], told.out.splitlines()[-10:-5])
+        self.assertEqual(told.out.splitlines()[-6:], told.out.splitlines()[-12:-6])
         self.assertEqual(sorted(os.listdir(self.folder)), before)
         self.assertEqual(self.tool("debug", *words, stdin=b"go 1500\nstep 3\n\nback 3\nwhere\nquit\nback\n").out, told.out)
         wrong = self.tool("debug", *words, "-c", "bogus; go 1500; step 0; who zzz; where", status=1)
         self.assertEqual(len(wrong.err.splitlines()), 3)
-        self.assertEqual(wrong.out.splitlines()[-5:], wrong.out.splitlines()[-10:-5])
+        self.assertEqual(wrong.out.splitlines()[-6:], wrong.out.splitlines()[-12:-6])
+        self.assertIn("there is no such word", self.tool("debug", *words, stdin=b"\xff\x00\n\xc3 9\n", status=1).err)
+        self.assertIn("letters or more", self.tool("debug", *words, stdin=b"x" * 5000, status=1).err)
+        self.assertIn("cannot read -", self.tool("debug", *words, stdin=None, preexec=lambda: os.close(0), status=1).err)
         self.launcher("run", "2000", "x", "--os", "os", "--tube", "tube", "--save", "session")
         self.assertEqual(self.tool("debug", "session", "-c", "go 1500; step 3; back 3; where").out, told.out)
         self.assertIn("the same to tick 2000", self.tool("debug", "session", "--against", " ".join(words), "-c", "quit").out)
@@ -425,11 +640,35 @@ class Tool(Case):
         named = self.tool("labels", "--in", "labels", "x.list").out.splitlines()
         self.assertTrue(named[0].startswith("0000000015 C000 A=00 X=00 Y=00 S=FD P=24 LDA #&01 ") and named[0].endswith("; start"), named)
         self.assertIn(" JMP loop ", named[1])
+        # What BeebAsm prints besides stands before and behind its dump.
+        for text in ("Processed file 'x' ok\n[{'start':49152L,'loop':49154L}]\n", "1, 2\n [{'.start':49152L,'loop':49154L,'half':0.5L,'big':4.29497e+09L,'minus':-1L}]\r\nend\n"):
+            self.assertEqual(naming.parse(text).addresses, {"start": 0xC000, "loop": 0xC002}, text)
+        for text in ("[{'start':49152L,'loop'}]", "[{'start'=49152}]", "[{start:49152L}]", "[{'start':49152L"):
+            self.assertRaises(Fault, naming.parse, text)
         self.tool("labels", status=2)
         self.tool("labels", "small.asm", "z80", status=2)
         self.tool("labels", "missing", "6502", status=1)
         self.tool("labels", "--in", "small.asm", "x.list", status=1)
         self.tool("labels", "--in", "labels", "small.asm", status=1)
+        # The program cannot write what it assembles.
+        self.assertIn("cannot write", self.tool("labels", "small.asm", "6502", status=1, limit=300).err)
+        # A file of 20 GB is not read to its end.
+        put(self.at("large"), b"", 20 * 10**9)
+        self.assertIn("a line of 4,096 bytes", self.tool("labels", "--in", "labels", "large", status=1).err)
+
+    def test_names_in_a_source(self):
+        """A text of `dis` with names is a source of the same bytes, wherever labels stand and whatever they are called."""
+        rng = random.Random(3)
+        for part in ("6502", "65c02"):
+            for origin in (0, 0xC000, 0xFF00):
+                data = bytes(rng.choice((0xA9, 0x8D, 0x4C, 0x20, 0xD0, 0xF0, 0x10, 0x02, 0xFE, 0xC0, rng.randrange(256))) for _ in range(256))
+                text = Program().dis(part, data, origin)
+                names = {"label%d" % number: origin + number for number in rng.sample(range(256), 120)}
+                names.update({"A": origin, "x": origin + 2, "LDA": origin + 5, "two words": origin + 9, "far": (origin + 5000) & 0xFFFF, "@2": origin + 4, "byte": origin + 7})
+                named = "\n".join(naming.named(iter(text.splitlines()), Names([naming.Labels(names)]))) + "\n"
+                self.assertIn("label", named)
+                self.assertEqual(Program().asm(part, named.encode()), data, (part, origin))
+        self.assertRaises(Fault, list, naming.named(iter(["org &C000", "nonsense;"]), Names()))
 
 
 if __name__ == "__main__":

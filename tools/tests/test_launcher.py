@@ -47,6 +47,15 @@ class Told(Case):
             ("run 9 o --os x --tube y --speed 5", "--speed 5: it is 3 or 4"),
             ("run 9 o --os x --tube y --at 0070", "--at: `run` does not take it, but `follow host`, `follow para` do"),
             ("replay both t 9 o --os x", "both: SIDE is host or para"),
+            ("replay host t 9 o --os x --from 5", "--from: `replay host` does not take it, but `follow host`, `follow para` do"),
+            ("follow host t 9 o --os x --from 1073741825", "--from 1073741825: it is a whole number, at most 1,073,741,824"),
+            ("follow host t 9 o --os x --from", "--from: its value is wanted behind it"),
+            ("run 9 o --os x --tube y --no-tube", "--no-tube: `run` does not take it, but `replay host`, `follow host` do"),
+            ("replay para t 9 o --no-tube --tube y", "--no-tube: `replay para` does not take it, but `replay host`, `follow host` do"),
+            ("replay host t 9 o --os x --no-tube --no-tube", "--no-tube: it stands twice"),
+            ("replay host t 9 o --os --no-tube", "--no-tube: no name begins with `-` (--os); write ./--no-tube"),
+            ("replay host t 9 o --os x --no-tube y", "y: a word too many: replay SIDE TRACE TICKS OUT"),
+            ("replay host t 9 o --os x --no-tube=1", "--no-tube=1: --no-tube has no value"),
             ("asm 6510 a b", "6510: PART is 6502 or 65c02"),
             ("dis 6502 a &C000 b", "&C000: ORIGIN wants four upper-case hexadecimal digits alone: C000"),
             ("gen -1", "-1: SEED is a whole number below 2^64, in decimal digits alone"),
@@ -65,7 +74,8 @@ class Told(Case):
         dice = random.Random(48)
         pieces = ["check", "asm", "dis", "replay", "solo", "run", "resume", "follow", "gen", "host", "para", "6502", "65c02", "C000", "c000", "0", "9", "09", "1073741824",
                   "1073741825", "18446744073709551615", "18446744073709551616", "-1", "1e3", "x", "-", "--", "", "o", "é", "--os", "--tube", "--rom0", "--rom15", "--rom16", "--rom00",
-                  "--font", "--disc0", "--disc2", "--keys", "--plugs", "--keep", "--speed", "3", "4", "8", "4194304", "4194305", "--wav", "--save", "--at", "--watch", "0070", "--oss"]
+                  "--font", "--disc0", "--disc2", "--keys", "--plugs", "--keep", "--speed", "3", "4", "8", "4194304", "4194305", "--wav", "--save", "--at", "--watch", "0070", "--oss",
+                  "--from", "--no-tube"]
         for _ in range(600):
             words = self.good_words(dice)
             for _ in range(dice.choice((0, 0, 1, 1, 2))):
@@ -85,7 +95,8 @@ class Told(Case):
         words = dice.choice(("check t", "asm 6502 s o", "dis 65c02 i C000 o", "replay host t 9 o --os a", "replay para t 9 o --tube b", "solo 9 o --os a --tube b",
                              "run 9 o --os a --tube b", "resume s 9 o", "follow host t 9 o --os a", "follow para t 9 o --tube b", "gen x")).split()
         for _ in range(dice.randrange(3) if len(words) > 3 else 0):
-            words += dice.choice(("--font f", "--keys k", "--plugs 8", "--keep 0", "--speed 4", "--wav w", "--save v", "--at 0070", "--watch FFFF", "--disc1 d", "--rom9 r")).split()
+            words += dice.choice(("--font f", "--keys k", "--plugs 8", "--keep 0", "--speed 4", "--wav w", "--save v", "--at 0070", "--watch FFFF", "--disc1 d", "--rom9 r", "--from 5",
+                                  "--no-tube")).split()
         return words
 
     def script(self, data, *lines):

@@ -121,81 +121,6 @@ class Manifest(Case):
         self.assertNotIn("beebtube:", done.out)
 
 
-class Suite(Case):
-    def discs(self, *names):
-        self.pair()
-        os.mkdir(self.at("discs"))
-        for name in names:
-            put(self.at("discs/" + name), name.encode() * 20)
-
-    def suite(self, how, *more, status=0, ticks="2000", **with_):
-        return self.tool("suite", how, "discs", ticks, "--os", "os", "--tube", "tube", *more, status=status, **with_)
-
-    def test_made_and_the_same_and_another(self):
-        self.discs("a.ssd", "b.dsd")
-        self.assertEqual(self.suite("make").out, "made a.ssd\nmade b.dsd\nsuite: 2 of 2 discs\n")
-        self.assertEqual(self.suite("check").out, "same a.ssd\nsame b.dsd\nsuite: 2 of 2 discs\n")
-        put(self.at("discs/b.dsd"), b"x")
-        self.assertEqual(self.suite("check", status=1).out, "same a.ssd\ndiffers b.dsd out.d0\nsuite: 1 of 2 discs\n")
-
-    def test_a_folder_without_a_disc(self):
-        self.discs()
-        for how in ("make", "check"):
-            self.assertIn("no disc", self.suite(how, status=1).err)
-        self.tool("suite", "make", "missing", "2000", status=1)
-
-    @unittest.skipIf(IS_ROOT, "root may write everywhere")
-    def test_a_folder_that_cannot_be_written(self):
-        self.discs("a.ssd")
-        os.chmod(self.at("discs"), 0o555)
-        try:
-            self.assertIn("cannot write", self.suite("make", status=1).err)
-        finally:
-            os.chmod(self.at("discs"), 0o755)
-        self.assertEqual(os.listdir(self.at("discs")), ["a.ssd"])
-
-    def test_without_a_folder_for_its_files(self):
-        self.discs("a.ssd")
-        self.assertIn("TMPDIR", self.suite("make", status=1, env={"TMPDIR": self.at("nowhere")}).err)
-        self.assertEqual(os.listdir(self.at("discs")), ["a.ssd"])
-
-    def test_where_there_is_no_room(self):
-        self.discs("a.ssd")
-        # No file may have more than 40,000 bytes: OUT.host fits, OUT.para does not.
-        done = self.suite("make", status=1, limit=40000)
-        self.assertIn("failed a.ssd 5", done.out)
-        self.assertEqual(os.listdir(self.at("discs")), ["a.ssd"])
-
-    @unittest.skipUnless(SMALL_DISK, "no small disk is there")
-    def test_on_a_full_disk(self):
-        self.discs("a.ssd")
-        done = self.suite("make", status=1, env={"TMPDIR": SMALL_DISK})
-        self.assertIn("failed a.ssd", done.out)
-        self.assertEqual(os.listdir(self.at("discs")), ["a.ssd"])
-
-    def test_a_run_that_is_ended_by_a_signal(self):
-        self.discs("a.ssd", "b.ssd")
-        put(self.at("ends"), b"#!/bin/sh\ncase \"$*\" in *a.ssd*) kill -9 $$ ;; esac\nexec %s \"$@\"\n" % os.fsencode(beebtube.Program().path))
-        os.chmod(self.at("ends"), 0o755)
-        done = self.suite("make", status=1, env={"BEEBTUBE": self.at("ends")})
-        self.assertIn("failed a.ssd -9", done.out)
-        self.assertIn("suite: 1 of 2 discs", done.out)
-
-    def test_jobs(self):
-        self.discs("a.ssd")
-        for jobs in ("x", "0", "-1", "", "1e3"):
-            self.assertIn("JOBS=", self.suite("make", status=1, env={"JOBS": jobs}).err)
-        self.suite("make", env={"JOBS": "1"})
-
-    def test_what_is_refused_is_told(self):
-        self.discs("a.ssd")
-        self.assertIn("failed a.ssd 1 usage", self.suite("make", "--oss", "x", status=1).out)
-        self.assertIn("failed a.ssd 1 usage 1e6", self.suite("make", ticks="1e6", status=1).out)
-        self.assertIn("one file", self.suite("make", "--save", "s", status=1).err)
-        put(self.at("discs/a.ssd.sums"), b"none")
-        self.assertIn("no sum", self.suite("check", status=1).out)
-
-
 class Words(Case):
     def test_a_set_that_cannot_be_made_leaves_no_file(self):
         os.mkfifo(self.at("fifo"))
@@ -314,7 +239,8 @@ class EveryTool(Case):
         """Calls of each tool that read the file `input`."""
         return [("tube", "input"), ("tube", "--all", "input"), ("catalogue", "input"), ("catalogue", "input", "X", "out"), ("words", "input"),
                 ("words", "--check", "input"), ("words", "--make", "set", "--os", "input"), ("png", "input", "out.png"), ("png", "--compare", "input", "input"),
-                ("png", "--movie", "out.png", "input"), ("manifest", "--check", "input"), ("manifest", "check", "input"), ("type", "{"), ("suite", "check", "input", "9"),
+                ("png", "--movie", "out.png", "input"), ("manifest", "--check", "input"), ("manifest", "check", "input"), ("type", "{"), ("suite", "--ticks", "9", "input", "results"), ("suite", "--jobs", "input", "results"), ("suite", "--gather", "input", "results"),
+                ("suite", "--against", "input", "discs", "results"),
                 ("manifest", "asm", "6502", "input", "out"), ("catalogue", "--put", "input", "new.ssd", "input"), ("trace", "input", "out.vcd"),
                 ("trace", "input", "out.csv")]
 
@@ -369,7 +295,7 @@ class EveryTool(Case):
         put(self.at("discs/a.ssd"), b"a")
         trace = os.path.join(EXAMPLES, "letters.trace")
         return [("tube", trace), ("tube", "--all", trace), ("catalogue", "some.dsd"), ("words", "set"), ("type", "Hello"),
-                ("manifest", "check", trace), ("suite", "make", "discs", "2000", "--os", "os", "--tube", "tube"), ("type", "--help")]
+                ("manifest", "check", trace), ("suite", "--ticks", "2000", "discs", "results", "--", "--os", "os", "--tube", "tube"), ("type", "--help")]
 
     def test_standard_output_that_is_closed_or_full(self):
         for words in self.good_calls():

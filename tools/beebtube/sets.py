@@ -1,0 +1,90 @@
+"""ROM sets: a text file that names the files of a machine, as the words of a run.
+
+A line is an option of beebtube, its value, and for a file its SHA-256 sum, if wanted; a line that begins with `#` is a comment. Names
+are from the set's folder on.
+"""
+from __future__ import annotations
+
+import os
+import re
+import sys
+from typing import Iterable, List, Optional, Tuple
+
+from .command import tool_name
+from .disc import note_of
+from .faults import Fault
+from .files import IMAGE_CAP, is_plain, read_text, sum_of
+from .words import OPTIONS, shown, value_fault
+
+# What a shell leaves as it is where words are put between others: letters of any script, digits, and these.
+PLAIN = re.compile(r"[\w./@%+,:=-]+")
+
+
+def file_of(folder: str, option: str, value: str) -> Optional[str]:
+    """The file of an option, as a path; None where the value is no file."""
+    if OPTIONS[option].kind != "file":
+        return None
+    file = os.path.join(folder, value)
+    if os.path.exists(file) and not is_plain(file):
+        raise Fault("%s is no plain file" % file)
+    return file
+
+
+def fault_of(option: str, value: str, before: Iterable[str]) -> Optional[str]:
+    """What is wrong with an option and its value behind other options; None where nothing is."""
+    if option not in OPTIONS:
+        return "%s is no option of beebtube" % shown(option)
+    if OPTIONS[option].kind == "output":
+        return "%s names a file that is written, and a set has none" % option
+    if OPTIONS[option].kind == "flag":
+        return "%s has no value, and stands behind the words of a set" % option
+    if option in before:
+        return "%s stands twice" % option
+    fault = value_fault(option, value)
+    if fault:
+        return "%s %s: %s" % (option, shown(value), fault)
+    if not PLAIN.fullmatch(value) or value.startswith("-"):
+        return "the name %s has a sign that a shell takes for another" % shown(value)
+    return None
+
+
+def read_set(name: str) -> List[Tuple[str, str]]:
+    """The options of a set and their values, files as paths; Fault where it is none, or a file lacks or has another sum."""
+    folder, found = os.path.dirname(name), []  # type: str, List[Tuple[str, str]]
+    for number, line in enumerate(read_text(name).splitlines(), 1):
+        parts = line.split()
+        if line.startswith("#"):
+            continue
+        if not parts:
+            raise Fault("%s, line %d: the line is empty" % (name, number))
+        if len(parts) not in (2, 3) or not parts[0].startswith("--"):
+            raise Fault("%s, line %d: an option, its value, and a sum if wanted" % (name, number))
+        option, value = parts[:2]
+        fault = fault_of(option, value, [it for it, _ in found])
+        if fault:
+            raise Fault("%s, line %d: %s" % (name, number, fault))
+        file = file_of(folder, option, value)
+        if file is None and len(parts) == 3:
+            raise Fault("%s, line %d: %s has no file, and no sum" % (name, number, option))
+        if file is not None:
+            digits = sum_of(file, IMAGE_CAP).digits
+            if len(parts) == 3 and parts[2] != digits:
+                raise Fault("%s has the sum %s, not %s" % (file, digits, shown(parts[2])))
+        found.append((option, value if file is None else file))
+    if not found:
+        raise Fault("%s has no words" % name)
+    return found
+
+
+def words_of(name: str) -> List[str]:
+    """The words of a set, with what has to be said of the names of its discs."""
+    folder = os.path.dirname(name)
+    words: List[str] = []
+    if folder and not PLAIN.fullmatch(folder):
+        raise Fault("the folder %s has a sign that a shell takes for another" % shown(folder))
+    for option, value in read_set(name):
+        note = note_of(value) if option.startswith("--disc") else None
+        if note:
+            print("%s: %s" % (tool_name(), note), file=sys.stderr)
+        words += [option, value]
+    return words

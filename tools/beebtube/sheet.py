@@ -1,0 +1,87 @@
+"""The contact sheet of a collection: a page with the last frame of each run, and a link to the run's own page.
+
+It opens from a file, beside `runs/`, which has the frames and pages. It runs no script, and its policy lets it load nothing but
+pictures of files. What is named or read is data: all of it is escaped, and files have the names of keys alone.
+"""
+from __future__ import annotations
+
+from typing import Dict, List, Sequence
+
+from .files import is_plain
+from .page import asset, element, grouped, shown
+from .results import Row, Store, sums_in
+
+BEGIN = "<!DOCTYPE html>\n<!-- beebtube collection 1 -->\n"
+# In this order: what is to be looked at first.
+PARTS = (("differs", "Differs from the stored run"), ("failed", "Failed"), ("new", "Not among the stored runs"), ("gone", "Stored, and no more in the list"),
+         ("missing", "Not there yet"), ("same", "The same as the stored run"), ("done", "Done"))
+
+
+def sheet_of(title: str, rows: Sequence[Row], store: Store) -> bytes:
+    """The page of these runs; frames and pages are those that are in the folder of results."""
+    style, style_sum = asset("page.css", "sheet.css")
+    policy = "default-src 'none'; style-src %s; img-src 'self' file:; base-uri 'none'; form-action 'none'" % style_sum
+    groups = [(state, name, [row for row in rows if row.state == state]) for state, name in PARTS]
+    groups = [group for group in groups if group[2]]
+    links = "".join(element("li", '<a href="#%s">%s: %s</a>' % (state, name, grouped(len(found)))) for state, name, found in groups)
+    body = "\n".join('<section id="%s" class="%s" aria-labelledby="%s-title"><h2 id="%s-title">%s: %s</h2>\n<ul class="sheet">\n%s\n</ul></section>'
+                     % (state, state, state, state, name, grouped(len(found)), "\n".join(_card(row, store) for row in found))
+                     for state, name, found in groups)
+    parts = [
+        BEGIN, '<html lang="en"><head><meta charset="utf-8">\n<meta http-equiv="Content-Security-Policy" content="%s">\n' % policy,
+        '<meta name="viewport" content="width=device-width, initial-scale=1">\n', element("title", "%s: a collection of beebtube" % shown(title)),
+        "\n<style>", style, "</style></head>\n<body>\n", '<a class="skip" href="#main">To the runs</a>\n<header><h1>%s</h1>\n' % shown(title),
+        '<p>%s</p>\n<nav aria-label="Parts of this page"><ul>%s</ul></nav></header>\n' % (_summary(rows), links),
+        '<main id="main" tabindex="-1">\n', body, "\n</main>\n</body></html>\n",
+    ]
+    return "".join(parts).encode()
+
+
+def _summary(rows: Sequence[Row]) -> str:
+    processor = sum(row.result.processor for row in rows if row.result is not None)
+    return ('%s runs, which took %s s of a processor. <a href="results.csv">The table</a> has the sums of what they read and wrote.'
+            % (grouped(len(rows)), "{:,.1f}".format(processor)))
+
+
+def _card(row: Row, store: Store) -> str:
+    name, result = shown(row.name), row.result
+    page = store.page(result.key) if result is not None else None
+    if result is not None and result.frame and is_plain(store.place(result.key, "png")):
+        frame = ('<span class="frame"><img src="runs/%s.png" alt="The last frame of %s" width="640" height="512" loading="lazy"></span>' % (result.key, name))
+    else:
+        frame = '<span class="frame none">%s</span>' % ("No shot was taken" if result is not None and not result.status else "No frame")
+    head = element("h3", '<a href="%s">%s</a>' % (page, name) if page is not None else name)
+    # The frame is a second way to the page, for the mouse alone.
+    picture = '<a href="%s" tabindex="-1" aria-hidden="true">%s</a>' % (page, frame) if page is not None else frame
+    parts = [picture, head, element("p", _told(row))]
+    if row.state == "differs":
+        parts.append(_differences(row))
+    if row.cells["words"]:
+        parts.append('<p class="quiet">%s</p>' % element("code", shown(row.cells["words"])))
+    return element("li", element("article", "".join(parts), class_="card"))
+
+
+def _told(row: Row) -> str:
+    said = " ".join(filter(None, (row.cells["status"] if row.state == "failed" else "", row.cells["said"])))
+    if row.result is not None:
+        took = "%s ticks, %.2f s of a processor" % (grouped(row.result.ticks), row.result.processor)
+        said = "; ".join(filter(None, (said, took)))
+    return shown(": ".join(filter(None, (row.state.capitalize(), said))))
+
+
+# What differs from the stored run, with both sums of each file.
+def _differences(row: Row) -> str:
+    lines: List[str] = []
+    for what in row.cells["differs"].split():
+        now, was = _sums(row.cells, what), _sums(row.stored or {}, what)
+        lines.append(element("dt", shown(what)) + element("dd", element("code", "was %s" % shown(was))) + element("dd", element("code", "is %s" % shown(now))))
+    return element("dl", "".join(lines))
+
+
+def _sums(cells: Dict[str, str], what: str) -> str:
+    kind, _, name = what.rpartition(":")
+    if what == "status":
+        return cells.get("status", "")
+    if what == "words":
+        return cells.get("words", "")
+    return sums_in(cells.get("inputs" if kind else "outputs", "")).get(name, "not there")[:16]
