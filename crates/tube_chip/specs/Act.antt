@@ -117,3 +117,7 @@ pub data Query : Type 0 where
 abbrev pub act : State → Side → Query → State × Answer
 act c side (access op) = (chip_after c side op, Byte (answer_of c side op))
 act c side look = (c, Seen (lines_of c))
+
+-- The side may do this operation, and the lines are as they were behind it.
+abbrev pub LeavesLines : State → Side → Op → Type 0
+LeavesLines c side op = MayDo side op × (lines_of (chip_after c side op) ≡ lines_of c)

@@ -1,10 +1,10 @@
 //! The chip.
-ghost use Rattle.std.specs.Prelude.{◌≡◌, ◌<◌, ◌+◌, nat_lt, if◌then◌else◌};
+ghost use Rattle.std.specs.Prelude.{◌≡◌, ◌<◌, ◌+◌, ℕ, true, nat_lt, if◌then◌else◌};
 ghost use Rattle.beeb_bits.specs.Bits.{weight};
 ghost use Rattle.beeb_bits.specs.declared.Side.TheVariants.{Host, Para};
 ghost use Rattle.tube_chip.specs.Register.{count, write_leaves};
 ghost use Rattle.tube_chip.specs.State.{power_on, lines_of, is_empty, is_ready, wants_service, asks_nmi, clear_leaves};
-ghost use Rattle.tube_chip.specs.Act.{MayDo, status, answer_of, control_leaves, op_leaves, count_of_rises, with_counts, chip_after};
+ghost use Rattle.tube_chip.specs.Act.{MayDo, LeavesLines, status, answer_of, control_leaves, op_leaves, count_of_rises, with_counts, chip_after};
 ghost use Rattle.tube_chip.specs.declared.Op.TheVariants.{Read, Write, Reset};
 
 use crate::flags::{Flags, flags_after, flags_byte, no_flags};
@@ -167,6 +167,42 @@ impl Chip {
                 self.resets = self.resets.wrapping_add(1);
                 0
             }
+        }
+    }
+
+    /// Whether an operation of the host surely leaves the lines: those that it can move are not enabled.
+    pub fn host_leaves_lines(&self, op: Op) -> bool
+        ensures { result ≡ true → LeavesLines self.now Host op }
+    {
+        match op {
+            Op::Read(number) => self.host_read_leaves_lines(number),
+            Op::Write(number, _) => self.host_write_leaves_lines(number),
+            Op::Reset => false,
+        }
+    }
+
+    fn host_read_leaves_lines(&self, number: u8) -> bool
+        ensures { result ≡ true → LeavesLines self.now Host (Read number) }
+    {
+        match number {
+            0 | 1 | 2 | 3 | 4 | 6 => true,
+            5 => !self.flags.m,
+            7 => !self.flags.q,
+            _ => false,
+        }
+    }
+
+    #[tactic(auto, using(crate::proofs::Rises::no_rise))]
+    fn host_write_leaves_lines(&self, number: u8) -> bool
+        ensures { result ≡ true → (byte : ℕ) → LeavesLines self.now Host (Write number byte) }
+    {
+        match number {
+            2 | 4 | 6 => true,
+            1 => !self.flags.i,
+            3 => true,
+            5 => !self.flags.m,
+            7 => !self.flags.j,
+            _ => false,
         }
     }
 

@@ -19,3 +19,4 @@ pub mod Calm
 pub mod Early
 pub mod UnderWay
 pub mod Both
+pub mod Passing

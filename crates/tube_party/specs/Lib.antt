@@ -12,3 +12,4 @@ pub mod Turn
 pub mod Logs
 pub mod CodeDesk
 pub mod CodeStanding
+pub mod CodePassing

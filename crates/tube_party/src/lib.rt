@@ -4,6 +4,7 @@
 mod cursor;
 mod desk;
 mod forward;
+mod host_desk;
 mod law;
 mod log;
 mod noting;

@@ -9,6 +9,7 @@ ghost use Rattle.tube_trace.specs.Entries.{IsEntry};
 ghost use Rattle.tube_party.specs.Reference.{reference};
 ghost use Rattle.tube_party.specs.GoingOn.{reference_from, after_entries};
 
+use crate::host_desk::HostDesk;
 use crate::log::Log;
 use crate::noting::{Room, note_all};
 use crate::party::{Ask, MOST, Party};
@@ -193,8 +194,13 @@ pub fn go_on_from<H: Party, P: Rewinds>(
         mut past,
         ..
     } = room;
-    let mut chip = note_all(&mut host_log, &mut para_log, entries);
+    let chip = note_all(&mut host_log, &mut para_log, entries);
     let mut lines = chip.lines();
+    let mut desk = HostDesk {
+        chip,
+        log: host_log,
+        sure: Tick(0),
+    };
     let mut host_ask = host.advance(n);
     let mut para_ask = para.advance(n);
     let mut is_ahead = false;
@@ -207,9 +213,9 @@ pub fn go_on_from<H: Party, P: Rewinds>(
                 act(
                     &mut host,
                     Side::Host,
-                    &mut chip,
+                    &mut desk.chip,
                     &mut lines,
-                    &mut host_log,
+                    &mut desk.log,
                     n,
                     host_ask,
                 );
@@ -220,14 +226,15 @@ pub fn go_on_from<H: Party, P: Rewinds>(
                 if was_ahead && !is_ahead {
                     stride = (stride / 8).max(FEWEST);
                 }
-                host_ask = host.advance_seeing(n, &lines, lookahead(para_ask, 1));
+                desk.sure = lookahead(para_ask, 1);
+                host_ask = host.advance_at(n, &lines, desk.sure, &mut desk);
             }
             Side::Para => {
                 let ahead = Tick(tick_of(para_ask).0.saturating_add(stride));
                 act(
                     &mut para,
                     Side::Para,
-                    &mut chip,
+                    &mut desk.chip,
                     &mut lines,
                     &mut para_log,
                     n,
@@ -245,6 +252,11 @@ pub fn go_on_from<H: Party, P: Rewinds>(
             }
         }
     }
+    let HostDesk {
+        chip,
+        log: host_log,
+        ..
+    } = desk;
     Done {
         host,
         para,

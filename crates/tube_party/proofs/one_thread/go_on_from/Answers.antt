@@ -1,7 +1,8 @@
-use Rattle.std.proofs.Common.{◌≡◌, ◌∙◌, sym, ap, arith, Some, None}
+use Rattle.std.proofs.Common.{◌≡◌, ◌∙◌, refl, sym, ap, arith, Some, None}
 use Rattle.beeb_bits.specs.declared.Side.TheVariants.{Host, Para}
 use Rattle.tube_party.specs.Turn.{first_of}
-use Rattle.tube_party.proofs.Both.{begins, host_goes, para_turn, finishes, settled, host_smaller, para_smaller, para_count, acts_keep, host_or_none, gone_seeing, sees_seeing, settled_seeing}
+use Rattle.tube_party.proofs.Both.{begins, para_turn, finishes, settled, para_smaller, para_count, acts_keep, host_or_none, gone_seeing, settled_seeing}
+use Rattle.tube_party.proofs.Passing.{host_passes}
 use Rattle.tube_party.proofs.Noted.{kept_of}
 use Rattle.tube_party.proofs.one_thread.go_on_from.Goals as goal
 
@@ -19,23 +20,21 @@ loop-side-init g c = record {
 pub loop-side-smaller-in-Host : goal.loop-side-smaller-in-Host
 loop-side-smaller-in-Host g c =
     let e : first_of c.loop-side.host_ask c.loop-side.para_ask ≡ Some Host = sym c.first_of.ensures ∙ c.in-Some.is ∙ ap (λ x. Some x) c.in-Host.is in
-    host_smaller g.H.Party.moves g.P.Party.moves g.met.H.Party.lawful g.met.P.Party.lawful _ _ _ _ _ _ _ _ _ _ _ _ _ _ _ _ _ _ _ _ _ _ _ _ _ _
+    (host_passes g.H.Party.moves g.P.Party.moves g.met.H.Party.lawful g.met.P.Party.lawful _ _ _ _ _ _ _ _ _ _ _ _ _ _ _ _ _ _ _ _ _ _ _ _ _ _ _ _
     c.loop-side.invariant.way e (acts_keep c.loop-side.invariant.host_keep c.act.ensures.acts)
     (settled_seeing c.loop-side.invariant.lines c.act.ensures.kept c.tick_of-at.ensures c.roll_back_if_wrong.ensures)
-    (sees_seeing c.act.ensures.kept c.advance_seeing-host_ask.ensures)
+    c.lookahead-desk.ensures (c.act.ensures.keep ∙ c.loop-side.invariant.host_keep) refl c.act.ensures.kept
+    c.advance_at-host_ask.ensures.talks c.advance_at-host_ask.ensures.asked c.advance_at-host_ask.ensures.unsure).smaller
 
 pub loop-side-preserved-in-Host : goal.loop-side-preserved-in-Host
 loop-side-preserved-in-Host g c =
     let e : first_of c.loop-side.host_ask c.loop-side.para_ask ≡ Some Host = sym c.first_of.ensures ∙ c.in-Some.is ∙ ap (λ x. Some x) c.in-Host.is in
-    record {
-      way = host_goes g.H.Party.moves g.P.Party.moves g.met.H.Party.lawful g.met.P.Party.lawful _ _ _ _ _ _ _ _ _ _ _ _ _ _ _ _ _ _ _ _ _ _ _ _ _ _
-          c.loop-side.invariant.way e (acts_keep c.loop-side.invariant.host_keep c.act.ensures.acts)
-          (settled_seeing c.loop-side.invariant.lines c.act.ensures.kept c.tick_of-at.ensures c.roll_back_if_wrong.ensures)
-          c.lookahead.ensures (sees_seeing c.act.ensures.kept c.advance_seeing-host_ask.ensures);
-      lines = c.act.ensures.kept;
-      host_keep = c.act.ensures.keep ∙ c.loop-side.invariant.host_keep;
-      para_keep = c.loop-side.invariant.para_keep;
-    }
+    let over = host_passes g.H.Party.moves g.P.Party.moves g.met.H.Party.lawful g.met.P.Party.lawful _ _ _ _ _ _ _ _ _ _ _ _ _ _ _ _ _ _ _ _ _ _ _ _ _ _ _ _
+    c.loop-side.invariant.way e (acts_keep c.loop-side.invariant.host_keep c.act.ensures.acts)
+    (settled_seeing c.loop-side.invariant.lines c.act.ensures.kept c.tick_of-at.ensures c.roll_back_if_wrong.ensures)
+    c.lookahead-desk.ensures (c.act.ensures.keep ∙ c.loop-side.invariant.host_keep) refl c.act.ensures.kept
+    c.advance_at-host_ask.ensures.talks c.advance_at-host_ask.ensures.asked c.advance_at-host_ask.ensures.unsure in
+    record { way = over.going; lines = over.lines_is; host_keep = over.keep_is; para_keep = c.loop-side.invariant.para_keep }
 
 pub act-requires-in-Para-clause-count : goal.act-requires-in-Para-clause-count
 act-requires-in-Para-clause-count g c =
@@ -54,7 +53,7 @@ loop-side-preserved g c =
     let e : first_of c.loop-side.host_ask c.loop-side.para_ask ≡ Some Para = sym c.first_of.ensures ∙ c.in-Some.is ∙ ap (λ x. Some x) c.in-Para.is in
     record {
       way = para_turn g.H.Party.moves g.P.Party.moves g.met.H.Party.lawful g.met.P.Party.lawful _ _ _ _ _ _ _ _ _ _ _ _ _ _ _ _ _ _ _ _ _ _ _ _
-          c.loop-side.invariant.way e (acts_keep c.loop-side.invariant.para_keep c.act-in-Para.ensures.acts) c.lookahead-in-Para.ensures
+          c.loop-side.invariant.way e (acts_keep c.loop-side.invariant.para_keep c.act-in-Para.ensures.acts) c.lookahead.ensures
           (gone_seeing _ _ _ _ _ c.act-in-Para.ensures.kept c.go_on.ensures);
       lines = c.act-in-Para.ensures.kept;
       host_keep = c.loop-side.invariant.host_keep;

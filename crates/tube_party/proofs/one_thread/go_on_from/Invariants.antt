@@ -10,10 +10,10 @@ abbrev pub invariant-loop-side : goal.invariant-loop-side
 invariant-loop-side g l = record {
   way : IsGoing g.H.Party.moves g.P.Party.moves l.n.0 (length l.entries) l.fn.room.keep
       (after_entries (g.H.Party.state l.fn.host) (g.P.Party.state l.fn.para) l.entries) l.is_ahead (g.H.Party.state l.host) (g.P.Party.state (g.P.Rewinds.before l.past l.para))
-      (g.P.Party.state l.para) l.chip l.host_ask l.para_ask l.host_log.list.items l.para_log.list.items l.host_log.count
+      (g.P.Party.state l.para) l.desk.chip l.host_ask l.para_ask l.desk.log.list.items l.para_log.list.items l.desk.log.count
       l.para_log.count;
-  lines : l.lines ≡ lines_of l.chip;
-  host_keep : l.host_log.keep ≡ l.fn.room.keep;
+  lines : l.lines ≡ lines_of l.desk.chip;
+  host_keep : l.desk.log.keep ≡ l.fn.room.keep;
   para_keep : l.para_log.keep ≡ l.fn.room.keep;
 }
 
