@@ -19,7 +19,7 @@ use Rattle.tube_party.specs.GoingOn.{IsLike, reference_from}
 use Rattle.tube_trace.specs.Entries.{accesses, entry_of}
 use Rattle.tube_party.specs.OneThread.{IsKept, Played, IsPlayed}
 use Rattle.tube_party.specs.Turn.{IsPending, first_of, first_due, ticks_left, tick_of, note_all_leaves, IsSure}
-use Rattle.tube_party.specs.CodeDesk.{Desk, Acts}
+use Rattle.tube_party.specs.CodeAtWork.{AtWork, Acts}
 use Rattle.tube_party.specs.CodeStanding.{Standing, standing_of, IsGone, StandsStill, IsRolledBack}
 use Rattle.tube_party.proofs.Ticks.{world, host_done, rest, host_next, host_silent, para_next, para_silent}
 use Rattle.tube_party.proofs.Runs.{event, First, Over, Silent, Asking, first_of_runs}
@@ -32,7 +32,7 @@ use Rattle.tube_party.proofs.Early.{alike, like_on, like_ticks, look_left_out, e
 use Rattle.tube_party.proofs.First.{HostFirst, ParaFirst, host_first, para_first, none_left}
 
 -- a side at work, by its parts
-abbrev pub seated : {S : Type 0} → S → State → List Entry → ℕ → Desk S
+abbrev pub seated : {S : Type 0} → S → State → List Entry → ℕ → AtWork S
 seated s c list count = record { state = s; chip = c; list = list; count = count }
 
 abbrev pub left_as : {S T : Type 0} → S → T → State → List Entry → List Entry → ℕ → ℕ → Played S T
@@ -608,7 +608,7 @@ module _ {S T : Type 0} (h : Moves S) (p : Moves T) (lh : IsLawful h) (lp : IsLa
       → IsPlayed (reference_from h p w0 n) keep (left_as s t c hl pl hc pc)
   finishes keep w0 s t c ask_h ask_p hl pl hc pc w e = finish_by keep w0 s t c ask_h ask_p hl pl hc pc w (none_left ask_h ask_p e)
 
-pub acts_keep : {S : Type 0} {r : Moves S} {side : Side} {k k2 : ℕ} {x y : Desk S} → k ≡ k2 → Acts r side k x y → Acts r side k2 x y
+pub acts_keep : {S : Type 0} {r : Moves S} {side : Side} {k k2 : ℕ} {x y : AtWork S} → k ≡ k2 → Acts r side k x y → Acts r side k2 x y
 acts_keep {r = r} {side = side} {x = x} e t =
     record {
       query = t.query;

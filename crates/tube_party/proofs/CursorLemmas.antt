@@ -18,6 +18,7 @@ use Rattle.beeb_bits.specs.Order.{before}
 use Rattle.tube_chip.specs.State.{State}
 use Rattle.tube_chip.specs.Act.{is_status, register_number, read_by, count_of_rises, with_counts, chip_after}
 use Rattle.tube_chip.specs.State.{asks_nmi}
+use Rattle.tube_chip.proofs.Rises.{no_rise}
 use Rattle.tube_party.specs.Replay.{chip_before, is_that, next_line}
 use Rattle.tube_party.specs.CodeCursor.{own_left, IsOwnAt, Takes, Misses}
 
@@ -56,15 +57,11 @@ chip_end trace side t at c h = rw (drop_of_length-le trace h) refl
 
 -- a read of a status register leaves the chip
 
-no-rise : (b : Bool) (n : ℕ) → count_of_rises b b n ≡ n
-no-rise true n = refl
-no-rise false n = refl
-
 pub status-leaves : (c : State) (side : Side) (number : ℕ) → is_status number ≡ true → chip_after c side (Read number) ≡ c
 status-leaves c side number is =
     ap (λ (b : Bool). with_counts c (if b then c else read_by side (register_number number) c)) is
-    ∙ ap (λ (n : ℕ). record c { nmis = n; resets = count_of_rises c.flags.p c.flags.p c.resets }) (no-rise (asks_nmi c) c.nmis)
-    ∙ ap (λ (n : ℕ). record c { resets = n }) (no-rise c.flags.p c.resets)
+    ∙ ap (λ (n : ℕ). record c { nmis = n; resets = count_of_rises c.flags.p c.flags.p c.resets }) (no_rise (asks_nmi c) c.nmis)
+    ∙ ap (λ (n : ℕ). record c { resets = n }) (no_rise c.flags.p c.resets)
 
 -- lines that a test finds the same
 

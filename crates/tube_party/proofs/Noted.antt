@@ -8,7 +8,7 @@ use Rattle.tube_chip.specs.Events.{Event, is_side, after}
 use Rattle.tube_trace.specs.declared.Entry.{Entry}
 use Rattle.tube_trace.specs.Entries.{accesses, event_of, events_of}
 use Rattle.tube_party.specs.declared.log.Log.{Log}
-use Rattle.tube_party.specs.CodeDesk.{own_of}
+use Rattle.tube_party.specs.CodeAtWork.{own_of}
 use Rattle.tube_party.specs.Logs.{HasNoted}
 use Rattle.tube_party.specs.OneThread.{IsKept}
 use Rattle.tube_party.specs.Turn.{note_all_leaves}

@@ -15,7 +15,7 @@ use Rattle.tube_party.specs.declared.party.Ask.TheVariants.{Nothing, Access, Loo
 use Rattle.tube_party.specs.Moves.{Moves, IsLawful, IsAsk, Looks, Sees, Talks, IsAnswered, IsUnsure, shown_lines}
 use Rattle.tube_party.specs.Reference.{World}
 use Rattle.tube_party.specs.Turn.{first_of, tick_of, ticks_left, IsSure, note_leaves}
-use Rattle.tube_party.specs.CodeDesk.{Acts}
+use Rattle.tube_party.specs.CodeAtWork.{Acts}
 use Rattle.tube_party.specs.CodePassing.{Attended, IsPassed}
 use Rattle.tube_party.specs.CodeStanding.{standing_of}
 use Rattle.tube_party.proofs.UnderWay.{IsGoing}

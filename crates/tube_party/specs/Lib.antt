@@ -10,6 +10,6 @@ pub mod GoingOn
 pub mod OneThread
 pub mod Turn
 pub mod Logs
-pub mod CodeDesk
+pub mod CodeAtWork
 pub mod CodeStanding
 pub mod CodePassing

@@ -3,7 +3,7 @@ ghost use Rattle.std.specs.Prelude.{◌≡◌, ◌≤◌, ◌<◌, ◌^◌, All,
 ghost use Rattle.beeb_bits.specs.declared.Side.TheVariants.{Host, Para};
 ghost use Rattle.tube_chip.specs.Events.{after};
 ghost use Rattle.tube_trace.specs.Entries.{IsEntry, events_of};
-ghost use Rattle.tube_party.specs.CodeDesk.{own_of};
+ghost use Rattle.tube_party.specs.CodeAtWork.{own_of};
 ghost use Rattle.tube_party.specs.Logs.{IsFresh, HasNoted};
 ghost use Rattle.tube_party.specs.OneThread.{IsKept};
 

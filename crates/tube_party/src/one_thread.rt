@@ -3,7 +3,7 @@ ghost use Rattle.std.specs.Prelude.{◌≡◌, ◌≤◌, ◌<◌, ◌^◌, ◌�
 ghost use Rattle.tube_chip.specs.State.{lines_of};
 ghost use Rattle.tube_party.specs.OneThread.{IsPlayed, played_of, TakeSides, AreClosedWithin};
 ghost use Rattle.tube_party.specs.Turn.{IsPending, first_of, tick_of, IsSure};
-ghost use Rattle.tube_party.specs.CodeDesk.{desk, Acts};
+ghost use Rattle.tube_party.specs.CodeAtWork.{at_work, Acts};
 ghost use Rattle.tube_party.specs.CodeStanding.{standing_of, IsGone, StandsStill, IsRolledBack};
 ghost use Rattle.tube_trace.specs.Entries.{IsEntry};
 ghost use Rattle.tube_party.specs.Reference.{reference};
@@ -93,8 +93,8 @@ fn act<M: Party>(
     requires count { log.old.count < 2 ^ 63 }
     requires kept { lines.old ≡ lines_of chip.old }
     ensures kept { lines.new ≡ lines_of chip.new }
-    ensures acts { let old = desk (M.state machine.old) chip.old log.old in
-        let new = desk (M.state machine.new) chip.new log.new in
+    ensures acts { let old = at_work (M.state machine.old) chip.old log.old in
+        let new = at_work (M.state machine.new) chip.new log.new in
         Acts M.moves side log.old.keep old new }
     ensures keep { log.new.keep ≡ log.old.keep }
 {

@@ -11,22 +11,22 @@ use Rattle.tube_party.specs.Moves.{Moves}
 use Rattle.tube_party.specs.Turn.{note_all_leaves}
 
 -- A side at work: the state of its party, the chip, what is kept of its accesses, and how many there were.
-pub record Desk (S : Type 0) : Type 0 where
+pub record AtWork (S : Type 0) : Type 0 where
   pub state : S
   pub chip : State
   pub list : List Entry
   pub count : ℕ
 
 -- that of a party in this state, with this log
-abbrev pub desk : {S : Type 0} → S → State → Log → Desk S
-desk s c log = record { state = s; chip = c; list = log.list.items; count = log.count }
+abbrev pub at_work : {S : Type 0} → S → State → Log → AtWork S
+at_work s c log = record { state = s; chip = c; list = log.list.items; count = log.count }
 
 -- the entry, where it is one of the side's
 abbrev pub own_of : Side → Entry → List Entry
 own_of side entry = accesses (of_side side (event_of entry ∷ []))
 
 -- The step that asks was done at the chip.
-pub record Acts {S : Type 0} (m : Moves S) (side : Side) (keep : ℕ) (old new : Desk S) : Type 0 where
+pub record Acts {S : Type 0} (m : Moves S) (side : Side) (keep : ℕ) (old new : AtWork S) : Type 0 where
   pub query : Query
   pub asks : m.asks old.state ≡ Some query
   pub state_is : new.state ≡ m.next old.state (Some (act old.chip side query).1)
