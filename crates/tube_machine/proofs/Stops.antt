@@ -1,5 +1,5 @@
 -- Where the machine stops, and how it goes on from there.
-use Rattle.std.proofs.Common.{◌≡◌, ◌∙◌, ◌&&◌, ◌||◌, refl, sym, ap, subst, ℕ, zero, suc, ◌+◌, ◌-◌, ◌*◌, ◌<◌, ◌≤◌, ◌⊎◌, inl, inr, max, min, length}
+use Rattle.std.proofs.Common.{◌≡◌, ◌∙◌, ◌&&◌, ◌||◌, refl, sym, ap, subst, ℕ, zero, suc, ◌+◌, ◌-◌, ◌*◌, ◌<◌, ◌≤◌, ◌⊎◌, inl, inr, max, min, length, Ok, Err}
 use Rattle.std.specs.Prelude.{nat_lt, not}
 use Rattle.std.proofs.lemmas.Bool.{ltb-true}
 use Rattle.std.proofs.Common.{Bool, true, false, is_none, Option, Some, None, IsSome, MatchOption, arith, if◌then◌else◌}
@@ -22,7 +22,7 @@ use Rattle.tube_party.specs.declared.party.Ask.TheVariants.{Nothing, Access, Loo
 use Rattle.tube_machine.specs.Wiring.{Wiring, IsWired}
 use Rattle.tube_machine.specs.Step.{At, is_break, after_break, asks, asks_by, asks_reset, byte_of, after_step, closed_to, lines_in, next_state, moves_of}
 use Rattle.tube_machine.specs.Exchange.{IsDone, IsCramped, ready}
-use Rattle.tube_machine.specs.declared.steps.Attempt.TheVariants as attempt
+use Rattle.tube_machine.specs.declared.bus.Unable.TheVariants as unable
 use Rattle.tube_machine.specs.NoBreak.{plain-asks, plain-next}
 use Rattle.tube_machine.proofs.UnderWay.{Came}
 use Rattle.tube_machine.proofs.Spends.{seen-more}
@@ -70,7 +70,7 @@ few part c is on = few_seen c (some-of (next_cycle Cmos c) (subst (λ (p : Part)
 -- a break step below a tick, without a Tube, asks nothing
 module _ (part : Part) {B : Type 0} (w : Wiring B) where
   pub breaks-alone : (s : At B) (n : ℕ) → (nat_lt s.due n && is_break part w s && not (w.has_tube s.bus)) ≡ true →
-      (s.due < n) × ((new : At B) → new ≡ after_break part w (closed_to w s (s.due + 1)) → IsDone part w s attempt.Done new)
+      (s.due < n) × ((new : At B) → new ≡ after_break part w (closed_to w s (s.due + 1)) → IsDone part w s (Ok tt) new)
   breaks-alone s n is =
       let parts = alone-parts (nat_lt s.due n) (is_break part w s) (w.has_tube s.bus) is in (
         ltb-true s.due n parts.0,
@@ -119,7 +119,7 @@ module _ (part : Part) {B : Type 0} (w : Wiring B) (wired : IsWired w) where
     then-on start s new came on = looks_on (moves_of part w) n lines sure came.0 on.0 start s new came.1 on.1
 
     -- one more step that asks nothing
-    pub more : (start s new : At B) → Came part w n lines sure start s → s.due < n → IsDone part w s attempt.Done new → Came part w n lines sure start new
+    pub more : (start s new : At B) → Came part w n lines sure start s → s.due < n → IsDone part w s (Ok tt) new → Came part w n lines sure start new
     more start s new came low done = (
       suc came.0,
       subst (λ (x : At B). Looks (moves_of part w) n (shown_lines lines sure) (suc came.0) start x) (sym done.1)
@@ -136,7 +136,7 @@ module _ (part : Part) {B : Type 0} (w : Wiring B) (wired : IsWired w) where
     )
 
     -- the next step asks for an access
-    pub stops : (start s new : At B) (o : Op) → Came part w n lines sure start s → s.due < n → IsDone part w s (attempt.Tube o) new
+    pub stops : (start s new : At B) (o : Op) → Came part w n lines sure start s → s.due < n → IsDone part w s (Err (unable.Tube o)) new
         → Sees (moves_of part w) n (shown_lines lines sure) start (Access (record { 0 = new.due }) o) new
     stops start s new o came low done =
         record {
@@ -161,7 +161,7 @@ module _ (part : Part) {B : Type 0} (w : Wiring B) (wired : IsWired w) where
     stops-at-look start last new ask came is late = record { steps = came.0; last = last; looks = came.1; asked = is; unsure = unsure-by last new ask is late }
 
   -- what an access of one cycle costs
-  pub cost : (s new : At B) → IsDone part w s attempt.Done new → IsSome (next_cycle part s.cpu) → part ≡ Cmos → w.has_tube s.bus ≡ true → ((b : B) (t : ℕ) (c : Cycle) → w.takes b t c ≡ w.cycle b) →
+  pub cost : (s new : At B) → IsDone part w s (Ok tt) new → IsSome (next_cycle part s.cpu) → part ≡ Cmos → w.has_tube s.bus ≡ true → ((b : B) (t : ℕ) (c : Cycle) → w.takes b t c ≡ w.cycle b) →
       (ready part new.cpu new.due ≡ s.due + w.cycle s.bus) × (length new.cpu.seen ≡ length s.cpu.seen + 1)
   cost s new done some cmos has even = by (next_cycle part s.cpu) refl some
     where

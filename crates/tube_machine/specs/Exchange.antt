@@ -14,8 +14,6 @@ use Rattle.tube_party.specs.Moves.{FitsAnswer, Looks, Sees, Talks, Hears, shown_
 use Rattle.tube_machine.specs.declared.bus.Done.{Done}
 use Rattle.tube_machine.specs.declared.bus.Unable.{Unable}
 use Rattle.tube_machine.specs.declared.bus.Unable.TheVariants.{Tube, Full}
-use Rattle.tube_machine.specs.declared.steps.Attempt.{Attempt}
-use Rattle.tube_machine.specs.declared.steps.Attempt.TheVariants as attempt
 use Rattle.tube_machine.specs.declared.steps.Left.{Left}
 use Rattle.tube_machine.specs.declared.steps.Left.TheVariants as left
 use Rattle.tube_machine.specs.declared.run.Stop.{Stop}
@@ -59,10 +57,10 @@ behind from due = if nat_lt from due then due else 0
 
 module _ (part : Part) {B : Type 0} (w : Wiring B) where
   -- the next step is done, or it asks the Tube, or it cannot be noted
-  abbrev pub IsDone : At B → Attempt → At B → Type 0
-  IsDone old attempt.Done new = (asks part w old ≡ None) × (new ≡ next_state part w old None)
-  IsDone old (attempt.Tube o) new = (asks part w old ≡ Some (access o)) × (new ≡ old)
-  IsDone old attempt.Full new = new ≡ old
+  abbrev pub IsDone : At B → Result (Unit {0}) Unable → At B → Type 0
+  IsDone old (Ok x) new = (asks part w old ≡ None) × (new ≡ next_state part w old None)
+  IsDone old (Err (Tube o)) new = (asks part w old ≡ Some (access o)) × (new ≡ old)
+  IsDone old (Err Full) new = new ≡ old
 
   -- the next step is an access to the Tube
   abbrev pub IsAskedByte : At B → Type 0

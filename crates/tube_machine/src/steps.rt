@@ -1,5 +1,5 @@
 //! What a machine does as a party, over its parts: the processor, the bus, and the tick of the next step.
-ghost use Rattle.std.specs.Prelude.{◌≡◌, ◌≤◌, ◌<◌, ◌+◌, ◌-◌, ◌*◌, ◌^◌, ◌&&◌, nat_lt, not, ℕ, length, IsSome, None, Some, true, false};
+ghost use Rattle.std.specs.Prelude.{◌≡◌, ◌≤◌, ◌<◌, ◌+◌, ◌-◌, ◌*◌, ◌^◌, ◌&&◌, nat_lt, not, ℕ, length, IsSome, None, Some, Err, true, false};
 ghost use Rattle.op_table.specs.declared.Part.TheVariants.{Cmos};
 ghost use Rattle.cpu_core.specs.Sequences.{next_cycle, after_byte, halted};
 ghost use Rattle.tube_chip.specs.declared.Answer.TheVariants.{Byte, Seen};
@@ -22,16 +22,6 @@ pub enum Left {
     /// At a look, which may be sure or not, or at a break in place of it.
     Look,
     /// At a write that cannot be noted.
-    Full,
-}
-
-/// What comes of the access of the next step.
-#[derive(Clone, Copy, Debug, PartialEq, Eq)]
-enum Attempt {
-    Done,
-    /// It asks the Tube.
-    Tube(Op),
-    /// It is a write that cannot be noted.
     Full,
 }
 
@@ -165,7 +155,7 @@ fn access<N, P: Processor, B: TubeBus<N>>(
     bus: &mut B,
     due: &mut u64,
     notes: &mut N,
-) -> Attempt
+) -> Result<(), Unable>
     requires room { due.old < 2 ^ 32 }
     requires goes_on { IsSome (next_cycle P.part (P.core cpu.old)) }
     requires before { (B.wiring).closed (B.state bus.old) ≤ due.old + 1 }
@@ -175,23 +165,18 @@ fn access<N, P: Processor, B: TubeBus<N>>(
         IsDone P.part B.wiring old result new }
     ensures noted { B.before notes.new bus.new ≡ B.before notes.old bus.old }
     ensures room { B.room notes.old ≤ B.room notes.new + 1 }
-    ensures full { result ≡ Attempt.Full → (B.endless ≡ false) × (B.room notes.old ≡ 0) }
+    ensures full { result ≡ Err Unable.Full → (B.endless ≡ false) × (B.room notes.old ≡ 0) }
 {
     if is_break::<N, P, B>(cpu, bus, *due) {
         if bus.has_tube() {
-            return Attempt::Tube(Op::Reset);
+            return Err(Unable::Tube(Op::Reset));
         }
         take_break::<N, P, B>(cpu, bus, due);
-        return Attempt::Done;
+        return Ok(());
     }
-    match bus.exchange(*due, cpu.want(), notes) {
-        Ok(done) => {
-            *due = end_cycle::<N, P, B>(cpu, bus, *due, done.byte, done.ticks);
-            Attempt::Done
-        }
-        Err(Unable::Tube(op)) => Attempt::Tube(op),
-        Err(Unable::Full) => Attempt::Full,
-    }
+    let done = bus.exchange(*due, cpu.want(), notes)?;
+    *due = end_cycle::<N, P, B>(cpu, bus, *due, done.byte, done.ticks);
+    Ok(())
 }
 
 /// The steps in a row, and where they leave off.
@@ -248,9 +233,9 @@ fn carry_asking<N, P: Processor, B: TubeBus<N>, D: Desk>(
         match stop {
             Stop::Look => return Left::Look,
             Stop::Access => match access::<N, P, B>(cpu, bus, due, notes) {
-                Attempt::Done => (),
-                Attempt::Tube(op) => return Left::Asked(Ask::Access(Tick(*due), op)),
-                Attempt::Full => return Left::Full,
+                Ok(()) => (),
+                Err(Unable::Tube(op)) => return Left::Asked(Ask::Access(Tick(*due), op)),
+                Err(Unable::Full) => return Left::Full,
             },
             Stop::End => {
                 shut::<N, P, B>(cpu, bus, *due, until);

@@ -1,4 +1,4 @@
-use Rattle.std.proofs.Common.{◌≡◌, ◌∙◌, refl, sym, ap, subst, ℕ, ◌<◌, ◌≤◌, ◌+◌, length, false, max, None, arith}
+use Rattle.std.proofs.Common.{◌≡◌, ◌∙◌, refl, sym, ap, subst, ℕ, ◌<◌, ◌≤◌, ◌+◌, length, false, max, None, arith, Ok, Result}
 use Rattle.op_table.specs.declared.names.Part.TheVariants.{Cmos}
 use Rattle.tube_party.specs.Steps.{talks_on, talks_rise, hears_after, hears_sees}
 use Rattle.tube_machine.specs.Lawful.{lawful}
@@ -6,8 +6,7 @@ use Rattle.tube_machine.specs.Step.{At, at_of, moves_of}
 use Rattle.tube_machine.specs.Exchange.{IsStop, IsDone, Spends, HasSpent, spent, ready}
 use Rattle.tube_machine.specs.declared.run.Stop.{Stop}
 use Rattle.tube_machine.specs.declared.run.Stop.TheVariants as stop
-use Rattle.tube_machine.specs.declared.steps.Attempt.{Attempt}
-use Rattle.tube_machine.specs.declared.steps.Attempt.TheVariants as attempt
+use Rattle.tube_machine.specs.declared.bus.Unable.{Unable}
 use Rattle.tube_machine.proofs.Spends.{spent-on, spent-if, spent-more}
 use Rattle.tube_machine.proofs.Stops.{more, stops, cost, cramped, few}
 use Rattle.tube_machine.proofs.Asked.{then-came, talks-cycle}
@@ -31,7 +30,7 @@ loop-cpu-smaller g c =
     let at : At g.B.TubeBus.State = at_of (g.P.Processor.core c.go_on-at.new.cpu) (g.B.TubeBus.state c.go_on-at.new.bus) c.go_on-at.result.0 in
     let new : At g.B.TubeBus.State = at_of (g.P.Processor.core c.access.new.cpu) (g.B.TubeBus.state c.access.new.bus) c.access.new.due in
     let left : IsStop part w c.args.until.0 stop.Access at = subst (λ (x : Stop). IsStop part w c.args.until.0 x at) c.in-Access.is c.go_on-at.ensures.stops in
-    let done : IsDone part w at attempt.Done new = subst (λ (x : Attempt). IsDone part w at x new) c.in-Done.is c.access.ensures.done in
+    let done : IsDone part w at (Ok tt) new = subst (λ (x : Result (Unit {0}) Unable). IsDone part w at x new) c.in-Ok.is c.access.ensures.done in
     let rises : at.due < new.due = subst (λ (x : At g.B.TubeBus.State). at.due < x.due) (sym done.1) ((lawful part w g.B.TubeBus.wired).rises at None) in
     let risen : s.due ≤ at.due = talks_rise (moves_of part w) g.D.Desk.answers c.args.until.0 c.args.lines.now c.args.sure.0 c.go_on-at.ensures.talks.0 s at
     (g.D.Desk.state c.loop-cpu.desk) (g.D.Desk.state c.go_on-at.new.desk) (lawful part w g.B.TubeBus.wired) c.go_on-at.ensures.talks.1 in
@@ -49,7 +48,7 @@ loop-cpu-preserved g c =
     let at : At g.B.TubeBus.State = at_of (g.P.Processor.core c.go_on-at.new.cpu) (g.B.TubeBus.state c.go_on-at.new.bus) c.go_on-at.result.0 in
     let new : At g.B.TubeBus.State = at_of (g.P.Processor.core c.access.new.cpu) (g.B.TubeBus.state c.access.new.bus) c.access.new.due in
     let left : IsStop part w until stop.Access at = subst (λ (x : Stop). IsStop part w until x at) c.in-Access.is c.go_on-at.ensures.stops in
-    let done : IsDone part w at attempt.Done new = subst (λ (x : Attempt). IsDone part w at x new) c.in-Done.is c.access.ensures.done in
+    let done : IsDone part w at (Ok tt) new = subst (λ (x : Result (Unit {0}) Unable). IsDone part w at x new) c.in-Ok.is c.access.ensures.done in
     let went = talks_on (moves_of part w) g.D.Desk.answers until c.args.lines.now sure c.loop-cpu.invariant.went.0 c.go_on-at.ensures.talks.0 start s at (g.D.Desk.state c.args.desk.now) (g.D.Desk.state c.loop-cpu.desk) (g.D.Desk.state c.go_on-at.new.desk) c.loop-cpu.invariant.went.1 c.go_on-at.ensures.talks.1 in
     let H = (part ≡ Cmos) × (g.B.TubeBus.endless ≡ false) in
     let from = spent (ready part s.cpu s.due) (g.B.TubeBus.room c.loop-cpu.notes) (length s.cpu.seen) in
