@@ -2,7 +2,9 @@ pub mod LineLemmas
 pub mod TextLemmas
 pub mod WrongLemmas
 pub mod RiseLemmas
+pub mod HexTables
 pub mod WrittenLemmas
+pub mod NumberLemmas
 pub mod MergeLemmas
 pub mod LineLaws
 pub mod TextLaws

@@ -2,6 +2,7 @@
 #![tactic(auto)]
 
 mod beginning;
+mod hex;
 mod law;
 mod line;
 mod merging;

@@ -1,14 +1,15 @@
 //! One line of a trace, read and written.
-ghost use Rattle.std.specs.Prelude.{◌≡◌, ◌∷◌, [], ◌+◌, ◌%◌, ◌++◌, IsTrue, IfOk, IfSome, OnOk, OnErr, length};
+ghost use Rattle.std.specs.Prelude.{◌≡◌, ◌∷◌, [], ◌+◌, ◌%◌, ◌++◌, ◌&&◌, ◌==◌, IfOk, IfSome, OnOk, OnErr, codes, length, slice_index, slice_range, if◌then◌else◌};
 ghost use Rattle.std.specs.List.{list_all};
-ghost use Rattle.tube_trace.specs.Line.{is_space, is_octal, side_of, reset_of, op_of, answer_in, is_formed, entry_in, entry_of};
+ghost use Rattle.digits.specs.Hexadecimal.{hex_digits, hex_number, is_hex};
+ghost use Rattle.tube_trace.specs.Line.{is_space, is_octal, side_of, reset_of, op_of, answer_in, entry_from, entry_of};
 ghost use Rattle.tube_trace.specs.Entries.{IsEntry};
 ghost use Rattle.tube_trace.specs.Laws.{IsOfByte};
 ghost use Rattle.tube_trace.specs.Text.{side_letter, op_letter, number_of, access_text, asked_byte, line_byte, line_text};
 
 use crate::Entry;
+use crate::hex::{number, pair, pair_at};
 use beeb_bits::{Side, Tick};
-use digits::{all_hex, hex_number, ten_digits, two_digits};
 use std::alloc::AllocError;
 use tube_chip::Op;
 
@@ -72,48 +73,51 @@ fn are_spaces(a: u8, b: u8, c: u8, d: u8) -> bool
     a == b' ' && b == b' ' && c == b' ' && d == b' '
 }
 
-// The bytes that are no letters stand where the form wants them.
-fn is_formed(line: &[u8]) -> bool
+// The bytes between the letters and the hexadecimal digits stand where the form wants them.
+fn is_parted(line: &[u8]) -> bool
     requires { length line.now ≡ LENGTH }
-    ensures { result ≡ is_formed line.now }
+    ensures { result ≡ (list_all is_space (slice_index line.now 10 ∷ slice_index line.now 12 ∷ slice_index line.now 14 ∷ slice_index line.now 16 ∷ [])
+        && is_octal (slice_index line.now 15) && slice_index line.now 19 == 10) }
 {
-    all_hex(&line[..10])
-        && are_spaces(line[10], line[12], line[14], line[16])
-        && is_octal(line[15])
-        && all_hex(&line[17..19])
-        && line[19] == b'\n'
+    are_spaces(line[10], line[12], line[14], line[16]) && is_octal(line[15]) && line[19] == b'\n'
 }
 
-// The entry of a line so formed.
-fn entry_in(line: &[u8]) -> Option<Entry>
-    requires length { length line.now ≡ LENGTH }
-    requires formed { IsTrue (is_formed line.now) }
-    ensures { result ≡ entry_in line.now }
+// The tick and the byte of a line, if their digits are.
+fn numbers_in(line: &[u8]) -> Option<(u64, u8)>
+    requires { length line.now ≡ LENGTH }
+    ensures { result ≡ (if list_all is_hex (slice_range line.now 0 10) && list_all is_hex (slice_range line.now 17 19)
+        then Some (hex_number (slice_range line.now 0 10), hex_number (slice_range line.now 17 19)) else None) }
 {
-    let tick = Tick(hex_number(&line[..10]));
-    let side = side_of(line[11])?;
-    let byte = hex_number(&line[17..19]) as u8;
-    let op = op_of(side, line[13], line[15] - b'0', byte)?;
-    let answer = answer_in(op, byte);
+    let high = number(&line[..5])?;
+    let low = number(&line[5..10])?;
+    let byte = number(&line[17..19])?;
+    Some((high * 0x10_0000 + low, byte as u8))
+}
+
+fn entry_from(tick: u64, side: u8, letter: u8, number: u8, byte: u8) -> Option<Entry>
+    ensures { result ≡ entry_from tick (side_of side) letter number byte }
+{
+    let side = side_of(side)?;
+    let op = op_of(side, letter, number, byte)?;
     Some(Entry {
-        tick,
+        tick: Tick(tick),
         side,
         op,
-        answer,
+        answer: answer_in(op, byte),
     })
 }
 
-#[tactic(auto, unfolding(crate::specs::Line::entry_of))]
 /// The entry of a line with its line feed, or none where the bytes are outside the form.
+#[tactic(auto, unfolding(crate::specs::Line::entry_of))]
 pub(crate) fn entry_of(line: &[u8]) -> Option<Entry>
     ensures value { result ≡ entry_of line.now }
     ensures may { IfSome result IsEntry }
 {
-    if line.len() == LENGTH && is_formed(line) {
-        entry_in(line)
-    } else {
-        None
+    if line.len() != LENGTH || !is_parted(line) {
+        return None;
     }
+    let (tick, byte) = numbers_in(line)?;
+    entry_from(tick, line[11], line[13], line[15] - b'0', byte)
 }
 
 fn side_letter(side: Side) -> u8
@@ -125,70 +129,43 @@ fn side_letter(side: Side) -> u8
     }
 }
 
-fn op_letter(op: Op) -> u8
-    ensures { result ≡ op_letter op }
-{
-    match op {
-        Op::Read(_) => b'R',
-        Op::Write(..) => b'W',
-        Op::Reset => b'X',
-    }
-}
-
-fn number_digit(op: Op) -> u8
-    ensures { result ≡ 48 + number_of op % 8 }
-{
-    match op {
-        Op::Read(number) | Op::Write(number, _) => b'0' + number % 8,
-        Op::Reset => b'0',
-    }
-}
-
 fn asked_byte(op: Op) -> [u8; 2]
     ensures { result ≡ asked_byte op }
 {
     match op {
         Op::Read(_) => *b"--",
-        Op::Write(_, byte) => two_digits(byte),
+        Op::Write(_, byte) => pair(byte),
         Op::Reset => *b"00",
     }
 }
 
-fn line_byte(op: Op, answer: u8) -> u8
-    ensures { result ≡ line_byte op answer }
+// The letter and the number of an operation, and the byte answered or written.
+fn parts_of(op: Op, answer: u8) -> (u8, u8, u8)
+    ensures letter { result.0 ≡ op_letter op }
+    ensures number { result.1 ≡ number_of op }
+    ensures byte { result.2 ≡ line_byte op answer }
 {
     match op {
-        Op::Read(_) => answer,
-        Op::Write(_, byte) => byte,
-        Op::Reset => 0,
+        Op::Read(number) => (b'R', number, answer),
+        Op::Write(number, byte) => (b'W', number, byte),
+        Op::Reset => (b'X', 0, 0),
     }
 }
 
-#[tactic(auto, unfolding(crate::specs::Text::access_text, digits::specs::Hexadecimal::hex_digits))]
-fn access_text(tick: Tick, side: Side, op: Op, byte: [u8; 2]) -> [u8; 19]
-    ensures { result ≡ access_text tick.0 side op byte }
+// The line of these parts, with its line feed.
+fn line_of(tick: Tick, side: Side, letter: u8, number: u8, byte: [u8; 2]) -> [u8; LENGTH]
+    ensures { result ≡ (hex_digits 10 tick.0 ++ (32 ∷ side_letter side ∷ 32 ∷ letter ∷ 32 ∷ (48 + number % 8) ∷ 32 ∷ byte)) ++ codes "\n" }
 {
-    let [a, b, c, d, e, f, g, h, i, j] = ten_digits(tick.0);
+    let [a, b] = pair_at(tick.0, 0x1_0000_0000);
+    let [c, d] = pair_at(tick.0, 0x100_0000);
+    let [e, f] = pair_at(tick.0, 0x1_0000);
+    let [g, h] = pair_at(tick.0, 0x100);
+    let [i, j] = pair_at(tick.0, 1);
+    let side = side_letter(side);
+    let number = b'0' + number % 8;
     [
-        a,
-        b,
-        c,
-        d,
-        e,
-        f,
-        g,
-        h,
-        i,
-        j,
-        b' ',
-        side_letter(side),
-        b' ',
-        op_letter(op),
-        b' ',
-        number_digit(op),
-        b' ',
-        byte[0],
-        byte[1],
+        a, b, c, d, e, f, g, h, i, j, b' ', side, b' ', letter, b' ', number, b' ', byte[0],
+        byte[1], b'\n',
     ]
 }
 
@@ -200,7 +177,9 @@ pub fn push_access(text: &mut Vec<u8>, tick: Tick, side: Side, op: Op) -> Result
     ensures ok { OnOk result (text.new.items ≡ text.old.items ++ access_text tick.0 side op (asked_byte op)) }
     ensures err { OnErr result (text.new.items ≡ text.old.items) }
 {
-    text.extend_from_slice(&access_text(tick, side, op, asked_byte(op)))
+    let (letter, number, _) = parts_of(op, 0);
+    let line = line_of(tick, side, letter, number, asked_byte(op));
+    text.extend_from_slice(&line[..LENGTH - 1])
 }
 
 /// Appends the line of an entry.
@@ -208,8 +187,6 @@ pub(crate) fn push_line(text: &mut Vec<u8>, entry: Entry) -> Result<(), AllocErr
     ensures text { IfOk result (λ _. text.new.items ≡ text.old.items ++ line_text entry) }
     ensures byte { IfOk result (λ _. IsOfByte entry) }
 {
-    let byte = two_digits(line_byte(entry.op, entry.answer));
-    text.extend_from_slice(&access_text(entry.tick, entry.side, entry.op, byte))?;
-    text.push(b'\n')?;
-    Ok(())
+    let (letter, number, byte) = parts_of(entry.op, entry.answer);
+    text.extend_from_slice(&line_of(entry.tick, entry.side, letter, number, pair(byte)))
 }
