@@ -59,7 +59,7 @@ too_large (b ∷ bytes) n h = too_large bytes (16 * n + value b) (omega arith)
 value_when : (b : ℕ) (t : Bool) → is_hex b ≡ t → value b ≡ cond t (hex_value b) 1048576
 value_when b t e = rw e refl
 
-pub sum_other : (bytes : List ℕ) (n : ℕ) → list_all is_hex bytes ≡ false → 1048576 ≤ sum_after n bytes
+sum_other : (bytes : List ℕ) (n : ℕ) → list_all is_hex bytes ≡ false → 1048576 ≤ sum_after n bytes
 sum_other [] n h = cc
 sum_other (b ∷ bytes) n h =
     elim (is_hex b) as (λ t. is_hex b ≡ t → 1048576 ≤ sum_after n (b ∷ bytes)) [
@@ -68,7 +68,7 @@ sum_other (b ∷ bytes) n h =
     ] refl
 
 -- digits sum up to their number, which has a bound
-pub sum_digits : (bytes : List ℕ) (n : ℕ) → list_all is_hex bytes ≡ true → sum_after n bytes ≡ hex_number_after n bytes
+sum_digits : (bytes : List ℕ) (n : ℕ) → list_all is_hex bytes ≡ true → sum_after n bytes ≡ hex_number_after n bytes
 sum_digits [] n h = refl
 sum_digits (b ∷ bytes) n h =
     elim (is_hex b) as (λ t. is_hex b ≡ t → sum_after n (b ∷ bytes) ≡ hex_number_after n (b ∷ bytes)) [
@@ -77,7 +77,7 @@ sum_digits (b ∷ bytes) n h =
     ] refl
 
 -- what a sum of at most five bytes tells
-pub small_sum : (bytes : List ℕ) → sum_after 0 bytes < 1048576 → list_all is_hex bytes ≡ true
+small_sum : (bytes : List ℕ) → sum_after 0 bytes < 1048576 → list_all is_hex bytes ≡ true
 small_sum bytes h =
     elim (list_all is_hex bytes) as (λ t. list_all is_hex bytes ≡ t → t ≡ true) [
       | true ↦ λ e. refl
@@ -93,7 +93,7 @@ digits_below (b ∷ bytes) n i all h =
     let e : i + length (b ∷ bytes) ≡ i + 1 + length bytes = omega arith in
     rw e (digits_below bytes (16 * n + hex_value b) (i + 1) (and_right _ _ all) (digit_more n b i (and_left _ _ all) h))
 
-pub number_below : (bytes : List ℕ) → list_all is_hex bytes ≡ true → hex_number bytes < 16 ^ length bytes
+number_below : (bytes : List ℕ) → list_all is_hex bytes ≡ true → hex_number bytes < 16 ^ length bytes
 number_below bytes all = let e : 0 + length bytes ≡ length bytes = omega arith in rw e at (digits_below bytes 0 0 all (lit< tt))
 
 -- ---- the sum of a loop over the bytes
@@ -104,7 +104,7 @@ sum_step bytes n i h = rw (drop_more bytes i 0 h) refl
 pub sum_end : (bytes : List ℕ) (n i : ℕ) → length bytes ≤ i → sum_after 0 bytes ≡ sum_after n (drop i bytes) → sum_after 0 bytes ≡ n
 sum_end bytes n i h so_far = so_far ∙ ap (sum_after n) (drop_of_length-le bytes h)
 
-pub sum_all : (bytes : List ℕ) (n : ℕ) → sum_after 0 bytes ≡ n → n < 1048576 → list_all is_hex bytes ≡ true
+sum_all : (bytes : List ℕ) (n : ℕ) → sum_after 0 bytes ≡ n → n < 1048576 → list_all is_hex bytes ≡ true
 sum_all bytes n is h = small_sum bytes (omega arith)
 
 pub sum_some : (bytes : List ℕ) (n : ℕ) → sum_after 0 bytes ≡ n → n < 1048576 → Some n ≡ (if list_all is_hex bytes then Some (hex_number bytes) else None)

@@ -1,6 +1,6 @@
 -- What a line in form has at its places, and how a text falls into lines.
-use Rattle.std.proofs.Common.{◌≡◌, ◌≢◌, sym, refl, subst, ℕ, zero, suc, ◌-◌, ◌<◌, ◌≤◌, List, [], ◌∷◌, length, get_or, take, drop, Bool, true, false, ◌&&◌, ◌==◌, IsTrue, cond, Option, Some, None, arith, below_more, lit≤}
-use Rattle.std.specs.Prelude.{slice_index, slice_range, IfSome}
+use Rattle.std.proofs.Common.{◌≡◌, ◌≢◌, refl, subst, ℕ, zero, suc, ◌-◌, ◌<◌, ◌≤◌, List, [], ◌∷◌, length, get_or, take, drop, Bool, true, false, ◌&&◌, ◌==◌, IsTrue, cond, Option, Some, None, arith, below_more, lit≤}
+use Rattle.std.specs.Prelude.{slice_index, slice_range}
 use Rattle.std.specs.List.{list_all}
 use Rattle.std.proofs.lemmas.List.Folds.{list_all_at}
 use Rattle.std.proofs.lemmas.Bool.Decides.{nat_tests}
@@ -52,9 +52,6 @@ formed_parts line h =
       byte = and_right _ _ a;
       feed = and_right _ _ h;
     }
-
-pub octal_low : (b : ℕ) → IsTrue (is_octal b) → 48 ≤ b
-octal_low b h = grind (arith, nat_tests)
 
 -- no test of the form passes a line feed
 
@@ -186,7 +183,3 @@ pub entry_below : (line : List ℕ) (e : Entry) → HasEntry line e → IsEntry 
 entry_below line e has =
     let below : slice_index line 15 - 48 < 8 = octal_below (slice_index line 15) (formed_parts line has.formed).number in
     entry_may _ (side_of (slice_index line 11)) (slice_index line 13) (slice_index line 15 - 48) (hex_number (slice_range line 17 19)) e below has.entry
-
-pub entry_in_below : (line : List ℕ) → length line ≡ 20 → IsTrue (is_formed line) → (o : Option Entry) → o ≡ entry_in line → IfSome o IsEntry
-entry_in_below line long formed None is = tt
-entry_in_below line long formed (Some e) is = entry_below line e (record { long = long; formed = formed; entry = sym is })
