@@ -11,30 +11,30 @@ use beeb_bits::NoMemory;
 use std::alloc::{AllocError, Global};
 
 // The entry that comes first, and what is left of both lists.
-fn split_first<'a>(
+fn split_first<'a, 'b>(
     host: &'a [Entry],
-    para: &'a [Entry],
-) -> Option<(&'a Entry, &'a [Entry], &'a [Entry])>
-    ensures { option_map (λ r. (r.0.now, r.1.now, r.2.now)) result ≡ next_of host.now para.now }
+    para: &'b [Entry],
+) -> Option<(Entry, &'a [Entry], &'b [Entry])>
+    ensures { option_map (λ r. (r.0, r.1.now, r.2.now)) result ≡ next_of host.now para.now }
 {
     match (host, para) {
         ([], []) => None,
-        ([a, rest @ ..], []) => Some((a, rest, para)),
-        ([], [b, rest @ ..]) => Some((b, host, rest)),
+        ([a, rest @ ..], []) => Some((*a, rest, para)),
+        ([], [b, rest @ ..]) => Some((*b, host, rest)),
         ([a, host_rest @ ..], [b, para_rest @ ..]) => {
             if b.tick < a.tick {
-                Some((b, host, para_rest))
+                Some((*b, host, para_rest))
             } else {
-                Some((a, host_rest, para))
+                Some((*a, host_rest, para))
             }
         }
     }
 }
 
-fn merged<'a>(
+fn merged(
     alloc: Global,
-    mut host: &'a [Entry],
-    mut para: &'a [Entry],
+    mut host: &[Entry],
+    mut para: &[Entry],
     keep: u32,
 ) -> Result<Vec<Entry>, AllocError>
     ensures merged { IfOk result (λ v. events_of v.items ≡ take keep (merge (events_of host.entry.now) (events_of para.entry.now))) }
@@ -46,7 +46,7 @@ fn merged<'a>(
         let Some((first, host_rest, para_rest)) = split_first(host, para) else {
             break;
         };
-        entries.push(*first)?;
+        entries.push(first)?;
         host = host_rest;
         para = para_rest;
     }
