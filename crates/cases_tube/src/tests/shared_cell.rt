@@ -307,7 +307,7 @@ fn two_threads_make_a_legal_history(rt: HostRuntime) {
         let text = trace_text(rt.alloc(), &host, &para).expect(&rt, "ample memory");
         // What is read rises as the trace of a Tube does.
         let entries = read(rt.alloc(), &text).expect(&rt, "a trace").entries;
-        assert_eq!(rt; entries.len(), 2_000);
+        assert_eq!(rt; entries.len(), 500);
         assert_eq!(rt; first_wrong(&entries), None, "{seed}");
         let mut chip = Chip::new();
         for entry in &entries {
