@@ -1,5 +1,5 @@
 -- The text of a trace: the clock of the machines that it tells of, and its entries, or its first offending line.
-use Rattle.std.specs.Prelude.{ℕ, ◌+◌, ◌==◌, nat_eq, Bool, true, List, [], ◌∷◌, ◌++◌, map, drop, length, codes, Option, Some, None, Result, Ok, Err, if◌then◌else◌}
+use Rattle.std.specs.Prelude.{ℕ, ◌+◌, nat_eq, Bool, true, List, [], ◌∷◌, ◌++◌, map, drop, length, codes, Option, Some, None, Result, Ok, Err, if◌then◌else◌}
 use Rattle.std.specs.List.{starts_with}
 use Rattle.digits.specs.Lines.{text_lines}
 use Rattle.beeb_bits.specs.Order.{before}

@@ -1,6 +1,9 @@
-use Rattle.std.proofs.Common.{◌≡◌, ◌∙◌, refl, sym, ap, subst, ℕ, ◌<◌, ◌≤◌, ◌+◌, length, false, max, None, arith, Ok, Result}
+use Rattle.std.proofs.Common.{◌≡◌, ◌∙◌, refl, sym, ap, subst, ℕ, ◌<◌, ◌≤◌, ◌+◌, length, false, max, None, arith, Ok, Err, Result}
 use Rattle.op_table.specs.declared.names.Part.TheVariants.{Cmos}
 use Rattle.tube_party.specs.Steps.{talks_on, talks_rise, hears_after, hears_sees}
+use Rattle.tube_chip.specs.declared.Op.{Op}
+use Rattle.tube_party.specs.declared.party.Ask.TheVariants as Ask
+use Rattle.tube_party.specs.Moves.{Hears, shown_lines}
 use Rattle.tube_machine.specs.Lawful.{lawful}
 use Rattle.tube_machine.specs.Step.{At, at_of, moves_of}
 use Rattle.tube_machine.specs.Exchange.{IsStop, IsDone, Spends, HasSpent, spent, ready}
@@ -69,8 +72,8 @@ loop-cpu-preserved g c =
           (λ h. (cost part w wired at new done left.0 h.0 (g.B.TubeBus.joined h.1 at.bus) (g.B.TubeBus.even h.1)).1);
     }
 
-pub returns-in-Tube-clause-ran : goal.returns-in-Tube-clause-ran
-returns-in-Tube-clause-ran g c =
+pub returns-in-Err-Tube-clause-ran : goal.returns-in-Err-Tube-clause-ran
+returns-in-Err-Tube-clause-ran g c =
     let part = g.P.Processor.part in
     let w = g.B.TubeBus.wiring in
     let start : At g.B.TubeBus.State = at_of (g.P.Processor.core c.args.cpu.now) (g.B.TubeBus.state c.args.bus.now) c.args.due.now in
@@ -79,12 +82,13 @@ returns-in-Tube-clause-ran g c =
     let new : At g.B.TubeBus.State = at_of (g.P.Processor.core c.access.new.cpu) (g.B.TubeBus.state c.access.new.bus) c.access.new.due in
     let left : IsStop part w c.args.until.0 stop.Access at = subst (λ (x : Stop). IsStop part w c.args.until.0 x at) c.in-Access.is c.go_on-at.ensures.stops in
     let went = talks_on (moves_of part w) g.D.Desk.answers c.args.until.0 c.args.lines.now c.args.sure.0 c.loop-cpu.invariant.went.0 c.go_on-at.ensures.talks.0 start s at (g.D.Desk.state c.args.desk.now) (g.D.Desk.state c.loop-cpu.desk) (g.D.Desk.state c.go_on-at.new.desk) c.loop-cpu.invariant.went.1 c.go_on-at.ensures.talks.1 in
-    hears_after (moves_of part w) g.D.Desk.answers c.args.until.0 c.args.lines.now c.args.sure.0 start at new (g.D.Desk.state c.args.desk.now) (g.D.Desk.state c.go_on-at.new.desk)
+    subst (λ (o : Op). Hears (moves_of part w) g.D.Desk.answers c.args.until.0 (shown_lines c.args.lines.now c.args.sure.0) start (g.D.Desk.state c.args.desk.now) (Ask.Access (record { 0 = new.due }) o) new (g.D.Desk.state c.go_on-at.new.desk))
+    (sym c.in-Err-Tube.op-is) (hears_after (moves_of part w) g.D.Desk.answers c.args.until.0 c.args.lines.now c.args.sure.0 start at new (g.D.Desk.state c.args.desk.now) (g.D.Desk.state c.go_on-at.new.desk)
     (g.D.Desk.state c.go_on-at.new.desk) _ went (hears_sees (moves_of part w) g.D.Desk.answers c.args.until.0 c.args.lines.now c.args.sure.0 at new (g.D.Desk.state c.go_on-at.new.desk) _
-    (stops part w g.B.TubeBus.wired c.args.until.0 c.args.lines.now c.args.sure.0 at at new c.in-Tube.op (0, refl) left.1 c.in-Tube.ensures.done))
+    (stops part w g.B.TubeBus.wired c.args.until.0 c.args.lines.now c.args.sure.0 at at new c.in-Err-Tube.op (0, refl) left.1 (subst (λ (x : Result (Unit {0}) Unable). IsDone part w at x new) (c.in-Err-Tube.is ∙ ap (λ (x : Unable). let r : Result (Unit {0}) Unable = Err x in r) c.in-Err-Tube.field-0-is) c.access.ensures.done))))
 
-pub returns-in-Full-clause-full : goal.returns-in-Full-clause-full
-returns-in-Full-clause-full g c =
+pub returns-in-Err-Full-clause-full : goal.returns-in-Err-Full-clause-full
+returns-in-Err-Full-clause-full g c =
     let part = g.P.Processor.part in
     let w = g.B.TubeBus.wiring in
     let wired = g.B.TubeBus.wired in
@@ -93,7 +97,7 @@ returns-in-Full-clause-full g c =
     let s : At g.B.TubeBus.State = at_of (g.P.Processor.core c.loop-cpu.cpu) (g.B.TubeBus.state c.loop-cpu.bus) c.loop-cpu.due in
     let at : At g.B.TubeBus.State = at_of (g.P.Processor.core c.go_on-at.new.cpu) (g.B.TubeBus.state c.go_on-at.new.bus) c.go_on-at.result.0 in
     let left : IsStop part w c.args.until.0 stop.Access at = subst (λ (x : Stop). IsStop part w c.args.until.0 x at) c.in-Access.is c.go_on-at.ensures.stops in
-    let full = c.access.ensures.full c.in-Full.is in
+    let full = c.access.ensures.full (c.in-Err-Full.is ∙ ap (λ (x : Unable). let r : Result (Unit {0}) Unable = Err x in r) c.in-Err-Full.field-0-is) in
     let first = spent (ready part start.cpu start.due) (g.B.TubeBus.room c.args.notes.now) (length start.cpu.seen) in
     let from = spent (ready part s.cpu s.due) (g.B.TubeBus.room c.loop-cpu.notes) (length s.cpu.seen) in
     let there = spent at.due (g.B.TubeBus.room c.go_on-at.new.notes) (length at.cpu.seen) in
