@@ -26,9 +26,6 @@ by_read shift_register reg c = grind (arith, common_steps)
 by_read line_ca1 reg c = grind (arith, common_steps)
 by_read line_ca2 reg c = grind (arith, common_steps)
 
-or_false : (a b : Bool) → a ≡ false → b ≡ false → (a || b) ≡ false
-or_false a b p q = ap (λ x. x || b) p ∙ q
-
 and_on : (b : Bool) → b ≡ (b && true)
 and_on true = refl
 and_on false = refl
@@ -42,168 +39,91 @@ independent true true = refl
 independent true false = refl
 independent false b = refl
 
+-- a law of each flag
+each : (P : Flag → Type 0) → P timer_1 → P timer_2 → P line_cb1 → P line_cb2 → P shift_register → P line_ca1 → P line_ca2 → (f : Flag) → P f
+each P t1 t2 cb1 cb2 sr ca1 ca2 timer_1 = t1
+each P t1 t2 cb1 cb2 sr ca1 ca2 timer_2 = t2
+each P t1 t2 cb1 cb2 sr ca1 ca2 line_cb1 = cb1
+each P t1 t2 cb1 cb2 sr ca1 ca2 line_cb2 = cb2
+each P t1 t2 cb1 cb2 sr ca1 ca2 shift_register = sr
+each P t1 t2 cb1 cb2 sr ca1 ca2 line_ca1 = ca1
+each P t1 t2 cb1 cb2 sr ca1 ca2 line_ca2 = ca2
+
 -- a write of this register leaves the flag as it is, or clears it, as the table says
-IsAsTold : Flag → ℕ → ℕ → State → Type 0
-IsAsTold f reg v c = is_set f (write_leaves reg v c).flags ≡ (is_set f c.flags && not (is_cleared f (write reg v) c))
+IsAsTold : ℕ → ℕ → State → Flag → Type 0
+IsAsTold reg v c f = is_set f (write_leaves reg v c).flags ≡ (is_set f c.flags && not (is_cleared f (write reg v) c))
 
-at_orb : (f : Flag) (v : ℕ) (c : State) → IsAsTold f 0 v c
+at_orb : (v : ℕ) (c : State) (f : Flag) → IsAsTold 0 v c f
 unfolding IsAsTold
-at_orb timer_1 v c = and_on c.flags.timer1
-at_orb timer_2 v c = and_on c.flags.timer2
-at_orb line_cb1 v c = and_off c.flags.cb1
-at_orb line_cb2 v c = independent c.flags.cb2 (bit c.pcr 5)
-at_orb shift_register v c = and_on c.flags.shift
-at_orb line_ca1 v c = and_on c.flags.ca1
-at_orb line_ca2 v c = and_on c.flags.ca2
+at_orb v c = each (IsAsTold 0 v c) (and_on _) (and_on _) (and_off _) (independent c.flags.cb2 (bit c.pcr 5)) (and_on _) (and_on _) (and_on _)
 
-at_ora : (f : Flag) (v : ℕ) (c : State) → IsAsTold f 1 v c
+at_ora : (v : ℕ) (c : State) (f : Flag) → IsAsTold 1 v c f
 unfolding IsAsTold
-at_ora timer_1 v c = and_on c.flags.timer1
-at_ora timer_2 v c = and_on c.flags.timer2
-at_ora line_cb1 v c = and_on c.flags.cb1
-at_ora line_cb2 v c = and_on c.flags.cb2
-at_ora shift_register v c = and_on c.flags.shift
-at_ora line_ca1 v c = and_off c.flags.ca1
-at_ora line_ca2 v c = independent c.flags.ca2 (bit c.pcr 1)
+at_ora v c = each (IsAsTold 1 v c) (and_on _) (and_on _) (and_on _) (and_on _) (and_on _) (and_off _) (independent c.flags.ca2 (bit c.pcr 1))
 
-at_t1_counter : (f : Flag) (v : ℕ) (c : State) → IsAsTold f 5 v c
+at_t1_counter : (v : ℕ) (c : State) (f : Flag) → IsAsTold 5 v c f
 unfolding IsAsTold
-at_t1_counter timer_1 v c = and_off c.flags.timer1
-at_t1_counter timer_2 v c = and_on c.flags.timer2
-at_t1_counter line_cb1 v c = and_on c.flags.cb1
-at_t1_counter line_cb2 v c = and_on c.flags.cb2
-at_t1_counter shift_register v c = and_on c.flags.shift
-at_t1_counter line_ca1 v c = and_on c.flags.ca1
-at_t1_counter line_ca2 v c = and_on c.flags.ca2
+at_t1_counter v c = each (IsAsTold 5 v c) (and_off _) (and_on _) (and_on _) (and_on _) (and_on _) (and_on _) (and_on _)
 
-at_t1_latch : (f : Flag) (v : ℕ) (c : State) → IsAsTold f 7 v c
+at_t1_latch : (v : ℕ) (c : State) (f : Flag) → IsAsTold 7 v c f
 unfolding IsAsTold
-at_t1_latch timer_1 v c = and_off c.flags.timer1
-at_t1_latch timer_2 v c = and_on c.flags.timer2
-at_t1_latch line_cb1 v c = and_on c.flags.cb1
-at_t1_latch line_cb2 v c = and_on c.flags.cb2
-at_t1_latch shift_register v c = and_on c.flags.shift
-at_t1_latch line_ca1 v c = and_on c.flags.ca1
-at_t1_latch line_ca2 v c = and_on c.flags.ca2
+at_t1_latch v c = each (IsAsTold 7 v c) (and_off _) (and_on _) (and_on _) (and_on _) (and_on _) (and_on _) (and_on _)
 
-at_t2_counter : (f : Flag) (v : ℕ) (c : State) → IsAsTold f 9 v c
+at_t2_counter : (v : ℕ) (c : State) (f : Flag) → IsAsTold 9 v c f
 unfolding IsAsTold
-at_t2_counter timer_1 v c = and_on c.flags.timer1
-at_t2_counter timer_2 v c = and_off c.flags.timer2
-at_t2_counter line_cb1 v c = and_on c.flags.cb1
-at_t2_counter line_cb2 v c = and_on c.flags.cb2
-at_t2_counter shift_register v c = and_on c.flags.shift
-at_t2_counter line_ca1 v c = and_on c.flags.ca1
-at_t2_counter line_ca2 v c = and_on c.flags.ca2
+at_t2_counter v c = each (IsAsTold 9 v c) (and_on _) (and_off _) (and_on _) (and_on _) (and_on _) (and_on _) (and_on _)
 
-at_sr : (f : Flag) (v : ℕ) (c : State) → IsAsTold f 10 v c
+at_sr : (v : ℕ) (c : State) (f : Flag) → IsAsTold 10 v c f
 unfolding IsAsTold
-at_sr timer_1 v c = and_on c.flags.timer1
-at_sr timer_2 v c = and_on c.flags.timer2
-at_sr line_cb1 v c = and_on c.flags.cb1
-at_sr line_cb2 v c = and_on c.flags.cb2
-at_sr shift_register v c = and_off c.flags.shift
-at_sr line_ca1 v c = and_on c.flags.ca1
-at_sr line_ca2 v c = and_on c.flags.ca2
+at_sr v c = each (IsAsTold 10 v c) (and_on _) (and_on _) (and_on _) (and_on _) (and_off _) (and_on _) (and_on _)
 
-at_ifr : (f : Flag) (v : ℕ) (c : State) → IsAsTold f 13 v c
+at_ifr : (v : ℕ) (c : State) (f : Flag) → IsAsTold 13 v c f
 unfolding IsAsTold
-at_ifr timer_1 v c = refl
-at_ifr timer_2 v c = refl
-at_ifr line_cb1 v c = refl
-at_ifr line_cb2 v c = refl
-at_ifr shift_register v c = refl
-at_ifr line_ca1 v c = refl
-at_ifr line_ca2 v c = refl
+at_ifr v c = each (IsAsTold 13 v c) refl refl refl refl refl refl refl
 
--- a write by which register it is
-written_by : (b0 b1 b2 b3 b4 b5 b6 b7 b8 b9 b10 b11 b12 b13 b14 : Bool) (v : ℕ) (c : State) → State
-written_by b0 b1 b2 b3 b4 b5 b6 b7 b8 b9 b10 b11 b12 b13 b14 v c =
-    if b0 then record (port_b_noticed c) { orb = v }
-    else if b1 then record (port_a_noticed c) { ora = v }
-    else if b2 then record c { ddrb = v }
-    else if b3 then record c { ddra = v }
-    else if b4 then with_timer1 (record c.timer1 { latch_low = v }) c
-    else if b5 then with_timer1 (timer1_started v c.timer1) (timer1_noticed c)
-    else if b6 then with_timer1 (record c.timer1 { latch_low = v }) c
-    else if b7 then with_timer1 (record c.timer1 { latch_high = v }) (timer1_noticed c)
-    else if b8 then with_timer2 (record c.timer2 { latch_low = v }) c
-    else if b9 then with_timer2 (timer2_started v c.timer2) (timer2_noticed c)
-    else if b10 then record (shift_noticed c) { sr = v }
-    else if b11 then record c { acr = v }
-    else if b12 then record c { pcr = v }
-    else if b13 then record c { flags = clear_marked v c.flags }
-    else if b14 then enabled_by v c
-    else record c { ora = v }
+-- a register of which no write clears a flag
+record IsOther (reg : ℕ) : Type 0 where
+  pub orb : (reg == 0) ≡ false
+  pub ora : (reg == 1) ≡ false
+  pub t1_counter : (reg == 5) ≡ false
+  pub t1_latch : (reg == 7) ≡ false
+  pub t2_counter : (reg == 9) ≡ false
+  pub sr : (reg == 10) ≡ false
+  pub ifr : (reg == 13) ≡ false
 
--- one of another register leaves the flags
-others_keep : (b0 b1 b2 b3 b4 b5 b6 b7 b8 b9 b10 b11 b12 b13 b14 : Bool) (v : ℕ) (c : State) → b0 ≡ false → b1 ≡ false → b5 ≡ false → b7 ≡ false → b9 ≡ false → b10 ≡ false → b13 ≡ false →
-    (written_by b0 b1 b2 b3 b4 b5 b6 b7 b8 b9 b10 b11 b12 b13 b14 v c).flags ≡ c.flags
-unfolding written_by
-others_keep true b1 b2 b3 b4 b5 b6 b7 b8 b9 b10 b11 b12 b13 b14 v c e0 e1 e5 e7 e9 e10 e13 = absurd (true≢false e0)
-others_keep false true b2 b3 b4 b5 b6 b7 b8 b9 b10 b11 b12 b13 b14 v c e0 e1 e5 e7 e9 e10 e13 = absurd (true≢false e1)
-others_keep false false true b3 b4 b5 b6 b7 b8 b9 b10 b11 b12 b13 b14 v c e0 e1 e5 e7 e9 e10 e13 = refl
-others_keep false false false true b4 b5 b6 b7 b8 b9 b10 b11 b12 b13 b14 v c e0 e1 e5 e7 e9 e10 e13 = refl
-others_keep false false false false true b5 b6 b7 b8 b9 b10 b11 b12 b13 b14 v c e0 e1 e5 e7 e9 e10 e13 = refl
-others_keep false false false false false true b6 b7 b8 b9 b10 b11 b12 b13 b14 v c e0 e1 e5 e7 e9 e10 e13 = absurd (true≢false e5)
-others_keep false false false false false false true b7 b8 b9 b10 b11 b12 b13 b14 v c e0 e1 e5 e7 e9 e10 e13 = refl
-others_keep false false false false false false false true b8 b9 b10 b11 b12 b13 b14 v c e0 e1 e5 e7 e9 e10 e13 = absurd (true≢false e7)
-others_keep false false false false false false false false true b9 b10 b11 b12 b13 b14 v c e0 e1 e5 e7 e9 e10 e13 = refl
-others_keep false false false false false false false false false true b10 b11 b12 b13 b14 v c e0 e1 e5 e7 e9 e10 e13 = absurd (true≢false e9)
-others_keep false false false false false false false false false false true b11 b12 b13 b14 v c e0 e1 e5 e7 e9 e10 e13 = absurd (true≢false e10)
-others_keep false false false false false false false false false false false true b12 b13 b14 v c e0 e1 e5 e7 e9 e10 e13 = refl
-others_keep false false false false false false false false false false false false true b13 b14 v c e0 e1 e5 e7 e9 e10 e13 = refl
-others_keep false false false false false false false false false false false false false true b14 v c e0 e1 e5 e7 e9 e10 e13 = absurd (true≢false e13)
-others_keep false false false false false false false false false false false false false false true v c e0 e1 e5 e7 e9 e10 e13 = refl
-others_keep false false false false false false false false false false false false false false false v c e0 e1 e5 e7 e9 e10 e13 = refl
+-- two ways that leave the flags
+either : (b : Bool) (c x y : State) → x.flags ≡ c.flags → y.flags ≡ c.flags → (if b then x else y).flags ≡ c.flags
+either true c x y p q = p
+either false c x y p q = q
 
-none_cleared : (f : Flag) (reg v : ℕ) (c : State) → (reg ≡ 0 → ⊥) → (reg ≡ 1 → ⊥) → (reg ≡ 5 → ⊥) → (reg ≡ 7 → ⊥) → (reg ≡ 9 → ⊥) → (reg ≡ 10 → ⊥) → (reg ≡ 13 → ⊥) →
-    is_cleared f (write reg v) c ≡ false
-none_cleared timer_1 reg v c n0 n1 n5 n7 n9 n10 n13 = or_false ((reg == 5) || (reg == 7)) ((reg == 13) && bit v 6) (or_false (reg == 5) (reg == 7) (ne_eqb reg 5 n5) (ne_eqb reg 7 n7)) (and_left (reg == 13) (bit v 6) (ne_eqb reg 13 n13))
-none_cleared timer_2 reg v c n0 n1 n5 n7 n9 n10 n13 = or_false (reg == 9) ((reg == 13) && bit v 5) (ne_eqb reg 9 n9) (and_left (reg == 13) (bit v 5) (ne_eqb reg 13 n13))
-none_cleared line_cb1 reg v c n0 n1 n5 n7 n9 n10 n13 = or_false (reg == 0) ((reg == 13) && bit v 4) (ne_eqb reg 0 n0) (and_left (reg == 13) (bit v 4) (ne_eqb reg 13 n13))
-none_cleared line_cb2 reg v c n0 n1 n5 n7 n9 n10 n13 = or_false ((reg == 0) && not (bit c.pcr 5)) ((reg == 13) && bit v 3) (and_left (reg == 0) (not (bit c.pcr 5)) (ne_eqb reg 0 n0)) (and_left (reg == 13) (bit v 3) (ne_eqb reg 13 n13))
-none_cleared shift_register reg v c n0 n1 n5 n7 n9 n10 n13 = or_false (reg == 10) ((reg == 13) && bit v 2) (ne_eqb reg 10 n10) (and_left (reg == 13) (bit v 2) (ne_eqb reg 13 n13))
-none_cleared line_ca1 reg v c n0 n1 n5 n7 n9 n10 n13 = or_false (reg == 1) ((reg == 13) && bit v 1) (ne_eqb reg 1 n1) (and_left (reg == 13) (bit v 1) (ne_eqb reg 13 n13))
-none_cleared line_ca2 reg v c n0 n1 n5 n7 n9 n10 n13 = or_false ((reg == 1) && not (bit c.pcr 1)) ((reg == 13) && bit v 0) (and_left (reg == 1) (not (bit c.pcr 1)) (ne_eqb reg 1 n1)) (and_left (reg == 13) (bit v 0) (ne_eqb reg 13 n13))
+-- such a write leaves the flags
+others_keep : (reg v : ℕ) (c : State) → IsOther reg → (write_leaves reg v c).flags ≡ c.flags
+others_keep reg v c o =
+    rw (o.orb, o.ora, o.t1_counter, o.t1_latch, o.t2_counter, o.sr, o.ifr)
+    (either (reg == 2) c _ _ refl (either (reg == 3) c _ _ refl (either (reg == 4) c _ _ refl (either (reg == 6) c _ _ refl
+    (either (reg == 8) c _ _ refl (either (reg == 11) c _ _ refl (either (reg == 12) c _ _ refl (either (reg == 14) c _ _ refl refl))))))))
 
-kept : (f : Flag) (reg v : ℕ) (c : State) → (reg ≡ 0 → ⊥) → (reg ≡ 1 → ⊥) → (reg ≡ 5 → ⊥) → (reg ≡ 7 → ⊥) → (reg ≡ 9 → ⊥) → (reg ≡ 10 → ⊥) → (reg ≡ 13 → ⊥) → IsAsTold f reg v c
-unfolding IsAsTold written_by
-kept f reg v c n0 n1 n5 n7 n9 n10 n13 =
-    ap (is_set f) (others_keep (reg == 0) (reg == 1) (reg == 2) (reg == 3) (reg == 4) (reg == 5) (reg == 6) (reg == 7) (reg == 8) (reg == 9) (reg == 10) (reg == 11) (reg == 12) (reg == 13) (reg == 14) v c
-    (ne_eqb reg 0 n0) (ne_eqb reg 1 n1) (ne_eqb reg 5 n5) (ne_eqb reg 7 n7) (ne_eqb reg 9 n9) (ne_eqb reg 10 n10) (ne_eqb reg 13 n13))
-    ∙ and_on (is_set f c.flags) ∙ ap (λ b. is_set f c.flags && not b) (sym (none_cleared f reg v c n0 n1 n5 n7 n9 n10 n13))
+none_cleared : (reg v : ℕ) (c : State) → IsOther reg → (f : Flag) → is_cleared f (write reg v) c ≡ false
+none_cleared reg v c o =
+    each (λ f. is_cleared f (write reg v) c ≡ false) (rw (o.t1_counter, o.t1_latch, o.ifr) refl) (rw (o.t2_counter, o.ifr) refl) (rw (o.orb, o.ifr) refl)
+    (rw (o.orb, o.ifr) refl) (rw (o.sr, o.ifr) refl) (rw (o.ora, o.ifr) refl) (rw (o.ora, o.ifr) refl)
 
-told : (f : Flag) (reg v : ℕ) (c : State) → IsAsTold f reg v c
-told f reg v c = elim (cases_eq reg 0) [
-  | inl is ↦ subst (λ r. IsAsTold f r v c) (sym is) (at_orb f v c)
-  | inr n0 ↦
-      elim (cases_eq reg 1) [
-        | inl is ↦ subst (λ r. IsAsTold f r v c) (sym is) (at_ora f v c)
-        | inr n1 ↦
-            elim (cases_eq reg 5) [
-              | inl is ↦ subst (λ r. IsAsTold f r v c) (sym is) (at_t1_counter f v c)
-              | inr n5 ↦
-                  elim (cases_eq reg 7) [
-                    | inl is ↦ subst (λ r. IsAsTold f r v c) (sym is) (at_t1_latch f v c)
-                    | inr n7 ↦
-                        elim (cases_eq reg 9) [
-                          | inl is ↦ subst (λ r. IsAsTold f r v c) (sym is) (at_t2_counter f v c)
-                          | inr n9 ↦
-                              elim (cases_eq reg 10) [
-                                | inl is ↦ subst (λ r. IsAsTold f r v c) (sym is) (at_sr f v c)
-                                | inr n10 ↦
-                                    elim (cases_eq reg 13) [
-                                      | inl is ↦ subst (λ r. IsAsTold f r v c) (sym is) (at_ifr f v c)
-                                      | inr n13 ↦
-                                          kept f reg v c n0 n1 n5 n7 n9 n10 n13
-                                    ]
-                              ]
-                        ]
-                  ]
-            ]
-      ]
-]
+kept : (f : Flag) (reg v : ℕ) (c : State) → IsOther reg → IsAsTold reg v c f
+unfolding IsAsTold
+kept f reg v c o =
+    ap (is_set f) (others_keep reg v c o) ∙ and_on (is_set f c.flags) ∙ ap (λ b. is_set f c.flags && not b) (sym (none_cleared reg v c o f))
+
+-- this register or another
+unless : (P : ℕ → Type 0) (n reg : ℕ) → P n → ((reg == n) ≡ false → P reg) → P reg
+unless P n reg at other = elim (cases_eq reg n) [ inl is ↦ subst P (sym is) at | inr not_it ↦ other (ne_eqb reg n not_it) ]
+
+told : (f : Flag) (reg v : ℕ) (c : State) → IsAsTold reg v c f
+told f reg v c =
+    let P = λ (r : ℕ). IsAsTold r v c f in
+    unless P 0 reg (at_orb v c f) (λ n0. unless P 1 reg (at_ora v c f) (λ n1. unless P 5 reg (at_t1_counter v c f) (λ n5.
+    unless P 7 reg (at_t1_latch v c f) (λ n7. unless P 9 reg (at_t2_counter v c f) (λ n9. unless P 10 reg (at_sr v c f) (λ n10.
+    unless P 13 reg (at_ifr v c f) (λ n13.
+    kept f reg v c (record { orb = n0; ora = n1; t1_counter = n5; t1_latch = n7; t2_counter = n9; sr = n10; ifr = n13 }))))))))
 
 by_write : (f : Flag) (reg v : ℕ) (c : State) → is_set f (write_leaves reg v c).flags ≡ (is_set f c.flags && not (is_cleared f (write reg v) c))
 unfolding IsAsTold
@@ -308,15 +228,11 @@ has_digits a b c d e f g h =
     }
 
 -- a register of flags, with something in bit 7
-flag_bit : (f : Flag) (top : Bool) (s : Causes) → bit (weight 128 top + causes_byte s) (bit_of f) ≡ is_set f s
+flag_bit : (top : Bool) (s : Causes) (f : Flag) → bit (weight 128 top + causes_byte s) (bit_of f) ≡ is_set f s
 unfolding byte_of
-flag_bit timer_1 top s = (has_digits top s.timer1 s.timer2 s.cb1 s.cb2 s.shift s.ca1 s.ca2).bit6
-flag_bit timer_2 top s = (has_digits top s.timer1 s.timer2 s.cb1 s.cb2 s.shift s.ca1 s.ca2).bit5
-flag_bit line_cb1 top s = (has_digits top s.timer1 s.timer2 s.cb1 s.cb2 s.shift s.ca1 s.ca2).bit4
-flag_bit line_cb2 top s = (has_digits top s.timer1 s.timer2 s.cb1 s.cb2 s.shift s.ca1 s.ca2).bit3
-flag_bit shift_register top s = (has_digits top s.timer1 s.timer2 s.cb1 s.cb2 s.shift s.ca1 s.ca2).bit2
-flag_bit line_ca1 top s = (has_digits top s.timer1 s.timer2 s.cb1 s.cb2 s.shift s.ca1 s.ca2).bit1
-flag_bit line_ca2 top s = (has_digits top s.timer1 s.timer2 s.cb1 s.cb2 s.shift s.ca1 s.ca2).bit0
+flag_bit top s =
+    let is = has_digits top s.timer1 s.timer2 s.cb1 s.cb2 s.shift s.ca1 s.ca2 in
+    each (λ f. bit (weight 128 top + causes_byte s) (bit_of f) ≡ is_set f s) is.bit6 is.bit5 is.bit4 is.bit3 is.bit2 is.bit1 is.bit0
 
 top_bit : (top : Bool) (s : Causes) → bit (weight 128 top + causes_byte s) 7 ≡ top
 unfolding byte_of
@@ -349,29 +265,17 @@ marked false true false = refl
 marked false false true = refl
 marked false false false = refl
 
-set_by : (f : Flag) (up : Bool) (v : ℕ) (s : Causes) →
+set_by : (up : Bool) (v : ℕ) (s : Causes) (f : Flag) →
     is_set f (if up then set_marked v s else clear_marked v s) ≡ (if up then is_set f s || bit v (bit_of f) else is_set f s && not (bit v (bit_of f)))
-set_by timer_1 true v s = refl
-set_by timer_1 false v s = refl
-set_by timer_2 true v s = refl
-set_by timer_2 false v s = refl
-set_by line_cb1 true v s = refl
-set_by line_cb1 false v s = refl
-set_by line_cb2 true v s = refl
-set_by line_cb2 false v s = refl
-set_by shift_register true v s = refl
-set_by shift_register false v s = refl
-set_by line_ca1 true v s = refl
-set_by line_ca1 false v s = refl
-set_by line_ca2 true v s = refl
-set_by line_ca2 false v s = refl
+set_by true v s = each (λ f. is_set f (set_marked v s) ≡ (is_set f s || bit v (bit_of f))) refl refl refl refl refl refl refl
+set_by false v s = each (λ f. is_set f (clear_marked v s) ≡ (is_set f s && not (bit v (bit_of f)))) refl refl refl refl refl refl refl
 
 pub flags_are_shown : FlagsAreShown
 flags_are_shown = record {
-  flag = λ f pins c. flag_bit f (asks c) c.flags;
+  flag = λ f pins c. flag_bit (asks c) c.flags f;
   top = λ pins c. top_bit (asks c) c.flags ∙ line c;
   line = line;
-  enabled = λ f pins c. flag_bit f true c.enabled;
+  enabled = λ f pins c. flag_bit true c.enabled f;
   always = λ pins c. top_bit true c.enabled;
-  enabling = λ f v c. set_by f (bit v 7) v c.enabled ∙ marked (bit v 7) (bit v (bit_of f)) (is_set f c.enabled);
+  enabling = λ f v c. set_by (bit v 7) v c.enabled f ∙ marked (bit v 7) (bit v (bit_of f)) (is_set f c.enabled);
 }
