@@ -1,14 +1,14 @@
 -- The flags of the 6522, access by access, and the bytes that show them.
 use Rattle.std.proofs.Common.{◌≡◌, ◌∙◌, sym, ap, subst, refl, ℕ, ◌+◌, ◌*◌, ◌/◌, ◌%◌, ◌<◌, ◌==◌, ◌&&◌, ◌||◌, not, Bool, true, false, List, [], ◌∷◌, arith, inl, inr}
 use Rattle.std.specs.Prelude.{if◌then◌else◌}
-use Rattle.std.proofs.lemmas.Bool.{cases_eq, ne_eqb, and_left, true≢false}
+use Rattle.std.proofs.lemmas.Bool.{cases_eq, ne_eqb}
 use Rattle.std.proofs.lemmas.Grind.{common_steps}
 use Rattle.beeb_bits.specs.Bits.{bit, weight}
 use Rattle.via6522.specs.declared.Pins.{Pins}
 use Rattle.via6522.specs.State.{State, Causes}
-use Rattle.via6522.specs.Registers.{asks, causes_byte, port_a_noticed, port_b_noticed, timer1_noticed, timer2_noticed, shift_noticed}
-use Rattle.via6522.specs.Registers.{set_marked, clear_marked, with_timer1, with_timer2, enabled_by, read_leaves, write_leaves}
-use Rattle.via6522.specs.Timers.{timer1_flags, timer1_started, timer2_flags, timer2_started}
+use Rattle.via6522.specs.Registers.{asks, causes_byte}
+use Rattle.via6522.specs.Registers.{set_marked, clear_marked, read_leaves, write_leaves}
+use Rattle.via6522.specs.Timers.{timer1_flags, timer2_flags}
 use Rattle.via6522.specs.Lines.{ca1_edge, ca2_edge, cb1_edge, cb2_edge}
 use Rattle.via6522.specs.Step.{step}
 use Rattle.law_chips.specs.ViaBytes.{Move, microsecond, read, write, after_move, after_moves}

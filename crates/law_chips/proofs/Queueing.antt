@@ -63,14 +63,15 @@ odd_not_0 number odd =
     ne_eqb number 0 (λ e. omega (arith, o, e))
 
 -- What leaves a register and what comes into it, by what an event is for it: it clears all (z), writes this byte (s), reads (r).
-Balance : Bool → Option ℕ → Bool → ℕ → List ℕ → List ℕ → Register → Register → Type 0
-Balance z s r room shown made q after =
-    (if z || (is_some s && ((room == 1) && not (is_empty q))) then held_bytes q else if r && not (is_empty q) then shown else []) ++ held_bytes after
-    ≡ held_bytes q ++ (if z then made else if z || (is_some s && ((room == 1) && not (is_empty q))) then the_byte s else if nat_lt (count q) room then the_byte s else [])
+record Balance (z : Bool) (s : Option ℕ) (r : Bool) (room : ℕ) (shown made : List ℕ) (q after : Register) : Type 0 where
+  pub is :
+      (if z || (is_some s && ((room == 1) && not (is_empty q))) then held_bytes q else if r && not (is_empty q) then shown else []) ++ held_bytes after
+      ≡ held_bytes q
+      ++ (if z then made else if z || (is_some s && ((room == 1) && not (is_empty q))) then the_byte s else if nat_lt (count q) room then the_byte s else [])
 
-balanced : (z z' : Bool) (s s' : Option ℕ) (r : Bool) (room : ℕ) (shown made : List ℕ) (q after after' : Register) →
+balanced : {z z' : Bool} {s s' : Option ℕ} {r : Bool} {room : ℕ} {shown made : List ℕ} {q after after' : Register} →
     z ≡ z' → s ≡ s' → after ≡ after' → Balance z' s' r room shown made q after' → Balance z s r room shown made q after
-balanced z z' s s' r room shown made q after after' ez es ea t =
+balanced {z} {z'} {s} {s'} {r} {room} {shown} {made} {q} {after} {after'} ez es ea t =
     subst (λ x. Balance x s r room shown made q after) (sym ez)
     (subst (λ x. Balance z' x r room shown made q after) (sym es) (subst (λ x. Balance z' s' r room shown made q x) (sym ea) t))
 
@@ -80,8 +81,11 @@ nothing_comes false bytes = sym (append-nil bytes)
 
 -- an event that has nothing to do with the register
 apart : (room : ℕ) (shown made : List ℕ) (q : Register) → Balance false None false room shown made q q
-unfolding Balance
-apart room shown made q = nothing_comes (nat_lt (count q) room) (held_bytes q)
+apart room shown made q = record { is = nothing_comes (nat_lt (count q) room) (held_bytes q) }
+
+untouched : {z : Bool} {s : Option ℕ} {room : ℕ} {shown made : List ℕ} {q after : Register} → z ≡ false → s ≡ None → after ≡ q →
+    Balance z s false room shown made q after
+untouched ez es ea = balanced ez es ea (apart _ _ _ _)
 
 is_some_held : (front : ℕ) (rest : List ℕ) → is_empty (holds front rest) ≡ false
 is_some_held front rest = ne_eqb (length (front ∷ rest)) 0 (λ e. omega (arith, e))
@@ -89,14 +93,13 @@ is_some_held front rest = ne_eqb (length (front ∷ rest)) 0 (λ e. omega (arith
 -- a read, or none
 one_read : (b : Bool) (room : ℕ) (shown made : List ℕ) (q : Register) → (b ≡ true → shown ≡ front_of q ∷ []) →
     Balance false None b room shown made q (if b then take_leaves q else q)
-unfolding Balance
-one_read false room shown made q is = nothing_comes (nat_lt (count q) room) (held_bytes q)
-one_read true room shown made (empty remembered) is = nothing_comes (nat_lt 0 room) []
+one_read false room shown made q is = record { is = nothing_comes (nat_lt (count q) room) (held_bytes q) }
+one_read true room shown made (empty remembered) is = record { is = nothing_comes (nat_lt 0 room) [] }
 one_read true room shown made (holds front []) is =
-    ap (λ bytes. bytes ++ []) (is refl) ∙ nothing_comes (nat_lt 1 room) (front ∷ [])
+    record { is = ap (λ bytes. bytes ++ []) (is refl) ∙ nothing_comes (nat_lt 1 room) (front ∷ []) }
 one_read true room shown made (holds front (next ∷ rest)) is =
-    ap (λ b. (if not b then shown else []) ++ next ∷ rest) (is_some_held front (next ∷ rest))
-    ∙ ap (λ bytes. bytes ++ next ∷ rest) (is refl) ∙ nothing_comes (nat_lt (count (holds front (next ∷ rest))) room) (front ∷ next ∷ rest)
+    record { is = ap (λ b. (if not b then shown else []) ++ next ∷ rest) (is_some_held front (next ∷ rest))
+    ∙ ap (λ bytes. bytes ++ next ∷ rest) (is refl) ∙ nothing_comes (nat_lt (count (holds front (next ∷ rest))) room) (front ∷ next ∷ rest) }
 
 by_room : (has : Bool) (front byte : ℕ) (rest : List ℕ) →
     held_bytes (if has then holds front (rest ++ byte ∷ []) else holds front rest) ≡ (front ∷ rest) ++ (if has then byte ∷ [] else [])
@@ -106,11 +109,10 @@ by_room false front byte rest = sym (append-nil (front ∷ rest))
 -- a write to a register for one byte, or for more
 one_byte : (one : Bool) (room byte : ℕ) (shown made : List ℕ) (q : Register) → (room == 1) ≡ one → 1 ≤ room →
     Balance false (Some byte) false room shown made q (write_leaves room byte q)
-unfolding Balance
-one_byte true room byte shown made (empty remembered) is some = rw (is, lt-ltb 0 room some) refl
-one_byte true room byte shown made (holds front rest) is some = rw (is, is_some_held front rest) refl
-one_byte false room byte shown made (empty remembered) is some = rw (is, lt-ltb 0 room some) refl
-one_byte false room byte shown made (holds front rest) is some = rw is (by_room (nat_lt (length (front ∷ rest)) room) front byte rest)
+one_byte true room byte shown made (empty remembered) is some = record { is = rw (is, lt-ltb 0 room some) refl }
+one_byte true room byte shown made (holds front rest) is some = record { is = rw (is, is_some_held front rest) refl }
+one_byte false room byte shown made (empty remembered) is some = record { is = rw (is, lt-ltb 0 room some) refl }
+one_byte false room byte shown made (holds front rest) is some = record { is = rw is (by_room (nat_lt (length (front ∷ rest)) room) front byte rest) }
 
 one_write : (b : Bool) (room byte : ℕ) (shown made : List ℕ) (q : Register) → 1 ≤ room →
     Balance false (if b then Some byte else None) false room shown made q (if b then write_leaves room byte q else q)
@@ -120,9 +122,8 @@ one_write true room byte shown made q some = one_byte (room == 1) room byte show
 -- a clear, or none
 one_clear : (z : Bool) (room : ℕ) (shown made : List ℕ) (q after : Register) → (z ≡ true → held_bytes after ≡ made) → (z ≡ false → after ≡ q) →
     Balance z None false room shown made q after
-unfolding Balance
-one_clear true room shown made q after cleared stays = ap (λ bytes. held_bytes q ++ bytes) (cleared refl)
-one_clear false room shown made q after cleared stays = ap held_bytes (stays refl) ∙ nothing_comes (nat_lt (count q) room) (held_bytes q)
+one_clear true room shown made q after cleared stays = record { is = ap (λ bytes. held_bytes q ++ bytes) (cleared refl) }
+one_clear false room shown made q after cleared stays = record { is = ap held_bytes (stays refl) ∙ nothing_comes (nat_lt (count q) room) (held_bytes q) }
 
 -- there is room for a byte at least
 one_or_two : (b : Bool) → 1 ≤ (if b then 2 else 1)
@@ -264,6 +265,17 @@ not_cleared true true from k flags c is = absurd (true≢false is)
 not_cleared true false from k flags c is = flags_only from k flags c
 not_cleared false t from k flags c is = refl
 
+-- a write to the control register, or to another status
+control_clears : (from : Side) (k number byte : ℕ) (c : State) (room : ℕ) (shown : List ℕ) →
+    Balance ((number == 0) && (bit byte 7 && bit byte 6)) None false room shown (held_bytes (queue from k power_on)) (queue from k c)
+    (queue from k (if number == 0 then control_leaves byte c else c))
+unfolding control
+control_clears from k number byte c room shown =
+    let z = number == 0 in
+    let t = bit byte 7 && bit byte 6 in
+    one_clear (z && t) room shown _ (queue from k c) (queue from k (control z t (flags_after byte c.flags) c))
+    (cleared_by z t from k (flags_after byte c.flags) c) (not_cleared z t from k (flags_after byte c.flags) c)
+
 has_reset : (from : Side) (k : ℕ) (c : State) → held_bytes (queue from k (chip_after c Host Reset)) ≡ held_bytes (queue from k power_on)
 has_reset Host k c = refl
 has_reset Para k c = refl
@@ -277,127 +289,71 @@ Keeps from k c side query answer =
     Balance (clears e) (byte_sent from k e) (is_read from k e) (capacity from k c.flags) (byte_shown answer) (held_bytes (queue from k power_on)) (queue from k c)
     (queue from k (act c side query).0)
 
+-- an odd number is not that of the control register
+odd_clears_nothing : (number byte : ℕ) → is_status number ≡ false → ((number == 0) && (bit byte 7 && bit byte 6)) ≡ false
+odd_clears_nothing number byte odd = ap (λ z. z && (bit byte 7 && bit byte 6)) (odd_not_0 number odd)
+
+-- an even one is not that of a byte
+even_sends_nothing : (number k byte : ℕ) → is_status number ≡ true → 1 ≤ k → (if number == byte_number k then Some byte else None) ≡ None
+even_sends_nothing number k byte even lk = ap (λ b. if b then Some byte else None) (even_is number k even lk)
+
 -- a write to an odd number, by the side that writes the register
 own_write_odd : (from : Side) (k number byte : ℕ) (c : State) (answer : Answer) → is_status number ≡ false → number < 8 → 1 ≤ k → k ≤ 4 →
     Keeps from k c from (access (Write number byte)) answer
 unfolding Keeps
 own_write_odd Host k number byte c answer odd low lk hk tick =
-    let q = queue Host k c in
-    let b = number == byte_number k in
-    balanced ((number == 0) && (bit byte 7 && bit byte 6)) false (if b then Some byte else None) (if b then Some byte else None) false
-    (capacity Host k c.flags) (byte_shown answer) (held_bytes (queue Host k power_on)) q (queue Host k (chip_after c Host (Write number byte)))
-    (if b then write_leaves (capacity Host k c.flags) byte q else q)
-    (ap (λ z. z && (bit byte 7 && bit byte 6)) (odd_not_0 number odd)) refl (after_odd_write Host k number byte c odd low lk hk)
-    (one_write b (capacity Host k c.flags) byte (byte_shown answer) (held_bytes (queue Host k power_on)) q (has_capacity Host k c.flags))
+    balanced (odd_clears_nothing number byte odd) refl (after_odd_write Host k number byte c odd low lk hk)
+    (one_write (number == byte_number k) _ byte _ _ (queue Host k c) (has_capacity Host k c.flags))
 own_write_odd Para k number byte c answer odd low lk hk tick =
-    let q = queue Para k c in
-    let b = number == byte_number k in
-    balanced false false (if b then Some byte else None) (if b then Some byte else None) false
-    (capacity Para k c.flags) (byte_shown answer) (held_bytes (queue Para k power_on)) q (queue Para k (chip_after c Para (Write number byte)))
-    (if b then write_leaves (capacity Para k c.flags) byte q else q)
-    refl refl (after_odd_write Para k number byte c odd low lk hk)
-    (one_write b (capacity Para k c.flags) byte (byte_shown answer) (held_bytes (queue Para k power_on)) q (has_capacity Para k c.flags))
+    balanced refl refl (after_odd_write Para k number byte c odd low lk hk)
+    (one_write (number == byte_number k) _ byte _ _ (queue Para k c) (has_capacity Para k c.flags))
 
 -- by the side that reads it
 other_write_odd : (from : Side) (k number byte : ℕ) (c : State) (answer : Answer) → is_status number ≡ false →
     Keeps from k c (reader from) (access (Write number byte)) answer
 unfolding Keeps
-other_write_odd Host k number byte c answer odd tick =
-    let q = queue Host k c in
-    balanced false false None None false (capacity Host k c.flags) (byte_shown answer) (held_bytes (queue Host k power_on)) q
-    (queue Host k (chip_after c Para (Write number byte))) q refl refl (after_odd_other Host k number byte c odd)
-    (apart (capacity Host k c.flags) (byte_shown answer) (held_bytes (queue Host k power_on)) q)
+other_write_odd Host k number byte c answer odd tick = untouched refl refl (after_odd_other Host k number byte c odd)
 other_write_odd Para k number byte c answer odd tick =
-    let q = queue Para k c in
-    balanced ((number == 0) && (bit byte 7 && bit byte 6)) false None None false
-    (capacity Para k c.flags) (byte_shown answer) (held_bytes (queue Para k power_on)) q
-    (queue Para k (chip_after c Host (Write number byte))) q
-    (ap (λ z. z && (bit byte 7 && bit byte 6)) (odd_not_0 number odd)) refl (after_odd_other Para k number byte c odd)
-    (apart (capacity Para k c.flags) (byte_shown answer) (held_bytes (queue Para k power_on)) q)
+    untouched (odd_clears_nothing number byte odd) refl (after_odd_other Para k number byte c odd)
 
 -- the host's write to an even number
 host_write_even : (from : Side) (k number byte : ℕ) (c : State) (answer : Answer) → is_status number ≡ true → 1 ≤ k →
     Keeps from k c Host (access (Write number byte)) answer
-unfolding Keeps control
+unfolding Keeps
 host_write_even Host k number byte c answer even lk tick =
-    let q = queue Host k c in
-    let z = number == 0 in
-    let t = bit byte 7 && bit byte 6 in
-    let after = queue Host k (control z t (flags_after byte c.flags) c) in
-    balanced (z && t) (z && t) (if number == byte_number k then Some byte else None) None false
-    (capacity Host k c.flags) (byte_shown answer) (held_bytes (queue Host k power_on)) q (queue Host k (chip_after c Host (Write number byte))) after
-    refl (ap (λ b. if b then Some byte else None) (even_is number k even lk)) (after_control Host k number byte c even)
-    (one_clear (z && t) (capacity Host k c.flags) (byte_shown answer) (held_bytes (queue Host k power_on)) q after
-    (cleared_by z t Host k (flags_after byte c.flags) c) (not_cleared z t Host k (flags_after byte c.flags) c))
+    balanced refl (even_sends_nothing number k byte even lk) (after_control Host k number byte c even) (control_clears Host k number byte c _ _)
 host_write_even Para k number byte c answer even lk tick =
-    let q = queue Para k c in
-    let z = number == 0 in
-    let t = bit byte 7 && bit byte 6 in
-    let after = queue Para k (control z t (flags_after byte c.flags) c) in
-    balanced (z && t) (z && t) None None false
-    (capacity Para k c.flags) (byte_shown answer) (held_bytes (queue Para k power_on)) q (queue Para k (chip_after c Host (Write number byte))) after
-    refl refl (after_control Para k number byte c even)
-    (one_clear (z && t) (capacity Para k c.flags) (byte_shown answer) (held_bytes (queue Para k power_on)) q after
-    (cleared_by z t Para k (flags_after byte c.flags) c) (not_cleared z t Para k (flags_after byte c.flags) c))
+    balanced refl refl (after_control Para k number byte c even) (control_clears Para k number byte c _ _)
 
 -- the parasite's
 para_write_even : (from : Side) (k number byte : ℕ) (c : State) (answer : Answer) → is_status number ≡ true → 1 ≤ k →
     Keeps from k c Para (access (Write number byte)) answer
 unfolding Keeps
-para_write_even Host k number byte c answer even lk tick =
-    let q = queue Host k c in
-    balanced false false None None false (capacity Host k c.flags) (byte_shown answer) (held_bytes (queue Host k power_on)) q
-    (queue Host k (chip_after c Para (Write number byte))) q refl refl (after_no_control Host k number byte c even)
-    (apart (capacity Host k c.flags) (byte_shown answer) (held_bytes (queue Host k power_on)) q)
+para_write_even Host k number byte c answer even lk tick = untouched refl refl (after_no_control Host k number byte c even)
 para_write_even Para k number byte c answer even lk tick =
-    let q = queue Para k c in
-    balanced false false (if number == byte_number k then Some byte else None) None false
-    (capacity Para k c.flags) (byte_shown answer) (held_bytes (queue Para k power_on)) q
-    (queue Para k (chip_after c Para (Write number byte))) q
-    refl (ap (λ b. if b then Some byte else None) (even_is number k even lk)) (after_no_control Para k number byte c even)
-    (apart (capacity Para k c.flags) (byte_shown answer) (held_bytes (queue Para k power_on)) q)
+    untouched refl (even_sends_nothing number k byte even lk) (after_no_control Para k number byte c even)
 
 -- reads
 reader_reads : (from : Side) (k number : ℕ) (c : State) (answer : Answer) → number < 8 → 1 ≤ k → k ≤ 4 →
     (act c (reader from) (access (Read number))).1 ≡ answer → Keeps from k c (reader from) (access (Read number)) answer
 unfolding Keeps
 reader_reads Host k number c answer low lk hk answered tick =
-    let q = queue Host k c in
-    let b = number == byte_number k in
-    balanced false false None None b (capacity Host k c.flags) (byte_shown answer) (held_bytes (queue Host k power_on)) q
-    (queue Host k (chip_after c Para (Read number))) (if b then take_leaves q else q) refl refl (after_read Host k number c low lk hk)
-    (one_read b (capacity Host k c.flags) (byte_shown answer) (held_bytes (queue Host k power_on)) q
+    balanced refl refl (after_read Host k number c low lk hk) (one_read (number == byte_number k) _ _ _ (queue Host k c)
     (λ is. ap byte_shown (sym answered) ∙ ap (λ byte. byte ∷ []) (read_shows Host k number c lk is)))
 reader_reads Para k number c answer low lk hk answered tick =
-    let q = queue Para k c in
-    let b = number == byte_number k in
-    balanced false false None None b (capacity Para k c.flags) (byte_shown answer) (held_bytes (queue Para k power_on)) q
-    (queue Para k (chip_after c Host (Read number))) (if b then take_leaves q else q) refl refl (after_read Para k number c low lk hk)
-    (one_read b (capacity Para k c.flags) (byte_shown answer) (held_bytes (queue Para k power_on)) q
+    balanced refl refl (after_read Para k number c low lk hk) (one_read (number == byte_number k) _ _ _ (queue Para k c)
     (λ is. ap byte_shown (sym answered) ∙ ap (λ byte. byte ∷ []) (read_shows Para k number c lk is)))
 
 own_reads : (from : Side) (k number : ℕ) (c : State) (answer : Answer) → Keeps from k c from (access (Read number)) answer
 unfolding Keeps
-own_reads Host k number c answer tick =
-    let q = queue Host k c in
-    balanced false false None None false (capacity Host k c.flags) (byte_shown answer) (held_bytes (queue Host k power_on)) q
-    (queue Host k (chip_after c Host (Read number))) q refl refl (own_read Host k number c)
-    (apart (capacity Host k c.flags) (byte_shown answer) (held_bytes (queue Host k power_on)) q)
-own_reads Para k number c answer tick =
-    let q = queue Para k c in
-    balanced false false None None false (capacity Para k c.flags) (byte_shown answer) (held_bytes (queue Para k power_on)) q
-    (queue Para k (chip_after c Para (Read number))) q refl refl (own_read Para k number c)
-    (apart (capacity Para k c.flags) (byte_shown answer) (held_bytes (queue Para k power_on)) q)
+own_reads Host k number c answer tick = untouched refl refl (own_read Host k number c)
+own_reads Para k number c answer tick = untouched refl refl (own_read Para k number c)
 
 -- a reset clears all
 resets : (from : Side) (k : ℕ) (c : State) (answer : Answer) → Keeps from k c Host (access Reset) answer
 unfolding Keeps
-resets Host k c answer tick =
-    one_clear true (capacity Host k c.flags) (byte_shown answer) (held_bytes (queue Host k power_on)) (queue Host k c)
-    (queue Host k (chip_after c Host Reset)) (λ e. has_reset Host k c) (λ e. absurd (true≢false e))
-resets Para k c answer tick =
-    one_clear true (capacity Para k c.flags) (byte_shown answer) (held_bytes (queue Para k power_on)) (queue Para k c)
-    (queue Para k (chip_after c Host Reset)) (λ e. has_reset Para k c) (λ e. absurd (true≢false e))
+resets Host k c answer tick = one_clear true _ _ _ _ _ (λ e. has_reset Host k c) (λ e. absurd (true≢false e))
+resets Para k c answer tick = one_clear true _ _ _ _ _ (λ e. has_reset Para k c) (λ e. absurd (true≢false e))
 
 resets_by : (from side : Side) (k : ℕ) (c : State) (answer : Answer) → side ≡ Host → Keeps from k c side (access Reset) answer
 resets_by from Host k c answer is = resets from k c answer
@@ -405,10 +361,10 @@ resets_by from Para k c answer is = cc
 
 looks : (from side : Side) (k : ℕ) (c : State) (answer : Answer) → Keeps from k c side look answer
 unfolding Keeps
-looks Host Host k c answer tick = apart (capacity Host k c.flags) (byte_shown answer) (held_bytes (queue Host k power_on)) (queue Host k c)
-looks Host Para k c answer tick = apart (capacity Host k c.flags) (byte_shown answer) (held_bytes (queue Host k power_on)) (queue Host k c)
-looks Para Host k c answer tick = apart (capacity Para k c.flags) (byte_shown answer) (held_bytes (queue Para k power_on)) (queue Para k c)
-looks Para Para k c answer tick = apart (capacity Para k c.flags) (byte_shown answer) (held_bytes (queue Para k power_on)) (queue Para k c)
+looks Host Host k c answer tick = untouched refl refl refl
+looks Host Para k c answer tick = untouched refl refl refl
+looks Para Host k c answer tick = untouched refl refl refl
+looks Para Para k c answer tick = untouched refl refl refl
 
 each : (from side : Side) (query : Query) (k : ℕ) (c : State) (answer : Answer) → 1 ≤ k → k ≤ 4 → MayAsk side query →
     (act c side query).1 ≡ answer → Keeps from k c side query answer
@@ -437,8 +393,8 @@ each Para Para (access (Write number byte)) k c answer lk hk may answered = elim
 
 one_event : (from : Side) (k : ℕ) (c : State) (e : Event) → 1 ≤ k → k ≤ 4 → MayAsk e.side e.query → (act c e.side e.query).1 ≡ e.answer →
     leaves from k c e ++ held_bytes (queue from k (act c e.side e.query).0) ≡ held_bytes (queue from k c) ++ comes from k c e
-unfolding Keeps Balance
-one_event from k c e lk hk may answered = each from e.side e.query k c e.answer lk hk may answered e.tick
+unfolding Keeps
+one_event from k c e lk hk may answered = (each from e.side e.query k c e.answer lk hk may answered e.tick).is
 
 -- ---- Runs.
 
