@@ -311,55 +311,6 @@ bool_is : (b : Bool) → (b ≡ true) ⊎ (b ≡ false)
 bool_is true = inl refl
 bool_is false = inr refl
 
--- the codes of a line are covered at each clock
-covered : Facts → (ram : ℕ → List ℕ) (size : ℕ → ℕ) (font : Font) (s : State) → MakesFrames s.crtc → bit s.ula.control 1 ≡ true → (n : ℕ) →
-    Covers (during ram size font s n)
-unfolding during behind
-covered facts ram size font s makes on zero =
-    covers_at (tells 0 s.crtc) s.text true
-    (facts.lines s.crtc 0 makes.bits makes.begins.character ∙ test_true (0 % line_characters s.crtc.registers) 0 (zero-mod (line_characters s.crtc.registers)))
-    (λ h. absurd (true≢false h))
-covered facts ram size font s makes on (suc n) =
-    let e : n + 1 ≡ suc n = add-one n in
-    let b = tells n s.crtc in
-    subst (λ i. Covers (text_at (tells i s.crtc) (char_clocks ram size font i s).text)) e
-    (covers_at (tells (n + 1) s.crtc) (char_clocks ram size font (n + 1) s).text (tells (n + 1) s.crtc).line_start refl
-    (λ inner.
-    let ends = line_follows facts s.crtc makes n inner in
-    subst Covers (sym (next_text ram size font s on n ∙ past_plain b (behind ram size font s n) ends.0 ends.1))
-    (covers_on b.shown (told_code (ram n) (size n) b) (during ram size font s n) (covered facts ram size font s makes on n))))
-
--- the row has the code behind a character
-had_behind : Facts → (ram : ℕ → List ℕ) (size : ℕ → ℕ) (font : Font) (s : State) → MakesFrames s.crtc → bit s.ula.control 1 ≡ true → (n : ℕ) →
-    Holds ram size font s n → (behind ram size font s n).doubled ≡ true →
-    Had ram size s.crtc.registers n ⊎ Doubles ram size s.crtc.registers n
-unfolding behind during
-had_behind facts ram size font s makes on n holds had =
-    let b = tells n s.crtc in
-    elim (doubled_on b.shown (told_code (ram n) (size n) b) (during ram size font s n) (covered facts ram size font s makes on n) had) [
-      | inl before ↦ inl (holds.found (sym (doubled_kept b (char_clocks ram size font n s).text) ∙ before))
-      | inr now ↦
-          inr (record {
-            shown = sym (facts.shown.which s.crtc n makes.bits makes.begins) ∙ now.0;
-            code = sym (here facts.count facts.shown ram size s n makes now.0).code ∙ now.1;
-          })
-    ]
-
-behind_had : Facts → (ram : ℕ → List ℕ) (size : ℕ → ℕ) (font : Font) (s : State) → MakesFrames s.crtc → bit s.ula.control 1 ≡ true → (n : ℕ) →
-    Holds ram size font s n → Had ram size s.crtc.registers n → (behind ram size font s n).doubled ≡ true
-unfolding behind during
-behind_had facts ram size font s makes on n holds had =
-    let b = tells n s.crtc in
-    doubled_before b.shown (told_code (ram n) (size n) b) (during ram size font s n) (doubled_kept b (char_clocks ram size font n s).text ∙ holds.finds had)
-
-behind_now : Facts → (ram : ℕ → List ℕ) (size : ℕ → ℕ) (font : Font) (s : State) → MakesFrames s.crtc → bit s.ula.control 1 ≡ true → (n : ℕ) →
-    Doubles ram size s.crtc.registers n → (behind ram size font s n).doubled ≡ true
-unfolding behind during
-behind_now facts ram size font s makes on n doubles =
-    let b = tells n s.crtc in
-    let shown : b.shown ≡ true = facts.shown.which s.crtc n makes.bits makes.begins ∙ doubles.shown in
-    doubled_here b.shown (told_code (ram n) (size n) b) (during ram size font s n) shown ((here facts.count facts.shown ram size s n makes shown).code ∙ doubles.code)
-
 behind_bottom : (ram : ℕ → List ℕ) (size : ℕ → ℕ) (font : Font) (s : State) (n : ℕ) → (behind ram size font s n).bottom ≡ is_lower ram size font s n
 unfolding behind during
 behind_bottom ram size font s n =
@@ -378,116 +329,11 @@ too_far : (c : Crtc) (n : ℕ) → row_at c.registers (n + 1) ≤ c.registers.ve
 unfolding Beyond
 too_far c n inside beyond = omega (arith, inside, beyond)
 
--- one clock further, in the same row
-in_row : Facts → (ram : ℕ → List ℕ) (size : ℕ → ℕ) (font : Font) (s : State) → MakesFrames s.crtc → bit s.ula.control 1 ≡ true → (n : ℕ) →
-    Stays s.crtc n → Holds ram size font s n → Holds ram size font s (n + 1)
-in_row facts ram size font s makes on n stays holds =
-    let r = s.crtc.registers in
-    let text : (char_clocks ram size font (n + 1) s).text ≡ behind ram size font s n =
-    next_text ram size font s on n ∙ past_plain (tells n s.crtc) (behind ram size font s n) stays.restart stays.row_end in
-    let doubled : (char_clocks ram size font (n + 1) s).text.doubled ≡ (behind ram size font s n).doubled = ap (λ (t : Text). t.doubled) text in
-    let lower : is_lower ram size font s (n + 1) ≡ is_lower ram size font s n = ap (λ (t : Text). t.bottom) text ∙ behind_bottom ram size font s n in
-    let above : (m : ℕ) → IsAbove r m (n + 1) → IsAbove r m n = λ m is. record { frame = is.frame ∙ stays.frame; row = is.row ∙ stays.row } in
-    let above_back : (m : ℕ) → IsAbove r m n → IsAbove r m (n + 1) = λ m is. record { frame = is.frame ∙ sym stays.frame; row = is.row ∙ sym stays.row } in
-    record {
-      found = λ had. elim (had_behind facts ram size font s makes on n holds (sym doubled ∙ had)) [
-        | inl before ↦
-            let earlier = before.earlier in
-            record {
-              clock = before.clock;
-              earlier = omega (arith, earlier);
-              frame = before.frame ∙ sym stays.frame;
-              row = before.row ∙ sym stays.row;
-              doubles = before.doubles;
-            }
-        | inr now ↦ record { clock = n; earlier = omega arith; frame = sym stays.frame; row = sym stays.row; doubles = now }
-      ];
-      finds = λ had. doubled ∙ (elim (cases_eq had.clock n) [
-        | inl now ↦ behind_now facts ram size font s makes on n (subst (Doubles ram size r) now had.doubles)
-        | inr before ↦
-            let earlier = had.earlier in
-            behind_had facts ram size font s makes on n holds (record {
-              clock = had.clock;
-              earlier = omega (arith, earlier, before);
-              frame = had.frame ∙ stays.frame;
-              row = had.row ∙ stays.row;
-              doubles = had.doubles;
-            })
-      ]);
-      row = λ m before frame row. elim (cases_eq m (n + 1)) [
-        | inl same ↦ ap (is_lower ram size font s) same
-        | inr other ↦ holds.row m (omega (arith, before, other)) (frame ∙ stays.frame) (row ∙ stays.row) ∙ sym lower
-      ];
-      first = λ top. lower ∙ holds.first (sym stays.row ∙ top);
-      below = λ m is doubles. lower ∙ holds.below m (above m is) doubles;
-      plain = λ none. lower ∙ holds.plain (λ m is doubles. none m (above_back m is) doubles);
-    }
-
 -- no earlier clock is in the row that begins
 new_row : (r : Registers) (n m : ℕ) → frame_index r (n + 1) ≡ frame_index r n → row_at r (n + 1) ≡ row_at r n + 1 → m ≤ n →
     frame_index r m ≡ frame_index r (n + 1) → row_at r m ≡ row_at r (n + 1) → ⊥
 new_row r n m frame row before same_frame same_row =
     let low = row_grows r m n before (same_frame ∙ frame) in omega (arith, low, row, same_row)
-
--- the next row begins
-to_row : Facts → (ram : ℕ → List ℕ) (size : ℕ → ℕ) (font : Font) (s : State) → MakesFrames s.crtc → bit s.ula.control 1 ≡ true → (n : ℕ) →
-    Steps s.crtc n → Holds ram size font s n → Holds ram size font s (n + 1)
-to_row facts ram size font s makes on n goes holds =
-    let r = s.crtc.registers in
-    let t = behind ram size font s n in
-    let text : (char_clocks ram size font (n + 1) s).text ≡ next_row t =
-    next_text ram size font s on n ∙ past_row (tells n s.crtc) t goes.restart goes.row_end in
-    let none : (char_clocks ram size font (n + 1) s).text.doubled ≡ false = ap (λ (t : Text). t.doubled) text in
-    let lower : is_lower ram size font s (n + 1) ≡ (not (is_lower ram size font s n) && t.doubled) =
-    ap (λ (t : Text). t.bottom) text ∙ ap (λ b. not b && t.doubled) (behind_bottom ram size font s n) in
-    let row = goes.row in
-    let in_it : (m : ℕ) → IsAbove r m (n + 1) → (m ≤ n) × (row_at r m ≡ row_at r n) = λ m is.
-    let up = is.row in
-    let same : row_at r m ≡ row_at r n = omega (arith, up, row) in (
-      elim (cases_lt n m) [
-        | inl later ↦
-            let high = row_grows r (n + 1) m (omega (arith, later)) (sym is.frame) in absurd (omega (arith, high, row, same))
-        | inr before ↦ before
-      ],
-      same,
-    ) in
-    let above_now : IsAbove r n (n + 1) = record { frame = sym goes.frame; row = sym row } in
-    record {
-      found = λ had. absurd (true≢false (sym had ∙ none));
-      finds = λ had.
-          let earlier = had.earlier in absurd (new_row r n had.clock goes.frame row (omega (arith, earlier)) had.frame had.row);
-      row = λ m before frame same. elim (cases_eq m (n + 1)) [
-        | inl is ↦ ap (is_lower ram size font s) is
-        | inr other ↦ absurd (new_row r n m goes.frame row (omega (arith, before, other)) frame same)
-      ];
-      first = λ top. absurd (omega (arith, top, row));
-      below = λ m is doubles.
-          let where_it_is = in_it m is in
-          let had : t.doubled ≡ true = elim (cases_eq m n) [
-            | inl now ↦ behind_now facts ram size font s makes on n (subst (Doubles ram size r) now doubles)
-            | inr other ↦
-                behind_had facts ram size font s makes on n holds (record {
-                  clock = m;
-                  earlier = let low = where_it_is.0 in omega (arith, low, other);
-                  frame = is.frame ∙ goes.frame;
-                  row = where_it_is.1;
-                  doubles = doubles;
-                })
-          ] in
-          lower ∙ ap (λ b. not (is_lower ram size font s n) && b) had ∙ and_on (not (is_lower ram size font s n))
-          ∙ ap not (sym (holds.row m where_it_is.0 (is.frame ∙ goes.frame) where_it_is.1));
-      plain = λ nothing.
-          let off : t.doubled ≡ false = elim (bool_is t.doubled) [
-            | inr off ↦ off
-            | inl had ↦
-                elim (had_behind facts ram size font s makes on n holds had) [
-                  | inl before ↦
-                      absurd (nothing before.clock (record { frame = before.frame ∙ sym goes.frame; row = ap (λ i. i + 1) before.row ∙ sym row }) before.doubles)
-                  | inr now ↦ absurd (nothing n above_now now)
-                ]
-          ] in
-          lower ∙ ap (λ b. not (is_lower ram size font s n) && b) off ∙ and_off (not (is_lower ram size font s n));
-    }
 
 -- the next frame begins
 to_frame : (ram : ℕ → List ℕ) (size : ℕ → ℕ) (font : Font) (s : State) → bit s.ula.control 1 ≡ true → (n : ℕ) → Begins s.crtc n → Holds ram size font s (n + 1)
@@ -513,35 +359,190 @@ to_frame ram size font s on n begins =
       plain = λ nothing. lower;
     }
 
-at_each : Facts → (ram : ℕ → List ℕ) (size : ℕ → ℕ) (font : Font) (s : State) → MakesFrames s.crtc → bit s.ula.control 1 ≡ true → (n : ℕ) →
-    1 ≤ frame_index s.crtc.registers n → row_at s.crtc.registers n ≤ s.crtc.registers.vertical_total → Holds ram size font s n
-at_each facts ram size font s makes on zero some inside =
-    let r = s.crtc.registers in
-    let none : frame_index r 0 ≡ 0 = ap (λ i. i / frame_lines r) (zero-div (line_characters r)) ∙ zero-div (frame_lines r) in
-    absurd (omega (arith, none, some))
-at_each facts ram size font s makes on (suc n) some inside =
-    let r = s.crtc.registers in
-    let e : suc n ≡ n + 1 = sym (add-one n) in
-    let some_too : 1 ≤ frame_index r (n + 1) = subst (λ i. 1 ≤ frame_index r i) e some in
-    let inside_too : row_at r (n + 1) ≤ r.vertical_total = subst (λ i. row_at r i ≤ r.vertical_total) e inside in
-    subst (Holds ram size font s) (sym e) (elim (goes facts s.crtc makes n) [
-      | inl on_it ↦
-          elim on_it [
-            | inl stays ↦
-                let frame = stays.frame in
-                let row = stays.row in
-                in_row facts ram size font s makes on n stays (at_each facts ram size font s makes on n (omega (arith, frame, some_too)) (omega (arith, row, inside_too)))
-            | inr next ↦
-                let frame = next.frame in
-                let row = next.row in
-                to_row facts ram size font s makes on n next (at_each facts ram size font s makes on n (omega (arith, frame, some_too)) (omega (arith, row, inside_too)))
-          ]
-      | inr far ↦
-          elim far [
-            | inl begins ↦ to_frame ram size font s on n begins
-            | inr beyond ↦ absurd (too_far s.crtc n inside_too beyond)
-          ]
-    ])
+module _ (facts : Facts) (ram : ℕ → List ℕ) (size : ℕ → ℕ) (font : Font) (s : State) (makes : MakesFrames s.crtc) (on : bit s.ula.control 1 ≡ true) where
+  -- the codes of a line are covered at each clock
+  covered : (n : ℕ) →
+      Covers (during ram size font s n)
+  unfolding during behind
+  covered zero =
+      covers_at (tells 0 s.crtc) s.text true
+      (facts.lines s.crtc 0 makes.bits makes.begins.character ∙ test_true (0 % line_characters s.crtc.registers) 0 (zero-mod (line_characters s.crtc.registers)))
+      (λ h. absurd (true≢false h))
+  covered (suc n) =
+      let e : n + 1 ≡ suc n = add-one n in
+      let b = tells n s.crtc in
+      subst (λ i. Covers (text_at (tells i s.crtc) (char_clocks ram size font i s).text)) e
+      (covers_at (tells (n + 1) s.crtc) (char_clocks ram size font (n + 1) s).text (tells (n + 1) s.crtc).line_start refl
+      (λ inner.
+      let ends = line_follows facts s.crtc makes n inner in
+      subst Covers (sym (next_text ram size font s on n ∙ past_plain b (behind ram size font s n) ends.0 ends.1))
+      (covers_on b.shown (told_code (ram n) (size n) b) (during ram size font s n) (covered n))))
+
+  -- the row has the code behind a character
+  had_behind : (n : ℕ) →
+      Holds ram size font s n → (behind ram size font s n).doubled ≡ true →
+      Had ram size s.crtc.registers n ⊎ Doubles ram size s.crtc.registers n
+  unfolding behind during
+  had_behind n holds had =
+      let b = tells n s.crtc in
+      elim (doubled_on b.shown (told_code (ram n) (size n) b) (during ram size font s n) (covered n) had) [
+        | inl before ↦ inl (holds.found (sym (doubled_kept b (char_clocks ram size font n s).text) ∙ before))
+        | inr now ↦
+            inr (record {
+              shown = sym (facts.shown.which s.crtc n makes.bits makes.begins) ∙ now.0;
+              code = sym (here facts.count facts.shown ram size s n makes now.0).code ∙ now.1;
+            })
+      ]
+
+  behind_had : (n : ℕ) →
+      Holds ram size font s n → Had ram size s.crtc.registers n → (behind ram size font s n).doubled ≡ true
+  unfolding behind during
+  behind_had n holds had =
+      let b = tells n s.crtc in
+      doubled_before b.shown (told_code (ram n) (size n) b) (during ram size font s n) (doubled_kept b (char_clocks ram size font n s).text ∙ holds.finds had)
+
+  behind_now : (n : ℕ) →
+      Doubles ram size s.crtc.registers n → (behind ram size font s n).doubled ≡ true
+  unfolding behind during
+  behind_now n doubles =
+      let b = tells n s.crtc in
+      let shown : b.shown ≡ true = facts.shown.which s.crtc n makes.bits makes.begins ∙ doubles.shown in
+      doubled_here b.shown (told_code (ram n) (size n) b) (during ram size font s n) shown ((here facts.count facts.shown ram size s n makes shown).code ∙ doubles.code)
+
+  -- one clock further, in the same row
+  in_row : (n : ℕ) →
+      Stays s.crtc n → Holds ram size font s n → Holds ram size font s (n + 1)
+  in_row n stays holds =
+      let r = s.crtc.registers in
+      let text : (char_clocks ram size font (n + 1) s).text ≡ behind ram size font s n =
+      next_text ram size font s on n ∙ past_plain (tells n s.crtc) (behind ram size font s n) stays.restart stays.row_end in
+      let doubled : (char_clocks ram size font (n + 1) s).text.doubled ≡ (behind ram size font s n).doubled = ap (λ (t : Text). t.doubled) text in
+      let lower : is_lower ram size font s (n + 1) ≡ is_lower ram size font s n = ap (λ (t : Text). t.bottom) text ∙ behind_bottom ram size font s n in
+      let above : (m : ℕ) → IsAbove r m (n + 1) → IsAbove r m n = λ m is. record { frame = is.frame ∙ stays.frame; row = is.row ∙ stays.row } in
+      let above_back : (m : ℕ) → IsAbove r m n → IsAbove r m (n + 1) = λ m is. record { frame = is.frame ∙ sym stays.frame; row = is.row ∙ sym stays.row } in
+      record {
+        found = λ had. elim (had_behind n holds (sym doubled ∙ had)) [
+          | inl before ↦
+              let earlier = before.earlier in
+              record {
+                clock = before.clock;
+                earlier = omega (arith, earlier);
+                frame = before.frame ∙ sym stays.frame;
+                row = before.row ∙ sym stays.row;
+                doubles = before.doubles;
+              }
+          | inr now ↦ record { clock = n; earlier = omega arith; frame = sym stays.frame; row = sym stays.row; doubles = now }
+        ];
+        finds = λ had. doubled ∙ (elim (cases_eq had.clock n) [
+          | inl now ↦ behind_now n (subst (Doubles ram size r) now had.doubles)
+          | inr before ↦
+              let earlier = had.earlier in
+              behind_had n holds (record {
+                clock = had.clock;
+                earlier = omega (arith, earlier, before);
+                frame = had.frame ∙ stays.frame;
+                row = had.row ∙ stays.row;
+                doubles = had.doubles;
+              })
+        ]);
+        row = λ m before frame row. elim (cases_eq m (n + 1)) [
+          | inl same ↦ ap (is_lower ram size font s) same
+          | inr other ↦ holds.row m (omega (arith, before, other)) (frame ∙ stays.frame) (row ∙ stays.row) ∙ sym lower
+        ];
+        first = λ top. lower ∙ holds.first (sym stays.row ∙ top);
+        below = λ m is doubles. lower ∙ holds.below m (above m is) doubles;
+        plain = λ none. lower ∙ holds.plain (λ m is doubles. none m (above_back m is) doubles);
+      }
+
+  -- the next row begins
+  to_row : (n : ℕ) →
+      Steps s.crtc n → Holds ram size font s n → Holds ram size font s (n + 1)
+  to_row n goes holds =
+      let r = s.crtc.registers in
+      let t = behind ram size font s n in
+      let text : (char_clocks ram size font (n + 1) s).text ≡ next_row t =
+      next_text ram size font s on n ∙ past_row (tells n s.crtc) t goes.restart goes.row_end in
+      let none : (char_clocks ram size font (n + 1) s).text.doubled ≡ false = ap (λ (t : Text). t.doubled) text in
+      let lower : is_lower ram size font s (n + 1) ≡ (not (is_lower ram size font s n) && t.doubled) =
+      ap (λ (t : Text). t.bottom) text ∙ ap (λ b. not b && t.doubled) (behind_bottom ram size font s n) in
+      let row = goes.row in
+      let in_it : (m : ℕ) → IsAbove r m (n + 1) → (m ≤ n) × (row_at r m ≡ row_at r n) = λ m is.
+      let up = is.row in
+      let same : row_at r m ≡ row_at r n = omega (arith, up, row) in (
+        elim (cases_lt n m) [
+          | inl later ↦
+              let high = row_grows r (n + 1) m (omega (arith, later)) (sym is.frame) in absurd (omega (arith, high, row, same))
+          | inr before ↦ before
+        ],
+        same,
+      ) in
+      let above_now : IsAbove r n (n + 1) = record { frame = sym goes.frame; row = sym row } in
+      record {
+        found = λ had. absurd (true≢false (sym had ∙ none));
+        finds = λ had.
+            let earlier = had.earlier in absurd (new_row r n had.clock goes.frame row (omega (arith, earlier)) had.frame had.row);
+        row = λ m before frame same. elim (cases_eq m (n + 1)) [
+          | inl is ↦ ap (is_lower ram size font s) is
+          | inr other ↦ absurd (new_row r n m goes.frame row (omega (arith, before, other)) frame same)
+        ];
+        first = λ top. absurd (omega (arith, top, row));
+        below = λ m is doubles.
+            let where_it_is = in_it m is in
+            let had : t.doubled ≡ true = elim (cases_eq m n) [
+              | inl now ↦ behind_now n (subst (Doubles ram size r) now doubles)
+              | inr other ↦
+                  behind_had n holds (record {
+                    clock = m;
+                    earlier = let low = where_it_is.0 in omega (arith, low, other);
+                    frame = is.frame ∙ goes.frame;
+                    row = where_it_is.1;
+                    doubles = doubles;
+                  })
+            ] in
+            lower ∙ ap (λ b. not (is_lower ram size font s n) && b) had ∙ and_on (not (is_lower ram size font s n))
+            ∙ ap not (sym (holds.row m where_it_is.0 (is.frame ∙ goes.frame) where_it_is.1));
+        plain = λ nothing.
+            let off : t.doubled ≡ false = elim (bool_is t.doubled) [
+              | inr off ↦ off
+              | inl had ↦
+                  elim (had_behind n holds had) [
+                    | inl before ↦
+                        absurd (nothing before.clock (record { frame = before.frame ∙ sym goes.frame; row = ap (λ i. i + 1) before.row ∙ sym row }) before.doubles)
+                    | inr now ↦ absurd (nothing n above_now now)
+                  ]
+            ] in
+            lower ∙ ap (λ b. not (is_lower ram size font s n) && b) off ∙ and_off (not (is_lower ram size font s n));
+      }
+
+  at_each : (n : ℕ) →
+      1 ≤ frame_index s.crtc.registers n → row_at s.crtc.registers n ≤ s.crtc.registers.vertical_total → Holds ram size font s n
+  at_each zero some inside =
+      let r = s.crtc.registers in
+      let none : frame_index r 0 ≡ 0 = ap (λ i. i / frame_lines r) (zero-div (line_characters r)) ∙ zero-div (frame_lines r) in
+      absurd (omega (arith, none, some))
+  at_each (suc n) some inside =
+      let r = s.crtc.registers in
+      let e : suc n ≡ n + 1 = sym (add-one n) in
+      let some_too : 1 ≤ frame_index r (n + 1) = subst (λ i. 1 ≤ frame_index r i) e some in
+      let inside_too : row_at r (n + 1) ≤ r.vertical_total = subst (λ i. row_at r i ≤ r.vertical_total) e inside in
+      subst (Holds ram size font s) (sym e) (elim (goes facts s.crtc makes n) [
+        | inl on_it ↦
+            elim on_it [
+              | inl stays ↦
+                  let frame = stays.frame in
+                  let row = stays.row in
+                  in_row n stays (at_each n (omega (arith, frame, some_too)) (omega (arith, row, inside_too)))
+              | inr next ↦
+                  let frame = next.frame in
+                  let row = next.row in
+                  to_row n next (at_each n (omega (arith, frame, some_too)) (omega (arith, row, inside_too)))
+            ]
+        | inr far ↦
+            elim far [
+              | inl begins ↦ to_frame ram size font s on n begins
+              | inr beyond ↦ absurd (too_far s.crtc n inside_too beyond)
+            ]
+      ])
 
 pub lower_rows_follow : Facts → LowerRowsFollow
 lower_rows_follow facts = record {

@@ -93,27 +93,6 @@ latch_leaves_it v s off =
 
 -- ---- A command that gives bytes 0 to l, byte i at its place `first` + i, and ends at its place `last`.
 
--- One step of it, from m steps on.
-pub record Next (c : Command) (base first l last : ℕ) (s x : State) (m : ℕ) : Type 0 where
-  pub command : m + 1 < 64 * last → x.command ≡ c
-  pub angle : x.angle ≡ Some (base + (m + 1))
-  pub byte : (m + 1) % 64 ≡ 0 → first ≤ (m + 1) / 64 → (m + 1) / 64 ≤ first + l → (x.drq ≡ true) × (x.lost_data ≡ (s.lost_data || s.drq))
-  pub none : ((m + 1) % 64 ≡ 0 → first ≤ (m + 1) / 64 → (m + 1) / 64 ≤ first + l → ⊥) → (x.drq ≡ s.drq) × (x.lost_data ≡ s.lost_data)
-
-abbrev pub GoesOn : Command → ℕ → ℕ → ℕ → ℕ → Type 0
-GoesOn c base first l last =
-    (s : State) (m : ℕ) → m < 64 * last → s.command ≡ c → s.angle ≡ Some (base + m) → Next c base first l last s (work_leaves s) m
-
--- After m steps, and accesses in these places, nothing is lost and each byte was taken.
-pub record Fine (c : Command) (base first l last : ℕ) (s : State) (m : ℕ) (ps : List ℕ) : Type 0 where
-  pub command : m < 64 * last → s.command ≡ c
-  pub angle : s.angle ≡ Some (base + m)
-  pub kept : s.lost_data ≡ false
-  pub drq : m < 64 * (first + l + 1) → s.drq ≡ (nat_le first (m / 64) && not (has_place (m / 64) ps))
-  pub served : (i : ℕ) → i < l → 64 * (first + i + 1) ≤ m → has_place (first + i) ps ≡ true
-  pub ahead : (p : ℕ) → m / 64 < p → has_place p ps ≡ false
-  pub last_taken : 64 * (first + l) ≤ m → has_place (first + l) ps ≡ true → s.drq ≡ false
-
 -- A byte was not taken, and is told to be lost.
 pub record Missed (first l : ℕ) (s : State) (m : ℕ) (ps : List ℕ) : Type 0 where
   pub lost : s.lost_data ≡ true
@@ -122,157 +101,9 @@ pub record Missed (first l : ℕ) (s : State) (m : ℕ) (ps : List ℕ) : Type 0
   pub over : 64 * (first + byte + 1) ≤ m
   pub missed : has_place (first + byte) ps ≡ false
 
-abbrev pub Either : Command → ℕ → ℕ → ℕ → ℕ → State → ℕ → List ℕ → Type 0
-Either c base first l last s m ps = Fine c base first l last s m ps ⊎ Missed first l s m ps
-
--- a byte comes in this step, the one before was taken
-comes : (c : Command) (base first l last : ℕ) (s x : State) (m : ℕ) (ps : List ℕ) → 1 ≤ first → (m + 1) % 64 ≡ 0 → first ≤ (m + 1) / 64 → (m + 1) / 64 ≤ first + l →
-    s.drq ≡ false → (first < (m + 1) / 64 → has_place (m / 64) ps ≡ true) → Next c base first l last s x m → Fine c base first l last s m ps →
-    Fine c base first l last x (m + 1) ps
-unfolding has_place
-comes c base first l last s x m ps some place low high off taken next is =
-    let now = next.byte place low high in
-    let new : has_place ((m + 1) / 64) ps ≡ false = is.ahead ((m + 1) / 64) (omega (arith, place)) in
-    record {
-      command = next.command;
-      angle = next.angle;
-      kept = now.1 ∙ ap (λ b. b || s.drq) is.kept ∙ off;
-      drq = λ h. now.0 ∙ sym (rw (le-leb first ((m + 1) / 64) low, new) refl);
-      served = λ i inside over. elim (cases_lt (m + 1) (64 * (first + i + 1) + 1)) [
-        | inl last_one ↦
-            let here : m / 64 ≡ first + i = omega (arith, last_one, over, place) in
-            subst (λ n. has_place n ps ≡ true) here (taken (omega (arith, last_one, over, place)))
-        | inr before ↦ is.served i inside (omega (arith, before))
-      ];
-      ahead = λ p more. is.ahead p (omega (arith, more, place));
-      last_taken = λ over had. absurd (true≢false (sym had ∙ is.ahead (first + l) (omega (arith, over, place, high))));
-    }
-
--- nothing comes
-passes : (c : Command) (base first l last : ℕ) (s x : State) (m : ℕ) (ps : List ℕ) → ((m + 1) % 64 ≡ 0 → first ≤ (m + 1) / 64 → (m + 1) / 64 ≤ first + l → ⊥) →
-    Next c base first l last s x m → Fine c base first l last s m ps → Fine c base first l last x (m + 1) ps
-unfolding has_place
-passes c base first l last s x m ps none next is =
-    let now = next.none none in
-    record {
-      command = next.command;
-      angle = next.angle;
-      kept = now.1 ∙ is.kept;
-      drq = λ h. now.0 ∙ is.drq (omega (arith, h)) ∙ (elim (cases_eq ((m + 1) % 64) 0) [
-        | inl place ↦
-            let early : (m + 1) / 64 < first = elim (cases_lt ((m + 1) / 64) first) [ inl low ↦ low | inr late ↦ absurd (none place late (omega (arith, h, place))) ] in
-            let before : m / 64 < first = omega (arith, early) in
-            ap (λ b. b && not (has_place (m / 64) ps)) (lt-leb first (m / 64) before) ∙ sym (ap (λ b. b && not (has_place ((m + 1) / 64) ps)) (lt-leb first ((m + 1) / 64) early))
-        | inr inner ↦
-            let same : m / 64 ≡ (m + 1) / 64 = omega (arith, inner) in
-            ap (λ n. nat_le first n && not (has_place n ps)) same
-      ]);
-      served = λ i inside over. elim (cases_lt m (64 * (first + i + 1))) [
-        | inl new ↦ absurd (none (omega (arith, new, over)) (omega (arith, new, over)) (omega (arith, new, over, inside)))
-        | inr old ↦ is.served i inside old
-      ];
-      ahead = λ p more. is.ahead p (omega (arith, more));
-      last_taken = λ over had. now.0 ∙ is.last_taken (elim (cases_lt m (64 * (first + l))) [
-        | inl new ↦ absurd (none (omega (arith, new, over)) (omega (arith, new, over)) (omega (arith, new, over)))
-        | inr old ↦ old
-      ]) had;
-    }
-
-counted : (c : Command) (base first l last : ℕ) (before : Bool) (s : State) (m : ℕ) (ps : List ℕ) → Fine c base first l last s m ps → Fine c base first l last (count_leaves before s) m ps
-unfolding has_place
-counted c base first l last before s m ps is = record {
-  command = is.command;
-  angle = is.angle;
-  kept = is.kept;
-  drq = is.drq;
-  served = is.served;
-  ahead = is.ahead;
-  last_taken = is.last_taken;
-}
-
 pub bool_cases : (b : Bool) → (b ≡ true) ⊎ (b ≡ false)
 bool_cases true = inl refl
 bool_cases false = inr refl
-
--- DRQ in the place before another
-drq_before : (c : Command) (base first l last : ℕ) (s : State) (m : ℕ) (ps : List ℕ) (b : Bool) → m < 64 * (first + l + 1) → Fine c base first l last s m ps →
-    (first ≤ m / 64 → has_place (m / 64) ps ≡ b) → (m / 64 < first → b ≡ true) → s.drq ≡ not b
-drq_before c base first l last s m ps b inside is has early = is.drq inside ∙ (elim (cases_lt (m / 64) first) [
-  | inl before ↦ ap (λ x. x && not (has_place (m / 64) ps)) (lt-leb first (m / 64) before) ∙ sym (ap not (early before))
-  | inr late ↦ ap (λ x. x && not (has_place (m / 64) ps)) (le-leb first (m / 64) late) ∙ ap not (has late)
-])
-
-stepped_fine : (c : Command) (base first l last : ℕ) (s : State) (m : ℕ) (ps : List ℕ) → GoesOn c base first l last → 1 ≤ first → m < 64 * last →
-    Fine c base first l last s m ps → Either c base first l last (step s) (m + 1) ps
-unfolding has_place
-stepped_fine c base first l last s m ps goes some inside is =
-    let next = goes s m inside (is.command inside) is.angle in
-    let fine : Fine c base first l last (work_leaves s) (m + 1) ps → Either c base first l last (step s) (m + 1) ps =
-    λ f. inl (counted c base first l last (is_asking s) (work_leaves s) (m + 1) ps f) in
-    elim (cases_eq ((m + 1) % 64) 0) [
-      | inr inner ↦ fine (passes c base first l last s (work_leaves s) m ps (λ place low high. inner place) next is)
-      | inl place ↦
-          elim (cases_lt ((m + 1) / 64) first) [
-            | inl early ↦ fine (passes c base first l last s (work_leaves s) m ps (λ h low high. omega (arith, low, early)) next is)
-            | inr low ↦
-                elim (cases_lt (first + l) ((m + 1) / 64)) [
-                  | inl late ↦ fine (passes c base first l last s (work_leaves s) m ps (λ h l' high. omega (arith, late, high)) next is)
-                  | inr high ↦
-                      elim (cases_eq ((m + 1) / 64) first) [
-                        | inl at_first ↦
-                            let off : s.drq ≡ false = drq_before c base first l last s m ps true (omega (arith, high)) is (λ h. absurd (omega (arith, h, at_first, place))) (λ h. refl) in
-                            fine (comes c base first l last s (work_leaves s) m ps some place low high off (λ h. absurd (omega (arith, h, at_first))) next is)
-                        | inr later ↦
-                            elim (bool_cases (has_place (m / 64) ps)) [
-                              | inl taken ↦
-                                  let off : s.drq ≡ false = drq_before c base first l last s m ps true (omega (arith, high)) is (λ h. taken) (λ h. refl) in
-                                  fine (comes c base first l last s (work_leaves s) m ps some place low high off (λ h. taken) next is)
-                              | inr missed ↦
-                                  let on : s.drq ≡ true =
-                                  drq_before c base first l last s m ps false (omega (arith, high)) is (λ h. missed) (λ h. absurd (omega (arith, h, later, low, place))) in
-                                  let which : first + (m / 64 - first) ≡ m / 64 = omega (arith, low, later, place) in
-                                  inr (record {
-                                    lost = (next.byte place low high).1 ∙ ap (λ b. s.lost_data || b) on ∙ or_true s.lost_data;
-                                    byte = m / 64 - first;
-                                    inside = omega (arith, low, later, place, high);
-                                    over = omega (arith, which);
-                                    missed = ap (λ n. has_place n ps) which ∙ missed;
-                                  })
-                            ]
-                      ]
-                ]
-          ]
-    ]
-
-pub stepped : (c : Command) (base first l last : ℕ) (s : State) (m : ℕ) (ps : List ℕ) → GoesOn c base first l last → 1 ≤ first → m < 64 * last →
-    Either c base first l last s m ps → Either c base first l last (step s) (m + 1) ps
-stepped c base first l last s m ps goes some inside (inl is) = stepped_fine c base first l last s m ps goes some inside is
-stepped c base first l last s m ps goes some inside (inr is) =
-    inr (record { lost = stays_lost s is.lost; byte = is.byte; inside = is.inside; over = omega (arith, is.over); missed = is.missed })
-
--- An access.
-accessed_fine : (c : Command) (base first l last : ℕ) (b : Bool) (s x : State) (m : ℕ) (ps : List ℕ) → Accessed b s x → Fine c base first l last s m ps →
-    Fine c base first l last x m (ps ++ place_if b m)
-unfolding has_place
-accessed_fine c base first l last true s x m ps acc is = record {
-  command = λ h. acc.command ∙ is.command h;
-  angle = acc.angle ∙ is.angle;
-  kept = acc.lost ∙ is.kept;
-  drq = λ h. acc.drq ∙ sym (ap (λ b. nat_le first (m / 64) && not b) (any_now (λ p. p == m / 64) ps (m / 64) (eq-eqb (m / 64) (m / 64) refl)) ∙ and_false (nat_le first (m / 64)));
-  served = λ i inside over. any_stays (λ p. p == first + i) ps (m / 64) (is.served i inside over);
-  ahead = λ p more. any_other (λ q. q == p) ps (m / 64) (is.ahead p more) (ne_eqb (m / 64) p (λ e. omega (arith, e, more)));
-  last_taken = λ over had. acc.drq;
-}
-accessed_fine c base first l last false s x m ps acc is =
-    subst (λ qs. Fine c base first l last x m qs) (sym (append-nil ps)) (record {
-      command = λ h. acc.command ∙ is.command h;
-      angle = acc.angle ∙ is.angle;
-      kept = acc.lost ∙ is.kept;
-      drq = λ h. acc.drq ∙ is.drq h;
-      served = is.served;
-      ahead = is.ahead;
-      last_taken = λ over had. acc.drq ∙ is.last_taken over had;
-    })
 
 accessed_missed : (first l : ℕ) (b : Bool) (s x : State) (m : ℕ) (ps : List ℕ) → Accessed b s x → Missed first l s m ps → Missed first l x m (ps ++ place_if b m)
 unfolding has_place
@@ -286,11 +117,6 @@ accessed_missed first l true s x m ps acc is = record {
 accessed_missed first l false s x m ps acc is =
     subst (λ qs. Missed first l x m qs) (sym (append-nil ps))
     (record { lost = acc.lost ∙ is.lost; byte = is.byte; inside = is.inside; over = is.over; missed = is.missed })
-
-pub accessed : (c : Command) (base first l last : ℕ) (b : Bool) (s x : State) (m : ℕ) (ps : List ℕ) → Accessed b s x → Either c base first l last s m ps →
-    Either c base first l last x m (ps ++ place_if b m)
-accessed c base first l last b s x m ps acc (inl is) = inl (accessed_fine c base first l last b s x m ps acc is)
-accessed c base first l last b s x m ps acc (inr is) = inr (accessed_missed first l b s x m ps acc is)
 
 -- Runs. What each step and each access keeps holds at their end.
 pub runs : (P : State → ℕ → List ℕ → Type 0) (last : ℕ) → ((s : State) (m : ℕ) (ps : List ℕ) → m < last → P s m ps → P (step s) (m + 1) ps) →
@@ -317,23 +143,198 @@ runs P last step_keeps access_keeps (latch v ∷ es) s m ps all most is =
     (runs P last step_keeps access_keeps es (latch_leaves v s) m (ps ++ []) all.1 most
     (access_keeps false s (latch_leaves v s) m ps (latch_leaves_it v s all.0) is))
 
-pub run : (c : Command) (base first l last : ℕ) → GoesOn c base first l last → 1 ≤ first → (events : List Event) (s : State) (m : ℕ) (ps : List ℕ) →
-    AllLetGo events → m + count_steps events ≤ 64 * last → Either c base first l last s m ps →
-    Either c base first l last (history events s) (m + count_steps events) (ps ++ accesses m events)
-run c base first l last goes some events s m ps all most is =
-    runs (λ s m ps. Either c base first l last s m ps) (64 * last) (λ s m ps inside is. stepped c base first l last s m ps goes some inside is)
-    (λ b s x m ps acc is. accessed c base first l last b s x m ps acc is) events s m ps all most is
+module _ (c : Command) (base first l last : ℕ) where
+  -- One step of it, from m steps on.
+  pub record Next (s x : State) (m : ℕ) : Type 0 where
+    pub command : m + 1 < 64 * last → x.command ≡ c
+    pub angle : x.angle ≡ Some (base + (m + 1))
+    pub byte : (m + 1) % 64 ≡ 0 → first ≤ (m + 1) / 64 → (m + 1) / 64 ≤ first + l → (x.drq ≡ true) × (x.lost_data ≡ (s.lost_data || s.drq))
+    pub none : ((m + 1) % 64 ≡ 0 → first ≤ (m + 1) / 64 → (m + 1) / 64 ≤ first + l → ⊥) → (x.drq ≡ s.drq) × (x.lost_data ≡ s.lost_data)
 
--- where no byte has come
-pub begins : (c : Command) (base first l last : ℕ) (s : State) → 1 ≤ first → s.command ≡ c → s.angle ≡ Some base → s.lost_data ≡ false → s.drq ≡ false →
-    Fine c base first l last s 0 []
-unfolding has_place
-begins c base first l last s some command angle kept off = record {
-  command = λ h. command;
-  angle = angle ∙ ap (λ (n : ℕ). Some n) (let e : base ≡ base + 0 = omega arith in e);
-  kept = kept;
-  drq = λ h. off ∙ sym (ap (λ b. b && true) (lt-leb first 0 (omega (arith, some))));
-  served = λ i inside over. absurd (omega (arith, over));
-  ahead = λ p more. refl;
-  last_taken = λ over had. off;
-}
+  abbrev pub GoesOn : Type 0
+  GoesOn =
+      (s : State) (m : ℕ) → m < 64 * last → s.command ≡ c → s.angle ≡ Some (base + m) → Next s (work_leaves s) m
+
+  -- After m steps, and accesses in these places, nothing is lost and each byte was taken.
+  pub record Fine (s : State) (m : ℕ) (ps : List ℕ) : Type 0 where
+    pub command : m < 64 * last → s.command ≡ c
+    pub angle : s.angle ≡ Some (base + m)
+    pub kept : s.lost_data ≡ false
+    pub drq : m < 64 * (first + l + 1) → s.drq ≡ (nat_le first (m / 64) && not (has_place (m / 64) ps))
+    pub served : (i : ℕ) → i < l → 64 * (first + i + 1) ≤ m → has_place (first + i) ps ≡ true
+    pub ahead : (p : ℕ) → m / 64 < p → has_place p ps ≡ false
+    pub last_taken : 64 * (first + l) ≤ m → has_place (first + l) ps ≡ true → s.drq ≡ false
+
+  abbrev pub Either : State → ℕ → List ℕ → Type 0
+  Either s m ps = Fine s m ps ⊎ Missed first l s m ps
+
+  -- a byte comes in this step, the one before was taken
+  comes : (s x : State) (m : ℕ) (ps : List ℕ) → 1 ≤ first → (m + 1) % 64 ≡ 0 → first ≤ (m + 1) / 64 → (m + 1) / 64 ≤ first + l →
+      s.drq ≡ false → (first < (m + 1) / 64 → has_place (m / 64) ps ≡ true) → Next s x m → Fine s m ps →
+      Fine x (m + 1) ps
+  unfolding has_place
+  comes s x m ps some place low high off taken next is =
+      let now = next.byte place low high in
+      let new : has_place ((m + 1) / 64) ps ≡ false = is.ahead ((m + 1) / 64) (omega (arith, place)) in
+      record {
+        command = next.command;
+        angle = next.angle;
+        kept = now.1 ∙ ap (λ b. b || s.drq) is.kept ∙ off;
+        drq = λ h. now.0 ∙ sym (rw (le-leb first ((m + 1) / 64) low, new) refl);
+        served = λ i inside over. elim (cases_lt (m + 1) (64 * (first + i + 1) + 1)) [
+          | inl last_one ↦
+              let here : m / 64 ≡ first + i = omega (arith, last_one, over, place) in
+              subst (λ n. has_place n ps ≡ true) here (taken (omega (arith, last_one, over, place)))
+          | inr before ↦ is.served i inside (omega (arith, before))
+        ];
+        ahead = λ p more. is.ahead p (omega (arith, more, place));
+        last_taken = λ over had. absurd (true≢false (sym had ∙ is.ahead (first + l) (omega (arith, over, place, high))));
+      }
+
+  -- nothing comes
+  passes : (s x : State) (m : ℕ) (ps : List ℕ) → ((m + 1) % 64 ≡ 0 → first ≤ (m + 1) / 64 → (m + 1) / 64 ≤ first + l → ⊥) →
+      Next s x m → Fine s m ps → Fine x (m + 1) ps
+  unfolding has_place
+  passes s x m ps none next is =
+      let now = next.none none in
+      record {
+        command = next.command;
+        angle = next.angle;
+        kept = now.1 ∙ is.kept;
+        drq = λ h. now.0 ∙ is.drq (omega (arith, h)) ∙ (elim (cases_eq ((m + 1) % 64) 0) [
+          | inl place ↦
+              let early : (m + 1) / 64 < first = elim (cases_lt ((m + 1) / 64) first) [ inl low ↦ low | inr late ↦ absurd (none place late (omega (arith, h, place))) ] in
+              let before : m / 64 < first = omega (arith, early) in
+              ap (λ b. b && not (has_place (m / 64) ps)) (lt-leb first (m / 64) before) ∙ sym (ap (λ b. b && not (has_place ((m + 1) / 64) ps)) (lt-leb first ((m + 1) / 64) early))
+          | inr inner ↦
+              let same : m / 64 ≡ (m + 1) / 64 = omega (arith, inner) in
+              ap (λ n. nat_le first n && not (has_place n ps)) same
+        ]);
+        served = λ i inside over. elim (cases_lt m (64 * (first + i + 1))) [
+          | inl new ↦ absurd (none (omega (arith, new, over)) (omega (arith, new, over)) (omega (arith, new, over, inside)))
+          | inr old ↦ is.served i inside old
+        ];
+        ahead = λ p more. is.ahead p (omega (arith, more));
+        last_taken = λ over had. now.0 ∙ is.last_taken (elim (cases_lt m (64 * (first + l))) [
+          | inl new ↦ absurd (none (omega (arith, new, over)) (omega (arith, new, over)) (omega (arith, new, over)))
+          | inr old ↦ old
+        ]) had;
+      }
+
+  counted : (before : Bool) (s : State) (m : ℕ) (ps : List ℕ) → Fine s m ps → Fine (count_leaves before s) m ps
+  unfolding has_place
+  counted before s m ps is = record {
+    command = is.command;
+    angle = is.angle;
+    kept = is.kept;
+    drq = is.drq;
+    served = is.served;
+    ahead = is.ahead;
+    last_taken = is.last_taken;
+  }
+
+  -- DRQ in the place before another
+  drq_before : (s : State) (m : ℕ) (ps : List ℕ) (b : Bool) → m < 64 * (first + l + 1) → Fine s m ps →
+      (first ≤ m / 64 → has_place (m / 64) ps ≡ b) → (m / 64 < first → b ≡ true) → s.drq ≡ not b
+  drq_before s m ps b inside is has early = is.drq inside ∙ (elim (cases_lt (m / 64) first) [
+    | inl before ↦ ap (λ x. x && not (has_place (m / 64) ps)) (lt-leb first (m / 64) before) ∙ sym (ap not (early before))
+    | inr late ↦ ap (λ x. x && not (has_place (m / 64) ps)) (le-leb first (m / 64) late) ∙ ap not (has late)
+  ])
+
+  stepped_fine : (s : State) (m : ℕ) (ps : List ℕ) → GoesOn → 1 ≤ first → m < 64 * last →
+      Fine s m ps → Either (step s) (m + 1) ps
+  unfolding has_place
+  stepped_fine s m ps goes some inside is =
+      let next = goes s m inside (is.command inside) is.angle in
+      let fine : Fine (work_leaves s) (m + 1) ps → Either (step s) (m + 1) ps =
+      λ f. inl (counted (is_asking s) (work_leaves s) (m + 1) ps f) in
+      elim (cases_eq ((m + 1) % 64) 0) [
+        | inr inner ↦ fine (passes s (work_leaves s) m ps (λ place low high. inner place) next is)
+        | inl place ↦
+            elim (cases_lt ((m + 1) / 64) first) [
+              | inl early ↦ fine (passes s (work_leaves s) m ps (λ h low high. omega (arith, low, early)) next is)
+              | inr low ↦
+                  elim (cases_lt (first + l) ((m + 1) / 64)) [
+                    | inl late ↦ fine (passes s (work_leaves s) m ps (λ h l' high. omega (arith, late, high)) next is)
+                    | inr high ↦
+                        elim (cases_eq ((m + 1) / 64) first) [
+                          | inl at_first ↦
+                              let off : s.drq ≡ false = drq_before s m ps true (omega (arith, high)) is (λ h. absurd (omega (arith, h, at_first, place))) (λ h. refl) in
+                              fine (comes s (work_leaves s) m ps some place low high off (λ h. absurd (omega (arith, h, at_first))) next is)
+                          | inr later ↦
+                              elim (bool_cases (has_place (m / 64) ps)) [
+                                | inl taken ↦
+                                    let off : s.drq ≡ false = drq_before s m ps true (omega (arith, high)) is (λ h. taken) (λ h. refl) in
+                                    fine (comes s (work_leaves s) m ps some place low high off (λ h. taken) next is)
+                                | inr missed ↦
+                                    let on : s.drq ≡ true =
+                                    drq_before s m ps false (omega (arith, high)) is (λ h. missed) (λ h. absurd (omega (arith, h, later, low, place))) in
+                                    let which : first + (m / 64 - first) ≡ m / 64 = omega (arith, low, later, place) in
+                                    inr (record {
+                                      lost = (next.byte place low high).1 ∙ ap (λ b. s.lost_data || b) on ∙ or_true s.lost_data;
+                                      byte = m / 64 - first;
+                                      inside = omega (arith, low, later, place, high);
+                                      over = omega (arith, which);
+                                      missed = ap (λ n. has_place n ps) which ∙ missed;
+                                    })
+                              ]
+                        ]
+                  ]
+            ]
+      ]
+
+  pub stepped : (s : State) (m : ℕ) (ps : List ℕ) → GoesOn → 1 ≤ first → m < 64 * last →
+      Either s m ps → Either (step s) (m + 1) ps
+  stepped s m ps goes some inside (inl is) = stepped_fine s m ps goes some inside is
+  stepped s m ps goes some inside (inr is) =
+      inr (record { lost = stays_lost s is.lost; byte = is.byte; inside = is.inside; over = omega (arith, is.over); missed = is.missed })
+
+  -- An access.
+  accessed_fine : (b : Bool) (s x : State) (m : ℕ) (ps : List ℕ) → Accessed b s x → Fine s m ps →
+      Fine x m (ps ++ place_if b m)
+  unfolding has_place
+  accessed_fine true s x m ps acc is = record {
+    command = λ h. acc.command ∙ is.command h;
+    angle = acc.angle ∙ is.angle;
+    kept = acc.lost ∙ is.kept;
+    drq = λ h. acc.drq ∙ sym (ap (λ b. nat_le first (m / 64) && not b) (any_now (λ p. p == m / 64) ps (m / 64) (eq-eqb (m / 64) (m / 64) refl)) ∙ and_false (nat_le first (m / 64)));
+    served = λ i inside over. any_stays (λ p. p == first + i) ps (m / 64) (is.served i inside over);
+    ahead = λ p more. any_other (λ q. q == p) ps (m / 64) (is.ahead p more) (ne_eqb (m / 64) p (λ e. omega (arith, e, more)));
+    last_taken = λ over had. acc.drq;
+  }
+  accessed_fine false s x m ps acc is =
+      subst (λ qs. Fine x m qs) (sym (append-nil ps)) (record {
+        command = λ h. acc.command ∙ is.command h;
+        angle = acc.angle ∙ is.angle;
+        kept = acc.lost ∙ is.kept;
+        drq = λ h. acc.drq ∙ is.drq h;
+        served = is.served;
+        ahead = is.ahead;
+        last_taken = λ over had. acc.drq ∙ is.last_taken over had;
+      })
+
+  pub accessed : (b : Bool) (s x : State) (m : ℕ) (ps : List ℕ) → Accessed b s x → Either s m ps →
+      Either x m (ps ++ place_if b m)
+  accessed b s x m ps acc (inl is) = inl (accessed_fine b s x m ps acc is)
+  accessed b s x m ps acc (inr is) = inr (accessed_missed first l b s x m ps acc is)
+
+  pub run : GoesOn → 1 ≤ first → (events : List Event) (s : State) (m : ℕ) (ps : List ℕ) →
+      AllLetGo events → m + count_steps events ≤ 64 * last → Either s m ps →
+      Either (history events s) (m + count_steps events) (ps ++ accesses m events)
+  run goes some events s m ps all most is =
+      runs (λ s m ps. Either s m ps) (64 * last) (λ s m ps inside is. stepped s m ps goes some inside is)
+      (λ b s x m ps acc is. accessed b s x m ps acc is) events s m ps all most is
+
+  -- where no byte has come
+  pub begins : (s : State) → 1 ≤ first → s.command ≡ c → s.angle ≡ Some base → s.lost_data ≡ false → s.drq ≡ false →
+      Fine s 0 []
+  unfolding has_place
+  begins s some command angle kept off = record {
+    command = λ h. command;
+    angle = angle ∙ ap (λ (n : ℕ). Some n) (let e : base ≡ base + 0 = omega arith in e);
+    kept = kept;
+    drq = λ h. off ∙ sym (ap (λ b. b && true) (lt-leb first 0 (omega (arith, some))));
+    served = λ i inside over. absurd (omega (arith, over));
+    ahead = λ p more. refl;
+    last_taken = λ over had. off;
+  }
