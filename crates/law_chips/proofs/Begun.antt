@@ -26,15 +26,10 @@ use Rattle.law_chips.proofs.Waiting.{CountsDown, waits_so}
 -- A command other than Dx, written while there is none.
 pub begun : (v : ℕ) (s : State) → s.command ≡ Idle → is_reset s.latch ≡ false → (v / 16 ≡ 0xD → ⊥) →
     write_leaves 0 v s ≡ count_leaves (is_asking s) (begin_leaves v s)
-begun v s idle live other =
-    ap (λ b. count_leaves (is_asking s) (if b then s else if v / 16 == 0xD then force_leaves v s else if is_busy s.command then s else begin_leaves v s)) live
-    ∙ ap (λ b. count_leaves (is_asking s) (if b then force_leaves v s else if is_busy s.command then s else begin_leaves v s)) (ne_eqb (v / 16) 0xD other)
-    ∙ ap (λ (c : Command). count_leaves (is_asking s) (if is_busy c then s else begin_leaves v s)) idle
+begun v s idle live other = rw (live, ne_eqb (v / 16) 0xD other, idle) refl
 
 sector_command : (v : ℕ) (s : State) → 0x80 ≤ v → v < 0xC0 → command_of v s ≡ sectors_of v s
-sector_command v s low high =
-    ap (λ b. if b then motion_of v s else if nat_lt v 0xC0 then sectors_of v s else if nat_lt v 0xD0 then address_of s else Refusing) (le-ltb v 0x80 low)
-    ∙ ap (λ b. if b then sectors_of v s else if nat_lt v 0xD0 then address_of s else Refusing) (lt-ltb v 0xC0 high)
+sector_command v s low high = rw (le-ltb v 0x80 low, lt-ltb v 0xC0 high) refl
 
 -- what the command is m steps after its writing, with so many to settle
 settling : Transfer → ℕ → ℕ → Command
@@ -62,12 +57,8 @@ settles_down t left s m inside is =
 
 settled_is : (b : Bool) (v : ℕ) (s : State) → bit v 2 ≡ b → sectors_of v s ≡ settling (transfer_of v s) (settle_time v) 0
 unfolding settling
-settled_is true v s is =
-    ap (λ b. if b then Settling (transfer_of v s) 30000 else search_of (transfer_of v s)) is
-    ∙ ap (λ n. if nat_lt 0 n then Settling (transfer_of v s) (n - 0) else search_of (transfer_of v s)) (sym (ap (λ b. if b then 30000 else 0) is))
-settled_is false v s is =
-    ap (λ b. if b then Settling (transfer_of v s) 30000 else search_of (transfer_of v s)) is
-    ∙ ap (λ n. if nat_lt 0 n then Settling (transfer_of v s) (n - 0) else search_of (transfer_of v s)) (sym (ap (λ b. if b then 30000 else 0) is))
+settled_is true v s is = rw is refl
+settled_is false v s is = rw is refl
 
 over_is : (t : Transfer) (left : ℕ) → settling t left left ≡ search_of t
 unfolding settling

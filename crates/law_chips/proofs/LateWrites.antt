@@ -33,27 +33,20 @@ wants place ps = if nat_lt place 12 then false else if nat_lt place 22 then not 
 
 wants_none : (place : ℕ) (ps : List ℕ) → place < 12 → wants place ps ≡ false
 unfolding wants
-wants_none place ps low = ap (λ b. if b then false else if nat_lt place 22 then not (given 0 ps) else if nat_lt place 30 then false else not (has_place place ps)) (lt-ltb place 12 low)
+wants_none place ps low = rw (lt-ltb place 12 low) refl
 
 wants_first : (place : ℕ) (ps : List ℕ) → 12 ≤ place → place < 22 → wants place ps ≡ not (given 0 ps)
 unfolding wants
-wants_first place ps low high =
-    ap (λ b. if b then false else if nat_lt place 22 then not (given 0 ps) else if nat_lt place 30 then false else not (has_place place ps)) (le-ltb place 12 low)
-    ∙ ap (λ b. if b then not (given 0 ps) else if nat_lt place 30 then false else not (has_place place ps)) (lt-ltb place 22 high)
+wants_first place ps low high = rw (le-ltb place 12 low, lt-ltb place 22 high) refl
 
 wants_no_more : (place : ℕ) (ps : List ℕ) → 22 ≤ place → place < 30 → wants place ps ≡ false
 unfolding wants
-wants_no_more place ps low high =
-    ap (λ b. if b then false else if nat_lt place 22 then not (given 0 ps) else if nat_lt place 30 then false else not (has_place place ps)) (le-ltb place 12 (omega (arith, low)))
-    ∙ ap (λ b. if b then not (given 0 ps) else if nat_lt place 30 then false else not (has_place place ps)) (le-ltb place 22 low)
-    ∙ ap (λ b. if b then false else not (has_place place ps)) (lt-ltb place 30 high)
+wants_no_more place ps low high = rw (le-ltb place 12 (omega (arith, low)), le-ltb place 22 low, lt-ltb place 30 high) refl
 
 wants_next : (place : ℕ) (ps : List ℕ) → 30 ≤ place → wants place ps ≡ not (has_place place ps)
 unfolding wants
 wants_next place ps low =
-    ap (λ b. if b then false else if nat_lt place 22 then not (given 0 ps) else if nat_lt place 30 then false else not (has_place place ps)) (le-ltb place 12 (omega (arith, low)))
-    ∙ ap (λ b. if b then not (given 0 ps) else if nat_lt place 30 then false else not (has_place place ps)) (le-ltb place 22 (omega (arith, low)))
-    ∙ ap (λ b. if b then false else not (has_place place ps)) (le-ltb place 30 low)
+    rw (le-ltb place 12 (omega (arith, low)), le-ltb place 22 (omega (arith, low)), le-ltb place 30 low) refl
 
 -- a byte behind the first is given in one place
 given_in : (i place : ℕ) (ps : List ℕ) → 1 ≤ i → place ≡ 29 + i → given i ps ≡ has_place place ps

@@ -45,8 +45,7 @@ counts m left s n inside is =
     ∙ ap (λ k. record s1 { command = Moving m k }) less
 
 motion_command : (v : ℕ) (s : State) → v < 0x80 → command_of v s ≡ motion_of v s
-motion_command v s low =
-    ap (λ b. if b then motion_of v s else if nat_lt v 0xC0 then sectors_of v s else if nat_lt v 0xD0 then address_of s else Refusing) (lt-ltb v 0x80 low)
+motion_command v s low = rw (lt-ltb v 0x80 low) refl
 
 -- after its writing and some waiting
 waited : (s : State) (v : ℕ) (waits : List Event) (m : Motion) (left : ℕ) → v < 0x80 → IsGiven s waits → motion_of v s ≡ Moving m left → 0 < left →
@@ -156,17 +155,12 @@ arrived s v waits m left low is moves some drive verifies end =
 
 is_restore : (v : ℕ) (s : State) → v < 0x10 → motion_of v s ≡ Moving (motion v false (Becomes 0) (head_selected s) s) (left_of v (head_selected s))
 unfolding motion left_of
-is_restore v s low =
-    ap (λ b. if b then restore v s else if nat_lt v 0x20 then seek v s else if nat_lt v 0x40 then step_once v s.last_inward s else if nat_lt v 0x60 then step_once v true s else step_once v false s)
-    (lt-ltb v 0x10 low)
+is_restore v s low = rw (lt-ltb v 0x10 low) refl
 
 is_seek : (v : ℕ) (s : State) → 0x10 ≤ v → v < 0x20 →
     motion_of v s ≡ Moving (motion v (nat_lt s.track s.byte) (Becomes s.byte) (max s.byte s.track - min s.byte s.track) s) (left_of v (max s.byte s.track - min s.byte s.track))
 unfolding motion left_of
-is_seek v s low high =
-    ap (λ b. if b then restore v s else if nat_lt v 0x20 then seek v s else if nat_lt v 0x40 then step_once v s.last_inward s else if nat_lt v 0x60 then step_once v true s else step_once v false s)
-    (le-ltb v 0x10 low)
-    ∙ ap (λ b. if b then seek v s else if nat_lt v 0x40 then step_once v s.last_inward s else if nat_lt v 0x60 then step_once v true s else step_once v false s) (lt-ltb v 0x20 high)
+is_seek v s low high = rw (le-ltb v 0x10 low, lt-ltb v 0x20 high) refl
 
 -- the direction of a command of one step
 inward_by : ℕ → State → Bool
@@ -180,11 +174,7 @@ by_tests false false v s = refl
 
 is_step : (v : ℕ) (s : State) → 0x20 ≤ v → motion_of v s ≡ step_once v (inward_by v s) s
 unfolding inward_by
-is_step v s low =
-    ap (λ b. if b then restore v s else if nat_lt v 0x20 then seek v s else if nat_lt v 0x40 then step_once v s.last_inward s else if nat_lt v 0x60 then step_once v true s else step_once v false s)
-    (le-ltb v 0x10 (omega (arith, low)))
-    ∙ ap (λ b. if b then seek v s else if nat_lt v 0x40 then step_once v s.last_inward s else if nat_lt v 0x60 then step_once v true s else step_once v false s) (le-ltb v 0x20 low)
-    ∙ by_tests (nat_lt v 0x40) (nat_lt v 0x60) v s
+is_step v s low = rw (le-ltb v 0x10 (omega (arith, low)), le-ltb v 0x20 low) (by_tests (nat_lt v 0x40) (nat_lt v 0x60) v s)
 
 step_motion : ℕ → Bool → State → Motion
 step_motion v inward s = motion v inward (if bit v 4 then Follows else Stays) 1 s
@@ -200,17 +190,13 @@ some_left v n = omega arith
 -- the time by which command it is
 time_of_restore : (v : ℕ) (s : State) → v < 0x10 → motion_time v s ≡ left_of v (head_selected s)
 unfolding left_of
-time_of_restore v s low = ap (λ b. max 1 ((if b then head_selected s else if nat_lt v 0x20 then max s.byte s.track - min s.byte s.track else 1) * step_time v)) (lt-ltb v 0x10 low)
+time_of_restore v s low = rw (lt-ltb v 0x10 low) refl
 
 steps_of_seek : (v : ℕ) (s : State) → 0x10 ≤ v → v < 0x20 → head_steps v s ≡ max s.byte s.track - min s.byte s.track
-steps_of_seek v s low high =
-    ap (λ b. if b then head_selected s else if nat_lt v 0x20 then max s.byte s.track - min s.byte s.track else 1) (le-ltb v 0x10 low)
-    ∙ ap (λ b. if b then max s.byte s.track - min s.byte s.track else 1) (lt-ltb v 0x20 high)
+steps_of_seek v s low high = rw (le-ltb v 0x10 low, lt-ltb v 0x20 high) refl
 
 steps_of_step : (v : ℕ) (s : State) → 0x20 ≤ v → head_steps v s ≡ 1
-steps_of_step v s low =
-    ap (λ b. if b then head_selected s else if nat_lt v 0x20 then max s.byte s.track - min s.byte s.track else 1) (le-ltb v 0x10 (omega (arith, low)))
-    ∙ ap (λ b. if b then max s.byte s.track - min s.byte s.track else 1) (le-ltb v 0x20 low)
+steps_of_step v s low = rw (le-ltb v 0x10 (omega (arith, low)), le-ltb v 0x20 low) refl
 
 time_by : (v n : ℕ) (s : State) → head_steps v s ≡ n → motion_time v s ≡ left_of v n
 unfolding left_of

@@ -246,53 +246,29 @@ no_loss place drq off = elim (cases_eq place 22) [
   | inr other ↦ and_left (place == 22) drq (ne_eqb place 22 other)
 ]
 
--- the parts of a step at a place
-end_at : Transfer → ℕ → State → State
-end_at t place s = if place == 288 then sector_ended t s else s
-
-bytes_at : Transfer → ℕ → ℕ → State → State
-bytes_at t k place s = if is_byte_place 30 place then byte_written t.target k (place - 30) s else end_at t place s
-
-writing_behind : Transfer → ℕ → ℕ → State → State
-writing_behind t k place s = if (place == 22) && s.drq then finish_leaves (record s { lost_data = true }) else bytes_at t k place s
-
+-- what it is at the places where something happens, and at others
 pub w_first : (t : Transfer) (k place : ℕ) (s : State) → place ≡ 12 → writing_at t k (Some place) s ≡ record s { drq = true }
 w_first t k place s is = rw (eq-eqb place 12 is) refl
 
 pub w_late : (t : Transfer) (k place : ℕ) (s : State) → place ≡ 22 → s.drq ≡ true → writing_at t k (Some place) s ≡ finish_leaves (record s { lost_data = true })
-unfolding writing_behind bytes_at end_at
-w_late t k place s is on =
-    let other : place ≡ 12 → ⊥ = λ e. omega (arith, e, is) in
-    ap (λ b. if b then record s { drq = true } else writing_behind t k place s) (ne_eqb place 12 other)
-    ∙ ap (λ b. if b then finish_leaves (record s { lost_data = true }) else bytes_at t k place s) (and_from (place == 22) s.drq (eq-eqb place 22 is) on)
+w_late t k place s is on = rw (ne_eqb place 12 (λ e. omega (arith, e, is)), eq-eqb place 22 is, on) refl
 
 pub w_byte : (t : Transfer) (k place : ℕ) (s : State) → 30 ≤ place → place < 286 → writing_at t k (Some place) s ≡ byte_written t.target k (place - 30) s
-unfolding writing_behind bytes_at end_at
 w_byte t k place s low high =
-    let other : place ≡ 12 → ⊥ = λ e. omega (arith, e, low) in
-    let off : place ≡ 22 → s.drq ≡ false = λ e. absurd (omega (arith, e, low)) in
-    ap (λ b. if b then record s { drq = true } else writing_behind t k place s) (ne_eqb place 12 other)
-    ∙ ap (λ b. if b then finish_leaves (record s { lost_data = true }) else bytes_at t k place s) (no_loss place s.drq off)
-    ∙ ap (λ b. if b then byte_written t.target k (place - 30) s else end_at t place s) (byte_place place low high)
+    rw (ne_eqb place 12 (λ e. omega (arith, e, low)), ne_eqb place 22 (λ e. omega (arith, e, low)), byte_place place low high) refl
 
 pub w_end : (t : Transfer) (k place : ℕ) (s : State) → place ≡ 288 → writing_at t k (Some place) s ≡ sector_ended t s
-unfolding writing_behind bytes_at end_at
 w_end t k place s is =
-    let other : place ≡ 12 → ⊥ = λ e. omega (arith, e, is) in
-    let off : place ≡ 22 → s.drq ≡ false = λ e. absurd (omega (arith, e, is)) in
-    ap (λ b. if b then record s { drq = true } else writing_behind t k place s) (ne_eqb place 12 other)
-    ∙ ap (λ b. if b then finish_leaves (record s { lost_data = true }) else bytes_at t k place s) (no_loss place s.drq off)
-    ∙ ap (λ b. if b then byte_written t.target k (place - 30) s else end_at t place s) (behind_bytes place (omega (arith, is)))
-    ∙ ap (λ b. if b then sector_ended t s else s) (eq-eqb place 288 is)
+    rw (
+      ne_eqb place 12 (λ e. omega (arith, e, is)),
+      ne_eqb place 22 (λ e. omega (arith, e, is)),
+      behind_bytes place (omega (arith, is)),
+      eq-eqb place 288 is,
+    ) refl
 
 pub w_none : (t : Transfer) (k place : ℕ) (s : State) → (place ≡ 12 → ⊥) → (place ≡ 22 → s.drq ≡ false) → is_byte_place 30 place ≡ false → (place ≡ 288 → ⊥) →
     writing_at t k (Some place) s ≡ s
-unfolding writing_behind bytes_at end_at
-w_none t k place s other off none early =
-    ap (λ b. if b then record s { drq = true } else writing_behind t k place s) (ne_eqb place 12 other)
-    ∙ ap (λ b. if b then finish_leaves (record s { lost_data = true }) else bytes_at t k place s) (no_loss place s.drq off)
-    ∙ ap (λ b. if b then byte_written t.target k (place - 30) s else end_at t place s) none
-    ∙ ap (λ b. if b then sector_ended t s else s) (ne_eqb place 288 early)
+w_none t k place s other off none early = rw (ne_eqb place 12 other, no_loss place s.drq off, none, ne_eqb place 288 early) refl
 
 -- a step at a place that loses nothing
 at_place : (back : IsReadBack) (others : OthersStay) (d : Image) (t : Transfer) (k : ℕ) (s : State) (m : ℕ) (bytes : List ℕ) →
