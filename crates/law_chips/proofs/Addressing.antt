@@ -22,10 +22,9 @@ use Rattle.law_chips.specs.Searches.{AllWait}
 use Rattle.law_chips.specs.LostData.{AllLetGo, accesses}
 use Rattle.law_chips.specs.AddressReads.{address_steps, IsAtAddress, is_taken, ComesNext, IsAsked, HasAddress, AddressIsRead}
 use Rattle.law_chips.proofs.Reading.{same_disc, no_place, a_place}
-use Rattle.law_chips.proofs.Search.{read_makes, small_angle}
 use Rattle.law_chips.proofs.Streams.{has_place, Next, GoesOn, Either, run, begins}
 use Rattle.law_chips.proofs.Begun.{begun}
-use Rattle.law_chips.proofs.Waiting.{Waited, CountsFrom, waits_from}
+use Rattle.law_chips.proofs.Waiting.{read_makes, small_angle, Waited, CountsFrom, waits_from}
 
 moved_on : State → ℕ → ℕ → State
 moved_on s k m = record s { angle = Some (64 * (312 * k) + m + 1) }

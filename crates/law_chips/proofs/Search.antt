@@ -15,22 +15,11 @@ use Rattle.wd1770.specs.Step.{next_angle, command_step, work_leaves, step}
 use Rattle.wd1770.specs.History.{Event, microsecond, read, write, latch, history, count_steps}
 use Rattle.law_chips.specs.Searches.{AllWait, steps_to, sector_angle, has_match, SearchEnds}
 use Rattle.law_chips.proofs.Reading.{same_disc}
+use Rattle.law_chips.proofs.Waiting.{small_angle, read_makes, stays_off, Waited, CountsFrom, one_step, waited_read, at_first, waits_from}
 
--- what m steps of waiting leave of a state
-record Same (s0 s : State) (m : ℕ) : Type 0 where
-  pub latch : s.latch ≡ s0.latch
-  pub track : s.track ≡ s0.track
-  pub sector : s.sector ≡ s0.sector
-  pub drive0 : s.drive0 ≡ s0.drive0
-  pub drive1 : s.drive1 ≡ s0.drive1
-  pub drq : s0.drq ≡ false → s.drq ≡ false
-  pub lost : s.lost_data ≡ s0.lost_data
-  pub angle : next_angle s.angle ≡ (next_angle s0.angle + m) % 200000
-
--- and of the command, and of the last angle
-record Going (s0 : State) (t : Transfer) (left : ℕ) (s : State) (m : ℕ) : Type 0 where
-  pub same : Same s0 s m
-  pub command : s.command ≡ Searching t (left - m)
+-- a search m steps after its beginning
+abbrev Going : State → Transfer → ℕ → State → ℕ → Type 0
+Going s0 t left s m = Waited s0 (Searching t (left - m)) s m
 
 pub record Found (s0 : State) (t : Transfer) (s : State) : Type 0 where
   pub drive0 : s.drive0 ≡ s0.drive0
@@ -47,10 +36,6 @@ record Lost (s : State) : Type 0 where
   pub command : s.command ≡ Idle
   pub none : s.record_not_found ≡ true
 
-pub small_angle : (a : Option ℕ) → next_angle a < 200000
-small_angle None = omega arith
-small_angle (Some a) = omega arith
-
 -- One step.
 searched : (s : State) (t : Transfer) (left : ℕ) → s.command ≡ Searching t left →
     work_leaves s ≡ search_step t left (next_angle s.angle) (record s { angle = Some (next_angle s.angle) })
@@ -65,116 +50,69 @@ shuffle true true true true = refl
 shuffle true true true false = refl
 
 -- The test of a search is that there is a sector for it, and that it begins now.
-found_when : (s0 s : State) (t : Transfer) (m angle : ℕ) → Same s0 s m →
+found_when : (s0 s : State) (t : Transfer) (left m angle : ℕ) → Going s0 t left s m →
     is_found t.target angle (record s { angle = Some angle }) ≡ (has_match t s0 && (angle == sector_angle s0.sector))
-found_when s0 s t m angle same =
-    rw (same_disc t.target.drive (record s { angle = Some angle }) s0 same.drive0 same.drive1, same.latch, same.track, same.sector)
+found_when s0 s t left m angle going =
+    rw (same_disc t.target.drive (record s { angle = Some angle }) s0 going.drive0 going.drive1, going.latch, going.track, going.sector)
     (shuffle (is_single_density s0.latch) (t.target.head == s0.track) (angle == sector_angle s0.sector) (is_on_disc (disc_in t.target.drive s0) t.target s0.sector))
 
 -- no sector is found in the step behind m steps
 NoneAt : State → Transfer → ℕ → Type 0
 NoneAt s0 t m = (has_match t s0 && ((next_angle s0.angle + m) % 200000 == sector_angle s0.sector)) ≡ false
 
-here : (s0 s : State) (t : Transfer) (m : ℕ) → Same s0 s m →
+here : (s0 s : State) (t : Transfer) (left m : ℕ) → Going s0 t left s m →
     is_found t.target (next_angle s.angle) (record s { angle = Some (next_angle s.angle) })
     ≡ (has_match t s0 && ((next_angle s0.angle + m) % 200000 == sector_angle s0.sector))
-here s0 s t m same = found_when s0 s t m (next_angle s.angle) same ∙ ap (λ a. has_match t s0 && (a == sector_angle s0.sector)) same.angle
+here s0 s t left m going =
+    found_when s0 s t left m (next_angle s.angle) going ∙ ap (λ a. has_match t s0 && (a == sector_angle s0.sector)) going.angle
 
-step_is : (s0 s : State) (t : Transfer) (left m : ℕ) → Going s0 t left s m →
-    work_leaves s ≡ search_step t (left - m) (next_angle s.angle) (record s { angle = Some (next_angle s.angle) })
-step_is s0 s t left m going = searched s t (left - m) going.command
-
-goes_on : (s0 s : State) (t : Transfer) (left m : ℕ) → Going s0 t left s m → NoneAt s0 t m → m + 1 < left → Going s0 t left (step s) (m + 1)
-unfolding NoneAt
-goes_on s0 s t left m going none more =
+-- what a step leaves by whether the sector is found
+step_by : (b : Bool) (s0 s : State) (t : Transfer) (left m : ℕ) → Going s0 t left s m →
+    (has_match t s0 && ((next_angle s0.angle + m) % 200000 == sector_angle s0.sector)) ≡ b →
     let s1 : State = record s { angle = Some (next_angle s.angle) } in
-    let x : State = record s1 { command = Searching t (left - m - 1) } in
-    let not_here = here s0 s t m going.same ∙ none in
-    let some_left : nat_lt 1 (left - m) ≡ true = lt-ltb 1 (left - m) (omega (arith, more)) in
-    let is : work_leaves s ≡ x =
-    step_is s0 s t left m going
-    ∙ ap (λ b. if b then record s1 { command = Transferring t s1.sector } else if nat_lt 1 (left - m) then record s1 { command = Searching t (left - m - 1) } else not_found s1) not_here
-    ∙ ap (λ b. if b then record s1 { command = Searching t (left - m - 1) } else not_found s1) some_left in
-    let same = going.same in
+    work_leaves s
+    ≡ (if b then record s1 { command = Transferring t s1.sector }
+    else if nat_lt 1 (left - m) then record s1 { command = Searching t (left - m - 1) } else not_found s1)
+step_by b s0 s t left m going is =
+    let s1 : State = record s { angle = Some (next_angle s.angle) } in
+    searched s t (left - m) going.command
+    ∙ ap (λ b. if b then record s1 { command = Transferring t s1.sector }
+    else if nat_lt 1 (left - m) then record s1 { command = Searching t (left - m - 1) } else not_found s1) (here s0 s t left m going ∙ is)
+
+goes_on : (s0 : State) (t : Transfer) (left last : ℕ) → last < left → ((i : ℕ) → i < last → NoneAt s0 t i) → CountsFrom s0 (λ m. Searching t (left - m)) last
+unfolding NoneAt
+goes_on s0 t left last before none s m inside going =
+    let s1 : State = record s { angle = Some (next_angle s.angle) } in
     let less : left - m - 1 ≡ left - (m + 1) = omega arith in
-    let later : (next_angle s.angle + 1) % 200000 ≡ (next_angle s0.angle + (m + 1)) % 200000 = omega (arith, same.angle) in
-    subst (λ y. Going s0 t left (count_leaves (is_asking s) y) (m + 1)) (sym is) (record {
-      same = record {
-        latch = same.latch;
-        track = same.track;
-        sector = same.sector;
-        drive0 = same.drive0;
-        drive1 = same.drive1;
-        drq = same.drq;
-        lost = same.lost;
-        angle = later;
-      };
-      command = ap (Searching t) less;
-    })
+    step_by false s0 s t left m going (none m inside)
+    ∙ ap (λ b. if b then record s1 { command = Searching t (left - m - 1) } else not_found s1) (lt-ltb 1 (left - m) (omega (arith, before, inside)))
+    ∙ ap (λ k. record s1 { command = Searching t k }) less
 
 finds : (s0 s : State) (t : Transfer) (left m : ℕ) → Going s0 t left s m → has_match t s0 ≡ true →
     (next_angle s0.angle + m) % 200000 ≡ sector_angle s0.sector → Found s0 t (step s)
 finds s0 s t left m going has now =
-    let s1 : State = record s { angle = Some (next_angle s.angle) } in
-    let same = going.same in
-    let is_here = here s0 s t m same ∙ and_from _ _ has (eq-eqb _ _ now) in
-    let is : work_leaves s ≡ record s1 { command = Transferring t s1.sector } =
-    step_is s0 s t left m going
-    ∙ ap (λ b. if b then record s1 { command = Transferring t s1.sector } else if nat_lt 1 (left - m) then record s1 { command = Searching t (left - m - 1) } else not_found s1) is_here in
-    subst (λ y. Found s0 t (count_leaves (is_asking s) y)) (sym is) (record {
-      drive0 = same.drive0;
-      drive1 = same.drive1;
-      latch = same.latch;
-      track = same.track;
-      command = ap (Transferring t) same.sector;
-      angle = ap (λ (a : ℕ). Some a) (same.angle ∙ now);
-      drq = same.drq;
-      lost = same.lost;
-      sector = same.sector;
+    subst (λ y. Found s0 t (count_leaves (is_asking s) y)) (sym (step_by true s0 s t left m going (and_from _ _ has (eq-eqb _ _ now)))) (record {
+      drive0 = going.drive0;
+      drive1 = going.drive1;
+      latch = going.latch;
+      track = going.track;
+      command = ap (Transferring t) going.sector;
+      angle = ap (λ (a : ℕ). Some a) (going.angle ∙ now);
+      drq = going.drq;
+      lost = going.lost;
+      sector = going.sector;
     })
 
 loses : (s0 s : State) (t : Transfer) (left m : ℕ) → Going s0 t left s m → NoneAt s0 t m → m + 1 ≡ left → Lost (step s)
 unfolding NoneAt
 loses s0 s t left m going none end =
     let s1 : State = record s { angle = Some (next_angle s.angle) } in
-    let not_here = here s0 s t m going.same ∙ none in
-    let last : nat_lt 1 (left - m) ≡ false = le-ltb 1 (left - m) (omega (arith, end)) in
     let is : work_leaves s ≡ not_found s1 =
-    step_is s0 s t left m going
-    ∙ ap (λ b. if b then record s1 { command = Transferring t s1.sector } else if nat_lt 1 (left - m) then record s1 { command = Searching t (left - m - 1) } else not_found s1) not_here
-    ∙ ap (λ b. if b then record s1 { command = Searching t (left - m - 1) } else not_found s1) last in
+    step_by false s0 s t left m going none
+    ∙ ap (λ b. if b then record s1 { command = Searching t (left - m - 1) } else not_found s1) (le-ltb 1 (left - m) (omega (arith, end))) in
     subst (λ y. Lost (count_leaves (is_asking s) y)) (sym is) (record { command = refl; none = refl })
 
 -- ---- Reads of registers.
-
-pub read_makes : (a b : Bool) (s : State) →
-    (if a then record s { intrq = false } else if b then record s { drq = false } else s)
-    ≡ record s { intrq = if a then false else s.intrq; drq = if a then s.drq else if b then false else s.drq }
-read_makes true b s = refl
-read_makes false true s = refl
-read_makes false false s = refl
-
-pub stays_off : (a b q : Bool) → q ≡ false → (if a then q else if b then false else q) ≡ false
-stays_off true b q off = off
-stays_off false true q off = refl
-stays_off false false q off = off
-
-going_read : (s0 : State) (t : Transfer) (left : ℕ) (reg : ℕ) (s : State) (m : ℕ) → Going s0 t left s m → Going s0 t left (read_leaves reg s) m
-going_read s0 t left reg s m going =
-    let same = going.same in
-    subst (λ y. Going s0 t left (count_leaves (is_asking s) y) m) (sym (read_makes (reg == 0) (reg == 3) s)) (record {
-      same = record {
-        latch = same.latch;
-        track = same.track;
-        sector = same.sector;
-        drive0 = same.drive0;
-        drive1 = same.drive1;
-        drq = λ off. stays_off (reg == 0) (reg == 3) s.drq (same.drq off);
-        lost = same.lost;
-        angle = same.angle;
-      };
-      command = going.command;
-    })
 
 found_read : (s0 : State) (t : Transfer) (reg : ℕ) (s : State) → Found s0 t s → Found s0 t (read_leaves reg s)
 found_read s0 t reg s found =
@@ -196,20 +134,6 @@ lost_read reg s lost =
 
 -- ---- Runs.
 
-run_going : (s0 : State) (t : Transfer) (left last : ℕ) (events : List Event) (s : State) (m : ℕ) → AllWait events → m + count_steps events ≤ last → last < left →
-    ((i : ℕ) → i < last → NoneAt s0 t i) → Going s0 t left s m → Going s0 t left (history events s) (m + count_steps events)
-run_going s0 t left last [] s m all most before none going =
-    let same : m ≡ m + 0 = omega arith in subst (λ n. Going s0 t left s n) same going
-run_going s0 t left last (microsecond ∷ es) s m all most before none going =
-    let same : m + 1 + count_steps es ≡ m + (count_steps es + 1) = omega arith in
-    subst (λ n. Going s0 t left (history es (step s)) n) same
-    (run_going s0 t left last es (step s) (m + 1) all.1 (omega (arith, most)) before none
-    (goes_on s0 s t left m going (none m (omega (arith, most))) (omega (arith, most, before))))
-run_going s0 t left last (read reg ∷ es) s m all most before none going =
-    run_going s0 t left last es (read_leaves reg s) m all.1 most before none (going_read s0 t left reg s m going)
-run_going s0 t left last (write reg v ∷ es) s m all most before none going = absurd all.0
-run_going s0 t left last (latch v ∷ es) s m all most before none going = absurd all.0
-
 -- the steps are over: what holds stays
 run_over : (P : State → Type 0) → ((reg : ℕ) (s : State) → P s → P (read_leaves reg s)) → (events : List Event) (s : State) → AllWait events → count_steps events ≡ 0 →
     P s → P (history events s)
@@ -229,23 +153,22 @@ run_done P reads s0 t left last ends before none (microsecond ∷ es) s m all co
   | inr earlier ↦
       let more : m < last = omega (arith, most, earlier) in
       run_done P reads s0 t left last ends before none es (step s) (m + 1) all.1 (omega (arith, count)) (omega (arith, more))
-      (goes_on s0 s t left m going (none m more) (omega (arith, more, before)))
+      (one_step (λ m. Searching t (left - m)) last s0 (goes_on s0 t left last before none) s m more going)
 ]
 run_done P reads s0 t left last ends before none (read reg ∷ es) s m all count most going =
-    run_done P reads s0 t left last ends before none es (read_leaves reg s) m all.1 count most (going_read s0 t left reg s m going)
+    run_done P reads s0 t left last ends before none es (read_leaves reg s) m all.1 count most (waited_read s0 (Searching t (left - m)) reg s m going)
 run_done P reads s0 t left last ends before none (write reg v ∷ es) s m all count most going = absurd all.0
 run_done P reads s0 t left last ends before none (latch v ∷ es) s m all count most going = absurd all.0
 
 -- at the beginning
 begins : (s : State) (t : Transfer) (left : ℕ) → s.command ≡ Searching t left → Going s t left s 0
-begins s t left is =
-    let small = small_angle s.angle in
-    let now : next_angle s.angle ≡ (next_angle s.angle + 0) % 200000 = omega (arith, small) in
-    let all : left ≡ left - 0 = omega arith in
-    record {
-      same = record { latch = refl; track = refl; sector = refl; drive0 = refl; drive1 = refl; drq = λ off. off; lost = refl; angle = now };
-      command = is ∙ ap (Searching t) all;
-    }
+begins s t left is = let all : left ≡ left - 0 = omega arith in at_first (Searching t (left - 0)) s (is ∙ ap (Searching t) all)
+
+-- the search goes on for so many steps
+runs_on : (s : State) (t : Transfer) (left last : ℕ) (events : List Event) → s.command ≡ Searching t left → last < left →
+    ((i : ℕ) → i < last → NoneAt s t i) → AllWait events → count_steps events ≤ last → (history events s).command ≡ Searching t (left - count_steps events)
+runs_on s t left last events is before none all most =
+    (waits_from (λ m. Searching t (left - m)) last s (goes_on s t left last before none) events all most (begins s t left is).command).command
 
 -- a sector that is on a disc begins within a turn
 on_disc_small : (disc : Option Image) (target : Target) (k : ℕ) → is_on_disc disc target k ≡ true → k < 10
@@ -288,16 +211,12 @@ pub search_ends : SearchEnds
 search_ends = record {
   goes_on = λ s t left events is enough has all early.
       let last = (sector_angle s.sector + 200000 - next_angle s.angle) % 200000 in
-      let none_first : 0 + count_steps events ≡ count_steps events = omega arith in
-      subst (λ n. (history events s).command ≡ Searching t (left - n)) none_first
-      (run_going s t left last events s 0 all (omega (arith, early)) (omega (arith, turn s, enough)) (not_before s t has) (begins s t left is)).command;
+      runs_on s t left last events is (omega (arith, turn s, enough)) (not_before s t has) all (omega (arith, early));
   found = λ s t left events is enough has off all count.
       let found = search_found s t left events is enough has all count in
       (record { command = found.command; angle = found.angle; drq = found.drq off }, same_disc t.target.drive (history events s) s found.drive0 found.drive1, found.lost, found.sector);
   waits = λ s t left events is none all early.
-      let none_first : 0 + count_steps events ≡ count_steps events = omega arith in
-      subst (λ n. (history events s).command ≡ Searching t (left - n)) none_first
-      (run_going s t left (count_steps events) events s 0 all (omega arith) early (λ i h. never s t none i) (begins s t left is)).command;
+      runs_on s t left (count_steps events) events is early (λ i h. never s t none i) all (omega arith);
   not_found = λ s t left events is some none all count.
       let lost : Lost (history events s) =
       run_done Lost lost_read s t left (left - 1) (λ x going. loses s x t left (left - 1) going (never s t none (left - 1)) (omega (arith, some))) (omega (arith, some))

@@ -16,7 +16,8 @@ use Rattle.law_chips.specs.SectorReads.{AllRead, bytes_taken, IsAtSector, HasByt
 use Rattle.law_chips.specs.Searches.{AllWait, has_match}
 use Rattle.law_chips.specs.SeveralSectors.{Round, round_end, bytes_of, IsTimely, bytes_from, IsReading, SectorsFollow}
 use Rattle.law_chips.proofs.Reading.{same_disc, no_place, a_place, worked_is, reads_is, at_byte, before_bytes, behind_bytes, from_start, sector_read}
-use Rattle.law_chips.proofs.Search.{read_makes, search_found}
+use Rattle.law_chips.proofs.Search.{search_found}
+use Rattle.law_chips.proofs.Waiting.{read_makes}
 use Rattle.law_chips.proofs.TimelyReads.{served, whole}
 
 moved_on : State → ℕ → ℕ → State

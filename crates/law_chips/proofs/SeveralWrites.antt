@@ -24,7 +24,8 @@ use Rattle.law_chips.specs.SectorWrites.{AllWritten, given_by, bytes_given}
 use Rattle.law_chips.specs.Searches.{has_match}
 use Rattle.law_chips.specs.SeveralSectors.{Round, round_end, AllGive, GivesInTime, IsWriting, HasAll, IsOutside, SectorsAreWritten}
 use Rattle.law_chips.proofs.Reading.{same_disc, no_place, a_place, worked_is}
-use Rattle.law_chips.proofs.Search.{read_makes, search_found}
+use Rattle.law_chips.proofs.Search.{search_found}
+use Rattle.law_chips.proofs.Waiting.{read_makes}
 use Rattle.law_chips.proofs.Losing.{kept_before}
 use Rattle.law_chips.proofs.Writing.{at_byte, Inside, w_end, writes_is, stepped, status_read, register_given, read_loses, write_loses, begins, whole, off_at_end}
 use Rattle.law_chips.proofs.LateWrites.{writes_kept}

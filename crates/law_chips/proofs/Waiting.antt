@@ -1,6 +1,6 @@
 -- A command that counts down, while a program waits.
-use Rattle.std.proofs.Common.{◌≡◌, sym, subst, refl, ℕ, ◌+◌, ◌%◌, ◌<◌, ◌≤◌, ◌==◌, false, List, [], ◌∷◌, arith}
-use Rattle.std.specs.Prelude.{Some}
+use Rattle.std.proofs.Common.{◌≡◌, sym, subst, refl, ℕ, ◌+◌, ◌%◌, ◌<◌, ◌≤◌, ◌==◌, Bool, true, false, List, [], ◌∷◌, arith}
+use Rattle.std.specs.Prelude.{Option, None, Some, if◌then◌else◌}
 use Rattle.wd1770.specs.declared.command.Command.{Command}
 use Rattle.wd1770.specs.State.{State}
 use Rattle.wd1770.specs.Ends.{is_asking, count_leaves}
@@ -8,7 +8,23 @@ use Rattle.wd1770.specs.Registers.{read_leaves}
 use Rattle.wd1770.specs.Step.{next_angle, work_leaves, step}
 use Rattle.wd1770.specs.History.{Event, microsecond, read, write, latch, history, count_steps}
 use Rattle.law_chips.specs.Searches.{AllWait}
-use Rattle.law_chips.proofs.Search.{read_makes, stays_off, small_angle}
+
+pub small_angle : (a : Option ℕ) → next_angle a < 200000
+small_angle None = omega arith
+small_angle (Some a) = omega arith
+
+-- what a read of a register leaves
+pub read_makes : (a b : Bool) (s : State) →
+    (if a then record s { intrq = false } else if b then record s { drq = false } else s)
+    ≡ record s { intrq = if a then false else s.intrq; drq = if a then s.drq else if b then false else s.drq }
+read_makes true b s = refl
+read_makes false true s = refl
+read_makes false false s = refl
+
+pub stays_off : (a b q : Bool) → q ≡ false → (if a then q else if b then false else q) ≡ false
+stays_off true b q off = off
+stays_off false true q off = refl
+stays_off false false q off = off
 
 -- what m steps of waiting leave of a state
 pub record Waited (s0 : State) (c : Command) (s : State) (m : ℕ) : Type 0 where
@@ -34,7 +50,7 @@ CountsDown c last = (s : State) (m : ℕ) → m < last → s.command ≡ c m →
 abbrev pub CountsFrom : State → (ℕ → Command) → ℕ → Type 0
 CountsFrom s0 c last = (s : State) (m : ℕ) → m < last → Waited s0 (c m) s m → work_leaves s ≡ record s { angle = Some (next_angle s.angle); command = c (m + 1) }
 
-one_step : (c : ℕ → Command) (last : ℕ) (s0 : State) → CountsFrom s0 c last → (s : State) (m : ℕ) → m < last → Waited s0 (c m) s m → Waited s0 (c (m + 1)) (step s) (m + 1)
+pub one_step : (c : ℕ → Command) (last : ℕ) (s0 : State) → CountsFrom s0 c last → (s : State) (m : ℕ) → m < last → Waited s0 (c m) s m → Waited s0 (c (m + 1)) (step s) (m + 1)
 one_step c last s0 counts s m inside is =
     let later : (next_angle s.angle + 1) % 200000 ≡ (next_angle s0.angle + (m + 1)) % 200000 = omega (arith, is.angle) in
     subst (λ y. Waited s0 (c (m + 1)) (count_leaves (is_asking s) y) (m + 1)) (sym (counts s m inside is)) (record {
@@ -83,14 +99,11 @@ run c last s0 counts (read reg ∷ es) s m all most is = run c last s0 counts es
 run c last s0 counts (write reg v ∷ es) s m all most is = absurd all.0
 run c last s0 counts (latch v ∷ es) s m all most is = absurd all.0
 
-pub waits_from : (c : ℕ → Command) (last : ℕ) (s : State) → CountsFrom s c last → (events : List Event) → AllWait events → count_steps events ≤ last →
-    s.command ≡ c 0 → Waited s (c (count_steps events)) (history events s) (count_steps events)
-waits_from c last s counts events all most is =
-    let none_first : 0 + count_steps events ≡ count_steps events = omega arith in
+-- before the first step
+pub at_first : (c : Command) (s : State) → s.command ≡ c → Waited s c s 0
+at_first c s is =
     let small = small_angle s.angle in
-    let now : next_angle s.angle ≡ (next_angle s.angle + 0) % 200000 = omega (arith, small) in
-    subst (λ n. Waited s (c n) (history events s) n) none_first
-    (run c last s counts events s 0 all (omega (arith, most)) (record {
+    record {
       command = is;
       track = refl;
       sector = refl;
@@ -103,8 +116,14 @@ waits_from c last s counts events all most is =
       not_found = refl;
       lost = refl;
       drq = λ off. off;
-      angle = now;
-    }))
+      angle = omega (arith, small);
+    }
+
+pub waits_from : (c : ℕ → Command) (last : ℕ) (s : State) → CountsFrom s c last → (events : List Event) → AllWait events → count_steps events ≤ last →
+    s.command ≡ c 0 → Waited s (c (count_steps events)) (history events s) (count_steps events)
+waits_from c last s counts events all most is =
+    let none_first : 0 + count_steps events ≡ count_steps events = omega arith in
+    subst (λ n. Waited s (c n) (history events s) n) none_first (run c last s counts events s 0 all (omega (arith, most)) (at_first (c 0) s is))
 
 pub waits_so : (c : ℕ → Command) (last : ℕ) → CountsDown c last → (events : List Event) (s : State) → AllWait events → count_steps events ≤ last →
     s.command ≡ c 0 → Waited s (c (count_steps events)) (history events s) (count_steps events)
