@@ -1,36 +1,31 @@
 -- Read address, event by event.
 use Rattle.std.proofs.Common.{◌≡◌, ◌∙◌, sym, ap, subst, refl, ℕ, ◌+◌, ◌-◌, ◌*◌, ◌/◌, ◌%◌, ◌<◌, ◌≤◌, ◌==◌, ◌&&◌, min, Bool, true, false, List, [], ◌∷◌, ◌++◌, take, arith, inl, inr}
 use Rattle.std.specs.Prelude.{Option, None, Some, nat_lt, nat_le, slice_index, if◌then◌else◌}
-use Rattle.std.proofs.lemmas.Bool.{cases_eq, cases_lt, eq-eqb, ne_eqb, lt-ltb, le-ltb, le-leb, lt-leb, or_parts, and_parts, and_right, true≢false}
-use Rattle.std.proofs.lemmas.List.{append-nil, append_assoc, take_more}
+use Rattle.std.proofs.lemmas.Bool.{cases_eq, cases_lt, eq-eqb, ne_eqb, lt-ltb, le-ltb, le-leb, lt-leb, and_parts, and_right, true≢false}
+use Rattle.std.proofs.lemmas.List.{append-nil}
 use Rattle.disc_image.specs.Image.{Image}
 use Rattle.wd1770.specs.declared.drive.Target.{Target}
 use Rattle.wd1770.specs.declared.command.Command.{Command}
-use Rattle.wd1770.specs.declared.command.Command.TheVariants.{Idle, SeekingAddress, GivingAddress, Refusing}
+use Rattle.wd1770.specs.declared.command.Command.TheVariants.{Idle, SeekingAddress, GivingAddress}
 use Rattle.wd1770.specs.State.{State}
 use Rattle.wd1770.specs.Select.{is_single_density, disc_in, target_selected}
-use Rattle.wd1770.specs.Ends.{is_asking, count_leaves, finish_leaves, not_found}
-use Rattle.wd1770.specs.Motion.{motion_of}
-use Rattle.wd1770.specs.Sectors.{is_on_disc, places_into, byte_came, sectors_of}
+use Rattle.wd1770.specs.Ends.{is_asking, count_leaves, not_found}
+use Rattle.wd1770.specs.Sectors.{is_on_disc, places_into}
 use Rattle.wd1770.specs.Addresses.{address_of, is_address, address_bytes, address_at}
 use Rattle.wd1770.specs.Commands.{command_of}
-use Rattle.wd1770.specs.Registers.{answer_of, read_leaves, write_leaves}
+use Rattle.wd1770.specs.Registers.{read_leaves, write_leaves}
 use Rattle.wd1770.specs.Step.{next_angle, command_step, work_leaves, step}
-use Rattle.wd1770.specs.History.{Event, microsecond, read, write, latch, history, count_steps}
-use Rattle.law_chips.specs.SectorReads.{bytes_taken, taken_by, waiting_byte}
-use Rattle.law_chips.specs.Searches.{AllWait}
-use Rattle.law_chips.specs.LostData.{AllLetGo, accesses}
+use Rattle.wd1770.specs.History.{Event, happens, microsecond, read, write, latch, history, count_steps}
+use Rattle.law_chips.specs.SectorReads.{bytes_taken}
+use Rattle.law_chips.specs.Searches.{Waits, AllWait}
+use Rattle.law_chips.specs.LostData.{accesses}
 use Rattle.law_chips.specs.AddressReads.{address_steps, IsAtAddress, is_taken, ComesNext, IsAsked, HasAddress, AddressIsRead}
-use Rattle.law_chips.proofs.Reading.{same_disc, no_place, a_place}
-use Rattle.law_chips.proofs.Streams.{has_place, Next, GoesOn, Either, run, begins}
+use Rattle.law_chips.proofs.Reading.{same_disc, moved_on, next_place, no_place, a_place}
+use Rattle.law_chips.proofs.Accesses.{Accessed, IsAccess, is_data, waiting, waits_read, lets_go, runs}
+use Rattle.law_chips.proofs.Streams.{has_place, Stream, Next, GoesOn, Either, run, begins}
+use Rattle.law_chips.proofs.Taking.{Taking, IsGiven, stepped, accessed}
 use Rattle.law_chips.proofs.Begun.{begun}
 use Rattle.law_chips.proofs.Waiting.{read_makes, small_angle, Waited, CountsFrom, waits_from}
-
-moved_on : State → ℕ → ℕ → State
-moved_on s k m = record s { angle = Some (64 * (312 * k) + m + 1) }
-
-next_place : (k m : ℕ) → Some (64 * (312 * k) + m + 1) ≡ Some (64 * (312 * k) + (m + 1))
-next_place k m = let e : 64 * (312 * k) + m + 1 ≡ 64 * (312 * k) + (m + 1) = omega arith in ap (λ (n : ℕ). Some n) e
 
 -- a step of the command
 worked : (s : State) (target : Target) (k m : ℕ) → k < 10 → m < 896 → s.command ≡ GivingAddress target k → s.angle ≡ Some (64 * (312 * k) + m) →
@@ -51,31 +46,51 @@ behind_bytes place late = and_right (nat_le 7 place) (nat_le place 12) (lt-leb p
 
 -- ---- Which places are in time.
 
-quiet : (target : Target) (k : ℕ) (s : State) (m : ℕ) → s.command ≡ GivingAddress target k →
-    ((m + 1) % 64 ≡ 0 → 7 ≤ (m + 1) / 64 → (m + 1) / 64 ≤ 7 + 5 → ⊥) → Next (GivingAddress target k) (64 * (312 * k)) 7 5 14 s (moved_on s k m) m
-unfolding moved_on
-quiet target k s m is none = record {
-  command = λ h. is;
-  angle = next_place k m;
-  byte = λ place low high. absurd (none place low high);
-  none = λ h. (refl, refl);
+-- The ID field of sector k.
+abbrev of_address : Target → ℕ → Stream
+of_address target k = record {
+  command = GivingAddress target k;
+  base = 64 * (312 * k);
+  first = 7;
+  l = 5;
+  last = 14;
+  gives = λ s i. slice_index (address_bytes target k) i;
+  Over = λ x. (x.command ≡ Idle) × (x.sector ≡ target.head);
 }
 
-at_place : (target : Target) (k : ℕ) (s : State) (m : ℕ) → (m + 1) % 64 ≡ 0 → s.command ≡ GivingAddress target k →
-    Next (GivingAddress target k) (64 * (312 * k)) 7 5 14 s (address_at target k (Some ((m + 1) / 64)) (moved_on s k m)) m
+-- nothing comes, and the command goes on
+quiet : (target : Target) (k : ℕ) (s : State) (m : ℕ) → m < 896 → s.command ≡ GivingAddress target k → (m + 1 ≡ 896 → ⊥) →
+    ((m + 1) % 64 ≡ 0 → 7 ≤ (m + 1) / 64 → (m + 1) / 64 ≤ 7 + 5 → ⊥) → Next (of_address target k) s (moved_on s k m) m
 unfolding moved_on
-at_place target k s m is_place is =
+quiet target k s m inside is early none = record {
+  command = λ h. is;
+  over = λ h. absurd (early (omega (arith, h, inside)));
+  angle = next_place k m;
+  drive0 = refl;
+  drive1 = refl;
+  byte = λ place low high. absurd (none place low high);
+  none = λ h. (refl, refl, refl);
+}
+
+at_place : (target : Target) (k : ℕ) (s : State) (m : ℕ) → m < 896 → (m + 1) % 64 ≡ 0 → s.command ≡ GivingAddress target k →
+    Next (of_address target k) s (address_at target k (Some ((m + 1) / 64)) (moved_on s k m)) m
+unfolding moved_on
+at_place target k s m inside is_place is =
     let place = (m + 1) / 64 in
     elim (cases_lt place 7) [
       | inl early ↦
-          rw (before_bytes place early, ne_eqb place 14 (λ e. omega (arith, e, early))) (quiet target k s m is (λ h low high. omega (arith, low, early)))
+          rw (before_bytes place early, ne_eqb place 14 (λ e. omega (arith, e, early)))
+          (quiet target k s m inside is (λ e. omega (arith, e, early)) (λ h low high. omega (arith, low, early)))
       | inr late ↦
           elim (cases_lt 12 place) [
             | inr low ↦
                 rw (at_byte place late low) (record {
                   command = λ h. is;
+                  over = λ h. absurd (omega (arith, h, low));
                   angle = next_place k m;
-                  byte = λ h l high. (refl, refl);
+                  drive0 = refl;
+                  drive1 = refl;
+                  byte = λ h l high. (refl, refl, refl);
                   none = λ h. absurd (h is_place late low);
                 })
             | inl high ↦
@@ -83,206 +98,81 @@ at_place target k s m is_place is =
                   | inl end ↦
                       rw (behind_bytes place high, eq-eqb place 14 end) (record {
                         command = λ h. absurd (omega (arith, h, end));
+                        over = λ h. (refl, refl);
                         angle = next_place k m;
+                        drive0 = refl;
+                        drive1 = refl;
                         byte = λ h low over. absurd (omega (arith, over, end));
-                        none = λ h. (refl, refl);
+                        none = λ h. (refl, refl, refl);
                       })
                   | inr other ↦
-                      rw (behind_bytes place high, ne_eqb place 14 other) (quiet target k s m is (λ h low over. omega (arith, over, high)))
+                      rw (behind_bytes place high, ne_eqb place 14 other)
+                      (quiet target k s m inside is (λ e. other (omega (arith, e))) (λ h low over. omega (arith, over, high)))
                 ]
           ]
     ]
 
-address_goes : (target : Target) (k : ℕ) → k < 10 → GoesOn (GivingAddress target k) (64 * (312 * k)) 7 5 14
+address_goes : (target : Target) (k : ℕ) → k < 10 → GoesOn (of_address target k)
 unfolding moved_on
 address_goes target k few s m inside is at =
     let s1 = moved_on s k m in
     let by_place = worked s target k m few inside is at in
-    let To : State → Type 0 = λ x. Next (GivingAddress target k) (64 * (312 * k)) 7 5 14 s x m in
+    let To : State → Type 0 = λ x. Next (of_address target k) s x m in
     elim (cases_eq ((m + 1) % 64) 0) [
       | inl passes_by ↦
-          subst To (sym (by_place ∙ ap (λ p. address_at target k p s1) (a_place k m passes_by))) (at_place target k s m passes_by is)
+          subst To (sym (by_place ∙ ap (λ p. address_at target k p s1) (a_place k m passes_by))) (at_place target k s m inside passes_by is)
       | inr none ↦
-          subst To (sym (by_place ∙ ap (λ p. address_at target k p s1) (no_place k m none))) (quiet target k s m is (λ h low high. none h))
+          subst To (sym (by_place ∙ ap (λ p. address_at target k p s1) (no_place k m none)))
+          (quiet target k s m inside is (λ e. none (omega (arith, e))) (λ h low high. none h))
     ]
 
-lets_go : (events : List Event) → AllWait events → AllLetGo events
-lets_go [] all = tt
-lets_go (microsecond ∷ es) all = (tt, lets_go es all.1)
-lets_go (read reg ∷ es) all = (tt, lets_go es all.1)
-lets_go (write reg v ∷ es) all = absurd all.0
-lets_go (latch v ∷ es) all = absurd all.0
-
 after_address : (s : State) (target : Target) (k : ℕ) (events : List Event) → IsAtAddress s target k → k < 10 → AllWait events → count_steps events ≤ 896 →
-    Either (GivingAddress target k) (64 * (312 * k)) 7 5 14 (history events s) (count_steps events) (accesses 0 events)
+    Either (of_address target k) (history events s) (count_steps events) (accesses 0 events)
 after_address s target k events at few all most =
-    let c = GivingAddress target k in
-    let base = 64 * (312 * k) in
+    let f = of_address target k in
     let same : 0 + count_steps events ≡ count_steps events = omega arith in
-    subst (λ n. Either c base 7 5 14 (history events s) n (accesses 0 events)) same
-    (run c base 7 5 14 (address_goes target k few) (omega arith) events s 0 [] (lets_go events all) (omega (arith, most))
-    (inl (begins c base 7 5 14 s (omega arith) at.command at.angle at.lost at.drq)))
+    subst (λ n. Either f (history events s) n (accesses 0 events)) same
+    (run f (address_goes target k few) (omega arith) events s 0 [] (lets_go waiting s events all) (omega (arith, most))
+    (inl (begins f s (omega arith) at.command at.angle at.lost at.drq)))
 
 -- ---- Which bytes are taken.
 
--- how many bytes have come
-come : ℕ → ℕ
-come m = min 6 (m / 64 - 6)
+read_keeps : (reg : ℕ) (s : State) → (read_leaves reg s).sector ≡ s.sector
+read_keeps reg s = ap (λ (x : State). (count_leaves (is_asking s) x).sector) (read_makes (reg == 0) (reg == 3) s)
 
--- m steps after sector k began, where these bytes have been taken
-record Inside (target : Target) (k : ℕ) (s : State) (m : ℕ) (got : List ℕ) : Type 0 where
-  pub going : m < 896 → s.command ≡ GivingAddress target k
-  pub over : 896 ≤ m → s.command ≡ Idle
-  pub ends : 896 ≤ m → s.sector ≡ target.head
-  pub angle : s.angle ≡ Some (64 * (312 * k) + m)
-  pub taken : s.lost_data ≡ false → got ++ waiting_byte s ≡ take (come m) (address_bytes target k)
+-- the end is not undone by a program that waits
+over_kept : (target : Target) (e : Event) (s : State) → IsAccess e → Waits e → Accessed (is_data e) s (happens e s) → (s.command ≡ Idle) × (s.sector ≡ target.head) →
+    ((happens e s).command ≡ Idle) × ((happens e s).sector ≡ target.head)
+over_kept target microsecond s access may acc over = absurd access
+over_kept target (read reg) s access may acc over = (acc.command ∙ over.0, read_keeps reg s ∙ over.1)
+over_kept target (write reg v) s access may acc over = absurd may
+over_kept target (latch v) s access may acc over = absurd may
 
--- nothing comes
-passes : (target : Target) (k : ℕ) (s : State) (m : ℕ) (got : List ℕ) → m < 896 → come (m + 1) ≡ come m → (m + 1 ≡ 896 → ⊥) →
-    Inside target k s m got → Inside target k (moved_on s k m) (m + 1) got
-unfolding moved_on
-passes target k s m got inside same early is = record {
-  going = λ h. is.going inside;
-  over = λ h. absurd (early (omega (arith, h, inside)));
-  ends = λ h. absurd (early (omega (arith, h, inside)));
-  angle = next_place k m;
-  taken = λ kept. is.taken kept ∙ ap (λ n. take n (address_bytes target k)) (sym same);
-}
-
--- byte i comes
-comes_in : (target : Target) (k : ℕ) (s : State) (m i : ℕ) (got : List ℕ) → m < 896 → i < 6 → come m ≡ i → come (m + 1) ≡ i + 1 → (m + 1 ≡ 896 → ⊥) →
-    Inside target k s m got → Inside target k (byte_came (slice_index (address_bytes target k) i) (moved_on s k m)) (m + 1) got
-unfolding moved_on
-comes_in target k s m i got inside low before after early is = record {
-  going = λ h. is.going inside;
-  over = λ h. absurd (early (omega (arith, h, inside)));
-  ends = λ h. absurd (early (omega (arith, h, inside)));
-  angle = next_place k m;
-  taken = λ kept.
-      let bytes = address_bytes target k in
-      let parts = or_parts s.lost_data s.drq kept in
-      let have : got ≡ take i bytes =
-      sym (append-nil got) ∙ ap (λ b. got ++ (if b then s.byte ∷ [] else [])) (sym parts.1) ∙ is.taken parts.0 ∙ ap (λ n. take n bytes) before in
-      ap (λ xs. xs ++ slice_index bytes i ∷ []) have ∙ sym (take_more bytes i 0 low) ∙ ap (λ n. take n bytes) (sym after);
-}
-
-ends_so : (target : Target) (k : ℕ) (s : State) (m : ℕ) (got : List ℕ) → m + 1 ≡ 896 → come (m + 1) ≡ come m → Inside target k s m got →
-    Inside target k (finish_leaves (record (moved_on s k m) { sector = target.head })) (m + 1) got
-unfolding moved_on
-ends_so target k s m got end same is = record {
-  going = λ h. absurd (omega (arith, h, end));
-  over = λ h. refl;
-  ends = λ h. refl;
-  angle = next_place k m;
-  taken = λ kept. is.taken kept ∙ ap (λ n. take n (address_bytes target k)) (sym same);
-}
-
-bytes_at : (target : Target) (k : ℕ) (s : State) (m : ℕ) (got : List ℕ) → m < 896 → (m + 1) % 64 ≡ 0 → Inside target k s m got →
-    Inside target k (address_at target k (Some ((m + 1) / 64)) (moved_on s k m)) (m + 1) got
-unfolding come
-bytes_at target k s m got inside is_place is =
-    let place = (m + 1) / 64 in
-    elim (cases_lt place 7) [
-      | inl early ↦
-          rw (before_bytes place early, ne_eqb place 14 (λ e. omega (arith, e, early)))
-          (passes target k s m got inside (omega (arith, early, is_place)) (λ e. omega (arith, e, early)) is)
-      | inr late ↦
-          elim (cases_lt 12 place) [
-            | inr low ↦
-                rw (at_byte place late low)
-                (comes_in target k s m (place - 7) got inside (omega (arith, late, low)) (omega (arith, late, low, is_place)) (omega (arith, late, low, is_place)) (λ e. omega (arith, e, low)) is)
-            | inl high ↦
-                elim (cases_eq place 14) [
-                  | inl end ↦
-                      rw (behind_bytes place high, eq-eqb place 14 end) (ends_so target k s m got (omega (arith, end, is_place)) (omega (arith, end, is_place)) is)
-                  | inr other ↦
-                      rw (behind_bytes place high, ne_eqb place 14 other)
-                      (passes target k s m got inside (omega (arith, high, is_place)) (λ e. other (omega (arith, e))) is)
-                ]
-          ]
-    ]
-
-counted_inside : (target : Target) (k : ℕ) (before : Bool) (s : State) (m : ℕ) (got : List ℕ) → Inside target k s m got →
-    Inside target k (count_leaves before s) m got
-counted_inside target k before s m got is = record { going = is.going; over = is.over; ends = is.ends; angle = is.angle; taken = is.taken }
-
-stepped : (target : Target) (k : ℕ) (s : State) (m : ℕ) (got : List ℕ) → k < 10 → m < 896 → Inside target k s m got → Inside target k (step s) (m + 1) got
-unfolding come
-stepped target k s m got few inside is =
-    let s1 = moved_on s k m in
-    let by_place = worked s target k m few inside (is.going inside) is.angle in
-    counted_inside target k (is_asking s) (work_leaves s) (m + 1) got
-    (elim (cases_eq ((m + 1) % 64) 0) [
-      | inl passes_by ↦
-          subst (λ x. Inside target k x (m + 1) got) (sym (by_place ∙ ap (λ p. address_at target k p s1) (a_place k m passes_by)))
-          (bytes_at target k s m got inside passes_by is)
-      | inr none ↦
-          subst (λ x. Inside target k x (m + 1) got) (sym (by_place ∙ ap (λ p. address_at target k p s1) (no_place k m none)))
-          (passes target k s m got inside (omega (arith, none)) (λ e. none (omega (arith, e))) is)
-    ])
-
-data_read : (target : Target) (k : ℕ) (s : State) (m : ℕ) (got : List ℕ) → Inside target k s m got →
-    Inside target k (read_leaves 3 s) m (got ++ taken_by s (read 3))
-data_read target k s m got is = record {
-  going = is.going;
-  over = is.over;
-  ends = is.ends;
-  angle = is.angle;
-  taken = λ kept. append-nil (got ++ waiting_byte s) ∙ is.taken kept;
-}
-
-same_both : (a b : Bool) → (if a then b else b) ≡ b
-same_both true b = refl
-same_both false b = refl
-
-other_read : (target : Target) (k : ℕ) (s : State) (reg m : ℕ) (got : List ℕ) → (reg ≡ 3 → ⊥) → Inside target k s m got →
-    Inside target k (read_leaves reg s) m (got ++ taken_by s (read reg))
-other_read target k s reg m got other is =
-    let off : (reg == 3) ≡ false = ne_eqb reg 3 other in
-    let leaves : read_leaves reg s ≡ count_leaves (is_asking s) (record s { intrq = if reg == 0 then false else s.intrq; drq = if reg == 0 then s.drq else s.drq }) =
-    ap (count_leaves (is_asking s)) (read_makes (reg == 0) (reg == 3) s
-    ∙ ap (λ b. record s { intrq = if reg == 0 then false else s.intrq; drq = if reg == 0 then s.drq else if b then false else s.drq }) off) in
-    let keeps : (if reg == 0 then s.drq else s.drq) ≡ s.drq = same_both (reg == 0) s.drq in
-    subst (λ x. Inside target k x m (got ++ taken_by s (read reg))) (sym leaves)
-    (subst (λ b. Inside target k (count_leaves (is_asking s) (record s { intrq = if reg == 0 then false else s.intrq; drq = if reg == 0 then s.drq else s.drq })) m
-    (got ++ (if b && s.drq then answer_of reg s ∷ [] else []))) (sym off) (record {
-      going = is.going;
-      over = is.over;
-      ends = is.ends;
-      angle = is.angle;
-      taken = λ kept.
-          ap (λ xs. xs ++ (if (if reg == 0 then s.drq else s.drq) then s.byte ∷ [] else [])) (append-nil got) ∙ ap (λ b. got ++ (if b then s.byte ∷ [] else [])) keeps ∙ is.taken kept;
-    }))
-
-takes : (target : Target) (k : ℕ) (events : List Event) (s : State) (m : ℕ) (got : List ℕ) → k < 10 → AllWait events → m + count_steps events ≤ 896 →
-    Inside target k s m got → Inside target k (history events s) (m + count_steps events) (got ++ bytes_taken s events)
-takes target k [] s m got few all most is =
-    let same : m ≡ m + 0 = omega arith in
-    subst (λ xs. Inside target k s (m + 0) xs) (sym (append-nil got)) (subst (λ n. Inside target k s n got) same is)
-takes target k (microsecond ∷ es) s m got few all most is =
-    let same : m + 1 + count_steps es ≡ m + (count_steps es + 1) = omega arith in
-    subst (λ n. Inside target k (history es (step s)) n (got ++ bytes_taken (step s) es)) same
-    (takes target k es (step s) (m + 1) got few all.1 (omega (arith, most)) (stepped target k s m got few (omega (arith, most)) is))
-takes target k (read reg ∷ es) s m got few all most is =
-    let next : Inside target k (read_leaves reg s) m (got ++ taken_by s (read reg)) =
-    elim (cases_eq reg 3) [
-      | inl same ↦ subst (λ r. Inside target k (read_leaves r s) m (got ++ taken_by s (read r))) (sym same) (data_read target k s m got is)
-      | inr other ↦ other_read target k s reg m got other is
-    ] in
-    subst (λ xs. Inside target k (history es (read_leaves reg s)) (m + count_steps es) xs) (append_assoc got (taken_by s (read reg)) (bytes_taken (read_leaves reg s) es))
-    (takes target k es (read_leaves reg s) m (got ++ taken_by s (read reg)) few all.1 most next)
-takes target k (write reg v ∷ es) s m got few all most is = absurd all.0
-takes target k (latch v ∷ es) s m got few all most is = absurd all.0
-
-first : (s : State) (target : Target) (k : ℕ) → IsAtAddress s target k → Inside target k s 0 []
-unfolding come
-first s target k at = record {
-  going = λ h. at.command;
-  over = λ h. absurd (omega (arith, h));
-  ends = λ h. absurd (omega (arith, h));
-  angle = at.angle ∙ ap (λ (n : ℕ). Some n) (let e : 64 * (312 * k) ≡ 64 * (312 * k) + 0 = omega arith in e);
-  taken = λ kept. ap (λ b. if b then s.byte ∷ [] else []) at.drq;
-}
+takes : (s : State) (target : Target) (k : ℕ) (events : List Event) → IsAtAddress s target k → k < 10 → AllWait events → count_steps events ≤ 896 →
+    Taking (of_address target k) (address_bytes target k) s (history events s) (count_steps events) (bytes_taken s events)
+takes s target k events at few all most =
+    let f = of_address target k in
+    let bytes = address_bytes target k in
+    let same : 0 + count_steps events ≡ count_steps events = omega arith in
+    let given : IsGiven f bytes s = record {
+      goes = address_goes target k few;
+      some = omega arith;
+      long = refl;
+      gives = λ x i a b. refl;
+      counted = λ b x over. over;
+    } in
+    let first : Taking f bytes s s 0 [] = record {
+      going = λ h. at.command;
+      over = λ h. absurd (omega (arith, h));
+      angle = at.angle ∙ ap (λ (n : ℕ). Some n) (let e : 64 * (312 * k) ≡ 64 * (312 * k) + 0 = omega arith in e);
+      drive0 = refl;
+      drive1 = refl;
+      taken = λ kept. ap (λ b. if b then s.byte ∷ [] else []) at.drq;
+    } in
+    subst (λ n. Taking f bytes s (history events s) n (bytes_taken s events)) same
+    (runs waiting (Taking f bytes s) 896 (λ x m got inside is. stepped f bytes s x m got given inside is)
+    (λ e x m got access may acc is. accessed f bytes s e x m got (waits_read e may) acc (over_kept target e x access may acc) is)
+    events s 0 [] all (omega (arith, most)) first)
 
 -- DRQ is off at the end, and nothing was lost
 record Served (s : State) : Type 0 where
@@ -299,18 +189,16 @@ served s target k events at few all count in_time = elim (after_address s target
 
 whole : (s : State) (target : Target) (k : ℕ) (events : List Event) → IsAtAddress s target k → k < 10 → AllWait events → count_steps events ≡ address_steps →
     ((i : ℕ) → i < 6 → is_taken i events ≡ true) → HasAddress target k events s
-unfolding come
 whole s target k events at few all count in_time =
     let end = served s target k events at few all count in_time in
-    let same : 0 + count_steps events ≡ 896 = omega (arith, count) in
-    let is : Inside target k (history events s) 896 (bytes_taken s events) =
-    subst (λ n. Inside target k (history events s) n (bytes_taken s events)) same (takes target k events s 0 [] few all (omega (arith, count)) (first s target k at)) in
+    let is = takes s target k events at few all (omega (arith, count)) in
     record {
       bytes =
           sym (append-nil (bytes_taken s events))
-          ∙ ap (λ b. bytes_taken s events ++ (if b then (history events s).byte ∷ [] else [])) (sym end.off) ∙ is.taken end.kept;
-      sector = is.ends (omega arith);
-      over = is.over (omega arith);
+          ∙ ap (λ b. bytes_taken s events ++ (if b then (history events s).byte ∷ [] else [])) (sym end.off) ∙ is.taken end.kept
+          ∙ ap (λ m. take (min 6 (m / 64 - 6)) (address_bytes target k)) count;
+      sector = (is.over (omega (arith, count))).1;
+      over = (is.over (omega (arith, count))).0;
       kept = end.kept;
     }
 

@@ -4,15 +4,13 @@ use Rattle.std.specs.Prelude.{Some, nat_lt, if◌then◌else◌}
 use Rattle.std.proofs.lemmas.Bool.{cases_lt, eq-eqb, ne_eqb, lt-ltb, le-ltb}
 use Rattle.beeb_bits.specs.Bits.{bit}
 use Rattle.wd1770.specs.declared.command.Command.{Command}
-use Rattle.wd1770.specs.declared.command.Command.TheVariants.{Idle, Settling, Refusing}
+use Rattle.wd1770.specs.declared.command.Command.TheVariants.{Idle, Settling}
 use Rattle.wd1770.specs.declared.command.Transfer.{Transfer}
 use Rattle.wd1770.specs.State.{State}
 use Rattle.wd1770.specs.Select.{is_reset, disc_in, is_single_density}
-use Rattle.wd1770.specs.Ends.{is_asking, is_busy, count_leaves}
-use Rattle.wd1770.specs.Motion.{motion_of}
+use Rattle.wd1770.specs.Ends.{is_asking, count_leaves}
 use Rattle.wd1770.specs.Sectors.{is_on_disc, search_of, transfer_of, sectors_of}
-use Rattle.wd1770.specs.Addresses.{address_of}
-use Rattle.wd1770.specs.Commands.{command_of, begin_leaves, force_leaves}
+use Rattle.wd1770.specs.Commands.{command_of, begin_leaves}
 use Rattle.wd1770.specs.Registers.{write_leaves}
 use Rattle.wd1770.specs.Step.{next_angle, command_step}
 use Rattle.wd1770.specs.History.{Event, history, count_steps}

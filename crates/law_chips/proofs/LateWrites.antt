@@ -10,18 +10,13 @@ use Rattle.wd1770.specs.State.{State}
 use Rattle.wd1770.specs.Ends.{is_asking, count_leaves, finish_leaves}
 use Rattle.wd1770.specs.Sectors.{search_of, byte_written, writing_at}
 use Rattle.wd1770.specs.Step.{work_leaves, step}
-use Rattle.wd1770.specs.History.{Event, history, count_steps}
+use Rattle.wd1770.specs.History.{Event, happens, history, count_steps}
 use Rattle.law_chips.specs.SectorReads.{sector_steps, IsAtSector}
 use Rattle.law_chips.specs.LostData.{AllLetGo, place_if, accesses, is_in_time, time_over, IsOver, is_served}
-use Rattle.law_chips.proofs.Reading.{no_place, a_place, worked_is}
+use Rattle.law_chips.proofs.Reading.{moved_on, next_place, no_place, a_place, worked_is}
 use Rattle.law_chips.proofs.Writing.{w_first, w_late, w_byte, w_end, w_none, put, before_bytes, behind_bytes, writes_is}
-use Rattle.law_chips.proofs.Streams.{has_place, any_stays, any_other, any_now, or_true, and_false, bool_cases, stays_lost, Accessed, runs}
-
-moved_on : State → ℕ → ℕ → State
-moved_on s k m = record s { angle = Some (64 * (312 * k) + m + 1) }
-
-next_place : (k m : ℕ) → Some (64 * (312 * k) + m + 1) ≡ Some (64 * (312 * k) + (m + 1))
-next_place k m = let e : 64 * (312 * k) + m + 1 ≡ 64 * (312 * k) + (m + 1) = omega arith in ap (λ (n : ℕ). Some n) e
+use Rattle.law_chips.proofs.Streams.{has_place, any_stays, any_other, any_now, or_true, and_false, bool_cases, stays_lost}
+use Rattle.law_chips.proofs.Accesses.{Accessed, is_data, letting_go, runs}
 
 -- byte i was given
 given : ℕ → List ℕ → Bool
@@ -389,8 +384,8 @@ after_writes : (s : State) (t : Transfer) (k : ℕ) (events : List Event) → Is
 after_writes s t k events at few kept writes all most =
     let same : 0 + count_steps events ≡ count_steps events = omega arith in
     subst (λ n. Either t k (history events s) n (accesses 0 events)) same
-    (runs (λ s m ps. Either t k s m ps) 18432 (λ s m ps inside is. stepped t k few writes s m ps inside is) (λ b s x m ps acc is. accessed t k b s x m ps acc is)
-    events s 0 [] all (omega (arith, most)) (inl (begins s t k at kept)))
+    (runs letting_go (Either t k) 18432 (λ s m ps inside is. stepped t k few writes s m ps inside is)
+    (λ e s m ps access may acc is. accessed t k (is_data e) s (happens e s) m ps acc is) events s 0 [] all (omega (arith, most)) (inl (begins s t k at kept)))
 
 pub writes_kept : (s : State) (t : Transfer) (k : ℕ) (events : List Event) → IsAtSector s t k → k < 10 → s.lost_data ≡ false → t.writes ≡ true →
     AllLetGo events → count_steps events ≤ sector_steps → ((i : ℕ) → IsOver true i (count_steps events) → is_served true i events ≡ true) →

@@ -7,6 +7,8 @@ pub mod Reading
 pub mod Search
 pub mod Losing
 pub mod Streams
+pub mod Accesses
+pub mod Taking
 pub mod LateReads
 pub mod Writing
 pub mod LateWrites

@@ -7,16 +7,14 @@ use Rattle.wd1770.specs.declared.drive.Drive.{Drive}
 use Rattle.wd1770.specs.declared.drive.DriveNumber.{DriveNumber}
 use Rattle.wd1770.specs.declared.drive.DriveNumber.TheVariants.{Drive0, Drive1}
 use Rattle.wd1770.specs.declared.command.Command.{Command}
-use Rattle.wd1770.specs.declared.command.Command.TheVariants.{Idle, Moving, Refusing}
+use Rattle.wd1770.specs.declared.command.Command.TheVariants.{Idle, Moving}
 use Rattle.wd1770.specs.declared.command.Motion.{Motion}
 use Rattle.wd1770.specs.declared.command.TrackChange.{TrackChange}
 use Rattle.wd1770.specs.declared.command.TrackChange.TheVariants.{Stays, Follows, Becomes}
 use Rattle.wd1770.specs.State.{State}
 use Rattle.wd1770.specs.Select.{drive_selected, drive_or_0, drive_of, with_drive, head_selected}
 use Rattle.wd1770.specs.Ends.{is_asking, is_busy, count_leaves}
-use Rattle.wd1770.specs.Motion.{step_time, restore, seek, step_once, motion_of, head_after, track_changed, track_after, move_leaves}
-use Rattle.wd1770.specs.Sectors.{sectors_of}
-use Rattle.wd1770.specs.Addresses.{address_of}
+use Rattle.wd1770.specs.Motion.{step_time, step_once, motion_of, head_after, track_changed, track_after, move_leaves}
 use Rattle.wd1770.specs.Commands.{command_of}
 use Rattle.wd1770.specs.Registers.{write_leaves}
 use Rattle.wd1770.specs.Step.{next_angle, command_step, work_leaves}

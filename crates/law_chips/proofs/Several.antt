@@ -15,13 +15,10 @@ use Rattle.wd1770.specs.History.{Event, microsecond, read, write, latch, history
 use Rattle.law_chips.specs.SectorReads.{AllRead, bytes_taken, IsAtSector, HasBytes}
 use Rattle.law_chips.specs.Searches.{AllWait, has_match}
 use Rattle.law_chips.specs.SeveralSectors.{Round, round_end, bytes_of, IsTimely, bytes_from, IsReading, SectorsFollow}
-use Rattle.law_chips.proofs.Reading.{same_disc, no_place, a_place, worked_is, reads_is, at_byte, before_bytes, behind_bytes, from_start, sector_read}
+use Rattle.law_chips.proofs.Reading.{same_disc, moved_on, no_place, a_place, worked_is, reads_is, at_byte, before_bytes, behind_bytes, from_start, sector_read}
 use Rattle.law_chips.proofs.Search.{search_found}
 use Rattle.law_chips.proofs.Waiting.{read_makes}
 use Rattle.law_chips.proofs.TimelyReads.{served, whole}
-
-moved_on : State → ℕ → ℕ → State
-moved_on s k m = record s { angle = Some (64 * (312 * k) + m + 1) }
 
 -- m steps of sector k, after which these registers are as they were
 record Kept (s0 : State) (t : Transfer) (k : ℕ) (s : State) (m : ℕ) : Type 0 where

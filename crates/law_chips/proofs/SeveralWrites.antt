@@ -23,17 +23,14 @@ use Rattle.law_chips.specs.SectorReads.{IsAtSector}
 use Rattle.law_chips.specs.SectorWrites.{AllWritten, given_by, bytes_given}
 use Rattle.law_chips.specs.Searches.{has_match}
 use Rattle.law_chips.specs.SeveralSectors.{Round, round_end, AllGive, GivesInTime, IsWriting, HasAll, IsOutside, SectorsAreWritten}
-use Rattle.law_chips.proofs.Reading.{same_disc, no_place, a_place, worked_is}
+use Rattle.law_chips.proofs.Reading.{same_disc, moved_on, no_place, a_place, worked_is}
 use Rattle.law_chips.proofs.Search.{search_found}
 use Rattle.law_chips.proofs.Waiting.{read_makes}
 use Rattle.law_chips.proofs.Losing.{kept_before}
 use Rattle.law_chips.proofs.Writing.{at_byte, Inside, w_end, writes_is, stepped, status_read, register_given, read_loses, write_loses, begins, whole, off_at_end}
 use Rattle.law_chips.proofs.LateWrites.{writes_kept}
-use Rattle.law_chips.proofs.TimelyWrites.{lets_go}
+use Rattle.law_chips.proofs.Accesses.{writing, lets_go}
 use Rattle.law_chips.proofs.Several.{has_it}
-
-moved_on : State → ℕ → ℕ → State
-moved_on s k m = record s { angle = Some (64 * (312 * k) + m + 1) }
 
 -- ---- The registers.
 
@@ -206,7 +203,7 @@ one back others s t d round is few timely =
     let has = has_it d t k few is.on_disc in
     let lost = found.lost ∙ is.lost in
     let end : s2.lost_data ≡ false =
-    writes_kept s1 t k round.serves at few lost is.writes (lets_go s1 round.serves timely.written) (let c = timely.count in omega (arith, c)) (λ i over. timely.in_time i over.byte) in
+    writes_kept s1 t k round.serves at few lost is.writes (lets_go writing s1 round.serves timely.written) (let c = timely.count in omega (arith, c)) (λ i over. timely.in_time i over.byte) in
     let none_first : 0 + count_steps round.serves ≡ 18432 = let c = timely.count in omega (arith, c) in
     let both : Both s1 d t k s2 18432 (bytes_given round.serves) =
     subst (λ n. Both s1 d t k s2 n (bytes_given round.serves)) none_first

@@ -7,21 +7,14 @@ use Rattle.disc_image.specs.Image.{Image}
 use Rattle.wd1770.specs.declared.command.Transfer.{Transfer}
 use Rattle.wd1770.specs.State.{State}
 use Rattle.wd1770.specs.Sectors.{transfer_of}
-use Rattle.wd1770.specs.History.{Event, microsecond, read, write, latch, history, count_steps}
+use Rattle.wd1770.specs.History.{Event, history, count_steps}
 use Rattle.law_chips.specs.SectorReads.{sector_steps, AllRead, bytes_taken, IsAtSector, HasBytes}
-use Rattle.law_chips.specs.LostData.{AllLetGo}
 use Rattle.law_chips.specs.InTime.{IsInTime, found_after, ReadsInTime}
 use Rattle.law_chips.proofs.Reading.{number_small, sector_read}
+use Rattle.law_chips.proofs.Accesses.{reading, lets_go}
 use Rattle.law_chips.proofs.Streams.{has_place}
 use Rattle.law_chips.proofs.LateReads.{after_reads}
 use Rattle.law_chips.proofs.Begun.{is_read, starts}
-
-pub lets_go : (events : List Event) → AllRead events → AllLetGo events
-lets_go [] all = tt
-lets_go (microsecond ∷ es) all = (tt, lets_go es all.1)
-lets_go (read reg ∷ es) all = (tt, lets_go es all.1)
-lets_go (write reg v ∷ es) all = let most = all.0.1 in ((all.0.0, omega (arith, most)), lets_go es all.1)
-lets_go (latch v ∷ es) all = (all.0, lets_go es all.1)
 
 -- nothing is lost, and no byte waits
 pub record Served (s : State) : Type 0 where
@@ -32,7 +25,7 @@ pub served : (s : State) (t : Transfer) (k : ℕ) (events : List Event) → IsAt
     AllRead events → count_steps events ≡ sector_steps → IsInTime false events → Served (history events s)
 unfolding has_place
 served s t k events at few kept reads all count in_time =
-    elim (after_reads s t k events at few kept reads (lets_go events all) (omega (arith, count))) [
+    elim (after_reads s t k events at few kept reads (lets_go reading s events all) (omega (arith, count))) [
       | inl fine ↦ record { kept = fine.kept; off = fine.last_taken (omega (arith, count)) (in_time 255 (omega arith)) }
       | inr missed ↦ absurd (true≢false (sym (in_time missed.byte (let small = missed.inside in omega (arith, small))) ∙ missed.missed))
     ]

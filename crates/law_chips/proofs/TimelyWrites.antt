@@ -1,5 +1,5 @@
 -- A sector that is written in time.
-use Rattle.std.proofs.Common.{◌≡◌, ◌∙◌, sym, ap, ℕ, ◌<◌, true, false, List, [], ◌∷◌, arith}
+use Rattle.std.proofs.Common.{◌≡◌, ◌∙◌, sym, ap, ℕ, ◌<◌, true, false, List, arith}
 use Rattle.std.specs.Prelude.{Option, Some}
 use Rattle.std.proofs.lemmas.Bool.{and_parts, ltb-true}
 use Rattle.disc_image.specs.Image.{Image, has_sector}
@@ -8,21 +8,14 @@ use Rattle.wd1770.specs.declared.command.Transfer.{Transfer}
 use Rattle.wd1770.specs.State.{State}
 use Rattle.wd1770.specs.Select.{disc_in}
 use Rattle.wd1770.specs.Sectors.{is_on_disc, transfer_of}
-use Rattle.wd1770.specs.History.{Event, microsecond, read, write, latch, happens, history, count_steps}
+use Rattle.wd1770.specs.History.{Event, history, count_steps}
 use Rattle.law_chips.specs.SectorReads.{sector_steps, IsAtSector, command_behind}
 use Rattle.law_chips.specs.SectorWrites.{AllWritten, bytes_given, IsStored}
-use Rattle.law_chips.specs.LostData.{AllLetGo}
 use Rattle.law_chips.specs.InTime.{IsInTime, found_after, WritesInTime}
+use Rattle.law_chips.proofs.Accesses.{writing, lets_go}
 use Rattle.law_chips.proofs.Writing.{sector_written}
 use Rattle.law_chips.proofs.LateWrites.{writes_kept}
 use Rattle.law_chips.proofs.Begun.{is_write, starts}
-
-pub lets_go : (s : State) (events : List Event) → AllWritten s events → AllLetGo events
-lets_go s [] all = tt
-lets_go s (microsecond ∷ es) all = (tt, lets_go (happens microsecond s) es all.1)
-lets_go s (read reg ∷ es) all = (tt, lets_go (happens (read reg) s) es all.1)
-lets_go s (write reg v ∷ es) all = ((all.0.0, all.0.1), lets_go (happens (write reg v) s) es all.1)
-lets_go s (latch v ∷ es) all = (all.0, lets_go (happens (latch v) s) es all.1)
 
 whole : (back : IsReadBack) (others : OthersStay) (s : State) (t : Transfer) (k : ℕ) (d : Image) (events : List Event) →
     IsAtSector s t k → disc_in t.target.drive s ≡ Some d → has_sector d.kind t.target.side t.target.head k ≡ true → t.writes ≡ true → s.lost_data ≡ false →
@@ -31,7 +24,7 @@ whole : (back : IsReadBack) (others : OthersStay) (s : State) (t : Transfer) (k 
 whole back others s t k d events at here has writes kept all count in_time =
     let few : k < 10 = ltb-true k 10 (and_parts _ _ has).1 in
     let end : (history events s).lost_data ≡ false =
-    writes_kept s t k events at few kept writes (lets_go s events all) (omega (arith, count)) (λ i over. in_time i over.byte) in
+    writes_kept s t k events at few kept writes (lets_go writing s events all) (omega (arith, count)) (λ i over. in_time i over.byte) in
     let law = sector_written back others in
     (law.stored s t k d events at here has writes all count end, law.end s t k d events at here has writes all count end)
 

@@ -2,7 +2,7 @@
 use Rattle.std.proofs.Common.{◌≡◌, ◌≢◌, ◌∙◌, sym, ap, subst, refl, ℕ, ◌+◌, ◌-◌, ◌*◌, ◌/◌, ◌%◌, ◌<◌, ◌≤◌, ◌==◌, ◌&&◌, ◌||◌, min, not, Bool, true}
 use Rattle.std.proofs.Common.{false, List, [], ◌∷◌, ◌++◌, length, get_or, arith, inl, inr}
 use Rattle.std.specs.Prelude.{Option, None, Some, option_map, slice_set, nat_lt, nat_le, if◌then◌else◌}
-use Rattle.std.proofs.lemmas.Bool.{cases_eq, cases_lt, eq-eqb, ne_eqb, lt-ltb, le-ltb, le-leb, lt-leb, or_parts, and_parts, and_from, and_left, and_right, ltb-true, true≢false, false_from_ne_true}
+use Rattle.std.proofs.lemmas.Bool.{cases_eq, cases_lt, eq-eqb, ne_eqb, lt-ltb, le-ltb, le-leb, lt-leb, or_parts, and_parts, and_left, and_right, ltb-true, true≢false, false_from_ne_true}
 use Rattle.std.proofs.lemmas.List.{append-nil, append_assoc, length_push, get_or_append_left, get_or_push}
 use Rattle.std.proofs.lemmas.List.FromFn.{fill_by_all}
 use Rattle.disc_image.specs.declared.Kind.{Kind}
@@ -23,7 +23,7 @@ use Rattle.wd1770.specs.Step.{work_leaves, step}
 use Rattle.wd1770.specs.History.{Event, microsecond, read, write, latch, history, count_steps}
 use Rattle.law_chips.specs.SectorReads.{sector_steps, IsAtSector, command_behind}
 use Rattle.law_chips.specs.SectorWrites.{Writes, AllWritten, given_by, bytes_given, IsStored, SectorIsWritten}
-use Rattle.law_chips.proofs.Reading.{same_disc, no_place, a_place, worked_is}
+use Rattle.law_chips.proofs.Reading.{same_disc, moved_on, next_place, no_place, a_place, worked_is}
 use Rattle.law_chips.proofs.Losing.{kept_before}
 
 -- how many bytes have been written m steps after the sector was found, and for how many DRQ was set
@@ -69,13 +69,6 @@ counted_inside d t k s m bytes before is = record {
   pending = is.pending;
   others = is.others;
 }
-
--- the step is at the next angle
-moved_on : State → ℕ → ℕ → State
-moved_on s k m = record s { angle = Some (64 * (312 * k) + m + 1) }
-
-next_place : (k m : ℕ) → Some (64 * (312 * k) + m + 1) ≡ Some (64 * (312 * k) + (m + 1))
-next_place k m = let e : 64 * (312 * k) + m + 1 ≡ 64 * (312 * k) + (m + 1) = omega arith in ap (λ (n : ℕ). Some n) e
 
 -- A step that changes only this much: the command, DRQ and the angle.
 plain : (d : Image) (t : Transfer) (k : ℕ) (s x : State) (m : ℕ) (bytes : List ℕ) → Inside d t k s m bytes →
