@@ -182,29 +182,34 @@ gives : (s0 : State) (t : Transfer) (k : ℕ) (d : Image) (bytes : List ℕ) (s 
 gives s0 t k d bytes s i has a b =
     ap (λ o. byte_on_disc o t.target k i) (same_disc t.target.drive s s0 a b ∙ has.disc) ∙ ap (λ o. byte_of_sector o i) has.sector
 
-pub from_start : (s : State) (t : Transfer) (k : ℕ) (d : Image) (bytes : List ℕ) (events : List Event) → IsAtSector s t k → HasBytes s t k d bytes →
+pub is_given : (s : State) (t : Transfer) (k : ℕ) (d : Image) (bytes : List ℕ) → HasBytes s t k d bytes → t.writes ≡ false → IsGiven (of_sector t k) bytes s
+is_given s t k d bytes has reads = record {
+  goes = sector_goes t k (number_small d t.target.side t.target.head k bytes has.sector) reads;
+  some = omega arith;
+  long = bytes_long d t.target.side t.target.head k bytes has.sector;
+  gives = λ x i a b. gives s t k d bytes x i has a b;
+  counted = λ b x over. over;
+}
+
+-- where a sector is found no byte has come
+pub at_start : (s : State) (t : Transfer) (k : ℕ) (bytes : List ℕ) → IsAtSector s t k → Taking (of_sector t k) bytes s s 0 []
+at_start s t k bytes at = record {
+  going = λ h. at.command;
+  over = λ h. absurd (omega (arith, h));
+  angle = at.angle ∙ ap (λ (n : ℕ). Some n) (let e : 64 * (312 * k) ≡ 64 * (312 * k) + 0 = omega arith in e);
+  drive0 = refl;
+  drive1 = refl;
+  taken = λ kept. ap (λ b. if b then s.byte ∷ [] else []) at.drq;
+}
+
+from_start : (s : State) (t : Transfer) (k : ℕ) (d : Image) (bytes : List ℕ) (events : List Event) → IsAtSector s t k → HasBytes s t k d bytes →
     t.writes ≡ false → AllRead events → count_steps events ≤ sector_steps → Taking (of_sector t k) bytes s (history events s) (count_steps events) (bytes_taken s events)
 from_start s t k d bytes events at has reads all most =
     let f = of_sector t k in
     let same : 0 + count_steps events ≡ count_steps events = omega arith in
-    let given : IsGiven f bytes s = record {
-      goes = sector_goes t k (number_small d t.target.side t.target.head k bytes has.sector) reads;
-      some = omega arith;
-      long = bytes_long d t.target.side t.target.head k bytes has.sector;
-      gives = λ x i a b. gives s t k d bytes x i has a b;
-      counted = λ b x over. over;
-    } in
-    let first : Taking f bytes s s 0 [] = record {
-      going = λ h. at.command;
-      over = λ h. absurd (omega (arith, h));
-      angle = at.angle ∙ ap (λ (n : ℕ). Some n) (let e : 64 * (312 * k) ≡ 64 * (312 * k) + 0 = omega arith in e);
-      drive0 = refl;
-      drive1 = refl;
-      taken = λ kept. ap (λ b. if b then s.byte ∷ [] else []) at.drq;
-    } in
     subst (λ n. Taking f bytes s (history events s) n (bytes_taken s events)) same
-    (runs reading (Taking f bytes s) 18432 (λ x m got inside is. stepped f bytes s x m got given inside is)
-    (λ e x m got access may acc is. accessed f bytes s e x m got may acc (λ over. acc.command ∙ over) is) events s 0 [] all (omega (arith, most)) first)
+    (runs reading (Taking f bytes s) 18432 (λ x m got inside is. stepped f bytes s x m got (is_given s t k d bytes has reads) inside is)
+    (λ e x m got access may acc is. accessed f bytes s e x m got may acc (λ over. acc.command ∙ over) is) events s 0 [] all (omega (arith, most)) (at_start s t k bytes at))
 
 pub sector_read : SectorIsRead
 sector_read = record {

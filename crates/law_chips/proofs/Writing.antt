@@ -3,7 +3,7 @@ use Rattle.std.proofs.Common.{◌≡◌, ◌≢◌, ◌∙◌, sym, ap, subst, r
 use Rattle.std.proofs.Common.{false, List, [], ◌∷◌, ◌++◌, length, get_or, arith, inl, inr}
 use Rattle.std.specs.Prelude.{Option, None, Some, option_map, slice_set, nat_lt, nat_le, if◌then◌else◌}
 use Rattle.std.proofs.lemmas.Bool.{cases_eq, cases_lt, eq-eqb, ne_eqb, lt-ltb, le-ltb, le-leb, lt-leb, or_parts, and_parts, and_left, and_right, ltb-true, true≢false, false_from_ne_true}
-use Rattle.std.proofs.lemmas.List.{append-nil, append_assoc, length_push, get_or_append_left, get_or_push}
+use Rattle.std.proofs.lemmas.List.{append-nil, length_push, get_or_append_left, get_or_push}
 use Rattle.std.proofs.lemmas.List.FromFn.{fill_by_all}
 use Rattle.disc_image.specs.declared.Kind.{Kind}
 use Rattle.disc_image.specs.Image.{Image, has_sector, place, byte_at, byte_put, with_zeros_to, sector_bytes}
@@ -14,17 +14,18 @@ use Rattle.wd1770.specs.declared.drive.Target.{Target}
 use Rattle.wd1770.specs.declared.command.Command.TheVariants.{Idle, Transferring}
 use Rattle.wd1770.specs.declared.command.Transfer.{Transfer}
 use Rattle.wd1770.specs.State.{State}
-use Rattle.wd1770.specs.Select.{is_reset, disc_in}
+use Rattle.wd1770.specs.Select.{disc_in}
 use Rattle.wd1770.specs.Ends.{is_asking, count_leaves, finish_leaves}
-use Rattle.wd1770.specs.Commands.{command_written, latch_leaves, stop_leaves}
+use Rattle.wd1770.specs.Commands.{latch_leaves}
 use Rattle.wd1770.specs.Sectors.{search_of, places_into, is_byte_place, sector_ended, written_in, byte_written, reading_at, writing_at, transfer_step}
 use Rattle.wd1770.specs.Registers.{read_leaves, write_leaves}
 use Rattle.wd1770.specs.Step.{work_leaves, step}
-use Rattle.wd1770.specs.History.{Event, microsecond, read, write, latch, history, count_steps}
+use Rattle.wd1770.specs.History.{Event, happens, microsecond, read, write, latch, history, count_steps}
 use Rattle.law_chips.specs.SectorReads.{sector_steps, IsAtSector, command_behind}
 use Rattle.law_chips.specs.SectorWrites.{Writes, AllWritten, given_by, bytes_given, IsStored, SectorIsWritten}
 use Rattle.law_chips.proofs.Reading.{same_disc, moved_on, next_place, no_place, a_place, worked_is}
 use Rattle.law_chips.proofs.Losing.{kept_before}
+use Rattle.law_chips.proofs.Accesses.{Accessed, IsAccess, is_data, writing, runs}
 
 -- how many bytes have been written m steps after the sector was found, and for how many DRQ was set
 pub gone : ℕ → ℕ
@@ -322,21 +323,21 @@ stepped back others d t k s m bytes few has writes inside is kept =
 
 -- ---- Accesses.
 
--- an access that leaves command, angle, drives, data register and DRQ
-leaves_it : (d : Image) (t : Transfer) (k : ℕ) (s x : State) (m : ℕ) (bytes : List ℕ) → x.command ≡ s.command → x.angle ≡ s.angle →
-    x.drive0 ≡ s.drive0 → x.drive1 ≡ s.drive1 → x.byte ≡ s.byte → x.drq ≡ s.drq → Inside d t k s m bytes → Inside d t k x m (bytes ++ [])
-leaves_it d t k s x m bytes command angle drive0 drive1 byte drq is =
+-- an access of another register than the data register
+leaves_it : (d : Image) (t : Transfer) (k : ℕ) (s x : State) (m : ℕ) (bytes : List ℕ) → Accessed false s x → Inside d t k s m bytes →
+    Inside d t k x m (bytes ++ [])
+leaves_it d t k s x m bytes acc is =
     subst (λ xs. Inside d t k x m xs) (sym (append-nil bytes)) (record {
-      going = λ h. command ∙ is.going h;
-      over = λ h. command ∙ is.over h;
-      angle = angle ∙ is.angle;
+      going = λ h. acc.command ∙ is.going h;
+      over = λ h. acc.command ∙ is.over h;
+      angle = acc.angle ∙ is.angle;
       now = is.now;
-      disc = same_disc t.target.drive x s drive0 drive1 ∙ is.disc;
+      disc = same_disc t.target.drive x s acc.drive0 acc.drive1 ∙ is.disc;
       kind = is.kind;
-      count = ap (λ b. length bytes + owed b) drq ∙ is.count;
+      count = ap (λ b. length bytes + owed b) acc.drq ∙ is.count;
       enough = is.enough;
       stored = is.stored;
-      pending = λ off more. is.pending (sym drq ∙ off) more ∙ sym byte;
+      pending = λ off more. is.pending (sym acc.drq ∙ off) more ∙ sym (acc.byte refl);
       others = is.others;
     })
 
@@ -361,101 +362,27 @@ byte_given d t k s v m bytes on is =
       others = is.others;
     }
 
-pub status_read : (d : Image) (t : Transfer) (k : ℕ) (s : State) (reg m : ℕ) (bytes : List ℕ) → reg ≤ 2 → Inside d t k s m bytes →
-    Inside d t k (read_leaves reg s) m (bytes ++ [])
-status_read d t k s reg m bytes low is = elim (cases_eq reg 0) [
-  | inl zero ↦
-      subst (λ r. Inside d t k (read_leaves r s) m (bytes ++ [])) (sym zero) (leaves_it d t k s (read_leaves 0 s) m bytes refl refl refl refl refl refl is)
-  | inr some ↦
-      elim (cases_eq reg 1) [
-        | inl one ↦
-            subst (λ r. Inside d t k (read_leaves r s) m (bytes ++ [])) (sym one) (leaves_it d t k s (read_leaves 1 s) m bytes refl refl refl refl refl refl is)
-        | inr more ↦
-            let two : reg ≡ 2 = omega (arith, low, some, more) in
-            subst (λ r. Inside d t k (read_leaves r s) m (bytes ++ [])) (sym two) (leaves_it d t k s (read_leaves 2 s) m bytes refl refl refl refl refl refl is)
-      ]
-]
-
-pub register_given : (d : Image) (t : Transfer) (k : ℕ) (s : State) (reg v m : ℕ) (bytes : List ℕ) → Writes s (write reg v) → Inside d t k s m bytes →
-    Inside d t k (write_leaves reg v s) m (bytes ++ given_by (write reg v))
-register_given d t k s reg v m bytes may is = elim (cases_eq reg 3) [
+-- an access of a program that gives bytes
+pub accessed : (d : Image) (t : Transfer) (k : ℕ) (e : Event) (s : State) (m : ℕ) (bytes : List ℕ) → IsAccess e → Writes s e → Accessed (is_data e) s (happens e s) →
+    Inside d t k s m bytes → Inside d t k (happens e s) m (bytes ++ given_by e)
+accessed d t k microsecond s m bytes access may acc is = absurd access
+accessed d t k (read reg) s m bytes access may acc is =
+    leaves_it d t k s (read_leaves reg s) m bytes (subst (λ b. Accessed b s (read_leaves reg s)) (ne_eqb reg 3 (λ e. omega (arith, e, may))) acc) is
+accessed d t k (write reg v) s m bytes access may acc is = elim (cases_eq reg 3) [
   | inl three ↦
       subst (λ r. Inside d t k (write_leaves r v s) m (bytes ++ given_by (write r v))) (sym three) (byte_given d t k s v m bytes (may.2 three) is)
   | inr other ↦
-      elim (cases_eq reg 1) [
-        | inl one ↦
-            subst (λ r. Inside d t k (write_leaves r v s) m (bytes ++ given_by (write r v))) (sym one)
-            (leaves_it d t k s (write_leaves 1 v s) m bytes refl refl refl refl refl refl is)
-        | inr more ↦
-            let two : reg ≡ 2 = omega (arith, may.0, may.1, other, more) in
-            subst (λ r. Inside d t k (write_leaves r v s) m (bytes ++ given_by (write r v))) (sym two)
-            (leaves_it d t k s (write_leaves 2 v s) m bytes refl refl refl refl refl refl is)
-      ]
+      let off : (reg == 3) ≡ false = ne_eqb reg 3 other in
+      subst (λ b. Inside d t k (write_leaves reg v s) m (bytes ++ (if b then v ∷ [] else []))) (sym off)
+      (leaves_it d t k s (write_leaves reg v s) m bytes (subst (λ b. Accessed b s (write_leaves reg v s)) off acc) is)
 ]
-
-latched : (d : Image) (t : Transfer) (k : ℕ) (s : State) (v m : ℕ) (bytes : List ℕ) → is_reset v ≡ false → Inside d t k s m bytes →
-    Inside d t k (latch_leaves v s) m (bytes ++ [])
-latched d t k s v m bytes off is =
-    subst (λ b. Inside d t k (if b then stop_leaves (record s { latch = v }) else record s { latch = v }) m (bytes ++ [])) (sym off)
-    (leaves_it d t k s (record s { latch = v }) m bytes refl refl refl refl refl refl is)
-
-by_tests : (a b : Bool) (s : State) → (if a then record s { intrq = false } else if b then record s { drq = false } else s).lost_data ≡ s.lost_data
-by_tests true b s = refl
-by_tests false true s = refl
-by_tests false false s = refl
-
-by_registers : (a b : Bool) (v : ℕ) (s : State) →
-    (if a then record s { track = v } else if b then record s { sector = v } else record s { byte = v; drq = false }).lost_data ≡ s.lost_data
-by_registers true b v s = refl
-by_registers false true v s = refl
-by_registers false false v s = refl
-
-register_behind : ℕ → ℕ → State → State
-register_behind reg v s = if reg == 1 then record s { track = v } else if reg == 2 then record s { sector = v } else record s { byte = v; drq = false }
-
--- no access loses anything
-pub read_loses : (reg : ℕ) (s : State) → (read_leaves reg s).lost_data ≡ s.lost_data
-read_loses reg s = by_tests (reg == 0) (reg == 3) s
-
-pub write_loses : (reg v : ℕ) (s : State) → 1 ≤ reg → (write_leaves reg v s).lost_data ≡ s.lost_data
-unfolding register_behind
-write_loses reg v s some =
-    let other : reg ≡ 0 → ⊥ = λ e. omega (arith, e, some) in
-    ap (λ b. (if b then command_written v s else register_behind reg v s).lost_data) (ne_eqb reg 0 other) ∙ by_registers (reg == 1) (reg == 2) v s
-
-latch_loses : (v : ℕ) (s : State) → is_reset v ≡ false → (latch_leaves v s).lost_data ≡ s.lost_data
-latch_loses v s off = ap (λ b. (if b then stop_leaves (record s { latch = v }) else record s { latch = v }).lost_data) off
+accessed d t k (latch v) s m bytes access may acc is = leaves_it d t k s (latch_leaves v s) m bytes acc is
 
 -- ---- Runs.
 
 -- what holds of a run as long as nothing is lost
-Within : Image → Transfer → ℕ → State → ℕ → List ℕ → Type 0
+abbrev Within : Image → Transfer → ℕ → State → ℕ → List ℕ → Type 0
 Within d t k s m bytes = s.lost_data ≡ false → Inside d t k s m bytes
-
-run : (back : IsReadBack) (others : OthersStay) (d : Image) (t : Transfer) (k : ℕ) → k < 10 → has_sector d.kind t.target.side t.target.head k ≡ true →
-    t.writes ≡ true → (events : List Event) (s : State) (m : ℕ) (bytes : List ℕ) → AllWritten s events → m + count_steps events ≤ 18432 →
-    Within d t k s m bytes → Within d t k (history events s) (m + count_steps events) (bytes ++ bytes_given events)
-unfolding Within
-run back others d t k few has writes [] s m bytes all most is =
-    let same : m ≡ m + 0 = omega arith in
-    λ kept. subst (λ n. Inside d t k s n (bytes ++ [])) same (leaves_it d t k s s m bytes refl refl refl refl refl refl (is kept))
-run back others d t k few has writes (microsecond ∷ es) s m bytes all most is =
-    let same : m + 1 + count_steps es ≡ m + (count_steps es + 1) = omega arith in
-    λ kept. subst (λ n. Inside d t k (history es (step s)) n (bytes ++ bytes_given es)) same
-    (run back others d t k few has writes es (step s) (m + 1) bytes all.1 (omega (arith, most))
-    (λ k'. stepped back others d t k s m bytes few has writes (omega (arith, most)) (is (kept_before s k')) k') kept)
-run back others d t k few has writes (read reg ∷ es) s m bytes all most is =
-    λ kept. subst (λ xs. Inside d t k (history es (read_leaves reg s)) (m + count_steps es) xs) (append_assoc bytes [] (bytes_given es))
-    (run back others d t k few has writes es (read_leaves reg s) m (bytes ++ []) all.1 most
-    (λ k'. status_read d t k s reg m bytes all.0 (is (sym (read_loses reg s) ∙ k'))) kept)
-run back others d t k few has writes (write reg v ∷ es) s m bytes all most is =
-    λ kept. subst (λ xs. Inside d t k (history es (write_leaves reg v s)) (m + count_steps es) xs) (append_assoc bytes (given_by (write reg v)) (bytes_given es))
-    (run back others d t k few has writes es (write_leaves reg v s) m (bytes ++ given_by (write reg v)) all.1 most
-    (λ k'. register_given d t k s reg v m bytes all.0 (is (sym (write_loses reg v s all.0.0) ∙ k'))) kept)
-run back others d t k few has writes (latch v ∷ es) s m bytes all most is =
-    λ kept. subst (λ xs. Inside d t k (history es (latch_leaves v s)) (m + count_steps es) xs) (append_assoc bytes [] (bytes_given es))
-    (run back others d t k few has writes es (latch_leaves v s) m (bytes ++ []) all.1 most
-    (λ k'. latched d t k s v m bytes all.0 (is (sym (latch_loses v s all.0) ∙ k'))) kept)
 
 pub begins : (d : Image) (t : Transfer) (k : ℕ) (s : State) → IsAtSector s t k → disc_in t.target.drive s ≡ Some d → Inside d t k s 0 []
 unfolding gone asked owed
@@ -476,12 +403,14 @@ begins d t k s at here = record {
 from_start : (back : IsReadBack) (others : OthersStay) (s : State) (t : Transfer) (k : ℕ) (d : Image) (events : List Event) →
     IsAtSector s t k → disc_in t.target.drive s ≡ Some d → has_sector d.kind t.target.side t.target.head k ≡ true → t.writes ≡ true →
     AllWritten s events → count_steps events ≡ sector_steps → (history events s).lost_data ≡ false → Inside d t k (history events s) 18432 (bytes_given events)
-unfolding Within
 from_start back others s t k d events at here has writes all count kept =
     let few : k < 10 = ltb-true k 10 (and_parts _ _ has).1 in
     let sum : 0 + count_steps events ≡ 18432 = omega (arith, count) in
     subst (λ n. Inside d t k (history events s) n (bytes_given events)) sum
-    (run back others d t k few has writes events s 0 [] all (omega (arith, count)) (λ h. begins d t k s at here) kept)
+    (runs writing (Within d t k) 18432
+    (λ x m bytes inside is lost. stepped back others d t k x m bytes few has writes inside (is (kept_before x lost)) lost)
+    (λ e x m bytes access may acc is lost. accessed d t k e x m bytes access may acc (is (sym acc.lost ∙ lost)))
+    events s 0 [] all (omega (arith, count)) (λ h. begins d t k s at here) kept)
 
 -- the sector as it is then
 pub whole : (d : Image) (t : Transfer) (k : ℕ) (s : State) (bytes : List ℕ) → has_sector d.kind t.target.side t.target.head k ≡ true →
