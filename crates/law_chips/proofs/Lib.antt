@@ -9,19 +9,16 @@ pub mod Losing
 pub mod Streams
 pub mod Accesses
 pub mod Taking
-pub mod LateReads
 pub mod Writing
 pub mod LateWrites
 pub mod LostBytes
 pub mod Waiting
 pub mod Begun
-pub mod TimelyReads
-pub mod TimelyWrites
+pub mod Timely
 pub mod Moving
 pub mod Forcing
 pub mod Addressing
 pub mod Several
-pub mod SeveralWrites
 pub mod WholeReading
 pub mod CrtcRuns
 pub mod ViaRuns
@@ -35,6 +32,5 @@ pub mod BeamWalk
 pub mod Drawn
 pub mod ShownDots
 pub mod Rasters
-pub mod BlackDots
 pub mod PageDots
 pub mod Rows

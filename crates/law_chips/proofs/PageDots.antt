@@ -31,7 +31,7 @@ use Rattle.law_chips.proofs.Showing.{frame_at, by_itself, same_ula}
 use Rattle.law_chips.proofs.BeamWalk.{Laws, eight_or_sixteen}
 use Rattle.law_chips.proofs.ShownDots.{cursor_was}
 use Rattle.law_chips.proofs.Drawn.{Shows, finished_dot}
-use Rattle.law_chips.proofs.BlackDots.{free_is_black}
+use Rattle.law_chips.proofs.ShownDots.{free_is_black}
 
 -- ---- One clock.
 

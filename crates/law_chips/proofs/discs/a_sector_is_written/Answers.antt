@@ -1,5 +1,5 @@
 use Rattle.law_chips.proofs.Writing.{sector_written}
-use Rattle.law_chips.proofs.TimelyWrites.{writes_in_time}
+use Rattle.law_chips.proofs.Timely.{writes_in_time}
 use Rattle.law_chips.proofs.discs.a_sector_is_written.Goals as goal
 
 pub returns : goal.returns

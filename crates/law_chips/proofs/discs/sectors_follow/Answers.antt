@@ -1,5 +1,5 @@
 use Rattle.law_chips.proofs.Several.{sectors_follow}
-use Rattle.law_chips.proofs.SeveralWrites.{sectors_are_written}
+use Rattle.law_chips.proofs.Several.{sectors_are_written}
 use Rattle.law_chips.proofs.discs.sectors_follow.Goals as goal
 
 pub returns : goal.returns
