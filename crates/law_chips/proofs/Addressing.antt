@@ -20,7 +20,7 @@ use Rattle.law_chips.specs.SectorReads.{bytes_taken}
 use Rattle.law_chips.specs.Searches.{Waits, AllWait}
 use Rattle.law_chips.specs.LostData.{accesses}
 use Rattle.law_chips.specs.AddressReads.{address_steps, IsAtAddress, is_taken, ComesNext, IsAsked, HasAddress, AddressIsRead}
-use Rattle.law_chips.proofs.Reading.{same_disc, moved_on, next_place, no_place, a_place}
+use Rattle.law_chips.proofs.Reading.{same_disc, moved_on, next_place, at_each}
 use Rattle.law_chips.proofs.Accesses.{Accessed, IsAccess, is_data, waiting, waits_read, lets_go, runs}
 use Rattle.law_chips.proofs.Streams.{has_place, Stream, Next, GoesOn, Either, run, begins}
 use Rattle.law_chips.proofs.Taking.{Taking, IsGiven, stepped, accessed}
@@ -115,16 +115,8 @@ at_place target k s m inside is_place is =
 address_goes : (target : Target) (k : ℕ) → k < 10 → GoesOn (of_address target k)
 unfolding moved_on
 address_goes target k few s m inside is at =
-    let s1 = moved_on s k m in
-    let by_place = worked s target k m few inside is at in
-    let To : State → Type 0 = λ x. Next (of_address target k) s x m in
-    elim (cases_eq ((m + 1) % 64) 0) [
-      | inl passes_by ↦
-          subst To (sym (by_place ∙ ap (λ p. address_at target k p s1) (a_place k m passes_by))) (at_place target k s m inside passes_by is)
-      | inr none ↦
-          subst To (sym (by_place ∙ ap (λ p. address_at target k p s1) (no_place k m none)))
-          (quiet target k s m inside is (λ e. none (omega (arith, e))) (λ h low high. none h))
-    ]
+    at_each (address_at target k) (λ x. Next (of_address target k) s x m) k m (moved_on s k m) (work_leaves s) (worked s target k m few inside is at)
+    (λ place. at_place target k s m inside place is) (λ none. quiet target k s m inside is (λ e. none (omega (arith, e))) (λ h low high. none h))
 
 after_address : (s : State) (target : Target) (k : ℕ) (events : List Event) → IsAtAddress s target k → k < 10 → AllWait events → count_steps events ≤ 896 →
     Either (of_address target k) (history events s) (count_steps events) (accesses 0 events)

@@ -13,8 +13,8 @@ use Rattle.wd1770.specs.Step.{work_leaves, step}
 use Rattle.wd1770.specs.History.{Event, happens, history, count_steps}
 use Rattle.law_chips.specs.SectorReads.{sector_steps, IsAtSector}
 use Rattle.law_chips.specs.LostData.{AllLetGo, place_if, accesses, is_in_time, time_over, IsOver, is_served}
-use Rattle.law_chips.proofs.Reading.{moved_on, next_place, no_place, a_place, worked_is}
-use Rattle.law_chips.proofs.Writing.{w_first, w_late, w_byte, w_end, w_none, put, before_bytes, behind_bytes, writes_is}
+use Rattle.law_chips.proofs.Reading.{moved_on, next_place, worked_is, at_each}
+use Rattle.law_chips.proofs.Writing.{by_place, put, writes_is}
 use Rattle.law_chips.proofs.Streams.{has_place, any_stays, any_other, any_now, or_true, and_false, bool_cases, stays_lost}
 use Rattle.law_chips.proofs.Accesses.{Accessed, is_data, letting_go, runs}
 
@@ -164,34 +164,30 @@ asks_first t k s m ps now is =
     (λ h. sym (wants_first ((m + 1) / 64) ps (omega (arith, now)) (omega (arith, now)) ∙ ap not (is.early (omega (arith, now))))) is
 
 -- place 22
-looks : (t : Transfer) (k : ℕ) (s : State) (m : ℕ) (ps : List ℕ) → m + 1 ≡ 64 * 22 → Fine t k s m ps →
-    Either t k (writing_at t k (Some ((m + 1) / 64)) (moved_on s k m)) (m + 1) ps
+looks : (t : Transfer) (k : ℕ) (s : State) (m : ℕ) (ps : List ℕ) → m + 1 ≡ 64 * 22 → s.drq ≡ false → given 0 ps ≡ true → Fine t k s m ps →
+    Fine t k (moved_on s k m) (m + 1) ps
 unfolding moved_on
-looks t k s m ps now is =
-    let place : (m + 1) / 64 ≡ 22 = omega (arith, now) in
+looks t k s m ps now off had is = record {
+  command = λ h. is.command (omega (arith, h));
+  angle = next_place k m;
+  kept = is.kept;
+  drq = λ h. off ∙ sym (wants_no_more ((m + 1) / 64) ps (omega (arith, now)) (omega (arith, now)));
+  served = λ i inside over. elim (over_cases i) [
+    | inl first ↦ ap (λ n. given n ps) first.0 ∙ had
+    | inr next ↦ absurd (omega (arith, over, now, next.0, next.1))
+  ];
+  ahead = λ p more. is.ahead p (omega (arith, more));
+  early = λ low. absurd (omega (arith, low, now));
+}
+
+-- whether the first byte was given, by whether DRQ asks for it still
+first_asked : (t : Transfer) (k : ℕ) (s : State) (m : ℕ) (ps : List ℕ) (b : Bool) → m + 1 ≡ 64 * 22 → s.drq ≡ b → Fine t k s m ps → given 0 ps ≡ not b
+first_asked t k s m ps b now drq is =
     let was : s.drq ≡ not (given 0 ps) = is.drq (omega (arith, now)) ∙ wants_first (m / 64) ps (omega (arith, now)) (omega (arith, now)) in
-    elim (bool_cases (given 0 ps)) [
-      | inl had ↦
-          let off : s.drq ≡ false = was ∙ ap not had in
-          inl (subst (λ x. Fine t k x (m + 1) ps)
-          (sym (w_none t k ((m + 1) / 64) (moved_on s k m) (λ e. omega (arith, e, place)) (λ e. off) (before_bytes ((m + 1) / 64) (omega (arith, place))) (λ e. omega (arith, e, place))))
-          (record {
-            command = λ h. is.command (omega (arith, h));
-            angle = next_place k m;
-            kept = is.kept;
-            drq = λ h. off ∙ sym (wants_no_more ((m + 1) / 64) ps (omega (arith, now)) (omega (arith, now)));
-            served = λ i inside over. elim (over_cases i) [
-              | inl first ↦ ap (λ n. given n ps) first.0 ∙ had
-              | inr next ↦ absurd (omega (arith, over, now, next.0, next.1))
-            ];
-            ahead = λ p more. is.ahead p (omega (arith, more));
-            early = λ low. absurd (omega (arith, low, now));
-          }))
-      | inr none ↦
-          let on : s.drq ≡ true = was ∙ ap not none in
-          inr (subst (λ x. Missed x (m + 1) ps) (sym (w_late t k ((m + 1) / 64) (moved_on s k m) place on))
-          (record { lost = refl; byte = 0; inside = omega arith; over = omega (arith, now); missed = none }))
-    ]
+    other_of (given 0 ps) b (sym was ∙ drq) where
+  other_of : (a b : Bool) → not a ≡ b → a ≡ not b
+  other_of true b is = ap not is
+  other_of false b is = ap not is
 
 -- byte i is written
 byte_goes : (t : Transfer) (k : ℕ) (s : State) (m i : ℕ) (ps : List ℕ) → i < 256 → m + 1 ≡ 64 * (30 + i) → Fine t k s m ps →
@@ -259,34 +255,25 @@ unfolding moved_on
 at_place t k s m ps inside is_place is =
     let place = (m + 1) / 64 in
     let s1 = moved_on s k m in
-    let To : State → Type 0 = λ x. Either t k x (m + 1) ps in
-    elim (cases_eq place 12) [
-      | inl first ↦ subst To (sym (w_first t k place s1 first)) (inl (asks_first t k s m ps (omega (arith, first, is_place)) is))
-      | inr not_first ↦
-          elim (cases_eq place 22) [
-            | inl look ↦ looks t k s m ps (omega (arith, look, is_place)) is
-            | inr no_look ↦
-                elim (cases_lt place 30) [
-                  | inl early ↦
-                      subst To (sym (w_none t k place s1 not_first (λ e. absurd (no_look e)) (before_bytes place early) (λ e. omega (arith, e, early))))
-                      (inl (plain t k s s1 m ps (none_over m (λ e. no_look (omega (arith, e))) (λ i some few e. omega (arith, e, early))) (λ h. is.command inside) refl refl
-                      (λ h. is.drq (omega (arith, h)) ∙ sym (same_wants m ps (λ e. not_first (omega (arith, e))) (λ e. no_look (omega (arith, e))) (omega (arith, early, is_place)))) is))
-                  | inr late ↦
-                      elim (cases_lt place 286) [
-                        | inl low ↦
-                            subst To (sym (w_byte t k place s1 late low)) (byte_goes t k s m (place - 30) ps (omega (arith, low)) (omega (arith, late, is_place)) is)
-                        | inr high ↦
-                            elim (cases_eq place 288) [
-                              | inl end ↦ subst To (sym (w_end t k place s1 end)) (inl (ends_so t.multiple t k s m ps (omega (arith, end, is_place)) is))
-                              | inr other ↦
-                                  subst To (sym (w_none t k place s1 not_first (λ e. absurd (no_look e)) (behind_bytes place high) other))
-                                  (inl (plain t k s s1 m ps (none_over m (λ e. no_look (omega (arith, e))) (λ i some few e. omega (arith, e, high, few))) (λ h. is.command inside) refl refl
-                                  (λ h. absurd (omega (arith, h, high))) is))
-                            ]
-                      ]
-                ]
+    by_place (λ x. Either t k x (m + 1) ps) t k place s1 (λ first. inl (asks_first t k s m ps (omega (arith, first, is_place)) is))
+    (λ look on.
+    let missed = first_asked t k s m ps true (omega (arith, look, is_place)) on is in
+    inr (record { lost = refl; byte = 0; inside = omega arith; over = omega (arith, look, is_place); missed = missed }))
+    (λ late low. byte_goes t k s m (place - 30) ps (omega (arith, low)) (omega (arith, late, is_place)) is)
+    (λ end. inl (ends_so t.multiple t k s m ps (omega (arith, end, is_place)) is))
+    (λ not_first off where_it_is other. inl (elim (cases_eq place 22) [
+      | inl look ↦
+          let now : m + 1 ≡ 64 * 22 = omega (arith, look, is_place) in looks t k s m ps now (off look) (first_asked t k s m ps false now (off look) is) is
+      | inr no_look ↦
+          elim where_it_is [
+            | inl early ↦
+                plain t k s s1 m ps (none_over m (λ e. no_look (omega (arith, e))) (λ i some few e. omega (arith, e, early))) (λ h. is.command inside) refl refl
+                (λ h. is.drq (omega (arith, h)) ∙ sym (same_wants m ps (λ e. not_first (omega (arith, e))) (λ e. no_look (omega (arith, e))) (omega (arith, early, is_place)))) is
+            | inr high ↦
+                plain t k s s1 m ps (none_over m (λ e. no_look (omega (arith, e))) (λ i some few e. omega (arith, e, high, few))) (λ h. is.command inside) refl refl
+                (λ h. absurd (omega (arith, h, high))) is
           ]
-    ]
+    ]))
 
 -- a step at no place
 at_none : (t : Transfer) (k : ℕ) (s : State) (m : ℕ) (ps : List ℕ) → m < 18432 → ((m + 1) % 64 ≡ 0 → ⊥) → Fine t k s m ps → Fine t k (moved_on s k m) (m + 1) ps
@@ -300,14 +287,10 @@ stepped : (t : Transfer) (k : ℕ) → k < 10 → t.writes ≡ true → (s : Sta
 unfolding moved_on
 stepped t k few writes s m ps inside (inl is) =
     let s1 = moved_on s k m in
-    let by_place = worked_is s t k m few inside (is.command inside) is.angle ∙ writes_is t k (64 * (312 * k) + m + 1) s1 writes in
     counted t k (is_asking s) (work_leaves s) (m + 1) ps
-    (elim (cases_eq ((m + 1) % 64) 0) [
-      | inl passes_by ↦
-          subst (λ x. Either t k x (m + 1) ps) (sym (by_place ∙ ap (λ p. writing_at t k p s1) (a_place k m passes_by))) (at_place t k s m ps inside passes_by is)
-      | inr none ↦
-          subst (λ x. Either t k x (m + 1) ps) (sym (by_place ∙ ap (λ p. writing_at t k p s1) (no_place k m none))) (inl (at_none t k s m ps inside none is))
-    ])
+    (at_each (writing_at t k) (λ x. Either t k x (m + 1) ps) k m s1 (work_leaves s)
+    (worked_is s t k m few inside (is.command inside) is.angle ∙ writes_is t k (64 * (312 * k) + m + 1) s1 writes)
+    (λ place. at_place t k s m ps inside place is) (λ none. inl (at_none t k s m ps inside none is)))
 stepped t k few writes s m ps inside (inr is) =
     inr (record { lost = stays_lost s is.lost; byte = is.byte; inside = is.inside; over = omega (arith, is.over); missed = is.missed })
 

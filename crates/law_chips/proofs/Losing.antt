@@ -31,57 +31,38 @@ put_keeps Drive1 d s = refl
 
 sector_end : (t : Transfer) (s : State) → Keeps s (sector_ended t s)
 unfolding Keeps
-sector_end t s = either t.multiple s (record s { sector = (s.sector + 1) % 256; command = search_of t }) (finish_leaves s) (λ h. h) (λ h. h)
+sector_end t s = either t.multiple s _ (finish_leaves s) (λ h. h) (λ h. h)
 
 reading : (t : Transfer) (k : ℕ) (place : Option ℕ) (s : State) → Keeps s (reading_at t k place s)
 unfolding Keeps
 reading t k None s = λ h. h
 reading t k (Some place) s =
-    either (is_byte_place 31 place) s (byte_came (byte_on_disc (disc_in t.target.drive s) t.target k (place - 31)) s)
-    (if place == 288 then sector_ended t s else s) (λ h. (or_parts s.lost_data s.drq h).0)
-    (either (place == 288) s (sector_ended t s) s (sector_end t s) (λ h. h))
+    either (is_byte_place 31 place) s _ _ (λ h. (or_parts s.lost_data s.drq h).0) (either (place == 288) s _ s (sector_end t s) (λ h. h))
 
 writing : (t : Transfer) (k : ℕ) (place : Option ℕ) (s : State) → Keeps s (writing_at t k place s)
 unfolding Keeps
 writing t k None s = λ h. h
 writing t k (Some place) s =
-    either (place == 12) s (record s { drq = true })
-    (if (place == 22) && s.drq then finish_leaves (record s { lost_data = true })
-    else if is_byte_place 30 place then byte_written t.target k (place - 30) s else if place == 288 then sector_ended t s else s)
-    (λ h. h)
-    (either ((place == 22) && s.drq) s (finish_leaves (record s { lost_data = true }))
-    (if is_byte_place 30 place then byte_written t.target k (place - 30) s else if place == 288 then sector_ended t s else s)
-    (λ h. absurd (true≢false h))
-    (either (is_byte_place 30 place) s (byte_written t.target k (place - 30) s) (if place == 288 then sector_ended t s else s)
-    (λ h. (or_parts s.lost_data s.drq h).0)
-    (either (place == 288) s (sector_ended t s) s (sector_end t s) (λ h. h))))
+    either (place == 12) s _ _ (λ h. h)
+    (either ((place == 22) && s.drq) s (finish_leaves (record s { lost_data = true })) _ (λ h. absurd (true≢false h))
+    (either (is_byte_place 30 place) s (byte_written t.target k (place - 30) s) _ (λ h. (or_parts s.lost_data s.drq h).0)
+    (either (place == 288) s _ s (sector_end t s) (λ h. h))))
 
 addressing : (target : Target) (k : ℕ) (place : Option ℕ) (s : State) → Keeps s (address_at target k place s)
 unfolding Keeps
 addressing target k None s = λ h. h
 addressing target k (Some place) s =
-    either (nat_le 7 place && nat_le place 12) s (byte_came (slice_index (address_bytes target k) (place - 7)) s)
-    (if place == 14 then finish_leaves (record s { sector = target.head }) else s) (λ h. (or_parts s.lost_data s.drq h).0)
-    (either (place == 14) s (finish_leaves (record s { sector = target.head })) s (λ h. h) (λ h. h))
+    either (nat_le 7 place && nat_le place 12) s _ _ (λ h. (or_parts s.lost_data s.drq h).0) (either (place == 14) s _ s (λ h. h) (λ h. h))
 
 of_command : (c : Command) (angle : ℕ) (s : State) → Keeps s (command_step c angle s)
 unfolding Keeps
 of_command Idle angle s = λ h. h
 of_command (Moving m left) angle s =
-    either (nat_lt 1 left) s (record s { command = Moving m (left - 1) }) (move_leaves m s) (λ h. h)
-    (λ h. sym (put_keeps m.drive (record (drive_of m.drive s) { head = head_after m s }) s) ∙ h)
+    either (nat_lt 1 left) s _ _ (λ h. h) (λ h. sym (put_keeps m.drive (record (drive_of m.drive s) { head = head_after m s }) s) ∙ h)
 of_command (Settling t left) angle s = λ h. h
-of_command (Searching t left) angle s =
-    either (is_found t.target angle s) s (record s { command = Transferring t s.sector })
-    (if nat_lt 1 left then record s { command = Searching t (left - 1) } else not_found s) (λ h. h)
-    (either (nat_lt 1 left) s (record s { command = Searching t (left - 1) }) (not_found s) (λ h. h) (λ h. h))
-of_command (Transferring t k) angle s =
-    either t.writes s (writing_at t k (places_into k angle) s) (reading_at t k (places_into k angle) s)
-    (writing t k (places_into k angle) s) (reading t k (places_into k angle) s)
-of_command (SeekingAddress target left) angle s =
-    either (is_address target angle s) s (record s { command = GivingAddress target (angle / (64 * 312)) })
-    (if nat_lt 1 left then record s { command = SeekingAddress target (left - 1) } else not_found s) (λ h. h)
-    (either (nat_lt 1 left) s (record s { command = SeekingAddress target (left - 1) }) (not_found s) (λ h. h) (λ h. h))
+of_command (Searching t left) angle s = either (is_found t.target angle s) s _ _ (λ h. h) (either (nat_lt 1 left) s _ _ (λ h. h) (λ h. h))
+of_command (Transferring t k) angle s = either t.writes s _ _ (writing t k (places_into k angle) s) (reading t k (places_into k angle) s)
+of_command (SeekingAddress target left) angle s = either (is_address target angle s) s _ _ (λ h. h) (either (nat_lt 1 left) s _ _ (λ h. h) (λ h. h))
 of_command (GivingAddress target k) angle s = addressing target k (places_into k angle) s
 of_command Refusing angle s = λ h. h
 

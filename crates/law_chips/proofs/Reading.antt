@@ -52,6 +52,14 @@ worked_is s t k m few inside goes at =
     let on : (64 * (312 * k) + m + 1) % 200000 ≡ 64 * (312 * k) + m + 1 = omega arith in
     rw (goes, at, on) refl
 
+-- such a step, where this is done at the places that pass by
+pub at_each : (at : Option ℕ → State → State) (To : State → Type 0) (k m : ℕ) (s x : State) → x ≡ at (places_into k (64 * (312 * k) + m + 1)) s →
+    ((m + 1) % 64 ≡ 0 → To (at (Some ((m + 1) / 64)) s)) → (((m + 1) % 64 ≡ 0 → ⊥) → To (at None s)) → To x
+at_each at To k m s x is passes_by none = elim (cases_eq ((m + 1) % 64) 0) [
+  | inl place ↦ subst To (sym (is ∙ ap (λ p. at p s) (a_place k m place))) (passes_by place)
+  | inr other ↦ subst To (sym (is ∙ ap (λ p. at p s) (no_place k m other))) (none other)
+]
+
 pub reads_is : (t : Transfer) (k angle : ℕ) (s : State) → t.writes ≡ false → transfer_step t k angle s ≡ reading_at t k (places_into k angle) s
 reads_is t k angle s reads = ap (λ b. if b then writing_at t k (places_into k angle) s else reading_at t k (places_into k angle) s) reads
 
@@ -148,16 +156,9 @@ at_place t k s m inside is_place is =
 pub sector_goes : (t : Transfer) (k : ℕ) → k < 10 → t.writes ≡ false → GoesOn (of_sector t k)
 unfolding moved_on
 sector_goes t k few reads s m inside is at =
-    let s1 = moved_on s k m in
-    let by_place = worked_is s t k m few inside is at ∙ reads_is t k (64 * (312 * k) + m + 1) s1 reads in
-    let To : State → Type 0 = λ x. Next (of_sector t k) s x m in
-    elim (cases_eq ((m + 1) % 64) 0) [
-      | inl passes_by ↦
-          subst To (sym (by_place ∙ ap (λ p. reading_at t k p s1) (a_place k m passes_by))) (at_place t k s m inside passes_by is)
-      | inr none ↦
-          subst To (sym (by_place ∙ ap (λ p. reading_at t k p s1) (no_place k m none)))
-          (quiet t k s m inside is (λ e. none (omega (arith, e))) (λ h low high. none h))
-    ]
+    at_each (reading_at t k) (λ x. Next (of_sector t k) s x m) k m (moved_on s k m) (work_leaves s)
+    (worked_is s t k m few inside is at ∙ reads_is t k (64 * (312 * k) + m + 1) (moved_on s k m) reads)
+    (λ place. at_place t k s m inside place is) (λ none. quiet t k s m inside is (λ e. none (omega (arith, e))) (λ h low high. none h))
 
 -- A sector on a disc has a number below 10, and 256 bytes.
 bytes_of : (b : Bool) (xs bytes : List ℕ) → (if b then Some xs else None) ≡ Some bytes → (b ≡ true) × (xs ≡ bytes)

@@ -12,13 +12,13 @@ use Rattle.wd1770.specs.Ends.{is_asking, count_leaves, finish_leaves}
 use Rattle.wd1770.specs.Sectors.{search_of, is_on_disc, is_byte_place, places_into, sector_ended, byte_came, byte_on_disc, reading_at, transfer_step}
 use Rattle.wd1770.specs.Sectors.{written_in, byte_written, writing_at}
 use Rattle.wd1770.specs.Registers.{write_leaves}
-use Rattle.wd1770.specs.Step.{step}
+use Rattle.wd1770.specs.Step.{work_leaves, step}
 use Rattle.wd1770.specs.History.{Event, microsecond, read, write, latch, happens, history, count_steps}
 use Rattle.law_chips.specs.SectorReads.{AllRead, bytes_taken, IsAtSector, HasBytes, sector_steps}
 use Rattle.law_chips.specs.Searches.{Waits, AllWait, has_match}
 use Rattle.law_chips.specs.SeveralSectors.{Round, round_end, bytes_of, IsTimely, bytes_from, IsReading, Gives, SectorsFollow, AllGive, GivesInTime, IsWriting}
 use Rattle.law_chips.specs.SeveralSectors.{HasAll, IsOutside, SectorsAreWritten}
-use Rattle.law_chips.proofs.Reading.{same_disc, moved_on, no_place, a_place, worked_is, reads_is, behind_bytes, of_sector, is_given, at_start}
+use Rattle.law_chips.proofs.Reading.{same_disc, at_each, moved_on, no_place, a_place, worked_is, reads_is, behind_bytes, of_sector, is_given, at_start}
 use Rattle.law_chips.proofs.Accesses.{IsAccess, waiting, waits_read, runs, Program, writing, writes_let, lets_go}
 use Rattle.law_chips.proofs.Taking.{Taking, stepped, accessed}
 use Rattle.law_chips.proofs.Search.{search_found}
@@ -94,25 +94,19 @@ pub kept_step : (t : Transfer) (k : ℕ) (at : Option ℕ → State → State) �
 unfolding moved_on
 kept_step t k at leaves few many s0 s m inside going angle by is =
     let s1 = moved_on s k m in
-    let by_place = worked_is s t k m few inside going angle ∙ by in
     let To : State → Type 0 = λ x. Kept s0 (count_leaves (is_asking s) x) (m + 1) in
     let counted : (x : State) → Kept s0 x (m + 1) → To x = λ x h. record { latch = h.latch; track = h.track; sector = h.sector; next = h.next } in
-    elim (cases_eq ((m + 1) % 64) 0) [
-      | inl passes_by ↦
-          let place = (m + 1) / 64 in
-          subst To (sym (by_place ∙ ap (λ p. at p s1) (a_place k m passes_by)))
-          (elim (cases_eq place 288) [
-            | inl end ↦
-                subst To (sym (leaves.ends place s1 end)) (counted (sector_ended t s1) (ends_so s0 t k s m many (omega (arith, end, passes_by)) is))
-            | inr other ↦
-                let regs = leaves.others place s1 other in
-                counted (at (Some place) s1) (plain s0 s (at (Some place) s1) m (before_end m inside (λ h e. other e))
-                (record { latch = regs.latch; track = regs.track; sector = regs.sector }) is)
-          ])
-      | inr none ↦
-          subst To (sym (by_place ∙ ap (λ p. at p s1) (no_place k m none) ∙ leaves.none s1))
-          (counted s1 (plain s0 s s1 m (before_end m inside (λ h e. none h)) (record { latch = refl; track = refl; sector = refl }) is))
-    ]
+    at_each at To k m s1 (work_leaves s) (worked_is s t k m few inside going angle ∙ by)
+    (λ passes_by.
+    let place = (m + 1) / 64 in
+    elim (cases_eq place 288) [
+      | inl end ↦ subst To (sym (leaves.ends place s1 end)) (counted (sector_ended t s1) (ends_so s0 t k s m many (omega (arith, end, passes_by)) is))
+      | inr other ↦
+          let regs = leaves.others place s1 other in
+          counted (at (Some place) s1) (plain s0 s (at (Some place) s1) m (before_end m inside (λ h e. other e))
+          (record { latch = regs.latch; track = regs.track; sector = regs.sector }) is)
+    ])
+    (λ none. subst To (sym (leaves.none s1)) (counted s1 (plain s0 s s1 m (before_end m inside (λ h e. none h)) (record { latch = refl; track = refl; sector = refl }) is)))
 
 -- an access of a program that only reads registers, or gives bytes
 regs_kept : (e : Event) (s : State) → IsAccess e → Gives e → Regs s (happens e s)
@@ -323,8 +317,12 @@ record Stored (s : State) (t : Transfer) (d : Image) (round : Round) : Type 0 wh
   pub others : (n : ℕ) → ((i : ℕ) → i < 256 → n ≢ place d.kind t.target.side t.target.head s.sector i) → byte_at now n ≡ byte_at d n
   pub kind : now.kind ≡ d.kind
 
-some_is : (a b : Image) → Some a ≡ Some b → a ≡ b
-some_is a b is = ap (λ (o : Option Image). unwrap_or o a) is
+-- a disc is in the drive once
+of_disc : (o : Option Image) (a b : Image) (target : Target) (k : ℕ) (bytes : List ℕ) → o ≡ Some a → o ≡ Some b → sector_of a target.side target.head k ≡ Some bytes →
+    sector_of b target.side target.head k ≡ Some bytes
+of_disc o a b target k bytes is_a is_b has =
+    let same : a ≡ b = ap (λ (o : Option Image). unwrap_or o a) (sym is_a ∙ is_b) in
+    ap (λ (x : Image). sector_of x target.side target.head k) (sym same) ∙ has
 
 one_written : (back : IsReadBack) (others : OthersStay) (s : State) (t : Transfer) (d : Image) (round : Round) → IsWriting s t d → s.sector < 10 → GivesInTime round s →
     Stored s t d round
@@ -345,7 +343,6 @@ one_written back others s t d round is few timely =
     let stored = write_whole d t k s2 (bytes_given round.serves) has both.inside in
     let now = both.inside.now in
     let next_one : (s1.sector + 1) % 256 ≡ k + 1 = ap (λ n. (n + 1) % 256) found.sector ∙ let e : (k + 1) % 256 ≡ k + 1 = omega (arith, few) in e in
-    let same_now : stored.now ≡ now = some_is stored.now now (sym stored.disc ∙ both.inside.disc) in
     record {
       now = now;
       goes_on = record {
@@ -360,7 +357,7 @@ one_written back others s t d round is few timely =
         lost = end;
       };
       sector = both.kept.next (omega arith) ∙ next_one;
-      stored = ap (λ (x : Image). sector_of x t.target.side t.target.head k) (sym same_now) ∙ stored.sector;
+      stored = of_disc (disc_in t.target.drive s2) stored.now both.inside.now t.target k (bytes_given round.serves) stored.disc both.inside.disc stored.sector;
       others = both.inside.others;
       kind = both.inside.kind;
     }

@@ -1,8 +1,8 @@
 -- A sector that is written, event by event.
 use Rattle.std.proofs.Common.{◌≡◌, ◌≢◌, ◌∙◌, sym, ap, subst, refl, ℕ, ◌+◌, ◌-◌, ◌*◌, ◌/◌, ◌%◌, ◌<◌, ◌≤◌, ◌==◌, ◌&&◌, ◌||◌, min, not, Bool, true}
-use Rattle.std.proofs.Common.{false, List, [], ◌∷◌, ◌++◌, length, get_or, arith, inl, inr}
+use Rattle.std.proofs.Common.{◌⊎◌, false, List, [], ◌∷◌, ◌++◌, length, get_or, arith, inl, inr}
 use Rattle.std.specs.Prelude.{Option, None, Some, option_map, slice_set, nat_lt, nat_le, if◌then◌else◌}
-use Rattle.std.proofs.lemmas.Bool.{cases_eq, cases_lt, eq-eqb, ne_eqb, lt-ltb, le-ltb, le-leb, lt-leb, or_parts, and_parts, and_left, and_right, ltb-true, true≢false, false_from_ne_true}
+use Rattle.std.proofs.lemmas.Bool.{cases_eq, cases_lt, eq-eqb, eqb-true, ne_eqb, lt-ltb, le-ltb, le-leb, lt-leb, or_parts, and_parts, and_left, and_right, ltb-true, true≢false, false_from_ne_true}
 use Rattle.std.proofs.lemmas.List.{append-nil, length_push, get_or_append_left, get_or_push}
 use Rattle.std.proofs.lemmas.List.FromFn.{fill_by_all}
 use Rattle.disc_image.specs.declared.Kind.{Kind}
@@ -23,8 +23,9 @@ use Rattle.wd1770.specs.Step.{work_leaves, step}
 use Rattle.wd1770.specs.History.{Event, happens, microsecond, read, write, latch, history, count_steps}
 use Rattle.law_chips.specs.SectorReads.{sector_steps, IsAtSector, command_behind}
 use Rattle.law_chips.specs.SectorWrites.{Writes, AllWritten, given_by, bytes_given, IsStored, SectorIsWritten}
-use Rattle.law_chips.proofs.Reading.{same_disc, moved_on, next_place, no_place, a_place, worked_is}
+use Rattle.law_chips.proofs.Reading.{same_disc, moved_on, next_place, worked_is, at_each}
 use Rattle.law_chips.proofs.Losing.{kept_before}
+use Rattle.law_chips.proofs.Streams.{bool_cases}
 use Rattle.law_chips.proofs.Accesses.{Accessed, IsAccess, is_data, writing, runs}
 
 -- how many bytes have been written m steps after the sector was found, and for how many DRQ was set
@@ -234,22 +235,37 @@ before_bytes place early = rw (lt-leb 30 place early) refl
 pub behind_bytes : (place : ℕ) → 286 ≤ place → is_byte_place 30 place ≡ false
 behind_bytes place late = and_right (nat_le 30 place) (nat_lt place 286) (le-ltb place 286 late)
 
-no_loss : (place : ℕ) (drq : Bool) → (place ≡ 22 → drq ≡ false) → ((place == 22) && drq) ≡ false
-no_loss place drq off = elim (cases_eq place 22) [
-  | inl is ↦ and_right (place == 22) drq (off is)
-  | inr other ↦ and_left (place == 22) drq (ne_eqb place 22 other)
+-- What is so of what a step at a place leaves, by which place it is.
+pub by_place : (P : State → Type 0) (t : Transfer) (k place : ℕ) (s : State) → (place ≡ 12 → P (record s { drq = true })) →
+    (place ≡ 22 → s.drq ≡ true → P (finish_leaves (record s { lost_data = true }))) →
+    (30 ≤ place → place < 286 → P (byte_written t.target k (place - 30) s)) → (place ≡ 288 → P (sector_ended t s)) →
+    ((place ≡ 12 → ⊥) → (place ≡ 22 → s.drq ≡ false) → (place < 30) ⊎ (286 ≤ place) → (place ≡ 288 → ⊥) → P s) → P (writing_at t k (Some place) s)
+by_place P t k place s first late byte end none = elim (cases_eq place 12) [
+  | inl is ↦ rw (eq-eqb place 12 is) (first is)
+  | inr not_12 ↦
+      elim (cases_lt place 30) [
+        | inl early ↦
+            elim (bool_cases ((place == 22) && s.drq)) [
+              | inl on ↦
+                  let parts = and_parts _ _ on in rw (ne_eqb place 12 not_12, on) (late (eqb-true place 22 parts.0) parts.1)
+              | inr off ↦
+                  rw (ne_eqb place 12 not_12, off, before_bytes place early, ne_eqb place 288 (λ e. omega (arith, e, early)))
+                  (none not_12 (λ is. sym (ap (λ b. b && s.drq) (eq-eqb place 22 is)) ∙ off) (inl early) (λ e. omega (arith, e, early)))
+            ]
+        | inr from ↦
+            let not_22 : (place == 22) ≡ false = ne_eqb place 22 (λ e. omega (arith, e, from)) in
+            elim (cases_lt place 286) [
+              | inl to ↦ rw (ne_eqb place 12 not_12, not_22, byte_place place from to) (byte from to)
+              | inr over ↦
+                  elim (cases_eq place 288) [
+                    | inl is ↦ rw (ne_eqb place 12 not_12, not_22, behind_bytes place over, eq-eqb place 288 is) (end is)
+                    | inr other ↦
+                        rw (ne_eqb place 12 not_12, not_22, behind_bytes place over, ne_eqb place 288 other)
+                        (none not_12 (λ e. absurd (omega (arith, e, from))) (inr over) other)
+                  ]
+            ]
+      ]
 ]
-
--- what it is at the places where something happens, and at others
-pub w_first : (t : Transfer) (k place : ℕ) (s : State) → place ≡ 12 → writing_at t k (Some place) s ≡ record s { drq = true }
-w_first t k place s is = rw (eq-eqb place 12 is) refl
-
-pub w_late : (t : Transfer) (k place : ℕ) (s : State) → place ≡ 22 → s.drq ≡ true → writing_at t k (Some place) s ≡ finish_leaves (record s { lost_data = true })
-w_late t k place s is on = rw (ne_eqb place 12 (λ e. omega (arith, e, is)), eq-eqb place 22 is, on) refl
-
-pub w_byte : (t : Transfer) (k place : ℕ) (s : State) → 30 ≤ place → place < 286 → writing_at t k (Some place) s ≡ byte_written t.target k (place - 30) s
-w_byte t k place s low high =
-    rw (ne_eqb place 12 (λ e. omega (arith, e, low)), ne_eqb place 22 (λ e. omega (arith, e, low)), byte_place place low high) refl
 
 pub w_end : (t : Transfer) (k place : ℕ) (s : State) → place ≡ 288 → writing_at t k (Some place) s ≡ sector_ended t s
 w_end t k place s is =
@@ -260,45 +276,24 @@ w_end t k place s is =
       eq-eqb place 288 is,
     ) refl
 
-pub w_none : (t : Transfer) (k place : ℕ) (s : State) → (place ≡ 12 → ⊥) → (place ≡ 22 → s.drq ≡ false) → is_byte_place 30 place ≡ false → (place ≡ 288 → ⊥) →
-    writing_at t k (Some place) s ≡ s
-w_none t k place s other off none early = rw (ne_eqb place 12 other, no_loss place s.drq off, none, ne_eqb place 288 early) refl
-
 -- a step at a place that loses nothing
 at_place : (back : IsReadBack) (others : OthersStay) (d : Image) (t : Transfer) (k : ℕ) (s : State) (m : ℕ) (bytes : List ℕ) →
     has_sector d.kind t.target.side t.target.head k ≡ true → m < 18432 → (m + 1) % 64 ≡ 0 → Inside d t k s m bytes →
     (writing_at t k (Some ((m + 1) / 64)) (moved_on s k m)).lost_data ≡ false →
     Inside d t k (writing_at t k (Some ((m + 1) / 64)) (moved_on s k m)) (m + 1) bytes
 unfolding moved_on gone asked
-at_place back others d t k s m bytes has inside is_place is kept =
+at_place back others d t k s m bytes has inside is_place is =
     let place = (m + 1) / 64 in
-    let s1 = moved_on s k m in
-    let To : State → Type 0 = λ x. Inside d t k x (m + 1) bytes in
-    elim (cases_eq place 12) [
-      | inl first ↦ subst To (sym (w_first t k place s1 first)) (asks_first d t k s m bytes (omega (arith, first, is_place)) is)
-      | inr not_first ↦
-          elim (cases_lt place 30) [
-            | inl early ↦
-                let off : place ≡ 22 → s.drq ≡ false =
-                λ late. false_from_ne_true s.drq (λ on. true≢false (sym (ap (λ (x : State). x.lost_data) (w_late t k place s1 late on)) ∙ kept)) in
-                subst To (sym (w_none t k place s1 not_first off (before_bytes place early) (λ e. omega (arith, e, early))))
-                (passes d t k s m bytes inside (omega (arith, early, is_place)) (omega (arith, early, not_first, is_place)) (λ e. omega (arith, e, early)) is)
-            | inr late ↦
-                elim (cases_lt place 286) [
-                  | inl low ↦
-                      let off : s.drq ≡ false = (or_parts s.lost_data s.drq (ap (λ (x : State). x.lost_data) (sym (w_byte t k place s1 late low)) ∙ kept)).1 in
-                      subst To (sym (w_byte t k place s1 late low))
-                      (byte_goes back others d t k s m (place - 30) bytes has inside (omega (arith, low)) (omega (arith, late, is_place)) off is)
-                  | inr high ↦
-                      elim (cases_eq place 288) [
-                        | inl end ↦ subst To (sym (w_end t k place s1 end)) (ends_so d t k s m bytes (omega (arith, end, is_place)) is)
-                        | inr other ↦
-                            subst To (sym (w_none t k place s1 not_first (λ e. absurd (omega (arith, e, high))) (behind_bytes place high) other))
-                            (passes d t k s m bytes inside (omega (arith, high, is_place)) (omega (arith, high, is_place)) (λ e. other (omega (arith, e))) is)
-                      ]
-                ]
-          ]
-    ]
+    by_place (λ x. x.lost_data ≡ false → Inside d t k x (m + 1) bytes) t k place (moved_on s k m)
+    (λ first kept. asks_first d t k s m bytes (omega (arith, first, is_place)) is) (λ late on kept. absurd (true≢false kept))
+    (λ late low kept.
+    byte_goes back others d t k s m (place - 30) bytes has inside (omega (arith, low)) (omega (arith, late, is_place)) (or_parts s.lost_data s.drq kept).1 is)
+    (λ end kept. ends_so d t k s m bytes (omega (arith, end, is_place)) is)
+    (λ not_first off where_it_is other kept. elim where_it_is [
+      | inl early ↦
+          passes d t k s m bytes inside (omega (arith, early, is_place)) (omega (arith, early, not_first, is_place)) (λ e. omega (arith, e, early)) is
+      | inr high ↦ passes d t k s m bytes inside (omega (arith, high, is_place)) (omega (arith, high, is_place)) (λ e. other (omega (arith, e))) is
+    ])
 
 pub writes_is : (t : Transfer) (k angle : ℕ) (s : State) → t.writes ≡ true → transfer_step t k angle s ≡ writing_at t k (places_into k angle) s
 writes_is t k angle s writes = ap (λ b. if b then writing_at t k (places_into k angle) s else reading_at t k (places_into k angle) s) writes
@@ -309,17 +304,11 @@ pub stepped : (back : IsReadBack) (others : OthersStay) (d : Image) (t : Transfe
 unfolding moved_on gone asked
 stepped back others d t k s m bytes few has writes inside is kept =
     let s1 = moved_on s k m in
-    let by_place = worked_is s t k m few inside (is.going inside) is.angle ∙ writes_is t k (64 * (312 * k) + m + 1) s1 writes in
     counted_inside d t k (work_leaves s) (m + 1) bytes (is_asking s)
-    (elim (cases_eq ((m + 1) % 64) 0) [
-      | inl passes_by ↦
-          let by = by_place ∙ ap (λ p. writing_at t k p s1) (a_place k m passes_by) in
-          subst (λ x. Inside d t k x (m + 1) bytes) (sym by)
-          (at_place back others d t k s m bytes has inside passes_by is (ap (λ (x : State). x.lost_data) (sym by) ∙ kept))
-      | inr none ↦
-          subst (λ x. Inside d t k x (m + 1) bytes) (sym (by_place ∙ ap (λ p. writing_at t k p s1) (no_place k m none)))
-          (passes d t k s m bytes inside (omega (arith, none)) (omega (arith, none)) (λ e. none (omega (arith, e))) is)
-    ])
+    (at_each (writing_at t k) (λ x. x.lost_data ≡ false → Inside d t k x (m + 1) bytes) k m s1 (work_leaves s)
+    (worked_is s t k m few inside (is.going inside) is.angle ∙ writes_is t k (64 * (312 * k) + m + 1) s1 writes)
+    (λ place. at_place back others d t k s m bytes has inside place is)
+    (λ none kept. passes d t k s m bytes inside (omega (arith, none)) (omega (arith, none)) (λ e. none (omega (arith, e))) is) kept)
 
 -- ---- Accesses.
 
