@@ -23,7 +23,7 @@ use Rattle.law_chips.specs.AddressReads.{address_steps, IsAtAddress, is_taken, C
 use Rattle.law_chips.proofs.Reading.{same_disc, moved_on, next_place, at_each}
 use Rattle.law_chips.proofs.Accesses.{Accessed, IsAccess, is_data, waiting, waits_read, lets_go, runs}
 use Rattle.law_chips.proofs.Streams.{has_place, Stream, Next, GoesOn, Either, run, begins}
-use Rattle.law_chips.proofs.Taking.{Taking, IsGiven, stepped, accessed}
+use Rattle.law_chips.proofs.Streams.{Taking, IsGiven, takes_step, takes_access}
 use Rattle.law_chips.proofs.Begun.{begun}
 use Rattle.law_chips.proofs.Waiting.{read_makes, small_angle, Waited, CountsFrom, waits_from}
 
@@ -162,8 +162,8 @@ takes s target k events at few all most =
       taken = λ kept. ap (λ b. if b then s.byte ∷ [] else []) at.drq;
     } in
     subst (λ n. Taking f bytes s (history events s) n (bytes_taken s events)) same
-    (runs waiting (Taking f bytes s) 896 (λ x m got inside is. stepped f bytes s x m got given inside is)
-    (λ e x m got access may acc is. accessed f bytes s e x m got (waits_read e may) acc (over_kept target e x access may acc) is)
+    (runs waiting (Taking f bytes s) 896 (λ x m got inside is. takes_step f bytes s x m got given inside is)
+    (λ e x m got access may acc is. takes_access f bytes s e x m got (waits_read e may) acc (over_kept target e x access may acc) is)
     events s 0 [] all (omega (arith, most)) first)
 
 -- DRQ is off at the end, and nothing was lost

@@ -1,5 +1,5 @@
 -- The style of a row by its codes.
-use Rattle.std.proofs.Common.{◌≡◌, ◌∙◌, sym, ap, subst, refl, ℕ, zero, suc, ◌+◌, ◌-◌, ◌%◌, ◌<◌, ◌≤◌, ◌==◌, ◌&&◌, ◌||◌, not, Bool, true, false, List, [], ◌∷◌, reverse, arith, inl, inr}
+use Rattle.std.proofs.Common.{◌≡◌, ◌∙◌, sym, ap, subst, refl, ℕ, ◌+◌, ◌-◌, ◌%◌, ◌<◌, ◌≤◌, ◌==◌, ◌&&◌, ◌||◌, not, Bool, true, false, List, [], ◌∷◌, reverse, arith, inl, inr}
 use Rattle.std.specs.Prelude.{Option, None, Some, nat_lt, nat_le, if◌then◌else◌}
 use Rattle.std.proofs.lemmas.Bool.{cases_lt, ne_eqb, le-ltb, lt-leb, ltb-true, and_right, and_parts}
 use Rattle.std.proofs.lemmas.List.{reverse-reverse}
@@ -12,6 +12,7 @@ use Rattle.saa5050.specs.Row.{is_sixel, sixel_of, with_held_shape, style_after, 
 use Rattle.saa5050.specs.Laws.{OneCodeMore}
 use Rattle.law_chips.specs.TeletextCells.{is_letters, is_colour, colour, in_graphics, is_flashing, is_double, is_separated, is_holding, is_concealed, background}
 use Rattle.law_chips.specs.TeletextCells.{changes_height, held, pixels_of, CellsShowTheirCodes}
+use Rattle.law_chips.proofs.Ports.{by_bit}
 
 -- what codes leave, the nearest first
 told : List ℕ → Style
@@ -59,18 +60,6 @@ own code s = record {
   held = if (code == 0x0C) && s.double then None else s.held;
 }
 
--- a law of the codes below 20
-by_eight : (P : ℕ → Type 0) → P 0 → P 1 → P 2 → P 3 → P 4 → P 5 → P 6 → P 7 → (n : ℕ) → n < 8 → P n
-by_eight P p0 p1 p2 p3 p4 p5 p6 p7 zero h = p0
-by_eight P p0 p1 p2 p3 p4 p5 p6 p7 (suc zero) h = p1
-by_eight P p0 p1 p2 p3 p4 p5 p6 p7 (suc (suc zero)) h = p2
-by_eight P p0 p1 p2 p3 p4 p5 p6 p7 (suc (suc (suc zero))) h = p3
-by_eight P p0 p1 p2 p3 p4 p5 p6 p7 (suc (suc (suc (suc zero)))) h = p4
-by_eight P p0 p1 p2 p3 p4 p5 p6 p7 (suc (suc (suc (suc (suc zero))))) h = p5
-by_eight P p0 p1 p2 p3 p4 p5 p6 p7 (suc (suc (suc (suc (suc (suc zero)))))) h = p6
-by_eight P p0 p1 p2 p3 p4 p5 p6 p7 (suc (suc (suc (suc (suc (suc (suc zero))))))) h = p7
-by_eight P p0 p1 p2 p3 p4 p5 p6 p7 (suc (suc (suc (suc (suc (suc (suc (suc n)))))))) h = absurd (omega arith)
-
 flip : (b : Bool) (x y : Option Sixel) → (if b then x else y) ≡ (if not b then y else x)
 flip true x y = refl
 flip false x y = refl
@@ -80,44 +69,12 @@ flip false x y = refl
 IsMore : Style → ℕ → Type 0
 IsMore s code = style_after code s ≡ more code s
 
-more_0 : (s : Style) (n : ℕ) → n < 8 → IsMore s n
-unfolding IsMore more
-more_0 s n h = by_eight (λ n. IsMore s n) refl refl refl refl refl refl refl refl n h
-
 double_more : (s : Style) → IsMore s 0x0D
 unfolding IsMore more
 double_more s = ap (λ h. record s { double = true; held = h }) (flip s.double s.held None)
 
-more_8 : (s : Style) (n : ℕ) → n < 8 → IsMore s (n + 8)
-unfolding IsMore more
-more_8 s n h = by_eight (λ n. IsMore s (n + 8)) refl refl refl refl refl (double_more s) refl refl n h
-
-more_16 : (s : Style) (n : ℕ) → n < 8 → IsMore s (n + 16)
-unfolding IsMore more
-more_16 s n h = by_eight (λ n. IsMore s (n + 16)) refl refl refl refl refl refl refl refl n h
-
-more_24 : (s : Style) (n : ℕ) → n < 8 → IsMore s (n + 24)
-unfolding IsMore more
-more_24 s n h = by_eight (λ n. IsMore s (n + 24)) refl refl refl refl refl refl refl refl n h
-
 IsOwn : Style → ℕ → Type 0
 IsOwn s code = style_at code s ≡ own code s
-
-own_0 : (s : Style) (n : ℕ) → n < 8 → IsOwn s n
-unfolding IsOwn own
-own_0 s n h = by_eight (λ n. IsOwn s n) refl refl refl refl refl refl refl refl n h
-
-own_8 : (s : Style) (n : ℕ) → n < 8 → IsOwn s (n + 8)
-unfolding IsOwn own
-own_8 s n h = by_eight (λ n. IsOwn s (n + 8)) refl refl refl refl refl refl refl refl n h
-
-own_16 : (s : Style) (n : ℕ) → n < 8 → IsOwn s (n + 16)
-unfolding IsOwn own
-own_16 s n h = by_eight (λ n. IsOwn s (n + 16)) refl refl refl refl refl refl refl refl n h
-
-own_24 : (s : Style) (n : ℕ) → n < 8 → IsOwn s (n + 24)
-unfolding IsOwn own
-own_24 s n h = by_eight (λ n. IsOwn s (n + 24)) refl refl refl refl refl refl refl refl n h
 
 -- a law of each eight of them
 by_rows : (P : ℕ → Type 0) → ((n : ℕ) → n < 8 → P n) → ((n : ℕ) → n < 8 → P (n + 8)) → ((n : ℕ) → n < 8 → P (n + 16)) → ((n : ℕ) → n < 8 → P (n + 24)) →
@@ -134,6 +91,19 @@ by_rows P a b c d n h = elim (cases_lt n 8) [
             ]
       ]
 ]
+
+more_low : (s : Style) (code : ℕ) → code < 0x20 → IsMore s code
+unfolding IsMore more
+more_low s =
+    by_rows (IsMore s) (by_bit (IsMore s) refl refl refl refl refl refl refl refl)
+    (by_bit (λ n. IsMore s (n + 8)) refl refl refl refl refl (double_more s) refl refl)
+    (by_bit (λ n. IsMore s (n + 16)) refl refl refl refl refl refl refl refl) (by_bit (λ n. IsMore s (n + 24)) refl refl refl refl refl refl refl refl)
+
+own_low : (s : Style) (code : ℕ) → code < 0x20 → IsOwn s code
+unfolding IsOwn own
+own_low s =
+    by_rows (IsOwn s) (by_bit (IsOwn s) refl refl refl refl refl refl refl refl) (by_bit (λ n. IsOwn s (n + 8)) refl refl refl refl refl refl refl refl)
+    (by_bit (λ n. IsOwn s (n + 16)) refl refl refl refl refl refl refl refl) (by_bit (λ n. IsOwn s (n + 24)) refl refl refl refl refl refl refl refl)
 
 -- ---- Other codes.
 
@@ -229,14 +199,14 @@ own_high s code high =
 is_more : (s : Style) (code : ℕ) → style_after code s ≡ more code s
 unfolding IsMore
 is_more s code = elim (cases_lt code 0x20) [
-  | inl low ↦ by_rows (IsMore s) (more_0 s) (more_8 s) (more_16 s) (more_24 s) code low
+  | inl low ↦ more_low s code low
   | inr high ↦ more_high s code high
 ]
 
 is_own : (s : Style) (code : ℕ) → style_at code s ≡ own code s
 unfolding IsOwn
 is_own s code = elim (cases_lt code 0x20) [
-  | inl low ↦ by_rows (IsOwn s) (own_0 s) (own_8 s) (own_16 s) (own_24 s) code low
+  | inl low ↦ own_low s code low
   | inr high ↦ own_high s code high
 ]
 

@@ -1,5 +1,4 @@
 pub mod Halves
-pub mod Edges
 pub mod Typing
 pub mod CardBytes
 pub mod Queueing
@@ -8,7 +7,6 @@ pub mod Search
 pub mod Losing
 pub mod Streams
 pub mod Accesses
-pub mod Taking
 pub mod Writing
 pub mod LateWrites
 pub mod LostBytes
@@ -21,7 +19,6 @@ pub mod Addressing
 pub mod Several
 pub mod WholeReading
 pub mod CrtcRuns
-pub mod ViaRuns
 pub mod Flags
 pub mod Ports
 pub mod Cells
@@ -30,7 +27,6 @@ pub mod BeamPlaces
 pub mod Showing
 pub mod BeamWalk
 pub mod Drawn
-pub mod ShownDots
 pub mod Rasters
 pub mod PageDots
 pub mod Rows

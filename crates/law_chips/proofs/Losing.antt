@@ -1,6 +1,6 @@
 -- Lost data stays set while a command is in progress.
-use Rattle.std.proofs.Common.{◌≡◌, ◌∙◌, sym, refl, ℕ, ◌+◌, ◌-◌, ◌*◌, ◌/◌, ◌%◌, ◌==◌, ◌&&◌, Bool, true, false}
-use Rattle.std.specs.Prelude.{Option, None, Some, nat_lt, nat_le, slice_index, if◌then◌else◌}
+use Rattle.std.proofs.Common.{◌≡◌, ◌∙◌, sym, refl, ℕ, ◌-◌, ◌==◌, ◌&&◌, Bool, true, false}
+use Rattle.std.specs.Prelude.{Option, None, Some, nat_lt, nat_le, if◌then◌else◌}
 use Rattle.std.proofs.lemmas.Bool.{or_parts, true≢false}
 use Rattle.wd1770.specs.declared.drive.Drive.{Drive}
 use Rattle.wd1770.specs.declared.drive.DriveNumber.{DriveNumber}
@@ -10,11 +10,11 @@ use Rattle.wd1770.specs.declared.command.Command.{Command}
 use Rattle.wd1770.specs.declared.command.Command.TheVariants.{Idle, Moving, Settling, Searching, Transferring, SeekingAddress, GivingAddress, Refusing}
 use Rattle.wd1770.specs.declared.command.Transfer.{Transfer}
 use Rattle.wd1770.specs.State.{State}
-use Rattle.wd1770.specs.Select.{disc_in, drive_of, with_drive}
-use Rattle.wd1770.specs.Ends.{finish_leaves, not_found}
-use Rattle.wd1770.specs.Motion.{head_after, move_leaves}
-use Rattle.wd1770.specs.Sectors.{search_of, is_found, places_into, is_byte_place, sector_ended, byte_came, byte_on_disc, reading_at, byte_written, writing_at}
-use Rattle.wd1770.specs.Addresses.{is_address, address_bytes, address_at}
+use Rattle.wd1770.specs.Select.{drive_of, with_drive}
+use Rattle.wd1770.specs.Ends.{finish_leaves}
+use Rattle.wd1770.specs.Motion.{head_after}
+use Rattle.wd1770.specs.Sectors.{is_found, places_into, is_byte_place, sector_ended, reading_at, byte_written, writing_at}
+use Rattle.wd1770.specs.Addresses.{is_address, address_at}
 use Rattle.wd1770.specs.Step.{next_angle, command_step, step}
 
 -- where x lost nothing, s had not either

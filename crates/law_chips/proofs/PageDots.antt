@@ -29,9 +29,9 @@ use Rattle.law_chips.specs.TeletextFrames.{code_at, codes_before, cell_at, Frame
 use Rattle.law_chips.proofs.BeamPlaces.{next_place, test_true, test_false}
 use Rattle.law_chips.proofs.Showing.{frame_at, by_itself, same_ula}
 use Rattle.law_chips.proofs.BeamWalk.{Laws, eight_or_sixteen}
-use Rattle.law_chips.proofs.ShownDots.{cursor_was}
+use Rattle.law_chips.proofs.Drawn.{cursor_was}
 use Rattle.law_chips.proofs.Drawn.{Shows, finished_dot}
-use Rattle.law_chips.proofs.ShownDots.{free_is_black}
+use Rattle.law_chips.proofs.Drawn.{free_is_black}
 
 -- ---- One clock.
 

@@ -1,14 +1,109 @@
--- The ports of the 6522, bit by bit.
-use Rattle.std.proofs.Common.{◌≡◌, ◌∙◌, sym, ap, refl, ℕ, zero, suc, ◌-◌, ◌/◌, ◌%◌, ◌<◌, ◌==◌, ◌&&◌, ◌||◌, min, max, not, Bool, true, false, arith, inl, inr}
+-- The latches of the 6522, its edges and its ports.
+use Rattle.std.proofs.Common.{◌≡◌, ◌∙◌, refl, ◌&&◌, ◌||◌, Bool, true, false, not, List, [], ◌∷◌, map, sym, ℕ, ◌<◌, subst, arith, ap, zero, suc, ◌-◌, ◌/◌, ◌%◌}
+use Rattle.std.proofs.Common.{◌==◌, min, max, inl, inr}
+use Rattle.beeb_bits.specs.Bits.{bit}
+use Rattle.via6522.specs.declared.Pins.{Pins}
+use Rattle.via6522.specs.Lines.{is_edge}
+use Rattle.via6522.specs.Step.{step}
+use Rattle.law_chips.specs.Edges.{has_active, Ca1Sees, Ca2Sees, Cb1Sees, Cb2Sees}
+use Rattle.via6522.specs.State.{State, Timer1, Timer2, power_on}
+use Rattle.via6522.specs.Timers.{timer1_after, timer2_after}
+use Rattle.via6522.specs.Registers.{read_leaves, write_leaves, port, answer_of}
+use Rattle.law_chips.specs.ViaBytes.{Move, microsecond, read, write, after_move, after_moves, WritesByte, WriteBytes, HasByteLatches, LatchesAreBytes}
 use Rattle.std.specs.Prelude.{bit_and, bit_or, if◌then◌else◌}
 use Rattle.std.specs.Int.{bit_at}
 use Rattle.std.proofs.lemmas.Bool.{cases_eq, ne_eqb, true≢false}
 use Rattle.std.proofs.lemmas.Nat.Bits.{bit_at_and, bit_at_or, bit_at-lt}
-use Rattle.beeb_bits.specs.Bits.{bit}
-use Rattle.via6522.specs.declared.Pins.{Pins}
-use Rattle.via6522.specs.State.{State}
-use Rattle.via6522.specs.Registers.{port, answer_of}
 use Rattle.law_chips.specs.ViaPorts.{PortsShowTheirBits}
+
+or_none : (flag : Bool) → flag ≡ flag || false
+or_none true = refl
+or_none false = refl
+
+-- the first edge of a row, or a later one
+first_or_later : (flag up before now : Bool) (levels : List Bool) →
+    (flag || is_edge up before now) || has_active up now levels ≡ flag || has_active up before (now ∷ levels)
+first_or_later true up before now levels = refl
+first_or_later false true true now levels = refl
+first_or_later false true false true levels = refl
+first_or_later false true false false levels = refl
+first_or_later false false false now levels = refl
+first_or_later false false true true levels = refl
+first_or_later false false true false levels = refl
+
+none : (flag up before : Bool) → flag ≡ flag || has_active up before []
+none flag true before = or_none flag
+none flag false before = or_none flag
+
+-- the same of a line that may be an output
+first_or_later_in : (out flag up before now : Bool) (levels : List Bool) →
+    (flag || (not out && is_edge up before now)) || (not out && has_active up now levels) ≡ flag || (not out && has_active up before (now ∷ levels))
+first_or_later_in true true up before now levels = refl
+first_or_later_in true false up before now levels = refl
+first_or_later_in false flag up before now levels = first_or_later flag up before now levels
+
+none_in : (out flag up before : Bool) → flag ≡ flag || (not out && has_active up before [])
+none_in true flag up before = or_none flag
+none_in false flag up before = none flag up before
+
+pub ca1_sees : Ca1Sees
+ca1_sees c [] = none c.flags.ca1 (bit c.pcr 0) c.levels.ca1
+ca1_sees c (p ∷ pins) = ca1_sees (step p c) pins ∙ first_or_later c.flags.ca1 (bit c.pcr 0) c.levels.ca1 p.ca1 (map (λ (q : Pins). q.ca1) pins)
+
+pub ca2_sees : Ca2Sees
+ca2_sees c [] = none_in (bit c.pcr 3) c.flags.ca2 (bit c.pcr 2) c.levels.ca2
+ca2_sees c (p ∷ pins) =
+    ca2_sees (step p c) pins
+    ∙ first_or_later_in (bit c.pcr 3) c.flags.ca2 (bit c.pcr 2) c.levels.ca2 p.ca2 (map (λ (q : Pins). q.ca2) pins)
+
+pub cb1_sees : Cb1Sees
+cb1_sees c [] = none c.flags.cb1 (bit c.pcr 4) c.levels.cb1
+cb1_sees c (p ∷ pins) = cb1_sees (step p c) pins ∙ first_or_later c.flags.cb1 (bit c.pcr 4) c.levels.cb1 p.cb1 (map (λ (q : Pins). q.cb1) pins)
+
+pub cb2_sees : Cb2Sees
+cb2_sees c [] = none_in (bit c.pcr 7) c.flags.cb2 (bit c.pcr 6) c.levels.cb2
+cb2_sees c (p ∷ pins) =
+    cb2_sees (step p c) pins
+    ∙ first_or_later_in (bit c.pcr 7) c.flags.cb2 (bit c.pcr 6) c.levels.cb2 p.cb2 (map (λ (q : Pins). q.cb2) pins)
+
+timer1_keeps : (free : Bool) (t : Timer1) → (timer1_after free t).latch_low ≡ t.latch_low
+timer1_keeps free t = grind arith
+
+timer2_keeps : (still : Bool) (t : Timer2) → (timer2_after still t).latch_low ≡ t.latch_low
+timer2_keeps still t = grind arith
+
+read1_keeps : (reg : ℕ) (c : State) → (read_leaves reg c).timer1.latch_low ≡ c.timer1.latch_low
+read1_keeps reg c = grind arith
+
+read2_keeps : (reg : ℕ) (c : State) → (read_leaves reg c).timer2.latch_low ≡ c.timer2.latch_low
+read2_keeps reg c = grind arith
+
+written1 : (reg v : ℕ) (c : State) → v < 256 → c.timer1.latch_low < 256 → (write_leaves reg v c).timer1.latch_low < 256
+written1 reg v c byte is = grind arith
+
+written2 : (reg v : ℕ) (c : State) → v < 256 → c.timer2.latch_low < 256 → (write_leaves reg v c).timer2.latch_low < 256
+written2 reg v c byte is = grind arith
+
+moved : (m : Move) (c : State) → WritesByte m → HasByteLatches c → HasByteLatches (after_move m c)
+moved (microsecond pins) c byte h = record {
+  timer1 = subst (λ (n : ℕ). n < 256) (sym (timer1_keeps (bit c.acr 6) c.timer1)) h.timer1;
+  timer2 = subst (λ (n : ℕ). n < 256) (sym (timer2_keeps (bit c.acr 5) c.timer2)) h.timer2;
+}
+moved (read reg) c byte h = record {
+  timer1 = subst (λ (n : ℕ). n < 256) (sym (read1_keeps reg c)) h.timer1;
+  timer2 = subst (λ (n : ℕ). n < 256) (sym (read2_keeps reg c)) h.timer2;
+}
+moved (write reg v) c byte h = record { timer1 = written1 reg v c byte h.timer1; timer2 = written2 reg v c byte h.timer2 }
+
+all_moved : (moves : List Move) (c : State) → WriteBytes moves → HasByteLatches c → HasByteLatches (after_moves moves c)
+all_moved [] c bytes h = h
+all_moved (m ∷ moves) c bytes h = all_moved moves (after_move m c) bytes.1 (moved m c bytes.0 h)
+
+pub latches_are_bytes : LatchesAreBytes
+latches_are_bytes = record {
+  keeps = moved;
+  reached = λ moves bytes. all_moved moves power_on bytes (record { timer1 = omega arith; timer2 = omega arith });
+}
 
 by_digits : (f : ℕ → ℕ → ℕ) (g : Bool → Bool → Bool) → (f 0 0 == 1) ≡ g false false → (f 0 1 == 1) ≡ g false true → (f 1 0 == 1) ≡ g true false → (f 1 1 == 1) ≡ g true true →
     (p q : ℕ) → p < 2 → q < 2 → (f p q == 1) ≡ g (p == 1) (q == 1)
@@ -27,7 +122,7 @@ or_bit : (a b n : ℕ) → bit (bit_or a b) n ≡ (bit a n || bit b n)
 or_bit a b n = ap (λ d. d == 1) (bit_at_or a b n) ∙ by_digits max ◌||◌ refl refl refl refl (bit_at a n) (bit_at b n) (bit_at-lt a n) (bit_at-lt b n)
 
 -- a law of bits 0 to 7
-by_bit : (P : ℕ → Type 0) → P 0 → P 1 → P 2 → P 3 → P 4 → P 5 → P 6 → P 7 → (n : ℕ) → n < 8 → P n
+pub by_bit : (P : ℕ → Type 0) → P 0 → P 1 → P 2 → P 3 → P 4 → P 5 → P 6 → P 7 → (n : ℕ) → n < 8 → P n
 by_bit P p0 p1 p2 p3 p4 p5 p6 p7 zero h = p0
 by_bit P p0 p1 p2 p3 p4 p5 p6 p7 (suc zero) h = p1
 by_bit P p0 p1 p2 p3 p4 p5 p6 p7 (suc (suc zero)) h = p2

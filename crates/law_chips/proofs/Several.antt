@@ -18,9 +18,9 @@ use Rattle.law_chips.specs.SectorReads.{AllRead, bytes_taken, IsAtSector, HasByt
 use Rattle.law_chips.specs.Searches.{Waits, AllWait, has_match}
 use Rattle.law_chips.specs.SeveralSectors.{Round, round_end, bytes_of, IsTimely, bytes_from, IsReading, Gives, SectorsFollow, AllGive, GivesInTime, IsWriting}
 use Rattle.law_chips.specs.SeveralSectors.{HasAll, IsOutside, SectorsAreWritten}
-use Rattle.law_chips.proofs.Reading.{same_disc, at_each, moved_on, no_place, a_place, worked_is, reads_is, behind_bytes, of_sector, is_given, at_start}
+use Rattle.law_chips.proofs.Reading.{same_disc, at_each, moved_on, worked_is, reads_is, behind_bytes, of_sector, is_given, at_start}
 use Rattle.law_chips.proofs.Accesses.{IsAccess, waiting, waits_read, runs, Program, writing, writes_let, lets_go}
-use Rattle.law_chips.proofs.Taking.{Taking, stepped, accessed}
+use Rattle.law_chips.proofs.Streams.{Taking, takes_step, takes_access}
 use Rattle.law_chips.proofs.Search.{search_found}
 use Rattle.law_chips.proofs.Waiting.{read_makes}
 use Rattle.law_chips.proofs.Timely.{served, whole}
@@ -190,12 +190,12 @@ one s t d round is few timely =
     subst (λ n. Taking f bytes s1 s2 n (bytes_taken s1 round.serves) × Kept s1 s2 n) none_first
     (runs waiting (λ x m got. Taking f bytes s1 x m got × Kept s1 x m) 18432
     (λ x m got inside both. (
-      stepped f bytes s1 x m got (is_given s1 t k d bytes has is.reads) inside both.0,
+      takes_step f bytes s1 x m got (is_given s1 t k d bytes has is.reads) inside both.0,
       kept_step t k (reading_at t k) (reading_leaves t k) few is.multiple s1 x m inside (both.0.going inside) both.0.angle
       (reads_is t k (64 * (312 * k) + m + 1) (moved_on x k m) is.reads) both.1,
     ))
     (λ e x m got access may acc both. (
-      accessed f bytes s1 e x m got (waits_read e may) acc (λ over. acc.command ∙ over) both.0,
+      takes_access f bytes s1 e x m got (waits_read e may) acc (λ over. acc.command ∙ over) both.0,
       kept_access s1 e x m access (waits_give e may) both.1,
     )) round.serves s1 0 [] timely.read (omega (arith, timely.count)) (at_start s1 t k bytes at, kept_first s1)) in
     let inside = both.0 in

@@ -1,6 +1,6 @@
 use Rattle.law_chips.proofs.BeamWalk.{Laws}
-use Rattle.law_chips.proofs.ShownDots.{frames_show_their_bytes}
-use Rattle.law_chips.proofs.ShownDots.{rest_is_black}
+use Rattle.law_chips.proofs.Drawn.{frames_show_their_bytes}
+use Rattle.law_chips.proofs.Drawn.{rest_is_black}
 use Rattle.law_chips.proofs.pictures.frames_show_their_bytes.Goals as goal
 
 laws : goal.After-characters_are_shown → Laws
