@@ -220,7 +220,7 @@ module _ (p : Program) (P : State → ℕ → List ℕ → Type 0) (last : ℕ)
   one_event (write reg v) es s m got may most is = access_keeps (write reg v) s m got tt may (accessed (write reg v) s (p.lets s (write reg v) may) tt) is
   one_event (latch v) es s m got may most is = access_keeps (latch v) s m got tt may (accessed (latch v) s (p.lets s (latch v) may) tt) is
 
-  pub runs : (events : List Event) (s : State) (m : ℕ) (got : List ℕ) → p.all s events → m + count_steps events ≤ last → P s m got →
+  runs : (events : List Event) (s : State) (m : ℕ) (got : List ℕ) → p.all s events → m + count_steps events ≤ last → P s m got →
       P (history events s) (m + count_steps events) (got ++ p.outs s m events)
   runs [] s m got all most is =
       let same : m ≡ m + 0 = omega arith in
@@ -234,3 +234,10 @@ module _ (p : Program) (P : State → ℕ → List ℕ → Type 0) (last : ℕ)
       (subst (P (history es x) (n + count_steps es))
       (append_assoc got (p.out s m e) (p.outs x n es) ∙ ap (λ xs. got ++ xs) (sym (p.more s m e es)))
       (runs es x n (got ++ p.out s m e) parts.1 (subst (λ n. n ≤ last) (sym total) most) (one_event e es s m got parts.0 most is)))
+
+  -- from the beginning, in n steps
+  pub runs_all : (n : ℕ) (events : List Event) (s : State) → p.all s events → count_steps events ≡ n → n ≤ last → P s 0 [] →
+      P (history events s) n (p.outs s 0 events)
+  runs_all n events s all count most is =
+      let same : 0 + count_steps events ≡ n = omega (arith, count) in
+      subst (λ n. P (history events s) n (p.outs s 0 events)) same (runs events s 0 [] all (omega (arith, count, most)) is)

@@ -21,8 +21,8 @@ use Rattle.law_chips.specs.Searches.{Waits, AllWait}
 use Rattle.law_chips.specs.LostData.{accesses}
 use Rattle.law_chips.specs.AddressReads.{address_steps, IsAtAddress, is_taken, ComesNext, IsAsked, HasAddress, AddressIsRead}
 use Rattle.law_chips.proofs.Reading.{same_disc, moved_on, next_place, at_each}
-use Rattle.law_chips.proofs.Accesses.{Accessed, IsAccess, is_data, waiting, waits_read, lets_go, runs}
-use Rattle.law_chips.proofs.Streams.{has_place, Stream, Next, GoesOn, Either, run, begins}
+use Rattle.law_chips.proofs.Accesses.{Accessed, IsAccess, is_data, waiting, waits_read, lets_go, runs_all}
+use Rattle.law_chips.proofs.Streams.{has_place, Stream, Next, GoesOn, Either, run}
 use Rattle.law_chips.proofs.Streams.{Taking, IsGiven, takes_step, takes_access}
 use Rattle.law_chips.proofs.Begun.{begun}
 use Rattle.law_chips.proofs.Waiting.{read_makes, small_angle, Waited, CountsFrom, waits_from}
@@ -121,11 +121,8 @@ address_goes target k few s m inside is at =
 after_address : (s : State) (target : Target) (k : ℕ) (events : List Event) → IsAtAddress s target k → k < 10 → AllWait events → count_steps events ≤ 896 →
     Either (of_address target k) (history events s) (count_steps events) (accesses 0 events)
 after_address s target k events at few all most =
-    let f = of_address target k in
-    let same : 0 + count_steps events ≡ count_steps events = omega arith in
-    subst (λ n. Either f (history events s) n (accesses 0 events)) same
-    (run f (address_goes target k few) (omega arith) events s 0 [] (lets_go waiting s events all) (omega (arith, most))
-    (inl (begins f s (omega arith) at.command at.angle at.lost at.drq)))
+    run (of_address target k) (address_goes target k few) (omega arith) events s (lets_go waiting s events all) (omega (arith, most))
+    at.command at.angle at.lost at.drq
 
 -- ---- Which bytes are taken.
 
@@ -145,7 +142,6 @@ takes : (s : State) (target : Target) (k : ℕ) (events : List Event) → IsAtAd
 takes s target k events at few all most =
     let f = of_address target k in
     let bytes = address_bytes target k in
-    let same : 0 + count_steps events ≡ count_steps events = omega arith in
     let given : IsGiven f bytes s = record {
       goes = address_goes target k few;
       some = omega arith;
@@ -161,10 +157,9 @@ takes s target k events at few all most =
       drive1 = refl;
       taken = λ kept. ap (λ b. if b then s.byte ∷ [] else []) at.drq;
     } in
-    subst (λ n. Taking f bytes s (history events s) n (bytes_taken s events)) same
-    (runs waiting (Taking f bytes s) 896 (λ x m got inside is. takes_step f bytes s x m got given inside is)
+    runs_all waiting (Taking f bytes s) 896 (λ x m got inside is. takes_step f bytes s x m got given inside is)
     (λ e x m got access may acc is. takes_access f bytes s e x m got (waits_read e may) acc (over_kept target e x access may acc) is)
-    events s 0 [] all (omega (arith, most)) first)
+    (count_steps events) events s all refl most first
 
 -- DRQ is off at the end, and nothing was lost
 record Served (s : State) : Type 0 where

@@ -1,24 +1,23 @@
 -- A forced interrupt, and what comes behind it.
-use Rattle.std.proofs.Common.{◌≡◌, ◌∙◌, sym, ap, subst, refl, ℕ, ◌/◌, ◌≤◌, ◌==◌, ◌&&◌, ◌||◌, not, Bool, true, false, List, [], ◌∷◌, arith, inl, inr}
+use Rattle.std.proofs.Common.{◌≡◌, sym, ap, subst, refl, ℕ, ◌/◌, ◌≤◌, ◌==◌, ◌&&◌, ◌||◌, not, Bool, true, false, List, [], ◌∷◌}
 use Rattle.std.specs.Prelude.{Some, if◌then◌else◌}
-use Rattle.std.proofs.lemmas.Bool.{cases_eq, eq-eqb}
+use Rattle.std.proofs.lemmas.Bool.{eq-eqb}
 use Rattle.beeb_bits.specs.Bits.{bit}
 use Rattle.wd1770.specs.declared.command.Command.TheVariants.{Idle}
 use Rattle.wd1770.specs.State.{State}
 use Rattle.wd1770.specs.Select.{is_reset}
-use Rattle.wd1770.specs.Ends.{is_asking, is_busy, count_leaves}
-use Rattle.wd1770.specs.Commands.{begin_leaves, force_leaves, stop_leaves, latch_leaves}
+use Rattle.wd1770.specs.Ends.{is_asking, count_leaves}
+use Rattle.wd1770.specs.Commands.{force_leaves, stop_leaves, latch_leaves}
 use Rattle.wd1770.specs.Registers.{read_leaves, write_leaves}
 use Rattle.wd1770.specs.Step.{next_angle, command_step, step}
 use Rattle.wd1770.specs.History.{Event, microsecond, read, write, latch, history}
 use Rattle.law_chips.specs.LostData.{AllLetGo}
 use Rattle.law_chips.specs.Interrupts.{status_is_read, LeavesRest, InterruptsAreForced}
 use Rattle.law_chips.proofs.Waiting.{read_makes}
+use Rattle.law_chips.proofs.Accesses.{of_three}
 
 forced : (s : State) (v : ℕ) → is_reset s.latch ≡ false → v / 16 ≡ 0xD → write_leaves 0 v s ≡ count_leaves (is_asking s) (force_leaves v s)
-forced s v live is =
-    ap (λ b. count_leaves (is_asking s) (if b then s else if v / 16 == 0xD then force_leaves v s else if is_busy s.command then s else begin_leaves v s)) live
-    ∙ ap (λ b. count_leaves (is_asking s) (if b then force_leaves v s else if is_busy s.command then s else begin_leaves v s)) (eq-eqb (v / 16) 0xD is)
+forced s v live is = rw (live, eq-eqb (v / 16) 0xD is) refl
 
 -- no command, and INTRQ
 record Rests (asks : Bool) (s : State) : Type 0 where
@@ -43,16 +42,9 @@ was_read asks reg s is =
     (record { command = is.command; intrq = heard (reg == 0) asks s.intrq is.intrq })
 
 was_written : (asks : Bool) (reg v : ℕ) (s : State) → 1 ≤ reg → reg ≤ 3 → Rests asks s → Rests asks (write_leaves reg v s)
-was_written asks reg v s low high is = elim (cases_eq reg 1) [
-  | inl one ↦ subst (λ r. Rests asks (write_leaves r v s)) (sym one) (record { command = is.command; intrq = is.intrq })
-  | inr more ↦
-      elim (cases_eq reg 2) [
-        | inl two ↦ subst (λ r. Rests asks (write_leaves r v s)) (sym two) (record { command = is.command; intrq = is.intrq })
-        | inr most ↦
-            let three : reg ≡ 3 = omega (arith, low, high, more, most) in
-            subst (λ r. Rests asks (write_leaves r v s)) (sym three) (record { command = is.command; intrq = is.intrq })
-      ]
-]
+was_written asks reg v s low high is =
+    of_three (λ r. Rests asks (write_leaves r v s)) (record { command = is.command; intrq = is.intrq }) (record { command = is.command; intrq = is.intrq })
+    (record { command = is.command; intrq = is.intrq }) reg low high
 
 was_latched : (asks : Bool) (v : ℕ) (s : State) → is_reset v ≡ false → Rests asks s → Rests asks (latch_leaves v s)
 was_latched asks v s off is =

@@ -16,7 +16,7 @@ use Rattle.law_chips.specs.LostData.{AllLetGo, place_if, accesses, is_in_time, t
 use Rattle.law_chips.proofs.Reading.{moved_on, next_place, worked_is, at_each}
 use Rattle.law_chips.proofs.Writing.{by_place, put, writes_is}
 use Rattle.law_chips.proofs.Streams.{has_place, any_stays, any_other, any_now, or_true, and_false, bool_cases, stays_lost}
-use Rattle.law_chips.proofs.Accesses.{Accessed, is_data, letting_go, runs}
+use Rattle.law_chips.proofs.Accesses.{Accessed, is_data, letting_go, runs_all}
 
 -- byte i was given
 given : ℕ → List ℕ → Bool
@@ -365,10 +365,9 @@ begins s t k at kept = record {
 after_writes : (s : State) (t : Transfer) (k : ℕ) (events : List Event) → IsAtSector s t k → k < 10 → s.lost_data ≡ false → t.writes ≡ true →
     AllLetGo events → count_steps events ≤ sector_steps → Either t k (history events s) (count_steps events) (accesses 0 events)
 after_writes s t k events at few kept writes all most =
-    let same : 0 + count_steps events ≡ count_steps events = omega arith in
-    subst (λ n. Either t k (history events s) n (accesses 0 events)) same
-    (runs letting_go (Either t k) 18432 (λ s m ps inside is. stepped t k few writes s m ps inside is)
-    (λ e s m ps access may acc is. accessed t k (is_data e) s (happens e s) m ps acc is) events s 0 [] all (omega (arith, most)) (inl (begins s t k at kept)))
+    runs_all letting_go (Either t k) 18432 (λ s m ps inside is. stepped t k few writes s m ps inside is)
+    (λ e s m ps access may acc is. accessed t k (is_data e) s (happens e s) m ps acc is)
+    (count_steps events) events s all refl most (inl (begins s t k at kept))
 
 pub writes_kept : (s : State) (t : Transfer) (k : ℕ) (events : List Event) → IsAtSector s t k → k < 10 → s.lost_data ≡ false → t.writes ≡ true →
     AllLetGo events → count_steps events ≤ sector_steps → ((i : ℕ) → IsOver true i (count_steps events) → is_served true i events ≡ true) →

@@ -79,6 +79,44 @@ characters lines c bits begins (suc n) =
           ]
     ]
 
+-- what is so of clock n, behind the start of a line
+pub record AtClock (c : State) (n : ℕ) : Type 0 where
+  pub registers : (start_leaves (clocks n c)).registers ≡ c.registers
+  pub column : (start_leaves (clocks n c)).character ≡ n % line_characters c.registers
+  pub total : (start_leaves (clocks n c)).registers.horizontal_total ≡ c.registers.horizontal_total
+  pub some : 0 < frame_lines c.registers
+  pub digits : (n + 1) % (line_characters c.registers * frame_lines c.registers)
+      ≡ (n + 1) / line_characters c.registers % frame_lines c.registers * line_characters c.registers + (n + 1) % line_characters c.registers
+
+pub at_clock : LinesHaveTheirCharacters → (c : State) → HaveTheirBits c.registers → c.character ≡ 0 → (n : ℕ) → AtClock c n
+at_clock lines c bits begins n =
+    let r = c.registers in
+    let x = clocks n c in
+    let k = kept x in
+    let regs : (start_leaves x).registers ≡ r = start_keeps x ∙ keeps n c in
+    let whole : (r.vertical_total + 1) * row_lines r ≡ r.vertical_total * row_lines r + row_lines r = grind arith in
+    let some : 0 < frame_lines r = omega (arith, whole) in
+    record {
+      registers = regs;
+      column = ap (λ (e : State). e.character) k.1.1 ∙ characters lines c bits begins n;
+      total = ap (λ (q : Registers). q.horizontal_total) regs;
+      some = some;
+      digits = ap (λ k. (n + 1) % k) (mul_comm (line_characters r) (frame_lines r)) ∙ mod-mul (n + 1) some (omega arith);
+    }
+
+-- a clock that is not the last of its line ends neither the line nor the frame
+pub not_last : (c : State) (n : ℕ) → AtClock c n → (n + 1) % line_characters c.registers ≡ n % line_characters c.registers + 1 →
+    n % line_characters c.registers + 1 < line_characters c.registers →
+    (ends_line (start_leaves (clocks n c)) ≡ false) × (((n + 1) % (line_characters c.registers * frame_lines c.registers) == 0) ≡ false)
+not_last c n at up inner =
+    let d = start_leaves (clocks n c) in
+    let column = at.column in
+    let total = at.total in
+    let digits = at.digits in (
+      test_false d.character d.registers.horizontal_total (λ same. omega (arith, same, column, total, inner)),
+      test_false ((n + 1) % (line_characters c.registers * frame_lines c.registers)) 0 (λ none. omega (arith, none, digits, up)),
+    )
+
 -- ---- The rasters of a row.
 
 pub last_of : (b : Bool) (m k : ℕ) → k + 1 ≡ (if b then m - m % 2 else m) / (if b then 2 else 1) + 1 →
@@ -244,18 +282,17 @@ walk lines frames c bits begins (suc n) =
     let x = clocks n c in
     let d = start_leaves x in
     let g : n + 1 ≡ suc n = add-one n in
-    let regs : d.registers ≡ r = start_keeps x ∙ keeps n c in
+    let clock = at_clock lines c bits begins.character n in
+    let regs = clock.registers in
+    let column = clock.column in
+    let total = clock.total in
+    let some = clock.some in
+    let digits = clock.digits in
     let here : IsAt r (line_at r n) d = let k = kept x in subst (IsAt r (line_at r n)) (sym k.1.1) (walk lines frames c bits begins n) in
-    let column : d.character ≡ n % w = (let k = kept x in ap (λ (e : State). e.character) k.1.1) ∙ characters lines c bits begins.character n in
-    let total : d.registers.horizontal_total ≡ r.horizontal_total = ap (λ (q : Registers). q.horizontal_total) regs in
-    let some : 0 < f = let whole : (r.vertical_total + 1) * row_lines r ≡ r.vertical_total * row_lines r + row_lines r = grind arith in omega (arith, whole) in
     let law : ends_frame d ≡ ((n + 1) % (w * f) == 0) = frames c n bits begins in
-    let digits : (n + 1) % (w * f) ≡ (n + 1) / w % f * w + (n + 1) % w =
-    ap (λ k. (n + 1) % k) (mul_comm w f) ∙ mod-mul (n + 1) some (omega arith) in
     subst (IsAt r (line_at r (suc n))) (sym (clocks_behind n c)) (elim (next_place w n (omega arith)) [
       | inr o ↦
-          let inner : n % w + 1 < w = o.1.1 in
-          let test : ends_line d ≡ false = test_false d.character d.registers.horizontal_total (λ same. omega (arith, same, column, total, inner)) in
+          let test : ends_line d ≡ false = (not_last c n clock o.0 o.1.1).0 in
           let same : line_at r n ≡ line_at r (suc n) = ap (λ k. k % f) (sym o.1.0 ∙ ap (λ k. k / w) g) in
           at_line r (count_leaves d) (line_at r n) (line_at r (suc n)) same (subst (IsAt r (line_at r n)) (sym (inner_is d test)) here)
       | inl o ↦

@@ -17,7 +17,7 @@ use Rattle.wd1770.specs.Sectors.{search_of, places_into, is_byte_place, byte_of_
 use Rattle.wd1770.specs.Step.{work_leaves}
 use Rattle.wd1770.specs.History.{Event, history, count_steps}
 use Rattle.law_chips.specs.SectorReads.{sector_steps, bytes_come, AllRead, bytes_taken, IsAtSector, HasBytes, command_behind, SectorIsRead}
-use Rattle.law_chips.proofs.Accesses.{reading, runs}
+use Rattle.law_chips.proofs.Accesses.{reading, runs_all}
 use Rattle.law_chips.proofs.Streams.{Stream, Next, GoesOn}
 use Rattle.law_chips.proofs.Streams.{Taking, IsGiven, takes_step, takes_access}
 
@@ -207,10 +207,9 @@ from_start : (s : State) (t : Transfer) (k : ℕ) (d : Image) (bytes : List ℕ)
     t.writes ≡ false → AllRead events → count_steps events ≤ sector_steps → Taking (of_sector t k) bytes s (history events s) (count_steps events) (bytes_taken s events)
 from_start s t k d bytes events at has reads all most =
     let f = of_sector t k in
-    let same : 0 + count_steps events ≡ count_steps events = omega arith in
-    subst (λ n. Taking f bytes s (history events s) n (bytes_taken s events)) same
-    (runs reading (Taking f bytes s) 18432 (λ x m got inside is. takes_step f bytes s x m got (is_given s t k d bytes has reads) inside is)
-    (λ e x m got access may acc is. takes_access f bytes s e x m got may acc (λ over. acc.command ∙ over) is) events s 0 [] all (omega (arith, most)) (at_start s t k bytes at))
+    runs_all reading (Taking f bytes s) 18432 (λ x m got inside is. takes_step f bytes s x m got (is_given s t k d bytes has reads) inside is)
+    (λ e x m got access may acc is. takes_access f bytes s e x m got may acc (λ over. acc.command ∙ over) is)
+    (count_steps events) events s all refl most (at_start s t k bytes at)
 
 pub sector_read : SectorIsRead
 sector_read = record {

@@ -4,8 +4,7 @@ use Rattle.std.proofs.Common.{inl, inr, true≢false}
 use Rattle.std.specs.Prelude.{is_none, if◌then◌else◌}
 use Rattle.std.proofs.lemmas.Bool.{cases_lt, cases_eq, eqb-true, eq-eqb}
 use Rattle.std.proofs.lemmas.Nat.{div-add-mod', le-div}
-use Rattle.std.proofs.Math.Nat.{zero-mod, zero-div, div-mul-le_self, mul_comm}
-use Rattle.std.proofs.Math.Arith.{mod-mul}
+use Rattle.std.proofs.Math.Nat.{zero-mod, zero-div, div-mul-le_self}
 use Rattle.beeb_bits.specs.Bits.{bit}
 use Rattle.crtc6845.specs.declared.Beam.{Beam}
 use Rattle.crtc6845.specs.State.{Registers, State as Crtc}
@@ -19,8 +18,7 @@ use Rattle.raster.specs.State.{State}
 use Rattle.law_chips.specs.ShownBytes.{char_clocks, CharactersAreShown, MakesFrames}
 use Rattle.law_chips.specs.TeletextFrames.{frame_index, IsAbove, Doubles, is_lower, LowerRowsFollow}
 use Rattle.law_chips.proofs.BeamPlaces.{next_place, test_true, test_false}
-use Rattle.law_chips.proofs.CrtcRuns.{start_keeps}
-use Rattle.law_chips.proofs.Rasters.{keeps, kept, characters, last_of, HasNext, next_of, InRow, IsAt, walk}
+use Rattle.law_chips.proofs.Rasters.{at_clock, not_last, kept, last_of, HasNext, next_of, InRow, IsAt, walk}
 use Rattle.law_chips.proofs.PageDots.{told_code, told, codes_at, bottom_kept, here}
 
 -- what the laws of the 6845 say
@@ -89,6 +87,9 @@ row_end_in c d l regs bits end goes at =
           inl (o.1.0, ends_row_by (ends_line d) (is_none d.adjust) (is_row_done d) (is_last_line d) true true false false end none not_done goes)
     ]
 
+no_row_end : (d : Crtc) → ends_line d ≡ false → ends_row d ≡ false
+no_row_end d is = rw is refl
+
 and_true : (a b : Bool) → a ≡ true → (a && b) ≡ b
 and_true true b e = refl
 and_true false b e = absurd (true≢false (sym e))
@@ -104,25 +105,23 @@ goes facts c makes n =
     let x = clocks n c in
     let d = start_leaves x in
     let k = kept x in
-    let some = frame_some r in
-    let regs : d.registers ≡ r = start_keeps x ∙ keeps n c in
-    let column : d.character ≡ n % w = ap (λ (e : Crtc). e.character) k.1.1 ∙ characters facts.lines c makes.bits makes.begins.character n in
-    let total : d.registers.horizontal_total ≡ r.horizontal_total = ap (λ (q : Registers). q.horizontal_total) regs in
+    let clock = at_clock facts.lines c makes.bits makes.begins.character n in
+    let some = clock.some in
+    let regs = clock.registers in
+    let column = clock.column in
+    let total = clock.total in
+    let digits = clock.digits in
     let at : IsAt r (line_at r n) d = subst (IsAt r (line_at r n)) (sym k.1.1) (walk facts.lines facts.frames c makes.bits makes.begins n) in
     let law : (tells n c).restart ≡ ((n + 1) % (w * f) == 0) = facts.frames c n makes.bits makes.begins in
-    let digits : (n + 1) % (w * f) ≡ (n + 1) / w % f * w + (n + 1) % w =
-    ap (λ k. (n + 1) % k) (mul_comm w f) ∙ mod-mul (n + 1) some (omega arith) in
     elim (next_place w n (omega arith)) [
       | inr o ↦
-          let inner : n % w + 1 < w = o.1.1 in
           let line : (n + 1) / w ≡ n / w = o.1.0 in
-          let up : (n + 1) % w ≡ n % w + 1 = o.0 in
-          let test : ends_line d ≡ false = test_false d.character d.registers.horizontal_total (λ same. omega (arith, same, column, total, inner)) in
+          let inner = not_last c n clock o.0 o.1.1 in
           inl (inl (record {
             frame = ap (λ i. i / f) line;
             row = ap (λ i. i % f / h) line;
-            restart = law ∙ test_false ((n + 1) % (w * f)) 0 (λ none. omega (arith, none, digits, up));
-            row_end = ends_row_by (ends_line d) (is_none d.adjust) (is_row_done d) (is_last_line d) false (is_none d.adjust) (is_row_done d) (is_last_line d) test refl refl refl;
+            restart = law ∙ inner.1;
+            row_end = no_row_end d inner.0;
           }))
       | inl o ↦
           let end : n % w + 1 ≡ w = o.1.1 in
@@ -290,21 +289,8 @@ line_follows facts c makes n inner =
       | inl o ↦
           absurd (true≢false (sym (facts.lines c (n + 1) makes.bits makes.begins.character ∙ test_true ((n + 1) % w) 0 o.0) ∙ inner))
       | inr o ↦
-          let f = frame_lines r in
-          let up : (n + 1) % w ≡ n % w + 1 = o.0 in
-          let short : n % w + 1 < w = o.1.1 in
-          let x = clocks n c in
-          let d = start_leaves x in
-          let k = kept x in
-          let regs : d.registers ≡ r = start_keeps x ∙ keeps n c in
-          let column : d.character ≡ n % w = ap (λ (e : Crtc). e.character) k.1.1 ∙ characters facts.lines c makes.bits makes.begins.character n in
-          let total : d.registers.horizontal_total ≡ r.horizontal_total = ap (λ (q : Registers). q.horizontal_total) regs in
-          let digits : (n + 1) % (w * f) ≡ (n + 1) / w % f * w + (n + 1) % w =
-          ap (λ k. (n + 1) % k) (mul_comm w f) ∙ mod-mul (n + 1) (frame_some r) (omega arith) in
-          let test : ends_line d ≡ false = test_false d.character d.registers.horizontal_total (λ same. omega (arith, same, column, total, short)) in (
-            facts.frames c n makes.bits makes.begins ∙ test_false ((n + 1) % (w * f)) 0 (λ none. omega (arith, none, digits, up)),
-            ends_row_by (ends_line d) (is_none d.adjust) (is_row_done d) (is_last_line d) false (is_none d.adjust) (is_row_done d) (is_last_line d) test refl refl refl,
-          )
+          let inner = not_last c n (at_clock facts.lines c makes.bits makes.begins.character n) o.0 o.1.1 in
+          (facts.frames c n makes.bits makes.begins ∙ inner.1, no_row_end (start_leaves (clocks n c)) inner.0)
     ]
 
 bool_is : (b : Bool) → (b ≡ true) ⊎ (b ≡ false)

@@ -19,7 +19,7 @@ use Rattle.law_chips.specs.Searches.{Waits, AllWait, has_match}
 use Rattle.law_chips.specs.SeveralSectors.{Round, round_end, bytes_of, IsTimely, bytes_from, IsReading, Gives, SectorsFollow, AllGive, GivesInTime, IsWriting}
 use Rattle.law_chips.specs.SeveralSectors.{HasAll, IsOutside, SectorsAreWritten}
 use Rattle.law_chips.proofs.Reading.{same_disc, at_each, moved_on, worked_is, reads_is, behind_bytes, of_sector, is_given, at_start}
-use Rattle.law_chips.proofs.Accesses.{IsAccess, waiting, waits_read, runs, Program, writing, writes_let, lets_go}
+use Rattle.law_chips.proofs.Accesses.{IsAccess, waiting, waits_read, runs_all, Program, writing, writes_let, lets_go}
 use Rattle.law_chips.proofs.Streams.{Taking, takes_step, takes_access}
 use Rattle.law_chips.proofs.Search.{search_found}
 use Rattle.law_chips.proofs.Waiting.{read_makes}
@@ -185,10 +185,8 @@ one s t d round is few timely =
     let lost = found.lost ∙ is.lost in
     let end = served s1 t k round.serves at few lost is.reads all timely.count timely.in_time in
     let f = of_sector t k in
-    let none_first : 0 + count_steps round.serves ≡ 18432 = omega (arith, timely.count) in
     let both : Taking f bytes s1 s2 18432 (bytes_taken s1 round.serves) × Kept s1 s2 18432 =
-    subst (λ n. Taking f bytes s1 s2 n (bytes_taken s1 round.serves) × Kept s1 s2 n) none_first
-    (runs waiting (λ x m got. Taking f bytes s1 x m got × Kept s1 x m) 18432
+    runs_all waiting (λ x m got. Taking f bytes s1 x m got × Kept s1 x m) 18432
     (λ x m got inside both. (
       takes_step f bytes s1 x m got (is_given s1 t k d bytes has is.reads) inside both.0,
       kept_step t k (reading_at t k) (reading_leaves t k) few is.multiple s1 x m inside (both.0.going inside) both.0.angle
@@ -197,7 +195,7 @@ one s t d round is few timely =
     (λ e x m got access may acc both. (
       takes_access f bytes s1 e x m got (waits_read e may) acc (λ over. acc.command ∙ over) both.0,
       kept_access s1 e x m access (waits_give e may) both.1,
-    )) round.serves s1 0 [] timely.read (omega (arith, timely.count)) (at_start s1 t k bytes at, kept_first s1)) in
+    )) 18432 round.serves s1 timely.read timely.count (omega arith) (at_start s1 t k bytes at, kept_first s1) in
     let inside = both.0 in
     let kept = both.1 in
     let next_one : (s1.sector + 1) % 256 ≡ k + 1 = ap (λ n. (n + 1) % 256) found.sector ∙ let e : (k + 1) % 256 ≡ k + 1 = omega (arith, few) in e in
@@ -294,9 +292,7 @@ gives_all : (back : IsReadBack) (others : OthersStay) (s : State) (d : Image) (t
     Both s d t k (history events s) 18432 (bytes_given events)
 gives_all back others s d t k events few has writes many at disc written gives count kept =
     let Within : State → ℕ → List ℕ → Type 0 = λ x m bytes. x.lost_data ≡ false → Both s d t k x m bytes in
-    let none_first : 0 + count_steps events ≡ 18432 = omega (arith, count) in
-    subst (λ n. Both s d t k (history events s) n (bytes_given events)) none_first
-    (runs giving Within 18432
+    runs_all giving Within 18432
     (λ x m bytes inside b lost. let both = b (kept_before x lost) in record {
       inside = write_stepped back others d t k x m bytes few has writes inside both.inside lost;
       kept =
@@ -307,7 +303,7 @@ gives_all back others s d t k events few has writes many at disc written gives c
       inside = write_accessed d t k e x m bytes access may.0 acc both.inside;
       kept = kept_access s e x m access may.1 both.kept;
     })
-    events s 0 [] (written, gives) (omega (arith, count)) (λ l. record { inside = begins d t k s at disc; kept = kept_first s }) kept)
+    18432 events s (written, gives) count (omega arith) (λ l. record { inside = begins d t k s at disc; kept = kept_first s }) kept
 
 record Stored (s : State) (t : Transfer) (d : Image) (round : Round) : Type 0 where
   pub now : Image

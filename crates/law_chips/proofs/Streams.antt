@@ -14,7 +14,7 @@ use Rattle.wd1770.specs.Step.{work_leaves, step}
 use Rattle.wd1770.specs.History.{Event, happens, history, count_steps, microsecond, read, write, latch}
 use Rattle.law_chips.specs.LostData.{AllLetGo, place_if, accesses}
 use Rattle.law_chips.proofs.Losing.{kept_before}
-use Rattle.law_chips.proofs.Accesses.{Accessed, is_data, letting_go, runs}
+use Rattle.law_chips.proofs.Accesses.{Accessed, is_data, letting_go, runs_all}
 use Rattle.wd1770.specs.Registers.{answer_of}
 use Rattle.law_chips.specs.SectorReads.{Reads, taken_by, waiting_byte}
 
@@ -260,14 +260,8 @@ module _ (f : Stream) where
   accessed false s x m ps acc (inr is) =
       subst (Either x m) (sym (append-nil ps)) (inr (record { lost = acc.lost ∙ is.lost; byte = is.byte; inside = is.inside; over = is.over; missed = is.missed }))
 
-  pub run : GoesOn → 1 ≤ f.first → (events : List Event) (s : State) (m : ℕ) (ps : List ℕ) →
-      AllLetGo events → m + count_steps events ≤ 64 * f.last → Either s m ps → Either (history events s) (m + count_steps events) (ps ++ accesses m events)
-  run goes some events s m ps all most is =
-      runs letting_go Either (64 * f.last) (λ s m ps inside is. stepped s m ps goes some inside is) (λ e s m ps access may acc is. accessed (is_data e) s (happens e s) m ps acc is)
-      events s m ps all most is
-
   -- where no byte has come
-  pub begins : (s : State) → 1 ≤ f.first → s.command ≡ f.command → s.angle ≡ Some f.base → s.lost_data ≡ false → s.drq ≡ false →
+  begins : (s : State) → 1 ≤ f.first → s.command ≡ f.command → s.angle ≡ Some f.base → s.lost_data ≡ false → s.drq ≡ false →
       Fine s 0 []
   unfolding has_place
   begins s some command angle kept off = record {
@@ -279,6 +273,13 @@ module _ (f : Stream) where
     ahead = λ p more. refl;
     last_taken = λ over had. off;
   }
+
+  pub run : GoesOn → 1 ≤ f.first → (events : List Event) (s : State) → AllLetGo events → count_steps events ≤ 64 * f.last →
+      s.command ≡ f.command → s.angle ≡ Some f.base → s.lost_data ≡ false → s.drq ≡ false → Either (history events s) (count_steps events) (accesses 0 events)
+  run goes some events s all most command angle kept off =
+      runs_all letting_go Either (64 * f.last) (λ s m ps inside is. stepped s m ps goes some inside is)
+      (λ e s m ps access may acc is. accessed (is_data e) s (happens e s) m ps acc is)
+      (count_steps events) events s all refl most (inl (begins s some command angle kept off))
 
 -- how many bytes have come m steps after the beginning
 abbrev pub come : Stream → ℕ → ℕ

@@ -26,7 +26,7 @@ use Rattle.law_chips.specs.SectorWrites.{Writes, AllWritten, given_by, bytes_giv
 use Rattle.law_chips.proofs.Reading.{same_disc, moved_on, next_place, worked_is, at_each}
 use Rattle.law_chips.proofs.Losing.{kept_before}
 use Rattle.law_chips.proofs.Streams.{bool_cases}
-use Rattle.law_chips.proofs.Accesses.{Accessed, IsAccess, is_data, writing, runs}
+use Rattle.law_chips.proofs.Accesses.{Accessed, IsAccess, is_data, writing, runs_all}
 
 -- how many bytes have been written m steps after the sector was found, and for how many DRQ was set
 pub gone : ℕ → ℕ
@@ -394,12 +394,10 @@ from_start : (back : IsReadBack) (others : OthersStay) (s : State) (t : Transfer
     AllWritten s events → count_steps events ≡ sector_steps → (history events s).lost_data ≡ false → Inside d t k (history events s) 18432 (bytes_given events)
 from_start back others s t k d events at here has writes all count kept =
     let few : k < 10 = ltb-true k 10 (and_parts _ _ has).1 in
-    let sum : 0 + count_steps events ≡ 18432 = omega (arith, count) in
-    subst (λ n. Inside d t k (history events s) n (bytes_given events)) sum
-    (runs writing (Within d t k) 18432
+    runs_all writing (Within d t k) 18432
     (λ x m bytes inside is lost. stepped back others d t k x m bytes few has writes inside (is (kept_before x lost)) lost)
     (λ e x m bytes access may acc is lost. accessed d t k e x m bytes access may acc (is (sym acc.lost ∙ lost)))
-    events s 0 [] all (omega (arith, count)) (λ h. begins d t k s at here) kept)
+    18432 events s all count (omega arith) (λ h. begins d t k s at here) kept
 
 -- the sector as it is then
 pub whole : (d : Image) (t : Transfer) (k : ℕ) (s : State) (bytes : List ℕ) → has_sector d.kind t.target.side t.target.head k ≡ true →
