@@ -21,7 +21,7 @@ use Rattle.law_chips.specs.Searches.{Waits, AllWait}
 use Rattle.law_chips.specs.LostData.{accesses}
 use Rattle.law_chips.specs.AddressReads.{address_steps, IsAtAddress, is_taken, ComesNext, IsAsked, HasAddress, AddressIsRead}
 use Rattle.law_chips.proofs.Reading.{same_disc, moved_on, next_place, at_each}
-use Rattle.law_chips.proofs.Accesses.{Accessed, IsAccess, is_data, waiting, waits_read, lets_go, runs_all}
+use Rattle.law_chips.proofs.Streams.{Accessed, IsAccess, is_data, waiting, waits_read, lets_go, runs_all}
 use Rattle.law_chips.proofs.Streams.{has_place, Stream, Next, GoesOn, Either, run}
 use Rattle.law_chips.proofs.Streams.{Taking, IsGiven, takes_step, takes_access}
 use Rattle.law_chips.proofs.Begun.{begun}

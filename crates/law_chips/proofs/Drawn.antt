@@ -17,7 +17,7 @@ use Rattle.law_chips.specs.ShownBytes.{char_clocks, sync_clock, beam_dot, beam_l
 use Rattle.law_chips.specs.ShownBytes.{byte_at, shown_colour, cursor_before, is_marked_at, colour_at, CharactersAreShown, FramesShowTheirBytes, is_shown_at}
 use Rattle.law_chips.specs.ShownBytes.{has_dot, frame_start, RestIsBlack}
 use Rattle.law_chips.proofs.BeamPlaces.{added, test_true, test_false, differs, Inside, inside, dot_index, IsApart, length_kept, others, drawn_dot}
-use Rattle.law_chips.proofs.Showing.{frame_at, clock, dots_at, same_ula}
+use Rattle.law_chips.proofs.BeamWalk.{frame_at, clock, dots_at, same_ula}
 use Rattle.law_chips.proofs.BeamWalk.{Laws, place_in, eight_or_sixteen, sync_in_frame, frame_sync, column_walk, line_walk}
 use Rattle.std.specs.List.{range_with_len}
 use Rattle.std.proofs.lemmas.List.FromFn.{length-map-range_with_len, get_or-map-range_with_len}

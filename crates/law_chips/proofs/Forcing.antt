@@ -14,7 +14,7 @@ use Rattle.wd1770.specs.History.{Event, microsecond, read, write, latch, history
 use Rattle.law_chips.specs.LostData.{AllLetGo}
 use Rattle.law_chips.specs.Interrupts.{status_is_read, LeavesRest, InterruptsAreForced}
 use Rattle.law_chips.proofs.Waiting.{read_makes}
-use Rattle.law_chips.proofs.Accesses.{of_three}
+use Rattle.law_chips.proofs.Streams.{of_three}
 
 forced : (s : State) (v : ℕ) → is_reset s.latch ≡ false → v / 16 ≡ 0xD → write_leaves 0 v s ≡ count_leaves (is_asking s) (force_leaves v s)
 forced s v live is = rw (live, eq-eqb (v / 16) 0xD is) refl

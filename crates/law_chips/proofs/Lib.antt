@@ -6,9 +6,7 @@ pub mod Reading
 pub mod Search
 pub mod Losing
 pub mod Streams
-pub mod Accesses
 pub mod Writing
-pub mod LateWrites
 pub mod LostBytes
 pub mod Waiting
 pub mod Begun
@@ -24,7 +22,6 @@ pub mod Ports
 pub mod Cells
 pub mod Colouring
 pub mod BeamPlaces
-pub mod Showing
 pub mod BeamWalk
 pub mod Drawn
 pub mod Rasters

@@ -27,7 +27,7 @@ use Rattle.law_chips.specs.ShownBytes.{char_clocks, character_address, raster_at
 use Rattle.law_chips.specs.TeletextCells.{pixels_of, CellsShowTheirCodes}
 use Rattle.law_chips.specs.TeletextFrames.{code_at, codes_before, cell_at, FramesShowTheirCells, RestOfPageIsBlack}
 use Rattle.law_chips.proofs.BeamPlaces.{next_place, test_true, test_false}
-use Rattle.law_chips.proofs.Showing.{frame_at, by_itself, same_ula}
+use Rattle.law_chips.proofs.BeamWalk.{frame_at, by_itself, same_ula}
 use Rattle.law_chips.proofs.BeamWalk.{Laws, eight_or_sixteen}
 use Rattle.law_chips.proofs.Drawn.{cursor_was}
 use Rattle.law_chips.proofs.Drawn.{Shows, finished_dot}

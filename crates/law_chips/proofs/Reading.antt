@@ -17,7 +17,7 @@ use Rattle.wd1770.specs.Sectors.{search_of, places_into, is_byte_place, byte_of_
 use Rattle.wd1770.specs.Step.{work_leaves}
 use Rattle.wd1770.specs.History.{Event, history, count_steps}
 use Rattle.law_chips.specs.SectorReads.{sector_steps, bytes_come, AllRead, bytes_taken, IsAtSector, HasBytes, command_behind, SectorIsRead}
-use Rattle.law_chips.proofs.Accesses.{reading, runs_all}
+use Rattle.law_chips.proofs.Streams.{reading, runs_all}
 use Rattle.law_chips.proofs.Streams.{Stream, Next, GoesOn}
 use Rattle.law_chips.proofs.Streams.{Taking, IsGiven, takes_step, takes_access}
 

@@ -19,7 +19,7 @@ use Rattle.law_chips.specs.Searches.{Waits, AllWait, has_match}
 use Rattle.law_chips.specs.SeveralSectors.{Round, round_end, bytes_of, IsTimely, bytes_from, IsReading, Gives, SectorsFollow, AllGive, GivesInTime, IsWriting}
 use Rattle.law_chips.specs.SeveralSectors.{HasAll, IsOutside, SectorsAreWritten}
 use Rattle.law_chips.proofs.Reading.{same_disc, at_each, moved_on, worked_is, reads_is, behind_bytes, of_sector, is_given, at_start}
-use Rattle.law_chips.proofs.Accesses.{IsAccess, waiting, waits_read, runs_all, Program, writing, writes_let, lets_go}
+use Rattle.law_chips.proofs.Streams.{IsAccess, waiting, waits_read, runs_all, Program, writing, writes_let, lets_go}
 use Rattle.law_chips.proofs.Streams.{Taking, takes_step, takes_access}
 use Rattle.law_chips.proofs.Search.{search_found}
 use Rattle.law_chips.proofs.Waiting.{read_makes}
@@ -33,7 +33,7 @@ use Rattle.wd1770.specs.declared.drive.Target.{Target}
 use Rattle.law_chips.specs.SectorWrites.{Writes, AllWritten, given_by, bytes_given}
 use Rattle.law_chips.proofs.Losing.{kept_before}
 use Rattle.law_chips.proofs.Writing.{at_byte, Inside, w_end, writes_is, stepped as write_stepped, accessed as write_accessed, begins, whole as write_whole, off_at_end}
-use Rattle.law_chips.proofs.LateWrites.{writes_kept}
+use Rattle.law_chips.proofs.LostBytes.{writes_kept}
 
 -- ---- The registers.
 

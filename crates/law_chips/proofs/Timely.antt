@@ -11,7 +11,7 @@ use Rattle.wd1770.specs.History.{Event, history, count_steps}
 use Rattle.law_chips.specs.SectorReads.{sector_steps, AllRead, bytes_taken, IsAtSector, HasBytes, command_behind}
 use Rattle.law_chips.specs.InTime.{IsInTime, found_after, ReadsInTime, WritesInTime}
 use Rattle.law_chips.proofs.Reading.{number_small, sector_read}
-use Rattle.law_chips.proofs.Accesses.{reading, lets_go, writing}
+use Rattle.law_chips.proofs.Streams.{reading, lets_go, writing}
 use Rattle.law_chips.proofs.Streams.{has_place}
 use Rattle.law_chips.proofs.LostBytes.{after_reads}
 use Rattle.law_chips.proofs.Begun.{is_read, starts, is_write}
@@ -19,7 +19,7 @@ use Rattle.disc_image.specs.Laws.{IsReadBack, OthersStay}
 use Rattle.wd1770.specs.Select.{disc_in}
 use Rattle.law_chips.specs.SectorWrites.{AllWritten, bytes_given, IsStored}
 use Rattle.law_chips.proofs.Writing.{sector_written}
-use Rattle.law_chips.proofs.LateWrites.{writes_kept}
+use Rattle.law_chips.proofs.LostBytes.{writes_kept}
 
 -- nothing is lost, and no byte waits
 pub record Served (s : State) : Type 0 where

@@ -26,7 +26,7 @@ use Rattle.law_chips.specs.SectorWrites.{Writes, AllWritten, given_by, bytes_giv
 use Rattle.law_chips.proofs.Reading.{same_disc, moved_on, next_place, worked_is, at_each}
 use Rattle.law_chips.proofs.Losing.{kept_before}
 use Rattle.law_chips.proofs.Streams.{bool_cases}
-use Rattle.law_chips.proofs.Accesses.{Accessed, IsAccess, is_data, writing, runs_all}
+use Rattle.law_chips.proofs.Streams.{Accessed, IsAccess, is_data, writing, runs_all}
 
 -- how many bytes have been written m steps after the sector was found, and for how many DRQ was set
 pub gone : ℕ → ℕ
