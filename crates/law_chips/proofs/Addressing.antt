@@ -23,7 +23,7 @@ use Rattle.law_chips.specs.AddressReads.{address_steps, IsAtAddress, is_taken, C
 use Rattle.law_chips.proofs.Reading.{same_disc, moved_on, next_place, at_each}
 use Rattle.law_chips.proofs.Streams.{Accessed, IsAccess, is_data, waiting, waits_read, lets_go, runs_all}
 use Rattle.law_chips.proofs.Streams.{has_place, Stream, Next, GoesOn, Either, run}
-use Rattle.law_chips.proofs.Streams.{Taking, IsGiven, takes_step, takes_access}
+use Rattle.law_chips.proofs.Streams.{Taking, IsGiven, takes_step, takes_access, takes_first}
 use Rattle.law_chips.proofs.Begun.{begun}
 use Rattle.law_chips.proofs.Waiting.{read_makes, small_angle, Waited, CountsFrom, waits_from}
 
@@ -149,17 +149,9 @@ takes s target k events at few all most =
       gives = λ x i a b. refl;
       counted = λ b x over. over;
     } in
-    let first : Taking f bytes s s 0 [] = record {
-      going = λ h. at.command;
-      over = λ h. absurd (omega (arith, h));
-      angle = at.angle ∙ ap (λ (n : ℕ). Some n) (let e : 64 * (312 * k) ≡ 64 * (312 * k) + 0 = omega arith in e);
-      drive0 = refl;
-      drive1 = refl;
-      taken = λ kept. ap (λ b. if b then s.byte ∷ [] else []) at.drq;
-    } in
     runs_all waiting (Taking f bytes s) 896 (λ x m got inside is. takes_step f bytes s x m got given inside is)
     (λ e x m got access may acc is. takes_access f bytes s e x m got (waits_read e may) acc (over_kept target e x access may acc) is)
-    (count_steps events) events s all refl most first
+    (count_steps events) events s all refl most (takes_first f bytes s (omega arith) at.command at.angle at.drq)
 
 -- DRQ is off at the end, and nothing was lost
 record Served (s : State) : Type 0 where

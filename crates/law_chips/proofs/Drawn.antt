@@ -16,7 +16,7 @@ use Rattle.raster.specs.State.{State}
 use Rattle.law_chips.specs.ShownBytes.{char_clocks, sync_clock, beam_dot, beam_line, finish_clock, MakesFrames, IsUnderWay, character_address, raster_at}
 use Rattle.law_chips.specs.ShownBytes.{byte_at, shown_colour, cursor_before, is_marked_at, colour_at, CharactersAreShown, FramesShowTheirBytes, is_shown_at}
 use Rattle.law_chips.specs.ShownBytes.{has_dot, frame_start, RestIsBlack}
-use Rattle.law_chips.proofs.BeamPlaces.{added, test_true, test_false, differs, Inside, inside, dot_index, IsApart, length_kept, others, drawn_dot}
+use Rattle.law_chips.proofs.BeamWalk.{added, test_true, test_false, differs, Inside, inside, dot_index, IsApart, length_kept, others, drawn_dot}
 use Rattle.law_chips.proofs.BeamWalk.{frame_at, clock, dots_at, same_ula}
 use Rattle.law_chips.proofs.BeamWalk.{Laws, place_in, eight_or_sixteen, sync_in_frame, frame_sync, column_walk, line_walk}
 use Rattle.std.specs.List.{range_with_len}
@@ -51,27 +51,6 @@ drawn_length : (is : Bool) (left x y : ℕ) (dots frame : List ℕ) → length f
     length (if is then dots_set left x y dots frame else frame) ≡ 163840
 drawn_length true left x y dots frame long = length_kept left x y dots frame ∙ long
 drawn_length false left x y dots frame long = long
-
-frame_length : Laws → (left : ℕ) (ram : ℕ → List ℕ) (size : ℕ → ℕ) (font : Font) (s : State) (dots : ℕ → List ℕ) → MakesFrames s.crtc →
-    Shows left ram size font s dots → (t : ℕ) →
-    length (frame_at (tells (sync_clock s.crtc.registers + t) s.crtc) (char_clocks ram size font (sync_clock s.crtc.registers + t) s)) ≡ 163840
-frame_length laws left ram size font s dots makes shows zero =
-    let n = sync_clock s.crtc.registers in
-    let f = frame_clocks s.crtc.registers in
-    ap (λ q. length (if q then black else (char_clocks ram size font (n + 0) s).working))
-    (frame_sync laws s.crtc makes 0 ∙ test_true (0 % f) 0 (zero-mod f))
-    ∙ black_length
-frame_length laws left ram size font s dots makes shows (suc t) =
-    let n = sync_clock s.crtc.registers + t in
-    let e : sync_clock s.crtc.registers + suc t ≡ suc n = omega arith in
-    let b = tells n s.crtc in
-    let x = char_clocks ram size font n s in
-    let long : length (char_clocks ram size font (suc n) s).working ≡ 163840 =
-    ap length (shows.working n)
-    ∙ drawn_length b.shown left (place_in ram size font s n).x (place_in ram size font s n).y (dots n) (frame_at b x)
-    (frame_length laws left ram size font s dots makes shows t) in
-    begun_length (tells (sync_clock s.crtc.registers + suc t) s.crtc).frame_end _
-    (ap (λ k. length (char_clocks ram size font k s).working) e ∙ long)
 
 -- ---- A dot of the frame that is drawn.
 
@@ -116,36 +95,6 @@ pub record IsClock (r : crtc.Registers) (n t a : ℕ) : Type 0 where
   pub vertical : sync_clock r + t ≡ n
   pub horizontal : r.horizontal_sync_position + a ≡ n
 
--- the dot is drawn
-drawn_now : Laws → (left : ℕ) (ram : ℕ → List ℕ) (size : ℕ → ℕ) (font : Font) (s : State) (dots : ℕ → List ℕ) (n t a d : ℕ) → MakesFrames s.crtc →
-    Shows left ram size font s dots → IsClock s.crtc.registers n t a → (tells n s.crtc).shown ≡ true → d < dots_of s.ula.control →
-    let p = a % line_characters s.crtc.registers * dots_of s.ula.control + d in
-    let q = t % frame_clocks s.crtc.registers / line_characters s.crtc.registers in
-    is_in_frame left p q ≡ true →
-    slice_index (char_clocks ram size font (suc n) s).working (dot_index left p q) ≡ slice_index (dots n) d
-drawn_now laws left ram size font s dots n t a d makes shows at is within here =
-    let w = line_characters s.crtc.registers in
-    let p = a % w * dots_of s.ula.control + d in
-    let q = t % frame_clocks s.crtc.registers / w in
-    let bottom : q < 296 = (inside left p q here).bottom in
-    let b = tells n s.crtc in
-    let x = char_clocks ram size font n s in
-    let place = place_in ram size font s n in
-    let frame = frame_at b x in
-    let column : place.x ≡ a % w * dots_of s.ula.control =
-    ap (λ k. (place_in ram size font s k).x) (sym at.horizontal) ∙ column_walk laws ram size font s makes a in
-    let level : place.y ≡ q =
-    ap (λ k. (place_in ram size font s k).y) (sym at.vertical) ∙ line_walk laws ram size font s makes t ∙ omega (arith, bottom) in
-    let long : length frame ≡ 163840 =
-    ap (λ k. length (frame_at (tells k s.crtc) (char_clocks ram size font k s))) (sym at.vertical)
-    ∙ frame_length laws left ram size font s dots makes shows t in
-    let many : length (dots n) ≡ dots_of s.ula.control = shows.many n in
-    ap (λ xs. slice_index xs (dot_index left p q)) (shows.working n)
-    ∙ ap (λ k. slice_index (if k then dots_set left place.x place.y (dots n) frame else frame) (dot_index left p q)) is
-    ∙ ap (λ k. slice_index (dots_set left k place.y (dots n) frame) (dot_index left p q)) column
-    ∙ ap (λ k. slice_index (dots_set left (a % w * dots_of s.ula.control) k (dots n) frame) (dot_index left p q)) level
-    ∙ drawn_dot left (a % w * dots_of s.ula.control) q d (dots n) frame (omega (arith, many, within)) here long
-
 -- no sync is within a frame
 pub no_sync : Laws → (s : State) (t j : ℕ) → MakesFrames s.crtc → t % frame_clocks s.crtc.registers + suc j < frame_clocks s.crtc.registers →
     ((tells (sync_clock s.crtc.registers + (t + suc j)) s.crtc).frame_end ≡ false)
@@ -157,53 +106,6 @@ no_sync laws s t j makes below =
       | inr is ↦ absurd (omega (arith, is, below))
     ] in
     (frame_sync laws s.crtc makes (t + suc j) ∙ test_false ((t + suc j) % f) 0 (λ none. omega (arith, none, more)), more)
-
--- and it stays to the end of the frame
-drawn_later : Laws → (left : ℕ) (ram : ℕ → List ℕ) (size : ℕ → ℕ) (font : Font) (s : State) (dots : ℕ → List ℕ) (n t a d colour : ℕ) → MakesFrames s.crtc →
-    Shows left ram size font s dots → IsClock s.crtc.registers n t a → d < dots_of s.ula.control →
-    let p = a % line_characters s.crtc.registers * dots_of s.ula.control + d in
-    let q = t % frame_clocks s.crtc.registers / line_characters s.crtc.registers in
-    is_in_frame left p q ≡ true →
-    slice_index (char_clocks ram size font (suc n) s).working (dot_index left p q) ≡ colour →
-    (j : ℕ) → t % frame_clocks s.crtc.registers + suc j ≤ frame_clocks s.crtc.registers →
-    slice_index (char_clocks ram size font (n + suc j) s).working (dot_index left p q) ≡ colour
-drawn_later laws left ram size font s dots n t a d colour makes shows at within here first zero below =
-    let w = line_characters s.crtc.registers in
-    let p = a % w * dots_of s.ula.control + d in
-    let q = t % frame_clocks s.crtc.registers / w in
-    let e : n + suc 0 ≡ suc n = omega arith in
-    ap (λ k. slice_index (char_clocks ram size font k s).working (dot_index left p q)) e ∙ first
-drawn_later laws left ram size font s dots n t a d colour makes shows at within here first (suc j) below =
-    let w = line_characters s.crtc.registers in
-    let f = frame_clocks s.crtc.registers in
-    let u = t % f in
-    let wide = dots_of s.ula.control in
-    let p = a % w * wide + d in
-    let q = u / w in
-    let i : Inside left p q = inside left p q here in
-    let bottom : q < 296 = i.bottom in
-    let m = n + suc j in
-    let e : n + suc (suc j) ≡ suc m = omega arith in
-    let b = tells m s.crtc in
-    let x = char_clocks ram size font m s in
-    let place = place_in ram size font s m in
-    let vertical : sync_clock s.crtc.registers + (t + suc j) ≡ m = let v = at.vertical in omega (arith, v) in
-    let horizontal : s.crtc.registers.horizontal_sync_position + (a + suc j) ≡ m = let h = at.horizontal in omega (arith, h) in
-    let inner = no_sync laws s t j makes (omega (arith, below)) in
-    let runs : b.frame_end ≡ false = ap (λ k. (tells k s.crtc).frame_end) (sym vertical) ∙ inner.0 in
-    let column : place.x ≡ (a + suc j) % w * wide =
-    ap (λ k. (place_in ram size font s k).x) (sym horizontal) ∙ column_walk laws ram size font s makes (a + suc j) in
-    let level : place.y ≡ min ((u + suc j) / w) 1023 =
-    ap (λ k. (place_in ram size font s k).y) (sym vertical) ∙ line_walk laws ram size font s makes (t + suc j)
-    ∙ ap (λ k. min (k / w) 1023) inner.1 in
-    let apart_here : IsApart p q place.x place.y (length (dots m)) =
-    apart_at p q place.x place.y ((a + suc j) % w * wide) (min ((u + suc j) / w) 1023) (length (dots m)) column level
-    (apart w a u (suc j) wide d (length (dots m)) (omega arith) (omega arith) within (eight_or_sixteen s.ula.control) bottom (shows.many m)) in
-    ap (λ k. slice_index (char_clocks ram size font k s).working (dot_index left p q)) e
-    ∙ ap (λ xs. slice_index xs (dot_index left p q)) (shows.working m)
-    ∙ stays_if b.shown left p q place.x place.y (dots m) (frame_at b x) i (λ is. apart_here)
-    ∙ ap (λ k. slice_index (if k then black else x.working) (dot_index left p q)) runs
-    ∙ drawn_later laws left ram size font s dots n t a d colour makes shows at within here first j (omega (arith, below))
 
 -- ---- The finished frame.
 
@@ -230,44 +132,143 @@ finished_stays laws ram size font s t makes whole (suc i) below =
     ∙ ap (λ k. if k then x.working else x.finished) runs
     ∙ finished_stays laws ram size font s t makes whole i (omega (arith, below))
 
--- A dot of a character that is shown is in the finished frame.
-pub finished_dot : Laws → (left : ℕ) (ram : ℕ → List ℕ) (size : ℕ → ℕ) (font : Font) (s : State) (dots : ℕ → List ℕ) (n d m : ℕ) →
-    let r = s.crtc.registers in
-    let x = beam_dot r (dots_of s.ula.control) n + d in
-    let y = beam_line r n in
-    MakesFrames s.crtc → Shows left ram size font s dots → IsUnderWay r n → (tells n s.crtc).shown ≡ true → d < dots_of s.ula.control →
-    is_in_frame left x y ≡ true → finish_clock r n < m → m ≤ finish_clock r n + frame_clocks r →
-    slice_index (char_clocks ram size font m s).finished (640 * (y - 40) + (x - left)) ≡ slice_index (dots n) d
-finished_dot laws left ram size font s dots n d m makes shows runs is within here after before =
-    let r = s.crtc.registers in
-    let w = line_characters r in
-    let f = frame_clocks r in
-    let first = sync_clock r in
-    let t = n - first in
-    let a = n - r.horizontal_sync_position in
-    let u = t % f in
-    let p = a % w * dots_of s.ula.control + d in
-    let q = u / w in
-    let early : first < f = sync_in_frame s.crtc makes in
-    let some : 0 < f = omega (arith, early) in
-    let v : first ≤ n = runs.vertical in
-    let h : r.horizontal_sync_position ≤ n = runs.horizontal in
-    let at : IsClock r n t a = record { vertical = omega (arith, v); horizontal = omega (arith, h) } in
-    let below : u < f = mod_below t f some in
-    let turns = (t / f + 1) * f in
-    let split : t / f * f + u ≡ t = div-add-mod' t f in
-    let one_turn : turns ≡ t / f * f + f = grind arith in
-    let whole : turns % f ≡ 0 = mul-mod_left (t / f + 1) f in
-    let j = f - u - 1 in
-    let i = m - (first + turns) - 1 in
-    let last : n + suc j ≡ first + turns = omega (arith, split, one_turn, below, v) in
-    let now : first + turns + suc i ≡ m = omega (arith, after) in
-    ap (λ k. slice_index (char_clocks ram size font k s).finished (dot_index left p q)) (sym now)
-    ∙ ap (λ xs. slice_index xs (dot_index left p q))
-    (finished_stays laws ram size font s turns makes whole i (omega (arith, before, after)))
-    ∙ ap (λ k. slice_index (char_clocks ram size font k s).working (dot_index left p q)) (sym last)
-    ∙ drawn_later laws left ram size font s dots n t a d _ makes shows at within here
-    (drawn_now laws left ram size font s dots n t a d makes shows at is within here) j (omega (arith, below))
+module _ (laws : Laws) (left : ℕ) (ram : ℕ → List ℕ) (size : ℕ → ℕ) (font : Font) (s : State) (dots : ℕ → List ℕ) where
+  frame_length : MakesFrames s.crtc →
+      Shows left ram size font s dots → (t : ℕ) →
+      length (frame_at (tells (sync_clock s.crtc.registers + t) s.crtc) (char_clocks ram size font (sync_clock s.crtc.registers + t) s)) ≡ 163840
+  frame_length makes shows zero =
+      let n = sync_clock s.crtc.registers in
+      let f = frame_clocks s.crtc.registers in
+      ap (λ q. length (if q then black else (char_clocks ram size font (n + 0) s).working))
+      (frame_sync laws s.crtc makes 0 ∙ test_true (0 % f) 0 (zero-mod f))
+      ∙ black_length
+  frame_length makes shows (suc t) =
+      let n = sync_clock s.crtc.registers + t in
+      let e : sync_clock s.crtc.registers + suc t ≡ suc n = omega arith in
+      let b = tells n s.crtc in
+      let x = char_clocks ram size font n s in
+      let long : length (char_clocks ram size font (suc n) s).working ≡ 163840 =
+      ap length (shows.working n)
+      ∙ drawn_length b.shown left (place_in ram size font s n).x (place_in ram size font s n).y (dots n) (frame_at b x)
+      (frame_length makes shows t) in
+      begun_length (tells (sync_clock s.crtc.registers + suc t) s.crtc).frame_end _
+      (ap (λ k. length (char_clocks ram size font k s).working) e ∙ long)
+
+  -- the dot is drawn
+  drawn_now : (n t a d : ℕ) → MakesFrames s.crtc →
+      Shows left ram size font s dots → IsClock s.crtc.registers n t a → (tells n s.crtc).shown ≡ true → d < dots_of s.ula.control →
+      let p = a % line_characters s.crtc.registers * dots_of s.ula.control + d in
+      let q = t % frame_clocks s.crtc.registers / line_characters s.crtc.registers in
+      is_in_frame left p q ≡ true →
+      slice_index (char_clocks ram size font (suc n) s).working (dot_index left p q) ≡ slice_index (dots n) d
+  drawn_now n t a d makes shows at is within here =
+      let w = line_characters s.crtc.registers in
+      let p = a % w * dots_of s.ula.control + d in
+      let q = t % frame_clocks s.crtc.registers / w in
+      let bottom : q < 296 = (inside left p q here).bottom in
+      let b = tells n s.crtc in
+      let x = char_clocks ram size font n s in
+      let place = place_in ram size font s n in
+      let frame = frame_at b x in
+      let column : place.x ≡ a % w * dots_of s.ula.control =
+      ap (λ k. (place_in ram size font s k).x) (sym at.horizontal) ∙ column_walk laws ram size font s makes a in
+      let level : place.y ≡ q =
+      ap (λ k. (place_in ram size font s k).y) (sym at.vertical) ∙ line_walk laws ram size font s makes t ∙ omega (arith, bottom) in
+      let long : length frame ≡ 163840 =
+      ap (λ k. length (frame_at (tells k s.crtc) (char_clocks ram size font k s))) (sym at.vertical)
+      ∙ frame_length makes shows t in
+      let many : length (dots n) ≡ dots_of s.ula.control = shows.many n in
+      ap (λ xs. slice_index xs (dot_index left p q)) (shows.working n)
+      ∙ ap (λ k. slice_index (if k then dots_set left place.x place.y (dots n) frame else frame) (dot_index left p q)) is
+      ∙ ap (λ k. slice_index (dots_set left k place.y (dots n) frame) (dot_index left p q)) column
+      ∙ ap (λ k. slice_index (dots_set left (a % w * dots_of s.ula.control) k (dots n) frame) (dot_index left p q)) level
+      ∙ drawn_dot left (a % w * dots_of s.ula.control) q d (dots n) frame (omega (arith, many, within)) here long
+
+  -- and it stays to the end of the frame
+  drawn_later : (n t a d colour : ℕ) → MakesFrames s.crtc →
+      Shows left ram size font s dots → IsClock s.crtc.registers n t a → d < dots_of s.ula.control →
+      let p = a % line_characters s.crtc.registers * dots_of s.ula.control + d in
+      let q = t % frame_clocks s.crtc.registers / line_characters s.crtc.registers in
+      is_in_frame left p q ≡ true →
+      slice_index (char_clocks ram size font (suc n) s).working (dot_index left p q) ≡ colour →
+      (j : ℕ) → t % frame_clocks s.crtc.registers + suc j ≤ frame_clocks s.crtc.registers →
+      slice_index (char_clocks ram size font (n + suc j) s).working (dot_index left p q) ≡ colour
+  drawn_later n t a d colour makes shows at within here first zero below =
+      let w = line_characters s.crtc.registers in
+      let p = a % w * dots_of s.ula.control + d in
+      let q = t % frame_clocks s.crtc.registers / w in
+      let e : n + suc 0 ≡ suc n = omega arith in
+      ap (λ k. slice_index (char_clocks ram size font k s).working (dot_index left p q)) e ∙ first
+  drawn_later n t a d colour makes shows at within here first (suc j) below =
+      let w = line_characters s.crtc.registers in
+      let f = frame_clocks s.crtc.registers in
+      let u = t % f in
+      let wide = dots_of s.ula.control in
+      let p = a % w * wide + d in
+      let q = u / w in
+      let i : Inside left p q = inside left p q here in
+      let bottom : q < 296 = i.bottom in
+      let m = n + suc j in
+      let e : n + suc (suc j) ≡ suc m = omega arith in
+      let b = tells m s.crtc in
+      let x = char_clocks ram size font m s in
+      let place = place_in ram size font s m in
+      let vertical : sync_clock s.crtc.registers + (t + suc j) ≡ m = let v = at.vertical in omega (arith, v) in
+      let horizontal : s.crtc.registers.horizontal_sync_position + (a + suc j) ≡ m = let h = at.horizontal in omega (arith, h) in
+      let inner = no_sync laws s t j makes (omega (arith, below)) in
+      let runs : b.frame_end ≡ false = ap (λ k. (tells k s.crtc).frame_end) (sym vertical) ∙ inner.0 in
+      let column : place.x ≡ (a + suc j) % w * wide =
+      ap (λ k. (place_in ram size font s k).x) (sym horizontal) ∙ column_walk laws ram size font s makes (a + suc j) in
+      let level : place.y ≡ min ((u + suc j) / w) 1023 =
+      ap (λ k. (place_in ram size font s k).y) (sym vertical) ∙ line_walk laws ram size font s makes (t + suc j)
+      ∙ ap (λ k. min (k / w) 1023) inner.1 in
+      let apart_here : IsApart p q place.x place.y (length (dots m)) =
+      apart_at p q place.x place.y ((a + suc j) % w * wide) (min ((u + suc j) / w) 1023) (length (dots m)) column level
+      (apart w a u (suc j) wide d (length (dots m)) (omega arith) (omega arith) within (eight_or_sixteen s.ula.control) bottom (shows.many m)) in
+      ap (λ k. slice_index (char_clocks ram size font k s).working (dot_index left p q)) e
+      ∙ ap (λ xs. slice_index xs (dot_index left p q)) (shows.working m)
+      ∙ stays_if b.shown left p q place.x place.y (dots m) (frame_at b x) i (λ is. apart_here)
+      ∙ ap (λ k. slice_index (if k then black else x.working) (dot_index left p q)) runs
+      ∙ drawn_later n t a d colour makes shows at within here first j (omega (arith, below))
+
+  -- A dot of a character that is shown is in the finished frame.
+  pub finished_dot : (n d m : ℕ) →
+      let r = s.crtc.registers in
+      let x = beam_dot r (dots_of s.ula.control) n + d in
+      let y = beam_line r n in
+      MakesFrames s.crtc → Shows left ram size font s dots → IsUnderWay r n → (tells n s.crtc).shown ≡ true → d < dots_of s.ula.control →
+      is_in_frame left x y ≡ true → finish_clock r n < m → m ≤ finish_clock r n + frame_clocks r →
+      slice_index (char_clocks ram size font m s).finished (640 * (y - 40) + (x - left)) ≡ slice_index (dots n) d
+  finished_dot n d m makes shows runs is within here after before =
+      let r = s.crtc.registers in
+      let w = line_characters r in
+      let f = frame_clocks r in
+      let first = sync_clock r in
+      let t = n - first in
+      let a = n - r.horizontal_sync_position in
+      let u = t % f in
+      let p = a % w * dots_of s.ula.control + d in
+      let q = u / w in
+      let early : first < f = sync_in_frame s.crtc makes in
+      let some : 0 < f = omega (arith, early) in
+      let v : first ≤ n = runs.vertical in
+      let h : r.horizontal_sync_position ≤ n = runs.horizontal in
+      let at : IsClock r n t a = record { vertical = omega (arith, v); horizontal = omega (arith, h) } in
+      let below : u < f = mod_below t f some in
+      let turns = (t / f + 1) * f in
+      let split : t / f * f + u ≡ t = div-add-mod' t f in
+      let one_turn : turns ≡ t / f * f + f = grind arith in
+      let whole : turns % f ≡ 0 = mul-mod_left (t / f + 1) f in
+      let j = f - u - 1 in
+      let i = m - (first + turns) - 1 in
+      let last : n + suc j ≡ first + turns = omega (arith, split, one_turn, below, v) in
+      let now : first + turns + suc i ≡ m = omega (arith, after) in
+      ap (λ k. slice_index (char_clocks ram size font k s).finished (dot_index left p q)) (sym now)
+      ∙ ap (λ xs. slice_index xs (dot_index left p q))
+      (finished_stays laws ram size font s turns makes whole i (omega (arith, before, after)))
+      ∙ ap (λ k. slice_index (char_clocks ram size font k s).working (dot_index left p q)) (sym last)
+      ∙ drawn_later n t a d _ makes shows at within here
+      (drawn_now n t a d makes shows at is within here) j (omega (arith, below))
 
 -- ---- The dots of a character.
 

@@ -7,7 +7,6 @@ pub mod Search
 pub mod Losing
 pub mod Streams
 pub mod Writing
-pub mod LostBytes
 pub mod Waiting
 pub mod Begun
 pub mod Timely
@@ -15,13 +14,11 @@ pub mod Moving
 pub mod Forcing
 pub mod Addressing
 pub mod Several
-pub mod WholeReading
 pub mod CrtcRuns
 pub mod Flags
 pub mod Ports
 pub mod Cells
 pub mod Colouring
-pub mod BeamPlaces
 pub mod BeamWalk
 pub mod Drawn
 pub mod Rasters

@@ -26,7 +26,7 @@ use Rattle.raster.specs.Clock.{begin_leaves, cell_dots, draw_byte_leaves, draw_c
 use Rattle.law_chips.specs.ShownBytes.{char_clocks, character_address, raster_at, is_shown_at, cursor_before, is_marked_at, CharactersAreShown, MakesFrames}
 use Rattle.law_chips.specs.TeletextCells.{pixels_of, CellsShowTheirCodes}
 use Rattle.law_chips.specs.TeletextFrames.{code_at, codes_before, cell_at, FramesShowTheirCells, RestOfPageIsBlack}
-use Rattle.law_chips.proofs.BeamPlaces.{next_place, test_true, test_false}
+use Rattle.law_chips.proofs.BeamWalk.{next_place, test_true, test_false}
 use Rattle.law_chips.proofs.BeamWalk.{frame_at, by_itself, same_ula}
 use Rattle.law_chips.proofs.BeamWalk.{Laws, eight_or_sixteen}
 use Rattle.law_chips.proofs.Drawn.{cursor_was}

@@ -14,7 +14,7 @@ use Rattle.crtc6845.specs.Clock.{row_begun, raster_begun, row_line_ended, adjust
 use Rattle.crtc6845.specs.Laws.{clocks, line_characters, row_lines, frame_lines, HaveTheirBits, BeginsFrame, LinesHaveTheirCharacters, FramesHaveTheirClocks}
 use Rattle.crtc6845.specs.Pictures.{line_at, column_at}
 use Rattle.law_chips.specs.ShownBytes.{CharactersAreShown}
-use Rattle.law_chips.proofs.BeamPlaces.{next_place, test_true, test_false}
+use Rattle.law_chips.proofs.BeamWalk.{next_place, test_true, test_false}
 use Rattle.law_chips.proofs.CrtcRuns.{start_keeps, count_keeps}
 
 -- ---- Steps of a chip.

@@ -19,7 +19,7 @@ use Rattle.wd1770.specs.History.{Event, history, count_steps}
 use Rattle.law_chips.specs.SectorReads.{sector_steps, bytes_come, AllRead, bytes_taken, IsAtSector, HasBytes, command_behind, SectorIsRead}
 use Rattle.law_chips.proofs.Streams.{reading, runs_all}
 use Rattle.law_chips.proofs.Streams.{Stream, Next, GoesOn}
-use Rattle.law_chips.proofs.Streams.{Taking, IsGiven, takes_step, takes_access}
+use Rattle.law_chips.proofs.Streams.{Taking, IsGiven, takes_step, takes_access, takes_first}
 
 pub same_disc : (number : Option DriveNumber) (s s0 : State) → s.drive0 ≡ s0.drive0 → s.drive1 ≡ s0.drive1 → disc_in number s ≡ disc_in number s0
 same_disc None s s0 a b = refl
@@ -194,14 +194,7 @@ is_given s t k d bytes has reads = record {
 
 -- where a sector is found no byte has come
 pub at_start : (s : State) (t : Transfer) (k : ℕ) (bytes : List ℕ) → IsAtSector s t k → Taking (of_sector t k) bytes s s 0 []
-at_start s t k bytes at = record {
-  going = λ h. at.command;
-  over = λ h. absurd (omega (arith, h));
-  angle = at.angle ∙ ap (λ (n : ℕ). Some n) (let e : 64 * (312 * k) ≡ 64 * (312 * k) + 0 = omega arith in e);
-  drive0 = refl;
-  drive1 = refl;
-  taken = λ kept. ap (λ b. if b then s.byte ∷ [] else []) at.drq;
-}
+at_start s t k bytes at = takes_first (of_sector t k) bytes s (omega arith) at.command at.angle at.drq
 
 from_start : (s : State) (t : Transfer) (k : ℕ) (d : Image) (bytes : List ℕ) (events : List Event) → IsAtSector s t k → HasBytes s t k d bytes →
     t.writes ≡ false → AllRead events → count_steps events ≤ sector_steps → Taking (of_sector t k) bytes s (history events s) (count_steps events) (bytes_taken s events)

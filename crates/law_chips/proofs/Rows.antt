@@ -17,7 +17,7 @@ use Rattle.raster.specs.Text.{Text, text_at, codes_after, text_after, next_row, 
 use Rattle.raster.specs.State.{State}
 use Rattle.law_chips.specs.ShownBytes.{char_clocks, CharactersAreShown, MakesFrames}
 use Rattle.law_chips.specs.TeletextFrames.{frame_index, IsAbove, Doubles, is_lower, LowerRowsFollow}
-use Rattle.law_chips.proofs.BeamPlaces.{next_place, test_true, test_false}
+use Rattle.law_chips.proofs.BeamWalk.{next_place, test_true, test_false}
 use Rattle.law_chips.proofs.Rasters.{at_clock, not_last, kept, last_of, HasNext, next_of, InRow, IsAt, walk}
 use Rattle.law_chips.proofs.PageDots.{told_code, told, codes_at, bottom_kept, here}
 

@@ -33,7 +33,7 @@ use Rattle.wd1770.specs.declared.drive.Target.{Target}
 use Rattle.law_chips.specs.SectorWrites.{Writes, AllWritten, given_by, bytes_given}
 use Rattle.law_chips.proofs.Losing.{kept_before}
 use Rattle.law_chips.proofs.Writing.{at_byte, Inside, w_end, writes_is, stepped as write_stepped, accessed as write_accessed, begins, whole as write_whole, off_at_end}
-use Rattle.law_chips.proofs.LostBytes.{writes_kept}
+use Rattle.law_chips.proofs.Timely.{writes_kept}
 
 -- ---- The registers.
 

@@ -623,3 +623,14 @@ module _ (f : Stream) (bytes : List ℕ) (s0 : State) where
     taken = λ kept.
         ap (λ xs. (got ++ xs) ++ waiting_byte (happens e s)) (taken_is e s may) ∙ took (is_data e) s (happens e s) got acc ∙ is.taken (sym acc.lost ∙ kept);
   }
+
+  -- where no byte has come
+  pub takes_first : 1 ≤ f.last → s0.command ≡ f.command → s0.angle ≡ Some f.base → s0.drq ≡ false → Taking s0 0 []
+  takes_first some command angle off = record {
+    going = λ h. command;
+    over = λ h. absurd (omega (arith, h, some));
+    angle = angle ∙ ap (λ (n : ℕ). Some n) (let e : f.base ≡ f.base + 0 = omega arith in e);
+    drive0 = refl;
+    drive1 = refl;
+    taken = λ kept. let none : come f 0 ≡ 0 = omega arith in ap (λ b. if b then s0.byte ∷ [] else []) off ∙ ap (λ n. take n bytes) (sym none);
+  }

@@ -1,25 +1,434 @@
--- Sectors that are read, or written, in time.
-use Rattle.std.proofs.Common.{◌≡◌, ◌∙◌, sym, ap, ℕ, ◌<◌, false, List, [], ◌∷◌, ◌++◌, arith, inl, inr, true}
-use Rattle.std.specs.Prelude.{if◌then◌else◌, Option, Some}
-use Rattle.std.proofs.lemmas.Bool.{true≢false, and_parts, ltb-true}
+-- Lost data during a sector, and sectors that are read or written in time.
+use Rattle.std.proofs.Common.{◌≡◌, ◌∙◌, sym, ap, subst, refl, ℕ, ◌+◌, ◌-◌, ◌*◌, ◌/◌, ◌%◌, ◌<◌, ◌≤◌, ◌==◌, ◌&&◌, ◌||◌, not, Bool, true, false, List, [], ◌∷◌}
+use Rattle.std.proofs.Common.{◌++◌, arith, inl, inr, ◌⊎◌}
+use Rattle.std.specs.Prelude.{Some, nat_lt, nat_le, if◌then◌else◌, Option}
+use Rattle.std.specs.List.{list_any}
+use Rattle.std.proofs.lemmas.Bool.{cases_eq, cases_lt, eq-eqb, ne_eqb, lt-ltb, le-ltb, le-leb, lt-leb, true≢false, and_parts, ltb-true}
 use Rattle.std.proofs.lemmas.List.{append-nil}
-use Rattle.disc_image.specs.Image.{Image, has_sector}
+use Rattle.wd1770.specs.declared.command.Command.TheVariants.{Transferring}
 use Rattle.wd1770.specs.declared.command.Transfer.{Transfer}
 use Rattle.wd1770.specs.State.{State}
-use Rattle.wd1770.specs.Sectors.{transfer_of, is_on_disc}
-use Rattle.wd1770.specs.History.{Event, history, count_steps}
-use Rattle.law_chips.specs.SectorReads.{sector_steps, AllRead, bytes_taken, IsAtSector, HasBytes, command_behind}
+use Rattle.wd1770.specs.Ends.{is_asking, count_leaves, finish_leaves}
+use Rattle.wd1770.specs.Sectors.{search_of, byte_written, writing_at, transfer_of, is_on_disc}
+use Rattle.wd1770.specs.Step.{work_leaves, step}
+use Rattle.wd1770.specs.History.{Event, happens, history, count_steps}
+use Rattle.law_chips.specs.SectorReads.{sector_steps, IsAtSector, AllRead, bytes_taken, HasBytes, command_behind}
+use Rattle.law_chips.specs.LostData.{AllLetGo, place_if, accesses, is_in_time, time_over, IsOver, is_served, LostDataIsTold}
+use Rattle.law_chips.proofs.Reading.{moved_on, next_place, worked_is, at_each, of_sector, sector_goes, number_small, sector_read}
+use Rattle.law_chips.proofs.Writing.{by_place, put, writes_is, sector_written}
+use Rattle.law_chips.proofs.Streams.{has_place, any_stays, any_other, any_now, or_true, and_false, bool_cases, stays_lost, Either as Taken, run as reads_run}
+use Rattle.law_chips.proofs.Streams.{Accessed, is_data, letting_go, runs_all, reading, lets_go, writing}
+use Rattle.disc_image.specs.Image.{Image, has_sector}
 use Rattle.law_chips.specs.InTime.{IsInTime, found_after, ReadsInTime, WritesInTime}
-use Rattle.law_chips.proofs.Reading.{number_small, sector_read}
-use Rattle.law_chips.proofs.Streams.{reading, lets_go, writing}
-use Rattle.law_chips.proofs.Streams.{has_place}
-use Rattle.law_chips.proofs.LostBytes.{after_reads}
 use Rattle.law_chips.proofs.Begun.{is_read, starts, is_write}
 use Rattle.disc_image.specs.Laws.{IsReadBack, OthersStay}
 use Rattle.wd1770.specs.Select.{disc_in}
 use Rattle.law_chips.specs.SectorWrites.{AllWritten, bytes_given, IsStored}
-use Rattle.law_chips.proofs.Writing.{sector_written}
-use Rattle.law_chips.proofs.LostBytes.{writes_kept}
+use Rattle.law_chips.specs.WholeReads.{SearchedAndRead}
+use Rattle.law_chips.proofs.Search.{search_ends}
+
+-- byte i was given
+given : ℕ → List ℕ → Bool
+given i ps = list_any (is_in_time true i) ps
+
+-- whether DRQ asks for a byte in this place
+wants : ℕ → List ℕ → Bool
+wants place ps = if nat_lt place 12 then false else if nat_lt place 22 then not (given 0 ps) else if nat_lt place 30 then false else not (has_place place ps)
+
+wants_none : (place : ℕ) (ps : List ℕ) → place < 12 → wants place ps ≡ false
+unfolding wants
+wants_none place ps low = rw (lt-ltb place 12 low) refl
+
+wants_first : (place : ℕ) (ps : List ℕ) → 12 ≤ place → place < 22 → wants place ps ≡ not (given 0 ps)
+unfolding wants
+wants_first place ps low high = rw (le-ltb place 12 low, lt-ltb place 22 high) refl
+
+wants_no_more : (place : ℕ) (ps : List ℕ) → 22 ≤ place → place < 30 → wants place ps ≡ false
+unfolding wants
+wants_no_more place ps low high = rw (le-ltb place 12 (omega (arith, low)), le-ltb place 22 low, lt-ltb place 30 high) refl
+
+wants_next : (place : ℕ) (ps : List ℕ) → 30 ≤ place → wants place ps ≡ not (has_place place ps)
+unfolding wants
+wants_next place ps low =
+    rw (le-ltb place 12 (omega (arith, low)), le-ltb place 22 (omega (arith, low)), le-ltb place 30 low) refl
+
+-- a byte behind the first is given in one place
+given_in : (i place : ℕ) (ps : List ℕ) → 1 ≤ i → place ≡ 29 + i → given i ps ≡ has_place place ps
+unfolding given has_place
+given_in i place ps some is =
+    ap (λ b. list_any (λ p. if b then nat_le 12 p && nat_lt p 22 else p == 29 + i) ps) (ne_eqb i 0 (λ e. omega (arith, e, some)))
+    ∙ ap (λ n. list_any (λ p. p == n) ps) (sym is)
+
+over_first : (i : ℕ) → i ≡ 0 → time_over true i ≡ 22
+over_first i is = ap (λ b. if b then 22 else 30 + i) (eq-eqb i 0 is)
+
+over_next : (i : ℕ) → 1 ≤ i → time_over true i ≡ 30 + i
+over_next i some = ap (λ b. if b then 22 else 30 + i) (ne_eqb i 0 (λ e. omega (arith, e, some)))
+
+-- after its time a byte is not given
+not_in_time : (i place : ℕ) → time_over true i ≤ place → is_in_time true i place ≡ false
+not_in_time i place over = elim (cases_eq i 0) [
+  | inl zero ↦
+      let late : 22 ≤ place = omega (arith, over, over_first i zero) in
+      ap (λ b. if b then nat_le 12 place && nat_lt place 22 else place == 29 + i) (eq-eqb i 0 zero)
+      ∙ ap (λ b. nat_le 12 place && b) (le-ltb place 22 late) ∙ and_false (nat_le 12 place)
+  | inr some ↦
+      let late : 30 + i ≤ place = omega (arith, over, over_next i (omega (arith, some))) in
+      ap (λ b. if b then nat_le 12 place && nat_lt place 22 else place == 29 + i) (ne_eqb i 0 some) ∙ ne_eqb place (29 + i) (λ e. omega (arith, e, late))
+]
+
+-- After m steps, and accesses in these places, nothing is lost and each byte was given.
+record Fine (t : Transfer) (k : ℕ) (s : State) (m : ℕ) (ps : List ℕ) : Type 0 where
+  pub command : m < 18432 → s.command ≡ Transferring t k
+  pub angle : s.angle ≡ Some (64 * (312 * k) + m)
+  pub kept : s.lost_data ≡ false
+  pub drq : m < 64 * 285 → s.drq ≡ wants (m / 64) ps
+  pub served : (i : ℕ) → i < 256 → 64 * time_over true i ≤ m → given i ps ≡ true
+  pub ahead : (p : ℕ) → m / 64 < p → has_place p ps ≡ false
+  pub early : m / 64 < 12 → given 0 ps ≡ false
+
+-- A byte was not given, and is told to be lost.
+record Missed (s : State) (m : ℕ) (ps : List ℕ) : Type 0 where
+  pub lost : s.lost_data ≡ true
+  pub byte : ℕ
+  pub inside : byte < 256
+  pub over : 64 * time_over true byte ≤ m
+  pub missed : given byte ps ≡ false
+
+abbrev Either : Transfer → ℕ → State → ℕ → List ℕ → Type 0
+Either t k s m ps = Fine t k s m ps ⊎ Missed s m ps
+
+counted : (t : Transfer) (k : ℕ) (before : Bool) (s : State) (m : ℕ) (ps : List ℕ) → Either t k s m ps → Either t k (count_leaves before s) m ps
+counted t k before s m ps (inl is) = inl (record {
+  command = is.command;
+  angle = is.angle;
+  kept = is.kept;
+  drq = is.drq;
+  served = is.served;
+  ahead = is.ahead;
+  early = is.early;
+})
+counted t k before s m ps (inr is) = inr (record { lost = is.lost; byte = is.byte; inside = is.inside; over = is.over; missed = is.missed })
+
+-- the time of no byte ends with this step
+NoneOver : ℕ → Type 0
+NoneOver m = (i : ℕ) → i < 256 → 64 * time_over true i ≤ m + 1 → 64 * time_over true i ≤ m
+
+over_cases : (i : ℕ) → ((i ≡ 0) × (time_over true i ≡ 22)) ⊎ ((1 ≤ i) × (time_over true i ≡ 30 + i))
+over_cases i = elim (cases_eq i 0) [
+  | inl zero ↦ inl (zero, over_first i zero)
+  | inr some ↦ let more : 1 ≤ i = omega (arith, some) in inr (more, over_next i more)
+]
+
+none_over : (m : ℕ) → (m + 1 ≡ 64 * 22 → ⊥) → ((i : ℕ) → 1 ≤ i → i < 256 → m + 1 ≡ 64 * (30 + i) → ⊥) → NoneOver m
+unfolding NoneOver
+none_over m not_first not_next i inside over = elim (over_cases i) [
+  | inl first ↦
+      elim (cases_lt m (64 * time_over true i)) [
+        | inl new ↦ absurd (not_first (omega (arith, new, over, first.1)))
+        | inr old ↦ old
+      ]
+  | inr next ↦
+      elim (cases_lt m (64 * time_over true i)) [
+        | inl new ↦ absurd (not_next i next.0 inside (omega (arith, new, over, next.1)))
+        | inr old ↦ old
+      ]
+]
+
+-- a step that changes only the angle and DRQ, and at which the time of no byte ends
+plain : (t : Transfer) (k : ℕ) (s x : State) (m : ℕ) (ps : List ℕ) → NoneOver m → (m + 1 < 18432 → x.command ≡ Transferring t k) →
+    x.angle ≡ Some (64 * (312 * k) + m + 1) → x.lost_data ≡ s.lost_data → (m + 1 < 64 * 285 → x.drq ≡ wants ((m + 1) / 64) ps) → Fine t k s m ps →
+    Fine t k x (m + 1) ps
+unfolding NoneOver
+plain t k s x m ps none command angle kept drq is = record {
+  command = command;
+  angle = angle ∙ next_place k m;
+  kept = kept ∙ is.kept;
+  drq = drq;
+  served = λ i inside over. is.served i inside (none i inside over);
+  ahead = λ p more. is.ahead p (omega (arith, more));
+  early = λ low. is.early (omega (arith, low));
+}
+
+-- nothing comes in another place before the bytes
+same_wants : (m : ℕ) (ps : List ℕ) → (m + 1 ≡ 64 * 12 → ⊥) → (m + 1 ≡ 64 * 22 → ⊥) → m + 1 < 64 * 30 → wants ((m + 1) / 64) ps ≡ wants (m / 64) ps
+same_wants m ps not_12 not_22 early = elim (cases_lt (m / 64) 12) [
+  | inl low ↦ wants_none ((m + 1) / 64) ps (omega (arith, low, not_12)) ∙ sym (wants_none (m / 64) ps low)
+  | inr more ↦
+      elim (cases_lt (m / 64) 22) [
+        | inl first ↦
+            wants_first ((m + 1) / 64) ps (omega (arith, more)) (omega (arith, first, not_22)) ∙ sym (wants_first (m / 64) ps more first)
+        | inr late ↦
+            wants_no_more ((m + 1) / 64) ps (omega (arith, late)) (omega (arith, early)) ∙ sym (wants_no_more (m / 64) ps late (omega (arith, early)))
+      ]
+]
+
+-- DRQ is set for the first byte
+asks_first : (t : Transfer) (k : ℕ) (s : State) (m : ℕ) (ps : List ℕ) → m + 1 ≡ 64 * 12 → Fine t k s m ps →
+    Fine t k (record (moved_on s k m) { drq = true }) (m + 1) ps
+unfolding moved_on
+asks_first t k s m ps now is =
+    plain t k s (record (moved_on s k m) { drq = true }) m ps (none_over m (λ e. omega (arith, e, now)) (λ i some inside e. omega (arith, e, now)))
+    (λ h. is.command (omega (arith, now))) refl refl
+    (λ h. sym (wants_first ((m + 1) / 64) ps (omega (arith, now)) (omega (arith, now)) ∙ ap not (is.early (omega (arith, now))))) is
+
+-- place 22
+looks : (t : Transfer) (k : ℕ) (s : State) (m : ℕ) (ps : List ℕ) → m + 1 ≡ 64 * 22 → s.drq ≡ false → given 0 ps ≡ true → Fine t k s m ps →
+    Fine t k (moved_on s k m) (m + 1) ps
+unfolding moved_on
+looks t k s m ps now off had is = record {
+  command = λ h. is.command (omega (arith, h));
+  angle = next_place k m;
+  kept = is.kept;
+  drq = λ h. off ∙ sym (wants_no_more ((m + 1) / 64) ps (omega (arith, now)) (omega (arith, now)));
+  served = λ i inside over. elim (over_cases i) [
+    | inl first ↦ ap (λ n. given n ps) first.0 ∙ had
+    | inr next ↦ absurd (omega (arith, over, now, next.0, next.1))
+  ];
+  ahead = λ p more. is.ahead p (omega (arith, more));
+  early = λ low. absurd (omega (arith, low, now));
+}
+
+-- whether the first byte was given, by whether DRQ asks for it still
+first_asked : (t : Transfer) (k : ℕ) (s : State) (m : ℕ) (ps : List ℕ) (b : Bool) → m + 1 ≡ 64 * 22 → s.drq ≡ b → Fine t k s m ps → given 0 ps ≡ not b
+first_asked t k s m ps b now drq is =
+    let was : s.drq ≡ not (given 0 ps) = is.drq (omega (arith, now)) ∙ wants_first (m / 64) ps (omega (arith, now)) (omega (arith, now)) in
+    other_of (given 0 ps) b (sym was ∙ drq) where
+  other_of : (a b : Bool) → not a ≡ b → a ≡ not b
+  other_of true b is = ap not is
+  other_of false b is = ap not is
+
+-- byte i is written
+byte_goes : (t : Transfer) (k : ℕ) (s : State) (m i : ℕ) (ps : List ℕ) → i < 256 → m + 1 ≡ 64 * (30 + i) → Fine t k s m ps →
+    Either t k (byte_written t.target k i (moved_on s k m)) (m + 1) ps
+unfolding moved_on
+byte_goes t k s m i ps inside now is =
+    let s1 = moved_on s k m in
+    let p = put t.target t.target.drive k i (if s.drq then 0 else s.byte) s1 in
+    let fine : s.drq ≡ false → given i ps ≡ true → Fine t k (byte_written t.target k i s1) (m + 1) ps =
+    λ off had. record {
+      command = λ h. p.command ∙ is.command (omega (arith, h));
+      angle = p.angle ∙ next_place k m;
+      kept = ap (λ b. b || s.drq) is.kept ∙ off;
+      drq = λ h.
+          let set : (i == 255) ≡ false = ne_eqb i 255 (λ e. omega (arith, e, h, now)) in
+          ap (λ b. b || not (i == 255)) off ∙ ap not set
+          ∙ sym (wants_next ((m + 1) / 64) ps (omega (arith, now)) ∙ ap not (is.ahead ((m + 1) / 64) (omega (arith, now))));
+      served = λ j few over. elim (cases_eq j i) [
+        | inl same ↦ ap (λ n. given n ps) same ∙ had
+        | inr other ↦
+            is.served j few (elim (over_cases j) [
+              | inl first ↦ omega (arith, first.1, now)
+              | inr next ↦ omega (arith, next.1, over, now, other)
+            ])
+      ];
+      ahead = λ q more. is.ahead q (omega (arith, more));
+      early = λ low. absurd (omega (arith, low, now));
+    } in
+    elim (cases_eq i 0) [
+      | inl zero ↦
+          let off : s.drq ≡ false = is.drq (omega (arith, now, zero)) ∙ wants_no_more (m / 64) ps (omega (arith, now, zero)) (omega (arith, now, zero)) in
+          inl (fine off (ap (λ n. given n ps) zero ∙ is.served 0 (omega arith) (omega (arith, now))))
+      | inr some ↦
+          let more : 1 ≤ i = omega (arith, some) in
+          let where_it_is : m / 64 ≡ 29 + i = omega (arith, now) in
+          let was : s.drq ≡ not (given i ps) =
+          is.drq (omega (arith, now, inside)) ∙ wants_next (m / 64) ps (omega (arith, now, more)) ∙ ap not (sym (given_in i (m / 64) ps more where_it_is)) in
+          elim (bool_cases (given i ps)) [
+            | inl had ↦ inl (fine (was ∙ ap not had) had)
+            | inr none ↦
+                let on : s.drq ≡ true = was ∙ ap not none in
+                inr (record {
+                  lost = ap (λ b. s.lost_data || b) on ∙ or_true s.lost_data;
+                  byte = i;
+                  inside = inside;
+                  over = omega (arith, over_next i more, now);
+                  missed = none;
+                })
+          ]
+    ]
+
+ends_so : (b : Bool) (t : Transfer) (k : ℕ) (s : State) (m : ℕ) (ps : List ℕ) → m + 1 ≡ 18432 → Fine t k s m ps →
+    Fine t k (if b then record (moved_on s k m) { sector = ((moved_on s k m).sector + 1) % 256; command = search_of t } else finish_leaves (moved_on s k m)) (m + 1) ps
+unfolding moved_on
+ends_so true t k s m ps now is =
+    plain t k s (record (moved_on s k m) { sector = ((moved_on s k m).sector + 1) % 256; command = search_of t }) m ps
+    (none_over m (λ e. omega (arith, e, now)) (λ i some inside e. omega (arith, e, now, inside))) (λ h. absurd (omega (arith, h, now))) refl refl (λ h. absurd (omega (arith, h, now))) is
+ends_so false t k s m ps now is =
+    plain t k s (finish_leaves (moved_on s k m)) m ps
+    (none_over m (λ e. omega (arith, e, now)) (λ i some inside e. omega (arith, e, now, inside))) (λ h. absurd (omega (arith, h, now))) refl refl (λ h. absurd (omega (arith, h, now))) is
+
+at_place : (t : Transfer) (k : ℕ) (s : State) (m : ℕ) (ps : List ℕ) → m < 18432 → (m + 1) % 64 ≡ 0 → Fine t k s m ps →
+    Either t k (writing_at t k (Some ((m + 1) / 64)) (moved_on s k m)) (m + 1) ps
+unfolding moved_on
+at_place t k s m ps inside is_place is =
+    let place = (m + 1) / 64 in
+    let s1 = moved_on s k m in
+    by_place (λ x. Either t k x (m + 1) ps) t k place s1 (λ first. inl (asks_first t k s m ps (omega (arith, first, is_place)) is))
+    (λ look on.
+    let missed = first_asked t k s m ps true (omega (arith, look, is_place)) on is in
+    inr (record { lost = refl; byte = 0; inside = omega arith; over = omega (arith, look, is_place); missed = missed }))
+    (λ late low. byte_goes t k s m (place - 30) ps (omega (arith, low)) (omega (arith, late, is_place)) is)
+    (λ end. inl (ends_so t.multiple t k s m ps (omega (arith, end, is_place)) is))
+    (λ not_first off where_it_is other. inl (elim (cases_eq place 22) [
+      | inl look ↦
+          let now : m + 1 ≡ 64 * 22 = omega (arith, look, is_place) in looks t k s m ps now (off look) (first_asked t k s m ps false now (off look) is) is
+      | inr no_look ↦
+          elim where_it_is [
+            | inl early ↦
+                plain t k s s1 m ps (none_over m (λ e. no_look (omega (arith, e))) (λ i some few e. omega (arith, e, early))) (λ h. is.command inside) refl refl
+                (λ h. is.drq (omega (arith, h)) ∙ sym (same_wants m ps (λ e. not_first (omega (arith, e))) (λ e. no_look (omega (arith, e))) (omega (arith, early, is_place)))) is
+            | inr high ↦
+                plain t k s s1 m ps (none_over m (λ e. no_look (omega (arith, e))) (λ i some few e. omega (arith, e, high, few))) (λ h. is.command inside) refl refl
+                (λ h. absurd (omega (arith, h, high))) is
+          ]
+    ]))
+
+-- a step at no place
+at_none : (t : Transfer) (k : ℕ) (s : State) (m : ℕ) (ps : List ℕ) → m < 18432 → ((m + 1) % 64 ≡ 0 → ⊥) → Fine t k s m ps → Fine t k (moved_on s k m) (m + 1) ps
+unfolding moved_on
+at_none t k s m ps inside none is =
+    let same : m / 64 ≡ (m + 1) / 64 = omega (arith, none) in
+    plain t k s (moved_on s k m) m ps (none_over m (λ e. none (omega (arith, e))) (λ i some few e. none (omega (arith, e)))) (λ h. is.command inside) refl refl
+    (λ h. is.drq (omega (arith, h)) ∙ ap (λ n. wants n ps) same) is
+
+stepped : (t : Transfer) (k : ℕ) → k < 10 → t.writes ≡ true → (s : State) (m : ℕ) (ps : List ℕ) → m < 18432 → Either t k s m ps → Either t k (step s) (m + 1) ps
+unfolding moved_on
+stepped t k few writes s m ps inside (inl is) =
+    let s1 = moved_on s k m in
+    counted t k (is_asking s) (work_leaves s) (m + 1) ps
+    (at_each (writing_at t k) (λ x. Either t k x (m + 1) ps) k m s1 (work_leaves s)
+    (worked_is s t k m few inside (is.command inside) is.angle ∙ writes_is t k (64 * (312 * k) + m + 1) s1 writes)
+    (λ place. at_place t k s m ps inside place is) (λ none. inl (at_none t k s m ps inside none is)))
+stepped t k few writes s m ps inside (inr is) =
+    inr (record { lost = stays_lost s is.lost; byte = is.byte; inside = is.inside; over = omega (arith, is.over); missed = is.missed })
+
+in_place_now : (m : ℕ) → 12 ≤ m / 64 → m / 64 < 22 → is_in_time true 0 (m / 64) ≡ true
+in_place_now m low high = ap (λ b. b && nat_lt (m / 64) 22) (le-leb 12 (m / 64) low) ∙ lt-ltb (m / 64) 22 high
+
+-- DRQ is off after an access
+wants_after : (m : ℕ) (ps : List ℕ) → wants (m / 64) (ps ++ m / 64 ∷ []) ≡ false
+unfolding given has_place
+wants_after m ps = elim (cases_lt (m / 64) 12) [
+  | inl low ↦ wants_none (m / 64) (ps ++ m / 64 ∷ []) low
+  | inr more ↦
+      elim (cases_lt (m / 64) 22) [
+        | inl first ↦
+            wants_first (m / 64) (ps ++ m / 64 ∷ []) more first ∙ ap not (any_now (is_in_time true 0) ps (m / 64) (in_place_now m more first))
+        | inr late ↦
+            elim (cases_lt (m / 64) 30) [
+              | inl none ↦ wants_no_more (m / 64) (ps ++ m / 64 ∷ []) late none
+              | inr next ↦
+                  wants_next (m / 64) (ps ++ m / 64 ∷ []) next ∙ ap not (any_now (λ p. p == m / 64) ps (m / 64) (eq-eqb (m / 64) (m / 64) refl))
+            ]
+      ]
+]
+
+accessed : (t : Transfer) (k : ℕ) (b : Bool) (s x : State) (m : ℕ) (ps : List ℕ) → Accessed b s x → Either t k s m ps → Either t k x m (ps ++ place_if b m)
+unfolding given has_place
+accessed t k true s x m ps acc (inl is) = inl (record {
+  command = λ h. acc.command ∙ is.command h;
+  angle = acc.angle ∙ is.angle;
+  kept = acc.lost ∙ is.kept;
+  drq = λ h. acc.drq ∙ sym (wants_after m ps);
+  served = λ i inside over. any_stays (is_in_time true i) ps (m / 64) (is.served i inside over);
+  ahead = λ p more. any_other (λ q. q == p) ps (m / 64) (is.ahead p more) (ne_eqb (m / 64) p (λ e. omega (arith, e, more)));
+  early = λ low. any_other (is_in_time true 0) ps (m / 64) (is.early low) (ap (λ b. b && nat_lt (m / 64) 22) (lt-leb 12 (m / 64) low));
+})
+accessed t k false s x m ps acc (inl is) =
+    subst (λ qs. Either t k x m qs) (sym (append-nil ps)) (inl (record {
+      command = λ h. acc.command ∙ is.command h;
+      angle = acc.angle ∙ is.angle;
+      kept = acc.lost ∙ is.kept;
+      drq = λ h. acc.drq ∙ is.drq h;
+      served = is.served;
+      ahead = is.ahead;
+      early = is.early;
+    }))
+accessed t k true s x m ps acc (inr is) = inr (record {
+  lost = acc.lost ∙ is.lost;
+  byte = is.byte;
+  inside = is.inside;
+  over = is.over;
+  missed = any_other (is_in_time true is.byte) ps (m / 64) is.missed (not_in_time is.byte (m / 64) (omega (arith, is.over)));
+})
+accessed t k false s x m ps acc (inr is) =
+    subst (λ qs. Either t k x m qs) (sym (append-nil ps))
+    (inr (record { lost = acc.lost ∙ is.lost; byte = is.byte; inside = is.inside; over = is.over; missed = is.missed }))
+
+begins : (s : State) (t : Transfer) (k : ℕ) → IsAtSector s t k → s.lost_data ≡ false → Fine t k s 0 []
+unfolding given has_place
+begins s t k at kept = record {
+  command = λ h. at.command;
+  angle = at.angle ∙ ap (λ (n : ℕ). Some n) (let e : 64 * (312 * k) ≡ 64 * (312 * k) + 0 = omega arith in e);
+  kept = kept;
+  drq = λ h. at.drq ∙ sym (wants_none 0 [] (omega arith));
+  served = λ i inside over. elim (over_cases i) [
+    | inl first ↦ absurd (omega (arith, over, first.1))
+    | inr next ↦ absurd (omega (arith, over, next.1))
+  ];
+  ahead = λ p more. refl;
+  early = λ low. refl;
+}
+
+after_writes : (s : State) (t : Transfer) (k : ℕ) (events : List Event) → IsAtSector s t k → k < 10 → s.lost_data ≡ false → t.writes ≡ true →
+    AllLetGo events → count_steps events ≤ sector_steps → Either t k (history events s) (count_steps events) (accesses 0 events)
+after_writes s t k events at few kept writes all most =
+    runs_all letting_go (Either t k) 18432 (λ s m ps inside is. stepped t k few writes s m ps inside is)
+    (λ e s m ps access may acc is. accessed t k (is_data e) s (happens e s) m ps acc is)
+    (count_steps events) events s all refl most (inl (begins s t k at kept))
+
+pub writes_kept : (s : State) (t : Transfer) (k : ℕ) (events : List Event) → IsAtSector s t k → k < 10 → s.lost_data ≡ false → t.writes ≡ true →
+    AllLetGo events → count_steps events ≤ sector_steps → ((i : ℕ) → IsOver true i (count_steps events) → is_served true i events ≡ true) →
+    (history events s).lost_data ≡ false
+unfolding given
+writes_kept s t k events at few kept writes all most served = elim (after_writes s t k events at few kept writes all most) [
+  | inl fine ↦ fine.kept
+  | inr missed ↦
+      absurd (true≢false (sym (served missed.byte (record { byte = missed.inside; over = missed.over })) ∙ missed.missed))
+]
+
+pub writes_told : (s : State) (t : Transfer) (k : ℕ) (events : List Event) → IsAtSector s t k → k < 10 → s.lost_data ≡ false → t.writes ≡ true →
+    AllLetGo events → count_steps events ≤ sector_steps → (i : ℕ) → IsOver true i (count_steps events) → is_served true i events ≡ false →
+    (history events s).lost_data ≡ true
+unfolding given
+writes_told s t k events at few kept writes all most i over missed = elim (after_writes s t k events at few kept writes all most) [
+  | inl fine ↦ absurd (true≢false (sym (fine.served i over.byte over.over) ∙ missed))
+  | inr lost ↦ lost.lost
+]
+
+pub after_reads : (s : State) (t : Transfer) (k : ℕ) (events : List Event) → IsAtSector s t k → k < 10 → s.lost_data ≡ false → t.writes ≡ false →
+    AllLetGo events → count_steps events ≤ sector_steps →
+    Taken (of_sector t k) (history events s) (count_steps events) (accesses 0 events)
+after_reads s t k events at few kept reads all most =
+    reads_run (of_sector t k) (sector_goes t k few reads) (omega arith) events s all (omega (arith, most)) at.command at.angle kept at.drq
+
+kept_so : (b : Bool) (s : State) (t : Transfer) (k : ℕ) (events : List Event) → t.writes ≡ b → IsAtSector s t k → k < 10 → s.lost_data ≡ false →
+    AllLetGo events → count_steps events ≤ sector_steps → ((i : ℕ) → IsOver b i (count_steps events) → is_served b i events ≡ true) →
+    (history events s).lost_data ≡ false
+unfolding has_place
+kept_so true s t k events is at few kept all most served = writes_kept s t k events at few kept is all most served
+kept_so false s t k events is at few kept all most served = elim (after_reads s t k events at few kept is all most) [
+  | inl fine ↦ fine.kept
+  | inr missed ↦
+      absurd (true≢false (sym (served missed.byte (record { byte = missed.inside; over = omega (arith, missed.over) })) ∙ missed.missed))
+]
+
+told_so : (b : Bool) (s : State) (t : Transfer) (k : ℕ) (events : List Event) → t.writes ≡ b → IsAtSector s t k → k < 10 → s.lost_data ≡ false →
+    AllLetGo events → count_steps events ≤ sector_steps → (i : ℕ) → IsOver b i (count_steps events) → is_served b i events ≡ false →
+    (history events s).lost_data ≡ true
+unfolding has_place
+told_so true s t k events is at few kept all most i over missed = writes_told s t k events at few kept is all most i over missed
+told_so false s t k events is at few kept all most i over missed = elim (after_reads s t k events at few kept is all most) [
+  | inl fine ↦ absurd (true≢false (sym (fine.served i over.byte (omega (arith, over.over))) ∙ missed))
+  | inr lost ↦ lost.lost
+]
+
+pub lost_data_is_told : LostDataIsTold
+lost_data_is_told = record {
+  kept = λ s t k events at few kept all most served. kept_so t.writes s t k events refl at few kept all most served;
+  told = λ s t k events at few kept all most i over missed. told_so t.writes s t k events refl at few kept all most i over missed;
+}
 
 -- nothing is lost, and no byte waits
 pub record Served (s : State) : Type 0 where
@@ -81,3 +490,9 @@ writes_in_time back others = record {
       on_disc (disc_in t.target.drive s) d t s.sector here (and_parts _ _ (and_parts _ _ is.has).1).1 in
       (whole_written back others s1 t s.sector d writes found.at (found.disc ∙ here) has (is_write v low high) found.lost all count in_time).0;
 }
+
+pub searched_and_read : SearchedAndRead
+searched_and_read s t d bytes waits reads searches is_read has off bytes_are all_wait count all_read steps kept =
+    let found = search_ends.found s t 1000001 waits searches (omega arith) has off all_wait count in
+    let on_disc : HasBytes (history waits s) t s.sector d bytes = record { disc = found.1 ∙ bytes_are.disc; sector = bytes_are.sector } in
+    sector_read.whole (history waits s) t s.sector d bytes reads found.0 on_disc is_read all_read steps kept

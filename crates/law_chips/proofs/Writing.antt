@@ -38,78 +38,6 @@ asked m = min 256 (min 1 (m / 64 - 11) + min 256 (m / 64 - 29))
 pub owed : Bool → ℕ
 owed drq = if drq then 1 else 0
 
--- where a byte of the sector is
-unfoldable pub at_byte : Image → Transfer → ℕ → ℕ → ℕ
-at_byte d t k i = place d.kind t.target.side t.target.head k i
-
--- m steps after sector k of disc d was found, where these bytes have been given
-pub record Inside (d : Image) (t : Transfer) (k : ℕ) (s : State) (m : ℕ) (bytes : List ℕ) : Type 0 where
-  pub going : m < 18432 → s.command ≡ Transferring t k
-  pub over : 18432 ≤ m → s.command ≡ command_behind t
-  pub angle : s.angle ≡ Some (64 * (312 * k) + m)
-  pub now : Image
-  pub disc : disc_in t.target.drive s ≡ Some now
-  pub kind : now.kind ≡ d.kind
-  pub count : length bytes + owed s.drq ≡ asked m
-  pub enough : gone m ≤ length bytes
-  pub stored : (i : ℕ) → i < gone m → byte_at now (at_byte d t k i) ≡ get_or bytes i 0
-  pub pending : s.drq ≡ false → gone m < asked m → get_or bytes (gone m) 0 ≡ s.byte
-  pub others : (n : ℕ) → ((i : ℕ) → i < 256 → n ≢ at_byte d t k i) → byte_at now n ≡ byte_at d n
-
-counted_inside : (d : Image) (t : Transfer) (k : ℕ) (s : State) (m : ℕ) (bytes : List ℕ) (before : Bool) →
-    Inside d t k s m bytes → Inside d t k (count_leaves before s) m bytes
-counted_inside d t k s m bytes before is = record {
-  going = is.going;
-  over = is.over;
-  angle = is.angle;
-  now = is.now;
-  disc = same_disc t.target.drive (count_leaves before s) s refl refl ∙ is.disc;
-  kind = is.kind;
-  count = is.count;
-  enough = is.enough;
-  stored = is.stored;
-  pending = is.pending;
-  others = is.others;
-}
-
--- A step that changes only this much: the command, DRQ and the angle.
-plain : (d : Image) (t : Transfer) (k : ℕ) (s x : State) (m : ℕ) (bytes : List ℕ) → Inside d t k s m bytes →
-    (m + 1 < 18432 → x.command ≡ Transferring t k) → (18432 ≤ m + 1 → x.command ≡ command_behind t) → x.angle ≡ Some (64 * (312 * k) + m + 1) →
-    x.drive0 ≡ s.drive0 → x.drive1 ≡ s.drive1 → x.byte ≡ s.byte → gone (m + 1) ≡ gone m → length bytes + owed x.drq ≡ asked (m + 1) →
-    (x.drq ≡ false → gone m < asked (m + 1) → get_or bytes (gone m) 0 ≡ s.byte) →
-    Inside d t k x (m + 1) bytes
-plain d t k s x m bytes is going over angle drive0 drive1 byte same count pending = record {
-  going = going;
-  over = over;
-  angle = angle ∙ next_place k m;
-  now = is.now;
-  disc = same_disc t.target.drive x s drive0 drive1 ∙ is.disc;
-  kind = is.kind;
-  count = count;
-  enough = subst (λ n. n ≤ length bytes) (sym same) is.enough;
-  stored = λ i low. is.stored i (subst (λ n. i < n) same low);
-  pending = λ off more.
-      ap (λ n. get_or bytes n 0) same ∙ pending off (subst (λ n. n < asked (m + 1)) same more) ∙ sym byte;
-  others = is.others;
-}
-
--- nothing comes
-passes : (d : Image) (t : Transfer) (k : ℕ) (s : State) (m : ℕ) (bytes : List ℕ) → m < 18432 → gone (m + 1) ≡ gone m → asked (m + 1) ≡ asked m →
-    (m + 1 ≡ 18432 → ⊥) → Inside d t k s m bytes → Inside d t k (moved_on s k m) (m + 1) bytes
-unfolding moved_on
-passes d t k s m bytes inside same none early is =
-    plain d t k s (moved_on s k m) m bytes is (λ h. is.going inside) (λ h. absurd (early (omega (arith, h, inside)))) refl refl refl refl same (is.count ∙ sym none)
-    (λ off more. is.pending off (subst (λ n. gone m < n) none more))
-
--- DRQ becomes set for the first byte
-asks_first : (d : Image) (t : Transfer) (k : ℕ) (s : State) (m : ℕ) (bytes : List ℕ) → m + 1 ≡ 768 → Inside d t k s m bytes →
-    Inside d t k (record (moved_on s k m) { drq = true }) (m + 1) bytes
-unfolding moved_on gone asked owed
-asks_first d t k s m bytes now is =
-    let none : length bytes ≡ 0 = omega (arith, is.count, now) in
-    plain d t k s (record (moved_on s k m) { drq = true }) m bytes is (λ h. is.going (omega (arith, now))) (λ h. absurd (omega (arith, h, now))) refl refl refl refl
-    (omega (arith, now)) (omega (arith, now, none)) (λ off. absurd (true≢false off))
-
 -- what the end of a sector leaves
 record Ended (t : Transfer) (s x : State) : Type 0 where
   pub command : x.command ≡ command_behind t
@@ -124,16 +52,6 @@ ended_by true t s is =
     record { command = ap (λ b. if b then search_of t else Idle) (sym is); angle = refl; drive0 = refl; drive1 = refl; byte = refl; drq = refl }
 ended_by false t s is =
     record { command = ap (λ b. if b then search_of t else Idle) (sym is); angle = refl; drive0 = refl; drive1 = refl; byte = refl; drq = refl }
-
-ends_so : (d : Image) (t : Transfer) (k : ℕ) (s : State) (m : ℕ) (bytes : List ℕ) → m + 1 ≡ 18432 →
-    Inside d t k s m bytes → Inside d t k (sector_ended t (moved_on s k m)) (m + 1) bytes
-unfolding moved_on gone asked owed
-ends_so d t k s m bytes now is =
-    let end = ended_by t.multiple t (moved_on s k m) refl in
-    let same : asked (m + 1) ≡ asked m = omega (arith, now) in
-    plain d t k s (sector_ended t (moved_on s k m)) m bytes is (λ h. absurd (omega (arith, h, now))) (λ h. end.command) end.angle end.drive0 end.drive1 end.byte
-    (omega (arith, now)) (ap (λ b. length bytes + owed b) end.drq ∙ is.count ∙ sym same)
-    (λ off more. is.pending (sym end.drq ∙ off) (subst (λ n. gone m < n) same more))
 
 -- what a byte that is written leaves of the state
 pub record Put (target : Target) (number : Option DriveNumber) (k i v : ℕ) (s x : State) : Type 0 where
@@ -178,51 +96,6 @@ last_of i drq off = elim (cases_eq i 255) [
 -- places of a sector differ
 places_differ : (kind : Kind) (side track k i j : ℕ) → place kind side track k j ≡ place kind side track k i → j ≡ i
 places_differ kind side track k i j e = omega (arith, e)
-
--- Byte i is written.
-byte_goes : (back : IsReadBack) (others : OthersStay) (d : Image) (t : Transfer) (k : ℕ) (s : State) (m i : ℕ) (bytes : List ℕ) →
-    has_sector d.kind t.target.side t.target.head k ≡ true → m < 18432 → i < 256 → m + 1 ≡ 64 * (30 + i) → s.drq ≡ false → Inside d t k s m bytes →
-    Inside d t k (byte_written t.target k i (moved_on s k m)) (m + 1) bytes
-unfolding moved_on gone asked owed at_byte
-byte_goes back others d t k s m i bytes has inside low now off is =
-    let s1 = moved_on s k m in
-    let v = if s.drq then 0 else s.byte in
-    let side = t.target.side in
-    let head = t.target.head in
-    let p = put t.target t.target.drive k i v s1 in
-    let has_it : has_sector is.now.kind side head k ≡ true = ap (λ kind. has_sector kind side head k) is.kind ∙ has in
-    let here : gone m ≡ i = omega (arith, now, low) in
-    let there : gone (m + 1) ≡ i + 1 = omega (arith, now, low) in
-    let had : asked m ≡ i + 1 = omega (arith, now, low) in
-    let wants : asked (m + 1) ≡ min 256 (i + 2) = omega (arith, now, low) in
-    let long : length bytes ≡ i + 1 = sym (omega arith) ∙ ap (λ b. length bytes + owed b) (sym off) ∙ is.count ∙ had in
-    let is_v : v ≡ s.byte = ap (λ b. if b then 0 else s.byte) off in
-    let last : get_or bytes i 0 ≡ s.byte = ap (λ n. get_or bytes n 0) (sym here) ∙ is.pending off (omega (arith, here, had)) in
-    record {
-      going = λ h. p.command ∙ is.going inside;
-      over = λ h. absurd (omega (arith, h, now, low));
-      angle = p.angle ∙ next_place k m;
-      now = byte_put side head k i v is.now;
-      disc =
-          same_disc t.target.drive (byte_written t.target k i s1) (written_in t.target.drive t.target k i v s1) refl refl
-          ∙ p.disc is.now (same_disc t.target.drive s1 s refl refl ∙ is.disc);
-      kind = same_kind side head k i v is.now ∙ is.kind;
-      count = ap (λ n. n + owed (s.drq || not (i == 255))) long ∙ owed_behind i s.drq off low ∙ sym wants;
-      enough = omega (arith, there, long);
-      stored = λ j before. elim (cases_eq j i) [
-        | inl same ↦
-            ap (λ n. byte_at (byte_put side head k i v is.now) (place d.kind side head k n)) same
-            ∙ ap (λ kind. byte_at (byte_put side head k i v is.now) (place kind side head k i)) (sym is.kind)
-            ∙ back is.now side head k i v has_it low ∙ is_v ∙ sym last ∙ ap (λ n. get_or bytes n 0) (sym same)
-        | inr other ↦
-            others is.now side head k i v (place d.kind side head k j) has_it low
-            (λ e. other (places_differ d.kind side head k i j (e ∙ ap (λ kind. place kind side head k i) is.kind)))
-            ∙ is.stored j (omega (arith, before, there, here, other))
-      ];
-      pending = λ none more. absurd (omega (arith, more, there, wants, last_of i s.drq none));
-      others = λ n apart.
-          others is.now side head k i v n has_it low (λ e. apart i low (e ∙ ap (λ kind. place kind side head k i) is.kind)) ∙ is.others n apart;
-    }
 
 -- ---- What a step at a place does.
 
@@ -276,6 +149,246 @@ w_end t k place s is =
       eq-eqb place 288 is,
     ) refl
 
+pub writes_is : (t : Transfer) (k angle : ℕ) (s : State) → t.writes ≡ true → transfer_step t k angle s ≡ writing_at t k (places_into k angle) s
+writes_is t k angle s writes = ap (λ b. if b then writing_at t k (places_into k angle) s else reading_at t k (places_into k angle) s) writes
+
+-- ---- Accesses.
+
+-- ---- Runs.
+
+module _ (d : Image) (t : Transfer) (k : ℕ) where
+  -- where a byte of the sector is
+  unfoldable pub at_byte : ℕ → ℕ
+  at_byte i = place d.kind t.target.side t.target.head k i
+
+  -- m steps after sector k of disc d was found, where these bytes have been given
+  pub record Inside (s : State) (m : ℕ) (bytes : List ℕ) : Type 0 where
+    pub going : m < 18432 → s.command ≡ Transferring t k
+    pub over : 18432 ≤ m → s.command ≡ command_behind t
+    pub angle : s.angle ≡ Some (64 * (312 * k) + m)
+    pub now : Image
+    pub disc : disc_in t.target.drive s ≡ Some now
+    pub kind : now.kind ≡ d.kind
+    pub count : length bytes + owed s.drq ≡ asked m
+    pub enough : gone m ≤ length bytes
+    pub stored : (i : ℕ) → i < gone m → byte_at now (at_byte i) ≡ get_or bytes i 0
+    pub pending : s.drq ≡ false → gone m < asked m → get_or bytes (gone m) 0 ≡ s.byte
+    pub others : (n : ℕ) → ((i : ℕ) → i < 256 → n ≢ at_byte i) → byte_at now n ≡ byte_at d n
+
+  counted_inside : (s : State) (m : ℕ) (bytes : List ℕ) (before : Bool) →
+      Inside s m bytes → Inside (count_leaves before s) m bytes
+  counted_inside s m bytes before is = record {
+    going = is.going;
+    over = is.over;
+    angle = is.angle;
+    now = is.now;
+    disc = same_disc t.target.drive (count_leaves before s) s refl refl ∙ is.disc;
+    kind = is.kind;
+    count = is.count;
+    enough = is.enough;
+    stored = is.stored;
+    pending = is.pending;
+    others = is.others;
+  }
+
+  -- A step that changes only this much: the command, DRQ and the angle.
+  plain : (s x : State) (m : ℕ) (bytes : List ℕ) → Inside s m bytes →
+      (m + 1 < 18432 → x.command ≡ Transferring t k) → (18432 ≤ m + 1 → x.command ≡ command_behind t) → x.angle ≡ Some (64 * (312 * k) + m + 1) →
+      x.drive0 ≡ s.drive0 → x.drive1 ≡ s.drive1 → x.byte ≡ s.byte → gone (m + 1) ≡ gone m → length bytes + owed x.drq ≡ asked (m + 1) →
+      (x.drq ≡ false → gone m < asked (m + 1) → get_or bytes (gone m) 0 ≡ s.byte) →
+      Inside x (m + 1) bytes
+  plain s x m bytes is going over angle drive0 drive1 byte same count pending = record {
+    going = going;
+    over = over;
+    angle = angle ∙ next_place k m;
+    now = is.now;
+    disc = same_disc t.target.drive x s drive0 drive1 ∙ is.disc;
+    kind = is.kind;
+    count = count;
+    enough = subst (λ n. n ≤ length bytes) (sym same) is.enough;
+    stored = λ i low. is.stored i (subst (λ n. i < n) same low);
+    pending = λ off more.
+        ap (λ n. get_or bytes n 0) same ∙ pending off (subst (λ n. n < asked (m + 1)) same more) ∙ sym byte;
+    others = is.others;
+  }
+
+  -- nothing comes
+  passes : (s : State) (m : ℕ) (bytes : List ℕ) → m < 18432 → gone (m + 1) ≡ gone m → asked (m + 1) ≡ asked m →
+      (m + 1 ≡ 18432 → ⊥) → Inside s m bytes → Inside (moved_on s k m) (m + 1) bytes
+  unfolding moved_on
+  passes s m bytes inside same none early is =
+      plain s (moved_on s k m) m bytes is (λ h. is.going inside) (λ h. absurd (early (omega (arith, h, inside)))) refl refl refl refl same (is.count ∙ sym none)
+      (λ off more. is.pending off (subst (λ n. gone m < n) none more))
+
+  -- DRQ becomes set for the first byte
+  asks_first : (s : State) (m : ℕ) (bytes : List ℕ) → m + 1 ≡ 768 → Inside s m bytes →
+      Inside (record (moved_on s k m) { drq = true }) (m + 1) bytes
+  unfolding moved_on gone asked owed
+  asks_first s m bytes now is =
+      let none : length bytes ≡ 0 = omega (arith, is.count, now) in
+      plain s (record (moved_on s k m) { drq = true }) m bytes is (λ h. is.going (omega (arith, now))) (λ h. absurd (omega (arith, h, now))) refl refl refl refl
+      (omega (arith, now)) (omega (arith, now, none)) (λ off. absurd (true≢false off))
+
+  ends_so : (s : State) (m : ℕ) (bytes : List ℕ) → m + 1 ≡ 18432 →
+      Inside s m bytes → Inside (sector_ended t (moved_on s k m)) (m + 1) bytes
+  unfolding moved_on gone asked owed
+  ends_so s m bytes now is =
+      let end = ended_by t.multiple t (moved_on s k m) refl in
+      let same : asked (m + 1) ≡ asked m = omega (arith, now) in
+      plain s (sector_ended t (moved_on s k m)) m bytes is (λ h. absurd (omega (arith, h, now))) (λ h. end.command) end.angle end.drive0 end.drive1 end.byte
+      (omega (arith, now)) (ap (λ b. length bytes + owed b) end.drq ∙ is.count ∙ sym same)
+      (λ off more. is.pending (sym end.drq ∙ off) (subst (λ n. gone m < n) same more))
+
+  -- an access of another register than the data register
+  leaves_it : (s x : State) (m : ℕ) (bytes : List ℕ) → Accessed false s x → Inside s m bytes →
+      Inside x m (bytes ++ [])
+  leaves_it s x m bytes acc is =
+      subst (λ xs. Inside x m xs) (sym (append-nil bytes)) (record {
+        going = λ h. acc.command ∙ is.going h;
+        over = λ h. acc.command ∙ is.over h;
+        angle = acc.angle ∙ is.angle;
+        now = is.now;
+        disc = same_disc t.target.drive x s acc.drive0 acc.drive1 ∙ is.disc;
+        kind = is.kind;
+        count = ap (λ b. length bytes + owed b) acc.drq ∙ is.count;
+        enough = is.enough;
+        stored = is.stored;
+        pending = λ off more. is.pending (sym acc.drq ∙ off) more ∙ sym (acc.byte refl);
+        others = is.others;
+      })
+
+  -- a byte is given while DRQ is set
+  byte_given : (s : State) (v m : ℕ) (bytes : List ℕ) → s.drq ≡ true → Inside s m bytes →
+      Inside (write_leaves 3 v s) m (bytes ++ v ∷ [])
+  unfolding gone asked owed
+  byte_given s v m bytes on is =
+      let more : length (bytes ++ v ∷ []) ≡ length bytes + 1 = length_push bytes v in
+      let all : length bytes + 1 ≡ asked m = ap (λ b. length bytes + owed b) (sym on) ∙ is.count in
+      record {
+        going = is.going;
+        over = is.over;
+        angle = is.angle;
+        now = is.now;
+        disc = same_disc t.target.drive (write_leaves 3 v s) s refl refl ∙ is.disc;
+        kind = is.kind;
+        count = ap (λ n. n + 0) more ∙ let e : length bytes + 1 + 0 ≡ length bytes + 1 = omega arith in e ∙ all;
+        enough = omega (arith, is.enough, more);
+        stored = λ i low. is.stored i low ∙ sym (get_or_append_left bytes (v ∷ []) 0 i (omega (arith, low, is.enough)));
+        pending = λ off fewer. get_or_push bytes v 0 (gone m) (omega (arith, all, is.enough));
+        others = is.others;
+      }
+
+  -- an access of a program that gives bytes
+  pub accessed : (e : Event) (s : State) (m : ℕ) (bytes : List ℕ) → IsAccess e → Writes s e → Accessed (is_data e) s (happens e s) →
+      Inside s m bytes → Inside (happens e s) m (bytes ++ given_by e)
+  accessed microsecond s m bytes access may acc is = absurd access
+  accessed (read reg) s m bytes access may acc is =
+      leaves_it s (read_leaves reg s) m bytes (subst (λ b. Accessed b s (read_leaves reg s)) (ne_eqb reg 3 (λ e. omega (arith, e, may))) acc) is
+  accessed (write reg v) s m bytes access may acc is = elim (cases_eq reg 3) [
+    | inl three ↦
+        subst (λ r. Inside (write_leaves r v s) m (bytes ++ given_by (write r v))) (sym three) (byte_given s v m bytes (may.2 three) is)
+    | inr other ↦
+        let off : (reg == 3) ≡ false = ne_eqb reg 3 other in
+        subst (λ b. Inside (write_leaves reg v s) m (bytes ++ (if b then v ∷ [] else []))) (sym off)
+        (leaves_it s (write_leaves reg v s) m bytes (subst (λ b. Accessed b s (write_leaves reg v s)) off acc) is)
+  ]
+  accessed (latch v) s m bytes access may acc is = leaves_it s (latch_leaves v s) m bytes acc is
+
+  -- what holds of a run as long as nothing is lost
+  abbrev Within : State → ℕ → List ℕ → Type 0
+  Within s m bytes = s.lost_data ≡ false → Inside s m bytes
+
+  pub begins : (s : State) → IsAtSector s t k → disc_in t.target.drive s ≡ Some d → Inside s 0 []
+  unfolding gone asked owed
+  begins s at here = record {
+    going = λ h. at.command;
+    over = λ h. absurd (omega (arith, h));
+    angle = at.angle ∙ ap (λ (n : ℕ). Some n) (let e : 64 * (312 * k) ≡ 64 * (312 * k) + 0 = omega arith in e);
+    now = d;
+    disc = here;
+    kind = refl;
+    count = ap (λ b. 0 + owed b) at.drq;
+    enough = omega arith;
+    stored = λ i low. absurd (omega (arith, low));
+    pending = λ off more. absurd (omega (arith, more));
+    others = λ n apart. refl;
+  }
+
+  -- the sector as it is then
+  pub whole : (s : State) (bytes : List ℕ) → has_sector d.kind t.target.side t.target.head k ≡ true →
+      Inside s 18432 bytes → IsStored d t k bytes s
+  unfolding gone asked owed at_byte
+  whole s bytes has is =
+      let side = t.target.side in
+      let head = t.target.head in
+      let has_it : has_sector is.now.kind side head k ≡ true = ap (λ kind. has_sector kind side head k) is.kind ∙ has in
+      let long : length bytes ≡ 256 = omega (arith, is.count, is.enough) in
+      let is_bytes : bytes ≡ sector_bytes is.now side head k =
+      fill_by_all (λ i. byte_at is.now (place is.now.kind side head k 0 + i)) bytes 256 0 long
+      (λ i low.
+      let e : place d.kind side head k i ≡ place d.kind side head k 0 + i = omega arith in
+      sym (is.stored i low) ∙ ap (byte_at is.now) (e ∙ ap (λ kind. place kind side head k 0 + i) (sym is.kind))) in
+      record {
+        now = is.now;
+        disc = is.disc;
+        sector = ap (λ b. if b then Some (sector_bytes is.now side head k) else None) has_it ∙ ap (λ (xs : List ℕ). Some xs) (sym is_bytes);
+        others = is.others;
+      }
+
+  -- DRQ is off at the end
+  pub off_at_end : (s : State) (bytes : List ℕ) → Inside s 18432 bytes → s.drq ≡ false
+  unfolding gone asked owed
+  off_at_end s bytes is =
+      false_from_ne_true s.drq (λ on.
+      let all : length bytes + 1 ≡ asked 18432 = ap (λ b. length bytes + owed b) (sym on) ∙ is.count in
+      let enough = is.enough in
+      omega (arith, all, enough))
+
+-- Byte i is written.
+byte_goes : (back : IsReadBack) (others : OthersStay) (d : Image) (t : Transfer) (k : ℕ) (s : State) (m i : ℕ) (bytes : List ℕ) →
+    has_sector d.kind t.target.side t.target.head k ≡ true → m < 18432 → i < 256 → m + 1 ≡ 64 * (30 + i) → s.drq ≡ false → Inside d t k s m bytes →
+    Inside d t k (byte_written t.target k i (moved_on s k m)) (m + 1) bytes
+unfolding moved_on gone asked owed at_byte
+byte_goes back others d t k s m i bytes has inside low now off is =
+    let s1 = moved_on s k m in
+    let v = if s.drq then 0 else s.byte in
+    let side = t.target.side in
+    let head = t.target.head in
+    let p = put t.target t.target.drive k i v s1 in
+    let has_it : has_sector is.now.kind side head k ≡ true = ap (λ kind. has_sector kind side head k) is.kind ∙ has in
+    let here : gone m ≡ i = omega (arith, now, low) in
+    let there : gone (m + 1) ≡ i + 1 = omega (arith, now, low) in
+    let had : asked m ≡ i + 1 = omega (arith, now, low) in
+    let wants : asked (m + 1) ≡ min 256 (i + 2) = omega (arith, now, low) in
+    let long : length bytes ≡ i + 1 = sym (omega arith) ∙ ap (λ b. length bytes + owed b) (sym off) ∙ is.count ∙ had in
+    let is_v : v ≡ s.byte = ap (λ b. if b then 0 else s.byte) off in
+    let last : get_or bytes i 0 ≡ s.byte = ap (λ n. get_or bytes n 0) (sym here) ∙ is.pending off (omega (arith, here, had)) in
+    record {
+      going = λ h. p.command ∙ is.going inside;
+      over = λ h. absurd (omega (arith, h, now, low));
+      angle = p.angle ∙ next_place k m;
+      now = byte_put side head k i v is.now;
+      disc =
+          same_disc t.target.drive (byte_written t.target k i s1) (written_in t.target.drive t.target k i v s1) refl refl
+          ∙ p.disc is.now (same_disc t.target.drive s1 s refl refl ∙ is.disc);
+      kind = same_kind side head k i v is.now ∙ is.kind;
+      count = ap (λ n. n + owed (s.drq || not (i == 255))) long ∙ owed_behind i s.drq off low ∙ sym wants;
+      enough = omega (arith, there, long);
+      stored = λ j before. elim (cases_eq j i) [
+        | inl same ↦
+            ap (λ n. byte_at (byte_put side head k i v is.now) (place d.kind side head k n)) same
+            ∙ ap (λ kind. byte_at (byte_put side head k i v is.now) (place kind side head k i)) (sym is.kind)
+            ∙ back is.now side head k i v has_it low ∙ is_v ∙ sym last ∙ ap (λ n. get_or bytes n 0) (sym same)
+        | inr other ↦
+            others is.now side head k i v (place d.kind side head k j) has_it low
+            (λ e. other (places_differ d.kind side head k i j (e ∙ ap (λ kind. place kind side head k i) is.kind)))
+            ∙ is.stored j (omega (arith, before, there, here, other))
+      ];
+      pending = λ none more. absurd (omega (arith, more, there, wants, last_of i s.drq none));
+      others = λ n apart.
+          others is.now side head k i v n has_it low (λ e. apart i low (e ∙ ap (λ kind. place kind side head k i) is.kind)) ∙ is.others n apart;
+    }
+
 -- a step at a place that loses nothing
 at_place : (back : IsReadBack) (others : OthersStay) (d : Image) (t : Transfer) (k : ℕ) (s : State) (m : ℕ) (bytes : List ℕ) →
     has_sector d.kind t.target.side t.target.head k ≡ true → m < 18432 → (m + 1) % 64 ≡ 0 → Inside d t k s m bytes →
@@ -295,9 +408,6 @@ at_place back others d t k s m bytes has inside is_place is =
       | inr high ↦ passes d t k s m bytes inside (omega (arith, high, is_place)) (omega (arith, high, is_place)) (λ e. other (omega (arith, e))) is
     ])
 
-pub writes_is : (t : Transfer) (k angle : ℕ) (s : State) → t.writes ≡ true → transfer_step t k angle s ≡ writing_at t k (places_into k angle) s
-writes_is t k angle s writes = ap (λ b. if b then writing_at t k (places_into k angle) s else reading_at t k (places_into k angle) s) writes
-
 pub stepped : (back : IsReadBack) (others : OthersStay) (d : Image) (t : Transfer) (k : ℕ) (s : State) (m : ℕ) (bytes : List ℕ) → k < 10 →
     has_sector d.kind t.target.side t.target.head k ≡ true → t.writes ≡ true → m < 18432 → Inside d t k s m bytes → (step s).lost_data ≡ false →
     Inside d t k (step s) (m + 1) bytes
@@ -310,85 +420,6 @@ stepped back others d t k s m bytes few has writes inside is kept =
     (λ place. at_place back others d t k s m bytes has inside place is)
     (λ none kept. passes d t k s m bytes inside (omega (arith, none)) (omega (arith, none)) (λ e. none (omega (arith, e))) is) kept)
 
--- ---- Accesses.
-
--- an access of another register than the data register
-leaves_it : (d : Image) (t : Transfer) (k : ℕ) (s x : State) (m : ℕ) (bytes : List ℕ) → Accessed false s x → Inside d t k s m bytes →
-    Inside d t k x m (bytes ++ [])
-leaves_it d t k s x m bytes acc is =
-    subst (λ xs. Inside d t k x m xs) (sym (append-nil bytes)) (record {
-      going = λ h. acc.command ∙ is.going h;
-      over = λ h. acc.command ∙ is.over h;
-      angle = acc.angle ∙ is.angle;
-      now = is.now;
-      disc = same_disc t.target.drive x s acc.drive0 acc.drive1 ∙ is.disc;
-      kind = is.kind;
-      count = ap (λ b. length bytes + owed b) acc.drq ∙ is.count;
-      enough = is.enough;
-      stored = is.stored;
-      pending = λ off more. is.pending (sym acc.drq ∙ off) more ∙ sym (acc.byte refl);
-      others = is.others;
-    })
-
--- a byte is given while DRQ is set
-byte_given : (d : Image) (t : Transfer) (k : ℕ) (s : State) (v m : ℕ) (bytes : List ℕ) → s.drq ≡ true → Inside d t k s m bytes →
-    Inside d t k (write_leaves 3 v s) m (bytes ++ v ∷ [])
-unfolding gone asked owed
-byte_given d t k s v m bytes on is =
-    let more : length (bytes ++ v ∷ []) ≡ length bytes + 1 = length_push bytes v in
-    let all : length bytes + 1 ≡ asked m = ap (λ b. length bytes + owed b) (sym on) ∙ is.count in
-    record {
-      going = is.going;
-      over = is.over;
-      angle = is.angle;
-      now = is.now;
-      disc = same_disc t.target.drive (write_leaves 3 v s) s refl refl ∙ is.disc;
-      kind = is.kind;
-      count = ap (λ n. n + 0) more ∙ let e : length bytes + 1 + 0 ≡ length bytes + 1 = omega arith in e ∙ all;
-      enough = omega (arith, is.enough, more);
-      stored = λ i low. is.stored i low ∙ sym (get_or_append_left bytes (v ∷ []) 0 i (omega (arith, low, is.enough)));
-      pending = λ off fewer. get_or_push bytes v 0 (gone m) (omega (arith, all, is.enough));
-      others = is.others;
-    }
-
--- an access of a program that gives bytes
-pub accessed : (d : Image) (t : Transfer) (k : ℕ) (e : Event) (s : State) (m : ℕ) (bytes : List ℕ) → IsAccess e → Writes s e → Accessed (is_data e) s (happens e s) →
-    Inside d t k s m bytes → Inside d t k (happens e s) m (bytes ++ given_by e)
-accessed d t k microsecond s m bytes access may acc is = absurd access
-accessed d t k (read reg) s m bytes access may acc is =
-    leaves_it d t k s (read_leaves reg s) m bytes (subst (λ b. Accessed b s (read_leaves reg s)) (ne_eqb reg 3 (λ e. omega (arith, e, may))) acc) is
-accessed d t k (write reg v) s m bytes access may acc is = elim (cases_eq reg 3) [
-  | inl three ↦
-      subst (λ r. Inside d t k (write_leaves r v s) m (bytes ++ given_by (write r v))) (sym three) (byte_given d t k s v m bytes (may.2 three) is)
-  | inr other ↦
-      let off : (reg == 3) ≡ false = ne_eqb reg 3 other in
-      subst (λ b. Inside d t k (write_leaves reg v s) m (bytes ++ (if b then v ∷ [] else []))) (sym off)
-      (leaves_it d t k s (write_leaves reg v s) m bytes (subst (λ b. Accessed b s (write_leaves reg v s)) off acc) is)
-]
-accessed d t k (latch v) s m bytes access may acc is = leaves_it d t k s (latch_leaves v s) m bytes acc is
-
--- ---- Runs.
-
--- what holds of a run as long as nothing is lost
-abbrev Within : Image → Transfer → ℕ → State → ℕ → List ℕ → Type 0
-Within d t k s m bytes = s.lost_data ≡ false → Inside d t k s m bytes
-
-pub begins : (d : Image) (t : Transfer) (k : ℕ) (s : State) → IsAtSector s t k → disc_in t.target.drive s ≡ Some d → Inside d t k s 0 []
-unfolding gone asked owed
-begins d t k s at here = record {
-  going = λ h. at.command;
-  over = λ h. absurd (omega (arith, h));
-  angle = at.angle ∙ ap (λ (n : ℕ). Some n) (let e : 64 * (312 * k) ≡ 64 * (312 * k) + 0 = omega arith in e);
-  now = d;
-  disc = here;
-  kind = refl;
-  count = ap (λ b. 0 + owed b) at.drq;
-  enough = omega arith;
-  stored = λ i low. absurd (omega (arith, low));
-  pending = λ off more. absurd (omega (arith, more));
-  others = λ n apart. refl;
-}
-
 from_start : (back : IsReadBack) (others : OthersStay) (s : State) (t : Transfer) (k : ℕ) (d : Image) (events : List Event) →
     IsAtSector s t k → disc_in t.target.drive s ≡ Some d → has_sector d.kind t.target.side t.target.head k ≡ true → t.writes ≡ true →
     AllWritten s events → count_steps events ≡ sector_steps → (history events s).lost_data ≡ false → Inside d t k (history events s) 18432 (bytes_given events)
@@ -398,36 +429,6 @@ from_start back others s t k d events at here has writes all count kept =
     (λ x m bytes inside is lost. stepped back others d t k x m bytes few has writes inside (is (kept_before x lost)) lost)
     (λ e x m bytes access may acc is lost. accessed d t k e x m bytes access may acc (is (sym acc.lost ∙ lost)))
     18432 events s all count (omega arith) (λ h. begins d t k s at here) kept
-
--- the sector as it is then
-pub whole : (d : Image) (t : Transfer) (k : ℕ) (s : State) (bytes : List ℕ) → has_sector d.kind t.target.side t.target.head k ≡ true →
-    Inside d t k s 18432 bytes → IsStored d t k bytes s
-unfolding gone asked owed at_byte
-whole d t k s bytes has is =
-    let side = t.target.side in
-    let head = t.target.head in
-    let has_it : has_sector is.now.kind side head k ≡ true = ap (λ kind. has_sector kind side head k) is.kind ∙ has in
-    let long : length bytes ≡ 256 = omega (arith, is.count, is.enough) in
-    let is_bytes : bytes ≡ sector_bytes is.now side head k =
-    fill_by_all (λ i. byte_at is.now (place is.now.kind side head k 0 + i)) bytes 256 0 long
-    (λ i low.
-    let e : place d.kind side head k i ≡ place d.kind side head k 0 + i = omega arith in
-    sym (is.stored i low) ∙ ap (byte_at is.now) (e ∙ ap (λ kind. place kind side head k 0 + i) (sym is.kind))) in
-    record {
-      now = is.now;
-      disc = is.disc;
-      sector = ap (λ b. if b then Some (sector_bytes is.now side head k) else None) has_it ∙ ap (λ (xs : List ℕ). Some xs) (sym is_bytes);
-      others = is.others;
-    }
-
--- DRQ is off at the end
-pub off_at_end : (d : Image) (t : Transfer) (k : ℕ) (s : State) (bytes : List ℕ) → Inside d t k s 18432 bytes → s.drq ≡ false
-unfolding gone asked owed
-off_at_end d t k s bytes is =
-    false_from_ne_true s.drq (λ on.
-    let all : length bytes + 1 ≡ asked 18432 = ap (λ b. length bytes + owed b) (sym on) ∙ is.count in
-    let enough = is.enough in
-    omega (arith, all, enough))
 
 pub sector_written : (back : IsReadBack) (others : OthersStay) → SectorIsWritten
 sector_written back others = record {
