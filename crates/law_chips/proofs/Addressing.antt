@@ -1,5 +1,6 @@
 -- Read address, event by event.
-use Rattle.std.proofs.Common.{◌≡◌, ◌∙◌, sym, ap, subst, refl, ℕ, ◌+◌, ◌-◌, ◌*◌, ◌/◌, ◌%◌, ◌<◌, ◌≤◌, ◌==◌, ◌&&◌, min, Bool, true, false, List, [], ◌∷◌, ◌++◌, take, arith, inl, inr}
+use Rattle.std.proofs.Common.{◌≡◌, ◌∙◌, sym, ap, subst, refl, ℕ, ◌+◌, ◌-◌, ◌*◌, ◌/◌, ◌%◌, ◌<◌, ◌≤◌, ◌==◌, ◌&&◌, min, Bool, true, false, List, [], ◌∷◌, ◌++◌}
+use Rattle.std.proofs.Common.{take, arith, inl, inr}
 use Rattle.std.specs.Prelude.{Option, None, Some, nat_lt, nat_le, slice_index, if◌then◌else◌}
 use Rattle.std.proofs.lemmas.Bool.{cases_eq, cases_lt, eq-eqb, ne_eqb, lt-ltb, le-ltb, le-leb, lt-leb, and_parts, and_right, true≢false}
 use Rattle.std.proofs.lemmas.List.{append-nil}
@@ -130,7 +131,8 @@ read_keeps : (reg : ℕ) (s : State) → (read_leaves reg s).sector ≡ s.sector
 read_keeps reg s = ap (λ (x : State). (count_leaves (is_asking s) x).sector) (read_makes (reg == 0) (reg == 3) s)
 
 -- the end is not undone by a program that waits
-over_kept : (target : Target) (e : Event) (s : State) → IsAccess e → Waits e → Accessed (is_data e) s (happens e s) → (s.command ≡ Idle) × (s.sector ≡ target.head) →
+over_kept : (target : Target) (e : Event) (s : State) → IsAccess e → Waits e → Accessed (is_data e) s (happens e s) →
+    (s.command ≡ Idle) × (s.sector ≡ target.head) →
     ((happens e s).command ≡ Idle) × ((happens e s).sector ≡ target.head)
 over_kept target microsecond s access may acc over = absurd access
 over_kept target (read reg) s access may acc over = (acc.command ∙ over.0, read_keeps reg s ∙ over.1)
@@ -230,7 +232,8 @@ looks_on s0 target k n inside has next s m early w =
             | inr many ↦ many
           ] in
           let off : is_on_disc (disc_in target.drive s1) target number ≡ false =
-          ap (λ o. is_on_disc o target number) (same_disc target.drive s1 s0 w.drive0 w.drive1) ∙ on_disc_so (disc_in target.drive s0) target number has ∙ le-ltb number 10 big in
+          ap (λ o. is_on_disc o target number) (same_disc target.drive s1 s0 w.drive0 w.drive1) ∙ on_disc_so (disc_in target.drive s0) target number has
+          ∙ le-ltb number 10 big in
           ap (λ b. is_single_density s.latch && (angle % (64 * 312) == 0) && b) off ∙ and_false_twice (is_single_density s.latch) (angle % (64 * 312) == 0)
       | inr other ↦
           ap (λ b. is_single_density s.latch && b && is_on_disc (disc_in target.drive s1) target (angle / (64 * 312))) (ne_eqb (angle % (64 * 312)) 0 other)
@@ -240,7 +243,8 @@ looks_on s0 target k n inside has next s m early w =
     ap (λ c. command_step c angle s1) w.command
     ∙ ap (λ b. if b then record s1 { command = GivingAddress target (angle / (64 * 312)) }
     else if nat_lt 1 (1000000 - m) then record s1 { command = SeekingAddress target (1000000 - m - 1) } else not_found s1) none
-    ∙ ap (λ b. if b then record s1 { command = SeekingAddress target (1000000 - m - 1) } else not_found s1) (lt-ltb 1 (1000000 - m) (omega (arith, early, inside)))
+    ∙ ap (λ b. if b then record s1 { command = SeekingAddress target (1000000 - m - 1) } else not_found s1)
+    (lt-ltb 1 (1000000 - m) (omega (arith, early, inside)))
     ∙ ap (λ k. record s1 { command = SeekingAddress target k }) less
 
 -- the step at which one begins

@@ -40,7 +40,8 @@ settles_down : (t : Transfer) (left : ℕ) → CountsDown (settling t left) left
 unfolding settling
 settles_down t left s m inside is =
     let now : s.command ≡ Settling t (left - m) = is ∙ ap (λ b. if b then Settling t (left - m) else search_of t) (lt-ltb m left inside) in
-    let next : (if nat_lt 1 (left - m) then Settling t (left - m - 1) else search_of t) ≡ (if nat_lt (m + 1) left then Settling t (left - (m + 1)) else search_of t) =
+    let next : (if nat_lt 1 (left - m) then Settling t (left - m - 1) else search_of t) ≡
+    (if nat_lt (m + 1) left then Settling t (left - (m + 1)) else search_of t) =
     elim (cases_more m left) [
       | inl more ↦
           let less : left - m - 1 ≡ left - (m + 1) = omega arith in

@@ -1,11 +1,13 @@
 -- The bytes of the RAM card, access by access.
-use Rattle.std.proofs.Common.{◌≡◌, ◌∙◌, sym, ap, refl, ℕ, ◌<◌, ◌≤◌, ◌==◌, ◌&&◌, Bool, true, false, List, [], ◌∷◌, length, get_or, get_or-set_same, get_or-set_other, length-set, arith, inl, inr}
+use Rattle.std.proofs.Common.{◌≡◌, ◌∙◌, sym, ap, refl, ℕ, ◌<◌, ◌≤◌, ◌==◌, ◌&&◌, Bool, true, false, List, [], ◌∷◌, length, get_or, get_or-set_same}
+use Rattle.std.proofs.Common.{get_or-set_other, length-set, arith, inl, inr}
 use Rattle.std.specs.Prelude.{slice_set, if◌then◌else◌}
 use Rattle.std.proofs.lemmas.Bool.{cases_eq, cases_lt, eq-eqb, ne_eqb, le-leb, lt-leb, and_right}
 use Rattle.beeb_bits.specs.Zeros.{zeros-long, zeros-at}
 use Rattle.bus_plug.specs.Plug.{Plug, plug_answer}
 use Rattle.bus_plug.specs.RamCard.{is_page_register, is_in_page, card_place, card_rules, clear, new_card}
-use Rattle.law_chips.specs.Cards.{Access, read, write, after_access, after_accesses, IsAccess, AreAccesses, page_after, last_page, byte_after, last_written, CardRemembers}
+use Rattle.law_chips.specs.Cards.{Access, read, write, after_access, after_accesses, IsAccess, AreAccesses, page_after, last_page, byte_after, last_written}
+use Rattle.law_chips.specs.Cards.{CardRemembers}
 
 -- a card with this page selected, and these bytes
 card : ℕ → List ℕ → Plug
@@ -75,7 +77,8 @@ stored page of to at v bytes long small low' high' low high = elim (cases_eq (ca
             elim (cases_eq to at) [
               | inr apart ↦
                   rw (eq-eqb page of same, ne_eqb to at apart) (sym (get_or-set_other bytes (card_place page to) (card_place of at) v 0 other))
-              | inl here ↦ absurd (other (let e : card_place of at ≡ card_place page to = ap (λ p. card_place p at) (sym same) ∙ ap (card_place page) (sym here) in e))
+              | inl here ↦
+                  absurd (other (let e : card_place of at ≡ card_place page to = ap (λ p. card_place p at) (sym same) ∙ ap (card_place page) (sym here) in e))
             ]
       ]
 ]

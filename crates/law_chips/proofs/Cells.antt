@@ -1,5 +1,6 @@
 -- The style of a row by its codes.
-use Rattle.std.proofs.Common.{◌≡◌, ◌∙◌, sym, ap, subst, refl, ℕ, ◌+◌, ◌-◌, ◌%◌, ◌<◌, ◌≤◌, ◌==◌, ◌&&◌, ◌||◌, not, Bool, true, false, List, [], ◌∷◌, reverse, arith, inl, inr}
+use Rattle.std.proofs.Common.{◌≡◌, ◌∙◌, sym, ap, subst, refl, ℕ, ◌+◌, ◌-◌, ◌%◌, ◌<◌, ◌≤◌, ◌==◌, ◌&&◌, ◌||◌, not, Bool, true, false, List, [], ◌∷◌, reverse}
+use Rattle.std.proofs.Common.{arith, inl, inr}
 use Rattle.std.specs.Prelude.{Option, None, Some, nat_lt, nat_le, if◌then◌else◌}
 use Rattle.std.proofs.lemmas.Bool.{cases_lt, ne_eqb, le-ltb, lt-leb, ltb-true, and_right, and_parts}
 use Rattle.std.proofs.lemmas.List.{reverse-reverse}
@@ -10,9 +11,10 @@ use Rattle.saa5050.specs.Shapes.{Font}
 use Rattle.saa5050.specs.Controls.{Control, controls, effect_of, holds_at_once}
 use Rattle.saa5050.specs.Row.{is_sixel, sixel_of, with_held_shape, style_after, style_at, row_of, styled_cell}
 use Rattle.saa5050.specs.Laws.{OneCodeMore}
-use Rattle.law_chips.specs.TeletextCells.{is_letters, is_colour, colour, in_graphics, is_flashing, is_double, is_separated, is_holding, is_concealed, background}
+use Rattle.law_chips.specs.TeletextCells.{is_letters, is_colour, colour, in_graphics, is_flashing, is_double, is_separated, is_holding, is_concealed}
+use Rattle.law_chips.specs.TeletextCells.{background}
 use Rattle.law_chips.specs.TeletextCells.{changes_height, held, pixels_of, CellsShowTheirCodes}
-use Rattle.law_chips.proofs.Ports.{by_bit}
+use Rattle.law_chips.proofs.Flags.{by_bit}
 
 -- what codes leave, the nearest first
 told : List ℕ → Style
@@ -121,7 +123,8 @@ no_control [] code low high = refl
 no_control (c ∷ cs) code low high =
     let parts = and_parts _ _ low in
     let above : c.last < code = below c.last code parts.0 high in
-    ap (λ b. if b then c.at_once else holds_at_once cs code) (and_right (nat_le c.first code) (nat_le code c.last) (lt-leb code c.last above)) ∙ no_control cs code parts.1 high
+    ap (λ b. if b then c.at_once else holds_at_once cs code) (and_right (nat_le c.first code) (nat_le code c.last) (lt-leb code c.last above))
+    ∙ no_control cs code parts.1 high
 
 -- none of the tests passes
 no_letters : (code : ℕ) → 0x20 ≤ code → is_letters code ≡ false
@@ -129,7 +132,8 @@ no_letters code high = and_right (nat_le 0x01 code) (nat_le code 0x07) (lt-leb c
 
 no_colour : (code : ℕ) → 0x20 ≤ code → is_colour code ≡ false
 no_colour code high =
-    ap (λ b. b || (nat_le 0x11 code && nat_le code 0x17)) (no_letters code high) ∙ and_right (nat_le 0x11 code) (nat_le code 0x17) (lt-leb code 0x17 (omega (arith, high)))
+    ap (λ b. b || (nat_le 0x11 code && nat_le code 0x17)) (no_letters code high) ∙ and_right (nat_le 0x11 code) (nat_le code 0x17)
+    (lt-leb code 0x17 (omega (arith, high)))
 
 no_change : (code : ℕ) (double : Bool) → 0x20 ≤ code → changes_height code double ≡ false
 no_change code double high =
@@ -144,7 +148,8 @@ with_sixel : ℕ → Style → Style
 with_sixel code s = record s { held = if is_sixel code && s.graphics then Some (record { code = code; separated = s.separated }) else s.held }
 
 swap : (b g : Bool) (code : ℕ) (s : Style) →
-    (if g && b then record s { held = Some (sixel_of code s) } else s) ≡ record s { held = if b && g then Some (record { code = code; separated = s.separated }) else s.held }
+    (if g && b then record s { held = Some (sixel_of code s) } else s)
+    ≡ record s { held = if b && g then Some (record { code = code; separated = s.separated }) else s.held }
 swap true true code s = refl
 swap true false code s = refl
 swap false true code s = refl
@@ -173,7 +178,8 @@ only_held code s high =
 more_high : (s : Style) (code : ℕ) → 0x20 ≤ code → IsMore s code
 unfolding IsMore with_sixel
 more_high s code high =
-    ap (λ b. if b then effect_of controls code s else with_held_shape code s) (le-ltb code 0x20 high) ∙ swap (is_sixel code) s.graphics code s ∙ sym (only_held code s high)
+    ap (λ b. if b then effect_of controls code s else with_held_shape code s) (le-ltb code 0x20 high) ∙ swap (is_sixel code) s.graphics code s ∙ sym
+    (only_held code s high)
 
 stays : (s : Style) (code : ℕ) → 0x20 ≤ code → own code s ≡ s
 unfolding own

@@ -48,7 +48,8 @@ was_written asks reg v s low high is =
 
 was_latched : (asks : Bool) (v : ℕ) (s : State) → is_reset v ≡ false → Rests asks s → Rests asks (latch_leaves v s)
 was_latched asks v s off is =
-    subst (λ b. Rests asks (if b then stop_leaves (record s { latch = v }) else record s { latch = v })) (sym off) (record { command = is.command; intrq = is.intrq })
+    subst (λ b. Rests asks (if b then stop_leaves (record s { latch = v }) else record s { latch = v })) (sym off)
+    (record { command = is.command; intrq = is.intrq })
 
 both : (asks a b : Bool) → ((asks && not a) && not b) ≡ (asks && not (a || b))
 both true true b = refl

@@ -14,9 +14,7 @@ pub mod Moving
 pub mod Forcing
 pub mod Addressing
 pub mod Several
-pub mod CrtcRuns
 pub mod Flags
-pub mod Ports
 pub mod Cells
 pub mod Colouring
 pub mod BeamWalk

@@ -1,5 +1,6 @@
 -- Type I commands, from their writing to their end.
-use Rattle.std.proofs.Common.{◌≡◌, ◌∙◌, sym, ap, subst, refl, ℕ, ◌+◌, ◌-◌, ◌*◌, ◌<◌, ◌≤◌, ◌==◌, ◌&&◌, ◌||◌, min, max, not, Bool, true, false, List, arith, inl, inr}
+use Rattle.std.proofs.Common.{◌≡◌, ◌∙◌, sym, ap, subst, refl, ℕ, ◌+◌, ◌-◌, ◌*◌, ◌<◌, ◌≤◌, ◌==◌, ◌&&◌, ◌||◌, min, max, not, Bool, true, false, List, arith, inl}
+use Rattle.std.proofs.Common.{inr}
 use Rattle.std.specs.Prelude.{Some, nat_lt, if◌then◌else◌}
 use Rattle.std.proofs.lemmas.Bool.{cases_lt, lt-ltb, le-ltb}
 use Rattle.beeb_bits.specs.Bits.{bit}
@@ -94,7 +95,8 @@ moved m s =
       over = refl;
       asks = refl;
       latch = put_keeps m.drive (record (drive_of m.drive s) { head = head_after m s }) s;
-      head = renamed m.drive (move_leaves m s) x refl refl ∙ ap (λ (d : Drive). d.head) (put_in m.drive (record (drive_of m.drive s) { head = head_after m s }) s);
+      head =
+          renamed m.drive (move_leaves m s) x refl refl ∙ ap (λ (d : Drive). d.head) (put_in m.drive (record (drive_of m.drive s) { head = head_after m s }) s);
       track = refl;
       not_found = refl;
       last_inward = refl;
@@ -136,7 +138,8 @@ arrived s v waits m left low is moves some drive verifies end =
         asks = ap (λ (x : State). x.intrq) is_x ∙ e.asks;
         head =
             ap (λ l. (drive_of (drive_or_0 (drive_selected l)) x).head) x_latch ∙ ap (λ n. (drive_of n x).head) (sym drive)
-            ∙ ap (λ (x : State). (drive_of m.drive x).head) is_x ∙ renamed m.drive (count_leaves (is_asking y) (move_leaves m y1)) (move_leaves m y1) refl refl ∙ e.head ∙ head;
+            ∙ ap (λ (x : State). (drive_of m.drive x).head) is_x ∙ renamed m.drive (count_leaves (is_asking y) (move_leaves m y1)) (move_leaves m y1) refl refl
+            ∙ e.head ∙ head;
         track = ap (λ (x : State). x.track) is_x ∙ e.track ∙ becomes;
         seek_error =
             ap (λ (x : State). x.record_not_found) is_x ∙ e.not_found
@@ -156,7 +159,8 @@ unfolding motion left_of
 is_restore v s low = rw (lt-ltb v 0x10 low) refl
 
 is_seek : (v : ℕ) (s : State) → 0x10 ≤ v → v < 0x20 →
-    motion_of v s ≡ Moving (motion v (nat_lt s.track s.byte) (Becomes s.byte) (max s.byte s.track - min s.byte s.track) s) (left_of v (max s.byte s.track - min s.byte s.track))
+    motion_of v s ≡ Moving (motion v (nat_lt s.track s.byte) (Becomes s.byte) (max s.byte s.track - min s.byte s.track) s)
+    (left_of v (max s.byte s.track - min s.byte s.track))
 unfolding motion left_of
 is_seek v s low high = rw (le-ltb v 0x10 low, lt-ltb v 0x20 high) refl
 
@@ -200,7 +204,8 @@ time_by : (v n : ℕ) (s : State) → head_steps v s ≡ n → motion_time v s �
 unfolding left_of
 time_by v n s is = ap (λ k. max 1 (k * step_time v)) is
 
-restored : (s : State) (v : ℕ) (waits : List Event) → v < 0x10 → IsGiven s waits → count_steps waits + 1 ≡ motion_time v s → Arrives v 0 0 (ended_after v waits s)
+restored : (s : State) (v : ℕ) (waits : List Event) → v < 0x10 → IsGiven s waits → count_steps waits + 1 ≡ motion_time v s →
+    Arrives v 0 0 (ended_after v waits s)
 unfolding motion head_by track_by
 restored s v waits low is end =
     let n = head_selected s in
@@ -242,7 +247,8 @@ counted_track : (b inward : Bool) (track : ℕ) → track_changed (if b then Fol
 counted_track true inward track = refl
 counted_track false inward track = refl
 
-stepped : (s : State) (v : ℕ) (inward : Bool) (waits : List Event) → 0x20 ≤ v → v < 0x80 → inward_by v s ≡ inward → IsGiven s waits → count_steps waits + 1 ≡ motion_time v s →
+stepped : (s : State) (v : ℕ) (inward : Bool) (waits : List Event) → 0x20 ≤ v → v < 0x80 → inward_by v s ≡ inward → IsGiven s waits →
+    count_steps waits + 1 ≡ motion_time v s →
     Arrives v (head_moved inward 1 (head_selected s)) (if bit v 4 then track_counted inward s.track else s.track) (ended_after v waits s)
     × ((ended_after v waits s).last_inward ≡ inward)
 unfolding motion head_by track_by step_motion left_of
@@ -263,7 +269,8 @@ still s v waits m left low is moves some inside =
     let w = waited s v waits m left low is moves some inside in
     let y = history waits (write_leaves 0 v s) in (
       ap is_busy w.command,
-      same_head y s (w.latch ∙ ap (λ (x : State). x.latch) written) (w.drive0 ∙ ap (λ (x : State). x.drive0) written) (w.drive1 ∙ ap (λ (x : State). x.drive1) written),
+      same_head y s (w.latch ∙ ap (λ (x : State). x.latch) written) (w.drive0 ∙ ap (λ (x : State). x.drive0) written)
+      (w.drive1 ∙ ap (λ (x : State). x.drive1) written),
       w.track ∙ ap (λ (x : State). x.track) written,
     )
 

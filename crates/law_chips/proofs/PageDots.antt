@@ -1,5 +1,6 @@
 -- The dots of the finished frame in teletext mode, while no register is written.
-use Rattle.std.proofs.Common.{◌≡◌, ◌∙◌, sym, ap, subst, refl, ℕ, zero, suc, ◌+◌, ◌-◌, ◌/◌, ◌%◌, ◌<◌, ◌≤◌, ◌⊎◌, Bool, true, false, min, map, List, [], ◌∷◌, length}
+use Rattle.std.proofs.Common.{◌≡◌, ◌∙◌, sym, ap, subst, refl, ℕ, zero, suc, ◌+◌, ◌-◌, ◌/◌, ◌%◌, ◌<◌, ◌≤◌, ◌⊎◌, Bool, true, false, min, map, List, [], ◌∷◌}
+use Rattle.std.proofs.Common.{length}
 use Rattle.std.proofs.Common.{reverse, arith, inl, inr}
 use Rattle.std.specs.Prelude.{slice_index, nat_lt, nat_le, if◌then◌else◌}
 use Rattle.std.proofs.lemmas.Bool.{ltb-true, lt-ltb, and_parts, and_from}
@@ -61,7 +62,8 @@ pub record Told (ram : List ℕ) (size : ℕ) (font : Font) (b : Beam) (s x : St
       x.working
       ≡ (if b.shown then dots_set 208 (place_at b s.place).x (place_at b s.place).y (told_dots ram size font b s) (frame_at b s) else frame_at b s)
 
-one_told : (ram : List ℕ) (size : ℕ) (font : Font) (s : State) → bit s.ula.control 1 ≡ true → Told ram size font (beam_of s.crtc) s (char_clock_leaves ram size font s)
+one_told : (ram : List ℕ) (size : ℕ) (font : Font) (s : State) → bit s.ula.control 1 ≡ true →
+    Told ram size font (beam_of s.crtc) s (char_clock_leaves ram size font s)
 unfolding char_clock_leaves told_code told_dots
 one_told ram size font s on =
     let b = beam_of s.crtc in
@@ -104,7 +106,8 @@ pub record Here (ram : ℕ → List ℕ) (size : ℕ → ℕ) (s : State) (n : �
   pub code : told_code (ram n) (size n) (tells n s.crtc) ≡ code_at ram size s.crtc.registers n
   pub raster : (tells n s.crtc).ra ≡ raster_at s.crtc.registers n
 
-pub here : ShownAddressesCount → CharactersAreShown → (ram : ℕ → List ℕ) (size : ℕ → ℕ) (s : State) (n : ℕ) → MakesFrames s.crtc → (tells n s.crtc).shown ≡ true →
+pub here : ShownAddressesCount → CharactersAreShown → (ram : ℕ → List ℕ) (size : ℕ → ℕ) (s : State) (n : ℕ) → MakesFrames s.crtc →
+    (tells n s.crtc).shown ≡ true →
     Here ram size s n
 unfolding told_code
 here count characters ram size s n makes is =
@@ -120,7 +123,8 @@ here count characters ram size s n makes is =
     }
 
 -- the character before one that is shown is shown, in its line
-shown_before : (r : crtc.Registers) (k j : ℕ) → k % line_characters r ≡ j → (k + 1) % line_characters r ≡ j + 1 → (k + 1) / line_characters r ≡ k / line_characters r →
+shown_before : (r : crtc.Registers) (k j : ℕ) → k % line_characters r ≡ j → (k + 1) % line_characters r ≡ j + 1 →
+    (k + 1) / line_characters r ≡ k / line_characters r →
     is_shown_at r (k + 1) ≡ true → is_shown_at r k ≡ true
 shown_before r k j column next line is =
     let p = and_parts _ _ is in
@@ -203,7 +207,8 @@ told_many ram size font b s =
     let c = cell font (slice_index ram (byte_address b.ma b.ra size) % 128) b.ra t.bottom b.fields t.codes in
     let marked = is_marked s.ula.control b.cursor s.cursor in
     length-take (dots_of s.ula.control) (map (under_cursor marked) c)
-    ∙ ap (min (dots_of s.ula.control)) (length-map c (under_cursor marked) ∙ cell_length font (slice_index ram (byte_address b.ma b.ra size) % 128) b.ra t.bottom b.fields t.codes)
+    ∙ ap (min (dots_of s.ula.control))
+    (length-map c (under_cursor marked) ∙ cell_length font (slice_index ram (byte_address b.ma b.ra size) % 128) b.ra t.bottom b.fields t.codes)
     ∙ of_sixteen (dots_of s.ula.control) (eight_or_sixteen s.ula.control)
 
 told_dot : (ram : List ℕ) (size : ℕ) (font : Font) (b : Beam) (s : State) (d : ℕ) → d < dots_of s.ula.control →
@@ -231,7 +236,8 @@ cells_shown ram size font s on = record {
 }
 
 -- a dot of the character of clock n
-colour_is : OneCodeMore → CellsShowTheirCodes → Laws → ShownAddressesCount → CharactersAreShown → (ram : ℕ → List ℕ) (size : ℕ → ℕ) (font : Font) (s : State) (n d : ℕ) →
+colour_is : OneCodeMore → CellsShowTheirCodes → Laws → ShownAddressesCount → CharactersAreShown → (ram : ℕ → List ℕ) (size : ℕ →
+    ℕ) (font : Font) (s : State) (n d : ℕ) →
     MakesFrames s.crtc → bit s.ula.control 1 ≡ true → 3 ≤ n → is_shown_at s.crtc.registers n ≡ true → d < dots_of s.ula.control →
     slice_index (told_dots (ram n) (size n) font (tells n s.crtc) (char_clocks ram size font n s)) d
     ≡ under_cursor (is_marked_at s.ula.control s.crtc n) (slice_index (cell_at ram size font s n) d)
@@ -248,8 +254,10 @@ colour_is one cells laws count characters ram size font s n d makes on three is 
     let fits : d < dots_of x.ula.control = subst (λ (u : ula.State). d < dots_of u.control) (sym (same_ula ram size font s n)) within in
     let shows = λ (u : ula.State) (c : Cursor) (cs : List ℕ). under_cursor (is_marked u.control b.cursor c) (slice_index cs d) in
     told_dot (ram n) (size n) font b x d fits
-    ∙ ap (λ (u : ula.State). shows u x.cursor (cell font (told_code (ram n) (size n) b) b.ra lower b.fields (text_at b x.text).codes)) (same_ula ram size font s n)
-    ∙ ap (λ (c : Cursor). shows s.ula c (cell font (told_code (ram n) (size n) b) b.ra lower b.fields (text_at b x.text).codes)) (cursor_was ram size font s n three)
+    ∙ ap (λ (u : ula.State). shows u x.cursor (cell font (told_code (ram n) (size n) b) b.ra lower b.fields (text_at b x.text).codes))
+    (same_ula ram size font s n)
+    ∙ ap (λ (c : Cursor). shows s.ula c (cell font (told_code (ram n) (size n) b) b.ra lower b.fields (text_at b x.text).codes))
+    (cursor_was ram size font s n three)
     ∙ ap (λ i. shows s.ula (cursor_before s.crtc n) (cell font i b.ra lower b.fields (text_at b x.text).codes)) h.code
     ∙ ap (λ i. shows s.ula (cursor_before s.crtc n) (cell font code i lower b.fields (text_at b x.text).codes)) h.raster
     ∙ ap (λ row. shows s.ula (cursor_before s.crtc n) (cell font code (raster_at r n) lower b.fields row)) codes

@@ -1,5 +1,6 @@
 -- A register of the Tube, event by event.
-use Rattle.std.proofs.Common.{◌≡◌, ◌∙◌, sym, ap, subst, refl, ℕ, zero, suc, ◌+◌, ◌-◌, ◌*◌, ◌/◌, ◌%◌, ◌<◌, ◌≤◌, ◌==◌, ◌&&◌, ◌||◌, Bool, true, false, not, List, [], ◌∷◌, ◌++◌, length, arith, inl, inr}
+use Rattle.std.proofs.Common.{◌≡◌, ◌∙◌, sym, ap, subst, refl, ℕ, zero, suc, ◌+◌, ◌-◌, ◌*◌, ◌/◌, ◌%◌, ◌<◌, ◌≤◌, ◌==◌, ◌&&◌, ◌||◌, Bool, true, false, not, List}
+use Rattle.std.proofs.Common.{[], ◌∷◌, ◌++◌, length, arith, inl, inr}
 use Rattle.std.specs.Prelude.{Option, None, Some, is_some, nat_lt, if◌then◌else◌}
 use Rattle.std.proofs.lemmas.Bool.{cases_eq, eq-eqb, ne_eqb, eqb-true, eqb-false, lt-ltb, cases_Bool, or_parts, true≢false, false≢true}
 use Rattle.std.proofs.lemmas.List.{append-nil, append_assoc}
@@ -10,7 +11,8 @@ use Rattle.tube_chip.specs.declared.Op.TheVariants.{Read, Write, Reset}
 use Rattle.tube_chip.specs.declared.Answer.{Answer}
 use Rattle.tube_chip.specs.Register.{Register, empty, holds, held_bytes, count, front_of, take_leaves, write_leaves}
 use Rattle.tube_chip.specs.State.{State, Flags, Bank, register, with_register, incoming_bank, capacity, is_empty, power_on, clear_leaves}
-use Rattle.tube_chip.specs.Act.{Query, access, look, is_status, register_number, flags_after, answer_of, control_leaves, read_by, written_by, status_written, op_leaves, with_counts, chip_after, act}
+use Rattle.tube_chip.specs.Act.{Query, access, look, is_status, register_number, flags_after, answer_of, control_leaves, read_by, written_by, status_written}
+use Rattle.tube_chip.specs.Act.{op_leaves, with_counts, chip_after, act}
 use Rattle.tube_chip.specs.Events.{Event, after_from}
 use Rattle.law_chips.specs.Queues.{reader, queue, byte_number, byte_sent, clears, destroys, byte_shown, is_read, read_out, the_byte, written_in}
 use Rattle.law_chips.specs.Queues.{leaves, comes, over, MayAsk, DestroysNothing, ClearsNothing, RegistersAreQueues, NothingIsLost, FifoLosesNothing}
@@ -286,7 +288,8 @@ has_reset Para k c = refl
 Keeps : Side → ℕ → State → Side → Query → Answer → Type 0
 Keeps from k c side query answer =
     (tick : ℕ) → let e : Event = record { tick = tick; side = side; query = query; answer = answer } in
-    Balance (clears e) (byte_sent from k e) (is_read from k e) (capacity from k c.flags) (byte_shown answer) (held_bytes (queue from k power_on)) (queue from k c)
+    Balance (clears e) (byte_sent from k e) (is_read from k e) (capacity from k c.flags) (byte_shown answer) (held_bytes (queue from k power_on))
+    (queue from k c)
     (queue from k (act c side query).0)
 
 -- an odd number is not that of the control register
@@ -441,7 +444,8 @@ fifo_keeps z false b stays = rw stays refl
 fifo_destroys_nothing : (c : State) (events : List Event) → ClearsNothing events → DestroysNothing Para 1 c events
 fifo_destroys_nothing c [] clear = tt
 fifo_destroys_nothing c (e ∷ events) clear =
-    (fifo_keeps (clears e) (is_some (byte_sent Para 1 e)) (not (is_empty (queue Para 1 c))) clear.0, fifo_destroys_nothing (act c e.side e.query).0 events clear.1)
+    (fifo_keeps (clears e) (is_some (byte_sent Para 1 e)) (not (is_empty (queue Para 1 c))) clear.0, fifo_destroys_nothing
+    (act c e.side e.query).0 events clear.1)
 
 pub fifo_kept : FifoLosesNothing
 fifo_kept c events may answered clear =

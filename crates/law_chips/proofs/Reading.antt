@@ -1,5 +1,6 @@
 -- A sector that is read, event by event.
-use Rattle.std.proofs.Common.{◌≡◌, ◌∙◌, sym, ap, subst, refl, ℕ, ◌+◌, ◌-◌, ◌*◌, ◌/◌, ◌%◌, ◌<◌, ◌≤◌, Bool, true, false, List, [], ◌∷◌, length, take, arith, inl, inr}
+use Rattle.std.proofs.Common.{◌≡◌, ◌∙◌, sym, ap, subst, refl, ℕ, ◌+◌, ◌-◌, ◌*◌, ◌/◌, ◌%◌, ◌<◌, ◌≤◌, Bool, true, false, List, [], ◌∷◌, length, take, arith, inl}
+use Rattle.std.proofs.Common.{inr}
 use Rattle.std.specs.Prelude.{Option, None, Some, unwrap_or, nat_lt, nat_le, slice_index, if◌then◌else◌}
 use Rattle.std.proofs.lemmas.Bool.{cases_eq, cases_lt, eq-eqb, ne_eqb, lt-ltb, le-ltb, le-leb, lt-leb, and_parts, and_right, ltb-true}
 use Rattle.std.proofs.lemmas.List.{take_all}
@@ -172,13 +173,15 @@ number_small d side track k bytes is =
 
 pub bytes_long : (d : Image) (side track k : ℕ) (bytes : List ℕ) → sector_of d side track k ≡ Some bytes → length bytes ≡ 256
 bytes_long d side track k bytes is =
-    ap length (sym (bytes_of (has_sector d.kind side track k) (sector_bytes d side track k) bytes is).1) ∙ length-map-range_with_len (λ at. byte_at d (place d.kind side track k 0 + at)) 0 256
+    ap length (sym (bytes_of (has_sector d.kind side track k) (sector_bytes d side track k) bytes is).1) ∙ length-map-range_with_len
+    (λ at. byte_at d (place d.kind side track k 0 + at)) 0 256
 
 all_come : (m : ℕ) (bytes : List ℕ) → m ≡ 18432 → length bytes ≡ 256 → take (bytes_come m) bytes ≡ bytes
 all_come m bytes now long = let all : length bytes ≤ bytes_come m = omega (arith, now, long) in take_all (bytes_come m) bytes all
 
 -- a disc with these bytes gives them
-gives : (s0 : State) (t : Transfer) (k : ℕ) (d : Image) (bytes : List ℕ) (s : State) (i : ℕ) → HasBytes s0 t k d bytes → s.drive0 ≡ s0.drive0 → s.drive1 ≡ s0.drive1 →
+gives : (s0 : State) (t : Transfer) (k : ℕ) (d : Image) (bytes : List ℕ) (s : State) (i : ℕ) → HasBytes s0 t k d bytes → s.drive0 ≡ s0.drive0 →
+    s.drive1 ≡ s0.drive1 →
     byte_on_disc (disc_in t.target.drive s) t.target k i ≡ slice_index bytes i
 gives s0 t k d bytes s i has a b =
     ap (λ o. byte_on_disc o t.target k i) (same_disc t.target.drive s s0 a b ∙ has.disc) ∙ ap (λ o. byte_of_sector o i) has.sector
@@ -197,7 +200,8 @@ pub at_start : (s : State) (t : Transfer) (k : ℕ) (bytes : List ℕ) → IsAtS
 at_start s t k bytes at = takes_first (of_sector t k) bytes s (omega arith) at.command at.angle at.drq
 
 from_start : (s : State) (t : Transfer) (k : ℕ) (d : Image) (bytes : List ℕ) (events : List Event) → IsAtSector s t k → HasBytes s t k d bytes →
-    t.writes ≡ false → AllRead events → count_steps events ≤ sector_steps → Taking (of_sector t k) bytes s (history events s) (count_steps events) (bytes_taken s events)
+    t.writes ≡ false → AllRead events → count_steps events ≤ sector_steps → Taking (of_sector t k) bytes s (history events s) (count_steps events)
+    (bytes_taken s events)
 from_start s t k d bytes events at has reads all most =
     let f = of_sector t k in
     runs_all reading (Taking f bytes s) 18432 (λ x m got inside is. takes_step f bytes s x m got (is_given s t k d bytes has reads) inside is)

@@ -54,7 +54,8 @@ found_when : (s0 s : State) (t : Transfer) (left m angle : ℕ) → Going s0 t l
     is_found t.target angle (record s { angle = Some angle }) ≡ (has_match t s0 && (angle == sector_angle s0.sector))
 found_when s0 s t left m angle going =
     rw (same_disc t.target.drive (record s { angle = Some angle }) s0 going.drive0 going.drive1, going.latch, going.track, going.sector)
-    (shuffle (is_single_density s0.latch) (t.target.head == s0.track) (angle == sector_angle s0.sector) (is_on_disc (disc_in t.target.drive s0) t.target s0.sector))
+    (shuffle (is_single_density s0.latch) (t.target.head == s0.track) (angle == sector_angle s0.sector)
+    (is_on_disc (disc_in t.target.drive s0) t.target s0.sector))
 
 -- no sector is found in the step behind m steps
 NoneAt : State → Transfer → ℕ → Type 0
@@ -135,7 +136,8 @@ lost_read reg s lost =
 -- ---- Runs.
 
 -- the steps are over: what holds stays
-run_over : (P : State → Type 0) → ((reg : ℕ) (s : State) → P s → P (read_leaves reg s)) → (events : List Event) (s : State) → AllWait events → count_steps events ≡ 0 →
+run_over : (P : State → Type 0) → ((reg : ℕ) (s : State) → P s → P (read_leaves reg s)) → (events : List Event) (s : State) → AllWait events →
+    count_steps events ≡ 0 →
     P s → P (history events s)
 run_over P reads [] s all none holds = holds
 run_over P reads (microsecond ∷ es) s all none holds = absurd (omega (arith, none))
@@ -204,7 +206,8 @@ pub search_found : (s : State) (t : Transfer) (left : ℕ) (events : List Event)
     count_steps events ≡ steps_to (sector_angle s.sector) s → Found s t (history events s)
 search_found s t left events is enough has all count =
     let last = (sector_angle s.sector + 200000 - next_angle s.angle) % 200000 in
-    run_done (Found s t) (found_read s t) s t left last (λ x going. finds s x t left last going has (then_now s t has)) (omega (arith, turn s, enough)) (not_before s t has)
+    run_done (Found s t) (found_read s t) s t left last (λ x going. finds s x t left last going has (then_now s t has)) (omega (arith, turn s, enough))
+    (not_before s t has)
     events s 0 all (omega (arith, count)) (omega arith) (begins s t left is)
 
 pub search_ends : SearchEnds
@@ -214,12 +217,14 @@ search_ends = record {
       runs_on s t left last events is (omega (arith, turn s, enough)) (not_before s t has) all (omega (arith, early));
   found = λ s t left events is enough has off all count.
       let found = search_found s t left events is enough has all count in
-      (record { command = found.command; angle = found.angle; drq = found.drq off }, same_disc t.target.drive (history events s) s found.drive0 found.drive1, found.lost, found.sector);
+      (record { command = found.command; angle = found.angle; drq = found.drq off }, same_disc t.target.drive
+      (history events s) s found.drive0 found.drive1, found.lost, found.sector);
   waits = λ s t left events is none all early.
       runs_on s t left (count_steps events) events is early (λ i h. never s t none i) all (omega arith);
   not_found = λ s t left events is some none all count.
       let lost : Lost (history events s) =
-      run_done Lost lost_read s t left (left - 1) (λ x going. loses s x t left (left - 1) going (never s t none (left - 1)) (omega (arith, some))) (omega (arith, some))
+      run_done Lost lost_read s t left (left - 1) (λ x going. loses s x t left (left - 1) going (never s t none (left - 1)) (omega (arith, some)))
+      (omega (arith, some))
       (λ i h. never s t none i) events s 0 all (omega (arith, count, some)) (omega arith) (begins s t left is) in
       (lost.command, lost.none);
 }

@@ -32,7 +32,8 @@ use Rattle.wd1770.specs.declared.drive.DriveNumber.TheVariants.{Drive0, Drive1}
 use Rattle.wd1770.specs.declared.drive.Target.{Target}
 use Rattle.law_chips.specs.SectorWrites.{Writes, AllWritten, given_by, bytes_given}
 use Rattle.law_chips.proofs.Losing.{kept_before}
-use Rattle.law_chips.proofs.Writing.{at_byte, Inside, w_end, writes_is, stepped as write_stepped, accessed as write_accessed, begins, whole as write_whole, off_at_end}
+use Rattle.law_chips.proofs.Writing.{at_byte, Inside, w_end, writes_is, stepped as write_stepped, accessed as write_accessed, begins, whole as write_whole}
+use Rattle.law_chips.proofs.Writing.{off_at_end}
 use Rattle.law_chips.proofs.Timely.{writes_kept}
 
 -- ---- The registers.
@@ -62,7 +63,8 @@ plain s0 s x m inside regs is = record {
   next = λ h. absurd (omega (arith, h, inside));
 }
 
-ends_so : (s0 : State) (t : Transfer) (k : ℕ) (s : State) (m : ℕ) → t.multiple ≡ true → m + 1 ≡ 18432 → Kept s0 s m → Kept s0 (sector_ended t (moved_on s k m)) (m + 1)
+ends_so : (s0 : State) (t : Transfer) (k : ℕ) (s : State) (m : ℕ) → t.multiple ≡ true → m + 1 ≡ 18432 → Kept s0 s m →
+    Kept s0 (sector_ended t (moved_on s k m)) (m + 1)
 unfolding moved_on
 ends_so s0 t k s m many end is =
     let s1 = moved_on s k m in
@@ -106,7 +108,8 @@ kept_step t k at leaves few many s0 s m inside going angle by is =
           counted (at (Some place) s1) (plain s0 s (at (Some place) s1) m (before_end m inside (λ h e. other e))
           (record { latch = regs.latch; track = regs.track; sector = regs.sector }) is)
     ])
-    (λ none. subst To (sym (leaves.none s1)) (counted s1 (plain s0 s s1 m (before_end m inside (λ h e. none h)) (record { latch = refl; track = refl; sector = refl }) is)))
+    (λ none. subst To (sym (leaves.none s1))
+    (counted s1 (plain s0 s s1 m (before_end m inside (λ h e. none h)) (record { latch = refl; track = refl; sector = refl }) is)))
 
 -- an access of a program that only reads registers, or gives bytes
 regs_kept : (e : Event) (s : State) → IsAccess e → Gives e → Regs s (happens e s)
@@ -140,7 +143,8 @@ reading_leaves : (t : Transfer) (k : ℕ) → Leaves t (reading_at t k)
 reading_leaves t k = record {
   none = λ s. refl;
   others = λ place s other.
-      either (is_byte_place 31 place) s (byte_came (byte_on_disc (disc_in t.target.drive s) t.target k (place - 31)) s) (if place == 288 then sector_ended t s else s)
+      either (is_byte_place 31 place) s (byte_came (byte_on_disc (disc_in t.target.drive s) t.target k (place - 31)) s)
+      (if place == 288 then sector_ended t s else s)
       (record { latch = refl; track = refl; sector = refl })
       (subst (λ b. Regs s (if b then sector_ended t s else s)) (sym (ne_eqb place 288 other)) (record { latch = refl; track = refl; sector = refl }));
   ends = λ place s end. rw (behind_bytes place (omega (arith, end)), eq-eqb place 288 end) refl;
@@ -151,7 +155,8 @@ reads_only [] all = tt
 reads_only (e ∷ es) all = (waits_read e all.0, reads_only es all.1)
 
 -- the disc has the sector
-pub has_it : (d : Image) (t : Transfer) (k : ℕ) → k < 10 → has_sector d.kind t.target.side t.target.head 0 ≡ true → has_sector d.kind t.target.side t.target.head k ≡ true
+pub has_it : (d : Image) (t : Transfer) (k : ℕ) → k < 10 → has_sector d.kind t.target.side t.target.head 0 ≡ true →
+    has_sector d.kind t.target.side t.target.head k ≡ true
 has_it d t k few has = let parts = and_parts _ _ has in ap (λ b. b && nat_lt k 10) parts.0 ∙ lt-ltb k 10 few
 
 -- there is a sector for the search
@@ -173,7 +178,8 @@ one s t d round is few timely =
     let k = s.sector in
     let s1 = history round.waits s in
     let s2 = history round.serves s1 in
-    let found = search_found s t 1000001 round.waits is.command (omega arith) (matches s t d is.density is.track is.disc is.on_disc few) timely.wait timely.waited in
+    let found =
+    search_found s t 1000001 round.waits is.command (omega arith) (matches s t d is.density is.track is.disc is.on_disc few) timely.wait timely.waited in
     let at : IsAtSector s1 t k = record { command = found.command; angle = found.angle; drq = found.drq is.drq } in
     let disc1 : disc_in t.target.drive s1 ≡ Some d = same_disc t.target.drive s1 s found.drive0 found.drive1 ∙ is.disc in
     let bytes = sector_bytes d t.target.side t.target.head k in
@@ -257,7 +263,8 @@ place_keeps t k place s other =
     (either ((place == 22) && s.drq) s (finish_leaves (record s { lost_data = true }))
     (if is_byte_place 30 place then byte_written t.target k (place - 30) s else if place == 288 then sector_ended t s else s)
     (record { latch = refl; track = refl; sector = refl })
-    (either (is_byte_place 30 place) s (byte_written t.target k (place - 30) s) (if place == 288 then sector_ended t s else s) (byte_keeps t.target k (place - 30) s)
+    (either (is_byte_place 30 place) s (byte_written t.target k (place - 30) s) (if place == 288 then sector_ended t s else s)
+    (byte_keeps t.target k (place - 30) s)
     (subst (Regs s) (sym last) same)))
 
 -- what a sector does that is written
@@ -314,26 +321,30 @@ record Stored (s : State) (t : Transfer) (d : Image) (round : Round) : Type 0 wh
   pub kind : now.kind ≡ d.kind
 
 -- a disc is in the drive once
-of_disc : (o : Option Image) (a b : Image) (target : Target) (k : ℕ) (bytes : List ℕ) → o ≡ Some a → o ≡ Some b → sector_of a target.side target.head k ≡ Some bytes →
+of_disc : (o : Option Image) (a b : Image) (target : Target) (k : ℕ) (bytes : List ℕ) → o ≡ Some a → o ≡ Some b →
+    sector_of a target.side target.head k ≡ Some bytes →
     sector_of b target.side target.head k ≡ Some bytes
 of_disc o a b target k bytes is_a is_b has =
     let same : a ≡ b = ap (λ (o : Option Image). unwrap_or o a) (sym is_a ∙ is_b) in
     ap (λ (x : Image). sector_of x target.side target.head k) (sym same) ∙ has
 
-one_written : (back : IsReadBack) (others : OthersStay) (s : State) (t : Transfer) (d : Image) (round : Round) → IsWriting s t d → s.sector < 10 → GivesInTime round s →
+one_written : (back : IsReadBack) (others : OthersStay) (s : State) (t : Transfer) (d : Image) (round : Round) → IsWriting s t d → s.sector < 10 →
+    GivesInTime round s →
     Stored s t d round
 unfolding at_byte
 one_written back others s t d round is few timely =
     let k = s.sector in
     let s1 = history round.waits s in
     let s2 = history round.serves s1 in
-    let found = search_found s t 1000001 round.waits is.command (omega arith) (matches s t d is.density is.track is.disc is.on_disc few) timely.wait timely.waited in
+    let found =
+    search_found s t 1000001 round.waits is.command (omega arith) (matches s t d is.density is.track is.disc is.on_disc few) timely.wait timely.waited in
     let at : IsAtSector s1 t k = record { command = found.command; angle = found.angle; drq = found.drq is.drq } in
     let disc1 : disc_in t.target.drive s1 ≡ Some d = same_disc t.target.drive s1 s found.drive0 found.drive1 ∙ is.disc in
     let has = has_it d t k few is.on_disc in
     let lost = found.lost ∙ is.lost in
     let end : s2.lost_data ≡ false =
-    writes_kept s1 t k round.serves at few lost is.writes (lets_go writing s1 round.serves timely.written) (let c = timely.count in omega (arith, c)) (λ i over. timely.in_time i over.byte) in
+    writes_kept s1 t k round.serves at few lost is.writes (lets_go writing s1 round.serves timely.written) (let c = timely.count in omega (arith, c))
+    (λ i over. timely.in_time i over.byte) in
     let both : Both s1 d t k s2 18432 (bytes_given round.serves) =
     gives_all back others s1 d t k round.serves few has is.writes is.multiple at disc1 timely.written timely.gives timely.count end in
     let stored = write_whole d t k s2 (bytes_given round.serves) has both.inside in

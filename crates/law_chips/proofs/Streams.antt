@@ -1,4 +1,5 @@
--- What each event of a program leaves of a controller in which a command goes on; and bytes that come to its data register one after the other, each to be taken before the next: those of a sector, or of an ID field.
+-- What each event of a program leaves of a controller in which a command goes on; and bytes that come to its data register one after the other, each to be
+-- taken before the next: those of a sector, or of an ID field.
 use Rattle.std.proofs.Common.{◌≡◌, ◌∙◌, sym, ap, subst, refl, ℕ, ◌+◌, ◌<◌, ◌≤◌, ◌==◌, Bool, true, false, List, [], ◌∷◌, ◌++◌, arith, inl, inr, ◌-◌, ◌*◌, ◌/◌}
 use Rattle.std.proofs.Common.{◌%◌, ◌&&◌, ◌||◌, not, ◌⊎◌, min, length, take}
 use Rattle.std.specs.Prelude.{if◌then◌else◌, Some, nat_le, slice_index}
@@ -370,9 +371,11 @@ module _ (f : Stream) where
         kept = now.1 ∙ is.kept;
         drq = λ h. now.0 ∙ is.drq (omega (arith, h)) ∙ (elim (cases_eq ((m + 1) % 64) 0) [
           | inl place ↦
-              let early : (m + 1) / 64 < f.first = elim (cases_lt ((m + 1) / 64) f.first) [ inl low ↦ low | inr late ↦ absurd (none place late (omega (arith, h, place))) ] in
+              let early : (m + 1) / 64 < f.first =
+              elim (cases_lt ((m + 1) / 64) f.first) [ inl low ↦ low | inr late ↦ absurd (none place late (omega (arith, h, place))) ] in
               let before : m / 64 < f.first = omega (arith, early) in
-              ap (λ b. b && not (has_place (m / 64) ps)) (lt-leb f.first (m / 64) before) ∙ sym (ap (λ b. b && not (has_place ((m + 1) / 64) ps)) (lt-leb f.first ((m + 1) / 64) early))
+              ap (λ b. b && not (has_place (m / 64) ps)) (lt-leb f.first (m / 64) before) ∙ sym
+              (ap (λ b. b && not (has_place ((m + 1) / 64) ps)) (lt-leb f.first ((m + 1) / 64) early))
           | inr inner ↦
               let same : m / 64 ≡ (m + 1) / 64 = omega (arith, inner) in
               ap (λ n. nat_le f.first n && not (has_place n ps)) same
@@ -426,7 +429,8 @@ module _ (f : Stream) where
                     | inr high ↦
                         elim (cases_eq ((m + 1) / 64) f.first) [
                           | inl at_first ↦
-                              let off : s.drq ≡ false = drq_before s m ps true (omega (arith, high)) is (λ h. absurd (omega (arith, h, at_first, place))) (λ h. refl) in
+                              let off : s.drq ≡ false =
+                              drq_before s m ps true (omega (arith, high)) is (λ h. absurd (omega (arith, h, at_first, place))) (λ h. refl) in
                               fine (comes s (work_leaves s) m ps some place low high off (λ h. absurd (omega (arith, h, at_first))) next is)
                           | inr later ↦
                               elim (bool_cases (has_place (m / 64) ps)) [
@@ -465,7 +469,8 @@ module _ (f : Stream) where
     kept = acc.lost ∙ is.kept;
     drq = λ h.
         acc.drq
-        ∙ sym (ap (λ b. nat_le f.first (m / 64) && not b) (any_now (λ p. p == m / 64) ps (m / 64) (eq-eqb (m / 64) (m / 64) refl)) ∙ and_false (nat_le f.first (m / 64)));
+        ∙ sym (ap (λ b. nat_le f.first (m / 64) && not b) (any_now (λ p. p == m / 64) ps (m / 64) (eq-eqb (m / 64) (m / 64) refl)) ∙ and_false
+        (nat_le f.first (m / 64)));
     served = λ i inside over. any_stays (λ p. p == f.first + i) ps (m / 64) (is.served i inside over);
     ahead = λ p more. any_other (λ q. q == p) ps (m / 64) (is.ahead p more) (ne_eqb (m / 64) p (λ e. omega (arith, e, more)));
     last_taken = λ over had. acc.drq;
@@ -488,7 +493,8 @@ module _ (f : Stream) where
     missed = any_other (λ p. p == f.first + is.byte) ps (m / 64) is.missed (ne_eqb (m / 64) (f.first + is.byte) (λ e. omega (arith, e, is.over)));
   })
   accessed_in false s x m ps acc (inr is) =
-      subst (Either x m) (sym (append-nil ps)) (inr (record { lost = acc.lost ∙ is.lost; byte = is.byte; inside = is.inside; over = is.over; missed = is.missed }))
+      subst (Either x m) (sym (append-nil ps))
+      (inr (record { lost = acc.lost ∙ is.lost; byte = is.byte; inside = is.inside; over = is.over; missed = is.missed }))
 
   -- where no byte has come
   begins : (s : State) → 1 ≤ f.first → s.command ≡ f.command → s.angle ≡ Some f.base → s.lost_data ≡ false → s.drq ≡ false →

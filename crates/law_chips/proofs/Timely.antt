@@ -249,14 +249,17 @@ byte_goes t k s m i ps inside now is =
     ]
 
 ends_so : (b : Bool) (t : Transfer) (k : ℕ) (s : State) (m : ℕ) (ps : List ℕ) → m + 1 ≡ 18432 → Fine t k s m ps →
-    Fine t k (if b then record (moved_on s k m) { sector = ((moved_on s k m).sector + 1) % 256; command = search_of t } else finish_leaves (moved_on s k m)) (m + 1) ps
+    Fine t k (if b then record (moved_on s k m) { sector = ((moved_on s k m).sector + 1) % 256; command = search_of t } else finish_leaves (moved_on s k m))
+    (m + 1) ps
 unfolding moved_on
 ends_so true t k s m ps now is =
     plain t k s (record (moved_on s k m) { sector = ((moved_on s k m).sector + 1) % 256; command = search_of t }) m ps
-    (none_over m (λ e. omega (arith, e, now)) (λ i some inside e. omega (arith, e, now, inside))) (λ h. absurd (omega (arith, h, now))) refl refl (λ h. absurd (omega (arith, h, now))) is
+    (none_over m (λ e. omega (arith, e, now)) (λ i some inside e. omega (arith, e, now, inside))) (λ h. absurd (omega (arith, h, now))) refl refl
+    (λ h. absurd (omega (arith, h, now))) is
 ends_so false t k s m ps now is =
     plain t k s (finish_leaves (moved_on s k m)) m ps
-    (none_over m (λ e. omega (arith, e, now)) (λ i some inside e. omega (arith, e, now, inside))) (λ h. absurd (omega (arith, h, now))) refl refl (λ h. absurd (omega (arith, h, now))) is
+    (none_over m (λ e. omega (arith, e, now)) (λ i some inside e. omega (arith, e, now, inside))) (λ h. absurd (omega (arith, h, now))) refl refl
+    (λ h. absurd (omega (arith, h, now))) is
 
 at_place : (t : Transfer) (k : ℕ) (s : State) (m : ℕ) (ps : List ℕ) → m < 18432 → (m + 1) % 64 ≡ 0 → Fine t k s m ps →
     Either t k (writing_at t k (Some ((m + 1) / 64)) (moved_on s k m)) (m + 1) ps
@@ -277,9 +280,11 @@ at_place t k s m ps inside is_place is =
           elim where_it_is [
             | inl early ↦
                 plain t k s s1 m ps (none_over m (λ e. no_look (omega (arith, e))) (λ i some few e. omega (arith, e, early))) (λ h. is.command inside) refl refl
-                (λ h. is.drq (omega (arith, h)) ∙ sym (same_wants m ps (λ e. not_first (omega (arith, e))) (λ e. no_look (omega (arith, e))) (omega (arith, early, is_place)))) is
+                (λ h. is.drq (omega (arith, h)) ∙ sym
+                (same_wants m ps (λ e. not_first (omega (arith, e))) (λ e. no_look (omega (arith, e))) (omega (arith, early, is_place)))) is
             | inr high ↦
-                plain t k s s1 m ps (none_over m (λ e. no_look (omega (arith, e))) (λ i some few e. omega (arith, e, high, few))) (λ h. is.command inside) refl refl
+                plain t k s s1 m ps (none_over m (λ e. no_look (omega (arith, e))) (λ i some few e. omega (arith, e, high, few)))
+                (λ h. is.command inside) refl refl
                 (λ h. absurd (omega (arith, h, high))) is
           ]
     ]))
@@ -476,7 +481,8 @@ whole_written back others s t k d events at here has writes kept all count in_ti
     (law.stored s t k d events at here has writes all count end, law.end s t k d events at here has writes all count end)
 
 -- a disc in the drive has the sector
-on_disc : (o : Option Image) (d : Image) (t : Transfer) (k : ℕ) → o ≡ Some d → is_on_disc o t.target k ≡ true → has_sector d.kind t.target.side t.target.head k ≡ true
+on_disc : (o : Option Image) (d : Image) (t : Transfer) (k : ℕ) → o ≡ Some d → is_on_disc o t.target k ≡ true →
+    has_sector d.kind t.target.side t.target.head k ≡ true
 on_disc o d t k is has = sym (ap (λ o. is_on_disc o t.target k) is) ∙ has
 
 pub writes_in_time : (back : IsReadBack) (others : OthersStay) → WritesInTime

@@ -48,9 +48,11 @@ CountsDown c last = (s : State) (m : ℕ) → m < last → s.command ≡ c m →
 
 -- the same where the state before is one after m steps from s0
 abbrev pub CountsFrom : State → (ℕ → Command) → ℕ → Type 0
-CountsFrom s0 c last = (s : State) (m : ℕ) → m < last → Waited s0 (c m) s m → work_leaves s ≡ record s { angle = Some (next_angle s.angle); command = c (m + 1) }
+CountsFrom s0 c last =
+    (s : State) (m : ℕ) → m < last → Waited s0 (c m) s m → work_leaves s ≡ record s { angle = Some (next_angle s.angle); command = c (m + 1) }
 
-pub one_step : (c : ℕ → Command) (last : ℕ) (s0 : State) → CountsFrom s0 c last → (s : State) (m : ℕ) → m < last → Waited s0 (c m) s m → Waited s0 (c (m + 1)) (step s) (m + 1)
+pub one_step : (c : ℕ → Command) (last : ℕ) (s0 : State) → CountsFrom s0 c last → (s : State) (m : ℕ) → m < last → Waited s0 (c m) s m →
+    Waited s0 (c (m + 1)) (step s) (m + 1)
 one_step c last s0 counts s m inside is =
     let later : (next_angle s.angle + 1) % 200000 ≡ (next_angle s0.angle + (m + 1)) % 200000 = omega (arith, is.angle) in
     subst (λ y. Waited s0 (c (m + 1)) (count_leaves (is_asking s) y) (m + 1)) (sym (counts s m inside is)) (record {
@@ -87,7 +89,8 @@ waited_read s0 c reg s m is =
       angle = is.angle;
     })
 
-run : (c : ℕ → Command) (last : ℕ) (s0 : State) → CountsFrom s0 c last → (events : List Event) (s : State) (m : ℕ) → AllWait events → m + count_steps events ≤ last →
+run : (c : ℕ → Command) (last : ℕ) (s0 : State) → CountsFrom s0 c last → (events : List Event) (s : State) (m : ℕ) → AllWait events →
+    m + count_steps events ≤ last →
     Waited s0 (c m) s m → Waited s0 (c (m + count_steps events)) (history events s) (m + count_steps events)
 run c last s0 counts [] s m all most is =
     let same : m ≡ m + 0 = omega arith in subst (λ n. Waited s0 (c n) s n) same is

@@ -2,7 +2,8 @@
 use Rattle.std.proofs.Common.{◌≡◌, ◌≢◌, ◌∙◌, sym, ap, subst, refl, ℕ, ◌+◌, ◌-◌, ◌*◌, ◌/◌, ◌%◌, ◌<◌, ◌≤◌, ◌==◌, ◌&&◌, ◌||◌, min, not, Bool, true}
 use Rattle.std.proofs.Common.{◌⊎◌, false, List, [], ◌∷◌, ◌++◌, length, get_or, arith, inl, inr}
 use Rattle.std.specs.Prelude.{Option, None, Some, option_map, slice_set, nat_lt, nat_le, if◌then◌else◌}
-use Rattle.std.proofs.lemmas.Bool.{cases_eq, cases_lt, eq-eqb, eqb-true, ne_eqb, lt-ltb, le-ltb, le-leb, lt-leb, or_parts, and_parts, and_right, ltb-true, true≢false, false_from_ne_true}
+use Rattle.std.proofs.lemmas.Bool.{cases_eq, cases_lt, eq-eqb, eqb-true, ne_eqb, lt-ltb, le-ltb, le-leb, lt-leb, or_parts, and_parts, and_right, ltb-true}
+use Rattle.std.proofs.lemmas.Bool.{true≢false, false_from_ne_true}
 use Rattle.std.proofs.lemmas.List.{append-nil, length_push, get_or_append_left, get_or_push}
 use Rattle.std.proofs.lemmas.List.FromFn.{fill_by_all}
 use Rattle.disc_image.specs.declared.Kind.{Kind}
@@ -47,7 +48,8 @@ record Ended (t : Transfer) (s x : State) : Type 0 where
   pub byte : x.byte ≡ s.byte
   pub drq : x.drq ≡ s.drq
 
-ended_by : (b : Bool) (t : Transfer) (s : State) → t.multiple ≡ b → Ended t s (if b then record s { sector = (s.sector + 1) % 256; command = search_of t } else finish_leaves s)
+ended_by : (b : Bool) (t : Transfer) (s : State) → t.multiple ≡ b →
+    Ended t s (if b then record s { sector = (s.sector + 1) % 256; command = search_of t } else finish_leaves s)
 ended_by true t s is =
     record { command = ap (λ b. if b then search_of t else Idle) (sym is); angle = refl; drive0 = refl; drive1 = refl; byte = refl; drq = refl }
 ended_by false t s is =

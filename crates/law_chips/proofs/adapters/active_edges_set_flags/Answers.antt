@@ -1,4 +1,4 @@
-use Rattle.law_chips.proofs.Ports.{ca1_sees, ca2_sees, cb1_sees, cb2_sees}
+use Rattle.law_chips.proofs.Flags.{ca1_sees, ca2_sees, cb1_sees, cb2_sees}
 use Rattle.law_chips.proofs.adapters.active_edges_set_flags.Goals as goal
 
 pub returns : goal.returns

@@ -1,4 +1,4 @@
-use Rattle.law_chips.proofs.Ports.{ports_show_their_bits}
+use Rattle.law_chips.proofs.Flags.{ports_show_their_bits}
 use Rattle.law_chips.proofs.adapters.ports_show_their_bits.Goals as goal
 
 pub returns : goal.returns

@@ -1,4 +1,4 @@
-use Rattle.law_chips.proofs.CrtcRuns.{registers_have_their_bits, rasters_have_their_bits}
+use Rattle.law_chips.proofs.Rasters.{registers_have_their_bits, rasters_have_their_bits}
 use Rattle.law_chips.proofs.pictures.registers_have_their_bits.Goals as goal
 
 pub returns : goal.returns
