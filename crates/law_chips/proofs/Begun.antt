@@ -1,25 +1,34 @@
--- A command that is written, up to where its sector begins.
-use Rattle.std.proofs.Common.{◌≡◌, ◌∙◌, sym, ap, subst, refl, ℕ, ◌+◌, ◌-◌, ◌/◌, ◌%◌, ◌<◌, ◌≤◌, ◌==◌, ◌&&◌, Bool, true, false, List, arith, inl, inr, ◌⊎◌}
+-- Commands that are written: a search up to where its sector begins, and a motion up to its end.
+use Rattle.std.proofs.Common.{◌≡◌, ◌∙◌, sym, ap, subst, refl, ℕ, ◌+◌, ◌-◌, ◌/◌, ◌%◌, ◌<◌, ◌≤◌, ◌==◌, ◌&&◌, Bool, true, false, List, arith, inl, inr, ◌⊎◌, ◌*◌}
+use Rattle.std.proofs.Common.{◌||◌, min, max, not}
 use Rattle.std.specs.Prelude.{Some, nat_lt, if◌then◌else◌}
 use Rattle.std.proofs.lemmas.Bool.{cases_lt, eq-eqb, ne_eqb, lt-ltb, le-ltb}
 use Rattle.beeb_bits.specs.Bits.{bit}
 use Rattle.wd1770.specs.declared.command.Command.{Command}
-use Rattle.wd1770.specs.declared.command.Command.TheVariants.{Idle, Settling}
+use Rattle.wd1770.specs.declared.command.Command.TheVariants.{Idle, Settling, Moving}
 use Rattle.wd1770.specs.declared.command.Transfer.{Transfer}
 use Rattle.wd1770.specs.State.{State}
-use Rattle.wd1770.specs.Select.{is_reset, disc_in, is_single_density}
-use Rattle.wd1770.specs.Ends.{is_asking, count_leaves}
+use Rattle.wd1770.specs.Select.{is_reset, disc_in, is_single_density, drive_selected, drive_or_0, drive_of, with_drive, head_selected}
+use Rattle.wd1770.specs.Ends.{is_asking, count_leaves, is_busy}
 use Rattle.wd1770.specs.Sectors.{is_on_disc, search_of, transfer_of, sectors_of}
 use Rattle.wd1770.specs.Commands.{command_of, begin_leaves}
 use Rattle.wd1770.specs.Registers.{write_leaves}
-use Rattle.wd1770.specs.Step.{next_angle, command_step}
+use Rattle.wd1770.specs.Step.{next_angle, command_step, work_leaves}
 use Rattle.wd1770.specs.History.{Event, history, count_steps}
 use Rattle.law_chips.specs.SectorReads.{IsAtSector}
 use Rattle.law_chips.specs.Searches.{has_match, steps_to, sector_angle}
 use Rattle.law_chips.specs.InTime.{settle_time, IsFound, found_after}
 use Rattle.law_chips.proofs.Reading.{same_disc}
 use Rattle.law_chips.proofs.Search.{search_ends}
-use Rattle.law_chips.proofs.Waiting.{CountsDown, waits_so}
+use Rattle.law_chips.proofs.Waiting.{CountsDown, waits_so, Waited}
+use Rattle.wd1770.specs.declared.drive.Drive.{Drive}
+use Rattle.wd1770.specs.declared.drive.DriveNumber.{DriveNumber}
+use Rattle.wd1770.specs.declared.drive.DriveNumber.TheVariants.{Drive0, Drive1}
+use Rattle.wd1770.specs.declared.command.Motion.{Motion}
+use Rattle.wd1770.specs.declared.command.TrackChange.{TrackChange}
+use Rattle.wd1770.specs.declared.command.TrackChange.TheVariants.{Stays, Follows, Becomes}
+use Rattle.wd1770.specs.Motion.{step_time, step_once, motion_of, head_after, track_changed, track_after, move_leaves}
+use Rattle.law_chips.specs.Motions.{head_steps, motion_time, head_moved, track_counted, IsGiven, ended_after, Arrives, MotionsArrive}
 
 -- A command other than Dx, written while there is none.
 pub begun : (v : ℕ) (s : State) → s.command ≡ Idle → is_reset s.latch ≡ false → (v / 16 ≡ 0xD → ⊥) →
@@ -111,3 +120,292 @@ is_read v low high = ne_eqb (v / 32 % 2) 1 (λ e. omega (arith, e, low, high))
 
 pub is_write : (v : ℕ) → 0xA0 ≤ v → v < 0xC0 → bit v 5 ≡ true
 is_write v low high = eq-eqb (v / 32 % 2) 1 (omega (arith, low, high))
+
+-- so many steps of the selected head, within so much time
+motion : ℕ → Bool → TrackChange → ℕ → State → Motion
+motion v inward track steps s = record { drive = drive_or_0 (drive_selected s.latch); steps = steps; inward = inward; track = track; verifies = bit v 2 }
+
+left_of : ℕ → ℕ → ℕ
+left_of v n = max 1 (n * step_time v)
+
+counting : Motion → ℕ → ℕ → Command
+counting m left n = Moving m (left - n)
+
+counts : (m : Motion) (left : ℕ) → CountsDown (counting m left) (left - 1)
+unfolding counting
+counts m left s n inside is =
+    let s1 : State = record s { angle = Some (next_angle s.angle) } in
+    let less : left - n - 1 ≡ left - (n + 1) = omega arith in
+    ap (λ c. command_step c (next_angle s.angle) s1) is
+    ∙ ap (λ b. if b then record s1 { command = Moving m (left - n - 1) } else move_leaves m s1) (lt-ltb 1 (left - n) (omega (arith, inside)))
+    ∙ ap (λ k. record s1 { command = Moving m k }) less
+
+motion_command : (v : ℕ) (s : State) → v < 0x80 → command_of v s ≡ motion_of v s
+motion_command v s low = rw (lt-ltb v 0x80 low) refl
+
+-- after its writing and some waiting
+waited : (s : State) (v : ℕ) (waits : List Event) (m : Motion) (left : ℕ) → v < 0x80 → IsGiven s waits → motion_of v s ≡ Moving m left → 0 < left →
+    count_steps waits < left → Waited (write_leaves 0 v s) (counting m left (count_steps waits)) (history waits (write_leaves 0 v s)) (count_steps waits)
+unfolding counting
+waited s v waits m left low is moves some inside =
+    let written = begun v s is.idle is.live (λ e. omega (arith, e, low)) in
+    let all : left ≡ left - 0 = omega arith in
+    let command : (write_leaves 0 v s).command ≡ Moving m (left - 0) =
+    ap (λ (x : State). x.command) written ∙ motion_command v s low ∙ moves ∙ ap (Moving m) all in
+    waits_so (counting m left) (left - 1) (counts m left) waits (write_leaves 0 v s) is.wait (omega (arith, inside)) command
+
+same_drive : (number : DriveNumber) (s s0 : State) → s.drive0 ≡ s0.drive0 → s.drive1 ≡ s0.drive1 → drive_of number s ≡ drive_of number s0
+same_drive Drive0 s s0 a b = a
+same_drive Drive1 s s0 a b = b
+
+same_head : (s s0 : State) → s.latch ≡ s0.latch → s.drive0 ≡ s0.drive0 → s.drive1 ≡ s0.drive1 → head_selected s ≡ head_selected s0
+same_head s s0 latch a b =
+    ap (λ l. (drive_of (drive_or_0 (drive_selected l)) s).head) latch
+    ∙ ap (λ (d : Drive). d.head) (same_drive (drive_or_0 (drive_selected s0.latch)) s s0 a b)
+
+put_in : (number : DriveNumber) (d : Drive) (s : State) → drive_of number (with_drive number d s) ≡ d
+put_in Drive0 d s = refl
+put_in Drive1 d s = refl
+
+put_keeps : (number : DriveNumber) (d : Drive) (s : State) → (with_drive number d s).latch ≡ s.latch
+put_keeps Drive0 d s = refl
+put_keeps Drive1 d s = refl
+
+-- the other fields
+renamed : (number : DriveNumber) (x y : State) → x.drive0 ≡ y.drive0 → x.drive1 ≡ y.drive1 → (drive_of number x).head ≡ (drive_of number y).head
+renamed number x y a b = ap (λ (d : Drive). d.head) (same_drive number x y a b)
+
+-- What the end of a motion leaves.
+record Moved (m : Motion) (there value : ℕ) (before x : State) : Type 0 where
+  pub over : x.command ≡ Idle
+  pub asks : x.intrq ≡ true
+  pub latch : x.latch ≡ before.latch
+  pub head : (drive_of m.drive x).head ≡ there
+  pub track : x.track ≡ value
+  pub not_found : x.record_not_found ≡ (before.record_not_found || (m.verifies && not (value == there)))
+  pub last_inward : x.last_inward ≡ (if m.steps == 0 then before.last_inward else m.inward)
+
+moved : (m : Motion) (s : State) → Moved m (head_after m s) (track_after m s) s (move_leaves m s)
+moved m s =
+    let x = with_drive m.drive (record (drive_of m.drive s) { head = head_after m s }) s in
+    record {
+      over = refl;
+      asks = refl;
+      latch = put_keeps m.drive (record (drive_of m.drive s) { head = head_after m s }) s;
+      head =
+          renamed m.drive (move_leaves m s) x refl refl ∙ ap (λ (d : Drive). d.head) (put_in m.drive (record (drive_of m.drive s) { head = head_after m s }) s);
+      track = refl;
+      not_found = refl;
+      last_inward = refl;
+    }
+
+-- what a motion makes of the head, and of the track register
+head_by : Motion → ℕ → ℕ
+head_by m head = head_moved m.inward m.steps head
+
+track_by : Motion → ℕ → ℕ
+track_by m track = track_changed m.track m.inward track
+
+arrived : (s : State) (v : ℕ) (waits : List Event) (m : Motion) (left : ℕ) → v < 0x80 → IsGiven s waits → motion_of v s ≡ Moving m left → 0 < left →
+    m.drive ≡ drive_or_0 (drive_selected s.latch) → m.verifies ≡ bit v 2 → count_steps waits + 1 ≡ left →
+    Arrives v (head_by m (head_selected s)) (track_by m s.track) (ended_after v waits s)
+    × ((ended_after v waits s).last_inward ≡ (if m.steps == 0 then s.last_inward else m.inward))
+unfolding counting head_by track_by
+arrived s v waits m left low is moves some drive verifies end =
+    let written = begun v s is.idle is.live (λ e. omega (arith, e, low)) in
+    let w = waited s v waits m left low is moves some (omega (arith, end)) in
+    let y = history waits (write_leaves 0 v s) in
+    let y1 : State = record y { angle = Some (next_angle y.angle) } in
+    let one : left - count_steps waits ≡ 1 = omega (arith, end) in
+    let last : work_leaves y ≡ move_leaves m y1 = ap (λ c. command_step c (next_angle y.angle) y1) (w.command ∙ ap (Moving m) one) in
+    let x = ended_after v waits s in
+    let is_x : x ≡ count_leaves (is_asking y) (move_leaves m y1) = ap (count_leaves (is_asking y)) last in
+    let e = moved m y1 in
+    let drive0 : y.drive0 ≡ s.drive0 = w.drive0 ∙ ap (λ (x : State). x.drive0) written in
+    let drive1 : y.drive1 ≡ s.drive1 = w.drive1 ∙ ap (λ (x : State). x.drive1) written in
+    let latch : y.latch ≡ s.latch = w.latch ∙ ap (λ (x : State). x.latch) written in
+    let track : y.track ≡ s.track = w.track ∙ ap (λ (x : State). x.track) written in
+    let from : (drive_of m.drive y1).head ≡ head_selected s =
+    renamed m.drive y1 s drive0 drive1 ∙ ap (λ n. (drive_of n s).head) drive in
+    let head : head_after m y1 ≡ head_moved m.inward m.steps (head_selected s) = ap (λ h. head_moved m.inward m.steps h) from in
+    let becomes : track_after m y1 ≡ track_changed m.track m.inward s.track = ap (track_changed m.track m.inward) track in
+    let x_latch : x.latch ≡ s.latch = ap (λ (x : State). x.latch) is_x ∙ e.latch ∙ latch in (
+      record {
+        over = ap (λ (x : State). x.command) is_x ∙ e.over;
+        asks = ap (λ (x : State). x.intrq) is_x ∙ e.asks;
+        head =
+            ap (λ l. (drive_of (drive_or_0 (drive_selected l)) x).head) x_latch ∙ ap (λ n. (drive_of n x).head) (sym drive)
+            ∙ ap (λ (x : State). (drive_of m.drive x).head) is_x ∙ renamed m.drive (count_leaves (is_asking y) (move_leaves m y1)) (move_leaves m y1) refl refl
+            ∙ e.head ∙ head;
+        track = ap (λ (x : State). x.track) is_x ∙ e.track ∙ becomes;
+        seek_error =
+            ap (λ (x : State). x.record_not_found) is_x ∙ e.not_found
+            ∙ ap (λ b. b || (m.verifies && not (track_after m y1 == head_after m y1))) (w.not_found ∙ ap (λ (x : State). x.record_not_found) written)
+            ∙ ap (λ b. b && not (track_after m y1 == head_after m y1)) verifies
+            ∙ ap (λ n. bit v 2 && not (n == head_after m y1)) becomes
+            ∙ ap (λ n. bit v 2 && not (track_changed m.track m.inward s.track == n)) head;
+      },
+      ap (λ (x : State). x.last_inward) is_x ∙ e.last_inward
+          ∙ ap (λ b. if m.steps == 0 then b else m.inward) (w.last_inward ∙ ap (λ (x : State). x.last_inward) written),
+    )
+
+-- ---- Which motion a command is.
+
+is_restore : (v : ℕ) (s : State) → v < 0x10 → motion_of v s ≡ Moving (motion v false (Becomes 0) (head_selected s) s) (left_of v (head_selected s))
+unfolding motion left_of
+is_restore v s low = rw (lt-ltb v 0x10 low) refl
+
+is_seek : (v : ℕ) (s : State) → 0x10 ≤ v → v < 0x20 →
+    motion_of v s ≡ Moving (motion v (nat_lt s.track s.byte) (Becomes s.byte) (max s.byte s.track - min s.byte s.track) s)
+    (left_of v (max s.byte s.track - min s.byte s.track))
+unfolding motion left_of
+is_seek v s low high = rw (le-ltb v 0x10 low, lt-ltb v 0x20 high) refl
+
+-- the direction of a command of one step
+inward_by : ℕ → State → Bool
+inward_by v s = if nat_lt v 0x40 then s.last_inward else nat_lt v 0x60
+
+by_tests : (a b : Bool) (v : ℕ) (s : State) →
+    (if a then step_once v s.last_inward s else if b then step_once v true s else step_once v false s) ≡ step_once v (if a then s.last_inward else b) s
+by_tests true b v s = refl
+by_tests false true v s = refl
+by_tests false false v s = refl
+
+is_step : (v : ℕ) (s : State) → 0x20 ≤ v → motion_of v s ≡ step_once v (inward_by v s) s
+unfolding inward_by
+is_step v s low = rw (le-ltb v 0x10 (omega (arith, low)), le-ltb v 0x20 low) (by_tests (nat_lt v 0x40) (nat_lt v 0x60) v s)
+
+step_motion : ℕ → Bool → State → Motion
+step_motion v inward s = motion v inward (if bit v 4 then Follows else Stays) 1 s
+
+is_step_so : (v : ℕ) (s : State) → 0x20 ≤ v → motion_of v s ≡ Moving (step_motion v (inward_by v s) s) (left_of v 1)
+unfolding step_motion motion left_of
+is_step_so v s low = is_step v s low
+
+some_left : (v n : ℕ) → 0 < left_of v n
+unfolding left_of
+some_left v n = omega arith
+
+-- the time by which command it is
+time_of_restore : (v : ℕ) (s : State) → v < 0x10 → motion_time v s ≡ left_of v (head_selected s)
+unfolding left_of
+time_of_restore v s low = rw (lt-ltb v 0x10 low) refl
+
+steps_of_seek : (v : ℕ) (s : State) → 0x10 ≤ v → v < 0x20 → head_steps v s ≡ max s.byte s.track - min s.byte s.track
+steps_of_seek v s low high = rw (le-ltb v 0x10 low, lt-ltb v 0x20 high) refl
+
+steps_of_step : (v : ℕ) (s : State) → 0x20 ≤ v → head_steps v s ≡ 1
+steps_of_step v s low = rw (le-ltb v 0x10 (omega (arith, low)), le-ltb v 0x20 low) refl
+
+time_by : (v n : ℕ) (s : State) → head_steps v s ≡ n → motion_time v s ≡ left_of v n
+unfolding left_of
+time_by v n s is = ap (λ k. max 1 (k * step_time v)) is
+
+restored : (s : State) (v : ℕ) (waits : List Event) → v < 0x10 → IsGiven s waits → count_steps waits + 1 ≡ motion_time v s →
+    Arrives v 0 0 (ended_after v waits s)
+unfolding motion head_by track_by
+restored s v waits low is end =
+    let n = head_selected s in
+    let m = motion v false (Becomes 0) n s in
+    let a = (arrived s v waits m (left_of v n) (omega (arith, low)) is (is_restore v s low) (some_left v n) refl refl (end ∙ time_of_restore v s low)).0 in
+    let none : n - n ≡ 0 = omega arith in
+    subst (λ h. Arrives v h 0 (ended_after v waits s)) none a
+
+sought : (s : State) (v : ℕ) (waits : List Event) → 0x10 ≤ v → v < 0x20 → IsGiven s waits → count_steps waits + 1 ≡ motion_time v s →
+    Arrives v (head_moved (nat_lt s.track s.byte) (head_steps v s) (head_selected s)) s.byte (ended_after v waits s)
+unfolding motion head_by track_by
+sought s v waits low high is end =
+    let n = max s.byte s.track - min s.byte s.track in
+    let m = motion v (nat_lt s.track s.byte) (Becomes s.byte) n s in
+    let same = steps_of_seek v s low high in
+    let a = (arrived s v waits m (left_of v n) (omega (arith, high)) is (is_seek v s low high) (some_left v n) refl refl (end ∙ time_by v n s same)).0 in
+    subst (λ k. Arrives v (head_moved (nat_lt s.track s.byte) k (head_selected s)) s.byte (ended_after v waits s)) (sym same) a
+
+-- a head that is where the track register says comes to where the data register says
+gets_there : (byte track : ℕ) → byte ≤ 83 → head_moved (nat_lt track byte) (max byte track - min byte track) track ≡ byte
+gets_there byte track small = elim (cases_lt track byte) [
+  | inl more ↦
+      let e : min 83 (track + (max byte track - min byte track)) ≡ byte = omega (arith, small, more) in
+      ap (λ b. head_moved b (max byte track - min byte track) track) (lt-ltb track byte more) ∙ e
+  | inr less ↦
+      let e : track - (max byte track - min byte track) ≡ byte = omega (arith, less) in
+      ap (λ b. head_moved b (max byte track - min byte track) track) (le-ltb track byte less) ∙ e
+]
+
+found_it : (s : State) (v : ℕ) (waits : List Event) → 0x10 ≤ v → v < 0x20 → IsGiven s waits → count_steps waits + 1 ≡ motion_time v s →
+    s.track ≡ head_selected s → s.byte ≤ 83 → Arrives v s.byte s.byte (ended_after v waits s)
+found_it s v waits low high is end same small =
+    let there : head_moved (nat_lt s.track s.byte) (head_steps v s) (head_selected s) ≡ s.byte =
+    ap (λ k. head_moved (nat_lt s.track s.byte) k (head_selected s)) (steps_of_seek v s low high)
+    ∙ ap (λ h. head_moved (nat_lt s.track s.byte) (max s.byte s.track - min s.byte s.track) h) (sym same) ∙ gets_there s.byte s.track small in
+    subst (λ h. Arrives v h s.byte (ended_after v waits s)) there (sought s v waits low high is end)
+
+counted_track : (b inward : Bool) (track : ℕ) → track_changed (if b then Follows else Stays) inward track ≡ (if b then track_counted inward track else track)
+counted_track true inward track = refl
+counted_track false inward track = refl
+
+stepped : (s : State) (v : ℕ) (inward : Bool) (waits : List Event) → 0x20 ≤ v → v < 0x80 → inward_by v s ≡ inward → IsGiven s waits →
+    count_steps waits + 1 ≡ motion_time v s →
+    Arrives v (head_moved inward 1 (head_selected s)) (if bit v 4 then track_counted inward s.track else s.track) (ended_after v waits s)
+    × ((ended_after v waits s).last_inward ≡ inward)
+unfolding motion head_by track_by step_motion left_of
+stepped s v inward waits low high way is end =
+    let m = step_motion v inward s in
+    let moves : motion_of v s ≡ Moving m (left_of v 1) = is_step v s low ∙ ap (λ b. step_once v b s) way in
+    let a = arrived s v waits m (left_of v 1) high is moves (some_left v 1) refl refl (end ∙ time_by v 1 s (steps_of_step v s low)) in
+    (subst (λ n. Arrives v (head_moved inward 1 (head_selected s)) n (ended_after v waits s)) (counted_track (bit v 4) inward s.track) a.0, a.1)
+
+still : (s : State) (v : ℕ) (waits : List Event) (m : Motion) (left : ℕ) → v < 0x80 → IsGiven s waits → motion_of v s ≡ Moving m left → 0 < left →
+    count_steps waits < left →
+    (is_busy (history waits (write_leaves 0 v s)).command ≡ true)
+    × (head_selected (history waits (write_leaves 0 v s)) ≡ head_selected s)
+    × ((history waits (write_leaves 0 v s)).track ≡ s.track)
+unfolding counting
+still s v waits m left low is moves some inside =
+    let written = begun v s is.idle is.live (λ e. omega (arith, e, low)) in
+    let w = waited s v waits m left low is moves some inside in
+    let y = history waits (write_leaves 0 v s) in (
+      ap is_busy w.command,
+      same_head y s (w.latch ∙ ap (λ (x : State). x.latch) written) (w.drive0 ∙ ap (λ (x : State). x.drive0) written)
+      (w.drive1 ∙ ap (λ (x : State). x.drive1) written),
+      w.track ∙ ap (λ (x : State). x.track) written,
+    )
+
+until : (s : State) (v : ℕ) (waits : List Event) → v < 0x80 → IsGiven s waits → count_steps waits < motion_time v s →
+    (is_busy (history waits (write_leaves 0 v s)).command ≡ true)
+    × (head_selected (history waits (write_leaves 0 v s)) ≡ head_selected s)
+    × ((history waits (write_leaves 0 v s)).track ≡ s.track)
+unfolding motion step_motion
+until s v waits low is inside = elim (cases_lt v 0x10) [
+  | inl restores ↦
+      let n = head_selected s in
+      still s v waits (motion v false (Becomes 0) n s) (left_of v n) low is (is_restore v s restores) (some_left v n)
+      (subst (λ k. count_steps waits < k) (time_of_restore v s restores) inside)
+  | inr more ↦
+      elim (cases_lt v 0x20) [
+        | inl seeks ↦
+            let n = max s.byte s.track - min s.byte s.track in
+            still s v waits (motion v (nat_lt s.track s.byte) (Becomes s.byte) n s) (left_of v n) low is (is_seek v s more seeks) (some_left v n)
+            (subst (λ k. count_steps waits < k) (time_by v n s (steps_of_seek v s more seeks)) inside)
+        | inr steps ↦
+            still s v waits (step_motion v (inward_by v s) s) (left_of v 1) low is (is_step_so v s steps) (some_left v 1)
+            (subst (λ k. count_steps waits < k) (time_by v 1 s (steps_of_step v s steps)) inside)
+      ]
+]
+
+pub motions_arrive : MotionsArrive
+unfolding inward_by
+motions_arrive = record {
+  until = until;
+  restore = restored;
+  seek = sought;
+  sought = found_it;
+  step_on = λ s v waits low high is end.
+      stepped s v s.last_inward waits low (omega (arith, high)) (ap (λ b. if b then s.last_inward else nat_lt v 0x60) (lt-ltb v 0x40 high)) is end;
+  step_in = λ s v waits low high is end.
+      stepped s v true waits (omega (arith, low)) (omega (arith, high))
+      (ap (λ b. if b then s.last_inward else nat_lt v 0x60) (le-ltb v 0x40 low) ∙ lt-ltb v 0x60 high) is end;
+  step_out = λ s v waits low high is end.
+      stepped s v false waits (omega (arith, low)) high
+      (ap (λ b. if b then s.last_inward else nat_lt v 0x60) (le-ltb v 0x40 (omega (arith, low))) ∙ le-ltb v 0x60 low) is end;
+}

@@ -10,7 +10,6 @@ pub mod Writing
 pub mod Waiting
 pub mod Begun
 pub mod Timely
-pub mod Moving
 pub mod Forcing
 pub mod Addressing
 pub mod Several

@@ -164,6 +164,11 @@ characters lines c bits begins (suc n) =
           ]
     ]
 
+pub frame_some : (r : Registers) → 0 < frame_lines r
+frame_some r =
+    let whole : (r.vertical_total + 1) * row_lines r ≡ r.vertical_total * row_lines r + row_lines r = grind arith in
+    omega (arith, whole)
+
 -- what is so of clock n, behind the start of a line
 pub record AtClock (c : State) (n : ℕ) : Type 0 where
   pub registers : (start_leaves (clocks n c)).registers ≡ c.registers
@@ -179,8 +184,7 @@ at_clock lines c bits begins n =
     let x = clocks n c in
     let k = kept x in
     let regs : (start_leaves x).registers ≡ r = start_keeps x ∙ keeps n c in
-    let whole : (r.vertical_total + 1) * row_lines r ≡ r.vertical_total * row_lines r + row_lines r = grind arith in
-    let some : 0 < frame_lines r = omega (arith, whole) in
+    let some = frame_some r in
     record {
       registers = regs;
       column = ap (λ (e : State). e.character) k.1.1 ∙ characters lines c bits begins n;
@@ -336,7 +340,7 @@ last_goes_on None c is = by_tests (are_rows_done c) (is_row_done c) (c.registers
   by_tests false q z e = cc
 last_goes_on (Some a) c is = rw is refl
 
-and_left : (a b : Bool) → a ≡ true → (a && b) ≡ b
+pub and_left : (a b : Bool) → a ≡ true → (a && b) ≡ b
 and_left true b e = refl
 and_left false b e = cc
 
@@ -407,7 +411,7 @@ walk lines frames c bits begins (suc n) =
 
 -- ---- What is shown.
 
-and_false : (a : Bool) → (a && false) ≡ false
+pub and_false : (a : Bool) → (a && false) ≡ false
 and_false true = refl
 and_false false = refl
 

@@ -1,5 +1,6 @@
 -- Which rows of a teletext page are the lower ones of double height, clock by clock.
-use Rattle.std.proofs.Common.{◌≡◌, ◌∙◌, sym, ap, subst, refl, ℕ, zero, suc, ◌+◌, ◌*◌, ◌/◌, ◌%◌, ◌<◌, ◌≤◌, ◌==◌, ◌&&◌, ◌||◌, ◌⊎◌, not, Bool, true, false, List, add-one, arith}
+use Rattle.std.proofs.Common.{◌≡◌, ◌∙◌, sym, ap, subst, refl, ℕ, zero, suc, ◌+◌, ◌*◌, ◌/◌, ◌%◌, ◌<◌, ◌≤◌, ◌==◌, ◌&&◌, ◌||◌, ◌⊎◌, not, Bool, true, false, List}
+use Rattle.std.proofs.Common.{add-one, arith}
 use Rattle.std.proofs.Common.{inl, inr, true≢false}
 use Rattle.std.specs.Prelude.{is_none, if◌then◌else◌}
 use Rattle.std.proofs.lemmas.Bool.{cases_lt, cases_eq, eqb-true, eq-eqb}
@@ -18,7 +19,7 @@ use Rattle.raster.specs.State.{State}
 use Rattle.law_chips.specs.ShownBytes.{char_clocks, CharactersAreShown, MakesFrames}
 use Rattle.law_chips.specs.TeletextFrames.{frame_index, IsAbove, Doubles, is_lower, LowerRowsFollow}
 use Rattle.law_chips.proofs.BeamWalk.{next_place, test_true, test_false}
-use Rattle.law_chips.proofs.Rasters.{at_clock, not_last, kept, last_of, HasNext, next_of, InRow, IsAt, walk}
+use Rattle.law_chips.proofs.Rasters.{frame_some, and_left, and_false, at_clock, not_last, kept, last_of, HasNext, next_of, InRow, IsAt, walk}
 use Rattle.law_chips.proofs.PageDots.{told_code, told, codes_at, bottom_kept, here}
 
 -- what the laws of the 6845 say
@@ -29,11 +30,6 @@ pub record Facts : Type 0 where
   pub shown : CharactersAreShown
 
 -- ---- Where the next clock is.
-
-frame_some : (r : Registers) → 0 < frame_lines r
-frame_some r =
-    let whole : (r.vertical_total + 1) * row_lines r ≡ r.vertical_total * row_lines r + row_lines r = grind arith in
-    omega (arith, whole)
 
 -- in the same row, in the next one, behind the rows, or in the next frame
 record Stays (c : Crtc) (n : ℕ) : Type 0 where
@@ -90,10 +86,6 @@ row_end_in c d l regs bits end goes at =
 no_row_end : (d : Crtc) → ends_line d ≡ false → ends_row d ≡ false
 no_row_end d is = rw is refl
 
-and_true : (a b : Bool) → a ≡ true → (a && b) ≡ b
-and_true true b e = refl
-and_true false b e = absurd (true≢false (sym e))
-
 -- clock by clock
 goes : Facts → (c : Crtc) → MakesFrames c → (n : ℕ) → Goes c n
 unfolding Beyond
@@ -141,7 +133,7 @@ goes facts c makes n =
                 let up : (n / w % f + 1) * w ≡ n / w % f * w + w = grind arith in
                 let many : (n + 1) / w % f * w ≡ n / w % f * w + w = ap (λ k. k * w) more ∙ up in
                 let restart : (tells n c).restart ≡ false = law ∙ test_false ((n + 1) % (w * f)) 0 (λ none. omega (arith, none, digits, many)) in
-                let other : is_last_line d ≡ false = sym (and_true (ends_line d) (is_last_line d) test) ∙ restart in
+                let other : is_last_line d ≡ false = sym (and_left (ends_line d) (is_last_line d) test) ∙ restart in
                 let frame : frame_index r (n + 1) ≡ frame_index r n = ap (λ i. i / f) line ∙ i.1.0 in
                 let next : row_at r (n + 1) ≡ (line_at r n + 1) / h = ap (λ i. i / h) more in
                 elim at [
@@ -152,7 +144,8 @@ goes facts c makes n =
                       ]
                   | inr adjust ↦
                       let past = adjust.past in
-                      let large : r.vertical_total + 1 ≤ (line_at r n + 1) / h = le-div (r.vertical_total + 1) (line_at r n + 1) h (omega arith) (omega (arith, past)) in
+                      let large : r.vertical_total + 1 ≤ (line_at r n + 1) / h =
+                      le-div (r.vertical_total + 1) (line_at r n + 1) h (omega arith) (omega (arith, past)) in
                       inr (inr (omega (arith, large, next)))
                 ]
           ]
@@ -219,7 +212,8 @@ doubled_before false code t is = is
 
 doubled_here : (shown : Bool) (code : ℕ) (t : Text) → shown ≡ true → code ≡ 0x0D → (shown_text shown code t).doubled ≡ true
 unfolding shown_text codes_after
-doubled_here true code t is double = or_right t.doubled (t.codes.had_double || code == 0x0D) (or_right t.codes.had_double (code == 0x0D) (eq-eqb code 0x0D double))
+doubled_here true code t is double =
+    or_right t.doubled (t.codes.had_double || code == 0x0D) (or_right t.codes.had_double (code == 0x0D) (eq-eqb code 0x0D double))
 doubled_here false code t is double = absurd (true≢false (sym is))
 
 bottom_on : (shown : Bool) (code : ℕ) (t : Text) → (shown_text shown code t).bottom ≡ t.bottom
@@ -281,7 +275,8 @@ unfolding behind during shown_text
 next_text ram size font s on n = ap (λ i. (char_clocks ram size font i s).text) (add-one n) ∙ (told ram size font s on n).text
 
 -- the end of a row, or of a frame, is that of a line
-line_follows : Facts → (c : Crtc) → MakesFrames c → (n : ℕ) → (tells (n + 1) c).line_start ≡ false → ((tells n c).restart ≡ false) × ((tells n c).row_end ≡ false)
+line_follows : Facts → (c : Crtc) → MakesFrames c → (n : ℕ) → (tells (n + 1) c).line_start ≡ false →
+    ((tells n c).restart ≡ false) × ((tells n c).row_end ≡ false)
 line_follows facts c makes n inner =
     let r = c.registers in
     let w = line_characters r in
@@ -306,10 +301,6 @@ behind_bottom ram size font s n =
 and_on : (b : Bool) → (b && true) ≡ b
 and_on true = refl
 and_on false = refl
-
-and_off : (b : Bool) → (b && false) ≡ false
-and_off true = refl
-and_off false = refl
 
 too_far : (c : Crtc) (n : ℕ) → row_at c.registers (n + 1) ≤ c.registers.vertical_total → Beyond c n → ⊥
 unfolding Beyond
@@ -352,7 +343,8 @@ module _ (facts : Facts) (ram : ℕ → List ℕ) (size : ℕ → ℕ) (font : F
   unfolding during behind
   covered zero =
       covers_at (tells 0 s.crtc) s.text true
-      (facts.lines s.crtc 0 makes.bits makes.begins.character ∙ test_true (0 % line_characters s.crtc.registers) 0 (zero-mod (line_characters s.crtc.registers)))
+      (facts.lines s.crtc 0 makes.bits makes.begins.character ∙ test_true (0 % line_characters s.crtc.registers) 0
+      (zero-mod (line_characters s.crtc.registers)))
       (λ h. absurd (true≢false h))
   covered (suc n) =
       let e : n + 1 ≡ suc n = add-one n in
@@ -393,7 +385,8 @@ module _ (facts : Facts) (ram : ℕ → List ℕ) (size : ℕ → ℕ) (font : F
   behind_now n doubles =
       let b = tells n s.crtc in
       let shown : b.shown ≡ true = facts.shown.which s.crtc n makes.bits makes.begins ∙ doubles.shown in
-      doubled_here b.shown (told_code (ram n) (size n) b) (during ram size font s n) shown ((here facts.count facts.shown ram size s n makes shown).code ∙ doubles.code)
+      doubled_here b.shown (told_code (ram n) (size n) b) (during ram size font s n) shown
+      ((here facts.count facts.shown ram size s n makes shown).code ∙ doubles.code)
 
   -- one clock further, in the same row
   in_row : (n : ℕ) →
@@ -493,11 +486,12 @@ module _ (facts : Facts) (ram : ℕ → List ℕ) (size : ℕ → ℕ) (font : F
               | inl had ↦
                   elim (had_behind n holds had) [
                     | inl before ↦
-                        absurd (nothing before.clock (record { frame = before.frame ∙ sym goes.frame; row = ap (λ i. i + 1) before.row ∙ sym row }) before.doubles)
+                        absurd (nothing before.clock
+                        (record { frame = before.frame ∙ sym goes.frame; row = ap (λ i. i + 1) before.row ∙ sym row }) before.doubles)
                     | inr now ↦ absurd (nothing n above_now now)
                   ]
             ] in
-            lower ∙ ap (λ b. not (is_lower ram size font s n) && b) off ∙ and_off (not (is_lower ram size font s n));
+            lower ∙ ap (λ b. not (is_lower ram size font s n) && b) off ∙ and_false (not (is_lower ram size font s n));
       }
 
   at_each : (n : ℕ) →

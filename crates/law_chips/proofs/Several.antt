@@ -320,6 +320,10 @@ record Stored (s : State) (t : Transfer) (d : Image) (round : Round) : Type 0 wh
   pub others : (n : ℕ) → ((i : ℕ) → i < 256 → n ≢ place d.kind t.target.side t.target.head s.sector i) → byte_at now n ≡ byte_at d n
   pub kind : now.kind ≡ d.kind
 
+-- single density is still selected
+still_single : (a b c : ℕ) → a ≡ b → b ≡ c → is_single_density c ≡ true → is_single_density a ≡ true
+still_single a b c p q is = ap is_single_density (p ∙ q) ∙ is
+
 -- a disc is in the drive once
 of_disc : (o : Option Image) (a b : Image) (target : Target) (k : ℕ) (bytes : List ℕ) → o ≡ Some a → o ≡ Some b →
     sector_of a target.side target.head k ≡ Some bytes →
@@ -356,7 +360,7 @@ one_written back others s t d round is few timely =
         command = both.inside.over (omega arith) ∙ ap (λ b. if b then search_of t else Idle) is.multiple;
         writes = is.writes;
         multiple = is.multiple;
-        density = ap is_single_density (both.kept.latch ∙ found.latch) ∙ is.density;
+        density = still_single s2.latch s1.latch s.latch both.kept.latch found.latch is.density;
         track = is.track ∙ sym (both.kept.track ∙ found.track);
         disc = both.inside.disc;
         on_disc = ap (λ kind. has_sector kind t.target.side t.target.head 0) both.inside.kind ∙ is.on_disc;
