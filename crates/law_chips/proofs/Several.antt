@@ -3,6 +3,7 @@ use Rattle.std.proofs.Common.{◌≡◌, ◌∙◌, sym, ap, subst, refl, ℕ, �
 use Rattle.std.proofs.Common.{arith, inl, inr, ◌≢◌}
 use Rattle.std.specs.Prelude.{Option, None, Some, nat_lt, if◌then◌else◌, unwrap_or, map}
 use Rattle.std.proofs.lemmas.Bool.{cases_eq, eq-eqb, ne_eqb, lt-ltb, and_parts}
+use Rattle.disc_image.specs.declared.Kind.{Kind}
 use Rattle.disc_image.specs.Image.{Image, has_sector, sector_bytes, sides, place, byte_at, sector_of}
 use Rattle.wd1770.specs.declared.command.Command.TheVariants.{Idle, Transferring}
 use Rattle.wd1770.specs.declared.command.Transfer.{Transfer}
@@ -256,16 +257,9 @@ place_keeps : (t : Transfer) (k place : ℕ) (s : State) → (place ≡ 288 → 
 place_keeps t k place s other =
     let last : (if place == 288 then sector_ended t s else s) ≡ s = ap (λ b. if b then sector_ended t s else s) (ne_eqb place 288 other) in
     let same : Regs s s = record { latch = refl; track = refl; sector = refl } in
-    either (place == 12) s (record s { drq = true })
-    (if (place == 22) && s.drq then finish_leaves (record s { lost_data = true })
-    else if is_byte_place 30 place then byte_written t.target k (place - 30) s else if place == 288 then sector_ended t s else s)
-    (record { latch = refl; track = refl; sector = refl })
-    (either ((place == 22) && s.drq) s (finish_leaves (record s { lost_data = true }))
-    (if is_byte_place 30 place then byte_written t.target k (place - 30) s else if place == 288 then sector_ended t s else s)
-    (record { latch = refl; track = refl; sector = refl })
-    (either (is_byte_place 30 place) s (byte_written t.target k (place - 30) s) (if place == 288 then sector_ended t s else s)
-    (byte_keeps t.target k (place - 30) s)
-    (subst (Regs s) (sym last) same)))
+    either (place == 12) s _ _ (record { latch = refl; track = refl; sector = refl })
+    (either ((place == 22) && s.drq) s _ _ (record { latch = refl; track = refl; sector = refl })
+    (either (is_byte_place 30 place) s _ _ (byte_keeps t.target k (place - 30) s) (subst (Regs s) (sym last) same)))
 
 -- what a sector does that is written
 writing_leaves : (t : Transfer) (k : ℕ) → Leaves t (writing_at t k)
@@ -320,6 +314,10 @@ record Stored (s : State) (t : Transfer) (d : Image) (round : Round) : Type 0 wh
   pub others : (n : ℕ) → ((i : ℕ) → i < 256 → n ≢ place d.kind t.target.side t.target.head s.sector i) → byte_at now n ≡ byte_at d n
   pub kind : now.kind ≡ d.kind
 
+-- a disc of the same kind has the sector
+same_sectors : (a b : Kind) (target : Target) → a ≡ b → has_sector b target.side target.head 0 ≡ true → has_sector a target.side target.head 0 ≡ true
+same_sectors a b target same is = ap (λ kind. has_sector kind target.side target.head 0) same ∙ is
+
 -- single density is still selected
 still_single : (a b c : ℕ) → a ≡ b → b ≡ c → is_single_density c ≡ true → is_single_density a ≡ true
 still_single a b c p q is = ap is_single_density (p ∙ q) ∙ is
@@ -363,7 +361,7 @@ one_written back others s t d round is few timely =
         density = still_single s2.latch s1.latch s.latch both.kept.latch found.latch is.density;
         track = is.track ∙ sym (both.kept.track ∙ found.track);
         disc = both.inside.disc;
-        on_disc = ap (λ kind. has_sector kind t.target.side t.target.head 0) both.inside.kind ∙ is.on_disc;
+        on_disc = same_sectors both.inside.now.kind d.kind t.target both.inside.kind is.on_disc;
         drq = off_at_end d t k s2 (bytes_given round.serves) both.inside;
         lost = end;
       };
