@@ -367,7 +367,7 @@ still s v waits m left low is moves some inside =
     let y = history waits (write_leaves 0 v s) in (
       ap is_busy w.command,
       same_head y s (w.latch ∙ ap (λ (x : State). x.latch) written) (w.drive0 ∙ ap (λ (x : State). x.drive0) written)
-      (w.drive1 ∙ ap (λ (x : State). x.drive1) written),
+          (w.drive1 ∙ ap (λ (x : State). x.drive1) written),
       w.track ∙ ap (λ (x : State). x.track) written,
     )
 

@@ -100,8 +100,10 @@ one_read true room shown made (empty remembered) is = record { is = nothing_come
 one_read true room shown made (holds front []) is =
     record { is = ap (λ bytes. bytes ++ []) (is refl) ∙ nothing_comes (nat_lt 1 room) (front ∷ []) }
 one_read true room shown made (holds front (next ∷ rest)) is =
-    record { is = ap (λ b. (if not b then shown else []) ++ next ∷ rest) (is_some_held front (next ∷ rest))
-    ∙ ap (λ bytes. bytes ++ next ∷ rest) (is refl) ∙ nothing_comes (nat_lt (count (holds front (next ∷ rest))) room) (front ∷ next ∷ rest) }
+    record {
+      is = ap (λ b. (if not b then shown else []) ++ next ∷ rest) (is_some_held front (next ∷ rest))
+          ∙ ap (λ bytes. bytes ++ next ∷ rest) (is refl) ∙ nothing_comes (nat_lt (count (holds front (next ∷ rest))) room) (front ∷ next ∷ rest);
+    }
 
 by_room : (has : Bool) (front byte : ℕ) (rest : List ℕ) →
     held_bytes (if has then holds front (rest ++ byte ∷ []) else holds front rest) ≡ (front ∷ rest) ++ (if has then byte ∷ [] else [])
@@ -443,9 +445,10 @@ fifo_keeps z false b stays = rw stays refl
 
 fifo_destroys_nothing : (c : State) (events : List Event) → ClearsNothing events → DestroysNothing Para 1 c events
 fifo_destroys_nothing c [] clear = tt
-fifo_destroys_nothing c (e ∷ events) clear =
-    (fifo_keeps (clears e) (is_some (byte_sent Para 1 e)) (not (is_empty (queue Para 1 c))) clear.0, fifo_destroys_nothing
-    (act c e.side e.query).0 events clear.1)
+fifo_destroys_nothing c (e ∷ events) clear = (
+  fifo_keeps (clears e) (is_some (byte_sent Para 1 e)) (not (is_empty (queue Para 1 c))) clear.0,
+  fifo_destroys_nothing (act c e.side e.query).0 events clear.1,
+)
 
 pub fifo_kept : FifoLosesNothing
 fifo_kept c events may answered clear =

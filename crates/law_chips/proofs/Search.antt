@@ -216,9 +216,12 @@ search_ends = record {
       let last = (sector_angle s.sector + 200000 - next_angle s.angle) % 200000 in
       runs_on s t left last events is (omega (arith, turn s, enough)) (not_before s t has) all (omega (arith, early));
   found = λ s t left events is enough has off all count.
-      let found = search_found s t left events is enough has all count in
-      (record { command = found.command; angle = found.angle; drq = found.drq off }, same_disc t.target.drive
-      (history events s) s found.drive0 found.drive1, found.lost, found.sector);
+      let found = search_found s t left events is enough has all count in (
+        record { command = found.command; angle = found.angle; drq = found.drq off },
+        same_disc t.target.drive (history events s) s found.drive0 found.drive1,
+        found.lost,
+        found.sector,
+      );
   waits = λ s t left events is none all early.
       runs_on s t left (count_steps events) events is early (λ i h. never s t none i) all (omega arith);
   not_found = λ s t left events is some none all count.

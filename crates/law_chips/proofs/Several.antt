@@ -197,7 +197,7 @@ one s t d round is few timely =
     (λ x m got inside both. (
       takes_step f bytes s1 x m got (is_given s1 t k d bytes has is.reads) inside both.0,
       kept_step t k (reading_at t k) (reading_leaves t k) few is.multiple s1 x m inside (both.0.going inside) both.0.angle
-      (reads_is t k (64 * (312 * k) + m + 1) (moved_on x k m) is.reads) both.1,
+          (reads_is t k (64 * (312 * k) + m + 1) (moved_on x k m) is.reads) both.1,
     ))
     (λ e x m got access may acc both. (
       takes_access f bytes s1 e x m got (waits_read e may) acc (λ over. acc.command ∙ over) both.0,

@@ -218,7 +218,7 @@ lets_go p s (e ∷ es) all = let parts = p.parts s e es all in (p.lets s e parts
 module _ (p : Program) (P : State → ℕ → List ℕ → Type 0) (last : ℕ)
     (step_keeps : (s : State) (m : ℕ) (got : List ℕ) → m < last → P s m got → P (step s) (m + 1) got)
     (access_keeps : (e : Event) (s : State) (m : ℕ) (got : List ℕ) → IsAccess e → p.may s e → Accessed (is_data e) s (happens e s) → P s m got →
-        P (happens e s) m (got ++ p.out s m e)) where
+    P (happens e s) m (got ++ p.out s m e)) where
   one_event : (e : Event) (es : List Event) (s : State) (m : ℕ) (got : List ℕ) → p.may s e → m + count_steps (e ∷ es) ≤ last → P s m got →
       P (happens e s) (steps_behind m e) (got ++ p.out s m e)
   one_event microsecond es s m got may most is =

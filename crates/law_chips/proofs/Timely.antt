@@ -194,9 +194,9 @@ first_asked : (t : Transfer) (k : ℕ) (s : State) (m : ℕ) (ps : List ℕ) (b 
 first_asked t k s m ps b now drq is =
     let was : s.drq ≡ not (given 0 ps) = is.drq (omega (arith, now)) ∙ wants_first (m / 64) ps (omega (arith, now)) (omega (arith, now)) in
     other_of (given 0 ps) b (sym was ∙ drq) where
-  other_of : (a b : Bool) → not a ≡ b → a ≡ not b
-  other_of true b is = ap not is
-  other_of false b is = ap not is
+      other_of : (a b : Bool) → not a ≡ b → a ≡ not b
+      other_of true b is = ap not is
+      other_of false b is = ap not is
 
 -- byte i is written
 byte_goes : (t : Transfer) (k : ℕ) (s : State) (m i : ℕ) (ps : List ℕ) → i < 256 → m + 1 ≡ 64 * (30 + i) → Fine t k s m ps →

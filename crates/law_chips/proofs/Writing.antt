@@ -154,10 +154,6 @@ w_end t k place s is =
 pub writes_is : (t : Transfer) (k angle : ℕ) (s : State) → t.writes ≡ true → transfer_step t k angle s ≡ writing_at t k (places_into k angle) s
 writes_is t k angle s writes = ap (λ b. if b then writing_at t k (places_into k angle) s else reading_at t k (places_into k angle) s) writes
 
--- ---- Accesses.
-
--- ---- Runs.
-
 module _ (d : Image) (t : Transfer) (k : ℕ) where
   -- where a byte of the sector is
   unfoldable pub at_byte : ℕ → ℕ
@@ -241,6 +237,8 @@ module _ (d : Image) (t : Transfer) (k : ℕ) where
       (omega (arith, now)) (ap (λ b. length bytes + owed b) end.drq ∙ is.count ∙ sym same)
       (λ off more. is.pending (sym end.drq ∙ off) (subst (λ n. gone m < n) same more))
 
+  -- ---- Accesses.
+
   -- an access of another register than the data register
   leaves_it : (s x : State) (m : ℕ) (bytes : List ℕ) → Accessed false s x → Inside s m bytes →
       Inside x m (bytes ++ [])
@@ -295,6 +293,8 @@ module _ (d : Image) (t : Transfer) (k : ℕ) where
         (leaves_it s (write_leaves reg v s) m bytes (subst (λ b. Accessed b s (write_leaves reg v s)) off acc) is)
   ]
   accessed (latch v) s m bytes access may acc is = leaves_it s (latch_leaves v s) m bytes acc is
+
+  -- ---- Runs.
 
   -- what holds of a run as long as nothing is lost
   abbrev Within : State → ℕ → List ℕ → Type 0
