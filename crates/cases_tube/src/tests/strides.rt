@@ -36,12 +36,13 @@ fn count(alloc: Global) -> Result<Count, AllocError> {
     Ok(Arc::new(alloc, AtomicU64::new(0))?)
 }
 
-/// Reads its first status register at tick `due` and every two ticks. Before each step it waits until the other side has looked.
+/// Reads its first status register at tick `due` and every two ticks, behind so many looks. Before each step it waits until the other side has looked.
 #[derive(Drop)]
 pub struct Poller {
     due: u64,
     // How far it is closed, in ticks before the next step.
     lag: u64,
+    looks: u64,
     // How many steps it has come to, and up to which of them the other side has looked.
     steps: Count,
     seen: Count,
@@ -52,6 +53,7 @@ pub struct Poller {
 pub struct Begun {
     due: u64,
     lag: u64,
+    looks: u64,
 }
 
 impl Poller {
@@ -69,21 +71,20 @@ impl Poller {
 }
 
 impl Party for Poller {
-    ghost use Rattle.std.specs.Prelude.{ℕ, ◌+◌, ◌-◌, Some, true, refl};
+    ghost use Rattle.std.specs.Prelude.{ℕ, ◌+◌, ◌-◌, Some, true, false, refl};
     ghost use Rattle.std.proofs.Common.{arith};
     ghost use Rattle.tube_party.specs.Moves.{MayAsk};
-    ghost use Rattle.tube_chip.specs.declared.Op.TheVariants as op;
-    ghost use Rattle.tube_chip.specs.Act.{access};
-    ghost use Rattle.cases_tube.specs.Steady.{Station};
+    ghost use Rattle.cases_tube.specs.Steady.{Polling};
+    ghost use Rattle.cases_tube.specs.Talking.{asks, may_ask, looks_after};
 
-    ghost State = { Station };
+    ghost State = { Polling };
 
-    ghost state = { λ m. record { due = m.due; lag = m.lag } };
+    ghost state = { λ m. record { due = m.due; lag = m.lag; looks = m.looks } };
 
     ghost moves = { record {
       due = λ s. s.due;
-      asks = λ s. Some (access (op.Read 0));
-      next = λ s a. record { due = s.due + 2; lag = 1 };
+      asks = λ s. Some (asks s.looks true false 0);
+      next = λ s a. record { due = s.due + 2; lag = 1; looks = looks_after s.looks 0 };
       closed = λ s. s.due - s.lag;
       close = λ s t. record s { lag = s.due - t };
     } };
@@ -96,7 +97,7 @@ impl Party for Poller {
       closing = λ s t low high. record { closed = omega arith; due = refl; asks = refl; next = λ a. refl; again = λ u low2 high2. refl };
     } };
 
-    ghost permitted = { λ s side plays. omega arith };
+    ghost permitted = { λ s side plays. may_ask s.looks true false 0 side };
 
     fn due(&self) -> Tick {
         Tick(self.due)
@@ -104,26 +105,36 @@ impl Party for Poller {
 
     fn advance(&mut self, until: Tick) -> Ask {
         self.is_seen();
-        if self.due < until.0 {
-            return Ask::Access(Tick(self.due), Op::Read(0));
+        if self.due >= until.0 {
+            self.lag = self.lag.min(self.due - until.0);
+            return Ask::Nothing;
         }
-        self.lag = self.lag.min(self.due - until.0);
-        Ask::Nothing
+        if self.looks > 0 {
+            return Ask::Look(Tick(self.due));
+        }
+        Ask::Access(Tick(self.due), Op::Read(0))
     }
 
     fn answer(&mut self, _answer: Answer) {
         self.lag = 1;
         self.due += 2;
+        if self.looks > 0 {
+            self.looks -= 1;
+        }
     }
 }
 
 impl Rewinds for Poller {
     type Past = Begun;
 
-    ghost before = { λ past m. record m { due = past.due; lag = past.lag } };
+    ghost before = { λ past m. record m { due = past.due; lag = past.lag; looks = past.looks } };
 
     fn past(_alloc: Global) -> Result<Begun, AllocError> {
-        Ok(Begun { due: 0, lag: 0 })
+        Ok(Begun {
+            due: 0,
+            lag: 0,
+            looks: 0,
+        })
     }
 
     fn advance_noting(
@@ -135,6 +146,7 @@ impl Rewinds for Poller {
     ) -> Option<Ask> {
         past.due = self.due;
         past.lag = self.lag;
+        past.looks = self.looks;
         Some(self.advance_seeing(until, lines, sure))
     }
 
@@ -153,6 +165,7 @@ impl Rewinds for Poller {
     fn rewind(&mut self, past: &mut Begun) {
         self.due = past.due;
         self.lag = past.lag;
+        self.looks = past.looks;
     }
 }
 
@@ -210,11 +223,16 @@ fn go_ahead<R: Wait>(
     requires published { (pass.ahead ≡ []) × (pass.trusted ≡ []) }
     requires later { own_horizon pass ≤ 0 }
 {
-    let mut past = Begun { due: 0, lag: 0 };
+    let mut past = Begun {
+        due: 0,
+        lag: 0,
+        looks: 0,
+    };
     let mut half = Half {
         machine: Poller {
             due: 0,
             lag: 0,
+            looks: 0,
             steps,
             seen,
         },
