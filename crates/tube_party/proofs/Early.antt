@@ -1,24 +1,25 @@
--- A look before which the other party makes no access may come early, and so may the host's access that leaves the lines: the reference goes on
--- alike, but for where the looks stand in the list.
-use Rattle.std.proofs.Common.{ℕ, zero, suc, ◌≡◌, ◌+◌, ◌<◌, ◌≤◌, nat_eq, inl, inr, refl, sym, ◌∙◌, ap, arith, Bool, true, false, List, [], ◌∷◌, ◌++◌, append_assoc, Option, None, Some}
+-- A step of the host may come early, before steps of the parasite that see the chip behind it as they see it before it: the reference goes on alike,
+-- but for the order of the host's and the parasite's events in its list.
+use Rattle.std.proofs.Common.{ℕ, zero, suc, ◌≡◌, ◌+◌, ◌<◌, ◌≤◌, nat_eq, inl, inr, refl, sym, ◌∙◌, ap, subst, arith, Bool, true, false, List, [], ◌∷◌, ◌++◌, append_assoc, Option, None, Some}
+use Rattle.std.specs.Prelude.{All}
 use Rattle.std.proofs.lemmas.List.{append-nil}
-use Rattle.std.proofs.lemmas.Bool.{eqb-true}
-use Rattle.tube_chip.specs.State.{State, lines_of}
-use Rattle.tube_chip.specs.Act.{Query, access, look, act}
+use Rattle.std.proofs.lemmas.List.Elements.{All-head, All-tail}
+use Rattle.std.proofs.lemmas.Bool.{cases_lt}
+use Rattle.tube_chip.specs.State.{State}
+use Rattle.tube_chip.specs.Act.{Query, act}
 use Rattle.tube_chip.specs.Events.{Event, of_side}
-use Rattle.tube_chip.specs.declared.Answer.TheVariants.{Seen}
+use Rattle.tube_chip.specs.declared.Answer.{Answer}
 use Rattle.beeb_bits.specs.declared.Side.{Side}
 use Rattle.beeb_bits.specs.declared.Side.TheVariants.{Host, Para}
 use Rattle.tube_trace.specs.declared.Entry.{Entry}
 use Rattle.tube_trace.specs.Entries.{accesses}
-use Rattle.tube_chip.specs.declared.Lines.{Lines}
-use Rattle.tube_party.specs.Moves.{Moves, IsLawful}
-use Rattle.tube_party.proofs.Calm.{IsCalm, silent_calm, look_calm, access_calm}
+use Rattle.tube_party.specs.Moves.{Moves, IsLawful, Runs, course}
 use Rattle.tube_party.specs.GoingOn.{IsLike}
 use Rattle.tube_party.specs.Reference.{Seat, World, step_leaves, step_if_due, with_host, para_part, tick, ticks}
-use Rattle.tube_party.proofs.Ticks.{seat, world, host_done, still, now, same_or_above, host_here}
-use Rattle.tube_party.proofs.Runs.{event}
+use Rattle.tube_party.proofs.Ticks.{seat, world, host_done, host_next, para_next, para_silent}
+use Rattle.tube_party.proofs.Runs.{event, First, Over, Silent, Asking, first_of_runs}
 use Rattle.tube_party.proofs.Kept.{grows}
+use Rattle.tube_party.proofs.Ways.{IsIdle, IsBelow}
 
 pub alike : {S T : Type 0} (w v : World S T) → w ≡ v → IsLike w v
 alike w v e = record {
@@ -38,23 +39,20 @@ SameAccesses l m = (side : Side) → accesses (of_side side l) ≡ accesses (of_
 pub same_after : (l m more : List Event) → SameAccesses l m → SameAccesses (l ++ more) (m ++ more)
 same_after l m more same side = grows side l more ∙ ap (λ (x : List Entry). x ++ accesses (of_side side more)) (same side) ∙ sym (grows side m more)
 
-no_accesses : (of : Side) (t : ℕ) (lines : Lines) (side : Side) → accesses (of_side side (event t of look (Seen lines) ∷ [])) ≡ []
-no_accesses Host t lines Host = refl
-no_accesses Host t lines Para = refl
-no_accesses Para t lines Host = refl
-no_accesses Para t lines Para = refl
-
--- events that are no accesses are left out
-left_out : (l more : List Event) → ((of : Side) → accesses (of_side of more) ≡ []) → SameAccesses (l ++ more) l
-left_out l more none side =
-    grows side l more ∙ ap (λ (x : List Entry). accesses (of_side side l) ++ x) (none side) ∙ append-nil (accesses (of_side side l))
-
--- or come behind others
-behind : (l more others : List Event) → ((of : Side) → accesses (of_side of more) ≡ []) → SameAccesses ((l ++ more) ++ others) ((l ++ others) ++ more)
-behind l more others none side = same_after (l ++ more) l others (left_out l more none) side ∙ sym (left_out (l ++ others) more none side)
-
-pub look_left_out : (of : Side) (t : ℕ) (c : State) (l : List Event) → SameAccesses (l ++ event t of look (Seen (lines_of c)) ∷ []) l
-look_left_out of t c l = left_out l (event t of look (Seen (lines_of c)) ∷ []) (no_accesses of t (lines_of c))
+-- an event of each side, in either order
+swapped : (l : List Event) (t u : ℕ) (q r : Query) (a b : Answer) →
+    SameAccesses ((l ++ event t Para q a ∷ []) ++ event u Host r b ∷ []) ((l ++ event u Host r b ∷ []) ++ event t Para q a ∷ [])
+swapped l t u q r a b Host =
+    let p : List Event = event t Para q a ∷ [] in
+    let h : List Event = event u Host r b ∷ [] in
+    grows Host (l ++ p) h
+    ∙ ap (λ (x : List Entry). x ++ accesses (of_side Host h)) (grows Host l p ∙ append-nil (accesses (of_side Host l)))
+    ∙ sym (grows Host (l ++ h) p ∙ append-nil (accesses (of_side Host (l ++ h))) ∙ grows Host l h)
+swapped l t u q r a b Para =
+    let p : List Event = event t Para q a ∷ [] in
+    let h : List Event = event u Host r b ∷ [] in
+    grows Para (l ++ p) h ∙ append-nil (accesses (of_side Para (l ++ p))) ∙ grows Para l p
+    ∙ sym (grows Para (l ++ h) p ∙ ap (λ (x : List Entry). x ++ accesses (of_side Para p)) (grows Para l h ∙ append-nil (accesses (of_side Para l))))
 
 -- what a step of a side does, whatever the list so far
 record Form {S : Type 0} (m : Moves S) (side : Side) (k : ℕ) (s : S) (c : State) : Type 0 where
@@ -72,40 +70,6 @@ form_of_step m side k s c true (Some x) d q = record {
   more = event (m.due s) side x (act c side x).1 ∷ [];
   is = λ l. rw (d, q) refl;
 }
-
--- a step that is no access, since none comes before this tick: it is the same at each chip with these lines
-record Calm {S : Type 0} (m : Moves S) (side : Side) (k : ℕ) (s : S) (lines : Lines) (far : ℕ) : Type 0 where
-  state : S
-  more : List Event
-  none : (of : Side) → accesses (of_side of more) ≡ []
-  is : (c : State) (l : List Event) → lines_of c ≡ lines → step_if_due m side k (seat s c l) ≡ seat state c (l ++ more)
-  calm : (i : ℕ) → IsCalm m lines far i state
-
-calm_step_by : {S : Type 0} (m : Moves S) (side : Side) (k : ℕ) (s : S) (lines : Lines) (far : ℕ) → k < far → ((i : ℕ) → IsCalm m lines far i s) → (due : Bool) (o : Option Query)
-    → nat_eq (m.due s) k ≡ due → m.asks s ≡ o →
-    Calm m side k s lines far
-calm_step_by m side k s lines far low calm false o d q = record { state = s; more = []; none = λ of. refl; is = λ c l e. rw d (ap (seat s c) (sym (append-nil l))); calm = calm }
-calm_step_by m side k s lines far low calm true None d q = record {
-  state = m.next s None;
-  more = [];
-  none = λ of. refl;
-  is = λ c l e. rw (d, q) (ap (seat (m.next s None) c) (sym (append-nil l)));
-  calm = λ i. silent_calm m lines far i s q (calm (suc i));
-}
-calm_step_by m side k s lines far low calm true (Some look) d q = record {
-  state = m.next s (Some (Seen lines));
-  more = event (m.due s) side look (Seen lines) ∷ [];
-  none = λ of. no_accesses side (m.due s) lines of;
-  is = λ c l e. rw (d, q) (ap (λ (x : Lines). seat (m.next s (Some (Seen x))) c (l ++ event (m.due s) side look (Seen x) ∷ [])) e);
-  calm = λ i. look_calm m lines far i s q (calm (suc i));
-}
-calm_step_by m side k s lines far low calm true (Some (access op)) d q =
-    let at : m.due s ≡ k = eqb-true (m.due s) k d in
-    let late : far ≤ m.due s = access_calm m lines far s op q (calm 1) in
-    absurd (omega (arith, at, late, low))
-
-calm_step : {S : Type 0} (m : Moves S) (side : Side) (k : ℕ) (s : S) (lines : Lines) (far : ℕ) → k < far → ((i : ℕ) → IsCalm m lines far i s) → Calm m side k s lines far
-calm_step m side k s lines far low calm = calm_step_by m side k s lines far low calm (nat_eq (m.due s) k) (m.asks s) refl refl
 
 module _ {S T : Type 0} (h : Moves S) (p : Moves T) (lh : IsLawful h) (lp : IsLawful p) where
   -- a tick, whatever the list so far
@@ -131,7 +95,7 @@ module _ {S T : Type 0} (h : Moves S) (p : Moves T) (lh : IsLawful h) (lp : IsLa
             ∙ ap (λ (z : List Event). world x.state y.state y.chip z) (append_assoc l x.more y.more);
       }
 
-  pub like_ticks : (j k : ℕ) (s : S) (t : T) (c : State) (l m : List Event) → SameAccesses l m → IsLike (ticks h p j k (world s t c l)) (ticks h p j k (world s t c m))
+  like_ticks : (j k : ℕ) (s : S) (t : T) (c : State) (l m : List Event) → SameAccesses l m → IsLike (ticks h p j k (world s t c l)) (ticks h p j k (world s t c m))
   like_ticks zero k s t c l m same = record { host = refl; para = refl; chip = refl; listed = same }
   like_ticks (suc j) k s t c l m same =
       let x : TickForm k s t c = tick_form k s t c in
@@ -140,58 +104,88 @@ module _ {S T : Type 0} (h : Moves S) (p : Moves T) (lh : IsLawful h) (lp : IsLa
       like_on _ _ _ (alike _ _ (ap (λ (w : World S T). ticks h p j (k + 1) w) (x.is l)))
       (like_on _ _ _ on (alike _ _ (sym (ap (λ (w : World S T). ticks h p j (k + 1) w) (x.is m)))))
 
-  -- the host's step, where it leaves the lines and the parasite makes no access before it
-  pub early_host : (j k : ℕ) (s : S) (t : T) (c : State) (q : Query) (l : List Event) (far : ℕ) → k ≤ h.due s → h.due s < k + j → h.due s ≤ far
-      → ((i : ℕ) → IsCalm p (lines_of c) far i t) → h.asks s ≡ Some q →
-      lines_of (act c Host q).0 ≡ lines_of c →
-      IsLike (ticks h p j k (world s t c l)) (ticks h p j k (world (h.next s (Some (act c Host q).1)) t (act c Host q).0 (l ++ event (h.due s) Host q (act c Host q).1 ∷ [])))
-  early_host zero k s t c q l far lo hi near calm asks same = absurd (omega arith)
-  early_host (suc j) k s t c q l far lo hi near calm asks same = elim (same_or_above (h.due s) k lo) [
-    | inl e ↦
-        alike _ _ (host_here h p lh lp j k s t c l e ∙ ap (λ (o : Option Query). ticks h p (suc j) k (host_done (step_leaves h Host (seat s c l) o) t)) asks)
-    | inr up ↦
-        let on : S = h.next s (Some (act c Host q).1) in
-        let d : State = (act c Host q).0 in
-        let done : List Event = event (h.due s) Host q (act c Host q).1 ∷ [] in
-        let rise : h.due s < h.due on = lh.rises s (Some (act c Host q).1) in
-        let ns : h.due s ≡ k → ⊥ = λ e. omega arith in
-        let nx : h.due on ≡ k → ⊥ = λ e. omega arith in
-        let y : Calm p Para k t (lines_of c) far = calm_step p Para k t (lines_of c) far (omega arith) calm in
-        like_on _ _ _
-        (alike _ _ (ap (λ (x : Seat S). ticks h p j (k + 1) (para_part p k x t)) (still h Host k (seat s c l) ns) ∙ ap (λ (z : Seat T). ticks h p j (k + 1) (with_host s z)) (y.is c l refl)))
-        (like_on _ _ _
-        (early_host j (k + 1) s y.state c q (l ++ y.more) far (omega arith) (omega arith) near y.calm asks same)
-        (like_on _ _ _
-        (like_ticks j (k + 1) on y.state d ((l ++ y.more) ++ done) ((l ++ done) ++ y.more) (behind l y.more done y.none))
-        (alike _ _ (sym (ap (λ (x : Seat S). ticks h p j (k + 1) (para_part p k x t)) (still h Host k (seat on d (l ++ done)) nx)
-        ∙ ap (λ (z : Seat T). ticks h p j (k + 1) (with_host on z)) (y.is d (l ++ done) same))))))
-  ]
+  module _ (n : ℕ) where
+    -- the parasite's step, which the chip answers and is left by
+    para_idle : (s : S) (t : T) (c : State) (l : List Event) (q : Query) (a : Answer) → p.due t < n → p.due t < h.due s → p.asks t ≡ Some q → IsIdle c (event (p.due t) Para q a)
+        → ticks h p n 0 (world s t c l) ≡ ticks h p n 0 (world s (p.next t (Some a)) c (l ++ event (p.due t) Para q a ∷ []))
+    para_idle s t c l q a low first asks idle =
+        para_next h p lh lp n 0 s t c l (omega arith) (omega arith) first
+        ∙ ap (λ (o : Option Query). ticks h p n 0 (with_host s (step_leaves p Para (seat t c l) o))) asks
+        ∙ ap (λ (x : State). ticks h p n 0 (world s (p.next t (Some (act c Para q).1)) x (l ++ event (p.due t) Para q (act c Para q).1 ∷ []))) idle.0
+        ∙ ap (λ (x : Answer). ticks h p n 0 (world s (p.next t (Some x)) c (l ++ event (p.due t) Para q x ∷ []))) idle.1
 
-  -- the parasite's look, where the host makes no access at its tick or before it
-  pub early_para : (j k : ℕ) (s : S) (t : T) (c : State) (l : List Event) (far : ℕ) → k ≤ p.due t → p.due t < k + j → p.due t < far → ((i : ℕ) → IsCalm h (lines_of c) far i s) → p.asks t ≡ Some look →
-      IsLike (ticks h p j k (world s t c l)) (ticks h p j k (world s (p.next t (Some (Seen (lines_of c)))) c l))
-  early_para zero k s t c l far lo hi near calm asks = absurd (omega arith)
-  early_para (suc j) k s t c l far lo hi near calm asks =
-      let on : T = p.next t (Some (Seen (lines_of c))) in
-      let rise : p.due t < p.due on = lp.rises t (Some (Seen (lines_of c))) in
-      let x : Calm h Host k s (lines_of c) far = calm_step h Host k s (lines_of c) far (omega arith) calm in
-      let nx : p.due on ≡ k → ⊥ = λ e. omega arith in
-      let idle : tick h p k (world s on c l) ≡ world x.state on c (l ++ x.more) =
-      ap (λ (z : Seat S). para_part p k z on) (x.is c l refl) ∙ ap (λ (z : Seat T). with_host x.state z) (still p Para k (seat on c (l ++ x.more)) nx) in
-      elim (same_or_above (p.due t) k lo) [
-        | inl e ↦
-            let more : List Event = (l ++ x.more) ++ event (p.due t) Para look (Seen (lines_of c)) ∷ [] in
-            let did : tick h p k (world s t c l) ≡ world x.state on c more =
-            ap (λ (z : Seat S). para_part p k z t) (x.is c l refl)
-            ∙ ap (λ (z : Seat T). with_host x.state z) (now p Para k (seat t c (l ++ x.more)) e ∙ ap (λ (o : Option Query). step_leaves p Para (seat t c (l ++ x.more)) o) asks) in
-            like_on _ _ _ (alike _ _ (ap (λ (w : World S T). ticks h p j (k + 1) w) did))
-            (like_on _ _ _ (like_ticks j (k + 1) x.state on c more (l ++ x.more) (look_left_out Para (p.due t) c (l ++ x.more)))
-            (alike _ _ (sym (ap (λ (w : World S T). ticks h p j (k + 1) w) idle))))
-        | inr up ↦
-            let nt : p.due t ≡ k → ⊥ = λ e. omega arith in
-            let rests : tick h p k (world s t c l) ≡ world x.state t c (l ++ x.more) =
-            ap (λ (z : Seat S). para_part p k z t) (x.is c l refl) ∙ ap (λ (z : Seat T). with_host x.state z) (still p Para k (seat t c (l ++ x.more)) nt) in
-            like_on _ _ _ (alike _ _ (ap (λ (w : World S T). ticks h p j (k + 1) w) rests))
-            (like_on _ _ _ (early_para j (k + 1) x.state t c (l ++ x.more) far (omega arith) (omega arith) near x.calm asks)
-            (alike _ _ (sym (ap (λ (w : World S T). ticks h p j (k + 1) w) idle))))
-      ]
+    -- The parasite's steps before the host's next step are the reference's.
+    para_by : (i : ℕ) (s : S) (t last : T) (c : State) (l events : List Event)
+        → ((u : T) (m others : List Event) → Runs p Para n i u (course others last) → All (IsIdle c) others → All (IsBelow (h.due s)) others
+        → ticks h p n 0 (world s u c m) ≡ ticks h p n 0 (world s last c (m ++ others)))
+        → First p Para n (suc i) t events last → All (IsIdle c) events → All (IsBelow (h.due s)) events
+        → ticks h p n 0 (world s t c l) ≡ ticks h p n 0 (world s last c (l ++ events))
+    para_by i s t last c l events on (Over ee es) idle early =
+        ap (λ (x : T). ticks h p n 0 (world s x c l)) es
+        ∙ ap (λ (x : List Event). ticks h p n 0 (world s last c x)) (sym (ap (λ (x : List Event). l ++ x) ee ∙ append-nil l))
+    para_by i s t last c l events on (Silent i' ei low none runs) idle early =
+        para_silent h p lh lp n 0 s t c l (omega arith) (omega arith) none
+        ∙ on (p.next t None) l events (subst (λ (x : ℕ). Runs p Para n x (p.next t None) (course events last)) (omega arith) runs) idle early
+    para_by i s t last c l events on (Asking i' q a others ei low asks ee runs) idle early =
+        let e : Event = event (p.due t) Para q a in
+        let all : All (IsIdle c) (e ∷ others) = subst (All (IsIdle c)) ee idle in
+        let before : All (IsBelow (h.due s)) (e ∷ others) = subst (All (IsBelow (h.due s))) ee early in
+        para_idle s t c l q a low (All-head (IsBelow (h.due s)) e others before) asks (All-head (IsIdle c) e others all)
+        ∙ on (p.next t (Some a)) (l ++ e ∷ []) others (subst (λ (x : ℕ). Runs p Para n x (p.next t (Some a)) (course others last)) (omega arith) runs)
+        (All-tail (IsIdle c) e others all) (All-tail (IsBelow (h.due s)) e others before)
+        ∙ ap (λ (x : List Event). ticks h p n 0 (world s last c x)) (append_assoc l (e ∷ []) others ∙ ap (λ (x : List Event). l ++ x) (sym ee))
+
+    pub para_does : (k : ℕ) (s : S) (t last : T) (c : State) (l events : List Event) → Runs p Para n k t (course events last) → All (IsIdle c) events → All (IsBelow (h.due s)) events
+        → ticks h p n 0 (world s t c l) ≡ ticks h p n 0 (world s last c (l ++ events))
+    para_does zero s t last c l events runs idle early =
+        ap (λ (x : T). ticks h p n 0 (world s x c l)) runs.1
+        ∙ ap (λ (x : List Event). ticks h p n 0 (world s last c x)) (sym (ap (λ (x : List Event). l ++ x) runs.0 ∙ append-nil l))
+    para_does (suc i) s t last c l events runs idle early =
+        para_by i s t last c l events (λ u m others. para_does i s u last c m others) (first_of_runs p Para n (suc i) t events last runs) idle early
+
+    -- The host's step, done at once.
+    abbrev IsEarly : S → T → State → Query → List Event → Type 0
+    IsEarly s t c q l =
+        IsLike (ticks h p n 0 (world s t c l)) (ticks h p n 0 (world (h.next s (Some (act c Host q).1)) t (act c Host q).0 (l ++ event (h.due s) Host q (act c Host q).1 ∷ [])))
+
+    host_here : (s : S) (t : T) (c : State) (q : Query) (l : List Event) → h.due s < n → h.due s ≤ p.due t → h.asks s ≡ Some q → IsEarly s t c q l
+    host_here s t c q l low first asks =
+        alike _ _ (host_next h p lh lp n 0 s t c l (omega arith) (omega arith) first ∙ ap (λ (o : Option Query). ticks h p n 0 (host_done (step_leaves h Host (seat s c l) o) t)) asks)
+
+    early_by : (i : ℕ) (s : S) (t last : T) (c : State) (q : Query) (l events : List Event) → h.due s < n → h.due s ≤ p.due last → h.asks s ≡ Some q
+        → ((u : T) (m others : List Event) → Runs p Para n i u (course others last) → All (IsIdle c) others → All (IsIdle (act c Host q).0) others → IsEarly s u c q m)
+        → First p Para n (suc i) t events last → All (IsIdle c) events → All (IsIdle (act c Host q).0) events → IsEarly s t c q l
+    early_by i s t last c q l events low first asks on (Over ee es) idle still =
+        host_here s t c q l low (subst (λ (x : T). h.due s ≤ p.due x) (sym es) first) asks
+    early_by i s t last c q l events low first asks on (Silent i' ei lt none runs) idle still =
+        let d : State = (act c Host q).0 in
+        let done : List Event = l ++ event (h.due s) Host q (act c Host q).1 ∷ [] in
+        let onto : S = h.next s (Some (act c Host q).1) in
+        like_on _ _ _ (alike _ _ (para_silent h p lh lp n 0 s t c l (omega arith) (omega arith) none))
+        (like_on _ _ _ (on (p.next t None) l events (subst (λ (x : ℕ). Runs p Para n x (p.next t None) (course events last)) (omega arith) runs) idle still)
+        (alike _ _ (sym (para_silent h p lh lp n 0 onto t d done (omega arith) (omega arith) none))))
+    early_by i s t last c q l events low first asks on (Asking i' r a others ei lt is ee runs) idle still =
+        let d : State = (act c Host q).0 in
+        let b : Answer = (act c Host q).1 in
+        let e : Event = event (p.due t) Para r a in
+        let f : Event = event (h.due s) Host q b in
+        let onto : S = h.next s (Some b) in
+        let rise : h.due s < h.due onto = lh.rises s (Some b) in
+        let all : All (IsIdle c) (e ∷ others) = subst (All (IsIdle c)) ee idle in
+        let stays : All (IsIdle d) (e ∷ others) = subst (All (IsIdle d)) ee still in
+        elim (cases_lt (p.due t) (h.due s)) [
+          | inr late ↦ host_here s t c q l low late asks
+          | inl before ↦
+              like_on _ _ _ (alike _ _ (para_idle s t c l r a lt before is (All-head (IsIdle c) e others all)))
+              (like_on _ _ _ (on (p.next t (Some a)) (l ++ e ∷ []) others (subst (λ (x : ℕ). Runs p Para n x (p.next t (Some a)) (course others last)) (omega arith) runs)
+              (All-tail (IsIdle c) e others all) (All-tail (IsIdle d) e others stays))
+              (like_on _ _ _ (like_ticks n 0 onto (p.next t (Some a)) d ((l ++ e ∷ []) ++ f ∷ []) ((l ++ f ∷ []) ++ e ∷ []) (swapped l (p.due t) (h.due s) r q a b))
+              (alike _ _ (sym (para_idle onto t d (l ++ f ∷ []) r a lt (omega arith) is (All-head (IsIdle d) e others stays))))))
+        ]
+
+    -- where all of the parasite's steps before it see the chip behind it as they see it before it
+    pub early_host : (k : ℕ) (s : S) (t last : T) (c : State) (q : Query) (l events : List Event) → h.due s < n → h.due s ≤ p.due last → h.asks s ≡ Some q
+        → Runs p Para n k t (course events last) → All (IsIdle c) events → All (IsIdle (act c Host q).0) events → IsEarly s t c q l
+    early_host zero s t last c q l events low first asks runs idle still = host_here s t c q l low (subst (λ (x : T). h.due s ≤ p.due x) (sym runs.1) first) asks
+    early_host (suc i) s t last c q l events low first asks runs idle still =
+        early_by i s t last c q l events low first asks (λ u m others on. early_host i s u last c q m others low first asks on) (first_of_runs p Para n (suc i) t events last runs) idle still

@@ -15,7 +15,7 @@ pub mod Begun
 pub mod First
 pub mod Kept
 pub mod Noted
-pub mod Calm
+pub mod Ways
 pub mod Early
 pub mod UnderWay
 pub mod Both

@@ -1,12 +1,13 @@
 -- Steps among which looks see their lines.
-use Rattle.std.proofs.Common.{◌≡◌, sym, ap, subst, ℕ, suc, ◌<◌, ◌≤◌, Some, arith}
+use Rattle.std.proofs.Common.{◌≡◌, refl, sym, ap, subst, ℕ, suc, ◌<◌, ◌≤◌, Option, None, Some, MatchOption, arith}
 use Rattle.beeb_bits.specs.declared.Tick.{Tick}
 use Rattle.tube_chip.specs.declared.Answer.TheVariants.{Seen}
 use Rattle.tube_chip.specs.declared.Lines.{Lines}
+use Rattle.tube_chip.specs.declared.Op.{Op}
 use Rattle.tube_chip.specs.Act.{look}
 use Rattle.tube_party.specs.declared.party.Ask.{Ask}
 use Rattle.tube_party.specs.declared.party.Ask.TheVariants.{Look}
-use Rattle.tube_party.specs.Moves.{Moves, IsLawful, Looks, IsUnsure, Advances, Sees, IsAsk, shown_lines}
+use Rattle.tube_party.specs.Moves.{Moves, IsLawful, Looks, IsUnsure, Advances, Sees, Goes, GoesHearing, IsAsk, Shown, shown_lines}
 use Rattle.tube_party.specs.Steps.{due_rises, silent_all, looks_on, look_last}
 
 module _ {S : Type 0} (m : Moves S) (n : ℕ) (lines : Lines) (sure : ℕ) where
@@ -39,3 +40,10 @@ module _ {S : Type 0} (m : Moves S) (n : ℕ) (lines : Lines) (sure : ℕ) where
       let z : m.due new ≡ m.due (m.next at (Some (Seen lines))) = ap m.due answered in
       let w : m.due at ≡ m.due told.last = ap m.due asked.3 in
       (omega arith, omega (arith, asked.0, asked.1))
+
+-- one that goes ahead, and asks nobody
+pub asks_nobody : {S D : Type 0} (m : Moves S) (answers : D → ℕ → Op → ℕ → D → Type 0) (n : ℕ) (v : Shown) (old new mark : S) (d : D) (o : Option Ask)
+    → MatchOption o (new ≡ old) (λ ask. Goes m n v old ask new × (mark ≡ old)) → MatchOption o ((new ≡ old) × (d ≡ d)) (λ ask. GoesHearing m answers n v old d ask new d × (mark ≡ old))
+asks_nobody m answers n v old new mark d None same = (same, refl)
+asks_nobody m answers n v old new mark d (Some ask) went =
+    (record { accesses = 0; last = went.0.last; talks = (refl, (went.0.steps, went.0.looks)); asked = went.0.asked }, went.1)

@@ -1,31 +1,62 @@
--- The host's accesses that are answered in passing.
-use Rattle.std.specs.Prelude.{ℕ, ◌≡◌, ◌<◌, ◌+◌, List}
-use Rattle.beeb_bits.specs.declared.Side.TheVariants.{Host}
+-- The accesses that are answered in passing where both parties are on one thread.
+use Rattle.std.specs.Prelude.{ℕ, ◌≡◌, ◌<◌, Bool, true}
+use Rattle.beeb_bits.specs.declared.Side.{Side}
+use Rattle.beeb_bits.specs.declared.Side.TheVariants.{Host, Para}
 use Rattle.tube_chip.specs.State.{State, lines_of}
 use Rattle.tube_chip.specs.declared.Op.{Op}
-use Rattle.tube_chip.specs.Act.{chip_after, answer_of}
+use Rattle.tube_chip.specs.Act.{MayDo, chip_after, answer_of}
 use Rattle.tube_trace.specs.declared.Entry.{Entry}
 use Rattle.tube_party.specs.declared.log.Log.{Log}
-use Rattle.tube_party.specs.Turn.{note_leaves}
+use Rattle.tube_party.specs.declared.table.Table.{Table}
+use Rattle.tube_party.specs.declared.party.Ask.{Ask}
+use Rattle.tube_party.specs.declared.party.Ask.TheVariants.{Nothing, Access, Look}
+use Rattle.tube_party.specs.CodeAtWork.{own_of}
+use Rattle.tube_party.specs.Logs.{HasNoted}
 
--- The chip, what is kept of the host's accesses, how many there were, how many may be kept, and the tick below which they are answered.
+-- The chip, what is kept of both sides' accesses, whose turn it is, the tick below which accesses are answered, and whether the parasite has
+-- read the chip ahead of the host.
 pub record Attended : Type 0 where
   pub chip : State
-  pub list : List Entry
-  pub count : ℕ
-  pub keep : ℕ
+  pub host : Log
+  pub para : Log
+  pub turn : Side
   pub sure : ℕ
+  pub is_read : Bool
 
-abbrev pub attended : State → Log → ℕ → Attended
-attended c log sure = record { chip = c; list = log.list.items; count = log.count; keep = log.keep; sure = sure }
+abbrev pub attended : Table → Attended
+attended t = record { chip = t.chip; host = t.host_log; para = t.para_log; turn = t.turn; sure = (t.sure).0; is_read = t.is_read }
 
--- An access of the host below that tick was done at the chip, which it left with the same lines, and noted.
+-- The lines stay as they are, and where the chip was read, the chip does.
+abbrev pub StaysSeen : Bool → State → State → Type 0
+StaysSeen is_read c d = (lines_of d ≡ lines_of c) × (is_read ≡ true → d ≡ c)
+
+-- what the parasite passes leaves the chip
+abbrev pub leaves_chip : Side → Bool → Bool
+leaves_chip Host is_read = is_read
+leaves_chip Para is_read = true
+
+-- An access of a side may be answered in passing.
+abbrev pub MayPass : State → Side → Bool → Op → Type 0
+MayPass c side is_read op = MayDo side op × StaysSeen (leaves_chip side is_read) c (chip_after c side op)
+
+-- the chip behind what the host asks
+abbrev pub chip_behind : State → Ask → State
+chip_behind c Nothing = c
+chip_behind c (Access t op) = chip_after c Host op
+chip_behind c (Look t) = c
+
+-- the access, as an entry of the side whose turn it is
+abbrev pub passed_entry : Side → ℕ → Op → ℕ → Entry
+passed_entry side tick op byte = record { tick = record { 0 = tick }; side = side; op = op; answer = byte }
+
+-- An access below that tick of the side whose turn it is was done at the chip, and noted.
 pub record IsPassed (old : Attended) (tick : ℕ) (op : Op) (byte : ℕ) (new : Attended) : Type 0 where
   pub early : tick < old.sure
-  pub byte_is : byte ≡ answer_of old.chip Host op
-  pub chip_is : new.chip ≡ chip_after old.chip Host op
-  pub lines : lines_of new.chip ≡ lines_of old.chip
-  pub list_is : new.list ≡ note_leaves old.keep old.list (record { tick = record { 0 = tick }; side = Host; op = op; answer = byte })
-  pub count_is : new.count ≡ old.count + 1
-  pub keep_is : new.keep ≡ old.keep
+  pub byte_is : byte ≡ answer_of old.chip old.turn op
+  pub chip_is : new.chip ≡ chip_after old.chip old.turn op
+  pub stays : StaysSeen (leaves_chip old.turn old.is_read) old.chip (chip_after old.chip old.turn op)
+  pub host_noted : HasNoted (own_of Host (passed_entry old.turn tick op byte)) old.host new.host
+  pub para_noted : HasNoted (own_of Para (passed_entry old.turn tick op byte)) old.para new.para
+  pub turn_is : new.turn ≡ old.turn
   pub sure_is : new.sure ≡ old.sure
+  pub is_read_is : new.is_read ≡ old.is_read

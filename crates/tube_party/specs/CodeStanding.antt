@@ -1,8 +1,12 @@
--- How a party stands that may have gone ahead of what is sure, and how it comes to stand so.
-use Rattle.std.specs.Prelude.{ℕ, ◌≡◌, Bool, true, false}
+-- How a party goes on that may go ahead of what is sure, and how it is rolled back.
+use Rattle.std.specs.Prelude.{ℕ, ◌≡◌, ◌≤◌, Bool, true, false, take}
+use Rattle.beeb_bits.specs.declared.Side.TheVariants.{Para}
 use Rattle.tube_chip.specs.declared.Lines.{Lines}
+use Rattle.tube_party.specs.declared.log.Log.{Log}
+use Rattle.tube_party.specs.declared.log.LogMark.{LogMark}
 use Rattle.tube_party.specs.declared.party.Ask.{Ask}
-use Rattle.tube_party.specs.Moves.{Moves, Sees, IsAhead, shown_lines}
+use Rattle.tube_party.specs.Moves.{Moves, GoesHearing, shown_lines}
+use Rattle.tube_party.specs.CodePassing.{Attended, IsPassed}
 
 -- Whether a party is ahead of what is sure, what it asks next, its state where it began to note, and its state.
 pub record Standing (S : Type 0) : Type 0 where
@@ -14,19 +18,22 @@ pub record Standing (S : Type 0) : Type 0 where
 abbrev pub standing_of : {S : Type 0} → Bool → Ask → S → S → Standing S
 standing_of ahead ask mark s = record { ahead = ahead; ask = ask; mark = mark; state = s }
 
--- The steps after one that asked are done, as far as their looks are sure of their lines or further: where the party
--- went further it can be rolled back to where it was.
-abbrev pub IsGone : {S : Type 0} → Moves S → ℕ → Lines → ℕ → S → Standing S → Type 0
-IsGone m n lines sure s new = elim (new.ahead) [
-  | true ↦ IsAhead m n lines s new.ask new.state × (new.mark ≡ s)
-  | false ↦ Sees m n (shown_lines lines sure) s new.ask new.state
-]
+-- the parasite's turn, with this log, up to a tick
+abbrev pub para_turn : Attended → Log → ℕ → Attended
+para_turn d log sure = record { chip = d.chip; host = d.host; para = log; turn = Para; sure = sure; is_read = d.is_read }
 
--- A party stands as it stood; where it is ahead, the lines are still those that it saw.
-abbrev pub StandsStill : {S : Type 0} → Lines → Lines → Standing S → Standing S → Type 0
-StandsStill seen lines old new = (new ≡ old) × (old.ahead ≡ true → lines ≡ seen)
+-- The parasite's steps after one that asked are done, with what the chip shows it, as far as that is sure or further: where the
+-- party went further it can be rolled back to where it was.
+pub record IsGone {S : Type 0} (m : Moves S) (n : ℕ) (lines : Lines) (sure : ℕ) (s : S) (d : Attended) (new : Standing S) (e : Attended) : Type 0 where
+  pub far : ℕ
+  pub goes : GoesHearing m IsPassed n (shown_lines lines far) s (para_turn d d.para far) new.ask new.state e
+  pub mark : new.ahead ≡ true → new.mark ≡ s
+  pub within : new.ahead ≡ false → far ≡ sure
 
--- It was ahead, was rolled back, and went on anew from there, where its looks up to a tick alone saw these lines.
-abbrev pub IsRolledBack : {S : Type 0} → Moves S → ℕ → Lines → ℕ → Standing S → Standing S → Type 0
-IsRolledBack m n seen at old new =
-    (old.ahead ≡ true) × (new.ahead ≡ false) × Sees m n (shown_lines seen at) old.mark new.ask new.state
+-- It was rolled back to where it began to note, its log was cut to a mark, and it went on anew from there up to a tick.
+pub record IsRolledBack {S : Type 0} (m : Moves S) (n : ℕ) (lines : Lines) (at : ℕ) (mark : LogMark) (s : S) (d : Attended) (ask : Ask) (new : S) (e : Attended) : Type 0 where
+  pub log : Log
+  pub list_is : log.list.items ≡ take mark.len d.para.list.items
+  pub count_is : log.count ≡ mark.count
+  pub keep_is : log.keep ≡ d.para.keep
+  pub goes : GoesHearing m IsPassed n (shown_lines lines at) s (para_turn d log at) ask new e

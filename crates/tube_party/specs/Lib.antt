@@ -11,5 +11,5 @@ pub mod OneThread
 pub mod Turn
 pub mod Logs
 pub mod CodeAtWork
-pub mod CodeStanding
 pub mod CodePassing
+pub mod CodeStanding

@@ -158,9 +158,12 @@ pub record Hears {S D : Type 0} (m : Moves S) (answers : D → ℕ → Op → �
   pub asked : IsAsk m n last ask new
   pub unsure : IsUnsure v.sure ask
 
--- It went on from a mark, some way, as if each look saw these lines; this is asked next.
-abbrev pub IsAhead : {S : Type 0} → Moves S → ℕ → Lines → S → Ask → S → Type 0
-IsAhead m n lines mark ask new = (far : ℕ) × Goes m n (shown_lines lines far) mark ask new
+-- The same, but that it may be a sure look that is asked next.
+pub record GoesHearing {S D : Type 0} (m : Moves S) (answers : D → ℕ → Op → ℕ → D → Type 0) (n : ℕ) (v : Shown) (old : S) (before : D) (ask : Ask) (new : S) (after : D) : Type 0 where
+  pub accesses : ℕ
+  pub last : S
+  pub talks : Talks m answers n v accesses old before last after
+  pub asked : IsAsk m n last ask new
 
 -- the next step is a look below n
 abbrev pub IsAtLook : {S : Type 0} → Moves S → ℕ → S → Type 0

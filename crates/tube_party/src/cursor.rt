@@ -3,7 +3,7 @@ ghost use Rattle.std.specs.Prelude.{◌≡◌, ◌≤◌, ◌<◌, ◌+◌, ℕ,
 ghost use Rattle.beeb_bits.specs.declared.Side.{Side};
 ghost use Rattle.beeb_bits.specs.Order.{before};
 ghost use Rattle.tube_chip.specs.Events.{is_side};
-ghost use Rattle.tube_chip.specs.Act.{chip_after};
+ghost use Rattle.tube_chip.specs.Act.{MayDo, chip_after};
 ghost use Rattle.tube_chip.specs.State.{State, lines_of};
 ghost use Rattle.tube_trace.specs.Entries.{IsEntry};
 ghost use Rattle.tube_party.specs.Replay.{chip_before, next_line, same_op, is_that};
@@ -201,11 +201,12 @@ fn first_look(entry: Entry, side: Side, least: u64) -> u64
 
 // Whether an operation surely leaves the chip: a read of a status register does.
 #[inline(always)]
-fn is_status(op: Op) -> bool
-    ensures { result ≡ true → (c : State) (side : Side) → chip_after c side op ≡ c }
+pub(crate) fn is_status(op: Op) -> bool
+    ensures may { result ≡ true → (side : Side) → MayDo side op }
+    ensures stays { result ≡ true → (c : State) (side : Side) → chip_after c side op ≡ c }
 {
     match op {
-        Op::Read(number) => number % 2 == 0,
+        Op::Read(number) => number < 8 && number % 2 == 0,
         _ => false,
     }
 }

@@ -4,7 +4,6 @@
 mod cursor;
 mod desk;
 mod forward;
-mod host_desk;
 mod law;
 mod log;
 mod noting;
@@ -12,6 +11,7 @@ mod one_thread;
 mod party;
 mod replaying;
 mod rewinds;
+mod table;
 
 pub use desk::{Closed, Desk};
 pub use forward::Forward;

@@ -46,7 +46,8 @@ impl<P: Rewinds> Room<P> {
 }
 
 /// One more access, in the log of its side.
-fn note_own(host_log: &mut Log, para_log: &mut Log, entry: Entry)
+#[inline(always)]
+pub(crate) fn note_own(host_log: &mut Log, para_log: &mut Log, entry: Entry)
     requires host_count { host_log.old.count < 2 ^ 63 }
     requires para_count { para_log.old.count < 2 ^ 63 }
     ensures host { HasNoted (own_of Host entry) host_log.old host_log.new }

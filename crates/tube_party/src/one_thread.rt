@@ -1,19 +1,21 @@
 //! Two parties on one thread.
-ghost use Rattle.std.specs.Prelude.{◌≡◌, ◌≤◌, ◌<◌, ◌^◌, ◌⊎◌, All, IfOk, IfErr, IsTrue};
+ghost use Rattle.std.specs.Prelude.{◌≡◌, ◌≤◌, ◌<◌, ◌^◌, true, false, All, IfOk, IfErr, IsTrue};
 ghost use Rattle.tube_chip.specs.State.{lines_of};
 ghost use Rattle.tube_party.specs.OneThread.{IsPlayed, played_of, TakeSides, AreClosedWithin};
 ghost use Rattle.tube_party.specs.Turn.{IsPending, first_of, tick_of, IsSure};
 ghost use Rattle.tube_party.specs.CodeAtWork.{at_work, Acts};
-ghost use Rattle.tube_party.specs.CodeStanding.{standing_of, IsGone, StandsStill, IsRolledBack};
+ghost use Rattle.tube_party.specs.CodePassing.{attended, StaysSeen, chip_behind};
+ghost use Rattle.tube_party.specs.CodeStanding.{standing_of, IsGone, IsRolledBack};
 ghost use Rattle.tube_trace.specs.Entries.{IsEntry};
 ghost use Rattle.tube_party.specs.Reference.{reference};
 ghost use Rattle.tube_party.specs.GoingOn.{reference_from, after_entries};
 
-use crate::host_desk::HostDesk;
-use crate::log::Log;
+use crate::desk::Desk;
+use crate::log::{Log, LogMark};
 use crate::noting::{Room, note_all};
 use crate::party::{Ask, MOST, Party};
 use crate::rewinds::Rewinds;
+use crate::table::{Table, host_passes};
 use beeb_bits::{Side, Tick};
 use std::alloc::Global;
 use tube_chip::{Answer, Chip, Lines};
@@ -115,53 +117,78 @@ fn act<M: Party>(
     }
 }
 
-/// Goes on from there: ahead past all looks below `ahead` that its notes allow, or past those below `sure` alone. True if it is ahead.
+/// Goes on from there: ahead past all that the chip shows it below `ahead`, where its notes allow, or below `sure` alone. True if it is ahead.
 #[inline(always)]
 fn go_on<M: Rewinds>(
     machine: &mut M,
     past: &mut M::Past,
+    table: &mut Table,
     n: Tick,
     lines: &Lines,
     ahead: Tick,
     sure: Tick,
 ) -> (bool, Ask)
     requires { n.0 ≤ MOST }
-    ensures { let mark = M.Party.state (M.before past.new machine.new) in
+    ensures { let old = attended table.old in
+        let mark = M.Party.state (M.before past.new machine.new) in
         let new = standing_of result.0 result.1 mark (M.Party.state machine.new) in
-        IsGone M.Party.moves n.0 lines.now sure.0 (M.Party.state machine.old) new }
+        IsGone M.Party.moves n.0 lines.now sure.0 (M.Party.state machine.old) old new (attended table.new) }
 {
-    match machine.advance_noting(n, lines, ahead, past) {
+    table.turn = Side::Para;
+    table.sure = ahead;
+    match machine.advance_noting_at(n, lines, ahead, past, table) {
         Some(ask) => (true, ask),
-        None => (false, machine.advance_seeing(n, lines, sure)),
+        None => {
+            table.sure = sure;
+            (false, machine.advance_at(n, lines, sure, table))
+        }
     }
 }
 
-/// After an access of the other side at tick `at`: a party that is ahead, and saw lines that are no longer so, is rolled back, and goes on to
-/// where the access was. Whether it is still ahead, and what it asks.
+/// Whether a party that is ahead, and can be rolled back to this mark, has read the chip on its way.
 #[inline(always)]
-fn roll_back_if_wrong<M: Rewinds>(
+fn has_read(log: &Log, mark: LogMark, is_ahead: bool) -> bool
+    ensures { result ≡ false → is_ahead ≡ true → log.now.count ≡ mark.count }
+{
+    is_ahead && log.count != mark.count
+}
+
+/// Whether what a party that is ahead saw on its way is sure to stay as it is behind the host's step that asks this.
+#[inline(always)]
+fn stays(table: &Table, is_ahead: bool, ask: Ask) -> bool
+    ensures ahead { result ≡ false → is_ahead ≡ true }
+    ensures stays { result ≡ true → is_ahead ≡ true → StaysSeen table.now.is_read table.now.chip (chip_behind table.now.chip ask) }
+{
+    if !is_ahead {
+        return true;
+    }
+    match ask {
+        Ask::Access(_, op) => host_passes(&table.chip, table.is_read, op),
+        Ask::Nothing | Ask::Look(_) => true,
+    }
+}
+
+/// Rolls a party back that is ahead, and cuts its log to the mark. It goes on anew to tick `at`.
+#[inline(never)]
+fn roll_back<M: Rewinds>(
     machine: &mut M,
     past: &mut M::Past,
+    table: &mut Table,
     n: Tick,
-    seen: &Lines,
     lines: &Lines,
     at: Tick,
-    is_ahead: bool,
-    ask: Ask,
-) -> (bool, Ask)
+    mark: LogMark,
+) -> Ask
     requires { n.0 ≤ MOST }
-    ensures { let mark = M.Party.state (M.before past.old machine.old) in
-        let old = standing_of is_ahead ask mark (M.Party.state machine.old) in
-        let new_mark = M.Party.state (M.before past.new machine.new) in
-        let new = standing_of result.0 result.1 new_mark (M.Party.state machine.new) in
-        StandsStill seen.now lines.now old new ⊎ IsRolledBack M.Party.moves n.0 seen.now at.0 old new }
+    ensures { let from = M.Party.state (M.before past.old machine.old) in
+        let old = attended table.old in
+        IsRolledBack M.Party.moves n.0 lines.now at.0 mark from old result (M.Party.state machine.new) (attended table.new) }
 {
-    if is_ahead && *lines != *seen {
-        machine.rewind(past);
-        (false, machine.advance_seeing(n, seen, at))
-    } else {
-        (is_ahead, ask)
-    }
+    machine.rewind(past);
+    table.para_log.cut(mark);
+    table.turn = Side::Para;
+    table.sure = at;
+    machine.advance_at(n, lines, at, table)
 }
 
 /// The fewest ticks that the parasite goes ahead.
@@ -174,7 +201,8 @@ const FURTHEST: u64 = 4_096;
 /// after these accesses, which were made before. They count among the accesses of each side, of which as many are kept as `room` has room for.
 ///
 /// Both parties take turns: the one whose ask comes first does that step, and goes on. The host goes on past the looks before which the parasite
-/// makes no access. The parasite goes ahead of the host, as if the host changed none of its lines, and is rolled back where it does.
+/// makes no access. The parasite goes ahead of the host, and reads its status as if the host left the chip: before a step of the host that may change
+/// what it saw, it is rolled back.
 pub fn go_on_from<H: Party, P: Rewinds>(
     mut host: H,
     mut para: P,
@@ -196,10 +224,14 @@ pub fn go_on_from<H: Party, P: Rewinds>(
     } = room;
     let chip = note_all(&mut host_log, &mut para_log, entries);
     let mut lines = chip.lines();
-    let mut desk = HostDesk {
+    let mut mark = para_log.mark();
+    let mut table = Table {
         chip,
-        log: host_log,
+        host_log,
+        para_log,
+        turn: Side::Host,
         sure: Tick(0),
+        is_read: false,
     };
     let mut host_ask = host.advance(n);
     let mut para_ask = para.advance(n);
@@ -208,55 +240,52 @@ pub fn go_on_from<H: Party, P: Rewinds>(
     while let Some(side) = first_of(host_ask, para_ask) {
         match side {
             Side::Host => {
-                let seen = lines;
-                let at = tick_of(host_ask);
+                table.is_read = has_read(&table.para_log, mark, is_ahead);
+                if !stays(&table, is_ahead, host_ask) {
+                    let at = tick_of(host_ask);
+                    para_ask = roll_back(&mut para, &mut past, &mut table, n, &lines, at, mark);
+                    is_ahead = false;
+                    stride = (stride / 8).max(FEWEST);
+                    continue;
+                }
                 act(
                     &mut host,
                     Side::Host,
-                    &mut desk.chip,
+                    &mut table.chip,
                     &mut lines,
-                    &mut desk.log,
+                    &mut table.host_log,
                     n,
                     host_ask,
                 );
-                let was_ahead = is_ahead;
-                (is_ahead, para_ask) = roll_back_if_wrong(
-                    &mut para, &mut past, n, &seen, &lines, at, is_ahead, para_ask,
-                );
-                if was_ahead && !is_ahead {
-                    stride = (stride / 8).max(FEWEST);
-                }
-                desk.sure = lookahead(para_ask, 1);
-                host_ask = host.advance_at(n, &lines, desk.sure, &mut desk);
+                table.turn = Side::Host;
+                table.sure = lookahead(para_ask, 1);
+                host_ask = host.advance_at(n, &lines, table.sure, &mut table);
             }
             Side::Para => {
                 let ahead = Tick(tick_of(para_ask).0.saturating_add(stride));
                 act(
                     &mut para,
                     Side::Para,
-                    &mut desk.chip,
+                    &mut table.chip,
                     &mut lines,
-                    &mut para_log,
+                    &mut table.para_log,
                     n,
                     para_ask,
                 );
-                (is_ahead, para_ask) = go_on(
-                    &mut para,
-                    &mut past,
-                    n,
-                    &lines,
-                    ahead,
-                    lookahead(host_ask, 0),
-                );
+                mark = table.para_log.mark();
+                let sure = lookahead(host_ask, 0);
+                (is_ahead, para_ask) =
+                    go_on(&mut para, &mut past, &mut table, n, &lines, ahead, sure);
                 stride = stride.saturating_add(stride / 4).min(FURTHEST);
             }
         }
     }
-    let HostDesk {
+    let Table {
         chip,
-        log: host_log,
+        host_log,
+        para_log,
         ..
-    } = desk;
+    } = table;
     Done {
         host,
         para,

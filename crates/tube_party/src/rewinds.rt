@@ -1,8 +1,9 @@
 //! A party that can be rolled back.
 ghost use Rattle.std.specs.Prelude.{◌≡◌, ◌≤◌, MatchOption, Some};
 ghost use Rattle.tube_chip.specs.declared.Answer.TheVariants.{Byte};
-ghost use Rattle.tube_party.specs.Moves.{Goes, IsAtLook, IsAskedFor, shown_lines};
+ghost use Rattle.tube_party.specs.Moves.{Goes, GoesHearing, IsAtLook, IsAskedFor, shown_lines};
 
+use crate::desk::Desk;
 use crate::party::{Ask, MOST, Party};
 use beeb_bits::Tick;
 use std::alloc::{AllocError, Global};
@@ -40,6 +41,27 @@ pub trait Rewinds: Party {
             let mark = Self.state (before past.new self.new) in
             MatchOption result (new ≡ old)
             (λ ask. Goes Self.moves until.0 (shown_lines lines.now sure.0) old ask new × (mark ≡ old)) };
+
+    /// The same, but with the accesses that the desk answers.
+    fn advance_noting_at<D: Desk>(
+        &mut self,
+        until: Tick,
+        lines: &Lines,
+        sure: Tick,
+        past: &mut Self::Past,
+        desk: &mut D,
+    ) -> Option<Ask>
+        requires { until.0 ≤ MOST }
+        ensures { let old = Self.state self.old in
+            let new = Self.state self.new in
+            let mark = Self.state (before past.new self.new) in
+            MatchOption result ((new ≡ old) × (D.state desk.new ≡ D.state desk.old))
+            (λ ask. GoesHearing Self.moves D.answers until.0 (shown_lines lines.now sure.0) old (D.state desk.old) ask new (D.state desk.new)
+            × (mark ≡ old)) }
+    {
+        let _ = desk;
+        self.advance_noting(until, lines, sure, past)
+    }
 
     /// Goes on from the look at which a run that it notes left off, and notes that too, as if each look below tick `sure` saw these lines. What it
     /// goes back to stays where it was. It may leave off at any look, this one too.

@@ -4,5 +4,5 @@ use Rattle.tube_chip.specs.declared.Op.{Op}
 use Rattle.tube_party.proofs.CursorLemmas.{status-leaves}
 use Rattle.tube_party.proofs.cursor.is_status.Goals as goal
 
-pub returns-in-Read : goal.returns-in-Read
-returns-in-Read c = λ is chip side. subst (λ (o : Op). chip_after chip side o ≡ chip) (sym c.in-Read.is) (status-leaves chip side c.in-Read.number is)
+pub returns-then-number-lt8-clause-stays : goal.returns-then-number-lt8-clause-stays
+returns-then-number-lt8-clause-stays c = λ is chip side. subst (λ (o : Op). chip_after chip side o ≡ chip) (sym c.in-Read.is) (status-leaves chip side c.in-Read.number is)

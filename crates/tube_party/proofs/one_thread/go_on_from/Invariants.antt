@@ -1,22 +1,19 @@
-use Rattle.std.proofs.Common.{◌≡◌, ◌+◌, length}
-use Rattle.tube_chip.specs.State.{lines_of}
+use Rattle.std.proofs.Common.{◌+◌, length}
 use Rattle.tube_party.specs.Turn.{ticks_left}
 use Rattle.tube_party.specs.GoingOn.{after_entries}
-use Rattle.tube_party.proofs.UnderWay.{IsGoing}
+use Rattle.tube_party.specs.CodePassing.{attended}
+use Rattle.tube_party.proofs.UnderWay.{mark_of}
 use Rattle.tube_party.proofs.Both.{rest_of}
+use Rattle.tube_party.proofs.Passing.{IsKeptUp}
 use Rattle.tube_party.proofs.one_thread.go_on_from.Given as goal
 
 abbrev pub invariant-loop-side : goal.invariant-loop-side
-invariant-loop-side g l = record {
-  way : IsGoing g.H.Party.moves g.P.Party.moves l.n.0 (length l.entries) l.fn.room.keep
-      (after_entries (g.H.Party.state l.fn.host) (g.P.Party.state l.fn.para) l.entries) l.is_ahead (g.H.Party.state l.host) (g.P.Party.state (g.P.Rewinds.before l.past l.para))
-      (g.P.Party.state l.para) l.desk.chip l.host_ask l.para_ask l.desk.log.list.items l.para_log.list.items l.desk.log.count
-      l.para_log.count;
-  lines : l.lines ≡ lines_of l.desk.chip;
-  host_keep : l.desk.log.keep ≡ l.fn.room.keep;
-  para_keep : l.para_log.keep ≡ l.fn.room.keep;
-}
+invariant-loop-side g l =
+    IsKeptUp g.H.Party.moves g.P.Party.moves g.met.H.Party.lawful g.met.P.Party.lawful l.n.0 (length l.entries) l.fn.room.keep
+    (after_entries (g.H.Party.state l.fn.host) (g.P.Party.state l.fn.para) l.entries) l.is_ahead
+    (mark_of (g.P.Party.state (g.P.Rewinds.before l.past l.para)) l.mark.len l.mark.count) (g.H.Party.state l.host) (g.P.Party.state l.para)
+    l.host_ask l.para_ask l.lines (attended l.table)
 
 abbrev pub decreases-loop-side : goal.decreases-loop-side
-decreases-loop-side g l = ticks_left l.n.0 l.host_ask + rest_of g.H.Party.moves g.P.Party.moves g.met.H.Party.lawful g.met.P.Party.lawful l.n.0 (length l.entries) l.is_ahead
-    (g.P.Party.state (g.P.Rewinds.before l.past l.para)) l.para_ask
+decreases-loop-side g l =
+    ticks_left l.n.0 l.host_ask + rest_of g.P.Party.moves l.n.0 l.is_ahead (g.P.Party.state (g.P.Rewinds.before l.past l.para)) l.para_ask

@@ -1,0 +1,194 @@
+-- The parasite's steps while the chip stays as it is: each asks nothing, or what the chip answers and is left by.
+use Rattle.std.proofs.Common.{ℕ, zero, suc, ◌≡◌, ◌+◌, ◌<◌, ◌≤◌, refl, sym, ◌∙◌, ap, subst, arith, nat_lt, true, false, cond, if◌then◌else◌}
+use Rattle.std.proofs.Common.{List, [], ◌∷◌, ◌++◌, length, length-append, take, Option, None, Some}
+use Rattle.std.specs.Prelude.{All}
+use Rattle.std.proofs.lemmas.List.{take_all, take-append-le}
+use Rattle.std.proofs.lemmas.List.Elements.{All-nil, All-cons, All-head, All-tail, All-append}
+use Rattle.beeb_bits.specs.declared.Side.{Side}
+use Rattle.beeb_bits.specs.declared.Side.TheVariants.{Host, Para}
+use Rattle.tube_chip.specs.State.{State, lines_of}
+use Rattle.tube_chip.specs.declared.Lines.{Lines}
+use Rattle.tube_chip.specs.declared.Op.{Op}
+use Rattle.tube_chip.specs.declared.Answer.{Answer}
+use Rattle.tube_chip.specs.declared.Answer.TheVariants.{Byte, Seen}
+use Rattle.tube_chip.specs.Act.{Query, access, look, act, chip_after, answer_of}
+use Rattle.tube_chip.specs.Events.{Event, of_side, is_side}
+use Rattle.tube_trace.specs.declared.Entry.{Entry}
+use Rattle.tube_trace.specs.Entries.{accesses, entry_of}
+use Rattle.tube_party.specs.Moves.{Moves, IsLawful, Runs, Looks, shown_lines, course}
+use Rattle.tube_party.specs.Steps.{After}
+use Rattle.tube_party.specs.Turn.{note_leaves, note_all_leaves}
+use Rattle.tube_party.specs.Logs.{accesses-append, at_most_one}
+use Rattle.tube_party.specs.OneThread.{IsKept}
+use Rattle.tube_party.specs.CodePassing.{passed_entry}
+use Rattle.tube_party.proofs.Kept.{kept_more}
+use Rattle.tube_party.proofs.Runs.{event, First, Over, Silent, Asking, first_of_runs, runs_silent, runs_asking, runs_append}
+
+-- the chip answers the event so, and is left as it is
+abbrev pub IsIdle : State → Event → Type 0
+IsIdle c e = ((act c Para e.query).0 ≡ c) × ((act c Para e.query).1 ≡ e.answer)
+
+abbrev pub IsBelow : ℕ → Event → Type 0
+IsBelow t e = e.tick < t
+
+-- Steps from t to last, below n, what they ask below `sure`, and these are their accesses.
+pub record IsWay {T : Type 0} (p : Moves T) (n sure : ℕ) (c : State) (t last : T) (entries : List Entry) : Type 0 where
+  pub steps : ℕ
+  pub events : List Event
+  pub runs : Runs p Para n steps t (course events last)
+  pub idle : All (IsIdle c) events
+  pub early : All (IsBelow sure) events
+  pub noted : accesses events ≡ entries
+
+-- ---- What is kept
+
+-- the list grows at its end alone
+longer_by : (keep : ℕ) (list : List Entry) (x : Entry) → (length list ≤ length (note_leaves keep list x)) × ((n : ℕ) → n ≤ length list → take n (note_leaves keep list x) ≡ take n list)
+longer_by keep list x = elim (nat_lt (length list) keep) as (λ b. (length list ≤ length (cond b (list ++ x ∷ []) list))
+    × ((n : ℕ) → n ≤ length list → take n (cond b (list ++ x ∷ []) list) ≡ take n list)) [
+      | true ↦ (let l = length-append list (x ∷ []) in omega arith, λ n le. take-append-le n list (x ∷ []) le)
+      | false ↦ (omega arith, λ n le. refl)
+    ]
+
+still_kept : (keep : ℕ) (list xs : List Entry) (n : ℕ) → n ≤ length list → take n (note_all_leaves keep list xs) ≡ take n list
+still_kept keep list [] n le = refl
+still_kept keep list (x ∷ xs) n le =
+    let one = longer_by keep list x in
+    let grown : length list ≤ length (note_leaves keep list x) = one.0 in
+    still_kept keep (note_leaves keep list x) xs n (omega arith) ∙ one.1 n le
+
+-- so that what was noted can be cut off again
+pub cut_back : (keep : ℕ) (list xs : List Entry) → take (length list) (note_all_leaves keep list xs) ≡ list
+cut_back keep list xs = still_kept keep list xs (length list) (omega arith) ∙ take_all (length list) list (omega arith)
+
+pub none_of : (xs : List Entry) → length xs ≡ 0 → xs ≡ []
+none_of [] e = refl
+none_of (x ∷ xs) e = absurd (omega arith)
+
+all_own : (events : List Event) → All (λ (e : Event). e.side ≡ Para) events → (of_side Para events ≡ events) × (of_side Host events ≡ [])
+all_own [] each = (refl, refl)
+all_own (e ∷ events) each =
+    let is : e.side ≡ Para = All-head (λ (e : Event). e.side ≡ Para) e events each in
+    let rest = all_own events (All-tail (λ (e : Event). e.side ≡ Para) e events each) in (
+      ap (λ (x : Side). if is_side Para x then e ∷ of_side Para events else of_side Para events) is ∙ ap (λ (l : List Event). e ∷ l) rest.0,
+      ap (λ (x : Side). if is_side Host x then e ∷ of_side Host events else of_side Host events) is ∙ rest.1,
+    )
+
+-- the parasite's events join a list
+pub kept_way : (l events : List Event) (keep : ℕ) (list : List Entry) (count : ℕ) → All (λ (e : Event). e.side ≡ Para) events → IsKept Para l keep list count
+    → IsKept Para (l ++ events) keep (note_all_leaves keep list (accesses events)) (count + length (accesses events))
+kept_way l events keep list count each k =
+    subst (λ (z : List Event). IsKept Para (l ++ events) keep (note_all_leaves keep list (accesses z)) (count + length (accesses z))) (all_own events each).0 (kept_more Para l events keep list count k)
+
+pub kept_beside : (l events : List Event) (keep : ℕ) (list : List Entry) (count : ℕ) → All (λ (e : Event). e.side ≡ Para) events → IsKept Host l keep list count
+    → IsKept Host (l ++ events) keep list count
+kept_beside l events keep list count each k =
+    let same : count + 0 ≡ count = omega arith in
+    subst (λ (z : ℕ). IsKept Host (l ++ events) keep list z) same
+    (subst (λ (z : List Event). IsKept Host (l ++ events) keep (note_all_leaves keep list (accesses z)) (count + length (accesses z))) (all_own events each).1
+    (kept_more Host l events keep list count k))
+
+-- ---- The chip may change where what it showed stays
+
+one_still : (c d : State) (t : ℕ) (side : Side) (q : Query) (a : Answer) (xs : List Entry) → ((act c Para q).0 ≡ c) × ((act c Para q).1 ≡ a) → entry_of t side q a ++ xs ≡ [] → lines_of d ≡ lines_of c
+    → (((act d Para q).0 ≡ d) × ((act d Para q).1 ≡ a)) × (xs ≡ [])
+one_still c d t side look a xs idle none lines = ((refl, ap (λ (x : Lines). Seen x) lines ∙ idle.1), none)
+one_still c d t side (access op) (Byte b) xs idle none lines = cc
+one_still c d t side (access op) (Seen l) xs idle none lines = let no : Byte (answer_of c Para op) ≡ Seen l = idle.1 in cc
+
+-- where there are only looks, and the lines stay
+pub looks_still : (c d : State) (events : List Event) → All (IsIdle c) events → accesses events ≡ [] → lines_of d ≡ lines_of c → All (IsIdle d) events
+looks_still c d [] idle none lines = All-nil (IsIdle d)
+looks_still c d (e ∷ events) idle none lines =
+    let one = one_still c d e.tick e.side e.query e.answer (accesses events) (All-head (IsIdle c) e events idle) none lines in
+    All-cons (IsIdle d) e events one.0 (looks_still c d events (All-tail (IsIdle c) e events idle) one.1 lines)
+
+module _ {T : Type 0} (p : Moves T) (lp : IsLawful p) (n : ℕ) where
+  -- the parasite's, below n and the tick of what follows
+  abbrev pub IsOn : ℕ → Event → Type 0
+  IsOn d e = (e.side ≡ Para) × (e.tick < n) × (e.tick < d)
+
+  -- ticks rise, and a tick has one access at most
+  pub record IsCourse (from to : ℕ) (events : List Event) : Type 0 where
+    pub each : All (IsOn to) events
+    pub few : length (accesses events) + from ≤ to
+
+  course_by : (i : ℕ) (s last : T) (events : List Event) → ((u : T) (others : List Event) → Runs p Para n i u (course others last) → IsCourse (p.due u) (p.due last) others)
+      → First p Para n (suc i) s events last → IsCourse (p.due s) (p.due last) events
+  course_by i s last events on (Over ee es) =
+      subst (IsCourse (p.due s) (p.due last)) (sym ee) (record { each = All-nil (IsOn (p.due last)); few = omega (arith, ap p.due es) })
+  course_by i s last events on (Silent i' ei low none runs) =
+      let up : p.due s < p.due (p.next s None) = lp.rises s None in
+      let rest : IsCourse (p.due (p.next s None)) (p.due last) events = on (p.next s None) events (subst (λ (x : ℕ). Runs p Para n x (p.next s None) (course events last)) (omega arith) runs) in
+      record { each = rest.each; few = omega (arith, rest.few) }
+  course_by i s last events on (Asking i' q a others ei low is ee runs) =
+      let up : p.due s < p.due (p.next s (Some a)) = lp.rises s (Some a) in
+      let rest : IsCourse (p.due (p.next s (Some a))) (p.due last) others =
+      on (p.next s (Some a)) others (subst (λ (x : ℕ). Runs p Para n x (p.next s (Some a)) (course others last)) (omega arith) runs) in
+      let one : length (entry_of (p.due s) Para q a) ≤ 1 = at_most_one (p.due s) Para q a in
+      let both : length (entry_of (p.due s) Para q a ++ accesses others) ≡ length (entry_of (p.due s) Para q a) + length (accesses others) = length-append (entry_of (p.due s) Para q a) (accesses others) in
+      let e : Event = event (p.due s) Para q a in
+      subst (IsCourse (p.due s) (p.due last)) (sym ee)
+      (record { each = All-cons (IsOn (p.due last)) e others (refl, low, omega (arith, rest.few)) rest.each; few = omega (arith, rest.few) })
+
+  pub course_of : (k : ℕ) (s last : T) (events : List Event) → Runs p Para n k s (course events last) → IsCourse (p.due s) (p.due last) events
+  course_of zero s last events runs =
+      subst (IsCourse (p.due s) (p.due last)) (sym runs.0) (record { each = All-nil (IsOn (p.due last)); few = omega (arith, ap p.due runs.1) })
+  course_of (suc i) s last events runs = course_by i s last events (λ u others on. course_of i u last others on) (first_of_runs p Para n (suc i) s events last runs)
+
+-- ---- Ways
+
+module _ {T : Type 0} (p : Moves T) (n sure : ℕ) (c : State) where
+  -- no step
+  abbrev pub no_way : (t : T) → IsWay p n sure c t t []
+  no_way t = record { steps = 0; events = []; runs = (refl, refl); idle = All-nil (IsIdle c); early = All-nil (IsBelow sure); noted = refl }
+
+  -- steps that ask nothing, and looks
+  looks_by : (k : ℕ) (s last : T) (o : Option Query) → p.asks s ≡ o → p.due s < n → ((u : T) → Looks p n (shown_lines (lines_of c) sure) k u last → IsWay p n sure c u last [])
+      → After p n (lines_of c) sure k s last o → IsWay p n sure c s last []
+  looks_by k s last None is low on h =
+      let w : IsWay p n sure c (p.next s None) last [] = on (p.next s None) h in
+      record { steps = suc w.steps; events = w.events; runs = runs_silent p Para n w.steps s w.events last low is w.runs; idle = w.idle; early = w.early; noted = w.noted }
+  looks_by k s last (Some q) is low on h =
+      let a : Answer = Seen (lines_of c) in
+      let e : Event = event (p.due s) Para look a in
+      let w : IsWay p n sure c (p.next s (Some a)) last [] = on (p.next s (Some a)) h.2 in
+      record {
+        steps = suc w.steps;
+        events = e ∷ w.events;
+        runs = runs_asking p Para n w.steps s look a w.events last low (is ∙ ap (λ (x : Query). Some x) h.0) w.runs;
+        idle = All-cons (IsIdle c) e w.events (refl, refl) w.idle;
+        early = All-cons (IsBelow sure) e w.events h.1 w.early;
+        noted = w.noted;
+      }
+
+  pub way_of_looks : (k : ℕ) (s last : T) → Looks p n (shown_lines (lines_of c) sure) k s last → IsWay p n sure c s last []
+  way_of_looks zero s last h = subst (λ (x : T). IsWay p n sure c s x []) h (no_way s)
+  way_of_looks (suc k) s last h = looks_by k s last (p.asks s) refl h.0 (λ u on. way_of_looks k u last on) h.1
+
+  -- an access in front
+  pub way_first : (s on last : T) (op : Op) (byte : ℕ) (entries : List Entry) → p.due s < n → p.asks s ≡ Some (access op) → on ≡ p.next s (Some (Byte byte)) → p.due s < sure
+      → chip_after c Para op ≡ c → byte ≡ answer_of c Para op → IsWay p n sure c on last entries → IsWay p n sure c s last (passed_entry Para (p.due s) op byte ∷ entries)
+  way_first s on last op byte entries low asks goes early stays is w =
+      let e : Event = event (p.due s) Para (access op) (Byte byte) in
+      record {
+        steps = suc w.steps;
+        events = e ∷ w.events;
+        runs = runs_asking p Para n w.steps s (access op) (Byte byte) w.events last low asks (subst (λ (x : T). Runs p Para n w.steps x (course w.events last)) goes w.runs);
+        idle = All-cons (IsIdle c) e w.events (stays, ap (λ (x : ℕ). Byte x) (sym is)) w.idle;
+        early = All-cons (IsBelow sure) e w.events early w.early;
+        noted = ap (λ (l : List Entry). passed_entry Para (p.due s) op byte ∷ l) w.noted;
+      }
+
+  -- a way behind another
+  pub way_on : (s mid last : T) (xs ys : List Entry) → IsWay p n sure c s mid xs → IsWay p n sure c mid last ys → IsWay p n sure c s last (xs ++ ys)
+  way_on s mid last xs ys a b =
+      let both = runs_append p Para n n (omega arith) mid last b.events a.steps s a.events a.runs (b.steps, b.runs) in
+      record {
+        steps = both.0;
+        events = a.events ++ b.events;
+        runs = both.1;
+        idle = All-append (IsIdle c) a.events b.events a.idle b.idle;
+        early = All-append (IsBelow sure) a.events b.events a.early b.early;
+        noted = accesses-append a.events b.events ∙ ap (λ (l : List Entry). l ++ accesses b.events) a.noted ∙ ap (λ (l : List Entry). xs ++ l) b.noted;
+      }

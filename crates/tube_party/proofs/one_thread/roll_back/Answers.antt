@@ -1,0 +1,22 @@
+use Rattle.std.proofs.Common.{subst}
+use Rattle.tube_party.specs.Moves.{Talks, shown_lines}
+use Rattle.tube_party.specs.CodePassing.{IsPassed, attended}
+use Rattle.tube_party.specs.CodeStanding.{para_turn}
+use Rattle.tube_party.proofs.one_thread.roll_back.Goals as goal
+
+pub returns : goal.returns
+returns g c =
+    let hears = c.advance_at.ensures in
+    record {
+      log = c.cut.new.self;
+      list_is = c.cut.ensures.list;
+      count_is = c.cut.ensures.count;
+      keep_is = c.cut.ensures.keep;
+      goes = record {
+        accesses = hears.accesses;
+        last = hears.last;
+        talks = subst (λ (x : g.M.Party.State). Talks g.M.Party.moves IsPassed c.args.n.0 (shown_lines c.args.lines.now c.args.at.0) hears.accesses x
+            (para_turn (attended c.args.table.now) c.cut.new.self c.args.at.0) hears.last (attended c.advance_at.new.desk)) c.rewind.ensures hears.talks;
+        asked = hears.asked;
+      };
+    }

@@ -1,0 +1,86 @@
+//! What answers accesses in passing where both parties are on one thread.
+ghost use Rattle.std.specs.Prelude.{◌≡◌, true};
+ghost use Rattle.beeb_bits.specs.declared.Side.TheVariants.{Host};
+ghost use Rattle.tube_party.specs.CodePassing.{MayPass};
+
+use crate::cursor::is_status;
+use crate::desk::Desk;
+use crate::log::Log;
+use crate::noting::note_own;
+use beeb_bits::{Side, Tick};
+use tube_chip::{Chip, Op};
+use tube_trace::Entry;
+
+/// The chip, with what is kept of both sides' accesses. It answers accesses of the side whose turn it is that come below a tick: the
+/// parasite's reads of its status, and of the host's those that leave the lines, or, where the parasite has read the chip ahead of it, those that leave the chip.
+#[derive(Drop)]
+pub(crate) struct Table {
+    pub(crate) chip: Chip,
+    pub(crate) host_log: Log,
+    pub(crate) para_log: Log,
+    pub(crate) turn: Side,
+    pub(crate) sure: Tick,
+    /// The parasite has read the chip ahead of the host.
+    pub(crate) is_read: bool,
+}
+
+/// A log of so many accesses takes no more in passing.
+const MOST_COUNT: u64 = 1 << 62;
+
+/// Whether an access of the host is sure to leave what the parasite saw ahead of it: the lines, or the chip where it was read.
+#[inline(always)]
+pub(crate) fn host_passes(chip: &Chip, is_read: bool, op: Op) -> bool
+    ensures { result ≡ true → MayPass chip.now Host is_read op }
+{
+    if is_read {
+        is_status(op)
+    } else {
+        chip.host_leaves_lines(op)
+    }
+}
+
+/// Whether an access of this side may be answered in passing.
+#[inline(always)]
+fn passes(chip: &Chip, side: Side, is_read: bool, op: Op) -> bool
+    ensures { result ≡ true → MayPass chip.now side is_read op }
+{
+    match side {
+        Side::Host => host_passes(chip, is_read, op),
+        Side::Para => is_status(op),
+    }
+}
+
+impl Desk for Table {
+    ghost use Rattle.tube_party.specs.CodePassing.{Attended, attended, IsPassed};
+
+    ghost State = { Attended };
+
+    ghost state = { attended };
+
+    ghost answers = { IsPassed };
+
+    #[inline(always)]
+    fn awaits(&self, from: Tick, _to: Tick) -> bool {
+        from < self.sure
+    }
+
+    #[inline(always)]
+    fn ask(&mut self, tick: Tick, op: Op) -> Option<u8> {
+        if tick >= self.sure || !passes(&self.chip, self.turn, self.is_read, op) {
+            return None;
+        }
+        if self.host_log.count >= MOST_COUNT || self.para_log.count >= MOST_COUNT {
+            return None;
+        }
+        let side = self.turn;
+        let answer = self.chip.apply(side, op);
+        let entry = Entry {
+            tick,
+            side,
+            op,
+            answer,
+        };
+        note_own(&mut self.host_log, &mut self.para_log, entry);
+        Some(answer)
+    }
+}
