@@ -20,10 +20,10 @@ use Rattle.tube_party.specs.Turn.{IsPending, first_of, tick_of, ticks_left, IsSu
 use Rattle.tube_party.specs.CodeAtWork.{Acts, own_of}
 use Rattle.tube_party.specs.CodePassing.{Attended, StaysSeen, IsPassed, leaves_chip, chip_behind, passed_entry}
 use Rattle.tube_party.specs.CodeStanding.{Standing, IsGone, IsRolledBack, para_turn}
-use Rattle.tube_party.proofs.Ways.{IsWay, no_way, way_of_looks, way_first, way_on}
+use Rattle.tube_party.proofs.Ways.{IsWay, way_of_looks, way_first, way_on}
 use Rattle.tube_party.proofs.First.{HostFirst, ParaFirst, host_first, para_first}
 use Rattle.tube_party.proofs.UnderWay.{IsAt, IsGoing, Mark}
-use Rattle.tube_party.proofs.Both.{seated, rest_of, in_time, tick_of_first, host_or_para, settled, host_goes, host_smaller, para_step, para_smaller, goes_on, rolled_back, back_smaller}
+use Rattle.tube_party.proofs.Both.{seated, rest_of, in_time, tick_of_first, host_or_para, settled, host_goes, host_smaller, para_step, para_smaller, goes_on, rolled_back, back_smaller, acts_keep}
 
 -- where an access comes before a tick that is sure by what the parasite asks, the host comes first
 still_first : (t : Tick) (sure : ℕ) (op : Op) (ask_p : Ask) → t.0 < sure → IsSure 1 ask_p sure → first_of (Access t op) ask_p ≡ Some Host
@@ -257,7 +257,7 @@ module _ {S T : Type 0} (h : Moves S) (p : Moves T) (lh : IsLawful h) (lp : IsLa
   pub host_turn : (sure : ℕ) (from : Mark T) (s s2 s3 : S) (t : T) (lines lines2 : Lines) (ask_h ask_p ask2 : Ask) (ahead : Bool) (d0 d e : Attended)
       → IsKeptUp ahead from s t ask_h ask_p lines d0
       → first_of ask_h ask_p ≡ Some Host
-      → Acts h Host keep (seated s d0.chip d0.host.list.items d0.host.count) (seated s2 d.chip d.host.list.items d.host.count)
+      → Acts h Host d0.host.keep (seated s d0.chip d0.host.list.items d0.host.count) (seated s2 d.chip d.host.list.items d.host.count)
       → d.turn ≡ Host → d.sure ≡ sure → lines2 ≡ lines_of d.chip → d.host.keep ≡ keep → d.para ≡ d0.para
       → (d.is_read ≡ false → ahead ≡ true → d0.para.count ≡ from.count)
       → (ahead ≡ true → StaysSeen d.is_read d0.chip (chip_behind d0.chip ask_h))
@@ -268,7 +268,7 @@ module _ {S T : Type 0} (h : Moves S) (p : Moves T) (lh : IsLawful h) (lp : IsLa
       let w : IsGoing h p n few keep w0 ahead from s t d0.chip ask_h ask_p d0.host.list.items d0.para.list.items d0.host.count d0.para.count = k.way in
       let f : HostFirst h p n s w.at.host_last w.last ask_h = host_first h p n s w.at.host_last t w.last ask_h ask_p w.at.host_asked w.asked first in
       let is : chip_behind d0.chip ask_h ≡ d.chip = sym (acts.chip_is ∙ behind_is h n s d0.chip ask_h acts.query f.pending acts.asks) in
-      host_passes hears.accesses sure from s s2 s3 hears.last t d0.chip lines2 ask_h ask_p ask2 d0.host.list.items d0.para.list.items d0.host.count d0.para.count ahead d e w first acts
+      host_passes hears.accesses sure from s s2 s3 hears.last t d0.chip lines2 ask_h ask_p ask2 d0.host.list.items d0.para.list.items d0.host.count d0.para.count ahead d e w first (acts_keep k.host_keep acts)
       (λ b. subst (λ (x : State). StaysSeen d.is_read d0.chip x) is (stays b)) told
       (record {
         turn = turn;
@@ -319,14 +319,14 @@ module _ {S T : Type 0} (h : Moves S) (p : Moves T) (lh : IsLawful h) (lp : IsLa
   pub para_passes : (sure : ℕ) (from from2 : Mark T) (s : S) (t t2 : T) (lines lines2 : Lines) (ask_h ask_p : Ask) (ahead : Bool) (d0 d e : Attended) (new : Standing T)
       → IsKeptUp ahead from s t ask_h ask_p lines d0
       → first_of ask_h ask_p ≡ Some Para
-      → Acts p Para keep (seated t d0.chip d0.para.list.items d0.para.count) (seated t2 d.chip d.para.list.items d.para.count)
+      → Acts p Para d0.para.keep (seated t d0.chip d0.para.list.items d0.para.count) (seated t2 d.chip d.para.list.items d.para.count)
       → d.host ≡ d0.host → d.para.keep ≡ keep → lines2 ≡ lines_of d.chip
       → IsSure 0 ask_h sure
       → (from2.state ≡ new.mark) × (from2.len ≡ length d.para.list.items) × (from2.count ≡ d.para.count)
       → IsGone p n lines2 sure t2 d new e
       → IsOver (ticks_left n ask_h + rest_of p n ahead from.state ask_p) new.ahead from2 s new.state ask_h new.ask lines2 e
   para_passes sure from from2 s t t2 lines lines2 ask_h ask_p ahead d0 d e new k first acts host para_keep same told is gone =
-      gone_by sure from from2 s t t2 d0.chip lines2 ask_h ask_p d0.host.list.items d0.para.list.items d0.host.count d0.para.count ahead d new e k.way first acts
+      gone_by sure from from2 s t t2 d0.chip lines2 ask_h ask_p d0.host.list.items d0.para.list.items d0.host.count d0.para.count ahead d new e k.way first (acts_keep k.para_keep acts)
       (ap (λ (x : Log). x.list.items) host) (ap (λ (x : Log). x.count) host) (ap (λ (x : Log). x.keep) host ∙ k.host_keep) para_keep same told is gone
       (para_reads p n gone.far keep lines2 gone.goes.accesses t2 gone.goes.last (para_turn d d.para gone.far) e same refl refl para_keep gone.goes.talks)
 

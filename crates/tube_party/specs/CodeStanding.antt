@@ -1,5 +1,5 @@
 -- How a party goes on that may go ahead of what is sure, and how it is rolled back.
-use Rattle.std.specs.Prelude.{ℕ, ◌≡◌, ◌≤◌, Bool, true, false, take}
+use Rattle.std.specs.Prelude.{ℕ, ◌≡◌, Bool, true, false, take}
 use Rattle.beeb_bits.specs.declared.Side.TheVariants.{Para}
 use Rattle.tube_chip.specs.declared.Lines.{Lines}
 use Rattle.tube_party.specs.declared.log.Log.{Log}
