@@ -84,7 +84,8 @@ tick_of_first r n s last Nothing h here = absurd h
 tick_of_first r n s last (Access t op) h here = h.0 ∙ ap r.due here
 tick_of_first r n s last (Look t) h here = h.0 ∙ ap r.due here
 
-moved_kept : (side : Side) (events : List Event) (keep : ℕ) (l m : List Entry) (a b : ℕ) → l ≡ m → a ≡ b → IsKept side events keep m b → IsKept side events keep l a
+moved_kept : (side : Side) (events : List Event) (keep : ℕ) (l m : List Entry) (a b : ℕ) → l ≡ m → a ≡ b → IsKept side events keep m b
+    → IsKept side events keep l a
 moved_kept side events keep l m a b el ea k = record { list_is = el ∙ k.list_is; count_is = ea ∙ k.count_is }
 
 kept_alike : (side : Side) (l m : List Event) (keep : ℕ) (list : List Entry) (count : ℕ) → ((of : Side) → accesses (of_side of l) ≡ accesses (of_side of m))
@@ -92,7 +93,8 @@ kept_alike : (side : Side) (l m : List Event) (keep : ℕ) (list : List Entry) (
 kept_alike side l m keep list count same k = record { list_is = k.list_is ∙ ap (take keep) (same side); count_is = k.count_is ∙ ap length (same side) }
 
 -- looks that are sure by what a party asks come at most so many ticks behind its step
-pub in_time : {S : Type 0} (r : Moves S) (n slack sure : ℕ) (s last : S) (ask : Ask) → IsAsk r n last ask s → IsSure slack ask sure → (x : ℕ) → x < n → x < sure → x < r.due last + slack
+pub in_time : {S : Type 0} (r : Moves S) (n slack sure : ℕ) (s last : S) (ask : Ask) → IsAsk r n last ask s → IsSure slack ask sure → (x : ℕ) → x < n → x < sure
+    → x < r.due last + slack
 in_time r n slack sure s last Nothing is told x low early = omega (arith, is.0, low)
 in_time r n slack sure s last (Access t op) is told x low early = omega (arith, is.0, told, early)
 in_time r n slack sure s last (Look t) is told x low early = omega (arith, is.0, told, early)
@@ -176,8 +178,10 @@ module _ {S T : Type 0} (h : Moves S) (p : Moves T) (lh : IsLawful h) (lp : IsLa
 
   -- the parasite's steps before the host's looks leave the chip
   host_saw_by : (keep sure k i : ℕ) (u last : S) (t ahead : T) (c : State) (l way : List Event) (hl pl : List Entry) (hc pc : ℕ)
-      → ((x : ℕ) → x < n → x < sure → x < p.due ahead + 1) → Runs p Para n i t (course way ahead) → All (IsIdle c) way → h.due u < n → (o : Option Query) → h.asks u ≡ o
-      → ((v : S) (k2 : List Event) → Looks h n (shown_lines (lines_of c) sure) k v last → IsKept Host k2 keep hl hc → IsKept Para k2 keep pl pc → HostSaw keep v last t c k2 hl pl hc pc)
+      → ((x : ℕ) → x < n → x < sure → x < p.due ahead + 1) → Runs p Para n i t (course way ahead) → All (IsIdle c) way → h.due u < n → (o : Option Query)
+      → h.asks u ≡ o
+      → ((v : S) (k2 : List Event) → Looks h n (shown_lines (lines_of c) sure) k v last → IsKept Host k2 keep hl hc → IsKept Para k2 keep pl pc
+      → HostSaw keep v last t c k2 hl pl hc pc)
       → MatchOption o (Looks h n (shown_lines (lines_of c) sure) k (h.next u None) last)
       (λ q. (q ≡ look) × (h.due u < sure) × Looks h n (shown_lines (lines_of c) sure) k (h.next u (Some (Seen (lines_of c)))) last)
       → IsKept Host l keep hl hc → IsKept Para l keep pl pc
@@ -194,7 +198,8 @@ module _ {S T : Type 0} (h : Moves S) (p : Moves T) (lh : IsLawful h) (lp : IsLa
       let a : Answer = Seen (lines_of c) in
       let more : List Event = l ++ event (h.due u) Host look a ∷ [] in
       let asks : h.asks u ≡ Some look = is ∙ ap (λ (x : Query). Some x) looks.0 in
-      let kept : IsKept Host more keep hl hc = moved_kept Host more keep hl hl hc (hc + 0) refl (omega arith) (kept_own Host l keep hl hc (h.due u) look a kh) in
+      let kept : IsKept Host more keep hl hc = moved_kept Host more keep hl hl hc (hc + 0) refl (omega arith) (kept_own Host l keep hl hc (h.due u) look a kh)
+      in
       let rest : HostSaw keep (h.next u (Some a)) last t c more hl pl hc pc =
       on (h.next u (Some a)) more looks.2 kept (kept_para_by_host l keep pl pc (h.due u) look a kp) in
       record {
@@ -205,16 +210,19 @@ module _ {S T : Type 0} (h : Moves S) (p : Moves T) (lh : IsLawful h) (lp : IsLa
       }
 
   host_saw : (keep sure k i : ℕ) (u last : S) (t ahead : T) (c : State) (l way : List Event) (hl pl : List Entry) (hc pc : ℕ)
-      → ((x : ℕ) → x < n → x < sure → x < p.due ahead + 1) → Runs p Para n i t (course way ahead) → All (IsIdle c) way → Looks h n (shown_lines (lines_of c) sure) k u last
+      → ((x : ℕ) → x < n → x < sure → x < p.due ahead + 1) → Runs p Para n i t (course way ahead) → All (IsIdle c) way
+      → Looks h n (shown_lines (lines_of c) sure) k u last
       → IsKept Host l keep hl hc → IsKept Para l keep pl pc
       → HostSaw keep u last t c l hl pl hc pc
   host_saw keep sure zero i u last t ahead c l way hl pl hc pc first runs idle looks kh kp =
       record { events = l; same = alike _ _ (ap (λ (x : S). ticks h p n 0 (world x t c l)) looks); host_kept = kh; para_kept = kp }
-  host_saw keep sure (suc k) i u last t ahead c l way hl pl hc pc first runs idle looks kh kp = host_saw_by keep sure k i u last t ahead c l way hl pl hc pc first runs idle looks.0 (h.asks u) refl
+  host_saw keep sure (suc k) i u last t ahead c l way hl pl hc pc first runs idle looks kh kp = host_saw_by keep sure k i u last t ahead c l way hl pl hc pc
+      first runs idle looks.0 (h.asks u) refl
       (λ v more on a b. host_saw keep sure k i v last t ahead c more way hl pl hc pc first runs idle on a b) looks.1 kh kp
 
   -- the host's step, which may come before the parasite's steps to `ahead`, and its looks
-  host_does : (keep sure i : ℕ) (w0 : World S T) (s s2 s3 : S) (t ahead : T) (c c2 : State) (ask_h ask2 : Ask) (way : List Event) (hl pl hl2 : List Entry) (hc pc hc2 : ℕ)
+  host_does : (keep sure i : ℕ) (w0 : World S T) (s s2 s3 : S) (t ahead : T) (c c2 : State) (ask_h ask2 : Ask) (way : List Event) (hl pl hl2 : List Entry)
+      (hc pc hc2 : ℕ)
       → (w : IsAt h p n few keep w0 s t c ask_h hl pl hc pc) → s ≡ w.host_last → h.due s < n → h.due s ≤ p.due ahead
       → Acts h Host keep (seated s c hl hc) (seated s2 c2 hl2 hc2)
       → Runs p Para n i t (course way ahead) → All (IsIdle c) way → All (IsIdle c2) way
@@ -240,7 +248,8 @@ module _ {S T : Type 0} (h : Moves S) (p : Moves T) (lh : IsLawful h) (lp : IsLa
         same =
             like_on _ _ _ w.same
             (like_on _ _ _ (alike _ _ (ap (λ (x : S). ticks h p n 0 (world x t c w.events)) (sym here)))
-            (like_on _ _ _ (early_host h p lh lp n i s t ahead c d.query w.events way low before d.asks runs idle (subst (λ (x : State). All (IsIdle x) way) d.chip_is still))
+            (like_on _ _ _ (early_host h p lh lp n i s t ahead c d.query w.events way low before d.asks runs idle
+            (subst (λ (x : State). All (IsIdle x) way) d.chip_is still))
             (like_on _ _ _ (alike _ _ (
             ap (λ (x : State). ticks h p n 0 (world (h.next s (Some a)) t x done)) (sym d.chip_is)
             ∙ ap (λ (x : S). ticks h p n 0 (world x t c2 done)) (sym d.state_is)))
@@ -252,7 +261,8 @@ module _ {S T : Type 0} (h : Moves S) (p : Moves T) (lh : IsLawful h) (lp : IsLa
       }
 
   -- what the parasite saw stays as it is
-  still_idle : (keep : ℕ) (w0 : World S T) (from : Mark T) (s : S) (t : T) (c c2 : State) (ask_h ask_p : Ask) (hl pl : List Entry) (hc pc : ℕ) (ahead is_read : Bool)
+  still_idle : (keep : ℕ) (w0 : World S T) (from : Mark T) (s : S) (t : T) (c c2 : State) (ask_h ask_p : Ask) (hl pl : List Entry) (hc pc : ℕ)
+      (ahead is_read : Bool)
       → (w : IsGoing h p n few keep w0 ahead from s t c ask_h ask_p hl pl hc pc)
       → (is_read ≡ false → ahead ≡ true → pc ≡ from.count) → (ahead ≡ true → StaysSeen is_read c c2) → All (IsIdle c2) w.way.events
   still_idle keep w0 from s t c c2 ask_h ask_p hl pl hc pc ahead is_read w none stays = by ahead is_read refl refl
@@ -265,7 +275,8 @@ module _ {S T : Type 0} (h : Moves S) (p : Moves T) (lh : IsLawful h) (lp : IsLa
           looks_still c c2 w.way.events w.way.idle (w.way.noted ∙ none_of w.entries few) (stays ea).0
 
   -- the host's turn
-  pub host_goes : (keep sure : ℕ) (w0 : World S T) (from : Mark T) (s s2 s3 : S) (t : T) (c c2 : State) (ask_h ask_p ask2 : Ask) (hl pl hl2 : List Entry) (hc pc hc2 : ℕ) (ahead is_read : Bool)
+  pub host_goes : (keep sure : ℕ) (w0 : World S T) (from : Mark T) (s s2 s3 : S) (t : T) (c c2 : State) (ask_h ask_p ask2 : Ask) (hl pl hl2 : List Entry)
+      (hc pc hc2 : ℕ) (ahead is_read : Bool)
       → IsGoing h p n few keep w0 ahead from s t c ask_h ask_p hl pl hc pc
       → first_of ask_h ask_p ≡ Some Host
       → Acts h Host keep (seated s c hl hc) (seated s2 c2 hl2 hc2)
@@ -284,7 +295,8 @@ module _ {S T : Type 0} (h : Moves S) (p : Moves T) (lh : IsLawful h) (lp : IsLa
         count = w.count;
         entries = w.entries;
         far = w.far;
-        at = host_does keep sure w.way.steps w0 s s2 s3 w.mark w.last c c2 ask_h ask2 w.way.events hl w.list hl2 hc w.count hc2 w.at f.here (omega (arith, f.below)) (omega (arith, f.first)) d
+        at = host_does keep sure w.way.steps w0 s s2 s3 w.mark w.last c c2 ask_h ask2 w.way.events hl w.list hl2 hc w.count hc2 w.at f.here
+            (omega (arith, f.below)) (omega (arith, f.first)) d
             w.way.runs w.way.idle still (in_time p n 1 sure t w.last ask_p w.asked told) sees;
         way = record { steps = w.way.steps; events = w.way.events; runs = w.way.runs; idle = still; early = w.way.early; noted = w.way.noted };
         asked = w.asked;
@@ -331,7 +343,8 @@ module _ {S T : Type 0} (h : Moves S) (p : Moves T) (lh : IsLawful h) (lp : IsLa
       → IsAt h p n few keep w0 s last c ask_h hl pl hc pc
   catch_up keep far w0 s mark last c ask_h hl list pl entries hc count pc w way early list_is count_is =
       let course : IsCourse p lp n (p.due mark) (p.due last) way.events = course_of p lp n way.steps mark last way.events way.runs in
-      let own : All (λ (e : Event). e.side ≡ Para) way.events = All-weaker (IsOn p lp n (p.due last)) (λ (e : Event). e.side ≡ Para) (λ e on. on.0) way.events course.each in
+      let own : All (λ (e : Event). e.side ≡ Para) way.events =
+      All-weaker (IsOn p lp n (p.due last)) (λ (e : Event). e.side ≡ Para) (λ e on. on.0) way.events course.each in
       let as_many : length (accesses way.events) ≡ length entries = ap length way.noted in
       record {
         host_last = w.host_last;
@@ -340,14 +353,16 @@ module _ {S T : Type 0} (h : Moves S) (p : Moves T) (lh : IsLawful h) (lp : IsLa
         same = like_on _ _ _ w.same (alike _ _ (para_does h p lh lp n way.steps w.host_last mark last c w.events way.events way.runs way.idle early));
         host_kept = kept_beside w.events way.events keep hl hc own w.host_kept;
         para_kept =
-            moved_kept Para (w.events ++ way.events) keep _ _ _ _ (list_is ∙ ap (note_all_leaves keep list) (sym way.noted)) (count_is ∙ ap (λ (x : ℕ). count + x) (sym as_many))
+            moved_kept Para (w.events ++ way.events) keep _ _ _ _ (list_is ∙ ap (note_all_leaves keep list) (sym way.noted))
+            (count_is ∙ ap (λ (x : ℕ). count + x) (sym as_many))
             (kept_way w.events way.events keep list count own w.para_kept);
         host_few = w.host_few;
         para_few = omega (arith, w.para_few, course.few, count_is, as_many);
       }
 
   -- the host's next step does not come before what the parasite asks
-  not_first : (s hl : S) (t last : T) (ask_h ask_p : Ask) → IsAsk h n hl ask_h s → IsAsk p n last ask_p t → (first_of ask_h ask_p ≡ Some Host → ⊥) → (x : ℕ) → x < n → x < p.due last → x < h.due hl
+  not_first : (s hl : S) (t last : T) (ask_h ask_p : Ask) → IsAsk h n hl ask_h s → IsAsk p n last ask_p t → (first_of ask_h ask_p ≡ Some Host → ⊥) → (x : ℕ)
+      → x < n → x < p.due last → x < h.due hl
   not_first s hl t last Nothing ask_p ah ap' never x low early = omega (arith, ah.0)
   not_first s hl t last (Access u op) Nothing ah ap' never x low early = absurd (never refl)
   not_first s hl t last (Look u) Nothing ah ap' never x low early = absurd (never refl)
@@ -371,12 +386,14 @@ module _ {S T : Type 0} (h : Moves S) (p : Moves T) (lh : IsLawful h) (lp : IsLa
   pub para_count : (keep : ℕ) (w0 : World S T) (from : Mark T) (s : S) (t : T) (c : State) (ask_h ask_p : Ask) (hl pl : List Entry) (hc pc : ℕ) (ahead : Bool)
       → IsGoing h p n few keep w0 ahead from s t c ask_h ask_p hl pl hc pc → first_of ask_h ask_p ≡ Some Para → pc < few + n
   para_count keep w0 from s t c ask_h ask_p hl pl hc pc ahead w e =
-      let at : IsAt h p n few keep w0 s w.last c ask_h hl pl hc pc = settled keep w0 from s t c ask_h ask_p hl pl hc pc ahead w (λ x. host_or_para (sym x ∙ e)) in
+      let at : IsAt h p n few keep w0 s w.last c ask_h hl pl hc pc =
+      settled keep w0 from s t c ask_h ask_p hl pl hc pc ahead w (λ x. host_or_para (sym x ∙ e)) in
       let f : ParaFirst h p n t w.last w.at.host_last ask_p = para_first h p n s w.at.host_last t w.last ask_h ask_p w.at.host_asked w.asked e in
       omega (arith, at.para_few, f.below)
 
   -- the parasite goes on from there, and is ahead, or where the reference is
-  pub goes_on : (keep far : ℕ) (w0 : World S T) (from : Mark T) (s : S) (mark last t : T) (c : State) (ask_h ask_p : Ask) (hl list pl entries : List Entry) (hc count pc : ℕ) (ahead : Bool)
+  pub goes_on : (keep far : ℕ) (w0 : World S T) (from : Mark T) (s : S) (mark last t : T) (c : State) (ask_h ask_p : Ask) (hl list pl entries : List Entry)
+      (hc count pc : ℕ) (ahead : Bool)
       → (w : IsAt h p n few keep w0 s mark c ask_h hl list hc count) → (way : IsWay p n far c mark last entries) → IsAsk p n last ask_p t
       → pl ≡ note_all_leaves keep list entries → pc ≡ count + length entries
       → (ahead ≡ true → (mark ≡ from.state) × (length list ≡ from.len) × (count ≡ from.count))
@@ -406,19 +423,22 @@ module _ {S T : Type 0} (h : Moves S) (p : Moves T) (lh : IsLawful h) (lp : IsLa
       list_is count_is) asked
 
   -- where it is rolled back to, the reference is
-  pub rolled_back : (keep : ℕ) (w0 : World S T) (from : Mark T) (s : S) (t : T) (c : State) (ask_h ask_p : Ask) (hl pl pl2 : List Entry) (hc pc pc2 : ℕ) (ahead : Bool)
+  pub rolled_back : (keep : ℕ) (w0 : World S T) (from : Mark T) (s : S) (t : T) (c : State) (ask_h ask_p : Ask) (hl pl pl2 : List Entry) (hc pc pc2 : ℕ)
+      (ahead : Bool)
       → (w : IsGoing h p n few keep w0 ahead from s t c ask_h ask_p hl pl hc pc) → ahead ≡ true → pl2 ≡ take from.len pl → pc2 ≡ from.count
       → IsAt h p n few keep w0 s from.state c ask_h hl pl2 hc pc2
   rolled_back keep w0 from s t c ask_h ask_p hl pl pl2 hc pc pc2 ahead w is list count =
       let back = w.back is in
-      let same : w.list ≡ pl2 = sym (cut_back keep w.list w.entries) ∙ ap (take (length w.list)) (sym w.list_is) ∙ ap (λ (x : ℕ). take x pl) back.1 ∙ sym list in
+      let same : w.list ≡ pl2 = sym (cut_back keep w.list w.entries) ∙ ap (take (length w.list)) (sym w.list_is) ∙ ap (λ (x : ℕ). take x pl) back.1
+      ∙ sym list in
       subst (λ (x : T). IsAt h p n few keep w0 s x c ask_h hl pl2 hc pc2) back.0
       (subst (λ (x : List Entry). IsAt h p n few keep w0 s w.mark c ask_h hl x hc pc2) same
       (subst (λ (x : ℕ). IsAt h p n few keep w0 s w.mark c ask_h hl w.list hc x) (back.2 ∙ sym count) w.at))
 
   -- ---- What is left gets less
 
-  pub host_smaller : (keep sure : ℕ) (w0 : World S T) (from : Mark T) (s s2 s3 : S) (t : T) (c c2 : State) (ask_h ask_p ask2 : Ask) (hl pl hl2 : List Entry) (hc pc hc2 : ℕ) (ahead : Bool)
+  pub host_smaller : (keep sure : ℕ) (w0 : World S T) (from : Mark T) (s s2 s3 : S) (t : T) (c c2 : State) (ask_h ask_p ask2 : Ask) (hl pl hl2 : List Entry)
+      (hc pc hc2 : ℕ) (ahead : Bool)
       → IsGoing h p n few keep w0 ahead from s t c ask_h ask_p hl pl hc pc
       → first_of ask_h ask_p ≡ Some Host
       → Acts h Host keep (seated s c hl hc) (seated s2 c2 hl2 hc2)
@@ -432,7 +452,8 @@ module _ {S T : Type 0} (h : Moves S) (p : Moves T) (lh : IsLawful h) (lp : IsLa
       let on : h.due s2 ≤ h.due sees.last = due_rises h n (lines_of c2) sure sees.steps s2 sees.last lh sees.looks in
       omega (arith, tick_of_pending h n s ask_h f.pending, left_of_ask h n sees.last s3 ask2 (h.due s) sees.asked low (omega arith))
 
-  pub para_smaller : (keep far : ℕ) (w0 : World S T) (from from2 : Mark T) (s : S) (t t2 last2 t3 : T) (c c2 : State) (ask_h ask_p ask2 : Ask) (hl pl pl2 entries : List Entry) (hc pc pc2 : ℕ)
+  pub para_smaller : (keep far : ℕ) (w0 : World S T) (from from2 : Mark T) (s : S) (t t2 last2 t3 : T) (c c2 : State) (ask_h ask_p ask2 : Ask)
+      (hl pl pl2 entries : List Entry) (hc pc pc2 : ℕ)
       (ahead ahead2 : Bool)
       → IsGoing h p n few keep w0 ahead from s t c ask_h ask_p hl pl hc pc
       → first_of ask_h ask_p ≡ Some Para
@@ -470,7 +491,8 @@ module _ {S T : Type 0} (h : Moves S) (p : Moves T) (lh : IsLawful h) (lp : IsLa
           omega (arith, left_of_ask p n last2 t3 ask2 (p.due t) asked low (omega (arith, up)))
 
   -- a party that is rolled back is ahead no more
-  pub back_smaller : (far : ℕ) (mark last t : T) (c : State) (ask ask2 : Ask) (entries : List Entry) (ahead : Bool) → ahead ≡ true → IsWay p n far c mark last entries → IsAsk p n last ask2 t
+  pub back_smaller : (far : ℕ) (mark last t : T) (c : State) (ask ask2 : Ask) (entries : List Entry) (ahead : Bool) → ahead ≡ true
+      → IsWay p n far c mark last entries → IsAsk p n last ask2 t
       → rest_of p n false mark ask2 < rest_of p n ahead mark ask
   back_smaller far mark last t c ask ask2 entries false is way asked = cc
   back_smaller far mark last t c ask ask2 entries true is way asked =
@@ -506,7 +528,8 @@ module _ {S T : Type 0} (h : Moves S) (p : Moves T) (lh : IsLawful h) (lp : IsLa
       → first_of ask_h ask_p ≡ None
       → IsPlayed (reference_from h p w0 n) keep (left_as s t c hl pl hc pc)
   finishes keep w0 from s t c ask_h ask_p hl pl hc pc ahead w e =
-      finish_by keep w0 s w.last t c ask_h ask_p hl pl hc pc (settled keep w0 from s t c ask_h ask_p hl pl hc pc ahead w (λ x. host_or_none (sym x ∙ e))) w.asked (none_left ask_h ask_p e)
+      finish_by keep w0 s w.last t c ask_h ask_p hl pl hc pc (settled keep w0 from s t c ask_h ask_p hl pl hc pc ahead w (λ x. host_or_none (sym x ∙ e)))
+      w.asked (none_left ask_h ask_p e)
 
 pub acts_keep : {S : Type 0} {r : Moves S} {side : Side} {k k2 : ℕ} {x y : AtWork S} → k ≡ k2 → Acts r side k x y → Acts r side k2 x y
 acts_keep {r = r} {side = side} {x = x} e t =

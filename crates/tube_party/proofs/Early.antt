@@ -61,9 +61,11 @@ record Form {S : Type 0} (m : Moves S) (side : Side) (k : ℕ) (s : S) (c : Stat
   more : List Event
   is : (l : List Event) → step_if_due m side k (seat s c l) ≡ seat state chip (l ++ more)
 
-form_of_step : {S : Type 0} (m : Moves S) (side : Side) (k : ℕ) (s : S) (c : State) (due : Bool) (o : Option Query) → nat_eq (m.due s) k ≡ due → m.asks s ≡ o → Form m side k s c
+form_of_step : {S : Type 0} (m : Moves S) (side : Side) (k : ℕ) (s : S) (c : State) (due : Bool) (o : Option Query) → nat_eq (m.due s) k ≡ due → m.asks s ≡ o
+    → Form m side k s c
 form_of_step m side k s c false o d q = record { state = s; chip = c; more = []; is = λ l. rw d (ap (seat s c) (sym (append-nil l))) }
-form_of_step m side k s c true None d q = record { state = m.next s None; chip = c; more = []; is = λ l. rw (d, q) (ap (seat (m.next s None) c) (sym (append-nil l))) }
+form_of_step m side k s c true None d q = record
+    { state = m.next s None; chip = c; more = []; is = λ l. rw (d, q) (ap (seat (m.next s None) c) (sym (append-nil l))) }
 form_of_step m side k s c true (Some x) d q = record {
   state = m.next s (Some (act c side x).1);
   chip = (act c side x).0;
@@ -95,7 +97,8 @@ module _ {S T : Type 0} (h : Moves S) (p : Moves T) (lh : IsLawful h) (lp : IsLa
             ∙ ap (λ (z : List Event). world x.state y.state y.chip z) (append_assoc l x.more y.more);
       }
 
-  like_ticks : (j k : ℕ) (s : S) (t : T) (c : State) (l m : List Event) → SameAccesses l m → IsLike (ticks h p j k (world s t c l)) (ticks h p j k (world s t c m))
+  like_ticks : (j k : ℕ) (s : S) (t : T) (c : State) (l m : List Event) → SameAccesses l m
+      → IsLike (ticks h p j k (world s t c l)) (ticks h p j k (world s t c m))
   like_ticks zero k s t c l m same = record { host = refl; para = refl; chip = refl; listed = same }
   like_ticks (suc j) k s t c l m same =
       let x : TickForm k s t c = tick_form k s t c in
@@ -106,7 +109,8 @@ module _ {S T : Type 0} (h : Moves S) (p : Moves T) (lh : IsLawful h) (lp : IsLa
 
   module _ (n : ℕ) where
     -- the parasite's step, which the chip answers and is left by
-    para_idle : (s : S) (t : T) (c : State) (l : List Event) (q : Query) (a : Answer) → p.due t < n → p.due t < h.due s → p.asks t ≡ Some q → IsIdle c (event (p.due t) Para q a)
+    para_idle : (s : S) (t : T) (c : State) (l : List Event) (q : Query) (a : Answer) → p.due t < n → p.due t < h.due s → p.asks t ≡ Some q
+        → IsIdle c (event (p.due t) Para q a)
         → ticks h p n 0 (world s t c l) ≡ ticks h p n 0 (world s (p.next t (Some a)) c (l ++ event (p.due t) Para q a ∷ []))
     para_idle s t c l q a low first asks idle =
         para_next h p lh lp n 0 s t c l (omega arith) (omega arith) first
@@ -135,7 +139,8 @@ module _ {S T : Type 0} (h : Moves S) (p : Moves T) (lh : IsLawful h) (lp : IsLa
         (All-tail (IsIdle c) e others all) (All-tail (IsBelow (h.due s)) e others before)
         ∙ ap (λ (x : List Event). ticks h p n 0 (world s last c x)) (append_assoc l (e ∷ []) others ∙ ap (λ (x : List Event). l ++ x) (sym ee))
 
-    pub para_does : (k : ℕ) (s : S) (t last : T) (c : State) (l events : List Event) → Runs p Para n k t (course events last) → All (IsIdle c) events → All (IsBelow (h.due s)) events
+    pub para_does : (k : ℕ) (s : S) (t last : T) (c : State) (l events : List Event) → Runs p Para n k t (course events last) → All (IsIdle c) events
+        → All (IsBelow (h.due s)) events
         → ticks h p n 0 (world s t c l) ≡ ticks h p n 0 (world s last c (l ++ events))
     para_does zero s t last c l events runs idle early =
         ap (λ (x : T). ticks h p n 0 (world s x c l)) runs.1
@@ -146,14 +151,17 @@ module _ {S T : Type 0} (h : Moves S) (p : Moves T) (lh : IsLawful h) (lp : IsLa
     -- The host's step, done at once.
     abbrev IsEarly : S → T → State → Query → List Event → Type 0
     IsEarly s t c q l =
-        IsLike (ticks h p n 0 (world s t c l)) (ticks h p n 0 (world (h.next s (Some (act c Host q).1)) t (act c Host q).0 (l ++ event (h.due s) Host q (act c Host q).1 ∷ [])))
+        IsLike (ticks h p n 0 (world s t c l)) (ticks h p n 0
+        (world (h.next s (Some (act c Host q).1)) t (act c Host q).0 (l ++ event (h.due s) Host q (act c Host q).1 ∷ [])))
 
     host_here : (s : S) (t : T) (c : State) (q : Query) (l : List Event) → h.due s < n → h.due s ≤ p.due t → h.asks s ≡ Some q → IsEarly s t c q l
     host_here s t c q l low first asks =
-        alike _ _ (host_next h p lh lp n 0 s t c l (omega arith) (omega arith) first ∙ ap (λ (o : Option Query). ticks h p n 0 (host_done (step_leaves h Host (seat s c l) o) t)) asks)
+        alike _ _ (host_next h p lh lp n 0 s t c l (omega arith) (omega arith) first
+        ∙ ap (λ (o : Option Query). ticks h p n 0 (host_done (step_leaves h Host (seat s c l) o) t)) asks)
 
     early_by : (i : ℕ) (s : S) (t last : T) (c : State) (q : Query) (l events : List Event) → h.due s < n → h.due s ≤ p.due last → h.asks s ≡ Some q
-        → ((u : T) (m others : List Event) → Runs p Para n i u (course others last) → All (IsIdle c) others → All (IsIdle (act c Host q).0) others → IsEarly s u c q m)
+        → ((u : T) (m others : List Event) → Runs p Para n i u (course others last) → All (IsIdle c) others → All (IsIdle (act c Host q).0) others
+        → IsEarly s u c q m)
         → First p Para n (suc i) t events last → All (IsIdle c) events → All (IsIdle (act c Host q).0) events → IsEarly s t c q l
     early_by i s t last c q l events low first asks on (Over ee es) idle still =
         host_here s t c q l low (subst (λ (x : T). h.due s ≤ p.due x) (sym es) first) asks
@@ -177,15 +185,19 @@ module _ {S T : Type 0} (h : Moves S) (p : Moves T) (lh : IsLawful h) (lp : IsLa
           | inr late ↦ host_here s t c q l low late asks
           | inl before ↦
               like_on _ _ _ (alike _ _ (para_idle s t c l r a lt before is (All-head (IsIdle c) e others all)))
-              (like_on _ _ _ (on (p.next t (Some a)) (l ++ e ∷ []) others (subst (λ (x : ℕ). Runs p Para n x (p.next t (Some a)) (course others last)) (omega arith) runs)
+              (like_on _ _ _ (on (p.next t (Some a)) (l ++ e ∷ []) others
+              (subst (λ (x : ℕ). Runs p Para n x (p.next t (Some a)) (course others last)) (omega arith) runs)
               (All-tail (IsIdle c) e others all) (All-tail (IsIdle d) e others stays))
-              (like_on _ _ _ (like_ticks n 0 onto (p.next t (Some a)) d ((l ++ e ∷ []) ++ f ∷ []) ((l ++ f ∷ []) ++ e ∷ []) (swapped l (p.due t) (h.due s) r q a b))
+              (like_on _ _ _ (like_ticks n 0 onto (p.next t (Some a)) d ((l ++ e ∷ []) ++ f ∷ []) ((l ++ f ∷ []) ++ e ∷ [])
+              (swapped l (p.due t) (h.due s) r q a b))
               (alike _ _ (sym (para_idle onto t d (l ++ f ∷ []) r a lt (omega arith) is (All-head (IsIdle d) e others stays))))))
         ]
 
     -- where all of the parasite's steps before it see the chip behind it as they see it before it
     pub early_host : (k : ℕ) (s : S) (t last : T) (c : State) (q : Query) (l events : List Event) → h.due s < n → h.due s ≤ p.due last → h.asks s ≡ Some q
         → Runs p Para n k t (course events last) → All (IsIdle c) events → All (IsIdle (act c Host q).0) events → IsEarly s t c q l
-    early_host zero s t last c q l events low first asks runs idle still = host_here s t c q l low (subst (λ (x : T). h.due s ≤ p.due x) (sym runs.1) first) asks
+    early_host zero s t last c q l events low first asks runs idle still = host_here s t c q l low (subst (λ (x : T). h.due s ≤ p.due x) (sym runs.1) first)
+        asks
     early_host (suc i) s t last c q l events low first asks runs idle still =
-        early_by i s t last c q l events low first asks (λ u m others on. early_host i s u last c q m others low first asks on) (first_of_runs p Para n (suc i) t events last runs) idle still
+        early_by i s t last c q l events low first asks (λ u m others on. early_host i s u last c q m others low first asks on)
+        (first_of_runs p Para n (suc i) t events last runs) idle still

@@ -28,11 +28,14 @@ use Rattle.tube_party.proofs.Both.{seated, rest_of, in_time, tick_of_first, host
 -- where an access comes before a tick that is sure by what the parasite asks, the host comes first
 still_first : (t : Tick) (sure : ℕ) (op : Op) (ask_p : Ask) → t.0 < sure → IsSure 1 ask_p sure → first_of (Access t op) ask_p ≡ Some Host
 still_first t sure op Nothing early told = refl
-still_first t sure op (Access u po) early told = ap (λ (b : Bool). let o : Option Side = Some (if b then Para else Host) in o) (le-ltb u.0 t.0 (omega (arith, early, told)))
-still_first t sure op (Look u) early told = ap (λ (b : Bool). let o : Option Side = Some (if b then Para else Host) in o) (le-ltb u.0 t.0 (omega (arith, early, told)))
+still_first t sure op (Access u po) early told = ap (λ (b : Bool). let o : Option Side = Some (if b then Para else Host) in o)
+    (le-ltb u.0 t.0 (omega (arith, early, told)))
+still_first t sure op (Look u) early told = ap (λ (b : Bool). let o : Option Side = Some (if b then Para else Host) in o)
+    (le-ltb u.0 t.0 (omega (arith, early, told)))
 
 -- what the host asks leaves the chip so
-pub behind_is : {S : Type 0} (h : Moves S) (n : ℕ) (s : S) (c : State) (ask : Ask) (q : Query) → IsPending h n s ask → h.asks s ≡ Some q → (act c Host q).0 ≡ chip_behind c ask
+pub behind_is : {S : Type 0} (h : Moves S) (n : ℕ) (s : S) (c : State) (ask : Ask) (q : Query) → IsPending h n s ask → h.asks s ≡ Some q
+    → (act c Host q).0 ≡ chip_behind c ask
 behind_is h n s c Nothing q pending asks = absurd pending
 behind_is h n s c (Access t op) q pending asks =
     let same : (let o : Option Query = Some q in o) ≡ Some (access op) = sym asks ∙ pending.2 in
@@ -56,11 +59,15 @@ record IsRead (keep : ℕ) (d : Attended) (tick : ℕ) (op : Op) (byte : ℕ) (f
   host_list : f.host.list.items ≡ d.host.list.items
   host_count : f.host.count ≡ d.host.count
 
-read_by : (keep : ℕ) (d : Attended) (tick : ℕ) (op : Op) (byte : ℕ) (f : Attended) → d.turn ≡ Para → d.para.keep ≡ keep → IsPassed d tick op byte f → IsRead keep d tick op byte f
+read_by : (keep : ℕ) (d : Attended) (tick : ℕ) (op : Op) (byte : ℕ) (f : Attended) → d.turn ≡ Para → d.para.keep ≡ keep → IsPassed d tick op byte f
+    → IsRead keep d tick op byte f
 read_by keep d tick op byte f turn kept x =
-    let stays : chip_after d.chip Para op ≡ d.chip = ap (λ (z : Side). chip_after d.chip z op) (sym turn) ∙ x.stays.1 (ap (λ (z : Side). leaves_chip z d.is_read) turn) in
-    let more : d.para.count + length (own_of Para (passed_entry d.turn tick op byte)) ≡ d.para.count + 1 = ap (λ (z : Side). d.para.count + length (own_of Para (passed_entry z tick op byte))) turn in
-    let none : d.host.count + length (own_of Host (passed_entry d.turn tick op byte)) ≡ d.host.count + 0 = ap (λ (z : Side). d.host.count + length (own_of Host (passed_entry z tick op byte))) turn in
+    let stays : chip_after d.chip Para op ≡ d.chip =
+    ap (λ (z : Side). chip_after d.chip z op) (sym turn) ∙ x.stays.1 (ap (λ (z : Side). leaves_chip z d.is_read) turn) in
+    let more : d.para.count + length (own_of Para (passed_entry d.turn tick op byte)) ≡ d.para.count + 1 =
+    ap (λ (z : Side). d.para.count + length (own_of Para (passed_entry z tick op byte))) turn in
+    let none : d.host.count + length (own_of Host (passed_entry d.turn tick op byte)) ≡ d.host.count + 0 =
+    ap (λ (z : Side). d.host.count + length (own_of Host (passed_entry z tick op byte))) turn in
     let zero : d.host.count + 0 ≡ d.host.count = omega arith in
     record {
       early = x.early;
@@ -89,7 +96,8 @@ pub record HasRead {T : Type 0} (p : Moves T) (n sure keep : ℕ) (t last : T) (
   pub host_keep : e.host.keep ≡ d.host.keep
 
 module _ {T : Type 0} (p : Moves T) (n sure keep : ℕ) (lines : Lines) where
-  abbrev none_read : (k : ℕ) (t last : T) (d : Attended) → lines ≡ lines_of d.chip → d.para.keep ≡ keep → Looks p n (shown_lines lines sure) k t last → HasRead p n sure keep t last d d
+  abbrev none_read : (k : ℕ) (t last : T) (d : Attended) → lines ≡ lines_of d.chip → d.para.keep ≡ keep → Looks p n (shown_lines lines sure) k t last
+      → HasRead p n sure keep t last d d
   none_read k t last d same kept looks =
       record {
         entries = [];
@@ -105,7 +113,8 @@ module _ {T : Type 0} (p : Moves T) (n sure keep : ℕ) (lines : Lines) where
 
   pub para_reads : (j : ℕ) (t last : T) (d e : Attended) → lines ≡ lines_of d.chip → d.turn ≡ Para → d.sure ≡ sure → d.para.keep ≡ keep
       → Talks p IsPassed n (shown_lines lines sure) j t d last e → HasRead p n sure keep t last d e
-  para_reads zero t last d e same turn until kept talks = subst (λ (x : Attended). HasRead p n sure keep t last d x) talks.0 (none_read talks.1.0 t last d same kept talks.1.1)
+  para_reads zero t last d e same turn until kept talks = subst (λ (x : Attended). HasRead p n sure keep t last d x) talks.0
+      (none_read talks.1.0 t last d same kept talks.1.1)
   para_reads (suc j) t last d e same turn until kept talks =
       let at : T = talks.0 in
       let on : T = talks.1 in
@@ -115,13 +124,15 @@ module _ {T : Type 0} (p : Moves T) (n sure keep : ℕ) (lines : Lines) where
       let one : IsRead keep d (p.due at) answered.op answered.byte f = read_by keep d (p.due at) answered.op answered.byte f turn kept passed in
       let x : Entry = passed_entry Para (p.due at) answered.op answered.byte in
       let more : HasRead p n sure keep on last f e =
-      para_reads j on last f e (same ∙ ap lines_of (sym one.chip_is)) (passed.turn_is ∙ turn) (passed.sure_is ∙ until) (passed.para_noted.keep_is ∙ kept) talks.5 in
+      para_reads j on last f e (same ∙ ap lines_of (sym one.chip_is)) (passed.turn_is ∙ turn) (passed.sure_is ∙ until) (passed.para_noted.keep_is ∙ kept)
+      talks.5 in
       let looks : HasRead p n sure keep t at d d = none_read talks.3.0 t at d same kept talks.3.1 in
       record {
         entries = x ∷ more.entries;
         way =
             way_on p n sure d.chip t at last [] (x ∷ more.entries) looks.way
-            (way_first p n sure d.chip at on last answered.op answered.byte more.entries answered.below answered.asks answered.goes (omega (arith, one.early, until)) one.stays one.byte_is
+            (way_first p n sure d.chip at on last answered.op answered.byte more.entries answered.below answered.asks answered.goes
+            (omega (arith, one.early, until)) one.stays one.byte_is
             (subst (λ (z : State). IsWay p n sure z on last more.entries) one.chip_is more.way));
         chip_is = more.chip_is ∙ one.chip_is;
         list_is = more.list_is ∙ ap (λ (z : List Entry). note_all_leaves keep z more.entries) one.list_is;
@@ -146,7 +157,8 @@ module _ {S T : Type 0} (h : Moves S) (p : Moves T) (lh : IsLawful h) (lp : IsLa
     pub smaller : ticks_left n ask_h + rest_of p n ahead from.state ask_p < left
 
   -- with the chip and the logs named otherwise
-  named : (ahead : Bool) (from : Mark T) (s : S) (t : T) (c c2 : State) (ask_h ask_p : Ask) (hl hl2 pl pl2 : List Entry) (hc hc2 pc pc2 : ℕ) → c2 ≡ c → hl2 ≡ hl → pl2 ≡ pl → hc2 ≡ hc → pc2 ≡ pc
+  named : (ahead : Bool) (from : Mark T) (s : S) (t : T) (c c2 : State) (ask_h ask_p : Ask) (hl hl2 pl pl2 : List Entry) (hc hc2 pc pc2 : ℕ) → c2 ≡ c → hl2 ≡ hl
+      → pl2 ≡ pl → hc2 ≡ hc → pc2 ≡ pc
       → IsGoing h p n few keep w0 ahead from s t c ask_h ask_p hl pl hc pc → IsGoing h p n few keep w0 ahead from s t c2 ask_h ask_p hl2 pl2 hc2 pc2
   named ahead from s t c c2 ask_h ask_p hl hl2 pl pl2 hc hc2 pc pc2 ec eh ep ehc epc w =
       subst (λ (x : State). IsGoing h p n few keep w0 ahead from s t x ask_h ask_p hl2 pl2 hc2 pc2) (sym ec)
@@ -173,7 +185,8 @@ module _ {S T : Type 0} (h : Moves S) (p : Moves T) (lh : IsLawful h) (lp : IsLa
   sees_by sure k l m s last s3 ask e looks asked unsure =
       record { steps = k; last = last; looks = subst (λ (x : Lines). Looks h n (shown_lines x sure) k s last) e looks; asked = asked; unsure = unsure }
 
-  passed_act : (at on : S) (op : Op) (byte : ℕ) (d f : Attended) → d.turn ≡ Host → d.host.keep ≡ keep → h.asks at ≡ Some (access op) → on ≡ h.next at (Some (Byte byte)) → IsPassed d (h.due at) op byte f
+  passed_act : (at on : S) (op : Op) (byte : ℕ) (d f : Attended) → d.turn ≡ Host → d.host.keep ≡ keep → h.asks at ≡ Some (access op)
+      → on ≡ h.next at (Some (Byte byte)) → IsPassed d (h.due at) op byte f
       → Acts h Host keep (seated at d.chip d.host.list.items d.host.count) (seated on f.chip f.host.list.items f.host.count)
   passed_act at on op byte d f turn kept asks goes x =
       let is : byte ≡ answer_of d.chip Host op = x.byte_is ∙ ap (λ (z : Side). answer_of d.chip z op) turn in
@@ -190,12 +203,14 @@ module _ {S T : Type 0} (h : Moves S) (p : Moves T) (lh : IsLawful h) (lp : IsLa
         count_is = x.host_noted.count_is ∙ ap (λ (z : Side). d.host.count + length (own_of Host (passed_entry z (h.due at) op byte))) turn;
       }
 
-  passed_stays : (ahead : Bool) (tick : ℕ) (op : Op) (byte : ℕ) (d f : Attended) → d.turn ≡ Host → IsPassed d tick op byte f → ahead ≡ true → StaysSeen d.is_read d.chip f.chip
+  passed_stays : (ahead : Bool) (tick : ℕ) (op : Op) (byte : ℕ) (d f : Attended) → d.turn ≡ Host → IsPassed d tick op byte f → ahead ≡ true
+      → StaysSeen d.is_read d.chip f.chip
   passed_stays ahead tick op byte d f turn x is =
       let same : leaves_chip d.turn d.is_read ≡ d.is_read = ap (λ (z : Side). leaves_chip z d.is_read) turn in
       (ap lines_of x.chip_is ∙ x.stays.0, λ r. x.chip_is ∙ x.stays.1 (same ∙ r))
 
-  still_hosts : (sure : ℕ) (ahead : Bool) (from : Mark T) (lines : Lines) (pl : List Entry) (pc tick : ℕ) (op : Op) (byte : ℕ) (d f : Attended) → IsHosts sure ahead from lines pl pc d → IsPassed d tick op byte f
+  still_hosts : (sure : ℕ) (ahead : Bool) (from : Mark T) (lines : Lines) (pl : List Entry) (pc tick : ℕ) (op : Op) (byte : ℕ) (d f : Attended)
+      → IsHosts sure ahead from lines pl pc d → IsPassed d tick op byte f
       → IsHosts sure ahead from lines pl pc f
   still_hosts sure ahead from lines pl pc tick op byte d f x passed =
       let zero : d.para.count + 0 ≡ d.para.count = omega arith in
@@ -205,12 +220,14 @@ module _ {S T : Type 0} (h : Moves S) (p : Moves T) (lh : IsLawful h) (lp : IsLa
         lines_is = x.lines_is ∙ sym (ap lines_of passed.chip_is ∙ passed.stays.0);
         host_keep = passed.host_noted.keep_is ∙ x.host_keep;
         para_keep = passed.para_noted.keep_is ∙ x.para_keep;
-        list_is = passed.para_noted.list_is ∙ ap (λ (z : Side). note_all_leaves d.para.keep d.para.list.items (own_of Para (passed_entry z tick op byte))) x.turn ∙ x.list_is;
+        list_is = passed.para_noted.list_is ∙ ap (λ (z : Side). note_all_leaves d.para.keep d.para.list.items (own_of Para (passed_entry z tick op byte)))
+            x.turn ∙ x.list_is;
         count_is = passed.para_noted.count_is ∙ ap (λ (z : Side). d.para.count + length (own_of Para (passed_entry z tick op byte))) x.turn ∙ zero ∙ x.count_is;
         none = λ r. x.none (sym passed.is_read_is ∙ r);
       }
 
-  pub host_passes : (j sure : ℕ) (from : Mark T) (s s2 s3 last : S) (t : T) (c : State) (lines : Lines) (ask_h ask_p ask2 : Ask) (hl pl : List Entry) (hc pc : ℕ) (ahead : Bool) (d e : Attended)
+  pub host_passes : (j sure : ℕ) (from : Mark T) (s s2 s3 last : S) (t : T) (c : State) (lines : Lines) (ask_h ask_p ask2 : Ask) (hl pl : List Entry)
+      (hc pc : ℕ) (ahead : Bool) (d e : Attended)
       → IsGoing h p n few keep w0 ahead from s t c ask_h ask_p hl pl hc pc
       → first_of ask_h ask_p ≡ Some Host
       → Acts h Host keep (seated s c hl hc) (seated s2 d.chip d.host.list.items d.host.count)
@@ -221,14 +238,17 @@ module _ {S T : Type 0} (h : Moves S) (p : Moves T) (lh : IsLawful h) (lp : IsLa
       → IsAsk h n last ask2 s3 → IsUnsure sure ask2
       → IsOver (ticks_left n ask_h + rest_of p n ahead from.state ask_p) ahead from s3 t ask2 ask_p lines e
   host_passes zero sure from s s2 s3 last t c lines ask_h ask_p ask2 hl pl hc pc ahead d e w first acts stays told x talks asked unsure =
-      let sees : Sees h n (shown_lines (lines_of d.chip) sure) s2 ask2 s3 = sees_by sure talks.1.0 lines (lines_of d.chip) s2 last s3 ask2 x.lines_is talks.1.1 asked unsure in
+      let sees : Sees h n (shown_lines (lines_of d.chip) sure) s2 ask2 s3 =
+      sees_by sure talks.1.0 lines (lines_of d.chip) s2 last s3 ask2 x.lines_is talks.1.1 asked unsure in
       let going : IsGoing h p n few keep w0 ahead from s3 t d.chip ask2 ask_p d.host.list.items pl d.host.count pc =
-      host_goes h p lh lp n few keep sure w0 from s s2 s3 t c d.chip ask_h ask_p ask2 hl pl d.host.list.items hc pc d.host.count ahead d.is_read w first acts x.none stays told sees in
+      host_goes h p lh lp n few keep sure w0 from s s2 s3 t c d.chip ask_h ask_p ask2 hl pl d.host.list.items hc pc d.host.count ahead d.is_read w first acts
+      x.none stays told sees in
       let less : ticks_left n ask2 < ticks_left n ask_h =
       host_smaller h p lh lp n few keep sure w0 from s s2 s3 t c d.chip ask_h ask_p ask2 hl pl d.host.list.items hc pc d.host.count ahead w first acts sees in
       subst (λ (z : Attended). IsOver (ticks_left n ask_h + rest_of p n ahead from.state ask_p) ahead from s3 t ask2 ask_p lines z) talks.0 (record {
         kept = record {
-          way = named ahead from s3 t d.chip d.chip ask2 ask_p d.host.list.items d.host.list.items pl d.para.list.items d.host.count d.host.count pc d.para.count refl refl x.list_is refl x.count_is going;
+          way = named ahead from s3 t d.chip d.chip ask2 ask_p d.host.list.items d.host.list.items pl d.para.list.items d.host.count d.host.count pc
+              d.para.count refl refl x.list_is refl x.count_is going;
           lines_is = x.lines_is;
           host_keep = x.host_keep;
           para_keep = x.para_keep;
@@ -247,10 +267,12 @@ module _ {S T : Type 0} (h : Moves S) (p : Moves T) (lh : IsLawful h) (lp : IsLa
       host_smaller h p lh lp n few keep sure w0 from s s2 at t c d.chip ask_h ask_p ask hl pl d.host.list.items hc pc d.host.count ahead w first acts sees in
       let over : IsOver (ticks_left n ask + rest_of p n ahead from.state ask_p) ahead from s3 t ask2 ask_p lines e =
       host_passes j sure from at on s3 last t d.chip lines ask ask_p ask2 d.host.list.items pl d.host.count pc ahead f e
-      (host_goes h p lh lp n few keep sure w0 from s s2 at t c d.chip ask_h ask_p ask hl pl d.host.list.items hc pc d.host.count ahead d.is_read w first acts x.none stays told sees)
+      (host_goes h p lh lp n few keep sure w0 from s s2 at t c d.chip ask_h ask_p ask hl pl d.host.list.items hc pc d.host.count ahead d.is_read w first acts
+      x.none stays told sees)
       (still_first (record { 0 = h.due at }) sure answered.op ask_p (omega (arith, answered.answered.early, x.until)) told)
       (passed_act at on answered.op answered.byte d f x.turn x.host_keep answered.asks answered.goes answered.answered)
-      (λ is. subst (λ (r : Bool). StaysSeen r d.chip f.chip) (sym answered.answered.is_read_is) (passed_stays ahead (h.due at) answered.op answered.byte d f x.turn answered.answered is))
+      (λ is. subst (λ (r : Bool). StaysSeen r d.chip f.chip) (sym answered.answered.is_read_is)
+      (passed_stays ahead (h.due at) answered.op answered.byte d f x.turn answered.answered is))
       told (still_hosts sure ahead from lines pl pc (h.due at) answered.op answered.byte d f x answered.answered) talks.5 asked unsure in
       record { kept = over.kept; smaller = omega (arith, over.smaller, less) }
 
@@ -268,7 +290,8 @@ module _ {S T : Type 0} (h : Moves S) (p : Moves T) (lh : IsLawful h) (lp : IsLa
       let w : IsGoing h p n few keep w0 ahead from s t d0.chip ask_h ask_p d0.host.list.items d0.para.list.items d0.host.count d0.para.count = k.way in
       let f : HostFirst h p n s w.at.host_last w.last ask_h = host_first h p n s w.at.host_last t w.last ask_h ask_p w.at.host_asked w.asked first in
       let is : chip_behind d0.chip ask_h ≡ d.chip = sym (acts.chip_is ∙ behind_is h n s d0.chip ask_h acts.query f.pending acts.asks) in
-      host_passes hears.accesses sure from s s2 s3 hears.last t d0.chip lines2 ask_h ask_p ask2 d0.host.list.items d0.para.list.items d0.host.count d0.para.count ahead d e w first (acts_keep k.host_keep acts)
+      host_passes hears.accesses sure from s s2 s3 hears.last t d0.chip lines2 ask_h ask_p ask2 d0.host.list.items d0.para.list.items d0.host.count
+      d0.para.count ahead d e w first (acts_keep k.host_keep acts)
       (λ b. subst (λ (x : State). StaysSeen d.is_read d0.chip x) is (stays b)) told
       (record {
         turn = turn;
@@ -283,7 +306,8 @@ module _ {S T : Type 0} (h : Moves S) (p : Moves T) (lh : IsLawful h) (lp : IsLa
 
   -- ---- The parasite's turn
 
-  gone_by : (sure : ℕ) (from from2 : Mark T) (s : S) (t t2 : T) (c : State) (lines : Lines) (ask_h ask_p : Ask) (hl pl : List Entry) (hc pc : ℕ) (ahead : Bool) (d : Attended) (new : Standing T) (e : Attended)
+  gone_by : (sure : ℕ) (from from2 : Mark T) (s : S) (t t2 : T) (c : State) (lines : Lines) (ask_h ask_p : Ask) (hl pl : List Entry) (hc pc : ℕ) (ahead : Bool)
+      (d : Attended) (new : Standing T) (e : Attended)
       → IsGoing h p n few keep w0 ahead from s t c ask_h ask_p hl pl hc pc
       → first_of ask_h ask_p ≡ Some Para
       → Acts p Para keep (seated t c pl pc) (seated t2 d.chip d.para.list.items d.para.count)
@@ -293,21 +317,25 @@ module _ {S T : Type 0} (h : Moves S) (p : Moves T) (lh : IsLawful h) (lp : IsLa
       → (gone : IsGone p n lines sure t2 d new e) → HasRead p n gone.far keep t2 gone.goes.last (para_turn d d.para gone.far) e
       → IsOver (ticks_left n ask_h + rest_of p n ahead from.state ask_p) new.ahead from2 s new.state ask_h new.ask lines e
   gone_by sure from from2 s t t2 c lines ask_h ask_p hl pl hc pc ahead d new e w first acts list count host_keep para_keep same told is gone read =
-      let at : IsAt h p n few keep w0 s w.last c ask_h hl pl hc pc = settled h p lh lp n few keep w0 from s t c ask_h ask_p hl pl hc pc ahead w (λ x. host_or_para (sym x ∙ first)) in
+      let at : IsAt h p n few keep w0 s w.last c ask_h hl pl hc pc =
+      settled h p lh lp n few keep w0 from s t c ask_h ask_p hl pl hc pc ahead w (λ x. host_or_para (sym x ∙ first)) in
       let f : ParaFirst h p n t w.last at.host_last ask_p = para_first h p n s at.host_last t w.last ask_h ask_p at.host_asked w.asked first in
       let here : IsAt h p n few keep w0 s t2 d.chip ask_h hl d.para.list.items hc d.para.count =
       para_step h p lh lp n few keep w0 s w.last t t2 c d.chip ask_h ask_p hl pl d.para.list.items hc pc d.para.count at f acts in
       let going : IsGoing h p n few keep w0 new.ahead from2 s new.state d.chip ask_h new.ask hl e.para.list.items hc e.para.count =
-      goes_on h p lh lp n few keep gone.far w0 from2 s t2 gone.goes.last new.state d.chip ask_h new.ask hl d.para.list.items e.para.list.items read.entries hc d.para.count e.para.count new.ahead
+      goes_on h p lh lp n few keep gone.far w0 from2 s t2 gone.goes.last new.state d.chip ask_h new.ask hl d.para.list.items e.para.list.items read.entries hc
+      d.para.count e.para.count new.ahead
       here read.way gone.goes.asked read.list_is read.count_is
       (λ b. (sym (is.0 ∙ gone.mark b), sym is.1, sym is.2))
       (λ b x low early. omega (arith, in_time h n 0 sure s here.host_last ask_h here.host_asked told x low (omega (arith, early, gone.within b)))) in
       let less : rest_of p n new.ahead from2.state new.ask < rest_of p n ahead from.state ask_p =
-      para_smaller h p lh lp n few keep gone.far w0 from from2 s t t2 gone.goes.last new.state c d.chip ask_h ask_p new.ask hl pl d.para.list.items read.entries hc pc d.para.count ahead new.ahead
+      para_smaller h p lh lp n few keep gone.far w0 from from2 s t t2 gone.goes.last new.state c d.chip ask_h ask_p new.ask hl pl d.para.list.items read.entries
+      hc pc d.para.count ahead new.ahead
       w first acts read.way gone.goes.asked (λ b. is.0 ∙ gone.mark b) in
       record {
         kept = record {
-          way = named new.ahead from2 s new.state d.chip e.chip ask_h new.ask hl e.host.list.items e.para.list.items e.para.list.items hc e.host.count e.para.count e.para.count
+          way = named new.ahead from2 s new.state d.chip e.chip ask_h new.ask hl e.host.list.items e.para.list.items e.para.list.items hc e.host.count
+              e.para.count e.para.count
               read.chip_is (read.host_list ∙ list) refl (read.host_count ∙ count) refl going;
           lines_is = same ∙ ap lines_of (sym read.chip_is);
           host_keep = read.host_keep ∙ host_keep;
@@ -316,7 +344,8 @@ module _ {S T : Type 0} (h : Moves S) (p : Moves T) (lh : IsLawful h) (lp : IsLa
         smaller = omega arith;
       }
 
-  pub para_passes : (sure : ℕ) (from from2 : Mark T) (s : S) (t t2 : T) (lines lines2 : Lines) (ask_h ask_p : Ask) (ahead : Bool) (d0 d e : Attended) (new : Standing T)
+  pub para_passes : (sure : ℕ) (from from2 : Mark T) (s : S) (t t2 : T) (lines lines2 : Lines) (ask_h ask_p : Ask) (ahead : Bool) (d0 d e : Attended)
+      (new : Standing T)
       → IsKeptUp ahead from s t ask_h ask_p lines d0
       → first_of ask_h ask_p ≡ Some Para
       → Acts p Para d0.para.keep (seated t d0.chip d0.para.list.items d0.para.count) (seated t2 d.chip d.para.list.items d.para.count)
@@ -326,7 +355,8 @@ module _ {S T : Type 0} (h : Moves S) (p : Moves T) (lh : IsLawful h) (lp : IsLa
       → IsGone p n lines2 sure t2 d new e
       → IsOver (ticks_left n ask_h + rest_of p n ahead from.state ask_p) new.ahead from2 s new.state ask_h new.ask lines2 e
   para_passes sure from from2 s t t2 lines lines2 ask_h ask_p ahead d0 d e new k first acts host para_keep same told is gone =
-      gone_by sure from from2 s t t2 d0.chip lines2 ask_h ask_p d0.host.list.items d0.para.list.items d0.host.count d0.para.count ahead d new e k.way first (acts_keep k.para_keep acts)
+      gone_by sure from from2 s t t2 d0.chip lines2 ask_h ask_p d0.host.list.items d0.para.list.items d0.host.count d0.para.count ahead d new e k.way first
+      (acts_keep k.para_keep acts)
       (ap (λ (x : Log). x.list.items) host) (ap (λ (x : Log). x.count) host) (ap (λ (x : Log). x.keep) host ∙ k.host_keep) para_keep same told is gone
       (para_reads p n gone.far keep lines2 gone.goes.accesses t2 gone.goes.last (para_turn d d.para gone.far) e same refl refl para_keep gone.goes.talks)
 
@@ -341,18 +371,23 @@ module _ {S T : Type 0} (h : Moves S) (p : Moves T) (lh : IsLawful h) (lp : IsLa
   rolls_back at mark from s t t2 lines ask_h ask_p ask2 ahead d e k first is tick marks back from2 =
       let w : IsGoing h p n few keep w0 ahead from s t d.chip ask_h ask_p d.host.list.items d.para.list.items d.host.count d.para.count = k.way in
       let read : HasRead p n at keep from.state back.goes.last (para_turn d back.log at) e =
-      para_reads p n at keep lines back.goes.accesses from.state back.goes.last (para_turn d back.log at) e k.lines_is refl refl (back.keep_is ∙ k.para_keep) back.goes.talks in
+      para_reads p n at keep lines back.goes.accesses from.state back.goes.last (para_turn d back.log at) e k.lines_is refl refl (back.keep_is ∙ k.para_keep)
+      back.goes.talks in
       let there : IsAt h p n few keep w0 s from.state d.chip ask_h d.host.list.items back.log.list.items d.host.count back.log.count =
-      rolled_back h p lh lp n few keep w0 from s t d.chip ask_h ask_p d.host.list.items d.para.list.items back.log.list.items d.host.count d.para.count back.log.count ahead w is
+      rolled_back h p lh lp n few keep w0 from s t d.chip ask_h ask_p d.host.list.items d.para.list.items back.log.list.items d.host.count d.para.count
+      back.log.count ahead w is
       (back.list_is ∙ ap (λ (x : ℕ). take x d.para.list.items) (sym marks.0)) (back.count_is ∙ sym marks.1) in
       let due : tick_of ask_h ≡ h.due there.host_last = due_of there in
       let going : IsGoing h p n few keep w0 false from2 s t2 d.chip ask_h ask2 d.host.list.items e.para.list.items d.host.count e.para.count =
-      goes_on h p lh lp n few keep at w0 from2 s from.state back.goes.last t2 d.chip ask_h ask2 d.host.list.items back.log.list.items e.para.list.items read.entries d.host.count back.log.count e.para.count false
+      goes_on h p lh lp n few keep at w0 from2 s from.state back.goes.last t2 d.chip ask_h ask2 d.host.list.items back.log.list.items e.para.list.items
+      read.entries d.host.count back.log.count e.para.count false
       there read.way back.goes.asked read.list_is read.count_is (λ b. cc) (λ b x low early. omega (arith, early, tick, due)) in
-      let less : rest_of p n false from.state ask2 < rest_of p n ahead from.state ask_p = back_smaller h p lh lp n few at from.state back.goes.last t2 d.chip ask_p ask2 read.entries ahead is read.way back.goes.asked in
+      let less : rest_of p n false from.state ask2 < rest_of p n ahead from.state ask_p =
+      back_smaller h p lh lp n few at from.state back.goes.last t2 d.chip ask_p ask2 read.entries ahead is read.way back.goes.asked in
       record {
         kept = record {
-          way = named false from2 s t2 d.chip e.chip ask_h ask2 d.host.list.items e.host.list.items e.para.list.items e.para.list.items d.host.count e.host.count e.para.count e.para.count
+          way = named false from2 s t2 d.chip e.chip ask_h ask2 d.host.list.items e.host.list.items e.para.list.items e.para.list.items d.host.count
+              e.host.count e.para.count e.para.count
               read.chip_is read.host_list refl read.host_count refl going;
           lines_is = k.lines_is ∙ ap lines_of (sym read.chip_is);
           host_keep = read.host_keep ∙ k.host_keep;
@@ -361,5 +396,7 @@ module _ {S T : Type 0} (h : Moves S) (p : Moves T) (lh : IsLawful h) (lp : IsLa
         smaller = omega arith;
       }
     where
-      due_of : (x : IsAt h p n few keep w0 s from.state d.chip ask_h d.host.list.items back.log.list.items d.host.count back.log.count) → tick_of ask_h ≡ h.due x.host_last
-      due_of x = let f2 : HostFirst h p n s x.host_last k.way.last ask_h = host_first h p n s x.host_last t k.way.last ask_h ask_p x.host_asked k.way.asked first in tick_of_first h n s x.host_last ask_h f2.pending f2.here
+      due_of : (x : IsAt h p n few keep w0 s from.state d.chip ask_h d.host.list.items back.log.list.items d.host.count back.log.count)
+          → tick_of ask_h ≡ h.due x.host_last
+      due_of x = let f2 : HostFirst h p n s x.host_last k.way.last ask_h = host_first h p n s x.host_last t k.way.last ask_h ask_p x.host_asked k.way.asked
+          first in tick_of_first h n s x.host_last ask_h f2.pending f2.here

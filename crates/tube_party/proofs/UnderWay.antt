@@ -15,7 +15,8 @@ use Rattle.tube_party.proofs.Ways.{IsWay}
 
 -- The reference, which began as w0, goes on from where the parties are, of which the host may have made looks that come later than the parasite's steps, and
 -- accesses that come later than what the parasite saw ahead of it; and what was kept is what it has done. At most `few` accesses of a side were done when it began.
-pub record IsAt {S T : Type 0} (h : Moves S) (p : Moves T) (n few keep : ℕ) (w0 : World S T) (s : S) (t : T) (c : State) (ask_h : Ask) (hl pl : List Entry) (hc pc : ℕ) : Type 0 where
+pub record IsAt {S T : Type 0} (h : Moves S) (p : Moves T) (n few keep : ℕ) (w0 : World S T) (s : S) (t : T) (c : State) (ask_h : Ask) (hl pl : List Entry)
+    (hc pc : ℕ) : Type 0 where
   pub host_last : S
   pub events : List Event
   pub host_asked : IsAsk h n host_last ask_h s
@@ -36,7 +37,8 @@ mark_of t len count = record { state = t; len = len; count = count }
 
 -- From there the parasite went on, as the chip shows itself to it, to where its step asks: past no event where it is not ahead, and else from where it can be
 -- rolled back to.
-pub record IsGoing {S T : Type 0} (h : Moves S) (p : Moves T) (n few keep : ℕ) (w0 : World S T) (ahead : Bool) (from : Mark T) (s : S) (t : T) (c : State) (ask_h ask_p : Ask)
+pub record IsGoing {S T : Type 0} (h : Moves S) (p : Moves T) (n few keep : ℕ) (w0 : World S T) (ahead : Bool) (from : Mark T) (s : S) (t : T) (c : State)
+    (ask_h ask_p : Ask)
     (hl pl : List Entry) (hc pc : ℕ) : Type 0 where
   pub mark : T
   pub last : T

@@ -43,7 +43,8 @@ pub record IsWay {T : Type 0} (p : Moves T) (n sure : ℕ) (c : State) (t last :
 -- ---- What is kept
 
 -- the list grows at its end alone
-longer_by : (keep : ℕ) (list : List Entry) (x : Entry) → (length list ≤ length (note_leaves keep list x)) × ((n : ℕ) → n ≤ length list → take n (note_leaves keep list x) ≡ take n list)
+longer_by : (keep : ℕ) (list : List Entry) (x : Entry) → (length list ≤ length (note_leaves keep list x)) ×
+    ((n : ℕ) → n ≤ length list → take n (note_leaves keep list x) ≡ take n list)
 longer_by keep list x = elim (nat_lt (length list) keep) as (λ b. (length list ≤ length (cond b (list ++ x ∷ []) list))
     × ((n : ℕ) → n ≤ length list → take n (cond b (list ++ x ∷ []) list) ≡ take n list)) [
       | true ↦ (let l = length-append list (x ∷ []) in omega arith, λ n le. take-append-le n list (x ∷ []) le)
@@ -78,7 +79,8 @@ all_own (e ∷ events) each =
 pub kept_way : (l events : List Event) (keep : ℕ) (list : List Entry) (count : ℕ) → All (λ (e : Event). e.side ≡ Para) events → IsKept Para l keep list count
     → IsKept Para (l ++ events) keep (note_all_leaves keep list (accesses events)) (count + length (accesses events))
 kept_way l events keep list count each k =
-    subst (λ (z : List Event). IsKept Para (l ++ events) keep (note_all_leaves keep list (accesses z)) (count + length (accesses z))) (all_own events each).0 (kept_more Para l events keep list count k)
+    subst (λ (z : List Event). IsKept Para (l ++ events) keep (note_all_leaves keep list (accesses z)) (count + length (accesses z))) (all_own events each).0
+    (kept_more Para l events keep list count k)
 
 pub kept_beside : (l events : List Event) (keep : ℕ) (list : List Entry) (count : ℕ) → All (λ (e : Event). e.side ≡ Para) events → IsKept Host l keep list count
     → IsKept Host (l ++ events) keep list count
@@ -90,7 +92,8 @@ kept_beside l events keep list count each k =
 
 -- ---- The chip may change where what it showed stays
 
-one_still : (c d : State) (t : ℕ) (side : Side) (q : Query) (a : Answer) (xs : List Entry) → ((act c Para q).0 ≡ c) × ((act c Para q).1 ≡ a) → entry_of t side q a ++ xs ≡ [] → lines_of d ≡ lines_of c
+one_still : (c d : State) (t : ℕ) (side : Side) (q : Query) (a : Answer) (xs : List Entry) → ((act c Para q).0 ≡ c) × ((act c Para q).1 ≡ a)
+    → entry_of t side q a ++ xs ≡ [] → lines_of d ≡ lines_of c
     → (((act d Para q).0 ≡ d) × ((act d Para q).1 ≡ a)) × (xs ≡ [])
 one_still c d t side look a xs idle none lines = ((refl, ap (λ (x : Lines). Seen x) lines ∙ idle.1), none)
 one_still c d t side (access op) (Byte b) xs idle none lines = cc
@@ -113,20 +116,23 @@ module _ {T : Type 0} (p : Moves T) (lp : IsLawful p) (n : ℕ) where
     pub each : All (IsOn to) events
     pub few : length (accesses events) + from ≤ to
 
-  course_by : (i : ℕ) (s last : T) (events : List Event) → ((u : T) (others : List Event) → Runs p Para n i u (course others last) → IsCourse (p.due u) (p.due last) others)
+  course_by : (i : ℕ) (s last : T) (events : List Event)
+      → ((u : T) (others : List Event) → Runs p Para n i u (course others last) → IsCourse (p.due u) (p.due last) others)
       → First p Para n (suc i) s events last → IsCourse (p.due s) (p.due last) events
   course_by i s last events on (Over ee es) =
       subst (IsCourse (p.due s) (p.due last)) (sym ee) (record { each = All-nil (IsOn (p.due last)); few = omega (arith, ap p.due es) })
   course_by i s last events on (Silent i' ei low none runs) =
       let up : p.due s < p.due (p.next s None) = lp.rises s None in
-      let rest : IsCourse (p.due (p.next s None)) (p.due last) events = on (p.next s None) events (subst (λ (x : ℕ). Runs p Para n x (p.next s None) (course events last)) (omega arith) runs) in
+      let rest : IsCourse (p.due (p.next s None)) (p.due last) events =
+      on (p.next s None) events (subst (λ (x : ℕ). Runs p Para n x (p.next s None) (course events last)) (omega arith) runs) in
       record { each = rest.each; few = omega (arith, rest.few) }
   course_by i s last events on (Asking i' q a others ei low is ee runs) =
       let up : p.due s < p.due (p.next s (Some a)) = lp.rises s (Some a) in
       let rest : IsCourse (p.due (p.next s (Some a))) (p.due last) others =
       on (p.next s (Some a)) others (subst (λ (x : ℕ). Runs p Para n x (p.next s (Some a)) (course others last)) (omega arith) runs) in
       let one : length (entry_of (p.due s) Para q a) ≤ 1 = at_most_one (p.due s) Para q a in
-      let both : length (entry_of (p.due s) Para q a ++ accesses others) ≡ length (entry_of (p.due s) Para q a) + length (accesses others) = length-append (entry_of (p.due s) Para q a) (accesses others) in
+      let both : length (entry_of (p.due s) Para q a ++ accesses others) ≡ length (entry_of (p.due s) Para q a) + length (accesses others) =
+      length-append (entry_of (p.due s) Para q a) (accesses others) in
       let e : Event = event (p.due s) Para q a in
       subst (IsCourse (p.due s) (p.due last)) (sym ee)
       (record { each = All-cons (IsOn (p.due last)) e others (refl, low, omega (arith, rest.few)) rest.each; few = omega (arith, rest.few) })
@@ -134,7 +140,8 @@ module _ {T : Type 0} (p : Moves T) (lp : IsLawful p) (n : ℕ) where
   pub course_of : (k : ℕ) (s last : T) (events : List Event) → Runs p Para n k s (course events last) → IsCourse (p.due s) (p.due last) events
   course_of zero s last events runs =
       subst (IsCourse (p.due s) (p.due last)) (sym runs.0) (record { each = All-nil (IsOn (p.due last)); few = omega (arith, ap p.due runs.1) })
-  course_of (suc i) s last events runs = course_by i s last events (λ u others on. course_of i u last others on) (first_of_runs p Para n (suc i) s events last runs)
+  course_of (suc i) s last events runs = course_by i s last events (λ u others on. course_of i u last others on)
+      (first_of_runs p Para n (suc i) s events last runs)
 
 -- ---- Ways
 
@@ -144,11 +151,20 @@ module _ {T : Type 0} (p : Moves T) (n sure : ℕ) (c : State) where
   no_way t = record { steps = 0; events = []; runs = (refl, refl); idle = All-nil (IsIdle c); early = All-nil (IsBelow sure); noted = refl }
 
   -- steps that ask nothing, and looks
-  looks_by : (k : ℕ) (s last : T) (o : Option Query) → p.asks s ≡ o → p.due s < n → ((u : T) → Looks p n (shown_lines (lines_of c) sure) k u last → IsWay p n sure c u last [])
+  looks_by : (k : ℕ) (s last : T) (o : Option Query) → p.asks s ≡ o → p.due s < n
+      → ((u : T) → Looks p n (shown_lines (lines_of c) sure) k u last → IsWay p n sure c u last [])
       → After p n (lines_of c) sure k s last o → IsWay p n sure c s last []
   looks_by k s last None is low on h =
       let w : IsWay p n sure c (p.next s None) last [] = on (p.next s None) h in
-      record { steps = suc w.steps; events = w.events; runs = runs_silent p Para n w.steps s w.events last low is w.runs; idle = w.idle; early = w.early; noted = w.noted }
+      record {
+        steps = suc w.steps;
+        events = w.events;
+        runs = runs_silent p Para n w.steps s w.events last low is w.runs;
+        idle = w.idle;
+        early = w.early;
+        noted
+            = w.noted;
+      }
   looks_by k s last (Some q) is low on h =
       let a : Answer = Seen (lines_of c) in
       let e : Event = event (p.due s) Para look a in
@@ -167,14 +183,17 @@ module _ {T : Type 0} (p : Moves T) (n sure : ℕ) (c : State) where
   way_of_looks (suc k) s last h = looks_by k s last (p.asks s) refl h.0 (λ u on. way_of_looks k u last on) h.1
 
   -- an access in front
-  pub way_first : (s on last : T) (op : Op) (byte : ℕ) (entries : List Entry) → p.due s < n → p.asks s ≡ Some (access op) → on ≡ p.next s (Some (Byte byte)) → p.due s < sure
-      → chip_after c Para op ≡ c → byte ≡ answer_of c Para op → IsWay p n sure c on last entries → IsWay p n sure c s last (passed_entry Para (p.due s) op byte ∷ entries)
+  pub way_first : (s on last : T) (op : Op) (byte : ℕ) (entries : List Entry) → p.due s < n → p.asks s ≡ Some (access op) → on ≡ p.next s (Some (Byte byte))
+      → p.due s < sure
+      → chip_after c Para op ≡ c → byte ≡ answer_of c Para op → IsWay p n sure c on last entries
+      → IsWay p n sure c s last (passed_entry Para (p.due s) op byte ∷ entries)
   way_first s on last op byte entries low asks goes early stays is w =
       let e : Event = event (p.due s) Para (access op) (Byte byte) in
       record {
         steps = suc w.steps;
         events = e ∷ w.events;
-        runs = runs_asking p Para n w.steps s (access op) (Byte byte) w.events last low asks (subst (λ (x : T). Runs p Para n w.steps x (course w.events last)) goes w.runs);
+        runs = runs_asking p Para n w.steps s (access op) (Byte byte) w.events last low asks
+            (subst (λ (x : T). Runs p Para n w.steps x (course w.events last)) goes w.runs);
         idle = All-cons (IsIdle c) e w.events (stays, ap (λ (x : ℕ). Byte x) (sym is)) w.idle;
         early = All-cons (IsBelow sure) e w.events early w.early;
         noted = ap (λ (l : List Entry). passed_entry Para (p.due s) op byte ∷ l) w.noted;

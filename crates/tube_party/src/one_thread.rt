@@ -274,8 +274,9 @@ pub fn go_on_from<H: Party, P: Rewinds>(
                 );
                 mark = table.para_log.mark();
                 let sure = lookahead(host_ask, 0);
-                (is_ahead, para_ask) =
-                    go_on(&mut para, &mut past, &mut table, n, &lines, ahead, sure);
+                (is_ahead, para_ask) = go_on(
+                    &mut para, &mut past, &mut table, n, &lines, ahead, sure,
+                );
                 stride = stride.saturating_add(stride / 4).min(FURTHEST);
             }
         }

@@ -11,8 +11,8 @@ use beeb_bits::{Side, Tick};
 use tube_chip::{Chip, Op};
 use tube_trace::Entry;
 
-/// The chip, with what is kept of both sides' accesses. It answers accesses of the side whose turn it is that come below a tick: the
-/// parasite's reads of its status, and of the host's those that leave the lines, or, where the parasite has read the chip ahead of it, those that leave the chip.
+/// The chip, with what is kept of both sides' accesses. It answers accesses below a tick of the side whose turn it is: the parasite's reads of
+/// its status, and of the host's those that leave the lines, or the chip where the parasite has read it ahead of the host.
 #[derive(Drop)]
 pub(crate) struct Table {
     pub(crate) chip: Chip,

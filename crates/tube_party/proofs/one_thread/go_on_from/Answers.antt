@@ -26,8 +26,10 @@ loop-side-smaller-then-not-stays g c =
     let e : first_of c.loop-side.host_ask c.loop-side.para_ask ≡ Some Host = sym c.first_of.ensures ∙ c.in-Some.is ∙ ap (λ x. Some x) c.in-Host.is in
     (rolls_back g.H.Party.moves g.P.Party.moves g.met.H.Party.lawful g.met.P.Party.lawful c.args.n.0 (length c.args.entries.now) c.args.room.keep
     (after_entries (g.H.Party.state c.args.host) (g.P.Party.state c.args.para) c.args.entries.now)
-    c.tick_of-at.result.0 c.loop-side.mark (mark_of (g.P.Party.state (g.P.Rewinds.before c.loop-side.past c.loop-side.para)) c.loop-side.mark.len c.loop-side.mark.count)
-    (g.H.Party.state c.loop-side.host) (g.P.Party.state c.loop-side.para) (g.P.Party.state c.roll_back-para_ask.new.machine) c.loop-side.lines c.loop-side.host_ask c.loop-side.para_ask c.roll_back-para_ask.result c.loop-side.is_ahead
+    c.tick_of-at.result.0 c.loop-side.mark (mark_of (g.P.Party.state (g.P.Rewinds.before c.loop-side.past c.loop-side.para)) c.loop-side.mark.len
+    c.loop-side.mark.count)
+    (g.H.Party.state c.loop-side.host) (g.P.Party.state c.loop-side.para) (g.P.Party.state c.roll_back-para_ask.new.machine) c.loop-side.lines
+    c.loop-side.host_ask c.loop-side.para_ask c.roll_back-para_ask.result c.loop-side.is_ahead
     (record {
       chip = c.loop-side.table.chip;
       host = c.loop-side.table.host_log;
@@ -44,15 +46,18 @@ loop-side-smaller-then-not-stays g c =
       para_keep = c.loop-side.invariant.para_keep;
     }) e
     (c.stays.ensures.ahead c.if-not-stays.true) c.tick_of-at.ensures (refl, refl) c.roll_back-para_ask.ensures
-    (mark_of (g.P.Party.state (g.P.Rewinds.before c.roll_back-para_ask.new.past c.roll_back-para_ask.new.machine)) c.loop-side.mark.len c.loop-side.mark.count)).smaller
+    (mark_of (g.P.Party.state (g.P.Rewinds.before c.roll_back-para_ask.new.past c.roll_back-para_ask.new.machine)) c.loop-side.mark.len
+    c.loop-side.mark.count)).smaller
 
 pub loop-side-preserved-then-not-stays : goal.loop-side-preserved-then-not-stays
 loop-side-preserved-then-not-stays g c =
     let e : first_of c.loop-side.host_ask c.loop-side.para_ask ≡ Some Host = sym c.first_of.ensures ∙ c.in-Some.is ∙ ap (λ x. Some x) c.in-Host.is in
     (rolls_back g.H.Party.moves g.P.Party.moves g.met.H.Party.lawful g.met.P.Party.lawful c.args.n.0 (length c.args.entries.now) c.args.room.keep
     (after_entries (g.H.Party.state c.args.host) (g.P.Party.state c.args.para) c.args.entries.now)
-    c.tick_of-at.result.0 c.loop-side.mark (mark_of (g.P.Party.state (g.P.Rewinds.before c.loop-side.past c.loop-side.para)) c.loop-side.mark.len c.loop-side.mark.count)
-    (g.H.Party.state c.loop-side.host) (g.P.Party.state c.loop-side.para) (g.P.Party.state c.roll_back-para_ask.new.machine) c.loop-side.lines c.loop-side.host_ask c.loop-side.para_ask c.roll_back-para_ask.result c.loop-side.is_ahead
+    c.tick_of-at.result.0 c.loop-side.mark (mark_of (g.P.Party.state (g.P.Rewinds.before c.loop-side.past c.loop-side.para)) c.loop-side.mark.len
+    c.loop-side.mark.count)
+    (g.H.Party.state c.loop-side.host) (g.P.Party.state c.loop-side.para) (g.P.Party.state c.roll_back-para_ask.new.machine) c.loop-side.lines
+    c.loop-side.host_ask c.loop-side.para_ask c.roll_back-para_ask.result c.loop-side.is_ahead
     (record {
       chip = c.loop-side.table.chip;
       host = c.loop-side.table.host_log;
@@ -69,7 +74,8 @@ loop-side-preserved-then-not-stays g c =
       para_keep = c.loop-side.invariant.para_keep;
     }) e
     (c.stays.ensures.ahead c.if-not-stays.true) c.tick_of-at.ensures (refl, refl) c.roll_back-para_ask.ensures
-    (mark_of (g.P.Party.state (g.P.Rewinds.before c.roll_back-para_ask.new.past c.roll_back-para_ask.new.machine)) c.loop-side.mark.len c.loop-side.mark.count)).kept
+    (mark_of (g.P.Party.state (g.P.Rewinds.before c.roll_back-para_ask.new.past c.roll_back-para_ask.new.machine)) c.loop-side.mark.len
+    c.loop-side.mark.count)).kept
 
 pub loop-side-smaller-in-Host : goal.loop-side-smaller-in-Host
 loop-side-smaller-in-Host g c =
@@ -77,7 +83,8 @@ loop-side-smaller-in-Host g c =
     (host_turn g.H.Party.moves g.P.Party.moves g.met.H.Party.lawful g.met.P.Party.lawful c.args.n.0 (length c.args.entries.now) c.args.room.keep
     (after_entries (g.H.Party.state c.args.host) (g.P.Party.state c.args.para) c.args.entries.now)
     c.lookahead-table.result.0 (mark_of (g.P.Party.state (g.P.Rewinds.before c.loop-side.past c.loop-side.para)) c.loop-side.mark.len c.loop-side.mark.count)
-    (g.H.Party.state c.loop-side.host) (g.H.Party.state c.act.new.machine) (g.H.Party.state c.advance_at-host_ask.new.self) (g.P.Party.state c.loop-side.para) c.loop-side.lines c.act.new.lines
+    (g.H.Party.state c.loop-side.host) (g.H.Party.state c.act.new.machine) (g.H.Party.state c.advance_at-host_ask.new.self) (g.P.Party.state c.loop-side.para)
+    c.loop-side.lines c.act.new.lines
     c.loop-side.host_ask c.loop-side.para_ask c.advance_at-host_ask.result c.loop-side.is_ahead (attended c.loop-side.table)
     (record {
       chip = c.act.new.chip;
@@ -97,7 +104,8 @@ loop-side-preserved-in-Host g c =
     (host_turn g.H.Party.moves g.P.Party.moves g.met.H.Party.lawful g.met.P.Party.lawful c.args.n.0 (length c.args.entries.now) c.args.room.keep
     (after_entries (g.H.Party.state c.args.host) (g.P.Party.state c.args.para) c.args.entries.now)
     c.lookahead-table.result.0 (mark_of (g.P.Party.state (g.P.Rewinds.before c.loop-side.past c.loop-side.para)) c.loop-side.mark.len c.loop-side.mark.count)
-    (g.H.Party.state c.loop-side.host) (g.H.Party.state c.act.new.machine) (g.H.Party.state c.advance_at-host_ask.new.self) (g.P.Party.state c.loop-side.para) c.loop-side.lines c.act.new.lines
+    (g.H.Party.state c.loop-side.host) (g.H.Party.state c.act.new.machine) (g.H.Party.state c.advance_at-host_ask.new.self) (g.P.Party.state c.loop-side.para)
+    c.loop-side.lines c.act.new.lines
     c.loop-side.host_ask c.loop-side.para_ask c.advance_at-host_ask.result c.loop-side.is_ahead (attended c.loop-side.table)
     (record {
       chip = c.act.new.chip;
@@ -114,9 +122,13 @@ loop-side-preserved-in-Host g c =
 pub act-requires-in-Para-clause-count : goal.act-requires-in-Para-clause-count
 act-requires-in-Para-clause-count g c =
     let e : first_of c.loop-side.host_ask c.loop-side.para_ask ≡ Some Para = sym c.first_of.ensures ∙ c.in-Some.is ∙ ap (λ x. Some x) c.in-Para.is in
-    omega (arith, c.requires.ticks, para_count g.H.Party.moves g.P.Party.moves g.met.H.Party.lawful g.met.P.Party.lawful c.args.n.0 (length c.args.entries.now)
-    c.args.room.keep (after_entries (g.H.Party.state c.args.host) (g.P.Party.state c.args.para) c.args.entries.now) _ _ _ _ _ _ _ _ _ _ _
-    c.loop-side.invariant.way e)
+    omega (
+      arith,
+      c.requires.ticks,
+      para_count g.H.Party.moves g.P.Party.moves g.met.H.Party.lawful g.met.P.Party.lawful c.args.n.0 (length c.args.entries.now)
+          c.args.room.keep (after_entries (g.H.Party.state c.args.host) (g.P.Party.state c.args.para) c.args.entries.now) _ _ _ _ _ _ _ _ _ _ _
+          c.loop-side.invariant.way e,
+    )
 
 pub loop-side-smaller : goal.loop-side-smaller
 loop-side-smaller g c =
@@ -125,7 +137,8 @@ loop-side-smaller g c =
     (after_entries (g.H.Party.state c.args.host) (g.P.Party.state c.args.para) c.args.entries.now)
     c.lookahead-sure.result.0 (mark_of (g.P.Party.state (g.P.Rewinds.before c.loop-side.past c.loop-side.para)) c.loop-side.mark.len c.loop-side.mark.count)
     (mark_of (g.P.Party.state (g.P.Rewinds.before c.go_on.new.past c.go_on.new.machine)) c.mark-mark-in-Para.result.len c.mark-mark-in-Para.result.count)
-    (g.H.Party.state c.loop-side.host) (g.P.Party.state c.loop-side.para) (g.P.Party.state c.act-in-Para.new.machine) c.loop-side.lines c.act-in-Para.new.lines c.loop-side.host_ask c.loop-side.para_ask c.loop-side.is_ahead
+    (g.H.Party.state c.loop-side.host) (g.P.Party.state c.loop-side.para) (g.P.Party.state c.act-in-Para.new.machine) c.loop-side.lines c.act-in-Para.new.lines
+    c.loop-side.host_ask c.loop-side.para_ask c.loop-side.is_ahead
     (attended c.loop-side.table)
     (record {
       chip = c.act-in-Para.new.chip;
@@ -136,7 +149,8 @@ loop-side-smaller g c =
       is_read = c.loop-side.table.is_read;
     })
     (attended c.go_on.new.table)
-    (standing_of c.go_on.result.0 c.go_on.result.1 (g.P.Party.state (g.P.Rewinds.before c.go_on.new.past c.go_on.new.machine)) (g.P.Party.state c.go_on.new.machine))
+    (standing_of c.go_on.result.0 c.go_on.result.1 (g.P.Party.state (g.P.Rewinds.before c.go_on.new.past c.go_on.new.machine))
+    (g.P.Party.state c.go_on.new.machine))
     c.loop-side.invariant e c.act-in-Para.ensures.acts refl
     (c.act-in-Para.ensures.keep ∙ c.loop-side.invariant.para_keep) c.act-in-Para.ensures.kept
     c.lookahead-sure.ensures (refl, c.mark-mark-in-Para.ensures.len, c.mark-mark-in-Para.ensures.count) c.go_on.ensures).smaller
@@ -148,7 +162,8 @@ loop-side-preserved g c =
     (after_entries (g.H.Party.state c.args.host) (g.P.Party.state c.args.para) c.args.entries.now)
     c.lookahead-sure.result.0 (mark_of (g.P.Party.state (g.P.Rewinds.before c.loop-side.past c.loop-side.para)) c.loop-side.mark.len c.loop-side.mark.count)
     (mark_of (g.P.Party.state (g.P.Rewinds.before c.go_on.new.past c.go_on.new.machine)) c.mark-mark-in-Para.result.len c.mark-mark-in-Para.result.count)
-    (g.H.Party.state c.loop-side.host) (g.P.Party.state c.loop-side.para) (g.P.Party.state c.act-in-Para.new.machine) c.loop-side.lines c.act-in-Para.new.lines c.loop-side.host_ask c.loop-side.para_ask c.loop-side.is_ahead
+    (g.H.Party.state c.loop-side.host) (g.P.Party.state c.loop-side.para) (g.P.Party.state c.act-in-Para.new.machine) c.loop-side.lines c.act-in-Para.new.lines
+    c.loop-side.host_ask c.loop-side.para_ask c.loop-side.is_ahead
     (attended c.loop-side.table)
     (record {
       chip = c.act-in-Para.new.chip;
@@ -159,7 +174,8 @@ loop-side-preserved g c =
       is_read = c.loop-side.table.is_read;
     })
     (attended c.go_on.new.table)
-    (standing_of c.go_on.result.0 c.go_on.result.1 (g.P.Party.state (g.P.Rewinds.before c.go_on.new.past c.go_on.new.machine)) (g.P.Party.state c.go_on.new.machine))
+    (standing_of c.go_on.result.0 c.go_on.result.1 (g.P.Party.state (g.P.Rewinds.before c.go_on.new.past c.go_on.new.machine))
+    (g.P.Party.state c.go_on.new.machine))
     c.loop-side.invariant e c.act-in-Para.ensures.acts refl
     (c.act-in-Para.ensures.keep ∙ c.loop-side.invariant.para_keep) c.act-in-Para.ensures.kept
     c.lookahead-sure.ensures (refl, c.mark-mark-in-Para.ensures.len, c.mark-mark-in-Para.ensures.count) c.go_on.ensures).kept
