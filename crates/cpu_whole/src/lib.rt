@@ -3,6 +3,7 @@
 
 mod alone;
 mod at_once;
+mod branch;
 mod known;
 mod operate;
 mod operations;
@@ -11,5 +12,6 @@ mod plain;
 mod ways;
 
 pub use at_once::whole;
+pub use branch::branch_to;
 pub use outside::{LastAccess, last_access, take_in};
 pub use plain::Plain;

@@ -7,7 +7,7 @@ ghost use Rattle.host_mach.specs.Step.{is_tube};
 use beeb_bits::{Clock, Tick};
 use bus_plug::BusDevice;
 use cpu_alu::{Cycle, Regs};
-use cpu_whole::{LastAccess, Plain, last_access, whole};
+use cpu_whole::{LastAccess, Plain, branch_to, last_access, whole};
 use host_bus::Bus;
 use host_devices::stretch;
 use op_table::Part;
@@ -217,6 +217,11 @@ impl<D: BusDevice> TubeBus<()> for HostBus<D> {
             Cycle::Write(at, v) if self.answers(at) => Some(Op::Write((at % 8) as u8, v)),
             _ => None,
         }
+    }
+
+    #[inline(always)]
+    fn branch_to<L>(&self, part: Part, from: &Regs, to: &Regs) -> u64 {
+        branch_to::<(), HostBus<D>, L>(part, from, to, self)
     }
 
     fn exchange(&mut self, t: u64, cycle: Cycle, _notes: &mut ()) -> Result<Done, Unable> {

@@ -5,7 +5,7 @@ use crate::memory::{Memory, ROM_START, TUBE, asked};
 use crate::notes::Notes;
 use beeb_bits::Clock;
 use cpu_alu::{Cycle, Regs};
-use cpu_whole::{LastAccess, Plain, last_access, whole};
+use cpu_whole::{LastAccess, Plain, branch_to, last_access, whole};
 use op_table::Part;
 use std::marker::Model;
 use tube_chip::{Lines, Op};
@@ -189,9 +189,18 @@ impl<N: Notes> TubeBus<N> for ParaBus {
         last_access::<N, ParaBus, L>(part, regs, self)
     }
 
+    // The boot ROM is switched out by an access to the Tube.
     #[inline(always)]
     fn asked(&self, cycle: Cycle) -> Option<Op> {
+        if self.memory.rom_in() {
+            return None;
+        }
         asked(cycle)
+    }
+
+    #[inline(always)]
+    fn branch_to<L>(&self, part: Part, from: &Regs, to: &Regs) -> u64 {
+        branch_to::<N, ParaBus, L>(part, from, to, self)
     }
 
     #[inline(always)]

@@ -18,139 +18,164 @@ use Rattle.tube_party.specs.Moves.{FitsAnswer, Looks, Talks, IsAnswered, shown_l
 use Rattle.tube_party.specs.Steps.{talks_on, talks_shut, hears_shut}
 use Rattle.tube_machine.specs.Wiring.{Wiring, IsWired, StaysPlain}
 use Rattle.tube_machine.specs.Step.{At, at_of, is_break, asks, asks_by, after_cycle, after_look, closed_to, next_state, moves_of}
-use Rattle.tube_machine.specs.Exchange.{IsAtTube, IsRun, IsServedRun, IsShut, owed_at}
+use Rattle.tube_machine.specs.Exchange.{IsAtTube, IsPassing, IsRun, IsServedRun, IsShut, owed_at}
 use Rattle.tube_machine.specs.declared.steps.Left.{Left}
 use Rattle.tube_machine.specs.declared.steps.Left.TheVariants as left
 use Rattle.tube_machine.specs.Lawful.{asked_closed, break_closed, next_closed}
 use Rattle.tube_machine.specs.NoBreak.{no-break, plain-asks}
 use Rattle.tube_machine.specs.Whole.{reach_of, IsMemory, StaysAtRest, IsOnward, IsServed}
 use Rattle.tube_machine.proofs.UnderWay.{IsUnderWay, IsFree, Came, begins, caught-up, at-look}
-use Rattle.tube_machine.proofs.WholeSteps.{AtTube, to-tube, look-on, came-there}
+use Rattle.tube_machine.proofs.WholeSteps.{AtTube, Closes, carried-closed, to-tube, look-on, came-there}
 use Rattle.tube_machine.proofs.Taken.{at-tube, taken}
 use Rattle.tube_machine.proofs.Stops.{looks-cycle, next-cycle}
 
+-- from a bus whose devices need not be closed yet as far as it counts
 module _ (part : Part) {B D : Type 0} (w : Wiring B) (wired : IsWired w) (reads writes : ℕ → Bool) (memory : IsMemory w reads writes)
     (rests : B → Lines → Bool → ℕ → Type 0) (stays_at_rest : StaysAtRest w writes rests) (plain : B → Lines → Bool) (stays : StaysPlain w plain)
-    (answers : D → ℕ → Op → ℕ → D → Type 0) (lines : Lines) (masks : Bool) (quiet n bound from : ℕ) (m : B) (r : Regs) (o : LastAccess) (asked : Op) (byte : ℕ) (d e : D)
-    (cycle : n ≡ w.cycle m) (before : w.closed m ≤ from + 1) (first : plain m lines ≡ true) (free : IsFree part w bound m)
-    (outside : IsOutside part (reach_of w reads writes) from r m o) (asks_it : asks_by w m (Some (access_of o)) ≡ Some (access asked)) (some : 1 < n)
-    (fits : from + n * o.cycles + n ≤ bound) (still : from + n * o.cycles + n ≤ quiet) (rest : rests m lines masks quiet) (held : masks ≡ has_flag r.p INTERRUPT)
-    (answered : answers d (from + n * o.cycles) asked byte e) (b : B) (after_is : b ≡ w.after (w.close m (from + n * o.cycles + 1)) (access_of o))
-    (fast : w.takes (w.close m (from + n * o.cycles + 1)) (from + n * o.cycles) (access_of o) ≡ w.cycle (w.close m (from + n * o.cycles + 1)))
-    (shut : w.closed b ≡ w.closed (w.close m (from + n * o.cycles + 1))) where
+    (answers : D → ℕ → Op → ℕ → D → Type 0) (lines : Lines) (masks : Bool) (quiet n bound : ℕ) (m : B) (r : Regs) (o : LastAccess) (asked : Op) (byte : ℕ)
+    (cycle : n ≡ w.cycle m) (first : plain m lines ≡ true) (free : IsFree part w bound m)
+    (outside : (t : ℕ) → IsOutside part (reach_of w reads writes) t r m o) (passing : IsPassing w m (access_of o) asked) (some : 1 < n)
+    (rest : rests m lines masks quiet) (held : masks ≡ has_flag r.p INTERRUPT) where
   abbrev c : Cycle
   c = access_of o
 
-  abbrev top : ℕ
-  top = from + n * o.cycles
+  -- the tick of the access of an instruction that begins at a tick
+  abbrev pub top : ℕ → ℕ
+  top from = from + n * o.cycles
 
-  abbrev start : At B
-  start = at_of (fresh Instruction r) m from
+  -- closed so far, at the start of the instruction, and behind it
+  abbrev pub starts : ℕ → ℕ → At B
+  starts u from = at_of (fresh Instruction r) (w.close m u) from
 
-  -- before the access, behind it, and behind the look that follows
-  abbrev there : At B
-  there = at_of outside.last m top
-
-  abbrev on : cpu.State
-  on = after_byte part outside.last byte
-
-  abbrev over_there : At B
-  over_there = at_of on b (top + (n - 1))
-
-  abbrev ended : At B
-  ended = at_of (fresh Instruction (outcome part o r byte)) (w.close b (top + n)) (top + n)
+  abbrev pub ended : ℕ → At B
+  ended from = at_of (fresh Instruction (outcome part o r byte)) (w.close m (top from + n)) (top from + n)
 
   at_tube : (t : ℕ) → IsAtTube w (w.close m t) c
-  at_tube t = at-tube part w m (w.close m t) c (wired.tube_close m t) (subst (λ (q : Option Query). MatchOption q ⊥ (λ x. FitsAnswer x (Byte 0))) (sym asks_it) tt)
+  at_tube t = at-tube part w m (w.close m t) c (wired.tube_close m t) (subst (λ (q : Option Query). MatchOption q ⊥ (λ x. FitsAnswer x (Byte 0))) (sym passing.asks) tt)
 
-  at_next : AtTube part w wired reads writes memory rests stays_at_rest plain stays bound bound lines bound n start masks quiet first (next_cycle part outside.last)
-  at_next = subst (AtTube part w wired reads writes memory rests stays_at_rest plain stays bound bound lines bound n start masks quiet first) (sym outside.next) (w.close m 0, at_tube 0)
+  free_to : (u far : ℕ) → IsFree part w far m → IsFree part w far (w.close m u)
+  free_to u far clear t low = wired.pending_close m u t ∙ clear t low
 
-  to-there : (until sure : ℕ) → bound ≤ until → IsUnderWay part w plain bound n until lines sure start there from
-  to-there until sure in_run =
-      let begun : IsUnderWay part w plain bound n until lines sure start start from =
-      caught-up part w wired plain stays bound until lines sure start n start cycle (begins part Instruction r) before free (λ is. is) (0, refl) in
-      (to-tube part w wired reads writes memory rests stays_at_rest plain stays bound until lines sure n start masks quiet first o.cycles start from from outside.last m top
-      begun outside.carried at_next (omega arith) before refl (omega (arith, fits)) (omega (arith, fits, in_run)) (omega (arith, still)) rest).0
+  plain_to : (u : ℕ) → plain (w.close m u) lines ≡ true
+  plain_to u = stays.close m lines u ∙ first
 
-  -- no break comes there
-  unbroken : is_break part w there ≡ false
-  unbroken = no-break part w there (free top (omega (arith, fits, some)))
+  module _ (from u : ℕ) (d e : D) (low : u ≤ from) (before : w.closed m ≤ from + 1) (fits : top from + n ≤ bound) (still : top from + n ≤ quiet) (answered : answers d (top from) asked byte e) where
+    abbrev last : cpu.State
+    last = (outside from).last
 
-  asks-there : (u : ℕ) → asks part w (closed_to w there u) ≡ Some (access asked)
-  asks-there u =
-      plain-asks part w (closed_to w there u) (break_closed part w wired there u ∙ unbroken) ∙ ap (asks_by w (w.close m u)) outside.next
-      ∙ asked_closed part w wired false (Some c) m u ∙ asks_it
+    came : Closes part w wired reads writes memory from o.cycles (fresh Instruction r) m last m u
+    came = carried-closed part w wired reads writes memory from o.cycles (fresh Instruction r) m last m u (omega (arith, low)) (outside from).carried
 
-  cycle_on : n ≡ w.cycle b
-  cycle_on = cycle ∙ sym (ap w.cycle after_is ∙ wired.cycle_after (w.close m (top + 1)) c ∙ wired.cycle_close m (top + 1))
+    -- before the access, and behind it
+    abbrev there : At B
+    there = at_of last came.0 (top from)
 
-  free_on : (far : ℕ) → IsFree part w far m → IsFree part w far b
-  free_on far clear t low = ap (λ (x : B). w.pending x t) after_is ∙ wired.pending_after (w.close m (top + 1)) c t ∙ wired.pending_close m (top + 1) t ∙ clear t low
+    abbrev b : B
+    b = w.close m (top from + 1)
 
-  plain_on : plain b lines ≡ true
-  plain_on = ap (λ (x : B). plain x lines) after_is ∙ stays.after (w.close m (top + 1)) lines c ∙ stays.close m lines (top + 1) ∙ first
+    abbrev on : cpu.State
+    on = after_byte part last byte
 
-  closed_on : w.closed b ≤ top + 1
-  closed_on = let is = wired.closed m (top + 1) in omega (arith, shut, is, before)
+    abbrev over_there : At B
+    over_there = at_of on b (top from + (n - 1))
 
-  goes : (u : ℕ) → u ≤ top + 1 → over_there ≡ next_state part w (closed_to w there u) (Some (Byte byte))
-  goes u high =
-      let pends : w.pending b (top + (n - 1)) ≡ false = free_on bound free (top + (n - 1)) (omega (arith, fits, some)) in
-      sym (ap (λ (p : Bool). after_cycle part w (at_of outside.last b top) (p && halted part outside.last) on n) pends
-      ∙ ap (λ (q : Option Cycle). at_of on b (if is_none q then top + (n - 1) else top + n)) (outside.over byte))
-      ∙ taken part w wired there c b byte n outside.next unbroken (at_tube (top + 1)) after_is cycle_on fast
-      ∙ sym (next_closed part w wired there u (Some (Byte byte)) high)
+    same : (v : ℕ) → u ≤ v → w.close came.0 v ≡ w.close m v
+    same = came.1.1
 
-  looked : ended ≡ after_look part w (closed_to w over_there (over_there.due + 1)) lines
-  looked =
-      let rest_on : rests b lines masks quiet = subst (λ (x : B). rests x lines masks quiet) (sym after_is)
-      (stays_at_rest.tube (w.close m (top + 1)) lines masks quiet c (stays_at_rest.close m lines masks quiet (top + 1) rest (omega (arith, still, some))) (at_tube (top + 1))) in
-      let held_on : masks ≡ has_flag (after part on).p INTERRUPT =
-      held ∙ sym (outside.masks byte) ∙ ap (λ (q : Regs). has_flag q.p INTERRUPT) (sym (outside.regs byte)) in
-      let tick : top + n ≡ over_there.due + 1 = omega (arith, some) in
-      ap (λ (q : Regs). at_of (fresh Instruction q) (w.close b (top + n)) (top + n)) (sym (outside.regs byte))
-      ∙ ap (λ (t : ℕ). at_of (fresh Instruction (after part on)) (w.close b t) t) tick
-      ∙ look-on part w wired reads writes memory rests stays_at_rest plain stays on b over_there.due quiet lines masks plain_on rest_on (omega (arith, still, some)) held_on
+    same_on : w.close came.0 (top from + 1) ≡ b
+    same_on = same (top from + 1) (omega (arith, low))
 
-  behind-look : (until sure : ℕ) → bound ≤ until → bound ≤ sure → IsUnderWay part w plain bound n until lines sure over_there ended ended.due
-  behind-look until sure in_run early =
-      at-look part w wired plain stays bound until lines sure over_there n ended cycle_on (outside.over byte) (omega (arith, closed_on)) (free_on bound free) plain_on
-      (omega (arith, fits, in_run, some)) (omega (arith, fits, early, some)) (omega (arith, fits, some)) looked
+    at_next : AtTube part w wired reads writes memory rests stays_at_rest plain stays bound bound lines bound n (starts u from) masks quiet (plain_to u) (next_cycle part last)
+    at_next = subst (AtTube part w wired reads writes memory rests stays_at_rest plain stays bound bound lines bound n (starts u from) masks quiet (plain_to u)) (sym (outside from).next) (w.close m 0, at_tube 0)
 
-  talk : (until sure : ℕ) → bound ≤ until → bound ≤ sure → (j : ℕ) × Talks (moves_of part w) answers until (shown_lines lines sure) j start d ended e
-  talk until sure in_run early =
-      let way = to-there until sure in_run in
-      let u : ℕ = owed_at n from top (w.closed m) in
-      let one : IsAnswered (moves_of part w) answers until (closed_to w there u) d over_there e = record {
-        op = asked;
-        byte = byte;
-        below = omega (arith, fits, in_run, some);
-        asks = asks-there u;
-        answered = answered;
-        goes = goes u way.high;
-      } in (
-        1,
-        (
-          closed_to w there u,
-          over_there,
-          e,
-          way.looks,
-          one,
-          (refl, came-there part w wired plain stays bound until lines sure n over_there ended (behind-look until sure in_run early)),
-        ),
-      )
+    closed_to_start : w.closed (w.close m u) ≤ from + 1
+    closed_to_start = let is = wired.closed m u in omega (arith, is, before, low)
 
-  -- it is a part of a run
-  pub asked-whole : IsServed part w plain answers lines bound start d ended e
-  asked-whole = record {
-    talks = talk;
-    goes_on = begins part Instruction (outcome part o r byte);
-    closed = let is = wired.closed b (top + n) in omega (arith, is, closed_on, some);
-    cycle = sym cycle ∙ cycle_on ∙ sym (wired.cycle_close b (top + n));
-    free = λ far far_on clear t low. wired.pending_close b (top + n) t ∙ free_on far clear t low;
-    is_plain = stays.close b lines (top + n) ∙ plain_on;
-  }
+    to-there : (until sure : ℕ) → bound ≤ until → IsUnderWay part w plain bound n until lines sure (starts u from) there from
+    to-there until sure in_run =
+        let begun : IsUnderWay part w plain bound n until lines sure (starts u from) (starts u from) from =
+        caught-up part w wired plain stays bound until lines sure (starts u from) n (starts u from) (cycle ∙ sym (wired.cycle_close m u)) (begins part Instruction r)
+        closed_to_start (free_to u bound free) (λ is. is) (0, refl) in
+        (to-tube part w wired reads writes memory rests stays_at_rest plain stays bound until lines sure n (starts u from) masks quiet (plain_to u) o.cycles (starts u from) from from last came.0 (top from)
+        begun came.1.0 at_next (omega arith) closed_to_start refl (omega (arith, fits)) (omega (arith, fits, in_run)) (omega (arith, still))
+        (stays_at_rest.close m lines masks quiet u rest (omega (arith, still, low)))).0
+
+    -- no break comes there
+    unbroken : is_break part w there ≡ false
+    unbroken = no-break part w there (sym (wired.pending_close came.0 u (top from)) ∙ ap (λ (x : B). w.pending x (top from)) (same u (omega arith))
+        ∙ wired.pending_close m u (top from) ∙ free (top from) (omega (arith, fits, some)))
+
+    asks-there : (v : ℕ) → asks part w (closed_to w there v) ≡ Some (access asked)
+    asks-there v =
+        plain-asks part w (closed_to w there v) (break_closed part w wired there v ∙ unbroken) ∙ ap (asks_by w (w.close came.0 v)) (outside from).next
+        ∙ asked_closed part w wired false (Some c) came.0 v ∙ sym (asked_closed part w wired false (Some c) came.0 u)
+        ∙ ap (λ (x : B). asks_by w x (Some c)) (same u (omega arith)) ∙ asked_closed part w wired false (Some c) m u ∙ passing.asks
+
+    cycle_on : n ≡ w.cycle b
+    cycle_on = cycle ∙ sym (wired.cycle_close m (top from + 1))
+
+    closed_on : w.closed b ≤ top from + 1
+    closed_on = let is = wired.closed m (top from + 1) in omega (arith, is, before)
+
+    goes : (v : ℕ) → v ≤ top from + 1 → over_there ≡ next_state part w (closed_to w there v) (Some (Byte byte))
+    goes v high =
+        let pends : w.pending b (top from + (n - 1)) ≡ false = free_to (top from + 1) bound free (top from + (n - 1)) (omega (arith, fits, some)) in
+        sym (ap (λ (p : Bool). after_cycle part w (at_of last b (top from)) (p && halted part last) on n) pends
+        ∙ ap (λ (q : Option Cycle). at_of on b (if is_none q then top from + (n - 1) else top from + n)) ((outside from).over byte))
+        ∙ taken part w wired there c b byte n (outside from).next unbroken (subst (λ (x : B). IsAtTube w x c) (sym same_on) (at_tube (top from + 1)))
+        (sym (ap (λ (x : B). w.after x c) same_on ∙ passing.leaves (top from + 1))) cycle_on
+        (ap (λ (x : B). w.takes x (top from) c) same_on ∙ passing.fast (top from) (top from + 1) ∙ sym (ap w.cycle same_on))
+        ∙ sym (next_closed part w wired there v (Some (Byte byte)) high)
+
+    looked : ended from ≡ after_look part w (closed_to w over_there (over_there.due + 1)) lines
+    looked =
+        let rest_on : rests b lines masks quiet = stays_at_rest.close m lines masks quiet (top from + 1) rest (omega (arith, still, some)) in
+        let held_on : masks ≡ has_flag (after part on).p INTERRUPT =
+        held ∙ sym ((outside from).masks byte) ∙ ap (λ (q : Regs). has_flag q.p INTERRUPT) (sym ((outside from).regs byte)) in
+        let tick : top from + n ≡ over_there.due + 1 = omega (arith, some) in
+        ap (λ (x : B). at_of (fresh Instruction (outcome part o r byte)) x (top from + n)) (sym (wired.again m (top from + 1) (top from + n) (omega (arith, some))))
+        ∙ ap (λ (q : Regs). at_of (fresh Instruction q) (w.close b (top from + n)) (top from + n)) (sym ((outside from).regs byte))
+        ∙ ap (λ (t : ℕ). at_of (fresh Instruction (after part on)) (w.close b t) t) tick
+        ∙ look-on part w wired reads writes memory rests stays_at_rest plain stays on b over_there.due quiet lines masks (plain_to (top from + 1)) rest_on (omega (arith, still, some)) held_on
+
+    behind-look : (until sure : ℕ) → bound ≤ until → bound ≤ sure → IsUnderWay part w plain bound n until lines sure over_there (ended from) (top from + n)
+    behind-look until sure in_run early =
+        at-look part w wired plain stays bound until lines sure over_there n (ended from) cycle_on ((outside from).over byte) (omega (arith, closed_on)) (free_to (top from + 1) bound free) (plain_to (top from + 1))
+        (omega (arith, fits, in_run, some)) (omega (arith, fits, early, some)) (omega (arith, fits, some)) looked
+
+    talk : (until sure : ℕ) → bound ≤ until → bound ≤ sure → (j : ℕ) × Talks (moves_of part w) answers until (shown_lines lines sure) j (starts u from) d (ended from) e
+    talk until sure in_run early =
+        let way = to-there until sure in_run in
+        let v : ℕ = owed_at n from (top from) (w.closed came.0) in
+        let one : IsAnswered (moves_of part w) answers until (closed_to w there v) d over_there e = record {
+          op = asked;
+          byte = byte;
+          below = omega (arith, fits, in_run, some);
+          asks = asks-there v;
+          answered = answered;
+          goes = goes v way.high;
+        } in (
+          1,
+          (
+            closed_to w there v,
+            over_there,
+            e,
+            way.looks,
+            one,
+            (refl, came-there part w wired plain stays bound until lines sure n over_there (ended from) (behind-look until sure in_run early)),
+          ),
+        )
+
+    -- it is a part of a run
+    pub asked-whole : IsServed part w plain answers lines bound (starts u from) d (ended from) e
+    asked-whole = record {
+      talks = talk;
+      goes_on = begins part Instruction (outcome part o r byte);
+      closed = let is = wired.closed m (top from + n) in omega (arith, is, before, some);
+      cycle = wired.cycle_close m u ∙ sym (wired.cycle_close m (top from + n));
+      free = λ far far_on clear t under. wired.pending_close m (top from + n) t ∙ sym (wired.pending_close m u t) ∙ clear t under;
+      is_plain = plain_to (top from + n);
+    }
 
 module _ (part : Part) {B D : Type 0} (w : Wiring B) (plain : B → Lines → Bool) (answers : D → ℕ → Op → ℕ → D → Type 0) (lines : Lines) (bound : ℕ) where
   -- steps without such accesses

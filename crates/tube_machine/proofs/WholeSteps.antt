@@ -127,7 +127,7 @@ module _ (part : Part) {B : Type 0} (w : Wiring B) (wired : IsWired w) (reads wr
       MatchOption o ⊥ (λ (c : Cycle). (is_plain (reach_of w reads writes) c ≡ true) × Carried (reach_of w reads writes) t part k
       (after_byte part s (shows (reach_of w reads writes) m c)) (leaves (reach_of w reads writes) t m (length s.seen) c) last there)
 
-  abbrev Closes : ℕ → ℕ → cpu.State → B → cpu.State → B → ℕ → Type 0
+  abbrev pub Closes : ℕ → ℕ → cpu.State → B → cpu.State → B → ℕ → Type 0
   Closes t k s m last there u = (far : B) × (Carried (reach_of w reads writes) t part k s (w.close m u) last far × ((v : ℕ) → u ≤ v → w.close far v ≡ w.close there v))
 
   closes-by : (t k : ℕ) (s : cpu.State) (m : B) (last : cpu.State) (there : B) (u : ℕ) (o : Option Cycle) → u ≤ t + 1 →
@@ -145,7 +145,7 @@ module _ (part : Part) {B : Type 0} (w : Wiring B) (wired : IsWired w) (reads wr
       ∙ ap (λ (b : B). w.after b (Write at byte)) (wired.again m u (t + w.cycle m * j + 1) (omega (arith, low))) in
       (there, ((h.0, subst (λ (x : B). Carried (reach_of w reads writes) t part k (after_byte part s 0) x last there) (sym same) h.1), λ v from. refl))
 
-  carried-closed : (t k : ℕ) (s : cpu.State) (m : B) (last : cpu.State) (there : B) (u : ℕ) → u ≤ t + 1 → Carried (reach_of w reads writes) t part k s m last there → Closes t k s m last there u
+  pub carried-closed : (t k : ℕ) (s : cpu.State) (m : B) (last : cpu.State) (there : B) (u : ℕ) → u ≤ t + 1 → Carried (reach_of w reads writes) t part k s m last there → Closes t k s m last there u
   carried-closed t zero s m last there u low h = (w.close m u, ((h.0, refl), λ v from. wired.again m u v from ∙ ap (λ (b : B). w.close b v) h.1))
   carried-closed t (suc k) s m last there u low h = closes-by t k s m last there u (next_cycle part s) low (λ on c. carried-closed t k on m last there u low c) h
 

@@ -27,6 +27,12 @@ module _ {B : Type 0} (w : Wiring B) where
   IsAtTube b (Read at) = (w.has_tube b && w.is_tube at) ≡ true
   IsAtTube b (Write at byte) = (w.has_tube b && w.is_tube at) ≡ true
 
+  -- An access asks this of the Tube, takes one cycle, and leaves the bus, however far that is closed.
+  pub record IsPassing (b : B) (c : Cycle) (op : Op) : Type 0 where
+    pub asks : asks_by w b (Some c) ≡ Some (access op)
+    pub leaves : (t : ℕ) → w.after (w.close b t) c ≡ w.close b t
+    pub fast : (t u : ℕ) → w.takes (w.close b u) t c ≡ w.cycle (w.close b u)
+
   -- An access at tick t is done, with the devices closed before it, or it asks the Tube, or it cannot be noted.
   abbrev pub IsExchanged : B → ℕ → Cycle → Result Done Unable → B → Type 0
   IsExchanged b t c (Ok done) new =

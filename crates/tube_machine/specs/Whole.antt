@@ -3,18 +3,15 @@ use Rattle.std.specs.Prelude.{ℕ, ◌≡◌, ◌≤◌, ◌<◌, ◌+◌, ◌*�
 use Rattle.op_table.specs.declared.names.Part.{Part}
 use Rattle.cpu_alu.specs.declared.Cycle.{Cycle}
 use Rattle.cpu_alu.specs.declared.Cycle.TheVariants.{Read, Write}
-use Rattle.cpu_core.specs.Sequences.{next_cycle, starting}
+use Rattle.cpu_core.specs.Sequences.{next_cycle}
 use Rattle.cpu_alu.specs.declared.flags.TheConstants.{INTERRUPT}
 use Rattle.cpu_alu.specs.Flags.{has_flag}
-use Rattle.cpu_whole.specs.Outside.{IsOutside, access_of}
-use Rattle.cpu_whole.specs.declared.outside.LastAccess.{LastAccess}
-use Rattle.tube_chip.specs.Act.{access}
 use Rattle.cpu_whole.specs.Whole.{Reach, IsPlain}
 use Rattle.tube_chip.specs.declared.Lines.{Lines}
 use Rattle.tube_chip.specs.declared.Op.{Op}
 use Rattle.tube_party.specs.Moves.{Looks, Talks, shown_lines}
 use Rattle.tube_machine.specs.Wiring.{Wiring}
-use Rattle.tube_machine.specs.Step.{At, asks_by, moves_of}
+use Rattle.tube_machine.specs.Step.{At, moves_of}
 use Rattle.tube_machine.specs.Exchange.{IsAtTube}
 
 -- The memory of a bus, by the addresses that are plain for reads and for writes. A read shows at each tick what it shows at tick 0. The cycles of
@@ -72,15 +69,6 @@ pub record IsServed (part : Part) {B D : Type 0} (w : Wiring B) (plain : B → L
   pub free : (far : ℕ) → bound ≤ far → ((t : ℕ) → t < far → w.pending old.bus t ≡ false) → (t : ℕ) → t < far → w.pending new.bus t ≡ false
   pub is_plain : plain new.bus lines ≡ true
 
--- An instruction begins whose last access asks this of the Tube, and all others are plain reads; it surely ends below a bound, and below a tick up to
--- which looks ask for nothing.
-pub record IsAtHand (part : Part) {B : Type 0} (w : Wiring B) (reads writes : ℕ → Bool) (rests : B → Lines → Bool → ℕ → Type 0) (lines : Lines) (bound : ℕ)
-    (at : At B) (last : LastAccess) (op : Op) : Type 0 where
-  pub starts : starting at.cpu ≡ true
-  pub outside : (t : ℕ) → IsOutside part (reach_of w reads writes) t at.cpu.regs at.bus last
-  pub few : last.cycles ≤ 5
-  pub asks : asks_by w at.bus (Some (access_of last)) ≡ Some (access op)
-  pub fits : at.due + 8 * w.cycle at.bus ≤ bound
-  pub quiet : ℕ
-  pub still : at.due + 8 * w.cycle at.bus ≤ quiet
-  pub rest : rests at.bus lines (has_flag at.cpu.regs.p INTERRUPT) quiet
+-- Looks that see these lines, with the flag I so, ask for nothing and leave the bus up to a tick or further.
+abbrev pub IsResting : {B : Type 0} → (B → Lines → Bool → ℕ → Type 0) → B → Lines → ℕ → ℕ → Type 0
+IsResting rests b lines p end = (quiet : ℕ) × ((end ≤ quiet) × rests b lines (has_flag p INTERRUPT) quiet)

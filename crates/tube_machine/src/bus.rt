@@ -1,11 +1,9 @@
 //! What a machine's processor reaches.
-ghost use Rattle.std.specs.Prelude.{ℕ, Bool, ◌≡◌, ◌≤◌, ◌<◌, ◌+◌, ◌*◌, ◌^◌, true, false, Option, None, Some, MatchOption, IfOk, Err};
+ghost use Rattle.std.specs.Prelude.{ℕ, Bool, ◌≡◌, ◌≤◌, ◌<◌, ◌+◌, ◌*◌, ◌^◌, true, false, Option, None, MatchOption, IfOk, Err};
 ghost use Rattle.cpu_alu.specs.declared.Cycle.{Cycle};
 ghost use Rattle.tube_chip.specs.declared.Lines.{Lines};
-ghost use Rattle.tube_chip.specs.Act.{access};
 ghost use Rattle.tube_machine.specs.Wiring.{Wiring, IsWired, StaysPlain};
-ghost use Rattle.tube_machine.specs.Step.{asks_by};
-ghost use Rattle.tube_machine.specs.Exchange.{IsExchanged, IsQuick, IsAtTube};
+ghost use Rattle.tube_machine.specs.Exchange.{IsExchanged, IsQuick, IsAtTube, IsPassing};
 ghost use Rattle.tube_machine.specs.Whole.{reach_of, IsMemory, StaysAtRest};
 ghost use Rattle.cpu_whole.specs.Whole as whole;
 ghost use Rattle.cpu_whole.specs.Outside as outside;
@@ -201,9 +199,16 @@ pub trait TubeBus<N>: Drop {
             (t : ℕ) → 0 < result.cycles → outside.IsOutside part reach t regs.now (state self.now) result }
         ensures few { result.cycles ≤ 5 };
 
-    /// What an access asks of the Tube. None where nothing is said.
+    /// What an access asks of the Tube, where it leaves the bus as it is. None where nothing is said.
     fn asked(&self, cycle: Cycle) -> Option<Op>
-        ensures { MatchOption result (Unit {0}) (λ op. asks_by wiring (state self.now) (Some cycle) ≡ Some (access op)) };
+        ensures { MatchOption result (Unit {0}) (λ op. IsPassing wiring (state self.now) cycle op) };
+
+    /// How many cycles the instruction at PC takes, where that is a branch which leads from these registers to those, over plain memory. Else 0. `L`
+    /// is any type of the caller, for which it is compiled.
+    fn branch_to<L>(&self, part: Part, from: &Regs, to: &Regs) -> u64
+        ensures done { let reach = reach_of wiring reads writes in
+            (t : ℕ) → 0 < result → whole.IsDone part reach t from.now (state self.now) result to.now (state self.now) }
+        ensures few { result ≤ 8 };
 
     /// Does any access at tick `t`, or tells what it asks of the Tube.
     fn exchange(&mut self, t: u64, cycle: Cycle, notes: &mut N) -> Result<Done, Unable>

@@ -1,21 +1,20 @@
 //! Steps one after another, as long as they are quick accesses and plain looks that are sure of their lines. They go over the parts of the
 //! machine, with the tick of the next step beside them.
-ghost use Rattle.std.specs.Prelude.{◌≡◌, ◌≤◌, ◌<◌, ◌+◌, ◌-◌, ◌^◌, ℕ, List, [], length, None, IsSome, MatchOption, true, false};
+ghost use Rattle.std.specs.Prelude.{◌≡◌, ◌≤◌, ◌<◌, ◌+◌, ◌-◌, ◌*◌, ◌^◌, ℕ, List, [], length, None, IsSome, true, false};
 ghost use Rattle.op_table.specs.declared.Part.TheVariants.{Cmos};
-ghost use Rattle.cpu_alu.specs.Flags.{has_flag};
-ghost use Rattle.cpu_alu.specs.declared.flags.TheConstants.{INTERRUPT};
-ghost use Rattle.cpu_core.specs.Sequences.{next_cycle, starting};
+ghost use Rattle.cpu_core.specs.declared.Sequence.TheVariants.{Instruction};
+ghost use Rattle.cpu_core.specs.Sequences.{next_cycle, starting, fresh};
 ghost use Rattle.tube_party.specs.Moves.{Talks, shown_lines};
 ghost use Rattle.tube_machine.specs.Step.{at_of, moves_of, closed_to, after_look};
-ghost use Rattle.tube_machine.specs.Exchange.{behind, owed_at, ready, spent, HasSpent, IsShut, IsStop, Spends};
-ghost use Rattle.tube_machine.specs.Whole.{IsOnward, IsServed, IsAtHand};
+ghost use Rattle.tube_machine.specs.Exchange.{behind, owed_at, ready, spent, HasSpent, IsStop, Spends};
+ghost use Rattle.tube_machine.specs.Whole.{IsOnward, IsServed, IsResting};
 
 use crate::bus::TubeBus;
 use crate::processor::Processor;
 use beeb_bits::Tick;
 use cpu_alu::{INTERRUPT, Regs, has_flag};
-use cpu_whole::{LastAccess, take_in};
-use tube_chip::{Lines, Op};
+use cpu_whole::take_in;
+use tube_chip::Lines;
 use tube_party::Desk;
 
 /// Where the steps leave off.
@@ -97,48 +96,44 @@ fn close_behind<N, B: TubeBus<N>>(bus: &mut B, from: u64, due: u64)
     }
 }
 
-// Instructions one after another, each done whole with the look behind it, from the first cycle of one at tick `from` on. Each ends below tick
-// `bound`: up to there a look is plain and sees these lines, and no break is pending; and below `quiet`, up to which looks ask for nothing. It
-// gives the tick of the next step.
+// Instructions one after another, each done whole with the look behind it, from the first cycle of one at tick `from` on. Each ends at tick `end` at
+// the latest: up to there a look is plain, sees these lines and asks for nothing, and no break is pending. It gives the tick of the next step. The loop
+// has its registers to itself.
 #[inline(never)]
 fn go_whole<N, P: Processor, B: TubeBus<N>>(
-    cpu: &mut P,
+    cpu: &P,
     bus: &mut B,
     notes: &mut N,
+    at: &mut Regs,
     from: u64,
-    bound: u64,
-    quiet: u64,
+    end: u64,
     lines: &Lines,
 ) -> u64
-    requires room { bound ≤ 2 ^ 30 }
-    requires from { from ≤ bound }
+    requires room { end ≤ 2 ^ 30 }
+    requires from { from ≤ end }
     requires before { (B.wiring).closed (B.state bus.old) ≤ from + 1 }
     requires plain { B.plain (B.state bus.old) lines.now ≡ true }
-    requires free { (t : ℕ) → t < bound → (B.wiring).pending (B.state bus.old) t ≡ false }
-    requires starts { starting (P.core cpu.old) ≡ true }
-    requires rests { B.rests (B.state bus.old) lines.now (has_flag (P.core cpu.old).regs.p INTERRUPT) quiet }
-    ensures onward { let old = at_of (P.core cpu.old) (B.state bus.old) from in
-        let new = at_of (P.core cpu.new) (B.state bus.new) result in
-        IsOnward P.part B.wiring B.plain lines.now bound old new }
+    requires free { (t : ℕ) → t < end → (B.wiring).pending (B.state bus.old) t ≡ false }
+    requires rests { IsResting B.rests (B.state bus.old) lines.now (at.old).p end }
+    ensures onward { let old = at_of (fresh Instruction at.old) (B.state bus.old) from in
+        let new = at_of (fresh Instruction at.new) (B.state bus.new) result in
+        IsOnward P.part B.wiring B.plain lines.now end old new }
+    ensures rests { IsResting B.rests (B.state bus.new) lines.now (at.new).p end }
     ensures low { from ≤ result }
-    ensures high { result ≤ bound }
+    ensures high { result ≤ end }
     ensures noted { B.before notes.new bus.new ≡ B.before notes.old bus.old }
     ensures spends { let cycle = (B.wiring).cycle (B.state bus.old) in
-        let old = spent from (B.room notes.old) (length (P.core cpu.old).seen) in
-        let new = spent result (B.room notes.new) (length (P.core cpu.new).seen) in
-        (sure : ℕ) → bound ≤ sure → HasSpent (P.part ≡ Cmos) cycle sure old new }
+        (sure : ℕ) → end ≤ sure → HasSpent (P.part ≡ Cmos) cycle sure (spent from (B.room notes.old) 0) (spent result (B.room notes.new) 0) }
 {
     let cycle = bus.cycle();
-    let first = cpu.at_start();
     let mut regs = Regs {
-        pc: first.pc,
-        a: first.a,
-        x: first.x,
-        y: first.y,
-        s: first.s,
-        p: first.p,
+        pc: at.pc,
+        a: at.a,
+        x: at.x,
+        y: at.y,
+        s: at.s,
+        p: at.p,
     };
-    let end = bound.min(quiet);
     // An instruction that begins before this tick surely ends in time.
     let late = (end + 1).saturating_sub(LONGEST * cycle);
     let mut due = from;
@@ -150,104 +145,52 @@ fn go_whole<N, P: Processor, B: TubeBus<N>>(
         due += cycle * cycles;
     }
     close_behind::<N, B>(bus, from, due);
-    cpu.set_out(&regs);
+    *at = regs;
     due
 }
 
-// The same, where the next cycle is the first of an instruction that surely ends below the bound; else nothing is done.
+// How many times more what takes a period fits, where it fits once.
 #[inline(always)]
-fn go_whole_at_start<N, P: Processor, B: TubeBus<N>>(
-    cpu: &mut P,
-    bus: &mut B,
-    notes: &mut N,
-    from: u64,
-    bound: u64,
-    lines: &Lines,
-) -> u64
-    requires room { bound ≤ 2 ^ 30 }
-    requires from { from ≤ bound }
-    requires before { (B.wiring).closed (B.state bus.old) ≤ from + 1 }
-    requires plain { B.plain (B.state bus.old) lines.now ≡ true }
-    requires free { (t : ℕ) → t < bound → (B.wiring).pending (B.state bus.old) t ≡ false }
-    requires goes_on { IsSome (next_cycle P.part (P.core cpu.old)) }
-    ensures onward { let old = at_of (P.core cpu.old) (B.state bus.old) from in
-        let new = at_of (P.core cpu.new) (B.state bus.new) result in
-        IsOnward P.part B.wiring B.plain lines.now bound old new }
-    ensures low { from ≤ result }
-    ensures high { result ≤ bound }
-    ensures noted { B.before notes.new bus.new ≡ B.before notes.old bus.old }
-    ensures spends { let cycle = (B.wiring).cycle (B.state bus.old) in
-        let old = spent from (B.room notes.old) (length (P.core cpu.old).seen) in
-        let new = spent result (B.room notes.new) (length (P.core cpu.new).seen) in
-        (sure : ℕ) → bound ≤ sure → HasSpent (P.part ≡ Cmos) cycle sure old new }
+fn times_more(from: u64, period: u64, end: u64) -> u64
+    requires some { 0 < period }
+    requires once { from + period ≤ end }
+    ensures { from + period * (result + 1) ≤ end }
 {
-    let first_end = from + LONGEST * bus.cycle();
-    if !cpu.starting() || first_end > bound {
-        return from;
-    }
-    let quiet = bus.rests_until(lines, has_flag(cpu.at_start().p, INTERRUPT));
-    if first_end > quiet {
-        return from;
-    }
-    go_whole::<N, P, B>(cpu, bus, notes, from, bound, quiet, lines)
+    (end - from) / period - 1
 }
 
-// The last access of the instruction whose first cycle is at tick `from`, and what it asks of the Tube, where that is known, all other accesses are
-// plain reads, and the instruction surely ends in time, as those above do.
-#[inline(always)]
-fn tube_access<N, P: Processor, B: TubeBus<N>>(
-    cpu: &P,
-    bus: &B,
-    from: u64,
-    bound: u64,
-    lines: &Lines,
-) -> Option<(LastAccess, Op)>
-    requires room { bound ≤ 2 ^ 30 }
-    requires from { from ≤ bound }
-    requires plain { B.plain (B.state bus.now) lines.now ≡ true }
-    ensures { let at = at_of (P.core cpu.now) (B.state bus.now) from in
-        MatchOption result (Unit {0}) (λ r. IsAtHand P.part B.wiring B.reads B.writes B.rests lines.now bound at r.0 r.1) }
-{
-    let first_end = from + LONGEST * bus.cycle();
-    if !cpu.starting() || first_end > bound {
-        return None;
-    }
-    let regs = cpu.at_start();
-    let last = bus.last_access::<Stop>(cpu.kind(), &regs);
-    if last.cycles == 0 {
-        return None;
-    }
-    let op = bus.asked(last.access())?;
-    if first_end > bus.rests_until(lines, has_flag(regs.p, INTERRUPT)) {
-        return None;
-    }
-    Some((last, op))
-}
-
-// That instruction, whole with the look behind it, where the desk answers its last access; else nothing is done.
+// An instruction whose first cycle is at tick `from` and whose last access the desk answers, whole with the look behind it. Where a branch leads back to
+// it with the registers as they were, the same again and again, as often as the desk answers the same. Else nothing is done.
 #[inline(never)]
 fn ask_whole<N, P: Processor, B: TubeBus<N>, D: Desk>(
-    cpu: &mut P,
+    cpu: &P,
     bus: &mut B,
+    at: &mut Regs,
     from: u64,
-    bound: u64,
+    end: u64,
     lines: &Lines,
     desk: &mut D,
 ) -> u64
-    requires room { bound ≤ 2 ^ 30 }
-    requires from { from ≤ bound }
+    requires room { end ≤ 2 ^ 30 }
+    requires fits { from + 8 * (B.wiring).cycle (B.state bus.old) ≤ end }
     requires before { (B.wiring).closed (B.state bus.old) ≤ from + 1 }
     requires plain { B.plain (B.state bus.old) lines.now ≡ true }
-    requires free { (t : ℕ) → t < bound → (B.wiring).pending (B.state bus.old) t ≡ false }
-    requires goes_on { IsSome (next_cycle P.part (P.core cpu.old)) }
-    ensures served { let old = at_of (P.core cpu.old) (B.state bus.old) from in
-        let new = at_of (P.core cpu.new) (B.state bus.new) result in
-        IsServed P.part B.wiring B.plain D.answers lines.now bound old (D.state desk.old) new (D.state desk.new) }
+    requires free { (t : ℕ) → t < end → (B.wiring).pending (B.state bus.old) t ≡ false }
+    requires rests { IsResting B.rests (B.state bus.old) lines.now (at.old).p end }
+    ensures served { let old = at_of (fresh Instruction at.old) (B.state bus.old) from in
+        let new = at_of (fresh Instruction at.new) (B.state bus.new) result in
+        IsServed P.part B.wiring B.plain D.answers lines.now end old (D.state desk.old) new (D.state desk.new) }
+    ensures rests { IsResting B.rests (B.state bus.new) lines.now (at.new).p end }
     ensures low { from ≤ result }
-    ensures high { result ≤ bound }
-    ensures noted { IsShut D.answers → (notes : N) → B.before notes bus.new ≡ B.before notes bus.old }
+    ensures high { result ≤ end }
+    ensures noted { (notes : N) → B.before notes bus.new ≡ B.before notes bus.old }
 {
-    let Some((last, op)) = tube_access::<N, P, B>(cpu, bus, from, bound, lines) else {
+    let part = cpu.kind();
+    let last = bus.last_access::<Stop>(part, at);
+    if last.cycles == 0 {
+        return from;
+    }
+    let Some(op) = bus.asked(last.access()) else {
         return from;
     };
     let cycle = bus.cycle();
@@ -255,16 +198,64 @@ fn ask_whole<N, P: Processor, B: TubeBus<N>, D: Desk>(
     let Some(byte) = desk.ask(Tick(tick), op) else {
         return from;
     };
-    bus.close(tick + 1);
-    bus.answered(last.access());
-    bus.close(tick + cycle);
-    let mut regs = cpu.at_start();
-    take_in(cpu.kind(), &last, &mut regs, byte);
-    cpu.set_out(&regs);
-    tick + cycle
+    let before = *at;
+    take_in(part, &last, at, byte);
+    let mut due = tick + cycle;
+    let back = bus.branch_to::<Stop>(part, at, &before);
+    let period = due + cycle * back - from;
+    if back > 0 && from + period <= end {
+        let more = desk.again(Tick(tick), op, byte, period, times_more(from, period, end));
+        *at = before;
+        due = from + period * (1 + more);
+    }
+    bus.close(due);
+    due
 }
 
-// Whole instructions, where the next cycle is the first of one, and among them those whose last access is the Tube's and is answered by the desk.
+// Whole instructions from the first cycle of one on, and among them those whose last access is the Tube's and is answered by the desk.
+#[inline(never)]
+fn serve<N, P: Processor, B: TubeBus<N>, D: Desk>(
+    cpu: &mut P,
+    bus: &mut B,
+    notes: &mut N,
+    from: u64,
+    end: u64,
+    lines: &Lines,
+    desk: &mut D,
+) -> u64
+    requires room { end ≤ 2 ^ 30 }
+    requires from { from ≤ end }
+    requires before { (B.wiring).closed (B.state bus.old) ≤ from + 1 }
+    requires plain { B.plain (B.state bus.old) lines.now ≡ true }
+    requires free { (t : ℕ) → t < end → (B.wiring).pending (B.state bus.old) t ≡ false }
+    requires starts { starting (P.core cpu.old) ≡ true }
+    requires rests { IsResting B.rests (B.state bus.old) lines.now (P.core cpu.old).regs.p end }
+    ensures served { let old = at_of (P.core cpu.old) (B.state bus.old) from in
+        let new = at_of (P.core cpu.new) (B.state bus.new) result in
+        IsServed P.part B.wiring B.plain D.answers lines.now end old (D.state desk.old) new (D.state desk.new) }
+    ensures low { from ≤ result }
+    ensures high { result ≤ end }
+    ensures noted { B.before notes.new bus.new ≡ B.before notes.old bus.old }
+    ensures spends { let cycle = (B.wiring).cycle (B.state bus.old) in
+        let old = spent from (B.room notes.old) (length (P.core cpu.old).seen) in
+        let new = spent result (B.room notes.new) (length (P.core cpu.new).seen) in
+        (sure : ℕ) → end ≤ sure → HasSpent (P.part ≡ Cmos) cycle sure old new }
+{
+    let cycle = bus.cycle();
+    let mut at = cpu.at_start();
+    let mut due = go_whole::<N, P, B>(cpu, bus, notes, &mut at, from, end, lines);
+    while due + LONGEST * cycle <= end && desk.awaits(Tick(due), Tick(due + LONGEST * cycle)) {
+        let asked = ask_whole::<N, P, B, D>(cpu, bus, &mut at, due, end, lines, desk);
+        if asked == due {
+            break;
+        }
+        due = go_whole::<N, P, B>(cpu, bus, notes, &mut at, asked, end, lines);
+    }
+    cpu.set_out(&at);
+    due
+}
+
+// The same, where the next cycle is the first of an instruction that surely ends in time; else nothing is done.
 #[inline(always)]
 fn go_asking<N, P: Processor, B: TubeBus<N>, D: Desk>(
     cpu: &mut P,
@@ -286,24 +277,21 @@ fn go_asking<N, P: Processor, B: TubeBus<N>, D: Desk>(
         IsServed P.part B.wiring B.plain D.answers lines.now bound old (D.state desk.old) new (D.state desk.new) }
     ensures low { from ≤ result }
     ensures high { result ≤ bound }
-    ensures noted { IsShut D.answers → B.before notes.new bus.new ≡ B.before notes.old bus.old }
+    ensures noted { B.before notes.new bus.new ≡ B.before notes.old bus.old }
     ensures spends { let cycle = (B.wiring).cycle (B.state bus.old) in
         let old = spent from (B.room notes.old) (length (P.core cpu.old).seen) in
         let new = spent result (B.room notes.new) (length (P.core cpu.new).seen) in
         (sure : ℕ) → bound ≤ sure → HasSpent (P.part ≡ Cmos) cycle sure old new }
 {
-    let mut due = go_whole_at_start::<N, P, B>(cpu, bus, notes, from, bound, lines);
-    'asks: loop {
-        if !desk.awaits(Tick(due), Tick(due + LONGEST * bus.cycle())) {
-            return due;
-        }
-        let at = due;
-        due = ask_whole::<N, P, B, D>(cpu, bus, due, bound, lines, desk);
-        if due == at {
-            return due;
-        }
-        due = go_whole_at_start::<N, P, B>(cpu, bus, notes, due, bound, lines);
+    let first_end = from + LONGEST * bus.cycle();
+    if !cpu.starting() || first_end > bound {
+        return from;
     }
+    let end = bound.min(bus.rests_until(lines, has_flag(cpu.at_start().p, INTERRUPT)));
+    if first_end > end {
+        return from;
+    }
+    serve::<N, P, B, D>(cpu, bus, notes, from, end, lines, desk)
 }
 
 /// Goes on from a step at tick `from`, and gives the tick of the step at which it leaves off. It does no look at which a break is pending, and no
@@ -327,7 +315,7 @@ pub(crate) fn go_on<N, P: Processor, B: TubeBus<N>, D: Desk>(
         (j : ℕ) × Talks (moves_of P.part B.wiring) D.answers until (shown_lines lines.now sure) j old (D.state desk.old) new (D.state desk.new) }
     ensures stops { let new = at_of (P.core cpu.new) (B.state bus.new) result.0 in
         IsStop P.part B.wiring until result.1 new }
-    ensures noted { IsShut D.answers → B.before notes.new bus.new ≡ B.before notes.old bus.old }
+    ensures noted { B.before notes.new bus.new ≡ B.before notes.old bus.old }
     ensures spends { let cycle = (B.wiring).cycle (B.state bus.old) in
         let old = spent (ready P.part (P.core cpu.old) from) (B.room notes.old) (length (P.core cpu.old).seen) in
         let new = spent result.0 (B.room notes.new) (length (P.core cpu.new).seen) in

@@ -5,7 +5,7 @@ ghost use Rattle.cpu_core.specs.Sequences.{next_cycle, after_byte, halted};
 ghost use Rattle.tube_chip.specs.declared.Answer.TheVariants.{Byte, Seen};
 ghost use Rattle.tube_party.specs.Moves.{Sees, Hears, IsAsk, IsAskedFor, close_leaves, shown_lines};
 ghost use Rattle.tube_machine.specs.Step.{at_of, moves_of, asks, closed_to, next_state, is_last_tick, is_break, after_break, after_cycle};
-ghost use Rattle.tube_machine.specs.Exchange.{ready, IsDone, IsRun, IsServedRun, IsShut, IsCramped, IsAskedByte};
+ghost use Rattle.tube_machine.specs.Exchange.{ready, IsDone, IsRun, IsServedRun, IsCramped, IsAskedByte};
 
 use crate::bus::{TubeBus, Unable};
 use crate::processor::Processor;
@@ -222,7 +222,7 @@ fn carry_asking<N, P: Processor, B: TubeBus<N>, D: Desk>(
     ensures ran { let old = at_of (P.core cpu.old) (B.state bus.old) due.old in
         let new = at_of (P.core cpu.new) (B.state bus.new) due.new in
         IsServedRun P.part B.wiring D.answers until.0 lines.now sure.0 old (D.state desk.old) result new (D.state desk.new) }
-    ensures noted { IsShut D.answers → B.before notes.new bus.new ≡ B.before notes.old bus.old }
+    ensures noted { B.before notes.new bus.new ≡ B.before notes.old bus.old }
     ensures full { let from = ready P.part (P.core cpu.old) due.old in
         let cramped = IsCramped ((B.wiring).cycle (B.state bus.old)) sure.0 from (B.room notes.old) in
         result ≡ Left.Full → (B.endless ≡ false) × (P.part ≡ Cmos → cramped) }

@@ -19,4 +19,5 @@ pub mod Ways
 pub mod Early
 pub mod UnderWay
 pub mod Both
+pub mod Again
 pub mod Passing

@@ -1,5 +1,5 @@
 -- A party at the Tube: the steps of a machine as functions of its state, and what it means that they use up a list of events.
-use Rattle.std.specs.Prelude.{ℕ, zero, suc, ◌≡◌, ◌<◌, ◌≤◌, max, Bool, IsTrue, Option, None, Some, MatchOption, List, [], ◌∷◌}
+use Rattle.std.specs.Prelude.{ℕ, zero, suc, ◌≡◌, ◌+◌, ◌<◌, ◌≤◌, max, Bool, IsTrue, Option, None, Some, MatchOption, List, [], ◌∷◌}
 use Rattle.beeb_bits.specs.declared.Side.{Side}
 use Rattle.beeb_bits.specs.declared.Side.TheVariants.{Host}
 use Rattle.tube_chip.specs.declared.Answer.{Answer}
@@ -143,6 +143,11 @@ pub record IsAnswered {S D : Type 0} (m : Moves S) (answers : D → ℕ → Op �
   pub asks : m.asks s ≡ Some (access op)
   pub answered : answers d (m.due s) op byte e
   pub goes : new ≡ m.next s (Some (Byte byte))
+
+-- An access is answered by a byte so many times in turn, each time a period later, the first time that long after a tick.
+abbrev pub IsAnsweredAgain : {D : Type 0} → (D → ℕ → Op → ℕ → D → Type 0) → Op → ℕ → ℕ → ℕ → D → ℕ → D → Type 0
+IsAnsweredAgain answers op byte period zero d t e = d ≡ e
+IsAnsweredAgain {D} answers op byte period (suc k) d t e = (f : D) × (answers d (t + period) op byte f × IsAnsweredAgain answers op byte period k f (t + period) e)
 
 -- From s to last, below n, so many accesses are answered in passing; each other step asks nothing, or is a look that is sure, and sees these lines.
 abbrev pub Talks : {S D : Type 0} → Moves S → (D → ℕ → Op → ℕ → D → Type 0) → ℕ → Shown → ℕ → S → D → S → D → Type 0

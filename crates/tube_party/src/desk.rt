@@ -1,6 +1,7 @@
 //! What answers a party's accesses in passing.
-ghost use Rattle.std.specs.Prelude.{◌≡◌, ℕ, MatchOption};
+ghost use Rattle.std.specs.Prelude.{◌≡◌, ◌≤◌, ◌<◌, ◌+◌, ◌*◌, ◌^◌, ℕ, MatchOption};
 ghost use Rattle.tube_chip.specs.declared.Op.{Op};
+ghost use Rattle.tube_party.specs.Moves.{IsAnsweredAgain};
 
 use beeb_bits::Tick;
 use tube_chip::Op;
@@ -21,6 +22,17 @@ pub trait Desk {
     /// The byte that an access at this tick reads, or 0 of a write. None where the party is to leave off there.
     fn ask(&mut self, tick: Tick, op: Op) -> Option<u8>
         ensures { MatchOption result (state self.new ≡ state self.old) (λ byte. answers (state self.old) tick.0 op byte (state self.new)) };
+
+    /// How often the same access is answered by the same byte again, each time so many ticks later than the time before, the first time after this tick;
+    /// at most so often. A desk that says 0 is asked each time.
+    fn again(&mut self, tick: Tick, op: Op, byte: u8, period: u64, most: u64) -> u64
+        requires { tick.0 + period * (most + 1) < 2 ^ 63 }
+        ensures again { IsAnsweredAgain answers op byte period result (state self.old) tick.0 (state self.new) }
+        ensures few { result ≤ most }
+    {
+        let _ = (tick, op, byte, period, most);
+        0
+    }
 }
 
 /// A desk that has no answer.

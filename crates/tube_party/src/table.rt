@@ -83,4 +83,29 @@ impl Desk for Table {
         note_own(&mut self.host_log, &mut self.para_log, entry);
         Some(answer)
     }
+
+    // A status register shows the same as long as the chip is left alone.
+    #[inline(always)]
+    fn again(&mut self, tick: Tick, op: Op, byte: u8, period: u64, most: u64) -> u64 {
+        if !is_status(op) || self.chip.apply(self.turn, op) != byte {
+            return 0;
+        }
+        let mut times = 0;
+        let mut at = tick.0 + period;
+        while times < most && at < self.sure.0 {
+            if self.host_log.count >= MOST_COUNT || self.para_log.count >= MOST_COUNT {
+                break;
+            }
+            let entry = Entry {
+                tick: Tick(at),
+                side: self.turn,
+                op,
+                answer: byte,
+            };
+            note_own(&mut self.host_log, &mut self.para_log, entry);
+            times += 1;
+            at += period;
+        }
+        times
+    }
 }

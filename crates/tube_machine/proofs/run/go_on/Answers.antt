@@ -57,8 +57,8 @@ loop-due-init g c =
                 (g.D.Desk.state c.args.desk.now) (at_of (g.P.Processor.core c.if-last.cpu) (g.B.TubeBus.state c.if-last.bus) c.if-last.due) (g.D.Desk.state x) c.if-last.due) (sym v.desk-is)
                 (subst (λ (x : At g.B.TubeBus.State). IsTalking part w g.B.TubeBus.plain g.D.Desk.answers c.break_tick-next_break.result c.cycle-cycle.result
                 c.args.until c.args.lines.now c.args.sure start (g.D.Desk.state c.args.desk.now) x (g.D.Desk.state v.go_asking-due.new.desk) x.due) same way_on);
-            noted = λ shut. ap (λ x. g.B.TubeBus.before x c.if-last.bus) v.notes-is
-                ∙ ap (λ x. g.B.TubeBus.before v.go_asking-due.new.notes x) v.bus-is ∙ v.go_asking-due.ensures.noted shut
+            noted = ap (λ x. g.B.TubeBus.before x c.if-last.bus) v.notes-is
+                ∙ ap (λ x. g.B.TubeBus.before v.go_asking-due.new.notes x) v.bus-is ∙ v.go_asking-due.ensures.noted
                 ∙ v.see.ensures.kept c.args.notes.now;
             spent = subst (λ x. HasSpent (part ≡ Cmos) c.cycle-cycle.result c.args.sure
                 (spent (ready part (g.P.Processor.core c.args.cpu.now) c.args.from) (g.B.TubeBus.room c.args.notes.now) (length start.cpu.seen))
@@ -84,7 +84,7 @@ loop-due-init g c =
                 c.args.until c.args.lines.now c.args.sure start (g.D.Desk.state c.args.desk.now) x (g.D.Desk.state c.args.desk.now) x.due) same
                 (not-yet part w g.B.TubeBus.wired g.B.TubeBus.plain g.B.TubeBus.stays_plain g.D.Desk.answers c.break_tick-next_break.result c.cycle-cycle.result c.args.until c.args.lines.now
                 c.args.sure start (g.D.Desk.state c.args.desk.now) start start.due way));
-            noted = λ shut. ap (λ x. g.B.TubeBus.before x c.if-last.bus) v.notes-is ∙ ap (λ x. g.B.TubeBus.before c.args.notes.now x) v.bus-is;
+            noted = ap (λ x. g.B.TubeBus.before x c.if-last.bus) v.notes-is ∙ ap (λ x. g.B.TubeBus.before c.args.notes.now x) v.bus-is;
             spent = subst (λ x. HasSpent (part ≡ Cmos) c.cycle-cycle.result c.args.sure (spent
                 (ready g.P.Processor.part (g.P.Processor.core c.args.cpu.now) c.args.from) (g.B.TubeBus.room c.args.notes.now)
                 (length start.cpu.seen)) (spent c.if-last.due (g.B.TubeBus.room x) (length (g.P.Processor.core c.if-last.cpu).seen))) (sym v.notes-is)
@@ -260,7 +260,7 @@ loop-due-preserved-then-last-2 g c =
           (g.D.Desk.state c.loop-due.desk) (g.D.Desk.state c.go_asking-due-then-last-2.new.desk)
           (record { mid = start; talks = c.loop-due.invariant.at.talks; first = c.loop-due.invariant.at.first; way = way_there })
           c.go_asking-due-then-last-2.ensures.served c.bound_of-bound.ensures.free c.bound_of-bound.ensures.until early;
-      noted = λ shut. c.go_asking-due-then-last-2.ensures.noted shut ∙ c.see-then-last-2.ensures.kept c.quick.new.notes ∙ c.quick.ensures.noted ∙ c.loop-due.invariant.noted shut;
+      noted = c.go_asking-due-then-last-2.ensures.noted ∙ c.see-then-last-2.ensures.kept c.quick.new.notes ∙ c.quick.ensures.noted ∙ c.loop-due.invariant.noted;
       spent = spent-on (part ≡ Cmos) n c.args.sure _ _ _ looked
           (subst (λ (n : ℕ). HasSpent (part ≡ Cmos) n c.args.sure
           (spent (c.loop-due.due + c.cycle-cycle.result) (g.B.TubeBus.room c.quick.new.notes) (length seen.cpu.seen))
@@ -289,7 +289,7 @@ loop-due-preserved g c =
             (omega (arith, c.loop-due-test.true, c.min-end.ensures, c.saturating_sub.ensures, c.requires.room, c.cycle-cycle.ensures.bound))
             c.want.ensures c.in-Some.ensures.done c.give.ensures c.in-Some.ensures.closed more;
       };
-      noted = λ shut. c.quick.ensures.noted ∙ c.loop-due.invariant.noted shut;
+      noted = c.quick.ensures.noted ∙ c.loop-due.invariant.noted;
       spent = spent-more (part ≡ Cmos) n c.args.sure (g.B.TubeBus.room c.quick.new.notes) (c.loop-due.due + n)
           (length on.seen) _ _ c.loop-due.invariant.spent c.quick.ensures.room (λ _. refl)
           (seen-more part (g.P.Processor.core c.loop-due.cpu) on c.in-Some.byte c.give.ensures);

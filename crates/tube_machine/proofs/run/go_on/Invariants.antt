@@ -3,7 +3,7 @@ use Rattle.op_table.specs.declared.names.Part.TheVariants.{Cmos}
 use Rattle.tube_machine.specs.Step.{at_of}
 use Rattle.tube_machine.specs.Exchange.{spent}
 use Rattle.tube_machine.proofs.Asked.{IsTalking}
-use Rattle.tube_machine.specs.Exchange.{HasSpent, IsShut, ready}
+use Rattle.tube_machine.specs.Exchange.{HasSpent, ready}
 use Rattle.tube_machine.proofs.run.go_on.Given as goal
 
 -- the steps so far asked nothing or saw the lines, and the next one is an access
@@ -13,7 +13,7 @@ invariant-loop-due g l = record {
       (at_of (g.P.Processor.core l.fn.cpu) (g.B.TubeBus.state l.fn.bus) l.from) (g.D.Desk.state l.fn.desk)
       (at_of (g.P.Processor.core l.cpu) (g.B.TubeBus.state l.bus) l.due) (g.D.Desk.state l.desk)
       l.caught_up;
-  noted : IsShut g.D.Desk.answers → g.B.TubeBus.before l.notes l.bus ≡ g.B.TubeBus.before l.fn.notes l.fn.bus;
+  noted : g.B.TubeBus.before l.notes l.bus ≡ g.B.TubeBus.before l.fn.notes l.fn.bus;
   spent : HasSpent (g.P.Processor.part ≡ Cmos) l.cycle l.sure (spent (ready g.P.Processor.part (g.P.Processor.core l.fn.cpu) l.from)
       (g.B.TubeBus.room l.fn.notes) (length (g.P.Processor.core l.fn.cpu).seen))
       (spent l.due (g.B.TubeBus.room l.notes) (length (g.P.Processor.core l.cpu).seen));

@@ -1,4 +1,4 @@
-use Rattle.std.proofs.Common.{◌≡◌, ◌≤◌, ◌-◌, ◌+◌, ◌<◌, ℕ, length}
+use Rattle.std.proofs.Common.{◌≡◌, ◌≤◌, ◌-◌, ◌+◌, ◌<◌, ℕ}
 use Rattle.op_table.specs.declared.names.Part.TheVariants.{Cmos}
 use Rattle.cpu_alu.specs.declared.flags.TheConstants.{INTERRUPT}
 use Rattle.cpu_alu.specs.Flags.{has_flag}
@@ -6,27 +6,27 @@ use Rattle.cpu_core.specs.declared.Sequence.TheVariants.{Instruction}
 use Rattle.cpu_core.specs.Sequences.{fresh}
 use Rattle.tube_machine.specs.Step.{at_of}
 use Rattle.tube_machine.specs.Exchange.{behind, spent, HasSpent}
+use Rattle.tube_machine.specs.Whole.{IsResting}
 use Rattle.tube_machine.proofs.UnderWay.{IsUnderWay, IsFree}
 use Rattle.tube_machine.proofs.run.go_whole.Given as goal
 
 -- an instruction begins, and all so far asked for nothing; the devices need not be closed yet as far as they count
 abbrev pub invariant-loop-due : goal.invariant-loop-due
 invariant-loop-due g l = record {
-  way : (far until sure : ℕ) → l.bound ≤ far → l.bound ≤ until → l.bound ≤ sure
+  way : (far until sure : ℕ) → l.end ≤ far → l.end ≤ until → l.end ≤ sure
       → IsFree g.P.Processor.part g.B.TubeBus.wiring far (g.B.TubeBus.state l.fn.bus)
       → IsUnderWay g.P.Processor.part g.B.TubeBus.wiring g.B.TubeBus.plain far l.cycle until l.lines sure
-      (at_of (g.P.Processor.core l.fn.cpu) (g.B.TubeBus.state l.fn.bus) l.from)
+      (at_of (fresh Instruction l.fn.at) (g.B.TubeBus.state l.fn.bus) l.from)
       (at_of (fresh Instruction l.regs) ((g.B.TubeBus.wiring).close (g.B.TubeBus.state l.bus) (behind l.from l.due)) l.due)
       l.due;
   before : (g.B.TubeBus.wiring).closed (g.B.TubeBus.state l.bus) ≤ l.due + 1;
   shut : l.from < l.due → (g.B.TubeBus.wiring).closed (g.B.TubeBus.state l.bus) ≤ l.due;
-  rests : g.B.TubeBus.rests ((g.B.TubeBus.wiring).close (g.B.TubeBus.state l.bus) (behind l.from l.due)) l.lines (has_flag (g.P.Processor.core l.fn.cpu).regs.p INTERRUPT) l.quiet;
-  held : has_flag l.regs.p INTERRUPT ≡ has_flag (g.P.Processor.core l.fn.cpu).regs.p INTERRUPT;
+  rests : IsResting g.B.TubeBus.rests ((g.B.TubeBus.wiring).close (g.B.TubeBus.state l.bus) (behind l.from l.due)) l.lines (l.fn.at).p l.end;
+  held : has_flag l.regs.p INTERRUPT ≡ has_flag (l.fn.at).p INTERRUPT;
   low : l.from ≤ l.due;
-  high : l.due ≤ l.bound;
+  high : l.due ≤ l.end;
   noted : g.B.TubeBus.before l.notes l.bus ≡ g.B.TubeBus.before l.fn.notes l.fn.bus;
-  spent : (sure : ℕ) → l.bound ≤ sure → HasSpent (g.P.Processor.part ≡ Cmos) l.cycle sure (spent l.from (g.B.TubeBus.room l.fn.notes) (length (g.P.Processor.core l.fn.cpu).seen))
-      (spent l.due (g.B.TubeBus.room l.notes) 0);
+  spent : (sure : ℕ) → l.end ≤ sure → HasSpent (g.P.Processor.part ≡ Cmos) l.cycle sure (spent l.from (g.B.TubeBus.room l.fn.notes) 0) (spent l.due (g.B.TubeBus.room l.notes) 0);
 }
 
 abbrev pub decreases-loop-due : goal.decreases-loop-due

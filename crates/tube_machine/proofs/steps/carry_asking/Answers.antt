@@ -65,7 +65,7 @@ loop-cpu-preserved g c =
       went = then-came part w wired g.B.TubeBus.plain g.B.TubeBus.stays_plain g.D.Desk.answers 0 0 until c.args.lines.now sure start (g.D.Desk.state c.args.desk.now) at new
           (g.D.Desk.state c.go_on-at.new.desk) went (more part w wired until c.args.lines.now sure at at new (0, refl) left.1 done);
       before = c.access.ensures.before;
-      noted = λ shut. c.access.ensures.noted ∙ c.go_on-at.ensures.noted shut ∙ c.loop-cpu.invariant.noted shut;
+      noted = c.access.ensures.noted ∙ c.go_on-at.ensures.noted ∙ c.loop-cpu.invariant.noted;
       spent = spent-more H (w.cycle start.bus) sure (g.B.TubeBus.room c.access.new.notes) (ready part new.cpu new.due) (length new.cpu.seen) _ there
           (spent-on H (w.cycle start.bus) sure _ from there c.loop-cpu.invariant.spent on) c.access.ensures.room
           (λ h. (cost part w wired at new done left.0 h.0 (g.B.TubeBus.joined h.1 at.bus) (g.B.TubeBus.even h.1)).0 ∙ ap (λ (n : ℕ). at.due + n) at_cycle)

@@ -2,7 +2,7 @@ use Rattle.std.proofs.Common.{ℕ, ◌-◌, ◌≡◌, ◌≤◌, ◌+◌, false
 use Rattle.op_table.specs.declared.names.Part.TheVariants.{Cmos}
 use Rattle.tube_party.specs.Moves.{Talks, shown_lines}
 use Rattle.tube_machine.specs.Step.{at_of, moves_of}
-use Rattle.tube_machine.specs.Exchange.{spent, HasSpent, IsShut, ready}
+use Rattle.tube_machine.specs.Exchange.{spent, HasSpent, ready}
 use Rattle.tube_machine.proofs.steps.carry_asking.Given as goal
 
 -- the steps so far asked nothing or saw the lines
@@ -12,7 +12,7 @@ invariant-loop-cpu g l = record {
       (at_of (g.P.Processor.core l.initial.cpu) (g.B.TubeBus.state l.initial.bus) l.initial.due) (g.D.Desk.state l.initial.desk)
       (at_of (g.P.Processor.core l.cpu) (g.B.TubeBus.state l.bus) l.due) (g.D.Desk.state l.desk);
   before : g.B.TubeBus.wiring.closed (g.B.TubeBus.state l.bus) ≤ l.due + 1;
-  noted : IsShut g.D.Desk.answers → g.B.TubeBus.before l.notes l.bus ≡ g.B.TubeBus.before l.initial.notes l.initial.bus;
+  noted : g.B.TubeBus.before l.notes l.bus ≡ g.B.TubeBus.before l.initial.notes l.initial.bus;
   spent : HasSpent ((g.P.Processor.part ≡ Cmos) × (g.B.TubeBus.endless ≡ false)) (g.B.TubeBus.wiring.cycle (g.B.TubeBus.state l.initial.bus)) l.sure.0
       (spent (ready g.P.Processor.part (g.P.Processor.core l.initial.cpu) l.initial.due) (g.B.TubeBus.room l.initial.notes) (length (g.P.Processor.core l.initial.cpu).seen))
       (spent (ready g.P.Processor.part (g.P.Processor.core l.cpu) l.due) (g.B.TubeBus.room l.notes) (length (g.P.Processor.core l.cpu).seen));

@@ -1,0 +1,21 @@
+-- The same answer again and again.
+use Rattle.std.proofs.Common.{ℕ, zero, suc, ◌≡◌, ◌+◌, ◌*◌, ◌∙◌, refl, sym, ap, subst, arith}
+use Rattle.std.proofs.Math.Nat.{mul-add, mul-one}
+use Rattle.tube_chip.specs.declared.Op.{Op}
+use Rattle.tube_party.specs.Moves.{IsAnsweredAgain}
+
+module _ {D : Type 0} (answers : D → ℕ → Op → ℕ → D → Type 0) (op : Op) (byte period : ℕ) where
+  pub period-more : (k : ℕ) → period * suc k ≡ period * k + period
+  period-more k =
+      let one : suc k ≡ k + 1 = omega arith in
+      ap (λ (n : ℕ). period * n) one ∙ mul-add period k 1 ∙ ap (λ (n : ℕ). period * k + n) (mul-one period)
+
+  -- once more
+  pub again-more : (k : ℕ) (d : D) (t : ℕ) (f e : D) → IsAnsweredAgain answers op byte period k d t f → answers f (t + period * k + period) op byte e
+      → IsAnsweredAgain answers op byte period (suc k) d t e
+  again-more zero d t f e again h =
+      let here : t + period * 0 + period ≡ t + period = omega arith in
+      (e, (subst (λ (x : D). answers x (t + period) op byte e) (sym again) (subst (λ (x : ℕ). answers f x op byte e) here h), refl))
+  again-more (suc k) d t f e again h =
+      let here : t + period * suc k + period ≡ t + period + period * k + period = omega (arith, period-more k) in
+      (again.0, (again.1.0, again-more k again.0 (t + period) f e again.1.1 (subst (λ (x : ℕ). answers f x op byte e) here h)))
