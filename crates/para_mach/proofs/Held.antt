@@ -20,8 +20,8 @@ use Rattle.tube_chip.specs.declared.Lines.{Lines}
 use Rattle.tube_chip.specs.declared.Op.{Op}
 use Rattle.tube_chip.specs.declared.Answer.{Answer}
 use Rattle.tube_chip.specs.declared.Answer.TheVariants.{Byte, Seen}
-use Rattle.tube_party.specs.Moves.{Shown, Looks, Talks, Sees, Hears, Goes, IsAsk, FitsAnswer, shown_lines}
-use Rattle.tube_party.specs.Steps.{look_last, looks_on, looks_wider, silent_all}
+use Rattle.tube_party.specs.Moves.{Shown, Looks, Talks, Sees, Hears, Goes, GoesHearing, IsAsk, FitsAnswer, shown_lines}
+use Rattle.tube_party.specs.Steps.{look_last, looks_wider, silent_all, talks_on, talks_shut}
 use Rattle.tube_party.specs.declared.party.Ask.{Ask}
 use Rattle.tube_party.specs.declared.party.Ask.TheVariants.{Nothing, Access, Look}
 use Rattle.tube_machine.specs.Step.{asks_by, begin_leaves, after_held_cycle, after_step, closed_to, lines_in}
@@ -81,11 +81,6 @@ module _ (n : ℕ) (lines : Lines) (sure : ℕ) where
       → Hears para_moves answers n (shown_lines lines sure) old d ask new e → IsHeldAtLook new
   hears_held answers old new d e ask held hears = ask_held hears.last new ask (talks_held answers hears.accesses old hears.last d e held hears.talks) hears.asked
 
-  -- so many steps, and then what is asked
-  pub goes_of : (old last new : ParaState) (ask : Ask) → (k : ℕ) × Looks para_moves n (shown_lines lines sure) k old last
-      → IsAsk para_moves n last ask new → Goes para_moves n (shown_lines lines sure) old ask new
-  goes_of old last new ask came asked = record { steps = came.0; last = last; looks = came.1; asked = asked }
-
 -- ---- Held
 
 -- the reset line stands for one more reset
@@ -130,23 +125,34 @@ no_cramp Three sure due from room near is some low cramped = omega (arith, is.1,
 no_cramp Four sure due from room near is some low cramped = omega (arith, is.1, some, low, cramped)
 
 -- the steps of a run, and what is asked then; its looks may be nearer than they need be
-pub goes_wider : (n : ℕ) (lines : Lines) (near sure : ℕ) (old last new : ParaState) (ask : Ask) → near ≤ sure
-    → (k : ℕ) × Looks para_moves n (shown_lines lines near) k old last → Goes para_moves n (shown_lines lines sure) last ask new →
-    Goes para_moves n (shown_lines lines sure) old ask new
-goes_wider n lines near sure old last new ask low came goes =
-    let all : (i : ℕ) × Looks para_moves n (shown_lines lines sure) i old goes.last =
-    looks_on para_moves n lines sure came.0 goes.steps old last goes.last (looks_wider para_moves n lines near sure came.0 old last low came.1) goes.looks in
-    record { steps = all.0; last = goes.last; looks = all.1; asked = goes.asked }
+module _ (n : ℕ) (lines : Lines) (near sure : ℕ) {D : Type 0} (answers : D → ℕ → Op → ℕ → D → Type 0) where
+  talks_wider : (j : ℕ) (s last : ParaState) (d e : D) → near ≤ sure → Talks para_moves answers n (shown_lines lines near) j s d last e → Talks para_moves answers n (shown_lines lines sure) j s d last e
+  talks_wider zero s last d e low h = (h.0, (h.1.0, looks_wider para_moves n lines near sure h.1.0 s last low h.1.1))
+  talks_wider (suc j) s last d e low h =
+      (h.0, h.1, h.2, (h.3.0, looks_wider para_moves n lines near sure h.3.0 s h.0 low h.3.1), h.4, talks_wider j h.1 last h.2 e low h.5)
 
-pub sees_wider : (n : ℕ) (lines : Lines) (near sure : ℕ) (old new : ParaState) (ask : Ask) → near ≤ sure
-    → Sees para_moves n (shown_lines lines near) old ask new → Goes para_moves n (shown_lines lines sure) old ask new
-sees_wider n lines near sure old new ask low sees = record {
-  steps = sees.steps;
-  last = sees.last;
-  looks =
-      looks_wider para_moves n lines near sure sees.steps old sees.last low sees.looks;
-  asked = sees.asked;
-}
+  pub hears_wider : (old new : ParaState) (d e : D) (ask : Ask) → near ≤ sure → Hears para_moves answers n (shown_lines lines near) old d ask new e
+      → GoesHearing para_moves answers n (shown_lines lines sure) old d ask new e
+  hears_wider old new d e ask low hears = record {
+    accesses = hears.accesses;
+    last = hears.last;
+    talks = talks_wider hears.accesses old hears.last d e low hears.talks;
+    asked = hears.asked;
+  }
+
+  pub goes_on_wider : (old last new : ParaState) (d e : D) (ask : Ask) → near ≤ sure → (j : ℕ) × Talks para_moves answers n (shown_lines lines near) j old d last e
+      → Goes para_moves n (shown_lines lines sure) last ask new → GoesHearing para_moves answers n (shown_lines lines sure) old d ask new e
+  goes_on_wider old last new d e ask low came goes =
+      let all : (j : ℕ) × Talks para_moves answers n (shown_lines lines sure) j old d goes.last e =
+      talks_on para_moves answers n lines sure came.0 0 old last goes.last d e e (talks_wider came.0 old last d e low came.1) (refl, (goes.steps, goes.looks)) in
+      record { accesses = all.0; last = goes.last; talks = all.1; asked = goes.asked }
+
+-- where nothing is answered
+pub goes_shut : (n : ℕ) (lines : Lines) (sure : ℕ) {D : Type 0} (answers : D → ℕ → Op → ℕ → D → Type 0) → ((d : D) (t : ℕ) (op : Op) (byte : ℕ) (e : D) → answers d t op byte e → ⊥)
+    → (old new : ParaState) (d e : D) (ask : Ask) → GoesHearing para_moves answers n (shown_lines lines sure) old d ask new e → Goes para_moves n (shown_lines lines sure) old ask new
+goes_shut n lines sure answers none old new d e ask goes =
+    let looks = talks_shut para_moves answers n lines sure none goes.accesses old goes.last d e goes.talks in
+    record { steps = looks.0; last = goes.last; looks = looks.1; asked = goes.asked }
 
 -- ---- Taken back
 

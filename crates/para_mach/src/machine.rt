@@ -1,7 +1,7 @@
 //! The machine.
 ghost use Rattle.std.specs.Prelude.{◌≡◌, ◌≤◌, ◌≢◌, ◌↔◌, ◌⊎◌, ◌<◌, ◌+◌, ◌-◌, ◌^◌, ℕ, IfOk, IfErr, IfSome, length, Err, None, MatchOption, IsSome, is_none, true, vec_len, vec_capacity};
 ghost use Rattle.cpu65c02.specs.Sequences.{next_cycle, starting};
-ghost use Rattle.tube_party.specs.Moves.{Goes, shown_lines};
+ghost use Rattle.tube_party.specs.Moves.{Goes, GoesHearing, shown_lines};
 ghost use Rattle.tube_machine.specs.Passing.{IsOver, Passes};
 ghost use Rattle.para_mach.specs.State.{power_on, shown_regs};
 ghost use Rattle.para_mach.specs.Step.{para_moves, para_wiring};
@@ -22,7 +22,7 @@ use tube_chip::{Answer, Lines};
 use tube_machine::{
     Left, Passing, advance_at, advance_seeing, answer, carry_on, look, pass_over, take_lines,
 };
-use tube_party::{Ask, Desk, NO_LINES, Party, Rewinds};
+use tube_party::{Ask, Closed, Desk, NO_LINES, Party, Rewinds};
 
 /// Why no second processor can be made.
 #[derive(Clone, Copy, Debug, PartialEq, Eq, Error)]
@@ -216,8 +216,44 @@ impl ParaMachine {
         look::<NoNotes, Cpu, ParaBus>(&self.cpu, &mut self.bus, self.due, until)
     }
 
-    // Goes on from where it is, and notes that. It may leave off at any look.
+    // Goes on from where it is, with the accesses that the desk answers, and notes that. It may leave off at any look.
     #[inline(never)]
+    fn go_on_at<K: Desk>(
+        &mut self,
+        until: Tick,
+        lines: &Lines,
+        sure: Tick,
+        undo_log: &mut UndoLog,
+        desk: &mut K,
+    ) -> Ask
+        requires ticks { until.0 ≤ 2 ^ 30 }
+        requires room { 16 ≤ vec_capacity undo_log.old.stood - vec_len undo_log.old.stood }
+        ensures goes { GoesHearing para_moves K.answers until.0 (shown_lines lines.now sure.0) self.old (K.state desk.old) result self.new (K.state desk.new) }
+        ensures noted { let old = self.old.bus in
+            let new = self.new.bus in
+            part_kept (put_back undo_log.new.stood.items new.ram) new
+            ≡ part_kept (put_back undo_log.old.stood.items old.ram) old }
+    {
+        let near = self.near(sure, undo_log);
+        let left = carry_on::<UndoLog, Cpu, ParaBus, K>(
+            &mut self.cpu,
+            &mut self.bus,
+            &mut self.due,
+            undo_log,
+            until,
+            lines,
+            near,
+            desk,
+        );
+        match left {
+            Left::Asked(ask) => ask,
+            Left::Look => self.hold(until, lines, sure),
+            Left::Full => unreachable!(),
+        }
+    }
+
+    // The same without a desk.
+    #[inline(always)]
     fn go_on(&mut self, until: Tick, lines: &Lines, sure: Tick, undo_log: &mut UndoLog) -> Ask
         requires ticks { until.0 ≤ 2 ^ 30 }
         requires room { 16 ≤ vec_capacity undo_log.old.stood - vec_len undo_log.old.stood }
@@ -227,21 +263,7 @@ impl ParaMachine {
             part_kept (put_back undo_log.new.stood.items new.ram) new
             ≡ part_kept (put_back undo_log.old.stood.items old.ram) old }
     {
-        let near = self.near(sure, undo_log);
-        let left = carry_on::<UndoLog, Cpu, ParaBus>(
-            &mut self.cpu,
-            &mut self.bus,
-            &mut self.due,
-            undo_log,
-            until,
-            lines,
-            near,
-        );
-        match left {
-            Left::Asked(ask) => ask,
-            Left::Look => self.hold(until, lines, sure),
-            Left::Full => unreachable!(),
-        }
+        self.go_on_at(until, lines, sure, undo_log, &mut Closed)
     }
 }
 
@@ -340,6 +362,19 @@ impl Rewinds for ParaMachine {
     {
         self.mark(past);
         Some(self.go_on(until, lines, sure, &mut past.undo_log))
+    }
+
+    #[inline(always)]
+    fn advance_noting_at<K: Desk>(
+        &mut self,
+        until: Tick,
+        lines: &Lines,
+        sure: Tick,
+        past: &mut Past,
+        desk: &mut K,
+    ) -> Option<Ask> {
+        self.mark(past);
+        Some(self.go_on_at(until, lines, sure, &mut past.undo_log, desk))
     }
 
     #[inline(always)]

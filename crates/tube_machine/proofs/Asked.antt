@@ -15,12 +15,10 @@ use Rattle.tube_chip.specs.declared.Lines.{Lines}
 use Rattle.tube_chip.specs.declared.Op.{Op}
 use Rattle.tube_chip.specs.Act.{Query, access}
 use Rattle.tube_party.specs.Moves.{FitsAnswer, Looks, Talks, IsAnswered, shown_lines}
-use Rattle.tube_party.specs.Steps.{talks_on, talks_shut, hears_shut}
+use Rattle.tube_party.specs.Steps.{talks_on}
 use Rattle.tube_machine.specs.Wiring.{Wiring, IsWired, StaysPlain}
 use Rattle.tube_machine.specs.Step.{At, at_of, is_break, asks, asks_by, after_cycle, after_look, closed_to, next_state, moves_of}
-use Rattle.tube_machine.specs.Exchange.{IsAtTube, IsPassing, IsRun, IsServedRun, IsShut, owed_at}
-use Rattle.tube_machine.specs.declared.steps.Left.{Left}
-use Rattle.tube_machine.specs.declared.steps.Left.TheVariants as left
+use Rattle.tube_machine.specs.Exchange.{IsAtTube, IsPassing, owed_at}
 use Rattle.tube_machine.specs.Lawful.{asked_closed, break_closed, next_closed}
 use Rattle.tube_machine.specs.NoBreak.{no-break, plain-asks}
 use Rattle.tube_machine.specs.Whole.{reach_of, IsMemory, StaysAtRest, IsOnward, IsServed}
@@ -262,9 +260,3 @@ module _ (part : Part) {B D : Type 0} (w : Wiring B) (wired : IsWired w) (answer
   talks-cycle (suc j) s last d e h =
       talks-cycle j h.1 last h.2 e h.5 ∙ ap (λ (x : At B). w.cycle x.bus) h.4.goes ∙ next-cycle part w wired h.0 (Some (Byte h.4.byte))
       ∙ looks-cycle part w wired n lines sure h.3.0 s h.0 h.3.1
-
-  -- where nothing is answered in passing
-  pub run-shut : IsShut answers → (s new : At B) (d e : D) (left : Left) → IsServedRun part w answers n lines sure s d left new e → IsRun part w n lines sure s left new
-  run-shut none s new d e left.Full h = tt
-  run-shut none s new d e (left.Asked ask) h = hears_shut (moves_of part w) answers n lines sure none s new d e ask h
-  run-shut none s new d e left.Look h = (talks_shut (moves_of part w) answers n lines sure none h.0.0 s new d e h.0.1, h.1)

@@ -10,7 +10,7 @@ use Rattle.tube_chip.specs.Act.{access}
 use Rattle.tube_chip.specs.declared.Answer.TheVariants.{Byte}
 use Rattle.tube_chip.specs.declared.Lines.{Lines}
 use Rattle.tube_chip.specs.declared.Op.{Op}
-use Rattle.tube_party.specs.Moves.{FitsAnswer, Looks, Sees, Talks, Hears, shown_lines}
+use Rattle.tube_party.specs.Moves.{FitsAnswer, Talks, Hears, shown_lines}
 use Rattle.tube_machine.specs.declared.bus.Done.{Done}
 use Rattle.tube_machine.specs.declared.bus.Unable.{Unable}
 use Rattle.tube_machine.specs.declared.bus.Unable.TheVariants.{Tube, Full}
@@ -97,29 +97,18 @@ pub record HasSpent (counts : Type 0) (cycle sure : ℕ) (old new : Spent) : Typ
 abbrev pub ready : Part → cpu.State → ℕ → ℕ
 ready part c due = if is_none (next_cycle part c) then due + 1 else due
 
--- no access is answered in passing
-abbrev pub IsShut : {D : Type 0} → (D → ℕ → Op → ℕ → D → Type 0) → Type 0
-IsShut {D} answers = (d : D) (t : ℕ) (op : Op) (byte : ℕ) (e : D) → answers d t op byte e → ⊥
-
 -- Notes cost no more than a cycle each, and so do the cycles of a sequence that began below a tick: what is left at an access by what there was.
 abbrev pub Spends : Part → ℕ → ℕ → Spent → Stop → Spent → Type 0
 Spends part cycle sure old Access new = HasSpent (part ≡ Cmos) cycle sure old new
 Spends part cycle sure old _ new = Unit {0}
 
--- The steps asked nothing or saw these lines, up to a look, which may see them or not; or with them what is asked. Of a run that cannot be noted
--- nothing is told.
-module _ (part : Part) {B : Type 0} (w : Wiring B) where
-  abbrev pub IsRun : ℕ → Lines → ℕ → At B → Left → At B → Type 0
-  IsRun until lines sure old left.Full new = Unit {0}
-  IsRun until lines sure old (left.Asked ask) new = Sees (moves_of part w) until (shown_lines lines sure) old ask new
-  IsRun until lines sure old left.Look new = ((k : ℕ) × Looks (moves_of part w) until (shown_lines lines sure) k old new) × (next_cycle part new.cpu ≡ None)
-
--- The same, but with accesses that are answered in passing. What answers goes from d to e.
+-- The steps asked nothing, or saw these lines, or were accesses answered in passing, up to a look, which may see them or not; or with them what is
+-- asked. What answers goes from d to e. Of a run that cannot be noted nothing is told.
 module _ (part : Part) {B D : Type 0} (w : Wiring B) (answers : D → ℕ → Op → ℕ → D → Type 0) where
-  abbrev pub IsServedRun : ℕ → Lines → ℕ → At B → D → Left → At B → D → Type 0
-  IsServedRun until lines sure old d left.Full new e = Unit {0}
-  IsServedRun until lines sure old d (left.Asked ask) new e = Hears (moves_of part w) answers until (shown_lines lines sure) old d ask new e
-  IsServedRun until lines sure old d left.Look new e =
+  abbrev pub IsRun : ℕ → Lines → ℕ → At B → D → Left → At B → D → Type 0
+  IsRun until lines sure old d left.Full new e = Unit {0}
+  IsRun until lines sure old d (left.Asked ask) new e = Hears (moves_of part w) answers until (shown_lines lines sure) old d ask new e
+  IsRun until lines sure old d left.Look new e =
       ((j : ℕ) × Talks (moves_of part w) answers until (shown_lines lines sure) j old d new e) × (next_cycle part new.cpu ≡ None)
 
 -- A run from a tick came to the end of its room in a sequence that began below the tick sure, or with the run: a write takes a cycle, and so do all

@@ -5,7 +5,7 @@ ghost use Rattle.cpu_core.specs.Sequences.{next_cycle, after_byte, halted};
 ghost use Rattle.tube_chip.specs.declared.Answer.TheVariants.{Byte, Seen};
 ghost use Rattle.tube_party.specs.Moves.{Sees, Hears, IsAsk, IsAskedFor, close_leaves, shown_lines};
 ghost use Rattle.tube_machine.specs.Step.{at_of, moves_of, asks, closed_to, next_state, is_last_tick, is_break, after_break, after_cycle};
-ghost use Rattle.tube_machine.specs.Exchange.{ready, IsDone, IsRun, IsServedRun, IsCramped, IsAskedByte};
+ghost use Rattle.tube_machine.specs.Exchange.{ready, IsDone, IsRun, IsCramped, IsAskedByte};
 
 use crate::bus::{TubeBus, Unable};
 use crate::processor::Processor;
@@ -179,34 +179,9 @@ fn access<N, P: Processor, B: TubeBus<N>>(
     Ok(())
 }
 
-/// The steps in a row, and where they leave off.
+/// The steps in a row, with the accesses that the desk answers, and where they leave off.
 #[inline(always)]
-pub fn carry_on<N, P: Processor, B: TubeBus<N>>(
-    cpu: &mut P,
-    bus: &mut B,
-    due: &mut u64,
-    notes: &mut N,
-    until: Tick,
-    lines: &Lines,
-    sure: Tick,
-) -> Left
-    requires room { until.0 ≤ 2 ^ 30 }
-    requires before { (B.wiring).closed (B.state bus.old) ≤ due.old + 1 }
-    ensures before { (B.wiring).closed (B.state bus.new) ≤ due.new + 1 }
-    ensures ran { let old = at_of (P.core cpu.old) (B.state bus.old) due.old in
-        let new = at_of (P.core cpu.new) (B.state bus.new) due.new in
-        IsRun P.part B.wiring until.0 lines.now sure.0 old result new }
-    ensures noted { B.before notes.new bus.new ≡ B.before notes.old bus.old }
-    ensures full { let from = ready P.part (P.core cpu.old) due.old in
-        let cramped = IsCramped ((B.wiring).cycle (B.state bus.old)) sure.0 from (B.room notes.old) in
-        result ≡ Left.Full → (B.endless ≡ false) × (P.part ≡ Cmos → cramped) }
-{
-    carry_asking::<N, P, B, Closed>(cpu, bus, due, notes, until, lines, sure, &mut Closed)
-}
-
-// The same, with the accesses that the desk answers.
-#[inline(always)]
-fn carry_asking<N, P: Processor, B: TubeBus<N>, D: Desk>(
+pub fn carry_on<N, P: Processor, B: TubeBus<N>, D: Desk>(
     cpu: &mut P,
     bus: &mut B,
     due: &mut u64,
@@ -221,7 +196,7 @@ fn carry_asking<N, P: Processor, B: TubeBus<N>, D: Desk>(
     ensures before { (B.wiring).closed (B.state bus.new) ≤ due.new + 1 }
     ensures ran { let old = at_of (P.core cpu.old) (B.state bus.old) due.old in
         let new = at_of (P.core cpu.new) (B.state bus.new) due.new in
-        IsServedRun P.part B.wiring D.answers until.0 lines.now sure.0 old (D.state desk.old) result new (D.state desk.new) }
+        IsRun P.part B.wiring D.answers until.0 lines.now sure.0 old (D.state desk.old) result new (D.state desk.new) }
     ensures noted { B.before notes.new bus.new ≡ B.before notes.old bus.old }
     ensures full { let from = ready P.part (P.core cpu.old) due.old in
         let cramped = IsCramped ((B.wiring).cycle (B.state bus.old)) sure.0 from (B.room notes.old) in
@@ -342,7 +317,7 @@ pub fn advance_at<N, P: Processor, B: TubeBus<N>, D: Desk>(
         Hears (moves_of P.part B.wiring) D.answers until.0 (shown_lines lines.now sure.0) old (D.state desk.old) result new (D.state desk.new) }
 {
     loop {
-        match carry_asking::<N, P, B, D>(cpu, bus, due, notes, until, lines, sure, desk) {
+        match carry_on::<N, P, B, D>(cpu, bus, due, notes, until, lines, sure, desk) {
             Left::Asked(ask) => return ask,
             Left::Look => {
                 if breaks_alone::<N, P, B>(cpu, bus, *due, until) {

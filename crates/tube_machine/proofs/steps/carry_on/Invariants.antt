@@ -3,7 +3,7 @@ use Rattle.op_table.specs.declared.names.Part.TheVariants.{Cmos}
 use Rattle.tube_party.specs.Moves.{Talks, shown_lines}
 use Rattle.tube_machine.specs.Step.{at_of, moves_of}
 use Rattle.tube_machine.specs.Exchange.{spent, HasSpent, ready}
-use Rattle.tube_machine.proofs.steps.carry_asking.Given as goal
+use Rattle.tube_machine.proofs.steps.carry_on.Given as goal
 
 -- the steps so far asked nothing or saw the lines
 abbrev pub invariant-loop-cpu : goal.invariant-loop-cpu
