@@ -10,6 +10,7 @@ ghost use Rattle.tube_trace.specs.Entries.{IsEntry};
 ghost use Rattle.tube_party.specs.Reference.{reference};
 ghost use Rattle.tube_party.specs.GoingOn.{reference_from, after_entries};
 
+use crate::cursor::is_status;
 use crate::desk::Desk;
 use crate::log::{Log, LogMark};
 use crate::noting::{Room, note_all};
@@ -117,7 +118,8 @@ fn act<M: Party>(
     }
 }
 
-/// Goes on from there: ahead past all that the chip shows it below `ahead`, where its notes allow, or below `sure` alone. True if it is ahead.
+/// Goes on from there: ahead past all that the chip shows it below `ahead`, where its notes allow, or below `sure` alone; its status too,
+/// if it `reads` that. True if it is ahead.
 #[inline(always)]
 fn go_on<M: Rewinds>(
     machine: &mut M,
@@ -127,6 +129,7 @@ fn go_on<M: Rewinds>(
     lines: &Lines,
     ahead: Tick,
     sure: Tick,
+    reads: bool,
 ) -> (bool, Ask)
     requires { n.0 ≤ MOST }
     ensures { let old = attended table.old in
@@ -136,12 +139,23 @@ fn go_on<M: Rewinds>(
 {
     table.turn = Side::Para;
     table.sure = ahead;
+    table.is_open = reads;
     match machine.advance_noting_at(n, lines, ahead, past, table) {
         Some(ask) => (true, ask),
         None => {
             table.sure = sure;
+            table.is_open = true;
             (false, machine.advance_at(n, lines, sure, table))
         }
+    }
+}
+
+/// Whether a party polls whose step asked this: its last access was a read of its status. Where it does not, what it reads ahead is soon changed.
+#[inline(always)]
+fn still_polls(polls: bool, ask: Ask) -> bool {
+    match ask {
+        Ask::Access(_, op) => is_status(op),
+        Ask::Nothing | Ask::Look(_) => polls,
     }
 }
 
@@ -188,6 +202,7 @@ fn roll_back<M: Rewinds>(
     table.para_log.cut(mark);
     table.turn = Side::Para;
     table.sure = at;
+    table.is_open = true;
     machine.advance_at(n, lines, at, table)
 }
 
@@ -196,6 +211,9 @@ const FEWEST: u64 = 16;
 
 /// The most of them.
 const FURTHEST: u64 = 4_096;
+
+/// How far it has to go for its status to be read ahead.
+const TRUSTED: u64 = 64;
 
 /// Goes on with two parties at one chip for the ticks below `n`, as the reference run does that goes on from where both parties are and from the chip
 /// after these accesses, which were made before. They count among the accesses of each side, of which as many are kept as `room` has room for.
@@ -232,10 +250,12 @@ pub fn go_on_from<H: Party, P: Rewinds>(
         turn: Side::Host,
         sure: Tick(0),
         is_read: false,
+        is_open: false,
     };
     let mut host_ask = host.advance(n);
     let mut para_ask = para.advance(n);
     let mut is_ahead = false;
+    let mut polls = false;
     let mut stride = FEWEST;
     while let Some(side) = first_of(host_ask, para_ask) {
         match side {
@@ -259,6 +279,7 @@ pub fn go_on_from<H: Party, P: Rewinds>(
                 );
                 table.turn = Side::Host;
                 table.sure = lookahead(para_ask, 1);
+                table.is_open = true;
                 host_ask = host.advance_at(n, &lines, table.sure, &mut table);
             }
             Side::Para => {
@@ -273,9 +294,11 @@ pub fn go_on_from<H: Party, P: Rewinds>(
                     para_ask,
                 );
                 mark = table.para_log.mark();
+                polls = still_polls(polls, para_ask);
                 let sure = lookahead(host_ask, 0);
+                let reads = polls && stride >= TRUSTED;
                 (is_ahead, para_ask) = go_on(
-                    &mut para, &mut past, &mut table, n, &lines, ahead, sure,
+                    &mut para, &mut past, &mut table, n, &lines, ahead, sure, reads,
                 );
                 stride = stride.saturating_add(stride / 4).min(FURTHEST);
             }

@@ -22,6 +22,8 @@ pub(crate) struct Table {
     pub(crate) sure: Tick,
     /// The parasite has read the chip ahead of the host.
     pub(crate) is_read: bool,
+    /// It answers at all.
+    pub(crate) is_open: bool,
 }
 
 /// A log of so many accesses takes no more in passing.
@@ -61,12 +63,15 @@ impl Desk for Table {
 
     #[inline(always)]
     fn awaits(&self, from: Tick, _to: Tick) -> bool {
-        from < self.sure
+        self.is_open && from < self.sure
     }
 
     #[inline(always)]
     fn ask(&mut self, tick: Tick, op: Op) -> Option<u8> {
-        if tick >= self.sure || !passes(&self.chip, self.turn, self.is_read, op) {
+        if !self.is_open || tick >= self.sure {
+            return None;
+        }
+        if !passes(&self.chip, self.turn, self.is_read, op) {
             return None;
         }
         if self.host_log.count >= MOST_COUNT || self.para_log.count >= MOST_COUNT {
