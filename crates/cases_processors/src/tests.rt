@@ -11,3 +11,4 @@ mod numbers;
 mod reports;
 mod shelves_and_crews;
 mod whole_instructions;
+mod words;

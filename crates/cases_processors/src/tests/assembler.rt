@@ -1,7 +1,8 @@
 //! Source texts with their bytes, and with their first offending line.
-use asm65::{AsmError, assemble};
+use asm65::{AsmError, Image, assemble};
+use digits::{four_digits, two_digits};
 use op_table::Part::{self, Cmos, Nmos};
-use op_table::{Mode, documented};
+use op_table::{Mode, Row, documented};
 use std::alloc::{AllocError, Global};
 use std::test::Fail;
 
@@ -131,31 +132,59 @@ fn add(text: &mut Vec<u8>, piece: &str) -> Result<(), AllocError> {
     Ok(())
 }
 
-// What a source text comes to.
-fn told(alloc: Global, part: Part, text: &[u8]) -> Result<String, Fail> {
-    match assemble(alloc, part, text) {
-        Ok(image) => {
-            let mut told = format!(in alloc; "{:04X}", image.origin)?;
-            for byte in image.bytes.iter() {
-                told.push_str(format!(in alloc; " {byte:02X}")?.as_str())?;
-            }
-            Ok(told)
+// Whether these are the bytes, each behind a space.
+fn are_listed(bytes: &[u8], list: &[u8]) -> bool {
+    let mut list = list;
+    for byte in bytes {
+        let [b' ', high, low, rest @ ..] = list else {
+            return false;
+        };
+        if [*high, *low] != two_digits(*byte) {
+            return false;
         }
-        Err(error) => Ok(format!(in alloc; "{error}")?),
+        list = rest;
     }
+    list.is_empty()
+}
+
+// Whether an image is its origin and its bytes.
+fn is_image(image: &Image, want: &[u8]) -> bool {
+    let [a, b, c, d, list @ ..] = want else {
+        return false;
+    };
+    ([*a, *b, *c, *d] == four_digits(image.origin)) & are_listed(&image.bytes, list)
+}
+
+// Whether a refusal is told so.
+fn is_told(alloc: Global, error: AsmError, want: &str) -> Result<bool, Fail> {
+    Ok(format!(in alloc; "{error}")?.as_str() == want)
+}
+
+// Whether a source text comes to this.
+fn comes_to(alloc: Global, part: Part, text: &[u8], want: &str) -> Result<bool, Fail> {
+    match assemble(alloc, part, text) {
+        Ok(image) => Ok(is_image(&image, want.as_bytes())),
+        Err(error) => is_told(alloc, error, want),
+    }
+}
+
+// Whether a line holds. One that begins with `#` is none.
+fn holds(alloc: Global, line: &str) -> Result<bool, Fail> {
+    let Some((case, source)) = line.split_once('@') else {
+        return Ok(line.starts_with('#'));
+    };
+    let (part, want) = case.split_once(' ').unwrap_or((case, ""));
+    let part = if part == "65C02" { Cmos } else { Nmos };
+    let mut text = Vec::new(alloc);
+    add(&mut text, source)?;
+    comes_to(alloc, part, &text, want)
 }
 
 #[test]
 fn texts_come_to_their_bytes_or_to_their_first_offending_line(rt: HostRuntime) -> Result<(), Fail> {
     for line in TEXTS.lines() {
-        if let Some((case, source)) = line.split_once('@') {
-            let (part, want) = case.split_once(' ').unwrap_or((case, ""));
-            let part = if part == "65C02" { Cmos } else { Nmos };
-            let mut text = Vec::new(rt.alloc());
-            add(&mut text, source)?;
-            let told = told(rt.alloc(), part, &text)?;
-            assert_eq!(rt; told.as_str(), want, "{line}");
-        }
+        let holds = holds(rt.alloc(), line)?;
+        assert!(rt; holds, "{line}");
     }
     Ok(())
 }
@@ -181,70 +210,91 @@ fn operand_of(mode: Mode) -> (&'static str, &'static [u8]) {
     }
 }
 
+// Whether the image is these bytes alone.
+fn are(image: &Image, op: u8, operand: &[u8]) -> bool {
+    match image.bytes.as_slice() {
+        [first, rest @ ..] => (*first == op) & (rest == operand),
+        [] => false,
+    }
+}
+
+// Whether a row's form has its opcode.
+fn has_opcode(alloc: Global, part: Part, op: u8, row: Row) -> Result<bool, Fail> {
+    let (operand, bytes) = operand_of(row.mode);
+    let mut text = Vec::from_array(alloc, row.mnemonic.name())?;
+    text.extend_from_slice(operand.as_bytes())?;
+    let image = assemble(alloc, part, &text)?;
+    Ok(are(&image, op, bytes))
+}
+
 #[test]
 fn each_documented_form_has_its_opcode(rt: HostRuntime) -> Result<(), Fail> {
     for part in [Nmos, Cmos] {
         for op in 0..=255u8 {
             if let Some(row) = documented(part, op) {
-                let (operand, bytes) = operand_of(row.mode);
-                let mut text = Vec::from_array(rt.alloc(), row.mnemonic.name())?;
-                text.extend_from_slice(operand.as_bytes())?;
-                let mut want = Vec::from_array(rt.alloc(), [op])?;
-                want.extend_from_slice(bytes)?;
-                let image = assemble(rt.alloc(), part, &text)?;
-                assert_eq!(rt; image.bytes, want, "{part:?} {op:02X}");
+                let has_opcode = has_opcode(rt.alloc(), part, op, row)?;
+                assert!(rt; has_opcode, "{part:?} {op:02X}");
             }
         }
     }
     Ok(())
 }
 
+// Whether a text fills the memory.
+fn fills(alloc: Global, part: Part, text: &[u8]) -> Result<bool, Fail> {
+    let image = assemble(alloc, part, text)?;
+    Ok(image.bytes.len() == 65_536)
+}
+
+// Whether the text of a line fills the memory, and with a little more comes to what the line says.
+fn fills_it(alloc: Global, line: &str) -> Result<bool, Fail> {
+    let mut fields = line.split('@');
+    let mut text = Vec::new(alloc);
+    add(&mut text, fields.next().unwrap_or(""))?;
+    let piece = fields.next().unwrap_or("");
+    for _ in 0..fields.next().unwrap_or("").parse().unwrap_or(0u32) {
+        add(&mut text, piece)?;
+    }
+    add(&mut text, fields.next().unwrap_or(""))?;
+    let fills = fills(alloc, Nmos, &text)? & fills(alloc, Cmos, &text)?;
+    add(&mut text, fields.next().unwrap_or(""))?;
+    let want = fields.next().unwrap_or("");
+    Ok(fills & comes_to(alloc, Nmos, &text, want)? & comes_to(alloc, Cmos, &text, want)?)
+}
+
 #[test]
 fn images_fill_the_memory_and_no_more(rt: HostRuntime) -> Result<(), Fail> {
     for line in FULL.lines() {
-        let mut fields = line.split('@');
-        let mut text = Vec::new(rt.alloc());
-        add(&mut text, fields.next().unwrap_or(""))?;
-        let piece = fields.next().unwrap_or("");
-        for _ in 0..fields.next().unwrap_or("").parse().unwrap_or(0u32) {
-            add(&mut text, piece)?;
-        }
-        add(&mut text, fields.next().unwrap_or(""))?;
-        for part in [Nmos, Cmos] {
-            let image = assemble(rt.alloc(), part, &text)?;
-            assert_eq!(rt; image.bytes.len(), 65_536, "{line}");
-        }
-        add(&mut text, fields.next().unwrap_or(""))?;
-        let want = fields.next().unwrap_or("");
-        for part in [Nmos, Cmos] {
-            assert_eq!(rt; told(rt.alloc(), part, &text)?.as_str(), want, "{line}");
-        }
+        let fills = fills_it(rt.alloc(), line)?;
+        assert!(rt; fills, "{line}");
     }
     Ok(())
 }
 
+const REFUSALS: [(AsmError, &str); 7] = [
+    (AsmError::Syntax { line: 1 }, "line 1: syntax"),
+    (
+        AsmError::NoSuchForm { line: 20 },
+        "line 20: no such form of the instruction",
+    ),
+    (AsmError::UnknownLabel { line: 3 }, "line 3: unknown label"),
+    (
+        AsmError::Repeated { line: 400 },
+        "line 400: the label stands at an earlier line",
+    ),
+    (AsmError::OutOfRange { line: 5 }, "line 5: out of range"),
+    (
+        AsmError::TooLong { line: 65_536 },
+        "line 65536: past the end of memory",
+    ),
+    (AsmError::NoMemory, "no memory"),
+];
+
 #[test]
 fn each_refusal_of_a_source_text_has_a_text(rt: HostRuntime) -> Result<(), Fail> {
-    let rows = [
-        (AsmError::Syntax { line: 1 }, "line 1: syntax"),
-        (
-            AsmError::NoSuchForm { line: 20 },
-            "line 20: no such form of the instruction",
-        ),
-        (AsmError::UnknownLabel { line: 3 }, "line 3: unknown label"),
-        (
-            AsmError::Repeated { line: 400 },
-            "line 400: the label stands at an earlier line",
-        ),
-        (AsmError::OutOfRange { line: 5 }, "line 5: out of range"),
-        (
-            AsmError::TooLong { line: 65_536 },
-            "line 65536: past the end of memory",
-        ),
-        (AsmError::NoMemory, "no memory"),
-    ];
-    for (error, text) in rows {
-        assert_eq!(rt; format!(in rt.alloc(); "{error}")?.as_str(), text);
+    for (error, want) in &REFUSALS {
+        let is_told = is_told(rt.alloc(), *error, *want)?;
+        assert!(rt; is_told, "{want}");
     }
     Ok(())
 }

@@ -1,13 +1,13 @@
 //! The 65C02, by its data sheet: each instruction, its accesses, and what comes between instructions.
 mod rows;
 
+use super::words::{are, byte};
 use cpu_alu::Cycle::{Read, Write};
 use cpu_alu::{Cycle, Regs};
 use cpu65c02::{Cpu, cycles_of_the_table, part};
+use digits::{four_digits, two_digits};
 use op_table::Part;
 use rows::ROWS;
-use std::alloc::Global;
-use std::test::Fail;
 
 /// A memory, with the accesses of the last sequence.
 #[derive(Drop)]
@@ -57,39 +57,73 @@ impl Memory {
             }
         }
     }
+}
 
-    /// The accesses of the last sequence: a write with its byte.
-    fn accesses(&self, alloc: Global) -> Result<String, Fail> {
-        let mut told = String::new(alloc);
-        for access in self.accesses.iter().take(self.cycles) {
-            let text = match access {
-                Read(at) => format!(in alloc; " {at:04X}")?,
-                Write(at, byte) => format!(in alloc; " {at:04X}={byte:02X}")?,
-            };
-            told.push_str(text.as_str())?;
-        }
-        Ok(told)
-    }
+/// A sequence that was done: the registers after it, its first accesses, and how many cycles it took.
+#[derive(Clone, Copy)]
+struct Sequence {
+    after: Regs,
+    accesses: [Cycle; 8],
+    cycles: usize,
+}
 
-    /// How many cycles the last sequence took, the registers after it, and what it wrote.
-    fn told(&self, alloc: Global, r: Regs) -> Result<String, Fail> {
-        let mut told = format!(in alloc; "{}", self.cycles)?;
-        told.push_str(registers(alloc, r)?.as_str())?;
-        for access in self.accesses.iter().take(self.cycles) {
-            if let Write(at, byte) = access {
-                told.push_str(format!(in alloc; " {at:04X} {byte:02X}")?.as_str())?;
+/// Whether a word is this access: a read's address, or a write's, `=` and the byte.
+fn is_access(word: &[u8], access: Cycle) -> bool {
+    match access {
+        Read(at) => word == four_digits(at).as_slice(),
+        Write(at, byte) => match word {
+            [a, b, c, d, b'=', high, low] => {
+                ([*a, *b, *c, *d] == four_digits(at)) & ([*high, *low] == two_digits(byte))
             }
-        }
-        Ok(told)
+            _ => false,
+        },
     }
 }
 
-fn registers(alloc: Global, r: Regs) -> Result<String, Fail> {
-    let text = format!(in alloc;
-        " {:04X} {:02X} {:02X} {:02X} {:02X} {:02X}",
-        r.pc, r.a, r.x, r.y, r.s, r.p
-    )?;
-    Ok(text)
+impl Sequence {
+    /// Whether it made these accesses.
+    fn made(&self, list: &str) -> bool {
+        let mut words = list.split(' ');
+        for access in self.accesses.iter().take(self.cycles) {
+            let is_next = match words.next() {
+                Some(word) => is_access(word.as_bytes(), *access),
+                None => false,
+            };
+            if !is_next {
+                return false;
+            }
+        }
+        words.next().is_none()
+    }
+
+    /// Whether it made these writes, each an address and a byte.
+    fn wrote(&self, list: &[u8]) -> bool {
+        let mut list = list;
+        for access in self.accesses.iter().take(self.cycles) {
+            if let Write(at, byte) = *access {
+                let [b' ', a, b, c, d, b' ', high, low, rest @ ..] = list else {
+                    return false;
+                };
+                if [*a, *b, *c, *d] != four_digits(at) || [*high, *low] != two_digits(byte) {
+                    return false;
+                }
+                list = rest;
+            }
+        }
+        list.is_empty()
+    }
+
+    /// Whether it took so many cycles, left these registers and made these writes.
+    fn came_to(&self, want: &[u8]) -> bool {
+        let [cycles, b' ', rest @ ..] = want else {
+            return false;
+        };
+        let after = rest.get(..19).unwrap_or(&[]);
+        let writes = rest.get(19..).unwrap_or(&[]);
+        (usize::from(cycles.wrapping_sub(b'0')) == self.cycles)
+            & are(after, self.after)
+            & self.wrote(writes)
+    }
 }
 
 /// Does what is left of a sequence.
@@ -112,25 +146,40 @@ fn next(cpu: &mut Cpu, memory: &mut Memory, nmi: bool, irq: bool) {
     finish(cpu, memory);
 }
 
-/// The registers, once a sequence has ended.
-fn end(cpu: &Cpu) -> Option<Regs> {
-    if cpu.last() { Some(cpu.at_end()) } else { None }
+/// The last sequence, once it has ended.
+fn done(cpu: &Cpu, memory: &Memory) -> Option<Sequence> {
+    if cpu.last() {
+        Some(Sequence {
+            after: cpu.at_end(),
+            accesses: memory.accesses,
+            cycles: memory.cycles,
+        })
+    } else {
+        None
+    }
 }
 
 /// The registers before an instruction. LOW: no indexed address crosses a page, and all flags are clear. HIGH: indexed addresses cross pages, the
 /// stack wraps at a push, and all flags but D are set. TOP: addresses wrap, and the stack wraps at a pull. DECIMAL: D and C are set.
-fn before(name: &str) -> Option<(u8, u8, u8, u8, u8)> {
+fn before(name: &[u8]) -> Option<Regs> {
     match name {
-        "LOW" => Some((0x5A, 0x23, 0x14, 0xFD, 0x00)),
-        "HIGH" => Some((0xC3, 0x23, 0xE4, 0x00, 0xC7)),
-        "TOP" => Some((0x80, 0xFF, 0xFF, 0xFF, 0x04)),
-        "DECIMAL" => Some((0x58, 0x23, 0x14, 0xFD, 0x09)),
+        b"LOW" => Some(registers(0x5A, 0x23, 0x14, 0xFD, 0x00)),
+        b"HIGH" => Some(registers(0xC3, 0x23, 0xE4, 0x00, 0xC7)),
+        b"TOP" => Some(registers(0x80, 0xFF, 0xFF, 0xFF, 0x04)),
+        b"DECIMAL" => Some(registers(0x58, 0x23, 0x14, 0xFD, 0x09)),
         _ => None,
     }
 }
 
+/// The registers at 040D.
+fn registers(a: u8, x: u8, y: u8, s: u8, p: u8) -> Regs {
+    let pc = 0x040D;
+    Regs { pc, a, x, y, s, p }
+}
+
 /// Starts at 0400, and comes to 040D with these registers.
-fn set_up(memory: &mut Memory, (a, x, y, s, p): (u8, u8, u8, u8, u8)) -> Cpu {
+fn set_up(memory: &mut Memory, before: Regs) -> Cpu {
+    let Regs { a, x, y, s, p, .. } = before;
     memory.place(0xFFFC, &[0x00, 0x04]);
     // LDX #s, TXS, LDA #p, PHA, LDX #x, LDY #y, LDA #a, PLP
     memory.place(0x0400, &[0xA2, s, 0x9A, 0xA9, p, 0x48]);
@@ -143,50 +192,44 @@ fn set_up(memory: &mut Memory, (a, x, y, s, p): (u8, u8, u8, u8, u8)) -> Cpu {
     cpu
 }
 
-fn byte(digits: &str) -> Option<u8> {
-    u8::from_str_radix(digits, 16).ok()
+/// Does an instruction, of three bytes at 040D, with these registers before it, which it really has.
+fn run(code: &[u8], before: Regs) -> Option<Sequence> {
+    let mut memory = Memory::filled();
+    memory.place(0x040D, code);
+    let mut cpu = set_up(&mut memory, before);
+    let is_before = cpu.last() && cpu.at_end() == before;
+    next(&mut cpu, &mut memory, false, false);
+    if is_before { done(&cpu, &memory) } else { None }
 }
 
-/// Does the instruction of a line's beginning: its three bytes at 040D, and the registers before it, which it really has. None where it is no such.
-fn done(head: &str) -> Option<(Cpu, Memory)> {
-    let mut words = head.split(' ');
-    let code = [
-        byte(words.next()?)?,
-        byte(words.next()?)?,
-        byte(words.next()?)?,
-    ];
-    let (a, x, y, s, p) = before(words.next()?)?;
-    let mut memory = Memory::filled();
-    memory.place(0x040D, &code);
-    let mut cpu = set_up(&mut memory, (a, x, y, s, p));
-    let pc = 0x040D;
-    let is_before = end(&cpu) == Some(Regs { pc, a, x, y, s, p });
-    next(&mut cpu, &mut memory, false, false);
-    if is_before { Some((cpu, memory)) } else { None }
+/// Does the instruction of a line's beginning: its three bytes, and the registers before it.
+fn done_of(head: &str) -> Option<Sequence> {
+    match head.as_bytes() {
+        [a, b, b' ', c, d, b' ', e, f, b' ', name @ ..] => {
+            let code = [byte(*a, *b), byte(*c, *d), byte(*e, *f)];
+            run(&code, before(name)?)
+        }
+        _ => None,
+    }
 }
 
 /// Whether an instruction ends as its line says, with these cycles, registers and writes or, where so asked, with these accesses.
-fn ends_so(alloc: Global, line: &str, by_access: bool) -> Result<bool, Fail> {
-    let (head, want) = line.split_once('@').unwrap_or((line, ""));
-    let Some((cpu, memory)) = done(head) else {
-        return Ok(false);
+fn ends_so(line: &str, by_access: bool) -> bool {
+    let Some((head, want)) = line.split_once('@') else {
+        return false;
     };
-    let Some(after) = end(&cpu) else {
-        return Ok(false);
-    };
-    if by_access {
-        let told = memory.accesses(alloc)?;
-        return Ok(told.as_bytes().strip_prefix(b" ") == Some(want.as_bytes()));
+    match done_of(head) {
+        Some(done) if by_access => done.made(want),
+        Some(done) => done.came_to(want.as_bytes()),
+        None => false,
     }
-    Ok(memory.told(alloc, after)?.as_str() == want)
 }
 
 #[test]
-fn documented_instructions_do_what_the_data_sheet_says(rt: HostRuntime) -> Result<(), Fail> {
+fn documented_instructions_do_what_the_data_sheet_says(rt: HostRuntime) {
     for line in ROWS.lines() {
-        assert!(rt; ends_so(rt.alloc(), line, false)?, "{line}");
+        assert!(rt; ends_so(line, false), "{line}");
     }
-    Ok(())
 }
 
 /// A line is an instruction, its bytes and the registers before it, and behind `@` its accesses, a write with its byte.
@@ -231,24 +274,33 @@ F0 17 00 LOW@040D 040E
 ";
 
 #[test]
-fn accesses_come_in_their_order(rt: HostRuntime) -> Result<(), Fail> {
+fn accesses_come_in_their_order(rt: HostRuntime) {
     for line in ACCESSES.lines() {
         if !line.starts_with('#') {
-            assert!(rt; ends_so(rt.alloc(), line, true)?, "{line}");
+            assert!(rt; ends_so(line, true), "{line}");
         }
     }
-    Ok(())
 }
 
 /// Whether an opcode does nothing in so many bytes and cycles.
-fn is_spare(alloc: Global, op: u8, bytes: u16, cycles: u8) -> Result<bool, Fail> {
-    let pc = 0x040Du16.wrapping_add(bytes);
-    let line = format!(in alloc; "{op:02X} 00 00 HIGH@{cycles} {pc:04X} C3 23 E4 00 C7")?;
-    ends_so(alloc, line.as_str(), false)
+fn is_spare(op: u8, bytes: u16, cycles: usize) -> bool {
+    let before = registers(0xC3, 0x23, 0xE4, 0x00, 0xC7);
+    let Some(done) = run(&[op, 0, 0], before) else {
+        return false;
+    };
+    let after = Regs {
+        pc: before.pc.wrapping_add(bytes),
+        ..before
+    };
+    let mut writes = false;
+    for access in done.accesses.iter().take(done.cycles) {
+        writes |= matches!(access, Write(_, _));
+    }
+    (done.after == after) & (done.cycles == cycles) & !writes
 }
 
 /// The opcodes that do nothing, but those of the columns 3, 7, B and F: opcode, bytes, cycles.
-const SPARE: [(u8, u16, u8); 14] = [
+const SPARE: [(u8, u16, usize); 14] = [
     (0x02, 2, 2),
     (0x22, 2, 2),
     (0x42, 2, 2),
@@ -266,67 +318,72 @@ const SPARE: [(u8, u16, u8); 14] = [
 ];
 
 #[test]
-fn other_opcodes_do_nothing(rt: HostRuntime) -> Result<(), Fail> {
+fn other_opcodes_do_nothing(rt: HostRuntime) {
     cycles_of_the_table();
     assert_eq!(rt; part(), Part::Cmos);
-    for op in 0..=255u8 {
-        if op % 4 == 3 {
-            assert!(rt; is_spare(rt.alloc(), op, 1, 1)?, "{op}");
-        }
+    for column in 0..64u8 {
+        let op = 4 * column + 3;
+        assert!(rt; is_spare(op, 1, 1), "{op}");
     }
-    for (op, bytes, cycles) in SPARE {
-        assert!(rt; is_spare(rt.alloc(), op, bytes, cycles)?, "{op}");
+    for (op, bytes, cycles) in &SPARE {
+        assert!(rt; is_spare(*op, *bytes, *cycles), "{op}");
     }
-    Ok(())
+}
+
+/// Cycles, registers and writes of JMP (&10FF), LDA #&99, CLC, SED and ADC #&01.
+const JUMP_AND_SUM: [&str; 5] = [
+    "6 5634 00 00 00 FD 04",
+    "2 5636 99 00 00 FD 84",
+    "2 5637 99 00 00 FD 84",
+    "2 5638 99 00 00 FD 8C",
+    "3 563A 00 00 00 FD 0F",
+];
+
+/// Whether the next instruction begins at a look, and comes to this.
+fn comes_to(cpu: &mut Cpu, memory: &mut Memory, want: &str) -> bool {
+    if !cpu.last() {
+        return false;
+    }
+    cpu.take_lines(false, false);
+    let starts = cpu.starting();
+    finish(cpu, memory);
+    match done(cpu, memory) {
+        Some(done) => starts & done.came_to(want.as_bytes()),
+        None => false,
+    }
 }
 
 #[test]
-fn an_indirect_jump_crosses_a_page_and_a_decimal_sum_takes_a_cycle_more(
-    rt: HostRuntime,
-) -> Result<(), Fail> {
+fn an_indirect_jump_crosses_a_page_and_a_decimal_sum_takes_a_cycle_more(rt: HostRuntime) {
     let mut memory = Memory::empty();
     memory.place(0xFFFD, &[0xC0]);
     memory.place(0x10FF, &[0x34, 0x56]);
     memory.place(0x1000, &[0x12]);
     memory.place(0xC000, &[0x6C, 0xFF, 0x10]);
-    // LDA #&99, CLC, SED, ADC #&01
     memory.place(0x5634, &[0xA9, 0x99, 0x18, 0xF8, 0x69, 0x01]);
     let mut cpu = Cpu::new();
     assert!(rt; !cpu.starting());
     finish(&mut cpu, &mut memory);
-    for want in [
-        "6 5634 00 00 00 FD 04",
-        "2 5636 99 00 00 FD 84",
-        "2 5637 99 00 00 FD 84",
-        "2 5638 99 00 00 FD 8C",
-        "3 563A 00 00 00 FD 0F",
-    ] {
-        assert!(rt; cpu.last());
-        cpu.take_lines(false, false);
-        assert!(rt; cpu.starting());
-        finish(&mut cpu, &mut memory);
-        assert!(rt; cpu.last());
-        let told = memory.told(rt.alloc(), cpu.at_end())?;
-        assert!(rt; told.as_str() == want, "{told}");
+    for want in JUMP_AND_SUM {
+        assert!(rt; comes_to(&mut cpu, &mut memory, want), "{want}");
     }
-    Ok(())
 }
 
 /// A line is what the lines ask at a look; behind `@` the accesses of the sequence that begins, a write with its byte, and behind another PC, A, X, Y, S and P
 /// after it. SED, CLI and BRK stand at 1234, and RTI at 5678.
 const LOOKS: &str = "\
 # NMI comes before IRQ, and whatever I is.
-nmi irq@ C000 C000 01FD=C0 01FC=00 01FB=24 FFFA FFFB@ 1234 00 00 00 FA 04
+nmi irq@C000 C000 01FD=C0 01FC=00 01FB=24 FFFA FFFB@1234 00 00 00 FA 04
 # I holds IRQ back until CLI is done; D is pushed, and then clear.
-irq@ 1234 1235@ 1235 00 00 00 FA 0C
-irq@ 1235 1236@ 1236 00 00 00 FA 08
-irq@ 1236 1236 01FA=12 01F9=36 01F8=28 FFFE FFFF@ 5678 00 00 00 F7 04
+irq@1234 1235@1235 00 00 00 FA 0C
+irq@1235 1236@1236 00 00 00 FA 08
+irq@1236 1236 01FA=12 01F9=36 01F8=28 FFFE FFFF@5678 00 00 00 F7 04
 # RTI leaves the bits 4 and 5 of the pulled flags out.
-@ 5678 5679 01F7 01F8 01F9 01FA@ 1236 00 00 00 FA 08
+@5678 5679 01F7 01F8 01F9 01FA@1236 00 00 00 FA 08
 # BRK pushes the address two above its own, and bit 4 beside the flags.
-@ 1236 1237 01FA=12 01F9=38 01F8=38 FFFE FFFF@ 5678 00 00 00 F7 04
+@1236 1237 01FA=12 01F9=38 01F8=38 FFFE FFFF@5678 00 00 00 F7 04
 # A reset keeps the registers, and S goes down by three.
-reset@ 5678 5678 01F7 01F6 01F5 FFFC FFFD@ C000 00 00 00 F4 04
+reset@5678 5678 01F7 01F6 01F5 FFFC FFFD@C000 00 00 00 F4 04
 ";
 
 /// Does the sequence of a line's beginning.
@@ -344,32 +401,37 @@ fn begin(cpu: &mut Cpu, memory: &mut Memory, head: &str) {
 }
 
 /// Whether the last sequence was one of these accesses and left these registers.
-fn was(alloc: Global, cpu: &Cpu, memory: &Memory, want: &str) -> Result<bool, Fail> {
+fn was(cpu: &Cpu, memory: &Memory, want: &str) -> bool {
     let (accesses, after) = want.split_once('@').unwrap_or(("", ""));
-    let Some(left) = end(cpu) else {
-        return Ok(false);
-    };
-    let is_so = memory.accesses(alloc)?.as_str() == accesses;
-    Ok(is_so && registers(alloc, left)?.as_str() == after)
+    match done(cpu, memory) {
+        Some(done) => done.made(accesses) & are(after.as_bytes(), done.after),
+        None => false,
+    }
+}
+
+/// Whether a line of looks holds. One that begins with `#` is none.
+fn holds(cpu: &mut Cpu, memory: &mut Memory, line: &str) -> bool {
+    match line.split_once('@') {
+        Some((head, want)) => {
+            begin(cpu, memory, head);
+            was(cpu, memory, want)
+        }
+        None => line.starts_with('#'),
+    }
 }
 
 #[test]
-fn nmi_comes_before_irq_and_a_reset_keeps_the_registers(rt: HostRuntime) -> Result<(), Fail> {
+fn nmi_comes_before_irq_and_a_reset_keeps_the_registers(rt: HostRuntime) {
     let mut memory = Memory::empty();
     memory.place(0xFFFA, &[0x34, 0x12, 0x00, 0xC0, 0x78, 0x56]);
     memory.place(0x1234, &[0xF8, 0x58, 0x00]);
     memory.place(0x5678, &[0x40]);
     let mut cpu = Cpu::new();
-    let start = registers(rt.alloc(), cpu.at_start())?;
-    assert_eq!(rt; start.as_str(), " 0000 00 00 00 00 00");
+    assert!(rt; are(b"0000 00 00 00 00 00", cpu.at_start()));
     finish(&mut cpu, &mut memory);
-    let reset = " 0000 0000 0100 01FF 01FE FFFC FFFD@ C000 00 00 00 FD 04";
-    assert!(rt; was(rt.alloc(), &cpu, &memory, reset)?);
+    let reset = "0000 0000 0100 01FF 01FE FFFC FFFD@C000 00 00 00 FD 04";
+    assert!(rt; was(&cpu, &memory, reset));
     for line in LOOKS.lines() {
-        if let Some((head, want)) = line.split_once('@') {
-            begin(&mut cpu, &mut memory, head);
-            assert!(rt; was(rt.alloc(), &cpu, &memory, want)?, "{line}");
-        }
+        assert!(rt; holds(&mut cpu, &mut memory, line), "{line}");
     }
-    Ok(())
 }

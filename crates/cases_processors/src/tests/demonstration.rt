@@ -70,17 +70,19 @@ fn first_bytes(seed: u64) -> &'static [u8] {
     }
 }
 
+// Whether this is the pair of a seed.
+fn is_pair(demo: &Demo, seed: u64) -> bool {
+    is_image(&demo.os, OS, b"\x00\xc0\x00\xc0\x00\xc0", 16_384)
+        & is_image(&demo.tube, TUBE, b"\x00\xf8\x00\xf8\x00\xf8", 2_048)
+        & holds_plain_bytes(demo, seed)
+        & (demo.tube.get(256..260) == Some(first_bytes(seed)))
+}
+
 #[test]
 fn the_pair_of_a_seed_is_assembled_and_drawn(rt: HostRuntime) -> Result<(), Fail> {
     for seed in [0, 1, u64::MAX] {
         let demo = pair(rt.alloc(), seed)?;
-        assert!(rt; is_image(&demo.os, OS, b"\x00\xc0\x00\xc0\x00\xc0", 16_384));
-        assert!(rt; is_image(&demo.tube, TUBE, b"\x00\xf8\x00\xf8\x00\xf8", 2_048));
-        assert!(rt; holds_plain_bytes(&demo, seed), "{seed}");
-        assert!(rt;
-            demo.tube.get(256..260) == Some(first_bytes(seed)),
-            "{seed}"
-        );
+        assert!(rt; is_pair(&demo, seed), "{seed}");
     }
     Ok(())
 }

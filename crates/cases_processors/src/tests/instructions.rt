@@ -2,8 +2,11 @@ use op_table::{
     Mnemonic, Mode, Part, Row, cmos, documented, find, forms_and_rows_agree, names_lead_back, nmos,
 };
 
-// Opcode, mnemonic, mode, bytes and cycles, from the MCS6500 Programming Manual.
-const NMOS_ROWS: [(u8, Mnemonic, Mode, u8, u8); 42] = [
+// Opcode, mnemonic, mode, bytes and cycles.
+type Entry = (u8, Mnemonic, Mode, u8, u8);
+
+// From the MCS6500 Programming Manual.
+const NMOS_ROWS: [Entry; 42] = [
     (0x69, Mnemonic::Adc, Mode::Imm, 2, 2),
     (0x65, Mnemonic::Adc, Mode::Zp, 2, 3),
     (0x75, Mnemonic::Adc, Mode::ZpX, 2, 4),
@@ -49,7 +52,7 @@ const NMOS_ROWS: [(u8, Mnemonic, Mode, u8, u8); 42] = [
 ];
 
 // The same from the W65C02S data sheet.
-const CMOS_ROWS: [(u8, Mnemonic, Mode, u8, u8); 47] = [
+const CMOS_ROWS: [Entry; 47] = [
     (0x69, Mnemonic::Adc, Mode::Imm, 2, 2),
     (0x72, Mnemonic::Adc, Mode::IndZp, 2, 5),
     (0x1E, Mnemonic::Asl, Mode::AbsX, 3, 6),
@@ -99,91 +102,107 @@ const CMOS_ROWS: [(u8, Mnemonic, Mode, u8, u8); 47] = [
     (0xFC, Mnemonic::Nop, Mode::Spare, 3, 4),
 ];
 
+/// Whether the row of an opcode is that of a manual, and has the bytes of its mode.
+fn is_row(part: Part, (op, mnemonic, mode, bytes, cycles): Entry) -> bool {
+    let row = Row {
+        mnemonic,
+        mode,
+        bytes,
+        cycles,
+    };
+    let found = match part {
+        Part::Nmos => nmos(op),
+        Part::Cmos => Some(cmos(op)),
+    };
+    (found == Some(row)) & (mode == Mode::Spare || mode.length() == bytes)
+}
+
+/// The first opcode whose row is another.
+fn first_other(part: Part, rows: &[Entry]) -> Option<u8> {
+    for row in rows {
+        if !is_row(part, *row) {
+            return Some(row.0);
+        }
+    }
+    None
+}
+
 #[test]
 fn rows_are_those_of_the_manuals(rt: HostRuntime) {
-    for (op, mnemonic, mode, bytes, cycles) in NMOS_ROWS {
-        let row = Row {
-            mnemonic,
-            mode,
-            bytes,
-            cycles,
-        };
-        assert_eq!(rt; nmos(op), Some(row), "{op:02X} of the NMOS 6502");
-        assert_eq!(rt; mode.length(), bytes, "{mode:?}");
+    assert_eq!(rt; first_other(Part::Nmos, &NMOS_ROWS), None);
+    assert_eq!(rt; first_other(Part::Cmos, &CMOS_ROWS), None);
+}
+
+/// Whether a documented row is found by its mnemonic and mode, and has the bytes of its mode.
+fn leads_back(part: Part, op: u8, row: Row) -> bool {
+    (find(part, row.mnemonic, row.mode) == Some(op)) & (row.mode.length() == row.bytes)
+}
+
+/// How many opcodes of a part are documented, and how many of them lead back.
+fn counts(part: Part) -> (u16, u16) {
+    let mut counts = (0u16, 0u16);
+    for op in 0..=255u8 {
+        if let Some(row) = documented(part, op) {
+            let is_found = leads_back(part, op, row);
+            counts.0 = counts.0.saturating_add(1);
+            counts.1 = counts.1.saturating_add(u16::from(is_found));
+        }
     }
-    for (op, mnemonic, mode, bytes, cycles) in CMOS_ROWS {
-        let row = Row {
-            mnemonic,
-            mode,
-            bytes,
-            cycles,
-        };
-        assert_eq!(rt; cmos(op), row, "{op:02X} of the 65C02");
-    }
+    counts
 }
 
 #[test]
 fn documented_instructions_are_those_of_the_manuals(rt: HostRuntime) {
     forms_and_rows_agree();
-    for (part, count) in [(Part::Nmos, 151), (Part::Cmos, 178)] {
-        assert_eq!(rt;
-            (0..=255u8)
-                .filter(|op| documented(part, *op).is_some())
-                .count(),
-            count,
-            "{part:?}"
-        );
-        for op in 0..=255u8 {
-            if let Some(row) = documented(part, op) {
-                assert_eq!(rt; find(part, row.mnemonic, row.mode), Some(op), "{op:02X}");
-                assert_eq!(rt; row.mode.length(), row.bytes, "{op:02X}");
-            }
+    assert_eq!(rt; counts(Part::Nmos), (151, 151));
+    assert_eq!(rt; counts(Part::Cmos), (178, 178));
+    let of_opcodes = [
+        documented(Part::Nmos, 0x80),
+        documented(Part::Cmos, 0x80),
+        documented(Part::Cmos, 0x5C),
+    ];
+    assert!(rt; of_opcodes == [None, Some(cmos(0x80)), None]);
+    let missing = [
+        find(Part::Nmos, Mnemonic::Bra, Mode::Rel),
+        find(Part::Nmos, Mnemonic::Lda, Mode::IndZp),
+        find(Part::Nmos, Mnemonic::Inc, Mode::Acc),
+        find(Part::Nmos, Mnemonic::Sta, Mode::Imm),
+        find(Part::Cmos, Mnemonic::Sta, Mode::Imm),
+        find(Part::Cmos, Mnemonic::Ldx, Mode::ZpX),
+    ];
+    assert_eq!(rt; missing, [None; 6]);
+}
+
+/// The first opcode whose mnemonic is not found by its name.
+fn first_lost() -> Option<u8> {
+    for op in 0..=255u8 {
+        let mnemonic = cmos(op).mnemonic;
+        if Mnemonic::of_name(&mnemonic.name()) != Some(mnemonic) {
+            return Some(op);
         }
     }
-    assert_eq!(rt; documented(Part::Nmos, 0x80), None);
-    assert_eq!(rt; documented(Part::Cmos, 0x80), Some(cmos(0x80)));
-    assert_eq!(rt; documented(Part::Cmos, 0x5C), None);
-    let missing = [
-        (Part::Nmos, Mnemonic::Bra, Mode::Rel),
-        (Part::Nmos, Mnemonic::Lda, Mode::IndZp),
-        (Part::Nmos, Mnemonic::Inc, Mode::Acc),
-        (Part::Nmos, Mnemonic::Sta, Mode::Imm),
-        (Part::Cmos, Mnemonic::Sta, Mode::Imm),
-        (Part::Cmos, Mnemonic::Ldx, Mode::ZpX),
-    ];
-    for (part, mnemonic, mode) in missing {
-        assert_eq!(rt;
-            find(part, mnemonic, mode),
-            None,
-            "{part:?} {mnemonic:?} {mode:?}"
-        );
-    }
+    None
 }
+
+/// Names in either case, and what is none.
+const NAMES: [(&str, Option<Mnemonic>); 9] = [
+    ("LDA", Some(Mnemonic::Lda)),
+    ("lda", Some(Mnemonic::Lda)),
+    ("Tsb", Some(Mnemonic::Tsb)),
+    ("bRk", Some(Mnemonic::Brk)),
+    ("LDB", None),
+    ("LD", None),
+    ("LDAX", None),
+    ("LD ", None),
+    ("", None),
+];
 
 #[test]
 fn names_go_both_ways(rt: HostRuntime) {
     names_lead_back();
-    assert_eq!(rt; Mnemonic::Jsr.name(), *b"JSR");
-    for op in 0..=255u8 {
-        let mnemonic = cmos(op).mnemonic;
-        assert_eq!(rt;
-            Mnemonic::of_name(&mnemonic.name()),
-            Some(mnemonic),
-            "{mnemonic:?}"
-        );
-    }
-    let rows = [
-        ("LDA", Some(Mnemonic::Lda)),
-        ("lda", Some(Mnemonic::Lda)),
-        ("Tsb", Some(Mnemonic::Tsb)),
-        ("bRk", Some(Mnemonic::Brk)),
-        ("LDB", None),
-        ("LD", None),
-        ("LDAX", None),
-        ("LD ", None),
-        ("", None),
-    ];
-    for (text, want) in rows {
-        assert_eq!(rt; Mnemonic::of_name(text.as_bytes()), want, "{text}");
+    assert!(rt; Mnemonic::Jsr.name() == *b"JSR");
+    assert_eq!(rt; first_lost(), None);
+    for (text, want) in &NAMES {
+        assert!(rt; Mnemonic::of_name(text.as_bytes()) == *want, "{text}");
     }
 }

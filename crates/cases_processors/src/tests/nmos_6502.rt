@@ -1,13 +1,13 @@
 //! The NMOS 6502, by its manuals: each instruction's accesses, and what comes between instructions.
 mod rows;
 
+use super::words::{are, byte};
 use cpu_alu::Cycle::{Read, Write};
 use cpu_alu::Regs;
 use cpu6502::{Cpu, cycles_of_the_table, part};
+use digits::{four_digits, two_digits};
 use op_table::{Part, nmos};
 use rows::ROWS;
-use std::alloc::Global;
-use std::test::Fail;
 
 /// Gives it these bytes, one a cycle, and looks at the lines between, where none asks.
 fn feed(cpu: &mut Cpu, bytes: &[u8]) {
@@ -52,72 +52,70 @@ fn set_up(before: Regs) -> Option<Cpu> {
     }
 }
 
-fn registers(alloc: Global, r: Regs) -> Result<String, Fail> {
-    let text = format!(in alloc;
-        "{:04X} {:02X} {:02X} {:02X} {:02X} {:02X}",
-        r.pc, r.a, r.x, r.y, r.s, r.p
-    )?;
-    Ok(text)
-}
-
 /// Whether the next access is this one: a read, whose byte it gets, or a write.
-fn accesses(cpu: &mut Cpu, access: &str) -> Option<bool> {
-    let (at, digits) = access.split_once('=')?;
-    let byte = u8::from_str_radix(digits, 16).ok()?;
-    let (_, at) = at.split_once(if at.starts_with('w') { 'w' } else { 'r' })?;
-    let at = u16::from_str_radix(at, 16).ok()?;
+fn accesses(cpu: &mut Cpu, access: &[u8]) -> bool {
+    let [kind, a, b, c, d, b'=', high, low] = access else {
+        return false;
+    };
     if cpu.last() {
-        return None;
+        return false;
     }
-    if access.starts_with('w') {
-        let is_wanted = cpu.want() == Write(at, byte);
-        cpu.give(0);
-        return Some(is_wanted);
-    }
-    let is_wanted = cpu.want() == Read(at);
-    cpu.give(byte);
-    Some(is_wanted)
+    let is_wanted = match cpu.want() {
+        Read(at) => (*kind == b'r') & ([*a, *b, *c, *d] == four_digits(at)),
+        Write(at, byte) => {
+            (*kind == b'w')
+                & ([*a, *b, *c, *d] == four_digits(at))
+                & ([*high, *low] == two_digits(byte))
+        }
+    };
+    cpu.give(byte(*high, *low));
+    is_wanted
 }
 
-/// Whether the sequence that began leaves these registers, and makes these accesses and no more.
-fn goes(alloc: Global, cpu: &mut Cpu, after: &str, list: &str) -> Result<bool, Fail> {
+/// Whether the next accesses are these.
+fn makes(cpu: &mut Cpu, list: &str) -> bool {
     for access in list.split(' ') {
-        if accesses(cpu, access) != Some(true) {
-            return Ok(false);
+        if !accesses(cpu, access.as_bytes()) {
+            return false;
         }
     }
-    if cpu.starting() {
-        return Ok(false);
-    }
-    if !cpu.last() {
-        return Ok(false);
-    }
-    Ok(registers(alloc, cpu.at_end())?.as_str() == after)
+    true
 }
 
-/// Whether an instruction goes as its line says.
-fn is_right(alloc: Global, line: &str) -> Result<bool, Fail> {
-    let (name, rest) = line.split_once('@').unwrap_or((line, ""));
-    let (after, list) = rest.split_once('@').unwrap_or((rest, ""));
-    let Some(before) = before(name) else {
-        return Ok(false);
-    };
+/// Whether the sequence that began makes these accesses and no more, and leaves these registers.
+fn goes(cpu: &mut Cpu, after: &str, list: &str) -> bool {
+    let is_made = makes(cpu, list);
+    if cpu.last() {
+        is_made & !cpu.starting() & are(after.as_bytes(), cpu.at_end())
+    } else {
+        false
+    }
+}
+
+/// Whether an instruction that begins with these registers goes so.
+fn goes_from(before: Regs, after: &str, list: &str) -> bool {
     let Some(mut cpu) = set_up(before) else {
-        return Ok(false);
+        return false;
     };
     if cpu.last() {
         cpu.take_lines(false, false);
     }
-    let starts = cpu.starting() && cpu.at_start() == before;
-    Ok(goes(alloc, &mut cpu, after, list)? && starts)
+    let starts = cpu.starting() & (cpu.at_start() == before);
+    goes(&mut cpu, after, list) & starts
+}
+
+/// Whether an instruction goes as its line says.
+fn is_right(line: &str) -> Option<bool> {
+    let (name, rest) = line.split_once('@')?;
+    let (after, list) = rest.split_once('@')?;
+    Some(goes_from(before(name)?, after, list))
 }
 
 #[test]
-fn instructions_make_the_accesses_of_the_manual(rt: HostRuntime) -> Result<(), Fail> {
+fn instructions_make_the_accesses_of_the_manual(rt: HostRuntime) {
     for line in ROWS.lines() {
-        assert!(rt; is_right(rt.alloc(), line)?, "{line}");
+        assert!(rt; is_right(line) == Some(true), "{line}");
     }
-    Ok(())
 }
 
 /// Whether an opcode is read again and again, and nothing else done, until a reset.
@@ -148,18 +146,24 @@ fn halts(op: u8) -> bool {
     is_right && !cpu.halted()
 }
 
+/// How many opcodes have no row, and how many of them halt.
+fn counts() -> (u16, u16) {
+    let mut counts = (0u16, 0u16);
+    for op in 0..=255u8 {
+        if nmos(op).is_none() {
+            let is_halting = halts(op);
+            counts.0 = counts.0.saturating_add(1);
+            counts.1 = counts.1.saturating_add(u16::from(is_halting));
+        }
+    }
+    counts
+}
+
 #[test]
 fn all_other_opcodes_halt(rt: HostRuntime) {
     cycles_of_the_table();
     assert_eq!(rt; part(), Part::Nmos);
-    let mut halting = 0u16;
-    for op in 0..=255u8 {
-        if nmos(op).is_none() {
-            halting = halting.saturating_add(1);
-            assert!(rt; halts(op), "{op}");
-        }
-    }
-    assert_eq!(rt; halting, 105);
+    assert_eq!(rt; counts(), (105, 105));
 }
 
 /// A line is what the lines ask at a look; behind `@` PC, A, X, Y, S and P after the sequence that begins, and behind another its accesses.
@@ -197,19 +201,24 @@ fn begin(cpu: &mut Cpu, head: &str) {
     }
 }
 
-#[test]
-fn nmi_comes_before_irq_and_a_reset_keeps_the_registers(rt: HostRuntime) -> Result<(), Fail> {
-    let mut cpu = Cpu::new();
-    let start = registers(rt.alloc(), cpu.at_start())?;
-    assert!(rt; start.as_str() == "0000 00 00 00 00 00" && !cpu.starting());
-    let reset = "r0000=00 r0000=00 r0100=00 r01FF=00 r01FE=00 rFFFC=00 rFFFD=C0";
-    assert!(rt; goes(rt.alloc(), &mut cpu, "C000 00 00 00 FD 04", reset)?);
-    for line in LOOKS.lines() {
-        if let Some((head, rest)) = line.split_once('@') {
-            let (after, list) = rest.split_once('@').unwrap_or((rest, ""));
-            begin(&mut cpu, head);
-            assert!(rt; goes(rt.alloc(), &mut cpu, after, list)?, "{line}");
-        }
+/// Whether a line of looks holds. One that begins with `#` is none.
+fn holds(cpu: &mut Cpu, line: &str) -> Option<bool> {
+    if line.starts_with('#') {
+        return Some(true);
     }
-    Ok(())
+    let (head, rest) = line.split_once('@')?;
+    let (after, list) = rest.split_once('@')?;
+    begin(cpu, head);
+    Some(goes(cpu, after, list))
+}
+
+#[test]
+fn nmi_comes_before_irq_and_a_reset_keeps_the_registers(rt: HostRuntime) {
+    let mut cpu = Cpu::new();
+    assert!(rt; are(b"0000 00 00 00 00 00", cpu.at_start()) & !cpu.starting());
+    let reset = "r0000=00 r0000=00 r0100=00 r01FF=00 r01FE=00 rFFFC=00 rFFFD=C0";
+    assert!(rt; goes(&mut cpu, "C000 00 00 00 FD 04", reset));
+    for line in LOOKS.lines() {
+        assert!(rt; holds(&mut cpu, line) == Some(true), "{line}");
+    }
 }

@@ -33,83 +33,113 @@ fn in_slices(answer: &Result<Vec<u8>, ShelfError>) -> Result<&[u8], ShelfError> 
     }
 }
 
+// A call of a shelf: the name, the most bytes, and the answer.
+type Call = (&'static str, u64, Result<&'static [u8], ShelfError>);
+
+fn is_answer<S: Shelf>(shelf: &mut S, alloc: Global, (name, cap, want): Call) -> bool {
+    in_slices(&shelf.get(alloc, name, cap)) == want
+}
+
+// How many calls in turn have their answers, from the first on.
+fn answers<S: Shelf>(shelf: &mut S, alloc: Global, calls: &[Call]) -> usize {
+    for (n, call) in calls.iter().enumerate() {
+        if !is_answer(shelf, alloc, *call) {
+            return n;
+        }
+    }
+    calls.len()
+}
+
+// Calls 3 and 4 count too: else call 6 would not be the one that fails.
+const GETS: [Call; 9] = [
+    ("PROGRAM", 8, Ok(b"10 PRINT")),
+    ("PROGRAM", 8, Err(ShelfError::Failed)),
+    ("PROGRAM", 8, Ok(b"10 PRINT")),
+    ("PROGRAM", 7, Err(ShelfError::TooLong { cap: 7 })),
+    ("ABSENT", 100, Err(ShelfError::Failed)),
+    ("EMPTY", 0, Ok(b"")),
+    ("EMPTY", 0, Err(ShelfError::Failed)),
+    ("PROGRAM", 7, Err(ShelfError::Failed)),
+    ("PROGRAM", u64::MAX, Ok(b"10 PRINT")),
+];
+
 #[test]
 fn a_memory_shelf_fails_at_the_listed_calls(rt: HostRuntime) -> Result<(), Fail> {
     let alloc = rt.alloc();
-    let mut shelf = MemShelf::make(two_files(alloc)?, vec![in alloc; 1, 6, 7]?);
-    // Calls 3 and 4 count too: else call 6 would not be the one that fails.
-    let rows: [(&str, u64, Result<&[u8], ShelfError>); 9] = [
-        ("PROGRAM", 8, Ok(b"10 PRINT")),
-        ("PROGRAM", 8, Err(ShelfError::Failed)),
-        ("PROGRAM", 8, Ok(b"10 PRINT")),
-        ("PROGRAM", 7, Err(ShelfError::TooLong { cap: 7 })),
-        ("ABSENT", 100, Err(ShelfError::Failed)),
-        ("EMPTY", 0, Ok(b"")),
-        ("EMPTY", 0, Err(ShelfError::Failed)),
-        ("PROGRAM", 7, Err(ShelfError::Failed)),
-        ("PROGRAM", u64::MAX, Ok(b"10 PRINT")),
-    ];
-    for (call, (name, cap, want)) in rows.into_iter().enumerate() {
-        let got = shelf.get(alloc, name, cap);
-        assert_eq!(rt; in_slices(&got), want, "call {call}");
-    }
+    let failing = vec![in alloc; 1, 6, 7]?;
+    let mut shelf = MemShelf::make(two_files(alloc)?, failing);
+    assert_eq!(rt; answers(&mut shelf, alloc, &GETS), 9);
     Ok(())
+}
+
+// The name that is put, or none where the bytes are said; the bytes; the answer; and then the bytes of OUT and the bytes said.
+type Put = (
+    Option<&'static str>,
+    &'static [u8],
+    Result<(), PutError>,
+    &'static [u8],
+    &'static [u8],
+);
+
+const PUTS: [Put; 7] = [
+    (Some("OUT"), b"one", Ok(()), b"one", b""),
+    (Some("OUT"), b"two", Err(PutError::Failed), b"one", b""),
+    (None, b"good ", Ok(()), b"one", b"good "),
+    (Some("OUT"), b"three", Ok(()), b"three", b"good "),
+    (None, b"lost", Err(PutError::Failed), b"three", b"good "),
+    (None, b"day", Ok(()), b"three", b"good day"),
+    (Some("NEXT"), b"", Ok(()), b"three", b"good day"),
+];
+
+fn puts<O: Outlet>(outlet: &mut O, name: Option<&str>, bytes: &[u8]) -> Result<(), PutError> {
+    match name {
+        Some(name) => outlet.put(name, bytes),
+        None => outlet.say(bytes),
+    }
+}
+
+// Whether OUT has these bytes, and these were said.
+fn holds(outlet: &MemOutlet, held: &[u8], said: &[u8]) -> bool {
+    (outlet.file("OUT") == Some(held)) & (outlet.said() == said)
 }
 
 #[test]
 fn a_memory_outlet_fails_at_the_listed_calls(rt: HostRuntime) -> Result<(), Fail> {
     let alloc = rt.alloc();
-    let mut outlet = MemOutlet::make(alloc, vec![in alloc; 1, 4]?);
-    // The name that is put, or none where the bytes are said; the bytes; the answer; and then the
-    // bytes of OUT and the bytes said.
-    let rows: [(Option<&str>, &[u8], Result<(), PutError>, &[u8], &[u8]); 7] = [
-        (Some("OUT"), b"one", Ok(()), b"one", b""),
-        (Some("OUT"), b"two", Err(PutError::Failed), b"one", b""),
-        (None, b"good ", Ok(()), b"one", b"good "),
-        (Some("OUT"), b"three", Ok(()), b"three", b"good "),
-        (None, b"lost", Err(PutError::Failed), b"three", b"good "),
-        (None, b"day", Ok(()), b"three", b"good day"),
-        (Some("NEXT"), b"", Ok(()), b"three", b"good day"),
-    ];
-    for (call, (name, bytes, want, held, said)) in rows.into_iter().enumerate() {
-        let got = match name {
-            Some(name) => outlet.put(name, bytes),
-            None => outlet.say(bytes),
-        };
-        assert_eq!(rt; got, want, "call {call}");
-        assert_eq!(rt; outlet.file("OUT"), Some(held), "call {call}");
-        assert_eq!(rt; outlet.said(), said, "call {call}");
+    let failing = vec![in alloc; 1, 4]?;
+    let mut outlet = MemOutlet::make(alloc, failing);
+    for (name, bytes, want, held, said) in &PUTS {
+        let is_answer = puts(&mut outlet, *name, *bytes) == *want;
+        assert!(rt; is_answer & holds(&outlet, *held, *said), "{name:?}");
     }
-    assert_eq!(rt; outlet.file("NEXT"), Some(b"".as_slice()));
-    assert_eq!(rt; outlet.file("ABSENT"), None);
+    assert!(rt; outlet.file("NEXT") == Some(b"".as_slice()));
+    assert!(rt; outlet.file("ABSENT").is_none());
     Ok(())
 }
 
 // The file that the test writes in the folder where it runs, and removes.
 const WRITTEN: &str = "written_by_a_test_of_beeb_files";
 
+const READS: [Call; 4] = [
+    (WRITTEN, 8, Ok(b"10 PRINT")),
+    (WRITTEN, u64::MAX, Ok(b"10 PRINT")),
+    (WRITTEN, 7, Err(ShelfError::TooLong { cap: 7 })),
+    ("ABSENT", 100, Err(ShelfError::Failed)),
+];
+
 #[test]
 fn the_working_folder_gives_back_what_was_put(rt: HostRuntime) -> Result<(), Fail> {
     let alloc = rt.alloc();
     let mut outlet = DirOutlet::make(&rt);
-    assert_eq!(rt; outlet.put(WRITTEN, b"a longer text"), Ok(()));
-    assert_eq!(rt; outlet.put(WRITTEN, b"10 PRINT"), Ok(()));
-    assert_eq!(rt;
+    let put = [
+        outlet.put(WRITTEN, b"a longer text"),
+        outlet.put(WRITTEN, b"10 PRINT"),
         outlet.put("no such folder/file", b"lost"),
-        Err(PutError::Failed)
-    );
-    assert_eq!(rt; outlet.say(b"said\n"), Ok(()));
-    let mut shelf = DirShelf::make(&rt);
-    let rows: [(&str, u64, Result<&[u8], ShelfError>); 4] = [
-        (WRITTEN, 8, Ok(b"10 PRINT")),
-        (WRITTEN, u64::MAX, Ok(b"10 PRINT")),
-        (WRITTEN, 7, Err(ShelfError::TooLong { cap: 7 })),
-        ("ABSENT", 100, Err(ShelfError::Failed)),
+        outlet.say(b"said\n"),
     ];
-    for (name, cap, want) in rows {
-        let got = shelf.get(alloc, name, cap);
-        assert_eq!(rt; in_slices(&got), want, "{name} {cap}");
-    }
+    assert!(rt; put == [Ok(()), Ok(()), Err(PutError::Failed), Ok(())]);
+    let mut shelf = DirShelf::make(&rt);
+    assert_eq!(rt; answers(&mut shelf, alloc, &READS), 4);
     fs::remove_file(&rt, WRITTEN)?;
     Ok(())
 }
