@@ -3,7 +3,6 @@ mod programs;
 
 use crate::tests::words::{byte, digit};
 use programs::PROGRAMS;
-use std::process::Abort;
 use via6522::{Pins, Via, timer1_fires_once, timer1_runs_free, timer2_fires_once};
 
 const HIGH: Pins = Pins {
@@ -27,7 +26,7 @@ struct Bench {
 fn number(digits: &[u8]) -> u64 {
     let mut n: u64 = 0;
     for b in digits {
-        n = n % (1 << 32) * 16 + u64::from(digit(*b));
+        n = n % (1 << 56) * 16 + u64::from(digit(*b));
     }
     n
 }
@@ -52,49 +51,62 @@ impl Bench {
         }
     }
 
-    /// One word of a program.
-    fn act(&mut self, rt: &impl Abort, word: &[u8], program: &str) {
+    /// Does one word of a program, and answers whether it holds.
+    fn holds(&mut self, word: &[u8]) -> bool {
         match word {
-            b"irq" => assert!(rt; self.via.irq(), "{program}"),
-            b"calm" => assert!(rt; !self.via.irq(), "{program}"),
+            b"irq" => return self.via.irq(),
+            b"calm" => return !self.via.irq(),
             [b'+', digits @ ..] => self.steps(number(digits)),
             [b'C', port, number, b'+'] => self.line(*port, *number, true),
             [b'C', port, number, b'-'] => self.line(*port, *number, false),
             [b'a', b'<', high, low] => self.pins.a = byte(*high, *low),
             [b'b', b'<', high, low] => self.pins.b = byte(*high, *low),
-            [b'a', b'>', high, low] => {
-                assert_eq!(rt; self.via.out_a(), byte(*high, *low), "{program}");
-            }
-            [b'b', b'>', high, low] => {
-                assert_eq!(rt; self.via.out_b(), byte(*high, *low), "{program}");
-            }
+            [b'a', b'>', high, low] => return self.via.out_a() == byte(*high, *low),
+            [b'b', b'>', high, low] => return self.via.out_b() == byte(*high, *low),
             [reg, b'=', high, low] => self.via.write(digit(*reg), byte(*high, *low)),
             [reg, b'?', high, low] => {
-                let answer = self.via.read(digit(*reg), self.pins);
-                assert_eq!(rt; answer, byte(*high, *low), "{program}");
+                return self.via.read(digit(*reg), self.pins) == byte(*high, *low);
             }
-            _ => assert!(rt; false, "not understood: {program}"),
+            _ => return false,
         }
+        true
+    }
+
+    /// Does a program, and answers whether all of it holds.
+    fn does(&mut self, program: &str) -> bool {
+        let mut holds = true;
+        for word in program.split(' ') {
+            holds &= self.holds(word.as_bytes());
+        }
+        holds
     }
 }
 
-fn run(rt: &impl Abort, program: &str, single: bool) {
-    let mut bench = Bench {
+fn power_on(single: bool) -> Bench {
+    Bench {
         via: Via::new(),
         pins: HIGH,
         single,
-    };
-    for word in program.split(' ') {
-        bench.act(rt, word.as_bytes(), program);
     }
 }
 
 #[test]
 fn registers_do_what_the_data_sheet_says(rt: HostRuntime) {
     for program in &PROGRAMS {
-        run(&rt, *program, false);
-        run(&rt, *program, true);
+        let holds = power_on(false).does(*program) & power_on(true).does(*program);
+        assert!(rt; holds, "{program}");
     }
+}
+
+/// What all registers have after a program.
+fn registers(single: bool, program: &str) -> Option<[u8; 16]> {
+    let mut bench = power_on(single);
+    let holds = bench.does(program);
+    let mut registers = [0; 16];
+    for reg in 0..16u8 {
+        registers[usize::from(reg)] = bench.via.read(reg, HIGH);
+    }
+    if holds { Some(registers) } else { None }
 }
 
 #[test]
@@ -102,50 +114,22 @@ fn steps_at_once_are_steps_one_by_one(rt: HostRuntime) {
     timer1_runs_free();
     timer1_fires_once();
     timer2_fires_once();
-    let mut at_once = Via::new();
-    let mut one_by_one = Via::new();
-    for (reg, v) in [(0xb, 0x40), (4, 5), (5, 0), (8, 3), (9, 1), (0xe, 0xff)] {
-        at_once.write(reg, v);
-        one_by_one.write(reg, v);
-    }
-    at_once.advance(HIGH, 21);
-    for _ in 0..21u8 {
-        one_by_one.step(HIGH);
-    }
-    for reg in 0..16u8 {
-        assert_eq!(rt;
-            at_once.read(reg, HIGH),
-            one_by_one.read(reg, HIGH),
-            "{reg}"
-        );
-    }
+    let program = "B=40 4=05 5=00 8=03 9=01 E=FF +15";
+    let one_by_one = registers(true, program);
+    assert!(rt; one_by_one.is_some() && registers(false, program) == one_by_one);
 }
 
 #[test]
 fn a_million_million_steps_cost_what_one_costs(rt: HostRuntime) {
-    let mut via = Via::new();
-    for (reg, v) in [(0xb, 0x40), (4, 5), (5, 0)] {
-        via.write(reg, v);
-    }
-    via.advance(HIGH, 1_000_000_000_000);
-    assert_eq!(rt; via.read(0xd, HIGH), 0x40);
-    assert_eq!(rt; via.read(4, HIGH), 5);
-    assert_eq!(rt; via.read(8, HIGH), 0);
-    assert_eq!(rt; via.read(9, HIGH), 0xf0);
+    assert!(rt; power_on(false).does("B=40 4=05 5=00 +E8D4A51000 D?40 4?05 8?00 9?F0"));
 }
 
 #[test]
 fn it_asks_as_before_through_calm_steps(rt: HostRuntime) {
-    let mut via = Via::new();
-    for (reg, v) in [(0xe, 0xc0), (4, 0x10), (5, 0x27)] {
-        via.write(reg, v);
-    }
-    via.step(HIGH);
-    let calm = via.calm(HIGH);
-    assert_eq!(rt; calm, 0x2710);
-    via.advance(HIGH, calm);
-    assert!(rt; !via.irq());
-    via.step(HIGH);
-    assert!(rt; via.irq());
-    assert_eq!(rt; via.calm(HIGH), u64::MAX);
+    let mut bench = power_on(false);
+    let is_begun = bench.does("E=C0 4=10 5=27 +1");
+    let calm = bench.via.calm(HIGH);
+    let asks = bench.does("+2710 calm +1 irq");
+    assert_eq!(rt; (calm, bench.via.calm(HIGH)), (0x2710, u64::MAX));
+    assert!(rt; is_begun & asks);
 }

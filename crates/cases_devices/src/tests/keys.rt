@@ -1,4 +1,5 @@
 //! Keys, and the latch before them.
+use crate::tests::words::{byte, digit};
 use keyboard::{Keys, Latch};
 
 // The latch with the bits of a byte, bit 0 the lowest, by eight writes to port B.
@@ -10,80 +11,97 @@ fn latch(bits: u8) -> Latch {
     latch
 }
 
+/// Does a word, and answers whether it holds. `41+` and `41-` put a key down and up, `41?` and `41!` say that it is down or not; `any` and `none` say
+/// whether any key counts, and `c1?` and `c0!` whether one does of a column.
+fn holds(keys: &mut Keys, word: &[u8]) -> bool {
+    match word {
+        b"any" => return keys.any(None),
+        b"none" => return !keys.any(None),
+        [b'c', column, b'?'] => return keys.any(Some(digit(*column))),
+        [b'c', column, b'!'] => return !keys.any(Some(digit(*column))),
+        [high, low, b'+'] => keys.set(byte(*high, *low) % 128, true),
+        [high, low, b'-'] => keys.set(byte(*high, *low) % 128, false),
+        [high, low, b'?'] => return keys.is_down(byte(*high, *low) % 128),
+        [high, low, b'!'] => return !keys.is_down(byte(*high, *low) % 128),
+        _ => return false,
+    }
+    true
+}
+
+/// From no key on. Row 0 does not count.
+const PRESSES: &str =
+    "41! none 41+ 41? 40! 31! any c1? c0! 7F+ 41- 41! 7F? any c1! cF? 7F- 0F+ 0F? none cF! 1F+ any cF?";
+
 #[test]
 fn a_key_is_down_from_its_set_on(rt: HostRuntime) {
     let mut keys = Keys::new();
-    assert!(rt; !keys.is_down(0x41) && !keys.any(None));
-    keys.set(0x41, true);
-    assert!(rt; keys.is_down(0x41) && !keys.is_down(0x40) && !keys.is_down(0x31));
-    assert!(rt; keys.any(None) && keys.any(Some(1)) && !keys.any(Some(0)));
-    keys.set(0x7f, true);
-    keys.set(0x41, false);
-    assert!(rt; !keys.is_down(0x41) && keys.is_down(0x7f));
-    assert!(rt; keys.any(None) && !keys.any(Some(1)) && keys.any(Some(15)));
-    // Row 0 does not count.
-    keys.set(0x7f, false);
-    keys.set(0x0f, true);
-    assert!(rt; keys.is_down(0x0f) && !keys.any(None) && !keys.any(Some(15)));
-    keys.set(0x1f, true);
-    assert!(rt; keys.any(None) && keys.any(Some(15)));
+    for word in PRESSES.split(' ') {
+        assert!(rt; holds(&mut keys, word.as_bytes()), "{word}");
+    }
+}
+
+/// The latch, the output bits of port A, bit 7 and CA2 while key 41 alone is down.
+const SHOWN: [(u8, u8, bool, bool); 8] = [
+    (0x00, 0x41, true, true),
+    (0x00, 0xc1, true, true),
+    (0x00, 0x40, false, false),
+    (0x00, 0x01, false, true),
+    (0x00, 0x71, false, true),
+    (0xf7, 0x41, true, true),
+    (0x08, 0x41, false, true),
+    (0x08, 0x40, false, true),
+];
+
+/// Bit 7 of port A and CA2.
+fn shown(keys: &Keys, bits: u8, port_a: u8) -> (bool, bool) {
+    let latch = latch(bits);
+    (keys.port_a_bit_7(&latch, port_a), keys.ca2(&latch, port_a))
 }
 
 #[test]
 fn the_latch_says_what_the_keyboard_shows(rt: HostRuntime) {
     let mut keys = Keys::new();
     keys.set(0x41, true);
-    // The latch, the output bits of port A, bit 7 and CA2.
-    let rows = [
-        (0x00, 0x41, true, true),
-        (0x00, 0xc1, true, true),
-        (0x00, 0x40, false, false),
-        (0x00, 0x01, false, true),
-        (0x00, 0x71, false, true),
-        (0xf7, 0x41, true, true),
-        (0x08, 0x41, false, true),
-        (0x08, 0x40, false, true),
-    ];
-    for (bits, port_a, bit_7, ca2) in rows {
-        let latch = latch(bits);
-        assert_eq!(rt; keys.port_a_bit_7(&latch, port_a), bit_7, "{bits} {port_a}");
-        assert_eq!(rt; keys.ca2(&latch, port_a), ca2, "{bits} {port_a}");
+    for (bits, port_a, bit_7, ca2) in &SHOWN {
+        assert!(rt;
+            shown(&keys, *bits, *port_a) == (*bit_7, *ca2),
+            "{bits} {port_a}"
+        );
     }
     keys.set(0x41, false);
-    assert!(rt; !keys.ca2(&latch(0x08), 0x41) && !keys.ca2(&latch(0x00), 0x41));
+    assert!(rt; !shown(&keys, 0x08, 0x41).1 & !shown(&keys, 0x00, 0x41).1);
 }
+
+/// Writes to port B from power-on, and the latch's bits after each, bit 0 first.
+const WRITES: [(u8, [bool; 8]); 5] = [
+    (
+        0x0c,
+        [false, false, false, false, true, false, false, false],
+    ),
+    (0xff, [false, false, false, false, true, false, false, true]),
+    (0xf8, [true, false, false, false, true, false, false, true]),
+    (0x04, [true, false, false, false, false, false, false, true]),
+    (0x0b, [true, false, false, true, false, false, false, true]),
+];
 
 #[test]
 fn a_write_to_port_b_changes_one_bit_of_the_latch(rt: HostRuntime) {
     let mut latch = Latch::new();
-    // The pins of port B, and the latch's bits after it, bit 0 first.
-    let rows = [
-        (
-            0x0c,
-            [false, false, false, false, true, false, false, false],
-        ),
-        (0xff, [false, false, false, false, true, false, false, true]),
-        (0xf8, [true, false, false, false, true, false, false, true]),
-        (0x04, [true, false, false, false, false, false, false, true]),
-        (0x0b, [true, false, false, true, false, false, false, true]),
-    ];
-    for (p, bits) in rows {
-        latch.write(p);
-        assert_eq!(rt; latch.bits, bits, "{p}");
+    for (p, bits) in &WRITES {
+        latch.write(*p);
+        assert!(rt; latch.bits == *bits, "{p}");
     }
     assert!(rt; latch.scans_itself());
 }
 
 #[test]
 fn the_screen_has_one_of_four_sizes(rt: HostRuntime) {
-    let rows = [
-        (0x00, 16_384),
-        (0x10, 8_192),
-        (0x20, 20_480),
-        (0x30, 10_240),
-        (0xdf, 8_192),
+    let sizes = [
+        latch(0x00).screen_size(),
+        latch(0x10).screen_size(),
+        latch(0x20).screen_size(),
+        latch(0x30).screen_size(),
+        latch(0xdf).screen_size(),
     ];
-    for (bits, size) in rows {
-        assert_eq!(rt; latch(bits).screen_size(), size, "{bits}");
-    }
+    assert_eq!(rt; sizes, [16_384, 8_192, 20_480, 10_240, 8_192]);
 }
