@@ -1,5 +1,5 @@
 -- An access of the Tube leaves the bus, and is not stretched.
-use Rattle.std.proofs.Common.{ℕ, ◌≡◌, ◌≤◌, ◌∙◌, ◌*◌, ◌/◌, ◌&&◌, refl, ap, Bool, true, false, Option, None, Some, arith, if◌then◌else◌}
+use Rattle.std.proofs.Common.{ℕ, ◌≡◌, ◌≤◌, ◌∙◌, ◌*◌, ◌/◌, ◌&&◌, refl, ap, Bool, true, false, None, Some, arith, if◌then◌else◌}
 use Rattle.std.proofs.lemmas.Grind.{common_steps}
 use Rattle.std.proofs.Math.Nat.{mul-one}
 use Rattle.beeb_bits.specs.Clock.{host}

@@ -1,5 +1,5 @@
 -- An access to the Tube with the boot ROM switched out leaves the bus, and takes one cycle.
-use Rattle.std.proofs.Common.{◌≡◌, ◌∙◌, refl, ap, ℕ, ◌&&◌, not, Bool, true, false, Option, None, Some, MatchOption, if◌then◌else◌}
+use Rattle.std.proofs.Common.{◌≡◌, ◌∙◌, refl, ap, ◌&&◌, not, Bool, true, false, Option, None, Some, MatchOption, if◌then◌else◌}
 use Rattle.std.specs.Prelude.{slice_set}
 use Rattle.cpu_alu.specs.declared.Cycle.{Cycle}
 use Rattle.cpu_alu.specs.declared.Cycle.TheVariants.{Read, Write}

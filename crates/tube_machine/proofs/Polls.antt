@@ -1,5 +1,5 @@
 -- A branch behind an answered access that leads back to its instruction: where the registers are then as they were, the same comes again.
-use Rattle.std.proofs.Common.{◌≡◌, ◌≤◌, ◌<◌, ◌+◌, ◌*◌, ◌∙◌, refl, sym, ap, subst, ℕ, zero, suc, Bool, true, Some, arith}
+use Rattle.std.proofs.Common.{◌≡◌, ◌≤◌, ◌<◌, ◌+◌, ◌*◌, ◌∙◌, refl, sym, subst, ℕ, zero, suc, Bool, true, arith}
 use Rattle.op_table.specs.declared.names.Part.{Part}
 use Rattle.cpu_alu.specs.declared.Regs.{Regs}
 use Rattle.cpu_alu.specs.declared.flags.TheConstants.{INTERRUPT}
@@ -18,7 +18,7 @@ use Rattle.tube_machine.specs.Exchange.{IsPassing}
 use Rattle.tube_machine.specs.Whole.{reach_of, IsMemory, StaysAtRest, IsOnward, IsServed}
 use Rattle.tube_machine.proofs.UnderWay.{IsUnderWay, IsFree, begins, caught-up}
 use Rattle.tube_machine.proofs.WholeSteps.{next-more, whole-behind, onward}
-use Rattle.tube_machine.proofs.Asked.{starts, ended, asked-whole, served-onward, served-then, served-none}
+use Rattle.tube_machine.proofs.Asked.{asked-whole, served-onward, served-then, served-none}
 
 module _ (part : Part) {B D : Type 0} (w : Wiring B) (wired : IsWired w) (reads writes : ℕ → Bool) (memory : IsMemory w reads writes)
     (rests : B → Lines → Bool → ℕ → Type 0) (stays_at_rest : StaysAtRest w writes rests) (plain : B → Lines → Bool) (stays : StaysPlain w plain)

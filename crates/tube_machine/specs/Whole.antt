@@ -1,5 +1,5 @@
 -- Whole instructions at a bus: which of its accesses are of plain memory, and what the looks behind them find.
-use Rattle.std.specs.Prelude.{ℕ, ◌≡◌, ◌≤◌, ◌<◌, ◌+◌, ◌*◌, ◌&&◌, Bool, true, false, not, Some, IsSome}
+use Rattle.std.specs.Prelude.{ℕ, ◌≡◌, ◌≤◌, ◌<◌, ◌+◌, ◌*◌, ◌&&◌, Bool, true, false, not, IsSome}
 use Rattle.op_table.specs.declared.names.Part.{Part}
 use Rattle.cpu_alu.specs.declared.Cycle.{Cycle}
 use Rattle.cpu_alu.specs.declared.Cycle.TheVariants.{Read, Write}

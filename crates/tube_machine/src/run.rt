@@ -104,26 +104,26 @@ fn go_whole<N, P: Processor, B: TubeBus<N>>(
     cpu: &P,
     bus: &mut B,
     notes: &mut N,
-    at: &mut Regs,
+    at: Regs,
     from: u64,
     end: u64,
     lines: &Lines,
-) -> u64
+) -> (u64, Regs)
     requires room { end ≤ 2 ^ 30 }
     requires from { from ≤ end }
     requires before { (B.wiring).closed (B.state bus.old) ≤ from + 1 }
     requires plain { B.plain (B.state bus.old) lines.now ≡ true }
     requires free { (t : ℕ) → t < end → (B.wiring).pending (B.state bus.old) t ≡ false }
-    requires rests { IsResting B.rests (B.state bus.old) lines.now (at.old).p end }
-    ensures onward { let old = at_of (fresh Instruction at.old) (B.state bus.old) from in
-        let new = at_of (fresh Instruction at.new) (B.state bus.new) result in
+    requires rests { IsResting B.rests (B.state bus.old) lines.now at.p end }
+    ensures onward { let old = at_of (fresh Instruction at) (B.state bus.old) from in
+        let new = at_of (fresh Instruction result.1) (B.state bus.new) result.0 in
         IsOnward P.part B.wiring B.plain lines.now end old new }
-    ensures rests { IsResting B.rests (B.state bus.new) lines.now (at.new).p end }
-    ensures low { from ≤ result }
-    ensures high { result ≤ end }
+    ensures rests { IsResting B.rests (B.state bus.new) lines.now (result.1).p end }
+    ensures low { from ≤ result.0 }
+    ensures high { result.0 ≤ end }
     ensures noted { B.before notes.new bus.new ≡ B.before notes.old bus.old }
     ensures spends { let cycle = (B.wiring).cycle (B.state bus.old) in
-        (sure : ℕ) → end ≤ sure → HasSpent (P.part ≡ Cmos) cycle sure (spent from (B.room notes.old) 0) (spent result (B.room notes.new) 0) }
+        (sure : ℕ) → end ≤ sure → HasSpent (P.part ≡ Cmos) cycle sure (spent from (B.room notes.old) 0) (spent result.0 (B.room notes.new) 0) }
 {
     let cycle = bus.cycle();
     let mut regs = Regs {
@@ -145,8 +145,7 @@ fn go_whole<N, P: Processor, B: TubeBus<N>>(
         due += cycle * cycles;
     }
     close_behind::<N, B>(bus, from, due);
-    *at = regs;
-    due
+    (due, regs)
 }
 
 // How many times more what takes a period fits, where it fits once.
@@ -242,14 +241,14 @@ fn serve<N, P: Processor, B: TubeBus<N>, D: Desk>(
         (sure : ℕ) → end ≤ sure → HasSpent (P.part ≡ Cmos) cycle sure old new }
 {
     let cycle = bus.cycle();
-    let mut at = cpu.at_start();
-    let mut due = go_whole::<N, P, B>(cpu, bus, notes, &mut at, from, end, lines);
+    let (mut due, mut at) =
+        go_whole::<N, P, B>(cpu, bus, notes, cpu.at_start(), from, end, lines);
     while due + LONGEST * cycle <= end && desk.awaits(Tick(due), Tick(due + LONGEST * cycle)) {
         let asked = ask_whole::<N, P, B, D>(cpu, bus, &mut at, due, end, lines, desk);
         if asked == due {
             break;
         }
-        due = go_whole::<N, P, B>(cpu, bus, notes, &mut at, asked, end, lines);
+        (due, at) = go_whole::<N, P, B>(cpu, bus, notes, at, asked, end, lines);
     }
     cpu.set_out(&at);
     due

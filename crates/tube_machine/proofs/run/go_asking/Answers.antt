@@ -1,4 +1,4 @@
-use Rattle.std.proofs.Common.{◌≤◌, arith}
+use Rattle.std.proofs.Common.{arith}
 use Rattle.tube_machine.proofs.Polls.{served-wider}
 use Rattle.tube_machine.proofs.run.go_asking.Goals as goal
 

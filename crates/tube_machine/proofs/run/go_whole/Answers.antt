@@ -22,17 +22,17 @@ loop-due-init g c =
     let part = g.P.Processor.part in
     let w = g.B.TubeBus.wiring in
     let m = g.B.TubeBus.state c.args.bus.now in
-    let start : At g.B.TubeBus.State = at_of (fresh Instruction c.args.at.now) m c.args.from in
+    let start : At g.B.TubeBus.State = at_of (fresh Instruction c.args.at) m c.args.from in
     let none : m ≡ w.close m (behind c.args.from c.args.from) = sym (ap (w.close m) (behind-none c.args.from) ∙ (g.B.TubeBus.wired).still m 0 (omega arith)) in
     record {
       way = λ far until sure far_on in_run early free.
           subst (λ (b : g.B.TubeBus.State). IsUnderWay part w g.B.TubeBus.plain far c.cycle-cycle.result until c.args.lines.now sure start
-          (at_of (fresh Instruction c.args.at.now) b c.args.from) c.args.from) none
+          (at_of (fresh Instruction c.args.at) b c.args.from) c.args.from) none
           (caught-up part w g.B.TubeBus.wired g.B.TubeBus.plain g.B.TubeBus.stays_plain far until c.args.lines.now sure start c.cycle-cycle.result
-          start c.cycle-cycle.ensures.value (begins part Instruction c.args.at.now) c.requires.before free (λ is. is) (0, refl));
+          start c.cycle-cycle.ensures.value (begins part Instruction c.args.at) c.requires.before free (λ is. is) (0, refl));
       before = c.requires.before;
       shut = λ gone. absurd (omega (arith, gone));
-      rests = subst (λ (b : g.B.TubeBus.State). IsResting g.B.TubeBus.rests b c.args.lines.now (c.args.at.now).p c.args.end) none c.requires.rests;
+      rests = subst (λ (b : g.B.TubeBus.State). IsResting g.B.TubeBus.rests b c.args.lines.now (c.args.at).p c.args.end) none c.requires.rests;
       held = refl;
       low = omega arith;
       high = c.requires.from;
@@ -49,7 +49,7 @@ loop-due-preserved g c =
     let due : ℕ = c.loop-due.due in
     let u : ℕ = behind c.args.from due in
     let top : ℕ = due + n * k in
-    let start : At g.B.TubeBus.State = at_of (fresh Instruction c.args.at.now) (g.B.TubeBus.state c.args.bus.now) c.args.from in
+    let start : At g.B.TubeBus.State = at_of (fresh Instruction c.args.at) (g.B.TubeBus.state c.args.bus.now) c.args.from in
     let m = g.B.TubeBus.state c.loop-due.bus in
     let there = g.B.TubeBus.state c.whole-cycles.new.self in
     let new = c.whole-cycles.new.regs in
@@ -65,7 +65,7 @@ loop-due-preserved g c =
     let went = λ (far until sure : ℕ) (far_on : c.args.end ≤ far) (in_run : c.args.end ≤ until) (early : c.args.end ≤ sure) (free : IsFree part w far (g.B.TubeBus.state c.args.bus.now)).
     whole-behind part w g.B.TubeBus.wired g.B.TubeBus.reads g.B.TubeBus.writes g.B.TubeBus.memory g.B.TubeBus.rests g.B.TubeBus.stays_at_rest g.B.TubeBus.plain g.B.TubeBus.stays_plain
     far until c.args.lines.now sure n start
-    (has_flag (c.args.at.now).p INTERRUPT) quiet c.requires.plain k due u c.loop-due.regs new m there some
+    (has_flag (c.args.at).p INTERRUPT) quiet c.requires.plain k due u c.loop-due.regs new m there some
     (behind-most c.args.from due)
     (c.loop-due.invariant.way far until sure far_on in_run early free) done c.loop-due.invariant.before (omega (arith, ends, far_on))
     (omega (arith, ends, in_run)) (omega (arith, ends, early)) (omega (arith, ends, c.loop-due.invariant.rests.1.0))
@@ -81,7 +81,7 @@ loop-due-preserved g c =
       before = omega (arith, reached);
       shut = λ _. reached;
       rests = (quiet, (c.loop-due.invariant.rests.1.0, subst (λ (v : ℕ). g.B.TubeBus.rests (w.close there v) c.args.lines.now
-          (has_flag (c.args.at.now).p INTERRUPT) quiet) here (went c.args.end c.args.end c.args.end
+          (has_flag (c.args.at).p INTERRUPT) quiet) here (went c.args.end c.args.end c.args.end
           (omega arith) (omega arith) (omega arith) c.requires.free).1));
       held = done.masks ∙ c.loop-due.invariant.held;
       low = omega (arith, c.loop-due.invariant.low);
@@ -106,7 +106,7 @@ returns-clause-onward g c =
     let w = g.B.TubeBus.wiring in
     let m = g.B.TubeBus.state c.loop-due.bus in
     let u : ℕ = behind c.args.from c.loop-due.due in
-    let start : At g.B.TubeBus.State = at_of (fresh Instruction c.args.at.now) (g.B.TubeBus.state c.args.bus.now) c.args.from in
+    let start : At g.B.TubeBus.State = at_of (fresh Instruction c.args.at) (g.B.TubeBus.state c.args.bus.now) c.args.from in
     let s : At g.B.TubeBus.State = at_of (fresh Instruction c.loop-due.regs) (w.close m u) c.loop-due.due in
     let regs : c.loop-due.regs ≡ c.loop-due-test.regs = elim c.loop-due-test.branch [
       | else-loop-due-test v ↦ sym v.regs-is

@@ -20,17 +20,17 @@ loop-due-init g c =
     let core = g.P.Processor.core c.args.cpu.now in
     let m = g.B.TubeBus.state c.args.bus.now in
     let d = g.D.Desk.state c.args.desk.now in
-    let there : fresh Instruction c.at_start-at.result ≡ core = sym (begins-there core c.requires.starts ∙ ap (fresh Instruction) (sym c.at_start-at.ensures)) in
-    let new : At g.B.TubeBus.State = at_of (fresh Instruction c.go_whole-due.new.at) (g.B.TubeBus.state c.go_whole-due.new.bus) c.go_whole-due.result in
+    let there : fresh Instruction c.at_start.result ≡ core = sym (begins-there core c.requires.starts ∙ ap (fresh Instruction) (sym c.at_start.ensures)) in
+    let new : At g.B.TubeBus.State = at_of (fresh Instruction c.go_whole-due.result.1) (g.B.TubeBus.state c.go_whole-due.new.bus) c.go_whole-due.result.0 in
     record {
       served = subst (λ (x : cpu.State). IsServed part w g.B.TubeBus.plain g.D.Desk.answers c.args.lines.now c.args.end (at_of x m c.args.from) d new d) there
-          (served-onward part w g.B.TubeBus.plain g.D.Desk.answers c.args.lines.now c.args.end (at_of (fresh Instruction c.at_start-at.result) m c.args.from) new d c.go_whole-due.ensures.onward);
+          (served-onward part w g.B.TubeBus.plain g.D.Desk.answers c.args.lines.now c.args.end (at_of (fresh Instruction c.at_start.result) m c.args.from) new d c.go_whole-due.ensures.onward);
       rests = c.go_whole-due.ensures.rests;
       low = c.go_whole-due.ensures.low;
       high = c.go_whole-due.ensures.high;
       noted = c.go_whole-due.ensures.noted;
       spent = λ sure high. subst (λ (x : cpu.State). HasSpent (part ≡ Cmos) (w.cycle m) sure (spent c.args.from (g.B.TubeBus.room c.args.notes.now) (length x.seen))
-          (spent c.go_whole-due.result (g.B.TubeBus.room c.go_whole-due.new.notes) 0)) there (c.go_whole-due.ensures.spends sure high);
+          (spent c.go_whole-due.result.0 (g.B.TubeBus.room c.go_whole-due.new.notes) 0)) there (c.go_whole-due.ensures.spends sure high);
     }
 
 pub loop-due-preserved : goal.loop-due-preserved
@@ -41,21 +41,21 @@ loop-due-preserved g c =
     let s : At g.B.TubeBus.State = at_of (fresh Instruction c.loop-due.at) (g.B.TubeBus.state c.loop-due.bus) c.loop-due.due in
     let x : At g.B.TubeBus.State = at_of (fresh Instruction c.ask_whole-asked.new.at) (g.B.TubeBus.state c.ask_whole-asked.new.bus) c.ask_whole-asked.result in
     let new : At g.B.TubeBus.State =
-    at_of (fresh Instruction c.go_whole-due-in-loop-due.new.at) (g.B.TubeBus.state c.go_whole-due-in-loop-due.new.bus) c.go_whole-due-in-loop-due.result in
+    at_of (fresh Instruction c.go_whole.result.1) (g.B.TubeBus.state c.go_whole.new.bus) c.go_whole.result.0 in
     let asked : IsServed part w g.B.TubeBus.plain g.D.Desk.answers c.args.lines.now c.args.end start (g.D.Desk.state c.args.desk.now) x (g.D.Desk.state c.ask_whole-asked.new.desk) =
     served-then part w g.B.TubeBus.plain g.D.Desk.answers c.args.lines.now c.args.end start s x _ _ _ c.loop-due.invariant.served c.ask_whole-asked.ensures.served in
     record {
       served = served-then part w g.B.TubeBus.plain g.D.Desk.answers c.args.lines.now c.args.end start x new _ _ _ asked
-          (served-onward part w g.B.TubeBus.plain g.D.Desk.answers c.args.lines.now c.args.end x new (g.D.Desk.state c.ask_whole-asked.new.desk) c.go_whole-due-in-loop-due.ensures.onward);
-      rests = c.go_whole-due-in-loop-due.ensures.rests;
-      low = omega (arith, c.loop-due.invariant.low, c.ask_whole-asked.ensures.low, c.go_whole-due-in-loop-due.ensures.low);
-      high = c.go_whole-due-in-loop-due.ensures.high;
-      noted = c.go_whole-due-in-loop-due.ensures.noted ∙ c.ask_whole-asked.ensures.noted c.loop-due.notes ∙ c.loop-due.invariant.noted;
+          (served-onward part w g.B.TubeBus.plain g.D.Desk.answers c.args.lines.now c.args.end x new (g.D.Desk.state c.ask_whole-asked.new.desk) c.go_whole.ensures.onward);
+      rests = c.go_whole.ensures.rests;
+      low = omega (arith, c.loop-due.invariant.low, c.ask_whole-asked.ensures.low, c.go_whole.ensures.low);
+      high = c.go_whole.ensures.high;
+      noted = c.go_whole.ensures.noted ∙ c.ask_whole-asked.ensures.noted c.loop-due.notes ∙ c.loop-due.invariant.noted;
       spent = λ sure high. spent-on (part ≡ Cmos) _ sure _ _ _
           (spent-later (part ≡ Cmos) (w.cycle start.bus) sure x.due 0 _ (spent s.due (g.B.TubeBus.room c.loop-due.notes) 0) (c.loop-due.invariant.spent sure high)
           c.ask_whole-asked.ensures.low (omega (arith, c.ask_whole-asked.ensures.high, high)))
           (subst (λ (n : ℕ). HasSpent (part ≡ Cmos) n sure (spent x.due (g.B.TubeBus.room c.loop-due.notes) 0)
-          (spent new.due (g.B.TubeBus.room c.go_whole-due-in-loop-due.new.notes) 0)) (sym asked.cycle) (c.go_whole-due-in-loop-due.ensures.spends sure high));
+          (spent new.due (g.B.TubeBus.room c.go_whole.new.notes) 0)) (sym asked.cycle) (c.go_whole.ensures.spends sure high));
     }
 
 pub returns-clause-served : goal.returns-clause-served

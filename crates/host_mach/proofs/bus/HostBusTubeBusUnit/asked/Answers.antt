@@ -1,9 +1,8 @@
-use Rattle.std.proofs.Common.{◌≡◌, ◌∙◌, sym, ap, subst, ◌&&◌, ◌%◌, Bool, Some, None, if◌then◌else◌}
+use Rattle.std.proofs.Common.{◌∙◌, sym, ap, ◌%◌, Bool, Some, None, if◌then◌else◌}
 use Rattle.cpu_alu.specs.declared.Cycle.{Cycle}
 use Rattle.tube_chip.specs.Act.{access}
 use Rattle.tube_chip.specs.declared.Op.TheVariants as op
 use Rattle.tube_machine.specs.Step.{asks_by}
-use Rattle.tube_machine.specs.Exchange.{IsPassing}
 use Rattle.host_mach.specs.State.{HostBusState}
 use Rattle.host_mach.specs.View.{host_bus_seen}
 use Rattle.host_mach.specs.Step.{host_wiring}

@@ -1,4 +1,4 @@
-use Rattle.std.proofs.Common.{◌≡◌, ◌∙◌, sym, ap}
+use Rattle.std.proofs.Common.{◌∙◌, sym, ap}
 use Rattle.para_mach.specs.State.{ParaBusState}
 use Rattle.para_mach.proofs.AtTube.{passes}
 use Rattle.para_mach.proofs.bus.ParaBusTubeBus.asked.Goals as goal
