@@ -360,6 +360,7 @@ impl Rewinds for ParaMachine {
             Goes para_moves until.0 (shown_lines lines.now sure.0) self.old ask self.new
             × (roll_back_leaves past.cpu past.was_held past.due past.closed past.undo_log.stood.items self.new ≡ self.old)) }
     {
+        // A machine that is held is noted too.
         self.mark(past);
         Some(self.go_on(until, lines, sure, &mut past.undo_log))
     }

@@ -241,8 +241,7 @@ fn serve<N, P: Processor, B: TubeBus<N>, D: Desk>(
         (sure : ℕ) → end ≤ sure → HasSpent (P.part ≡ Cmos) cycle sure old new }
 {
     let cycle = bus.cycle();
-    let (mut due, mut at) =
-        go_whole::<N, P, B>(cpu, bus, notes, cpu.at_start(), from, end, lines);
+    let (mut due, mut at) = go_whole::<N, P, B>(cpu, bus, notes, cpu.at_start(), from, end, lines);
     while due + LONGEST * cycle <= end && desk.awaits(Tick(due), Tick(due + LONGEST * cycle)) {
         let asked = ask_whole::<N, P, B, D>(cpu, bus, &mut at, due, end, lines, desk);
         if asked == due {

@@ -80,9 +80,15 @@ loop-due-preserved g c =
           (at_of (fresh Instruction new) (w.close there v) top) top) here (went far until sure far_on in_run early free).0;
       before = omega (arith, reached);
       shut = λ _. reached;
-      rests = (quiet, (c.loop-due.invariant.rests.1.0, subst (λ (v : ℕ). g.B.TubeBus.rests (w.close there v) c.args.lines.now
-          (has_flag (c.args.at).p INTERRUPT) quiet) here (went c.args.end c.args.end c.args.end
-          (omega arith) (omega arith) (omega arith) c.requires.free).1));
+      rests = (
+        quiet,
+        (
+          c.loop-due.invariant.rests.1.0,
+          subst (λ (v : ℕ). g.B.TubeBus.rests (w.close there v) c.args.lines.now
+              (has_flag (c.args.at).p INTERRUPT) quiet) here (went c.args.end c.args.end c.args.end
+              (omega arith) (omega arith) (omega arith) c.requires.free).1,
+        ),
+      );
       held = done.masks ∙ c.loop-due.invariant.held;
       low = omega (arith, c.loop-due.invariant.low);
       high = ends;

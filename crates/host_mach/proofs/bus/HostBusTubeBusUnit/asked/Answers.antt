@@ -13,12 +13,12 @@ pub returns-in-Read : goal.returns-in-Read
 returns-in-Read g c =
     let b : HostBusState = host_bus_seen g.D.BusDevice.plug c.args.self.now in
     tube-passing b c.args.cycle (op.Read (c.in-Read.at % 8)) (
-        ap (λ (x : Cycle). asks_by host_wiring b (Some x)) c.in-Read.is
-        ∙ ap (λ (tube : Bool). if tube then Some (access (op.Read (c.in-Read.at % 8))) else None) (sym c.answers.ensures ∙ c.if-answers.true))
+    ap (λ (x : Cycle). asks_by host_wiring b (Some x)) c.in-Read.is
+    ∙ ap (λ (tube : Bool). if tube then Some (access (op.Read (c.in-Read.at % 8))) else None) (sym c.answers.ensures ∙ c.if-answers.true))
 
 pub returns-in-Write : goal.returns-in-Write
 returns-in-Write g c =
     let b : HostBusState = host_bus_seen g.D.BusDevice.plug c.args.self.now in
     tube-passing b c.args.cycle (op.Write (c.in-Write.at % 8) c.in-Write.v) (
-        ap (λ (x : Cycle). asks_by host_wiring b (Some x)) c.in-Write.is
-        ∙ ap (λ (tube : Bool). if tube then Some (access (op.Write (c.in-Write.at % 8) c.in-Write.v)) else None) (sym c.answers-in-Write-1.ensures ∙ c.if-answers-2.true))
+    ap (λ (x : Cycle). asks_by host_wiring b (Some x)) c.in-Write.is
+    ∙ ap (λ (tube : Bool). if tube then Some (access (op.Write (c.in-Write.at % 8) c.in-Write.v)) else None) (sym c.answers-in-Write-1.ensures ∙ c.if-answers-2.true))
