@@ -9,6 +9,7 @@ import contextlib
 import hashlib
 import os
 import shutil
+import signal
 import stat
 import tempfile
 from typing import BinaryIO, Iterable, Iterator, List, Optional, Union
@@ -215,14 +216,20 @@ def own_folder() -> Iterator[str]:
     given = os.environ.get("TMPDIR")
     if given and not (os.path.isdir(given) and os.access(given, os.W_OK | os.X_OK)):
         raise Fault("TMPDIR=%s is no folder that may be written" % given)
+    folder = None
     try:
-        folder = tempfile.mkdtemp(prefix="beebtube-", dir=given or None)
-    except (OSError, ValueError) as error:
-        raise Fault("there is no folder for files that are not kept: %s" % error) from None
-    try:
+        # A signal that ends the tool waits until it is known which folder goes away.
+        held = signal.pthread_sigmask(signal.SIG_BLOCK, (signal.SIGINT, signal.SIGTERM, signal.SIGHUP))
+        try:
+            folder = tempfile.mkdtemp(prefix="beebtube-", dir=given or None)
+        except (OSError, ValueError) as error:
+            raise Fault("there is no folder for files that are not kept: %s" % error) from None
+        finally:
+            signal.pthread_sigmask(signal.SIG_SETMASK, held)
         yield os.path.realpath(folder)
     finally:
-        shutil.rmtree(folder, ignore_errors=True)
+        if folder is not None:
+            shutil.rmtree(folder, ignore_errors=True)
 
 
 def files_below(folder: Name) -> List[str]:
