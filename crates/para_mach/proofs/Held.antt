@@ -1,38 +1,34 @@
 -- A machine that is held stands at a look, and goes past looks there; one that starts an instruction is not.
 use Rattle.std.proofs.Common.{◌≡◌, ◌∙◌, refl, sym, ap, subst, ℕ, zero, suc, ◌+◌, ◌<◌, ◌≤◌, ◌==◌, not, Bool, true, false, is_none, Option, None, Some, MatchOption, List, [], arith, if◌then◌else◌}
-use Rattle.std.specs.Prelude.{◌%◌, slice_set}
 use Rattle.std.proofs.lemmas.Bool.{ne_eqb}
 use Rattle.beeb_bits.specs.declared.clock.Clock.{Clock}
 use Rattle.beeb_bits.specs.declared.clock.Clock.TheVariants.{Three, Four}
 use Rattle.beeb_bits.specs.Clock.{para}
 use Rattle.op_table.specs.declared.names.Part.TheVariants.{Cmos}
 use Rattle.cpu_alu.specs.declared.Cycle.{Cycle}
-use Rattle.cpu_alu.specs.declared.Cycle.TheVariants.{Read, Write}
 use Rattle.cpu_alu.specs.declared.Regs.{Regs}
 use Rattle.cpu_core.specs.State as cpu
 use Rattle.cpu_core.specs.declared.Sequence.{Sequence}
 use Rattle.cpu_core.specs.declared.Sequence.TheVariants.{Instruction, Reset}
 use Rattle.cpu_core.specs.Sequences.{is_start}
 use Rattle.cpu65c02.specs.Sequences.{next_cycle, after, sequence_at_look, fresh, starting}
-use Rattle.tube_chip.specs.Act.{Query, access, look}
-use Rattle.tube_chip.specs.declared.Op.TheVariants as op
+use Rattle.tube_chip.specs.Act.{Query, look}
 use Rattle.tube_chip.specs.declared.Lines.{Lines}
 use Rattle.tube_chip.specs.declared.Op.{Op}
 use Rattle.tube_chip.specs.declared.Answer.{Answer}
 use Rattle.tube_chip.specs.declared.Answer.TheVariants.{Byte, Seen}
-use Rattle.tube_party.specs.Moves.{Shown, Looks, Talks, Sees, Hears, Goes, GoesHearing, IsAsk, FitsAnswer, shown_lines}
-use Rattle.tube_party.specs.Steps.{look_last, looks_wider, silent_all, talks_on, talks_shut}
+use Rattle.tube_party.specs.Moves.{Shown, Looks, Talks, Sees, Hears, GoesHearing, IsAsk, shown_lines}
+use Rattle.tube_party.specs.Steps.{look_last, looks_wider, silent_all, talks_on}
 use Rattle.tube_party.specs.declared.party.Ask.{Ask}
 use Rattle.tube_party.specs.declared.party.Ask.TheVariants.{Nothing, Access, Look}
 use Rattle.tube_machine.specs.Step.{asks_by, begin_leaves, after_held_cycle, after_step, closed_to, lines_in}
 use Rattle.tube_machine.specs.Exchange.{IsCramped}
 use Rattle.tube_machine.specs.declared.pass.Passing.{Passing}
 use Rattle.tube_machine.specs.Passing.{IsOver, ToLook, Passes, over_at}
-use Rattle.para_mach.specs.declared.notes.Stood.{Stood}
 use Rattle.para_mach.specs.State.{ParaBusState, ParaState, shown_regs}
 use Rattle.para_mach.specs.Peek.{peek_of, para_peek}
-use Rattle.para_mach.specs.Step.{para_wiring, para_moves, next_state, is_tube, ram_after, rom_in_after}
-use Rattle.para_mach.specs.CodeNotes.{IsHeldAtLook, IsNear, part_kept, put_back}
+use Rattle.para_mach.specs.Step.{para_wiring, para_moves, next_state}
+use Rattle.para_mach.specs.CodeNotes.{LooksOn, IsHeldAtLook, IsNear, part_kept}
 
 -- no step changes that
 look_by : (resets prst : Bool) (s held reset taken : ParaState) → (next_cycle held.cpu ≡ None) → (reset.bus.is_held ≡ false) → (taken.bus.is_held ≡ false) →
@@ -141,50 +137,17 @@ module _ (n : ℕ) (lines : Lines) (near sure : ℕ) {D : Type 0} (answers : D �
   }
 
   pub goes_on_wider : (old last new : ParaState) (d e : D) (ask : Ask) → near ≤ sure → (j : ℕ) × Talks para_moves answers n (shown_lines lines near) j old d last e
-      → Goes para_moves n (shown_lines lines sure) last ask new → GoesHearing para_moves answers n (shown_lines lines sure) old d ask new e
+      → LooksOn n (shown_lines lines sure) last ask new → GoesHearing para_moves answers n (shown_lines lines sure) old d ask new e
   goes_on_wider old last new d e ask low came goes =
       let all : (j : ℕ) × Talks para_moves answers n (shown_lines lines sure) j old d goes.last e =
       talks_on para_moves answers n lines sure came.0 0 old last goes.last d e e (talks_wider came.0 old last d e low came.1) (refl, (goes.steps, goes.looks)) in
       record { accesses = all.0; last = goes.last; talks = all.1; asked = goes.asked }
-
--- where nothing is answered
-pub goes_shut : (n : ℕ) (lines : Lines) (sure : ℕ) {D : Type 0} (answers : D → ℕ → Op → ℕ → D → Type 0) → ((d : D) (t : ℕ) (op : Op) (byte : ℕ) (e : D) → answers d t op byte e → ⊥)
-    → (old new : ParaState) (d e : D) (ask : Ask) → GoesHearing para_moves answers n (shown_lines lines sure) old d ask new e → Goes para_moves n (shown_lines lines sure) old ask new
-goes_shut n lines sure answers none old new d e ask goes =
-    let looks = talks_shut para_moves answers n lines sure none goes.accesses old goes.last d e goes.talks in
-    record { steps = looks.0; last = goes.last; looks = looks.1; asked = goes.asked }
 
 -- ---- Taken back
 
 -- what is kept of a bus, as it was
 pub back : (ram : List ℕ) (b old : ParaBusState) → part_kept ram b ≡ part_kept old.ram old → record b { ram = ram; is_held = old.is_held; closed = old.closed } ≡ old
 back ram b old is = ap (λ (x : ParaBusState). record x { is_held = old.is_held; closed = old.closed }) is
-
--- the Tube's answer to a read leaves the memory, with the boot ROM switched out
-byte_by : (o : Option Cycle) (s : ParaState) (byte : ℕ) (ram : List ℕ) → MatchOption (asks_by para_wiring s.bus o) ⊥ (λ q. FitsAnswer q (Byte byte)) → s.bus.rom_in ≡ false →
-    part_kept ram (after_step Cmos para_wiring o s (Some (Byte byte))).bus ≡ part_kept ram s.bus
-byte_by None s byte ram asked out = absurd asked
-byte_by (Some (Read at)) s byte ram asked out = ap (λ (r : Bool). record (part_kept ram s.bus) { rom_in = rom_in_after r (Read at) }) out
-    ∙ ap (λ (r : Bool). record (part_kept ram s.bus) { rom_in = r }) (sym out)
-byte_by (Some (Write at v)) s byte ram asked out = ap (λ (r : Bool). record (part_kept ram s.bus) { rom_in = rom_in_after r (Write at v) }) out
-    ∙ ap (λ (r : Bool). record (part_kept ram s.bus) { rom_in = r }) (sym out)
-
-ram_by : (o : Option Cycle) (s : ParaState) (byte : ℕ) → MatchOption (asks_by para_wiring s.bus o) ⊥ (λ q. FitsAnswer q (Byte byte))
-    → (after_step Cmos para_wiring o s (Some (Byte byte))).bus.ram ≡ s.bus.ram
-ram_by None s byte asked = absurd asked
-ram_by (Some (Read at)) s byte asked = refl
-ram_by (Some (Write at v)) s byte asked = by (is_tube at) refl asked
-  where
-    by : (tube : Bool) → is_tube at ≡ tube → MatchOption (if tube then Some (access (op.Write (at % 8) v)) else None) ⊥ (λ q. FitsAnswer q (Byte byte)) → ram_after s.bus.ram (Write at v) ≡ s.bus.ram
-    by true e asked = ap (λ (t : Bool). if t then s.bus.ram else slice_set s.bus.ram at v) e
-    by false e asked = absurd asked
-
-pub byte_kept : (s : ParaState) (byte : ℕ) (stood : List Stood) → MatchOption (para_moves.asks s) ⊥ (λ q. FitsAnswer q (Byte byte)) → s.bus.rom_in ≡ false →
-    part_kept (put_back stood (next_state s (Some (Byte byte))).bus.ram) (next_state s (Some (Byte byte))).bus ≡ part_kept (put_back stood s.bus.ram) s.bus
-byte_kept s byte stood asked out =
-    let x : ParaState = closed_to para_wiring s (s.due + 1) in
-    let new : ParaState = next_state s (Some (Byte byte)) in
-    ap (λ (r : List ℕ). part_kept (put_back stood r) new.bus) (ram_by (next_cycle s.cpu) x byte asked) ∙ byte_by (next_cycle s.cpu) x byte (put_back stood s.bus.ram) asked out
 
 -- ---- Starts that are passed over
 

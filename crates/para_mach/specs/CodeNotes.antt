@@ -6,7 +6,10 @@ use Rattle.cpu65c02.specs.State as cpu
 use Rattle.cpu65c02.specs.Sequences.{next_cycle}
 use Rattle.para_mach.specs.declared.notes.Stood.{Stood}
 use Rattle.tube_machine.specs.Step.{at_of}
+use Rattle.tube_party.specs.declared.party.Ask.{Ask}
+use Rattle.tube_party.specs.Moves.{Shown, Looks, IsAsk}
 use Rattle.para_mach.specs.State.{ParaBusState, ParaState}
+use Rattle.para_mach.specs.Step.{para_moves}
 
 -- the RAM before writes, by the RAM after them and the bytes that stood where they went, the oldest first
 abbrev pub put_back : List Stood → List ℕ → List ℕ
@@ -28,6 +31,13 @@ IsNoted s c held due closed stood = (c ≡ s.cpu) × (held ≡ s.bus.is_held) ×
 -- A machine that is held stands at a look.
 abbrev pub IsHeldAtLook : ParaState → Type 0
 IsHeldAtLook s = s.bus.is_held ≡ true → is_none (next_cycle s.cpu) ≡ true
+
+-- Steps of a run at which no access is answered, and what is asked next, which may be a sure look.
+pub record LooksOn (n : ℕ) (v : Shown) (old : ParaState) (ask : Ask) (new : ParaState) : Type 0 where
+  pub steps : ℕ
+  pub last : ParaState
+  pub looks : Looks para_moves n v steps old last
+  pub asked : IsAsk para_moves n last ask new
 
 -- a tick below which a run from a step at the tick due has room for its notes: a write takes a cycle, and a sequence has at most 16 accesses
 abbrev pub IsNear : Clock → ℕ → ℕ → ℕ → ℕ → Type 0

@@ -1,12 +1,12 @@
 //! The machine.
 ghost use Rattle.std.specs.Prelude.{◌≡◌, ◌≤◌, ◌≢◌, ◌↔◌, ◌⊎◌, ◌<◌, ◌+◌, ◌-◌, ◌^◌, ℕ, IfOk, IfErr, IfSome, length, Err, None, MatchOption, IsSome, is_none, true, vec_len, vec_capacity};
 ghost use Rattle.cpu65c02.specs.Sequences.{next_cycle, starting};
-ghost use Rattle.tube_party.specs.Moves.{Goes, GoesHearing, shown_lines};
+ghost use Rattle.tube_party.specs.Moves.{GoesHearing, shown_lines};
 ghost use Rattle.tube_machine.specs.Passing.{IsOver, Passes};
 ghost use Rattle.para_mach.specs.State.{power_on, shown_regs};
 ghost use Rattle.para_mach.specs.Step.{para_moves, para_wiring};
 ghost use Rattle.para_mach.specs.Peek.{para_peek};
-ghost use Rattle.para_mach.specs.CodeNotes.{IsNoted, IsNear, IsHeldAtLook, part_kept, put_back};
+ghost use Rattle.para_mach.specs.CodeNotes.{LooksOn, IsNoted, IsNear, IsHeldAtLook, part_kept, put_back};
 ghost use Rattle.para_mach.specs.Lawful.{para_lawful, para_permitted};
 
 use crate::bus::ParaBus;
@@ -22,7 +22,7 @@ use tube_chip::{Answer, Lines};
 use tube_machine::{
     Left, Passing, advance_at, advance_seeing, answer, carry_on, look, pass_over, take_lines,
 };
-use tube_party::{Ask, Closed, Desk, NO_LINES, Party, Rewinds};
+use tube_party::{Ask, Desk, NO_LINES, Party, Rewinds};
 
 /// Why no second processor can be made.
 #[derive(Clone, Copy, Debug, PartialEq, Eq, Error)]
@@ -199,7 +199,7 @@ impl ParaMachine {
     fn hold(&mut self, until: Tick, lines: &Lines, sure: Tick) -> Ask
         requires room { until.0 ≤ 2 ^ 30 }
         requires looks { next_cycle self.old.cpu ≡ None }
-        ensures goes { Goes para_moves until.0 (shown_lines lines.now sure.0) self.old result self.new }
+        ensures goes { LooksOn until.0 (shown_lines lines.now sure.0) self.old result self.new }
         ensures kept { part_kept (self.new).bus.ram (self.new).bus ≡ part_kept (self.old).bus.ram (self.old).bus }
     {
         let bound = until.0.min(sure.0);
@@ -218,7 +218,7 @@ impl ParaMachine {
 
     // Goes on from where it is, with the accesses that the desk answers, and notes that. It may leave off at any look.
     #[inline(never)]
-    fn go_on_at<K: Desk>(
+    fn go_on<K: Desk>(
         &mut self,
         until: Tick,
         lines: &Lines,
@@ -250,20 +250,6 @@ impl ParaMachine {
             Left::Look => self.hold(until, lines, sure),
             Left::Full => unreachable!(),
         }
-    }
-
-    // The same without a desk.
-    #[inline(always)]
-    fn go_on(&mut self, until: Tick, lines: &Lines, sure: Tick, undo_log: &mut UndoLog) -> Ask
-        requires ticks { until.0 ≤ 2 ^ 30 }
-        requires room { 16 ≤ vec_capacity undo_log.old.stood - vec_len undo_log.old.stood }
-        ensures goes { Goes para_moves until.0 (shown_lines lines.now sure.0) self.old result self.new }
-        ensures noted { let old = self.old.bus in
-            let new = self.new.bus in
-            part_kept (put_back undo_log.new.stood.items new.ram) new
-            ≡ part_kept (put_back undo_log.old.stood.items old.ram) old }
-    {
-        self.go_on_at(until, lines, sure, undo_log, &mut Closed)
     }
 }
 
@@ -346,66 +332,40 @@ impl Rewinds for ParaMachine {
     }
 
     #[inline(always)]
-    fn advance_noting(
-        &mut self,
-        until: Tick,
-        lines: &Lines,
-        sure: Tick,
-        past: &mut Past,
-    ) -> Option<Ask>
-        requires { until.0 ≤ 2 ^ 30 }
-        ensures some { IsSome result }
-        ensures noted { let past = past.new in
-            MatchOption result (self.new ≡ self.old) (λ ask.
-            Goes para_moves until.0 (shown_lines lines.now sure.0) self.old ask self.new
-            × (roll_back_leaves past.cpu past.was_held past.due past.closed past.undo_log.stood.items self.new ≡ self.old)) }
-    {
-        // A machine that is held is noted too.
-        self.mark(past);
-        Some(self.go_on(until, lines, sure, &mut past.undo_log))
-    }
-
-    #[inline(always)]
-    fn advance_noting_at<K: Desk>(
+    fn advance_noting<K: Desk>(
         &mut self,
         until: Tick,
         lines: &Lines,
         sure: Tick,
         past: &mut Past,
         desk: &mut K,
-    ) -> Option<Ask> {
+    ) -> Option<Ask>
+        requires { until.0 ≤ 2 ^ 30 }
+        ensures some { IsSome result }
+        ensures noted { let past = past.new in
+            MatchOption result ((self.new ≡ self.old) × (K.state desk.new ≡ K.state desk.old)) (λ ask.
+            GoesHearing para_moves K.answers until.0 (shown_lines lines.now sure.0) self.old (K.state desk.old) ask self.new (K.state desk.new)
+            × (roll_back_leaves past.cpu past.was_held past.due past.closed past.undo_log.stood.items self.new ≡ self.old)) }
+    {
+        // A machine that is held is noted too.
         self.mark(past);
-        Some(self.go_on_at(until, lines, sure, &mut past.undo_log, desk))
+        Some(self.go_on(until, lines, sure, &mut past.undo_log, desk))
     }
 
     #[inline(always)]
-    fn advance_on(&mut self, until: Tick, lines: &Lines, sure: Tick, past: &mut Past) -> Ask {
-        if past.undo_log.room() < FEWEST {
-            return self.hold(until, lines, sure);
-        }
-        self.go_on(until, lines, sure, &mut past.undo_log)
-    }
-
-    #[inline(always)]
-    fn answer_on(
+    fn advance_on<K: Desk>(
         &mut self,
-        byte: u8,
+        ask: Ask,
         until: Tick,
         lines: &Lines,
         sure: Tick,
         past: &mut Past,
-    ) -> Option<Ask> {
-        // An access to the Tube switches the boot ROM out, of which nothing is noted.
-        if self.bus.memory.rom_in() || past.undo_log.room() < FEWEST {
-            return None;
+        desk: &mut K,
+    ) -> Ask {
+        if past.undo_log.room() < FEWEST {
+            return ask;
         }
-        answer::<NoNotes, Cpu, ParaBus>(
-            &mut self.cpu,
-            &mut self.bus,
-            &mut self.due,
-            Answer::Byte(byte),
-        );
-        Some(self.go_on(until, lines, sure, &mut past.undo_log))
+        self.go_on(until, lines, sure, &mut past.undo_log, desk)
     }
 
     #[inline(never)]

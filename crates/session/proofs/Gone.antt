@@ -1,20 +1,23 @@
--- A side goes on past the looks that it may answer itself.
-use Rattle.std.proofs.Common.{ℕ, zero, suc, ◌≡◌, ◌+◌, ◌<◌, ◌≤◌, min, refl, sym, ◌∙◌, ap, subst, arith, List, [], ◌∷◌, All, length, length-append, Option, None, Some, MatchOption}
-use Rattle.std.proofs.lemmas.List.Elements.{All-nil, All-cons, All-head, All-tail}
+-- A side goes on past what it may answer itself.
+use Rattle.std.proofs.Common.{ℕ, zero, suc, ◌≡◌, ◌+◌, ◌<◌, ◌≤◌, inl, inr, refl, sym, ◌∙◌, ap, subst, arith, List, [], ◌∷◌, All, length, length-append, Option, None, Some, MatchOption}
+use Rattle.std.proofs.lemmas.List.Elements.{All-nil, All-cons}
 use Rattle.beeb_bits.specs.declared.Side.{Side}
-use Rattle.tube_chip.specs.declared.Lines.{Lines}
 use Rattle.tube_chip.specs.Act.{Query, access}
 use Rattle.tube_chip.specs.Events.{Event}
 use Rattle.tube_trace.specs.Entries.{accesses, entry_of}
-use Rattle.tube_cell.specs.Passes.{Carried, own_horizon, here, bound_here, after_add}
+use Rattle.tube_cell.specs.declared.local.Readings.{Readings}
+use Rattle.tube_cell.specs.Views.{AllBelow}
+use Rattle.tube_cell.specs.Passes.{Carried, own_horizon, after_add}
+use Rattle.tube_party.specs.declared.log.Log.{Log}
 use Rattle.tube_party.specs.declared.party.Ask.{Ask}
 use Rattle.tube_party.specs.declared.party.Ask.TheVariants.{Nothing, Access, Look}
-use Rattle.tube_party.specs.Moves.{Moves, IsLawful, Runs, Heads, IsAsk, IsUnsure, Sees, shown_lines, course}
-use Rattle.session.specs.CodeSight.{lines_seen, observed_events}
-use Rattle.session.specs.CodeStation.{place}
+use Rattle.tube_party.specs.Moves.{Moves, IsLawful, Runs, Heads, IsAsk, course}
+use Rattle.tube_party.specs.Logs.{HasNoted, at_most_one}
+use Rattle.session.specs.CodeSight.{byte_answer, readings_seen, observed_events}
+use Rattle.session.specs.CodeStation.{Station}
+use Rattle.session.specs.CodeObserved.{HasObserved, IsOver}
 use Rattle.session.specs.CodeLookahead.{GoneOn}
-use Rattle.tube_party.specs.Logs.{at_most_one}
-use Rattle.session.proofs.Observing.{none_late, stops_at, made, looked, IsLooks}
+use Rattle.session.proofs.Observing.{none_late, stops_at, made}
 
 module _ {S : Type 0} (m : Moves S) (lawful : IsLawful m) (side : Side) (n : ℕ) where
   abbrev Rest : ℕ → S → List Event → S → Option Query → Type 0
@@ -68,45 +71,60 @@ module _ {S : Type 0} (m : Moves S) (lawful : IsLawful m) (side : Side) (n : ℕ
   events_few zero s events last h = let e : m.due s ≡ m.due last = ap m.due h.1 in let none : length (accesses events) ≡ 0 = ap (λ l. length (accesses l)) h.0 in omega arith
   events_few (suc k) s events last h = few_by k s last events (m.asks s) (λ u b on. events_few k u b last on) h.1
 
-  -- none is left where a party leaves off that sees lines alone
-  pub stops : (lines : Lines) (sure : ℕ) (last new : S) (ask : Ask) → IsAsk m n last ask new → IsUnsure sure ask → (k : ℕ) → observed_events m side (lines_seen lines) (min n sure) k last ≡ []
-  stops lines sure last new Nothing h unsure k = let a = h.0 in none_late m lawful side (lines_seen lines) (min n sure) k last (omega arith)
-  stops lines sure last new (Access t op) h unsure k = stops_at m lawful side (lines_seen lines) (min n sure) k last (access op) h.2 refl
-  stops lines sure last new (Look t) h unsure k = let a = h.0 in none_late m lawful side (lines_seen lines) (min n sure) k last (omega arith)
+  module _ (r : Readings) (t : ℕ) (within : t ≤ n) where
+    -- nothing more is observed where a party leaves off
+    pub stops : (last new : S) (ask : Ask) → IsAsk m n last ask new → IsOver r t ask → (k : ℕ) → observed_events m side (readings_seen r) t k last ≡ []
+    stops last new Nothing h over k = let a = h.0 in none_late m lawful side (readings_seen r) t k last (omega arith)
+    stops last new (Access u op) h (inl late) k = let a = h.0 in none_late m lawful side (readings_seen r) t k last (omega arith)
+    stops last new (Access u op) h (inr none) k = stops_at m lawful side (readings_seen r) t k last (access op) h.2 (ap byte_answer none)
+    stops last new (Look u) h over k = let a = h.0 in none_late m lawful side (readings_seen r) t k last (omega arith)
 
-  both_low : (sure limit : ℕ) (events : List Event) → min n sure ≡ limit → All (λ e. e.tick < n) events → All (λ e. e.tick < sure) events → All (λ e. e.tick < limit) events
-  both_low sure limit [] is a b = All-nil (λ e. e.tick < limit)
-  both_low sure limit (e ∷ es) is a b =
-      let x = All-head (λ z. z.tick < n) e es a in
-      let y = All-head (λ z. z.tick < sure) e es b in
-      All-cons (λ z. z.tick < limit) e es (omega arith) (both_low sure limit es is (All-tail (λ z. z.tick < n) e es a) (All-tail (λ z. z.tick < sure) e es b))
+    -- what it observed up to there is what is observed below the tick
+    pub observed_is : (s new : S) (before after : Log) (ask : Ask) (h : HasObserved m side n r t s before ask new after) → IsOver r t ask → (fuel : ℕ) → t ≤ m.due s + fuel
+        → h.events ≡ observed_events m side (readings_seen r) t fuel s
+    observed_is s new before after ask h over fuel enough =
+        made m lawful side (readings_seen r) n t h.last (stops h.last new ask h.asked over) h.steps fuel s h.events h.runs h.seen h.low enough
 
--- the looks of the steps that a party does are those of the function
-pub gone_on : {S : Type 0} (m : Moves S) (lawful : IsLawful m) (n sure : ℕ) (lines : Lines) (s s2 : S) (ask : Ask) (p p2 : Carried) (events : List Event)
-    → own_horizon p ≤ m.due s → own_horizon p ≤ n → events ≡ observed_events m p.side (lines_seen lines) (min n sure) (min n sure) s → p2 ≡ after_add p events → here p2 ≡ here p
-    → bound_here p2 ≡ bound_here p
-    → ((t : ℕ) → own_horizon p ≤ t → All (λ e. e.tick < t) events → own_horizon p2 ≤ t)
-    → Sees m n (shown_lines lines sure) s ask s2 → GoneOn m n (place s p) ask (place s2 p2)
-gone_on m lawful n sure lines s s2 ask p p2 events later open_ events_are pass here_is bound past sees =
-    let last = sees.last in
-    let looks : IsLooks m lawful p.side (lines_seen lines) n lines refl sure sees.steps s last = looked m lawful p.side (lines_seen lines) n lines refl sure sees.steps s last sees.looks in
-    let under = events_under m lawful p.side n sees.steps s looks.events last looks.runs in
-    let same = made m lawful p.side (lines_seen lines) n (min n sure) last (stops m lawful p.side n lines sure last s2 ask sees.asked sees.unsure) sees.steps (min n sure) s looks.events
-    looks.runs looks.seen (both_low m lawful p.side n sure (min n sure) looks.events refl under looks.low) (omega arith) in
-    let e : looks.events ≡ events = same ∙ sym events_are in
-    let runs = subst (λ (l : List Event). Runs m p.side n sees.steps s (course l last)) e looks.runs in
-    let low = events_low m lawful p.side n sees.steps s events last runs in
+  -- it noted no more accesses than there were ticks
+  pub observes_few : (r : Readings) (t : ℕ) (s new : S) (before after : Log) (ask : Ask) (h : HasObserved m side n r t s before ask new after) → before.count ≤ m.due s → after.count ≤ m.due h.last
+  observes_few r t s new before after ask h few =
+      let a = events_few h.steps s h.events h.last h.runs in
+      let b = h.noted.count_is in
+      omega arith
+
+-- what it observed are the events that the pass has
+gone_here : {S : Type 0} (m : Moves S) (lawful : IsLawful m) (n : ℕ) (r : Readings) (t : ℕ) (x y : Station S) (ask : Ask) (events : List Event)
+    → own_horizon x.at.pass ≤ m.due x.at.state → own_horizon x.at.pass ≤ n → t ≤ n
+    → events ≡ observed_events m x.at.pass.side (readings_seen r) t t x.at.state → y.at.pass ≡ after_add x.at.pass events
+    → ((u : ℕ) → own_horizon x.at.pass ≤ u → AllBelow u events → own_horizon y.at.pass ≤ u)
+    → HasObserved m x.at.pass.side n r t x.at.state x.log ask y.at.state y.log → IsOver r t ask → GoneOn m n x ask y
+gone_here m lawful n r t x y ask events later open_ within events_are pass past h over =
+    let side = x.at.pass.side in
+    let e : h.events ≡ events = observed_is m lawful side n r t within x.at.state y.at.state x.log y.log ask h over t (omega arith) ∙ sym events_are in
+    let runs = subst (λ (l : List Event). Runs m side n h.steps x.at.state (course l h.last)) e h.runs in
+    let low = events_low m lawful side n h.steps x.at.state events h.last runs in
     let up = low.0 in
     record {
       events = events;
-      steps = sees.steps;
-      last = last;
+      steps = h.steps;
+      last = h.last;
       runs = runs;
-      asked = sees.asked;
-      silent = ap accesses (sym e) ∙ looks.silent;
+      asked = h.asked;
+      noted = subst (λ (l : List Event). HasNoted (accesses l) x.log y.log) e h.noted;
       pass = pass;
-      here_is = here_is;
-      bound = bound;
-      next = past (m.due last) (omega arith) low.1;
-      open_ = past n open_ (events_under m lawful p.side n sees.steps s events last runs);
+      next = past (m.due h.last) (omega arith) low.1;
+      open_ = past n open_ (events_under m lawful side n h.steps x.at.state events h.last runs);
     }
+
+-- A pass has what its party will observe, and then the party goes on as far as it observes anything.
+pub gone_on : {S : Type 0} (m : Moves S) (lawful : IsLawful m) (n : ℕ) (r : Readings) (t : ℕ) (x y : Station S) (ask : Ask) (p q : Carried) (side : Side)
+    → p ≡ x.at.pass → y.at.pass ≡ q → side ≡ x.at.pass.side → own_horizon x.at.pass ≤ m.due x.at.state → own_horizon x.at.pass ≤ n → t ≤ n
+    → q ≡ after_add p (observed_events m p.side (readings_seen r) t t x.at.state)
+    → ((u : ℕ) → own_horizon p ≤ u → AllBelow u (observed_events m p.side (readings_seen r) t t x.at.state) → own_horizon q ≤ u)
+    → HasObserved m side n r t x.at.state x.log ask y.at.state y.log → IsOver r t ask → GoneOn m n x ask y
+gone_on m lawful n r t x y ask p q side same back own later open_ within pass past h over =
+    let events = λ (z : Carried). observed_events m z.side (readings_seen r) t t x.at.state in
+    gone_here m lawful n r t x y ask (events x.at.pass) later open_ within refl (back ∙ pass ∙ ap (λ (z : Carried). after_add z (events z)) same)
+    (λ u. subst (λ (z : Carried). own_horizon z ≤ u → AllBelow u (events z) → own_horizon y.at.pass ≤ u) same
+    (λ a b. subst (λ (z : Carried). own_horizon z ≤ u) (sym back) (past u a b)))
+    (subst (λ (z : Side). HasObserved m z n r t x.at.state x.log ask y.at.state y.log) own h) over

@@ -7,7 +7,8 @@ use Rattle.tube_chip.specs.Events.{Event}
 use Rattle.tube_chip.specs.declared.Answer.{Answer}
 use Rattle.tube_trace.specs.declared.Entry.{Entry}
 use Rattle.tube_trace.specs.Entries.{accesses, entry_of}
-use Rattle.tube_party.specs.Logs.{accesses-append, noted_all_take}
+use Rattle.tube_party.specs.declared.log.Log.{Log}
+use Rattle.tube_party.specs.Logs.{HasNoted, accesses-append, noted_all_take}
 use Rattle.tube_party.specs.Turn.{note_leaves, note_all_leaves}
 use Rattle.tube_side.specs.CodeSteps.{event_at}
 
@@ -41,6 +42,14 @@ noted_on keep xs ys list = sym (ap (note_all_leaves keep list) (accesses-append 
 
 pub counted_on : (xs ys : List Event) (n : ℕ) → n + length (accesses xs) + length (accesses ys) ≡ n + length (accesses (xs ++ ys))
 counted_on xs ys n = let a = ap length (accesses-append xs ys) ∙ length-append (accesses xs) (accesses ys) in omega arith
+
+-- what was noted of two lists in turn
+pub noted_both : (xs ys : List Event) (a b c : Log) → HasNoted (accesses xs) a b → HasNoted (accesses ys) b c → HasNoted (accesses (xs ++ ys)) a c
+noted_both xs ys a b c f g = record {
+  list_is = g.list_is ∙ (λ i. note_all_leaves (f.keep_is i) (f.list_is i) (accesses ys)) ∙ noted_on a.keep xs ys a.list.items;
+  count_is = g.count_is ∙ ap (λ (z : ℕ). z + length (accesses ys)) f.count_is ∙ counted_on xs ys a.count;
+  keep_is = g.keep_is ∙ f.keep_is;
+}
 
 longer_by : (keep : ℕ) (list : List Entry) (x : Entry) → (length list ≤ length (note_leaves keep list x)) × ((n : ℕ) → n ≤ length list → take n (note_leaves keep list x) ≡ take n list)
 longer_by keep list x = elim (nat_lt (length list) keep) as (λ b. (length list ≤ length (cond b (list ++ x ∷ []) list))

@@ -3,6 +3,7 @@ pub mod Kept
 pub mod UnderWay
 pub mod Observing
 pub mod Gone
+pub mod Heard
 pub mod OnWay
 pub mod Merged
 pub mod Ends

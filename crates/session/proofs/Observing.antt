@@ -1,26 +1,25 @@
 -- What a side observes that goes ahead: what is cut off it, and what runs make it.
-use Rattle.std.proofs.Common.{ℕ, zero, suc, ◌≡◌, ◌+◌, ◌<◌, ◌≤◌, ◌==◌, nat_lt, Bool, true, false, cond, refl, sym, ◌∙◌, ap, subst, ⊎_elim, arith, List, [], ◌∷◌, All, Option, None, Some}
+use Rattle.std.proofs.Common.{ℕ, zero, suc, ◌≡◌, ◌+◌, ◌<◌, ◌≤◌, ◌==◌, nat_lt, Bool, true, false, cond, refl, sym, ◌∙◌, ap, subst, ⊎_elim, arith, List, [], ◌∷◌, ◌++◌, All, Option, None, Some}
 use Rattle.std.proofs.Common.{MatchOption, slice_index}
 use Rattle.std.proofs.lemmas.List.Elements.{All-nil, All-cons, All-head, All-tail}
 use Rattle.std.proofs.lemmas.Bool.{cases_lt}
 use Rattle.std.proofs.lemmas.Bool.Decides.{nat_tests}
 use Rattle.beeb_bits.specs.declared.Side.{Side}
-use Rattle.beeb_bits.specs.declared.Side.TheVariants.{Para}
 use Rattle.tube_chip.specs.declared.Answer.{Answer}
 use Rattle.tube_chip.specs.declared.Answer.TheVariants.{Byte, Seen}
 use Rattle.tube_chip.specs.declared.Lines.{Lines}
 use Rattle.tube_chip.specs.declared.Op.{Op}
 use Rattle.tube_chip.specs.declared.Op.TheVariants.{Read, Write, Reset}
-use Rattle.tube_chip.specs.State.{State, lines_of}
+use Rattle.tube_chip.specs.State.{State}
 use Rattle.tube_chip.specs.Act.{Query, access, look, act}
 use Rattle.tube_chip.specs.Events.{Event}
 use Rattle.tube_trace.specs.Entries.{accesses}
 use Rattle.tube_cell.specs.declared.local.Readings.{Readings}
-use Rattle.tube_cell.specs.Views.{below, is_observation, readings_of}
+use Rattle.tube_cell.specs.Views.{AllBelow, below, is_observation, shown_to}
 use Rattle.tube_cell.specs.Steps.{Watches}
 use Rattle.tube_party.specs.Moves.{Moves, IsLawful, Runs, Heads, Looks, shown_lines, course}
 use Rattle.tube_side.specs.CodeSteps.{event_at}
-use Rattle.session.specs.CodeSight.{Sight, lines_seen, byte_seen, byte_answer, readings_seen, joins, observed_by, observed_events, IsSeen}
+use Rattle.session.specs.CodeSight.{Sight, byte_seen, byte_answer, readings_seen, joins, observed_by, observed_events, IsSeen}
 
 nat_lt-yes : (m n : ℕ) → m < n → nat_lt m n ≡ true
 nat_lt-yes m n h = grind (arith, nat_tests)
@@ -31,6 +30,15 @@ nat_lt-no m n h = grind (arith, nat_tests)
 -- what a query sees is what the chip answers to an observation
 abbrev pub Shows : State → Side → Sight → Type 0
 Shows c side v = (q : Query) (a : Answer) → v q ≡ Some a → (is_observation q ≡ true) × ((act c side q).1 ≡ a)
+
+-- what holds of two lists of events holds of one behind the other
+pub seen_on : (v : Sight) (xs ys : List Event) → IsSeen v xs → IsSeen v ys → IsSeen v (xs ++ ys)
+seen_on v [] ys a b = b
+seen_on v (x ∷ xs) ys a b = (a.0, seen_on v xs ys a.1 b)
+
+pub low_on : (t : ℕ) (xs ys : List Event) → AllBelow t xs → AllBelow t ys → AllBelow t (xs ++ ys)
+low_on t [] ys a b = b
+low_on t (x ∷ xs) ys a b = All-cons (λ e. e.tick < t) x (xs ++ ys) (All-head (λ e. e.tick < t) x xs a) (low_on t xs ys (All-tail (λ e. e.tick < t) x xs a) b)
 
 module _ {S : Type 0} (m : Moves S) (lawful : IsLawful m) (side : Side) (v : Sight) where
   abbrev silent : S → S
@@ -251,32 +259,22 @@ module _ {S : Type 0} (m : Moves S) (lawful : IsLawful m) (side : Side) (v : Sig
 
 -- ---- what chips show
 
-pub lines_show : (c : State) (side : Side) (lines : Lines) → lines ≡ lines_of c → Shows c side (lines_seen lines)
-lines_show c side lines is look a e = (refl, ap (λ l. Seen l) (sym is) ∙ some_is (Seen lines) a e)
-  where
-    some_is : (x y : Answer) → (let o : Option Answer = Some x in o) ≡ Some y → x ≡ y
-    some_is x y e = cc
-lines_show c side lines is (access op) a e = absurd (none_is a e)
-  where
-    none_is : (y : Answer) → (let o : Option Answer = None in o) ≡ Some y → ⊥
-    none_is y e = cc
-
 beq_yes : (m n : ℕ) → (m == n) ≡ true → m ≡ n
 beq_yes m n h = grind (arith, nat_tests)
 
 -- a status register, by its number
-one_shows : (c : State) (number k byte : ℕ) (a : Answer) → number ≡ k → is_observation (access (Read k)) ≡ true → (act c Para (access (Read k))).1 ≡ Byte byte → byte_answer (Some byte) ≡ Some a
-    → (is_observation (access (Read number)) ≡ true) × ((act c Para (access (Read number))).1 ≡ a)
-one_shows c number k byte a is status answers e =
+one_shows : (c : State) (side : Side) (number k byte : ℕ) (a : Answer) → number ≡ k → is_observation (access (Read k)) ≡ true → (act c side (access (Read k))).1 ≡ Byte byte
+    → byte_answer (Some byte) ≡ Some a → (is_observation (access (Read number)) ≡ true) × ((act c side (access (Read number))).1 ≡ a)
+one_shows c side number k byte a is status answers e =
     let b : Byte byte ≡ a = cc in
-    subst (λ (x : ℕ). (is_observation (access (Read x)) ≡ true) × ((act c Para (access (Read x))).1 ≡ a)) (sym is) (status, answers ∙ b)
+    subst (λ (x : ℕ). (is_observation (access (Read x)) ≡ true) × ((act c side (access (Read x))).1 ≡ a)) (sym is) (status, answers ∙ b)
 
-module _ (c : State) (number : ℕ) (a : Answer) where
+module _ (c : State) (side : Side) (number : ℕ) (a : Answer) where
   abbrev Shown : Type 0
-  Shown = (is_observation (access (Read number)) ≡ true) × ((act c Para (access (Read number))).1 ≡ a)
+  Shown = (is_observation (access (Read number)) ≡ true) × ((act c side (access (Read number))).1 ≡ a)
 
   abbrev byte : ℕ → ℕ
-  byte i = slice_index (readings_of c).status i
+  byte i = slice_index (shown_to side c).status i
 
   abbrev fourth : Bool → Option ℕ
   fourth b = cond b (Some (byte 3)) None
@@ -290,33 +288,40 @@ module _ (c : State) (number : ℕ) (a : Answer) where
   nothing : byte_answer None ≡ Some a → Shown
   nothing e = absurd (cc)
 
-  read_shows : byte_answer (byte_seen (readings_of c) (Read number)) ≡ Some a → Shown
+  read_shows : byte_answer (byte_seen (shown_to side c).status (Read number)) ≡ Some a → Shown
   read_shows =
       (elim (number == 0) as (λ b. (number == 0) ≡ b → byte_answer (cond b (Some (byte 0)) (second (number == 2))) ≡ Some a → Shown) [
-        | true ↦ λ h e. one_shows c number 0 (byte 0) a (beq_yes number 0 h) refl refl e
+        | true ↦ λ h e. one_shows c side number 0 (byte 0) a (beq_yes number 0 h) refl refl e
         | false ↦ λ h.
             (elim (number == 2) as (λ b. (number == 2) ≡ b → byte_answer (second b) ≡ Some a → Shown) [
-              | true ↦ λ h e. one_shows c number 2 (byte 1) a (beq_yes number 2 h) refl refl e
+              | true ↦ λ h e. one_shows c side number 2 (byte 1) a (beq_yes number 2 h) refl refl e
               | false ↦ λ h.
                   (elim (number == 4) as (λ b. (number == 4) ≡ b → byte_answer (third b) ≡ Some a → Shown) [
-                    | true ↦ λ h e. one_shows c number 4 (byte 2) a (beq_yes number 4 h) refl refl e
+                    | true ↦ λ h e. one_shows c side number 4 (byte 2) a (beq_yes number 4 h) refl refl e
                     | false ↦ λ h.
                         (elim (number == 6) as (λ b. (number == 6) ≡ b → byte_answer (fourth b) ≡ Some a → Shown) [
-                          | true ↦ λ h e. one_shows c number 6 (byte 3) a (beq_yes number 6 h) refl refl e
+                          | true ↦ λ h e. one_shows c side number 6 (byte 3) a (beq_yes number 6 h) refl refl e
                           | false ↦ λ h e. nothing e
                         ]) refl
                   ]) refl
             ]) refl
       ]) refl
 
-access_shows : (c : State) (op : Op) (a : Answer) → byte_answer (byte_seen (readings_of c) op) ≡ Some a → (is_observation (access op) ≡ true) × ((act c Para (access op)).1 ≡ a)
-access_shows c (Read number) a e = read_shows c number a e
-access_shows c (Write number byte) a e = absurd (cc)
-access_shows c Reset a e = absurd (cc)
+access_shows : (c : State) (side : Side) (op : Op) (a : Answer) → byte_answer (byte_seen (shown_to side c).status op) ≡ Some a
+    → (is_observation (access op) ≡ true) × ((act c side (access op)).1 ≡ a)
+access_shows c side (Read number) a e = read_shows c side number a e
+access_shows c side (Write number written) a e = absurd (cc)
+access_shows c side Reset a e = absurd (cc)
 
-pub readings_show : (c : State) (r : Readings) → r ≡ readings_of c → Shows c Para (readings_seen r)
-readings_show c r is = subst (λ (x : Readings). Shows c Para (readings_seen x)) (sym is) shows
+pub readings_show : (c : State) (side : Side) (r : Readings) → r ≡ shown_to side c → Shows c side (readings_seen r)
+readings_show c side r is = subst (λ (x : Readings). Shows c side (readings_seen x)) (sym is) shows
   where
-    shows : Shows c Para (readings_seen (readings_of c))
+    shows : Shows c side (readings_seen (shown_to side c))
     shows look a e = (refl, cc)
-    shows (access op) a e = access_shows c op a e
+    shows (access op) a e = access_shows c side op a e
+
+-- what a side will observe, as its chip shows it
+pub watches_shown : {S : Type 0} (m : Moves S) (lawful : IsLawful m) (side : Side) (c : State) (r : Readings) (end : ℕ) (s : S) (from : ℕ) (events : List Event)
+    → r ≡ shown_to side c → events ≡ observed_events m side (readings_seen r) end end s → from ≤ m.due s → Watches side from c events end
+watches_shown m lawful side c r end s from events shown is le =
+    subst (λ (l : List Event). Watches side from c l end) (sym is) (watches m lawful side (readings_seen r) c end end s from (readings_show c side r shown) le)

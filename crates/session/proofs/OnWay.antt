@@ -1,14 +1,13 @@
 -- Where a machine stands that went ahead, and once what it did there is settled.
-use Rattle.std.proofs.Common.{ℕ, zero, suc, ◌≡◌, ◌+◌, ◌<◌, ◌≤◌, inl, inr, refl, sym, ◌∙◌, ap, subst, arith, List, [], ◌∷◌, ◌++◌, append-nil, All, length, take, Option, None, Some, MatchOption}
+use Rattle.std.proofs.Common.{ℕ, zero, suc, ◌≡◌, ◌+◌, ◌<◌, ◌≤◌, inl, inr, refl, sym, ◌∙◌, ap, subst, arith, List, [], ◌∷◌, ◌++◌, append-nil, All, length, take}
+use Rattle.std.proofs.Common.{Option, None, Some, MatchOption, IfSome, IfNone}
 use Rattle.std.proofs.lemmas.List.{take_all}
 use Rattle.std.proofs.lemmas.List.Elements.{All-nil, All-cons, All-head, All-tail}
 use Rattle.beeb_bits.specs.declared.Side.{Side}
 use Rattle.beeb_bits.specs.declared.Side.TheVariants.{Para}
-use Rattle.beeb_bits.specs.declared.Tick.{Tick}
 use Rattle.tube_chip.specs.declared.Answer.{Answer}
-use Rattle.tube_chip.specs.declared.Answer.TheVariants.{Byte}
 use Rattle.tube_chip.specs.declared.Op.{Op}
-use Rattle.tube_chip.specs.Act.{Query, access, look}
+use Rattle.tube_chip.specs.Act.{Query, access}
 use Rattle.tube_chip.specs.Events.{Event}
 use Rattle.tube_trace.specs.declared.Entry.{Entry}
 use Rattle.tube_trace.specs.Entries.{accesses}
@@ -18,22 +17,23 @@ use Rattle.tube_party.specs.declared.log.Log.{Log}
 use Rattle.tube_party.specs.declared.log.LogMark.{LogMark}
 use Rattle.tube_party.specs.declared.party.Ask.{Ask}
 use Rattle.tube_party.specs.declared.party.Ask.TheVariants.{Nothing, Access, Look}
-use Rattle.tube_party.specs.Moves.{Moves, IsLawful, Runs, Heads, IsAsk, IsUnsure, Goes, shown_lines, course}
+use Rattle.tube_party.specs.Moves.{Moves, IsLawful, Runs, Heads, IsAsk, course}
 use Rattle.tube_party.specs.Logs.{HasNoted}
 use Rattle.tube_party.specs.Turn.{note_all_leaves}
-use Rattle.tube_cell.specs.declared.local.Readings.{Readings}
-use Rattle.tube_side.specs.CodeSteps.{event_at, all_events}
+use Rattle.tube_side.specs.CodeSteps.{all_events}
 use Rattle.tube_side.specs.CodeWays.{Way, IsWay}
-use Rattle.session.specs.CodeSight.{Sight, byte_seen, byte_answer, readings_seen, observed_events, IsSeen}
+use Rattle.session.specs.CodeSight.{Sight, byte_seen, byte_answer, readings_seen, IsSeen}
 use Rattle.session.specs.CodeStation.{place, Station}
 use Rattle.session.specs.CodeLookahead.{MovedOn}
-use Rattle.session.specs.CodeWay.{way_of, Outset, observed_past, IsReached, IsNoted, IsOnWay, IsSettled, IsOver, IsAnew, IsNoEarlier, Trip, IsStillThere, IsOnTrip, HasGoneFurther}
+use Rattle.session.specs.CodeObserved.{HasObserved, IsOver}
+use Rattle.session.specs.CodeWay.{way_of, Outset, outset, observed_past, IsReached, IsNoted, IsOnWay, IsSettled, IsNoEarlier, Trip, IsStillThere, IsOnTrip, HasGoneFurther}
 use Rattle.tube_side.specs.CodeTrust.{HasTrusted, HasPassed}
 use Rattle.session.specs.declared.way.Checkpoint.{Checkpoint}
 use Rattle.session.proofs.Runs.{append, rises}
 use Rattle.session.proofs.Kept.{noted_on, counted_on, still_kept}
-use Rattle.session.proofs.Gone.{events_low, events_under, events_few}
-use Rattle.session.proofs.Observing.{none_late, below_limit, cut, watches, made, looked, readings_show}
+use Rattle.session.proofs.Gone.{events_low, events_under}
+use Rattle.session.proofs.Observing.{none_late, below_limit, cut, watches, made, readings_show, seen_on, low_on}
+use Rattle.session.proofs.UnderWay.{here}
 
 -- what is observed makes a way
 pub is_way : {S : Type 0} (m : Moves S) (lawful : IsLawful m) (n : ℕ) (from : Outset S) → IsWay (way_of m n from)
@@ -42,16 +42,8 @@ is_way m lawful n from =
       low = λ t. below_limit m lawful Para v t n from.state;
       part = λ t limit le. cut m lawful Para v t limit n from.state le;
       none = none_late m lawful Para v 0 n from.state (omega arith);
-      watches = λ c t is. watches m lawful Para v c t n from.state (m.due from.state) (readings_show c from.at.mark.readings is) (omega arith);
+      watches = λ c t is. watches m lawful Para v c t n from.state (m.due from.state) (readings_show c Para from.at.mark.readings is) (omega arith);
     }
-
-seen_on : (v : Sight) (xs ys : List Event) → IsSeen v xs → IsSeen v ys → IsSeen v (xs ++ ys)
-seen_on v [] ys a b = b
-seen_on v (x ∷ xs) ys a b = (a.0, seen_on v xs ys a.1 b)
-
-low_on : (t : ℕ) (xs ys : List Event) → AllBelow t xs → AllBelow t ys → AllBelow t (xs ++ ys)
-low_on t [] ys a b = b
-low_on t (x ∷ xs) ys a b = All-cons (λ e. e.tick < t) x (xs ++ ys) (All-head (λ e. e.tick < t) x xs a) (low_on t xs ys (All-tail (λ e. e.tick < t) x xs a) b)
 
 module _ {S : Type 0} (m : Moves S) (lawful : IsLawful m) (n : ℕ) (from : Outset S) where
   abbrev sight : Sight
@@ -92,77 +84,38 @@ module _ {S : Type 0} (m : Moves S) (lawful : IsLawful m) (n : ℕ) (from : Outs
         )
 
   -- what was noted before the mark is still there
-  pub still_there : (x y : Station S) (entries : List Entry) → from.at.log.len ≤ length x.log.list.items → HasNoted entries x.log y.log → IsStillThere from.at.log x.log y.log
+  pub still_there : (x y : Log) (entries : List Entry) → from.at.log.len ≤ length x.list.items → HasNoted entries x y → IsStillThere from.at.log x y
   still_there x y entries kept noted = record {
-    kept = ap (take from.at.log.len) noted.list_is ∙ (still_kept x.log.keep x.log.list.items entries).1 from.at.log.len kept;
+    kept = ap (take from.at.log.len) noted.list_is ∙ (still_kept x.keep x.list.items entries).1 from.at.log.len kept;
     keep_is = noted.keep_is;
   }
 
-  -- at an access it stands where it left off, and so at a look
-  pub at_access : (t : Tick) (op : Op) (x : Station S) (w : IsOnWay m n from (Access t op) x) → (x.at.state ≡ w.last) × (t.0 ≡ m.due x.at.state) × (t.0 < n) × (m.asks x.at.state ≡ Some (access op))
-  at_access t op x w = (w.asked.3, w.asked.0 ∙ sym (ap m.due w.asked.3), w.asked.1, ap m.asks w.asked.3 ∙ w.asked.2)
-
-  pub at_look : (t : Tick) (x : Station S) (w : IsOnWay m n from (Look t) x) → (x.at.state ≡ w.last) × (t.0 ≡ m.due x.at.state) × (t.0 < n) × (m.asks x.at.state ≡ Some look)
-  at_look t x w = (w.asked.3, w.asked.0 ∙ sym (ap m.due w.asked.3), w.asked.1, ap m.asks w.asked.3 ∙ w.asked.2)
-
-  -- there are at most as many as ticks
-  pub few : (ask : Ask) (x : Station S) (w : IsOnWay m n from ask x) → x.log.count ≤ m.due w.last
-  few ask x w =
-      let a = events_few m lawful Para n w.steps from.state w.events w.last w.runs in
-      let b = w.noted.count_is in
-      let c = w.few in
-      omega arith
-
-  -- it is where it set out
-  pub sets_out : (ask : Ask) (far : ℕ) (y : Station S) → Goes m n (shown_lines from.at.mark.readings.lines far) from.state ask y.at.state
-      → length y.log.list.items ≡ from.at.log.len → y.log.count ≡ from.at.log.count → from.at.log.count ≤ m.due from.state
+  -- what it observed from where it set out, with a log that was written so far as the mark tells
+  pub sets_out : (ask : Ask) (far : ℕ) (log : Log) (y : Station S) → HasObserved m Para n from.at.mark.readings far from.state log ask y.at.state y.log
+      → length log.list.items ≡ from.at.log.len → log.count ≡ from.at.log.count → from.at.log.count ≤ m.due from.state
       → (w : IsOnWay m n from ask y) × AllBelow far w.events
-  sets_out ask far y went len count few_were =
-      let looks = looked m lawful Para sight n from.at.mark.readings.lines refl far went.steps from.state went.last went.looks in (
+  sets_out ask far log y h len count few_were =
+      let entries = accesses h.events in
+      let noted = h.noted in
+      let grown = still_kept log.keep log.list.items entries in
+      let same : take from.at.log.len y.log.list.items ≡ log.list.items =
+      ap (take from.at.log.len) noted.list_is ∙ grown.1 from.at.log.len (omega arith) ∙ take_all from.at.log.len log.list.items (omega arith) in (
         record {
-          events = looks.events;
-          steps = went.steps;
-          last = went.last;
-          runs = looks.runs;
-          seen = looks.seen;
-          asked = went.asked;
+          events = h.events;
+          steps = h.steps;
+          last = h.last;
+          runs = h.runs;
+          seen = h.seen;
+          asked = h.asked;
           noted = record {
-            kept = omega arith;
-            list_is =
-                sym (ap (note_all_leaves y.log.keep (take from.at.log.len y.log.list.items)) looks.silent ∙ take_all from.at.log.len y.log.list.items (omega arith));
-            count_is = let e = ap length looks.silent in omega arith;
+            kept = let g = grown.0 in let e = ap length noted.list_is in omega arith;
+            list_is = noted.list_is ∙ (λ i. note_all_leaves (sym noted.keep_is i) (sym same i) entries);
+            count_is = let c = noted.count_is in omega arith;
           };
           few = few_were;
         },
-        looks.low,
+        h.low,
       )
-
-  -- it goes on from a look
-  pub looks_on : (t : Tick) (ask2 : Ask) (far : ℕ) (x y : Station S) → IsOnWay m n from (Look t) x → Goes m n (shown_lines from.at.mark.readings.lines far) x.at.state ask2 y.at.state
-      → HasNoted [] x.log y.log
-      → IsOnWay m n from ask2 y
-  looks_on t ask2 far x y w went noted =
-      let looks = looked m lawful Para sight n from.at.mark.readings.lines refl far went.steps x.at.state went.last went.looks in
-      (goes_both (Look t) ask2 x y w (at_look t x w).0 looks.events went.steps went.last looks.runs looks.seen went.asked
-      (subst (λ (l : List Entry). HasNoted l x.log y.log) (sym looks.silent) noted)).0
-
-  -- a read that is answered, and the looks behind it
-  pub reads_on : (t : Tick) (op : Op) (byte : ℕ) (ask2 : Ask) (far : ℕ) (x y : Station S) (w : IsOnWay m n from (Access t op) x) → byte_seen from.at.mark.readings op ≡ Some byte
-      → Goes m n (shown_lines from.at.mark.readings.lines far) (m.next x.at.state (Some (Byte byte))) ask2 y.at.state
-      → HasNoted (record { tick = t; side = Para; op = op; answer = byte } ∷ []) x.log y.log
-      → (e : IsOnWay m n from ask2 y) × (AllBelow far w.events → t.0 < far → AllBelow far e.events)
-  reads_on t op byte ask2 far x y w shown went noted =
-      let entry : Entry = record { tick = t; side = Para; op = op; answer = byte } in
-      let read : Event = event_at t.0 Para (access op) (Byte byte) in
-      let h = at_access t op x w in
-      let due = h.1 in
-      let under = h.2 in
-      let looks = looked m lawful Para sight n from.at.mark.readings.lines refl far went.steps (m.next x.at.state (Some (Byte byte))) went.last went.looks in
-      let runs : Runs m Para n (suc went.steps) x.at.state (course (read ∷ looks.events) went.last) = (omega arith, rw h.3 (due, refl, refl, looks.runs)) in
-      let none : accesses (read ∷ looks.events) ≡ entry ∷ [] = ap (λ (l : List Entry). entry ∷ l) looks.silent in
-      let both = goes_both (Access t op) ask2 x y w h.0 (read ∷ looks.events) (suc went.steps) went.last runs (ap byte_answer shown, looks.seen) went.asked
-      (subst (λ (l : List Entry). HasNoted l x.log y.log) (sym none) noted) in
-      (both.0, λ a b. both.1 far a (All-cons (λ z. z.tick < far) read looks.events b looks.low))
 
   -- ---- how far it goes
 
@@ -182,33 +135,27 @@ module _ {S : Type 0} (m : Moves S) (lawful : IsLawful m) (n : ℕ) (from : Outs
   no_earlier_self (Access v op) t u a b = omega arith
   no_earlier_self (Look v) t u a b = omega arith
 
-  pub past_look : (t : Tick) (ask2 : Ask) (far : ℕ) (x : Station S) (new : S) → IsOnWay m n from (Look t) x → Goes m n (shown_lines from.at.mark.readings.lines far) x.at.state ask2 new
-      → IsNoEarlier n (Look t) ask2
-  past_look t ask2 far x new w went =
-      let h = at_look t x w in
-      let due = h.1 in
-      let under = h.2 in
-      let looks = looked m lawful Para sight n from.at.mark.readings.lines refl far went.steps x.at.state went.last went.looks in
-      let up = (events_low m lawful Para n went.steps x.at.state looks.events went.last looks.runs).0 in
-      no_earlier (Look t) ask2 went.last new (λ u r. (omega arith, omega arith)) went.asked
-
-  pub past_read : (t : Tick) (op : Op) (byte : ℕ) (ask2 : Ask) (far : ℕ) (x : Station S) (new : S) → IsOnWay m n from (Access t op) x
-      → Goes m n (shown_lines from.at.mark.readings.lines far) (m.next x.at.state (Some (Byte byte))) ask2 new → IsNoEarlier n (Access t op) ask2
-  past_read t op byte ask2 far x new w went =
-      let h = at_access t op x w in
-      let due = h.1 in
-      let under = h.2 in
-      let rise = lawful.rises x.at.state (Some (Byte byte)) in
-      let looks = looked m lawful Para sight n from.at.mark.readings.lines refl far went.steps (m.next x.at.state (Some (Byte byte))) went.last went.looks in
-      let up = (events_low m lawful Para n went.steps (m.next x.at.state (Some (Byte byte))) looks.events went.last looks.runs).0 in
-      no_earlier (Access t op) ask2 went.last new (λ u r. (omega arith, omega arith)) went.asked
+  -- from what is asked it goes on: what it observes more joins its way
+  pub goes_on : (ask ask2 : Ask) (far : ℕ) (x y : Station S) (mark : S) → (ask ≡ Nothing → ⊥) → IsOnWay m n from ask x
+      → HasObserved m Para n from.at.mark.readings far x.at.state x.log ask2 y.at.state y.log → mark ≡ from.state
+      → HasGoneFurther m n ask (record { from = from; here = x }) ask2 (record { from = outset mark from.at; here = y })
+  goes_on ask ask2 far x y mark some w h is =
+      let stood = here m n w.last x.at.state ask some w.asked in
+      let way = (goes_both ask ask2 x y w stood h.events h.steps h.last h.runs h.seen h.asked h.noted).0 in
+      let up = (events_low m lawful Para n h.steps x.at.state h.events h.last h.runs).0 in
+      let due = ap m.due stood in
+      let at_most : (t : ℕ) → IsReached n ask t → (t ≤ n) × (t ≤ m.due h.last) =
+      λ t at. let r = reaches w.last x.at.state ask t w.asked at in let a = r.0 in let b = r.1 in (omega arith, omega arith) in
+      record {
+        way = subst (λ (s : S). IsOnWay m n (outset s from.at) ask2 y) (sym is) way;
+        further = no_earlier ask ask2 h.last y.at.state at_most h.asked;
+        from_is = is;
+        log = still_there x.log y.log (accesses h.events) w.noted.kept h.noted;
+      }
 
   -- it did not go on
-  pub stays : (ask : Ask) (x y : Trip S) → IsOnTrip m n ask y → y.from.state ≡ x.from.state → IsStillThere x.from.at.log x.here.log y.here.log → HasGoneFurther m n ask x ask y
-  stays ask x y way is log = record { way = way; further = no_earlier_self ask; from_is = is; log = log }
-
   pub stays_here : (ask : Ask) (x : Trip S) → IsOnTrip m n ask x → HasGoneFurther m n ask x ask x
-  stays_here ask x way = stays ask x x way refl (record { kept = refl; keep_is = refl })
+  stays_here ask x way = record { way = way; further = no_earlier_self ask; from_is = refl; log = record { kept = refl; keep_is = refl } }
 
   -- ---- settled
 
@@ -266,37 +213,43 @@ module _ {S : Type 0} (m : Moves S) (lawful : IsLawful m) (n : ℕ) (from : Outs
     same_way (suc j) zero s one es fs a sa b sb = absurd (stuck j s one es (m.asks s) (ap m.asks b.1 ∙ asks) a.1 sa)
     same_way (suc j) (suc k) s one es fs a sa b sb = both_by j k s one es fs (m.asks s) (λ u c d x sx y sy. same_way j k u one c d x sx y sy) a.1 sa b.1 sb
 
-  -- it went anew
-  pub went_anew : (t a : ℕ) (ask ask2 : Ask) (x y : Station S) → a ≤ t → t ≤ n → IsReached n ask t → IsOnWay m n from ask x → IsAnew m n from a ask2 y → IsSettled m n from a ask2 y
-  went_anew t a ask ask2 x y order le at first anew =
-      let w = anew.0 in
-      let same : w.events ≡ observed_past m n from a = made m lawful Para sight n a w.last (ends ask2 w.asked anew.2) w.steps n from.state w.events w.runs w.seen anew.1 (omega arith) in
-      record {
-        steps = w.steps;
-        last = w.last;
-        runs = subst (λ (l : List Event). Runs m Para n w.steps from.state (course l w.last)) same w.runs;
-        asked = w.asked;
-        late = late_by ask2 w.asked anew.2;
-        noted = subst (λ (l : List Event). IsNoted from.at.log l y.log) same w.noted;
-      }
-    where
-      far : t ≤ m.due first.last
-      far = (reaches first.last x.at.state ask t first.asked at).0
+  -- it went anew, as far as it observes anything below a tick that it reached before
+  module _ (t a : ℕ) (ask ask2 : Ask) (x y : Station S) (order : a ≤ t) (le : t ≤ n) (at : IsReached n ask t) (first : IsOnWay m n from ask x) (w : IsOnWay m n from ask2 y) where
+    far : t ≤ m.due first.last
+    far = (reaches first.last x.at.state ask t first.asked at).0
 
-      at_end : (op : Op) → m.asks anew.0.last ≡ Some (access op) → byte_seen from.at.mark.readings op ≡ None → a ≤ m.due anew.0.last
-      at_end op asks none =
-          let f = far in
-          let r = same_way anew.0.last (access op) asks (ap byte_answer none) first.steps anew.0.steps from.state first.last first.events anew.0.events first.runs first.seen anew.0.runs anew.0.seen in
-          omega arith
+    at_end : (op : Op) → m.asks w.last ≡ Some (access op) → byte_seen from.at.mark.readings.status op ≡ None → a ≤ m.due w.last
+    at_end op asks none =
+        let f = far in
+        let r = same_way w.last (access op) asks (ap byte_answer none) first.steps w.steps from.state first.last first.events w.events first.runs first.seen w.runs w.seen in
+        omega arith
 
-      late_by : (k : Ask) → IsAsk m n anew.0.last k y.at.state → IsOver from.at.mark.readings a k → a ≤ m.due anew.0.last
-      late_by Nothing h over = let b = h.0 in omega arith
-      late_by (Access u op) h (inl late) = let b = h.0 in omega arith
-      late_by (Access u op) h (inr none) = at_end op h.2 none
-      late_by (Look u) h over = let b = h.0 in omega arith
+    late_by : (k : Ask) → IsAsk m n w.last k y.at.state → IsOver from.at.mark.readings a k → a ≤ m.due w.last
+    late_by Nothing h over = let b = h.0 in omega arith
+    late_by (Access u op) h (inl late) = let b = h.0 in omega arith
+    late_by (Access u op) h (inr none) = at_end op h.2 none
+    late_by (Look u) h over = let b = h.0 in omega arith
 
-      ends : (k : Ask) → IsAsk m n anew.0.last k y.at.state → IsOver from.at.mark.readings a k → (i : ℕ) → observed_events m Para sight a i anew.0.last ≡ []
-      ends k h over i = let l = late_by k h over in none_late m lawful Para sight a i anew.0.last l
+    pub settles : AllBelow a w.events → IsOver from.at.mark.readings a ask2 → IsSettled m n from a ask2 y
+    settles low over =
+        let late = late_by ask2 w.asked over in
+        let same : w.events ≡ observed_past m n from a =
+        made m lawful Para sight n a w.last (λ i. none_late m lawful Para sight a i w.last late) w.steps n from.state w.events w.runs w.seen low (omega arith) in
+        record {
+          steps = w.steps;
+          last = w.last;
+          runs = subst (λ (l : List Event). Runs m Para n w.steps from.state (course l w.last)) same w.runs;
+          asked = w.asked;
+          late = late;
+          noted = subst (λ (l : List Event). IsNoted from.at.log l y.log) same w.noted;
+        }
+
+  pub went_anew : (t a : ℕ) (ask ask2 : Ask) (x y : Station S) (log : Log) → a ≤ t → t ≤ n → IsReached n ask t → IsOnWay m n from ask x
+      → length log.list.items ≡ from.at.log.len → log.count ≡ from.at.log.count
+      → HasObserved m Para n from.at.mark.readings a from.state log ask2 y.at.state y.log → IsOver from.at.mark.readings a ask2 → IsSettled m n from a ask2 y
+  went_anew t a ask ask2 x y log order le at first len count seen over =
+      let anew = sets_out ask2 a log y seen len count first.few in
+      settles t a ask ask2 x y order le at first anew.0 anew.1 over
 
 -- it set out from the mark, and stands where the host let it
 pub went : {S : Type 0} (m : Moves S) (lawful : IsLawful m) (n t : ℕ) (from : Outset S) (x y : Station S) (ask2 : Ask) (q : Carried)
@@ -337,6 +290,16 @@ went {S} m lawful n t from x y ask2 q side at list keep count passed under same 
       ap (λ z. z.ahead) same ∙ told.ahead,
     )
 
+-- what holds of a value that may be there
+pub if_some : {A : Type 0} (o : Option A) (N : Type 0) (P Q : A → Type 0) → MatchOption o N P → ((a : A) → P a → Q a) → IfSome o Q
+if_some None N P Q h f = tt
+if_some (Some a) N P Q h f = f a h
+
+-- what holds whether it is there or not
+pub if_none : {A : Type 0} (o : Option A) (N : Type 0) → N → IfNone o N
+if_none None N h = h
+if_none (Some a) N h = tt
+
 pub at_reached : (n : ℕ) (ask : Ask) → (t : ℕ) × IsReached n ask t
 at_reached n Nothing = (n, refl)
 at_reached n (Access t op) = (t.0, refl)
@@ -361,12 +324,6 @@ reached_in {S} m n from ask y t w at = go ask w.asked at
     go Nothing h r = omega arith
     go (Access u op) h r = let b = h.1 in omega arith
     go (Look u) h r = let b = h.1 in omega arith
-
--- what left off at no access is over
-pub over_unasked : (r : Readings) (t : ℕ) (ask : Ask) → ((u : Tick) (op : Op) → ask ≡ Access u op → ⊥) → IsUnsure t ask → IsOver r t ask
-over_unasked r t Nothing not h = tt
-over_unasked r t (Access u op) not h = absurd (not u op refl)
-over_unasked r t (Look u) not h = h
 
 -- it does not matter what the pass knows
 pub at_pass : {S : Type 0} (m : Moves S) (n : ℕ) (from : Outset S) (ask : Ask) (x : Station S) (p : Carried) → IsOnWay m n from ask x → IsOnWay m n from ask (record x { at = place x.at.state p })

@@ -2,17 +2,15 @@
 use Rattle.std.proofs.Common.{ℕ, zero, suc, ◌≡◌, ◌≢◌, ◌+◌, ◌<◌, ◌≤◌, min, refl, sym, ◌∙◌, ap, subst, arith, List, [], ◌∷◌, ◌++◌, Some, append-nil, append_assoc, length, length-append, take}
 use Rattle.std.proofs.Math.Seq.{take-nil}
 use Rattle.beeb_bits.specs.declared.Side.{Side}
-use Rattle.beeb_bits.specs.declared.Tick.{Tick}
 use Rattle.tube_chip.specs.Events.{Event}
 use Rattle.tube_chip.specs.Act.{access, look}
-use Rattle.tube_trace.specs.declared.Entry.{Entry}
 use Rattle.tube_trace.specs.Entries.{accesses, entry_of}
 use Rattle.tube_cell.specs.Passes.{Carried, own_horizon}
 use Rattle.tube_party.specs.declared.party.Ask.{Ask}
 use Rattle.tube_party.specs.declared.party.Ask.TheVariants.{Nothing, Access, Look}
 use Rattle.tube_party.specs.Moves.{Moves, IsLawful, Runs, IsAsk, course}
 use Rattle.tube_party.specs.declared.log.Log.{Log}
-use Rattle.tube_party.specs.Logs.{HasNoted, accesses-append, noted_all_take, at_most_one, none_noted}
+use Rattle.tube_party.specs.Logs.{accesses-append, noted_all_take, at_most_one}
 use Rattle.tube_party.specs.Turn.{IsPending, ticks_left, note_all_leaves}
 use Rattle.tube_party.specs.Quiet.{IsQuiet, quiet_here}
 use Rattle.tube_side.specs.CodeSteps.{event_at, all_events, SameSeat, HasWaited}
@@ -84,16 +82,15 @@ quiet_is m n s (Look t) q h quiet = let a = h.0 in let b = h.1 in let c = quiet_
 pub seat_on : (p q r : Carried) → SameSeat p q → SameSeat q r → SameSeat p r
 seat_on p q r a b = record { cell = b.cell ∙ a.cell; side = b.side ∙ a.side; trusted = b.trusted }
 
--- ---- what goes on is moved on
-
-pub moved : {S : Type 0} (m : Moves S) (n : ℕ) (x : Station S) (y : Place S) (ask : Ask) → x.at.pass.trusted ≡ [] → GoneOn m n x.at ask y → MovedOn m n x ask (record x { at = y })
+-- what goes on is moved on
+pub moved : {S : Type 0} (m : Moves S) (n : ℕ) (x y : Station S) (ask : Ask) → x.at.pass.trusted ≡ [] → GoneOn m n x ask y → MovedOn m n x ask y
 moved m n x y ask none g = record {
   added = g.events;
   steps = g.steps;
   last = g.last;
   runs = g.runs;
   asked = g.asked;
-  noted = subst (λ (l : List Entry). HasNoted l x.log x.log) (sym g.silent) (none_noted x.log);
+  noted = g.noted;
   same = record { cell = ap (λ z. z.cell) g.pass; side = ap (λ z. z.side) g.pass; trusted = ap (λ z. z.trusted) g.pass ∙ none };
   events = ap all_events g.pass ∙ sym (append_assoc x.at.pass.events x.at.pass.ahead g.events);
   next = g.next;

@@ -1,28 +1,26 @@
 -- How a side goes on past what it may answer itself.
-use Rattle.std.specs.Prelude.{ℕ, ◌≡◌, ◌+◌, ◌≤◌, List, [], ◌++◌}
+use Rattle.std.specs.Prelude.{ℕ, ◌≡◌, ◌≤◌, List, [], ◌++◌}
 use Rattle.tube_chip.specs.Events.{Event}
 use Rattle.tube_trace.specs.Entries.{accesses}
-use Rattle.tube_cell.specs.Passes.{own_horizon, here, bound_here, after_add}
+use Rattle.tube_cell.specs.Passes.{own_horizon, after_add}
 use Rattle.tube_party.specs.declared.party.Ask.{Ask}
 use Rattle.tube_party.specs.Moves.{Moves, Runs, IsAsk, course}
 use Rattle.tube_party.specs.Logs.{HasNoted}
 use Rattle.tube_side.specs.CodeSteps.{all_events, SameSeat, HasWaited}
-use Rattle.session.specs.CodeStation.{Place, Station}
+use Rattle.session.specs.CodeStation.{Station}
 
--- The steps that ask nothing were done, and with them looks that the pass's chip answers: they joined its unpublished events. This is asked next, and
--- neither that step nor n is below the pass's horizon.
-pub record GoneOn {S : Type 0} (m : Moves S) (n : ℕ) (x : Place S) (ask : Ask) (y : Place S) : Type 0 where
+-- The steps that ask nothing were done, and with them observations that the pass's chip answers: they joined its unpublished events, and accesses among them were
+-- noted. This is asked next, and neither that step nor n is below the pass's horizon.
+pub record GoneOn {S : Type 0} (m : Moves S) (n : ℕ) (x : Station S) (ask : Ask) (y : Station S) : Type 0 where
   pub events : List Event
   pub steps : ℕ
   pub last : S
-  pub runs : Runs m x.pass.side n steps x.state (course events last)
-  pub asked : IsAsk m n last ask y.state
-  pub silent : accesses events ≡ []
-  pub pass : y.pass ≡ after_add x.pass events
-  pub here_is : here y.pass ≡ here x.pass
-  pub bound : bound_here y.pass ≡ bound_here x.pass
-  pub next : own_horizon y.pass ≤ m.due last
-  pub open_ : own_horizon y.pass ≤ n
+  pub runs : Runs m x.at.pass.side n steps x.at.state (course events last)
+  pub asked : IsAsk m n last ask y.at.state
+  pub noted : HasNoted (accesses events) x.log y.log
+  pub pass : y.at.pass ≡ after_add x.at.pass events
+  pub next : own_horizon y.at.pass ≤ m.due last
+  pub open_ : own_horizon y.at.pass ≤ n
 
 -- The steps that ask nothing were done, and with them some that the side answered itself, which were added to the pass's events; accesses among them were noted. This
 -- is asked next, and neither that step nor n is below the pass's horizon.

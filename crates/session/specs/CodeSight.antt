@@ -3,7 +3,6 @@ use Rattle.std.specs.Prelude.{ℕ, zero, suc, ◌≡◌, ◌==◌, nat_lt, Optio
 use Rattle.beeb_bits.specs.declared.Side.{Side}
 use Rattle.tube_chip.specs.declared.Answer.{Answer}
 use Rattle.tube_chip.specs.declared.Answer.TheVariants.{Byte, Seen}
-use Rattle.tube_chip.specs.declared.Lines.{Lines}
 use Rattle.tube_chip.specs.declared.Op.{Op}
 use Rattle.tube_chip.specs.declared.Op.TheVariants.{Read, Write, Reset}
 use Rattle.tube_chip.specs.Act.{Query, access, look}
@@ -16,21 +15,16 @@ use Rattle.tube_side.specs.CodeSteps.{event_at}
 abbrev pub Sight : Type 0
 Sight = Query → Option Answer
 
--- each look sees these lines, and no other query is answered
-abbrev pub lines_seen : Lines → Sight
-lines_seen lines look = Some (Seen lines)
-lines_seen lines (access op) = None
-
--- the byte of a status register of the parasite, which have the numbers 0, 2, 4 and 6
-abbrev pub byte_seen : Readings → Op → Option ℕ
-byte_seen r (Read number) =
-    if number == 0 then Some (slice_index r.status 0)
-    else if number == 2 then Some (slice_index r.status 1)
-    else if number == 4 then Some (slice_index r.status 2)
-    else if number == 6 then Some (slice_index r.status 3)
+-- the byte of a status register, which have the numbers 0, 2, 4 and 6
+abbrev pub byte_seen : List ℕ → Op → Option ℕ
+byte_seen status (Read number) =
+    if number == 0 then Some (slice_index status 0)
+    else if number == 2 then Some (slice_index status 1)
+    else if number == 4 then Some (slice_index status 2)
+    else if number == 6 then Some (slice_index status 3)
     else None
-byte_seen r (Write number byte) = None
-byte_seen r Reset = None
+byte_seen status (Write number byte) = None
+byte_seen status Reset = None
 
 abbrev pub byte_answer : Option ℕ → Option Answer
 byte_answer None = None
@@ -39,7 +33,7 @@ byte_answer (Some b) = Some (Byte b)
 -- What the parasite sees of a chip with these readings: its lines, and its status registers.
 abbrev pub readings_seen : Readings → Sight
 readings_seen r look = Some (Seen r.lines)
-readings_seen r (access op) = byte_answer (byte_seen r op)
+readings_seen r (access op) = byte_answer (byte_seen r.status op)
 
 -- a query that is answered joins what is observed later; after one that is not, there is nothing
 abbrev pub joins : Side → ℕ → Query → (Answer → List Event) → Option Answer → List Event

@@ -1,10 +1,8 @@
 -- A way of the parasite ahead of the host.
-use Rattle.std.specs.Prelude.{ℕ, ◌≡◌, ◌+◌, ◌≤◌, ◌⊎◌, Option, None, Some, List, length, take}
+use Rattle.std.specs.Prelude.{ℕ, ◌≡◌, ◌+◌, ◌≤◌, List, length, take}
 use Rattle.beeb_bits.specs.declared.Side.TheVariants.{Para}
 use Rattle.tube_chip.specs.Events.{Event}
 use Rattle.tube_trace.specs.Entries.{accesses}
-use Rattle.tube_cell.specs.declared.local.Readings.{Readings}
-use Rattle.tube_cell.specs.Views.{AllBelow}
 use Rattle.tube_party.specs.declared.log.Log.{Log}
 use Rattle.tube_party.specs.declared.log.LogMark.{LogMark}
 use Rattle.tube_party.specs.declared.party.Ask.{Ask}
@@ -12,7 +10,7 @@ use Rattle.tube_party.specs.declared.party.Ask.TheVariants.{Nothing, Access, Loo
 use Rattle.tube_party.specs.Moves.{Moves, Runs, IsAsk, course}
 use Rattle.tube_party.specs.Turn.{note_all_leaves}
 use Rattle.tube_side.specs.CodeWays.{Way}
-use Rattle.session.specs.CodeSight.{byte_seen, readings_seen, observed_events, IsSeen}
+use Rattle.session.specs.CodeSight.{readings_seen, observed_events, IsSeen}
 use Rattle.session.specs.CodeStation.{Station, station}
 use Rattle.session.specs.declared.half.Half.{Half}
 use Rattle.session.specs.declared.way.Checkpoint.{Checkpoint}
@@ -64,16 +62,6 @@ pub record IsSettled {S : Type 0} (m : Moves S) (n : ℕ) (from : Outset S) (t :
   pub late : t ≤ m.due last
   pub noted : IsNoted from.at.log (observed_past m n from t) y.log
 
--- what is asked is no query below the tick that the mark shows
-abbrev pub IsOver : Readings → ℕ → Ask → Type 0
-IsOver r t Nothing = Unit {0}
-IsOver r t (Access u op) = (t ≤ u.0) ⊎ (byte_seen r op ≡ None)
-IsOver r t (Look u) = t ≤ u.0
-
--- It went anew from there, as far as it observes anything below the tick.
-abbrev pub IsAnew : {S : Type 0} → Moves S → ℕ → Outset S → ℕ → Ask → Station S → Type 0
-IsAnew m n from t ask y = (w : IsOnWay m n from ask y) × AllBelow t w.events × IsOver from.at.mark.readings t ask
-
 -- the second ask is no earlier than the first
 abbrev pub IsNoEarlier : ℕ → Ask → Ask → Type 0
 IsNoEarlier n first second = (t u : ℕ) → IsReached n first t → IsReached n second u → t ≤ u
@@ -101,8 +89,3 @@ pub record HasGoneFurther {S : Type 0} (m : Moves S) (n : ℕ) (first : Ask) (x 
   pub further : IsNoEarlier n first second
   pub from_is : y.from.state ≡ x.from.state
   pub log : IsStillThere x.from.at.log x.here.log y.here.log
-
--- it went on where there is an answer, and stayed where there is none
-abbrev pub GoesFurther : {S : Type 0} → Moves S → ℕ → Ask → Trip S → Option Ask → Trip S → Type 0
-GoesFurther m n first x None y = HasGoneFurther m n first x first y
-GoesFurther m n first x (Some second) y = HasGoneFurther m n first x second y

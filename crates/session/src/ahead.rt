@@ -13,7 +13,7 @@ ghost use Rattle.session.specs.Work.{MayWork, HasWorked};
 use crate::half::{Half, next_tick, step};
 use crate::lookahead::go_on;
 use crate::stride::{Stride, Strides};
-use crate::way::{Checkpoint, reached, roll_back, stride_to, strides_on};
+use crate::way::{Checkpoint, reached, roll_back, set_out, strides_on};
 use beeb_bits::Tick;
 use std::marker::Brand;
 use std::sync::Wait;
@@ -41,7 +41,7 @@ pub fn drive_ahead<M: Rewinds, R: Wait>(
     let mut pause = Pause::new();
     let mut stride = Stride::new(strides);
     let mut is_published = false;
-    let mut ask = go_on(rt, cell, &mut half.pass, &mut half.machine, n);
+    let mut ask = go_on(rt, cell, half, n);
     for _ in rt.forever() {
         if ask == Ask::Nothing {
             finish(rt, cell, &mut half.pass, n);
@@ -55,7 +55,7 @@ pub fn drive_ahead<M: Rewinds, R: Wait>(
             None => {
                 step(rt, cell, half, n, ask, is_published, &mut pause);
                 is_published = false;
-                ask = go_on(rt, cell, &mut half.pass, &mut half.machine, n);
+                ask = go_on(rt, cell, half, n);
             }
         }
     }
@@ -150,13 +150,7 @@ fn go_ahead<W: Ahead, M: Rewinds, R: Wait>(
     ensures paid { IsPaid half.old.pass half.new.pass }
 {
     let end = stride.set_out(from.mark.tick);
-    let Some(first) = half
-        .machine
-        .advance_noting(n, &from.mark.readings.lines, end, past)
-    else {
-        return None;
-    };
-    let first = stride_to(rt, half, past, n, from, end, first);
+    let first = set_out(half, past, n, from, end)?;
     let t = reached(n, first);
     if !tell_first::<W, R>(rt, cell, &mut half.pass, &from.mark, t) {
         half.machine.rewind(past);

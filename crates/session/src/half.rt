@@ -32,10 +32,10 @@ pub fn drive<M: Party, R: Wait>(rt: &R, cell: &TubeCell, half: &mut Half<M>, n: 
     ensures paid { IsNearlyPaid half.old.pass half.new.pass }
 {
     let mut pause = Pause::new();
-    let mut ask = go_on(rt, cell, &mut half.pass, &mut half.machine, n);
+    let mut ask = go_on(rt, cell, half, n);
     while ask != Ask::Nothing {
         step(rt, cell, half, n, ask, false, &mut pause);
-        ask = go_on(rt, cell, &mut half.pass, &mut half.machine, n);
+        ask = go_on(rt, cell, half, n);
     }
     finish(rt, cell, &mut half.pass, n);
 }

@@ -2,8 +2,10 @@
 #![tactic(auto)]
 
 mod ahead;
+mod desk;
 mod half;
 mod lookahead;
+mod observe;
 mod pair;
 mod side_job;
 mod sight;

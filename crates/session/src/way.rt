@@ -1,24 +1,23 @@
 //! How the parasite's machine goes ahead of the host, in strides from one mark, and comes back where the host changed what it observed.
-ghost use Rattle.std.specs.Prelude.{◌≡◌, ◌≤◌, ℕ, take, length, IfSome};
+ghost use Rattle.std.specs.Prelude.{◌≡◌, ◌≤◌, ℕ, take, length, IfSome, IfNone};
 ghost use Rattle.beeb_bits.specs.declared.Side.TheVariants.{Para};
 ghost use Rattle.tube_cell.specs.Passes.{Carried};
-ghost use Rattle.tube_party.specs.declared.party.Ask.TheVariants.{Access, Look};
 ghost use Rattle.tube_side.specs.CodeSteps.{IsPaidOnTrust};
 ghost use Rattle.tube_side.specs.CodeTrust.{HasTrusted};
 ghost use Rattle.tube_side.specs.CodeWays.{IsWay};
 ghost use Rattle.session.specs.CodeStation.{station};
-ghost use Rattle.session.specs.CodeWay.{outset, IsReached, IsSettled, IsAnew, trip, IsOnTrip, IsStillThere, HasGoneFurther, GoesFurther};
+ghost use Rattle.session.specs.CodeDesk.{shown};
+ghost use Rattle.session.specs.CodeWay.{IsReached, IsSettled, trip, IsOnTrip, IsStillThere, HasGoneFurther};
 
+use crate::desk::StatusDesk;
 use crate::half::Half;
-use crate::sight::byte_of;
+use crate::observe::observe;
 use crate::stride::Stride;
 use beeb_bits::{Side, Tick};
 use std::sync::Wait;
 use tube_cell::TubeCell;
-use tube_chip::{Answer, Op};
-use tube_party::{Ask, LogMark, MOST, Rewinds};
+use tube_party::{Ask, Log, LogMark, MOST, Rewinds};
 use tube_side::{Ahead, Mark, tell_more};
-use tube_trace::Entry;
 
 /// Where a way ahead begins, and how far the log was written there.
 #[derive(Drop)]
@@ -37,100 +36,44 @@ pub(crate) fn reached(n: Tick, ask: Ask) -> Tick
     }
 }
 
-// Answers a read as the mark shows it, and goes on from there up to tick `end`. None, and it is where it was, where the mark does not show
-// the register, or where the machine cannot note that.
-fn read_on<M: Rewinds>(
-    half: &mut Half<M>,
-    past: &mut M::Past,
-    n: Tick,
-    from: &Checkpoint,
-    end: Tick,
-    tick: Tick,
-    op: Op,
-) -> Option<Ask>
-    requires ticks { n.0 ≤ MOST }
-    requires way { IsOnTrip M.Party.moves n.0 (Access tick op) (trip M.Party.state M.before past.old half.old from.now) }
-    ensures further { let at = trip M.Party.state M.before in
-        GoesFurther M.Party.moves n.0 (Access tick op) (at past.old half.old from.now) result (at past.new half.new from.now) }
-    ensures pass { half.new.pass ≡ half.old.pass }
+// The status registers as the mark shows them, up to tick `end`.
+fn desk_of(log: &mut Log, from: &Checkpoint, end: Tick) -> StatusDesk
+    ensures { shown result ≡ record { side = Para; status = from.now.mark.readings.status; below = end.0; log = log.old } }
 {
-    let Some(answer) = byte_of(&from.mark.readings, op) else {
-        return None;
-    };
-    let Some(next) = half
-        .machine
-        .answer_on(answer, n, &from.mark.readings.lines, end, past)
-    else {
-        return None;
-    };
-    let entry = Entry {
-        tick,
+    StatusDesk {
         side: Side::Para,
-        op,
-        answer,
-    };
-    half.log.note(entry);
-    Some(next)
-}
-
-// Goes on from the look that is asked, up to tick `end`.
-fn look_on<M: Rewinds>(
-    half: &mut Half<M>,
-    past: &mut M::Past,
-    n: Tick,
-    from: &Checkpoint,
-    end: Tick,
-    tick: Tick,
-) -> Ask
-    requires ticks { n.0 ≤ MOST }
-    requires way { IsOnTrip M.Party.moves n.0 (Look tick) (trip M.Party.state M.before past.old half.old from.now) }
-    ensures further { let at = trip M.Party.state M.before in
-        HasGoneFurther M.Party.moves n.0 (Look tick) (at past.old half.old from.now) result (at past.new half.new from.now) }
-    ensures pass { half.new.pass ≡ half.old.pass }
-{
-    half.machine
-        .advance_on(n, &from.mark.readings.lines, end, past)
-}
-
-// Goes on from what is asked next, up to tick `end`. None where it goes no further.
-fn step_on<M: Rewinds>(
-    half: &mut Half<M>,
-    past: &mut M::Past,
-    n: Tick,
-    from: &Checkpoint,
-    end: Tick,
-    ask: Ask,
-) -> Option<Ask>
-    requires ticks { n.0 ≤ MOST }
-    requires way { IsOnTrip M.Party.moves n.0 ask (trip M.Party.state M.before past.old half.old from.now) }
-    ensures further { let at = trip M.Party.state M.before in
-        GoesFurther M.Party.moves n.0 ask (at past.old half.old from.now) result (at past.new half.new from.now) }
-    ensures pass { half.new.pass ≡ half.old.pass }
-{
-    match ask {
-        Ask::Nothing => None,
-        Ask::Access(tick, op) => {
-            if end <= tick {
-                return None;
-            }
-            read_on(half, past, n, from, end, tick, op)
-        }
-        Ask::Look(tick) => {
-            if end <= tick {
-                return None;
-            }
-            let next = look_on(half, past, n, from, end, tick);
-            if next == ask {
-                return None;
-            }
-            Some(next)
-        }
+        status: from.mark.readings.status,
+        below: end,
+        log: log.take(),
     }
 }
 
+/// The first stride, up to tick `end`, as long as the mark shows what the machine asks. None, and it is where it was, where it cannot note that.
+pub(crate) fn set_out<M: Rewinds>(
+    half: &mut Half<M>,
+    past: &mut M::Past,
+    n: Tick,
+    from: &Checkpoint,
+    end: Tick,
+) -> Option<Ask>
+    requires ticks { n.0 ≤ MOST }
+    requires few { from.now.log.count ≤ M.Party.moves.due (M.Party.state half.old.machine) }
+    requires kept { (length half.old.log.list.items ≡ from.now.log.len) × (half.old.log.count ≡ from.now.log.count) }
+    ensures none { IfNone result ((M.Party.state half.new.machine ≡ M.Party.state half.old.machine) × (half.new.log ≡ half.old.log)) }
+    ensures some { let here = trip M.Party.state M.before past.new half.new from.now in
+        IfSome result (λ ask. IsOnTrip M.Party.moves n.0 ask here × (here.from.state ≡ M.Party.state half.old.machine)
+        × IsStillThere from.now.log half.old.log half.new.log) }
+    ensures pass { half.new.pass ≡ half.old.pass }
+{
+    let mut desk = desk_of(&mut half.log, from, end);
+    let lines = &from.mark.readings.lines;
+    let ask = half.machine.advance_noting(n, lines, end, past, &mut desk);
+    half.log = desk.log;
+    ask
+}
+
 /// One stride: the machine goes on from what is asked next, up to tick `end`, as long as the mark shows what it asks. What is asked then.
-pub(crate) fn stride_to<M: Rewinds, R: Wait>(
-    rt: &R,
+fn stride_to<M: Rewinds>(
     half: &mut Half<M>,
     past: &mut M::Past,
     n: Tick,
@@ -144,14 +87,14 @@ pub(crate) fn stride_to<M: Rewinds, R: Wait>(
         HasGoneFurther M.Party.moves n.0 ask (at past.old half.old from.now) result (at past.new half.new from.now) }
     ensures pass { half.new.pass ≡ half.old.pass }
 {
-    let mut ask = ask;
-    for _ in rt.forever() {
-        match step_on(half, past, n, from, end, ask) {
-            Some(next) => ask = next,
-            None => return ask,
-        }
+    if ask == Ask::Nothing {
+        return ask;
     }
-    unreachable!()
+    let mut desk = desk_of(&mut half.log, from, end);
+    let lines = &from.mark.readings.lines;
+    let next = half.machine.advance_on(ask, n, lines, end, past, &mut desk);
+    half.log = desk.log;
+    next
 }
 
 /// Makes one stride after the other from the mark, and tells each, until the machine goes no further from it, or the chip shows something else. What is asked
@@ -185,7 +128,7 @@ pub(crate) fn strides_on<W: Ahead, M: Rewinds, R: Wait>(
         if stride.limit(from.mark.tick) <= so_far {
             return ask;
         }
-        let next = stride_to(rt, half, past, n, from, stride.end(so_far), ask);
+        let next = stride_to(half, past, n, from, stride.end(so_far), ask);
         let t = reached(n, next);
         ask = next;
         if t <= so_far {
@@ -195,49 +138,6 @@ pub(crate) fn strides_on<W: Ahead, M: Rewinds, R: Wait>(
         if !tell_more::<W, R>(rt, cell, &mut half.pass, &from.mark, t) {
             return ask;
         }
-    }
-    unreachable!()
-}
-
-// The machine goes anew from where it set out, as far as it observes anything below tick `trust`, with the same answers.
-fn go_anew<M: Rewinds, R: Wait>(
-    rt: &R,
-    half: &mut Half<M>,
-    n: Tick,
-    from: &Checkpoint,
-    trust: Tick,
-) -> Ask
-    requires ticks { n.0 ≤ MOST }
-    requires few { from.now.log.count ≤ M.Party.moves.due (M.Party.state half.old.machine) }
-    requires kept { (length half.old.log.list.items ≡ from.now.log.len) × (half.old.log.count ≡ from.now.log.count) }
-    ensures anew { IsAnew M.Party.moves n.0 (outset (M.Party.state half.old.machine) from.now) trust.0 result (station M.Party.state half.new) }
-    ensures log { IsStillThere from.now.log half.old.log half.new.log }
-    ensures pass { half.new.pass ≡ half.old.pass }
-{
-    let mut ask = half
-        .machine
-        .advance_seeing(n, &from.mark.readings.lines, trust);
-    for _ in rt.forever() {
-        let Ask::Access(tick, op) = ask else {
-            return ask;
-        };
-        if trust <= tick {
-            return ask;
-        }
-        let Some(answer) = byte_of(&from.mark.readings, op) else {
-            return ask;
-        };
-        half.machine.answer(Answer::Byte(answer));
-        let entry = Entry {
-            tick,
-            side: Side::Para,
-            op,
-            answer,
-        };
-        half.log.note(entry);
-        ask = half
-            .machine
-            .advance_seeing(n, &from.mark.readings.lines, trust);
     }
     unreachable!()
 }
@@ -268,5 +168,5 @@ pub(crate) fn roll_back<M: Rewinds, R: Wait>(
     }
     half.machine.rewind(past);
     half.log.cut(from.log);
-    go_anew(rt, half, n, from, trust)
+    observe(rt, half, Side::Para, n, &from.mark.readings, trust)
 }

@@ -8,7 +8,7 @@ use cpu_alu::{DECIMAL, INTERRUPT, Regs};
 use op_table::Part;
 use std::alloc::Global;
 use tube_chip::{Answer, Lines, Op};
-use tube_party::{Ask, MOST, NO_LINES, Party, Rewinds};
+use tube_party::{Ask, Closed, MOST, NO_LINES, Party, Rewinds};
 
 // A Tube that answers by chance: bytes to accesses, of which it keeps a sum, and lines that stay as they are for a while.
 #[derive(Drop)]
@@ -130,19 +130,22 @@ fn step<M: Party>(machine: &mut M, until: u64, tube: &mut Tube)
 }
 
 // Goes ahead with notes from where it is, as if lines stayed as they are, as long as there is room, or some ticks.
-#[tactic(auto, using(tube_party::specs::Steps::left_at_look))]
+#[tactic(auto, using(tube_party::specs::Steps::left_pending))]
 fn note<M: Rewinds>(machine: &mut M, past: &mut M::Past, lines: &Lines, sure: Tick, more: Tick) {
     let end = Tick(MOST);
-    let Some(Ask::Look(_)) = machine.advance_noting(end, lines, sure, past) else {
+    let Some(Ask::Look(t)) = machine.advance_noting(end, lines, sure, past, &mut Closed) else {
         return;
     };
-    let Ask::Look(_) = machine.advance_on(end, lines, more, past) else {
+    let first = Ask::Look(t);
+    let Ask::Look(t) = machine.advance_on(first, end, lines, more, past, &mut Closed) else {
         return;
     };
-    let Ask::Look(_) = machine.advance_on(end, lines, more, past) else {
+    let second = Ask::Look(t);
+    let Ask::Look(t) = machine.advance_on(second, end, lines, more, past, &mut Closed) else {
         return;
     };
-    let _ = machine.advance_on(end, lines, more, past);
+    let third = Ask::Look(t);
+    let _ = machine.advance_on(third, end, lines, more, past, &mut Closed);
 }
 
 // Goes ahead with notes and back again; or up to a tick, and stays there.
@@ -158,7 +161,7 @@ fn go_ahead<M: Rewinds>(
     let t = machine.due().0;
     let lines = tube.lines(t);
     if chance.once_in(2) {
-        let _ = machine.advance_noting(Tick(until), &lines, Tick(tube.sure(t)), past);
+        let _ = machine.advance_noting(Tick(until), &lines, Tick(tube.sure(t)), past, &mut Closed);
         return;
     }
     let sure = t.saturating_add(u64::from(chance.below(64)));

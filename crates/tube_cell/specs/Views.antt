@@ -141,12 +141,16 @@ chip_after_event c e = (act c e.side e.query).0
 abbrev pub Answers : State → Event → Type 0
 Answers c e = (act c e.side e.query).1 ≡ e.answer
 
--- What the parasite's observations show of a chip: the lines, and its status registers.
-abbrev pub readings_of : State → Readings
-readings_of c = record {
+-- What a side's observations show of a chip: the lines, and its status registers.
+abbrev pub shown_to : Side → State → Readings
+shown_to s c = record {
   lines = lines_of c;
-  status = status Para 1 c ∷ status Para 2 c ∷ status Para 3 c ∷ status Para 4 c ∷ [];
+  status = status s 1 c ∷ status s 2 c ∷ status s 3 c ∷ status s 4 c ∷ [];
 }
+
+-- and the parasite's
+abbrev pub readings_of : State → Readings
+readings_of c = shown_to Para c
 
 abbrev pub same_lines : Lines → Lines → Bool
 same_lines a b = beq a.prst b.prst && (a.resets == b.resets) && (a.nmis == b.nmis) && beq a.pirq b.pirq && beq a.hirq b.hirq

@@ -5,16 +5,15 @@ ghost use Rattle.crossbeam_utils.specs.Register.{Turns, Forks, Merges};
 ghost use Rattle.crossbeam_utils.specs.Seq.{cell_view, IsSamePass};
 ghost use Rattle.beeb_bits.specs.declared.Side.TheVariants.{Host, Para};
 ghost use Rattle.tube_chip.specs.State.{lines_of};
-ghost use Rattle.tube_chip.specs.declared.Op.TheVariants.{Read};
-ghost use Rattle.tube_chip.specs.Act.{MayDo, is_status, answer_of};
+ghost use Rattle.tube_chip.specs.Act.{MayDo, answer_of};
 ghost use Rattle.tube_chip.specs.Events.{merge, after, IsLegal};
 ghost use Rattle.tube_chip.specs.Packing.{IsChip};
-ghost use Rattle.tube_cell.specs.Views.{one_side, rejoined, word_of_other, other_bound, slack, known_with, Admits, admits, AllBelow, words_of, readings_of, trust_after};
+ghost use Rattle.tube_cell.specs.Views.{one_side, rejoined, word_of_other, other_bound, slack, known_with, Admits, admits, AllBelow, words_of, shown_to, trust_after};
 ghost use Rattle.tube_cell.specs.Rules.{Kept, Found, published_view, entrusted_view, told_view, added_view, joined_view, Ended};
 ghost use Rattle.tube_cell.specs.Passes.{starts, own_horizon, Learns, access_at, lines_at, after_commit, after_raise, after_look, after_entrust, here, bound_here, after_add, after_publish};
 ghost use Rattle.tube_cell.specs.Steps.{MayPublish, MayLook, MayEntrust, MayPublishAndEntrust, Watches, LookedAt};
 
-use crate::local::{Readings, operate, peek, readings_of};
+use crate::local::{Readings, operate, readings_of};
 use crate::rule::{
     Adding, CellRule, Deeds, Ending, Entrusting, Halves, Learning, Looking, Moment, Parting,
     PassView, Publishing, PublishingAndEntrusting, Wish,
@@ -177,24 +176,13 @@ impl TubeCell {
         pass.local.lines()
     }
 
-    /// What the parasite's observations show of the local chip. The pass is as it was.
+    /// What the observations of the pass's side show of the local chip. The pass is as it was.
     pub fn readings(&self, pass: &mut Pass) -> Readings
         requires { pass.old.cell ≡ self.now }
-        ensures readings { result ≡ readings_of (here pass.old) }
+        ensures readings { result ≡ shown_to pass.old.side (here pass.old) }
         ensures pass { pass.new ≡ pass.old }
     {
-        readings_of(&mut pass.local)
-    }
-
-    /// What the parasite reads at a status register of the local chip, by its even number below 8. The pass is as it was.
-    pub fn peek(&self, pass: &mut Pass, number: u8) -> u8
-        requires cell { pass.old.cell ≡ self.now }
-        requires number { number < 8 }
-        requires status { is_status number ≡ true }
-        ensures byte { result ≡ answer_of (here pass.old) Para (Read number) }
-        ensures pass { pass.new ≡ pass.old }
-    {
-        peek(&mut pass.local, number)
+        readings_of(&mut pass.local, pass.side)
     }
 
     /// The parasite's trust, as far as the pass knows it.

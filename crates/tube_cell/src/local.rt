@@ -4,12 +4,12 @@ ghost use Rattle.beeb_bits.specs.declared.Side.TheVariants.{Host, Para};
 ghost use Rattle.tube_chip.specs.declared.Op.TheVariants.{Read};
 ghost use Rattle.tube_chip.specs.State.{State};
 ghost use Rattle.tube_chip.specs.Act.{access, MayDo, is_status, answer_of, chip_after};
-ghost use Rattle.tube_cell.specs.Views.{is_observation, readings_of, same_lines, same_readings, trust_next};
+ghost use Rattle.tube_cell.specs.Views.{is_observation, shown_to, readings_of, same_lines, same_readings, trust_next};
 
 use beeb_bits::Side;
 use tube_chip::{Chip, Lines, Op};
 
-/// What the parasite's observations show of a chip: the lines, and what it reads at its status registers, which have the numbers 0, 2, 4
+/// What a side's observations show of a chip: the lines, and what it reads at its status registers, which have the numbers 0, 2, 4
 /// and 6.
 #[derive(Clone, Copy, Debug, PartialEq, Eq)]
 pub struct Readings {
@@ -19,25 +19,25 @@ pub struct Readings {
     pub status: [u8; 4],
 }
 
-/// What the parasite reads at a status register. The chip stays.
-pub(crate) fn peek(chip: &mut Chip, number: u8) -> u8
+// What a side reads at a status register. The chip stays.
+fn peek(chip: &mut Chip, side: Side, number: u8) -> u8
     requires number { number < 8 }
     requires status { is_status number ≡ true }
-    ensures byte { result ≡ answer_of chip.old Para (Read number) }
+    ensures byte { result ≡ answer_of chip.old side (Read number) }
     ensures chip { chip.new ≡ chip.old }
 {
-    chip.apply(Side::Para, Op::Read(number))
+    chip.apply(side, Op::Read(number))
 }
 
-/// What the parasite's observations show of the chip, which stays.
-pub(crate) fn readings_of(chip: &mut Chip) -> Readings
-    ensures readings { result ≡ readings_of chip.old }
+/// What a side's observations show of the chip, which stays.
+pub(crate) fn readings_of(chip: &mut Chip, side: Side) -> Readings
+    ensures readings { result ≡ shown_to side chip.old }
     ensures chip { chip.new ≡ chip.old }
 {
-    let first = peek(chip, 0);
-    let second = peek(chip, 2);
-    let third = peek(chip, 4);
-    let fourth = peek(chip, 6);
+    let first = peek(chip, side, 0);
+    let second = peek(chip, side, 2);
+    let third = peek(chip, side, 4);
+    let fourth = peek(chip, side, 6);
     Readings {
         lines: chip.lines(),
         status: [first, second, third, fourth],
@@ -95,9 +95,10 @@ fn host_operates(chip: &mut Chip, op: Op, tick: u64, trust: u64) -> (u8, u64)
         let answer = chip.apply(Side::Host, op);
         return (answer, trust);
     }
-    let before = readings_of(chip);
+    let before = readings_of(chip, Side::Para);
     let answer = chip.apply(Side::Host, op);
-    (answer, trust_left(before, readings_of(chip), tick, trust))
+    let after = readings_of(chip, Side::Para);
+    (answer, trust_left(before, after, tick, trust))
 }
 
 /// Does an operation of a side at this tick. Its answer, and the trust after it.

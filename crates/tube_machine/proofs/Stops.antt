@@ -1,5 +1,5 @@
 -- Where the machine stops, and how it goes on from there.
-use Rattle.std.proofs.Common.{◌≡◌, ◌∙◌, ◌&&◌, ◌||◌, refl, sym, ap, subst, ℕ, zero, suc, ◌+◌, ◌-◌, ◌*◌, ◌<◌, ◌≤◌, ◌⊎◌, inl, inr, max, min, length, Ok, Err}
+use Rattle.std.proofs.Common.{◌≡◌, ◌∙◌, ◌&&◌, ◌||◌, refl, sym, ap, subst, ℕ, zero, suc, ◌+◌, ◌-◌, ◌*◌, ◌<◌, ◌≤◌, ◌⊎◌, inl, inr, max, min, length}
 use Rattle.std.specs.Prelude.{nat_lt, not}
 use Rattle.std.proofs.lemmas.Bool.{ltb-true}
 use Rattle.std.proofs.Common.{Bool, true, false, is_none, Option, Some, None, IsSome, MatchOption, arith, if◌then◌else◌}
@@ -10,25 +10,23 @@ use Rattle.cpu_alu.specs.declared.Cycle.{Cycle}
 use Rattle.cpu_core.specs.State as cpu
 use Rattle.cpu_core.specs.Sequences.{next_cycle, after_byte, halted}
 use Rattle.tube_chip.specs.Act.{Query, access, look}
-use Rattle.tube_chip.specs.declared.Op.{Op}
 use Rattle.tube_chip.specs.declared.Op.TheVariants as op
 use Rattle.tube_chip.specs.declared.Lines.{Lines}
 use Rattle.tube_chip.specs.declared.Answer.{Answer}
 use Rattle.tube_chip.specs.declared.Answer.TheVariants.{Seen}
 use Rattle.tube_party.specs.Moves.{Looks, Sees, IsAsk, IsUnsure, shown_lines}
-use Rattle.tube_party.specs.Steps.{silent_last, look_last, looks_on}
+use Rattle.tube_party.specs.Steps.{silent_last, look_last}
 use Rattle.tube_party.specs.declared.party.Ask.{Ask}
 use Rattle.tube_party.specs.declared.party.Ask.TheVariants.{Nothing, Access, Look}
 use Rattle.tube_machine.specs.Wiring.{Wiring, IsWired}
 use Rattle.tube_machine.specs.Step.{At, is_break, after_break, asks, asks_by, asks_reset, byte_of, after_step, closed_to, lines_in, next_state, moves_of}
-use Rattle.tube_machine.specs.Exchange.{IsDone, IsCramped, ready}
-use Rattle.tube_machine.specs.declared.bus.Unable.TheVariants as unable
+use Rattle.tube_machine.specs.Exchange.{IsSilent, IsCramped, ready}
 use Rattle.tube_machine.specs.NoBreak.{plain-asks, plain-next}
 use Rattle.tube_machine.proofs.UnderWay.{Came}
 use Rattle.tube_machine.proofs.Spends.{seen-more}
 use Rattle.tube_machine.proofs.Lengths.{few_seen}
 
-silent-by : (breaks has : Bool) (o : Option Query) → has ≡ true → (if breaks then (if has then Some (access op.Reset) else None) else o) ≡ None → breaks ≡ false
+pub silent-by : (breaks has : Bool) (o : Option Query) → has ≡ true → (if breaks then (if has then Some (access op.Reset) else None) else o) ≡ None → breaks ≡ false
 silent-by true true o is asked = cc
 silent-by true false o is asked = cc
 silent-by false has o is asked = refl
@@ -70,7 +68,7 @@ few part c is on = few_seen c (some-of (next_cycle Cmos c) (subst (λ (p : Part)
 -- a break step below a tick, without a Tube, asks nothing
 module _ (part : Part) {B : Type 0} (w : Wiring B) where
   pub breaks-alone : (s : At B) (n : ℕ) → (nat_lt s.due n && is_break part w s && not (w.has_tube s.bus)) ≡ true →
-      (s.due < n) × ((new : At B) → new ≡ after_break part w (closed_to w s (s.due + 1)) → IsDone part w s (Ok tt) new)
+      (s.due < n) × ((new : At B) → new ≡ after_break part w (closed_to w s (s.due + 1)) → IsSilent part w s new)
   breaks-alone s n is =
       let parts = alone-parts (nat_lt s.due n) (is_break part w s) (w.has_tube s.bus) is in (
         ltb-true s.due n parts.0,
@@ -114,12 +112,8 @@ module _ (part : Part) {B : Type 0} (w : Wiring B) (wired : IsWired w) where
     looks-cycle zero s last h = ap (λ (x : At B). w.cycle x.bus) (sym h)
     looks-cycle (suc k) s last h = looks-cycle-by k s last (asks part w s) (λ u on. looks-cycle k u last on) h.1
 
-    -- some steps and then others
-    pub then-on : (start s new : At B) → Came part w n lines sure start s → Came part w n lines sure s new → Came part w n lines sure start new
-    then-on start s new came on = looks_on (moves_of part w) n lines sure came.0 on.0 start s new came.1 on.1
-
     -- one more step that asks nothing
-    pub more : (start s new : At B) → Came part w n lines sure start s → s.due < n → IsDone part w s (Ok tt) new → Came part w n lines sure start new
+    pub more : (start s new : At B) → Came part w n lines sure start s → s.due < n → IsSilent part w s new → Came part w n lines sure start new
     more start s new came low done = (
       suc came.0,
       subst (λ (x : At B). Looks (moves_of part w) n (shown_lines lines sure) (suc came.0) start x) (sym done.1)
@@ -135,18 +129,6 @@ module _ (part : Part) {B : Type 0} (w : Wiring B) (wired : IsWired w) where
           (look_last (moves_of part w) n lines sure came.0 start s came.1 low (plain-asks part w s none ∙ ap (asks_by w s.bus) over) early),
     )
 
-    -- the next step asks for an access
-    pub stops : (start s new : At B) (o : Op) → Came part w n lines sure start s → s.due < n → IsDone part w s (Err (unable.Tube o)) new
-        → Sees (moves_of part w) n (shown_lines lines sure) start (Access (record { 0 = new.due }) o) new
-    stops start s new o came low done =
-        record {
-          steps = came.0;
-          last = s;
-          looks = came.1;
-          asked = (ap (λ (x : At B). x.due) done.1, subst (λ (x : At B). x.due < n) (sym done.1) low, done.0, done.1);
-          unsure = tt;
-        }
-
     -- a look that is not sure, or none below n
     unsure-by : (last new : At B) (ask : Ask) → IsAsk (moves_of part w) n last ask new → (is_break part w last ≡ true) ⊎ (min n sure ≤ last.due) → IsUnsure sure ask
     unsure-by last new Nothing is late = tt
@@ -160,21 +142,21 @@ module _ (part : Part) {B : Type 0} (w : Wiring B) (wired : IsWired w) where
         Sees (moves_of part w) n (shown_lines lines sure) start ask new
     stops-at-look start last new ask came is late = record { steps = came.0; last = last; looks = came.1; asked = is; unsure = unsure-by last new ask is late }
 
-  -- what an access of one cycle costs
-  pub cost : (s new : At B) → IsDone part w s (Ok tt) new → IsSome (next_cycle part s.cpu) → part ≡ Cmos → w.has_tube s.bus ≡ true → ((b : B) (t : ℕ) (c : Cycle) → w.takes b t c ≡ w.cycle b) →
+  -- what an access of one cycle costs, whatever answers it
+  pub cost : (s new : At B) (a : Option Answer) → is_break part w s ≡ false → new ≡ next_state part w s a → IsSome (next_cycle part s.cpu) → part ≡ Cmos
+      → ((b : B) (t : ℕ) (c : Cycle) → w.takes b t c ≡ w.cycle b) →
       (ready part new.cpu new.due ≡ s.due + w.cycle s.bus) × (length new.cpu.seen ≡ length s.cpu.seen + 1)
-  cost s new done some cmos has even = by (next_cycle part s.cpu) refl some
+  cost s new a free goes some cmos even = by (next_cycle part s.cpu) refl some
     where
       by : (o : Option Cycle) → next_cycle part s.cpu ≡ o → IsSome o → (ready part new.cpu new.due ≡ s.due + w.cycle s.bus) × (length new.cpu.seen ≡ length s.cpu.seen + 1)
       by None is h = absurd (cc)
       by (Some c) is h =
           let x : At B = closed_to w s (s.due + 1) in
           let n : ℕ = w.takes x.bus s.due c in
-          let byte : ℕ = byte_of w x.bus s.due None c in
+          let byte : ℕ = byte_of w x.bus s.due a c in
           let on : cpu.State = after_byte part s.cpu byte in
           let over : Bool = is_none (next_cycle part on) in
-          let free : is_break part w s ≡ false = silent-by (is_break part w s) (w.has_tube s.bus) (asks_by w s.bus (next_cycle part s.cpu)) has done.0 in
-          let step : new ≡ after_step part w (Some c) x None = done.1 ∙ plain-next part w s None free ∙ ap (λ (o : Option Cycle). after_step part w o x None) is in
+          let step : new ≡ after_step part w (Some c) x a = goes ∙ plain-next part w s a free ∙ ap (λ (o : Option Cycle). after_step part w o x a) is in
           let n_is : n ≡ w.cycle s.bus = even x.bus s.due c ∙ wired.cycle_close s.bus (s.due + 1) in
           let runs : halted part s.cpu ≡ false = ap (λ (q : Part). halted q s.cpu) cmos in
           let q : Bool = w.pending x.bus (s.due + (n - 1)) in

@@ -10,7 +10,7 @@ use Rattle.tube_chip.specs.declared.Answer.TheVariants.{Byte, Seen}
 use Rattle.tube_chip.specs.declared.Lines.{Lines}
 use Rattle.tube_machine.specs.Wiring.{Wiring, IsWired}
 use Rattle.tube_machine.specs.Step.{At, at_of, is_break, asks, asks_by, asks_reset, byte_of, after_cycle, after_step, closed_to, next_state}
-use Rattle.tube_machine.specs.Exchange.{IsAtTube, IsAskedByte}
+use Rattle.tube_machine.specs.Exchange.{IsAtTube, IsAskedByte, LeavesBus}
 use Rattle.tube_machine.specs.NoBreak.{plain-asks, plain-next}
 use Rattle.tube_chip.specs.declared.Op.{Op}
 use Rattle.tube_chip.specs.declared.Op.TheVariants as op
@@ -78,3 +78,12 @@ module _ (part : Part) {B : Type 0} (w : Wiring B) where
   taken wired s c b byte n is none there after ticks fast =
       let x : At B = closed_to w s (s.due + 1) in
       accessed-next wired s (Some (Byte byte)) c b byte n is none (given-shown s.cpu x.bus s.due byte c is there) after (ticks ∙ ap w.cycle after ∙ wired.cycle_after x.bus c ∙ sym fast)
+
+  -- and one that leaves the bus
+  pub passed : (wired : IsWired w) (s : At B) (b : B) (byte n : ℕ) → is_break part w s ≡ false → LeavesBus part w s → b ≡ w.close s.bus (s.due + 1) → n ≡ w.cycle b →
+      after_cycle part w (at_of s.cpu b s.due) (w.pending b (s.due + (n - 1)) && halted part s.cpu) (after_byte part s.cpu byte) n ≡ next_state part w s (Some (Byte byte))
+  passed wired s b byte n none at closed ticks =
+      let c : Cycle = at.cycle in
+      let there : IsAtTube w (w.close s.bus (s.due + 1)) c =
+      at-tube s.bus (w.close s.bus (s.due + 1)) c (wired.tube_close s.bus (s.due + 1)) (subst (λ (o : Option Query). MatchOption o ⊥ (λ q. FitsAnswer q (Byte 0))) (sym at.passing.asks) tt) in
+      taken wired s c b byte n at.next none there (closed ∙ sym (at.passing.leaves (s.due + 1))) ticks (at.passing.fast s.due (s.due + 1))

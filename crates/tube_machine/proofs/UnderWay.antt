@@ -254,11 +254,3 @@ module _ (part : Part) {B : Type 0} (w : Wiring B) (wired : IsWired w) (plain : 
         let is_plain : plain b lines ≡ true = quick-plain s.due byte s.bus b c done ∙ way.kept first in
         let looked = after-look lines (at_of on b t) new (t + 1) (omega (arith, before, here, some)) is_plain look in
         caught-up n new (way.cycle ∙ quick-clock s.due byte s.bus b c done ∙ looked.cycle) looked.goes_on (omega (arith, looked.closed, looked.due)) (looked.free far free) (λ _. looked.is_plain) saw
-
-    -- after an access there is a cycle before the next one
-    pub cycle-before : (n : ℕ) (s : At B) (since : ℕ) → until ≤ 1073741824 → IsUnderWay part w plain far n until lines sure start s since → since < s.due →
-        (0 < n) × (n ≤ s.due) × (s.due < 281474976710656)
-    cycle-before n s since room way gone = elim way.since_then [
-      | inl e ↦ absurd (omega (arith, e, gone))
-      | inr e ↦ (omega (arith, way.cycle, wired.some s.bus), omega (arith, e.0), omega (arith, e.1, room, way.cycle, wired.few s.bus))
-    ]

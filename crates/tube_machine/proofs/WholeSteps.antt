@@ -22,8 +22,7 @@ use Rattle.tube_machine.specs.Step.{At, at_of, begin_leaves, byte_in, closed_to,
 use Rattle.tube_machine.specs.Exchange.{IsQuick, IsAtTube}
 use Rattle.tube_party.specs.Moves.{Looks, shown_lines}
 use Rattle.tube_machine.specs.Whole.{reach_of, IsMemory, IsAtRest, StaysAtRest, IsOnward}
-use Rattle.tube_machine.proofs.UnderWay.{IsUnderWay, IsFree, Came, owed-none, none-owed, caught-up, plain-look, quick-more, quick-past, quick-plain}
-use Rattle.tube_machine.proofs.Stops.{then-on}
+use Rattle.tube_machine.proofs.UnderWay.{IsUnderWay, IsFree, Came, owed-none, none-owed, plain-look, quick-more, quick-past, quick-plain}
 
 none-both : (has tube : Bool) → tube ≡ false → (has && tube) ≡ false
 none-both true tube is = is
@@ -362,16 +361,6 @@ module _ (part : Part) {B : Type 0} (w : Wiring B) (wired : IsWired w) (plain : 
     subst (λ (x : At B). Looks (moves_of part w) until (shown_lines lines sure) way.looks.0 start x)
         (ap (λ (t : ℕ). closed_to w s t) (owed-none n s.due (w.closed s.bus)) ∙ none-owed part w wired plain stays s) way.looks.1,
   )
-
-  -- steps that go on from there
-  pub onward-on : (far until : ℕ) (lines : Lines) (sure n bound : ℕ) (start s new : At B)
-      → IsUnderWay part w plain far n until lines sure start s s.due → IsOnward part w plain lines bound s new → bound ≤ far → bound ≤ until
-      → bound ≤ sure →
-      IsUnderWay part w plain far n until lines sure start new new.due
-  onward-on far until lines sure n bound start s new way on far_on in_run early =
-      let came : Came part w until lines sure start s = came-there far until lines sure n start s way in
-      caught-up part w wired plain stays far until lines sure start n new (way.cycle ∙ on.cycle) on.goes_on on.closed (on.free far far_on way.free) (λ first. on.is_plain)
-      (then-on part w wired until lines sure start s new came (on.looks until sure in_run early))
 
   -- what whole instructions come to
   pub onward : (lines : Lines) (n bound : ℕ) (start s : At B) →

@@ -1,5 +1,5 @@
 -- What an access comes to, and where steps leave off.
-use Rattle.std.specs.Prelude.{ℕ, true, max, is_none, ◌≡◌, ◌≤◌, ◌<◌, ◌+◌, ◌-◌, ◌*◌, ◌&&◌, nat_lt, if◌then◌else◌, Option, Some, None, IsSome, MatchOption, Result, Ok, Err}
+use Rattle.std.specs.Prelude.{ℕ, true, max, is_none, ◌≡◌, ◌≤◌, ◌<◌, ◌+◌, ◌-◌, ◌*◌, ◌&&◌, ◌⊎◌, false, nat_lt, if◌then◌else◌, Option, Some, None, IsSome, MatchOption, Result, Ok, Err}
 use Rattle.op_table.specs.declared.names.Part.{Part}
 use Rattle.op_table.specs.declared.names.Part.TheVariants.{Cmos}
 use Rattle.cpu_alu.specs.declared.Cycle.{Cycle}
@@ -10,7 +10,7 @@ use Rattle.tube_chip.specs.Act.{access}
 use Rattle.tube_chip.specs.declared.Answer.TheVariants.{Byte}
 use Rattle.tube_chip.specs.declared.Lines.{Lines}
 use Rattle.tube_chip.specs.declared.Op.{Op}
-use Rattle.tube_party.specs.Moves.{FitsAnswer, Talks, Hears, shown_lines}
+use Rattle.tube_party.specs.Moves.{FitsAnswer, IsAnswered, Talks, Hears, shown_lines}
 use Rattle.tube_machine.specs.declared.bus.Done.{Done}
 use Rattle.tube_machine.specs.declared.bus.Unable.{Unable}
 use Rattle.tube_machine.specs.declared.bus.Unable.TheVariants.{Tube, Full}
@@ -19,7 +19,7 @@ use Rattle.tube_machine.specs.declared.steps.Left.TheVariants as left
 use Rattle.tube_machine.specs.declared.run.Stop.{Stop}
 use Rattle.tube_machine.specs.declared.run.Stop.TheVariants.{Look, Access, End}
 use Rattle.tube_machine.specs.Wiring.{Wiring}
-use Rattle.tube_machine.specs.Step.{At, asks, asks_by, byte_of, next_state, moves_of}
+use Rattle.tube_machine.specs.Step.{At, is_break, asks, asks_by, byte_of, next_state, moves_of}
 
 module _ {B : Type 0} (w : Wiring B) where
   -- an access that the Tube answers
@@ -62,11 +62,16 @@ abbrev pub behind : ℕ → ℕ → ℕ
 behind from due = if nat_lt from due then due else 0
 
 module _ (part : Part) {B : Type 0} (w : Wiring B) where
-  -- the next step is done, or it asks the Tube, or it cannot be noted
-  abbrev pub IsDone : At B → Result (Unit {0}) Unable → At B → Type 0
-  IsDone old (Ok x) new = (asks part w old ≡ None) × (new ≡ next_state part w old None)
-  IsDone old (Err (Tube o)) new = (asks part w old ≡ Some (access o)) × (new ≡ old)
-  IsDone old (Err Full) new = new ≡ old
+  -- the next step is done, and asks nothing
+  abbrev pub IsSilent : At B → At B → Type 0
+  IsSilent old new = (asks part w old ≡ None) × (new ≡ next_state part w old None)
+
+  -- The next step is an access that leaves the bus.
+  pub record LeavesBus (s : At B) : Type 0 where
+    pub cycle : Cycle
+    pub op : Op
+    pub next : next_cycle part s.cpu ≡ Some cycle
+    pub passing : IsPassing w s.bus cycle op
 
   -- the next step is an access to the Tube
   abbrev pub IsAskedByte : At B → Type 0
@@ -78,6 +83,14 @@ module _ (part : Part) {B : Type 0} (w : Wiring B) where
   IsStop until Look s = next_cycle part s.cpu ≡ None
   IsStop until Access s = IsSome (next_cycle part s.cpu) × (s.due < until)
   IsStop until End s = until ≤ s.due
+
+-- The next step is done, an access answered in passing among them, or it asks the Tube, or it cannot be noted. What answers goes from d to e.
+module _ (part : Part) {B D : Type 0} (w : Wiring B) (answers : D → ℕ → Op → ℕ → D → Type 0) where
+  abbrev pub IsDone : At B → D → Result (Unit {0}) Unable → At B → D → Type 0
+  IsDone old d (Ok x) new e =
+      (IsSilent part w old new × (d ≡ e)) ⊎ ((is_break part w old ≡ false) × IsAnswered (moves_of part w) answers (old.due + 1) old d new e)
+  IsDone old d (Err (Tube o)) new e = (asks part w old ≡ Some (access o)) × (new ≡ old) × (d ≡ e)
+  IsDone old d (Err Full) new e = Unit {0}
 
 -- A machine at a tick, with room for so many notes, in a sequence of which so many cycles were seen.
 pub record Spent : Type 0 where

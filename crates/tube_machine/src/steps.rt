@@ -5,7 +5,7 @@ ghost use Rattle.cpu_core.specs.Sequences.{next_cycle, after_byte, halted};
 ghost use Rattle.tube_chip.specs.declared.Answer.TheVariants.{Byte, Seen};
 ghost use Rattle.tube_party.specs.Moves.{Sees, Hears, IsAsk, IsAskedFor, close_leaves, shown_lines};
 ghost use Rattle.tube_machine.specs.Step.{at_of, moves_of, asks, closed_to, next_state, is_last_tick, is_break, after_break, after_cycle};
-ghost use Rattle.tube_machine.specs.Exchange.{ready, IsDone, IsRun, IsCramped, IsAskedByte};
+ghost use Rattle.tube_machine.specs.Exchange.{ready, IsDone, LeavesBus, IsRun, IsCramped, IsAskedByte};
 
 use crate::bus::{TubeBus, Unable};
 use crate::processor::Processor;
@@ -148,13 +148,33 @@ fn breaks_alone<N, P: Processor, B: TubeBus<N>>(cpu: &P, bus: &B, due: u64, unti
     due < until.0 && is_break::<N, P, B>(cpu, bus, due) && !bus.has_tube()
 }
 
-// The access of the next step, or its break, if it asks nothing; else what it asks. Kept out of the loop, whose frame has no room for it.
+// The Tube's answer to an access that leaves the bus as it is.
 #[inline(never)]
-fn access<N, P: Processor, B: TubeBus<N>>(
+fn pass_byte<N, P: Processor, B: TubeBus<N>>(cpu: &mut P, bus: &mut B, due: &mut u64, byte: u8)
+    requires room { due.old < 2 ^ 32 }
+    requires before { (B.wiring).closed (B.state bus.old) ≤ due.old + 1 }
+    requires access { is_break P.part B.wiring (at_of (P.core cpu.old) (B.state bus.old) due.old) ≡ false }
+    requires passing { LeavesBus P.part B.wiring (at_of (P.core cpu.old) (B.state bus.old) due.old) }
+    ensures before { (B.wiring).closed (B.state bus.new) ≤ due.new + 1 }
+    ensures taken { let old = at_of (P.core cpu.old) (B.state bus.old) due.old in
+        at_of (P.core cpu.new) (B.state bus.new) due.new
+        ≡ next_state P.part B.wiring old (Some (Byte byte)) }
+    ensures kept { (notes : N) → B.before notes bus.new ≡ B.before notes bus.old }
+{
+    bus.close(*due + 1);
+    let cycle = bus.cycle();
+    *due = end_cycle::<N, P, B>(cpu, bus, *due, byte, cycle);
+}
+
+// The access of the next step, or its break, if it asks nothing or the desk answers it; else what it asks. Kept out of the loop, whose frame has no room
+// for it.
+#[inline(never)]
+fn access<N, P: Processor, B: TubeBus<N>, D: Desk>(
     cpu: &mut P,
     bus: &mut B,
     due: &mut u64,
     notes: &mut N,
+    desk: &mut D,
 ) -> Result<(), Unable>
     requires room { due.old < 2 ^ 32 }
     requires goes_on { IsSome (next_cycle P.part (P.core cpu.old)) }
@@ -162,7 +182,7 @@ fn access<N, P: Processor, B: TubeBus<N>>(
     ensures before { (B.wiring).closed (B.state bus.new) ≤ due.new + 1 }
     ensures done { let old = at_of (P.core cpu.old) (B.state bus.old) due.old in
         let new = at_of (P.core cpu.new) (B.state bus.new) due.new in
-        IsDone P.part B.wiring old result new }
+        IsDone P.part B.wiring D.answers old (D.state desk.old) result new (D.state desk.new) }
     ensures noted { B.before notes.new bus.new ≡ B.before notes.old bus.old }
     ensures room { B.room notes.old ≤ B.room notes.new + 1 }
     ensures full { result ≡ Err Unable.Full → (B.endless ≡ false) × (B.room notes.old ≡ 0) }
@@ -173,6 +193,15 @@ fn access<N, P: Processor, B: TubeBus<N>>(
         }
         take_break::<N, P, B>(cpu, bus, due);
         return Ok(());
+    }
+    if desk.is_asked_each() {
+        if let Some(op) = bus.asked(cpu.want()) {
+            let Some(byte) = desk.ask(Tick(*due), op) else {
+                return Err(Unable::Tube(op));
+            };
+            pass_byte::<N, P, B>(cpu, bus, due, byte);
+            return Ok(());
+        }
     }
     let done = bus.exchange(*due, cpu.want(), notes)?;
     *due = end_cycle::<N, P, B>(cpu, bus, *due, done.byte, done.ticks);
@@ -207,7 +236,7 @@ pub fn carry_on<N, P: Processor, B: TubeBus<N>, D: Desk>(
         *due = at;
         match stop {
             Stop::Look => return Left::Look,
-            Stop::Access => match access::<N, P, B>(cpu, bus, due, notes) {
+            Stop::Access => match access::<N, P, B, D>(cpu, bus, due, notes, desk) {
                 Ok(()) => (),
                 Err(Unable::Tube(op)) => return Left::Asked(Ask::Access(Tick(*due), op)),
                 Err(Unable::Full) => return Left::Full,

@@ -1,14 +1,15 @@
 -- Steps among which looks see their lines.
-use Rattle.std.proofs.Common.{◌≡◌, refl, sym, ap, subst, ℕ, suc, ◌<◌, ◌≤◌, Option, None, Some, MatchOption, arith}
+use Rattle.std.proofs.Common.{◌≡◌, refl, sym, ap, subst, ℕ, suc, ◌<◌, ◌≤◌, Some, arith}
 use Rattle.beeb_bits.specs.declared.Tick.{Tick}
-use Rattle.tube_chip.specs.declared.Answer.TheVariants.{Seen}
+use Rattle.tube_chip.specs.declared.Answer.TheVariants.{Byte, Seen}
 use Rattle.tube_chip.specs.declared.Lines.{Lines}
 use Rattle.tube_chip.specs.declared.Op.{Op}
-use Rattle.tube_chip.specs.Act.{look}
+use Rattle.tube_chip.specs.Act.{access, look}
 use Rattle.tube_party.specs.declared.party.Ask.{Ask}
-use Rattle.tube_party.specs.declared.party.Ask.TheVariants.{Look}
-use Rattle.tube_party.specs.Moves.{Moves, IsLawful, Looks, IsUnsure, Advances, Sees, Goes, GoesHearing, IsAsk, Shown, shown_lines}
-use Rattle.tube_party.specs.Steps.{due_rises, silent_all, looks_on, look_last}
+use Rattle.tube_party.specs.declared.party.Ask.TheVariants.{Nothing, Access, Look}
+use Rattle.tube_party.specs.Moves.{Moves, IsLawful, Looks, Talks, IsUnsure, Advances, Sees, IsAnswered, Hears, GoesHearing, IsAsk, Shown, shown_lines}
+use Rattle.tube_party.specs.Turn.{IsPending}
+use Rattle.tube_party.specs.Steps.{due_rises, silent_all, looks_on, look_last, talks_on, hears_after, hears_sees}
 
 module _ {S : Type 0} (m : Moves S) (n : ℕ) (lines : Lines) (sure : ℕ) where
   -- after some of them the party advanced, and stopped at a step that is no sure look
@@ -32,7 +33,8 @@ module _ {S : Type 0} (m : Moves S) (n : ℕ) (lines : Lines) (sure : ℕ) where
       (suc all.0, subst (λ (x : S). Looks m n (shown_lines lines sure) (suc all.0) old x) (sym (subst (λ (x : S). new ≡ m.next x (Some (Seen lines))) asked.3 answered)) more)
 
   -- and then its tick, which was below n, is larger
-  pub rises_past : (cur at new : S) (ask : Ask) (t : Tick) → IsLawful m → Advances m n cur ask at → ask ≡ Look t → new ≡ m.next at (Some (Seen lines)) → (m.due cur < m.due new) × (m.due cur < n)
+  pub rises_past : (cur at new : S) (ask : Ask) (t : Tick) → IsLawful m → Advances m n cur ask at → ask ≡ Look t → new ≡ m.next at (Some (Seen lines))
+      → (m.due cur < m.due new) × (m.due cur < n)
   rises_past cur at new ask t lawful told is answered =
       let asked : (t.0 ≡ m.due told.last) × (t.0 < n) × (m.asks told.last ≡ Some look) × (at ≡ told.last) = subst (λ (a : Ask). IsAsk m n told.last a at) is told.asked in
       let x : m.due cur ≤ m.due told.last = due_rises m n lines sure told.steps cur told.last lawful (silent_all m n lines sure told.steps cur told.last told.runs) in
@@ -41,9 +43,44 @@ module _ {S : Type 0} (m : Moves S) (n : ℕ) (lines : Lines) (sure : ℕ) where
       let w : m.due at ≡ m.due told.last = ap m.due asked.3 in
       (omega arith, omega (arith, asked.0, asked.1))
 
--- one that goes ahead, and asks nobody
-pub asks_nobody : {S D : Type 0} (m : Moves S) (answers : D → ℕ → Op → ℕ → D → Type 0) (n : ℕ) (v : Shown) (old new mark : S) (d : D) (o : Option Ask)
-    → MatchOption o (new ≡ old) (λ ask. Goes m n v old ask new × (mark ≡ old)) → MatchOption o ((new ≡ old) × (d ≡ d)) (λ ask. GoesHearing m answers n v old d ask new d × (mark ≡ old))
-asks_nobody m answers n v old new mark d None same = (same, refl)
-asks_nobody m answers n v old new mark d (Some ask) went =
-    (record { accesses = 0; last = went.0.last; talks = (refl, (went.0.steps, went.0.looks)); asked = went.0.asked }, went.1)
+  -- past an access its tick, which was below n, is larger too
+  pub rises_past_access : (cur at new : S) (ask : Ask) (t : Tick) (op : Op) (byte : ℕ) → IsLawful m → Sees m n (shown_lines lines sure) cur ask at → ask ≡ Access t op
+      → new ≡ m.next at (Some (Byte byte)) → (m.due cur < m.due new) × (m.due cur < n)
+  rises_past_access cur at new ask t op byte lawful sees is goes =
+      let asked : (t.0 ≡ m.due sees.last) × (t.0 < n) × (m.asks sees.last ≡ Some (access op)) × (at ≡ sees.last) = subst (λ (a : Ask). IsAsk m n sees.last a at) is sees.asked in
+      let x : m.due cur ≤ m.due sees.last = due_rises m n lines sure sees.steps cur sees.last lawful sees.looks in
+      let y : m.due at < m.due (m.next at (Some (Byte byte))) = lawful.rises at (Some (Byte byte)) in
+      let z : m.due new ≡ m.due (m.next at (Some (Byte byte))) = ap m.due goes in
+      let w : m.due at ≡ m.due sees.last = ap m.due asked.3 in
+      (omega arith, omega (arith, asked.0, asked.1))
+
+-- ---- The same with accesses that a desk answers
+
+module _ {S D : Type 0} (m : Moves S) (answers : D → ℕ → Op → ℕ → D → Type 0) (n : ℕ) (lines : Lines) (sure : ℕ) where
+  -- after some of them the party went on, and stopped at a step to which the desk has no answer
+  pub hears_there : (old cur new : S) (d f : D) (ask : Ask) → (j : ℕ) × Talks m answers n (shown_lines lines sure) j old d cur f → Sees m n (shown_lines lines sure) cur ask new
+      → Hears m answers n (shown_lines lines sure) old d ask new f
+  hears_there old cur new d f ask so_far sees = hears_after m answers n lines sure old cur new d f f ask so_far (hears_sees m answers n lines sure cur new f ask sees)
+
+  -- or at an access, which the desk answered
+  pub hears_one_more : (old cur at new : S) (d f e : D) (ask : Ask) (t : Tick) (op : Op) (byte : ℕ) → (j : ℕ) × Talks m answers n (shown_lines lines sure) j old d cur f
+      → Sees m n (shown_lines lines sure) cur ask at → ask ≡ Access t op → answers f t.0 op byte e → new ≡ m.next at (Some (Byte byte)) →
+      (j : ℕ) × Talks m answers n (shown_lines lines sure) j old d new e
+  hears_one_more old cur at new d f e ask t op byte so_far sees is answer goes =
+      let asked : (t.0 ≡ m.due sees.last) × (t.0 < n) × (m.asks sees.last ≡ Some (access op)) × (at ≡ sees.last) = subst (λ (a : Ask). IsAsk m n sees.last a at) is sees.asked in
+      let passed : IsAnswered m answers n sees.last f new e = record {
+        op = op;
+        byte = byte;
+        below = omega (arith, asked.0, asked.1);
+        asks = asked.2;
+        answered = subst (λ (u : ℕ). answers f u op byte e) asked.0 answer;
+        goes = subst (λ (x : S). new ≡ m.next x (Some (Byte byte))) asked.3 goes;
+      } in
+      talks_on m answers n lines sure so_far.0 1 old cur new d f e so_far.1 (sees.last, new, e, (sees.steps, sees.looks), passed, (refl, (0, refl)))
+
+-- it goes no further than what it asked already
+pub stays_asking : {S D : Type 0} (m : Moves S) (answers : D → ℕ → Op → ℕ → D → Type 0) (n : ℕ) (v : Shown) (s : S) (d : D) (ask : Ask)
+    → IsPending m n s ask → GoesHearing m answers n v s d ask s d
+stays_asking m answers n v s d Nothing asked = absurd asked
+stays_asking m answers n v s d (Access t op) asked = record { accesses = 0; last = s; talks = (refl, (0, refl)); asked = (asked.0, asked.1, asked.2, refl) }
+stays_asking m answers n v s d (Look t) asked = record { accesses = 0; last = s; talks = (refl, (0, refl)); asked = (asked.0, asked.1, asked.2, refl) }

@@ -128,13 +128,6 @@ pub record Sees {S : Type 0} (m : Moves S) (n : ℕ) (v : Shown) (old : S) (ask 
   pub asked : IsAsk m n last ask new
   pub unsure : IsUnsure v.sure ask
 
--- The same, but that it may be a sure look that is asked next.
-pub record Goes {S : Type 0} (m : Moves S) (n : ℕ) (v : Shown) (old : S) (ask : Ask) (new : S) : Type 0 where
-  pub steps : ℕ
-  pub last : S
-  pub looks : Looks m n v steps old last
-  pub asked : IsAsk m n last ask new
-
 -- The step from s asks for an access below n, which is answered in passing; new is the state behind it. What answers goes from d to e.
 pub record IsAnswered {S D : Type 0} (m : Moves S) (answers : D → ℕ → Op → ℕ → D → Type 0) (n : ℕ) (s : S) (d : D) (new : S) (e : D) : Type 0 where
   pub op : Op
@@ -169,10 +162,6 @@ pub record GoesHearing {S D : Type 0} (m : Moves S) (answers : D → ℕ → Op 
   pub last : S
   pub talks : Talks m answers n v accesses old before last after
   pub asked : IsAsk m n last ask new
-
--- the next step is a look below n
-abbrev pub IsAtLook : {S : Type 0} → Moves S → ℕ → S → Type 0
-IsAtLook m n s = (m.due s < n) × (m.asks s ≡ Some look)
 
 -- a byte for an access, lines for a look
 abbrev pub FitsAnswer : Query → Answer → Type 0

@@ -1,16 +1,16 @@
 -- Laws about runs that machines use.
-use Rattle.std.specs.Prelude.{ℕ, zero, suc, ◌≡◌, ◌<◌, ◌≤◌, Option, None, Some, MatchOption, [], refl}
+use Rattle.std.specs.Prelude.{ℕ, zero, suc, ◌≡◌, ◌≢◌, ◌<◌, ◌≤◌, Option, None, Some, MatchOption, [], refl}
 use Rattle.std.proofs.Common.{sym, ◌∙◌, ap, subst, arith}
 use Rattle.beeb_bits.specs.declared.Side.{Side}
 use Rattle.beeb_bits.specs.declared.Side.TheVariants.{Host}
-use Rattle.beeb_bits.specs.declared.Tick.{Tick}
-use Rattle.tube_chip.specs.Act.{Query, access, look}
+use Rattle.tube_chip.specs.Act.{Query, look}
 use Rattle.tube_chip.specs.declared.Answer.TheVariants.{Byte, Seen}
 use Rattle.tube_chip.specs.declared.Lines.{Lines}
 use Rattle.tube_chip.specs.declared.Op.{Op}
 use Rattle.tube_party.specs.declared.party.Ask.{Ask}
-use Rattle.tube_party.specs.declared.party.Ask.TheVariants.{Access, Look}
-use Rattle.tube_party.specs.Moves.{Moves, IsLawful, Runs, Looks, Talks, Advances, Sees, Hears, Goes, IsAtLook, IsAskedFor, FitsAnswer, shown_lines, course}
+use Rattle.tube_party.specs.declared.party.Ask.TheVariants.{Nothing, Access, Look}
+use Rattle.tube_party.specs.Moves.{Moves, IsLawful, Runs, Looks, Talks, Advances, Sees, Hears, GoesHearing, Shown, shown_lines, course}
+use Rattle.tube_party.specs.Turn.{IsPending}
 
 silent_here : {S : Type 0} (m : Moves S) (side : Side) (n k : ℕ) (s last : S) (o : Option Query) →
     m.asks s ≡ o → o ≡ None → Runs m side n k (m.next s None) (course [] last) → m.due s < n →
@@ -152,21 +152,14 @@ module _ {S : Type 0} (m : Moves S) (n : ℕ) (lines : Lines) where
   looks_wider sure far zero s last low h = h
   looks_wider sure far (suc k) s last low h = (h.0, wider_by sure far k s last (m.asks s) low (λ u on. looks_wider sure far k u last low on) h.1)
 
-  -- where it left off at a look, that look is the next step
-  pub left_at_look : (far : ℕ) (s new : S) (t : Tick) → Goes m n (shown_lines lines far) s (Look t) new → IsAtLook m n new
-  left_at_look far s new t went =
-      let due : m.due new ≡ m.due went.last = ap m.due went.asked.3 in
-      (omega (arith, due, went.asked.0, went.asked.1), ap m.asks went.asked.3 ∙ went.asked.2)
-
-  -- where it left off at an access, a byte is the answer of the next step
-  pub left_at_access : (far : ℕ) (s new : S) (t : Tick) (op : Op) (byte : ℕ) → Goes m n (shown_lines lines far) s (Access t op) new → IsAskedFor m n new (Byte byte)
-  left_at_access far s new t op byte went =
-      let due : m.due new ≡ m.due went.last = ap m.due went.asked.3 in
-      let asks : m.asks new ≡ Some (access op) = ap m.asks went.asked.3 ∙ went.asked.2 in
-      record {
-        below = omega (arith, due, went.asked.0, went.asked.1);
-        kind = subst (λ (o : Option Query). MatchOption o ⊥ (λ q. FitsAnswer q (Byte byte))) (sym asks) tt;
-      }
+-- where it left off, what it asked is asked by the next step
+pub left_pending : {S D : Type 0} (m : Moves S) (answers : D → ℕ → Op → ℕ → D → Type 0) (n : ℕ) (v : Shown) (s : S) (d : D) (ask : Ask) (new : S) (e : D)
+    → GoesHearing m answers n v s d ask new e → ask ≢ Nothing → IsPending m n new ask
+left_pending m answers n v s d Nothing new e went some = absurd (some refl)
+left_pending m answers n v s d (Access t op) new e went some =
+    (went.asked.0 ∙ sym (ap m.due went.asked.3), went.asked.1, ap m.asks went.asked.3 ∙ went.asked.2)
+left_pending m answers n v s d (Look t) new e went some =
+    (went.asked.0 ∙ sym (ap m.due went.asked.3), went.asked.1, ap m.asks went.asked.3 ∙ went.asked.2)
 
 -- ---- Steps with accesses that are answered in passing
 

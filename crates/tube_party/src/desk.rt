@@ -19,6 +19,11 @@ pub trait Desk {
     /// Whether it may have an answer to an access at a tick from the first on, below the second.
     fn awaits(&self, from: Tick, to: Tick) -> bool;
 
+    /// Whether it is asked for each access, and not only where the party does an instruction at once: elsewhere a party then leaves off.
+    fn is_asked_each(&self) -> bool {
+        false
+    }
+
     /// The byte that an access at this tick reads, or 0 of a write. None where the party is to leave off there.
     fn ask(&mut self, tick: Tick, op: Op) -> Option<u8>
         ensures { MatchOption result (state self.new ≡ state self.old) (λ byte. answers (state self.old) tick.0 op byte (state self.new)) };

@@ -67,12 +67,13 @@ impl<P: Party> Rewinds for Forward<P> {
     }
 
     #[inline(always)]
-    fn advance_noting(
+    fn advance_noting<D: Desk>(
         &mut self,
         _until: Tick,
         _lines: &Lines,
         _sure: Tick,
         _past: &mut (),
+        _desk: &mut D,
     ) -> Option<Ask> {
         None
     }

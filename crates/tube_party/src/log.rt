@@ -2,6 +2,7 @@
 ghost use Rattle.std.specs.Prelude.{◌≡◌, ◌≤◌, ◌<◌, ◌^◌, ◌∷◌, [], IfOk, length, take, vec_capacity};
 
 use std::alloc::{AllocError, Global};
+use std::mem;
 use tube_trace::Entry;
 
 /// The first `keep` accesses of a side, with room for them all, and the number of all.
@@ -44,6 +45,18 @@ impl Log {
             self.list.push_reserved(entry);
         }
         self.count += 1;
+    }
+
+    /// Takes it out of its place, where an empty one is left.
+    pub fn take(&mut self) -> Log
+        ensures { result ≡ self.old }
+    {
+        let empty = Log {
+            list: Vec::new(*self.list.allocator()),
+            keep: 0,
+            count: 0,
+        };
+        mem::replace(self, empty)
     }
 
     /// How far it is written.

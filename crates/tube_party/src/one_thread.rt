@@ -140,7 +140,7 @@ fn go_on<M: Rewinds>(
     table.turn = Side::Para;
     table.sure = ahead;
     table.is_open = reads;
-    match machine.advance_noting_at(n, lines, ahead, past, table) {
+    match machine.advance_noting(n, lines, ahead, past, table) {
         Some(ask) => (true, ask),
         None => {
             table.sure = sure;

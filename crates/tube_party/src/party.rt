@@ -83,13 +83,21 @@ pub trait Party: Drop {
         }
     }
 
-    /// The same, but with the accesses that the desk answers.
+    /// The same, but with the accesses that the desk answers. It is `advance_seeing`, `Desk::ask` and `answer` in turn.
     fn advance_at<D: Desk>(&mut self, until: Tick, lines: &Lines, sure: Tick, desk: &mut D) -> Ask
         requires { until.0 ≤ MOST }
         ensures { Hears moves D.answers until.0 (shown_lines lines.now sure.0) (state self.old) (D.state desk.old) result (state self.new) (D.state desk.new) }
     {
-        let _ = desk;
-        self.advance_seeing(until, lines, sure)
+        loop {
+            let ask = self.advance_seeing(until, lines, sure);
+            let Ask::Access(tick, op) = ask else {
+                return ask;
+            };
+            let Some(byte) = desk.ask(tick, op) else {
+                return ask;
+            };
+            self.answer(Answer::Byte(byte));
+        }
     }
 
     /// Does the step that asks.

@@ -1,7 +1,7 @@
 //! A party that can be rolled back.
-ghost use Rattle.std.specs.Prelude.{◌≡◌, ◌≤◌, MatchOption, Some};
-ghost use Rattle.tube_chip.specs.declared.Answer.TheVariants.{Byte};
-ghost use Rattle.tube_party.specs.Moves.{Goes, GoesHearing, IsAtLook, IsAskedFor, shown_lines};
+ghost use Rattle.std.specs.Prelude.{◌≡◌, ◌≤◌, MatchOption};
+ghost use Rattle.tube_party.specs.Moves.{GoesHearing, shown_lines};
+ghost use Rattle.tube_party.specs.Turn.{IsPending};
 
 use crate::desk::Desk;
 use crate::party::{Ask, MOST, Party};
@@ -26,24 +26,9 @@ pub trait Rewinds: Party {
     /// Want of memory.
     fn past(alloc: Global) -> Result<Self::Past, AllocError>;
 
-    /// Notes where it is, and goes on as `advance_seeing` does, as if each look below tick `sure` saw these lines; but it may leave off at any
-    /// look. None, and it is where it was, if it cannot note what it does.
-    fn advance_noting(
-        &mut self,
-        until: Tick,
-        lines: &Lines,
-        sure: Tick,
-        past: &mut Self::Past,
-    ) -> Option<Ask>
-        requires { until.0 ≤ MOST }
-        ensures { let old = Self.state self.old in
-            let new = Self.state self.new in
-            let mark = Self.state (before past.new self.new) in
-            MatchOption result (new ≡ old)
-            (λ ask. Goes Self.moves until.0 (shown_lines lines.now sure.0) old ask new × (mark ≡ old)) };
-
-    /// The same, but with the accesses that the desk answers.
-    fn advance_noting_at<D: Desk>(
+    /// Notes where it is, and goes on as `advance_at` does, as if each look below tick `sure` saw these lines; but it may leave off at any look.
+    /// None, and it is where it was, if it cannot note what it does.
+    fn advance_noting<D: Desk>(
         &mut self,
         until: Tick,
         lines: &Lines,
@@ -57,44 +42,26 @@ pub trait Rewinds: Party {
             let mark = Self.state (before past.new self.new) in
             MatchOption result ((new ≡ old) × (D.state desk.new ≡ D.state desk.old))
             (λ ask. GoesHearing Self.moves D.answers until.0 (shown_lines lines.now sure.0) old (D.state desk.old) ask new (D.state desk.new)
-            × (mark ≡ old)) }
-    {
-        let _ = desk;
-        self.advance_noting(until, lines, sure, past)
-    }
+            × (mark ≡ old)) };
 
-    /// Goes on from the look at which a run that it notes left off, and notes that too, as if each look below tick `sure` saw these lines. What it
-    /// goes back to stays where it was. It may leave off at any look, this one too.
-    fn advance_on(&mut self, until: Tick, lines: &Lines, sure: Tick, past: &mut Self::Past) -> Ask
-        requires ticks { until.0 ≤ MOST }
-        requires look { IsAtLook Self.moves until.0 (Self.state self.old) }
-        ensures goes { Goes Self.moves until.0 (shown_lines lines.now sure.0)
-            (Self.state self.old) result (Self.state self.new) }
-        ensures mark { Self.state (before past.new self.new) ≡ Self.state (before past.old self.old) }
-    {
-        Ask::Look(self.due())
-    }
-
-    /// Answers the read at which a run that it notes left off, and goes on from there and notes that too, as if each look below tick `sure` saw
-    /// these lines. What it goes back to stays where it was. It may leave off at any look. None, and it is where it was, if it cannot note that.
-    fn answer_on(
+    /// Goes on from where a run that it notes left off with this ask, and notes that too. What it goes back to stays where it was. It may leave
+    /// off at any look, and at this ask too.
+    fn advance_on<D: Desk>(
         &mut self,
-        byte: u8,
+        ask: Ask,
         until: Tick,
         lines: &Lines,
         sure: Tick,
         past: &mut Self::Past,
-    ) -> Option<Ask>
+        desk: &mut D,
+    ) -> Ask
         requires ticks { until.0 ≤ MOST }
-        requires asked { IsAskedFor Self.moves until.0 (Self.state self.old) (Byte byte) }
-        ensures goes { let old = Self.state self.old in
-            let new = Self.state self.new in
-            MatchOption result (new ≡ old)
-            (λ ask. Goes Self.moves until.0 (shown_lines lines.now sure.0)
-            (Self.moves.next old (Some (Byte byte))) ask new) }
+        requires pending { IsPending Self.moves until.0 (Self.state self.old) ask }
+        ensures goes { GoesHearing Self.moves D.answers until.0 (shown_lines lines.now sure.0)
+            (Self.state self.old) (D.state desk.old) result (Self.state self.new) (D.state desk.new) }
         ensures mark { Self.state (before past.new self.new) ≡ Self.state (before past.old self.old) }
     {
-        None
+        ask
     }
 
     /// Goes back to where it was when it began to note.

@@ -6,7 +6,7 @@ use std::alloc::Global;
 use std::test::Fail;
 use std::vec::Vec;
 use tube_chip::{Chip, Lines, Op};
-use tube_party::{Ask, Doing, Party, Rewinds, replay};
+use tube_party::{Ask, Closed, Desk, Doing, Party, Rewinds, replay};
 use tube_trace::read;
 
 fn put(bytes: &mut Vec<u8>, start: usize, part: &[u8]) {
@@ -432,7 +432,7 @@ fn is_taken_back(
     let lines = Chip::new().lines();
     let mut is_right = true;
     for _ in 0..2 {
-        let ask = machine.advance_noting(END, &lines, Tick(row.3), past);
+        let ask = machine.advance_noting(END, &lines, Tick(row.3), past, &mut Closed);
         is_right = is_ahead(alloc, machine, ask, row)? && is_right;
         machine.rewind(past);
         is_right = same(machine, twin) && is_right;
@@ -478,11 +478,12 @@ const STRIDES: &str = "\
 ";
 
 // What is asked after two strides, if the first ends at a look.
-#[tactic(auto, using(tube_party::specs::Steps::left_at_look))]
+#[tactic(auto, using(tube_party::specs::Steps::left_pending))]
 fn strode(machine: &mut ParaMachine, past: &mut Past, sure: u64, far: u64) -> Option<Ask> {
     let lines = Chip::new().lines();
-    if let Some(Ask::Look(_)) = machine.advance_noting(END, &lines, Tick(sure), past) {
-        return Some(machine.advance_on(END, &lines, Tick(far), past));
+    if let Some(Ask::Look(t)) = machine.advance_noting(END, &lines, Tick(sure), past, &mut Closed) {
+        let look = Ask::Look(t);
+        return Some(machine.advance_on(look, END, &lines, Tick(far), past, &mut Closed));
     }
     None
 }
@@ -541,8 +542,36 @@ fn polled(alloc: Global, clock: Clock, t: u16) -> Result<Ended, Fail> {
     replayed(alloc, clock, POLL, t, reads_of(clock))
 }
 
+// A desk that answers one access by a byte, and no other.
+#[derive(Drop)]
+struct Once {
+    byte: Option<u8>,
+}
+
+impl Desk for Once {
+    ghost use Rattle.std.specs.Prelude.{ℕ, Option, ◌≡◌, None, Some};
+
+    ghost State = { Option ℕ };
+
+    ghost state = { λ d. d.byte };
+
+    ghost answers = { λ before tick op byte after. (before ≡ Some byte) × (after ≡ None) };
+
+    fn awaits(&self, _from: Tick, _to: Tick) -> bool {
+        self.byte.is_some()
+    }
+
+    fn is_asked_each(&self) -> bool {
+        true
+    }
+
+    fn ask(&mut self, _tick: Tick, _op: Op) -> Option<u8> {
+        self.byte.take()
+    }
+}
+
 // What is asked after the first stride and after each of two reads that are answered ahead.
-#[tactic(auto, using(tube_party::specs::Steps::left_at_access))]
+#[tactic(auto, using(tube_party::specs::Steps::left_pending))]
 fn answered(
     machine: &mut ParaMachine,
     past: &mut Past,
@@ -550,19 +579,20 @@ fn answered(
 ) -> (Option<Ask>, Option<Ask>, Option<Ask>) {
     let lines = Chip::new().lines();
     let far = Tick(2_000);
-    let first = machine.advance_noting(END, &lines, far, past);
-    let Some(Ask::Access(_, Op::Read(_))) = first else {
+    let first = machine.advance_noting(END, &lines, far, past, &mut Closed);
+    let Some(Ask::Access(tick, Op::Read(number))) = first else {
         return (first, None, None);
     };
-    let second = machine.answer_on(0, END, &lines, far, past);
-    let Some(Ask::Access(_, Op::Read(_))) = second else {
-        return (first, second, None);
+    let ask = Ask::Access(tick, Op::Read(number));
+    let mut desk = Once { byte: Some(0) };
+    let second = machine.advance_on(ask, END, &lines, far, past, &mut desk);
+    let Ask::Access(tick, Op::Read(number)) = second else {
+        return (first, Some(second), None);
     };
-    (
-        first,
-        second,
-        machine.answer_on(0x80, END, &lines, Tick(sure), past),
-    )
+    let ask = Ask::Access(tick, Op::Read(number));
+    let mut desk = Once { byte: Some(0x80) };
+    let third = machine.advance_on(ask, END, &lines, Tick(sure), past, &mut desk);
+    (first, Some(second), Some(third))
 }
 
 // Whether two reads are answered ahead with these asks, twice, since nothing of the first time is left, and are rolled back to a twin.
@@ -648,7 +678,7 @@ fn goes_ahead_held(
     let ask = machine.advance_seeing(END, lines, Tick(from));
     let mut is_right = twin.advance_seeing(END, lines, Tick(from)) == ask;
     for _ in 0..2 {
-        let ask = machine.advance_noting(END, lines, Tick(sure), past);
+        let ask = machine.advance_noting(END, lines, Tick(sure), past, &mut Closed);
         is_right = ask == Some(Ask::Look(Tick(look))) && machine.held() && is_right;
         machine.rewind(past);
         is_right = same(machine, twin) && is_right;

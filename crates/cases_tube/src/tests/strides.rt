@@ -14,7 +14,7 @@ use std::test::Fail;
 use std::thread::{Threads, join};
 use tube_cell::{Pass, TubeCell, Whole};
 use tube_chip::{Lines, Op};
-use tube_party::{Answer, Ask, Log, Party, Rewinds};
+use tube_party::{Answer, Ask, Desk, Log, Party, Rewinds};
 
 /// The end of the run.
 const END: u64 = 500;
@@ -137,29 +137,30 @@ impl Rewinds for Poller {
         })
     }
 
-    fn advance_noting(
+    fn advance_noting<D: Desk>(
         &mut self,
         until: Tick,
         lines: &Lines,
         sure: Tick,
         past: &mut Begun,
+        desk: &mut D,
     ) -> Option<Ask> {
         past.due = self.due;
         past.lag = self.lag;
         past.looks = self.looks;
-        Some(self.advance_seeing(until, lines, sure))
+        Some(self.advance_at(until, lines, sure, desk))
     }
 
-    fn answer_on(
+    fn advance_on<D: Desk>(
         &mut self,
-        byte: u8,
+        _ask: Ask,
         until: Tick,
         lines: &Lines,
         sure: Tick,
         _past: &mut Begun,
-    ) -> Option<Ask> {
-        self.answer(Answer::Byte(byte));
-        Some(self.advance_seeing(until, lines, sure))
+        desk: &mut D,
+    ) -> Ask {
+        self.advance_at(until, lines, sure, desk)
     }
 
     fn rewind(&mut self, past: &mut Begun) {

@@ -1,5 +1,6 @@
 //! Two parties beside each other, and what they do on one thread.
-ghost use Rattle.std.specs.Prelude.{◌≡◌};
+ghost use Rattle.std.specs.Prelude.{◌≡◌, ◌≤◌};
+ghost use Rattle.tube_party.specs.Moves.{GoesHearing, shown_lines};
 ghost use Rattle.cases_tube.specs.Talking.{heard_lines};
 
 use super::steady::{Flag, flag};
@@ -12,7 +13,7 @@ use std::sync::Arc;
 use std::sync::atomic::Ordering;
 use std::test::Fail;
 use tube_chip::{Lines, Op};
-use tube_party::{Answer, Ask, Done, Party, Rewinds, solo};
+use tube_party::{Answer, Ask, Desk, Done, MOST, Party, Rewinds, solo};
 
 /// A talker's next step: a look, or an access to a register that all answers so far decide.
 #[derive(Clone, Copy, Debug, Drop, PartialEq, Eq)]
@@ -141,6 +142,35 @@ impl Party for Talker {
     }
 }
 
+// Goes on with what the desk answers, and with looks below tick `sure`, which see these lines; both as long as they are below tick `full`.
+fn go_below<M: Party, D: Desk>(
+    machine: &mut M,
+    until: Tick,
+    lines: &Lines,
+    sure: Tick,
+    full: Tick,
+    desk: &mut D,
+) -> Ask
+    requires { until.0 ≤ MOST }
+    ensures { GoesHearing M.moves D.answers until.0 (shown_lines lines.now sure.0)
+        (M.state machine.old) (D.state desk.old) result (M.state machine.new) (D.state desk.new) }
+{
+    let near = Tick(sure.0.min(full.0));
+    loop {
+        let ask = machine.advance_seeing(until, lines, near);
+        let Ask::Access(tick, op) = ask else {
+            return ask;
+        };
+        if full <= tick {
+            return ask;
+        }
+        let Some(byte) = desk.ask(tick, op) else {
+            return ask;
+        };
+        machine.answer(Answer::Byte(byte));
+    }
+}
+
 // It goes ahead until its notes are full, and is rolled back by a copy of what it was.
 impl Rewinds for Talker {
     type Past = Notes;
@@ -154,38 +184,32 @@ impl Rewinds for Talker {
         })
     }
 
-    fn advance_noting(
+    fn advance_noting<D: Desk>(
         &mut self,
         until: Tick,
         lines: &Lines,
         sure: Tick,
         past: &mut Notes,
+        desk: &mut D,
     ) -> Option<Ask> {
         past.talk = self.talk;
         past.full = match self.room {
             Some(room) => self.talk.due.saturating_add(room),
             None => u64::MAX,
         };
-        Some(self.advance_seeing(until, lines, Tick(sure.0.min(past.full))))
+        Some(go_below(self, until, lines, sure, Tick(past.full), desk))
     }
 
-    fn advance_on(&mut self, until: Tick, lines: &Lines, sure: Tick, past: &mut Notes) -> Ask {
-        self.advance_seeing(until, lines, Tick(sure.0.min(past.full)))
-    }
-
-    fn answer_on(
+    fn advance_on<D: Desk>(
         &mut self,
-        byte: u8,
+        _ask: Ask,
         until: Tick,
         lines: &Lines,
         sure: Tick,
         past: &mut Notes,
-    ) -> Option<Ask> {
-        if self.talk.due >= past.full {
-            return None;
-        }
-        self.answer(Answer::Byte(byte));
-        Some(self.advance_seeing(until, lines, Tick(sure.0.min(past.full))))
+        desk: &mut D,
+    ) -> Ask {
+        go_below(self, until, lines, sure, Tick(past.full), desk)
     }
 
     fn rewind(&mut self, past: &mut Notes) {

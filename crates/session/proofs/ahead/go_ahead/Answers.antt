@@ -1,58 +1,50 @@
-use Rattle.std.proofs.Common.{arith, refl, ◌∙◌, sym, ap, subst, ℕ}
+use Rattle.std.proofs.Common.{arith, refl, ◌∙◌, sym, ap, subst, ℕ, []}
 use Rattle.std.proofs.lemmas.List.{take_all}
 use Rattle.tube_cell.specs.Passes.{Carried}
-use Rattle.tube_party.specs.Moves.{Goes, shown_lines}
-use Rattle.tube_party.specs.Logs.{none_noted}
-use Rattle.tube_side.specs.CodeSteps.{HasWaited, IsPaid, IsPaidOnTrust}
+use Rattle.tube_party.specs.declared.log.Log.{Log}
+use Rattle.tube_party.specs.Logs.{HasNoted, none_noted}
+use Rattle.tube_side.specs.CodeSteps.{all_events, HasWaited, IsPaid, IsPaidOnTrust}
 use Rattle.tube_side.specs.CodeTrust.{HasTrusted, HasPassed}
 use Rattle.tube_side.specs.CodeWays.{Way}
-use Rattle.session.specs.CodeStation.{place, station}
+use Rattle.session.specs.CodeStation.{station}
 use Rattle.session.specs.CodeWay.{outset, IsSettled}
-use Rattle.session.proofs.OnWay.{sets_out, reached_in, went, cut_back}
+use Rattle.session.proofs.OnWay.{if_none, reached_in, went, cut_back}
 use Rattle.session.proofs.ahead.go_ahead.Goals as goal
 
-pub stride_to-first-requires-clause-way : goal.stride_to-first-requires-clause-way
-stride_to-first-requires-clause-way g c =
-    let m = g.M.Party.moves in
-    let state = g.M.Party.state in
-    let machine = c.advance_noting.new.self in
-    let from = outset (state (g.M.Rewinds.before c.advance_noting.new.past machine)) c.args.from.now in
-    let y = record (station state c.args.half.now) { at = place (state machine) c.args.half.now.pass } in
-    let lines = shown_lines c.args.from.now.mark.readings.lines c.set_out-end.result.0 in
-    let goes = subst (λ s. Goes m c.args.n.0 lines s c.in-Some.first (state machine)) (sym c.in-Some.ensures.1) c.in-Some.ensures.0 in
-    let tick = c.requires.mark in
-    let few = c.requires.few in
-    let count = c.requires.kept.1 in
-    let due = ap m.due c.in-Some.ensures.1 in
-    (sets_out m g.met.M.Party.lawful c.args.n.0 from c.in-Some.first c.set_out-end.result.0 y goes (sym c.requires.kept.0) (sym count) (omega arith)).0
-
-pub returns-in_default-clause-none : goal.returns-in_default-clause-none
-returns-in_default-clause-none g c = record {
-  waited = record { same = record { cell = refl; side = refl; trusted = c.requires.none_trusted }; events = refl };
-  ahead = refl;
-  state_is = c.in_default.ensures;
-  noted = none_noted c.args.half.now.log;
-}
+pub returns-in_err-first-clause-none : goal.returns-in_err-first-clause-none
+returns-in_err-first-clause-none g c =
+    let pass = c.set_out.ensures.pass in
+    let log = c.args.half.now.log in
+    let none = c.in_err-first.ensures.none in
+    if_none c.from_residual.result _ (record {
+      waited = record {
+        same = record { cell = ap (λ (x : Carried). x.cell) pass; side = ap (λ (x : Carried). x.side) pass; trusted = ap (λ (x : Carried). x.trusted) pass ∙ c.requires.none_trusted };
+        events = ap all_events pass;
+      };
+      ahead = ap (λ (x : Carried). x.ahead) pass;
+      state_is = none.0;
+      noted = subst (λ (l : Log). HasNoted [] log l) (sym none.1) (none_noted log);
+    })
 
 pub returns-then-not-tell_first-clause-none : goal.returns-then-not-tell_first-clause-none
 returns-then-not-tell_first-clause-none g c =
-    let pass = c.stride_to-first.ensures.pass in
+    let pass = c.set_out.ensures.pass in
     let not = c.if-not-tell_first.true in
-    let gone = c.stride_to-first.ensures.further in
+    let some = c.in_ok-first.ensures.some in
     let kept = c.requires.kept in
     record {
       waited = subst (λ (x : Carried). HasWaited x c.tell_first.new.pass) pass (c.tell_first.ensures.waited not);
       ahead = c.tell_first.ensures.unpublished not ∙ ap (λ (x : Carried). x.ahead) pass;
-      state_is = c.rewind.ensures ∙ gone.from_is ∙ c.in-Some.ensures.1;
-      noted = cut_back c.args.from.now.log c.args.half.now.log c.stride_to-first.new.half.log c.cut.new.self kept.0 kept.1
-          gone.log c.cut.ensures.list c.cut.ensures.count c.cut.ensures.keep;
+      state_is = c.rewind.ensures ∙ some.1;
+      noted = cut_back c.args.from.now.log c.args.half.now.log c.set_out.new.half.log c.cut.new.self kept.0 kept.1
+          some.2 c.cut.ensures.list c.cut.ensures.count c.cut.ensures.keep;
     }
 
 pub returns-clause-paid : goal.returns-clause-paid
 returns-clause-paid g c =
     let p = c.args.half.now.pass in
     let told = c.tell_first.ensures.paid c.if-not-tell_first.false in
-    let first = subst (λ (x : Carried). IsPaidOnTrust x c.tell_first.new.pass) c.stride_to-first.ensures.pass told in
+    let first = subst (λ (x : Carried). IsPaidOnTrust x c.tell_first.new.pass) c.set_out.ensures.pass told in
     subst (λ (x : Carried). IsPaid p x) (sym c.roll_back.ensures.pass) (c.wait_passed.ensures.paid p (c.strides_on-ask.ensures.paid p first))
 
 pub returns-clause-some : goal.returns-clause-some
@@ -67,17 +59,17 @@ returns-clause-some g c =
     let p = c.args.half.now.pass in
     let q = c.wait_passed.new.pass in
     let t = c.reached-t-2.result.0 in
+    let some = c.in_ok-first.ensures.some in
     let gone = c.strides_on-ask.ensures.further in
-    let out = gone.from_is ∙ c.stride_to-first.ensures.further.from_is ∙ c.in-Some.ensures.1 in
+    let out = gone.from_is ∙ some.1 in
     let told_first = c.tell_first.ensures.trusted c.if-not-tell_first.false in
-    let first = subst (λ (z : Carried). HasTrusted g.W.Ahead.way c.reached-t.result.0 z c.tell_first.new.pass) c.stride_to-first.ensures.pass told_first in
+    let first = subst (λ (z : Carried). HasTrusted g.W.Ahead.way c.reached-t.result.0 z c.tell_first.new.pass) c.set_out.ensures.pass told_first in
     let told = c.strides_on-ask.ensures.told p c.reached-t.result.0 t c.reached-t.ensures c.reached-t-2.ensures first in
     let passed = subst (λ (w : Way). HasPassed w t p q) c.requires.way (c.wait_passed.ensures.passed p told) in
     let len = c.requires.kept.0 in
     let was = take_all at.log.len c.args.half.now.log.list.items (omega arith) in
-    let logs = c.stride_to-first.ensures.further.log in
-    let list = c.roll_back.ensures.log.kept ∙ gone.log.kept ∙ logs.kept ∙ was in
-    let keep = c.roll_back.ensures.log.keep_is ∙ gone.log.keep_is ∙ logs.keep_is in
+    let list = c.roll_back.ensures.log.kept ∙ gone.log.kept ∙ some.2.kept ∙ was in
+    let keep = c.roll_back.ensures.log.keep_is ∙ gone.log.keep_is ∙ some.2.keep_is in
     let back = subst (λ s. IsSettled m n (outset s at) c.trust-trust.result.0 c.roll_back.result y) out c.roll_back.ensures.settled in
     let there = outset (state (g.M.Rewinds.before c.strides_on-ask.new.past c.strides_on-ask.new.half.machine)) at in
     let under = reached_in m n there c.strides_on-ask.result (station state c.strides_on-ask.new.half) t gone.way c.reached-t-2.ensures in

@@ -1,8 +1,11 @@
 use Rattle.std.proofs.Common.{◌≡◌, ◌∙◌, subst, ap, arith, length}
 use Rattle.std.proofs.lemmas.List.{length-take-le, take_all}
+use Rattle.beeb_bits.specs.declared.Side.TheVariants.{Para}
+use Rattle.tube_trace.specs.Entries.{accesses}
+use Rattle.session.specs.CodeObserved.{HasObserved}
 use Rattle.session.specs.CodeStation.{station}
-use Rattle.session.specs.CodeWay.{outset, IsAnew, trip}
-use Rattle.session.proofs.OnWay.{stands, went_anew}
+use Rattle.session.specs.CodeWay.{trip}
+use Rattle.session.proofs.OnWay.{stands, went_anew, still_there}
 use Rattle.session.proofs.way.roll_back.Goals as goal
 
 pub returns-then-trust-t-clause-settled : goal.returns-then-trust-t-clause-settled
@@ -11,36 +14,37 @@ returns-then-trust-t-clause-settled g c =
     stands g.M.Party.moves g.met.M.Party.lawful c.args.n.0 x.from c.args.t.0 c.args.trust.0 c.args.ask x.here
     c.if-trust-t.true c.requires.order.1 c.requires.reached c.requires.way
 
-pub go_anew-requires-clause-few : goal.go_anew-requires-clause-few
-go_anew-requires-clause-few g c =
+pub observe-requires-clause-few : goal.observe-requires-clause-few
+observe-requires-clause-few g c =
     let few = c.requires.way.few in
+    let count = c.cut.ensures.count in
     let due = ap g.M.Party.moves.due c.rewind.ensures in
     omega arith
-
-pub go_anew-requires-clause-kept : goal.go_anew-requires-clause-kept
-go_anew-requires-clause-kept g c =
-    let log = c.args.from.now.log in (
-      ap length c.cut.ensures.list ∙ length-take-le log.len c.args.half.now.log.list.items c.requires.way.noted.kept,
-      c.cut.ensures.count,
-    )
 
 pub returns-clause-settled : goal.returns-clause-settled
 returns-clause-settled g c =
     let m = g.M.Party.moves in
     let n = c.args.n.0 in
-    let a = c.args.trust.0 in
+    let trust = c.args.trust.0 in
+    let log = c.args.from.now.log in
     let x = trip g.M.Party.state g.M.Rewinds.before c.args.past.now c.args.half.now c.args.from.now in
-    let y = station g.M.Party.state c.go_anew.new.half in
-    let again = c.go_anew.result in
-    let anew = subst (λ s. IsAnew m n (outset s c.args.from.now) a again y) c.rewind.ensures c.go_anew.ensures.anew in
-    went_anew m g.met.M.Party.lawful n x.from c.args.t.0 a c.args.ask again x.here y c.requires.order.0 c.requires.order.1 c.requires.reached c.requires.way anew
+    let y = station g.M.Party.state c.observe.new.half in
+    let again = c.observe.result in
+    let cut = c.cut.new.self in
+    let seen = subst (λ s. HasObserved m Para n c.args.from.now.mark.readings trust s cut again y.at.state y.log) c.rewind.ensures c.observe.ensures.observed in
+    let len : length cut.list.items ≡ log.len = ap length c.cut.ensures.list ∙ length-take-le log.len c.args.half.now.log.list.items c.requires.way.noted.kept in
+    went_anew m g.met.M.Party.lawful n x.from c.args.t.0 trust c.args.ask again x.here y cut c.requires.order.0 c.requires.order.1 c.requires.reached c.requires.way
+    len c.cut.ensures.count seen c.observe.ensures.over
 
 pub returns-clause-log : goal.returns-clause-log
 returns-clause-log g c =
-    let len = c.args.from.now.log.len in
-    let cut = c.cut.new.self.list.items in
-    let all : length cut ≡ len = ap length c.cut.ensures.list ∙ length-take-le len c.args.half.now.log.list.items c.requires.way.noted.kept in
+    let log = c.args.from.now.log in
+    let x = trip g.M.Party.state g.M.Rewinds.before c.args.past.now c.args.half.now c.args.from.now in
+    let seen = c.observe.ensures.observed in
+    let cut = c.cut.new.self in
+    let len : length cut.list.items ≡ log.len = ap length c.cut.ensures.list ∙ length-take-le log.len c.args.half.now.log.list.items c.requires.way.noted.kept in
+    let still = still_there g.M.Party.moves g.met.M.Party.lawful c.args.n.0 x.from cut c.observe.new.half.log (accesses seen.events) (omega arith) seen.noted in
     record {
-      kept = c.go_anew.ensures.log.kept ∙ take_all len cut (omega arith) ∙ c.cut.ensures.list;
-      keep_is = c.go_anew.ensures.log.keep_is ∙ c.cut.ensures.keep;
+      kept = still.kept ∙ take_all log.len cut.list.items (omega arith) ∙ c.cut.ensures.list;
+      keep_is = still.keep_is ∙ c.cut.ensures.keep;
     }

@@ -1,28 +1,43 @@
-use Rattle.std.proofs.Common.{◌∙◌, refl}
+use Rattle.std.proofs.Common.{rules, ap, subst, ◌≢◌}
+use Rattle.beeb_bits.specs.declared.Side.TheVariants.{Para}
+use Rattle.tube_party.specs.declared.log.Log.{Log}
+use Rattle.tube_party.specs.declared.party.Ask.TheVariants.{Nothing}
+use Rattle.session.specs.CodeDesk.{Shown, shown}
+use Rattle.session.specs.CodeObserved.{HasObserved}
 use Rattle.session.specs.CodeWay.{trip}
-use Rattle.session.proofs.OnWay.{further_on, stays_here}
+use Rattle.session.proofs.Heard.{heard}
+use Rattle.session.proofs.OnWay.{goes_on, stays_here}
+use Rattle.session.proofs.UnderWay.{pending}
 use Rattle.session.proofs.way.stride_to.Goals as goal
 
-pub loop-init : goal.loop-init
-loop-init g c =
+pub returns-then-eq-clause-further : goal.returns-then-eq-clause-further
+returns-then-eq-clause-further g c =
     let x = trip g.M.Party.state g.M.Rewinds.before c.args.past.now c.args.half.now c.args.from.now in
-    record {
-      can_next = tt;
-      finite = tt;
-      further = stays_here g.M.Party.moves g.met.M.Party.lawful c.args.n.0 x.from c.args.ask x c.requires.way;
-      pass = refl;
-    }
+    stays_here g.M.Party.moves g.met.M.Party.lawful c.args.n.0 x.from c.args.ask x c.requires.way
 
-pub loop-preserved : goal.loop-preserved
-loop-preserved g c =
-    let next = c.in-Some-step_on.next in
-    record {
-      can_next = tt;
-      finite = tt;
-      further = further_on g.M.Party.moves c.args.n.0 c.args.ask c.loop.ask next _ _ _ _ refl c.loop.invariant.further c.in-Some-step_on.ensures.further;
-      pass = c.step_on.ensures.pass ∙ c.loop.invariant.pass;
-    }
+pub advance_on-next-requires-clause-pending : goal.advance_on-next-requires-clause-pending
+advance_on-next-requires-clause-pending g c =
+    let some : c.args.ask ≢ Nothing = search rules in
+    let way = c.requires.way in
+    pending g.M.Party.moves c.args.n.0 way.last (g.M.Party.state c.args.half.now.machine) c.args.ask some way.asked
 
-pub returns-in-None-step_on-clause-further : goal.returns-in-None-step_on-clause-further
-returns-in-None-step_on-clause-further g c =
-    further_on g.M.Party.moves c.args.n.0 c.args.ask c.loop.ask c.loop.ask _ _ _ _ refl c.loop.invariant.further c.in-None-step_on.ensures.further
+pub returns-clause-further : goal.returns-clause-further
+returns-clause-further g c =
+    let some : c.args.ask ≢ Nothing = search rules in
+    let m = g.M.Party.moves in
+    let lawful = g.met.M.Party.lawful in
+    let state = g.M.Party.state in
+    let n = c.args.n.0 in
+    let ask = c.args.ask in
+    let next = c.advance_on-next.result in
+    let r = c.args.from.now.mark.readings in
+    let old = c.args.half.now in
+    let gone = c.advance_on-next.new in
+    let half = record old { machine = gone.self; log = gone.desk.log } in
+    let x = trip state g.M.Rewinds.before c.args.past.now old c.args.from.now in
+    let y = trip state g.M.Rewinds.before gone.past half c.args.from.now in
+    let desk = c.desk_of-desk.ensures in
+    let seen = heard m lawful Para n r c.args.end.0 (state old.machine) (shown c.desk_of-desk.result) next (state gone.self) (shown gone.desk)
+    (ap (λ (d : Shown). d.side) desk) (ap (λ (d : Shown). d.status) desk) (ap (λ (d : Shown). d.below) desk) c.advance_on-next.ensures.goes in
+    let on = subst (λ (l : Log). HasObserved m Para n r c.args.end.0 (state old.machine) l next (state gone.self) gone.desk.log) (ap (λ (d : Shown). d.log) desk) seen in
+    goes_on m lawful n x.from ask next c.args.end.0 x.here y.here y.from.state some c.requires.way on c.advance_on-next.ensures.mark

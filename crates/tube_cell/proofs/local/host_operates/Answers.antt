@@ -18,5 +18,5 @@ returns-then-is_observation-clause-trust c =
 
 pub returns-clause-trust : goal.returns-clause-trust
 returns-clause-trust c =
-    let new = c.readings_of.new.chip in
-    c.trust_left.ensures c.args.chip.now new c.readings_of-before.ensures.readings (c.readings_of.ensures.readings ∙ ap readings_of (sym c.readings_of.ensures.chip))
+    let new = c.readings_of-after.new.chip in
+    c.trust_left.ensures c.args.chip.now new c.readings_of-before.ensures.readings (c.readings_of-after.ensures.readings ∙ ap readings_of (sym c.readings_of-after.ensures.chip))

@@ -1,10 +1,10 @@
-use Rattle.std.proofs.Common.{◌≡◌, ◌≤◌, ◌<◌, ◌⊎◌, inl, inr, ◌∙◌, refl, sym, subst, true, false, min, None, Some, arith, Ok}
+use Rattle.std.proofs.Common.{◌≡◌, ◌≤◌, ◌<◌, ◌⊎◌, inl, inr, ◌∙◌, refl, sym, subst, true, false, min, None, Some, arith}
 use Rattle.std.proofs.lemmas.Bool.{leb-false}
 use Rattle.tube_chip.specs.declared.Answer.TheVariants.{Seen}
 use Rattle.tube_party.specs.Steps.{talks_on, talks_rise, hears_after, hears_sees}
 use Rattle.tube_machine.specs.Lawful.{lawful}
 use Rattle.tube_machine.specs.Step.{At, at_of, is_break, moves_of}
-use Rattle.tube_machine.specs.Exchange.{IsDone, IsRun}
+use Rattle.tube_machine.specs.Exchange.{IsSilent, IsRun}
 use Rattle.tube_machine.specs.declared.steps.Left.{Left}
 use Rattle.tube_machine.specs.declared.steps.Left.TheVariants as left
 use Rattle.tube_machine.proofs.Stops.{breaks-alone, more, more-look, stops-at-look}
@@ -51,7 +51,7 @@ loop-ask-smaller-then-breaks_alone g c =
     subst (λ (x : Left). IsRun part w g.D.Desk.answers c.args.until.0 c.args.lines.now c.args.sure.0 s (g.D.Desk.state c.loop-ask.desk) x at (g.D.Desk.state c.carry_on.new.desk)) c.in-Look.is c.carry_on.ensures.ran in
     let risen : s.due ≤ at.due = talks_rise (moves_of part w) g.D.Desk.answers c.args.until.0 c.args.lines.now c.args.sure.0 ran.0.0 s at (g.D.Desk.state c.loop-ask.desk) (g.D.Desk.state c.carry_on.new.desk) (lawful part w g.B.TubeBus.wired) ran.0.1 in
     let alone = breaks-alone part w at c.args.until.0 (sym c.breaks_alone.ensures ∙ c.if-breaks_alone.true) in
-    let done : IsDone part w at (Ok tt) new = alone.1 new c.take_break.ensures.broken in
+    let done : IsSilent part w at new = alone.1 new c.take_break.ensures.broken in
     let rises : at.due < new.due = subst (λ (x : At g.B.TubeBus.State). at.due < x.due) (sym done.1) ((lawful part w g.B.TubeBus.wired).rises at None) in
     omega (arith, risen, rises, alone.0)
 

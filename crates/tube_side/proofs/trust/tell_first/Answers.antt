@@ -1,5 +1,6 @@
 use Rattle.std.proofs.Common.{rules, arith, ◌≡◌, ◌∙◌, sym, subst, ap}
-use Rattle.tube_cell.specs.Views.{readings_of}
+use Rattle.beeb_bits.specs.declared.Side.{Side}
+use Rattle.tube_cell.specs.Views.{readings_of, shown_to}
 use Rattle.tube_cell.specs.Passes.{Carried, Learns, here}
 use Rattle.tube_side.specs.CodeSteps.{HasOnlyLearnt}
 use Rattle.tube_side.proofs.Waits.{waited_on, learned, still_learnt}
@@ -7,8 +8,11 @@ use Rattle.tube_side.proofs.trust.tell_first.Goals as goal
 
 pub publish_on-requires-clause-way : goal.publish_on-requires-clause-way
 publish_on-requires-clause-way g c =
-    let same : c.readings.result ≡ c.args.mark.now.readings = search rules in
-    (c.requires.way.0, c.requires.way.1 ∙ sym same ∙ c.readings.ensures.readings ∙ ap (λ (x : Carried). readings_of (here x)) (sym c.readings.ensures.pass))
+    let same : c.readings.result ≡ c.args.mark.now.readings = search rules in (
+      c.requires.way.0,
+      c.requires.way.1 ∙ sym same ∙ c.readings.ensures.readings ∙ ap (λ (s : Side). shown_to s (here c.loop.pass)) (c.loop.invariant.waited.same.side ∙ c.requires.side)
+          ∙ ap (λ (x : Carried). readings_of (here x)) (sym c.readings.ensures.pass),
+    )
 
 pub returns-then-publish_on-clause-paid : goal.returns-then-publish_on-clause-paid
 returns-then-publish_on-clause-paid g c told =

@@ -1,6 +1,7 @@
 use Rattle.std.proofs.Common.{rules, ◌≡◌, ◌∙◌, sym, subst, ap}
-use Rattle.tube_cell.specs.Views.{readings_of}
-use Rattle.tube_cell.specs.Passes.{Carried}
+use Rattle.beeb_bits.specs.declared.Side.{Side}
+use Rattle.tube_cell.specs.Views.{readings_of, shown_to}
+use Rattle.tube_cell.specs.Passes.{Carried, here}
 use Rattle.tube_side.specs.CodeSteps.{IsPaidOnTrust}
 use Rattle.tube_side.specs.CodeTrust.{HasTrusted}
 use Rattle.tube_side.proofs.Waits.{here_bare}
@@ -9,7 +10,7 @@ use Rattle.tube_side.proofs.trust.tell_more.Goals as goal
 pub entrust_on-requires-clause-shown : goal.entrust_on-requires-clause-shown
 entrust_on-requires-clause-shown g c =
     let same : c.args.mark.now.readings ≡ c.readings.result = search rules in
-    here_bare c.loop.pass g.W.Ahead.way.readings (c.loop.invariant.told c.requires.told.0 c.requires.told.1).ahead (c.requires.shown ∙ same ∙ c.readings.ensures.readings)
+    here_bare c.loop.pass g.W.Ahead.way.readings (c.loop.invariant.told c.requires.told.0 c.requires.told.1).ahead (c.requires.shown ∙ same ∙ c.readings.ensures.readings ∙ ap (λ (s : Side). shown_to s (here c.loop.pass)) (c.loop.invariant.side ∙ c.requires.side))
     ∙ ap (λ (x : Carried). readings_of x.known.chip) (sym c.readings.ensures.pass)
 
 pub entrust_on-requires-clause-told : goal.entrust_on-requires-clause-told

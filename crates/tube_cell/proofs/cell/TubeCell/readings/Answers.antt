@@ -1,10 +1,10 @@
-use Rattle.std.proofs.Common.{◌∙◌, ap}
+use Rattle.std.proofs.Common.{◌∙◌}
 use Rattle.crossbeam_utils.specs.Seq.{cell_view}
-use Rattle.tube_cell.specs.Views.{readings_of}
+use Rattle.tube_cell.specs.Views.{shown_to}
 use Rattle.tube_cell.proofs.Acts.{here_of}
 use Rattle.tube_cell.proofs.cell.TubeCell.readings.Goals as goal
 
 pub returns-clause-readings : goal.returns-clause-readings
-returns-clause-readings c = c.readings_of.ensures.readings ∙ ap readings_of
-    (here_of _ c.pass.inside.side c.pass.inside.words c.pass.inside.local c.args.pass.now
-    (cell_view c.pass.inside.seat) c.pass.view_is c.pass.invariant.0)
+returns-clause-readings c =
+    let here_is = here_of _ c.pass.inside.side c.pass.inside.words c.pass.inside.local c.args.pass.now (cell_view c.pass.inside.seat) c.pass.view_is c.pass.invariant.0 in
+    c.readings_of.ensures.readings ∙ (λ i. shown_to (c.pass.view_is i).side (here_is i))

@@ -1,6 +1,6 @@
-use Rattle.std.proofs.Common.{refl, arith}
-use Rattle.cases_tube.proofs.Goes.{goes_far}
+use Rattle.std.proofs.Common.{refl}
+use Rattle.cases_tube.proofs.Goes.{goes_heard}
 use Rattle.cases_tube.proofs.tests.strides.PollerRewinds.advance_noting.Goals as goal
 
 pub returns : goal.returns
-returns c = (goes_far c.advance_seeing.ensures (omega arith), refl)
+returns g c = (goes_heard c.advance_at.ensures, refl)

@@ -1,0 +1,34 @@
+use Rattle.std.proofs.Common.{ap, sym, subst, arith}
+use Rattle.beeb_bits.specs.declared.Side.TheVariants.{Para}
+use Rattle.tube_trace.specs.Entries.{accesses}
+use Rattle.tube_party.specs.declared.log.Log.{Log}
+use Rattle.session.specs.CodeDesk.{Shown, shown}
+use Rattle.session.specs.CodeObserved.{HasObserved}
+use Rattle.session.specs.CodeWay.{trip}
+use Rattle.session.proofs.Heard.{heard}
+use Rattle.session.proofs.OnWay.{if_some, sets_out, still_there}
+use Rattle.session.proofs.way.set_out.Goals as goal
+
+pub returns-clause-some : goal.returns-clause-some
+returns-clause-some g c =
+    let m = g.M.Party.moves in
+    let lawful = g.met.M.Party.lawful in
+    let state = g.M.Party.state in
+    let n = c.args.n.0 in
+    let r = c.args.from.now.mark.readings in
+    let old = c.args.half.now in
+    let gone = c.advance_noting-ask.new in
+    let half = record old { machine = gone.self; log = gone.desk.log } in
+    let x = trip state g.M.Rewinds.before gone.past half c.args.from.now in
+    let desk = c.desk_of-desk.ensures in
+    let log = ap (λ (d : Shown). d.log) desk in
+    if_some c.advance_noting-ask.result _ _ _ c.advance_noting-ask.ensures (λ ask went.
+    let seen = heard m lawful Para n r c.args.end.0 (state old.machine) (shown c.desk_of-desk.result) ask (state gone.self) (shown gone.desk)
+    (ap (λ (d : Shown). d.side) desk) (ap (λ (d : Shown). d.status) desk) (ap (λ (d : Shown). d.below) desk) went.0 in
+    let anew = subst (λ s. HasObserved m Para n r c.args.end.0 s old.log ask (state gone.self) gone.desk.log) (sym went.1)
+    (subst (λ (l : Log). HasObserved m Para n r c.args.end.0 (state old.machine) l ask (state gone.self) gone.desk.log) log seen) in
+    let kept = c.requires.kept in
+    let few = c.requires.few in
+    let due = ap m.due went.1 in
+    let way = sets_out m lawful n x.from ask c.args.end.0 old.log x.here anew kept.0 kept.1 (omega arith) in
+    (way.0, went.1, still_there m lawful n x.from old.log gone.desk.log (accesses anew.events) (let k = kept.0 in omega arith) anew.noted))

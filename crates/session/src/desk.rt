@@ -1,0 +1,94 @@
+//! What answers a machine's reads of status registers in passing.
+ghost use Rattle.std.specs.Prelude.{◌≡◌, ◌≤◌, ◌<◌, ◌^◌, ◌⊎◌, None, IfSome, IfNone};
+ghost use Rattle.session.specs.CodeSight.{byte_seen};
+
+use crate::sight::byte_of;
+use beeb_bits::{Side, Tick};
+use tube_chip::Op;
+use tube_party::{Desk, Log};
+use tube_trace::Entry;
+
+/// The status registers of a side as they stay below a tick, with the log of its accesses.
+#[derive(Drop)]
+pub(crate) struct StatusDesk {
+    pub(crate) side: Side,
+    /// The bytes of the registers 0, 2, 4 and 6.
+    pub(crate) status: [u8; 4],
+    pub(crate) below: Tick,
+    pub(crate) log: Log,
+}
+
+/// A log of so many accesses takes no more in passing.
+const MOST_COUNT: u64 = 1 << 62;
+
+impl StatusDesk {
+    ghost use Rattle.session.specs.CodeDesk.{shown, IsRead};
+
+    /// Reads one of the registers below the tick, and notes that. None, and nothing was done, of any other access.
+    #[inline(always)]
+    pub(crate) fn read(&mut self, tick: Tick, op: Op) -> Option<u8>
+        ensures read { IfSome result (λ byte. IsRead (shown self.old) tick.0 op byte (shown self.new)) }
+        ensures none { IfNone result (self.new ≡ self.old) }
+        ensures other { (self.old).log.count < 2 ^ 62 →
+            IfNone result (((self.old).below.0 ≤ tick.0) ⊎ (byte_seen (self.old).status op ≡ None)) }
+    {
+        if tick >= self.below || self.log.count >= MOST_COUNT {
+            return None;
+        }
+        let answer = byte_of(&self.status, op)?;
+        let side = self.side;
+        self.log.note(Entry {
+            tick,
+            side,
+            op,
+            answer,
+        });
+        Some(answer)
+    }
+}
+
+impl Desk for StatusDesk {
+    ghost use Rattle.session.specs.CodeDesk.{Shown, shown, IsRead};
+
+    ghost State = { Shown };
+
+    ghost state = { shown };
+
+    ghost answers = { IsRead };
+
+    #[inline(always)]
+    fn awaits(&self, from: Tick, _to: Tick) -> bool {
+        from < self.below
+    }
+
+    #[inline(always)]
+    fn is_asked_each(&self) -> bool {
+        true
+    }
+
+    #[inline(always)]
+    fn ask(&mut self, tick: Tick, op: Op) -> Option<u8> {
+        self.read(tick, op)
+    }
+
+    // A status register shows the same again and again.
+    #[inline(always)]
+    fn again(&mut self, tick: Tick, op: Op, byte: u8, period: u64, most: u64) -> u64 {
+        let mut times = 0;
+        if byte_of(&self.status, op) != Some(byte) {
+            return times;
+        }
+        let mut at = tick.0 + period;
+        while times < most && at < self.below.0 && self.log.count < MOST_COUNT {
+            self.log.note(Entry {
+                tick: Tick(at),
+                side: self.side,
+                op,
+                answer: byte,
+            });
+            times += 1;
+            at += period;
+        }
+        times
+    }
+}

@@ -1,0 +1,66 @@
+//! How a party goes on as far as it observes what is shown to it: the lines, and its status registers.
+ghost use Rattle.std.specs.Prelude.{◌≡◌, ◌≤◌};
+ghost use Rattle.session.specs.CodeObserved.{HasObserved, IsOver};
+
+use crate::desk::StatusDesk;
+use crate::half::Half;
+use beeb_bits::{Side, Tick};
+use std::sync::Wait;
+use tube_cell::Readings;
+use tube_chip::{Answer, Lines};
+use tube_party::{Ask, MOST, Party};
+
+// Goes on with the registers of the desk and these lines, as long as they stay.
+fn observe_at<M: Party, R: Wait>(
+    rt: &R,
+    machine: &mut M,
+    desk: &mut StatusDesk,
+    n: Tick,
+    lines: &Lines,
+) -> Ask
+    requires ticks { n.0 ≤ MOST }
+    requires few { desk.old.log.count ≤ M.moves.due (M.state machine.old) }
+    ensures observed { let r : Readings = record { lines = lines.now; status = desk.old.status } in
+        HasObserved M.moves desk.old.side n.0 r desk.old.below.0 (M.state machine.old) desk.old.log result (M.state machine.new) desk.new.log }
+    ensures over { let r : Readings = record { lines = lines.now; status = desk.old.status } in
+        IsOver r desk.old.below.0 result }
+{
+    for _ in rt.forever() {
+        let ask = machine.advance_at(n, lines, desk.below, desk);
+        let Ask::Access(tick, op) = ask else {
+            return ask;
+        };
+        let Some(byte) = desk.read(tick, op) else {
+            return ask;
+        };
+        machine.answer(Answer::Byte(byte));
+    }
+    unreachable!()
+}
+
+/// Goes on as far as the machine observes anything below tick `end`, as these readings show it. What is asked then.
+pub(crate) fn observe<M: Party, R: Wait>(
+    rt: &R,
+    half: &mut Half<M>,
+    side: Side,
+    n: Tick,
+    readings: &Readings,
+    end: Tick,
+) -> Ask
+    requires ticks { n.0 ≤ MOST }
+    requires few { half.old.log.count ≤ M.moves.due (M.state half.old.machine) }
+    ensures observed { HasObserved M.moves side n.0 readings.now end.0
+        (M.state half.old.machine) half.old.log result (M.state half.new.machine) half.new.log }
+    ensures over { IsOver readings.now end.0 result }
+    ensures pass { half.new.pass ≡ half.old.pass }
+{
+    let mut desk = StatusDesk {
+        side,
+        status: readings.status,
+        below: end,
+        log: half.log.take(),
+    };
+    let ask = observe_at(rt, &mut half.machine, &mut desk, n, &readings.lines);
+    half.log = desk.log;
+    ask
+}
