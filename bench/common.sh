@@ -15,7 +15,8 @@ cd "$work"
 
 # The pairs that `run` is timed on: the name, the host's program, the second processor's, and a key script, or `disc` for an empty one in
 # drive 0. A number behind the name stands for the microseconds between two interrupts of the host's timer, in place of the 1,000 of its program.
-pairs='busy bench/busy-os bench/busy-tube
+pairs='talk bench/pairs/talk-os bench/pairs/talk-tube
+busy bench/busy-os bench/busy-tube
 demo examples/demo-os examples/demo-tube
 stream examples/demo-os bench/pairs/stream-tube
 slow examples/demo-os bench/pairs/slow-tube

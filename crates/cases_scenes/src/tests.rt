@@ -26,6 +26,7 @@ mod sounds;
 mod sources;
 mod speeds;
 mod statuses;
+mod talks;
 mod traces;
 mod transfers;
 mod words;
