@@ -96,7 +96,7 @@ fn go_past<M: Rewinds, R: Wait>(
     if cell.admits(&half.pass, tick) {
         return None;
     }
-    let readings = cell.readings(&mut half.pass);
+    let readings = cell.readings(&half.pass);
     let from = Checkpoint {
         mark: Mark { tick, readings },
         log: half.log.mark(),

@@ -49,7 +49,7 @@ pub(crate) fn go_on<M: Party, R: Wait>(rt: &R, cell: &TubeCell, half: &mut Half<
     let side = half.pass.side();
     let sure = sure_of(side, cell.bound(&half.pass));
     let end = Tick(n.0.min(sure.0));
-    let readings = cell.readings(&mut half.pass);
+    let readings = cell.readings(&half.pass);
     see_next::<Brand, M, R>(rt, cell, &mut half.pass, &half.machine, &readings, end);
     observe(rt, half, side, n, &readings, end)
 }

@@ -8,21 +8,15 @@ use Rattle.tube_chip.specs.declared.Op.TheVariants.{Read, Write, Reset}
 use Rattle.tube_chip.specs.declared.Lines.{Lines}
 use Rattle.tube_chip.specs.declared.Answer.TheVariants.{Byte, Seen}
 use Rattle.tube_chip.specs.Register.{front_of}
-use Rattle.tube_chip.specs.State.{State, register, incoming_bank, asks_nmi, lines_of}
-use Rattle.tube_chip.specs.Act.{Query, access, look, act, count_of_rises, with_counts, read_by, register_number, status}
+use Rattle.tube_chip.specs.State.{State, register, incoming_bank, lines_of}
+use Rattle.tube_chip.specs.Act.{Query, access, look, act, register_number, status}
+use Rattle.tube_chip.proofs.Rises.{status_leaves}
 use Rattle.tube_cell.specs.Views.{is_observation, same_lines, same_readings, trust_next}
 
 -- ---- the chip stays
 
-not_risen : (b : Bool) (n : ℕ) → count_of_rises b b n ≡ n
-not_risen true n = refl
-not_risen false n = refl
-
-counted_same : (c : State) → with_counts c c ≡ c
-counted_same c = λ i. record c { nmis = not_risen (asks_nmi c) c.nmis i; resets = not_risen c.flags.p c.resets i }
-
 pub observed_stays : (c : State) (s : Side) (q : Query) → is_observation q ≡ true → (act c s q).0 ≡ c
-observed_stays c s (access (Read number)) is = ap (λ b. with_counts c (cond b c (read_by s (register_number number) c))) is ∙ counted_same c
+observed_stays c s (access (Read number)) is = status_leaves c s number is
 observed_stays c s (access (Write number byte)) is = absurd (true≢false (sym is))
 observed_stays c s (access Reset) is = absurd (true≢false (sym is))
 observed_stays c s look is = refl

@@ -176,13 +176,12 @@ impl TubeCell {
         pass.local.lines()
     }
 
-    /// What the observations of the pass's side show of the local chip. The pass is as it was.
-    pub fn readings(&self, pass: &mut Pass) -> Readings
-        requires { pass.old.cell ≡ self.now }
-        ensures readings { result ≡ shown_to pass.old.side (here pass.old) }
-        ensures pass { pass.new ≡ pass.old }
+    /// What the observations of the pass's side show of the local chip.
+    pub fn readings(&self, pass: &Pass) -> Readings
+        requires { pass.now.cell ≡ self.now }
+        ensures { result ≡ shown_to pass.now.side (here pass.now) }
     {
-        readings_of(&mut pass.local, pass.side)
+        readings_of(&pass.local, pass.side)
     }
 
     /// The parasite's trust, as far as the pass knows it.

@@ -1,9 +1,8 @@
 //! What is done at a pass's local chip.
-ghost use Rattle.std.specs.Prelude.{◌≡◌, ◌<◌, true};
+ghost use Rattle.std.specs.Prelude.{◌≡◌};
 ghost use Rattle.beeb_bits.specs.declared.Side.TheVariants.{Host, Para};
-ghost use Rattle.tube_chip.specs.declared.Op.TheVariants.{Read};
 ghost use Rattle.tube_chip.specs.State.{State};
-ghost use Rattle.tube_chip.specs.Act.{access, MayDo, is_status, answer_of, chip_after};
+ghost use Rattle.tube_chip.specs.Act.{access, MayDo, answer_of, chip_after};
 ghost use Rattle.tube_cell.specs.Views.{is_observation, shown_to, readings_of, same_lines, same_readings, trust_next};
 
 use beeb_bits::Side;
@@ -19,28 +18,13 @@ pub struct Readings {
     pub status: [u8; 4],
 }
 
-// What a side reads at a status register. The chip stays.
-fn peek(chip: &mut Chip, side: Side, number: u8) -> u8
-    requires number { number < 8 }
-    requires status { is_status number ≡ true }
-    ensures byte { result ≡ answer_of chip.old side (Read number) }
-    ensures chip { chip.new ≡ chip.old }
+/// What a side's observations show of the chip.
+pub(crate) fn readings_of(chip: &Chip, side: Side) -> Readings
+    ensures { result ≡ shown_to side chip.now }
 {
-    chip.apply(side, Op::Read(number))
-}
-
-/// What a side's observations show of the chip, which stays.
-pub(crate) fn readings_of(chip: &mut Chip, side: Side) -> Readings
-    ensures readings { result ≡ shown_to side chip.old }
-    ensures chip { chip.new ≡ chip.old }
-{
-    let first = peek(chip, side, 0);
-    let second = peek(chip, side, 2);
-    let third = peek(chip, side, 4);
-    let fourth = peek(chip, side, 6);
     Readings {
         lines: chip.lines(),
-        status: [first, second, third, fourth],
+        status: chip.status(side),
     }
 }
 

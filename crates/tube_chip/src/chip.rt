@@ -1,10 +1,10 @@
 //! The chip.
-ghost use Rattle.std.specs.Prelude.{◌≡◌, ◌<◌, ◌+◌, ℕ, true, nat_lt, if◌then◌else◌};
+ghost use Rattle.std.specs.Prelude.{◌≡◌, ◌<◌, ◌+◌, ℕ, [], ◌∷◌, true, nat_lt, if◌then◌else◌};
 ghost use Rattle.beeb_bits.specs.Bits.{weight};
 ghost use Rattle.beeb_bits.specs.declared.Side.TheVariants.{Host, Para};
 ghost use Rattle.tube_chip.specs.Register.{count, write_leaves};
 ghost use Rattle.tube_chip.specs.State.{power_on, lines_of, is_empty, is_ready, wants_service, asks_nmi, clear_leaves};
-ghost use Rattle.tube_chip.specs.Act.{MayDo, LeavesLines, status, answer_of, control_leaves, op_leaves, count_of_rises, with_counts, chip_after};
+ghost use Rattle.tube_chip.specs.Act.{MayDo, LeavesLines, is_status, register_number, status, answer_of, control_leaves, op_leaves, count_of_rises, with_counts, chip_after};
 ghost use Rattle.tube_chip.specs.declared.Op.TheVariants.{Read, Write, Reset};
 
 use crate::flags::{Flags, flags_after, flags_byte, no_flags};
@@ -155,12 +155,14 @@ impl Chip {
 
     /// Does an operation of a side, and answers it: the byte of a read, or 00 (Application Note 004, registers and control).
     /// A reset is the host's.
+    #[tactic(auto, using(crate::proofs::Rises::status_leaves))]
     pub fn apply(&mut self, side: Side, op: Op) -> u8
         requires { MayDo side op }
         ensures chip { self.new ≡ chip_after self.old side op }
         ensures answer { result ≡ answer_of self.old side op }
     {
         match op {
+            Op::Read(number) if number % 2 == 0 => self.status_of(side, number),
             Op::Read(_) | Op::Write(..) => self.access(side, op),
             Op::Reset => {
                 self.clear();
@@ -244,10 +246,12 @@ impl Chip {
         }
     }
 
-    fn host_reads(&mut self, number: u8) -> u8
-        requires { number < 8 }
-        ensures chip { self.new ≡ op_leaves self.old Host (Read number) }
-        ensures answer { result ≡ answer_of self.old Host (Read number) }
+    // The status of a register, as the host reads it.
+    #[inline(always)]
+    fn host_status(&self, number: u8) -> u8
+        requires number { number < 8 }
+        requires status { is_status number ≡ true }
+        ensures { result ≡ status Host (register_number number) self.now }
     {
         match number {
             0 => status_byte(
@@ -255,17 +259,75 @@ impl Chip {
                 self.to_para.r1.is_empty(),
                 flags_byte(self.flags),
             ),
-            1 => self.to_host.r1.take(),
             2 => status_byte(!self.to_host.r2.is_empty(), self.to_para.r2.is_empty(), 63),
-            3 => self.to_host.r2.take(),
             4 => status_byte(
                 is_ready(self.flags.v, &self.to_host.r3),
                 has_room(self.flags.v, &self.to_para.r3),
                 63,
             ),
+            _ => status_byte(!self.to_host.r4.is_empty(), self.to_para.r4.is_empty(), 63),
+        }
+    }
+
+    // The same, as the parasite reads it.
+    #[inline(always)]
+    fn para_status(&self, number: u8) -> u8
+        requires number { number < 8 }
+        requires status { is_status number ≡ true }
+        ensures { result ≡ status Para (register_number number) self.now }
+    {
+        match number {
+            0 => status_byte(
+                !self.to_para.r1.is_empty(),
+                self.to_host.r1.count() < 24,
+                flags_byte(self.flags),
+            ),
+            2 => status_byte(!self.to_para.r2.is_empty(), self.to_host.r2.is_empty(), 63),
+            4 => status_byte(
+                self.wants_service(),
+                has_room(self.flags.v, &self.to_host.r3),
+                63,
+            ),
+            _ => status_byte(!self.to_para.r4.is_empty(), self.to_host.r4.is_empty(), 63),
+        }
+    }
+
+    // The status of a register, as a side reads it.
+    #[inline(always)]
+    fn status_of(&self, side: Side, number: u8) -> u8
+        requires number { number < 8 }
+        requires status { is_status number ≡ true }
+        ensures { result ≡ status side (register_number number) self.now }
+    {
+        match side {
+            Side::Host => self.host_status(number),
+            Side::Para => self.para_status(number),
+        }
+    }
+
+    /// What a side reads at the status of registers 1 to 4, which leaves the chip (Application Note 004, status).
+    pub fn status(&self, side: Side) -> [u8; 4]
+        ensures { result ≡ status side 1 self.now ∷ status side 2 self.now ∷ status side 3 self.now ∷ status side 4 self.now ∷ [] }
+    {
+        [
+            self.status_of(side, 0),
+            self.status_of(side, 2),
+            self.status_of(side, 4),
+            self.status_of(side, 6),
+        ]
+    }
+
+    fn host_reads(&mut self, number: u8) -> u8
+        requires { number < 8 }
+        ensures chip { self.new ≡ op_leaves self.old Host (Read number) }
+        ensures answer { result ≡ answer_of self.old Host (Read number) }
+    {
+        match number {
+            1 => self.to_host.r1.take(),
+            3 => self.to_host.r2.take(),
             5 => self.to_host.r3.take(),
-            6 => status_byte(!self.to_host.r4.is_empty(), self.to_para.r4.is_empty(), 63),
-            _ => self.to_host.r4.take(),
+            7 => self.to_host.r4.take(),
+            _ => self.host_status(number),
         }
     }
 
@@ -275,22 +337,11 @@ impl Chip {
         ensures answer { result ≡ answer_of self.old Para (Read number) }
     {
         match number {
-            0 => status_byte(
-                !self.to_para.r1.is_empty(),
-                self.to_host.r1.count() < 24,
-                flags_byte(self.flags),
-            ),
             1 => self.to_para.r1.take(),
-            2 => status_byte(!self.to_para.r2.is_empty(), self.to_host.r2.is_empty(), 63),
             3 => self.to_para.r2.take(),
-            4 => status_byte(
-                self.wants_service(),
-                has_room(self.flags.v, &self.to_host.r3),
-                63,
-            ),
             5 => self.to_para.r3.take(),
-            6 => status_byte(!self.to_para.r4.is_empty(), self.to_host.r4.is_empty(), 63),
-            _ => self.to_para.r4.take(),
+            7 => self.to_para.r4.take(),
+            _ => self.para_status(number),
         }
     }
 

@@ -55,14 +55,6 @@ chip_here trace side t at d c h is = rw (drop_more trace at d h, is) refl
 pub chip_end : (trace : List Entry) (side : Side) (t at : ℕ) (c : State) → length trace ≤ at → chip_before side t c (drop at trace) ≡ c
 chip_end trace side t at c h = rw (drop_of_length-le trace h) refl
 
--- a read of a status register leaves the chip
-
-pub status-leaves : (c : State) (side : Side) (number : ℕ) → is_status number ≡ true → chip_after c side (Read number) ≡ c
-status-leaves c side number is =
-    ap (λ (b : Bool). with_counts c (if b then c else read_by side (register_number number) c)) is
-    ∙ ap (λ (n : ℕ). record c { nmis = n; resets = count_of_rises c.flags.p c.flags.p c.resets }) (no_rise (asks_nmi c) c.nmis)
-    ∙ ap (λ (n : ℕ). record c { resets = n }) (no_rise c.flags.p c.resets)
-
 -- lines that a test finds the same
 
 same-flag : (a b : Bool) → beq a b ≡ true → a ≡ b

@@ -199,7 +199,7 @@ fn first_look(entry: Entry, side: Side, least: u64) -> u64
     if first < least { least } else { first }
 }
 
-//// Whether an operation surely leaves the chip: a read of a status register does.
+/// Whether an operation surely leaves the chip: a read of a status register does.
 #[inline(always)]
 pub(crate) fn is_status(op: Op) -> bool
     ensures may { result ≡ true → (side : Side) → MayDo side op }

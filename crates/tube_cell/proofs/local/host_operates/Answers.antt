@@ -1,7 +1,6 @@
-use Rattle.std.proofs.Common.{◌∙◌, sym, ap}
+use Rattle.std.proofs.Common.{◌∙◌, sym}
 use Rattle.beeb_bits.specs.declared.Side.TheVariants.{Host}
 use Rattle.tube_chip.specs.Act.{access}
-use Rattle.tube_cell.specs.Views.{readings_of}
 use Rattle.tube_cell.proofs.Observed.{observed_stays, trust_stays, early_stays}
 use Rattle.tube_cell.proofs.local.host_operates.Goals as goal
 use Rattle.tube_cell.proofs.local.host_operates.Goals.{then-is_observation-via-then-is_observation, then-is_observation-via-else-is_observation+then-trust-tick}
@@ -17,6 +16,4 @@ returns-then-is_observation-clause-trust c =
     ]
 
 pub returns-clause-trust : goal.returns-clause-trust
-returns-clause-trust c =
-    let new = c.readings_of-after.new.chip in
-    c.trust_left.ensures c.args.chip.now new c.readings_of-before.ensures.readings (c.readings_of-after.ensures.readings ∙ ap readings_of (sym c.readings_of-after.ensures.chip))
+returns-clause-trust c = c.trust_left.ensures c.args.chip.now c.apply-answer-2.new.self c.readings_of-before.ensures c.readings_of-after.ensures

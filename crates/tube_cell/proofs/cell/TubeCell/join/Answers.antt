@@ -1,5 +1,4 @@
 use Rattle.std.proofs.Common.{sym, ap, ◌∙◌, subst}
-use Rattle.crossbeam_utils.specs.Seq.{cell_view}
 use Rattle.tube_chip.specs.Events.{merge, after, IsLegal}
 use Rattle.tube_cell.specs.Views.{one_side}
 use Rattle.tube_cell.proofs.cell.TubeCell.join.Goals as goal

@@ -4,7 +4,7 @@ use Rattle.tube_cell.specs.Views.{shown_to}
 use Rattle.tube_cell.proofs.Acts.{here_of}
 use Rattle.tube_cell.proofs.cell.TubeCell.readings.Goals as goal
 
-pub returns-clause-readings : goal.returns-clause-readings
-returns-clause-readings c =
+pub returns : goal.returns
+returns c =
     let here_is = here_of _ c.pass.inside.side c.pass.inside.words c.pass.inside.local c.args.pass.now (cell_view c.pass.inside.seat) c.pass.view_is c.pass.invariant.0 in
-    c.readings_of.ensures.readings ∙ (λ i. shown_to (c.pass.view_is i).side (here_is i))
+    c.readings_of.ensures ∙ (λ i. shown_to (c.pass.view_is i).side (here_is i))
