@@ -118,6 +118,6 @@ abbrev pub act : State → Side → Query → State × Answer
 act c side (access op) = (chip_after c side op, Byte (answer_of c side op))
 act c side look = (c, Seen (lines_of c))
 
--- The side may do this operation, and the lines are as they were behind it.
+-- The side may do this operation, and the lines and the flags are as they were behind it.
 abbrev pub LeavesLines : State → Side → Op → Type 0
-LeavesLines c side op = MayDo side op × (lines_of (chip_after c side op) ≡ lines_of c)
+LeavesLines c side op = MayDo side op × (lines_of (chip_after c side op) ≡ lines_of c) × ((chip_after c side op).flags ≡ c.flags)

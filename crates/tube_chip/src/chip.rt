@@ -172,17 +172,20 @@ impl Chip {
         }
     }
 
-    /// Whether an operation of the host surely leaves the lines: those that it can move are not enabled.
-    pub fn host_leaves_lines(&self, op: Op) -> bool
-        ensures { result ≡ true → LeavesLines self.now Host op }
+    /// Whether an operation of a side surely leaves the lines, and what enables them: those that it can move are not enabled.
+    pub fn leaves_lines(&self, side: Side, op: Op) -> bool
+        ensures { result ≡ true → LeavesLines self.now side op }
     {
-        match op {
-            Op::Read(number) => self.host_read_leaves_lines(number),
-            Op::Write(number, _) => self.host_write_leaves_lines(number),
-            Op::Reset => false,
+        match (side, op) {
+            (Side::Host, Op::Read(number)) => self.host_read_leaves_lines(number),
+            (Side::Host, Op::Write(number, _)) => self.host_write_leaves_lines(number),
+            (Side::Para, Op::Read(number)) => self.para_read_leaves_lines(number),
+            (Side::Para, Op::Write(number, _)) => self.para_write_leaves_lines(number),
+            (_, Op::Reset) => false,
         }
     }
 
+    #[tactic(auto, using(crate::proofs::Rises::no_rise))]
     fn host_read_leaves_lines(&self, number: u8) -> bool
         ensures { result ≡ true → LeavesLines self.now Host (Read number) }
     {
@@ -206,6 +209,39 @@ impl Chip {
             7 => !self.flags.j,
             _ => false,
         }
+    }
+
+    #[tactic(auto, using(crate::proofs::Rises::no_rise))]
+    fn para_read_leaves_lines(&self, number: u8) -> bool
+        ensures { result ≡ true → LeavesLines self.now Para (Read number) }
+    {
+        match number {
+            0 | 2 | 3 | 4 | 6 => true,
+            1 => !self.flags.i,
+            5 => !self.flags.m,
+            7 => !self.flags.j,
+            _ => false,
+        }
+    }
+
+    #[tactic(auto, using(crate::proofs::Rises::no_rise))]
+    fn para_write_leaves_lines(&self, number: u8) -> bool
+        ensures { result ≡ true → (byte : ℕ) → LeavesLines self.now Para (Write number byte) }
+    {
+        match number {
+            0 | 2 | 4 | 6 => true,
+            1 | 3 => true,
+            5 => !self.flags.m,
+            7 => !self.flags.q,
+            _ => false,
+        }
+    }
+
+    /// Whether the host's interrupt request is enabled: Q (Application Note 004, control).
+    pub fn enables_hirq(&self) -> bool
+        ensures { result ≡ (self.now).flags.q }
+    {
+        self.flags.q
     }
 
     // An operation, with the rises counted.

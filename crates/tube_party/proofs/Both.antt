@@ -1,6 +1,6 @@
 -- The loop over both parties.
 use Rattle.std.proofs.Common.{ℕ, zero, suc, ◌≡◌, ◌+◌, ◌-◌, ◌<◌, ◌≤◌, nat_lt, Bool, true, false, if◌then◌else◌, refl, sym, ◌∙◌, ap, subst, arith, List, [], ◌∷◌, ◌++◌, length}
-use Rattle.std.proofs.Common.{take, Option, None, Some, MatchOption}
+use Rattle.std.proofs.Common.{take, Option, None, Some, MatchOption, ◌⊎◌, inl, inr, ◌≢◌}
 use Rattle.std.specs.Prelude.{All}
 use Rattle.std.proofs.lemmas.Bool.{ltb-true}
 use Rattle.std.proofs.lemmas.List.Elements.{All-nil, All-cons, All-head, All-tail, All-weaker}
@@ -14,7 +14,7 @@ use Rattle.beeb_bits.specs.declared.Side.{Side}
 use Rattle.beeb_bits.specs.declared.Side.TheVariants.{Host, Para}
 use Rattle.tube_party.specs.declared.party.Ask.{Ask}
 use Rattle.tube_party.specs.declared.party.Ask.TheVariants.{Nothing, Access, Look}
-use Rattle.tube_party.specs.Moves.{Moves, IsLawful, IsAsk, Advances, Looks, Sees, Runs, close_leaves, shown_lines, course}
+use Rattle.tube_party.specs.Moves.{Moves, IsLawful, SeesHirqAlone, IsAsk, Advances, Looks, Sees, Runs, close_leaves, shown_lines, course}
 use Rattle.tube_party.specs.Reference.{World, ticks, step_leaves, with_host}
 use Rattle.tube_party.specs.GoingOn.{IsLike, reference_from}
 use Rattle.tube_trace.specs.Entries.{accesses, entry_of}
@@ -26,10 +26,10 @@ use Rattle.tube_party.proofs.Ticks.{world, rest, host_silent, para_next, para_si
 use Rattle.tube_party.proofs.Runs.{event, First, Over, Silent, Asking, first_of_runs}
 use Rattle.tube_party.proofs.Kept.{kept_own, kept_host_by_para, kept_para_by_host}
 use Rattle.tube_party.specs.Logs.{at_most_one}
-use Rattle.tube_party.proofs.Ways.{IsIdle, IsBelow, IsWay, IsOn, IsCourse, course_of, no_way, looks_still, kept_way, kept_beside, cut_back, none_of}
+use Rattle.tube_party.proofs.Ways.{IsIdle, IsBelow, IsWay, way_of_looks, IsOn, IsCourse, course_of, no_way, looks_still, kept_way, kept_beside, cut_back, none_of}
 use Rattle.tube_party.proofs.UnderWay.{IsAt, IsGoing, Mark}
 use Rattle.tube_party.specs.Steps.{due_rises}
-use Rattle.tube_party.proofs.Early.{alike, like_on, early_host, para_does}
+use Rattle.tube_party.proofs.Early.{alike, like_on, IsEarly, early_host, free_look, para_does}
 use Rattle.tube_party.proofs.First.{HostFirst, ParaFirst, host_first, para_first, none_left}
 
 -- a side at work, by its parts
@@ -98,6 +98,11 @@ pub in_time : {S : Type 0} (r : Moves S) (n slack sure : ℕ) (s last : S) (ask 
 in_time r n slack sure s last Nothing is told x low early = omega (arith, is.0, low)
 in_time r n slack sure s last (Access t op) is told x low early = omega (arith, is.0, told, early)
 in_time r n slack sure s last (Look t) is told x low early = omega (arith, is.0, told, early)
+
+-- The host's looks below a tick see the lines as the chip shows them: by what the parasite asks they come in time, or each sees the host's request alone,
+-- and the chip enables none.
+abbrev pub IsSeen : {S : Type 0} → Moves S → State → Ask → ℕ → Type 0
+IsSeen h c ask sure = IsSure 1 ask sure ⊎ (SeesHirqAlone h × (c.flags.q ≡ false))
 
 module _ {S T : Type 0} (h : Moves S) (p : Moves T) (lh : IsLawful h) (lp : IsLawful p) (n few : ℕ) where
   silent_host_by : (side : Side) (k : ℕ) (s m : S) (t : T) (c : State) (l : List Event)
@@ -176,9 +181,12 @@ module _ {S T : Type 0} (h : Moves S) (p : Moves T) (lh : IsLawful h) (lp : IsLa
     host_kept : IsKept Host events keep hl hc
     para_kept : IsKept Para events keep pl pc
 
-  -- the parasite's steps before the host's looks leave the chip
-  host_saw_by : (keep sure k i : ℕ) (u last : S) (t ahead : T) (c : State) (l way : List Event) (hl pl : List Entry) (hc pc : ℕ)
-      → ((x : ℕ) → x < n → x < sure → x < p.due ahead + 1) → Runs p Para n i t (course way ahead) → All (IsIdle c) way → h.due u < n → (o : Option Query)
+  -- where each of its looks below a tick may be done at once
+  abbrev pub IsEarlyLook : ℕ → T → State → Type 0
+  IsEarlyLook sure t c = (u : S) (l : List Event) → h.due u < n → h.due u < sure → h.asks u ≡ Some look → IsEarly h p lh lp n u t c look l
+
+  host_saw_by : (keep sure k : ℕ) (u last : S) (t : T) (c : State) (l : List Event) (hl pl : List Entry) (hc pc : ℕ)
+      → IsEarlyLook sure t c → h.due u < n → (o : Option Query)
       → h.asks u ≡ o
       → ((v : S) (k2 : List Event) → Looks h n (shown_lines (lines_of c) sure) k v last → IsKept Host k2 keep hl hc → IsKept Para k2 keep pl pc
       → HostSaw keep v last t c k2 hl pl hc pc)
@@ -186,7 +194,7 @@ module _ {S T : Type 0} (h : Moves S) (p : Moves T) (lh : IsLawful h) (lp : IsLa
       (λ q. (q ≡ look) × (h.due u < sure) × Looks h n (shown_lines (lines_of c) sure) k (h.next u (Some (Seen (lines_of c)))) last)
       → IsKept Host l keep hl hc → IsKept Para l keep pl pc
       → HostSaw keep u last t c l hl pl hc pc
-  host_saw_by keep sure k i u last t ahead c l way hl pl hc pc first runs idle low None is on looks kh kp =
+  host_saw_by keep sure k u last t c l hl pl hc pc early low None is on looks kh kp =
       let rest : HostSaw keep (h.next u None) last t c l hl pl hc pc = on (h.next u None) l looks kh kp in
       record {
         events = rest.events;
@@ -194,7 +202,7 @@ module _ {S T : Type 0} (h : Moves S) (p : Moves T) (lh : IsLawful h) (lp : IsLa
         host_kept = rest.host_kept;
         para_kept = rest.para_kept;
       }
-  host_saw_by keep sure k i u last t ahead c l way hl pl hc pc first runs idle low (Some q) is on looks kh kp =
+  host_saw_by keep sure k u last t c l hl pl hc pc early low (Some q) is on looks kh kp =
       let a : Answer = Seen (lines_of c) in
       let more : List Event = l ++ event (h.due u) Host look a ∷ [] in
       let asks : h.asks u ≡ Some look = is ∙ ap (λ (x : Query). Some x) looks.0 in
@@ -204,21 +212,20 @@ module _ {S T : Type 0} (h : Moves S) (p : Moves T) (lh : IsLawful h) (lp : IsLa
       on (h.next u (Some a)) more looks.2 kept (kept_para_by_host l keep pl pc (h.due u) look a kp) in
       record {
         events = rest.events;
-        same = like_on _ _ _ (early_host h p lh lp n i u t ahead c look l way low (omega (arith, first (h.due u) low looks.1)) asks runs idle idle) rest.same;
+        same = like_on _ _ _ (early u l low looks.1 asks) rest.same;
         host_kept = rest.host_kept;
         para_kept = rest.para_kept;
       }
 
-  host_saw : (keep sure k i : ℕ) (u last : S) (t ahead : T) (c : State) (l way : List Event) (hl pl : List Entry) (hc pc : ℕ)
-      → ((x : ℕ) → x < n → x < sure → x < p.due ahead + 1) → Runs p Para n i t (course way ahead) → All (IsIdle c) way
-      → Looks h n (shown_lines (lines_of c) sure) k u last
+  host_saw : (keep sure k : ℕ) (u last : S) (t : T) (c : State) (l : List Event) (hl pl : List Entry) (hc pc : ℕ)
+      → IsEarlyLook sure t c → Looks h n (shown_lines (lines_of c) sure) k u last
       → IsKept Host l keep hl hc → IsKept Para l keep pl pc
       → HostSaw keep u last t c l hl pl hc pc
-  host_saw keep sure zero i u last t ahead c l way hl pl hc pc first runs idle looks kh kp =
+  host_saw keep sure zero u last t c l hl pl hc pc early looks kh kp =
       record { events = l; same = alike _ _ (ap (λ (x : S). ticks h p n 0 (world x t c l)) looks); host_kept = kh; para_kept = kp }
-  host_saw keep sure (suc k) i u last t ahead c l way hl pl hc pc first runs idle looks kh kp = host_saw_by keep sure k i u last t ahead c l way hl pl hc pc
-      first runs idle looks.0 (h.asks u) refl
-      (λ v more on a b. host_saw keep sure k i v last t ahead c more way hl pl hc pc first runs idle on a b) looks.1 kh kp
+  host_saw keep sure (suc k) u last t c l hl pl hc pc early looks kh kp = host_saw_by keep sure k u last t c l hl pl hc pc
+      early looks.0 (h.asks u) refl
+      (λ v more on a b. host_saw keep sure k v last t c more hl pl hc pc early on a b) looks.1 kh kp
 
   -- the host's step, which may come before the parasite's steps to `ahead`, and its looks
   host_does : (keep sure i : ℕ) (w0 : World S T) (s s2 s3 : S) (t ahead : T) (c c2 : State) (ask_h ask2 : Ask) (way : List Event) (hl pl hl2 : List Entry)
@@ -226,10 +233,10 @@ module _ {S T : Type 0} (h : Moves S) (p : Moves T) (lh : IsLawful h) (lp : IsLa
       → (w : IsAt h p n few keep w0 s t c ask_h hl pl hc pc) → s ≡ w.host_last → h.due s < n → h.due s ≤ p.due ahead
       → Acts h Host keep (seated s c hl hc) (seated s2 c2 hl2 hc2)
       → Runs p Para n i t (course way ahead) → All (IsIdle c) way → All (IsIdle c2) way
-      → ((x : ℕ) → x < n → x < sure → x < p.due ahead + 1)
+      → IsEarlyLook sure t c2
       → Sees h n (shown_lines (lines_of c2) sure) s2 ask2 s3
       → IsAt h p n few keep w0 s3 t c2 ask2 hl2 pl hc2 pc
-  host_does keep sure i w0 s s2 s3 t ahead c c2 ask_h ask2 way hl pl hl2 hc pc hc2 w here low before d runs idle still first sees =
+  host_does keep sure i w0 s s2 s3 t ahead c c2 ask_h ask2 way hl pl hl2 hc pc hc2 w here low before d runs idle still early sees =
       let a : Answer = (act c Host d.query).1 in
       let done : List Event = w.events ++ event (h.due s) Host d.query a ∷ [] in
       let same_due : h.due s ≡ h.due w.host_last = ap h.due here in
@@ -238,7 +245,7 @@ module _ {S T : Type 0} (h : Moves S) (p : Moves T) (lh : IsLawful h) (lp : IsLa
       let on : h.due s2 ≤ h.due sees.last = due_rises h n (lines_of c2) sure sees.steps s2 sees.last lh sees.looks in
       let one : length (entry_of (h.due s) Host d.query a) ≤ 1 = at_most_one (h.due s) Host d.query a in
       let saw : HostSaw keep s2 sees.last t c2 done hl2 pl hc2 pc =
-      host_saw keep sure sees.steps i s2 sees.last t ahead c2 done way hl2 pl hc2 pc first runs still sees.looks
+      host_saw keep sure sees.steps s2 sees.last t c2 done hl2 pl hc2 pc early sees.looks
       (moved_kept Host done keep _ _ _ _ d.list_is d.count_is (kept_own Host w.events keep hl hc (h.due s) d.query a w.host_kept))
       (kept_para_by_host w.events keep pl pc (h.due s) d.query a w.para_kept) in
       record {
@@ -262,32 +269,39 @@ module _ {S T : Type 0} (h : Moves S) (p : Moves T) (lh : IsLawful h) (lp : IsLa
 
   -- what the parasite saw stays as it is
   still_idle : (keep : ℕ) (w0 : World S T) (from : Mark T) (s : S) (t : T) (c c2 : State) (ask_h ask_p : Ask) (hl pl : List Entry) (hc pc : ℕ)
-      (ahead is_read : Bool)
+      (ahead is_whole : Bool)
       → (w : IsGoing h p n few keep w0 ahead from s t c ask_h ask_p hl pl hc pc)
-      → (is_read ≡ false → ahead ≡ true → pc ≡ from.count) → (ahead ≡ true → StaysSeen is_read c c2) → All (IsIdle c2) w.way.events
-  still_idle keep w0 from s t c c2 ask_h ask_p hl pl hc pc ahead is_read w none stays = by ahead is_read refl refl
+      → (is_whole ≡ false → ahead ≡ true → pc ≡ from.count) → (ahead ≡ true → StaysSeen is_whole c c2) → All (IsIdle c2) w.way.events
+  still_idle keep w0 from s t c c2 ask_h ask_p hl pl hc pc ahead is_whole w none stays = by ahead is_whole refl refl
     where
-      by : (a r : Bool) → ahead ≡ a → is_read ≡ r → All (IsIdle c2) w.way.events
+      by : (a r : Bool) → ahead ≡ a → is_whole ≡ r → All (IsIdle c2) w.way.events
       by false r ea er = subst (All (IsIdle c2)) (sym (w.here ea)) (All-nil (IsIdle c2))
-      by true true ea er = subst (λ (x : State). All (IsIdle x) w.way.events) (sym ((stays ea).1 er)) w.way.idle
+      by true true ea er = subst (λ (x : State). All (IsIdle x) w.way.events) (sym ((stays ea).2 er)) w.way.idle
       by true false ea er =
           let few : length w.entries ≡ 0 = omega (arith, w.count_is, (w.back ea).2, none er ea) in
           looks_still c c2 w.way.events w.way.idle (w.way.noted ∙ none_of w.entries few) (stays ea).0
 
+  -- so its looks may be done at once where they come in time, or see its own request alone
+  early_look : (sure i : ℕ) (t last new : T) (c : State) (ask_p : Ask) (way : List Event) → Runs p Para n i t (course way last) → All (IsIdle c) way
+      → IsAsk p n last ask_p new → IsSeen h c ask_p sure → IsEarlyLook sure t c
+  early_look sure i t last new c ask_p way runs idle asked (inl told) = λ u l low early asks.
+      early_host h p lh lp n i u t last c look l way low (omega (arith, in_time p n 1 sure new last ask_p asked told (h.due u) low early)) asks runs idle idle
+  early_look sure i t last new c ask_p way runs idle asked (inr free) = λ u l low early asks. free_look h p lh lp n u t c l free.0 free.1 low asks
+
   -- the host's turn
   pub host_goes : (keep sure : ℕ) (w0 : World S T) (from : Mark T) (s s2 s3 : S) (t : T) (c c2 : State) (ask_h ask_p ask2 : Ask) (hl pl hl2 : List Entry)
-      (hc pc hc2 : ℕ) (ahead is_read : Bool)
+      (hc pc hc2 : ℕ) (ahead is_whole : Bool)
       → IsGoing h p n few keep w0 ahead from s t c ask_h ask_p hl pl hc pc
       → first_of ask_h ask_p ≡ Some Host
       → Acts h Host keep (seated s c hl hc) (seated s2 c2 hl2 hc2)
-      → (is_read ≡ false → ahead ≡ true → pc ≡ from.count) → (ahead ≡ true → StaysSeen is_read c c2)
-      → IsSure 1 ask_p sure
+      → (is_whole ≡ false → ahead ≡ true → pc ≡ from.count) → (ahead ≡ true → StaysSeen is_whole c c2)
+      → IsSeen h c2 ask_p sure
       → Sees h n (shown_lines (lines_of c2) sure) s2 ask2 s3
       → IsGoing h p n few keep w0 ahead from s3 t c2 ask2 ask_p hl2 pl hc2 pc
-  host_goes keep sure w0 from s s2 s3 t c c2 ask_h ask_p ask2 hl pl hl2 hc pc hc2 ahead is_read w e d none stays told sees =
+  host_goes keep sure w0 from s s2 s3 t c c2 ask_h ask_p ask2 hl pl hl2 hc pc hc2 ahead is_whole w e d none stays seen sees =
       let f : HostFirst h p n s w.at.host_last w.last ask_h = host_first h p n s w.at.host_last t w.last ask_h ask_p w.at.host_asked w.asked e in
       let same_due : h.due s ≡ h.due w.at.host_last = ap h.due f.here in
-      let still : All (IsIdle c2) w.way.events = still_idle keep w0 from s t c c2 ask_h ask_p hl pl hc pc ahead is_read w none stays in
+      let still : All (IsIdle c2) w.way.events = still_idle keep w0 from s t c c2 ask_h ask_p hl pl hc pc ahead is_whole w none stays in
       record {
         mark = w.mark;
         last = w.last;
@@ -297,7 +311,7 @@ module _ {S T : Type 0} (h : Moves S) (p : Moves T) (lh : IsLawful h) (lp : IsLa
         far = w.far;
         at = host_does keep sure w.way.steps w0 s s2 s3 w.mark w.last c c2 ask_h ask2 w.way.events hl w.list hl2 hc w.count hc2 w.at f.here
             (omega (arith, f.below)) (omega (arith, f.first)) d
-            w.way.runs w.way.idle still (in_time p n 1 sure t w.last ask_p w.asked told) sees;
+            w.way.runs w.way.idle still (early_look sure w.way.steps w.mark w.last t c2 ask_p w.way.events w.way.runs still w.asked seen) sees;
         way = record { steps = w.way.steps; events = w.way.events; runs = w.way.runs; idle = still; early = w.way.early; noted = w.way.noted };
         asked = w.asked;
         list_is = w.list_is;
@@ -359,6 +373,18 @@ module _ {S T : Type 0} (h : Moves S) (p : Moves T) (lh : IsLawful h) (lp : IsLa
         host_few = w.host_few;
         para_few = omega (arith, w.para_few, course.few, count_is, as_many);
       }
+
+  -- so are the parasite's looks that are sure by what the host asks
+  pub goes_along : (keep sure k : ℕ) (w0 : World S T) (s : S) (t last : T) (c : State) (ask_h : Ask) (hl pl : List Entry) (hc pc : ℕ)
+      → IsAt h p n few keep w0 s t c ask_h hl pl hc pc → IsSure 0 ask_h sure → Looks p n (shown_lines (lines_of c) sure) k t last
+      → IsAt h p n few keep w0 s last c ask_h hl pl hc pc
+  goes_along keep sure k w0 s t last c ask_h hl pl hc pc w told looks =
+      let way : IsWay p n sure c t last [] = way_of_looks p n sure c k t last looks in
+      catch_up keep sure w0 s t last c ask_h hl pl pl [] hc pc pc w way
+      (All-both (IsBelow n) (IsBelow sure) (IsBelow (h.due w.host_last))
+      (λ e low early. omega (arith, in_time h n 0 sure s w.host_last ask_h w.host_asked told e.tick low early)) way.events
+      (All-weaker (IsOn p lp n (p.due last)) (IsBelow n) (λ e on. on.1) way.events (course_of p lp n way.steps t last way.events way.runs).each) way.early)
+      refl (omega arith)
 
   -- the host's next step does not come before what the parasite asks
   not_first : (s hl : S) (t last : T) (ask_h ask_p : Ask) → IsAsk h n hl ask_h s → IsAsk p n last ask_p t → (first_of ask_h ask_p ≡ Some Host → ⊥) → (x : ℕ)
@@ -435,6 +461,12 @@ module _ {S T : Type 0} (h : Moves S) (p : Moves T) (lh : IsLawful h) (lp : IsLa
       (subst (λ (x : List Entry). IsAt h p n few keep w0 s w.mark c ask_h hl x hc pc2) same
       (subst (λ (x : ℕ). IsAt h p n few keep w0 s w.mark c ask_h hl w.list hc x) (back.2 ∙ sym count) w.at))
 
+  -- what asks is where it asks
+  pub stood : (last new : T) (ask : Ask) → IsAsk p n last ask new → ask ≢ Nothing → new ≡ last
+  stood last new Nothing asked some = absurd (some refl)
+  stood last new (Access u op) asked some = asked.3
+  stood last new (Look u) asked some = asked.3
+
   -- ---- What is left gets less
 
   pub host_smaller : (keep sure : ℕ) (w0 : World S T) (from : Mark T) (s s2 s3 : S) (t : T) (c c2 : State) (ask_h ask_p ask2 : Ask) (hl pl hl2 : List Entry)
@@ -452,17 +484,17 @@ module _ {S T : Type 0} (h : Moves S) (p : Moves T) (lh : IsLawful h) (lp : IsLa
       let on : h.due s2 ≤ h.due sees.last = due_rises h n (lines_of c2) sure sees.steps s2 sees.last lh sees.looks in
       omega (arith, tick_of_pending h n s ask_h f.pending, left_of_ask h n sees.last s3 ask2 (h.due s) sees.asked low (omega arith))
 
-  pub para_smaller : (keep far : ℕ) (w0 : World S T) (from from2 : Mark T) (s : S) (t t2 last2 t3 : T) (c c2 : State) (ask_h ask_p ask2 : Ask)
-      (hl pl pl2 entries : List Entry) (hc pc pc2 : ℕ)
-      (ahead ahead2 : Bool)
+  pub para_smaller : (keep : ℕ) (w0 : World S T) (from : Mark T) (s : S) (t t2 mark2 : T) (c c2 : State) (ask_h ask_p ask2 : Ask)
+      (hl pl pl2 : List Entry) (hc pc pc2 : ℕ) (ahead ahead2 : Bool)
       → IsGoing h p n few keep w0 ahead from s t c ask_h ask_p hl pl hc pc
       → first_of ask_h ask_p ≡ Some Para
       → Acts p Para keep (seated t c pl pc) (seated t2 c2 pl2 pc2)
-      → IsWay p n far c2 t2 last2 entries → IsAsk p n last2 ask2 t3 → (ahead2 ≡ true → from2.state ≡ t2)
-      → rest_of p n ahead2 from2.state ask2 < rest_of p n ahead from.state ask_p
-  para_smaller keep far w0 from from2 s t t2 last2 t3 c c2 ask_h ask_p ask2 hl pl pl2 entries hc pc pc2 ahead ahead2 w e d way asked is =
+      → (ahead2 ≡ true → p.due t2 ≤ p.due mark2)
+      → (ahead2 ≡ false → (last : T) × (new : T) × (p.due t2 ≤ p.due last) × IsAsk p n last ask2 new)
+      → rest_of p n ahead2 mark2 ask2 < rest_of p n ahead from.state ask_p
+  para_smaller keep w0 from s t t2 mark2 c c2 ask_h ask_p ask2 hl pl pl2 hc pc pc2 ahead ahead2 w e d far near =
       let before : (n - p.due t) + (n - p.due t) ≤ rest_of p n ahead from.state ask_p = old ahead refl in
-      let after : rest_of p n ahead2 from2.state ask2 < (n - p.due t) + (n - p.due t) = new ahead2 refl in
+      let after : rest_of p n ahead2 mark2 ask2 < (n - p.due t) + (n - p.due t) = new ahead2 refl in
       omega arith
     where
       first : ParaFirst h p n t w.last w.at.host_last ask_p
@@ -484,11 +516,11 @@ module _ {S T : Type 0} (h : Moves S) (p : Moves T) (lh : IsLawful h) (lp : IsLa
           let there : p.due w.mark ≡ p.due from.state = ap p.due (w.back eb).0 in
           omega (arith, (course_of p lp n w.way.steps w.mark w.last w.way.events w.way.runs).few)
 
-      new : (b : Bool) → ahead2 ≡ b → rest_of p n b from2.state ask2 < (n - p.due t) + (n - p.due t)
-      new true eb = let at : p.due from2.state ≡ p.due t2 = ap p.due (is eb) in omega (arith, up, low)
+      new : (b : Bool) → ahead2 ≡ b → rest_of p n b mark2 ask2 < (n - p.due t) + (n - p.due t)
+      new true eb = omega (arith, up, low, far eb)
       new false eb =
-          let rise : p.due t2 ≤ p.due last2 = omega (arith, (course_of p lp n way.steps t2 last2 way.events way.runs).few) in
-          omega (arith, left_of_ask p n last2 t3 ask2 (p.due t) asked low (omega (arith, up)))
+          let at = near eb in
+          omega (arith, left_of_ask p n at.0 at.1 ask2 (p.due t) at.3 low (omega (arith, up, at.2)))
 
   -- a party that is rolled back is ahead no more
   pub back_smaller : (far : ℕ) (mark last t : T) (c : State) (ask ask2 : Ask) (entries : List Entry) (ahead : Bool) → ahead ≡ true

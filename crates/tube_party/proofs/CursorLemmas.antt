@@ -1,8 +1,8 @@
 -- The entries of a side, and the chip, one entry at a time.
 use Rattle.std.proofs.Common.{◌≡◌, refl, subst, ℕ, ◌+◌, ◌<◌, ◌≤◌, List, [], ◌∷◌, length, drop, get_or, Bool, true, false, ◌&&◌, nat_lt, Option, Some, None, MatchOption}
 use mathlib.Core.Bool.{beq}
-use Rattle.std.specs.Prelude.{slice_get, if◌then◌else◌}
-use Rattle.std.proofs.Common.{eqb, sym, ap, ◌∙◌}
+use Rattle.std.specs.Prelude.{slice_get}
+use Rattle.std.proofs.Common.{eqb, sym}
 use Rattle.std.proofs.lemmas.Bool.{eqb-true}
 use Rattle.tube_chip.specs.declared.Lines.{Lines}
 use Rattle.std.proofs.lemmas.List.{drop_more}
@@ -16,9 +16,7 @@ use Rattle.tube_chip.specs.declared.Op.{Op}
 use Rattle.tube_chip.specs.declared.Op.TheVariants.{Read}
 use Rattle.beeb_bits.specs.Order.{before}
 use Rattle.tube_chip.specs.State.{State}
-use Rattle.tube_chip.specs.Act.{is_status, register_number, read_by, count_of_rises, with_counts, chip_after}
-use Rattle.tube_chip.specs.State.{asks_nmi}
-use Rattle.tube_chip.proofs.Rises.{no_rise}
+use Rattle.tube_chip.specs.Act.{chip_after}
 use Rattle.tube_party.specs.Replay.{chip_before, is_that, next_line}
 use Rattle.tube_party.specs.CodeCursor.{own_left, IsOwnAt, Takes, Misses}
 

@@ -1,22 +1,24 @@
 -- A step of the host may come early, before steps of the parasite that see the chip behind it as they see it before it: the reference goes on alike,
--- but for the order of the host's and the parasite's events in its list.
+-- but for the order of the host's and the parasite's events in its list. So may a look of a host that sees its own request alone, while none is enabled.
 use Rattle.std.proofs.Common.{ℕ, zero, suc, ◌≡◌, ◌+◌, ◌<◌, ◌≤◌, nat_eq, inl, inr, refl, sym, ◌∙◌, ap, subst, arith, Bool, true, false, List, [], ◌∷◌, ◌++◌, append_assoc, Option, None, Some}
-use Rattle.std.specs.Prelude.{All}
+use Rattle.std.specs.Prelude.{All, ◌&&◌, not, if◌then◌else◌}
 use Rattle.std.proofs.lemmas.List.{append-nil}
 use Rattle.std.proofs.lemmas.List.Elements.{All-head, All-tail}
 use Rattle.std.proofs.lemmas.Bool.{cases_lt}
-use Rattle.tube_chip.specs.State.{State}
-use Rattle.tube_chip.specs.Act.{Query, act}
+use Rattle.tube_chip.specs.State.{State, is_empty, lines_of}
+use Rattle.tube_chip.specs.declared.Op.TheVariants.{Read, Write, Reset}
+use Rattle.tube_chip.specs.declared.Answer.TheVariants.{Seen}
+use Rattle.tube_chip.specs.Act.{Query, access, look, act, is_status, register_number, read_by, written_by, with_counts}
 use Rattle.tube_chip.specs.Events.{Event, of_side}
 use Rattle.tube_chip.specs.declared.Answer.{Answer}
 use Rattle.beeb_bits.specs.declared.Side.{Side}
 use Rattle.beeb_bits.specs.declared.Side.TheVariants.{Host, Para}
 use Rattle.tube_trace.specs.declared.Entry.{Entry}
 use Rattle.tube_trace.specs.Entries.{accesses}
-use Rattle.tube_party.specs.Moves.{Moves, IsLawful, Runs, course}
+use Rattle.tube_party.specs.Moves.{Moves, IsLawful, SeesHirqAlone, Runs, course}
 use Rattle.tube_party.specs.GoingOn.{IsLike}
 use Rattle.tube_party.specs.Reference.{Seat, World, step_leaves, step_if_due, with_host, para_part, tick, ticks}
-use Rattle.tube_party.proofs.Ticks.{seat, world, host_done, host_next, para_next, para_silent}
+use Rattle.tube_party.proofs.Ticks.{seat, world, host_done, still, same_or_above, host_here, host_next, para_next, para_silent}
 use Rattle.tube_party.proofs.Runs.{event, First, Over, Silent, Asking, first_of_runs}
 use Rattle.tube_party.proofs.Kept.{grows}
 use Rattle.tube_party.proofs.Ways.{IsIdle, IsBelow}
@@ -54,6 +56,29 @@ swapped l t u q r a b Para =
     grows Para (l ++ p) h ∙ append-nil (accesses (of_side Para (l ++ p))) ∙ grows Para l p
     ∙ sym (grows Para (l ++ h) p ∙ ap (λ (x : List Entry). x ++ accesses (of_side Para p)) (grows Para l h ∙ append-nil (accesses (of_side Para l))))
 
+-- a look is no access
+no_access : (l : List Event) (t : ℕ) (a : Answer) → SameAccesses (l ++ event t Host look a ∷ []) l
+no_access l t a Host = grows Host l (event t Host look a ∷ []) ∙ append-nil (accesses (of_side Host l))
+no_access l t a Para = grows Para l (event t Host look a ∷ []) ∙ append-nil (accesses (of_side Para l))
+
+-- so that it may stand before others
+look_moved : (l more : List Event) (t : ℕ) (a b : Answer) → SameAccesses ((l ++ more) ++ event t Host look a ∷ []) ((l ++ event t Host look b ∷ []) ++ more)
+look_moved l more t a b side =
+    no_access (l ++ more) t a side ∙ grows side l more
+    ∙ sym (grows side (l ++ event t Host look b ∷ []) more ∙ ap (λ (x : List Entry). x ++ accesses (of_side side more)) (no_access l t b side))
+
+-- a chip that enables no request of the host makes none, and nothing that the parasite does enables one
+none_asked : (c : State) → c.flags.q ≡ false → (lines_of c).hirq ≡ false
+none_asked c off = ap (λ (b : Bool). b && not (is_empty c.to_host.r4)) off
+
+para_leaves_off : (c : State) (q : Query) → c.flags.q ≡ false → (act c Para q).0.flags.q ≡ false
+para_leaves_off c look off = off
+para_leaves_off c (access (Read number)) off =
+    elim (is_status number) as (λ b. (with_counts c (if b then c else read_by Para (register_number number) c)).flags.q ≡ false) [ true ↦ off | false ↦ off ]
+para_leaves_off c (access (Write number byte)) off =
+    elim (is_status number) as (λ b. (with_counts c (if b then c else written_by Para (register_number number) byte c)).flags.q ≡ false) [ true ↦ off | false ↦ off ]
+para_leaves_off c (access Reset) off = refl
+
 -- what a step of a side does, whatever the list so far
 record Form {S : Type 0} (m : Moves S) (side : Side) (k : ℕ) (s : S) (c : State) : Type 0 where
   state : S
@@ -61,7 +86,7 @@ record Form {S : Type 0} (m : Moves S) (side : Side) (k : ℕ) (s : S) (c : Stat
   more : List Event
   is : (l : List Event) → step_if_due m side k (seat s c l) ≡ seat state chip (l ++ more)
 
-form_of_step : {S : Type 0} (m : Moves S) (side : Side) (k : ℕ) (s : S) (c : State) (due : Bool) (o : Option Query) → nat_eq (m.due s) k ≡ due → m.asks s ≡ o
+abbrev form_of_step : {S : Type 0} (m : Moves S) (side : Side) (k : ℕ) (s : S) (c : State) (due : Bool) (o : Option Query) → nat_eq (m.due s) k ≡ due → m.asks s ≡ o
     → Form m side k s c
 form_of_step m side k s c false o d q = record { state = s; chip = c; more = []; is = λ l. rw d (ap (seat s c) (sym (append-nil l))) }
 form_of_step m side k s c true None d q = record
@@ -107,6 +132,44 @@ module _ {S T : Type 0} (h : Moves S) (p : Moves T) (lh : IsLawful h) (lp : IsLa
       like_on _ _ _ (alike _ _ (ap (λ (w : World S T). ticks h p j (k + 1) w) (x.is l)))
       (like_on _ _ _ on (alike _ _ (sym (ap (λ (w : World S T). ticks h p j (k + 1) w) (x.is m)))))
 
+  -- what the parasite's part of a tick leaves enables no request either
+  still_off : (k : ℕ) (t : T) (c : State) (due : Bool) (o : Option Query) (d : nat_eq (p.due t) k ≡ due) (q : p.asks t ≡ o) → c.flags.q ≡ false
+      → (form_of_step p Para k t c due o d q).chip.flags.q ≡ false
+  still_off k t c false o d q off = off
+  still_off k t c true None d q off = off
+  still_off k t c true (Some x) d q off = para_leaves_off c x off
+
+  look_at : (j k : ℕ) (s : S) (t : T) (c : State) (l : List Event) → SeesHirqAlone h → c.flags.q ≡ false → k ≤ h.due s → h.due s < k + j → h.asks s ≡ Some look
+      → IsLike (ticks h p j k (world s t c l))
+      (ticks h p j k (world (h.next s (Some (Seen (lines_of c)))) t c (l ++ event (h.due s) Host look (Seen (lines_of c)) ∷ [])))
+  look_at zero k s t c l sees off lo hi asks = absurd (omega arith)
+  look_at (suc j) k s t c l sees off lo hi asks =
+      elim (same_or_above (h.due s) k lo) [
+        | inl e ↦
+            alike _ _ (host_here h p lh lp j k s t c l e
+            ∙ ap (λ (o : Option Query). ticks h p (suc j) k (host_done (step_leaves h Host (seat s c l) o) t)) asks)
+        | inr up ↦
+            let a : Answer = Seen (lines_of c) in
+            let onto : S = h.next s (Some a) in
+            let rise : h.due s < h.due onto = lh.rises s (Some a) in
+            let f : Form p Para k t c = form_of_step p Para k t c (nat_eq (p.due t) k) (p.asks t) refl refl in
+            let b : Answer = Seen (lines_of f.chip) in
+            let off_on : f.chip.flags.q ≡ false = still_off k t c (nat_eq (p.due t) k) (p.asks t) refl refl off in
+            let not_due : (h.due s ≡ k → ⊥) × (h.due onto ≡ k → ⊥) = (λ e. omega arith, λ e. omega arith) in
+            let on : (z : S) (m : List Event) → (h.due z ≡ k → ⊥)
+            → ticks h p (suc j) k (world z t c m) ≡ ticks h p j (k + 1) (world z f.state f.chip (m ++ f.more)) = λ z m ne.
+            ap (λ (x : Seat S). ticks h p j (k + 1) (para_part p k x t)) (still h Host k (seat z c m) ne)
+            ∙ ap (λ (y : Seat T). ticks h p j (k + 1) (with_host z y)) (f.is m) in
+            let same : h.next s (Some b) ≡ onto = sees s (lines_of f.chip) (lines_of c) (none_asked f.chip off_on ∙ sym (none_asked c off)) in
+            like_on _ _ _ (alike _ _ (on s l not_due.0))
+            (like_on _ _ _ (look_at j (k + 1) s f.state f.chip (l ++ f.more) sees off_on (omega arith) (omega arith) asks)
+            (like_on _ _ _
+            (alike _ _ (ap (λ (z : S). ticks h p j (k + 1) (world z f.state f.chip ((l ++ f.more) ++ event (h.due s) Host look b ∷ []))) same))
+            (like_on _ _ _ (like_ticks j (k + 1) onto f.state f.chip ((l ++ f.more) ++ event (h.due s) Host look b ∷ [])
+            ((l ++ event (h.due s) Host look a ∷ []) ++ f.more) (look_moved l f.more (h.due s) b a))
+            (alike _ _ (sym (on onto (l ++ event (h.due s) Host look a ∷ []) not_due.1))))))
+      ]
+
   module _ (n : ℕ) where
     -- the parasite's step, which the chip answers and is left by
     para_idle : (s : S) (t : T) (c : State) (l : List Event) (q : Query) (a : Answer) → p.due t < n → p.due t < h.due s → p.asks t ≡ Some q
@@ -149,13 +212,13 @@ module _ {S T : Type 0} (h : Moves S) (p : Moves T) (lh : IsLawful h) (lp : IsLa
         para_by i s t last c l events (λ u m others. para_does i s u last c m others) (first_of_runs p Para n (suc i) t events last runs) idle early
 
     -- The host's step, done at once.
-    abbrev IsEarly : S → T → State → Query → List Event → Type 0
+    abbrev pub IsEarly : S → T → State → Query → List Event → Type 0
     IsEarly s t c q l =
         IsLike (ticks h p n 0 (world s t c l)) (ticks h p n 0
         (world (h.next s (Some (act c Host q).1)) t (act c Host q).0 (l ++ event (h.due s) Host q (act c Host q).1 ∷ [])))
 
-    host_here : (s : S) (t : T) (c : State) (q : Query) (l : List Event) → h.due s < n → h.due s ≤ p.due t → h.asks s ≡ Some q → IsEarly s t c q l
-    host_here s t c q l low first asks =
+    host_first : (s : S) (t : T) (c : State) (q : Query) (l : List Event) → h.due s < n → h.due s ≤ p.due t → h.asks s ≡ Some q → IsEarly s t c q l
+    host_first s t c q l low first asks =
         alike _ _ (host_next h p lh lp n 0 s t c l (omega arith) (omega arith) first
         ∙ ap (λ (o : Option Query). ticks h p n 0 (host_done (step_leaves h Host (seat s c l) o) t)) asks)
 
@@ -164,7 +227,7 @@ module _ {S T : Type 0} (h : Moves S) (p : Moves T) (lh : IsLawful h) (lp : IsLa
         → IsEarly s u c q m)
         → First p Para n (suc i) t events last → All (IsIdle c) events → All (IsIdle (act c Host q).0) events → IsEarly s t c q l
     early_by i s t last c q l events low first asks on (Over ee es) idle still =
-        host_here s t c q l low (subst (λ (x : T). h.due s ≤ p.due x) (sym es) first) asks
+        host_first s t c q l low (subst (λ (x : T). h.due s ≤ p.due x) (sym es) first) asks
     early_by i s t last c q l events low first asks on (Silent i' ei lt none runs) idle still =
         let d : State = (act c Host q).0 in
         let done : List Event = l ++ event (h.due s) Host q (act c Host q).1 ∷ [] in
@@ -182,7 +245,7 @@ module _ {S T : Type 0} (h : Moves S) (p : Moves T) (lh : IsLawful h) (lp : IsLa
         let all : All (IsIdle c) (e ∷ others) = subst (All (IsIdle c)) ee idle in
         let stays : All (IsIdle d) (e ∷ others) = subst (All (IsIdle d)) ee still in
         elim (cases_lt (p.due t) (h.due s)) [
-          | inr late ↦ host_here s t c q l low late asks
+          | inr late ↦ host_first s t c q l low late asks
           | inl before ↦
               like_on _ _ _ (alike _ _ (para_idle s t c l r a lt before is (All-head (IsIdle c) e others all)))
               (like_on _ _ _ (on (p.next t (Some a)) (l ++ e ∷ []) others
@@ -196,8 +259,13 @@ module _ {S T : Type 0} (h : Moves S) (p : Moves T) (lh : IsLawful h) (lp : IsLa
     -- where all of the parasite's steps before it see the chip behind it as they see it before it
     pub early_host : (k : ℕ) (s : S) (t last : T) (c : State) (q : Query) (l events : List Event) → h.due s < n → h.due s ≤ p.due last → h.asks s ≡ Some q
         → Runs p Para n k t (course events last) → All (IsIdle c) events → All (IsIdle (act c Host q).0) events → IsEarly s t c q l
-    early_host zero s t last c q l events low first asks runs idle still = host_here s t c q l low (subst (λ (x : T). h.due s ≤ p.due x) (sym runs.1) first)
+    early_host zero s t last c q l events low first asks runs idle still = host_first s t c q l low (subst (λ (x : T). h.due s ≤ p.due x) (sym runs.1) first)
         asks
     early_host (suc i) s t last c q l events low first asks runs idle still =
         early_by i s t last c q l events low first asks (λ u m others on. early_host i s u last c q m others low first asks on)
         (first_of_runs p Para n (suc i) t events last runs) idle still
+
+    -- the look of a host that sees its own request alone, while none is enabled
+    pub free_look : (s : S) (t : T) (c : State) (l : List Event) → SeesHirqAlone h → c.flags.q ≡ false → h.due s < n → h.asks s ≡ Some look
+        → IsEarly s t c look l
+    free_look s t c l sees off low asks = look_at n 0 s t c l sees off (omega arith) (omega arith) asks

@@ -13,31 +13,26 @@ use Rattle.tube_party.specs.declared.party.Ask.TheVariants.{Nothing, Access, Loo
 use Rattle.tube_party.specs.CodeAtWork.{own_of}
 use Rattle.tube_party.specs.Logs.{HasNoted}
 
--- The chip, what is kept of both sides' accesses, whose turn it is, the tick below which accesses are answered, and whether the parasite has
--- read the chip ahead of the host.
+-- The chip, what is kept of both sides' accesses, whose turn it is, the tick below which accesses are answered, and whether the chip has to stay as
+-- it is.
 pub record Attended : Type 0 where
   pub chip : State
   pub host : Log
   pub para : Log
   pub turn : Side
   pub sure : ℕ
-  pub is_read : Bool
+  pub is_whole : Bool
 
 abbrev pub attended : Table → Attended
-attended t = record { chip = t.chip; host = t.host_log; para = t.para_log; turn = t.turn; sure = (t.sure).0; is_read = t.is_read }
+attended t = record { chip = t.chip; host = t.host_log; para = t.para_log; turn = t.turn; sure = (t.sure).0; is_whole = t.is_whole }
 
--- The lines stay as they are, and where the chip was read, the chip does.
+-- The lines and the flags stay as they are, and where the chip has to, the chip does.
 abbrev pub StaysSeen : Bool → State → State → Type 0
-StaysSeen is_read c d = (lines_of d ≡ lines_of c) × (is_read ≡ true → d ≡ c)
-
--- what the parasite passes leaves the chip
-abbrev pub leaves_chip : Side → Bool → Bool
-leaves_chip Host is_read = is_read
-leaves_chip Para is_read = true
+StaysSeen is_whole c d = (lines_of d ≡ lines_of c) × (d.flags ≡ c.flags) × (is_whole ≡ true → d ≡ c)
 
 -- An access of a side may be answered in passing.
 abbrev pub MayPass : State → Side → Bool → Op → Type 0
-MayPass c side is_read op = MayDo side op × StaysSeen (leaves_chip side is_read) c (chip_after c side op)
+MayPass c side is_whole op = MayDo side op × StaysSeen is_whole c (chip_after c side op)
 
 -- the chip behind what the host asks
 abbrev pub chip_behind : State → Ask → State
@@ -54,9 +49,9 @@ pub record IsPassed (old : Attended) (tick : ℕ) (op : Op) (byte : ℕ) (new : 
   pub early : tick < old.sure
   pub byte_is : byte ≡ answer_of old.chip old.turn op
   pub chip_is : new.chip ≡ chip_after old.chip old.turn op
-  pub stays : StaysSeen (leaves_chip old.turn old.is_read) old.chip (chip_after old.chip old.turn op)
+  pub stays : StaysSeen old.is_whole old.chip (chip_after old.chip old.turn op)
   pub host_noted : HasNoted (own_of Host (passed_entry old.turn tick op byte)) old.host new.host
   pub para_noted : HasNoted (own_of Para (passed_entry old.turn tick op byte)) old.para new.para
   pub turn_is : new.turn ≡ old.turn
   pub sure_is : new.sure ≡ old.sure
-  pub is_read_is : new.is_read ≡ old.is_read
+  pub is_whole_is : new.is_whole ≡ old.is_whole

@@ -1,10 +1,11 @@
--- How a party goes on that may go ahead of what is sure, and how it is rolled back.
-use Rattle.std.specs.Prelude.{ℕ, ◌≡◌, Bool, true, false, take}
+-- How a party goes ahead of what is sure, and how it is rolled back.
+use Rattle.std.specs.Prelude.{ℕ, ◌≡◌, ◌≢◌, Bool, true, false, take}
 use Rattle.beeb_bits.specs.declared.Side.TheVariants.{Para}
 use Rattle.tube_chip.specs.declared.Lines.{Lines}
 use Rattle.tube_party.specs.declared.log.Log.{Log}
 use Rattle.tube_party.specs.declared.log.LogMark.{LogMark}
 use Rattle.tube_party.specs.declared.party.Ask.{Ask}
+use Rattle.tube_party.specs.declared.party.Ask.TheVariants.{Nothing}
 use Rattle.tube_party.specs.Moves.{Moves, GoesHearing, shown_lines}
 use Rattle.tube_party.specs.CodePassing.{Attended, IsPassed}
 
@@ -18,17 +19,15 @@ pub record Standing (S : Type 0) : Type 0 where
 abbrev pub standing_of : {S : Type 0} → Bool → Ask → S → S → Standing S
 standing_of ahead ask mark s = record { ahead = ahead; ask = ask; mark = mark; state = s }
 
--- the parasite's turn, with this log, up to a tick
+-- the parasite's turn, with this log, up to a tick, at the chip as it stays
 abbrev pub para_turn : Attended → Log → ℕ → Attended
-para_turn d log sure = record { chip = d.chip; host = d.host; para = log; turn = Para; sure = sure; is_read = d.is_read }
+para_turn d log sure = record { chip = d.chip; host = d.host; para = log; turn = Para; sure = sure; is_whole = true }
 
--- The parasite's steps after one that asked are done, with what the chip shows it, as far as that is sure or further: where the
--- party went further it can be rolled back to where it was.
-pub record IsGone {S : Type 0} (m : Moves S) (n : ℕ) (lines : Lines) (sure : ℕ) (s : S) (d : Attended) (new : Standing S) (e : Attended) : Type 0 where
+-- It went ahead from where it asks, with what the chip shows it up to a tick, and can be rolled back to there; or it stayed.
+pub record IsGone {S : Type 0} (m : Moves S) (n : ℕ) (lines : Lines) (s : S) (d : Attended) (ask : Ask) (new : Standing S) (e : Attended) : Type 0 where
   pub far : ℕ
-  pub goes : GoesHearing m IsPassed n (shown_lines lines far) s (para_turn d d.para far) new.ask new.state e
-  pub mark : new.ahead ≡ true → new.mark ≡ s
-  pub within : new.ahead ≡ false → far ≡ sure
+  pub goes : new.ahead ≡ true → (ask ≢ Nothing) × (new.mark ≡ s) × GoesHearing m IsPassed n (shown_lines lines far) s (para_turn d d.para far) new.ask new.state e
+  pub stays : new.ahead ≡ false → (new.ask ≡ ask) × (new.state ≡ s) × (e ≡ para_turn d d.para far)
 
 -- It was rolled back to where it began to note, its log was cut to a mark, and it went on anew from there up to a tick.
 pub record IsRolledBack {S : Type 0} (m : Moves S) (n : ℕ) (lines : Lines) (at : ℕ) (mark : LogMark) (s : S) (d : Attended) (ask : Ask) (new : S) (e : Attended) : Type 0 where

@@ -52,6 +52,10 @@ IsPermitted {S} m plays = (s : S) (side : Side) → IsTrue (plays side) → MayA
 abbrev pub close_leaves : {S : Type 0} → Moves S → S → ℕ → S
 close_leaves m s n = m.close s (max n (m.closed s))
 
+-- Of the lines its looks see the host's interrupt request alone.
+abbrev pub SeesHirqAlone : {S : Type 0} → Moves S → Type 0
+SeesHirqAlone {S} m = (s : S) (a b : Lines) → a.hirq ≡ b.hirq → m.next s (Some (Seen a)) ≡ m.next s (Some (Seen b))
+
 -- the first event, and what holds of it and the rest
 abbrev pub Heads : List Event → (Event → List Event → Type 0) → Type 0
 Heads [] P = ⊥

@@ -27,6 +27,11 @@ impl<P: Party> Party for Forward<P> {
     ghost permitted = { P.permitted };
 
     #[inline(always)]
+    fn sees_hirq_alone(&self) -> bool {
+        self.party.sees_hirq_alone()
+    }
+
+    #[inline(always)]
     fn due(&self) -> Tick {
         self.party.due()
     }

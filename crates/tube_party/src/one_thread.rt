@@ -1,5 +1,6 @@
 //! Two parties on one thread.
-ghost use Rattle.std.specs.Prelude.{◌≡◌, ◌≤◌, ◌<◌, ◌^◌, true, false, All, IfOk, IfErr, IsTrue};
+ghost use Rattle.std.specs.Prelude.{◌≡◌, ◌≢◌, ◌≤◌, ◌<◌, ◌^◌, ◌⊎◌, true, false, All, IfOk, IfErr, IsTrue};
+ghost use Rattle.tube_party.specs.Moves.{SeesHirqAlone};
 ghost use Rattle.tube_chip.specs.State.{lines_of};
 ghost use Rattle.tube_party.specs.OneThread.{IsPlayed, played_of, TakeSides, AreClosedWithin};
 ghost use Rattle.tube_party.specs.Turn.{IsPending, first_of, tick_of, IsSure};
@@ -16,7 +17,7 @@ use crate::log::{Log, LogMark};
 use crate::noting::{Room, note_all};
 use crate::party::{Ask, MOST, Party};
 use crate::rewinds::Rewinds;
-use crate::table::{Table, host_passes};
+use crate::table::{Table, passes};
 use beeb_bits::{Side, Tick};
 use std::alloc::Global;
 use tube_chip::{Answer, Chip, Lines};
@@ -118,35 +119,47 @@ fn act<M: Party>(
     }
 }
 
-/// Goes on from there: ahead past all that the chip shows it below `ahead`, where its notes allow, or below `sure` alone; its status too,
-/// if it `reads` that. True if it is ahead.
+/// Whether a party whose step asks this next may go ahead from there: past a look, or what it `reads`.
 #[inline(always)]
-fn go_on<M: Rewinds>(
+fn may_go_ahead(ask: Ask, reads: bool) -> bool
+    ensures { result ≡ true → ask ≢ Ask.Nothing }
+{
+    match ask {
+        Ask::Nothing => false,
+        Ask::Look(_) => true,
+        Ask::Access(_, op) => reads && is_status(op),
+    }
+}
+
+/// Goes ahead from what is asked next: past all that the chip shows it below `ahead`, and its status too, if it `reads` that, where its notes allow. True if
+/// it is ahead, and what is asked then.
+#[inline(always)]
+fn go_ahead<M: Rewinds>(
     machine: &mut M,
     past: &mut M::Past,
     table: &mut Table,
     n: Tick,
     lines: &Lines,
+    ask: Ask,
     ahead: Tick,
-    sure: Tick,
     reads: bool,
 ) -> (bool, Ask)
     requires { n.0 ≤ MOST }
     ensures { let old = attended table.old in
         let mark = M.Party.state (M.before past.new machine.new) in
         let new = standing_of result.0 result.1 mark (M.Party.state machine.new) in
-        IsGone M.Party.moves n.0 lines.now sure.0 (M.Party.state machine.old) old new (attended table.new) }
+        IsGone M.Party.moves n.0 lines.now (M.Party.state machine.old) old ask new (attended table.new) }
 {
     table.turn = Side::Para;
     table.sure = ahead;
+    table.is_whole = true;
     table.is_open = reads;
+    if !may_go_ahead(ask, reads) {
+        return (false, ask);
+    }
     match machine.advance_noting(n, lines, ahead, past, table) {
-        Some(ask) => (true, ask),
-        None => {
-            table.sure = sure;
-            table.is_open = true;
-            (false, machine.advance_at(n, lines, sure, table))
-        }
+        Some(next) => (true, next),
+        None => (false, ask),
     }
 }
 
@@ -171,13 +184,13 @@ fn has_read(log: &Log, mark: LogMark, is_ahead: bool) -> bool
 #[inline(always)]
 fn stays(table: &Table, is_ahead: bool, ask: Ask) -> bool
     ensures ahead { result ≡ false → is_ahead ≡ true }
-    ensures stays { result ≡ true → is_ahead ≡ true → StaysSeen table.now.is_read table.now.chip (chip_behind table.now.chip ask) }
+    ensures stays { result ≡ true → is_ahead ≡ true → StaysSeen table.now.is_whole table.now.chip (chip_behind table.now.chip ask) }
 {
     if !is_ahead {
         return true;
     }
     match ask {
-        Ask::Access(_, op) => host_passes(&table.chip, table.is_read, op),
+        Ask::Access(_, op) => passes(&table.chip, Side::Host, table.is_whole, op),
         Ask::Nothing | Ask::Look(_) => true,
     }
 }
@@ -202,8 +215,22 @@ fn roll_back<M: Rewinds>(
     table.para_log.cut(mark);
     table.turn = Side::Para;
     table.sure = at;
+    table.is_whole = true;
     table.is_open = true;
     machine.advance_at(n, lines, at, table)
+}
+
+/// The tick below which the host's looks see the lines as they are: those of a host that sees its own request alone do while the chip enables none, else
+/// those do that come in time.
+#[inline(always)]
+fn seen_until<H: Party>(host: &H, chip: &Chip, n: Tick, sure: Tick) -> Tick
+    ensures { (result ≡ sure) ⊎ (SeesHirqAlone H.moves × ((chip.now).flags.q ≡ false)) }
+{
+    if host.sees_hirq_alone() && !chip.enables_hirq() {
+        n
+    } else {
+        sure
+    }
 }
 
 /// The fewest ticks that the parasite goes ahead.
@@ -218,9 +245,9 @@ const TRUSTED: u64 = 64;
 /// Goes on with two parties at one chip for the ticks below `n`, as the reference run does that goes on from where both parties are and from the chip
 /// after these accesses, which were made before. They count among the accesses of each side, of which as many are kept as `room` has room for.
 ///
-/// Both parties take turns: the one whose ask comes first does that step, and goes on. The host goes on past the looks before which the parasite
-/// makes no access. The parasite goes ahead of the host, and reads its status as if the host left the chip: before a step of the host that may change
-/// what it saw, it is rolled back.
+/// Both parties take turns: the one whose ask comes first does that step, and goes on to the other's ask, with the accesses that leave the lines; the host
+/// also past looks before which the parasite can change nothing that they see. Then the parasite goes ahead of the host, and reads its status as if the host
+/// left the chip: before a step of the host that may change what it saw, it is rolled back.
 pub fn go_on_from<H: Party, P: Rewinds>(
     mut host: H,
     mut para: P,
@@ -249,7 +276,7 @@ pub fn go_on_from<H: Party, P: Rewinds>(
         para_log,
         turn: Side::Host,
         sure: Tick(0),
-        is_read: false,
+        is_whole: false,
         is_open: false,
     };
     let mut host_ask = host.advance(n);
@@ -260,7 +287,7 @@ pub fn go_on_from<H: Party, P: Rewinds>(
     while let Some(side) = first_of(host_ask, para_ask) {
         match side {
             Side::Host => {
-                table.is_read = has_read(&table.para_log, mark, is_ahead);
+                table.is_whole = has_read(&table.para_log, mark, is_ahead);
                 if !stays(&table, is_ahead, host_ask) {
                     let at = tick_of(host_ask);
                     para_ask = roll_back(&mut para, &mut past, &mut table, n, &lines, at, mark);
@@ -280,10 +307,10 @@ pub fn go_on_from<H: Party, P: Rewinds>(
                 table.turn = Side::Host;
                 table.sure = lookahead(para_ask, 1);
                 table.is_open = true;
-                host_ask = host.advance_at(n, &lines, table.sure, &mut table);
+                let seen = seen_until(&host, &table.chip, n, table.sure);
+                host_ask = host.advance_at(n, &lines, seen, &mut table);
             }
             Side::Para => {
-                let ahead = Tick(tick_of(para_ask).0.saturating_add(stride));
                 act(
                     &mut para,
                     Side::Para,
@@ -293,12 +320,18 @@ pub fn go_on_from<H: Party, P: Rewinds>(
                     n,
                     para_ask,
                 );
-                mark = table.para_log.mark();
                 polls = still_polls(polls, para_ask);
-                let sure = lookahead(host_ask, 0);
+                table.turn = Side::Para;
+                table.sure = lookahead(host_ask, 0);
+                table.is_whole = false;
+                table.is_open = true;
+                let sure = table.sure;
+                let asked = para.advance_at(n, &lines, sure, &mut table);
+                mark = table.para_log.mark();
+                let ahead = Tick(tick_of(asked).0.saturating_add(stride));
                 let reads = polls && stride >= TRUSTED;
-                (is_ahead, para_ask) = go_on(
-                    &mut para, &mut past, &mut table, n, &lines, ahead, sure, reads,
+                (is_ahead, para_ask) = go_ahead(
+                    &mut para, &mut past, &mut table, n, &lines, asked, ahead, reads,
                 );
                 stride = stride.saturating_add(stride / 4).min(FURTHEST);
             }

@@ -1,7 +1,7 @@
 //! What a machine at the Tube is.
-ghost use Rattle.std.specs.Prelude.{◌≡◌, ◌≤◌, ℕ, Bool, Some};
+ghost use Rattle.std.specs.Prelude.{◌≡◌, ◌≤◌, ℕ, Bool, true, Some};
 ghost use Rattle.beeb_bits.specs.declared.Side.{Side};
-ghost use Rattle.tube_party.specs.Moves.{Moves, IsLawful, IsPermitted, Advances, Sees, Hears, IsAskedFor, shown_lines};
+ghost use Rattle.tube_party.specs.Moves.{Moves, IsLawful, IsPermitted, SeesHirqAlone, Advances, Sees, Hears, IsAskedFor, shown_lines};
 ghost use Rattle.tube_party.specs.Quiet.{IsQuiet};
 
 use crate::desk::Desk;
@@ -44,6 +44,13 @@ pub trait Party: Drop {
 
     /// Which sides it may play: some operations are of one side alone.
     ghost plays: { Side → Bool };
+
+    /// Whether of the lines its looks see the host's interrupt request alone, as those of a host do. Where it says no, nothing is said.
+    fn sees_hirq_alone(&self) -> bool
+        ensures { result ≡ true → SeesHirqAlone moves }
+    {
+        false
+    }
 
     /// The tick of the next step.
     fn due(&self) -> Tick

@@ -1,6 +1,5 @@
 //! What answers accesses in passing where both parties are on one thread.
 ghost use Rattle.std.specs.Prelude.{◌≡◌, true};
-ghost use Rattle.beeb_bits.specs.declared.Side.TheVariants.{Host};
 ghost use Rattle.tube_party.specs.CodePassing.{MayPass};
 
 use crate::cursor::is_status;
@@ -11,8 +10,8 @@ use beeb_bits::{Side, Tick};
 use tube_chip::{Chip, Op};
 use tube_trace::Entry;
 
-/// The chip, with what is kept of both sides' accesses. It answers accesses below a tick of the side whose turn it is: the parasite's reads of
-/// its status, and of the host's those that leave the lines, or the chip where the parasite has read it ahead of the host.
+/// The chip, with what is kept of both sides' accesses. It answers accesses below a tick of the side whose turn it is: those that leave the lines, or
+/// the chip where it has to stay whole.
 #[derive(Drop)]
 pub(crate) struct Table {
     pub(crate) chip: Chip,
@@ -20,8 +19,8 @@ pub(crate) struct Table {
     pub(crate) para_log: Log,
     pub(crate) turn: Side,
     pub(crate) sure: Tick,
-    /// The parasite has read the chip ahead of the host.
-    pub(crate) is_read: bool,
+    /// The chip has to stay as it is, and not its lines alone: the parasite reads it ahead of the host, or has read it.
+    pub(crate) is_whole: bool,
     /// It answers at all.
     pub(crate) is_open: bool,
 }
@@ -29,26 +28,15 @@ pub(crate) struct Table {
 /// A log of so many accesses takes no more in passing.
 const MOST_COUNT: u64 = 1 << 62;
 
-/// Whether an access of the host is sure to leave what the parasite saw ahead of it: the lines, or the chip where it was read.
+/// Whether an access of this side is sure to leave the lines, or the chip where that has to stay whole.
 #[inline(always)]
-pub(crate) fn host_passes(chip: &Chip, is_read: bool, op: Op) -> bool
-    ensures { result ≡ true → MayPass chip.now Host is_read op }
+pub(crate) fn passes(chip: &Chip, side: Side, is_whole: bool, op: Op) -> bool
+    ensures { result ≡ true → MayPass chip.now side is_whole op }
 {
-    if is_read {
+    if is_whole {
         is_status(op)
     } else {
-        chip.host_leaves_lines(op)
-    }
-}
-
-/// Whether an access of this side may be answered in passing.
-#[inline(always)]
-fn passes(chip: &Chip, side: Side, is_read: bool, op: Op) -> bool
-    ensures { result ≡ true → MayPass chip.now side is_read op }
-{
-    match side {
-        Side::Host => host_passes(chip, is_read, op),
-        Side::Para => is_status(op),
+        chip.leaves_lines(side, op)
     }
 }
 
@@ -71,7 +59,7 @@ impl Desk for Table {
         if !self.is_open || tick >= self.sure {
             return None;
         }
-        if !passes(&self.chip, self.turn, self.is_read, op) {
+        if !passes(&self.chip, self.turn, self.is_whole, op) {
             return None;
         }
         if self.host_log.count >= MOST_COUNT || self.para_log.count >= MOST_COUNT {

@@ -25,12 +25,12 @@ loop-times-preserved c =
       byte_is = sym c.if-apply-byte.false ∙ c.apply.ensures.answer ∙ ap (λ (x : State). answer_of x c.args.self.now.turn c.args.op) (sym c.loop-times.invariant.chip)
           ∙ ap (λ (x : Side). answer_of c.loop-times.self.chip x c.args.op) (sym c.loop-times.invariant.turn);
       chip_is = sym left;
-      stays = (ap lines_of left, λ _. left);
+      stays = (ap lines_of left, ap (λ (x : State). x.flags) left, λ _. left);
       host_noted = c.note_own.ensures.host;
       para_noted = c.note_own.ensures.para;
       turn_is = refl;
       sure_is = refl;
-      is_read_is = refl;
+      is_whole_is = refl;
     } in
     record {
       again = subst (λ (n : ℕ). IsAnsweredAgain IsPassed c.args.op c.args.byte c.args.period n old c.args.tick.0 new) one
