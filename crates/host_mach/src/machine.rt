@@ -217,6 +217,11 @@ impl<D: BusDevice> Party for HostMachine<D> {
 
     ghost permitted = { host_permitted };
 
+    #[inline(always)]
+    fn sees_hirq_alone(&self) -> bool {
+        true
+    }
+
     #[inline]
     fn due(&self) -> Tick {
         Tick(self.due)

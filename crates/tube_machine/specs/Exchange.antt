@@ -90,7 +90,7 @@ module _ (part : Part) {B D : Type 0} (w : Wiring B) (answers : D → ℕ → Op
   IsDone old d (Ok x) new e =
       (IsSilent part w old new × (d ≡ e)) ⊎ ((is_break part w old ≡ false) × IsAnswered (moves_of part w) answers (old.due + 1) old d new e)
   IsDone old d (Err (Tube o)) new e = (asks part w old ≡ Some (access o)) × (new ≡ old) × (d ≡ e)
-  IsDone old d (Err Full) new e = Unit {0}
+  IsDone old d (Err Full) new e = (new ≡ old) × (d ≡ e)
 
 -- A machine at a tick, with room for so many notes, in a sequence of which so many cycles were seen.
 pub record Spent : Type 0 where

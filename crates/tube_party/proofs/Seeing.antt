@@ -4,12 +4,12 @@ use Rattle.beeb_bits.specs.declared.Tick.{Tick}
 use Rattle.tube_chip.specs.declared.Answer.TheVariants.{Byte, Seen}
 use Rattle.tube_chip.specs.declared.Lines.{Lines}
 use Rattle.tube_chip.specs.declared.Op.{Op}
-use Rattle.tube_chip.specs.Act.{access, look}
+use Rattle.tube_chip.specs.Act.{look}
 use Rattle.tube_party.specs.declared.party.Ask.{Ask}
 use Rattle.tube_party.specs.declared.party.Ask.TheVariants.{Nothing, Access, Look}
-use Rattle.tube_party.specs.Moves.{Moves, IsLawful, Looks, Talks, IsUnsure, Advances, Sees, IsAnswered, Hears, GoesHearing, IsAsk, Shown, shown_lines}
+use Rattle.tube_party.specs.Moves.{Moves, IsLawful, Looks, Talks, IsUnsure, Advances, Sees, Hears, GoesHearing, IsAsk, Shown, shown_lines}
 use Rattle.tube_party.specs.Turn.{IsPending}
-use Rattle.tube_party.specs.Steps.{due_rises, silent_all, looks_on, look_last, talks_on, hears_after, hears_sees}
+use Rattle.tube_party.specs.Steps.{due_rises, silent_all, looks_on, look_last, hears_after, hears_sees, rises_past_access, talks_past_access}
 
 module _ {S : Type 0} (m : Moves S) (n : ℕ) (lines : Lines) (sure : ℕ) where
   -- after some of them the party advanced, and stopped at a step that is no sure look
@@ -44,15 +44,10 @@ module _ {S : Type 0} (m : Moves S) (n : ℕ) (lines : Lines) (sure : ℕ) where
       (omega arith, omega (arith, asked.0, asked.1))
 
   -- past an access its tick, which was below n, is larger too
-  pub rises_past_access : (cur at new : S) (ask : Ask) (t : Tick) (op : Op) (byte : ℕ) → IsLawful m → Sees m n (shown_lines lines sure) cur ask at → ask ≡ Access t op
+  pub rises_past_ask : (cur at new : S) (ask : Ask) (t : Tick) (op : Op) (byte : ℕ) → IsLawful m → Sees m n (shown_lines lines sure) cur ask at → ask ≡ Access t op
       → new ≡ m.next at (Some (Byte byte)) → (m.due cur < m.due new) × (m.due cur < n)
-  rises_past_access cur at new ask t op byte lawful sees is goes =
-      let asked : (t.0 ≡ m.due sees.last) × (t.0 < n) × (m.asks sees.last ≡ Some (access op)) × (at ≡ sees.last) = subst (λ (a : Ask). IsAsk m n sees.last a at) is sees.asked in
-      let x : m.due cur ≤ m.due sees.last = due_rises m n lines sure sees.steps cur sees.last lawful sees.looks in
-      let y : m.due at < m.due (m.next at (Some (Byte byte))) = lawful.rises at (Some (Byte byte)) in
-      let z : m.due new ≡ m.due (m.next at (Some (Byte byte))) = ap m.due goes in
-      let w : m.due at ≡ m.due sees.last = ap m.due asked.3 in
-      (omega arith, omega (arith, asked.0, asked.1))
+  rises_past_ask cur at new ask t op byte lawful sees is goes =
+      rises_past_access m n lines sure sees.steps cur sees.last at new t op byte lawful sees.looks (subst (λ (a : Ask). IsAsk m n sees.last a at) is sees.asked) goes
 
 -- ---- The same with accesses that a desk answers
 
@@ -67,16 +62,8 @@ module _ {S D : Type 0} (m : Moves S) (answers : D → ℕ → Op → ℕ → D 
       → Sees m n (shown_lines lines sure) cur ask at → ask ≡ Access t op → answers f t.0 op byte e → new ≡ m.next at (Some (Byte byte)) →
       (j : ℕ) × Talks m answers n (shown_lines lines sure) j old d new e
   hears_one_more old cur at new d f e ask t op byte so_far sees is answer goes =
-      let asked : (t.0 ≡ m.due sees.last) × (t.0 < n) × (m.asks sees.last ≡ Some (access op)) × (at ≡ sees.last) = subst (λ (a : Ask). IsAsk m n sees.last a at) is sees.asked in
-      let passed : IsAnswered m answers n sees.last f new e = record {
-        op = op;
-        byte = byte;
-        below = omega (arith, asked.0, asked.1);
-        asks = asked.2;
-        answered = subst (λ (u : ℕ). answers f u op byte e) asked.0 answer;
-        goes = subst (λ (x : S). new ≡ m.next x (Some (Byte byte))) asked.3 goes;
-      } in
-      talks_on m answers n lines sure so_far.0 1 old cur new d f e so_far.1 (sees.last, new, e, (sees.steps, sees.looks), passed, (refl, (0, refl)))
+      talks_past_access m answers n lines sure sees.steps old cur sees.last at new d f e t op byte so_far sees.looks
+      (subst (λ (a : Ask). IsAsk m n sees.last a at) is sees.asked) answer goes
 
 -- it goes no further than what it asked already
 pub stays_asking : {S D : Type 0} (m : Moves S) (answers : D → ℕ → Op → ℕ → D → Type 0) (n : ℕ) (v : Shown) (s : S) (d : D) (ask : Ask)

@@ -2,6 +2,7 @@
 use Rattle.std.specs.Prelude.{ℕ, zero, suc, ◌≡◌, ◌≢◌, ◌<◌, ◌≤◌, Option, None, Some, MatchOption, [], refl}
 use Rattle.std.proofs.Common.{sym, ◌∙◌, ap, subst, arith}
 use Rattle.beeb_bits.specs.declared.Side.{Side}
+use Rattle.beeb_bits.specs.declared.Tick.{Tick}
 use Rattle.beeb_bits.specs.declared.Side.TheVariants.{Host}
 use Rattle.tube_chip.specs.Act.{Query, look}
 use Rattle.tube_chip.specs.declared.Answer.TheVariants.{Byte, Seen}
@@ -9,7 +10,7 @@ use Rattle.tube_chip.specs.declared.Lines.{Lines}
 use Rattle.tube_chip.specs.declared.Op.{Op}
 use Rattle.tube_party.specs.declared.party.Ask.{Ask}
 use Rattle.tube_party.specs.declared.party.Ask.TheVariants.{Nothing, Access, Look}
-use Rattle.tube_party.specs.Moves.{Moves, IsLawful, Runs, Looks, Talks, Advances, Sees, Hears, GoesHearing, Shown, shown_lines, course}
+use Rattle.tube_party.specs.Moves.{Moves, IsLawful, IsAsk, IsAnswered, Runs, Looks, Talks, Advances, Sees, Hears, GoesHearing, Shown, shown_lines, course}
 use Rattle.tube_party.specs.Turn.{IsPending}
 
 silent_here : {S : Type 0} (m : Moves S) (side : Side) (n k : ℕ) (s last : S) (o : Option Query) →
@@ -106,11 +107,15 @@ module _ {S : Type 0} (m : Moves S) (n : ℕ) (lines : Lines) (sure : ℕ) where
   due_rises zero s last lawful looks = subst (λ (x : S). m.due s ≤ m.due x) looks (let d : ℕ = m.due s in omega arith)
   due_rises (suc k) s last lawful looks = due_past k s last lawful (m.asks s) (λ u on. due_rises k u last lawful on) looks.1
 
-  -- and what they come to
-  pub sees_after : (s mid new : S) (ask : Ask) → (k : ℕ) × Looks m n (shown_lines lines sure) k s mid → Sees m n (shown_lines lines sure) mid ask new → Sees m n (shown_lines lines sure) s ask new
-  sees_after s mid new ask so_far sees =
-      let all : (i : ℕ) × Looks m n (shown_lines lines sure) i s sees.last = looks_on so_far.0 sees.steps s mid sees.last so_far.1 sees.looks in
-      record { steps = all.0; last = sees.last; looks = all.1; asked = sees.asked; unsure = sees.unsure }
+  -- past the access that is asked behind them the tick, which was below n, is larger
+  pub rises_past_access : (k : ℕ) (s last at new : S) (t : Tick) (op : Op) (byte : ℕ) → IsLawful m → Looks m n (shown_lines lines sure) k s last
+      → IsAsk m n last (Access t op) at → new ≡ m.next at (Some (Byte byte)) → (m.due s < m.due new) × (m.due s < n)
+  rises_past_access k s last at new t op byte lawful looks asked goes =
+      let x : m.due s ≤ m.due last = due_rises k s last lawful looks in
+      let y : m.due at < m.due (m.next at (Some (Byte byte))) = lawful.rises at (Some (Byte byte)) in
+      let z : m.due new ≡ m.due (m.next at (Some (Byte byte))) = ap m.due goes in
+      let w : m.due at ≡ m.due last = ap m.due asked.3 in
+      (omega (arith, x, y, z, w), omega (arith, x, asked.0, asked.1))
 
   -- steps that ask nothing are some of them
   silent_by : (j k : ℕ) (s mid last : S) (o : Option Query) →
@@ -192,6 +197,22 @@ module _ {S D : Type 0} (m : Moves S) (answers : D → ℕ → Op → ℕ → D 
       → (k : ℕ) × Looks m n (shown_lines lines sure) k s last
   talks_shut none zero s last d e h = h.1
   talks_shut none (suc j) s last d e h = absurd (none d (m.due h.0) h.4.op h.4.byte h.2 h.4.answered)
+
+  -- and behind them the looks up to an access that is answered, and that
+  pub talks_past_access : (k : ℕ) (old s last at new : S) (d f e : D) (t : Tick) (op : Op) (byte : ℕ)
+      → (j : ℕ) × Talks m answers n (shown_lines lines sure) j old d s f → Looks m n (shown_lines lines sure) k s last
+      → IsAsk m n last (Access t op) at → answers f t.0 op byte e → new ≡ m.next at (Some (Byte byte))
+      → (j : ℕ) × Talks m answers n (shown_lines lines sure) j old d new e
+  talks_past_access k old s last at new d f e t op byte so_far looks asked answer goes =
+      let passed : IsAnswered m answers n last f new e = record {
+        op = op;
+        byte = byte;
+        below = omega (arith, asked.0, asked.1);
+        asks = asked.2;
+        answered = subst (λ (u : ℕ). answers f u op byte e) asked.0 answer;
+        goes = subst (λ (x : S). new ≡ m.next x (Some (Byte byte))) asked.3 goes;
+      } in
+      talks_on so_far.0 1 old s new d f e so_far.1 (last, new, e, (k, looks), passed, (refl, (0, refl)))
 
   -- what they come to
   pub hears_after : (s mid new : S) (d f e : D) (ask : Ask) → (j : ℕ) × Talks m answers n (shown_lines lines sure) j s d mid f → Hears m answers n (shown_lines lines sure) mid f ask new e

@@ -1,5 +1,6 @@
 use Rattle.std.proofs.Common.{◌≤◌, arith}
-use Rattle.cases_tube.proofs.Goes.{goes_there, goes_one_more, rises_past_access}
+use Rattle.tube_party.specs.Steps.{rises_past_access}
+use Rattle.cases_tube.proofs.Goes.{goes_there, goes_one_more}
 use Rattle.cases_tube.proofs.tests.two_threads.go_below.Goals as goal
 
 pub returns-in_default : goal.returns-in_default
@@ -21,7 +22,7 @@ returns-in_default-ask g c =
 pub loop-tick-smaller : goal.loop-tick-smaller
 loop-tick-smaller g c =
     let sees = c.in-Access.ensures in
-    let past = rises_past_access g.M.Party.moves c.args.until.0 c.args.lines.now _ _ _ _ _ _ c.in-Some.byte g.met.M.Party.lawful sees c.answer.ensures in
+    let past = rises_past_access g.M.Party.moves c.args.until.0 c.args.lines.now _ sees.steps _ sees.last _ _ _ _ c.in-Some.byte g.met.M.Party.lawful sees.looks sees.asked c.answer.ensures in
     omega (arith, past.0, past.1)
 
 pub loop-tick-preserved : goal.loop-tick-preserved

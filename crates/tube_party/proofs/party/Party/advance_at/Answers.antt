@@ -1,5 +1,5 @@
 use Rattle.std.proofs.Common.{arith}
-use Rattle.tube_party.proofs.Seeing.{hears_there, hears_one_more, rises_past_access}
+use Rattle.tube_party.proofs.Seeing.{hears_there, hears_one_more, rises_past_ask}
 use Rattle.tube_party.proofs.party.Party.advance_at.Goals as goal
 
 pub returns-in_default : goal.returns-in_default
@@ -14,7 +14,7 @@ returns-in_default-ask g c =
 
 pub loop-tick-smaller : goal.loop-tick-smaller
 loop-tick-smaller g c =
-    let past = rises_past_access g.Self.Party.moves c.args.until.0 c.args.lines.now c.args.sure.0 _ _ _ _ c.in-Access.tick c.in-Access.op c.in-Some.byte g.met.Self.Party.lawful
+    let past = rises_past_ask g.Self.Party.moves c.args.until.0 c.args.lines.now c.args.sure.0 _ _ _ _ c.in-Access.tick c.in-Access.op c.in-Some.byte g.met.Self.Party.lawful
     c.advance_seeing-ask.ensures c.in-Access.is c.answer.ensures in
     omega (arith, past.0, past.1)
 
