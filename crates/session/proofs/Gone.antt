@@ -117,14 +117,12 @@ gone_here m lawful n r t x y ask events later open_ within events_are pass past 
     }
 
 -- A pass has what its party will observe, and then the party goes on as far as it observes anything.
-pub gone_on : {S : Type 0} (m : Moves S) (lawful : IsLawful m) (n : ℕ) (r : Readings) (t : ℕ) (x y : Station S) (ask : Ask) (p q : Carried) (side : Side)
-    → p ≡ x.at.pass → y.at.pass ≡ q → side ≡ x.at.pass.side → own_horizon x.at.pass ≤ m.due x.at.state → own_horizon x.at.pass ≤ n → t ≤ n
-    → q ≡ after_add p (observed_events m p.side (readings_seen r) t t x.at.state)
-    → ((u : ℕ) → own_horizon p ≤ u → AllBelow u (observed_events m p.side (readings_seen r) t t x.at.state) → own_horizon q ≤ u)
+pub gone_on : {S : Type 0} (m : Moves S) (lawful : IsLawful m) (n : ℕ) (r : Readings) (t : ℕ) (x y : Station S) (ask : Ask) (q : Carried) (side : Side)
+    → y.at.pass ≡ q → side ≡ x.at.pass.side → own_horizon x.at.pass ≤ m.due x.at.state → own_horizon x.at.pass ≤ n → t ≤ n
+    → q ≡ after_add x.at.pass (observed_events m x.at.pass.side (readings_seen r) t t x.at.state)
+    → ((u : ℕ) → own_horizon x.at.pass ≤ u → AllBelow u (observed_events m x.at.pass.side (readings_seen r) t t x.at.state) → own_horizon q ≤ u)
     → HasObserved m side n r t x.at.state x.log ask y.at.state y.log → IsOver r t ask → GoneOn m n x ask y
-gone_on m lawful n r t x y ask p q side same back own later open_ within pass past h over =
-    let events = λ (z : Carried). observed_events m z.side (readings_seen r) t t x.at.state in
-    gone_here m lawful n r t x y ask (events x.at.pass) later open_ within refl (back ∙ pass ∙ ap (λ (z : Carried). after_add z (events z)) same)
-    (λ u. subst (λ (z : Carried). own_horizon z ≤ u → AllBelow u (events z) → own_horizon y.at.pass ≤ u) same
-    (λ a b. subst (λ (z : Carried). own_horizon z ≤ u) (sym back) (past u a b)))
+gone_on m lawful n r t x y ask q side back own later open_ within pass past h over =
+    gone_here m lawful n r t x y ask (observed_events m x.at.pass.side (readings_seen r) t t x.at.state) later open_ within refl (back ∙ pass)
+    (λ u a b. subst (λ (z : Carried). own_horizon z ≤ u) (sym back) (past u a b))
     (subst (λ (z : Side). HasObserved m z n r t x.at.state x.log ask y.at.state y.log) own h) over

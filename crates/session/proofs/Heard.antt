@@ -20,7 +20,8 @@ use Rattle.tube_party.specs.Logs.{HasNoted, none_noted}
 use Rattle.tube_side.specs.CodeSteps.{event_at}
 use Rattle.session.specs.declared.desk.StatusDesk.{StatusDesk}
 use Rattle.session.specs.CodeSight.{byte_seen, byte_answer, readings_seen, IsSeen}
-use Rattle.session.specs.CodeDesk.{Shown, IsRead, read_entry}
+use Rattle.tube_party.specs.CodePassing.{passed_entry}
+use Rattle.session.specs.CodeDesk.{Shown, IsRead}
 use Rattle.session.specs.CodeObserved.{HasObserved, IsOver}
 use Rattle.session.proofs.Runs.{SomeRuns, asking, append}
 use Rattle.session.proofs.Kept.{noted_both}
@@ -90,7 +91,7 @@ module _ {S : Type 0} (m : Moves S) (lawful : IsLawful m) (side : Side) (n : ℕ
         runs = (suc zero, asking m side n zero s (access op) (Byte byte) [] (m.next s (Some (Byte byte))) under asks (refl, refl));
         seen = (ap byte_answer (ap (λ (z : List ℕ). byte_seen z op) (sym at.status_is) ∙ h.byte_is), tt);
         low = All-cons (λ z. z.tick < t) event [] (omega arith) (All-nil (λ z. z.tick < t));
-        noted = subst (λ (z : Side). HasNoted (read_entry z (m.due s) op byte ∷ []) d.log e.log) at.side_is h.noted;
+        noted = subst (λ (z : Side). HasNoted (passed_entry z (m.due s) op byte ∷ []) d.log e.log) at.side_is h.noted;
       }
 
   -- among looks and reads

@@ -2,8 +2,8 @@
 use Rattle.std.specs.Prelude.{ℕ, ◌≡◌, ◌<◌, Some, List, [], ◌∷◌}
 use Rattle.beeb_bits.specs.declared.Side.{Side}
 use Rattle.tube_chip.specs.declared.Op.{Op}
-use Rattle.tube_trace.specs.declared.Entry.{Entry}
 use Rattle.tube_party.specs.declared.log.Log.{Log}
+use Rattle.tube_party.specs.CodePassing.{passed_entry}
 use Rattle.tube_party.specs.Logs.{HasNoted}
 use Rattle.session.specs.declared.desk.StatusDesk.{StatusDesk}
 use Rattle.session.specs.CodeSight.{byte_seen}
@@ -18,15 +18,11 @@ pub record Shown : Type 0 where
 abbrev pub shown : StatusDesk → Shown
 shown d = record { side = d.side; status = d.status; below = (d.below).0; log = d.log }
 
--- a read, as an entry of the side
-abbrev pub read_entry : Side → ℕ → Op → ℕ → Entry
-read_entry side tick op byte = record { tick = record { 0 = tick }; side = side; op = op; answer = byte }
-
 -- A status register was read below that tick, and noted.
 pub record IsRead (old : Shown) (tick : ℕ) (op : Op) (byte : ℕ) (new : Shown) : Type 0 where
   pub early : tick < old.below
   pub byte_is : byte_seen old.status op ≡ Some byte
-  pub noted : HasNoted (read_entry old.side tick op byte ∷ []) old.log new.log
+  pub noted : HasNoted (passed_entry old.side tick op byte ∷ []) old.log new.log
   pub side_is : new.side ≡ old.side
   pub status_is : new.status ≡ old.status
   pub below_is : new.below ≡ old.below

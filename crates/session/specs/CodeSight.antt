@@ -30,7 +30,7 @@ abbrev pub byte_answer : Option ℕ → Option Answer
 byte_answer None = None
 byte_answer (Some b) = Some (Byte b)
 
--- What the parasite sees of a chip with these readings: its lines, and its status registers.
+-- What a side sees of a chip with these readings: the lines, and its status registers.
 abbrev pub readings_seen : Readings → Sight
 readings_seen r look = Some (Seen r.lines)
 readings_seen r (access op) = byte_answer (byte_seen r.status op)

@@ -4,6 +4,7 @@ ghost use Rattle.session.specs.CodeSight.{byte_seen};
 
 use crate::sight::byte_of;
 use beeb_bits::{Side, Tick};
+use tube_cell::Readings;
 use tube_chip::Op;
 use tube_party::{Desk, Log};
 use tube_trace::Entry;
@@ -23,6 +24,18 @@ const MOST_COUNT: u64 = 1 << 62;
 
 impl StatusDesk {
     ghost use Rattle.session.specs.CodeDesk.{shown, IsRead};
+
+    /// The registers as these readings show them, with this log, which the desk has meanwhile.
+    pub(crate) fn take(log: &mut Log, side: Side, readings: &Readings, below: Tick) -> StatusDesk
+        ensures { shown result ≡ record { side = side; status = readings.now.status; below = below.0; log = log.old } }
+    {
+        StatusDesk {
+            side,
+            status: readings.status,
+            below,
+            log: log.take(),
+        }
+    }
 
     /// Reads one of the registers below the tick, and notes that. None, and nothing was done, of any other access.
     #[inline(always)]

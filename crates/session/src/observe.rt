@@ -54,12 +54,7 @@ pub(crate) fn observe<M: Party, R: Wait>(
     ensures over { IsOver readings.now end.0 result }
     ensures pass { half.new.pass ≡ half.old.pass }
 {
-    let mut desk = StatusDesk {
-        side,
-        status: readings.status,
-        below: end,
-        log: half.log.take(),
-    };
+    let mut desk = StatusDesk::take(&mut half.log, side, readings, end);
     let ask = observe_at(rt, &mut half.machine, &mut desk, n, &readings.lines);
     half.log = desk.log;
     ask

@@ -6,7 +6,6 @@ ghost use Rattle.tube_side.specs.CodeSteps.{IsPaidOnTrust};
 ghost use Rattle.tube_side.specs.CodeTrust.{HasTrusted};
 ghost use Rattle.tube_side.specs.CodeWays.{IsWay};
 ghost use Rattle.session.specs.CodeStation.{station};
-ghost use Rattle.session.specs.CodeDesk.{shown};
 ghost use Rattle.session.specs.CodeWay.{IsReached, IsSettled, trip, IsOnTrip, IsStillThere, HasGoneFurther};
 
 use crate::desk::StatusDesk;
@@ -16,7 +15,7 @@ use crate::stride::Stride;
 use beeb_bits::{Side, Tick};
 use std::sync::Wait;
 use tube_cell::TubeCell;
-use tube_party::{Ask, Log, LogMark, MOST, Rewinds};
+use tube_party::{Ask, LogMark, MOST, Rewinds};
 use tube_side::{Ahead, Mark, tell_more};
 
 /// Where a way ahead begins, and how far the log was written there.
@@ -33,18 +32,6 @@ pub(crate) fn reached(n: Tick, ask: Ask) -> Tick
     match ask {
         Ask::Nothing => n,
         Ask::Access(tick, _) | Ask::Look(tick) => tick,
-    }
-}
-
-// The status registers as the mark shows them, up to tick `end`.
-fn desk_of(log: &mut Log, from: &Checkpoint, end: Tick) -> StatusDesk
-    ensures { shown result ≡ record { side = Para; status = from.now.mark.readings.status; below = end.0; log = log.old } }
-{
-    StatusDesk {
-        side: Side::Para,
-        status: from.mark.readings.status,
-        below: end,
-        log: log.take(),
     }
 }
 
@@ -65,7 +52,7 @@ pub(crate) fn set_out<M: Rewinds>(
         × IsStillThere from.now.log half.old.log half.new.log) }
     ensures pass { half.new.pass ≡ half.old.pass }
 {
-    let mut desk = desk_of(&mut half.log, from, end);
+    let mut desk = StatusDesk::take(&mut half.log, Side::Para, &from.mark.readings, end);
     let lines = &from.mark.readings.lines;
     let ask = half.machine.advance_noting(n, lines, end, past, &mut desk);
     half.log = desk.log;
@@ -90,7 +77,7 @@ fn stride_to<M: Rewinds>(
     if ask == Ask::Nothing {
         return ask;
     }
-    let mut desk = desk_of(&mut half.log, from, end);
+    let mut desk = StatusDesk::take(&mut half.log, Side::Para, &from.mark.readings, end);
     let lines = &from.mark.readings.lines;
     let next = half.machine.advance_on(ask, n, lines, end, past, &mut desk);
     half.log = desk.log;

@@ -13,7 +13,7 @@ use Rattle.tube_cell.specs.Views.{Known, word_of, word_of_other, own_bound, past
 use Rattle.tube_cell.specs.Rules.{Trusts}
 use Rattle.tube_cell.specs.Passes.{Carried, own_horizon, after_publish, after_entrust, Learns}
 use Rattle.tube_cell.specs.Steps.{Watches}
-use Rattle.tube_side.specs.CodeSteps.{all_events, HasWaited}
+use Rattle.tube_side.specs.CodeSteps.{all_events}
 use Rattle.tube_side.specs.CodeWays.{Way, IsWay}
 use Rattle.tube_side.specs.CodeTrust.{from_on, IsTrusting, HasTrusted, HasPassed}
 

@@ -1,5 +1,5 @@
 -- What a load and an exchange leave of a pass while its machine waits.
-use Rattle.std.proofs.Common.{ℕ, Bool, IsTrue, IsFalse, ◌≡◌, ◌+◌, ◌<◌, ◌≤◌, ◌⊎◌, ⊎_elim, inl, inr, max, nat_lt, true, false, cond, refl, sym, ◌∙◌, ap, subst, arith, List, [], ◌∷◌, ◌++◌, append-nil}
+use Rattle.std.proofs.Common.{ℕ, Bool, IsTrue, IsFalse, ◌≡◌, ◌+◌, ◌<◌, ◌≤◌, ◌⊎◌, inl, inr, max, nat_lt, true, false, refl, sym, ◌∙◌, ap, subst, arith, List, [], ◌∷◌, ◌++◌, append-nil}
 use Rattle.std.proofs.lemmas.Bool.{cases_lt}
 use Rattle.std.proofs.lemmas.Bool.Decides.{nat_tests}
 use Rattle.beeb_bits.specs.declared.Side.{Side}
@@ -7,11 +7,11 @@ use Rattle.beeb_bits.specs.declared.Side.TheVariants.{Host, Para}
 use Rattle.tube_chip.specs.Events.{Event, after_from}
 use Rattle.tube_chip.specs.State.{State}
 use Rattle.tube_cell.specs.declared.local.Readings.{Readings}
-use Rattle.tube_cell.specs.Views.{Known, one_side, own_bound, known_with, word_of_other, other_bound, bound_at, slack, Admits, trust_after, has_access, chip_after_event, past_last, horizon}
+use Rattle.tube_cell.specs.Views.{Known, one_side, own_bound, known_with, word_of_other, other_bound, bound_at, slack, Admits, trust_after, chip_after_event, past_last, horizon}
 use Rattle.tube_cell.specs.Views.{readings_of}
 use Rattle.tube_cell.specs.Rules.{rise, Trusts}
 use Rattle.tube_cell.specs.Passes.{Carried, own_horizon, here, bound_here, after_publish, after_entrust, Learns}
-use Rattle.tube_side.specs.CodeSteps.{all_events, HasWaited, IsPaid, IsNearlyPaid, IsPaidOnTrust, HasOnlyLearnt}
+use Rattle.tube_side.specs.CodeSteps.{all_events, HasWaited, IsPaid, IsPaidOnTrust, HasOnlyLearnt}
 
 pub waits : (p : Carried) → p.trusted ≡ [] → HasWaited p p
 waits p none = record { same = record { cell = refl; side = refl; trusted = none }; events = refl }

@@ -20,10 +20,10 @@ returns-clause-some g c =
     let gone = c.advance_noting-ask.new in
     let half = record old { machine = gone.self; log = gone.desk.log } in
     let x = trip state g.M.Rewinds.before gone.past half c.args.from.now in
-    let desk = c.desk_of-desk.ensures in
+    let desk = c.take-desk.ensures in
     let log = ap (λ (d : Shown). d.log) desk in
     if_some c.advance_noting-ask.result _ _ _ c.advance_noting-ask.ensures (λ ask went.
-    let seen = heard m lawful Para n r c.args.end.0 (state old.machine) (shown c.desk_of-desk.result) ask (state gone.self) (shown gone.desk)
+    let seen = heard m lawful Para n r c.args.end.0 (state old.machine) (shown c.take-desk.result) ask (state gone.self) (shown gone.desk)
     (ap (λ (d : Shown). d.side) desk) (ap (λ (d : Shown). d.status) desk) (ap (λ (d : Shown). d.below) desk) went.0 in
     let anew = subst (λ s. HasObserved m Para n r c.args.end.0 s old.log ask (state gone.self) gone.desk.log) (sym went.1)
     (subst (λ (l : Log). HasObserved m Para n r c.args.end.0 (state old.machine) l ask (state gone.self) gone.desk.log) log seen) in

@@ -36,8 +36,8 @@ returns-clause-further g c =
     let half = record old { machine = gone.self; log = gone.desk.log } in
     let x = trip state g.M.Rewinds.before c.args.past.now old c.args.from.now in
     let y = trip state g.M.Rewinds.before gone.past half c.args.from.now in
-    let desk = c.desk_of-desk.ensures in
-    let seen = heard m lawful Para n r c.args.end.0 (state old.machine) (shown c.desk_of-desk.result) next (state gone.self) (shown gone.desk)
+    let desk = c.take-desk.ensures in
+    let seen = heard m lawful Para n r c.args.end.0 (state old.machine) (shown c.take-desk.result) next (state gone.self) (shown gone.desk)
     (ap (λ (d : Shown). d.side) desk) (ap (λ (d : Shown). d.status) desk) (ap (λ (d : Shown). d.below) desk) c.advance_on-next.ensures.goes in
     let on = subst (λ (l : Log). HasObserved m Para n r c.args.end.0 (state old.machine) l next (state gone.self) gone.desk.log) (ap (λ (d : Shown). d.log) desk) seen in
     goes_on m lawful n x.from ask next c.args.end.0 x.here y.here y.from.state some c.requires.way on c.advance_on-next.ensures.mark

@@ -1,8 +1,7 @@
-use Rattle.std.proofs.Common.{rules, arith, ◌≡◌, ◌∙◌, sym, subst, ap}
+use Rattle.std.proofs.Common.{rules, arith, ◌≡◌, ◌∙◌, sym, ap}
 use Rattle.beeb_bits.specs.declared.Side.{Side}
-use Rattle.tube_cell.specs.Views.{readings_of, shown_to}
+use Rattle.tube_cell.specs.Views.{shown_to}
 use Rattle.tube_cell.specs.Passes.{Carried, Learns, here}
-use Rattle.tube_side.specs.CodeSteps.{HasOnlyLearnt}
 use Rattle.tube_side.proofs.Waits.{waited_on, learned, still_learnt}
 use Rattle.tube_side.proofs.trust.tell_first.Goals as goal
 
@@ -10,20 +9,17 @@ pub publish_on-requires-clause-way : goal.publish_on-requires-clause-way
 publish_on-requires-clause-way g c =
     let same : c.readings.result ≡ c.args.mark.now.readings = search rules in (
       c.requires.way.0,
-      c.requires.way.1 ∙ sym same ∙ c.readings.ensures.readings ∙ ap (λ (s : Side). shown_to s (here c.loop.pass)) (c.loop.invariant.waited.same.side ∙ c.requires.side)
-          ∙ ap (λ (x : Carried). readings_of (here x)) (sym c.readings.ensures.pass),
+      c.requires.way.1 ∙ sym same ∙ c.readings.ensures ∙ ap (λ (s : Side). shown_to s (here c.loop.pass)) (c.loop.invariant.waited.same.side ∙ c.requires.side),
     )
 
 pub returns-then-publish_on-clause-paid : goal.returns-then-publish_on-clause-paid
-returns-then-publish_on-clause-paid g c told =
-    c.publish_on.ensures.paid c.args.pass.now c.if-publish_on.true
-    (subst (λ (x : Carried). HasOnlyLearnt c.args.t.0 c.args.pass.now x) (sym c.readings.ensures.pass) c.loop.invariant.learnt)
+returns-then-publish_on-clause-paid g c told = c.publish_on.ensures.paid c.args.pass.now c.if-publish_on.true c.loop.invariant.learnt
 
 pub loop-preserved : goal.loop-preserved
 loop-preserved g c =
     let p = c.loop.pass in
     let q = c.publish_on.new.pass in
-    let l : Learns p q = subst (λ (x : Carried). Learns x q) c.readings.ensures.pass (c.publish_on.ensures.learns c.if-publish_on.false) in
+    let l : Learns p q = c.publish_on.ensures.learns c.if-publish_on.false in
     let low = l.horizon in
     let was = c.loop.invariant.later in
     record {

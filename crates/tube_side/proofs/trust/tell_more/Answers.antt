@@ -1,41 +1,31 @@
-use Rattle.std.proofs.Common.{rules, ◌≡◌, ◌∙◌, sym, subst, ap}
+use Rattle.std.proofs.Common.{rules, ◌≡◌, ◌∙◌, ap}
 use Rattle.beeb_bits.specs.declared.Side.{Side}
-use Rattle.tube_cell.specs.Views.{readings_of, shown_to}
-use Rattle.tube_cell.specs.Passes.{Carried, here}
-use Rattle.tube_side.specs.CodeSteps.{IsPaidOnTrust}
-use Rattle.tube_side.specs.CodeTrust.{HasTrusted}
+use Rattle.tube_cell.specs.Views.{shown_to}
+use Rattle.tube_cell.specs.Passes.{here}
 use Rattle.tube_side.proofs.Waits.{here_bare}
 use Rattle.tube_side.proofs.trust.tell_more.Goals as goal
 
 pub entrust_on-requires-clause-shown : goal.entrust_on-requires-clause-shown
 entrust_on-requires-clause-shown g c =
     let same : c.args.mark.now.readings ≡ c.readings.result = search rules in
-    here_bare c.loop.pass g.W.Ahead.way.readings (c.loop.invariant.told c.requires.told.0 c.requires.told.1).ahead (c.requires.shown ∙ same ∙ c.readings.ensures.readings ∙ ap (λ (s : Side). shown_to s (here c.loop.pass)) (c.loop.invariant.side ∙ c.requires.side))
-    ∙ ap (λ (x : Carried). readings_of x.known.chip) (sym c.readings.ensures.pass)
+    here_bare c.loop.pass g.W.Ahead.way.readings (c.loop.invariant.told c.requires.told.0 c.requires.told.1).ahead
+    (c.requires.shown ∙ same ∙ c.readings.ensures ∙ ap (λ (s : Side). shown_to s (here c.loop.pass)) (c.loop.invariant.side ∙ c.requires.side))
 
 pub entrust_on-requires-clause-told : goal.entrust_on-requires-clause-told
-entrust_on-requires-clause-told g c = (
-  c.requires.told.0,
-  subst (λ (x : Carried). HasTrusted g.W.Ahead.way c.args.t.0 c.requires.told.0 x) (sym c.readings.ensures.pass) (c.loop.invariant.told c.requires.told.0 c.requires.told.1),
-)
+entrust_on-requires-clause-told g c = (c.requires.told.0, c.loop.invariant.told c.requires.told.0 c.requires.told.1)
 
 pub returns-then-entrust_on-clause-paid : goal.returns-then-entrust_on-clause-paid
-returns-then-entrust_on-clause-paid g c p paid =
-    c.entrust_on.ensures.paid p (subst (λ (x : Carried). IsPaidOnTrust p x) (sym c.readings.ensures.pass) (c.loop.invariant.paid p paid))
+returns-then-entrust_on-clause-paid g c p paid = c.entrust_on.ensures.paid p (c.loop.invariant.paid p paid)
 
 pub returns-then-entrust_on-clause-told : goal.returns-then-entrust_on-clause-told
-returns-then-entrust_on-clause-told g c p told =
-    c.entrust_on.ensures.told p (subst (λ (x : Carried). HasTrusted g.W.Ahead.way c.args.t.0 p x) (sym c.readings.ensures.pass) (c.loop.invariant.told p told))
-
-pub returns-then-ne-clause-paid : goal.returns-then-ne-clause-paid
-returns-then-ne-clause-paid g c p paid = subst (λ (x : Carried). IsPaidOnTrust p x) (sym c.readings.ensures.pass) (c.loop.invariant.paid p paid)
+returns-then-entrust_on-clause-told g c p told = c.entrust_on.ensures.told p (c.loop.invariant.told p told)
 
 pub loop-preserved : goal.loop-preserved
 loop-preserved g c = record {
   can_next = tt;
   finite = tt;
-  told = λ p told. c.entrust_on.ensures.told p (subst (λ (x : Carried). HasTrusted g.W.Ahead.way c.args.t.0 p x) (sym c.readings.ensures.pass) (c.loop.invariant.told p told));
-  paid = λ p paid. c.entrust_on.ensures.paid p (subst (λ (x : Carried). IsPaidOnTrust p x) (sym c.readings.ensures.pass) (c.loop.invariant.paid p paid));
-  cell = c.entrust_on.ensures.seat.0 ∙ ap (λ (x : Carried). x.cell) c.readings.ensures.pass ∙ c.loop.invariant.cell;
-  side = c.entrust_on.ensures.seat.1 ∙ ap (λ (x : Carried). x.side) c.readings.ensures.pass ∙ c.loop.invariant.side;
+  told = λ p told. c.entrust_on.ensures.told p (c.loop.invariant.told p told);
+  paid = λ p paid. c.entrust_on.ensures.paid p (c.loop.invariant.paid p paid);
+  cell = c.entrust_on.ensures.seat.0 ∙ c.loop.invariant.cell;
+  side = c.entrust_on.ensures.seat.1 ∙ c.loop.invariant.side;
 }
