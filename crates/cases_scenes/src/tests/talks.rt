@@ -130,6 +130,45 @@ keys
 | at 2100 break
 again 2111 119, 2112 120, 2117 121, 2143 122, 3036 164, 3037 166, 3058 168
 line o.trace 000000083F H X 0 00
+# Register 4 asks for interrupts as long as Q is set: at 36. The second processor, ready at 912, writes FF at 918, which the look at 926 finds, not that at
+## 917: the handler, from 948 on, reads it at 957. Polls for room at 930 and each 14 ticks are in vain up to 944. Q is clear from 975 on, and FE, written at
+## 976, asks for nothing; polls from 988 on are in vain. Q is set again at 1146, and the look at 1166, behind RTI, finds the FE: it is read at 1197.
+os
+| org &C000
+| LDA #&81
+| STA &FEE0
+| CLI
+| loop: JMP loop
+| irq: LDA &FEE7
+| LDX #1
+| STX &FEE0
+| LDY #10
+| pass: DEY
+| BNE pass
+| LDX #&81
+| STX &FEE0
+| RTI
+| org &FFFA
+| word irq, &C000, irq
+tube
+| org &F800
+| LDX #31
+| copy: LDA &F800,X
+| STA &F800,X
+| DEX
+| BPL copy
+| send: STX &FEFF
+| DEX
+| wait: BIT &FEFE
+| BVC wait
+| BVS send
+| org &FFFC
+| word &F800, 0
+again 36 0, 37 1, 918 1, 919 2, 926 2, 927 2, 931 3, 945 4, 957 4, 958 5, 959 6, 975 6, 976 7, 977 8, 989 9, 1146 20, 1147 21, 1166 22, 1167 22
+again 1197 24, 1198 25, 1199 26, 20000 1592
+line o.trace 00000003BD H R 7 FF
+line o.trace 00000003D0 P W 7 FE
+line o.trace 00000004AD H R 7 FE
 # Forms of both sides. The host fills all registers: 81 and 42 lie in register 3 under V, 5E, 4C and 55 in 1, 2 and 4. The second processor reads
 ## from 3624 on, where a register that was taken shows the same. A carry reads nothing of the Tube here; TSB, TRB, INC and ASL read twice, which
 ## takes both bytes of register 3, and write once; ADC takes one more cycle under D. It sends 02 to 12 too, and jumps by a status and a byte to 557F.
