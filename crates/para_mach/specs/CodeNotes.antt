@@ -41,4 +41,4 @@ pub record LooksOn (n : ℕ) (v : Shown) (old : ParaState) (ask : Ask) (new : Pa
 
 -- a tick below which a run from a step at the tick due has room for its notes: a write takes a cycle, and a sequence has at most 16 accesses
 abbrev pub IsNear : Clock → ℕ → ℕ → ℕ → ℕ → Type 0
-IsNear clock sure due room near = (near ≤ sure) × (near ≤ due + para clock * (min room 4096 - 16))
+IsNear clock sure due room near = (near ≤ sure) × (near ≤ due + para clock * (min room 65536 - 16))

@@ -57,13 +57,13 @@ pub(crate) struct Stood {
 }
 
 /// How many writes can be noted.
-const ROOM: usize = 4_096;
+const ROOM: usize = 65_536;
 
 /// The bytes that stood where the RAM was written, the oldest first.
 #[derive(Drop)]
 pub(crate) struct UndoLog {
     pub(crate) stood: Vec<Stood>,
-    ghost roomy: { 4096 ≤ vec_capacity stood },
+    ghost roomy: { 65536 ≤ vec_capacity stood },
 }
 
 impl UndoLog {
@@ -85,7 +85,7 @@ impl UndoLog {
     /// For how many writes there is room.
     #[inline(always)]
     pub(crate) fn room(&self) -> u64
-        ensures { result ≡ min (vec_capacity self.now.stood - vec_len self.now.stood) 4096 }
+        ensures { result ≡ min (vec_capacity self.now.stood - vec_len self.now.stood) 65536 }
     {
         self.stood
             .capacity()

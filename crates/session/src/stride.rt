@@ -21,7 +21,7 @@ const FEWEST: u64 = 64;
 
 const MOST: u64 = 2_048;
 
-const SPAN: u64 = 65_536;
+const SPAN: u64 = 1_048_576;
 
 /// The usual lengths.
 pub const USUAL: Strides = Strides {

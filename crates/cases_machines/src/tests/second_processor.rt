@@ -378,7 +378,7 @@ fn a_look_is_seen_below_the_sure_tick(rt: HostRuntime) -> Result<(), Fail> {
 }
 
 // The clock, the code, the tick below which looks are sure at first, then the same for the run that is rolled back, and 1 if it goes that far,
-// else 0: at most 4,096 writes are noted, each of which takes a cycle at least.
+// else 0: at most 65,536 writes are noted, each of which takes a cycle at least.
 const TAKEN_BACK: &str = "\
 3 loop 0 0 1
 3 loop 0 900 1
@@ -386,7 +386,7 @@ const TAKEN_BACK: &str = "\
 3 writer 0 900 1
 3 writer 700 700 1
 3 writer 700 8000 1
-3 writer 17 8180 1
+3 writer 17 131060 1
 3 writer 17 400000 0
 3 letters 20 9000 1
 4 loop 0 0 1
@@ -395,7 +395,7 @@ const TAKEN_BACK: &str = "\
 4 writer 0 1350 1
 4 writer 1050 1050 1
 4 writer 1050 12000 1
-4 writer 26 12270 1
+4 writer 26 196590 1
 4 writer 26 600000 0
 4 letters 30 13500 1
 ";
