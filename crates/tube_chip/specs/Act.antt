@@ -1,5 +1,5 @@
 -- What an operation of one side does to the chip, and what it answers.
-use Rattle.std.specs.Prelude.{ℕ, ◌≡◌, ◌+◌, ◌/◌, ◌%◌, ◌^◌, ◌<◌, ◌==◌, ◌&&◌, nat_lt, Bool, not, if◌then◌else◌}
+use Rattle.std.specs.Prelude.{ℕ, ◌≡◌, ◌+◌, ◌/◌, ◌%◌, ◌^◌, ◌<◌, ◌==◌, ◌&&◌, nat_lt, Bool, true, not, if◌then◌else◌}
 use Rattle.beeb_bits.specs.Bits.{bit, weight}
 use Rattle.beeb_bits.specs.declared.Side.{Side}
 use Rattle.beeb_bits.specs.declared.Side.TheVariants.{Host, Para}
@@ -121,3 +121,11 @@ act c side look = (c, Seen (lines_of c))
 -- The side may do this operation, and the lines and the flags are as they were behind it.
 abbrev pub LeavesLines : State → Side → Op → Type 0
 LeavesLines c side op = MayDo side op × (lines_of (chip_after c side op) ≡ lines_of c) × ((chip_after c side op).flags ≡ c.flags)
+
+-- What a side reads of its status registers is the same.
+abbrev pub ShowsAlike : Side → State → State → Type 0
+ShowsAlike side c d = (number : ℕ) → is_status number ≡ true → answer_of d side (Read number) ≡ answer_of c side (Read number)
+
+-- An operation of the host leaves all that the parasite may see without an access that changes something: the lines, and its status registers.
+abbrev pub LeavesSeen : State → Op → Type 0
+LeavesSeen c op = LeavesLines c Host op × ShowsAlike Para c (chip_after c Host op)

@@ -4,7 +4,7 @@ ghost use Rattle.beeb_bits.specs.Bits.{weight};
 ghost use Rattle.beeb_bits.specs.declared.Side.TheVariants.{Host, Para};
 ghost use Rattle.tube_chip.specs.Register.{count, write_leaves};
 ghost use Rattle.tube_chip.specs.State.{power_on, lines_of, is_empty, is_ready, wants_service, asks_nmi, clear_leaves};
-ghost use Rattle.tube_chip.specs.Act.{MayDo, LeavesLines, is_status, register_number, status, answer_of, control_leaves, op_leaves, count_of_rises, with_counts, chip_after};
+ghost use Rattle.tube_chip.specs.Act.{MayDo, LeavesLines, LeavesSeen, is_status, register_number, status, answer_of, control_leaves, op_leaves, count_of_rises, with_counts, chip_after};
 ghost use Rattle.tube_chip.specs.declared.Op.TheVariants.{Read, Write, Reset};
 
 use crate::flags::{Flags, flags_after, flags_byte, no_flags};
@@ -233,6 +233,19 @@ impl Chip {
             1 | 3 => true,
             5 => !self.flags.m,
             7 => !self.flags.q,
+            _ => false,
+        }
+    }
+
+    /// Whether an operation of the host surely leaves the lines, and what the parasite reads of its status registers: a byte is taken of a register 1 that
+    /// was not full, or a status is read.
+    #[inline(always)]
+    pub fn leaves_seen(&self, op: Op) -> bool
+        ensures { result ≡ true → LeavesSeen self.now op }
+    {
+        match op {
+            Op::Read(1) => self.to_host.r1.count() < 24,
+            Op::Read(number) => number < 8 && number % 2 == 0,
             _ => false,
         }
     }

@@ -39,6 +39,7 @@ fn marked(byte: u8, n: u8, set: bool, flag: bool) -> bool
 }
 
 /// The low six bits of the status of register 1.
+#[inline(always)]
 pub(crate) fn flags_byte(flags: Flags) -> u8
     ensures value { result ≡ flags_byte (flags_of flags) }
     ensures bound { result ≤ 63 }

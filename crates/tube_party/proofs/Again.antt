@@ -1,8 +1,14 @@
--- The same answer again and again.
+-- The same answer again and again, of a chip that is left alone.
 use Rattle.std.proofs.Common.{ℕ, zero, suc, ◌≡◌, ◌+◌, ◌*◌, ◌∙◌, refl, sym, ap, subst, arith}
 use Rattle.std.proofs.Math.Nat.{mul-add, mul-one}
+use Rattle.std.specs.Prelude.{Bool}
+use Rattle.tube_chip.specs.State.{State}
 use Rattle.tube_chip.specs.declared.Op.{Op}
+use Rattle.tube_party.specs.CodePassing.{StaysSeen}
 use Rattle.tube_party.specs.Moves.{IsAnsweredAgain}
+
+pub still-seen : (is_read : Bool) (c d : State) → d ≡ c → StaysSeen is_read c d
+still-seen is_read c d same = subst (StaysSeen is_read c) (sym same) (refl, refl, λ _ number is. refl)
 
 module _ {D : Type 0} (answers : D → ℕ → Op → ℕ → D → Type 0) (op : Op) (byte period : ℕ) where
   pub period-more : (k : ℕ) → period * suc k ≡ period * k + period

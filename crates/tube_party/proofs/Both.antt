@@ -26,7 +26,7 @@ use Rattle.tube_party.proofs.Ticks.{world, rest, host_silent, para_next, para_si
 use Rattle.tube_party.proofs.Runs.{event, First, Over, Silent, Asking, first_of_runs}
 use Rattle.tube_party.proofs.Kept.{kept_own, kept_host_by_para, kept_para_by_host}
 use Rattle.tube_party.specs.Logs.{at_most_one}
-use Rattle.tube_party.proofs.Ways.{IsIdle, IsBelow, IsWay, way_of_looks, IsOn, IsCourse, course_of, no_way, looks_still, kept_way, kept_beside, cut_back, none_of}
+use Rattle.tube_party.proofs.Ways.{IsIdle, IsBelow, IsWay, way_of_looks, IsOn, IsCourse, course_of, no_way, seen_still, kept_way, kept_beside, cut_back, none_of}
 use Rattle.tube_party.proofs.UnderWay.{IsAt, IsGoing, Mark}
 use Rattle.tube_party.specs.Steps.{due_rises}
 use Rattle.tube_party.proofs.Early.{alike, like_on, IsEarly, early_host, free_look, para_does}
@@ -269,17 +269,15 @@ module _ {S T : Type 0} (h : Moves S) (p : Moves T) (lh : IsLawful h) (lp : IsLa
 
   -- what the parasite saw stays as it is
   still_idle : (keep : ℕ) (w0 : World S T) (from : Mark T) (s : S) (t : T) (c c2 : State) (ask_h ask_p : Ask) (hl pl : List Entry) (hc pc : ℕ)
-      (ahead is_whole : Bool)
+      (ahead is_read : Bool)
       → (w : IsGoing h p n few keep w0 ahead from s t c ask_h ask_p hl pl hc pc)
-      → (is_whole ≡ false → ahead ≡ true → pc ≡ from.count) → (ahead ≡ true → StaysSeen is_whole c c2) → All (IsIdle c2) w.way.events
-  still_idle keep w0 from s t c c2 ask_h ask_p hl pl hc pc ahead is_whole w none stays = by ahead is_whole refl refl
+      → (is_read ≡ false → ahead ≡ true → pc ≡ from.count) → (ahead ≡ true → StaysSeen is_read c c2) → All (IsIdle c2) w.way.events
+  still_idle keep w0 from s t c c2 ask_h ask_p hl pl hc pc ahead is_read w none stays = by ahead refl
     where
-      by : (a r : Bool) → ahead ≡ a → is_whole ≡ r → All (IsIdle c2) w.way.events
-      by false r ea er = subst (All (IsIdle c2)) (sym (w.here ea)) (All-nil (IsIdle c2))
-      by true true ea er = subst (λ (x : State). All (IsIdle x) w.way.events) (sym ((stays ea).2 er)) w.way.idle
-      by true false ea er =
-          let few : length w.entries ≡ 0 = omega (arith, w.count_is, (w.back ea).2, none er ea) in
-          looks_still c c2 w.way.events w.way.idle (w.way.noted ∙ none_of w.entries few) (stays ea).0
+      by : (a : Bool) → ahead ≡ a → All (IsIdle c2) w.way.events
+      by false ea = subst (All (IsIdle c2)) (sym (w.here ea)) (All-nil (IsIdle c2))
+      by true ea = seen_still is_read c c2 (stays ea).0 (stays ea).2 w.way.events w.way.idle
+          (λ er. w.way.noted ∙ none_of w.entries (omega (arith, w.count_is, (w.back ea).2, none er ea)))
 
   -- so its looks may be done at once where they come in time, or see its own request alone
   early_look : (sure i : ℕ) (t last new : T) (c : State) (ask_p : Ask) (way : List Event) → Runs p Para n i t (course way last) → All (IsIdle c) way
@@ -290,18 +288,18 @@ module _ {S T : Type 0} (h : Moves S) (p : Moves T) (lh : IsLawful h) (lp : IsLa
 
   -- the host's turn
   pub host_goes : (keep sure : ℕ) (w0 : World S T) (from : Mark T) (s s2 s3 : S) (t : T) (c c2 : State) (ask_h ask_p ask2 : Ask) (hl pl hl2 : List Entry)
-      (hc pc hc2 : ℕ) (ahead is_whole : Bool)
+      (hc pc hc2 : ℕ) (ahead is_read : Bool)
       → IsGoing h p n few keep w0 ahead from s t c ask_h ask_p hl pl hc pc
       → first_of ask_h ask_p ≡ Some Host
       → Acts h Host keep (seated s c hl hc) (seated s2 c2 hl2 hc2)
-      → (is_whole ≡ false → ahead ≡ true → pc ≡ from.count) → (ahead ≡ true → StaysSeen is_whole c c2)
+      → (is_read ≡ false → ahead ≡ true → pc ≡ from.count) → (ahead ≡ true → StaysSeen is_read c c2)
       → IsSeen h c2 ask_p sure
       → Sees h n (shown_lines (lines_of c2) sure) s2 ask2 s3
       → IsGoing h p n few keep w0 ahead from s3 t c2 ask2 ask_p hl2 pl hc2 pc
-  host_goes keep sure w0 from s s2 s3 t c c2 ask_h ask_p ask2 hl pl hl2 hc pc hc2 ahead is_whole w e d none stays seen sees =
+  host_goes keep sure w0 from s s2 s3 t c c2 ask_h ask_p ask2 hl pl hl2 hc pc hc2 ahead is_read w e d none stays seen sees =
       let f : HostFirst h p n s w.at.host_last w.last ask_h = host_first h p n s w.at.host_last t w.last ask_h ask_p w.at.host_asked w.asked e in
       let same_due : h.due s ≡ h.due w.at.host_last = ap h.due f.here in
-      let still : All (IsIdle c2) w.way.events = still_idle keep w0 from s t c c2 ask_h ask_p hl pl hc pc ahead is_whole w none stays in
+      let still : All (IsIdle c2) w.way.events = still_idle keep w0 from s t c c2 ask_h ask_p hl pl hc pc ahead is_read w none stays in
       record {
         mark = w.mark;
         last = w.last;

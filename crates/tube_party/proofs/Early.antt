@@ -21,7 +21,7 @@ use Rattle.tube_party.specs.Reference.{Seat, World, step_leaves, step_if_due, wi
 use Rattle.tube_party.proofs.Ticks.{seat, world, host_done, still, same_or_above, host_here, host_next, para_next, para_silent}
 use Rattle.tube_party.proofs.Runs.{event, First, Over, Silent, Asking, first_of_runs}
 use Rattle.tube_party.proofs.Kept.{grows}
-use Rattle.tube_party.proofs.Ways.{IsIdle, IsBelow}
+use Rattle.tube_party.proofs.Ways.{IsIdle, IsBelow, glance_leaves}
 
 pub alike : {S T : Type 0} (w v : World S T) → w ≡ v → IsLike w v
 alike w v e = record {
@@ -171,14 +171,15 @@ module _ {S T : Type 0} (h : Moves S) (p : Moves T) (lh : IsLawful h) (lp : IsLa
       ]
 
   module _ (n : ℕ) where
-    -- the parasite's step, which the chip answers and is left by
+    -- the parasite's step, which leaves the chip
     para_idle : (s : S) (t : T) (c : State) (l : List Event) (q : Query) (a : Answer) → p.due t < n → p.due t < h.due s → p.asks t ≡ Some q
         → IsIdle c (event (p.due t) Para q a)
         → ticks h p n 0 (world s t c l) ≡ ticks h p n 0 (world s (p.next t (Some a)) c (l ++ event (p.due t) Para q a ∷ []))
     para_idle s t c l q a low first asks idle =
         para_next h p lh lp n 0 s t c l (omega arith) (omega arith) first
         ∙ ap (λ (o : Option Query). ticks h p n 0 (with_host s (step_leaves p Para (seat t c l) o))) asks
-        ∙ ap (λ (x : State). ticks h p n 0 (world s (p.next t (Some (act c Para q).1)) x (l ++ event (p.due t) Para q (act c Para q).1 ∷ []))) idle.0
+        ∙ ap (λ (x : State). ticks h p n 0 (world s (p.next t (Some (act c Para q).1)) x (l ++ event (p.due t) Para q (act c Para q).1 ∷ [])))
+        (glance_leaves c q idle.0)
         ∙ ap (λ (x : Answer). ticks h p n 0 (world s (p.next t (Some x)) c (l ++ event (p.due t) Para q x ∷ []))) idle.1
 
     -- The parasite's steps before the host's next step are the reference's.

@@ -20,9 +20,9 @@ use Rattle.tube_party.specs.Turn.{IsPending, first_of, tick_of, ticks_left, IsSu
 use Rattle.tube_party.specs.CodeAtWork.{Acts, own_of}
 use Rattle.tube_party.specs.Logs.{HasNoted}
 use Rattle.tube_party.specs.Steps.{talks_rise}
-use Rattle.tube_party.specs.CodePassing.{Attended, StaysSeen, IsPassed, chip_behind, passed_entry}
+use Rattle.tube_party.specs.CodePassing.{Attended, StaysSeen, IsStatusRead, IsPassed, chip_behind, passed_entry}
 use Rattle.tube_party.specs.CodeStanding.{Standing, IsGone, IsRolledBack, para_turn}
-use Rattle.tube_party.proofs.Ways.{IsWay, way_of_looks, way_first, way_on}
+use Rattle.tube_party.proofs.Ways.{IsWay, glance_leaves, way_of_looks, way_first, way_on}
 use Rattle.tube_party.proofs.First.{HostFirst, ParaFirst, host_first, para_first}
 use Rattle.tube_party.proofs.UnderWay.{IsAt, IsGoing, Mark}
 use Rattle.tube_party.proofs.Both.{seated, rest_of, IsSeen, in_time, tick_of_first, host_or_para, settled, stands, stood, host_goes, host_smaller, para_step, para_smaller, goes_along, goes_on, rolled_back}
@@ -49,41 +49,69 @@ behind_is h n s c (Look t) q pending asks =
     let is : q ≡ look = cc in
     ap (λ (x : Query). (act c Host x).0) is
 
--- ---- The parasite's accesses in passing at the chip as it stays
+-- ---- What an access in passing leaves of both logs
 
--- One of them was done at the chip, which had to stay and did, and noted.
+abbrev pub other : Side → Side
+other Host = Para
+other Para = Host
+
+abbrev pub log_of : Side → Attended → Log
+log_of Host d = d.host
+log_of Para d = d.para
+
+own_own : (side : Side) (tick : ℕ) (op : Op) (byte : ℕ) → own_of side (passed_entry side tick op byte) ≡ passed_entry side tick op byte ∷ []
+own_own Host tick op byte = refl
+own_own Para tick op byte = refl
+
+own_none : (side : Side) (tick : ℕ) (op : Op) (byte : ℕ) → own_of (other side) (passed_entry side tick op byte) ≡ []
+own_none Host tick op byte = refl
+own_none Para tick op byte = refl
+
+noted_in : (side : Side) (tick : ℕ) (op : Op) (byte : ℕ) (d f : Attended) → IsPassed d tick op byte f
+    → HasNoted (own_of side (passed_entry d.turn tick op byte)) (log_of side d) (log_of side f)
+noted_in Host tick op byte d f x = x.host_noted
+noted_in Para tick op byte d f x = x.para_noted
+
+-- The other side's log is as it was.
+other_stays : (side : Side) (tick : ℕ) (op : Op) (byte : ℕ) (d f : Attended) → d.turn ≡ side → IsPassed d tick op byte f
+    → ((log_of (other side) f).list.items ≡ (log_of (other side) d).list.items) × ((log_of (other side) f).count ≡ (log_of (other side) d).count)
+other_stays side tick op byte d f turn x =
+    let noted = noted_in (other side) tick op byte d f x in
+    let log : Log = log_of (other side) d in
+    let none : own_of (other side) (passed_entry d.turn tick op byte) ≡ [] =
+    ap (λ (z : Side). own_of (other side) (passed_entry z tick op byte)) turn ∙ own_none side tick op byte in
+    let zero : log.count + 0 ≡ log.count = omega arith in
+    (noted.list_is ∙ ap (note_all_leaves log.keep log.list.items) none, noted.count_is ∙ ap (λ (z : List Entry). log.count + length z) none ∙ zero)
+
+-- ---- The parasite reads its status registers in passing
+
+-- One of them was read, which left the chip, and noted.
 record IsRead (keep : ℕ) (d : Attended) (tick : ℕ) (op : Op) (byte : ℕ) (f : Attended) : Type 0 where
   early : tick < d.sure
-  stays : chip_after d.chip Para op ≡ d.chip
+  reads : IsStatusRead op
   byte_is : byte ≡ answer_of d.chip Para op
   chip_is : f.chip ≡ d.chip
   list_is : f.para.list.items ≡ note_leaves keep d.para.list.items (passed_entry Para tick op byte)
   count_is : f.para.count ≡ d.para.count + 1
-  host_list : f.host.list.items ≡ d.host.list.items
-  host_count : f.host.count ≡ d.host.count
+  other_is : (f.host.list.items ≡ d.host.list.items) × (f.host.count ≡ d.host.count)
 
-read_by : (keep : ℕ) (d : Attended) (tick : ℕ) (op : Op) (byte : ℕ) (f : Attended) → d.turn ≡ Para → d.is_whole ≡ true → d.para.keep ≡ keep
+read_by : (keep : ℕ) (d : Attended) (tick : ℕ) (op : Op) (byte : ℕ) (f : Attended) → d.turn ≡ Para → d.is_read ≡ true → d.para.keep ≡ keep
     → IsPassed d tick op byte f → IsRead keep d tick op byte f
-read_by keep d tick op byte f turn whole kept x =
-    let stays : chip_after d.chip Para op ≡ d.chip =
-    ap (λ (z : Side). chip_after d.chip z op) (sym turn) ∙ x.stays.2 whole in
+read_by keep d tick op byte f turn ahead kept x =
+    let reads : IsStatusRead op = x.reads ahead turn in
     let more : d.para.count + length (own_of Para (passed_entry d.turn tick op byte)) ≡ d.para.count + 1 =
     ap (λ (z : Side). d.para.count + length (own_of Para (passed_entry z tick op byte))) turn in
-    let none : d.host.count + length (own_of Host (passed_entry d.turn tick op byte)) ≡ d.host.count + 0 =
-    ap (λ (z : Side). d.host.count + length (own_of Host (passed_entry z tick op byte))) turn in
-    let zero : d.host.count + 0 ≡ d.host.count = omega arith in
     record {
       early = x.early;
-      stays = stays;
+      reads = reads;
       byte_is = x.byte_is ∙ ap (λ (z : Side). answer_of d.chip z op) turn;
-      chip_is = x.chip_is ∙ ap (λ (z : Side). chip_after d.chip z op) turn ∙ stays;
+      chip_is = x.chip_is ∙ ap (λ (z : Side). chip_after d.chip z op) turn ∙ glance_leaves d.chip (access op) reads;
       list_is =
           x.para_noted.list_is
           ∙ ap (λ (z : Side). note_all_leaves d.para.keep d.para.list.items (own_of Para (passed_entry z tick op byte))) turn
           ∙ ap (λ (z : ℕ). note_leaves z d.para.list.items (passed_entry Para tick op byte)) kept;
       count_is = x.para_noted.count_is ∙ more;
-      host_list = x.host_noted.list_is ∙ ap (λ (z : Side). note_all_leaves d.host.keep d.host.list.items (own_of Host (passed_entry z tick op byte))) turn;
-      host_count = x.host_noted.count_is ∙ none ∙ zero;
+      other_is = other_stays Para tick op byte d f turn x;
     }
 
 -- So many of them were, among its steps from t to last.
@@ -114,20 +142,20 @@ module _ {T : Type 0} (p : Moves T) (n sure keep : ℕ) (lines : Lines) where
         host_keep = refl;
       }
 
-  pub para_reads : (j : ℕ) (t last : T) (d e : Attended) → lines ≡ lines_of d.chip → d.turn ≡ Para → d.is_whole ≡ true → d.sure ≡ sure → d.para.keep ≡ keep
+  pub para_reads : (j : ℕ) (t last : T) (d e : Attended) → lines ≡ lines_of d.chip → d.turn ≡ Para → d.is_read ≡ true → d.sure ≡ sure → d.para.keep ≡ keep
       → Talks p IsPassed n (shown_lines lines sure) j t d last e → HasRead p n sure keep t last d e
-  para_reads zero t last d e same turn whole until kept talks = subst (λ (x : Attended). HasRead p n sure keep t last d x) talks.0
+  para_reads zero t last d e same turn ahead until kept talks = subst (λ (x : Attended). HasRead p n sure keep t last d x) talks.0
       (none_read talks.1.0 t last d same kept talks.1.1)
-  para_reads (suc j) t last d e same turn whole until kept talks =
+  para_reads (suc j) t last d e same turn ahead until kept talks =
       let at : T = talks.0 in
       let on : T = talks.1 in
       let f : Attended = talks.2 in
       let answered : IsAnswered p IsPassed n at d on f = talks.4 in
       let passed : IsPassed d (p.due at) answered.op answered.byte f = answered.answered in
-      let one : IsRead keep d (p.due at) answered.op answered.byte f = read_by keep d (p.due at) answered.op answered.byte f turn whole kept passed in
+      let one : IsRead keep d (p.due at) answered.op answered.byte f = read_by keep d (p.due at) answered.op answered.byte f turn ahead kept passed in
       let x : Entry = passed_entry Para (p.due at) answered.op answered.byte in
       let more : HasRead p n sure keep on last f e =
-      para_reads j on last f e (same ∙ ap lines_of (sym one.chip_is)) (passed.turn_is ∙ turn) (passed.is_whole_is ∙ whole) (passed.sure_is ∙ until) (passed.para_noted.keep_is ∙ kept)
+      para_reads j on last f e (same ∙ ap lines_of (sym one.chip_is)) (passed.turn_is ∙ turn) (passed.is_read_is ∙ ahead) (passed.sure_is ∙ until) (passed.para_noted.keep_is ∙ kept)
       talks.5 in
       let looks : HasRead p n sure keep t at d d = none_read talks.3.0 t at d same kept talks.3.1 in
       record {
@@ -135,14 +163,14 @@ module _ {T : Type 0} (p : Moves T) (n sure keep : ℕ) (lines : Lines) where
         way =
             way_on p n sure d.chip t at last [] (x ∷ more.entries) looks.way
             (way_first p n sure d.chip at on last answered.op answered.byte more.entries answered.below answered.asks answered.goes
-            (omega (arith, one.early, until)) one.stays one.byte_is
+            (omega (arith, one.early, until)) one.reads one.byte_is
             (subst (λ (z : State). IsWay p n sure z on last more.entries) one.chip_is more.way));
         chip_is = more.chip_is ∙ one.chip_is;
         list_is = more.list_is ∙ ap (λ (z : List Entry). note_all_leaves keep z more.entries) one.list_is;
         count_is = omega (arith, more.count_is, one.count_is);
         keep_is = more.keep_is;
-        host_list = more.host_list ∙ one.host_list;
-        host_count = more.host_count ∙ one.host_count;
+        host_list = more.host_list ∙ one.other_is.0;
+        host_count = more.host_count ∙ one.other_is.1;
         host_keep = more.host_keep ∙ passed.host_noted.keep_is;
       }
 
@@ -170,27 +198,36 @@ module _ {S T : Type 0} (h : Moves S) (p : Moves T) (lh : IsLawful h) (lp : IsLa
       (subst (λ (x : ℕ). IsGoing h p n few keep w0 ahead from s t c ask_h ask_p hl pl x pc2) (sym ehc)
       (subst (λ (x : ℕ). IsGoing h p n few keep w0 ahead from s t c ask_h ask_p hl pl hc x) (sym epc) w))))
 
-  -- ---- The host's turn
-
-  -- The host's turn goes on at the desk.
-  pub record IsHosts (sure : ℕ) (ahead : Bool) (from : Mark T) (lines : Lines) (pl : List Entry) (pc : ℕ) (d : Attended) : Type 0 where
-    pub turn : d.turn ≡ Host
-    pub until : d.sure ≡ sure
+  -- A side's turn goes on at the desk, and the other's log is this.
+  pub record IsSides (side : Side) (until : ℕ) (lines : Lines) (list : List Entry) (count : ℕ) (d : Attended) : Type 0 where
+    pub turn : d.turn ≡ side
+    pub until_is : d.sure ≡ until
     pub lines_is : lines ≡ lines_of d.chip
     pub host_keep : d.host.keep ≡ keep
     pub para_keep : d.para.keep ≡ keep
-    pub list_is : d.para.list.items ≡ pl
-    pub count_is : d.para.count ≡ pc
-    pub none : d.is_whole ≡ false → ahead ≡ true → pc ≡ from.count
+    pub list_is : (log_of (other side) d).list.items ≡ list
+    pub count_is : (log_of (other side) d).count ≡ count
+
+  still_sides : (side : Side) (until : ℕ) (lines : Lines) (list : List Entry) (count tick : ℕ) (op : Op) (byte : ℕ) (d f : Attended)
+      → IsSides side until lines list count d → IsPassed d tick op byte f → IsSides side until lines list count f
+  still_sides side until lines list count tick op byte d f x passed =
+      let stays = other_stays side tick op byte d f x.turn passed in
+      record {
+        turn = passed.turn_is ∙ x.turn;
+        until_is = passed.sure_is ∙ x.until_is;
+        lines_is = x.lines_is ∙ sym (ap lines_of passed.chip_is ∙ passed.stays.0);
+        host_keep = passed.host_noted.keep_is ∙ x.host_keep;
+        para_keep = passed.para_noted.keep_is ∙ x.para_keep;
+        list_is = stays.0 ∙ x.list_is;
+        count_is = stays.1 ∙ x.count_is;
+      }
+
+  -- ---- The host's turn
 
   sees_by : (sure k : ℕ) (l m : Lines) (s last s3 : S) (ask : Ask) → l ≡ m → Looks h n (shown_lines l sure) k s last → IsAsk h n last ask s3 → IsUnsure sure ask
       → Sees h n (shown_lines m sure) s ask s3
   sees_by sure k l m s last s3 ask e looks asked unsure =
       record { steps = k; last = last; looks = subst (λ (x : Lines). Looks h n (shown_lines x sure) k s last) e looks; asked = asked; unsure = unsure }
-
-  own_own : (side : Side) (tick : ℕ) (op : Op) (byte : ℕ) → own_of side (passed_entry side tick op byte) ≡ passed_entry side tick op byte ∷ []
-  own_own Host tick op byte = refl
-  own_own Para tick op byte = refl
 
   -- an access in passing is a step at the chip
   passed_act : {U : Type 0} (m : Moves U) (side : Side) (at on : U) (op : Op) (byte : ℕ) (d f : Attended) (old new : Log) → d.turn ≡ side → old.keep ≡ keep
@@ -213,28 +250,6 @@ module _ {S T : Type 0} (h : Moves S) (p : Moves T) (lh : IsLawful h) (lp : IsLa
         count_is = noted.count_is ∙ ap (λ (z : List Entry). old.count + length z) entries;
       }
 
-  passed_stays : (ahead : Bool) (tick : ℕ) (op : Op) (byte : ℕ) (d f : Attended) → d.turn ≡ Host → IsPassed d tick op byte f → ahead ≡ true
-      → StaysSeen d.is_whole d.chip f.chip
-  passed_stays ahead tick op byte d f turn x is =
-      (ap lines_of x.chip_is ∙ x.stays.0, ap (λ (z : State). z.flags) x.chip_is ∙ x.stays.1, λ r. x.chip_is ∙ x.stays.2 r)
-
-  still_hosts : (sure : ℕ) (ahead : Bool) (from : Mark T) (lines : Lines) (pl : List Entry) (pc tick : ℕ) (op : Op) (byte : ℕ) (d f : Attended)
-      → IsHosts sure ahead from lines pl pc d → IsPassed d tick op byte f
-      → IsHosts sure ahead from lines pl pc f
-  still_hosts sure ahead from lines pl pc tick op byte d f x passed =
-      let zero : d.para.count + 0 ≡ d.para.count = omega arith in
-      record {
-        turn = passed.turn_is ∙ x.turn;
-        until = passed.sure_is ∙ x.until;
-        lines_is = x.lines_is ∙ sym (ap lines_of passed.chip_is ∙ passed.stays.0);
-        host_keep = passed.host_noted.keep_is ∙ x.host_keep;
-        para_keep = passed.para_noted.keep_is ∙ x.para_keep;
-        list_is = passed.para_noted.list_is ∙ ap (λ (z : Side). note_all_leaves d.para.keep d.para.list.items (own_of Para (passed_entry z tick op byte)))
-            x.turn ∙ x.list_is;
-        count_is = passed.para_noted.count_is ∙ ap (λ (z : Side). d.para.count + length (own_of Para (passed_entry z tick op byte))) x.turn ∙ zero ∙ x.count_is;
-        none = λ r. x.none (sym passed.is_whole_is ∙ r);
-      }
-
   -- its looks are seen as before
   still_seen : (sure : ℕ) (ask_p : Ask) (tick : ℕ) (op : Op) (byte : ℕ) (d f : Attended) → IsPassed d tick op byte f → IsSeen h d.chip ask_p sure
       → IsSeen h f.chip ask_p sure
@@ -247,18 +262,18 @@ module _ {S T : Type 0} (h : Moves S) (p : Moves T) (lh : IsLawful h) (lp : IsLa
       → IsGoing h p n few keep w0 ahead from s t c ask_h ask_p hl pl hc pc
       → first_of ask_h ask_p ≡ Some Host
       → Acts h Host keep (seated s c hl hc) (seated s2 d.chip d.host.list.items d.host.count)
-      → (ahead ≡ true → StaysSeen d.is_whole c d.chip)
+      → (d.is_read ≡ false → ahead ≡ true → pc ≡ from.count) → (ahead ≡ true → StaysSeen d.is_read c d.chip)
       → IsSure 1 ask_p until → IsSeen h d.chip ask_p sure
-      → IsHosts until ahead from lines pl pc d
+      → IsSides Host until lines pl pc d
       → Talks h IsPassed n (shown_lines lines sure) j s2 d last e
       → IsAsk h n last ask2 s3 → IsUnsure sure ask2
       → IsOver (ticks_left n ask_h + rest_of p n ahead from.state ask_p) ahead from s3 t ask2 ask_p lines e
-  host_passes zero until sure from s s2 s3 last t c lines ask_h ask_p ask2 hl pl hc pc ahead d e w first acts stays told seen x talks asked unsure =
+  host_passes zero until sure from s s2 s3 last t c lines ask_h ask_p ask2 hl pl hc pc ahead d e w first acts none stays told seen x talks asked unsure =
       let sees : Sees h n (shown_lines (lines_of d.chip) sure) s2 ask2 s3 =
       sees_by sure talks.1.0 lines (lines_of d.chip) s2 last s3 ask2 x.lines_is talks.1.1 asked unsure in
       let going : IsGoing h p n few keep w0 ahead from s3 t d.chip ask2 ask_p d.host.list.items pl d.host.count pc =
-      host_goes h p lh lp n few keep sure w0 from s s2 s3 t c d.chip ask_h ask_p ask2 hl pl d.host.list.items hc pc d.host.count ahead d.is_whole w first acts
-      x.none stays seen sees in
+      host_goes h p lh lp n few keep sure w0 from s s2 s3 t c d.chip ask_h ask_p ask2 hl pl d.host.list.items hc pc d.host.count ahead d.is_read w first acts
+      none stays seen sees in
       let less : ticks_left n ask2 < ticks_left n ask_h =
       host_smaller h p lh lp n few keep sure w0 from s s2 s3 t c d.chip ask_h ask_p ask2 hl pl d.host.list.items hc pc d.host.count ahead w first acts sees in
       subst (λ (z : Attended). IsOver (ticks_left n ask_h + rest_of p n ahead from.state ask_p) ahead from s3 t ask2 ask_p lines z) talks.0 (record {
@@ -271,7 +286,7 @@ module _ {S T : Type 0} (h : Moves S) (p : Moves T) (lh : IsLawful h) (lp : IsLa
         };
         smaller = omega arith;
       })
-  host_passes (suc j) until sure from s s2 s3 last t c lines ask_h ask_p ask2 hl pl hc pc ahead d e w first acts stays told seen x talks asked unsure =
+  host_passes (suc j) until sure from s s2 s3 last t c lines ask_h ask_p ask2 hl pl hc pc ahead d e w first acts none stays told seen x talks asked unsure =
       let at : S = talks.0 in
       let on : S = talks.1 in
       let f : Attended = talks.2 in
@@ -283,14 +298,16 @@ module _ {S T : Type 0} (h : Moves S) (p : Moves T) (lh : IsLawful h) (lp : IsLa
       host_smaller h p lh lp n few keep sure w0 from s s2 at t c d.chip ask_h ask_p ask hl pl d.host.list.items hc pc d.host.count ahead w first acts sees in
       let over : IsOver (ticks_left n ask + rest_of p n ahead from.state ask_p) ahead from s3 t ask2 ask_p lines e =
       host_passes j until sure from at on s3 last t d.chip lines ask ask_p ask2 d.host.list.items pl d.host.count pc ahead f e
-      (host_goes h p lh lp n few keep sure w0 from s s2 at t c d.chip ask_h ask_p ask hl pl d.host.list.items hc pc d.host.count ahead d.is_whole w first acts
-      x.none stays seen sees)
-      (still_first (record { 0 = h.due at }) until answered.op ask_p (omega (arith, answered.answered.early, x.until)) told)
+      (host_goes h p lh lp n few keep sure w0 from s s2 at t c d.chip ask_h ask_p ask hl pl d.host.list.items hc pc d.host.count ahead d.is_read w first acts
+      none stays seen sees)
+      (still_first (record { 0 = h.due at }) until answered.op ask_p (omega (arith, answered.answered.early, x.until_is)) told)
       (passed_act h Host at on answered.op answered.byte d f d.host f.host x.turn x.host_keep answered.asks answered.goes answered.answered
       answered.answered.host_noted)
-      (λ is. subst (λ (r : Bool). StaysSeen r d.chip f.chip) (sym answered.answered.is_whole_is)
-      (passed_stays ahead (h.due at) answered.op answered.byte d f x.turn answered.answered is))
-      told (still_seen sure ask_p (h.due at) answered.op answered.byte d f answered.answered seen) (still_hosts until ahead from lines pl pc (h.due at) answered.op answered.byte d f x answered.answered) talks.5 asked unsure in
+      (λ r. none (sym answered.answered.is_read_is ∙ r))
+      (λ _. subst (λ (r : Bool). StaysSeen r d.chip f.chip) (sym answered.answered.is_read_is)
+      (subst (StaysSeen d.is_read d.chip) (sym answered.answered.chip_is) answered.answered.stays))
+      told (still_seen sure ask_p (h.due at) answered.op answered.byte d f answered.answered seen)
+      (still_sides Host until lines pl pc (h.due at) answered.op answered.byte d f x answered.answered) talks.5 asked unsure in
       record { kept = over.kept; smaller = omega (arith, over.smaller, less) }
 
   pub host_turn : (until sure : ℕ) (from : Mark T) (s s2 s3 : S) (t : T) (lines lines2 : Lines) (ask_h ask_p ask2 : Ask) (ahead : Bool) (d0 d e : Attended)
@@ -298,8 +315,8 @@ module _ {S T : Type 0} (h : Moves S) (p : Moves T) (lh : IsLawful h) (lp : IsLa
       → first_of ask_h ask_p ≡ Some Host
       → Acts h Host d0.host.keep (seated s d0.chip d0.host.list.items d0.host.count) (seated s2 d.chip d.host.list.items d.host.count)
       → d.turn ≡ Host → d.sure ≡ until → lines2 ≡ lines_of d.chip → d.host.keep ≡ keep → d.para ≡ d0.para
-      → (d.is_whole ≡ false → ahead ≡ true → d0.para.count ≡ from.count)
-      → (ahead ≡ true → StaysSeen d.is_whole d0.chip (chip_behind d0.chip ask_h))
+      → (d.is_read ≡ false → ahead ≡ true → d0.para.count ≡ from.count)
+      → (ahead ≡ true → StaysSeen d.is_read d0.chip (chip_behind d0.chip ask_h))
       → IsSure 1 ask_p until → IsSeen h d.chip ask_p sure
       → Hears h IsPassed n (shown_lines lines2 sure) s2 d ask2 s3 e
       → IsOver (ticks_left n ask_h + rest_of p n ahead from.state ask_p) ahead from s3 t ask2 ask_p lines2 e
@@ -309,52 +326,26 @@ module _ {S T : Type 0} (h : Moves S) (p : Moves T) (lh : IsLawful h) (lp : IsLa
       let is : chip_behind d0.chip ask_h ≡ d.chip = sym (acts.chip_is ∙ behind_is h n s d0.chip ask_h acts.query f.pending acts.asks) in
       host_passes hears.accesses until sure from s s2 s3 hears.last t d0.chip lines2 ask_h ask_p ask2 d0.host.list.items d0.para.list.items d0.host.count
       d0.para.count ahead d e w first (acts_keep k.host_keep acts)
-      (λ b. subst (λ (x : State). StaysSeen d.is_whole d0.chip x) is (stays b)) told seen
+      none (λ b. subst (λ (x : State). StaysSeen d.is_read d0.chip x) is (stays b)) told seen
       (record {
         turn = turn;
-        until = same_until;
+        until_is = same_until;
         lines_is = same;
         host_keep = host_keep;
         para_keep = ap (λ (x : Log). x.keep) para ∙ k.para_keep;
         list_is = ap (λ (x : Log). x.list.items) para;
         count_is = ap (λ (x : Log). x.count) para;
-        none = none;
       }) hears.talks hears.asked hears.unsure
 
   -- ---- The parasite's turn
 
-  -- The parasite's turn goes on at the desk, whose host's log stays.
-  record IsParas (until : ℕ) (lines : Lines) (host : Log) (d : Attended) : Type 0 where
-    turn : d.turn ≡ Para
-    until_is : d.sure ≡ until
-    lines_is : lines ≡ lines_of d.chip
-    para_keep : d.para.keep ≡ keep
-    host_keep : d.host.keep ≡ keep
-    list_is : d.host.list.items ≡ host.list.items
-    count_is : d.host.count ≡ host.count
-
-  still_paras : (until : ℕ) (lines : Lines) (host : Log) (tick : ℕ) (op : Op) (byte : ℕ) (d f : Attended) → IsParas until lines host d
-      → IsPassed d tick op byte f → IsParas until lines host f
-  still_paras until lines host tick op byte d f x passed =
-      let zero : d.host.count + 0 ≡ d.host.count = omega arith in
-      record {
-        turn = passed.turn_is ∙ x.turn;
-        until_is = passed.sure_is ∙ x.until_is;
-        lines_is = x.lines_is ∙ sym (ap lines_of passed.chip_is ∙ passed.stays.0);
-        para_keep = passed.para_noted.keep_is ∙ x.para_keep;
-        host_keep = passed.host_noted.keep_is ∙ x.host_keep;
-        list_is = passed.host_noted.list_is ∙ ap (λ (z : Side). note_all_leaves d.host.keep d.host.list.items (own_of Host (passed_entry z tick op byte)))
-            x.turn ∙ x.list_is;
-        count_is = passed.host_noted.count_is ∙ ap (λ (z : Side). d.host.count + length (own_of Host (passed_entry z tick op byte))) x.turn ∙ zero ∙ x.count_is;
-      }
-
   -- It comes so far with the reference, as long as the host's next step does not come before.
   record IsAlong (until : ℕ) (s : S) (last : T) (lines : Lines) (ask_h : Ask) (host : Log) (e : Attended) : Type 0 where
     at : IsAt h p n few keep w0 s last e.chip ask_h host.list.items e.para.list.items host.count e.para.count
-    paras : IsParas until lines host e
+    paras : IsSides Para until lines host.list.items host.count e
 
   para_along : (j until : ℕ) (s : S) (t last : T) (lines : Lines) (ask_h : Ask) (host : Log) (d e : Attended)
-      → IsAt h p n few keep w0 s t d.chip ask_h host.list.items d.para.list.items host.count d.para.count → IsParas until lines host d
+      → IsAt h p n few keep w0 s t d.chip ask_h host.list.items d.para.list.items host.count d.para.count → IsSides Para until lines host.list.items host.count d
       → IsSure 0 ask_h until → Talks p IsPassed n (shown_lines lines until) j t d last e
       → IsAlong until s last lines ask_h host e
   para_along zero until s t last lines ask_h host d e at x told talks =
@@ -387,7 +378,7 @@ module _ {S T : Type 0} (h : Moves S) (p : Moves T) (lh : IsLawful h) (lp : IsLa
       (para_step h p lh lp n few keep w0 s mid mid on d.chip f.chip ask_h ask host.list.items d.para.list.items f.para.list.items host.count d.para.count
       f.para.count there first
       (passed_act p Para mid on answered.op answered.byte d f d.para f.para x.turn x.para_keep answered.asks answered.goes passed passed.para_noted))
-      (still_paras until lines host (p.due mid) answered.op answered.byte d f x passed) told talks.5
+      (still_sides Para until lines host.list.items host.count (p.due mid) answered.op answered.byte d f x passed) told talks.5
 
   pub para_turn_over : (until : ℕ) (from from2 : Mark T) (s : S) (t t2 t3 : T) (lines lines2 : Lines) (ask_h ask_p asked : Ask) (ahead : Bool) (d0 d b e : Attended)
       (new : Standing T)

@@ -1,5 +1,5 @@
--- The parasite's steps while the chip stays as it is: each asks nothing, or what the chip answers and is left by.
-use Rattle.std.proofs.Common.{ℕ, zero, suc, ◌≡◌, ◌+◌, ◌<◌, ◌≤◌, refl, sym, ◌∙◌, ap, subst, arith, nat_lt, true, false, cond, if◌then◌else◌}
+-- The parasite's steps while what it sees stays as it is: each asks nothing, looks at the lines, or reads a status register.
+use Rattle.std.proofs.Common.{ℕ, zero, suc, ◌≡◌, ◌+◌, ◌<◌, ◌≤◌, refl, sym, ◌∙◌, ap, subst, arith, nat_lt, Bool, true, false, cond, if◌then◌else◌}
 use Rattle.std.proofs.Common.{List, [], ◌∷◌, ◌++◌, length, length-append, take, Option, None, Some}
 use Rattle.std.specs.Prelude.{All}
 use Rattle.std.proofs.lemmas.List.{take_all, take-append-le}
@@ -11,7 +11,8 @@ use Rattle.tube_chip.specs.declared.Lines.{Lines}
 use Rattle.tube_chip.specs.declared.Op.{Op}
 use Rattle.tube_chip.specs.declared.Answer.{Answer}
 use Rattle.tube_chip.specs.declared.Answer.TheVariants.{Byte, Seen}
-use Rattle.tube_chip.specs.Act.{Query, access, look, act, chip_after, answer_of}
+use Rattle.tube_chip.specs.declared.Op.TheVariants.{Read, Write, Reset}
+use Rattle.tube_chip.specs.Act.{Query, access, look, act, ShowsAlike, answer_of}
 use Rattle.tube_chip.specs.Events.{Event, of_side, is_side}
 use Rattle.tube_trace.specs.declared.Entry.{Entry}
 use Rattle.tube_trace.specs.Entries.{accesses, entry_of}
@@ -20,13 +21,25 @@ use Rattle.tube_party.specs.Steps.{After}
 use Rattle.tube_party.specs.Turn.{note_leaves, note_all_leaves}
 use Rattle.tube_party.specs.Logs.{accesses-append, at_most_one}
 use Rattle.tube_party.specs.OneThread.{IsKept}
-use Rattle.tube_party.specs.CodePassing.{passed_entry}
+use Rattle.tube_chip.proofs.Rises.{status_leaves}
+use Rattle.tube_party.specs.CodePassing.{IsStatusRead, passed_entry}
 use Rattle.tube_party.proofs.Kept.{kept_more}
 use Rattle.tube_party.proofs.Runs.{event, First, Over, Silent, Asking, first_of_runs, runs_silent, runs_asking, runs_append}
 
--- the chip answers the event so, and is left as it is
+-- what leaves the chip: a look, and a read of a status register
+abbrev pub IsGlance : Query → Type 0
+IsGlance (access op) = IsStatusRead op
+IsGlance look = Unit {0}
+
+pub glance_leaves : (c : State) (q : Query) → IsGlance q → (act c Para q).0 ≡ c
+glance_leaves c look is = refl
+glance_leaves c (access (Read number)) is = status_leaves c Para number is
+glance_leaves c (access (Write number byte)) is = absurd is
+glance_leaves c (access Reset) is = absurd is
+
+-- the event is such, and the chip answers it so
 abbrev pub IsIdle : State → Event → Type 0
-IsIdle c e = ((act c Para e.query).0 ≡ c) × ((act c Para e.query).1 ≡ e.answer)
+IsIdle c e = IsGlance e.query × ((act c Para e.query).1 ≡ e.answer)
 
 abbrev pub IsBelow : ℕ → Event → Type 0
 IsBelow t e = e.tick < t
@@ -92,19 +105,23 @@ kept_beside l events keep list count each k =
 
 -- ---- The chip may change where what it showed stays
 
-one_still : (c d : State) (t : ℕ) (side : Side) (q : Query) (a : Answer) (xs : List Entry) → ((act c Para q).0 ≡ c) × ((act c Para q).1 ≡ a)
-    → entry_of t side q a ++ xs ≡ [] → lines_of d ≡ lines_of c
-    → (((act d Para q).0 ≡ d) × ((act d Para q).1 ≡ a)) × (xs ≡ [])
-one_still c d t side look a xs idle none lines = ((refl, ap (λ (x : Lines). Seen x) lines ∙ idle.1), none)
-one_still c d t side (access op) (Byte b) xs idle none lines = cc
-one_still c d t side (access op) (Seen l) xs idle none lines = let no : Byte (answer_of c Para op) ≡ Seen l = idle.1 in cc
+-- the lines do, and what the status registers show, where one is read at all
+module _ (is_read : Bool) (c d : State) (lines : lines_of d ≡ lines_of c) (shows : is_read ≡ true → ShowsAlike Para c d) where
+  one_still : (r : Bool) → is_read ≡ r → (t : ℕ) (side : Side) (q : Query) (a : Answer) (xs : List Entry) → IsGlance q → (act c Para q).1 ≡ a
+      → (r ≡ false → entry_of t side q a ++ xs ≡ []) → ((act d Para q).1 ≡ a) × (r ≡ false → xs ≡ [])
+  one_still r is t side look a xs glance idle none = (ap (λ (x : Lines). Seen x) lines ∙ idle, none)
+  one_still true is t side (access (Read number)) a xs glance idle none = (ap (λ (b : ℕ). Byte b) (shows is number glance) ∙ idle, λ no. cc)
+  one_still true is t side (access (Write number byte)) a xs glance idle none = absurd glance
+  one_still true is t side (access Reset) a xs glance idle none = absurd glance
+  one_still false is t side (access op) (Byte b) xs glance idle none = let no = none refl in cc
+  one_still false is t side (access op) (Seen l) xs glance idle none = let no : Byte (answer_of c Para op) ≡ Seen l = idle in cc
 
--- where there are only looks, and the lines stay
-pub looks_still : (c d : State) (events : List Event) → All (IsIdle c) events → accesses events ≡ [] → lines_of d ≡ lines_of c → All (IsIdle d) events
-looks_still c d [] idle none lines = All-nil (IsIdle d)
-looks_still c d (e ∷ events) idle none lines =
-    let one = one_still c d e.tick e.side e.query e.answer (accesses events) (All-head (IsIdle c) e events idle) none lines in
-    All-cons (IsIdle d) e events one.0 (looks_still c d events (All-tail (IsIdle c) e events idle) one.1 lines)
+  pub seen_still : (events : List Event) → All (IsIdle c) events → (is_read ≡ false → accesses events ≡ []) → All (IsIdle d) events
+  seen_still [] idle none = All-nil (IsIdle d)
+  seen_still (e ∷ events) idle none =
+      let head = All-head (IsIdle c) e events idle in
+      let one = one_still is_read refl e.tick e.side e.query e.answer (accesses events) head.0 head.1 none in
+      All-cons (IsIdle d) e events (head.0, one.0) (seen_still events (All-tail (IsIdle c) e events idle) one.1)
 
 module _ {T : Type 0} (p : Moves T) (lp : IsLawful p) (n : ℕ) where
   -- the parasite's, below n and the tick of what follows
@@ -173,7 +190,7 @@ module _ {T : Type 0} (p : Moves T) (n sure : ℕ) (c : State) where
         steps = suc w.steps;
         events = e ∷ w.events;
         runs = runs_asking p Para n w.steps s look a w.events last low (is ∙ ap (λ (x : Query). Some x) h.0) w.runs;
-        idle = All-cons (IsIdle c) e w.events (refl, refl) w.idle;
+        idle = All-cons (IsIdle c) e w.events (tt, refl) w.idle;
         early = All-cons (IsBelow sure) e w.events h.1 w.early;
         noted = w.noted;
       }
@@ -185,16 +202,16 @@ module _ {T : Type 0} (p : Moves T) (n sure : ℕ) (c : State) where
   -- an access in front
   pub way_first : (s on last : T) (op : Op) (byte : ℕ) (entries : List Entry) → p.due s < n → p.asks s ≡ Some (access op) → on ≡ p.next s (Some (Byte byte))
       → p.due s < sure
-      → chip_after c Para op ≡ c → byte ≡ answer_of c Para op → IsWay p n sure c on last entries
+      → IsStatusRead op → byte ≡ answer_of c Para op → IsWay p n sure c on last entries
       → IsWay p n sure c s last (passed_entry Para (p.due s) op byte ∷ entries)
-  way_first s on last op byte entries low asks goes early stays is w =
+  way_first s on last op byte entries low asks goes early reads is w =
       let e : Event = event (p.due s) Para (access op) (Byte byte) in
       record {
         steps = suc w.steps;
         events = e ∷ w.events;
         runs = runs_asking p Para n w.steps s (access op) (Byte byte) w.events last low asks
             (subst (λ (x : T). Runs p Para n w.steps x (course w.events last)) goes w.runs);
-        idle = All-cons (IsIdle c) e w.events (stays, ap (λ (x : ℕ). Byte x) (sym is)) w.idle;
+        idle = All-cons (IsIdle c) e w.events (reads, ap (λ (x : ℕ). Byte x) (sym is)) w.idle;
         early = All-cons (IsBelow sure) e w.events early w.early;
         noted = ap (λ (l : List Entry). passed_entry Para (p.due s) op byte ∷ l) w.noted;
       }

@@ -4,7 +4,8 @@ use Rattle.beeb_bits.specs.declared.Side.{Side}
 use Rattle.beeb_bits.specs.declared.Side.TheVariants.{Host, Para}
 use Rattle.tube_chip.specs.State.{State, lines_of}
 use Rattle.tube_chip.specs.declared.Op.{Op}
-use Rattle.tube_chip.specs.Act.{MayDo, chip_after, answer_of}
+use Rattle.tube_chip.specs.declared.Op.TheVariants.{Read, Write, Reset}
+use Rattle.tube_chip.specs.Act.{MayDo, ShowsAlike, is_status, chip_after, answer_of}
 use Rattle.tube_trace.specs.declared.Entry.{Entry}
 use Rattle.tube_party.specs.declared.log.Log.{Log}
 use Rattle.tube_party.specs.declared.table.Table.{Table}
@@ -13,26 +14,32 @@ use Rattle.tube_party.specs.declared.party.Ask.TheVariants.{Nothing, Access, Loo
 use Rattle.tube_party.specs.CodeAtWork.{own_of}
 use Rattle.tube_party.specs.Logs.{HasNoted}
 
--- The chip, what is kept of both sides' accesses, whose turn it is, the tick below which accesses are answered, and whether the chip has to stay as
--- it is.
+-- The chip, what is kept of both sides' accesses, whose turn it is, the tick below which accesses are answered, and whether the parasite reads its status
+-- registers ahead of the host.
 pub record Attended : Type 0 where
   pub chip : State
   pub host : Log
   pub para : Log
   pub turn : Side
   pub sure : ℕ
-  pub is_whole : Bool
+  pub is_read : Bool
 
 abbrev pub attended : Table → Attended
-attended t = record { chip = t.chip; host = t.host_log; para = t.para_log; turn = t.turn; sure = (t.sure).0; is_whole = t.is_whole }
+attended t = record { chip = t.chip; host = t.host_log; para = t.para_log; turn = t.turn; sure = (t.sure).0; is_read = t.is_read }
 
--- The lines and the flags stay as they are, and where the chip has to, the chip does.
+-- The lines and the flags stay as they are, and where the parasite reads its status registers ahead, what they show it does too.
 abbrev pub StaysSeen : Bool → State → State → Type 0
-StaysSeen is_whole c d = (lines_of d ≡ lines_of c) × (d.flags ≡ c.flags) × (is_whole ≡ true → d ≡ c)
+StaysSeen is_read c d = (lines_of d ≡ lines_of c) × (d.flags ≡ c.flags) × (is_read ≡ true → ShowsAlike Para c d)
 
--- An access of a side may be answered in passing.
+-- It reads a status register.
+abbrev pub IsStatusRead : Op → Type 0
+IsStatusRead (Read number) = is_status number ≡ true
+IsStatusRead (Write number byte) = ⊥
+IsStatusRead Reset = ⊥
+
+-- An access of a side may be answered in passing. What the parasite does ahead is to read its status registers.
 abbrev pub MayPass : State → Side → Bool → Op → Type 0
-MayPass c side is_whole op = MayDo side op × StaysSeen is_whole c (chip_after c side op)
+MayPass c side is_read op = MayDo side op × StaysSeen is_read c (chip_after c side op) × (is_read ≡ true → side ≡ Para → IsStatusRead op)
 
 -- the chip behind what the host asks
 abbrev pub chip_behind : State → Ask → State
@@ -49,9 +56,10 @@ pub record IsPassed (old : Attended) (tick : ℕ) (op : Op) (byte : ℕ) (new : 
   pub early : tick < old.sure
   pub byte_is : byte ≡ answer_of old.chip old.turn op
   pub chip_is : new.chip ≡ chip_after old.chip old.turn op
-  pub stays : StaysSeen old.is_whole old.chip (chip_after old.chip old.turn op)
+  pub stays : StaysSeen old.is_read old.chip (chip_after old.chip old.turn op)
+  pub reads : old.is_read ≡ true → old.turn ≡ Para → IsStatusRead op
   pub host_noted : HasNoted (own_of Host (passed_entry old.turn tick op byte)) old.host new.host
   pub para_noted : HasNoted (own_of Para (passed_entry old.turn tick op byte)) old.para new.para
   pub turn_is : new.turn ≡ old.turn
   pub sure_is : new.sure ≡ old.sure
-  pub is_whole_is : new.is_whole ≡ old.is_whole
+  pub is_read_is : new.is_read ≡ old.is_read

@@ -21,7 +21,7 @@ standing_of ahead ask mark s = record { ahead = ahead; ask = ask; mark = mark; s
 
 -- the parasite's turn, with this log, up to a tick, at the chip as it stays
 abbrev pub para_turn : Attended → Log → ℕ → Attended
-para_turn d log sure = record { chip = d.chip; host = d.host; para = log; turn = Para; sure = sure; is_whole = true }
+para_turn d log sure = record { chip = d.chip; host = d.host; para = log; turn = Para; sure = sure; is_read = true }
 
 -- It went ahead from where it asks, with what the chip shows it up to a tick, and can be rolled back to there; or it stayed.
 pub record IsGone {S : Type 0} (m : Moves S) (n : ℕ) (lines : Lines) (s : S) (d : Attended) (ask : Ask) (new : Standing S) (e : Attended) : Type 0 where

@@ -7,6 +7,7 @@ ghost use Rattle.tube_chip.specs.Act.{MayDo, chip_after};
 ghost use Rattle.tube_chip.specs.State.{State, lines_of};
 ghost use Rattle.tube_trace.specs.Entries.{IsEntry};
 ghost use Rattle.tube_party.specs.Replay.{chip_before, next_line, same_op, is_that};
+ghost use Rattle.tube_party.specs.CodePassing.{IsStatusRead};
 ghost use Rattle.tube_party.specs.CodeCursor.{own_left, IsOwnAt, IsTaken, Takes, Misses};
 
 use crate::desk::Desk;
@@ -97,6 +98,7 @@ pub(crate) struct OwnEntries<'a> {
 
 impl<'a> Model for OwnEntries<'a> {
     ghost use Rattle.std.specs.Prelude.{◌≤◌, length};
+    ghost use Rattle.tube_party.specs.CodePassing.{IsStatusRead};
     ghost use Rattle.tube_party.specs.CodeCursor.{Owned, IsOwnAt, own_left};
 
     ghost Value = { Owned };
@@ -141,6 +143,7 @@ impl<'a> OwnEntries<'a> {
 }
 
 impl<'a> Desk for OwnEntries<'a> {
+    ghost use Rattle.tube_party.specs.CodePassing.{IsStatusRead};
     ghost use Rattle.tube_party.specs.CodeCursor.{Owned, IsTaken};
 
     ghost State = { Owned };
@@ -199,9 +202,10 @@ fn first_look(entry: Entry, side: Side, least: u64) -> u64
     if first < least { least } else { first }
 }
 
-/// Whether an operation surely leaves the chip: a read of a status register does.
+/// Whether an operation reads a status register, and so leaves the chip.
 #[inline(always)]
 pub(crate) fn is_status(op: Op) -> bool
+    ensures reads { result ≡ true → IsStatusRead op }
     ensures may { result ≡ true → (side : Side) → MayDo side op }
     ensures stays { result ≡ true → (c : State) (side : Side) → chip_after c side op ≡ c }
 {

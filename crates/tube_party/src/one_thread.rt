@@ -57,8 +57,8 @@ fn first_of(host: Ask, para: Ask) -> Option<Side>
     }
 }
 
-/// A tick below which each look of the other side sees the chip as it is, by what this party asks next: that look may come `slack` ticks behind
-/// a step of this party. The last tick of a run where it asks nothing.
+/// A tick below which each look and access of the other side meets the chip as it is, by what this party asks next: it may come `slack` ticks behind a
+/// step of this party. The last tick of a run where it asks nothing.
 #[inline(always)]
 fn lookahead(ask: Ask, slack: u64) -> Tick
     ensures { IsSure slack ask result.0 }
@@ -152,7 +152,7 @@ fn go_ahead<M: Rewinds>(
 {
     table.turn = Side::Para;
     table.sure = ahead;
-    table.is_whole = true;
+    table.is_read = true;
     table.is_open = reads;
     if !may_go_ahead(ask, reads) {
         return (false, ask);
@@ -160,15 +160,6 @@ fn go_ahead<M: Rewinds>(
     match machine.advance_noting(n, lines, ahead, past, table) {
         Some(next) => (true, next),
         None => (false, ask),
-    }
-}
-
-/// Whether a party polls whose step asked this: its last access was a read of its status. Where it does not, what it reads ahead is soon changed.
-#[inline(always)]
-fn still_polls(polls: bool, ask: Ask) -> bool {
-    match ask {
-        Ask::Access(_, op) => is_status(op),
-        Ask::Nothing | Ask::Look(_) => polls,
     }
 }
 
@@ -184,13 +175,13 @@ fn has_read(log: &Log, mark: LogMark, is_ahead: bool) -> bool
 #[inline(always)]
 fn stays(table: &Table, is_ahead: bool, ask: Ask) -> bool
     ensures ahead { result ≡ false → is_ahead ≡ true }
-    ensures stays { result ≡ true → is_ahead ≡ true → StaysSeen table.now.is_whole table.now.chip (chip_behind table.now.chip ask) }
+    ensures stays { result ≡ true → is_ahead ≡ true → StaysSeen table.now.is_read table.now.chip (chip_behind table.now.chip ask) }
 {
     if !is_ahead {
         return true;
     }
     match ask {
-        Ask::Access(_, op) => passes(&table.chip, Side::Host, table.is_whole, op),
+        Ask::Access(_, op) => passes(&table.chip, Side::Host, table.is_read, op),
         Ask::Nothing | Ask::Look(_) => true,
     }
 }
@@ -215,7 +206,7 @@ fn roll_back<M: Rewinds>(
     table.para_log.cut(mark);
     table.turn = Side::Para;
     table.sure = at;
-    table.is_whole = true;
+    table.is_read = true;
     table.is_open = true;
     machine.advance_at(n, lines, at, table)
 }
@@ -246,8 +237,8 @@ const TRUSTED: u64 = 64;
 /// after these accesses, which were made before. They count among the accesses of each side, of which as many are kept as `room` has room for.
 ///
 /// Both parties take turns: the one whose ask comes first does that step, and goes on to the other's ask, with the accesses that leave the lines; the host
-/// also past looks before which the parasite can change nothing that they see. Then the parasite goes ahead of the host, and reads its status as if the host
-/// left the chip: before a step of the host that may change what it saw, it is rolled back.
+/// also past looks before which the parasite can change nothing that they see. Then the parasite goes ahead of the host, and reads its status registers
+/// as if the host left what they show: before a step of the host that may change what it saw, it is rolled back.
 pub fn go_on_from<H: Party, P: Rewinds>(
     mut host: H,
     mut para: P,
@@ -276,18 +267,17 @@ pub fn go_on_from<H: Party, P: Rewinds>(
         para_log,
         turn: Side::Host,
         sure: Tick(0),
-        is_whole: false,
+        is_read: false,
         is_open: false,
     };
     let mut host_ask = host.advance(n);
     let mut para_ask = para.advance(n);
     let mut is_ahead = false;
-    let mut polls = false;
     let mut stride = FEWEST;
     while let Some(side) = first_of(host_ask, para_ask) {
         match side {
             Side::Host => {
-                table.is_whole = has_read(&table.para_log, mark, is_ahead);
+                table.is_read = has_read(&table.para_log, mark, is_ahead);
                 if !stays(&table, is_ahead, host_ask) {
                     let at = tick_of(host_ask);
                     para_ask = roll_back(&mut para, &mut past, &mut table, n, &lines, at, mark);
@@ -320,16 +310,15 @@ pub fn go_on_from<H: Party, P: Rewinds>(
                     n,
                     para_ask,
                 );
-                polls = still_polls(polls, para_ask);
                 table.turn = Side::Para;
                 table.sure = lookahead(host_ask, 0);
-                table.is_whole = false;
+                table.is_read = false;
                 table.is_open = true;
                 let sure = table.sure;
                 let asked = para.advance_at(n, &lines, sure, &mut table);
                 mark = table.para_log.mark();
                 let ahead = Tick(tick_of(asked).0.saturating_add(stride));
-                let reads = polls && stride >= TRUSTED;
+                let reads = stride >= TRUSTED;
                 (is_ahead, para_ask) = go_ahead(
                     &mut para, &mut past, &mut table, n, &lines, asked, ahead, reads,
                 );

@@ -10,8 +10,8 @@ use beeb_bits::{Side, Tick};
 use tube_chip::{Chip, Op};
 use tube_trace::Entry;
 
-/// The chip, with what is kept of both sides' accesses. It answers accesses below a tick of the side whose turn it is: those that leave the lines, or
-/// the chip where it has to stay whole.
+/// The chip, with what is kept of both sides' accesses. It answers accesses below a tick of the side whose turn it is: those that leave the lines, and
+/// what the parasite has read ahead.
 #[derive(Drop)]
 pub(crate) struct Table {
     pub(crate) chip: Chip,
@@ -19,8 +19,8 @@ pub(crate) struct Table {
     pub(crate) para_log: Log,
     pub(crate) turn: Side,
     pub(crate) sure: Tick,
-    /// The chip has to stay as it is, and not its lines alone: the parasite reads it ahead of the host, or has read it.
-    pub(crate) is_whole: bool,
+    /// The parasite reads its status registers ahead of the host, or has read them.
+    pub(crate) is_read: bool,
     /// It answers at all.
     pub(crate) is_open: bool,
 }
@@ -28,15 +28,16 @@ pub(crate) struct Table {
 /// A log of so many accesses takes no more in passing.
 const MOST_COUNT: u64 = 1 << 62;
 
-/// Whether an access of this side is sure to leave the lines, or the chip where that has to stay whole.
+/// Whether an access of this side is sure to leave what the parasite sees as it goes ahead: the lines. Where it reads its status registers, the host's
+/// accesses leave what those show too, and its own are such reads.
 #[inline(always)]
-pub(crate) fn passes(chip: &Chip, side: Side, is_whole: bool, op: Op) -> bool
-    ensures { result ≡ true → MayPass chip.now side is_whole op }
+pub(crate) fn passes(chip: &Chip, side: Side, is_read: bool, op: Op) -> bool
+    ensures { result ≡ true → MayPass chip.now side is_read op }
 {
-    if is_whole {
-        is_status(op)
-    } else {
-        chip.leaves_lines(side, op)
+    match side {
+        Side::Para if is_read => is_status(op),
+        Side::Host if is_read => chip.leaves_seen(op),
+        _ => chip.leaves_lines(side, op),
     }
 }
 
@@ -59,7 +60,7 @@ impl Desk for Table {
         if !self.is_open || tick >= self.sure {
             return None;
         }
-        if !passes(&self.chip, self.turn, self.is_whole, op) {
+        if !passes(&self.chip, self.turn, self.is_read, op) {
             return None;
         }
         if self.host_log.count >= MOST_COUNT || self.para_log.count >= MOST_COUNT {

@@ -46,7 +46,7 @@ loop-side-smaller-then-not-stays g c =
       para = c.loop-side.table.para_log;
       turn = c.loop-side.table.turn;
       sure = c.loop-side.table.sure.0;
-      is_whole = c.has_read.result;
+      is_read = c.has_read.result;
     })
     (attended c.roll_back-para_ask.new.table)
     (record {
@@ -74,7 +74,7 @@ loop-side-preserved-then-not-stays g c =
       para = c.loop-side.table.para_log;
       turn = c.loop-side.table.turn;
       sure = c.loop-side.table.sure.0;
-      is_whole = c.has_read.result;
+      is_read = c.has_read.result;
     })
     (attended c.roll_back-para_ask.new.table)
     (record {
@@ -103,7 +103,7 @@ loop-side-smaller-in-Host g c =
       para = c.loop-side.table.para_log;
       turn = Host;
       sure = c.lookahead-table.result.0;
-      is_whole = c.has_read.result;
+      is_read = c.has_read.result;
     })
     (attended c.advance_at-host_ask.new.desk) c.loop-side.invariant e c.act.ensures.acts refl refl c.act.ensures.kept
     (c.act.ensures.keep ∙ c.loop-side.invariant.host_keep) refl c.has_read.ensures (c.stays.ensures.stays c.if-not-stays.false) c.lookahead-table.ensures
@@ -126,7 +126,7 @@ loop-side-preserved-in-Host g c =
       para = c.loop-side.table.para_log;
       turn = Host;
       sure = c.lookahead-table.result.0;
-      is_whole = c.has_read.result;
+      is_read = c.has_read.result;
     })
     (attended c.advance_at-host_ask.new.desk) c.loop-side.invariant e c.act.ensures.acts refl refl c.act.ensures.kept
     (c.act.ensures.keep ∙ c.loop-side.invariant.host_keep) refl c.has_read.ensures (c.stays.ensures.stays c.if-not-stays.false) c.lookahead-table.ensures
@@ -162,7 +162,7 @@ loop-side-smaller g c =
       para = c.act-in-Para.new.log;
       turn = Para;
       sure = c.lookahead-table-in-Para.result.0;
-      is_whole = false;
+      is_read = false;
     })
     (attended c.advance_at-asked.new.desk)
     (attended c.go_ahead.new.table)
@@ -191,7 +191,7 @@ loop-side-preserved g c =
       para = c.act-in-Para.new.log;
       turn = Para;
       sure = c.lookahead-table-in-Para.result.0;
-      is_whole = false;
+      is_read = false;
     })
     (attended c.advance_at-asked.new.desk)
     (attended c.go_ahead.new.table)

@@ -1,8 +1,10 @@
-use Rattle.std.proofs.Common.{ap}
-use Rattle.tube_chip.specs.State.{State, lines_of}
+use Rattle.tube_chip.specs.Act.{chip_after}
+use Rattle.tube_party.proofs.Again.{still-seen}
 use Rattle.tube_party.proofs.table.passes.Goals as goal
 
-pub returns-then-is_whole : goal.returns-then-is_whole
-returns-then-is_whole c = λ is.
-    let same = c.is_status.ensures.stays is c.args.chip.now c.args.side in
-    (c.is_status.ensures.may is c.args.side, (ap lines_of same, ap (λ (x : State). x.flags) same, λ _. same))
+pub returns-in-Para : goal.returns-in-Para
+returns-in-Para c = λ is. (
+  c.is_status.ensures.may is c.args.side,
+  still-seen c.args.is_read c.args.chip.now (chip_after c.args.chip.now c.args.side c.args.op) (c.is_status.ensures.stays is c.args.chip.now c.args.side),
+  λ _ _. c.is_status.ensures.reads is,
+)

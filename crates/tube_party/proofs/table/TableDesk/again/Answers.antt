@@ -1,10 +1,10 @@
 use Rattle.std.proofs.Common.{◌≡◌, ◌∙◌, ℕ, suc, ◌+◌, ◌*◌, refl, sym, ap, subst, arith}
 use Rattle.beeb_bits.specs.declared.Side.{Side}
 use Rattle.tube_chip.specs.Act.{answer_of, chip_after}
-use Rattle.tube_chip.specs.State.{State, lines_of}
+use Rattle.tube_chip.specs.State.{State}
 use Rattle.tube_party.specs.CodePassing.{attended, Attended, IsPassed}
 use Rattle.tube_party.specs.Moves.{IsAnsweredAgain}
-use Rattle.tube_party.proofs.Again.{period-more, again-more}
+use Rattle.tube_party.proofs.Again.{period-more, again-more, still-seen}
 use Rattle.tube_party.proofs.table.TableDesk.again.Goals as goal
 
 pub apply-requires : goal.apply-requires
@@ -25,12 +25,13 @@ loop-times-preserved c =
       byte_is = sym c.if-apply-byte.false ∙ c.apply.ensures.answer ∙ ap (λ (x : State). answer_of x c.args.self.now.turn c.args.op) (sym c.loop-times.invariant.chip)
           ∙ ap (λ (x : Side). answer_of c.loop-times.self.chip x c.args.op) (sym c.loop-times.invariant.turn);
       chip_is = sym left;
-      stays = (ap lines_of left, ap (λ (x : State). x.flags) left, λ _. left);
+      stays = still-seen c.loop-times.self.is_read c.loop-times.self.chip (chip_after c.loop-times.self.chip c.loop-times.self.turn c.args.op) left;
+      reads = λ _ _. c.is_status.ensures.reads c.if-not-is_status.false;
       host_noted = c.note_own.ensures.host;
       para_noted = c.note_own.ensures.para;
       turn_is = refl;
       sure_is = refl;
-      is_whole_is = refl;
+      is_read_is = refl;
     } in
     record {
       again = subst (λ (n : ℕ). IsAnsweredAgain IsPassed c.args.op c.args.byte c.args.period n old c.args.tick.0 new) one
