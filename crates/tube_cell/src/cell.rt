@@ -13,6 +13,7 @@ ghost use Rattle.tube_cell.specs.Rules.{Kept, Found, published_view, entrusted_v
 ghost use Rattle.tube_cell.specs.Passes.{starts, own_horizon, Learns, access_at, lines_at, after_commit, after_raise, after_look, after_entrust, here, bound_here, after_add, after_publish};
 ghost use Rattle.tube_cell.specs.Steps.{MayPublish, MayLook, MayEntrust, MayPublishAndEntrust, Watches, LookedAt};
 
+use crate::bell::Bell;
 use crate::local::{Readings, operate, readings_of};
 use crate::rule::{
     Adding, CellRule, Deeds, Ending, Entrusting, Halves, Learning, Looking, Moment, Parting,
@@ -42,6 +43,8 @@ type Cell = RuledSeqCell<[u64; 9], PassView, CellRule, 9>;
 #[derive(Drop)]
 pub struct TubeCell {
     cell: Cell,
+    host_bell: Bell,
+    para_bell: Bell,
 }
 
 impl Model for TubeCell {
@@ -103,7 +106,12 @@ impl TubeCell {
         ensures { IfOk result (λ made. made.1 ≡ made.0) }
     {
         let (cell, seat) = Cell::ruled(alloc, power_on())?;
-        Ok((TubeCell { cell }, Whole { seat }))
+        let both = TubeCell {
+            cell,
+            host_bell: Bell::new(),
+            para_bell: Bell::new(),
+        };
+        Ok((both, Whole { seat }))
     }
 
     /// The host's pass and the parasite's. Each has an empty list, and knows the chip at power-on and both horizons 0.
@@ -131,6 +139,32 @@ impl TubeCell {
                 cut: u64::MAX,
             },
         )
+    }
+
+    /// The bell by which a side sleeps.
+    #[inline(always)]
+    pub fn bell(&self, side: Side) -> &Bell {
+        match side {
+            Side::Host => &self.host_bell,
+            Side::Para => &self.para_bell,
+        }
+    }
+
+    // Wakes the other side, where it sleeps and may go on behind an exchange of these words for the next: they let its step on, or cut the trust, which it may
+    // wait for.
+    #[inline(always)]
+    fn ring(&self, side: Side, words: &[u64; 9], next: &[u64; 9]) {
+        let other = match side {
+            Side::Host => Side::Para,
+            Side::Para => Side::Host,
+        };
+        let Some(t) = self.bell(other).tick() else {
+            return;
+        };
+        let trust = trust_of(next);
+        if trust != trust_of(words) || is_admitted(other, bound_of(other, next, trust), t) {
+            self.bell(other).ring(t);
+        }
     }
 
     /// One load. The pass knows the words that were found.
@@ -216,6 +250,7 @@ impl TubeCell {
         );
         match raised {
             Ok(next) => {
+                self.ring(pass.side, &pass.words, &next);
                 pass.words = next;
                 true
             }
@@ -255,6 +290,7 @@ impl TubeCell {
             trust,
         ) {
             Ok(next) => {
+                self.ring(pass.side, &pass.words, &next);
                 pass.words = next;
                 Some(answer)
             }
@@ -303,6 +339,7 @@ impl TubeCell {
     {
         match entrust_at::<Brand, R>(&self.cell, rt, &mut pass.seat, &pass.words, t.0) {
             Ok(next) => {
+                self.ring(pass.side, &pass.words, &next);
                 pass.words = next;
                 true
             }
@@ -382,6 +419,7 @@ impl TubeCell {
             left,
         ) {
             Ok(next) => {
+                self.ring(pass.side, &pass.words, &next);
                 pass.words = next;
                 pass.cut = u64::MAX;
                 true
@@ -425,6 +463,7 @@ impl TubeCell {
         );
         match told {
             Ok(next) => {
+                self.ring(pass.side, &pass.words, &next);
                 pass.words = next;
                 pass.cut = u64::MAX;
                 true

@@ -1,12 +1,14 @@
 //! The Tube chip between two threads: a cell of nine words, which each side reads and exchanges whole.
 #![tactic(auto)]
 
+mod bell;
 mod cell;
 mod local;
 mod rule;
 mod words;
 
 use beeb_bits::Crosses;
+pub use bell::Bell;
 pub use cell::{Pass, TubeCell, Whole};
 pub use local::Readings;
 pub use rule::Deeds;

@@ -97,10 +97,10 @@ fn wait<R: Wait>(rt: &R, cell: &TubeCell, pass: &mut Pass, t: Tick, pause: &mut 
     ensures rose { pass.new.commits + pass.old.higher + 1 ≤ pass.old.commits + pass.new.higher }
 {
     for _ in rt.forever() {
-        pause.rest();
+        pause.rest(rt, cell, pass.side(), t);
         cell.learn(rt, pass);
         if cell.admits(pass, t) {
-            pause.end();
+            pause.end(cell, pass.side());
             return;
         }
     }

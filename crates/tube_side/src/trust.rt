@@ -176,11 +176,13 @@ pub fn wait_passed<W: Ahead, R: Wait>(
 {
     for _ in rt.forever() {
         cell.learn(rt, pass);
-        if cell.trust(pass).0 <= cell.other(pass).0 {
-            pause.end();
+        let trust = cell.trust(pass);
+        if trust.0 <= cell.other(pass).0 {
+            pause.end(cell, pass.side());
             return;
         }
-        pause.rest();
+        // The step before the trust may be done where the host has passed that.
+        pause.rest(rt, cell, pass.side(), Tick(trust.0.saturating_sub(1)));
     }
     unreachable!()
 }

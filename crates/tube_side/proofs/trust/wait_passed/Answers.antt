@@ -7,13 +7,13 @@ pub returns-then-trust-other-clause-passed : goal.returns-then-trust-other-claus
 returns-then-trust-other-clause-passed g c p told =
     let side = c.loop.invariant.side ∙ c.requires.side in
     passed_learned g.W.Ahead.way c.requires.is_way c.args._t.0 p c.loop.pass c.learn.new.pass side (c.loop.invariant.told p told) c.learn.ensures
-    (passed_of c.loop.pass c.learn.new.pass c.trust.result.0 c.other.result.0 side c.learn.ensures c.trust.ensures c.other.ensures c.if-trust-other.true)
+    (passed_of c.loop.pass c.learn.new.pass c.trust-trust.result.0 c.other.result.0 side c.learn.ensures c.trust-trust.ensures c.other.ensures c.if-trust-other.true)
 
 pub returns-then-trust-other-clause-paid : goal.returns-then-trust-other-clause-paid
 returns-then-trust-other-clause-paid g c p paid =
     let side = c.loop.invariant.side ∙ c.requires.side in
     passed_paid p c.learn.new.pass
-    (passed_of c.loop.pass c.learn.new.pass c.trust.result.0 c.other.result.0 side c.learn.ensures c.trust.ensures c.other.ensures c.if-trust-other.true)
+    (passed_of c.loop.pass c.learn.new.pass c.trust-trust.result.0 c.other.result.0 side c.learn.ensures c.trust-trust.ensures c.other.ensures c.if-trust-other.true)
     (learned_on_trust p c.loop.pass c.learn.new.pass side c.learn.ensures (c.loop.invariant.paid p paid))
 
 pub loop-preserved : goal.loop-preserved
