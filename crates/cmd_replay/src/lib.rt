@@ -1,10 +1,8 @@
-//! What the replays come to by what they read: `replay host` and `replay para`.
+//! What a replay comes to by what it reads: `replay host` and `replay para`.
 #![tactic(auto)]
 
 mod counting;
-mod host;
-mod para;
+mod parts;
 mod replayed;
 
-pub use host::host_outcome;
-pub use para::para_outcome;
+pub use replayed::replay_outcome;

@@ -1,31 +1,91 @@
-//! A machine against a trace.
-ghost use Rattle.std.specs.Prelude.{◌≡◌, ◌≤◌, All, IfErr, IfOk, IsTrue, None, Some};
+//! `replay SIDE TRACE TICKS OUT` and options.
+ghost use Rattle.std.specs.Prelude.{◌≡◌, ◌<◌, ◌≤◌, ℕ, All, IfOk, IsTrue};
 ghost use Rattle.tube_trace.specs.Entries.{IsEntry};
-ghost use Rattle.tube_party.specs.Replay.{replay_of};
+ghost use Rattle.cmd_stages.specs.View.{Gives};
+ghost use Rattle.cmd_machines.specs.View.{seen_inputs, seen_setup};
+ghost use Rattle.cmd_outcome.specs.Left as lefts;
+ghost use Rattle.cmd_outcome.specs.View.{names_seen, verdict_of};
+ghost use Rattle.cmd_replay.specs.Replay.{left_of, replayed, replay_after};
 
-use beeb_bits::{Side, Tick};
-use tube_party::{Doing, MOST, Party, replay};
-use tube_trace::Entry;
+use crate::counting::side_count;
+use crate::parts::Parts;
+use beeb_bits::{Clock, Side, Tick};
+use bus_plug::BusDevice;
+use cmd_machines::{Inputs, Setup};
+use cmd_outcome::{Left, Names, Outcome, machine_outcome, wrong_outcome};
+use cmd_replayed::{differs_outcome, host_made, para_made};
+use cmd_stages::Refusal;
+use cmd_status::Cause;
+use std::alloc::{AllocError, Global};
+use tube_party::{MOST, replay};
+use tube_trace::{Entry, first_wrong};
 
-/// A party where its replay ended, or the place where it differs. It stands apart from the machines, since a proof over any party goes through no
-/// machine's parts.
-pub(crate) fn replayed<M: Party>(
+// What comes of a machine and the entries that were read with it. It knows no machine, since a proof over any party goes through no machine's
+// parts.
+fn replayed<'a, D: BusDevice, M: Parts<D>>(
+    alloc: Global,
     machine: M,
     side: Side,
+    clock: Clock,
+    ticks: u64,
+    names: Names<'a>,
     entries: &[Entry],
-    n: Tick,
-) -> Result<M, (u64, Option<Doing>)>
-    requires ticks { n.0 ≤ MOST }
+) -> Result<Outcome<'a, D>, AllocError>
+    requires ticks { ticks ≤ MOST }
     requires plays { IsTrue (M.plays side) }
     requires entries { All IsEntry entries.now }
-    ensures ended { let e = replay_of M.moves side entries.now n.0 (M.state machine) in
-        IfOk result (λ m. (e.place ≡ None) × (M.state m ≡ e.machine)) }
-    ensures differs { let e = replay_of M.moves side entries.now n.0 (M.state machine) in
-        IfErr result (λ place. e.place ≡ Some place) }
+    ensures { (left : ℕ → M.State → lefts.Left) →
+        ((tube : ℕ) (m : M) → left_of clock ticks tube (names_seen names.entry) (M.shown m) ≡ left tube (M.state m)) →
+        IfOk result (λ outcome. verdict_of D.plug outcome ≡ replayed M.moves side ticks left (entries.now, M.state machine)) }
 {
-    let (machine, place) = replay(machine, side, entries, n);
-    match place {
-        None => Ok(machine),
-        Some(place) => Err(place),
+    if let Some((at, byte)) = first_wrong(entries) {
+        return wrong_outcome(alloc, at as u64 + 1, byte);
+    }
+    let n = Tick(ticks);
+    match replay(machine, side, entries, n) {
+        (machine, None) => {
+            let (host, para) = machine.parts();
+            let left = Left {
+                names,
+                clock,
+                ticks: n,
+                tube: side_count(side, entries, n),
+                host,
+                para,
+                kept: None,
+                saved: None,
+                bytes: Vec::new(alloc),
+            };
+            machine_outcome(alloc, left)
+        }
+        (_, Some((line, doing))) => differs_outcome(alloc, line, doing),
+    }
+}
+
+/// What comes of a replay of the machine of a side, by what the words say and what was read.
+#[tactic(auto, unfolding(crate::specs::Replay::replay_after))]
+pub fn replay_outcome<'a, D: BusDevice>(
+    alloc: Global,
+    setup: Setup<D>,
+    side: Side,
+    ticks: u64,
+    names: Names<'a>,
+    inputs: Inputs,
+) -> Result<Outcome<'a, D>, Refusal<Cause>>
+    requires ticks { ticks ≤ MOST }
+    requires slots { All (λ slot. slot.0 < 16) inputs.roms.items }
+    ensures { let after = replay_after (seen_setup D.plug setup) side ticks (names_seen names.entry) (seen_inputs inputs) in
+        Gives (verdict_of D.plug) result after }
+{
+    let clock = setup.clock;
+    match side {
+        Side::Host => {
+            let (entries, machine) = host_made(alloc, setup, inputs)?;
+            Ok(replayed(alloc, machine, side, clock, ticks, names, &entries)?)
+        }
+        Side::Para => {
+            let (entries, machine) = para_made(alloc, clock, inputs)?;
+            Ok(replayed(alloc, machine, side, clock, ticks, names, &entries)?)
+        }
     }
 }

@@ -1,3 +1,2 @@
 pub mod Replay
-pub mod Para
-pub mod Host
+pub mod Made

@@ -1,11 +1,9 @@
-//! What the commands share that hold a machine against a trace: both replays, `follow` and `resume`. The machines with the entries that were read, and
+//! What the commands share that hold a machine against a trace: `replay`, `follow` and `resume`. The machines with the entries that were read, and
 //! what is said where one differs.
 #![tactic(auto)]
 
 mod differing;
-mod host;
-mod para;
+mod made;
 
 pub use differing::differs_outcome;
-pub use host::host_made;
-pub use para::para_made;
+pub use made::{host_made, para_made};

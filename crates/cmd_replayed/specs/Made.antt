@@ -1,8 +1,9 @@
--- The BBC Micro that a trace is held against, as `replay host` and `follow host` make it.
+-- The machines that a trace is held against, as `replay` and `follow` make them.
 use Rattle.std.specs.Prelude.{ℕ, Bool, true, false, List, [], ◌∷◌, Result, Ok, Err}
 use Rattle.beeb_bits.specs.declared.clock.Clock.{Clock}
 use Rattle.tube_trace.specs.declared.Entry.{Entry}
-use Rattle.host_mach.specs.State.{HostState, power_on, with_tube}
+use Rattle.host_mach.specs.State as host
+use Rattle.para_mach.specs.State as para
 use Rattle.cmd_stages.specs.Plan.{◌>>=◌}
 use Rattle.cmd_stages.specs.declared.stop.Refusal.{Refusal}
 use Rattle.cmd_stages.specs.declared.stop.Refusal.TheVariants as refusals
@@ -10,6 +11,7 @@ use Rattle.cmd_status.specs.declared.status.Cause.{Cause}
 use Rattle.cmd_status.specs.declared.status.Cause.TheVariants.{BadTrace}
 use Rattle.cmd_machines.specs.Inputs.{Inputs}
 use Rattle.cmd_machines.specs.Setup.{Setup}
+use Rattle.cmd_machines.specs.Machines.{rom_of}
 use Rattle.cmd_machines.specs.Roms.{roms_of}
 use Rattle.cmd_outcome.specs.Trace.{entries_of}
 use Rattle.cmd_machines.specs.Script.{script_of}
@@ -23,10 +25,15 @@ entries_at false clock (b ∷ bytes) = Err (refusals.Cause (BadTrace 1 5))
 
 -- The entries that the host is replayed against, and the host at power-on. Refused are in order the lengths of the images, the discs' last, the
 -- trace's form and its clock, or that there is one without a Tube, and the script's form.
-unfoldable pub host_of : Setup → Inputs → Result (List Entry × HostState) (Refusal Cause)
+unfoldable pub host_of : Setup → Inputs → Result (List Entry × host.HostState) (Refusal Cause)
 host_of set i =
     roms_of (record { os = i.os; slots = i.roms; font = i.font })
     >>= λ roms. discs_of set.kinds i.disc0 i.disc1
     >>= λ discs. entries_at set.tube set.clock i.trace
     >>= λ entries. script_of i.keys
-    >>= λ script. Ok (entries, with_tube set.tube (power_on set.clock roms discs.0 discs.1 script set.plugs))
+    >>= λ script. Ok (entries, host.with_tube set.tube (host.power_on set.clock roms discs.0 discs.1 script set.plugs))
+
+-- The entries that the second processor is replayed against, and it at power-on. Refused are in order the ROM's length, the trace's form, and its
+-- clock.
+unfoldable pub para_of : Clock → Inputs → Result (List Entry × para.ParaState) (Refusal Cause)
+para_of clock i = rom_of i.tube >>= λ rom. entries_of clock i.trace >>= λ entries. Ok (entries, para.power_on clock rom)
