@@ -1,7 +1,6 @@
 -- `follow SIDE TRACE TICKS OUT` and options: the instructions that a machine starts against a trace.
 use Rattle.std.specs.Prelude.{ℕ, List, ◌++◌, Option, Result, Ok, codes}
 use Rattle.std.specs.Fmt.{decimal}
-use Rattle.beeb_bits.specs.declared.clock.Clock.{Clock}
 use Rattle.beeb_bits.specs.declared.Side.{Side}
 use Rattle.beeb_bits.specs.declared.Side.TheVariants.{Host, Para}
 use Rattle.op_table.specs.declared.names.Part.{Part}
@@ -24,9 +23,8 @@ use Rattle.cmd_status.specs.declared.status.Cause.{Cause}
 use Rattle.cmd_machines.specs.Inputs.{Inputs}
 use Rattle.cmd_machines.specs.Setup.{Setup}
 use Rattle.cmd_outcome.specs.Verdicts.{listing_verdict}
+use Rattle.cmd_replayed.specs.Made.{host_of, para_of}
 use Rattle.cmd_replayed.specs.Replay.{verdict_of_place, unless_wrong}
-use Rattle.cmd_replayed.specs.Host.{host_of}
-use Rattle.cmd_replayed.specs.Para.{para_of}
 
 -- `listed N of M` and a line feed
 unfoldable pub listed_text : ℕ → ℕ → List ℕ
@@ -40,16 +38,12 @@ listed_verdict out l = listing_verdict out l.text (listed_text l.listed l.chosen
 unfoldable pub listed_by : List ℕ → Option (ℕ × Option Doing) → ListingState → Verdict Ending
 listed_by out place listing = verdict_of_place (λ (l : ListingState). listed_verdict out l) listing place
 
--- what comes of a machine against the entries of a trace
-abbrev pub listed_ended : {S : Type 0} → Moves S → (S → Sight) → Part → Side → ℕ → Choice → List ℕ → List Entry → S → Verdict Ending
-listed_ended m sights part side ticks choice out entries s =
-    listed_by out (replay_of m side entries ticks s).place (replay_listing m sights part side entries ticks choice s)
+-- what comes of a machine and the entries that were read with it: the trace's answers are checked first
+abbrev pub listed_ended : {S : Type 0} → Moves S → (S → Sight) → Part → Side → ℕ → Choice → List ℕ → List Entry × S → Verdict Ending
+listed_ended m sights part side ticks choice out x =
+    unless_wrong (wrong x.0) (listed_by out (replay_of m side x.0 ticks x.1).place (replay_listing m sights part side x.0 ticks choice x.1))
 
 -- what is read and what is refused is what `replay` reads and refuses
-unfoldable pub follow_host_after : Setup → ℕ → Choice → List ℕ → Inputs → Result (Verdict Ending) (Refusal Cause)
-follow_host_after set ticks choice out i =
-    host_of set i >>= λ m. Ok (unless_wrong (wrong m.0) (listed_ended host_moves host_sight Nmos Host ticks choice out m.0 m.1))
-
-unfoldable pub follow_para_after : Clock → ℕ → Choice → List ℕ → Inputs → Result (Verdict Ending) (Refusal Cause)
-follow_para_after clock ticks choice out i =
-    para_of clock i >>= λ m. Ok (unless_wrong (wrong m.0) (listed_ended para_moves para_sight Cmos Para ticks choice out m.0 m.1))
+unfoldable pub follow_after : Setup → Side → ℕ → Choice → List ℕ → Inputs → Result (Verdict Ending) (Refusal Cause)
+follow_after set Host ticks choice out i = host_of set i >>= λ m. Ok (listed_ended host_moves host_sight Nmos Host ticks choice out m)
+follow_after set Para ticks choice out i = para_of set.clock i >>= λ m. Ok (listed_ended para_moves para_sight Cmos Para ticks choice out m)

@@ -2,6 +2,5 @@
 #![tactic(auto)]
 
 mod listed;
-mod sides;
 
-pub use sides::{follow_host, follow_para};
+pub use listed::follow_outcome;
