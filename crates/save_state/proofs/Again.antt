@@ -21,11 +21,11 @@ use Rattle.save_state.specs.Resume.{first_difference, host_first, last_tick, mom
 
 -- ---- Entries, each before the next
 
-not_sooner : (a b : ℕ) (x y : Side) → IsTrue (before a x b y) → a ≤ b
-not_sooner a b Host Host h = grind (arith, nat_tests)
-not_sooner a b Host Para h = grind (arith, nat_tests)
-not_sooner a b Para Host h = grind (arith, nat_tests)
-not_sooner a b Para Para h = grind (arith, nat_tests)
+not_sooner : {a b : ℕ} (x y : Side) → IsTrue (before a x b y) → a ≤ b
+not_sooner Host Host h = grind (arith, nat_tests)
+not_sooner Host Para h = grind (arith, nat_tests)
+not_sooner Para Host h = grind (arith, nat_tests)
+not_sooner Para Para h = grind (arith, nat_tests)
 
 rest_rises : (x : Entry) (xs : List Entry) → RisesAfter (event_of x) (events_of xs) → Rises (events_of xs)
 rest_rises x [] rises = tt
@@ -35,11 +35,11 @@ abbrev IsFrom : ℕ → Entry → Type 0
 IsFrom t e = t ≤ (e.tick).0
 
 -- all that stand behind an entry are not sooner
-all_from : (t : ℕ) (x : Entry) (xs : List Entry) → t ≤ (x.tick).0 → RisesAfter (event_of x) (events_of xs) → All (IsFrom t) xs
-all_from t x [] low rises = All-nil (IsFrom t)
-all_from t x (y ∷ xs) low rises =
-    let on : (x.tick).0 ≤ (y.tick).0 = not_sooner (x.tick).0 (y.tick).0 x.side y.side rises.0 in
-    All-cons (IsFrom t) y xs (omega arith) (all_from t y xs (omega arith) rises.1)
+all_from : {t : ℕ} (x : Entry) (xs : List Entry) → t ≤ (x.tick).0 → RisesAfter (event_of x) (events_of xs) → All (IsFrom t) xs
+all_from {t} x [] low rises = All-nil (IsFrom t)
+all_from {t} x (y ∷ xs) low rises =
+    let on : (x.tick).0 ≤ (y.tick).0 = not_sooner x.side y.side rises.0 in
+    All-cons (IsFrom t) y xs (omega arith) (all_from y xs (omega arith) rises.1)
 
 all_low : (xs : List Entry) → All (IsFrom 0) xs
 all_low [] = All-nil (IsFrom 0)
@@ -54,7 +54,7 @@ last_cons x y ys =
 -- those behind the first `keep` are not sooner than the last of these
 behind_by : (keep : ℕ) (x : Entry) (xs kept : List Entry) → take keep xs ≡ kept → RisesAfter (event_of x) (events_of xs) → All (IsFrom (last_tick kept)) (drop keep xs)
     → All (IsFrom (last_tick (x ∷ kept))) (drop keep xs)
-behind_by zero x xs [] is rises on = all_from (x.tick).0 x xs (let d : ℕ = (x.tick).0 in omega arith) rises
+behind_by zero x xs [] is rises on = all_from x xs (let d : ℕ = (x.tick).0 in omega arith) rises
 behind_by (suc k) x [] [] is rises on = All-nil (IsFrom (last_tick (x ∷ [])))
 behind_by (suc k) x (y ∷ xs) [] is rises on = cc
 behind_by keep x xs (y ∷ kept) is rises on = subst (λ (t : ℕ). All (IsFrom t) (drop keep xs)) (sym (last_cons x y kept)) on
@@ -66,14 +66,14 @@ behind (suc k) (x ∷ xs) rises = behind_by k x xs (take k xs) refl rises (behin
 
 -- ---- Entries below a tick
 
-below_none : (at : ℕ) (xs : List Entry) → All (IsFrom at) xs → entries_below at xs ≡ []
-below_none at [] high = refl
-below_none at (x ∷ xs) high = rw (le-ltb (x.tick).0 at (All-head (IsFrom at) x xs high)) (below_none at xs (All-tail (IsFrom at) x xs high))
+below_none : {at : ℕ} (xs : List Entry) → All (IsFrom at) xs → entries_below at xs ≡ []
+below_none [] high = refl
+below_none {at} (x ∷ xs) high = rw (le-ltb (x.tick).0 at (All-head (IsFrom at) x xs high)) (below_none xs (All-tail (IsFrom at) x xs high))
 
 -- below one tick and then below another that is not above it
-below_twice : (c at : ℕ) (xs : List Entry) → c ≤ at → entries_below c (entries_below at xs) ≡ entries_below c xs
-below_twice c at [] le = refl
-below_twice c at (x ∷ xs) le = by (nat_lt (x.tick).0 at) (nat_lt (x.tick).0 c) refl refl (below_twice c at xs le)
+below_twice : {c at : ℕ} (xs : List Entry) → c ≤ at → entries_below c (entries_below at xs) ≡ entries_below c xs
+below_twice [] le = refl
+below_twice {c} {at} (x ∷ xs) le = by (nat_lt (x.tick).0 at) (nat_lt (x.tick).0 c) refl refl (below_twice xs le)
   where
     by : (a b : Bool) → nat_lt (x.tick).0 at ≡ a → nat_lt (x.tick).0 c ≡ b → entries_below c (entries_below at xs) ≡ entries_below c xs
         → entries_below c (entries_below at (x ∷ xs)) ≡ entries_below c (x ∷ xs)
@@ -87,18 +87,18 @@ below_twice c at (x ∷ xs) le = by (nat_lt (x.tick).0 at) (nat_lt (x.tick).0 c)
         cc
 
 -- of the first `keep`, where none behind them is below it
-below_kept : (c keep : ℕ) (xs : List Entry) → All (IsFrom c) (drop keep xs) → entries_below c (take keep xs) ≡ entries_below c xs
-below_kept c keep xs high =
+below_kept : {c : ℕ} (keep : ℕ) (xs : List Entry) → All (IsFrom c) (drop keep xs) → entries_below c (take keep xs) ≡ entries_below c xs
+below_kept {c} keep xs high =
     sym (
     ap (entries_below c) (sym (take-append-drop keep xs))
     ∙ filter-append (λ (e : Entry). nat_lt (e.tick).0 c) (take keep xs) (drop keep xs)
-    ∙ ap (λ (l : List Entry). entries_below c (take keep xs) ++ l) (below_none c (drop keep xs) high)
+    ∙ ap (λ (l : List Entry). entries_below c (take keep xs) ++ l) (below_none (drop keep xs) high)
     ∙ append-nil (entries_below c (take keep xs)))
 
-low_at : (n k : ℕ) (xs : List Entry) → All (λ (e : Entry). (e.tick).0 < n) xs → slice_index_or (map (λ (e : Entry). (e.tick).0) xs) k 0 ≤ n
-low_at n k [] low = omega arith
-low_at n zero (x ∷ xs) low = let here : (x.tick).0 < n = All-head (λ (e : Entry). (e.tick).0 < n) x xs low in omega (arith, here)
-low_at n (suc k) (x ∷ xs) low = low_at n k xs (All-tail (λ (e : Entry). (e.tick).0 < n) x xs low)
+low_at : {n : ℕ} (k : ℕ) (xs : List Entry) → All (λ (e : Entry). (e.tick).0 < n) xs → slice_index_or (map (λ (e : Entry). (e.tick).0) xs) k 0 ≤ n
+low_at k [] low = omega arith
+low_at {n} zero (x ∷ xs) low = let here : (x.tick).0 < n = All-head (λ (e : Entry). (e.tick).0 < n) x xs low in omega (arith, here)
+low_at {n} (suc k) (x ∷ xs) low = low_at k xs (All-tail (λ (e : Entry). (e.tick).0 < n) x xs low)
 
 -- ---- The moment of a run
 
@@ -106,16 +106,16 @@ record IsMoment (n keep at : ℕ) (all : List Entry) : Type 0 where
   low : at ≤ n
   same : (c : ℕ) → c ≤ at → entries_below c (take keep all) ≡ entries_below c all
 
-moment_by : (n keep : ℕ) (all : List Entry) (b : Bool) → nat_le (length all) keep ≡ b → Rises (events_of all) → All (λ (e : Entry). (e.tick).0 < n) all
+moment_by : {n keep : ℕ} {all : List Entry} (b : Bool) → nat_le (length all) keep ≡ b → Rises (events_of all) → All (λ (e : Entry). (e.tick).0 < n) all
     → IsMoment n keep (if b then n else last_tick (take keep all)) all
-moment_by n keep all true is rises low =
+moment_by {n} {keep} {all} true is rises low =
     let few : length all ≤ keep = grind (arith, nat_tests) in
     let d : ℕ = n in
     record { low = omega arith; same = λ c le. ap (entries_below c) (take_all keep all few) }
-moment_by n keep all false is rises low =
+moment_by {n} {keep} {all} false is rises low =
     record {
-      low = low_at n (length (take keep all) - 1) (take keep all) (All-take (λ (e : Entry). (e.tick).0 < n) keep all low);
-      same = λ c le. below_kept c keep all (All-weaker (IsFrom (last_tick (take keep all))) (IsFrom c) (λ e h. omega (arith, h, le)) (drop keep all) (behind keep all rises));
+      low = low_at (length (take keep all) - 1) (take keep all) (All-take (λ (e : Entry). (e.tick).0 < n) keep all low);
+      same = λ c le. below_kept keep all (All-weaker (IsFrom (last_tick (take keep all))) (IsFrom c) (λ e h. omega (arith, h, le)) (drop keep all) (behind keep all rises));
     }
 
 module _ {S T : Type 0} (h : Moves S) (p : Moves T) (trace : ReferenceIsTrace h p) (replayed : ReferenceIsReplayed h p) (shorter : ShorterRunIsBeginning h p) (s : S) (t : T) where
@@ -131,7 +131,7 @@ module _ {S T : Type 0} (h : Moves S) (p : Moves T) (trace : ReferenceIsTrace h 
       let all : List Entry = accesses (reference h p s t n).list in
       let saved : List Entry = entries_below at (take keep all) in
       let runs : (c : ℕ) → c ≤ at → entries_below c saved ≡ accesses (reference h p s t c).list =
-      λ c le. below_twice c at (take keep all) le ∙ m.same c le ∙ sym (shorter s t c n (omega (arith, le, m.low))) in
+      λ c le. below_twice (take keep all) le ∙ m.same c le ∙ sym (shorter s t c n (omega (arith, le, m.low))) in
       let d : ℕ = at in
       let self : at ≤ at = omega arith in
       let whole : saved ≡ accesses (reference h p s t at).list = m.same at self ∙ sym (shorter s t at n m.low) in (
@@ -143,8 +143,8 @@ module _ {S T : Type 0} (h : Moves S) (p : Moves T) (trace : ReferenceIsTrace h 
         },
       )
 
-pub saved_run : {S T : Type 0} (h : Moves S) (p : Moves T) → ReferenceIsTrace h p → ReferenceIsReplayed h p → ShorterRunIsBeginning h p → SavedRunIsResumed h p
-saved_run h p trace replayed shorter s t n keep =
+pub saved_run : {S T : Type 0} {h : Moves S} {p : Moves T} → ReferenceIsTrace h p → ReferenceIsReplayed h p → ShorterRunIsBeginning h p → SavedRunIsResumed h p
+saved_run {h} {p} trace replayed shorter s t n keep =
     let all : List Entry = accesses (reference h p s t n).list in
     let is : IsTraceBelow n all = trace s t n in
-    saved_by h p trace replayed shorter s t n keep (moment_of n keep all) (moment_by n keep all (nat_le (length all) keep) refl is.rises is.below)
+    saved_by h p trace replayed shorter s t n keep (moment_of n keep all) (moment_by (nat_le (length all) keep) refl is.rises is.below)

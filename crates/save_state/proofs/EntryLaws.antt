@@ -33,38 +33,38 @@ record Says (s : Side) (k r y : ℕ) (op : Op) : Type 0 where
   byte : line_byte op (answer_in op y) ≡ y
   answer : IsAnswer op (answer_in op y)
 
-both_true : (a b : Bool) → (a && b) ≡ true → (a ≡ true) × (b ≡ true)
-both_true true b h = (refl, h)
-both_true false b h = absurd cc
+both_true : (a : Bool) {b : Bool} → (a && b) ≡ true → (a ≡ true) × (b ≡ true)
+both_true true h = (refl, h)
+both_true false h = absurd cc
 
-reset_says : (s : Side) (r y : ℕ) (op : Op) → reset_of s r y ≡ Some op → Says s 2 r y op
-reset_says Host r y op e =
+reset_says : (s : Side) {r y : ℕ} {op : Op} → reset_of s r y ≡ Some op → Says s 2 r y op
+reset_says Host {r} {y} {op} e =
     let t = if_some (eqb r 0 && eqb y 0) Reset op e in
-    let zeros = both_true (eqb r 0) (eqb y 0) t.0 in
+    let zeros = both_true (eqb r 0) t.0 in
     let none : r ≡ 0 = eqb-true r 0 zeros.0 in
     let clear : y ≡ 0 = eqb-true y 0 zeros.1 in
     subst (λ (o : Op). Says Host 2 r y o) t.1 (record { bits = omega (arith, none); may = refl; byte = sym clear; answer = refl })
-reset_says Para r y op e = absurd cc
+reset_says Para e = absurd cc
 
-op_says : (k : ℕ) (s : Side) (r y : ℕ) (op : Op) → r < 8 → op_by k s r y ≡ Some op → Says s k r y op
-op_says zero s r y op lt e = subst (λ (o : Op). Says s 0 r y o) (some_is (Read r) op e) (record { bits = omega arith; may = lt; byte = refl; answer = tt })
-op_says (suc zero) s r y op lt e = subst (λ (o : Op). Says s 1 r y o) (some_is (Write r y) op e) (record { bits = omega arith; may = lt; byte = refl; answer = refl })
-op_says (suc (suc zero)) s r y op lt e = reset_says s r y op e
-op_says (suc (suc (suc n))) s r y op lt e = absurd cc
+op_says : (k : ℕ) {s : Side} {r y : ℕ} {op : Op} → r < 8 → op_by k s r y ≡ Some op → Says s k r y op
+op_says zero {s} {r} {y} {op} lt e = subst (λ (o : Op). Says s 0 r y o) (some_is e) (record { bits = omega arith; may = lt; byte = refl; answer = tt })
+op_says (suc zero) {s} {r} {y} {op} lt e = subst (λ (o : Op). Says s 1 r y o) (some_is e) (record { bits = omega arith; may = lt; byte = refl; answer = refl })
+op_says (suc (suc zero)) {s} {r} {y} {op} lt e = reset_says s e
+op_says (suc (suc (suc n))) lt e = absurd cc
 
-side_value : (f : ℕ) → f < 256 → side_bits (side_in f) ≡ 128 * (f / 128)
-side_value f lt =
+side_value : {f : ℕ} → f < 256 → side_bits (side_in f) ≡ 128 * (f / 128)
+side_value {f} lt =
     elim (cases_lt f 128) [
       | inl low ↦ let no : leb 128 f ≡ false = grind (arith, nat_tests) in rw no (omega arith)
       | inr high ↦ rw (le-leb 128 f high) (omega arith)
     ]
 
-parts_sum : (f : ℕ) → f < 256 → f / 8 % 4 ≡ 0 → 128 * (f / 128) + (32 * (f / 32 % 4) + f % 8) ≡ f
-parts_sum f lt clear = omega arith
+parts_sum : {f : ℕ} → f < 256 → f / 8 % 4 ≡ 0 → 128 * (f / 128) + (32 * (f / 32 % 4) + f % 8) ≡ f
+parts_sum lt clear = omega arith
 
-if_clear : (t : Bool) (o : Option Op) (op : Op) → cond t o None ≡ Some op → (t ≡ true) × (o ≡ Some op)
-if_clear true o op e = (refl, e)
-if_clear false o op e = absurd cc
+if_clear : (t : Bool) {o : Option Op} {op : Op} → cond t o None ≡ Some op → (t ≡ true) × (o ≡ Some op)
+if_clear true e = (refl, e)
+if_clear false e = absurd cc
 
 -- What was read of it.
 record Formed (f y : ℕ) (op : Op) : Type 0 where
@@ -73,25 +73,25 @@ record Formed (f y : ℕ) (op : Op) : Type 0 where
   byte : line_byte op (answer_in op y) ≡ y
   answer : IsAnswer op (answer_in op y)
 
-op_reads : (f y : ℕ) (op : Op) → f < 256 → op_in f y ≡ Some op → Formed f y op
-op_reads f y op lt e =
-    let t = if_clear (eqb (f / 8 % 4) 0) (op_by (f / 32 % 4) (side_in f) (f % 8) y) op e in
+op_reads : {f y : ℕ} {op : Op} → f < 256 → op_in f y ≡ Some op → Formed f y op
+op_reads {f} {y} {op} lt e =
+    let t = if_clear (eqb (f / 8 % 4) 0) e in
     let clear : f / 8 % 4 ≡ 0 = eqb-true (f / 8 % 4) 0 t.0 in
     let low : f % 8 < 8 = omega arith in
-    let says = op_says (f / 32 % 4) (side_in f) (f % 8) y op low t.1 in
+    let says = op_says (f / 32 % 4) low t.1 in
     let bits : op_bits op + number_of op ≡ 32 * (f / 32 % 4) + f % 8 = says.bits in
-    let side : side_bits (side_in f) ≡ 128 * (f / 128) = side_value f lt in
-    let sum : 128 * (f / 128) + (32 * (f / 32 % 4) + f % 8) ≡ f = parts_sum f lt clear in
+    let side : side_bits (side_in f) ≡ 128 * (f / 128) = side_value lt in
+    let sum : 128 * (f / 128) + (32 * (f / 32 % 4) + f % 8) ≡ f = parts_sum lt clear in
     record { form = omega (arith, bits, side, sum); may = says.may; byte = says.byte; answer = says.answer }
 
 op_forms : (f k r y : ℕ) (s : Side) (op : Op) → f / 8 % 4 ≡ 0 → f / 32 % 4 ≡ k → f % 8 ≡ r → side_in f ≡ s → op_by k s r y ≡ Some op → op_in f y ≡ Some op
 op_forms f k r y s op clear kind register side is = rw (clear, kind, register, side) is
 
-host_side : (f : ℕ) → f < 128 → side_in f ≡ Host
-host_side f low = let no : leb 128 f ≡ false = grind (arith, nat_tests) in rw no refl
+host_side : {f : ℕ} → f < 128 → side_in f ≡ Host
+host_side {f} low = let no : leb 128 f ≡ false = grind (arith, nat_tests) in rw no refl
 
-para_side : (f : ℕ) → 128 ≤ f → side_in f ≡ Para
-para_side f high = rw (le-leb 128 f high) refl
+para_side : {f : ℕ} → 128 ≤ f → side_in f ≡ Para
+para_side {f} high = rw (le-leb 128 f high) refl
 
 -- What is read of the bytes of an operation.
 record Again (s : Side) (op : Op) (answer f : ℕ) : Type 0 where
@@ -99,52 +99,52 @@ record Again (s : Side) (op : Op) (answer f : ℕ) : Type 0 where
   op_is : op_in f (line_byte op answer) ≡ Some op
   told : answer_in op (line_byte op answer) ≡ answer
 
-op_again : (s : Side) (op : Op) (answer f : ℕ) → MayDo s op → IsAnswer op answer → f ≡ side_bits s + op_bits op + number_of op → Again s op answer f
-op_again Host (Read r) answer f may is e =
-    let side : side_in f ≡ Host = host_side f (omega (arith, e, may)) in
+op_again : (s : Side) (op : Op) {answer f : ℕ} → MayDo s op → IsAnswer op answer → f ≡ side_bits s + op_bits op + number_of op → Again s op answer f
+op_again Host (Read r) {answer} {f} may is e =
+    let side : side_in f ≡ Host = host_side (omega (arith, e, may)) in
     record { side = side; op_is = op_forms f 0 r answer Host (Read r) (omega (arith, e, may)) (omega (arith, e, may)) (omega (arith, e, may)) side refl; told = refl }
-op_again Para (Read r) answer f may is e =
-    let side : side_in f ≡ Para = para_side f (omega (arith, e)) in
+op_again Para (Read r) {answer} {f} may is e =
+    let side : side_in f ≡ Para = para_side (omega (arith, e)) in
     record { side = side; op_is = op_forms f 0 r answer Para (Read r) (omega (arith, e, may)) (omega (arith, e, may)) (omega (arith, e, may)) side refl; told = refl }
-op_again Host (Write r y) answer f may is e =
-    let side : side_in f ≡ Host = host_side f (omega (arith, e, may)) in
+op_again Host (Write r y) {f} may is e =
+    let side : side_in f ≡ Host = host_side (omega (arith, e, may)) in
     record { side = side; op_is = op_forms f 1 r y Host (Write r y) (omega (arith, e, may)) (omega (arith, e, may)) (omega (arith, e, may)) side refl; told = sym is }
-op_again Para (Write r y) answer f may is e =
-    let side : side_in f ≡ Para = para_side f (omega (arith, e)) in
+op_again Para (Write r y) {f} may is e =
+    let side : side_in f ≡ Para = para_side (omega (arith, e)) in
     record { side = side; op_is = op_forms f 1 r y Para (Write r y) (omega (arith, e, may)) (omega (arith, e, may)) (omega (arith, e, may)) side refl; told = sym is }
-op_again Host Reset answer f may is e =
-    let side : side_in f ≡ Host = host_side f (omega (arith, e)) in
+op_again Host Reset {f} may is e =
+    let side : side_in f ≡ Host = host_side (omega (arith, e)) in
     record { side = side; op_is = op_forms f 2 0 0 Host Reset (omega (arith, e)) (omega (arith, e)) (omega (arith, e)) side refl; told = sym is }
-op_again Para Reset answer f may is e = absurd cc
+op_again Para Reset may is e = absurd cc
 
 -- ---- the field
 
-cons_bytes : (a : ℕ) (bs : List ℕ) → a < 256 → AreBytes bs → AreBytes (a ∷ bs)
-cons_bytes a bs lt are zero = lt
-cons_bytes a bs lt are (suc i) = are i
+cons_bytes : {a : ℕ} (bs : List ℕ) → a < 256 → AreBytes bs → AreBytes (a ∷ bs)
+cons_bytes bs lt are zero = lt
+cons_bytes bs lt are (suc i) = are i
 
 no_bytes : AreBytes []
 no_bytes i = omega arith
 
 -- an access by its parts
-with_op : (tick : ℕ) (s : Side) (y : ℕ) (o : Option Op) (e : Entry) → entry_by tick s y o ≡ Some e →
+with_op : {tick : ℕ} {s : Side} {y : ℕ} (o : Option Op) {e : Entry} → entry_by tick s y o ≡ Some e →
     (op : Op) × (o ≡ Some op) × (record { tick = record { 0 = tick }; side = s; op = op; answer = answer_in op y } ≡ e)
-with_op tick s y None e is = absurd cc
-with_op tick s y (Some op) e is = (op, refl, some_is (record { tick = record { 0 = tick }; side = s; op = op; answer = answer_in op y }) e is)
+with_op None is = absurd cc
+with_op {tick} {s} {y} (Some op) {e} is = (op, refl, some_is is)
 
-entry_reads7 : (a b c d g f y : ℕ) (e : Entry) → a < 256 → b < 256 → c < 256 → d < 256 → g < 256 → f < 256 → entry_in (a ∷ b ∷ c ∷ d ∷ g ∷ f ∷ y ∷ []) ≡ Some e →
+entry_reads7 : {a b c d g f y : ℕ} {e : Entry} → a < 256 → b < 256 → c < 256 → d < 256 → g < 256 → f < 256 → entry_in (a ∷ b ∷ c ∷ d ∷ g ∷ f ∷ y ∷ []) ≡ Some e →
     (entry_bytes e ≡ a ∷ b ∷ c ∷ d ∷ g ∷ f ∷ y ∷ []) × HasLine e
 unfolding entry_bytes
-entry_reads7 a b c d g f y e a' b' c' d' g' f' is =
+entry_reads7 {a} {b} {c} {d} {g} {f} {y} {e} a' b' c' d' g' f' is =
     let eight : List ℕ = 0 ∷ 0 ∷ 0 ∷ a ∷ b ∷ c ∷ d ∷ g ∷ [] in
     let tick : ℕ = from_be_bytes w64 eight in
-    let parts = with_op tick (side_in f) y (op_in f y) e is in
-    let formed = op_reads f y parts.0 f' parts.1 in
+    let parts = with_op (op_in f y) is in
+    let formed = op_reads f' parts.1 in
     let are : AreBytes eight =
-    cons_bytes 0 (0 ∷ 0 ∷ a ∷ b ∷ c ∷ d ∷ g ∷ []) (omega arith)
-    (cons_bytes 0 (0 ∷ a ∷ b ∷ c ∷ d ∷ g ∷ []) (omega arith)
-    (cons_bytes 0 (a ∷ b ∷ c ∷ d ∷ g ∷ []) (omega arith)
-    (cons_bytes a (b ∷ c ∷ d ∷ g ∷ []) a' (cons_bytes b (c ∷ d ∷ g ∷ []) b' (cons_bytes c (d ∷ g ∷ []) c' (cons_bytes d (g ∷ []) d' (cons_bytes g [] g' no_bytes))))))) in
+    cons_bytes (0 ∷ 0 ∷ a ∷ b ∷ c ∷ d ∷ g ∷ []) (omega arith)
+    (cons_bytes (0 ∷ a ∷ b ∷ c ∷ d ∷ g ∷ []) (omega arith)
+    (cons_bytes (a ∷ b ∷ c ∷ d ∷ g ∷ []) (omega arith)
+    (cons_bytes (b ∷ c ∷ d ∷ g ∷ []) a' (cons_bytes (c ∷ d ∷ g ∷ []) b' (cons_bytes (d ∷ g ∷ []) c' (cons_bytes (g ∷ []) d' (cons_bytes [] g' no_bytes))))))) in
     let back : to_be_bytes w64 tick ≡ eight = be_bytes_8 eight tick refl are refl in
     let made : Entry = record { tick = record { 0 = tick }; side = side_in f; op = parts.0; answer = answer_in parts.0 y } in
     let ticks : tick_bytes tick ≡ a ∷ b ∷ c ∷ d ∷ g ∷ [] = ap (drop 3) back in
@@ -155,35 +155,35 @@ entry_reads7 a b c d g f y e a' b' c' d' g' f' is =
     subst (λ (x : Entry). (entry_bytes x ≡ a ∷ b ∷ c ∷ d ∷ g ∷ f ∷ y ∷ []) × HasLine x) parts.2
     (text, record { may = formed.may; tick = omega (arith, a', b', c', d', g'); answer = formed.answer })
 
-entry_reads : (bs : List ℕ) (e : Entry) → length bs ≡ 7 → AreBytes bs → entry_in bs ≡ Some e → (entry_bytes e ≡ bs) × HasLine e
-entry_reads [] e l are is = absurd (omega arith)
-entry_reads (a ∷ []) e l are is = absurd (omega arith)
-entry_reads (a ∷ b ∷ []) e l are is = absurd (omega arith)
-entry_reads (a ∷ b ∷ c ∷ []) e l are is = absurd (omega arith)
-entry_reads (a ∷ b ∷ c ∷ d ∷ []) e l are is = absurd (omega arith)
-entry_reads (a ∷ b ∷ c ∷ d ∷ g ∷ []) e l are is = absurd (omega arith)
-entry_reads (a ∷ b ∷ c ∷ d ∷ g ∷ f ∷ []) e l are is = absurd (omega arith)
-entry_reads (a ∷ b ∷ c ∷ d ∷ g ∷ f ∷ y ∷ []) e l are is = entry_reads7 a b c d g f y e (are 0) (are 1) (are 2) (are 3) (are 4) (are 5) is
-entry_reads (a ∷ b ∷ c ∷ d ∷ g ∷ f ∷ y ∷ z ∷ bs) e l are is = absurd (omega arith)
+entry_reads : (bs : List ℕ) {e : Entry} → length bs ≡ 7 → AreBytes bs → entry_in bs ≡ Some e → (entry_bytes e ≡ bs) × HasLine e
+entry_reads [] l are is = absurd (omega arith)
+entry_reads (a ∷ []) l are is = absurd (omega arith)
+entry_reads (a ∷ b ∷ []) l are is = absurd (omega arith)
+entry_reads (a ∷ b ∷ c ∷ []) l are is = absurd (omega arith)
+entry_reads (a ∷ b ∷ c ∷ d ∷ []) l are is = absurd (omega arith)
+entry_reads (a ∷ b ∷ c ∷ d ∷ g ∷ []) l are is = absurd (omega arith)
+entry_reads (a ∷ b ∷ c ∷ d ∷ g ∷ f ∷ []) l are is = absurd (omega arith)
+entry_reads (a ∷ b ∷ c ∷ d ∷ g ∷ f ∷ y ∷ []) {e} l are is = entry_reads7 (are 0) (are 1) (are 2) (are 3) (are 4) (are 5) is
+entry_reads (a ∷ b ∷ c ∷ d ∷ g ∷ f ∷ y ∷ z ∷ bs) l are is = absurd (omega arith)
 
-tick_again : (t : ℕ) → t < 2 ^ 40 → tick_in (tick_bytes t) ≡ t
-tick_again t lt =
+tick_again : {t : ℕ} → t < 2 ^ 40 → tick_in (tick_bytes t) ≡ t
+tick_again {t} lt =
     let h7 : 0 ≡ t / 72057594037927936 % 256 = omega arith in
     let h6 : 0 ≡ t / 281474976710656 % 256 = omega arith in
     let h5 : 0 ≡ t / 1099511627776 % 256 = omega arith in
     let whole : 0 ∷ 0 ∷ 0 ∷ tick_bytes t ≡ to_be_bytes w64 t = λ i. h7 i ∷ h6 i ∷ h5 i ∷ tick_bytes t in
     ap (from_be_bytes w64) whole ∙ from_be_bytes-to_be_bytes_8 t (omega arith)
 
-by_parts : (tick t : ℕ) (side s : Side) (y : ℕ) (o : Option Op) (op : Op) (answer : ℕ) → tick ≡ t → side ≡ s → o ≡ Some op → answer_in op y ≡ answer →
+by_parts : {tick t : ℕ} {side s : Side} (y : ℕ) {o : Option Op} {op : Op} {answer : ℕ} → tick ≡ t → side ≡ s → o ≡ Some op → answer_in op y ≡ answer →
     entry_by tick side y o ≡ Some (record { tick = record { 0 = t }; side = s; op = op; answer = answer })
-by_parts tick t side s y o op answer tick_is side_is op_is told = rw (tick_is, side_is, op_is, told) refl
+by_parts y tick_is side_is op_is told = rw (tick_is, side_is, op_is, told) refl
 
-entry_again : (e : Entry) → HasLine e → entry_in (entry_bytes e) ≡ Some e
+entry_again : {e : Entry} → HasLine e → entry_in (entry_bytes e) ≡ Some e
 unfolding entry_bytes
-entry_again e has =
-    let again = op_again e.side e.op e.answer (form_byte e) has.may has.answer refl in
-    by_parts (tick_in (tick_bytes (e.tick).0)) (e.tick).0 (side_in (form_byte e)) e.side (line_byte e.op e.answer) (op_in (form_byte e) (line_byte e.op e.answer)) e.op e.answer
-    (tick_again (e.tick).0 has.tick) again.side again.op_is again.told
+entry_again {e} has =
+    let again = op_again e.side e.op has.may has.answer refl in
+    by_parts (line_byte e.op e.answer)
+    (tick_again has.tick) again.side again.op_is again.told
 
 long_entry : (e : Entry) → length (entry_bytes e) ≡ 7
 unfolding entry_bytes
@@ -191,11 +191,11 @@ long_entry e = refl
 
 -- ---- an access behind another
 
-placed_some : (ticks : ℕ) (last o : Option Entry) (e : Entry) → in_order ticks last o ≡ Some e → (o ≡ Some e) × ((e.tick).0 < ticks) × (follows last e ≡ true)
-placed_some ticks last None e is = absurd cc
-placed_some ticks last (Some d) e is =
+placed_some : {ticks : ℕ} (last o : Option Entry) {e : Entry} → in_order ticks last o ≡ Some e → (o ≡ Some e) × ((e.tick).0 < ticks) × (follows last e ≡ true)
+placed_some last None is = absurd cc
+placed_some {ticks} last (Some d) {e} is =
     let p = if_some (ltb (d.tick).0 ticks && follows last d) d e is in
-    let t = both_true (ltb (d.tick).0 ticks) (follows last d) p.0 in
+    let t = both_true (ltb (d.tick).0 ticks) p.0 in
     let low : (d.tick).0 < ticks = ltb-true (d.tick).0 ticks t.0 in
     (ap (λ (x : Entry). Some x) p.1, subst (λ (x : Entry). (x.tick).0 < ticks) p.1 low, subst (λ (x : Entry). follows last x ≡ true) p.1 t.1)
 
@@ -209,41 +209,41 @@ next_reads : (ticks : ℕ) (last : Option Entry) (bytes : List ℕ) (at : ℕ) (
 unfolding next_entry
 next_reads ticks last bytes at e next are is =
     let h = field_held 7 (next_entry ticks last) bytes at e next is in
-    let p = placed_some ticks last (entry_in h.text) e h.means in
-    let r = entry_reads h.text e h.long (h.are are) p.0 in
+    let p = placed_some last (entry_in h.text) h.means in
+    let r = entry_reads h.text h.long (h.are are) p.0 in
     (subst (λ (t : List ℕ). Stands bytes at t next) (sym r.0) h.stands, r.1, p.1, p.2)
 
-next_again : (ticks : ℕ) (last : Option Entry) (bytes : List ℕ) (at : ℕ) (e : Entry) (next : ℕ) → HasLine e → (e.tick).0 < ticks → follows last e ≡ true →
+next_again : {ticks : ℕ} (last : Option Entry) {bytes : List ℕ} {at : ℕ} {e : Entry} {next : ℕ} → HasLine e → (e.tick).0 < ticks → follows last e ≡ true →
     Stands bytes at (entry_bytes e) next → field 7 (next_entry ticks last) bytes at ≡ Ok (e, next)
 unfolding next_entry
-next_again ticks last bytes at e next has below behind stands =
-    field_again 7 (next_entry ticks last) bytes at e next (entry_bytes e) stands (long_entry e) (rw (entry_again e has, lt-ltb (e.tick).0 ticks below, behind) refl)
+next_again {ticks} last {bytes} {at} {e} {next} has below behind stands =
+    field_again (next_entry ticks last) stands (long_entry e) (rw (entry_again has, lt-ltb (e.tick).0 ticks below, behind) refl)
 
-pub entries_read : (n ticks : ℕ) (last : Option Entry) (bytes : List ℕ) (at : ℕ) (x : List Entry × ℕ) → AreBytes bytes → at ≤ length bytes → entries_at ticks n last bytes at ≡ Ok x →
+pub entries_read : (n ticks : ℕ) (last : Option Entry) {bytes : List ℕ} {at : ℕ} {x : List Entry × ℕ} → AreBytes bytes → at ≤ length bytes → entries_at ticks n last bytes at ≡ Ok x →
     Stands bytes at (flat_map entry_bytes x.0) x.1 × (length x.0 ≡ n) × Behind ticks last x.0
 unfolding entries_at
-entries_read zero ticks last bytes at x are le e =
-    subst (λ (y : List Entry × ℕ). Stands bytes at (flat_map entry_bytes y.0) y.1 × (length y.0 ≡ 0) × Behind ticks last y.0) (ok_is ([], at) x e)
+entries_read zero ticks last {bytes} {at} {x} are le e =
+    subst (λ (y : List Entry × ℕ). Stands bytes at (flat_map entry_bytes y.0) y.1 × (length y.0 ≡ 0) × Behind ticks last y.0) (ok_is e)
     (record { here = refl; to = omega arith; within = le }, refl, tt)
-entries_read (suc n) ticks last bytes at x are le e =
-    let a = bind_ok (field 7 (next_entry ticks last) bytes at) (λ first. entries_at ticks n (Some first.0) bytes first.1 >>= λ others. Ok (first.0 ∷ others.0, others.1)) x e in
-    let b = bind_ok (entries_at ticks n (Some a.0.0) bytes a.0.1) (λ others. Ok (a.0.0 ∷ others.0, others.1)) x a.2 in
+entries_read (suc n) ticks last {bytes} {at} {x} are le e =
+    let a = bind_ok (field 7 (next_entry ticks last) bytes at) e in
+    let b = bind_ok (entries_at ticks n (Some a.0.0) bytes a.0.1) a.2 in
     let first = next_reads ticks last bytes at a.0.0 a.0.1 are a.1 in
-    let second = entries_read n ticks (Some a.0.0) bytes a.0.1 b.0 are first.0.within b.1 in
-    let both = stands_then bytes at (entry_bytes a.0.0) a.0.1 (flat_map entry_bytes b.0.0) b.0.1 first.0 second.0 in
+    let second = entries_read n ticks (Some a.0.0) are first.0.within b.1 in
+    let both = stands_then first.0 second.0 in
     let made : List Entry × ℕ = (a.0.0 ∷ b.0.0, b.0.1) in
-    subst (λ (y : List Entry × ℕ). Stands bytes at (flat_map entry_bytes y.0) y.1 × (length y.0 ≡ suc n) × Behind ticks last y.0) (ok_is made x b.2)
+    subst (λ (y : List Entry × ℕ). Stands bytes at (flat_map entry_bytes y.0) y.1 × (length y.0 ≡ suc n) × Behind ticks last y.0) (ok_is b.2)
     (both, ap suc second.1, (first.1, first.2, first.3, second.2))
 
-pub entries_again : (es : List Entry) (ticks : ℕ) (last : Option Entry) (bytes : List ℕ) (at next : ℕ) → Behind ticks last es → Stands bytes at (flat_map entry_bytes es) next →
+pub entries_again : (es : List Entry) (ticks : ℕ) (last : Option Entry) {bytes : List ℕ} {at next : ℕ} → Behind ticks last es → Stands bytes at (flat_map entry_bytes es) next →
     entries_at ticks (length es) last bytes at ≡ Ok (es, next)
 unfolding entries_at
-entries_again [] ticks last bytes at next behind stands = let end_ : at ≡ next = omega (arith, stands.to) in rw end_ refl
-entries_again (e ∷ es) ticks last bytes at next behind stands =
+entries_again [] ticks last {at} {next} behind stands = let end_ : at ≡ next = omega (arith, stands.to) in rw end_ refl
+entries_again (e ∷ es) ticks last {bytes} {at} {next} behind stands =
     let text = entry_bytes e in
-    let first : Stands bytes at text (at + length text) = stands_first bytes at text (flat_map entry_bytes es) next stands in
-    let second : Stands bytes (at + length text) (flat_map entry_bytes es) next = stands_second bytes at text (flat_map entry_bytes es) next stands in
-    rw (next_again ticks last bytes at e (at + length text) behind.0 behind.1 behind.2 first, entries_again es ticks (Some e) bytes (at + length text) next behind.3 second) refl
+    let first : Stands bytes at text (at + length text) = stands_first (flat_map entry_bytes es) stands in
+    let second : Stands bytes (at + length text) (flat_map entry_bytes es) next = stands_second text stands in
+    rw (next_again last behind.0 behind.1 behind.2 first, entries_again es ticks (Some e) behind.3 second) refl
 
 -- ---- their rules
 
@@ -259,24 +259,24 @@ pub behind_lines : (ticks : ℕ) (last : Option Entry) (es : List Entry) → Beh
 behind_lines ticks last [] behind = All-nil HasLine
 behind_lines ticks last (e ∷ es) behind = All-cons HasLine e es behind.0 (behind_lines ticks (Some e) es behind.3)
 
-pub behind_below : (ticks : ℕ) (last : Option Entry) (es : List Entry) → Behind ticks last es → All (λ e. (e.tick).0 < ticks) es
-behind_below ticks last [] behind = All-nil (λ e. (e.tick).0 < ticks)
-behind_below ticks last (e ∷ es) behind = All-cons (λ e. (e.tick).0 < ticks) e es behind.1 (behind_below ticks (Some e) es behind.3)
+pub behind_below : {ticks : ℕ} (last : Option Entry) (es : List Entry) → Behind ticks last es → All (λ e. (e.tick).0 < ticks) es
+behind_below {ticks} last [] behind = All-nil (λ e. (e.tick).0 < ticks)
+behind_below {ticks} last (e ∷ es) behind = All-cons (λ e. (e.tick).0 < ticks) e es behind.1 (behind_below (Some e) es behind.3)
 
-behind_after : (ticks : ℕ) (d : Entry) (es : List Entry) → All HasLine es → All (λ e. (e.tick).0 < ticks) es → RisesAfter (event_of d) (events_of es) → Behind ticks (Some d) es
-behind_after ticks d [] lines below rises = tt
-behind_after ticks d (e ∷ es) lines below rises = (
+behind_after : {ticks : ℕ} (d : Entry) (es : List Entry) → All HasLine es → All (λ e. (e.tick).0 < ticks) es → RisesAfter (event_of d) (events_of es) → Behind ticks (Some d) es
+behind_after d [] lines below rises = tt
+behind_after {ticks} d (e ∷ es) lines below rises = (
   All-head HasLine e es lines,
   All-head (λ e. (e.tick).0 < ticks) e es below,
   rises.0,
-  behind_after ticks e es (All-tail HasLine e es lines) (All-tail (λ e. (e.tick).0 < ticks) e es below) rises.1,
+  behind_after e es (All-tail HasLine e es lines) (All-tail (λ e. (e.tick).0 < ticks) e es below) rises.1,
 )
 
-pub behind_of : (ticks : ℕ) (es : List Entry) → All HasLine es → All (λ e. (e.tick).0 < ticks) es → Rises (events_of es) → Behind ticks None es
-behind_of ticks [] lines below rises = tt
-behind_of ticks (e ∷ es) lines below rises = (
+pub behind_of : {ticks : ℕ} (es : List Entry) → All HasLine es → All (λ e. (e.tick).0 < ticks) es → Rises (events_of es) → Behind ticks None es
+behind_of [] lines below rises = tt
+behind_of {ticks} (e ∷ es) lines below rises = (
   All-head HasLine e es lines,
   All-head (λ e. (e.tick).0 < ticks) e es below,
   refl,
-  behind_after ticks e es (All-tail HasLine e es lines) (All-tail (λ e. (e.tick).0 < ticks) e es below) rises,
+  behind_after e es (All-tail HasLine e es lines) (All-tail (λ e. (e.tick).0 < ticks) e es below) rises,
 )

@@ -17,8 +17,8 @@ pub record Stands (bytes : List ℕ) (at : ℕ) (text : List ℕ) (next : ℕ) :
   pub to : next ≡ at + length text
   pub within : next ≤ length bytes
 
-pub stands_then : (bytes : List ℕ) (at : ℕ) (x : List ℕ) (mid : ℕ) (y : List ℕ) (next : ℕ) → Stands bytes at x mid → Stands bytes mid y next → Stands bytes at (x ++ y) next
-stands_then bytes at x mid y next p q = record {
+pub stands_then : {bytes : List ℕ} {at : ℕ} {x : List ℕ} {mid : ℕ} {y : List ℕ} {next : ℕ} → Stands bytes at x mid → Stands bytes mid y next → Stands bytes at (x ++ y) next
+stands_then {bytes} {x} {y} {next} p q = record {
   here = p.here ∙ ap (λ (t : List ℕ). x ++ t) q.here ∙ sym (append_assoc x y (drop next bytes));
   to = omega (arith, p.to, q.to, length-append x y);
   within = q.within;
@@ -30,11 +30,11 @@ behind bytes at x y next s =
     let all : drop at bytes ≡ x ++ (y ++ drop next bytes) = s.here ∙ append_assoc x y (drop next bytes) in
     sym (drop-drop (length x) at bytes) ∙ ap (drop (length x)) all ∙ drop_at x (y ++ drop next bytes) (length x) refl
 
-pub stands_second : (bytes : List ℕ) (at : ℕ) (x y : List ℕ) (next : ℕ) → Stands bytes at (x ++ y) next → Stands bytes (at + length x) y next
-stands_second bytes at x y next s = record { here = behind bytes at x y next s; to = omega (arith, s.to, length-append x y); within = s.within }
+pub stands_second : {bytes : List ℕ} {at : ℕ} (x : List ℕ) {y : List ℕ} {next : ℕ} → Stands bytes at (x ++ y) next → Stands bytes (at + length x) y next
+stands_second {bytes} {at} x {y} {next} s = record { here = behind bytes at x y next s; to = omega (arith, s.to, length-append x y); within = s.within }
 
-pub stands_first : (bytes : List ℕ) (at : ℕ) (x y : List ℕ) (next : ℕ) → Stands bytes at (x ++ y) next → Stands bytes at x (at + length x)
-stands_first bytes at x y next s = record {
+pub stands_first : {bytes : List ℕ} {at : ℕ} {x : List ℕ} (y : List ℕ) {next : ℕ} → Stands bytes at (x ++ y) next → Stands bytes at x (at + length x)
+stands_first {bytes} {at} {x} y {next} s = record {
   here = s.here ∙ append_assoc x y (drop next bytes) ∙ ap (λ (t : List ℕ). x ++ t) (sym (behind bytes at x y next s));
   to = refl;
   within = omega (arith, s.to, s.within, length-append x y);
@@ -51,22 +51,22 @@ range_bytes bytes a b are i =
 
 -- ---- what did not fail
 
-pub bind_ok : {A B : Type 0} (r : Result A StateError) (f : A → Result B StateError) (y : B) → (r >>= f) ≡ Ok y → (x : A) × (r ≡ Ok x) × (f x ≡ Ok y)
-bind_ok (Ok x) f y e = (x, refl, e)
-bind_ok (Err d) f y e = absurd cc
+pub bind_ok : {A B : Type 0} (r : Result A StateError) {f : A → Result B StateError} {y : B} → (r >>= f) ≡ Ok y → (x : A) × (r ≡ Ok x) × (f x ≡ Ok y)
+bind_ok (Ok x) e = (x, refl, e)
+bind_ok (Err d) e = absurd cc
 
 abbrev done : {A : Type 0} → A → Result A StateError
 done x = Ok x
 
-pub ok_is : {A : Type 0} (x y : A) → done x ≡ done y → x ≡ y
-ok_is x y e = cc
+pub ok_is : {A : Type 0} {x y : A} → done x ≡ done y → x ≡ y
+ok_is e = cc
 
-pub some_is : {A : Type 0} (x y : A) → Some x ≡ Some y → x ≡ y
-some_is x y e = cc
+pub some_is : {A : Type 0} {x y : A} → Some x ≡ Some y → x ≡ y
+some_is e = cc
 
-pub if_ok : {A : Type 0} (t : Bool) (x y : A) (d : StateError) → cond t (Ok x) (Err d) ≡ Ok y → (t ≡ true) × (x ≡ y)
-if_ok true x y d e = (refl, cc)
-if_ok false x y d e = absurd cc
+pub if_ok : {A : Type 0} (t : Bool) {x y : A} (d : StateError) → cond t (Ok x) (Err d) ≡ Ok y → (t ≡ true) × (x ≡ y)
+if_ok true d e = (refl, cc)
+if_ok false d e = absurd cc
 
 pub if_some : {A : Type 0} (t : Bool) (x y : A) → cond t (Some x) None ≡ Some y → (t ≡ true) × (x ≡ y)
 if_some true x y e = (refl, cc)
@@ -82,18 +82,18 @@ pub record Held {A : Type 0} (size : ℕ) (meaning : List ℕ → Option A) (byt
   pub means : meaning text ≡ Some a
   pub are : AreBytes bytes → AreBytes text
 
-told_ok : {A : Type 0} (at next : ℕ) (o : Option A) (x : A × ℕ) → value_or_fault at next o ≡ Ok x → (o ≡ Some x.0) × (next ≡ x.1)
-told_ok {A} at next None x e = absurd cc
-told_ok {A} at next (Some a) x e =
-    let is : (a, next) ≡ x = ok_is (a, next) x e in
+told_ok : {A : Type 0} (at : ℕ) {next : ℕ} (o : Option A) {x : A × ℕ} → value_or_fault at next o ≡ Ok x → (o ≡ Some x.0) × (next ≡ x.1)
+told_ok {A} at None e = absurd cc
+told_ok {A} at {next} (Some a) {x} e =
+    let is : (a, next) ≡ x = ok_is e in
     (ap (λ (y : A × ℕ). Some y.0) is, ap (λ (y : A × ℕ). y.1) is)
 
-field_by : {A : Type 0} (size : ℕ) (meaning : List ℕ → Option A) (bytes : List ℕ) (at : ℕ) (a : A) (next : ℕ) (t : Bool) → leb (at + size) (length bytes) ≡ t →
+field_by : {A : Type 0} {size : ℕ} {meaning : List ℕ → Option A} {bytes : List ℕ} {at : ℕ} {a : A} {next : ℕ} (t : Bool) → leb (at + size) (length bytes) ≡ t →
     cond t (value_or_fault at (at + size) (meaning (slice_range bytes at (at + size)))) (Err (BadField (length bytes))) ≡ Ok (a, next) → Held size meaning bytes at a next
-field_by size meaning bytes at a next false long e = absurd cc
-field_by size meaning bytes at a next true long e =
+field_by false long e = absurd cc
+field_by {size} {meaning} {bytes} {at} {a} {next} true long e =
     let le : at + size ≤ length bytes = leb-true (at + size) (length bytes) long in
-    let parts = told_ok at (at + size) (meaning (slice_range bytes at (at + size))) (a, next) e in
+    let parts = told_ok at (meaning (slice_range bytes at (at + size))) e in
     let width : at + size - at ≡ size = omega arith in
     let room : length (slice_range bytes at (at + size)) ≡ size = omega (arith, length-take (at + size - at) (drop at bytes), length-drop at bytes) in
     record {
@@ -110,11 +110,11 @@ field_by size meaning bytes at a next true long e =
     }
 
 pub field_held : {A : Type 0} (size : ℕ) (meaning : List ℕ → Option A) (bytes : List ℕ) (at : ℕ) (a : A) (next : ℕ) → field size meaning bytes at ≡ Ok (a, next) → Held size meaning bytes at a next
-field_held size meaning bytes at a next e = field_by size meaning bytes at a next (leb (at + size) (length bytes)) refl e
+field_held size meaning bytes at a next e = field_by (leb (at + size) (length bytes)) refl e
 
-pub field_again : {A : Type 0} (size : ℕ) (meaning : List ℕ → Option A) (bytes : List ℕ) (at : ℕ) (a : A) (next : ℕ) (text : List ℕ) →
+pub field_again : {A : Type 0} {size : ℕ} (meaning : List ℕ → Option A) {bytes : List ℕ} {at : ℕ} {a : A} {next : ℕ} {text : List ℕ} →
     Stands bytes at text next → length text ≡ size → meaning text ≡ Some a → field size meaning bytes at ≡ Ok (a, next)
-field_again {A} size meaning bytes at a next text stands long means =
+field_again {A} {size} meaning {bytes} {at} {next} {text} stands long means =
     let end_ : at + size ≡ next = omega (arith, stands.to) in
     let room : leb (at + size) (length bytes) ≡ true = le-leb (at + size) (length bytes) (omega (arith, stands.within)) in
     let width : at + size - at ≡ size = omega arith in
@@ -130,28 +130,28 @@ one_byte (a ∷ []) l = refl
 one_byte (a ∷ b ∷ bs) l = absurd (omega arith)
 
 -- the text of a number of four bytes
-pub number_text : (text : List ℕ) → length text ≡ 4 → AreBytes text → to_be_bytes w32 (number text) ≡ text
-number_text text long are = be_bytes_4 text _ long are refl
+pub number_text : {text : List ℕ} → length text ≡ 4 → AreBytes text → to_be_bytes w32 (number text) ≡ text
+number_text {text} long are = be_bytes_4 text _ long are refl
 
-pub number_of_text : (n : ℕ) → n < 2 ^ 32 → number (to_be_bytes w32 n) ≡ n
-number_of_text n lt = from_be_bytes-to_be_bytes_4 n lt
+pub number_of_text : {n : ℕ} → n < 2 ^ 32 → number (to_be_bytes w32 n) ≡ n
+number_of_text {n} lt = from_be_bytes-to_be_bytes_4 n lt
 
-up_to_some : (most n m : ℕ) → up_to most n ≡ Some m → (n ≡ m) × (n ≤ most)
-up_to_some most n m e = let p = if_some (leb n most) n m e in (p.1, leb-true n most p.0)
+up_to_some : {most n m : ℕ} → up_to most n ≡ Some m → (n ≡ m) × (n ≤ most)
+up_to_some {most} {n} {m} e = let p = if_some (leb n most) n m e in (p.1, leb-true n most p.0)
 
 pub number_reads : (most : ℕ) (bytes : List ℕ) (at n next : ℕ) → AreBytes bytes → field 4 (λ b. up_to most (number b)) bytes at ≡ Ok (n, next) →
     Stands bytes at (to_be_bytes w32 n) next × (n ≤ most)
 number_reads most bytes at n next are e =
     let h = field_held 4 (λ b. up_to most (number b)) bytes at n next e in
-    let p = up_to_some most (number h.text) n h.means in
-    let text : to_be_bytes w32 n ≡ h.text = ap (to_be_bytes w32) (sym p.0) ∙ number_text h.text h.long (h.are are) in
+    let p = up_to_some h.means in
+    let text : to_be_bytes w32 n ≡ h.text = ap (to_be_bytes w32) (sym p.0) ∙ number_text h.long (h.are are) in
     (subst (λ (t : List ℕ). Stands bytes at t next) (sym text) h.stands, omega (arith, p.0, p.1))
 
-pub number_again : (most : ℕ) (bytes : List ℕ) (at n next : ℕ) → n ≤ most → most < 2 ^ 32 → Stands bytes at (to_be_bytes w32 n) next →
+pub number_again : {most : ℕ} {bytes : List ℕ} {at n next : ℕ} → n ≤ most → most < 2 ^ 32 → Stands bytes at (to_be_bytes w32 n) next →
     field 4 (λ b. up_to most (number b)) bytes at ≡ Ok (n, next)
-number_again most bytes at n next le small stands =
-    let is : number (to_be_bytes w32 n) ≡ n = number_of_text n (omega arith) in
-    field_again 4 (λ b. up_to most (number b)) bytes at n next (to_be_bytes w32 n) stands refl (rw (is, le-leb n most le) refl)
+number_again {most} {bytes} {at} {n} {next} le small stands =
+    let is : number (to_be_bytes w32 n) ≡ n = number_of_text (omega arith) in
+    field_again (λ b. up_to most (number b)) stands refl (rw (is, le-leb n most le) refl)
 
 -- a field of one byte
 pub record HeldByte {A : Type 0} (meaning : ℕ → Option A) (bytes : List ℕ) (at : ℕ) (a : A) (next : ℕ) : Type 0 where
@@ -166,4 +166,4 @@ byte_held meaning bytes at a next e =
 
 pub byte_again : {A : Type 0} (meaning : ℕ → Option A) (bytes : List ℕ) (at : ℕ) (a : A) (next v : ℕ) → meaning v ≡ Some a → Stands bytes at (v ∷ []) next →
     field 1 (λ b. meaning (byte b)) bytes at ≡ Ok (a, next)
-byte_again meaning bytes at a next v means stands = field_again 1 (λ b. meaning (byte b)) bytes at a next (v ∷ []) stands refl means
+byte_again meaning bytes at a next v means stands = field_again (λ b. meaning (byte b)) stands refl means

@@ -4,4 +4,4 @@ use Rattle.save_state.proofs.encoding.push_list.Goals as goal
 
 pub loop-entry-preserved : goal.loop-entry-preserved
 loop-entry-preserved c =
-    flat-more entry_bytes _ c.args.entries.now c.loop-entry.entry-index _ _ _ c.loop-entry-test.true c.loop-entry.invariant c.in_ok-push_entry.ensures
+    flat-more entry_bytes _ c.args.entries.now _ c.loop-entry-test.true c.loop-entry.invariant c.in_ok-push_entry.ensures

@@ -7,13 +7,13 @@ use Rattle.save_state.proofs.entries.entries_at.Goals as goal
 pub returns-in_err-entry : goal.returns-in_err-entry
 returns-in_err-entry c =
     let p = err_from_is_err_and c.from_residual-in_err-entry.result c.from_residual-in_err-entry.ensures.1 in
-    rw (p.1, p.2) (entry_fails c.in_err-entry.field-0.0 c.loop.entries.items c.args.ticks.0 c.args.count c.loop.counter c.loop.last c.args.bytes.now c.loop.next _ c.loop-test.true
+    rw (p.1, p.2) (entry_fails c.in_err-entry.field-0.0 c.loop.entries.items c.args.ticks.0 c.loop.last c.args.bytes.now c.loop.next c.loop-test.true
     c.in_err-entry.ensures c.loop.invariant)
 
 pub loop-preserved : goal.loop-preserved
 loop-preserved c =
-    rw c.in_ok-push.ensures.items (entry_more c.loop.entries.items c.args.ticks.0 c.args.count c.loop.counter c.loop.last c.args.bytes.now c.loop.next _ _ _ c.loop-test.true
+    rw c.in_ok-push.ensures.items (entry_more c.loop.entries.items c.args.ticks.0 c.loop.last c.args.bytes.now c.loop.next c.loop-test.true
     c.in_ok-entry.ensures c.loop.invariant)
 
 pub returns : goal.returns
-returns c = entries_over c.loop.entries.items c.args.ticks.0 c.args.count c.loop.counter c.loop.last c.args.bytes.now c.loop.next _ c.loop-test.false c.loop.invariant
+returns c = entries_over c.args.ticks.0 c.loop.last c.args.bytes.now c.loop-test.false c.loop.invariant
