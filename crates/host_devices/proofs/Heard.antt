@@ -27,26 +27,26 @@ last-behind m [] w = refl
 last-behind m (v ∷ sound) w = last-behind v.moment sound w
 
 -- the moment of a write that comes now is at least that of the last one, and is in time itself
-late-enough : (c : Clock) (closed last : ℕ) → last * micro c < closed + micro c → last ≤ moment_at (micro c) closed
-late-enough Three closed last h = omega (arith, h)
-late-enough Four closed last h = omega (arith, h)
+late-enough : (c : Clock) (closed : ℕ) {last : ℕ} → last * micro c < closed + micro c → last ≤ moment_at (micro c) closed
+late-enough Three closed h = omega (arith, h)
+late-enough Four closed h = omega (arith, h)
 
 near-enough : (c : Clock) (closed : ℕ) → moment_at (micro c) closed * micro c < closed + micro c
 near-enough Three closed = omega arith
 near-enough Four closed = omega arith
 
 -- one write more, which comes now
-in-time-by : (c : Clock) (closed : ℕ) (w : SoundWrite) (sound : List SoundWrite) (room : Bool) → w.moment ≡ moment_at (micro c) closed → IsInTime (micro c) closed sound →
+in-time-by : (c : Clock) {closed : ℕ} (w : SoundWrite) {sound : List SoundWrite} (room : Bool) → w.moment ≡ moment_at (micro c) closed → IsInTime (micro c) closed sound →
     IsInTime (micro c) closed (if room then sound ++ w ∷ [] else sound)
-in-time-by c closed w sound true now h = record {
-  order = order-behind 0 sound w h.order (rw now (late-enough c closed (last_moment sound) h.last));
+in-time-by c {closed} w {sound} true now h = record {
+  order = order-behind 0 sound w h.order (rw now (late-enough c closed h.last));
   last = rw (last-behind 0 sound w, now) (near-enough c closed);
 }
-in-time-by c closed w sound false now h = h
+in-time-by c w false now h = h
 
 pub in-time-with : (c : Clock) (closed : ℕ) (w : SoundWrite) (sound : List SoundWrite) → w.moment ≡ moment_at (micro c) closed → IsInTime (micro c) closed sound →
     IsInTime (micro c) closed (with_write w sound)
-in-time-with c closed w sound now h = in-time-by c closed w sound (nat_lt (length sound) 1048576) now h
+in-time-with c closed w sound now h = in-time-by c w (nat_lt (length sound) 1048576) now h
 
 -- the code's division
 pub rounded-up : (c : Clock) (closed : ℕ) → div_ceil closed (micro c) ≡ moment_at (micro c) closed

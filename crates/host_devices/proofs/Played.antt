@@ -1,7 +1,7 @@
 -- What the events of a script make of the tables of keys and levels.
 use Rattle.std.proofs.Common.{◌≡◌, ◌∙◌, sym, refl, ap, ℕ, ◌+◌, ◌<◌, ◌≤◌, ◌==◌, ◌&&◌, zero, suc, Bool, true, false}
 use Rattle.std.proofs.Common.{cond, nat_le, inl, inr, List, [], ◌∷◌, ◌++◌, replicate, length, drop, get_or, Option, Some, None, if◌then◌else◌, arith}
-use Rattle.std.proofs.lemmas.Bool.{cases_eq, ne_eqb, eq-eqb}
+use Rattle.std.proofs.lemmas.Bool.{cases_eq, ne_eqb, eq-eqb, le-leb, lt-leb}
 use Rattle.std.proofs.lemmas.List.{drop_more, append_assoc, append-nil, get_or-set_same, get_or-set_other}
 use Rattle.std.proofs.lemmas.List.Sums.{sum_by-append}
 use Rattle.std.specs.Prelude.{unwrap_or, slice_set}
@@ -18,86 +18,72 @@ use Rattle.host_devices.specs.Shots.{shots_at, shot_at}
 use Rattle.host_devices.specs.CodePlayback.{keys_after, level_turned, level_of, IsLeft, HasLeft, IsPlayed}
 use Rattle.host_devices.specs.declared.playback.Playback.{Playback}
 
-leb-above : (a b : ℕ) → b < a → nat_le a b ≡ false
-leb-above a b h = grind arith
+leb-above : {a b : ℕ} → b < a → nat_le a b ≡ false
+leb-above h = grind arith
 
-leb-at : (a b : ℕ) → a ≤ b → nat_le a b ≡ true
-leb-at a b h = grind arith
+leb-at : {a b : ℕ} → a ≤ b → nat_le a b ≡ true
+leb-at h = grind arith
 
 -- what never falls from a tick does not from an earlier one
-pub not-before : (from t : ℕ) (left : List Event) → NeverFallsFrom from left → t ≤ from → NeverFallsFrom t left
-not-before from t [] later low = later
-not-before from t (e ∷ left) later low = (omega (arith, later.0, low), later.1)
+pub not-before : {from t : ℕ} (left : List Event) → NeverFallsFrom from left → t ≤ from → NeverFallsFrom t left
+not-before [] later low = later
+not-before (e ∷ left) later low = (omega (arith, later.0, low), later.1)
 
 -- nothing is said before the first event
 pub none-said : {A : Type 0} (kind : What → Option A) (first k : ℕ) (left : List Event) → NeverFallsFrom first left → k < first → last_said kind k left ≡ None
 none-said kind first k [] later low = refl
 none-said kind first k (e ∷ left) later low =
-    ap (λ o. or_earlier o (said_by kind k e)) (none-said kind (tick_of e) k left later.1 (omega (arith, later.0, low)))
-    ∙ ap (λ (b : Bool). if b then kind e.what else None) (leb-above (tick_of e) k (omega (arith, later.0, low)))
+    rw (none-said kind (tick_of e) k left later.1 (omega (arith, later.0, low)), lt-leb (tick_of e) k (omega (arith, later.0, low)))
 
 flip : (a b : ℕ) → (a == b) ≡ (b == a)
 flip a b = grind arith
 
 -- what an event makes of a key, or else what the table says, is what the table says after the event
+said-or : {A : Type 0} (b : Bool) (value old : A) → unwrap_or (if b then Some value else None) old ≡ (if b then value else old)
+said-or true value old = refl
+said-or false value old = refl
+
 pub key-or : (what : What) (keys : Keys) (key : ℕ) → unwrap_or (made_of key what) (keys key) ≡ keys_after what keys key
-key-or (Down k) keys key = down-by (k == key) refl
-  where
-    down-by : (b : Bool) → (k == key) ≡ b → unwrap_or (if b then Some true else None) (keys key) ≡ (if key == k then true else keys key)
-    down-by true e = sym (ap (λ (x : Bool). if x then true else keys key) (flip key k ∙ e))
-    down-by false e = sym (ap (λ (x : Bool). if x then true else keys key) (flip key k ∙ e))
-key-or (Up k) keys key = up-by (k == key) refl
-  where
-    up-by : (b : Bool) → (k == key) ≡ b → unwrap_or (if b then Some false else None) (keys key) ≡ (if key == k then false else keys key)
-    up-by true e = sym (ap (λ (x : Bool). if x then false else keys key) (flip key k ∙ e))
-    up-by false e = sym (ap (λ (x : Bool). if x then false else keys key) (flip key k ∙ e))
-key-or Shot keys key = refl
-key-or Break keys key = refl
-key-or (Level channel level) keys key = refl
+key-or (Down k) keys key = rw (flip k key) (said-or (key == k) true (keys key))
+key-or (Up k) keys key = rw (flip k key) (said-or (key == k) false (keys key))
+key-or _ keys key = refl
 
 -- and of a channel
-set-or : (levels : List ℕ) (c level i : ℕ) → c < length levels → unwrap_or (if c == i then Some level else None) (level_of levels i) ≡ level_of (slice_set levels c level) i
-set-or levels c level i low = elim (cases_eq c i) [
+set-or : (levels : List ℕ) {c : ℕ} (level i : ℕ) → c < length levels → unwrap_or (if c == i then Some level else None) (level_of levels i) ≡ level_of (slice_set levels c level) i
+set-or levels {c} level i low = elim (cases_eq c i) [
   | inl same ↦ rw (eq-eqb c i same, ← same, get_or-set_same levels c level 0 low) refl
   | inr other ↦ rw (ne_eqb c i other, get_or-set_other levels c i level 0 (λ same. other (sym same))) refl
 ]
 
 pub level-or : (what : What) (levels : List ℕ) (i : ℕ) → IsInRange what → length levels ≡ 4 → unwrap_or (level_given i what) (level_of levels i) ≡ level_of (level_turned what levels) i
-level-or (Level c level) levels i low four = set-or levels c level i (omega (arith, low, four))
-level-or (Down k) levels i low four = refl
-level-or (Up k) levels i low four = refl
-level-or Shot levels i low four = refl
-level-or Break levels i low four = refl
+level-or (Level c level) levels i low four = set-or levels level i (omega (arith, low, four))
+level-or _ levels i low four = refl
 
 or-both : {A : Type 0} (a b : Option A) (d : A) → unwrap_or (or_earlier a b) d ≡ unwrap_or a (unwrap_or b d)
 or-both (Some last) b d = refl
 or-both None b d = refl
 
 -- one event more is done, which turns a table as it says
-pub left-more : {A : Type 0} (kind : ℕ → What → Option A) (first : A) (script : List Event) (place : ℕ) (d : Event) (table on : ℕ → A) (t : ℕ) →
+pub left-more : {A : Type 0} (kind : ℕ → What → Option A) (first : A) (script : List Event) {place : ℕ} (d : Event) (table : ℕ → A) {on : ℕ → A} {t : ℕ} →
     place < length script → tick_of (get_or script place d) + 1 ≡ t →
     ((i : ℕ) → unwrap_or (kind i ((get_or script place d).what)) (table i) ≡ on i) → IsLeft kind first script (drop place script) table t →
     IsLeft kind first script (drop (place + 1) script) on t
-left-more {A} kind first script place d table on t low at turns left = λ k i late.
+left-more {A} kind first script {place} d table low at turns left = λ k i late.
     let e = get_or script place d in
     let rest = drop (place + 1) script in
-    let now : said_by (kind i) k e ≡ kind i e.what = ap (λ (b : Bool). if b then kind i e.what else None) (leb-at (tick_of e) k (omega (arith, at, late))) in
-    left k i late
-    ∙ ap (λ (l : List Event). unwrap_or (last_said (kind i) k l) (table i)) (drop_more script place d low)
-    ∙ or-both (last_said (kind i) k rest) (said_by (kind i) k e) (table i)
-    ∙ ap (λ (o : Option A). unwrap_or (last_said (kind i) k rest) (unwrap_or o (table i))) now
-    ∙ ap (λ (a : A). unwrap_or (last_said (kind i) k rest) a) (turns i)
+    let now : said_by (kind i) k e ≡ kind i e.what = ap (λ (b : Bool). if b then kind i e.what else None) (le-leb (tick_of e) k (omega (arith, at, late))) in
+    rw (drop_more script place d low, or-both (last_said (kind i) k rest) (said_by (kind i) k e) (table i), now, turns i) at (left k i late)
 
 -- of a tick more
-pub left-later : {A : Type 0} (kind : ℕ → What → Option A) (first : A) (script left : List Event) (table : ℕ → A) (t u : ℕ) → IsLeft kind first script left table t →
+pub left-later : {A : Type 0} (kind : ℕ → What → Option A) (first : A) (script left : List Event) (table : ℕ → A) {t u : ℕ} → IsLeft kind first script left table t →
     t ≤ u → IsLeft kind first script left table u
-left-later kind first script left table t u h low = λ k i late. h k i (omega (arith, late, low))
+left-later kind first script left table h low = λ k i late. h k i (omega (arith, late, low))
 
 -- at the last tick that is done each thing is as the table says
 said-is : {A : Type 0} (kind : ℕ → What → Option A) (first : A) (script left : List Event) (table : ℕ → A) (t event : ℕ) → IsLeft kind first script left table (t + 1) →
     NeverFallsFrom event left → t + 1 ≤ event → (i : ℕ) → table i ≡ unwrap_or (last_said (kind i) t script) first
 said-is {A} kind first script left table t event h later early = λ i.
-    sym (h t i (omega arith) ∙ ap (λ (o : Option A). unwrap_or o (table i)) (none-said (kind i) event t left later (omega (arith, early))))
+    sym (rw (none-said (kind i) event t left later (omega (arith, early))) at (h t i (omega arith)))
 
 pub keys-are : (script left : List Event) (keys : Keys) (t event : ℕ) → IsLeft made_of false script left keys (t + 1) → NeverFallsFrom event left → t + 1 ≤ event →
     keys ≡ keys_at t script
@@ -113,81 +99,66 @@ no-level (suc (suc (suc (suc channel)))) = refl
 
 four-levels : (levels : List ℕ) → length levels ≡ 4 → levels ≡ level_of levels 0 ∷ level_of levels 1 ∷ level_of levels 2 ∷ level_of levels 3 ∷ []
 four-levels (a ∷ b ∷ c ∷ d ∷ []) four = refl
-four-levels [] four = absurd (omega (arith, four))
-four-levels (a ∷ []) four = absurd (omega (arith, four))
-four-levels (a ∷ b ∷ []) four = absurd (omega (arith, four))
-four-levels (a ∷ b ∷ c ∷ []) four = absurd (omega (arith, four))
-four-levels (a ∷ b ∷ c ∷ d ∷ e ∷ more) four = absurd (omega (arith, four))
+four-levels _ four = absurd (omega (arith, four))
 
-pub levels-are : (script left : List Event) (levels : List ℕ) (t event : ℕ) → length levels ≡ 4 → IsLeft level_given 0 script left (level_of levels) (t + 1) →
+pub levels-are : (script left : List Event) {levels : List ℕ} (t : ℕ) {event : ℕ} → length levels ≡ 4 → IsLeft level_given 0 script left (level_of levels) (t + 1) →
     NeverFallsFrom event left → t + 1 ≤ event → levels ≡ levels_at t script
-levels-are script left levels t event four h later early =
+levels-are script left {levels} t {event} four h later early =
     let is = said-is level_given 0 script left (level_of levels) t event h later early in
     four-levels levels four ∙ rw (is 0, is 1, is 2, is 3) refl
 
 -- no shot comes before the first event
-pub no-shots : (first k : ℕ) (left : List Event) → NeverFallsFrom first left → k < first → shots_at k left ≡ zero
-no-shots first k [] later low = refl
-no-shots first k (e ∷ left) later low =
-    ap (λ (b : Bool). if b && is_shot e then suc (shots_at k left) else shots_at k left) (ne_eqb (tick_of e) k (λ same. omega (arith, same, later.0, low)))
-    ∙ no-shots (tick_of e) k left later.1 (omega (arith, later.0, low))
+pub no-shots : {first k : ℕ} (left : List Event) → NeverFallsFrom first left → k < first → shots_at k left ≡ zero
+no-shots [] later low = refl
+no-shots {k} (e ∷ left) later low =
+    rw (ne_eqb (tick_of e) k (λ same. omega (arith, same, later.0, low))) (no-shots left later.1 (omega (arith, later.0, low)))
 
 -- no shot is between two ticks
 abbrev pub HasNone : List Event → ℕ → ℕ → Type 0
 HasNone script from to = (k : ℕ) → from ≤ k → k < to → shots_at k script ≡ 0
 
 pub none-between : (script left : List Event) (c event next : ℕ) → HasLeft script left c → NeverFallsFrom event left → next ≤ event → HasNone script c next
-none-between script left c event next has later low = λ k from to. has k from ∙ no-shots event k left later (omega (arith, to, low))
+none-between script left c event next has later low = λ k from to. has k from ∙ no-shots left later (omega (arith, to, low))
 
 -- one event more is done, whose frame was taken if it was a shot
 shot-by : (shot : Bool) (n : ℕ) (frame : List ℕ) (old : List (List ℕ)) → (if shot then old ++ frame ∷ [] else old) ++ replicate n frame ≡ old ++ replicate (if shot then suc n else n) frame
 shot-by true n frame old = append_assoc old (frame ∷ []) (replicate n frame)
 shot-by false n frame old = refl
 
-shot-more : (script : List Event) (place k : ℕ) (d : Event) (frame : List ℕ) (old new : List (List ℕ)) → place < length script → tick_of (get_or script place d) ≡ k →
+shot-more : (script : List Event) {place k : ℕ} (d : Event) (frame : List ℕ) (old : List (List ℕ)) {new : List (List ℕ)} → place < length script → tick_of (get_or script place d) ≡ k →
     new ≡ (if is_shot (get_or script place d) then old ++ frame ∷ [] else old) →
     new ++ replicate (shots_at k (drop (place + 1) script)) frame ≡ old ++ replicate (shots_at k (drop place script)) frame
-shot-more script place k d frame old new low at is =
+shot-more script {place} {k} d frame old low at is =
     let e = get_or script place d in
-    let rest = drop (place + 1) script in
-    let all : Bool → ℕ = λ (b : Bool). if b && is_shot e then suc (shots_at k rest) else shots_at k rest in
-    ap (λ (l : List (List ℕ)). l ++ replicate (shots_at k rest) frame) is
-    ∙ shot-by (is_shot e) (shots_at k rest) frame old
-    ∙ sym (ap (λ (b : Bool). old ++ replicate (all b) frame) (eq-eqb (tick_of e) k at))
-    ∙ sym (ap (λ (l : List Event). old ++ replicate (shots_at k l) frame) (drop_more script place d low))
+    rw (is, drop_more script place d low, eq-eqb (tick_of e) k at) (shot-by (is_shot e) (shots_at k (drop (place + 1) script)) frame old)
 
-has-more : (script : List Event) (place k : ℕ) (d : Event) → place < length script → tick_of (get_or script place d) ≡ k → HasLeft script (drop place script) (k + 1) →
+has-more : (script : List Event) {place k : ℕ} (d : Event) → place < length script → tick_of (get_or script place d) ≡ k → HasLeft script (drop place script) (k + 1) →
     HasLeft script (drop (place + 1) script) (k + 1)
-has-more script place k d low at has = λ i late.
-    let e = get_or script place d in
-    let rest = drop (place + 1) script in
-    has i late
-    ∙ ap (λ (l : List Event). shots_at i l) (drop_more script place d low)
-    ∙ ap (λ (b : Bool). if b && is_shot e then suc (shots_at i rest) else shots_at i rest) (ne_eqb (tick_of e) i (λ same. omega (arith, same, at, late)))
+has-more script {place} d low at has = λ i late.
+    rw (drop_more script place d low, ne_eqb (tick_of (get_or script place d)) i (λ same. omega (arith, same, at, late))) at (has i late)
 
 -- What is true of the frames while the events of tick k are done: those taken, with those that are left of it, are all of that tick.
 pub record AreTaken (script : List Event) (place k : ℕ) (frame : List ℕ) (so_far all : List (List ℕ)) : Type 0 where
   pub has_left : HasLeft script (drop place script) (k + 1)
   pub taken : shot_at k (drop place script) frame so_far ≡ all
 
-pub taken-more : (script : List Event) (place k : ℕ) (d : Event) (frame : List ℕ) (old new all : List (List ℕ)) → place < length script → tick_of (get_or script place d) ≡ k →
+pub taken-more : {script : List Event} {place k : ℕ} (d : Event) {frame : List ℕ} {old new all : List (List ℕ)} → place < length script → tick_of (get_or script place d) ≡ k →
     new ≡ (if is_shot (get_or script place d) then old ++ frame ∷ [] else old) → AreTaken script place k frame old all → AreTaken script (place + 1) k frame new all
-taken-more script place k d frame old new all low at is so =
-    record { has_left = has-more script place k d low at so.has_left; taken = shot-more script place k d frame old new low at is ∙ so.taken }
+taken-more {script} {place} {k} d {frame} {old} {new} low at is so =
+    record { has_left = has-more script d low at so.has_left; taken = shot-more script d frame old low at is ∙ so.taken }
 
 -- there is memory for the shots that are left behind it
-pub room-more : (script : List Event) (place : ℕ) (d : Event) (old new : ℕ) → place < length script → new + shots (get_or script place d ∷ []) ≡ old →
+pub room-more : (script : List Event) {place : ℕ} (d : Event) {old new : ℕ} → place < length script → new + shots (get_or script place d ∷ []) ≡ old →
     shots (drop place script) ≤ old → shots (drop (place + 1) script) ≤ new
-room-more script place d old new low took room =
+room-more script {place} d low took room =
     let e = get_or script place d in
     let rest = drop (place + 1) script in
-    let all : shots (drop place script) ≡ shots (e ∷ []) + shots rest =
-    ap (λ (l : List Event). shots l) (drop_more script place d low) ∙ sum_by-append (λ (x : Event). cond (is_shot x) 1 0) (e ∷ []) rest in omega (arith, all, took, room)
+    let all : shots (drop place script) ≡ shots (e ∷ []) + shots rest = rw (drop_more script place d low) (sum_by-append (λ (x : Event). cond (is_shot x) 1 0) (e ∷ []) rest) in
+    omega (arith, all, took, room)
 
 -- all shots of a tick are done
-pub all-shot : (left : List Event) (k : ℕ) (frame : List ℕ) (new all : List (List ℕ)) → NeverFallsFrom (k + 1) left → new ++ replicate (shots_at k left) frame ≡ all → new ≡ all
-all-shot left k frame new all later so =
-    sym (append-nil new) ∙ sym (ap (λ (n : ℕ). new ++ replicate n frame) (no-shots (k + 1) k left later (omega arith))) ∙ so
+pub all-shot : (left : List Event) (k : ℕ) (frame : List ℕ) {new all : List (List ℕ)} → NeverFallsFrom (k + 1) left → new ++ replicate (shots_at k left) frame ≡ all → new ≡ all
+all-shot left k frame {new} later so = rw (no-shots {k = k} left later (omega arith), append-nil new) at so
 
 -- a tick before the next event
 pub played-later : (p : Playback) (t u : ℕ) → IsPlayed p t → t ≤ u → u ≤ p.event → IsPlayed p u
@@ -195,8 +166,8 @@ played-later p t u h low high = record {
   within = h.within;
   room = h.room;
   has_left = λ k late. h.has_left k (omega (arith, late, low));
-  is_left = left-later made_of false p.script (drop p.place p.script) _ t u h.is_left low;
-  at_level = left-later level_given 0 p.script (drop p.place p.script) _ t u h.at_level low;
+  is_left = left-later made_of false p.script (drop p.place p.script) _ h.is_left low;
+  at_level = left-later level_given 0 p.script (drop p.place p.script) _ h.at_level low;
   four = h.four;
   later = h.later;
   early = high;
@@ -206,9 +177,9 @@ played-later p t u h low high = record {
 pub keys-stay : (p : Playback) (t k : ℕ) → IsPlayed p t → t ≤ k + 1 → k < p.event → keys_of p.keys ≡ keys_at k p.script
 keys-stay p t k h late early =
     keys-are p.script (drop p.place p.script) (keys_of p.keys) k p.event
-    (left-later made_of false p.script (drop p.place p.script) (keys_of p.keys) t (k + 1) h.is_left late) h.later (omega (arith, early))
+    (left-later made_of false p.script (drop p.place p.script) (keys_of p.keys) h.is_left late) h.later (omega (arith, early))
 
 pub levels-stay : (p : Playback) (t k : ℕ) → IsPlayed p t → t ≤ k + 1 → k < p.event → p.levels ≡ levels_at k p.script
 levels-stay p t k h late early =
-    levels-are p.script (drop p.place p.script) p.levels k p.event h.four
-    (left-later level_given 0 p.script (drop p.place p.script) (level_of p.levels) t (k + 1) h.at_level late) h.later (omega (arith, early))
+    levels-are p.script (drop p.place p.script) k h.four
+    (left-later level_given 0 p.script (drop p.place p.script) (level_of p.levels) h.at_level late) h.later (omega (arith, early))

@@ -2,139 +2,108 @@
 use Rattle.std.proofs.Common.{◌≡◌, ◌∙◌, sym, refl, ap, ℕ, ◌+◌, ◌<◌, ◌≤◌, ◌&&◌, zero, suc, Bool, true, false, cond, nat_le}
 use Rattle.std.proofs.Common.{nat_lt, zero-add, List, [], ◌∷◌, ◌++◌, All, length, drop, take, get_or, filter, count_by, Some, None, inl, inr, arith}
 use Rattle.std.specs.Prelude.{unwrap_or}
-use Rattle.std.proofs.lemmas.Bool.{cases_lt}
+use Rattle.std.proofs.lemmas.Bool.{cases_lt, cases_Bool, le-leb, lt-leb}
 use Rattle.std.proofs.lemmas.List.{drop_all, drop_more, take_more, take-append-drop}
 use Rattle.std.proofs.lemmas.List.Elements.{filter-append, All-drop}
-use Rattle.std.proofs.lemmas.List.Sums.{sum_by-append, sum_by-take-drop, length-filter}
+use Rattle.std.proofs.lemmas.List.Sums.{sum_by-cons, sum_by-take-drop, length-filter}
+use Rattle.std.proofs.Math.Bool.{and-true, and-false}
 use Rattle.std.proofs.Math.Seq.{drop-append_seam}
 use Rattle.key_script.specs.declared.Event.{Event}
 use Rattle.key_script.specs.Events.{tick_of, NeverFallsFrom, IsEvent, IsScript}
 use Rattle.host_devices.specs.Breaks.{is_break, is_break_by, breaks_until, first_tick, break_number}
 use Rattle.host_devices.specs.CodeBreaks.{breaks_before, break_tick}
 
-pub above : (a t : ℕ) → t < a → nat_le a t ≡ false
-above a t h = grind arith
-
-pub below : (a t : ℕ) → a ≤ t → nat_le a t ≡ true
-below a t h = grind arith
-
-and-true : (b : Bool) → (b && true) ≡ b
-and-true true = refl
-and-true false = refl
-
-and-false : (b : Bool) → (b && false) ≡ false
-and-false true = refl
-and-false false = refl
-
 -- one event more in front
 count-first : (p : Event → Bool) (e : Event) (events : List Event) → count_by p (e ∷ events) ≡ cond (p e) 1 0 + count_by p events
 count-first p e events =
-    sum_by-append (λ (x : Event). cond (p x) 1 0) (e ∷ []) events ∙ ap (λ n. n + count_by p events) (zero-add (cond (p e) 1 0))
+    sum_by-cons (λ (x : Event). cond (p x) 1 0) e events
 
-skipped : (p : Event → Bool) (e : Event) (events : List Event) → p e ≡ false → count_by p (e ∷ events) ≡ count_by p events
-skipped p e events is = count-first p e events ∙ ap (λ b. cond b 1 0 + count_by p events) is ∙ zero-add (count_by p events)
+skipped : (p : Event → Bool) {e : Event} (events : List Event) → p e ≡ false → count_by p (e ∷ events) ≡ count_by p events
+skipped p {e} events is = rw (count-first p e events, is) (zero-add (count_by p events))
 
 -- where the tick has come, a break is one by it
-agree : (t : ℕ) (e : Event) → tick_of e ≤ t → is_break_by t e ≡ is_break e
-agree t e low = ap (λ b. is_break e && b) (below (tick_of e) t low) ∙ and-true (is_break e)
+agree : {t : ℕ} (e : Event) → tick_of e ≤ t → is_break_by t e ≡ is_break e
+agree {t} e low = rw (le-leb (tick_of e) t low) (and-true (is_break e))
 
 none-by : (t from : ℕ) (events : List Event) → NeverFallsFrom from events → t < from → count_by (is_break_by t) events ≡ 0
 none-by t from [] order low = refl
 none-by t from (e ∷ events) order low =
-    skipped (is_break_by t) e events (ap (λ b. is_break e && b) (above (tick_of e) t (omega (arith, order.0, low))) ∙ and-false (is_break e))
+    skipped (is_break_by t) events (rw (lt-leb (tick_of e) t (omega (arith, order.0, low))) (and-false (is_break e)))
     ∙ none-by t (tick_of e) events order.1 (omega (arith, order.0, low))
 
 tick-here : (e : Event) (events : List Event) → is_break e ≡ true → break_tick (e ∷ events) ≡ tick_of e
-tick-here e events is = ap (λ b. unwrap_or (first_tick (cond b (e ∷ filter is_break events) (filter is_break events))) 18446744073709551615) is
+tick-here e events is = rw is refl
 
 tick-later : (e : Event) (events : List Event) → is_break e ≡ false → break_tick (e ∷ events) ≡ break_tick events
-tick-later e events is = ap (λ b. unwrap_or (first_tick (cond b (e ∷ filter is_break events) (filter is_break events))) 18446744073709551615) is
+tick-later e events is = rw is refl
 
 -- no break comes before the tick of the first
-pub none-left : (t from : ℕ) (events : List Event) → NeverFallsFrom from events → t < break_tick events → count_by (is_break_by t) events ≡ 0
-none-left t from [] order low = refl
-none-left t from (e ∷ events) order low =
-    elim (is_break e) as (λ b. is_break e ≡ b → count_by (is_break_by t) (e ∷ events) ≡ 0) [
-      | true ↦ λ is. none-by t (tick_of e) (e ∷ events) (omega arith, order.1) (omega (arith, tick-here e events is, low))
-      | false ↦ λ is.
-          skipped (is_break_by t) e events (ap (λ b. b && nat_le (tick_of e) t) is)
-          ∙ none-left t (tick_of e) events order.1 (omega (arith, tick-later e events is, low))
-    ] refl
+pub none-left : {t : ℕ} (from : ℕ) (events : List Event) → NeverFallsFrom from events → t < break_tick events → count_by (is_break_by t) events ≡ 0
+none-left from [] order low = refl
+none-left {t} from (e ∷ events) order low =
+    elim (cases_Bool (is_break e)) [
+      | inl is ↦ none-by t (tick_of e) (e ∷ events) (omega arith, order.1) (omega (arith, tick-here e events is, low))
+      | inr is ↦
+          skipped (is_break_by t) events (rw is refl)
+          ∙ none-left (tick_of e) events order.1 (omega (arith, tick-later e events is, low))
+    ]
 
 -- the first break is one by its tick
-some-left : (t : ℕ) (events : List Event) → break_tick events ≤ t → t < 18446744073709551615 → 0 < count_by (is_break_by t) events
-some-left t [] low room = absurd (omega (arith, low, room))
-some-left t (e ∷ events) low room =
-    elim (is_break e) as (λ b. is_break e ≡ b → 0 < count_by (is_break_by t) (e ∷ events)) [
-      | true ↦ λ is.
-          let here : is_break_by t e ≡ true = agree t e (omega (arith, tick-here e events is, low)) ∙ is in
-          let all : count_by (is_break_by t) (e ∷ events) ≡ 1 + count_by (is_break_by t) events =
-          count-first (is_break_by t) e events ∙ ap (λ b. cond b 1 0 + count_by (is_break_by t) events) here in
-          omega (arith, all)
-      | false ↦ λ is.
-          let rest : count_by (is_break_by t) (e ∷ events) ≡ count_by (is_break_by t) events =
-          skipped (is_break_by t) e events (ap (λ b. b && nat_le (tick_of e) t) is) in
-          let some = some-left t events (omega (arith, tick-later e events is, low)) room in
-          omega (arith, rest, some)
-    ] refl
+some-left : {t : ℕ} (events : List Event) → break_tick events ≤ t → t < 18446744073709551615 → 0 < count_by (is_break_by t) events
+some-left [] low room = absurd (omega (arith, low, room))
+some-left {t} (e ∷ events) low room =
+    elim (cases_Bool (is_break e)) [
+      | inl is ↦
+          rw (count-first (is_break_by t) e events, agree {t = t} e (omega (arith, tick-here e events is, low)) ∙ is) (omega arith)
+      | inr is ↦
+          rw (skipped (is_break_by t) {e = e} events (rw is refl)) (some-left events (omega (arith, tick-later e events is, low)) room)
+    ]
 
 -- where a break behind a place has come, so have all events before it
 early : (t from : ℕ) (place : ℕ) (events : List Event) → NeverFallsFrom from events → break_tick (drop place events) ≤ t → t < 18446744073709551615 → from ≤ t
 early t from zero [] order low room = absurd (omega (arith, low, room))
 early t from (suc place) [] order low room = absurd (omega (arith, low, room))
 early t from zero (e ∷ events) order low room =
-    elim (is_break e) as (λ b. is_break e ≡ b → from ≤ t) [
-      | true ↦ λ is. omega (arith, order.0, tick-here e events is, low)
-      | false ↦ λ is.
+    elim (cases_Bool (is_break e)) [
+      | inl is ↦ omega (arith, order.0, tick-here e events is, low)
+      | inr is ↦
           let rest = early t (tick_of e) zero events order.1 (omega (arith, tick-later e events is, low)) room in
           omega (arith, order.0, rest)
-    ] refl
+    ]
 early t from (suc place) (e ∷ events) order low room =
     let rest = early t (tick_of e) place events order.1 low room in
     omega (arith, order.0, rest)
 
-pub all-before : (t from : ℕ) (place : ℕ) (events : List Event) → NeverFallsFrom from events → break_tick (drop place events) ≤ t → t < 18446744073709551615 →
+pub all-before : {t : ℕ} (from : ℕ) (place : ℕ) (events : List Event) → NeverFallsFrom from events → break_tick (drop place events) ≤ t → t < 18446744073709551615 →
     count_by (is_break_by t) (take place events) ≡ breaks_before place events
-all-before t from zero events order low room = refl
-all-before t from (suc place) [] order low room = refl
-all-before t from (suc place) (e ∷ events) order low room =
-    count-first (is_break_by t) e (take place events)
-    ∙ ap (λ b. cond b 1 0 + count_by (is_break_by t) (take place events)) (agree t e (early t (tick_of e) place events order.1 low room))
-    ∙ ap (λ n. cond (is_break e) 1 0 + n) (all-before t (tick_of e) place events order.1 low room)
-    ∙ sym (count-first is_break e (take place events))
+all-before from zero events order low room = refl
+all-before from (suc place) [] order low room = refl
+all-before {t} from (suc place) (e ∷ events) order low room =
+    let same = agree e (early t (tick_of e) place events order.1 low room) in
+    rw (count-first (is_break_by t) e (take place events), same, all-before (tick_of e) place events order.1 low room) (sym (count-first is_break e (take place events)))
 
 -- those up to a tick are those before a place, if none comes from there on
 pub all-taken : (t place : ℕ) (events : List Event) → count_by (is_break_by t) (take place events) ≡ breaks_before place events →
     count_by (is_break_by t) (drop place events) ≡ 0 → breaks_until t events ≡ breaks_before place events
 all-taken t place events so none =
-    sym (sum_by-take-drop (λ (x : Event). cond (is_break_by t x) 1 0) events place)
-    ∙ ap (λ n. count_by (is_break_by t) (take place events) + n) none
-    ∙ plus (count_by (is_break_by t) (take place events))
-    ∙ so
-  where
-    plus : (n : ℕ) → n + 0 ≡ n
-    plus n = omega arith
+    let sum = sum_by-take-drop (λ (x : Event). cond (is_break_by t x) 1 0) events place in omega arith
 
 drop-order : (place from : ℕ) (events : List Event) → NeverFallsFrom from events → NeverFallsFrom 0 (drop place events)
-drop-order zero from [] order = tt
 drop-order zero from (e ∷ events) order = (omega arith, order.1)
+drop-order zero from [] order = tt
 drop-order (suc place) from [] order = tt
 drop-order (suc place) from (e ∷ events) order = drop-order place (tick_of e) events order.1
 
-pub none-behind : (t place : ℕ) (events : List Event) → NeverFallsFrom 0 events → t < break_tick (drop place events) → count_by (is_break_by t) (drop place events) ≡ 0
-none-behind t place events order low = none-left t 0 (drop place events) (drop-order place 0 events order) low
+pub none-behind : {t : ℕ} (place : ℕ) (events : List Event) → NeverFallsFrom 0 events → t < break_tick (drop place events) → count_by (is_break_by t) (drop place events) ≡ 0
+none-behind {t} place events order low = none-left 0 (drop place events) (drop-order place 0 events order) low
 
 -- the events behind the last that has come
-pub none-come : (t place : ℕ) (events : List Event) (d : Event) → NeverFallsFrom 0 events → place < length events → t < tick_of (get_or events place d) →
+pub none-come : {t place : ℕ} (events : List Event) (d : Event) → NeverFallsFrom 0 events → place < length events → t < tick_of (get_or events place d) →
     count_by (is_break_by t) (drop place events) ≡ 0
-none-come t place events d order low late =
+none-come {t} {place} events d order low late =
     let e = get_or events place d in
-    let rest = drop (place + 1) events in
-    let falls : NeverFallsFrom 0 (e ∷ rest) = subst_order in
-    ap (λ (l : List Event). count_by (is_break_by t) l) (drop_more events place d low) ∙ none-by t (tick_of e) (e ∷ rest) (omega arith, falls.1) late
-  where
-    subst_order : NeverFallsFrom 0 (get_or events place d ∷ drop (place + 1) events)
-    subst_order = rw (drop_more events place d low) at (drop-order place 0 events order)
+    let falls = rw (drop_more events place d low) at (drop-order place 0 events order) in
+    rw (drop_more events place d low) (none-by t (tick_of e) (e ∷ drop (place + 1) events) (omega arith, falls.1) late)
 
 -- below the tick of the first break behind a place no break is pending that does not stand before it
 pub few-below : (t place : ℕ) (events : List Event) → breaks_until t events ≤ breaks_before place events + count_by (is_break_by t) (drop place events)
@@ -152,21 +121,18 @@ few-below t place events =
       where
         less : (a b : Bool) → cond (a && b) 1 0 ≤ cond a 1 0
         less true true = omega arith
-        less true false = omega arith
-        less false b = omega arith
+        less _ _ = omega arith
 
 pub not-pending : (t place : ℕ) (events : List Event) → NeverFallsFrom 0 events → t < break_tick (drop place events) → nat_lt (breaks_before place events) (breaks_until t events) ≡ false
 not-pending t place events order low =
-    let none = none-behind t place events order low in
-    let few = few-below t place events in
-    let all : breaks_until t events ≤ breaks_before place events = omega (arith, none, few) in
+    let all : breaks_until t events ≤ breaks_before place events = omega (arith, none-behind place events order low, few-below t place events) in
     grind arith
 
 pub pending : (t place : ℕ) (events : List Event) → NeverFallsFrom 0 events → break_tick (drop place events) ≤ t → t < 18446744073709551615 →
     nat_lt (breaks_before place events) (breaks_until t events) ≡ true
 pending t place events order low room =
-    let so = all-before t 0 place events order low room in
-    let some = some-left t (drop place events) low room in
+    let so = all-before 0 place events order low room in
+    let some = some-left (drop place events) low room in
     let sum = sum_by-take-drop (λ (x : Event). cond (is_break_by t x) 1 0) events place in
     let more : breaks_before place events < breaks_until t events = omega (arith, so, some, sum) in
     grind arith
@@ -176,36 +142,33 @@ pub number-is : (place : ℕ) (events : List Event) → break_number (breaks_bef
 number-is place events =
     let before = filter is_break (take place events) in
     let behind = filter is_break (drop place events) in
-    let all : filter is_break events ≡ before ++ behind =
-    ap (λ (l : List Event). filter is_break l) (sym (take-append-drop place events)) ∙ filter-append is_break (take place events) (drop place events) in
-    ap (λ (l : List Event). first_tick (drop (breaks_before place events) l)) all
-    ∙ ap (λ n. first_tick (drop n (before ++ behind))) (sym (length-filter is_break (take place events)))
-    ∙ ap (λ (l : List Event). first_tick l) (drop-append_seam before behind)
+    let all : filter is_break events ≡ before ++ behind = rw (← filter-append is_break (take place events) (drop place events), take-append-drop place events) refl in
+    rw (all, ← length-filter is_break (take place events), drop-append_seam before behind) refl
 
 -- the tick of a first break is one, so the last number tells that there is none
 pub tick-or-none : (events : List Event) → All IsEvent events → break_tick events < 18446744073709551615 → first_tick (filter is_break events) ≡ Some (break_tick events)
 tick-or-none [] all low = absurd (omega (arith, low))
 tick-or-none (e ∷ events) all low =
-    elim (is_break e) as (λ b. is_break e ≡ b → first_tick (filter is_break (e ∷ events)) ≡ Some (break_tick (e ∷ events))) [
-      | true ↦ λ is. rw is refl
-      | false ↦ λ is. rw is (tick-or-none events (λ k d h. all (suc k) d (omega (arith, h))) (omega (arith, tick-later e events is, low)))
-    ] refl
+    elim (cases_Bool (is_break e)) [
+      | inl is ↦ rw is refl
+      | inr is ↦ rw is (tick-or-none events (λ k d h. all (suc k) d (omega (arith, h))) (omega (arith, tick-later e events is, low)))
+    ]
 
 pub none-or-tick : (events : List Event) → All IsEvent events → 18446744073709551615 ≤ break_tick events → first_tick (filter is_break events) ≡ None
 none-or-tick [] all high = refl
 none-or-tick (e ∷ events) all high =
-    elim (is_break e) as (λ b. is_break e ≡ b → first_tick (filter is_break (e ∷ events)) ≡ None) [
-      | true ↦ λ is. absurd (omega (arith, tick-here e events is, high, (all 0 e (omega arith)).tick))
-      | false ↦ λ is. rw is (none-or-tick events (λ k d h. all (suc k) d (omega (arith, h))) (omega (arith, tick-later e events is, high)))
-    ] refl
+    elim (cases_Bool (is_break e)) [
+      | inl is ↦ absurd (omega (arith, tick-here e events is, high, (all 0 e (omega arith)).tick))
+      | inr is ↦ rw is (none-or-tick events (λ k d h. all (suc k) d (omega (arith, h))) (omega (arith, tick-later e events is, high)))
+    ]
 
 -- the tick of the next, as the code tells it
-pub next-some : (place : ℕ) (events : List Event) → IsScript events → break_tick (drop place events) < 18446744073709551615 →
+pub next-some : (place : ℕ) {events : List Event} → IsScript events → break_tick (drop place events) < 18446744073709551615 →
     break_number (breaks_before place events) events ≡ Some (break_tick (drop place events))
-next-some place events rules low = number-is place events ∙ tick-or-none (drop place events) (All-drop IsEvent place events rules.each) low
+next-some place {events} rules low = number-is place events ∙ tick-or-none (drop place events) (All-drop IsEvent place events rules.each) low
 
-pub next-none : (place : ℕ) (events : List Event) → IsScript events → 18446744073709551615 ≤ break_tick (drop place events) → break_number (breaks_before place events) events ≡ None
-next-none place events rules high = number-is place events ∙ none-or-tick (drop place events) (All-drop IsEvent place events rules.each) high
+pub next-none : (place : ℕ) {events : List Event} → IsScript events → 18446744073709551615 ≤ break_tick (drop place events) → break_number (breaks_before place events) events ≡ None
+next-none place {events} rules high = number-is place events ∙ none-or-tick (drop place events) (All-drop IsEvent place events rules.each) high
 
 -- where one is pending, the tick of the first has come
 pub pending-due : (t place : ℕ) (events : List Event) → NeverFallsFrom 0 events → nat_lt (breaks_before place events) (breaks_until t events) ≡ true → break_tick (drop place events) ≤ t

@@ -1,5 +1,6 @@
 -- The devices while the two lines between them stay what they are.
 use Rattle.std.proofs.Common.{◌≡◌, ◌∙◌, sym, ap, refl, ℕ, zero, suc, ◌+◌, ◌-◌, ◌≤◌, ◌||◌, Bool, List, [], ◌∷◌, ◌++◌, replicate, subst, arith}
+use Rattle.std.proofs.Math.Nat.{zero-add, suc-add}
 use Rattle.std.proofs.lemmas.List.{length-append, length-replicate}
 use Rattle.saa5050.specs.Shapes.{Font}
 use Rattle.raster.specs.State as picture
@@ -26,9 +27,7 @@ fewer n m s less stays = λ ram size font k low. stays ram size font k (omega (a
 
 -- nothing is owed where nothing is to stay
 pub nothing_owed : (owed : ℕ) (s : picture.State) → owed ≡ 0 → StaysInSync (owed + 0) s
-nothing_owed owed s none = λ ram size font k low.
-    let first : k ≡ 0 = omega (arith, none, low) in
-    ap (λ (n : ℕ). beam.vsync_of (beam.microseconds ram size font n s)) first
+nothing_owed owed s none = λ ram size font k low. let first : k ≡ 0 = omega arith in rw first refl
 
 pub no_step : (a : adc.State) → KeepsItsLine 0 a
 no_step a [] few = refl
@@ -42,33 +41,22 @@ one_step levels a = refl
 -- n and m of them are n + m
 pub pictures_add : (ram : List ℕ) (size : ℕ) (font : Font) (n m : ℕ) (s : picture.State) →
     beam.microseconds ram size font m (beam.microseconds ram size font n s) ≡ beam.microseconds ram size font (n + m) s
-pictures_add ram size font zero m s = let same : m ≡ 0 + m = omega arith in ap (λ (k : ℕ). beam.microseconds ram size font k s) same
-pictures_add ram size font (suc n) m s =
-    let same : suc (n + m) ≡ suc n + m = omega arith in
-    pictures_add ram size font n m (beam.microsecond ram size font s) ∙ ap (λ (k : ℕ). beam.microseconds ram size font k s) same
-
-pub conversions_add : (levels : List ℕ) (n m : ℕ) (a : adc.State) → conversion.steps levels m (conversion.steps levels n a) ≡ conversion.steps levels (n + m) a
-unfolding conversion.steps
-conversions_add levels zero m a = let same : m ≡ 0 + m = omega arith in ap (λ (k : ℕ). conversion.steps levels k a) same
-conversions_add levels (suc n) m a =
-    let same : suc (n + m) ≡ suc n + m = omega arith in
-    conversions_add levels n m (conversion.step levels a) ∙ ap (λ (k : ℕ). conversion.steps levels k a) same
+pictures_add ram size font zero m s = rw (zero-add m) refl
+pictures_add ram size font (suc n) m s = rw (suc-add n m) (pictures_add ram size font n m (beam.microsecond ram size font s))
 
 pub all_add : (ram : List ℕ) (font : Font) (keys : Keys) (levels : List ℕ) (n m : ℕ) (d : Devices) →
     microseconds ram font keys levels m (microseconds ram font keys levels n d) ≡ microseconds ram font keys levels (n + m) d
-all_add ram font keys levels zero m d = let same : m ≡ 0 + m = omega arith in ap (λ (k : ℕ). microseconds ram font keys levels k d) same
-all_add ram font keys levels (suc n) m d =
-    let same : suc (n + m) ≡ suc n + m = omega arith in
-    all_add ram font keys levels n m (microsecond ram font keys levels d) ∙ ap (λ (k : ℕ). microseconds ram font keys levels k d) same
+all_add ram font keys levels zero m d = rw (zero-add m) refl
+all_add ram font keys levels (suc n) m d = rw (suc-add n m) (all_add ram font keys levels n m (microsecond ram font keys levels d))
 
 -- the picture that is drawn as far as it is owed has the same sync, and keeps it for what is left
 pub sync_owed : (ram : List ℕ) (size : ℕ) (font : Font) (owed steady : ℕ) (s : picture.State) → StaysInSync (owed + steady) s →
     beam.vsync_of (beam.microseconds ram size font owed s) ≡ beam.vsync_of s
 sync_owed ram size font owed steady s stays = stays ram size font owed (omega arith)
 
-pub stays_ahead : SyncStaysOn → (ram : List ℕ) (size : ℕ) (font : Font) (owed steady n : ℕ) (s : picture.State) → n ≤ steady → StaysInSync (owed + steady) s →
+pub stays_ahead : SyncStaysOn → (ram : List ℕ) (size : ℕ) (font : Font) (owed : ℕ) {steady n : ℕ} (s : picture.State) → n ≤ steady → StaysInSync (owed + steady) s →
     StaysInSync n (beam.microseconds ram size font owed s)
-stays_ahead law ram size font owed steady n s few stays =
+stays_ahead law ram size font owed {steady} {n} s few stays =
     fewer ((owed + steady) - owed) n (beam.microseconds ram size font owed s) (omega (arith, few)) (law (owed + steady) owed size ram font s (omega arith) stays)
 
 -- the converter's line stays for the rest of those steps
@@ -76,9 +64,9 @@ levels_add : (first then_ : List (List ℕ)) (a : adc.State) → conversion.afte
 levels_add [] then_ a = refl
 levels_add (l ∷ first) then_ a = levels_add first then_ (conversion.step l a)
 
-pub line_stays_on : (levels : List ℕ) (n m : ℕ) (a : adc.State) → m ≤ n → KeepsItsLine n a → KeepsItsLine (n - m) (conversion.steps levels m a)
+pub line_stays_on : (levels : List ℕ) {n m : ℕ} {a : adc.State} → m ≤ n → KeepsItsLine n a → KeepsItsLine (n - m) (conversion.steps levels m a)
 unfolding conversion.steps
-line_stays_on levels n m a less keeps = λ on few.
+line_stays_on levels {m} {a} less keeps = λ on few.
     let first = replicate m levels in
     ap cb1 (levels_add first on a)
     ∙ keeps (first ++ on) (rw (length-append first on, length-replicate m levels) (omega (arith, less, few)))
@@ -113,66 +101,55 @@ adc_front : (levels : List ℕ) (n : ℕ) (a : adc.State) → conversion.steps l
 unfolding conversion.steps
 adc_front levels n a = refl
 
-none_apart : (ram : List ℕ) (font : Font) (keys : Keys) (levels : List ℕ) (d : Devices) → d ≡ each_by_itself ram font keys levels 0 d
+none_apart : (ram : List ℕ) (font : Font) (keys : Keys) (levels : List ℕ) {d : Devices} → d ≡ each_by_itself ram font keys levels 0 d
 unfolding conversion.steps turn.steps steps
-none_apart ram font keys levels d = refl
+none_apart ram font keys levels = refl
 
-all_same : (d : Devices) (v w : picture.State) (x y : disc.State) (a b : adc.State) (s t u r : via.State) → v ≡ w → x ≡ y → a ≡ b → s ≡ t → u ≡ r →
+all_same : (d : Devices) {v w : picture.State} {x y : disc.State} {a b : adc.State} {s t u r : via.State} → v ≡ w → x ≡ y → a ≡ b → s ≡ t → u ≡ r →
     record d { video = v; disc = x; converter = a; system = s; user = u } ≡ record d { video = w; disc = y; converter = b; system = t; user = r }
-all_same d v w x y a b s t u r o p q e f =
-    ap (λ (z : picture.State). record d { video = z; disc = x; converter = a; system = s; user = u }) o
-    ∙ ap (λ (z : disc.State). record d { video = w; disc = z; converter = a; system = s; user = u }) p
-    ∙ ap (λ (z : adc.State). record d { video = w; disc = y; converter = z; system = s; user = u }) q
-    ∙ ap (λ (z : via.State). record d { video = w; disc = y; converter = b; system = z; user = u }) e
-    ∙ ap (λ (z : via.State). record d { video = w; disc = y; converter = b; system = t; user = z }) f
+all_same d o p q e f = λ i. record d { video = o i; disc = p i; converter = q i; system = e i; user = f i }
 
 -- and n microseconds are n steps of each
 pub apart : SyncStaysOn → AreApart
-apart on ram font keys levels zero d stays keeps = none_apart ram font keys levels d
+apart on ram font keys levels zero d stays keeps = none_apart ram font keys levels
 apart on ram font keys levels (suc n) d stays keeps =
-    let next = microsecond ram font keys levels d in
     let one = one_apart ram font keys levels d (λ r z f k low. stays r z f k (omega (arith, low))) (λ l few. keeps l (omega (arith, few))) in
     let less : suc n - 1 ≡ n = omega arith in
-    let sync : StaysInSync n (raster_after ram font d) = subst (λ (k : ℕ). StaysInSync k (raster_after ram font d)) less (on (suc n) 1 (screen_size d.latch) ram font d.video (omega arith) stays) in
+    let size = screen_size d.latch in
+    let sync = subst (λ (k : ℕ). StaysInSync k (raster_after ram font d)) less (on (suc n) 1 size ram font d.video (omega arith) stays) in
     let line : KeepsItsLine n (conversion.step levels d.converter) =
-    subst (λ (a : adc.State). KeepsItsLine n a) (one_step levels d.converter)
-    (subst (λ (k : ℕ). KeepsItsLine k (conversion.steps levels 1 d.converter)) less (line_stays_on levels (suc n) 1 d.converter (omega arith) keeps)) in
-    let pins = system_pins (beam.vsync_of d.video) (cb1 d.converter) keys d in
-    let system : steps (system_pins (beam.vsync_of (raster_after ram font d)) (cb1 (conversion.step levels d.converter)) keys d) n (step pins d.system) ≡ steps pins (suc n) d.system =
-    ap (λ (b : Bool). steps (system_pins b (cb1 (conversion.step levels d.converter)) keys d) n (step pins d.system)) (stays ram (screen_size d.latch) font 1 (omega arith))
-    ∙ ap (λ (b : Bool). steps (system_pins (beam.vsync_of d.video) b keys d) n (step pins d.system)) (keeps (levels ∷ []) (omega arith))
-    ∙ via_front pins n d.system in
-    let video = beam.microseconds ram (screen_size d.latch) font n (raster_after ram font d) in
+    rw (← one_step levels d.converter) (subst (λ (k : ℕ). KeepsItsLine k (conversion.steps levels 1 d.converter)) less (line_stays_on levels (omega arith) keeps)) in
+    let pins : Bool → Bool → Pins = λ vsync line. system_pins vsync line keys d in
+    let system : steps (pins (beam.vsync_of (raster_after ram font d)) (cb1 (conversion.step levels d.converter))) n (step (pins (beam.vsync_of d.video) (cb1 d.converter)) d.system)
+    ≡ steps (pins (beam.vsync_of d.video) (cb1 d.converter)) (suc n) d.system =
+    rw (stays ram size font 1 (omega arith), keeps (levels ∷ []) (omega arith)) (via_front (pins (beam.vsync_of d.video) (cb1 d.converter)) n d.system) in
     ap (λ (x : Devices). microseconds ram font keys levels n x) one
     ∙ apart on ram font keys levels n _ sync line
-    ∙ all_same d video video _ _ _ _ _ _ _ _ refl (disc_front n d.disc) (adc_front levels n d.converter) system (via_front user_pins n d.user)
+    ∙ all_same d refl (disc_front n d.disc) (adc_front levels n d.converter) system (via_front user_pins n d.user)
 
 -- m microseconds of n, of each device by itself, and the rest
 pub gone_apart : AreApart →
-    (ram : List ℕ) (font : Font) (keys : Keys) (levels : List ℕ) (n m size : ℕ) (pins : Pins) (d : Devices) (v : picture.State) (x : disc.State) (a : adc.State) (s u : via.State) →
+    (ram : List ℕ) (font : Font) (keys : Keys) (levels : List ℕ) {n m size : ℕ} {pins : Pins} (d : Devices) {v : picture.State} {x : disc.State} {a : adc.State} {s u : via.State} →
     m ≤ n → StaysInSync m d.video → KeepsItsLine m d.converter → size ≡ screen_size d.latch → pins ≡ system_pins (beam.vsync_of d.video) (cb1 d.converter) keys d →
     v ≡ beam.microseconds ram size font m d.video → x ≡ turn.steps m d.disc → a ≡ conversion.steps levels m d.converter → s ≡ steps pins m d.system → u ≡ steps user_pins m d.user →
     microseconds ram font keys levels (n - m) (record d { video = v; disc = x; converter = a; system = s; user = u }) ≡ microseconds ram font keys levels n d
-gone_apart law ram font keys levels n m size pins d v x a s u less sync line is_size is_pins pv px pa ps pu =
+gone_apart law ram font keys levels {n} {m} d {v} {x} {a} {s} {u} less sync line is_size is_pins pv px pa ps pu =
     let all : m + (n - m) ≡ n = omega (arith, less) in
     let there : record d { video = v; disc = x; converter = a; system = s; user = u } ≡ each_by_itself ram font keys levels m d =
-    all_same d v _ x _ a _ s _ u _ (pv ∙ ap (λ (z : ℕ). beam.microseconds ram z font m d.video) is_size) px pa (ps ∙ ap (λ (z : Pins). steps z m d.system) is_pins) pu in
+    all_same d (rw is_size at pv) px pa (rw is_pins at ps) pu in
     ap (λ (y : Devices). microseconds ram font keys levels (n - m) y) (there ∙ sym (law ram font keys levels m d sync line))
-    ∙ all_add ram font keys levels m (n - m) d
-    ∙ ap (λ (k : ℕ). microseconds ram font keys levels k d) all
+    ∙ rw all at (all_add ram font keys levels m (n - m) d)
 
 -- the lines to the processor stay while those between the devices do, and no chip changes its own
-pub are_calm : AreApart → (keys : Keys) (n : ℕ) (d : Devices) → StaysInSync n d.video → KeepsItsLine n d.converter →
+pub are_calm : AreApart → {keys : Keys} {n : ℕ} {d : Devices} → StaysInSync n d.video → KeepsItsLine n d.converter →
     ((k : ℕ) → k ≤ n → asks (steps (system_pins (beam.vsync_of d.video) (cb1 d.converter) keys d) k d.system) ≡ asks d.system) →
     ((k : ℕ) → k ≤ n → asks (steps user_pins k d.user) ≡ asks d.user) →
     ((k : ℕ) → k ≤ n → (turn.steps k d.disc).nmis ≡ d.disc.nmis) → AreCalm keys n d
 unfolding devices_ask
-are_calm law keys n d sync line system user nmis = record {
-  irq = λ ram font levels k low.
-      ap (λ (x : Devices). devices_ask x) (law ram font keys levels k d (λ r z f j few. sync r z f j (omega (arith, low, few))) (λ l few. line l (omega (arith, low, few))))
-      ∙ ap (λ (b : Bool). b || asks (steps user_pins k d.user)) (system k low)
-      ∙ ap (λ (b : Bool). asks d.system || b) (user k low);
-  nmis = λ ram font levels k low.
-      ap (λ (x : Devices). x.disc.nmis) (law ram font keys levels k d (λ r z f j few. sync r z f j (omega (arith, low, few))) (λ l few. line l (omega (arith, low, few))))
-      ∙ nmis k low;
+are_calm law {keys} {n} {d} sync line system user nmis = record {
+  irq = λ ram font levels k low. rw (apart_by ram font levels k low, system k low, user k low) refl;
+  nmis = λ ram font levels k low. rw (apart_by ram font levels k low) (nmis k low);
 }
+  where
+    apart_by : (ram : List ℕ) (font : Font) (levels : List ℕ) (k : ℕ) → k ≤ n → microseconds ram font keys levels k d ≡ each_by_itself ram font keys levels k d
+    apart_by ram font levels k low = law ram font keys levels k d (λ r z f j few. sync r z f j (omega (arith, low, few))) (λ l few. line l (omega (arith, low, few)))

@@ -13,8 +13,8 @@ pub loop-place-init : goal.loop-place-init
 loop-place-init c = record {
   within = c.requires.within;
   room = c.requires.room;
-  is_left = left-later made_of false c.args.events.now (drop c.args.place.now c.args.events.now) (keys_of c.args.keys.now) c.args.k (c.args.k + 1) c.requires.is_left (omega arith);
-  at_level = left-later level_given 0 c.args.events.now (drop c.args.place.now c.args.events.now) (level_of c.args.levels.now) c.args.k (c.args.k + 1) c.requires.at_level (omega arith);
+  is_left = left-later made_of false c.args.events.now (drop c.args.place.now c.args.events.now) (keys_of c.args.keys.now) c.requires.is_left (omega arith);
+  at_level = left-later level_given 0 c.args.events.now (drop c.args.place.now c.args.events.now) (level_of c.args.levels.now) c.requires.at_level (omega arith);
   four = c.requires.four;
   later = c.requires.later;
   taken = record {
@@ -32,18 +32,18 @@ loop-place-preserved c =
     let later : NeverFallsFrom c.args.k (drop (place + 1) events) = grind (arith, common_steps) in
     record {
       within = omega arith;
-      room = room-more events place _ c.loop-place.taken.room c.turn.new.taken.room low c.turn.ensures.room so_far.room;
-      is_left = left-more made_of false events place _ (keys_of c.loop-place.keys) (keys_of c.turn.new.keys) (c.args.k + 1) low (omega (arith, c.if-events-place.true))
+      room = room-more events _ low c.turn.ensures.room so_far.room;
+      is_left = left-more made_of false events _ (keys_of c.loop-place.keys) low (omega (arith, c.if-events-place.true))
           (λ i. key-or _ (keys_of c.loop-place.keys) i ∙ ap (λ (f : Keys). f i) (sym c.turn.ensures.keys)) so_far.is_left;
-      at_level = left-more level_given 0 events place _ (level_of c.loop-place.levels) (level_of c.turn.new.levels) (c.args.k + 1) low (omega (arith, c.if-events-place.true))
+      at_level = left-more level_given 0 events _ (level_of c.loop-place.levels) low (omega (arith, c.if-events-place.true))
           (λ i. level-or _ c.loop-place.levels i (c.requires.rules place _ low).numbers so_far.four ∙ ap (λ (l : List ℕ). level_of l i) (sym c.turn.ensures.levels)) so_far.at_level;
       four = c.turn.ensures.four;
       later = later;
-      taken = taken-more events place c.args.k _ c.args.frame.now c.loop-place.taken.frames c.turn.new.taken.frames _ low (omega (arith, c.if-events-place.true)) c.turn.ensures.frames so_far.taken;
+      taken = taken-more _ low (omega (arith, c.if-events-place.true)) c.turn.ensures.frames so_far.taken;
     }
 
 pub returns-else-events-place-clause-taken : goal.returns-else-events-place-clause-taken
 returns-else-events-place-clause-taken c =
     let left = drop c.loop-place.place c.args.events.now in
     let later : NeverFallsFrom (c.args.k + 1) left = grind (arith, common_steps) in
-    all-shot left c.args.k c.args.frame.now c.loop-place.taken.frames _ later c.loop-place.invariant.taken.taken
+    all-shot left c.args.k c.args.frame.now later c.loop-place.invariant.taken.taken

@@ -26,12 +26,9 @@ returns c = λ ram font.
     let by_user : c.min-2.result ≤ c.calm-2.result = omega (arith, c.min-2.ensures, c.min.ensures, c.min-chips.ensures) in
     let by_system : c.min-2.result ≤ c.calm-3.result = omega (arith, c.min-2.ensures, c.min.ensures) in
     let is_pins : c.system_pins-pins.result ≡ system_pins (vsync_of d.video) (cb1 d.converter) keys d =
-    c.system_pins-pins.ensures
-    ∙ ap (λ (x : Behind). system_pins (vsync_of x.devices.video) c.cb1.result keys x.devices) (sym c.self.view_is)
-    ∙ ap (λ (line : Bool). system_pins (vsync_of b.video) line keys now) c.cb1.ensures
-    ∙ ap (λ (sync : Bool). system_pins sync (cb1 b.converter) keys now) (sym (sync_owed ram size font b.owed b.steady b.video kept.sync)) in
-    let calm = are_calm c.devices_go_on_apart.ensures keys c.min-2.result d
-    (stays_ahead c.sync_stays_on.ensures ram size font b.owed b.steady c.min-2.result b.video few kept.sync)
+    rw (sync_owed ram size font b.owed b.steady b.video kept.sync) (rw (← c.self.view_is, c.cb1.ensures) at c.system_pins-pins.ensures) in
+    let calm = are_calm c.devices_go_on_apart.ensures
+    (stays_ahead c.sync_stays_on.ensures ram size font b.owed b.video few kept.sync)
     (λ l low. kept.line l (omega (arith, low, few)))
     (λ k low. ap (λ (p : Pins). asks (steps p k b.system)) (sym is_pins) ∙ c.calm-3.ensures k (omega (arith, low, by_system)))
     (λ k low. c.calm-2.ensures k (omega (arith, low, by_user)))

@@ -15,14 +15,14 @@ invariant_of-self c =
     let there = beam.microseconds ram b.size font b.owed b.video in
     let left : b.owed + b.steady - b.owed ≡ 0 + b.steady = omega arith in
     let sync : StaysInSync (0 + b.steady) there =
-    subst (λ (k : ℕ). StaysInSync k there) left (c.sync_stays_on.ensures (b.owed + b.steady) b.owed b.size ram font b.video (omega arith) kept.sync) in
+    rw left at (c.sync_stays_on.ensures (b.owed + b.steady) b.owed b.size ram font b.video (omega arith) kept.sync) in
     let reads : ReadsFrom b.lowest size there =
     subst (λ (z : ℕ). ReadsFrom b.lowest z there) kept.size
-    (c.reads_go_on.ensures b.lowest b.size b.owed ram font b.video (subst (λ (z : ℕ). ReadsFrom b.lowest z b.video) (sym kept.size) kept.reads)) in
+    (c.reads_go_on.ensures b.lowest b.size b.owed ram font b.video (rw kept.size kept.reads)) in
     record {
       size = kept.size;
       room = omega (arith, kept.room);
-      sync = subst (λ (v : picture.State). StaysInSync (0 + b.steady) v) (sym c.advance.ensures) sync;
+      sync = rw c.advance.ensures sync;
       line = kept.line;
-      reads = subst (λ (v : picture.State). ReadsFrom b.lowest size v) (sym c.advance.ensures) reads;
+      reads = rw c.advance.ensures reads;
     }

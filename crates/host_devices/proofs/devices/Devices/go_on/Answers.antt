@@ -20,8 +20,8 @@ invariant_of-self c =
     record {
       size = c.self.invariant.size;
       room = omega (arith, few, c.self.invariant.room);
-      sync = subst (λ (k : ℕ). StaysInSync k b.video) all c.self.invariant.sync;
-      line = subst (λ (a : adc.State). KeepsItsLine (b.steady - m) a) (sym c.advance-2.ensures) (line_stays_on c.args.levels b.steady m b.converter few c.self.invariant.line);
+      sync = rw (← all) c.self.invariant.sync;
+      line = rw c.advance-2.ensures (line_stays_on c.args.levels few c.self.invariant.line);
       reads = c.self.invariant.reads;
     }
 
@@ -38,14 +38,10 @@ returns-clause-rest c =
     let keys = keys_of c.args.keys.now in
     let few : m ≤ b.steady = omega (arith, c.min-steps.ensures) in
     let is_pins : c.system_pins-pins.result ≡ system_pins (beam.vsync_of d.video) (cb1 d.converter) keys d =
-    c.system_pins-pins.ensures
-    ∙ ap (λ (x : Behind). system_pins (beam.vsync_of x.devices.video) c.cb1.result keys x.devices) (sym c.self.view_is)
-    ∙ ap (λ (line : Bool). system_pins (beam.vsync_of b.video) line keys now) c.cb1.ensures
-    ∙ ap (λ (sync : Bool). system_pins sync (cb1 b.converter) keys now) (sym (sync_owed ram size font b.owed b.steady b.video c.self.invariant.sync)) in
-    gone_apart c.devices_go_on_apart.ensures ram font keys c.args.levels c.args.n m size c.system_pins-pins.result d
-    (beam.microseconds ram size font (b.owed + m) b.video) c.advance.new.self c.advance-2.new.self c.advance-3.new.self c.advance-4.new.self
+    rw (sync_owed ram size font b.owed b.steady b.video c.self.invariant.sync) (rw (← c.self.view_is, c.cb1.ensures) at c.system_pins-pins.ensures) in
+    gone_apart c.devices_go_on_apart.ensures ram font keys c.args.levels d
     (omega (arith, c.min-steps.ensures))
-    (stays_ahead c.sync_stays_on.ensures ram size font b.owed b.steady m b.video few c.self.invariant.sync)
+    (stays_ahead c.sync_stays_on.ensures ram size font b.owed b.video few c.self.invariant.sync)
     (λ l low. c.self.invariant.line l (omega (arith, low, few)))
     refl is_pins (sym (pictures_add ram size font b.owed m b.video)) c.advance.ensures c.advance-2.ensures c.advance-3.ensures c.advance-4.ensures
     ∙ ap (λ (x : Behind). microseconds ram font keys c.args.levels c.args.n (drawn ram font x)) c.self.view_is

@@ -11,23 +11,17 @@ use Rattle.host_devices.proofs.playback.Playback.play.Goals as goal
 pub happen-requires-clause-later : goal.happen-requires-clause-later
 happen-requires-clause-later c =
     let p = c.args.self.now in
-    subst (λ (events : List Event). NeverFallsFrom c.args.k (drop p.place events)) (sym c.events-events.ensures.events)
-    (not-before p.event c.args.k (drop p.place p.script) c.requires.played.later c.requires.played.early)
+    rw c.events-events.ensures.events
+    (not-before (drop p.place p.script) c.requires.played.later c.requires.played.early)
 
 pub happen-requires-clause-has_left : goal.happen-requires-clause-has_left
-happen-requires-clause-has_left c =
-    let p = c.args.self.now in
-    subst (λ (events : List Event). HasLeft events (drop p.place events) c.args.k) (sym c.events-events.ensures.events) c.requires.played.has_left
+happen-requires-clause-has_left c = rw c.events-events.ensures.events c.requires.played.has_left
 
 pub happen-requires-clause-is_left : goal.happen-requires-clause-is_left
-happen-requires-clause-is_left c =
-    let p = c.args.self.now in
-    subst (λ (events : List Event). IsLeft made_of false events (drop p.place events) (keys_of p.keys) c.args.k) (sym c.events-events.ensures.events) c.requires.played.is_left
+happen-requires-clause-is_left c = rw c.events-events.ensures.events c.requires.played.is_left
 
 pub happen-requires-clause-at_level : goal.happen-requires-clause-at_level
-happen-requires-clause-at_level c =
-    let p = c.args.self.now in
-    subst (λ (events : List Event). IsLeft level_given 0 events (drop p.place events) (level_of p.levels) c.args.k) (sym c.events-events.ensures.events) c.requires.played.at_level
+happen-requires-clause-at_level c = rw c.events-events.ensures.events c.requires.played.at_level
 
 pub returns-clause-played : goal.returns-clause-played
 returns-clause-played c =
