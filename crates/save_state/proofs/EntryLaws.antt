@@ -22,7 +22,9 @@ use Rattle.save_state.specs.declared.StateError.{StateError}
 use Rattle.save_state.specs.Fields.{field, ◌>>=◌}
 use Rattle.save_state.specs.Entries.{tick_in, side_in, op_by, op_in, entry_in, in_order, next_entry, entries_at, side_bits, op_bits, form_byte, tick_bytes, entry_bytes}
 use Rattle.save_state.specs.Laws.{AreBytes}
-use Rattle.save_state.proofs.Standing.{Stands, stands_then, stands_first, stands_second, bind_ok, ok_is, some_is, if_some, field_held, field_again}
+use Rattle.save_state.proofs.Standing.{some_is, if_some}
+use Rattle.save_state.proofs.Reading as reading
+use Rattle.save_state.proofs.Reading.{Reads, then, stop, of_field}
 
 -- ---- the byte of side, operation and register
 
@@ -204,46 +206,45 @@ abbrev pub Behind : ℕ → Option Entry → List Entry → Type 0
 Behind ticks last [] = Unit {0}
 Behind ticks last (e ∷ es) = HasLine e × ((e.tick).0 < ticks) × (follows last e ≡ true) × Behind ticks (Some e) es
 
-next_reads : (ticks : ℕ) (last : Option Entry) (bytes : List ℕ) (at : ℕ) (e : Entry) (next : ℕ) → AreBytes bytes → field 7 (next_entry ticks last) bytes at ≡ Ok (e, next) →
-    Stands bytes at (entry_bytes e) next × HasLine e × ((e.tick).0 < ticks) × (follows last e ≡ true)
+-- an access that may stand behind another
+abbrev Next : ℕ → Option Entry → Entry → Type 0
+Next ticks last e = HasLine e × ((e.tick).0 < ticks) × (follows last e ≡ true)
+
+next_law : (ticks : ℕ) (last : Option Entry) → Reads (field 7 (next_entry ticks last)) entry_bytes (Next ticks last)
 unfolding next_entry
-next_reads ticks last bytes at e next are is =
-    let h = field_held 7 (next_entry ticks last) bytes at e next is in
-    let p = placed_some last (entry_in h.text) h.means in
-    let r = entry_reads h.text h.long (h.are are) p.0 in
-    (subst (λ (t : List ℕ). Stands bytes at t next) (sym r.0) h.stands, r.1, p.1, p.2)
+next_law ticks last = of_field 7 (next_entry ticks last) to (λ e is. (long_entry e, rw (entry_again is.0, lt-ltb (e.tick).0 ticks is.1, is.2) refl))
+  where
+    to : (b : List ℕ) (e : Entry) → length b ≡ 7 → AreBytes b → next_entry ticks last b ≡ Some e → (entry_bytes e ≡ b) × Next ticks last e
+    to b e long are means =
+        let p = placed_some last (entry_in b) means in
+        let r = entry_reads b long are p.0 in
+        (r.0, (r.1, p.1, p.2))
 
-next_again : {ticks : ℕ} (last : Option Entry) {bytes : List ℕ} {at : ℕ} {e : Entry} {next : ℕ} → HasLine e → (e.tick).0 < ticks → follows last e ≡ true →
-    Stands bytes at (entry_bytes e) next → field 7 (next_entry ticks last) bytes at ≡ Ok (e, next)
-unfolding next_entry
-next_again {ticks} last {bytes} {at} {e} {next} has below behind stands =
-    field_again (next_entry ticks last) stands (long_entry e) (rw (entry_again has, lt-ltb (e.tick).0 ticks below, behind) refl)
+-- the first of accesses
+abbrev first_of_all : List Entry → Entry
+first_of_all [] = record { tick = record { 0 = 0 }; side = Host; op = Reset; answer = 0 }
+first_of_all (e ∷ es) = e
 
-pub entries_read : (n ticks : ℕ) (last : Option Entry) {bytes : List ℕ} {at : ℕ} {x : List Entry × ℕ} → AreBytes bytes → at ≤ length bytes → entries_at ticks n last bytes at ≡ Ok x →
-    Stands bytes at (flat_map entry_bytes x.0) x.1 × (length x.0 ≡ n) × Behind ticks last x.0
+pub entries_law : (n ticks : ℕ) (last : Option Entry) → Reads (entries_at ticks n last) (flat_map entry_bytes) (λ es. (length es ≡ n) × Behind ticks last es)
 unfolding entries_at
-entries_read zero ticks last {bytes} {at} {x} are le e =
-    subst (λ (y : List Entry × ℕ). Stands bytes at (flat_map entry_bytes y.0) y.1 × (length y.0 ≡ 0) × Behind ticks last y.0) (ok_is e)
-    (record { here = refl; to = omega arith; within = le }, refl, tt)
-entries_read (suc n) ticks last {bytes} {at} {x} are le e =
-    let a = bind_ok (field 7 (next_entry ticks last) bytes at) e in
-    let b = bind_ok (entries_at ticks n (Some a.0.0) bytes a.0.1) a.2 in
-    let first = next_reads ticks last bytes at a.0.0 a.0.1 are a.1 in
-    let second = entries_read n ticks (Some a.0.0) are first.0.within b.1 in
-    let both = stands_then first.0 second.0 in
-    let made : List Entry × ℕ = (a.0.0 ∷ b.0.0, b.0.1) in
-    subst (λ (y : List Entry × ℕ). Stands bytes at (flat_map entry_bytes y.0) y.1 × (length y.0 ≡ suc n) × Behind ticks last y.0) (ok_is b.2)
-    (both, ap suc second.1, (first.1, first.2, first.3, second.2))
+entries_law zero ticks last = stop [] (refl, tt) refl none
+  where
+    none : (es : List Entry) → (length es ≡ 0) × Behind ticks last es → es ≡ []
+    none [] is = refl
+    none (e ∷ es) is = absurd (omega (arith, is.0))
+entries_law (suc n) ticks last =
+    then (λ e bytes at. entries_at ticks n (Some e) bytes at >>= λ others. Ok (e ∷ others.0, others.1)) first_of_all (λ es. flat_map entry_bytes (drop 1 es)) (next_law ticks last) split
+    (λ e is. reading.last (λ others. e ∷ others) (entries_law n ticks (Some e)) (λ others are. (((ap suc are.0, (is.0, is.1, is.2, are.1)), refl), refl)) (there e))
+  where
+    split : (es : List Entry) → (length es ≡ suc n) × Behind ticks last es →
+        Next ticks last (first_of_all es) × (flat_map entry_bytes es ≡ entry_bytes (first_of_all es) ++ flat_map entry_bytes (drop 1 es))
+    split [] is = absurd (omega (arith, is.0))
+    split (e ∷ es) is = ((is.1.0, is.1.1, is.1.2), refl)
 
-pub entries_again : (es : List Entry) (ticks : ℕ) (last : Option Entry) {bytes : List ℕ} {at next : ℕ} → Behind ticks last es → Stands bytes at (flat_map entry_bytes es) next →
-    entries_at ticks (length es) last bytes at ≡ Ok (es, next)
-unfolding entries_at
-entries_again [] ticks last {at} {next} behind stands = let end_ : at ≡ next = omega (arith, stands.to) in rw end_ refl
-entries_again (e ∷ es) ticks last {bytes} {at} {next} behind stands =
-    let text = entry_bytes e in
-    let first : Stands bytes at text (at + length text) = stands_first (flat_map entry_bytes es) stands in
-    let second : Stands bytes (at + length text) (flat_map entry_bytes es) next = stands_second text stands in
-    rw (next_again last behind.0 behind.1 behind.2 first, entries_again es ticks (Some e) behind.3 second) refl
+    there : (e : Entry) (es : List Entry) → ((length es ≡ suc n) × Behind ticks last es) × (first_of_all es ≡ e) →
+        (others : List Entry) × ((length others ≡ n) × Behind ticks (Some e) others) × (e ∷ others ≡ es)
+    there e [] is = absurd (omega (arith, is.0.0))
+    there e (d ∷ es) is = (es, (omega (arith, is.0.0), rw (← is.1) is.0.1.3), ap (λ (x : Entry). x ∷ es) (sym is.1))
 
 -- ---- their rules
 

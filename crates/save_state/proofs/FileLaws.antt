@@ -1,6 +1,6 @@
 -- A session that is read is in its one file, and is read of it.
 use Rattle.std.proofs.Common.{◌≡◌, ◌∙◌, refl, sym, ap, subst, ℕ, ◌+◌, ◌<◌, ◌≤◌, ◌^◌, Bool, true, false, cond, List, [], ◌∷◌, ◌++◌, length, get_or, take, drop, Option, None, Some, Ok, codes}
-use Rattle.std.proofs.Common.{Result, All, IfSome, append-nil, zero-add, arith, eqb, eqb-true, eq-eqb, leb, leb-true, le-leb, bytes_eq}
+use Rattle.std.proofs.Common.{Result, All, IfSome, append-nil, append_assoc, zero-add, arith, eqb, eqb-true, eq-eqb, leb, leb-true, le-leb, bytes_eq}
 use Rattle.std.specs.List.{flat_map}
 use Rattle.std.specs.Int.{w32, to_be_bytes}
 use Rattle.std.proofs.lemmas.List.Elements.{All-push}
@@ -19,25 +19,13 @@ use Rattle.save_state.specs.Parts.{Parts, parts_at, part_at, disc_at, each_at, f
 use Rattle.save_state.specs.Entries.{entries_at, entry_bytes}
 use Rattle.save_state.specs.File.{clock_in, Header, header_at, list_at, file, speed_of, header_bytes, part, is_dsd, parts_bytes, list_bytes, file_of, IsSession, IsPart, IsDisc, ArePartsOf}
 use Rattle.save_state.specs.Laws.{AreBytes, FileReadsBack, OnlyFileReads}
-use Rattle.save_state.proofs.Standing.{Stands, stands_then, stands_first, stands_second, bind_ok, ok_is, some_is, if_some, if_ok, field_held, field_again, number_reads, number_again}
-use Rattle.save_state.proofs.Standing.{byte_held, byte_again}
+use Rattle.save_state.proofs.Standing.{Stands, stands_then, stands_first, stands_second, bind_ok, some_is, if_ok, up_to_some}
+use Rattle.save_state.proofs.Reading.{Reads, alike, then, last, of_byte, number_law, exact_law}
 use Rattle.save_state.proofs.Loop.{pushes}
-use Rattle.save_state.proofs.PartLaws.{part_short, disc_short, each_short, part_reads, part_again, disc_reads, disc_again, each_reads, each_again, as_many}
-use Rattle.save_state.proofs.EntryLaws.{Behind, entries_read, entries_again, behind_rises, behind_lines, behind_below, behind_of}
+use Rattle.save_state.proofs.PartLaws.{part_short, disc_short, each_short, part_law, disc_law, each_law, as_many}
+use Rattle.save_state.proofs.EntryLaws.{Behind, entries_law, behind_rises, behind_lines, behind_below, behind_of}
 
 -- ---- what stands in front of the parts
-
-same : (want : List ℕ) → bytes_eq want want ≡ true
-same want = (bytes_eq-Decides want want).1 refl
-
-exactly_reads : (want bytes : List ℕ) (at : ℕ) (x : List ℕ) (next : ℕ) → field (length want) (exactly want) bytes at ≡ Ok (x, next) → Stands bytes at want next
-exactly_reads want bytes at x next e =
-    let h = field_held (length want) (exactly want) bytes at x next e in
-    let p = if_some (bytes_eq h.text want) want x h.means in
-    subst (λ (t : List ℕ). Stands bytes at t next) ((bytes_eq-Decides h.text want).0 p.0) h.stands
-
-exactly_again : {want bytes : List ℕ} {at next : ℕ} → Stands bytes at want next → field (length want) (exactly want) bytes at ≡ Ok (want, next)
-exactly_again {want} {bytes} {at} {next} stands = field_again (exactly want) stands refl (rw (same want) refl)
 
 clock_by : (three four : Bool) {clock : Clock} {v : ℕ} → eqb v 3 ≡ three → eqb v 4 ≡ four → cond three (Some Three) (cond four (Some Four) None) ≡ Some clock → speed_of clock ≡ v
 clock_by true four {clock} {v} is3 is4 e = subst (λ (c : Clock). speed_of c ≡ v) (some_is e) (sym (eqb-true v 3 is3))
@@ -48,68 +36,25 @@ clock_again : (clock : Clock) → clock_in (speed_of clock) ≡ Some clock
 clock_again Three = refl
 clock_again Four = refl
 
--- what is read of the header behind each field
-abbrev plugs_left : List ℕ → (Clock × ℕ) → (ℕ × ℕ) → Result (Header × ℕ) StateError
-plugs_left bytes clock ticks = field 1 (λ b. up_to 8 (byte b)) bytes ticks.1 >>= λ plugs. Ok (record { clock = clock.0; ticks = ticks.0; plugs = plugs.0 }, plugs.1)
-
-abbrev ticks_left : List ℕ → (Clock × ℕ) → Result (Header × ℕ) StateError
-ticks_left bytes clock = field 4 (λ b. up_to 1073741824 (number b)) bytes clock.1 >>= λ ticks. plugs_left bytes clock ticks
-
-abbrev clock_left : List ℕ → ℕ → Result (Header × ℕ) StateError
-clock_left bytes at = field 1 (λ b. clock_in (byte b)) bytes at >>= λ clock. ticks_left bytes clock
-
--- What was read of the header.
-header_reads : {bytes : List ℕ} {x : Header × ℕ} → AreBytes bytes → header_at bytes 0 ≡ Ok x →
-    Stands bytes 0 (header_bytes x.0.clock x.0.ticks x.0.plugs) x.1 × (x.0.ticks ≤ 1073741824) × (x.0.plugs ≤ 8)
+header_law : Reads header_at (λ h. header_bytes h.clock h.ticks h.plugs) (λ h. (h.ticks ≤ 1073741824) × (h.plugs ≤ 8))
 unfolding header_at
-header_reads {bytes} {x} are e =
-    let a = bind_ok (field 4 (exactly (codes "BTUB")) bytes 0) e in
-    let b = bind_ok (field 1 (exactly (1 ∷ [])) bytes a.0.1) a.2 in
-    let c = bind_ok (field 1 (λ b. clock_in (byte b)) bytes b.0.1) b.2 in
-    let d = bind_ok (field 4 (λ b. up_to 1073741824 (number b)) bytes c.0.1) c.2 in
-    let g = bind_ok (field 1 (λ b. up_to 8 (byte b)) bytes d.0.1) d.2 in
-    let name : Stands bytes 0 (codes "BTUB") a.0.1 = exactly_reads (codes "BTUB") bytes 0 a.0.0 a.0.1 a.1 in
-    let form : Stands bytes a.0.1 (1 ∷ []) b.0.1 = exactly_reads (1 ∷ []) bytes a.0.1 b.0.0 b.0.1 b.1 in
-    let clock = byte_held clock_in bytes b.0.1 c.0.0 c.0.1 c.1 in
-    let speed : Stands bytes b.0.1 (speed_of c.0.0 ∷ []) c.0.1 =
-    subst (λ (v : ℕ). Stands bytes b.0.1 (v ∷ []) c.0.1) (sym (clock_by (eqb clock.value 3) (eqb clock.value 4) refl refl clock.means)) clock.stands in
-    let ticks = number_reads 1073741824 bytes c.0.1 d.0.0 d.0.1 are d.1 in
-    let plugs = byte_held (up_to 8) bytes d.0.1 g.0.0 g.0.1 g.1 in
-    let few = up_to_is 8 plugs.value g.0.0 plugs.means in
-    let last : Stands bytes d.0.1 (g.0.0 ∷ []) g.0.1 = subst (λ (v : ℕ). Stands bytes d.0.1 (v ∷ []) g.0.1) few.0 plugs.stands in
-    let s4 = stands_then ticks.0 last in
-    let s3 = stands_then speed s4 in
-    let s2 = stands_then form s3 in
-    let s1 = stands_then name s2 in
-    let made : Header × ℕ = (record { clock = c.0.0; ticks = d.0.0; plugs = g.0.0 }, g.0.1) in
-    subst (λ (y : Header × ℕ). Stands bytes 0 (header_bytes y.0.clock y.0.ticks y.0.plugs) y.1 × (y.0.ticks ≤ 1073741824) × (y.0.plugs ≤ 8)) (ok_is g.2) (s1, ticks.1, few.1)
+header_law =
+    then _ (λ h. codes "BTUB") (λ h. 1 ∷ speed_of h.clock ∷ to_be_bytes w32 h.ticks ++ h.plugs ∷ []) (exact_law (codes "BTUB")) (λ h is. (refl, refl)) (λ name is_name.
+    then _ (λ h. 1 ∷ []) (λ h. speed_of h.clock ∷ to_be_bytes w32 h.ticks ++ h.plugs ∷ []) (exact_law (1 ∷ [])) (λ h is. (refl, refl)) (λ form is_form.
+    then _ (λ h. h.clock) (λ h. to_be_bytes w32 h.ticks ++ h.plugs ∷ []) (of_byte clock_in speed_of clock_to (λ c is. clock_again c)) (λ h is. (tt, refl)) (λ clock is_clock.
+    then _ (λ h. h.ticks) (λ h. h.plugs ∷ []) (number_law 1073741824 (omega arith)) (λ h is. (is.0.0.0.0, refl)) (λ ticks early.
+    last (λ plugs. record { clock = clock; ticks = ticks; plugs = plugs }) (of_byte (up_to 8) (λ n. n) plugs_to plugs_again)
+    (λ plugs few. ((((((early, few), is_name), is_form), refl), refl), refl))
+    (λ h is. (h.plugs, is.0.0.0.0.1, λ i. record { clock = (sym is.0.1) i; ticks = (sym is.1) i; plugs = h.plugs }))))))
   where
-    up_to_is : (most n m : ℕ) → up_to most n ≡ Some m → (n ≡ m) × (m ≤ most)
-    up_to_is most n m e = let p = if_some (leb n most) n m e in let low : n ≤ most = leb-true n most p.0 in (p.1, subst (λ (k : ℕ). k ≤ most) p.1 low)
+    clock_to : (v : ℕ) (clock : Clock) → clock_in v ≡ Some clock → (speed_of clock ≡ v) × Unit {0}
+    clock_to v clock means = (clock_by (eqb v 3) (eqb v 4) refl refl means, tt)
 
-header_again : {bytes : List ℕ} {h : Header} {next : ℕ} → h.ticks ≤ 1073741824 → h.plugs ≤ 8 → Stands bytes 0 (header_bytes h.clock h.ticks h.plugs) next →
-    header_at bytes 0 ≡ Ok (h, next)
-unfolding header_at
-header_again {bytes} {h} {next} early few s0 =
-    let y4 : List ℕ = h.plugs ∷ [] in
-    let y3 : List ℕ = to_be_bytes w32 h.ticks ++ y4 in
-    let y2 : List ℕ = speed_of h.clock ∷ y3 in
-    let y1 : List ℕ = 1 ∷ y2 in
-    let name : Stands bytes 0 (codes "BTUB") 4 = stands_first y1 s0 in
-    let s1 : Stands bytes 4 y1 next = stands_second (codes "BTUB") s0 in
-    let form : Stands bytes 4 (1 ∷ []) 5 = stands_first y2 s1 in
-    let s2 : Stands bytes 5 y2 next = stands_second (1 ∷ []) s1 in
-    let speed : Stands bytes 5 (speed_of h.clock ∷ []) 6 = stands_first y3 s2 in
-    let s3 : Stands bytes 6 y3 next = stands_second (speed_of h.clock ∷ []) s2 in
-    let ticks : Stands bytes 6 (to_be_bytes w32 h.ticks) 10 = stands_first y4 s3 in
-    let plugs : Stands bytes 10 y4 next = stands_second (to_be_bytes w32 h.ticks) s3 in
-    rw (
-      exactly_again name,
-      exactly_again form,
-      byte_again clock_in bytes 5 h.clock 6 (speed_of h.clock) (clock_again h.clock) speed,
-      number_again early (omega arith) ticks,
-      byte_again (up_to 8) bytes 10 h.plugs next h.plugs (rw (le-leb h.plugs 8 few) refl) plugs,
-    ) refl
+    plugs_to : (v n : ℕ) → up_to 8 v ≡ Some n → (n ≡ v) × (n ≤ 8)
+    plugs_to v n means = let p = up_to_some {most = 8} {n = v} means in (sym p.0, omega (arith, p.0, p.1))
+
+    plugs_again : (n : ℕ) → n ≤ 8 → up_to 8 n ≡ Some n
+    plugs_again n few = rw (le-leb n 8 few) refl
 
 -- ---- the parts
 
@@ -151,106 +96,61 @@ text_of parts dsd =
 abbrev parted : List (Option (List ℕ)) → Option (List ℕ) → Bool → Option (List ℕ) → Bool → Option (List ℕ) → Parts
 parted first d0 b0 d1 b1 k = record { parts = first ++ d0 ∷ d1 ∷ k ∷ []; dsd = b0 ∷ b1 ∷ [] }
 
-parts_by : {bytes : List ℕ} {at next : ℕ} (first : List (Option (List ℕ))) (d0 : Option (List ℕ)) {b0 : Bool} (d1 : Option (List ℕ)) {b1 : Bool} (k : Option (List ℕ)) →
-    ArePartsOf first_kinds first → IsDisc d0 b0 → IsDisc d1 b1 → IsPart Keys k →
-    Stands bytes at (flat_map part_bytes first ++ disc_bytes d0 b0 ++ disc_bytes d1 b1 ++ part_bytes k) next →
-    Stands bytes at (text_of (parted first d0 b0 d1 b1 k).parts (parted first d0 b0 d1 b1 k).dsd) next × ArePart (parted first d0 b0 d1 b1 k).parts (parted first d0 b0 d1 b1 k).dsd
-parts_by first d0 d1 k are is0 is1 isk stands =
-    let long : length first ≡ 19 = as_many first_kinds first are in
-    let rest : List (Option (List ℕ)) = d0 ∷ d1 ∷ k ∷ [] in
-    let all : List (Option (List ℕ)) = first ++ rest in
-    let front : take 19 all ≡ first = take_at first rest 19 long in
-    let at0 : get_or all 19 None ≡ d0 = ap (λ (n : ℕ). get_or all (n + 0) None) (sym long) ∙ get_or-append-add first rest 0 None in
-    let at1 : get_or all 20 None ≡ d1 = ap (λ (n : ℕ). get_or all (n + 1) None) (sym long) ∙ get_or-append-add first rest 1 None in
-    let at2 : get_or all 21 None ≡ k = ap (λ (n : ℕ). get_or all (n + 2) None) (sym long) ∙ get_or-append-add first rest 2 None in (
-      rw (front, at0, at1, at2) stands,
-      record {
-        many = omega (arith, long, length-append first rest);
-        both = refl;
-        first = rw front are;
-        disc0 = rw at0 is0;
-        disc1 = rw at1 is1;
-        keys = rw at2 isk;
-      },
-    )
+-- a disc by its place and its drive
+abbrev disc_of : Parts → ℕ → ℕ → Option (List ℕ) × Bool
+disc_of p place drive = (get_or p.parts place None, get_or p.dsd drive false)
 
--- what is read behind the first parts, and behind each disc
-abbrev keys_left : List ℕ → (List (Option (List ℕ)) × ℕ) → ((Option (List ℕ) × Bool) × ℕ) → ((Option (List ℕ) × Bool) × ℕ) → Result (Parts × ℕ) StateError
-keys_left bytes first disc0 disc1 =
-    part_at Keys bytes disc1.1 >>= λ keys. Ok (record { parts = first.0 ++ disc0.0.0 ∷ disc1.0.0 ∷ keys.0 ∷ []; dsd = disc0.0.1 ∷ disc1.0.1 ∷ [] }, keys.1)
+abbrev disc_text : Parts → ℕ → ℕ → List ℕ
+disc_text p place drive = disc_bytes (disc_of p place drive).0 (disc_of p place drive).1
 
-abbrev disc1_left : List ℕ → (List (Option (List ℕ)) × ℕ) → ((Option (List ℕ) × Bool) × ℕ) → Result (Parts × ℕ) StateError
-disc1_left bytes first disc0 = disc_at bytes disc0.1 >>= λ disc1. keys_left bytes first disc0 disc1
+grouped : (a b c d : List ℕ) → a ++ b ++ c ++ d ≡ a ++ (b ++ (c ++ d))
+grouped a b c d = simp append_assoc
 
-abbrev disc0_left : List ℕ → (List (Option (List ℕ)) × ℕ) → Result (Parts × ℕ) StateError
-disc0_left bytes first = disc_at bytes first.1 >>= λ disc0. disc1_left bytes first disc0
+-- parts of which these were read before the last
+abbrev Are : List (Option (List ℕ)) → Option (List ℕ) × Bool → Option (List ℕ) × Bool → Parts → Type 0
+Are first d0 d1 p = ((ArePart p.parts p.dsd × (take 19 p.parts ≡ first)) × (disc_of p 19 0 ≡ d0)) × (disc_of p 20 1 ≡ d1)
 
-parts_read : {bytes : List ℕ} {at : ℕ} {x : Parts × ℕ} → AreBytes bytes → at ≤ length bytes → parts_at bytes at ≡ Ok x →
-    Stands bytes at (text_of x.0.parts x.0.dsd) x.1 × ArePart x.0.parts x.0.dsd
+parts_law : Reads parts_at (λ p. text_of p.parts p.dsd) (λ p. ArePart p.parts p.dsd)
 unfolding parts_at
-parts_read {bytes} {at} {x} are le e =
-    let a = bind_ok (each_at first_kinds bytes at) e in
-    let b = bind_ok (disc_at bytes a.0.1) a.2 in
-    let c = bind_ok (disc_at bytes b.0.1) b.2 in
-    let d = bind_ok (part_at Keys bytes c.0.1) c.2 in
-    let first = each_reads first_kinds are le a.1 in
-    let disc0 = disc_reads are b.1 in
-    let disc1 = disc_reads are c.1 in
-    let keys = part_reads Keys are d.1 in
-    let s1 = stands_then first.0 disc0.0 in
-    let s2 = stands_then s1 disc1.0 in
-    let s3 = stands_then s2 keys.0 in
-    let made : Parts × ℕ = (parted a.0.0 b.0.0.0 b.0.0.1 c.0.0.0 c.0.0.1 d.0.0, d.0.1) in
-    subst (λ (y : Parts × ℕ). Stands bytes at (text_of y.0.parts y.0.dsd) y.1 × ArePart y.0.parts y.0.dsd) (ok_is d.2)
-    (parts_by a.0.0 b.0.0.0 c.0.0.0 d.0.0 first.1 disc0.1 disc1.1 keys.1 s3)
+parts_law =
+    then _ (λ p. take 19 p.parts) (λ p. disc_text p 19 0 ++ (disc_text p 20 1 ++ part_bytes (get_or p.parts 21 None))) (each_law first_kinds)
+    (λ p is. (is.first, grouped (flat_map part_bytes (take 19 p.parts)) (disc_text p 19 0) (disc_text p 20 1) (part_bytes (get_or p.parts 21 None)))) (λ first are.
+    then _ (λ p. disc_of p 19 0) (λ p. disc_text p 20 1 ++ part_bytes (get_or p.parts 21 None)) disc_law (λ p is. (is.0.disc0, refl)) (λ d0 is0.
+    then _ (λ p. disc_of p 20 1) (λ p. part_bytes (get_or p.parts 21 None)) disc_law (λ p is. (is.0.0.disc1, refl)) (λ d1 is1.
+    last (λ k. parted first d0.0 d0.1 d1.0 d1.1 k) (part_law Keys) (made first d0 d1 are is0 is1) (there first d0 d1))))
+  where
+    made : (first : List (Option (List ℕ))) (d0 d1 : Option (List ℕ) × Bool) → ArePartsOf first_kinds first → IsDisc d0.0 d0.1 → IsDisc d1.0 d1.1 → (k : Option (List ℕ)) → IsPart Keys k →
+        Are first d0 d1 (parted first d0.0 d0.1 d1.0 d1.1 k) × (part_bytes (get_or (parted first d0.0 d0.1 d1.0 d1.1 k).parts 21 None) ≡ part_bytes k)
+    made first d0 d1 are is0 is1 k isk =
+        let long : length first ≡ 19 = as_many first_kinds first are in
+        let rest : List (Option (List ℕ)) = d0.0 ∷ d1.0 ∷ k ∷ [] in
+        let front : take 19 (first ++ rest) ≡ first = take_at first rest 19 long in
+        let at : (i : ℕ) → get_or (first ++ rest) (19 + i) None ≡ get_or rest i None = λ i. ap (λ (n : ℕ). get_or (first ++ rest) (n + i) None) (sym long) ∙ get_or-append-add first rest i None in
+        let all : ArePart (first ++ rest) (d0.1 ∷ d1.1 ∷ []) = record {
+          many = omega (arith, long, length-append first rest);
+          both = refl;
+          first = rw front are;
+          disc0 = subst (λ (p : Option (List ℕ)). IsDisc p d0.1) (sym (at 0)) is0;
+          disc1 = subst (λ (p : Option (List ℕ)). IsDisc p d1.1) (sym (at 1)) is1;
+          keys = subst (IsPart Keys) (sym (at 2)) isk;
+        } in
+        ((((all, front), λ i. (at 0 i, d0.1)), λ i. (at 1 i, d1.1)), ap part_bytes (at 2))
 
-parts_again : {bytes : List ℕ} {at : ℕ} {parts : List (Option (List ℕ))} {dsd : List Bool} {next : ℕ} → ArePart parts dsd → Stands bytes at (text_of parts dsd) next →
-    parts_at bytes at ≡ Ok (record { parts = parts; dsd = dsd }, next)
-unfolding parts_at
-parts_again {bytes} {at} {parts} {dsd} {next} are s0 =
-    let x0 : List ℕ = flat_map part_bytes (take 19 parts) in
-    let x1 : List ℕ = disc_bytes (get_or parts 19 None) (get_or dsd 0 false) in
-    let x2 : List ℕ = disc_bytes (get_or parts 20 None) (get_or dsd 1 false) in
-    let x3 : List ℕ = part_bytes (get_or parts 21 None) in
-    let m0 : ℕ = at + length x0 in
-    let m1 : ℕ = at + length (x0 ++ x1) in
-    let m2 : ℕ = at + length (x0 ++ x1 ++ x2) in
-    let s2 : Stands bytes at (x0 ++ x1 ++ x2) m2 = stands_first x3 s0 in
-    let keys : Stands bytes m2 x3 next = stands_second (x0 ++ x1 ++ x2) s0 in
-    let s1 : Stands bytes at (x0 ++ x1) m1 = stands_first x2 s2 in
-    let disc1 : Stands bytes m1 x2 m2 = stands_second (x0 ++ x1) s2 in
-    let first : Stands bytes at x0 m0 = stands_first x1 s1 in
-    let disc0 : Stands bytes m0 x1 m1 = stands_second x0 s1 in
-    rw (
-      each_again first_kinds (take 19 parts) are.first first,
-      disc_again (get_or parts 19 None) are.disc0 disc0,
-      disc_again (get_or parts 20 None) are.disc1 disc1,
-      part_again Keys (get_or parts 21 None) are.keys keys,
-      split_parts are.many,
-      two dsd are.both,
-    ) refl
+    there : (first : List (Option (List ℕ))) (d0 d1 : Option (List ℕ) × Bool) (p : Parts) → Are first d0 d1 p → (k : Option (List ℕ)) × IsPart Keys k × (parted first d0.0 d0.1 d1.0 d1.1 k ≡ p)
+    there first d0 d1 p is =
+        let are = is.0.0.0 in
+        let k = get_or p.parts 21 None in
+        let parts : first ++ d0.0 ∷ d1.0 ∷ k ∷ [] ≡ p.parts = rw (← is.0.0.1, ← is.0.1, ← is.1) (split_parts are.many) in
+        let dsd : d0.1 ∷ d1.1 ∷ [] ≡ p.dsd = rw (← is.0.1, ← is.1) (two p.dsd are.both) in
+        (k, are.keys, λ i. record { parts = parts i; dsd = dsd i })
 
 -- ---- the accesses
 
-list_reads : (ticks : ℕ) {bytes : List ℕ} {at : ℕ} {x : List Entry × ℕ} → AreBytes bytes → list_at ticks bytes at ≡ Ok x →
-    Stands bytes at (list_bytes x.0) x.1 × (length x.0 ≤ 4194304) × Behind ticks None x.0
+list_law : (ticks : ℕ) → Reads (list_at ticks) list_bytes (λ es. (length es ≤ 4194304) × Behind ticks None es)
 unfolding list_at
-list_reads ticks {bytes} {at} {x} are e =
-    let a = bind_ok (field 4 (λ b. up_to 4194304 (number b)) bytes at) e in
-    let count = number_reads 4194304 bytes at a.0.0 a.0.1 are a.1 in
-    let all = entries_read a.0.0 ticks None are count.0.within a.2 in
-    let both = stands_then count.0 all.0 in
-    (subst (λ (n : ℕ). Stands bytes at (to_be_bytes w32 n ++ flat_map entry_bytes x.0) x.1) (sym all.1) both, omega (arith, all.1, count.1), all.2)
-
-list_again : (ticks : ℕ) {bytes : List ℕ} {at : ℕ} {es : List Entry} {next : ℕ} → length es ≤ 4194304 → Behind ticks None es → Stands bytes at (list_bytes es) next →
-    list_at ticks bytes at ≡ Ok (es, next)
-unfolding list_at
-list_again ticks {bytes} {at} {es} {next} few behind stands =
-    let front : List ℕ = to_be_bytes w32 (length es) in
-    let rest : List ℕ = flat_map entry_bytes es in
-    let first : Stands bytes at front (at + 4) = stands_first rest stands in
-    let second : Stands bytes (at + 4) rest next = stands_second front stands in
-    rw (number_again few (omega arith) first, entries_again es ticks None behind second) refl
+list_law ticks =
+    then (λ n. entries_at ticks n None) length (flat_map entry_bytes) (number_law 4194304 (omega arith)) (λ es is. (is.0, refl))
+    (λ n few. alike (entries_law n ticks None) (λ es is. ((rw is.0 few, is.1), is.0)) (λ es is. (is.1, is.0.1)))
 
 -- ---- the file
 
@@ -260,10 +160,6 @@ ended_ok bytes {x} {s} e = let p = if_ok (eqb (length bytes) x.1) (BadField x.1)
 abbrev session_of : Header → Parts → List Entry → Session
 session_of h p es = record { clock = h.clock; ticks = h.ticks; plugs = h.plugs; parts = p.parts; dsd = p.dsd; entries = es }
 
--- what is read behind the parts
-abbrev list_left : List ℕ → (Header × ℕ) → (Parts × ℕ) → Result Session StateError
-list_left bytes head parts = list_at head.0.ticks bytes parts.1 >>= λ list. with_nothing_behind bytes (session_of head.0 parts.0 list.0, list.1)
-
 pub file_only : OnlyFileReads
 unfolding file file_of
 file_only bytes s are e =
@@ -271,9 +167,9 @@ file_only bytes s are e =
     let b = bind_ok (parts_at bytes a.0.1) a.2 in
     let c = bind_ok (list_at a.0.0.ticks bytes b.0.1) b.2 in
     let over = ended_ok bytes c.2 in
-    let head = header_reads are a.1 in
-    let parts = parts_read are head.0.within b.1 in
-    let list = list_reads a.0.0.ticks are c.1 in
+    let head = header_law.reads bytes 0 a.0 are (omega arith) a.1 in
+    let parts = parts_law.reads bytes a.0.1 b.0 are head.0.within b.1 in
+    let list = (list_law a.0.0.ticks).reads bytes b.0.1 c.0 are parts.0.within c.1 in
     let x0 : List ℕ = header_bytes a.0.0.clock a.0.0.ticks a.0.0.plugs in
     let x1 : List ℕ = text_of b.0.0.parts b.0.0.dsd in
     let s1 = stands_then parts.0 list.0 in
@@ -284,18 +180,18 @@ file_only bytes s are e =
     subst (λ (v : Session). (bytes ≡ file_of v) × IsSession v) over.1 (
       whole,
       record {
-        ticks = head.1;
-        plugs = head.2;
+        ticks = head.1.0;
+        plugs = head.1.1;
         many = parts.1.many;
         both = parts.1.both;
         first = parts.1.first;
         disc0 = parts.1.disc0;
         disc1 = parts.1.disc1;
         keys = parts.1.keys;
-        few = list.1;
-        lines = behind_lines a.0.0.ticks None c.0.0 list.2;
-        below = behind_below None c.0.0 list.2;
-        rises = behind_rises a.0.0.ticks c.0.0 list.2;
+        few = list.1.0;
+        lines = behind_lines a.0.0.ticks None c.0.0 list.1.1;
+        below = behind_below None c.0.0 list.1.1;
+        rises = behind_rises a.0.0.ticks c.0.0 list.1.1;
       },
     )
 
@@ -321,9 +217,9 @@ file_back s is =
     let list : Stands bytes m1 x2 end_ = stands_second x1 s1 in
     let are : ArePart s.parts s.dsd = record { many = is.many; both = is.both; first = is.first; disc0 = is.disc0; disc1 = is.disc1; keys = is.keys } in
     rw (
-      header_again is.ticks is.plugs head,
-      parts_again are parts,
-      list_again s.ticks is.few (behind_of s.entries is.lines is.below is.rises) list,
+      header_law.again bytes 0 (record { clock = s.clock; ticks = s.ticks; plugs = s.plugs }) m0 (is.ticks, is.plugs) head,
+      parts_law.again bytes m0 (record { parts = s.parts; dsd = s.dsd }) m1 are parts,
+      (list_law s.ticks).again bytes m1 s.entries end_ (is.few, behind_of s.entries is.lines is.below is.rises) list,
       eq-eqb end_ end_ refl,
     ) refl
 

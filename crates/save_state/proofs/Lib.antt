@@ -1,5 +1,6 @@
 pub mod Loop
 pub mod Standing
+pub mod Reading
 pub mod PartLaws
 pub mod EntryLaws
 pub mod FileLaws

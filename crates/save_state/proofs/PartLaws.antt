@@ -1,6 +1,7 @@
 -- A part that is read stands there, and is read where it stands.
 use Rattle.std.proofs.Common.{◌≡◌, ◌∙◌, refl, sym, ap, subst, ℕ, ◌+◌, ◌<◌, ◌≤◌, ◌^◌, Bool, true, false, cond, List, [], ◌∷◌, ◌++◌, length, Option, None, Some, Ok, IfSome, All, arith, leb}
 use Rattle.std.proofs.Common.{eqb, leb-true, le-leb, eqb-true}
+use Rattle.std.proofs.Common.{get_or, drop}
 use Rattle.std.proofs.lemmas.Bool.Decides.{nat_tests}
 use Rattle.std.specs.List.{flat_map}
 use Rattle.std.proofs.lemmas.List.Elements.{All-nil, All-cons}
@@ -12,7 +13,8 @@ use Rattle.save_state.specs.Fields.{field, number, byte, ◌>>=◌}
 use Rattle.save_state.specs.Parts.{fits, may_lack, length_of, length_in, body_at, part_at, kind_in, image_at, disc_at, each_at, part_bytes, kind_byte, disc_bytes}
 use Rattle.save_state.specs.File.{IsPart, IsDisc, ArePartsOf}
 use Rattle.save_state.specs.Laws.{AreBytes}
-use Rattle.save_state.proofs.Standing.{Stands, stands_then, stands_first, stands_second, bind_ok, ok_is, some_is, field_held, field_again, number_text, number_of_text, byte_held, byte_again, Held}
+use Rattle.save_state.proofs.Standing.{some_is, number_text, number_of_text}
+use Rattle.save_state.proofs.Reading.{Reads, then, last, stop, of_field, of_byte, body_law}
 
 -- ---- the length field
 
@@ -20,16 +22,21 @@ use Rattle.save_state.proofs.Standing.{Stands, stands_then, stands_first, stands
 abbrev pick : (absent may fit : Bool) (n : ℕ) → Option (Option ℕ)
 pick absent may fit n = cond absent (cond may (Some None) None) (cond fit (Some (Some n)) None)
 
--- it says this length, which is none of a part that is absent
-abbrev Says : (absent may fit : Bool) (n : ℕ) → Option ℕ → Type 0
-Says absent may fit n None = (absent ≡ true) × (may ≡ true)
-Says absent may fit n (Some m) = (n ≡ m) × (fit ≡ true)
+-- the number that says it, and the lengths that a part of a kind may have
+abbrev told : Option ℕ → ℕ
+told None = 0xFFFFFFFF
+told (Some n) = n
 
-picked : (absent may fit : Bool) (n : ℕ) {len : Option ℕ} → pick absent may fit n ≡ Some len → Says absent may fit n len
-picked true true fit n {len} e = subst (λ (l : Option ℕ). Says true true fit n l) (some_is e) (refl, refl)
-picked true false fit n e = absurd cc
-picked false may true n {len} e = subst (λ (l : Option ℕ). Says false may true n l) (some_is e) (refl, refl)
-picked false may false n e = absurd cc
+abbrev MayBe : Kind → Option ℕ → Type 0
+MayBe kind None = may_lack kind ≡ true
+MayBe kind (Some n) = fits kind n ≡ true
+
+picked : (kind : Kind) (n : ℕ) (absent may fit : Bool) (len : Option ℕ) → (absent ≡ true → n ≡ 0xFFFFFFFF) → may_lack kind ≡ may → fits kind n ≡ fit →
+    pick absent may fit n ≡ Some len → (told len ≡ n) × MayBe kind len
+picked kind n true true fit len all may fits_ e = subst (λ (l : Option ℕ). (told l ≡ n) × MayBe kind l) (some_is e) (sym (all refl), may)
+picked kind n false may true len all lacks fits_ e = subst (λ (l : Option ℕ). (told l ≡ n) × MayBe kind l) (some_is e) (refl, fits_)
+picked kind n true false fit len all may fits_ e = absurd cc
+picked kind n false may false len all lacks fits_ e = absurd cc
 
 -- no part is as long as the number of an absent one
 small : (kind : Kind) {n : ℕ} → fits kind n ≡ true → n < 0xFFFFFFFF
@@ -40,71 +47,51 @@ small Font h = grind (arith, nat_tests)
 small Disc h = grind (arith, nat_tests)
 small Keys h = grind (arith, nat_tests)
 
--- What was read of a length field: it stands there, and the part may be absent or as long as it says.
-abbrev Lengthed : Kind → List ℕ → ℕ → Option ℕ → ℕ → Type 0
-Lengthed kind bytes at None mid = Stands bytes at (to_be_bytes w32 0xFFFFFFFF) mid × (may_lack kind ≡ true)
-Lengthed kind bytes at (Some n) mid = Stands bytes at (to_be_bytes w32 n) mid × (fits kind n ≡ true)
+length_law : (kind : Kind) → Reads (field 4 (length_in kind)) (λ len. to_be_bytes w32 (told len)) (MayBe kind)
+length_law kind = of_field 4 (length_in kind) to from
+  where
+    to : (b : List ℕ) (len : Option ℕ) → length b ≡ 4 → AreBytes b → length_in kind b ≡ Some len → (to_be_bytes w32 (told len) ≡ b) × MayBe kind len
+    to b len long are means =
+        let p = picked kind (number b) (eqb (number b) 0xFFFFFFFF) (may_lack kind) (fits kind (number b)) len (eqb-true (number b) 0xFFFFFFFF) refl refl means in
+        (ap (to_be_bytes w32) p.0 ∙ number_text long are, p.1)
 
-length_by : (kind : Kind) {bytes : List ℕ} {at : ℕ} {text : List ℕ} {mid : ℕ} (len : Option ℕ) → Stands bytes at text mid → to_be_bytes w32 (number text) ≡ text →
-    Says (eqb (number text) 0xFFFFFFFF) (may_lack kind) (fits kind (number text)) (number text) len → Lengthed kind bytes at len mid
-length_by kind {bytes} {at} {text} {mid} None stands is says =
-    let all : number text ≡ 0xFFFFFFFF = eqb-true (number text) 0xFFFFFFFF says.0 in
-    (subst (λ (t : List ℕ). Stands bytes at t mid) (sym (ap (to_be_bytes w32) (sym all) ∙ is)) stands, says.1)
-length_by kind {bytes} {at} {mid} (Some n) stands is says =
-    (subst (λ (t : List ℕ). Stands bytes at t mid) (sym (ap (to_be_bytes w32) (sym says.0) ∙ is)) stands, ap (fits kind) (sym says.0) ∙ says.1)
-
-length_reads : (kind : Kind) (bytes : List ℕ) (at : ℕ) (len : Option ℕ) (mid : ℕ) → AreBytes bytes → field 4 (length_in kind) bytes at ≡ Ok (len, mid) → Lengthed kind bytes at len mid
-length_reads kind bytes at len mid are e =
-    let h = field_held 4 (length_in kind) bytes at len mid e in
-    length_by kind len h.stands (number_text h.long (h.are are))
-    (picked (eqb (number h.text) 0xFFFFFFFF) (may_lack kind) (fits kind (number h.text)) (number h.text) h.means)
-
-absent_again : (kind : Kind) {bytes : List ℕ} {at mid : ℕ} → may_lack kind ≡ true → Stands bytes at (to_be_bytes w32 0xFFFFFFFF) mid →
-    field 4 (length_in kind) bytes at ≡ Ok (None, mid)
-absent_again kind {bytes} {at} {mid} may stands =
-    field_again (length_in kind) stands refl (rw may refl)
-
-length_again : (kind : Kind) {bytes : List ℕ} {at n mid : ℕ} → fits kind n ≡ true → Stands bytes at (to_be_bytes w32 n) mid →
-    field 4 (length_in kind) bytes at ≡ Ok (Some n, mid)
-length_again kind {bytes} {at} {n} {mid} fit stands =
-    let lt : n < 0xFFFFFFFF = small kind fit in
-    let is : number (to_be_bytes w32 n) ≡ n = number_of_text (omega arith) in
-    let other : eqb n 0xFFFFFFFF ≡ false = grind (arith, nat_tests) in
-    field_again (length_in kind) stands refl (rw (is, other, fit) refl)
+    from : (len : Option ℕ) → MayBe kind len → (length (to_be_bytes w32 (told len)) ≡ 4) × (length_in kind (to_be_bytes w32 (told len)) ≡ Some len)
+    from None may = (refl, rw may refl)
+    from (Some n) fit =
+        let lt : n < 0xFFFFFFFF = small kind fit in
+        let is : number (to_be_bytes w32 n) ≡ n = number_of_text (omega arith) in
+        let other : eqb n 0xFFFFFFFF ≡ false = grind (arith, nat_tests) in
+        (refl, rw (is, other, fit) refl)
 
 -- ---- a part
 
--- What was read of a part, behind its length.
-part_by : (kind : Kind) (bytes : List ℕ) (at : ℕ) (len : Option ℕ) (mid : ℕ) (p : Option (List ℕ)) (next : ℕ) → Lengthed kind bytes at len mid → body_at len bytes mid ≡ Ok (p, next) →
-    Stands bytes at (part_bytes p) next × IsPart kind p
-part_by kind bytes at None mid p next len e =
-    subst (λ (x : Option (List ℕ) × ℕ). Stands bytes at (part_bytes x.0) x.1 × IsPart kind x.0) (ok_is e) (len.0, len.1)
-part_by kind bytes at (Some n) mid p next len e =
-    let b = bind_ok (field n Some bytes mid) e in
-    let h = field_held n Some bytes mid b.0.0 b.0.1 b.1 in
-    let is : h.text ≡ b.0.0 = some_is h.means in
-    let body : Stands bytes mid b.0.0 b.0.1 = subst (λ (t : List ℕ). Stands bytes mid t b.0.1) is h.stands in
-    let long : n ≡ length b.0.0 = sym h.long ∙ ap length is in
-    let both = stands_then len.0 body in
-    let made : Option (List ℕ) × ℕ = (Some b.0.0, b.0.1) in
-    subst (λ (x : Option (List ℕ) × ℕ). Stands bytes at (part_bytes x.0) x.1 × IsPart kind x.0) (ok_is b.2)
-    (subst (λ (k : ℕ). Stands bytes at (to_be_bytes w32 k ++ b.0.0) b.0.1) long both, ap (fits kind) (sym long) ∙ len.1)
+abbrev len_of : Option (List ℕ) → Option ℕ
+len_of None = None
+len_of (Some body) = Some (length body)
 
-pub part_reads : (kind : Kind) {bytes : List ℕ} {at : ℕ} {p : Option (List ℕ)} {next : ℕ} → AreBytes bytes → part_at kind bytes at ≡ Ok (p, next) →
-    Stands bytes at (part_bytes p) next × IsPart kind p
-unfolding part_at
-part_reads kind {bytes} {at} {p} {next} are e =
-    let a = bind_ok (field 4 (length_in kind) bytes at) e in
-    part_by kind bytes at a.0.0 a.0.1 p next (length_reads kind bytes at a.0.0 a.0.1 are a.1) a.2
+abbrev bytes_in : Option (List ℕ) → List ℕ
+bytes_in None = []
+bytes_in (Some body) = body
 
-pub part_again : (kind : Kind) {bytes : List ℕ} {at : ℕ} (p : Option (List ℕ)) {next : ℕ} → IsPart kind p → Stands bytes at (part_bytes p) next → part_at kind bytes at ≡ Ok (p, next)
+pub part_law : (kind : Kind) → Reads (part_at kind) part_bytes (IsPart kind)
 unfolding part_at
-part_again kind {bytes} {at} None {next} may stands = rw (absent_again kind may stands) refl
-part_again kind {bytes} {at} (Some body) {next} fit stands =
-    let len = to_be_bytes w32 (length body) in
-    let first : Stands bytes at len (at + length len) = stands_first body stands in
-    let second : Stands bytes (at + length len) body next = stands_second len stands in
-    rw (length_again kind fit first, field_again Some second refl refl) refl
+part_law kind = then body_at len_of bytes_in (length_law kind) split behind
+  where
+    split : (p : Option (List ℕ)) → IsPart kind p → MayBe kind (len_of p) × (part_bytes p ≡ to_be_bytes w32 (told (len_of p)) ++ bytes_in p)
+    split None may = (may, refl)
+    split (Some body) fit = (fit, refl)
+
+    absent : (p : Option (List ℕ)) → IsPart kind p × (len_of p ≡ None) → p ≡ None
+    absent None is = refl
+    absent (Some body) is = absurd (cc is.1)
+
+    there : (n : ℕ) (p : Option (List ℕ)) → IsPart kind p × (len_of p ≡ Some n) → (body : List ℕ) × (length body ≡ n) × (Some body ≡ p)
+    there n None is = absurd (cc is.1)
+    there n (Some body) is = (body, some_is is.1, refl)
+
+    behind : (len : Option ℕ) → MayBe kind len → Reads (body_at len) bytes_in (λ p. IsPart kind p × (len_of p ≡ len))
+    behind None may = stop None (may, refl) refl absent
+    behind (Some n) fit = last Some (body_law n) (λ body long. ((rw long fit, ap Some long), refl)) (there n)
 
 -- ---- a disc
 
@@ -123,91 +110,70 @@ kind_value : {v : ℕ} (dsd : Bool) → (cond dsd (eqb v 1 ≡ true) (eqb v 0 �
 kind_value {v} true e = sym (eqb-true v 1 e)
 kind_value {v} false e = sym (eqb-true v 0 e)
 
--- What was read of a kind field.
-kind_reads : {len : ℕ} {bytes : List ℕ} {at : ℕ} {dsd : Bool} {next : ℕ} → field 1 (kind_in len) bytes at ≡ Ok (dsd, next) →
-    Stands bytes at (kind_byte dsd ∷ []) next × (dsd ≡ false → len ≤ 204800)
-kind_reads {len} {bytes} {at} {dsd} {next} e =
-    let h = byte_held (kind_of len) bytes at dsd next e in
-    let k = kind_by (eqb h.value 0) (eqb h.value 1) (leb len 204800) h.means in
-    (subst (λ (v : ℕ). Stands bytes at (v ∷ []) next) (sym (kind_value dsd k.0)) h.stands, λ is. leb-true len 204800 (k.1 is))
+kind_law : (len : ℕ) → Reads (field 1 (kind_in len)) (λ dsd. kind_byte dsd ∷ []) (λ dsd. dsd ≡ false → len ≤ 204800)
+kind_law len = of_byte (kind_of len) kind_byte to from
+  where
+    to : (v : ℕ) (dsd : Bool) → kind_of len v ≡ Some dsd → (kind_byte dsd ≡ v) × (dsd ≡ false → len ≤ 204800)
+    to v dsd means = let k = kind_by (eqb v 0) (eqb v 1) (leb len 204800) means in (kind_value dsd k.0, λ is. leb-true len 204800 (k.1 is))
 
-kind_again : {len : ℕ} {bytes : List ℕ} {at : ℕ} (dsd : Bool) {next : ℕ} → (dsd ≡ false → len ≤ 204800) → Stands bytes at (kind_byte dsd ∷ []) next →
-    field 1 (kind_in len) bytes at ≡ Ok (dsd, next)
-kind_again {len} {bytes} {at} true {next} short stands = byte_again (kind_of len) bytes at true next 1 refl stands
-kind_again {len} {bytes} {at} false {next} short stands = byte_again (kind_of len) bytes at false next 0 (rw (le-leb len 204800 (short refl)) refl) stands
+    from : (dsd : Bool) → (dsd ≡ false → len ≤ 204800) → kind_of len (kind_byte dsd) ≡ Some dsd
+    from true short = refl
+    from false short = rw (le-leb len 204800 (short refl)) refl
 
-disc_by : {bytes : List ℕ} {at : ℕ} (len : Option ℕ) (mid : ℕ) {x : (Option (List ℕ) × Bool) × ℕ} → Lengthed Disc bytes at len mid → image_at len bytes mid ≡ Ok x →
-    Stands bytes at (disc_bytes x.0.0 x.0.1) x.1 × IsDisc x.0.0 x.0.1
-disc_by {bytes} {at} None mid {x} len e =
-    subst (λ (y : (Option (List ℕ) × Bool) × ℕ). Stands bytes at (disc_bytes y.0.0 y.0.1) y.1 × IsDisc y.0.0 y.0.1) (ok_is e) (len.0, refl)
-disc_by {bytes} {at} (Some n) mid {x} len e =
-    let a = bind_ok (field 1 (kind_in n) bytes mid) e in
-    let b = bind_ok (field n Some bytes a.0.1) a.2 in
-    let k = kind_reads a.1 in
-    let h = field_held n Some bytes a.0.1 b.0.0 b.0.1 b.1 in
-    let is : h.text ≡ b.0.0 = some_is h.means in
-    let body : Stands bytes a.0.1 b.0.0 b.0.1 = subst (λ (t : List ℕ). Stands bytes a.0.1 t b.0.1) is h.stands in
-    let long : n ≡ length b.0.0 = sym h.long ∙ ap length is in
-    let kinded = stands_then k.0 body in
-    let all = stands_then len.0 kinded in
-    let made : (Option (List ℕ) × Bool) × ℕ = ((Some b.0.0, a.0.0), b.0.1) in
-    subst (λ (y : (Option (List ℕ) × Bool) × ℕ). Stands bytes at (disc_bytes y.0.0 y.0.1) y.1 × IsDisc y.0.0 y.0.1) (ok_is b.2) (
-      subst (λ (k : ℕ). Stands bytes at (to_be_bytes w32 k ++ kind_byte a.0.0 ∷ b.0.0) b.0.1) long all,
-      (ap (fits Disc) (sym long) ∙ len.1, λ one. subst (λ (m : ℕ). m ≤ 204800) long (k.1 one)),
-    )
+-- its kind and its bytes, where it is there
+abbrev behind_length : Option (List ℕ) → Bool → List ℕ
+behind_length None dsd = []
+behind_length (Some body) dsd = kind_byte dsd ∷ body
 
-pub disc_reads : {bytes : List ℕ} {at : ℕ} {x : (Option (List ℕ) × Bool) × ℕ} → AreBytes bytes → disc_at bytes at ≡ Ok x →
-    Stands bytes at (disc_bytes x.0.0 x.0.1) x.1 × IsDisc x.0.0 x.0.1
+pub disc_law : Reads disc_at (λ d. disc_bytes d.0 d.1) (λ d. IsDisc d.0 d.1)
 unfolding disc_at
-disc_reads {bytes} {at} {x} are e =
-    let a = bind_ok (field 4 (length_in Disc) bytes at) e in
-    disc_by a.0.0 a.0.1 (length_reads Disc bytes at a.0.0 a.0.1 are a.1) a.2
+disc_law = then image_at (λ d. len_of d.0) (λ d. behind_length d.0 d.1) (length_law Disc) (λ d. split d.0 d.1) behind
+  where
+    split : (p : Option (List ℕ)) (dsd : Bool) → IsDisc p dsd → MayBe Disc (len_of p) × (disc_bytes p dsd ≡ to_be_bytes w32 (told (len_of p)) ++ behind_length p dsd)
+    split None dsd is = (refl, refl)
+    split (Some body) dsd is = (is.0, refl)
 
-pub disc_again : {bytes : List ℕ} {at : ℕ} (p : Option (List ℕ)) {dsd : Bool} {next : ℕ} → IsDisc p dsd → Stands bytes at (disc_bytes p dsd) next →
-    disc_at bytes at ≡ Ok ((p, dsd), next)
-unfolding disc_at
-disc_again {bytes} {at} None {next} one stands = rw (absent_again Disc refl stands, one) refl
-disc_again {bytes} {at} (Some body) {dsd} {next} fit stands =
-    let len = to_be_bytes w32 (length body) in
-    let kind = kind_byte dsd ∷ [] in
-    let first : Stands bytes at len (at + length len) = stands_first (kind ++ body) stands in
-    let rest : Stands bytes (at + length len) (kind ++ body) next = stands_second len stands in
-    let second : Stands bytes (at + length len) kind (at + length len + length kind) = stands_first body rest in
-    let third : Stands bytes (at + length len + length kind) body next = stands_second kind rest in
-    rw (
-      length_again Disc fit.0 first,
-      kind_again dsd fit.1 second,
-      field_again Some third refl refl,
-    ) refl
+    absent : (p : Option (List ℕ)) (dsd : Bool) → IsDisc p dsd × (len_of p ≡ None) → ◌≡◌ {A = Option (List ℕ) × Bool} (p, dsd) (None, false)
+    absent None dsd is = ap (λ (d : Bool). (None, d)) is.0
+    absent (Some body) dsd is = absurd (cc is.1)
+
+    kinded : (n : ℕ) (p : Option (List ℕ)) (dsd : Bool) → IsDisc p dsd × (len_of p ≡ Some n) →
+        (dsd ≡ false → n ≤ 204800) × (behind_length p dsd ≡ (kind_byte dsd ∷ []) ++ bytes_in p)
+    kinded n None dsd is = absurd (cc is.1)
+    kinded n (Some body) dsd is = (λ one. subst (λ (m : ℕ). m ≤ 204800) (some_is is.1) (is.0.1 one), refl)
+
+    there : (n : ℕ) (dsd : Bool) (p : Option (List ℕ)) (d : Bool) → (IsDisc p d × (len_of p ≡ Some n)) × (d ≡ dsd) → (body : List ℕ) × (length body ≡ n) × ◌≡◌ {A = Option (List ℕ) × Bool} (Some body, dsd) (p, d)
+    there n dsd None d is = absurd (cc is.0.1)
+    there n dsd (Some body) d is = (body, some_is is.0.1, ap (λ (x : Bool). (Some body, x)) (sym is.1))
+
+    behind : (len : Option ℕ) → MayBe Disc len → Reads (image_at len) (λ d. behind_length d.0 d.1) (λ d. IsDisc d.0 d.1 × (len_of d.0 ≡ len))
+    behind None may = stop (None, false) (refl, refl) refl (λ d. absent d.0 d.1)
+    behind (Some n) fit =
+        then (λ dsd bytes at. field n Some bytes at >>= λ body. Ok ((Some body.0, dsd), body.1)) (λ d. d.1) (λ d. bytes_in d.0) (kind_law n) (λ d. kinded n d.0 d.1)
+        (λ dsd short. last (λ body. (Some body, dsd)) (body_law n) (λ body long. ((((rw long fit, λ one. rw long (short one)), ap Some long), refl), refl)) (λ d. there n dsd d.0 d.1))
 
 -- ---- parts of many kinds
 
-pub each_reads : (kinds : List Kind) {bytes : List ℕ} {at : ℕ} {x : List (Option (List ℕ)) × ℕ} → AreBytes bytes → at ≤ length bytes → each_at kinds bytes at ≡ Ok x →
-    Stands bytes at (flat_map part_bytes x.0) x.1 × ArePartsOf kinds x.0
+pub each_law : (kinds : List Kind) → Reads (each_at kinds) (flat_map part_bytes) (ArePartsOf kinds)
 unfolding each_at
-each_reads [] {bytes} {at} {x} are le e =
-    subst (λ (y : List (Option (List ℕ)) × ℕ). Stands bytes at (flat_map part_bytes y.0) y.1 × ArePartsOf [] y.0) (ok_is e)
-    (record { here = refl; to = omega arith; within = le }, tt)
-each_reads (kind ∷ kinds) {bytes} {at} {x} are le e =
-    let a = bind_ok (part_at kind bytes at) e in
-    let b = bind_ok (each_at kinds bytes a.0.1) a.2 in
-    let first = part_reads kind are a.1 in
-    let second = each_reads kinds are first.0.within b.1 in
-    let both = stands_then first.0 second.0 in
-    let made : List (Option (List ℕ)) × ℕ = (a.0.0 ∷ b.0.0, b.0.1) in
-    subst (λ (y : List (Option (List ℕ)) × ℕ). Stands bytes at (flat_map part_bytes y.0) y.1 × ArePartsOf (kind ∷ kinds) y.0) (ok_is b.2) (both, (first.1, second.1))
+each_law [] = stop [] tt refl none
+  where
+    none : (parts : List (Option (List ℕ))) → ArePartsOf [] parts → parts ≡ []
+    none [] are = refl
+    none (p ∷ parts) are = absurd are
+each_law (kind ∷ kinds) =
+    then (λ p bytes at. each_at kinds bytes at >>= λ others. Ok (p ∷ others.0, others.1)) (λ parts. get_or parts 0 None) (λ parts. flat_map part_bytes (drop 1 parts)) (part_law kind) split
+    (λ p is. last (λ others. p ∷ others) (each_law kinds) (λ others are. (((is, are), refl), refl)) (there p))
+  where
+    split : (parts : List (Option (List ℕ))) → ArePartsOf (kind ∷ kinds) parts →
+        IsPart kind (get_or parts 0 None) × (flat_map part_bytes parts ≡ part_bytes (get_or parts 0 None) ++ flat_map part_bytes (drop 1 parts))
+    split [] are = absurd are
+    split (p ∷ parts) are = (are.0, refl)
 
-pub each_again : (kinds : List Kind) {bytes : List ℕ} {at : ℕ} (parts : List (Option (List ℕ))) {next : ℕ} → ArePartsOf kinds parts → Stands bytes at (flat_map part_bytes parts) next →
-    each_at kinds bytes at ≡ Ok (parts, next)
-unfolding each_at
-each_again [] {at} [] {next} are stands = let end_ : at ≡ next = omega (arith, stands.to) in rw end_ refl
-each_again [] (p ∷ parts) are stands = absurd are
-each_again (kind ∷ kinds) [] are stands = absurd are
-each_again (kind ∷ kinds) {bytes} {at} (p ∷ parts) {next} are stands =
-    let text = part_bytes p in
-    let first : Stands bytes at text (at + length text) = stands_first (flat_map part_bytes parts) stands in
-    let second : Stands bytes (at + length text) (flat_map part_bytes parts) next = stands_second text stands in
-    rw (part_again kind p are.0 first, each_again kinds parts are.1 second) refl
+    there : (p : Option (List ℕ)) (parts : List (Option (List ℕ))) → ArePartsOf (kind ∷ kinds) parts × (get_or parts 0 None ≡ p) →
+        (others : List (Option (List ℕ))) × ArePartsOf kinds others × (p ∷ others ≡ parts)
+    there p [] is = absurd is.0
+    there p (q ∷ parts) is = (parts, is.0.1, ap (λ (x : Option (List ℕ)). x ∷ parts) (sym is.1))
 
 pub as_many : (kinds : List Kind) (parts : List (Option (List ℕ))) → ArePartsOf kinds parts → length parts ≡ length kinds
 as_many [] [] are = refl

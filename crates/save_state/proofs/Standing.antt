@@ -55,7 +55,7 @@ pub bind_ok : {A B : Type 0} (r : Result A StateError) {f : A → Result B State
 bind_ok (Ok x) e = (x, refl, e)
 bind_ok (Err d) e = absurd cc
 
-abbrev done : {A : Type 0} → A → Result A StateError
+abbrev pub done : {A : Type 0} → A → Result A StateError
 done x = Ok x
 
 pub ok_is : {A : Type 0} {x y : A} → done x ≡ done y → x ≡ y
@@ -136,34 +136,5 @@ number_text {text} long are = be_bytes_4 text _ long are refl
 pub number_of_text : {n : ℕ} → n < 2 ^ 32 → number (to_be_bytes w32 n) ≡ n
 number_of_text {n} lt = from_be_bytes-to_be_bytes_4 n lt
 
-up_to_some : {most n m : ℕ} → up_to most n ≡ Some m → (n ≡ m) × (n ≤ most)
+pub up_to_some : {most n m : ℕ} → up_to most n ≡ Some m → (n ≡ m) × (n ≤ most)
 up_to_some {most} {n} {m} e = let p = if_some (leb n most) n m e in (p.1, leb-true n most p.0)
-
-pub number_reads : (most : ℕ) (bytes : List ℕ) (at n next : ℕ) → AreBytes bytes → field 4 (λ b. up_to most (number b)) bytes at ≡ Ok (n, next) →
-    Stands bytes at (to_be_bytes w32 n) next × (n ≤ most)
-number_reads most bytes at n next are e =
-    let h = field_held 4 (λ b. up_to most (number b)) bytes at n next e in
-    let p = up_to_some h.means in
-    let text : to_be_bytes w32 n ≡ h.text = ap (to_be_bytes w32) (sym p.0) ∙ number_text h.long (h.are are) in
-    (subst (λ (t : List ℕ). Stands bytes at t next) (sym text) h.stands, omega (arith, p.0, p.1))
-
-pub number_again : {most : ℕ} {bytes : List ℕ} {at n next : ℕ} → n ≤ most → most < 2 ^ 32 → Stands bytes at (to_be_bytes w32 n) next →
-    field 4 (λ b. up_to most (number b)) bytes at ≡ Ok (n, next)
-number_again {most} {bytes} {at} {n} {next} le small stands =
-    let is : number (to_be_bytes w32 n) ≡ n = number_of_text (omega arith) in
-    field_again (λ b. up_to most (number b)) stands refl (rw (is, le-leb n most le) refl)
-
--- a field of one byte
-pub record HeldByte {A : Type 0} (meaning : ℕ → Option A) (bytes : List ℕ) (at : ℕ) (a : A) (next : ℕ) : Type 0 where
-  pub value : ℕ
-  pub stands : Stands bytes at (value ∷ []) next
-  pub means : meaning value ≡ Some a
-
-pub byte_held : {A : Type 0} (meaning : ℕ → Option A) (bytes : List ℕ) (at : ℕ) (a : A) (next : ℕ) → field 1 (λ b. meaning (byte b)) bytes at ≡ Ok (a, next) → HeldByte meaning bytes at a next
-byte_held meaning bytes at a next e =
-    let h = field_held 1 (λ b. meaning (byte b)) bytes at a next e in
-    record { value = byte h.text; stands = subst (λ (t : List ℕ). Stands bytes at t next) (sym (one_byte h.text h.long)) h.stands; means = h.means }
-
-pub byte_again : {A : Type 0} (meaning : ℕ → Option A) (bytes : List ℕ) (at : ℕ) (a : A) (next v : ℕ) → meaning v ≡ Some a → Stands bytes at (v ∷ []) next →
-    field 1 (λ b. meaning (byte b)) bytes at ≡ Ok (a, next)
-byte_again meaning bytes at a next v means stands = field_again (λ b. meaning (byte b)) stands refl means
