@@ -34,48 +34,52 @@ first_in_range labels limit v vs e = in_range labels limit v (neither (is_out la
 
 -- ---- the modes that an operand may take
 
-formed : (part : Part) (name : Mnemonic) (way m : Mode) → if_formed part name m ≡ Some way → m ≡ way
-formed part name way m e = by_test (has_form part name m) e
-  where
-    by_test : (b : Bool) → (if b then Some m else None) ≡ Some way → m ≡ way
-    by_test true e = cc
-    by_test false e = cc
-
 -- the form in the zero page, for a byte-sized value, or the absolute one
 abbrev EitherForm : Value → Mode → Mode → Mode → Type 0
 EitherForm v zero_page absolute way = ((zero_page ≡ way) × (is_byte v ≡ true)) ⊎ (absolute ≡ way)
 
-short_form : (part : Part) (name : Mnemonic) (v : Value) (zero_page absolute way : Mode)
-    → shorter part name v zero_page absolute ≡ Some way → EitherForm v zero_page absolute way
-short_form part name v zero_page absolute way e = by_test (is_byte v) (has_form part name zero_page) e
-  where
-    by_test : (b h : Bool) → (if b && h then Some zero_page else if_formed part name absolute) ≡ Some way
-        → ((zero_page ≡ way) × (b ≡ true)) ⊎ (absolute ≡ way)
-    by_test true true e = inl ((cc), refl)
-    by_test true false e = inr (formed part name way absolute e)
-    by_test false h e = inr (formed part name way absolute e)
+-- what both have, the one that is taken has
+either_way : (P : Mode → Type 0) (v : Value) (zero_page absolute way : Mode) → (is_byte v ≡ true → P zero_page) → P absolute → EitherForm v zero_page absolute way → P way
+either_way P v zero_page absolute way z a (inl form) = subst P form.0 (z form.1)
+either_way P v zero_page absolute way z a (inr form) = subst P form a
 
-byte_form : (part : Part) (name : Mnemonic) (zero_page way : Mode) (b : Bool)
-    → (if b then if_formed part name zero_page else None) ≡ Some way → (zero_page ≡ way) × (b ≡ true)
-byte_form part name zero_page way true e = (formed part name way zero_page e, refl)
-byte_form part name zero_page way false e = cc
+direct_way : (P : Mode → Type 0) (v : Value) (way : Mode) → P Rel → (is_byte v ≡ true → P Zp) → P Abs → (Rel ≡ way) ⊎ EitherForm v Zp Abs way → P way
+direct_way P v way r z a (inl e) = subst P e r
+direct_way P v way r z a (inr form) = either_way P v Zp Abs way z a form
 
-form_in_parentheses : (part : Part) (name : Mnemonic) (v : Value) (zero_page absolute way : Mode)
-    → mode_in_parentheses part name v zero_page absolute ≡ Some way → EitherForm v zero_page absolute way
-form_in_parentheses part name v zero_page absolute way e = by_test (same_mnemonic name Jmp) e
-  where
-    by_test : (j : Bool) → (if j then if_formed part name absolute else if is_byte v then if_formed part name zero_page else None) ≡ Some way
-        → EitherForm v zero_page absolute way
-    by_test true e = inr (formed part name way absolute e)
-    by_test false e = inl (byte_form part name zero_page way (is_byte v) e)
+module _ (part : Part) (name : Mnemonic) (way : Mode) where
+  formed : (m : Mode) → if_formed part name m ≡ Some way → m ≡ way
+  formed m e = by_test (has_form part name m) e
+    where
+      by_test : (b : Bool) → (if b then Some m else None) ≡ Some way → m ≡ way
+      by_test true e = cc
+      by_test false e = cc
 
-direct_form : (part : Part) (name : Mnemonic) (v : Value) (way : Mode)
-    → mode_of part name (direct v) ≡ Some way → (Rel ≡ way) ⊎ EitherForm v Zp Abs way
-direct_form part name v way e = by_test (has_form part name Rel) e
-  where
-    by_test : (b : Bool) → (if b then Some Rel else shorter part name v Zp Abs) ≡ Some way → (Rel ≡ way) ⊎ EitherForm v Zp Abs way
-    by_test true e = inl (cc)
-    by_test false e = inr (short_form part name v Zp Abs way e)
+  byte_form : (zero_page : Mode) (b : Bool) → (if b then if_formed part name zero_page else None) ≡ Some way → (zero_page ≡ way) × (b ≡ true)
+  byte_form zero_page true e = (formed zero_page e, refl)
+  byte_form zero_page false e = cc
+
+  short_form : (v : Value) (zero_page absolute : Mode) → shorter part name v zero_page absolute ≡ Some way → EitherForm v zero_page absolute way
+  short_form v zero_page absolute e = by_test (is_byte v) (has_form part name zero_page) e
+    where
+      by_test : (b h : Bool) → (if b && h then Some zero_page else if_formed part name absolute) ≡ Some way → ((zero_page ≡ way) × (b ≡ true)) ⊎ (absolute ≡ way)
+      by_test true true e = inl ((cc), refl)
+      by_test true false e = inr (formed absolute e)
+      by_test false h e = inr (formed absolute e)
+
+  form_in_parentheses : (v : Value) (zero_page absolute : Mode) → mode_in_parentheses part name v zero_page absolute ≡ Some way → EitherForm v zero_page absolute way
+  form_in_parentheses v zero_page absolute e = by_test (same_mnemonic name Jmp) e
+    where
+      by_test : (j : Bool) → (if j then if_formed part name absolute else if is_byte v then if_formed part name zero_page else None) ≡ Some way → EitherForm v zero_page absolute way
+      by_test true e = inr (formed absolute e)
+      by_test false e = inl (byte_form zero_page (is_byte v) e)
+
+  direct_form : (v : Value) → mode_of part name (direct v) ≡ Some way → (Rel ≡ way) ⊎ EitherForm v Zp Abs way
+  direct_form v e = by_test (has_form part name Rel) e
+    where
+      by_test : (b : Bool) → (if b then Some Rel else shorter part name v Zp Abs) ≡ Some way → (Rel ≡ way) ⊎ EitherForm v Zp Abs way
+      by_test true e = inl (cc)
+      by_test false e = inr (short_form v Zp Abs e)
 
 -- ---- what an operand has fits its mode
 
@@ -83,71 +87,51 @@ direct_form part name v way e = by_test (has_form part name Rel) e
 abbrev pub FitsByte : Labels → Value → Type 0
 FitsByte labels v = is_byte v ≡ true → base_or_zero labels v < 65536 → value_in labels v < 256
 
-either_fits : (labels : Labels) (v : Value) (zero_page absolute way : Mode) → FitsByte labels v
-    → (base_or_zero labels v < 65536) × (value_in labels v < 65536)
-    → room_of zero_page ≡ 256 → room_of absolute ≡ 65536
-    → EitherForm v zero_page absolute way → value_in labels v < room_of way
-either_fits labels v zero_page absolute way small known z a (inl form) =
-    subst (λ (w : Mode). value_in labels v < room_of w) form.0 (rw z (small form.1 known.0))
-either_fits labels v zero_page absolute way small known z a (inr form) =
-    subst (λ (w : Mode). value_in labels v < room_of w) form (rw a known.1)
+-- of values, the first
+abbrev First : (Value → Type 0) → List Value → Type 0
+First P [] = Unit {0}
+First P (v ∷ vs) = P v
 
--- a value of an operand that is in range at a mode
-known_in_range : (labels : Labels) (at : ℕ) (way : Mode) (operand : Operand) (v : Value) (vs : List Value)
-    → operand_values operand ≡ v ∷ vs → operand_out labels at (Some way) operand ≡ false
-    → (base_or_zero labels v < 65536) × (value_in labels v < 65536)
-known_in_range labels at Imm operand v vs e out =
-    let known = first_in_range labels 256 v vs (rw e at out) in (known.0, omega (arith, known.1))
-known_in_range labels at Rel operand v vs e out =
-    first_in_range labels 65536 v vs (rw e at ((neither (list_any (is_out labels 65536) (operand_values operand)) _ out).0))
-known_in_range labels at way operand v vs e out = first_in_range labels 65536 v vs (rw e at out)
+module _ (labels : Labels) (at : ℕ) (way : Mode) where
+  abbrev Known : Value → Type 0
+  Known v = (base_or_zero labels v < 65536) × (value_in labels v < 65536)
 
-immediate_fits : (labels : Labels) (at : ℕ) (way : Mode) (v : Value) → Imm ≡ way
-    → operand_out labels at (Some way) (immediate v) ≡ false → value_in labels v < room_of way
-immediate_fits labels at way v e out =
-    let here = subst (λ (w : Mode). operand_out labels at (Some w) (immediate v) ≡ false) (sym e) out in
-    subst (λ (w : Mode). value_in labels v < room_of w) e (first_in_range labels 256 v [] here).1
+  abbrev Fits : Value → Type 0
+  Fits v = FitsByte labels v → value_in labels v < room_of way
 
-direct_fits : (labels : Labels) (v : Value) (way : Mode) → FitsByte labels v
-    → (base_or_zero labels v < 65536) × (value_in labels v < 65536)
-    → (Rel ≡ way) ⊎ EitherForm v Zp Abs way → value_in labels v < room_of way
-direct_fits labels v way small known (inl e) = subst (λ (w : Mode). value_in labels v < room_of w) e known.1
-direct_fits labels v way small known (inr form) = either_fits labels v Zp Abs way small known refl refl form
+  -- a value of an operand that is in range at a mode
+  known_in_range : (m : Mode) (operand : Operand) (v : Value) (vs : List Value) → operand_values operand ≡ v ∷ vs → operand_out labels at (Some m) operand ≡ false → Known v
+  known_in_range Imm operand v vs e out =
+      let known = first_in_range labels 256 v vs (rw e at out) in (known.0, omega (arith, known.1))
+  known_in_range Rel operand v vs e out =
+      first_in_range labels 65536 v vs (rw e at ((neither (list_any (is_out labels 65536) (operand_values operand)) _ out).0))
+  known_in_range m operand v vs e out = first_in_range labels 65536 v vs (rw e at out)
 
-pub fits_mode : (part : Part) (name : Mnemonic) (operand : Operand) (labels : Labels) (at : ℕ) (way : Mode) (v : Value) (vs : List Value)
-    → mode_of part name operand ≡ Some way → operand_out labels at (Some way) operand ≡ false → operand_values operand ≡ v ∷ vs
-    → FitsByte labels v → value_in labels v < room_of way
-fits_mode part name nothing labels at way v vs m out e small = cc
-fits_mode part name accumulator labels at way v vs m out e small = cc
-fits_mode part name (immediate w) labels at way v vs m out e small =
-    let same : w ≡ v = cc in
-    subst (λ (x : Value). value_in labels x < room_of way) same (immediate_fits labels at way w (formed part name way Imm m) out)
-fits_mode part name (direct w) labels at way v vs m out e small =
-    let same : w ≡ v = cc in
-    let form = subst (λ (x : Value). mode_of part name (direct x) ≡ Some way) same m in
-    direct_fits labels v way small (known_in_range labels at way (direct w) v vs e out) (direct_form part name v way form)
-fits_mode part name (direct_x w) labels at way v vs m out e small =
-    let same : w ≡ v = cc in
-    let form = subst (λ (x : Value). mode_of part name (direct_x x) ≡ Some way) same m in
-    either_fits labels v ZpX AbsX way small (known_in_range labels at way (direct_x w) v vs e out) refl refl (short_form part name v ZpX AbsX way form)
-fits_mode part name (direct_y w) labels at way v vs m out e small =
-    let same : w ≡ v = cc in
-    let form = subst (λ (x : Value). mode_of part name (direct_y x) ≡ Some way) same m in
-    either_fits labels v ZpY AbsY way small (known_in_range labels at way (direct_y w) v vs e out) refl refl (short_form part name v ZpY AbsY way form)
-fits_mode part name (indirect w) labels at way v vs m out e small =
-    let same : w ≡ v = cc in
-    let form = subst (λ (x : Value). mode_of part name (indirect x) ≡ Some way) same m in
-    either_fits labels v IndZp Ind way small (known_in_range labels at way (indirect w) v vs e out) refl refl (form_in_parentheses part name v IndZp Ind way form)
-fits_mode part name (indirect_x w) labels at way v vs m out e small =
-    let same : w ≡ v = cc in
-    let form = subst (λ (x : Value). mode_of part name (indirect_x x) ≡ Some way) same m in
-    either_fits labels v IndX IndAbsX way small (known_in_range labels at way (indirect_x w) v vs e out) refl refl (form_in_parentheses part name v IndX IndAbsX way form)
-fits_mode part name (indirect_y w) labels at way v vs m out e small =
-    let same : w ≡ v = cc in
-    let form = subst (λ (x : Value). mode_of part name (indirect_y x) ≡ Some way) same m in
-    let byte = byte_form part name IndY way (is_byte v) form in
-    let fits = small byte.1 (known_in_range labels at way (indirect_y w) v vs e out).0 in
-    subst (λ (x : Mode). value_in labels v < room_of x) byte.0 fits
+  immediate_fits : (v : Value) → Imm ≡ way → operand_out labels at (Some way) (immediate v) ≡ false → Fits v
+  immediate_fits v e out = λ small.
+      let here = subst (λ (w : Mode). operand_out labels at (Some w) (immediate v) ≡ false) (sym e) out in
+      subst (λ (w : Mode). value_in labels v < room_of w) e (first_in_range labels 256 v [] here).1
+
+  either_fits : (v : Value) (zero_page absolute : Mode) → Known v → room_of zero_page ≡ 256 → room_of absolute ≡ 65536 → EitherForm v zero_page absolute way → Fits v
+  either_fits v zero_page absolute known z a form = λ small.
+      either_way (λ (w : Mode). value_in labels v < room_of w) v zero_page absolute way (λ b. rw z (small b known.0)) (rw a known.1) form
+
+  fits_mode : (part : Part) (name : Mnemonic) (operand : Operand) → mode_of part name operand ≡ Some way → operand_out labels at (Some way) operand ≡ false →
+      First Fits (operand_values operand)
+  fits_mode part name nothing m out = tt
+  fits_mode part name accumulator m out = tt
+  fits_mode part name (immediate v) m out = immediate_fits v (formed part name way Imm m) out
+  fits_mode part name (direct v) m out = λ small.
+      let known = known_in_range way (direct v) v [] refl out in
+      direct_way (λ (w : Mode). value_in labels v < room_of w) v way known.1 (λ b. small b known.0) known.1 (direct_form part name way v m)
+  fits_mode part name (direct_x v) m out = either_fits v ZpX AbsX (known_in_range way (direct_x v) v [] refl out) refl refl (short_form part name way v ZpX AbsX m)
+  fits_mode part name (direct_y v) m out = either_fits v ZpY AbsY (known_in_range way (direct_y v) v [] refl out) refl refl (short_form part name way v ZpY AbsY m)
+  fits_mode part name (indirect v) m out = either_fits v IndZp Ind (known_in_range way (indirect v) v [] refl out) refl refl (form_in_parentheses part name way v IndZp Ind m)
+  fits_mode part name (indirect_x v) m out =
+      either_fits v IndX IndAbsX (known_in_range way (indirect_x v) v [] refl out) refl refl (form_in_parentheses part name way v IndX IndAbsX m)
+  fits_mode part name (indirect_y v) m out = λ small.
+      let byte = byte_form part name way IndY (is_byte v) m in
+      subst (λ (w : Mode). value_in labels v < room_of w) byte.0 (small byte.1 (known_in_range way (indirect_y v) v [] refl out).0)
 
 -- the same of what the code holds
 pub operand_fits : (part : Part) (name : Mnemonic) (operand : Operand) (labels : Labels) (at : ℕ) (way : Mode) (v : code.Value) (n : ℕ)
@@ -157,8 +141,8 @@ pub operand_fits : (part : Part) (name : Mnemonic) (operand : Operand) (labels :
     → n < room_of way
 operand_fits part name operand labels at way v n m out e is small =
     let out_here = subst (λ (o : Option Mode). operand_out labels at o operand ≡ false) (sym m) out in
-    let byte : FitsByte labels (seen_value v) = λ b h. subst (λ (k : ℕ). k < 256) is (small b h) in
-    subst (λ (k : ℕ). k < room_of way) (sym is) (fits_mode part name operand labels at way (seen_value v) [] (sym m) out_here (sym e) byte)
+    let fits = rw (← e) at (fits_mode labels at way part name operand (sym m) out_here) in
+    rw is (fits (λ b h. rw (← is) (small b h)))
 
 -- ---- how many bytes an instruction has
 
@@ -166,34 +150,19 @@ operand_fits part name operand labels at way v n m out e is small =
 abbrev pub encoded_length : ℕ → Mode → List ℕ → ℕ
 encoded_length at way ns = 1 + length (operand_bytes at way ns)
 
-length_at : (at n : ℕ) (m way : Mode) → m ≡ way → encoded_length at m (n ∷ []) ≡ bytes_of m → encoded_length at way (n ∷ []) ≡ bytes_of way
-length_at at n m way e h = subst (λ (w : Mode). encoded_length at w (n ∷ []) ≡ bytes_of w) e h
-
-length_either : (at n : ℕ) (v : Value) (zero_page absolute way : Mode) → EitherForm v zero_page absolute way
-    → encoded_length at zero_page (n ∷ []) ≡ bytes_of zero_page → encoded_length at absolute (n ∷ []) ≡ bytes_of absolute
-    → encoded_length at way (n ∷ []) ≡ bytes_of way
-length_either at n v zero_page absolute way (inl form) z a = length_at at n zero_page way form.0 z
-length_either at n v zero_page absolute way (inr form) z a = length_at at n absolute way form a
-
-length_direct : (at n : ℕ) (v : Value) (way : Mode) → (Rel ≡ way) ⊎ EitherForm v Zp Abs way → encoded_length at way (n ∷ []) ≡ bytes_of way
-length_direct at n v way (inl e) = length_at at n Rel way e refl
-length_direct at n v way (inr form) = length_either at n v Zp Abs way form refl refl
+abbrev IsLong : ℕ → List ℕ → Mode → Type 0
+IsLong at ns way = encoded_length at way ns ≡ bytes_of way
 
 pub length-encoded : (part : Part) (name : Mnemonic) (operand : Operand) (labels : Labels) (at : ℕ) (way : Mode)
     → mode_of part name operand ≡ Some way → encoded_length at way (map (value_in labels) (operand_values operand)) ≡ bytes_of way
-length-encoded part name nothing labels at way m =
-    subst (λ (w : Mode). encoded_length at w [] ≡ bytes_of w) (formed part name way Imp m) refl
-length-encoded part name accumulator labels at way m =
-    subst (λ (w : Mode). encoded_length at w [] ≡ bytes_of w) (formed part name way Acc m) refl
-length-encoded part name (immediate v) labels at way m = length_at at (value_in labels v) Imm way (formed part name way Imm m) refl
-length-encoded part name (direct v) labels at way m = length_direct at (value_in labels v) v way (direct_form part name v way m)
-length-encoded part name (direct_x v) labels at way m =
-    length_either at (value_in labels v) v ZpX AbsX way (short_form part name v ZpX AbsX way m) refl refl
-length-encoded part name (direct_y v) labels at way m =
-    length_either at (value_in labels v) v ZpY AbsY way (short_form part name v ZpY AbsY way m) refl refl
+length-encoded part name nothing labels at way m = subst (IsLong at []) (formed part name way Imp m) refl
+length-encoded part name accumulator labels at way m = subst (IsLong at []) (formed part name way Acc m) refl
+length-encoded part name (immediate v) labels at way m = subst (IsLong at (value_in labels v ∷ [])) (formed part name way Imm m) refl
+length-encoded part name (direct v) labels at way m = direct_way (IsLong at (value_in labels v ∷ [])) v way refl (λ b. refl) refl (direct_form part name way v m)
+length-encoded part name (direct_x v) labels at way m = either_way (IsLong at (value_in labels v ∷ [])) v ZpX AbsX way (λ b. refl) refl (short_form part name way v ZpX AbsX m)
+length-encoded part name (direct_y v) labels at way m = either_way (IsLong at (value_in labels v ∷ [])) v ZpY AbsY way (λ b. refl) refl (short_form part name way v ZpY AbsY m)
 length-encoded part name (indirect v) labels at way m =
-    length_either at (value_in labels v) v IndZp Ind way (form_in_parentheses part name v IndZp Ind way m) refl refl
+    either_way (IsLong at (value_in labels v ∷ [])) v IndZp Ind way (λ b. refl) refl (form_in_parentheses part name way v IndZp Ind m)
 length-encoded part name (indirect_x v) labels at way m =
-    length_either at (value_in labels v) v IndX IndAbsX way (form_in_parentheses part name v IndX IndAbsX way m) refl refl
-length-encoded part name (indirect_y v) labels at way m =
-    length_at at (value_in labels v) IndY way (byte_form part name IndY way (is_byte v) m).0 refl
+    either_way (IsLong at (value_in labels v ∷ [])) v IndX IndAbsX way (λ b. refl) refl (form_in_parentheses part name way v IndX IndAbsX m)
+length-encoded part name (indirect_y v) labels at way m = subst (IsLong at (value_in labels v ∷ [])) (byte_form part name way IndY (is_byte v) m).0 refl

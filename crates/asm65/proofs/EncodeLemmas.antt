@@ -38,7 +38,7 @@ words_length labels (v ∷ values) =
     omega (arith, more, words_length labels values)
 
 -- where an `org` goes
-org_within : (at n : ℕ) → (nat_lt n at || (nat_lt 65535 n || false)) ≡ false → (at ≤ n) × (n ≤ 65535)
+pub org_within : (at n : ℕ) → (nat_lt n at || (nat_lt 65535 n || false)) ≡ false → (at ≤ n) × (n ≤ 65535)
 org_within at n e =
     let a = neither (nat_lt n at) (nat_lt 65535 n || false) e in
     let b = neither (nat_lt 65535 n) false a.1 in
@@ -100,34 +100,29 @@ line_reaches part number names labels at None within clear = absurd clear
 line_reaches part number names labels at (Some line) within clear =
     let r = reaches part labels at line.statement within clear.within clear.short in (r.0, r.1, clear.short)
 
-encoded_next : (part : Part) (labels : Labels) (all : List Placed) (number origin at : ℕ) (done : List ℕ) (line : Option Line) (lines : List (Option Line))
-    → Encoded part labels all number origin at done (placed_from part at (line ∷ lines))
-    → (at + length (line_bytes part labels at line) ≡ after_line part at line) × (after_line part at line ≤ 65536) × (line_is_long part at line ≡ false)
-encoded_next part labels all number origin at done line lines so_far =
-    let faults = no_fault (first_fault part (number + 1) so_far.names at line) _ so_far.clear in
-    line_reaches part (number + 1) so_far.names labels at line so_far.within (next_is_clear part (number + 1) so_far.names at line faults.0)
+module _ (part : Part) (labels : Labels) (all : List Placed) (number origin at : ℕ) (done : List ℕ) (line : Option Line) (lines : List (Option Line))
+  (so_far : Encoded part labels all number origin at done (placed_from part at (line ∷ lines))) where
+  encoded_next : (at + length (line_bytes part labels at line) ≡ after_line part at line) × (after_line part at line ≤ 65536) × (line_is_long part at line ≡ false)
+  encoded_next =
+      let faults = no_fault (first_fault part (number + 1) so_far.names at line) _ so_far.clear in
+      line_reaches part (number + 1) so_far.names labels at line so_far.within (next_is_clear part (number + 1) so_far.names at line faults.0)
 
-pub encoded_short : (part : Part) (labels : Labels) (all : List Placed) (number origin at : ℕ) (done : List ℕ) (line : Option Line) (lines : List (Option Line))
-    → Encoded part labels all number origin at done (placed_from part at (line ∷ lines)) → line_is_long part at line ≡ false
-encoded_short part labels all number origin at done line lines so_far = (encoded_next part labels all number origin at done line lines so_far).2
+  pub encoded_short : line_is_long part at line ≡ false
+  encoded_short = encoded_next.2
 
-pub encoded_more : (part : Part) (labels : Labels) (all : List Placed) (number origin at next : ℕ) (old new : List ℕ) (line : Option Line) (lines : List (Option Line))
-    → Encoded part labels all number origin at old (placed_from part at (line ∷ lines)) → IsEncoded part (number + 1) labels at line old new next
-    → Encoded part labels all (number + 1) origin next new (placed_from part next lines)
-encoded_more part labels all number origin at next old new line lines so_far encoded =
-    let faults = no_fault (first_fault part (number + 1) so_far.names at line) _ so_far.clear in
-    let reached = encoded_next part labels all number origin at old line lines so_far in
-    let longer : length (old ++ line_bytes part labels at line) ≡ length old + length (line_bytes part labels at line) = length-append old (line_bytes part labels at line) in
-    record {
-      names = so_far.names ++ line_names line;
-      clear = rw encoded.behind faults.1;
-      whole = so_far.whole ∙ rw (encoded.clear, encoded.behind) refl;
-      made = so_far.made ∙ rw (encoded.bytes, encoded.behind) (sym (append_assoc old (line_bytes part labels at line) (program_bytes part labels (placed_from part (after_line part at line) lines))));
-      size = rw (encoded.bytes, encoded.behind) (let size = so_far.size in omega (arith, longer, reached.0, size));
-      within = rw encoded.behind reached.1;
-    }
+  pub encoded_more : (next : ℕ) (new : List ℕ) → IsEncoded part (number + 1) labels at line done new next → Encoded part labels all (number + 1) origin next new (placed_from part next lines)
+  encoded_more next new encoded =
+      let faults = no_fault (first_fault part (number + 1) so_far.names at line) _ so_far.clear in
+      let reached = encoded_next in
+      let longer = length-append done (line_bytes part labels at line) in
+      record {
+        names = so_far.names ++ line_names line;
+        clear = rw encoded.behind faults.1;
+        whole = so_far.whole ∙ rw (encoded.clear, encoded.behind) refl;
+        made = so_far.made ∙ rw (encoded.bytes, encoded.behind) (sym (append_assoc done (line_bytes part labels at line) (program_bytes part labels (placed_from part (after_line part at line) lines))));
+        size = rw (encoded.bytes, encoded.behind) (let size = so_far.size in omega (arith, longer, reached.0, size));
+        within = rw encoded.behind reached.1;
+      }
 
-pub encoded_fault : (part : Part) (labels : Labels) (all : List Placed) (number origin at : ℕ) (done : List ℕ) (line : Option Line) (lines : List (Option Line)) (e : AsmError)
-    → Encoded part labels all number origin at done (placed_from part at (line ∷ lines)) → second_fault part (number + 1) labels at line ≡ Some e
-    → second_pass part 1 labels all ≡ Some e
-encoded_fault part labels all number origin at done line lines e so_far fault = so_far.whole ∙ rw fault refl
+  pub encoded_fault : (e : AsmError) → second_fault part (number + 1) labels at line ≡ Some e → second_pass part 1 labels all ≡ Some e
+  encoded_fault e fault = so_far.whole ∙ rw fault refl

@@ -12,6 +12,7 @@ use Rattle.std.proofs.lemmas.Map.Text.{is_eq-slice_cmp, btree_map_updates_str}
 use Rattle.asm65.specs.Placement.{is_among}
 use Rattle.asm65.specs.Source.{Labels, value_of_label, label_with}
 use Rattle.asm65.specs.CodeLabels.{labels_in, names_in, seen_name}
+use Rattle.asm65.proofs.EmitLemmas.{neither}
 
 -- the names of labels
 abbrev pub names : Labels → List (List ℕ)
@@ -28,21 +29,17 @@ pub looked_up-seen : (name : List ℕ) (es : List (Bor (List ℕ) × ℕ)) → l
 looked_up-seen name [] = refl
 looked_up-seen name (e ∷ es) = rw (is_eq-slice_cmp name e.0.now, looked_up-seen name es) refl
 
+some_either : (b : Bool) (n : ℕ) (o : Option ℕ) → is_some (cond b (Some n) o) ≡ (b || is_some o)
+some_either true n o = refl
+some_either false n o = refl
+
 pub is_some-looked_up : (name : List ℕ) (es : List (Bor (List ℕ) × ℕ)) → is_some (looked_up name es) ≡ is_among (map (λ e. e.0.now) es) name
 is_some-looked_up name [] = refl
-is_some-looked_up name (e ∷ es) = rw (is_eq-slice_cmp name e.0.now, ← is_some-looked_up name es) (by_test (bytes_eq name e.0.now) e.1 (looked_up name es))
-  where
-    by_test : (b : Bool) (n : ℕ) (o : Option ℕ) → is_some (cond b (Some n) o) ≡ (b || is_some o)
-    by_test true n o = refl
-    by_test false n o = refl
+is_some-looked_up name (e ∷ es) = rw (is_eq-slice_cmp name e.0.now, ← is_some-looked_up name es) (some_either (bytes_eq name e.0.now) e.1 (looked_up name es))
 
 pub is_among-names : (name : List ℕ) (labels : Labels) → is_among (names labels) name ≡ is_some (value_of_label labels name)
 is_among-names name [] = refl
-is_among-names name (l ∷ labels) = rw (is_among-names name labels) (by_test (bytes_eq name l.0) l.1 (value_of_label labels name))
-  where
-    by_test : (b : Bool) (n : ℕ) (o : Option ℕ) → (b || is_some o) ≡ is_some (cond b (Some n) o)
-    by_test true n o = refl
-    by_test false n o = refl
+is_among-names name (l ∷ labels) = rw (is_among-names name labels) (sym (some_either (bytes_eq name l.0) l.1 (value_of_label labels name)))
 
 pub names_in-seen : (es : List (Bor (List ℕ) × ℕ)) → map (λ e. e.0.now) es ≡ names (seen es)
 names_in-seen [] = refl
@@ -66,17 +63,13 @@ pub value_push : (labels : Labels) (name : List ℕ) (at : ℕ) (q : List ℕ) �
     → value_of_label (labels ++ (name, at) ∷ []) q ≡ cond (bytes_eq name q) (Some at) (value_of_label labels q)
 value_push [] name at q new = rw (bytes_eq_comm name q) refl
 value_push (l ∷ labels) name at q new =
-    by_tests (bytes_eq q l.0) refl (value_push labels name at q (other (bytes_eq name l.0) (is_among (names labels) name) new).1)
+    by_tests (bytes_eq q l.0) refl (value_push labels name at q (neither (bytes_eq name l.0) (is_among (names labels) name) new).1)
   where
-    other : (a b : Bool) → (a || b) ≡ false → (a ≡ false) × (b ≡ false)
-    other true b e = cc
-    other false b e = (refl, e)
-
     by_tests : (b : Bool) → bytes_eq q l.0 ≡ b
         → value_of_label (labels ++ (name, at) ∷ []) q ≡ cond (bytes_eq name q) (Some at) (value_of_label labels q)
         → value_of_label (l ∷ labels ++ (name, at) ∷ []) q ≡ cond (bytes_eq name q) (Some at) (value_of_label (l ∷ labels) q)
     by_tests true e rest =
-        let apart : bytes_eq name q ≡ false = subst (λ (x : List ℕ). bytes_eq name x ≡ false) (sym (bytes_eq_same q l.0 e)) (other (bytes_eq name l.0) (is_among (names labels) name) new).0 in
+        let apart : bytes_eq name q ≡ false = rw (bytes_eq_same q l.0 e) (neither (bytes_eq name l.0) (is_among (names labels) name) new).0 in
         rw (e, apart) refl
     by_tests false e rest = rw (e, rest) refl
 

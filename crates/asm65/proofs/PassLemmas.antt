@@ -13,6 +13,7 @@ use Rattle.asm65.specs.Source.{Labels, labels_of, label_with, line_labels, value
 use Rattle.asm65.specs.CodeLabels.{labels_in, names_in}
 use Rattle.asm65.specs.Passes.{IsPlaced, IsLabelled}
 use Rattle.asm65.proofs.LabelLemmas.{names, is_among-names, names_in-seen}
+use Rattle.asm65.proofs.SameLabels.{any-same}
 
 -- ---- a line that the first pass has nothing against
 
@@ -54,10 +55,6 @@ at_fault f (inr q) = inr (f q)
 
 -- ---- labels by name alone
 
-list_any-same : (p q : List ℕ → Bool) (xs : List (List ℕ)) → ((x : List ℕ) → p x ≡ q x) → list_any p xs ≡ list_any q xs
-list_any-same p q [] h = refl
-list_any-same p q (x ∷ xs) h = rw (h x, list_any-same p q xs h) refl
-
 either : Option ℕ → Option ℕ → Option ℕ
 either None o = o
 either (Some n) o = Some n
@@ -97,7 +94,7 @@ first_fault-same : (part : Part) (number : ℕ) (some others : List (List ℕ)) 
     → first_fault part number some at line ≡ first_fault part number others at line
 first_fault-same part number some others at None h = refl
 first_fault-same part number some others at (Some line) h =
-    rw (list_any-same (is_among some) (is_among others) (option_to_list line.label) h) refl
+    rw (any-same (is_among some) (is_among others) (option_to_list line.label) h) refl
 
 names-line : (at : ℕ) (line : Option Line) → names (line_labels at line) ≡ line_names line
 names-line at None = refl
@@ -107,25 +104,24 @@ names-line at (Some line) = by_label line.label
     by_label None = refl
     by_label (Some name) = refl
 
-pub passed_more : (part : Part) (all : List Placed) (number : ℕ) (old new : BTreeMap (Bor (List ℕ)) ℕ) (at next : ℕ) (line : Option Line) (lines : List (Option Line))
-    → Passed part all number old (placed_from part at (line ∷ lines)) → IsPlaced part (number + 1) at line old new next
-    → Passed part all (number + 1) new (placed_from part next lines)
-passed_more part all number old new at next line lines passed placed =
-    let clear : first_fault part (number + 1) (names passed.before) at line ≡ None =
-    sym (first_fault-same part (number + 1) (names_in old) (names passed.before) at line (among_before old passed.before passed.same)) ∙ placed.clear in
-    let more : names (passed.before ++ line_labels at line) ≡ names passed.before ++ line_names line =
-    map-append (λ l. l.0) passed.before (line_labels at line) ∙ ap (λ ns. names passed.before ++ ns) (names-line at line) in
-    record {
-      before = passed.before ++ line_labels at line;
-      same = λ q. placed.labelled q ∙ value-append (labels_in old) passed.before (line_labels at line) q (passed.same q);
-      whole = passed.whole ∙ rw (clear, more, placed.behind) refl;
-      labels = passed.labels ∙ rw placed.behind (sym (append_assoc passed.before (line_labels at line) (labels_of (placed_from part (after_line part at line) lines))));
-    }
+module _ (part : Part) (all : List Placed) (number : ℕ) (map : BTreeMap (Bor (List ℕ)) ℕ) (at : ℕ) (line : Option Line) (lines : List (Option Line))
+  (passed : Passed part all number map (placed_from part at (line ∷ lines))) where
+  fault-same : first_fault part (number + 1) (names_in map) at line ≡ first_fault part (number + 1) (names passed.before) at line
+  fault-same = first_fault-same part (number + 1) (names_in map) (names passed.before) at line (among_before map passed.before passed.same)
 
-pub passed_fault : (part : Part) (all : List Placed) (number : ℕ) (map : BTreeMap (Bor (List ℕ)) ℕ) (at : ℕ) (line : Option Line) (lines : List (Option Line)) (e : AsmError)
-    → Passed part all number map (placed_from part at (line ∷ lines)) → first_fault part (number + 1) (names_in map) at line ≡ Some e
-    → first_pass part 1 [] all ≡ Some e
-passed_fault part all number map at line lines e passed fault =
-    let here : first_fault part (number + 1) (names passed.before) at line ≡ Some e =
-    sym (first_fault-same part (number + 1) (names_in map) (names passed.before) at line (among_before map passed.before passed.same)) ∙ fault in
-    passed.whole ∙ rw here refl
+  pub passed_more : (new : BTreeMap (Bor (List ℕ)) ℕ) (next : ℕ) → IsPlaced part (number + 1) at line map new next → Passed part all (number + 1) new (placed_from part next lines)
+  passed_more new next placed =
+      let clear = sym fault-same ∙ placed.clear in
+      let more : names (passed.before ++ line_labels at line) ≡ names passed.before ++ line_names line =
+      map-append (λ l. l.0) passed.before (line_labels at line) ∙ ap (λ ns. names passed.before ++ ns) (names-line at line) in
+      record {
+        before = passed.before ++ line_labels at line;
+        same = λ q. placed.labelled q ∙ value-append (labels_in map) passed.before (line_labels at line) q (passed.same q);
+        whole = passed.whole ∙ rw (clear, more, placed.behind) refl;
+        labels = passed.labels ∙ rw placed.behind (sym (append_assoc passed.before (line_labels at line) (labels_of (placed_from part (after_line part at line) lines))));
+      }
+
+  pub passed_fault : (e : AsmError) → first_fault part (number + 1) (names_in map) at line ≡ Some e → first_pass part 1 [] all ≡ Some e
+  passed_fault e fault =
+      let here = sym fault-same ∙ fault in
+      passed.whole ∙ rw here refl

@@ -13,9 +13,9 @@ use Rattle.asm65.specs.Passes.{program_bytes}
 abbrev pub SameLabels : Labels → Labels → Type 0
 SameLabels some others = (q : List ℕ) → value_of_label some q ≡ value_of_label others q
 
-any-same : (p q : Value → Bool) (vs : List Value) → ((v : Value) → p v ≡ q v) → list_any p vs ≡ list_any q vs
+pub any-same : {X : Type 0} (p q : X → Bool) (xs : List X) → ((x : X) → p x ≡ q x) → list_any p xs ≡ list_any q xs
 any-same p q [] h = refl
-any-same p q (v ∷ vs) h = rw (h v, any-same p q vs h) refl
+any-same p q (x ∷ xs) h = rw (h x, any-same p q xs h) refl
 
 map-same : {X : Type 0} (f g : Value → X) (vs : List Value) → ((v : Value) → f v ≡ g v) → map f vs ≡ map g vs
 map-same f g [] h = refl

@@ -10,26 +10,16 @@ use Rattle.asm65.specs.Placement.{origin_of, first_origin, is_past, placed_from,
 use Rattle.asm65.specs.Source.{labels_of, second_pass, source}
 use Rattle.asm65.specs.CodeLabels.{labels_in}
 use Rattle.asm65.specs.Passes.{IsLabelled, IsProgram}
-use Rattle.asm65.proofs.EmitLemmas.{neither}
 use Rattle.asm65.proofs.PassLemmas.{clear_line}
-use Rattle.asm65.proofs.EncodeLemmas.{no_fault}
+use Rattle.asm65.proofs.EncodeLemmas.{no_fault, org_within}
 use Rattle.asm65.proofs.SameLabels.{second_pass-same, program_bytes-same}
 
 -- ---- the origin
 
-org_small : (at n : ℕ) → (nat_lt n at || (nat_lt 65535 n || false)) ≡ false → n ≤ 65535
-org_small at n e =
-    let a = neither (nat_lt n at) (nat_lt 65535 n || false) e in
-    let b = neither (nat_lt 65535 n) false a.1 in
-    let large : nat_lt 65535 n ≡ false = b.0 in
-    grind (arith, nat_tests)
-
 origin_behind : (at later : ℕ) (s : Option Statement) → is_past at s ≡ false → later ≤ 65535 → first_origin s later ≤ 65535
 origin_behind at later None e h = h
-origin_behind at later (Some (org n)) e h = org_small at n.value e
-origin_behind at later (Some (instruction name operand)) e h = omega arith
-origin_behind at later (Some (bytes values)) e h = omega arith
-origin_behind at later (Some (words values)) e h = omega arith
+origin_behind at later (Some (org n)) e h = (org_within at n.value e).1
+origin_behind at later (Some _) e h = omega arith
 
 -- lines that the first pass has nothing against have an origin in memory
 pub origin_small : (part : Part) (row : ℕ) (names : List (List ℕ)) (at : ℕ) (lines : List (Option Line))

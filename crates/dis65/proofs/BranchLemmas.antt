@@ -33,15 +33,14 @@ target_fits at far = omega arith
 -- the distance of a branch from its target is near, and its byte is the operand
 pub branch_back : (at far : ℕ) → at < 65536 → far < 256
     → (is_near (distance at (target at far)) ≡ true) × (distance at (target at far) % 256 ≡ far)
-branch_back at far h d = by_sign at far h d (nat_lt far 128) refl
+branch_back at far h d = by_sign (nat_lt far 128) refl
   where
-    by_sign : (at far : ℕ) → at < 65536 → far < 256 → (b : Bool) → nat_lt far 128 ≡ b
-        → (is_near (distance at (target at far)) ≡ true) × (distance at (target at far) % 256 ≡ far)
-    by_sign at far h d true e =
+    by_sign : (b : Bool) → nat_lt far 128 ≡ b → (is_near (distance at (target at far)) ≡ true) × (distance at (target at far) % 256 ≡ far)
+    by_sign true e =
         let low = ltb-true far 128 e in
         let there : distance at (target at far) ≡ far = rw e (ahead at far h low) in
         (near_ahead _ far there low, omega (arith, there))
-    by_sign at far h d false e =
+    by_sign false e =
         let high = ltb-false far 128 e in
         let there : distance at (target at far) ≡ 65280 + far = rw e (back at far h high d) in
         (near_back _ far there high, back_byte _ far there d)

@@ -77,14 +77,13 @@ whole_cut part n r (Some f) e h =
 -- a form that is whole is the form, and its bytes are there
 pub whole_form : (n : ℕ) (o : Option Form) (f : Form) → if_whole n o ≡ Some f → (o ≡ Some f) × (bytes_of f.mode ≤ n)
 whole_form n None f e = cc
-whole_form n (Some g) f e = by_size n g f (nat_le (bytes_of g.mode) n) refl e
+whole_form n (Some g) f e = by_size (nat_le (bytes_of g.mode) n) refl e
   where
-    by_size : (n : ℕ) (g f : Form) (b : Bool) → nat_le (bytes_of g.mode) n ≡ b → cond b (Some g) None ≡ Some f
-        → (Some g ≡ Some f) × (bytes_of f.mode ≤ n)
-    by_size n g f true at e =
+    by_size : (b : Bool) → nat_le (bytes_of g.mode) n ≡ b → cond b (Some g) None ≡ Some f → (Some g ≡ Some f) × (bytes_of f.mode ≤ n)
+    by_size true at e =
         let same : g ≡ f = cc in
         (e, subst (λ (x : Form). bytes_of x.mode ≤ n) same (leb-true _ _ at))
-    by_size n g f false at e = cc
+    by_size false at e = cc
 
 -- an instruction has one byte at least
 pub some_bytes : (way : Mode) → 1 ≤ bytes_of way
@@ -110,12 +109,11 @@ row_line part at op behind r (Some f) e =
 -- and the bytes that the row counts are the opcode and those that the line passes
 pub row_passed : (part : Part) (n : ℕ) (r : Row) (o : Option Form) → Some r ≡ option_map (row_of part) (if_whole n o)
     → (1 ≤ r.bytes) × (r.bytes ≤ n) × (r.bytes - 1 ≡ bytes_behind (if_whole n o))
-row_passed part n r o e = by_form part n r o (if_whole n o) refl e
+row_passed part n r o e = by_form (if_whole n o) refl e
   where
-    by_form : (part : Part) (n : ℕ) (r : Row) (o w : Option Form) → if_whole n o ≡ w → Some r ≡ option_map (row_of part) w
-        → (1 ≤ r.bytes) × (r.bytes ≤ n) × (r.bytes - 1 ≡ bytes_behind w)
-    by_form part n r o None at e = cc
-    by_form part n r o (Some f) at e =
+    by_form : (w : Option Form) → if_whole n o ≡ w → Some r ≡ option_map (row_of part) w → (1 ≤ r.bytes) × (r.bytes ≤ n) × (r.bytes - 1 ≡ bytes_behind w)
+    by_form None at e = cc
+    by_form (Some f) at e =
         let same : row_of part f ≡ r = cc in
         subst (λ (x : Row). (1 ≤ x.bytes) × (x.bytes ≤ n) × (x.bytes - 1 ≡ bytes_behind (Some f))) same
         (some_bytes f.mode, (whole_form n o f at).1, refl)

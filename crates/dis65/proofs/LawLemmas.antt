@@ -30,8 +30,7 @@ more_sound : (part : Part) (at : ℕ) (s : Statement) (made rest : List ℕ) (li
     → AreSound part (placed_from part at (unlabelled s ∷ lines)) (made ++ rest)
 more_sound part at s made rest lines here behind =
     let next : after_line part at (unlabelled s) ≡ at + length made = here.next in
-    let all : AreSound part (placed_from part (after_line part at (unlabelled s)) lines) rest =
-    subst (λ (a : ℕ). AreSound part (placed_from part a lines) rest) (sym next) behind in
+    let all : AreSound part (placed_from part (after_line part at (unlabelled s)) lines) rest = rw next behind in
     record {
       first = λ row names. rw (here.first row names) (all.first (row + 1) (names ++ []));
       second = λ row labels. rw (here.second row labels) (all.second (row + 1) labels);
@@ -57,12 +56,10 @@ listed_sound part at zero (op ∷ xs) all h fits =
     let behind = listed part (at + 1) n xs in
     let s = statement_at at op xs (form_here part op xs) in
     let all_lines =
-    more_sound part at s (op ∷ take n xs) (drop n xs) behind here
-    (subst (λ (a : ℕ). AreSound part (placed_from part a behind) (drop n xs)) place rest) in
+    more_sound part at s (op ∷ take n xs) (drop n xs) behind here (rw (← place) rest) in
     let made : (op ∷ take n xs) ++ drop n xs ≡ op ∷ xs = ap (λ l. op ∷ l) (take-append-drop n xs) in
     let begin : at ≡ at + 0 = omega arith in
-    subst (λ (a : ℕ). AreSound part (placed_from part a (unlabelled s ∷ behind)) (op ∷ xs)) begin
-    (subst (λ (l : List ℕ). AreSound part (placed_from part at (unlabelled s ∷ behind)) l) made all_lines)
+    rw (← begin, ← made) all_lines
 
 -- what such lines mean
 program_sound : (part : Part) (origin : ℕ) (placed : List Placed) (made : List ℕ) → AreSound part placed made

@@ -65,12 +65,7 @@ byte_is_sound part at op h fits =
 
 -- its number is in range
 number_fits : (at : ℕ) (way : Mode) (l h : ℕ) → l < 256 → h < 256 → number_at at way l h < 65536
-number_fits at Abs l h a b = omega arith
-number_fits at AbsX l h a b = omega arith
-number_fits at AbsY l h a b = omega arith
 number_fits at Rel l h a b = target_fits at l
-number_fits at Ind l h a b = omega arith
-number_fits at IndAbsX l h a b = omega arith
 number_fits at _ l h a b = omega arith
 
 -- and the first pass finds it so
@@ -93,21 +88,9 @@ operand_fits : (labels : Labels) (at : ℕ) (way : Mode) (l h : ℕ) → at < 65
 operand_fits labels at Imp l h p a b = refl
 operand_fits labels at Acc l h p a b = refl
 operand_fits labels at Spare l h p a b = refl
-operand_fits labels at Imm l h p a b =
-    let small = not_most 256 l a in
-    let word = not_most 65536 l (omega arith) in
-    rw (word, small) refl
-operand_fits labels at Rel l h p a b =
-    let word = not_most 65536 (target at l) (target_fits at l) in
-    let near = (branch_back at l p a).0 in
-    rw (word, near) refl
-operand_fits labels at Zp l h p a b = let word = not_most 65536 l (omega arith) in rw word refl
-operand_fits labels at ZpX l h p a b = let word = not_most 65536 l (omega arith) in rw word refl
-operand_fits labels at ZpY l h p a b = let word = not_most 65536 l (omega arith) in rw word refl
-operand_fits labels at IndX l h p a b = let word = not_most 65536 l (omega arith) in rw word refl
-operand_fits labels at IndY l h p a b = let word = not_most 65536 l (omega arith) in rw word refl
-operand_fits labels at IndZp l h p a b = let word = not_most 65536 l (omega arith) in rw word refl
-operand_fits labels at _ l h p a b = let word = not_most 65536 (l + 256 * h) (omega arith) in rw word refl
+operand_fits labels at Imm l h p a b = rw (not_most 65536 l (omega arith), not_most 256 l a) refl
+operand_fits labels at Rel l h p a b = rw (not_most 65536 (target at l) (target_fits at l), (branch_back at l p a).0) refl
+operand_fits labels at way l h p a b = rw (not_most 65536 (number_at at way l h) (number_fits at way l h a b)) refl
 
 -- the one byte of an operand
 take_one : (xs : List ℕ) → 1 ≤ length xs → slice_index xs 0 ∷ [] ≡ take 1 xs
@@ -170,20 +153,19 @@ instruction_is_sound part at op xs f t all size fits =
 
 -- the bytes that a line passes are there
 pub passed_fits : (n : ℕ) (o : Option Form) → bytes_behind (if_whole (n + 1) o) ≤ n
-passed_fits n o = by_form n o (if_whole (n + 1) o) refl
+passed_fits n o = by_form (if_whole (n + 1) o) refl
   where
-    by_form : (n : ℕ) (o w : Option Form) → if_whole (n + 1) o ≡ w → bytes_behind w ≤ n
-    by_form n o None e = zero-le
-    by_form n o (Some f) e = let size = (whole_form (n + 1) o f e).1 in omega arith
+    by_form : (w : Option Form) → if_whole (n + 1) o ≡ w → bytes_behind w ≤ n
+    by_form None e = zero-le
+    by_form (Some f) e = let size = (whole_form (n + 1) o f e).1 in omega arith
 
 -- the line of an opcode
 pub line_is_sound : (part : Part) (at op : ℕ) (xs : List ℕ) → op < 256 → AreBytes xs → at + (length xs + 1) ≤ 65536
     → IsSound part at (statement_at at op xs (form_here part op xs)) (op ∷ take (bytes_behind (form_here part op xs)) xs)
-line_is_sound part at op xs h all fits = by_form part at op xs h all fits (form_here part op xs) refl
+line_is_sound part at op xs h all fits = by_form (form_here part op xs) refl
   where
-    by_form : (part : Part) (at op : ℕ) (xs : List ℕ) → op < 256 → AreBytes xs → at + (length xs + 1) ≤ 65536
-        → (o : Option Form) → form_here part op xs ≡ o → IsSound part at (statement_at at op xs o) (op ∷ take (bytes_behind o) xs)
-    by_form part at op xs h all fits None e = byte_is_sound part at op h (omega arith)
-    by_form part at op xs h all fits (Some f) e =
+    by_form : (o : Option Form) → form_here part op xs ≡ o → IsSound part at (statement_at at op xs o) (op ∷ take (bytes_behind o) xs)
+    by_form None e = byte_is_sound part at op h (omega arith)
+    by_form (Some f) e =
         let whole = whole_form (length xs + 1) (form_at (forms part) op) f e in
         instruction_is_sound part at op xs f (taken_back part op f whole.0) all whole.1 fits

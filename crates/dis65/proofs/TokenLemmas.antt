@@ -64,8 +64,6 @@ line_plain : (run : List ℕ) (tokens : List Token) → begins_otherwise tokens 
     → line_of (word run ∷ tokens) ≡ option_map (λ s. record { label = None; statement = s }) (rest_of (word run ∷ tokens))
 line_plain run [] h = refl
 line_plain run (colon ∷ tokens) h = cc
-line_plain run (word r ∷ tokens) h = refl
-line_plain run (hex r ∷ tokens) h = refl
 line_plain run (_ ∷ tokens) h = refl
 
 -- a mnemonic and its operand
@@ -93,7 +91,7 @@ all_code : (run rest : List ℕ) → list_all is_code run ≡ true → list_all 
 all_code run rest h i = rw (list_all-append is_code run rest, h) i
 
 -- the written forms around a number
-module _ (run : List ℕ) (n : ℕ) (small : Bool) (s : Spells run n small) where
+module _ {run : List ℕ} {n : ℕ} {small : Bool} (s : Spells run n small) where
   as_immediate : IsOperand (codes " #&" ++ run) (immediate (plain n small))
   as_immediate = record {
     tokens = hash ∷ hex run ∷ [];
@@ -169,19 +167,19 @@ operand_is : (at : ℕ) (way : Mode) (l h : ℕ) → l < 256 → h < 256
     → IsOperand (operand_text at way l h) (operand_by way (plain (number_at at way l h) (is_small way)))
 operand_is at Imp l h low_fits high_fits = as_nothing
 operand_is at Acc l h low_fits high_fits = as_accumulator
-operand_is at Imm l h low_fits high_fits = as_immediate (hex_digits 2 l) l true (two_spell l low_fits)
-operand_is at Zp l h low_fits high_fits = as_direct (hex_digits 2 l) l true (two_spell l low_fits)
-operand_is at ZpX l h low_fits high_fits = as_direct_x (hex_digits 2 l) l true (two_spell l low_fits)
-operand_is at ZpY l h low_fits high_fits = as_direct_y (hex_digits 2 l) l true (two_spell l low_fits)
-operand_is at Abs l h low_fits high_fits = as_direct (hex_digits 4 (l + 256 * h)) _ false (four_spell (l + 256 * h) (omega arith))
-operand_is at AbsX l h low_fits high_fits = as_direct_x (hex_digits 4 (l + 256 * h)) _ false (four_spell (l + 256 * h) (omega arith))
-operand_is at AbsY l h low_fits high_fits = as_direct_y (hex_digits 4 (l + 256 * h)) _ false (four_spell (l + 256 * h) (omega arith))
-operand_is at IndX l h low_fits high_fits = as_indirect_x (hex_digits 2 l) l true (two_spell l low_fits)
-operand_is at IndY l h low_fits high_fits = as_indirect_y (hex_digits 2 l) l true (two_spell l low_fits)
-operand_is at IndZp l h low_fits high_fits = as_indirect (hex_digits 2 l) l true (two_spell l low_fits)
-operand_is at Rel l h low_fits high_fits = as_direct (hex_digits 4 (target at l)) _ false (four_spell (target at l) (target_fits at l))
-operand_is at Ind l h low_fits high_fits = as_indirect (hex_digits 4 (l + 256 * h)) _ false (four_spell (l + 256 * h) (omega arith))
-operand_is at IndAbsX l h low_fits high_fits = as_indirect_x (hex_digits 4 (l + 256 * h)) _ false (four_spell (l + 256 * h) (omega arith))
+operand_is at Imm l h low_fits high_fits = as_immediate (two_spell l low_fits)
+operand_is at Zp l h low_fits high_fits = as_direct (two_spell l low_fits)
+operand_is at ZpX l h low_fits high_fits = as_direct_x (two_spell l low_fits)
+operand_is at ZpY l h low_fits high_fits = as_direct_y (two_spell l low_fits)
+operand_is at Abs l h low_fits high_fits = as_direct (four_spell (l + 256 * h) (omega arith))
+operand_is at AbsX l h low_fits high_fits = as_direct_x (four_spell (l + 256 * h) (omega arith))
+operand_is at AbsY l h low_fits high_fits = as_direct_y (four_spell (l + 256 * h) (omega arith))
+operand_is at IndX l h low_fits high_fits = as_indirect_x (two_spell l low_fits)
+operand_is at IndY l h low_fits high_fits = as_indirect_y (two_spell l low_fits)
+operand_is at IndZp l h low_fits high_fits = as_indirect (two_spell l low_fits)
+operand_is at Rel l h low_fits high_fits = as_direct (four_spell (target at l) (target_fits at l))
+operand_is at Ind l h low_fits high_fits = as_indirect (four_spell (l + 256 * h) (omega arith))
+operand_is at IndAbsX l h low_fits high_fits = as_indirect_x (four_spell (l + 256 * h) (omega arith))
 operand_is at Spare l h low_fits high_fits = as_nothing
 
 -- ---- lines
@@ -202,22 +200,15 @@ instruction_line at name way l h low_fits high_fits =
       reads = instruction_means name (operand_text at way l h) o.tokens _ o.cuts o.begins o.reads;
     }
 
--- the lines of the directives, over any digits
-org_means : (run : List ℕ) (n : ℕ) (small : Bool) → Spells run n small
-    → Means (codes "org &" ++ run) (org (record { value = n; byte_sized = small }))
-org_means run n small s =
-    let cuts : cut_of (codes "org &" ++ run) ≡ record { run = codes "org"; tokens = hex run ∷ [] } = rw (cut_run run s.words) refl in
-    record { inner = s.inner; reads = ap (λ c. line_of (tokens_of_cut c)) cuts ∙ rw s.number refl }
-
-byte_means : (run : List ℕ) (n : ℕ) (small : Bool) → Spells run n small
-    → Means (codes "byte &" ++ run) (bytes (plain n small ∷ []))
-byte_means run n small s =
-    let cuts : cut_of (codes "byte &" ++ run) ≡ record { run = codes "byte"; tokens = hex run ∷ [] } = rw (cut_run run s.words) refl in
-    record { inner = s.inner; reads = ap (λ c. line_of (tokens_of_cut c)) cuts ∙ rw s.number refl }
-
--- and over those that are written
+-- the lines of the directives
 pub org_line : (n : ℕ) → n < 65536 → Means (codes "org &" ++ hex_digits 4 n) (org (record { value = n; byte_sized = false }))
-org_line n h = org_means (hex_digits 4 n) n false (four_spell n h)
+org_line n h =
+    let s = four_spell n h in
+    let cuts : cut_of (codes "org &" ++ hex_digits 4 n) ≡ record { run = codes "org"; tokens = hex (hex_digits 4 n) ∷ [] } = rw (cut_run (hex_digits 4 n) s.words) refl in
+    record { inner = s.inner; reads = ap (λ c. line_of (tokens_of_cut c)) cuts ∙ rw s.number refl }
 
 pub byte_line : (n : ℕ) → n < 256 → Means (codes "byte &" ++ hex_digits 2 n) (bytes (plain n true ∷ []))
-byte_line n h = byte_means (hex_digits 2 n) n true (two_spell n h)
+byte_line n h =
+    let s = two_spell n h in
+    let cuts : cut_of (codes "byte &" ++ hex_digits 2 n) ≡ record { run = codes "byte"; tokens = hex (hex_digits 2 n) ∷ [] } = rw (cut_run (hex_digits 2 n) s.words) refl in
+    record { inner = s.inner; reads = ap (λ c. line_of (tokens_of_cut c)) cuts ∙ rw s.number refl }

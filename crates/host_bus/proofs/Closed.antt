@@ -29,26 +29,22 @@ quiet p u closed next played h = none-between p.script (drop p.place p.script) c
 -- a tick that is no microsecond and has no shot
 idle-tick : (a : Around) (k closed event next : ℕ) (m : Moving) → IsOnTime (micro a.clock) closed event next → HasNone a.script closed next → closed ≤ k → k < next → tick a k m ≡ m
 idle-tick a k closed event next m h none low high =
-    ap (λ (n : ℕ). let s : Moving = record { devices = beat a k m.devices; shots = m.shots ++ replicate n (last_frame m.devices) } in s) (none k low high)
-    ∙ ap (λ (l : List (List ℕ)). let s : Moving = record { devices = beat a k m.devices; shots = l } in s) (append-nil m.shots)
-    ∙ ap (λ (b : Bool). record m { devices = if b then microsecond a.ram a.font (keys_at k a.script) (levels_at k a.script) m.devices else m.devices })
-    (ne_eqb (k % micro a.clock) 0 (λ z. omega (arith, apart (micro a.clock) k h.step z h.begins (omega (arith, h.least, high)), h.near, low)))
+    let within : k % micro a.clock ≡ 0 → ⊥ = λ z. omega (arith, apart (micro a.clock) k h.step z h.begins (omega (arith, h.least, high)), h.near, low) in
+    rw (none k low high, append-nil m.shots, ne_eqb (k % micro a.clock) 0 within) refl
 
 -- nothing happens in ticks before the next microsecond and the next event
 pub idle : (a : Around) (n k closed event next : ℕ) (m : Moving) → IsOnTime (micro a.clock) closed event next → HasNone a.script closed next → closed ≤ k →
     k + n ≤ next → ticks a n k m ≡ m
 idle a zero k closed event next m h none low high = refl
 idle a (suc n) k closed event next m h none low high =
-    ap (λ (x : Moving). ticks a n (k + 1) x) (idle-tick a k closed event next m h none low (omega (arith, high)))
-    ∙ idle a n (k + 1) closed event next m h none (omega (arith, low)) (omega (arith, high))
+    rw (idle-tick a k closed event next m h none low (omega (arith, high))) (idle a n (k + 1) closed event next m h none (omega (arith, low)) (omega (arith, high)))
 
 -- a board that is closed before anything comes
 pub still-closed : (b : BoardState) (event next t : ℕ) → IsOnTime (micro b.clock) b.closed event next → HasNone b.script b.closed next →
     b.closed ≤ t → t ≤ next → record b { closed = t } ≡ board_closed b t
 still-closed b event next t h none low high =
-    let most : t ≡ max t b.closed = omega (arith, low) in
-    ap (λ (n : ℕ). record b { closed = n }) most
-    ∙ ap (λ (m : Moving). closed_with b (max t b.closed) m) (sym (idle (around b) (t - b.closed) b.closed b.closed event next (moving_part b) h none (omega arith) (omega (arith, low, high))))
+    let most : max t b.closed ≡ t = omega (arith, low) in
+    rw (idle (around b) (t - b.closed) b.closed b.closed event next (moving_part b) h none (omega arith) (omega (arith, low, high)), most) refl
 
 pub still-on-time : (u closed event next t : ℕ) → IsOnTime u closed event next → closed ≤ t → t ≤ next → IsOnTime u t event next
 still-on-time u closed event next t h low high =
@@ -80,10 +76,7 @@ shifted a n j k m (inr same) = ap (λ (x : ℕ). ticks a n x m) same
 beat-tick : (a : Around) (k : ℕ) (m : Moving) → k % micro a.clock ≡ 0 → shots_at k a.script ≡ 0 →
     tick a k m ≡ record m { devices = microsecond a.ram a.font (keys_at k a.script) (levels_at k a.script) m.devices }
 beat-tick a k m begins none =
-    ap (λ (n : ℕ). let s : Moving = record { devices = beat a k m.devices; shots = m.shots ++ replicate n (last_frame m.devices) } in s) none
-    ∙ ap (λ (l : List (List ℕ)). let s : Moving = record { devices = beat a k m.devices; shots = l } in s) (append-nil m.shots)
-    ∙ ap (λ (b : Bool). record m { devices = if b then microsecond a.ram a.font (keys_at k a.script) (levels_at k a.script) m.devices else m.devices })
-    (eq-eqb (k % micro a.clock) 0 begins)
+    rw (none, append-nil m.shots, eq-eqb (k % micro a.clock) 0 begins) refl
 
 -- from it on, up to the next
 one-beat : (a : Around) (k to : ℕ) (m : Moving) → k % micro a.clock ≡ 0 → HasNone a.script k to → k < to →
@@ -96,16 +89,12 @@ one-beat a k to m begins none low =
     let next : Moving = record m { devices = microsecond a.ram a.font (keys_at k a.script) (levels_at k a.script) m.devices } in
     let first : to - k ≡ suc (to - (k + 1)) = omega (arith, low) in
     let parts : to - (k + 1) ≡ (behind - (k + 1)) + (to - (k + u)) = omega (arith, low, some) in
-    ap (λ (n : ℕ). ticks a n k m) first
-    ∙ ap (λ (x : Moving). ticks a (to - (k + 1)) (k + 1) x) (beat-tick a k m begins (none k (omega arith) low))
-    ∙ ap (λ (n : ℕ). ticks a n (k + 1) next) parts
-    ∙ sym (ticks-add a (behind - (k + 1)) (to - (k + u)) (k + 1) next)
-    ∙ ap (λ (x : Moving). ticks a (to - (k + u)) ((k + 1) + (behind - (k + 1))) x)
-    (idle a (behind - (k + 1)) (k + 1) (k + 1) to behind next on (λ i late high. none i (omega (arith, late)) (omega (arith, high))) (omega arith) (omega (arith, low, some)))
-    ∙ shifted a (to - (k + u)) ((k + 1) + (behind - (k + 1))) (k + u) next (elim (cases_lt to (k + u)) [
+    let still = idle a (behind - (k + 1)) (k + 1) (k + 1) to behind next on (λ i late high. none i (omega (arith, late)) (omega (arith, high))) (omega arith) (omega (arith, low, some)) in
+    rw (first, beat-tick a k m begins (none k (omega arith) low), parts, ← ticks-add a (behind - (k + 1)) (to - (k + u)) (k + 1) next, still)
+    (shifted a (to - (k + u)) ((k + 1) + (behind - (k + 1))) (k + u) next (elim (cases_lt to (k + u)) [
       | inl less ↦ inl (omega (arith, less))
       | inr more ↦ inr (omega (arith, more, some))
-    ])
+    ]))
 
 -- Ticks from a microsecond on, up to a tick before which n of them begin, in which there is no shot and keys and levels stay what they are.
 pub beats : (a : Around) (n k to : ℕ) (keys : Keys) (levels : List ℕ) (m : Moving) → k % micro a.clock ≡ 0 → HasNone a.script k to →
@@ -115,17 +104,15 @@ pub beats : (a : Around) (n k to : ℕ) (keys : Keys) (levels : List ℕ) (m : M
 beats a zero k to keys levels m begins none are at all no_more =
     let nothing : 0 * micro a.clock ≡ 0 = omega arith in
     let over : to - k ≡ 0 = omega (arith, all, nothing) in
-    ap (λ (n : ℕ). ticks a n k m) over
+    rw over refl
 beats a (suc n) k to keys levels m begins none are at all no_more =
     let u = micro a.clock in
     let more : suc n * u ≡ n * u + u = grind arith in
     let low : k < to = omega (arith, more, no_more) in
-    one-beat a k to m begins none low
-    ∙ ap (λ (f : Keys). ticks a (to - (k + u)) (k + u) (record m { devices = microsecond a.ram a.font f (levels_at k a.script) m.devices })) (sym (are k (omega arith) low))
-    ∙ ap (λ (l : List ℕ). ticks a (to - (k + u)) (k + u) (record m { devices = microsecond a.ram a.font keys l m.devices })) (sym (at k (omega arith) low))
-    ∙ beats a n (k + u) to keys levels (record m { devices = microsecond a.ram a.font keys levels m.devices }) (add-mod_right k u ∙ begins)
+    rw (one-beat a k to m begins none low, ← are k (omega arith) low, ← at k (omega arith) low)
+    (beats a n (k + u) to keys levels (record m { devices = microsecond a.ram a.font keys levels m.devices }) (add-mod_right k u ∙ begins)
     (λ i late high. none i (omega (arith, late)) high) (λ i late high. are i (omega (arith, late)) high) (λ i late high. at i (omega (arith, late)) high)
-    (omega (arith, more, all)) (omega (arith, more, no_more))
+    (omega (arith, more, all)) (omega (arith, more, no_more)))
 
 -- a tick with its events, and on to a tick before which nothing comes again
 pub with-events : (a : Around) (k event to : ℕ) (keys : Keys) (levels : List ℕ) (d e : Devices) (shots shots_on : List (List ℕ)) →
@@ -134,13 +121,8 @@ pub with-events : (a : Around) (k event to : ℕ) (keys : Keys) (levels : List �
     (next : ℕ) → IsOnTime (micro a.clock) (k + 1) event next → HasNone a.script (k + 1) next → k < to → to ≤ next →
     moving e shots_on ≡ ticks a (to - k) k (moving d shots)
 with-events a k event to keys levels d e shots shots_on are at is took next on none low high =
-    let first : suc (to - (k + 1)) ≡ to - k = omega (arith, low) in
-    ap (λ (x : Devices). moving x shots_on) (is
-    ∙ ap (λ (f : Keys). if k % micro a.clock == 0 then microsecond a.ram a.font f levels d else d) are
-    ∙ ap (λ (l : List ℕ). if k % micro a.clock == 0 then microsecond a.ram a.font (keys_at k a.script) l d else d) at)
-    ∙ ap (λ (x : List (List ℕ)). moving (beat a k d) x) took
-    ∙ sym (idle a (to - (k + 1)) (k + 1) (k + 1) event next (tick a k (moving d shots)) on none (omega arith) (omega (arith, low, high)))
-    ∙ ap (λ (n : ℕ). ticks a n k (moving d shots)) first
+    let first : to - k ≡ suc (to - (k + 1)) = omega (arith, low) in
+    rw (is, are, at, took, first, idle a (to - (k + 1)) (k + 1) (k + 1) event next (tick a k (moving d shots)) on none (omega arith) (omega (arith, low, high))) refl
 
 -- the microseconds before a tick and the next event
 pub beaten : (clock : Clock) (ram : List ℕ) (font : Font) (p : Playback) (n k t next : ℕ) (d e : Devices) → IsPlayed p k → k % micro clock ≡ 0 → k < p.event → k < t →
@@ -153,11 +135,10 @@ beaten clock ram font p n k t next d e h begins early due all no_more is gone =
     let first : to ≤ k + n * micro clock = omega (arith, same, all) in
     let last : k + n * micro clock < to + micro clock = omega (arith, same, no_more, early, all, due) in
     let none : HasNone p.script k to = none-between p.script (drop p.place p.script) k p.event to h.has_left h.later (omega (arith, same)) in
-    ap (λ (x : Devices). moving x p.shots.frames) gone
-    ∙ sym (beats (around_by clock ram font p.script) n k to (keys_of p.keys) p.levels (moving d p.shots.frames) begins none
+    rw gone (sym (beats (around_by clock ram font p.script) n k to (keys_of p.keys) p.levels (moving d p.shots.frames) begins none
     (λ i late high. keys-stay p k i h (omega (arith, late)) (omega (arith, high, same)))
     (λ i late high. levels-stay p k i h (omega (arith, late)) (omega (arith, high, same)))
-    first last)
+    first last))
 
 pub beaten-on-time : (clock : Clock) (n k t event next : ℕ) → k % micro clock ≡ 0 → k < event → k < t → min t event - k ≤ n * micro clock →
     n * micro clock < min t event - k + micro clock →
@@ -173,13 +154,11 @@ beaten-on-time clock n k t event next begins early due all no_more is = record {
 -- a board whose devices went on from where it is closed
 pub gone : (b : BoardState) (u : ℕ) (m : Moving) → b.closed ≤ u → m ≡ ticks (around b) (u - b.closed) b.closed (moving_part b) → closed_with b u m ≡ board_closed b u
 gone b u m low is =
-    let most : u ≡ max u b.closed = omega (arith, low) in
-    ap (λ (x : Moving). closed_with b u x) is
-    ∙ ap (λ (n : ℕ). closed_with b n (ticks (around b) (u - b.closed) b.closed (moving_part b))) most
+    let most : max u b.closed ≡ u = omega (arith, low) in rw (is, most) refl
 
 -- a board that was closed on the way to t
 pub caught : (b x all : BoardState) (u t : ℕ) → x ≡ board_closed b u → u ≤ t → board_closed b t ≡ all → board_closed x t ≡ all
-caught b x all u t is high so = ap (λ (s : BoardState). board_closed s t) is ∙ board-again b u t high ∙ so
+caught b x all u t is high so = rw is (board-again b u t high ∙ so)
 
 -- so many microseconds begin in a span of ticks
 how-many : (clock : Clock) (span n : ℕ) → span ≤ n * micro clock → (m : ℕ) × (m ≤ n) × (span ≤ m * micro clock) × (m * micro clock < span + micro clock)
@@ -208,8 +187,8 @@ later-devices b n t h here low early few calm =
     (λ i late high. keys-stay p b.closed i h.played (omega (arith, late)) (omega (arith, high, early)))
     (λ i late high. levels-stay p b.closed i h.played (omega (arith, late)) (omega (arith, high, early)))
     (omega (arith, here, low, all)) (omega (arith, here, low, no_more)) in (
-      ap (λ (x : Moving). devices_ask x.devices) moved ∙ calm.irq b.ram.items b.letters.font p.levels m less,
-      ap (λ (x : Moving). x.devices.disc.nmis) moved ∙ calm.nmis b.ram.items b.letters.font p.levels m less,
+      rw moved (calm.irq b.ram.items b.letters.font p.levels m less),
+      rw moved (calm.nmis b.ram.items b.letters.font p.levels m less),
     )
 
 -- up to an event and the end of the microseconds that are calm
@@ -220,14 +199,14 @@ calm-lines b n t h calm early few = elim (cases_lt b.next t) [
       let low : b.closed ≤ b.next = omega (arith, h.on_time.least, h.on_time.first, h.played.early) in
       let on = later-devices (record b { closed = b.next }) n t (valid-later b b.next h low (omega arith)) refl less early (omega (arith, less, few)) calm in
       let same : board_closed (board_seen (record b { closed = b.next })) t ≡ board_closed (board_seen b) t =
-      ap (λ (s : BoardState). board_closed s t) (seen-later b b.next h low (omega arith)) ∙ board-again (board_seen b) b.next t (omega (arith, less)) in
-      (ap (λ (s : BoardState). board_irq s) (sym same) ∙ on.0, ap (λ (s : BoardState). board_nmis s) (sym same) ∙ on.1)
+      rw (seen-later b b.next h low (omega arith)) (board-again (board_seen b) b.next t (omega (arith, less))) in
+      rw (← same) on
   | inr more ↦ elim (cases_lt t b.closed) [
     | inl before ↦
         let same = board-still (board_seen b) t (omega (arith, before)) in
-        (ap (λ (s : BoardState). board_irq s) same, ap (λ (s : BoardState). board_nmis s) same)
+        rw same (refl, refl)
     | inr behind ↦
         let same = seen-later b t h behind more in
-        (ap (λ (s : BoardState). board_irq s) (sym same), ap (λ (s : BoardState). board_nmis s) (sym same))
+        rw (← same) (refl, refl)
   ]
 ]

@@ -12,12 +12,12 @@ pub returns-in-Err : goal.returns-in-Err
 returns-in-Err c =
     let lines = c.next_line.ensures.lines in
     let so_far = rw lines at c.loop-rest.invariant.encoded in
-    at_fault (λ fault. encoded_fault c.args.part _ _ _ _ _ _ _ _ c.in-Err.error so_far fault) c.in-Err.ensures
+    at_fault (λ fault. encoded_fault c.args.part _ _ _ _ _ _ _ _ so_far c.in-Err.error fault) c.in-Err.ensures
 
 pub loop-rest-preserved : goal.loop-rest-preserved
 loop-rest-preserved c =
     let lines = c.next_line.ensures.lines in
     record {
-      encoded = encoded_more c.args.part _ _ _ _ _ _ _ _ _ _ (rw lines at c.loop-rest.invariant.encoded) c.in-Ok.ensures;
+      encoded = encoded_more c.args.part _ _ _ _ _ _ _ _ (rw lines at c.loop-rest.invariant.encoded) _ _ c.in-Ok.ensures;
       count = let shorter = c.next_line.ensures.shorter in let count = c.loop-rest.invariant.count in omega (arith, shorter, count);
     }
