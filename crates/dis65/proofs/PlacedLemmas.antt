@@ -6,7 +6,7 @@ use Rattle.std.proofs.lemmas.List.{length-take-le}
 use Rattle.std.proofs.lemmas.Bool.Decides.{nat_tests}
 use Rattle.op_table.specs.declared.Part.{Part}
 use Rattle.op_table.specs.declared.Mode.{Mode}
-use Rattle.op_table.specs.declared.Mode.TheVariants.{Imp, Acc, Imm, Zp, ZpX, ZpY, Abs, AbsX, AbsY, IndX, IndY, IndZp, Rel, Ind, IndAbsX, Spare}
+use Rattle.op_table.specs.declared.Mode.TheVariants.{Imp, Acc, Imm, Abs, AbsX, AbsY, Rel, Ind, IndAbsX, Spare}
 use Rattle.op_table.specs.Names.{same_mode}
 use Rattle.op_table.specs.Forms.{Form, forms, form_at}
 use Rattle.op_table.specs.Rows.{bytes_of}
