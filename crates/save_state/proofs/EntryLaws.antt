@@ -18,7 +18,6 @@ use Rattle.tube_trace.specs.Entries.{event_of, events_of}
 use Rattle.tube_trace.specs.Line.{reset_of, answer_in, entry_by}
 use Rattle.tube_trace.specs.Text.{number_of, line_byte, IsAnswer, HasLine}
 use Rattle.tube_trace.specs.Trace.{follows}
-use Rattle.save_state.specs.declared.StateError.{StateError}
 use Rattle.save_state.specs.Fields.{field, ◌>>=◌}
 use Rattle.save_state.specs.Entries.{tick_in, side_in, op_by, op_in, entry_in, in_order, next_entry, entries_at, side_bits, op_bits, form_byte, tick_bytes, entry_bytes}
 use Rattle.save_state.specs.Laws.{AreBytes}

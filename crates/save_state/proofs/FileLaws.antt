@@ -1,24 +1,22 @@
 -- A session that is read is in its one file, and is read of it.
 use Rattle.std.proofs.Common.{◌≡◌, ◌∙◌, refl, sym, ap, subst, ℕ, ◌+◌, ◌<◌, ◌≤◌, ◌^◌, Bool, true, false, cond, List, [], ◌∷◌, ◌++◌, length, get_or, take, drop, Option, None, Some, Ok, codes}
-use Rattle.std.proofs.Common.{Result, All, IfSome, append-nil, append_assoc, zero-add, arith, eqb, eqb-true, eq-eqb, leb, leb-true, le-leb, bytes_eq}
+use Rattle.std.proofs.Common.{All, IfSome, append-nil, append_assoc, zero-add, arith, eqb, eqb-true, eq-eqb, le-leb}
 use Rattle.std.specs.List.{flat_map}
 use Rattle.std.specs.Int.{w32, to_be_bytes}
 use Rattle.std.proofs.lemmas.List.Elements.{All-push}
-use Rattle.std.proofs.lemmas.Slice.Eq.{bytes_eq-Decides}
-use Rattle.std.proofs.lemmas.List.{take_at, take-append-drop, length-append, length-take, length-drop, get_or-drop, get_or-append-add}
+use Rattle.std.proofs.lemmas.List.{take_at, take-append-drop, length-append, length-drop, get_or-drop, get_or-append-add}
 use Rattle.std.proofs.Math.ListN.{drop_of_length-le}
 use Rattle.beeb_bits.specs.declared.clock.Clock.{Clock}
 use Rattle.beeb_bits.specs.declared.clock.Clock.TheVariants.{Three, Four}
 use Rattle.tube_trace.specs.declared.Entry.{Entry}
-use Rattle.save_state.specs.declared.StateError.{StateError}
 use Rattle.save_state.specs.declared.StateError.TheVariants.{BadField}
 use Rattle.save_state.specs.declared.parts.Kind.TheVariants.{Keys}
-use Rattle.save_state.specs.Fields.{field, with_nothing_behind, exactly, up_to, number, byte, ◌>>=◌}
+use Rattle.save_state.specs.Fields.{with_nothing_behind, up_to}
 use Rattle.save_state.specs.Saved.{Session}
-use Rattle.save_state.specs.Parts.{Parts, parts_at, part_at, disc_at, each_at, first_kinds, part_bytes, disc_bytes}
+use Rattle.save_state.specs.Parts.{Parts, parts_at, first_kinds, part_bytes, disc_bytes}
 use Rattle.save_state.specs.Entries.{entries_at, entry_bytes}
-use Rattle.save_state.specs.File.{clock_in, Header, header_at, list_at, file, speed_of, header_bytes, part, is_dsd, parts_bytes, list_bytes, file_of, IsSession, IsPart, IsDisc, ArePartsOf}
-use Rattle.save_state.specs.Laws.{AreBytes, FileReadsBack, OnlyFileReads}
+use Rattle.save_state.specs.File.{clock_in, Header, header_at, list_at, file, speed_of, header_bytes, part, is_dsd, list_bytes, file_of, IsSession, IsPart, IsDisc, ArePartsOf}
+use Rattle.save_state.specs.Laws.{FileReadsBack, OnlyFileReads}
 use Rattle.save_state.proofs.Standing.{Stands, stands_then, stands_first, stands_second, bind_ok, some_is, if_ok, up_to_some}
 use Rattle.save_state.proofs.Reading.{Reads, alike, then, last, of_byte, number_law, exact_law}
 use Rattle.save_state.proofs.Loop.{pushes}

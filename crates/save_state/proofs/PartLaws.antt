@@ -1,16 +1,15 @@
 -- A part that is read stands there, and is read where it stands.
-use Rattle.std.proofs.Common.{◌≡◌, ◌∙◌, refl, sym, ap, subst, ℕ, ◌+◌, ◌<◌, ◌≤◌, ◌^◌, Bool, true, false, cond, List, [], ◌∷◌, ◌++◌, length, Option, None, Some, Ok, IfSome, All, arith, leb}
+use Rattle.std.proofs.Common.{◌≡◌, ◌∙◌, refl, sym, ap, subst, ℕ, ◌<◌, ◌≤◌, ◌^◌, Bool, true, false, cond, List, [], ◌∷◌, ◌++◌, length, Option, None, Some, Ok, IfSome, All, arith, leb}
 use Rattle.std.proofs.Common.{eqb, leb-true, le-leb, eqb-true}
 use Rattle.std.proofs.Common.{get_or, drop}
 use Rattle.std.proofs.lemmas.Bool.Decides.{nat_tests}
 use Rattle.std.specs.List.{flat_map}
 use Rattle.std.proofs.lemmas.List.Elements.{All-nil, All-cons}
-use Rattle.std.specs.Int.{w32, from_be_bytes, to_be_bytes}
-use Rattle.save_state.specs.declared.StateError.{StateError}
+use Rattle.std.specs.Int.{w32, to_be_bytes}
 use Rattle.save_state.specs.declared.parts.Kind.{Kind}
 use Rattle.save_state.specs.declared.parts.Kind.TheVariants.{Os, Tube, Rom, Font, Disc, Keys}
-use Rattle.save_state.specs.Fields.{field, number, byte, ◌>>=◌}
-use Rattle.save_state.specs.Parts.{fits, may_lack, length_of, length_in, body_at, part_at, kind_in, image_at, disc_at, each_at, part_bytes, kind_byte, disc_bytes}
+use Rattle.save_state.specs.Fields.{field, number, ◌>>=◌}
+use Rattle.save_state.specs.Parts.{fits, may_lack, length_in, body_at, part_at, kind_in, image_at, disc_at, each_at, part_bytes, kind_byte, disc_bytes}
 use Rattle.save_state.specs.File.{IsPart, IsDisc, ArePartsOf}
 use Rattle.save_state.specs.Laws.{AreBytes}
 use Rattle.save_state.proofs.Standing.{some_is, number_text, number_of_text}

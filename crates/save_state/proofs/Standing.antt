@@ -1,14 +1,14 @@
 -- Bytes that stand in a file from an offset on, and fields that are read there.
-use Rattle.std.proofs.Common.{◌≡◌, ◌∙◌, refl, sym, ap, ap₂, subst, ℕ, ◌+◌, ◌-◌, ◌<◌, ◌≤◌, ◌^◌, Bool, true, false, cond, List, [], ◌∷◌, ◌++◌, length, take, drop, Option, None, Some, Result}
+use Rattle.std.proofs.Common.{◌≡◌, ◌∙◌, refl, sym, ap, ap₂, ℕ, ◌+◌, ◌-◌, ◌<◌, ◌≤◌, ◌^◌, Bool, true, false, cond, List, [], ◌∷◌, ◌++◌, length, take, drop, Option, None, Some, Result}
 use Rattle.std.proofs.Common.{Ok, Err, append_assoc, arith, inl, inr, leb, leb-true, le-leb}
 use Rattle.std.specs.Prelude.{slice_range, slice_index}
-use Rattle.std.specs.Int.{w32, from_be_bytes, to_be_bytes}
+use Rattle.std.specs.Int.{w32, to_be_bytes}
 use Rattle.std.proofs.lemmas.Bool.{cases_lt}
 use Rattle.std.proofs.lemmas.List.{take_at, drop_at, drop-drop, take-append-drop, length-append, length-take, length-drop, get_or-drop, get_or-take, get_or_past}
 use Rattle.std.proofs.lemmas.Nat.{be_bytes_4, from_be_bytes-to_be_bytes_4}
 use Rattle.save_state.specs.declared.StateError.{StateError}
 use Rattle.save_state.specs.declared.StateError.TheVariants.{BadField}
-use Rattle.save_state.specs.Fields.{Fields, field, value_or_fault, up_to, number, byte, ◌>>=◌}
+use Rattle.save_state.specs.Fields.{field, value_or_fault, up_to, number, ◌>>=◌}
 use Rattle.save_state.specs.Laws.{AreBytes}
 
 -- Bytes stand in a file from one offset to another.

@@ -1,6 +1,6 @@
 -- A file of fields, which are tried in order from its first byte on. Where fields are at fault, the first of them tells the offset of the
 -- fault. (This project's own format.)
-use Rattle.std.specs.Prelude.{ℕ, ◌+◌, ◌==◌, ◌⊎◌, ◌≡◌, nat_le, Bool, List, length, slice_range, slice_index, Option, None, Some, Result, Ok, Err, MatchResult, if◌then◌else◌}
+use Rattle.std.specs.Prelude.{ℕ, ◌+◌, ◌==◌, ◌≡◌, nat_le, List, length, slice_range, slice_index, Option, None, Some, Result, Ok, Err, if◌then◌else◌}
 use Rattle.std.specs.Int.{w32, from_be_bytes}
 use Rattle.std.specs.Str.{bytes_eq}
 use Rattle.save_state.specs.declared.StateError.{StateError}

@@ -10,7 +10,7 @@ use Rattle.tube_trace.specs.Entries.{events_of}
 use Rattle.tube_trace.specs.Text.{HasLine}
 use Rattle.save_state.specs.declared.StateError.{StateError}
 use Rattle.save_state.specs.declared.parts.Kind.{Kind}
-use Rattle.save_state.specs.declared.parts.Kind.TheVariants.{Os, Tube, Rom, Font, Disc, Keys}
+use Rattle.save_state.specs.declared.parts.Kind.TheVariants.{Disc, Keys}
 use Rattle.save_state.specs.Fields.{Fields, field, with_nothing_behind, exactly, up_to, number, byte, ◌>>=◌}
 use Rattle.save_state.specs.Saved.{Session}
 use Rattle.save_state.specs.Parts.{parts_at, fits, may_lack, first_kinds, part_bytes, disc_bytes}

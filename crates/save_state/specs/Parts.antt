@@ -1,5 +1,5 @@
 -- The parts of a session file: the images, the font and the key script.
-use Rattle.std.specs.Prelude.{ℕ, ◌==◌, ◌||◌, ◌&&◌, nat_le, Bool, true, false, List, [], ◌∷◌, ◌++◌, length, replicate, Option, None, Some, Result, Ok, Err, if◌then◌else◌}
+use Rattle.std.specs.Prelude.{ℕ, ◌==◌, ◌||◌, nat_le, Bool, true, false, List, [], ◌∷◌, ◌++◌, length, replicate, Option, None, Some, Ok, if◌then◌else◌}
 use Rattle.std.specs.Int.{w32, to_be_bytes}
 use Rattle.save_state.specs.declared.parts.Kind.{Kind}
 use Rattle.save_state.specs.declared.parts.Kind.TheVariants.{Os, Tube, Rom, Font, Disc, Keys}

@@ -1,8 +1,8 @@
-use Rattle.std.proofs.Common.{◌≡◌, ap, subst, sym, ◌∙◌, arith, List, ℕ, Result, Ok, Err, IfOk}
+use Rattle.std.proofs.Common.{◌≡◌, ap, subst, ◌∙◌, arith, List, ℕ, Result, Ok, Err, IfOk}
 use Rattle.save_state.specs.declared.Saved.{Saved}
 use Rattle.save_state.specs.declared.StateError.{StateError}
 use Rattle.save_state.specs.Fields.{Gives}
-use Rattle.save_state.specs.Saved.{Session, session}
+use Rattle.save_state.specs.Saved.{session}
 use Rattle.save_state.specs.File.{file, file_of, IsSession}
 use Rattle.save_state.specs.Laws.{AreBytes}
 use Rattle.save_state.proofs.FileLaws.{file_back, file_only}

@@ -1,4 +1,3 @@
-use Rattle.save_state.specs.Saved.{session}
 use Rattle.save_state.proofs.FileLaws.{all_short}
 use Rattle.save_state.proofs.encoding.file_of.Goals as goal
 

@@ -1,4 +1,4 @@
-use Rattle.std.proofs.Common.{◌≡◌, ◌++◌, ap, ◌∙◌}
+use Rattle.std.proofs.Common.{◌++◌, ap, ◌∙◌}
 use Rattle.save_state.specs.Parts.{part_bytes}
 use Rattle.save_state.proofs.Loop.{flat-more}
 use Rattle.save_state.proofs.encoding.push_each.Goals as goal

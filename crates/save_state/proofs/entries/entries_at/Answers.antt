@@ -1,6 +1,4 @@
-use Rattle.std.proofs.Common.{rules, ◌≡◌, ◌++◌, ◌∷◌, []}
 use Rattle.std.proofs.lemmas.Result.{err_from_is_err_and}
-use Rattle.save_state.specs.Entries.{entries_at}
 use Rattle.save_state.proofs.Loop.{entry_more, entry_fails, entries_over}
 use Rattle.save_state.proofs.entries.entries_at.Goals as goal
 

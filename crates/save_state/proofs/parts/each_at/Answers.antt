@@ -1,6 +1,4 @@
-use Rattle.std.proofs.Common.{rules, ◌≡◌, ◌++◌, ◌∷◌, []}
 use Rattle.std.proofs.lemmas.Result.{err_from_is_err_and}
-use Rattle.save_state.specs.Parts.{each_at}
 use Rattle.save_state.proofs.Loop.{part_more, part_fails, parts_over}
 use Rattle.save_state.proofs.parts.each_at.Goals as goal
 

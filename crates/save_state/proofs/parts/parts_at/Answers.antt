@@ -1,4 +1,4 @@
-use Rattle.std.proofs.Common.{◌≡◌, ◌∙◌, refl, sym, ap, List, [], ◌∷◌, ◌++◌, Option, ℕ}
+use Rattle.std.proofs.Common.{◌≡◌, ◌∙◌, refl, ap, List, [], ◌∷◌, ◌++◌, Option, ℕ}
 use Rattle.save_state.specs.Parts.{parts_at}
 use Rattle.save_state.proofs.Loop.{pushes}
 use Rattle.save_state.proofs.parts.parts_at.Goals as goal
