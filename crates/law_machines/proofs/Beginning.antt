@@ -7,7 +7,7 @@ use Rattle.cpu_alu.specs.declared.Regs.{Regs}
 use Rattle.cpu_core.specs.declared.Sequence.{Sequence}
 use Rattle.cpu_core.specs.declared.Sequence.TheVariants.{Instruction, Reset, Nmi, Irq}
 use Rattle.cpu_core.specs.State.{State}
-use Rattle.cpu_core.specs.Sequences.{accesses, next_cycle, shown_byte, halts, halted, after_byte, sequence_at_look}
+use Rattle.cpu_core.specs.Sequences.{accesses, next_cycle, halts, halted, after_byte, sequence_at_look}
 use Rattle.law_machines.specs.Begins.{begun_by, begun}
 use Rattle.law_machines.specs.Interrupts.{interrupt_at}
 
@@ -40,7 +40,7 @@ by_halt false c x is = behind c.seen x c.sequence
 
 -- no access begins one
 pub access_not_begun : (part : Part) (c : State) (byte : ℕ) → begun (after_byte part c byte) ≡ None
-access_not_begun part c byte = by_halt (halted part c) c (shown_byte (next_cycle part c) byte) (halted_not_begun part c)
+access_not_begun part c byte = by_halt _ c _ (halted_not_begun part c)
 
 pub same_choice : (rose asserted : Bool) (r : Regs) → sequence_at_look rose asserted r ≡ interrupt_at rose asserted r
 same_choice true asserted r = refl

@@ -1,5 +1,5 @@
 -- When BREAK begins, step by step.
-use Rattle.std.proofs.Common.{◌≡◌, ◌∙◌, sym, ap, subst, refl, ℕ, zero, suc, ◌+◌, ◌-◌, ◌/◌, ◌%◌, ◌<◌, ◌≤◌, ◌==◌, ◌&&◌, ◌||◌, Bool, true, false, cond, List, [], ◌∷◌, ◌++◌, ◌⊎◌, inl, inr, append_assoc, arith}
+use Rattle.std.proofs.Common.{◌≡◌, ◌∙◌, sym, ap, subst, refl, ℕ, zero, suc, ◌+◌, ◌-◌, ◌%◌, ◌<◌, ◌≤◌, ◌&&◌, ◌||◌, Bool, true, false, cond, List, [], ◌∷◌, ◌++◌, ◌⊎◌, inl, inr, append_assoc, arith}
 use Rattle.std.specs.Prelude.{Option, None, Some, is_none, nat_lt, nat_le, if◌then◌else◌}
 use Rattle.std.proofs.lemmas.Bool.{cases_Bool, true≢false, false≢true}
 use Rattle.std.proofs.lemmas.Bool.Decides.{nat_tests}
@@ -19,17 +19,17 @@ use Rattle.key_script.specs.declared.Event.{Event}
 use Rattle.key_script.specs.Events.{tick_of}
 use Rattle.tube_chip.specs.declared.Answer.{Answer}
 use Rattle.host_devices.specs.declared.map.Device.TheVariants.{RomLatch}
-use Rattle.host_devices.specs.Map.{Place, Plugs, Sheila, place_of, stretched_in, memory_map, stretch}
+use Rattle.host_devices.specs.Map.{Place, Plugs, Sheila, place_of}
 use Rattle.host_devices.specs.Breaks as breaks
 use Rattle.host_devices.specs.Breaks.{breaks_until, is_break_by}
 use Rattle.host_bus.specs.Bus.{BusState, clock_of, after_read_of, after_write_of, bus_break_pending}
 use Rattle.tube_machine.specs.Step.{is_last_tick}
 use Rattle.host_mach.specs.State.{HostState, cycle_of, power_on, with_tube}
-use Rattle.host_mach.specs.Step.{address, byte_of, bus_after, cycle_ticks, is_break, after_break, after_step, host_closed, next_state}
+use Rattle.host_mach.specs.Step.{byte_of, bus_after, cycle_ticks, is_break, after_break, after_step, host_closed, next_state}
 use Rattle.host_mach.specs.Lawful.{cycle-ticks}
 use Rattle.host_mach.specs.SameClock.{next_cycle-same}
 use Rattle.host_mach.specs.SameBreaks.{access-leaves}
-use Rattle.law_machines.specs.HostTicks.{run, IsAt, IsOnCycle, HostKeepsCycles}
+use Rattle.law_machines.specs.HostTicks.{run, IsOnCycle, HostKeepsCycles}
 use Rattle.law_machines.specs.Breaks.{chance_by, chance, listed, chances, HasBreak, NoneBetween, IsFirst, BreaksAt, BreaksBegin}
 use Rattle.law_machines.proofs.Counts.{never_ends, stays}
 use Rattle.law_machines.proofs.HostCycles.{ended, last, some_cycles}
@@ -49,25 +49,25 @@ abbrev below : ℕ → List Event → ℕ
 below zero events = 0
 below (suc u) events = breaks_until u events
 
-add_up : (a b : Bool) (m n : ℕ) → (a ≡ true → b ≡ true) → m ≤ n → cond a (1 + m) m ≤ cond b (1 + n) n
-add_up true true m n up more = omega (arith, more)
-add_up true false m n up more = absurd (false≢true (up refl))
-add_up false true m n up more = omega (arith, more)
-add_up false false m n up more = more
+add_up : (a b : Bool) {m n : ℕ} → (a ≡ true → b ≡ true) → m ≤ n → cond a (1 + m) m ≤ cond b (1 + n) n
+add_up true true up more = omega arith
+add_up true false up more = absurd (false≢true (up refl))
+add_up false true up more = omega arith
+add_up false false up more = more
 
-one_up : (b : Bool) (t u v : ℕ) → u ≤ v → (b && nat_le t u) ≡ true → (b && nat_le t v) ≡ true
-one_up true t u v high is = grind (arith, nat_tests, high, is)
-one_up false t u v high is = is
+one_up : (b : Bool) (t : ℕ) {u v : ℕ} → u ≤ v → (b && nat_le t u) ≡ true → (b && nat_le t v) ≡ true
+one_up true t high is = grind (arith, nat_tests, high, is)
+one_up false t high is = is
 
-until_up : (u v : ℕ) (events : List Event) → u ≤ v → until u events ≤ until v events
-until_up u v [] high = omega arith
-until_up u v (e ∷ events) high =
-    add_up (is_break_by u e) (is_break_by v e) (until u events) (until v events) (one_up (breaks.is_break e) (tick_of e) u v high) (until_up u v events high)
+until_up : {u v : ℕ} (events : List Event) → u ≤ v → until u events ≤ until v events
+until_up [] high = omega arith
+until_up (e ∷ events) high =
+    add_up _ _ (one_up _ (tick_of e) high) (until_up events high)
 
 below_up : (low t : ℕ) (events : List Event) → low ≤ t + 1 → below low events ≤ breaks_until t events
 below_up zero t events high = omega arith
 below_up (suc u) t events high =
-    let up : until u events ≤ until t events = until_up u t events (omega (arith, high)) in
+    let up : until u events ≤ until t events = until_up events (omega (arith, high)) in
     omega (arith, up, until_is u events, until_is t events)
 
 -- where more have come by t than below a tick, one is between
@@ -87,28 +87,28 @@ some_first true true t e events is here some rest =
 some_first true false t e events is here some rest = later 0 t e events (rest some)
 some_first false late t e events is here some rest = later 0 t e events (rest some)
 
-some_by : (t : ℕ) (events : List Event) → 0 < until t events → Between 0 t events
-some_by t [] some = absurd (omega (arith, some))
-some_by t (e ∷ events) some = some_first (breaks.is_break e) (nat_le (tick_of e) t) t e events refl refl some (some_by t events)
+some_by : {t : ℕ} (events : List Event) → 0 < until t events → Between 0 t events
+some_by [] some = absurd (omega arith)
+some_by {t} (e ∷ events) some = some_first (breaks.is_break e) (nat_le (tick_of e) t) t e events refl refl some (some_by events)
 
-more_first : (b old late : Bool) (u t : ℕ) (e : Event) (events : List Event) → breaks.is_break e ≡ b → nat_le (tick_of e) u ≡ old → nat_le (tick_of e) t ≡ late →
+more_first : (b old late : Bool) {u t : ℕ} {e : Event} {events : List Event} → breaks.is_break e ≡ b → nat_le (tick_of e) u ≡ old → nat_le (tick_of e) t ≡ late →
     cond (b && old) (1 + until u events) (until u events) < cond (b && late) (1 + until t events) (until t events) →
     (until u events < until t events → Between (suc u) t events) → Between (suc u) t (e ∷ events)
-more_first true false true u t e events is first here more rest =
+more_first true false true {e} is first here more rest =
     record { break = tick_of e; pressed = inl (is, refl); from = grind (arith, nat_tests, first); by_then = grind (arith, nat_tests, here) }
-more_first true true true u t e events is first here more rest = later (suc u) t e events (rest (omega (arith, more)))
-more_first true true false u t e events is first here more rest = later (suc u) t e events (rest (omega (arith, more)))
-more_first true false false u t e events is first here more rest = later (suc u) t e events (rest more)
-more_first false old late u t e events is first here more rest = later (suc u) t e events (rest more)
+more_first true true true {u} {t} {e} {events} is first here more rest = later (suc u) t e events (rest (omega arith))
+more_first true true false {u} {t} {e} {events} is first here more rest = later (suc u) t e events (rest (omega arith))
+more_first true false false {u} {t} {e} {events} is first here more rest = later (suc u) t e events (rest more)
+more_first false old late {u} {t} {e} {events} is first here more rest = later (suc u) t e events (rest more)
 
-more_by : (u t : ℕ) (events : List Event) → until u events < until t events → Between (suc u) t events
-more_by u t [] more = absurd (omega (arith, more))
-more_by u t (e ∷ events) more =
-    more_first (breaks.is_break e) (nat_le (tick_of e) u) (nat_le (tick_of e) t) u t e events refl refl refl more (more_by u t events)
+more_by : {u t : ℕ} (events : List Event) → until u events < until t events → Between (suc u) t events
+more_by [] more = absurd (omega arith)
+more_by (e ∷ events) more =
+    more_first _ _ _ refl refl refl more (more_by events)
 
-between : (low t : ℕ) (events : List Event) → below low events < breaks_until t events → Between low t events
-between zero t events more = some_by t events (omega (arith, more, until_is t events))
-between (suc u) t events more = more_by u t events (omega (arith, more, until_is u events, until_is t events))
+between : (low : ℕ) {t : ℕ} {events : List Event} → below low events < breaks_until t events → Between low t events
+between zero {t} {events} more = some_by events (omega (arith, more, until_is t events))
+between (suc u) {t} {events} more = more_by events (omega (arith, more, until_is u events, until_is t events))
 
 -- and where one is between, more have come
 counted : (b late : Bool) (m : ℕ) → b ≡ true → late ≡ true → 0 < cond (b && late) (1 + m) m
@@ -116,56 +116,56 @@ counted true true m is here = omega arith
 counted true false m is here = cc
 counted false late m is here = cc
 
-some_rest : (b : Bool) (m : ℕ) → 0 < m → 0 < cond b (1 + m) m
-some_rest true m some = omega arith
-some_rest false m some = some
+some_rest : (b : Bool) {m : ℕ} → 0 < m → 0 < cond b (1 + m) m
+some_rest true some = omega arith
+some_rest false some = some
 
-at_tick : (t break at : ℕ) → at ≡ break → break ≤ t → nat_le at t ≡ true
-at_tick t break at is high = let low : at ≤ t = omega (arith, is, high) in grind (arith, nat_tests, low)
+at_tick : {t break at : ℕ} → at ≡ break → break ≤ t → nat_le at t ≡ true
+at_tick {t} {at} is high = let low : at ≤ t = omega arith in grind (arith, nat_tests, low)
 
-past_tick : (u break at : ℕ) → at ≡ break → u < break → nat_le at u ≡ false
-past_tick u break at is low = let high : u < at = omega (arith, is, low) in grind (arith, nat_tests, high)
+past_tick : {u break at : ℕ} → at ≡ break → u < break → nat_le at u ≡ false
+past_tick {u} {at} is low = let high : u < at = omega arith in grind (arith, nat_tests, high)
 
-more_there : (t break : ℕ) (events : List Event) → HasBreak break events → break ≤ t → 0 < until t events
-more_there t break [] has high = absurd has
-more_there t break (e ∷ events) (inl is) high =
-    counted (breaks.is_break e) (nat_le (tick_of e) t) (until t events) is.0 (at_tick t break (tick_of e) is.1 high)
-more_there t break (e ∷ events) (inr has) high = some_rest (is_break_by t e) (until t events) (more_there t break events has high)
+more_there : {t break : ℕ} (events : List Event) → HasBreak break events → break ≤ t → 0 < until t events
+more_there [] has high = absurd has
+more_there {t} (e ∷ events) (inl is) high =
+    counted (breaks.is_break e) (nat_le (tick_of e) t) (until t events) is.0 (at_tick is.1 high)
+more_there (e ∷ events) (inr has) high = some_rest _ (more_there events has high)
 
 one_there : (b old late : Bool) (m n : ℕ) → b ≡ true → old ≡ false → late ≡ true → m ≤ n → cond (b && old) (1 + m) m < cond (b && late) (1 + n) n
-one_there true false true m n is first here more = omega (arith, more)
+one_there true false true m n is first here more = omega arith
 one_there true true late m n is first here more = cc
 one_there true false false m n is first here more = cc
 one_there false old late m n is first here more = cc
 
-rest_there : (a b : Bool) (m n : ℕ) → (a ≡ true → b ≡ true) → m < n → cond a (1 + m) m < cond b (1 + n) n
-rest_there true true m n up more = omega (arith, more)
-rest_there true false m n up more = absurd (false≢true (up refl))
-rest_there false true m n up more = omega (arith, more)
-rest_there false false m n up more = more
+rest_there : (a b : Bool) {m n : ℕ} → (a ≡ true → b ≡ true) → m < n → cond a (1 + m) m < cond b (1 + n) n
+rest_there true true up more = omega arith
+rest_there true false up more = absurd (false≢true (up refl))
+rest_there false true up more = omega arith
+rest_there false false up more = more
 
-more_until : (u t break : ℕ) (events : List Event) → HasBreak break events → u < break → break ≤ t → until u events < until t events
-more_until u t break [] has low high = absurd has
-more_until u t break (e ∷ events) (inl is) low high =
+more_until : {u t break : ℕ} (events : List Event) → HasBreak break events → u < break → break ≤ t → until u events < until t events
+more_until [] has low high = absurd has
+more_until {u} {t} (e ∷ events) (inl is) low high =
     one_there (breaks.is_break e) (nat_le (tick_of e) u) (nat_le (tick_of e) t) (until u events) (until t events) is.0
-    (past_tick u break (tick_of e) is.1 low) (at_tick t break (tick_of e) is.1 high) (until_up u t events (omega (arith, low, high)))
-more_until u t break (e ∷ events) (inr has) low high =
-    rest_there (is_break_by u e) (is_break_by t e) (until u events) (until t events) (one_up (breaks.is_break e) (tick_of e) u t (omega (arith, low, high)))
-    (more_until u t break events has low high)
+    (past_tick is.1 low) (at_tick is.1 high) (until_up events (omega arith))
+more_until (e ∷ events) (inr has) low high =
+    rest_there _ _ (one_up _ (tick_of e) (omega arith))
+    (more_until events has low high)
 
-more_below : (low t break : ℕ) (events : List Event) → HasBreak break events → low ≤ break → break ≤ t → below low events < breaks_until t events
-more_below zero t break events has from high =
-    let more : 0 < until t events = more_there t break events has high in omega (arith, more, until_is t events)
-more_below (suc u) t break events has from high =
-    let more : until u events < until t events = more_until u t break events has (omega (arith, from)) high in
+more_below : (low : ℕ) {t break : ℕ} (events : List Event) → HasBreak break events → low ≤ break → break ≤ t → below low events < breaks_until t events
+more_below zero {t} events has from high =
+    let more : 0 < until t events = more_there events has high in omega (arith, more, until_is t events)
+more_below (suc u) {t} events has from high =
+    let more : until u events < until t events = more_until events has (omega (arith, from)) high in
     omega (arith, more, until_is u events, until_is t events)
 
 -- where none is pending at a tick, those that were taken are all up to it
-all_taken : (low u taken : ℕ) (events : List Event) → taken ≡ below low events → low ≤ u + 1 → nat_lt taken (breaks_until u events) ≡ false → taken ≡ below (suc u) events
-all_taken low u taken events is high none =
+all_taken : {low : ℕ} (u : ℕ) {taken : ℕ} (events : List Event) → taken ≡ below low events → low ≤ u + 1 → nat_lt taken (breaks_until u events) ≡ false → taken ≡ below (suc u) events
+all_taken {low} u {taken} events is high none =
     let most : breaks_until u events ≤ taken = grind (arith, nat_tests, none) in
-    let least : below low events ≤ breaks_until u events = below_up low u events high in
-    omega (arith, is, most, least)
+    let least = below_up low u events high in
+    omega arith
 
 -- ---- lists of ticks
 
@@ -173,9 +173,9 @@ abbrev EachBy : (ℕ → Type 0) → List ℕ → Type 0
 EachBy P [] = Unit {0}
 EachBy P (u ∷ us) = P u × EachBy P us
 
-each_by : (P Q : ℕ → Type 0) (us : List ℕ) → ((u : ℕ) → P u → Q u) → EachBy P us → EachBy Q us
-each_by P Q [] so all = tt
-each_by P Q (u ∷ us) so all = (so u all.0, each_by P Q us so all.1)
+each_by : {P Q : ℕ → Type 0} (us : List ℕ) → ((u : ℕ) → P u → Q u) → EachBy P us → EachBy Q us
+each_by [] so all = tt
+each_by (u ∷ us) so all = (so u all.0, each_by us so all.1)
 
 each_both : (P : ℕ → Type 0) (us vs : List ℕ) → EachBy P us → EachBy P vs → EachBy P (us ++ vs)
 each_both P [] vs all more = more
@@ -204,10 +204,10 @@ each_between : (break t : ℕ) (us : List ℕ) → NoneBetween break t us → Ea
 each_between break t [] all = tt
 each_between break t (u ∷ us) all = (all.0, each_between break t us all.1)
 
-here_of : (P : ℕ → Type 0) (u : ℕ) (us : List ℕ) → EachBy P us → Within u us → P u
-here_of P u [] all has = absurd has
-here_of P u (v ∷ us) all (inl is) = subst P is all.0
-here_of P u (v ∷ us) all (inr has) = here_of P u us all.1 has
+here_of : (P : ℕ → Type 0) {u : ℕ} (us : List ℕ) → EachBy P us → Within u us → P u
+here_of P [] all has = absurd has
+here_of P (v ∷ us) all (inl is) = subst P is all.0
+here_of P (v ∷ us) all (inr has) = here_of P us all.1 has
 
 both_parts : (p q : Bool) → (p && q) ≡ true → (p ≡ true) × (q ≡ true)
 both_parts true true is = (refl, refl)
@@ -217,17 +217,17 @@ both_parts false q is = cc
 last_chance : (s : HostState) (o : Option Cycle) (stopped at_last : Bool) → is_last_tick (cycle_of s) s.due ≡ at_last → (is_none o || (stopped && at_last)) ≡ true →
     chance_by o stopped s ≡ Some s.due
 last_chance s None stopped at_last is may = refl
-last_chance s (Some c) true true is may = ap (λ b. Some (if b then s.due else s.due + (cycle_ticks (clock_of s.bus.bus) s.due c - 1))) is
+last_chance s (Some c) true true is may = rw is
 last_chance s (Some c) true false is may = cc
 last_chance s (Some c) false at_last is may = cc
 
 -- a break step is at a tick at which BREAK may begin
 chance_of_break : (s : HostState) → is_break s ≡ true → chance s ≡ Some s.due
 chance_of_break s is =
-    last_chance s (next_cycle s.cpu) (halted s.cpu) (is_last_tick (cycle_of s) s.due) refl (both_parts (bus_break_pending s.bus.bus s.due) _ is).1
+    last_chance s _ _ _ refl (both_parts _ _ is).1
 
 pending_of_break : (s : HostState) → is_break s ≡ true → bus_break_pending s.bus.bus s.due ≡ true
-pending_of_break s is = (both_parts (bus_break_pending s.bus.bus s.due) _ is).0
+pending_of_break s is = (both_parts _ _ is).0
 
 by_parts : (p n h l : Bool) → p ≡ true → h ≡ true → l ≡ true → (p && (n || (h && l))) ≡ true
 by_parts true true true true ep eh el = refl
@@ -237,10 +237,10 @@ by_parts true n false l ep eh el = cc
 by_parts false n h l ep eh el = cc
 
 broken_by : (s : HostState) (a : Option Answer) → is_break s ≡ true → next_state s a ≡ after_break (host_closed s (s.due + 1))
-broken_by s a is = ap (λ b. if b then after_break (host_closed s (s.due + 1)) else after_step (next_cycle s.cpu) (host_closed s (s.due + 1)) a) is
+broken_by s a is = rw is
 
-plain_by : (s : HostState) (a : Option Answer) (o : Option Cycle) → is_break s ≡ false → next_cycle s.cpu ≡ o → next_state s a ≡ after_step o (host_closed s (s.due + 1)) a
-plain_by s a o is next =
+plain_by : (s : HostState) (a : Option Answer) {o : Option Cycle} → is_break s ≡ false → next_cycle s.cpu ≡ o → next_state s a ≡ after_step o (host_closed s (s.due + 1)) a
+plain_by s a is next =
     ap (λ b. if b then after_break (host_closed s (s.due + 1)) else after_step (next_cycle s.cpu) (host_closed s (s.due + 1)) a) is
     ∙ ap (λ x. after_step x (host_closed s (s.due + 1)) a) next
 
@@ -278,9 +278,9 @@ some_ticks : (s : HostState) (c : Cycle) → 1 ≤ ticks_at s c
 some_ticks s c = omega (arith, cycle-ticks (clock_of s.bus.bus) s.due c, some-host (clock_of s.bus.bus))
 
 -- an access of a processor that is not halted begins no break step earlier than the next tick
-rises_by : (breaks : Bool) (d n : ℕ) → 1 ≤ n → d ≤ (if breaks then d + (n - 1) else d + n)
-rises_by true d n some = omega (arith, some)
-rises_by false d n some = omega (arith, some)
+rises_by : (breaks : Bool) {d n : ℕ} → 1 ≤ n → d ≤ (if breaks then d + (n - 1) else d + n)
+rises_by true some = omega arith
+rises_by false some = omega arith
 
 -- an access of a halted one ends at its last tick where a break is pending there, and else behind it
 module _ (s : HostState) (a : Option Answer) (c : Cycle) (next : next_cycle s.cpu ≡ Some c) (stopped : halted s.cpu ≡ true) (free : is_break s ≡ false) where
@@ -288,17 +288,17 @@ module _ (s : HostState) (a : Option Answer) (c : Cycle) (next : next_cycle s.cp
   end_tick = s.due + (ticks_at s c - 1)
 
   same_cpu : (next_state s a).cpu ≡ s.cpu
-  same_cpu = ap (λ (x : HostState). x.cpu) (plain_by s a (Some c) free next) ∙ stays Nmos s.cpu (byte_of (host_closed s (s.due + 1)).bus s.due a c) stopped
+  same_cpu = ap (λ (x : HostState). x.cpu) (plain_by s a free next) ∙ stays Nmos _ stopped
 
   bus_is : (next_state s a).bus.bus ≡ bus_after (host_closed s (s.due + 1)).bus.bus c
-  bus_is = ap (λ (x : HostState). x.bus.bus) (plain_by s a (Some c) free next)
+  bus_is = rw (plain_by s a free next)
 
   never_over : is_none (next_cycle (after_byte s.cpu (byte_of (host_closed s (s.due + 1)).bus s.due a c))) ≡ false
-  never_over = ap (λ x. is_none (next_cycle x)) (stays Nmos s.cpu (byte_of (host_closed s (s.due + 1)).bus s.due a c) stopped) ∙ never_ends Nmos s.cpu stopped
+  never_over = ap (λ x. is_none (next_cycle x)) (stays Nmos _ stopped) ∙ never_ends Nmos s.cpu stopped
 
   due_is : (pending : Bool) → bus_break_pending s.bus.bus end_tick ≡ pending → (next_state s a).due ≡ (if pending then end_tick else s.due + ticks_at s c)
   due_is pending is =
-      ap (λ (x : HostState). x.due) (plain_by s a (Some c) free next)
+      ap (λ (x : HostState). x.due) (plain_by s a free next)
       ∙ due_by (bus_break_pending s.bus.bus end_tick) (halted s.cpu) (is_none (next_cycle (after_byte s.cpu (byte_of (host_closed s (s.due + 1)).bus s.due a c)))) pending is stopped never_over
     where
       due_by : (p h over pending : Bool) → p ≡ pending → h ≡ true → over ≡ false → (if (p && h) || over then end_tick else s.due + ticks_at s c) ≡ (if pending then end_tick else s.due + ticks_at s c)
@@ -312,21 +312,19 @@ module _ (s : HostState) (a : Option Answer) (c : Cycle) (next : next_cycle s.cp
   module _ (on : s.due % cycle_of s ≡ 0) where
     at_last : is_last_tick (cycle_of s) end_tick ≡ true
     at_last =
-        last (clock_of s.bus.bus) end_tick
-        (ended (clock_of s.bus.bus) s.due (stretch (address c) (s.due / host (clock_of s.bus.bus)))
-        (some_cycles (stretched_in memory_map (address c)) (s.due / host (clock_of s.bus.bus) % 2 == 0)) on)
+        last _ end_tick
+        (ended _ s.due
+        (some_cycles _ _) on)
 
     begins_there : bus_break_pending s.bus.bus end_tick ≡ true → (is_break (next_state s a) ≡ true) × ((next_state s a).due ≡ end_tick)
     begins_there is =
-        let at : (next_state s a).due ≡ end_tick = due_is true is in
-        let pending : bus_break_pending (next_state s a).bus.bus (next_state s a).due ≡ true =
-        ap (λ t. bus_break_pending (next_state s a).bus.bus t) at ∙ ap (λ (b : BusState). bus_break_pending b end_tick) bus_is
+        let at = due_is true is in
+        let pending = ap (λ t. bus_break_pending (next_state s a).bus.bus t) at ∙ ap (λ (b : BusState). bus_break_pending b end_tick) bus_is
         ∙ access-leaves (host_closed s (s.due + 1)).bus.bus c end_tick ∙ is in
-        let still : halted (next_state s a).cpu ≡ true = ap halted same_cpu ∙ stopped in
-        let at_end : is_last_tick (cycle_of (next_state s a)) (next_state s a).due ≡ true =
-        ap (λ t. is_last_tick (cycle_of (next_state s a)) t) at ∙ ap (λ k. is_last_tick (host k) end_tick) (next_cycle-same s a) ∙ at_last in (
-          by_parts (bus_break_pending (next_state s a).bus.bus (next_state s a).due) (is_none (next_cycle (next_state s a).cpu)) (halted (next_state s a).cpu)
-              (is_last_tick (cycle_of (next_state s a)) (next_state s a).due) pending still at_end,
+        let still = ap halted same_cpu ∙ stopped in
+        let at_end = ap (λ t. is_last_tick (cycle_of (next_state s a)) t) at ∙ ap (λ k. is_last_tick (host k) end_tick) (next_cycle-same s a) ∙ at_last in (
+          by_parts _ _ _
+              _ pending still at_end,
           at,
         )
 
@@ -343,10 +341,10 @@ record Inv (script : List Event) (us : List ℕ) (s : HostState) : Type 0 where
   pub earlier : EachBy (λ u. (u < low) ⊎ ((u ≡ s.due) × (is_break s ≡ true))) us
 
 -- where BREAK might begin at a tick, and all breaks up to it are taken behind the step
-passes : (script : List Event) (us : List ℕ) (s y : HostState) (t : ℕ) → Inv script us s → chance s ≡ Some t → s.due ≤ t → y.bus.bus.board.script ≡ script →
+passes : {script : List Event} {us : List ℕ} {s y : HostState} {t : ℕ} → Inv script us s → chance s ≡ Some t → s.due ≤ t → y.bus.bus.board.script ≡ script →
     y.bus.bus.board.breaks ≡ below (suc t) script → suc t ≤ y.due → IsOnCycle y → Inv script (us ++ listed (chance s)) y
-passes script us s y t inv at high same taken reached on =
-    subst (λ o. Inv script (us ++ listed o) y) (sym at) (record {
+passes {us} {s} {y} {t} inv at high same taken reached on =
+    rw at (record {
       low = suc t;
       script_is = same;
       taken = taken;
@@ -355,26 +353,26 @@ passes script us s y t inv at high same taken reached on =
       latest = inr (t, at_end t us, refl);
       earlier =
           each_both (λ u. (u < suc t) ⊎ ((u ≡ y.due) × (is_break y ≡ true))) us (t ∷ [])
-          (each_by (λ u. (u < inv.low) ⊎ ((u ≡ s.due) × (is_break s ≡ true))) (λ u. (u < suc t) ⊎ ((u ≡ y.due) × (is_break y ≡ true))) us (λ u old. inl (sooner u old)) inv.earlier)
+          (each_by us (λ u old. inl (sooner u old)) inv.earlier)
           (inl (omega arith), tt);
     })
   where
     sooner : (u : ℕ) → (u < inv.low) ⊎ ((u ≡ s.due) × (is_break s ≡ true)) → u < suc t
-    sooner u (inl low) = omega (arith, low, inv.reached, high)
-    sooner u (inr here) = omega (arith, here.0, high)
+    sooner u (inl low) = omega arith
+    sooner u (inr here) = omega arith
 
 -- where it might begin at none
-stays_so : (script : List Event) (us : List ℕ) (s y : HostState) → Inv script us s → chance s ≡ None → is_break s ≡ false → y.bus.bus.board.script ≡ script →
+stays_so : {script : List Event} {us : List ℕ} {s y : HostState} → Inv script us s → chance s ≡ None → is_break s ≡ false → y.bus.bus.board.script ≡ script →
     y.bus.bus.board.breaks ≡ s.bus.bus.board.breaks → s.due ≤ y.due → IsOnCycle y → Inv script (us ++ listed (chance s)) y
-stays_so script us s y inv at free same taken high on =
-    subst (λ o. Inv script (us ++ listed o) y) (sym at) (subst (λ xs. Inv script xs y) (sym (append-nil us)) (record {
+stays_so {script} {us} {s} {y} inv at free same taken high on =
+    rw at (subst (λ xs. Inv script xs y) (sym (append-nil us)) (record {
       low = inv.low;
       script_is = same;
       taken = taken ∙ inv.taken;
       reached = omega (arith, inv.reached, high);
       on = on;
       latest = inv.latest;
-      earlier = each_by (λ u. (u < inv.low) ⊎ ((u ≡ s.due) × (is_break s ≡ true))) (λ u. (u < inv.low) ⊎ ((u ≡ y.due) × (is_break y ≡ true))) us kept inv.earlier;
+      earlier = each_by us kept inv.earlier;
     }))
   where
     kept : (u : ℕ) → (u < inv.low) ⊎ ((u ≡ s.due) × (is_break s ≡ true)) → (u < inv.low) ⊎ ((u ≡ y.due) × (is_break y ≡ true))
@@ -385,7 +383,7 @@ stays_so script us s y inv at free same taken high on =
 waits : (script : List Event) (us : List ℕ) (s y : HostState) (t : ℕ) → Inv script us s → chance s ≡ Some t → s.due ≤ t → is_break s ≡ false → y.bus.bus.board.script ≡ script →
     y.bus.bus.board.breaks ≡ s.bus.bus.board.breaks → y.due ≡ t → is_break y ≡ true → IsOnCycle y → Inv script (us ++ listed (chance s)) y
 waits script us s y t inv at high free same taken here breaks on =
-    subst (λ o. Inv script (us ++ listed o) y) (sym at) (record {
+    rw at (record {
       low = inv.low;
       script_is = same;
       taken = taken ∙ inv.taken;
@@ -394,7 +392,7 @@ waits script us s y t inv at high free same taken here breaks on =
       latest = before inv.latest;
       earlier =
           each_both (λ u. (u < inv.low) ⊎ ((u ≡ y.due) × (is_break y ≡ true))) us (t ∷ [])
-          (each_by (λ u. (u < inv.low) ⊎ ((u ≡ s.due) × (is_break s ≡ true))) (λ u. (u < inv.low) ⊎ ((u ≡ y.due) × (is_break y ≡ true))) us kept inv.earlier)
+          (each_by us kept inv.earlier)
           (inr (sym here, breaks), tt);
     })
   where
@@ -412,56 +410,55 @@ not_pending true false rest is ended = cc
 not_pending false over rest is ended = refl
 
 module _ (keeps : HostKeepsCycles) (script : List Event) where
-  broken_step : (us : List ℕ) (s : HostState) (a : Option Answer) → is_break s ≡ true → Inv script us s → Inv script (us ++ listed (chance s)) (next_state s a)
-  broken_step us s a is inv =
+  broken_step : {us : List ℕ} {s : HostState} (a : Option Answer) → is_break s ≡ true → Inv script us s → Inv script (us ++ listed (chance s)) (next_state s a)
+  broken_step {s} a is inv =
       let y = next_state s a in
       let eq = broken_by s a is in
-      passes script us s y s.due inv (chance_of_break s is) (omega arith) (ap (λ (x : HostState). x.bus.bus.board.script) eq ∙ inv.script_is)
+      passes inv (chance_of_break s is) (omega arith) (ap (λ (x : HostState). x.bus.bus.board.script) eq ∙ inv.script_is)
       (ap (λ (x : HostState). x.bus.bus.board.breaks) eq ∙ ap (λ events. breaks_until s.due events) inv.script_is)
-      (let due : y.due ≡ s.due + 1 = ap (λ (x : HostState). x.due) eq in omega (arith, due)) (keeps.next s a inv.on)
+      (let due : y.due ≡ s.due + 1 = rw eq in omega arith) (keeps.next s a inv.on)
 
-  look_step : (us : List ℕ) (s : HostState) (a : Option Answer) → is_break s ≡ false → next_cycle s.cpu ≡ None → Inv script us s → Inv script (us ++ listed (chance s)) (next_state s a)
-  look_step us s a free over inv =
+  look_step : {us : List ℕ} {s : HostState} (a : Option Answer) → is_break s ≡ false → next_cycle s.cpu ≡ None → Inv script us s → Inv script (us ++ listed (chance s)) (next_state s a)
+  look_step {s} a free over inv =
       let y = next_state s a in
-      let eq = plain_by s a None free over in
-      let none : bus_break_pending s.bus.bus s.due ≡ false =
-      not_pending (bus_break_pending s.bus.bus s.due) (is_none (next_cycle s.cpu)) (halted s.cpu && is_last_tick (cycle_of s) s.due) free (ap is_none over) in
-      passes script us s y s.due inv (ap (λ o. chance_by o (halted s.cpu) s) over) (omega arith) (ap (λ (x : HostState). x.bus.bus.board.script) eq ∙ inv.script_is)
+      let eq = plain_by s a free over in
+      let none = not_pending _ _ _ free (ap is_none over) in
+      passes inv (ap (λ o. chance_by o (halted s.cpu) s) over) (omega arith) (ap (λ (x : HostState). x.bus.bus.board.script) eq ∙ inv.script_is)
       (ap (λ (x : HostState). x.bus.bus.board.breaks) eq
-      ∙ all_taken inv.low s.due s.bus.bus.board.breaks script inv.taken (omega (arith, inv.reached)) (ap (λ events. nat_lt s.bus.bus.board.breaks (breaks_until s.due events)) (sym inv.script_is) ∙ none))
-      (let due : y.due ≡ s.due + 1 = ap (λ (x : HostState). x.due) eq in omega (arith, due)) (keeps.next s a inv.on)
+      ∙ all_taken s.due script inv.taken (omega arith) (ap (λ events. nat_lt s.bus.bus.board.breaks (breaks_until s.due events)) (sym inv.script_is) ∙ none))
+      (let due : y.due ≡ s.due + 1 = rw eq in omega arith) (keeps.next s a inv.on)
 
-  access_step : (us : List ℕ) (s : HostState) (a : Option Answer) (c : Cycle) → is_break s ≡ false → next_cycle s.cpu ≡ Some c → halted s.cpu ≡ false → Inv script us s →
+  access_step : {us : List ℕ} {s : HostState} (a : Option Answer) {c : Cycle} → is_break s ≡ false → next_cycle s.cpu ≡ Some c → halted s.cpu ≡ false → Inv script us s →
       Inv script (us ++ listed (chance s)) (next_state s a)
-  access_step us s a c free next runs inv =
+  access_step {s} a {c} free next runs inv =
       let y = next_state s a in
-      let eq = plain_by s a (Some c) free next in
-      stays_so script us s y inv (ap (λ o. chance_by o (halted s.cpu) s) next ∙ ap (λ b. chance_by (Some c) b s) runs) free
+      let eq = plain_by s a free next in
+      stays_so inv (ap (λ o. chance_by o (halted s.cpu) s) next ∙ ap (λ b. chance_by (Some c) b s) runs) free
       (ap (λ (x : HostState). x.bus.bus.board.script) eq ∙ same_script (host_closed s (s.due + 1)).bus.bus c ∙ inv.script_is)
       (ap (λ (x : HostState). x.bus.bus.board.breaks) eq ∙ same_taken (host_closed s (s.due + 1)).bus.bus c)
-      (subst (λ (x : HostState). s.due ≤ x.due) (sym eq) (rises_by _ s.due (ticks_at s c) (some_ticks s c))) (keeps.next s a inv.on)
+      (subst (λ (x : HostState). s.due ≤ x.due) (sym eq) (rises_by _ (some_ticks s c))) (keeps.next s a inv.on)
 
-  on_first : (s : HostState) (c : Cycle) → IsOnCycle s → is_break s ≡ false → next_cycle s.cpu ≡ Some c → s.due % cycle_of s ≡ 0
-  on_first s c on free next =
-      subst (λ b. IsAt b (cycle_of s) s.due) (ap (λ b. b || is_none (next_cycle s.cpu)) free ∙ ap is_none next) on
+  on_first : (s : HostState) {c : Cycle} → IsOnCycle s → is_break s ≡ false → next_cycle s.cpu ≡ Some c → s.due % cycle_of s ≡ 0
+  on_first s on free next =
+      rw (ap (λ b. b || is_none (next_cycle s.cpu)) free ∙ ap is_none next) at on
 
   not_at_last : (clock : Clock) (t : ℕ) → t % host clock ≡ 0 → is_last_tick (host clock) t ≡ false
-  not_at_last Three t h = ap (λ (m : ℕ). m == 2) h
-  not_at_last Four t h = ap (λ (m : ℕ). m == 5) h
+  not_at_last Three t h = rw h
+  not_at_last Four t h = rw h
 
-  halted_chance : (s : HostState) (c : Cycle) → next_cycle s.cpu ≡ Some c → halted s.cpu ≡ true → s.due % cycle_of s ≡ 0 → chance s ≡ Some (s.due + (ticks_at s c - 1))
-  halted_chance s c next stopped first =
+  halted_chance : (s : HostState) {c : Cycle} → next_cycle s.cpu ≡ Some c → halted s.cpu ≡ true → s.due % cycle_of s ≡ 0 → chance s ≡ Some (s.due + (ticks_at s c - 1))
+  halted_chance s {c} next stopped first =
       ap (λ o. chance_by o (halted s.cpu) s) next ∙ ap (λ b. chance_by (Some c) b s) stopped
-      ∙ ap (λ b. Some (if b then s.due else s.due + (ticks_at s c - 1))) (not_at_last (clock_of s.bus.bus) s.due first)
+      ∙ ap (λ b. Some (if b then s.due else s.due + (ticks_at s c - 1))) (not_at_last _ s.due first)
 
-  halted_step : (us : List ℕ) (s : HostState) (a : Option Answer) (c : Cycle) → is_break s ≡ false → next_cycle s.cpu ≡ Some c → halted s.cpu ≡ true → Inv script us s →
+  halted_step : {us : List ℕ} {s : HostState} (a : Option Answer) {c : Cycle} → is_break s ≡ false → next_cycle s.cpu ≡ Some c → halted s.cpu ≡ true → Inv script us s →
       Inv script (us ++ listed (chance s)) (next_state s a)
-  halted_step us s a c free next stopped inv =
+  halted_step {us} {s} a {c} free next stopped inv =
       let y = next_state s a in
-      let eq = plain_by s a (Some c) free next in
-      let first : s.due % cycle_of s ≡ 0 = on_first s c inv.on free next in
+      let eq = plain_by s a free next in
+      let first : s.due % cycle_of s ≡ 0 = on_first s inv.on free next in
       let t : ℕ = s.due + (ticks_at s c - 1) in
-      let at : chance s ≡ Some t = halted_chance s c next stopped first in
+      let at : chance s ≡ Some t = halted_chance s next stopped first in
       let same_s = ap (λ (x : HostState). x.bus.bus.board.script) eq ∙ same_script (host_closed s (s.due + 1)).bus.bus c ∙ inv.script_is in
       let same_t : y.bus.bus.board.breaks ≡ s.bus.bus.board.breaks = ap (λ (x : HostState). x.bus.bus.board.breaks) eq ∙ same_taken (host_closed s (s.due + 1)).bus.bus c in
       elim (cases_Bool (bus_break_pending s.bus.bus t)) [
@@ -470,84 +467,81 @@ module _ (keeps : HostKeepsCycles) (script : List Event) where
             waits script us s y t inv at (omega arith) free same_s same_t there.1 there.0 (keeps.next s a inv.on)
         | inr none ↦
             let due : y.due ≡ s.due + ticks_at s c = due_is s a c next stopped free false none in
-            passes script us s y t inv at (omega arith) same_s
-            (same_t ∙ all_taken inv.low t s.bus.bus.board.breaks script inv.taken (omega (arith, inv.reached))
+            passes inv at (omega arith) same_s
+            (same_t ∙ all_taken t script inv.taken (omega (arith, inv.reached))
             (ap (λ events. nat_lt s.bus.bus.board.breaks (breaks_until t events)) (sym inv.script_is) ∙ none))
             (omega (arith, due, some_ticks s c)) (keeps.next s a inv.on)
       ]
 
-  plain_step : (o : Option Cycle) (us : List ℕ) (s : HostState) (a : Option Answer) → is_break s ≡ false → next_cycle s.cpu ≡ o → Inv script us s → Inv script (us ++ listed (chance s)) (next_state s a)
-  plain_step None us s a free next inv = look_step us s a free next inv
-  plain_step (Some c) us s a free next inv =
+  plain_step : (o : Option Cycle) {us : List ℕ} {s : HostState} (a : Option Answer) → is_break s ≡ false → next_cycle s.cpu ≡ o → Inv script us s → Inv script (us ++ listed (chance s)) (next_state s a)
+  plain_step None a free next inv = look_step a free next inv
+  plain_step (Some c) {s} a free next inv =
       elim (cases_Bool (halted s.cpu)) [
-        | inl stopped ↦ halted_step us s a c free next stopped inv
-        | inr runs ↦ access_step us s a c free next runs inv
+        | inl stopped ↦ halted_step a free next stopped inv
+        | inr runs ↦ access_step a free next runs inv
       ]
 
   one_step : (us : List ℕ) (s : HostState) (a : Option Answer) → Inv script us s → Inv script (us ++ listed (chance s)) (next_state s a)
   one_step us s a inv =
       elim (cases_Bool (is_break s)) [
-        | inl is ↦ broken_step us s a is inv
-        | inr free ↦ plain_step (next_cycle s.cpu) us s a free refl inv
+        | inl is ↦ broken_step a is inv
+        | inr free ↦ plain_step _ a free refl inv
       ]
 
   all_steps : (answers : List (Option Answer)) (us : List ℕ) (s : HostState) → Inv script us s → Inv script (us ++ chances answers s) (run answers s)
-  all_steps [] us s inv = subst (λ xs. Inv script xs s) (sym (append-nil us)) inv
+  all_steps [] us s inv = rw (append-nil us) inv
   all_steps (a ∷ answers) us s inv =
-      subst (λ xs. Inv script xs (run answers (next_state s a))) (append_assoc us (listed (chance s)) (chances answers (next_state s a)))
-      (all_steps answers (us ++ listed (chance s)) (next_state s a) (one_step us s a inv))
+      rw (append_assoc us (listed (chance s)) (chances answers (next_state s a))) at (all_steps answers (us ++ listed (chance s)) (next_state s a) (one_step us s a inv))
 
   -- ---- only there
 
   only_first : (us : List ℕ) (s : HostState) → Inv script us s → is_break s ≡ true → (chance s ≡ Some s.due) × IsFirst script s.due us
   only_first us s inv is =
-      let pending : nat_lt s.bus.bus.board.breaks (breaks_until s.due script) ≡ true =
-      ap (λ events. nat_lt s.bus.bus.board.breaks (breaks_until s.due events)) (sym inv.script_is) ∙ pending_of_break s is in
-      let more : below inv.low script < breaks_until s.due script =
-      subst (λ n. n < breaks_until s.due script) inv.taken (let l : s.bus.bus.board.breaks < breaks_until s.due script = grind (arith, nat_tests, pending) in l) in
-      let b : Between inv.low s.due script = between inv.low s.due script more in (
+      let pending = ap (λ events. nat_lt s.bus.bus.board.breaks (breaks_until s.due events)) (sym inv.script_is) ∙ pending_of_break s is in
+      let more = rw inv.taken at (let l : s.bus.bus.board.breaks < breaks_until s.due script = grind (arith, nat_tests, pending) in l) in
+      let b = between inv.low more in (
         chance_of_break s is,
         record {
           break = b.break;
           pressed = b.pressed;
           behind = b.by_then;
-          none = none_between b.break s.due us (each_by (λ u. (u < inv.low) ⊎ ((u ≡ s.due) × (is_break s ≡ true))) (λ u. (u < b.break) ⊎ (u ≡ s.due)) us (λ u old. told b u old) inv.earlier);
+          none = none_between b.break s.due us (each_by us (λ u old. told b u old) inv.earlier);
         },
       )
     where
       told : (b : Between inv.low s.due script) (u : ℕ) → (u < inv.low) ⊎ ((u ≡ s.due) × (is_break s ≡ true)) → (u < b.break) ⊎ (u ≡ s.due)
-      told b u (inl low) = inl (omega (arith, low, b.from))
+      told b u (inl low) = inl (omega arith)
       told b u (inr here) = inr here.0
 
   -- ---- and at each such
 
-  some_end : (at_last : Bool) (d n t : ℕ) → Some (if at_last then d else d + (n - 1)) ≡ Some t → d ≤ t
-  some_end true d n t is = let same : d ≡ t = cc in omega (arith, same)
-  some_end false d n t is = let same : d + (n - 1) ≡ t = cc in omega (arith, same)
+  some_end : (at_last : Bool) {d : ℕ} (n : ℕ) {t : ℕ} → Some (if at_last then d else d + (n - 1)) ≡ Some t → d ≤ t
+  some_end true {d} n {t} is = let same : d ≡ t = cc in omega arith
+  some_end false {d} n {t} is = let same : d + (n - 1) ≡ t = cc in omega arith
 
-  not_sooner : (o : Option Cycle) (stopped : Bool) (s : HostState) (t : ℕ) → chance_by o stopped s ≡ Some t → s.due ≤ t
-  not_sooner None stopped s t is = let same : s.due ≡ t = cc in omega (arith, same)
-  not_sooner (Some c) true s t is = some_end (is_last_tick (cycle_of s) s.due) s.due (ticks_at s c) t is
-  not_sooner (Some c) false s t is = cc
+  not_sooner : (o : Option Cycle) (stopped : Bool) (s : HostState) {t : ℕ} → chance_by o stopped s ≡ Some t → s.due ≤ t
+  not_sooner None stopped s {t} is = let same : s.due ≡ t = cc in omega arith
+  not_sooner (Some c) true s is = some_end _ _ is
+  not_sooner (Some c) false s is = cc
 
   first_pending : (us : List ℕ) (s : HostState) (t : ℕ) → Inv script us s → chance s ≡ Some t → IsFirst script t us → bus_break_pending s.bus.bus t ≡ true
   first_pending us s t inv at first =
-      let high : s.due ≤ t = not_sooner (next_cycle s.cpu) (halted s.cpu) s t at in
-      let more : below inv.low script < breaks_until t script = more_below inv.low t first.break script first.pressed (from inv.latest) first.behind in
+      let high : s.due ≤ t = not_sooner _ _ s at in
+      let more = more_below inv.low script first.pressed (from inv.latest) first.behind in
       let here : s.bus.bus.board.breaks < breaks_until t script = subst (λ n. n < breaks_until t script) (sym inv.taken) more in
       ap (λ events. nat_lt s.bus.bus.board.breaks (breaks_until t events)) inv.script_is ∙ grind (arith, nat_tests, here)
     where
       sooner : (u : ℕ) → inv.low ≡ suc u → (u < first.break) ⊎ (u ≡ t) → inv.low ≤ first.break
-      sooner u is (inl low) = omega (arith, is, low)
+      sooner u is (inl low) = omega arith
       sooner u is (inr same) =
-          let high : s.due ≤ t = not_sooner (next_cycle s.cpu) (halted s.cpu) s t at in absurd (omega (arith, is, same, high, inv.reached))
+          let high : s.due ≤ t = not_sooner _ _ s at in absurd (omega arith)
 
       from : (inv.low ≡ 0) ⊎ ((u : ℕ) × Within u us × (inv.low ≡ suc u)) → inv.low ≤ first.break
-      from (inl none) = omega (arith, none)
-      from (inr (u, has, is)) = sooner u is (here_of (λ v. (v < first.break) ⊎ (v ≡ t)) u us (each_between first.break t us first.none) has)
+      from (inl none) = omega arith
+      from (inr (u, has, is)) = sooner u is (here_of (λ v. (v < first.break) ⊎ (v ≡ t)) us (each_between first.break t us first.none) has)
 
-  chance_some : (c : Cycle) (s : HostState) (t : ℕ) → next_cycle s.cpu ≡ Some c → halted s.cpu ≡ false → chance s ≡ Some t → ⊥
-  chance_some c s t next runs at =
+  chance_some : {c : Cycle} (s : HostState) {t : ℕ} → next_cycle s.cpu ≡ Some c → halted s.cpu ≡ false → chance s ≡ Some t → ⊥
+  chance_some {c} s next runs at =
       let none : chance s ≡ None = ap (λ o. chance_by o (halted s.cpu) s) next ∙ ap (λ b. chance_by (Some c) b s) runs in cc
 
   breaks_by : (o : Option Cycle) (us : List ℕ) (s : HostState) (t : ℕ) → next_cycle s.cpu ≡ o → Inv script us s → chance s ≡ Some t → bus_break_pending s.bus.bus t ≡ true → BreaksAt t s
@@ -571,10 +565,10 @@ module _ (keeps : HostKeepsCycles) (script : List Event) where
             let same : s.due ≡ t = cc in
             inl (is, same)
         | inr free ↦ elim (cases_Bool (halted s.cpu)) [
-          | inr runs ↦ absurd (chance_some c s t next runs at)
+          | inr runs ↦ absurd (chance_some s next runs at)
           | inl stopped ↦
-              let first : s.due % cycle_of s ≡ 0 = on_first s c inv.on free next in
-              let here : Some (s.due + (ticks_at s c - 1)) ≡ Some t = sym (halted_chance s c next stopped first) ∙ at in
+              let first : s.due % cycle_of s ≡ 0 = on_first s inv.on free next in
+              let here = sym (halted_chance s next stopped first) ∙ at in
               let same : s.due + (ticks_at s c - 1) ≡ t = cc in
               inr (λ a.
               let there = begins_there s a c next stopped free first (ap (λ u. bus_break_pending s.bus.bus u) same ∙ pending) in
@@ -597,10 +591,10 @@ pub breaks_begin : HostKeepsCycles → BreaksBegin
 breaks_begin keeps = record {
   only = λ clock roms d0 d1 script plugs tube answers is.
       let p = with_tube tube (power_on clock roms d0 d1 script plugs) in
-      only_first keeps script (chances answers p) (run answers p) (all_steps keeps script answers [] p (at_first keeps script clock roms d0 d1 plugs tube)) is;
+      only_first keeps script _ (run answers p) (all_steps keeps script answers [] p (at_first keeps script clock roms d0 d1 plugs tube)) is;
   each = λ clock roms d0 d1 script plugs tube answers t at first.
       let p = with_tube tube (power_on clock roms d0 d1 script plugs) in
       let s = run answers p in
       let inv = all_steps keeps script answers [] p (at_first keeps script clock roms d0 d1 plugs tube) in
-      breaks_by keeps script (next_cycle s.cpu) (chances answers p) s t refl inv at (first_pending keeps script (chances answers p) s t inv at first);
+      breaks_by keeps script _ (chances answers p) s t refl inv at (first_pending keeps script _ s t inv at first);
 }

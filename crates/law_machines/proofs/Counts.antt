@@ -28,15 +28,15 @@ goes_on (Some op ∷ x ∷ seen) r sequence is = absurd (false≢true is)
 goes_on (Some op ∷ []) r Reset is = absurd (false≢true is)
 goes_on (Some op ∷ []) r Nmi is = absurd (false≢true is)
 goes_on (Some op ∷ []) r Irq is = absurd (false≢true is)
-goes_on (Some op ∷ []) r Instruction is = read_again (row_at Nmos op) r (Some op ∷ []) is
+goes_on (Some op ∷ []) r Instruction is = read_again _ r _ is
 
 -- a part that is halted never comes to an end
 pub never_ends : (part : Part) (c : State) → halted part c ≡ true → is_none (next_cycle part c) ≡ false
 never_ends Nmos c is = goes_on c.seen c.regs c.sequence is
 never_ends Cmos c is = absurd (false≢true is)
 
-pub stays : (part : Part) (c : State) (byte : ℕ) → halted part c ≡ true → after_byte part c byte ≡ c
-stays part c byte is = ap (λ b. cond b c (record c { seen = c.seen ++ shown_byte (next_cycle part c) byte ∷ [] })) is
+pub stays : (part : Part) {c : State} (byte : ℕ) → halted part c ≡ true → after_byte part c byte ≡ c
+stays part byte is = rw is
 
 -- else each cycle adds to what was seen
 pub one_more : (part : Part) (c : State) (byte : ℕ) → halted part c ≡ false → length (after_byte part c byte).seen ≡ length c.seen + 1
@@ -54,7 +54,7 @@ same_sequence part c byte = by_test (halted part c) c (shown_byte (next_cycle pa
 lacks : (cs : List Cycle) (n : ℕ) → slice_get cs n ≡ None → length cs ≤ n
 lacks [] n none = omega arith
 lacks (c ∷ cs) zero none = cc
-lacks (c ∷ cs) (suc n) none = let rest : length cs ≤ n = lacks cs n none in omega (arith, rest)
+lacks (c ∷ cs) (suc n) none = let rest : length cs ≤ n = lacks cs n none in omega arith
 
 -- an instruction that is over has seen at least as many cycles as the table has
 pub table : (part : Part) (least : (op : ℕ) → op < 256 → TakesAtLeast part op) (c : State) (op : ℕ) (seen : List (Option ℕ)) (row : Row) →
@@ -62,11 +62,10 @@ pub table : (part : Part) (least : (op : ℕ) → op < 256 → TakesAtLeast part
 table part least c op seen row instruction over saw low is =
     let all : row.cycles ≤ length (accesses part Instruction c.regs (Some op ∷ seen)) =
     (subst (λ o. IfSome o (λ (w : Row). (r : Regs) (more : List (Option ℕ)) → w.cycles ≤ length (accesses part Instruction r (Some op ∷ more)))) is (least op low)) c.regs seen in
-    let none : slice_get (accesses part Instruction c.regs (Some op ∷ seen)) (length c.seen) ≡ None =
-    ap (λ q. slice_get (accesses part q c.regs (Some op ∷ seen)) (length c.seen)) (sym instruction)
+    let none = ap (λ q. slice_get (accesses part q c.regs (Some op ∷ seen)) (length c.seen)) (sym instruction)
     ∙ ap (λ xs. slice_get (accesses part c.sequence c.regs xs) (length c.seen)) (sym saw) ∙ over in
     omega (arith, all, lacks (accesses part Instruction c.regs (Some op ∷ seen)) (length c.seen) none)
 
 -- the cycles of a step and those behind it
 pub cycle_more : (before here more last : ℕ) → here ≡ before + 1 → more + here ≡ last → 1 + more + before ≡ last
-cycle_more before here more last one rest = omega (arith, one, rest)
+cycle_more before here more last one rest = omega arith

@@ -30,15 +30,15 @@ waits true false = refl
 waits false even = refl
 
 due_tail : (over : Bool) (t n : ℕ) → 1 ≤ n → (if over then t + (n - 1) else t + n) + (if over then 1 else 0) ≡ t + n
-due_tail true t n some = omega (arith, some)
-due_tail false t n some = omega (arith, some)
+due_tail true t n some = omega arith
+due_tail false t n some = omega arith
 
 some_ticks : (clock : Clock) (t : ℕ) (c : Cycle) → cycle_ticks clock t c ≡ host clock * (1 + wait clock t c)
-some_ticks clock t c = ap (λ k. host clock * k) (waits (stretched_in memory_map (address c)) (t / host clock % 2 == 0))
+some_ticks clock t c = rw (waits (stretched_in memory_map (address c)) (t / host clock % 2 == 0))
 
 -- a step that is an access
 plain : (s : HostState) (a : Option Answer) → IsAccess s → next_state s a ≡ after_step (next_cycle s.cpu) (host_closed s (s.due + 1)) a
-plain s a is = ap (λ b. if b then after_break (host_closed s (s.due + 1)) else after_step (next_cycle s.cpu) (host_closed s (s.due + 1)) a) is.0
+plain s a is = rw is.0
 
 -- an access hands the processor a byte
 handed : (o : Option Cycle) (s : HostState) (a : Option Answer) → is_none o ≡ false → (byte : ℕ) × ((after_step o s a).cpu ≡ after_byte s.cpu byte)
@@ -53,8 +53,8 @@ given_one s a is =
 never : (answers : List (Option Answer)) (s : HostState) → halted s.cpu ≡ true → AllAccess answers s → is_none (next_cycle (run answers s).cpu) ≡ false
 never [] s is all = never_ends Nmos s.cpu is
 never (a ∷ answers) s is all =
-    let same : (next_state s a).cpu ≡ s.cpu = (given_one s a all.0).1 ∙ stays Nmos s.cpu (given_one s a all.0).0 is in
-    never answers (next_state s a) (ap halted same ∙ is) all.1
+    let same : (next_state s a).cpu ≡ s.cpu = (given_one s a all.0).1 ∙ stays Nmos _ is in
+    never answers _ (ap halted same ∙ is) all.1
 
 -- So what comes to its end was never halted.
 runs_on : (answers : List (Option Answer)) (s : HostState) → AllAccess answers s → next_cycle (run answers s).cpu ≡ None → halted s.cpu ≡ false
@@ -76,8 +76,8 @@ one (Some c) s a some runs =
     let n = cycle_ticks clock s.due c in
     let over = is_none (next_cycle (after_byte s.cpu (byte_of s.bus s.due a c))) in
     let pending = bus_break_pending s.bus.bus (s.due + (n - 1)) in
-    let none : (pending && halted s.cpu) ≡ false = ap (λ h. pending && h) runs ∙ never_both pending in
-    let is : n ≡ host clock * (1 + wait clock s.due c) = some_ticks clock s.due c in
+    let none = ap (λ h. pending && h) runs ∙ never_both pending in
+    let is = some_ticks clock s.due c in
     let all : host clock * (1 + wait clock s.due c) + 0 ≡ host clock * (1 + wait clock s.due c) = omega arith in
     ap (λ (b : Bool). (if b || over then s.due + (n - 1) else s.due + n) + (if over then 1 else 0)) none
     ∙ due_tail over s.due n (omega (arith, cycle-ticks clock s.due c, some-host clock))
@@ -118,22 +118,22 @@ total a (b ∷ answers) s all over =
 at_look : (s : HostState) (answers : List (Option Answer)) → 0 < length answers → AllAccess answers s → next_cycle (run answers s).cpu ≡ None →
     (run answers s).due + 1 ≡ s.due + takes (clock_of s.bus.bus) s.due (cycles answers s)
 unfolding tail
-at_look s [] some all over = absurd (omega (arith, some))
+at_look s [] some all over = absurd (omega arith)
 at_look s (a ∷ answers) some all over =
     let x = run (a ∷ answers) s in
     ap (λ o. x.due + (if is_none o then 1 else 0)) (sym over) ∙ total a answers s all over
 
 -- a look takes a tick, and so does a break step
-behind_by : (breaks : Bool) (o : Option Cycle) (s : HostState) (a : Option Answer) → o ≡ None → (if breaks then after_break s else after_step o s a).due ≡ s.due + 1
-behind_by true o s a over = refl
-behind_by false o s a over = ap (λ x. (after_step x s a).due) over
+behind_by : (breaks : Bool) {o : Option Cycle} (s : HostState) (a : Option Answer) → o ≡ None → (if breaks then after_break s else after_step o s a).due ≡ s.due + 1
+behind_by true s a over = refl
+behind_by false s a over = rw over
 
 pub host_takes : HostTakes
 host_takes = record {
   look = at_look;
   behind = λ s answers answer some all over.
       let x = run answers s in
-      behind_by (is_break x) (next_cycle x.cpu) (host_closed x (x.due + 1)) answer over ∙ at_look s answers some all over;
+      behind_by (is_break x) _ answer over ∙ at_look s answers some all over;
 }
 
 -- ---- How many cycles.
@@ -151,18 +151,17 @@ count (a ∷ answers) s all over =
       | inl is ↦ absurd (true≢false (sym (ap is_none over) ∙ never (a ∷ answers) s is all))
       | inr runs ↦
           ap (λ n. n + length s.cpu.seen) (one_cycle (next_cycle s.cpu) (cycles answers x) all.0.1)
-          ∙ cycle_more (length s.cpu.seen) (length x.cpu.seen) (length (cycles answers x)) (length (run answers x).cpu.seen)
-          (ap (λ c. length c.seen) (given_one s a all.0).1 ∙ one_more Nmos s.cpu (given_one s a all.0).0 runs) (count answers x all.1 over)
+          ∙ cycle_more _ _ _ _
+          (ap (λ c. length c.seen) (given_one s a all.0).1 ∙ one_more Nmos s.cpu _ runs) (count answers x all.1 over)
     ]
 
 one_sequence : (answers : List (Option Answer)) (s : HostState) → AllAccess answers s → (run answers s).cpu.sequence ≡ s.cpu.sequence
 one_sequence [] s all = refl
 one_sequence (a ∷ answers) s all =
-    one_sequence answers (next_state s a) all.1 ∙ ap (λ c. c.sequence) (given_one s a all.0).1 ∙ same_sequence Nmos s.cpu (given_one s a all.0).0
+    one_sequence answers (next_state s a) all.1 ∙ ap (λ c. c.sequence) (given_one s a all.0).1 ∙ same_sequence Nmos s.cpu _
 
 pub host_table : (least : (op : ℕ) → op < 256 → TakesAtLeast Nmos op) → HostTakesTheTable
 host_table least s answers op seen row instruction fresh all over saw low is =
-    let enough : row.cycles ≤ length (run answers s).cpu.seen =
-    table Nmos least (run answers s).cpu op seen row (one_sequence answers s all ∙ instruction) over saw low is in
+    let enough = table Nmos least _ op seen row (one_sequence answers s all ∙ instruction) over saw low is in
     let none : length s.cpu.seen ≡ 0 = ap length fresh in
     omega (arith, enough, none, count answers s all over)

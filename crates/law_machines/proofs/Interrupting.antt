@@ -29,8 +29,8 @@ use Rattle.law_machines.specs.HostTicks as host_run
 use Rattle.law_machines.specs.Interrupts.{interrupt_at, para_begins, ParaGoesOn, no_lines, NmisNeverFall, para_nmis, ParaInterrupts, HostGoesOn, RisesNeverFall, host_nmis, HostInterrupts}
 use Rattle.law_machines.proofs.Beginning.{over_not_begun, access_not_begun, same_choice}
 
-not_begun : (q : Option Sequence) (sequence : Sequence) → q ≡ None → q ≡ Some sequence → ⊥
-not_begun q sequence none is = cc
+not_begun : {q : Option Sequence} {sequence : Sequence} → q ≡ None → q ≡ Some sequence → ⊥
+not_begun none is = cc
 
 -- ---- the second processor
 
@@ -43,52 +43,52 @@ abbrev para_after : Option Cycle → para.ParaState → Option Answer → para.P
 para_after o s a = at.after_step Cmos para_wiring o s a
 
 -- a step behind which nothing begins takes nothing
-look_takes : (resets prst : Bool) (h r t : para.ParaState) (x y : ℕ) (q p : Sequence) → Took x y h → begun r.cpu ≡ Some q → begun t.cpu ≡ Some p →
+look_takes : (resets prst : Bool) {h : para.ParaState} (r t : para.ParaState) {x y : ℕ} {q p : Sequence} → Took x y h → begun r.cpu ≡ Some q → begun t.cpu ≡ Some p →
     begun (if resets then (if prst then h else r) else t).cpu ≡ None → Took x y (if resets then (if prst then h else r) else t)
-look_takes true true h r t x y q p th br bt none = th
-look_takes true false h r t x y q p th br bt none = absurd (not_begun _ q none br)
-look_takes false prst h r t x y q p th br bt none = absurd (not_begun _ p none bt)
+look_takes true true r t th br bt none = th
+look_takes true false r t th br bt none = absurd (not_begun none br)
+look_takes false prst r t th br bt none = absurd (not_begun none bt)
 
-step_takes : (o : Option Cycle) (s : para.ParaState) (a : Option Answer) (x y : ℕ) → Took x y s → begun (para_after o s a).cpu ≡ None → Took x y (para_after o s a)
-step_takes (Some c) s a x y took none = record { resets = took.resets; nmis = took.nmis }
-step_takes None s a x y took none =
+step_takes : (o : Option Cycle) {s : para.ParaState} (a : Option Answer) {x y : ℕ} → Took x y s → begun (para_after o s a).cpu ≡ None → Took x y (para_after o s a)
+step_takes (Some c) a took none = record { resets = took.resets; nmis = took.nmis }
+step_takes None {s} a took none =
     let l = lines_in a in
-    look_takes (not (l.resets == s.bus.resets)) l.prst _ _ _ x y _ _ (record { resets = took.resets; nmis = took.nmis }) refl refl none
+    look_takes (not (l.resets == s.bus.resets)) l.prst _ _ (record { resets = took.resets; nmis = took.nmis }) refl refl none
 
 goes_on : (answers : List (Option Answer)) (s : para.ParaState) (x y : ℕ) → Took x y s → ParaGoesOn answers s → Took x y (para_run.run answers s)
 goes_on [] s x y took on = took
 goes_on (a ∷ answers) s x y took on =
-    goes_on answers (para_step.next_state s a) x y (step_takes (cmos.next_cycle s.cpu) (closed_to para_wiring s (s.due + 1)) a x y (record { resets = took.resets; nmis = took.nmis }) on.0) on.1
+    goes_on answers (para_step.next_state s a) x y (step_takes (cmos.next_cycle s.cpu) a (record { resets = took.resets; nmis = took.nmis }) on.0) on.1
 
 -- a look at which something begins takes both counts
-same_count : (a b : ℕ) → not (a == b) ≡ false → b ≡ a
-same_count a b is = grind arith
+same_count : {a b : ℕ} → not (a == b) ≡ false → b ≡ a
+same_count is = grind arith
 
-begins_takes : (resets prst : Bool) (h r t : para.ParaState) (l : Lines) (x : ℕ) (q : Sequence) → begun h.cpu ≡ None → Took l.resets l.nmis r → Took x l.nmis t →
+begins_takes : (resets prst : Bool) (h : para.ParaState) {r t : para.ParaState} (l : Lines) {x : ℕ} {q : Sequence} → begun h.cpu ≡ None → Took l.resets l.nmis r → Took x l.nmis t →
     (resets ≡ false → x ≡ l.resets) → begun (if resets then (if prst then h else r) else t).cpu ≡ Some q → Took l.resets l.nmis (if resets then (if prst then h else r) else t)
-begins_takes true true h r t l x q none tr tk same is = absurd (not_begun _ q none is)
-begins_takes true false h r t l x q none tr tk same is = tr
-begins_takes false prst h r t l x q none tr tk same is = record { resets = tk.resets ∙ same refl; nmis = tk.nmis }
+begins_takes true true h l none tr tk same is = absurd (not_begun none is)
+begins_takes true false h l none tr tk same is = tr
+begins_takes false prst h l none tr tk same is = record { resets = tk.resets ∙ same refl; nmis = tk.nmis }
 
-look_took : (o : Option Cycle) (s : para.ParaState) (l : Lines) (q : Sequence) → o ≡ None → begun s.cpu ≡ None → begun (para_after o s (Some (Seen l))).cpu ≡ Some q →
+look_took : (o : Option Cycle) (s : para.ParaState) (l : Lines) {q : Sequence} → o ≡ None → begun s.cpu ≡ None → begun (para_after o s (Some (Seen l))).cpu ≡ Some q →
     Took l.resets l.nmis (para_after o s (Some (Seen l)))
-look_took (Some c) s l q over none is = cc
-look_took None s l q over none is =
-    begins_takes (not (l.resets == s.bus.resets)) l.prst _ _ _ l s.bus.resets q none (record { resets = refl; nmis = refl }) (record { resets = refl; nmis = refl })
-    (same_count l.resets s.bus.resets) is
+look_took (Some c) s l over none is = cc
+look_took None s l over none is =
+    begins_takes _ l.prst _ l none (record { resets = refl; nmis = refl }) (record { resets = refl; nmis = refl })
+    (same_count) is
 
 -- what begins at a look, by what was taken
-look_choice : (resets prst : Bool) (h r t : para.ParaState) (q : Sequence) → begun h.cpu ≡ None → begun r.cpu ≡ Some Reset → begun t.cpu ≡ Some q →
+look_choice : (resets prst : Bool) (h r t : para.ParaState) {q : Sequence} → begun h.cpu ≡ None → begun r.cpu ≡ Some Reset → begun t.cpu ≡ Some q →
     begun (if resets then (if prst then h else r) else t).cpu ≡ (if resets then (if prst then None else Some Reset) else Some q)
-look_choice true true h r t q eh er et = eh
-look_choice true false h r t q eh er et = er
-look_choice false prst h r t q eh er et = et
+look_choice true true h r t eh er et = eh
+look_choice true false h r t eh er et = er
+look_choice false prst h r t eh er et = et
 
-look_begins : (o : Option Cycle) (s : para.ParaState) (before l : Lines) → o ≡ None → begun s.cpu ≡ None → Took before.resets before.nmis s →
+look_begins : (o : Option Cycle) {s : para.ParaState} (before l : Lines) → o ≡ None → begun s.cpu ≡ None → Took before.resets before.nmis s →
     begun (para_after o s (Some (Seen l))).cpu ≡ para_begins before l (cmos.after s.cpu)
-look_begins (Some c) s before l over none took = cc
-look_begins None s before l over none took =
-    look_choice (not (l.resets == s.bus.resets)) l.prst _ _ _ _ none refl refl
+look_begins (Some c) before l over none took = cc
+look_begins None {s} before l over none took =
+    look_choice (not (l.resets == s.bus.resets)) l.prst _ _ _ none refl refl
     ∙ ap (λ (n : ℕ). if not (l.resets == n) then (if l.prst then None else Some Reset)
     else Some (sequence_at_look (not (l.nmis == s.bus.nmis)) l.pirq (cmos.after s.cpu))) took.resets
     ∙ ap (λ (n : ℕ). if not (l.resets == before.resets) then (if l.prst then None else Some Reset)
@@ -96,31 +96,31 @@ look_begins None s before l over none took =
     ∙ ap (λ (q : Sequence). if not (l.resets == before.resets) then (if l.prst then None else Some Reset) else Some q)
     (same_choice (not (l.nmis == before.nmis)) l.pirq (cmos.after s.cpu))
 
-only_look : (o : Option Cycle) (s : para.ParaState) (a : Option Answer) (q : Sequence) → begun (para_after o s a).cpu ≡ Some q → o ≡ None
-only_look None s a q is = refl
-only_look (Some c) s a q is = absurd (not_begun _ q (access_not_begun Cmos s.cpu (byte_of para_wiring s.bus s.due a c)) is)
+only_look : (o : Option Cycle) (s : para.ParaState) (a : Option Answer) {q : Sequence} → begun (para_after o s a).cpu ≡ Some q → o ≡ None
+only_look None s a is = refl
+only_look (Some c) s a is = absurd (not_begun (access_not_begun Cmos s.cpu _) is)
 
-para_next : (t : para.ParaState) (before l : Lines) → Took before.resets before.nmis t → cmos.next_cycle t.cpu ≡ None →
+para_next : {t : para.ParaState} (before l : Lines) → Took before.resets before.nmis t → cmos.next_cycle t.cpu ≡ None →
     begun (para_step.next_state t (Some (Seen l))).cpu ≡ para_begins before l (cmos.after t.cpu)
-para_next t before l took over =
-    look_begins (cmos.next_cycle t.cpu) (closed_to para_wiring t (t.due + 1)) before l over (over_not_begun Cmos t.cpu over) (record { resets = took.resets; nmis = took.nmis })
+para_next {t} before l took over =
+    look_begins _ before l over (over_not_begun Cmos t.cpu over) (record { resets = took.resets; nmis = took.nmis })
 
 -- each NMI sequence has a rise of its own
-choice_few : (rose irq : Bool) (r : Regs) (seen taken : ℕ) → rose ≡ not (seen == taken) → taken ≤ seen → taken + weight 1 (is_nmi (Some (sequence_at_look rose irq r))) ≤ seen
-choice_few true irq r seen taken is low = grind arith
-choice_few false true r seen taken is low = by_flag (has_flag r.p INTERRUPT)
+choice_few : (rose irq : Bool) (r : Regs) {seen taken : ℕ} → rose ≡ not (seen == taken) → taken ≤ seen → taken + weight 1 (is_nmi (Some (sequence_at_look rose irq r))) ≤ seen
+choice_few true irq r is low = grind arith
+choice_few false true r {seen} {taken} is low = by_flag (has_flag r.p INTERRUPT)
   where
     by_flag : (b : Bool) → taken + weight 1 (is_nmi (Some (if not b then Irq else Instruction))) ≤ seen
-    by_flag true = omega (arith, low)
-    by_flag false = omega (arith, low)
-choice_few false false r seen taken is low = omega (arith, low)
+    by_flag true = omega arith
+    by_flag false = omega arith
+choice_few false false r is low = omega arith
 
-look_few : (resets prst : Bool) (h r t : para.ParaState) (taken seen : ℕ) → taken ≤ seen → begun h.cpu ≡ None → h.bus.nmis ≡ taken → begun r.cpu ≡ Some Reset → r.bus.nmis ≡ seen →
+look_few : (resets prst : Bool) (h r t : para.ParaState) {taken seen : ℕ} → taken ≤ seen → begun h.cpu ≡ None → h.bus.nmis ≡ taken → begun r.cpu ≡ Some Reset → r.bus.nmis ≡ seen →
     taken + weight 1 (is_nmi (begun t.cpu)) ≤ t.bus.nmis →
     taken + weight 1 (is_nmi (begun (if resets then (if prst then h else r) else t).cpu)) ≤ (if resets then (if prst then h else r) else t).bus.nmis
-look_few true true h r t taken seen low bh nh br nr few = rw (bh, nh) (omega arith)
-look_few true false h r t taken seen low bh nh br nr few = rw (br, nr) (omega (arith, low))
-look_few false prst h r t taken seen low bh nh br nr few = few
+look_few true true h r t low bh nh br nr few = rw (bh, nh) (omega arith)
+look_few true false h r t low bh nh br nr few = rw (br, nr) (omega (arith, low))
+look_few false prst h r t low bh nh br nr few = few
 
 step_few : (o : Option Cycle) (s : para.ParaState) (a : Option Answer) → (o ≡ None → begun s.cpu ≡ None) → (o ≡ None → s.bus.nmis ≤ (lines_in a).nmis) →
     s.bus.nmis + weight 1 (is_nmi (begun (para_after o s a).cpu)) ≤ (para_after o s a).bus.nmis
@@ -128,8 +128,8 @@ step_few (Some c) s a none low =
     rw (access_not_begun Cmos s.cpu (byte_of para_wiring s.bus s.due a c)) (omega arith)
 step_few None s a none low =
     let l = lines_in a in
-    look_few (not (l.resets == s.bus.resets)) l.prst _ _ _ s.bus.nmis l.nmis (low refl) (none refl) refl refl refl
-    (choice_few (not (l.nmis == s.bus.nmis)) l.pirq (cmos.after s.cpu) l.nmis s.bus.nmis refl (low refl))
+    look_few (not (l.resets == s.bus.resets)) l.prst _ _ _ (low refl) (none refl) refl refl refl
+    (choice_few (not (l.nmis == s.bus.nmis)) l.pirq (cmos.after s.cpu) refl (low refl))
 
 all_few : (answers : List (Option Answer)) (s : para.ParaState) → NmisNeverFall answers s → s.bus.nmis + para_nmis answers s ≤ (para_run.run answers s).bus.nmis
 all_few [] s low = omega arith
@@ -142,15 +142,14 @@ all_few (a ∷ answers) s low =
 
 pub para_interrupts : ParaInterrupts
 para_interrupts = record {
-  only = λ s a sequence is. only_look (cmos.next_cycle s.cpu) (closed_to para_wiring s (s.due + 1)) a sequence is;
+  only = λ s a sequence is. only_look _ _ a is;
   next = λ s before sequence answers l over is on none.
       let u = para_step.next_state s (Some (Seen before)) in
-      let took : Took before.resets before.nmis u =
-      look_took (cmos.next_cycle s.cpu) (closed_to para_wiring s (s.due + 1)) before sequence over (over_not_begun Cmos s.cpu over) is in
-      para_next (para_run.run answers u) before l (goes_on answers u before.resets before.nmis took on) none;
+      let took = look_took _ _ before over (over_not_begun Cmos s.cpu over) is in
+      para_next before l (goes_on answers u before.resets before.nmis took on) none;
   first = λ clock rom answers l on none.
       let p = para.power_on clock rom in
-      para_next (para_run.run answers p) no_lines l (goes_on answers p 0 0 (record { resets = refl; nmis = refl }) on) none;
+      para_next no_lines l (goes_on answers p 0 0 (record { resets = refl; nmis = refl }) on) none;
   few = λ s answers low. all_few answers s low;
 }
 
@@ -159,10 +158,10 @@ para_interrupts = record {
 abbrev host_after : Bool → Option Cycle → host.HostState → Option Answer → host.HostState
 host_after breaks o s a = if breaks then host_step.after_break s else host_step.after_step o s a
 
-host_only : (breaks : Bool) (o : Option Cycle) (s : host.HostState) (a : Option Answer) (q : Sequence) → begun (host_after breaks o s a).cpu ≡ Some q → (breaks ≡ true) ⊎ (o ≡ None)
-host_only true o s a q is = inl refl
-host_only false None s a q is = inr refl
-host_only false (Some c) s a q is = absurd (not_begun _ q (access_not_begun Nmos s.cpu (host_step.byte_of s.bus s.due a c)) is)
+host_only : (breaks : Bool) (o : Option Cycle) (s : host.HostState) (a : Option Answer) {q : Sequence} → begun (host_after breaks o s a).cpu ≡ Some q → (breaks ≡ true) ⊎ (o ≡ None)
+host_only true o s a is = inl refl
+host_only false None s a is = inr refl
+host_only false (Some c) s a is = absurd (not_begun (access_not_begun Nmos s.cpu _) is)
 
 host_stays : (breaks : Bool) (o : Option Cycle) (s : host.HostState) (a : Option Answer) → begun (host_after breaks o s a).cpu ≡ None → (host_after breaks o s a).bus.nmis ≡ s.bus.nmis
 host_stays true o s a none = cc
@@ -173,7 +172,7 @@ host_takes : (breaks : Bool) (o : Option Cycle) (s : host.HostState) (a : Option
     (host_after breaks o s a).bus.nmis ≡ bus_nmis (host_after breaks o s a).bus.bus
 host_takes true o s a q is = refl
 host_takes false None s a q is = refl
-host_takes false (Some c) s a q is = absurd (not_begun _ q (access_not_begun Nmos s.cpu (host_step.byte_of s.bus s.due a c)) is)
+host_takes false (Some c) s a q is = absurd (not_begun (access_not_begun Nmos s.cpu _) is)
 
 host_goes_on : (answers : List (Option Answer)) (s : host.HostState) → HostGoesOn answers s → (host_run.run answers s).bus.nmis ≡ s.bus.nmis
 host_goes_on [] s on = refl
@@ -194,7 +193,7 @@ host_step_few : (breaks : Bool) (o : Option Cycle) (s : host.HostState) (a : Opt
 host_step_few true o s a low = omega (arith, low)
 host_step_few false (Some c) s a low = rw (access_not_begun Nmos s.cpu (host_step.byte_of s.bus s.due a c)) (omega arith)
 host_step_few false None s a low =
-    choice_few (not (bus_nmis s.bus.bus == s.bus.nmis)) (bus_irq s.bus.bus || (lines_in a).hirq) (nmos.after s.cpu) (bus_nmis s.bus.bus) s.bus.nmis refl low
+    choice_few (not (bus_nmis s.bus.bus == s.bus.nmis)) (bus_irq s.bus.bus || (lines_in a).hirq) (nmos.after s.cpu) refl low
 
 host_few : (answers : List (Option Answer)) (s : host.HostState) → RisesNeverFall answers s → s.bus.nmis + host_nmis answers s ≤ (host_run.run answers s).bus.nmis
 host_few [] s low = omega arith
@@ -207,7 +206,7 @@ host_few (a ∷ answers) s low =
 
 pub host_interrupts : HostInterrupts
 host_interrupts = record {
-  only = λ s a sequence is. host_only (host_step.is_break s) (nmos.next_cycle s.cpu) (host_step.host_closed s (s.due + 1)) a sequence is;
+  only = λ s a sequence is. host_only (host_step.is_break s) (nmos.next_cycle s.cpu) (host_step.host_closed s (s.due + 1)) a is;
   next = λ s a sequence answers l is on over plain.
       let u = host_step.next_state s a in
       let t = host_run.run answers u in

@@ -1,5 +1,5 @@
 -- The ticks of the second processor, access by access.
-use Rattle.std.proofs.Common.{◌≡◌, ◌∙◌, sym, ap, refl, ℕ, ◌+◌, ◌-◌, ◌*◌, ◌<◌, ◌≤◌, ◌==◌, Bool, true, false, not, List, [], ◌∷◌, ◌++◌, length, arith}
+use Rattle.std.proofs.Common.{◌≡◌, ◌∙◌, sym, ap, refl, ℕ, ◌+◌, ◌-◌, ◌*◌, ◌<◌, ◌==◌, Bool, true, false, not, List, [], ◌∷◌, ◌++◌, length, arith}
 use Rattle.std.specs.Prelude.{Option, None, Some, is_none, if◌then◌else◌}
 use Rattle.std.proofs.lemmas.Bool.{true≢false}
 use Rattle.beeb_bits.specs.declared.clock.Clock.{Clock}
@@ -41,12 +41,12 @@ clock_by None s a some = absurd (true≢false some)
 clock_by (Some c) s a some = refl
 
 same_clock : (s : ParaState) (a : Option Answer) → is_none (next_cycle s.cpu) ≡ false → (next_state s a).bus.clock ≡ s.bus.clock
-same_clock s a some = clock_by (next_cycle s.cpu) (closed_to para_wiring s (s.due + 1)) a some
+same_clock s a some = clock_by _ _ a some
 
 -- a cycle before the others
-one_before : (c : Clock) (due at rest all : ℕ) → at ≡ due + para c → all ≡ 1 + rest → at + para c * rest ≡ due + para c * all
-one_before Three due at rest all here one = omega (arith, here, one)
-one_before Four due at rest all here one = omega (arith, here, one)
+one_before : (c : Clock) (due : ℕ) {at : ℕ} (rest : ℕ) {all : ℕ} → at ≡ due + para c → all ≡ 1 + rest → at + para c * rest ≡ due + para c * all
+one_before Three due rest here one = omega arith
+one_before Four due rest here one = omega arith
 
 one_cycle : (o : Option Cycle) (cs : List Cycle) → is_none o ≡ false → length (the_cycle o ++ cs) ≡ 1 + length cs
 one_cycle None cs some = absurd (true≢false some)
@@ -56,22 +56,22 @@ total : (a : Option Answer) (answers : List (Option Answer)) (s : ParaState) →
     (run (a ∷ answers) s).due + tail (run (a ∷ answers) s) ≡ s.due + para s.bus.clock * length (cycles (a ∷ answers) s)
 unfolding tail
 total a [] s all =
-    let one : length (the_cycle (next_cycle s.cpu) ++ []) ≡ 1 + 0 = one_cycle (next_cycle s.cpu) [] all.0 in
+    let one = one_cycle (next_cycle s.cpu) [] all.0 in
     first s a all.0 ∙ omega arith ∙ ap (λ n. s.due + para s.bus.clock * n) (sym one)
 total a (b ∷ answers) s all =
     let x = next_state s a in
     let rest = length (cycles (b ∷ answers) x) in
     let none : x.due ≡ x.due + 0 = omega arith in
-    let here : x.due ≡ s.due + para s.bus.clock = none ∙ ap (λ o. x.due + (if o then 1 else 0)) (sym all.1.0) ∙ first s a all.0 in
-    let one : length (cycles (a ∷ b ∷ answers) s) ≡ 1 + rest = one_cycle (next_cycle s.cpu) (cycles (b ∷ answers) x) all.0 in
+    let here = none ∙ ap (λ o. x.due + (if o then 1 else 0)) (sym all.1.0) ∙ first s a all.0 in
+    let one = one_cycle (next_cycle s.cpu) (cycles (b ∷ answers) x) all.0 in
     total b answers x all.1
     ∙ ap (λ (c : Clock). x.due + para c * rest) (same_clock s a all.0)
-    ∙ one_before s.bus.clock s.due x.due rest (length (cycles (a ∷ b ∷ answers) s)) here one
+    ∙ one_before s.bus.clock s.due rest here one
 
 at_look : (s : ParaState) (answers : List (Option Answer)) → 0 < length answers → AllAccess answers s → next_cycle (run answers s).cpu ≡ None →
     (run answers s).due + 1 ≡ s.due + para s.bus.clock * length (cycles answers s)
 unfolding tail
-at_look s [] some all over = absurd (omega (arith, some))
+at_look s [] some all over = absurd (omega arith)
 at_look s (a ∷ answers) some all over =
     let x = run (a ∷ answers) s in
     ap (λ o. x.due + (if is_none o then 1 else 0)) (sym over) ∙ total a answers s all
@@ -93,7 +93,7 @@ para_takes = record {
   look = at_look;
   behind = λ s answers answer some all over free.
       let x = run answers s in
-      looks_on (next_cycle x.cpu) (closed_to para_wiring x (x.due + 1)) answer over free ∙ at_look s answers some all over;
+      looks_on _ _ answer over free ∙ at_look s answers some all over;
 }
 
 -- ---- How many cycles.
@@ -111,8 +111,8 @@ count [] s all = omega arith
 count (a ∷ answers) s all =
     let x = next_state s a in
     ap (λ n. n + length s.cpu.seen) (one_cycle (next_cycle s.cpu) (cycles answers x) all.0)
-    ∙ cycle_more (length s.cpu.seen) (length x.cpu.seen) (length (cycles answers x)) (length (run answers x).cpu.seen)
-    (ap (λ (c : cpu.State). length c.seen) (given_one s a all.0).1 ∙ one_more Cmos s.cpu (given_one s a all.0).0 refl) (count answers x all.1)
+    ∙ cycle_more _ _ _ _
+    (ap (λ (c : cpu.State). length c.seen) (given_one s a all.0).1 ∙ one_more Cmos s.cpu _ refl) (count answers x all.1)
 
 one_sequence : (answers : List (Option Answer)) (s : ParaState) → AllAccess answers s → (run answers s).cpu.sequence ≡ s.cpu.sequence
 one_sequence [] s all = refl
@@ -122,7 +122,6 @@ one_sequence (a ∷ answers) s all =
 
 pub para_table : (least : (op : ℕ) → op < 256 → TakesAtLeast Cmos op) → ParaTakesTheTable
 para_table least s answers op seen row instruction begun all over saw low is =
-    let enough : row.cycles ≤ length (run answers s).cpu.seen =
-    table Cmos least (run answers s).cpu op seen row (one_sequence answers s all ∙ instruction) over saw low is in
+    let enough = table Cmos least _ op seen row (one_sequence answers s all ∙ instruction) over saw low is in
     let none : length s.cpu.seen ≡ 0 = ap length begun in
     omega (arith, enough, none, count answers s all)

@@ -20,8 +20,8 @@ use Rattle.law_machines.specs.ParaTicks.{run}
 use Rattle.law_machines.specs.BootRom.{reaches_by, reaches, IsReset, NoReset, IsSinceReset, RomIsIn}
 use Rattle.law_machines.proofs.Beginning.{over_not_begun, access_not_begun}
 
-not_reset : (q : Option Sequence) → q ≡ None → q ≡ Some Reset → ⊥
-not_reset q none is = cc
+not_reset : {q : Option Sequence} → q ≡ None → q ≡ Some Reset → ⊥
+not_reset none is = cc
 
 -- no look but one that finds a reset begins one
 no_other : (nmi irq : Bool) (r : Regs) → Some (sequence_at_look nmi irq r) ≡ Some Reset → ⊥
@@ -37,11 +37,11 @@ and_true true = refl
 and_true false = refl
 
 -- a look at which no reset begins leaves the boot ROM as it is
-look_leaves : (resets prst in_before : Bool) (h r t : ParaState) → h.bus.rom_in ≡ in_before → t.bus.rom_in ≡ in_before → IsReset r →
+look_leaves : (resets prst : Bool) {in_before : Bool} (h r t : ParaState) → h.bus.rom_in ≡ in_before → t.bus.rom_in ≡ in_before → IsReset r →
     (IsReset (if resets then (if prst then h else r) else t) → ⊥) → (if resets then (if prst then h else r) else t).bus.rom_in ≡ (in_before && true)
-look_leaves true true in_before h r t eh et is free = eh ∙ and_true in_before
-look_leaves true false in_before h r t eh et is free = absurd (free is)
-look_leaves false prst in_before h r t eh et is free = et ∙ and_true in_before
+look_leaves true true {in_before} h r t eh et is free = eh ∙ and_true in_before
+look_leaves true false h r t eh et is free = absurd (free is)
+look_leaves false prst {in_before} h r t eh et is free = et ∙ and_true in_before
 
 step_leaves : (o : Option Cycle) (s : ParaState) (a : Option Answer) → (IsReset (after_step Cmos para_wiring o s a) → ⊥) →
     (after_step Cmos para_wiring o s a).bus.rom_in ≡ (s.bus.rom_in && not (reaches_by o))
@@ -49,7 +49,7 @@ step_leaves (Some (Read at)) s a free = refl
 step_leaves (Some (Write at byte)) s a free = refl
 step_leaves None s a free =
     let l = lines_in a in
-    look_leaves (not (l.resets == s.bus.resets)) l.prst s.bus.rom_in _ _ _ refl refl refl free
+    look_leaves _ l.prst _ _ _ refl refl refl free
 
 -- where a reset begins the boot ROM is in
 look_resets : (resets prst : Bool) (h r t : ParaState) → (IsReset h → ⊥) → r.bus.rom_in ≡ true → (IsReset t → ⊥) →
@@ -60,17 +60,17 @@ look_resets false prst h r t nh er nt is = absurd (nt is)
 
 reset_by : (o : Option Cycle) (s : ParaState) (a : Option Answer) → (o ≡ None → begun s.cpu ≡ None) →
     IsReset (after_step Cmos para_wiring o s a) → (after_step Cmos para_wiring o s a).bus.rom_in ≡ true
-reset_by (Some c) s a over is = absurd (not_reset _ (access_not_begun Cmos s.cpu (byte_of para_wiring s.bus s.due a c)) is)
+reset_by (Some c) s a over is = absurd (not_reset (access_not_begun Cmos s.cpu (byte_of para_wiring s.bus s.due a c)) is)
 reset_by None s a over is =
     let l = lines_in a in
-    look_resets (not (l.resets == s.bus.resets)) l.prst _ _ _ (not_reset (begun s.cpu) (over refl)) refl
+    look_resets (not (l.resets == s.bus.resets)) l.prst _ _ _ (not_reset (over refl)) refl
     (no_other (not (l.nmis == s.bus.nmis)) l.pirq (after s.cpu)) is
 
 -- so it is at each state of a run at which one begins
 resets_in : (answers : List (Option Answer)) (s : ParaState) → (IsReset s → s.bus.rom_in ≡ true) → IsReset (run answers s) → (run answers s).bus.rom_in ≡ true
 resets_in [] s here is = here is
 resets_in (a ∷ answers) s here is =
-    resets_in answers (next_state s a) (reset_by (next_cycle s.cpu) (closed_to para_wiring s (s.due + 1)) a (over_not_begun Cmos s.cpu)) is
+    resets_in answers _ (reset_by _ _ a (over_not_begun Cmos s.cpu)) is
 
 joined : (b c d : Bool) → ((b && not c) && not d) ≡ (b && not (c || d))
 joined b true d = by b
@@ -106,26 +106,26 @@ record Last (s : ParaState) (answers : List (Option Answer)) : Type 0 where
   pub none : NoReset after (run before s)
 
 later : (s : ParaState) (a : Option Answer) (answers : List (Option Answer)) → Last (next_state s a) answers → Last s (a ∷ answers)
-later s a answers l = record { before = a ∷ l.before; after = l.after; split = ap (λ xs. a ∷ xs) l.split; reset = l.reset; none = l.none }
+later s a answers l = record { before = a ∷ l.before; after = l.after; split = rw l.split; reset = l.reset; none = l.none }
 
-find : (answers : List (Option Answer)) (s : ParaState) → Last s answers ⊎ NoReset answers s
-find [] s = inr tt
-find (a ∷ answers) s = found (find answers (next_state s a)) (by_test (begun (next_state s a).cpu))
+find : (answers : List (Option Answer)) {s : ParaState} → Last s answers ⊎ NoReset answers s
+find [] = inr tt
+find (a ∷ answers) {s} = found (find answers) (by_test (begun (next_state s a).cpu))
   where
     found : Last (next_state s a) answers ⊎ NoReset answers (next_state s a) → IsReset (next_state s a) ⊎ (IsReset (next_state s a) → ⊥) → Last s (a ∷ answers) ⊎ NoReset (a ∷ answers) s
     found (inl l) here = inl (later s a answers l)
     found (inr none) (inl is) = inl (later s a answers (record { before = []; after = answers; split = refl; reset = is; none = none }))
     found (inr none) (inr not) = inr (not, none)
 
-last_of : (clock : Clock) (rom : List ℕ) (answers : List (Option Answer)) → Last (power_on clock rom) answers ⊎ NoReset answers (power_on clock rom) →
+last_of : {clock : Clock} {rom : List ℕ} {answers : List (Option Answer)} → Last (power_on clock rom) answers ⊎ NoReset answers (power_on clock rom) →
     (before : List (Option Answer)) × (after : List (Option Answer)) × (answers ≡ before ++ after) × IsSinceReset clock rom before after
-last_of clock rom answers (inl l) = (l.before, l.after, l.split, record { reset = l.reset; last = l.none })
-last_of clock rom answers (inr none) = ([], answers, refl, record { reset = refl; last = none })
+last_of (inl l) = (l.before, l.after, l.split, record { reset = l.reset; last = l.none })
+last_of {answers} (inr none) = ([], answers, refl, record { reset = refl; last = none })
 
 pub rom_is_in : RomIsIn
 rom_is_in = record {
   where_in = λ clock rom before after is.
       let s = run before (power_on clock rom) in
-      since after s is.last ∙ ap (λ b. b && not (reaches after s)) (resets_in before (power_on clock rom) (λ at. refl) is.reset);
-  each = λ clock rom answers. last_of clock rom answers (find answers (power_on clock rom));
+      since after s is.last ∙ ap (λ b. b && not (reaches after s)) (resets_in before _ (λ at. refl) is.reset);
+  each = λ clock rom answers. last_of (find answers);
 }
