@@ -3,7 +3,7 @@ use Rattle.std.proofs.Common.{◌≡◌, ◌≤◌, ◌<◌, ◌+◌, ◌-◌, �
 use Rattle.std.proofs.Math.Nat.{add-mod_right, div-add-mod, mod-lt, mod_self, mul-add-mod_self_left, mul-le-mul_left}
 use Rattle.std.proofs.lemmas.Bool.{cases_lt}
 use Rattle.beeb_bits.specs.declared.clock.Clock.{Clock}
-use Rattle.beeb_bits.specs.Clock.{micro, micro-is-two, some-host, few-host}
+use Rattle.beeb_bits.specs.Clock.{micro, micro-is-two, some-host}
 use Rattle.host_devices.specs.CodePlayback.{IsOnTime}
 
 -- one begins u ticks after the one before

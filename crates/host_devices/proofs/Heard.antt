@@ -6,7 +6,7 @@ use Rattle.std.specs.Int.{div_ceil}
 use Rattle.beeb_bits.specs.declared.clock.Clock.{Clock}
 use Rattle.beeb_bits.specs.declared.clock.Clock.TheVariants.{Three, Four}
 use Rattle.beeb_bits.specs.Clock.{micro}
-use Rattle.host_devices.specs.Sound.{moment_at, with_write, last_moment_from, last_moment, IsInTime}
+use Rattle.host_devices.specs.Sound.{moment_at, with_write, last_moment_from, IsInTime}
 use Rattle.host_devices.proofs.Beats.{some-micro}
 
 -- as ticks go by

@@ -1,6 +1,6 @@
 -- What the events of a script make of the tables of keys and levels.
-use Rattle.std.proofs.Common.{◌≡◌, ◌∙◌, sym, refl, ap, ℕ, ◌+◌, ◌<◌, ◌≤◌, ◌==◌, ◌&&◌, zero, suc, Bool, true, false}
-use Rattle.std.proofs.Common.{cond, nat_le, inl, inr, List, [], ◌∷◌, ◌++◌, replicate, length, drop, get_or, Option, Some, None, if◌then◌else◌, arith}
+use Rattle.std.proofs.Common.{◌≡◌, ◌∙◌, sym, refl, ap, ℕ, ◌+◌, ◌<◌, ◌≤◌, ◌==◌, zero, suc, Bool, true, false}
+use Rattle.std.proofs.Common.{cond, inl, inr, List, [], ◌∷◌, ◌++◌, replicate, length, drop, get_or, Option, Some, None, if◌then◌else◌, arith}
 use Rattle.std.proofs.lemmas.Bool.{cases_eq, ne_eqb, eq-eqb, le-leb, lt-leb}
 use Rattle.std.proofs.lemmas.List.{drop_more, append_assoc, append-nil, get_or-set_same, get_or-set_other}
 use Rattle.std.proofs.lemmas.List.Sums.{sum_by-append}
@@ -8,7 +8,7 @@ use Rattle.std.specs.Prelude.{unwrap_or, slice_set}
 use Rattle.keyboard.specs.Keys.{Keys, keys_of}
 use Rattle.key_script.specs.declared.Event.{Event}
 use Rattle.key_script.specs.declared.What.{What}
-use Rattle.key_script.specs.declared.What.TheVariants.{Down, Up, Shot, Break, Level}
+use Rattle.key_script.specs.declared.What.TheVariants.{Down, Up, Level}
 use Rattle.key_script.specs.Events.{tick_of, is_shot, shots, NeverFallsFrom, IsInRange}
 use Rattle.key_script.specs.Last.{said_by, or_earlier, last_said}
 use Rattle.key_script.specs.Keys.{made_of}
@@ -17,12 +17,6 @@ use Rattle.host_devices.specs.Devices.{keys_at, levels_at}
 use Rattle.host_devices.specs.Shots.{shots_at, shot_at}
 use Rattle.host_devices.specs.CodePlayback.{keys_after, level_turned, level_of, IsLeft, HasLeft, IsPlayed}
 use Rattle.host_devices.specs.declared.playback.Playback.{Playback}
-
-leb-above : {a b : ℕ} → b < a → nat_le a b ≡ false
-leb-above h = grind arith
-
-leb-at : {a b : ℕ} → a ≤ b → nat_le a b ≡ true
-leb-at h = grind arith
 
 -- what never falls from a tick does not from an earlier one
 pub not-before : {from t : ℕ} (left : List Event) → NeverFallsFrom from left → t ≤ from → NeverFallsFrom t left
@@ -68,7 +62,7 @@ pub left-more : {A : Type 0} (kind : ℕ → What → Option A) (first : A) (scr
     place < length script → tick_of (get_or script place d) + 1 ≡ t →
     ((i : ℕ) → unwrap_or (kind i ((get_or script place d).what)) (table i) ≡ on i) → IsLeft kind first script (drop place script) table t →
     IsLeft kind first script (drop (place + 1) script) on t
-left-more {A} kind first script {place} d table low at turns left = λ k i late.
+left-more kind first script {place} d table low at turns left = λ k i late.
     let e = get_or script place d in
     let rest = drop (place + 1) script in
     let now : said_by (kind i) k e ≡ kind i e.what = ap (λ (b : Bool). if b then kind i e.what else None) (le-leb (tick_of e) k (omega (arith, at, late))) in
@@ -82,7 +76,7 @@ left-later kind first script left table h low = λ k i late. h k i (omega (arith
 -- at the last tick that is done each thing is as the table says
 said-is : {A : Type 0} (kind : ℕ → What → Option A) (first : A) (script left : List Event) (table : ℕ → A) (t event : ℕ) → IsLeft kind first script left table (t + 1) →
     NeverFallsFrom event left → t + 1 ≤ event → (i : ℕ) → table i ≡ unwrap_or (last_said (kind i) t script) first
-said-is {A} kind first script left table t event h later early = λ i.
+said-is kind first script left table t event h later early = λ i.
     sym (rw (none-said (kind i) event t left later (omega (arith, early))) at (h t i (omega arith)))
 
 pub keys-are : (script left : List Event) (keys : Keys) (t event : ℕ) → IsLeft made_of false script left keys (t + 1) → NeverFallsFrom event left → t + 1 ≤ event →
@@ -144,7 +138,7 @@ pub record AreTaken (script : List Event) (place k : ℕ) (frame : List ℕ) (so
 
 pub taken-more : {script : List Event} {place k : ℕ} (d : Event) {frame : List ℕ} {old new all : List (List ℕ)} → place < length script → tick_of (get_or script place d) ≡ k →
     new ≡ (if is_shot (get_or script place d) then old ++ frame ∷ [] else old) → AreTaken script place k frame old all → AreTaken script (place + 1) k frame new all
-taken-more {script} {place} {k} d {frame} {old} {new} low at is so =
+taken-more {script} d {frame} {old} low at is so =
     record { has_left = has-more script d low at so.has_left; taken = shot-more script d frame old low at is ∙ so.taken }
 
 -- there is memory for the shots that are left behind it

@@ -1,9 +1,8 @@
 -- Which breaks of a script are before a place, and which are up to a tick.
-use Rattle.std.proofs.Common.{◌≡◌, ◌∙◌, sym, refl, ap, ℕ, ◌+◌, ◌<◌, ◌≤◌, ◌&&◌, zero, suc, Bool, true, false, cond, nat_le}
+use Rattle.std.proofs.Common.{◌≡◌, ◌∙◌, sym, refl, ℕ, ◌+◌, ◌<◌, ◌≤◌, ◌&&◌, zero, suc, Bool, true, false, cond, nat_le}
 use Rattle.std.proofs.Common.{nat_lt, zero-add, List, [], ◌∷◌, ◌++◌, All, length, drop, take, get_or, filter, count_by, Some, None, inl, inr, arith}
-use Rattle.std.specs.Prelude.{unwrap_or}
 use Rattle.std.proofs.lemmas.Bool.{cases_lt, cases_Bool, le-leb, lt-leb}
-use Rattle.std.proofs.lemmas.List.{drop_all, drop_more, take_more, take-append-drop}
+use Rattle.std.proofs.lemmas.List.{drop_more, take-append-drop}
 use Rattle.std.proofs.lemmas.List.Elements.{filter-append, All-drop}
 use Rattle.std.proofs.lemmas.List.Sums.{sum_by-cons, sum_by-take-drop, length-filter}
 use Rattle.std.proofs.Math.Bool.{and-true, and-false}
@@ -95,7 +94,7 @@ drop-order (suc place) from [] order = tt
 drop-order (suc place) from (e ∷ events) order = drop-order place (tick_of e) events order.1
 
 pub none-behind : {t : ℕ} (place : ℕ) (events : List Event) → NeverFallsFrom 0 events → t < break_tick (drop place events) → count_by (is_break_by t) (drop place events) ≡ 0
-none-behind {t} place events order low = none-left 0 (drop place events) (drop-order place 0 events order) low
+none-behind place events order low = none-left 0 (drop place events) (drop-order place 0 events order) low
 
 -- the events behind the last that has come
 pub none-come : {t place : ℕ} (events : List Event) (d : Event) → NeverFallsFrom 0 events → place < length events → t < tick_of (get_or events place d) →

@@ -1,5 +1,5 @@
 -- The devices while the two lines between them stay what they are.
-use Rattle.std.proofs.Common.{◌≡◌, ◌∙◌, sym, ap, refl, ℕ, zero, suc, ◌+◌, ◌-◌, ◌≤◌, ◌||◌, Bool, List, [], ◌∷◌, ◌++◌, replicate, subst, arith}
+use Rattle.std.proofs.Common.{◌≡◌, ◌∙◌, sym, ap, refl, ℕ, zero, suc, ◌+◌, ◌-◌, ◌≤◌, Bool, List, [], ◌∷◌, ◌++◌, replicate, subst, arith}
 use Rattle.std.proofs.Math.Nat.{zero-add, suc-add}
 use Rattle.std.proofs.lemmas.List.{length-append, length-replicate}
 use Rattle.saa5050.specs.Shapes.{Font}

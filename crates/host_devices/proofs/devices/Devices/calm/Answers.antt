@@ -1,4 +1,4 @@
-use Rattle.std.proofs.Common.{◌≡◌, ◌≤◌, ◌∙◌, ap, subst, sym, Bool, arith}
+use Rattle.std.proofs.Common.{◌≡◌, ◌≤◌, ◌∙◌, ap, subst, sym, arith}
 use Rattle.keyboard.specs.Keys.{keys_of}
 use Rattle.keyboard.specs.Latch.{screen_size}
 use Rattle.raster.specs.Clock.{vsync_of}

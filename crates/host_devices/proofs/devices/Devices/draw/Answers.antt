@@ -1,6 +1,5 @@
-use Rattle.std.proofs.Common.{◌≡◌, ◌+◌, ◌-◌, subst, sym, ℕ, arith}
+use Rattle.std.proofs.Common.{◌≡◌, ◌+◌, ◌-◌, subst, ℕ, arith}
 use Rattle.keyboard.specs.Latch.{screen_size}
-use Rattle.raster.specs.State as picture
 use Rattle.raster.specs.Clock as beam
 use Rattle.raster.specs.Reads.{StaysInSync, ReadsFrom}
 use Rattle.host_devices.proofs.devices.Devices.draw.Goals as goal

@@ -1,11 +1,8 @@
-use Rattle.std.proofs.Common.{◌≡◌, ◌≤◌, ◌+◌, ◌∙◌, ◌-◌, ap, refl, subst, sym, Bool, ℕ, suc, arith}
+use Rattle.std.proofs.Common.{◌≡◌, ◌≤◌, ◌+◌, ◌∙◌, ◌-◌, ap, refl, sym, ℕ, suc, arith}
 use Rattle.keyboard.specs.Keys.{keys_of}
 use Rattle.keyboard.specs.Latch.{screen_size}
 use Rattle.raster.specs.Clock as beam
-use Rattle.raster.specs.Reads.{StaysInSync}
-use Rattle.adc7002.specs.State as adc
 use Rattle.adc7002.specs.Registers.{cb1}
-use Rattle.adc7002.specs.Calm.{KeepsItsLine}
 use Rattle.host_devices.specs.Devices.{Devices, system_pins, microseconds}
 use Rattle.host_devices.specs.CodePicture.{Behind, drawn}
 use Rattle.host_devices.proofs.Steady.{line_stays_on, gone_apart, pictures_add, stays_ahead, sync_owed}

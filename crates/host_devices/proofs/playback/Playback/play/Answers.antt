@@ -1,10 +1,4 @@
-use Rattle.std.proofs.Common.{◌+◌, sym, subst, drop, false, List, arith}
-use Rattle.key_script.specs.declared.Event.{Event}
-use Rattle.keyboard.specs.Keys.{keys_of}
-use Rattle.key_script.specs.Keys.{made_of}
-use Rattle.key_script.specs.Levels.{level_given}
-use Rattle.key_script.specs.Events.{NeverFallsFrom}
-use Rattle.host_devices.specs.CodePlayback.{IsLeft, HasLeft, level_of}
+use Rattle.std.proofs.Common.{◌+◌, drop, arith}
 use Rattle.host_devices.proofs.Played.{not-before}
 use Rattle.host_devices.proofs.playback.Playback.play.Goals as goal
 
