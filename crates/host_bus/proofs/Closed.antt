@@ -90,11 +90,15 @@ one-beat a k to m begins none low =
     let first : to - k ≡ suc (to - (k + 1)) = omega (arith, low) in
     let parts : to - (k + 1) ≡ (behind - (k + 1)) + (to - (k + u)) = omega (arith, low, some) in
     let still = idle a (behind - (k + 1)) (k + 1) (k + 1) to behind next on (λ i late high. none i (omega (arith, late)) (omega (arith, high))) (omega arith) (omega (arith, low, some)) in
-    rw (first, beat-tick a k m begins (none k (omega arith) low), parts, ← ticks-add a (behind - (k + 1)) (to - (k + u)) (k + 1) next, still)
-    (shifted a (to - (k + u)) ((k + 1) + (behind - (k + 1))) (k + u) next (elim (cases_lt to (k + u)) [
+    ap (λ (n : ℕ). ticks a n k m) first
+    ∙ ap (λ (x : Moving). ticks a (to - (k + 1)) (k + 1) x) (beat-tick a k m begins (none k (omega arith) low))
+    ∙ ap (λ (n : ℕ). ticks a n (k + 1) next) parts
+    ∙ sym (ticks-add a (behind - (k + 1)) (to - (k + u)) (k + 1) next)
+    ∙ ap (λ (x : Moving). ticks a (to - (k + u)) ((k + 1) + (behind - (k + 1))) x) still
+    ∙ shifted a (to - (k + u)) ((k + 1) + (behind - (k + 1))) (k + u) next (elim (cases_lt to (k + u)) [
       | inl less ↦ inl (omega (arith, less))
       | inr more ↦ inr (omega (arith, more, some))
-    ]))
+    ])
 
 -- Ticks from a microsecond on, up to a tick before which n of them begin, in which there is no shot and keys and levels stay what they are.
 pub beats : (a : Around) (n k to : ℕ) (keys : Keys) (levels : List ℕ) (m : Moving) → k % micro a.clock ≡ 0 → HasNone a.script k to →
@@ -199,14 +203,14 @@ calm-lines b n t h calm early few = elim (cases_lt b.next t) [
       let low : b.closed ≤ b.next = omega (arith, h.on_time.least, h.on_time.first, h.played.early) in
       let on = later-devices (record b { closed = b.next }) n t (valid-later b b.next h low (omega arith)) refl less early (omega (arith, less, few)) calm in
       let same : board_closed (board_seen (record b { closed = b.next })) t ≡ board_closed (board_seen b) t =
-      rw (seen-later b b.next h low (omega arith)) (board-again (board_seen b) b.next t (omega (arith, less))) in
-      rw (← same) on
+      ap (λ (s : BoardState). board_closed s t) (seen-later b b.next h low (omega arith)) ∙ board-again (board_seen b) b.next t (omega (arith, less)) in
+      (ap (λ (s : BoardState). board_irq s) (sym same) ∙ on.0, ap (λ (s : BoardState). board_nmis s) (sym same) ∙ on.1)
   | inr more ↦ elim (cases_lt t b.closed) [
     | inl before ↦
         let same = board-still (board_seen b) t (omega (arith, before)) in
-        rw same (refl, refl)
+        (ap (λ (s : BoardState). board_irq s) same, ap (λ (s : BoardState). board_nmis s) same)
     | inr behind ↦
         let same = seen-later b t h behind more in
-        rw (← same) (refl, refl)
+        (ap (λ (s : BoardState). board_irq s) (sym same), ap (λ (s : BoardState). board_nmis s) (sym same))
   ]
 ]
