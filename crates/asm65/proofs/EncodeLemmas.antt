@@ -1,5 +1,5 @@
 -- The second pass line by line.
-use Rattle.std.proofs.Common.{◌≡◌, ◌∙◌, sym, refl, ℕ, ◌+◌, ◌-◌, ◌*◌, ◌≤◌, List, [], ◌∷◌, ◌++◌, length, map, replicate, Bool, true, false, ◌||◌, nat_lt, Option, Some, None, append_assoc, append-nil, length-append, add-zero, arith}
+use Rattle.std.proofs.Common.{◌≡◌, ◌∙◌, sym, refl, ℕ, ◌+◌, ◌-◌, ◌*◌, ◌≤◌, List, [], ◌∷◌, ◌++◌, length, map, replicate, Bool, true, false, ◌||◌, nat_lt, Option, Some, None, append_assoc, length-append, add-zero, arith}
 use Rattle.std.specs.List.{concat, list_any}
 use Rattle.std.proofs.lemmas.List.{length-map, length-replicate}
 use Rattle.std.proofs.lemmas.Bool.Decides.{nat_tests}
@@ -10,7 +10,7 @@ use Rattle.asm65.specs.declared.AsmError.{AsmError}
 use Rattle.asm_lines.specs.Syntax.{Value, Operand, Line, Statement, instruction, org, bytes, words}
 use Rattle.asm65.specs.Placement.{Placed, line_names, or_later, mode_of, mode_bytes, is_past, is_long, first_fault, first_pass, after_statement, after_line, placed_from}
 use Rattle.asm65.specs.Source.{Labels, value_in, word_bytes, instruction_bytes, statement_bytes, second_fault, second_pass, line_bytes}
-use Rattle.asm65.specs.Passes.{IsEncoded, IsProgram, line_is_long, program_bytes}
+use Rattle.asm65.specs.Passes.{IsEncoded, line_is_long, program_bytes}
 use Rattle.asm65.proofs.EmitLemmas.{neither, length-encoded}
 use Rattle.asm65.proofs.PassLemmas.{Clear, clear_line}
 
@@ -101,7 +101,7 @@ line_reaches part number names labels at (Some line) within clear =
     let r = reaches part labels at line.statement within clear.within clear.short in (r.0, r.1, clear.short)
 
 module _ (part : Part) (labels : Labels) (all : List Placed) (number origin at : ℕ) (done : List ℕ) (line : Option Line) (lines : List (Option Line))
-  (so_far : Encoded part labels all number origin at done (placed_from part at (line ∷ lines))) where
+    (so_far : Encoded part labels all number origin at done (placed_from part at (line ∷ lines))) where
   encoded_next : (at + length (line_bytes part labels at line) ≡ after_line part at line) × (after_line part at line ≤ 65536) × (line_is_long part at line ≡ false)
   encoded_next =
       let faults = no_fault (first_fault part (number + 1) so_far.names at line) _ so_far.clear in

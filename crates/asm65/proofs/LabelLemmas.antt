@@ -1,5 +1,5 @@
 -- Labels in a map, in a list, and by name alone.
-use Rattle.std.proofs.Common.{◌≡◌, ◌∙◌, sym, refl, ap, ℕ, List, [], ◌∷◌, ◌++◌, map, Bool, true, false, cond, Option, Some, is_some, ◌||◌, List, option_map, not, option_to_list, subst}
+use Rattle.std.proofs.Common.{◌≡◌, ◌∙◌, sym, refl, ap, ℕ, List, [], ◌∷◌, ◌++◌, map, Bool, true, false, cond, Option, Some, is_some, ◌||◌, List, option_map, not, option_to_list}
 use Rattle.std.specs.Borrow.{Bor}
 use Rattle.std.specs.List.{list_any}
 use Rattle.std.specs.Map.{lookup}

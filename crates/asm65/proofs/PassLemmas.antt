@@ -1,5 +1,5 @@
 -- The passes line by line.
-use Rattle.std.proofs.Common.{◌≡◌, ◌∙◌, sym, refl, ap, ℕ, ◌+◌, List, [], ◌∷◌, ◌++◌, map, Bool, true, false, not, Option, Some, None, is_some, option_to_list, if◌then◌else◌, append_assoc, append-nil, ◌⊎◌, inl, inr}
+use Rattle.std.proofs.Common.{◌≡◌, ◌∙◌, sym, refl, ap, ℕ, ◌+◌, List, [], ◌∷◌, ◌++◌, map, Bool, true, false, not, Option, Some, None, is_some, option_to_list, if◌then◌else◌, append_assoc, ◌⊎◌, inl, inr}
 use Rattle.std.specs.Borrow.{Bor}
 use Rattle.std.specs.BTreeMap.{BTreeMap}
 use Rattle.std.specs.List.{list_any}
@@ -11,7 +11,7 @@ use Rattle.asm_lines.specs.Syntax.{Line}
 use Rattle.asm65.specs.Placement.{Placed, is_among, line_names, or_else, formless, is_past, is_long, first_fault, first_pass, after_line, placed_from}
 use Rattle.asm65.specs.Source.{Labels, labels_of, label_with, line_labels, value_of_label}
 use Rattle.asm65.specs.CodeLabels.{labels_in, names_in}
-use Rattle.asm65.specs.Passes.{IsPlaced, IsLabelled}
+use Rattle.asm65.specs.Passes.{IsPlaced}
 use Rattle.asm65.proofs.LabelLemmas.{names, is_among-names, names_in-seen}
 use Rattle.asm65.proofs.SameLabels.{any-same}
 
@@ -105,7 +105,7 @@ names-line at (Some line) = by_label line.label
     by_label (Some name) = refl
 
 module _ (part : Part) (all : List Placed) (number : ℕ) (map : BTreeMap (Bor (List ℕ)) ℕ) (at : ℕ) (line : Option Line) (lines : List (Option Line))
-  (passed : Passed part all number map (placed_from part at (line ∷ lines))) where
+    (passed : Passed part all number map (placed_from part at (line ∷ lines))) where
   fault-same : first_fault part (number + 1) (names_in map) at line ≡ first_fault part (number + 1) (names passed.before) at line
   fault-same = first_fault-same part (number + 1) (names_in map) (names passed.before) at line (among_before map passed.before passed.same)
 

@@ -1,11 +1,10 @@
 -- What the passes have found is what the source means.
-use Rattle.std.proofs.Common.{◌≡◌, ◌∙◌, sym, refl, ℕ, ◌+◌, ◌≤◌, List, [], ◌∷◌, false, ◌||◌, nat_lt, Option, Some, None, Ok, Err, arith}
+use Rattle.std.proofs.Common.{◌≡◌, ◌∙◌, sym, refl, ℕ, ◌+◌, ◌≤◌, List, [], ◌∷◌, false, Option, Some, None, Ok, Err, arith}
 use Rattle.std.specs.Borrow.{Bor}
 use Rattle.std.specs.BTreeMap.{BTreeMap}
-use Rattle.std.proofs.lemmas.Bool.Decides.{nat_tests}
 use Rattle.op_table.specs.declared.Part.{Part}
 use Rattle.asm65.specs.declared.AsmError.{AsmError}
-use Rattle.asm_lines.specs.Syntax.{Line, Statement, instruction, org, bytes, words, parsed_text}
+use Rattle.asm_lines.specs.Syntax.{Line, Statement, org, parsed_text}
 use Rattle.asm65.specs.Placement.{origin_of, first_origin, is_past, placed_from, first_pass, first_fault, after_line}
 use Rattle.asm65.specs.Source.{labels_of, second_pass, source}
 use Rattle.asm65.specs.CodeLabels.{labels_in}
