@@ -1,6 +1,6 @@
 -- What the board's code does, as closing.
 use Rattle.std.proofs.Common.{◌≡◌, ◌∙◌, sym, refl, ap, inl, inr, ◌⊎◌, ℕ, zero, suc, ◌+◌, ◌-◌, ◌*◌}
-use Rattle.std.proofs.Common.{◌/◌, ◌<◌, ◌≤◌, ◌%◌, subst, ◌==◌, min, max, Bool, List, ◌++◌, drop, replicate, if◌then◌else◌, arith}
+use Rattle.std.proofs.Common.{◌/◌, ◌<◌, ◌≤◌, ◌%◌, subst, ◌==◌, min, max, List, drop, if◌then◌else◌, arith}
 use Rattle.std.proofs.lemmas.Bool.{cases_lt, eq-eqb, ne_eqb}
 use Rattle.std.proofs.Math.Nat.{add-mod_right, add-mul-mod_self_right, lt_of_mul-lt-mul_right}
 use Rattle.std.proofs.lemmas.Grind.{div_ceil_times}
@@ -12,7 +12,7 @@ use Rattle.beeb_bits.specs.declared.clock.Clock.{Clock}
 use Rattle.host_devices.specs.Devices.{Devices, keys_at, levels_at, microsecond, microseconds, last_frame, devices_ask}
 use Rattle.host_devices.specs.Apart.{AreCalm}
 use Rattle.host_devices.specs.Shots.{shots_at, shot_at}
-use Rattle.host_bus.specs.Board.{BoardState, Around, Moving, around, moving_part, closed_with, beat, tick, ticks, board_closed, board_irq, board_nmis}
+use Rattle.host_bus.specs.Board.{BoardState, Around, Moving, around, moving_part, closed_with, tick, ticks, board_closed, board_irq, board_nmis}
 use Rattle.host_bus.specs.CodeBoard.{board_seen, around_by, moving, IsValid}
 use Rattle.host_devices.specs.CodePlayback.{IsPlayed, IsOnTime}
 use Rattle.host_bus.specs.Closing.{ticks-add, board-again, board-still}
