@@ -155,9 +155,6 @@ list_law ticks =
 ended_ok : (bytes : List ℕ) {x : Session × ℕ} {s : Session} → with_nothing_behind bytes x ≡ Ok s → (length bytes ≡ x.1) × (x.0 ≡ s)
 ended_ok bytes {x} {s} e = let p = if_ok (eqb (length bytes) x.1) (BadField x.1) e in (eqb-true (length bytes) x.1 p.0, p.1)
 
-abbrev session_of : Header → Parts → List Entry → Session
-session_of h p es = record { clock = h.clock; ticks = h.ticks; plugs = h.plugs; parts = p.parts; dsd = p.dsd; entries = es }
-
 pub file_only : OnlyFileReads
 unfolding file file_of
 file_only bytes s are e =
