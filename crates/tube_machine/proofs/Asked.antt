@@ -1,4 +1,5 @@
--- An instruction whose last access is the Tube's and is answered in passing.
+-- An instruction whose last access is the Tube's and is answered in passing, and a branch behind it that leads back: where the registers are then as they
+-- were, the same comes again.
 use Rattle.std.proofs.Common.{◌≡◌, ◌≤◌, ◌<◌, ◌∙◌, ◌+◌, ◌-◌, ◌*◌, ◌&&◌, refl, sym, ap, subst, ℕ, zero, suc, Bool, true, false, is_none, Option, Some, IsSome, MatchOption, arith, if◌then◌else◌}
 use Rattle.op_table.specs.declared.names.Part.{Part}
 use Rattle.cpu_alu.specs.declared.Cycle.{Cycle}
@@ -8,13 +9,14 @@ use Rattle.cpu_alu.specs.Flags.{has_flag}
 use Rattle.cpu_core.specs.declared.Sequence.TheVariants.{Instruction}
 use Rattle.cpu_core.specs.State as cpu
 use Rattle.cpu_core.specs.Sequences.{next_cycle, after_byte, halted, after, fresh}
+use Rattle.cpu_whole.specs.Whole.{IsDone}
 use Rattle.cpu_whole.specs.Outside.{IsOutside, access_of, outcome}
 use Rattle.cpu_whole.specs.declared.outside.LastAccess.{LastAccess}
 use Rattle.tube_chip.specs.declared.Answer.TheVariants.{Byte}
 use Rattle.tube_chip.specs.declared.Lines.{Lines}
 use Rattle.tube_chip.specs.declared.Op.{Op}
 use Rattle.tube_chip.specs.Act.{Query, access}
-use Rattle.tube_party.specs.Moves.{FitsAnswer, Looks, Talks, IsAnswered, shown_lines}
+use Rattle.tube_party.specs.Moves.{FitsAnswer, Talks, IsAnswered, IsAnsweredAgain, shown_lines}
 use Rattle.tube_party.specs.Steps.{talks_on}
 use Rattle.tube_machine.specs.Wiring.{Wiring, IsWired, StaysPlain}
 use Rattle.tube_machine.specs.Step.{At, at_of, is_break, asks, asks_by, after_cycle, after_look, closed_to, next_state, moves_of}
@@ -22,15 +24,63 @@ use Rattle.tube_machine.specs.Exchange.{IsAtTube, IsPassing, owed_at}
 use Rattle.tube_machine.specs.Lawful.{asked_closed, break_closed, next_closed}
 use Rattle.tube_machine.specs.NoBreak.{no-break, plain-asks}
 use Rattle.tube_machine.specs.Whole.{reach_of, IsMemory, StaysAtRest, IsOnward, IsServed}
-use Rattle.tube_machine.proofs.UnderWay.{IsUnderWay, IsFree, Came, begins, caught-up, at-look}
-use Rattle.tube_machine.proofs.WholeSteps.{AtTube, Closes, carried-closed, to-tube, look-on, came-there}
+use Rattle.tube_machine.proofs.UnderWay.{IsUnderWay, IsFree, at-same, begins, caught-up, at-look, came-there}
+use Rattle.tube_machine.proofs.WholeSteps.{Closes, next-more, carried-closed, to-tube, look-on, whole-behind, onward}
 use Rattle.tube_machine.proofs.Taken.{at-tube, taken}
-use Rattle.tube_machine.proofs.Stops.{looks-cycle, next-cycle}
+
+module _ {part : Part} {B D : Type 0} {w : Wiring B} {plain : B → Lines → Bool} {answers : D → ℕ → Op → ℕ → D → Type 0} {lines : Lines} where
+  -- steps without such accesses
+  pub served-onward : {bound : ℕ} {old new : At B} {d : D} → IsOnward part w plain lines bound old new → IsServed part w plain answers lines bound old d new d
+  served-onward on = record {
+    talks = λ until sure in_run early. (0, (refl, on.looks until sure in_run early));
+    goes_on = on.goes_on;
+    closed = on.closed;
+    cycle = on.cycle;
+    free = on.free;
+    is_plain = on.is_plain;
+  }
+
+  -- some after others
+  pub served-then : {bound : ℕ} {old mid new : At B} {d f e : D} → IsServed part w plain answers lines bound old d mid f → IsServed part w plain answers lines bound mid f new e
+      → IsServed part w plain answers lines bound old d new e
+  served-then {old = old} {mid} {new} {d} {f} {e} a b = record {
+    talks = λ until sure in_run early.
+        let one = a.talks until sure in_run early in
+        let two = b.talks until sure in_run early in
+        talks_on (moves_of part w) answers until lines sure one.0 two.0 old mid new d f e one.1 two.1;
+    goes_on = b.goes_on;
+    closed = b.closed;
+    cycle = a.cycle ∙ b.cycle;
+    free = λ far far_on clear. b.free far far_on (a.free far far_on clear);
+    is_plain = b.is_plain;
+  }
+
+  -- none at all
+  served-none : {bound : ℕ} {at : At B} {d : D} → plain at.bus lines ≡ true → w.closed at.bus ≤ at.due + 1 → IsSome (next_cycle part at.cpu) → IsServed part w plain answers lines bound at d at d
+  served-none first before on = record {
+    talks = λ until sure in_run early. (0, (refl, (0, refl)));
+    goes_on = on;
+    closed = before;
+    cycle = refl;
+    free = λ far far_on clear. clear;
+    is_plain = first;
+  }
+
+  -- what is served up to a tick is so up to a later one
+  pub served-wider : {end bound : ℕ} {old new : At B} {d e : D} → end ≤ bound → IsServed part w plain answers lines end old d new e → IsServed part w plain answers lines bound old d new e
+  served-wider high a = record {
+    talks = λ until sure in_run early. a.talks until sure (omega (arith, in_run, high)) (omega (arith, early, high));
+    goes_on = a.goes_on;
+    closed = a.closed;
+    cycle = a.cycle;
+    free = λ far far_on clear. a.free far (omega (arith, far_on, high)) clear;
+    is_plain = a.is_plain;
+  }
 
 -- from a bus whose devices need not be closed yet as far as it counts
-module _ (part : Part) {B D : Type 0} (w : Wiring B) (wired : IsWired w) (reads writes : ℕ → Bool) (memory : IsMemory w reads writes)
-    (rests : B → Lines → Bool → ℕ → Type 0) (stays_at_rest : StaysAtRest w writes rests) (plain : B → Lines → Bool) (stays : StaysPlain w plain)
-    (answers : D → ℕ → Op → ℕ → D → Type 0) (lines : Lines) (masks : Bool) (quiet n bound : ℕ) (m : B) (r : Regs) (o : LastAccess) (asked : Op) (byte : ℕ)
+module _ (part : Part) {B D : Type 0} {w : Wiring B} (wired : IsWired w) {reads writes : ℕ → Bool} (memory : IsMemory w reads writes)
+    {rests : B → Lines → Bool → ℕ → Type 0} (stays_at_rest : StaysAtRest w writes rests) {plain : B → Lines → Bool} (stays : StaysPlain w plain)
+    (answers : D → ℕ → Op → ℕ → D → Type 0) (bound byte : ℕ) {lines : Lines} {masks : Bool} {quiet n : ℕ} {m : B} {r : Regs} {o : LastAccess} {asked : Op}
     (cycle : n ≡ w.cycle m) (first : plain m lines ≡ true) (free : IsFree part w bound m)
     (outside : (t : ℕ) → IsOutside part (reach_of w reads writes) t r m o) (passing : IsPassing w m (access_of o) asked) (some : 1 < n)
     (rest : rests m lines masks quiet) (held : masks ≡ has_flag r.p INTERRUPT) where
@@ -61,8 +111,8 @@ module _ (part : Part) {B D : Type 0} (w : Wiring B) (wired : IsWired w) (reads 
     abbrev last : cpu.State
     last = (outside from).last
 
-    came : Closes part w wired reads writes memory from o.cycles (fresh Instruction r) m last m u
-    came = carried-closed part w wired reads writes memory from o.cycles (fresh Instruction r) m last m u (omega (arith, low)) (outside from).carried
+    came : Closes part wired memory from o.cycles (fresh Instruction r) m last m u
+    came = carried-closed part wired memory from o.cycles (fresh Instruction r) m last m u (omega (arith, low)) (outside from).carried
 
     -- before the access, and behind it
     abbrev there : At B
@@ -83,20 +133,18 @@ module _ (part : Part) {B D : Type 0} (w : Wiring B) (wired : IsWired w) (reads 
     same_on : w.close came.0 (top from + 1) ≡ b
     same_on = same (top from + 1) (omega (arith, low))
 
-    at_next : AtTube part w wired reads writes memory rests stays_at_rest plain stays bound bound lines bound n (starts u from) masks quiet (plain_to u) (next_cycle part last)
-    at_next = subst (AtTube part w wired reads writes memory rests stays_at_rest plain stays bound bound lines bound n (starts u from) masks quiet (plain_to u)) (sym (outside from).next) (w.close m 0, at_tube 0)
-
     closed_to_start : w.closed (w.close m u) ≤ from + 1
     closed_to_start = let is = wired.closed m u in omega (arith, is, before, low)
 
     to-there : (until sure : ℕ) → bound ≤ until → IsUnderWay part w plain bound n until lines sure (starts u from) there from
     to-there until sure in_run =
-        let begun : IsUnderWay part w plain bound n until lines sure (starts u from) (starts u from) from =
-        caught-up part w wired plain stays bound until lines sure (starts u from) n (starts u from) (cycle ∙ sym (wired.cycle_close m u)) (begins part Instruction r)
-        closed_to_start (free_to u bound free) (λ is. is) (0, refl) in
-        (to-tube part w wired reads writes memory rests stays_at_rest plain stays bound until lines sure n (starts u from) masks quiet (plain_to u) o.cycles (starts u from) from from last came.0 (top from)
-        begun came.1.0 at_next (omega arith) closed_to_start refl (omega (arith, fits)) (omega (arith, fits, in_run)) (omega (arith, still))
-        (stays_at_rest.close m lines masks quiet u rest (omega (arith, still, low)))).0
+        to-tube part wired memory stays_at_rest stays bound until lines sure n (starts u from) masks quiet c (w.close m 0) last (outside from).next (at_tube 0) o.cycles (starts u from) from from came.0 (top from)
+        (record {
+          way = caught-up part wired stays (cycle ∙ sym (wired.cycle_close m u)) (begins part Instruction r) closed_to_start (free_to u bound free) (λ is. is) (0, refl);
+          tick = omega arith;
+          before = closed_to_start;
+          rest = stays_at_rest.close m lines masks quiet u rest (omega (arith, still, low));
+        }) came.1.0 refl (omega (arith, fits)) (omega (arith, fits, in_run)) (omega (arith, still))
 
     -- no break comes there
     unbroken : is_break part w there ≡ false
@@ -131,14 +179,12 @@ module _ (part : Part) {B D : Type 0} (w : Wiring B) (wired : IsWired w) (reads 
         let held_on : masks ≡ has_flag (after part on).p INTERRUPT =
         held ∙ sym ((outside from).masks byte) ∙ ap (λ (q : Regs). has_flag q.p INTERRUPT) (sym ((outside from).regs byte)) in
         let tick : top from + n ≡ over_there.due + 1 = omega (arith, some) in
-        ap (λ (x : B). at_of (fresh Instruction (outcome part o r byte)) x (top from + n)) (sym (wired.again m (top from + 1) (top from + n) (omega (arith, some))))
-        ∙ ap (λ (q : Regs). at_of (fresh Instruction q) (w.close b (top from + n)) (top from + n)) (sym ((outside from).regs byte))
-        ∙ ap (λ (t : ℕ). at_of (fresh Instruction (after part on)) (w.close b t) t) tick
-        ∙ look-on part w wired reads writes memory rests stays_at_rest plain stays on b over_there.due quiet lines masks (plain_to (top from + 1)) rest_on (omega (arith, still, some)) held_on
+        at-same (ap (fresh Instruction) (sym ((outside from).regs byte))) (sym (wired.again m (top from + 1) (top from + n) (omega (arith, some))) ∙ ap (w.close b) tick) tick
+        ∙ look-on part wired memory stays_at_rest stays on b over_there.due (plain_to (top from + 1)) rest_on (omega (arith, still, some)) held_on
 
     behind-look : (until sure : ℕ) → bound ≤ until → bound ≤ sure → IsUnderWay part w plain bound n until lines sure over_there (ended from) (top from + n)
     behind-look until sure in_run early =
-        at-look part w wired plain stays bound until lines sure over_there n (ended from) cycle_on ((outside from).over byte) (omega (arith, closed_on)) (free_to (top from + 1) bound free) (plain_to (top from + 1))
+        at-look part wired stays cycle_on ((outside from).over byte) (omega (arith, closed_on)) (free_to (top from + 1) bound free) (plain_to (top from + 1))
         (omega (arith, fits, in_run, some)) (omega (arith, fits, early, some)) (omega (arith, fits, some)) looked
 
     talk : (until sure : ℕ) → bound ≤ until → bound ≤ sure → (j : ℕ) × Talks (moves_of part w) answers until (shown_lines lines sure) j (starts u from) d (ended from) e
@@ -160,7 +206,7 @@ module _ (part : Part) {B D : Type 0} (w : Wiring B) (wired : IsWired w) (reads 
             e,
             way.looks,
             one,
-            (refl, came-there part w wired plain stays bound until lines sure n over_there (ended from) (behind-look until sure in_run early)),
+            (refl, came-there part wired stays (behind-look until sure in_run early)),
           ),
         )
 
@@ -175,88 +221,63 @@ module _ (part : Part) {B D : Type 0} (w : Wiring B) (wired : IsWired w) (reads 
       is_plain = plain_to (top from + n);
     }
 
-module _ (part : Part) {B D : Type 0} (w : Wiring B) (plain : B → Lines → Bool) (answers : D → ℕ → Op → ℕ → D → Type 0) (lines : Lines) (bound : ℕ) where
-  -- steps without such accesses
-  pub served-onward : (old new : At B) (d : D) → IsOnward part w plain lines bound old new → IsServed part w plain answers lines bound old d new d
-  served-onward old new d on = record {
-    talks = λ until sure in_run early. (0, (refl, on.looks until sure in_run early));
-    goes_on = on.goes_on;
-    closed = on.closed;
-    cycle = on.cycle;
-    free = on.free;
-    is_plain = on.is_plain;
-  }
+  -- a branch leads back
+  module _ (k : ℕ) (goes : 0 < k) (back : (t : ℕ) → IsDone part (reach_of w reads writes) t (outcome part o r byte) m k r m) (room : bound ≤ quiet) where
+    abbrev at : ℕ → At B
+    at s = at_of (fresh Instruction r) (w.close m s) s
 
-  -- some after others
-  pub served-then : (old mid new : At B) (d f e : D) → IsServed part w plain answers lines bound old d mid f → IsServed part w plain answers lines bound mid f new e
-      → IsServed part w plain answers lines bound old d new e
-  served-then old mid new d f e a b = record {
-    talks = λ until sure in_run early.
-        let one = a.talks until sure in_run early in
-        let two = b.talks until sure in_run early in
-        talks_on (moves_of part w) answers until lines sure one.0 two.0 old mid new d f e one.1 two.1;
-    goes_on = b.goes_on;
-    closed = b.closed;
-    cycle = a.cycle ∙ b.cycle;
-    free = λ far far_on clear. b.free far far_on (a.free far far_on clear);
-    is_plain = b.is_plain;
-  }
+    -- how long it takes until it comes again
+    abbrev pub period : ℕ
+    period = n * o.cycles + n + n * k
 
-  -- none at all
-  pub served-none : (at : At B) (d : D) → plain at.bus lines ≡ true → w.closed at.bus ≤ at.due + 1 → IsSome (next_cycle part at.cpu) → IsServed part w plain answers lines bound at d at d
-  served-none at d first before on = record {
-    talks = λ until sure in_run early. (0, (refl, (0, refl)));
-    goes_on = on;
-    closed = before;
-    cycle = refl;
-    free = λ far far_on clear. clear;
-    is_plain = first;
-  }
+    abbrev behind : ℕ → At B
+    behind s = at_of (fresh Instruction (outcome part o r byte)) (w.close m s) s
 
--- The steps so far, with accesses that were answered in passing: from a machine behind the last of them the way is as above.
-pub record IsTalking (part : Part) {B D : Type 0} (w : Wiring B) (plain : B → Lines → Bool) (answers : D → ℕ → Op → ℕ → D → Type 0) (far n until : ℕ) (lines : Lines) (sure : ℕ)
-    (start : At B) (d : D) (s : At B) (e : D) (since : ℕ) : Type 0 where
-  pub mid : At B
-  pub talks : (j : ℕ) × Talks (moves_of part w) answers until (shown_lines lines sure) j start d mid e
-  pub first : plain start.bus lines ≡ true → plain mid.bus lines ≡ true
-  pub way : IsUnderWay part w plain far n until lines sure mid s since
+    closed_then : (s t : ℕ) → s ≤ t → w.closed m ≤ s + 1 → w.closed (w.close m t) ≤ t + 1
+    closed_then s t high before = let is = wired.closed m t in omega (arith, is, before, high)
 
-module _ (part : Part) {B D : Type 0} (w : Wiring B) (wired : IsWired w) (plain : B → Lines → Bool) (stays : StaysPlain w plain) (answers : D → ℕ → Op → ℕ → D → Type 0)
-    (far n until : ℕ) (lines : Lines) (sure : ℕ) (start : At B) (d : D) where
-  abbrev pub Talked : At B → D → Type 0
-  Talked s e = (j : ℕ) × Talks (moves_of part w) answers until (shown_lines lines sure) j start d s e
+    -- the branch
+    branched : (s : ℕ) → w.closed m ≤ s + 1 → s + n * k ≤ bound → (far until sure : ℕ) → bound ≤ far → bound ≤ until → bound ≤ sure → IsFree part w far (w.close m s) →
+        IsUnderWay part w plain far n until lines sure (behind s) (at (s + n * k)) (s + n * k)
+    branched s before fits far until sure far_on in_run early clear =
+        let begun : IsUnderWay part w plain far n until lines sure (behind s) (behind s) s =
+        caught-up part wired stays (cycle ∙ sym (wired.cycle_close m s)) (begins part Instruction (outcome part o r byte))
+        (closed_then s s (omega arith) before) clear (λ is. is) (0, refl) in
+        (whole-behind part wired memory stays_at_rest stays far until lines sure n (behind s) masks quiet k s s (outcome part o r byte) r m m goes (omega arith)
+        begun (back s) before (omega (arith, fits, far_on)) (omega (arith, fits, in_run)) (omega (arith, fits, early)) (omega (arith, fits, room))
+        (stays_at_rest.close m lines masks quiet s rest (omega (arith, fits, room))) ((outside 0).masks byte ∙ sym held) (plain_to s)).0
 
-  pub then-came : (s new : At B) (e : D) → Talked s e → Came part w until lines sure s new → Talked new e
-  then-came s new e talked came = talks_on (moves_of part w) answers until lines sure talked.0 0 start s new d e e talked.1 (refl, came)
+    branch : (s : ℕ) → w.closed m ≤ s + 1 → s + n * k ≤ bound → IsOnward part w plain lines bound (behind s) (at (s + n * k))
+    branch s before fits =
+        onward part wired stays (branched s before fits)
+        (free_to s bound free) (cycle ∙ sym (wired.cycle_close m s)) (closed_then s (s + n * k) (omega arith) before) (plain_to s)
 
-  -- what is owed is done
-  pub left-off : (s : At B) (e : D) (since : ℕ) (b : B) → IsTalking part w plain answers far n until lines sure start d s e since → b ≡ w.close s.bus (owed_at n since s.due (w.closed s.bus)) → Talked (record s { bus = b }) e
-  left-off s e since b at is =
-      then-came at.mid (record s { bus = b }) e at.talks (
-        at.way.looks.0,
-        subst (λ (x : B). Looks (moves_of part w) until (shown_lines lines sure) at.way.looks.0 at.mid (record s { bus = x })) (sym is) at.way.looks.1,
-      )
+    -- the instruction and the branch, from a bus that need not be closed yet
+    pub round : (s u : ℕ) (d e : D) → u ≤ s → w.closed m ≤ s + 1 → s + period ≤ bound → answers d (s + n * o.cycles) asked byte e →
+        IsServed part w plain answers lines bound (at_of (fresh Instruction r) (w.close m u) s) d (at (s + period)) e
+    round s u d e low before fits answered =
+        let t : ℕ = s + n * o.cycles + n in
+        let ask : IsServed part w plain answers lines bound (at_of (fresh Instruction r) (w.close m u) s) d (behind t) e =
+        asked-whole s u d e low before (omega (arith, fits)) (omega (arith, fits, room)) answered in
+        let there : t + n * k ≡ s + period = omega arith in
+        let on : IsOnward part w plain lines bound (behind t) (at (s + period)) =
+        subst (λ (x : ℕ). IsOnward part w plain lines bound (behind t) (at x)) there (branch t (omega (arith, before)) (omega (arith, fits))) in
+        served-then ask (served-onward on)
 
-  pub not-yet : (s : At B) (since : ℕ) → IsUnderWay part w plain far n until lines sure start s since → IsTalking part w plain answers far n until lines sure start d s d since
-  not-yet s since way = record { mid = start; talks = (0, (refl, (0, refl))); first = λ is. is; way = way }
-
-  -- whole instructions from there
-  pub served-on : (bound : ℕ) (s new : At B) (f e : D) → IsTalking part w plain answers far n until lines sure start d s f s.due → IsServed part w plain answers lines bound s f new e
-      → bound ≤ far → bound ≤ until → bound ≤ sure → IsTalking part w plain answers far n until lines sure start d new e new.due
-  served-on bound s new f e at served far_on in_run early =
-      let here : Talked s f = then-came at.mid s f at.talks (came-there part w wired plain stays far until lines sure n at.mid s at.way) in
-      let more = served.talks until sure in_run early in
-      record {
-        mid = new;
-        talks = talks_on (moves_of part w) answers until lines sure here.0 more.0 start s new d f e here.1 more.1;
-        first = λ _. served.is_plain;
-        way = caught-up part w wired plain stays far until lines sure new n new (at.way.cycle ∙ served.cycle) served.goes_on served.closed (served.free far far_on at.way.free) (λ is. is) (0, refl);
-      }
-
-module _ (part : Part) {B D : Type 0} (w : Wiring B) (wired : IsWired w) (answers : D → ℕ → Op → ℕ → D → Type 0) (n : ℕ) (lines : Lines) (sure : ℕ) where
-  -- no step changes how long a cycle is
-  pub talks-cycle : (j : ℕ) (s last : At B) (d e : D) → Talks (moves_of part w) answers n (shown_lines lines sure) j s d last e → w.cycle last.bus ≡ w.cycle s.bus
-  talks-cycle zero s last d e h = looks-cycle part w wired n lines sure h.1.0 s last h.1.1
-  talks-cycle (suc j) s last d e h =
-      talks-cycle j h.1 last h.2 e h.5 ∙ ap (λ (x : At B). w.cycle x.bus) h.4.goes ∙ next-cycle part w wired h.0 (Some (Byte h.4.byte))
-      ∙ looks-cycle part w wired n lines sure h.3.0 s h.0 h.3.1
+    -- so many times
+    pub rounds : (j s t : ℕ) (d e : D) → t + period ≡ s + n * o.cycles → w.closed m ≤ s + 1 → s + period * j ≤ bound → IsAnsweredAgain answers asked byte period j d t e →
+        IsServed part w plain answers lines bound (at s) d (at (s + period * j)) e
+    rounds zero s t d e here before fits again =
+        let same : s ≡ s + period * 0 = omega arith in
+        subst (λ (x : ℕ). IsServed part w plain answers lines bound (at s) d (at x) e) same
+        (subst (λ (x : D). IsServed part w plain answers lines bound (at s) d (at s) x) again
+        (served-none (plain_to s) (closed_then s s (omega arith) before) (begins part Instruction r)))
+    rounds (suc j) s t d e here before fits again =
+        let more : period * suc j ≡ period * j + period = next-more period j in
+        let one : IsServed part w plain answers lines bound (at s) d (at (s + period)) again.0 =
+        round s s d again.0 (omega arith) before (omega (arith, fits, more)) (subst (λ (x : ℕ). answers d x asked byte again.0) here again.1.0) in
+        let rest_of : IsServed part w plain answers lines bound (at (s + period)) again.0 (at (s + period + period * j)) e =
+        rounds j (s + period) (t + period) again.0 e (omega (arith, here)) (omega (arith, before)) (omega (arith, fits, more)) again.1.1 in
+        let there : s + period + period * j ≡ s + period * suc j = omega (arith, more) in
+        subst (λ (x : ℕ). IsServed part w plain answers lines bound (at s) d (at x) e) there
+        (served-then one rest_of)

@@ -94,9 +94,9 @@ at_most_one true c = omega arith
 at_most_one false c = omega arith
 
 reach_most : (w : Mode) (always : Bool) (r : Regs) (seen : List (Option ℕ)) → length (reach Cmos w always r seen) ≤ 4
-reach_most AbsX always r seen = let k : length (carry_cycles Cmos always (byte seen 1) (byte seen 2) r.x (place r 2)) ≤ 1 = at_most_one _ _ in omega arith
-reach_most AbsY always r seen = let k : length (carry_cycles Cmos always (byte seen 1) (byte seen 2) r.y (place r 2)) ≤ 1 = at_most_one _ _ in omega arith
-reach_most IndY always r seen = let k : length (carry_cycles Cmos always (byte seen 2) (byte seen 3) r.y (place r 1)) ≤ 1 = at_most_one _ _ in omega arith
+reach_most AbsX always r seen = omega (arith, at_most_one)
+reach_most AbsY always r seen = omega (arith, at_most_one)
+reach_most IndY always r seen = omega (arith, at_most_one)
 reach_most _ always r seen = omega arith
 
 with_more : (n k : ℕ) (xs ys : List Cycle) → length xs ≤ n → length ys ≤ k → length (xs ++ ys) ≤ n + k
@@ -141,18 +141,14 @@ form_most uses.Implied row r seen few = implied_most row.mode row r few
 form_most uses.Reads row r seen few =
     let more : List Cycle = cond (lasts_longer Cmos row.mnemonic r) (Read (last_place row.mode r) ∷ []) [] in
     let k : length more ≤ 1 = at_most_one (lasts_longer Cmos row.mnemonic r) (Read (last_place row.mode r)) in
-    let all : length (reach Cmos row.mode (waits Cmos uses.Reads) r seen ++ Read (address row.mode r seen) ∷ more) ≤ 4 + 2 =
-    with_more 4 2 (reach Cmos row.mode (waits Cmos uses.Reads) r seen) (Read (address row.mode r seen) ∷ more) (reach_most row.mode (waits Cmos uses.Reads) r seen) (omega arith) in
-    omega arith
+    let always : Bool = waits Cmos uses.Reads in
+    omega (arith, with_more 4 2 (reach Cmos row.mode always r seen) (Read (address row.mode r seen) ∷ more) (reach_most row.mode always r seen) (omega arith))
 form_most uses.Stores row r seen few =
     let last : List Cycle = Write (address row.mode r seen) (stored_value row.mnemonic r) ∷ [] in
-    let all : length (reach Cmos row.mode (waits Cmos uses.Stores) r seen ++ last) ≤ 4 + 1 =
-    with_more 4 1 (reach Cmos row.mode (waits Cmos uses.Stores) r seen) last (reach_most row.mode (waits Cmos uses.Stores) r seen) (omega arith) in
-    omega arith
-form_most uses.Shifts row r seen few = let k : length (modify_form Cmos row row.mode (waits Cmos uses.Shifts) r seen) ≤ 7 = modify_most row.mode row (waits Cmos uses.Shifts) r seen in omega arith
-form_most uses.Modifies row r seen few =
-    let k : length (modify_form Cmos row row.mode (waits Cmos uses.Modifies) r seen) ≤ 7 = modify_most row.mode row (waits Cmos uses.Modifies) r seen
-    in omega arith
+    let always : Bool = waits Cmos uses.Stores in
+    omega (arith, with_more 4 1 (reach Cmos row.mode always r seen) last (reach_most row.mode always r seen) (omega arith))
+form_most uses.Shifts row r seen few = omega (arith, modify_most row.mode row (waits Cmos uses.Shifts) r seen)
+form_most uses.Modifies row r seen few = omega (arith, modify_most row.mode row (waits Cmos uses.Modifies) r seen)
 form_most uses.Branches row r seen few = branch_most (takes_branch row.mnemonic r) r seen
 form_most uses.Jumps row r seen few = jump_most row.mode r seen
 form_most _ row r seen few = omega arith
@@ -160,8 +156,7 @@ form_most _ row r seen few = omega arith
 most_accesses : (q : Sequence) (r : Regs) (seen : List (Option ℕ)) → length (accesses Cmos q r seen) ≤ 16
 most_accesses Instruction r seen =
     let row : Row = cmos_row (byte seen 0) in
-    let k : length (form Cmos (bus_use row.mnemonic) row r seen) ≤ 10 = form_most (bus_use row.mnemonic) row r seen (few_cycles (byte seen 0)) in
-    omega arith
+    omega (arith, form_most (bus_use row.mnemonic) row r seen (few_cycles (byte seen 0)))
 most_accesses Reset r seen = omega arith
 most_accesses Nmi r seen = omega arith
 most_accesses Irq r seen = omega arith

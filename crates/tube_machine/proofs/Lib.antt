@@ -5,6 +5,5 @@ pub mod Lengths
 pub mod Stops
 pub mod WholeSteps
 pub mod Asked
-pub mod Polls
 pub mod Ways
 pub mod ToLooks

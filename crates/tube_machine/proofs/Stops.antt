@@ -10,17 +10,19 @@ use Rattle.cpu_alu.specs.declared.Cycle.{Cycle}
 use Rattle.cpu_core.specs.State as cpu
 use Rattle.cpu_core.specs.Sequences.{next_cycle, after_byte, halted}
 use Rattle.tube_chip.specs.Act.{Query, access, look}
+use Rattle.tube_chip.specs.declared.Op.{Op}
 use Rattle.tube_chip.specs.declared.Op.TheVariants as op
 use Rattle.tube_chip.specs.declared.Lines.{Lines}
 use Rattle.tube_chip.specs.declared.Answer.{Answer}
 use Rattle.tube_chip.specs.declared.Answer.TheVariants.{Seen}
-use Rattle.tube_party.specs.Moves.{Looks, Sees, IsAsk, IsUnsure, shown_lines}
+use Rattle.tube_party.specs.Moves.{Looks, Hears, IsAsk, IsUnsure, shown_lines}
 use Rattle.tube_party.specs.Steps.{silent_last, look_last}
 use Rattle.tube_party.specs.declared.party.Ask.{Ask}
 use Rattle.tube_party.specs.declared.party.Ask.TheVariants.{Nothing, Access, Look}
 use Rattle.tube_machine.specs.Wiring.{Wiring, IsWired}
 use Rattle.tube_machine.specs.Step.{At, is_break, after_break, asks, asks_by, asks_reset, byte_of, after_step, closed_to, lines_in, next_state, moves_of}
-use Rattle.tube_machine.specs.Exchange.{IsSilent, IsCramped, ready}
+use Rattle.tube_machine.specs.Lawful.{lawful}
+use Rattle.tube_machine.specs.Exchange.{Spent, HasSpent, IsSilent, IsCramped, ready}
 use Rattle.tube_machine.specs.NoBreak.{plain-asks, plain-next}
 use Rattle.tube_machine.proofs.UnderWay.{Came}
 use Rattle.tube_machine.proofs.Spends.{seen-more}
@@ -51,11 +53,11 @@ alone-parts true false has is = cc
 alone-parts false breaks has is = cc
 
 -- where no room is left, the run began with little of it
-pub cramped : (n sure from room due left seen : ℕ) → from + n * room ≤ due + n * left → due ≤ max sure from + n * seen → left ≡ 0 → seen < 16 → IsCramped n sure from room
-cramped n sure from room due left seen most late none few =
-    let no_room : n * left ≡ 0 = ap (λ (k : ℕ). n * k) none ∙ mul-zero n in
-    let some_seen : n * seen ≤ n * 15 = mul-le-mul_left n (omega (arith, few)) in
-    omega (arith, most, late, no_room, some_seen)
+pub cramped : {counts : Type 0} {n sure : ℕ} {first last : Spent} → HasSpent counts n sure first last → counts → last.room ≡ 0 → last.seen < 16 → IsCramped n sure first.due first.room
+cramped {n = n} {sure} {first} {last} all is none few =
+    let no_room : n * last.room ≡ 0 = ap (λ (k : ℕ). n * k) none ∙ mul-zero n in
+    let some_seen : n * last.seen ≤ n * 15 = mul-le-mul_left n (omega (arith, few)) in
+    omega (arith, all.room is, all.late is (max sure first.due) (omega arith) (omega arith), no_room, some_seen)
 
 -- where a sequence is not over, fewer than sixteen cycles of it were seen
 pub few : (part : Part) (c : cpu.State) → part ≡ Cmos → IsSome (next_cycle part c) → length c.seen < 16
@@ -113,21 +115,13 @@ module _ (part : Part) {B : Type 0} (w : Wiring B) (wired : IsWired w) where
     looks-cycle (suc k) s last h = looks-cycle-by k s last (asks part w s) (λ u on. looks-cycle k u last on) h.1
 
     -- one more step that asks nothing
-    pub more : (start s new : At B) → Came part w n lines sure start s → s.due < n → IsSilent part w s new → Came part w n lines sure start new
-    more start s new came low done = (
-      suc came.0,
-      subst (λ (x : At B). Looks (moves_of part w) n (shown_lines lines sure) (suc came.0) start x) (sym done.1)
-          (silent_last (moves_of part w) n lines sure came.0 start s came.1 low done.0),
-    )
+    pub more : (s new : At B) → s.due < n → IsSilent part w s new → Came part w n lines sure s new
+    more s new low done = subst (Came part w n lines sure s) (sym done.1) (1, silent_last (moves_of part w) n lines sure 0 s s refl low done.0)
 
     -- one more look, of any kind
-    pub more-look : (start s new : At B) → Came part w n lines sure start s → s.due < n → s.due < sure → is_break part w s ≡ false
-        → next_cycle part s.cpu ≡ None → new ≡ next_state part w s (Some (Seen lines)) → Came part w n lines sure start new
-    more-look start s new came low early none over is = (
-      suc came.0,
-      subst (λ (x : At B). Looks (moves_of part w) n (shown_lines lines sure) (suc came.0) start x) (sym is)
-          (look_last (moves_of part w) n lines sure came.0 start s came.1 low (plain-asks part w s none ∙ ap (asks_by w s.bus) over) early),
-    )
+    pub more-look : (s new : At B) → s.due < n → s.due < sure → is_break part w s ≡ false → next_cycle part s.cpu ≡ None → new ≡ next_state part w s (Some (Seen lines)) → Came part w n lines sure s new
+    more-look s new low early none over is =
+        subst (Came part w n lines sure s) (sym is) (1, look_last (moves_of part w) n lines sure 0 s s refl low (plain-asks part w s none ∙ ap (asks_by w s.bus) over) early)
 
     -- a look that is not sure, or none below n
     unsure-by : (last new : At B) (ask : Ask) → IsAsk (moves_of part w) n last ask new → (is_break part w last ≡ true) ⊎ (min n sure ≤ last.due) → IsUnsure sure ask
@@ -138,9 +132,13 @@ module _ (part : Part) {B : Type 0} (w : Wiring B) (wired : IsWired w) where
       | inr high ↦ omega (arith, is.0, is.1, high)
     ]
 
-    pub stops-at-look : (start last new : At B) (ask : Ask) → Came part w n lines sure start last → IsAsk (moves_of part w) n last ask new → (is_break part w last ≡ true) ⊎ (min n sure ≤ last.due) →
-        Sees (moves_of part w) n (shown_lines lines sure) start ask new
-    stops-at-look start last new ask came is late = record { steps = came.0; last = last; looks = came.1; asked = is; unsure = unsure-by last new ask is late }
+    pub stops-at-look : {D : Type 0} {answers : D → ℕ → Op → ℕ → D → Type 0} {d : D} {last new : At B} {ask : Ask} →
+        IsAsk (moves_of part w) n last ask new → (is_break part w last ≡ true) ⊎ (min n sure ≤ last.due) → Hears (moves_of part w) answers n (shown_lines lines sure) last d ask new d
+    stops-at-look {last = last} {new} {ask} is late = record { accesses = 0; last = last; talks = (refl, (0, refl)); asked = is; unsure = unsure-by last new ask is late }
+
+  -- the tick rises
+  pub next-rises : (s : At B) {new : At B} (a : Option Answer) → new ≡ next_state part w s a → s.due < new.due
+  next-rises s a is = subst (λ (x : At B). s.due < x.due) (sym is) ((lawful part w wired).rises s a)
 
   -- what an access of one cycle costs, whatever answers it
   pub cost : (s new : At B) (a : Option Answer) → is_break part w s ≡ false → new ≡ next_state part w s a → IsSome (next_cycle part s.cpu) → part ≡ Cmos

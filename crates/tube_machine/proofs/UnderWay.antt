@@ -51,6 +51,9 @@ on-by : (o : Option Cycle) (t n : ℕ) → IsSome o → (if is_none o then t + (
 on-by (Some d) t n h = refl
 on-by None t n h = absurd (cc)
 
+pub at-same : {B : Type 0} {c d : cpu.State} {a b : B} {t u : ℕ} → c ≡ d → a ≡ b → t ≡ u → at_of c a t ≡ at_of d b u
+at-same p q r = cc
+
 module _ (part : Part) {B : Type 0} (w : Wiring B) where
   -- no break is pending below this tick
   abbrev pub IsFree : ℕ → B → Type 0
@@ -79,9 +82,9 @@ pub record IsUnderWay (part : Part) {B : Type 0} (w : Wiring B) (plain : B → L
   pub since_then : (since ≡ s.due) ⊎ ((since + n ≤ s.due) × (s.due < until + n))
   pub kept : plain start.bus lines ≡ true → plain s.bus lines ≡ true
 
-module _ (part : Part) {B : Type 0} (w : Wiring B) (wired : IsWired w) (plain : B → Lines → Bool) (stays : StaysPlain w plain) where
+module _ (part : Part) {B : Type 0} {w : Wiring B} (wired : IsWired w) {plain : B → Lines → Bool} (stays : StaysPlain w plain) where
   -- no steps are owed
-  pub none-owed : (s : At B) → closed_to w s (w.closed s.bus) ≡ s
+  none-owed : (s : At B) → closed_to w s (w.closed s.bus) ≡ s
   none-owed s = ap (λ (b : B). record s { bus = b }) (wired.still s.bus (w.closed s.bus) (omega arith))
 
   -- after a plain look the devices are closed up to the next step, which is an access, and all is as before
@@ -93,8 +96,8 @@ module _ (part : Part) {B : Type 0} (w : Wiring B) (wired : IsWired w) (plain : 
     pub is_plain : plain new.bus lines ≡ true
     pub due : new.due ≡ s.due + 1
 
-  pub after-look : (lines : Lines) (s new : At B) (t : ℕ) → w.closed s.bus ≤ t → plain s.bus lines ≡ true → new ≡ after_look part w (closed_to w s t) lines → IsLookedAt lines t s new
-  after-look lines s new t low is_plain is =
+  pub after-look : {lines : Lines} (s : At B) {new : At B} (t : ℕ) → w.closed s.bus ≤ t → plain s.bus lines ≡ true → new ≡ after_look part w (closed_to w s t) lines → IsLookedAt lines t s new
+  after-look {lines} s {new} t low is_plain is =
       let x : At B = closed_to w s t in
       let plain_there : plain x.bus lines ≡ true = stays.close s.bus lines t ∙ is_plain in
       let at : At B = begin_leaves x (fresh (sequence_at_look (w.nmi x.bus lines) (w.irq x.bus lines) (after part s.cpu)) (after part s.cpu)) (w.taken x.bus lines) in
@@ -108,17 +111,31 @@ module _ (part : Part) {B : Type 0} (w : Wiring B) (wired : IsWired w) (plain : 
         due = ap (λ (y : At B). y.due) same;
       }
 
-  module _ (far until : ℕ) (lines : Lines) (sure : ℕ) (start : At B) where
+  -- a plain look that is sure, of a machine that stands for one closed further
+  sees-on : (until : ℕ) (lines : Lines) (sure : ℕ) (start : At B) (c : cpu.State) (b : B) (t u : ℕ) (new : At B) → Came part w until lines sure start (at_of c (w.close b u) t) → u ≤ t + 1
+      → next_cycle part c ≡ None → t < until → t < sure → w.pending b t ≡ false →
+      new ≡ after_look part w (closed_to w (at_of c b t) (t + 1)) lines → Came part w until lines sure start new
+  sees-on until lines sure start c b t u new came high over low early none is =
+      let at : At B = at_of c (w.close b u) t in
+      let free : is_break part w at ≡ false = no-break part w at (wired.pending_close b u t ∙ none) in
+      let saw : new ≡ next_state part w at (Some (Seen lines)) =
+      is
+      ∙ ap (λ (d : B). after_look part w (at_of c d t) lines) (sym (wired.again b u (t + 1) high))
+      ∙ ap (λ (o : Option Cycle). after_step part w o (closed_to w at (t + 1)) (Some (Seen lines))) (sym over)
+      ∙ sym (plain-next part w at (Some (Seen lines)) free) in
+      subst (Came part w until lines sure start) (sym saw)
+      (suc came.0, look_last (moves_of part w) until lines sure came.0 start at came.1 low (plain-asks part w at free ∙ ap (asks_by w at.bus) over) early)
+
+  module _ {far n until : ℕ} {lines : Lines} {sure : ℕ} {start s : At B} where
     -- before the next access, where no steps are owed
-    pub caught-up : (n : ℕ) (s : At B) → n ≡ w.cycle s.bus → IsSome (next_cycle part s.cpu) → w.closed s.bus ≤ s.due + 1 → IsFree part w far s.bus
-        → (plain start.bus lines ≡ true → plain s.bus lines ≡ true) →
+    pub caught-up : n ≡ w.cycle s.bus → IsSome (next_cycle part s.cpu) → w.closed s.bus ≤ s.due + 1 → IsFree part w far s.bus → (plain start.bus lines ≡ true → plain s.bus lines ≡ true) →
         Came part w until lines sure start s → IsUnderWay part w plain far n until lines sure start s s.due
-    caught-up n s cycle goes_on before free kept came =
+    caught-up cycle goes_on before free kept came =
         let none : owed_at n s.due s.due (w.closed s.bus) ≡ w.closed s.bus = owed-none n s.due (w.closed s.bus) in
         record {
           cycle = cycle;
           goes_on = goes_on;
-          looks = (came.0, subst (λ (x : At B). Looks (moves_of part w) until (shown_lines lines sure) came.0 start x) (sym (ap (λ (t : ℕ). closed_to w s t) none ∙ none-owed s)) came.1);
+          looks = subst (Came part w until lines sure start) (sym (ap (closed_to w s) none ∙ none-owed s)) came;
           low = omega (arith, none);
           high = omega (arith, none, before);
           free = free;
@@ -126,131 +143,93 @@ module _ (part : Part) {B : Type 0} (w : Wiring B) (wired : IsWired w) (plain : 
           kept = kept;
         }
 
-    -- a plain look that is sure, of a machine that stands for one closed further
-    pub sees-on : (c : cpu.State) (b : B) (t u : ℕ) (new : At B) → Came part w until lines sure start (at_of c (w.close b u) t) → u ≤ t + 1
-        → next_cycle part c ≡ None → t < until → t < sure → w.pending b t ≡ false →
-        new ≡ after_look part w (closed_to w (at_of c b t) (t + 1)) lines → Came part w until lines sure start new
-    sees-on c b t u new came high over low early none is =
-        let at : At B = at_of c (w.close b u) t in
-        let free : is_break part w at ≡ false = no-break part w at (wired.pending_close b u t ∙ none) in
-        let saw : new ≡ next_state part w at (Some (Seen lines)) =
-        is
-        ∙ ap (λ (d : B). after_look part w (at_of c d t) lines) (sym (wired.again b u (t + 1) high))
-        ∙ ap (λ (o : Option Cycle). after_step part w o (closed_to w at (t + 1)) (Some (Seen lines))) (sym over)
-        ∙ sym (plain-next part w at (Some (Seen lines)) free) in
-        let more : Looks (moves_of part w) until (shown_lines lines sure) (suc came.0) start (next_state part w at (Some (Seen lines))) =
-        look_last (moves_of part w) until lines sure came.0 start at came.1 low (plain-asks part w at free ∙ ap (asks_by w at.bus) over) early in
-        (suc came.0, subst (λ (x : At B). Looks (moves_of part w) until (shown_lines lines sure) (suc came.0) start x) (sym saw) more)
-
     -- a look that sees the lines, before the first access
-    pub at-look : (n : ℕ) (new : At B) → n ≡ w.cycle start.bus → next_cycle part start.cpu ≡ None → w.closed start.bus ≤ start.due + 1 → IsFree part w far start.bus → plain start.bus lines ≡ true →
+    pub at-look : n ≡ w.cycle start.bus → next_cycle part start.cpu ≡ None → w.closed start.bus ≤ start.due + 1 → IsFree part w far start.bus → plain start.bus lines ≡ true →
         start.due < until → start.due < sure → start.due < far →
-        new ≡ after_look part w (closed_to w start (start.due + 1)) lines → IsUnderWay part w plain far n until lines sure start new new.due
-    at-look n new cycle over before free is_plain low early far_on is =
-        let here : closed_to w start (w.closed start.bus) ≡ start = none-owed start in
-        let came : Came part w until lines sure start (closed_to w start (w.closed start.bus)) = (0, sym here) in
-        let saw : Came part w until lines sure start new = sees-on start.cpu start.bus start.due (w.closed start.bus) new came before over low early (free start.due far_on) is in
-        let looked = after-look lines start new (start.due + 1) before is_plain is in
-        caught-up n new (cycle ∙ looked.cycle) looked.goes_on (omega (arith, looked.closed, looked.due)) (looked.free far free) (λ _. looked.is_plain) saw
+        s ≡ after_look part w (closed_to w start (start.due + 1)) lines → IsUnderWay part w plain far n until lines sure start s s.due
+    at-look cycle over before free is_plain low early far_on is =
+        let saw = sees-on until lines sure start start.cpu start.bus start.due (w.closed start.bus) s (0, sym (none-owed start)) before over low early (free start.due far_on) is in
+        let looked = after-look start (start.due + 1) before is_plain is in
+        caught-up (cycle ∙ looked.cycle) looked.goes_on (omega (arith, looked.closed, looked.due)) (looked.free far free) (λ _. looked.is_plain) saw
 
+    -- nothing is owed at a step before which there was no access
+    pub came-there : IsUnderWay part w plain far n until lines sure start s s.due → Came part w until lines sure start s
+    came-there way = subst (Came part w until lines sure start) (ap (closed_to w s) (owed-none n s.due (w.closed s.bus)) ∙ none-owed s) way.looks
+
+  module _ {far n until : ℕ} {lines : Lines} {sure : ℕ} {start s : At B} {since : ℕ} (way : IsUnderWay part w plain far n until lines sure start s since) where
     -- a step that asked nothing, of the machine whose steps are owed
-    pub steps-on : (n : ℕ) (s : At B) (since : ℕ) → IsUnderWay part w plain far n until lines sure start s since → s.due < until
-        → is_break part w s ≡ false → asks_by w s.bus (next_cycle part s.cpu) ≡ None →
-        Came part w until lines sure start (next_state part w s None)
-    steps-on n s since way low free none =
+    steps-on : s.due < until → is_break part w s ≡ false → asks_by w s.bus (next_cycle part s.cpu) ≡ None → Came part w until lines sure start (next_state part w s None)
+    steps-on low free none =
         let owed : ℕ = owed_at n since s.due (w.closed s.bus) in
         let x : At B = closed_to w s owed in
-        let again_is : next_state part w x None ≡ next_state part w s None = next_closed part w wired s owed None way.high in
-        let free_there : is_break part w x ≡ false = break_closed part w wired s owed ∙ free in
-        let more : Looks (moves_of part w) until (shown_lines lines sure) (suc way.looks.0) start (next_state part w x None) =
-        silent_last (moves_of part w) until lines sure way.looks.0 start x way.looks.1 low (plain-asks part w x free_there ∙ asked_closed part w wired false (next_cycle part s.cpu) s.bus owed ∙ none) in
-        (suc way.looks.0, subst (λ (y : At B). Looks (moves_of part w) until (shown_lines lines sure) (suc way.looks.0) start y) again_is more)
+        let asks = plain-asks part w x (break_closed part w wired s owed ∙ free) ∙ asked_closed part w wired false (next_cycle part s.cpu) s.bus owed ∙ none in
+        subst (Came part w until lines sure start) (next_closed part w wired s owed None way.high)
+        (suc way.looks.0, silent_last (moves_of part w) until lines sure way.looks.0 start x way.looks.1 low asks)
 
-    -- a quick access is such a step, which leaves the device steps before it for later
-    pub quick-on : (n : ℕ) (s : At B) (since byte : ℕ) (c : Cycle) (on : cpu.State) (b : B)
-        → IsUnderWay part w plain far n until lines sure start s since → s.due < until → s.due + (n - 1) < far → next_cycle part s.cpu ≡ Some c →
-        IsQuick w s.bus s.due c (Some byte) b → on ≡ after_byte part s.cpu byte → Came part w until lines sure start
-        (at_of on (w.close b (s.due + 1)) (if is_none (next_cycle part on) then s.due + (n - 1) else s.due + n))
-    quick-on n s since byte c on b way low far_on is done gave =
-        let x : At B = closed_to w s (s.due + 1) in
-        let none : is_break part w s ≡ false = no-break part w s (way.free s.due (omega (arith, far_on))) in
-        let then_ : B = w.after x.bus c in
-        let byte_is : ℕ = byte_of w x.bus s.due None c in
-        let pends : w.pending x.bus (s.due + (n - 1)) ≡ false = wired.pending_close s.bus (s.due + 1) (s.due + (n - 1)) ∙ way.free (s.due + (n - 1)) far_on in
-        let same : next_state part w s None ≡ at_of on (w.close b (s.due + 1)) (if is_none (next_cycle part on) then s.due + (n - 1) else s.due + n) =
-        plain-next part w s None none
-        ∙ ap (λ (o : Option Cycle). after_step part w o x None) is
-        ∙ ap (λ (k : ℕ). after_cycle part w (record x { bus = then_ }) (w.pending x.bus (s.due + (k - 1)) && halted part s.cpu) (after_byte part s.cpu byte_is) k) (done.3 ∙ sym way.cycle)
-        ∙ ap (λ (p : Bool). after_cycle part w (record x { bus = then_ }) (p && halted part s.cpu) (after_byte part s.cpu byte_is) n) pends
-        ∙ ap (λ (v : ℕ). after_cycle part w (record x { bus = then_ }) false (after_byte part s.cpu v) n) (sym done.1)
-        ∙ ap (λ (p : cpu.State). after_cycle part w (record x { bus = then_ }) false p n) (sym gave)
-        ∙ ap (λ (d : B). after_cycle part w (record x { bus = d }) false on n) (sym done.2) in
-        let came : Came part w until lines sure start (next_state part w s None) = steps-on n s since way low none (ap (asks_by w s.bus) is ∙ done.0) in
-        (came.0, subst (λ (y : At B). Looks (moves_of part w) until (shown_lines lines sure) came.0 start y) same came.1)
+    -- a quick access leaves cycles, breaks and looks as they were
+    module _ {byte : ℕ} {c : Cycle} (b : B) (is : next_cycle part s.cpu ≡ Some c) (done : IsQuick w s.bus s.due c (Some byte) b) where
+      quick-cycle : n ≡ w.cycle b
+      quick-cycle =
+          way.cycle
+          ∙ sym (sym (wired.cycle_close b (s.due + 1)) ∙ ap w.cycle done.2 ∙ wired.cycle_after (w.close s.bus (s.due + 1)) c ∙ wired.cycle_close s.bus (s.due + 1))
 
-    -- and leaves cycles, breaks and looks as they were
-    pub quick-clock : (t byte : ℕ) (s b : B) (c : Cycle) → IsQuick w s t c (Some byte) b → w.cycle s ≡ w.cycle b
-    quick-clock t byte s b c done =
-        sym (sym (wired.cycle_close b (t + 1)) ∙ ap w.cycle done.2 ∙ wired.cycle_after (w.close s (t + 1)) c ∙ wired.cycle_close s (t + 1))
+      pub quick-free : IsFree part w far b
+      quick-free u low =
+          sym (wired.pending_close b (s.due + 1) u) ∙ ap (λ (d : B). w.pending d u) done.2 ∙ wired.pending_after (w.close s.bus (s.due + 1)) c u ∙ wired.pending_close s.bus (s.due + 1) u ∙ way.free u low
 
-    pub quick-free : (t byte : ℕ) (s b : B) (c : Cycle) → IsFree part w far s → IsQuick w s t c (Some byte) b → IsFree part w far b
-    quick-free t byte s b c free done u low =
-        sym (wired.pending_close b (t + 1) u) ∙ ap (λ (d : B). w.pending d u) done.2 ∙ wired.pending_after (w.close s (t + 1)) c u ∙ wired.pending_close s (t + 1) u ∙ free u low
+      pub quick-plain : plain start.bus lines ≡ true → plain b lines ≡ true
+      quick-plain first =
+          sym (stays.close b lines (s.due + 1)) ∙ ap (λ (d : B). plain d lines) done.2 ∙ stays.after (w.close s.bus (s.due + 1)) lines c ∙ stays.close s.bus lines (s.due + 1) ∙ way.kept first
 
-    pub quick-plain : (t byte : ℕ) (s b : B) (c : Cycle) → IsQuick w s t c (Some byte) b → plain b lines ≡ plain s lines
-    quick-plain t byte s b c done =
-        sym (stays.close b lines (t + 1)) ∙ ap (λ (d : B). plain d lines) done.2 ∙ stays.after (w.close s (t + 1)) lines c ∙ stays.close s lines (t + 1)
+      module _ (low : s.due < until) (far_on : s.due + (n - 1) < far) {on : cpu.State} (gave : on ≡ after_byte part s.cpu byte) where
+        -- it is such a step, which leaves the device steps before it for later
+        quick-on : Came part w until lines sure start (at_of on (w.close b (s.due + 1)) (if is_none (next_cycle part on) then s.due + (n - 1) else s.due + n))
+        quick-on =
+            let x : At B = closed_to w s (s.due + 1) in
+            let none : is_break part w s ≡ false = no-break part w s (way.free s.due (omega (arith, far_on))) in
+            let then_ : B = w.after x.bus c in
+            let byte_is : ℕ = byte_of w x.bus s.due None c in
+            let pends : w.pending x.bus (s.due + (n - 1)) ≡ false = wired.pending_close s.bus (s.due + 1) (s.due + (n - 1)) ∙ way.free (s.due + (n - 1)) far_on in
+            let same : next_state part w s None ≡ at_of on (w.close b (s.due + 1)) (if is_none (next_cycle part on) then s.due + (n - 1) else s.due + n) =
+            plain-next part w s None none
+            ∙ ap (λ (o : Option Cycle). after_step part w o x None) is
+            ∙ ap (λ (k : ℕ). after_cycle part w (record x { bus = then_ }) (w.pending x.bus (s.due + (k - 1)) && halted part s.cpu) (after_byte part s.cpu byte_is) k) (done.3 ∙ sym way.cycle)
+            ∙ ap (λ (p : Bool). after_cycle part w (record x { bus = then_ }) (p && halted part s.cpu) (after_byte part s.cpu byte_is) n) pends
+            ∙ ap (λ (v : ℕ). after_cycle part w (record x { bus = then_ }) false (after_byte part s.cpu v) n) (sym done.1)
+            ∙ ap (λ (p : cpu.State). after_cycle part w (record x { bus = then_ }) false p n) (sym gave)
+            ∙ ap (λ (d : B). after_cycle part w (record x { bus = d }) false on n) (sym done.2) in
+            subst (Came part w until lines sure start) same (steps-on low none (ap (asks_by w s.bus) is ∙ done.0))
 
-    -- and then comes the next access
-    pub quick-more : (n : ℕ) (s : At B) (since byte : ℕ) (c : Cycle) (on : cpu.State) (b : B)
-        → IsUnderWay part w plain far n until lines sure start s since → s.due < until → s.due + (n - 1) < far → next_cycle part s.cpu ≡ Some c →
-        IsQuick w s.bus s.due c (Some byte) b → on ≡ after_byte part s.cpu byte → w.closed b ≤ s.due + 1 → IsSome (next_cycle part on)
-        → IsUnderWay part w plain far n until lines sure start (at_of on b (s.due + n)) since
-    quick-more n s since byte c on b way low far_on is done gave before more =
-        let some : 1 < n = omega (arith, way.cycle, wired.some s.bus) in
-        let came = quick-on n s since byte c on b way low far_on is done gave in
-        let gone : since < s.due + n = elim way.since_then [ inl e ↦ omega (arith, e, some) | inr e ↦ omega (arith, e.0, some) ] in
-        let owed : owed_at n since (s.due + n) (w.closed b) ≡ s.due + 1 = owed-some n since (s.due + n) (w.closed b) gone ∙ omega (arith, some) in
-        let due : (if is_none (next_cycle part on) then s.due + (n - 1) else s.due + n) ≡ s.due + n = on-by (next_cycle part on) s.due n more in
-        record {
-          cycle = way.cycle ∙ quick-clock s.due byte s.bus b c done;
-          goes_on = more;
-          looks = (
-            came.0,
-            subst (λ (x : At B). Looks (moves_of part w) until (shown_lines lines sure) came.0 start x)
-                (ap (λ (t : ℕ). at_of on (w.close b (s.due + 1)) t) due ∙ ap (λ (t : ℕ). at_of on (w.close b t) (s.due + n)) (sym owed)) came.1,
-          );
-          low = omega (arith, owed, before);
-          high = omega (arith, owed);
-          free = quick-free s.due byte s.bus b c way.free done;
-          since_then = inr (elim way.since_then [ inl e ↦ omega (arith, e) | inr e ↦ omega (arith, e.0) ], omega (arith, low));
-          kept = λ first. quick-plain s.due byte s.bus b c done ∙ way.kept first;
-        }
+        -- and then comes the next access
+        pub quick-more : w.closed b ≤ s.due + 1 → IsSome (next_cycle part on) → IsUnderWay part w plain far n until lines sure start (at_of on b (s.due + n)) since
+        quick-more before more =
+            let some : 1 < n = omega (arith, way.cycle, wired.some s.bus) in
+            let gone : since < s.due + n = elim way.since_then [ inl e ↦ omega (arith, e, some) | inr e ↦ omega (arith, e.0, some) ] in
+            let owed : owed_at n since (s.due + n) (w.closed b) ≡ s.due + 1 = owed-some n since (s.due + n) (w.closed b) gone ∙ omega (arith, some) in
+            let due : (if is_none (next_cycle part on) then s.due + (n - 1) else s.due + n) ≡ s.due + n = on-by (next_cycle part on) s.due n more in
+            record {
+              cycle = quick-cycle;
+              goes_on = more;
+              looks = subst (Came part w until lines sure start) (ap (at_of on (w.close b (s.due + 1))) due ∙ ap (λ (t : ℕ). at_of on (w.close b t) (s.due + n)) (sym owed)) quick-on;
+              low = omega (arith, owed, before);
+              high = omega (arith, owed);
+              free = quick-free;
+              since_then = inr (elim way.since_then [ inl e ↦ omega (arith, e) | inr e ↦ omega (arith, e.0) ], omega (arith, low));
+              kept = quick-plain;
+            }
 
-    -- or the look at the end of the sequence
-    pub quick-last : (n : ℕ) (s : At B) (since byte : ℕ) (c : Cycle) (on : cpu.State) (b : B)
-        → IsUnderWay part w plain far n until lines sure start s since → s.due < until → s.due + (n - 1) < far → next_cycle part s.cpu ≡ Some c →
-        IsQuick w s.bus s.due c (Some byte) b → on ≡ after_byte part s.cpu byte → next_cycle part on ≡ None → Came part w until lines sure start (at_of on (w.close b (s.due + 1)) (s.due + (n - 1)))
-    quick-last n s since byte c on b way low far_on is done gave over =
-        let came = quick-on n s since byte c on b way low far_on is done gave in (
-          came.0,
-          subst (λ (x : At B). Looks (moves_of part w) until (shown_lines lines sure) came.0 start x)
-              (ap (λ (o : Option Cycle). at_of on (w.close b (s.due + 1)) (if is_none o then s.due + (n - 1) else s.due + n)) over) came.1,
-        )
+        -- or the look at the end of the sequence
+        pub quick-last : next_cycle part on ≡ None → {t : ℕ} → t ≡ s.due + (n - 1) → Came part w until lines sure start (at_of on (w.close b (s.due + 1)) t)
+        quick-last over here =
+            subst (Came part w until lines sure start)
+            (ap (λ (o : Option Cycle). at_of on (w.close b (s.due + 1)) (if is_none o then s.due + (n - 1) else s.due + n)) over ∙ ap (at_of on (w.close b (s.due + 1))) (sym here)) quick-on
 
-    -- after which comes another access
-    pub quick-past : (n : ℕ) (s : At B) (since byte : ℕ) (c : Cycle) (on : cpu.State) (b : B) (new : At B)
-        → IsUnderWay part w plain far n until lines sure start s since → s.due < until → s.due + (n - 1) < far → next_cycle part s.cpu ≡ Some c →
-        IsQuick w s.bus s.due c (Some byte) b → on ≡ after_byte part s.cpu byte → w.closed b ≤ s.due + 1 → next_cycle part on ≡ None
-        → plain start.bus lines ≡ true → s.due + (n - 1) < until → s.due + (n - 1) < sure →
-        (t : ℕ) → t ≡ s.due + (n - 1) → new ≡ after_look part w (closed_to w (at_of on b t) (t + 1)) lines → IsUnderWay part w plain far n until lines sure start new new.due
-    quick-past n s since byte c on b new way low far_on is done gave before over first in_run early t here look =
-        let some : 1 < n = omega (arith, way.cycle, wired.some s.bus) in
-        let came = quick-last n s since byte c on b way low far_on is done gave over in
-        let at : Came part w until lines sure start (at_of on (w.close b (s.due + 1)) t) =
-        (came.0, subst (λ (k : ℕ). Looks (moves_of part w) until (shown_lines lines sure) came.0 start (at_of on (w.close b (s.due + 1)) k)) (sym here) came.1) in
-        let free : IsFree part w far b = quick-free s.due byte s.bus b c way.free done in
-        let saw = sees-on on b t (s.due + 1) new at (omega (arith, here, some)) over (omega (arith, here, in_run)) (omega (arith, here, early)) (free t (omega (arith, here, far_on))) look in
-        let is_plain : plain b lines ≡ true = quick-plain s.due byte s.bus b c done ∙ way.kept first in
-        let looked = after-look lines (at_of on b t) new (t + 1) (omega (arith, before, here, some)) is_plain look in
-        caught-up n new (way.cycle ∙ quick-clock s.due byte s.bus b c done ∙ looked.cycle) looked.goes_on (omega (arith, looked.closed, looked.due)) (looked.free far free) (λ _. looked.is_plain) saw
+        -- after which comes another access
+        pub quick-past : w.closed b ≤ s.due + 1 → next_cycle part on ≡ None → plain start.bus lines ≡ true → s.due + (n - 1) < until → s.due + (n - 1) < sure →
+            {t : ℕ} → t ≡ s.due + (n - 1) → {new : At B} → new ≡ after_look part w (closed_to w (at_of on b t) (t + 1)) lines → IsUnderWay part w plain far n until lines sure start new new.due
+        quick-past before over first in_run early {t} here {new} look =
+            let some : 1 < n = omega (arith, way.cycle, wired.some s.bus) in
+            let saw = sees-on until lines sure start on b t (s.due + 1) new (quick-last over here) (omega (arith, here, some)) over (omega (arith, here, in_run)) (omega (arith, here, early))
+            (quick-free t (omega (arith, here, far_on))) look in
+            let looked = after-look (at_of on b t) (t + 1) (omega (arith, before, here, some)) (quick-plain first) look in
+            caught-up (quick-cycle ∙ looked.cycle) looked.goes_on (omega (arith, looked.closed, looked.due)) (looked.free far quick-free) (λ _. looked.is_plain) saw

@@ -1,5 +1,5 @@
 -- Steps of a run, with what answers in passing, one behind another.
-use Rattle.std.proofs.Common.{◌≡◌, ◌∙◌, refl, sym, ap, subst, ℕ, ◌+◌, ◌<◌, ◌≤◌, inl, inr, length, false, true, Option, Some, None, IsSome, Ok, Err}
+use Rattle.std.proofs.Common.{◌≡◌, ◌∙◌, refl, sym, ap, subst, ℕ, zero, suc, ◌+◌, ◌<◌, ◌≤◌, inl, inr, length, Bool, false, true, Option, Some, None, IsSome, Ok, Err}
 use Rattle.op_table.specs.declared.names.Part.{Part}
 use Rattle.op_table.specs.declared.names.Part.TheVariants.{Cmos}
 use Rattle.cpu_alu.specs.declared.Cycle.{Cycle}
@@ -8,56 +8,96 @@ use Rattle.tube_chip.specs.declared.Answer.{Answer}
 use Rattle.tube_chip.specs.declared.Answer.TheVariants.{Byte}
 use Rattle.tube_chip.specs.declared.Lines.{Lines}
 use Rattle.tube_chip.specs.declared.Op.{Op}
-use Rattle.tube_party.specs.declared.party.Ask.TheVariants as Ask
-use Rattle.tube_party.specs.Moves.{Talks, Hears, IsAnswered, shown_lines}
-use Rattle.tube_party.specs.Steps.{talks_on, talks_rise}
-use Rattle.tube_machine.specs.Wiring.{Wiring, IsWired}
+use Rattle.tube_party.specs.declared.party.Ask.{Ask}
+use Rattle.tube_party.specs.declared.party.Ask.TheVariants as asks
+use Rattle.tube_party.specs.Moves.{Moves, Shown, Looks, Talks, Hears, IsAnswered, shown_lines}
+use Rattle.tube_party.specs.Steps.{talks_on, talks_rise, hears_after}
+use Rattle.tube_machine.specs.Wiring.{Wiring, IsWired, StaysPlain}
 use Rattle.tube_machine.specs.Lawful.{lawful}
 use Rattle.tube_machine.specs.Step.{At, is_break, asks_by, next_state, moves_of}
-use Rattle.tube_machine.specs.Exchange.{IsDone, ready}
+use Rattle.tube_machine.specs.Exchange.{IsDone, owed_at, ready}
+use Rattle.tube_machine.specs.Whole.{IsServed}
 use Rattle.tube_machine.specs.declared.bus.Unable.TheVariants.{Tube}
-use Rattle.tube_machine.proofs.Stops.{more, next-cycle, silent-by, cost}
-use Rattle.tube_machine.proofs.Asked.{talks-cycle}
+use Rattle.tube_machine.proofs.UnderWay.{IsUnderWay, Came, caught-up, came-there}
+use Rattle.tube_machine.proofs.Stops.{more, looks-cycle, next-cycle, next-rises, silent-by, cost}
 
-module _ (part : Part) {B D : Type 0} (w : Wiring B) (answers : D → ℕ → Op → ℕ → D → Type 0) (n : ℕ) (lines : Lines) (sure : ℕ) where
-  -- what answers goes from d to e on the way from one machine to another
-  abbrev pub Way : At B → D → At B → D → Type 0
-  Way s d new e = (j : ℕ) × Talks (moves_of part w) answers n (shown_lines lines sure) j s d new e
+-- what answers goes from d to e on the way from one state to another
+abbrev pub Way : {S D : Type 0} → Moves S → (D → ℕ → Op → ℕ → D → Type 0) → ℕ → Shown → S → D → S → D → Type 0
+Way m answers n v s d new e = (j : ℕ) × Talks m answers n v j s d new e
 
+module _ {S D : Type 0} (m : Moves S) {answers : D → ℕ → Op → ℕ → D → Type 0} {n : ℕ} (v : Shown) {s mid new : S} {d f : D} (way : Way m answers n v s d mid f) where
   -- one way behind another
-  pub way-on : (s mid new : At B) (d f e : D) → Way s d mid f → Way mid f new e → Way s d new e
-  way-on s mid new d f e one two = talks_on (moves_of part w) answers n lines sure one.0 two.0 s mid new d f e one.1 two.1
+  pub way-on : {e : D} → Way m answers n v mid f new e → Way m answers n v s d new e
+  way-on {e} on = talks_on m answers n v.lines v.sure way.0 on.0 s mid new d f e way.1 on.1
 
+  pub then-came : (k : ℕ) × Looks m n v k mid new → Way m answers n v s d new f
+  then-came came = way-on (0, (refl, came))
+
+-- what comes behind it
+pub way-hears : {S D : Type 0} {m : Moves S} {answers : D → ℕ → Op → ℕ → D → Type 0} {n : ℕ} {v : Shown} {s mid new : S} {d f e : D} {ask : Ask} → Way m answers n v s d mid f → Hears m answers n v mid f ask new e
+    → Hears m answers n v s d ask new e
+way-hears {m = m} {answers} {n} {v} {s} {mid} {new} {d} {f} {e} {ask} way hears = hears_after m answers n v.lines v.sure s mid new d f e ask way hears
+
+module _ (part : Part) {B D : Type 0} {w : Wiring B} (wired : IsWired w) {answers : D → ℕ → Op → ℕ → D → Type 0} {n : ℕ} (v : Shown) {s new : At B} {d e : D}
+    (way : Way (moves_of part w) answers n v s d new e) where
   -- at its end an access is asked for
-  pub way-asks : (s at new : At B) (d f e : D) (o : Op) → Way s d at f → at.due < n → IsDone part w answers at f (Err (Tube o)) new e
-      → Hears (moves_of part w) answers n (shown_lines lines sure) s d (Ask.Access (record { 0 = new.due }) o) new e
-  way-asks s at new d f e o way low done =
-      let all : Way s d at e = way-on s at at d f e way (0, (done.2, (0, refl))) in
-      record {
-        accesses = all.0;
-        last = at;
-        talks = all.1;
-        asked =
-            (ap (λ (x : At B). x.due) done.1, subst (λ (x : At B). x.due < n) (sym done.1) low, done.0, done.1);
-        unsure = tt;
-      }
+  pub way-asks : {last : At B} {f : D} {o : Op} → new.due < n → IsDone part w answers new e (Err (Tube o)) last f → Hears (moves_of part w) answers n v s d (asks.Access (record { 0 = last.due }) o) last f
+  way-asks {f = f} low done = record {
+    accesses = way.0;
+    last = new;
+    talks = subst (λ (x : D). Talks (moves_of part w) answers n v way.0 s d new x) done.2 way.1;
+    asked = (ap (λ (x : At B). x.due) done.1, subst (λ (x : At B). x.due < n) (sym done.1) low, done.0, done.1);
+    unsure = tt;
+  }
 
-  module _ (wired : IsWired w) where
-    -- a cycle is as long as before
-    pub way-cycle : (s new : At B) (d e : D) → Way s d new e → w.cycle new.bus ≡ w.cycle s.bus
-    way-cycle s new d e way = talks-cycle part w wired answers n lines sure way.0 s new d e way.1
+  -- a cycle is as long as before
+  pub way-cycle : w.cycle new.bus ≡ w.cycle s.bus
+  way-cycle = by way.0 s new d e way.1
+    where
+      by : (j : ℕ) (s last : At B) (d e : D) → Talks (moves_of part w) answers n v j s d last e → w.cycle last.bus ≡ w.cycle s.bus
+      by zero s last d e h = looks-cycle part w wired n v.lines v.sure h.1.0 s last h.1.1
+      by (suc j) s last d e h =
+          by j h.1 last h.2 e h.5 ∙ ap (λ (x : At B). w.cycle x.bus) h.4.goes ∙ next-cycle part w wired h.0 (Some (Byte h.4.byte)) ∙ looks-cycle part w wired n v.lines v.sure h.3.0 s h.0 h.3.1
 
-    -- and the tick rises
-    pub way-rises : (s new : At B) (d e : D) → Way s d new e → s.due ≤ new.due
-    way-rises s new d e way = talks_rise (moves_of part w) answers n lines sure way.0 s new d e (lawful part w wired) way.1
+  -- and the tick rises
+  pub way-rises : s.due ≤ new.due
+  way-rises = talks_rise (moves_of part w) answers n v.lines v.sure way.0 s new d e (lawful part w wired) way.1
+
+-- The steps so far, with accesses that were answered in passing: from a machine behind the last of them the way is as in IsUnderWay.
+pub record IsTalking (part : Part) {B D : Type 0} (w : Wiring B) (plain : B → Lines → Bool) (answers : D → ℕ → Op → ℕ → D → Type 0) (far n until : ℕ) (lines : Lines) (sure : ℕ)
+    (start : At B) (d : D) (s : At B) (e : D) (since : ℕ) : Type 0 where
+  pub mid : At B
+  pub talks : Way (moves_of part w) answers until (shown_lines lines sure) start d mid e
+  pub first : plain start.bus lines ≡ true → plain mid.bus lines ≡ true
+  pub way : IsUnderWay part w plain far n until lines sure mid s since
+
+module _ (part : Part) {B D : Type 0} {w : Wiring B} (wired : IsWired w) {plain : B → Lines → Bool} (stays : StaysPlain w plain) {answers : D → ℕ → Op → ℕ → D → Type 0}
+    {far n until : ℕ} {lines : Lines} {sure : ℕ} {start : At B} {d : D} where
+  -- what is owed is done
+  pub left-off : {s : At B} {e : D} {since : ℕ} {b : B} → IsTalking part w plain answers far n until lines sure start d s e since → b ≡ w.close s.bus (owed_at n since s.due (w.closed s.bus))
+      → Way (moves_of part w) answers until (shown_lines lines sure) start d (record s { bus = b }) e
+  left-off {s} at is = then-came (moves_of part w) (shown_lines lines sure) at.talks (subst (λ (x : B). Came part w until lines sure at.mid (record s { bus = x })) (sym is) at.way.looks)
+
+  pub not-yet : {s : At B} {since : ℕ} → IsUnderWay part w plain far n until lines sure start s since → IsTalking part w plain answers far n until lines sure start d s d since
+  not-yet way = record { mid = start; talks = (0, (refl, (0, refl))); first = λ is. is; way = way }
+
+  -- whole instructions from there
+  pub served-on : {bound : ℕ} {s new : At B} {f e : D} → IsTalking part w plain answers far n until lines sure start d s f s.due → IsServed part w plain answers lines bound s f new e
+      → bound ≤ far → bound ≤ until → bound ≤ sure → IsTalking part w plain answers far n until lines sure start d new e new.due
+  served-on {new = new} at served far_on in_run early = record {
+    mid = new;
+    talks = way-on (moves_of part w) (shown_lines lines sure) (then-came (moves_of part w) (shown_lines lines sure) at.talks (came-there part wired stays at.way)) (served.talks until sure in_run early);
+    first = λ _. served.is_plain;
+    way = caught-up part wired stays (at.way.cycle ∙ served.cycle) served.goes_on served.closed (served.free far far_on at.way.free) (λ is. is) (0, refl);
+  }
 
 -- the next step is done, and may be answered in passing
-module _ (part : Part) {B D : Type 0} (w : Wiring B) (wired : IsWired w) (answers : D → ℕ → Op → ℕ → D → Type 0) (s : At B) (d : D) (new : At B) (e : D)
+module _ (part : Part) {B D : Type 0} {w : Wiring B} (wired : IsWired w) {answers : D → ℕ → Op → ℕ → D → Type 0} {s : At B} {d : D} {new : At B} {e : D}
     (done : IsDone part w answers s d (Ok tt) new e) where
   -- it is a step of a run
-  pub done-way : (n : ℕ) (lines : Lines) (sure : ℕ) → s.due < n → Way part w answers n lines sure s d new e
-  done-way n lines sure low = elim done [
-    | inl h ↦ (0, (h.1, more part w wired n lines sure s s new (0, refl) low h.0))
+  pub done-way : {n : ℕ} (v : Shown) → s.due < n → Way (moves_of part w) answers n v s d new e
+  done-way {n} v low = elim done [
+    | inl h ↦ (0, (h.1, more part w wired n v.lines v.sure s new low h.0))
     | inr h ↦
         let a : IsAnswered (moves_of part w) answers (s.due + 1) s d new e = h.1 in
         (1, (s, new, e, (0, refl), record { op = a.op; byte = a.byte; below = low; asks = a.asks; answered = a.answered; goes = a.goes }, (refl, (0, refl))))
@@ -70,7 +110,7 @@ module _ (part : Part) {B D : Type 0} (w : Wiring B) (wired : IsWired w) (answer
   ]
 
   pub done-rises : s.due < new.due
-  done-rises = subst (λ (x : At B). s.due < x.due) (sym done-next.1) ((lawful part w wired).rises s done-next.0)
+  done-rises = next-rises part w wired s done-next.0 done-next.1
 
   pub done-cycle : w.cycle new.bus ≡ w.cycle s.bus
   done-cycle = ap (λ (x : At B). w.cycle x.bus) done-next.1 ∙ next-cycle part w wired s done-next.0

@@ -2,7 +2,7 @@ use Rattle.std.proofs.Common.{◌-◌, ◌≡◌, length}
 use Rattle.op_table.specs.declared.names.Part.TheVariants.{Cmos}
 use Rattle.tube_machine.specs.Step.{at_of}
 use Rattle.tube_machine.specs.Exchange.{spent}
-use Rattle.tube_machine.proofs.Asked.{IsTalking}
+use Rattle.tube_machine.proofs.Ways.{IsTalking}
 use Rattle.tube_machine.specs.Exchange.{HasSpent, ready}
 use Rattle.tube_machine.proofs.run.go_on.Given as goal
 

@@ -1,12 +1,13 @@
-use Rattle.std.proofs.Common.{ℕ, ◌-◌, ◌≤◌, ◌+◌}
-use Rattle.tube_party.specs.Moves.{Talks, shown_lines}
+use Rattle.std.proofs.Common.{◌-◌, ◌≤◌, ◌+◌}
+use Rattle.tube_party.specs.Moves.{shown_lines}
 use Rattle.tube_machine.specs.Step.{at_of, moves_of}
+use Rattle.tube_machine.proofs.Ways.{Way}
 use Rattle.tube_machine.proofs.steps.advance_at.Given as goal
 
 -- the steps so far asked nothing or saw the lines
 abbrev pub invariant-loop-ask : goal.invariant-loop-ask
 invariant-loop-ask g l = record {
-  went : (j : ℕ) × Talks (moves_of g.P.Processor.part g.B.TubeBus.wiring) g.D.Desk.answers l.until.0 (shown_lines l.lines l.sure.0) j
+  went : Way (moves_of g.P.Processor.part g.B.TubeBus.wiring) g.D.Desk.answers l.until.0 (shown_lines l.lines l.sure.0)
       (at_of (g.P.Processor.core l.initial.cpu) (g.B.TubeBus.state l.initial.bus) l.initial.due) (g.D.Desk.state l.initial.desk)
       (at_of (g.P.Processor.core l.cpu) (g.B.TubeBus.state l.bus) l.due) (g.D.Desk.state l.desk);
   before : g.B.TubeBus.wiring.closed (g.B.TubeBus.state l.bus) ≤ l.due + 1;

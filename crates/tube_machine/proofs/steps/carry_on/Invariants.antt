@@ -1,17 +1,17 @@
 use Rattle.std.proofs.Common.{◌-◌, ◌≡◌, ◌≤◌, ◌+◌, false, length}
 use Rattle.op_table.specs.declared.names.Part.TheVariants.{Cmos}
-use Rattle.tube_machine.specs.Step.{At, at_of}
+use Rattle.tube_party.specs.Moves.{shown_lines}
+use Rattle.tube_machine.specs.Step.{at_of, moves_of}
 use Rattle.tube_machine.specs.Exchange.{spent, HasSpent, ready}
 use Rattle.tube_machine.proofs.Ways.{Way}
 use Rattle.tube_machine.proofs.steps.carry_on.Given as goal
 
--- what goes on from here is a run from the start, and notes cost no more than a cycle each
+-- the steps so far, and notes cost no more than a cycle each
 abbrev pub invariant-loop-cpu : goal.invariant-loop-cpu
 invariant-loop-cpu g l = record {
-  went : (new : At g.B.TubeBus.State) (e : g.D.Desk.State)
-      → Way g.P.Processor.part g.B.TubeBus.wiring g.D.Desk.answers l.until.0 l.lines l.sure.0 (at_of (g.P.Processor.core l.cpu) (g.B.TubeBus.state l.bus) l.due) (g.D.Desk.state l.desk) new e
-      → Way g.P.Processor.part g.B.TubeBus.wiring g.D.Desk.answers l.until.0 l.lines l.sure.0
-      (at_of (g.P.Processor.core l.initial.cpu) (g.B.TubeBus.state l.initial.bus) l.initial.due) (g.D.Desk.state l.initial.desk) new e;
+  went : Way (moves_of g.P.Processor.part g.B.TubeBus.wiring) g.D.Desk.answers l.until.0 (shown_lines l.lines l.sure.0)
+      (at_of (g.P.Processor.core l.initial.cpu) (g.B.TubeBus.state l.initial.bus) l.initial.due) (g.D.Desk.state l.initial.desk)
+      (at_of (g.P.Processor.core l.cpu) (g.B.TubeBus.state l.bus) l.due) (g.D.Desk.state l.desk);
   before : g.B.TubeBus.wiring.closed (g.B.TubeBus.state l.bus) ≤ l.due + 1;
   cycle : g.B.TubeBus.wiring.cycle (g.B.TubeBus.state l.bus) ≡ g.B.TubeBus.wiring.cycle (g.B.TubeBus.state l.initial.bus);
   noted : g.B.TubeBus.before l.notes l.bus ≡ g.B.TubeBus.before l.initial.notes l.initial.bus;
