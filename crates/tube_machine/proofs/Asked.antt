@@ -1,6 +1,6 @@
 -- An instruction whose last access is the Tube's and is answered in passing, and a branch behind it that leads back: where the registers are then as they
 -- were, the same comes again.
-use Rattle.std.proofs.Common.{◌≡◌, ◌≤◌, ◌<◌, ◌∙◌, ◌+◌, ◌-◌, ◌*◌, ◌&&◌, refl, sym, ap, subst, ℕ, zero, suc, Bool, true, false, is_none, Option, Some, IsSome, MatchOption, arith, if◌then◌else◌}
+use Rattle.std.proofs.Common.{◌≡◌, ◌≤◌, ◌<◌, ◌∙◌, ◌+◌, ◌-◌, ◌*◌, refl, sym, ap, subst, ℕ, zero, suc, Bool, true, false, Option, Some, IsSome, MatchOption, arith}
 use Rattle.op_table.specs.declared.names.Part.{Part}
 use Rattle.cpu_alu.specs.declared.Cycle.{Cycle}
 use Rattle.cpu_alu.specs.declared.Regs.{Regs}
@@ -8,7 +8,7 @@ use Rattle.cpu_alu.specs.declared.flags.TheConstants.{INTERRUPT}
 use Rattle.cpu_alu.specs.Flags.{has_flag}
 use Rattle.cpu_core.specs.declared.Sequence.TheVariants.{Instruction}
 use Rattle.cpu_core.specs.State as cpu
-use Rattle.cpu_core.specs.Sequences.{next_cycle, after_byte, halted, after, fresh}
+use Rattle.cpu_core.specs.Sequences.{next_cycle, after_byte, after, fresh}
 use Rattle.cpu_whole.specs.Whole.{IsDone}
 use Rattle.cpu_whole.specs.Outside.{IsOutside, access_of, outcome}
 use Rattle.cpu_whole.specs.declared.outside.LastAccess.{LastAccess}
@@ -19,7 +19,7 @@ use Rattle.tube_chip.specs.Act.{Query, access}
 use Rattle.tube_party.specs.Moves.{FitsAnswer, Talks, IsAnswered, IsAnsweredAgain, shown_lines}
 use Rattle.tube_party.specs.Steps.{talks_on}
 use Rattle.tube_machine.specs.Wiring.{Wiring, IsWired, StaysPlain}
-use Rattle.tube_machine.specs.Step.{At, at_of, is_break, asks, asks_by, after_cycle, after_look, closed_to, next_state, moves_of}
+use Rattle.tube_machine.specs.Step.{At, at_of, is_break, asks, asks_by, after_look, closed_to, next_state, moves_of}
 use Rattle.tube_machine.specs.Exchange.{IsAtTube, IsPassing, owed_at}
 use Rattle.tube_machine.specs.Lawful.{asked_closed, break_closed, next_closed}
 use Rattle.tube_machine.specs.NoBreak.{no-break, plain-asks}
@@ -166,8 +166,7 @@ module _ (part : Part) {B D : Type 0} {w : Wiring B} (wired : IsWired w) {reads 
     goes : (v : ℕ) → v ≤ top from + 1 → over_there ≡ next_state part w (closed_to w there v) (Some (Byte byte))
     goes v high =
         let pends : w.pending b (top from + (n - 1)) ≡ false = free_to (top from + 1) bound free (top from + (n - 1)) (omega (arith, fits, some)) in
-        sym (ap (λ (p : Bool). after_cycle part w (at_of last b (top from)) (p && halted part last) on n) pends
-        ∙ ap (λ (q : Option Cycle). at_of on b (if is_none q then top from + (n - 1) else top from + n)) ((outside from).over byte))
+        sym (rw (pends, (outside from).over byte))
         ∙ taken part w wired there c b byte n (outside from).next unbroken (subst (λ (x : B). IsAtTube w x c) (sym same_on) (at_tube (top from + 1)))
         (sym (ap (λ (x : B). w.after x c) same_on ∙ passing.leaves (top from + 1))) cycle_on
         (ap (λ (x : B). w.takes x (top from) c) same_on ∙ passing.fast (top from) (top from + 1) ∙ sym (ap w.cycle same_on))

@@ -17,11 +17,10 @@ use Rattle.cpu_alu.specs.declared.Cycle.{Cycle}
 use Rattle.cpu_alu.specs.declared.Cycle.TheVariants.{Read, Write}
 use Rattle.cpu_alu.specs.declared.uses.BusUse.{BusUse}
 use Rattle.cpu_alu.specs.declared.uses.BusUse.TheVariants as uses
-use Rattle.cpu_alu.specs.Addresses.{place}
 use Rattle.cpu_alu.specs.Instructions.{bus_use, takes_branch, modified_value, stored_value}
 use Rattle.cpu_core.specs.declared.Sequence.{Sequence}
 use Rattle.cpu_core.specs.declared.Sequence.TheVariants.{Instruction, Reset, Nmi, Irq}
-use Rattle.cpu_core.specs.Accesses.{byte, cycle_between, waits, lasts_longer, carry_cycles, reach, address, operand, last_place, modify_form, branch_form, jump_form, again, implied_form, form}
+use Rattle.cpu_core.specs.Accesses.{byte, cycle_between, waits, lasts_longer, reach, address, operand, last_place, modify_form, branch_form, jump_form, again, implied_form, form}
 use Rattle.cpu_core.specs.Sequences.{accesses}
 use Rattle.cpu_core.specs.State as cpu
 use Rattle.cpu65c02.specs.Sequences.{next_cycle}

@@ -1,5 +1,5 @@
 -- Notes cost no more than a cycle each.
-use Rattle.std.proofs.Common.{◌≡◌, ◌≤◌, ◌∙◌, ℕ, ◌+◌, ◌*◌, length, [], ◌∷◌, ◌++◌, ap, refl, arith, Bool, false, cond, Option, Some, None, IsSome, is_none, if◌then◌else◌}
+use Rattle.std.proofs.Common.{◌≡◌, ◌≤◌, ◌∙◌, ℕ, ◌+◌, ◌*◌, length, ap, refl, arith, false, Option, Some, None, IsSome, is_none, if◌then◌else◌}
 use Rattle.std.proofs.Math.Nat.{mul-add, mul-one, mul-le-mul_left}
 use Rattle.std.proofs.lemmas.List.{length_push}
 use Rattle.op_table.specs.declared.names.Part.{Part}
@@ -11,10 +11,7 @@ use Rattle.tube_machine.specs.Exchange.{Spent, spent, HasSpent, ready}
 
 -- each access is one more cycle that was seen
 pub seen-on : (part : Part) (s on : cpu.State) (byte : ℕ) → on ≡ after_byte part s byte → halted part s ≡ false → length on.seen ≡ length s.seen + 1
-seen-on part s on byte gave goes =
-    ap (λ (x : cpu.State). length x.seen) gave
-    ∙ ap (λ (h : Bool). length (cond h s (record s { seen = s.seen ++ shown_byte (next_cycle part s) byte ∷ [] })).seen) goes
-    ∙ length_push s.seen (shown_byte (next_cycle part s) byte)
+seen-on part s on byte gave goes = rw (gave, goes) (length_push s.seen (shown_byte (next_cycle part s) byte))
 
 pub seen-more : (part : Part) (s on : cpu.State) (byte : ℕ) → on ≡ after_byte part s byte → part ≡ Cmos → length on.seen ≡ length s.seen + 1
 seen-more part s on byte gave is = seen-on part s on byte gave (ap (λ (p : Part). halted p s) is)

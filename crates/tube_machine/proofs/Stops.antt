@@ -20,7 +20,7 @@ use Rattle.tube_party.specs.Steps.{silent_last, look_last}
 use Rattle.tube_party.specs.declared.party.Ask.{Ask}
 use Rattle.tube_party.specs.declared.party.Ask.TheVariants.{Nothing, Access, Look}
 use Rattle.tube_machine.specs.Wiring.{Wiring, IsWired}
-use Rattle.tube_machine.specs.Step.{At, is_break, after_break, asks, asks_by, asks_reset, byte_of, after_step, closed_to, lines_in, next_state, moves_of}
+use Rattle.tube_machine.specs.Step.{At, is_break, after_break, asks, asks_by, byte_of, after_step, closed_to, lines_in, next_state, moves_of}
 use Rattle.tube_machine.specs.Lawful.{lawful}
 use Rattle.tube_machine.specs.Exchange.{Spent, HasSpent, IsSilent, IsCramped, ready}
 use Rattle.tube_machine.specs.NoBreak.{plain-asks, plain-next}
@@ -75,10 +75,8 @@ module _ (part : Part) {B : Type 0} (w : Wiring B) where
       let parts = alone-parts (nat_lt s.due n) (is_break part w s) (w.has_tube s.bus) is in (
         ltb-true s.due n parts.0,
         λ new broken. (
-          ap (λ (b : Bool). if b then asks_reset w s.bus else asks_by w s.bus (next_cycle part s.cpu)) parts.1.0
-              ∙ ap (λ (has : Bool). if has then Some (access op.Reset) else None) parts.1.1,
-          broken ∙ sym (ap (λ (b : Bool). if b then after_break part w (closed_to w s (s.due + 1))
-              else after_step part w (next_cycle part s.cpu) (closed_to w s (s.due + 1)) None) parts.1.0),
+          rw (parts.1.0, parts.1.1),
+          broken ∙ sym (rw parts.1.0),
         ),
       )
 

@@ -1,10 +1,10 @@
 -- An access to the Tube that was answered, and one that asked nothing.
-use Rattle.std.proofs.Common.{◌≡◌, ◌∙◌, sym, ap, subst, ℕ, ◌+◌, ◌-◌, ◌&&◌, ◌∷◌, ◌++◌, [], cond, Bool, true, false, Option, Some, None, MatchOption, refl, if◌then◌else◌, ◌%◌}
+use Rattle.std.proofs.Common.{◌≡◌, ◌∙◌, sym, ap, subst, ℕ, ◌+◌, ◌-◌, ◌&&◌, Bool, true, false, Option, Some, None, MatchOption, refl, if◌then◌else◌, ◌%◌}
 use Rattle.op_table.specs.declared.names.Part.{Part}
 use Rattle.cpu_alu.specs.declared.Cycle.{Cycle}
 use Rattle.cpu_alu.specs.declared.Cycle.TheVariants.{Read, Write}
 use Rattle.cpu_core.specs.State as cpu
-use Rattle.cpu_core.specs.Sequences.{next_cycle, after_byte, halted, shown_byte}
+use Rattle.cpu_core.specs.Sequences.{next_cycle, after_byte, halted}
 use Rattle.tube_chip.specs.declared.Answer.{Answer}
 use Rattle.tube_chip.specs.declared.Answer.TheVariants.{Byte, Seen}
 use Rattle.tube_chip.specs.declared.Lines.{Lines}
@@ -19,9 +19,7 @@ use Rattle.tube_party.specs.Moves.{FitsAnswer}
 
 -- what a write shows does not hang on a byte
 after_byte-write : (part : Part) (s : cpu.State) (at v byte : ℕ) → next_cycle part s ≡ Some (Write at v) → after_byte part s byte ≡ after_byte part s 0
-after_byte-write part s at v byte e =
-    ap (λ (c : Option Cycle). cond (halted part s) s (record s { seen = s.seen ++ shown_byte c byte ∷ [] })) e
-    ∙ sym (ap (λ (c : Option Cycle). cond (halted part s) s (record s { seen = s.seen ++ shown_byte c 0 ∷ [] })) e)
+after_byte-write part s at v byte e = rw e
 
 asked-by : (b : Bool) (o : Op) → MatchOption (if b then Some (access o) else None) ⊥ (λ q. FitsAnswer q (Byte 0)) → b ≡ true
 asked-by true o asked = refl
@@ -44,8 +42,8 @@ module _ (part : Part) {B : Type 0} (w : Wiring B) where
   asked-over s l asked = over-by (is_break part w s) s.bus (next_cycle part s.cpu) l asked
 
   pub at-tube : (b there : B) (c : Cycle) → w.has_tube there ≡ w.has_tube b → MatchOption (asks_by w b (Some c)) ⊥ (λ q. FitsAnswer q (Byte 0)) → IsAtTube w there c
-  at-tube b there (Read at) same asked = ap (λ (has : Bool). has && w.is_tube at) same ∙ asked-by (w.has_tube b && w.is_tube at) (op.Read (at % 8)) asked
-  at-tube b there (Write at v) same asked = ap (λ (has : Bool). has && w.is_tube at) same ∙ asked-by (w.has_tube b && w.is_tube at) (op.Write (at % 8) v) asked
+  at-tube b there (Read at) same asked = rw same (asked-by (w.has_tube b && w.is_tube at) (op.Read (at % 8)) asked)
+  at-tube b there (Write at v) same asked = rw same (asked-by (w.has_tube b && w.is_tube at) (op.Write (at % 8) v) asked)
 
   -- where a byte is asked for, the Tube answers it
   pub asked-at-tube : (wired : IsWired w) (s : At B) (c : Cycle) (t : ℕ) → next_cycle part s.cpu ≡ Some c → is_break part w s ≡ false → IsAskedByte part w s → IsAtTube w (w.close s.bus t) c
@@ -54,7 +52,7 @@ module _ (part : Part) {B : Type 0} (w : Wiring B) where
       (subst (λ (o : Option Query). MatchOption o ⊥ (λ q. FitsAnswer q (Byte 0))) (plain-asks part w s none ∙ ap (asks_by w s.bus) is) asked)
 
   given-shown : (s : cpu.State) (b : B) (t byte : ℕ) (c : Cycle) → next_cycle part s ≡ Some c → IsAtTube w b c → after_byte part s byte ≡ after_byte part s (byte_of w b t (Some (Byte byte)) c)
-  given-shown s b t byte (Read at) is there = ap (λ (tube : Bool). after_byte part s (if tube then byte else w.answer b t at)) (sym there)
+  given-shown s b t byte (Read at) is there = rw there
   given-shown s b t byte (Write at v) is there = after_byte-write part s at v byte is
 
   -- An access that is done: the bus after it, the byte that it showed and its ticks make the next state.
@@ -63,14 +61,7 @@ module _ (part : Part) {B : Type 0} (w : Wiring B) where
       → n ≡ w.takes (w.close s.bus (s.due + 1)) s.due c →
       after_cycle part w (at_of s.cpu b s.due) (w.pending b (s.due + (n - 1)) && halted part s.cpu) (after_byte part s.cpu byte) n ≡ next_state part w s a
   accessed-next wired s a c b byte n is none gave after ticks =
-      let x : At B = closed_to w s (s.due + 1) in
-      let then_ : B = w.after x.bus c in
-      ap (λ (d : B). after_cycle part w (at_of s.cpu d s.due) (w.pending d (s.due + (n - 1)) && halted part s.cpu) (after_byte part s.cpu byte) n) after
-      ∙ ap (λ (p : Bool). after_cycle part w (at_of s.cpu then_ s.due) (p && halted part s.cpu) (after_byte part s.cpu byte) n) (wired.pending_after x.bus c (s.due + (n - 1)))
-      ∙ ap (λ (k : ℕ). after_cycle part w (at_of s.cpu then_ s.due) (w.pending x.bus (s.due + (k - 1)) && halted part s.cpu) (after_byte part s.cpu byte) k) ticks
-      ∙ ap (λ (on : cpu.State). let n2 : ℕ = w.takes x.bus s.due c in after_cycle part w (at_of s.cpu then_ s.due) (w.pending x.bus (s.due + (n2 - 1)) && halted part s.cpu) on n2) gave
-      ∙ sym (ap (λ (o : Option Cycle). after_step part w o x a) is)
-      ∙ sym (plain-next part w s a none)
+      rw (after, ticks, gave, wired.pending_after (w.close s.bus (s.due + 1)) c) (sym (plain-next part w s a none ∙ ap (λ (o : Option Cycle). after_step part w o (closed_to w s (s.due + 1)) a) is))
 
   pub taken : (wired : IsWired w) (s : At B) (c : Cycle) (b : B) (byte n : ℕ) → next_cycle part s.cpu ≡ Some c → is_break part w s ≡ false → IsAtTube w (w.close s.bus (s.due + 1)) c →
       b ≡ w.after (w.close s.bus (s.due + 1)) c → n ≡ w.cycle b → w.takes (w.close s.bus (s.due + 1)) s.due c ≡ w.cycle (w.close s.bus (s.due + 1)) →

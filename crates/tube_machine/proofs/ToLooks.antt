@@ -1,26 +1,21 @@
 -- An instruction that is done whole comes to its look, and goes past it.
-use Rattle.std.proofs.Common.{◌≡◌, ◌≤◌, ◌<◌, ◌∙◌, ◌+◌, ◌-◌, ◌*◌, refl, sym, ap, subst, ℕ, zero, suc, length, Bool, true, false, Option, Some, None, MatchOption, arith}
-use Rattle.std.proofs.Math.Nat.{mul-one}
+use Rattle.std.proofs.Common.{◌≡◌, ◌≤◌, ◌<◌, ◌+◌, ◌-◌, ◌*◌, refl, sym, subst, ℕ, zero, suc, Bool, true, false, arith}
 use Rattle.op_table.specs.declared.names.Part.{Part}
-use Rattle.cpu_alu.specs.declared.Cycle.{Cycle}
 use Rattle.cpu_alu.specs.declared.Regs.{Regs}
 use Rattle.cpu_alu.specs.declared.flags.TheConstants.{INTERRUPT}
 use Rattle.cpu_alu.specs.Flags.{has_flag}
 use Rattle.cpu_core.specs.declared.Sequence.TheVariants.{Instruction}
 use Rattle.cpu_core.specs.State as cpu
-use Rattle.cpu_core.specs.Sequences.{next_cycle, after_byte, after, fresh}
-use Rattle.cpu_whole.specs.Whole.{Reach, Carried, IsDone, is_plain, shows, leaves}
+use Rattle.cpu_core.specs.Sequences.{after_byte, fresh}
+use Rattle.cpu_whole.specs.Whole.{IsDone}
 use Rattle.tube_chip.specs.declared.Lines.{Lines}
-use Rattle.tube_chip.specs.declared.Answer.TheVariants.{Seen}
 use Rattle.tube_party.specs.Moves.{Moves, Shown, shown_lines}
 use Rattle.tube_party.specs.Steps.{none_seen}
 use Rattle.tube_machine.specs.Wiring.{Wiring, IsWired, StaysPlain}
-use Rattle.tube_machine.specs.Step.{At, at_of, is_break, asks_by, after_look, after_step, closed_to, next_state, moves_of}
-use Rattle.tube_machine.specs.NoBreak.{no-break, plain-asks, plain-next}
-use Rattle.tube_machine.specs.Exchange.{IsQuick}
+use Rattle.tube_machine.specs.Step.{At, at_of, moves_of}
 use Rattle.tube_machine.specs.Whole.{reach_of, IsMemory, StaysAtRest}
 use Rattle.tube_machine.specs.Passing.{ToLook, Passes}
-use Rattle.tube_machine.proofs.UnderWay.{IsUnderWay, IsFree, begins, caught-up, quick-last, quick-free}
+use Rattle.tube_machine.proofs.UnderWay.{IsUnderWay, IsFree, begins, caught-up, look-asks, look-next, quick-last, quick-free}
 use Rattle.tube_machine.proofs.WholeSteps.{whole-last}
 
 -- one more
@@ -48,7 +43,7 @@ module _ (part : Part) {B : Type 0} {w : Wiring B} (wired : IsWired w) {plain : 
       let far_there : u < far = omega (arith, tick, far_on, some) in
       let came = quick-last part wired stays l.way l.b l.next l.done (omega (arith, low)) far_there refl l.over refl in
       let at : At B = at_of on (w.close l.b (s.due + 1)) u in
-      let none : is_break part w at ≡ false = no-break part w at (wired.pending_close l.b (s.due + 1) u ∙ quick-free part wired stays l.way l.b l.next l.done u far_there) in
+      let none : w.pending l.b u ≡ false = quick-free part wired stays l.way l.b l.next l.done u far_there in
       record {
         tick = record { 0 = u };
         last = at;
@@ -56,11 +51,8 @@ module _ (part : Part) {B : Type 0} {w : Wiring B} (wired : IsWired w) {plain : 
           steps = came.0;
           last = at;
           runs = none_seen (moves_of part w) until lines came.0 start at came.1;
-          asked = (refl, low, plain-asks part w at none ∙ ap (asks_by w at.bus) l.over, refl);
+          asked = (refl, low, look-asks part wired stays on l.b u (s.due + 1) l.over none, refl);
         };
         sure = omega (arith, tick, early, some);
-        next = l.looked
-            ∙ ap (λ (d : B). after_look part w (at_of on d u) lines) (sym (wired.again l.b (s.due + 1) (u + 1) (omega (arith, some))))
-            ∙ ap (λ (o : Option Cycle). after_step part w o (closed_to w at (u + 1)) (Some (Seen lines))) (sym l.over)
-            ∙ sym (plain-next part w at (Some (Seen lines)) none);
+        next = look-next part wired stays on l.b u (s.due + 1) l.over none lines (omega (arith, some)) l.looked;
       }

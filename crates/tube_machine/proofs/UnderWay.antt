@@ -1,5 +1,5 @@
 -- A machine, of which device steps are owed: it stands for the one in which they are done.
-use Rattle.std.proofs.Common.{◌≡◌, ◌≤◌, ◌<◌, ◌∙◌, ◌+◌, ◌-◌, ◌⊎◌, inl, inr, refl, sym, ap, subst, ℕ, suc, Bool, true, false, ◌&&◌, is_none, Option, Some, None, IsSome, arith, if◌then◌else◌}
+use Rattle.std.proofs.Common.{◌≡◌, ◌≤◌, ◌<◌, ◌∙◌, ◌+◌, ◌-◌, ◌⊎◌, inl, inr, refl, sym, ap, subst, ℕ, suc, Bool, true, false, is_none, Option, Some, None, IsSome, arith, if◌then◌else◌}
 use Rattle.std.specs.Prelude.{nat_lt}
 use Rattle.std.proofs.lemmas.Bool.{lt-ltb, le-ltb}
 use Rattle.op_table.specs.declared.names.Part.{Part}
@@ -8,13 +8,14 @@ use Rattle.cpu_alu.specs.declared.Regs.{Regs}
 use Rattle.cpu_core.specs.declared.Sequence.{Sequence}
 use Rattle.cpu_core.specs.declared.Sequence.TheVariants.{Instruction, Reset, Nmi, Irq}
 use Rattle.cpu_core.specs.State as cpu
-use Rattle.cpu_core.specs.Sequences.{next_cycle, after_byte, halted, after, sequence_at_look, fresh}
+use Rattle.cpu_core.specs.Sequences.{next_cycle, after_byte, after, sequence_at_look, fresh}
+use Rattle.tube_chip.specs.Act.{look}
 use Rattle.tube_chip.specs.declared.Lines.{Lines}
 use Rattle.tube_chip.specs.declared.Answer.TheVariants.{Seen}
 use Rattle.tube_party.specs.Moves.{Looks, shown_lines}
 use Rattle.tube_party.specs.Steps.{silent_last, look_last}
 use Rattle.tube_machine.specs.Wiring.{Wiring, IsWired, StaysPlain}
-use Rattle.tube_machine.specs.Step.{At, at_of, is_break, begin_leaves, after_held_cycle, asks_by, byte_of, after_cycle, after_step, closed_to, next_state, after_look, moves_of}
+use Rattle.tube_machine.specs.Step.{At, at_of, is_break, begin_leaves, asks, asks_by, closed_to, next_state, after_look, moves_of}
 use Rattle.tube_machine.specs.Lawful.{asked_closed, break_closed, next_closed}
 use Rattle.tube_machine.specs.NoBreak.{no-break, plain-asks, plain-next}
 use Rattle.tube_machine.specs.Exchange.{IsQuick, behind, owed_at}
@@ -66,9 +67,7 @@ module _ (part : Part) {B : Type 0} (w : Wiring B) where
   -- A look that takes no reset.
   pub plain-look : (s : At B) (l : Lines) → w.resets s.bus l ≡ false →
       after_look part w s l ≡ begin_leaves s (fresh (sequence_at_look (w.nmi s.bus l) (w.irq s.bus l) (after part s.cpu)) (after part s.cpu)) (w.taken s.bus l)
-  plain-look s l none =
-      ap (λ (b : Bool). if b then (if l.prst then after_held_cycle part w s else begin_leaves s (fresh Reset (after part s.cpu)) (w.reset s.bus l))
-      else begin_leaves s (fresh (sequence_at_look (w.nmi s.bus l) (w.irq s.bus l) (after part s.cpu)) (after part s.cpu)) (w.taken s.bus l)) none
+  plain-look s l none = rw none
 
 -- The steps so far asked nothing, or saw these lines; the next one is an access, and device steps are owed where there was an access since a tick.
 -- A cycle has n ticks, and no break comes below tick far; looks are plain if they were so at the start.
@@ -102,29 +101,36 @@ module _ (part : Part) {B : Type 0} {w : Wiring B} (wired : IsWired w) {plain : 
       let plain_there : plain x.bus lines ≡ true = stays.close s.bus lines t ∙ is_plain in
       let at : At B = begin_leaves x (fresh (sequence_at_look (w.nmi x.bus lines) (w.irq x.bus lines) (after part s.cpu)) (after part s.cpu)) (w.taken x.bus lines) in
       let same : new ≡ at = is ∙ plain-look part w x lines (stays.resets x.bus lines plain_there) in
-      record {
-        goes_on = subst (λ (y : At B). IsSome (next_cycle part y.cpu)) (sym same) (begins part at.cpu.sequence at.cpu.regs);
-        closed = ap (λ (y : At B). w.closed y.bus) same ∙ wired.closed_taken x.bus lines ∙ wired.closed s.bus t ∙ omega (arith, low);
-        cycle = sym (ap (λ (y : At B). w.cycle y.bus) same ∙ wired.cycle_taken x.bus lines ∙ wired.cycle_close s.bus t);
-        free = λ far free u high. ap (λ (y : At B). w.pending y.bus u) same ∙ wired.pending_taken x.bus lines u ∙ wired.pending_close s.bus t u ∙ free u high;
-        is_plain = ap (λ (y : At B). plain y.bus lines) same ∙ stays.taken x.bus lines plain_there;
-        due = ap (λ (y : At B). y.due) same;
-      }
+      rw same (record {
+        goes_on = begins part at.cpu.sequence at.cpu.regs;
+        closed = wired.closed_taken x.bus lines ∙ wired.closed s.bus t ∙ omega (arith, low);
+        cycle = sym (wired.cycle_taken x.bus lines ∙ wired.cycle_close s.bus t);
+        free = λ far free u high. wired.pending_taken x.bus lines u ∙ wired.pending_close s.bus t u ∙ free u high;
+        is_plain = stays.taken x.bus lines plain_there;
+        due = refl;
+      })
 
-  -- a plain look that is sure, of a machine that stands for one closed further
+  -- A look of a machine that stands for one closed further.
+  module _ (c : cpu.State) (b : B) (t u : ℕ) (over : next_cycle part c ≡ None) (none : w.pending b t ≡ false) where
+    abbrev stands : At B
+    stands = at_of c (w.close b u) t
+
+    free : is_break part w stands ≡ false
+    free = no-break part w stands (wired.pending_close b u t ∙ none)
+
+    pub look-asks : asks part w stands ≡ Some look
+    look-asks = plain-asks part w stands free ∙ ap (asks_by w stands.bus) over
+
+    pub look-next : (lines : Lines) {new : At B} → u ≤ t + 1 → new ≡ after_look part w (closed_to w (at_of c b t) (t + 1)) lines → new ≡ next_state part w stands (Some (Seen lines))
+    look-next lines high is = is ∙ sym (plain-next part w stands (Some (Seen lines)) free ∙ rw (over, wired.again b u (t + 1) high))
+
+  -- a plain look that is sure
   sees-on : (until : ℕ) (lines : Lines) (sure : ℕ) (start : At B) (c : cpu.State) (b : B) (t u : ℕ) (new : At B) → Came part w until lines sure start (at_of c (w.close b u) t) → u ≤ t + 1
       → next_cycle part c ≡ None → t < until → t < sure → w.pending b t ≡ false →
       new ≡ after_look part w (closed_to w (at_of c b t) (t + 1)) lines → Came part w until lines sure start new
   sees-on until lines sure start c b t u new came high over low early none is =
-      let at : At B = at_of c (w.close b u) t in
-      let free : is_break part w at ≡ false = no-break part w at (wired.pending_close b u t ∙ none) in
-      let saw : new ≡ next_state part w at (Some (Seen lines)) =
-      is
-      ∙ ap (λ (d : B). after_look part w (at_of c d t) lines) (sym (wired.again b u (t + 1) high))
-      ∙ ap (λ (o : Option Cycle). after_step part w o (closed_to w at (t + 1)) (Some (Seen lines))) (sym over)
-      ∙ sym (plain-next part w at (Some (Seen lines)) free) in
-      subst (Came part w until lines sure start) (sym saw)
-      (suc came.0, look_last (moves_of part w) until lines sure came.0 start at came.1 low (plain-asks part w at free ∙ ap (asks_by w at.bus) over) early)
+      subst (Came part w until lines sure start) (sym (look-next c b t u over none lines high is))
+      (suc came.0, look_last (moves_of part w) until lines sure came.0 start (at_of c (w.close b u) t) came.1 low (look-asks c b t u over none) early)
 
   module _ {far n until : ℕ} {lines : Lines} {sure : ℕ} {start s : At B} where
     -- before the next access, where no steps are owed
@@ -187,17 +193,9 @@ module _ (part : Part) {B : Type 0} {w : Wiring B} (wired : IsWired w) {plain : 
         quick-on =
             let x : At B = closed_to w s (s.due + 1) in
             let none : is_break part w s ≡ false = no-break part w s (way.free s.due (omega (arith, far_on))) in
-            let then_ : B = w.after x.bus c in
-            let byte_is : ℕ = byte_of w x.bus s.due None c in
             let pends : w.pending x.bus (s.due + (n - 1)) ≡ false = wired.pending_close s.bus (s.due + 1) (s.due + (n - 1)) ∙ way.free (s.due + (n - 1)) far_on in
             let same : next_state part w s None ≡ at_of on (w.close b (s.due + 1)) (if is_none (next_cycle part on) then s.due + (n - 1) else s.due + n) =
-            plain-next part w s None none
-            ∙ ap (λ (o : Option Cycle). after_step part w o x None) is
-            ∙ ap (λ (k : ℕ). after_cycle part w (record x { bus = then_ }) (w.pending x.bus (s.due + (k - 1)) && halted part s.cpu) (after_byte part s.cpu byte_is) k) (done.3 ∙ sym way.cycle)
-            ∙ ap (λ (p : Bool). after_cycle part w (record x { bus = then_ }) (p && halted part s.cpu) (after_byte part s.cpu byte_is) n) pends
-            ∙ ap (λ (v : ℕ). after_cycle part w (record x { bus = then_ }) false (after_byte part s.cpu v) n) (sym done.1)
-            ∙ ap (λ (p : cpu.State). after_cycle part w (record x { bus = then_ }) false p n) (sym gave)
-            ∙ ap (λ (d : B). after_cycle part w (record x { bus = d }) false on n) (sym done.2) in
+            plain-next part w s None none ∙ rw (is, done.3 ∙ sym way.cycle, pends, ← done.1, ← gave, ← done.2) in
             subst (Came part w until lines sure start) same (steps-on low none (ap (asks_by w s.bus) is ∙ done.0))
 
         -- and then comes the next access
@@ -227,9 +225,9 @@ module _ (part : Part) {B : Type 0} {w : Wiring B} (wired : IsWired w) {plain : 
         -- after which comes another access
         pub quick-past : w.closed b ≤ s.due + 1 → next_cycle part on ≡ None → plain start.bus lines ≡ true → s.due + (n - 1) < until → s.due + (n - 1) < sure →
             {t : ℕ} → t ≡ s.due + (n - 1) → {new : At B} → new ≡ after_look part w (closed_to w (at_of on b t) (t + 1)) lines → IsUnderWay part w plain far n until lines sure start new new.due
-        quick-past before over first in_run early {t} here {new} look =
+        quick-past before over first in_run early {t} here {new} there =
             let some : 1 < n = omega (arith, way.cycle, wired.some s.bus) in
             let saw = sees-on until lines sure start on b t (s.due + 1) new (quick-last over here) (omega (arith, here, some)) over (omega (arith, here, in_run)) (omega (arith, here, early))
-            (quick-free t (omega (arith, here, far_on))) look in
-            let looked = after-look (at_of on b t) (t + 1) (omega (arith, before, here, some)) (quick-plain first) look in
+            (quick-free t (omega (arith, here, far_on))) there in
+            let looked = after-look (at_of on b t) (t + 1) (omega (arith, before, here, some)) (quick-plain first) there in
             caught-up (quick-cycle ∙ looked.cycle) looked.goes_on (omega (arith, looked.closed, looked.due)) (looked.free far quick-free) (λ _. looked.is_plain) saw

@@ -1,8 +1,7 @@
 -- A whole instruction and the look behind it are steps of the machine.
-use Rattle.std.proofs.Common.{◌≡◌, ◌≤◌, ◌<◌, ◌∙◌, ◌+◌, ◌-◌, ◌*◌, ◌%◌, refl, sym, ap, subst, ℕ, zero, suc, max, length, ◌∷◌, ◌++◌, [], List, Bool}
-use Rattle.std.proofs.Common.{true, false, cond, ◌&&◌, not, Option, Some, None, IsSome, MatchOption, arith, if◌then◌else◌}
-use Rattle.std.proofs.Math.Nat.{mul-add, mul-one}
-use Rattle.std.proofs.lemmas.List.{length_push}
+use Rattle.std.proofs.Common.{◌≡◌, ◌≤◌, ◌<◌, ◌∙◌, ◌+◌, ◌-◌, ◌*◌, refl, sym, ap, subst, ℕ, zero, suc, max, length, [], List, Bool}
+use Rattle.std.proofs.Common.{true, false, ◌&&◌, Option, Some, None, IsSome, MatchOption, arith}
+use Rattle.std.proofs.Math.Nat.{mul-one}
 use Rattle.op_table.specs.declared.names.Part.{Part}
 use Rattle.cpu_alu.specs.declared.Cycle.{Cycle}
 use Rattle.cpu_alu.specs.declared.Cycle.TheVariants.{Read, Write}
@@ -10,17 +9,14 @@ use Rattle.cpu_alu.specs.declared.Regs.{Regs}
 use Rattle.cpu_alu.specs.declared.flags.TheConstants.{INTERRUPT}
 use Rattle.cpu_alu.specs.Flags.{has_flag}
 use Rattle.cpu_core.specs.declared.Sequence.{Sequence}
-use Rattle.cpu_core.specs.declared.Sequence.TheVariants.{Instruction, Nmi, Irq}
+use Rattle.cpu_core.specs.declared.Sequence.TheVariants.{Instruction}
 use Rattle.cpu_core.specs.State as cpu
-use Rattle.cpu_core.specs.Sequences.{next_cycle, after_byte, shown_byte, halted, starting, is_start, after, sequence_at_look, fresh}
+use Rattle.cpu_core.specs.Sequences.{next_cycle, after_byte, halted, starting, is_start, after, sequence_at_look, fresh}
 use Rattle.cpu_whole.specs.Whole.{Reach, Carried, IsDone, is_plain, shows, leaves}
 use Rattle.tube_chip.specs.declared.Lines.{Lines}
-use Rattle.tube_chip.specs.declared.Op.TheVariants as op
-use Rattle.tube_chip.specs.Act.{access}
 use Rattle.tube_machine.specs.Wiring.{Wiring, IsWired, StaysPlain}
-use Rattle.tube_machine.specs.Step.{At, at_of, begin_leaves, byte_in, closed_to, after_look, moves_of}
+use Rattle.tube_machine.specs.Step.{At, at_of, closed_to, after_look}
 use Rattle.tube_machine.specs.Exchange.{IsQuick, IsAtTube}
-use Rattle.tube_party.specs.Moves.{Looks, shown_lines}
 use Rattle.tube_machine.specs.Whole.{reach_of, IsMemory, IsAtRest, StaysAtRest, IsOnward}
 use Rattle.tube_machine.proofs.Spends.{one-more, seen-on}
 use Rattle.tube_machine.proofs.UnderWay.{IsUnderWay, IsFree, at-same, plain-look, came-there, quick-more, quick-past, quick-plain}
@@ -66,7 +62,7 @@ module _ (part : Part) where
       let one = first-of g t k s m last there h in
       let byte : ℕ = shows g m one.cycle in
       let b = leaves g t m (length s.seen) one.cycle in
-      let same : after_byte part s byte ≡ s = ap (λ (b : Bool). cond b s (record s { seen = s.seen ++ shown_byte (next_cycle part s) byte ∷ [] })) halts in
+      let same : after_byte part s byte ≡ s = rw halts in
       stays-halted g t k s b last there halts (subst (λ (x : cpu.State). Carried g t part k x b last there) same one.rest)
 
   -- so that none of an instruction that comes to its end is halted
@@ -166,11 +162,9 @@ module _ (part : Part) {B : Type 0} {w : Wiring B} (wired : IsWired w) {reads wr
           let rested : IsAtRest w c lines masks = stays_at_rest.looks b lines masks far t rest low in
           let x : At B = closed_to w (at_of on b t) (t + 1) in
           let sequence : sequence_at_look (w.nmi c lines) (w.irq c lines) r ≡ Instruction =
-          ap (λ (n : Bool). cond n Nmi (cond (w.irq c lines && not (has_flag r.p INTERRUPT)) Irq Instruction)) rested.nmi
-          ∙ ap (λ (i : Bool). cond (w.irq c lines && not i) Irq Instruction) (sym held)
-          ∙ ap (λ (i : Bool). cond i Irq Instruction) rested.irq in
+          rw (rested.nmi, ← held, rested.irq) in
           let looked = plain-look part w x lines (stays.resets c lines (stays.close b lines (t + 1) ∙ is_plain)) in
-          sym (looked ∙ ap (λ (q : Sequence). begin_leaves x (fresh q r) (w.taken c lines)) sequence ∙ ap (begin_leaves x (fresh Instruction r)) rested.taken)
+          sym (looked ∙ rw (sequence, rested.taken))
 
       module _ (far until : ℕ) (lines : Lines) (sure n : ℕ) (start : At B) (masks : Bool) (quiet : ℕ) where
         -- an instruction that began at tick t is under way

@@ -77,10 +77,12 @@ loop-due-preserved g c =
 pub returns-clause-passes : goal.returns-clause-passes
 returns-clause-passes g c =
     λ until sure in_run early.
-    let so_far = c.loop-due.invariant.passes until sure in_run early in
-    (so_far.0, rw c.set_out.ensures (elim c.loop-due-test.branch [
-      | else-loop-due-test v ↦ rw (v.regs-is, v.bus-is) so_far.1
-      | then-loop-due-test+then-cycles-eq0 v ↦
-          let still = v.whole_if_over-cycles.ensures.still v.if-cycles-eq0.true in
-          rw (v.regs-is, v.bus-is, still.0, still.1) so_far.1
-    ]))
+    let so_far = c.loop-due.invariant.passes until sure in_run early in (
+      so_far.0,
+      rw c.set_out.ensures (elim c.loop-due-test.branch [
+        | else-loop-due-test v ↦ rw (v.regs-is, v.bus-is) so_far.1
+        | then-loop-due-test+then-cycles-eq0 v ↦
+            let still = v.whole_if_over-cycles.ensures.still v.if-cycles-eq0.true in
+            rw (v.regs-is, v.bus-is, still.0, still.1) so_far.1
+      ]),
+    )

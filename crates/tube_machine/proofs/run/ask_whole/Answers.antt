@@ -1,18 +1,10 @@
-use Rattle.std.proofs.Common.{◌≡◌, ◌≤◌, ◌<◌, ◌+◌, ◌-◌, ◌*◌, ◌∙◌, ℕ, refl, sym, ap, subst, arith}
+use Rattle.std.proofs.Common.{◌≡◌, ◌≤◌, ◌<◌, ◌+◌, ◌-◌, ◌*◌, ◌∙◌, ℕ, refl, ap, arith}
 use Rattle.std.proofs.Math.Nat.{mul-add, mul-one, mul-le-mul_left}
 use Rattle.op_table.specs.declared.names.Part.{Part}
-use Rattle.cpu_alu.specs.declared.Cycle.{Cycle}
 use Rattle.cpu_alu.specs.declared.Regs.{Regs}
 use Rattle.cpu_alu.specs.declared.flags.TheConstants.{INTERRUPT}
 use Rattle.cpu_alu.specs.Flags.{has_flag}
-use Rattle.cpu_core.specs.declared.Sequence.TheVariants.{Instruction}
-use Rattle.cpu_core.specs.Sequences.{fresh}
-use Rattle.cpu_whole.specs.Whole.{IsDone}
-use Rattle.cpu_whole.specs.Outside.{IsOutside, access_of, outcome}
-use Rattle.tube_party.specs.Moves.{IsAnsweredAgain}
-use Rattle.tube_machine.specs.Step.{At, at_of}
-use Rattle.tube_machine.specs.Exchange.{IsPassing}
-use Rattle.tube_machine.specs.Whole.{IsServed, reach_of}
+use Rattle.cpu_whole.specs.Outside.{outcome}
 use Rattle.tube_machine.proofs.Asked.{asked-whole, round, rounds, served-then}
 use Rattle.tube_machine.proofs.run.ask_whole.Goals as goal
 use Rattle.tube_machine.proofs.run.ask_whole.Goals.{then-back-gt0+then-from-period, else-back-gt0}

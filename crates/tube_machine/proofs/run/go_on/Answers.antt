@@ -1,9 +1,8 @@
-use Rattle.std.proofs.Common.{rules, ◌≡◌, ◌+◌, ◌-◌, ◌∙◌, ℕ, None, IsSome, length, ap, refl, arith}
-use Rattle.op_table.specs.declared.names.Part.TheVariants.{Cmos}
+use Rattle.std.proofs.Common.{rules, ◌≡◌, ◌+◌, ◌-◌, ◌∙◌, ℕ, None, IsSome, ap, refl, arith}
 use Rattle.cpu_core.specs.Sequences.{next_cycle}
 use Rattle.tube_party.specs.Moves.{shown_lines}
 use Rattle.tube_machine.specs.Step.{At, at_of, moves_of}
-use Rattle.tube_machine.specs.Exchange.{owed_at, spent, HasSpent}
+use Rattle.tube_machine.specs.Exchange.{owed_at}
 use Rattle.tube_machine.proofs.UnderWay.{after-look, at-look, caught-up, quick-more, quick-last, quick-past, quick-plain}
 use Rattle.tube_machine.proofs.Ways.{left-off, not-yet, then-came, served-on}
 use Rattle.tube_machine.proofs.Spends.{none-spent, spent-more, spent-whole, spent-on, seen-more, ready-look, ready-on}

@@ -1,17 +1,12 @@
-use Rattle.std.proofs.Common.{◌≡◌, ◌≤◌, ◌<◌, ◌+◌, ◌*◌, ◌∙◌, ℕ, max, sym, ap, subst, refl, arith}
+use Rattle.std.proofs.Common.{◌≡◌, ◌≤◌, ◌<◌, ◌+◌, ◌*◌, ◌∙◌, ℕ, ap, refl, arith}
 use Rattle.std.proofs.Math.Nat.{mul-le-mul_left}
-use Rattle.op_table.specs.declared.names.Part.{Part}
-use Rattle.op_table.specs.declared.names.Part.TheVariants.{Cmos}
-use Rattle.cpu_alu.specs.declared.Regs.{Regs}
 use Rattle.cpu_alu.specs.declared.flags.TheConstants.{INTERRUPT}
 use Rattle.cpu_alu.specs.Flags.{has_flag}
 use Rattle.cpu_core.specs.declared.Sequence.TheVariants.{Instruction}
 use Rattle.cpu_core.specs.Sequences.{fresh}
-use Rattle.cpu_whole.specs.Whole.{IsDone}
 use Rattle.tube_machine.specs.Step.{At, at_of}
-use Rattle.tube_machine.specs.Exchange.{behind, spent, HasSpent}
-use Rattle.tube_machine.specs.Whole.{IsOnward, IsResting, reach_of}
-use Rattle.tube_machine.proofs.UnderWay.{IsUnderWay, IsFree, begins, caught-up, behind-none, behind-some, behind-most}
+use Rattle.tube_machine.specs.Exchange.{behind}
+use Rattle.tube_machine.proofs.UnderWay.{IsFree, begins, caught-up, behind-none, behind-some, behind-most}
 use Rattle.tube_machine.proofs.WholeSteps.{whole-behind, onward}
 use Rattle.tube_machine.proofs.Spends.{none-spent, spent-whole}
 use Rattle.tube_machine.proofs.run.go_whole.Goals as goal
