@@ -138,7 +138,8 @@ module _ (part : Part) {B D : Type 0} {w : Wiring B} (wired : IsWired w) {reads 
 
     to-there : (until sure : ℕ) → bound ≤ until → IsUnderWay part w plain bound n until lines sure (starts u from) there from
     to-there until sure in_run =
-        to-tube part wired memory stays_at_rest stays bound until lines sure n (starts u from) masks quiet c (w.close m 0) last (outside from).next (at_tube 0) o.cycles (starts u from) from from came.0 (top from)
+        to-tube part wired memory stays_at_rest stays bound until lines sure n (starts u from) masks quiet c (w.close m 0) last (outside from).next (at_tube 0) o.cycles
+        (starts u from) from from came.0 (top from)
         (record {
           way = caught-up part wired stays (cycle ∙ sym (wired.cycle_close m u)) (begins part Instruction r) closed_to_start (free_to u bound free) (λ is. is) (0, refl);
           tick = omega arith;

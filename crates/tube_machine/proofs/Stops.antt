@@ -117,7 +117,8 @@ module _ (part : Part) {B : Type 0} (w : Wiring B) (wired : IsWired w) where
     more s new low done = subst (Came part w n lines sure s) (sym done.1) (1, silent_last (moves_of part w) n lines sure 0 s s refl low done.0)
 
     -- one more look, of any kind
-    pub more-look : (s new : At B) → s.due < n → s.due < sure → is_break part w s ≡ false → next_cycle part s.cpu ≡ None → new ≡ next_state part w s (Some (Seen lines)) → Came part w n lines sure s new
+    pub more-look : (s new : At B) → s.due < n → s.due < sure → is_break part w s ≡ false → next_cycle part s.cpu ≡ None → new ≡ next_state part w s (Some (Seen lines))
+        → Came part w n lines sure s new
     more-look s new low early none over is =
         subst (Came part w n lines sure s) (sym is) (1, look_last (moves_of part w) n lines sure 0 s s refl low (plain-asks part w s none ∙ ap (asks_by w s.bus) over) early)
 

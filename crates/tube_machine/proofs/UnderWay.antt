@@ -181,7 +181,8 @@ module _ (part : Part) {B : Type 0} {w : Wiring B} (wired : IsWired w) {plain : 
 
       pub quick-free : IsFree part w far b
       quick-free u low =
-          sym (wired.pending_close b (s.due + 1) u) ∙ ap (λ (d : B). w.pending d u) done.2 ∙ wired.pending_after (w.close s.bus (s.due + 1)) c u ∙ wired.pending_close s.bus (s.due + 1) u ∙ way.free u low
+          sym (wired.pending_close b (s.due + 1) u) ∙ ap (λ (d : B). w.pending d u) done.2 ∙ wired.pending_after (w.close s.bus (s.due + 1)) c u ∙ wired.pending_close s.bus (s.due + 1) u
+          ∙ way.free u low
 
       pub quick-plain : plain start.bus lines ≡ true → plain b lines ≡ true
       quick-plain first =

@@ -34,14 +34,15 @@ module _ {S D : Type 0} (m : Moves S) {answers : D → ℕ → Op → ℕ → D 
   then-came came = way-on (0, (refl, came))
 
 -- what comes behind it
-pub way-hears : {S D : Type 0} {m : Moves S} {answers : D → ℕ → Op → ℕ → D → Type 0} {n : ℕ} {v : Shown} {s mid new : S} {d f e : D} {ask : Ask} → Way m answers n v s d mid f → Hears m answers n v mid f ask new e
-    → Hears m answers n v s d ask new e
+pub way-hears : {S D : Type 0} {m : Moves S} {answers : D → ℕ → Op → ℕ → D → Type 0} {n : ℕ} {v : Shown} {s mid new : S} {d f e : D} {ask : Ask} → Way m answers n v s d mid f
+    → Hears m answers n v mid f ask new e → Hears m answers n v s d ask new e
 way-hears {m = m} {answers} {n} {v} {s} {mid} {new} {d} {f} {e} {ask} way hears = hears_after m answers n v.lines v.sure s mid new d f e ask way hears
 
 module _ (part : Part) {B D : Type 0} {w : Wiring B} (wired : IsWired w) {answers : D → ℕ → Op → ℕ → D → Type 0} {n : ℕ} (v : Shown) {s new : At B} {d e : D}
     (way : Way (moves_of part w) answers n v s d new e) where
   -- at its end an access is asked for
-  pub way-asks : {last : At B} {f : D} {o : Op} → new.due < n → IsDone part w answers new e (Err (Tube o)) last f → Hears (moves_of part w) answers n v s d (asks.Access (record { 0 = last.due }) o) last f
+  pub way-asks : {last : At B} {f : D} {o : Op} → new.due < n → IsDone part w answers new e (Err (Tube o)) last f
+      → Hears (moves_of part w) answers n v s d (asks.Access (record { 0 = last.due }) o) last f
   way-asks {f = f} low done = record {
     accesses = way.0;
     last = new;
@@ -86,7 +87,8 @@ module _ (part : Part) {B D : Type 0} {w : Wiring B} (wired : IsWired w) {plain 
       → bound ≤ far → bound ≤ until → bound ≤ sure → IsTalking part w plain answers far n until lines sure start d new e new.due
   served-on {new = new} at served far_on in_run early = record {
     mid = new;
-    talks = way-on (moves_of part w) (shown_lines lines sure) (then-came (moves_of part w) (shown_lines lines sure) at.talks (came-there part wired stays at.way)) (served.talks until sure in_run early);
+    talks = way-on (moves_of part w) (shown_lines lines sure) (then-came (moves_of part w) (shown_lines lines sure) at.talks (came-there part wired stays at.way))
+        (served.talks until sure in_run early);
     first = λ _. served.is_plain;
     way = caught-up part wired stays (at.way.cycle ∙ served.cycle) served.goes_on served.closed (served.free far far_on at.way.free) (λ is. is) (0, refl);
   }

@@ -154,7 +154,8 @@ module _ (part : Part) {B : Type 0} {w : Wiring B} (wired : IsWired w) {reads wr
 
     module _ {plain : B → Lines → Bool} (stays : StaysPlain w plain) where
       -- the look behind an instruction, which is at rest
-      pub look-on : {lines : Lines} {masks : Bool} {far : ℕ} (on : cpu.State) (b : B) (t : ℕ) → plain b lines ≡ true → rests b lines masks far → t < far → masks ≡ has_flag (after part on).p INTERRUPT →
+      pub look-on : {lines : Lines} {masks : Bool} {far : ℕ} (on : cpu.State) (b : B) (t : ℕ) → plain b lines ≡ true → rests b lines masks far → t < far
+          → masks ≡ has_flag (after part on).p INTERRUPT →
           at_of (fresh Instruction (after part on)) (w.close b (t + 1)) (t + 1) ≡ after_look part w (closed_to w (at_of on b t) (t + 1)) lines
       look-on {lines} {masks} {far} on b t is_plain rest low held =
           let c : B = w.close b (t + 1) in
@@ -236,7 +237,8 @@ module _ (part : Part) {B : Type 0} {w : Wiring B} (wired : IsWired w) {reads wr
           to-tube (suc k) s since t there top mid h fits far_on in_run still =
               let sum : n * suc k ≡ n * k + n = next-more n k in
               let one = first-of part reach t k s.cpu s.bus last there h in
-              let on = mid-on mid one.next one.plain (unhalted t k s.cpu s.bus there h) (more-there t k _ _ there one.rest) (omega (arith, fits, sum, far_on)) (omega (arith, fits, sum, in_run)) (omega (arith, fits, sum, still)) in
+              let on = mid-on mid one.next one.plain (unhalted t k s.cpu s.bus there h) (more-there t k _ _ there one.rest) (omega (arith, fits, sum, far_on)) (omega (arith, fits, sum, in_run))
+              (omega (arith, fits, sum, still)) in
               to-tube k _ since t there top on one.rest (omega (arith, fits, sum)) far_on in_run still
 
         -- an instruction that comes to its end before tick top is done but for its last access
@@ -265,12 +267,13 @@ module _ (part : Part) {B : Type 0} {w : Wiring B} (wired : IsWired w) {reads wr
           pub looked : new ≡ after_look part w (closed_to w (at_of (after_byte part s.cpu byte) b (s.due + (n - 1))) (s.due + (n - 1) + 1)) lines
 
         pub whole-last : (k due : ℕ) (r new : Regs) (m there : B) → 0 < k → IsUnderWay part w plain far n until lines sure start (at_of (fresh Instruction r) m due) due →
-            IsDone part reach due r m k new there → w.closed m ≤ due + 1 → due + n * k ≤ far → due + n * k ≤ until → due + n * k ≤ quiet → rests m lines masks quiet → has_flag r.p INTERRUPT ≡ masks →
-            plain start.bus lines ≡ true → IsLast due (at_of (fresh Instruction new) (w.close there (due + n * k)) (due + n * k)) × rests (w.close there (due + n * k)) lines masks quiet
+            IsDone part reach due r m k new there → w.closed m ≤ due + 1 → due + n * k ≤ far → due + n * k ≤ until → due + n * k ≤ quiet → rests m lines masks quiet
+            → has_flag r.p INTERRUPT ≡ masks → plain start.bus lines ≡ true → IsLast due (at_of (fresh Instruction new) (w.close there (due + n * k)) (due + n * k)) × rests (w.close there (due + n * k)) lines masks quiet
         whole-last zero due r new m there more way done before far_on in_run still rest held first = absurd (omega (arith, more))
         whole-last (suc k) due r new m there more way done before far_on in_run still rest held first =
             let top : ℕ = due + n * suc k in
-            let walked = walk k (at_of (fresh Instruction r) m due) due due done.last there top (record { way = way; tick = omega arith; before = before; rest = rest }) done.carried done.over refl far_on in_run still in
+            let walked = walk k (at_of (fresh Instruction r) m due) due due done.last there top
+            (record { way = way; tick = omega arith; before = before; rest = rest }) done.carried done.over refl far_on in_run still in
             let s : At B = walked.0 in
             let mid = walked.1.0 in
             let tick : s.due + n ≡ top = walked.1.1.1 in
@@ -288,7 +291,8 @@ module _ (part : Part) {B : Type 0} {w : Wiring B} (wired : IsWired w) {reads wr
             let regs : after part on ≡ new = ap (after part) last ∙ done.regs in
             let held_on : masks ≡ has_flag (after part on).p INTERRUPT = rw regs (sym (done.masks ∙ held)) in
             let closed_there : w.close b (u + 1) ≡ w.close there top = cc in
-            let same : at_of (fresh Instruction (after part on)) (w.close b (u + 1)) (u + 1) ≡ at_of (fresh Instruction new) (w.close there top) top = at-same (ap (fresh Instruction) regs) closed_there here in (
+            let same : at_of (fresh Instruction (after part on)) (w.close b (u + 1)) (u + 1) ≡ at_of (fresh Instruction new) (w.close there top) top =
+            at-same (ap (fresh Instruction) regs) closed_there here in (
               record {
                 s = s;
                 way = mid.way;
@@ -317,7 +321,8 @@ module _ (part : Part) {B : Type 0} {w : Wiring B} (wired : IsWired w) {reads wr
             let some : 1 < n = omega (arith, way.cycle, wired.some m) in
             let tick : l.s.due + n ≡ due + n * k = l.tick in
             let low : l.s.due + (n - 1) < until = omega (arith, tick, in_run, some) in (
-              quick-past part wired stays l.way l.b l.next l.done (omega (arith, low)) (omega (arith, tick, far_on, some)) refl l.before l.over first low (omega (arith, tick, early, some)) refl l.looked,
+              quick-past part wired stays l.way l.b l.next l.done (omega (arith, low)) (omega (arith, tick, far_on, some)) refl l.before l.over first low
+                  (omega (arith, tick, early, some)) refl l.looked,
               last.1,
             )
 

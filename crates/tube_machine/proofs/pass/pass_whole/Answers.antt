@@ -21,7 +21,8 @@ loop-due-init g c =
     let there : core ≡ fresh Instruction c.at_start-first.result = begins-there core c.requires.starts ∙ ap (fresh Instruction) (sym c.at_start-first.ensures) in
     let start : At g.B.TubeBus.State = at_of (fresh Instruction c.at_start-first.result) (g.B.TubeBus.state c.args.bus.now) c.args.from in
     record {
-      way = rw there (caught-up part g.B.TubeBus.wired g.B.TubeBus.stays_plain {s = start} c.cycle-cycle.ensures.value (begins part Instruction c.at_start-first.result) c.requires.before c.requires.free (λ is. is) (0, refl));
+      way = rw there (caught-up part g.B.TubeBus.wired g.B.TubeBus.stays_plain {s = start} c.cycle-cycle.ensures.value
+          (begins part Instruction c.at_start-first.result) c.requires.before c.requires.free (λ is. is) (0, refl));
       passes = λ until sure in_run early. (0, at-same there refl refl);
       before = c.requires.before;
       rests = c.requires.rests;
@@ -63,8 +64,11 @@ loop-due-preserved g c =
           let passed = so_far.passes until sure in_run early in
           let looks = whole-looks part bus.wired bus.stays_plain bound until c.args.lines.now sure n bus.memory bus.stays_at_rest masks c.args.quiet k due c.loop-due.regs new m there some
           so_far.way.cycle (so_far.way.kept c.requires.plain) so_far.way.free done so_far.before in_bound
-          (omega (arith, in_bound, in_run)) (omega (arith, in_bound, early)) still so_far.rests so_far.held in
-          (suc passed.0, rw c.close.ensures.closed (passes_more (moves_of part bus.wiring) (over_at bus.peek c.args.passing) until (shown_lines c.args.lines.now sure) passed.0 start _ _ passed.1 (refl, c.whole_if_over-cycles.ensures.over some) looks));
+          (omega (arith, in_bound, in_run)) (omega (arith, in_bound, early)) still so_far.rests so_far.held in (
+            suc passed.0,
+            rw c.close.ensures.closed (passes_more (moves_of part bus.wiring) (over_at bus.peek c.args.passing) until (shown_lines c.args.lines.now sure) passed.0 start _ _ passed.1
+                (refl, c.whole_if_over-cycles.ensures.over some) looks),
+          );
       before =
           let closed = ap bus.wiring.closed c.close.ensures.closed ∙ bus.wired.closed there top in
           omega (arith, closed, rw (← so_far.way.cycle) at (c.whole_if_over-cycles.ensures.closed some));

@@ -88,6 +88,7 @@ returns-clause-served g c =
           k v.if-back-gt0.true back rest.0 j (from + q) (from + n * o.cycles) _ _ (omega arith) (omega (arith, c.requires.before)) limit again in
           rw (v.desk-is, v.at-is, due) (rw zero at (served-then once others))
       | else-back-gt0 v ↦
-          rw (v.desk-is, v.at-is, regs, v.due-is) (rw zero at (asked-whole part bus.wired bus.memory bus.stays_at_rest bus.stays_plain g.D.Desk.answers end byte c.cycle-cycle.ensures.value c.requires.plain
+          rw (v.desk-is, v.at-is, regs, v.due-is)
+          (rw zero at (asked-whole part bus.wired bus.memory bus.stays_at_rest bus.stays_plain g.D.Desk.answers end byte c.cycle-cycle.ensures.value c.requires.plain
           c.requires.free outside passing some rest.1 refl from 0 _ _ (omega arith) c.requires.before fits (omega (arith, fits, rest.0)) c.in-Some-ask.ensures))
     ])

@@ -27,7 +27,8 @@ loop-due-init g c =
             at = served-on part wired stays (not-yet part wired stays way) v.go_asking-due.ensures.served bound.free bound.until bound.sure;
             noted = v.go_asking-due.ensures.noted ∙ v.see.ensures.kept c.args.notes.now;
             spent = rw (ready-look part core c.args.from over) (spent-on
-                (spent-whole 0 none-spent (omega arith) (omega arith) (omega (arith, v.if-due-bound.false, bound.sure))) (rw (← way.cycle) at (v.go_asking-due.ensures.spends c.args.sure bound.sure)));
+                (spent-whole 0 none-spent (omega arith) (omega arith) (omega (arith, v.if-due-bound.false, bound.sure)))
+                (rw (← way.cycle) at (v.go_asking-due.ensures.spends c.args.sure bound.sure)));
           })
       | else-last v ↦
           let on : IsSome (next_cycle part core) = search rules in
@@ -43,14 +44,16 @@ pub go_asking-due-requires-clause-before : goal.go_asking-due-requires-clause-be
 go_asking-due-requires-clause-before g c =
     let start : At g.B.TubeBus.State = at_of (g.P.Processor.core c.args.cpu.now) (g.B.TubeBus.state c.args.bus.now) c.args.from in
     let looked =
-    after-look g.P.Processor.part g.B.TubeBus.wired g.B.TubeBus.stays_plain start (c.args.from + 1) c.requires.before (c.bound_of-bound.ensures.plain (omega (arith, c.if-due-bound.false))) c.see.ensures.seen in
+    after-look g.P.Processor.part g.B.TubeBus.wired g.B.TubeBus.stays_plain start (c.args.from + 1) c.requires.before
+    (c.bound_of-bound.ensures.plain (omega (arith, c.if-due-bound.false))) c.see.ensures.seen in
     omega (arith, looked.closed)
 
 pub go_asking-due-requires-clause-free : goal.go_asking-due-requires-clause-free
 go_asking-due-requires-clause-free g c =
     let start : At g.B.TubeBus.State = at_of (g.P.Processor.core c.args.cpu.now) (g.B.TubeBus.state c.args.bus.now) c.args.from in
     let looked =
-    after-look g.P.Processor.part g.B.TubeBus.wired g.B.TubeBus.stays_plain start (c.args.from + 1) c.requires.before (c.bound_of-bound.ensures.plain (omega (arith, c.if-due-bound.false))) c.see.ensures.seen in
+    after-look g.P.Processor.part g.B.TubeBus.wired g.B.TubeBus.stays_plain start (c.args.from + 1) c.requires.before
+    (c.bound_of-bound.ensures.plain (omega (arith, c.if-due-bound.false))) c.see.ensures.seen in
     λ t low. looked.free c.break_tick-next_break.result c.break_tick-next_break.ensures.none t (omega (arith, low, c.bound_of-bound.ensures.free))
 
 pub returns-then-due-bound-2-clause-talks : goal.returns-then-due-bound-2-clause-talks
@@ -61,7 +64,8 @@ returns-then-due-bound-2-clause-talks g c =
     let tick : c.loop-due.due + n - 1 ≡ c.loop-due.due + (n - 1) = omega (arith, c.cycle-cycle.ensures.some) in
     let closed : c.loop-due.due + n - (n - 1) ≡ c.loop-due.due + 1 = omega (arith, c.cycle-cycle.ensures.some) in
     rw (c.close.ensures.closed ∙ ap (g.B.TubeBus.wiring.close b) closed)
-    (then-came (moves_of g.P.Processor.part g.B.TubeBus.wiring) (shown_lines c.args.lines.now c.args.sure) c.loop-due.invariant.at.talks (quick-last g.P.Processor.part g.B.TubeBus.wired g.B.TubeBus.stays_plain c.loop-due.invariant.at.way b c.want.ensures c.in-Some.ensures.done
+    (then-came (moves_of g.P.Processor.part g.B.TubeBus.wiring) (shown_lines c.args.lines.now c.args.sure) c.loop-due.invariant.at.talks
+    (quick-last g.P.Processor.part g.B.TubeBus.wired g.B.TubeBus.stays_plain c.loop-due.invariant.at.way b c.want.ensures c.in-Some.ensures.done
     (omega (arith, c.loop-due-test.true, c.min-end.ensures))
     (omega (arith, c.loop-due-test.true, c.min-end.ensures, c.saturating_sub.ensures, c.requires.room, c.cycle-cycle.ensures.bound)) c.give.ensures over tick))
 
@@ -109,7 +113,8 @@ loop-due-preserved-then-last-2 g c =
     (omega (arith, c.if-due-bound-2.false, bound.until, c.cycle-cycle.ensures.some)) (omega (arith, c.if-due-bound-2.false, bound.sure, c.cycle-cycle.ensures.some)) tick
     c.see-then-last-2.ensures.seen) in
     record {
-      at = served-on part wired stays (record { mid = so_far.at.mid; talks = so_far.at.talks; first = so_far.at.first; way = way }) c.go_asking-due-then-last-2.ensures.served bound.free bound.until bound.sure;
+      at = served-on part wired stays
+          (record { mid = so_far.at.mid; talks = so_far.at.talks; first = so_far.at.first; way = way }) c.go_asking-due-then-last-2.ensures.served bound.free bound.until bound.sure;
       noted = c.go_asking-due-then-last-2.ensures.noted ∙ c.see-then-last-2.ensures.kept c.quick.new.notes ∙ c.quick.ensures.noted ∙ so_far.noted;
       spent = spent-on (spent-whole 1 so_far.spent c.quick.ensures.room (omega arith) (omega (arith, c.if-due-bound-2.false, bound.sure)))
           (rw (← way.cycle) at (c.go_asking-due-then-last-2.ensures.spends c.args.sure bound.sure));

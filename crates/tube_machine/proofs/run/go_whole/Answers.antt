@@ -55,7 +55,8 @@ loop-due-preserved g c =
     let gone : c.args.from < top = omega (arith, c.loop-due.invariant.low, more, c.cycle-cycle.ensures.some) in
     let here : behind c.args.from top ≡ top = behind-some c.args.from top gone in
     let went = λ (far until sure : ℕ) (far_on : c.args.end ≤ far) (in_run : c.args.end ≤ until) (early : c.args.end ≤ sure) (free : IsFree part w far (g.B.TubeBus.state c.args.bus.now)).
-    whole-behind part g.B.TubeBus.wired g.B.TubeBus.memory g.B.TubeBus.stays_at_rest g.B.TubeBus.stays_plain far until c.args.lines.now sure n start (has_flag (c.args.at).p INTERRUPT) quiet k due u c.loop-due.regs new m there some
+    whole-behind part g.B.TubeBus.wired g.B.TubeBus.memory g.B.TubeBus.stays_at_rest g.B.TubeBus.stays_plain far until c.args.lines.now sure n start
+    (has_flag (c.args.at).p INTERRUPT) quiet k due u c.loop-due.regs new m there some
     (behind-most c.args.from due)
     (c.loop-due.invariant.way far until sure far_on in_run early free) done c.loop-due.invariant.before (omega (arith, ends, far_on))
     (omega (arith, ends, in_run)) (omega (arith, ends, early)) (omega (arith, ends, c.loop-due.invariant.rests.1.0))

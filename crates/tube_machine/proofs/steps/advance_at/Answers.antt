@@ -42,7 +42,8 @@ loop-ask-preserved-then-breaks_alone g c =
     let ran = rw c.in-Look.is at c.carry_on.ensures.ran in
     let alone = breaks-alone part w at c.args.until.0 (sym c.breaks_alone.ensures ∙ c.if-breaks_alone.true) in
     record {
-      went = then-came m v (way-on m v c.loop-ask.invariant.went ran.0) (more part w g.B.TubeBus.wired c.args.until.0 c.args.lines.now c.args.sure.0 at _ alone.0 (alone.1 _ c.take_break.ensures.broken));
+      went = then-came m v (way-on m v c.loop-ask.invariant.went ran.0) (more part w g.B.TubeBus.wired c.args.until.0 c.args.lines.now c.args.sure.0 at _ alone.0
+          (alone.1 _ c.take_break.ensures.broken));
       before = c.take_break.ensures.before;
     }
 
@@ -55,7 +56,14 @@ loop-ask-smaller g c =
       | then-due-min v ↦ leb-false c.min.result at.due (sym v.value-is ∙ c.if-is_break.false)
       | else-due-min v ↦ omega (arith, v.if-due-min.false)
     ] in
-    omega (arith, way-rises part g.B.TubeBus.wired (shown_lines c.args.lines.now c.args.sure.0) ran.0, next-rises part g.B.TubeBus.wiring g.B.TubeBus.wired at (Some (Seen c.args.lines.now)) c.take_lines.ensures.taken, early, c.min.ensures)
+    omega (
+      arith,
+      way-rises part g.B.TubeBus.wired (shown_lines c.args.lines.now c.args.sure.0) ran.0,
+      next-rises part g.B.TubeBus.wiring g.B.TubeBus.wired at
+          (Some (Seen c.args.lines.now)) c.take_lines.ensures.taken,
+      early,
+      c.min.ensures,
+    )
 
 pub loop-ask-preserved : goal.loop-ask-preserved
 loop-ask-preserved g c =
