@@ -21,7 +21,7 @@ behind r op f = record { sequence = Instruction; regs = r; seen = Some op ∷ f 
 -- its accesses behind that of the opcode
 pub next-row : (part : Part) (op : ℕ) (row : Row) (r : Regs) (f : List (Option ℕ)) → row_at part op ≡ Some row
     → next_cycle part (behind r op f) ≡ slice_get (form part (bus_use row.mnemonic) row r (Some op ∷ f)) (length f)
-next-row part op row r f h = ap (λ o. slice_get (Read r.pc ∷ form_of part o r (Some op ∷ f)) (suc (length f))) h
+next-row part op row r f h = rw h
 
 -- it halts nothing
 going : (part : Part) (op : ℕ) (row : Row) (r : Regs) (f : List (Option ℕ)) → row_at part op ≡ Some row → halted part (behind r op f) ≡ false
@@ -74,14 +74,15 @@ along {M} g t next other same (suc k) f m last there done = subst there_by (sym 
 -- the opcode's cycle before them
 pub from_fetch : {M : Type 0} → (g : Reach M) (t : ℕ) (part : Part) (row : Row) (r : Regs) (m : M) → g.reads r.pc ≡ true → row_at part (g.byte m r.pc) ≡ Some row
     → (next : List (Option ℕ) → Option Cycle) → ((f : List (Option ℕ)) → slice_get (form part (bus_use row.mnemonic) row r (Some (g.byte m r.pc) ∷ f)) (length f) ≡ next f)
-    → (k : ℕ) (last : List (Option ℕ)) (there : M) → Follows g t next k [] m last there
-    → Carried g t part (suc k) (fresh Instruction r) m (behind r (g.byte m r.pc) last) there
-from_fetch {M} g t part row r m p decoded next same k last there done = (
-  p,
-  subst (λ (s : State). Carried g t part k s m (behind r (g.byte m r.pc) last) there) (sym (begun part))
-      (carried g t part (g.byte m r.pc) row r decoded k [] m last there
-      (along g t (λ f. next_cycle part (behind r (g.byte m r.pc) f)) next (λ f. next-row part (g.byte m r.pc) row r f decoded ∙ same f) k [] m last there done)),
-)
+    → (k : ℕ) (last : List (Option ℕ)) (there : M) → Follows g t next k [] m last there → {n : ℕ} → n ≡ suc k
+    → Carried g t part n (fresh Instruction r) m (behind r (g.byte m r.pc) last) there
+from_fetch {M} g t part row r m p decoded next same k last there done count =
+    rw count (
+      p,
+      subst (λ (s : State). Carried g t part k s m (behind r (g.byte m r.pc) last) there) (sym (begun part))
+          (carried g t part (g.byte m r.pc) row r decoded k [] m last there
+          (along g t (λ f. next_cycle part (behind r (g.byte m r.pc) f)) next (λ f. next-row part (g.byte m r.pc) row r f decoded ∙ same f) k [] m last there done)),
+    )
   where
     begun : (part : Part) → after_byte part (fresh Instruction r) (g.byte m r.pc) ≡ behind r (g.byte m r.pc) []
     begun Nmos = refl
@@ -92,12 +93,6 @@ from_fetch {M} g t part row r m p decoded next same k last there done = (
 pub more_by-suc : (xs : List (Option ℕ)) (k : ℕ) → more_by xs k ≡ length xs + k
 more_by-suc [] k = omega arith
 more_by-suc (x ∷ xs) k = omega (arith, more_by-suc xs k)
-
-pub at_seam : (xs : List Cycle) (c : Cycle) (cs : List Cycle) (n : ℕ) → length xs ≡ n → slice_get (xs ++ c ∷ cs) n ≡ Some c
-at_seam [] c cs zero h = refl
-at_seam [] c cs (suc n) h = absurd (omega (arith, h))
-at_seam (x ∷ xs) c cs zero h = absurd (omega (arith, h))
-at_seam (x ∷ xs) c cs (suc n) h = at_seam xs c cs n (omega (arith, h))
 
 pub byte-seam : (seen rest : List (Option ℕ)) (op x n : ℕ) → n ≡ length seen → byte (Some op ∷ seen ++ Some x ∷ rest) (1 + n) ≡ x
 byte-seam seen rest op x n h =

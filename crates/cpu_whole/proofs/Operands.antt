@@ -8,7 +8,7 @@ use Rattle.cpu_alu.specs.declared.Regs.{Regs}
 use Rattle.cpu_alu.specs.declared.Cycle.{Cycle}
 use Rattle.cpu_alu.specs.declared.Cycle.TheVariants.{Read}
 use Rattle.cpu_alu.specs.Addresses.{place, word, wrap, crosses_page}
-use Rattle.cpu_core.specs.Accesses.{idle, in_page}
+use Rattle.cpu_core.specs.Accesses.{reach, address, idle, in_page}
 use Rattle.cpu_core.specs.Sequences.{shown_byte}
 use Rattle.cpu_whole.specs.Whole.{Reach, is_plain, shows, leaves}
 use Rattle.cpu_whole.specs.CodeWays.{Follows, IsReached, on_the_way, is_beside}
@@ -24,14 +24,19 @@ module _ {M : Type 0} (g : Reach M) (t : ℕ) (part : Part) (always : Bool) (r :
   abbrev two : ℕ
   two = g.byte m (place r 2)
 
+  -- right behind the opcode
+  here : {way : Mode} → ((f : List (Option ℕ)) → address way r (Some op ∷ f) ≡ place r 1) → ((f : List (Option ℕ)) → length (reach part way always r (Some op ∷ f)) ≡ 0)
+      → IsReached part g t way always r m (place r 1) 1
+  here found steps = record { seen = []; count = refl; found = found; steps = steps; goes = λ tail k last there rest. rest }
+
   pub immediate : (way : Mode) → is_beside way ≡ true → IsReached part g t way always r m (place r 1) 1
-  immediate Imp h = record { seen = []; count = refl; found = λ f. refl; steps = λ f. refl; goes = λ tail k last there rest. rest }
-  immediate Acc h = record { seen = []; count = refl; found = λ f. refl; steps = λ f. refl; goes = λ tail k last there rest. rest }
-  immediate Imm h = record { seen = []; count = refl; found = λ f. refl; steps = λ f. refl; goes = λ tail k last there rest. rest }
-  immediate Rel h = record { seen = []; count = refl; found = λ f. refl; steps = λ f. refl; goes = λ tail k last there rest. rest }
-  immediate Ind h = record { seen = []; count = refl; found = λ f. refl; steps = λ f. refl; goes = λ tail k last there rest. rest }
-  immediate IndAbsX h = record { seen = []; count = refl; found = λ f. refl; steps = λ f. refl; goes = λ tail k last there rest. rest }
-  immediate Spare h = record { seen = []; count = refl; found = λ f. refl; steps = λ f. refl; goes = λ tail k last there rest. rest }
+  immediate Imp h = here (λ f. refl) (λ f. refl)
+  immediate Acc h = here (λ f. refl) (λ f. refl)
+  immediate Imm h = here (λ f. refl) (λ f. refl)
+  immediate Rel h = here (λ f. refl) (λ f. refl)
+  immediate Ind h = here (λ f. refl) (λ f. refl)
+  immediate IndAbsX h = here (λ f. refl) (λ f. refl)
+  immediate Spare h = here (λ f. refl) (λ f. refl)
   immediate _ h = cc
 
   pub zero_page : g.reads (place r 1) ≡ true → IsReached part g t Zp always r m one 2
@@ -90,10 +95,6 @@ module _ {M : Type 0} (g : Reach M) (t : ℕ) (part : Part) (always : Bool) (r :
     goes = λ tail k last there rest. (p, (i, (q, (s, rest))));
   }
 
-  -- the same address and number of cycles
-  pub reached_as : (way : Mode) (at n at2 n2 : ℕ) → at ≡ at2 → n ≡ n2 → IsReached part g t way always r m at n → IsReached part g t way always r m at2 n2
-  reached_as way at n at2 n2 a b h = subst (λ k. IsReached part g t way always r m at2 k) b (subst (λ k. IsReached part g t way always r m k n) a h)
-
   -- the cycle for a carry, where there is one
   carry : (way : Mode) (b : Bool) (at : ℕ) (tail : List (Option ℕ) → List Cycle) (k : ℕ) (f last : List (Option ℕ)) (there : M) → b ≡ true → g.reads at ≡ true
       → Follows g t (on_the_way part way always r op tail) k (f ++ Some (g.byte m at) ∷ []) m last there
@@ -102,9 +103,6 @@ module _ {M : Type 0} (g : Reach M) (t : ℕ) (part : Part) (always : Bool) (r :
   carry way b at tail k f last there is p rest =
       subst (λ (b : Bool). MatchOption (slice_get (cond b (Read at ∷ []) [] ++ tail f) 0) ⊥ (λ c. (is_plain g c ≡ true)
       × Follows g t (on_the_way part way always r op tail) k (f ++ shown_byte (Some c) (shows g m c) ∷ []) (leaves g t m (suc (length f)) c) last there)) (sym is) (p, rest)
-
-  waited : (b c : Bool) (at n : ℕ) → b ≡ c → n + length (cond b (Read at ∷ []) []) ≡ n + length (cond c (Read at ∷ []) [])
-  waited b c at n h = ap (λ b. n + length (cond b (Read at ∷ []) [])) h
 
   pub absolute_x : (c : Bool) → (always || crosses_page one r.x) ≡ c → g.reads (place r 1) ≡ true → g.reads (place r 2) ≡ true
       → (c ≡ true → g.reads (idle part (in_page one two r.x) (place r 2)) ≡ true) → IsReached part g t AbsX always r m (wrap (word one two + r.x)) (cond c 4 3)
@@ -176,10 +174,7 @@ module _ {M : Type 0} (g : Reach M) (t : ℕ) (part : Part) (always : Bool) (r :
         goes = λ tail k last there rest. (p, (q, (s, rest)));
       }
 
-  -- the NMOS part reads the address that it has so far, the 65C02 the last byte of the instruction
-  pub idle_read : (so_far last : ℕ) → g.reads so_far ≡ true → g.reads last ≡ true → g.reads (idle part so_far last) ≡ true
-  idle_read so_far last a b = by part
-    where
-      by : (part : Part) → g.reads (idle part so_far last) ≡ true
-      by Nmos = a
-      by Cmos = b
+-- the NMOS part reads the address that it has so far, the 65C02 the last byte of the instruction
+pub idle_read : {M : Type 0} (g : Reach M) (part : Part) (so_far last : ℕ) → g.reads so_far ≡ true → g.reads last ≡ true → g.reads (idle part so_far last) ≡ true
+idle_read g Nmos so_far last a b = a
+idle_read g Cmos so_far last a b = b

@@ -10,10 +10,5 @@ use Rattle.cpu_whole.proofs.alone.accumulator.Goals as goal
 pub returns-clause-done : goal.returns-clause-done
 returns-clause-done g c =
     λ t.
-    let reach = g.M.Plain.reach in
-    let m = g.M.Plain.state c.args.memory.now in
-    let r = c.args.r.now in
-    let row = c.args.row in
-    let one : row.bytes ≡ 1 = of_accumulator c.args.part _ row c.requires.row c.requires.uses.kind c.requires.mode in
-    accumulator reach t c.args.part row r m c.requires.runs.first c.requires.row c.args.always c.requires.uses c.requires.mode c.requires.runs.second _ c.move_past.new.self.a
-    (c.change.ensures.regs ∙ ap (λ (q : Regs). modify_result row.mnemonic Acc q c.move_past.new.self.a) (c.move_past.ensures ∙ ap (with_pc_past r) (sym one)))
+    let one : c.args.row.bytes ≡ 1 = of_accumulator c.args.part _ c.args.row c.requires.row c.requires.uses.kind c.requires.mode in
+    accumulator c.requires.runs.first c.requires.row c.requires.uses c.requires.mode c.requires.runs.second c.move_past.new.self.a (rw (c.change.ensures.regs, c.move_past.ensures, one))

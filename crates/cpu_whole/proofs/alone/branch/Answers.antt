@@ -6,9 +6,5 @@ use Rattle.cpu_whole.proofs.alone.branch.Goals as goal
 pub returns-clause-done : goal.returns-clause-done
 returns-clause-done g c =
     λ t some.
-    let reach = g.M.Plain.reach in
-    let m = g.M.Plain.state c.args.memory.now in
-    let r = c.args.r.now in
-    let row = c.args.row in
-    let taken : takes_branch row.mnemonic r ≡ false = search rules in
-    branch_past reach t c.args.part row r m c.requires.runs.first c.requires.row c.requires.uses taken c.requires.runs.second _ c.move_past.ensures
+    let taken : takes_branch c.args.row.mnemonic c.args.r.now ≡ false = search rules in
+    branch_past c.requires.runs.first c.requires.row c.requires.uses taken c.requires.runs.second c.move_past.ensures

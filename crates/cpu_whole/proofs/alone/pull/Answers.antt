@@ -10,14 +10,7 @@ use Rattle.cpu_whole.proofs.alone.pull.Goals as goal
 pub returns-clause-done : goal.returns-clause-done
 returns-clause-done g c =
     λ t some.
-    let reach = g.M.Plain.reach in
-    let m = g.M.Plain.state c.args.memory.now in
-    let r = c.args.r.now in
-    let row = c.args.row in
-    let fixed : pulls_flags row.mnemonic ≡ false = search rules in
-    let byte : c.low_byte-byte.result ≡ reach.byte m (stack r 1) = c.low_byte-byte.ensures.byte ∙ ap (reach.byte m) c.stack.ensures in
-    let one : row.bytes ≡ 1 = of_pull c.args.part _ row c.requires.row c.requires.uses in
-    pulled reach t c.args.part row r m c.requires.runs.first c.requires.row g.M.Plain.is_plain c.requires.uses fixed c.requires.runs.second _
-    (c.pull.ensures
-    ∙ ap (λ (q : Regs). pull_result row.mnemonic q c.low_byte-byte.result) (c.move_stack.ensures ∙ ap (λ (q : Regs). with_stack_moved q 1) (c.move_past.ensures ∙ ap (with_pc_past r) (sym one)))
-    ∙ ap (pull_result row.mnemonic (with_stack_moved (with_pc_past r row.bytes) 1)) byte)
+    let fixed : pulls_flags c.args.row.mnemonic ≡ false = search rules in
+    let one : c.args.row.bytes ≡ 1 = of_pull c.args.part _ c.args.row c.requires.row c.requires.uses in
+    pulled c.requires.runs.first c.requires.row g.M.Plain.is_plain c.requires.uses fixed c.requires.runs.second
+    (rw (c.pull.ensures, c.move_stack.ensures, c.move_past.ensures, one, c.low_byte-byte.ensures.byte, c.stack.ensures))

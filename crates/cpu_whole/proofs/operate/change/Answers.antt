@@ -18,9 +18,6 @@ returns-clause-done g c =
     let went : 0 < n = omega arith in
     let yes : c.writes.result ≡ true = search rules in
     let past : c.move_past.new.self ≡ with_pc_past r row.bytes = c.move_past.ensures in
-    changed reach t c.args.part row r m at n c.requires.runs.first c.requires.row g.M.Plain.is_plain c.args.always c.requires.uses c.requires.apart (c.find-to.ensures.reached t went)
-    (c.writes.ensures.read yes) (c.writes.ensures.written yes) _ _ _ refl
-    (c.change-value.ensures.regs ∙ ap (λ (q : Regs). modify_result row.mnemonic row.mode q c.byte-byte.result) past
-    ∙ ap (modify_result row.mnemonic row.mode (with_pc_past r row.bytes)) c.byte-byte.ensures)
-    (c.put.ensures.put ∙ ap (reach.put m t (n + 2) at) (c.change-value.ensures.value ∙ ap (λ (q : Regs). modified_value row.mnemonic q c.byte-byte.result) past
-    ∙ value_past row.mnemonic r row.bytes c.byte-byte.result ∙ ap (modified_value row.mnemonic r) c.byte-byte.ensures))
+    changed c.requires.runs.first c.requires.row g.M.Plain.is_plain c.requires.uses c.requires.apart (c.find-to.ensures.reached t went)
+    (c.writes.ensures.read yes) (c.writes.ensures.written yes) refl
+    (rw (c.change-value.ensures.regs, past, c.byte-byte.ensures)) (rw (c.put.ensures.put, c.change-value.ensures.value, past, value_past row.mnemonic r row.bytes, c.byte-byte.ensures))

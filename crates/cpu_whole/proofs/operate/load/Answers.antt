@@ -25,6 +25,5 @@ returns-clause-done g c =
     let binary : is_decimal row.mnemonic r ≡ false =
     sym (ap (is_decimal row.mnemonic) past ∙ decimal_past row.mnemonic r row.bytes) ∙ no_by (is_decimal row.mnemonic c.move_past.new.self) (sym c.read.ensures.binary ∙ read) in
     let reached = subst (λ b. IsReached c.args.part reach t row.mode b r m at c.find-to.result.cycles) (loads_wait c.args.part) (c.find-to.ensures.reached t went) in
-    loaded reach t c.args.part row r m at c.find-to.result.cycles c.requires.runs.first c.requires.row c.requires.uses binary reached (c.reads.ensures yes) _ _ refl
-    (c.read.ensures.read read ∙ ap (λ (q : Regs). read_result c.args.part row.mnemonic row.mode q c.byte-byte.result) past
-    ∙ ap (read_result c.args.part row.mnemonic row.mode (with_pc_past r row.bytes)) c.byte-byte.ensures)
+    loaded c.requires.runs.first c.requires.row c.requires.uses binary reached (c.reads.ensures yes) refl
+    (rw (c.read.ensures.read read, past, c.byte-byte.ensures))

@@ -15,5 +15,5 @@ returns-clause-done g c =
     let went : 0 < c.find-to.result.cycles = omega arith in
     let yes : c.writes.result ≡ true = search rules in
     let reached = subst (λ b. IsReached c.args.part reach t row.mode b r m at c.find-to.result.cycles) (stores_wait c.args.part) (c.find-to.ensures.reached t went) in
-    stored reach t c.args.part row r m at c.find-to.result.cycles c.requires.runs.first c.requires.row c.requires.uses reached (c.writes.ensures.written yes) _ _ _ refl
-    c.move_past.ensures (c.put.ensures.put ∙ ap (reach.put m t c.find-to.result.cycles at) c.stored.ensures)
+    stored c.requires.runs.first c.requires.row c.requires.uses reached (c.writes.ensures.written yes) refl
+    c.move_past.ensures (rw (c.put.ensures.put, c.stored.ensures))

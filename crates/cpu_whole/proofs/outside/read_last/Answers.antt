@@ -14,4 +14,4 @@ returns-clause-outside g c =
     let at = c.find-to.result.at in
     let single : adds row.mnemonic ≡ false = sym c.adds.ensures ∙ c.if-adds.false in
     let reached = subst (λ b. IsReached c.args.part reach t row.mode b r m at c.find-to.result.cycles) (loads_wait c.args.part) (c.find-to.ensures.reached t some) in
-    read-last reach t c.args.part row r m at c.find-to.result.cycles c.requires.runs.first c.requires.row c.requires.uses single reached
+    read-last c.requires.runs.first c.requires.row c.requires.uses single reached

@@ -12,4 +12,4 @@ returns-clause-outside g c =
     let row = c.args.row in
     let at = c.find-to.result.at in
     let reached = subst (λ b. IsReached c.args.part reach t row.mode b r m at c.find-to.result.cycles) (stores_wait c.args.part) (c.find-to.ensures.reached t some) in
-    written-last reach t c.args.part row r m at c.find-to.result.cycles c.requires.runs.first c.requires.row c.requires.uses reached c.stored.result c.stored.ensures
+    written-last c.requires.runs.first c.requires.row c.requires.uses reached c.stored.ensures
