@@ -36,7 +36,8 @@ no-sum Sbc r h = cc
 no-sum _ r h = refl
 
 -- one cycle before others
-pub step : {M : Type 0} (g : Reach M) (t : ℕ) (next : List (Option ℕ) → Option Cycle) (k : ℕ) (f : List (Option ℕ)) (m : M) {c : Cycle} {f2 : List (Option ℕ)} {m2 : M} (last : List (Option ℕ)) (there : M)
+pub step : {M : Type 0} (g : Reach M) (t : ℕ) (next : List (Option ℕ) → Option Cycle) (k : ℕ) (f : List (Option ℕ)) (m : M) {c : Cycle} {f2 : List (Option ℕ)} {m2 : M} (last : List (Option ℕ))
+    (there : M)
     → next f ≡ Some c → is_plain g c ≡ true → f ++ shown_byte (Some c) (shows g m c) ∷ [] ≡ f2 → leaves g t m (suc (length f)) c ≡ m2
     → Follows g t next k f2 m2 last there → Follows g t next (suc k) f m last there
 step g t next k f m {c} last there is plain shown left rest =
@@ -175,13 +176,15 @@ module _ {part : Part} {M : Type 0} {g : Reach M} {t : ℕ} {row : Row} {r : Reg
   read-last uses single reached =
       before-last p decoded reached uses (read_of row.mode r (g.byte m r.pc)) (read_form part row r (g.byte m r.pc) (no-sum row.mnemonic r single)) _ refl
       (ap (λ a. Read a ∷ []) (found-first reached)) (λ x. Some x) (λ x. refl) (λ x. refl)
-      (λ x. ap (read_result part row.mnemonic row.mode (with_pc_past r row.bytes)) (operand-there reached x [])) (λ x. read_kept part row.mnemonic row.mode (with_pc_past r row.bytes) x) (λ _. (uses, single))
+      (λ x. ap (read_result part row.mnemonic row.mode (with_pc_past r row.bytes)) (operand-there reached x [])) (λ x. read_kept part row.mnemonic row.mode (with_pc_past r row.bytes) x)
+      (λ _. (uses, single))
 
   -- it is written, wherever it is
   pub written-last : bus_use row.mnemonic ≡ Stores → IsReached part g t row.mode (waits part Stores) r m at n → {v : ℕ} → v ≡ stored_value row.mnemonic r
       → IsOutside part g t r m (record { cycles = n; at = at; value = Some v; mnemonic = row.mnemonic; mode = row.mode; bytes = row.bytes })
   written-last uses reached {v} is =
-      before-last p decoded reached uses (written_of row.mode r (g.byte m r.pc) v) (λ f. ap (λ (b : ℕ). on_the_way part row.mode (waits part Stores) r (g.byte m r.pc) (written_of row.mode r (g.byte m r.pc) b) f) (sym is)) _ refl
+      before-last p decoded reached uses (written_of row.mode r (g.byte m r.pc) v)
+      (λ f. ap (λ (b : ℕ). on_the_way part row.mode (waits part Stores) r (g.byte m r.pc) (written_of row.mode r (g.byte m r.pc) b) f) (sym is)) _ refl
       (ap (λ a. Write a v ∷ []) (found-first reached)) (λ x. None) (λ x. refl) (λ x. refl) (λ x. refl) (λ x. refl) (λ none. cc)
 
   -- it is read and written back
@@ -233,13 +236,20 @@ module _ {part : Part} {M : Type 0} {g : Reach M} {t : ℕ} {row : Row} {r : Reg
       over_old Cmos = refl
 
 -- which forms take their cycle for a carry always
-pub loads_wait : (part : Part) → false ≡ waits part Reads
-loads_wait Nmos = refl
-loads_wait Cmos = refl
+module _ {part : Part} {M : Type 0} {g : Reach M} {t : ℕ} {way : Mode} {r : Regs} {m : M} {at n : ℕ} where
+  pub for_loads : IsReached part g t way false r m at n → IsReached part g t way (waits part Reads) r m at n
+  for_loads reached = subst (λ b. IsReached part g t way b r m at n) (by part) reached
+    where
+      by : (part : Part) → false ≡ waits part Reads
+      by Nmos = refl
+      by Cmos = refl
 
-pub stores_wait : (part : Part) → true ≡ waits part Stores
-stores_wait Nmos = refl
-stores_wait Cmos = refl
+  pub for_stores : IsReached part g t way true r m at n → IsReached part g t way (waits part Stores) r m at n
+  for_stores reached = subst (λ b. IsReached part g t way b r m at n) (by part) reached
+    where
+      by : (part : Part) → true ≡ waits part Stores
+      by Nmos = refl
+      by Cmos = refl
 
 pub modifying : (part : Part) (row : Row) (uses : BusUse) (always : Bool) → bus_use row.mnemonic ≡ uses → is_modifying uses ≡ true → always ≡ waits part uses → IsModifying part row always
 modifying part row uses always is kind same =

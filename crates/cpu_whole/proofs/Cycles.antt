@@ -5,11 +5,10 @@ use Rattle.op_table.specs.declared.names.Part.TheVariants.{Nmos, Cmos}
 use Rattle.op_table.specs.declared.rows.Row.{Row}
 use Rattle.cpu_alu.specs.declared.Regs.{Regs}
 use Rattle.cpu_alu.specs.declared.Cycle.{Cycle}
-use Rattle.cpu_alu.specs.declared.Cycle.TheVariants.{Read}
 use Rattle.cpu_alu.specs.Instructions.{bus_use}
 use Rattle.cpu_core.specs.declared.Sequence.TheVariants.{Instruction}
 use Rattle.cpu_core.specs.State.{State}
-use Rattle.cpu_core.specs.Accesses.{byte, row_at, form, form_of, or_zero}
+use Rattle.cpu_core.specs.Accesses.{byte, row_at, form, or_zero}
 use Rattle.cpu_core.specs.Sequences.{next_cycle, after_byte, shown_byte, halted, fresh}
 use Rattle.cpu_whole.specs.Whole.{Reach, Carried, is_plain, shows, leaves}
 use Rattle.cpu_whole.specs.CodeWays.{Follows, more_by}
@@ -47,7 +46,8 @@ carried {M} g t part op row r h (suc k) f m last there done =
     by : ((f : List (Option ℕ)) (m : M) (last : List (Option ℕ)) (there : M)
         → Follows g t (λ f. next_cycle part (behind r op f)) k f m last there → Carried g t part k (behind r op f) m (behind r op last) there)
         → (o : Option Cycle) → next_cycle part (behind r op f) ≡ o
-        → MatchOption o ⊥ (λ c. (is_plain g c ≡ true) × Follows g t (λ f. next_cycle part (behind r op f)) k (f ++ shown_byte (Some c) (shows g m c) ∷ []) (leaves g t m (suc (length f)) c) last there)
+        → MatchOption o ⊥ (λ c. (is_plain g c ≡ true) × Follows g t (λ f. next_cycle part (behind r op f)) k (f ++ shown_byte (Some c) (shows g m c) ∷ [])
+        (leaves g t m (suc (length f)) c) last there)
         → MatchOption o ⊥ (λ c. (is_plain g c ≡ true) × Carried g t part k (after_byte part (behind r op f) (shows g m c)) (leaves g t m (suc (length f)) c) (behind r op last) there)
     by rest None is done = done
     by rest (Some c) is done = (

@@ -1,8 +1,4 @@
-use Rattle.std.proofs.Common.{◌≡◌, ◌∙◌, sym, ap}
-use Rattle.op_table.specs.declared.names.Mode.TheVariants.{Acc}
-use Rattle.cpu_alu.specs.Addresses.{with_pc_past}
-use Rattle.cpu_alu.specs.Instructions.{modify_result}
-use Rattle.cpu_alu.specs.declared.Regs.{Regs}
+use Rattle.std.proofs.Common.{◌≡◌}
 use Rattle.cpu_whole.proofs.Forms.{accumulator}
 use Rattle.cpu_whole.proofs.RowBytes.{of_accumulator}
 use Rattle.cpu_whole.proofs.alone.accumulator.Goals as goal

@@ -1,7 +1,5 @@
-use Rattle.std.proofs.Common.{rules, ◌≡◌, ◌+◌, ◌*◌, ◌/◌, ◌%◌, ◌∙◌, true, false, eqb, ap, arith}
+use Rattle.std.proofs.Common.{rules, ◌≡◌, ◌/◌, true, false, eqb, arith}
 use Rattle.std.proofs.lemmas.Bool.Decides.{nat_tests}
-use Rattle.cpu_core.specs.Accesses.{idle}
-use Rattle.cpu_alu.specs.Addresses.{place, target}
 use Rattle.cpu_whole.proofs.Operands.{idle_read}
 use Rattle.cpu_whole.proofs.Forms.{branch_taken, branch_crossed}
 use Rattle.cpu_whole.proofs.alone.branch_on.Goals as goal

@@ -1,6 +1,4 @@
-use Rattle.std.proofs.Common.{◌≡◌, ◌/◌, ◌%◌, ◌∙◌, ℕ, ap, arith}
-use Rattle.cpu_alu.specs.declared.Regs.{Regs}
-use Rattle.cpu_alu.specs.Addresses.{word, place, stack, with_stack_moved}
+use Rattle.std.proofs.Common.{arith}
 use Rattle.cpu_whole.proofs.Forms.{called}
 use Rattle.cpu_whole.proofs.alone.call.Goals as goal
 

@@ -1,6 +1,4 @@
-use Rattle.std.proofs.Common.{rules, ◌≡◌, ◌+◌, ◌∙◌, true, ap, subst}
-use Rattle.cpu_alu.specs.declared.Regs.{Regs}
-use Rattle.cpu_alu.specs.Addresses.{word, wrap, stack, with_stack_moved}
+use Rattle.std.proofs.Common.{rules, ◌≡◌, true}
 use Rattle.cpu_whole.proofs.Forms.{returned}
 use Rattle.cpu_whole.proofs.alone.go_back.Goals as goal
 

@@ -1,6 +1,4 @@
-use Rattle.std.proofs.Common.{rules, ◌≡◌, ◌∙◌, false, sym, ap}
-use Rattle.cpu_alu.specs.Addresses.{with_pc_past}
-use Rattle.cpu_alu.specs.Instructions.{implied_result}
+use Rattle.std.proofs.Common.{rules, ◌≡◌, false}
 use Rattle.cpu_whole.specs.CodeWays.{moves_i}
 use Rattle.cpu_whole.proofs.Forms.{implied}
 use Rattle.cpu_whole.proofs.RowBytes.{of_implied}

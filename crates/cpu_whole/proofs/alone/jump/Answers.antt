@@ -1,5 +1,3 @@
-use Rattle.std.proofs.Common.{◌≡◌, ◌+◌, ◌∙◌, ap}
-use Rattle.cpu_alu.specs.Addresses.{word, wrap, place}
 use Rattle.cpu_whole.proofs.Forms.{pointer_absolute, pointer_with_x}
 use Rattle.cpu_whole.proofs.alone.jump.Goals as goal
 

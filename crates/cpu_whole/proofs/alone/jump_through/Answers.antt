@@ -1,6 +1,4 @@
-use Rattle.std.proofs.Common.{rules, ◌≡◌, ◌∙◌, true, ap, subst, sym}
-use Rattle.cpu_core.specs.Accesses.{by_part, second}
-use Rattle.cpu_alu.specs.Addresses.{word}
+use Rattle.std.proofs.Common.{rules, ◌≡◌, true}
 use Rattle.cpu_whole.proofs.Forms.{jumped_through}
 use Rattle.cpu_whole.proofs.alone.jump_through.Goals as goal
 

@@ -1,5 +1,3 @@
-use Rattle.std.proofs.Common.{◌≡◌, ◌∙◌, ap}
-use Rattle.cpu_alu.specs.Addresses.{word, place}
 use Rattle.cpu_whole.proofs.Forms.{jumped}
 use Rattle.cpu_whole.proofs.alone.jump_to.Goals as goal
 

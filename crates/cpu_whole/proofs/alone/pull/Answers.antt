@@ -1,8 +1,5 @@
-use Rattle.std.proofs.Common.{rules, ◌≡◌, ◌∙◌, false, sym, ap}
-use Rattle.cpu_alu.specs.Instructions.{pull_result}
+use Rattle.std.proofs.Common.{rules, ◌≡◌, false}
 use Rattle.cpu_whole.specs.CodeWays.{pulls_flags}
-use Rattle.cpu_alu.specs.declared.Regs.{Regs}
-use Rattle.cpu_alu.specs.Addresses.{stack, with_pc_past, with_stack_moved}
 use Rattle.cpu_whole.proofs.Forms.{pulled}
 use Rattle.cpu_whole.proofs.RowBytes.{of_pull}
 use Rattle.cpu_whole.proofs.alone.pull.Goals as goal

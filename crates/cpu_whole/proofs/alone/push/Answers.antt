@@ -1,6 +1,4 @@
-use Rattle.std.proofs.Common.{◌≡◌, ◌∙◌, ℕ, sym, ap}
-use Rattle.cpu_alu.specs.declared.Regs.{Regs}
-use Rattle.cpu_alu.specs.Addresses.{stack, with_pc_past, with_stack_moved}
+use Rattle.std.proofs.Common.{◌≡◌}
 use Rattle.cpu_whole.proofs.Forms.{pushed}
 use Rattle.cpu_whole.proofs.RowBytes.{of_push}
 use Rattle.cpu_whole.proofs.alone.push.Goals as goal

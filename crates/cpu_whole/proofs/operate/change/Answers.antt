@@ -1,19 +1,14 @@
-use Rattle.std.proofs.Common.{rules, ◌≡◌, ◌<◌, ◌+◌, ◌∙◌, true, ap, refl, arith}
-use Rattle.cpu_alu.specs.declared.Regs.{Regs}
+use Rattle.std.proofs.Common.{rules, ◌≡◌, ◌<◌, true, refl, arith}
 use Rattle.cpu_alu.specs.Addresses.{with_pc_past}
-use Rattle.cpu_alu.specs.Instructions.{modified_value, modify_result}
 use Rattle.cpu_whole.proofs.AtOperand.{changed, value_past}
 use Rattle.cpu_whole.proofs.operate.change.Goals as goal
 
 pub returns-clause-done : goal.returns-clause-done
 returns-clause-done g c =
     λ some.
-    let reach = g.M.Plain.reach in
     let t = c.args.t in
-    let m = g.M.Plain.state c.args.memory.now in
     let r = c.args.r.now in
     let row = c.args.row in
-    let at = c.find-to.result.at in
     let n = c.find-to.result.cycles in
     let went : 0 < n = omega arith in
     let yes : c.writes.result ≡ true = search rules in

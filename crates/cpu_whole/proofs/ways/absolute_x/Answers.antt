@@ -6,6 +6,7 @@ use Rattle.cpu_whole.proofs.ways.absolute_x.Goals as goal
 pub returns-clause-reached : goal.returns-clause-reached
 returns-clause-reached g c =
     λ t some.
-    let idle = λ (h : (c.args.always || crosses_page c.args.first c.args.r.now.x) ≡ true). rw (c.requires.first, c.byte-high.ensures, c.place.ensures) at (c.indexed.ensures.idle some h _ c.requires.runs.third) in
+    let idle = λ (h : (c.args.always || crosses_page c.args.first c.args.r.now.x) ≡ true).
+    rw (c.requires.first, c.byte-high.ensures, c.place.ensures) at (c.indexed.ensures.idle some h _ c.requires.runs.third) in
     rw (c.indexed.ensures.at, c.indexed.ensures.cycles some, c.requires.first, c.byte-high.ensures, c.place.ensures)
     (absolute_x g.M.Plain.reach t c.args.part c.args.always c.args.r.now (g.M.Plain.state c.args.memory.now) _ refl c.requires.runs.second c.requires.runs.third (λ h. idle (rw c.requires.first h)))
