@@ -19,7 +19,8 @@ use Rattle.cpu_core.specs.declared.progress.Access.TheVariants.{Load, Store, Cha
 use Rattle.cpu_core.specs.declared.progress.Progress.{Progress}
 use Rattle.cpu_core.specs.declared.progress.Phase.TheVariants as phase
 use Rattle.cpu_core.specs.declared.progress.Start.{Start}
-use Rattle.cpu_core.specs.Accesses.{byte, row_at, waits, reach, address, operand, modify_form, branch_form}
+use Rattle.cpu_core.specs.Accesses.{byte, row_at, waits, reach, address, operand, modify_form, branch_form, form}
+use Rattle.cpu_core.specs.Results.{after_row}
 use Rattle.cpu_core.specs.CodePhases.{at_operand, after_operand, indexed_cycles, cycles_left, outcome, wants, is_fetch, is_stuck}
 use Rattle.cpu_core.specs.CodeStarts.{in_memory, start_by, start_change, start_implied, start_jump, start_in, start_at, start_leaves}
 use Rattle.cpu_core.specs.CodeTies.{GoesOn, first}
@@ -116,54 +117,6 @@ modify_form-entered : (part : Part) (w : Mode) → (w ≡ Acc → ⊥) → (row 
 modify_form-entered part Acc n row always r seen = absurd (n refl)
 modify_form-entered part _ n row always r seen = refl
 
--- the phase that is there
-abbrev at_opcode : Progress → Progress
-at_opcode m = record m { phase = phase.Opcode }
-
-reads_go_on : (part : Part) (m : Progress) (op : ℕ) → m.phase ≡ phase.Opcode → row_at part op ≡ Some m.row → bus_use m.row.mnemonic ≡ Reads
-    → GoesOn part m op (start_leaves (in_memory Load (waits part Reads) m.row.mode) m)
-reads_go_on part m op p e u = record {
-  accesses_left = λ f. rw (p, e, u) (start_leaves-cycles_left part m.row.mode Load (waits part Reads) (at_opcode m) (Some op) f);
-  end = λ f. rw (p, e, u) (start_leaves-outcome part m.row.mode Load (waits part Reads) (at_opcode m) (Some op) f);
-  wanted = start_leaves-wanted part m.row.mode Load (waits part Reads) m refl;
-  fetch = start_leaves-fetch m.row.mode Load (waits part Reads) m;
-  stuck = rw (p, e) (start_leaves-stuck m.row.mode Load (waits part Reads) (at_opcode m));
-}
-
-stores_go_on : (part : Part) (m : Progress) (op : ℕ) → m.phase ≡ phase.Opcode → row_at part op ≡ Some m.row → bus_use m.row.mnemonic ≡ Stores → fits Store m.row.mode ≡ true
-    → GoesOn part m op (start_leaves (in_memory Store (waits part Stores) m.row.mode) m)
-stores_go_on part m op p e u n = record {
-  accesses_left = λ f. rw (p, e, u) (start_leaves-cycles_left part m.row.mode Store (waits part Stores) (at_opcode m) (Some op) f);
-  end = λ f. rw (p, e, u) (start_leaves-outcome part m.row.mode Store (waits part Stores) (at_opcode m) (Some op) f);
-  wanted = start_leaves-wanted part m.row.mode Store (waits part Stores) m n;
-  fetch = start_leaves-fetch m.row.mode Store (waits part Stores) m;
-  stuck = rw (p, e) (start_leaves-stuck m.row.mode Store (waits part Stores) (at_opcode m));
-}
-
-shifts_go_on : (part : Part) (m : Progress) (op : ℕ) → m.phase ≡ phase.Opcode → row_at part op ≡ Some m.row → bus_use m.row.mnemonic ≡ Shifts → (m.row.mode ≡ Acc → ⊥)
-    → GoesOn part m op (start_leaves (in_memory Change (waits part Shifts) m.row.mode) m)
-shifts_go_on part m op p e u n = record {
-  accesses_left = λ f.
-      let g = modify_form-entered part m.row.mode n m.row (waits part Shifts) m.work (Some op ∷ f) in
-      rw (p, e, u, g) (start_leaves-cycles_left part m.row.mode Change (waits part Shifts) (at_opcode m) (Some op) f);
-  end = λ f. rw (p, e, u) (start_leaves-outcome part m.row.mode Change (waits part Shifts) (at_opcode m) (Some op) f);
-  wanted = start_leaves-wanted part m.row.mode Change (waits part Shifts) m refl;
-  fetch = start_leaves-fetch m.row.mode Change (waits part Shifts) m;
-  stuck = rw (p, e) (start_leaves-stuck m.row.mode Change (waits part Shifts) (at_opcode m));
-}
-
-modifies_go_on : (part : Part) (m : Progress) (op : ℕ) → m.phase ≡ phase.Opcode → row_at part op ≡ Some m.row → bus_use m.row.mnemonic ≡ Modifies → (m.row.mode ≡ Acc → ⊥)
-    → GoesOn part m op (start_leaves (in_memory Change (waits part Modifies) m.row.mode) m)
-modifies_go_on part m op p e u n = record {
-  accesses_left = λ f.
-      let g = modify_form-entered part m.row.mode n m.row (waits part Modifies) m.work (Some op ∷ f) in
-      rw (p, e, u, g) (start_leaves-cycles_left part m.row.mode Change (waits part Modifies) (at_opcode m) (Some op) f);
-  end = λ f. rw (p, e, u) (start_leaves-outcome part m.row.mode Change (waits part Modifies) (at_opcode m) (Some op) f);
-  wanted = start_leaves-wanted part m.row.mode Change (waits part Modifies) m refl;
-  fetch = start_leaves-fetch m.row.mode Change (waits part Modifies) m;
-  stuck = rw (p, e) (start_leaves-stuck m.row.mode Change (waits part Modifies) (at_opcode m));
-}
-
 -- the modes of a jump, and those of a store
 abbrev known_by : BusUse → Mode → Bool
 known_by Jumps Abs = true
@@ -182,68 +135,6 @@ unfolding nmos_row cmos_row
 known_at Nmos op h = agree_below_at (λ k. known_in (row_at Nmos k)) (λ _. true) 256 op refl h
 known_at Cmos op h = agree_below_at (λ k. known_in (row_at Cmos k)) (λ _. true) 256 op refl h
 
--- a shift, INC or DEC, of A or in memory
-shifts_by : (part : Part) (m : Progress) (op : ℕ) (w : Mode) → m.phase ≡ phase.Opcode → row_at part op ≡ Some m.row → bus_use m.row.mnemonic ≡ Shifts → m.row.mode ≡ w
-    → GoesOn part m op (start_leaves (start_change (waits part Shifts) w) m)
-shifts_by part m op Acc p e b v = record {
-  accesses_left = λ f. rw (p, e, b, v) refl;
-  end = λ f. rw (p, e, b, v) refl;
-  wanted = refl;
-  fetch = refl;
-  stuck = rw (p, e) refl;
-}
-shifts_by part m op w p e b v = subst (λ (x : Mode). GoesOn part m op (start_leaves (in_memory Change (waits part Shifts) x) m)) v (shifts_go_on part m op p e b (λ a. cc))
-
-modifies_by : (part : Part) (m : Progress) (op : ℕ) (w : Mode) → m.phase ≡ phase.Opcode → row_at part op ≡ Some m.row → bus_use m.row.mnemonic ≡ Modifies → m.row.mode ≡ w
-    → GoesOn part m op (start_leaves (start_change (waits part Modifies) w) m)
-modifies_by part m op Acc p e b v = record {
-  accesses_left = λ f. rw (p, e, b, v) refl;
-  end = λ f. rw (p, e, b, v) refl;
-  wanted = refl;
-  fetch = refl;
-  stuck = rw (p, e) refl;
-}
-modifies_by part m op w p e b v = subst (λ (x : Mode). GoesOn part m op (start_leaves (in_memory Change (waits part Modifies) x) m)) v (modifies_go_on part m op p e b (λ a. cc))
-
--- an instruction without an operand
-implied_by : (part : Part) (m : Progress) (op : ℕ) (w : Mode) → m.phase ≡ phase.Opcode → row_at part op ≡ Some m.row
-    → bus_use m.row.mnemonic ≡ Implied → m.row.mode ≡ w → ((start_implied w).phase ≡ phase.Opcode → ⊥)
-    → GoesOn part m op (start_leaves (start_implied w) m)
-implied_by part m op Spare p e b v n = absurd (n refl)
-implied_by part m op _ p e b v n = record {
-  accesses_left = λ f. rw (p, e, b, v) refl;
-  end = λ f. rw (p, e, b) refl;
-  wanted = refl;
-  fetch = refl;
-  stuck = rw (p, e) refl;
-}
-
--- JMP
-jumps_by : (part : Part) (m : Progress) (op : ℕ) (w : Mode) → m.phase ≡ phase.Opcode → row_at part op ≡ Some m.row → bus_use m.row.mnemonic ≡ Jumps → m.row.mode ≡ w → known_by Jumps w ≡ true
-    → GoesOn part m op (start_leaves (start_jump w) m)
-jumps_by part m op Abs p e b v k = record {
-  accesses_left = λ f. rw (p, e, b, v) refl;
-  end = λ f. rw (p, e, b, v) refl;
-  wanted = refl;
-  fetch = refl;
-  stuck = rw (p, e) refl;
-}
-jumps_by part m op Ind p e b v k = record {
-  accesses_left = λ f. rw (p, e, b, v) refl;
-  end = λ f. rw (p, e, b, v) refl;
-  wanted = refl;
-  fetch = refl;
-  stuck = rw (p, e) refl;
-}
-jumps_by part m op IndAbsX p e b v k = record {
-  accesses_left = λ f. rw (p, e, b, v) refl;
-  end = λ f. rw (p, e, b, v) refl;
-  wanted = refl;
-  fetch = refl;
-  stuck = rw (p, e) refl;
-}
-jumps_by part m op _ p e b v k = cc
-
 branch-seen : (part : Part) (c : Bool) (r : Regs) (o d : Option ℕ) (f : List (Option ℕ)) → branch_form part c r (o ∷ f) ≡ branch_form part c r (d ∷ f)
 branch-seen part true r o d f = refl
 branch-seen part false r o d f = refl
@@ -252,65 +143,74 @@ branch-first : (part : Part) (c : Bool) (r : Regs) (seen : List (Option ℕ)) �
 branch-first part true r seen = refl
 branch-first part false r seen = refl
 
--- each opcode but those that do nothing
-goes_by : (part : Part) (m : Progress) (op : ℕ) (u : BusUse) (w : Mode) → m.phase ≡ phase.Opcode → row_at part op ≡ Some m.row → bus_use m.row.mnemonic ≡ u → m.row.mode ≡ w
-    → ((start_by part u w).phase ≡ phase.Opcode → ⊥) → known_by u w ≡ true → GoesOn part m op (start_leaves (start_by part u w) m)
-goes_by part m op Implied w p e b v n k = implied_by part m op w p e b v n
-goes_by part m op Reads w p e b v n k = subst (λ (x : Mode). GoesOn part m op (start_leaves (in_memory Load (waits part Reads) x) m)) v (reads_go_on part m op p e b)
-goes_by part m op Stores w p e b v n k =
-    subst (λ (x : Mode). GoesOn part m op (start_leaves (in_memory Store (waits part Stores) x) m)) v (stores_go_on part m op p e b (ap (fits Store) v ∙ k))
-goes_by part m op Shifts w p e b v n k = shifts_by part m op w p e b v
-goes_by part m op Modifies w p e b v n k = modifies_by part m op w p e b v
-goes_by part m op Jumps w p e b v n k = jumps_by part m op w p e b v k
-goes_by part m op Branches w p e b v n k = record {
-  accesses_left = λ f. rw (p, e, b) (branch-seen part (takes_branch m.row.mnemonic m.work) m.work (Some op) None f);
-  end = λ f. rw (p, e, b) refl;
-  wanted = branch-first part (takes_branch m.row.mnemonic m.work) m.work (None ∷ []);
-  fetch = refl;
-  stuck = rw (p, e) refl;
-}
-goes_by part m op Pushes w p e b v n k = record {
-  accesses_left = λ f. rw (p, e, b) refl;
-  end = λ f. rw (p, e, b) refl;
-  wanted = refl;
-  fetch = refl;
-  stuck = rw (p, e) refl;
-}
-goes_by part m op Pulls w p e b v n k = record {
-  accesses_left = λ f. rw (p, e, b) refl;
-  end = λ f. rw (p, e, b) refl;
-  wanted = refl;
-  fetch = refl;
-  stuck = rw (p, e) refl;
-}
-goes_by part m op Calls w p e b v n k = record {
-  accesses_left = λ f. rw (p, e, b) refl;
-  end = λ f. rw (p, e, b) refl;
-  wanted = refl;
-  fetch = refl;
-  stuck = rw (p, e) refl;
-}
-goes_by part m op Returns w p e b v n k = record {
-  accesses_left = λ f. rw (p, e, b) refl;
-  end = λ f. rw (p, e, b) refl;
-  wanted = refl;
-  fetch = refl;
-  stuck = rw (p, e) refl;
-}
-goes_by part m op Resumes w p e b v n k = record {
-  accesses_left = λ f. rw (p, e, b) refl;
-  end = λ f. rw (p, e, b) refl;
-  wanted = refl;
-  fetch = refl;
-  stuck = rw (p, e) refl;
-}
-goes_by part m op Breaks w p e b v n k = record {
-  accesses_left = λ f. rw (p, e, b) refl;
-  end = λ f. rw (p, e, b) refl;
-  wanted = refl;
-  fetch = refl;
-  stuck = rw (p, e) refl;
-}
+-- an opcode that has a row
+module _ (part : Part) (m : Progress) (op : ℕ) (p : m.phase ≡ phase.Opcode) (e : row_at part op ≡ Some m.row) where
+  -- by the form of its use
+  goes : (u : BusUse) (then : Progress) → bus_use m.row.mnemonic ≡ u → ((f : List (Option ℕ)) → form part u m.row m.work (Some op ∷ f) ≡ cycles_left part then f)
+      → ((f : List (Option ℕ)) → after_row part u m.row m.work (Some op ∷ f) ≡ outcome part then f) → wants then ≡ first (cycles_left part then [])
+      → is_fetch then.phase ≡ false → is_stuck then.phase ≡ false → GoesOn part m op then
+  goes u then b left end wanted fetch stuck = record {
+    accesses_left = λ f. rw (p, e, b) (left f);
+    end = λ f. rw (p, e, b) (end f);
+    wanted = wanted;
+    fetch = fetch;
+    stuck = rw (p, e) stuck;
+  }
+
+  -- with an operand in memory
+  reaches : (u : BusUse) (k : Access) → bus_use m.row.mnemonic ≡ u
+      → ((f : List (Option ℕ)) → form part u m.row m.work f
+      ≡ reach part m.row.mode (waits part u) m.work f ++ at_operand part k m.row (address m.row.mode m.work f) m.work (operand part m.row.mode (waits part u) m.work f))
+      → ((f : List (Option ℕ)) → after_row part u m.row m.work f ≡ after_operand part k m.row m.work (operand part m.row.mode (waits part u) m.work f))
+      → fits k m.row.mode ≡ true → GoesOn part m op (start_leaves (in_memory k (waits part u) m.row.mode) m)
+  reaches u k b forms ends n =
+      let w : Mode = m.row.mode in
+      let always : Bool = waits part u in
+      goes u (start_leaves (in_memory k always w) m) b (λ f. forms (Some op ∷ f) ∙ start_leaves-cycles_left part w k always m (Some op) f)
+      (λ f. ends (Some op ∷ f) ∙ start_leaves-outcome part w k always m (Some op) f)
+      (start_leaves-wanted part w k always m n) (start_leaves-fetch w k always m) (start_leaves-stuck w k always m)
+
+  -- a shift, INC or DEC, of A or in memory
+  changes : (u : BusUse) (w : Mode) → bus_use m.row.mnemonic ≡ u → m.row.mode ≡ w
+      → ((f : List (Option ℕ)) → form part u m.row m.work f ≡ modify_form part m.row m.row.mode (waits part u) m.work f)
+      → ((f : List (Option ℕ)) → after_row part u m.row m.work f ≡ after_operand part Change m.row m.work (operand part m.row.mode (waits part u) m.work f))
+      → GoesOn part m op (start_leaves (start_change (waits part u) w) m)
+  changes u Acc b v forms ends = goes u _ b (λ f. forms (Some op ∷ f) ∙ rw v refl) (λ f. ends (Some op ∷ f) ∙ rw v refl) refl refl refl
+  changes u w b v forms ends =
+      subst (λ (x : Mode). GoesOn part m op (start_leaves (in_memory Change (waits part u) x) m)) v
+      (reaches u Change b (λ f. forms f ∙ modify_form-entered part m.row.mode (λ a. cc) m.row (waits part u) m.work f) ends refl)
+
+  -- an instruction without an operand
+  implied_by : (w : Mode) → bus_use m.row.mnemonic ≡ Implied → m.row.mode ≡ w → ((start_implied w).phase ≡ phase.Opcode → ⊥) → GoesOn part m op (start_leaves (start_implied w) m)
+  implied_by Spare b v n = absurd (n refl)
+  implied_by _ b v n = goes Implied _ b (λ f. rw v refl) (λ f. refl) refl refl refl
+
+  -- JMP
+  jumps_by : (w : Mode) → bus_use m.row.mnemonic ≡ Jumps → m.row.mode ≡ w → known_by Jumps w ≡ true → GoesOn part m op (start_leaves (start_jump w) m)
+  jumps_by Abs b v k = goes Jumps _ b (λ f. rw v refl) (λ f. rw v refl) refl refl refl
+  jumps_by Ind b v k = goes Jumps _ b (λ f. rw v refl) (λ f. rw v refl) refl refl refl
+  jumps_by IndAbsX b v k = goes Jumps _ b (λ f. rw v refl) (λ f. rw v refl) refl refl refl
+  jumps_by _ b v k = cc
+
+  -- each opcode but those that do nothing
+  goes_by : (u : BusUse) (w : Mode) → bus_use m.row.mnemonic ≡ u → m.row.mode ≡ w → ((start_by part u w).phase ≡ phase.Opcode → ⊥) → known_by u w ≡ true
+      → GoesOn part m op (start_leaves (start_by part u w) m)
+  goes_by Implied w b v n k = implied_by w b v n
+  goes_by Reads w b v n k = subst (λ (x : Mode). GoesOn part m op (start_leaves (in_memory Load (waits part Reads) x) m)) v (reaches Reads Load b (λ f. refl) (λ f. refl) refl)
+  goes_by Stores w b v n k =
+      subst (λ (x : Mode). GoesOn part m op (start_leaves (in_memory Store (waits part Stores) x) m)) v (reaches Stores Store b (λ f. refl) (λ f. refl) (ap (fits Store) v ∙ k))
+  goes_by Shifts w b v n k = changes Shifts w b v (λ f. refl) (λ f. refl)
+  goes_by Modifies w b v n k = changes Modifies w b v (λ f. refl) (λ f. refl)
+  goes_by Jumps w b v n k = jumps_by w b v k
+  goes_by Branches w b v n k =
+      let taken : Bool = takes_branch m.row.mnemonic m.work in
+      goes Branches _ b (λ f. branch-seen part taken m.work (Some op) None f) (λ f. refl) (branch-first part taken m.work (None ∷ [])) refl refl
+  goes_by Pushes w b v n k = goes Pushes _ b (λ f. refl) (λ f. refl) refl refl refl
+  goes_by Pulls w b v n k = goes Pulls _ b (λ f. refl) (λ f. refl) refl refl refl
+  goes_by Calls w b v n k = goes Calls _ b (λ f. refl) (λ f. refl) refl refl refl
+  goes_by Returns w b v n k = goes Returns _ b (λ f. refl) (λ f. refl) refl refl refl
+  goes_by Resumes w b v n k = goes Resumes _ b (λ f. refl) (λ f. refl) refl refl refl
+  goes_by Breaks w b v n k = goes Breaks _ b (λ f. refl) (λ f. refl) refl refl refl
 
 start_is : (part : Part) (m : Progress) (op : ℕ) → row_at part op ≡ Some m.row → start_at part op ≡ start_by part (bus_use m.row.mnemonic) m.row.mode
 start_is part m op e = ap (start_in part) e
@@ -321,7 +221,7 @@ goes_on part m op s h p e is n =
     let same : s ≡ start_by part (bus_use m.row.mnemonic) m.row.mode = is ∙ start_is part m op e in
     let k : known_by (bus_use m.row.mnemonic) m.row.mode ≡ true = ap known_in (sym e) ∙ known_at part op h in
     subst (λ (x : Start). GoesOn part m op (start_leaves x m)) (sym same)
-    (goes_by part m op (bus_use m.row.mnemonic) m.row.mode p e refl refl (λ o. n (ap (λ (x : Start). x.phase) same ∙ o)) k)
+    (goes_by part m op p e (bus_use m.row.mnemonic) m.row.mode refl refl (λ o. n (ap (λ (x : Start). x.phase) same ∙ o)) k)
 
 -- what begins with no cycle of its own does nothing
 apart_implied : (w : Mode) → (start_implied w).phase ≡ phase.Opcode → w ≡ Spare
