@@ -12,11 +12,9 @@ use Rattle.cpu_core.specs.State.{State}
 use Rattle.cpu_core.specs.Accesses.{row_at}
 use Rattle.cpu_core.specs.Sequences.{accesses, result_of, next_cycle, shown_byte, halts, halted, after_byte, is_start, after, HasEnded}
 use Rattle.cpu_core.specs.declared.progress.Progress.{Progress}
-use Rattle.cpu_core.specs.declared.progress.Access.{Access}
-use Rattle.cpu_core.specs.declared.progress.Access.TheVariants.{Store}
 use Rattle.cpu_core.specs.declared.progress.Phase.{Phase}
 use Rattle.cpu_core.specs.declared.progress.Phase.TheVariants.{Opcode, Halted, Over}
-use Rattle.cpu_core.specs.CodePhases.{cycles_left, cycles_left_in, outcome, wants, wants_in, at_operand, progress_at_operand, is_store, value_by, is_fetch, is_stuck}
+use Rattle.cpu_core.specs.CodePhases.{cycles_left, cycles_left_in, outcome, wants, wants_in, is_fetch, is_stuck}
 use Rattle.cpu_core.specs.CodeTies.{Tied, GoesOn, StepsWhere, Steps, first}
 
 -- the n-th element is the first of what is left from n on
