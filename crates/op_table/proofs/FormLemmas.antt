@@ -59,40 +59,23 @@ named_by : (part : Part) (name : Mnemonic) (way : Mode) (f : Form) (op : ℕ)
     → has_row part f ≡ true → same_mnemonic f.mnemonic name ≡ true → same_mode f.mode way ≡ true → f.opcode ≡ op
     → Names part name way op
 named_by part name way f op h same_name same_way e =
-    let n = subst (λ (k : ℕ). Names part f.mnemonic f.mode k) e (Names-form part f h) in
-    let m = subst (λ (x : Mnemonic). Names part x f.mode op) (same_true mnemonics tt f.mnemonic name same_name) n in
-    subst (λ (w : Mode). Names part name w op) (same_true modes tt f.mode way same_way) m
-
--- what is found, where the first form is another's, is in another mode, or is the one
-found-other : (name : Mnemonic) (way : Mode) (f : Form) (fs : List Form)
-    → same_mnemonic f.mnemonic name ≡ false → found name way (f ∷ fs) ≡ found name way fs
-found-other name way f fs e = rw e refl
-
-found-mode : (name : Mnemonic) (way : Mode) (f : Form) (fs : List Form)
-    → same_mnemonic f.mnemonic name ≡ true → same_mode f.mode way ≡ false → found name way (f ∷ fs) ≡ found name way fs
-found-mode name way f fs e d = rw (e, d) refl
-
-found-here : (name : Mnemonic) (way : Mode) (f : Form) (fs : List Form)
-    → same_mnemonic f.mnemonic name ≡ true → same_mode f.mode way ≡ true → found name way (f ∷ fs) ≡ Some f.opcode
-found-here name way f fs e d = rw (e, d) refl
+    rw (← e, ← same_true mnemonics tt f.mnemonic name same_name, ← same_true modes tt f.mode way same_way) (Names-form part f h)
 
 Names-found : (part : Part) (name : Mnemonic) (way : Mode) (op : ℕ) (fs : List Form)
     → list_all (has_row part) fs ≡ true → found name way fs ≡ Some op → Names part name way op
 Names-found part name way op [] h e = cc
 Names-found part name way op (f ∷ fs) h e =
     let parts = both (has_row part f) (list_all (has_row part) fs) h in
-    first part name way op f fs parts.0 (Names-found part name way op fs parts.1) e
-    (same_mnemonic f.mnemonic name) (same_mode f.mode way) refl refl
+    first parts.0 (Names-found part name way op fs parts.1) (same_mnemonic f.mnemonic name) (same_mode f.mode way) refl refl
   where
-    first : (part : Part) (name : Mnemonic) (way : Mode) (op : ℕ) (f : Form) (fs : List Form)
-        → has_row part f ≡ true → (found name way fs ≡ Some op → Names part name way op)
-        → found name way (f ∷ fs) ≡ Some op
+    -- the first form is the one, is in another mode, or is another's
+    first : has_row part f ≡ true → (found name way fs ≡ Some op → Names part name way op)
         → (a b : Bool) → same_mnemonic f.mnemonic name ≡ a → same_mode f.mode way ≡ b → Names part name way op
-    first part name way op f fs h rest e true true p q =
-        let same : f.opcode ≡ op = (let here = found-here name way f fs p q in cc) in
+    first h rest true true p q =
+        let same : f.opcode ≡ op = (let here : Some f.opcode ≡ Some op = rw (p, q) at e in cc) in
         named_by part name way f op h p q same
-    first part name way op f fs h rest e true false p q = rest (sym (found-mode name way f fs p q) ∙ e)
-    first part name way op f fs h rest e false b p q = rest (sym (found-other name way f fs p) ∙ e)
+    first h rest true false p q = rest (rw (p, q) at e)
+    first h rest false b p q = rest (rw p at e)
 
 -- ---- from the row of an opcode to its form
 
@@ -118,8 +101,7 @@ from_row : (part : Part) (name : Mnemonic) (way : Mode) (o : Option Row) (op : �
     → MatchOption o ⊥ (Fits name way) → leads_back part o op ≡ true → find_form part name way ≡ Some op
 from_row part name way None op m e = absurd m
 from_row part name way (Some r) op m e =
-    let at_name = subst (λ (n : Mnemonic). find_form part n r.mode ≡ Some op) m.0 (gives-true _ op e) in
-    subst (λ (w : Mode). find_form part name w ≡ Some op) m.1 at_name
+    rw (← m.0, ← m.1) (gives-true _ op e)
 
 find_form-Names : (part : Part) (name : Mnemonic) (way : Mode) (op : ℕ)
     → Names part name way op → find_form part name way ≡ Some op
@@ -158,9 +140,7 @@ same_fits : (name : Mnemonic) (way : Mode) (a b : Option Row)
     → is_same a b ≡ true → MatchOption a ⊥ (Fits name way) → MatchOption b ⊥ (Fits name way)
 same_fits name way None b e m = absurd m
 same_fits name way (Some r) b e m =
-    let fits : MatchOption b ⊥ (Fits r.mnemonic r.mode) = row_fits r.mnemonic r.mode b e in
-    let named = subst (λ (n : Mnemonic). MatchOption b ⊥ (Fits n r.mode)) m.0 fits in
-    subst (λ (w : Mode). MatchOption b ⊥ (Fits name w)) m.1 named
+    rw (← m.0, ← m.1) (row_fits r.mnemonic r.mode b e)
 
 Names-Cmos : (name : Mnemonic) (way : Mode) (op : ℕ) → Names Nmos name way op → Names Cmos name way op
 Names-Cmos name way op n =
@@ -221,12 +201,11 @@ find_form-Nmos_none name way e =
 
 is_some-find : (p : Form → Bool) (fs : List Form) → is_some (find p fs) ≡ list_any p fs
 is_some-find p [] = refl
-is_some-find p (f ∷ fs) = head p f fs (is_some-find p fs) (p f) refl
+is_some-find p (f ∷ fs) = head (p f) refl (is_some-find p fs)
   where
-    head : (p : Form → Bool) (f : Form) (fs : List Form) → is_some (find p fs) ≡ list_any p fs
-        → (b : Bool) → p f ≡ b → is_some (find p (f ∷ fs)) ≡ list_any p (f ∷ fs)
-    head p f fs rest true e = rw e refl
-    head p f fs rest false e = rw e rest
+    head : (b : Bool) → p f ≡ b → is_some (find p fs) ≡ list_any p fs → is_some (find p (f ∷ fs)) ≡ list_any p (f ∷ fs)
+    head true e rest = rw e refl
+    head false e rest = rw e rest
 
 mapped_some : (part : Part) (o : Option Form) → IsSome (option_map (row_of part) o) ↔ (is_some o ≡ true)
 mapped_some part None = (λ s. cc, λ e. cc)
@@ -263,12 +242,11 @@ all_used = refl
 -- nor is one that is found
 found_used : (p : Form → Bool) (fs : List Form) → list_all is_used fs ≡ true → IfSome (find p fs) (λ f. is_used f ≡ true)
 found_used p [] h = tt
-found_used p (f ∷ fs) h = let parts = both (is_used f) (list_all is_used fs) h in first p f fs parts.0 (found_used p fs parts.1) (p f) refl
+found_used p (f ∷ fs) h = let parts = both (is_used f) (list_all is_used fs) h in first parts.0 (found_used p fs parts.1) (p f) refl
   where
-    first : (p : Form → Bool) (f : Form) (fs : List Form) → is_used f ≡ true → IfSome (find p fs) (λ g. is_used g ≡ true)
-        → (b : Bool) → p f ≡ b → IfSome (find p (f ∷ fs)) (λ g. is_used g ≡ true)
-    first p f fs used rest true e = rw e used
-    first p f fs used rest false e = rw e rest
+    first : is_used f ≡ true → IfSome (find p fs) (λ g. is_used g ≡ true) → (b : Bool) → p f ≡ b → IfSome (find p (f ∷ fs)) (λ g. is_used g ≡ true)
+    first used rest true e = rw e used
+    first used rest false e = rw e rest
 
 used_row : (r : Row) (way : Mode) → not (same_mode way Spare) ≡ true → unless_spare r way ≡ Some r
 used_row r Spare h = cc

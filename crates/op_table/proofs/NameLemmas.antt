@@ -1,5 +1,5 @@
 -- A name belongs to one mnemonic, and a text leads to it.
-use Rattle.std.proofs.Common.{◌≡◌, ◌↔◌, ℕ, ◌<◌, ◌≤◌, List, [], ◌∷◌, length, map, refl, ap, sym, ◌∙◌, subst, slice_index_or, Option, Some, None, Bool, true, false, eqb, eqb-true, nat_eq, find, arith, IsTrue}
+use Rattle.std.proofs.Common.{◌≡◌, ◌↔◌, ℕ, ◌<◌, ◌≤◌, List, [], ◌∷◌, length, map, refl, ap, sym, ◌∙◌, slice_index_or, Option, Some, None, Bool, true, false, eqb, eqb-true, nat_eq, find, arith, IsTrue}
 use Rattle.std.specs.List.{list_all}
 use Rattle.std.specs.Char.{to_ascii_uppercase, is_ascii_uppercase}
 use Rattle.std.specs.Cmp.Lexicographic.{pointwise, same_text, other_text}
@@ -30,12 +30,11 @@ finds_itself name =
 
 find-passes : (p : Mnemonic → Bool) (names : List Mnemonic) (n : Mnemonic) → find p names ≡ Some n → p n ≡ true
 find-passes p [] n e = cc
-find-passes p (m ∷ names) n e = head p m names n e (find-passes p names n) (p m) refl
+find-passes p (m ∷ names) n e = head (find-passes p names n) (p m) refl
   where
-    head : (p : Mnemonic → Bool) (m : Mnemonic) (names : List Mnemonic) (n : Mnemonic) → find p (m ∷ names) ≡ Some n
-        → (find p names ≡ Some n → p n ≡ true) → (b : Bool) → p m ≡ b → p n ≡ true
-    head p m names n e rest true q = let first : find p (m ∷ names) ≡ Some m = rw q refl in let same : m ≡ n = cc in subst (λ (x : Mnemonic). p x ≡ true) same q
-    head p m names n e rest false q = let later : find p (m ∷ names) ≡ find p names = rw q refl in rest (sym later ∙ e)
+    head : (find p names ≡ Some n → p n ≡ true) → (b : Bool) → p m ≡ b → p n ≡ true
+    head rest true q = let same : m ≡ n = (let first : Some m ≡ Some n = rw q at e in cc) in rw (← same) q
+    head rest false q = rest (rw q at e)
 
 -- two mnemonics of one name are one
 pub name_of-one : (a b : Mnemonic) → name_of a ≡ name_of b → a ≡ b
