@@ -19,20 +19,15 @@ use Rattle.tube_party.specs.Moves.{Moves, IsLawful, SeesHirqAlone, Runs, course}
 use Rattle.tube_party.specs.GoingOn.{IsLike}
 use Rattle.tube_party.specs.Reference.{Seat, World, step_leaves, step_if_due, with_host, para_part, tick, ticks}
 use Rattle.tube_party.proofs.Ticks.{seat, world, host_done, still, same_or_above, host_here, host_next, para_next, para_silent}
-use Rattle.tube_party.proofs.Runs.{event, First, Over, Silent, Asking, first_of_runs}
+use Rattle.tube_party.proofs.Runs.{event, Steps, Over, Silent, Asking}
 use Rattle.tube_party.proofs.Kept.{grows}
 use Rattle.tube_party.proofs.Ways.{IsIdle, IsBelow, glance_leaves}
 
-pub alike : {S T : Type 0} (w v : World S T) → w ≡ v → IsLike w v
-alike w v e = record {
-  host = ap (λ (x : World _ _). x.host) e;
-  para = ap (λ (x : World _ _). x.para) e;
-  chip = ap (λ (x : World _ _). x.chip) e;
-  listed = λ side. ap (λ (x : World _ _). accesses (of_side side x.list)) e;
-}
+pub alike : {S T : Type 0} {w v : World S T} → w ≡ v → IsLike w v
+alike e = record { host = ap (λ x. x.host) e; para = ap (λ x. x.para) e; chip = ap (λ x. x.chip) e; listed = λ side. ap (λ x. accesses (of_side side x.list)) e }
 
-pub like_on : {S T : Type 0} (w v u : World S T) → IsLike w v → IsLike v u → IsLike w u
-like_on w v u a b = record { host = a.host ∙ b.host; para = a.para ∙ b.para; chip = a.chip ∙ b.chip; listed = λ side. a.listed side ∙ b.listed side }
+pub like_on : {S T : Type 0} {w v u : World S T} → IsLike w v → IsLike v u → IsLike w u
+like_on a b = record { host = a.host ∙ b.host; para = a.para ∙ b.para; chip = a.chip ∙ b.chip; listed = λ side. a.listed side ∙ b.listed side }
 
 -- the accesses of both sides
 abbrev pub SameAccesses : List Event → List Event → Type 0
@@ -57,7 +52,7 @@ swapped l t u q r a b Para =
     ∙ sym (grows Para (l ++ h) p ∙ ap (λ (x : List Entry). x ++ accesses (of_side Para p)) (grows Para l h ∙ append-nil (accesses (of_side Para l))))
 
 -- a look is no access
-no_access : (l : List Event) (t : ℕ) (a : Answer) → SameAccesses (l ++ event t Host look a ∷ []) l
+pub no_access : (l : List Event) (t : ℕ) (a : Answer) → SameAccesses (l ++ event t Host look a ∷ []) l
 no_access l t a Host = grows Host l (event t Host look a ∷ []) ∙ append-nil (accesses (of_side Host l))
 no_access l t a Para = grows Para l (event t Host look a ∷ []) ∙ append-nil (accesses (of_side Para l))
 
@@ -122,15 +117,15 @@ module _ {S T : Type 0} (h : Moves S) (p : Moves T) (lh : IsLawful h) (lp : IsLa
             ∙ ap (λ (z : List Event). world x.state y.state y.chip z) (append_assoc l x.more y.more);
       }
 
-  like_ticks : (j k : ℕ) (s : S) (t : T) (c : State) (l m : List Event) → SameAccesses l m
+  pub like_ticks : (j k : ℕ) (s : S) (t : T) (c : State) (l m : List Event) → SameAccesses l m
       → IsLike (ticks h p j k (world s t c l)) (ticks h p j k (world s t c m))
   like_ticks zero k s t c l m same = record { host = refl; para = refl; chip = refl; listed = same }
   like_ticks (suc j) k s t c l m same =
       let x : TickForm k s t c = tick_form k s t c in
       let on : IsLike (ticks h p j (k + 1) (world x.host x.para x.chip (l ++ x.more))) (ticks h p j (k + 1) (world x.host x.para x.chip (m ++ x.more))) =
       like_ticks j (k + 1) x.host x.para x.chip (l ++ x.more) (m ++ x.more) (same_after l m x.more same) in
-      like_on _ _ _ (alike _ _ (ap (λ (w : World S T). ticks h p j (k + 1) w) (x.is l)))
-      (like_on _ _ _ on (alike _ _ (sym (ap (λ (w : World S T). ticks h p j (k + 1) w) (x.is m)))))
+      like_on (alike (ap (λ (w : World S T). ticks h p j (k + 1) w) (x.is l)))
+      (like_on on (alike (sym (ap (λ (w : World S T). ticks h p j (k + 1) w) (x.is m)))))
 
   -- what the parasite's part of a tick leaves enables no request either
   still_off : (k : ℕ) (t : T) (c : State) (due : Bool) (o : Option Query) (d : nat_eq (p.due t) k ≡ due) (q : p.asks t ≡ o) → c.flags.q ≡ false
@@ -146,7 +141,7 @@ module _ {S T : Type 0} (h : Moves S) (p : Moves T) (lh : IsLawful h) (lp : IsLa
   look_at (suc j) k s t c l sees off lo hi asks =
       elim (same_or_above (h.due s) k lo) [
         | inl e ↦
-            alike _ _ (host_here h p lh lp j k s t c l e
+            alike (host_here h p lh lp j k s t c l e
             ∙ ap (λ (o : Option Query). ticks h p (suc j) k (host_done (step_leaves h Host (seat s c l) o) t)) asks)
         | inr up ↦
             let a : Answer = Seen (lines_of c) in
@@ -161,110 +156,76 @@ module _ {S T : Type 0} (h : Moves S) (p : Moves T) (lh : IsLawful h) (lp : IsLa
             ap (λ (x : Seat S). ticks h p j (k + 1) (para_part p k x t)) (still h Host k (seat z c m) ne)
             ∙ ap (λ (y : Seat T). ticks h p j (k + 1) (with_host z y)) (f.is m) in
             let same : h.next s (Some b) ≡ onto = sees s (lines_of f.chip) (lines_of c) (none_asked f.chip off_on ∙ sym (none_asked c off)) in
-            like_on _ _ _ (alike _ _ (on s l not_due.0))
-            (like_on _ _ _ (look_at j (k + 1) s f.state f.chip (l ++ f.more) sees off_on (omega arith) (omega arith) asks)
-            (like_on _ _ _
-            (alike _ _ (ap (λ (z : S). ticks h p j (k + 1) (world z f.state f.chip ((l ++ f.more) ++ event (h.due s) Host look b ∷ []))) same))
-            (like_on _ _ _ (like_ticks j (k + 1) onto f.state f.chip ((l ++ f.more) ++ event (h.due s) Host look b ∷ [])
+            like_on (alike (on s l not_due.0))
+            (like_on (look_at j (k + 1) s f.state f.chip (l ++ f.more) sees off_on (omega arith) (omega arith) asks)
+            (like_on
+            (alike (ap (λ (z : S). ticks h p j (k + 1) (world z f.state f.chip ((l ++ f.more) ++ event (h.due s) Host look b ∷ []))) same))
+            (like_on (like_ticks j (k + 1) onto f.state f.chip ((l ++ f.more) ++ event (h.due s) Host look b ∷ [])
             ((l ++ event (h.due s) Host look a ∷ []) ++ f.more) (look_moved l f.more (h.due s) b a))
-            (alike _ _ (sym (on onto (l ++ event (h.due s) Host look a ∷ []) not_due.1))))))
+            (alike (sym (on onto (l ++ event (h.due s) Host look a ∷ []) not_due.1))))))
       ]
 
   module _ (n : ℕ) where
+    -- where the reference gets from there
+    abbrev pub onward : S → T → State → List Event → World S T
+    onward s t c l = ticks h p n 0 (world s t c l)
+
     -- the parasite's step, which leaves the chip
     para_idle : (s : S) (t : T) (c : State) (l : List Event) (q : Query) (a : Answer) → p.due t < n → p.due t < h.due s → p.asks t ≡ Some q
         → IsIdle c (event (p.due t) Para q a)
-        → ticks h p n 0 (world s t c l) ≡ ticks h p n 0 (world s (p.next t (Some a)) c (l ++ event (p.due t) Para q a ∷ []))
+        → onward s t c l ≡ onward s (p.next t (Some a)) c (l ++ event (p.due t) Para q a ∷ [])
     para_idle s t c l q a low first asks idle =
         para_next h p lh lp n 0 s t c l (omega arith) (omega arith) first
-        ∙ ap (λ (o : Option Query). ticks h p n 0 (with_host s (step_leaves p Para (seat t c l) o))) asks
-        ∙ ap (λ (x : State). ticks h p n 0 (world s (p.next t (Some (act c Para q).1)) x (l ++ event (p.due t) Para q (act c Para q).1 ∷ [])))
-        (glance_leaves c q idle.0)
-        ∙ ap (λ (x : Answer). ticks h p n 0 (world s (p.next t (Some x)) c (l ++ event (p.due t) Para q x ∷ []))) idle.1
+        ∙ ap (λ o. ticks h p n 0 (with_host s (step_leaves p Para (seat t c l) o))) asks
+        ∙ ap (λ x. onward s (p.next t (Some (act c Para q).1)) x (l ++ event (p.due t) Para q (act c Para q).1 ∷ [])) (glance_leaves c q idle.0)
+        ∙ ap (λ x. onward s (p.next t (Some x)) c (l ++ event (p.due t) Para q x ∷ [])) idle.1
 
     -- The parasite's steps before the host's next step are the reference's.
-    para_by : (i : ℕ) (s : S) (t last : T) (c : State) (l events : List Event)
-        → ((u : T) (m others : List Event) → Runs p Para n i u (course others last) → All (IsIdle c) others → All (IsBelow (h.due s)) others
-        → ticks h p n 0 (world s u c m) ≡ ticks h p n 0 (world s last c (m ++ others)))
-        → First p Para n (suc i) t events last → All (IsIdle c) events → All (IsBelow (h.due s)) events
-        → ticks h p n 0 (world s t c l) ≡ ticks h p n 0 (world s last c (l ++ events))
-    para_by i s t last c l events on (Over ee es) idle early =
-        ap (λ (x : T). ticks h p n 0 (world s x c l)) es
-        ∙ ap (λ (x : List Event). ticks h p n 0 (world s last c x)) (sym (ap (λ (x : List Event). l ++ x) ee ∙ append-nil l))
-    para_by i s t last c l events on (Silent i' ei low none runs) idle early =
-        para_silent h p lh lp n 0 s t c l (omega arith) (omega arith) none
-        ∙ on (p.next t None) l events (subst (λ (x : ℕ). Runs p Para n x (p.next t None) (course events last)) (omega arith) runs) idle early
-    para_by i s t last c l events on (Asking i' q a others ei low asks ee runs) idle early =
+    pub para_does : (s : S) {last t : T} (c : State) (l : List Event) {events : List Event} → Steps p Para n last t events → All (IsIdle c) events
+        → All (IsBelow (h.due s)) events → onward s t c l ≡ onward s last c (l ++ events)
+    para_does s {last} c l Over idle early = ap (onward s last c) (sym (append-nil l))
+    para_does s c l (Silent {s = t} low none on) idle early =
+        para_silent h p lh lp n 0 s t c l (omega arith) (omega arith) none ∙ para_does s c l on idle early
+    para_does s {last} c l (Asking {s = t} {others = others} q a low asks on) idle early =
         let e : Event = event (p.due t) Para q a in
-        let all : All (IsIdle c) (e ∷ others) = subst (All (IsIdle c)) ee idle in
-        let before : All (IsBelow (h.due s)) (e ∷ others) = subst (All (IsBelow (h.due s))) ee early in
-        para_idle s t c l q a low (All-head (IsBelow (h.due s)) e others before) asks (All-head (IsIdle c) e others all)
-        ∙ on (p.next t (Some a)) (l ++ e ∷ []) others (subst (λ (x : ℕ). Runs p Para n x (p.next t (Some a)) (course others last)) (omega arith) runs)
-        (All-tail (IsIdle c) e others all) (All-tail (IsBelow (h.due s)) e others before)
-        ∙ ap (λ (x : List Event). ticks h p n 0 (world s last c x)) (append_assoc l (e ∷ []) others ∙ ap (λ (x : List Event). l ++ x) (sym ee))
-
-    pub para_does : (k : ℕ) (s : S) (t last : T) (c : State) (l events : List Event) → Runs p Para n k t (course events last) → All (IsIdle c) events
-        → All (IsBelow (h.due s)) events
-        → ticks h p n 0 (world s t c l) ≡ ticks h p n 0 (world s last c (l ++ events))
-    para_does zero s t last c l events runs idle early =
-        ap (λ (x : T). ticks h p n 0 (world s x c l)) runs.1
-        ∙ ap (λ (x : List Event). ticks h p n 0 (world s last c x)) (sym (ap (λ (x : List Event). l ++ x) runs.0 ∙ append-nil l))
-    para_does (suc i) s t last c l events runs idle early =
-        para_by i s t last c l events (λ u m others. para_does i s u last c m others) (first_of_runs p Para n (suc i) t events last runs) idle early
+        para_idle s t c l q a low (All-head (IsBelow (h.due s)) e others early) asks (All-head (IsIdle c) e others idle)
+        ∙ para_does s c (l ++ e ∷ []) on (All-tail (IsIdle c) e others idle) (All-tail (IsBelow (h.due s)) e others early)
+        ∙ ap (onward s last c) (append_assoc l (e ∷ []) others)
 
     -- The host's step, done at once.
     abbrev pub IsEarly : S → T → State → Query → List Event → Type 0
     IsEarly s t c q l =
-        IsLike (ticks h p n 0 (world s t c l)) (ticks h p n 0
-        (world (h.next s (Some (act c Host q).1)) t (act c Host q).0 (l ++ event (h.due s) Host q (act c Host q).1 ∷ [])))
+        IsLike (onward s t c l) (onward (h.next s (Some (act c Host q).1)) t (act c Host q).0 (l ++ event (h.due s) Host q (act c Host q).1 ∷ []))
 
     host_first : (s : S) (t : T) (c : State) (q : Query) (l : List Event) → h.due s < n → h.due s ≤ p.due t → h.asks s ≡ Some q → IsEarly s t c q l
     host_first s t c q l low first asks =
-        alike _ _ (host_next h p lh lp n 0 s t c l (omega arith) (omega arith) first
-        ∙ ap (λ (o : Option Query). ticks h p n 0 (host_done (step_leaves h Host (seat s c l) o) t)) asks)
+        alike (host_next h p lh lp n 0 s t c l (omega arith) (omega arith) first
+        ∙ ap (λ o. ticks h p n 0 (host_done (step_leaves h Host (seat s c l) o) t)) asks)
 
-    early_by : (i : ℕ) (s : S) (t last : T) (c : State) (q : Query) (l events : List Event) → h.due s < n → h.due s ≤ p.due last → h.asks s ≡ Some q
-        → ((u : T) (m others : List Event) → Runs p Para n i u (course others last) → All (IsIdle c) others → All (IsIdle (act c Host q).0) others
-        → IsEarly s u c q m)
-        → First p Para n (suc i) t events last → All (IsIdle c) events → All (IsIdle (act c Host q).0) events → IsEarly s t c q l
-    early_by i s t last c q l events low first asks on (Over ee es) idle still =
-        host_first s t c q l low (subst (λ (x : T). h.due s ≤ p.due x) (sym es) first) asks
-    early_by i s t last c q l events low first asks on (Silent i' ei lt none runs) idle still =
-        let d : State = (act c Host q).0 in
+    -- where all of the parasite's steps before it see the chip behind it as they see it before it
+    pub early_host : (s : S) {last t : T} (c : State) (q : Query) (l : List Event) {events : List Event} → h.due s < n → h.due s ≤ p.due last → h.asks s ≡ Some q
+        → Steps p Para n last t events → All (IsIdle c) events → All (IsIdle (act c Host q).0) events → IsEarly s t c q l
+    early_host s {last} c q l low first asks Over idle still = host_first s last c q l low first asks
+    early_host s c q l low first asks (Silent {s = t} lt none on) idle still =
         let done : List Event = l ++ event (h.due s) Host q (act c Host q).1 ∷ [] in
-        let onto : S = h.next s (Some (act c Host q).1) in
-        like_on _ _ _ (alike _ _ (para_silent h p lh lp n 0 s t c l (omega arith) (omega arith) none))
-        (like_on _ _ _ (on (p.next t None) l events (subst (λ (x : ℕ). Runs p Para n x (p.next t None) (course events last)) (omega arith) runs) idle still)
-        (alike _ _ (sym (para_silent h p lh lp n 0 onto t d done (omega arith) (omega arith) none))))
-    early_by i s t last c q l events low first asks on (Asking i' r a others ei lt is ee runs) idle still =
+        like_on (alike (para_silent h p lh lp n 0 s t c l (omega arith) (omega arith) none))
+        (like_on (early_host s c q l low first asks on idle still)
+        (alike (sym (para_silent h p lh lp n 0 (h.next s (Some (act c Host q).1)) t (act c Host q).0 done (omega arith) (omega arith) none))))
+    early_host s c q l low first asks (Asking {s = t} {others = others} r a lt is on) idle still =
         let d : State = (act c Host q).0 in
         let b : Answer = (act c Host q).1 in
         let e : Event = event (p.due t) Para r a in
         let f : Event = event (h.due s) Host q b in
         let onto : S = h.next s (Some b) in
         let rise : h.due s < h.due onto = lh.rises s (Some b) in
-        let all : All (IsIdle c) (e ∷ others) = subst (All (IsIdle c)) ee idle in
-        let stays : All (IsIdle d) (e ∷ others) = subst (All (IsIdle d)) ee still in
         elim (cases_lt (p.due t) (h.due s)) [
           | inr late ↦ host_first s t c q l low late asks
           | inl before ↦
-              like_on _ _ _ (alike _ _ (para_idle s t c l r a lt before is (All-head (IsIdle c) e others all)))
-              (like_on _ _ _ (on (p.next t (Some a)) (l ++ e ∷ []) others
-              (subst (λ (x : ℕ). Runs p Para n x (p.next t (Some a)) (course others last)) (omega arith) runs)
-              (All-tail (IsIdle c) e others all) (All-tail (IsIdle d) e others stays))
-              (like_on _ _ _ (like_ticks n 0 onto (p.next t (Some a)) d ((l ++ e ∷ []) ++ f ∷ []) ((l ++ f ∷ []) ++ e ∷ [])
-              (swapped l (p.due t) (h.due s) r q a b))
-              (alike _ _ (sym (para_idle onto t d (l ++ f ∷ []) r a lt (omega arith) is (All-head (IsIdle d) e others stays))))))
+              like_on (alike (para_idle s t c l r a lt before is (All-head (IsIdle c) e others idle)))
+              (like_on (early_host s c q (l ++ e ∷ []) low first asks on (All-tail (IsIdle c) e others idle) (All-tail (IsIdle d) e others still))
+              (like_on (like_ticks n 0 onto (p.next t (Some a)) d ((l ++ e ∷ []) ++ f ∷ []) ((l ++ f ∷ []) ++ e ∷ []) (swapped l (p.due t) (h.due s) r q a b))
+              (alike (sym (para_idle onto t d (l ++ f ∷ []) r a lt (omega arith) is (All-head (IsIdle d) e others still))))))
         ]
-
-    -- where all of the parasite's steps before it see the chip behind it as they see it before it
-    pub early_host : (k : ℕ) (s : S) (t last : T) (c : State) (q : Query) (l events : List Event) → h.due s < n → h.due s ≤ p.due last → h.asks s ≡ Some q
-        → Runs p Para n k t (course events last) → All (IsIdle c) events → All (IsIdle (act c Host q).0) events → IsEarly s t c q l
-    early_host zero s t last c q l events low first asks runs idle still = host_first s t c q l low (subst (λ (x : T). h.due s ≤ p.due x) (sym runs.1) first)
-        asks
-    early_host (suc i) s t last c q l events low first asks runs idle still =
-        early_by i s t last c q l events low first asks (λ u m others on. early_host i s u last c q m others low first asks on)
-        (first_of_runs p Para n (suc i) t events last runs) idle still
 
     -- the look of a host that sees its own request alone, while none is enabled
     pub free_look : (s : S) (t : T) (c : State) (l : List Event) → SeesHirqAlone h → c.flags.q ≡ false → h.due s < n → h.asks s ≡ Some look

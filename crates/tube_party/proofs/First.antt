@@ -1,106 +1,106 @@
 -- Whose ask comes first, and what is known of it.
-use Rattle.std.proofs.Common.{ℕ, ◌≡◌, ◌<◌, ◌≤◌, refl, sym, subst, arith, nat_lt, Bool, true, false, if◌then◌else◌, Option, None, Some}
-use Rattle.std.proofs.lemmas.Bool.{ltb-true, ltb-false}
+use Rattle.std.proofs.Common.{ℕ, ◌≡◌, ◌≢◌, ◌+◌, ◌∙◌, ◌<◌, ◌≤◌, ◌⊎◌, inl, inr, refl, sym, ap, arith, nat_lt, if◌then◌else◌, Option, None, Some}
+use Rattle.std.proofs.lemmas.Bool.{cases_lt, lt-ltb, le-ltb}
 use Rattle.beeb_bits.specs.declared.Side.{Side}
 use Rattle.beeb_bits.specs.declared.Side.TheVariants.{Host, Para}
-use Rattle.beeb_bits.specs.declared.Tick.{Tick}
-use Rattle.tube_chip.specs.declared.Op.{Op}
 use Rattle.tube_party.specs.declared.party.Ask.{Ask}
 use Rattle.tube_party.specs.declared.party.Ask.TheVariants.{Nothing, Access, Look}
 use Rattle.tube_party.specs.Moves.{Moves, IsAsk}
-use Rattle.tube_party.specs.Turn.{IsPending, first_of, first_due}
+use Rattle.tube_party.specs.Turn.{IsPending, first_of, first_due, tick_of}
 
-first_by_test : (t u : ℕ) (b : Bool) → nat_lt u t ≡ b → (let o : Option Side = Some (if b then Para else Host) in o) ≡ Some Host → t ≤ u
-first_by_test t u true is e = cc
-first_by_test t u false is e = ltb-false u t is
+-- the tick of an ask
+abbrev asked_at : Ask → Option ℕ
+asked_at Nothing = None
+asked_at (Access t op) = Some t.0
+asked_at (Look t) = Some t.0
 
-host_before : (t u : ℕ) → (let o : Option Side = Some (first_due t u) in o) ≡ Some Host → t ≤ u
-host_before t u e = first_by_test t u (nat_lt u t) refl e
+-- whose tick comes first
+abbrev first_at : Option ℕ → Option ℕ → Option Side
+first_at None None = None
+first_at None (Some u) = Some Para
+first_at (Some t) None = Some Host
+first_at (Some t) (Some u) = Some (first_due t u)
 
-second_by_test : (t u : ℕ) (b : Bool) → nat_lt u t ≡ b → (let o : Option Side = Some (if b then Para else Host) in o) ≡ Some Para → u < t
-second_by_test t u true is e = ltb-true u t is
-second_by_test t u false is e = cc
+first_is : (a b : Ask) → first_of a b ≡ first_at (asked_at a) (asked_at b)
+first_is Nothing Nothing = refl
+first_is Nothing (Access u po) = refl
+first_is Nothing (Look u) = refl
+first_is (Access t op) Nothing = refl
+first_is (Access t op) (Access u po) = refl
+first_is (Access t op) (Look u) = refl
+first_is (Look t) Nothing = refl
+first_is (Look t) (Access u po) = refl
+first_is (Look t) (Look u) = refl
 
-para_before : (t u : ℕ) → (let o : Option Side = Some (first_due t u) in o) ≡ Some Para → u < t
-para_before t u e = second_by_test t u (nat_lt u t) refl e
+-- the host's, unless the parasite's is at a smaller tick
+due_order : (t u : ℕ) → (first_due t u ≡ Para) × (u < t) ⊎ (first_due t u ≡ Host) × (t ≤ u)
+due_order t u = elim (cases_lt u t) [ | inl lt ↦ inl (rw (lt-ltb u t lt) refl, lt) | inr ge ↦ inr (rw (le-ltb u t ge) refl, ge) ]
 
 -- an ask for an access, or a look, at its own tick
-pub record Waits {S : Type 0} (r : Moves S) (n : ℕ) (s last : S) (ask : Ask) (x : ℕ) : Type 0 where
+record Waits {S : Type 0} (r : Moves S) (n : ℕ) (s last : S) (ask : Ask) (x : ℕ) : Type 0 where
+  pending : IsPending r n s ask
+  here : s ≡ last
+  tick : x ≡ r.due last
+  below : r.due last < n
+
+-- what is told of a party by its ask
+abbrev Told : {S : Type 0} → Moves S → ℕ → S → S → Ask → Option ℕ → Type 0
+Told r n s last ask None = n ≤ r.due last
+Told r n s last ask (Some x) = Waits r n s last ask x
+
+told : {S : Type 0} (r : Moves S) (n : ℕ) (s last : S) (ask : Ask) → IsAsk r n last ask s → Told r n s last ask (asked_at ask)
+told r n s last Nothing a = a.0
+told r n s last (Access x op) a = record { pending = rw a.3 (a.0, a.1, a.2); here = a.3; tick = a.0; below = omega arith }
+told r n s last (Look x) a = record { pending = rw a.3 (a.0, a.1, a.2); here = a.3; tick = a.0; below = omega arith }
+
+-- the ask is a pending one, and the other party's next step is at least `slack` ticks behind it
+pub record IsFirst {S T : Type 0} (r : Moves S) (other : Moves T) (n slack : ℕ) (s last : S) (last2 : T) (ask : Ask) : Type 0 where
   pub pending : IsPending r n s ask
   pub here : s ≡ last
-  pub tick : x ≡ r.due last
   pub below : r.due last < n
+  pub first : r.due last + slack ≤ other.due last2
 
-access_waits : {S : Type 0} (r : Moves S) (n : ℕ) (s last : S) (x : Tick) (op : Op) → IsAsk r n last (Access x op) s → Waits r n s last (Access x op) x.0
-access_waits {S} r n s last x op a =
-    record {
-      pending = subst (λ (z : S). IsPending r n z (Access x op)) (sym a.3) (a.0, a.1, a.2);
-      here = a.3;
-      tick = a.0;
-      below = omega (arith, a.0, a.1);
-    }
+pub tick_of_first : {S : Type 0} (r : Moves S) (n : ℕ) (s last : S) (ask : Ask) → IsPending r n s ask → s ≡ last → tick_of ask ≡ r.due last
+tick_of_first r n s last Nothing h here = absurd h
+tick_of_first r n s last (Access t op) h here = h.0 ∙ ap r.due here
+tick_of_first r n s last (Look t) h here = h.0 ∙ ap r.due here
 
-look_waits : {S : Type 0} (r : Moves S) (n : ℕ) (s last : S) (x : Tick) → IsAsk r n last (Look x) s → Waits r n s last (Look x) x.0
-look_waits {S} r n s last x a =
-    record {
-      pending = subst (λ (z : S). IsPending r n z (Look x)) (sym a.3) (a.0, a.1, a.2);
-      here = a.3;
-      tick = a.0;
-      below = omega (arith, a.0, a.1);
-    }
+module _ {S T : Type 0} (h : Moves S) (p : Moves T) (n : ℕ) (s hl : S) (t pl : T) (a b : Ask) (ah : IsAsk h n hl a s) (bp : IsAsk p n pl b t) where
+  pub host_first : first_of a b ≡ Some Host → IsFirst h p n 0 s hl pl a
+  host_first e = by (asked_at a) (asked_at b) (told h n s hl a ah) (told p n t pl b bp) (sym (first_is a b) ∙ e)
+    where
+      by : (x y : Option ℕ) → Told h n s hl a x → Told p n t pl b y → first_at x y ≡ Some Host → IsFirst h p n 0 s hl pl a
+      by None None w v is = cc
+      by None (Some u) w v is = cc
+      by (Some x) None w over is = record { pending = w.pending; here = w.here; below = w.below; first = omega (arith, w.below) }
+      by (Some x) (Some u) w v is = elim (due_order x u) [
+        | inl para ↦ cc
+        | inr le ↦ record { pending = w.pending; here = w.here; below = w.below; first = omega (arith, w.tick, v.tick, le.1) }
+      ]
 
--- the ask that comes first is a pending one, and the other party's next step isn't before it
-pub record HostFirst {S T : Type 0} (h : Moves S) (p : Moves T) (n : ℕ) (s hl : S) (pl : T) (ask : Ask) : Type 0 where
-  pub pending : IsPending h n s ask
-  pub here : s ≡ hl
-  pub below : h.due hl < n
-  pub first : h.due hl ≤ p.due pl
+  pub para_first : first_of a b ≡ Some Para → IsFirst p h n 1 t pl hl b
+  para_first e = by (asked_at a) (asked_at b) (told h n s hl a ah) (told p n t pl b bp) (sym (first_is a b) ∙ e)
+    where
+      by : (x y : Option ℕ) → Told h n s hl a x → Told p n t pl b y → first_at x y ≡ Some Para → IsFirst p h n 1 t pl hl b
+      by None None w v is = cc
+      by None (Some u) over v is = record { pending = v.pending; here = v.here; below = v.below; first = omega (arith, v.below) }
+      by (Some x) None w over is = cc
+      by (Some x) (Some u) w v is = elim (due_order x u) [
+        | inl lt ↦ record { pending = v.pending; here = v.here; below = v.below; first = omega (arith, w.tick, v.tick, lt.1) }
+        | inr host ↦ cc
+      ]
 
-pub record ParaFirst {S T : Type 0} (h : Moves S) (p : Moves T) (n : ℕ) (t pl : T) (hl : S) (ask : Ask) : Type 0 where
-  pub pending : IsPending p n t ask
-  pub here : t ≡ pl
-  pub below : p.due pl < n
-  pub first : p.due pl < h.due hl
-
-host_over : {S T : Type 0} (h : Moves S) (p : Moves T) (n : ℕ) (s hl : S) (pl : T) (ask : Ask) (x : ℕ) → Waits h n s hl ask x → n ≤ p.due pl → HostFirst h p n s hl pl ask
-host_over h p n s hl pl ask x w over = record { pending = w.pending; here = w.here; below = w.below; first = omega arith }
-
-host_both : {S T : Type 0} (h : Moves S) (p : Moves T) (n : ℕ) (s hl : S) (t pl : T) (ask po : Ask) (x u : ℕ) → Waits h n s hl ask x → Waits p n t pl po u → x ≤ u → HostFirst h p n s hl pl ask
-host_both h p n s hl t pl ask po x u w v le = record { pending = w.pending; here = w.here; below = w.below; first = omega arith }
-
-para_over : {S T : Type 0} (h : Moves S) (p : Moves T) (n : ℕ) (t pl : T) (hl : S) (ask : Ask) (x : ℕ) → Waits p n t pl ask x → n ≤ h.due hl → ParaFirst h p n t pl hl ask
-para_over h p n t pl hl ask x w over = record { pending = w.pending; here = w.here; below = w.below; first = omega arith }
-
-para_both : {S T : Type 0} (h : Moves S) (p : Moves T) (n : ℕ) (s hl : S) (t pl : T) (ask po : Ask) (x u : ℕ) → Waits h n s hl ask x → Waits p n t pl po u → u < x → ParaFirst h p n t pl hl po
-para_both h p n s hl t pl ask po x u w v lt = record { pending = v.pending; here = v.here; below = v.below; first = omega arith }
-
-pub host_first : {S T : Type 0} (h : Moves S) (p : Moves T) (n : ℕ) (s hl : S) (t pl : T) (ask_h ask_p : Ask)
-    → IsAsk h n hl ask_h s → IsAsk p n pl ask_p t → first_of ask_h ask_p ≡ Some Host
-    → HostFirst h p n s hl pl ask_h
-host_first h p n s hl t pl Nothing Nothing ah ap e = cc
-host_first h p n s hl t pl Nothing (Access u po) ah ap e = cc
-host_first h p n s hl t pl Nothing (Look u) ah ap e = cc
-host_first h p n s hl t pl (Access x op) Nothing ah ap e = host_over h p n s hl pl (Access x op) x.0 (access_waits h n s hl x op ah) ap.0
-host_first h p n s hl t pl (Access x op) (Access u po) ah ap e = host_both h p n s hl t pl (Access x op) (Access u po) x.0 u.0 (access_waits h n s hl x op ah)
-    (access_waits p n t pl u po ap) (host_before x.0 u.0 e)
-host_first h p n s hl t pl (Access x op) (Look u) ah ap e = host_both h p n s hl t pl (Access x op) (Look u) x.0 u.0 (access_waits h n s hl x op ah) (look_waits p n t pl u ap) (host_before x.0 u.0 e)
-host_first h p n s hl t pl (Look x) Nothing ah ap e = host_over h p n s hl pl (Look x) x.0 (look_waits h n s hl x ah) ap.0
-host_first h p n s hl t pl (Look x) (Access u po) ah ap e = host_both h p n s hl t pl (Look x) (Access u po) x.0 u.0 (look_waits h n s hl x ah) (access_waits p n t pl u po ap) (host_before x.0 u.0 e)
-host_first h p n s hl t pl (Look x) (Look u) ah ap e = host_both h p n s hl t pl (Look x) (Look u) x.0 u.0 (look_waits h n s hl x ah) (look_waits p n t pl u ap) (host_before x.0 u.0 e)
-
-pub para_first : {S T : Type 0} (h : Moves S) (p : Moves T) (n : ℕ) (s hl : S) (t pl : T) (ask_h ask_p : Ask)
-    → IsAsk h n hl ask_h s → IsAsk p n pl ask_p t → first_of ask_h ask_p ≡ Some Para
-    → ParaFirst h p n t pl hl ask_p
-para_first h p n s hl t pl Nothing Nothing ah ap e = cc
-para_first h p n s hl t pl (Access x op) Nothing ah ap e = cc
-para_first h p n s hl t pl (Look x) Nothing ah ap e = cc
-para_first h p n s hl t pl Nothing (Access u po) ah ap e = para_over h p n t pl hl (Access u po) u.0 (access_waits p n t pl u po ap) ah.0
-para_first h p n s hl t pl Nothing (Look u) ah ap e = para_over h p n t pl hl (Look u) u.0 (look_waits p n t pl u ap) ah.0
-para_first h p n s hl t pl (Access x op) (Access u po) ah ap e = para_both h p n s hl t pl (Access x op) (Access u po) x.0 u.0 (access_waits h n s hl x op ah)
-    (access_waits p n t pl u po ap) (para_before x.0 u.0 e)
-para_first h p n s hl t pl (Access x op) (Look u) ah ap e = para_both h p n s hl t pl (Access x op) (Look u) x.0 u.0 (access_waits h n s hl x op ah) (look_waits p n t pl u ap) (para_before x.0 u.0 e)
-para_first h p n s hl t pl (Look x) (Access u po) ah ap e = para_both h p n s hl t pl (Look x) (Access u po) x.0 u.0 (look_waits h n s hl x ah) (access_waits p n t pl u po ap) (para_before x.0 u.0 e)
-para_first h p n s hl t pl (Look x) (Look u) ah ap e = para_both h p n s hl t pl (Look x) (Look u) x.0 u.0 (look_waits h n s hl x ah) (look_waits p n t pl u ap) (para_before x.0 u.0 e)
+  -- the host's next step does not come before what the parasite asks
+  pub not_first : first_of a b ≢ Some Host → (x : ℕ) → x < n → x < p.due pl → x < h.due hl
+  not_first never = by (asked_at a) (asked_at b) (told h n s hl a ah) (told p n t pl b bp) (λ e. never (first_is a b ∙ e))
+    where
+      by : (x y : Option ℕ) → Told h n s hl a x → Told p n t pl b y → first_at x y ≢ Some Host → (k : ℕ) → k < n → k < p.due pl → k < h.due hl
+      by None y over v other k low early = omega arith
+      by (Some x) None w v other k low early = absurd (other refl)
+      by (Some x) (Some u) w v other k low early = elim (due_order x u) [
+        | inl lt ↦ omega (arith, w.tick, v.tick, lt.1)
+        | inr le ↦ absurd (other (ap (λ z. Some z) le.0))
+      ]
 
 -- no ask comes first
 pub none_left : (a b : Ask) → first_of a b ≡ None → (a ≡ Nothing) × (b ≡ Nothing)

@@ -12,7 +12,7 @@ use Rattle.tube_chip.specs.declared.Answer.{Answer}
 use Rattle.tube_chip.specs.Events.{Event, of_side, is_side}
 use Rattle.tube_party.specs.Moves.{Moves, IsLawful}
 use Rattle.tube_party.specs.Reference.{Seat, World, step_leaves, step_if_due, tick, ticks, start, reference, IsFollowed, ReferenceIsFollowed}
-use Rattle.tube_party.proofs.Runs.{event, SomeRuns, runs_silent, runs_asking, runs_append}
+use Rattle.tube_party.proofs.Runs.{event, Steps, Over, Silent, Asking, runs_of, steps_append}
 use Rattle.tube_party.proofs.Kept.{of_side-append}
 use Rattle.tube_party.proofs.Ticks.{seat, same_or_above, still, now}
 use Rattle.tube_party.proofs.Listed.{IsEarlier, Listed, listed_on, listed_more}
@@ -38,40 +38,33 @@ other_event side l e is =
 module _ {S : Type 0} (m : Moves S) (lm : IsLawful m) (side : Side) (n : ℕ) (s : S) (k : ℕ) (low : k < n) (i : ℕ) (to : Side) (on : IsTrue (before k side i to)) where
   -- what it leaves
   record Parted (x y : Seat S) : Type 0 where
-    pub runs : SomeRuns m side n s (of_side side y.list) y.state
+    pub runs : Steps m side n y.state s (of_side side y.list)
     pub due : k < m.due y.state
     pub listed : Listed i to y.chip y.list
     pub other : (o : Side) → is_side o side ≡ false → of_side o y.list ≡ of_side o x.list
 
-  one_more : (x : Seat S) (a : Option Answer) (b : List Event) → SomeRuns m side n s (of_side side x.list) x.state → SomeRuns m side n x.state b (m.next x.state a) →
-      SomeRuns m side n s (of_side side x.list ++ b) (m.next x.state a)
-  one_more x a b runs more =
-      runs_append m side n n (omega arith) x.state (m.next x.state a) b runs.0 s (of_side side x.list) runs.1 more
-
-  stepped_parts : (x : Seat S) (o : Option Query) → m.due x.state ≡ k → m.asks x.state ≡ o → SomeRuns m side n s (of_side side x.list) x.state → Listed k side x.chip x.list
+  stepped_parts : (x : Seat S) (o : Option Query) → m.due x.state ≡ k → m.asks x.state ≡ o → Steps m side n x.state s (of_side side x.list) → Listed k side x.chip x.list
       → Parted x (step_leaves m side x o)
   stepped_parts x None here is runs listed =
-      let rise : m.due x.state < m.due (m.next x.state None) = lm.rises x.state None in
-      let more : SomeRuns m side n x.state [] (m.next x.state None) = (suc zero, runs_silent m side n zero x.state [] (m.next x.state None) (omega arith) is (refl, refl)) in
+      let rise = lm.rises x.state None in
       record {
-        runs = subst (λ (l : List Event). SomeRuns m side n s l (m.next x.state None)) (append-nil (of_side side x.list)) (one_more x None [] runs more);
+        runs = rw append-nil at (steps_append m side n n (omega arith) runs (Silent (omega arith) is Over));
         due = omega arith;
         listed = listed_on k i side to x.chip x.list on listed;
         other = λ o ne. refl;
       }
   stepped_parts x (Some q) here is runs listed =
       let a : Answer = (act x.chip side q).1 in
-      let rise : m.due x.state < m.due (m.next x.state (Some a)) = lm.rises x.state (Some a) in
+      let rise = lm.rises x.state (Some a) in
       let e : Event = event (m.due x.state) side q a in
-      let more : SomeRuns m side n x.state (e ∷ []) (m.next x.state (Some a)) = (suc zero, runs_asking m side n zero x.state q a [] (m.next x.state (Some a)) (omega arith) is (refl, refl)) in
       record {
-        runs = subst (λ (l : List Event). SomeRuns m side n s l (m.next x.state (Some a))) (sym (own_event side x.list e refl)) (one_more x (Some a) (e ∷ []) runs more);
+        runs = rw (own_event side x.list e refl) (steps_append m side n n (omega arith) runs (Asking q a (omega arith) is Over));
         due = omega arith;
         listed = subst (λ (t : ℕ). Listed i to (act x.chip side q).0 (x.list ++ event t side q a ∷ [])) (sym here) (listed_more k i side to x.chip x.list q on listed);
         other = λ o ne. other_event o x.list e ne;
       }
 
-  part : (x : Seat S) → SomeRuns m side n s (of_side side x.list) x.state → k ≤ m.due x.state → Listed k side x.chip x.list → Parted x (step_if_due m side k x)
+  part : (x : Seat S) → Steps m side n x.state s (of_side side x.list) → k ≤ m.due x.state → Listed k side x.chip x.list → Parted x (step_if_due m side k x)
   part x runs due listed = elim (same_or_above (m.due x.state) k due) [
     | inl here ↦ subst (Parted x) (sym (now m side k x here)) (stepped_parts x (m.asks x.state) here refl runs listed)
     | inr up ↦
@@ -82,8 +75,8 @@ module _ {S : Type 0} (m : Moves S) (lm : IsLawful m) (side : Side) (n : ℕ) (s
 module _ {S T : Type 0} (h : Moves S) (p : Moves T) (lh : IsLawful h) (lp : IsLawful p) (s : S) (t : T) (n : ℕ) where
   -- the reference run before tick k
   pub record SoFar (k : ℕ) (w : World S T) : Type 0 where
-    pub host_runs : SomeRuns h Host n s (of_side Host w.list) w.host
-    pub para_runs : SomeRuns p Para n t (of_side Para w.list) w.para
+    pub host_runs : Steps h Host n w.host s (of_side Host w.list)
+    pub para_runs : Steps p Para n w.para t (of_side Para w.list)
     pub host_due : k ≤ h.due w.host
     pub para_due : k ≤ p.due w.para
     pub listed : Listed k Host w.chip w.list
@@ -94,11 +87,11 @@ module _ {S T : Type 0} (h : Moves S) (p : Moves T) (lh : IsLawful h) (lp : IsLa
       let next : IsTrue (before k Para (k + 1) Host) = grind (arith, nat_tests) in
       let a : Seat S = step_if_due h Host k (seat w.host w.chip w.list) in
       let one : Parted h lh Host n s k low k Para host_first (seat w.host w.chip w.list) a = part h lh Host n s k low k Para host_first (seat w.host w.chip w.list) x.host_runs x.host_due x.listed in
-      let para_runs : SomeRuns p Para n t (of_side Para a.list) w.para = subst (λ (l : List Event). SomeRuns p Para n t l w.para) (sym (one.other Para refl)) x.para_runs in
+      let para_runs : Steps p Para n w.para t (of_side Para a.list) = rw (one.other Para refl) x.para_runs in
       let b : Seat T = step_if_due p Para k (seat w.para a.chip a.list) in
       let two : Parted p lp Para n t k low (k + 1) Host next (seat w.para a.chip a.list) b = part p lp Para n t k low (k + 1) Host next (seat w.para a.chip a.list) para_runs x.para_due one.listed in
       record {
-        host_runs = subst (λ (l : List Event). SomeRuns h Host n s l a.state) (sym (two.other Host refl)) one.runs;
+        host_runs = rw (two.other Host refl) one.runs;
         para_runs = two.runs;
         host_due = omega (arith, one.due);
         para_due = omega (arith, two.due);
@@ -116,8 +109,8 @@ module _ {S T : Type 0} (h : Moves S) (p : Moves T) (lh : IsLawful h) (lp : IsLa
       subst (λ (i : ℕ). SoFar i (ticks h p n 0 (start s t))) (omega arith)
       (all_ticks n 0 (start s t) (omega arith)
       (record {
-        host_runs = (zero, (refl, refl));
-        para_runs = (zero, (refl, refl));
+        host_runs = Over;
+        para_runs = Over;
         host_due = omega arith;
         para_due = omega arith;
         listed = record { rises = tt; answered = tt; chip = refl; earlier = All-nil (IsEarlier 0 Host) };
@@ -125,9 +118,11 @@ module _ {S T : Type 0} (h : Moves S) (p : Moves T) (lh : IsLawful h) (lp : IsLa
 
   pub followed : IsFollowed h p s t n (reference h p s t n)
   followed =
+      let host = runs_of h Host n so_far.host_runs in
+      let para = runs_of p Para n so_far.para_runs in
       record {
-        host = record { steps = so_far.host_runs.0; last = (ticks h p n 0 (start s t)).host; runs = so_far.host_runs.1; over = so_far.host_due; ends = refl };
-        para = record { steps = so_far.para_runs.0; last = (ticks h p n 0 (start s t)).para; runs = so_far.para_runs.1; over = so_far.para_due; ends = refl };
+        host = record { steps = host.0; last = (ticks h p n 0 (start s t)).host; runs = host.1; over = so_far.host_due; ends = refl };
+        para = record { steps = para.0; last = (ticks h p n 0 (start s t)).para; runs = para.1; over = so_far.para_due; ends = refl };
         legal = record { rises = so_far.listed.rises; answered = so_far.listed.answered };
         chip = so_far.listed.chip;
       }

@@ -18,11 +18,11 @@ use Rattle.tube_chip.specs.Events.{Event, is_side}
 use Rattle.tube_trace.specs.declared.Entry.{Entry}
 use Rattle.tube_trace.specs.Entries.{accesses}
 use Rattle.tube_party.specs.declared.replaying.Doing.{Doing}
-use Rattle.tube_party.specs.Moves.{Moves, IsLawful, Runs, course}
+use Rattle.tube_party.specs.Moves.{Moves, IsLawful}
 use Rattle.tube_party.specs.Replay.{Numbered, Ended, own_from, same_op, is_that, next_line, finish_leaves, differs, doing_of, one_step, replay_from, replay_of, chip_before}
 use Rattle.tube_party.specs.CodeCursor.{Misses}
 use Rattle.tube_party.specs.ReplayLaws.{own_below, IsAnsweredBy, FollowsTrace, ReplayIsFollowing, difference, IsDifference, DiffersAt, ReplayTellsDifference}
-use Rattle.tube_party.proofs.Runs.{event, First, Over, Silent, Asking, first_of_runs, runs_silent, runs_asking}
+use Rattle.tube_party.proofs.Runs.{event, Steps, Over, Silent, Asking, steps_of, runs_of}
 use Rattle.tube_party.proofs.ReplayLemmas.{Goes, goes_all, goes_end, goes_none, goes_look, goes_access, goes_differs, at_end, step_now}
 
 abbrev entry : ℕ → Side → Op → ℕ → Entry
@@ -156,9 +156,8 @@ module _ {S : Type 0} (m : Moves S) (lawful : IsLawful m) (side : Side) (trace :
   -- the machine and the side's entries agree so far, and how it ends there
   record Comes (s : S) (own : List Numbered) (e : Ended S) : Type 0 where
     pub events : List Event
-    pub steps : ℕ
     pub last : S
-    pub runs : Runs m side n steps s (course events last)
+    pub runs : Steps m side n last s events
     pub answered : Answered events
     pub agreed : List Numbered
     pub left : List Numbered
@@ -168,15 +167,14 @@ module _ {S : Type 0} (m : Moves S) (lawful : IsLawful m) (side : Side) (trace :
 
   comes_here : (s : S) (own : List Numbered) (e : Ended S) → Ending s own e → Comes s own e
   comes_here s own e ends =
-      record { events = []; steps = zero; last = s; runs = (refl, refl); answered = All-nil Told; agreed = []; left = own; own_is = refl; agrees = refl; ends = ends }
+      record { events = []; last = s; runs = Over; answered = All-nil Told; agreed = []; left = own; own_is = refl; agrees = refl; ends = ends }
 
   comes_none : (s : S) (own : List Numbered) (e : Ended S) → m.due s < n → m.asks s ≡ None → Comes (m.next s None) own e → Comes s own e
   comes_none s own e low none c =
       record {
         events = c.events;
-        steps = suc c.steps;
         last = c.last;
-        runs = runs_silent m side n c.steps s c.events c.last low none c.runs;
+        runs = Silent low none c.runs;
         answered = c.answered;
         agreed = c.agreed;
         left = c.left;
@@ -190,9 +188,8 @@ module _ {S : Type 0} (m : Moves S) (lawful : IsLawful m) (side : Side) (trace :
   comes_look s own e a low is told c =
       record {
         events = event (m.due s) side look a ∷ c.events;
-        steps = suc c.steps;
         last = c.last;
-        runs = runs_asking m side n c.steps s look a c.events c.last low is c.runs;
+        runs = Asking look a low is c.runs;
         answered = All-cons Told (event (m.due s) side look a) c.events told c.answered;
         agreed = c.agreed;
         left = c.left;
@@ -206,9 +203,8 @@ module _ {S : Type 0} (m : Moves S) (lawful : IsLawful m) (side : Side) (trace :
   comes_access s x own e op low is that of c =
       record {
         events = event (m.due s) side (access op) (Byte x.entry.answer) ∷ c.events;
-        steps = suc c.steps;
         last = c.last;
-        runs = runs_asking m side n c.steps s (access op) (Byte x.entry.answer) c.events c.last low is c.runs;
+        runs = Asking (access op) (Byte x.entry.answer) low is c.runs;
         answered = All-cons Told (event (m.due s) side (access op) (Byte x.entry.answer)) c.events tt c.answered;
         agreed = x ∷ c.agreed;
         left = c.left;
@@ -265,10 +261,11 @@ module _ {S : Type 0} (m : Moves S) (lawful : IsLawful m) (side : Side) (trace :
   follows_by s ended c (Finishes over same) e =
       let ends : ending ended ≡ finish_leaves m n c.last c.left = sym e ∙ same in
       let none : c.left ≡ [] = no_line c.left (sym (ap (λ (y : Ended S). y.place) ends)) in
+      let runs = runs_of m side n c.runs in
       let all : own_from side n 1 trace ≡ c.agreed = c.own_is ∙ ap (λ (l : List Numbered). c.agreed ++ l) none ∙ append-nil c.agreed in
       record {
         events = c.events;
-        follows = record { steps = c.steps; last = c.last; runs = c.runs; over = over; ends = ap (λ (y : Ended S). y.machine) ends };
+        follows = record { steps = runs.0; last = c.last; runs = runs.1; over = over; ends = ap (λ (y : Ended S). y.machine) ends };
         own = c.agrees ∙ sym (ap entries all) ∙ (own_entries side n 1 trace).0;
         answered = c.answered;
       }
@@ -297,11 +294,12 @@ module _ {S : Type 0} (m : Moves S) (lawful : IsLawful m) (side : Side) (trace :
   differs_of : (s stopped : S) (line : ℕ) (what : Option Doing) → At stopped (replay_of m side trace n s) line what → DiffersAt m side trace n s (difference line what stopped)
   differs_of s stopped line what at =
       let c : Comes s (own_from side n 1 trace) (replay_of m side trace n s) = comes_all s in
+      let runs = runs_of m side n c.runs in
       record {
         events = c.events;
-        steps = c.steps;
+        steps = runs.0;
         last = c.last;
-        runs = c.runs;
+        runs = runs.1;
         answered = c.answered;
         agreed = c.agreed;
         left = c.left;
@@ -312,81 +310,45 @@ module _ {S : Type 0} (m : Moves S) (lawful : IsLawful m) (side : Side) (trace :
 
   -- the other way round: the replay takes the entries that agree
 
-  abbrev Takes_all : ℕ → Type 0
-  Takes_all i =
-      (s last : S) (own agreed left : List Numbered) (events : List Event) (whole : Ended S)
-      → Goes m side trace n whole s own → Runs m side n i s (course events last) → own ≡ agreed ++ left
-      → accesses events ≡ entries agreed → Answered events
-      → Goes m side trace n whole last left
-
-  all_here : (s last : S) (own agreed left : List Numbered) (events : List Event) (whole : Ended S) → Goes m side trace n whole s own → events ≡ [] → s ≡ last → own ≡ agreed ++ left
-      → accesses events ≡ entries agreed → Goes m side trace n whole last left
-  all_here s last own agreed left events whole goes ee es own_is agrees =
-      let none : agreed ≡ [] = entries_none agreed (ap accesses (sym ee) ∙ agrees) in
-      subst (λ (x : S). Goes m side trace n whole x left) es
-      (subst (λ (l : List Numbered). Goes m side trace n whole s l) (own_is ∙ ap (λ (l : List Numbered). l ++ left) none) goes)
-
-  all_some : (i : ℕ) → Takes_all i → (s last : S) (own agreed left : List Numbered) (q : Query) (a : Answer) (others : List Event) (whole : Ended S)
-      → Goes m side trace n whole s own → Runs m side n i (m.next s (Some a)) (course others last) → m.due s < n → m.asks s ≡ Some q → own ≡ agreed ++ left
-      → accesses (event (m.due s) side q a ∷ others) ≡ entries agreed → IsAnsweredBy trace (m.due s) side q a → Answered others
-      → Goes m side trace n whole last left
-  all_some i on s last own agreed left look a others whole goes runs low is own_is agrees told answered =
-      on (m.next s (Some a)) last own agreed left others whole
-      (subst (λ (x : Answer). Goes m side trace n whole (m.next s (Some x)) own) (sym told) (goes_look m side trace n lawful whole s own goes low is))
-      runs own_is agrees answered
-  all_some i on s last own agreed left (access op) (Seen l) others whole goes runs low is own_is agrees told answered = absurd told
-  all_some i on s last own agreed left (access op) (Byte b) others whole goes runs low is own_is agrees told answered =
+  takes_all : {last s : S} {events : List Event} {own : List Numbered} (agreed left : List Numbered) {whole : Ended S} → Goes m side trace n whole s own
+      → own ≡ agreed ++ left → accesses events ≡ entries agreed → Answered events → Steps m side n last s events → Goes m side trace n whole last left
+  takes_all {last = last} agreed left {whole} goes own_is agrees answered Over =
+      subst (Goes m side trace n whole last) (own_is ∙ ap (λ (l : List Numbered). l ++ left) (entries_none agreed agrees)) goes
+  takes_all agreed left goes own_is agrees answered (Silent low none on) = takes_all agreed left (goes_none goes lawful low none) own_is agrees answered on
+  takes_all agreed left goes own_is agrees answered (Asking {s = s} {others = others} look a low is on) =
+      let told = All-head Told (event (m.due s) side look a) others answered in
+      takes_all agreed left (rw (← told) at (goes_look goes lawful low is)) own_is agrees (All-tail Told (event (m.due s) side look a) others answered) on
+  takes_all agreed left goes own_is agrees answered (Asking {s = s} {others = others} (access op) (Seen l) low is on) =
+      absurd (All-head Told (event (m.due s) side (access op) (Seen l)) others answered)
+  takes_all agreed left goes own_is agrees answered (Asking {s = s} {others = others} (access op) (Byte b) low is on) =
       let first : IsFirstOf (m.due s) op b (accesses others) agreed = first_of_own (m.due s) side op b (accesses others) agreed agrees in
-      let split : own ≡ first.next ∷ (first.others ++ left) = own_is ∙ ap (λ (l : List Numbered). l ++ left) first.split in
-      on (m.next s (Some (Byte b))) last (first.others ++ left) first.others left others whole
-      (goes_access m side trace n lawful whole s own (first.others ++ left) op b goes low is (record { next = first.next; split = split; that = first.that; answer = first.answer }))
-      runs refl first.rest_is answered
-
-  all_by : (i : ℕ) → Takes_all i → (s last : S) (own agreed left : List Numbered) (events : List Event) (whole : Ended S)
-      → Goes m side trace n whole s own → First m side n (suc i) s events last → own ≡ agreed ++ left
-      → accesses events ≡ entries agreed → Answered events
-      → Goes m side trace n whole last left
-  all_by i on s last own agreed left events whole goes (Over ee es) own_is agrees answered = all_here s last own agreed left events whole goes ee es own_is agrees
-  all_by i on s last own agreed left events whole goes (Silent i' ei low none runs) own_is agrees answered =
-      on (m.next s None) last own agreed left events whole (goes_none m side trace n lawful whole s own goes low none)
-      (subst (λ (x : ℕ). Runs m side n x (m.next s None) (course events last)) (omega arith) runs) own_is agrees answered
-  all_by i on s last own agreed left events whole goes (Asking i' q a others ei low is ee runs) own_is agrees answered =
-      let told : Answered (event (m.due s) side q a ∷ others) = subst Answered ee answered in
-      all_some i on s last own agreed left q a others whole goes
-      (subst (λ (x : ℕ). Runs m side n x (m.next s (Some a)) (course others last)) (omega arith) runs) low is own_is
-      (ap accesses (sym ee) ∙ agrees)
-      (All-head Told (event (m.due s) side q a) others told)
-      (All-tail Told (event (m.due s) side q a) others told)
-
-  takes_all : (i : ℕ) → Takes_all i
-  takes_all zero s last own agreed left events whole goes runs own_is agrees answered = all_here s last own agreed left events whole goes runs.0 runs.1 own_is agrees
-  takes_all (suc i) s last own agreed left events whole goes runs own_is agrees answered =
-      all_by i (takes_all i) s last own agreed left events whole goes (first_of_runs m side n (suc i) s events last runs) own_is agrees answered
+      let split = own_is ∙ ap (λ (l : List Numbered). l ++ left) first.split in
+      takes_all first.others left
+      (goes_access goes lawful (first.others ++ left) op b low is (record { next = first.next; split = split; that = first.that; answer = first.answer }))
+      refl first.rest_is (All-tail Told (event (m.due s) side (access op) (Byte b)) others answered) on
 
   replayed_of : (s ended : S) → FollowsTrace m side trace n s ended → replay_of m side trace n s ≡ ending ended
   replayed_of s ended f =
       let own : List Numbered = own_from side n 1 trace in
-      goes_end m side trace n (replay_of m side trace n s) f.follows.last []
-      (takes_all f.follows.steps s f.follows.last own own [] f.events (replay_of m side trace n s) (goes_all m side trace n s)
-      f.follows.runs (sym (append-nil own)) (f.own ∙ sym (own_entries side n 1 trace).0) f.answered)
-      f.follows.over
+      goes_end (takes_all own [] (goes_all m side trace n s) (sym (append-nil own)) (f.own ∙ sym (own_entries side n 1 trace).0) f.answered
+      (steps_of m side n f.follows.steps f.follows.runs)) f.follows.over
       ∙ ap ending (sym f.follows.ends)
 
   place_by : (whole : Ended S) (last stopped : S) (left : List Numbered) (line : ℕ) (what : Option Doing) → Goes m side trace n whole last left → Whole last left line what stopped
       → At stopped whole line what
   place_by whole last stopped left line None goes d =
-      goes_end m side trace n whole last left goes d.0
+      goes_end goes d.0
       ∙ ap (λ (x : S). record { machine = x; place = next_line left }) (sym d.2)
       ∙ ap (λ (o : Option (ℕ × Option Doing)). record { machine = stopped; place = o }) d.1
   place_by whole last stopped left line (Some doings) goes d =
-      goes_differs m side trace n whole last left d.0 line goes d.1 d.2 d.4
+      goes_differs goes d.0 line d.1 d.2 d.4
       ∙ ap (λ (x : S). record { machine = x; place = Some (line, Some (doing_of (m.due last) side d.0)) }) (sym d.5)
       ∙ ap (λ (x : Doing). record { machine = stopped; place = Some (line, Some x) }) (sym d.3)
 
   place_of : (s stopped : S) (line : ℕ) (what : Option Doing) → DiffersAt m side trace n s (difference line what stopped) → At stopped (replay_of m side trace n s) line what
   place_of s stopped line what d =
       place_by (replay_of m side trace n s) d.last stopped d.left line what
-      (takes_all d.steps s d.last (own_from side n 1 trace) d.agreed d.left d.events (replay_of m side trace n s) (goes_all m side trace n s) d.runs d.own d.agrees d.answered)
+      (takes_all d.agreed d.left (goes_all m side trace n s) d.own d.agrees d.answered (steps_of m side n d.steps d.runs))
       d.differs
 
 pub replay_following : {S : Type 0} (m : Moves S) → IsLawful m → ReplayIsFollowing m

@@ -14,10 +14,10 @@ use Rattle.tube_chip.specs.Act.{Query, access, look, act}
 use Rattle.tube_chip.specs.Events.{Event, IsBefore, Rises, RisesAfter, IsAnsweredFrom, after_from, merge, is_side}
 use Rattle.tube_trace.specs.declared.Entry.{Entry}
 use Rattle.tube_trace.specs.Entries.{entry_of, accesses, event_of, events_of}
-use Rattle.tube_party.specs.Moves.{Moves, IsLawful, Runs, course}
+use Rattle.tube_party.specs.Moves.{Moves, IsLawful}
 use Rattle.tube_party.specs.Replay.{chip_before}
 use Rattle.tube_party.specs.ReplayLaws.{own_below}
-use Rattle.tube_party.proofs.Runs.{event, First, Over, Silent, Asking, first_of_runs}
+use Rattle.tube_party.proofs.Runs.{event, Steps, Over, Silent, Asking}
 use Rattle.tube_party.proofs.ReplayLemmas.{low_true}
 use Rattle.tube_party.proofs.Listed.{before-then, before-not}
 use Rattle.tube_party.proofs.Followed.{side_self}
@@ -308,26 +308,17 @@ line_on : (side : Side) (t u : ℕ) (l : List Event) → t ≤ u → IsLine side
 line_on side t u l le x = record { rises = x.rises; each = x.each; from = All-weaker (λ (e : Event). u ≤ e.tick) (λ (e : Event). t ≤ e.tick) (λ e h. omega arith) l x.from }
 
 module _ {S : Type 0} (m : Moves S) (lawful : IsLawful m) (side : Side) (n : ℕ) where
-  line_by : (i : ℕ) (s last : S) (events : List Event) → ((u : S) (others : List Event) → Runs m side n i u (course others last) → IsLine side (m.due u) others)
-      → First m side n (suc i) s events last → IsLine side (m.due s) events
-  line_by i s last events on (Over ee es) =
-      subst (IsLine side (m.due s)) (sym ee) (record { rises = tt; each = All-nil (λ (e : Event). e.side ≡ side); from = All-nil (λ (e : Event). m.due s ≤ e.tick) })
-  line_by i s last events on (Silent i' ei low none runs) =
-      let up : m.due s < m.due (m.next s None) = lawful.rises s None in
-      line_on side (m.due s) (m.due (m.next s None)) events (omega arith) (on (m.next s None) events (subst (λ (x : ℕ). Runs m side n x (m.next s None) (course events last)) (omega arith) runs))
-  line_by i s last events on (Asking i' q a others ei low is ee runs) =
-      let up : m.due s < m.due (m.next s (Some a)) = lawful.rises s (Some a) in
-      let more : IsLine side (m.due (m.next s (Some a))) others = on (m.next s (Some a)) others (subst (λ (x : ℕ). Runs m side n x (m.next s (Some a)) (course others last)) (omega arith) runs) in
-      let line : IsLine side (m.due s) others = line_on side (m.due s) (m.due (m.next s (Some a))) others (omega arith) more in
+  pub line_of_runs : {last s : S} {events : List Event} → Steps m side n last s events → IsLine side (m.due s) events
+  line_of_runs {last} Over = record { rises = tt; each = All-nil (λ (e : Event). e.side ≡ side); from = All-nil (λ (e : Event). m.due last ≤ e.tick) }
+  line_of_runs (Silent {s = s} {events = events} low none on) =
+      let up = lawful.rises s None in line_on side (m.due s) (m.due (m.next s None)) events (omega arith) (line_of_runs on)
+  line_of_runs (Asking {s = s} {others = others} q a low is on) =
+      let up = lawful.rises s (Some a) in
+      let more = line_of_runs on in
+      let line = line_on side (m.due s) (m.due (m.next s (Some a))) others (omega arith) more in
       let e : Event = event (m.due s) side q a in
-      subst (IsLine side (m.due s)) (sym ee)
-      (record {
+      record {
         rises = rises_from (m.due s) (m.due (m.next s (Some a))) side q a others up more.from more.rises;
         each = All-cons (λ (x : Event). x.side ≡ side) e others refl line.each;
         from = All-cons (λ (x : Event). m.due s ≤ x.tick) e others (let d : ℕ = m.due s in omega arith) line.from;
-      })
-
-  pub line_of_runs : (k : ℕ) (s last : S) (events : List Event) → Runs m side n k s (course events last) → IsLine side (m.due s) events
-  line_of_runs zero s last events runs =
-      subst (IsLine side (m.due s)) (sym runs.0) (record { rises = tt; each = All-nil (λ (e : Event). e.side ≡ side); from = All-nil (λ (e : Event). m.due s ≤ e.tick) })
-  line_of_runs (suc i) s last events runs = line_by i s last events (λ u others on. line_of_runs i u last others on) (first_of_runs m side n (suc i) s events last runs)
+      }

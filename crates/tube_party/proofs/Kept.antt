@@ -27,10 +27,9 @@ of_side-append side (x ∷ xs) ys = by_side side x.side x (of_side side (xs ++ y
 pub grows : (side : Side) (events more : List Event) → accesses (of_side side (events ++ more)) ≡ accesses (of_side side events) ++ accesses (of_side side more)
 grows side events more = ap accesses (of_side-append side events more) ∙ accesses-append (of_side side events) (of_side side more)
 
-pub kept_more : (side : Side) (events more : List Event) (keep : ℕ) (list : List Entry) (count : ℕ)
-    → IsKept side events keep list count
+pub kept_more : {side : Side} {events : List Event} (more : List Event) {keep : ℕ} {list : List Entry} {count : ℕ} → IsKept side events keep list count
     → IsKept side (events ++ more) keep (note_all_leaves keep list (accesses (of_side side more))) (count + length (accesses (of_side side more)))
-kept_more side events more keep list count k =
+kept_more {side} {events} more {keep} k =
     record {
       list_is =
           ap (λ z. note_all_leaves keep z (accesses (of_side side more))) k.list_is
@@ -42,24 +41,15 @@ kept_more side events more keep list count k =
           ∙ ap length (sym (grows side events more));
     }
 
-pub kept_own : (side : Side) (events : List Event) (keep : ℕ) (list : List Entry) (count t : ℕ) (q : Query) (a : Answer)
+-- by one event of the side
+pub kept_own : (side : Side) {events : List Event} {keep : ℕ} {list : List Entry} {count : ℕ} (t : ℕ) (q : Query) (a : Answer)
     → IsKept side events keep list count
     → IsKept side (events ++ event t side q a ∷ []) keep (note_all_leaves keep list (entry_of t side q a)) (count + length (entry_of t side q a))
-kept_own Host events keep list count t q a k =
-    subst (λ z. IsKept Host (events ++ event t Host q a ∷ []) keep (note_all_leaves keep list z) (count + length z)) (append-nil (entry_of t Host q a))
-    (kept_more Host events (event t Host q a ∷ []) keep list count k)
-kept_own Para events keep list count t q a k =
-    subst (λ z. IsKept Para (events ++ event t Para q a ∷ []) keep (note_all_leaves keep list z) (count + length z)) (append-nil (entry_of t Para q a))
-    (kept_more Para events (event t Para q a ∷ []) keep list count k)
+kept_own Host t q a k = rw append-nil at (kept_more (event t Host q a ∷ []) k)
+kept_own Para t q a k = rw append-nil at (kept_more (event t Para q a ∷ []) k)
 
-pub kept_host_by_para : (events : List Event) (keep : ℕ) (list : List Entry) (count t : ℕ) (q : Query) (a : Answer)
-    → IsKept Host events keep list count → IsKept Host (events ++ event t Para q a ∷ []) keep list count
-kept_host_by_para events keep list count t q a k =
-    let same : count + 0 ≡ count = omega arith in
-    subst (λ (z : ℕ). IsKept Host (events ++ event t Para q a ∷ []) keep list z) same (kept_more Host events (event t Para q a ∷ []) keep list count k)
-
-pub kept_para_by_host : (events : List Event) (keep : ℕ) (list : List Entry) (count t : ℕ) (q : Query) (a : Answer)
-    → IsKept Para events keep list count → IsKept Para (events ++ event t Host q a ∷ []) keep list count
-kept_para_by_host events keep list count t q a k =
-    let same : count + 0 ≡ count = omega arith in
-    subst (λ (z : ℕ). IsKept Para (events ++ event t Host q a ∷ []) keep list z) same (kept_more Para events (event t Host q a ∷ []) keep list count k)
+-- by events that are no accesses of the side
+pub kept_beside : {side : Side} {events : List Event} (more : List Event) {keep : ℕ} {list : List Entry} {count : ℕ} → accesses (of_side side more) ≡ []
+    → IsKept side events keep list count → IsKept side (events ++ more) keep list count
+kept_beside more {count = count} none k =
+    let same : count + 0 ≡ count = omega arith in rw same at (rw none at (kept_more more k))

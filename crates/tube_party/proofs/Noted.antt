@@ -32,7 +32,7 @@ pub noted_more : (side : Side) (xs : List Entry) (i keep : ℕ) (d : Entry) (log
 noted_more side xs i keep d log log2 lt kept same noted =
     let e : Entry = get_or xs i d in
     let more : IsKept side (events_of (take i xs) ++ event_of e ∷ []) keep (note_all_leaves keep log.list.items (own_of side e)) (log.count + length (own_of side e)) =
-    kept_more side (events_of (take i xs)) (event_of e ∷ []) keep log.list.items log.count kept in
+    kept_more (event_of e ∷ []) kept in
     let all : IsKept side (events_of (take (i + 1) xs)) keep (note_all_leaves keep log.list.items (own_of side e)) (log.count + length (own_of side e)) =
     subst (λ (l : List Event). IsKept side l keep (note_all_leaves keep log.list.items (own_of side e)) (log.count + length (own_of side e))) (sym (events_more xs i d lt)) more in
     record {

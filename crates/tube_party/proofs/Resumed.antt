@@ -15,9 +15,9 @@ use Rattle.tube_party.specs.CodeClosing.{IsShut}
 use Rattle.tube_party.specs.ReplayLaws.{IsAnsweredBy, FollowsTrace}
 use Rattle.tube_party.specs.Reference.{Seat, World, step_if_due, tick, ticks, start, close_both_leaves, reference, IsTraceBelow}
 use Rattle.tube_party.specs.GoingOn.{reference_from, after_entries, IsLike, IsBroughtBack, BroughtBackIsReference}
-use Rattle.tube_party.proofs.Runs.{event, shut_is}
+use Rattle.tube_party.proofs.Runs.{event, steps_of, shut_is}
 use Rattle.tube_party.proofs.Ticks.{seat, world, rest}
-use Rattle.tube_party.proofs.Meet.{meets_all}
+use Rattle.tube_party.proofs.Meet.{meets}
 use Rattle.tube_party.proofs.FollowingLemmas.{replay_following}
 use Rattle.tube_party.proofs.Followed.{SoFar, so_far}
 use Rattle.tube_party.proofs.Replayed.{On, IsAnsweredOn}
@@ -114,7 +114,7 @@ from_power_on trace t side look a h = h
 part_of : {S : Type 0} (m : Moves S) → IsLawful m → (side : Side) (trace : List Entry) (at : ℕ) (s u : S) → IsTraceBelow at trace → (f : FollowsTrace m side trace at s u)
     → IsPart side power_on trace f.events
 part_of m lawful side trace at s u legal f =
-    let line : IsLine side (m.due s) f.events = line_of_runs m lawful side at f.follows.steps s f.follows.last f.events f.follows.runs in
+    let line : IsLine side (m.due s) f.events = line_of_runs m lawful side at (steps_of m side at f.follows.steps f.follows.runs) in
     record {
       rises = line.rises;
       each = line.each;
@@ -172,15 +172,14 @@ module _ {S T : Type 0} (h : Moves S) (p : Moves T) (lh : IsLawful h) (lp : IsLa
   reached =
       let a = host_follows.follows in
       let b = para_follows.follows in
-      meets_all h p lh lp at a.last b.last a.over b.over (suc (a.steps + b.steps)) a.steps b.steps (omega arith) s t power_on [] host_follows.events para_follows.events a.runs b.runs
-      all_joined.answered
+      meets h p lh lp at a.last b.last a.over b.over (steps_of h Host at a.steps a.runs) _ _ power_on [] (steps_of p Para at b.steps b.runs) all_joined.answered
 
   listed : SameAccesses all (events_of entries)
   listed = same_by_accesses all entries all_joined.same
 
   pub brought_back : IsLike (reference h p s t at) (after_entries u v entries)
   brought_back =
-      like_on _ _ _ (alike _ _ (ap (λ (w : World S T). close_both_leaves h p at w) reached))
+      like_on (alike (ap (λ (w : World S T). close_both_leaves h p at w) reached))
       (record { host = sym host_follows.follows.ends; para = sym para_follows.follows.ends; chip = all_joined.chip; listed = listed })
 
   -- it goes on as from there

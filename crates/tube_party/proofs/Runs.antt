@@ -1,27 +1,27 @@
 -- The steps of a run, one at a time.
 use Rattle.std.proofs.Common.{ℕ, zero, suc, ◌≡◌, ◌<◌, ◌≤◌, refl, sym, ◌∙◌, ap, subst, arith, max, List, [], ◌∷◌, ◌++◌, Option, None, Some, MatchOption}
-use Rattle.tube_chip.specs.Act.{Query}
+use Rattle.tube_chip.specs.Act.{Query, look}
 use Rattle.tube_chip.specs.Events.{Event}
 use Rattle.tube_chip.specs.declared.Answer.{Answer}
+use Rattle.tube_chip.specs.declared.Answer.TheVariants.{Seen}
+use Rattle.tube_chip.specs.declared.Op.{Op}
 use Rattle.beeb_bits.specs.declared.Side.{Side}
-use Rattle.tube_party.specs.Moves.{Moves, IsLawful, IsClosing, Runs, Heads, close_leaves, course}
+use Rattle.tube_party.specs.Moves.{Moves, IsLawful, IsClosing, Runs, Looks, Shown, IsAnswered, Talks, Heads, close_leaves, course}
 use Rattle.tube_party.specs.CodeClosing.{IsShut, FollowsOn}
 
 abbrev pub event : ℕ → Side → Query → Answer → Event
 event t side q a = record { tick = t; side = side; query = q; answer = a }
 
--- what the first of some steps does
-pub data First {S : Type 0} (r : Moves S) (side : Side) (n k : ℕ) (s : S) (events : List Event) (m : S) : Type 0 where
-  Over : events ≡ [] → s ≡ m → First r side n k s events m
-  Silent : (i : ℕ) → k ≡ suc i → r.due s < n → r.asks s ≡ None → Runs r side n i (r.next s None) (course events m) → First r side n k s events m
-  Asking : (i : ℕ) (q : Query) (a : Answer) (others : List Event) → k ≡ suc i → r.due s < n → r.asks s ≡ Some q → events ≡ event (r.due s) side q a ∷ others
-      → Runs r side n i (r.next s (Some a)) (course others m) → First r side n k s events m
+-- steps to last, each below n, from a state, and their events: as `Runs`, to be taken apart step by step
+pub data Steps {S : Type 0} (r : Moves S) (side : Side) (n : ℕ) (last : S) : S → List Event → Type 0 where
+  Over : Steps r side n last last []
+  Silent : {s : S} {events : List Event} → r.due s < n → r.asks s ≡ None → Steps r side n last (r.next s None) events → Steps r side n last s events
+  Asking : {s : S} {others : List Event} (q : Query) (a : Answer) → r.due s < n → r.asks s ≡ Some q → Steps r side n last (r.next s (Some a)) others
+      → Steps r side n last s (event (r.due s) side q a ∷ others)
 
-abbrev Then : {S : Type 0} → Moves S → Side → ℕ → ℕ → S → List Event → S → Option Query → Type 0
-Then r side n k s events m o =
-    MatchOption o
-    (Runs r side n k (r.next s None) (course events m))
-    (λ q. Heads events (λ e others. (e.tick ≡ r.due s) × (e.side ≡ side) × (e.query ≡ q) × Runs r side n k (r.next s (Some e.answer)) (course others m)))
+-- some number of steps
+abbrev pub SomeRuns : {S : Type 0} → Moves S → Side → ℕ → S → List Event → S → Type 0
+SomeRuns r side n s events m = (k : ℕ) × Runs r side n k s (course events m)
 
 -- an event is known by its parts
 same_event : (e : Event) (t : ℕ) (side : Side) (q : Query) → e.tick ≡ t → e.side ≡ side → e.query ≡ q → e ≡ event t side q e.answer
@@ -30,65 +30,77 @@ same_event e t side q et es eq =
     ∙ ap (λ (x : Side). event t x e.query e.answer) es
     ∙ ap (λ (x : Query). event t side x e.answer) eq
 
-then_asking : {S : Type 0} (r : Moves S) (side : Side) (n i : ℕ) (s : S) (events : List Event) (m : S) (q : Query) → r.due s < n → r.asks s ≡ Some q
-    → Heads events (λ e others. (e.tick ≡ r.due s) × (e.side ≡ side) × (e.query ≡ q) × Runs r side n i (r.next s (Some e.answer)) (course others m))
-    → First r side n (suc i) s events m
-then_asking r side n i s [] m q lt is h = absurd h
-then_asking r side n i s (e ∷ others) m q lt is h =
-    Asking i q e.answer others refl lt is (ap (λ (x : Event). x ∷ others) (same_event e (r.due s) side q h.0 h.1 h.2)) h.3
+module _ {S : Type 0} (r : Moves S) (side : Side) (n : ℕ) where
+  abbrev Then : ℕ → S → List Event → S → Option Query → Type 0
+  Then k s events m o =
+      MatchOption o
+      (Runs r side n k (r.next s None) (course events m))
+      (λ q. Heads events (λ e others. (e.tick ≡ r.due s) × (e.side ≡ side) × (e.query ≡ q) × Runs r side n k (r.next s (Some e.answer)) (course others m)))
 
-by_ask : {S : Type 0} (r : Moves S) (side : Side) (n i : ℕ) (s : S) (events : List Event) (m : S) (o : Option Query) → r.due s < n → r.asks s ≡ o
-    → Then r side n i s events m o
-    → First r side n (suc i) s events m
-by_ask r side n i s events m None lt is h = Silent i refl lt is h
-by_ask r side n i s events m (Some q) lt is h = then_asking r side n i s events m q lt is h
+  steps_by : (k : ℕ) (s last : S) (events : List Event) (o : Option Query)
+      → ((u : S) (others : List Event) → Runs r side n k u (course others last) → Steps r side n last u others)
+      → r.due s < n → r.asks s ≡ o → Then k s events last o → Steps r side n last s events
+  steps_by k s last events None on low is h = Silent low is (on (r.next s None) events h)
+  steps_by k s last [] (Some q) on low is h = absurd h
+  steps_by k s last (e ∷ others) (Some q) on low is h =
+      rw (same_event e (r.due s) side q h.0 h.1 h.2) (Asking q e.answer low is (on (r.next s (Some e.answer)) others h.3))
 
-pub first_of_runs : {S : Type 0} (r : Moves S) (side : Side) (n k : ℕ) (s : S) (events : List Event) (m : S) → Runs r side n k s (course events m) → First r side n k s events m
-first_of_runs r side n zero s events m h = Over h.0 h.1
-first_of_runs r side n (suc i) s events m h = by_ask r side n i s events m (r.asks s) h.0 refl h.1
+  pub steps_of : (k : ℕ) {last s : S} {events : List Event} → Runs r side n k s (course events last) → Steps r side n last s events
+  steps_of zero runs = rw (runs.0, runs.1) Over
+  steps_of (suc k) {last} {s} {events} runs = steps_by k s last events (r.asks s) (λ u others. steps_of k) runs.0 refl runs.1
 
--- one step in front that asks nothing
-pub runs_silent : {S : Type 0} (r : Moves S) (side : Side) (n k : ℕ) (s : S) (events : List Event) (m : S) → r.due s < n → r.asks s ≡ None
-    → Runs r side n k (r.next s None) (course events m) → Runs r side n (suc k) s (course events m)
-runs_silent {S} r side n k s events m low none runs =
-    (low, subst (λ (o : Option Query). Then r side n k s events m o) (sym none) runs)
-
--- one step in front that asks
-pub runs_asking : {S : Type 0} (r : Moves S) (side : Side) (n k : ℕ) (s : S) (q : Query) (a : Answer) (others : List Event) (m : S) → r.due s < n → r.asks s ≡ Some q →
-    Runs r side n k (r.next s (Some a)) (course others m) → Runs r side n (suc k) s (course (event (r.due s) side q a ∷ others) m)
-runs_asking {S} r side n k s q a others m low is runs =
-    (low, subst (λ (o : Option Query). Then r side n k s (event (r.due s) side q a ∷ others) m o) (sym is) (refl, refl, refl, runs))
-
--- some number of steps
-abbrev pub SomeRuns : {S : Type 0} → Moves S → Side → ℕ → S → List Event → S → Type 0
-SomeRuns r side n s events m = (k : ℕ) × Runs r side n k s (course events m)
-
-module _ {S : Type 0} (r : Moves S) (side : Side) (n k : ℕ) (le : n ≤ k) (u v : S) (b : List Event) where
-  append_by : (i : ℕ) (s : S) (a : List Event)
-      → ((t : S) (c : List Event) → Runs r side n i t (course c u) → SomeRuns r side k t (c ++ b) v)
-      → First r side n (suc i) s a u → SomeRuns r side k u b v → SomeRuns r side k s (a ++ b) v
-  append_by i s a on (Over ea es) rest =
-      subst (λ (x : S). SomeRuns r side k x (a ++ b) v) (sym es) (subst (λ (z : List Event). SomeRuns r side k u (z ++ b) v) (sym ea) rest)
-  append_by i s a on (Silent i' ei low none runs) rest =
-      let more : SomeRuns r side k (r.next s None) (a ++ b) v = on (r.next s None) a (subst (λ (x : ℕ). Runs r side n x (r.next s None) (course a u)) (omega arith) runs) in
-      (suc more.0, runs_silent r side k more.0 s (a ++ b) v (omega arith) none more.1)
-  append_by i s a on (Asking i' q x others ei low is ea runs) rest =
-      let more : SomeRuns r side k (r.next s (Some x)) (others ++ b) v = on (r.next s (Some x)) others (subst (λ (z : ℕ). Runs r side n z (r.next s (Some x)) (course others u)) (omega arith) runs) in
-      subst (λ (z : List Event). SomeRuns r side k s (z ++ b) v) (sym ea)
-      (suc more.0, runs_asking r side k more.0 s q x (others ++ b) v (omega arith) is more.1)
+  pub runs_of : {last s : S} {events : List Event} → Steps r side n last s events → SomeRuns r side n s events last
+  runs_of Over = (0, (refl, refl))
+  runs_of {last = last} (Silent {s = s} {events = events} low none on) =
+      let more = runs_of on in (suc more.0, (low, subst (Then more.0 s events last) (sym none) more.1))
+  runs_of {last = last} (Asking {s = s} {others = others} q a low is on) =
+      let more = runs_of on in
+      (suc more.0, (low, subst (Then more.0 s (event (r.due s) side q a ∷ others) last) (sym is) (refl, refl, refl, more.1)))
 
   -- steps below n, and then steps below a tick that is no smaller
-  pub runs_append : (i : ℕ) (s : S) (a : List Event) → Runs r side n i s (course a u) → SomeRuns r side k u b v → SomeRuns r side k s (a ++ b) v
-  runs_append zero s a runs rest =
-      subst (λ (x : S). SomeRuns r side k x (a ++ b) v) (sym runs.1) (subst (λ (z : List Event). SomeRuns r side k u (z ++ b) v) (sym runs.0) rest)
-  runs_append (suc i) s a runs rest =
-      append_by i s a (λ t c on. runs_append i t c on rest) (first_of_runs r side n (suc i) s a u runs) rest
+  pub steps_append : (k : ℕ) → n ≤ k → {u v s : S} {a b : List Event} → Steps r side n u s a → Steps r side k v u b → Steps r side k v s (a ++ b)
+  steps_append k le Over rest = rest
+  steps_append k le (Silent low none on) rest = Silent (omega arith) none (steps_append k le on rest)
+  steps_append k le (Asking q a low is on) rest = Asking q a (omega arith) is (steps_append k le on rest)
+
+-- steps to last, each below n, from a state, that ask nothing or are looks: as `Looks`, to be taken apart step by step
+pub data Glances {S : Type 0} (m : Moves S) (n : ℕ) (v : Shown) (last : S) : S → Type 0 where
+  Here : Glances m n v last last
+  Past : {s : S} → m.due s < n → m.asks s ≡ None → Glances m n v last (m.next s None) → Glances m n v last s
+  Seeing : {s : S} → m.due s < n → m.asks s ≡ Some look → m.due s < v.sure → Glances m n v last (m.next s (Some (Seen v.lines))) → Glances m n v last s
+
+module _ {S : Type 0} (m : Moves S) (n : ℕ) (v : Shown) where
+  glances_by : (k : ℕ) (s last : S) (o : Option Query) → ((u : S) → Looks m n v k u last → Glances m n v last u) → m.due s < n → m.asks s ≡ o
+      → MatchOption o (Looks m n v k (m.next s None) last) (λ q. (q ≡ look) × (m.due s < v.sure) × Looks m n v k (m.next s (Some (Seen v.lines))) last)
+      → Glances m n v last s
+  glances_by k s last None on low is h = Past low is (on (m.next s None) h)
+  glances_by k s last (Some q) on low is h = Seeing low (is ∙ ap (λ x. Some x) h.0) h.1 (on (m.next s (Some (Seen v.lines))) h.2)
+
+  pub glances_of : (k : ℕ) {last s : S} → Looks m n v k s last → Glances m n v last s
+  glances_of zero looks = rw looks Here
+  glances_of (suc k) {last} {s} looks = glances_by k s last (m.asks s) (λ u. glances_of k) looks.0 refl looks.1
+
+-- the tick rises
+pub glances_rise : {S : Type 0} {m : Moves S} {n : ℕ} {v : Shown} {last s : S} → IsLawful m → Glances m n v last s → m.due s ≤ m.due last
+glances_rise {m = m} {last = last} lawful Here = let d = m.due last in omega arith
+glances_rise lawful (Past {s = s} low none on) = omega (arith, lawful.rises s None, glances_rise lawful on)
+glances_rise {v = v} lawful (Seeing {s = s} low is before on) = omega (arith, lawful.rises s (Some (Seen v.lines)), glances_rise lawful on)
+
+-- accesses that are answered in passing, with such steps before and between them: as `Talks`
+pub data Talking {S D : Type 0} (m : Moves S) (answers : D → ℕ → Op → ℕ → D → Type 0) (n : ℕ) (v : Shown) (last : S) (e : D) : S → D → Type 0 where
+  Last : {s : S} → Glances m n v last s → Talking m answers n v last e s e
+  Next : {s at on : S} {d f : D} → Glances m n v at s → IsAnswered m answers n at d on f → Talking m answers n v last e on f → Talking m answers n v last e s d
+
+pub talking_of : {S D : Type 0} {m : Moves S} {answers : D → ℕ → Op → ℕ → D → Type 0} {n : ℕ} {v : Shown} (j : ℕ) {last : S} {e : D} {s : S} {d : D}
+    → Talks m answers n v j s d last e → Talking m answers n v last e s d
+talking_of {m = m} {n = n} {v = v} zero h = rw h.0 (Last (glances_of m n v h.1.0 h.1.1))
+talking_of {m = m} {n = n} {v = v} (suc j) h = Next (glances_of m n v h.3.0 h.3.1) h.4 (talking_of j h.5)
 
 -- a state is closed
 
 module _ {S : Type 0} (r : Moves S) (lr : IsLawful r) (s : S) (n : ℕ) (le : n ≤ r.due s) where
   closing_at : IsClosing r s (max n (r.closed s))
-  closing_at = let within : r.closed s ≤ r.due s = lr.within s in lr.closing s (max n (r.closed s)) (omega arith) (omega arith)
+  closing_at = let within = lr.within s in lr.closing s (max n (r.closed s)) (omega arith) (omega arith)
 
   -- it holds the device steps below n and as far as it was closed, its next step is as it was, and closing it further is closing it at once
   pub shut_is : IsShut r s n
@@ -99,7 +111,7 @@ module _ {S : Type 0} (r : Moves S) (lr : IsLawful r) (s : S) (n : ℕ) (le : n 
         asks = closing_at.asks;
         next = closing_at.next;
         again = λ u low high.
-            let within : r.closed s ≤ r.due s = lr.within s in
+            let within = lr.within s in
             ap (λ (x : ℕ). r.close (close_leaves r s n) (max u x)) closing_at.closed
             ∙ closing_at.again (max u (max n (r.closed s))) (omega arith) (omega arith)
             ∙ ap (λ (x : ℕ). r.close s x) (omega arith);
@@ -110,35 +122,22 @@ module _ {S : Type 0} (r : Moves S) (lr : IsLawful r) (side : Side) (n k : ℕ) 
   shut_here : IsShut r s n
   shut_here = shut_is r lr s n over
 
-  due_here : (u : S) → u ≡ close_leaves r s n → r.due u ≡ r.due s
-  due_here u is = ap r.due is ∙ shut_here.due
-
-  asks_here : (u : S) (o : Option Query) → u ≡ close_leaves r s n → r.asks u ≡ o → r.asks s ≡ o
-  asks_here u o is e = sym (ap r.asks is ∙ shut_here.asks) ∙ e
-
-  next_here : (u : S) (a : Option Answer) → u ≡ close_leaves r s n → r.next u a ≡ r.next s a
-  next_here u a is = ap (λ (x : S). r.next x a) is ∙ shut_here.next a
-
   -- the same events from before, to a state that is closed alike
-  from_shut : (j : ℕ) (u last v : S) (b : List Event) → u ≡ close_leaves r s n → First r side k j u b last → k ≤ r.due last → v ≡ close_leaves r last k →
-      (l : S) × SomeRuns r side k s b l × (k ≤ r.due l) × (v ≡ close_leaves r l k)
-  from_shut j u last v b is (Over eb es) up ends =
-      let same : last ≡ close_leaves r s n = sym es ∙ is in
-      let due : r.due last ≡ r.due s = due_here last same in
-      (s, (zero, (eb, refl)), omega arith, ends ∙ ap (λ (x : S). close_leaves r x k) same ∙ shut_here.again k le (omega arith))
-  from_shut j u last v b is (Silent i ej low none runs) up ends =
-      let due : r.due u ≡ r.due s = due_here u is in
-      let on : Runs r side k i (r.next s None) (course b last) = subst (λ (x : S). Runs r side k i x (course b last)) (next_here u None is) runs in
-      (last, (suc i, runs_silent r side k i s b last (omega arith) (asks_here u None is none) on), up, ends)
-  from_shut j u last v b is (Asking i q x others ej low asks eb runs) up ends =
-      let due : r.due u ≡ r.due s = due_here u is in
-      let on : Runs r side k i (r.next s (Some x)) (course others last) = subst (λ (z : S). Runs r side k i z (course others last)) (next_here u (Some x) is) runs in
-      let same : event (r.due s) side q x ∷ others ≡ b = ap (λ (t : ℕ). event t side q x ∷ others) (sym due) ∙ sym eb in
-      let all : SomeRuns r side k s (event (r.due s) side q x ∷ others) last = (suc i, runs_asking r side k i s q x others last (omega arith) (asks_here u (Some q) is asks) on) in
-      (last, subst (λ (z : List Event). SomeRuns r side k s z last) same all, up, ends)
+  from_shut : {last v u : S} {b : List Event} → u ≡ close_leaves r s n → Steps r side k last u b → k ≤ r.due last → v ≡ close_leaves r last k →
+      (l : S) × Steps r side k l s b × (k ≤ r.due l) × (v ≡ close_leaves r l k)
+  from_shut is Over up ends =
+      let due = ap r.due is ∙ shut_here.due in
+      (s, Over, omega arith, ends ∙ ap (λ (x : S). close_leaves r x k) is ∙ shut_here.again k le (omega arith))
+  from_shut {last = last} is (Silent low none on) up ends =
+      let due = ap r.due is ∙ shut_here.due in
+      (last, Silent (omega arith) (sym (ap r.asks is ∙ shut_here.asks) ∙ none) (rw (← (ap (λ (x : S). r.next x None) is ∙ shut_here.next None)) on), up, ends)
+  from_shut {last = last} is (Asking {s = u} {others = others} q a low asks on) up ends =
+      let due : r.due u ≡ r.due s = ap r.due is ∙ shut_here.due in
+      let next : r.next u (Some a) ≡ r.next s (Some a) = ap (λ (x : S). r.next x (Some a)) is ∙ shut_here.next (Some a) in
+      (last, rw due (Asking {s = s} {others = others} q a (omega arith) (sym (ap r.asks is ∙ shut_here.asks) ∙ asks) (rw (← next) on)), up, ends)
 
 pub follows_on : {S : Type 0} (r : Moves S) → IsLawful r → FollowsOn r
 follows_on r lr side s u v a b n k le fa fb =
-    let on = from_shut r lr side n k le fa.last fa.over fb.steps u fb.last v b fa.ends (first_of_runs r side k fb.steps u b fb.last fb.runs) fb.over fb.ends in
-    let all : SomeRuns r side k s (a ++ b) on.0 = runs_append r side n k le fa.last on.0 b fa.steps s a fa.runs on.1 in
+    let on = from_shut r lr side n k le fa.last fa.over fa.ends (steps_of r side k fb.steps fb.runs) fb.over fb.ends in
+    let all = runs_of r side k (steps_append r side n k le (steps_of r side n fa.steps fa.runs) on.1) in
     record { steps = all.0; last = on.0; runs = all.1; over = on.2; ends = on.3 }

@@ -12,9 +12,9 @@ use Rattle.tube_chip.specs.Act.{Query, access, look, act}
 use Rattle.tube_chip.specs.Events.{Event, Rises, RisesAfter, IsAnsweredFrom, of_side, is_side}
 use Rattle.tube_trace.specs.declared.Entry.{Entry}
 use Rattle.tube_trace.specs.Entries.{IsEntry, entry_of, accesses, events_of}
-use Rattle.tube_party.specs.Moves.{Moves, IsLawful, MayAsk, Runs, course}
+use Rattle.tube_party.specs.Moves.{Moves, IsLawful, MayAsk}
 use Rattle.tube_party.specs.Reference.{World, reference, IsFollowed, ReferenceIsTrace}
-use Rattle.tube_party.proofs.Runs.{event, First, Over, Silent, Asking, first_of_runs}
+use Rattle.tube_party.proofs.Runs.{event, Steps, Over, Silent, Asking, steps_of}
 use Rattle.tube_party.proofs.Followed.{followed, all_earlier}
 use Rattle.tube_party.proofs.Replayed.{all_after, rises_tail, below_end}
 
@@ -23,18 +23,11 @@ abbrev May : Event → Type 0
 May e = MayAsk e.side (Some e.query)
 
 module _ {S : Type 0} (m : Moves S) (side : Side) (n : ℕ) (may : (s : S) → MayAsk side (m.asks s)) where
-  may_by : (i : ℕ) (s last : S) (events : List Event) → ((u : S) (others : List Event) → Runs m side n i u (course others last) → All May others)
-      → First m side n (suc i) s events last → All May events
-  may_by i s last events on (Over ee es) = subst (All May) (sym ee) (All-nil May)
-  may_by i s last events on (Silent i' ei low none runs) = on (m.next s None) events (subst (λ (x : ℕ). Runs m side n x (m.next s None) (course events last)) (omega arith) runs)
-  may_by i s last events on (Asking i' q a others ei low is ee runs) =
-      let here : MayAsk side (Some q) = subst (MayAsk side) is (may s) in
-      subst (All May) (sym ee)
-      (All-cons May (event (m.due s) side q a) others here (on (m.next s (Some a)) others (subst (λ (x : ℕ). Runs m side n x (m.next s (Some a)) (course others last)) (omega arith) runs)))
-
-  all_may : (i : ℕ) (s last : S) (events : List Event) → Runs m side n i s (course events last) → All May events
-  all_may zero s last events runs = subst (All May) (sym runs.0) (All-nil May)
-  all_may (suc i) s last events runs = may_by i s last events (λ u others on. all_may i u last others on) (first_of_runs m side n (suc i) s events last runs)
+  all_may : {last s : S} {events : List Event} → Steps m side n last s events → All May events
+  all_may Over = All-nil May
+  all_may (Silent low none on) = all_may on
+  all_may (Asking {s = s} {others = others} q a low is on) =
+      let here : MayAsk side (Some q) = subst (MayAsk side) is (may s) in All-cons May (event (m.due s) side q a) others here (all_may on)
 
 -- what holds of each side's events holds of all
 both_by : (P : Event → Type 0) (e : Event) (l : List Event) (side : Side)
@@ -99,8 +92,8 @@ reference_trace {S} {T} h p lh lp may_h may_p s t n =
     let f : IsFollowed h p s t n w = followed h p lh lp s t n in
     record {
       entries = all_entries w.list
-          (both_sides May w.list (all_may h Host n may_h f.host.steps s f.host.last (of_side Host w.list) f.host.runs)
-          (all_may p Para n may_p f.para.steps t f.para.last (of_side Para w.list) f.para.runs));
+          (both_sides May w.list (all_may h Host n may_h (steps_of h Host n f.host.steps f.host.runs))
+          (all_may p Para n may_p (steps_of p Para n f.para.steps f.para.runs)));
       rises = all_rise w.list f.legal.rises;
       answered = all_answered power_on w.list f.legal.answered;
       below = All-weaker (λ (x : Entry). IsTrue (before (x.tick).0 x.side n Host)) (λ (x : Entry). (x.tick).0 < n) (λ x on. below_end (x.tick).0 n x.side on) (accesses w.list)

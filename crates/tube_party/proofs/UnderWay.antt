@@ -4,8 +4,10 @@ use Rattle.tube_chip.specs.State.{State}
 use Rattle.tube_chip.specs.Events.{Event}
 use Rattle.tube_trace.specs.declared.Entry.{Entry}
 use Rattle.beeb_bits.specs.declared.Side.TheVariants.{Host, Para}
+use Rattle.tube_party.specs.declared.log.Log.{Log}
 use Rattle.tube_party.specs.declared.party.Ask.{Ask}
-use Rattle.tube_party.specs.Moves.{Moves, IsAsk}
+use Rattle.tube_party.specs.CodeAtWork.{AtWork}
+use Rattle.tube_party.specs.Moves.{Moves, IsLawful, IsAsk}
 use Rattle.tube_party.specs.Reference.{World, ticks}
 use Rattle.tube_party.specs.OneThread.{IsKept}
 use Rattle.tube_party.specs.Turn.{note_all_leaves}
@@ -13,18 +15,51 @@ use Rattle.tube_party.specs.GoingOn.{IsLike}
 use Rattle.tube_party.proofs.Ticks.{world}
 use Rattle.tube_party.proofs.Ways.{IsWay}
 
--- The reference, which began as w0, goes on from where the parties are, of which the host may have made looks that come later than the parasite's steps, and
--- accesses that come later than what the parasite saw ahead of it; and what was kept is what it has done. At most `few` accesses of a side were done when it began.
-pub record IsAt {S T : Type 0} (h : Moves S) (p : Moves T) (n few keep : ℕ) (w0 : World S T) (s : S) (t : T) (c : State) (ask_h : Ask) (hl pl : List Entry)
-    (hc pc : ℕ) : Type 0 where
+-- Two parties that go on to tick n, the world where the reference began, before which at most `few` accesses of a side were done, and how many are kept.
+pub record Run (S T : Type 0) : Type 0 where
+  pub h : Moves S
+  pub p : Moves T
+  pub lh : IsLawful h
+  pub lp : IsLawful p
+  pub n : ℕ
+  pub few : ℕ
+  pub keep : ℕ
+  pub w0 : World S T
+
+abbrev pub run_of : {S T : Type 0} {h : Moves S} {p : Moves T} → IsLawful h → IsLawful p → ℕ → ℕ → ℕ → World S T → Run S T
+run_of {h = h} {p = p} lh lp n few keep w0 = record { h = h; p = p; lh = lh; lp = lp; n = n; few = few; keep = keep; w0 = w0 }
+
+-- where the reference gets from there
+abbrev pub onward : {S T : Type 0} → Run S T → S → T → State → List Event → World S T
+onward r s t c l = ticks r.h r.p r.n 0 (world s t c l)
+
+-- a party, what is kept of its accesses, and how many there were
+pub record Part (S : Type 0) : Type 0 where
+  pub state : S
+  pub list : List Entry
+  pub count : ℕ
+
+abbrev pub part : {S : Type 0} → S → List Entry → ℕ → Part S
+part s list count = record { state = s; list = list; count = count }
+
+abbrev pub part_of : {S : Type 0} → S → Log → Part S
+part_of s log = part s log.list.items log.count
+
+-- it at work at a chip
+abbrev pub seated : {S : Type 0} → Part S → State → AtWork S
+seated a c = record { state = a.state; chip = c; list = a.list; count = a.count }
+
+-- The reference goes on from where the parties are, of which the host may have made looks that come later than the parasite's steps, and
+-- accesses that come later than what the parasite saw ahead of it; and what was kept is what it has done.
+pub record IsAt {S T : Type 0} (r : Run S T) (ask_h : Ask) (a : Part S) (b : Part T) (c : State) : Type 0 where
   pub host_last : S
   pub events : List Event
-  pub host_asked : IsAsk h n host_last ask_h s
-  pub same : IsLike (ticks h p n 0 w0) (ticks h p n 0 (world host_last t c events))
-  pub host_kept : IsKept Host events keep hl hc
-  pub para_kept : IsKept Para events keep pl pc
-  pub host_few : hc ≤ few + h.due host_last
-  pub para_few : pc ≤ few + p.due t
+  pub host_asked : IsAsk r.h r.n host_last ask_h a.state
+  pub same : IsLike (ticks r.h r.p r.n 0 r.w0) (onward r host_last b.state c events)
+  pub host_kept : IsKept Host events r.keep a.list a.count
+  pub para_kept : IsKept Para events r.keep b.list b.count
+  pub host_few : a.count ≤ r.few + r.h.due host_last
+  pub para_few : b.count ≤ r.few + r.p.due b.state
 
 -- where the parasite can be rolled back to: its state, and how far its log was written
 pub record Mark (T : Type 0) : Type 0 where
@@ -37,19 +72,15 @@ mark_of t len count = record { state = t; len = len; count = count }
 
 -- From there the parasite went on, as the chip shows itself to it, to where its step asks: past no event where it is not ahead, and else from where it can be
 -- rolled back to.
-pub record IsGoing {S T : Type 0} (h : Moves S) (p : Moves T) (n few keep : ℕ) (w0 : World S T) (ahead : Bool) (from : Mark T) (s : S) (t : T) (c : State)
-    (ask_h ask_p : Ask)
-    (hl pl : List Entry) (hc pc : ℕ) : Type 0 where
-  pub mark : T
+pub record IsGoing {S T : Type 0} (r : Run S T) (ahead : Bool) (from : Mark T) (ask_h ask_p : Ask) (a : Part S) (b : Part T) (c : State) : Type 0 where
+  pub mark : Part T
   pub last : T
-  pub list : List Entry
-  pub count : ℕ
   pub entries : List Entry
   pub far : ℕ
-  pub at : IsAt h p n few keep w0 s mark c ask_h hl list hc count
-  pub way : IsWay p n far c mark last entries
-  pub asked : IsAsk p n last ask_p t
-  pub list_is : pl ≡ note_all_leaves keep list entries
-  pub count_is : pc ≡ count + length entries
+  pub at : IsAt r ask_h a mark c
+  pub way : IsWay r.p r.n far c mark.state last entries
+  pub asked : IsAsk r.p r.n last ask_p b.state
+  pub list_is : b.list ≡ note_all_leaves r.keep mark.list entries
+  pub count_is : b.count ≡ mark.count + length entries
   pub here : ahead ≡ false → way.events ≡ []
-  pub back : ahead ≡ true → (mark ≡ from.state) × (length list ≡ from.len) × (count ≡ from.count)
+  pub back : ahead ≡ true → (mark.state ≡ from.state) × (length mark.list ≡ from.len) × (mark.count ≡ from.count)

@@ -17,14 +17,13 @@ use Rattle.tube_chip.specs.Events.{Event, of_side, is_side}
 use Rattle.tube_trace.specs.declared.Entry.{Entry}
 use Rattle.tube_trace.specs.Entries.{accesses, entry_of}
 use Rattle.tube_party.specs.Moves.{Moves, IsLawful, Runs, Looks, shown_lines, course}
-use Rattle.tube_party.specs.Steps.{After}
 use Rattle.tube_party.specs.Turn.{note_leaves, note_all_leaves}
 use Rattle.tube_party.specs.Logs.{accesses-append, at_most_one}
 use Rattle.tube_party.specs.OneThread.{IsKept}
 use Rattle.tube_chip.proofs.Rises.{status_leaves}
 use Rattle.tube_party.specs.CodePassing.{IsStatusRead, passed_entry}
 use Rattle.tube_party.proofs.Kept.{kept_more}
-use Rattle.tube_party.proofs.Runs.{event, First, Over, Silent, Asking, first_of_runs, runs_silent, runs_asking, runs_append}
+use Rattle.tube_party.proofs.Runs.{event, Steps, Over, Silent, Asking, steps_append, Glances, Here, Past, Seeing}
 
 -- what leaves the chip: a look, and a read of a status register
 abbrev pub IsGlance : Query → Type 0
@@ -46,9 +45,8 @@ IsBelow t e = e.tick < t
 
 -- Steps from t to last, below n, what they ask below `sure`, and these are their accesses.
 pub record IsWay {T : Type 0} (p : Moves T) (n sure : ℕ) (c : State) (t last : T) (entries : List Entry) : Type 0 where
-  pub steps : ℕ
   pub events : List Event
-  pub runs : Runs p Para n steps t (course events last)
+  pub runs : Steps p Para n last t events
   pub idle : All (IsIdle c) events
   pub early : All (IsBelow sure) events
   pub noted : accesses events ≡ entries
@@ -79,29 +77,15 @@ pub none_of : (xs : List Entry) → length xs ≡ 0 → xs ≡ []
 none_of [] e = refl
 none_of (x ∷ xs) e = absurd (omega arith)
 
-all_own : (events : List Event) → All (λ (e : Event). e.side ≡ Para) events → (of_side Para events ≡ events) × (of_side Host events ≡ [])
+pub all_own : (events : List Event) → All (λ (e : Event). e.side ≡ Para) events → (of_side Para events ≡ events) × (of_side Host events ≡ [])
 all_own [] each = (refl, refl)
 all_own (e ∷ events) each =
     let is : e.side ≡ Para = All-head (λ (e : Event). e.side ≡ Para) e events each in
-    let rest = all_own events (All-tail (λ (e : Event). e.side ≡ Para) e events each) in (
-      ap (λ (x : Side). if is_side Para x then e ∷ of_side Para events else of_side Para events) is ∙ ap (λ (l : List Event). e ∷ l) rest.0,
+    let rest = all_own events (All-tail (λ (e : Event). e.side ≡ Para) e events each) in
+    (
+      ap (λ (x : Side). if is_side Para x then e ∷ of_side Para events else of_side Para events) is ∙ ap (λ l. e ∷ l) rest.0,
       ap (λ (x : Side). if is_side Host x then e ∷ of_side Host events else of_side Host events) is ∙ rest.1,
     )
-
--- the parasite's events join a list
-pub kept_way : (l events : List Event) (keep : ℕ) (list : List Entry) (count : ℕ) → All (λ (e : Event). e.side ≡ Para) events → IsKept Para l keep list count
-    → IsKept Para (l ++ events) keep (note_all_leaves keep list (accesses events)) (count + length (accesses events))
-kept_way l events keep list count each k =
-    subst (λ (z : List Event). IsKept Para (l ++ events) keep (note_all_leaves keep list (accesses z)) (count + length (accesses z))) (all_own events each).0
-    (kept_more Para l events keep list count k)
-
-pub kept_beside : (l events : List Event) (keep : ℕ) (list : List Entry) (count : ℕ) → All (λ (e : Event). e.side ≡ Para) events → IsKept Host l keep list count
-    → IsKept Host (l ++ events) keep list count
-kept_beside l events keep list count each k =
-    let same : count + 0 ≡ count = omega arith in
-    subst (λ (z : ℕ). IsKept Host (l ++ events) keep list z) same
-    (subst (λ (z : List Event). IsKept Host (l ++ events) keep (note_all_leaves keep list (accesses z)) (count + length (accesses z))) (all_own events each).1
-    (kept_more Host l events keep list count k))
 
 -- ---- The chip may change where what it showed stays
 
@@ -133,98 +117,64 @@ module _ {T : Type 0} (p : Moves T) (lp : IsLawful p) (n : ℕ) where
     pub each : All (IsOn to) events
     pub few : length (accesses events) + from ≤ to
 
-  course_by : (i : ℕ) (s last : T) (events : List Event)
-      → ((u : T) (others : List Event) → Runs p Para n i u (course others last) → IsCourse (p.due u) (p.due last) others)
-      → First p Para n (suc i) s events last → IsCourse (p.due s) (p.due last) events
-  course_by i s last events on (Over ee es) =
-      subst (IsCourse (p.due s) (p.due last)) (sym ee) (record { each = All-nil (IsOn (p.due last)); few = omega (arith, ap p.due es) })
-  course_by i s last events on (Silent i' ei low none runs) =
-      let up : p.due s < p.due (p.next s None) = lp.rises s None in
-      let rest : IsCourse (p.due (p.next s None)) (p.due last) events =
-      on (p.next s None) events (subst (λ (x : ℕ). Runs p Para n x (p.next s None) (course events last)) (omega arith) runs) in
-      record { each = rest.each; few = omega (arith, rest.few) }
-  course_by i s last events on (Asking i' q a others ei low is ee runs) =
-      let up : p.due s < p.due (p.next s (Some a)) = lp.rises s (Some a) in
-      let rest : IsCourse (p.due (p.next s (Some a))) (p.due last) others =
-      on (p.next s (Some a)) others (subst (λ (x : ℕ). Runs p Para n x (p.next s (Some a)) (course others last)) (omega arith) runs) in
-      let one : length (entry_of (p.due s) Para q a) ≤ 1 = at_most_one (p.due s) Para q a in
-      let both : length (entry_of (p.due s) Para q a ++ accesses others) ≡ length (entry_of (p.due s) Para q a) + length (accesses others) =
-      length-append (entry_of (p.due s) Para q a) (accesses others) in
-      let e : Event = event (p.due s) Para q a in
-      subst (IsCourse (p.due s) (p.due last)) (sym ee)
-      (record { each = All-cons (IsOn (p.due last)) e others (refl, low, omega (arith, rest.few)) rest.each; few = omega (arith, rest.few) })
-
-  pub course_of : (k : ℕ) (s last : T) (events : List Event) → Runs p Para n k s (course events last) → IsCourse (p.due s) (p.due last) events
-  course_of zero s last events runs =
-      subst (IsCourse (p.due s) (p.due last)) (sym runs.0) (record { each = All-nil (IsOn (p.due last)); few = omega (arith, ap p.due runs.1) })
-  course_of (suc i) s last events runs = course_by i s last events (λ u others on. course_of i u last others on)
-      (first_of_runs p Para n (suc i) s events last runs)
+  pub course_of : {last t : T} {events : List Event} → Steps p Para n last t events → IsCourse (p.due t) (p.due last) events
+  course_of {last} Over = record { each = All-nil (IsOn (p.due last)); few = omega arith }
+  course_of (Silent {s = t} low none on) =
+      let up = lp.rises t None in
+      let rest = course_of on in
+      record { each = rest.each; few = omega arith }
+  course_of {last} (Asking {s = t} {others = others} q a low is on) =
+      let up = lp.rises t (Some a) in
+      let rest = course_of on in
+      let one = at_most_one (p.due t) Para q a in
+      let both = length-append (entry_of (p.due t) Para q a) (accesses others) in
+      record { each = All-cons (IsOn (p.due last)) _ others (refl, low, omega arith) rest.each; few = omega arith }
 
 -- ---- Ways
 
-module _ {T : Type 0} (p : Moves T) (n sure : ℕ) (c : State) where
+module _ {T : Type 0} {p : Moves T} {n sure : ℕ} {c : State} where
   -- no step
-  abbrev pub no_way : (t : T) → IsWay p n sure c t t []
-  no_way t = record { steps = 0; events = []; runs = (refl, refl); idle = All-nil (IsIdle c); early = All-nil (IsBelow sure); noted = refl }
+  abbrev pub no_way : {t : T} → IsWay p n sure c t t []
+  no_way = record { events = []; runs = Over; idle = All-nil (IsIdle c); early = All-nil (IsBelow sure); noted = refl }
 
   -- steps that ask nothing, and looks
-  looks_by : (k : ℕ) (s last : T) (o : Option Query) → p.asks s ≡ o → p.due s < n
-      → ((u : T) → Looks p n (shown_lines (lines_of c) sure) k u last → IsWay p n sure c u last [])
-      → After p n (lines_of c) sure k s last o → IsWay p n sure c s last []
-  looks_by k s last None is low on h =
-      let w : IsWay p n sure c (p.next s None) last [] = on (p.next s None) h in
+  pub way_of_looks : {last t : T} → Glances p n (shown_lines (lines_of c) sure) last t → IsWay p n sure c t last []
+  way_of_looks Here = no_way
+  way_of_looks (Past low none on) =
+      let w = way_of_looks on in
+      record { events = w.events; runs = Silent low none w.runs; idle = w.idle; early = w.early; noted = w.noted }
+  way_of_looks (Seeing {s = t} low is before on) =
+      let w = way_of_looks on in
+      let e : Event = event (p.due t) Para look (Seen (lines_of c)) in
       record {
-        steps = suc w.steps;
-        events = w.events;
-        runs = runs_silent p Para n w.steps s w.events last low is w.runs;
-        idle = w.idle;
-        early = w.early;
-        noted
-            = w.noted;
-      }
-  looks_by k s last (Some q) is low on h =
-      let a : Answer = Seen (lines_of c) in
-      let e : Event = event (p.due s) Para look a in
-      let w : IsWay p n sure c (p.next s (Some a)) last [] = on (p.next s (Some a)) h.2 in
-      record {
-        steps = suc w.steps;
         events = e ∷ w.events;
-        runs = runs_asking p Para n w.steps s look a w.events last low (is ∙ ap (λ (x : Query). Some x) h.0) w.runs;
+        runs = Asking look (Seen (lines_of c)) low is w.runs;
         idle = All-cons (IsIdle c) e w.events (tt, refl) w.idle;
-        early = All-cons (IsBelow sure) e w.events h.1 w.early;
+        early = All-cons (IsBelow sure) e w.events before w.early;
         noted = w.noted;
       }
 
-  pub way_of_looks : (k : ℕ) (s last : T) → Looks p n (shown_lines (lines_of c) sure) k s last → IsWay p n sure c s last []
-  way_of_looks zero s last h = subst (λ (x : T). IsWay p n sure c s x []) h (no_way s)
-  way_of_looks (suc k) s last h = looks_by k s last (p.asks s) refl h.0 (λ u on. way_of_looks k u last on) h.1
-
   -- an access in front
-  pub way_first : (s on last : T) (op : Op) (byte : ℕ) (entries : List Entry) → p.due s < n → p.asks s ≡ Some (access op) → on ≡ p.next s (Some (Byte byte))
-      → p.due s < sure
-      → IsStatusRead op → byte ≡ answer_of c Para op → IsWay p n sure c on last entries
-      → IsWay p n sure c s last (passed_entry Para (p.due s) op byte ∷ entries)
-  way_first s on last op byte entries low asks goes early reads is w =
-      let e : Event = event (p.due s) Para (access op) (Byte byte) in
+  pub way_first : {t on last : T} {op : Op} {byte : ℕ} {entries : List Entry} → p.due t < n → p.asks t ≡ Some (access op) → on ≡ p.next t (Some (Byte byte))
+      → p.due t < sure → IsStatusRead op → byte ≡ answer_of c Para op → IsWay p n sure c on last entries
+      → IsWay p n sure c t last (passed_entry Para (p.due t) op byte ∷ entries)
+  way_first {t} {op = op} {byte = byte} low asks goes early reads is w =
+      let e : Event = event (p.due t) Para (access op) (Byte byte) in
       record {
-        steps = suc w.steps;
         events = e ∷ w.events;
-        runs = runs_asking p Para n w.steps s (access op) (Byte byte) w.events last low asks
-            (subst (λ (x : T). Runs p Para n w.steps x (course w.events last)) goes w.runs);
-        idle = All-cons (IsIdle c) e w.events (reads, ap (λ (x : ℕ). Byte x) (sym is)) w.idle;
+        runs = Asking (access op) (Byte byte) low asks (rw goes at w.runs);
+        idle = All-cons (IsIdle c) e w.events (reads, ap (λ x. Byte x) (sym is)) w.idle;
         early = All-cons (IsBelow sure) e w.events early w.early;
-        noted = ap (λ (l : List Entry). passed_entry Para (p.due s) op byte ∷ l) w.noted;
+        noted = ap (λ l. passed_entry Para (p.due t) op byte ∷ l) w.noted;
       }
 
   -- a way behind another
-  pub way_on : (s mid last : T) (xs ys : List Entry) → IsWay p n sure c s mid xs → IsWay p n sure c mid last ys → IsWay p n sure c s last (xs ++ ys)
-  way_on s mid last xs ys a b =
-      let both = runs_append p Para n n (omega arith) mid last b.events a.steps s a.events a.runs (b.steps, b.runs) in
+  pub way_on : {t mid last : T} {xs ys : List Entry} → IsWay p n sure c t mid xs → IsWay p n sure c mid last ys → IsWay p n sure c t last (xs ++ ys)
+  way_on {ys = ys} a b =
       record {
-        steps = both.0;
         events = a.events ++ b.events;
-        runs = both.1;
+        runs = steps_append p Para n n (omega arith) a.runs b.runs;
         idle = All-append (IsIdle c) a.events b.events a.idle b.idle;
         early = All-append (IsBelow sure) a.events b.events a.early b.early;
-        noted = accesses-append a.events b.events ∙ ap (λ (l : List Entry). l ++ accesses b.events) a.noted ∙ ap (λ (l : List Entry). xs ++ l) b.noted;
+        noted = accesses-append a.events b.events ∙ cc;
       }

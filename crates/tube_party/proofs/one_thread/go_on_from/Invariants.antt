@@ -2,15 +2,15 @@ use Rattle.std.proofs.Common.{◌+◌, length}
 use Rattle.tube_party.specs.Turn.{ticks_left}
 use Rattle.tube_party.specs.GoingOn.{after_entries}
 use Rattle.tube_party.specs.CodePassing.{attended}
-use Rattle.tube_party.proofs.UnderWay.{mark_of}
+use Rattle.tube_party.proofs.UnderWay.{run_of, mark_of}
 use Rattle.tube_party.proofs.Both.{rest_of}
 use Rattle.tube_party.proofs.Passing.{IsKeptUp}
 use Rattle.tube_party.proofs.one_thread.go_on_from.Given as goal
 
 abbrev pub invariant-loop-side : goal.invariant-loop-side
 invariant-loop-side g l =
-    IsKeptUp g.H.Party.moves g.P.Party.moves g.met.H.Party.lawful g.met.P.Party.lawful l.n.0 (length l.entries) l.fn.room.keep
-    (after_entries (g.H.Party.state l.fn.host) (g.P.Party.state l.fn.para) l.entries) l.is_ahead
+    IsKeptUp (run_of g.met.H.Party.lawful g.met.P.Party.lawful l.n.0 (length l.entries) l.fn.room.keep
+    (after_entries (g.H.Party.state l.fn.host) (g.P.Party.state l.fn.para) l.entries)) l.is_ahead
     (mark_of (g.P.Party.state (g.P.Rewinds.before l.past l.para)) l.mark.len l.mark.count) (g.H.Party.state l.host) (g.P.Party.state l.para)
     l.host_ask l.para_ask l.lines (attended l.table)
 
