@@ -19,9 +19,8 @@ use Rattle.tube_party.proofs.Ticks.{seat}
 use Rattle.tube_party.proofs.ReplayLemmas.{low_true}
 use Rattle.tube_party.specs.Logs.{accesses-append}
 use Rattle.tube_party.proofs.Followed.{all_earlier}
-use Rattle.tube_party.proofs.Replayed.{below_end}
-use Rattle.tube_party.proofs.TraceLemmas.{placed}
-use Rattle.tube_party.proofs.Resumed.{ticks_then}
+use Rattle.tube_party.proofs.Replayed.{placed, all_below}
+use Rattle.tube_party.proofs.Resumed.{ticks_from}
 
 -- events that joined the end, none of them before tick k
 record Grown (k : ℕ) (l grown : List Event) : Type 0 where
@@ -82,16 +81,10 @@ below_none at (x ∷ xs) high =
 pub shorter_run : {S T : Type 0} (h : Moves S) (p : Moves T) → IsLawful h → IsLawful p → ShorterRunIsBeginning h p
 shorter_run {S} {T} h p lh lp s t at n le =
     let w : World S T = ticks h p at 0 (start s t) in
-    let sum : n ≡ at + (n - at) = omega arith in
-    let here : 0 + at ≡ at = omega arith in
-    let split : ticks h p n 0 (start s t) ≡ ticks h p (n - at) at w =
-    ap (λ (x : ℕ). ticks h p x 0 (start s t)) sum ∙ ticks_then h p at (n - at) 0 (start s t) ∙ ap (λ (x : ℕ). ticks h p (n - at) x w) here in
     let g : Grown at w.list (ticks h p (n - at) at w).list = ticks_grown h p (n - at) at w in
     let list : accesses (reference h p s t n).list ≡ accesses w.list ++ accesses g.more =
-    ap (λ (v : World S T). accesses v.list) split ∙ ap accesses g.is ∙ accesses-append w.list g.more in
-    let low : All (λ (e : Entry). (e.tick).0 < at) (accesses w.list) =
-    All-weaker (λ (x : Entry). IsTrue (before (x.tick).0 x.side at Host)) (λ (x : Entry). (x.tick).0 < at) (λ x on. below_end (x.tick).0 at x.side on) (accesses w.list)
-    (placed (λ k side. IsTrue (before k side at Host)) w.list (all_earlier h p lh lp s t at)) in
+    ap (λ (v : World S T). accesses v.list) (ticks_from h p at n le (start s t)) ∙ ap accesses g.is ∙ accesses-append w.list g.more in
+    let low = all_below at w.list (all_earlier h p lh lp s t at) in
     let high : All (λ (e : Entry). at ≤ (e.tick).0) (accesses g.more) = placed (λ k side. at ≤ k) g.more g.late in
     sym (
     ap (entries_below at) list

@@ -150,19 +150,18 @@ module _ {S T : Type 0} (h : Moves S) (p : Moves T) (lh : IsLawful h) (lp : IsLa
             let f : Form p Para k t c = form_of_step p Para k t c (nat_eq (p.due t) k) (p.asks t) refl refl in
             let b : Answer = Seen (lines_of f.chip) in
             let off_on : f.chip.flags.q ≡ false = still_off k t c (nat_eq (p.due t) k) (p.asks t) refl refl off in
-            let not_due : (h.due s ≡ k → ⊥) × (h.due onto ≡ k → ⊥) = (λ e. omega arith, λ e. omega arith) in
-            let on : (z : S) (m : List Event) → (h.due z ≡ k → ⊥)
+            let on : (z : S) (m : List Event) → k < h.due z
             → ticks h p (suc j) k (world z t c m) ≡ ticks h p j (k + 1) (world z f.state f.chip (m ++ f.more)) = λ z m ne.
             ap (λ (x : Seat S). ticks h p j (k + 1) (para_part p k x t)) (still h Host k (seat z c m) ne)
             ∙ ap (λ (y : Seat T). ticks h p j (k + 1) (with_host z y)) (f.is m) in
             let same : h.next s (Some b) ≡ onto = sees s (lines_of f.chip) (lines_of c) (none_asked f.chip off_on ∙ sym (none_asked c off)) in
-            like_on (alike (on s l not_due.0))
+            like_on (alike (on s l up))
             (like_on (look_at j (k + 1) s f.state f.chip (l ++ f.more) sees off_on (omega arith) (omega arith) asks)
             (like_on
             (alike (ap (λ (z : S). ticks h p j (k + 1) (world z f.state f.chip ((l ++ f.more) ++ event (h.due s) Host look b ∷ []))) same))
             (like_on (like_ticks j (k + 1) onto f.state f.chip ((l ++ f.more) ++ event (h.due s) Host look b ∷ [])
             ((l ++ event (h.due s) Host look a ∷ []) ++ f.more) (look_moved l f.more (h.due s) b a))
-            (alike (sym (on onto (l ++ event (h.due s) Host look a ∷ []) not_due.1))))))
+            (alike (sym (on onto (l ++ event (h.due s) Host look a ∷ []) (omega arith)))))))
       ]
 
   module _ (n : ℕ) where

@@ -68,8 +68,7 @@ module _ {S : Type 0} (m : Moves S) (lm : IsLawful m) (side : Side) (n : ℕ) (s
   part x runs due listed = elim (same_or_above (m.due x.state) k due) [
     | inl here ↦ subst (Parted x) (sym (now m side k x here)) (stepped_parts x (m.asks x.state) here refl runs listed)
     | inr up ↦
-        let ne : m.due x.state ≡ k → ⊥ = λ e. omega arith in
-        subst (Parted x) (sym (still m side k x ne)) (record { runs = runs; due = up; listed = listed_on k i side to x.chip x.list on listed; other = λ o no. refl })
+        subst (Parted x) (sym (still m side k x up)) (record { runs = runs; due = up; listed = listed_on k i side to x.chip x.list on listed; other = λ o no. refl })
   ]
 
 module _ {S T : Type 0} (h : Moves S) (p : Moves T) (lh : IsLawful h) (lp : IsLawful p) (s : S) (t : T) (n : ℕ) where

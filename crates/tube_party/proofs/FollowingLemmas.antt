@@ -165,12 +165,13 @@ module _ {S : Type 0} (m : Moves S) (lawful : IsLawful m) (side : Side) (trace :
     pub agrees : accesses events ≡ entries agreed
     pub ends : Ending last left e
 
-  comes_here : (s : S) (own : List Numbered) (e : Ended S) → Ending s own e → Comes s own e
-  comes_here s own e ends =
+  comes_here : {s : S} {own : List Numbered} {e : Ended S} → Ending s own e → Comes s own e
+  comes_here {s} {own} ends =
       record { events = []; last = s; runs = Over; answered = All-nil Told; agreed = []; left = own; own_is = refl; agrees = refl; ends = ends }
 
-  comes_none : (s : S) (own : List Numbered) (e : Ended S) → m.due s < n → m.asks s ≡ None → Comes (m.next s None) own e → Comes s own e
-  comes_none s own e low none c =
+  -- one step in front that asks nothing, or a look
+  comes_none : {s : S} {own : List Numbered} {e : Ended S} → m.due s < n → m.asks s ≡ None → Comes (m.next s None) own e → Comes s own e
+  comes_none low none c =
       record {
         events = c.events;
         last = c.last;
@@ -183,9 +184,9 @@ module _ {S : Type 0} (m : Moves S) (lawful : IsLawful m) (side : Side) (trace :
         ends = c.ends;
       }
 
-  comes_look : (s : S) (own : List Numbered) (e : Ended S) (a : Answer) → m.due s < n → m.asks s ≡ Some look → IsAnsweredBy trace (m.due s) side look a
+  comes_look : {s : S} {own : List Numbered} {e : Ended S} {a : Answer} → m.due s < n → m.asks s ≡ Some look → IsAnsweredBy trace (m.due s) side look a
       → Comes (m.next s (Some a)) own e → Comes s own e
-  comes_look s own e a low is told c =
+  comes_look {s} {a = a} low is told c =
       record {
         events = event (m.due s) side look a ∷ c.events;
         last = c.last;
@@ -198,14 +199,16 @@ module _ {S : Type 0} (m : Moves S) (lawful : IsLawful m) (side : Side) (trace :
         ends = c.ends;
       }
 
-  comes_access : (s : S) (x : Numbered) (own : List Numbered) (e : Ended S) (op : Op) → m.due s < n → m.asks s ≡ Some (access op) → is_that x.entry (m.due s) op ≡ true → x.entry.side ≡ side →
-      Comes (m.next s (Some (Byte x.entry.answer))) own e → Comes s (x ∷ own) e
-  comes_access s x own e op low is that of c =
+  -- an access, which is the side's next entry
+  comes_access : {s : S} {x : Numbered} {own : List Numbered} {e : Ended S} {op : Op} → m.due s < n → m.asks s ≡ Some (access op) → is_that x.entry (m.due s) op ≡ true
+      → x.entry.side ≡ side → Comes (m.next s (Some (Byte x.entry.answer))) own e → Comes s (x ∷ own) e
+  comes_access {s} {x} {op = op} low is that of c =
+      let done : Event = event (m.due s) side (access op) (Byte x.entry.answer) in
       record {
-        events = event (m.due s) side (access op) (Byte x.entry.answer) ∷ c.events;
+        events = done ∷ c.events;
         last = c.last;
         runs = Asking (access op) (Byte x.entry.answer) low is c.runs;
-        answered = All-cons Told (event (m.due s) side (access op) (Byte x.entry.answer)) c.events tt c.answered;
+        answered = All-cons Told done c.events tt c.answered;
         agreed = x ∷ c.agreed;
         left = c.left;
         own_is = ap (λ (l : List Numbered). x ∷ l) c.own_is;
@@ -222,31 +225,31 @@ module _ {S : Type 0} (m : Moves S) (lawful : IsLawful m) (side : Side) (trace :
       → e ≡ (if b then go (m.next s (Some (Byte x.entry.answer))) own else differs m side s op x.line)
       → Comes s (x ∷ own) e
   comes_test s x own e op go true is low asks of on same =
-      comes_access s x own e op low asks is of (on (m.next s (Some (Byte x.entry.answer))) same (lawful.rises s (Some (Byte x.entry.answer))))
-  comes_test s x own e op go false is low asks of on same = comes_here s (x ∷ own) e (Parts op x.line low asks (refl, is) same)
+      comes_access low asks is of (on (m.next s (Some (Byte x.entry.answer))) same (lawful.rises s (Some (Byte x.entry.answer))))
+  comes_test s x own e op go false is low asks of on same = comes_here (Parts op x.line low asks (refl, is) same)
 
   -- one step of the replay
   comes_step : (s : S) (own : List Numbered) (e : Ended S) (go : S → List Numbered → Ended S) (o : Option Query) → m.asks s ≡ o → m.due s < n → AreOf side own
       → ((u : S) (l : List Numbered) → AreOf side l → e ≡ go u l → m.due s < m.due u → Comes u l e)
       → e ≡ one_step m side trace s own o go
       → Comes s own e
-  comes_step s own e go None is low of on same = comes_none s own e low is (on (m.next s None) own of same (lawful.rises s None))
+  comes_step s own e go None is low of on same = comes_none low is (on (m.next s None) own of same (lawful.rises s None))
   comes_step s own e go (Some look) is low of on same =
       let a : Answer = Seen (lines_of (chip_before side (m.due s) power_on trace)) in
-      comes_look s own e a low is refl (on (m.next s (Some a)) own of same (lawful.rises s (Some a)))
-  comes_step s [] e go (Some (access op)) is low of on same = comes_here s [] e (Parts op (length trace + 1) low is refl same)
+      comes_look low is refl (on (m.next s (Some a)) own of same (lawful.rises s (Some a)))
+  comes_step s [] e go (Some (access op)) is low of on same = comes_here (Parts op (length trace + 1) low is refl same)
   comes_step s (x ∷ own) e go (Some (access op)) is low of on same =
       comes_test s x own e op go _ refl low is (All-head (λ (y : Numbered). y.entry.side ≡ side) x own of)
       (λ u. on u own (All-tail (λ (y : Numbered). y.entry.side ≡ side) x own of)) same
 
   comes : (k : ℕ) (s : S) (own : List Numbered) (e : Ended S) → n ≤ m.due s + k → AreOf side own → e ≡ replay_from m side trace n k s own → Comes s own e
-  comes zero s own e enough of same = comes_here s own e (Finishes (omega arith) same)
+  comes zero s own e enough of same = comes_here (Finishes (omega arith) same)
   comes (suc k) s own e enough of same = elim (cases_lt (m.due s) n) [
     | inl low ↦
         comes_step s own e (replay_from m side trace n k) (m.asks s) refl low of
         (λ u l of_l on up. comes k u l e (omega arith) of_l on)
         (same ∙ step_now m side trace n k s own low)
-    | inr over ↦ comes_here s own e (Finishes over (same ∙ at_end m side trace n (suc k) s own over))
+    | inr over ↦ comes_here (Finishes over (same ∙ at_end m side trace n (suc k) s own over))
   ]
 
   comes_all : (s : S) → Comes s (own_from side n 1 trace) (replay_of m side trace n s)

@@ -17,39 +17,19 @@ use Rattle.tube_trace.specs.Entries.{entry_of, accesses, event_of, events_of}
 use Rattle.tube_party.specs.Moves.{Moves, IsLawful}
 use Rattle.tube_party.specs.Replay.{chip_before}
 use Rattle.tube_party.specs.ReplayLaws.{own_below}
-use Rattle.tube_party.proofs.Runs.{event, Steps, Over, Silent, Asking}
+use Rattle.tube_party.proofs.Runs.{event, IsOf, Steps, Over, Silent, Asking}
 use Rattle.tube_party.proofs.ReplayLemmas.{low_true}
 use Rattle.tube_party.proofs.Listed.{before-then, before-not}
 use Rattle.tube_party.proofs.Followed.{side_self}
-use Rattle.tube_party.proofs.Replayed.{On, IsAnsweredOn, tail_by, all_after, rises_tail}
-use Rattle.tube_party.proofs.TraceLemmas.{placed}
+use Rattle.tube_party.proofs.Replayed.{own, On, tail_by, all_after, rises_tail}
+use Rattle.tube_party.proofs.Replayed.{placed}
 use Rattle.tube_party.proofs.Meet.{merge_first, merge_second}
-
--- the side's entries
-abbrev pub own : Side → List Entry → List Entry
-own side trace = filter (λ (x : Entry). is_side side x.side) trace
 
 own_first : (side : Side) (x : Entry) (trace : List Entry) → x.side ≡ side → own side (x ∷ trace) ≡ x ∷ own side trace
 own_first side x trace is = rw (ap (is_side side) is ∙ side_self side) refl
 
 own_other : (side : Side) (x : Entry) (trace : List Entry) → is_side side x.side ≡ false → own side (x ∷ trace) ≡ own side trace
 own_other side x trace is = rw is refl
-
-low_and : (b : Bool) (t n : ℕ) → t < n → (b && nat_lt t n) ≡ b
-low_and true t n low = low_true t n low
-low_and false t n low = refl
-
--- where all entries are below n, those of a side below n are those of the side
-pub own_all : (side : Side) (n : ℕ) (trace : List Entry) → All (λ (e : Entry). (e.tick).0 < n) trace → own_below side n trace ≡ own side trace
-own_all side n [] low = refl
-own_all side n (x ∷ trace) low =
-    by (is_side side x.side) refl (low_and (is_side side x.side) (x.tick).0 n (All-head (λ (e : Entry). (e.tick).0 < n) x trace low))
-    (own_all side n trace (All-tail (λ (e : Entry). (e.tick).0 < n) x trace low))
-  where
-    by : (b : Bool) → is_side side x.side ≡ b → (is_side side x.side && nat_lt (x.tick).0 n) ≡ is_side side x.side → own_below side n trace ≡ own side trace
-        → own_below side n (x ∷ trace) ≡ own side (x ∷ trace)
-    by true is same on = rw (same ∙ is, is) (ap (λ (l : List Entry). x ∷ l) on)
-    by false is same on = rw (same ∙ is, is) on
 
 pub accesses_events : (xs : List Entry) → accesses (events_of xs) ≡ xs
 accesses_events [] = refl
@@ -58,7 +38,7 @@ accesses_events (x ∷ xs) = ap (λ (l : List Entry). x ∷ l) (accesses_events 
 -- Events of one side, each before the next, whose accesses are the side's entries of a trace, and whose looks it answers, from chip c on.
 pub record IsPart (side : Side) (c : State) (trace : List Entry) (l : List Event) : Type 0 where
   pub rises : Rises l
-  pub each : All (λ (e : Event). e.side ≡ side) l
+  pub each : All (IsOf side) l
   pub own_is : accesses l ≡ own side trace
   pub told : All (On c trace) l
 
@@ -103,16 +83,6 @@ pub record IsJoined (c : State) (trace : List Entry) (l : List Event) : Type 0 w
 
 -- The first of the events of both sides, which is of side `one`.
 module _ (one other : Side) (apart : is_side one other ≡ false) (back : is_side other one ≡ false) (which : (x : Side) → (x ≡ one) ⊎ (x ≡ other)) where
-  -- what it leaves of the trace
-  record Left (c : State) (trace : List Entry) (x : Event) (l m : List Event) : Type 0 where
-    pub rest : List Entry
-    pub split : trace ≡ entry_of x.tick x.side x.query x.answer ++ rest
-    pub answer : (act c x.side x.query).1 ≡ x.answer
-    pub chip : after_from c (events_of trace) ≡ after_from (act c x.side x.query).0 (events_of rest)
-    pub one_part : IsPart one (act c x.side x.query).0 rest l
-    pub other_part : IsPart other (act c x.side x.query).0 rest m
-    pub legal : IsTold (act c x.side x.query).0 rest
-
   ahead_of_trace : (x : Event) (trace : List Entry) (l m : List Event) → accesses l ≡ own one trace → accesses m ≡ own other trace → All (IsBefore x) l → All (IsBefore x) m → IsAheadOf x trace
   ahead_of_trace x [] l m ol om al am = tt
   ahead_of_trace x (e ∷ trace) l m ol om al am = elim (which e.side) [
@@ -136,84 +106,74 @@ module _ (one other : Side) (apart : is_side one other ≡ false) (back : is_sid
           chip_before f.side f.tick c (entry_of t side (access op) (Byte b) ++ rest) ≡ chip_before f.side f.tick (act c side (access op)).0 rest
       does f first = rw first refl
 
+  -- what follows it joins the rest of a trace
+  abbrev Then : List Event → List Event → List Event → Type 0
+  Then l m others = (d : State) (rest : List Entry) → IsPart one d rest l → IsPart other d rest m → IsTold d rest → IsJoined d rest others
+
   -- it is an access, and the first entry is it
-  access_here : (c : State) (t : ℕ) (op : Op) (b : ℕ) (rest : List Entry) (l m : List Event) →
-      let x : Event = event t one (access op) (Byte b) in
-      let trace : List Entry = entry_of t one (access op) (Byte b) ++ rest in
-      All (IsBefore x) l → All (IsBefore x) m → Rises l → All (λ (e : Event). e.side ≡ one) l → accesses l ≡ own one rest → All (On c trace) l → IsPart other c trace m → IsTold c trace
-      → Left c trace x l m
-  access_here c t op b rest l m al am rises each own_is told part legal =
-      let x : Entry = record { tick = record { 0 = t }; side = one; op = op; answer = b } in
-      record {
-        rest = rest;
-        split = refl;
-        answer = legal.answered.0;
-        chip = refl;
-        one_part = record { rises = rises; each = each; own_is = own_is; told = tail_told c t one op b rest l al told };
-        other_part = record { rises = part.rises; each = part.each; own_is = part.own_is ∙ own_other other x rest back; told = tail_told c t one op b rest m am part.told };
-        legal = record { rises = rises_tail (event_of x) (events_of rest) legal.rises; answered = legal.answered.1 };
-      }
+  access_here : (c : State) (t : ℕ) (side : Side) (op : Op) (b : ℕ) (rest : List Entry) (l m others : List Event) →
+      let x : Event = event t side (access op) (Byte b) in
+      let trace : List Entry = entry_of t side (access op) (Byte b) ++ rest in
+      side ≡ one → IsPart one c trace (x ∷ l) → accesses l ≡ own one rest → IsPart other c trace m → All (IsBefore x) m → IsTold c trace → Then l m others
+      → IsJoined c trace (x ∷ others)
+  access_here c t side op b rest l m others is part own_is other_part am legal then =
+      let x : Event = event t side (access op) (Byte b) in
+      let first : Entry = record { tick = record { 0 = t }; side = side; op = op; answer = b } in
+      let on : IsJoined (act c side (access op)).0 rest others =
+      then (act c side (access op)).0 rest
+      (record {
+        rises = rises_tail x l part.rises;
+        each = All-tail (IsOf one) x l part.each;
+        own_is = own_is;
+        told = tail_told c t side op b rest l (all_after x l part.rises) (All-tail (On c (first ∷ rest)) x l part.told);
+      })
+      (record {
+        rises = other_part.rises;
+        each = other_part.each;
+        own_is = other_part.own_is ∙ own_other other first rest (ap (is_side other) is ∙ back);
+        told = tail_told c t side op b rest m am other_part.told;
+      })
+      (record { rises = rises_tail x (events_of rest) legal.rises; answered = legal.answered.1 }) in
+      record { answered = (legal.answered.0, on.answered); same = ap (λ y. first ∷ y) on.same; chip = on.chip }
 
-  access_by : (c : State) (t : ℕ) (op : Op) (b : ℕ) (trace : List Entry) (l m : List Event) →
-      let x : Event = event t one (access op) (Byte b) in
-      All (IsBefore x) l → All (IsBefore x) m → Rises l → All (λ (e : Event). e.side ≡ one) l → entry_of t one (access op) (Byte b) ++ accesses l ≡ own one trace → All (On c trace) l
-      → IsPart other c trace m → IsTold c trace → Left c trace x l m
-  access_by c t op b [] l m al am rises each own_is told part legal = cc
-  access_by c t op b (e ∷ rest) l m al am rises each own_is told part legal = elim (which e.side) [
-    | inl is ↦
-        let x : Entry = record { tick = record { 0 = t }; side = one; op = op; answer = b } in
-        let same : x ∷ accesses l ≡ e ∷ own one rest = own_is ∙ own_first one e rest is in
-        let head : x ≡ e = cc in
-        let tail : accesses l ≡ own one rest = cc in
-        subst (λ (y : Entry). All (On c (y ∷ rest)) l → IsPart other c (y ∷ rest) m → IsTold c (y ∷ rest) → Left c (y ∷ rest) (event t one (access op) (Byte b)) l m) head
-        (λ on other_on ok. access_here c t op b rest l m al am rises each tail on other_on ok) told part legal
-    | inr is ↦
-        let x : Entry = record { tick = record { 0 = t }; side = one; op = op; answer = b } in
-        let ahead : IsAhead (event_of x) e = head_holds (IsAhead (event_of x)) other e rest m is part.own_is (ahead_of_accesses (event_of x) m am) in
-        let apart_e : is_side one e.side ≡ false = ap (is_side one) is ∙ apart in
-        let same : x ∷ accesses l ≡ own one rest = own_is ∙ own_other one e rest apart_e in
-        let late : All (IsAhead (event_of e)) (own one rest) = All-filter (λ (y : Entry). is_side one y.side) (IsAhead (event_of e)) rest (behind_entry e rest legal.rises) in
-        absurd (not_both t (e.tick).0 one e.side ahead (All-head (IsAhead (event_of e)) x (accesses l) (subst (All (IsAhead (event_of e))) (sym same) late)))
-  ]
-
-  step_by : (c : State) (t : ℕ) (q : Query) (a : Answer) (trace : List Entry) (l m : List Event) →
-      let x : Event = event t one q a in
-      All (IsBefore x) l → All (IsBefore x) m → Rises l → All (λ (e : Event). e.side ≡ one) l → entry_of t one q a ++ accesses l ≡ own one trace → IsAnsweredOn c trace t one q a → All (On c trace) l →
-      IsPart other c trace m → IsTold c trace → Left c trace x l m
-  step_by c t look a trace l m al am rises each own_is here told part legal =
-      let still : chip_before one t c trace ≡ c = chip_stays (event t one look a) c trace (ahead_of_trace (event t one look a) trace l m own_is part.own_is al am) in
-      record {
-        rest = trace;
-        split = refl;
-        answer = sym (here ∙ ap (λ (d : State). Seen (lines_of d)) still);
-        chip = refl;
-        one_part = record { rises = rises; each = each; own_is = own_is; told = told };
-        other_part = part;
-        legal = legal;
-      }
-  step_by c t (access op) (Seen s) trace l m al am rises each own_is here told part legal = absurd here
-  step_by c t (access op) (Byte b) trace l m al am rises each own_is here told part legal = access_by c t op b trace l m al am rises each own_is told part legal
-
-  step : (c : State) (trace : List Entry) (x : Event) (l m : List Event) → IsPart one c trace (x ∷ l) → IsPart other c trace m → All (IsBefore x) m → IsTold c trace → Left c trace x l m
-  step c trace x l m part other_part am legal =
-      let is : x.side ≡ one = All-head (λ (e : Event). e.side ≡ one) x l part.each in
-      by x.side is x.tick x.query x.answer (all_after x l part.rises) am part.own_is (All-head (On c trace) x l part.told)
-    where
-      by : (side : Side) → side ≡ one → (t : ℕ) (q : Query) (a : Answer) → All (IsBefore (event t side q a)) l → All (IsBefore (event t side q a)) m →
-          entry_of t side q a ++ accesses l ≡ own one trace → IsAnsweredOn c trace t side q a → Left c trace (event t side q a) l m
-      by side is t q a =
-          subst (λ (s : Side). All (IsBefore (event t s q a)) l → All (IsBefore (event t s q a)) m → entry_of t s q a ++ accesses l ≡ own one trace → IsAnsweredOn c trace t s q a
-          → Left c trace (event t s q a) l m) (sym is)
-          (λ al am own_is here.
-          step_by c t q a trace l m al am (rises_tail x l part.rises) (All-tail (λ (e : Event). e.side ≡ one) x l part.each) own_is here (All-tail (On c trace) x l part.told) other_part legal)
-
-  joined_more : (c : State) (trace : List Entry) (x : Event) (l m others : List Event) (left : Left c trace x l m) → IsJoined (act c x.side x.query).0 left.rest others → IsJoined c trace (x ∷ others)
-  joined_more c trace x l m others left on =
-      record {
-        answered = (left.answer, on.answered);
-        same = ap (λ (y : List Entry). entry_of x.tick x.side x.query x.answer ++ y) on.same ∙ sym left.split;
-        chip = on.chip ∙ sym left.chip;
-      }
+  step : (c : State) (t : ℕ) (side : Side) (q : Query) (a : Answer) (trace : List Entry) (l m others : List Event) →
+      let x : Event = event t side q a in
+      IsPart one c trace (x ∷ l) → IsPart other c trace m → All (IsBefore x) m → IsTold c trace → Then l m others → IsJoined c trace (x ∷ others)
+  step c t side look a trace l m others part other_part am legal then =
+      let x : Event = event t side look a in
+      let still = chip_stays x c trace (ahead_of_trace x trace l m part.own_is other_part.own_is (all_after x l part.rises) am) in
+      let here : a ≡ Seen (lines_of (chip_before side t c trace)) = All-head (On c trace) x l part.told in
+      let on : IsJoined c trace others =
+      then c trace
+      (record {
+        rises = rises_tail x l part.rises;
+        each = All-tail (IsOf one) x l part.each;
+        own_is = part.own_is;
+        told = All-tail (On c trace) x l part.told;
+      })
+      other_part legal in
+      record { answered = (sym (here ∙ ap (λ (d : State). Seen (lines_of d)) still), on.answered); same = on.same; chip = on.chip }
+  step c t side (access op) (Seen s) trace l m others part other_part am legal then =
+      absurd (All-head (On c trace) (event t side (access op) (Seen s)) l part.told)
+  step c t side (access op) (Byte b) [] l m others part other_part am legal then = let no = part.own_is in cc
+  step c t side (access op) (Byte b) (e ∷ rest) l m others part other_part am legal then =
+      let x : Event = event t side (access op) (Byte b) in
+      let first : Entry = record { tick = record { 0 = t }; side = side; op = op; answer = b } in
+      let is : side ≡ one = All-head (IsOf one) x l part.each in
+      elim (which e.side) [
+        | inl here ↦
+            let same : first ∷ accesses l ≡ e ∷ own one rest = part.own_is ∙ own_first one e rest here in
+            let head : first ≡ e = cc in
+            let tail : accesses l ≡ own one rest = cc in
+            subst (λ y. IsPart one c (y ∷ rest) (x ∷ l) → IsPart other c (y ∷ rest) m → IsTold c (y ∷ rest) → IsJoined c (y ∷ rest) (x ∷ others)) head
+            (λ p o ok. access_here c t side op b rest l m others is p tail o am ok then) part other_part legal
+        | inr there ↦
+            let ahead : IsAhead x e = head_holds (IsAhead x) other e rest m there other_part.own_is (ahead_of_accesses x m am) in
+            let same : first ∷ accesses l ≡ own one rest = part.own_is ∙ own_other one e rest (ap (is_side one) there ∙ apart) in
+            let late : All (IsAhead (event_of e)) (own one rest) =
+            All-filter (λ (y : Entry). is_side one y.side) (IsAhead (event_of e)) rest (behind_entry e rest legal.rises) in
+            absurd (not_both t (e.tick).0 side e.side ahead (All-head (IsAhead (event_of e)) first (accesses l) (subst (All (IsAhead (event_of e))) (sym same) late)))
+      ]
 
 host_or_para : (x : Side) → (x ≡ Host) ⊎ (x ≡ Para)
 host_or_para Host = inl refl
@@ -252,20 +212,14 @@ Joins bound =
 
 -- the host's event comes first
 host_joins : (bound : ℕ) → Joins bound → (c : State) (trace : List Entry) (x : Event) (a b : List Event) → length a + length b < bound → IsPart Host c trace (x ∷ a)
-    → IsPart Para c trace b → All (IsBefore x) b → IsTold c trace →
-    IsJoined c trace (x ∷ merge a b)
+    → IsPart Para c trace b → All (IsBefore x) b → IsTold c trace → IsJoined c trace (x ∷ merge a b)
 host_joins bound joins c trace x a b low part other am legal =
-    let left : Left Host Para refl refl host_or_para c trace x a b = step Host Para refl refl host_or_para c trace x a b part other am legal in
-    joined_more Host Para refl refl host_or_para c trace x a b (merge a b) left
-    (joins (act c x.side x.query).0 left.rest a b low left.one_part left.other_part left.legal)
+    step Host Para refl refl host_or_para c x.tick x.side x.query x.answer trace a b (merge a b) part other am legal (λ d rest p q ok. joins d rest a b low p q ok)
 
 para_joins : (bound : ℕ) → Joins bound → (c : State) (trace : List Entry) (y : Event) (a b : List Event) → length a + length b < bound → IsPart Host c trace a
-    → IsPart Para c trace (y ∷ b) → All (IsBefore y) a → IsTold c trace →
-    IsJoined c trace (y ∷ merge a b)
+    → IsPart Para c trace (y ∷ b) → All (IsBefore y) a → IsTold c trace → IsJoined c trace (y ∷ merge a b)
 para_joins bound joins c trace y a b low other part am legal =
-    let left : Left Para Host refl refl para_or_host c trace y b a = step Para Host refl refl para_or_host c trace y b a part other am legal in
-    joined_more Para Host refl refl para_or_host c trace y b a (merge a b) left
-    (joins (act c y.side y.query).0 left.rest a b low left.other_part left.one_part left.legal)
+    step Para Host refl refl para_or_host c y.tick y.side y.query y.answer trace b a (merge a b) part other am legal (λ d rest p q ok. joins d rest a b low q p ok)
 
 joins_by : (bound : ℕ) → Joins bound → Joins (suc bound)
 joins_by bound joins c trace [] [] low host para legal =
@@ -274,8 +228,8 @@ joins_by bound joins c trace [] [] low host para legal =
 joins_by bound joins c trace (x ∷ a) [] low host para legal = host_joins bound joins c trace x a [] (omega arith) host para (All-nil (IsBefore x)) legal
 joins_by bound joins c trace [] (y ∷ b) low host para legal = para_joins bound joins c trace y [] b (omega arith) host para (All-nil (IsBefore y)) legal
 joins_by bound joins c trace (x ∷ a) (y ∷ b) low host para legal =
-    let at_host : x.side ≡ Host = All-head (λ (e : Event). e.side ≡ Host) x a host.each in
-    let at_para : y.side ≡ Para = All-head (λ (e : Event). e.side ≡ Para) y b para.each in
+    let at_host : x.side ≡ Host = All-head (IsOf Host) x a host.each in
+    let at_para : y.side ≡ Para = All-head (IsOf Para) y b para.each in
     elim (by_tick x.tick y.tick) [
       | inl le ↦
           let first : IsBefore x y = host_ahead x.tick y.tick x.side y.side at_host at_para le in
@@ -295,7 +249,7 @@ joined c trace a b = joins_all (suc (length a + length b)) c trace a b (omega ar
 -- The events of a run are its side's, and each comes before the next.
 pub record IsLine (side : Side) (t : ℕ) (l : List Event) : Type 0 where
   pub rises : Rises l
-  pub each : All (λ (e : Event). e.side ≡ side) l
+  pub each : All (IsOf side) l
   pub from : All (λ (e : Event). t ≤ e.tick) l
 
 rises_from : (t u : ℕ) (side : Side) (q : Query) (a : Answer) (l : List Event) → t < u → All (λ (e : Event). u ≤ e.tick) l → Rises l → RisesAfter (event t side q a) l
@@ -309,7 +263,7 @@ line_on side t u l le x = record { rises = x.rises; each = x.each; from = All-we
 
 module _ {S : Type 0} (m : Moves S) (lawful : IsLawful m) (side : Side) (n : ℕ) where
   pub line_of_runs : {last s : S} {events : List Event} → Steps m side n last s events → IsLine side (m.due s) events
-  line_of_runs {last} Over = record { rises = tt; each = All-nil (λ (e : Event). e.side ≡ side); from = All-nil (λ (e : Event). m.due last ≤ e.tick) }
+  line_of_runs {last} Over = record { rises = tt; each = All-nil (IsOf side); from = All-nil (λ (e : Event). m.due last ≤ e.tick) }
   line_of_runs (Silent {s = s} {events = events} low none on) =
       let up = lawful.rises s None in line_on side (m.due s) (m.due (m.next s None)) events (omega arith) (line_of_runs on)
   line_of_runs (Asking {s = s} {others = others} q a low is on) =
@@ -319,6 +273,6 @@ module _ {S : Type 0} (m : Moves S) (lawful : IsLawful m) (side : Side) (n : ℕ
       let e : Event = event (m.due s) side q a in
       record {
         rises = rises_from (m.due s) (m.due (m.next s (Some a))) side q a others up more.from more.rises;
-        each = All-cons (λ (x : Event). x.side ≡ side) e others refl line.each;
+        each = All-cons (IsOf side) e others refl line.each;
         from = All-cons (λ (x : Event). m.due s ≤ x.tick) e others (let d : ℕ = m.due s in omega arith) line.from;
       }

@@ -215,6 +215,10 @@ module _ {S T : Type 0} (r : Run S T) where
 module _ {S T : Type 0} {r : Run S T} where
   open r use {h, p, lp, n, keep}
 
+  over_on : {left more : ℕ} {ahead : Bool} {from : Mark T} {s : S} {t : T} {ask_h ask_p : Ask} {lines : Lines} {e : Attended} → left ≤ more
+      → IsOver r left ahead from s t ask_h ask_p lines e → IsOver r more ahead from s t ask_h ask_p lines e
+  over_on le x = record { kept = x.kept; smaller = omega (arith, x.smaller) }
+
   -- ---- The host's turn
 
   host_passes : {until sure : ℕ} {ahead : Bool} {from : Mark T} {s3 last : S} {t : T} {lines : Lines} {ask_p ask2 : Ask} {log : Log}
@@ -239,22 +243,20 @@ module _ {S T : Type 0} {r : Run S T} where
         };
         smaller = omega arith;
       }
-  host_passes {until} {sure} {ahead} {from} {s3} {t = t} {lines} {ask_p} {ask2} {log} {e} {d = d} w first acts none
-      stays told seen x asked (Next {at = at} {f = f} looks answered talks) =
+  host_passes {until} {sure} {ask_p = ask_p} {log = log} {d = d} w first acts none stays told seen x asked (Next {at = at} {f = f} looks answered talks) =
       let passed = answered.answered in
       let tick : Tick = record { 0 = h.due at } in
       let ask : Ask = Access tick answered.op in
       let here : IsAsk h n at ask at = (refl, answered.below, answered.asks, refl) in
       let sees = rw x.lines_is at looks in
       let less = host_smaller ask at w first acts sees here in
-      let over : IsOver r (ticks_left n ask + rest_of p n ahead from.state ask_p) ahead from s3 t ask2 ask_p lines e =
-      host_passes {log = log} (host_goes ask at w first acts sees here d.is_read none stays seen)
-          (still_first tick until answered.op ask_p (omega (arith, passed.early, x.until_is)) told)
-          (passed_act Host x.turn x.host_keep answered)
-          (λ is. none (sym passed.is_read_is ∙ is))
-          (λ _. rw (passed.is_read_is, passed.chip_is) passed.stays)
-          told (still_seen h sure ask_p passed seen) (still_sides x passed) asked talks in
-      record { kept = over.kept; smaller = omega (arith, over.smaller, less) }
+      over_on (omega (arith, less))
+      (host_passes {log = log} (host_goes ask at w first acts sees here d.is_read none stays seen)
+      (still_first tick until answered.op ask_p (omega (arith, passed.early, x.until_is)) told)
+      (passed_act Host x.turn x.host_keep answered)
+      (λ is. none (sym passed.is_read_is ∙ is))
+      (λ _. rw (passed.is_read_is, passed.chip_is) passed.stays)
+      told (still_seen h sure ask_p passed seen) (still_sides x passed) asked talks)
 
   pub host_turn : {until seen : Tick} {ahead : Bool} {from : Mark T} {s s2 s3 : S} {t : T} {lines lines2 : Lines} {ask_h ask_p ask2 : Ask} {d0 d e : Attended}
       → IsKeptUp r ahead from s t ask_h ask_p lines d0

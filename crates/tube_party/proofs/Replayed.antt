@@ -1,6 +1,6 @@
 -- The replay of the reference run's own list.
 use Rattle.std.proofs.Common.{ℕ, ◌≡◌, ◌<◌, refl, sym, ◌∙◌, ap, subst, arith, Bool, true, false, ◌&&◌, nat_lt, if◌then◌else◌, List, [], ◌∷◌, ◌++◌}
-use Rattle.std.specs.Prelude.{All, IsTrue}
+use Rattle.std.specs.Prelude.{All, IsTrue, filter}
 use Rattle.std.proofs.lemmas.List.Elements.{All-nil, All-cons, All-head, All-tail, All-weaker, filter-append}
 use Rattle.std.proofs.lemmas.Bool.Decides.{nat_tests}
 use Rattle.beeb_bits.specs.Order.{before}
@@ -22,36 +22,69 @@ use Rattle.tube_party.proofs.FollowingLemmas.{replay_following}
 use Rattle.tube_party.proofs.Listed.{IsEarlier, before-then, before-not}
 use Rattle.tube_party.proofs.Followed.{followed, all_earlier}
 
--- the accesses of a side are its entries
+-- what holds of the events' ticks and sides holds of their entries'
+placed_by : (P : ℕ → Side → Type 0) (t : ℕ) (side : Side) (q : Query) (a : Answer) (xs : List Entry) → P t side → All (λ (x : Entry). P (x.tick).0 x.side) xs
+    → All (λ (x : Entry). P (x.tick).0 x.side) (entry_of t side q a ++ xs)
+placed_by P t side (access op) (Byte b) xs h on = All-cons (λ (x : Entry). P (x.tick).0 x.side) _ xs h on
+placed_by P t side (access op) (Seen l) xs h on = on
+placed_by P t side look a xs h on = on
 
-own_below-append : (side : Side) (n : ℕ) (xs ys : List Entry) → own_below side n (xs ++ ys) ≡ own_below side n xs ++ own_below side n ys
-own_below-append side n xs ys = filter-append (λ (x : Entry). is_side side x.side && nat_lt (x.tick).0 n) xs ys
+pub placed : (P : ℕ → Side → Type 0) (l : List Event) → All (λ (e : Event). P e.tick e.side) l → All (λ (x : Entry). P (x.tick).0 x.side) (accesses l)
+placed P [] h = All-nil (λ (x : Entry). P (x.tick).0 x.side)
+placed P (e ∷ l) h =
+    placed_by P e.tick e.side e.query e.answer (accesses l) (All-head (λ (f : Event). P f.tick f.side) e l h) (placed P l (All-tail (λ (f : Event). P f.tick f.side) e l h))
 
-own_entry : (side : Side) (n t : ℕ) (of : Side) (q : Query) (a : Answer) (b : Bool) → is_side side of ≡ b → t < n → own_below side n (entry_of t of q a) ≡ (if b then entry_of t of q a else [])
-own_entry side n t of (access op) (Byte x) true is low = rw (is, low_true t n low) refl
-own_entry side n t of (access op) (Byte x) false is low = rw is refl
-own_entry side n t of (access op) (Seen l) true is low = refl
-own_entry side n t of (access op) (Seen l) false is low = refl
-own_entry side n t of look a true is low = refl
-own_entry side n t of look a false is low = refl
-
-pub below_end : (t n : ℕ) (side : Side) → IsTrue (before t side n Host) → t < n
+below_end : (t n : ℕ) (side : Side) → IsTrue (before t side n Host) → t < n
 below_end t n Host h = grind (arith, nat_tests)
 below_end t n Para h = grind (arith, nat_tests)
 
-own_by : (side : Side) (e : Event) (l : List Event) (b : Bool) → accesses
-    (if b then e ∷ of_side side l else of_side side l) ≡ (if b then entry_of e.tick e.side e.query e.answer else []) ++ accesses (of_side side l)
-own_by side e l true = refl
-own_by side e l false = refl
+-- all entries are below the end
+pub all_below : (n : ℕ) (l : List Event) → All (IsEarlier n Host) l → All (λ (x : Entry). (x.tick).0 < n) (accesses l)
+all_below n l h =
+    All-weaker (λ (x : Entry). IsTrue (before (x.tick).0 x.side n Host)) (λ (x : Entry). (x.tick).0 < n) (λ x on. below_end (x.tick).0 n x.side on) (accesses l)
+    (placed (λ k side. IsTrue (before k side n Host)) l h)
 
-own_accesses : (side : Side) (n : ℕ) (l : List Event) → All (IsEarlier n Host) l → accesses (of_side side l) ≡ own_below side n (accesses l)
-own_accesses side n [] h = refl
-own_accesses side n (e ∷ l) h =
-    let low : e.tick < n = below_end e.tick n e.side (All-head (IsEarlier n Host) e l h) in
-    own_by side e l (is_side side e.side)
-    ∙ ap (λ (x : List Entry). (if is_side side e.side then entry_of e.tick e.side e.query e.answer else []) ++ x) (own_accesses side n l (All-tail (IsEarlier n Host) e l h))
-    ∙ ap (λ (x : List Entry). x ++ own_below side n (accesses l)) (sym (own_entry side n e.tick e.side e.query e.answer (is_side side e.side) refl low))
-    ∙ sym (own_below-append side n (entry_of e.tick e.side e.query e.answer) (accesses l))
+-- the side's entries
+abbrev pub own : Side → List Entry → List Entry
+own side trace = filter (λ (x : Entry). is_side side x.side) trace
+
+low_and : (b : Bool) (t n : ℕ) → t < n → (b && nat_lt t n) ≡ b
+low_and true t n low = low_true t n low
+low_and false t n low = refl
+
+-- where all entries are below n, those of a side below n are those of the side
+pub own_all : (side : Side) (n : ℕ) (trace : List Entry) → All (λ (e : Entry). (e.tick).0 < n) trace → own_below side n trace ≡ own side trace
+own_all side n [] low = refl
+own_all side n (x ∷ trace) low =
+    by (is_side side x.side) refl (low_and (is_side side x.side) (x.tick).0 n (All-head (λ (e : Entry). (e.tick).0 < n) x trace low))
+    (own_all side n trace (All-tail (λ (e : Entry). (e.tick).0 < n) x trace low))
+  where
+    by : (b : Bool) → is_side side x.side ≡ b → (is_side side x.side && nat_lt (x.tick).0 n) ≡ is_side side x.side → own_below side n trace ≡ own side trace
+        → own_below side n (x ∷ trace) ≡ own side (x ∷ trace)
+    by true is same on = rw (same ∙ is, is) (ap (λ (l : List Entry). x ∷ l) on)
+    by false is same on = rw (same ∙ is, is) on
+
+-- the accesses of a side are the side's entries
+own_by : (side : Side) (t : ℕ) (of : Side) (q : Query) (a : Answer) (b : Bool) → is_side side of ≡ b → own side (entry_of t of q a) ≡ (if b then entry_of t of q a else [])
+own_by side t of (access op) (Byte x) true is = rw is refl
+own_by side t of (access op) (Byte x) false is = rw is refl
+own_by side t of (access op) (Seen l) true is = refl
+own_by side t of (access op) (Seen l) false is = refl
+own_by side t of look a true is = refl
+own_by side t of look a false is = refl
+
+event_by : (side : Side) (e : Event) (l : List Event) (b : Bool) → accesses
+    (if b then e ∷ of_side side l else of_side side l) ≡ (if b then entry_of e.tick e.side e.query e.answer else []) ++ accesses (of_side side l)
+event_by side e l true = refl
+event_by side e l false = refl
+
+pub own_of_accesses : (side : Side) (l : List Event) → accesses (of_side side l) ≡ own side (accesses l)
+own_of_accesses side [] = refl
+own_of_accesses side (e ∷ l) =
+    event_by side e l (is_side side e.side)
+    ∙ ap (λ (x : List Entry). (if is_side side e.side then entry_of e.tick e.side e.query e.answer else []) ++ x) (own_of_accesses side l)
+    ∙ ap (λ (x : List Entry). x ++ own side (accesses l)) (sym (own_by side e.tick e.side e.query e.answer (is_side side e.side) refl))
+    ∙ sym (filter-append (λ (x : Entry). is_side side x.side) (entry_of e.tick e.side e.query e.answer) (accesses l))
 
 -- what its looks see
 
@@ -130,7 +163,7 @@ follows_own m side n s ended l legal earlier follows =
     record {
       events = of_side side l;
       follows = follows;
-      own = own_accesses side n l earlier;
+      own = own_of_accesses side l ∙ sym (own_all side n (accesses l) (all_below n l earlier));
       answered = All-of_side (λ (e : Event). IsAnsweredBy (accesses l) e.tick e.side e.query e.answer) side l
           (All-weaker (On power_on (accesses l)) (λ (e : Event). IsAnsweredBy (accesses l) e.tick e.side e.query e.answer)
           (λ e h. at_power_on (accesses l) e.tick e.side e.query e.answer h) l (looks power_on l legal.rises legal.answered));

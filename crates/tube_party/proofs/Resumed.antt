@@ -20,9 +20,9 @@ use Rattle.tube_party.proofs.Ticks.{seat, world, rest}
 use Rattle.tube_party.proofs.Meet.{meets}
 use Rattle.tube_party.proofs.FollowingLemmas.{replay_following}
 use Rattle.tube_party.proofs.Followed.{SoFar, so_far}
-use Rattle.tube_party.proofs.Replayed.{On, IsAnsweredOn}
+use Rattle.tube_party.proofs.Replayed.{own, own_all, own_of_accesses, On, IsAnsweredOn}
 use Rattle.tube_party.proofs.Early.{SameAccesses, same_after, alike, like_on}
-use Rattle.tube_party.proofs.Joined.{own, own_all, accesses_events, IsPart, IsJoined, IsLine, joined, line_of_runs}
+use Rattle.tube_party.proofs.Joined.{accesses_events, IsPart, IsJoined, IsLine, joined, line_of_runs}
 
 -- ---- States that go on alike
 
@@ -79,11 +79,11 @@ module _ {S T : Type 0} (h : Moves S) (p : Moves T) where
 
   tick_alike : (n k : ℕ) (w v : World S T) → IsAlike n w v → IsAlike n (tick h p k w) (tick h p k v)
   tick_alike n k w v same =
-      let x : IsSeatAlike h n (step_if_due h Host k (seat w.host w.chip w.list)) (step_if_due h Host k (seat v.host v.chip v.list)) =
+      let x =
       step_alike h n Host k (seat w.host w.chip w.list) (seat v.host v.chip v.list) (record { state = same.host; chip = same.chip; listed = same.listed }) in
       let a : Seat S = step_if_due h Host k (seat w.host w.chip w.list) in
       let b : Seat S = step_if_due h Host k (seat v.host v.chip v.list) in
-      let y : IsSeatAlike p n (step_if_due p Para k (seat w.para a.chip a.list)) (step_if_due p Para k (seat v.para b.chip b.list)) =
+      let y =
       step_alike p n Para k (seat w.para a.chip a.list) (seat v.para b.chip b.list) (record { state = same.para; chip = x.chip; listed = x.listed }) in
       record { host = x.state; para = y.state; chip = y.chip; listed = y.listed }
 
@@ -92,17 +92,23 @@ module _ {S T : Type 0} (h : Moves S) (p : Moves T) where
   ticks_alike n (suc j) k w v same = ticks_alike n j (k + 1) (tick h p k w) (tick h p k v) (tick_alike n k w v same)
 
   -- so many ticks, and then so many more
-  pub ticks_then : (i j k : ℕ) (w : World S T) → ticks h p (i + j) k w ≡ ticks h p j (k + i) (ticks h p i k w)
+  ticks_then : (i j k : ℕ) (w : World S T) → ticks h p (i + j) k w ≡ ticks h p j (k + i) (ticks h p i k w)
   ticks_then zero j k w =
       let none : 0 + j ≡ j = omega arith in
       let here : k ≡ k + 0 = omega arith in
       ap (λ (x : ℕ). ticks h p x k w) none ∙ ap (λ (x : ℕ). ticks h p j x w) here
   ticks_then (suc i) j k w =
       let more : suc i + j ≡ suc (i + j) = omega arith in
-      let one : ticks h p (suc i + j) k w ≡ ticks h p (suc (i + j)) k w = ap (λ (x : ℕ). ticks h p x k w) more in
       let at : (k + 1) + i ≡ k + suc i = omega arith in
-      let on : ticks h p (i + j) (k + 1) (tick h p k w) ≡ ticks h p j ((k + 1) + i) (ticks h p i (k + 1) (tick h p k w)) = ticks_then i j (k + 1) (tick h p k w) in
-      one ∙ on ∙ ap (λ (x : ℕ). ticks h p j x (ticks h p i (k + 1) (tick h p k w))) at
+      ap (λ (x : ℕ). ticks h p x k w) more ∙ ticks_then i j (k + 1) (tick h p k w)
+      ∙ ap (λ (x : ℕ). ticks h p j x (ticks h p i (k + 1) (tick h p k w))) at
+
+  -- those below a tick, and then the others
+  pub ticks_from : (at n : ℕ) → at ≤ n → (w : World S T) → ticks h p n 0 w ≡ ticks h p (n - at) at (ticks h p at 0 w)
+  ticks_from at n le w =
+      let sum : n ≡ at + (n - at) = omega arith in
+      let here : 0 + at ≡ at = omega arith in
+      ap (λ (x : ℕ). ticks h p x 0 w) sum ∙ ticks_then at (n - at) 0 w ∙ ap (λ (x : ℕ). ticks h p (n - at) x (ticks h p at 0 w)) here
 
 -- ---- Both parties brought back
 
@@ -121,28 +127,6 @@ part_of m lawful side trace at s u legal f =
       own_is = f.own ∙ own_all side at trace legal.below;
       told = All-weaker (λ (e : Event). IsAnsweredBy trace e.tick e.side e.query e.answer) (On power_on trace) (λ e h. from_power_on trace e.tick e.side e.query e.answer h) f.events f.answered;
     }
-
--- the accesses of a side are the side's entries
-own_by : (side : Side) (t : ℕ) (of : Side) (q : Query) (a : Answer) (b : Bool) → is_side side of ≡ b → own side (entry_of t of q a) ≡ (if b then entry_of t of q a else [])
-own_by side t of (access op) (Byte x) true is = rw is refl
-own_by side t of (access op) (Byte x) false is = rw is refl
-own_by side t of (access op) (Seen l) true is = refl
-own_by side t of (access op) (Seen l) false is = refl
-own_by side t of look a true is = refl
-own_by side t of look a false is = refl
-
-side_by : (side : Side) (e : Event) (l : List Event) (b : Bool) → accesses
-    (if b then e ∷ of_side side l else of_side side l) ≡ (if b then entry_of e.tick e.side e.query e.answer else []) ++ accesses (of_side side l)
-side_by side e l true = refl
-side_by side e l false = refl
-
-own_of_accesses : (side : Side) (l : List Event) → accesses (of_side side l) ≡ own side (accesses l)
-own_of_accesses side [] = refl
-own_of_accesses side (e ∷ l) =
-    side_by side e l (is_side side e.side)
-    ∙ ap (λ (x : List Entry). (if is_side side e.side then entry_of e.tick e.side e.query e.answer else []) ++ x) (own_of_accesses side l)
-    ∙ ap (λ (x : List Entry). x ++ own side (accesses l)) (sym (own_by side e.tick e.side e.query e.answer (is_side side e.side) refl))
-    ∙ sym (filter-append (λ (x : Entry). is_side side x.side) (entry_of e.tick e.side e.query e.answer) (accesses l))
 
 same_by_accesses : (l : List Event) (trace : List Entry) → accesses l ≡ trace → SameAccesses l (events_of trace)
 same_by_accesses l trace same side =
@@ -195,13 +179,9 @@ module _ {S T : Type 0} (h : Moves S) (p : Moves T) (lh : IsLawful h) (lp : IsLa
   -- ticks from the start are ticks from there
   from_there : (n : ℕ) → at ≤ n → ticks h p n 0 (start s t) ≡ ticks h p n 0 stopped
   from_there n le =
-      let sum : n ≡ at + (n - at) = omega arith in
-      let here : 0 + at ≡ at = omega arith in
-      let split : (w : World S T) → ticks h p n 0 w ≡ ticks h p (n - at) at (ticks h p at 0 w) =
-      λ w. ap (λ (x : ℕ). ticks h p x 0 w) sum ∙ ticks_then h p at (n - at) 0 w ∙ ap (λ (x : ℕ). ticks h p (n - at) x (ticks h p at 0 w)) here in
       let still : ticks h p at 0 stopped ≡ stopped =
       rest h p lh lp at 0 host_follows.follows.last para_follows.follows.last (after all) all (omega (arith, host_follows.follows.over)) (omega (arith, para_follows.follows.over)) in
-      split (start s t) ∙ ap (λ (w : World S T). ticks h p (n - at) at w) (reached ∙ sym still) ∙ sym (split stopped)
+      ticks_from h p at n le (start s t) ∙ ap (ticks h p (n - at) at) (reached ∙ sym still) ∙ sym (ticks_from h p at n le stopped)
 
   pub goes_on : (n : ℕ) → at ≤ n → IsLike (reference h p s t n) (reference_from h p (after_entries u v entries) n)
   goes_on n le =

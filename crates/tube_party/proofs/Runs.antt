@@ -12,6 +12,9 @@ use Rattle.tube_party.specs.CodeClosing.{IsShut, FollowsOn}
 abbrev pub event : ℕ → Side → Query → Answer → Event
 event t side q a = record { tick = t; side = side; query = q; answer = a }
 
+abbrev pub IsOf : Side → Event → Type 0
+IsOf side e = e.side ≡ side
+
 -- steps to last, each below n, from a state, and their events: as `Runs`, to be taken apart step by step
 pub data Steps {S : Type 0} (r : Moves S) (side : Side) (n : ℕ) (last : S) : S → List Event → Type 0 where
   Over : Steps r side n last last []

@@ -18,8 +18,8 @@ world s t c l = record { host = s; para = t; chip = c; list = l }
 abbrev pub host_done : {S T : Type 0} → Seat S → T → World S T
 host_done x t = record { host = x.state; para = t; chip = x.chip; list = x.list }
 
-pub still : {S : Type 0} (r : Moves S) (side : Side) (k : ℕ) (x : Seat S) → (r.due x.state ≡ k → ⊥) → step_if_due r side k x ≡ x
-still r side k x ne = rw (ne_eqb (r.due x.state) k ne) refl
+pub still : {S : Type 0} (r : Moves S) (side : Side) (k : ℕ) (x : Seat S) → k < r.due x.state → step_if_due r side k x ≡ x
+still r side k x up = rw (ne_eqb (r.due x.state) k (λ e. omega (arith, e, up))) refl
 
 pub now : {S : Type 0} (r : Moves S) (side : Side) (k : ℕ) (x : Seat S) → r.due x.state ≡ k → step_if_due r side k x ≡ step_leaves r side x (r.asks x.state)
 now r side k x e = rw (eq-eqb (r.due x.state) k e) refl
@@ -32,12 +32,16 @@ pub same_or_above : (a k : ℕ) → k ≤ a → (a ≡ k) ⊎ (k < a)
 same_or_above a k h = grind arith
 
 module _ {S T : Type 0} (h : Moves S) (p : Moves T) (lh : IsLawful h) (lp : IsLawful p) where
+  -- after its step
+  abbrev host_did : S → State → List Event → Seat S
+  host_did s c l = step_leaves h Host (seat s c l) (h.asks s)
+
+  abbrev para_did : T → State → List Event → Seat T
+  para_did t c l = step_leaves p Para (seat t c l) (p.asks t)
+
   -- neither is due at k
   idle : (k : ℕ) (s : S) (t : T) (c : State) (l : List Event) → k < h.due s → k < p.due t → tick h p k (world s t c l) ≡ world s t c l
-  idle k s t c l hs ht =
-      let ns : h.due s ≡ k → ⊥ = λ e. omega arith in
-      let nt : p.due t ≡ k → ⊥ = λ e. omega arith in
-      ap (λ (x : Seat S). para_part p k x t) (still h Host k (seat s c l) ns) ∙ ap (λ (y : Seat T). with_host s y) (still p Para k (seat t c l) nt)
+  idle k s t c l hs ht = ap (λ x. para_part p k x t) (still h Host k (seat s c l) hs) ∙ ap (with_host s) (still p Para k (seat t c l) ht)
 
   -- two worlds in which neither is due at k go on alike if they do so from k + 1
   both_idle : (j k : ℕ) (s u : S) (t v : T) (c d : State) (l m : List Event)
@@ -45,9 +49,9 @@ module _ {S T : Type 0} (h : Moves S) (p : Moves T) (lh : IsLawful h) (lp : IsLa
       → ticks h p j (k + 1) (world s t c l) ≡ ticks h p j (k + 1) (world u v d m)
       → ticks h p (suc j) k (world s t c l) ≡ ticks h p (suc j) k (world u v d m)
   both_idle j k s u t v c d l m hs ht hu hv e =
-      ap (λ (w : World S T). ticks h p j (k + 1) w) (idle k s t c l hs ht)
+      ap (ticks h p j (k + 1)) (idle k s t c l hs ht)
       ∙ e
-      ∙ sym (ap (λ (w : World S T). ticks h p j (k + 1) w) (idle k u v d m hu hv))
+      ∙ sym (ap (ticks h p j (k + 1)) (idle k u v d m hu hv))
 
   -- neither is due below k + j
   pub rest : (j k : ℕ) (s : S) (t : T) (c : State) (l : List Event) → k + j ≤ h.due s → k + j ≤ p.due t → ticks h p j k (world s t c l) ≡ world s t c l
@@ -55,28 +59,27 @@ module _ {S T : Type 0} (h : Moves S) (p : Moves T) (lh : IsLawful h) (lp : IsLa
   rest (suc j) k s t c l hs ht =
       let us : k < h.due s = omega arith in
       let ut : k < p.due t = omega arith in
-      ap (λ (w : World S T). ticks h p j (k + 1) w) (idle k s t c l us ut) ∙ rest j (k + 1) s t c l (omega arith) (omega arith)
+      ap (ticks h p j (k + 1)) (idle k s t c l us ut) ∙ rest j (k + 1) s t c l (omega arith) (omega arith)
 
   -- at k, the host being due there
   pub host_here : (j k : ℕ) (s : S) (t : T) (c : State) (l : List Event) → h.due s ≡ k
-      → ticks h p (suc j) k (world s t c l) ≡ ticks h p (suc j) k (host_done (step_leaves h Host (seat s c l) (h.asks s)) t)
+      → ticks h p (suc j) k (world s t c l) ≡ ticks h p (suc j) k (host_done (host_did s c l) t)
   host_here j k s t c l e =
-      let rise : h.due s < h.due (step_leaves h Host (seat s c l) (h.asks s)).state = later h lh Host (seat s c l) (h.asks s) in
-      let nx : h.due (step_leaves h Host (seat s c l) (h.asks s)).state ≡ k → ⊥ = λ d. omega (arith, rise) in
-      ap (λ (y : Seat S). ticks h p j (k + 1) (para_part p k y t))
-      (now h Host k (seat s c l) e ∙ sym (still h Host k (step_leaves h Host (seat s c l) (h.asks s)) nx))
+      let rise = later h lh Host (seat s c l) (h.asks s) in
+      ap (λ y. ticks h p j (k + 1) (para_part p k y t))
+      (now h Host k (seat s c l) e ∙ sym (still h Host k (host_did s c l) (omega arith)))
 
   -- the host's step is the next one
   pub host_next : (j k : ℕ) (s : S) (t : T) (c : State) (l : List Event)
       → k ≤ h.due s → h.due s < k + j → h.due s ≤ p.due t
-      → ticks h p j k (world s t c l) ≡ ticks h p j k (host_done (step_leaves h Host (seat s c l) (h.asks s)) t)
+      → ticks h p j k (world s t c l) ≡ ticks h p j k (host_done (host_did s c l) t)
   host_next zero k s t c l lo hi first = absurd (omega arith)
   host_next (suc j) k s t c l lo hi first =
       elim (same_or_above (h.due s) k lo) [
         | inl e ↦ host_here j k s t c l e
         | inr up ↦
-            let rise : h.due s < h.due (step_leaves h Host (seat s c l) (h.asks s)).state = later h lh Host (seat s c l) (h.asks s) in
-            let x : Seat S = step_leaves h Host (seat s c l) (h.asks s) in
+            let rise = later h lh Host (seat s c l) (h.asks s) in
+            let x : Seat S = host_did s c l in
             both_idle j k s x.state t t c x.chip l x.list (omega arith) (omega arith) (omega arith) (omega arith)
             (host_next j (k + 1) s t c l (omega arith) (omega arith) first)
       ]
@@ -90,42 +93,38 @@ module _ {S T : Type 0} (h : Moves S) (p : Moves T) (lh : IsLawful h) (lp : IsLa
       elim (same_or_above (h.due s) k lo) [
         | inl e ↦
             host_here j k s t c l e
-            ∙ ap (λ (o : Option Query). ticks h p (suc j) k (host_done (step_leaves h Host (seat s c l) o) t)) none
+            ∙ ap (λ o. ticks h p (suc j) k (host_done (step_leaves h Host (seat s c l) o) t)) none
         | inr up ↦
-            let rise : h.due s < h.due (h.next s None) = lh.rises s None in
-            let ns : h.due s ≡ k → ⊥ = λ e. omega arith in
-            let nx : h.due (h.next s None) ≡ k → ⊥ = λ e. omega arith in
+            let rise = lh.rises s None in
             let y : Seat T = step_if_due p Para k (seat t c l) in
-            ap (λ (x : Seat S). ticks h p j (k + 1) (para_part p k x t)) (still h Host k (seat s c l) ns)
+            ap (λ x. ticks h p j (k + 1) (para_part p k x t)) (still h Host k (seat s c l) (omega arith))
             ∙ host_silent j (k + 1) s y.state y.chip y.list (omega arith) (omega arith) none
-            ∙ sym (ap (λ (x : Seat S). ticks h p j (k + 1) (para_part p k x t)) (still h Host k (seat (h.next s None) c l) nx))
+            ∙ sym (ap (λ x. ticks h p j (k + 1) (para_part p k x t)) (still h Host k (seat (h.next s None) c l) (omega arith)))
       ]
 
   -- at k, the parasite being due there, and x being what the host's part of the tick leaves
   pub para_here : (k : ℕ) (s : S) (t : T) (c : State) (l : List Event) → p.due t ≡ k
-      → with_host s (step_if_due p Para k (seat t c l)) ≡ with_host s (step_if_due p Para k (step_leaves p Para (seat t c l) (p.asks t)))
+      → with_host s (step_if_due p Para k (seat t c l)) ≡ with_host s (step_if_due p Para k (para_did t c l))
   para_here k s t c l e =
-      let rise : p.due t < p.due (step_leaves p Para (seat t c l) (p.asks t)).state = later p lp Para (seat t c l) (p.asks t) in
-      let nx : p.due (step_leaves p Para (seat t c l) (p.asks t)).state ≡ k → ⊥ = λ d. omega (arith, rise) in
-      ap (λ (y : Seat T). with_host s y)
-      (now p Para k (seat t c l) e ∙ sym (still p Para k (step_leaves p Para (seat t c l) (p.asks t)) nx))
+      let rise = later p lp Para (seat t c l) (p.asks t) in
+      ap (with_host s)
+      (now p Para k (seat t c l) e ∙ sym (still p Para k (para_did t c l) (omega arith)))
 
   -- the parasite's step is the next one
   pub para_next : (j k : ℕ) (s : S) (t : T) (c : State) (l : List Event)
       → k ≤ p.due t → p.due t < k + j → p.due t < h.due s
-      → ticks h p j k (world s t c l) ≡ ticks h p j k (with_host s (step_leaves p Para (seat t c l) (p.asks t)))
+      → ticks h p j k (world s t c l) ≡ ticks h p j k (with_host s (para_did t c l))
   para_next zero k s t c l lo hi first = absurd (omega arith)
   para_next (suc j) k s t c l lo hi first =
       elim (same_or_above (p.due t) k lo) [
         | inl e ↦
-            let ns : h.due s ≡ k → ⊥ = λ d. omega arith in
-            let x : Seat T = step_leaves p Para (seat t c l) (p.asks t) in
-            ap (λ (y : Seat S). ticks h p j (k + 1) (para_part p k y t)) (still h Host k (seat s c l) ns)
-            ∙ ap (λ (w : World S T). ticks h p j (k + 1) w) (para_here k s t c l e)
-            ∙ sym (ap (λ (y : Seat S). ticks h p j (k + 1) (para_part p k y x.state)) (still h Host k (seat s x.chip x.list) ns))
+            let x : Seat T = para_did t c l in
+            ap (λ y. ticks h p j (k + 1) (para_part p k y t)) (still h Host k (seat s c l) (omega arith))
+            ∙ ap (ticks h p j (k + 1)) (para_here k s t c l e)
+            ∙ sym (ap (λ y. ticks h p j (k + 1) (para_part p k y x.state)) (still h Host k (seat s x.chip x.list) (omega arith)))
         | inr up ↦
-            let rise : p.due t < p.due (step_leaves p Para (seat t c l) (p.asks t)).state = later p lp Para (seat t c l) (p.asks t) in
-            let x : Seat T = step_leaves p Para (seat t c l) (p.asks t) in
+            let rise = later p lp Para (seat t c l) (p.asks t) in
+            let x : Seat T = para_did t c l in
             both_idle j k s s t x.state c x.chip l x.list (omega arith) (omega arith) (omega arith) (omega arith)
             (para_next j (k + 1) s t c l (omega arith) (omega arith) first)
       ]
@@ -139,14 +138,12 @@ module _ {S T : Type 0} (h : Moves S) (p : Moves T) (lh : IsLawful h) (lp : IsLa
       let x : Seat S = step_if_due h Host k (seat s c l) in
       elim (same_or_above (p.due t) k lo) [
         | inl e ↦
-            ap (λ (w : World S T). ticks h p j (k + 1) w)
+            ap (ticks h p j (k + 1))
             (para_here k x.state t x.chip x.list e
-            ∙ ap (λ (o : Option Query). with_host x.state (step_if_due p Para k (step_leaves p Para (seat t x.chip x.list) o))) none)
+            ∙ ap (λ o. with_host x.state (step_if_due p Para k (step_leaves p Para (seat t x.chip x.list) o))) none)
         | inr up ↦
-            let rise : p.due t < p.due (p.next t None) = lp.rises t None in
-            let nt : p.due t ≡ k → ⊥ = λ e. omega arith in
-            let nx : p.due (p.next t None) ≡ k → ⊥ = λ e. omega arith in
-            ap (λ (y : Seat T). ticks h p j (k + 1) (with_host x.state y)) (still p Para k (seat t x.chip x.list) nt)
+            let rise = lp.rises t None in
+            ap (λ y. ticks h p j (k + 1) (with_host x.state y)) (still p Para k (seat t x.chip x.list) (omega arith))
             ∙ para_silent j (k + 1) x.state t x.chip x.list (omega arith) (omega arith) none
-            ∙ sym (ap (λ (y : Seat T). ticks h p j (k + 1) (with_host x.state y)) (still p Para k (seat (p.next t None) x.chip x.list) nx))
+            ∙ sym (ap (λ y. ticks h p j (k + 1) (with_host x.state y)) (still p Para k (seat (p.next t None) x.chip x.list) (omega arith)))
       ]

@@ -16,7 +16,7 @@ use Rattle.tube_party.specs.Moves.{Moves, IsLawful, MayAsk}
 use Rattle.tube_party.specs.Reference.{World, reference, IsFollowed, ReferenceIsTrace}
 use Rattle.tube_party.proofs.Runs.{event, Steps, Over, Silent, Asking, steps_of}
 use Rattle.tube_party.proofs.Followed.{followed, all_earlier}
-use Rattle.tube_party.proofs.Replayed.{all_after, rises_tail, below_end}
+use Rattle.tube_party.proofs.Replayed.{placed, all_below, all_after, rises_tail}
 
 -- the side of the event may ask for it
 abbrev May : Event → Type 0
@@ -48,18 +48,6 @@ may_entry t side look a xs h on = on
 all_entries : (l : List Event) → All May l → All IsEntry (accesses l)
 all_entries [] h = All-nil IsEntry
 all_entries (e ∷ l) h = may_entry e.tick e.side e.query e.answer (accesses l) (All-head May e l h) (all_entries l (All-tail May e l h))
-
--- what holds of the events' ticks and sides holds of their entries'
-placed_by : (P : ℕ → Side → Type 0) (t : ℕ) (side : Side) (q : Query) (a : Answer) (xs : List Entry) → P t side → All (λ (x : Entry). P (x.tick).0 x.side) xs
-    → All (λ (x : Entry). P (x.tick).0 x.side) (entry_of t side q a ++ xs)
-placed_by P t side (access op) (Byte b) xs h on = All-cons (λ (x : Entry). P (x.tick).0 x.side) _ xs h on
-placed_by P t side (access op) (Seen l) xs h on = on
-placed_by P t side look a xs h on = on
-
-pub placed : (P : ℕ → Side → Type 0) (l : List Event) → All (λ (e : Event). P e.tick e.side) l → All (λ (x : Entry). P (x.tick).0 x.side) (accesses l)
-placed P [] h = All-nil (λ (x : Entry). P (x.tick).0 x.side)
-placed P (e ∷ l) h =
-    placed_by P e.tick e.side e.query e.answer (accesses l) (All-head (λ (f : Event). P f.tick f.side) e l h) (placed P l (All-tail (λ (f : Event). P f.tick f.side) e l h))
 
 in_front : (e : Event) (xs : List Entry) → All (λ (x : Entry). IsTrue (before e.tick e.side (x.tick).0 x.side)) xs → Rises (events_of xs) → RisesAfter e (events_of xs)
 in_front e [] h rises = tt
@@ -96,6 +84,5 @@ reference_trace {S} {T} h p lh lp may_h may_p s t n =
           (all_may p Para n may_p (steps_of p Para n f.para.steps f.para.runs)));
       rises = all_rise w.list f.legal.rises;
       answered = all_answered power_on w.list f.legal.answered;
-      below = All-weaker (λ (x : Entry). IsTrue (before (x.tick).0 x.side n Host)) (λ (x : Entry). (x.tick).0 < n) (λ x on. below_end (x.tick).0 n x.side on) (accesses w.list)
-          (placed (λ k side. IsTrue (before k side n Host)) w.list (all_earlier h p lh lp s t n));
+      below = all_below n w.list (all_earlier h p lh lp s t n);
     }

@@ -23,7 +23,7 @@ use Rattle.tube_party.specs.OneThread.{IsKept}
 use Rattle.tube_chip.proofs.Rises.{status_leaves}
 use Rattle.tube_party.specs.CodePassing.{IsStatusRead, passed_entry}
 use Rattle.tube_party.proofs.Kept.{kept_more}
-use Rattle.tube_party.proofs.Runs.{event, Steps, Over, Silent, Asking, steps_append, Glances, Here, Past, Seeing}
+use Rattle.tube_party.proofs.Runs.{event, IsOf, Steps, Over, Silent, Asking, steps_append, Glances, Here, Past, Seeing}
 
 -- what leaves the chip: a look, and a read of a status register
 abbrev pub IsGlance : Query → Type 0
@@ -77,11 +77,11 @@ pub none_of : (xs : List Entry) → length xs ≡ 0 → xs ≡ []
 none_of [] e = refl
 none_of (x ∷ xs) e = absurd (omega arith)
 
-pub all_own : (events : List Event) → All (λ (e : Event). e.side ≡ Para) events → (of_side Para events ≡ events) × (of_side Host events ≡ [])
+pub all_own : (events : List Event) → All (IsOf Para) events → (of_side Para events ≡ events) × (of_side Host events ≡ [])
 all_own [] each = (refl, refl)
 all_own (e ∷ events) each =
-    let is : e.side ≡ Para = All-head (λ (e : Event). e.side ≡ Para) e events each in
-    let rest = all_own events (All-tail (λ (e : Event). e.side ≡ Para) e events each) in
+    let is : e.side ≡ Para = All-head (IsOf Para) e events each in
+    let rest = all_own events (All-tail (IsOf Para) e events each) in
     (
       ap (λ (x : Side). if is_side Para x then e ∷ of_side Para events else of_side Para events) is ∙ ap (λ l. e ∷ l) rest.0,
       ap (λ (x : Side). if is_side Host x then e ∷ of_side Host events else of_side Host events) is ∙ rest.1,

@@ -97,46 +97,52 @@ AreOf side (e ∷ events) = (e.side ≡ side) × AreOf side events
 Goes : (List Event → List Event) → Event → Type 0
 Goes rest a = (para : List Event) → AreOf Para para → RisesAfter a para → RisesAfter a (rest para)
 
-put_in-rises : (x a : Event) (rest : List Event → List Event) (para : List Event) → a.side ≡ Host → IsBefore x a → Goes rest a →
-    AreOf Para para → RisesAfter x para → RisesAfter x (put_in a rest para)
-unfolding AreOf Goes
-put_in-rises x a rest [] host first goes all rises = (first, goes [] tt tt)
-put_in-rises x a rest (b ∷ para) host first goes all rises =
-    elim (nat_lt b.tick a.tick) as (λ t. nat_lt b.tick a.tick ≡ t → RisesAfter x (cond t (b ∷ put_in a rest para) (a ∷ rest (b ∷ para)))) [
-      | true ↦ λ e.
-          let next : IsBefore b a = subst (λ (s : Side). IsTrue (before b.tick b.side a.tick s)) (sym host) (before-para a.tick b.tick b.side e) in
-          (rises.0, put_in-rises b a rest para host next goes all.1 rises.1)
-      | false ↦ λ e.
-          let mine : IsTrue (before a.tick Host b.tick b.side) = subst (λ (s : Side). IsTrue (before a.tick Host b.tick s)) (sym all.0) (before-host a.tick b.tick Para e) in
-          let next : IsBefore a b = subst (λ (s : Side). IsTrue (before a.tick s b.tick b.side)) (sym host) mine in
-          (first, goes (b ∷ para) all (next, rises.1))
-    ] refl
+-- an event comes before the first of these
+IsAhead : Event → List Event → Type 0
+IsAhead x [] = Unit {0}
+IsAhead x (e ∷ events) = IsBefore x e
 
-merge-rises-after : (x : Event) (host : List Event) → AreOf Host host → RisesAfter x host → Goes (merge host) x
-unfolding AreOf Goes
-merge-rises-after x [] all rises = λ para of_para after. after
-merge-rises-after x (a ∷ host) all rises =
-    λ para of_para after. put_in-rises x a (merge host) para all.0 rises.0 (merge-rises-after a host all.1 rises.1) of_para after
+rises_behind : (x : Event) (events : List Event) → IsAhead x events → Rises events → RisesAfter x events
+unfolding IsAhead
+rises_behind x [] first rises = tt
+rises_behind x (e ∷ events) first rises = (first, rises)
 
-put_in-rises-first : (a : Event) (rest : List Event → List Event) (para : List Event) → a.side ≡ Host → Goes rest a → AreOf Para para → Rises para → Rises (put_in a rest para)
+Rises-tail : (x : Event) (events : List Event) → RisesAfter x events → Rises events
+Rises-tail x [] rises = tt
+Rises-tail x (e ∷ events) rises = rises.1
+
+put_in-ahead : (x a : Event) (rest : List Event → List Event) (para : List Event) → IsBefore x a → RisesAfter x para → IsAhead x (put_in a rest para)
+unfolding IsAhead
+put_in-ahead x a rest [] first rises = first
+put_in-ahead x a rest (b ∷ para) first rises =
+    elim (nat_lt b.tick a.tick) as (λ t. IsAhead x (cond t (b ∷ put_in a rest para) (a ∷ rest (b ∷ para)))) [ true ↦ rises.0 | false ↦ first ]
+
+put_in-rises : (a : Event) (rest : List Event → List Event) (para : List Event) → a.side ≡ Host → Goes rest a → AreOf Para para → Rises para → Rises (put_in a rest para)
 unfolding AreOf Goes
-put_in-rises-first a rest [] host goes all rises = goes [] tt tt
-put_in-rises-first a rest (b ∷ para) host goes all rises =
+put_in-rises a rest [] host goes all rises = goes [] tt tt
+put_in-rises a rest (b ∷ para) host goes all rises =
     elim (nat_lt b.tick a.tick) as (λ t. nat_lt b.tick a.tick ≡ t → Rises (cond t (b ∷ put_in a rest para) (a ∷ rest (b ∷ para)))) [
       | true ↦ λ e.
           let next : IsBefore b a = subst (λ (s : Side). IsTrue (before b.tick b.side a.tick s)) (sym host) (before-para a.tick b.tick b.side e) in
-          put_in-rises b a rest para host next goes all.1 rises
+          rises_behind b (put_in a rest para) (put_in-ahead b a rest para next rises) (put_in-rises a rest para host goes all.1 (Rises-tail b para rises))
       | false ↦ λ e.
           let mine : IsTrue (before a.tick Host b.tick b.side) = subst (λ (s : Side). IsTrue (before a.tick Host b.tick s)) (sym all.0) (before-host a.tick b.tick Para e) in
           let next : IsBefore a b = subst (λ (s : Side). IsTrue (before a.tick s b.tick b.side)) (sym host) mine in
           goes (b ∷ para) all (next, rises)
     ] refl
 
+merge-rises-after : (x : Event) (host : List Event) → AreOf Host host → RisesAfter x host → Goes (merge host) x
+unfolding AreOf Goes
+merge-rises-after x [] all rises = λ para of_para after. after
+merge-rises-after x (a ∷ host) all rises =
+    λ para of_para after. rises_behind x (put_in a (merge host) para) (put_in-ahead x a (merge host) para rises.0 after)
+        (put_in-rises a (merge host) para all.0 (merge-rises-after a host all.1 rises.1) of_para (Rises-tail x para after))
+
 merge-rises : (host para : List Event) → AreOf Host host → AreOf Para para → Rises host → Rises para → Rises (merge host para)
 unfolding AreOf
 merge-rises [] para of_host of_para up_host up_para = up_para
 merge-rises (a ∷ host) para of_host of_para up_host up_para =
-    put_in-rises-first a (merge host) para of_host.0 (merge-rises-after a host of_host.1 up_host) of_para up_para
+    put_in-rises a (merge host) para of_host.0 (merge-rises-after a host of_host.1 up_host) of_para up_para
 
 RisesAfter-take : (k : ℕ) (x : Event) (events : List Event) → RisesAfter x events → RisesAfter x (take k events)
 RisesAfter-take zero x events rises = tt

@@ -28,14 +28,18 @@ RisesBehind-nil (Some e) = tt
 same_entries : (a b : List Entry) → ◌≡◌ {A = Result (List Entry) TraceError} (Ok a) (Ok b) → a ≡ b
 same_entries a b h = cc
 
-taken_apart : (last : Option Entry) (e : Entry) (line : ℕ) (b : Bool) (r : Result (List Entry) TraceError) (entries : List Entry) → follows last e ≡ b →
-    ((more : List Entry) → r ≡ Ok more → RisesAfter (event_of e) (events_of more)) →
-    cond b (in_front (e ∷ []) r) (Err (BadOrder line)) ≡ Ok entries → RisesBehind last (events_of entries)
-taken_apart last e line true (Ok more) entries is rest h =
-    let same : e ∷ more ≡ entries = same_entries (e ∷ more) entries h in
-    subst (λ (es : List Entry). RisesBehind last (events_of es)) same (RisesBehind-cons last e (events_of more) is (rest more refl))
-taken_apart last e line true (Err error) entries is rest h = cc
-taken_apart last e line false r entries is rest h = cc
+-- what entries that were read of a line and others tell
+record IsReadOn (line : ℕ) (last : Option Entry) (e : Entry) (lines : List (Option Entry)) (entries : List Entry) : Type 0 where
+  after : follows last e ≡ true
+  more : List Entry
+  rest : entries_behind (line + 1) (Some e) lines ≡ Ok more
+  same : e ∷ more ≡ entries
+
+taken_apart : (line : ℕ) (last : Option Entry) (e : Entry) (lines : List (Option Entry)) (entries : List Entry) (b : Bool) (r : Result (List Entry) TraceError) →
+    follows last e ≡ b → entries_behind (line + 1) (Some e) lines ≡ r → cond b (in_front (e ∷ []) r) (Err (BadOrder line)) ≡ Ok entries → IsReadOn line last e lines entries
+taken_apart line last e lines entries true (Ok more) after rest h = record { after = after; more = more; rest = rest; same = same_entries (e ∷ more) entries h }
+taken_apart line last e lines entries true (Err error) after rest h = cc
+taken_apart line last e lines entries false r after rest h = cc
 
 entries_behind-rises : (line : ℕ) (last : Option Entry) (lines : List (Option Entry)) (entries : List Entry) → entries_behind line last lines ≡ Ok entries → RisesBehind last (events_of entries)
 unfolding RisesBehind
@@ -43,8 +47,9 @@ entries_behind-rises line last [] entries h =
     subst (λ (es : List Entry). RisesBehind last (events_of es)) (same_entries [] entries h) (RisesBehind-nil last)
 entries_behind-rises line last (None ∷ lines) entries h = cc
 entries_behind-rises line last (Some e ∷ lines) entries h =
-    taken_apart last e line (follows last e) (entries_behind (line + 1) (Some e) lines) entries refl
-    (λ more is. entries_behind-rises (line + 1) (Some e) lines more is) h
+    let x = taken_apart line last e lines entries _ _ refl refl h in
+    subst (λ (es : List Entry). RisesBehind last (events_of es)) x.same
+    (RisesBehind-cons last e (events_of x.more) x.after (entries_behind-rises (line + 1) (Some e) lines x.more x.rest))
 
 -- what lines mean rises
 pub lines-rise : (text : List ℕ) (entries : List Entry) → entries_behind 1 None (map entry_of (text_lines text)) ≡ Ok entries → Rises (events_of entries)
@@ -70,17 +75,9 @@ unfolding RisesBehind
 rising_read entries rises = entries_behind-some 1 None entries rises
 
 -- entries were read of lines that have them
-each_taken : (last : Option Entry) (e : Entry) (lines : List (Option Entry)) (line : ℕ) (b : Bool) (r : Result (List Entry) TraceError) (entries : List Entry) →
-    ((more : List Entry) → r ≡ Ok more → lines ≡ map Some more) →
-    cond b (in_front (e ∷ []) r) (Err (BadOrder line)) ≡ Ok entries → (Some e ∷ lines) ≡ map Some entries
-each_taken last e lines line true (Ok more) entries rest h =
-    let same : e ∷ more ≡ entries = same_entries (e ∷ more) entries h in
-    ap (λ (ls : List (Option Entry)). Some e ∷ ls) (rest more refl) ∙ ap (map Some) same
-each_taken last e lines line true (Err error) entries rest h = cc
-each_taken last e lines line false r entries rest h = cc
-
 pub each_read : (line : ℕ) (last : Option Entry) (lines : List (Option Entry)) (entries : List Entry) → entries_behind line last lines ≡ Ok entries → lines ≡ map Some entries
 each_read line last [] entries h = ap (map Some) (same_entries [] entries h)
 each_read line last (None ∷ lines) entries h = cc
 each_read line last (Some e ∷ lines) entries h =
-    each_taken last e lines line (follows last e) (entries_behind (line + 1) (Some e) lines) entries (λ more is. each_read (line + 1) (Some e) lines more is) h
+    let x = taken_apart line last e lines entries _ _ refl refl h in
+    ap (λ (ls : List (Option Entry)). Some e ∷ ls) (each_read (line + 1) (Some e) lines x.more x.rest) ∙ ap (map Some) x.same
