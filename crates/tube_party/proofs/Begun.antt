@@ -1,10 +1,9 @@
 -- The list of the reference run grows at its end, by events of the ticks that are done.
 use Rattle.std.proofs.Common.{ℕ, zero, suc, ◌≡◌, ◌+◌, ◌-◌, ◌<◌, ◌≤◌, nat_eq, nat_lt, refl, sym, ◌∙◌, ap, arith, Bool, true, false, List, [], ◌∷◌, ◌++◌, append_assoc, Option, None, Some}
-use Rattle.std.specs.Prelude.{All, IsTrue}
+use Rattle.std.specs.Prelude.{All}
 use Rattle.std.proofs.lemmas.List.{append-nil}
 use Rattle.std.proofs.lemmas.Bool.{eqb-true, le-ltb}
 use Rattle.std.proofs.lemmas.List.Elements.{All-nil, All-cons, All-head, All-tail, All-weaker, All-append, filter-append}
-use Rattle.beeb_bits.specs.Order.{before}
 use Rattle.beeb_bits.specs.declared.Side.{Side}
 use Rattle.beeb_bits.specs.declared.Side.TheVariants.{Host, Para}
 use Rattle.tube_chip.specs.Act.{Query, act}
@@ -81,7 +80,7 @@ below_none at (x ∷ xs) high =
 pub shorter_run : {S T : Type 0} (h : Moves S) (p : Moves T) → IsLawful h → IsLawful p → ShorterRunIsBeginning h p
 shorter_run {S} {T} h p lh lp s t at n le =
     let w : World S T = ticks h p at 0 (start s t) in
-    let g : Grown at w.list (ticks h p (n - at) at w).list = ticks_grown h p (n - at) at w in
+    let g = ticks_grown h p (n - at) at w in
     let list : accesses (reference h p s t n).list ≡ accesses w.list ++ accesses g.more =
     ap (λ (v : World S T). accesses v.list) (ticks_from h p at n le (start s t)) ∙ ap accesses g.is ∙ accesses-append w.list g.more in
     let low = all_below at w.list (all_earlier h p lh lp s t at) in

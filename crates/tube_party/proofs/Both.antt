@@ -1,10 +1,10 @@
 -- The loop over both parties.
 use Rattle.std.proofs.Common.{ℕ, ◌≡◌, ◌≢◌, ◌+◌, ◌-◌, ◌<◌, ◌≤◌, Bool, true, false, refl, sym, ◌∙◌, ap, subst, arith, List, [], ◌∷◌, ◌++◌, length}
-use Rattle.std.proofs.Common.{take, Option, None, Some, ◌⊎◌, inl, inr}
+use Rattle.std.proofs.Common.{take, None, Some, ◌⊎◌, inl, inr}
 use Rattle.std.specs.Prelude.{All}
 use Rattle.std.proofs.lemmas.List.Elements.{All-nil}
 use Rattle.tube_chip.specs.State.{State, lines_of}
-use Rattle.tube_chip.specs.Act.{Query, look, act}
+use Rattle.tube_chip.specs.Act.{look, act}
 use Rattle.tube_chip.specs.Events.{Event, of_side}
 use Rattle.tube_chip.specs.declared.Answer.{Answer}
 use Rattle.tube_trace.specs.declared.Entry.{Entry}
@@ -13,12 +13,12 @@ use Rattle.beeb_bits.specs.declared.Side.TheVariants.{Host, Para}
 use Rattle.tube_party.specs.declared.party.Ask.{Ask}
 use Rattle.tube_party.specs.declared.party.Ask.TheVariants.{Nothing, Access, Look}
 use Rattle.tube_party.specs.Moves.{Moves, SeesHirqAlone, IsAsk, Advances, close_leaves, shown_lines}
-use Rattle.tube_party.specs.Reference.{World, ticks, step_leaves, with_host}
+use Rattle.tube_party.specs.Reference.{ticks, step_leaves, with_host}
 use Rattle.tube_party.specs.GoingOn.{IsLike, reference_from}
-use Rattle.tube_trace.specs.Entries.{accesses, entry_of}
+use Rattle.tube_trace.specs.Entries.{accesses}
 use Rattle.tube_party.specs.OneThread.{IsKept, Played, IsPlayed}
 use Rattle.tube_party.specs.Turn.{first_of, ticks_left, note_all_leaves, IsSure}
-use Rattle.tube_party.specs.CodeAtWork.{AtWork, Acts}
+use Rattle.tube_party.specs.CodeAtWork.{Acts}
 use Rattle.tube_party.specs.CodePassing.{StaysSeen}
 use Rattle.tube_party.proofs.Ticks.{seat, world, rest, host_silent, para_next, para_silent}
 use Rattle.tube_party.proofs.Runs.{event, Steps, Over, Silent, Asking, steps_of, Glances, Here, Past, Seeing, glances_rise}

@@ -1,6 +1,6 @@
 -- A step of the host may come early, before steps of the parasite that see the chip behind it as they see it before it: the reference goes on alike,
 -- but for the order of the host's and the parasite's events in its list. So may a look of a host that sees its own request alone, while none is enabled.
-use Rattle.std.proofs.Common.{ℕ, zero, suc, ◌≡◌, ◌+◌, ◌<◌, ◌≤◌, nat_eq, inl, inr, refl, sym, ◌∙◌, ap, subst, arith, Bool, true, false, List, [], ◌∷◌, ◌++◌, append_assoc, Option, None, Some}
+use Rattle.std.proofs.Common.{ℕ, zero, suc, ◌≡◌, ◌+◌, ◌<◌, ◌≤◌, nat_eq, inl, inr, refl, sym, ◌∙◌, ap, arith, Bool, true, false, List, [], ◌∷◌, ◌++◌, append_assoc, Option, None, Some}
 use Rattle.std.specs.Prelude.{All, ◌&&◌, not, if◌then◌else◌}
 use Rattle.std.proofs.lemmas.List.{append-nil}
 use Rattle.std.proofs.lemmas.List.Elements.{All-head, All-tail}
@@ -15,7 +15,7 @@ use Rattle.beeb_bits.specs.declared.Side.{Side}
 use Rattle.beeb_bits.specs.declared.Side.TheVariants.{Host, Para}
 use Rattle.tube_trace.specs.declared.Entry.{Entry}
 use Rattle.tube_trace.specs.Entries.{accesses}
-use Rattle.tube_party.specs.Moves.{Moves, IsLawful, SeesHirqAlone, Runs, course}
+use Rattle.tube_party.specs.Moves.{Moves, IsLawful, SeesHirqAlone}
 use Rattle.tube_party.specs.GoingOn.{IsLike}
 use Rattle.tube_party.specs.Reference.{Seat, World, step_leaves, step_if_due, with_host, para_part, tick, ticks}
 use Rattle.tube_party.proofs.Ticks.{seat, world, host_done, still, same_or_above, host_here, host_next, para_next, para_silent}
@@ -104,8 +104,8 @@ module _ {S T : Type 0} (h : Moves S) (p : Moves T) (lh : IsLawful h) (lp : IsLa
 
   tick_form : (k : ℕ) (s : S) (t : T) (c : State) → TickForm k s t c
   tick_form k s t c =
-      let x : Form h Host k s c = form_of_step h Host k s c (nat_eq (h.due s) k) (h.asks s) refl refl in
-      let y : Form p Para k t x.chip = form_of_step p Para k t x.chip (nat_eq (p.due t) k) (p.asks t) refl refl in
+      let x = form_of_step h Host k s c (nat_eq (h.due s) k) (h.asks s) refl refl in
+      let y = form_of_step p Para k t x.chip (nat_eq (p.due t) k) (p.asks t) refl refl in
       record {
         host = x.state;
         para = y.state;
@@ -121,9 +121,8 @@ module _ {S T : Type 0} (h : Moves S) (p : Moves T) (lh : IsLawful h) (lp : IsLa
       → IsLike (ticks h p j k (world s t c l)) (ticks h p j k (world s t c m))
   like_ticks zero k s t c l m same = record { host = refl; para = refl; chip = refl; listed = same }
   like_ticks (suc j) k s t c l m same =
-      let x : TickForm k s t c = tick_form k s t c in
-      let on : IsLike (ticks h p j (k + 1) (world x.host x.para x.chip (l ++ x.more))) (ticks h p j (k + 1) (world x.host x.para x.chip (m ++ x.more))) =
-      like_ticks j (k + 1) x.host x.para x.chip (l ++ x.more) (m ++ x.more) (same_after l m x.more same) in
+      let x = tick_form k s t c in
+      let on = like_ticks j (k + 1) x.host x.para x.chip (l ++ x.more) (m ++ x.more) (same_after l m x.more same) in
       like_on (alike (ap (λ (w : World S T). ticks h p j (k + 1) w) (x.is l)))
       (like_on on (alike (sym (ap (λ (w : World S T). ticks h p j (k + 1) w) (x.is m)))))
 
@@ -146,8 +145,8 @@ module _ {S T : Type 0} (h : Moves S) (p : Moves T) (lh : IsLawful h) (lp : IsLa
         | inr up ↦
             let a : Answer = Seen (lines_of c) in
             let onto : S = h.next s (Some a) in
-            let rise : h.due s < h.due onto = lh.rises s (Some a) in
-            let f : Form p Para k t c = form_of_step p Para k t c (nat_eq (p.due t) k) (p.asks t) refl refl in
+            let rise = lh.rises s (Some a) in
+            let f = form_of_step p Para k t c (nat_eq (p.due t) k) (p.asks t) refl refl in
             let b : Answer = Seen (lines_of f.chip) in
             let off_on : f.chip.flags.q ≡ false = still_off k t c (nat_eq (p.due t) k) (p.asks t) refl refl off in
             let on : (z : S) (m : List Event) → k < h.due z
@@ -216,7 +215,7 @@ module _ {S T : Type 0} (h : Moves S) (p : Moves T) (lh : IsLawful h) (lp : IsLa
         let e : Event = event (p.due t) Para r a in
         let f : Event = event (h.due s) Host q b in
         let onto : S = h.next s (Some b) in
-        let rise : h.due s < h.due onto = lh.rises s (Some b) in
+        let rise = lh.rises s (Some b) in
         elim (cases_lt (p.due t) (h.due s)) [
           | inr late ↦ host_first s t c q l low late asks
           | inl before ↦

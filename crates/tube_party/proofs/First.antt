@@ -1,5 +1,5 @@
 -- Whose ask comes first, and what is known of it.
-use Rattle.std.proofs.Common.{ℕ, ◌≡◌, ◌≢◌, ◌+◌, ◌∙◌, ◌<◌, ◌≤◌, ◌⊎◌, inl, inr, refl, sym, ap, arith, nat_lt, if◌then◌else◌, Option, None, Some}
+use Rattle.std.proofs.Common.{ℕ, ◌≡◌, ◌≢◌, ◌+◌, ◌∙◌, ◌<◌, ◌≤◌, ◌⊎◌, inl, inr, refl, sym, ap, arith, Option, None, Some}
 use Rattle.std.proofs.lemmas.Bool.{cases_lt, lt-ltb, le-ltb}
 use Rattle.beeb_bits.specs.declared.Side.{Side}
 use Rattle.beeb_bits.specs.declared.Side.TheVariants.{Host, Para}
@@ -34,7 +34,7 @@ first_is (Look t) (Look u) = refl
 
 -- the host's, unless the parasite's is at a smaller tick
 due_order : (t u : ℕ) → (first_due t u ≡ Para) × (u < t) ⊎ (first_due t u ≡ Host) × (t ≤ u)
-due_order t u = elim (cases_lt u t) [ | inl lt ↦ inl (rw (lt-ltb u t lt) refl, lt) | inr ge ↦ inr (rw (le-ltb u t ge) refl, ge) ]
+due_order t u = elim (cases_lt u t) [ inl lt ↦ inl (rw (lt-ltb u t lt) refl, lt) | inr ge ↦ inr (rw (le-ltb u t ge) refl, ge) ]
 
 -- an ask for an access, or a look, at its own tick
 record Waits {S : Type 0} (r : Moves S) (n : ℕ) (s last : S) (ask : Ask) (x : ℕ) : Type 0 where

@@ -85,10 +85,10 @@ module _ {S T : Type 0} (h : Moves S) (p : Moves T) (lh : IsLawful h) (lp : IsLa
       let host_first : IsTrue (before k Host k Para) = grind (arith, nat_tests) in
       let next : IsTrue (before k Para (k + 1) Host) = grind (arith, nat_tests) in
       let a : Seat S = step_if_due h Host k (seat w.host w.chip w.list) in
-      let one : Parted h lh Host n s k low k Para host_first (seat w.host w.chip w.list) a = part h lh Host n s k low k Para host_first (seat w.host w.chip w.list) x.host_runs x.host_due x.listed in
+      let one = part h lh Host n s k low k Para host_first (seat w.host w.chip w.list) x.host_runs x.host_due x.listed in
       let para_runs : Steps p Para n w.para t (of_side Para a.list) = rw (one.other Para refl) x.para_runs in
       let b : Seat T = step_if_due p Para k (seat w.para a.chip a.list) in
-      let two : Parted p lp Para n t k low (k + 1) Host next (seat w.para a.chip a.list) b = part p lp Para n t k low (k + 1) Host next (seat w.para a.chip a.list) para_runs x.para_due one.listed in
+      let two = part p lp Para n t k low (k + 1) Host next (seat w.para a.chip a.list) para_runs x.para_due one.listed in
       record {
         host_runs = rw (two.other Host refl) one.runs;
         para_runs = two.runs;

@@ -254,7 +254,7 @@ module _ {S : Type 0} (m : Moves S) (lawful : IsLawful m) (side : Side) (trace :
 
   comes_all : (s : S) → Comes s (own_from side n 1 trace) (replay_of m side trace n s)
   comes_all s =
-      let goes : Goes m side trace n (replay_of m side trace n s) s (own_from side n 1 trace) = goes_all m side trace n s in
+      let goes = goes_all m side trace n s in
       comes goes.steps s (own_from side n 1 trace) (replay_of m side trace n s) goes.enough (own_entries side n 1 trace).1 goes.same
 
   -- with no place, nothing is left
@@ -296,7 +296,7 @@ module _ {S : Type 0} (m : Moves S) (lawful : IsLawful m) (side : Side) (trace :
 
   differs_of : (s stopped : S) (line : ℕ) (what : Option Doing) → At stopped (replay_of m side trace n s) line what → DiffersAt m side trace n s (difference line what stopped)
   differs_of s stopped line what at =
-      let c : Comes s (own_from side n 1 trace) (replay_of m side trace n s) = comes_all s in
+      let c = comes_all s in
       let runs = runs_of m side n c.runs in
       record {
         events = c.events;
@@ -324,7 +324,7 @@ module _ {S : Type 0} (m : Moves S) (lawful : IsLawful m) (side : Side) (trace :
   takes_all agreed left goes own_is agrees answered (Asking {s = s} {others = others} (access op) (Seen l) low is on) =
       absurd (All-head Told (event (m.due s) side (access op) (Seen l)) others answered)
   takes_all agreed left goes own_is agrees answered (Asking {s = s} {others = others} (access op) (Byte b) low is on) =
-      let first : IsFirstOf (m.due s) op b (accesses others) agreed = first_of_own (m.due s) side op b (accesses others) agreed agrees in
+      let first = first_of_own (m.due s) side op b (accesses others) agreed agrees in
       let split = own_is ∙ ap (λ (l : List Numbered). l ++ left) first.split in
       takes_all first.others left
       (goes_access goes lawful (first.others ++ left) op b low is (record { next = first.next; split = split; that = first.that; answer = first.answer }))

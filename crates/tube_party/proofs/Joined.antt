@@ -1,6 +1,6 @@
 -- Two parties, each of which follows its side of a trace that the chip answers: the chip answers the merge of their lists too, and the trace is its accesses.
-use Rattle.std.proofs.Common.{ℕ, zero, suc, ◌≡◌, ◌+◌, ◌<◌, ◌≤◌, ◌⊎◌, inl, inr, refl, sym, ◌∙◌, ap, subst, arith, Bool, true, false, nat_lt, ◌&&◌, List, [], ◌∷◌, ◌++◌, length, None, Some}
-use Rattle.std.specs.Prelude.{All, IsTrue, filter}
+use Rattle.std.proofs.Common.{ℕ, zero, suc, ◌≡◌, ◌+◌, ◌<◌, ◌≤◌, ◌⊎◌, inl, inr, refl, sym, ◌∙◌, ap, subst, arith, true, false, List, [], ◌∷◌, ◌++◌, length, None, Some}
+use Rattle.std.specs.Prelude.{All, IsTrue}
 use Rattle.std.proofs.lemmas.List.Elements.{All-nil, All-cons, All-head, All-tail, All-weaker, All-filter}
 use Rattle.std.proofs.lemmas.Bool.Decides.{nat_tests}
 use Rattle.beeb_bits.specs.Order.{before}
@@ -16,9 +16,7 @@ use Rattle.tube_trace.specs.declared.Entry.{Entry}
 use Rattle.tube_trace.specs.Entries.{entry_of, accesses, event_of, events_of}
 use Rattle.tube_party.specs.Moves.{Moves, IsLawful}
 use Rattle.tube_party.specs.Replay.{chip_before}
-use Rattle.tube_party.specs.ReplayLaws.{own_below}
 use Rattle.tube_party.proofs.Runs.{event, IsOf, Steps, Over, Silent, Asking}
-use Rattle.tube_party.proofs.ReplayLemmas.{low_true}
 use Rattle.tube_party.proofs.Listed.{before-then, before-not}
 use Rattle.tube_party.proofs.Followed.{side_self}
 use Rattle.tube_party.proofs.Replayed.{own, On, tail_by, all_after, rises_tail}

@@ -1,11 +1,11 @@
 -- The turns of both parties, with the accesses that are answered in passing.
-use Rattle.std.proofs.Common.{ℕ, ◌≡◌, ◌≢◌, ◌+◌, ◌<◌, ◌≤◌, ◌⊎◌, inl, inr, Bool, true, false, refl, sym, ◌∙◌, ap, subst, arith, List, [], ◌∷◌, length, take, Option, Some}
+use Rattle.std.proofs.Common.{ℕ, ◌≡◌, ◌+◌, ◌<◌, ◌≤◌, ◌⊎◌, inl, inr, Bool, true, false, refl, sym, ◌∙◌, ap, subst, arith, List, [], ◌∷◌, length, take, Some}
 use Rattle.std.proofs.lemmas.Bool.{le-ltb}
 use Rattle.tube_chip.specs.State.{State, Flags, lines_of}
 use Rattle.tube_chip.specs.declared.Lines.{Lines}
 use Rattle.tube_chip.specs.declared.Answer.TheVariants.{Byte}
 use Rattle.tube_chip.specs.declared.Op.{Op}
-use Rattle.tube_chip.specs.Act.{Query, access, look, act, chip_after, answer_of}
+use Rattle.tube_chip.specs.Act.{Query, access, look, act, answer_of}
 use Rattle.tube_trace.specs.declared.Entry.{Entry}
 use Rattle.beeb_bits.specs.declared.Side.{Side}
 use Rattle.beeb_bits.specs.declared.Side.TheVariants.{Host, Para}
@@ -19,9 +19,9 @@ use Rattle.tube_party.specs.Turn.{IsPending, first_of, tick_of, ticks_left, IsSu
 use Rattle.tube_party.specs.CodeAtWork.{Acts, at_work, own_of}
 use Rattle.tube_party.specs.Logs.{HasNoted}
 use Rattle.tube_party.specs.Steps.{talks_rise}
-use Rattle.tube_party.specs.CodePassing.{Attended, StaysSeen, IsStatusRead, IsPassed, chip_behind, passed_entry}
+use Rattle.tube_party.specs.CodePassing.{Attended, StaysSeen, IsPassed, chip_behind, passed_entry}
 use Rattle.tube_party.specs.CodeStanding.{Standing, IsGone, IsRolledBack, para_turn}
-use Rattle.tube_party.proofs.Runs.{Glances, Talking, Last, Next, talking_of}
+use Rattle.tube_party.proofs.Runs.{Talking, Last, Next, talking_of}
 use Rattle.tube_party.proofs.Ways.{IsWay, glance_leaves, way_of_looks, way_first, way_on}
 use Rattle.tube_party.proofs.First.{IsFirst, host_first, tick_of_first}
 use Rattle.tube_party.proofs.UnderWay.{Run, Part, part_of, seated, IsAt, IsGoing, Mark}

@@ -12,7 +12,7 @@ use Rattle.tube_chip.specs.Act.{Query, access, look}
 use Rattle.tube_trace.specs.declared.Entry.{Entry}
 use Rattle.tube_party.specs.declared.party.Ask.{Ask}
 use Rattle.tube_party.specs.declared.party.Ask.TheVariants.{Nothing, Access, Look}
-use Rattle.tube_party.specs.Moves.{Moves, IsLawful, Hears, IsAsk, IsUnsure, IsAskedFor, FitsAnswer, close_leaves, shown_lines}
+use Rattle.tube_party.specs.Moves.{Moves, IsLawful, Hears, IsAsk, IsUnsure, IsAskedFor, FitsAnswer, shown_lines}
 use Rattle.tube_party.specs.Replay.{Numbered, Ended, own_from, finish_leaves, next_line, doing_of, differs, access_step, one_step, replay_from, replay_of, chip_before}
 use Rattle.tube_party.specs.CodeCursor.{Takes, Misses, Owned, IsTaken}
 use Rattle.tube_party.proofs.Runs.{Glances, Here, Past, Seeing, glances_rise, Talking, Last, Next, talking_of}

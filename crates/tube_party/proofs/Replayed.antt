@@ -15,7 +15,7 @@ use Rattle.tube_trace.specs.declared.Entry.{Entry}
 use Rattle.tube_trace.specs.Entries.{entry_of, accesses}
 use Rattle.tube_party.specs.Moves.{Moves, IsLawful, Follows, FitsAnswer}
 use Rattle.tube_party.specs.Replay.{chip_before}
-use Rattle.tube_party.specs.Reference.{World, reference, IsFollowed}
+use Rattle.tube_party.specs.Reference.{World, reference}
 use Rattle.tube_party.specs.ReplayLaws.{own_below, IsAnsweredBy, FollowsTrace, ReferenceIsReplayed}
 use Rattle.tube_party.proofs.ReplayLemmas.{low_true}
 use Rattle.tube_party.proofs.FollowingLemmas.{replay_following}
@@ -136,8 +136,8 @@ rises_tail e (f ∷ l) h = h.1
 looks : (c : State) (l : List Event) → Rises l → IsAnsweredFrom c l → All (On c (accesses l)) l
 looks c [] rises is = All-nil (On c [])
 looks c (e ∷ l) rises is =
-    let later : All (IsBefore e) l = all_after e l rises in
-    let rest : All (On (act c e.side e.query).0 (accesses l)) l = looks (act c e.side e.query).0 l (rises_tail e l rises) is.1 in
+    let later = all_after e l rises in
+    let rest = looks (act c e.side e.query).0 l (rises_tail e l rises) is.1 in
     let both : All (λ (f : Event). IsBefore e f × On (act c e.side e.query).0 (accesses l) f) l = λ k d low. (later k d low, rest k d low) in
     All-cons (On c (accesses (e ∷ l))) e l
     (head_by c e.tick e.side e.query e.answer (accesses l) is.0 (stops e c l later))
@@ -172,8 +172,8 @@ follows_own m side n s ended l legal earlier follows =
 pub reference_replayed : {S T : Type 0} (h : Moves S) (p : Moves T) → IsLawful h → IsLawful p → ReferenceIsReplayed h p
 reference_replayed {S} {T} h p lh lp s t n =
     let w : World S T = reference h p s t n in
-    let f : IsFollowed h p s t n w = followed h p lh lp s t n in
-    let earlier : All (IsEarlier n Host) w.list = all_earlier h p lh lp s t n in (
+    let f = followed h p lh lp s t n in
+    let earlier = all_earlier h p lh lp s t n in (
       (replay_following h lh Host (accesses w.list) n s w.host).1 (follows_own h Host n s w.host w.list f.legal earlier f.host),
       (replay_following p lp Para (accesses w.list) n t w.para).1 (follows_own p Para n t w.para w.list f.legal earlier f.para),
     )

@@ -1,17 +1,15 @@
 -- Two parties that were brought back are the reference run at that tick, and go on as it does.
-use Rattle.std.proofs.Common.{ℕ, zero, suc, ◌≡◌, ◌+◌, ◌-◌, ◌≤◌, nat_eq, refl, sym, ◌∙◌, ap, subst, arith, Bool, true, false, if◌then◌else◌, List, [], ◌∷◌, ◌++◌, Option, None, Some}
-use Rattle.std.proofs.lemmas.List.Elements.{All-weaker, filter-append}
+use Rattle.std.proofs.Common.{ℕ, zero, suc, ◌≡◌, ◌+◌, ◌-◌, ◌≤◌, nat_eq, refl, sym, ◌∙◌, ap, subst, arith, Bool, true, false, List, [], ◌∷◌, ◌++◌, Option, None, Some}
+use Rattle.std.proofs.lemmas.List.Elements.{All-weaker}
 use Rattle.beeb_bits.specs.declared.Side.{Side}
 use Rattle.beeb_bits.specs.declared.Side.TheVariants.{Host, Para}
 use Rattle.tube_chip.specs.declared.Answer.{Answer}
-use Rattle.tube_chip.specs.declared.Answer.TheVariants.{Byte, Seen}
 use Rattle.tube_chip.specs.State.{State, power_on}
 use Rattle.tube_chip.specs.Act.{Query, access, look, act}
-use Rattle.tube_chip.specs.Events.{Event, merge, after, of_side, is_side}
+use Rattle.tube_chip.specs.Events.{Event, merge, after}
 use Rattle.tube_trace.specs.declared.Entry.{Entry}
-use Rattle.tube_trace.specs.Entries.{accesses, entry_of, events_of}
+use Rattle.tube_trace.specs.Entries.{accesses, events_of}
 use Rattle.tube_party.specs.Moves.{Moves, IsLawful, close_leaves}
-use Rattle.tube_party.specs.CodeClosing.{IsShut}
 use Rattle.tube_party.specs.ReplayLaws.{IsAnsweredBy, FollowsTrace}
 use Rattle.tube_party.specs.Reference.{Seat, World, step_if_due, tick, ticks, start, close_both_leaves, reference, IsTraceBelow}
 use Rattle.tube_party.specs.GoingOn.{reference_from, after_entries, IsLike, IsBroughtBack, BroughtBackIsReference}
@@ -19,10 +17,10 @@ use Rattle.tube_party.proofs.Runs.{event, steps_of, shut_is}
 use Rattle.tube_party.proofs.Ticks.{seat, world, rest}
 use Rattle.tube_party.proofs.Meet.{meets}
 use Rattle.tube_party.proofs.FollowingLemmas.{replay_following}
-use Rattle.tube_party.proofs.Followed.{SoFar, so_far}
+use Rattle.tube_party.proofs.Followed.{so_far}
 use Rattle.tube_party.proofs.Replayed.{own, own_all, own_of_accesses, On, IsAnsweredOn}
 use Rattle.tube_party.proofs.Early.{SameAccesses, same_after, alike, like_on}
-use Rattle.tube_party.proofs.Joined.{accesses_events, IsPart, IsJoined, IsLine, joined, line_of_runs}
+use Rattle.tube_party.proofs.Joined.{accesses_events, IsPart, IsJoined, joined, line_of_runs}
 
 -- ---- States that go on alike
 
@@ -39,7 +37,7 @@ same_self m n s u e = record { due = ap m.due e; asks = ap m.asks e; next = λ a
 -- a state that was closed below its next step goes on as before
 same_shut : {S : Type 0} (m : Moves S) → IsLawful m → (at n : ℕ) (s : S) → at ≤ n → at ≤ m.due s → IsSame m n s (close_leaves m s at)
 same_shut m lawful at n s le low =
-    let shut : IsShut m s at = shut_is m lawful s at low in
+    let shut = shut_is m lawful s at low in
     record { due = sym shut.due; asks = sym shut.asks; next = λ a. sym (shut.next a); ends = λ high. sym (shut.again n le high) }
 
 -- one party at the chip, which goes on alike
@@ -120,7 +118,7 @@ from_power_on trace t side look a h = h
 part_of : {S : Type 0} (m : Moves S) → IsLawful m → (side : Side) (trace : List Entry) (at : ℕ) (s u : S) → IsTraceBelow at trace → (f : FollowsTrace m side trace at s u)
     → IsPart side power_on trace f.events
 part_of m lawful side trace at s u legal f =
-    let line : IsLine side (m.due s) f.events = line_of_runs m lawful side at (steps_of m side at f.follows.steps f.follows.runs) in
+    let line = line_of_runs m lawful side at (steps_of m side at f.follows.steps f.follows.runs) in
     record {
       rises = line.rises;
       each = line.each;
@@ -189,7 +187,7 @@ module _ {S T : Type 0} (h : Moves S) (p : Moves T) (lh : IsLawful h) (lp : IsLa
       let same : IsAlike h p n w (ticks h p n 0 (after_entries u v entries)) =
       subst (λ (x : World S T). IsAlike h p n x (ticks h p n 0 (after_entries u v entries))) (sym (from_there n le))
       (ticks_alike h p n n 0 stopped (after_entries u v entries) (alike_there n le)) in
-      let far : SoFar h p lh lp s t n n w = so_far h p lh lp s t n in
+      let far = so_far h p lh lp s t n in
       record { host = same.host.ends far.host_due; para = same.para.ends far.para_due; chip = same.chip; listed = same.listed }
 
 pub brought_back_is_reference : {S T : Type 0} (h : Moves S) (p : Moves T) → IsLawful h → IsLawful p → BroughtBackIsReference h p

@@ -1,7 +1,7 @@
 -- The accesses of the reference run make a trace.
-use Rattle.std.proofs.Common.{ℕ, zero, suc, ◌≡◌, ◌<◌, sym, subst, arith, if◌then◌else◌, List, [], ◌∷◌, ◌++◌, None, Some}
+use Rattle.std.proofs.Common.{ℕ, ◌≡◌, subst, if◌then◌else◌, List, [], ◌∷◌, ◌++◌, Some}
 use Rattle.std.specs.Prelude.{All, IsTrue}
-use Rattle.std.proofs.lemmas.List.Elements.{All-nil, All-cons, All-head, All-tail, All-weaker}
+use Rattle.std.proofs.lemmas.List.Elements.{All-nil, All-cons, All-head, All-tail}
 use Rattle.beeb_bits.specs.Order.{before}
 use Rattle.beeb_bits.specs.declared.Side.{Side}
 use Rattle.beeb_bits.specs.declared.Side.TheVariants.{Host, Para}
@@ -13,7 +13,7 @@ use Rattle.tube_chip.specs.Events.{Event, Rises, RisesAfter, IsAnsweredFrom, of_
 use Rattle.tube_trace.specs.declared.Entry.{Entry}
 use Rattle.tube_trace.specs.Entries.{IsEntry, entry_of, accesses, events_of}
 use Rattle.tube_party.specs.Moves.{Moves, IsLawful, MayAsk}
-use Rattle.tube_party.specs.Reference.{World, reference, IsFollowed, ReferenceIsTrace}
+use Rattle.tube_party.specs.Reference.{World, reference, ReferenceIsTrace}
 use Rattle.tube_party.proofs.Runs.{event, Steps, Over, Silent, Asking, steps_of}
 use Rattle.tube_party.proofs.Followed.{followed, all_earlier}
 use Rattle.tube_party.proofs.Replayed.{placed, all_below, all_after, rises_tail}
@@ -77,7 +77,7 @@ all_answered c (e ∷ l) h = answered_by c e.tick e.side e.query e.answer (acces
 pub reference_trace : {S T : Type 0} (h : Moves S) (p : Moves T) → IsLawful h → IsLawful p → ((s : S) → MayAsk Host (h.asks s)) → ((t : T) → MayAsk Para (p.asks t)) → ReferenceIsTrace h p
 reference_trace {S} {T} h p lh lp may_h may_p s t n =
     let w : World S T = reference h p s t n in
-    let f : IsFollowed h p s t n w = followed h p lh lp s t n in
+    let f = followed h p lh lp s t n in
     record {
       entries = all_entries w.list
           (both_sides May w.list (all_may h Host n may_h (steps_of h Host n f.host.steps f.host.runs))

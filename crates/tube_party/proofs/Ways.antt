@@ -1,6 +1,6 @@
 -- The parasite's steps while what it sees stays as it is: each asks nothing, looks at the lines, or reads a status register.
-use Rattle.std.proofs.Common.{ℕ, zero, suc, ◌≡◌, ◌+◌, ◌<◌, ◌≤◌, refl, sym, ◌∙◌, ap, subst, arith, nat_lt, Bool, true, false, cond, if◌then◌else◌}
-use Rattle.std.proofs.Common.{List, [], ◌∷◌, ◌++◌, length, length-append, take, Option, None, Some}
+use Rattle.std.proofs.Common.{ℕ, ◌≡◌, ◌+◌, ◌<◌, ◌≤◌, refl, sym, ◌∙◌, ap, arith, nat_lt, Bool, true, false, cond, if◌then◌else◌}
+use Rattle.std.proofs.Common.{List, [], ◌∷◌, ◌++◌, length, length-append, take, None, Some}
 use Rattle.std.specs.Prelude.{All}
 use Rattle.std.proofs.lemmas.List.{take_all, take-append-le}
 use Rattle.std.proofs.lemmas.List.Elements.{All-nil, All-cons, All-head, All-tail, All-append}
@@ -16,13 +16,11 @@ use Rattle.tube_chip.specs.Act.{Query, access, look, act, ShowsAlike, answer_of}
 use Rattle.tube_chip.specs.Events.{Event, of_side, is_side}
 use Rattle.tube_trace.specs.declared.Entry.{Entry}
 use Rattle.tube_trace.specs.Entries.{accesses, entry_of}
-use Rattle.tube_party.specs.Moves.{Moves, IsLawful, Runs, Looks, shown_lines, course}
+use Rattle.tube_party.specs.Moves.{Moves, IsLawful, shown_lines}
 use Rattle.tube_party.specs.Turn.{note_leaves, note_all_leaves}
 use Rattle.tube_party.specs.Logs.{accesses-append, at_most_one}
-use Rattle.tube_party.specs.OneThread.{IsKept}
 use Rattle.tube_chip.proofs.Rises.{status_leaves}
 use Rattle.tube_party.specs.CodePassing.{IsStatusRead, passed_entry}
-use Rattle.tube_party.proofs.Kept.{kept_more}
 use Rattle.tube_party.proofs.Runs.{event, IsOf, Steps, Over, Silent, Asking, steps_append, Glances, Here, Past, Seeing}
 
 -- what leaves the chip: a look, and a read of a status register
@@ -81,8 +79,7 @@ pub all_own : (events : List Event) → All (IsOf Para) events → (of_side Para
 all_own [] each = (refl, refl)
 all_own (e ∷ events) each =
     let is : e.side ≡ Para = All-head (IsOf Para) e events each in
-    let rest = all_own events (All-tail (IsOf Para) e events each) in
-    (
+    let rest = all_own events (All-tail (IsOf Para) e events each) in (
       ap (λ (x : Side). if is_side Para x then e ∷ of_side Para events else of_side Para events) is ∙ ap (λ l. e ∷ l) rest.0,
       ap (λ (x : Side). if is_side Host x then e ∷ of_side Host events else of_side Host events) is ∙ rest.1,
     )

@@ -136,7 +136,7 @@ unfolding AreOf Goes
 merge-rises-after x [] all rises = λ para of_para after. after
 merge-rises-after x (a ∷ host) all rises =
     λ para of_para after. rises_behind x (put_in a (merge host) para) (put_in-ahead x a (merge host) para rises.0 after)
-        (put_in-rises a (merge host) para all.0 (merge-rises-after a host all.1 rises.1) of_para (Rises-tail x para after))
+    (put_in-rises a (merge host) para all.0 (merge-rises-after a host all.1 rises.1) of_para (Rises-tail x para after))
 
 merge-rises : (host para : List Event) → AreOf Host host → AreOf Para para → Rises host → Rises para → Rises (merge host para)
 unfolding AreOf

@@ -1,6 +1,4 @@
-use Rattle.std.proofs.Common.{◌≡◌, ◌∙◌, refl, sym, arith, Some, None}
-use Rattle.beeb_bits.specs.declared.Side.TheVariants.{Host, Para}
-use Rattle.tube_party.specs.Turn.{first_of}
+use Rattle.std.proofs.Common.{◌∙◌, refl, arith}
 use Rattle.tube_party.proofs.UnderWay.{mark_of}
 use Rattle.tube_party.proofs.Both.{begins, finishes, para_count}
 use Rattle.tube_party.proofs.Passing.{host_turn, para_turn_over, rolls_back}
