@@ -77,16 +77,9 @@ pub record ReadSoFar (text : List ℕ) (entries : List Entry) (last : Option Ent
   pub whole : entries_behind 1 None (map entry_of (text_lines text)) ≡ in_front entries (entries_behind (length entries + 1) last (map entry_of (text_lines rest)))
   pub size : 20 * length entries + length rest ≡ length text
 
-in_front_none : (r : Result (List Entry) TraceError) → r ≡ in_front [] r
-in_front_none (Ok entries) = refl
-in_front_none (Err e) = refl
-
 in_front_more : (entries : List Entry) (e : Entry) (r : Result (List Entry) TraceError) → in_front entries (in_front (e ∷ []) r) ≡ in_front (entries ++ e ∷ []) r
 in_front_more entries e (Ok more) = ap Ok (sym (append_assoc entries (e ∷ []) more))
 in_front_more entries e (Err error) = refl
-
-pub read_none : (text : List ℕ) → ReadSoFar text [] None text
-read_none text = record { whole = in_front_none _; size = omega arith }
 
 pub read_more : (text : List ℕ) (entries : List Entry) (last : Option Entry) (rest : List ℕ) (e : Entry) →
     ReadSoFar text entries last rest → entry_of (take 20 rest) ≡ Some e → follows last e ≡ true → ReadSoFar text (entries ++ e ∷ []) (Some e) (drop 20 rest)
