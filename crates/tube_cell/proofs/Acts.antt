@@ -31,7 +31,7 @@ runs_later s t a from c (e ∷ es) last end more h le = (h.0, h.1, h.2, h.3, run
 runs_append : (s : Side) (t a from : ℕ) (c : State) (xs : List Event) (mid : State) (end : ℕ) (ys : List Event) (last : State) (stop : ℕ)
     → Runs s t a from c xs mid end → Runs s t (trust_after s c a xs) end mid ys last stop
     → Runs s t a from c (xs ++ ys) last stop
-runs_append s t a from c [] mid end ys last stop h k = runs_from s t a end from c ys last stop (subst (λ (d : State). Runs s t a end d ys last stop) h.0 k) h.1
+runs_append s t a from c [] mid end ys last stop h k = runs_from s t a _ from c _ _ _ (subst (λ (d : State). Runs s t a end d ys last stop) h.0 k) h.1
 runs_append s t a from c (x ∷ xs) mid end ys last stop h k = (h.0, h.1, h.2, h.3, runs_append s t (trust_past s c x a) (x.tick + 1) (chip_after_event c x) xs mid end ys last stop h.4 k)
 
 runs_local : (s : Side) (t a from : ℕ) (c : State) (es : List Event) (last : State) (end : ℕ) → Runs s t a from c es last end → last ≡ after_from c es
@@ -50,7 +50,7 @@ runs_tight s t a from c [] last end h = (h.0, omega arith)
 runs_tight s t a from c (e ∷ []) last end h = (h.0, h.1, h.2, h.3, (h.4.0, omega arith))
 runs_tight s t a from c (e ∷ f ∷ es) last end h =
     let x = h.4.1 in
-    let y = runs_grow s t (trust_past s c e a) (e.tick + 1) (chip_after_event c e) f es last end h.4 in
+    let y = runs_grow s t _ _ _ f es _ _ h.4 in
     let r = runs_tight s t (trust_past s c e a) (e.tick + 1) (chip_after_event c e) (f ∷ es) last end h.4 in
     (h.0, h.1, h.2, h.3, runs_later s t (trust_past s c e a) (e.tick + 1) (chip_after_event c e) (f ∷ es) last (horizon (e.tick + 1) (f ∷ es)) (horizon from (f ∷ es)) r (omega arith))
 
@@ -65,34 +65,36 @@ trust_after_append s c a (x ∷ xs) ys = trust_after_append s (chip_after_event 
 
 -- ---- act and see
 
--- events that run on from the local chip may join
+-- events that run on from the local chip, behind the unpublished ones
+abbrev RunsPast : Side → Known → List Event → List Event → State → List Event → State → ℕ → Type 0
+RunsPast s k mine ahead here = Runs s (word_of_other s k) (trust_after s k.chip k.trust ahead) (horizon (own_bound s k) (mine ++ ahead)) here
+
+-- they may join
 added_runs : (s : Side) (k : Known) (mine ahead : List Event) (here : State) (es : List Event) (last : State) (end : ℕ) → RunsOn s k mine ahead here
-    → Runs s (word_of_other s k) (trust_after s k.chip k.trust ahead) (horizon (own_bound s k) (mine ++ ahead)) here es last end → RunsOn s k mine (ahead ++ es) last
-added_runs s k mine ahead here es last end on h =
-    runs_append s (word_of_other s k) k.trust (horizon (own_bound s k) mine) k.chip ahead here (horizon (own_bound s k) (mine ++ ahead)) es last
-    (horizon (own_bound s k) (mine ++ (ahead ++ es))) on (go es h)
+    → RunsPast s k mine ahead here es last end → RunsOn s k mine (ahead ++ es) last
+added_runs s k mine ahead here es last end on h = runs_append s _ _ _ _ _ _ _ _ _ _ on (go es h)
   where
-    go : (es : List Event) → Runs s (word_of_other s k) (trust_after s k.chip k.trust ahead) (horizon (own_bound s k) (mine ++ ahead)) here es last end
-        → Runs s (word_of_other s k) (trust_after s k.chip k.trust ahead) (horizon (own_bound s k) (mine ++ ahead)) here es last (horizon (own_bound s k) (mine ++ (ahead ++ es)))
+    go : (es : List Event) → RunsPast s k mine ahead here es last end → RunsPast s k mine ahead here es last (horizon (own_bound s k) (mine ++ (ahead ++ es)))
     go [] h = let e = ap (λ l. past_last (mine ++ l)) (append-nil ahead) in (h.0, omega arith)
     go (e ∷ es) h =
+        let trust = trust_after s k.chip k.trust ahead in
+        let from = horizon (own_bound s k) (mine ++ ahead) in
         let f = h.1 in
-        let a = runs_grow s (word_of_other s k) (trust_after s k.chip k.trust ahead) (horizon (own_bound s k) (mine ++ ahead)) here e es last end h in
+        let a = runs_grow s (word_of_other s k) trust from here e es last end h in
         let b : past_last (mine ++ (ahead ++ e ∷ es)) ≡ past_last (e ∷ es) = ap past_last (sym (append_assoc mine ahead (e ∷ es))) ∙ past_last-more (mine ++ ahead) e es in
-        runs_later s (word_of_other s k) (trust_after s k.chip k.trust ahead) (horizon (own_bound s k) (mine ++ ahead)) here (e ∷ es) last
-        (horizon (horizon (own_bound s k) (mine ++ ahead)) (e ∷ es)) (horizon (own_bound s k) (mine ++ (ahead ++ e ∷ es)))
-        (runs_tight s (word_of_other s k) (trust_after s k.chip k.trust ahead) (horizon (own_bound s k) (mine ++ ahead)) here (e ∷ es) last end h) (omega arith)
+        runs_later s (word_of_other s k) trust from here (e ∷ es) last (horizon from (e ∷ es)) (horizon (own_bound s k) (mine ++ (ahead ++ e ∷ es)))
+        (runs_tight s (word_of_other s k) trust from here (e ∷ es) last end h) (omega arith)
 
-pub pass_added : (s : Side) (words : List ℕ) (here last : State) (end : ℕ) (es : List Event) (v w : View) → IsPassOf s words here v → v.trusted ≡ [] → w ≡ added_view v es
-    → Runs s (word_of_other s v.known) (trust_after s v.known.chip v.known.trust v.ahead) (horizon (own_bound s v.known) (v.mine ++ v.ahead)) here es last end → IsPassOf s words last w
-pass_added s words here last end es v w is none w_is runs =
+pub pass_added : {s : Side} {words : List ℕ} {here last : State} (es : List Event) (end : ℕ) {v w : View} → IsPassOf s words here v → v.trusted ≡ [] → w ≡ added_view v es
+    → RunsPast s v.known v.mine v.ahead here es last end → IsPassOf s words last w
+pass_added {s} {words} {last = last} es end {v = v} is none w_is runs =
     subst (λ (u : View). IsPassOf s words last u) (sym w_is) (record {
       role = is.role;
       well = is.well;
       words_are = is.words_are;
       trusted = is.trusted;
       not_both = λ some. none;
-      runs = added_runs s v.known v.mine v.ahead here es last end is.runs runs;
+      runs = added_runs s v.known v.mine v.ahead _ es _ end is.runs runs;
     })
 
 -- the trust that is known, cut
@@ -104,27 +106,27 @@ trust_min Host old new t a cut = go (same_readings old new)
     go false = omega arith
 trust_min Para old new t a cut = refl
 
-pub here_of : (id : TableId) (s : Side) (words : List ℕ) (old : State) (p : Carried) (v : View) → carried_of id s v ≡ p → IsPassOf s words old v → old ≡ here p
-here_of id s words old p v view is =
-    runs_local s (word_of_other s v.known) v.known.trust (horizon (own_bound s v.known) v.mine) v.known.chip v.ahead old (horizon (own_bound s v.known) (v.mine ++ v.ahead)) is.runs ∙ ap here view
+pub here_of : {id : TableId} {s : Side} {words : List ℕ} {old : State} {p : Carried} {v : View} → carried_of id s v ≡ p → IsPassOf s words old v → old ≡ here p
+here_of {s} view is =
+    runs_local s _ _ _ _ _ _ _ is.runs ∙ ap here view
 
 -- the other's bound, as the code has it
-pub bound_is : (id : TableId) (s : Side) (p : Carried) (v : View) (bound known cut trust : ℕ) → carried_of id s v ≡ p → CutIs s cut v
+pub bound_is : {id : TableId} {s : Side} {p : Carried} (v : View) {bound known : ℕ} (cut : ℕ) {trust : ℕ} → carried_of id s v ≡ p → CutIs s cut v
     → known ≡ v.known.trust → known < 2 ^ 64 → trust ≡ min known cut → bound ≡ bound_at s (word_of_other s v.known) trust → bound ≡ bound_here p
-bound_is id s p v bound known cut trust view cuts known_is small trust_is is =
+bound_is {s} v cut view cuts known_is small trust_is is =
     is ∙ ap (λ t. bound_at s (word_of_other s v.known) t) (trust_is ∙ ap (λ n. min n cut) known_is ∙ sym (cuts v.known.trust (omega arith))) ∙ ap bound_here view
 
 pub bound_bare : (p : Carried) → p.ahead ≡ [] → bound_here p ≡ other_bound p.side p.known
 bound_bare p none = ap (λ l. bound_at p.side (word_of_other p.side p.known) (trust_after p.side p.known.chip p.known.trust l)) none
 
-pub is_added : (id id' : TableId) (s : Side) (p : Carried) (v w : View) (es : List Event) → carried_of id s v ≡ p → id' ≡ id → w ≡ added_view v es → carried_of id' s w ≡ after_add p es
-is_added id id' s p v w es view cell w_is = (λ i. carried_of (cell i) s (w_is i)) ∙ ap (λ (q : Carried). after_add q es) view
+pub is_added : {id id' : TableId} {s : Side} {p : Carried} {v w : View} (es : List Event) → carried_of id s v ≡ p → id' ≡ id → w ≡ added_view v es → carried_of id' s w ≡ after_add p es
+is_added {s} es view cell w_is = (λ i. carried_of (cell i) s (w_is i)) ∙ ap (λ (q : Carried). after_add q es) view
 
 -- one event at the local chip
-one_runs : (id : TableId) (s : Side) (words : List ℕ) (old : State) (p : Carried) (v : View) (e : Event) → carried_of id s v ≡ p
+one_runs : {id : TableId} {s : Side} {words : List ℕ} {old : State} {p : Carried} {v : View} (e : Event) → carried_of id s v ≡ p
     → IsPassOf s words old v → e.side ≡ s → own_horizon p ≤ e.tick → Admits p.side (bound_here p) e.tick → Answers old e
-    → Runs s (word_of_other s v.known) (trust_after s v.known.chip v.known.trust v.ahead) (horizon (own_bound s v.known) (v.mine ++ v.ahead)) old (e ∷ []) (chip_after_event old e) (e.tick + 1)
-one_runs id s words old p v e view is side later admitted answers =
+    → RunsPast s v.known v.mine v.ahead old (e ∷ []) (chip_after_event old e) (e.tick + 1)
+one_runs {id} {s} {v} e view is side later admitted answers =
     let later' : own_horizon (carried_of id s v) ≤ e.tick = subst (λ (q : Carried). own_horizon q ≤ e.tick) (sym view) later in
     let admitted' : Admits s (bound_here (carried_of id s v)) e.tick = subst (λ (q : Carried). Admits q.side (bound_here q) e.tick) (sym view) admitted in
     (side, later', admitted', answers, (refl, omega arith))
@@ -136,51 +138,51 @@ act_of t s op v = access_at t s op (after_from v.known.chip v.ahead)
 abbrev pub see_of : ℕ → Side → View → Event
 see_of t s v = lines_at t s (lines_of (after_from v.known.chip v.ahead))
 
-pub is_acted : (id id' : TableId) (s : Side) (p : Carried) (v w : View) (t : ℕ) (op : Op) → carried_of id s v ≡ p → id' ≡ id
+pub is_acted : {id id' : TableId} {s : Side} {p : Carried} {v w : View} (t : ℕ) (op : Op) → carried_of id s v ≡ p → id' ≡ id
     → w ≡ added_view v (act_of t s op v ∷ []) → carried_of id' s w ≡ after_add p (access_at t p.side op (here p) ∷ [])
-is_acted id id' s p v w t op view cell w_is = (λ i. carried_of (cell i) s (w_is i)) ∙ ap (λ (q : Carried). after_add q (access_at t q.side op (here q) ∷ [])) view
+is_acted {s} t op view cell w_is = (λ i. carried_of (cell i) s (w_is i)) ∙ ap (λ (q : Carried). after_add q (access_at t q.side op (here q) ∷ [])) view
 
-pub is_seen : (id id' : TableId) (s : Side) (p : Carried) (v w : View) (t : ℕ) → carried_of id s v ≡ p → id' ≡ id
+pub is_seen : {id id' : TableId} {s : Side} {p : Carried} {v w : View} (t : ℕ) → carried_of id s v ≡ p → id' ≡ id
     → w ≡ added_view v (see_of t s v ∷ []) → carried_of id' s w ≡ after_add p (lines_at t p.side (lines_of (here p)) ∷ [])
-is_seen id id' s p v w t view cell w_is = (λ i. carried_of (cell i) s (w_is i)) ∙ ap (λ (q : Carried). after_add q (lines_at t q.side (lines_of (here q)) ∷ [])) view
+is_seen {s} t view cell w_is = (λ i. carried_of (cell i) s (w_is i)) ∙ ap (λ (q : Carried). after_add q (lines_at t q.side (lines_of (here q)) ∷ [])) view
 
-pub local_of : (s : Side) (words : List ℕ) (old : State) (v : View) → IsPassOf s words old v → old ≡ after_from v.known.chip v.ahead
-local_of s words old v is = runs_local s (word_of_other s v.known) v.known.trust (horizon (own_bound s v.known) v.mine) v.known.chip v.ahead old
-    (horizon (own_bound s v.known) (v.mine ++ v.ahead)) is.runs
+pub local_of : {s : Side} {words : List ℕ} {old : State} {v : View} → IsPassOf s words old v → old ≡ after_from v.known.chip v.ahead
+local_of {s} is = runs_local s _ _ _ _ _ _
+    _ is.runs
 
-pub acted : (id : TableId) (s : Side) (words : List ℕ) (old new : State) (p : Carried) (v w : View) (t : ℕ) (op : Op) → carried_of id s v ≡ p → IsPassOf s words old v → p.trusted ≡ []
+pub acted : {id : TableId} {s : Side} {words : List ℕ} {old new : State} {p : Carried} {v w : View} (t : ℕ) (op : Op) → carried_of id s v ≡ p → IsPassOf s words old v → p.trusted ≡ []
     → own_horizon p ≤ t → Admits p.side (bound_here p) t → new ≡ chip_after old s op → w ≡ added_view v (act_of t s op v ∷ []) → IsPassOf s words new w
-acted id s words old new p v w t op view is trusted later admitted new_is w_is =
-    let here_is = local_of s words old v is in
+acted {s} {words} {old} {v} {w} t op view is trusted later admitted new_is w_is =
+    let here_is = local_of is in
     let e : Event = act_of t s op v in
     let answers : Answers old e = ap (λ (c : State). Byte (answer_of c s op)) here_is in
     subst (λ (c : State). IsPassOf s words c w) (sym new_is)
-    (pass_added s words old (chip_after_event old e) (t + 1) (e ∷ []) v w is (none_of id s v p view trusted) w_is (one_runs id s words old p v e view is refl later admitted answers))
+    (pass_added _ _ is (none_of v view trusted) w_is (one_runs e view is refl later admitted answers))
 
-pub acted_cut : (s : Side) (words : List ℕ) (before after : State) (v w : View) (t cut next : ℕ) (op : Op) → IsPassOf s words before v → CutIs s cut v
+pub acted_cut : {s : Side} {words : List ℕ} {before after : State} {v w : View} (t cut : ℕ) {next : ℕ} (op : Op) → IsPassOf s words before v → CutIs s cut v
     → after ≡ chip_after before s op → next ≡ trust_next s before after t cut → w ≡ added_view v (act_of t s op v ∷ []) → CutIs s next w
-acted_cut s words before after v w t cut next op is cuts after_is next_is w_is =
+acted_cut {s} {v} t cut {next} op is cuts after_is next_is w_is =
     subst (CutIs s next) (sym w_is) (λ a lt.
-    let local = local_of s words before v is in
+    let local = local_of is in
     let c : State = after_from v.known.chip v.ahead in
     trust_after_append s v.known.chip a v.ahead (act_of t s op v ∷ [])
     ∙ ap (λ x. trust_next s c (chip_after c s op) t x) (cuts a lt)
     ∙ trust_min s c (chip_after c s op) t a cut
     ∙ ap (λ x. min a x) (sym (next_is ∙ (λ i. trust_next s (local i) ((after_is ∙ ap (λ d. chip_after d s op) local) i) t cut))))
 
-pub saw : (id : TableId) (s : Side) (words : List ℕ) (old : State) (p : Carried) (v w : View) (t : ℕ) → carried_of id s v ≡ p → IsPassOf s words old v → p.trusted ≡ []
+pub saw : {id : TableId} {s : Side} {words : List ℕ} {old : State} {p : Carried} {v w : View} (t : ℕ) → carried_of id s v ≡ p → IsPassOf s words old v → p.trusted ≡ []
     → own_horizon p ≤ t → Admits p.side (bound_here p) t → w ≡ added_view v (see_of t s v ∷ []) → IsPassOf s words old w
-saw id s words old p v w t view is trusted later admitted w_is =
-    let here_is = local_of s words old v is in
+saw {s} {old} {v} t view is trusted later admitted w_is =
+    let here_is = local_of is in
     let e : Event = see_of t s v in
     let answers : Answers old e = ap (λ (c : State). Seen (lines_of c)) here_is in
-    pass_added s words old (chip_after_event old e) (t + 1) (e ∷ []) v w is (none_of id s v p view trusted) w_is (one_runs id s words old p v e view is refl later admitted answers)
+    pass_added _ _ is (none_of v view trusted) w_is (one_runs e view is refl later admitted answers)
 
 watch_trust : (s : Side) (from : ℕ) (c : State) (a : ℕ) (es : List Event) (end : ℕ) → Watches s from c es end → trust_after s c a es ≡ a
 watch_trust s from c a [] end h = refl
 watch_trust s from c a (e ∷ es) end h =
     let stays = observed_stays c e.side e.query h.1 in
-    (λ i. trust_after s (stays i) (trust_stays s c (chip_after_event c e) e.tick a stays i) es) ∙ watch_trust s (e.tick + 1) c a es end h.5
+    (λ i. trust_after s (stays i) (trust_stays s e.tick a stays i) es) ∙ watch_trust s (e.tick + 1) c a es end h.5
 
 watch_here : (s : Side) (from : ℕ) (c : State) (es : List Event) (end : ℕ) → Watches s from c es end → after_from c es ≡ c
 watch_here s from c [] end h = refl
@@ -197,62 +199,62 @@ watch_runs s t a from c (e ∷ es) end h le =
       h.2,
       (omega arith),
       h.4,
-      subst (λ (y : State × ℕ). Runs s t y.1 (e.tick + 1) y.0 es c (max from end)) (λ i. (sym stays i, sym (trust_stays s c (chip_after_event c e) e.tick a stays) i))
-          (runs_later s t a (e.tick + 1) c es c (max (e.tick + 1) end) (max from end) (watch_runs s t a (e.tick + 1) c es end h.5 le) (omega arith)),
+      subst (λ (y : State × ℕ). Runs s t y.1 (e.tick + 1) y.0 es c (max from end)) (λ i. (sym stays i, sym (trust_stays s e.tick a stays) i))
+          (runs_later s t a _ c _ c (max (e.tick + 1) end) (max from end) (watch_runs s t a (e.tick + 1) c es end h.5 le) (omega arith)),
     )
 
-watch_old : (id : TableId) (s : Side) (words : List ℕ) (old : State) (p : Carried) (v : View) (es : List Event) (end : ℕ) → carried_of id s v ≡ p
+watch_old : {id : TableId} {s : Side} {words : List ℕ} {old : State} {p : Carried} {v : View} (es : List Event) (end : ℕ) → carried_of id s v ≡ p
     → IsPassOf s words old v → Watches p.side (own_horizon p) (here p) es end
     → Watches s (horizon (own_bound s v.known) (v.mine ++ v.ahead)) old es end
-watch_old id s words old p v es end view is h =
-    subst (λ (c : State). Watches s (horizon (own_bound s v.known) (v.mine ++ v.ahead)) c es end) (sym (local_of s words old v is))
+watch_old {s} {v} es end view is h =
+    subst (λ (c : State). Watches s (horizon (own_bound s v.known) (v.mine ++ v.ahead)) c es end) (sym (local_of is))
     (subst (λ (q : Carried). Watches q.side (own_horizon q) (here q) es end) (sym view) h)
 
-pub saw_all : (id : TableId) (s : Side) (words : List ℕ) (old : State) (p : Carried) (v w : View) (es : List Event) (end : ℕ) → carried_of id s v ≡ p → IsPassOf s words old v → p.trusted ≡ []
+pub saw_all : {id : TableId} {s : Side} {words : List ℕ} {old : State} {p : Carried} {v w : View} (es : List Event) (end : ℕ) → carried_of id s v ≡ p → IsPassOf s words old v → p.trusted ≡ []
     → Watches p.side (own_horizon p) (here p) es end → end + slack p.side ≤ bound_here p + 1 → w ≡ added_view v es → IsPassOf s words old w
-saw_all id s words old p v w es end view is trusted watches admitted w_is =
+saw_all {id} {s} {v} es end view is trusted watches admitted w_is =
     let admitted' : end + slack s ≤ bound_here (carried_of id s v) + 1 = subst (λ (q : Carried). end + slack q.side ≤ bound_here q + 1) (sym view) admitted in
-    pass_added s words old old (max (horizon (own_bound s v.known) (v.mine ++ v.ahead)) end) es v w is (none_of id s v p view trusted) w_is
+    pass_added _ _ is (none_of v view trusted) w_is
     (watch_runs s (word_of_other s v.known) (trust_after s v.known.chip v.known.trust v.ahead)
-    (horizon (own_bound s v.known) (v.mine ++ v.ahead)) old es end (watch_old id s words old p v es end view is watches) admitted')
+    _ _ _ _ (watch_old _ _ view is watches) admitted')
 
-pub saw_cut : (id : TableId) (s : Side) (words : List ℕ) (old : State) (p : Carried) (v w : View) (es : List Event) (end cut : ℕ) → carried_of id s v ≡ p → IsPassOf s words old v → CutIs s cut v
+pub saw_cut : {id : TableId} {s : Side} {words : List ℕ} {old : State} {p : Carried} {v w : View} (es : List Event) (end cut : ℕ) → carried_of id s v ≡ p → IsPassOf s words old v → CutIs s cut v
     → Watches p.side (own_horizon p) (here p) es end → w ≡ added_view v es → CutIs s cut w
-saw_cut id s words old p v w es end cut view is cuts watches w_is =
+saw_cut {s} {v} es end cut view is cuts watches w_is =
     subst (CutIs s cut) (sym w_is) (λ a lt.
     trust_after_append s v.known.chip a v.ahead es
-    ∙ watch_trust s (horizon (own_bound s v.known) (v.mine ++ v.ahead)) (after_from v.known.chip v.ahead) (trust_after s v.known.chip a v.ahead) es end
-    (subst (λ (c : State). Watches s (horizon (own_bound s v.known) (v.mine ++ v.ahead)) c es end) (local_of s words old v is) (watch_old id s words old p v es end view is watches))
+    ∙ watch_trust s _ _ (trust_after s v.known.chip a v.ahead) _ _
+    (subst (λ (c : State). Watches s (horizon (own_bound s v.known) (v.mine ++ v.ahead)) c es end) (local_of is) (watch_old _ _ view is watches))
     ∙ cuts a lt)
 
-pub saw_one_cut : (s : Side) (cut t : ℕ) (v w : View) → CutIs s cut v → w ≡ added_view v (see_of t s v ∷ []) → CutIs s cut w
-saw_one_cut s cut t v w cuts w_is =
+pub saw_one_cut : (s : Side) (cut t : ℕ) (v : View) {w : View} → CutIs s cut v → w ≡ added_view v (see_of t s v ∷ []) → CutIs s cut w
+saw_one_cut s cut t v cuts w_is =
     subst (CutIs s cut) (sym w_is) (λ a lt.
     trust_after_append s v.known.chip a v.ahead (see_of t s v ∷ [])
-    ∙ trust_stays s (after_from v.known.chip v.ahead) (after_from v.known.chip v.ahead) t (trust_after s v.known.chip a v.ahead) refl
+    ∙ trust_stays s t (trust_after s v.known.chip a v.ahead) refl
     ∙ cuts a lt)
 
 after_append : (c : State) (xs ys : List Event) → after_from c (xs ++ ys) ≡ after_from (after_from c xs) ys
 after_append c [] ys = refl
 after_append c (x ∷ xs) ys = after_append (chip_after_event c x) xs ys
 
-pub here_watched : (p q : Carried) (es : List Event) (end : ℕ) → Watches p.side (own_horizon p) (here p) es end → q ≡ after_add p es → here q ≡ here p
-here_watched p q es end watches is = ap here is ∙ after_append p.known.chip p.ahead es ∙ watch_here p.side (own_horizon p) (here p) es end watches
+pub here_watched : (p : Carried) {q : Carried} (es : List Event) (end : ℕ) → Watches p.side (own_horizon p) (here p) es end → q ≡ after_add p es → here q ≡ here p
+here_watched p es end watches is = ap here is ∙ after_append p.known.chip p.ahead es ∙ watch_here _ _ _ _ _ watches
 
-pub bound_watched : (p q : Carried) (es : List Event) (end : ℕ) → Watches p.side (own_horizon p) (here p) es end → q ≡ after_add p es → bound_here q ≡ bound_here p
-bound_watched p q es end watches is =
+pub bound_watched : (p : Carried) {q : Carried} (es : List Event) (end : ℕ) → Watches p.side (own_horizon p) (here p) es end → q ≡ after_add p es → bound_here q ≡ bound_here p
+bound_watched p es end watches is =
     ap bound_here is
     ∙ ap (λ t. bound_at p.side (word_of_other p.side p.known) t)
-    (trust_after_append p.side p.known.chip p.known.trust p.ahead es ∙ watch_trust p.side (own_horizon p) (here p) (trust_here p) es end watches)
+    (trust_after_append p.side p.known.chip p.known.trust p.ahead es ∙ watch_trust _ _ _ (trust_here p) _ _ watches)
 
-pub horizon_past : (p q : Carried) (es : List Event) → q ≡ after_add p es → (t : ℕ) → own_horizon p ≤ t → All (λ e. e.tick < t) es → own_horizon q ≤ t
-horizon_past p q es is t le low =
+pub horizon_past : (p : Carried) {q : Carried} (es : List Event) → q ≡ after_add p es → (t : ℕ) → own_horizon p ≤ t → All (λ e. e.tick < t) es → own_horizon q ≤ t
+horizon_past p es is t le low =
     let e = ap own_horizon is in
     let a = past_append t (p.events ++ p.ahead) es low in
     let b = ap past_last (append_assoc p.events p.ahead es) in
     omega arith
 
-pub horizon_added : (p q : Carried) (e : Event) → own_horizon p ≤ e.tick → q ≡ after_add p (e ∷ []) → own_horizon q ≡ e.tick + 1
-horizon_added p q e later is =
+pub horizon_added : (p : Carried) {q : Carried} (e : Event) → own_horizon p ≤ e.tick → q ≡ after_add p (e ∷ []) → own_horizon q ≡ e.tick + 1
+horizon_added p e later is =
     let end : past_last (p.events ++ (p.ahead ++ e ∷ [])) ≡ e.tick + 1 = ap past_last (sym (append_assoc p.events p.ahead (e ∷ []))) ∙ past_last-on (p.events ++ p.ahead) e in
     ap own_horizon is ∙ (omega arith)

@@ -48,13 +48,13 @@ climbs_below n t (x ∷ xs) h = elim (nat_lt x.tick t) as (λ b. Climbs n (cond 
 
 -- ---- the host's event
 
-after_end : (c : State) (k : Known) (host para list : List Event) (e : Event) → k.chip ≡ after (merge host para) → list ≡ merge host para ++ e ∷ [] → c ≡ chip_after_event k.chip e → c ≡ after list
-after_end c k host para list e chip is now = now ∙ ap (λ (d : State). chip_after_event d e) chip ∙ sym (after-on _ (merge host para) e) ∙ sym (ap after is)
+after_end : {c : State} (k : Known) (host para : List Event) {list : List Event} (e : Event) → k.chip ≡ after (merge host para) → list ≡ merge host para ++ e ∷ [] → c ≡ chip_after_event k.chip e → c ≡ after list
+after_end k host para e chip is now = now ∙ ap (λ (d : State). chip_after_event d e) chip ∙ sym (after-on _ (merge host para) e) ∙ sym (ap after is)
 
-host_fine : (k : Known) (n : Known) (host : List Event) (e : Event) → HostFine k host → e.side ≡ Host → past_last host ≤ e.tick → k.host ≤ n.host
+host_fine : {k : Known} (n : Known) {host : List Event} (e : Event) → HostFine k host → e.side ≡ Host → past_last host ≤ e.tick → k.host ≤ n.host
     → (is_access e.query ≡ true → e.tick < n.host) → e.tick ≤ own_bound Para n
     → ((t : ℕ) → t ≤ e.tick → t ≤ own_bound Para k → t ≤ own_bound Para n) → HostFine n (host ++ e ∷ [])
-host_fine k n host e fine is late up low admitted keep =
+host_fine n {host} e fine is late up low admitted keep =
     let before = low_of e.tick host fine.climbs late in
     record {
       sided = All-push (λ x. x.side ≡ Host) host e fine.sided is;
@@ -63,8 +63,8 @@ host_fine k n host e fine is late up low admitted keep =
       climbs = climbs_on 0 host e fine.climbs (omega arith) late;
     }
 
-para_kept : (k n : Known) (para : List Event) → ParaFine k para → k.para ≤ n.para → k.host ≤ n.host → k.trust ≤ n.trust → ParaFine n para
-para_kept k n para fine up host_up trust_up = record {
+para_kept : {k : Known} (n : Known) {para : List Event} → ParaFine k para → k.para ≤ n.para → k.host ≤ n.host → k.trust ≤ n.trust → ParaFine n para
+para_kept n fine up host_up trust_up = record {
   sided = fine.sided;
   below_own = λ i d lt a. let h = fine.below_own i d lt a in omega arith;
   admitted = λ i d lt a. let h = fine.admitted i d lt a in omega arith;
@@ -73,8 +73,8 @@ para_kept k n para fine up host_up trust_up = record {
 }
 
 -- cut at the tick to which the trust is taken back
-para_cut : (k n : Known) (t : ℕ) (para : List Event) → ParaFine k para → k.para ≤ n.para → k.host ≤ n.host → t < n.host → n.trust ≡ min k.trust t → ParaFine n (below t para)
-para_cut k n t para fine up host_up lt trust =
+para_cut : {k : Known} (n : Known) (t : ℕ) {para : List Event} → ParaFine k para → k.para ≤ n.para → k.host ≤ n.host → t < n.host → n.trust ≡ min k.trust t → ParaFine n (below t para)
+para_cut {k} n t {para} fine up host_up lt trust =
     let own = All-below (λ x. is_access x.query ≡ true → x.tick < own_bound Para k) t para fine.below_own in
     let changes = All-below (λ x. is_observation x.query ≡ false → (x.tick < k.para) × (x.tick < k.host)) t para fine.changes in
     let low = below_lies t para in
@@ -86,39 +86,39 @@ para_cut k n t para fine up host_up lt trust =
       climbs = climbs_below 0 t para fine.climbs;
     }
 
-early_of : (k : Known) (t : ℕ) (para : List Event) → ParaFine k para → k.host ≤ t → All (Early t) para
-early_of k t para fine le i d lt a = let h = (fine.changes i d lt a).1 in omega arith
+early_of : {k : Known} (t : ℕ) {para : List Event} → ParaFine k para → k.host ≤ t → All (Early t) para
+early_of t fine le i d lt a = let h = (fine.changes i d lt a).1 in omega arith
 
 -- these words once the host did an event, at this own word and trust
 abbrev pub host_next : Known → Event → ℕ → ℕ → Known
 host_next k e m trust = record { chip = chip_after_event k.chip e; host = m; para = k.para; trust = trust }
 
 -- an event of the host that shows the parasite the same as before
-pub good_calm : (k : Known) (host para : List Event) (e : Event) (m : ℕ) → Good k host para → e.side ≡ Host → k.host ≤ e.tick
+pub good_calm : {k : Known} {host para : List Event} (e : Event) (m : ℕ) → Good k host para → e.side ≡ Host → k.host ≤ e.tick
     → past_last host ≤ e.tick → e.tick ≤ own_bound Para k → Answers k.chip e → k.host ≤ m
     → (is_access e.query ≡ true → e.tick < m) → ShowsSame k.chip (chip_after_event k.chip e) → Good (host_next k e m k.trust) (host ++ e ∷ []) para
-good_calm k host para e m good is from late admitted answers up low same =
-    let r = legal_placed host para e is (low_of e.tick host good.host_fine.climbs late) good.para_fine.sided (early_of k e.tick para good.para_fine from) good.legal
+good_calm {k} {host} {para} e m good is from late admitted answers up low same =
+    let r = legal_placed host para e is (low_of e.tick host good.host_fine.climbs late) good.para_fine.sided (early_of e.tick good.para_fine from) good.legal
     (subst (λ (d : State). Answers d e) good.chip_is answers) (subst (λ (d : State). ShowsSame d (chip_after_event d e)) good.chip_is same) in
     record {
       chip_is = ap (λ (d : State). chip_after_event d e) good.chip_is ∙ sym r.1;
       legal = r.0;
-      host_fine = host_fine k (host_next k e m k.trust) host e good.host_fine is late up low admitted (λ t le h. h);
-      para_fine = para_kept k (host_next k e m k.trust) para good.para_fine (omega arith) up (omega arith);
+      host_fine = host_fine (host_next k e m k.trust) e good.host_fine is late up low admitted (λ t le h. h);
+      para_fine = para_kept (host_next k e m k.trust) good.para_fine (omega arith) up (omega arith);
     }
 
 -- one that may not: what is on trust from its tick on goes
-pub good_cut : (k : Known) (host para : List Event) (e : Event) (m : ℕ) → Good k host para → e.side ≡ Host → k.host ≤ e.tick → past_last host ≤ e.tick
+pub good_cut : {k : Known} {host para : List Event} (e : Event) (m : ℕ) → Good k host para → e.side ≡ Host → k.host ≤ e.tick → past_last host ≤ e.tick
     → e.tick ≤ own_bound Para k → Answers k.chip e → e.tick < m
     → Good (host_next k e m (min k.trust e.tick)) (host ++ e ∷ []) (below e.tick para)
-good_cut k host para e m good is from late admitted answers low =
+good_cut {k} {host} {para} e m good is from late admitted answers low =
     let n = host_next k e m (min k.trust e.tick) in
-    let r = legal_cut host para e (low_of e.tick host good.host_fine.climbs late) (early_of k e.tick para good.para_fine from) good.legal (subst (λ (d : State). Answers d e) good.chip_is answers) in
+    let r = legal_cut host para e (low_of e.tick host good.host_fine.climbs late) (early_of e.tick good.para_fine from) good.legal (subst (λ (d : State). Answers d e) good.chip_is answers) in
     record {
       chip_is = ap (λ (d : State). chip_after_event d e) good.chip_is ∙ sym r.1;
       legal = r.0;
-      host_fine = host_fine k n host e good.host_fine is late (omega arith) (λ a. low) (omega arith) (λ t le h. omega arith);
-      para_fine = para_cut k n e.tick para good.para_fine (omega arith) (omega arith) low refl;
+      host_fine = host_fine n e good.host_fine is late (omega arith) (λ a. low) (omega arith) (λ t le h. omega arith);
+      para_fine = para_cut n e.tick good.para_fine (omega arith) (omega arith) low refl;
     }
 
 -- ---- the parasite's event
@@ -127,8 +127,8 @@ gap_host_para : gap Host Para ≡ 0
 unfolding gap
 gap_host_para = refl
 
-host_before : (k : Known) (host : List Event) (e : Event) → HostFine k host → e.side ≡ Para → own_bound Para k ≤ e.tick → All (Precedes e) host
-host_before k host e fine is from i d lt =
+host_before : {k : Known} {host : List Event} (e : Event) → HostFine k host → e.side ≡ Para → own_bound Para k ≤ e.tick → All (Precedes e) host
+host_before {host} e fine is from i d lt =
     let x = slice_index_or host i d in
     let g : gap x.side e.side ≡ 0 = ap (λ (s : Side). gap s e.side) (fine.sided i d lt) ∙ ap (gap Host) is ∙ gap_host_para in
     let a = fine.admitted i d lt in
@@ -141,17 +141,17 @@ para_before para e climbs late = All-weaker (λ x. x.tick < e.tick) (Precedes e)
 abbrev pub para_next : Known → Event → ℕ → ℕ → Known
 para_next k e m trust = record { chip = chip_after_event k.chip e; host = k.host; para = m; trust = trust }
 
-pub good_para : (k : Known) (host para : List Event) (e : Event) (m a : ℕ) → Good k host para → e.side ≡ Para → own_bound Para k ≤ e.tick
+pub good_para : {k : Known} {host para : List Event} (e : Event) (m a : ℕ) → Good k host para → e.side ≡ Para → own_bound Para k ≤ e.tick
     → past_last para ≤ e.tick → Answers k.chip e → k.para ≤ m → k.trust ≤ a
     → (is_access e.query ≡ true → e.tick < max m a) → (is_access e.query ≡ true → e.tick < max k.host a) → (is_observation e.query ≡ false → (e.tick < m) × (e.tick < k.host))
     → Good (para_next k e m a) host (para ++ e ∷ [])
-good_para k host para e m a good is from late answers up trust_up low admitted changes =
-    let first = host_before k host e good.host_fine is from in
+good_para {k} {host} {para} e m a good is from late answers up trust_up low admitted changes =
+    let first = host_before e good.host_fine is from in
     let second = para_before para e good.para_fine.climbs late in
     let joined = joins_para host para e first in
-    let fine = para_kept k (para_next k e m a) para good.para_fine up (omega arith) trust_up in
+    let fine = para_kept (para_next k e m a) good.para_fine up (omega arith) trust_up in
     record {
-      chip_is = after_end (chip_after_event k.chip e) k host para (merge host (para ++ e ∷ [])) e good.chip_is joined refl;
+      chip_is = after_end k host para e good.chip_is joined refl;
       legal = subst IsLegal (sym joined) (legal_end host para e first second good.legal (subst (λ (d : State). Answers d e) good.chip_is answers));
       host_fine = record {
         sided = good.host_fine.sided;
@@ -170,8 +170,8 @@ good_para k host para e m a good is from late answers up trust_up low admitted c
 
 -- ---- words that rise
 
-pub good_raised : (k n : Known) (host para : List Event) → Good k host para → n.chip ≡ k.chip → k.host ≤ n.host → k.para ≤ n.para → k.trust ≤ n.trust → Good n host para
-good_raised k n host para good chip host_up para_up trust_up = record {
+pub good_raised : {k : Known} (n : Known) {host para : List Event} → Good k host para → n.chip ≡ k.chip → k.host ≤ n.host → k.para ≤ n.para → k.trust ≤ n.trust → Good n host para
+good_raised n good chip host_up para_up trust_up = record {
   chip_is = chip ∙ good.chip_is;
   legal = good.legal;
   host_fine = record {
@@ -180,7 +180,7 @@ good_raised k n host para good chip host_up para_up trust_up = record {
     admitted = λ i d lt. let h = good.host_fine.admitted i d lt in omega arith;
     climbs = good.host_fine.climbs;
   };
-  para_fine = para_kept k n para good.para_fine para_up host_up trust_up;
+  para_fine = para_kept n good.para_fine para_up host_up trust_up;
 }
 
 -- ---- the host's events, one after another
@@ -217,14 +217,14 @@ taken_back : (h a t m : ℕ) → h ≤ t → t < m → (min a t ≡ a) ⊎ ((h �
 taken_back h a t m le lt =
     ⊎_elim (λ (b : t < a). inr (omega arith, omega arith, omega arith)) (λ (b : a ≤ t). inl (omega arith)) (cases_lt t a)
 
-host_event : (k : Known) (host para : List Event) (e : Event) → Good k host para → e.side ≡ Host → k.host ≤ e.tick → past_last host ≤ e.tick → e.tick ≤ own_bound Para k → Answers k.chip e
+host_event : {k : Known} {host para : List Event} (e : Event) → Good k host para → e.side ≡ Host → k.host ≤ e.tick → past_last host ≤ e.tick → e.tick ≤ own_bound Para k → Answers k.chip e
     → HostStep k (host_next k e (e.tick + 1) (trust_past Host k.chip e k.trust)) host para (host ++ e ∷ [])
-host_event k host para e good is from late admitted answers =
+host_event {k} {host} {para} e good is from late admitted answers =
     (elim (same_readings k.chip (chip_after_event k.chip e)) as (λ b. same_readings k.chip (chip_after_event k.chip e) ≡ b
     → HostStep k (host_next k e (e.tick + 1) (cond b k.trust (min k.trust e.tick))) host para (host ++ e ∷ [])) [
       | true ↦ λ h. record {
         rest = para;
-        good = good_calm k host para e (e.tick + 1) good is from late admitted answers (omega arith) (λ a. omega arith) (readings_from k.chip (chip_after_event k.chip e) h);
+        good = good_calm e (e.tick + 1) good is from late admitted answers (omega arith) (λ a. omega arith) (readings_from k.chip (chip_after_event k.chip e) h);
         para_word = refl;
         host_up = omega arith;
         trust = inl refl;
@@ -232,7 +232,7 @@ host_event k host para e good is from late admitted answers =
       }
       | false ↦ λ h. record {
         rest = below e.tick para;
-        good = good_cut k host para e (e.tick + 1) good is from late admitted answers (omega arith);
+        good = good_cut e (e.tick + 1) good is from late admitted answers (omega arith);
         para_word = refl;
         host_up = omega arith;
         trust = taken_back k.host k.trust e.tick (e.tick + 1) from (omega arith);
@@ -243,8 +243,8 @@ host_event k host para e good is from late admitted answers =
       }
     ]) refl
 
-host_then : (k m n : Known) (host para list more : List Event) (a : HostStep k m host para list) → HostStep m n list a.rest more → HostStep k n host para more
-host_then k m n host para list more a b = record {
+host_then : {k m n : Known} {host para list more : List Event} (a : HostStep k m host para list) → HostStep m n list a.rest more → HostStep k n host para more
+host_then {k} {m} {n} a b = record {
   rest = b.rest;
   good = b.good;
   para_word = b.para_word ∙ a.para_word;
@@ -266,29 +266,29 @@ host_then k m n host para list more a b = record {
 abbrev pub host_last : Known → List Event → State → ℕ → Known
 host_last k es last end = record { chip = last; host = end; para = k.para; trust = trust_after Host k.chip k.trust es }
 
-pub host_runs : (es : List Event) (k : Known) (host para : List Event) (from : ℕ) (last : State) (end : ℕ) → Good k host para → k.host ≤ from
+pub host_runs : (es : List Event) {k : Known} {host para : List Event} (from : ℕ) (last : State) (end : ℕ) → Good k host para → k.host ≤ from
     → past_last host ≤ from → Runs Host k.para k.trust from k.chip es last end
     → HostStep k (host_last k es last end) host para (host ++ es)
-host_runs [] k host para from last end good le late h =
+host_runs [] {k} {host} {para} from last end good le late h =
     let f = h.1 in
     record {
       rest = para;
       good = subst (λ (l : List Event). Good (host_last k [] last end) l para) (sym (append-nil host))
-          (good_raised k (host_last k [] last end) host para good h.0 (omega arith) (omega arith) (omega arith));
+          (good_raised (host_last k [] last end) good h.0 (omega arith) (omega arith) (omega arith));
       para_word = refl;
       host_up = omega arith;
       trust = inl refl;
       keeps = λ mine trusted low eq. eq;
     }
-host_runs (e ∷ es) k host para from last end good le late h =
+host_runs (e ∷ es) {k} {host} {para} from last end good le late h =
     let f = h.1 in
     let admitted = h.2 in
     let m : Known = host_next k e (e.tick + 1) (trust_past Host k.chip e k.trust) in
     let on = past_last-on host e in
-    let a = host_event k host para e good h.0 (omega arith) (omega arith) (omega arith) h.3 in
-    let b = host_runs es m (host ++ e ∷ []) a.rest (e.tick + 1) last end a.good (omega arith) (omega arith) h.4 in
+    let a = host_event e good h.0 (omega arith) (omega arith) (omega arith) h.3 in
+    let b = host_runs es (e.tick + 1) last end a.good (omega arith) (omega arith) h.4 in
     subst (λ (l : List Event). HostStep k (host_last k (e ∷ es) last end) host para l) (append_assoc host (e ∷ []) es)
-    (host_then k m (host_last k (e ∷ es) last end) host para (host ++ e ∷ []) ((host ++ e ∷ []) ++ es) a b)
+    (host_then a b)
 
 -- where the words do not admit the host, there is no event
 pub host_idle : (o a from : ℕ) (c : State) (es : List Event) (last : State) (end : ℕ) → Runs Host o a from c es last end → max o a < from → last ≡ c
@@ -299,10 +299,10 @@ pub trusts_fall : (x k : Known) → Trusts Para x k → k.trust ≤ x.trust
 trusts_fall x k t = ⊎_elim (λ (e : k.trust ≡ x.trust). omega arith) (λ (e : (x.host ≤ k.trust) × (k.trust < x.trust) × (k.trust < k.host)). let l = e.1 in omega arith) t
 
 -- what the parasite's pass knows, once the host took its steps
-pub para_knows : (k n x : Known) → Knows Para k x → n.para ≡ k.para → k.host ≤ n.host
+pub para_knows : {k : Known} (n : Known) {x : Known} → Knows Para k x → n.para ≡ k.para → k.host ≤ n.host
     → (n.trust ≡ k.trust) ⊎ ((k.host ≤ n.trust) × (n.trust < k.trust) × (n.trust < n.host)) → (own_bound Para k < k.host → n.chip ≡ k.chip)
     → Knows Para n x
-para_knows k n x knows para up trust idle =
+para_knows {k} n {x} knows para up trust idle =
     let o = knows.other_word in
     let w = knows.own_word in
     let fall = trusts_fall x k knows.trust in
@@ -329,21 +329,21 @@ trust_after_para c a (e ∷ es) = trust_after_para (chip_after_event c e) a es
 abbrev pub para_last : Known → State → ℕ → Known
 para_last k last end = record { chip = last; host = k.host; para = end; trust = k.trust }
 
-pub para_runs : (es : List Event) (k : Known) (host para : List Event) (from : ℕ) (last : State) (end : ℕ) → Good k host para
+pub para_runs : (es : List Event) {k : Known} {host para : List Event} (from : ℕ) (last : State) (end : ℕ) → Good k host para
     → own_bound Para k ≤ from → past_last para ≤ from → Runs Para k.host k.trust from k.chip es last end
     → Good (para_last k last end) host (para ++ es)
-para_runs [] k host para from last end good le late h =
+para_runs [] {k} {host} {para} from last end good le late h =
     let f = h.1 in
-    subst (λ (l : List Event). Good (para_last k last end) host l) (sym (append-nil para)) (good_raised k (para_last k last end) host para good h.0 (omega arith) (omega arith) (omega arith))
-para_runs (e ∷ es) k host para from last end good le late h =
+    subst (λ (l : List Event). Good (para_last k last end) host l) (sym (append-nil para)) (good_raised (para_last k last end) good h.0 (omega arith) (omega arith) (omega arith))
+para_runs (e ∷ es) {k} {host} {para} from last end good le late h =
     let f = h.1 in
     let admitted = h.2 in
     let m : Known = para_next k e (e.tick + 1) k.trust in
     let on = past_last-on para e in
-    let a = good_para k host para e (e.tick + 1) k.trust good h.0 (omega arith) (omega arith) h.3 (omega arith) (omega arith) (λ is. omega arith)
+    let a = good_para e (e.tick + 1) k.trust good h.0 (omega arith) (omega arith) h.3 (omega arith) (omega arith) (λ is. omega arith)
     (λ is. omega arith) (λ is. (omega arith, omega arith)) in
     subst (λ (l : List Event). Good (para_last k last end) host l) (append_assoc para (e ∷ []) es)
-    (para_runs es m host (para ++ e ∷ []) (e.tick + 1) last end a (omega arith) (omega arith) h.4)
+    (para_runs es (e.tick + 1) last end a (omega arith) (omega arith) h.4)
 
 pub para_low : (o a from : ℕ) (c : State) (es : List Event) (last : State) (end : ℕ) → Runs Para o a from c es last end → All (λ e. e.tick < o) es
 para_low o a from c [] last end h = All-nil (λ e. e.tick < o)
@@ -363,12 +363,12 @@ runs_end s t a from c (e ∷ es) last end h =
 pub runs_low : (s : Side) (t a from : ℕ) (c : State) (es : List Event) (last : State) (end : ℕ) → Runs s t a from c es last end → All (λ e. e.tick < end) es
 runs_low s t a from c [] last end h = All-nil (λ e. e.tick < end)
 runs_low s t a from c (e ∷ es) last end h =
-    let r = runs_end s t (trust_past s c e a) (e.tick + 1) (chip_after_event c e) es last end h.4 in
+    let r = runs_end s t _ _ _ _ _ _ h.4 in
     All-cons (λ x. x.tick < end) e es (omega arith) (runs_low s t (trust_past s c e a) (e.tick + 1) (chip_after_event c e) es last end h.4)
 
 -- what the host's pass knows, once the parasite took its steps
-pub host_knows : (k n x : Known) → Knows Host k x → n.host ≡ k.host → k.para ≤ n.para → k.trust ≤ n.trust → (k.host ≤ own_bound Para k → n.chip ≡ k.chip) → Knows Host n x
-host_knows k n x knows host para trust idle =
+pub host_knows : {k : Known} (n : Known) {x : Known} → Knows Host k x → n.host ≡ k.host → k.para ≤ n.para → k.trust ≤ n.trust → (k.host ≤ own_bound Para k → n.chip ≡ k.chip) → Knows Host n x
+host_knows n knows host para trust idle =
     let o = knows.other_word in
     let w = knows.own_word in
     let t = knows.trust in
@@ -393,20 +393,20 @@ trusting k t = record k { trust = t }
 no_change : (q : Query) → is_observation q ≡ true → is_observation q ≡ false → ⊥
 no_change q is not = true≢false (sym is ∙ not)
 
-pub watched : (es : List Event) (k : Known) (host para : List Event) (from end : ℕ) → Good k host para → own_bound Para k ≤ from → past_last para ≤ from → from ≤ end → Watches Para from k.chip es end
+pub watched : (es : List Event) {k : Known} {host para : List Event} (from end : ℕ) → Good k host para → own_bound Para k ≤ from → past_last para ≤ from → from ≤ end → Watches Para from k.chip es end
     → Good (trusting k end) host (para ++ es)
-watched [] k host para from end good le late stop h =
-    subst (λ (l : List Event). Good (trusting k end) host l) (sym (append-nil para)) (good_raised k (trusting k end) host para good refl (omega arith) (omega arith) (omega arith))
-watched (e ∷ es) k host para from end good le late stop h =
+watched [] {k} {host} {para} from end good le late stop h =
+    subst (λ (l : List Event). Good (trusting k end) host l) (sym (append-nil para)) (good_raised (trusting k end) good refl (omega arith) (omega arith) (omega arith))
+watched (e ∷ es) {k} {host} {para} from end good le late stop h =
     let f = h.2 in
     let l = h.3 in
     let t = e.tick + 1 in
     let on = past_last-on para e in
-    let first = good_para k host para e k.para t good h.0 (omega arith) (omega arith) h.4 (omega arith) (omega arith) (λ is. omega arith)
+    let first = good_para e k.para t good h.0 (omega arith) (omega arith) h.4 (omega arith) (omega arith) (λ is. omega arith)
     (λ is. omega arith) (λ is. absurd (no_change e.query h.1 is)) in
     let stays = observed_stays k.chip e.side e.query h.1 in
     let good' : Good (trusting k t) host (para ++ e ∷ []) = subst (λ (c : State). Good (record k { chip = c; trust = t }) host (para ++ e ∷ [])) stays first in
-    subst (λ (l : List Event). Good (trusting k end) host l) (append_assoc para (e ∷ []) es) (watched es (trusting k t) host (para ++ e ∷ []) t end good' (omega arith) (omega arith) (omega arith) h.5)
+    subst (λ (l : List Event). Good (trusting k end) host l) (append_assoc para (e ∷ []) es) (watched es t end good' (omega arith) (omega arith) (omega arith) h.5)
 
 past_low : (t : ℕ) (xs : List Event) → All (λ x. x.tick < t) xs → past_last xs ≤ t
 past_low t [] all = omega arith

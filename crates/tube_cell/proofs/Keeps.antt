@@ -109,9 +109,13 @@ module _ (k : Known) (a b : List Event) (hs ps : ℕ) where
       (λ (x : (j ≢ pass) × (get_elem? views j ≡ some u)). rest j u x.0 x.1)
       (at_set views pass j w u e)
 
-fit_of : (s : Side) (words : List ℕ) (views : List View) (k : Kept words views) (j : ℕ) (v : View) → get_elem? views j ≡ some v → v.role ≡ one_side s
-    → FitsAs k.known k.host k.para k.host_seat k.para_seat (one_side s) j v
-fit_of s words views k j v at role = subst (λ (r : Role). FitsAs k.known k.host k.para k.host_seat k.para_seat r j v) role (k.each j v at)
+-- what holds of a pass while the rule stands so
+abbrev FitsIn : {words : List ℕ} {views : List View} → Kept words views → Role → ℕ → View → Type 0
+FitsIn k r j v = FitsAs k.known k.host k.para k.host_seat k.para_seat r j v
+
+fit_of : (s : Side) {words : List ℕ} {views : List View} (k : Kept words views) (j : ℕ) (v : View) → get_elem? views j ≡ some v → v.role ≡ one_side s
+    → FitsIn k (one_side s) j v
+fit_of s k j v at role = subst (λ r. FitsIn k r j v) role (k.each j v at)
 
 seat_of : (s : Side) (k : Known) (a b : List Event) (hs ps : ℕ) (j : ℕ) (u : View) → FitsAs k a b hs ps (one_side s) j u → j ≡ pick s hs ps
 seat_of Host k a b hs ps j u f = f.0
@@ -122,13 +126,13 @@ knows_of Host k a b hs ps j u f = f.3
 knows_of Para k a b hs ps j u f = f.3
 
 -- the pass of a side takes a step to these words and lists
-kept_step : (s : Side) (words next : List ℕ) (views : List View) (k : Kept words views) (pass : ℕ) (v w : View) (n : Known) (a b : List Event)
+kept_step : (s : Side) {words next : List ℕ} {views : List View} (k : Kept words views) (pass : ℕ) (v w : View) {n : Known} {a b : List Event}
     → get_elem? views pass ≡ some v → v.role ≡ one_side s → next ≡ words_of n → IsChip n.chip → Good n a b
-    → ((j : ℕ) (u : View) → FitsAs k.known k.host k.para k.host_seat k.para_seat (one_side (flip s)) j u → FitsAs n a b k.host_seat k.para_seat (one_side (flip s)) j u)
+    → ((j : ℕ) (u : View) → FitsIn k (one_side (flip s)) j u → FitsAs n a b k.host_seat k.para_seat (one_side (flip s)) j u)
     → w.role ≡ one_side s → FitsAs n a b k.host_seat k.para_seat (one_side s) pass w
     → Kept next (set views pass w)
-kept_step s words next views k pass v w n a b at role words_are well good keep role' fits =
-    let seat = seat_of s k.known k.host k.para k.host_seat k.para_seat pass v (fit_of s words views k pass v at role) in
+kept_step s {views} k pass v w {n} {a} {b} at role words_are well good keep role' fits =
+    let seat = seat_of s _ _ _ _ _ _ v (fit_of s k pass v at role) in
     record {
       known = n;
       host = a;
@@ -139,7 +143,7 @@ kept_step s words next views k pass v w n a b at role words_are well good keep r
       well = well;
       good = good;
       each = after_set n a b k.host_seat k.para_seat views pass w
-          (λ j u apart e. others s k.known n k.host k.para a b k.host_seat k.para_seat j u (λ same. apart (same ∙ sym seat)) (keep j u) u.role (k.each j u e))
+          (λ j u apart e. others s _ n _ _ a b _ _ j u (λ same. apart (same ∙ sym seat)) (keep j u) _ (k.each j u e))
           (subst (λ (r : Role). FitsAs n a b k.host_seat k.para_seat r pass w) (sym role') fits);
     }
 
@@ -150,8 +154,8 @@ knows_all : (s : Side) (k : Known) → IsChip k.chip → Knows s k k
 knows_all Host k well = record { well = well; own_word = refl; other_word = omega arith; trust = omega arith; same_chip = λ a. refl }
 knows_all Para k well = record { well = well; own_word = refl; other_word = omega arith; trust = inl refl; same_chip = λ a. refl }
 
-goes_on : (s : Side) (k v : Known) → Knows s k v → GoesOn (one_side s) v k
-goes_on s k v knows = (sym knows.own_word, knows.other_word, knows.trust, knows.same_chip)
+goes_on : {s : Side} {k v : Known} → Knows s k v → GoesOn (one_side s) v k
+goes_on knows = (sym knows.own_word, knows.other_word, knows.trust, knows.same_chip)
 
 settles : (k : Known) (mine trusted : List Event) → mine ++ below k.trust trusted ≡ (mine ++ firm k trusted) ++ below k.trust (pending_events k trusted)
 settles k mine [] = sym (append-nil (mine ++ []))
@@ -176,23 +180,23 @@ fits_found Para k a b hs ps j v well f =
     (f.0, f.1 ∙ settles k v.mine v.trusted, All-append (λ e. e.tick < k.host) v.mine (firm k v.trusted) f.2 (firm_low k v.trusted), knows_all Para k well)
 
 -- a step that changes no word and no list
-kept_found : (s : Side) (words : List ℕ) (views : List View) (k : Kept words views) (pass : ℕ) (v : View) → get_elem? views pass ≡ some v → v.role ≡ one_side s
+kept_found : (s : Side) {words : List ℕ} {views : List View} (k : Kept words views) (pass : ℕ) (v : View) → get_elem? views pass ≡ some v → v.role ≡ one_side s
     → Kept words (set views pass (found_view v k.known)) × Finds v words words (found_view v k.known)
-kept_found s words views k pass v at role =
-    let fit = fit_of s words views k pass v at role in (
-      kept_step s words words views k pass v (found_view v k.known) k.known k.host k.para at role k.words_are k.well k.good (λ j u f. f) role
-          (fits_found s k.known k.host k.para k.host_seat k.para_seat pass v k.well fit),
+kept_found s k pass v at role =
+    let fit = fit_of s k pass v at role in (
+      kept_step s k _ v _ at role k.words_are k.well k.good (λ j u f. f) role
+          (fits_found s _ _ _ _ _ _ v k.well fit),
       record {
         well = k.well;
         words_are = k.words_are;
         view_is = refl;
-        goes_on = subst (λ (r : Role). GoesOn r v.known k.known) (sym role) (goes_on s k.known v.known (knows_of s k.known k.host k.para k.host_seat k.para_seat pass v fit));
+        goes_on = subst (λ (r : Role). GoesOn r v.known k.known) (sym role) (goes_on (knows_of s _ _ _ _ _ _ v fit));
       },
     )
 
 pub learns : (s : Side) (pass : ℕ) (v : View) → v.role ≡ one_side s → Turns Kept pass v (λ x. x) Finds
 learns s pass v role words views k at =
-    let f = kept_found s words views k pass v at role in
+    let f = kept_found s k pass v at role in
     (found_view v k.known, f.0, f.1)
 
 -- ---- exchanges
@@ -209,89 +213,89 @@ exchanges s pass v goal next role hit words views k at = go (pointwise nat_eq wo
         let is : words ≡ words_of v.known = (bytes_decides words (words_of v.known)).0 e in
         (goal v, hit words views k at is, record { hit = λ _. refl; missed = λ not. absurd (not is) })
     go false e =
-        let f = kept_found s words views k pass v at role in
+        let f = kept_found s k pass v at role in
         (found_view v k.known, f.0, record { hit = λ is. absurd (true≢false (sym ((bytes_decides words (words_of v.known)).1 is) ∙ e)); missed = λ _. f.1 })
 
-knows_with : (s : Side) (n x : Known) → IsChip n.chip → x ≡ n → Knows s n x
-knows_with s n x well is = subst (Knows s n) (sym is) (knows_all s n well)
+knows_with : (s : Side) {n x : Known} → IsChip n.chip → x ≡ n → Knows s n x
+knows_with s {n} well is = subst (Knows s n) (sym is) (knows_all s n well)
 
 -- where the words are those known, the pass knows the words as they are
-known_is : PackingIsOneToOne → (s : Side) (words : List ℕ) (views : List View) (k : Kept words views) (pass : ℕ) (v : View)
+known_is : PackingIsOneToOne → (s : Side) {words : List ℕ} {views : List View} (k : Kept words views) (pass : ℕ) (v : View)
     → get_elem? views pass ≡ some v → v.role ≡ one_side s → words ≡ words_of v.known → v.known ≡ k.known
-known_is one s words views k pass v at role is =
-    let fit = fit_of s words views k pass v at role in
-    words-one one v.known k.known (knows_of s k.known k.host k.para k.host_seat k.para_seat pass v fit).well k.well (sym is ∙ k.words_are)
+known_is one s k pass v at role is =
+    let fit = fit_of s k pass v at role in
+    words-one one v.known k.known (knows_of s _ _ _ _ _ _ v fit).well k.well (sym is ∙ k.words_are)
 
-host_publishes : PackingIsOneToOne → (pass : ℕ) (v : View) (es : List Event) (last : State) (end : ℕ) (next : Known) → MayPublish Host es last end v → IsChip last
+host_publishes : PackingIsOneToOne → (pass : ℕ) {v : View} {es : List Event} {last : State} {end : ℕ} {next : Known} → MayPublish Host es last end v → IsChip last
     → next ≡ known_with Host last end (word_of_other Host v.known) (trust_after Host v.known.chip v.known.trust es)
     → (words : List ℕ) (views : List View) (k : Kept words views) → get_elem? views pass ≡ some v → words ≡ words_of v.known
     → Kept (words_of next) (set views pass (published_view v es next))
-host_publishes one pass v es last end next may well with_is words views k at is =
-    let fit = fit_of Host words views k pass v at may.role in
-    let same : v.known ≡ k.known = known_is one Host words views k pass v at may.role is in
+host_publishes one pass {v} {es} {last} {end} {next} may well with_is words views k at is =
+    let fit = fit_of Host k pass v at may.role in
+    let same : v.known ≡ k.known = known_is one Host k pass v at may.role is in
     let n : Known = host_last k.known es last end in
     let runs : Runs Host k.known.para k.known.trust (horizon k.known.host k.host) k.known.chip es last end =
     subst (λ (y : Known × List Event). Runs Host y.0.para y.0.trust (horizon y.0.host y.1) y.0.chip es last end) (λ i. (same i, fit.1 i)) may.runs in
     let next_is : next ≡ n = with_is ∙ ap (λ (x : Known). host_last x es last end) same in
-    let r = runs_end Host k.known.para k.known.trust (horizon k.known.host k.host) k.known.chip es last end runs in
-    let step = host_runs es k.known k.host k.para (horizon k.known.host k.host) last end k.good (omega arith) (omega arith) runs in
-    kept_step Host words (words_of next) views k pass v (published_view v es next) n (k.host ++ es) step.rest at may.role
+    let r = runs_end _ _ _ _ _ _ _ _ runs in
+    let step = host_runs _ _ _ _ k.good (omega arith) (omega arith) runs in
+    kept_step Host k _ v _ at may.role
     (ap words_of next_is) well step.good
     (λ j u f. (
       f.0,
       step.keeps u.mine u.trusted f.2 f.1,
       All-weaker (λ e. e.tick < k.known.host) (λ e. e.tick < end) (λ e l. omega arith) u.mine f.2,
-      para_knows k.known n u.known f.3 step.para_word step.host_up step.trust
-          (λ lt. host_idle k.known.para k.known.trust (horizon k.known.host k.host) k.known.chip es last end runs (omega arith)),
+      para_knows n f.3 step.para_word step.host_up step.trust
+          (λ lt. host_idle _ _ _ _ _ _ _ runs (omega arith)),
     ))
     may.role
-    (fit.0, ap (λ l. l ++ es) fit.1, may.none_trusted, knows_with Host n next well next_is)
+    (fit.0, ap (λ l. l ++ es) fit.1, may.none_trusted, knows_with Host well next_is)
 
-para_publishes : PackingIsOneToOne → (pass : ℕ) (v : View) (es : List Event) (last : State) (end : ℕ) (next : Known) → MayPublish Para es last end v → IsChip last
+para_publishes : PackingIsOneToOne → (pass : ℕ) {v : View} {es : List Event} {last : State} {end : ℕ} {next : Known} → MayPublish Para es last end v → IsChip last
     → next ≡ known_with Para last end (word_of_other Para v.known) (trust_after Para v.known.chip v.known.trust es)
     → (words : List ℕ) (views : List View) (k : Kept words views) → get_elem? views pass ≡ some v → words ≡ words_of v.known
     → Kept (words_of next) (set views pass (published_view v es next))
-para_publishes one pass v es last end next may well with_is words views k at is =
-    let fit = fit_of Para words views k pass v at may.role in
-    let same : v.known ≡ k.known = known_is one Para words views k pass v at may.role is in
+para_publishes one pass {v} {es} {last} {end} {next} may well with_is words views k at is =
+    let fit = fit_of Para k pass v at may.role in
+    let same : v.known ≡ k.known = known_is one Para k pass v at may.role is in
     let n : Known = para_last k.known last end in
     let bare : v.mine ≡ k.para = sym (fit.1 ∙ ap (λ l. v.mine ++ below k.known.trust l) may.none_trusted ∙ append-nil v.mine) in
     let runs : Runs Para k.known.host k.known.trust (horizon (own_bound Para k.known) k.para) k.known.chip es last end =
     subst (λ (y : Known × List Event). Runs Para y.0.host y.0.trust (horizon (own_bound Para y.0) y.1) y.0.chip es last end) (λ i. (same i, bare i)) may.runs in
     let next_is : next ≡ n =
     with_is ∙ ap (λ (t : ℕ). known_with Para last end (word_of_other Para v.known) t) (trust_after_para v.known.chip v.known.trust es) ∙ ap (λ (x : Known). para_last x last end) same in
-    let r = runs_end Para k.known.host k.known.trust (horizon (own_bound Para k.known) k.para) k.known.chip es last end runs in
-    let good = para_runs es k.known k.host k.para (horizon (own_bound Para k.known) k.para) last end k.good (omega arith) (omega arith) runs in
-    kept_step Para words (words_of next) views k pass v (published_view v es next) n k.host (k.para ++ es) at may.role
+    let r = runs_end _ _ _ _ _ _ _ _ runs in
+    let good = para_runs _ _ _ _ k.good (omega arith) (omega arith) runs in
+    kept_step Para k _ v _ at may.role
     (ap words_of next_is) well good
     (λ j u f. (
       f.0,
       f.1,
       f.2,
-      host_knows k.known n u.known f.3 refl (omega arith) (omega arith)
-          (λ le. para_idle k.known.host k.known.trust (horizon (own_bound Para k.known) k.para) k.known.chip es last end runs (omega arith)),
+      host_knows n f.3 refl (omega arith) (omega arith)
+          (λ le. para_idle _ _ _ _ _ _ _ runs (omega arith)),
     ))
     may.role (
       fit.0,
       ap (λ l. l ++ es) (sym bare) ∙ sym (append-nil (v.mine ++ es)) ∙ ap (λ l. (v.mine ++ es) ++ below n.trust l) (sym may.none_trusted),
-      All-append (λ e. e.tick < k.known.host) v.mine es fit.2 (para_low k.known.host k.known.trust (horizon (own_bound Para k.known) k.para) k.known.chip es last end runs),
-      knows_with Para n next well next_is,
+      All-append (λ e. e.tick < k.known.host) v.mine es fit.2 (para_low _ _ _ _ _ _ _ runs),
+      knows_with Para well next_is,
     )
 
-pub publishes : PackingIsOneToOne → (s : Side) (pass : ℕ) (v : View) (es : List Event) (last : State) (end : ℕ) (next : Known) → MayPublish s es last end v → IsChip last
+pub publishes : PackingIsOneToOne → (s : Side) (pass : ℕ) {v : View} {es : List Event} {last : State} {end : ℕ} {next : Known} → MayPublish s es last end v → IsChip last
     → next ≡ known_with s last end (word_of_other s v.known) (trust_after s v.known.chip v.known.trust es)
     → Turns Kept pass v (λ x. if pointwise nat_eq x (words_of v.known) then words_of next else x) (Publishes es next)
-publishes one Host pass v es last end next may well is = exchanges Host pass v (λ u. published_view u es next) (words_of next) may.role (host_publishes one pass v es last end next may well is)
-publishes one Para pass v es last end next may well is = exchanges Para pass v (λ u. published_view u es next) (words_of next) may.role (para_publishes one pass v es last end next may well is)
+publishes one Host pass {v} {es} {next} may well is = exchanges Host pass v (λ u. published_view u es next) (words_of next) may.role (host_publishes one pass may well is)
+publishes one Para pass {v} {es} {next} may well is = exchanges Para pass v (λ u. published_view u es next) (words_of next) may.role (para_publishes one pass may well is)
 
 -- ---- events on trust
 
-entrusts_hit : PackingIsOneToOne → (pass : ℕ) (v : View) (es : List Event) (end : ℕ) (next : Known) → MayEntrust es end v → next ≡ trusting v.known end
+entrusts_hit : PackingIsOneToOne → (pass : ℕ) {v : View} {es : List Event} {end : ℕ} {next : Known} → MayEntrust es end v → next ≡ trusting v.known end
     → (words : List ℕ) (views : List View) (k : Kept words views) → get_elem? views pass ≡ some v → words ≡ words_of v.known
     → Kept (words_of next) (set views pass (entrusted_view v es next))
-entrusts_hit one pass v es end next may with_is words views k at is =
-    let fit = fit_of Para words views k pass v at may.role in
-    let same : v.known ≡ k.known = known_is one Para words views k pass v at may.role is in
+entrusts_hit one pass {v} {es} {end} {next} may with_is words views k at is =
+    let fit = fit_of Para k pass v at may.role in
+    let same : v.known ≡ k.known = known_is one Para k pass v at may.role is in
     let n : Known = trusting k.known end in
     let next_is : next ≡ n = with_is ∙ ap (λ (x : Known). trusting x end) same in
     let from = horizon (own_bound Para k.known) v.mine in
@@ -300,39 +304,39 @@ entrusts_hit one pass v es end next may with_is words views k at is =
     let para_is : k.para ≡ v.mine ++ v.trusted = fit.1 ∙ ap (λ l. v.mine ++ l) (below_same k.known.trust v.trusted low) in
     let past : past_last k.para ≤ from = let a = past_append k.known.trust v.mine v.trusted low in let b : past_last k.para ≡ past_last (v.mine ++ v.trusted) = ap past_last para_is in omega arith in
     let stop : from ≤ end = subst (λ (x : Known). horizon (own_bound Para x) v.mine ≤ end) same may.later in
-    let good = watched es k.known k.host k.para from end k.good (omega arith) past stop watches in
+    let good = watched _ _ _ k.good (omega arith) past stop watches in
     let low' : All (λ e. e.tick < end) (v.trusted ++ es) =
-    All-append (λ e. e.tick < end) v.trusted es (All-weaker (λ e. e.tick < k.known.trust) (λ e. e.tick < end) (λ e l. omega arith) v.trusted low) (watches_low Para from k.known.chip es end watches) in
-    kept_step Para words (words_of next) views k pass v (entrusted_view v es next) n k.host (k.para ++ es) at may.role
+    All-append (λ e. e.tick < end) v.trusted es (All-weaker (λ e. e.tick < k.known.trust) (λ e. e.tick < end) (λ e l. omega arith) v.trusted low) (watches_low _ _ _ _ _ watches) in
+    kept_step Para k _ v _ at may.role
     (ap words_of next_is) k.well good
-    (λ j u f. (f.0, f.1, f.2, host_knows k.known n u.known f.3 refl (omega arith) (omega arith) (λ le. refl)))
+    (λ j u f. (f.0, f.1, f.2, host_knows n f.3 refl (omega arith) (omega arith) (λ le. refl)))
     may.role (
       fit.0,
       ap (λ l. l ++ es) para_is ∙ append_assoc v.mine v.trusted es ∙ ap (λ l. v.mine ++ l) (sym (below_same end (v.trusted ++ es) low')),
       fit.2,
-      knows_with Para n next k.well next_is,
+      knows_with Para k.well next_is,
     )
 
-pub entrusts : PackingIsOneToOne → (pass : ℕ) (v : View) (es : List Event) (end : ℕ) (next : Known) → MayEntrust es end v → next ≡ trusting v.known end
+pub entrusts : PackingIsOneToOne → (pass : ℕ) {v : View} {es : List Event} {end : ℕ} {next : Known} → MayEntrust es end v → next ≡ trusting v.known end
     → Turns Kept pass v (λ x. if pointwise nat_eq x (words_of v.known) then words_of next else x) (Entrusts es next)
-entrusts one pass v es end next may is = exchanges Para pass v (λ u. entrusted_view u es next) (words_of next) may.role (entrusts_hit one pass v es end next may is)
+entrusts one pass {v} {es} {next} may is = exchanges Para pass v (λ u. entrusted_view u es next) (words_of next) may.role (entrusts_hit one pass may is)
 
 -- ---- both at once: the rule is kept once some events are published, and then once others are on the list too
 
-both_hit : PackingIsOneToOne → (pass : ℕ) (v : View) (es seen : List Event) (last : State) (word end : ℕ) (next : Known) → MayPublishAndEntrust es last word seen end v → IsChip last
+both_hit : PackingIsOneToOne → (pass : ℕ) {v : View} {es seen : List Event} {last : State} {word end : ℕ} {next : Known} → MayPublishAndEntrust es last word seen end v → IsChip last
     → next ≡ known_with Para last word (word_of_other Para v.known) end
     → (words : List ℕ) (views : List View) (k : Kept words views) → get_elem? views pass ≡ some v → words ≡ words_of v.known
     → Kept (words_of next) (set views pass (told_view v es seen next))
-both_hit one pass v es seen last word end next may well with_is words views k at is =
+both_hit one pass {v} {es} {seen} {last} {word} {end} {next} may well with_is words views k at is =
     let mid : Known = known_with Para last word (word_of_other Para v.known) v.known.trust in
     let u : View = published_view v es mid in
     let mid_is : mid ≡ known_with Para last word (word_of_other Para v.known) (trust_after Para v.known.chip v.known.trust es) =
     ap (λ (t : ℕ). known_with Para last word (word_of_other Para v.known) t) (sym (trust_after_para v.known.chip v.known.trust es)) in
-    let first : Kept (words_of mid) (set views pass u) = para_publishes one pass v es last word mid may.publish well mid_is words views k at is in
+    let first : Kept (words_of mid) (set views pass u) = para_publishes one pass may.publish well mid_is words views k at is in
     let from = horizon (own_bound Para v.known) v.mine in
     let runs : Runs Para v.known.host v.known.trust from v.known.chip es last word = may.publish.runs in
-    let r = runs_end Para v.known.host v.known.trust from v.known.chip es last word runs in
-    let past = past_append word v.mine es (runs_low Para v.known.host v.known.trust from v.known.chip es last word runs) in
+    let r = runs_end _ _ _ _ _ _ _ _ runs in
+    let past = past_append word v.mine es (runs_low _ _ _ _ _ _ _ _ runs) in
     let order = may.order in
     let may' : MayEntrust seen end u = record {
       role = may.publish.role;
@@ -341,32 +345,32 @@ both_hit one pass v es seen last word end next may well with_is words views k at
       watches = let same : word ≡ horizon (own_bound Para mid) u.mine = omega arith in subst (λ (n : ℕ). Watches Para n last seen end) same may.watches;
     } in
     let second : Kept (words_of next) (set (set views pass u) pass (told_view v es seen next)) =
-    entrusts_hit one pass u seen end next may' with_is (words_of mid) (set views pass u) first (at_again views pass v u at) refl in
+    entrusts_hit one pass may' with_is (words_of mid) (set views pass u) first (at_again views pass v u at) refl in
     subst (Kept (words_of next)) (set-set views pass u (told_view v es seen next)) second
 
-pub publishes_and_entrusts : PackingIsOneToOne → (pass : ℕ) (v : View) (es seen : List Event) (last : State) (word end : ℕ) (next : Known) → MayPublishAndEntrust es last word seen end v → IsChip last
+pub publishes_and_entrusts : PackingIsOneToOne → (pass : ℕ) {v : View} {es seen : List Event} {last : State} {word end : ℕ} {next : Known} → MayPublishAndEntrust es last word seen end v → IsChip last
     → next ≡ known_with Para last word (word_of_other Para v.known) end
     → Turns Kept pass v (λ x. if pointwise nat_eq x (words_of v.known) then words_of next else x) (PublishesAndEntrusts es seen next)
-publishes_and_entrusts one pass v es seen last word end next may well is =
-    exchanges Para pass v (λ u. told_view u es seen next) (words_of next) may.publish.role (both_hit one pass v es seen last word end next may well is)
+publishes_and_entrusts one pass {v} {es} {seen} {next} may well is =
+    exchanges Para pass v (λ u. told_view u es seen next) (words_of next) may.publish.role (both_hit one pass may well is)
 
 -- ---- look
 
 -- the look joined the list: what the pass fits then
-kept_looked : (s : Side) (words : List ℕ) (views : List View) (k : Kept words views) (pass : ℕ) (v : View) (t : ℕ) → get_elem? views pass ≡ some v → MayLook s t v → Admits s (other_bound s k.known) t
+kept_looked : (s : Side) {words : List ℕ} {views : List View} (k : Kept words views) (pass : ℕ) {v : View} {t : ℕ} → get_elem? views pass ≡ some v → MayLook s t v → Admits s (other_bound s k.known) t
     → Kept words (set views pass (looked_view v t s k.known))
-kept_looked Host words views k pass v t at may admitted =
-    let fit = fit_of Host words views k pass v at may.role in
+kept_looked Host k pass {v} {t} at may admitted =
+    let fit = fit_of Host k pass v at may.role in
     let n = k.known in
     let word = fit.3.own_word in
     let later = may.later in
     let mine : past_last v.mine ≡ past_last k.host = ap past_last fit.1 in
-    let good = good_calm n k.host k.para (look_at t Host n.chip) n.host k.good refl (omega arith) (omega arith) (omega arith) refl (omega arith)
+    let good = good_calm (look_at t Host n.chip) n.host k.good refl (omega arith) (omega arith) (omega arith) refl (omega arith)
     (λ a. absurd (true≢false (sym a))) (shows_itself n.chip) in
-    kept_step Host words words views k pass v (looked_view v t Host n) n (k.host ++ look_at t Host n.chip ∷ []) k.para at may.role k.words_are k.well good (λ j u f. f) may.role
+    kept_step Host k _ v _ at may.role k.words_are k.well good (λ j u f. f) may.role
     (fit.0, ap (λ l. l ++ look_at t Host n.chip ∷ []) fit.1, ap (pending_events n) may.none_trusted, knows_all Host n k.well)
-kept_looked Para words views k pass v t at may admitted =
-    let fit = fit_of Para words views k pass v at may.role in
+kept_looked Para k pass {v} {t} at may admitted =
+    let fit = fit_of Para k pass v at may.role in
     let n = k.known in
     let word = fit.3.own_word in
     let fall = trusts_fall v.known n fit.3.trust in
@@ -374,23 +378,23 @@ kept_looked Para words views k pass v t at may admitted =
     let bare : k.para ≡ v.mine = fit.1 ∙ ap (λ l. v.mine ++ below n.trust l) may.none_trusted ∙ append-nil v.mine in
     let mine : past_last v.mine ≡ past_last k.para = ap past_last (sym bare) in
     let look : Event = look_at t Para n.chip in
-    let good = good_para n k.host k.para look n.para n.trust k.good refl (omega arith) (omega arith) refl (omega arith) (omega arith)
+    let good = good_para look n.para n.trust k.good refl (omega arith) (omega arith) refl (omega arith) (omega arith)
     (λ a. absurd (true≢false (sym a))) (λ a. absurd (true≢false (sym a))) (λ a. absurd (true≢false a)) in
-    kept_step Para words words views k pass v (looked_view v t Para n) n k.host (k.para ++ look ∷ []) at may.role k.words_are k.well good (λ j u f. f) may.role (
+    kept_step Para k _ v _ at may.role k.words_are k.well good (λ j u f. f) may.role (
       fit.0,
       ap (λ l. l ++ look ∷ []) bare ∙ sym (append-nil (v.mine ++ look ∷ [])) ∙ ap (λ l. (v.mine ++ look ∷ []) ++ below n.trust (pending_events n l)) (sym may.none_trusted),
       All-append (λ e. e.tick < n.host) v.mine (look ∷ []) fit.2 (All-cons (λ e. e.tick < n.host) look [] (omega arith) (All-nil (λ e. e.tick < n.host))),
       knows_all Para n k.well,
     )
 
-pub looks : (s : Side) (pass : ℕ) (v : View) (t : ℕ) → MayLook s t v → Turns Kept pass v (λ x. x) (Looks t)
-looks s pass v t may words views k at = go (admits s (other_bound s k.known) t) refl
+pub looks : {s : Side} (pass : ℕ) {v : View} {t : ℕ} → MayLook s t v → Turns Kept pass v (λ x. x) (Looks t)
+looks {s} pass {v} {t} may words views k at = go (admits s (other_bound s k.known) t) refl
   where
     told : (b : Bool) (w : View) → w.known ≡ k.known → admits s (other_bound s k.known) t ≡ b
         → MatchBool b (w ≡ looked_view v t s w.known) (w ≡ found_view v w.known) → Looks t v words words w
     told b w same e f =
-        let fit = fit_of s words views k pass v at may.role in
-        let on = goes_on s k.known v.known (knows_of s k.known k.host k.para k.host_seat k.para_seat pass v fit) in
+        let fit = fit_of s k pass v at may.role in
+        let on = goes_on (knows_of s _ _ _ _ _ _ v fit) in
         subst (λ (r : Role). LooksAs t r v words w) (sym may.role)
         (subst (λ (x : Known). IsChip x.chip × (words ≡ words_of x) × GoesOn (one_side s) v.known x
         × MatchBool (admits s (other_bound s x) t) (w ≡ looked_view v t s w.known) (w ≡ found_view v w.known)) (sym same)
@@ -399,11 +403,11 @@ looks s pass v t may words views k at = go (admits s (other_bound s k.known) t) 
     go : (b : Bool) → admits s (other_bound s k.known) t ≡ b → (w : View) × Kept words (slice_set views pass w) × Looks t v words words w
     go true e = (
       looked_view v t s k.known,
-      kept_looked s words views k pass v t at may (nat_le-true (t + slack s) (other_bound s k.known) e),
+      kept_looked s k pass at may (nat_le-true (t + slack s) (other_bound s k.known) e),
       told true (looked_view v t s k.known) refl e refl,
     )
     go false e =
-        let f = kept_found s words views k pass v at may.role in
+        let f = kept_found s k pass v at may.role in
         (found_view v k.known, f.0, told false (found_view v k.known) refl e refl)
 
 at_snoc : (l : List View) (a b : View) (j : ℕ) → get_elem? (l ++ a ∷ []) j ≡ some b → (get_elem? l j ≡ some b) ⊎ ((j ≡ length l) × (a ≡ b))
@@ -450,7 +454,7 @@ begins = record {
 
 pub halves : (pass : ℕ) (v : View) → v.role ≡ undivided → Forks Kept pass v (host_part v) (para_part v)
 halves pass v role words views k at =
-    let f : FitsAs k.known k.host k.para k.host_seat k.para_seat undivided pass v = subst (λ (r : Role). FitsAs k.known k.host k.para k.host_seat k.para_seat r pass v) role (k.each pass v at) in
+    let f : FitsIn k undivided pass v = subst (λ (r : Role). FitsIn k r pass v) role (k.each pass v at) in
     let seat = length (set views pass (host_part v)) in
     let host_fits : Fits k.known k.host k.para k.host_seat seat pass (host_part v) = (f.0, f.2, f.4, subst (Knows Host k.known) (sym f.6) (knows_all Host k.known k.well)) in
     let para_fits : Fits k.known k.host k.para k.host_seat seat seat (para_part v) = (
@@ -470,8 +474,8 @@ halves pass v role words views k at =
       good = k.good;
       each = λ j u e. ⊎_elim
           (λ was. after_set k.known k.host k.para k.host_seat seat views pass (host_part v)
-          (λ i x apart e'. nobody k.known k.known k.host k.para k.host k.para k.host_seat k.para_seat k.host_seat seat i x
-          (λ same. apart (same ∙ sym f.0)) (λ same. apart (same ∙ sym f.1)) x.role (k.each i x e'))
+          (λ i x apart e'. nobody _ k.known _ _ k.host k.para _ _ k.host_seat seat i x
+          (λ same. apart (same ∙ sym f.0)) (λ same. apart (same ∙ sym f.1)) _ (k.each i x e'))
           host_fits j u was)
           (λ (t : (j ≡ seat) × (para_part v ≡ u)). subst (λ (y : ℕ × View). Fits k.known k.host k.para k.host_seat seat y.0 y.1) (λ i. (sym t.0 i, t.1 i)) para_fits)
           (at_snoc (set views pass (host_part v)) (para_part v) u j e);
@@ -480,7 +484,7 @@ halves pass v role words views k at =
 -- the parasite's view goes to a new pass
 pub parts : (pass : ℕ) (v : View) → v.role ≡ one_side Para → Forks Kept pass v spent_view v
 parts pass v role words views k at =
-    let f = fit_of Para words views k pass v at role in
+    let f = fit_of Para k pass v at role in
     let seat = length (set views pass spent_view) in
     let new_fits : Fits k.known k.host k.para k.host_seat seat seat v = subst (λ (r : Role). FitsAs k.known k.host k.para k.host_seat seat r seat v) (sym role) (refl, f.1, f.2, f.3) in
     record {
@@ -511,7 +515,7 @@ parts pass v role words views k at =
 pub adds : (s : Side) (pass : ℕ) (v : View) (es : List Event) → v.role ≡ one_side s → Forks Kept pass v (added_view v es) spent_view
 adds s pass v es role words views k at =
     let w = added_view v es in
-    let fit = fit_of s words views k pass v at role in
+    let fit = fit_of s k pass v at role in
     record {
       known = k.known;
       host = k.host;
@@ -523,12 +527,12 @@ adds s pass v es role words views k at =
       good = k.good;
       each = λ j u e. ⊎_elim
           (λ was. after_set k.known k.host k.para k.host_seat k.para_seat views pass w (λ i x apart e'. k.each i x e')
-          (subst (λ (r : Role). FitsAs k.known k.host k.para k.host_seat k.para_seat r pass w) (sym role) (same s fit)) j u was)
+          (subst (λ (r : Role). FitsIn k r pass w) (sym role) (same s fit)) j u was)
           (λ (t : (j ≡ length (set views pass w)) × (spent_view ≡ u)). subst (λ (y : View). Fits k.known k.host k.para k.host_seat k.para_seat j y) t.1 tt)
           (at_snoc (set views pass w) spent_view u j e);
     }
   where
-    same : (s : Side) → FitsAs k.known k.host k.para k.host_seat k.para_seat (one_side s) pass v → FitsAs k.known k.host k.para k.host_seat k.para_seat (one_side s) pass (added_view v es)
+    same : (s : Side) → FitsIn k (one_side s) pass v → FitsIn k (one_side s) pass (added_view v es)
     same Host f = f
     same Para f = f
 
@@ -538,8 +542,8 @@ merges pass v giver w host para none words views k at apart there =
     let taken = joined_view v w in
     let was : get_elem? views giver ≡ some w = ⊎_elim (λ (t : (giver ≡ pass) × (taken ≡ w)). absurd (apart t.0))
     (λ (t : (giver ≢ pass) × (get_elem? views giver ≡ some w)). t.1) (at_set views pass giver taken w there) in
-    let f = fit_of Host words views k pass v at host in
-    let g = fit_of Para words views k giver w was para in
+    let f = fit_of Host k pass v at host in
+    let g = fit_of Para k giver w was para in
     let joined_fits : Fits k.known k.host k.para pass pass pass taken = (refl, refl, f.1, sym (g.1 ∙ ap (λ l. w.mine ++ below k.known.trust l) none ∙ append-nil w.mine)) in
     record {
       known = k.known;
@@ -553,15 +557,15 @@ merges pass v giver w host para none words views k at apart there =
       each = after_set k.known k.host k.para pass pass (set views pass taken) giver spent_view
           (λ j u off e. ⊎_elim
           (λ (t : (j ≡ pass) × (taken ≡ u)). subst (λ (y : ℕ × View). Fits k.known k.host k.para pass pass y.0 y.1) (λ i. (sym t.0 i, t.1 i)) joined_fits)
-          (λ (t : (j ≢ pass) × (get_elem? views j ≡ some u)). nobody k.known k.known k.host k.para k.host k.para k.host_seat k.para_seat pass pass j u
-          (λ same. t.0 (same ∙ sym f.0)) (λ same. off (same ∙ sym g.0)) u.role (k.each j u t.1))
+          (λ (t : (j ≢ pass) × (get_elem? views j ≡ some u)). nobody _ k.known _ _ k.host k.para _ _ pass pass j u
+          (λ same. t.0 (same ∙ sym f.0)) (λ same. off (same ∙ sym g.0)) _ (k.each j u t.1))
           (at_set views pass j taken u e))
           tt;
     }
 
 pub ends : (pass : ℕ) (v : View) → v.role ≡ rejoined → Turns Kept pass v (λ x. x) Ends
 ends pass v role words views k at =
-    let f : FitsAs k.known k.host k.para k.host_seat k.para_seat rejoined pass v = subst (λ (r : Role). FitsAs k.known k.host k.para k.host_seat k.para_seat r pass v) role (k.each pass v at) in
+    let f : FitsIn k rejoined pass v = subst (λ (r : Role). FitsIn k r pass v) role (k.each pass v at) in
     let lists : merge k.host k.para ≡ merge v.mine v.theirs = λ i. merge (sym f.2 i) (sym f.3 i) in (
       v,
       subst (Kept words) (sym (set_again views pass v at)) k,

@@ -113,8 +113,8 @@ answered-on : (c : State) (xs : List Event) (e : Event) → IsAnsweredFrom c xs 
 answered-on c [] e all here = (here, tt)
 answered-on c (x ∷ xs) e all here = (all.0, answered-on (chip_after_event c x) xs e all.1 here)
 
-legal-on : (xs : List Event) (e : Event) → IsLegal xs → All (Precedes e) xs → Answers (after xs) e → IsLegal (xs ++ e ∷ [])
-legal-on xs e legal all here = record { rises = rises-on xs e legal.rises all; answered = answered-on power_on xs e legal.answered here }
+legal-on : {xs : List Event} (e : Event) → IsLegal xs → All (Precedes e) xs → Answers (after xs) e → IsLegal (xs ++ e ∷ [])
+legal-on {xs} e legal all here = record { rises = rises-on xs e legal.rises all; answered = answered-on power_on xs e legal.answered here }
 
 -- ---- the parasite's event at the end
 
@@ -122,7 +122,7 @@ pub joins_para : (xs ys : List Event) (e : Event) → All (Precedes e) xs → me
 joins_para xs ys e all = joins_second xs ys e (All-weaker (Precedes e) (λ x. x.tick ≤ e.tick) (λ x h. omega arith) xs all)
 
 pub legal_end : (xs ys : List Event) (e : Event) → All (Precedes e) xs → All (Precedes e) ys → IsLegal (merge xs ys) → Answers (after (merge xs ys)) e → IsLegal (merge xs ys ++ e ∷ [])
-legal_end xs ys e first second legal here = legal-on (merge xs ys) e legal (All-merge (Precedes e) xs ys first second) here
+legal_end xs ys e first second legal here = legal-on e legal (All-merge (Precedes e) xs ys first second) here
 
 pub past_last-on : (xs : List Event) (e : Event) → past_last (xs ++ e ∷ []) ≡ e.tick + 1
 past_last-on [] e = refl
@@ -371,6 +371,6 @@ legal_cut xs ys e low early legal here =
     let same : after (below t all) ≡ after all = after-below t power_on all legal.rises early' in
     let precede = All-weaker (λ x. x.tick < t) (Precedes e) (precedes_below e) (below t all) (below_lies t all) in
     let short : IsLegal (below t all) = record { rises = rises-below t all legal.rises; answered = answered-below t power_on all legal.answered } in (
-      subst IsLegal (sym joined) (legal-on (below t all) e short precede (subst (λ (d : State). Answers d e) (sym same) here)),
+      subst IsLegal (sym joined) (legal-on e short precede (subst (λ (d : State). Answers d e) (sym same) here)),
       ap after joined ∙ after-on power_on (below t all) e ∙ ap (λ (d : State). chip_after_event d e) same,
     )

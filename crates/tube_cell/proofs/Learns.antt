@@ -26,13 +26,13 @@ bare_horizon s v none = ap (λ l. horizon (own_bound s v.known) l) (ap (λ a. v.
 abbrev pub RunsOn : Side → Known → List Event → List Event → State → Type 0
 RunsOn s k mine es here = Runs s (word_of_other s k) k.trust (horizon (own_bound s k) mine) k.chip es here (horizon (own_bound s k) (mine ++ es))
 
-pub bare_local : (s : Side) (words : List ℕ) (here : State) (v : View) → IsPassOf s words here v → v.ahead ≡ [] → here ≡ v.known.chip
-bare_local s words here v is none = (subst (λ (es : List Event). Runs s (word_of_other s v.known) v.known.trust
+pub bare_local : {s : Side} {words : List ℕ} {here : State} {v : View} → IsPassOf s words here v → v.ahead ≡ [] → here ≡ v.known.chip
+bare_local {s} {here} {v} is none = (subst (λ (es : List Event). Runs s (word_of_other s v.known) v.known.trust
     (horizon (own_bound s v.known) v.mine) v.known.chip es here (horizon (own_bound s v.known) (v.mine ++ v.ahead))) none is.runs).0
 
-pub pass_fresh : (s : Side) (words : List ℕ) (here : State) (v : View) → v.role ≡ one_side s → IsChip v.known.chip → words ≡ words_of v.known
+pub pass_fresh : (s : Side) {words : List ℕ} {here : State} (v : View) → v.role ≡ one_side s → IsChip v.known.chip → words ≡ words_of v.known
     → All (λ e. e.tick < v.known.trust) v.trusted → v.ahead ≡ [] → here ≡ v.known.chip → IsPassOf s words here v
-pass_fresh s words here v role well words_are trusted none same = record {
+pass_fresh s {here} v role well words_are trusted none same = record {
   role = role;
   well = well;
   words_are = words_are;
@@ -43,18 +43,18 @@ pass_fresh s words here v role well words_are trusted none same = record {
       (same, let e = bare_horizon s v none in omega arith);
 }
 
-pub none_low : (t : ℕ) (xs : List Event) → xs ≡ [] → All (λ e. e.tick < t) xs
-none_low t xs none = subst (All (λ e. e.tick < t)) (sym none) (All-nil (λ e. e.tick < t))
+pub none_low : (t : ℕ) {xs : List Event} → xs ≡ [] → All (λ e. e.tick < t) xs
+none_low t none = subst (All (λ e. e.tick < t)) (sym none) (All-nil (λ e. e.tick < t))
 
-pub bare_of : (id : TableId) (s : Side) (v : View) (p : Carried) → carried_of id s v ≡ p → p.ahead ≡ [] → v.ahead ≡ []
-bare_of id s v p view none = ap (λ q. q.ahead) view ∙ none
+pub bare_of : {id : TableId} {s : Side} (v : View) {p : Carried} → carried_of id s v ≡ p → p.ahead ≡ [] → v.ahead ≡ []
+bare_of v view none = ap (λ q. q.ahead) view ∙ none
 
-pub none_of : (id : TableId) (s : Side) (v : View) (p : Carried) → carried_of id s v ≡ p → p.trusted ≡ [] → v.trusted ≡ []
-none_of id s v p view none = ap (λ q. q.trusted) view ∙ none
+pub none_of : {id : TableId} {s : Side} (v : View) {p : Carried} → carried_of id s v ≡ p → p.trusted ≡ [] → v.trusted ≡ []
+none_of v view none = ap (λ q. q.trusted) view ∙ none
 
-pub later_of : (id : TableId) (s : Side) (v : View) (p : Carried) (t : ℕ) → carried_of id s v ≡ p → p.ahead ≡ [] → own_horizon p ≤ t → horizon (own_bound s v.known) v.mine ≤ t
-later_of id s v p t view none later =
-    let e = bare_horizon s v (bare_of id s v p view none) in
+pub later_of : {id : TableId} {s : Side} (v : View) {p : Carried} (t : ℕ) → carried_of id s v ≡ p → p.ahead ≡ [] → own_horizon p ≤ t → horizon (own_bound s v.known) v.mine ≤ t
+later_of {id} {s} v {p} t view none later =
+    let e = bare_horizon s v (bare_of v view none) in
     let h : own_horizon (carried_of id s v) ≡ own_horizon p = ap own_horizon view in
     omega arith
 
@@ -80,8 +80,8 @@ para_more t u a b from c (e ∷ es) last end h le = (h.0, h.1, (let x = h.2 in o
 
 runs_on : (s : Side) (v k : Known) (from : ℕ) (c : State) (es : List Event) (last : State) (end : ℕ) → GoesOn (one_side s) v k
     → Runs s (word_of_other s v) v.trust from c es last end → Runs s (word_of_other s k) k.trust from c es last end
-runs_on Host v k from c es last end on h = host_more v.para k.para v.trust k.trust from c es last end h on.1 on.2
-runs_on Para v k from c es last end on h = para_more v.host k.host v.trust k.trust from c es last end h on.1
+runs_on Host v k from c es last end on h = host_more _ k.para _ k.trust _ c _ _ _ h on.1 on.2
+runs_on Para v k from c es last end on h = para_more _ k.host _ k.trust _ c _ _ _ h on.1
 
 -- where there are unpublished events, the known bound admits the own
 runs_admit : (s : Side) (m t a : ℕ) (mine : List Event) (c : State) (es : List Event) (last : State) (end : ℕ) → Runs s t a (horizon m mine) c es last end → es ≢ [] → Admits s (bound_at s t a) m
@@ -127,8 +127,8 @@ firm_bound Para v k trusted on low = All-weaker (λ e. e.tick < v.trust) (λ e. 
       | false ↦ All-nil (λ e. e.tick < v.trust)
     ]
 
-pub bare_firm : (k : Known) (mine trusted : List Event) → trusted ≡ [] → mine ++ firm k trusted ≡ mine
-bare_firm k mine trusted none = ap (λ l. mine ++ firm k l) none ∙ append-nil mine
+pub bare_firm : (k : Known) (mine : List Event) {trusted : List Event} → trusted ≡ [] → mine ++ firm k trusted ≡ mine
+bare_firm k mine none = ap (λ l. mine ++ firm k l) none ∙ append-nil mine
 
 horizon_falls : (s : Side) (v k : Known) (mine trusted es : List Event) → GoesOn (one_side s) v k → All (λ e. e.tick < v.trust) trusted → (es ≢ [] → trusted ≡ [])
     → horizon (own_bound s k) ((mine ++ firm k trusted) ++ es) ≤ horizon (own_bound s v) (mine ++ es)
@@ -139,7 +139,7 @@ horizon_falls s v k mine trusted [] on low bare =
     let d = bound_falls s v k on in
     omega arith
 horizon_falls s v k mine trusted (e ∷ es) on low bare =
-    let a = ap (λ l. past_last (l ++ e ∷ es)) (bare_firm k mine trusted (bare (λ same. absurd (cc)))) in
+    let a = ap (λ l. past_last (l ++ e ∷ es)) (bare_firm k mine (bare (λ same. absurd (cc)))) in
     let d = bound_falls s v k on in
     omega arith
 
@@ -153,7 +153,7 @@ found_runs s v k mine trusted [] old new on local bare h =
 found_runs s v k mine trusted (e ∷ es) old new on local bare h =
     let f = h.1 in
     let x = h.2 in
-    let mine_is = bare_firm k mine trusted (bare (λ same. absurd (cc))) in
+    let mine_is = bare_firm k mine (bare (λ same. absurd (cc))) in
     let bound = bound_stays s v k e.tick on (omega arith) h.2 in
     let chip = on.3 (omega arith) in
     let kept : new ≡ old = ⊎_elim (λ (t : (k.chip ≡ v.chip) × (new ≡ old)). t.1) (λ (t : (k.chip ≢ v.chip) × (new ≡ k.chip)). absurd (t.0 (sym chip))) local in
@@ -164,8 +164,8 @@ found_runs s v k mine trusted (e ∷ es) old new on local bare h =
 pub on_of : (s : Side) (v : View) (k : Known) → v.role ≡ one_side s → GoesOn v.role v.known k → GoesOn (one_side s) v.known k
 on_of s v k role on = subst (λ (r : Role). GoesOn r v.known k) role on
 
-pub pass_found : (s : Side) (words found : List ℕ) (old new : State) (v w : View) → IsPassOf s words old v → Found found v w → Local v.known.chip old w.known.chip new → IsPassOf s found new w
-pass_found s words found old new v w is f local =
+pub pass_found : {s : Side} {words found : List ℕ} {old : State} (new : State) {v w : View} → IsPassOf s words old v → Found found v w → Local v.known.chip old w.known.chip new → IsPassOf s found new w
+pass_found {s} new {v} {w} is f local =
     let k : Known = w.known in
     let on = on_of s v k is.role f.goes_on in
     let w_is = f.view_is in
@@ -176,7 +176,7 @@ pass_found s words found old new v w is f local =
       trusted = subst (All (λ e. e.tick < k.trust)) (sym (ap (λ u. u.trusted) w_is)) (pending_low s v.known k v.trusted on.2 is.trusted);
       not_both = λ some. ap (λ u. u.trusted) w_is ∙ ap (pending_events k) (is.not_both (subst (λ (l : List Event). l ≢ []) (ap (λ u. u.ahead) w_is) some));
       runs = subst (λ (y : List Event × List Event). RunsOn s k y.0 y.1 new) (λ i. ((sym w_is i).mine, (sym w_is i).ahead))
-          (found_runs s v.known k v.mine v.trusted v.ahead old new on local is.not_both is.runs);
+          (found_runs s _ k v.mine v.trusted _ _ new on local is.not_both is.runs);
     }
 
 -- what becomes of events on trust
@@ -198,9 +198,9 @@ firm_ahead k (x ∷ xs) lt = let e = le-false k.trust k.host lt in (ap (λ b. co
 abbrev pub finding : Carried → Known → ℕ → Carried
 finding p k n = record p { events = p.events ++ firm k p.trusted; trusted = pending_events k p.trusted; known = k; higher = n }
 
-pub is_taken : (p q : Carried) (n : ℕ) → q ≡ finding p q.known n → Trusts p.side p.known q.known → q.known.trust < p.known.trust
+pub is_taken : (p : Carried) {q : Carried} (n : ℕ) → q ≡ finding p q.known n → Trusts p.side p.known q.known → q.known.trust < p.known.trust
     → (q.events ≡ p.events ++ below q.known.trust p.trusted) × (q.trusted ≡ [])
-is_taken p q n rest trust lt =
+is_taken p {q} n rest trust lt =
     let f = firm_past q.known p.trusted (passed p.side trust) in
     (ap (λ x. x.events) rest ∙ ap (λ l. p.events ++ l) f.0, ap (λ x. x.trusted) rest ∙ f.1)
   where
@@ -209,26 +209,26 @@ is_taken p q n rest trust lt =
     passed Para t = ⊎_elim (λ (e : q.known.trust ≡ p.known.trust). absurd (omega arith))
         (λ (e : (p.known.host ≤ q.known.trust) × (q.known.trust < p.known.trust) × (q.known.trust < q.known.host)). let x = e.2 in omega arith) t
 
-pub is_settled : (p q : Carried) (n : ℕ) → q ≡ finding p q.known n → All (λ e. e.tick < p.known.trust) p.trusted → q.known.trust ≡ p.known.trust
+pub is_settled : (p : Carried) {q : Carried} (n : ℕ) → q ≡ finding p q.known n → All (λ e. e.tick < p.known.trust) p.trusted → q.known.trust ≡ p.known.trust
     → q.known.trust ≤ q.known.host → (q.events ≡ p.events ++ p.trusted) × (q.trusted ≡ [])
-is_settled p q n rest low same le =
+is_settled p {q} n rest low same le =
     let f = firm_past q.known p.trusted le in
     let all = below_same q.known.trust p.trusted (subst (λ (t : ℕ). All (λ e. e.tick < t) p.trusted) (sym same) low) in
     (ap (λ x. x.events) rest ∙ ap (λ l. p.events ++ l) (f.0 ∙ all), ap (λ x. x.trusted) rest ∙ f.1)
 
-pub is_staying : (p q : Carried) (n : ℕ) → q ≡ finding p q.known n → q.known.host < q.known.trust → (q.events ≡ p.events) × (q.trusted ≡ p.trusted)
-is_staying p q n rest lt =
+pub is_staying : (p : Carried) {q : Carried} (n : ℕ) → q ≡ finding p q.known n → q.known.host < q.known.trust → (q.events ≡ p.events) × (q.trusted ≡ p.trusted)
+is_staying p {q} n rest lt =
     let f = firm_ahead q.known p.trusted lt in
     (ap (λ x. x.events) rest ∙ ap (λ l. p.events ++ l) f.0 ∙ append-nil p.events, ap (λ x. x.trusted) rest ∙ f.1)
 
-pub learned : (id id' : TableId) (s : Side) (words found : List ℕ) (old : State) (p : Carried) (v w : View) → carried_of id s v ≡ p
+pub learned : {id id' : TableId} {s : Side} {words found : List ℕ} {old : State} {p : Carried} {v w : View} → carried_of id s v ≡ p
     → IsPassOf s words old v → id' ≡ id → Found found v w → Learns p (carried_of id' s w)
-learned id id' s words found old p v w view is cell f =
+learned {id} {id'} {s} {v} {w} view is cell f =
     let k : Known = w.known in
     let on = on_of s v k is.role f.goes_on in
     let w_is = f.view_is in
     let up : w.higher ≡ v.higher + rise (one_side s) v.known k = ap (λ u. u.higher) w_is ∙ ap (λ (r : Role). v.higher + rise r v.known k) is.role in
-    let falls = horizon_falls s v.known k v.mine v.trusted v.ahead on is.trusted is.not_both in
+    let falls = horizon_falls s _ k v.mine v.trusted v.ahead on is.trusted is.not_both in
     let now : horizon (own_bound s k) (w.mine ++ w.ahead) ≡ horizon (own_bound s k) ((v.mine ++ firm k v.trusted) ++ v.ahead) = λ i. horizon (own_bound s k) ((w_is i).mine ++ (w_is i).ahead) in
     let n = v.higher + rise (one_side s) v.known k in
     let rest : carried_of id' s w ≡ finding (carried_of id s v) k n = λ i. record {
@@ -243,13 +243,13 @@ learned id id' s words found old p v w view is cell f =
     } in
     subst (λ (q : Carried). Learns q (carried_of id' s w)) view (record {
       rest = rest;
-      taken = is_taken (carried_of id s v) (carried_of id' s w) n rest on.2;
-      settled = is_settled (carried_of id s v) (carried_of id' s w) n rest is.trusted;
-      stays = is_staying (carried_of id s v) (carried_of id' s w) n rest;
+      taken = is_taken (carried_of id s v) n rest on.2;
+      settled = is_settled (carried_of id s v) n rest is.trusted;
+      stays = is_staying (carried_of id s v) n rest;
       plain = λ none. λ i. record {
         cell = cell i;
         side = s;
-        events = (ap (λ u. u.mine) w_is ∙ bare_firm k v.mine v.trusted none) i;
+        events = (ap (λ u. u.mine) w_is ∙ bare_firm k v.mine none) i;
         trusted = (ap (λ u. u.trusted) w_is ∙ ap (pending_events k) none ∙ sym none) i;
         ahead = (w_is i).ahead;
         known = k;
@@ -260,8 +260,8 @@ learned id id' s words found old p v w view is cell f =
       other_word = on.1;
       trust = on.2;
       horizon = omega arith;
-      same_chip = λ some. sym (on.3 (runs_admit s (own_bound s v.known) (word_of_other s v.known) v.known.trust v.mine v.known.chip v.ahead old
-          (horizon (own_bound s v.known) (v.mine ++ v.ahead)) is.runs some));
+      same_chip = λ some. sym (on.3 (runs_admit s (own_bound s v.known) _ _ v.mine _ v.ahead _
+          _ is.runs some));
     })
 
 -- ---- the tick at which the trust is cut
@@ -274,17 +274,17 @@ pub cut_fresh : (s : Side) (v : View) → v.ahead ≡ [] → CutIs s 18446744073
 cut_fresh s v none a lt = ap (λ l. trust_after s v.known.chip a l) none ∙ (omega arith)
 
 -- where events are unpublished, the words found have the same chip
-pub cut_found : (s : Side) (words found : List ℕ) (old : State) (cut : ℕ) (v w : View) → IsPassOf s words old v → CutIs s cut v → Found found v w → CutIs s cut w
-cut_found s words found old cut v w is cuts f a lt =
+pub cut_found : {s : Side} {words found : List ℕ} {old : State} (cut : ℕ) {v w : View} → IsPassOf s words old v → CutIs s cut v → Found found v w → CutIs s cut w
+cut_found {s} {old} cut {v} {w} is cuts f a lt =
     ap (λ (l : List Event). trust_after s w.known.chip a l) (ap (λ u. u.ahead) f.view_is) ∙ go v.ahead is.runs (cuts a lt)
   where
     on : GoesOn (one_side s) v.known w.known
-    on = on_of s v w.known is.role f.goes_on
+    on = on_of s v _ is.role f.goes_on
 
     go : (es : List Event) → Runs s (word_of_other s v.known) v.known.trust (horizon (own_bound s v.known) v.mine) v.known.chip es old (horizon (own_bound s v.known) (v.mine ++ v.ahead))
         → trust_after s v.known.chip a es ≡ min a cut → trust_after s w.known.chip a es ≡ min a cut
     go [] runs e = e
     go (x ∷ xs) runs e =
-        let admits = runs_admit s (own_bound s v.known) (word_of_other s v.known) v.known.trust v.mine v.known.chip (x ∷ xs) old
-        (horizon (own_bound s v.known) (v.mine ++ v.ahead)) runs (λ no. absurd (cc)) in
+        let admits = runs_admit s (own_bound s v.known) _ _ v.mine _ (x ∷ xs) _
+        _ runs (λ no. absurd (cc)) in
         ap (λ (c : State). trust_after s c a (x ∷ xs)) (sym (on.3 admits)) ∙ e

@@ -114,9 +114,9 @@ readings_same c =
     λ i. lines_same (lines_of c) i && s 1 i && s 2 i && s 3 i && s 4 i
 
 -- where the chip stays, so does the trust
-pub trust_stays : (s : Side) (c d : State) (t a : ℕ) → d ≡ c → trust_next s c d t a ≡ a
-trust_stays Host c d t a same = ap (λ (x : State). trust_next Host c x t a) same ∙ ap (λ b. cond b a (min a t)) (readings_same c)
-trust_stays Para c d t a same = refl
+pub trust_stays : (s : Side) {c d : State} (t a : ℕ) → d ≡ c → trust_next s c d t a ≡ a
+trust_stays Host {c} t a same = ap (λ (x : State). trust_next Host c x t a) same ∙ ap (λ b. cond b a (min a t)) (readings_same c)
+trust_stays Para t a same = refl
 
 -- where the trust lies no later than the tick, it stays too
 pub early_stays : (c d : State) (t a : ℕ) → a ≤ t → trust_next Host c d t a ≡ a

@@ -23,24 +23,24 @@ use Rattle.tube_cell.proofs.Learns.{bare_horizon, bare_local, pass_fresh, none_l
 
 -- ---- steps
 
-pub publishes_as : PackingIsOneToOne → (s : Side) (pass : ℕ) (v : View) (es : List Event) (last : State) (end trust : ℕ) (next : Known) (old new : List ℕ)
+pub publishes_as : PackingIsOneToOne → {s : Side} (pass : ℕ) {v : View} {es : List Event} {last : State} {end trust : ℕ} {next : Known} {old new : List ℕ}
     → MayPublish s es last end v → IsChip last → trust ≡ trust_after s v.known.chip v.known.trust es
     → next ≡ known_with s last end (word_of_other s v.known) trust → old ≡ words_of v.known → new ≡ words_of next
     → Turns Kept pass v (λ x. if pointwise nat_eq x old then new else x) (Publishes es next)
-publishes_as one s pass v es last end trust next old new may well trust_is next_is old_is new_is =
+publishes_as one {s} pass {v} {es} {last} {end} {next} may well trust_is next_is old_is new_is =
     let P : List ℕ → List ℕ → Type 0 = λ a b. Turns Kept pass v (λ x. if pointwise nat_eq x a then b else x) (Publishes es next) in
     subst (λ (y : List ℕ × List ℕ). P y.0 y.1) (λ i. (sym old_is i, sym new_is i))
-    (publishes one s pass v es last end next may well (next_is ∙ ap (λ t. known_with s last end (word_of_other s v.known) t) trust_is))
+    (publishes one s pass may well (next_is ∙ ap (λ t. known_with s last end (word_of_other s v.known) t) trust_is))
 
-pub entrusts_as : PackingIsOneToOne → (pass : ℕ) (v : View) (es : List Event) (trust : ℕ) (next : Known) (old new : List ℕ)
+pub entrusts_as : PackingIsOneToOne → (pass : ℕ) {v : View} {es : List Event} {trust : ℕ} {next : Known} {old new : List ℕ}
     → MayEntrust es trust v → next ≡ trusting v.known trust → old ≡ words_of v.known → new ≡ words_of next
     → Turns Kept pass v (λ x. if pointwise nat_eq x old then new else x) (Entrusts es next)
-entrusts_as one pass v es trust next old new may next_is old_is new_is =
+entrusts_as one pass {v} {es} {next} may next_is old_is new_is =
     let P : List ℕ → List ℕ → Type 0 = λ a b. Turns Kept pass v (λ x. if pointwise nat_eq x a then b else x) (Entrusts es next) in
-    subst (λ (y : List ℕ × List ℕ). P y.0 y.1) (λ i. (sym old_is i, sym new_is i)) (entrusts one pass v es trust next may next_is)
+    subst (λ (y : List ℕ × List ℕ). P y.0 y.1) (λ i. (sym old_is i, sym new_is i)) (entrusts one pass may next_is)
 
-pub looks_as : (s : Side) (pass : ℕ) (v : View) (t tick : ℕ) → MayLook s t v → t ≡ tick → Turns Kept pass v (λ x. x) (Looks tick)
-looks_as s pass v t tick may is = subst (λ (n : ℕ). Turns Kept pass v (λ x. x) (Looks n)) is (looks s pass v t may)
+pub looks_as : {s : Side} (pass : ℕ) {v : View} {t tick : ℕ} → MayLook s t v → t ≡ tick → Turns Kept pass v (λ x. x) (Looks tick)
+looks_as pass {v} may is = subst (λ (n : ℕ). Turns Kept pass v (λ x. x) (Looks n)) is (looks pass may)
 
 -- ---- raise and commit
 
@@ -48,53 +48,53 @@ chip_with : (s : Side) (c : State) (m t a : ℕ) → (known_with s c m t a).chip
 chip_with Host c m t a = refl
 chip_with Para c m t a = refl
 
-pub may_raise : (id : TableId) (s : Side) (words : List ℕ) (here : State) (p : Carried) (v : View) (t : ℕ) → carried_of id s v ≡ p
+pub may_raise : {id : TableId} {s : Side} {words : List ℕ} {here : State} {p : Carried} {v : View} (t : ℕ) → carried_of id s v ≡ p
     → IsPassOf s words here v → p.ahead ≡ [] → p.trusted ≡ [] → own_horizon p ≤ t → MayPublish s [] here t v
-may_raise id s words here p v t view is none trusted later = record {
+may_raise {v} t view is none trusted later = record {
   role = is.role;
-  none_trusted = none_of id s v p view trusted;
-  runs = (bare_local s words here v is (bare_of id s v p view none), later_of id s v p t view none later);
+  none_trusted = none_of v view trusted;
+  runs = (bare_local is (bare_of v view none), later_of v t view none later);
 }
 
-pub may_look : (id : TableId) (s : Side) (words : List ℕ) (here : State) (p : Carried) (v : View) (t : ℕ) → carried_of id s v ≡ p
+pub may_look : {id : TableId} {s : Side} {words : List ℕ} {here : State} {p : Carried} {v : View} (t : ℕ) → carried_of id s v ≡ p
     → IsPassOf s words here v → p.ahead ≡ [] → p.trusted ≡ [] → own_horizon p ≤ t → MayLook s t v
-may_look id s words here p v t view is none trusted later = record { role = is.role; none_trusted = none_of id s v p view trusted; later = later_of id s v p t view none later }
+may_look {v} t view is none trusted later = record { role = is.role; none_trusted = none_of v view trusted; later = later_of v t view none later }
 
-pub may_commit : (id : TableId) (s : Side) (words : List ℕ) (here next : State) (p : Carried) (v : View) (t : ℕ) (op : Op) → carried_of id s v ≡ p
+pub may_commit : {id : TableId} {s : Side} {words : List ℕ} {here next : State} {p : Carried} {v : View} (t : ℕ) (op : Op) → carried_of id s v ≡ p
     → IsPassOf s words here v → p.ahead ≡ [] → p.trusted ≡ [] → own_horizon p ≤ t
     → Admits p.side (other_bound p.side p.known) t → next ≡ chip_after here s op → MayPublish s (access_at t s op v.known.chip ∷ []) next (t + 1) v
-may_commit id s words here next p v t op view is none trusted later admitted next_is =
-    let local = bare_local s words here v is (bare_of id s v p view none) in
+may_commit {s} {v} t op view is none trusted later admitted next_is =
+    let local = bare_local is (bare_of v view none) in
     let admitted' : Admits s (other_bound s v.known) t = subst (λ (q : Carried). Admits q.side (other_bound q.side q.known) t) (sym view) admitted in
     record {
       role = is.role;
-      none_trusted = none_of id s v p view trusted;
-      runs = (refl, later_of id s v p t view none later, admitted', refl, (next_is ∙ ap (λ c. chip_after c s op) local, omega arith));
+      none_trusted = none_of v view trusted;
+      runs = (refl, later_of v t view none later, admitted', refl, (next_is ∙ ap (λ c. chip_after c s op) local, omega arith));
     }
 
 -- the trust of a commit, as the code has it of its local chip
-pub commit_trust : (id : TableId) (s : Side) (words : List ℕ) (here next : State) (p : Carried) (v : View) (t trust known : ℕ) (op : Op)
+pub commit_trust : {id : TableId} {s : Side} {words : List ℕ} {here next : State} {p : Carried} {v : View} (t : ℕ) {trust known : ℕ} (op : Op)
     → carried_of id s v ≡ p → IsPassOf s words here v → p.ahead ≡ []
     → next ≡ chip_after here s op → known ≡ v.known.trust → trust ≡ trust_next s here next t known → trust ≡ trust_next s v.known.chip (chip_after v.known.chip s op) t v.known.trust
-commit_trust id s words here next p v t trust known op view is none next_is known_is trust_is =
-    let local = bare_local s words here v is (bare_of id s v p view none) in
+commit_trust {s} {v} t op view is none next_is known_is trust_is =
+    let local = bare_local is (bare_of v view none) in
     trust_is ∙ (λ i. trust_next s (local i) ((next_is ∙ ap (λ c. chip_after c s op) local) i) t (known_is i))
 
 -- the pass once its events are published
-pub pass_published : (s : Side) (words : List ℕ) (here : State) (end trust : ℕ) (es : List Event) (v w : View) → v.role ≡ one_side s → v.trusted ≡ [] → IsChip here
+pub pass_published : (s : Side) {words : List ℕ} {here : State} (end trust : ℕ) (es : List Event) (v : View) {w : View} → v.role ≡ one_side s → v.trusted ≡ [] → IsChip here
     → w ≡ published_view v es (known_with s here end (word_of_other s v.known) trust) → words ≡ words_of (known_with s here end (word_of_other s v.known) trust) → IsPassOf s words here w
-pass_published s words here end trust es v w role trusted well w_is words_are =
+pass_published s {here} end trust es v {w} role trusted well w_is words_are =
     let k : w.known ≡ known_with s here end (word_of_other s v.known) trust = ap (λ u. u.known) w_is in
     let chip : w.known.chip ≡ here = ap (λ x. x.chip) k ∙ chip_with s here end (word_of_other s v.known) trust in
-    pass_fresh s words here w (ap (λ u. u.role) w_is ∙ role) (subst IsChip (sym chip) well) (words_are ∙ ap words_of (sym k))
-    (none_low w.known.trust w.trusted (ap (λ u. u.trusted) w_is ∙ trusted)) (ap (λ u. u.ahead) w_is) (sym chip)
+    pass_fresh s w (ap (λ u. u.role) w_is ∙ role) (subst IsChip (sym chip) well) (words_are ∙ ap words_of (sym k))
+    (none_low w.known.trust (ap (λ u. u.trusted) w_is ∙ trusted)) (ap (λ u. u.ahead) w_is) (sym chip)
 
-pub is_raised : (id id' : TableId) (s : Side) (words : List ℕ) (here : State) (p : Carried) (v w : View) (t trust : ℕ) → carried_of id s v ≡ p
+pub is_raised : {id id' : TableId} {s : Side} {words : List ℕ} {here : State} {p : Carried} {v w : View} (t : ℕ) {trust : ℕ} → carried_of id s v ≡ p
     → IsPassOf s words here v → p.ahead ≡ [] → id' ≡ id → trust ≡ v.known.trust
     → w ≡ published_view v [] (known_with s here t (word_of_other s v.known) trust) → carried_of id' s w ≡ after_raise p t
-is_raised id id' s words here p v w t trust view is none cell trust_is w_is =
-    let bare = bare_of id s v p view none in
-    let local = bare_local s words here v is bare in
+is_raised {s} {v} t view is none cell trust_is w_is =
+    let bare = bare_of v view none in
+    let local = bare_local is bare in
     (λ i. record {
       cell = cell i;
       side = s;
@@ -109,13 +109,13 @@ is_raised id id' s words here p v w t trust view is none cell trust_is w_is =
     no_more : (n : ℕ) → n + 0 ≡ n
     no_more n = omega arith
 
-pub is_committed : (id id' : TableId) (s : Side) (words : List ℕ) (here next : State) (p : Carried) (v w : View) (t trust : ℕ) (op : Op)
+pub is_committed : {id id' : TableId} {s : Side} {words : List ℕ} {here next : State} {p : Carried} {v w : View} (t : ℕ) {trust : ℕ} (op : Op)
     → carried_of id s v ≡ p → IsPassOf s words here v → p.ahead ≡ [] → id' ≡ id
     → next ≡ chip_after here s op → trust ≡ trust_next s v.known.chip (chip_after v.known.chip s op) t v.known.trust
     → w ≡ published_view v (access_at t s op v.known.chip ∷ []) (known_with s next (t + 1) (word_of_other s v.known) trust) → carried_of id' s w ≡ after_commit p t op
-is_committed id id' s words here next p v w t trust op view is none cell next_is trust_is w_is =
-    let bare = bare_of id s v p view none in
-    let local = bare_local s words here v is bare in
+is_committed {s} {v} t op view is none cell next_is trust_is w_is =
+    let bare = bare_of v view none in
+    let local = bare_local is bare in
     let chip = next_is ∙ ap (λ c. chip_after c s op) local in
     (λ i. record {
       cell = cell i;
@@ -130,36 +130,36 @@ is_committed id id' s words here next p v w t trust op view is none cell next_is
 
 -- ---- entrust
 
-pub may_entrust : (id : TableId) (s : Side) (words : List ℕ) (here : State) (p : Carried) (v : View) (es : List Event) (t : ℕ) → carried_of id s v ≡ p
+pub may_entrust : {id : TableId} {s : Side} {words : List ℕ} {here : State} {p : Carried} {v : View} (es : List Event) (t : ℕ) → carried_of id s v ≡ p
     → IsPassOf s words here v → p.side ≡ Para → p.ahead ≡ [] → own_horizon p ≤ t
     → Watches Para (own_horizon p) p.known.chip es t → MayEntrust es t v
-may_entrust id s words here p v es t view is side none later watches =
+may_entrust {s} {v} es t view is side none later watches =
     let s_is : s ≡ Para = ap (λ q. q.side) view ∙ side in
-    let from = bare_horizon s v (bare_of id s v p view none) in
+    let from = bare_horizon s v (bare_of v view none) in
     let h : Watches Para (horizon (own_bound s v.known) (v.mine ++ v.ahead)) v.known.chip es t = subst (λ (q : Carried). Watches Para (own_horizon q) q.known.chip es t) (sym view) watches in
     record {
       role = is.role ∙ ap one_side s_is;
       trusted = is.trusted;
-      later = subst (λ (r : Side). horizon (own_bound r v.known) v.mine ≤ t) s_is (later_of id s v p t view none later);
+      later = subst (λ (r : Side). horizon (own_bound r v.known) v.mine ≤ t) s_is (later_of v t view none later);
       watches = subst (λ (r : Side). Watches Para (horizon (own_bound r v.known) v.mine) v.known.chip es t) s_is (subst (λ (n : ℕ). Watches Para n v.known.chip es t) from h);
     }
 
-pub pass_entrusted : (s : Side) (words next : List ℕ) (here : State) (t : ℕ) (es : List Event) (v w : View) → IsPassOf s words here v → v.ahead ≡ [] → MayEntrust es t v
+pub pass_entrusted : {s : Side} {words next : List ℕ} {here : State} {t : ℕ} {es : List Event} {v w : View} → IsPassOf s words here v → v.ahead ≡ [] → MayEntrust es t v
     → w ≡ entrusted_view v es (trusting v.known t) → next ≡ words_of (trusting v.known t) → IsPassOf s next here w
-pass_entrusted s words next here t es v w is none may w_is words_are =
+pass_entrusted {s} {t} {es} {v} {w} is none may w_is words_are =
     let k : w.known ≡ trusting v.known t = ap (λ u. u.known) w_is in
     let stop = may.later in
     let low : All (λ e. e.tick < t) (v.trusted ++ es) =
     All-append (λ e. e.tick < t) v.trusted es (All-weaker (λ e. e.tick < v.known.trust) (λ e. e.tick < t) (λ e l. omega arith) v.trusted is.trusted)
-    (watches_low Para (horizon (own_bound Para v.known) v.mine) v.known.chip es t may.watches) in
+    (watches_low _ _ _ _ t may.watches) in
     let chip : w.known.chip ≡ v.known.chip = ap (λ x. x.chip) k in
-    pass_fresh s next here w (ap (λ u. u.role) w_is ∙ is.role) (subst IsChip (sym chip) is.well) (words_are ∙ ap words_of (sym k))
+    pass_fresh s w (ap (λ u. u.role) w_is ∙ is.role) (subst IsChip (sym chip) is.well) (words_are ∙ ap words_of (sym k))
     (subst (λ (u : View). All (λ e. e.tick < u.known.trust) u.trusted) (sym w_is) low)
-    (ap (λ u. u.ahead) w_is ∙ none) (bare_local s words here v is none ∙ sym chip)
+    (ap (λ u. u.ahead) w_is ∙ none) (bare_local is none ∙ sym chip)
 
-pub is_entrusted : (id id' : TableId) (s : Side) (p : Carried) (v w : View) (es : List Event) (t : ℕ) → carried_of id s v ≡ p → id' ≡ id
+pub is_entrusted : {id id' : TableId} {s : Side} {p : Carried} {v w : View} (es : List Event) (t : ℕ) → carried_of id s v ≡ p → id' ≡ id
     → w ≡ entrusted_view v es (trusting v.known t) → carried_of id' s w ≡ after_entrust p es t
-is_entrusted id id' s p v w es t view cell w_is = (λ i. carried_of (cell i) s (w_is i)) ∙ ap (λ (q : Carried). after_entrust q es t) view
+is_entrusted {s} es t view cell w_is = (λ i. carried_of (cell i) s (w_is i)) ∙ ap (λ (q : Carried). after_entrust q es t) view
 
 -- ---- look
 
@@ -169,42 +169,42 @@ looked_as : (b : Bool) (t : ℕ) (s : Side) (v w : View) → MatchBool b (w ≡ 
 looked_as true t s v w is = (ap (λ u. u.role) is, ap (λ u. u.ahead) is, ap (λ u. u.trusted) is)
 looked_as false t s v w is = (ap (λ u. u.role) is, ap (λ u. u.ahead) is, ap (λ u. u.trusted) is)
 
-pub looked_ahead : (s : Side) (t : ℕ) (words : List ℕ) (v w : View) → LookedAt t s words v w → w.ahead ≡ v.ahead
-looked_ahead s t words v w f = (looked_as (admits s (other_bound s w.known) t) t s v w f.view_is).1
+pub looked_ahead : {s : Side} {t : ℕ} {words : List ℕ} {v w : View} → LookedAt t s words v w → w.ahead ≡ v.ahead
+looked_ahead {s} {t} {v} {w} f = (looked_as (admits s (other_bound s w.known) t) t s v w f.view_is).1
 
-pub looked_local : (s : Side) (words found : List ℕ) (old new : State) (v w : View) → IsPassOf s words old v → v.ahead ≡ [] → Local v.known.chip old w.known.chip new → new ≡ w.known.chip
-looked_local s words found old new v w is none local =
-    let was = bare_local s words old v is none in
+pub looked_local : {s : Side} {words : List ℕ} (found : List ℕ) {old : State} (new : State) {v : View} (w : View) → IsPassOf s words old v → v.ahead ≡ [] → Local v.known.chip old w.known.chip new → new ≡ w.known.chip
+looked_local found {old} new {v} w is none local =
+    let was = bare_local is none in
     ⊎_elim (λ (x : (w.known.chip ≡ v.known.chip) × (new ≡ old)). x.1 ∙ was ∙ sym x.0) (λ (x : (w.known.chip ≢ v.known.chip) × (new ≡ w.known.chip)). x.1) local
 
-pub pass_looked : (s : Side) (words found : List ℕ) (old new : State) (t : ℕ) (v w : View) → IsPassOf s words old v → v.ahead ≡ [] → v.trusted ≡ []
+pub pass_looked : {s : Side} {words found : List ℕ} {old : State} (new : State) {t : ℕ} {v w : View} → IsPassOf s words old v → v.ahead ≡ [] → v.trusted ≡ []
     → LookedAt t s found v w → Local v.known.chip old w.known.chip new → IsPassOf s found new w
-pass_looked s words found old new t v w is none trusted f local =
+pass_looked {s} {found} new {t} {v} {w} is none trusted f local =
     let left = looked_as (admits s (other_bound s w.known) t) t s v w f.view_is in
-    pass_fresh s found new w (left.0 ∙ is.role) f.well f.words_are (none_low w.known.trust w.trusted (left.2 ∙ ap (pending_events w.known) trusted))
-    (left.1 ∙ none) (looked_local s words found old new v w is none local)
+    pass_fresh s w (left.0 ∙ is.role) f.well f.words_are (none_low w.known.trust (left.2 ∙ ap (pending_events w.known) trusted))
+    (left.1 ∙ none) (looked_local found new w is none local)
 
-pub is_looked : (id id' : TableId) (s : Side) (words found : List ℕ) (old : State) (p : Carried) (t : ℕ) (lines : Lines) (v w : View)
+pub is_looked : {id id' : TableId} {s : Side} {words found : List ℕ} {old : State} {p : Carried} {t : ℕ} {lines : Lines} {v w : View}
     → carried_of id s v ≡ p → IsPassOf s words old v → p.ahead ≡ [] → p.trusted ≡ [] → own_horizon p ≤ t → id' ≡ id
     → LookedAt t s found v w → admits s (other_bound s w.known) t ≡ true → lines ≡ lines_of w.known.chip → Learns (after_look p t lines) (carried_of id' s w)
-is_looked id id' s words found old p t lines v w view is none trusted later cell f admitted lines_are =
+is_looked {id} {id'} {s} {t} {lines} {v} {w} view is none trusted later cell f admitted lines_are =
     let k : Known = w.known in
     let on = on_of s v k is.role f.goes_on in
-    let bare = bare_of id s v p view none in
-    let no_trust = none_of id s v p view trusted in
+    let bare = bare_of v view none in
+    let no_trust = none_of v view trusted in
     let w_is : w ≡ looked_view v t s k = subst (λ (b : Bool). MatchBool b (w ≡ looked_view v t s k) (w ≡ found_view v k)) admitted f.view_is in
     let mine : w.mine ≡ v.mine ++ lines_at t s lines ∷ [] = ap (λ u. u.mine) w_is ∙ ap (λ l. v.mine ++ lines_at t s l ∷ []) (sym lines_are) in
     let ahead : w.ahead ≡ v.ahead = ap (λ u. u.ahead) w_is in
     let pends : w.trusted ≡ pending_events k v.trusted = ap (λ u. u.trusted) w_is in
     let up : w.higher ≡ v.higher + rise (one_side s) v.known k = ap (λ u. u.higher) w_is ∙ ap (λ (r : Role). v.higher + rise r v.known k) is.role in
     let commits : w.commits ≡ v.commits = ap (λ u. u.commits) w_is in
-    let falls = bound_falls s v.known k on in
+    let falls = bound_falls s _ k on in
     let n = v.higher + rise (one_side s) v.known k in
     let looked_p : Carried = after_look (carried_of id s v) t lines in
     let rest : carried_of id' s w ≡ finding looked_p k n = λ i. record {
       cell = cell i;
       side = s;
-      events = (mine ∙ sym (bare_firm k (v.mine ++ lines_at t s lines ∷ []) v.trusted no_trust)) i;
+      events = (mine ∙ sym (bare_firm k (v.mine ++ lines_at t s lines ∷ []) no_trust)) i;
       trusted = pends i;
       ahead = ahead i;
       known = k;
@@ -213,9 +213,9 @@ is_looked id id' s words found old p t lines v w view is none trusted later cell
     } in
     subst (λ (q : Carried). Learns (after_look q t lines) (carried_of id' s w)) view (record {
       rest = rest;
-      taken = is_taken looked_p (carried_of id' s w) n rest on.2;
-      settled = is_settled looked_p (carried_of id' s w) n rest is.trusted;
-      stays = is_staying looked_p (carried_of id' s w) n rest;
+      taken = is_taken looked_p n rest on.2;
+      settled = is_settled looked_p n rest is.trusted;
+      stays = is_staying looked_p n rest;
       plain = λ _. λ i. record {
         cell = cell i;
         side = s;
@@ -249,38 +249,38 @@ committed_bound : (s : Side) (k : Known) (c : State) (t : ℕ) (old new : State)
 committed_bound Host k c t old new le = refl
 committed_bound Para k c t old new le = omega arith
 
-pub horizon_raised : (p q : Carried) (t : ℕ) → own_horizon p ≤ t → q ≡ after_raise p t → own_horizon q ≡ t
-horizon_raised p q t later is =
+pub horizon_raised : (p : Carried) {q : Carried} (t : ℕ) → own_horizon p ≤ t → q ≡ after_raise p t → own_horizon q ≡ t
+horizon_raised p t later is =
     let e = past_le p in
     let o = raised_bound p.side p.known p.known.chip t (omega arith) in
     ap own_horizon is ∙ (omega arith)
 
 -- with an event at t at the end of the list, and an own bound of t + 1 or below
-ends_at : (bound : ℕ) (events ahead : List Event) (e : Event) → ahead ≡ [] → bound ≤ e.tick + 1 → horizon bound ((events ++ e ∷ []) ++ ahead) ≡ e.tick + 1
-ends_at bound events ahead e none le =
+ends_at : (bound : ℕ) (events : List Event) {ahead : List Event} (e : Event) → ahead ≡ [] → bound ≤ e.tick + 1 → horizon bound ((events ++ e ∷ []) ++ ahead) ≡ e.tick + 1
+ends_at bound events {ahead} e none le =
     let last : past_last ((events ++ e ∷ []) ++ ahead) ≡ e.tick + 1 =
     ap past_last (ap (λ a. (events ++ e ∷ []) ++ a) none ∙ append-nil (events ++ e ∷ [])) ∙ past_last-on events e in
     omega arith
 
-pub horizon_committed : (p q : Carried) (t : ℕ) (op : Op) → p.ahead ≡ [] → own_horizon p ≤ t → q ≡ after_commit p t op → own_horizon q ≡ t + 1
-horizon_committed p q t op none later is =
+pub horizon_committed : (p : Carried) {q : Carried} (t : ℕ) (op : Op) → p.ahead ≡ [] → own_horizon p ≤ t → q ≡ after_commit p t op → own_horizon q ≡ t + 1
+horizon_committed p t op none later is =
     let k = (after_commit p t op).known in
     let o : own_bound p.side k ≡ t + 1 = committed_bound p.side p.known (chip_after p.known.chip p.side op) t p.known.chip (chip_after p.known.chip p.side op) (omega arith) in
-    ap own_horizon is ∙ ends_at (own_bound p.side k) p.events p.ahead (access_at t p.side op p.known.chip) none (omega arith)
+    ap own_horizon is ∙ ends_at (own_bound p.side k) p.events (access_at t p.side op p.known.chip) none (omega arith)
 
-pub horizon_looked : (p q : Carried) (t : ℕ) (lines : Lines) → p.ahead ≡ [] → p.trusted ≡ [] → own_horizon p ≤ t → Learns (after_look p t lines) q → own_horizon q ≡ t + 1
-horizon_looked p q t lines none trusted later learns =
+pub horizon_looked : (p : Carried) {q : Carried} (t : ℕ) (lines : Lines) → p.ahead ≡ [] → p.trusted ≡ [] → own_horizon p ≤ t → Learns (after_look p t lines) q → own_horizon q ≡ t + 1
+horizon_looked p {q} t lines none trusted later learns =
     let is = learns.plain trusted in
     let falls = learns.horizon in
-    let was = ends_at (own_bound p.side p.known) p.events p.ahead (lines_at t p.side lines) none (omega arith) in
+    let was = ends_at (own_bound p.side p.known) p.events (lines_at t p.side lines) none (omega arith) in
     let last : past_last (q.events ++ q.ahead) ≡ t + 1 =
     (λ i. past_last ((is i).events ++ (is i).ahead))
     ∙ ap past_last (ap (λ a. (p.events ++ lines_at t p.side lines ∷ []) ++ a) none ∙ append-nil (p.events ++ lines_at t p.side lines ∷ []))
     ∙ past_last-on p.events (lines_at t p.side lines) in
     omega arith
 
-pub horizon_entrusted : (p q : Carried) (es : List Event) (t : ℕ) → p.side ≡ Para → own_horizon p ≤ t → q ≡ after_entrust p es t → own_horizon q ≡ t
-horizon_entrusted p q es t side later is =
+pub horizon_entrusted : (p : Carried) {q : Carried} (es : List Event) (t : ℕ) → p.side ≡ Para → own_horizon p ≤ t → q ≡ after_entrust p es t → own_horizon q ≡ t
+horizon_entrusted p es t side later is =
     let was : own_horizon p ≡ horizon (own_bound Para p.known) (p.events ++ p.ahead) = ap (λ s. horizon (own_bound s p.known) (p.events ++ p.ahead)) side in
     let now : own_horizon (after_entrust p es t) ≡ horizon (max p.known.para t) (p.events ++ p.ahead) = ap (λ s. horizon (own_bound s (record p.known { trust = t })) (p.events ++ p.ahead)) side in
     ap own_horizon is ∙ now ∙ (omega arith)

@@ -8,4 +8,4 @@ pub swap-requires-clause-rule : goal.swap-requires-clause-rule
 swap-requires-clause-rule g c =
     let v = cell_view c.args.seat.now in
     let next = c.with_trust-next.ensures v.known c.requires.words ∙ ap words_of (sym c.requires.next) in
-    entrusts_as c.packing_is_one_to_one.ensures _ v g.W.Wish.events c.args.trust g.W.Wish.next _ _ c.requires.may c.requires.next c.requires.words next
+    entrusts_as c.packing_is_one_to_one.ensures _ c.requires.may c.requires.next c.requires.words next

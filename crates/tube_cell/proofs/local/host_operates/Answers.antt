@@ -11,7 +11,7 @@ returns-then-is_observation-clause-trust c =
     let new = c.apply-answer.new.self in
     elim c.then-is_observation.branch [
       | then-is_observation-via-then-is_observation w ↦
-          sym (trust_stays Host old new c.args.tick c.args.trust (c.apply-answer.ensures.chip ∙ observed_stays old Host (access c.args.op) (sym c.is_observation.ensures ∙ w.if-is_observation.true)))
+          sym (trust_stays Host c.args.tick c.args.trust (c.apply-answer.ensures.chip ∙ observed_stays old Host (access c.args.op) (sym c.is_observation.ensures ∙ w.if-is_observation.true)))
       | then-is_observation-via-else-is_observation+then-trust-tick w ↦ sym (early_stays old new c.args.tick c.args.trust w.if-trust-tick.true)
     ]
 

@@ -9,21 +9,19 @@ pub invariant_of-pass : goal.invariant_of-pass
 invariant_of-pass g c =
     let v = cell_view c.pass.inside.seat in
     let w = cell_view c.add.new.seat in (
-      acted _ c.pass.inside.side c.pass.inside.words c.pass.inside.local c.operate-byte.new.chip c.args.pass.now v w c.args.t.0 c.args.op c.pass.view_is c.pass.invariant.0 c.requires.none_trusted
+      acted c.args.t.0 c.args.op c.pass.view_is c.pass.invariant.0 c.requires.none_trusted
           c.requires.later c.requires.admitted c.operate-byte.ensures.chip c.add.ensures.added,
-      acted_cut c.pass.inside.side c.pass.inside.words c.pass.inside.local c.operate-byte.new.chip v w c.args.t.0 c.pass.inside.cut
-          c.operate-byte.result.1 c.args.op c.pass.invariant.0 c.pass.invariant.1
+      acted_cut c.args.t.0 c.pass.inside.cut c.args.op c.pass.invariant.0 c.pass.invariant.1
           c.operate-byte.ensures.chip c.operate-byte.ensures.trust c.add.ensures.added,
     )
 
 pub returns-clause-answer : goal.returns-clause-answer
 returns-clause-answer g c =
-    let here_is = here_of _ c.pass.inside.side c.pass.inside.words c.pass.inside.local c.args.pass.now (cell_view c.pass.inside.seat) c.pass.view_is c.pass.invariant.0 in
+    let here_is = here_of c.pass.view_is c.pass.invariant.0 in
     c.operate-byte.ensures.answer ∙ (λ i. answer_of (here_is i) (c.pass.view_is i).side c.args.op)
 
 pub returns-clause-added : goal.returns-clause-added
-returns-clause-added g c = is_acted _ _ c.pass.inside.side c.args.pass.now (cell_view c.pass.inside.seat)
-    (cell_view c.add.new.seat) c.args.t.0 c.args.op c.pass.view_is c.add.ensures.cell.0 c.add.ensures.added
+returns-clause-added g c = is_acted c.args.t.0 c.args.op c.pass.view_is c.add.ensures.cell.0 c.add.ensures.added
 
 pub returns-clause-horizon : goal.returns-clause-horizon
-returns-clause-horizon g c = horizon_added c.args.pass.now _ (access_at c.args.t.0 c.args.pass.now.side c.args.op (here c.args.pass.now)) c.requires.later (returns-clause-added g c)
+returns-clause-horizon g c = horizon_added c.args.pass.now (access_at c.args.t.0 c.args.pass.now.side c.args.op (here c.args.pass.now)) c.requires.later (returns-clause-added g c)

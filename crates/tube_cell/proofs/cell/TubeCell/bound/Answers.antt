@@ -6,7 +6,7 @@ use Rattle.tube_cell.proofs.cell.TubeCell.bound.Goals as goal
 pub returns-clause-here : goal.returns-clause-here
 returns-clause-here c =
     let v = cell_view c.pass.inside.seat in
-    bound_is _ c.pass.inside.side c.args.pass.now v c.bound_of.result c.trust_of.result c.pass.inside.cut c.min-trust.result c.pass.view_is
+    bound_is v c.pass.inside.cut c.pass.view_is
     c.pass.invariant.1 (c.trust_of.ensures.is v.known c.pass.invariant.0.words_are) c.trust_of.ensures.bounded
     c.min-trust.ensures (c.bound_of.ensures v.known c.pass.invariant.0.words_are)
 

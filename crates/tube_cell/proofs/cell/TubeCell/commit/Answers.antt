@@ -5,35 +5,29 @@ use Rattle.tube_cell.proofs.Raises.{may_commit, commit_trust, pass_published, is
 use Rattle.tube_cell.proofs.cell.TubeCell.commit.Goals as goal
 
 pub exchange-requires-clause-may : goal.exchange-requires-clause-may
-exchange-requires-clause-may g c = may_commit _ c.pass.inside.side c.pass.inside.words c.pass.inside.local c.operate-answer.new.chip c.args.pass.now
-    (cell_view c.pass.inside.seat) c.args.t.0 c.args.op c.pass.view_is c.pass.invariant.0 c.requires.published c.requires.none_trusted
+exchange-requires-clause-may g c = may_commit c.args.t.0 c.args.op c.pass.view_is c.pass.invariant.0 c.requires.published c.requires.none_trusted
     c.requires.later c.requires.admitted c.operate-answer.ensures.chip
 
 pub exchange-requires-clause-trust : goal.exchange-requires-clause-trust
-exchange-requires-clause-trust g c = commit_trust _ c.pass.inside.side c.pass.inside.words c.pass.inside.local c.operate-answer.new.chip
-    c.args.pass.now (cell_view c.pass.inside.seat) c.args.t.0 c.operate-answer.result.1 c.trust_of.result c.args.op c.pass.view_is c.pass.invariant.0
+exchange-requires-clause-trust g c = commit_trust c.args.t.0 c.args.op c.pass.view_is c.pass.invariant.0
     c.requires.published
     c.operate-answer.ensures.chip (c.trust_of.ensures.is (cell_view c.pass.inside.seat).known c.pass.invariant.0.words_are) c.operate-answer.ensures.trust
 
 pub invariant_of-pass : goal.invariant_of-pass
 invariant_of-pass g c = (
-  pass_published c.pass.inside.side c.in-Ok.next c.operate-answer.new.chip (c.args.t.0 + 1) c.operate-answer.result.1 _ (cell_view c.pass.inside.seat)
-      (cell_view c.exchange.new.seat) c.pass.invariant.0.role
-      (none_of _ c.pass.inside.side (cell_view c.pass.inside.seat) c.args.pass.now c.pass.view_is c.requires.none_trusted) c.exchange.ensures.bounds
+  pass_published c.pass.inside.side (c.args.t.0 + 1) c.operate-answer.result.1 _ (cell_view c.pass.inside.seat) c.pass.invariant.0.role
+      (none_of (cell_view c.pass.inside.seat) c.pass.view_is c.requires.none_trusted) c.exchange.ensures.bounds
       c.in-Ok.ensures.published c.in-Ok.ensures.next,
   cut_kept c.pass.inside.side c.pass.inside.cut (cell_view c.pass.inside.seat) (cell_view c.exchange.new.seat) c.pass.invariant.1
-      (bare_of _ c.pass.inside.side (cell_view c.pass.inside.seat) c.args.pass.now c.pass.view_is c.requires.published)
+      (bare_of (cell_view c.pass.inside.seat) c.pass.view_is c.requires.published)
       (ap (λ u. u.ahead) c.in-Ok.ensures.published),
 )
 
 pub returns-in-Ok-clause-committed : goal.returns-in-Ok-clause-committed
-returns-in-Ok-clause-committed g c = is_committed _ _ c.pass.inside.side c.pass.inside.words c.pass.inside.local c.operate-answer.new.chip
-    c.args.pass.now (cell_view c.pass.inside.seat) (cell_view c.exchange.new.seat) c.args.t.0 c.operate-answer.result.1 c.args.op c.pass.view_is
-    c.pass.invariant.0 c.requires.published c.exchange.ensures.cell.0 c.operate-answer.ensures.chip (commit_trust _ c.pass.inside.side
-    c.pass.inside.words c.pass.inside.local c.operate-answer.new.chip c.args.pass.now (cell_view c.pass.inside.seat) c.args.t.0
-    c.operate-answer.result.1 c.trust_of.result c.args.op c.pass.view_is c.pass.invariant.0 c.requires.published c.operate-answer.ensures.chip
+returns-in-Ok-clause-committed g c = is_committed c.args.t.0 c.args.op c.pass.view_is
+    c.pass.invariant.0 c.requires.published c.exchange.ensures.cell.0 c.operate-answer.ensures.chip (commit_trust c.args.t.0 c.args.op c.pass.view_is c.pass.invariant.0 c.requires.published c.operate-answer.ensures.chip
     (c.trust_of.ensures.is (cell_view c.pass.inside.seat).known c.pass.invariant.0.words_are) c.operate-answer.ensures.trust)
     c.in-Ok.ensures.published
 
 pub returns-in-Ok-clause-horizon : goal.returns-in-Ok-clause-horizon
-returns-in-Ok-clause-horizon g c = horizon_committed c.args.pass.now _ c.args.t.0 c.args.op c.requires.published c.requires.later (returns-in-Ok-clause-committed g c)
+returns-in-Ok-clause-horizon g c = horizon_committed c.args.pass.now c.args.t.0 c.args.op c.requires.published c.requires.later (returns-in-Ok-clause-committed g c)

@@ -5,29 +5,25 @@ use Rattle.tube_cell.proofs.Raises.{may_entrust, pass_entrusted, is_entrusted, h
 use Rattle.tube_cell.proofs.cell.TubeCell.entrust.Goals as goal
 
 pub entrust_at-requires-clause-may : goal.entrust_at-requires-clause-may
-entrust_at-requires-clause-may g c = may_entrust _ c.pass.inside.side c.pass.inside.words c.pass.inside.local c.args.pass.now
-    (cell_view c.pass.inside.seat) g.D.Deeds.events c.args.t.0 c.pass.view_is c.pass.invariant.0 c.requires.side c.requires.published c.requires.later
+entrust_at-requires-clause-may g c = may_entrust _ _ c.pass.view_is c.pass.invariant.0 c.requires.side c.requires.published c.requires.later
     c.requires.watches
 
 pub invariant_of-pass : goal.invariant_of-pass
 invariant_of-pass g c =
     let v = cell_view c.pass.inside.seat in
-    let may = may_entrust _ c.pass.inside.side c.pass.inside.words c.pass.inside.local c.args.pass.now v g.D.Deeds.events c.args.t.0 c.pass.view_is
+    let may = may_entrust _ _ c.pass.view_is
     c.pass.invariant.0 c.requires.side c.requires.published c.requires.later c.requires.watches in (
-      pass_entrusted c.pass.inside.side c.pass.inside.words c.in-Ok.next c.pass.inside.local c.args.t.0 g.D.Deeds.events v (cell_view c.entrust_at.new.seat) c.pass.invariant.0
-          (bare_of _ c.pass.inside.side v c.args.pass.now c.pass.view_is c.requires.published) may c.in-Ok.ensures.entrusted c.in-Ok.ensures.next,
-      cut_kept c.pass.inside.side c.pass.inside.cut v (cell_view c.entrust_at.new.seat) c.pass.invariant.1 (bare_of _ c.pass.inside.side v c.args.pass.now c.pass.view_is c.requires.published)
-          (ap (λ u. u.ahead) c.in-Ok.ensures.entrusted ∙ bare_of _ c.pass.inside.side v c.args.pass.now c.pass.view_is c.requires.published),
+      pass_entrusted c.pass.invariant.0
+          (bare_of v c.pass.view_is c.requires.published) may c.in-Ok.ensures.entrusted c.in-Ok.ensures.next,
+      cut_kept c.pass.inside.side c.pass.inside.cut v (cell_view c.entrust_at.new.seat) c.pass.invariant.1 (bare_of v c.pass.view_is c.requires.published)
+          (ap (λ u. u.ahead) c.in-Ok.ensures.entrusted ∙ bare_of v c.pass.view_is c.requires.published),
     )
 
 pub returns-in-Ok-clause-entrusted : goal.returns-in-Ok-clause-entrusted
-returns-in-Ok-clause-entrusted g c = λ _. is_entrusted _ _ c.pass.inside.side c.args.pass.now (cell_view c.pass.inside.seat)
-    (cell_view c.entrust_at.new.seat) g.D.Deeds.events c.args.t.0 c.pass.view_is c.entrust_at.ensures.cell.0 c.in-Ok.ensures.entrusted
+returns-in-Ok-clause-entrusted g c = λ _. is_entrusted g.D.Deeds.events c.args.t.0 c.pass.view_is c.entrust_at.ensures.cell.0 c.in-Ok.ensures.entrusted
 
 pub returns-in-Ok-clause-horizon : goal.returns-in-Ok-clause-horizon
-returns-in-Ok-clause-horizon g c = λ is. horizon_entrusted c.args.pass.now _ g.D.Deeds.events c.args.t.0 c.requires.side c.requires.later (returns-in-Ok-clause-entrusted g c is)
+returns-in-Ok-clause-horizon g c = λ is. horizon_entrusted c.args.pass.now g.D.Deeds.events c.args.t.0 c.requires.side c.requires.later (returns-in-Ok-clause-entrusted g c is)
 
 pub returns-in-Err-clause-learns : goal.returns-in-Err-clause-learns
-returns-in-Err-clause-learns g c = λ _. learned _ _ c.pass.inside.side c.pass.inside.words c.in-Err.found c.pass.inside.local c.args.pass.now
-    (cell_view c.pass.inside.seat)
-    (cell_view c.entrust_at.new.seat) c.pass.view_is c.pass.invariant.0 c.entrust_at.ensures.cell.0 c.in-Err.ensures.found
+returns-in-Err-clause-learns g c = λ _. learned c.pass.view_is c.pass.invariant.0 c.entrust_at.ensures.cell.0 c.in-Err.ensures.found

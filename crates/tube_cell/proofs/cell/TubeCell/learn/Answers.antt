@@ -18,13 +18,13 @@ invariant_of-pass g c =
     let f = c.load-found.ensures.rule in
     let local = c.settle.ensures.local v.known w.known c.pass.invariant.0.well f.well c.pass.invariant.0.words_are f.words_are in (
       subst (λ (words : List ℕ). IsPassOf c.pass.inside.side words c.settle.new.local w) (sym c.settle.ensures.words)
-          (pass_found c.pass.inside.side c.pass.inside.words c.load-found.result c.pass.inside.local c.settle.new.local v w c.pass.invariant.0 f local),
-      cut_found c.pass.inside.side c.pass.inside.words c.load-found.result c.pass.inside.local c.pass.inside.cut v w c.pass.invariant.0 c.pass.invariant.1 f,
+          (pass_found c.settle.new.local c.pass.invariant.0 f local),
+      cut_found c.pass.inside.cut c.pass.invariant.0 c.pass.invariant.1 f,
     )
 
 pub returns : goal.returns
 returns g c =
     let v = cell_view c.pass.inside.seat in
     let w = cell_view c.load-found.new.seat in
-    learned _ _ c.pass.inside.side c.pass.inside.words c.load-found.result c.pass.inside.local c.args.pass.now v w c.pass.view_is c.pass.invariant.0
+    learned c.pass.view_is c.pass.invariant.0
     c.load-found.ensures.cell.0 c.load-found.ensures.rule

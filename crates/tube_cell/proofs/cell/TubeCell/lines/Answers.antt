@@ -5,4 +5,4 @@ use Rattle.tube_cell.proofs.Acts.{here_of}
 use Rattle.tube_cell.proofs.cell.TubeCell.lines.Goals as goal
 
 pub returns : goal.returns
-returns c = c.lines.ensures ∙ ap lines_of (here_of _ c.pass.inside.side c.pass.inside.words c.pass.inside.local c.args.pass.now (cell_view c.pass.inside.seat) c.pass.view_is c.pass.invariant.0)
+returns c = c.lines.ensures ∙ ap lines_of (here_of c.pass.view_is c.pass.invariant.0)

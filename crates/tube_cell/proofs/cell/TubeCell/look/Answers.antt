@@ -8,8 +8,7 @@ use Rattle.tube_cell.proofs.Raises.{may_look, looked_ahead, looked_local, pass_l
 use Rattle.tube_cell.proofs.cell.TubeCell.look.Goals as goal
 
 pub load_at-found-requires-clause-may : goal.load_at-found-requires-clause-may
-load_at-found-requires-clause-may g c = may_look _ c.pass.inside.side c.pass.inside.words c.pass.inside.local c.args.pass.now
-    (cell_view c.pass.inside.seat) c.args.t.0 c.pass.view_is c.pass.invariant.0 c.requires.published c.requires.none_trusted c.requires.later
+load_at-found-requires-clause-may g c = may_look c.args.t.0 c.pass.view_is c.pass.invariant.0 c.requires.published c.requires.none_trusted c.requires.later
 
 pub invariant_of-pass : goal.invariant_of-pass
 invariant_of-pass g c =
@@ -17,11 +16,11 @@ invariant_of-pass g c =
     let w = cell_view c.load_at-found.new.seat in
     let f = c.load_at-found.ensures.view in
     let local = c.settle.ensures.local v.known w.known c.pass.invariant.0.well f.well c.pass.invariant.0.words_are f.words_are in
-    let none = bare_of _ c.pass.inside.side v c.args.pass.now c.pass.view_is c.requires.published in (
+    let none = bare_of v c.pass.view_is c.requires.published in (
       subst (λ (words : List ℕ). IsPassOf c.pass.inside.side words c.settle.new.local w) (sym c.settle.ensures.words)
-          (pass_looked c.pass.inside.side c.pass.inside.words c.load_at-found.result c.pass.inside.local c.settle.new.local c.args.t.0 v w c.pass.invariant.0
-          (bare_of _ c.pass.inside.side v c.args.pass.now c.pass.view_is c.requires.published) (none_of _ c.pass.inside.side v c.args.pass.now c.pass.view_is c.requires.none_trusted) f local),
-      cut_kept c.pass.inside.side c.pass.inside.cut v w c.pass.invariant.1 none (looked_ahead c.pass.inside.side c.args.t.0 c.load_at-found.result v w f ∙ none),
+          (pass_looked c.settle.new.local c.pass.invariant.0
+          (bare_of v c.pass.view_is c.requires.published) (none_of v c.pass.view_is c.requires.none_trusted) f local),
+      cut_kept c.pass.inside.side c.pass.inside.cut v w c.pass.invariant.1 none (looked_ahead f ∙ none),
     )
 
 pub returns-then-is_admitted-clause-looked : goal.returns-then-is_admitted-clause-looked
@@ -29,17 +28,17 @@ returns-then-is_admitted-clause-looked g c =
     let v = cell_view c.pass.inside.seat in
     let w = cell_view c.load_at-found.new.seat in
     let f = c.load_at-found.ensures.view in
-    let local = looked_local c.pass.inside.side c.pass.inside.words c.load_at-found.result c.pass.inside.local c.settle.new.local v w c.pass.invariant.0
-    (bare_of _ c.pass.inside.side v c.args.pass.now c.pass.view_is c.requires.published)
+    let local = looked_local c.load_at-found.result c.settle.new.local w c.pass.invariant.0
+    (bare_of v c.pass.view_is c.requires.published)
     (c.settle.ensures.local v.known w.known c.pass.invariant.0.well f.well c.pass.invariant.0.words_are f.words_are) in
     let found = c.settle.ensures.words ∙ f.words_are in
     let word = c.bound_of-bound.ensures w.known found ∙ ap (λ n. bound_at c.pass.inside.side (word_of_other c.pass.inside.side w.known) n) (c.trust_of.ensures.is w.known found) in
     let admitted : admits c.pass.inside.side (other_bound c.pass.inside.side w.known) c.args.t.0 ≡ true =
     ap (λ n. admits c.pass.inside.side n c.args.t.0) (sym word) ∙ sym c.is_admitted.ensures ∙ c.if-is_admitted.true in
-    is_looked _ _ c.pass.inside.side c.pass.inside.words c.load_at-found.result c.pass.inside.local c.args.pass.now c.args.t.0 c.lines.result v w
+    is_looked
     c.pass.view_is c.pass.invariant.0 c.requires.published c.requires.none_trusted c.requires.later
     c.load_at-found.ensures.cell.0 f admitted (c.lines.ensures ∙ ap lines_of local)
 
 pub returns-then-is_admitted-clause-horizon : goal.returns-then-is_admitted-clause-horizon
 returns-then-is_admitted-clause-horizon g c =
-    horizon_looked c.args.pass.now _ c.args.t.0 c.lines.result c.requires.published c.requires.none_trusted c.requires.later (returns-then-is_admitted-clause-looked g c)
+    horizon_looked c.args.pass.now c.args.t.0 c.lines.result c.requires.published c.requires.none_trusted c.requires.later (returns-then-is_admitted-clause-looked g c)

@@ -7,27 +7,24 @@ use Rattle.tube_cell.proofs.Publishes.{may_publish, publish_trust, is_published}
 use Rattle.tube_cell.proofs.cell.TubeCell.publish.Goals as goal
 
 pub exchange-requires-clause-may : goal.exchange-requires-clause-may
-exchange-requires-clause-may g c = may_publish _ c.pass.inside.side c.pass.inside.words c.pass.inside.local c.args.pass.now
-    (cell_view c.pass.inside.seat) c.args.h.0 c.pass.view_is c.pass.invariant.0 c.requires.none_trusted c.requires.later
+exchange-requires-clause-may g c = may_publish c.args.h.0 c.pass.view_is c.pass.invariant.0 c.requires.none_trusted c.requires.later
 
 pub exchange-requires-clause-trust : goal.exchange-requires-clause-trust
 exchange-requires-clause-trust g c =
     let v = cell_view c.pass.inside.seat in
-    publish_trust c.pass.inside.side v c.trust_of.result c.pass.inside.cut c.min-left.result c.pass.invariant.1
+    publish_trust c.pass.inside.side v c.pass.inside.cut c.pass.invariant.1
     (c.trust_of.ensures.is v.known c.pass.invariant.0.words_are) c.trust_of.ensures.bounded c.min-left.ensures
 
 pub invariant_of-pass : goal.invariant_of-pass
 invariant_of-pass g c = (
-  pass_published c.pass.inside.side c.in-Ok.next c.pass.inside.local c.args.h.0 c.min-left.result _ (cell_view c.pass.inside.seat) (cell_view c.exchange.new.seat) c.pass.invariant.0.role
-      (none_of _ c.pass.inside.side (cell_view c.pass.inside.seat) c.args.pass.now c.pass.view_is c.requires.none_trusted) c.exchange.ensures.bounds c.in-Ok.ensures.published c.in-Ok.ensures.next,
+  pass_published c.pass.inside.side c.args.h.0 c.min-left.result _ (cell_view c.pass.inside.seat) c.pass.invariant.0.role
+      (none_of (cell_view c.pass.inside.seat) c.pass.view_is c.requires.none_trusted) c.exchange.ensures.bounds c.in-Ok.ensures.published c.in-Ok.ensures.next,
   cut_fresh c.pass.inside.side (cell_view c.exchange.new.seat) (ap (λ u. u.ahead) c.in-Ok.ensures.published),
 )
 
 pub returns-in-Ok-clause-published : goal.returns-in-Ok-clause-published
-returns-in-Ok-clause-published g c = λ _. is_published _ _ c.pass.inside.side c.pass.inside.words c.pass.inside.local c.args.pass.now
-    (cell_view c.pass.inside.seat)
-    (cell_view c.exchange.new.seat) c.args.h.0 c.min-left.result c.pass.view_is c.pass.invariant.0 c.exchange.ensures.cell.0
-    (publish_trust c.pass.inside.side (cell_view c.pass.inside.seat) c.trust_of.result c.pass.inside.cut c.min-left.result c.pass.invariant.1
+returns-in-Ok-clause-published g c = λ _. is_published c.args.h.0 c.pass.view_is c.pass.invariant.0 c.exchange.ensures.cell.0
+    (publish_trust c.pass.inside.side (cell_view c.pass.inside.seat) c.pass.inside.cut c.pass.invariant.1
     (c.trust_of.ensures.is (cell_view c.pass.inside.seat).known c.pass.invariant.0.words_are) c.trust_of.ensures.bounded c.min-left.ensures)
     c.in-Ok.ensures.published
 
@@ -38,10 +35,9 @@ invariant_of-pass-in-Err g c =
     let f = c.in-Err.ensures.found in
     let local = c.settle.ensures.local v.known w.known c.pass.invariant.0.well f.well c.pass.invariant.0.words_are f.words_are in (
       subst (λ (words : List ℕ). IsPassOf c.pass.inside.side words c.settle.new.local w) (sym c.settle.ensures.words)
-          (pass_found c.pass.inside.side c.pass.inside.words c.in-Err.found c.pass.inside.local c.settle.new.local v w c.pass.invariant.0 f local),
-      cut_found c.pass.inside.side c.pass.inside.words c.in-Err.found c.pass.inside.local c.pass.inside.cut v w c.pass.invariant.0 c.pass.invariant.1 f,
+          (pass_found c.settle.new.local c.pass.invariant.0 f local),
+      cut_found c.pass.inside.cut c.pass.invariant.0 c.pass.invariant.1 f,
     )
 
 pub returns-in-Err-clause-learns : goal.returns-in-Err-clause-learns
-returns-in-Err-clause-learns g c = λ _. learned _ _ c.pass.inside.side c.pass.inside.words c.in-Err.found c.pass.inside.local c.args.pass.now
-    (cell_view c.pass.inside.seat) (cell_view c.exchange.new.seat) c.pass.view_is c.pass.invariant.0 c.exchange.ensures.cell.0 c.in-Err.ensures.found
+returns-in-Err-clause-learns g c = λ _. learned c.pass.view_is c.pass.invariant.0 c.exchange.ensures.cell.0 c.in-Err.ensures.found

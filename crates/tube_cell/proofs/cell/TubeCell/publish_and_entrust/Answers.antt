@@ -7,26 +7,25 @@ use Rattle.tube_cell.proofs.cell.TubeCell.publish_and_entrust.Goals as goal
 
 pub publish_and_entrust_at-told-requires-clause-may : goal.publish_and_entrust_at-told-requires-clause-may
 publish_and_entrust_at-told-requires-clause-may g c =
-    may_both _ c.pass.inside.side c.pass.inside.words c.pass.inside.local c.args.pass.now (cell_view c.pass.inside.seat) g.D.Deeds.events c.args.h.0 c.args.t.0
+    may_both _ _ _
     c.pass.view_is c.pass.invariant.0 c.requires.side c.requires.none_trusted c.requires.later c.requires.order c.requires.watches
 
 pub invariant_of-pass : goal.invariant_of-pass
 invariant_of-pass g c =
     let w = cell_view c.publish_and_entrust_at-told.new.seat in (
-      pass_both _ c.pass.inside.side c.pass.inside.words c.in-Ok.next c.pass.inside.local c.args.pass.now (cell_view c.pass.inside.seat) w g.D.Deeds.events c.args.h.0 c.args.t.0
+      pass_both _ _ _
           c.pass.view_is c.pass.invariant.0 c.requires.none_trusted c.publish_and_entrust_at-told.ensures.bounds c.requires.watches c.in-Ok.ensures.told c.in-Ok.ensures.next,
       cut_fresh c.pass.inside.side w (ap (λ u. u.ahead) c.in-Ok.ensures.told),
     )
 
 pub returns-in-Ok-clause-entrusted : goal.returns-in-Ok-clause-entrusted
 returns-in-Ok-clause-entrusted g c = λ _.
-    is_both _ _ c.pass.inside.side c.pass.inside.words c.pass.inside.local c.args.pass.now (cell_view c.pass.inside.seat)
-    (cell_view c.publish_and_entrust_at-told.new.seat) g.D.Deeds.events c.args.h.0 c.args.t.0
+    is_both g.D.Deeds.events c.args.h.0 c.args.t.0
     c.pass.view_is c.pass.invariant.0 c.requires.side c.publish_and_entrust_at-told.ensures.cell.0 c.in-Ok.ensures.told
 
 pub returns-in-Ok-clause-horizon : goal.returns-in-Ok-clause-horizon
 returns-in-Ok-clause-horizon g c = λ is.
-    horizon_both c.args.pass.now _ g.D.Deeds.events c.args.h.0 c.args.t.0 c.requires.side c.requires.later c.requires.order (returns-in-Ok-clause-entrusted g c is)
+    horizon_both c.args.pass.now g.D.Deeds.events c.args.h.0 c.args.t.0 c.requires.side c.requires.later c.requires.order (returns-in-Ok-clause-entrusted g c is)
 
 pub invariant_of-pass-in-Err : goal.invariant_of-pass-in-Err
 invariant_of-pass-in-Err g c =
@@ -35,11 +34,11 @@ invariant_of-pass-in-Err g c =
     let f = c.in-Err.ensures.found in
     let local = c.settle.ensures.local v.known w.known c.pass.invariant.0.well f.well c.pass.invariant.0.words_are f.words_are in (
       subst (λ (words : List ℕ). IsPassOf c.pass.inside.side words c.settle.new.local w) (sym c.settle.ensures.words)
-          (pass_found c.pass.inside.side c.pass.inside.words c.in-Err.found c.pass.inside.local c.settle.new.local v w c.pass.invariant.0 f local),
-      cut_found c.pass.inside.side c.pass.inside.words c.in-Err.found c.pass.inside.local c.pass.inside.cut v w c.pass.invariant.0 c.pass.invariant.1 f,
+          (pass_found c.settle.new.local c.pass.invariant.0 f local),
+      cut_found c.pass.inside.cut c.pass.invariant.0 c.pass.invariant.1 f,
     )
 
 pub returns-in-Err-clause-learns : goal.returns-in-Err-clause-learns
 returns-in-Err-clause-learns g c = λ _.
-    learned _ _ c.pass.inside.side c.pass.inside.words c.in-Err.found c.pass.inside.local c.args.pass.now (cell_view c.pass.inside.seat) (cell_view c.publish_and_entrust_at-told.new.seat)
+    learned
     c.pass.view_is c.pass.invariant.0 c.publish_and_entrust_at-told.ensures.cell.0 c.in-Err.ensures.found

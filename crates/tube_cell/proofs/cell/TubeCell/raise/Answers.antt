@@ -5,28 +5,25 @@ use Rattle.tube_cell.proofs.Raises.{may_raise, pass_published, is_raised, horizo
 use Rattle.tube_cell.proofs.cell.TubeCell.raise.Goals as goal
 
 pub exchange-raised-requires-clause-may : goal.exchange-raised-requires-clause-may
-exchange-raised-requires-clause-may g c = may_raise _ c.pass.inside.side c.pass.inside.words c.pass.inside.local c.args.pass.now
-    (cell_view c.pass.inside.seat) c.args.t.0 c.pass.view_is c.pass.invariant.0 c.requires.published c.requires.none_trusted c.requires.later
+exchange-raised-requires-clause-may g c = may_raise c.args.t.0 c.pass.view_is c.pass.invariant.0 c.requires.published c.requires.none_trusted c.requires.later
 
 pub exchange-raised-requires-clause-trust : goal.exchange-raised-requires-clause-trust
 exchange-raised-requires-clause-trust g c = c.trust_of.ensures.is (cell_view c.pass.inside.seat).known c.pass.invariant.0.words_are
 
 pub invariant_of-pass : goal.invariant_of-pass
 invariant_of-pass g c = (
-  pass_published c.pass.inside.side c.in-Ok.next c.pass.inside.local c.args.t.0 c.trust_of.result _ (cell_view c.pass.inside.seat)
-      (cell_view c.exchange-raised.new.seat) c.pass.invariant.0.role
-      (none_of _ c.pass.inside.side (cell_view c.pass.inside.seat) c.args.pass.now c.pass.view_is c.requires.none_trusted)
+  pass_published c.pass.inside.side c.args.t.0 c.trust_of.result _ (cell_view c.pass.inside.seat) c.pass.invariant.0.role
+      (none_of (cell_view c.pass.inside.seat) c.pass.view_is c.requires.none_trusted)
       c.exchange-raised.ensures.bounds c.in-Ok.ensures.published c.in-Ok.ensures.next,
   cut_kept c.pass.inside.side c.pass.inside.cut (cell_view c.pass.inside.seat) (cell_view c.exchange-raised.new.seat) c.pass.invariant.1
-      (bare_of _ c.pass.inside.side (cell_view c.pass.inside.seat) c.args.pass.now c.pass.view_is c.requires.published)
+      (bare_of (cell_view c.pass.inside.seat) c.pass.view_is c.requires.published)
       (ap (λ u. u.ahead) c.in-Ok.ensures.published),
 )
 
 pub returns-in-Ok-clause-raised : goal.returns-in-Ok-clause-raised
-returns-in-Ok-clause-raised g c = λ _. is_raised _ _ c.pass.inside.side c.pass.inside.words c.pass.inside.local c.args.pass.now
-    (cell_view c.pass.inside.seat) (cell_view c.exchange-raised.new.seat) c.args.t.0 c.trust_of.result c.pass.view_is c.pass.invariant.0
+returns-in-Ok-clause-raised g c = λ _. is_raised c.args.t.0 c.pass.view_is c.pass.invariant.0
     c.requires.published c.exchange-raised.ensures.cell.0 (c.trust_of.ensures.is (cell_view c.pass.inside.seat).known c.pass.invariant.0.words_are)
     c.in-Ok.ensures.published
 
 pub returns-in-Ok-clause-horizon : goal.returns-in-Ok-clause-horizon
-returns-in-Ok-clause-horizon g c = λ is. horizon_raised c.args.pass.now _ c.args.t.0 c.requires.later (returns-in-Ok-clause-raised g c is)
+returns-in-Ok-clause-horizon g c = λ is. horizon_raised c.args.pass.now c.args.t.0 c.requires.later (returns-in-Ok-clause-raised g c is)

@@ -6,5 +6,5 @@ use Rattle.tube_cell.proofs.cell.TubeCell.readings.Goals as goal
 
 pub returns : goal.returns
 returns c =
-    let here_is = here_of _ c.pass.inside.side c.pass.inside.words c.pass.inside.local c.args.pass.now (cell_view c.pass.inside.seat) c.pass.view_is c.pass.invariant.0 in
+    let here_is = here_of c.pass.view_is c.pass.invariant.0 in
     c.readings_of.ensures ∙ (λ i. shown_to (c.pass.view_is i).side (here_is i))

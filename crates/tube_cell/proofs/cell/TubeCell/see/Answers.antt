@@ -9,17 +9,16 @@ pub invariant_of-pass : goal.invariant_of-pass
 invariant_of-pass g c =
     let v = cell_view c.pass.inside.seat in
     let w = cell_view c.add.new.seat in (
-      saw _ c.pass.inside.side c.pass.inside.words c.pass.inside.local c.args.pass.now v w c.args.t.0 c.pass.view_is c.pass.invariant.0
+      saw c.args.t.0 c.pass.view_is c.pass.invariant.0
           c.requires.none_trusted c.requires.later c.requires.admitted c.add.ensures.added,
-      saw_one_cut c.pass.inside.side c.pass.inside.cut c.args.t.0 v w c.pass.invariant.1 c.add.ensures.added,
+      saw_one_cut c.pass.inside.side c.pass.inside.cut c.args.t.0 v c.pass.invariant.1 c.add.ensures.added,
     )
 
 pub returns-clause-lines : goal.returns-clause-lines
-returns-clause-lines g c = c.lines.ensures ∙ ap lines_of (here_of _ c.pass.inside.side c.pass.inside.words c.pass.inside.local c.args.pass.now
-    (cell_view c.pass.inside.seat) c.pass.view_is c.pass.invariant.0)
+returns-clause-lines g c = c.lines.ensures ∙ ap lines_of (here_of c.pass.view_is c.pass.invariant.0)
 
 pub returns-clause-added : goal.returns-clause-added
-returns-clause-added g c = is_seen _ _ c.pass.inside.side c.args.pass.now (cell_view c.pass.inside.seat) (cell_view c.add.new.seat) c.args.t.0 c.pass.view_is c.add.ensures.cell.0 c.add.ensures.added
+returns-clause-added g c = is_seen c.args.t.0 c.pass.view_is c.add.ensures.cell.0 c.add.ensures.added
 
 pub returns-clause-horizon : goal.returns-clause-horizon
-returns-clause-horizon g c = horizon_added c.args.pass.now _ (lines_at c.args.t.0 c.args.pass.now.side (lines_of (here c.args.pass.now))) c.requires.later (returns-clause-added g c)
+returns-clause-horizon g c = horizon_added c.args.pass.now (lines_at c.args.t.0 c.args.pass.now.side (lines_of (here c.args.pass.now))) c.requires.later (returns-clause-added g c)

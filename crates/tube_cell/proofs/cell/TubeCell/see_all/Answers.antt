@@ -6,21 +6,20 @@ pub invariant_of-pass : goal.invariant_of-pass
 invariant_of-pass g c =
     let v = cell_view c.pass.inside.seat in
     let w = cell_view c.add.new.seat in (
-      saw_all _ c.pass.inside.side c.pass.inside.words c.pass.inside.local c.args.pass.now v w g.D.Deeds.events c.args._end.0 c.pass.view_is
+      saw_all _ _ c.pass.view_is
           c.pass.invariant.0 c.requires.none_trusted c.requires.watches c.requires.admitted c.add.ensures.added,
-      saw_cut _ c.pass.inside.side c.pass.inside.words c.pass.inside.local c.args.pass.now v w g.D.Deeds.events c.args._end.0 c.pass.inside.cut
+      saw_cut _ _ c.pass.inside.cut
           c.pass.view_is c.pass.invariant.0 c.pass.invariant.1 c.requires.watches c.add.ensures.added,
     )
 
 pub returns-clause-added : goal.returns-clause-added
-returns-clause-added g c = is_added _ _ c.pass.inside.side c.args.pass.now (cell_view c.pass.inside.seat)
-    (cell_view c.add.new.seat) g.D.Deeds.events c.pass.view_is c.add.ensures.cell.0 c.add.ensures.added
+returns-clause-added g c = is_added g.D.Deeds.events c.pass.view_is c.add.ensures.cell.0 c.add.ensures.added
 
 pub returns-clause-horizon : goal.returns-clause-horizon
-returns-clause-horizon g c = horizon_past c.args.pass.now _ g.D.Deeds.events (returns-clause-added g c)
+returns-clause-horizon g c = horizon_past c.args.pass.now g.D.Deeds.events (returns-clause-added g c)
 
 pub returns-clause-here : goal.returns-clause-here
-returns-clause-here g c = here_watched c.args.pass.now _ g.D.Deeds.events c.args._end.0 c.requires.watches (returns-clause-added g c)
+returns-clause-here g c = here_watched c.args.pass.now _ _ c.requires.watches (returns-clause-added g c)
 
 pub returns-clause-bound : goal.returns-clause-bound
-returns-clause-bound g c = bound_watched c.args.pass.now _ g.D.Deeds.events c.args._end.0 c.requires.watches (returns-clause-added g c)
+returns-clause-bound g c = bound_watched c.args.pass.now _ _ c.requires.watches (returns-clause-added g c)
