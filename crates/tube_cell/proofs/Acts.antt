@@ -8,7 +8,7 @@ use Rattle.tube_chip.specs.declared.Answer.TheVariants.{Byte, Seen}
 use Rattle.tube_chip.specs.State.{State, lines_of}
 use Rattle.tube_chip.specs.Act.{answer_of, chip_after}
 use Rattle.tube_chip.specs.Events.{Event, after_from}
-use Rattle.tube_cell.specs.Views.{Known, View, word_of_other, own_bound, other_bound, bound_at, slack, Admits, horizon, past_last, chip_after_event}
+use Rattle.tube_cell.specs.Views.{AllBelow, Known, View, word_of_other, own_bound, other_bound, bound_at, slack, Admits, horizon, past_last, chip_after_event}
 use Rattle.tube_cell.specs.Views.{Answers, same_readings, trust_next, trust_past, trust_after}
 use Rattle.tube_cell.specs.Rules.{added_view}
 use Rattle.tube_cell.specs.Passes.{Carried, carried_of, own_horizon, access_at, lines_at, here, trust_here, bound_here, after_add}
@@ -247,7 +247,7 @@ bound_watched p es end watches is =
     ∙ ap (λ t. bound_at p.side (word_of_other p.side p.known) t)
     (trust_after_append p.side p.known.chip p.known.trust p.ahead es ∙ watch_trust _ _ _ (trust_here p) _ _ watches)
 
-pub horizon_past : (p : Carried) {q : Carried} (es : List Event) → q ≡ after_add p es → (t : ℕ) → own_horizon p ≤ t → All (λ e. e.tick < t) es → own_horizon q ≤ t
+pub horizon_past : (p : Carried) {q : Carried} (es : List Event) → q ≡ after_add p es → (t : ℕ) → own_horizon p ≤ t → AllBelow t es → own_horizon q ≤ t
 horizon_past p es is t le low =
     let e = ap own_horizon is in
     let a = past_append t (p.events ++ p.ahead) es low in

@@ -9,12 +9,13 @@ use Rattle.beeb_bits.specs.declared.Side.TheVariants.{Host, Para}
 use Rattle.tube_chip.specs.State.{State}
 use Rattle.tube_chip.specs.Act.{Query}
 use Rattle.tube_chip.specs.Events.{Event, merge, after, IsLegal}
-use Rattle.tube_cell.specs.Views.{Known, own_bound, past_last, below, is_access, is_observation, chip_after_event, Answers, same_readings, trust_past, trust_after}
+use Rattle.tube_cell.specs.Views.{AllBelow, Known, own_bound, past_last, below, is_access, is_observation, chip_after_event, Answers, same_readings, trust_past, trust_after}
 use Rattle.tube_cell.specs.Rules.{Climbs, HostFine, ParaFine, Good, Trusts, Knows}
 use Rattle.tube_cell.specs.Steps.{Runs, Watches}
 use Rattle.tube_cell.proofs.Observed.{observed_stays, ShowsSame, readings_from}
 use Rattle.tube_cell.proofs.Law.{gap, Precedes, Early, joins_para, legal_end, legal_placed, legal_cut, after-on, past_last-on, precedes_below}
 use Rattle.tube_cell.proofs.Law.{nat_lt-true, nat_lt-false, nat_lt-from_true, nat_lt-from_false, All-below, below_lies, below_append}
+use Rattle.tube_cell.proofs.Law.{low_cons, low_head, low_nil, low_tail, lower}
 
 -- ---- lists that climb
 
@@ -22,15 +23,15 @@ climbs_end : (n : ℕ) (x : Event) (xs : List Event) → Climbs n (x ∷ xs) →
 climbs_end n x [] h = omega arith
 climbs_end n x (y ∷ ys) h = let f = h.1.0 in let l = climbs_end (x.tick + 1) y ys h.1 in omega arith
 
-pub climbs_last : (n : ℕ) (xs : List Event) → Climbs n xs → All (λ x. x.tick < past_last xs) xs
-climbs_last n [] h = All-nil (λ x. x.tick < 0)
-climbs_last n (x ∷ []) h = All-cons (λ y. y.tick < x.tick + 1) x [] (omega arith) (All-nil (λ y. y.tick < x.tick + 1))
+pub climbs_last : (n : ℕ) (xs : List Event) → Climbs n xs → AllBelow (past_last xs) xs
+climbs_last n [] h = low_nil
+climbs_last n (x ∷ []) h = low_cons x [] (omega arith) low_nil
 climbs_last n (x ∷ y ∷ ys) h =
     let l = climbs_end n x (y ∷ ys) h in
-    All-cons (λ z. z.tick < past_last (y ∷ ys)) x (y ∷ ys) (omega arith) (climbs_last (x.tick + 1) (y ∷ ys) h.1)
+    low_cons x (y ∷ ys) (omega arith) (climbs_last (x.tick + 1) (y ∷ ys) h.1)
 
-pub low_of : (t : ℕ) (xs : List Event) → Climbs 0 xs → past_last xs ≤ t → All (λ x. x.tick < t) xs
-low_of t xs h le = All-weaker (λ x. x.tick < past_last xs) (λ x. x.tick < t) (λ x l. omega arith) xs (climbs_last 0 xs h)
+pub low_of : (t : ℕ) (xs : List Event) → Climbs 0 xs → past_last xs ≤ t → AllBelow t xs
+low_of t xs h le = lower xs (climbs_last 0 xs h) (omega arith)
 
 climbs_on : (n : ℕ) (xs : List Event) (e : Event) → Climbs n xs → n ≤ e.tick → past_last xs ≤ e.tick → Climbs n (xs ++ e ∷ [])
 climbs_on n [] e h le late = (le, tt)
@@ -211,7 +212,7 @@ pub record HostStep (k n : Known) (host para list : List Event) : Type 0 where
   pub para_word : n.para ≡ k.para
   pub host_up : k.host ≤ n.host
   pub trust : (n.trust ≡ k.trust) ⊎ ((k.host ≤ n.trust) × (n.trust < k.trust) × (n.trust < n.host))
-  pub keeps : (mine trusted : List Event) → All (λ e. e.tick < k.host) mine → para ≡ mine ++ below k.trust trusted → rest ≡ mine ++ below n.trust trusted
+  pub keeps : (mine trusted : List Event) → AllBelow k.host mine → para ≡ mine ++ below k.trust trusted → rest ≡ mine ++ below n.trust trusted
 
 taken_back : (h a t m : ℕ) → h ≤ t → t < m → (min a t ≡ a) ⊎ ((h ≤ min a t) × (min a t < a) × (min a t < m))
 taken_back h a t m le lt =
@@ -238,7 +239,7 @@ host_event {k} {host} {para} e good is from late admitted answers =
         trust = taken_back k.host k.trust e.tick (e.tick + 1) from (omega arith);
         keeps = λ mine trusted low eq.
             ap (below e.tick) eq
-            ∙ below_append e.tick mine (below k.trust trusted) (All-weaker (λ x. x.tick < k.host) (λ x. x.tick < e.tick) (λ x l. omega arith) mine low)
+            ∙ below_append e.tick mine (below k.trust trusted) (lower mine low (omega arith))
             ∙ ap (λ l. mine ++ l) (below_below e.tick k.trust trusted);
       }
     ]) refl
@@ -345,9 +346,9 @@ para_runs (e ∷ es) {k} {host} {para} from last end good le late h =
     subst (λ (l : List Event). Good (para_last k last end) host l) (append_assoc para (e ∷ []) es)
     (para_runs es (e.tick + 1) last end a (omega arith) (omega arith) h.4)
 
-pub para_low : (o a from : ℕ) (c : State) (es : List Event) (last : State) (end : ℕ) → Runs Para o a from c es last end → All (λ e. e.tick < o) es
-para_low o a from c [] last end h = All-nil (λ e. e.tick < o)
-para_low o a from c (e ∷ es) last end h = let b = h.2 in All-cons (λ x. x.tick < o) e es (omega arith) (para_low o a (e.tick + 1) (chip_after_event c e) es last end h.4)
+pub para_low : (o a from : ℕ) (c : State) (es : List Event) (last : State) (end : ℕ) → Runs Para o a from c es last end → AllBelow o es
+para_low o a from c [] last end h = low_nil
+para_low o a from c (e ∷ es) last end h = let b = h.2 in low_cons e es (omega arith) (para_low o a (e.tick + 1) (chip_after_event c e) es last end h.4)
 
 pub para_idle : (o a from : ℕ) (c : State) (es : List Event) (last : State) (end : ℕ) → Runs Para o a from c es last end → o ≤ from → last ≡ c
 para_idle o a from c [] last end h le = h.0
@@ -360,11 +361,11 @@ runs_end s t a from c (e ∷ es) last end h =
     let f = h.1 in
     omega arith
 
-pub runs_low : (s : Side) (t a from : ℕ) (c : State) (es : List Event) (last : State) (end : ℕ) → Runs s t a from c es last end → All (λ e. e.tick < end) es
-runs_low s t a from c [] last end h = All-nil (λ e. e.tick < end)
+pub runs_low : (s : Side) (t a from : ℕ) (c : State) (es : List Event) (last : State) (end : ℕ) → Runs s t a from c es last end → AllBelow end es
+runs_low s t a from c [] last end h = low_nil
 runs_low s t a from c (e ∷ es) last end h =
     let r = runs_end s t _ _ _ _ _ _ h.4 in
-    All-cons (λ x. x.tick < end) e es (omega arith) (runs_low s t (trust_past s c e a) (e.tick + 1) (chip_after_event c e) es last end h.4)
+    low_cons e es (omega arith) (runs_low s t (trust_past s c e a) (e.tick + 1) (chip_after_event c e) es last end h.4)
 
 -- what the host's pass knows, once the parasite took its steps
 pub host_knows : {k : Known} (n : Known) {x : Known} → Knows Host k x → n.host ≡ k.host → k.para ≤ n.para → k.trust ≤ n.trust → (k.host ≤ own_bound Para k → n.chip ≡ k.chip) → Knows Host n x
@@ -382,9 +383,9 @@ host_knows n knows host para trust idle =
 
 -- ---- observations on trust
 
-pub watches_low : (s : Side) (from : ℕ) (c : State) (es : List Event) (end : ℕ) → Watches s from c es end → All (λ e. e.tick < end) es
-watches_low s from c [] end h = All-nil (λ e. e.tick < end)
-watches_low s from c (e ∷ es) end h = All-cons (λ x. x.tick < end) e es h.3 (watches_low s (e.tick + 1) c es end h.5)
+pub watches_low : (s : Side) (from : ℕ) (c : State) (es : List Event) (end : ℕ) → Watches s from c es end → AllBelow end es
+watches_low s from c [] end h = low_nil
+watches_low s from c (e ∷ es) end h = low_cons e es h.3 (watches_low s (e.tick + 1) c es end h.5)
 
 -- the words with this trust
 abbrev pub trusting : Known → ℕ → Known
@@ -408,17 +409,17 @@ watched (e ∷ es) {k} {host} {para} from end good le late stop h =
     let good' : Good (trusting k t) host (para ++ e ∷ []) = subst (λ (c : State). Good (record k { chip = c; trust = t }) host (para ++ e ∷ [])) stays first in
     subst (λ (l : List Event). Good (trusting k end) host l) (append_assoc para (e ∷ []) es) (watched es t end good' (omega arith) (omega arith) (omega arith) h.5)
 
-past_low : (t : ℕ) (xs : List Event) → All (λ x. x.tick < t) xs → past_last xs ≤ t
+past_low : (t : ℕ) (xs : List Event) → AllBelow t xs → past_last xs ≤ t
 past_low t [] all = omega arith
-past_low t (x ∷ []) all = let h = All-head (λ y. y.tick < t) x [] all in omega arith
-past_low t (x ∷ y ∷ ys) all = past_low t (y ∷ ys) (All-tail (λ z. z.tick < t) x (y ∷ ys) all)
+past_low t (x ∷ []) all = let h = low_head x [] all in omega arith
+past_low t (x ∷ y ∷ ys) all = past_low t (y ∷ ys) (low_tail x (y ∷ ys) all)
 
-pub past_append : (t : ℕ) (xs ys : List Event) → All (λ y. y.tick < t) ys → past_last (xs ++ ys) ≤ max t (past_last xs)
+pub past_append : (t : ℕ) (xs ys : List Event) → AllBelow t ys → past_last (xs ++ ys) ≤ max t (past_last xs)
 past_append t [] ys all = let h = past_low t ys all in omega arith
 past_append t (x ∷ []) [] all = omega arith
 past_append t (x ∷ []) (y ∷ ys) all = let h = past_low t (y ∷ ys) all in omega arith
 past_append t (x ∷ z ∷ xs) ys all = past_append t (z ∷ xs) ys all
 
-pub below_same : (t : ℕ) (xs : List Event) → All (λ x. x.tick < t) xs → below t xs ≡ xs
+pub below_same : (t : ℕ) (xs : List Event) → AllBelow t xs → below t xs ≡ xs
 below_same t [] all = refl
-below_same t (x ∷ xs) all = rw (nat_lt-true x.tick t (All-head (λ y. y.tick < t) x xs all)) (ap (λ l. x ∷ l) (below_same t xs (All-tail (λ y. y.tick < t) x xs all)))
+below_same t (x ∷ xs) all = rw (nat_lt-true x.tick t (low_head x xs all)) (ap (λ l. x ∷ l) (below_same t xs (low_tail x xs all)))

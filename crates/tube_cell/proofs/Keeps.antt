@@ -27,6 +27,7 @@ use Rattle.tube_cell.proofs.Law.{below_lies}
 use Rattle.tube_cell.proofs.Grows.{host_last, host_runs, host_idle, para_knows, para_last, para_runs, para_low, para_idle, runs_end, runs_low}
 use Rattle.tube_cell.proofs.Grows.{trust_after_para, host_knows, trusts_fall, good_calm, good_para, trusting, watched, watches_low, past_append}
 use Rattle.tube_cell.proofs.Grows.{below_same}
+use Rattle.tube_cell.proofs.Law.{low_cons, low_nil, lower}
 
 nat_le-true : (m n : ℕ) → nat_le m n ≡ true → m ≤ n
 nat_le-true m n e = grind (arith, nat_tests)
@@ -77,18 +78,18 @@ new-well =
 -- ---- what a pass fits
 
 -- a step of one side leaves the fit of every other pass, but may change that of the other side's
-others : (s : Side) (k n : Known) (a b a' b' : List Event) (hs ps : ℕ) (j : ℕ) (u : View) → j ≢ pick s hs ps
-    → (FitsAs k a b hs ps (one_side (flip s)) j u → FitsAs n a' b' hs ps (one_side (flip s)) j u)
-    → (r : Role) → FitsAs k a b hs ps r j u → FitsAs n a' b' hs ps r j u
-others s k n a b a' b' hs ps j u apart keep used f = tt
-others Host k n a b a' b' hs ps j u apart keep undivided f = absurd (apart f.0)
-others Para k n a b a' b' hs ps j u apart keep undivided f = absurd (apart f.1)
-others Host k n a b a' b' hs ps j u apart keep rejoined f = absurd (apart f.0)
-others Para k n a b a' b' hs ps j u apart keep rejoined f = absurd (apart f.1)
-others Host k n a b a' b' hs ps j u apart keep (one_side Host) f = absurd (apart f.0)
-others Host k n a b a' b' hs ps j u apart keep (one_side Para) f = keep f
-others Para k n a b a' b' hs ps j u apart keep (one_side Host) f = keep f
-others Para k n a b a' b' hs ps j u apart keep (one_side Para) f = absurd (apart f.0)
+others : (s : Side) (k n : Known) (a b a' b' : List Event) (hs ps hs' ps' j : ℕ) (u : View) → j ≢ pick s hs ps
+    → (FitsAs k a b hs ps (one_side (flip s)) j u → FitsAs n a' b' hs' ps' (one_side (flip s)) j u)
+    → (r : Role) → FitsAs k a b hs ps r j u → FitsAs n a' b' hs' ps' r j u
+others s k n a b a' b' hs ps hs' ps' j u apart keep used f = tt
+others Host k n a b a' b' hs ps hs' ps' j u apart keep undivided f = absurd (apart f.0)
+others Para k n a b a' b' hs ps hs' ps' j u apart keep undivided f = absurd (apart f.1)
+others Host k n a b a' b' hs ps hs' ps' j u apart keep rejoined f = absurd (apart f.0)
+others Para k n a b a' b' hs ps hs' ps' j u apart keep rejoined f = absurd (apart f.1)
+others Host k n a b a' b' hs ps hs' ps' j u apart keep (one_side Host) f = absurd (apart f.0)
+others Host k n a b a' b' hs ps hs' ps' j u apart keep (one_side Para) f = keep f
+others Para k n a b a' b' hs ps hs' ps' j u apart keep (one_side Host) f = keep f
+others Para k n a b a' b' hs ps hs' ps' j u apart keep (one_side Para) f = absurd (apart f.0)
 
 -- the view that a pass was set to
 at_again : (views : List View) (pass : ℕ) (v u : View) → get_elem? views pass ≡ some v → get_elem? (set views pass u) pass ≡ some u
@@ -96,18 +97,14 @@ at_again [] pass v u at = absurd (some-ne-none v (sym at))
 at_again (x ∷ xs) zero v u at = refl
 at_again (x ∷ xs) (suc pass) v u at = at_again xs pass v u at
 
--- what each pass fits after one pass's view became w
-module _ (k : Known) (a b : List Event) (hs ps : ℕ) where
-  abbrev Fits : ℕ → View → Type 0
-  Fits j u = FitsAs k a b hs ps u.role j u
-
-  after_set : (views : List View) (pass : ℕ) (w : View) → ((j : ℕ) (u : View) → j ≢ pass → get_elem? views j ≡ some u → Fits j u) → Fits pass w
-      → (j : ℕ) (u : View) → get_elem? (set views pass w) j ≡ some u → Fits j u
-  after_set views pass w rest mine j u e =
-      ⊎_elim
-      (λ (x : (j ≡ pass) × (w ≡ u)). subst (λ (y : ℕ × View). Fits y.0 y.1) (λ i. (sym x.0 i, x.1 i)) mine)
-      (λ (x : (j ≢ pass) × (get_elem? views j ≡ some u)). rest j u x.0 x.1)
-      (at_set views pass j w u e)
+-- what holds of each pass after one pass's view became w
+after_set : (F : ℕ → View → Type 0) (views : List View) (pass : ℕ) (w : View) → ((j : ℕ) (u : View) → j ≢ pass → get_elem? views j ≡ some u → F j u) → F pass w
+    → (j : ℕ) (u : View) → get_elem? (set views pass w) j ≡ some u → F j u
+after_set F views pass w rest mine j u e =
+    ⊎_elim
+    (λ (x : (j ≡ pass) × (w ≡ u)). subst (λ (y : ℕ × View). F y.0 y.1) (λ i. (sym x.0 i, x.1 i)) mine)
+    (λ (x : (j ≢ pass) × (get_elem? views j ≡ some u)). rest j u x.0 x.1)
+    (at_set views pass j w u e)
 
 -- what holds of a pass while the rule stands so
 abbrev FitsIn : {words : List ℕ} {views : List View} → Kept words views → Role → ℕ → View → Type 0
@@ -142,8 +139,8 @@ kept_step s {views} k pass v w {n} {a} {b} at role words_are well good keep role
       words_are = words_are;
       well = well;
       good = good;
-      each = after_set n a b k.host_seat k.para_seat views pass w
-          (λ j u apart e. others s _ n _ _ a b _ _ j u (λ same. apart (same ∙ sym seat)) (keep j u) _ (k.each j u e))
+      each = after_set (λ j u. FitsAs n a b k.host_seat k.para_seat u.role j u) views pass w
+          (λ j u apart e. others s k.known n k.host k.para a b k.host_seat k.para_seat _ _ j u (λ same. apart (same ∙ sym seat)) (keep j u) u.role (k.each j u e))
           (subst (λ (r : Role). FitsAs n a b k.host_seat k.para_seat r pass w) (sym role') fits);
     }
 
@@ -164,14 +161,14 @@ settles k mine (e ∷ es) = elim (nat_le k.trust k.host) as (λ b. mine ++ below
   | false ↦ ap (λ l. l ++ below k.trust (e ∷ es)) (sym (append-nil mine))
 ]
 
-pub firm_low : (k : Known) (trusted : List Event) → All (λ e. e.tick < k.host) (firm k trusted)
-firm_low k [] = All-nil (λ e. e.tick < k.host)
+pub firm_low : (k : Known) (trusted : List Event) → AllBelow k.host (firm k trusted)
+firm_low k [] = low_nil
 firm_low k (x ∷ xs) =
-    (elim (nat_le k.trust k.host) as (λ b. nat_le k.trust k.host ≡ b → All (λ e. e.tick < k.host) (cond b (below k.trust (x ∷ xs)) [])) [
+    (elim (nat_le k.trust k.host) as (λ b. nat_le k.trust k.host ≡ b → AllBelow k.host (cond b (below k.trust (x ∷ xs)) [])) [
       | true ↦ λ h.
           let le = nat_le-true k.trust k.host h in
           All-weaker (λ e. e.tick < k.trust) (λ e. e.tick < k.host) (λ e l. omega arith) (below k.trust (x ∷ xs)) (below_lies k.trust (x ∷ xs))
-      | false ↦ λ h. All-nil (λ e. e.tick < k.host)
+      | false ↦ λ h. low_nil
     ]) refl
 
 fits_found : (s : Side) (k : Known) (a b : List Event) (hs ps : ℕ) (j : ℕ) (v : View) → IsChip k.chip → FitsAs k a b hs ps (one_side s) j v → FitsAs k a b hs ps (one_side s) j (found_view v k)
@@ -244,7 +241,7 @@ host_publishes one pass {v} {es} {last} {end} {next} may well with_is words view
     (λ j u f. (
       f.0,
       step.keeps u.mine u.trusted f.2 f.1,
-      All-weaker (λ e. e.tick < k.known.host) (λ e. e.tick < end) (λ e l. omega arith) u.mine f.2,
+      lower u.mine f.2 (omega arith),
       para_knows n f.3 step.para_word step.host_up step.trust
           (λ lt. host_idle _ _ _ _ _ _ _ runs (omega arith)),
     ))
@@ -300,13 +297,13 @@ entrusts_hit one pass {v} {es} {end} {next} may with_is words views k at is =
     let next_is : next ≡ n = with_is ∙ ap (λ (x : Known). trusting x end) same in
     let from = horizon (own_bound Para k.known) v.mine in
     let watches : Watches Para from k.known.chip es end = subst (λ (x : Known). Watches Para (horizon (own_bound Para x) v.mine) x.chip es end) same may.watches in
-    let low : All (λ e. e.tick < k.known.trust) v.trusted = subst (λ (x : Known). All (λ e. e.tick < x.trust) v.trusted) same may.trusted in
+    let low : AllBelow k.known.trust v.trusted = subst (λ (x : Known). AllBelow x.trust v.trusted) same may.trusted in
     let para_is : k.para ≡ v.mine ++ v.trusted = fit.1 ∙ ap (λ l. v.mine ++ l) (below_same k.known.trust v.trusted low) in
     let past : past_last k.para ≤ from = let a = past_append k.known.trust v.mine v.trusted low in let b : past_last k.para ≡ past_last (v.mine ++ v.trusted) = ap past_last para_is in omega arith in
     let stop : from ≤ end = subst (λ (x : Known). horizon (own_bound Para x) v.mine ≤ end) same may.later in
     let good = watched _ _ _ k.good (omega arith) past stop watches in
-    let low' : All (λ e. e.tick < end) (v.trusted ++ es) =
-    All-append (λ e. e.tick < end) v.trusted es (All-weaker (λ e. e.tick < k.known.trust) (λ e. e.tick < end) (λ e l. omega arith) v.trusted low) (watches_low _ _ _ _ _ watches) in
+    let low' : AllBelow end (v.trusted ++ es) =
+    All-append (λ e. e.tick < end) v.trusted es (lower v.trusted low (omega arith)) (watches_low _ _ _ _ _ watches) in
     kept_step Para k _ v _ at may.role
     (ap words_of next_is) k.well good
     (λ j u f. (f.0, f.1, f.2, host_knows n f.3 refl (omega arith) (omega arith) (λ le. refl)))
@@ -340,7 +337,7 @@ both_hit one pass {v} {es} {seen} {last} {word} {end} {next} may well with_is wo
     let order = may.order in
     let may' : MayEntrust seen end u = record {
       role = may.publish.role;
-      trusted = subst (AllBelow v.known.trust) (sym may.publish.none_trusted) (All-nil (λ e. e.tick < v.known.trust));
+      trusted = subst (AllBelow v.known.trust) (sym may.publish.none_trusted) low_nil;
       later = omega arith;
       watches = let same : word ≡ horizon (own_bound Para mid) u.mine = omega arith in subst (λ (n : ℕ). Watches Para n last seen end) same may.watches;
     } in
@@ -383,7 +380,7 @@ kept_looked Para k pass {v} {t} at may admitted =
     kept_step Para k _ v _ at may.role k.words_are k.well good (λ j u f. f) may.role (
       fit.0,
       ap (λ l. l ++ look ∷ []) bare ∙ sym (append-nil (v.mine ++ look ∷ [])) ∙ ap (λ l. (v.mine ++ look ∷ []) ++ below n.trust (pending_events n l)) (sym may.none_trusted),
-      All-append (λ e. e.tick < n.host) v.mine (look ∷ []) fit.2 (All-cons (λ e. e.tick < n.host) look [] (omega arith) (All-nil (λ e. e.tick < n.host))),
+      All-append (λ e. e.tick < n.host) v.mine (look ∷ []) fit.2 (low_cons look [] (omega arith) low_nil),
       knows_all Para n k.well,
     )
 
@@ -416,14 +413,6 @@ at_snoc [] a b (suc j) e = absurd (some-ne-none b (sym e))
 at_snoc (x ∷ xs) a b zero e = inl e
 at_snoc (x ∷ xs) a b (suc j) e = ⊎_elim (λ t. inl t) (λ (t : (j ≡ length xs) × (a ≡ b)). inr (ap suc t.0, t.1)) (at_snoc xs a b j e)
 
--- a pass that stands at neither seat is spent
-nobody : (k k' : Known) (a b a' b' : List Event) (hs ps hs' ps' : ℕ) (j : ℕ) (u : View) → j ≢ hs → j ≢ ps → (r : Role) → FitsAs k a b hs ps r j u → FitsAs k' a' b' hs' ps' r j u
-nobody k k' a b a' b' hs ps hs' ps' j u h p undivided f = absurd (h f.0)
-nobody k k' a b a' b' hs ps hs' ps' j u h p rejoined f = absurd (h f.0)
-nobody k k' a b a' b' hs ps hs' ps' j u h p (one_side Host) f = absurd (h f.0)
-nobody k k' a b a' b' hs ps hs' ps' j u h p (one_side Para) f = absurd (p f.0)
-nobody k k' a b a' b' hs ps hs' ps' j u h p used f = tt
-
 pub begins : Kept (words_of new_known) (whole ∷ [])
 begins = record {
   known = new_known;
@@ -436,101 +425,72 @@ begins = record {
   good = record {
     chip_is = refl;
     legal = record { rises = tt; answered = tt };
-    host_fine = record { sided = λ k d lt. absurd (omega arith); below_own = λ k d lt. absurd (omega arith); admitted = λ k d lt. absurd (omega arith); climbs = tt };
-    para_fine = record {
-      sided = λ k d lt. absurd (omega arith);
-      below_own = λ k d lt. absurd (omega arith);
-      admitted = λ k d lt. absurd (omega arith);
-      changes = λ k d lt. absurd (omega arith);
-      climbs = tt;
-    };
+    host_fine = record { sided = All-nil _; below_own = All-nil _; admitted = All-nil _; climbs = tt };
+    para_fine = record { sided = All-nil _; below_own = All-nil _; admitted = All-nil _; changes = All-nil _; climbs = tt };
   };
   each = one;
 }
   where
     one : (j : ℕ) (v : View) → get_elem? (whole ∷ []) j ≡ some v → FitsAs new_known [] [] 0 0 v.role j v
-    one zero v e = subst (λ (u : View). FitsAs new_known [] [] 0 0 u.role 0 u) (some-injective _ _ e) (refl, refl, refl, refl, refl, All-nil (λ x. x.tick < 0), refl)
+    one zero v e = subst (λ (u : View). FitsAs new_known [] [] 0 0 u.role 0 u) (some-injective _ _ e) (refl, refl, refl, refl, refl, low_nil, refl)
     one (suc j) v e = absurd (some-ne-none v (sym e))
+
+-- what holds of a pass where the parasite's stands at this seat
+abbrev FitsWith : {words : List ℕ} {views : List View} → Kept words views → ℕ → ℕ → View → Type 0
+FitsWith k ps j u = FitsAs k.known k.host k.para k.host_seat ps u.role j u
+
+-- all but the parasite's pass
+unmoved : {words : List ℕ} {views : List View} (k : Kept words views) (ps j : ℕ) (u : View) → j ≢ k.para_seat → FitsIn k u.role j u → FitsWith k ps j u
+unmoved k ps j u apart f = others Para k.known k.known k.host k.para k.host k.para k.host_seat k.para_seat _ ps j u apart (λ h. h) u.role f
+
+-- the rule, of other passes, the parasite's at this seat
+seated : {words : List ℕ} {views : List View} (k : Kept words views) (next : List View) (ps : ℕ)
+    → ((j : ℕ) (u : View) → get_elem? next j ≡ some u → FitsWith k ps j u) → Kept words next
+seated k next ps each = record {
+  known = k.known;
+  host = k.host;
+  para = k.para;
+  host_seat = k.host_seat;
+  para_seat = ps;
+  words_are = k.words_are;
+  well = k.well;
+  good = k.good;
+  each = each;
+}
+
+-- a pass in two: what it keeps, and what goes to a new one
+forked : {words : List ℕ} {views : List View} (k : Kept words views) (pass ps : ℕ) (w given : View)
+    → ((j : ℕ) (u : View) → j ≢ pass → FitsIn k u.role j u → FitsWith k ps j u) → FitsWith k ps pass w → FitsWith k ps (length (set views pass w)) given
+    → Kept words (set views pass w ++ given ∷ [])
+forked {views = views} k pass ps w given rest kept new = seated k (set views pass w ++ given ∷ []) ps (λ j u e. ⊎_elim
+    (λ was. after_set (FitsWith k ps) views pass w (λ i x apart at. rest i x apart (k.each i x at)) kept j u was)
+    (λ (t : (j ≡ length (set views pass w)) × (given ≡ u)). subst (λ (y : ℕ × View). FitsWith k ps y.0 y.1) (λ i. (sym t.0 i, t.1 i)) new)
+    (at_snoc (set views pass w) given u j e))
 
 pub halves : (pass : ℕ) (v : View) → v.role ≡ undivided → Forks Kept pass v (host_part v) (para_part v)
 halves pass v role words views k at =
     let f : FitsIn k undivided pass v = subst (λ (r : Role). FitsIn k r pass v) role (k.each pass v at) in
     let seat = length (set views pass (host_part v)) in
-    let host_fits : Fits k.known k.host k.para k.host_seat seat pass (host_part v) = (f.0, f.2, f.4, subst (Knows Host k.known) (sym f.6) (knows_all Host k.known k.well)) in
-    let para_fits : Fits k.known k.host k.para k.host_seat seat seat (para_part v) = (
+    forked k pass seat (host_part v) (para_part v) (λ j u apart. unmoved k seat j u (λ same. apart (same ∙ sym f.1)))
+    (f.0, f.2, f.4, subst (Knows Host k.known) (sym f.6) (knows_all Host k.known k.well)) (
       refl,
       sym f.3 ∙ sym (append-nil v.theirs) ∙ ap (λ l. v.theirs ++ below k.known.trust l) (sym f.4),
-      subst (All (λ e. e.tick < k.known.host)) (sym f.3) f.5,
+      subst (AllBelow k.known.host) (sym f.3) f.5,
       subst (Knows Para k.known) (sym f.6) (knows_all Para k.known k.well),
-    ) in
-    record {
-      known = k.known;
-      host = k.host;
-      para = k.para;
-      host_seat = k.host_seat;
-      para_seat = seat;
-      words_are = k.words_are;
-      well = k.well;
-      good = k.good;
-      each = λ j u e. ⊎_elim
-          (λ was. after_set k.known k.host k.para k.host_seat seat views pass (host_part v)
-          (λ i x apart e'. nobody _ k.known _ _ k.host k.para _ _ k.host_seat seat i x
-          (λ same. apart (same ∙ sym f.0)) (λ same. apart (same ∙ sym f.1)) _ (k.each i x e'))
-          host_fits j u was)
-          (λ (t : (j ≡ seat) × (para_part v ≡ u)). subst (λ (y : ℕ × View). Fits k.known k.host k.para k.host_seat seat y.0 y.1) (λ i. (sym t.0 i, t.1 i)) para_fits)
-          (at_snoc (set views pass (host_part v)) (para_part v) u j e);
-    }
+    )
 
 -- the parasite's view goes to a new pass
 pub parts : (pass : ℕ) (v : View) → v.role ≡ one_side Para → Forks Kept pass v spent_view v
 parts pass v role words views k at =
     let f = fit_of Para k pass v at role in
     let seat = length (set views pass spent_view) in
-    let new_fits : Fits k.known k.host k.para k.host_seat seat seat v = subst (λ (r : Role). FitsAs k.known k.host k.para k.host_seat seat r seat v) (sym role) (refl, f.1, f.2, f.3) in
-    record {
-      known = k.known;
-      host = k.host;
-      para = k.para;
-      host_seat = k.host_seat;
-      para_seat = seat;
-      words_are = k.words_are;
-      well = k.well;
-      good = k.good;
-      each = λ j u e. ⊎_elim
-          (λ was. after_set k.known k.host k.para k.host_seat seat views pass spent_view
-          (λ i x apart e'. moved k.known k.host k.para k.host_seat k.para_seat seat i x (λ same. apart (same ∙ sym f.0)) x.role (k.each i x e'))
-          tt j u was)
-          (λ (t : (j ≡ seat) × (v ≡ u)). subst (λ (y : ℕ × View). Fits k.known k.host k.para k.host_seat seat y.0 y.1) (λ i. (sym t.0 i, t.1 i)) new_fits)
-          (at_snoc (set views pass spent_view) v u j e);
-    }
-  where
-    moved : (k : Known) (a b : List Event) (hs ps ps' : ℕ) (j : ℕ) (u : View) → j ≢ ps → (r : Role) → FitsAs k a b hs ps r j u → FitsAs k a b hs ps' r j u
-    moved k a b hs ps ps' j u p undivided f = absurd (p f.1)
-    moved k a b hs ps ps' j u p rejoined f = absurd (p f.1)
-    moved k a b hs ps ps' j u p (one_side Host) f = f
-    moved k a b hs ps ps' j u p (one_side Para) f = absurd (p f.0)
-    moved k a b hs ps ps' j u p used f = tt
+    forked k pass seat spent_view v (λ j u apart. unmoved k seat j u (λ same. apart (same ∙ sym f.0))) tt
+    (subst (λ (r : Role). FitsAs k.known k.host k.para k.host_seat seat r seat v) (sym role) (refl, f.1, f.2, f.3))
 
 -- events join the unpublished ones of a pass
 pub adds : (s : Side) (pass : ℕ) (v : View) (es : List Event) → v.role ≡ one_side s → Forks Kept pass v (added_view v es) spent_view
 adds s pass v es role words views k at =
-    let w = added_view v es in
-    let fit = fit_of s k pass v at role in
-    record {
-      known = k.known;
-      host = k.host;
-      para = k.para;
-      host_seat = k.host_seat;
-      para_seat = k.para_seat;
-      words_are = k.words_are;
-      well = k.well;
-      good = k.good;
-      each = λ j u e. ⊎_elim
-          (λ was. after_set k.known k.host k.para k.host_seat k.para_seat views pass w (λ i x apart e'. k.each i x e')
-          (subst (λ (r : Role). FitsIn k r pass w) (sym role) (same s fit)) j u was)
-          (λ (t : (j ≡ length (set views pass w)) × (spent_view ≡ u)). subst (λ (y : View). Fits k.known k.host k.para k.host_seat k.para_seat j y) t.1 tt)
-          (at_snoc (set views pass w) spent_view u j e);
-    }
+    forked k pass k.para_seat (added_view v es) spent_view (λ j u apart f. f) (subst (λ (r : Role). FitsIn k r pass (added_view v es)) (sym role) (same s (fit_of s k pass v at role))) tt
   where
     same : (s : Side) → FitsIn k (one_side s) pass v → FitsIn k (one_side s) pass (added_view v es)
     same Host f = f
@@ -544,24 +504,10 @@ merges pass v giver w host para none words views k at apart there =
     (λ (t : (giver ≢ pass) × (get_elem? views giver ≡ some w)). t.1) (at_set views pass giver taken w there) in
     let f = fit_of Host k pass v at host in
     let g = fit_of Para k giver w was para in
-    let joined_fits : Fits k.known k.host k.para pass pass pass taken = (refl, refl, f.1, sym (g.1 ∙ ap (λ l. w.mine ++ below k.known.trust l) none ∙ append-nil w.mine)) in
-    record {
-      known = k.known;
-      host = k.host;
-      para = k.para;
-      host_seat = pass;
-      para_seat = pass;
-      words_are = k.words_are;
-      well = k.well;
-      good = k.good;
-      each = after_set k.known k.host k.para pass pass (set views pass taken) giver spent_view
-          (λ j u off e. ⊎_elim
-          (λ (t : (j ≡ pass) × (taken ≡ u)). subst (λ (y : ℕ × View). Fits k.known k.host k.para pass pass y.0 y.1) (λ i. (sym t.0 i, t.1 i)) joined_fits)
-          (λ (t : (j ≢ pass) × (get_elem? views j ≡ some u)). nobody _ k.known _ _ k.host k.para _ _ pass pass j u
-          (λ same. t.0 (same ∙ sym f.0)) (λ same. off (same ∙ sym g.0)) _ (k.each j u t.1))
-          (at_set views pass j taken u e))
-          tt;
-    }
+    let joined : FitsWith k k.host_seat pass taken = (f.0, f.0, f.1, sym (g.1 ∙ ap (λ l. w.mine ++ below k.known.trust l) none ∙ append-nil w.mine)) in
+    seated k (set (set views pass taken) giver spent_view) k.host_seat (after_set (FitsWith k k.host_seat) (set views pass taken) giver spent_view
+    (λ j u off e. after_set (λ i x. i ≢ giver → FitsWith k k.host_seat i x) views pass taken
+    (λ i x _ at' off'. unmoved k k.host_seat i x (λ same. off' (same ∙ sym g.0)) (k.each i x at')) (λ _. joined) j u e off) tt)
 
 pub ends : (pass : ℕ) (v : View) → v.role ≡ rejoined → Turns Kept pass v (λ x. x) Ends
 ends pass v role words views k at =

@@ -10,7 +10,7 @@ use Rattle.beeb_bits.specs.declared.Side.TheVariants.{Host, Para}
 use Rattle.tube_chip.specs.State.{State, power_on}
 use Rattle.tube_chip.specs.Act.{act}
 use Rattle.tube_chip.specs.Events.{Event, IsBefore, Rises, RisesAfter, IsAnsweredFrom, IsLegal, after, after_from, merge, put_in}
-use Rattle.tube_cell.specs.Views.{past_last, below, is_observation, chip_after_event, Answers}
+use Rattle.tube_cell.specs.Views.{AllBelow, past_last, below, is_observation, chip_after_event, Answers}
 use Rattle.tube_cell.proofs.Observed.{observed_stays, ShowsSame, same_answer}
 
 -- by how much the tick has to rise from an event of one side to one of the other
@@ -44,13 +44,30 @@ nat_lt-false m n h = grind (arith, nat_tests)
 pub nat_lt-true : (m n : ℕ) → m < n → nat_lt m n ≡ true
 nat_lt-true m n h = grind (arith, nat_tests)
 
+-- ---- lists below a tick
+
+pub low_nil : {t : ℕ} → AllBelow t []
+low_nil {t} = All-nil (λ e. e.tick < t)
+
+pub low_cons : {t : ℕ} (x : Event) (xs : List Event) → x.tick < t → AllBelow t xs → AllBelow t (x ∷ xs)
+low_cons {t} = All-cons (λ e. e.tick < t)
+
+pub low_head : {t : ℕ} (x : Event) (xs : List Event) → AllBelow t (x ∷ xs) → x.tick < t
+low_head {t} = All-head (λ e. e.tick < t)
+
+pub low_tail : {t : ℕ} (x : Event) (xs : List Event) → AllBelow t (x ∷ xs) → AllBelow t xs
+low_tail {t} = All-tail (λ e. e.tick < t)
+
+pub lower : {t u : ℕ} (xs : List Event) → AllBelow t xs → t ≤ u → AllBelow u xs
+lower xs all le i d lt = let l = all i d lt in omega arith
+
 -- ---- the host's event joins the end of the merge
 
 -- behind all of the parasite's, where each lies below it
-put_in-end : (e : Event) (rest : List Event → List Event) (ys : List Event) → All (λ y. y.tick < e.tick) ys → put_in e rest ys ≡ ys ++ e ∷ rest []
+put_in-end : (e : Event) (rest : List Event → List Event) (ys : List Event) → AllBelow e.tick ys → put_in e rest ys ≡ ys ++ e ∷ rest []
 put_in-end e rest [] all = refl
 put_in-end e rest (y ∷ ys) all =
-    rw (nat_lt-true y.tick e.tick (All-head (λ y. y.tick < e.tick) y ys all)) (ap (λ l. y ∷ l) (put_in-end e rest ys (All-tail (λ y. y.tick < e.tick) y ys all)))
+    rw (nat_lt-true y.tick e.tick (low_head y ys all)) (ap (λ l. y ∷ l) (put_in-end e rest ys (low_tail y ys all)))
 
 put_in-on : (P : Event → Type 0) (x e : Event) (f g : List Event → List Event) (ys : List Event) → All P ys → ((zs : List Event) → All P zs → g zs ≡ f zs ++ e ∷ [])
     → put_in x g ys ≡ put_in x f ys ++ e ∷ []
@@ -61,7 +78,7 @@ put_in-on P x e f g (y ∷ ys) all same =
       | false ↦ ap (λ l. x ∷ l) (same (y ∷ ys) all)
     ]
 
-joins_first : (xs ys : List Event) (e : Event) → All (λ y. y.tick < e.tick) ys → merge (xs ++ e ∷ []) ys ≡ merge xs ys ++ e ∷ []
+joins_first : (xs ys : List Event) (e : Event) → AllBelow e.tick ys → merge (xs ++ e ∷ []) ys ≡ merge xs ys ++ e ∷ []
 joins_first [] ys e all = put_in-end e (merge []) ys all
 joins_first (x ∷ xs) ys e all = put_in-on (λ y. y.tick < e.tick) x e (merge xs) (merge (xs ++ e ∷ [])) ys all (λ zs all'. joins_first xs zs e all')
 
@@ -149,10 +166,10 @@ placed-in x e f g (y ∷ ys) lt same =
       | false ↦ λ h. rw (nat_lt-true x.tick e.tick lt) (ap (λ l. x ∷ l) (same (y ∷ ys)))
     ]) refl
 
-pub joins_placed : (xs ys : List Event) (e : Event) → All (λ x. x.tick < e.tick) xs → merge (xs ++ e ∷ []) ys ≡ placed e (merge xs ys)
+pub joins_placed : (xs ys : List Event) (e : Event) → AllBelow e.tick xs → merge (xs ++ e ∷ []) ys ≡ placed e (merge xs ys)
 joins_placed [] ys e all = refl
 joins_placed (x ∷ xs) ys e all =
-    placed-in x e (merge xs) (merge (xs ++ e ∷ [])) ys (All-head (λ x. x.tick < e.tick) x xs all) (λ zs. joins_placed xs zs e (All-tail (λ x. x.tick < e.tick) x xs all))
+    placed-in x e (merge xs) (merge (xs ++ e ∷ [])) ys (low_head x xs all) (λ zs. joins_placed xs zs e (low_tail x xs all))
 
 -- ---- observations behind it
 
@@ -274,7 +291,7 @@ after-placed c (x ∷ xs) e rises early =
 
 -- The host's event joins its list after all of it, and after all of the parasite's that may change the chip. Where it shows the parasite the same as before,
 -- observations of the parasite may lie behind it.
-pub legal_placed : (xs ys : List Event) (e : Event) → e.side ≡ Host → All (λ x. x.tick < e.tick) xs → All (λ y. y.side ≡ Para) ys → All (Early e.tick) ys → IsLegal (merge xs ys)
+pub legal_placed : (xs ys : List Event) (e : Event) → e.side ≡ Host → AllBelow e.tick xs → All (λ y. y.side ≡ Para) ys → All (Early e.tick) ys → IsLegal (merge xs ys)
     → Answers (after (merge xs ys)) e → ShowsSame (after (merge xs ys)) (chip_after_event (after (merge xs ys)) e)
     → IsLegal (merge (xs ++ e ∷ []) ys) × (after (merge (xs ++ e ∷ []) ys) ≡ chip_after_event (after (merge xs ys)) e)
 legal_placed xs ys e host low para early legal here same =
@@ -298,18 +315,18 @@ All-below P t (x ∷ xs) all = elim (nat_lt x.tick t) as (λ b. All P (cond b (x
   | false ↦ All-nil P
 ]
 
-pub below_lies : (t : ℕ) (xs : List Event) → All (λ x. x.tick < t) (below t xs)
-below_lies t [] = All-nil (λ x. x.tick < t)
+pub below_lies : (t : ℕ) (xs : List Event) → AllBelow t (below t xs)
+below_lies t [] = low_nil
 below_lies t (x ∷ xs) =
-    (elim (nat_lt x.tick t) as (λ b. nat_lt x.tick t ≡ b → All (λ y. y.tick < t) (cond b (x ∷ below t xs) [])) [
-      | true ↦ λ h. All-cons (λ y. y.tick < t) x (below t xs) (nat_lt-from_true x.tick t h) (below_lies t xs)
-      | false ↦ λ h. All-nil (λ y. y.tick < t)
+    (elim (nat_lt x.tick t) as (λ b. nat_lt x.tick t ≡ b → AllBelow t (cond b (x ∷ below t xs) [])) [
+      | true ↦ λ h. low_cons x (below t xs) (nat_lt-from_true x.tick t h) (below_lies t xs)
+      | false ↦ λ h. low_nil
     ]) refl
 
-pub below_append : (t : ℕ) (xs ys : List Event) → All (λ x. x.tick < t) xs → below t (xs ++ ys) ≡ xs ++ below t ys
+pub below_append : (t : ℕ) (xs ys : List Event) → AllBelow t xs → below t (xs ++ ys) ≡ xs ++ below t ys
 below_append t [] ys all = refl
 below_append t (x ∷ xs) ys all =
-    rw (nat_lt-true x.tick t (All-head (λ x. x.tick < t) x xs all)) (ap (λ l. x ∷ l) (below_append t xs ys (All-tail (λ x. x.tick < t) x xs all)))
+    rw (nat_lt-true x.tick t (low_head x xs all)) (ap (λ l. x ∷ l) (below_append t xs ys (low_tail x xs all)))
 
 below-put_in : (t : ℕ) (x : Event) (f : List Event → List Event) (ys : List Event) → x.tick < t
     → ((zs : List Event) → below t (f zs) ≡ f (below t zs)) → below t (put_in x f ys) ≡ put_in x f (below t ys)
@@ -327,9 +344,9 @@ below-put_in t x f (y ∷ ys) lt same =
     stands true zs h = rw h refl
     stands false zs h = refl
 
-below-merge : (t : ℕ) (xs ys : List Event) → All (λ x. x.tick < t) xs → below t (merge xs ys) ≡ merge xs (below t ys)
+below-merge : (t : ℕ) (xs ys : List Event) → AllBelow t xs → below t (merge xs ys) ≡ merge xs (below t ys)
 below-merge t [] ys all = refl
-below-merge t (x ∷ xs) ys all = below-put_in t x (merge xs) ys (All-head (λ x. x.tick < t) x xs all) (λ zs. below-merge t xs zs (All-tail (λ x. x.tick < t) x xs all))
+below-merge t (x ∷ xs) ys all = below-put_in t x (merge xs) ys (low_head x xs all) (λ zs. below-merge t xs zs (low_tail x xs all))
 
 rises_after-below : (t : ℕ) (z : Event) (xs : List Event) → RisesAfter z xs → RisesAfter z (below t xs)
 rises_after-below t z [] h = tt
@@ -361,7 +378,7 @@ after-below t c (x ∷ xs) rises early =
     ]) refl
 
 -- The host's event joins its list, and the parasite's list is cut at its tick: what goes is observations alone.
-pub legal_cut : (xs ys : List Event) (e : Event) → All (λ x. x.tick < e.tick) xs → All (Early e.tick) ys → IsLegal (merge xs ys) → Answers (after (merge xs ys)) e
+pub legal_cut : (xs ys : List Event) (e : Event) → AllBelow e.tick xs → All (Early e.tick) ys → IsLegal (merge xs ys) → Answers (after (merge xs ys)) e
     → IsLegal (merge (xs ++ e ∷ []) (below e.tick ys)) × (after (merge (xs ++ e ∷ []) (below e.tick ys)) ≡ chip_after_event (after (merge xs ys)) e)
 legal_cut xs ys e low early legal here =
     let all = merge xs ys in

@@ -8,7 +8,7 @@ use Rattle.beeb_bits.specs.declared.Side.TheVariants.{Host, Para}
 use Rattle.tube_chip.specs.State.{State}
 use Rattle.tube_chip.specs.Events.{Event}
 use Rattle.tube_chip.specs.Packing.{IsChip}
-use Rattle.tube_cell.specs.Views.{Known, words_of, Role, one_side, View, word_of_other, own_bound, other_bound, bound_at, Admits, horizon, past_last}
+use Rattle.tube_cell.specs.Views.{AllBelow, Known, words_of, Role, one_side, View, word_of_other, own_bound, other_bound, bound_at, Admits, horizon, past_last}
 use Rattle.tube_cell.specs.Views.{below, chip_after_event, same_readings, trust_past, trust_after}
 use Rattle.tube_cell.specs.Rules.{Trusts, GoesOn, rise, firm, pending_events, Found}
 use Rattle.tube_cell.specs.Passes.{Carried, carried_of, Learns, own_horizon, here}
@@ -16,6 +16,7 @@ use Rattle.tube_cell.specs.Steps.{Runs, IsPassOf, CutIs, Local}
 use Rattle.tube_cell.proofs.Law.{All-below}
 use Rattle.tube_cell.proofs.Grows.{trusts_fall, past_append, below_same}
 use Rattle.tube_cell.proofs.Keeps.{firm_low}
+use Rattle.tube_cell.proofs.Law.{low_nil, lower}
 
 -- ---- a pass with nothing unpublished
 
@@ -31,7 +32,7 @@ bare_local {s} {here} {v} is none = (subst (λ (es : List Event). Runs s (word_o
     (horizon (own_bound s v.known) v.mine) v.known.chip es here (horizon (own_bound s v.known) (v.mine ++ v.ahead))) none is.runs).0
 
 pub pass_fresh : (s : Side) {words : List ℕ} {here : State} (v : View) → v.role ≡ one_side s → IsChip v.known.chip → words ≡ words_of v.known
-    → All (λ e. e.tick < v.known.trust) v.trusted → v.ahead ≡ [] → here ≡ v.known.chip → IsPassOf s words here v
+    → AllBelow v.known.trust v.trusted → v.ahead ≡ [] → here ≡ v.known.chip → IsPassOf s words here v
 pass_fresh s {here} v role well words_are trusted none same = record {
   role = role;
   well = well;
@@ -43,8 +44,8 @@ pass_fresh s {here} v role well words_are trusted none same = record {
       (same, let e = bare_horizon s v none in omega arith);
 }
 
-pub none_low : (t : ℕ) {xs : List Event} → xs ≡ [] → All (λ e. e.tick < t) xs
-none_low t none = subst (All (λ e. e.tick < t)) (sym none) (All-nil (λ e. e.tick < t))
+pub none_low : (t : ℕ) {xs : List Event} → xs ≡ [] → AllBelow t xs
+none_low t none = subst (AllBelow t) (sym none) low_nil
 
 pub bare_of : {id : TableId} {s : Side} (v : View) {p : Carried} → carried_of id s v ≡ p → p.ahead ≡ [] → v.ahead ≡ []
 bare_of v view none = ap (λ q. q.ahead) view ∙ none
@@ -100,12 +101,12 @@ bound_falls Host v k on = let o = on.0 in omega arith
 bound_falls Para v k on = let o = on.0 in let t = trusts_fall v k on.2 in omega arith
 
 -- what stays on trust lies below it
-pending_low : (s : Side) (v k : Known) (trusted : List Event) → Trusts s v k → All (λ e. e.tick < v.trust) trusted → All (λ e. e.tick < k.trust) (pending_events k trusted)
-pending_low s v k [] t low = All-nil (λ e. e.tick < k.trust)
+pending_low : (s : Side) (v k : Known) (trusted : List Event) → Trusts s v k → AllBelow v.trust trusted → AllBelow k.trust (pending_events k trusted)
+pending_low s v k [] t low = low_nil
 pending_low s v k (x ∷ xs) t low =
-    (elim (nat_le k.trust k.host) as (λ b. nat_le k.trust k.host ≡ b → All (λ e. e.tick < k.trust) (cond b [] (x ∷ xs))) [
-      | true ↦ λ h. All-nil (λ e. e.tick < k.trust)
-      | false ↦ λ h. let up = rises s v k t (past k.trust k.host h) in All-weaker (λ e. e.tick < v.trust) (λ e. e.tick < k.trust) (λ e l. omega arith) (x ∷ xs) low
+    (elim (nat_le k.trust k.host) as (λ b. nat_le k.trust k.host ≡ b → AllBelow k.trust (cond b [] (x ∷ xs))) [
+      | true ↦ λ h. low_nil
+      | false ↦ λ h. let up = rises s v k t (past k.trust k.host h) in lower (x ∷ xs) low (omega arith)
     ]) refl
   where
     past : (m n : ℕ) → nat_le m n ≡ false → n < m
@@ -116,21 +117,21 @@ pending_low s v k (x ∷ xs) t low =
     rises Para v k t lt = ⊎_elim (λ (e : k.trust ≡ v.trust). omega arith) (λ (e : (v.host ≤ k.trust) × (k.trust < v.trust) × (k.trust < k.host)). let x = e.2 in absurd (omega arith)) t
 
 -- those that stay for good lie below the bound that was known
-firm_bound : (s : Side) (v k : Known) (trusted : List Event) → GoesOn (one_side s) v k → All (λ e. e.tick < v.trust) trusted → All (λ e. e.tick < own_bound s v) (firm k trusted)
-firm_bound Host v k trusted on low = let o = on.0 in All-weaker (λ e. e.tick < k.host) (λ e. e.tick < v.host) (λ e l. omega arith) (firm k trusted) (firm_low k trusted)
-firm_bound Para v k trusted on low = All-weaker (λ e. e.tick < v.trust) (λ e. e.tick < own_bound Para v) (λ e l. omega arith) (firm k trusted) (go trusted low)
+firm_bound : (s : Side) (v k : Known) (trusted : List Event) → GoesOn (one_side s) v k → AllBelow v.trust trusted → AllBelow (own_bound s v) (firm k trusted)
+firm_bound Host v k trusted on low = let o = on.0 in lower (firm k trusted) (firm_low k trusted) (omega arith)
+firm_bound Para v k trusted on low = lower (firm k trusted) (go trusted low) (omega arith)
   where
-    go : (xs : List Event) → All (λ e. e.tick < v.trust) xs → All (λ e. e.tick < v.trust) (firm k xs)
-    go [] all = All-nil (λ e. e.tick < v.trust)
-    go (x ∷ xs) all = elim (nat_le k.trust k.host) as (λ b. All (λ e. e.tick < v.trust) (cond b (below k.trust (x ∷ xs)) [])) [
+    go : (xs : List Event) → AllBelow v.trust xs → AllBelow v.trust (firm k xs)
+    go [] all = low_nil
+    go (x ∷ xs) all = elim (nat_le k.trust k.host) as (λ b. AllBelow v.trust (cond b (below k.trust (x ∷ xs)) [])) [
       | true ↦ All-below (λ e. e.tick < v.trust) k.trust (x ∷ xs) all
-      | false ↦ All-nil (λ e. e.tick < v.trust)
+      | false ↦ low_nil
     ]
 
 pub bare_firm : (k : Known) (mine : List Event) {trusted : List Event} → trusted ≡ [] → mine ++ firm k trusted ≡ mine
 bare_firm k mine none = ap (λ l. mine ++ firm k l) none ∙ append-nil mine
 
-horizon_falls : (s : Side) (v k : Known) (mine trusted es : List Event) → GoesOn (one_side s) v k → All (λ e. e.tick < v.trust) trusted → (es ≢ [] → trusted ≡ [])
+horizon_falls : (s : Side) (v k : Known) (mine trusted es : List Event) → GoesOn (one_side s) v k → AllBelow v.trust trusted → (es ≢ [] → trusted ≡ [])
     → horizon (own_bound s k) ((mine ++ firm k trusted) ++ es) ≤ horizon (own_bound s v) (mine ++ es)
 horizon_falls s v k mine trusted [] on low bare =
     let a = ap past_last (append-nil (mine ++ firm k trusted)) in
@@ -173,7 +174,7 @@ pass_found {s} new {v} {w} is f local =
       role = ap (λ u. u.role) w_is ∙ is.role;
       well = f.well;
       words_are = f.words_are;
-      trusted = subst (All (λ e. e.tick < k.trust)) (sym (ap (λ u. u.trusted) w_is)) (pending_low s v.known k v.trusted on.2 is.trusted);
+      trusted = subst (AllBelow k.trust) (sym (ap (λ u. u.trusted) w_is)) (pending_low s v.known k v.trusted on.2 is.trusted);
       not_both = λ some. ap (λ u. u.trusted) w_is ∙ ap (pending_events k) (is.not_both (subst (λ (l : List Event). l ≢ []) (ap (λ u. u.ahead) w_is) some));
       runs = subst (λ (y : List Event × List Event). RunsOn s k y.0 y.1 new) (λ i. ((sym w_is i).mine, (sym w_is i).ahead))
           (found_runs s _ k v.mine v.trusted _ _ new on local is.not_both is.runs);
@@ -209,11 +210,11 @@ is_taken p {q} n rest trust lt =
     passed Para t = ⊎_elim (λ (e : q.known.trust ≡ p.known.trust). absurd (omega arith))
         (λ (e : (p.known.host ≤ q.known.trust) × (q.known.trust < p.known.trust) × (q.known.trust < q.known.host)). let x = e.2 in omega arith) t
 
-pub is_settled : (p : Carried) {q : Carried} (n : ℕ) → q ≡ finding p q.known n → All (λ e. e.tick < p.known.trust) p.trusted → q.known.trust ≡ p.known.trust
+pub is_settled : (p : Carried) {q : Carried} (n : ℕ) → q ≡ finding p q.known n → AllBelow p.known.trust p.trusted → q.known.trust ≡ p.known.trust
     → q.known.trust ≤ q.known.host → (q.events ≡ p.events ++ p.trusted) × (q.trusted ≡ [])
 is_settled p {q} n rest low same le =
     let f = firm_past q.known p.trusted le in
-    let all = below_same q.known.trust p.trusted (subst (λ (t : ℕ). All (λ e. e.tick < t) p.trusted) (sym same) low) in
+    let all = below_same q.known.trust p.trusted (subst (λ (t : ℕ). AllBelow t p.trusted) (sym same) low) in
     (ap (λ x. x.events) rest ∙ ap (λ l. p.events ++ l) (f.0 ∙ all), ap (λ x. x.trusted) rest ∙ f.1)
 
 pub is_staying : (p : Carried) {q : Carried} (n : ℕ) → q ≡ finding p q.known n → q.known.host < q.known.trust → (q.events ≡ p.events) × (q.trusted ≡ p.trusted)

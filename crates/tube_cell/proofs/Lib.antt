@@ -1,8 +1,8 @@
-mod Observed
-mod Law
-mod Grows
-mod Keeps
-mod Learns
-mod Raises
-mod Acts
-mod Publishes
+pub mod Observed
+pub mod Law
+pub mod Grows
+pub mod Keeps
+pub mod Learns
+pub mod Raises
+pub mod Acts
+pub mod Publishes

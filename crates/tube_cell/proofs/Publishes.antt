@@ -5,7 +5,7 @@ use Rattle.std.proofs.lemmas.List.Elements.{All-append}
 use Rattle.atomic_table.specs.Seated.{TableId}
 use Rattle.crossbeam_utils.specs.Register.{Turns}
 use Rattle.beeb_bits.specs.declared.Side.{Side}
-use Rattle.beeb_bits.specs.declared.Side.TheVariants.{Para}
+use Rattle.beeb_bits.specs.declared.Side.TheVariants.{Host, Para}
 use Rattle.tube_chip.specs.State.{State}
 use Rattle.tube_chip.specs.Events.{Event, after_from}
 use Rattle.tube_chip.specs.Packing.{IsChip, PackingIsOneToOne}
@@ -102,16 +102,18 @@ is_both {s} {v} seen h t view is side cell w_is =
       higher = (w_is i).higher;
     }) ∙ ap (λ (q : Carried). after_entrust (after_publish q h) seen t) view
 
-horizon_published : (p : Carried) (h : ℕ) → p.side ≡ Para → own_horizon p ≤ h → own_horizon (after_publish p h) ≤ h
-horizon_published p h side later =
-    let was : own_horizon p ≡ horizon (own_bound Para p.known) (p.events ++ p.ahead) = ap (λ s. horizon (own_bound s p.known) (p.events ++ p.ahead)) side in
-    let now : own_horizon (after_publish p h) ≡ horizon (max h (trust_after Para p.known.chip p.known.trust p.ahead)) ((p.events ++ p.ahead) ++ []) =
-    ap (λ s. horizon (own_bound s (known_with s (here p) h (word_of_other s p.known) (trust_after s p.known.chip p.known.trust p.ahead))) ((p.events ++ p.ahead) ++ [])) side in
-    let trust = trust_after_para p.known.chip p.known.trust p.ahead in
+-- the own bound with this word, no earlier than it was
+published_bound : (s : Side) (k : Known) (c : State) (h : ℕ) (es : List Event) → own_bound s k ≤ h → own_bound s (known_with s c h (word_of_other s k) (trust_after s k.chip k.trust es)) ≡ h
+published_bound Host k c h es le = refl
+published_bound Para k c h es le = let trust = trust_after_para k.chip k.trust es in omega arith
+
+pub horizon_published : (p : Carried) (h : ℕ) → own_horizon p ≤ h → own_horizon (after_publish p h) ≡ h
+horizon_published p h later =
+    let own = published_bound p.side p.known (here p) h p.ahead (omega arith) in
     let last = ap past_last (append-nil (p.events ++ p.ahead)) in
     omega arith
 
 pub horizon_both : (p : Carried) {q : Carried} (seen : List Event) (h t : ℕ) → p.side ≡ Para → own_horizon p ≤ h → h ≤ t → q ≡ after_entrust (after_publish p h) seen t → own_horizon q ≡ t
 horizon_both p seen h t side later order is =
-    let low = horizon_published p h side later in
+    let low = horizon_published p h later in
     horizon_entrusted (after_publish p h) seen t side (omega arith) is

@@ -12,7 +12,7 @@ use Rattle.tube_chip.specs.State.{State, lines_of}
 use Rattle.tube_chip.specs.Act.{chip_after}
 use Rattle.tube_chip.specs.Events.{Event}
 use Rattle.tube_chip.specs.Packing.{IsChip, PackingIsOneToOne}
-use Rattle.tube_cell.specs.Views.{Known, words_of, Role, one_side, View, word_of_other, own_bound, other_bound, known_with, Admits, admits, horizon, past_last, trust_next, trust_after}
+use Rattle.tube_cell.specs.Views.{AllBelow, Known, words_of, Role, one_side, View, word_of_other, own_bound, other_bound, known_with, Admits, admits, horizon, past_last, trust_next, trust_after}
 use Rattle.tube_cell.specs.Rules.{Kept, rise, pending_events, found_view, published_view, entrusted_view, Publishes, Entrusts, Looks, looked_view}
 use Rattle.tube_cell.specs.Passes.{Carried, carried_of, Learns, own_horizon, after_raise, after_commit, after_look, after_entrust, access_at, lines_at, here}
 use Rattle.tube_cell.specs.Steps.{Watches, MayPublish, MayLook, MayEntrust, LookedAt, IsPassOf, Local}
@@ -20,6 +20,7 @@ use Rattle.tube_cell.proofs.Law.{past_last-on}
 use Rattle.tube_cell.proofs.Grows.{trusting, watches_low}
 use Rattle.tube_cell.proofs.Keeps.{publishes, entrusts, looks}
 use Rattle.tube_cell.proofs.Learns.{bare_horizon, bare_local, pass_fresh, none_low, bare_of, none_of, later_of, bound_falls, bare_firm, on_of, finding, is_taken, is_settled, is_staying}
+use Rattle.tube_cell.proofs.Law.{lower}
 
 -- ---- steps
 
@@ -149,12 +150,12 @@ pub pass_entrusted : {s : Side} {words next : List ℕ} {here : State} {t : ℕ}
 pass_entrusted {s} {t} {es} {v} {w} is none may w_is words_are =
     let k : w.known ≡ trusting v.known t = ap (λ u. u.known) w_is in
     let stop = may.later in
-    let low : All (λ e. e.tick < t) (v.trusted ++ es) =
-    All-append (λ e. e.tick < t) v.trusted es (All-weaker (λ e. e.tick < v.known.trust) (λ e. e.tick < t) (λ e l. omega arith) v.trusted is.trusted)
+    let low : AllBelow t (v.trusted ++ es) =
+    All-append (λ e. e.tick < t) v.trusted es (lower v.trusted is.trusted (omega arith))
     (watches_low _ _ _ _ t may.watches) in
     let chip : w.known.chip ≡ v.known.chip = ap (λ x. x.chip) k in
     pass_fresh s w (ap (λ u. u.role) w_is ∙ is.role) (subst IsChip (sym chip) is.well) (words_are ∙ ap words_of (sym k))
-    (subst (λ (u : View). All (λ e. e.tick < u.known.trust) u.trusted) (sym w_is) low)
+    (subst (λ (u : View). AllBelow u.known.trust u.trusted) (sym w_is) low)
     (ap (λ u. u.ahead) w_is ∙ none) (bare_local is none ∙ sym chip)
 
 pub is_entrusted : {id id' : TableId} {s : Side} {p : Carried} {v w : View} (es : List Event) (t : ℕ) → carried_of id s v ≡ p → id' ≡ id

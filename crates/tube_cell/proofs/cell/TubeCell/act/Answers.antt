@@ -7,7 +7,6 @@ use Rattle.tube_cell.proofs.cell.TubeCell.act.Goals as goal
 
 pub invariant_of-pass : goal.invariant_of-pass
 invariant_of-pass g c =
-    let v = cell_view c.pass.inside.seat in
     let w = cell_view c.add.new.seat in (
       acted c.args.t.0 c.args.op c.pass.view_is c.pass.invariant.0 c.requires.none_trusted
           c.requires.later c.requires.admitted c.operate-byte.ensures.chip c.add.ensures.added,

@@ -24,7 +24,5 @@ invariant_of-pass g c =
 
 pub returns : goal.returns
 returns g c =
-    let v = cell_view c.pass.inside.seat in
-    let w = cell_view c.load-found.new.seat in
     learned c.pass.view_is c.pass.invariant.0
     c.load-found.ensures.cell.0 c.load-found.ensures.rule

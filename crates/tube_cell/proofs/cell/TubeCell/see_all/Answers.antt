@@ -4,7 +4,6 @@ use Rattle.tube_cell.proofs.cell.TubeCell.see_all.Goals as goal
 
 pub invariant_of-pass : goal.invariant_of-pass
 invariant_of-pass g c =
-    let v = cell_view c.pass.inside.seat in
     let w = cell_view c.add.new.seat in (
       saw_all _ _ c.pass.view_is
           c.pass.invariant.0 c.requires.none_trusted c.requires.watches c.requires.admitted c.add.ensures.added,
