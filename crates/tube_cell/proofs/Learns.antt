@@ -12,7 +12,7 @@ use Rattle.tube_cell.specs.Views.{AllBelow, Known, words_of, Role, one_side, Vie
 use Rattle.tube_cell.specs.Views.{below, chip_after_event, same_readings, trust_past, trust_after}
 use Rattle.tube_cell.specs.Rules.{Trusts, GoesOn, rise, firm, pending_events, Found}
 use Rattle.tube_cell.specs.Passes.{Carried, carried_of, Learns, own_horizon, here}
-use Rattle.tube_cell.specs.Steps.{Runs, IsPassOf, CutIs, Local}
+use Rattle.tube_cell.specs.Steps.{Runs, IsPassOf, CutIs, Local, LocalAfter}
 use Rattle.tube_cell.proofs.Law.{All-below}
 use Rattle.tube_cell.proofs.Grows.{trusts_fall, past_append, below_same}
 use Rattle.tube_cell.proofs.Keeps.{firm_low}
@@ -165,7 +165,7 @@ found_runs s v k mine trusted (e ∷ es) old new on local bare h =
 pub on_of : (s : Side) (v : View) (k : Known) → v.role ≡ one_side s → GoesOn v.role v.known k → GoesOn (one_side s) v.known k
 on_of s v k role on = subst (λ (r : Role). GoesOn r v.known k) role on
 
-pub pass_found : {s : Side} {words found : List ℕ} {old : State} (new : State) {v w : View} → IsPassOf s words old v → Found found v w → Local v.known.chip old w.known.chip new → IsPassOf s found new w
+pass_found : {s : Side} {words found : List ℕ} {old : State} (new : State) {v w : View} → IsPassOf s words old v → Found found v w → Local v.known.chip old w.known.chip new → IsPassOf s found new w
 pass_found {s} new {v} {w} is f local =
     let k : Known = w.known in
     let on = on_of s v k is.role f.goes_on in
@@ -199,28 +199,43 @@ firm_ahead k (x ∷ xs) lt = let e = le-false k.trust k.host lt in (ap (λ b. co
 abbrev pub finding : Carried → Known → ℕ → Carried
 finding p k n = record p { events = p.events ++ firm k p.trusted; trusted = pending_events k p.trusted; known = k; higher = n }
 
-pub is_taken : (p : Carried) {q : Carried} (n : ℕ) → q ≡ finding p q.known n → Trusts p.side p.known q.known → q.known.trust < p.known.trust
-    → (q.events ≡ p.events ++ below q.known.trust p.trusted) × (q.trusted ≡ [])
-is_taken p {q} n rest trust lt =
-    let f = firm_past q.known p.trusted (passed p.side trust) in
-    (ap (λ x. x.events) rest ∙ ap (λ l. p.events ++ l) f.0, ap (λ x. x.trusted) rest ∙ f.1)
+-- what is found, from there on, is learnt
+pub learns_of : {p q : Carried} → q ≡ finding p q.known (p.higher + rise (one_side p.side) p.known q.known) → AllBelow p.known.trust p.trusted → GoesOn (one_side p.side) p.known q.known
+    → own_horizon q ≤ own_horizon p → (p.ahead ≢ [] → q.known.chip ≡ p.known.chip) → Learns p q
+learns_of {p} {q} rest low on falls chip = record {
+  rest = rest;
+  taken = λ lt. let f = firm_past k p.trusted (passed p.side on.2 lt) in (events_are ∙ ap (λ l. p.events ++ l) f.0, trusted_are ∙ f.1);
+  settled = λ same le.
+      let f = firm_past k p.trusted le in
+      let all = below_same k.trust p.trusted (subst (λ (t : ℕ). AllBelow t p.trusted) (sym same) low) in
+      (events_are ∙ ap (λ l. p.events ++ l) (f.0 ∙ all), trusted_are ∙ f.1);
+  stays = λ lt. let f = firm_ahead k p.trusted lt in (events_are ∙ ap (λ l. p.events ++ l) f.0 ∙ append-nil p.events, trusted_are ∙ f.1);
+  plain = λ none. rest ∙ (λ i. record p {
+    events = bare_firm k p.events none i;
+    trusted = (ap (pending_events k) none ∙ sym none) i;
+    known = k;
+    higher = p.higher + rise (one_side p.side) p.known k;
+  });
+  own_word = on.0;
+  other_word = on.1;
+  trust = on.2;
+  horizon = falls;
+  same_chip = chip;
+}
   where
-    passed : (s : Side) → Trusts s p.known q.known → q.known.trust ≤ q.known.host
-    passed Host t = absurd (omega arith)
-    passed Para t = ⊎_elim (λ (e : q.known.trust ≡ p.known.trust). absurd (omega arith))
+    k : Known
+    k = q.known
+
+    events_are : q.events ≡ p.events ++ firm q.known p.trusted
+    events_are = ap (λ x. x.events) rest
+
+    trusted_are : q.trusted ≡ pending_events q.known p.trusted
+    trusted_are = ap (λ x. x.trusted) rest
+
+    passed : (s : Side) → Trusts s p.known q.known → q.known.trust < p.known.trust → q.known.trust ≤ q.known.host
+    passed Host t lt = absurd (omega arith)
+    passed Para t lt = ⊎_elim (λ (e : q.known.trust ≡ p.known.trust). absurd (omega arith))
         (λ (e : (p.known.host ≤ q.known.trust) × (q.known.trust < p.known.trust) × (q.known.trust < q.known.host)). let x = e.2 in omega arith) t
-
-pub is_settled : (p : Carried) {q : Carried} (n : ℕ) → q ≡ finding p q.known n → AllBelow p.known.trust p.trusted → q.known.trust ≡ p.known.trust
-    → q.known.trust ≤ q.known.host → (q.events ≡ p.events ++ p.trusted) × (q.trusted ≡ [])
-is_settled p {q} n rest low same le =
-    let f = firm_past q.known p.trusted le in
-    let all = below_same q.known.trust p.trusted (subst (λ (t : ℕ). AllBelow t p.trusted) (sym same) low) in
-    (ap (λ x. x.events) rest ∙ ap (λ l. p.events ++ l) (f.0 ∙ all), ap (λ x. x.trusted) rest ∙ f.1)
-
-pub is_staying : (p : Carried) {q : Carried} (n : ℕ) → q ≡ finding p q.known n → q.known.host < q.known.trust → (q.events ≡ p.events) × (q.trusted ≡ p.trusted)
-is_staying p {q} n rest lt =
-    let f = firm_ahead q.known p.trusted lt in
-    (ap (λ x. x.events) rest ∙ ap (λ l. p.events ++ l) f.0 ∙ append-nil p.events, ap (λ x. x.trusted) rest ∙ f.1)
 
 pub learned : {id id' : TableId} {s : Side} {words found : List ℕ} {old : State} {p : Carried} {v w : View} → carried_of id s v ≡ p
     → IsPassOf s words old v → id' ≡ id → Found found v w → Learns p (carried_of id' s w)
@@ -228,42 +243,11 @@ learned {id} {id'} {s} {v} {w} view is cell f =
     let k : Known = w.known in
     let on = on_of s v k is.role f.goes_on in
     let w_is = f.view_is in
-    let up : w.higher ≡ v.higher + rise (one_side s) v.known k = ap (λ u. u.higher) w_is ∙ ap (λ (r : Role). v.higher + rise r v.known k) is.role in
     let falls = horizon_falls s _ k v.mine v.trusted v.ahead on is.trusted is.not_both in
     let now : horizon (own_bound s k) (w.mine ++ w.ahead) ≡ horizon (own_bound s k) ((v.mine ++ firm k v.trusted) ++ v.ahead) = λ i. horizon (own_bound s k) ((w_is i).mine ++ (w_is i).ahead) in
-    let n = v.higher + rise (one_side s) v.known k in
-    let rest : carried_of id' s w ≡ finding (carried_of id s v) k n = λ i. record {
-      cell = cell i;
-      side = s;
-      events = (w_is i).mine;
-      trusted = (w_is i).trusted;
-      ahead = (w_is i).ahead;
-      known = k;
-      commits = (w_is i).commits;
-      higher = up i;
-    } in
-    subst (λ (q : Carried). Learns q (carried_of id' s w)) view (record {
-      rest = rest;
-      taken = is_taken (carried_of id s v) n rest on.2;
-      settled = is_settled (carried_of id s v) n rest is.trusted;
-      stays = is_staying (carried_of id s v) n rest;
-      plain = λ none. λ i. record {
-        cell = cell i;
-        side = s;
-        events = (ap (λ u. u.mine) w_is ∙ bare_firm k v.mine none) i;
-        trusted = (ap (λ u. u.trusted) w_is ∙ ap (pending_events k) none ∙ sym none) i;
-        ahead = (w_is i).ahead;
-        known = k;
-        commits = (w_is i).commits;
-        higher = up i;
-      };
-      own_word = on.0;
-      other_word = on.1;
-      trust = on.2;
-      horizon = omega arith;
-      same_chip = λ some. sym (on.3 (runs_admit s (own_bound s v.known) _ _ v.mine _ v.ahead _
-          _ is.runs some));
-    })
+    let rest = (λ i. carried_of (cell i) s (w_is i)) ∙ ap (λ (r : Role). finding (carried_of id s v) k (v.higher + rise r v.known k)) is.role in
+    subst (λ (q : Carried). Learns q (carried_of id' s w)) view (learns_of rest is.trusted on (omega arith)
+    (λ some. sym (on.3 (runs_admit s (own_bound s v.known) _ _ v.mine _ v.ahead _ _ is.runs some))))
 
 -- ---- the tick at which the trust is cut
 
@@ -275,7 +259,7 @@ pub cut_fresh : (s : Side) (v : View) → v.ahead ≡ [] → CutIs s 18446744073
 cut_fresh s v none a lt = ap (λ l. trust_after s v.known.chip a l) none ∙ (omega arith)
 
 -- where events are unpublished, the words found have the same chip
-pub cut_found : {s : Side} {words found : List ℕ} {old : State} (cut : ℕ) {v w : View} → IsPassOf s words old v → CutIs s cut v → Found found v w → CutIs s cut w
+cut_found : {s : Side} {words found : List ℕ} {old : State} (cut : ℕ) {v w : View} → IsPassOf s words old v → CutIs s cut v → Found found v w → CutIs s cut w
 cut_found {s} {old} cut {v} {w} is cuts f a lt =
     ap (λ (l : List Event). trust_after s w.known.chip a l) (ap (λ u. u.ahead) f.view_is) ∙ go v.ahead is.runs (cuts a lt)
   where
@@ -289,3 +273,11 @@ cut_found {s} {old} cut {v} {w} is cuts f a lt =
         let admits = runs_admit s (own_bound s v.known) _ _ v.mine _ (x ∷ xs) _
         _ runs (λ no. absurd (cc)) in
         ap (λ (c : State). trust_after s c a (x ∷ xs)) (sym (on.3 admits)) ∙ e
+
+-- a pass once the words found are settled
+pub pass_settled : {s : Side} {words found next : List ℕ} {old new : State} (cut : ℕ) {v w : View} → IsPassOf s words old v → CutIs s cut v → Found found v w
+    → LocalAfter words old found new → next ≡ found → IsPassOf s next new w × CutIs s cut w
+pass_settled {s} {new = new} cut {v = v} {w = w} is cuts f local next_is = (
+  subst (λ (words : List ℕ). IsPassOf s words new w) (sym next_is) (pass_found new is f (local v.known w.known is.well f.well is.words_are f.words_are)),
+  cut_found cut is cuts f,
+)

@@ -15,11 +15,11 @@ use Rattle.tube_chip.specs.Packing.{IsChip, PackingIsOneToOne}
 use Rattle.tube_cell.specs.Views.{AllBelow, Known, words_of, Role, one_side, View, word_of_other, own_bound, other_bound, known_with, Admits, admits, horizon, past_last, trust_next, trust_after}
 use Rattle.tube_cell.specs.Rules.{Kept, rise, pending_events, found_view, published_view, entrusted_view, Publishes, Entrusts, Looks, looked_view}
 use Rattle.tube_cell.specs.Passes.{Carried, carried_of, Learns, own_horizon, after_raise, after_commit, after_look, after_entrust, access_at, lines_at, here}
-use Rattle.tube_cell.specs.Steps.{Watches, MayPublish, MayLook, MayEntrust, LookedAt, IsPassOf, Local}
+use Rattle.tube_cell.specs.Steps.{Watches, MayPublish, MayLook, MayEntrust, LookedAt, IsPassOf, CutIs, Local}
 use Rattle.tube_cell.proofs.Law.{past_last-on}
 use Rattle.tube_cell.proofs.Grows.{trusting, watches_low}
 use Rattle.tube_cell.proofs.Keeps.{publishes, entrusts, looks}
-use Rattle.tube_cell.proofs.Learns.{bare_horizon, bare_local, pass_fresh, none_low, bare_of, none_of, later_of, bound_falls, bare_firm, on_of, finding, is_taken, is_settled, is_staying}
+use Rattle.tube_cell.proofs.Learns.{cut_kept, bare_horizon, bare_local, pass_fresh, none_low, bare_of, none_of, later_of, bound_falls, bare_firm, on_of, finding, learns_of}
 use Rattle.tube_cell.proofs.Law.{lower}
 
 -- ---- steps
@@ -89,6 +89,16 @@ pass_published s {here} end trust es v {w} role trusted well w_is words_are =
     let chip : w.known.chip ≡ here = ap (λ x. x.chip) k ∙ chip_with s here end (word_of_other s v.known) trust in
     pass_fresh s w (ap (λ u. u.role) w_is ∙ role) (subst IsChip (sym chip) well) (words_are ∙ ap words_of (sym k))
     (none_low w.known.trust (ap (λ u. u.trusted) w_is ∙ trusted)) (ap (λ u. u.ahead) w_is) (sym chip)
+
+-- and where it had none unpublished
+pub pass_raised : {id : TableId} {s : Side} {words next : List ℕ} {old here : State} {p : Carried} {v w : View} (cut end trust : ℕ) (es : List Event)
+    → carried_of id s v ≡ p → IsPassOf s words old v → CutIs s cut v → p.ahead ≡ [] → p.trusted ≡ [] → IsChip here
+    → w ≡ published_view v es (known_with s here end (word_of_other s v.known) trust) → next ≡ words_of (known_with s here end (word_of_other s v.known) trust)
+    → IsPassOf s next here w × CutIs s cut w
+pass_raised {s = s} {v = v} {w = w} cut end trust es view is cuts none trusted well w_is next_is = (
+  pass_published s end trust es v is.role (none_of v view trusted) well w_is next_is,
+  cut_kept s cut v w cuts (bare_of v view none) (ap (λ u. u.ahead) w_is),
+)
 
 pub is_raised : {id id' : TableId} {s : Side} {words : List ℕ} {here : State} {p : Carried} {v w : View} (t : ℕ) {trust : ℕ} → carried_of id s v ≡ p
     → IsPassOf s words here v → p.ahead ≡ [] → id' ≡ id → trust ≡ v.known.trust
@@ -194,48 +204,15 @@ is_looked {id} {id'} {s} {t} {lines} {v} {w} view is none trusted later cell f a
     let bare = bare_of v view none in
     let no_trust = none_of v view trusted in
     let w_is : w ≡ looked_view v t s k = subst (λ (b : Bool). MatchBool b (w ≡ looked_view v t s k) (w ≡ found_view v k)) admitted f.view_is in
-    let mine : w.mine ≡ v.mine ++ lines_at t s lines ∷ [] = ap (λ u. u.mine) w_is ∙ ap (λ l. v.mine ++ lines_at t s l ∷ []) (sym lines_are) in
-    let ahead : w.ahead ≡ v.ahead = ap (λ u. u.ahead) w_is in
-    let pends : w.trusted ≡ pending_events k v.trusted = ap (λ u. u.trusted) w_is in
-    let up : w.higher ≡ v.higher + rise (one_side s) v.known k = ap (λ u. u.higher) w_is ∙ ap (λ (r : Role). v.higher + rise r v.known k) is.role in
-    let commits : w.commits ≡ v.commits = ap (λ u. u.commits) w_is in
+    let looked : List Event = v.mine ++ lines_at t s lines ∷ [] in
+    let same = ap (λ l. v.mine ++ lines_at t s l ∷ []) (sym lines_are) in
     let falls = bound_falls s _ k on in
-    let n = v.higher + rise (one_side s) v.known k in
-    let looked_p : Carried = after_look (carried_of id s v) t lines in
-    let rest : carried_of id' s w ≡ finding looked_p k n = λ i. record {
-      cell = cell i;
-      side = s;
-      events = (mine ∙ sym (bare_firm k (v.mine ++ lines_at t s lines ∷ []) no_trust)) i;
-      trusted = pends i;
-      ahead = ahead i;
-      known = k;
-      commits = commits i;
-      higher = up i;
-    } in
-    subst (λ (q : Carried). Learns (after_look q t lines) (carried_of id' s w)) view (record {
-      rest = rest;
-      taken = is_taken looked_p n rest on.2;
-      settled = is_settled looked_p n rest is.trusted;
-      stays = is_staying looked_p n rest;
-      plain = λ _. λ i. record {
-        cell = cell i;
-        side = s;
-        events = mine i;
-        trusted = (pends ∙ ap (pending_events k) no_trust ∙ sym no_trust) i;
-        ahead = ahead i;
-        known = k;
-        commits = commits i;
-        higher = up i;
-      };
-      own_word = on.0;
-      other_word = on.1;
-      trust = on.2;
-      horizon =
-          let same : horizon (own_bound s k) (w.mine ++ w.ahead) ≡ horizon (own_bound s k) ((v.mine ++ lines_at t s lines ∷ []) ++ v.ahead)
-          = λ i. horizon (own_bound s k) (mine i ++ ahead i) in
-          omega arith;
-      same_chip = λ some. absurd (some bare);
-    })
+    let now : past_last (w.mine ++ w.ahead) ≡ past_last (looked ++ v.ahead) = (λ i. past_last ((w_is i).mine ++ (w_is i).ahead)) ∙ ap (λ l. past_last (l ++ v.ahead)) same in
+    let rest = (λ i. carried_of (cell i) s (w_is i)) ∙ (λ i. record (finding (after_look (carried_of id s v) t lines) k 0) {
+      events = (same ∙ sym (bare_firm k looked no_trust)) i;
+      higher = v.higher + rise (is.role i) v.known k;
+    }) in
+    subst (λ (q : Carried). Learns (after_look q t lines) (carried_of id' s w)) view (learns_of rest is.trusted on (omega arith) (λ some. absurd (some bare)))
 
 -- ---- own horizons
 

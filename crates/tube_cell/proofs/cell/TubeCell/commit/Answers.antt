@@ -1,7 +1,6 @@
 use Rattle.std.proofs.Common.{◌+◌, ap}
 use Rattle.crossbeam_utils.specs.Seq.{cell_view}
-use Rattle.tube_cell.proofs.Learns.{none_of, bare_of, cut_kept}
-use Rattle.tube_cell.proofs.Raises.{may_commit, commit_trust, pass_published, is_committed, horizon_committed}
+use Rattle.tube_cell.proofs.Raises.{may_commit, commit_trust, pass_raised, is_committed, horizon_committed}
 use Rattle.tube_cell.proofs.cell.TubeCell.commit.Goals as goal
 
 pub exchange-requires-clause-may : goal.exchange-requires-clause-may
@@ -14,14 +13,8 @@ exchange-requires-clause-trust g c = commit_trust c.args.t.0 c.args.op c.pass.vi
     c.operate-answer.ensures.chip (c.trust_of.ensures.is (cell_view c.pass.inside.seat).known c.pass.invariant.0.words_are) c.operate-answer.ensures.trust
 
 pub invariant_of-pass : goal.invariant_of-pass
-invariant_of-pass g c = (
-  pass_published c.pass.inside.side (c.args.t.0 + 1) c.operate-answer.result.1 _ (cell_view c.pass.inside.seat) c.pass.invariant.0.role
-      (none_of (cell_view c.pass.inside.seat) c.pass.view_is c.requires.none_trusted) c.exchange.ensures.bounds
-      c.in-Ok.ensures.published c.in-Ok.ensures.next,
-  cut_kept c.pass.inside.side c.pass.inside.cut (cell_view c.pass.inside.seat) (cell_view c.exchange.new.seat) c.pass.invariant.1
-      (bare_of (cell_view c.pass.inside.seat) c.pass.view_is c.requires.published)
-      (ap (λ u. u.ahead) c.in-Ok.ensures.published),
-)
+invariant_of-pass g c = pass_raised c.pass.inside.cut (c.args.t.0 + 1) c.operate-answer.result.1 _ c.pass.view_is c.pass.invariant.0 c.pass.invariant.1 c.requires.published c.requires.none_trusted
+    c.exchange.ensures.bounds c.in-Ok.ensures.published c.in-Ok.ensures.next
 
 pub returns-in-Ok-clause-committed : goal.returns-in-Ok-clause-committed
 returns-in-Ok-clause-committed g c = is_committed c.args.t.0 c.args.op c.pass.view_is

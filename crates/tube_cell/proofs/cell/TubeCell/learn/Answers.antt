@@ -2,7 +2,7 @@ use Rattle.std.proofs.Common.{sym, ap, ◌∙◌, subst, List, ℕ}
 use Rattle.crossbeam_utils.specs.Seq.{cell_view}
 use Rattle.tube_cell.specs.Steps.{IsPassOf}
 use Rattle.tube_cell.proofs.Keeps.{learns}
-use Rattle.tube_cell.proofs.Learns.{pass_found, cut_found, learned}
+use Rattle.tube_cell.proofs.Learns.{pass_settled, learned}
 use Rattle.tube_cell.proofs.cell.TubeCell.learn.Goals as goal
 
 pub load-found-requires-clause-cell : goal.load-found-requires-clause-cell
@@ -12,15 +12,7 @@ pub load-found-requires-clause-rule : goal.load-found-requires-clause-rule
 load-found-requires-clause-rule g c = learns c.pass.inside.side _ _ c.pass.invariant.0.role
 
 pub invariant_of-pass : goal.invariant_of-pass
-invariant_of-pass g c =
-    let v = cell_view c.pass.inside.seat in
-    let w = cell_view c.load-found.new.seat in
-    let f = c.load-found.ensures.rule in
-    let local = c.settle.ensures.local v.known w.known c.pass.invariant.0.well f.well c.pass.invariant.0.words_are f.words_are in (
-      subst (λ (words : List ℕ). IsPassOf c.pass.inside.side words c.settle.new.local w) (sym c.settle.ensures.words)
-          (pass_found c.settle.new.local c.pass.invariant.0 f local),
-      cut_found c.pass.inside.cut c.pass.invariant.0 c.pass.invariant.1 f,
-    )
+invariant_of-pass g c = pass_settled c.pass.inside.cut c.pass.invariant.0 c.pass.invariant.1 c.load-found.ensures.rule c.settle.ensures.local c.settle.ensures.words
 
 pub returns : goal.returns
 returns g c =

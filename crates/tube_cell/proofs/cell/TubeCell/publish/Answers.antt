@@ -1,7 +1,7 @@
 use Rattle.std.proofs.Common.{ap, sym, subst, List, ℕ}
 use Rattle.crossbeam_utils.specs.Seq.{cell_view}
 use Rattle.tube_cell.specs.Steps.{IsPassOf}
-use Rattle.tube_cell.proofs.Learns.{none_of, cut_fresh, pass_found, cut_found, learned}
+use Rattle.tube_cell.proofs.Learns.{none_of, cut_fresh, pass_settled, learned}
 use Rattle.tube_cell.proofs.Raises.{pass_published}
 use Rattle.tube_cell.proofs.Publishes.{may_publish, publish_trust, is_published}
 use Rattle.tube_cell.proofs.cell.TubeCell.publish.Goals as goal
@@ -29,15 +29,7 @@ returns-in-Ok-clause-published g c = λ _. is_published c.args.h.0 c.pass.view_i
     c.in-Ok.ensures.published
 
 pub invariant_of-pass-in-Err : goal.invariant_of-pass-in-Err
-invariant_of-pass-in-Err g c =
-    let v = cell_view c.pass.inside.seat in
-    let w = cell_view c.exchange.new.seat in
-    let f = c.in-Err.ensures.found in
-    let local = c.settle.ensures.local v.known w.known c.pass.invariant.0.well f.well c.pass.invariant.0.words_are f.words_are in (
-      subst (λ (words : List ℕ). IsPassOf c.pass.inside.side words c.settle.new.local w) (sym c.settle.ensures.words)
-          (pass_found c.settle.new.local c.pass.invariant.0 f local),
-      cut_found c.pass.inside.cut c.pass.invariant.0 c.pass.invariant.1 f,
-    )
+invariant_of-pass-in-Err g c = pass_settled c.pass.inside.cut c.pass.invariant.0 c.pass.invariant.1 c.in-Err.ensures.found c.settle.ensures.local c.settle.ensures.words
 
 pub returns-in-Err-clause-learns : goal.returns-in-Err-clause-learns
 returns-in-Err-clause-learns g c = λ _. learned c.pass.view_is c.pass.invariant.0 c.exchange.ensures.cell.0 c.in-Err.ensures.found

@@ -1,7 +1,7 @@
 use Rattle.std.proofs.Common.{ap, sym, subst, List, ℕ}
 use Rattle.crossbeam_utils.specs.Seq.{cell_view}
 use Rattle.tube_cell.specs.Steps.{IsPassOf}
-use Rattle.tube_cell.proofs.Learns.{cut_fresh, pass_found, cut_found, learned}
+use Rattle.tube_cell.proofs.Learns.{cut_fresh, pass_settled, learned}
 use Rattle.tube_cell.proofs.Publishes.{may_both, pass_both, is_both, horizon_both}
 use Rattle.tube_cell.proofs.cell.TubeCell.publish_and_entrust.Goals as goal
 
@@ -28,15 +28,7 @@ returns-in-Ok-clause-horizon g c = λ is.
     horizon_both c.args.pass.now g.D.Deeds.events c.args.h.0 c.args.t.0 c.requires.side c.requires.later c.requires.order (returns-in-Ok-clause-entrusted g c is)
 
 pub invariant_of-pass-in-Err : goal.invariant_of-pass-in-Err
-invariant_of-pass-in-Err g c =
-    let v = cell_view c.pass.inside.seat in
-    let w = cell_view c.publish_and_entrust_at-told.new.seat in
-    let f = c.in-Err.ensures.found in
-    let local = c.settle.ensures.local v.known w.known c.pass.invariant.0.well f.well c.pass.invariant.0.words_are f.words_are in (
-      subst (λ (words : List ℕ). IsPassOf c.pass.inside.side words c.settle.new.local w) (sym c.settle.ensures.words)
-          (pass_found c.settle.new.local c.pass.invariant.0 f local),
-      cut_found c.pass.inside.cut c.pass.invariant.0 c.pass.invariant.1 f,
-    )
+invariant_of-pass-in-Err g c = pass_settled c.pass.inside.cut c.pass.invariant.0 c.pass.invariant.1 c.in-Err.ensures.found c.settle.ensures.local c.settle.ensures.words
 
 pub returns-in-Err-clause-learns : goal.returns-in-Err-clause-learns
 returns-in-Err-clause-learns g c = λ _.

@@ -1,7 +1,6 @@
 use Rattle.std.proofs.Common.{ap}
 use Rattle.crossbeam_utils.specs.Seq.{cell_view}
-use Rattle.tube_cell.proofs.Learns.{none_of, bare_of, cut_kept}
-use Rattle.tube_cell.proofs.Raises.{may_raise, pass_published, is_raised, horizon_raised}
+use Rattle.tube_cell.proofs.Raises.{may_raise, pass_raised, is_raised, horizon_raised}
 use Rattle.tube_cell.proofs.cell.TubeCell.raise.Goals as goal
 
 pub exchange-raised-requires-clause-may : goal.exchange-raised-requires-clause-may
@@ -11,14 +10,8 @@ pub exchange-raised-requires-clause-trust : goal.exchange-raised-requires-clause
 exchange-raised-requires-clause-trust g c = c.trust_of.ensures.is (cell_view c.pass.inside.seat).known c.pass.invariant.0.words_are
 
 pub invariant_of-pass : goal.invariant_of-pass
-invariant_of-pass g c = (
-  pass_published c.pass.inside.side c.args.t.0 c.trust_of.result _ (cell_view c.pass.inside.seat) c.pass.invariant.0.role
-      (none_of (cell_view c.pass.inside.seat) c.pass.view_is c.requires.none_trusted)
-      c.exchange-raised.ensures.bounds c.in-Ok.ensures.published c.in-Ok.ensures.next,
-  cut_kept c.pass.inside.side c.pass.inside.cut (cell_view c.pass.inside.seat) (cell_view c.exchange-raised.new.seat) c.pass.invariant.1
-      (bare_of (cell_view c.pass.inside.seat) c.pass.view_is c.requires.published)
-      (ap (λ u. u.ahead) c.in-Ok.ensures.published),
-)
+invariant_of-pass g c = pass_raised c.pass.inside.cut c.args.t.0 c.trust_of.result _ c.pass.view_is c.pass.invariant.0 c.pass.invariant.1 c.requires.published c.requires.none_trusted
+    c.exchange-raised.ensures.bounds c.in-Ok.ensures.published c.in-Ok.ensures.next
 
 pub returns-in-Ok-clause-raised : goal.returns-in-Ok-clause-raised
 returns-in-Ok-clause-raised g c = λ _. is_raised c.args.t.0 c.pass.view_is c.pass.invariant.0
