@@ -16,18 +16,8 @@ use Rattle.tube_cell.specs.Steps.{Watches}
 use Rattle.tube_side.specs.CodeSteps.{all_events}
 use Rattle.tube_side.specs.CodeWays.{Way, IsWay}
 use Rattle.tube_side.specs.CodeTrust.{from_on, IsTrusting, HasTrusted, HasPassed}
-
-lt-yes : (m n : ℕ) → m < n → nat_lt m n ≡ true
-lt-yes m n h = grind (arith, nat_tests)
-
-lt-no : (m n : ℕ) → n ≤ m → nat_lt m n ≡ false
-lt-no m n h = grind (arith, nat_tests)
-
-lt-from_yes : (m n : ℕ) → nat_lt m n ≡ true → m < n
-lt-from_yes m n e = grind (arith, nat_tests)
-
-lt-from_no : (m n : ℕ) → nat_lt m n ≡ false → n ≤ m
-lt-from_no m n e = grind (arith, nat_tests)
+use Rattle.tube_cell.proofs.Law.{nat_lt-true, nat_lt-false, nat_lt-from_true, nat_lt-from_false}
+use Rattle.tube_cell.proofs.Grows.{trusts_fall, past_append}
 
 -- ---- parts of a list
 
@@ -44,7 +34,7 @@ join_parts : (f t : ℕ) (es : List Event) → f ≤ t → below f es ++ below t
 join_parts f t [] le = refl
 join_parts f t (e ∷ es) le =
     (elim (nat_lt e.tick f) as (λ b. nat_lt e.tick f ≡ b → cond b (e ∷ below f es) [] ++ below t (drop (length (cond b (e ∷ below f es) [])) (e ∷ es)) ≡ below t (e ∷ es)) [
-      | true ↦ λ h. let l = lt-from_yes e.tick f h in rw (lt-yes e.tick t (omega arith)) (ap (λ l. e ∷ l) (join_parts f t es le))
+      | true ↦ λ h. let l = nat_lt-from_true e.tick f h in rw (nat_lt-true e.tick t (omega arith)) (ap (λ l. e ∷ l) (join_parts f t es le))
       | false ↦ λ h. refl
     ]) refl
 
@@ -60,8 +50,8 @@ join_rest f a (e ∷ es) le =
             | false ↦ λ g. ap (λ l. e ∷ l) (below_and_rest a es)
           ]) refl
       | false ↦ λ h.
-          let l = lt-from_no e.tick a h in
-          sym (rw (lt-no e.tick f (omega arith)) refl)
+          let l = nat_lt-from_false e.tick a h in
+          sym (rw (nat_lt-false e.tick f (omega arith)) refl)
     ]) refl
 
 -- nothing is left from the end of a part on
@@ -82,28 +72,16 @@ watch_rest side t from c [] end h = tt
 watch_rest side t from c (e ∷ es) end h =
     let f = h.2 in
     (elim (nat_lt e.tick t) as (λ b. nat_lt e.tick t ≡ b → Watches side (max t from) c (drop (length (cond b (e ∷ below t es) [])) (e ∷ es)) end) [
-      | true ↦ λ x. watch_from side (max t (e.tick + 1)) (max t from) c (from_on t es) end (watch_rest side t (e.tick + 1) c es end h.5) (omega arith)
-      | false ↦ λ x. let l = lt-from_no e.tick t x in (h.0, h.1, (omega arith), h.3, h.4, h.5)
+      | true ↦ λ x. watch_from _ _ (max t from) c _ _ (watch_rest side t (e.tick + 1) c es end h.5) (omega arith)
+      | false ↦ λ x. let l = nat_lt-from_false e.tick t x in (h.0, h.1, (omega arith), h.3, h.4, h.5)
     ]) refl
 
 -- all are left from the beginning on
 all_left : (es : List Event) → from_on 0 es ≡ es
 all_left [] = refl
-all_left (e ∷ es) = rw (lt-no e.tick 0 (omega arith)) refl
+all_left (e ∷ es) = rw (nat_lt-false e.tick 0 (omega arith)) refl
 
-past_low : (t : ℕ) (xs : List Event) → All (λ x. x.tick < t) xs → past_last xs ≤ t
-past_low t [] all = omega arith
-past_low t (x ∷ []) all = let h = All-head (λ y. y.tick < t) x [] all in omega arith
-past_low t (x ∷ y ∷ ys) all = past_low t (y ∷ ys) (All-tail (λ z. z.tick < t) x (y ∷ ys) all)
-
--- events below a tick behind others
-past_both : (t : ℕ) (xs ys : List Event) → All (λ y. y.tick < t) ys → past_last (xs ++ ys) ≤ max t (past_last xs)
-past_both t [] ys all = let h = past_low t ys all in omega arith
-past_both t (x ∷ []) [] all = omega arith
-past_both t (x ∷ []) (y ∷ ys) all = let h = past_low t (y ∷ ys) all in omega arith
-past_both t (x ∷ z ∷ xs) ys all = past_both t (z ∷ xs) ys all
-
-module _ (w : Way) (law : IsWay w) (base : List Event) where
+module _ {w : Way} (law : IsWay w) (base : List Event) where
   abbrev made : ℕ → List Event
   made t = w.until t
 
@@ -114,11 +92,11 @@ module _ (w : Way) (law : IsWay w) (base : List Event) where
   pub may_trust : (p : Carried) (t : ℕ) → own_horizon p ≤ max p.known.trust w.tick → w.readings ≡ readings_of p.known.chip
       → Watches Para (own_horizon p) p.known.chip (from_on p.known.trust (made t)) t
   may_trust p t low same =
-      watch_from Para (max p.known.trust w.tick) (own_horizon p) p.known.chip (from_on p.known.trust (made t)) t
-      (watch_rest Para p.known.trust w.tick p.known.chip (made t) t (law.watches p.known.chip t same)) low
+      watch_from _ _ (own_horizon p) _ _ t
+      (watch_rest _ p.known.trust _ _ _ t (law.watches p.known.chip t same)) low
 
-  pub trusting_more : (p q : Carried) (t : ℕ) → IsTrusting w base p → p.known.trust ≤ t → q ≡ after_entrust p (from_on p.known.trust (made t)) t → IsTrusting w base q
-  trusting_more p q t is le q_is =
+  pub trusting_more : {p q : Carried} (t : ℕ) → IsTrusting w base p → p.known.trust ≤ t → q ≡ after_entrust p (from_on p.known.trust (made t)) t → IsTrusting w base q
+  trusting_more {p} t is le q_is =
       let f = is.order in
       subst (λ (x : Carried). IsTrusting w base x) (sym q_is) (record {
         firm = is.firm;
@@ -131,15 +109,16 @@ module _ (w : Way) (law : IsWay w) (base : List Event) where
       })
 
   -- what a learn leaves: nothing is known anew; or the host has passed the trust that stands now, and what lies below it is on the list for good
-  pub trusting_learned : (p q : Carried) → p.side ≡ Para → IsTrusting w base p → Learns p q
-      → IsTrusting w base q × (((q.known.host < q.known.trust) × (q.known.trust ≡ p.known.trust)) ⊎ ((q.known.trust ≤ q.known.host) × (q.trusted ≡ []) × (q.events ≡ base ++ made q.known.trust)))
-  trusting_learned p q side is learns = go (subst (λ (x : Side). Trusts x p.known q.known) side learns.trust) (cases_lt q.known.host q.known.trust)
+  abbrev Learnt : Carried → Carried → Type 0
+  Learnt p q = ((q.known.host < q.known.trust) × (q.known.trust ≡ p.known.trust)) ⊎ ((q.known.trust ≤ q.known.host) × (q.trusted ≡ []) × (q.events ≡ base ++ made q.known.trust))
+
+  pub trusting_learned : {p q : Carried} → p.side ≡ Para → IsTrusting w base p → Learns p q → IsTrusting w base q × Learnt p q
+  trusting_learned {p} {q} side is learns = go (subst (λ (x : Side). Trusts x p.known q.known) side learns.trust) (cases_lt q.known.host q.known.trust)
     where
       host_up : p.known.host ≤ q.known.host
       host_up = subst (λ (x : Side). word_of_other x p.known ≤ word_of_other x q.known) side learns.other_word
 
-      settled : (t : ℕ) → t ≡ q.known.trust → t ≤ q.known.host → q.trusted ≡ [] → q.events ≡ base ++ made t
-          → IsTrusting w base q × (((q.known.host < q.known.trust) × (q.known.trust ≡ p.known.trust)) ⊎ ((q.known.trust ≤ q.known.host) × (q.trusted ≡ []) × (q.events ≡ base ++ made q.known.trust)))
+      settled : (t : ℕ) → t ≡ q.known.trust → t ≤ q.known.host → q.trusted ≡ [] → q.events ≡ base ++ made t → IsTrusting w base q × Learnt p q
       settled t t_is le none events =
           let same : q.events ≡ base ++ made q.known.trust = events ∙ ap (λ x. base ++ made x) t_is in (
             record {
@@ -152,9 +131,7 @@ module _ (w : Way) (law : IsWay w) (base : List Event) where
             inr (omega arith, none, same),
           )
 
-      go : (q.known.trust ≡ p.known.trust) ⊎ ((p.known.host ≤ q.known.trust) × (q.known.trust < p.known.trust) × (q.known.trust < q.known.host))
-          → (q.known.host < q.known.trust) ⊎ (q.known.trust ≤ q.known.host)
-          → IsTrusting w base q × (((q.known.host < q.known.trust) × (q.known.trust ≡ p.known.trust)) ⊎ ((q.known.trust ≤ q.known.host) × (q.trusted ≡ []) × (q.events ≡ base ++ made q.known.trust)))
+      go : Trusts Para p.known q.known → (q.known.host < q.known.trust) ⊎ (q.known.trust ≤ q.known.host) → IsTrusting w base q × Learnt p q
       go (inl same) (inl lt) =
           let k = learns.stays lt in
           let o = is.order in
@@ -193,14 +170,11 @@ module _ (w : Way) (law : IsWay w) (base : List Event) where
 own_of : (p : Carried) → p.side ≡ Para → own_horizon p ≡ max (max p.known.para p.known.trust) (past_last (p.events ++ p.ahead))
 own_of p side = ap (λ x. horizon (own_bound x p.known) (p.events ++ p.ahead)) side
 
-trust_fell : (x k : Known) → Trusts Para x k → k.trust ≤ x.trust
-trust_fell x k t = ⊎_elim (λ (e : k.trust ≡ x.trust). omega arith) (λ (e : (x.host ≤ k.trust) × (k.trust < x.trust) × (k.trust < k.host)). let l = e.1 in omega arith) t
-
-module _ (w : Way) (law : IsWay w) (t : ℕ) (p : Carried) where
+module _ {w : Way} (law : IsWay w) (t : ℕ) (p : Carried) where
   -- the first stride was told
-  pub told_first : (q : Carried) (h : ℕ) → p.side ≡ Para → p.trusted ≡ [] → h ≡ w.tick → own_horizon p ≤ h → h ≤ t
+  pub told_first : {q : Carried} {h : ℕ} → p.side ≡ Para → p.trusted ≡ [] → h ≡ w.tick → own_horizon p ≤ h → h ≤ t
       → q ≡ after_entrust (after_publish p h) (w.until t) t → HasTrusted w t p q
-  told_first q h side none h_is low far is =
+  told_first {q} {h} side none h_is low far is =
       let own_is = own_of p side in
       let trust : q.known.trust ≡ t = ap (λ x. x.known.trust) is in
       let para : q.known.para ≡ h = ap (λ x. x.known.para) is ∙ para_of p side in
@@ -225,8 +199,8 @@ module _ (w : Way) (law : IsWay w) (t : ℕ) (p : Carried) where
       para_of x at = subst (λ (y : Side). (after_publish (record x { side = y }) h).known.para ≡ h) (sym at) refl
 
   -- its horizon
-  pub told_low : (q : Carried) → q.side ≡ Para → HasTrusted w t p q → own_horizon q ≤ max q.known.trust (w.tick)
-  told_low q side told =
+  pub told_low : {q : Carried} → q.side ≡ Para → HasTrusted w t p q → own_horizon q ≤ max q.known.trust (w.tick)
+  told_low {q} side told =
       let is = told.trusting in
       let own_is = own_of q side in
       let order = is.order in
@@ -234,12 +208,12 @@ module _ (w : Way) (law : IsWay w) (t : ℕ) (p : Carried) where
       let base = told.base in
       let events : q.events ++ q.ahead ≡ all_events p ++ w.until is.firm = (λ i. is.events i ++ told.ahead i) ∙ append-nil (all_events p ++ w.until is.firm) in
       let same : past_last (q.events ++ q.ahead) ≡ past_last (all_events p ++ w.until is.firm) = ap past_last events in
-      let most = past_both is.firm (all_events p) (w.until is.firm) (law.low is.firm) in
+      let most = past_append is.firm (all_events p) (w.until is.firm) (law.low is.firm) in
       omega arith
 
   -- the strides since were told too
-  pub told_more : (q r : Carried) → HasTrusted w t p q → r ≡ after_entrust q (from_on q.known.trust (w.until t)) t → HasTrusted w t p r
-  told_more q r told is =
+  pub told_more : {q r : Carried} → HasTrusted w t p q → r ≡ after_entrust q (from_on q.known.trust (w.until t)) t → HasTrusted w t p r
+  told_more {q} {r} told is =
       let trust : r.known.trust ≡ t = ap (λ x. x.known.trust) is in
       let para : r.known.para ≡ q.known.para = ap (λ x. x.known.para) is in
       let low = told.para in
@@ -251,13 +225,13 @@ module _ (w : Way) (law : IsWay w) (t : ℕ) (p : Carried) where
         trust = omega arith;
         para = omega arith;
         base = told.base;
-        trusting = trusting_more w law (all_events p) q r t told.trusting told.trust is;
+        trusting = trusting_more law _ t told.trusting told.trust is;
       }
 
   -- words were found
-  pub told_learned : (q r : Carried) → q.side ≡ Para → HasTrusted w t p q → Learns q r → HasTrusted w t p r
-  told_learned q r side told learns =
-      let fell = trust_fell q.known r.known (subst (λ (x : Side). Trusts x q.known r.known) side learns.trust) in
+  pub told_learned : {q r : Carried} → q.side ≡ Para → HasTrusted w t p q → Learns q r → HasTrusted w t p r
+  told_learned {q} {r} side told learns =
+      let fell = trusts_fall q.known r.known (subst (λ (x : Side). Trusts x q.known r.known) side learns.trust) in
       let was = told.trust in
       let para : r.known.para ≡ q.known.para = subst (λ (x : Side). word_of x r.known ≡ word_of x q.known) side learns.own_word in
       let low = told.para in
@@ -269,30 +243,31 @@ module _ (w : Way) (law : IsWay w) (t : ℕ) (p : Carried) where
         trust = omega arith;
         para = omega arith;
         base = told.base;
-        trusting = (trusting_learned w law (all_events p) q r side told.trusting learns).0;
+        trusting = (trusting_learned law _ side told.trusting learns).0;
       }
 
   -- the host has passed
-  pub passed_learned : (q r : Carried) → q.side ≡ Para → HasTrusted w t p q → Learns q r → r.known.trust ≤ r.known.host → HasPassed w t p r
-  passed_learned q r side told learns le =
-      let ends : (r.trusted ≡ []) × (r.events ≡ all_events p ++ w.until r.known.trust) = ⊎_elim
-      (λ (x : (r.known.host < r.known.trust) × (r.known.trust ≡ q.known.trust)). let y = x.0 in absurd (omega arith))
-      (λ (x : (r.known.trust ≤ r.known.host) × (r.trusted ≡ []) × (r.events ≡ all_events p ++ w.until r.known.trust)). (x.1, x.2))
-      (trusting_learned w law (all_events p) q r side told.trusting learns).1 in
-      let more = told_learned q r side told learns in
-      record { told = more; trusted = ends.0; events = ends.1; later = told_low r (ap (λ x. x.side) learns.rest ∙ side) more }
+  pub passed_learned : {q r : Carried} → q.side ≡ Para → HasTrusted w t p q → Learns q r → r.known.trust ≤ r.known.host → HasPassed w t p r
+  passed_learned {q} {r} side told learns le =
+      let more = told_learned side told learns in
+      let ends = go (trusting_learned law (all_events p) side told.trusting learns).1 in
+      record { told = more; trusted = ends.0; events = ends.1; later = told_low (ap (λ x. x.side) learns.rest ∙ side) more }
+    where
+      go : Learnt law (all_events p) q r → (r.trusted ≡ []) × (r.events ≡ all_events p ++ w.until r.known.trust)
+      go (inl x) = let y = x.0 in absurd (omega arith)
+      go (inr x) = (x.1, x.2)
 
-pub passed_of : (q r : Carried) (a b : ℕ) → q.side ≡ Para → Learns q r → a ≡ r.known.trust → b ≡ word_of_other r.side r.known → a ≤ b → r.known.trust ≤ r.known.host
-passed_of q r a b side learns a_is b_is le =
+pub passed_of : {q r : Carried} {a b : ℕ} → q.side ≡ Para → Learns q r → a ≡ r.known.trust → b ≡ word_of_other r.side r.known → a ≤ b → r.known.trust ≤ r.known.host
+passed_of {r} {b} side learns a_is b_is le =
     let at : r.side ≡ Para = ap (λ x. x.side) learns.rest ∙ side in
     let host : b ≡ r.known.host = b_is ∙ ap (λ (x : Side). word_of_other x r.known) at in
     omega arith
 
 -- either way it stands so
-pub tried_told : (w : Way) (law : IsWay w) (t : ℕ) (p q r : Carried) (done : Bool) → q.side ≡ Para → HasTrusted w t p q
+pub tried_told : {w : Way} (law : IsWay w) {t : ℕ} {p q : Carried} (r : Carried) (done : Bool) → q.side ≡ Para → HasTrusted w t p q
     → (IsTrue done → r ≡ after_entrust q (from_on q.known.trust (w.until t)) t) → (IsFalse done → Learns q r) → HasTrusted w t p r
-tried_told w law t p q r true side told f g = told_more w law t p q r told (f refl)
-tried_told w law t p q r false side told f g = told_learned w law t p q r side told (g refl)
+tried_told law {t} {p} r true side told f g = told_more law t p told (f refl)
+tried_told law {t} {p} r false side told f g = told_learned law t p side told (g refl)
 
 pub tried_seat : (q r : Carried) (done : Bool) (t : ℕ) (looks : List Event) → (IsTrue done → r ≡ after_entrust q looks t) → (IsFalse done → Learns q r) → (r.cell ≡ q.cell) × (r.side ≡ q.side)
 tried_seat q r true t looks f g = let e = f refl in (ap (λ x. x.cell) e, ap (λ x. x.side) e)

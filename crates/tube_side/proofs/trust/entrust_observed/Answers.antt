@@ -12,7 +12,7 @@ entrust-requires-clause-published g c = c.requires.told.1.ahead
 pub entrust-requires-clause-later : goal.entrust-requires-clause-later
 entrust-requires-clause-later g c =
     let told = c.requires.told.1 in
-    let low = told_low g.W.Ahead.way c.requires.is_way c.args.t.0 c.requires.told.0 c.args.pass.now c.requires.side told in
+    let low = told_low c.requires.is_way _ _ c.requires.side told in
     let far = told.far in
     let trust = told.trust in
     omega arith
@@ -20,6 +20,6 @@ entrust-requires-clause-later g c =
 pub entrust-requires-clause-watches : goal.entrust-requires-clause-watches
 entrust-requires-clause-watches g c =
     let p = c.args.pass.now in
-    let low = told_low g.W.Ahead.way c.requires.is_way c.args.t.0 c.requires.told.0 p c.requires.side c.requires.told.1 in
+    let low = told_low c.requires.is_way _ _ c.requires.side c.requires.told.1 in
     subst (λ (l : List Event). Watches Para (own_horizon p) p.known.chip l c.args.t.0) (sym c.requires.observed)
-    (may_trust g.W.Ahead.way c.requires.is_way [] p c.args.t.0 low c.requires.shown)
+    (may_trust c.requires.is_way [] p c.args.t.0 low c.requires.shown)

@@ -25,8 +25,8 @@ loop-preserved g c =
     record {
       can_next = tt;
       finite = tt;
-      waited = waited_on c.args.pass.now p q c.loop.invariant.waited (learned p q c.loop.invariant.waited.same.trusted l);
+      waited = waited_on c.loop.invariant.waited (learned c.loop.invariant.waited.same.trusted l);
       ahead = ap (λ (x : Carried). x.ahead) l.rest ∙ c.loop.invariant.ahead;
-      learnt = still_learnt c.args.pass.now p q c.args.t.0 (c.loop.invariant.waited.same.side ∙ c.requires.side) c.loop.invariant.learnt l;
+      learnt = still_learnt c.args.pass.now c.args.t.0 (c.loop.invariant.waited.same.side ∙ c.requires.side) c.loop.invariant.learnt l;
       later = omega arith;
     }

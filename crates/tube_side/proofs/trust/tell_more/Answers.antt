@@ -8,7 +8,7 @@ use Rattle.tube_side.proofs.trust.tell_more.Goals as goal
 pub entrust_on-requires-clause-shown : goal.entrust_on-requires-clause-shown
 entrust_on-requires-clause-shown g c =
     let same : c.args.mark.now.readings ≡ c.readings.result = search rules in
-    here_bare c.loop.pass g.W.Ahead.way.readings (c.loop.invariant.told c.requires.told.0 c.requires.told.1).ahead
+    here_bare c.loop.pass (c.loop.invariant.told c.requires.told.0 c.requires.told.1).ahead
     (c.requires.shown ∙ same ∙ c.readings.ensures ∙ ap (λ (s : Side). shown_to s (here c.loop.pass)) (c.loop.invariant.side ∙ c.requires.side))
 
 pub entrust_on-requires-clause-told : goal.entrust_on-requires-clause-told

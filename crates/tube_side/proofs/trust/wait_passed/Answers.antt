@@ -6,15 +6,15 @@ use Rattle.tube_side.proofs.trust.wait_passed.Goals as goal
 pub returns-then-trust-other-clause-passed : goal.returns-then-trust-other-clause-passed
 returns-then-trust-other-clause-passed g c p told =
     let side = c.loop.invariant.side ∙ c.requires.side in
-    passed_learned g.W.Ahead.way c.requires.is_way c.args._t.0 p c.loop.pass c.learn.new.pass side (c.loop.invariant.told p told) c.learn.ensures
-    (passed_of c.loop.pass c.learn.new.pass c.trust-trust.result.0 c.other.result.0 side c.learn.ensures c.trust-trust.ensures c.other.ensures c.if-trust-other.true)
+    passed_learned c.requires.is_way _ p side (c.loop.invariant.told p told) c.learn.ensures
+    (passed_of side c.learn.ensures c.trust-trust.ensures c.other.ensures c.if-trust-other.true)
 
 pub returns-then-trust-other-clause-paid : goal.returns-then-trust-other-clause-paid
 returns-then-trust-other-clause-paid g c p paid =
     let side = c.loop.invariant.side ∙ c.requires.side in
     passed_paid p c.learn.new.pass
-    (passed_of c.loop.pass c.learn.new.pass c.trust-trust.result.0 c.other.result.0 side c.learn.ensures c.trust-trust.ensures c.other.ensures c.if-trust-other.true)
-    (learned_on_trust p c.loop.pass c.learn.new.pass side c.learn.ensures (c.loop.invariant.paid p paid))
+    (passed_of side c.learn.ensures c.trust-trust.ensures c.other.ensures c.if-trust-other.true)
+    (learned_on_trust p side c.learn.ensures (c.loop.invariant.paid p paid))
 
 pub loop-preserved : goal.loop-preserved
 loop-preserved g c =
@@ -22,8 +22,8 @@ loop-preserved g c =
     record {
       can_next = tt;
       finite = tt;
-      told = λ p told. told_learned g.W.Ahead.way c.requires.is_way c.args._t.0 p c.loop.pass c.learn.new.pass side (c.loop.invariant.told p told) c.learn.ensures;
-      paid = λ p paid. learned_on_trust p c.loop.pass c.learn.new.pass side c.learn.ensures (c.loop.invariant.paid p paid);
+      told = λ p told. told_learned c.requires.is_way _ p side (c.loop.invariant.told p told) c.learn.ensures;
+      paid = λ p paid. learned_on_trust p side c.learn.ensures (c.loop.invariant.paid p paid);
       cell = ap (λ x. x.cell) c.learn.ensures.rest ∙ c.loop.invariant.cell;
       side = ap (λ x. x.side) c.learn.ensures.rest ∙ c.loop.invariant.side;
     }
