@@ -1,5 +1,5 @@
 -- What act, see and see_all owe and tell: events that are not published yet.
-use Rattle.std.proofs.Common.{◌≡◌, ℕ, ◌+◌, ◌<◌, ◌≤◌, ◌^◌, min, max, Bool, true, false, cond, List, [], ◌∷◌, ◌++◌, All, refl, sym, ap, ◌∙◌, subst, arith, append_assoc, append-nil}
+use Rattle.std.proofs.Common.{◌≡◌, ℕ, ◌+◌, ◌<◌, ◌≤◌, ◌^◌, min, max, Bool, true, false, cond, List, [], ◌∷◌, ◌++◌, refl, sym, ap, ◌∙◌, subst, arith, append_assoc, append-nil}
 use Rattle.atomic_table.specs.Seated.{TableId}
 use Rattle.beeb_bits.specs.declared.Side.{Side}
 use Rattle.beeb_bits.specs.declared.Side.TheVariants.{Host, Para}
@@ -22,16 +22,16 @@ use Rattle.tube_cell.proofs.Learns.{RunsOn, none_of}
 
 runs_from : (s : Side) (t a from more : ℕ) (c : State) (es : List Event) (last : State) (end : ℕ) → Runs s t a from c es last end → more ≤ from → Runs s t a more c es last end
 runs_from s t a from more c [] last end h le = let x = h.1 in (h.0, omega arith)
-runs_from s t a from more c (e ∷ es) last end h le = let x = h.1 in (h.0, omega arith, h.2, h.3, h.4)
+runs_from s t a from more c (e ∷ es) last end h le = (h.0, omega arith, h.2, h.3, h.4)
 
 pub runs_later : (s : Side) (t a from : ℕ) (c : State) (es : List Event) (last : State) (end more : ℕ) → Runs s t a from c es last end → end ≤ more → Runs s t a from c es last more
-runs_later s t a from c [] last end more h le = let x = h.1 in (h.0, omega arith)
+runs_later s t a from c [] last end more h le = (h.0, omega arith)
 runs_later s t a from c (e ∷ es) last end more h le = (h.0, h.1, h.2, h.3, runs_later s t (trust_past s c e a) (e.tick + 1) (chip_after_event c e) es last end more h.4 le)
 
 runs_append : (s : Side) (t a from : ℕ) (c : State) (xs : List Event) (mid : State) (end : ℕ) (ys : List Event) (last : State) (stop : ℕ)
     → Runs s t a from c xs mid end → Runs s t (trust_after s c a xs) end mid ys last stop
     → Runs s t a from c (xs ++ ys) last stop
-runs_append s t a from c [] mid end ys last stop h k = runs_from s t a _ from c _ _ _ (subst (λ (d : State). Runs s t a end d ys last stop) h.0 k) h.1
+runs_append s t a from c [] mid end ys last stop h k = runs_from s t a _ from c _ _ _ (subst (λ d. Runs s t a end d ys last stop) h.0 k) h.1
 runs_append s t a from c (x ∷ xs) mid end ys last stop h k = (h.0, h.1, h.2, h.3, runs_append s t (trust_past s c x a) (x.tick + 1) (chip_after_event c x) xs mid end ys last stop h.4 k)
 
 runs_local : (s : Side) (t a from : ℕ) (c : State) (es : List Event) (last : State) (end : ℕ) → Runs s t a from c es last end → last ≡ after_from c es
@@ -41,7 +41,6 @@ runs_local s t a from c (e ∷ es) last end h = runs_local s t (trust_past s c e
 runs_grow : (s : Side) (t a from : ℕ) (c : State) (e : Event) (es : List Event) (last : State) (end : ℕ) → Runs s t a from c (e ∷ es) last end → e.tick + 1 ≤ past_last (e ∷ es)
 runs_grow s t a from c e [] last end h = omega arith
 runs_grow s t a from c e (f ∷ es) last end h =
-    let x = h.4.1 in
     let y = runs_grow s t (trust_past s c e a) (e.tick + 1) (chip_after_event c e) f es last end h.4 in
     omega arith
 
@@ -49,7 +48,6 @@ runs_tight : (s : Side) (t a from : ℕ) (c : State) (es : List Event) (last : S
 runs_tight s t a from c [] last end h = (h.0, omega arith)
 runs_tight s t a from c (e ∷ []) last end h = (h.0, h.1, h.2, h.3, (h.4.0, omega arith))
 runs_tight s t a from c (e ∷ f ∷ es) last end h =
-    let x = h.4.1 in
     let y = runs_grow s t _ _ _ f es _ _ h.4 in
     let r = runs_tight s t (trust_past s c e a) (e.tick + 1) (chip_after_event c e) (f ∷ es) last end h.4 in
     (h.0, h.1, h.2, h.3, runs_later s t (trust_past s c e a) (e.tick + 1) (chip_after_event c e) (f ∷ es) last (horizon (e.tick + 1) (f ∷ es)) (horizon from (f ∷ es)) r (omega arith))
@@ -79,7 +77,6 @@ added_runs s k mine ahead here es last end on h = runs_append s _ _ _ _ _ _ _ _ 
     go (e ∷ es) h =
         let trust = trust_after s k.chip k.trust ahead in
         let from = horizon (own_bound s k) (mine ++ ahead) in
-        let f = h.1 in
         let a = runs_grow s (word_of_other s k) trust from here e es last end h in
         let b : past_last (mine ++ (ahead ++ e ∷ es)) ≡ past_last (e ∷ es) = ap past_last (sym (append_assoc mine ahead (e ∷ es))) ∙ past_last-more (mine ++ ahead) e es in
         runs_later s (word_of_other s k) trust from here (e ∷ es) last (horizon from (e ∷ es)) (horizon (own_bound s k) (mine ++ (ahead ++ e ∷ es)))
@@ -88,7 +85,7 @@ added_runs s k mine ahead here es last end on h = runs_append s _ _ _ _ _ _ _ _ 
 pub pass_added : {s : Side} {words : List ℕ} {here last : State} (es : List Event) (end : ℕ) {v w : View} → IsPassOf s words here v → v.trusted ≡ [] → w ≡ added_view v es
     → RunsPast s v.known v.mine v.ahead here es last end → IsPassOf s words last w
 pass_added {s} {words} {last = last} es end {v = v} is none w_is runs =
-    subst (λ (u : View). IsPassOf s words last u) (sym w_is) (record {
+    subst (λ u. IsPassOf s words last u) (sym w_is) (record {
       role = is.role;
       well = is.well;
       words_are = is.words_are;
@@ -120,15 +117,15 @@ pub bound_bare : (p : Carried) → p.ahead ≡ [] → bound_here p ≡ other_bou
 bound_bare p none = ap (λ l. bound_at p.side (word_of_other p.side p.known) (trust_after p.side p.known.chip p.known.trust l)) none
 
 pub is_added : {id id' : TableId} {s : Side} {p : Carried} {v w : View} (es : List Event) → carried_of id s v ≡ p → id' ≡ id → w ≡ added_view v es → carried_of id' s w ≡ after_add p es
-is_added {s} es view cell w_is = (λ i. carried_of (cell i) s (w_is i)) ∙ ap (λ (q : Carried). after_add q es) view
+is_added {s} es view cell w_is = (λ i. carried_of (cell i) s (w_is i)) ∙ ap (λ q. after_add q es) view
 
 -- one event at the local chip
 one_runs : {id : TableId} {s : Side} {words : List ℕ} {old : State} {p : Carried} {v : View} (e : Event) → carried_of id s v ≡ p
     → IsPassOf s words old v → e.side ≡ s → own_horizon p ≤ e.tick → Admits p.side (bound_here p) e.tick → Answers old e
     → RunsPast s v.known v.mine v.ahead old (e ∷ []) (chip_after_event old e) (e.tick + 1)
 one_runs {id} {s} {v} e view is side later admitted answers =
-    let later' : own_horizon (carried_of id s v) ≤ e.tick = subst (λ (q : Carried). own_horizon q ≤ e.tick) (sym view) later in
-    let admitted' : Admits s (bound_here (carried_of id s v)) e.tick = subst (λ (q : Carried). Admits q.side (bound_here q) e.tick) (sym view) admitted in
+    let later' : own_horizon (carried_of id s v) ≤ e.tick = subst (λ q. own_horizon q ≤ e.tick) (sym view) later in
+    let admitted' : Admits s (bound_here (carried_of id s v)) e.tick = subst (λ q. Admits q.side (bound_here q) e.tick) (sym view) admitted in
     (side, later', admitted', answers, (refl, omega arith))
 
 -- the event of an access, as the view has it, and as the contract does
@@ -140,23 +137,22 @@ see_of t s v = lines_at t s (lines_of (after_from v.known.chip v.ahead))
 
 pub is_acted : {id id' : TableId} {s : Side} {p : Carried} {v w : View} (t : ℕ) (op : Op) → carried_of id s v ≡ p → id' ≡ id
     → w ≡ added_view v (act_of t s op v ∷ []) → carried_of id' s w ≡ after_add p (access_at t p.side op (here p) ∷ [])
-is_acted {s} t op view cell w_is = (λ i. carried_of (cell i) s (w_is i)) ∙ ap (λ (q : Carried). after_add q (access_at t q.side op (here q) ∷ [])) view
+is_acted {s} t op view cell w_is = (λ i. carried_of (cell i) s (w_is i)) ∙ ap (λ q. after_add q (access_at t q.side op (here q) ∷ [])) view
 
 pub is_seen : {id id' : TableId} {s : Side} {p : Carried} {v w : View} (t : ℕ) → carried_of id s v ≡ p → id' ≡ id
     → w ≡ added_view v (see_of t s v ∷ []) → carried_of id' s w ≡ after_add p (lines_at t p.side (lines_of (here p)) ∷ [])
-is_seen {s} t view cell w_is = (λ i. carried_of (cell i) s (w_is i)) ∙ ap (λ (q : Carried). after_add q (lines_at t q.side (lines_of (here q)) ∷ [])) view
+is_seen {s} t view cell w_is = (λ i. carried_of (cell i) s (w_is i)) ∙ ap (λ q. after_add q (lines_at t q.side (lines_of (here q)) ∷ [])) view
 
 pub local_of : {s : Side} {words : List ℕ} {old : State} {v : View} → IsPassOf s words old v → old ≡ after_from v.known.chip v.ahead
-local_of {s} is = runs_local s _ _ _ _ _ _
-    _ is.runs
+local_of {s} is = runs_local s _ _ _ _ _ _ _ is.runs
 
 pub acted : {id : TableId} {s : Side} {words : List ℕ} {old new : State} {p : Carried} {v w : View} (t : ℕ) (op : Op) → carried_of id s v ≡ p → IsPassOf s words old v → p.trusted ≡ []
     → own_horizon p ≤ t → Admits p.side (bound_here p) t → new ≡ chip_after old s op → w ≡ added_view v (act_of t s op v ∷ []) → IsPassOf s words new w
 acted {s} {words} {old} {v} {w} t op view is trusted later admitted new_is w_is =
     let here_is = local_of is in
     let e : Event = act_of t s op v in
-    let answers : Answers old e = ap (λ (c : State). Byte (answer_of c s op)) here_is in
-    subst (λ (c : State). IsPassOf s words c w) (sym new_is)
+    let answers : Answers old e = ap (λ c. Byte (answer_of c s op)) here_is in
+    subst (λ c. IsPassOf s words c w) (sym new_is)
     (pass_added _ _ is (none_of v view trusted) w_is (one_runs e view is refl later admitted answers))
 
 pub acted_cut : {s : Side} {words : List ℕ} {before after : State} {v w : View} (t cut : ℕ) {next : ℕ} (op : Op) → IsPassOf s words before v → CutIs s cut v
@@ -175,7 +171,7 @@ pub saw : {id : TableId} {s : Side} {words : List ℕ} {old : State} {p : Carrie
 saw {s} {old} {v} t view is trusted later admitted w_is =
     let here_is = local_of is in
     let e : Event = see_of t s v in
-    let answers : Answers old e = ap (λ (c : State). Seen (lines_of c)) here_is in
+    let answers : Answers old e = ap (λ c. Seen (lines_of c)) here_is in
     pass_added _ _ is (none_of v view trusted) w_is (one_runs e view is refl later admitted answers)
 
 watch_trust : (s : Side) (from : ℕ) (c : State) (a : ℕ) (es : List Event) (end : ℕ) → Watches s from c es end → trust_after s c a es ≡ a
@@ -186,14 +182,12 @@ watch_trust s from c a (e ∷ es) end h =
 
 watch_here : (s : Side) (from : ℕ) (c : State) (es : List Event) (end : ℕ) → Watches s from c es end → after_from c es ≡ c
 watch_here s from c [] end h = refl
-watch_here s from c (e ∷ es) end h = ap (λ (d : State). after_from d es) (observed_stays c e.side e.query h.1) ∙ watch_here s (e.tick + 1) c es end h.5
+watch_here s from c (e ∷ es) end h = ap (λ d. after_from d es) (observed_stays c e.side e.query h.1) ∙ watch_here s (e.tick + 1) c es end h.5
 
 -- they run on, and end no later than they
 watch_runs : (s : Side) (t a from : ℕ) (c : State) (es : List Event) (end : ℕ) → Watches s from c es end → end + slack s ≤ bound_at s t a + 1 → Runs s t a from c es c (max from end)
 watch_runs s t a from c [] end h le = (refl, omega arith)
 watch_runs s t a from c (e ∷ es) end h le =
-    let f = h.2 in
-    let l = h.3 in
     let stays = observed_stays c e.side e.query h.1 in (
       h.0,
       h.2,
@@ -207,15 +201,14 @@ watch_old : {id : TableId} {s : Side} {words : List ℕ} {old : State} {p : Carr
     → IsPassOf s words old v → Watches p.side (own_horizon p) (here p) es end
     → Watches s (horizon (own_bound s v.known) (v.mine ++ v.ahead)) old es end
 watch_old {s} {v} es end view is h =
-    subst (λ (c : State). Watches s (horizon (own_bound s v.known) (v.mine ++ v.ahead)) c es end) (sym (local_of is))
-    (subst (λ (q : Carried). Watches q.side (own_horizon q) (here q) es end) (sym view) h)
+    subst (λ c. Watches s (horizon (own_bound s v.known) (v.mine ++ v.ahead)) c es end) (sym (local_of is))
+    (subst (λ q. Watches q.side (own_horizon q) (here q) es end) (sym view) h)
 
 pub saw_all : {id : TableId} {s : Side} {words : List ℕ} {old : State} {p : Carried} {v w : View} (es : List Event) (end : ℕ) → carried_of id s v ≡ p → IsPassOf s words old v → p.trusted ≡ []
     → Watches p.side (own_horizon p) (here p) es end → end + slack p.side ≤ bound_here p + 1 → w ≡ added_view v es → IsPassOf s words old w
 saw_all {id} {s} {v} es end view is trusted watches admitted w_is =
-    let admitted' : end + slack s ≤ bound_here (carried_of id s v) + 1 = subst (λ (q : Carried). end + slack q.side ≤ bound_here q + 1) (sym view) admitted in
-    pass_added _ _ is (none_of v view trusted) w_is
-    (watch_runs s (word_of_other s v.known) (trust_after s v.known.chip v.known.trust v.ahead)
+    let admitted' : end + slack s ≤ bound_here (carried_of id s v) + 1 = subst (λ q. end + slack q.side ≤ bound_here q + 1) (sym view) admitted in
+    pass_added _ _ is (none_of v view trusted) w_is (watch_runs s (word_of_other s v.known) (trust_after s v.known.chip v.known.trust v.ahead)
     _ _ _ _ (watch_old _ _ view is watches) admitted')
 
 pub saw_cut : {id : TableId} {s : Side} {words : List ℕ} {old : State} {p : Carried} {v w : View} (es : List Event) (end cut : ℕ) → carried_of id s v ≡ p → IsPassOf s words old v → CutIs s cut v
@@ -224,7 +217,7 @@ saw_cut {s} {v} es end cut view is cuts watches w_is =
     subst (CutIs s cut) (sym w_is) (λ a lt.
     trust_after_append s v.known.chip a v.ahead es
     ∙ watch_trust s _ _ (trust_after s v.known.chip a v.ahead) _ _
-    (subst (λ (c : State). Watches s (horizon (own_bound s v.known) (v.mine ++ v.ahead)) c es end) (local_of is) (watch_old _ _ view is watches))
+    (subst (λ c. Watches s (horizon (own_bound s v.known) (v.mine ++ v.ahead)) c es end) (local_of is) (watch_old _ _ view is watches))
     ∙ cuts a lt)
 
 pub saw_one_cut : (s : Side) (cut t : ℕ) (v : View) {w : View} → CutIs s cut v → w ≡ added_view v (see_of t s v ∷ []) → CutIs s cut w

@@ -1,9 +1,8 @@
 -- How the two lists and the words may grow.
 use Rattle.std.proofs.Common.{◌≡◌, ◌⊎◌, ℕ, ◌+◌, ◌<◌, ◌≤◌, min, max, nat_lt, true, false, true≢false, cond, List, [], ◌∷◌, ◌++◌, All, refl, sym, ap}
-use Rattle.std.proofs.Common.{◌∙◌, subst, inl, inr, ⊎_elim, arith, append_assoc, append-nil}
+use Rattle.std.proofs.Common.{◌∙◌, subst, inl, arith, append_assoc, append-nil}
 use Rattle.std.specs.Prelude.{slice_index_or}
-use Rattle.std.proofs.lemmas.Bool.{cases_lt}
-use Rattle.std.proofs.lemmas.List.Elements.{All-nil, All-cons, All-head, All-tail, All-weaker, All-push}
+use Rattle.std.proofs.lemmas.List.Elements.{All-weaker, All-push}
 use Rattle.beeb_bits.specs.declared.Side.{Side}
 use Rattle.beeb_bits.specs.declared.Side.TheVariants.{Host, Para}
 use Rattle.tube_chip.specs.State.{State}
@@ -14,14 +13,14 @@ use Rattle.tube_cell.specs.Rules.{Climbs, HostFine, ParaFine, Good, Trusts, Know
 use Rattle.tube_cell.specs.Steps.{Runs, Watches}
 use Rattle.tube_cell.proofs.Observed.{observed_stays, ShowsSame, readings_from}
 use Rattle.tube_cell.proofs.Law.{gap, Precedes, Early, joins_para, legal_end, legal_placed, legal_cut, after-on, past_last-on, precedes_below}
-use Rattle.tube_cell.proofs.Law.{nat_lt-true, nat_lt-false, nat_lt-from_true, nat_lt-from_false, All-below, below_lies, below_append}
+use Rattle.tube_cell.proofs.Law.{by_lt, nat_lt-true, nat_lt-false, All-below, below_lies, below_append}
 use Rattle.tube_cell.proofs.Law.{low_cons, low_head, low_nil, low_tail, lower}
 
 -- ---- lists that climb
 
 climbs_end : (n : ℕ) (x : Event) (xs : List Event) → Climbs n (x ∷ xs) → x.tick + 1 ≤ past_last (x ∷ xs)
 climbs_end n x [] h = omega arith
-climbs_end n x (y ∷ ys) h = let f = h.1.0 in let l = climbs_end (x.tick + 1) y ys h.1 in omega arith
+climbs_end n x (y ∷ ys) h = let l = climbs_end (x.tick + 1) y ys h.1 in omega arith
 
 pub climbs_last : (n : ℕ) (xs : List Event) → Climbs n xs → AllBelow (past_last xs) xs
 climbs_last n [] h = low_nil
@@ -50,7 +49,7 @@ climbs_below n t (x ∷ xs) h = elim (nat_lt x.tick t) as (λ b. Climbs n (cond 
 -- ---- the host's event
 
 after_end : {c : State} (k : Known) (host para : List Event) {list : List Event} (e : Event) → k.chip ≡ after (merge host para) → list ≡ merge host para ++ e ∷ [] → c ≡ chip_after_event k.chip e → c ≡ after list
-after_end k host para e chip is now = now ∙ ap (λ (d : State). chip_after_event d e) chip ∙ sym (after-on _ (merge host para) e) ∙ sym (ap after is)
+after_end k host para e chip is now = now ∙ ap (λ d. chip_after_event d e) chip ∙ sym (after-on _ (merge host para) e) ∙ sym (ap after is)
 
 host_fine : {k : Known} (n : Known) {host : List Event} (e : Event) → HostFine k host → e.side ≡ Host → past_last host ≤ e.tick → k.host ≤ n.host
     → (is_access e.query ≡ true → e.tick < n.host) → e.tick ≤ own_bound Para n
@@ -69,7 +68,7 @@ para_kept n fine up host_up trust_up = record {
   sided = fine.sided;
   below_own = λ i d lt a. let h = fine.below_own i d lt a in omega arith;
   admitted = λ i d lt a. let h = fine.admitted i d lt a in omega arith;
-  changes = λ i d lt a. let h = fine.changes i d lt a in let p = h.0 in let q = h.1 in (omega arith, omega arith);
+  changes = λ i d lt a. let h = fine.changes i d lt a in omega arith;
   climbs = fine.climbs;
 }
 
@@ -83,7 +82,7 @@ para_cut {k} n t {para} fine up host_up lt trust =
       sided = All-below (λ x. x.side ≡ Para) t para fine.sided;
       below_own = λ i d lt' a. let h = own i d lt' a in let l = low i d lt' in omega arith;
       admitted = λ i d lt' a. let l = low i d lt' in omega arith;
-      changes = λ i d lt' a. let h = changes i d lt' a in let p = h.0 in let q = h.1 in (omega arith, omega arith);
+      changes = λ i d lt' a. let h = changes i d lt' a in omega arith;
       climbs = climbs_below 0 t para fine.climbs;
     }
 
@@ -100,9 +99,9 @@ pub good_calm : {k : Known} {host para : List Event} (e : Event) (m : ℕ) → G
     → (is_access e.query ≡ true → e.tick < m) → ShowsSame k.chip (chip_after_event k.chip e) → Good (host_next k e m k.trust) (host ++ e ∷ []) para
 good_calm {k} {host} {para} e m good is from late admitted answers up low same =
     let r = legal_placed host para e is (low_of e.tick host good.host_fine.climbs late) good.para_fine.sided (early_of e.tick good.para_fine from) good.legal
-    (subst (λ (d : State). Answers d e) good.chip_is answers) (subst (λ (d : State). ShowsSame d (chip_after_event d e)) good.chip_is same) in
+    (subst (λ d. Answers d e) good.chip_is answers) (subst (λ d. ShowsSame d (chip_after_event d e)) good.chip_is same) in
     record {
-      chip_is = ap (λ (d : State). chip_after_event d e) good.chip_is ∙ sym r.1;
+      chip_is = ap (λ d. chip_after_event d e) good.chip_is ∙ sym r.1;
       legal = r.0;
       host_fine = host_fine (host_next k e m k.trust) e good.host_fine is late up low admitted (λ t le h. h);
       para_fine = para_kept (host_next k e m k.trust) good.para_fine (omega arith) up (omega arith);
@@ -114,9 +113,9 @@ pub good_cut : {k : Known} {host para : List Event} (e : Event) (m : ℕ) → Go
     → Good (host_next k e m (min k.trust e.tick)) (host ++ e ∷ []) (below e.tick para)
 good_cut {k} {host} {para} e m good is from late admitted answers low =
     let n = host_next k e m (min k.trust e.tick) in
-    let r = legal_cut host para e (low_of e.tick host good.host_fine.climbs late) (early_of e.tick good.para_fine from) good.legal (subst (λ (d : State). Answers d e) good.chip_is answers) in
+    let r = legal_cut host para e (low_of e.tick host good.host_fine.climbs late) (early_of e.tick good.para_fine from) good.legal (subst (λ d. Answers d e) good.chip_is answers) in
     record {
-      chip_is = ap (λ (d : State). chip_after_event d e) good.chip_is ∙ sym r.1;
+      chip_is = ap (λ d. chip_after_event d e) good.chip_is ∙ sym r.1;
       legal = r.0;
       host_fine = host_fine n e good.host_fine is late (omega arith) (λ a. low) (omega arith) (λ t le h. omega arith);
       para_fine = para_cut n e.tick good.para_fine (omega arith) (omega arith) low refl;
@@ -131,7 +130,7 @@ gap_host_para = refl
 host_before : {k : Known} {host : List Event} (e : Event) → HostFine k host → e.side ≡ Para → own_bound Para k ≤ e.tick → All (Precedes e) host
 host_before {host} e fine is from i d lt =
     let x = slice_index_or host i d in
-    let g : gap x.side e.side ≡ 0 = ap (λ (s : Side). gap s e.side) (fine.sided i d lt) ∙ ap (gap Host) is ∙ gap_host_para in
+    let g : gap x.side e.side ≡ 0 = ap (λ s. gap s e.side) (fine.sided i d lt) ∙ ap (gap Host) is ∙ gap_host_para in
     let a = fine.admitted i d lt in
     omega (arith, g)
 
@@ -153,7 +152,7 @@ good_para {k} {host} {para} e m a good is from late answers up trust_up low admi
     let fine = para_kept (para_next k e m a) good.para_fine up (omega arith) trust_up in
     record {
       chip_is = after_end k host para e good.chip_is joined refl;
-      legal = subst IsLegal (sym joined) (legal_end host para e first second good.legal (subst (λ (d : State). Answers d e) good.chip_is answers));
+      legal = subst IsLegal (sym joined) (legal_end host para e first second good.legal (subst (λ d. Answers d e) good.chip_is answers));
       host_fine = record {
         sided = good.host_fine.sided;
         below_own = good.host_fine.below_own;
@@ -189,21 +188,11 @@ good_raised n good chip host_up para_up trust_up = record {
 below_below : (t a : ℕ) (xs : List Event) → below t (below a xs) ≡ below (min a t) xs
 below_below t a [] = refl
 below_below t a (x ∷ xs) =
-    (elim (nat_lt x.tick a) as (λ b. nat_lt x.tick a ≡ b → below t (cond b (x ∷ below a xs) []) ≡ below (min a t) (x ∷ xs)) [
-      | true ↦ λ h.
-          let l = nat_lt-from_true x.tick a h in
-          (elim (nat_lt x.tick t) as (λ b. nat_lt x.tick t ≡ b → cond b (x ∷ below t (below a xs)) [] ≡ below (min a t) (x ∷ xs)) [
-            | true ↦ λ g.
-                let m = nat_lt-from_true x.tick t g in
-                rw (nat_lt-true x.tick (min a t) (omega arith)) (ap (λ l. x ∷ l) (below_below t a xs))
-            | false ↦ λ g.
-                let m = nat_lt-from_false x.tick t g in
-                rw (nat_lt-false x.tick (min a t) (omega arith)) refl
-          ]) refl
-      | false ↦ λ h.
-          let l = nat_lt-from_false x.tick a h in
-          rw (nat_lt-false x.tick (min a t) (omega arith)) refl
-    ]) refl
+    by_lt x.tick a (λ b. below t (cond b (x ∷ below a xs) []) ≡ below (min a t) (x ∷ xs))
+    (λ lt. by_lt x.tick t (λ b. cond b (x ∷ below t (below a xs)) [] ≡ below (min a t) (x ∷ xs))
+    (λ lt'. rw (nat_lt-true x.tick (min a t) (omega arith)) (ap (λ l. x ∷ l) (below_below t a xs)))
+    (λ le. rw (nat_lt-false x.tick (min a t) (omega arith)) refl))
+    (λ le. rw (nat_lt-false x.tick (min a t) (omega arith)) refl)
 
 -- What steps of the host do besides its own list: the parasite's list, and how the words go on.
 pub record HostStep (k n : Known) (host para list : List Event) : Type 0 where
@@ -215,8 +204,7 @@ pub record HostStep (k n : Known) (host para list : List Event) : Type 0 where
   pub keeps : (mine trusted : List Event) → AllBelow k.host mine → para ≡ mine ++ below k.trust trusted → rest ≡ mine ++ below n.trust trusted
 
 taken_back : (h a t m : ℕ) → h ≤ t → t < m → (min a t ≡ a) ⊎ ((h ≤ min a t) × (min a t < a) × (min a t < m))
-taken_back h a t m le lt =
-    ⊎_elim (λ (b : t < a). inr (omega arith, omega arith, omega arith)) (λ (b : a ≤ t). inl (omega arith)) (cases_lt t a)
+taken_back h a t m le lt = grind arith
 
 host_event : {k : Known} {host para : List Event} (e : Event) → Good k host para → e.side ≡ Host → k.host ≤ e.tick → past_last host ≤ e.tick → e.tick ≤ own_bound Para k → Answers k.chip e
     → HostStep k (host_next k e (e.tick + 1) (trust_past Host k.chip e k.trust)) host para (host ++ e ∷ [])
@@ -252,16 +240,13 @@ host_then {k} {m} {n} a b = record {
   host_up = let x = a.host_up in let y = b.host_up in omega arith;
   trust = go a.trust b.trust a.host_up b.host_up;
   keeps = λ mine trusted low eq.
-      b.keeps mine trusted (All-weaker (λ x. x.tick < k.host) (λ x. x.tick < m.host) (λ x l. let up = a.host_up in omega arith) mine low) (a.keeps mine trusted low eq);
+      b.keeps mine trusted (All-weaker (λ x. x.tick < k.host) (λ x. x.tick < m.host) (λ x l. omega arith) mine low) (a.keeps mine trusted low eq);
 }
   where
     go : (m.trust ≡ k.trust) ⊎ ((k.host ≤ m.trust) × (m.trust < k.trust) × (m.trust < m.host))
         → (n.trust ≡ m.trust) ⊎ ((m.host ≤ n.trust) × (n.trust < m.trust) × (n.trust < n.host)) → k.host ≤ m.host → m.host ≤ n.host
         → (n.trust ≡ k.trust) ⊎ ((k.host ≤ n.trust) × (n.trust < k.trust) × (n.trust < n.host))
-    go (inl x) (inl y) p q = inl (y ∙ x)
-    go (inl x) (inr y) p q = let y0 = y.0 in let y1 = y.1 in inr (omega arith, omega arith, y.2)
-    go (inr x) (inl y) p q = let x0 = x.0 in let x1 = x.1 in let x2 = x.2 in inr (omega arith, omega arith, omega arith)
-    go (inr x) (inr y) p q = let x1 = x.1 in let y0 = y.0 in let y1 = y.1 in inr (omega arith, omega arith, y.2)
+    go x y p q = grind arith
 
 -- these words after events of the host that run on to this chip and end
 abbrev pub host_last : Known → List Event → State → ℕ → Known
@@ -274,7 +259,7 @@ host_runs [] {k} {host} {para} from last end good le late h =
     let f = h.1 in
     record {
       rest = para;
-      good = subst (λ (l : List Event). Good (host_last k [] last end) l para) (sym (append-nil host))
+      good = subst (λ l. Good (host_last k [] last end) l para) (sym (append-nil host))
           (good_raised (host_last k [] last end) good h.0 (omega arith) (omega arith) (omega arith));
       para_word = refl;
       host_up = omega arith;
@@ -282,22 +267,20 @@ host_runs [] {k} {host} {para} from last end good le late h =
       keeps = λ mine trusted low eq. eq;
     }
 host_runs (e ∷ es) {k} {host} {para} from last end good le late h =
-    let f = h.1 in
-    let admitted = h.2 in
     let m : Known = host_next k e (e.tick + 1) (trust_past Host k.chip e k.trust) in
     let on = past_last-on host e in
     let a = host_event e good h.0 (omega arith) (omega arith) (omega arith) h.3 in
     let b = host_runs es (e.tick + 1) last end a.good (omega arith) (omega arith) h.4 in
-    subst (λ (l : List Event). HostStep k (host_last k (e ∷ es) last end) host para l) (append_assoc host (e ∷ []) es)
+    subst (λ l. HostStep k (host_last k (e ∷ es) last end) host para l) (append_assoc host (e ∷ []) es)
     (host_then a b)
 
 -- where the words do not admit the host, there is no event
 pub host_idle : (o a from : ℕ) (c : State) (es : List Event) (last : State) (end : ℕ) → Runs Host o a from c es last end → max o a < from → last ≡ c
 host_idle o a from c [] last end h lt = h.0
-host_idle o a from c (e ∷ es) last end h lt = let f = h.1 in let b = h.2 in absurd (omega arith)
+host_idle o a from c (e ∷ es) last end h lt = absurd (omega arith)
 
 pub trusts_fall : (x k : Known) → Trusts Para x k → k.trust ≤ x.trust
-trusts_fall x k t = ⊎_elim (λ (e : k.trust ≡ x.trust). omega arith) (λ (e : (x.host ≤ k.trust) × (k.trust < x.trust) × (k.trust < k.host)). let l = e.1 in omega arith) t
+trusts_fall x k t = omega arith
 
 -- what the parasite's pass knows, once the host took its steps
 pub para_knows : {k : Known} (n : Known) {x : Known} → Knows Para k x → n.para ≡ k.para → k.host ≤ n.host
@@ -305,7 +288,6 @@ pub para_knows : {k : Known} (n : Known) {x : Known} → Knows Para k x → n.pa
     → Knows Para n x
 para_knows {k} n {x} knows para up trust idle =
     let o = knows.other_word in
-    let w = knows.own_word in
     let fall = trusts_fall x k knows.trust in
     record {
       well = knows.well;
@@ -316,10 +298,7 @@ para_knows {k} n {x} knows para up trust idle =
     }
   where
     go : Trusts Para x k → (n.trust ≡ k.trust) ⊎ ((k.host ≤ n.trust) × (n.trust < k.trust) × (n.trust < n.host)) → Trusts Para x n
-    go (inl e) (inl f) = inl (f ∙ e)
-    go (inl e) (inr f) = let o = knows.other_word in let f0 = f.0 in let f1 = f.1 in inr (omega arith, omega arith, f.2)
-    go (inr e) (inl f) = let e0 = e.0 in let e1 = e.1 in let e2 = e.2 in inr (omega arith, omega arith, omega arith)
-    go (inr e) (inr f) = let o = knows.other_word in let e1 = e.1 in let f0 = f.0 in let f1 = f.1 in inr (omega arith, omega arith, f.2)
+    go e f = let o = knows.other_word in grind arith
 
 -- ---- the parasite's events, one after another
 
@@ -335,30 +314,27 @@ pub para_runs : (es : List Event) {k : Known} {host para : List Event} (from : �
     → Good (para_last k last end) host (para ++ es)
 para_runs [] {k} {host} {para} from last end good le late h =
     let f = h.1 in
-    subst (λ (l : List Event). Good (para_last k last end) host l) (sym (append-nil para)) (good_raised (para_last k last end) good h.0 (omega arith) (omega arith) (omega arith))
+    subst (λ l. Good (para_last k last end) host l) (sym (append-nil para)) (good_raised (para_last k last end) good h.0 (omega arith) (omega arith) (omega arith))
 para_runs (e ∷ es) {k} {host} {para} from last end good le late h =
-    let f = h.1 in
-    let admitted = h.2 in
     let m : Known = para_next k e (e.tick + 1) k.trust in
     let on = past_last-on para e in
     let a = good_para e (e.tick + 1) k.trust good h.0 (omega arith) (omega arith) h.3 (omega arith) (omega arith) (λ is. omega arith)
-    (λ is. omega arith) (λ is. (omega arith, omega arith)) in
-    subst (λ (l : List Event). Good (para_last k last end) host l) (append_assoc para (e ∷ []) es)
+    (λ is. omega arith) (λ is. (omega arith)) in
+    subst (λ l. Good (para_last k last end) host l) (append_assoc para (e ∷ []) es)
     (para_runs es (e.tick + 1) last end a (omega arith) (omega arith) h.4)
 
 pub para_low : (o a from : ℕ) (c : State) (es : List Event) (last : State) (end : ℕ) → Runs Para o a from c es last end → AllBelow o es
 para_low o a from c [] last end h = low_nil
-para_low o a from c (e ∷ es) last end h = let b = h.2 in low_cons e es (omega arith) (para_low o a (e.tick + 1) (chip_after_event c e) es last end h.4)
+para_low o a from c (e ∷ es) last end h = low_cons e es (omega arith) (para_low o a (e.tick + 1) (chip_after_event c e) es last end h.4)
 
 pub para_idle : (o a from : ℕ) (c : State) (es : List Event) (last : State) (end : ℕ) → Runs Para o a from c es last end → o ≤ from → last ≡ c
 para_idle o a from c [] last end h le = h.0
-para_idle o a from c (e ∷ es) last end h le = let f = h.1 in let b = h.2 in absurd (omega arith)
+para_idle o a from c (e ∷ es) last end h le = absurd (omega arith)
 
 pub runs_end : (s : Side) (t a from : ℕ) (c : State) (es : List Event) (last : State) (end : ℕ) → Runs s t a from c es last end → from ≤ end
 runs_end s t a from c [] last end h = h.1
 runs_end s t a from c (e ∷ es) last end h =
     let r = runs_end s t (trust_past s c e a) (e.tick + 1) (chip_after_event c e) es last end h.4 in
-    let f = h.1 in
     omega arith
 
 pub runs_low : (s : Side) (t a from : ℕ) (c : State) (es : List Event) (last : State) (end : ℕ) → Runs s t a from c es last end → AllBelow end es
@@ -370,9 +346,6 @@ runs_low s t a from c (e ∷ es) last end h =
 -- what the host's pass knows, once the parasite took its steps
 pub host_knows : {k : Known} (n : Known) {x : Known} → Knows Host k x → n.host ≡ k.host → k.para ≤ n.para → k.trust ≤ n.trust → (k.host ≤ own_bound Para k → n.chip ≡ k.chip) → Knows Host n x
 host_knows n knows host para trust idle =
-    let o = knows.other_word in
-    let w = knows.own_word in
-    let t = knows.trust in
     record {
       well = knows.well;
       own_word = knows.own_word ∙ sym host;
@@ -397,17 +370,16 @@ no_change q is not = true≢false (sym is ∙ not)
 pub watched : (es : List Event) {k : Known} {host para : List Event} (from end : ℕ) → Good k host para → own_bound Para k ≤ from → past_last para ≤ from → from ≤ end → Watches Para from k.chip es end
     → Good (trusting k end) host (para ++ es)
 watched [] {k} {host} {para} from end good le late stop h =
-    subst (λ (l : List Event). Good (trusting k end) host l) (sym (append-nil para)) (good_raised (trusting k end) good refl (omega arith) (omega arith) (omega arith))
+    subst (λ l. Good (trusting k end) host l) (sym (append-nil para)) (good_raised (trusting k end) good refl (omega arith) (omega arith) (omega arith))
 watched (e ∷ es) {k} {host} {para} from end good le late stop h =
-    let f = h.2 in
     let l = h.3 in
     let t = e.tick + 1 in
     let on = past_last-on para e in
     let first = good_para e k.para t good h.0 (omega arith) (omega arith) h.4 (omega arith) (omega arith) (λ is. omega arith)
     (λ is. omega arith) (λ is. absurd (no_change e.query h.1 is)) in
     let stays = observed_stays k.chip e.side e.query h.1 in
-    let good' : Good (trusting k t) host (para ++ e ∷ []) = subst (λ (c : State). Good (record k { chip = c; trust = t }) host (para ++ e ∷ [])) stays first in
-    subst (λ (l : List Event). Good (trusting k end) host l) (append_assoc para (e ∷ []) es) (watched es t end good' (omega arith) (omega arith) (omega arith) h.5)
+    let good' : Good (trusting k t) host (para ++ e ∷ []) = subst (λ c. Good (record k { chip = c; trust = t }) host (para ++ e ∷ [])) stays first in
+    subst (λ l. Good (trusting k end) host l) (append_assoc para (e ∷ []) es) (watched es t end good' (omega arith) (omega arith) (omega arith) h.5)
 
 past_low : (t : ℕ) (xs : List Event) → AllBelow t xs → past_last xs ≤ t
 past_low t [] all = omega arith

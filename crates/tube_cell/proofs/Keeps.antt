@@ -1,6 +1,6 @@
 -- Each step on the cell keeps the rule.
 use Rattle.std.proofs.Common.{◌≡◌, ◌≢◌, ◌⊎◌, ℕ, ◌+◌, ◌<◌, ◌≤◌, zero, suc, Bool, true, false, true≢false, MatchBool, if◌then◌else◌, cond, List, []}
-use Rattle.std.proofs.Common.{◌∷◌, ◌++◌, All, length, set, drop, refl, sym, ap, ◌∙◌, subst, inl, inr, ⊎_elim, arith, nat_eq, nat_le, append_assoc}
+use Rattle.std.proofs.Common.{◌∷◌, ◌++◌, length, set, drop, refl, sym, ap, ◌∙◌, subst, inl, inr, ⊎_elim, arith, nat_eq, nat_le, append_assoc}
 use Rattle.std.proofs.Common.{append-nil, set-set}
 use Rattle.std.specs.Prelude.{slice_index, slice_set}
 use mathlib.Core.Option.{some, some-ne-none, some-injective}
@@ -101,8 +101,7 @@ at_again (x ∷ xs) (suc pass) v u at = at_again xs pass v u at
 after_set : (F : ℕ → View → Type 0) (views : List View) (pass : ℕ) (w : View) → ((j : ℕ) (u : View) → j ≢ pass → get_elem? views j ≡ some u → F j u) → F pass w
     → (j : ℕ) (u : View) → get_elem? (set views pass w) j ≡ some u → F j u
 after_set F views pass w rest mine j u e =
-    ⊎_elim
-    (λ (x : (j ≡ pass) × (w ≡ u)). subst (λ (y : ℕ × View). F y.0 y.1) (λ i. (sym x.0 i, x.1 i)) mine)
+    ⊎_elim (λ (x : (j ≡ pass) × (w ≡ u)). subst (λ (y : ℕ × View). F y.0 y.1) (λ i. (sym x.0 i, x.1 i)) mine)
     (λ (x : (j ≢ pass) × (get_elem? views j ≡ some u)). rest j u x.0 x.1)
     (at_set views pass j w u e)
 
@@ -141,7 +140,7 @@ kept_step s {views} k pass v w {n} {a} {b} at role words_are well good keep role
       good = good;
       each = after_set (λ j u. FitsAs n a b k.host_seat k.para_seat u.role j u) views pass w
           (λ j u apart e. others s k.known n k.host k.para a b k.host_seat k.para_seat _ _ j u (λ same. apart (same ∙ sym seat)) (keep j u) u.role (k.each j u e))
-          (subst (λ (r : Role). FitsAs n a b k.host_seat k.para_seat r pass w) (sym role') fits);
+          (subst (λ r. FitsAs n a b k.host_seat k.para_seat r pass w) (sym role') fits);
     }
 
 -- ---- the words are found
@@ -181,13 +180,12 @@ kept_found : (s : Side) {words : List ℕ} {views : List View} (k : Kept words v
     → Kept words (set views pass (found_view v k.known)) × Finds v words words (found_view v k.known)
 kept_found s k pass v at role =
     let fit = fit_of s k pass v at role in (
-      kept_step s k _ v _ at role k.words_are k.well k.good (λ j u f. f) role
-          (fits_found s _ _ _ _ _ _ v k.well fit),
+      kept_step s k _ v _ at role k.words_are k.well k.good (λ j u f. f) role (fits_found s _ _ _ _ _ _ v k.well fit),
       record {
         well = k.well;
         words_are = k.words_are;
         view_is = refl;
-        goes_on = subst (λ (r : Role). GoesOn r v.known k.known) (sym role) (goes_on (knows_of s _ _ _ _ _ _ v fit));
+        goes_on = subst (λ r. GoesOn r v.known k.known) (sym role) (goes_on (knows_of s _ _ _ _ _ _ v fit));
       },
     )
 
@@ -233,20 +231,16 @@ host_publishes one pass {v} {es} {last} {end} {next} may well with_is words view
     let n : Known = host_last k.known es last end in
     let runs : Runs Host k.known.para k.known.trust (horizon k.known.host k.host) k.known.chip es last end =
     subst (λ (y : Known × List Event). Runs Host y.0.para y.0.trust (horizon y.0.host y.1) y.0.chip es last end) (λ i. (same i, fit.1 i)) may.runs in
-    let next_is : next ≡ n = with_is ∙ ap (λ (x : Known). host_last x es last end) same in
+    let next_is : next ≡ n = with_is ∙ ap (λ x. host_last x es last end) same in
     let r = runs_end _ _ _ _ _ _ _ _ runs in
     let step = host_runs _ _ _ _ k.good (omega arith) (omega arith) runs in
-    kept_step Host k _ v _ at may.role
-    (ap words_of next_is) well step.good
-    (λ j u f. (
+    kept_step Host k _ v _ at may.role (ap words_of next_is) well step.good (λ j u f. (
       f.0,
       step.keeps u.mine u.trusted f.2 f.1,
       lower u.mine f.2 (omega arith),
-      para_knows n f.3 step.para_word step.host_up step.trust
-          (λ lt. host_idle _ _ _ _ _ _ _ runs (omega arith)),
+      para_knows n f.3 step.para_word step.host_up step.trust (λ lt. host_idle _ _ _ _ _ _ _ runs (omega arith)),
     ))
-    may.role
-    (fit.0, ap (λ l. l ++ es) fit.1, may.none_trusted, knows_with Host well next_is)
+    may.role (fit.0, ap (λ l. l ++ es) fit.1, may.none_trusted, knows_with Host well next_is)
 
 para_publishes : PackingIsOneToOne → (pass : ℕ) {v : View} {es : List Event} {last : State} {end : ℕ} {next : Known} → MayPublish Para es last end v → IsChip last
     → next ≡ known_with Para last end (word_of_other Para v.known) (trust_after Para v.known.chip v.known.trust es)
@@ -260,12 +254,10 @@ para_publishes one pass {v} {es} {last} {end} {next} may well with_is words view
     let runs : Runs Para k.known.host k.known.trust (horizon (own_bound Para k.known) k.para) k.known.chip es last end =
     subst (λ (y : Known × List Event). Runs Para y.0.host y.0.trust (horizon (own_bound Para y.0) y.1) y.0.chip es last end) (λ i. (same i, bare i)) may.runs in
     let next_is : next ≡ n =
-    with_is ∙ ap (λ (t : ℕ). known_with Para last end (word_of_other Para v.known) t) (trust_after_para v.known.chip v.known.trust es) ∙ ap (λ (x : Known). para_last x last end) same in
+    with_is ∙ ap (λ t. known_with Para last end (word_of_other Para v.known) t) (trust_after_para v.known.chip v.known.trust es) ∙ ap (λ x. para_last x last end) same in
     let r = runs_end _ _ _ _ _ _ _ _ runs in
     let good = para_runs _ _ _ _ k.good (omega arith) (omega arith) runs in
-    kept_step Para k _ v _ at may.role
-    (ap words_of next_is) well good
-    (λ j u f. (
+    kept_step Para k _ v _ at may.role (ap words_of next_is) well good (λ j u f. (
       f.0,
       f.1,
       f.2,
@@ -294,18 +286,18 @@ entrusts_hit one pass {v} {es} {end} {next} may with_is words views k at is =
     let fit = fit_of Para k pass v at may.role in
     let same : v.known ≡ k.known = known_is one Para k pass v at may.role is in
     let n : Known = trusting k.known end in
-    let next_is : next ≡ n = with_is ∙ ap (λ (x : Known). trusting x end) same in
+    let next_is : next ≡ n = with_is ∙ ap (λ x. trusting x end) same in
     let from = horizon (own_bound Para k.known) v.mine in
-    let watches : Watches Para from k.known.chip es end = subst (λ (x : Known). Watches Para (horizon (own_bound Para x) v.mine) x.chip es end) same may.watches in
-    let low : AllBelow k.known.trust v.trusted = subst (λ (x : Known). AllBelow x.trust v.trusted) same may.trusted in
+    let watches : Watches Para from k.known.chip es end = subst (λ x. Watches Para (horizon (own_bound Para x) v.mine) x.chip es end) same may.watches in
+    let low : AllBelow k.known.trust v.trusted = subst (λ x. AllBelow x.trust v.trusted) same may.trusted in
     let para_is : k.para ≡ v.mine ++ v.trusted = fit.1 ∙ ap (λ l. v.mine ++ l) (below_same k.known.trust v.trusted low) in
-    let past : past_last k.para ≤ from = let a = past_append k.known.trust v.mine v.trusted low in let b : past_last k.para ≡ past_last (v.mine ++ v.trusted) = ap past_last para_is in omega arith in
-    let stop : from ≤ end = subst (λ (x : Known). horizon (own_bound Para x) v.mine ≤ end) same may.later in
+    let past : past_last k.para ≤ from =
+    let a = past_append k.known.trust v.mine v.trusted low in let b : past_last k.para ≡ past_last (v.mine ++ v.trusted) = ap past_last para_is in omega arith in
+    let stop : from ≤ end = subst (λ x. horizon (own_bound Para x) v.mine ≤ end) same may.later in
     let good = watched _ _ _ k.good (omega arith) past stop watches in
     let low' : AllBelow end (v.trusted ++ es) =
     All-append (λ e. e.tick < end) v.trusted es (lower v.trusted low (omega arith)) (watches_low _ _ _ _ _ watches) in
-    kept_step Para k _ v _ at may.role
-    (ap words_of next_is) k.well good
+    kept_step Para k _ v _ at may.role (ap words_of next_is) k.well good
     (λ j u f. (f.0, f.1, f.2, host_knows n f.3 refl (omega arith) (omega arith) (λ le. refl)))
     may.role (
       fit.0,
@@ -328,18 +320,17 @@ both_hit one pass {v} {es} {seen} {last} {word} {end} {next} may well with_is wo
     let mid : Known = known_with Para last word (word_of_other Para v.known) v.known.trust in
     let u : View = published_view v es mid in
     let mid_is : mid ≡ known_with Para last word (word_of_other Para v.known) (trust_after Para v.known.chip v.known.trust es) =
-    ap (λ (t : ℕ). known_with Para last word (word_of_other Para v.known) t) (sym (trust_after_para v.known.chip v.known.trust es)) in
+    ap (λ t. known_with Para last word (word_of_other Para v.known) t) (sym (trust_after_para v.known.chip v.known.trust es)) in
     let first : Kept (words_of mid) (set views pass u) = para_publishes one pass may.publish well mid_is words views k at is in
     let from = horizon (own_bound Para v.known) v.mine in
     let runs : Runs Para v.known.host v.known.trust from v.known.chip es last word = may.publish.runs in
     let r = runs_end _ _ _ _ _ _ _ _ runs in
     let past = past_append word v.mine es (runs_low _ _ _ _ _ _ _ _ runs) in
-    let order = may.order in
     let may' : MayEntrust seen end u = record {
       role = may.publish.role;
       trusted = subst (AllBelow v.known.trust) (sym may.publish.none_trusted) low_nil;
       later = omega arith;
-      watches = let same : word ≡ horizon (own_bound Para mid) u.mine = omega arith in subst (λ (n : ℕ). Watches Para n last seen end) same may.watches;
+      watches = let same : word ≡ horizon (own_bound Para mid) u.mine = omega arith in subst (λ n. Watches Para n last seen end) same may.watches;
     } in
     let second : Kept (words_of next) (set (set views pass u) pass (told_view v es seen next)) =
     entrusts_hit one pass may' with_is (words_of mid) (set views pass u) first (at_again views pass v u at) refl in
@@ -369,9 +360,7 @@ kept_looked Host k pass {v} {t} at may admitted =
 kept_looked Para k pass {v} {t} at may admitted =
     let fit = fit_of Para k pass v at may.role in
     let n = k.known in
-    let word = fit.3.own_word in
     let fall = trusts_fall v.known n fit.3.trust in
-    let later = may.later in
     let bare : k.para ≡ v.mine = fit.1 ∙ ap (λ l. v.mine ++ below n.trust l) may.none_trusted ∙ append-nil v.mine in
     let mine : past_last v.mine ≡ past_last k.para = ap past_last (sym bare) in
     let look : Event = look_at t Para n.chip in
@@ -392,10 +381,10 @@ looks {s} pass {v} {t} may words views k at = go (admits s (other_bound s k.know
     told b w same e f =
         let fit = fit_of s k pass v at may.role in
         let on = goes_on (knows_of s _ _ _ _ _ _ v fit) in
-        subst (λ (r : Role). LooksAs t r v words w) (sym may.role)
-        (subst (λ (x : Known). IsChip x.chip × (words ≡ words_of x) × GoesOn (one_side s) v.known x
+        subst (λ r. LooksAs t r v words w) (sym may.role)
+        (subst (λ x. IsChip x.chip × (words ≡ words_of x) × GoesOn (one_side s) v.known x
         × MatchBool (admits s (other_bound s x) t) (w ≡ looked_view v t s w.known) (w ≡ found_view v w.known)) (sym same)
-        (k.well, k.words_are, on, subst (λ (b : Bool). MatchBool b (w ≡ looked_view v t s w.known) (w ≡ found_view v w.known)) (sym e) f))
+        (k.well, k.words_are, on, subst (λ b. MatchBool b (w ≡ looked_view v t s w.known) (w ≡ found_view v w.known)) (sym e) f))
 
     go : (b : Bool) → admits s (other_bound s k.known) t ≡ b → (w : View) × Kept words (slice_set views pass w) × Looks t v words words w
     go true e = (
@@ -432,7 +421,7 @@ begins = record {
 }
   where
     one : (j : ℕ) (v : View) → get_elem? (whole ∷ []) j ≡ some v → FitsAs new_known [] [] 0 0 v.role j v
-    one zero v e = subst (λ (u : View). FitsAs new_known [] [] 0 0 u.role 0 u) (some-injective _ _ e) (refl, refl, refl, refl, refl, low_nil, refl)
+    one zero v e = subst (λ u. FitsAs new_known [] [] 0 0 u.role 0 u) (some-injective _ _ e) (refl, refl, refl, refl, refl, low_nil, refl)
     one (suc j) v e = absurd (some-ne-none v (sym e))
 
 -- what holds of a pass where the parasite's stands at this seat
@@ -469,7 +458,7 @@ forked {views = views} k pass ps w given rest kept new = seated k (set views pas
 
 pub halves : (pass : ℕ) (v : View) → v.role ≡ undivided → Forks Kept pass v (host_part v) (para_part v)
 halves pass v role words views k at =
-    let f : FitsIn k undivided pass v = subst (λ (r : Role). FitsIn k r pass v) role (k.each pass v at) in
+    let f : FitsIn k undivided pass v = subst (λ r. FitsIn k r pass v) role (k.each pass v at) in
     let seat = length (set views pass (host_part v)) in
     forked k pass seat (host_part v) (para_part v) (λ j u apart. unmoved k seat j u (λ same. apart (same ∙ sym f.1)))
     (f.0, f.2, f.4, subst (Knows Host k.known) (sym f.6) (knows_all Host k.known k.well)) (
@@ -485,12 +474,12 @@ parts pass v role words views k at =
     let f = fit_of Para k pass v at role in
     let seat = length (set views pass spent_view) in
     forked k pass seat spent_view v (λ j u apart. unmoved k seat j u (λ same. apart (same ∙ sym f.0))) tt
-    (subst (λ (r : Role). FitsAs k.known k.host k.para k.host_seat seat r seat v) (sym role) (refl, f.1, f.2, f.3))
+    (subst (λ r. FitsAs k.known k.host k.para k.host_seat seat r seat v) (sym role) (refl, f.1, f.2, f.3))
 
 -- events join the unpublished ones of a pass
 pub adds : (s : Side) (pass : ℕ) (v : View) (es : List Event) → v.role ≡ one_side s → Forks Kept pass v (added_view v es) spent_view
 adds s pass v es role words views k at =
-    forked k pass k.para_seat (added_view v es) spent_view (λ j u apart f. f) (subst (λ (r : Role). FitsIn k r pass (added_view v es)) (sym role) (same s (fit_of s k pass v at role))) tt
+    forked k pass k.para_seat (added_view v es) spent_view (λ j u apart f. f) (subst (λ r. FitsIn k r pass (added_view v es)) (sym role) (same s (fit_of s k pass v at role))) tt
   where
     same : (s : Side) → FitsIn k (one_side s) pass v → FitsIn k (one_side s) pass (added_view v es)
     same Host f = f
@@ -511,7 +500,7 @@ merges pass v giver w host para none words views k at apart there =
 
 pub ends : (pass : ℕ) (v : View) → v.role ≡ rejoined → Turns Kept pass v (λ x. x) Ends
 ends pass v role words views k at =
-    let f : FitsIn k rejoined pass v = subst (λ (r : Role). FitsIn k r pass v) role (k.each pass v at) in
+    let f : FitsIn k rejoined pass v = subst (λ r. FitsIn k r pass v) role (k.each pass v at) in
     let lists : merge k.host k.para ≡ merge v.mine v.theirs = λ i. merge (sym f.2 i) (sym f.3 i) in (
       v,
       subst (Kept words) (sym (set_again views pass v at)) k,

@@ -154,6 +154,14 @@ nat_lt-from_true m n e = grind (arith, nat_tests)
 pub nat_lt-from_false : (m n : ℕ) → nat_lt m n ≡ false → n ≤ m
 nat_lt-from_false m n e = grind (arith, nat_tests)
 
+-- by whether one number is below another
+pub by_lt : (m n : ℕ) (P : Bool → Type 0) → (m < n → P true) → (n ≤ m → P false) → P (nat_lt m n)
+by_lt m n P first second =
+    (elim (nat_lt m n) as (λ b. nat_lt m n ≡ b → P b) [
+      | true ↦ λ h. first (nat_lt-from_true m n h)
+      | false ↦ λ h. second (nat_lt-from_false m n h)
+    ]) refl
+
 -- the list with e before its first event at e's tick or later
 abbrev pub placed : Event → List Event → List Event
 placed e xs = put_in e (λ zs. zs) xs
@@ -161,10 +169,9 @@ placed e xs = put_in e (λ zs. zs) xs
 placed-in : (x e : Event) (f g : List Event → List Event) (ys : List Event) → x.tick < e.tick → ((zs : List Event) → g zs ≡ placed e (f zs)) → put_in x g ys ≡ placed e (put_in x f ys)
 placed-in x e f g [] lt same = rw (nat_lt-true x.tick e.tick lt) (ap (λ l. x ∷ l) (same []))
 placed-in x e f g (y ∷ ys) lt same =
-    (elim (nat_lt y.tick x.tick) as (λ b. nat_lt y.tick x.tick ≡ b → cond b (y ∷ put_in x g ys) (x ∷ g (y ∷ ys)) ≡ placed e (cond b (y ∷ put_in x f ys) (x ∷ f (y ∷ ys)))) [
-      | true ↦ λ h. let l = nat_lt-from_true y.tick x.tick h in rw (nat_lt-true y.tick e.tick (omega arith)) (ap (λ l. y ∷ l) (placed-in x e f g ys lt same))
-      | false ↦ λ h. rw (nat_lt-true x.tick e.tick lt) (ap (λ l. x ∷ l) (same (y ∷ ys)))
-    ]) refl
+    by_lt y.tick x.tick (λ b. cond b (y ∷ put_in x g ys) (x ∷ g (y ∷ ys)) ≡ placed e (cond b (y ∷ put_in x f ys) (x ∷ f (y ∷ ys))))
+    (λ first. rw (nat_lt-true y.tick e.tick (omega arith)) (ap (λ l. y ∷ l) (placed-in x e f g ys lt same)))
+    (λ le. rw (nat_lt-true x.tick e.tick lt) (ap (λ l. x ∷ l) (same (y ∷ ys))))
 
 pub joins_placed : (xs ys : List Event) (e : Event) → AllBelow e.tick xs → merge (xs ++ e ∷ []) ys ≡ placed e (merge xs ys)
 joins_placed [] ys e all = refl
@@ -217,9 +224,9 @@ answered_observations c d [] same all para h = tt
 answered_observations c d (x ∷ xs) same all para h =
     let is = All-head IsObservation x xs all in
     let stays : (e : State) → chip_after_event e x ≡ e = λ e. observed_stays e x.side x.query is in (
-      subst (λ (s : Side). (act d s x.query).1 ≡ (act c s x.query).1) (sym (All-head IsPara x xs para)) (same_answer c d x.query same is) ∙ h.0,
-      subst (λ (e : State). IsAnsweredFrom e xs) (sym (stays d))
-          (answered_observations c d xs same (All-tail IsObservation x xs all) (All-tail IsPara x xs para) (subst (λ (e : State). IsAnsweredFrom e xs) (stays c) h.1)),
+      subst (λ s. (act d s x.query).1 ≡ (act c s x.query).1) (sym (All-head IsPara x xs para)) (same_answer c d x.query same is) ∙ h.0,
+      subst (λ e. IsAnsweredFrom e xs) (sym (stays d))
+          (answered_observations c d xs same (All-tail IsObservation x xs all) (All-tail IsPara x xs para) (subst (λ e. IsAnsweredFrom e xs) (stays c) h.1)),
     )
 
 rises_of : (x : Event) (xs : List Event) → RisesAfter x xs → Rises xs
@@ -246,48 +253,41 @@ precedes_below e x lt = let g = gap_one x.side e.side in omega arith
 
 goes_first : (e x : Event) → e.side ≡ Host → e.tick ≤ x.tick → x.side ≡ Para → IsBefore e x
 goes_first e x host le para =
-    let g : gap e.side x.side ≡ 0 = ap (λ (s : Side). gap s x.side) host ∙ ap (gap Host) para ∙ gap_zero in
+    let g : gap e.side x.side ≡ 0 = ap (λ s. gap s x.side) host ∙ ap (gap Host) para ∙ gap_zero in
     before_of e.tick x.tick e.side x.side (omega arith)
 
 rises_after-placed : (z : Event) (xs : List Event) (e : Event) → e.side ≡ Host → RisesAfter z xs → IsBefore z e → All (Behind e.tick) xs → RisesAfter z (placed e xs)
 rises_after-placed z [] e host rises here all = (here, tt)
 rises_after-placed z (x ∷ xs) e host rises here all =
-    (elim (nat_lt x.tick e.tick) as (λ b. nat_lt x.tick e.tick ≡ b → RisesAfter z (cond b (x ∷ placed e xs) (e ∷ x ∷ xs))) [
-      | true ↦ λ h. (rises.0, rises_after-placed x xs e host rises.1 (is_before x e (precedes_below e x (nat_lt-from_true x.tick e.tick h))) (All-tail (Behind e.tick) x xs all))
-      | false ↦ λ h. let le = nat_lt-from_false x.tick e.tick h in (here, (goes_first e x host le (All-head (Behind e.tick) x xs all le), rises.1))
-    ]) refl
+    by_lt x.tick e.tick (λ b. RisesAfter z (cond b (x ∷ placed e xs) (e ∷ x ∷ xs)))
+    (λ lt. (rises.0, rises_after-placed x xs e host rises.1 (is_before x e (precedes_below e x lt)) (All-tail (Behind e.tick) x xs all)))
+    (λ le. (here, (goes_first e x host le (All-head (Behind e.tick) x xs all le), rises.1)))
 
 rises-placed : (xs : List Event) (e : Event) → e.side ≡ Host → Rises xs → All (Behind e.tick) xs → Rises (placed e xs)
 rises-placed [] e host rises all = tt
 rises-placed (x ∷ xs) e host rises all =
-    (elim (nat_lt x.tick e.tick) as (λ b. nat_lt x.tick e.tick ≡ b → Rises (cond b (x ∷ placed e xs) (e ∷ x ∷ xs))) [
-      | true ↦ λ h. rises_after-placed x xs e host rises (is_before x e (precedes_below e x (nat_lt-from_true x.tick e.tick h))) (All-tail (Behind e.tick) x xs all)
-      | false ↦ λ h. let le = nat_lt-from_false x.tick e.tick h in (goes_first e x host le (All-head (Behind e.tick) x xs all le), rises)
-    ]) refl
+    by_lt x.tick e.tick (λ b. Rises (cond b (x ∷ placed e xs) (e ∷ x ∷ xs)))
+    (λ lt. rises_after-placed x xs e host rises (is_before x e (precedes_below e x lt)) (All-tail (Behind e.tick) x xs all))
+    (λ le. (goes_first e x host le (All-head (Behind e.tick) x xs all le), rises))
 
 answered-placed : (c : State) (xs : List Event) (e : Event) → Rises xs → All (Early e.tick) xs → All (Behind e.tick) xs → IsAnsweredFrom c xs → Answers (after_from c xs) e
     → ShowsSame (after_from c xs) (chip_after_event (after_from c xs) e) → IsAnsweredFrom c (placed e xs)
 answered-placed c [] e rises early behind all here same = (here, tt)
 answered-placed c (x ∷ xs) e rises early behind all here same =
-    (elim (nat_lt x.tick e.tick) as (λ b. nat_lt x.tick e.tick ≡ b → IsAnsweredFrom c (cond b (x ∷ placed e xs) (e ∷ x ∷ xs))) [
-      | true ↦ λ h. (all.0, answered-placed (chip_after_event c x) xs e (rises_of x xs rises) (All-tail (Early e.tick) x xs early) (All-tail (Behind e.tick) x xs behind) all.1 here same)
-      | false ↦ λ h.
-          let le = nat_lt-from_false x.tick e.tick h in
-          let seen = observations_from e.tick x xs rises le early in
-          let para : All IsPara (x ∷ xs) = λ i d lt. behind i d lt (late_from e.tick x xs rises le i d lt) in
-          let stays = after_observations c (x ∷ xs) seen in
-          (subst (λ (d : State). Answers d e) stays here, answered_observations c (chip_after_event c e) (x ∷ xs) (subst (λ (d : State). ShowsSame d (chip_after_event d e)) stays same) seen para all)
-    ]) refl
+    by_lt x.tick e.tick (λ b. IsAnsweredFrom c (cond b (x ∷ placed e xs) (e ∷ x ∷ xs)))
+    (λ lt. (all.0, answered-placed (chip_after_event c x) xs e (rises_of x xs rises) (All-tail (Early e.tick) x xs early) (All-tail (Behind e.tick) x xs behind) all.1 here same))
+    (λ le. let seen = observations_from e.tick x xs rises le early in
+    let para : All IsPara (x ∷ xs) = λ i d lt. behind i d lt (late_from e.tick x xs rises le i d lt) in
+    let stays = after_observations c (x ∷ xs) seen in
+    (subst (λ d. Answers d e) stays here, answered_observations c (chip_after_event c e) (x ∷ xs) (subst (λ d. ShowsSame d (chip_after_event d e)) stays same) seen para all))
 
 after-placed : (c : State) (xs : List Event) (e : Event) → Rises xs → All (Early e.tick) xs → after_from c (placed e xs) ≡ chip_after_event (after_from c xs) e
 after-placed c [] e rises early = refl
 after-placed c (x ∷ xs) e rises early =
-    (elim (nat_lt x.tick e.tick) as (λ b. nat_lt x.tick e.tick ≡ b → after_from c (cond b (x ∷ placed e xs) (e ∷ x ∷ xs)) ≡ chip_after_event (after_from (chip_after_event c x) xs) e) [
-      | true ↦ λ h. after-placed (chip_after_event c x) xs e (rises_of x xs rises) (All-tail (Early e.tick) x xs early)
-      | false ↦ λ h.
-          let seen = observations_from e.tick x xs rises (nat_lt-from_false x.tick e.tick h) early in
-          after_observations (chip_after_event c e) (x ∷ xs) seen ∙ sym (ap (λ (d : State). chip_after_event d e) (after_observations c (x ∷ xs) seen))
-    ]) refl
+    by_lt x.tick e.tick (λ b. after_from c (cond b (x ∷ placed e xs) (e ∷ x ∷ xs)) ≡ chip_after_event (after_from (chip_after_event c x) xs) e)
+    (λ lt. after-placed (chip_after_event c x) xs e (rises_of x xs rises) (All-tail (Early e.tick) x xs early))
+    (λ le. let seen = observations_from e.tick x xs rises le early in
+    after_observations (chip_after_event c e) (x ∷ xs) seen ∙ sym (ap (λ d. chip_after_event d e) (after_observations c (x ∷ xs) seen)))
 
 -- The host's event joins its list after all of it, and after all of the parasite's that may change the chip. Where it shows the parasite the same as before,
 -- observations of the parasite may lie behind it.
@@ -318,10 +318,9 @@ All-below P t (x ∷ xs) all = elim (nat_lt x.tick t) as (λ b. All P (cond b (x
 pub below_lies : (t : ℕ) (xs : List Event) → AllBelow t (below t xs)
 below_lies t [] = low_nil
 below_lies t (x ∷ xs) =
-    (elim (nat_lt x.tick t) as (λ b. nat_lt x.tick t ≡ b → AllBelow t (cond b (x ∷ below t xs) [])) [
-      | true ↦ λ h. low_cons x (below t xs) (nat_lt-from_true x.tick t h) (below_lies t xs)
-      | false ↦ λ h. low_nil
-    ]) refl
+    by_lt x.tick t (λ b. AllBelow t (cond b (x ∷ below t xs) []))
+    (λ lt. low_cons x (below t xs) lt (below_lies t xs))
+    (λ le. low_nil)
 
 pub below_append : (t : ℕ) (xs ys : List Event) → AllBelow t xs → below t (xs ++ ys) ≡ xs ++ below t ys
 below_append t [] ys all = refl
@@ -372,10 +371,9 @@ answered-below t c (x ∷ xs) h = elim (nat_lt x.tick t) as (λ b. IsAnsweredFro
 after-below : (t : ℕ) (c : State) (xs : List Event) → Rises xs → All (Early t) xs → after_from c (below t xs) ≡ after_from c xs
 after-below t c [] rises early = refl
 after-below t c (x ∷ xs) rises early =
-    (elim (nat_lt x.tick t) as (λ b. nat_lt x.tick t ≡ b → after_from c (cond b (x ∷ below t xs) []) ≡ after_from (chip_after_event c x) xs) [
-      | true ↦ λ h. after-below t (chip_after_event c x) xs (rises_of x xs rises) (All-tail (Early t) x xs early)
-      | false ↦ λ h. sym (after_observations c (x ∷ xs) (observations_from t x xs rises (nat_lt-from_false x.tick t h) early))
-    ]) refl
+    by_lt x.tick t (λ b. after_from c (cond b (x ∷ below t xs) []) ≡ after_from (chip_after_event c x) xs)
+    (λ lt. after-below t (chip_after_event c x) xs (rises_of x xs rises) (All-tail (Early t) x xs early))
+    (λ le. sym (after_observations c (x ∷ xs) (observations_from t x xs rises le early)))
 
 -- The host's event joins its list, and the parasite's list is cut at its tick: what goes is observations alone.
 pub legal_cut : (xs ys : List Event) (e : Event) → AllBelow e.tick xs → All (Early e.tick) ys → IsLegal (merge xs ys) → Answers (after (merge xs ys)) e
@@ -388,6 +386,6 @@ legal_cut xs ys e low early legal here =
     let same : after (below t all) ≡ after all = after-below t power_on all legal.rises early' in
     let precede = All-weaker (λ x. x.tick < t) (Precedes e) (precedes_below e) (below t all) (below_lies t all) in
     let short : IsLegal (below t all) = record { rises = rises-below t all legal.rises; answered = answered-below t power_on all legal.answered } in (
-      subst IsLegal (sym joined) (legal-on e short precede (subst (λ (d : State). Answers d e) (sym same) here)),
-      ap after joined ∙ after-on power_on (below t all) e ∙ ap (λ (d : State). chip_after_event d e) same,
+      subst IsLegal (sym joined) (legal-on e short precede (subst (λ d. Answers d e) (sym same) here)),
+      ap after joined ∙ after-on power_on (below t all) e ∙ ap (λ d. chip_after_event d e) same,
     )

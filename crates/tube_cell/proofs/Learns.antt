@@ -1,6 +1,5 @@
 -- What a load, or an exchange that failed, leaves of a pass.
-use Rattle.std.proofs.Common.{◌≡◌, ◌≢◌, ℕ, ◌+◌, ◌<◌, ◌≤◌, min, Bool, true, false, cond, List, [], ◌∷◌, ◌++◌, All, refl, sym, ap, ◌∙◌, subst, ⊎_elim, arith, nat_le, append-nil}
-use Rattle.std.proofs.lemmas.List.Elements.{All-nil, All-weaker}
+use Rattle.std.proofs.Common.{◌≡◌, ◌≢◌, ℕ, ◌+◌, ◌<◌, ◌≤◌, min, Bool, true, false, cond, List, [], ◌∷◌, ◌++◌, refl, sym, ap, ◌∙◌, subst, inl, inr, arith, nat_le, append-nil}
 use Rattle.std.proofs.lemmas.Bool.Decides.{nat_tests}
 use Rattle.atomic_table.specs.Seated.{TableId}
 use Rattle.beeb_bits.specs.declared.Side.{Side}
@@ -8,7 +7,7 @@ use Rattle.beeb_bits.specs.declared.Side.TheVariants.{Host, Para}
 use Rattle.tube_chip.specs.State.{State}
 use Rattle.tube_chip.specs.Events.{Event}
 use Rattle.tube_chip.specs.Packing.{IsChip}
-use Rattle.tube_cell.specs.Views.{AllBelow, Known, words_of, Role, one_side, View, word_of_other, own_bound, other_bound, bound_at, Admits, horizon, past_last}
+use Rattle.tube_cell.specs.Views.{AllBelow, Known, words_of, one_side, View, word_of_other, own_bound, other_bound, bound_at, Admits, horizon, past_last}
 use Rattle.tube_cell.specs.Views.{below, chip_after_event, same_readings, trust_past, trust_after}
 use Rattle.tube_cell.specs.Rules.{Trusts, GoesOn, rise, firm, pending_events, Found}
 use Rattle.tube_cell.specs.Passes.{Carried, carried_of, Learns, own_horizon, here}
@@ -28,7 +27,7 @@ abbrev pub RunsOn : Side → Known → List Event → List Event → State → T
 RunsOn s k mine es here = Runs s (word_of_other s k) k.trust (horizon (own_bound s k) mine) k.chip es here (horizon (own_bound s k) (mine ++ es))
 
 pub bare_local : {s : Side} {words : List ℕ} {here : State} {v : View} → IsPassOf s words here v → v.ahead ≡ [] → here ≡ v.known.chip
-bare_local {s} {here} {v} is none = (subst (λ (es : List Event). Runs s (word_of_other s v.known) v.known.trust
+bare_local {s} {here} {v} is none = (subst (λ es. Runs s (word_of_other s v.known) v.known.trust
     (horizon (own_bound s v.known) v.mine) v.known.chip es here (horizon (own_bound s v.known) (v.mine ++ v.ahead))) none is.runs).0
 
 pub pass_fresh : (s : Side) {words : List ℕ} {here : State} (v : View) → v.role ≡ one_side s → IsChip v.known.chip → words ≡ words_of v.known
@@ -39,7 +38,7 @@ pass_fresh s {here} v role well words_are trusted none same = record {
   words_are = words_are;
   trusted = trusted;
   not_both = λ some. absurd (some none);
-  runs = subst (λ (es : List Event). Runs s (word_of_other s v.known) v.known.trust (horizon (own_bound s v.known) v.mine) v.known.chip es here
+  runs = subst (λ es. Runs s (word_of_other s v.known) v.known.trust (horizon (own_bound s v.known) v.mine) v.known.chip es here
       (horizon (own_bound s v.known) (v.mine ++ v.ahead))) (sym none)
       (same, let e = bare_horizon s v none in omega arith);
 }
@@ -70,14 +69,14 @@ host_more t u a b from c [] last end h le more = h
 host_more t u a b from c (e ∷ es) last end h le more = (
   h.0,
   h.1,
-  (let x = h.2 in omega arith),
+  (omega arith),
   h.3,
   host_more t u (trust_past Host c e a) (trust_past Host c e b) (e.tick + 1) (chip_after_event c e) es last end h.4 le (past_more (same_readings c (chip_after_event c e)) a b e.tick more),
 )
 
 para_more : (t u a b from : ℕ) (c : State) (es : List Event) (last : State) (end : ℕ) → Runs Para t a from c es last end → t ≤ u → Runs Para u b from c es last end
 para_more t u a b from c [] last end h le = h
-para_more t u a b from c (e ∷ es) last end h le = (h.0, h.1, (let x = h.2 in omega arith), h.3, para_more t u a b (e.tick + 1) (chip_after_event c e) es last end h.4 le)
+para_more t u a b from c (e ∷ es) last end h le = (h.0, h.1, (omega arith), h.3, para_more t u a b (e.tick + 1) (chip_after_event c e) es last end h.4 le)
 
 runs_on : (s : Side) (v k : Known) (from : ℕ) (c : State) (es : List Event) (last : State) (end : ℕ) → GoesOn (one_side s) v k
     → Runs s (word_of_other s v) v.trust from c es last end → Runs s (word_of_other s k) k.trust from c es last end
@@ -87,18 +86,16 @@ runs_on Para v k from c es last end on h = para_more _ k.host _ k.trust _ c _ _ 
 -- where there are unpublished events, the known bound admits the own
 runs_admit : (s : Side) (m t a : ℕ) (mine : List Event) (c : State) (es : List Event) (last : State) (end : ℕ) → Runs s t a (horizon m mine) c es last end → es ≢ [] → Admits s (bound_at s t a) m
 runs_admit s m t a mine c [] last end h some = absurd (some refl)
-runs_admit s m t a mine c (e ∷ es) last end h some = let f = h.1 in let x = h.2 in omega arith
+runs_admit s m t a mine c (e ∷ es) last end h some = omega arith
 
 -- and it stays as it is
 bound_stays : (s : Side) (v k : Known) (t : ℕ) → GoesOn (one_side s) v k → own_bound s v ≤ t → Admits s (other_bound s v) t → own_bound s k ≡ own_bound s v
 bound_stays Host v k t on le a = on.0
-bound_stays Para v k t on le a =
-    let o = on.0 in
-    ⊎_elim (λ (e : k.trust ≡ v.trust). omega arith) (λ (e : (v.host ≤ k.trust) × (k.trust < v.trust) × (k.trust < k.host)). let x = e.0 in let y = e.1 in absurd (omega arith)) on.2
+bound_stays Para v k t on le a = let o = on.0 in let trust = on.2 in omega arith
 
 pub bound_falls : (s : Side) (v k : Known) → GoesOn (one_side s) v k → own_bound s k ≤ own_bound s v
 bound_falls Host v k on = let o = on.0 in omega arith
-bound_falls Para v k on = let o = on.0 in let t = trusts_fall v k on.2 in omega arith
+bound_falls Para v k on = let t = trusts_fall v k on.2 in omega arith
 
 -- what stays on trust lies below it
 pending_low : (s : Side) (v k : Known) (trusted : List Event) → Trusts s v k → AllBelow v.trust trusted → AllBelow k.trust (pending_events k trusted)
@@ -114,11 +111,11 @@ pending_low s v k (x ∷ xs) t low =
 
     rises : (s : Side) (v k : Known) → Trusts s v k → k.host < k.trust → v.trust ≤ k.trust
     rises Host v k t lt = t
-    rises Para v k t lt = ⊎_elim (λ (e : k.trust ≡ v.trust). omega arith) (λ (e : (v.host ≤ k.trust) × (k.trust < v.trust) × (k.trust < k.host)). let x = e.2 in absurd (omega arith)) t
+    rises Para v k t lt = omega arith
 
 -- those that stay for good lie below the bound that was known
 firm_bound : (s : Side) (v k : Known) (trusted : List Event) → GoesOn (one_side s) v k → AllBelow v.trust trusted → AllBelow (own_bound s v) (firm k trusted)
-firm_bound Host v k trusted on low = let o = on.0 in lower (firm k trusted) (firm_low k trusted) (omega arith)
+firm_bound Host v k trusted on low = lower (firm k trusted) (firm_low k trusted) (omega arith)
 firm_bound Para v k trusted on low = lower (firm k trusted) (go trusted low) (omega arith)
   where
     go : (xs : List Event) → AllBelow v.trust xs → AllBelow v.trust (firm k xs)
@@ -144,26 +141,33 @@ horizon_falls s v k mine trusted (e ∷ es) on low bare =
     let d = bound_falls s v k on in
     omega arith
 
+-- the local chip, where it was the known one, and where the chip found is
+pub local_is : {known old found new : State} → old ≡ known → Local known old found new → new ≡ found
+local_is was (inl t) = t.1 ∙ was ∙ sym t.0
+local_is was (inr t) = t.1
+
+local_kept : {known old found new : State} → found ≡ known → Local known old found new → new ≡ old
+local_kept same (inl t) = t.1
+local_kept same (inr t) = absurd (t.0 same)
+
 found_runs : (s : Side) (v k : Known) (mine trusted es : List Event) (old new : State) → GoesOn (one_side s) v k → Local v.chip old k.chip new → (es ≢ [] → trusted ≡ []) → RunsOn s v mine es old
     → RunsOn s k (mine ++ firm k trusted) es new
 found_runs s v k mine trusted [] old new on local bare h =
     let e = ap past_last (append-nil (mine ++ firm k trusted)) in (
-      ⊎_elim (λ (t : (k.chip ≡ v.chip) × (new ≡ old)). t.1 ∙ h.0 ∙ sym t.0) (λ (t : (k.chip ≢ v.chip) × (new ≡ k.chip)). t.1) local,
+      local_is h.0 local,
       (omega arith),
     )
 found_runs s v k mine trusted (e ∷ es) old new on local bare h =
-    let f = h.1 in
-    let x = h.2 in
     let mine_is = bare_firm k mine (bare (λ same. absurd (cc))) in
     let bound = bound_stays s v k e.tick on (omega arith) h.2 in
     let chip = on.3 (omega arith) in
-    let kept : new ≡ old = ⊎_elim (λ (t : (k.chip ≡ v.chip) × (new ≡ old)). t.1) (λ (t : (k.chip ≢ v.chip) × (new ≡ k.chip)). absurd (t.0 (sym chip))) local in
+    let kept = local_kept (sym chip) local in
     subst (λ (y : ℕ × List Event). Runs s (word_of_other s k) k.trust (horizon y.0 y.1) k.chip (e ∷ es) new (horizon y.0 (y.1 ++ e ∷ es))) (λ i. (sym bound i, sym mine_is i))
     (subst (λ (y : State × State). Runs s (word_of_other s k) k.trust (horizon (own_bound s v) mine) y.0 (e ∷ es) y.1 (horizon (own_bound s v) (mine ++ e ∷ es))) (λ i. (chip i, sym kept i))
     (runs_on s v k (horizon (own_bound s v) mine) v.chip (e ∷ es) old (horizon (own_bound s v) (mine ++ e ∷ es)) on h))
 
 pub on_of : (s : Side) (v : View) (k : Known) → v.role ≡ one_side s → GoesOn v.role v.known k → GoesOn (one_side s) v.known k
-on_of s v k role on = subst (λ (r : Role). GoesOn r v.known k) role on
+on_of s v k role on = subst (λ r. GoesOn r v.known k) role on
 
 pass_found : {s : Side} {words found : List ℕ} {old : State} (new : State) {v w : View} → IsPassOf s words old v → Found found v w → Local v.known.chip old w.known.chip new → IsPassOf s found new w
 pass_found {s} new {v} {w} is f local =
@@ -175,7 +179,7 @@ pass_found {s} new {v} {w} is f local =
       well = f.well;
       words_are = f.words_are;
       trusted = subst (AllBelow k.trust) (sym (ap (λ u. u.trusted) w_is)) (pending_low s v.known k v.trusted on.2 is.trusted);
-      not_both = λ some. ap (λ u. u.trusted) w_is ∙ ap (pending_events k) (is.not_both (subst (λ (l : List Event). l ≢ []) (ap (λ u. u.ahead) w_is) some));
+      not_both = λ some. ap (λ u. u.trusted) w_is ∙ ap (pending_events k) (is.not_both (subst (λ l. l ≢ []) (ap (λ u. u.ahead) w_is) some));
       runs = subst (λ (y : List Event × List Event). RunsOn s k y.0 y.1 new) (λ i. ((sym w_is i).mine, (sym w_is i).ahead))
           (found_runs s _ k v.mine v.trusted _ _ new on local is.not_both is.runs);
     }
@@ -207,7 +211,7 @@ learns_of {p} {q} rest low on falls chip = record {
   taken = λ lt. let f = firm_past k p.trusted (passed p.side on.2 lt) in (events_are ∙ ap (λ l. p.events ++ l) f.0, trusted_are ∙ f.1);
   settled = λ same le.
       let f = firm_past k p.trusted le in
-      let all = below_same k.trust p.trusted (subst (λ (t : ℕ). AllBelow t p.trusted) (sym same) low) in
+      let all = below_same k.trust p.trusted (subst (λ t. AllBelow t p.trusted) (sym same) low) in
       (events_are ∙ ap (λ l. p.events ++ l) (f.0 ∙ all), trusted_are ∙ f.1);
   stays = λ lt. let f = firm_ahead k p.trusted lt in (events_are ∙ ap (λ l. p.events ++ l) f.0 ∙ append-nil p.events, trusted_are ∙ f.1);
   plain = λ none. rest ∙ (λ i. record p {
@@ -234,8 +238,7 @@ learns_of {p} {q} rest low on falls chip = record {
 
     passed : (s : Side) → Trusts s p.known q.known → q.known.trust < p.known.trust → q.known.trust ≤ q.known.host
     passed Host t lt = absurd (omega arith)
-    passed Para t lt = ⊎_elim (λ (e : q.known.trust ≡ p.known.trust). absurd (omega arith))
-        (λ (e : (p.known.host ≤ q.known.trust) × (q.known.trust < p.known.trust) × (q.known.trust < q.known.host)). let x = e.2 in omega arith) t
+    passed Para t lt = omega arith
 
 pub learned : {id id' : TableId} {s : Side} {words found : List ℕ} {old : State} {p : Carried} {v w : View} → carried_of id s v ≡ p
     → IsPassOf s words old v → id' ≡ id → Found found v w → Learns p (carried_of id' s w)
@@ -245,8 +248,8 @@ learned {id} {id'} {s} {v} {w} view is cell f =
     let w_is = f.view_is in
     let falls = horizon_falls s _ k v.mine v.trusted v.ahead on is.trusted is.not_both in
     let now : horizon (own_bound s k) (w.mine ++ w.ahead) ≡ horizon (own_bound s k) ((v.mine ++ firm k v.trusted) ++ v.ahead) = λ i. horizon (own_bound s k) ((w_is i).mine ++ (w_is i).ahead) in
-    let rest = (λ i. carried_of (cell i) s (w_is i)) ∙ ap (λ (r : Role). finding (carried_of id s v) k (v.higher + rise r v.known k)) is.role in
-    subst (λ (q : Carried). Learns q (carried_of id' s w)) view (learns_of rest is.trusted on (omega arith)
+    let rest = (λ i. carried_of (cell i) s (w_is i)) ∙ ap (λ r. finding (carried_of id s v) k (v.higher + rise r v.known k)) is.role in
+    subst (λ q. Learns q (carried_of id' s w)) view (learns_of rest is.trusted on (omega arith)
     (λ some. sym (on.3 (runs_admit s (own_bound s v.known) _ _ v.mine _ v.ahead _ _ is.runs some))))
 
 -- ---- the tick at which the trust is cut
@@ -261,7 +264,7 @@ cut_fresh s v none a lt = ap (λ l. trust_after s v.known.chip a l) none ∙ (om
 -- where events are unpublished, the words found have the same chip
 cut_found : {s : Side} {words found : List ℕ} {old : State} (cut : ℕ) {v w : View} → IsPassOf s words old v → CutIs s cut v → Found found v w → CutIs s cut w
 cut_found {s} {old} cut {v} {w} is cuts f a lt =
-    ap (λ (l : List Event). trust_after s w.known.chip a l) (ap (λ u. u.ahead) f.view_is) ∙ go v.ahead is.runs (cuts a lt)
+    ap (λ l. trust_after s w.known.chip a l) (ap (λ u. u.ahead) f.view_is) ∙ go v.ahead is.runs (cuts a lt)
   where
     on : GoesOn (one_side s) v.known w.known
     on = on_of s v _ is.role f.goes_on
@@ -270,14 +273,13 @@ cut_found {s} {old} cut {v} {w} is cuts f a lt =
         → trust_after s v.known.chip a es ≡ min a cut → trust_after s w.known.chip a es ≡ min a cut
     go [] runs e = e
     go (x ∷ xs) runs e =
-        let admits = runs_admit s (own_bound s v.known) _ _ v.mine _ (x ∷ xs) _
-        _ runs (λ no. absurd (cc)) in
-        ap (λ (c : State). trust_after s c a (x ∷ xs)) (sym (on.3 admits)) ∙ e
+        let admits = runs_admit s (own_bound s v.known) _ _ v.mine _ (x ∷ xs) _ _ runs (λ no. absurd (cc)) in
+        ap (λ c. trust_after s c a (x ∷ xs)) (sym (on.3 admits)) ∙ e
 
 -- a pass once the words found are settled
 pub pass_settled : {s : Side} {words found next : List ℕ} {old new : State} (cut : ℕ) {v w : View} → IsPassOf s words old v → CutIs s cut v → Found found v w
     → LocalAfter words old found new → next ≡ found → IsPassOf s next new w × CutIs s cut w
 pass_settled {s} {new = new} cut {v = v} {w = w} is cuts f local next_is = (
-  subst (λ (words : List ℕ). IsPassOf s words new w) (sym next_is) (pass_found new is f (local v.known w.known is.well f.well is.words_are f.words_are)),
+  subst (λ words. IsPassOf s words new w) (sym next_is) (pass_found new is f (local v.known w.known is.well f.well is.words_are f.words_are)),
   cut_found cut is cuts f,
 )

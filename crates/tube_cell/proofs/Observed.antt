@@ -77,7 +77,7 @@ four_from : (c d : State) → status Para 1 c ≡ status Para 1 d → status Par
 four_from c d first second third last k = go (nat_eq k 1) (nat_eq k 2) (nat_eq k 3) refl refl refl
   where
     at : (n : ℕ) → nat_eq k n ≡ true → status Para n c ≡ status Para n d → status Para k d ≡ status Para k c
-    at n e same = subst (λ (j : ℕ). status Para j d ≡ status Para j c) (sym (eq_from k n e)) (sym same)
+    at n e same = subst (λ j. status Para j d ≡ status Para j c) (sym (eq_from k n e)) (sym same)
 
     go : (x y z : Bool) → nat_eq k 1 ≡ x → nat_eq k 2 ≡ y → nat_eq k 3 ≡ z → status Para k d ≡ status Para k c
     go true y z one two three = at 1 one first
@@ -115,7 +115,7 @@ readings_same c =
 
 -- where the chip stays, so does the trust
 pub trust_stays : (s : Side) {c d : State} (t a : ℕ) → d ≡ c → trust_next s c d t a ≡ a
-trust_stays Host {c} t a same = ap (λ (x : State). trust_next Host c x t a) same ∙ ap (λ b. cond b a (min a t)) (readings_same c)
+trust_stays Host {c} t a same = ap (λ x. trust_next Host c x t a) same ∙ ap (λ b. cond b a (min a t)) (readings_same c)
 trust_stays Para t a same = refl
 
 -- where the trust lies no later than the tick, it stays too

@@ -1,5 +1,5 @@
 -- What publish, and publish_and_entrust, owe and tell.
-use Rattle.std.proofs.Common.{◌≡◌, ℕ, ◌<◌, ◌≤◌, ◌^◌, min, max, if◌then◌else◌, List, [], ◌++◌, refl, sym, ap, ◌∙◌, subst, arith, nat_eq, append-nil}
+use Rattle.std.proofs.Common.{◌≡◌, ℕ, ◌<◌, ◌≤◌, ◌^◌, min, if◌then◌else◌, List, [], ◌++◌, refl, sym, ap, ◌∙◌, subst, arith, nat_eq, append-nil}
 use lib.Pointwise.{pointwise}
 use Rattle.std.proofs.lemmas.List.Elements.{All-append}
 use Rattle.atomic_table.specs.Seated.{TableId}
@@ -24,7 +24,7 @@ use Rattle.tube_cell.proofs.Raises.{horizon_entrusted}
 pub may_publish : {id : TableId} {s : Side} {words : List ℕ} {old : State} {p : Carried} {v : View} (h : ℕ) → carried_of id s v ≡ p
     → IsPassOf s words old v → p.trusted ≡ [] → own_horizon p ≤ h → MayPublish s v.ahead old h v
 may_publish {id} {s} {v} h view is trusted later =
-    let later' : own_horizon (carried_of id s v) ≤ h = subst (λ (q : Carried). own_horizon q ≤ h) (sym view) later in
+    let later' : own_horizon (carried_of id s v) ≤ h = subst (λ q. own_horizon q ≤ h) (sym view) later in
     record {
       role = is.role;
       none_trusted = none_of v view trusted;
@@ -38,17 +38,10 @@ publish_trust s v cut cuts known_is small is = is ∙ ap (λ n. min n cut) known
 pub is_published : {id id' : TableId} {s : Side} {words : List ℕ} {old : State} {p : Carried} {v w : View} (h : ℕ) {trust : ℕ} → carried_of id s v ≡ p
     → IsPassOf s words old v → id' ≡ id → trust ≡ trust_after s v.known.chip v.known.trust v.ahead
     → w ≡ published_view v v.ahead (known_with s old h (word_of_other s v.known) trust) → carried_of id' s w ≡ after_publish p h
-is_published {s} {v} h view is cell trust_is w_is =
-    (λ i. record {
-      cell = cell i;
-      side = s;
-      events = (w_is i).mine;
-      trusted = (w_is i).trusted;
-      ahead = (w_is i).ahead;
-      known = (ap (λ u. u.known) w_is ∙ (λ j. known_with s (local_of is j) h (word_of_other s v.known) (trust_is j))) i;
-      commits = (w_is i).commits;
-      higher = (w_is i).higher;
-    }) ∙ ap (λ (q : Carried). after_publish q h) view
+is_published {id} {s} {v} h view is cell trust_is w_is =
+    (λ i. carried_of (cell i) s (w_is i))
+    ∙ (λ i. carried_of id s (published_view v v.ahead (known_with s (local_of is i) h (word_of_other s v.known) (trust_is i))))
+    ∙ ap (λ q. after_publish q h) view
 
 -- ---- publish_and_entrust
 
@@ -65,9 +58,9 @@ pub may_both : {id : TableId} {s : Side} {words : List ℕ} {old : State} {p : C
 may_both {s} {old} {v} seen h t view is side trusted later order watches =
     let s_is : s ≡ Para = ap (λ q. q.side) view ∙ side in
     record {
-      publish = subst (λ (r : Side). MayPublish r v.ahead old h v) s_is (may_publish h view is trusted later);
+      publish = subst (λ r. MayPublish r v.ahead old h v) s_is (may_publish h view is trusted later);
       order = order;
-      watches = subst (λ (c : State). Watches Para h c seen t) (sym (here_of view is)) watches;
+      watches = subst (λ c. Watches Para h c seen t) (sym (here_of view is)) watches;
     }
 
 pub pass_both : {id : TableId} {s : Side} {words next : List ℕ} {old : State} {p : Carried} {v w : View} (seen : List Event) (h t : ℕ)
@@ -79,28 +72,19 @@ pass_both {s} {old} {v} {w} seen h t view is trusted well watches w_is words_are
     let chip : w.known.chip ≡ old = ap (λ x. x.chip) k in
     let low : AllBelow t (v.trusted ++ seen) = All-append (λ e. e.tick < t) v.trusted seen (none_low t (none_of v view trusted)) (watches_low _ h _ _ t watches) in
     pass_fresh s w (ap (λ u. u.role) w_is ∙ is.role) (subst IsChip (sym chip) well) (words_are ∙ ap words_of (sym k))
-    (subst (λ (u : View). AllBelow u.known.trust u.trusted) (sym w_is) low) (ap (λ u. u.ahead) w_is) (sym chip)
+    (subst (λ u. AllBelow u.known.trust u.trusted) (sym w_is) low) (ap (λ u. u.ahead) w_is) (sym chip)
 
 retrusted : {s : Side} (k : Known) (c : State) (h a t : ℕ) → s ≡ Para → known_with Para c h (word_of_other Para k) t ≡ record (known_with s c h (word_of_other s k) a) { trust = t }
-retrusted k c h a t is = subst (λ (r : Side). known_with Para c h (word_of_other Para k) t ≡ record (known_with r c h (word_of_other r k) a) { trust = t }) (sym is) refl
+retrusted k c h a t is = subst (λ r. known_with Para c h (word_of_other Para k) t ≡ record (known_with r c h (word_of_other r k) a) { trust = t }) (sym is) refl
 
 pub is_both : {id id' : TableId} {s : Side} {words : List ℕ} {old : State} {p : Carried} {v w : View} (seen : List Event) (h t : ℕ)
     → carried_of id s v ≡ p → IsPassOf s words old v → p.side ≡ Para → id' ≡ id
     → w ≡ told_view v v.ahead seen (known_with Para old h (word_of_other Para v.known) t) → carried_of id' s w ≡ after_entrust (after_publish p h) seen t
-is_both {s} {v} seen h t view is side cell w_is =
+is_both {id} {s} {v} seen h t view is side cell w_is =
     let s_is : s ≡ Para = ap (λ q. q.side) view ∙ side in
-    let local = local_of is in
-    (λ i. record {
-      cell = cell i;
-      side = s;
-      events = (w_is i).mine;
-      trusted = (w_is i).trusted;
-      ahead = (w_is i).ahead;
-      known = (ap (λ u. u.known) w_is ∙ (λ j. known_with Para (local j) h (word_of_other Para v.known) t)
-          ∙ retrusted v.known (after_from v.known.chip v.ahead) h (trust_after s v.known.chip v.known.trust v.ahead) t s_is) i;
-      commits = (w_is i).commits;
-      higher = (w_is i).higher;
-    }) ∙ ap (λ (q : Carried). after_entrust (after_publish q h) seen t) view
+    let known = (λ j. known_with Para (local_of is j) h (word_of_other Para v.known) t)
+    ∙ retrusted v.known (after_from v.known.chip v.ahead) h (trust_after s v.known.chip v.known.trust v.ahead) t s_is in
+    (λ i. carried_of (cell i) s (w_is i)) ∙ ap (λ k. carried_of id s (told_view v v.ahead seen k)) known ∙ ap (λ q. after_entrust (after_publish q h) seen t) view
 
 -- the own bound with this word, no earlier than it was
 published_bound : (s : Side) (k : Known) (c : State) (h : ℕ) (es : List Event) → own_bound s k ≤ h → own_bound s (known_with s c h (word_of_other s k) (trust_after s k.chip k.trust es)) ≡ h

@@ -1,7 +1,7 @@
 -- What raise, commit, entrust and look owe and tell, over plain variables.
-use Rattle.std.proofs.Common.{◌≡◌, ◌≢◌, ℕ, ◌+◌, ◌<◌, ◌≤◌, max, Bool, true, false, MatchBool, if◌then◌else◌, List, [], ◌∷◌, ◌++◌, All, refl, sym, ap, ◌∙◌, subst, ⊎_elim, arith, nat_eq, append-nil}
+use Rattle.std.proofs.Common.{◌≡◌, ℕ, ◌+◌, ◌<◌, ◌≤◌, max, Bool, true, false, MatchBool, if◌then◌else◌, List, [], ◌∷◌, ◌++◌, refl, sym, ap, ◌∙◌, subst, arith, nat_eq, append-nil}
 use lib.Pointwise.{pointwise}
-use Rattle.std.proofs.lemmas.List.Elements.{All-append, All-weaker}
+use Rattle.std.proofs.lemmas.List.Elements.{All-append}
 use Rattle.atomic_table.specs.Seated.{TableId}
 use Rattle.crossbeam_utils.specs.Register.{Turns}
 use Rattle.beeb_bits.specs.declared.Side.{Side}
@@ -12,14 +12,14 @@ use Rattle.tube_chip.specs.State.{State, lines_of}
 use Rattle.tube_chip.specs.Act.{chip_after}
 use Rattle.tube_chip.specs.Events.{Event}
 use Rattle.tube_chip.specs.Packing.{IsChip, PackingIsOneToOne}
-use Rattle.tube_cell.specs.Views.{AllBelow, Known, words_of, Role, one_side, View, word_of_other, own_bound, other_bound, known_with, Admits, admits, horizon, past_last, trust_next, trust_after}
+use Rattle.tube_cell.specs.Views.{AllBelow, Known, words_of, one_side, View, word_of_other, own_bound, other_bound, known_with, Admits, admits, horizon, past_last, trust_next, trust_after}
 use Rattle.tube_cell.specs.Rules.{Kept, rise, pending_events, found_view, published_view, entrusted_view, Publishes, Entrusts, Looks, looked_view}
-use Rattle.tube_cell.specs.Passes.{Carried, carried_of, Learns, own_horizon, after_raise, after_commit, after_look, after_entrust, access_at, lines_at, here}
+use Rattle.tube_cell.specs.Passes.{Carried, carried_of, Learns, own_horizon, after_raise, after_commit, after_look, after_entrust, access_at, lines_at}
 use Rattle.tube_cell.specs.Steps.{Watches, MayPublish, MayLook, MayEntrust, LookedAt, IsPassOf, CutIs, Local}
 use Rattle.tube_cell.proofs.Law.{past_last-on}
 use Rattle.tube_cell.proofs.Grows.{trusting, watches_low}
 use Rattle.tube_cell.proofs.Keeps.{publishes, entrusts, looks}
-use Rattle.tube_cell.proofs.Learns.{cut_kept, bare_horizon, bare_local, pass_fresh, none_low, bare_of, none_of, later_of, bound_falls, bare_firm, on_of, finding, learns_of}
+use Rattle.tube_cell.proofs.Learns.{local_is, cut_kept, bare_horizon, bare_local, pass_fresh, none_low, bare_of, none_of, later_of, bound_falls, bare_firm, on_of, finding, learns_of}
 use Rattle.tube_cell.proofs.Law.{lower}
 
 -- ---- steps
@@ -41,7 +41,7 @@ entrusts_as one pass {v} {es} {next} may next_is old_is new_is =
     subst (λ (y : List ℕ × List ℕ). P y.0 y.1) (λ i. (sym old_is i, sym new_is i)) (entrusts one pass may next_is)
 
 pub looks_as : {s : Side} (pass : ℕ) {v : View} {t tick : ℕ} → MayLook s t v → t ≡ tick → Turns Kept pass v (λ x. x) (Looks tick)
-looks_as pass {v} may is = subst (λ (n : ℕ). Turns Kept pass v (λ x. x) (Looks n)) is (looks pass may)
+looks_as pass {v} may is = subst (λ n. Turns Kept pass v (λ x. x) (Looks n)) is (looks pass may)
 
 -- ---- raise and commit
 
@@ -66,7 +66,7 @@ pub may_commit : {id : TableId} {s : Side} {words : List ℕ} {here next : State
     → Admits p.side (other_bound p.side p.known) t → next ≡ chip_after here s op → MayPublish s (access_at t s op v.known.chip ∷ []) next (t + 1) v
 may_commit {s} {v} t op view is none trusted later admitted next_is =
     let local = bare_local is (bare_of v view none) in
-    let admitted' : Admits s (other_bound s v.known) t = subst (λ (q : Carried). Admits q.side (other_bound q.side q.known) t) (sym view) admitted in
+    let admitted' : Admits s (other_bound s v.known) t = subst (λ q. Admits q.side (other_bound q.side q.known) t) (sym view) admitted in
     record {
       role = is.role;
       none_trusted = none_of v view trusted;
@@ -103,19 +103,17 @@ pass_raised {s = s} {v = v} {w = w} cut end trust es view is cuts none trusted w
 pub is_raised : {id id' : TableId} {s : Side} {words : List ℕ} {here : State} {p : Carried} {v w : View} (t : ℕ) {trust : ℕ} → carried_of id s v ≡ p
     → IsPassOf s words here v → p.ahead ≡ [] → id' ≡ id → trust ≡ v.known.trust
     → w ≡ published_view v [] (known_with s here t (word_of_other s v.known) trust) → carried_of id' s w ≡ after_raise p t
-is_raised {s} {v} t view is none cell trust_is w_is =
+is_raised {id} {s} {v} t view is none cell trust_is w_is =
     let bare = bare_of v view none in
     let local = bare_local is bare in
-    (λ i. record {
-      cell = cell i;
-      side = s;
-      events = (ap (λ u. u.mine) w_is ∙ append-nil v.mine) i;
-      trusted = (w_is i).trusted;
-      ahead = (ap (λ u. u.ahead) w_is ∙ sym bare) i;
-      known = (ap (λ u. u.known) w_is ∙ (λ j. known_with s (local j) t (word_of_other s v.known) (trust_is j))) i;
-      commits = (ap (λ u. u.commits) w_is ∙ no_more v.commits) i;
-      higher = (w_is i).higher;
-    }) ∙ ap (λ (q : Carried). after_raise q t) view
+    (λ i. carried_of (cell i) s (w_is i))
+    ∙ (λ i. record (carried_of id s v) {
+      events = append-nil v.mine i;
+      ahead = sym bare i;
+      known = known_with s (local i) t (word_of_other s v.known) (trust_is i);
+      commits = no_more v.commits i;
+    })
+    ∙ ap (λ q. after_raise q t) view
   where
     no_more : (n : ℕ) → n + 0 ≡ n
     no_more n = omega arith
@@ -124,20 +122,17 @@ pub is_committed : {id id' : TableId} {s : Side} {words : List ℕ} {here next :
     → carried_of id s v ≡ p → IsPassOf s words here v → p.ahead ≡ [] → id' ≡ id
     → next ≡ chip_after here s op → trust ≡ trust_next s v.known.chip (chip_after v.known.chip s op) t v.known.trust
     → w ≡ published_view v (access_at t s op v.known.chip ∷ []) (known_with s next (t + 1) (word_of_other s v.known) trust) → carried_of id' s w ≡ after_commit p t op
-is_committed {s} {v} t op view is none cell next_is trust_is w_is =
+is_committed {id} {s} {v} t op view is none cell next_is trust_is w_is =
     let bare = bare_of v view none in
-    let local = bare_local is bare in
-    let chip = next_is ∙ ap (λ c. chip_after c s op) local in
-    (λ i. record {
-      cell = cell i;
-      side = s;
-      events = (w_is i).mine;
-      trusted = (w_is i).trusted;
-      ahead = (ap (λ u. u.ahead) w_is ∙ sym bare) i;
-      known = (ap (λ u. u.known) w_is ∙ (λ j. known_with s (chip j) (t + 1) (word_of_other s v.known) (trust_is j))) i;
-      commits = (w_is i).commits;
-      higher = (w_is i).higher;
-    }) ∙ ap (λ (q : Carried). after_commit q t op) view
+    let chip = next_is ∙ ap (λ c. chip_after c s op) (bare_local is bare) in
+    (λ i. carried_of (cell i) s (w_is i))
+    ∙ (λ i. record (carried_of id s v) {
+      events = v.mine ++ access_at t s op v.known.chip ∷ [];
+      ahead = sym bare i;
+      known = known_with s (chip i) (t + 1) (word_of_other s v.known) (trust_is i);
+      commits = v.commits + 1;
+    })
+    ∙ ap (λ q. after_commit q t op) view
 
 -- ---- entrust
 
@@ -147,30 +142,29 @@ pub may_entrust : {id : TableId} {s : Side} {words : List ℕ} {here : State} {p
 may_entrust {s} {v} es t view is side none later watches =
     let s_is : s ≡ Para = ap (λ q. q.side) view ∙ side in
     let from = bare_horizon s v (bare_of v view none) in
-    let h : Watches Para (horizon (own_bound s v.known) (v.mine ++ v.ahead)) v.known.chip es t = subst (λ (q : Carried). Watches Para (own_horizon q) q.known.chip es t) (sym view) watches in
+    let h : Watches Para (horizon (own_bound s v.known) (v.mine ++ v.ahead)) v.known.chip es t = subst (λ q. Watches Para (own_horizon q) q.known.chip es t) (sym view) watches in
     record {
       role = is.role ∙ ap one_side s_is;
       trusted = is.trusted;
-      later = subst (λ (r : Side). horizon (own_bound r v.known) v.mine ≤ t) s_is (later_of v t view none later);
-      watches = subst (λ (r : Side). Watches Para (horizon (own_bound r v.known) v.mine) v.known.chip es t) s_is (subst (λ (n : ℕ). Watches Para n v.known.chip es t) from h);
+      later = subst (λ r. horizon (own_bound r v.known) v.mine ≤ t) s_is (later_of v t view none later);
+      watches = subst (λ r. Watches Para (horizon (own_bound r v.known) v.mine) v.known.chip es t) s_is (subst (λ n. Watches Para n v.known.chip es t) from h);
     }
 
 pub pass_entrusted : {s : Side} {words next : List ℕ} {here : State} {t : ℕ} {es : List Event} {v w : View} → IsPassOf s words here v → v.ahead ≡ [] → MayEntrust es t v
     → w ≡ entrusted_view v es (trusting v.known t) → next ≡ words_of (trusting v.known t) → IsPassOf s next here w
 pass_entrusted {s} {t} {es} {v} {w} is none may w_is words_are =
     let k : w.known ≡ trusting v.known t = ap (λ u. u.known) w_is in
-    let stop = may.later in
     let low : AllBelow t (v.trusted ++ es) =
     All-append (λ e. e.tick < t) v.trusted es (lower v.trusted is.trusted (omega arith))
     (watches_low _ _ _ _ t may.watches) in
     let chip : w.known.chip ≡ v.known.chip = ap (λ x. x.chip) k in
     pass_fresh s w (ap (λ u. u.role) w_is ∙ is.role) (subst IsChip (sym chip) is.well) (words_are ∙ ap words_of (sym k))
-    (subst (λ (u : View). AllBelow u.known.trust u.trusted) (sym w_is) low)
+    (subst (λ u. AllBelow u.known.trust u.trusted) (sym w_is) low)
     (ap (λ u. u.ahead) w_is ∙ none) (bare_local is none ∙ sym chip)
 
 pub is_entrusted : {id id' : TableId} {s : Side} {p : Carried} {v w : View} (es : List Event) (t : ℕ) → carried_of id s v ≡ p → id' ≡ id
     → w ≡ entrusted_view v es (trusting v.known t) → carried_of id' s w ≡ after_entrust p es t
-is_entrusted {s} es t view cell w_is = (λ i. carried_of (cell i) s (w_is i)) ∙ ap (λ (q : Carried). after_entrust q es t) view
+is_entrusted {s} es t view cell w_is = (λ i. carried_of (cell i) s (w_is i)) ∙ ap (λ q. after_entrust q es t) view
 
 -- ---- look
 
@@ -183,17 +177,15 @@ looked_as false t s v w is = (ap (λ u. u.role) is, ap (λ u. u.ahead) is, ap (�
 pub looked_ahead : {s : Side} {t : ℕ} {words : List ℕ} {v w : View} → LookedAt t s words v w → w.ahead ≡ v.ahead
 looked_ahead {s} {t} {v} {w} f = (looked_as (admits s (other_bound s w.known) t) t s v w f.view_is).1
 
-pub looked_local : {s : Side} {words : List ℕ} (found : List ℕ) {old : State} (new : State) {v : View} (w : View) → IsPassOf s words old v → v.ahead ≡ [] → Local v.known.chip old w.known.chip new → new ≡ w.known.chip
-looked_local found {old} new {v} w is none local =
-    let was = bare_local is none in
-    ⊎_elim (λ (x : (w.known.chip ≡ v.known.chip) × (new ≡ old)). x.1 ∙ was ∙ sym x.0) (λ (x : (w.known.chip ≢ v.known.chip) × (new ≡ w.known.chip)). x.1) local
+pub looked_local : {s : Side} {words : List ℕ} {old : State} (new : State) {v : View} (w : View) → IsPassOf s words old v → v.ahead ≡ [] → Local v.known.chip old w.known.chip new → new ≡ w.known.chip
+looked_local new w is none local = local_is (bare_local is none) local
 
 pub pass_looked : {s : Side} {words found : List ℕ} {old : State} (new : State) {t : ℕ} {v w : View} → IsPassOf s words old v → v.ahead ≡ [] → v.trusted ≡ []
     → LookedAt t s found v w → Local v.known.chip old w.known.chip new → IsPassOf s found new w
 pass_looked {s} {found} new {t} {v} {w} is none trusted f local =
     let left = looked_as (admits s (other_bound s w.known) t) t s v w f.view_is in
     pass_fresh s w (left.0 ∙ is.role) f.well f.words_are (none_low w.known.trust (left.2 ∙ ap (pending_events w.known) trusted))
-    (left.1 ∙ none) (looked_local found new w is none local)
+    (left.1 ∙ none) (looked_local new w is none local)
 
 pub is_looked : {id id' : TableId} {s : Side} {words found : List ℕ} {old : State} {p : Carried} {t : ℕ} {lines : Lines} {v w : View}
     → carried_of id s v ≡ p → IsPassOf s words old v → p.ahead ≡ [] → p.trusted ≡ [] → own_horizon p ≤ t → id' ≡ id
@@ -203,7 +195,7 @@ is_looked {id} {id'} {s} {t} {lines} {v} {w} view is none trusted later cell f a
     let on = on_of s v k is.role f.goes_on in
     let bare = bare_of v view none in
     let no_trust = none_of v view trusted in
-    let w_is : w ≡ looked_view v t s k = subst (λ (b : Bool). MatchBool b (w ≡ looked_view v t s k) (w ≡ found_view v k)) admitted f.view_is in
+    let w_is : w ≡ looked_view v t s k = subst (λ b. MatchBool b (w ≡ looked_view v t s k) (w ≡ found_view v k)) admitted f.view_is in
     let looked : List Event = v.mine ++ lines_at t s lines ∷ [] in
     let same = ap (λ l. v.mine ++ lines_at t s l ∷ []) (sym lines_are) in
     let falls = bound_falls s _ k on in
@@ -212,7 +204,7 @@ is_looked {id} {id'} {s} {t} {lines} {v} {w} view is none trusted later cell f a
       events = (same ∙ sym (bare_firm k looked no_trust)) i;
       higher = v.higher + rise (is.role i) v.known k;
     }) in
-    subst (λ (q : Carried). Learns (after_look q t lines) (carried_of id' s w)) view (learns_of rest is.trusted on (omega arith) (λ some. absurd (some bare)))
+    subst (λ q. Learns (after_look q t lines) (carried_of id' s w)) view (learns_of rest is.trusted on (omega arith) (λ some. absurd (some bare)))
 
 -- ---- own horizons
 
@@ -249,7 +241,6 @@ horizon_committed p t op none later is =
 pub horizon_looked : (p : Carried) {q : Carried} (t : ℕ) (lines : Lines) → p.ahead ≡ [] → p.trusted ≡ [] → own_horizon p ≤ t → Learns (after_look p t lines) q → own_horizon q ≡ t + 1
 horizon_looked p {q} t lines none trusted later learns =
     let is = learns.plain trusted in
-    let falls = learns.horizon in
     let was = ends_at (own_bound p.side p.known) p.events (lines_at t p.side lines) none (omega arith) in
     let last : past_last (q.events ++ q.ahead) ≡ t + 1 =
     (λ i. past_last ((is i).events ++ (is i).ahead))

@@ -12,5 +12,4 @@ swap-requires-clause-rule g c =
     c.next_words-next.ensures.words
     ∙ ap (λ t. words_of (known_with Para c.args.chip.now c.args.word t c.args.trust)) (c.word_of.ensures v.known c.requires.words)
     ∙ ap words_of (sym c.requires.next) in
-    both_as c.packing_is_one_to_one.ensures _
-    c.requires.may c.next_words-next.ensures.bounds c.requires.next c.requires.words next
+    both_as c.packing_is_one_to_one.ensures _ c.requires.may c.next_words-next.ensures.bounds c.requires.next c.requires.words next

@@ -1,4 +1,4 @@
-use Rattle.std.proofs.Common.{◌+◌, ap}
+use Rattle.std.proofs.Common.{◌+◌}
 use Rattle.crossbeam_utils.specs.Seq.{cell_view}
 use Rattle.tube_cell.proofs.Raises.{may_commit, commit_trust, pass_raised, is_committed, horizon_committed}
 use Rattle.tube_cell.proofs.cell.TubeCell.commit.Goals as goal
@@ -8,8 +8,7 @@ exchange-requires-clause-may g c = may_commit c.args.t.0 c.args.op c.pass.view_i
     c.requires.later c.requires.admitted c.operate-answer.ensures.chip
 
 pub exchange-requires-clause-trust : goal.exchange-requires-clause-trust
-exchange-requires-clause-trust g c = commit_trust c.args.t.0 c.args.op c.pass.view_is c.pass.invariant.0
-    c.requires.published
+exchange-requires-clause-trust g c = commit_trust c.args.t.0 c.args.op c.pass.view_is c.pass.invariant.0 c.requires.published
     c.operate-answer.ensures.chip (c.trust_of.ensures.is (cell_view c.pass.inside.seat).known c.pass.invariant.0.words_are) c.operate-answer.ensures.trust
 
 pub invariant_of-pass : goal.invariant_of-pass

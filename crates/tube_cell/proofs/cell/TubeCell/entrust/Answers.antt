@@ -11,10 +11,8 @@ entrust_at-requires-clause-may g c = may_entrust _ _ c.pass.view_is c.pass.invar
 pub invariant_of-pass : goal.invariant_of-pass
 invariant_of-pass g c =
     let v = cell_view c.pass.inside.seat in
-    let may = may_entrust _ _ c.pass.view_is
-    c.pass.invariant.0 c.requires.side c.requires.published c.requires.later c.requires.watches in (
-      pass_entrusted c.pass.invariant.0
-          (bare_of v c.pass.view_is c.requires.published) may c.in-Ok.ensures.entrusted c.in-Ok.ensures.next,
+    let may = may_entrust _ _ c.pass.view_is c.pass.invariant.0 c.requires.side c.requires.published c.requires.later c.requires.watches in (
+      pass_entrusted c.pass.invariant.0 (bare_of v c.pass.view_is c.requires.published) may c.in-Ok.ensures.entrusted c.in-Ok.ensures.next,
       cut_kept c.pass.inside.side c.pass.inside.cut v (cell_view c.entrust_at.new.seat) c.pass.invariant.1 (bare_of v c.pass.view_is c.requires.published)
           (ap (λ u. u.ahead) c.in-Ok.ensures.entrusted ∙ bare_of v c.pass.view_is c.requires.published),
     )

@@ -1,6 +1,4 @@
-use Rattle.std.proofs.Common.{sym, ap, ◌∙◌, subst, List, ℕ}
-use Rattle.crossbeam_utils.specs.Seq.{cell_view}
-use Rattle.tube_cell.specs.Steps.{IsPassOf}
+use Rattle.std.proofs.Common.{sym, ap, ◌∙◌}
 use Rattle.tube_cell.proofs.Keeps.{learns}
 use Rattle.tube_cell.proofs.Learns.{pass_settled, learned}
 use Rattle.tube_cell.proofs.cell.TubeCell.learn.Goals as goal
@@ -16,5 +14,4 @@ invariant_of-pass g c = pass_settled c.pass.inside.cut c.pass.invariant.0 c.pass
 
 pub returns : goal.returns
 returns g c =
-    learned c.pass.view_is c.pass.invariant.0
-    c.load-found.ensures.cell.0 c.load-found.ensures.rule
+    learned c.pass.view_is c.pass.invariant.0 c.load-found.ensures.cell.0 c.load-found.ensures.rule

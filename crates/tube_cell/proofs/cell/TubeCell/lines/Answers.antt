@@ -1,5 +1,4 @@
 use Rattle.std.proofs.Common.{◌∙◌, ap}
-use Rattle.crossbeam_utils.specs.Seq.{cell_view}
 use Rattle.tube_chip.specs.State.{lines_of}
 use Rattle.tube_cell.proofs.Acts.{here_of}
 use Rattle.tube_cell.proofs.cell.TubeCell.lines.Goals as goal

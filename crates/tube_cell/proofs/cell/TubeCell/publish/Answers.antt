@@ -1,6 +1,5 @@
-use Rattle.std.proofs.Common.{ap, sym, subst, List, ℕ}
+use Rattle.std.proofs.Common.{ap}
 use Rattle.crossbeam_utils.specs.Seq.{cell_view}
-use Rattle.tube_cell.specs.Steps.{IsPassOf}
 use Rattle.tube_cell.proofs.Learns.{none_of, cut_fresh, pass_settled, learned}
 use Rattle.tube_cell.proofs.Raises.{pass_published}
 use Rattle.tube_cell.proofs.Publishes.{may_publish, publish_trust, is_published}

@@ -1,14 +1,12 @@
-use Rattle.std.proofs.Common.{ap, sym, subst, List, ℕ}
+use Rattle.std.proofs.Common.{ap}
 use Rattle.crossbeam_utils.specs.Seq.{cell_view}
-use Rattle.tube_cell.specs.Steps.{IsPassOf}
 use Rattle.tube_cell.proofs.Learns.{cut_fresh, pass_settled, learned}
 use Rattle.tube_cell.proofs.Publishes.{may_both, pass_both, is_both, horizon_both}
 use Rattle.tube_cell.proofs.cell.TubeCell.publish_and_entrust.Goals as goal
 
 pub publish_and_entrust_at-told-requires-clause-may : goal.publish_and_entrust_at-told-requires-clause-may
 publish_and_entrust_at-told-requires-clause-may g c =
-    may_both _ _ _
-    c.pass.view_is c.pass.invariant.0 c.requires.side c.requires.none_trusted c.requires.later c.requires.order c.requires.watches
+    may_both _ _ _ c.pass.view_is c.pass.invariant.0 c.requires.side c.requires.none_trusted c.requires.later c.requires.order c.requires.watches
 
 pub invariant_of-pass : goal.invariant_of-pass
 invariant_of-pass g c =
@@ -32,5 +30,4 @@ invariant_of-pass-in-Err g c = pass_settled c.pass.inside.cut c.pass.invariant.0
 
 pub returns-in-Err-clause-learns : goal.returns-in-Err-clause-learns
 returns-in-Err-clause-learns g c = λ _.
-    learned
-    c.pass.view_is c.pass.invariant.0 c.publish_and_entrust_at-told.ensures.cell.0 c.in-Err.ensures.found
+    learned c.pass.view_is c.pass.invariant.0 c.publish_and_entrust_at-told.ensures.cell.0 c.in-Err.ensures.found

@@ -1,4 +1,3 @@
-use Rattle.std.proofs.Common.{ap}
 use Rattle.crossbeam_utils.specs.Seq.{cell_view}
 use Rattle.tube_cell.proofs.Raises.{may_raise, pass_raised, is_raised, horizon_raised}
 use Rattle.tube_cell.proofs.cell.TubeCell.raise.Goals as goal

@@ -1,5 +1,4 @@
 use Rattle.std.proofs.Common.{◌∙◌}
-use Rattle.crossbeam_utils.specs.Seq.{cell_view}
 use Rattle.tube_cell.specs.Views.{shown_to}
 use Rattle.tube_cell.proofs.Acts.{here_of}
 use Rattle.tube_cell.proofs.cell.TubeCell.readings.Goals as goal
