@@ -1,15 +1,13 @@
 -- The parasite goes further ahead, and learns what becomes of it.
-use Rattle.std.proofs.Common.{Bool, IsTrue, IsFalse, ℕ, ◌≡◌, ◌⊎◌, ◌+◌, ◌<◌, ◌≤◌, max, nat_lt, cond, true, false, refl, sym, ◌∙◌, ap, subst, ⊎_elim, inl, inr, arith, List, [], ◌∷◌, ◌++◌, All}
+use Rattle.std.proofs.Common.{Bool, IsTrue, IsFalse, ℕ, ◌≡◌, ◌⊎◌, ◌+◌, ◌<◌, ◌≤◌, max, nat_lt, cond, true, false, refl, sym, ◌∙◌, ap, subst, inl, inr, arith, List, [], ◌∷◌, ◌++◌}
 use Rattle.std.proofs.Common.{length, drop, append_assoc}
 use Rattle.std.proofs.lemmas.List.{append-nil}
-use Rattle.std.proofs.lemmas.List.Elements.{All-head, All-tail}
 use Rattle.std.proofs.lemmas.Bool.{cases_lt}
-use Rattle.std.proofs.lemmas.Bool.Decides.{nat_tests}
 use Rattle.beeb_bits.specs.declared.Side.{Side}
 use Rattle.beeb_bits.specs.declared.Side.TheVariants.{Para}
 use Rattle.tube_chip.specs.State.{State}
 use Rattle.tube_chip.specs.Events.{Event}
-use Rattle.tube_cell.specs.Views.{Known, word_of, word_of_other, own_bound, past_last, below, horizon, readings_of}
+use Rattle.tube_cell.specs.Views.{word_of, word_of_other, own_bound, past_last, below, horizon, readings_of}
 use Rattle.tube_cell.specs.Rules.{Trusts}
 use Rattle.tube_cell.specs.Passes.{Carried, own_horizon, after_publish, after_entrust, Learns}
 use Rattle.tube_cell.specs.Steps.{Watches}
@@ -65,12 +63,11 @@ none_left t (e ∷ es) =
 
 watch_from : (side : Side) (from more : ℕ) (c : State) (es : List Event) (end : ℕ) → Watches side from c es end → more ≤ from → Watches side more c es end
 watch_from side from more c [] end h le = tt
-watch_from side from more c (e ∷ es) end h le = let f = h.2 in (h.0, h.1, (omega arith), h.3, h.4, h.5)
+watch_from side from more c (e ∷ es) end h le = (h.0, h.1, (omega arith), h.3, h.4, h.5)
 
 watch_rest : (side : Side) (t from : ℕ) (c : State) (es : List Event) (end : ℕ) → Watches side from c es end → Watches side (max t from) c (from_on t es) end
 watch_rest side t from c [] end h = tt
 watch_rest side t from c (e ∷ es) end h =
-    let f = h.2 in
     (elim (nat_lt e.tick t) as (λ b. nat_lt e.tick t ≡ b → Watches side (max t from) c (drop (length (cond b (e ∷ below t es) [])) (e ∷ es)) end) [
       | true ↦ λ x. watch_from _ _ (max t from) c _ _ (watch_rest side t (e.tick + 1) c es end h.5) (omega arith)
       | false ↦ λ x. let l = nat_lt-from_false e.tick t x in (h.0, h.1, (omega arith), h.3, h.4, h.5)
@@ -92,13 +89,11 @@ module _ {w : Way} (law : IsWay w) (base : List Event) where
   pub may_trust : (p : Carried) (t : ℕ) → own_horizon p ≤ max p.known.trust w.tick → w.readings ≡ readings_of p.known.chip
       → Watches Para (own_horizon p) p.known.chip (from_on p.known.trust (made t)) t
   may_trust p t low same =
-      watch_from _ _ (own_horizon p) _ _ t
-      (watch_rest _ p.known.trust _ _ _ t (law.watches p.known.chip t same)) low
+      watch_from _ _ (own_horizon p) _ _ t (watch_rest _ p.known.trust _ _ _ t (law.watches p.known.chip t same)) low
 
   pub trusting_more : {p q : Carried} (t : ℕ) → IsTrusting w base p → p.known.trust ≤ t → q ≡ after_entrust p (from_on p.known.trust (made t)) t → IsTrusting w base q
   trusting_more {p} t is le q_is =
-      let f = is.order in
-      subst (λ (x : Carried). IsTrusting w base x) (sym q_is) (record {
+      subst (λ x. IsTrusting w base x) (sym q_is) (record {
         firm = is.firm;
         events = is.events;
         trusted =
@@ -113,10 +108,10 @@ module _ {w : Way} (law : IsWay w) (base : List Event) where
   Learnt p q = ((q.known.host < q.known.trust) × (q.known.trust ≡ p.known.trust)) ⊎ ((q.known.trust ≤ q.known.host) × (q.trusted ≡ []) × (q.events ≡ base ++ made q.known.trust))
 
   pub trusting_learned : {p q : Carried} → p.side ≡ Para → IsTrusting w base p → Learns p q → IsTrusting w base q × Learnt p q
-  trusting_learned {p} {q} side is learns = go (subst (λ (x : Side). Trusts x p.known q.known) side learns.trust) (cases_lt q.known.host q.known.trust)
+  trusting_learned {p} {q} side is learns = go (subst (λ x. Trusts x p.known q.known) side learns.trust) (cases_lt q.known.host q.known.trust)
     where
       host_up : p.known.host ≤ q.known.host
-      host_up = subst (λ (x : Side). word_of_other x p.known ≤ word_of_other x q.known) side learns.other_word
+      host_up = subst (λ x. word_of_other x p.known ≤ word_of_other x q.known) side learns.other_word
 
       settled : (t : ℕ) → t ≡ q.known.trust → t ≤ q.known.host → q.trusted ≡ [] → q.events ≡ base ++ made t → IsTrusting w base q × Learnt p q
       settled t t_is le none events =
@@ -134,7 +129,6 @@ module _ {w : Way} (law : IsWay w) (base : List Event) where
       go : Trusts Para p.known q.known → (q.known.host < q.known.trust) ⊎ (q.known.trust ≤ q.known.host) → IsTrusting w base q × Learnt p q
       go (inl same) (inl lt) =
           let k = learns.stays lt in
-          let o = is.order in
           let h = is.passed in
           let up = host_up in (
             record {
@@ -155,10 +149,6 @@ module _ {w : Way} (law : IsWay w) (base : List Event) where
       go (inr taken) side_of =
           let k = learns.taken taken.1 in
           let t = q.known.trust in
-          let x = taken.0 in
-          let y = taken.1 in
-          let z = taken.2 in
-          let h = is.passed in
           let all : made is.firm ++ below t (from_on is.firm (made p.known.trust)) ≡ made t =
           ap (λ l. l ++ below t (from_on is.firm (made p.known.trust))) (sym (part is.firm p.known.trust is.order)) ∙ join_parts is.firm t (made p.known.trust) (omega arith)
           ∙ part t p.known.trust (omega arith) in
@@ -196,16 +186,13 @@ module _ {w : Way} (law : IsWay w) (t : ℕ) (p : Carried) where
       }
     where
       para_of : (x : Carried) → x.side ≡ Para → (after_publish x h).known.para ≡ h
-      para_of x at = subst (λ (y : Side). (after_publish (record x { side = y }) h).known.para ≡ h) (sym at) refl
+      para_of x at = subst (λ y. (after_publish (record x { side = y }) h).known.para ≡ h) (sym at) refl
 
   -- its horizon
   pub told_low : {q : Carried} → q.side ≡ Para → HasTrusted w t p q → own_horizon q ≤ max q.known.trust (w.tick)
   told_low {q} side told =
       let is = told.trusting in
       let own_is = own_of q side in
-      let order = is.order in
-      let para = told.para in
-      let base = told.base in
       let events : q.events ++ q.ahead ≡ all_events p ++ w.until is.firm = (λ i. is.events i ++ told.ahead i) ∙ append-nil (all_events p ++ w.until is.firm) in
       let same : past_last (q.events ++ q.ahead) ≡ past_last (all_events p ++ w.until is.firm) = ap past_last events in
       let most = past_append is.firm (all_events p) (w.until is.firm) (law.low is.firm) in
@@ -216,7 +203,6 @@ module _ {w : Way} (law : IsWay w) (t : ℕ) (p : Carried) where
   told_more {q} {r} told is =
       let trust : r.known.trust ≡ t = ap (λ x. x.known.trust) is in
       let para : r.known.para ≡ q.known.para = ap (λ x. x.known.para) is in
-      let low = told.para in
       record {
         cell = ap (λ x. x.cell) is ∙ told.cell;
         side = ap (λ x. x.side) is ∙ told.side;
@@ -231,10 +217,8 @@ module _ {w : Way} (law : IsWay w) (t : ℕ) (p : Carried) where
   -- words were found
   pub told_learned : {q r : Carried} → q.side ≡ Para → HasTrusted w t p q → Learns q r → HasTrusted w t p r
   told_learned {q} {r} side told learns =
-      let fell = trusts_fall q.known r.known (subst (λ (x : Side). Trusts x q.known r.known) side learns.trust) in
-      let was = told.trust in
-      let para : r.known.para ≡ q.known.para = subst (λ (x : Side). word_of x r.known ≡ word_of x q.known) side learns.own_word in
-      let low = told.para in
+      let fell = trusts_fall q.known r.known (subst (λ x. Trusts x q.known r.known) side learns.trust) in
+      let para : r.known.para ≡ q.known.para = subst (λ x. word_of x r.known ≡ word_of x q.known) side learns.own_word in
       record {
         cell = ap (λ x. x.cell) learns.rest ∙ told.cell;
         side = ap (λ x. x.side) learns.rest ∙ told.side;
@@ -254,13 +238,13 @@ module _ {w : Way} (law : IsWay w) (t : ℕ) (p : Carried) where
       record { told = more; trusted = ends.0; events = ends.1; later = told_low (ap (λ x. x.side) learns.rest ∙ side) more }
     where
       go : Learnt law (all_events p) q r → (r.trusted ≡ []) × (r.events ≡ all_events p ++ w.until r.known.trust)
-      go (inl x) = let y = x.0 in absurd (omega arith)
+      go (inl x) = absurd (omega arith)
       go (inr x) = (x.1, x.2)
 
 pub passed_of : {q r : Carried} {a b : ℕ} → q.side ≡ Para → Learns q r → a ≡ r.known.trust → b ≡ word_of_other r.side r.known → a ≤ b → r.known.trust ≤ r.known.host
 passed_of {r} {b} side learns a_is b_is le =
     let at : r.side ≡ Para = ap (λ x. x.side) learns.rest ∙ side in
-    let host : b ≡ r.known.host = b_is ∙ ap (λ (x : Side). word_of_other x r.known) at in
+    let host : b ≡ r.known.host = b_is ∙ ap (λ x. word_of_other x r.known) at in
     omega arith
 
 -- either way it stands so

@@ -1,13 +1,12 @@
 -- What a load and an exchange leave of a pass while its machine waits.
-use Rattle.std.proofs.Common.{ℕ, Bool, IsTrue, IsFalse, ◌≡◌, ◌+◌, ◌<◌, ◌≤◌, ◌⊎◌, inl, inr, max, nat_lt, true, false, refl, sym, ◌∙◌, ap, subst, arith, List, [], ◌∷◌, ◌++◌, append-nil}
+use Rattle.std.proofs.Common.{ℕ, Bool, IsTrue, IsFalse, ◌≡◌, ◌+◌, ◌<◌, ◌≤◌, ◌⊎◌, inl, inr, nat_lt, true, false, refl, sym, ◌∙◌, ap, subst, arith, List, [], ◌++◌, append-nil}
 use Rattle.std.proofs.lemmas.Bool.{cases_lt}
 use Rattle.std.proofs.lemmas.Bool.Decides.{nat_tests}
 use Rattle.beeb_bits.specs.declared.Side.{Side}
-use Rattle.beeb_bits.specs.declared.Side.TheVariants.{Host, Para}
+use Rattle.beeb_bits.specs.declared.Side.TheVariants.{Para}
 use Rattle.tube_chip.specs.Events.{Event, after_from}
-use Rattle.tube_chip.specs.State.{State}
 use Rattle.tube_cell.specs.declared.local.Readings.{Readings}
-use Rattle.tube_cell.specs.Views.{Known, one_side, own_bound, known_with, word_of_other, other_bound, bound_at, slack, Admits, trust_after, chip_after_event, past_last, horizon}
+use Rattle.tube_cell.specs.Views.{Known, one_side, other_bound, slack, Admits}
 use Rattle.tube_cell.specs.Views.{readings_of}
 use Rattle.tube_cell.specs.Rules.{rise, Trusts}
 use Rattle.tube_cell.specs.Passes.{Carried, own_horizon, here, bound_here, after_publish, after_entrust, Learns}
@@ -59,9 +58,9 @@ rose {p} {q} t bare none l not_yet now_is =
     let empty : q.ahead ≡ [] = ap (λ x. x.ahead) e ∙ bare in
     let b = bound_bare p bare in
     let c = bound_bare q empty in
-    let yes2 : Admits p.side (other_bound p.side q.known) t = subst (λ (x : Side). Admits x (other_bound x q.known) t) side (subst (λ (x : ℕ). Admits q.side x t) c now_is) in
-    let not2 : ¬ Admits p.side (other_bound p.side p.known) t = subst (λ (x : ℕ). ¬ Admits p.side x t) b not_yet in
-    ap (λ x. x.higher) l.rest ∙ ap (λ (x : ℕ). p.higher + x) (rise_one p.side p.known q.known t not2 yes2)
+    let yes2 : Admits p.side (other_bound p.side q.known) t = subst (λ x. Admits x (other_bound x q.known) t) side (subst (λ x. Admits q.side x t) c now_is) in
+    let not2 : ¬ Admits p.side (other_bound p.side p.known) t = subst (λ x. ¬ Admits p.side x t) b not_yet in
+    ap (λ x. x.higher) l.rest ∙ ap (λ x. p.higher + x) (rise_one p.side p.known q.known t not2 yes2)
 
 -- ---- the horizon
 
@@ -72,32 +71,27 @@ pub told_low : (p : Carried) {q : Carried} (h : ℕ) → own_horizon p ≤ h →
 told_low p h low e = let x = told_at p h low e in omega arith
 
 pub here_bare : (p : Carried) {r : Readings} → p.ahead ≡ [] → r ≡ readings_of (here p) → r ≡ readings_of p.known.chip
-here_bare p bare is = is ∙ ap (λ (events : List Event). readings_of (after_from p.known.chip events)) bare
+here_bare p bare is = is ∙ ap (λ events. readings_of (after_from p.known.chip events)) bare
 
 -- ---- what is paid on trust
 
 -- where the host's word rose, so did its bound
 host_rose : {q r : Carried} → q.side ≡ Para → Learns q r → q.known.host < r.known.host → r.higher ≡ q.higher + 1
 host_rose {q} {r} side l lt =
-    ap (λ z. z.higher) l.rest ∙ ap (λ n. q.higher + n) (ap (λ (z : Side). rise (one_side z) q.known r.known) side
+    ap (λ z. z.higher) l.rest ∙ ap (λ n. q.higher + n) (ap (λ z. rise (one_side z) q.known r.known) side
     ∙ rise_one Para q.known r.known q.known.host (λ h. omega arith) (omega arith))
 
 pub learned_on_trust : (p : Carried) {q r : Carried} → q.side ≡ Para → Learns q r → IsPaidOnTrust p q → IsPaidOnTrust p r
-learned_on_trust p {q} {r} side l paid = go paid (cases_lt q.known.host r.known.host) (subst (λ (z : Side). Trusts z q.known r.known) side l.trust)
+learned_on_trust p {q} {r} side l paid = go paid (cases_lt q.known.host r.known.host) (subst (λ z. Trusts z q.known r.known) side l.trust)
   where
     paid_so : (r.commits ≡ q.commits) × (q.higher ≤ r.higher)
     paid_so = learned_paid l
 
     go : IsPaidOnTrust p q → (q.known.host < r.known.host) ⊎ (r.known.host ≤ q.known.host) → Trusts Para q.known r.known → IsPaidOnTrust p r
-    go (inl x) side_of t = let c = paid_so.0 in let h = paid_so.1 in inl (omega arith)
-    go (inr x) (inl lt) t = let c = paid_so.0 in let e = host_rose side l lt in let n = x.0 in inl (omega arith)
-    go (inr x) (inr le) (inl same) =
-        let c = paid_so.0 in
-        let h = paid_so.1 in
-        let n = x.0 in
-        let trust = x.1 in
-        inr (omega arith, omega arith)
-    go (inr x) (inr le) (inr cut) = let a = cut.0 in let b = cut.2 in absurd (omega arith)
+    go (inl x) side_of t = let y = paid_so in inl (omega arith)
+    go (inr x) (inl lt) t = let y = paid_so in let e = host_rose side l lt in inl (omega arith)
+    go (inr x) (inr le) (inl same) = let y = paid_so in inr (omega arith)
+    go (inr x) (inr le) (inr cut) = absurd (omega arith)
 
 -- an exchange that entrusts, or the words that it found
 pub tried_on_trust : (p : Carried) {q r : Carried} (t : ℕ) (looks : List Event) (done : Bool) → q.side ≡ Para → q.known.trust ≤ t → (IsTrue done → r ≡ after_entrust q looks t)
@@ -106,13 +100,13 @@ tried_on_trust p {q} t looks true side le f g paid = subst (IsPaidOnTrust p) (sy
   where
     go : IsPaidOnTrust p q → IsPaidOnTrust p (after_entrust q looks t)
     go (inl x) = inl x
-    go (inr x) = let m = x.1 in inr (x.0, omega arith)
+    go (inr x) = inr (x.0, omega arith)
 tried_on_trust p t looks false side le f g paid = learned_on_trust p side (g refl) paid
 
 -- the host has passed
 pub passed_paid : (p q : Carried) → q.known.trust ≤ q.known.host → IsPaidOnTrust p q → IsPaid p q
 passed_paid p q le (inl x) = x
-passed_paid p q le (inr x) = let m = x.1 in absurd (omega arith)
+passed_paid p q le (inr x) = absurd (omega arith)
 
 -- words were found
 pub still_learnt : (p : Carried) {q r : Carried} (t : ℕ) → q.side ≡ Para → HasOnlyLearnt t p q → Learns q r → HasOnlyLearnt t p r
@@ -125,4 +119,4 @@ still_learnt p {q} {r} t side learnt l = ((learned_paid l).0 ∙ learnt.0, go le
         → (p.higher < r.higher) ⊎ ((p.higher ≤ r.higher) × (r.known.host < t))
     go (inl lt) side_of = let y = up in inl (omega arith)
     go (inr z) (inl lt) = let e = host_rose side l lt in let a = z.0 in inl (omega arith)
-    go (inr z) (inr le) = let y = up in let a = z.0 in let b = z.1 in inr (omega arith, omega arith)
+    go (inr z) (inr le) = let y = up in inr (omega arith)

@@ -1,5 +1,4 @@
-use Rattle.std.proofs.Common.{sym, subst, ℕ, List}
-use Rattle.tube_chip.specs.Events.{Event}
+use Rattle.std.proofs.Common.{sym, subst}
 use Rattle.tube_cell.specs.Passes.{here}
 use Rattle.tube_cell.specs.Steps.{Watches}
 use Rattle.beeb_bits.specs.declared.Side.TheVariants.{Para}
@@ -8,5 +7,5 @@ use Rattle.tube_side.proofs.trust.publish_observed.Goals as goal
 pub publish_and_entrust-requires-clause-watches : goal.publish_and_entrust-requires-clause-watches
 publish_and_entrust-requires-clause-watches g c =
     let p = c.args.pass.now in
-    subst (λ (l : List Event). Watches Para c.args.mark.0 (here p) l c.args.t.0) (sym c.requires.observed)
-    (subst (λ (x : ℕ). Watches Para x (here p) (g.W.Ahead.way.until c.args.t.0) c.args.t.0) c.requires.way.0 (c.requires.is_way.watches (here p) c.args.t.0 c.requires.way.1))
+    subst (λ l. Watches Para c.args.mark.0 (here p) l c.args.t.0) (sym c.requires.observed)
+    (subst (λ x. Watches Para x (here p) (g.W.Ahead.way.until c.args.t.0) c.args.t.0) c.requires.way.0 (c.requires.is_way.watches (here p) c.args.t.0 c.requires.way.1))

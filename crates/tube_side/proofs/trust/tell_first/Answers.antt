@@ -1,7 +1,6 @@
 use Rattle.std.proofs.Common.{rules, arith, ◌≡◌, ◌∙◌, sym, ap}
-use Rattle.beeb_bits.specs.declared.Side.{Side}
 use Rattle.tube_cell.specs.Views.{shown_to}
-use Rattle.tube_cell.specs.Passes.{Carried, Learns, here}
+use Rattle.tube_cell.specs.Passes.{Learns, here}
 use Rattle.tube_side.proofs.Waits.{waited_on, learned, still_learnt}
 use Rattle.tube_side.proofs.trust.tell_first.Goals as goal
 
@@ -9,7 +8,7 @@ pub publish_on-requires-clause-way : goal.publish_on-requires-clause-way
 publish_on-requires-clause-way g c =
     let same : c.readings.result ≡ c.args.mark.now.readings = search rules in (
       c.requires.way.0,
-      c.requires.way.1 ∙ sym same ∙ c.readings.ensures ∙ ap (λ (s : Side). shown_to s (here c.loop.pass)) (c.loop.invariant.waited.same.side ∙ c.requires.side),
+      c.requires.way.1 ∙ sym same ∙ c.readings.ensures ∙ ap (λ s. shown_to s (here c.loop.pass)) (c.loop.invariant.waited.same.side ∙ c.requires.side),
     )
 
 pub returns-then-publish_on-clause-paid : goal.returns-then-publish_on-clause-paid
@@ -20,13 +19,12 @@ loop-preserved g c =
     let p = c.loop.pass in
     let q = c.publish_on.new.pass in
     let l : Learns p q = c.publish_on.ensures.learns c.if-publish_on.false in
-    let low = l.horizon in
     let was = c.loop.invariant.later in
     record {
       can_next = tt;
       finite = tt;
       waited = waited_on c.loop.invariant.waited (learned c.loop.invariant.waited.same.trusted l);
-      ahead = ap (λ (x : Carried). x.ahead) l.rest ∙ c.loop.invariant.ahead;
+      ahead = ap (λ x. x.ahead) l.rest ∙ c.loop.invariant.ahead;
       learnt = still_learnt c.args.pass.now c.args.t.0 (c.loop.invariant.waited.same.side ∙ c.requires.side) c.loop.invariant.learnt l;
       later = omega arith;
     }

@@ -1,5 +1,4 @@
 use Rattle.std.proofs.Common.{rules, ◌≡◌, ◌∙◌, ap}
-use Rattle.beeb_bits.specs.declared.Side.{Side}
 use Rattle.tube_cell.specs.Views.{shown_to}
 use Rattle.tube_cell.specs.Passes.{here}
 use Rattle.tube_side.proofs.Waits.{here_bare}
@@ -9,7 +8,7 @@ pub entrust_on-requires-clause-shown : goal.entrust_on-requires-clause-shown
 entrust_on-requires-clause-shown g c =
     let same : c.args.mark.now.readings ≡ c.readings.result = search rules in
     here_bare c.loop.pass (c.loop.invariant.told c.requires.told.0 c.requires.told.1).ahead
-    (c.requires.shown ∙ same ∙ c.readings.ensures ∙ ap (λ (s : Side). shown_to s (here c.loop.pass)) (c.loop.invariant.side ∙ c.requires.side))
+    (c.requires.shown ∙ same ∙ c.readings.ensures ∙ ap (λ s. shown_to s (here c.loop.pass)) (c.loop.invariant.side ∙ c.requires.side))
 
 pub entrust_on-requires-clause-told : goal.entrust_on-requires-clause-told
 entrust_on-requires-clause-told g c = (c.requires.told.0, c.loop.invariant.told c.requires.told.0 c.requires.told.1)

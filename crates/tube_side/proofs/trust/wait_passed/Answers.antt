@@ -12,8 +12,7 @@ returns-then-trust-other-clause-passed g c p told =
 pub returns-then-trust-other-clause-paid : goal.returns-then-trust-other-clause-paid
 returns-then-trust-other-clause-paid g c p paid =
     let side = c.loop.invariant.side ∙ c.requires.side in
-    passed_paid p c.learn.new.pass
-    (passed_of side c.learn.ensures c.trust-trust.ensures c.other.ensures c.if-trust-other.true)
+    passed_paid p c.learn.new.pass (passed_of side c.learn.ensures c.trust-trust.ensures c.other.ensures c.if-trust-other.true)
     (learned_on_trust p side c.learn.ensures (c.loop.invariant.paid p paid))
 
 pub loop-preserved : goal.loop-preserved
