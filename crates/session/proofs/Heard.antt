@@ -1,6 +1,6 @@
 -- What a party heard at the desk of its status registers is what it observed.
 use Rattle.std.proofs.Common.{ℕ, zero, suc, ◌≡◌, ◌<◌, ◌≤◌, ◌⊎◌, inl, inr, refl, sym, ◌∙◌, ap, subst, arith, List, [], ◌∷◌, ◌++◌, None, Some}
-use Rattle.std.proofs.lemmas.List.Elements.{All-nil, All-cons}
+use Rattle.std.proofs.lemmas.List.Elements.{All-append, All-nil, All-cons}
 use Rattle.beeb_bits.specs.declared.Side.{Side}
 use Rattle.beeb_bits.specs.declared.Tick.{Tick}
 use Rattle.tube_chip.specs.declared.Answer.TheVariants.{Byte}
@@ -25,7 +25,8 @@ use Rattle.session.specs.CodeDesk.{Shown, IsRead}
 use Rattle.session.specs.CodeObserved.{HasObserved, IsOver}
 use Rattle.session.proofs.Runs.{SomeRuns, asking, append}
 use Rattle.session.proofs.Kept.{noted_both}
-use Rattle.session.proofs.Observing.{looked, seen_on, low_on}
+use Rattle.session.proofs.Observing.{looked, seen_on}
+use Rattle.tube_cell.proofs.Law.{low_cons, low_nil}
 
 -- The desk is of this side, and shows the status registers of these readings below that tick.
 pub record IsAt (side : Side) (r : Readings) (t : ℕ) (d : Shown) : Type 0 where
@@ -42,35 +43,35 @@ pub record HasGone {S : Type 0} (m : Moves S) (side : Side) (n : ℕ) (r : Readi
   pub noted : HasNoted (accesses events) before after
 
 -- a read leaves the desk such a one
-pub read_leaves : (side : Side) (r : Readings) (t tick : ℕ) (op : Op) (byte : ℕ) (d e : Shown) → IsAt side r t d → IsRead d tick op byte e → IsAt side r t e
-read_leaves side r t tick op byte d e at h = record { side_is = h.side_is ∙ at.side_is; status_is = h.status_is ∙ at.status_is; below_is = h.below_is ∙ at.below_is }
+pub read_leaves : {side : Side} {r : Readings} {t tick : ℕ} {op : Op} {byte : ℕ} {d e : Shown} → IsAt side r t d → IsRead d tick op byte e → IsAt side r t e
+read_leaves at h = record { side_is = h.side_is ∙ at.side_is; status_is = h.status_is ∙ at.status_is; below_is = h.below_is ∙ at.below_is }
 
 -- and so do all reads of a run
-pub leaves_desk : {S : Type 0} (m : Moves S) (side : Side) (n : ℕ) (r : Readings) (t : ℕ) (lines : Lines) (sure j : ℕ) (s last : S) (d e : Shown)
+pub leaves_desk : {S : Type 0} (m : Moves S) {side : Side} (n : ℕ) {r : Readings} {t : ℕ} (lines : Lines) (sure j : ℕ) (s last : S) {d : Shown} (e : Shown)
     → IsAt side r t d → Talks m IsRead n (shown_lines lines sure) j s d last e → IsAt side r t e
-leaves_desk m side n r t lines sure zero s last d e at h = subst (λ (x : Shown). IsAt side r t x) h.0 at
-leaves_desk m side n r t lines sure (suc j) s last d e at h =
-    leaves_desk m side n r t lines sure j h.1 last h.2 e (read_leaves side r t (m.due h.0) h.4.op h.4.byte d h.2 at h.4.answered) h.5
+leaves_desk m {side} n {r} {t} lines sure zero s last e at h = subst (λ x. IsAt side r t x) h.0 at
+leaves_desk m n lines sure (suc j) s last e at h =
+    leaves_desk m n lines sure j h.1 last e (read_leaves at h.4.answered) h.5
 
-module _ {S : Type 0} (m : Moves S) (lawful : IsLawful m) (side : Side) (n : ℕ) (r : Readings) (t : ℕ) where
+module _ {S : Type 0} {m : Moves S} (lawful : IsLawful m) {side : Side} {n : ℕ} {r : Readings} {t : ℕ} where
   -- it is where it was
   pub is_here : (s : S) (log : Log) → HasGone m side n r t s log s log
-  is_here s log = record { events = []; runs = (zero, (refl, refl)); seen = tt; low = All-nil (λ e. e.tick < t); noted = none_noted log }
+  is_here s log = record { events = []; runs = (zero, (refl, refl)); seen = tt; low = low_nil; noted = none_noted log }
 
   -- it went there, and on
-  goes_on : (s u v : S) (a b c : Log) → HasGone m side n r t s a u b → HasGone m side n r t u b v c → HasGone m side n r t s a v c
-  goes_on s u v a b c f g = record {
+  goes_on : {s u v : S} {a b c : Log} → HasGone m side n r t s a u b → HasGone m side n r t u b v c → HasGone m side n r t s a v c
+  goes_on {s} {u} {v} f g = record {
     events = f.events ++ g.events;
-    runs = append m side n u v g.events f.runs.0 s f.events f.runs.1 g.runs;
-    seen = seen_on (readings_seen r) f.events g.events f.seen g.seen;
-    low = low_on t f.events g.events f.low g.low;
-    noted = noted_both f.events g.events a b c f.noted g.noted;
+    runs = append m _ n u v _ _ s f.events f.runs.1 g.runs;
+    seen = seen_on _ _ _ f.seen g.seen;
+    low = All-append (λ e. e.tick < t) f.events g.events f.low g.low;
+    noted = noted_both f.events g.events f.noted g.noted;
   }
 
   -- among looks
   by_looks : (k : ℕ) (s u : S) (log : Log) → Looks m n (shown_lines r.lines t) k s u → HasGone m side n r t s log u log
   by_looks k s u log looks =
-      let l = looked m lawful side (readings_seen r) n r.lines refl t k s u looks in
+      let l = looked lawful side (readings_seen r) n r.lines refl t k s u looks in
       record {
         events = l.events;
         runs = (k, l.runs);
@@ -80,65 +81,62 @@ module _ {S : Type 0} (m : Moves S) (lawful : IsLawful m) (side : Side) (n : ℕ
       }
 
   -- by one read
-  by_read : (s : S) (op : Op) (byte : ℕ) (d e : Shown) → m.due s < n → m.asks s ≡ Some (access op) → IsAt side r t d → IsRead d (m.due s) op byte e
+  by_read : (s : S) {op : Op} {byte : ℕ} {d e : Shown} → m.due s < n → m.asks s ≡ Some (access op) → IsAt side r t d → IsRead d (m.due s) op byte e
       → HasGone m side n r t s d.log (m.next s (Some (Byte byte))) e.log
-  by_read s op byte d e under asks at h =
+  by_read s {op} {byte} {d} {e} under asks at h =
       let event : Event = event_at (m.due s) side (access op) (Byte byte) in
-      let early = h.early in
-      let below = at.below_is in
       record {
         events = event ∷ [];
         runs = (suc zero, asking m side n zero s (access op) (Byte byte) [] (m.next s (Some (Byte byte))) under asks (refl, refl));
-        seen = (ap byte_answer (ap (λ (z : List ℕ). byte_seen z op) (sym at.status_is) ∙ h.byte_is), tt);
-        low = All-cons (λ z. z.tick < t) event [] (omega arith) (All-nil (λ z. z.tick < t));
-        noted = subst (λ (z : Side). HasNoted (passed_entry z (m.due s) op byte ∷ []) d.log e.log) at.side_is h.noted;
+        seen = (ap byte_answer (ap (λ z. byte_seen z op) (sym at.status_is) ∙ h.byte_is), tt);
+        low = low_cons event [] (omega arith) low_nil;
+        noted = subst (λ z. HasNoted (passed_entry z (m.due s) op byte ∷ []) d.log e.log) at.side_is h.noted;
       }
 
   -- among looks and reads
-  by_talks : (j : ℕ) (s last : S) (d e : Shown) → IsAt side r t d → Talks m IsRead n (shown_lines r.lines t) j s d last e → HasGone m side n r t s d.log last e.log
-  by_talks zero s last d e at h = subst (λ (x : Shown). HasGone m side n r t s d.log last x.log) h.0 (by_looks h.1.0 s last d.log h.1.1)
-  by_talks (suc j) s last d e at h =
-      let read = by_read h.0 h.4.op h.4.byte d h.2 h.4.below h.4.asks at h.4.answered in
-      let rest = by_talks j h.1 last h.2 e (read_leaves side r t (m.due h.0) h.4.op h.4.byte d h.2 at h.4.answered) h.5 in
-      goes_on s h.0 last d.log d.log e.log (by_looks h.3.0 s h.0 d.log h.3.1)
-      (goes_on h.0 h.1 last d.log h.2.log e.log (subst (λ (z : S). HasGone m side n r t h.0 d.log z h.2.log) (sym h.4.goes) read) rest)
+  by_talks : (j : ℕ) (s last : S) {d : Shown} (e : Shown) → IsAt side r t d → Talks m IsRead n (shown_lines r.lines t) j s d last e → HasGone m side n r t s d.log last e.log
+  by_talks zero s last {d} e at h = subst (λ x. HasGone m side n r t s d.log last x.log) h.0 (by_looks _ s _ d.log h.1.1)
+  by_talks (suc j) s last {d} e at h =
+      let read = by_read h.0 h.4.below h.4.asks at h.4.answered in
+      let rest = by_talks j h.1 last e (read_leaves at h.4.answered) h.5 in
+      goes_on (by_looks _ s _ d.log h.3.1)
+      (goes_on (subst (λ z. HasGone m side n r t h.0 d.log z h.2.log) (sym h.4.goes) read) rest)
 
   -- it went on, and this is asked next
-  pub hears_on : (s u new : S) (a : Log) (d e : Shown) (ask : Ask) → IsAt side r t d → HasGone m side n r t s a u d.log → GoesHearing m IsRead n (shown_lines r.lines t) u d ask new e
+  pub hears_on : {s u new : S} {a : Log} {d e : Shown} {ask : Ask} → IsAt side r t d → HasGone m side n r t s a u d.log → GoesHearing m IsRead n (shown_lines r.lines t) u d ask new e
       → HasObserved m side n r t s a ask new e.log
-  hears_on s u new a d e ask at gone went =
-      let all = goes_on s u went.last a d.log e.log gone (by_talks went.accesses u went.last d e at went.talks) in
+  hears_on {u} {e} at gone went =
+      let all = goes_on gone (by_talks _ u _ e at went.talks) in
       record { events = all.events; steps = all.runs.0; last = went.last; runs = all.runs.1; seen = all.seen; low = all.low; asked = went.asked; noted = all.noted }
 
   -- the same, where the desk is asked, which stays such a one
-  pub observes_on : (s u new : S) (a : Log) (d e : Shown) (ask asked : Ask) → ask ≡ asked → IsAt side r t d → HasGone m side n r t s a u d.log
+  pub observes_on : {s u new : S} {a : Log} {d e : Shown} {ask asked : Ask} → ask ≡ asked → IsAt side r t d → HasGone m side n r t s a u d.log
       → Hears m IsRead n (shown_lines r.lines d.below) u d ask new e → HasObserved m side n r t s a asked new e.log × IsUnsure t asked × IsAt side r t e
-  observes_on s u new a d e ask asked is at gone hears =
-      let h : Hears m IsRead n (shown_lines r.lines t) u d asked new e = subst (λ (z : ℕ). Hears m IsRead n (shown_lines r.lines z) u d asked new e) at.below_is
-      (subst (λ (z : Ask). Hears m IsRead n (shown_lines r.lines d.below) u d z new e) is hears) in
+  observes_on {u} {new} {d} {e} {asked} is at gone hears =
+      let h : Hears m IsRead n (shown_lines r.lines t) u d asked new e = subst (λ z. Hears m IsRead n (shown_lines r.lines z) u d asked new e) at.below_is
+      (subst (λ z. Hears m IsRead n (shown_lines r.lines d.below) u d z new e) is hears) in
       let went : GoesHearing m IsRead n (shown_lines r.lines t) u d asked new e = record { accesses = h.accesses; last = h.last; talks = h.talks; asked = h.asked } in
-      (hears_on s u new a d e asked at gone went, h.unsure, leaves_desk m side n r t r.lines t h.accesses u h.last d e at h.talks)
+      (hears_on at gone went, h.unsure, leaves_desk m n r.lines t _ u _ e at h.talks)
 
   -- the desk was left as it was
-  pub still_observed : (s new : S) (a : Log) (d e : StatusDesk) (ask : Ask) → e ≡ d → HasObserved m side n r t s a ask new d.log → HasObserved m side n r t s a ask new e.log
-  still_observed s new a d e ask is h = subst (λ (x : StatusDesk). HasObserved m side n r t s a ask new x.log) (sym is) h
+  pub still_observed : {s new : S} {a : Log} {d e : StatusDesk} {ask : Ask} → e ≡ d → HasObserved m side n r t s a ask new d.log → HasObserved m side n r t s a ask new e.log
+  still_observed {s} {new} {a} {ask} is h = subst (λ (x : StatusDesk). HasObserved m side n r t s a ask new x.log) (sym is) h
 
   -- the read was done that was asked
-  pub reads_on : (s new v : S) (a : Log) (tick : Tick) (op : Op) (byte : ℕ) (d e : Shown) → IsAt side r t d → HasObserved m side n r t s a (Access tick op) new d.log → IsRead d tick.0 op byte e
+  pub reads_on : {s new v : S} {a : Log} (tick : Tick) {op : Op} {byte : ℕ} {d e : Shown} → IsAt side r t d → HasObserved m side n r t s a (Access tick op) new d.log → IsRead d tick.0 op byte e
       → v ≡ m.next new (Some (Byte byte)) → HasGone m side n r t s a v e.log
-  reads_on s new v a tick op byte d e at h read is =
+  reads_on {s} {a} tick {op} {byte} {d} {e} at h read is =
       let due = h.asked.0 in
-      let under = h.asked.1 in
       let so_far : HasGone m side n r t s a h.last d.log = record { events = h.events; runs = (h.steps, h.runs); seen = h.seen; low = h.low; noted = h.noted } in
-      let one = by_read h.last op byte d e (omega arith) h.asked.2 at (subst (λ (x : ℕ). IsRead d x op byte e) due read) in
-      subst (λ (z : S). HasGone m side n r t s a z e.log) (ap (λ (z : S). m.next z (Some (Byte byte))) (sym h.asked.3) ∙ sym is)
-      (goes_on s h.last (m.next h.last (Some (Byte byte))) a d.log e.log so_far one)
+      let one = by_read h.last (omega arith) h.asked.2 at (subst (λ x. IsRead d x op byte e) due read) in
+      subst (λ z. HasGone m side n r t s a z e.log) (ap (λ z. m.next z (Some (Byte byte))) (sym h.asked.3) ∙ sym is)
+      (goes_on so_far one)
 
 -- what a party heard at the desk is what it observed
-pub heard : {S : Type 0} (m : Moves S) (lawful : IsLawful m) (side : Side) (n : ℕ) (r : Readings) (t : ℕ) (s : S) (d : Shown) (ask : Ask) (new : S) (e : Shown)
+pub heard : {S : Type 0} {m : Moves S} (lawful : IsLawful m) {side : Side} {n : ℕ} (r : Readings) {t : ℕ} {s : S} {d : Shown} {ask : Ask} {new : S} {e : Shown}
     → d.side ≡ side → d.status ≡ r.status → d.below ≡ t → GoesHearing m IsRead n (shown_lines r.lines t) s d ask new e → HasObserved m side n r t s d.log ask new e.log
-heard m lawful side n r t s d ask new e own shows at went =
-    hears_on m lawful side n r t s s new d.log d e ask (record { side_is = own; status_is = shows; below_is = at }) (is_here m lawful side n r t s d.log) went
+heard lawful {side} {n} r {t} {s} {d} own shows at went =
+    hears_on lawful (record { side_is = own; status_is = shows; below_is = at }) (is_here lawful s d.log) went
 
 -- what left off at no access is over
 pub over_unasked : (r : Readings) (t : ℕ) (ask : Ask) → ((u : Tick) (op : Op) → ask ≡ Access u op → ⊥) → IsUnsure t ask → IsOver r t ask
@@ -147,6 +145,6 @@ over_unasked r t (Access u op) not h = absurd (not u op refl)
 over_unasked r t (Look u) not h = h
 
 -- and so is what left off at an access that the desk does not answer
-pub over_unanswered : (side : Side) (r : Readings) (t : ℕ) (d : Shown) (u : Tick) (op : Op) → IsAt side r t d → (d.below ≤ u.0) ⊎ (byte_seen d.status op ≡ None) → IsOver r t (Access u op)
-over_unanswered side r t d u op at (inl late) = let below = at.below_is in inl (omega arith)
-over_unanswered side r t d u op at (inr none) = inr (ap (λ (z : List ℕ). byte_seen z op) (sym at.status_is) ∙ none)
+pub over_unanswered : {side : Side} {r : Readings} {t : ℕ} {d : Shown} (u : Tick) (op : Op) → IsAt side r t d → (d.below ≤ u.0) ⊎ (byte_seen d.status op ≡ None) → IsOver r t (Access u op)
+over_unanswered u op at (inl late) = inl (omega arith)
+over_unanswered u op at (inr none) = inr (ap (λ z. byte_seen z op) (sym at.status_is) ∙ none)

@@ -17,16 +17,16 @@ accesses-more : (xs : List Event) (t : ℕ) (side : Side) (q : Query) (a : Answe
 accesses-more xs t side q a = accesses-append xs (event_at t side q a ∷ []) ∙ ap (λ z. accesses xs ++ z) (append-nil (entry_of t side q a))
 
 -- the list of the kept and the count, when one event more was noted
-pub kept_more : (keep : ℕ) (xs : List Event) (list : List Entry) (t : ℕ) (side : Side) (q : Query) (a : Answer)
+pub kept_more : (keep : ℕ) (xs : List Event) {list : List Entry} (t : ℕ) (side : Side) (q : Query) (a : Answer)
     → list ≡ take keep (accesses xs) → note_all_leaves keep list (entry_of t side q a) ≡ take keep (accesses (xs ++ event_at t side q a ∷ []))
-kept_more keep xs list t side q a is =
+kept_more keep xs t side q a is =
     ap (λ z. note_all_leaves keep z (entry_of t side q a)) is
     ∙ noted_all_take keep (accesses xs) (entry_of t side q a)
     ∙ ap (take keep) (sym (accesses-more xs t side q a))
 
-pub counted_more : (xs : List Event) (count t : ℕ) (side : Side) (q : Query) (a : Answer)
+pub counted_more : (xs : List Event) {count : ℕ} (t : ℕ) (side : Side) (q : Query) (a : Answer)
     → count ≡ length (accesses xs) → count + length (entry_of t side q a) ≡ length (accesses (xs ++ event_at t side q a ∷ []))
-counted_more xs count t side q a is =
+counted_more xs t side q a is =
     ap (λ z. z + length (entry_of t side q a)) is
     ∙ sym (length-append (accesses xs) (entry_of t side q a))
     ∙ ap length (sym (accesses-more xs t side q a))
@@ -44,10 +44,10 @@ pub counted_on : (xs ys : List Event) (n : ℕ) → n + length (accesses xs) + l
 counted_on xs ys n = let a = ap length (accesses-append xs ys) ∙ length-append (accesses xs) (accesses ys) in omega arith
 
 -- what was noted of two lists in turn
-pub noted_both : (xs ys : List Event) (a b c : Log) → HasNoted (accesses xs) a b → HasNoted (accesses ys) b c → HasNoted (accesses (xs ++ ys)) a c
-noted_both xs ys a b c f g = record {
+pub noted_both : (xs ys : List Event) {a b c : Log} → HasNoted (accesses xs) a b → HasNoted (accesses ys) b c → HasNoted (accesses (xs ++ ys)) a c
+noted_both xs ys {a} f g = record {
   list_is = g.list_is ∙ (λ i. note_all_leaves (f.keep_is i) (f.list_is i) (accesses ys)) ∙ noted_on a.keep xs ys a.list.items;
-  count_is = g.count_is ∙ ap (λ (z : ℕ). z + length (accesses ys)) f.count_is ∙ counted_on xs ys a.count;
+  count_is = g.count_is ∙ ap (λ z. z + length (accesses ys)) f.count_is ∙ counted_on xs ys a.count;
   keep_is = g.keep_is ∙ f.keep_is;
 }
 
@@ -63,7 +63,5 @@ pub still_kept : (keep : ℕ) (list xs : List Entry) → (length list ≤ length
 still_kept keep list [] = (omega arith, λ n le. refl)
 still_kept keep list (x ∷ xs) =
     let one = longer_by keep list x in
-    let a = one.0 in
     let more = still_kept keep (note_leaves keep list x) xs in
-    let b = more.0 in
     (omega arith, λ n le. more.1 n (omega arith) ∙ one.1 n le)

@@ -5,45 +5,27 @@ use Rattle.beeb_bits.specs.declared.Side.TheVariants.{Host, Para}
 use Rattle.tube_chip.specs.Act.{Query}
 use Rattle.tube_chip.specs.Events.{Event, merge, put_in, of_side, is_side}
 use Rattle.tube_party.specs.Moves.{Moves, Runs, Heads, course}
+use Rattle.session.proofs.Runs.{along}
 
 -- all events are of this side
 abbrev pub Sided : Side → List Event → Type 0
 Sided side [] = Unit {0}
 Sided side (e ∷ events) = (e.side ≡ side) × Sided side events
 
-module _ {S : Type 0} (r : Moves S) (side : Side) (n : ℕ) where
-  -- what follows a step, by what it asks
-  abbrev Then : ℕ → S → List Event → S → Option Query → Type 0
-  Then k s events last o =
-      MatchOption o
-      (Runs r side n k (r.next s None) (course events last))
-      (λ q. Heads events (λ e rest. (e.tick ≡ r.due s) × (e.side ≡ side) × (e.query ≡ q) × Runs r side n k (r.next s (Some e.answer)) (course rest last)))
-
-  sided_by : (k : ℕ) (s last : S) (a : List Event) (o : Option Query)
-      → ((t : S) (b : List Event) → Runs r side n k t (course b last) → Sided side b)
-      → Then k s a last o → Sided side a
-  sided_by k s last a None on h = on (r.next s None) a h
-  sided_by k s last [] (Some q) on h = absurd h
-  sided_by k s last (e ∷ rest) (Some q) on h = (h.1, on (r.next s (Some e.answer)) rest h.3)
-
-  nil_sided : (a : List Event) → a ≡ [] → Sided side a
-  nil_sided a is = rw is tt
-
-  -- the events of a run are of its side
-  pub sided : (k : ℕ) (s last : S) (a : List Event) → Runs r side n k s (course a last) → Sided side a
-  sided zero s last a h = nil_sided a h.0
-  sided (suc k) s last a h = sided_by k s last a (r.asks s) (λ t b on. sided k t last b on) h.1
+-- the events of a run are of its side
+pub sided : {S : Type 0} (r : Moves S) (side : Side) (n k : ℕ) (s last : S) (a : List Event) → Runs r side n k s (course a last) → Sided side a
+sided r side n k s last a h = along r side n last (λ s b. Sided side b) tt (λ s b _ h. h) (λ s e b _ _ own h. (own, h)) k s a h
 
 -- the first event, where it is of the side and where it is not
 first_own : (side : Side) (e : Event) (l : List Event) → e.side ≡ side → of_side side (e ∷ l) ≡ e ∷ of_side side l
-first_own Host e l is = ap (λ (x : Side). if is_side Host x then e ∷ of_side Host l else of_side Host l) is
-first_own Para e l is = ap (λ (x : Side). if is_side Para x then e ∷ of_side Para l else of_side Para l) is
+first_own Host e l is = rw is
+first_own Para e l is = rw is
 
 host_skips : (e : Event) (l : List Event) → e.side ≡ Para → of_side Host (e ∷ l) ≡ of_side Host l
-host_skips e l is = ap (λ (x : Side). if is_side Host x then e ∷ of_side Host l else of_side Host l) is
+host_skips e l is = rw is
 
 para_skips : (e : Event) (l : List Event) → e.side ≡ Host → of_side Para (e ∷ l) ≡ of_side Para l
-para_skips e l is = ap (λ (x : Side). if is_side Para x then e ∷ of_side Para l else of_side Para l) is
+para_skips e l is = rw is
 
 none_of_host : (b : List Event) → Sided Para b → of_side Host b ≡ []
 none_of_host [] h = refl

@@ -20,6 +20,8 @@ use Rattle.tube_cell.specs.Steps.{Watches}
 use Rattle.tube_party.specs.Moves.{Moves, IsLawful, Runs, Heads, Looks, shown_lines, course}
 use Rattle.tube_side.specs.CodeSteps.{event_at}
 use Rattle.session.specs.CodeSight.{Sight, byte_seen, byte_answer, readings_seen, joins, observed_by, observed_events, IsSeen}
+use Rattle.tube_cell.proofs.Law.{low_cons, low_head, low_nil, low_tail}
+use Rattle.session.proofs.Runs.{Then}
 
 nat_lt-yes : (m n : ℕ) → m < n → nat_lt m n ≡ true
 nat_lt-yes m n h = grind (arith, nat_tests)
@@ -36,98 +38,94 @@ pub seen_on : (v : Sight) (xs ys : List Event) → IsSeen v xs → IsSeen v ys �
 seen_on v [] ys a b = b
 seen_on v (x ∷ xs) ys a b = (a.0, seen_on v xs ys a.1 b)
 
-pub low_on : (t : ℕ) (xs ys : List Event) → AllBelow t xs → AllBelow t ys → AllBelow t (xs ++ ys)
-low_on t [] ys a b = b
-low_on t (x ∷ xs) ys a b = All-cons (λ e. e.tick < t) x (xs ++ ys) (All-head (λ e. e.tick < t) x xs a) (low_on t xs ys (All-tail (λ e. e.tick < t) x xs a) b)
-
-module _ {S : Type 0} (m : Moves S) (lawful : IsLawful m) (side : Side) (v : Sight) where
+module _ {S : Type 0} {m : Moves S} (lawful : IsLawful m) (side : Side) (v : Sight) where
   abbrev silent : S → S
   silent s = m.next s None
 
   abbrev after : S → Answer → S
   after s a = m.next s (Some a)
 
+  abbrev observed : ℕ → ℕ → S → List Event
+  observed limit k s = observed_events m side v limit k s
+
+  -- by what the step asks
+  abbrev observed_as : ℕ → ℕ → S → Option Query → List Event
+  observed_as limit k s o = observed_by v side (m.due s) (observed limit k (silent s)) (λ a. observed limit k (after s a)) o
+
   -- none from the limit on
-  pub none_late : (limit k : ℕ) (s : S) → limit ≤ m.due s → observed_events m side v limit k s ≡ []
+  pub none_late : (limit k : ℕ) (s : S) → limit ≤ m.due s → observed limit k s ≡ []
   none_late limit zero s le = refl
   none_late limit (suc k) s le = rw (nat_lt-no (m.due s) limit le) refl
 
   -- below the limit, by what is asked
   one_more : (limit k : ℕ) (s : S) → m.due s < limit
-      → observed_events m side v limit (suc k) s ≡ observed_by v side (m.due s) (observed_events m side v limit k (silent s)) (λ a. observed_events m side v limit k (after s a)) (m.asks s)
+      → observed limit (suc k) s ≡ observed_as limit k s (m.asks s)
   one_more limit k s lt = rw (nat_lt-yes (m.due s) limit lt) refl
 
   -- enough steps are enough
-  pub enough : (limit j k : ℕ) (s : S) → limit ≤ m.due s + j → limit ≤ m.due s + k → observed_events m side v limit j s ≡ observed_events m side v limit k s
+  pub enough : (limit j k : ℕ) (s : S) → limit ≤ m.due s + j → limit ≤ m.due s + k → observed limit j s ≡ observed limit k s
   enough limit zero k s a b = sym (none_late limit k s (omega arith))
   enough limit (suc j) zero s a b = none_late limit (suc j) s (omega arith)
   enough limit (suc j) (suc k) s a b =
       let x : m.due s < m.due (silent s) = lawful.rises s None in
       let p = enough limit j k (silent s) (omega arith) (omega arith) in
-      let later : (y : Answer) → observed_events m side v limit j (after s y) ≡ observed_events m side v limit k (after s y) =
+      let later : (y : Answer) → observed limit j (after s y) ≡ observed limit k (after s y) =
       λ y. let z : m.due s < m.due (after s y) = lawful.rises s (Some y) in enough limit j k (after s y) (omega arith) (omega arith) in
       (λ i. cond (nat_lt (m.due s) limit) (observed_by v side (m.due s) (p i) (λ y. later y i) (m.asks s)) [])
 
   -- each is below the limit
-  limit_joins : (limit at : ℕ) (q : Query) (later : Answer → List Event) (o : Option Answer) → at < limit → ((a : Answer) → All (λ e. e.tick < limit) (later a))
-      → All (λ e. e.tick < limit) (joins side at q later o)
-  limit_joins limit at q later None lt b = All-nil (λ e. e.tick < limit)
-  limit_joins limit at q later (Some a) lt b = All-cons (λ e. e.tick < limit) (event_at at side q a) (later a) lt (b a)
-
-  limit_by : (limit at : ℕ) (xs : List Event) (later : Answer → List Event) (o : Option Query) → at < limit → All (λ e. e.tick < limit) xs → ((a : Answer) → All (λ e. e.tick < limit) (later a))
-      → All (λ e. e.tick < limit) (observed_by v side at xs later o)
+  limit_by : (limit at : ℕ) (xs : List Event) (later : Answer → List Event) (o : Option Query) → at < limit → AllBelow limit xs → ((a : Answer) → AllBelow limit (later a))
+      → AllBelow limit (observed_by v side at xs later o)
   limit_by limit at xs later None lt a b = a
-  limit_by limit at xs later (Some q) lt a b = limit_joins limit at q later (v q) lt b
+  limit_by limit at xs later (Some q) lt a b = elim (v q) as (λ o. AllBelow limit (joins side at q later o)) [
+    | None ↦ low_nil
+    | Some a ↦ low_cons (event_at at side q a) (later a) lt (b a)
+  ]
 
-  pub below_limit : (limit k : ℕ) (s : S) → All (λ e. e.tick < limit) (observed_events m side v limit k s)
-  below_limit limit zero s = All-nil (λ e. e.tick < limit)
+  pub below_limit : (limit k : ℕ) (s : S) → AllBelow limit (observed limit k s)
+  below_limit limit zero s = low_nil
   below_limit limit (suc k) s =
-      ⊎_elim
-      (λ (lt : m.due s < limit). subst (All (λ e. e.tick < limit)) (sym (one_more limit k s lt))
-      (limit_by limit (m.due s) (observed_events m side v limit k (silent s)) (λ a. observed_events m side v limit k (after s a)) (m.asks s) lt (below_limit limit k (silent s))
+      ⊎_elim (λ (lt : m.due s < limit). subst (AllBelow limit) (sym (one_more limit k s lt))
+      (limit_by limit (m.due s) (observed limit k (silent s)) (λ a. observed limit k (after s a)) (m.asks s) lt (below_limit limit k (silent s))
       (λ a. below_limit limit k (after s a))))
-      (λ (ge : limit ≤ m.due s). subst (All (λ e. e.tick < limit)) (sym (none_late limit (suc k) s ge)) (All-nil (λ e. e.tick < limit)))
+      (λ (ge : limit ≤ m.due s). subst (AllBelow limit) (sym (none_late limit (suc k) s ge)) low_nil)
       (cases_lt (m.due s) limit)
 
   -- a cut before all of them leaves none
-  early_joins : (t at : ℕ) (q : Query) (later : Answer → List Event) (o : Option Answer) → t ≤ at → below t (joins side at q later o) ≡ []
-  early_joins t at q later None le = refl
-  early_joins t at q later (Some a) le = rw (nat_lt-no at t le) refl
-
   cut_early_by : (t at : ℕ) (xs : List Event) (later : Answer → List Event) (o : Option Query) → t ≤ at → below t xs ≡ [] → below t (observed_by v side at xs later o) ≡ []
   cut_early_by t at xs later None le e = e
-  cut_early_by t at xs later (Some q) le e = early_joins t at q later (v q) le
+  cut_early_by t at xs later (Some q) le e = elim (v q) as (λ o. below t (joins side at q later o) ≡ []) [
+    | None ↦ refl
+    | Some a ↦ rw (nat_lt-no at t le) refl
+  ]
 
-  cut_early : (t limit k : ℕ) (s : S) → t ≤ m.due s → below t (observed_events m side v limit k s) ≡ []
+  cut_early : (t limit k : ℕ) (s : S) → t ≤ m.due s → below t (observed limit k s) ≡ []
   cut_early t limit zero s le = refl
   cut_early t limit (suc k) s le =
       let x : m.due s < m.due (silent s) = lawful.rises s None in
-      let e = cut_early_by t (m.due s) (observed_events m side v limit k (silent s)) (λ a. observed_events m side v limit k (after s a)) (m.asks s) le (cut_early t limit k (silent s) (omega arith)) in
-      elim (nat_lt (m.due s) limit) as (λ b. below t (cond b (observed_by v side (m.due s) (observed_events m side v limit k (silent s))
-      (λ a. observed_events m side v limit k (after s a)) (m.asks s)) []) ≡ []) [
+      let e = cut_early_by t (m.due s) (observed limit k (silent s)) (λ a. observed limit k (after s a)) (m.asks s) le (cut_early t limit k (silent s) (omega arith)) in
+      elim (nat_lt (m.due s) limit) as (λ b. below t (cond b (observed_as limit k s (m.asks s)) []) ≡ []) [
         | true ↦ e
         | false ↦ refl
       ]
 
-  cut_joins : (t at : ℕ) (q : Query) (ys vs : Answer → List Event) (o : Option Answer) → at < t → ((a : Answer) → below t (ys a) ≡ vs a) → below t (joins side at q ys o) ≡ joins side at q vs o
-  cut_joins t at q ys vs None lt f = refl
-  cut_joins t at q ys vs (Some a) lt f = rw (nat_lt-yes at t lt) (ap (λ l. event_at at side q a ∷ l) (f a))
-
-  cut_by : (t at : ℕ) (xs us : List Event) (ys vs : Answer → List Event) (o : Option Query) → at < t → below t xs ≡ us → ((a : Answer) → below t (ys a) ≡ vs a)
+  cut_by : (t at : ℕ) (xs : List Event) {us : List Event} (ys vs : Answer → List Event) (o : Option Query) → at < t → below t xs ≡ us → ((a : Answer) → below t (ys a) ≡ vs a)
       → below t (observed_by v side at xs ys o) ≡ observed_by v side at us vs o
-  cut_by t at xs us ys vs None lt e f = e
-  cut_by t at xs us ys vs (Some q) lt e f = cut_joins t at q ys vs (v q) lt f
+  cut_by t at xs ys vs None lt e f = e
+  cut_by t at xs ys vs (Some q) lt e f = elim (v q) as (λ o. below t (joins side at q ys o) ≡ joins side at q vs o) [
+    | None ↦ refl
+    | Some a ↦ rw (nat_lt-yes at t lt) (ap (λ l. event_at at side q a ∷ l) (f a))
+  ]
 
   -- cut at an earlier tick they are those below it
-  pub cut : (t limit k : ℕ) (s : S) → t ≤ limit → below t (observed_events m side v limit k s) ≡ observed_events m side v t k s
+  pub cut : (t limit k : ℕ) (s : S) → t ≤ limit → below t (observed limit k s) ≡ observed t k s
   cut t limit zero s le = refl
   cut t limit (suc k) s le =
       ⊎_elim
       (λ (lt : m.due s < t).
       ap (below t) (one_more limit k s (omega arith))
-      ∙ cut_by t (m.due s) (observed_events m side v limit k (silent s)) (observed_events m side v t k (silent s)) (λ a. observed_events m side v limit k (after s a))
-      (λ a. observed_events m side v t k (after s a)) (m.asks s) lt
-      (cut t limit k (silent s) le) (λ a. cut t limit k (after s a) le)
+      ∙ cut_by t (m.due s) (observed limit k (silent s)) (λ a. observed limit k (after s a))
+      (λ a. observed t k (after s a)) (m.asks s) lt (cut t limit k (silent s) le) (λ a. cut t limit k (after s a) le)
       ∙ sym (one_more t k s lt))
       (λ (ge : t ≤ m.due s). cut_early t limit (suc k) s ge ∙ sym (none_late t (suc k) s ge))
       (cases_lt (m.due s) t)
@@ -144,83 +142,76 @@ module _ {S : Type 0} (m : Moves S) (lawful : IsLawful m) (side : Side) (v : Sig
   watches_by c limit at from xs later None shows le lt silent on = silent
   watches_by c limit at from xs later (Some q) shows le lt silent on = watches_joins c limit at from q later (v q) (shows q) le lt on
 
-  pub watches : (c : State) (limit k : ℕ) (s : S) (from : ℕ) → Shows c side v → from ≤ m.due s → Watches side from c (observed_events m side v limit k s) limit
+  pub watches : (c : State) (limit k : ℕ) (s : S) (from : ℕ) → Shows c side v → from ≤ m.due s → Watches side from c (observed limit k s) limit
   watches c limit zero s from shows le = tt
   watches c limit (suc k) s from shows le =
       let x : m.due s < m.due (silent s) = lawful.rises s None in
-      let later : (a : Answer) → Watches side (m.due s + 1) c (observed_events m side v limit k (after s a)) limit =
+      let later : (a : Answer) → Watches side (m.due s + 1) c (observed limit k (after s a)) limit =
       λ a. let y : m.due s < m.due (after s a) = lawful.rises s (Some a) in watches c limit k (after s a) (m.due s + 1) shows (omega arith) in
-      ⊎_elim
-      (λ (lt : m.due s < limit). subst (λ (l : List Event). Watches side from c l limit) (sym (one_more limit k s lt))
-      (watches_by c limit (m.due s) from (observed_events m side v limit k (silent s)) (λ a. observed_events m side v limit k (after s a)) (m.asks s) shows le lt
+      ⊎_elim (λ (lt : m.due s < limit). subst (λ l. Watches side from c l limit) (sym (one_more limit k s lt))
+      (watches_by c limit (m.due s) from (observed limit k (silent s)) (λ a. observed limit k (after s a)) (m.asks s) shows le lt
       (watches c limit k (silent s) from shows (omega arith)) later))
-      (λ (ge : limit ≤ m.due s). subst (λ (l : List Event). Watches side from c l limit) (sym (none_late limit (suc k) s ge)) tt)
+      (λ (ge : limit ≤ m.due s). subst (λ l. Watches side from c l limit) (sym (none_late limit (suc k) s ge)) tt)
       (cases_lt (m.due s) limit)
 
   -- ---- a run whose queries see what they see is what is observed
 
-  module _ (n limit : ℕ) (last : S) (stops : (k : ℕ) → observed_events m side v limit k last ≡ []) where
-    abbrev Rest : ℕ → S → List Event → Option Query → Type 0
-    Rest k s events o =
-        MatchOption o (Runs m side n k (m.next s None) (course events last))
-        (λ q. Heads events (λ e rest. (e.tick ≡ m.due s) × (e.side ≡ side) × (e.query ≡ q) × Runs m side n k (m.next s (Some e.answer)) (course rest last)))
-
+  module _ (n limit : ℕ) (last : S) (stops : (k : ℕ) → observed limit k last ≡ []) where
     -- a step that asks nothing, whether it is below the limit or not
-    silent_same : (fuel : ℕ) (s : S) → m.asks s ≡ None → limit ≤ m.due s + fuel → observed_events m side v limit fuel (silent s) ≡ observed_events m side v limit fuel s
+    silent_same : (fuel : ℕ) (s : S) → m.asks s ≡ None → limit ≤ m.due s + fuel → observed limit fuel (silent s) ≡ observed limit fuel s
     silent_same zero s is far = refl
     silent_same (suc j) s is far =
         let x : m.due s < m.due (silent s) = lawful.rises s None in
         ⊎_elim
         (λ (lt : m.due s < limit). enough limit (suc j) j (silent s) (omega arith) (omega arith)
-        ∙ sym (one_more limit j s lt ∙ ap (observed_by v side (m.due s) (observed_events m side v limit j (silent s)) (λ a. observed_events m side v limit j (after s a))) is))
+        ∙ sym (one_more limit j s lt ∙ ap (observed_as limit j s) is))
         (λ (ge : limit ≤ m.due s). none_late limit (suc j) (silent s) (omega arith) ∙ sym (none_late limit (suc j) s ge))
         (cases_lt (m.due s) limit)
 
-    asked_same : (j : ℕ) (s : S) (q : Query) (a : Answer) (rest : List Event) → m.due s < limit → m.asks s ≡ Some q → v q ≡ Some a → rest ≡ observed_events m side v limit j (after s a)
-        → event_at (m.due s) side q a ∷ rest ≡ observed_events m side v limit (suc j) s
-    asked_same j s q a rest lt is sees on =
+    asked_same : (j : ℕ) (s : S) (q : Query) (a : Answer) {rest : List Event} → m.due s < limit → m.asks s ≡ Some q → v q ≡ Some a → rest ≡ observed limit j (after s a)
+        → event_at (m.due s) side q a ∷ rest ≡ observed limit (suc j) s
+    asked_same j s q a lt is sees on =
         sym (one_more limit j s lt
-        ∙ ap (observed_by v side (m.due s) (observed_events m side v limit j (silent s)) (λ y. observed_events m side v limit j (after s y))) is
-        ∙ ap (joins side (m.due s) q (λ y. observed_events m side v limit j (after s y))) sees
+        ∙ ap (observed_as limit j s) is
+        ∙ ap (joins side (m.due s) q (λ y. observed limit j (after s y))) sees
         ∙ ap (λ l. event_at (m.due s) side q a ∷ l) (sym on))
 
-    event_is : (e : Event) (t : ℕ) (q : Query) → e.tick ≡ t → e.side ≡ side → e.query ≡ q → e ≡ event_at t side q e.answer
-    event_is e t q a b c = (λ i. event_at (a i) (b i) (c i) e.answer)
+    event_is : (e : Event) {t : ℕ} {q : Query} → e.tick ≡ t → e.side ≡ side → e.query ≡ q → e ≡ event_at t side q e.answer
+    event_is e a b c = (λ i. event_at (a i) (b i) (c i) e.answer)
 
-    first_by : (fuel : ℕ) (s : S) (q : Query) (e : Event) (rest : List Event) → m.asks s ≡ Some q → e.tick < limit → limit ≤ m.due s + fuel → e.tick ≡ m.due s → e.side ≡ side → e.query ≡ q
-        → v e.query ≡ Some e.answer → ((j : ℕ) → limit ≤ m.due (after s e.answer) + j → rest ≡ observed_events m side v limit j (after s e.answer)) → e ∷ rest ≡ observed_events m side v limit fuel s
-    first_by zero s q e rest is lt far at own query sees on = absurd (omega arith)
-    first_by (suc j) s q e rest is lt far at own query sees on =
+    first_by : (fuel : ℕ) (s : S) {q : Query} (e : Event) (rest : List Event) → m.asks s ≡ Some q → e.tick < limit → limit ≤ m.due s + fuel → e.tick ≡ m.due s → e.side ≡ side → e.query ≡ q
+        → v e.query ≡ Some e.answer → ((j : ℕ) → limit ≤ m.due (after s e.answer) + j → rest ≡ observed limit j (after s e.answer)) → e ∷ rest ≡ observed limit fuel s
+    first_by zero s e rest is lt far at own query sees on = absurd (omega arith)
+    first_by (suc j) s {q} e rest is lt far at own query sees on =
         let y : m.due s < m.due (after s e.answer) = lawful.rises s (Some e.answer) in
         let sees_it : v q ≡ Some e.answer = ap v (sym query) ∙ sees in
-        ap (λ (x : Event). x ∷ rest) (event_is e (m.due s) q at own query) ∙ asked_same j s q e.answer rest (omega arith) is sees_it (on j (omega arith))
+        ap (λ x. x ∷ rest) (event_is e at own query) ∙ asked_same j s q e.answer (omega arith) is sees_it (on j (omega arith))
 
     made_by : (k fuel : ℕ) (s : S) (events : List Event) (o : Option Query) → m.asks s ≡ o → limit ≤ m.due s + fuel
-        → ((u : S) (es : List Event) (more : ℕ) → Runs m side n k u (course es last) → IsSeen v es → All (λ e. e.tick < limit) es → limit ≤ m.due u + more → es ≡ observed_events m side v limit more u)
-        → Rest k s events o → IsSeen v events → All (λ e. e.tick < limit) events → events ≡ observed_events m side v limit fuel s
+        → ((u : S) (es : List Event) (more : ℕ) → Runs m side n k u (course es last) → IsSeen v es → AllBelow limit es → limit ≤ m.due u + more → es ≡ observed limit more u)
+        → Then m side n k s events last o → IsSeen v events → AllBelow limit events → events ≡ observed limit fuel s
     made_by k fuel s events None is far on h sees low =
         let x : m.due s < m.due (silent s) = lawful.rises s None in
         on (silent s) events fuel h sees low (omega arith) ∙ silent_same fuel s is far
     made_by k fuel s [] (Some q) is far on h sees low = absurd h
     made_by k fuel s (e ∷ rest) (Some q) is far on h sees low =
-        first_by fuel s q e rest is (All-head (λ z. z.tick < limit) e rest low) far h.0 h.1 h.2 sees.0
-        (λ j more. on (after s e.answer) rest j h.3 sees.1 (All-tail (λ z. z.tick < limit) e rest low) more)
+        first_by fuel s e rest is (low_head e rest low) far h.0 h.1 h.2 sees.0
+        (λ j more. on (after s e.answer) rest j h.3 sees.1 (low_tail e rest low) more)
 
     -- Where its events are below the limit, and nothing is observed below it at its end, they are what is observed.
-    pub made : (k fuel : ℕ) (s : S) (events : List Event) → Runs m side n k s (course events last) → IsSeen v events → All (λ e. e.tick < limit) events → limit ≤ m.due s + fuel
-        → events ≡ observed_events m side v limit fuel s
-    made zero fuel s events h sees low far = h.0 ∙ sym (ap (observed_events m side v limit fuel) h.1 ∙ stops fuel)
-    made (suc k) fuel s events h sees low far = made_by k fuel s events (m.asks s) refl far (λ u es more runs saw under enough'. made k more u es runs saw under enough') h.1 sees low
+    pub made : (k fuel : ℕ) (s : S) (events : List Event) → Runs m side n k s (course events last) → IsSeen v events → AllBelow limit events → limit ≤ m.due s + fuel
+        → events ≡ observed limit fuel s
+    made zero fuel s events h sees low far = h.0 ∙ sym (ap (observed limit fuel) h.1 ∙ stops fuel)
+    made (suc k) fuel s events h sees low far = made_by k fuel s _ _ refl far (λ u es more runs saw under enough'. made k more u es runs saw under enough') h.1 sees low
 
   -- nothing is observed from a step on whose query is not answered
-  pub stops_at : (limit k : ℕ) (s : S) (q : Query) → m.asks s ≡ Some q → v q ≡ None → observed_events m side v limit k s ≡ []
+  pub stops_at : (limit k : ℕ) (s : S) (q : Query) → m.asks s ≡ Some q → v q ≡ None → observed limit k s ≡ []
   stops_at limit zero s q is none = refl
   stops_at limit (suc k) s q is none =
-      let e : observed_by v side (m.due s) (observed_events m side v limit k (silent s)) (λ a. observed_events m side v limit k (after s a)) (m.asks s) ≡ [] =
-      ap (observed_by v side (m.due s) (observed_events m side v limit k (silent s)) (λ a. observed_events m side v limit k (after s a))) is
-      ∙ ap (joins side (m.due s) q (λ a. observed_events m side v limit k (after s a))) none in
-      elim (nat_lt (m.due s) limit) as (λ b. cond b (observed_by v side (m.due s) (observed_events m side v limit k (silent s)) (λ a. observed_events m side v limit k (after s a))
-      (m.asks s)) [] ≡ []) [
+      let e : observed_as limit k s (m.asks s) ≡ [] =
+      ap (observed_as limit k s) is
+      ∙ ap (joins side (m.due s) q (λ a. observed limit k (after s a))) none in
+      elim (nat_lt (m.due s) limit) as (λ b. cond b (observed_as limit k s (m.asks s)) [] ≡ []) [
         | true ↦ e
         | false ↦ refl
       ]
@@ -234,7 +225,7 @@ module _ {S : Type 0} (m : Moves S) (lawful : IsLawful m) (side : Side) (v : Sig
       pub runs : Runs m side n k s (course events last)
       pub seen : IsSeen v events
       pub silent : accesses events ≡ []
-      pub low : All (λ e. e.tick < sure) events
+      pub low : AllBelow sure events
 
     looked_by : (sure k : ℕ) (s last : S) (o : Option Query) → m.asks s ≡ o → m.due s < n → ((u : S) → Looks m n (shown_lines lines sure) k u last → IsLooks sure k u last)
         → MatchOption o (Looks m n (shown_lines lines sure) k (silent s) last)
@@ -250,11 +241,11 @@ module _ {S : Type 0} (m : Moves S) (lawful : IsLawful m) (side : Side) (v : Sig
           runs = (under, rw is (refl, refl, sym h.0, r.runs));
           seen = (sees_lines, r.seen);
           silent = r.silent;
-          low = All-cons (λ z. z.tick < sure) e r.events h.1 r.low;
+          low = low_cons e r.events h.1 r.low;
         }
 
     pub looked : (sure k : ℕ) (s last : S) → Looks m n (shown_lines lines sure) k s last → IsLooks sure k s last
-    looked sure zero s last h = record { events = []; runs = (refl, h); seen = tt; silent = refl; low = All-nil (λ z. z.tick < sure) }
+    looked sure zero s last h = record { events = []; runs = (refl, h); seen = tt; silent = refl; low = low_nil }
     looked sure (suc k) s last h = looked_by sure k s last (m.asks s) refl h.0 (λ u on. looked sure k u last on) h.1
 
 -- ---- what chips show
@@ -262,50 +253,35 @@ module _ {S : Type 0} (m : Moves S) (lawful : IsLawful m) (side : Side) (v : Sig
 beq_yes : (m n : ℕ) → (m == n) ≡ true → m ≡ n
 beq_yes m n h = grind (arith, nat_tests)
 
--- a status register, by its number
-one_shows : (c : State) (side : Side) (number k byte : ℕ) (a : Answer) → number ≡ k → is_observation (access (Read k)) ≡ true → (act c side (access (Read k))).1 ≡ Byte byte
-    → byte_answer (Some byte) ≡ Some a → (is_observation (access (Read number)) ≡ true) × ((act c side (access (Read number))).1 ≡ a)
-one_shows c side number k byte a is status answers e =
-    let b : Byte byte ≡ a = cc in
-    subst (λ (x : ℕ). (is_observation (access (Read x)) ≡ true) × ((act c side (access (Read x))).1 ≡ a)) (sym is) (status, answers ∙ b)
-
 module _ (c : State) (side : Side) (number : ℕ) (a : Answer) where
-  abbrev Shown : Type 0
-  Shown = (is_observation (access (Read number)) ≡ true) × ((act c side (access (Read number))).1 ≡ a)
+  abbrev IsShown : ℕ → Type 0
+  IsShown k = (is_observation (access (Read k)) ≡ true) × ((act c side (access (Read k))).1 ≡ a)
 
   abbrev byte : ℕ → ℕ
   byte i = slice_index (shown_to side c).status i
 
-  abbrev fourth : Bool → Option ℕ
-  fourth b = cond b (Some (byte 3)) None
-
-  abbrev third : Bool → Option ℕ
-  third b = cond b (Some (byte 2)) (fourth (number == 6))
-
-  abbrev second : Bool → Option ℕ
-  second b = cond b (Some (byte 1)) (third (number == 4))
-
-  nothing : byte_answer None ≡ Some a → Shown
-  nothing e = absurd (cc)
-
-  read_shows : byte_answer (byte_seen (shown_to side c).status (Read number)) ≡ Some a → Shown
-  read_shows =
-      (elim (number == 0) as (λ b. (number == 0) ≡ b → byte_answer (cond b (Some (byte 0)) (second (number == 2))) ≡ Some a → Shown) [
-        | true ↦ λ h e. one_shows c side number 0 (byte 0) a (beq_yes number 0 h) refl refl e
-        | false ↦ λ h.
-            (elim (number == 2) as (λ b. (number == 2) ≡ b → byte_answer (second b) ≡ Some a → Shown) [
-              | true ↦ λ h e. one_shows c side number 2 (byte 1) a (beq_yes number 2 h) refl refl e
-              | false ↦ λ h.
-                  (elim (number == 4) as (λ b. (number == 4) ≡ b → byte_answer (third b) ≡ Some a → Shown) [
-                    | true ↦ λ h e. one_shows c side number 4 (byte 2) a (beq_yes number 4 h) refl refl e
-                    | false ↦ λ h.
-                        (elim (number == 6) as (λ b. (number == 6) ≡ b → byte_answer (fourth b) ≡ Some a → Shown) [
-                          | true ↦ λ h e. one_shows c side number 6 (byte 3) a (beq_yes number 6 h) refl refl e
-                          | false ↦ λ h e. nothing e
-                        ]) refl
-                  ]) refl
-            ]) refl
+  -- a status register, by its number, and those behind it
+  one_shows : (k byte : ℕ) (rest : Option ℕ) → is_observation (access (Read k)) ≡ true → (act c side (access (Read k))).1 ≡ Byte byte
+      → (byte_answer rest ≡ Some a → IsShown number) → byte_answer (cond (number == k) (Some byte) rest) ≡ Some a → IsShown number
+  one_shows k byte rest status answers later =
+      (elim (number == k) as (λ b. (number == k) ≡ b → byte_answer (cond b (Some byte) rest) ≡ Some a → IsShown number) [
+        | true ↦ λ h e. let is : Byte byte ≡ a = cc in subst IsShown (sym (beq_yes number k h)) (status, answers ∙ is)
+        | false ↦ λ h. later
       ]) refl
+
+  abbrev fourth : Option ℕ
+  fourth = cond (number == 6) (Some (byte 3)) None
+
+  abbrev third : Option ℕ
+  third = cond (number == 4) (Some (byte 2)) fourth
+
+  abbrev second : Option ℕ
+  second = cond (number == 2) (Some (byte 1)) third
+
+  read_shows : byte_answer (byte_seen (shown_to side c).status (Read number)) ≡ Some a → IsShown number
+  read_shows =
+      one_shows 0 (byte 0) second refl refl
+      (one_shows 2 (byte 1) third refl refl (one_shows 4 (byte 2) fourth refl refl (one_shows 6 (byte 3) None refl refl (λ e. absurd (cc)))))
 
 access_shows : (c : State) (side : Side) (op : Op) (a : Answer) → byte_answer (byte_seen (shown_to side c).status op) ≡ Some a
     → (is_observation (access op) ≡ true) × ((act c side (access op)).1 ≡ a)
@@ -313,15 +289,15 @@ access_shows c side (Read number) a e = read_shows c side number a e
 access_shows c side (Write number written) a e = absurd (cc)
 access_shows c side Reset a e = absurd (cc)
 
-pub readings_show : (c : State) (side : Side) (r : Readings) → r ≡ shown_to side c → Shows c side (readings_seen r)
-readings_show c side r is = subst (λ (x : Readings). Shows c side (readings_seen x)) (sym is) shows
+pub readings_show : (c : State) (side : Side) {r : Readings} → r ≡ shown_to side c → Shows c side (readings_seen r)
+readings_show c side is = subst (λ (x : Readings). Shows c side (readings_seen x)) (sym is) shows
   where
     shows : Shows c side (readings_seen (shown_to side c))
     shows look a e = (refl, cc)
     shows (access op) a e = access_shows c side op a e
 
 -- what a side will observe, as its chip shows it
-pub watches_shown : {S : Type 0} (m : Moves S) (lawful : IsLawful m) (side : Side) (c : State) (r : Readings) (end : ℕ) (s : S) (from : ℕ) (events : List Event)
+pub watches_shown : {S : Type 0} {m : Moves S} (lawful : IsLawful m) (side : Side) (c : State) {r : Readings} (end : ℕ) (s : S) (from : ℕ) {events : List Event}
     → r ≡ shown_to side c → events ≡ observed_events m side (readings_seen r) end end s → from ≤ m.due s → Watches side from c events end
-watches_shown m lawful side c r end s from events shown is le =
-    subst (λ (l : List Event). Watches side from c l end) (sym is) (watches m lawful side (readings_seen r) c end end s from (readings_show c side r shown) le)
+watches_shown lawful side c {r} end s from shown is le =
+    subst (λ l. Watches side from c l end) (sym is) (watches lawful side (readings_seen r) c end end s from (readings_show c side shown) le)

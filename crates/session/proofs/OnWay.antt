@@ -29,72 +29,72 @@ use Rattle.session.specs.CodeObserved.{HasObserved, IsOver}
 use Rattle.session.specs.CodeWay.{way_of, Outset, outset, observed_past, IsReached, IsNoted, IsOnWay, IsSettled, IsNoEarlier, Trip, IsStillThere, IsOnTrip, HasGoneFurther}
 use Rattle.tube_side.specs.CodeTrust.{HasTrusted, HasPassed}
 use Rattle.session.specs.declared.way.Checkpoint.{Checkpoint}
-use Rattle.session.proofs.Runs.{append, rises}
+use Rattle.session.proofs.Runs.{Then, append, rises}
 use Rattle.session.proofs.Kept.{noted_on, counted_on, still_kept}
 use Rattle.session.proofs.Gone.{events_low, events_under}
-use Rattle.session.proofs.Observing.{none_late, below_limit, cut, watches, made, readings_show, seen_on, low_on}
+use Rattle.session.proofs.Observing.{none_late, below_limit, cut, watches, made, readings_show, seen_on}
 use Rattle.session.proofs.UnderWay.{here}
+use Rattle.tube_cell.proofs.Law.{low_cons, low_head, low_nil, low_tail}
 
 -- what is observed makes a way
-pub is_way : {S : Type 0} (m : Moves S) (lawful : IsLawful m) (n : ℕ) (from : Outset S) → IsWay (way_of m n from)
-is_way m lawful n from =
+pub is_way : {S : Type 0} {m : Moves S} (lawful : IsLawful m) (n : ℕ) (from : Outset S) → IsWay (way_of m n from)
+is_way {m} lawful n from =
     let v = readings_seen from.at.mark.readings in record {
-      low = λ t. below_limit m lawful Para v t n from.state;
-      part = λ t limit le. cut m lawful Para v t limit n from.state le;
-      none = none_late m lawful Para v 0 n from.state (omega arith);
-      watches = λ c t is. watches m lawful Para v c t n from.state (m.due from.state) (readings_show c Para from.at.mark.readings is) (omega arith);
+      low = λ t. below_limit lawful Para v t n from.state;
+      part = λ t limit le. cut lawful Para v t limit n from.state le;
+      none = none_late lawful Para v 0 n from.state (omega arith);
+      watches = λ c t is. watches lawful Para v c t n from.state (m.due from.state) (readings_show c Para is) (omega arith);
     }
 
-module _ {S : Type 0} (m : Moves S) (lawful : IsLawful m) (n : ℕ) (from : Outset S) where
+module _ {S : Type 0} {m : Moves S} (lawful : IsLawful m) (n : ℕ) (from : Outset S) where
   abbrev sight : Sight
   sight = readings_seen from.at.mark.readings
 
-  -- it goes on: these events more, noted
-  module _ (ask ask2 : Ask) (x y : Station S) (w : IsOnWay m n from ask x) (here : x.at.state ≡ w.last) (events : List Event) (steps : ℕ) (last : S) where
-    goes_both : Runs m Para n steps x.at.state (course events last) → IsSeen sight events → IsAsk m n last ask2 y.at.state → HasNoted (accesses events) x.log y.log
-        → (e : IsOnWay m n from ask2 y) × ((t : ℕ) → AllBelow t w.events → AllBelow t events → AllBelow t e.events)
-    goes_both runs seen asked noted =
-        let all = append m Para n w.last last events w.steps from.state w.events w.runs (steps, subst (λ (z : S). Runs m Para n steps z (course events last)) here runs) in
-        let len = from.at.log.len in
-        let l0 = take len x.log.list.items in
-        let keep = x.log.keep in
-        let old = w.noted in
-        let grown = still_kept keep x.log.list.items (accesses events) in
-        let longer : length x.log.list.items ≤ length y.log.list.items = let g = grown.0 in let e = ap length noted.list_is in omega arith in
-        let kept = old.kept in
-        let same : take len y.log.list.items ≡ l0 = ap (take len) noted.list_is ∙ grown.1 len kept in (
-          record {
-            events = w.events ++ events;
-            steps = all.0;
-            last = last;
-            runs = all.1;
-            seen = seen_on sight w.events events w.seen seen;
-            asked = asked;
-            noted = record {
-              kept = omega arith;
-              list_is =
-                  noted.list_is ∙ ap (λ (l : List Entry). note_all_leaves keep l (accesses events)) old.list_is
-                  ∙ noted_on keep w.events events l0
-                  ∙ (λ i. note_all_leaves (sym noted.keep_is i) (sym same i) (accesses (w.events ++ events)));
-              count_is = noted.count_is ∙ ap (λ (z : ℕ). z + length (accesses events)) old.count_is ∙ counted_on w.events events from.at.log.count;
-            };
-            few = w.few;
-          },
-          λ t a b. low_on t w.events events a b,
-        )
+  -- it goes on: what it observes more is noted too
+  goes_both : {ask ask2 : Ask} {far : ℕ} {x : Station S} (y : Station S) (w : IsOnWay m n from ask x) → x.at.state ≡ w.last
+      → HasObserved m Para n from.at.mark.readings far x.at.state x.log ask2 y.at.state y.log → IsOnWay m n from ask2 y
+  goes_both {x = x} y w stood h =
+      let events = h.events in
+      let all = append m Para n w.last h.last events w.steps from.state w.events w.runs (h.steps, subst (λ z. Runs m Para n h.steps z (course events h.last)) stood h.runs) in
+      let len = from.at.log.len in
+      let l0 = take len x.log.list.items in
+      let keep = x.log.keep in
+      let old = w.noted in
+      let noted = h.noted in
+      let grown = still_kept keep x.log.list.items (accesses events) in
+      let longer : length x.log.list.items ≤ length y.log.list.items = let e = ap length noted.list_is in omega arith in
+      let kept = old.kept in
+      let same : take len y.log.list.items ≡ l0 = ap (take len) noted.list_is ∙ grown.1 len kept in
+      record {
+        events = w.events ++ events;
+        steps = all.0;
+        last = h.last;
+        runs = all.1;
+        seen = seen_on sight w.events events w.seen h.seen;
+        asked = h.asked;
+        noted = record {
+          kept = omega arith;
+          list_is =
+              noted.list_is ∙ ap (λ (l : List Entry). note_all_leaves keep l (accesses events)) old.list_is
+              ∙ noted_on keep w.events events l0
+              ∙ (λ i. note_all_leaves (sym noted.keep_is i) (sym same i) (accesses (w.events ++ events)));
+          count_is = noted.count_is ∙ ap (λ z. z + length (accesses events)) old.count_is ∙ counted_on w.events events from.at.log.count;
+        };
+        few = w.few;
+      }
 
   -- what was noted before the mark is still there
-  pub still_there : (x y : Log) (entries : List Entry) → from.at.log.len ≤ length x.list.items → HasNoted entries x y → IsStillThere from.at.log x y
-  still_there x y entries kept noted = record {
+  pub still_there : {x y : Log} {entries : List Entry} → from.at.log.len ≤ length x.list.items → HasNoted entries x y → IsStillThere from.at.log x y
+  still_there {x} {entries} kept noted = record {
     kept = ap (take from.at.log.len) noted.list_is ∙ (still_kept x.keep x.list.items entries).1 from.at.log.len kept;
     keep_is = noted.keep_is;
   }
 
   -- what it observed from where it set out, with a log that was written so far as the mark tells
-  pub sets_out : (ask : Ask) (far : ℕ) (log : Log) (y : Station S) → HasObserved m Para n from.at.mark.readings far from.state log ask y.at.state y.log
+  pub sets_out : {ask : Ask} {far : ℕ} {log : Log} (y : Station S) → HasObserved m Para n from.at.mark.readings far from.state log ask y.at.state y.log
       → length log.list.items ≡ from.at.log.len → log.count ≡ from.at.log.count → from.at.log.count ≤ m.due from.state
       → (w : IsOnWay m n from ask y) × AllBelow far w.events
-  sets_out ask far log y h len count few_were =
+  sets_out {log} y h len count few_were =
       let entries = accesses h.events in
       let noted = h.noted in
       let grown = still_kept log.keep log.list.items entries in
@@ -108,9 +108,9 @@ module _ {S : Type 0} (m : Moves S) (lawful : IsLawful m) (n : ℕ) (from : Outs
           seen = h.seen;
           asked = h.asked;
           noted = record {
-            kept = let g = grown.0 in let e = ap length noted.list_is in omega arith;
+            kept = let e = ap length noted.list_is in omega arith;
             list_is = noted.list_is ∙ (λ i. note_all_leaves (sym noted.keep_is i) (sym same i) entries);
-            count_is = let c = noted.count_is in omega arith;
+            count_is = omega arith;
           };
           few = few_were;
         },
@@ -120,15 +120,15 @@ module _ {S : Type 0} (m : Moves S) (lawful : IsLawful m) (n : ℕ) (from : Outs
   -- ---- how far it goes
 
   reaches : (last s : S) (ask : Ask) (t : ℕ) → IsAsk m n last ask s → IsReached n ask t → (t ≤ m.due last) × (t ≤ n) × ((u : ℕ) → u < n → u < m.due last → u < t)
-  reaches last s Nothing t a r = let x = a.0 in (omega arith, omega arith, λ u b c. omega arith)
-  reaches last s (Access v op) t a r = let x = a.0 in let y = a.1 in (omega arith, omega arith, λ u b c. omega arith)
-  reaches last s (Look v) t a r = let x = a.0 in let y = a.1 in (omega arith, omega arith, λ u b c. omega arith)
+  reaches last s Nothing t a r = omega arith
+  reaches last s (Access v op) t a r = omega arith
+  reaches last s (Look v) t a r = omega arith
 
   -- what asks something at a tick, and what is asked after it
   pub no_earlier : (ask ask2 : Ask) (last s : S) → ((t : ℕ) → IsReached n ask t → (t ≤ n) × (t ≤ m.due last)) → IsAsk m n last ask2 s → IsNoEarlier n ask ask2
   no_earlier ask Nothing last s up asked t u a b = let x = (up t a).0 in omega arith
-  no_earlier ask (Access v op) last s up asked t u a b = let x = (up t a).1 in let y = asked.0 in omega arith
-  no_earlier ask (Look v) last s up asked t u a b = let x = (up t a).1 in let y = asked.0 in omega arith
+  no_earlier ask (Access v op) last s up asked t u a b = let x = (up t a).1 in omega arith
+  no_earlier ask (Look v) last s up asked t u a b = let x = (up t a).1 in omega arith
 
   pub no_earlier_self : (ask : Ask) → IsNoEarlier n ask ask
   no_earlier_self Nothing t u a b = omega arith
@@ -136,21 +136,21 @@ module _ {S : Type 0} (m : Moves S) (lawful : IsLawful m) (n : ℕ) (from : Outs
   no_earlier_self (Look v) t u a b = omega arith
 
   -- from what is asked it goes on: what it observes more joins its way
-  pub goes_on : (ask ask2 : Ask) (far : ℕ) (x y : Station S) (mark : S) → (ask ≡ Nothing → ⊥) → IsOnWay m n from ask x
+  pub goes_on : {ask ask2 : Ask} {far : ℕ} {x : Station S} (y : Station S) {mark : S} → (ask ≡ Nothing → ⊥) → IsOnWay m n from ask x
       → HasObserved m Para n from.at.mark.readings far x.at.state x.log ask2 y.at.state y.log → mark ≡ from.state
       → HasGoneFurther m n ask (record { from = from; here = x }) ask2 (record { from = outset mark from.at; here = y })
-  goes_on ask ask2 far x y mark some w h is =
+  goes_on {ask} {ask2} {x} y some w h is =
       let stood = here m n w.last x.at.state ask some w.asked in
-      let way = (goes_both ask ask2 x y w stood h.events h.steps h.last h.runs h.seen h.asked h.noted).0 in
-      let up = (events_low m lawful Para n h.steps x.at.state h.events h.last h.runs).0 in
+      let way = goes_both y w stood h in
+      let up = (events_low lawful _ n _ _ h.events h.last h.runs).0 in
       let due = ap m.due stood in
       let at_most : (t : ℕ) → IsReached n ask t → (t ≤ n) × (t ≤ m.due h.last) =
-      λ t at. let r = reaches w.last x.at.state ask t w.asked at in let a = r.0 in let b = r.1 in (omega arith, omega arith) in
+      λ t at. let r = reaches _ _ _ t w.asked at in (omega arith) in
       record {
-        way = subst (λ (s : S). IsOnWay m n (outset s from.at) ask2 y) (sym is) way;
-        further = no_earlier ask ask2 h.last y.at.state at_most h.asked;
+        way = subst (λ s. IsOnWay m n (outset s from.at) ask2 y) (sym is) way;
+        further = no_earlier ask _ _ _ at_most h.asked;
         from_is = is;
-        log = still_there x.log y.log (accesses h.events) w.noted.kept h.noted;
+        log = still_there w.noted.kept h.noted;
       }
 
   -- it did not go on
@@ -159,36 +159,29 @@ module _ {S : Type 0} (m : Moves S) (lawful : IsLawful m) (n : ℕ) (from : Outs
 
   -- ---- settled
 
-  -- what lies below the tick of what is asked is all that it did
-  pub stands : (t a : ℕ) (ask : Ask) (y : Station S) → a ≡ t → t ≤ n → IsReached n ask t → IsOnWay m n from ask y → IsSettled m n from a ask y
-  stands t a ask y is le at w =
-      let r = reaches w.last y.at.state ask t w.asked at in
-      let late = r.0 in
-      let low = reach_low w.events (events_low m lawful Para n w.steps from.state w.events w.last w.runs).1 (events_under m lawful Para n w.steps from.state w.events w.last w.runs) r.2 in
-      let same : w.events ≡ observed_past m n from t =
-      made m lawful Para sight n t w.last (λ k. none_late m lawful Para sight t k w.last late) w.steps n from.state w.events w.runs w.seen low (omega arith) in
-      subst (λ (x : ℕ). IsSettled m n from x ask y) (sym is) (record {
+  -- what lies below a tick is all that it did
+  settled_by : {ask : Ask} {y : Station S} (a : ℕ) (w : IsOnWay m n from ask y) → a ≤ m.due w.last → AllBelow a w.events → a ≤ n → IsSettled m n from a ask y
+  settled_by {y = y} a w late low le =
+      let same : w.events ≡ observed_past m n from a =
+      made lawful Para sight n a w.last (λ k. none_late lawful Para sight a k w.last late) w.steps n from.state w.events w.runs w.seen low (omega arith) in
+      record {
         steps = w.steps;
         last = w.last;
-        runs = subst (λ (l : List Event). Runs m Para n w.steps from.state (course l w.last)) same w.runs;
+        runs = subst (λ l. Runs m Para n w.steps from.state (course l w.last)) same w.runs;
         asked = w.asked;
         late = late;
-        noted = subst (λ (l : List Event). IsNoted from.at.log l y.log) same w.noted;
-      })
-    where
-      reach_low : (events : List Event) → All (λ e. e.tick < m.due w.last) events → All (λ e. e.tick < n) events → ((u : ℕ) → u < n → u < m.due w.last → u < t) → AllBelow t events
-      reach_low [] a b f = All-nil (λ e. e.tick < t)
-      reach_low (e ∷ es) a b f =
-          All-cons (λ z. z.tick < t) e es (f e.tick (All-head (λ z. z.tick < n) e es b) (All-head (λ z. z.tick < m.due w.last) e es a))
-          (reach_low es (All-tail (λ z. z.tick < m.due w.last) e es a) (All-tail (λ z. z.tick < n) e es b) f)
+        noted = subst (λ l. IsNoted from.at.log l y.log) same w.noted;
+      }
+
+  pub stands : {t a : ℕ} {ask : Ask} {y : Station S} → a ≡ t → t ≤ n → IsReached n ask t → IsOnWay m n from ask y → IsSettled m n from a ask y
+  stands {t} {ask = ask} {y = y} is le at w =
+      let r = reaches w.last y.at.state ask t w.asked at in
+      let low = (events_low lawful Para n w.steps from.state w.events w.last w.runs).1 in
+      let under = events_under lawful Para n w.steps from.state w.events w.last w.runs in
+      subst (λ x. IsSettled m n from x ask y) (sym is) (settled_by t w r.0 (λ i d lt. r.2 _ (under i d lt) (low i d lt)) le)
 
   module _ (two : S) (q : Query) (asks : m.asks two ≡ Some q) (none : sight q ≡ None) where
-    abbrev Rest : ℕ → S → List Event → S → Option Query → Type 0
-    Rest k s events last o =
-        MatchOption o (Runs m Para n k (m.next s None) (course events last))
-        (λ x. Heads events (λ e rest. (e.tick ≡ m.due s) × (e.side ≡ Para) × (e.query ≡ x) × Runs m Para n k (m.next s (Some e.answer)) (course rest last)))
-
-    stuck : (k : ℕ) (s last : S) (events : List Event) (o : Option Query) → o ≡ Some q → Rest k s events last o → IsSeen sight events → ⊥
+    stuck : (k : ℕ) (s last : S) (events : List Event) (o : Option Query) → o ≡ Some q → Then m Para n k s events last o → IsSeen sight events → ⊥
     stuck k s last events None is h seen = absurd (cc)
     stuck k s last [] (Some x) is h seen = absurd h
     stuck k s last (e ∷ rest) (Some x) is h seen =
@@ -198,84 +191,60 @@ module _ {S : Type 0} (m : Moves S) (lawful : IsLawful m) (n : ℕ) (from : Outs
 
     both_by : (j k : ℕ) (s one : S) (es fs : List Event) (o : Option Query)
         → ((u : S) (a b : List Event) → Runs m Para n j u (course a one) → IsSeen sight a → Runs m Para n k u (course b two) → IsSeen sight b → m.due one ≤ m.due two)
-        → Rest j s es one o → IsSeen sight es → Rest k s fs two o → IsSeen sight fs → m.due one ≤ m.due two
+        → Then m Para n j s es one o → IsSeen sight es → Then m Para n k s fs two o → IsSeen sight fs → m.due one ≤ m.due two
     both_by j k s one es fs None on a sa b sb = on (m.next s None) es fs a sa b sb
     both_by j k s one [] fs (Some x) on a sa b sb = absurd a
     both_by j k s one (e ∷ es) [] (Some x) on a sa b sb = absurd b
     both_by j k s one (e ∷ es) (f ∷ fs) (Some x) on a sa b sb =
         let sees : (let o : Option Answer = Some e.answer in o) ≡ Some f.answer = sym sa.0 ∙ ap sight (a.2 ∙ sym b.2) ∙ sb.0 in
         let same : e.answer ≡ f.answer = cc in
-        on (m.next s (Some e.answer)) es fs a.3 sa.1 (subst (λ (z : Answer). Runs m Para n k (m.next s (Some z)) (course fs two)) (sym same) b.3) sb.1
+        on (m.next s (Some e.answer)) es fs a.3 sa.1 (subst (λ z. Runs m Para n k (m.next s (Some z)) (course fs two)) (sym same) b.3) sb.1
 
     -- a run that ends at a query that is not answered ends no earlier than another from the same place
     pub same_way : (j k : ℕ) (s one : S) (es fs : List Event) → Runs m Para n j s (course es one) → IsSeen sight es → Runs m Para n k s (course fs two) → IsSeen sight fs → m.due one ≤ m.due two
-    same_way zero k s one es fs a sa b sb = let e : m.due s ≡ m.due one = ap m.due a.1 in let r = rises m lawful Para n k s fs two b in omega arith
-    same_way (suc j) zero s one es fs a sa b sb = absurd (stuck j s one es (m.asks s) (ap m.asks b.1 ∙ asks) a.1 sa)
-    same_way (suc j) (suc k) s one es fs a sa b sb = both_by j k s one es fs (m.asks s) (λ u c d x sx y sy. same_way j k u one c d x sx y sy) a.1 sa b.1 sb
+    same_way zero k s one es fs a sa b sb = let e : m.due s ≡ m.due one = ap m.due a.1 in let r = rises lawful _ n k s fs two b in omega arith
+    same_way (suc j) zero s one es fs a sa b sb = absurd (stuck j s _ _ _ (ap m.asks b.1 ∙ asks) a.1 sa)
+    same_way (suc j) (suc k) s one es fs a sa b sb = both_by j k s _ _ _ _ (λ u c d x sx y sy. same_way j k u one c d x sx y sy) a.1 sa b.1 sb
 
   -- it went anew, as far as it observes anything below a tick that it reached before
-  module _ (t a : ℕ) (ask ask2 : Ask) (x y : Station S) (order : a ≤ t) (le : t ≤ n) (at : IsReached n ask t) (first : IsOnWay m n from ask x) (w : IsOnWay m n from ask2 y) where
-    far : t ≤ m.due first.last
-    far = (reaches first.last x.at.state ask t first.asked at).0
-
-    at_end : (op : Op) → m.asks w.last ≡ Some (access op) → byte_seen from.at.mark.readings.status op ≡ None → a ≤ m.due w.last
-    at_end op asks none =
-        let f = far in
-        let r = same_way w.last (access op) asks (ap byte_answer none) first.steps w.steps from.state first.last first.events w.events first.runs first.seen w.runs w.seen in
-        omega arith
-
-    late_by : (k : Ask) → IsAsk m n w.last k y.at.state → IsOver from.at.mark.readings a k → a ≤ m.due w.last
-    late_by Nothing h over = let b = h.0 in omega arith
-    late_by (Access u op) h (inl late) = let b = h.0 in omega arith
-    late_by (Access u op) h (inr none) = at_end op h.2 none
-    late_by (Look u) h over = let b = h.0 in omega arith
-
-    pub settles : AllBelow a w.events → IsOver from.at.mark.readings a ask2 → IsSettled m n from a ask2 y
-    settles low over =
-        let late = late_by ask2 w.asked over in
-        let same : w.events ≡ observed_past m n from a =
-        made m lawful Para sight n a w.last (λ i. none_late m lawful Para sight a i w.last late) w.steps n from.state w.events w.runs w.seen low (omega arith) in
-        record {
-          steps = w.steps;
-          last = w.last;
-          runs = subst (λ (l : List Event). Runs m Para n w.steps from.state (course l w.last)) same w.runs;
-          asked = w.asked;
-          late = late;
-          noted = subst (λ (l : List Event). IsNoted from.at.log l y.log) same w.noted;
-        }
-
-  pub went_anew : (t a : ℕ) (ask ask2 : Ask) (x y : Station S) (log : Log) → a ≤ t → t ≤ n → IsReached n ask t → IsOnWay m n from ask x
+  pub went_anew : (t : ℕ) {a : ℕ} {ask ask2 : Ask} {x : Station S} (y : Station S) {log : Log} → a ≤ t → t ≤ n → IsReached n ask t → IsOnWay m n from ask x
       → length log.list.items ≡ from.at.log.len → log.count ≡ from.at.log.count
       → HasObserved m Para n from.at.mark.readings a from.state log ask2 y.at.state y.log → IsOver from.at.mark.readings a ask2 → IsSettled m n from a ask2 y
-  went_anew t a ask ask2 x y log order le at first len count seen over =
-      let anew = sets_out ask2 a log y seen len count first.few in
-      settles t a ask ask2 x y order le at first anew.0 anew.1 over
+  went_anew t {a} {ask} {ask2} {x} y order le at first len count seen over =
+      let anew = sets_out y seen len count first.few in
+      let w = anew.0 in
+      settled_by a w (late w ask2 w.asked over) anew.1 (omega arith)
+    where
+      late : (w : IsOnWay m n from ask2 y) (k : Ask) → IsAsk m n w.last k y.at.state → IsOver from.at.mark.readings a k → a ≤ m.due w.last
+      late w Nothing h over = let b = h.0 in omega arith
+      late w (Access u op) h (inl after) = let b = h.0 in omega arith
+      late w (Access u op) h (inr none) =
+          let far = (reaches first.last x.at.state ask t first.asked at).0 in
+          let r = same_way w.last (access op) h.2 (ap byte_answer none) first.steps w.steps from.state first.last first.events w.events first.runs first.seen w.runs w.seen in
+          omega arith
+      late w (Look u) h over = omega arith
 
 -- it set out from the mark, and stands where the host let it
-pub went : {S : Type 0} (m : Moves S) (lawful : IsLawful m) (n t : ℕ) (from : Outset S) (x y : Station S) (ask2 : Ask) (q : Carried)
+pub went : {S : Type 0} (m : Moves S) (lawful : IsLawful m) {n t : ℕ} {from : Outset S} (x : Station S) {y : Station S} {ask2 : Ask} {q : Carried}
     → x.at.pass.side ≡ Para → from.state ≡ x.at.state → take from.at.log.len y.log.list.items ≡ x.log.list.items → y.log.keep ≡ x.log.keep → from.at.log.count ≡ x.log.count
     → HasPassed (way_of m n from) t x.at.pass q → t ≤ n → y.at.pass ≡ q → IsSettled m n from q.known.trust ask2 y → MovedOn m n x ask2 y × (y.at.pass.ahead ≡ [])
-went {S} m lawful n t from x y ask2 q side at list keep count passed under same back =
+went {S} m lawful {n} {from} x {y} {q} side at list keep count passed under same back =
     let p = x.at.pass in
     let told = passed.told in
-    let trust = told.trust in
-    let far = told.far in
     let new = observed_past m n from q.known.trust in
     let all : all_events q ≡ all_events p ++ new = (λ i. passed.events i ++ told.ahead i) ∙ append-nil (all_events p ++ new) in
-    let up = (events_low m lawful Para n back.steps from.state new back.last back.runs).0 in
-    let late = back.late in
-    let low = passed.later in
-    let runs : Runs m p.side n back.steps from.state (course new back.last) = subst (λ (z : Side). Runs m z n back.steps from.state (course new back.last)) (sym side) back.runs in
+    let up = (events_low lawful _ n _ _ new back.last back.runs).0 in
+    let runs : Runs m p.side n back.steps from.state (course new back.last) = subst (λ z. Runs m z n back.steps from.state (course new back.last)) (sym side) back.runs in
     let horizon : own_horizon y.at.pass ≡ own_horizon q = ap own_horizon same in (
       record {
         added = new;
         steps = back.steps;
         last = back.last;
-        runs = subst (λ (z : S). Runs m p.side n back.steps z (course new back.last)) at runs;
+        runs = subst (λ z. Runs m p.side n back.steps z (course new back.last)) at runs;
         asked = back.asked;
         noted = record {
           list_is = back.noted.list_is ∙ (λ i. note_all_leaves (keep i) (list i) (accesses new));
-          count_is = back.noted.count_is ∙ ap (λ (z : ℕ). z + length (accesses new)) count;
+          count_is = back.noted.count_is ∙ ap (λ z. z + length (accesses new)) count;
           keep_is = keep;
         };
         same = record {
@@ -317,45 +286,43 @@ no_earlier_on n first mid last f g t u at_t at_u =
     let y = g at.0 u at.1 at_u in
     omega arith
 
-pub reached_in : {S : Type 0} (m : Moves S) (n : ℕ) (from : Outset S) (ask : Ask) (y : Station S) (t : ℕ) → IsOnWay m n from ask y → IsReached n ask t → t ≤ n
-reached_in {S} m n from ask y t w at = go ask w.asked at
+pub reached_in : {S : Type 0} (m : Moves S) {n : ℕ} {from : Outset S} {ask : Ask} {y : Station S} (t : ℕ) → IsOnWay m n from ask y → IsReached n ask t → t ≤ n
+reached_in {S} m {n} {ask} {y} t w at = go ask w.asked at
   where
     go : (a : Ask) → IsAsk m n w.last a y.at.state → IsReached n a t → t ≤ n
     go Nothing h r = omega arith
     go (Access u op) h r = let b = h.1 in omega arith
-    go (Look u) h r = let b = h.1 in omega arith
+    go (Look u) h r = omega arith
 
 -- it does not matter what the pass knows
-pub at_pass : {S : Type 0} (m : Moves S) (n : ℕ) (from : Outset S) (ask : Ask) (x : Station S) (p : Carried) → IsOnWay m n from ask x → IsOnWay m n from ask (record x { at = place x.at.state p })
-at_pass m n from ask x p w = record { events = w.events; steps = w.steps; last = w.last; runs = w.runs; seen = w.seen; asked = w.asked; noted = w.noted; few = w.few }
+pub at_pass : {S : Type 0} {m : Moves S} {n : ℕ} {from : Outset S} {ask : Ask} {x : Station S} (p : Carried) → IsOnWay m n from ask x → IsOnWay m n from ask (record x { at = place x.at.state p })
+at_pass p w = record { events = w.events; steps = w.steps; last = w.last; runs = w.runs; seen = w.seen; asked = w.asked; noted = w.noted; few = w.few }
 
 -- it went further, and further; what the pass knows then does not matter
-pub further_on : {S : Type 0} (m : Moves S) (n : ℕ) (first mid last : Ask) (x y z : Trip S) (p : Carried) → y.from.at ≡ x.from.at
+pub further_on : {S : Type 0} {m : Moves S} {n : ℕ} {first mid last : Ask} {x y z : Trip S} (p : Carried) → y.from.at ≡ x.from.at
     → HasGoneFurther m n first x mid y → HasGoneFurther m n mid y last z
     → HasGoneFurther m n first x last (record z { here = record z.here { at = place z.here.at.state p } })
-further_on m n first mid last x y z p is f g =
+further_on {n} {first} {mid} {last} {y} {z} p is f g =
     let log = subst (λ (at : Checkpoint). IsStillThere at.log y.here.log z.here.log) is g.log in
     record {
-      way = at_pass m n z.from last z.here p g.way;
+      way = at_pass p g.way;
       further = no_earlier_on n first mid last f.further g.further;
       from_is = g.from_is ∙ f.from_is;
       log = record { kept = log.kept ∙ f.log.kept; keep_is = log.keep_is ∙ f.log.keep_is };
     }
 
 -- what was told of it stands where it went further
-pub told_on : (w : Way) (n : ℕ) (first second : Ask) (t u : ℕ) (p q r : Carried) → r ≡ q → IsReached n first t → IsReached n second u → IsNoEarlier n first second
+pub told_on : {w : Way} (n : ℕ) (first second : Ask) {t : ℕ} (u : ℕ) {p q r : Carried} → r ≡ q → IsReached n first t → IsReached n second u → IsNoEarlier n first second
     → HasTrusted w t p q → HasTrusted w u p r
-told_on w n first second t u p q r same at_t at_u further told =
+told_on {w} n first second {t} u {p} same at_t at_u further told =
     let le = further t u at_t at_u in
-    let far = told.far in
-    let trust = told.trust in
-    subst (λ (x : Carried). HasTrusted w u p x) (sym same)
+    subst (λ x. HasTrusted w u p x) (sym same)
     (record { cell = told.cell; side = told.side; ahead = told.ahead; far = omega arith; trust = omega arith; para = told.para; base = told.base; trusting = told.trusting })
 
 -- back at the mark nothing was noted
-pub cut_back : (at : LogMark) (x y z : Log) → at.len ≡ length x.list.items → at.count ≡ x.count → IsStillThere at x y
+pub cut_back : {at : LogMark} {x y : Log} (z : Log) → at.len ≡ length x.list.items → at.count ≡ x.count → IsStillThere at x y
     → z.list.items ≡ take at.len y.list.items → z.count ≡ at.count → z.keep ≡ y.keep → HasNoted [] x z
-cut_back at x y z len count still list counted keep = record {
+cut_back {at} {x} z len count still list counted keep = record {
   list_is = list ∙ still.kept ∙ take_all at.len x.list.items (omega arith);
   count_is = omega arith;
   keep_is = keep ∙ still.keep_is;

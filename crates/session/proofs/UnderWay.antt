@@ -61,30 +61,30 @@ module _ {S : Type 0} (m : Moves S) (n : ℕ) where
   pub below : (last s : S) (ask : Ask) → ask ≢ Nothing → IsAsk m n last ask s → m.due last < n
   below last s Nothing some h = absurd (some refl)
   below last s (Access t op) some h = let a = h.0 in let b = h.1 in omega arith
-  below last s (Look t) some h = let a = h.0 in let b = h.1 in omega arith
+  below last s (Look t) some h = omega arith
 
   left_is : (last s : S) (ask : Ask) → ask ≢ Nothing → IsAsk m n last ask s → ticks_left n ask + m.due last ≡ n
   left_is last s Nothing some h = absurd (some refl)
   left_is last s (Access t op) some h = let a = h.0 in let b = h.1 in omega arith
-  left_is last s (Look t) some h = let a = h.0 in let b = h.1 in omega arith
+  left_is last s (Look t) some h = omega arith
 
   left_at_most : (last s : S) (ask : Ask) (k : ℕ) → k < m.due last → k < n → IsAsk m n last ask s → ticks_left n ask + k < n
   left_at_most last s Nothing k low under h = omega arith
   left_at_most last s (Access t op) k low under h = let a = h.0 in let b = h.1 in omega arith
-  left_at_most last s (Look t) k low under h = let a = h.0 in let b = h.1 in omega arith
+  left_at_most last s (Look t) k low under h = omega arith
 
 -- a party that asks is quiet up to that step
-pub quiet_is : {S : Type 0} (m : Moves S) (n : ℕ) (s : S) (ask : Ask) (q : ℕ) → IsPending m n s ask → IsQuiet m s q → min q n ≡ m.due s
-quiet_is m n s Nothing q h quiet = absurd h
-quiet_is m n s (Access t op) q h quiet = let a = h.0 in let b = h.1 in let c = quiet_here m s q (access op) quiet h.2 in omega arith
-quiet_is m n s (Look t) q h quiet = let a = h.0 in let b = h.1 in let c = quiet_here m s q look quiet h.2 in omega arith
+pub quiet_is : {S : Type 0} {m : Moves S} (n : ℕ) {s : S} (ask : Ask) {q : ℕ} → IsPending m n s ask → IsQuiet m s q → min q n ≡ m.due s
+quiet_is n Nothing h quiet = absurd h
+quiet_is {m} n {s} (Access t op) {q} h quiet = let a = h.0 in let b = h.1 in let c = quiet_here m s q (access op) quiet h.2 in omega arith
+quiet_is {m} n {s} (Look t) {q} h quiet = let c = quiet_here m s q look quiet h.2 in omega arith
 
-pub seat_on : (p q r : Carried) → SameSeat p q → SameSeat q r → SameSeat p r
-seat_on p q r a b = record { cell = b.cell ∙ a.cell; side = b.side ∙ a.side; trusted = b.trusted }
+pub seat_on : {p q r : Carried} → SameSeat p q → SameSeat q r → SameSeat p r
+seat_on a b = record { cell = b.cell ∙ a.cell; side = b.side ∙ a.side; trusted = b.trusted }
 
 -- what goes on is moved on
-pub moved : {S : Type 0} (m : Moves S) (n : ℕ) (x y : Station S) (ask : Ask) → x.at.pass.trusted ≡ [] → GoneOn m n x ask y → MovedOn m n x ask y
-moved m n x y ask none g = record {
+pub moved : {S : Type 0} {m : Moves S} {n : ℕ} {x y : Station S} {ask : Ask} → x.at.pass.trusted ≡ [] → GoneOn m n x ask y → MovedOn m n x ask y
+moved {x} none g = record {
   added = g.events;
   steps = g.steps;
   last = g.last;
@@ -97,10 +97,10 @@ moved m n x y ask none g = record {
   open_ = g.open_;
 }
 
-pub begins : {S : Type 0} (m : Moves S) (n : ℕ) (x0 : Place S) (log : Log)
+pub begins : {S : Type 0} {m : Moves S} {n : ℕ} (x0 : Place S) (log : Log)
     → x0.pass.trusted ≡ [] → own_horizon x0.pass ≤ m.due x0.state → own_horizon x0.pass ≤ n → log.list.items ≡ [] → log.count ≡ 0
     → IsThere m n log.keep x0 (record { at = x0; log = log })
-begins m n x0 log trusted low under none zero_ = record {
+begins x0 log trusted low under none zero_ = record {
   added = [];
   runs = (zero, (refl, refl));
   events = sym (append-nil (all_events x0.pass));
@@ -113,11 +113,11 @@ begins m n x0 log trusted low under none zero_ = record {
   open_ = under;
 }
 
-module _ {S : Type 0} (m : Moves S) (lawful : IsLawful m) (n keep : ℕ) (x0 : Place S) where
+module _ {S : Type 0} {m : Moves S} (lawful : IsLawful m) {n keep : ℕ} {x0 : Place S} where
   -- it moved on from there
-  pub moves_on : (x : Station S) (ask : Ask) (y : Station S) → IsThere m n keep x0 x → MovedOn m n x ask y → IsUnderWay m n keep x0 ask y
-  moves_on x ask y w g =
-      let up = events_few m lawful x.at.pass.side n g.steps x.at.state g.added g.last g.runs in
+  pub moves_on : {x : Station S} {ask : Ask} {y : Station S} → IsThere m n keep x0 x → MovedOn m n x ask y → IsUnderWay m n keep x0 ask y
+  moves_on {x} w g =
+      let up = events_few lawful _ n _ _ g.added g.last g.runs in
       let few = w.few in
       let count = g.noted.count_is in
       record {
@@ -125,15 +125,15 @@ module _ {S : Type 0} (m : Moves S) (lawful : IsLawful m) (n keep : ℕ) (x0 : P
         asked = g.asked;
         there = record {
           added = w.added ++ g.added;
-          runs = append m x0.pass.side n x.at.state g.last g.added w.runs.0 x0.state w.added w.runs.1
-              (g.steps, subst (λ (z : Side). Runs m z n g.steps x.at.state (course g.added g.last)) w.same.side g.runs);
-          events = g.events ∙ ap (λ (l : List Event). l ++ g.added) w.events ∙ append_assoc (all_events x0.pass) w.added g.added;
-          same = seat_on x0.pass x.at.pass y.at.pass w.same g.same;
+          runs = append m _ n _ _ _ _ _ w.added w.runs.1
+              (g.steps, subst (λ z. Runs m z n g.steps x.at.state (course g.added g.last)) w.same.side g.runs);
+          events = g.events ∙ ap (λ l. l ++ g.added) w.events ∙ append_assoc (all_events x0.pass) w.added g.added;
+          same = seat_on w.same g.same;
           kept =
               g.noted.list_is ∙ (λ i. note_all_leaves (w.keep_is i) (w.kept i) (accesses g.added))
               ∙ noted_all_take keep (accesses w.added) (accesses g.added) ∙ ap (take keep) (sym (accesses-append w.added g.added));
           counted =
-              g.noted.count_is ∙ ap (λ (z : ℕ). z + length (accesses g.added)) w.counted
+              g.noted.count_is ∙ ap (λ z. z + length (accesses g.added)) w.counted
               ∙ sym (ap length (accesses-append w.added g.added) ∙ length-append (accesses w.added) (accesses g.added));
           keep_is = g.noted.keep_is ∙ w.keep_is;
           few = omega arith;
@@ -142,19 +142,23 @@ module _ {S : Type 0} (m : Moves S) (lawful : IsLawful m) (n keep : ℕ) (x0 : P
         };
       }
 
-  module _ (ask : Ask) (x : Station S) (some : ask ≢ Nothing) (w : IsUnderWay m n keep x0 ask x) where
+  module _ {ask : Ask} {x : Station S} (some : ask ≢ Nothing) (w : IsUnderWay m n keep x0 ask x) where
     pub at_ask : IsThere m n keep x0 x
-    at_ask = subst (λ (z : S). IsThere m n keep x0 (in_state z x)) (sym (here m n w.last x.at.state ask some w.asked)) w.there
+    at_ask = subst (λ z. IsThere m n keep x0 (in_state z x)) (sym (here m n _ _ _ some w.asked)) w.there
 
     pub low : m.due x.at.state < n
-    low = subst (λ (z : S). m.due z < n) (sym (here m n w.last x.at.state ask some w.asked)) (below m n w.last x.at.state ask some w.asked)
+    low = subst (λ z. m.due z < n) (sym (here m n _ _ _ some w.asked)) (below m n _ _ _ some w.asked)
 
-    module _ (y : Station S) (t : Turned m x y) where
+    module _ {y : Station S} (t : Turned m x y) where
       abbrev new : Event
       new = event_at (m.due x.at.state) x0.pass.side t.query t.answer
 
+      -- the same, of the side that the pass has
+      abbrev same_new : Event
+      same_new = event_at (m.due x.at.state) x.at.pass.side t.query t.answer
+
       up : m.due x.at.state < m.due y.at.state
-      up = subst (λ (z : S). m.due x.at.state < m.due z) (sym t.state_is) (lawful.rises x.at.state (Some t.answer))
+      up = subst (λ z. m.due x.at.state < m.due z) (sym t.state_is) (lawful.rises x.at.state (Some t.answer))
 
       one_more : SomeRuns m x0.pass.side n x.at.state (new ∷ []) y.at.state
       one_more = (suc zero, asking m x0.pass.side n zero x.at.state t.query t.answer [] y.at.state low t.asks (refl, sym t.state_is))
@@ -164,30 +168,28 @@ module _ {S : Type 0} (m : Moves S) (lawful : IsLawful m) (n keep : ℕ) (x0 : P
       steps_on =
           let z = at_ask in
           let few = z.few in
-          let one : length (entry_of (m.due x.at.state) x.at.pass.side t.query t.answer) ≤ 1 = at_most_one (m.due x.at.state) x.at.pass.side t.query t.answer in
-          let is = t.noted.count_is in
-          let h = t.done.horizon in
+          let one = at_most_one (m.due x.at.state) x.at.pass.side t.query t.answer in
           let u = up in
           let l = low in
-          let new_is : event_at (m.due x.at.state) x.at.pass.side t.query t.answer ≡ new = ap (λ (side : Side). event_at (m.due x.at.state) side t.query t.answer) z.same.side in
+          let new_is : same_new ≡ new = ap (λ side. event_at (m.due x.at.state) side t.query t.answer) z.same.side in
           record {
             added = z.added ++ new ∷ [];
-            runs = append m x0.pass.side n x.at.state y.at.state (new ∷ []) z.runs.0 x0.state z.added z.runs.1 one_more;
+            runs = append m _ n _ _ _ _ _ z.added z.runs.1 one_more;
             events =
                 t.done.events
-                ∙ ap (λ (l : List Event). l ++ event_at (m.due x.at.state) x.at.pass.side t.query t.answer ∷ []) z.events
-                ∙ append_assoc (all_events x0.pass) z.added (event_at (m.due x.at.state) x.at.pass.side t.query t.answer ∷ [])
-                ∙ ap (λ (e : Event). all_events x0.pass ++ (z.added ++ e ∷ [])) new_is;
-            same = seat_on x0.pass x.at.pass y.at.pass z.same t.done.same;
+                ∙ ap (λ l. l ++ same_new ∷ []) z.events
+                ∙ append_assoc (all_events x0.pass) z.added (same_new ∷ [])
+                ∙ ap (λ e. all_events x0.pass ++ (z.added ++ e ∷ [])) new_is;
+            same = seat_on z.same t.done.same;
             kept =
                 t.noted.list_is
-                ∙ ap (λ (k : ℕ). note_all_leaves k x.log.list.items (entry_of (m.due x.at.state) x.at.pass.side t.query t.answer)) z.keep_is
-                ∙ kept_more keep z.added x.log.list.items (m.due x.at.state) x.at.pass.side t.query t.answer z.kept
-                ∙ ap (λ (e : Event). take keep (accesses (z.added ++ e ∷ []))) new_is;
+                ∙ ap (λ k. note_all_leaves k x.log.list.items (entry_of (m.due x.at.state) x.at.pass.side t.query t.answer)) z.keep_is
+                ∙ kept_more keep z.added (m.due x.at.state) x.at.pass.side t.query t.answer z.kept
+                ∙ ap (λ e. take keep (accesses (z.added ++ e ∷ []))) new_is;
             counted =
                 t.noted.count_is
-                ∙ counted_more z.added x.log.count (m.due x.at.state) x.at.pass.side t.query t.answer z.counted
-                ∙ ap (λ (e : Event). length (accesses (z.added ++ e ∷ []))) new_is;
+                ∙ counted_more z.added (m.due x.at.state) x.at.pass.side t.query t.answer z.counted
+                ∙ ap (λ e. length (accesses (z.added ++ e ∷ []))) new_is;
             keep_is = t.noted.keep_is ∙ z.keep_is;
             few = omega arith;
             next = omega arith;
@@ -195,25 +197,25 @@ module _ {S : Type 0} (m : Moves S) (lawful : IsLawful m) (n keep : ℕ) (x0 : P
           }
 
       -- the next step that asks is later
-      pub smaller : (ask2 : Ask) (z : Station S) → MovedOn m n y ask2 z → ticks_left n ask2 < ticks_left n ask
-      smaller ask2 z g =
-          let more : m.due y.at.state ≤ m.due g.last = rises m lawful y.at.pass.side n g.steps y.at.state g.added g.last g.runs in
+      pub smaller : {ask2 : Ask} {z : Station S} → MovedOn m n y ask2 z → ticks_left n ask2 < ticks_left n ask
+      smaller {ask2} g =
+          let more : m.due y.at.state ≤ m.due g.last = rises lawful _ n _ _ g.added g.last g.runs in
           let u = up in
           let l = low in
-          let same : m.due x.at.state ≡ m.due w.last = ap m.due (here m n w.last x.at.state ask some w.asked) in
-          let was : ticks_left n ask + m.due w.last ≡ n = left_is m n w.last x.at.state ask some w.asked in
-          let now : ticks_left n ask2 + m.due x.at.state < n = left_at_most m n g.last z.at.state ask2 (m.due x.at.state) (omega arith) l g.asked in
+          let same : m.due x.at.state ≡ m.due w.last = ap m.due (here m n _ _ _ some w.asked) in
+          let was : ticks_left n ask + m.due w.last ≡ n = left_is m n _ _ _ some w.asked in
+          let now : ticks_left n ask2 + m.due x.at.state < n = left_at_most m n _ _ _ (m.due x.at.state) (omega arith) l g.asked in
           omega arith
 
   -- no step of it was done meanwhile
-  pub waits_on : (x : Station S) (q : Carried) → IsThere m n keep x0 x → HasWaited x.at.pass q → own_horizon q ≤ m.due x.at.state → m.due x.at.state ≤ n
+  pub waits_on : {x : Station S} {q : Carried} → IsThere m n keep x0 x → HasWaited x.at.pass q → own_horizon q ≤ m.due x.at.state → m.due x.at.state ≤ n
       → IsThere m n keep x0 (record x { at = place x.at.state q })
-  waits_on x q w h low under =
+  waits_on w h low under =
       record {
         added = w.added;
         runs = w.runs;
         events = h.events ∙ w.events;
-        same = seat_on x0.pass x.at.pass q w.same h.same;
+        same = seat_on w.same h.same;
         kept = w.kept;
         counted = w.counted;
         keep_is = w.keep_is;
@@ -222,12 +224,12 @@ module _ {S : Type 0} (m : Moves S) (lawful : IsLawful m) (n keep : ℕ) (x0 : P
         open_ = omega arith;
       }
 
-  pub still_under_way : (x : Station S) (ask : Ask) (y : Station S) → ask ≢ Nothing → IsUnderWay m n keep x0 ask x
+  pub still_under_way : {x : Station S} {ask : Ask} {y : Station S} → ask ≢ Nothing → IsUnderWay m n keep x0 ask x
       → HasStayed x y → own_horizon y.at.pass ≤ m.due x.at.state → IsUnderWay m n keep x0 ask y
-  still_under_way x ask y some w h under =
-      let e : m.due x.at.state ≡ m.due w.last = ap m.due (here m n w.last x.at.state ask some w.asked) in
-      let l : m.due w.last < n = below m n w.last x.at.state ask some w.asked in
-      let there = waits_on (in_state w.last x) y.at.pass w.there h.waited (omega arith) (omega arith) in
+  still_under_way {x} {ask} some w h under =
+      let e : m.due x.at.state ≡ m.due w.last = ap m.due (here m n _ _ _ some w.asked) in
+      let l : m.due w.last < n = below m n _ _ _ some w.asked in
+      let there = waits_on w.there h.waited (omega arith) (omega arith) in
       record {
         last = w.last;
         there = record {
@@ -236,27 +238,27 @@ module _ {S : Type 0} (m : Moves S) (lawful : IsLawful m) (n keep : ℕ) (x0 : P
           events = there.events;
           same = there.same;
           kept = h.noted.list_is ∙ there.kept;
-          counted = let a = h.noted.count_is in let b = there.counted in omega arith;
+          counted = omega arith;
           keep_is = h.noted.keep_is ∙ there.keep_is;
-          few = let f = there.few in let c = h.noted.count_is in omega arith;
+          few = omega arith;
           next = there.next;
           open_ = there.open_;
         };
-        asked = subst (λ (z : S). IsAsk m n w.last ask z) (sym h.state_is) w.asked;
+        asked = subst (λ z. IsAsk m n w.last ask z) (sym h.state_is) w.asked;
       }
 
   -- nothing more is asked below n
-  pub ends : (x : Station S) (ask : Ask) (q : Carried) → ask ≡ Nothing → x0.pass.ahead ≡ []
+  pub ends : {x : Station S} {ask : Ask} {q : Carried} → ask ≡ Nothing → x0.pass.ahead ≡ []
       → IsUnderWay m n keep x0 ask x → HasWaited x.at.pass q → q.ahead ≡ [] → own_horizon q ≡ n → HasWorked m n keep x0 (record x { at = place x.at.state q })
-  ends x ask q is bare w h all at =
-      let over : IsAsk m n w.last Nothing x.at.state = subst (λ (a : Ask). IsAsk m n w.last a x.at.state) is w.asked in
+  ends {x} {q} is bare w h all at =
+      let over : IsAsk m n w.last Nothing x.at.state = subst (λ a. IsAsk m n w.last a x.at.state) is w.asked in
       let t = w.there in
-      let same = seat_on x0.pass x.at.pass q t.same h.same in
+      let same = seat_on t.same h.same in
       record {
         added = t.added;
         events =
-            sym (append-nil q.events) ∙ ap (λ (l : List Event). q.events ++ l) (sym all) ∙ h.events ∙ t.events
-            ∙ ap (λ (l : List Event). l ++ t.added) (ap (λ (l : List Event). x0.pass.events ++ l) bare ∙ append-nil x0.pass.events);
+            sym (append-nil q.events) ∙ ap (λ l. q.events ++ l) (sym all) ∙ h.events ∙ t.events
+            ∙ ap (λ l. l ++ t.added) (ap (λ l. x0.pass.events ++ l) bare ∙ append-nil x0.pass.events);
         same = record { cell = same.cell; side = same.side; ahead = all; trusted = same.trusted };
         horizon = at;
         follows = record { steps = t.runs.0; last = w.last; runs = t.runs.1; over = over.0; ends = over.1 };

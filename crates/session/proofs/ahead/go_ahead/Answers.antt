@@ -18,12 +18,12 @@ returns-in_err-first-clause-none g c =
     let none = c.in_err-first.ensures.none in
     if_none c.from_residual.result _ (record {
       waited = record {
-        same = record { cell = ap (λ (x : Carried). x.cell) pass; side = ap (λ (x : Carried). x.side) pass; trusted = ap (λ (x : Carried). x.trusted) pass ∙ c.requires.none_trusted };
+        same = record { cell = ap (λ x. x.cell) pass; side = ap (λ x. x.side) pass; trusted = ap (λ x. x.trusted) pass ∙ c.requires.none_trusted };
         events = ap all_events pass;
       };
-      ahead = ap (λ (x : Carried). x.ahead) pass;
+      ahead = ap (λ x. x.ahead) pass;
       state_is = none.0;
-      noted = subst (λ (l : Log). HasNoted [] log l) (sym none.1) (none_noted log);
+      noted = subst (λ l. HasNoted [] log l) (sym none.1) (none_noted log);
     })
 
 pub returns-then-not-tell_first-clause-none : goal.returns-then-not-tell_first-clause-none
@@ -33,19 +33,18 @@ returns-then-not-tell_first-clause-none g c =
     let some = c.in_ok-first.ensures.some in
     let kept = c.requires.kept in
     record {
-      waited = subst (λ (x : Carried). HasWaited x c.tell_first.new.pass) pass (c.tell_first.ensures.waited not);
-      ahead = c.tell_first.ensures.unpublished not ∙ ap (λ (x : Carried). x.ahead) pass;
+      waited = subst (λ x. HasWaited x c.tell_first.new.pass) pass (c.tell_first.ensures.waited not);
+      ahead = c.tell_first.ensures.unpublished not ∙ ap (λ x. x.ahead) pass;
       state_is = c.rewind.ensures ∙ some.1;
-      noted = cut_back c.args.from.now.log c.args.half.now.log c.set_out.new.half.log c.cut.new.self kept.0 kept.1
-          some.2 c.cut.ensures.list c.cut.ensures.count c.cut.ensures.keep;
+      noted = cut_back c.cut.new.self kept.0 kept.1 some.2 c.cut.ensures.list c.cut.ensures.count c.cut.ensures.keep;
     }
 
 pub returns-clause-paid : goal.returns-clause-paid
 returns-clause-paid g c =
     let p = c.args.half.now.pass in
     let told = c.tell_first.ensures.paid c.if-not-tell_first.false in
-    let first = subst (λ (x : Carried). IsPaidOnTrust x c.tell_first.new.pass) c.set_out.ensures.pass told in
-    subst (λ (x : Carried). IsPaid p x) (sym c.roll_back.ensures.pass) (c.wait_passed.ensures.paid p (c.strides_on-ask.ensures.paid p first))
+    let first = subst (λ x. IsPaidOnTrust x c.tell_first.new.pass) c.set_out.ensures.pass told in
+    subst (λ x. IsPaid p x) (sym c.roll_back.ensures.pass) (c.wait_passed.ensures.paid p (c.strides_on-ask.ensures.paid p first))
 
 pub returns-clause-some : goal.returns-clause-some
 returns-clause-some g c =
@@ -63,15 +62,14 @@ returns-clause-some g c =
     let gone = c.strides_on-ask.ensures.further in
     let out = gone.from_is ∙ some.1 in
     let told_first = c.tell_first.ensures.trusted c.if-not-tell_first.false in
-    let first = subst (λ (z : Carried). HasTrusted g.W.Ahead.way c.reached-t.result.0 z c.tell_first.new.pass) c.set_out.ensures.pass told_first in
+    let first = subst (λ z. HasTrusted g.W.Ahead.way c.reached-t.result.0 z c.tell_first.new.pass) c.set_out.ensures.pass told_first in
     let told = c.strides_on-ask.ensures.told p c.reached-t.result.0 t c.reached-t.ensures c.reached-t-2.ensures first in
-    let passed = subst (λ (w : Way). HasPassed w t p q) c.requires.way (c.wait_passed.ensures.passed p told) in
+    let passed = subst (λ w. HasPassed w t p q) c.requires.way (c.wait_passed.ensures.passed p told) in
     let len = c.requires.kept.0 in
     let was = take_all at.log.len c.args.half.now.log.list.items (omega arith) in
     let list = c.roll_back.ensures.log.kept ∙ gone.log.kept ∙ some.2.kept ∙ was in
     let keep = c.roll_back.ensures.log.keep_is ∙ gone.log.keep_is ∙ some.2.keep_is in
     let back = subst (λ s. IsSettled m n (outset s at) c.trust-trust.result.0 c.roll_back.result y) out c.roll_back.ensures.settled in
-    let there = outset (state (g.M.Rewinds.before c.strides_on-ask.new.past c.strides_on-ask.new.half.machine)) at in
-    let under = reached_in m n there c.strides_on-ask.result (station state c.strides_on-ask.new.half) t gone.way c.reached-t-2.ensures in
-    (went m g.met.M.Party.lawful n t from x y c.roll_back.result q c.requires.side refl list keep c.requires.kept.1 passed under c.roll_back.ensures.pass
-    (subst (λ (a : ℕ). IsSettled m n from a c.roll_back.result y) c.trust-trust.ensures back)).0
+    let under = reached_in m t gone.way c.reached-t-2.ensures in
+    (went m g.met.M.Party.lawful x c.requires.side refl list keep c.requires.kept.1 passed under c.roll_back.ensures.pass
+    (subst (λ a. IsSettled m n from a c.roll_back.result y) c.trust-trust.ensures back)).0

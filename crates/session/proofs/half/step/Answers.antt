@@ -11,5 +11,5 @@ act-answer-requires-clause-operation g c =
     let s = g.M.Party.state c.args.half.now.machine in
     let pending : IsPending g.M.Party.moves c.args.n.0 s (Access c.in-Access.tick c.in-Access.op) =
     subst (IsPending g.M.Party.moves c.args.n.0 s) c.in-Access.is c.requires.pending in
-    subst (λ (x : Side). MayDo x c.in-Access.op) (sym c.come.ensures.waited.same.side)
-    (subst (λ (o : Option Query). MayAsk c.args.half.now.pass.side o) pending.2 (g.met.M.Party.permitted s c.args.half.now.pass.side c.requires.plays))
+    subst (λ x. MayDo x c.in-Access.op) (sym c.come.ensures.waited.same.side)
+    (subst (λ o. MayAsk c.args.half.now.pass.side o) pending.2 (g.met.M.Party.permitted s c.args.half.now.pass.side c.requires.plays))

@@ -6,6 +6,5 @@ use Rattle.session.proofs.lookahead.go_on.Goals as goal
 pub returns : goal.returns
 returns g c =
     let state = g.M.Party.state in
-    gone_on g.M.Party.moves g.met.M.Party.lawful c.args.n.0 c.readings-readings.result c.min.result (station state c.args.half.now) (station state c.observe.new.half) c.observe.result
-    c.see_next.new.pass c.side-side.result c.observe.ensures.pass c.side-side.ensures
+    gone_on g.met.M.Party.lawful (station state c.args.half.now) (station state c.observe.new.half) c.observe.ensures.pass c.side-side.ensures
     c.requires.later c.requires.open_ (omega arith) c.see_next.ensures.added c.see_next.ensures.horizon c.observe.ensures.observed c.observe.ensures.over

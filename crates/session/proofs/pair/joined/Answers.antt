@@ -4,6 +4,4 @@ use Rattle.session.proofs.pair.joined.Goals as goal
 
 pub returns : goal.returns
 returns g c s t n keep p q ps qs wh wp =
-    ended g.H.Party.moves g.P.Party.moves c.legal_merge_is_reference.ensures s t n keep p q
-    (station g.H.Party.state c.args.host) (station g.P.Party.state c.args.para) c.join-chip.result ps qs
-    c.join-chip.ensures.legal c.join-chip.ensures.chip wh wp
+    ended c.legal_merge_is_reference.ensures s t p q ps qs c.join-chip.ensures.legal c.join-chip.ensures.chip wh wp

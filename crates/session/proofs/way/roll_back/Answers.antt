@@ -10,9 +10,7 @@ use Rattle.session.proofs.way.roll_back.Goals as goal
 
 pub returns-then-trust-t-clause-settled : goal.returns-then-trust-t-clause-settled
 returns-then-trust-t-clause-settled g c =
-    let x = trip g.M.Party.state g.M.Rewinds.before c.args.past.now c.args.half.now c.args.from.now in
-    stands g.M.Party.moves g.met.M.Party.lawful c.args.n.0 x.from c.args.t.0 c.args.trust.0 c.args.ask x.here
-    c.if-trust-t.true c.requires.order.1 c.requires.reached c.requires.way
+    stands g.met.M.Party.lawful _ _ c.if-trust-t.true c.requires.order.1 c.requires.reached c.requires.way
 
 pub observe-requires-clause-few : goal.observe-requires-clause-few
 observe-requires-clause-few g c =
@@ -27,13 +25,12 @@ returns-clause-settled g c =
     let n = c.args.n.0 in
     let trust = c.args.trust.0 in
     let log = c.args.from.now.log in
-    let x = trip g.M.Party.state g.M.Rewinds.before c.args.past.now c.args.half.now c.args.from.now in
     let y = station g.M.Party.state c.observe.new.half in
     let again = c.observe.result in
     let cut = c.cut.new.self in
     let seen = subst (λ s. HasObserved m Para n c.args.from.now.mark.readings trust s cut again y.at.state y.log) c.rewind.ensures c.observe.ensures.observed in
     let len : length cut.list.items ≡ log.len = ap length c.cut.ensures.list ∙ length-take-le log.len c.args.half.now.log.list.items c.requires.way.noted.kept in
-    went_anew m g.met.M.Party.lawful n x.from c.args.t.0 trust c.args.ask again x.here y cut c.requires.order.0 c.requires.order.1 c.requires.reached c.requires.way
+    went_anew g.met.M.Party.lawful n _ _ y c.requires.order.0 c.requires.order.1 c.requires.reached c.requires.way
     len c.cut.ensures.count seen c.observe.ensures.over
 
 pub returns-clause-log : goal.returns-clause-log
@@ -43,7 +40,7 @@ returns-clause-log g c =
     let seen = c.observe.ensures.observed in
     let cut = c.cut.new.self in
     let len : length cut.list.items ≡ log.len = ap length c.cut.ensures.list ∙ length-take-le log.len c.args.half.now.log.list.items c.requires.way.noted.kept in
-    let still = still_there g.M.Party.moves g.met.M.Party.lawful c.args.n.0 x.from cut c.observe.new.half.log (accesses seen.events) (omega arith) seen.noted in
+    let still = still_there g.met.M.Party.lawful c.args.n.0 x.from (omega arith) seen.noted in
     record {
       kept = still.kept ∙ take_all log.len cut.list.items (omega arith) ∙ c.cut.ensures.list;
       keep_is = still.keep_is ∙ c.cut.ensures.keep;

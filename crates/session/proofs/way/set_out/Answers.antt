@@ -21,14 +21,13 @@ returns-clause-some g c =
     let half = record old { machine = gone.self; log = gone.desk.log } in
     let x = trip state g.M.Rewinds.before gone.past half c.args.from.now in
     let desk = c.take-desk.ensures in
-    let log = ap (λ (d : Shown). d.log) desk in
+    let log = ap (λ d. d.log) desk in
     if_some c.advance_noting-ask.result _ _ _ c.advance_noting-ask.ensures (λ ask went.
-    let seen = heard m lawful Para n r c.args.end.0 (state old.machine) (shown c.take-desk.result) ask (state gone.self) (shown gone.desk)
-    (ap (λ (d : Shown). d.side) desk) (ap (λ (d : Shown). d.status) desk) (ap (λ (d : Shown). d.below) desk) went.0 in
+    let seen = heard lawful r (ap (λ d. d.side) desk) (ap (λ d. d.status) desk) (ap (λ d. d.below) desk) went.0 in
     let anew = subst (λ s. HasObserved m Para n r c.args.end.0 s old.log ask (state gone.self) gone.desk.log) (sym went.1)
-    (subst (λ (l : Log). HasObserved m Para n r c.args.end.0 (state old.machine) l ask (state gone.self) gone.desk.log) log seen) in
+    (subst (λ l. HasObserved m Para n r c.args.end.0 (state old.machine) l ask (state gone.self) gone.desk.log) log seen) in
     let kept = c.requires.kept in
     let few = c.requires.few in
     let due = ap m.due went.1 in
-    let way = sets_out m lawful n x.from ask c.args.end.0 old.log x.here anew kept.0 kept.1 (omega arith) in
-    (way.0, went.1, still_there m lawful n x.from old.log gone.desk.log (accesses anew.events) (let k = kept.0 in omega arith) anew.noted))
+    let way = sets_out lawful n x.from x.here anew kept.0 kept.1 (omega arith) in
+    (way.0, went.1, still_there lawful n x.from (omega arith) anew.noted))

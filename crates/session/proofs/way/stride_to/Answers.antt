@@ -13,7 +13,7 @@ use Rattle.session.proofs.way.stride_to.Goals as goal
 pub returns-then-eq-clause-further : goal.returns-then-eq-clause-further
 returns-then-eq-clause-further g c =
     let x = trip g.M.Party.state g.M.Rewinds.before c.args.past.now c.args.half.now c.args.from.now in
-    stays_here g.M.Party.moves g.met.M.Party.lawful c.args.n.0 x.from c.args.ask x c.requires.way
+    stays_here g.met.M.Party.lawful c.args.n.0 x.from c.args.ask x c.requires.way
 
 pub advance_on-next-requires-clause-pending : goal.advance_on-next-requires-clause-pending
 advance_on-next-requires-clause-pending g c =
@@ -28,7 +28,6 @@ returns-clause-further g c =
     let lawful = g.met.M.Party.lawful in
     let state = g.M.Party.state in
     let n = c.args.n.0 in
-    let ask = c.args.ask in
     let next = c.advance_on-next.result in
     let r = c.args.from.now.mark.readings in
     let old = c.args.half.now in
@@ -37,7 +36,6 @@ returns-clause-further g c =
     let x = trip state g.M.Rewinds.before c.args.past.now old c.args.from.now in
     let y = trip state g.M.Rewinds.before gone.past half c.args.from.now in
     let desk = c.take-desk.ensures in
-    let seen = heard m lawful Para n r c.args.end.0 (state old.machine) (shown c.take-desk.result) next (state gone.self) (shown gone.desk)
-    (ap (λ (d : Shown). d.side) desk) (ap (λ (d : Shown). d.status) desk) (ap (λ (d : Shown). d.below) desk) c.advance_on-next.ensures.goes in
-    let on = subst (λ (l : Log). HasObserved m Para n r c.args.end.0 (state old.machine) l next (state gone.self) gone.desk.log) (ap (λ (d : Shown). d.log) desk) seen in
-    goes_on m lawful n x.from ask next c.args.end.0 x.here y.here y.from.state some c.requires.way on c.advance_on-next.ensures.mark
+    let seen = heard lawful r (ap (λ d. d.side) desk) (ap (λ d. d.status) desk) (ap (λ d. d.below) desk) c.advance_on-next.ensures.goes in
+    let on = subst (λ l. HasObserved m Para n r c.args.end.0 (state old.machine) l next (state gone.self) gone.desk.log) (ap (λ d. d.log) desk) seen in
+    goes_on lawful n _ y.here some c.requires.way on c.advance_on-next.ensures.mark

@@ -15,21 +15,21 @@ tell_more-requires-clause-told g c =
     let u = c.reached-t.ensures in
     let gone = c.stride_to-next.ensures in
     let so_far = c.loop.invariant.told p told.1 c.reached-so_far.result.0 told.2 r told.3 in
-    (p, told_on w n c.loop.ask c.stride_to-next.result _ _ p c.loop.half.pass c.stride_to-next.new.half.pass gone.pass r u gone.further.further so_far)
+    (p, told_on n _ _ _ gone.pass r u gone.further.further so_far)
 
 pub returns-then-le-2-clause-told : goal.returns-then-le-2-clause-told
 returns-then-le-2-clause-told g c p t u at_t at_u told =
     let r = c.reached-so_far.ensures in
     let gone = c.stride_to-next.ensures in
     let so_far = c.loop.invariant.told p t c.reached-so_far.result.0 at_t r told in
-    told_on g.W.Ahead.way c.args.n.0 c.loop.ask c.stride_to-next.result _ u p c.loop.half.pass c.stride_to-next.new.half.pass gone.pass r at_u gone.further.further so_far
+    told_on _ _ _ u gone.pass r at_u gone.further.further so_far
 
 pub returns-then-le-2-clause-paid : goal.returns-then-le-2-clause-paid
-returns-then-le-2-clause-paid g c p paid = subst (λ (x : Carried). IsPaidOnTrust p x) (sym c.stride_to-next.ensures.pass) (c.loop.invariant.paid p paid)
+returns-then-le-2-clause-paid g c p paid = subst (λ x. IsPaidOnTrust p x) (sym c.stride_to-next.ensures.pass) (c.loop.invariant.paid p paid)
 
 pub returns-then-le-2-clause-further : goal.returns-then-le-2-clause-further
 returns-then-le-2-clause-further g c =
-    further_on g.M.Party.moves c.args.n.0 c.args.ask c.loop.ask c.stride_to-next.result _ _ _ _ refl c.loop.invariant.further c.stride_to-next.ensures.further
+    further_on _ refl c.loop.invariant.further c.stride_to-next.ensures.further
 
 pub returns-then-not-tell_more-clause-told : goal.returns-then-not-tell_more-clause-told
 returns-then-not-tell_more-clause-told g c p t v at_t at_v told =
@@ -37,19 +37,18 @@ returns-then-not-tell_more-clause-told g c p t v at_t at_v told =
     let n = c.args.n.0 in
     let r = c.reached-so_far.ensures in
     let u = c.reached-t.ensures in
-    let next = c.stride_to-next.result in
     let gone = c.stride_to-next.ensures in
     let so_far = c.loop.invariant.told p t c.reached-so_far.result.0 at_t r told in
-    let then = told_on w n c.loop.ask next _ _ p c.loop.half.pass c.stride_to-next.new.half.pass gone.pass r u gone.further.further so_far in
-    subst (λ (k : ℕ). HasTrusted w k p c.tell_more.new.pass) (one_reached n next _ v u at_v) (c.tell_more.ensures.told p then)
+    let then = told_on n _ _ _ gone.pass r u gone.further.further so_far in
+    subst (λ k. HasTrusted w k p c.tell_more.new.pass) (one_reached n _ _ v u at_v) (c.tell_more.ensures.told p then)
 
 pub returns-then-not-tell_more-clause-paid : goal.returns-then-not-tell_more-clause-paid
 returns-then-not-tell_more-clause-paid g c p paid =
-    c.tell_more.ensures.paid p (subst (λ (x : Carried). IsPaidOnTrust p x) (sym c.stride_to-next.ensures.pass) (c.loop.invariant.paid p paid))
+    c.tell_more.ensures.paid p (subst (λ x. IsPaidOnTrust p x) (sym c.stride_to-next.ensures.pass) (c.loop.invariant.paid p paid))
 
 pub returns-then-not-tell_more-clause-further : goal.returns-then-not-tell_more-clause-further
 returns-then-not-tell_more-clause-further g c =
-    further_on g.M.Party.moves c.args.n.0 c.args.ask c.loop.ask c.stride_to-next.result _ _ _ c.tell_more.new.pass refl c.loop.invariant.further c.stride_to-next.ensures.further
+    further_on c.tell_more.new.pass refl c.loop.invariant.further c.stride_to-next.ensures.further
 
 pub loop-preserved : goal.loop-preserved
 loop-preserved g c =
@@ -57,17 +56,16 @@ loop-preserved g c =
     let n = c.args.n.0 in
     let r = c.reached-so_far.ensures in
     let u = c.reached-t.ensures in
-    let next = c.stride_to-next.result in
     let gone = c.stride_to-next.ensures in
     record {
       can_next = tt;
       finite = tt;
-      further = further_on g.M.Party.moves n c.args.ask c.loop.ask next _ _ _ c.tell_more.new.pass refl c.loop.invariant.further gone.further;
+      further = further_on c.tell_more.new.pass refl c.loop.invariant.further gone.further;
       told = λ p t v at_t at_v told.
           let so_far = c.loop.invariant.told p t c.reached-so_far.result.0 at_t r told in
-          let then = told_on w n c.loop.ask next _ _ p c.loop.half.pass c.stride_to-next.new.half.pass gone.pass r u gone.further.further so_far in
-          subst (λ (k : ℕ). HasTrusted w k p c.tell_more.new.pass) (one_reached n next _ v u at_v) (c.tell_more.ensures.told p then);
-      paid = λ p paid. c.tell_more.ensures.paid p (subst (λ (x : Carried). IsPaidOnTrust p x) (sym gone.pass) (c.loop.invariant.paid p paid));
-      cell = c.tell_more.ensures.seat.0 ∙ ap (λ (x : Carried). x.cell) gone.pass ∙ c.loop.invariant.cell;
-      side = c.tell_more.ensures.seat.1 ∙ ap (λ (x : Carried). x.side) gone.pass ∙ c.loop.invariant.side;
+          let then = told_on n _ _ _ gone.pass r u gone.further.further so_far in
+          subst (λ k. HasTrusted w k p c.tell_more.new.pass) (one_reached n _ _ v u at_v) (c.tell_more.ensures.told p then);
+      paid = λ p paid. c.tell_more.ensures.paid p (subst (λ x. IsPaidOnTrust p x) (sym gone.pass) (c.loop.invariant.paid p paid));
+      cell = c.tell_more.ensures.seat.0 ∙ ap (λ x. x.cell) gone.pass ∙ c.loop.invariant.cell;
+      side = c.tell_more.ensures.seat.1 ∙ ap (λ x. x.side) gone.pass ∙ c.loop.invariant.side;
     }
