@@ -1,8 +1,7 @@
 -- A side goes on past what it may answer itself.
-use Rattle.std.proofs.Common.{ℕ, zero, suc, ◌≡◌, ◌+◌, ◌<◌, ◌≤◌, inl, inr, refl, sym, ◌∙◌, ap, subst, arith, List, [], ◌∷◌, All, length, length-append, Option, None, Some, MatchOption}
-use Rattle.std.proofs.lemmas.List.Elements.{All-nil, All-cons}
+use Rattle.std.proofs.Common.{ℕ, ◌≡◌, ◌+◌, ◌≤◌, inl, inr, refl, sym, ◌∙◌, ap, subst, arith, List, [], length, length-append, None, Some}
 use Rattle.beeb_bits.specs.declared.Side.{Side}
-use Rattle.tube_chip.specs.Act.{Query, access}
+use Rattle.tube_chip.specs.Act.{access}
 use Rattle.tube_chip.specs.Events.{Event}
 use Rattle.tube_trace.specs.Entries.{accesses, entry_of}
 use Rattle.tube_cell.specs.declared.local.Readings.{Readings}
@@ -11,7 +10,7 @@ use Rattle.tube_cell.specs.Passes.{Carried, own_horizon, after_add}
 use Rattle.tube_party.specs.declared.log.Log.{Log}
 use Rattle.tube_party.specs.declared.party.Ask.{Ask}
 use Rattle.tube_party.specs.declared.party.Ask.TheVariants.{Nothing, Access, Look}
-use Rattle.tube_party.specs.Moves.{Moves, IsLawful, Runs, Heads, IsAsk, course}
+use Rattle.tube_party.specs.Moves.{Moves, IsLawful, Runs, IsAsk, course}
 use Rattle.tube_party.specs.Logs.{HasNoted, at_most_one}
 use Rattle.session.specs.CodeSight.{byte_answer, readings_seen, observed_events}
 use Rattle.session.specs.CodeStation.{Station}

@@ -1,10 +1,9 @@
 -- Each side's events of a merge are its own list.
-use Rattle.std.proofs.Common.{ℕ, zero, suc, ◌≡◌, nat_lt, true, false, cond, refl, ◌∙◌, ap, List, [], ◌∷◌, Option, None, Some, MatchOption, if◌then◌else◌}
+use Rattle.std.proofs.Common.{ℕ, ◌≡◌, nat_lt, true, false, cond, refl, ◌∙◌, ap, List, [], ◌∷◌}
 use Rattle.beeb_bits.specs.declared.Side.{Side}
 use Rattle.beeb_bits.specs.declared.Side.TheVariants.{Host, Para}
-use Rattle.tube_chip.specs.Act.{Query}
-use Rattle.tube_chip.specs.Events.{Event, merge, put_in, of_side, is_side}
-use Rattle.tube_party.specs.Moves.{Moves, Runs, Heads, course}
+use Rattle.tube_chip.specs.Events.{Event, merge, put_in, of_side}
+use Rattle.tube_party.specs.Moves.{Moves, Runs, course}
 use Rattle.session.proofs.Runs.{along}
 
 -- all events are of this side

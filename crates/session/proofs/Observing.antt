@@ -1,7 +1,6 @@
 -- What a side observes that goes ahead: what is cut off it, and what runs make it.
-use Rattle.std.proofs.Common.{ℕ, zero, suc, ◌≡◌, ◌+◌, ◌<◌, ◌≤◌, ◌==◌, nat_lt, Bool, true, false, cond, refl, sym, ◌∙◌, ap, subst, ⊎_elim, arith, List, [], ◌∷◌, ◌++◌, All, Option, None, Some}
+use Rattle.std.proofs.Common.{ℕ, zero, suc, ◌≡◌, ◌+◌, ◌<◌, ◌≤◌, ◌==◌, nat_lt, true, false, cond, refl, sym, ◌∙◌, ap, subst, ⊎_elim, arith, List, [], ◌∷◌, ◌++◌, Option, None, Some}
 use Rattle.std.proofs.Common.{MatchOption, slice_index}
-use Rattle.std.proofs.lemmas.List.Elements.{All-nil, All-cons, All-head, All-tail}
 use Rattle.std.proofs.lemmas.Bool.{cases_lt}
 use Rattle.std.proofs.lemmas.Bool.Decides.{nat_tests}
 use Rattle.beeb_bits.specs.declared.Side.{Side}
@@ -17,7 +16,7 @@ use Rattle.tube_trace.specs.Entries.{accesses}
 use Rattle.tube_cell.specs.declared.local.Readings.{Readings}
 use Rattle.tube_cell.specs.Views.{AllBelow, below, is_observation, shown_to}
 use Rattle.tube_cell.specs.Steps.{Watches}
-use Rattle.tube_party.specs.Moves.{Moves, IsLawful, Runs, Heads, Looks, shown_lines, course}
+use Rattle.tube_party.specs.Moves.{Moves, IsLawful, Runs, Looks, shown_lines, course}
 use Rattle.tube_side.specs.CodeSteps.{event_at}
 use Rattle.session.specs.CodeSight.{Sight, byte_seen, byte_answer, readings_seen, joins, observed_by, observed_events, IsSeen}
 use Rattle.tube_cell.proofs.Law.{low_cons, low_head, low_nil, low_tail}

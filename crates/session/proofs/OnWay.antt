@@ -1,12 +1,9 @@
 -- Where a machine stands that went ahead, and once what it did there is settled.
-use Rattle.std.proofs.Common.{ℕ, zero, suc, ◌≡◌, ◌+◌, ◌<◌, ◌≤◌, inl, inr, refl, sym, ◌∙◌, ap, subst, arith, List, [], ◌∷◌, ◌++◌, append-nil, All, length, take}
+use Rattle.std.proofs.Common.{ℕ, zero, suc, ◌≡◌, ◌+◌, ◌<◌, ◌≤◌, inl, inr, refl, sym, ◌∙◌, ap, subst, arith, List, [], ◌∷◌, ◌++◌, append-nil, length, take}
 use Rattle.std.proofs.Common.{Option, None, Some, MatchOption, IfSome, IfNone}
 use Rattle.std.proofs.lemmas.List.{take_all}
-use Rattle.std.proofs.lemmas.List.Elements.{All-nil, All-cons, All-head, All-tail}
-use Rattle.beeb_bits.specs.declared.Side.{Side}
 use Rattle.beeb_bits.specs.declared.Side.TheVariants.{Para}
 use Rattle.tube_chip.specs.declared.Answer.{Answer}
-use Rattle.tube_chip.specs.declared.Op.{Op}
 use Rattle.tube_chip.specs.Act.{Query, access}
 use Rattle.tube_chip.specs.Events.{Event}
 use Rattle.tube_trace.specs.declared.Entry.{Entry}
@@ -17,12 +14,12 @@ use Rattle.tube_party.specs.declared.log.Log.{Log}
 use Rattle.tube_party.specs.declared.log.LogMark.{LogMark}
 use Rattle.tube_party.specs.declared.party.Ask.{Ask}
 use Rattle.tube_party.specs.declared.party.Ask.TheVariants.{Nothing, Access, Look}
-use Rattle.tube_party.specs.Moves.{Moves, IsLawful, Runs, Heads, IsAsk, course}
+use Rattle.tube_party.specs.Moves.{Moves, IsLawful, Runs, IsAsk, course}
 use Rattle.tube_party.specs.Logs.{HasNoted}
 use Rattle.tube_party.specs.Turn.{note_all_leaves}
 use Rattle.tube_side.specs.CodeSteps.{all_events}
 use Rattle.tube_side.specs.CodeWays.{Way, IsWay}
-use Rattle.session.specs.CodeSight.{Sight, byte_seen, byte_answer, readings_seen, IsSeen}
+use Rattle.session.specs.CodeSight.{Sight, byte_answer, readings_seen, IsSeen}
 use Rattle.session.specs.CodeStation.{place, Station}
 use Rattle.session.specs.CodeLookahead.{MovedOn}
 use Rattle.session.specs.CodeObserved.{HasObserved, IsOver}
@@ -34,7 +31,6 @@ use Rattle.session.proofs.Kept.{noted_on, counted_on, still_kept}
 use Rattle.session.proofs.Gone.{events_low, events_under}
 use Rattle.session.proofs.Observing.{none_late, below_limit, cut, watches, made, readings_show, seen_on}
 use Rattle.session.proofs.UnderWay.{here}
-use Rattle.tube_cell.proofs.Law.{low_cons, low_head, low_nil, low_tail}
 
 -- what is observed makes a way
 pub is_way : {S : Type 0} {m : Moves S} (lawful : IsLawful m) (n : ℕ) (from : Outset S) → IsWay (way_of m n from)

@@ -1,7 +1,6 @@
 -- What the loop of one thread keeps.
 use Rattle.std.proofs.Common.{ℕ, zero, suc, ◌≡◌, ◌≢◌, ◌+◌, ◌<◌, ◌≤◌, min, refl, sym, ◌∙◌, ap, subst, arith, List, [], ◌∷◌, ◌++◌, Some, append-nil, append_assoc, length, length-append, take}
 use Rattle.std.proofs.Math.Seq.{take-nil}
-use Rattle.beeb_bits.specs.declared.Side.{Side}
 use Rattle.tube_chip.specs.Events.{Event}
 use Rattle.tube_chip.specs.Act.{access, look}
 use Rattle.tube_trace.specs.Entries.{accesses, entry_of}

@@ -1,5 +1,4 @@
 use Rattle.std.proofs.Common.{rules, arith, ap, ◌≢◌}
-use Rattle.tube_cell.specs.Passes.{Carried}
 use Rattle.tube_party.specs.declared.party.Ask.TheVariants.{Nothing}
 use Rattle.session.specs.CodeStation.{station}
 use Rattle.session.proofs.UnderWay.{begins, moves_on, moved, steps_on, at_ask, still_under_way}

@@ -1,11 +1,8 @@
-use Rattle.std.proofs.Common.{arith, refl, ◌∙◌, sym, ap, subst, ℕ, []}
+use Rattle.std.proofs.Common.{arith, refl, ◌∙◌, sym, ap, subst, []}
 use Rattle.std.proofs.lemmas.List.{take_all}
-use Rattle.tube_cell.specs.Passes.{Carried}
-use Rattle.tube_party.specs.declared.log.Log.{Log}
 use Rattle.tube_party.specs.Logs.{HasNoted, none_noted}
 use Rattle.tube_side.specs.CodeSteps.{all_events, HasWaited, IsPaid, IsPaidOnTrust}
 use Rattle.tube_side.specs.CodeTrust.{HasTrusted, HasPassed}
-use Rattle.tube_side.specs.CodeWays.{Way}
 use Rattle.session.specs.CodeStation.{station}
 use Rattle.session.specs.CodeWay.{outset, IsSettled}
 use Rattle.session.proofs.OnWay.{if_none, reached_in, went, cut_back}

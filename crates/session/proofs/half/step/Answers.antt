@@ -1,6 +1,5 @@
-use Rattle.std.proofs.Common.{sym, subst, Option}
-use Rattle.beeb_bits.specs.declared.Side.{Side}
-use Rattle.tube_chip.specs.Act.{Query, MayDo}
+use Rattle.std.proofs.Common.{sym, subst}
+use Rattle.tube_chip.specs.Act.{MayDo}
 use Rattle.tube_party.specs.declared.party.Ask.TheVariants.{Access}
 use Rattle.tube_party.specs.Moves.{MayAsk}
 use Rattle.tube_party.specs.Turn.{IsPending}

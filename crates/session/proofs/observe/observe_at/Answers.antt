@@ -1,7 +1,4 @@
 use Rattle.std.proofs.Common.{arith, refl, ◌<◌, ◌^◌}
-use Rattle.tube_cell.specs.declared.local.Readings.{Readings}
-use Rattle.tube_party.specs.declared.party.Ask.TheVariants.{Access}
-use Rattle.session.specs.CodeDesk.{shown}
 use Rattle.session.proofs.Gone.{observes_few}
 use Rattle.session.proofs.Heard.{observes_on, still_observed, reads_on, read_leaves, over_unasked, over_unanswered}
 use Rattle.session.proofs.observe.observe_at.Goals as goal

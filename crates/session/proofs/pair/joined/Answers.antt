@@ -1,4 +1,3 @@
-use Rattle.session.specs.CodeStation.{station}
 use Rattle.session.proofs.Ends.{ended}
 use Rattle.session.proofs.pair.joined.Goals as goal
 

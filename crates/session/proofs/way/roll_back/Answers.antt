@@ -1,7 +1,6 @@
 use Rattle.std.proofs.Common.{◌≡◌, ◌∙◌, subst, ap, arith, length}
 use Rattle.std.proofs.lemmas.List.{length-take-le, take_all}
 use Rattle.beeb_bits.specs.declared.Side.TheVariants.{Para}
-use Rattle.tube_trace.specs.Entries.{accesses}
 use Rattle.session.specs.CodeObserved.{HasObserved}
 use Rattle.session.specs.CodeStation.{station}
 use Rattle.session.specs.CodeWay.{trip}

@@ -1,8 +1,5 @@
 use Rattle.std.proofs.Common.{ap, sym, subst, arith}
 use Rattle.beeb_bits.specs.declared.Side.TheVariants.{Para}
-use Rattle.tube_trace.specs.Entries.{accesses}
-use Rattle.tube_party.specs.declared.log.Log.{Log}
-use Rattle.session.specs.CodeDesk.{Shown, shown}
 use Rattle.session.specs.CodeObserved.{HasObserved}
 use Rattle.session.specs.CodeWay.{trip}
 use Rattle.session.proofs.Heard.{heard}

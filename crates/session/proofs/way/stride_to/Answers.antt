@@ -1,8 +1,6 @@
 use Rattle.std.proofs.Common.{rules, ap, subst, ◌≢◌}
 use Rattle.beeb_bits.specs.declared.Side.TheVariants.{Para}
-use Rattle.tube_party.specs.declared.log.Log.{Log}
 use Rattle.tube_party.specs.declared.party.Ask.TheVariants.{Nothing}
-use Rattle.session.specs.CodeDesk.{Shown, shown}
 use Rattle.session.specs.CodeObserved.{HasObserved}
 use Rattle.session.specs.CodeWay.{trip}
 use Rattle.session.proofs.Heard.{heard}

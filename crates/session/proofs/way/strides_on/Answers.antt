@@ -1,5 +1,4 @@
-use Rattle.std.proofs.Common.{ℕ, ◌∙◌, refl, sym, subst, ap}
-use Rattle.tube_cell.specs.Passes.{Carried}
+use Rattle.std.proofs.Common.{◌∙◌, refl, sym, subst, ap}
 use Rattle.tube_side.specs.CodeSteps.{IsPaidOnTrust}
 use Rattle.tube_side.specs.CodeTrust.{HasTrusted}
 use Rattle.session.proofs.OnWay.{one_reached, further_on, told_on}

@@ -1,4 +1,4 @@
-use Rattle.std.proofs.Common.{◌≡◌, ◌∙◌, ℕ, suc, ◌+◌, ◌*◌, List, Some, refl, sym, ap, subst, arith, rules}
+use Rattle.std.proofs.Common.{◌≡◌, ◌∙◌, ℕ, suc, ◌+◌, ◌*◌, Some, refl, sym, ap, subst, arith, rules}
 use Rattle.tube_party.specs.Moves.{IsAnsweredAgain}
 use Rattle.tube_party.proofs.Again.{period-more, again-more}
 use Rattle.session.specs.CodeSight.{byte_seen}
