@@ -113,13 +113,13 @@ fit_of : (s : Side) {words : List ℕ} {views : List View} (k : Kept words views
     → FitsIn k (one_side s) j v
 fit_of s k j v at role = subst (λ r. FitsIn k r j v) role (k.each j v at)
 
-seat_of : (s : Side) (k : Known) (a b : List Event) (hs ps : ℕ) (j : ℕ) (u : View) → FitsAs k a b hs ps (one_side s) j u → j ≡ pick s hs ps
-seat_of Host k a b hs ps j u f = f.0
-seat_of Para k a b hs ps j u f = f.0
+seat_of : (s : Side) {words : List ℕ} {views : List View} (k : Kept words views) (j : ℕ) (u : View) → FitsIn k (one_side s) j u → j ≡ pick s k.host_seat k.para_seat
+seat_of Host k j u f = f.0
+seat_of Para k j u f = f.0
 
-knows_of : (s : Side) (k : Known) (a b : List Event) (hs ps : ℕ) (j : ℕ) (u : View) → FitsAs k a b hs ps (one_side s) j u → Knows s k u.known
-knows_of Host k a b hs ps j u f = f.3
-knows_of Para k a b hs ps j u f = f.3
+knows_of : (s : Side) {words : List ℕ} {views : List View} (k : Kept words views) (j : ℕ) (u : View) → FitsIn k (one_side s) j u → Knows s k.known u.known
+knows_of Host k j u f = f.3
+knows_of Para k j u f = f.3
 
 -- the pass of a side takes a step to these words and lists
 kept_step : (s : Side) {words next : List ℕ} {views : List View} (k : Kept words views) (pass : ℕ) (v w : View) {n : Known} {a b : List Event}
@@ -128,7 +128,7 @@ kept_step : (s : Side) {words next : List ℕ} {views : List View} (k : Kept wor
     → w.role ≡ one_side s → FitsAs n a b k.host_seat k.para_seat (one_side s) pass w
     → Kept next (set views pass w)
 kept_step s {views} k pass v w {n} {a} {b} at role words_are well good keep role' fits =
-    let seat = seat_of s _ _ _ _ _ _ v (fit_of s k pass v at role) in
+    let seat = seat_of s k pass v (fit_of s k pass v at role) in
     record {
       known = n;
       host = a;
@@ -170,22 +170,22 @@ firm_low k (x ∷ xs) =
       | false ↦ λ h. low_nil
     ]) refl
 
-fits_found : (s : Side) (k : Known) (a b : List Event) (hs ps : ℕ) (j : ℕ) (v : View) → IsChip k.chip → FitsAs k a b hs ps (one_side s) j v → FitsAs k a b hs ps (one_side s) j (found_view v k)
-fits_found Host k a b hs ps j v well f = (f.0, ap (λ l. v.mine ++ firm k l) f.2 ∙ append-nil v.mine ∙ f.1, ap (pending_events k) f.2, knows_all Host k well)
-fits_found Para k a b hs ps j v well f =
-    (f.0, f.1 ∙ settles k v.mine v.trusted, All-append (λ e. e.tick < k.host) v.mine (firm k v.trusted) f.2 (firm_low k v.trusted), knows_all Para k well)
+fits_found : (s : Side) {words : List ℕ} {views : List View} (k : Kept words views) (j : ℕ) (v : View) → FitsIn k (one_side s) j v → FitsIn k (one_side s) j (found_view v k.known)
+fits_found Host k j v f = (f.0, ap (λ l. v.mine ++ firm k.known l) f.2 ∙ append-nil v.mine ∙ f.1, ap (pending_events k.known) f.2, knows_all Host k.known k.well)
+fits_found Para k j v f =
+    (f.0, f.1 ∙ settles k.known v.mine v.trusted, All-append (λ e. e.tick < k.known.host) v.mine (firm k.known v.trusted) f.2 (firm_low k.known v.trusted), knows_all Para k.known k.well)
 
 -- a step that changes no word and no list
 kept_found : (s : Side) {words : List ℕ} {views : List View} (k : Kept words views) (pass : ℕ) (v : View) → get_elem? views pass ≡ some v → v.role ≡ one_side s
     → Kept words (set views pass (found_view v k.known)) × Finds v words words (found_view v k.known)
 kept_found s k pass v at role =
     let fit = fit_of s k pass v at role in (
-      kept_step s k _ v _ at role k.words_are k.well k.good (λ j u f. f) role (fits_found s _ _ _ _ _ _ v k.well fit),
+      kept_step s k _ v _ at role k.words_are k.well k.good (λ j u f. f) role (fits_found s k pass v fit),
       record {
         well = k.well;
         words_are = k.words_are;
         view_is = refl;
-        goes_on = subst (λ r. GoesOn r v.known k.known) (sym role) (goes_on (knows_of s _ _ _ _ _ _ v fit));
+        goes_on = subst (λ r. GoesOn r v.known k.known) (sym role) (goes_on (knows_of s k pass v fit));
       },
     )
 
@@ -219,7 +219,7 @@ known_is : PackingIsOneToOne → (s : Side) {words : List ℕ} {views : List Vie
     → get_elem? views pass ≡ some v → v.role ≡ one_side s → words ≡ words_of v.known → v.known ≡ k.known
 known_is one s k pass v at role is =
     let fit = fit_of s k pass v at role in
-    words-one one v.known k.known (knows_of s _ _ _ _ _ _ v fit).well k.well (sym is ∙ k.words_are)
+    words-one one v.known k.known (knows_of s k pass v fit).well k.well (sym is ∙ k.words_are)
 
 host_publishes : PackingIsOneToOne → (pass : ℕ) {v : View} {es : List Event} {last : State} {end : ℕ} {next : Known} → MayPublish Host es last end v → IsChip last
     → next ≡ known_with Host last end (word_of_other Host v.known) (trust_after Host v.known.chip v.known.trust es)
@@ -380,7 +380,7 @@ looks {s} pass {v} {t} may words views k at = go (admits s (other_bound s k.know
         → MatchBool b (w ≡ looked_view v t s w.known) (w ≡ found_view v w.known) → Looks t v words words w
     told b w same e f =
         let fit = fit_of s k pass v at may.role in
-        let on = goes_on (knows_of s _ _ _ _ _ _ v fit) in
+        let on = goes_on (knows_of s k pass v fit) in
         subst (λ r. LooksAs t r v words w) (sym may.role)
         (subst (λ x. IsChip x.chip × (words ≡ words_of x) × GoesOn (one_side s) v.known x
         × MatchBool (admits s (other_bound s x) t) (w ≡ looked_view v t s w.known) (w ≡ found_view v w.known)) (sym same)

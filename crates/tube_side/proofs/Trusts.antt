@@ -14,7 +14,7 @@ use Rattle.tube_cell.specs.Steps.{Watches}
 use Rattle.tube_side.specs.CodeSteps.{all_events}
 use Rattle.tube_side.specs.CodeWays.{Way, IsWay}
 use Rattle.tube_side.specs.CodeTrust.{from_on, IsTrusting, HasTrusted, HasPassed}
-use Rattle.tube_cell.proofs.Law.{nat_lt-true, nat_lt-false, nat_lt-from_true, nat_lt-from_false}
+use Rattle.tube_cell.proofs.Law.{by_lt, nat_lt-true, nat_lt-false}
 use Rattle.tube_cell.proofs.Grows.{trusts_fall, past_append}
 
 -- ---- parts of a list
@@ -31,26 +31,21 @@ below_and_rest t (e ∷ es) = elim (nat_lt e.tick t) as (λ b. cond b (e ∷ bel
 join_parts : (f t : ℕ) (es : List Event) → f ≤ t → below f es ++ below t (from_on f es) ≡ below t es
 join_parts f t [] le = refl
 join_parts f t (e ∷ es) le =
-    (elim (nat_lt e.tick f) as (λ b. nat_lt e.tick f ≡ b → cond b (e ∷ below f es) [] ++ below t (drop (length (cond b (e ∷ below f es) [])) (e ∷ es)) ≡ below t (e ∷ es)) [
-      | true ↦ λ h. let l = nat_lt-from_true e.tick f h in rw (nat_lt-true e.tick t (omega arith)) (ap (λ l. e ∷ l) (join_parts f t es le))
-      | false ↦ λ h. refl
-    ]) refl
+    by_lt e.tick f (λ b. cond b (e ∷ below f es) [] ++ below t (drop (length (cond b (e ∷ below f es) [])) (e ∷ es)) ≡ below t (e ∷ es))
+    (λ lt. rw (nat_lt-true e.tick t (omega arith)) (ap (λ l. e ∷ l) (join_parts f t es le)))
+    (λ le. refl)
 
 -- the part from f to a, and the rest from a on, are the part from f on
 join_rest : (f a : ℕ) (es : List Event) → f ≤ a → from_on f (below a es) ++ from_on a es ≡ from_on f es
 join_rest f a [] le = refl
 join_rest f a (e ∷ es) le =
-    (elim (nat_lt e.tick a) as (λ b. nat_lt e.tick a ≡ b → from_on f (cond b (e ∷ below a es) []) ++ drop (length (cond b (e ∷ below a es) [])) (e ∷ es) ≡ from_on f (e ∷ es)) [
-      | true ↦ λ h.
-          (elim (nat_lt e.tick f) as (λ b. nat_lt e.tick f ≡ b → drop (length (cond b (e ∷ below f (below a es)) [])) (e ∷ below a es) ++ from_on a es ≡ drop
-          (length (cond b (e ∷ below f es) [])) (e ∷ es)) [
-            | true ↦ λ g. join_rest f a es le
-            | false ↦ λ g. ap (λ l. e ∷ l) (below_and_rest a es)
-          ]) refl
-      | false ↦ λ h.
-          let l = nat_lt-from_false e.tick a h in
-          sym (rw (nat_lt-false e.tick f (omega arith)) refl)
-    ]) refl
+    by_lt e.tick a (λ b. from_on f (cond b (e ∷ below a es) []) ++ drop (length (cond b (e ∷ below a es) [])) (e ∷ es) ≡ from_on f (e ∷ es))
+    (λ lt. elim (nat_lt e.tick f) as (λ b. drop (length (cond b (e ∷ below f (below a es)) [])) (e ∷ below a es) ++ from_on a es
+    ≡ drop (length (cond b (e ∷ below f es) [])) (e ∷ es)) [
+      | true ↦ join_rest f a es le
+      | false ↦ ap (λ l. e ∷ l) (below_and_rest a es)
+    ])
+    (λ late. sym (rw (nat_lt-false e.tick f (omega arith)) refl))
 
 -- nothing is left from the end of a part on
 none_left : (t : ℕ) (es : List Event) → from_on t (below t es) ≡ []
@@ -68,10 +63,9 @@ watch_from side from more c (e ∷ es) end h le = (h.0, h.1, (omega arith), h.3,
 watch_rest : (side : Side) (t from : ℕ) (c : State) (es : List Event) (end : ℕ) → Watches side from c es end → Watches side (max t from) c (from_on t es) end
 watch_rest side t from c [] end h = tt
 watch_rest side t from c (e ∷ es) end h =
-    (elim (nat_lt e.tick t) as (λ b. nat_lt e.tick t ≡ b → Watches side (max t from) c (drop (length (cond b (e ∷ below t es) [])) (e ∷ es)) end) [
-      | true ↦ λ x. watch_from _ _ (max t from) c _ _ (watch_rest side t (e.tick + 1) c es end h.5) (omega arith)
-      | false ↦ λ x. let l = nat_lt-from_false e.tick t x in (h.0, h.1, (omega arith), h.3, h.4, h.5)
-    ]) refl
+    by_lt e.tick t (λ b. Watches side (max t from) c (drop (length (cond b (e ∷ below t es) [])) (e ∷ es)) end)
+    (λ lt. watch_from _ _ (max t from) c _ _ (watch_rest side t (e.tick + 1) c es end h.5) (omega arith))
+    (λ le. (h.0, h.1, (omega arith), h.3, h.4, h.5))
 
 -- all are left from the beginning on
 all_left : (es : List Event) → from_on 0 es ≡ es
