@@ -1,319 +1,156 @@
 -- How long vertical sync stays what it is: from one clock to the next.
-use Rattle.std.proofs.Common.{◌≡◌, ◌∙◌, sym, ap, subst, refl, ℕ, zero, suc, ◌+◌, ◌-◌, ◌*◌, ◌%◌, ◌<◌, ◌≤◌, ◌≢◌, ◌==◌, ◌&&◌, ◌||◌, Bool, true, false, arith, inl, inr, true≢false}
-use Rattle.std.specs.Prelude.{if◌then◌else◌, is_none, nat_lt}
+use Rattle.std.proofs.Common.{◌≡◌, ◌∙◌, sym, ap, subst, refl, ℕ, zero, suc, ◌+◌, ◌-◌, ◌*◌, ◌%◌, ◌<◌, ◌≤◌, ◌≢◌, ◌==◌, false, arith, inl, inr}
+use Rattle.std.specs.Prelude.{if◌then◌else◌, nat_lt}
 use Rattle.std.proofs.lemmas.Bool.{cases_lt}
 use Rattle.std.proofs.lemmas.Bool.Decides.{nat_tests}
-use Rattle.std.proofs.Math.Nat.{mod-eq_of_lt, mul-le-mul_right}
+use Rattle.std.proofs.Math.Nat.{mul-le-mul_right}
 use Rattle.crtc6845.specs.State.{Registers, State}
-use Rattle.crtc6845.specs.Clock.{begins_sync, sync_counted, start_leaves, ends_line, line_ended, count_leaves, clock_leaves, is_in_sync}
-use Rattle.crtc6845.specs.Laws.{clocks, line_characters, HaveTheirBits}
-use Rattle.crtc6845.specs.Calm.{Fits, clocks_to_line, is_sync_line, lines_before_sync, quiet_lines, quiet_lines_by, calm_of}
-use Rattle.crtc6845.proofs.Lines.{test_true, test_false, clock_leaves-registers, clock_leaves-last, line_left_in}
-use Rattle.crtc6845.proofs.Frames.{mul_more, inner_is, last_is}
-use Rattle.crtc6845.proofs.SyncLines.{start_by, count_leaves-sync, sync_inside, sync_counts}
-use Rattle.crtc6845.proofs.Calm.{Moves, line_moves}
-
-calm_on : (c : State) → 0 < c.sync_lines → calm_of c ≡ clocks_to_line c + (c.sync_lines - 1) * line_characters c.registers
-calm_on c h =
-    let t : is_in_sync c ≡ true = grind (arith, nat_tests) in
-    ap (λ b. clocks_to_line c + quiet_lines_by b c * line_characters c.registers) t
-
-calm_off : (c : State) → c.sync_lines ≡ 0 → calm_of c ≡ clocks_to_line c + quiet_lines c * line_characters c.registers
-calm_off c h =
-    let t : is_in_sync c ≡ false = grind (arith, nat_tests) in
-    ap (λ b. clocks_to_line c + quiet_lines_by b c * line_characters c.registers) t
-
-to_start : (c : State) → c.character ≡ 0 → clocks_to_line c ≡ 0
-to_start c h = grind (arith, nat_tests)
-
-to_inside : (c : State) → c.character ≢ 0 → c.character ≤ c.registers.horizontal_total → clocks_to_line c ≡ c.registers.horizontal_total + 1 - c.character
-to_inside c h g = grind (arith, nat_tests)
-
-to_past : (c : State) → c.character ≢ 0 → c.registers.horizontal_total < c.character → clocks_to_line c ≡ 256 - c.character
-to_past c h g = grind (arith, nat_tests)
-
-abbrev start_quiet : Bool → State → ℕ
-start_quiet b c = if b then 0 else lines_before_sync c
-
-quiet_start : (c : State) → c.character ≡ 0 → quiet_lines c ≡ start_quiet (is_sync_line c) c
-quiet_start c h = rw (test_true c.character 0 h) refl
-
-quiet_past : (c : State) → c.registers.horizontal_total < c.character → quiet_lines c ≡ start_quiet (is_sync_line c) c
-quiet_past c h =
-    let t : (c.character == 0 || nat_lt c.registers.horizontal_total c.character) ≡ true = grind (arith, nat_tests) in
-    rw t refl
-
-quiet_inside : (c : State) → c.character ≢ 0 → c.character ≤ c.registers.horizontal_total → quiet_lines c ≡ lines_before_sync c - 1
-quiet_inside c h g =
-    let t : (c.character == 0 || nat_lt c.registers.horizontal_total c.character) ≡ false = grind (arith, nat_tests) in
-    rw t refl
+use Rattle.crtc6845.specs.Clock.{starts_line, begins_sync, sync_counted, start_leaves, line_ended, count_leaves, clock_leaves, is_in_sync}
+use Rattle.crtc6845.specs.Laws.{clocks, line_characters}
+use Rattle.crtc6845.specs.Calm.{Fits, clocks_to_line, lines_before_sync, quiet_lines, quiet_lines_by, calm_of}
+use Rattle.crtc6845.proofs.Lines.{clock_in, clock_leaves-registers, clock_leaves-last, clock_leaves-ended}
+use Rattle.crtc6845.proofs.SyncLines.{count_leaves-sync}
+use Rattle.crtc6845.proofs.Calm.{Moves, line_moves, step_down}
 
 -- one clock takes no more than one from the number, and leaves sync
 pub record Calms (c d : State) : Type 0 where
   pub sync : is_in_sync d ≡ is_in_sync c
   pub calm : calm_of c ≤ calm_of d + 1
 
+abbrev lines_of : State → ℕ
+lines_of c = quiet_lines_by (is_in_sync c) c
+
 -- a clock that neither starts nor ends a line
 inner : (c : State) → c.character < 256 → c.registers.horizontal_total < 256 → c.character ≢ 0 → c.character ≢ c.registers.horizontal_total →
-    Calms c (record c { character = (c.character + 1) % 256 })
-inner c fits wide apart end =
-    let d : State = record c { character = (c.character + 1) % 256 } in
-    let w = line_characters c.registers in
-    let lines = quiet_lines_by (is_in_sync c) c in
-    let total = c.registers.horizontal_total in
-    elim (cases_lt c.character total) [
-      | inl in_line ↦
-          let stays : (c.character + 1) % 256 ≡ c.character + 1 = mod-eq_of_lt (omega arith) in
-          let here = to_inside c apart (omega arith) in
-          let there = to_inside d (λ e. omega (arith, e)) (omega arith) in
-          let q = quiet_inside c apart (omega arith) in
-          let p = quiet_inside d (λ e. omega (arith, e)) (omega arith) in
-          let same : quiet_lines_by (is_in_sync c) d ≡ quiet_lines_by (is_in_sync c) c = ap (λ n. if is_in_sync c then c.sync_lines - 1 else n) (p ∙ sym q) in
-          let all : quiet_lines_by (is_in_sync c) d * w ≡ quiet_lines_by (is_in_sync c) c * w = ap (λ n. n * w) same in
-          record { sync = refl; calm = omega arith }
-      | inr past ↦
-          let over : total < c.character = omega (arith, end) in
-          let here = to_past c apart over in
-          let q = quiet_past c over in
-          elim (cases_lt c.character 255) [
-            | inl more ↦
-                let stays : (c.character + 1) % 256 ≡ c.character + 1 = mod-eq_of_lt (omega arith) in
-                let there = to_past d (λ e. omega (arith, e)) (omega arith) in
-                let p = quiet_past d (omega arith) in
-                let same : quiet_lines_by (is_in_sync c) d ≡ quiet_lines_by (is_in_sync c) c = ap (λ n. if is_in_sync c then c.sync_lines - 1 else n) (p ∙ sym q) in
-                let all : quiet_lines_by (is_in_sync c) d * w ≡ quiet_lines_by (is_in_sync c) c * w = ap (λ n. n * w) same in
-                record { sync = refl; calm = omega arith }
-            | inr last ↦
-                let next : c.character + 1 ≡ 256 = omega arith in
-                let wraps : (c.character + 1) % 256 ≡ 0 = ap (λ n. n % 256) next in
-                let there = to_start d wraps in
-                let p = quiet_start d wraps in
-                let same : quiet_lines_by (is_in_sync c) d ≡ quiet_lines_by (is_in_sync c) c = ap (λ n. if is_in_sync c then c.sync_lines - 1 else n) (p ∙ sym q) in
-                let all : quiet_lines_by (is_in_sync c) d * w ≡ quiet_lines_by (is_in_sync c) c * w = ap (λ n. n * w) same in
-                record { sync = refl; calm = omega arith }
-          ]
-    ]
+    calm_of c ≤ calm_of (record c { character = (c.character + 1) % 256 }) + 1
+inner c fits wide apart end = grind (arith, nat_tests)
 
--- the lines that pass before the next start of one, once a line has ended
-quiet_moved : (n : ℕ) (d : State) → d.character ≡ 0 → Moves n d → n ≤ quiet_lines d + 1
-quiet_moved n d start m =
-    let e : quiet_lines d ≡ lines_before_sync d = quiet_start d start ∙ ap (λ b. start_quiet b d) m.0 in
-    let l = m.1 in
-    omega arith
-
-same_sync : (c d : State) → 0 < c.sync_lines → 0 < d.sync_lines → is_in_sync d ≡ is_in_sync c
-same_sync c d p q =
-    let a : is_in_sync c ≡ true = grind (arith, nat_tests) in
-    let b : is_in_sync d ≡ true = grind (arith, nat_tests) in
-    b ∙ sym a
-
-same_off : (c d : State) → c.sync_lines ≡ 0 → d.sync_lines ≡ 0 → is_in_sync d ≡ is_in_sync c
-same_off c d p q =
-    let a : is_in_sync c ≡ false = grind (arith, nat_tests) in
-    let b : is_in_sync d ≡ false = grind (arith, nat_tests) in
-    b ∙ sym a
-
--- a clock that ends a line, but does not start it
-ending : (c d : State) → d.registers ≡ c.registers → d.sync_lines ≡ c.sync_lines → d.character ≡ 0 → c.character ≢ 0 →
-    c.character ≡ c.registers.horizontal_total → (2 ≤ lines_before_sync c → Moves (lines_before_sync c) d) → Calms c d
-ending c d regs sync start apart end moves =
-    let w = line_characters c.registers in
-    let width : line_characters d.registers ≡ w = ap (λ (r : Registers). line_characters r) regs in
-    let here = to_inside c apart (omega arith) in
-    let there = to_start d start in
-    elim (cases_lt 0 c.sync_lines) [
-      | inl on ↦
-          let p = calm_on c on in
-          let q = calm_on d (omega arith) in
-          let same : (d.sync_lines - 1) * line_characters d.registers ≡ (c.sync_lines - 1) * w =
-          ap (λ n. (n - 1) * line_characters d.registers) sync ∙ ap (λ n. (c.sync_lines - 1) * n) width in
-          record { sync = same_sync c d on (omega arith); calm = omega arith }
-      | inr off ↦
-          let none : c.sync_lines ≡ 0 = omega arith in
-          let gone : d.sync_lines ≡ 0 = omega arith in
-          let p = calm_off c none in
-          let q = calm_off d gone in
-          let inside = quiet_inside c apart (omega arith) in
-          let width2 : quiet_lines d * line_characters d.registers ≡ quiet_lines d * w = ap (λ n. quiet_lines d * n) width in
-          let less : quiet_lines c ≤ quiet_lines d = elim (cases_lt (lines_before_sync c) 2) [
-            | inl few ↦ omega arith
-            | inr more ↦ let m = quiet_moved (lines_before_sync c) d start (moves (omega arith)) in omega arith
-          ] in
-          let all : quiet_lines c * w ≤ quiet_lines d * w = mul-le-mul_right w less in
-          record { sync = same_off c d none gone; calm = omega arith }
-    ]
-
--- no sync begins
-left_and : (p q r t : Bool) → t ≡ false → (p && q && r && t) ≡ false
-left_and true true true t h = h
-left_and true true false t h = refl
-left_and true false r t h = refl
-left_and false q r t h = refl
-
-last_and : (p q r t : Bool) → (p && q && r) ≡ false → (p && q && r && t) ≡ false
-last_and true true true t h = absurd (true≢false h)
-last_and true true false t h = refl
-last_and true false r t h = refl
-last_and false q r t h = refl
-
-by_sync : (c : State) (b : Bool) → is_sync_line c ≡ b → (b ≡ true → ⊥) → begins_sync (sync_counted c) ≡ false
-by_sync c true e h = absurd (h refl)
-by_sync c false e h = last_and (is_none c.adjust) (c.row == c.registers.vertical_sync_position) (c.raster == 0) (c.sync_lines - 1 == 0) e
-
-start_most : (b : Bool) (c : State) → start_quiet b c ≤ lines_before_sync c
-start_most true c = omega arith
-start_most false c = omega arith
-
--- a clock that starts a line
+-- a clock that starts a line, and does not end it: no sync begins
 not_begun : (c : State) → c.character ≡ 0 → 1 ≤ calm_of c → begins_sync (sync_counted c) ≡ false
-not_begun c start some =
-    let to = to_start c start in
-    let w = line_characters c.registers in
-    elim (cases_lt 0 c.sync_lines) [
-      | inl on ↦
-          let p = calm_on c on in
-          elim (cases_lt 1 c.sync_lines) [
-            | inl more ↦
-                let t : (c.sync_lines - 1 == 0) ≡ false = test_false _ _ (λ e. omega (arith, e)) in
-                left_and (is_none c.adjust) (c.row == c.registers.vertical_sync_position) (c.raster == 0) (c.sync_lines - 1 == 0) t
-            | inr one ↦
-                let z : (c.sync_lines - 1) * w ≡ 0 * w = ap (λ n. n * w) (omega arith) in
-                absurd (omega arith)
-          ]
-      | inr off ↦
-          let p = calm_off c (omega arith) in
-          by_sync c (is_sync_line c) refl (λ yes.
-          let q : quiet_lines c ≡ 0 = quiet_start c start ∙ ap (λ b. start_quiet b c) yes in
-          let z : quiet_lines c * w ≡ 0 * w = ap (λ n. n * w) q in
-          omega arith)
-    ]
+not_begun c start some = grind (arith, nat_tests)
+
+clock_from : (c : State) → c.character ≡ 0 → c.registers.horizontal_total ≢ 0 → begins_sync (sync_counted c) ≡ false →
+    clock_leaves c ≡ record c { character = 1; sync_lines = c.sync_lines - 1 }
+clock_from c start wide off = grind (arith, nat_tests)
+
+some_lines : (c : State) → c.character ≡ 0 → 1 ≤ calm_of c → 1 ≤ lines_of c
+some_lines c start some = elim (cases_lt 0 (lines_of c)) [
+  | inl more ↦ more
+  | inr none ↦
+      let z : lines_of c * line_characters c.registers ≤ 0 * line_characters c.registers = mul-le-mul_right (line_characters c.registers) none in
+      let at : clocks_to_line c ≡ 0 = grind (arith, nat_tests) in
+      absurd (omega arith)
+]
 
 starting : (c : State) → c.character ≡ 0 → c.registers.horizontal_total ≢ 0 → 1 ≤ calm_of c → Calms c (record c { character = 1; sync_lines = c.sync_lines - 1 })
 starting c start wide some =
     let d : State = record c { character = 1; sync_lines = c.sync_lines - 1 } in
+    let lines = some_lines c start some in
+    let less : lines_of c ≤ lines_of d + 1 = grind (arith, nat_tests) in
+    let all = step_down (lines_of c) (lines_of d) (line_characters c.registers) less in
+    let here : clocks_to_line c ≡ 0 = grind (arith, nat_tests) in
+    let there : clocks_to_line d + 1 ≡ line_characters c.registers = grind (arith, nat_tests) in
+    record { sync = grind (arith, nat_tests); calm = omega arith }
+
+-- a clock that ends a line: so many lines are left of s lines of sync, or q lines without it
+abbrev left : ℕ → ℕ → ℕ
+left s q = if nat_lt 0 s then s - 1 else q
+
+same_left : (s q n p : ℕ) → q ≤ n - 1 → n ≤ p + 1 → left s q ≤ left s p
+same_left s q n p most next = grind (arith, nat_tests)
+
+less_left : (s q n p : ℕ) → q ≤ n → n ≤ p + 1 → 1 ≤ left s q → (nat_lt 0 (s - 1) ≡ nat_lt 0 s) × (left s q ≤ left (s - 1) p + 1)
+less_left s q n p most next some = grind (arith, nat_tests)
+
+quiet_first : (c : State) → c.character ≡ 0 → (clocks_to_line c ≡ 0) × (quiet_lines c ≤ lines_before_sync c)
+quiet_first c start = grind (arith, nat_tests)
+
+quiet_last : (c : State) → 0 < c.character → c.character ≡ c.registers.horizontal_total → (clocks_to_line c ≡ 1) × (quiet_lines c ≤ lines_before_sync c - 1)
+quiet_last c inside end = grind (arith, nat_tests)
+
+quiet_next : (n : ℕ) (d : State) → d.character ≡ 0 → (2 ≤ n → Moves n d) → n ≤ quiet_lines d + 1
+quiet_next n d start moves = elim (cases_lt n 2) [
+  | inl few ↦ omega arith
+  | inr more ↦
+      let m = moves more in
+      let e : quiet_lines d ≡ lines_before_sync d = rw (start, m.0) refl in
+      omega (arith, m.1)
+]
+
+ending : (c d : State) → d.registers ≡ c.registers → d.sync_lines ≡ (if starts_line c then c.sync_lines - 1 else c.sync_lines) → d.character ≡ 0 →
+    c.character ≡ c.registers.horizontal_total → (c.character ≡ 0 → 1 ≤ lines_of c) → (2 ≤ lines_before_sync c → Moves (lines_before_sync c) d) → Calms c d
+ending c d regs sync start end some moves =
     let w = line_characters c.registers in
-    let here = to_start c start in
-    let there = to_inside d (λ e. omega (arith, e)) (omega (arith, wide)) in
-    elim (cases_lt 0 c.sync_lines) [
-      | inl on ↦
-          let p = calm_on c on in
-          elim (cases_lt 1 c.sync_lines) [
-            | inl more ↦
-                let q = calm_on d (omega arith) in
-                let up = mul_more (c.sync_lines - 1 - 1) w in
-                let e : (c.sync_lines - 1) * w ≡ (c.sync_lines - 1 - 1 + 1) * w = ap (λ n. n * w) (omega arith) in
-                record { sync = same_sync c d on (omega arith); calm = omega arith }
-            | inr one ↦
-                let z : (c.sync_lines - 1) * w ≡ 0 * w = ap (λ n. n * w) (omega arith) in
-                absurd (omega arith)
-          ]
-      | inr off ↦
-          let none : c.sync_lines ≡ 0 = omega arith in
-          let gone : d.sync_lines ≡ 0 = omega arith in
-          let p = calm_off c none in
-          let q = calm_off d gone in
-          let inside = quiet_inside d (λ e. omega (arith, e)) (omega (arith, wide)) in
-          let starts = quiet_start c start in
-          let most = start_most (is_sync_line c) c in
-          elim (cases_lt 0 (quiet_lines c)) [
-            | inl lines ↦
-                let up = mul_more (quiet_lines c - 1) w in
-                let e : quiet_lines c * w ≡ (quiet_lines c - 1 + 1) * w = ap (λ n. n * w) (omega arith) in
-                let less : (quiet_lines c - 1) * w ≤ quiet_lines d * w = mul-le-mul_right w (omega arith) in
-                record { sync = same_off c d none gone; calm = omega arith }
-            | inr few ↦
-                let z : quiet_lines c * w ≡ 0 * w = ap (λ n. n * w) (omega arith) in
-                absurd (omega arith)
-          ]
-    ]
-
-short : (c d : State) → d.registers ≡ c.registers → d.sync_lines ≡ c.sync_lines - 1 → d.character ≡ 0 → c.character ≡ 0 →
-    c.registers.horizontal_total ≡ 0 → 1 ≤ calm_of c → (2 ≤ lines_before_sync c → Moves (lines_before_sync c) d) → Calms c d
-short c d regs sync next start one some moves =
-    let width : line_characters c.registers ≡ 1 = omega arith in
-    let width2 : line_characters d.registers ≡ 1 = ap (λ (r : Registers). line_characters r) regs ∙ width in
-    let here = to_start c start in
-    let there = to_start d next in
-    elim (cases_lt 0 c.sync_lines) [
-      | inl on ↦
-          let p : calm_of c ≡ clocks_to_line c + (c.sync_lines - 1) * 1 = calm_on c on ∙ ap (λ n. clocks_to_line c + (c.sync_lines - 1) * n) width in
-          let q : calm_of d ≡ clocks_to_line d + (d.sync_lines - 1) * 1 = calm_on d (omega arith) ∙ ap (λ n. clocks_to_line d + (d.sync_lines - 1) * n) width2 in
-          record { sync = same_sync c d on (omega arith); calm = omega arith }
-      | inr off ↦
-          let none : c.sync_lines ≡ 0 = omega arith in
-          let gone : d.sync_lines ≡ 0 = omega arith in
-          let p : calm_of c ≡ clocks_to_line c + quiet_lines c * 1 = calm_off c none ∙ ap (λ n. clocks_to_line c + quiet_lines c * n) width in
-          let q : calm_of d ≡ clocks_to_line d + quiet_lines d * 1 = calm_off d gone ∙ ap (λ n. clocks_to_line d + quiet_lines d * n) width2 in
-          let starts = quiet_start c start in
-          let most = start_most (is_sync_line c) c in
-          elim (cases_lt (lines_before_sync c) 2) [
-            | inl few ↦ record { sync = same_off c d none gone; calm = omega arith }
-            | inr more ↦
-                let m = quiet_moved (lines_before_sync c) d next (moves (omega arith)) in
-                record { sync = same_off c d none gone; calm = omega arith }
-          ]
-    ]
-
-pub clock_calms : (c : State) → c.character < 256 → HaveTheirBits c.registers → c.registers.vertical_sync_position < 128 → 1 ≤ calm_of c → Calms c (clock_leaves c)
-clock_calms c fits bits few some =
-    let total = c.registers.horizontal_total in
-    let wide = bits.horizontal_total in
+    let to = (quiet_first d start).0 in
+    let there : lines_of d * line_characters d.registers ≡ lines_of d * w = ap (λ (r : Registers). lines_of d * line_characters r) regs in
+    let next = quiet_next (lines_before_sync c) d start moves in
     elim (cases_lt 0 c.character) [
       | inl inside ↦
-          let apart : c.character ≢ 0 = λ e. omega (arith, e) in
-          let same : start_leaves c ≡ c = start_by c false (begins_sync (sync_counted c)) (test_false _ _ apart) refl in
-          let end : c.character ≡ total → Calms c (clock_leaves c) = λ last.
-          ending c (clock_leaves c) (clock_leaves-registers c) (count_leaves-sync (start_leaves c) ∙ sync_inside c inside) (clock_leaves-last c last) apart last
-          (λ two. subst (λ (d : State). Moves (lines_before_sync c) d) (sym (ap (λ (s : State). count_leaves s) same ∙ last_is c (test_true _ _ last))) (line_moves c bits few two)) in
-          let go : c.character ≢ total → Calms c (clock_leaves c) = λ other.
-          subst (λ (d : State). Calms c d) (sym (ap (λ (s : State). count_leaves s) same ∙ inner_is c (test_false _ _ other))) (inner c fits wide apart other) in
+          let here = quiet_last c inside end in
+          let same : d.sync_lines ≡ c.sync_lines = sync ∙ rw (other c.character inside) refl in
+          let less : lines_of c ≤ lines_of d = rw same (same_left c.sync_lines _ _ _ here.1 next) in
+          let all = mul-le-mul_right w less in
+          record { sync = rw same refl; calm = omega (arith, here.0) }
+      | inr first ↦
+          let zeroth : c.character ≡ 0 = omega arith in
+          let here = quiet_first c zeroth in
+          let same : d.sync_lines ≡ c.sync_lines - 1 = sync ∙ rw zeroth refl in
+          let less = less_left c.sync_lines _ _ _ here.1 next (some zeroth) in
+          let fewer : lines_of c ≤ lines_of d + 1 = rw same less.1 in
+          let all = step_down (lines_of c) (lines_of d) w fewer in
+          record { sync = rw same less.0; calm = omega (arith, here.0) }
+    ]
+  where
+    other : (k : ℕ) → 0 < k → (k == 0) ≡ false
+    other k h = grind (arith, nat_tests)
+
+pub clock_calms : (c : State) → Fits c → 1 ≤ calm_of c → Calms c (clock_leaves c)
+clock_calms c f some =
+    let total = c.registers.horizontal_total in
+    let regs = clock_leaves-registers c in
+    let same = count_leaves-sync (start_leaves c) in
+    elim (cases_lt 0 c.character) [
+      | inl inside ↦
+          let in_line : c.character ≢ total → Calms c (clock_leaves c) = λ other.
+          rw (clock_in c (λ e. omega (arith, e)) other) (record { sync = refl; calm = inner c f.character f.bits.horizontal_total (λ e. omega (arith, e)) other }) in
           elim (cases_lt c.character total) [
-            | inl p ↦ go (λ e. omega (arith, e))
+            | inl p ↦ in_line (λ e. omega (arith, e))
             | inr p ↦ elim (cases_lt total c.character) [
-              | inl q ↦ go (λ e. omega (arith, e))
-              | inr q ↦ end (omega arith)
+              | inl q ↦ in_line (λ e. omega (arith, e))
+              | inr q ↦
+                  let last : c.character ≡ total = omega arith in
+                  let is : start_leaves c ≡ c = grind (arith, nat_tests) in
+                  let ended : clock_leaves c ≡ line_ended c = (clock_leaves-ended c last).0 ∙ ap (λ (d : State). line_ended d) is in
+                  ending c (clock_leaves c) regs (grind (arith, nat_tests)) (clock_leaves-last c last) last (λ e. absurd (omega (arith, e)))
+                  (λ two. subst (λ (d : State). Moves (lines_before_sync c) d) (sym ended) (line_moves c f.bits f.row two))
             ]
           ]
       | inr at ↦
           let start : c.character ≡ 0 = omega arith in
           let off = not_begun c start some in
-          let same : start_leaves c ≡ sync_counted c = start_by c true false (test_true _ _ start) off in
           elim (cases_lt 0 total) [
-            | inl more ↦
-                let other : total ≢ 0 = λ e. omega (arith, e) in
-                let one : (c.character + 1) % 256 ≡ 1 = ap (λ n. (n + 1) % 256) start in
-                let is : clock_leaves c ≡ record c { character = 1; sync_lines = c.sync_lines - 1 } =
-                ap (λ (s : State). count_leaves s) same ∙ inner_is (sync_counted c) (test_false _ _ (λ e. omega (arith, e)))
-                ∙ ap (λ n. record c { character = n; sync_lines = c.sync_lines - 1 }) one in
-                subst (λ (d : State). Calms c d) (sym is) (starting c start other some)
+            | inl more ↦ rw (clock_from c start (λ e. omega (arith, e)) off) (starting c start (λ e. omega (arith, e)) some)
             | inr none ↦
-                let zeroth : total ≡ 0 = omega arith in
                 let last : c.character ≡ total = omega arith in
-                short c (clock_leaves c) (clock_leaves-registers c) (count_leaves-sync (start_leaves c) ∙ sync_counts c start off) (clock_leaves-last c last) start zeroth some
-                (λ two. subst (λ (d : State). Moves (lines_before_sync c) d) (sym (ap (λ (s : State). count_leaves s) same ∙ last_is (sync_counted c) (test_true _ _ last)))
-                (line_moves (sync_counted c) bits few two))
+                let is : start_leaves c ≡ sync_counted c = grind (arith, nat_tests) in
+                let ended : clock_leaves c ≡ line_ended (sync_counted c) = (clock_leaves-ended c last).0 ∙ ap (λ (d : State). line_ended d) is in
+                ending c (clock_leaves c) regs (grind (arith, nat_tests)) (clock_leaves-last c last) last (λ e. some_lines c start some)
+                (λ two. subst (λ (d : State). Moves (lines_before_sync c) d) (sym ended) (line_moves (sync_counted c) f.bits f.row two))
           ]
     ]
 
-fits_by : (p : Bool) (c : State) → (if p then line_ended c else record c { character = (c.character + 1) % 256 }).character < 256
-fits_by true c = let e = (line_left_in c.adjust (record c { character = 0 })).character in omega arith
-fits_by false c = omega arith
-
-pub clock_leaves-fits : (c : State) → (clock_leaves c).character < 256
-clock_leaves-fits c = fits_by (ends_line (start_leaves c)) (start_leaves c)
-
-pub fits_on : (c : State) → Fits c → Fits (clock_leaves c)
-fits_on c f =
-    let e = clock_leaves-registers c in
-    record {
-      character = clock_leaves-fits c;
-      bits = subst HaveTheirBits (sym e) f.bits;
-      row = subst (λ (r : Registers). r.vertical_sync_position < 128) (sym e) f.row;
-    }
+count_leaves-fits : (c : State) → (count_leaves c).character < 256
+count_leaves-fits c = grind arith
 
 pub stays_in_sync : (n : ℕ) (c : State) → Fits c → n ≤ calm_of c → is_in_sync (clocks n c) ≡ is_in_sync c
 stays_in_sync zero c f h = refl
 stays_in_sync (suc n) c f h =
-    let one = clock_calms c f.character f.bits f.row (omega arith) in
+    let one = clock_calms c f (omega arith) in
     let calm = one.calm in
-    stays_in_sync n (clock_leaves c) (fits_on c f) (omega arith) ∙ one.sync
+    let e = clock_leaves-registers c in
+    let fits : Fits (clock_leaves c) = record {
+      character = count_leaves-fits (start_leaves c);
+      bits = rw e f.bits;
+      row = subst (λ (r : Registers). r.vertical_sync_position < 128) (sym e) f.row;
+    } in
+    stays_in_sync n (clock_leaves c) fits (omega arith) ∙ one.sync

@@ -3,11 +3,7 @@ pub mod Frames
 pub mod Places
 pub mod SyncLines
 pub mod Sync
-pub mod Addresses
-pub mod SyncHeight
-pub mod Rest
 pub mod Rests
-pub mod RestsOn
 pub mod Calm
 pub mod CalmClocks
 pub mod Spans

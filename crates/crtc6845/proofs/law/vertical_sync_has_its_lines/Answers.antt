@@ -1,4 +1,4 @@
-use Rattle.crtc6845.proofs.SyncHeight.{sync_lasts}
+use Rattle.crtc6845.proofs.Sync.{sync_lasts}
 use Rattle.crtc6845.proofs.law.vertical_sync_has_its_lines.Goals as goal
 
 pub returns : goal.returns

@@ -1,27 +1,19 @@
-use Rattle.std.proofs.Common.{◌≡◌, ◌⊎◌, ◌∙◌, ◌+◌, ◌-◌, ◌/◌, ◌%◌, ◌≤◌, sym, arith, inl, inr}
+use Rattle.std.proofs.Common.{◌≡◌, ◌⊎◌, ◌∙◌, ◌+◌, ◌-◌, ◌/◌, ◌%◌, ◌≤◌, sym, arith, rules, inl, inr}
 use Rattle.crtc6845.specs.Clock.{sync_height}
 use Rattle.crtc6845.specs.Rests.{sync_after}
-use Rattle.crtc6845.proofs.Rests.{Run, rest_other, rest_few, rest_turns}
+use Rattle.crtc6845.proofs.Rests.{Run, rest_other, rest_turns}
 use Rattle.crtc6845.proofs.crtc.Crtc.rest_by_turns.Goals as goal
 use Rattle.crtc6845.proofs.crtc.Crtc.rest_by_turns.Goals.{then-left-eq0, else-left-eq0}
 
-pub returns-then-sync_row-ne0-clause-state : goal.returns-then-sync_row-ne0-clause-state
-returns-then-sync_row-ne0-clause-state c = c.count_sync.ensures ∙ sym (rest_other c.args.n c.args.self.now c.requires (λ e. omega (arith, e))).state
+pub returns-then-sync_row-ne0 : goal.returns-then-sync_row-ne0
+returns-then-sync_row-ne0 c =
+    let run = rest_other c.args.n c.args.self.now c.requires (inr (λ e. omega (arith, e))) in
+    record { state = c.count_sync.ensures ∙ sym run.state; frames = sym run.frames; past = sym run.past; rest = search rules }
 
-pub returns-then-sync_row-ne0-clause-frames : goal.returns-then-sync_row-ne0-clause-frames
-returns-then-sync_row-ne0-clause-frames c = sym (rest_other c.args.n c.args.self.now c.requires (λ e. omega (arith, e))).frames
-
-pub returns-then-sync_row-ne0-clause-past : goal.returns-then-sync_row-ne0-clause-past
-returns-then-sync_row-ne0-clause-past c = sym (rest_other c.args.n c.args.self.now c.requires (λ e. omega (arith, e))).past
-
-pub returns-then-n-left-clause-state : goal.returns-then-n-left-clause-state
-returns-then-n-left-clause-state c = c.count_sync-then-n-left.ensures ∙ sym (rest_few c.args.n c.args.self.now c.requires (inl (omega arith))).state
-
-pub returns-then-n-left-clause-frames : goal.returns-then-n-left-clause-frames
-returns-then-n-left-clause-frames c = sym (rest_few c.args.n c.args.self.now c.requires (inl (omega arith))).frames
-
-pub returns-then-n-left-clause-past : goal.returns-then-n-left-clause-past
-returns-then-n-left-clause-past c = sym (rest_few c.args.n c.args.self.now c.requires (inl (omega arith))).past
+pub returns-then-n-left : goal.returns-then-n-left
+returns-then-n-left c =
+    let run = rest_other c.args.n c.args.self.now c.requires (inl (omega arith)) in
+    record { state = c.count_sync-then-n-left.ensures ∙ sym run.state; frames = sym run.frames; past = sym run.past; rest = search rules }
 
 turned : (c : goal.After-turn_sync) → Run c.args.n 0 c.args.self.now (sync_after (c.args.n - c.if-left-eq0.first) c.args.self.now)
     (1 + (c.args.n - c.if-left-eq0.first) / sync_height c.args.self.now.registers) ((c.args.n - c.if-left-eq0.first) % sync_height c.args.self.now.registers)
