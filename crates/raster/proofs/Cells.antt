@@ -16,7 +16,8 @@ use Rattle.raster.specs.State.{State, first_cursor}
 use Rattle.raster.specs.Clock.{cell_dots, draw_byte_leaves, draw_cell_leaves, draw_leaves, show_leaves, pass_leaves, char_clock_leaves}
 use Rattle.raster.specs.CodeSteps.{char_clocks, drawn_ahead, ArePlain, AreApart, cell_on, code_in, texts, cells}
 use Rattle.raster.proofs.Drawing.{dots_set-append}
-use Rattle.raster.proofs.Spans.{plain_beam, built, none_built, shown_here, passed, beside, row_long, chars_behind, pick_first, same_row}
+use Rattle.raster.proofs.Spans.{plain_beam, built, none_built, shown_here, passed, beside, row_long, pick_first, same_row}
+use Rattle.raster.proofs.Micros.{chars_behind}
 
 -- a cell has sixteen dots
 pub cell_long : (font : Font) (code ra fields : ℕ) (t : Text) → length (cell_on font code ra fields t) ≡ 16

@@ -1,6 +1,5 @@
 pub mod Drawing
 pub mod Marks
-pub mod Dots
 pub mod Told
 pub mod Quiet
 pub mod ReadBytes

@@ -1,5 +1,5 @@
 -- What a character clock does, by its parts.
-use Rattle.std.proofs.Common.{◌≡◌, ◌∙◌, sym, ap, refl, ℕ, ◌%◌, Bool, true, false, List}
+use Rattle.std.proofs.Common.{◌≡◌, ◌∙◌, sym, ap, refl, ℕ, ◌%◌, Bool, true, List}
 use Rattle.std.specs.Prelude.{slice_index, if◌then◌else◌}
 use Rattle.beeb_bits.specs.Bits.{bit}
 use Rattle.crtc6845.specs.declared.Beam.{Beam}
@@ -9,7 +9,7 @@ use Rattle.saa5050.specs.Shapes.{Font}
 use Rattle.raster.specs.Beam.{byte_address, is_marked}
 use Rattle.raster.specs.Text.{cell_of}
 use Rattle.raster.specs.State.{State}
-use Rattle.raster.specs.Clock.{tell_leaves, char_clock_leaves, draw_byte_leaves, draw_cell_leaves, draw_leaves, show_leaves}
+use Rattle.raster.specs.Clock.{tell_leaves, char_clock_leaves, draw_byte_leaves, draw_cell_leaves, draw_leaves}
 use Rattle.raster.specs.CodeSteps.{cell_on, cell_drawn_on}
 
 pub told_after : (ram : List ℕ) (size : ℕ) (font : Font) (inside s : State) (beam : Beam) (chip : CrtcState) (left : State) → inside ≡ s →
@@ -19,10 +19,6 @@ told_after ram size font inside s beam chip left same is after done =
     done ∙ ap (λ (k : CrtcState). tell_leaves ram size font beam (record inside { crtc = k })) after
     ∙ ap (λ (b : Beam). tell_leaves ram size font b (record inside { crtc = clock_leaves inside.crtc })) is
     ∙ ap (λ (s : State). tell_leaves ram size font (beam_of s.crtc) (record s { crtc = clock_leaves s.crtc })) same
-
--- a character that is not shown
-pub shows_nothing : (ram : List ℕ) (size : ℕ) (font : Font) (beam : Beam) (s : State) → beam.shown ≡ false → show_leaves ram size font beam s ≡ s
-shows_nothing ram size font beam s h = rw h refl
 
 cells : (font : Font) (code : ℕ) (beam : Beam) (s : State) →
     cell_drawn_on font code beam.ra beam.fields (is_marked s.ula.control beam.cursor s.cursor) s ≡ draw_cell_leaves font beam code s

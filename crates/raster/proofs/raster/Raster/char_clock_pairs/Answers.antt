@@ -1,7 +1,6 @@
 use Rattle.std.proofs.Common.{◌≡◌, ◌+◌, ◌*◌, ◌∙◌, sym, ap, ℕ, arith}
-use Rattle.raster.specs.State.{State}
 use Rattle.raster.specs.CodeSteps.{char_clocks}
-use Rattle.raster.proofs.Spans.{chars_more}
+use Rattle.raster.proofs.Micros.{chars_more}
 use Rattle.raster.proofs.raster.Raster.char_clock_pairs.Goals as goal
 
 pub returns-then-n : goal.returns-then-n

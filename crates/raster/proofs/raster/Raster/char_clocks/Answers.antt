@@ -1,7 +1,7 @@
 use Rattle.std.proofs.Common.{◌≡◌, ◌∙◌, ap, ◌+◌, ◌-◌, arith}
 use Rattle.raster.specs.State.{State}
 use Rattle.raster.specs.CodeSteps.{char_clocks}
-use Rattle.raster.proofs.Spans.{chars_more}
+use Rattle.raster.proofs.Micros.{chars_more}
 use Rattle.raster.proofs.raster.Raster.char_clocks.Goals as goal
 
 pub loop-left-preserved : goal.loop-left-preserved

@@ -2,7 +2,6 @@ use Rattle.std.proofs.Common.{◌≡◌, ◌∙◌, sym, ap, subst, ℕ, ◌+◌
 use Rattle.beeb_bits.specs.Bits.{bit}
 use Rattle.crtc6845.specs.Spans.{TellsSpan}
 use Rattle.raster.specs.State.{State}
-use Rattle.raster.specs.CodeSteps.{AreBehind}
 use Rattle.raster.proofs.screen.Screen.draw_from_first.Goals as goal
 
 few : (k put seen n most from clocks : ℕ) → k < put - 1 → put ≤ seen → seen ≤ n → n ≡ min most (from + 1) → from ≡ clocks → k < clocks
